@@ -1,0 +1,18 @@
+//! What linking speaks of: classes, requests, verdicts and events, and in `specs/` the definitions.
+#![tactic(auto)]
+
+mod answer;
+mod class;
+mod event;
+mod loader;
+mod request;
+mod told;
+mod verdict;
+
+pub use answer::Answer;
+pub use class::Class;
+pub use event::Event;
+pub use loader::LoaderId;
+pub use request::Request;
+pub use told::{Told, Untold};
+pub use verdict::{ErrorKind, Verdict};

@@ -1,0 +1,4 @@
+pub mod Counts
+pub mod Outcomes
+pub mod Told
+pub mod Views

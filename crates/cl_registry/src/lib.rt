@@ -1,0 +1,13 @@
+//! The registry of classes, which records what each loader defined; and, for now, the thin forms of
+//! configuration, script, source, search and draft.
+#![tactic(auto)]
+
+pub mod config;
+pub mod report;
+pub mod script;
+pub mod source;
+
+pub use config::Config;
+pub use report::{Answers, History, Report};
+pub use script::Script;
+pub use source::{ClassBytes, Outcome, Probe, Source, SourceFault};

@@ -1,0 +1,78 @@
+ghost use Rattle.std.specs.Prelude.{◌≡◌};
+
+use crate::script::Script;
+use cl_model::{Answer, Event};
+use std::marker::Model;
+use std::sync::Arc;
+
+/// The events of a run of the linkage machine, in order.
+#[derive(Debug, Drop)]
+pub struct History {
+    events: Vec<Event>,
+}
+
+impl Model for History {
+    ghost use Rattle.std.specs.Prelude.{List};
+    ghost use Rattle.cl_model.specs.declared.event.Event.{Event};
+
+    ghost Value = { List Event };
+
+    ghost view = { λ h. h.events.items };
+}
+
+impl From<Vec<Event>> for History {
+    ghost from_gives = { λ v h. h ≡ v.items };
+
+    fn from(events: Vec<Event>) -> History {
+        History { events }
+    }
+}
+
+impl History {
+    /// The events, in order.
+    pub fn events(&self) -> &[Event]
+        ensures { result.now ≡ self.now }
+    {
+        self.events.as_slice()
+    }
+}
+
+/// The answers of a script's requests, in the requests' order.
+#[derive(Debug, Drop)]
+pub struct Answers {
+    items: Vec<Answer>,
+}
+
+impl Model for Answers {
+    ghost use Rattle.std.specs.Prelude.{List};
+    ghost use Rattle.cl_model.specs.declared.answer.Answer.{Answer};
+
+    ghost Value = { List Answer };
+
+    ghost view = { λ a. a.items.items };
+}
+
+impl From<Vec<Answer>> for Answers {
+    ghost from_gives = { λ v a. a ≡ v.items };
+
+    fn from(items: Vec<Answer>) -> Answers {
+        Answers { items }
+    }
+}
+
+impl Answers {
+    /// The answers, in order.
+    pub fn as_slice(&self) -> &[Answer]
+        ensures { result.now ≡ self.now }
+    {
+        self.items.as_slice()
+    }
+}
+
+/// What was asked, what happened, and what each request was answered.
+#[derive(Debug, Drop)]
+pub struct Report {
+    pub script: Arc<Script>,
+    pub history: History,
+    pub answers: Answers,
+}

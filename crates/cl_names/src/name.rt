@@ -1,4 +1,4 @@
-ghost use Rattle.std.specs.Prelude.{◌≡◌, ◌≤◌, length, IfOk};
+ghost use Rattle.std.specs.Prelude.{◌≡◌, ◌<◌, ◌≤◌, ℕ, List, length, IfOk};
 ghost use Rattle.std.specs.Prelude.{refl, nat_eq, Some};
 ghost use Rattle.std.specs.Ordering.{nat_cmp};
 ghost use Rattle.std.specs.Cmp;
@@ -6,9 +6,12 @@ ghost use Rattle.std.specs.Cmp.Lexicographic.{pointwise, slice_cmp, nat_list_eq_
 ghost use Rattle.std.specs.Cmp.Rules.{hashing};
 ghost use Rattle.std.specs.Hash as fed;
 ghost use Rattle.std.proofs.Common.{rules};
-ghost use Rattle.cl_names.specs.Text.{IsModifiedUtf8};
+ghost use Rattle.std.specs.List.{flat_map, AllByRecursion};
+ghost use Rattle.cl_names.specs.Text.{unit, IsModifiedUtf8};
+ghost use Rattle.cl_names.specs.Escape.{WritesName, printed_unit, escaped};
 ghost use Rattle.cl_names.specs.Name.{TestedNameOf};
 
+use crate::escape::{printed, written_bytes, written_len};
 use crate::kind::{has_class_form, has_method_form, has_unqualified_form, package_len};
 use crate::text::is_modified_utf8;
 use std::alloc::{AllocError, Global};
@@ -107,10 +110,9 @@ impl From<AllocError> for NameFault {
 }
 
 impl Name {
-    ghost use Rattle.std.specs.Prelude.{MatchBool};
+    ghost use Rattle.std.specs.Prelude.{MatchBool, string_bytes};
     ghost use Rattle.std.specs.List.{starts_with};
     ghost use Rattle.cl_names.specs.Kind.{IsUnqualified, IsMethod, IsClass, IsNameOf, is_unqualified_name, is_method_name, is_class_name, package_of};
-    ghost use Rattle.cl_names.specs.Escape.{escaped};
     ghost use Rattle.cl_names.specs.Name.{NameOf, KindNameOf, TextNameOf};
 
     /// The name of any kind that the bytes spell.
@@ -139,6 +141,27 @@ impl Name {
         ensures { KindNameOf IsMethod bytes.now result }
     {
         spelled(alloc, bytes, has_method_form(bytes))
+    }
+
+    /// The name of any kind that escaped text writes: each code unit as itself, where it is one of
+    /// 0x21 to 0x7E but `\`, or as `\u` and four hexadecimal digits. Other text is no name.
+    pub fn from_text(alloc: Global, text: &str) -> Result<Name, NameFault>
+        ensures { TextNameOf text.now result }
+    {
+        let text = text.as_bytes();
+        match written_len(text) {
+            Some(len) if len <= MAX_LEN => Ok(Name {
+                bytes: written_bytes(alloc, text, len)?,
+            }),
+            _ => Err(NameFault::BadName),
+        }
+    }
+
+    /// The name as escaped text, in lower case, with escapes only where they are needed.
+    pub fn text(&self, alloc: Global) -> Result<String, AllocError>
+        ensures { IfOk result (λ text. string_bytes text ≡ escaped self.now) }
+    {
+        printed(alloc, self.bytes())
     }
 
     /// Whether it is a class's name.
@@ -212,4 +235,13 @@ fn spelled(alloc: Global, bytes: &[u8], has_form: bool) -> Result<Name, NameFaul
     Ok(Name {
         bytes: Vec::from_slice(alloc, bytes)?,
     })
+}
+
+/// The printed text of a name reads back as that name, and as no other; it is the printed text of
+/// each code unit in turn.
+pub fn text_reads_back()
+    ensures back { (name : List ℕ) → IsModifiedUtf8 name → length name ≤ 65535 → WritesName (escaped name) name }
+    ensures alone { (text name other : List ℕ) → WritesName text name → WritesName text other → name ≡ other }
+    ensures printed { (units : List ℕ) → AllByRecursion (λ u. u < 65536) units → escaped (flat_map unit units) ≡ flat_map printed_unit units }
+{
 }

@@ -1,15 +1,15 @@
 -- What an escaped text writes.
 use Rattle.std.proofs.Common.{◌≡◌, ◌⊎◌, ℕ, zero, suc, ◌+◌, ◌-◌, ◌*◌, ◌/◌, ◌%◌, ◌<◌, ◌≤◌, Bool, true, false, not, cond, List, [], ◌∷◌, ◌++◌, length, get_or, take, drop, Option, Some, None, refl, sym, ap, subst, ◌∙◌, ◌&&◌, eqb, ltb, leb, arith, inl, inr}
 use Rattle.std.specs.Prelude.{nat_lt, nat_le, IsSome, Result, Ok, Err}
-use Rattle.std.specs.Option.{option_map}
+use Rattle.std.specs.Option.{option_map, option_and_then}
 use Rattle.std.specs.List.{flat_map, AllByRecursion}
 use Rattle.std.specs.Char.{digit_value, digit_char, is_digit}
 use Rattle.std.proofs.lemmas.Str.{digit_value-digit_char}
 use Rattle.std.proofs.lemmas.Bool.Decides.{nat_tests}
-use Rattle.std.proofs.lemmas.Bool.{cases_Bool, false≢true, and_parts, and_from, cond-true, cond-false, eqb-true, lt-ltb}
+use Rattle.std.proofs.lemmas.Bool.{cases_Bool, false≢true, and_parts, and_from, cond-true, cond-false, eqb-true, lt-ltb, le-leb, leb-true}
 use Rattle.std.proofs.lemmas.List.{append_assoc, append-nil, length-append, take_rest}
 use Rattle.cl_names.specs.Text.{unit, IsModifiedUtf8}
-use Rattle.cl_names.specs.Escape.{is_plain, hex_value, are_hex, IsEscape, WritesUnit, Writes, WritesName, printed_unit, escaped, after_backslash, first_written, written_units}
+use Rattle.cl_names.specs.Escape.{is_plain, hex_value, are_hex, IsEscape, WritesUnit, Writes, WritesName, printed_unit, escaped, after_backslash, first_written, written_units, if_short, unescaped}
 use Rattle.cl_names.proofs.Units.{escaped_is}
 
 some_is : {A : Type 0} (b : Bool) (x y : A) (o : Option A) → cond b (Some x) o ≡ Some y → ((b ≡ true) × (x ≡ y)) ⊎ ((b ≡ false) × (o ≡ Some y))
@@ -37,11 +37,11 @@ backslash_is : (x : ℕ) (xs : List ℕ) (u : ℕ) (rest : List ℕ) → x ≡ 9
 backslash_is x (t ∷ a ∷ b ∷ c ∷ d ∷ more) u rest h e =
     elim (some_is (eqb t 117 && are_hex a b c d) (hex_value a b c d, more) (u, rest) None e) [
       | inl k ↦
-        let tests = and_parts (eqb t 117) (are_hex a b c d) k.0 in
-        let same = pair_is (hex_value a b c d) u more rest (ap (λ (p : ℕ × List ℕ). Some p) k.1) in
-        let t-is : t ≡ 117 = eqb-true t 117 tests.0 in
-        let more-is : more ≡ rest = same.1 in
-        record { front = 92 ∷ 117 ∷ a ∷ b ∷ c ∷ d ∷ []; whole = cc; writes = inr (record { a = a; b = b; c = c; d = d; digits = tests.1; value = sym same.0; spelled = refl }) }
+          let tests = and_parts (eqb t 117) (are_hex a b c d) k.0 in
+          let same = pair_is (hex_value a b c d) u more rest (ap (λ (p : ℕ × List ℕ). Some p) k.1) in
+          let t-is : t ≡ 117 = eqb-true t 117 tests.0 in
+          let more-is : more ≡ rest = same.1 in
+          record { front = 92 ∷ 117 ∷ a ∷ b ∷ c ∷ d ∷ []; whole = cc; writes = inr (record { a = a; b = b; c = c; d = d; digits = tests.1; value = sym same.0; spelled = refl }) }
       | inr k ↦ absurd cc
     ]
 backslash_is x _ u rest h e = absurd cc
@@ -51,10 +51,10 @@ front_is [] u rest e = absurd cc
 front_is (x ∷ xs) u rest e =
     elim (some_is (is_plain x) (x, xs) (u, rest) (cond (eqb x 92) (after_backslash xs) None) e) [
       | inl h ↦
-        let same = pair_is x u xs rest (ap (λ (p : ℕ × List ℕ). Some p) h.1) in
-        let x-is : x ≡ u = same.0 in
-        let rest-is : xs ≡ rest = same.1 in
-        record { front = x ∷ []; whole = cc; writes = inl (subst (λ v. is_plain v ≡ true) x-is h.0, cc) }
+          let same = pair_is x u xs rest (ap (λ (p : ℕ × List ℕ). Some p) h.1) in
+          let x-is : x ≡ u = same.0 in
+          let rest-is : xs ≡ rest = same.1 in
+          record { front = x ∷ []; whole = cc; writes = inl (subst (λ v. is_plain v ≡ true) x-is h.0, cc) }
       | inr h ↦ elim (either_is (eqb x 92) (after_backslash xs) (Some (u, rest)) h.1) [
         | inl k ↦ backslash_is x xs u rest (eqb-true x 92 k.0) k.1
         | inr k ↦ absurd cc
@@ -136,14 +136,14 @@ written_length : (front : List ℕ) (u : ℕ) → WritesUnit front u → (0 < le
 written_length front u w =
     elim w [
       | inl p ↦
-        let front-is : length front ≡ 1 = ap length p.1 in
-        let alone : (nat_lt 0 u && nat_lt u 128) ≡ true = let plain : is_plain u ≡ true = p.0 in grind (arith, nat_tests) in
-        let unit-is : length (unit u) ≡ 1 = ap length (cond-true (nat_lt 0 u && nat_lt u 128) (u ∷ []) _ alone) in
-        (omega arith, omega arith)
+          let front-is : length front ≡ 1 = ap length p.1 in
+          let alone : (nat_lt 0 u && nat_lt u 128) ≡ true = let plain : is_plain u ≡ true = p.0 in grind (arith, nat_tests) in
+          let unit-is : length (unit u) ≡ 1 = ap length (cond-true (nat_lt 0 u && nat_lt u 128) (u ∷ []) _ alone) in
+          (omega arith, omega arith)
       | inr k ↦
-        let front-is : length front ≡ 6 = ap length k.spelled in
-        let unit-is : length (unit u) ≤ 3 = length-unit u in
-        (omega arith, omega arith)
+          let front-is : length front ≡ 6 = ap length k.spelled in
+          let unit-is : length (unit u) ≤ 3 = length-unit u in
+          (omega arith, omega arith)
     ]
 
 -- a code unit takes no more bytes than what writes it
@@ -236,10 +236,10 @@ written_from (suc n) (x ∷ xs) units l e =
     elim (cases_first (first_written (x ∷ xs))) [
       | inl none ↦ let stops = written_stops (x ∷ xs) (omega arith) none in absurd (none_some units (sym stops ∙ e))
       | inr some ↦
-        let front = front_is (x ∷ xs) some.0 some.1 some.2 in
-        let shorter = (front_length (x ∷ xs) some.0 some.1 some.2).0 in
-        let others = some_map some.0 (written_units some.1) units (sym (written_more (x ∷ xs) some.0 some.1 some.2) ∙ e) in
-        subst (λ (r : List ℕ). Writes (x ∷ xs) r) others.2 (front.front, some.1, front.whole, front.writes, written_from n some.1 others.0 (omega arith) others.1)
+          let front = front_is (x ∷ xs) some.0 some.1 some.2 in
+          let shorter = (front_length (x ∷ xs) some.0 some.1 some.2).0 in
+          let others = some_map some.0 (written_units some.1) units (sym (written_more (x ∷ xs) some.0 some.1 some.2) ∙ e) in
+          subst (λ (r : List ℕ). Writes (x ∷ xs) r) others.2 (front.front, some.1, front.whole, front.writes, written_from n some.1 others.0 (omega arith) others.1)
     ]
 
 pub writes_text : (text name : List ℕ) → WritesName text name → IsModifiedUtf8 name
@@ -294,20 +294,20 @@ printed_writes u h =
     elim (cases_Bool (is_plain u)) [
       | inl p ↦ inl (p, rw p refl)
       | inr p ↦
-        let a = digit_back (u / 4096) (omega arith) in
-        let b = digit_back (u / 256 % 16) (omega arith) in
-        let c = digit_back (u / 16 % 16) (omega arith) in
-        let d = digit_back (u % 16) (omega arith) in
-        let value : u ≡ u / 4096 * 4096 + u / 256 % 16 * 256 + u / 16 % 16 * 16 + u % 16 = omega arith in
-        inr (record {
-          a = digit_char (u / 4096);
-          b = digit_char (u / 256 % 16);
-          c = digit_char (u / 16 % 16);
-          d = digit_char (u % 16);
-          digits = and_from _ _ (and_from _ _ (and_from _ _ a.0 b.0) c.0) d.0;
-          value = rw (a.1, b.1, c.1, d.1) value;
-          spelled = cond-false (is_plain u) (u ∷ []) _ p;
-        })
+          let a = digit_back (u / 4096) (omega arith) in
+          let b = digit_back (u / 256 % 16) (omega arith) in
+          let c = digit_back (u / 16 % 16) (omega arith) in
+          let d = digit_back (u % 16) (omega arith) in
+          let value : u ≡ u / 4096 * 4096 + u / 256 % 16 * 256 + u / 16 % 16 * 16 + u % 16 = omega arith in
+          inr (record {
+            a = digit_char (u / 4096);
+            b = digit_char (u / 256 % 16);
+            c = digit_char (u / 16 % 16);
+            d = digit_char (u % 16);
+            digits = and_from _ _ (and_from _ _ (and_from _ _ a.0 b.0) c.0) d.0;
+            value = rw (a.1, b.1, c.1, d.1) value;
+            spelled = cond-false (is_plain u) (u ∷ []) _ p;
+          })
     ]
 
 printed_all : (units : List ℕ) → AllByRecursion (λ u. u < 65536) units → Writes (flat_map printed_unit units) units
@@ -325,3 +325,29 @@ name_length text name len e f =
     let same : Some len ≡ Some (length (flat_map unit w.0)) = f ∙ ap (option_map (λ units. length (flat_map unit units))) w.1 in
     let len-is : len ≡ length (flat_map unit w.0) = cc in
     ap length w.2 ∙ sym len-is
+
+-- ---- the name that a text writes, computed
+
+none_left : (o : Option (List ℕ)) → ((name : List ℕ) → o ≡ Some name → ⊥) → o ≡ None
+none_left None h = refl
+none_left (Some name) h = absurd (h name refl)
+
+short_is : (name other : List ℕ) → if_short name ≡ Some other → (length name ≤ 65535) × (name ≡ other)
+short_is name other e = elim (some_is (leb (length name) 65535) name other None e) [ inl h ↦ (leb-true _ _ h.0, h.1) | inr h ↦ absurd cc ]
+
+unescaped_cases : (text name : List ℕ) (o : Option (List ℕ)) → o ≡ option_map (λ units. flat_map unit units) (written_units text) → option_and_then if_short o ≡ Some name → WritesName text name
+unescaped_cases text name None e h = absurd cc
+unescaped_cases text name (Some found) e h =
+    let s = short_is found name h in
+    subst (λ (r : List ℕ). WritesName text r) s.1 (name_read text found e s.0)
+
+pub unescaped_from : (text name : List ℕ) → unescaped text ≡ Some name → WritesName text name
+unfolding unescaped
+unescaped_from text name h = unescaped_cases text name (option_map (λ units. flat_map unit units) (written_units text)) refl h
+
+pub unescaped_of : (text name : List ℕ) → WritesName text name → unescaped text ≡ Some name
+unfolding unescaped
+unescaped_of text name w = ap (option_and_then if_short) (sym (name_written text name w)) ∙ cond-true (leb (length name) 65535) (Some name) None (le-leb _ _ w.short)
+
+pub unescaped_of_none : (text : List ℕ) → ((name : List ℕ) → WritesName text name → ⊥) → unescaped text ≡ None
+unescaped_of_none text h = none_left (unescaped text) (λ name e. h name (unescaped_from text name e))

@@ -31,12 +31,12 @@ units_more u rest h =
       | inl s ↦ rw s (units_one u rest (grind (arith, nat_tests)))
       | inr s ↦ elim (cases_Bool (nat_lt u 2048)) [
         | inl t ↦
-          let low : u < 2048 = grind (arith, nat_tests) in
-          let back : (192 + u / 64) % 32 * 64 + (128 + u % 64) % 64 ≡ u = omega arith in
-          rw (s, t) (units_two (192 + u / 64) (128 + u % 64) rest (grind (arith, nat_tests)) (grind (arith, nat_tests)) ∙ ap (λ v. v ∷ units_of rest) back)
+            let low : u < 2048 = grind (arith, nat_tests) in
+            let back : (192 + u / 64) % 32 * 64 + (128 + u % 64) % 64 ≡ u = omega arith in
+            rw (s, t) (units_two (192 + u / 64) (128 + u % 64) rest (grind (arith, nat_tests)) (grind (arith, nat_tests)) ∙ ap (λ v. v ∷ units_of rest) back)
         | inr t ↦
-          let back : (224 + u / 4096) % 16 * 4096 + (128 + u / 64 % 64) % 64 * 64 + (128 + u % 64) % 64 ≡ u = omega arith in
-          rw (s, t) (units_three (224 + u / 4096) (128 + u / 64 % 64) (128 + u % 64) rest (grind (arith, nat_tests)) (grind (arith, nat_tests)) ∙ ap (λ v. v ∷ units_of rest) back)
+            let back : (224 + u / 4096) % 16 * 4096 + (128 + u / 64 % 64) % 64 * 64 + (128 + u % 64) % 64 ≡ u = omega arith in
+            rw (s, t) (units_three (224 + u / 4096) (128 + u / 64 % 64) (128 + u % 64) rest (grind (arith, nat_tests)) (grind (arith, nat_tests)) ∙ ap (λ v. v ∷ units_of rest) back)
       ]
     ]
 

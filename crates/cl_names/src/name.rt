@@ -1,4 +1,4 @@
-ghost use Rattle.std.specs.Prelude.{◌≡◌, ◌<◌, ◌≤◌, ℕ, List, length, IfOk};
+ghost use Rattle.std.specs.Prelude.{◌≡◌, ◌≤◌, ℕ, List, [], ◌∷◌, ◌++◌, length, IfOk};
 ghost use Rattle.std.specs.Prelude.{refl, nat_eq, Some};
 ghost use Rattle.std.specs.Ordering.{nat_cmp};
 ghost use Rattle.std.specs.Cmp;
@@ -6,9 +6,8 @@ ghost use Rattle.std.specs.Cmp.Lexicographic.{pointwise, slice_cmp, nat_list_eq_
 ghost use Rattle.std.specs.Cmp.Rules.{hashing};
 ghost use Rattle.std.specs.Hash as fed;
 ghost use Rattle.std.proofs.Common.{rules};
-ghost use Rattle.std.specs.List.{flat_map, AllByRecursion};
-ghost use Rattle.cl_names.specs.Text.{unit, IsModifiedUtf8};
-ghost use Rattle.cl_names.specs.Escape.{WritesName, printed_unit, escaped};
+ghost use Rattle.cl_names.specs.Text.{IsModifiedUtf8};
+ghost use Rattle.cl_names.specs.Escape.{escaped};
 ghost use Rattle.cl_names.specs.Name.{TestedNameOf};
 
 use crate::escape::{printed, written_bytes, written_len};
@@ -112,7 +111,7 @@ impl From<AllocError> for NameFault {
 impl Name {
     ghost use Rattle.std.specs.Prelude.{MatchBool, string_bytes};
     ghost use Rattle.std.specs.List.{starts_with};
-    ghost use Rattle.cl_names.specs.Kind.{IsUnqualified, IsMethod, IsClass, IsNameOf, is_unqualified_name, is_method_name, is_class_name, package_of};
+    ghost use Rattle.cl_names.specs.Kind.{IsUnqualified, IsMethod, IsClass, IsNameOf, is_unqualified_name, is_method_name, is_class_name, HasNoSlash, package_of};
     ghost use Rattle.cl_names.specs.Name.{NameOf, KindNameOf, TextNameOf};
 
     /// The name of any kind that the bytes spell.
@@ -190,17 +189,21 @@ impl Name {
 
     /// The package of a class's name: what stands before the last `/`.
     pub fn package(&self) -> &[u8]
-        ensures { result.now ≡ package_of self.now }
+        ensures before { (front last : List ℕ) → self.now ≡ front ++ 47 ∷ last → HasNoSlash last → result.now ≡ front }
+        ensures none { HasNoSlash self.now → result.now ≡ [] }
+        ensures value { result.now ≡ package_of self.now }
     {
-        let bytes = self.bytes.as_slice();
+        let bytes = self.bytes();
         &bytes[..package_len(bytes)]
     }
 
     /// Whether its bytes begin with those of `prefix`.
     pub fn starts_with(&self, prefix: &Name) -> bool
-        ensures { result ≡ starts_with nat_eq self.now prefix.now }
+        ensures begins { MatchBool result ((rest : List ℕ) × (self.now ≡ prefix.now ++ rest))
+            ((rest : List ℕ) → self.now ≡ prefix.now ++ rest → ⊥) }
+        ensures value { result ≡ starts_with nat_eq self.now prefix.now }
     {
-        self.bytes.as_slice().starts_with(prefix.bytes.as_slice())
+        self.bytes().starts_with(prefix.bytes())
     }
 
     /// The bytes.
@@ -235,13 +238,4 @@ fn spelled(alloc: Global, bytes: &[u8], has_form: bool) -> Result<Name, NameFaul
     Ok(Name {
         bytes: Vec::from_slice(alloc, bytes)?,
     })
-}
-
-/// The printed text of a name reads back as that name, and as no other; it is the printed text of
-/// each code unit in turn.
-pub fn text_reads_back()
-    ensures back { (name : List ℕ) → IsModifiedUtf8 name → length name ≤ 65535 → WritesName (escaped name) name }
-    ensures alone { (text name other : List ℕ) → WritesName text name → WritesName text other → name ≡ other }
-    ensures printed { (units : List ℕ) → AllByRecursion (λ u. u < 65536) units → escaped (flat_map unit units) ≡ flat_map printed_unit units }
-{
 }

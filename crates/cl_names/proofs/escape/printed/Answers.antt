@@ -16,10 +16,10 @@ pub loop-unit-preserved : goal.loop-unit-preserved
 loop-unit-preserved c = record {
   text = sym (text_more _ _ _ c.in-Some.ensures.unit) ∙ c.loop-unit.invariant.text;
   printed =
-    ap (λ (r : List ℕ). r ++ escaped c.in-Some.others.now) c.in_ok-push_printed.ensures
-    ∙ append_assoc (string_bytes c.loop-unit.text) (printed_unit c.in-Some.unit) (escaped c.in-Some.others.now)
-    ∙ ap (λ (r : List ℕ). string_bytes c.loop-unit.text ++ r) (sym (escaped_more _ _ _ c.in-Some.ensures.unit))
-    ∙ c.loop-unit.invariant.printed;
+      ap (λ (r : List ℕ). r ++ escaped c.in-Some.others.now) c.in_ok-push_printed.ensures
+      ∙ append_assoc (string_bytes c.loop-unit.text) (printed_unit c.in-Some.unit) (escaped c.in-Some.others.now)
+      ∙ ap (λ (r : List ℕ). string_bytes c.loop-unit.text ++ r) (sym (escaped_more _ _ _ c.in-Some.ensures.unit))
+      ∙ c.loop-unit.invariant.printed;
 }
 
 pub returns : goal.returns

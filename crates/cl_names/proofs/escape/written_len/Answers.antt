@@ -18,9 +18,9 @@ loop-rest-preserved c =
     let fits = front_length c.loop-rest.rest.now c.in_ok-unit.unit c.in_ok-unit.others.now front in
     record {
       counted =
-        counted_more (written_units c.in_ok-unit.others.now) c.loop-rest.len c.unit_len-len.result c.in_ok-unit.unit c.unit_len-len.ensures
-        ∙ ap (option_map (λ units. c.loop-rest.len + length (flat_map unit units))) (sym (written_more c.loop-rest.rest.now c.in_ok-unit.unit c.in_ok-unit.others.now front))
-        ∙ c.loop-rest.invariant.counted;
+          counted_more (written_units c.in_ok-unit.others.now) c.loop-rest.len c.unit_len-len.result c.in_ok-unit.unit c.unit_len-len.ensures
+          ∙ ap (option_map (λ units. c.loop-rest.len + length (flat_map unit units))) (sym (written_more c.loop-rest.rest.now c.in_ok-unit.unit c.in_ok-unit.others.now front))
+          ∙ c.loop-rest.invariant.counted;
       room = omega (arith, fits.1, c.unit_len-len.ensures, c.loop-rest.invariant.room);
     }
 

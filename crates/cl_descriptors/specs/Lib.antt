@@ -1,0 +1,5 @@
+pub mod Class
+pub mod Types
+pub mod Reading
+pub mod Answers
+pub mod Pieces

@@ -1,0 +1,106 @@
+//! Types at the front of bytes, found without memory.
+
+ghost use Rattle.std.specs.Prelude.{◌≡◌, ◌==◌, ◌<◌, not, length, position, IfSome, option_map};
+ghost use Rattle.cl_descriptors.specs.Reading.{base_of_letter, class_at, base_at, field_at, whole_field, whole_return};
+ghost use Rattle.cl_descriptors.specs.Pieces.{seen, seen_base};
+
+use crate::class::is_class_name;
+use crate::types::Base;
+
+/// A base whose class name still stands in the bytes.
+#[derive(Drop)]
+pub enum Head<'a> {
+    Plain(Base),
+    Class(&'a [u8]),
+}
+
+/// A type whose class name still stands in the bytes, of any number of dimensions.
+#[derive(Drop)]
+pub struct Piece<'a> {
+    pub dims: usize,
+    pub base: Head<'a>,
+}
+
+fn base_of_letter(letter: u8) -> Option<Base>
+    ensures { result ≡ base_of_letter letter }
+{
+    match letter {
+        b'B' => Some(Base::Byte),
+        b'C' => Some(Base::Char),
+        b'D' => Some(Base::Double),
+        b'F' => Some(Base::Float),
+        b'I' => Some(Base::Int),
+        b'J' => Some(Base::Long),
+        b'S' => Some(Base::Short),
+        b'Z' => Some(Base::Boolean),
+        _ => None,
+    }
+}
+
+/// Where the first `;` stands.
+fn semicolon(bytes: &[u8]) -> Option<usize>
+    ensures place { result ≡ position (λ b. b == 59) bytes.now }
+    ensures within { IfSome result (λ k. k < length bytes.now) }
+{
+    bytes.iter().position(|b| *b == b';')
+}
+
+/// How many `[` stand before the first byte that is none.
+fn brackets(bytes: &[u8]) -> Option<usize>
+    ensures place { result ≡ position (λ b. not (b == 91)) bytes.now }
+    ensures within { IfSome result (λ k. k < length bytes.now) }
+{
+    bytes.iter().position(|b| *b != b'[')
+}
+
+/// The class name up to the first `;`, and what follows.
+#[tactic(auto, unfolding(crate::specs::Reading::class_at))]
+fn class_at(bytes: &[u8]) -> Option<(&[u8], &[u8])>
+    ensures { option_map (λ x. (x.0.now, x.1.now)) result ≡ class_at bytes.now }
+{
+    let end = semicolon(bytes)?;
+    let (name, _) = bytes.split_at(end);
+    let (_, rest) = bytes.split_at(end + 1);
+    if !is_class_name(name) {
+        return None;
+    }
+    Some((name, rest))
+}
+
+#[tactic(auto, unfolding(crate::specs::Reading::base_at))]
+fn base_at(bytes: &[u8]) -> Option<(Head<'_>, &[u8])>
+    ensures { option_map (λ x. (seen_base x.0, x.1.now)) result ≡ base_at bytes.now }
+{
+    let [letter, rest @ ..] = bytes else {
+        return None;
+    };
+    if *letter == b'L' {
+        let (name, rest) = class_at(rest)?;
+        return Some((Head::Class(name), rest));
+    }
+    let base = base_of_letter(*letter)?;
+    Some((Head::Plain(base), rest))
+}
+
+/// The type at the front, and what follows.
+#[tactic(auto, unfolding(crate::specs::Reading::field_at))]
+pub fn field_at(bytes: &[u8]) -> Option<(Piece<'_>, &[u8])>
+    ensures { option_map (λ x. (seen x.0, x.1.now)) result ≡ field_at bytes.now }
+{
+    let dims = brackets(bytes)?;
+    let (_, rest) = bytes.split_at(dims);
+    let (base, rest) = base_at(rest)?;
+    Some((Piece { dims, base }, rest))
+}
+
+/// All of the bytes as a type.
+#[tactic(auto, unfolding(crate::specs::Reading::whole_field))]
+pub fn whole_field(bytes: &[u8]) -> Option<Piece<'_>>
+    ensures { option_map seen result ≡ whole_field bytes.now }
+{
+    let (piece, rest) = field_at(bytes)?;
+    if !rest.is_empty() {
+        return None;
+    }
+    Some(piece)
+}

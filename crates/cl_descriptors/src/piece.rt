@@ -1,11 +1,15 @@
 //! Types at the front of bytes, found without memory.
 
-ghost use Rattle.std.specs.Prelude.{◌≡◌, ◌==◌, ◌<◌, not, length, position, IfSome, option_map};
+ghost use Rattle.std.specs.Prelude.{◌≡◌, ◌==◌, ◌<◌, ◌≤◌, not, length, position, IsTrue, IfSome, IfOk, option_map};
 ghost use Rattle.cl_descriptors.specs.Reading.{base_of_letter, class_at, base_at, field_at, whole_field, whole_return};
+ghost use Rattle.cl_descriptors.specs.Class.{is_class_name};
+ghost use Rattle.cl_descriptors.specs.Types.{IsBase, is_shallow, units_of_field};
 ghost use Rattle.cl_descriptors.specs.Pieces.{seen, seen_base};
 
 use crate::class::is_class_name;
-use crate::types::Base;
+use crate::types::{Base, FieldType};
+use cl_names::Name;
+use std::alloc::{AllocError, Global};
 
 /// A base whose class name still stands in the bytes.
 #[derive(Drop)]
@@ -19,6 +23,60 @@ pub enum Head<'a> {
 pub struct Piece<'a> {
     pub dims: usize,
     pub base: Head<'a>,
+}
+
+impl Piece<'_> {
+    /// How many units a parameter of this type counts.
+    fn units(&self) -> usize
+        ensures value { result ≡ units_of_field (seen self.now) }
+        ensures few { result ≤ 2 }
+    {
+        match &self.base {
+            Head::Plain(base) if self.dims == 0 => base.units(),
+            _ => 1,
+        }
+    }
+
+    fn is_shallow(&self) -> bool
+        ensures { result ≡ is_shallow (seen self.now) }
+    {
+        self.dims <= 255
+    }
+
+    /// The type, with a copy of its name.
+    fn build(self, alloc: Global) -> Result<FieldType, AllocError>
+        requires named { IsBase (seen_base self.base) }
+        requires shallow { self.dims ≤ 255 }
+        ensures { IfOk result (λ t. t ≡ seen self.entry) }
+    {
+        let dims = self.dims as u8;
+        let base = self.base.build(alloc)?;
+        Ok(FieldType { dims, base })
+    }
+}
+
+impl Head<'_> {
+    /// The base, with a copy of its name.
+    fn build(self, alloc: Global) -> Result<Base, AllocError>
+        requires { IsBase (seen_base self) }
+        ensures { IfOk result (λ base. base ≡ seen_base self.entry) }
+    {
+        match self {
+            Head::Plain(base) => Ok(base),
+            Head::Class(name) => Ok(Base::Class(class_name(alloc, name)?)),
+        }
+    }
+}
+
+/// The name in these bytes.
+fn class_name(alloc: Global, bytes: &[u8]) -> Result<Name, AllocError>
+    requires { IsTrue (is_class_name bytes.now) }
+    ensures { IfOk result (λ name. name ≡ bytes.now) }
+{
+    match Name::any(alloc, bytes) {
+        Ok(name) => Ok(name),
+        Err(_) => Err(AllocError),
+    }
 }
 
 fn base_of_letter(letter: u8) -> Option<Base>
@@ -103,4 +161,16 @@ pub fn whole_field(bytes: &[u8]) -> Option<Piece<'_>>
         return None;
     }
     Some(piece)
+}
+
+/// All of the bytes as what a method returns.
+#[tactic(auto, unfolding(crate::specs::Reading::whole_return))]
+pub fn whole_return(bytes: &[u8]) -> Option<Option<Piece<'_>>>
+    ensures { option_map (λ r. option_map seen r) result ≡ whole_return bytes.now }
+{
+    if let [b'V'] = bytes {
+        return Some(None);
+    }
+    let piece = whole_field(bytes)?;
+    Some(Some(piece))
 }

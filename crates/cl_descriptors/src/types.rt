@@ -21,11 +21,40 @@ pub enum Base {
     Class(Name),
 }
 
+impl Base {
+    ghost use Rattle.std.specs.Prelude.{◌≤◌};
+    ghost use Rattle.cl_descriptors.specs.Types.{units_of_base};
+
+    /// How many units a parameter of this type counts (JVMS SE 8, 4.3.3).
+    pub(crate) fn units(&self) -> usize
+        ensures value { result ≡ units_of_base self.now }
+        ensures few { result ≤ 2 }
+    {
+        match self {
+            Base::Double | Base::Long => 2,
+            _ => 1,
+        }
+    }
+}
+
 /// The type of a field or of a parameter: an array of so many dimensions, or with none its base (JVMS SE 8, 4.3.2).
 #[derive(Debug, Drop, PartialEq, Eq)]
 pub struct FieldType {
     pub dims: u8,
     pub base: Base,
+}
+
+impl FieldType {
+    ghost use Rattle.std.specs.Prelude.{◌≤◌};
+    ghost use Rattle.cl_descriptors.specs.Types.{units_of_field};
+
+    /// How many units a parameter of this type counts: two for a long or a double, one for each other type (JVMS SE 8, 4.3.3).
+    pub fn units(&self) -> usize
+        ensures value { result ≡ units_of_field self.now }
+        ensures few { result ≤ 2 }
+    {
+        if self.dims == 0 { self.base.units() } else { 1 }
+    }
 }
 
 /// The types of a method's parameters, in order.

@@ -54,6 +54,10 @@ types_at (suc n) bytes = elim (field_at bytes) [
   | Some x ↦ (x.0 ∷ (types_at n x.1).0, (types_at n x.1).1)
 ]
 
+-- all types at the front: each is at least one byte long
+abbrev pub all_types : List ℕ → List FieldType × List ℕ
+all_types bytes = types_at (length bytes) bytes
+
 -- all of the bytes as a field type
 unfoldable pub whole_field : List ℕ → Option FieldType
 whole_field bytes = option_and_then (λ x. if length x.1 == 0 then Some x.0 else None) (field_at bytes)
@@ -74,7 +78,7 @@ closed_with params (c ∷ rest) = if c == 41 then option_map (λ r. record { par
 -- all of the bytes as a method type
 unfoldable pub whole_method : List ℕ → Option MethodType
 whole_method [] = None
-whole_method (c ∷ rest) = if c == 40 then closed_with (types_at (length rest) rest).0 (types_at (length rest) rest).1 else None
+whole_method (c ∷ rest) = if c == 40 then closed_with (all_types rest).0 (all_types rest).1 else None
 
 -- a field type within the limit
 abbrev pub within_field : Option FieldType → Result FieldType DescriptorFault

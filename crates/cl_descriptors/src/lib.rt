@@ -3,6 +3,7 @@
 
 mod class;
 mod piece;
+mod reading;
 mod types;
 
 pub use types::{Base, Descriptor, DescriptorFault, FieldType, MethodType, Params};

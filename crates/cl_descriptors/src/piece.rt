@@ -27,7 +27,7 @@ pub struct Piece<'a> {
 
 impl Piece<'_> {
     /// How many units a parameter of this type counts.
-    fn units(&self) -> usize
+    pub fn units(&self) -> usize
         ensures value { result ≡ units_of_field (seen self.now) }
         ensures few { result ≤ 2 }
     {
@@ -37,14 +37,14 @@ impl Piece<'_> {
         }
     }
 
-    fn is_shallow(&self) -> bool
+    pub fn is_shallow(&self) -> bool
         ensures { result ≡ is_shallow (seen self.now) }
     {
         self.dims <= 255
     }
 
     /// The type, with a copy of its name.
-    fn build(self, alloc: Global) -> Result<FieldType, AllocError>
+    pub fn build(self, alloc: Global) -> Result<FieldType, AllocError>
         requires named { IsBase (seen_base self.base) }
         requires shallow { self.dims ≤ 255 }
         ensures { IfOk result (λ t. t ≡ seen self.entry) }

@@ -1,0 +1,4 @@
+pub mod Codec
+pub mod ClassNames
+pub mod Fields
+pub mod Loop

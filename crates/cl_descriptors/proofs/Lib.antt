@@ -2,3 +2,5 @@ pub mod Codec
 pub mod ClassNames
 pub mod Fields
 pub mod Loop
+pub mod Methods
+pub mod Outcomes

@@ -7,7 +7,8 @@ use Rattle.std.proofs.lemmas.List.{append-nil, length-append}
 use Rattle.std.proofs.lemmas.List.Concat.{flat_map-cons}
 use Rattle.std.proofs.lemmas.List.Folds.{list_all-append}
 use Rattle.std.proofs.lemmas.List.Sums.{sum_by_push}
-use Rattle.cl_descriptors.specs.Types.{spelling_of_base, spelling_of_field, IsBase, is_shallow, units_of_base, units_of_field}
+use Rattle.cl_descriptors.specs.Types.{spelling_of_base, spelling_of_field, IsBase, is_shallow}
+use Rattle.cl_descriptors.specs.Units.{units_of_base, units_of_field}
 use Rattle.cl_descriptors.specs.Reading.{field_at, types_at, all_types}
 use Rattle.cl_descriptors.specs.Pieces.{seen}
 use Rattle.cl_descriptors.specs.declared.types.Base.{Base}
@@ -19,12 +20,12 @@ use Rattle.cl_descriptors.proofs.Fields.{field, spelling_is_some}
 
 -- ---- the steps
 
-types_at-some : (n : ℕ) (bytes : List ℕ) (t : FieldType) (rest : List ℕ) → field_at bytes ≡ Some (t, rest)
+pub types_at-some : (n : ℕ) (bytes : List ℕ) (t : FieldType) (rest : List ℕ) → field_at bytes ≡ Some (t, rest)
     → types_at (suc n) bytes ≡ (t ∷ (types_at n rest).0, (types_at n rest).1)
 unfolding types_at
 types_at-some n bytes t rest e = rw (e, types_at) refl
 
-types_at-none : (n : ℕ) (bytes : List ℕ) → field_at bytes ≡ None → types_at n bytes ≡ ([], bytes)
+pub types_at-none : (n : ℕ) (bytes : List ℕ) → field_at bytes ≡ None → types_at n bytes ≡ ([], bytes)
 unfolding types_at
 types_at-none zero bytes e = refl
 types_at-none (suc n) bytes e = rw (e, types_at) refl

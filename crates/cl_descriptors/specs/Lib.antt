@@ -1,4 +1,5 @@
 pub mod Class
+pub mod Units
 pub mod Types
 pub mod Reading
 pub mod Answers

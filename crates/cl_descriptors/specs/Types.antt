@@ -2,6 +2,7 @@
 use Rattle.std.specs.Prelude.{◌≡◌, ℕ, ◌≤◌, ◌==◌, Bool, IsTrue, nat_le, if◌then◌else◌, List, [], ◌∷◌, ◌++◌, replicate, codes, flat_map, filter_map, sum_by, Option, Some, None, option_to_list}
 use Rattle.std.specs.List.{AllByRecursion, list_all}
 use Rattle.cl_descriptors.specs.Class.{is_class_name}
+use Rattle.cl_descriptors.specs.Units.{units_of_types}
 use Rattle.cl_descriptors.specs.declared.types.Base.{Base}
 use Rattle.cl_descriptors.specs.declared.types.Base.TheVariants.{Byte, Char, Double, Float, Int, Long, Short, Boolean, Class}
 use Rattle.cl_descriptors.specs.declared.types.FieldType.{FieldType}
@@ -41,6 +42,10 @@ abbrev pub IsBase : Base → Type 0
 IsBase (Class name) = IsTrue (is_class_name name)
 IsBase _ = Unit {0}
 
+-- so is each that a method type names
+abbrev pub AreNamed : MethodType → Type 0
+AreNamed m = AllByRecursion (λ t. IsBase t.base) (types_of m)
+
 -- the bytes are the descriptor of this field type, but for the limit on dimensions
 pub record SpellsField (bytes : List ℕ) (t : FieldType) : Type 0 where
   pub named : IsBase t.base
@@ -48,7 +53,7 @@ pub record SpellsField (bytes : List ℕ) (t : FieldType) : Type 0 where
 
 -- the bytes are the descriptor of this method type, but for the limits
 pub record SpellsMethod (bytes : List ℕ) (m : MethodType) : Type 0 where
-  pub named : AllByRecursion (λ t. IsBase t.base) (types_of m)
+  pub named : AreNamed m
   pub spelled : bytes ≡ spelling_of_method m
 
 -- at most 255 dimensions (JVMS SE 8, 4.3.2)
@@ -59,18 +64,9 @@ is_shallow t = nat_le t.dims 255
 abbrev pub are_shallow : MethodType → Bool
 are_shallow m = list_all is_shallow (types_of m)
 
-abbrev pub units_of_base : Base → ℕ
-units_of_base Double = 2
-units_of_base Long = 2
-units_of_base _ = 1
-
--- a long or a double counts two units, each other type one, an array of these too (JVMS SE 8, 4.3.3)
-abbrev pub units_of_field : FieldType → ℕ
-units_of_field t = if t.dims == 0 then units_of_base t.base else 1
-
 -- the units of the parameters, without one for `this`
 abbrev pub units_of_method : MethodType → ℕ
-units_of_method m = sum_by units_of_field m.params
+units_of_method m = units_of_types m.params
 
 -- at most 255 units (JVMS SE 8, 4.3.3)
 abbrev pub is_short : MethodType → Bool

@@ -6,4 +6,5 @@ mod piece;
 mod reading;
 mod types;
 
+pub use reading::{read_field, read_method};
 pub use types::{Base, Descriptor, DescriptorFault, FieldType, MethodType, Params};

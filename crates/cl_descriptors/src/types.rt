@@ -23,7 +23,7 @@ pub enum Base {
 
 impl Base {
     ghost use Rattle.std.specs.Prelude.{◌≤◌};
-    ghost use Rattle.cl_descriptors.specs.Types.{units_of_base};
+    ghost use Rattle.cl_descriptors.specs.Units.{units_of_base};
 
     /// How many units a parameter of this type counts (JVMS SE 8, 4.3.3).
     pub(crate) fn units(&self) -> usize
@@ -46,7 +46,7 @@ pub struct FieldType {
 
 impl FieldType {
     ghost use Rattle.std.specs.Prelude.{◌≤◌};
-    ghost use Rattle.cl_descriptors.specs.Types.{units_of_field};
+    ghost use Rattle.cl_descriptors.specs.Units.{units_of_field};
 
     /// How many units a parameter of this type counts: two for a long or a double, one for each other type (JVMS SE 8, 4.3.3).
     pub fn units(&self) -> usize
@@ -64,12 +64,57 @@ pub struct Params {
 }
 
 impl Model for Params {
-    ghost use Rattle.std.specs.Prelude.{List};
+    ghost use Rattle.std.specs.Prelude.{List, sum_by, ◌≤◌};
     ghost use Rattle.cl_descriptors.specs.declared.types.FieldType.{FieldType};
 
     ghost Value = { List FieldType };
 
+    ghost use Rattle.cl_descriptors.specs.Units.{units_of_types};
+
     ghost view = { λ p. p.items.items };
+
+    ghost invariant = { λ p. units_of_types p.items.items ≤ 255 };
+}
+
+impl Params {
+    ghost use Rattle.std.specs.Prelude.{◌≤◌, ◌↔◌, [], IsTrue, length, option_map, slice_get};
+    ghost use Rattle.cl_descriptors.specs.Units.{units_of_types};
+
+    pub(crate) fn new(items: Vec<FieldType>) -> Params
+        requires { units_of_types items.items ≤ 255 }
+        ensures { result ≡ items.items }
+    {
+        Params { items }
+    }
+
+    /// How many there are.
+    pub fn len(&self) -> usize
+        ensures { result ≡ length self.now }
+    {
+        self.items.len()
+    }
+
+    /// Whether there are none.
+    pub fn is_empty(&self) -> bool
+        ensures { IsTrue result ↔ (self.now ≡ []) }
+    {
+        self.items.is_empty()
+    }
+
+    /// The one at this index, counted from 0.
+    pub fn get(&self, index: usize) -> Option<&FieldType>
+        ensures { option_map (λ t. t.now) result ≡ slice_get self.now index }
+    {
+        self.items.get(index)
+    }
+
+    /// All of them.
+    pub fn as_slice(&self) -> &[FieldType]
+        ensures types { result.now ≡ self.now }
+        ensures short { units_of_types self.now ≤ 255 }
+    {
+        self.items.as_slice()
+    }
 }
 
 /// A method's parameters, and what it returns: nothing where it is void (JVMS SE 8, 4.3.3).

@@ -2,7 +2,8 @@ use Rattle.std.proofs.Common.{◌≡◌, ◌+◌, ◌≤◌, ◌<◌, List, ℕ,
 use Rattle.std.specs.Prelude.{sum_by}
 use Rattle.std.specs.List.{list_all}
 use Rattle.cl_descriptors.specs.Reading.{field_at, all_types}
-use Rattle.cl_descriptors.specs.Types.{is_shallow, units_of_field}
+use Rattle.cl_descriptors.specs.Types.{is_shallow}
+use Rattle.cl_descriptors.specs.Units.{units_of_field}
 use Rattle.cl_descriptors.specs.Pieces.{seen}
 use Rattle.cl_descriptors.specs.declared.types.FieldType.{FieldType}
 use Rattle.cl_descriptors.proofs.Loop.{counted_more, shorter, types-end, after-end}

@@ -2,8 +2,10 @@
 #![tactic(auto)]
 
 mod class;
+mod naming;
 mod piece;
 mod reading;
+mod spelling;
 mod types;
 
 pub use reading::{read_field, read_method};

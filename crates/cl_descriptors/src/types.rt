@@ -87,6 +87,14 @@ impl Params {
         Params { items }
     }
 
+    /// How many units they count (JVMS SE 8, 4.3.3).
+    pub fn units(&self) -> usize
+        ensures value { result ≡ units_of_types self.now }
+        ensures few { result ≤ 255 }
+    {
+        self.items.iter().map(|t| t.units()).sum()
+    }
+
     /// How many there are.
     pub fn len(&self) -> usize
         ensures { result ≡ length self.now }
@@ -122,6 +130,19 @@ impl Params {
 pub struct MethodType {
     pub params: Params,
     pub ret: Option<FieldType>,
+}
+
+impl MethodType {
+    ghost use Rattle.std.specs.Prelude.{◌≤◌};
+    ghost use Rattle.cl_descriptors.specs.Types.{units_of_method};
+
+    /// How many units its parameters count, without one for `this` (JVMS SE 8, 4.3.3).
+    pub fn units(&self) -> usize
+        ensures value { result ≡ units_of_method self.now }
+        ensures few { result ≤ 255 }
+    {
+        self.params.units()
+    }
 }
 
 /// A descriptor of either kind.

@@ -4,3 +4,4 @@ pub mod Fields
 pub mod Loop
 pub mod Methods
 pub mod Outcomes
+pub mod Equality

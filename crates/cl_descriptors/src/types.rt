@@ -1,6 +1,4 @@
 ghost use Rattle.std.specs.Prelude.{◌≡◌};
-ghost use Rattle.std.specs.Cmp;
-ghost use Rattle.std.specs.Cmp.Lexicographic.{pointwise};
 
 use cl_names::Name;
 use std::alloc::{AllocError, Global};
@@ -76,6 +74,28 @@ impl Model for Params {
     ghost invariant = { λ p. units_of_types p.items.items ≤ 255 };
 }
 
+impl PartialEq for Params {
+    ghost use Rattle.std.specs.Cmp;
+    ghost use Rattle.std.specs.Cmp.Lexicographic.{pointwise, lists_equiv};
+    ghost use Rattle.cl_descriptors.specs.contracts.types.FieldTypePartialEq.TheImpl as fields;
+    ghost use Rattle.cl_descriptors.specs.contracts.types.FieldTypeEq.TheImpl.Laws as laws_of_fields;
+
+    ghost eq = { pointwise fields.ghosts.eq };
+
+    ghost laws = { Cmp.partial_equiv_from_equiv (lists_equiv laws_of_fields.laws-law) };
+
+    fn eq(&self, other: &Params) -> bool {
+        self.items.as_slice() == other.items.as_slice()
+    }
+}
+
+impl Eq for Params {
+    ghost use Rattle.std.specs.Cmp.Lexicographic.{lists_equiv};
+    ghost use Rattle.cl_descriptors.specs.contracts.types.FieldTypeEq.TheImpl.Laws as laws_of_fields;
+
+    ghost laws = { lists_equiv laws_of_fields.laws-law };
+}
+
 impl Params {
     ghost use Rattle.std.specs.Prelude.{◌≤◌, ◌↔◌, [], IsTrue, length, option_map, slice_get};
     ghost use Rattle.cl_descriptors.specs.Units.{units_of_types};
@@ -126,7 +146,7 @@ impl Params {
 }
 
 /// A method's parameters, and what it returns: nothing where it is void (JVMS SE 8, 4.3.3).
-#[derive(Debug, Drop)]
+#[derive(Debug, Drop, PartialEq, Eq)]
 pub struct MethodType {
     pub params: Params,
     pub ret: Option<FieldType>,
@@ -146,7 +166,7 @@ impl MethodType {
 }
 
 /// A descriptor of either kind.
-#[derive(Debug, Drop)]
+#[derive(Debug, Drop, PartialEq, Eq)]
 pub enum Descriptor {
     Field(FieldType),
     Method(MethodType),

@@ -2,11 +2,14 @@
 #![tactic(auto)]
 
 mod class;
+mod cloning;
+mod laws;
 mod naming;
 mod piece;
 mod reading;
 mod spelling;
 mod types;
 
+pub use laws::{equal_types_are_the_same, one_field_spelling, one_method_spelling};
 pub use reading::{read_field, read_method};
 pub use types::{Base, Descriptor, DescriptorFault, FieldType, MethodType, Params};

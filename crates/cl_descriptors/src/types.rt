@@ -1,8 +1,9 @@
-ghost use Rattle.std.specs.Prelude.{◌≡◌};
+ghost use Rattle.std.specs.Prelude.{◌≡◌, IfOk};
 
 use cl_names::Name;
 use std::alloc::{AllocError, Global};
 use std::marker::Model;
+use std::slice::Iter;
 use thiserror::Error;
 
 /// What a type is below its dimensions.
@@ -97,6 +98,9 @@ impl Eq for Params {
 }
 
 impl Params {
+    ghost use Rattle.std.specs.Iterator.Adapters.{IterYieldsInOrder};
+    ghost use Rattle.std.specs.Slice.Iter.{iter_rest};
+    ghost use Rattle.cl_descriptors.specs.declared.types.FieldType.{FieldType};
     ghost use Rattle.std.specs.Prelude.{◌≤◌, ◌↔◌, [], IsTrue, length, option_map, slice_get};
     ghost use Rattle.cl_descriptors.specs.Units.{units_of_types};
 
@@ -105,6 +109,14 @@ impl Params {
         ensures { result ≡ items.items }
     {
         Params { items }
+    }
+
+    /// A copy.
+    pub fn try_clone(&self, alloc: Global) -> Result<Params, AllocError>
+        ensures { IfOk result (λ params. params ≡ self.now) }
+    {
+        let items = copies(alloc, self.items.as_slice())?;
+        Ok(Params { items })
     }
 
     /// How many units they count (JVMS SE 8, 4.3.3).
@@ -136,6 +148,14 @@ impl Params {
         self.items.get(index)
     }
 
+    /// A walk over them.
+    pub fn iter(&self) -> Iter<'_, FieldType>
+        ensures rest { iter_rest result ≡ self.now }
+        ensures runs { IterYieldsInOrder FieldType }
+    {
+        self.items.iter()
+    }
+
     /// All of them.
     pub fn as_slice(&self) -> &[FieldType]
         ensures types { result.now ≡ self.now }
@@ -143,6 +163,17 @@ impl Params {
     {
         self.items.as_slice()
     }
+}
+
+/// Copies of these types.
+fn copies(alloc: Global, types: &[FieldType]) -> Result<Vec<FieldType>, AllocError>
+    ensures { IfOk result (λ copies. copies.items ≡ types.now) }
+{
+    let mut copies = Vec::with_capacity(alloc, types.len())?;
+    for t in types {
+        copies.push(t.try_clone(alloc)?)?;
+    }
+    Ok(copies)
 }
 
 /// A method's parameters, and what it returns: nothing where it is void (JVMS SE 8, 4.3.3).

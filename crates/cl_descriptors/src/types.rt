@@ -86,7 +86,7 @@ impl PartialEq for Params {
     ghost laws = { Cmp.partial_equiv_from_equiv (lists_equiv laws_of_fields.laws-law) };
 
     fn eq(&self, other: &Params) -> bool {
-        self.items.as_slice() == other.items.as_slice()
+        self.as_slice() == other.as_slice()
     }
 }
 
@@ -115,7 +115,7 @@ impl Params {
     pub fn try_clone(&self, alloc: Global) -> Result<Params, AllocError>
         ensures { IfOk result (λ params. params ≡ self.now) }
     {
-        let items = copies(alloc, self.items.as_slice())?;
+        let items = copies(alloc, self.as_slice())?;
         Ok(Params { items })
     }
 
@@ -153,7 +153,7 @@ impl Params {
         ensures rest { iter_rest result ≡ self.now }
         ensures runs { IterYieldsInOrder FieldType }
     {
-        self.items.iter()
+        self.as_slice().iter()
     }
 
     /// All of them.

@@ -1,0 +1,8 @@
+use Rattle.std.proofs.Common.{◌≡◌, sym, ◌∙◌, ap, Some, arith}
+use Rattle.std.specs.Prelude.{option_map}
+use Rattle.cl_descriptors.specs.Pieces.{seen}
+use Rattle.cl_descriptors.proofs.Methods.{whole_field_spelled}
+use Rattle.cl_descriptors.proofs.reading.field_of.Goals as goal
+
+pub build-requires-clause-named : goal.build-requires-clause-named
+build-requires-clause-named c = (whole_field_spelled c.args.bytes.now (seen c.in-Some.piece) (sym c.in-Some.ensures)).named

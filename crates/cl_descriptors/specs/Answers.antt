@@ -1,0 +1,36 @@
+-- What reading bytes as a descriptor may answer: which of these it is, the bytes say, but for want of memory.
+use Rattle.std.specs.Prelude.{◌≡◌, ℕ, IsTrue, IsFalse, IsOk, List, Result, Ok, Err}
+use Rattle.cl_descriptors.specs.Types.{SpellsField, SpellsMethod, is_shallow, are_shallow, is_short}
+use Rattle.cl_descriptors.specs.declared.types.FieldType.{FieldType}
+use Rattle.cl_descriptors.specs.declared.types.MethodType.{MethodType}
+use Rattle.cl_descriptors.specs.declared.types.DescriptorFault.{DescriptorFault}
+use Rattle.cl_descriptors.specs.declared.types.DescriptorFault.TheVariants.{Memory, Malformed, TooManyDimensions, TooManyUnits}
+
+-- some type of that kind is spelled so
+abbrev pub IsField : List ℕ → (FieldType → Type 0) → Type 0
+IsField bytes Kind = (t : FieldType) × SpellsField bytes t × Kind t
+
+abbrev pub IsMethod : List ℕ → (MethodType → Type 0) → Type 0
+IsMethod bytes Kind = (m : MethodType) × SpellsMethod bytes m × Kind m
+
+abbrev pub FieldOf : List ℕ → Result FieldType DescriptorFault → Type 0
+FieldOf bytes (Ok t) = SpellsField bytes t × IsTrue (is_shallow t)
+FieldOf bytes (Err Malformed) = (t : FieldType) → SpellsField bytes t → ⊥
+FieldOf bytes (Err TooManyDimensions) = IsField bytes (λ t. IsFalse (is_shallow t))
+FieldOf bytes (Err TooManyUnits) = ⊥
+FieldOf bytes (Err Memory) = IsField bytes (λ t. IsTrue (is_shallow t))
+
+abbrev pub MethodOf : List ℕ → Result MethodType DescriptorFault → Type 0
+MethodOf bytes (Ok m) = SpellsMethod bytes m × IsTrue (are_shallow m) × IsTrue (is_short m)
+MethodOf bytes (Err Malformed) = (m : MethodType) → SpellsMethod bytes m → ⊥
+MethodOf bytes (Err TooManyDimensions) = IsMethod bytes (λ m. IsFalse (are_shallow m))
+MethodOf bytes (Err TooManyUnits) = IsMethod bytes (λ m. IsTrue (are_shallow m) × IsFalse (is_short m))
+MethodOf bytes (Err Memory) = IsMethod bytes (λ m. IsTrue (are_shallow m) × IsTrue (is_short m))
+
+-- the answer is that of the bytes, and memory is wanting only where they are a descriptor
+abbrev pub Gives : {A : Type 0} → Result A DescriptorFault → Result A DescriptorFault → Type 0
+Gives (Ok x) reading = reading ≡ Ok x
+Gives (Err Malformed) reading = reading ≡ Err Malformed
+Gives (Err TooManyDimensions) reading = reading ≡ Err TooManyDimensions
+Gives (Err TooManyUnits) reading = reading ≡ Err TooManyUnits
+Gives (Err Memory) reading = IsOk reading

@@ -1,0 +1,6 @@
+pub mod Class
+pub mod Units
+pub mod Types
+pub mod Reading
+pub mod Answers
+pub mod Pieces

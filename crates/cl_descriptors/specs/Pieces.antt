@@ -1,0 +1,28 @@
+-- Types whose names still stand in bytes, seen as types.
+use Rattle.std.specs.Prelude.{◌≡◌, option_map}
+use Rattle.std.specs.List.{list_all}
+use Rattle.cl_descriptors.specs.Types.{is_shallow, units_of_method}
+use Rattle.cl_descriptors.specs.Reading.{all_types}
+use Rattle.cl_descriptors.specs.declared.types.MethodType.{MethodType}
+use Rattle.cl_descriptors.specs.declared.reading.Outline.{Outline}
+use Rattle.cl_descriptors.specs.declared.types.Base.{Base}
+use Rattle.cl_descriptors.specs.declared.types.Base.TheVariants as bases
+use Rattle.cl_descriptors.specs.declared.types.FieldType.{FieldType}
+use Rattle.cl_descriptors.specs.declared.piece.Head.{Head}
+use Rattle.cl_descriptors.specs.declared.piece.Head.TheVariants.{Plain, Class}
+use Rattle.cl_descriptors.specs.declared.piece.Piece.{Piece}
+
+abbrev pub seen_base : Head → Base
+seen_base (Plain base) = base
+seen_base (Class name) = bases.Class name.now
+
+abbrev pub seen : Piece → FieldType
+seen p = record { dims = p.dims; base = seen_base p.base }
+
+abbrev pub outlined : Outline → MethodType
+outlined o = record { params = (all_types o.params.now).0; ret = option_map seen o.ret }
+
+-- the tally is that of the parameters
+pub record IsCounted (o : Outline) : Type 0 where
+  pub units : o.tally.units ≡ units_of_method (outlined o)
+  pub shallow : o.tally.shallow ≡ list_all is_shallow (outlined o).params

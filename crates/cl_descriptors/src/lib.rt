@@ -1,0 +1,17 @@
+//! Descriptors: the types of fields, and of methods' parameters and results (JVMS SE 8, 4.3).
+#![tactic(auto)]
+
+mod class;
+mod cloning;
+mod laws;
+mod naming;
+mod piece;
+mod reading;
+mod spelling;
+#[cfg(test)]
+mod tests;
+mod types;
+
+pub use laws::{equal_types_are_the_same, one_field_spelling, one_method_spelling};
+pub use reading::{read_field, read_method};
+pub use types::{Base, Descriptor, DescriptorFault, FieldType, MethodType, Params};

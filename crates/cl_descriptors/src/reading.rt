@@ -1,0 +1,179 @@
+//! Reading descriptors: a first pass decides without memory, a second builds.
+
+ghost use Rattle.std.specs.Prelude.{◌≡◌, Some, ◌≤◌, ◌<◌, ◌+◌, ◌*◌, ◌^◌, ◌&&◌, length, IsTrue, IfSome, IfOk, sum_by, option_map};
+ghost use Rattle.std.specs.List.{list_all};
+ghost use Rattle.cl_descriptors.specs.Types.{SpellsField, SpellsMethod, AreNamed, is_shallow, are_shallow, is_short};
+ghost use Rattle.cl_descriptors.specs.Units.{units_of_field};
+ghost use Rattle.cl_descriptors.specs.Pieces.{seen, outlined, IsCounted};
+ghost use Rattle.cl_descriptors.specs.Reading.{all_types, whole_method, within_field, within_method, field_of, method_of};
+ghost use Rattle.cl_descriptors.specs.Answers.{FieldOf, MethodOf, Gives};
+
+use crate::piece::{Piece, field_at, whole_field, whole_return};
+use crate::types::{DescriptorFault, FieldType, MethodType, Params};
+use std::alloc::{AllocError, Global};
+
+/// What a list of types counts for the limits.
+#[derive(Drop)]
+struct Tally {
+    count: usize,
+    units: usize,
+    shallow: bool,
+}
+
+/// A method descriptor but for the limits, its parameters still in the bytes.
+#[derive(Drop)]
+struct Outline<'a> {
+    tally: Tally,
+    params: &'a [u8],
+    ret: Option<Piece<'a>>,
+}
+
+impl Tally {
+    /// What the list counts with one more type.
+    fn with(self, piece: Piece<'_>) -> Tally
+        requires room { self.count + 1 < 2 ^ 63 }
+        requires few { self.units ≤ 2 * self.count }
+        ensures count { result.count ≡ self.count + 1 }
+        ensures units { result.units ≡ self.units + units_of_field (seen piece.entry) }
+        ensures shallow { result.shallow ≡ self.shallow && is_shallow (seen piece.entry) }
+    {
+        Tally {
+            count: self.count + 1,
+            units: self.units + piece.units(),
+            shallow: self.shallow && piece.is_shallow(),
+        }
+    }
+}
+
+/// The types at the front, counted, and what follows.
+fn counted(bytes: &[u8]) -> (Tally, &[u8])
+    ensures units { result.0.units ≡ sum_by units_of_field (all_types bytes.now).0 }
+    ensures shallow { result.0.shallow ≡ list_all is_shallow (all_types bytes.now).0 }
+    ensures rest { result.1.now ≡ (all_types bytes.now).1 }
+{
+    let mut tally = Tally { count: 0, units: 0, shallow: true };
+    let mut rest = bytes;
+    while let Some((piece, after)) = field_at(rest) {
+        tally = tally.with(piece);
+        rest = after;
+    }
+    (tally, rest)
+}
+
+/// The types at the front.
+fn types(alloc: Global, count: usize, bytes: &[u8]) -> Result<Vec<FieldType>, AllocError>
+    requires { IsTrue (list_all is_shallow (all_types bytes.now).0) }
+    ensures { IfOk result (λ types. types.items ≡ (all_types bytes.now).0) }
+{
+    let mut types = Vec::with_capacity(alloc, count)?;
+    let mut rest = bytes;
+    while let Some((piece, after)) = field_at(rest) {
+        types.push(piece.build(alloc)?)?;
+        rest = after;
+    }
+    Ok(types)
+}
+
+/// All of the bytes as a method type, but for the limits.
+#[tactic(auto, unfolding(crate::specs::Reading::whole_method))]
+fn outline_of(bytes: &[u8]) -> Option<Outline<'_>>
+    ensures grammar { option_map outlined result ≡ whole_method bytes.now }
+    ensures counts { IfSome result IsCounted }
+{
+    let [b'(', params @ ..] = bytes else {
+        return None;
+    };
+    let (tally, after) = counted(params);
+    let [b')', after @ ..] = after else {
+        return None;
+    };
+    let ret = whole_return(after)?;
+    Some(Outline { tally, params, ret })
+}
+
+impl Outline<'_> {
+    fn is_shallow(&self) -> bool
+        requires { IsCounted self.now }
+        ensures { result ≡ are_shallow (outlined self.now) }
+    {
+        match &self.ret {
+            Some(ret) => ret.is_shallow() && self.tally.shallow,
+            None => self.tally.shallow,
+        }
+    }
+
+    fn is_short(&self) -> bool
+        requires { IsCounted self.now }
+        ensures { result ≡ is_short (outlined self.now) }
+    {
+        self.tally.units <= 255
+    }
+
+    /// The method type, with copies of its names.
+    fn build(self, alloc: Global) -> Result<MethodType, AllocError>
+        requires named { AreNamed (outlined self) }
+        requires shallow { IsTrue (are_shallow (outlined self)) }
+        requires short { IsTrue (is_short (outlined self)) }
+        ensures { IfOk result (λ m. m ≡ outlined self.entry) }
+    {
+        let params = types(alloc, self.tally.count, self.params)?;
+        let ret = match self.ret {
+            Some(ret) => Some(ret.build(alloc)?),
+            None => None,
+        };
+        Ok(MethodType { params: Params::new(params), ret })
+    }
+}
+
+#[tactic(auto, unfolding(crate::specs::Reading::field_of))]
+fn field_of(alloc: Global, bytes: &[u8]) -> Result<FieldType, DescriptorFault>
+    ensures { Gives result (field_of bytes.now) }
+{
+    let Some(piece) = whole_field(bytes) else {
+        return Err(DescriptorFault::Malformed);
+    };
+    if !piece.is_shallow() {
+        return Err(DescriptorFault::TooManyDimensions);
+    }
+    Ok(piece.build(alloc)?)
+}
+
+#[tactic(auto, unfolding(crate::specs::Reading::method_of))]
+fn method_of(alloc: Global, bytes: &[u8]) -> Result<MethodType, DescriptorFault>
+    ensures { Gives result (method_of bytes.now) }
+{
+    let Some(outline) = outline_of(bytes) else {
+        return Err(DescriptorFault::Malformed);
+    };
+    if !outline.is_shallow() {
+        return Err(DescriptorFault::TooManyDimensions);
+    }
+    if !outline.is_short() {
+        return Err(DescriptorFault::TooManyUnits);
+    }
+    Ok(outline.build(alloc)?)
+}
+
+/// The type that the bytes are the field descriptor of, all of the bytes (JVMS SE 8, 4.3.2).
+pub fn read_field(alloc: Global, bytes: &[u8]) -> Result<FieldType, DescriptorFault>
+    // What is read is spelled so, and each fault is that of the bytes.
+    ensures grammar { FieldOf bytes.now result }
+    // What is spelled so is read, unless memory runs out.
+    ensures only { (t : FieldType) → SpellsField bytes.now t → Gives result (within_field (Some t)) }
+    // Which answer it is.
+    ensures exact { Gives result (field_of bytes.now) }
+{
+    field_of(alloc, bytes)
+}
+
+/// The type that the bytes are the method descriptor of, all of the bytes (JVMS SE 8, 4.3.3).
+pub fn read_method(alloc: Global, bytes: &[u8]) -> Result<MethodType, DescriptorFault>
+    // What is read is spelled so, and each fault is that of the bytes.
+    ensures grammar { MethodOf bytes.now result }
+    // What is spelled so is read, unless memory runs out.
+    ensures only { (m : MethodType) → SpellsMethod bytes.now m → Gives result (within_method (Some m)) }
+    // Which answer it is.
+    ensures exact { Gives result (method_of bytes.now) }
+{
+    method_of(alloc, bytes)
+}

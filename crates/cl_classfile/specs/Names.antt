@@ -1,24 +1,24 @@
 -- Names of classes (JVMS SE 8, 4.2.1).
-use Rattle.std.specs.Prelude.{◌≡◌, ℕ, Bool, true, false, ◌&&◌, ◌||◌, ◌==◌, if◌then◌else◌, List, [], ◌∷◌}
+use Rattle.std.specs.Prelude.{◌≡◌, ℕ, Bool, true, not, ◌&&◌, ◌||◌, ◌==◌, List, length, codes}
+use Rattle.std.specs.List.{list_all, slice_split}
 use Rattle.cl_names.specs.Text.{IsModifiedUtf8, is_text}
 
--- java/lang/Object
 abbrev pub object : List ℕ
-object = 106 ∷ 97 ∷ 118 ∷ 97 ∷ 47 ∷ 108 ∷ 97 ∷ 110 ∷ 103 ∷ 47 ∷ 79 ∷ 98 ∷ 106 ∷ 101 ∷ 99 ∷ 116 ∷ []
+object = codes "java/lang/Object"
 
--- . ; and [ stand in no name
-abbrev pub is_barred : ℕ → Bool
-is_barred b = b == 46 || b == 59 || b == 91
+-- none of . ; [ / (JVMS SE 8, 4.2.2)
+abbrev pub is_allowed : ℕ → Bool
+is_allowed p = not (p == 46 || p == 59 || p == 91 || p == 47)
 
--- one or more parts, none of them empty, joined by /; fresh where a part begins
-unfoldable pub are_parts : Bool → List ℕ → Bool
-are_parts true [] = false
-are_parts false [] = true
-are_parts true (b ∷ rest) = if is_barred b || b == 47 then false else are_parts false rest
-are_parts false (b ∷ rest) = if is_barred b then false else are_parts (b == 47) rest
+abbrev pub has_unqualified_form : List ℕ → Bool
+has_unqualified_form points = not (length points == 0) && list_all is_allowed points
 
-abbrev pub is_class_name : List ℕ → Bool
-is_class_name bytes = is_text bytes && are_parts true bytes
+abbrev pub has_class_form : List ℕ → Bool
+has_class_form points = list_all has_unqualified_form (slice_split (λ p. p == 47) points)
 
-abbrev pub IsClassName : List ℕ → Type 0
-IsClassName bytes = IsModifiedUtf8 bytes × (are_parts true bytes ≡ true)
+unfoldable pub is_class_name : List ℕ → Bool
+is_class_name bytes = is_text bytes && has_class_form bytes
+
+pub record IsClassName (bytes : List ℕ) : Type 0 where
+  pub text : IsModifiedUtf8 bytes
+  pub form : has_class_form bytes ≡ true

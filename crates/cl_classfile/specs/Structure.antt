@@ -1,5 +1,5 @@
 -- What a class file is, and how it is spelled (JVMS SE 8, 4.1).
-use Rattle.std.specs.Prelude.{◌≡◌, ◌⊎◌, ℕ, zero, suc, ◌+◌, ◌<◌, ◌^◌, List, [], ◌∷◌, ◌++◌, length, Option, Some, None, slice_get}
+use Rattle.std.specs.Prelude.{◌≡◌, ◌≢◌, ◌⊎◌, ◌≤◌, ℕ, zero, suc, ◌+◌, ◌<◌, ◌^◌, List, [], ◌∷◌, ◌++◌, length, take, drop, Option, Some, None, slice_get}
 use Rattle.std.specs.List.{flat_map, AllByRecursion}
 use Rattle.std.specs.Int.{w16, w32, to_be_bytes}
 use Rattle.cl_names.specs.Text.{IsModifiedUtf8}
@@ -108,8 +108,8 @@ pub record Fits (f : Structure) : Type 0 where
 
 -- ---- what the tables ask
 
--- what stands at an index of the pool, from 1 on (4.1)
-abbrev pub at : List Entry → ℕ → Option Entry
+-- what stands at an index, from 1 on (4.1)
+abbrev pub at : {A : Type 0} → List A → ℕ → Option A
 at pool zero = None
 at pool (suc i) = slice_get pool i
 
@@ -147,8 +147,24 @@ pub record IsNarrow (f : Structure) : Type 0 where
   pub methods : f.methods ≡ []
   pub attributes : f.attributes ≡ []
 
+-- what a class file that was read is
+pub record IsClassFile (f : Structure) : Type 0 where
+  pub fits : Fits f
+  pub kept : Keeps f
+  pub narrow : IsNarrow f
+
 -- the bytes spell the file, which keeps the tables
 pub record Spells (bytes : List ℕ) (f : Structure) : Type 0 where
   pub fits : Fits f
   pub kept : Keeps f
   pub spelled : bytes ≡ spelling f
+
+-- ---- the two faults of the header
+
+-- four bytes stand, and are not the magic
+abbrev pub HasOtherMagic : List ℕ → Type 0
+HasOtherMagic bytes = (4 ≤ length bytes) × (take 4 bytes ≢ magic)
+
+-- eight bytes stand, the magic and another version
+abbrev pub HasOtherVersion : List ℕ → Type 0
+HasOtherVersion bytes = (8 ≤ length bytes) × (take 4 bytes ≡ magic) × (take 4 (drop 4 bytes) ≢ version)

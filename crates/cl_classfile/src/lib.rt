@@ -1,8 +1,13 @@
 //! Class files: their parts, and reading them from bytes (JVMS SE 8, chapter 4).
 #![tactic(auto)]
 
+mod checking;
 mod entry;
 mod fault;
+mod file;
+mod names;
+mod reading;
 
 pub use entry::Entry;
 pub use fault::{Fault, ReadError};
+pub use file::{ClassFile, read};

@@ -8,8 +8,7 @@ use Rattle.cl_classfile.specs.declared.fault.Fault.TheVariants.{BadMagic, Versio
 use Rattle.cl_classfile.specs.Structure.{magic, version, HasOtherMagic, HasOtherVersion}
 use Rattle.cl_classfile.specs.Checking.{◌>>=◌}
 use Rattle.cl_classfile.specs.Reading.{Reader, number_at, then_at, test_at, magic_at, version_at, header_at}
-use Rattle.cl_classfile.proofs.ClassNames.{both}
-use Rattle.cl_classfile.proofs.Codec.{IsBytes, IsBytes-drop, Takes, IsCodec, number16, number32, ok_is}
+use Rattle.cl_classfile.proofs.Codec.{both, IsBytes, IsBytes-drop, Takes, IsCodec, number16, number32, ok_is}
 use Rattle.cl_classfile.proofs.Spelled.{also}
 
 -- a number stands where there are bytes enough

@@ -1,4 +1,3 @@
-pub mod ClassNames
 pub mod Loop
 pub mod Entries
 pub mod Codec

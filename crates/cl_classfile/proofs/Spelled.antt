@@ -11,8 +11,7 @@ use Rattle.cl_classfile.specs.declared.fault.Fault.TheVariants.{BadMagic, Versio
 use Rattle.cl_classfile.specs.Structure.{Structure, Member, Attribute, entry_spelling, counted, pool_spelling, member_spelling, attribute_spelling, magic, version, spelling, EntryFits, AllFit, PoolFits, Fits}
 use Rattle.cl_classfile.specs.Checking.{◌>>=◌}
 use Rattle.cl_classfile.specs.Reading.{Reader, number_at, bytes_at, then_at, test_at, map_at, many_at, zero_at, none_at, magic_at, version_at, header_at, text_at, entry_at, entries_at, pool_at, class_at, interfaces_at, members_at, attributes_at, tables_at, Parts, parts_at, structure_of, structure_at}
-use Rattle.cl_classfile.proofs.ClassNames.{both}
-use Rattle.cl_classfile.proofs.Codec.{IsBytes, bind_ok, ok_is, Takes, Takes-then, IsCodec, number16, number32, bytes_of, one_then, tested, mapped, many, EachFits, each_of_all, all_of_each}
+use Rattle.cl_classfile.proofs.Codec.{both, IsBytes, bind_ok, ok_is, Takes, Takes-then, IsCodec, number16, number32, bytes_of, one_then, tested, mapped, many, EachFits, each_of_all, all_of_each}
 
 -- one structure, and then another
 pub also : {A B : Type 0} (r : Reader A) (q : Reader B) (s : A → List ℕ) (t : B → List ℕ) (F : A → Type 0) (G : B → Type 0) → IsCodec r s F → IsCodec q t G → IsCodec (then_at r (λ a. q)) (λ p. s p.0 ++ t p.1) (λ p. F p.0 × G p.1)

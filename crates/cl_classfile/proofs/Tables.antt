@@ -5,23 +5,23 @@ use Rattle.std.specs.List.{AllByRecursion}
 use Rattle.std.specs.Cmp.Lexicographic.{pointwise, same_text}
 use Rattle.std.proofs.lemmas.Bool.{eqb-true, le-leb}
 use Rattle.cl_names.specs.Text.{IsModifiedUtf8, is_text}
+use Rattle.cl_names.specs.Kind.{IsNameOf, IsClass}
 use Rattle.cl_names.proofs.Texts.{text_from_test, test_of}
+use Rattle.cl_names.proofs.Grammars.{class_from_test, class_test_of}
 use Rattle.cl_classfile.specs.declared.entry.Entry.{Entry}
 use Rattle.cl_classfile.specs.declared.entry.Entry.TheVariants.{Utf8, Class}
 use Rattle.cl_classfile.specs.declared.fault.Fault.{Fault}
 use Rattle.cl_classfile.specs.declared.fault.Fault.TheVariants.{BadPool, BadFlags, BadSupertype}
-use Rattle.cl_classfile.specs.Names.{object, IsClassName, is_class_name}
-use Rattle.cl_classfile.specs.Structure.{Structure, EntryFits, Fits, at, IsText, IsClass, KeepsEntry, KeepsSuper, Keeps, IsNarrow, IsClassFile}
+use Rattle.cl_classfile.specs.Structure.{Structure, EntryFits, Fits, at, object, IsText, NamesClass, KeepsEntry, KeepsSuper, Keeps, IsNarrow, IsClassFile}
 use Rattle.cl_classfile.specs.Files.{text_of, text_at, class_of, class_name}
 use Rattle.cl_classfile.specs.Checking.{◌>>=◌, is_class_text, names_class, keeps_entry, kept_entry, checked_entries, keeps_super, keeps_supertypes, checked_class, kept_file}
-use Rattle.cl_classfile.proofs.Codec.{bind_ok, ok_is}
-use Rattle.cl_classfile.proofs.ClassNames.{both, name_from_test, test_of_name}
+use Rattle.cl_classfile.proofs.Codec.{bind_ok, ok_is, both}
 
 -- ---- an entry's row
 
-names_class_says : (o : Option Entry) → names_class o ≡ true → (text : List ℕ) × (o ≡ Some (Utf8 text)) × IsClassName text
+names_class_says : (o : Option Entry) → names_class o ≡ true → (text : List ℕ) × (o ≡ Some (Utf8 text)) × IsNameOf IsClass text
 names_class_says None e = absurd cc
-names_class_says (Some (Utf8 text)) e = (text, refl, name_from_test text e)
+names_class_says (Some (Utf8 text)) e = (text, refl, class_from_test text e)
 names_class_says (Some (Class index)) e = absurd cc
 
 keeps_entry_says : (pool : List Entry) (e : Entry) → keeps_entry pool e ≡ true → KeepsEntry pool e
@@ -30,7 +30,7 @@ keeps_entry_says pool (Class index) h = names_class_says (at pool index) h
 
 keeps_entry_told : (pool : List Entry) (e : Entry) → EntryFits e → KeepsEntry pool e → keeps_entry pool e ≡ true
 keeps_entry_told pool (Utf8 text) fits h = let short : leb (length text) 65535 ≡ true = le-leb _ _ (omega (arith, fits)) in rw (test_of text h, short) refl
-keeps_entry_told pool (Class index) fits h = ap names_class h.1 ∙ test_of_name h.0 h.2
+keeps_entry_told pool (Class index) fits h = ap names_class h.1 ∙ class_test_of h.0 h.2
 
 -- ---- all of the entries
 
@@ -57,12 +57,12 @@ text_says None name h = absurd cc
 text_says (Some (Utf8 text)) name h = cc
 text_says (Some (Class index)) name h = absurd cc
 
-class_says : (pool : List Entry) (i : ℕ) (o : Option Entry) (name : List ℕ) → at pool i ≡ o → class_of pool o ≡ Some name → IsClass pool i name
+class_says : (pool : List Entry) (i : ℕ) (o : Option Entry) (name : List ℕ) → at pool i ≡ o → class_of pool o ≡ Some name → NamesClass pool i name
 class_says pool i None name e h = absurd cc
 class_says pool i (Some (Utf8 text)) name e h = absurd cc
 class_says pool i (Some (Class index)) name e h = record { index = index; is_entry = e; named = text_says (at pool index) name h }
 
-pub class_named : (pool : List Entry) (i : ℕ) (name : List ℕ) → IsClass pool i name → class_name pool i ≡ Some name
+pub class_named : (pool : List Entry) (i : ℕ) (name : List ℕ) → NamesClass pool i name → class_name pool i ≡ Some name
 class_named pool i name c = ap (class_of pool) c.is_entry ∙ ap text_of c.named
 
 -- ---- supertypes
@@ -99,7 +99,7 @@ super_told pool name super (inr h) =
 -- this_class and super_class keep the tables
 record KeepsNames (pool : List Entry) (this super : ℕ) : Type 0 where
   name : List ℕ
-  this_class : IsClass pool this name
+  this_class : NamesClass pool this name
   super_class : KeepsSuper pool name super
 
 supertypes_say : (pool : List Entry) (this super : ℕ) (o : Option (List ℕ)) → class_name pool this ≡ o → keeps_supertypes pool super o ≡ true → KeepsNames pool this super

@@ -1,4 +1,3 @@
-pub mod Names
 pub mod Structure
 pub mod Files
 pub mod Checking

@@ -1,11 +1,11 @@
 -- What a class file is, and how it is spelled (JVMS SE 8, 4.1).
-use Rattle.std.specs.Prelude.{◌≡◌, ◌≢◌, ◌⊎◌, ◌≤◌, ℕ, zero, suc, ◌+◌, ◌<◌, ◌^◌, List, [], ◌∷◌, ◌++◌, length, take, drop, Option, Some, None, slice_get}
+use Rattle.std.specs.Prelude.{◌≡◌, ◌≢◌, ◌⊎◌, ◌≤◌, ℕ, zero, suc, ◌+◌, ◌<◌, ◌^◌, List, [], ◌∷◌, ◌++◌, length, take, drop, Option, Some, None, codes, slice_get}
 use Rattle.std.specs.List.{flat_map, AllByRecursion}
 use Rattle.std.specs.Int.{w16, w32, to_be_bytes}
 use Rattle.cl_names.specs.Text.{IsModifiedUtf8}
+use Rattle.cl_names.specs.Kind.{IsNameOf, IsClass}
 use Rattle.cl_classfile.specs.declared.entry.Entry.{Entry}
 use Rattle.cl_classfile.specs.declared.entry.Entry.TheVariants.{Utf8, Class}
-use Rattle.cl_classfile.specs.Names.{IsClassName, object}
 
 -- ---- the parts
 
@@ -118,25 +118,29 @@ abbrev pub IsText : List Entry → ℕ → List ℕ → Type 0
 IsText pool i text = at pool i ≡ Some (Utf8 text)
 
 -- the entry at the index is a class of this name (4.4.1)
-pub record IsClass (pool : List Entry) (i : ℕ) (name : List ℕ) : Type 0 where
+pub record NamesClass (pool : List Entry) (i : ℕ) (name : List ℕ) : Type 0 where
   pub index : ℕ
   pub is_entry : at pool i ≡ Some (Class index)
   pub named : IsText pool index name
 
+-- java/lang/Object
+abbrev pub object : List ℕ
+object = codes "java/lang/Object"
+
 -- what the table of entries asks of each kind (4.4)
 abbrev pub KeepsEntry : List Entry → Entry → Type 0
 KeepsEntry pool (Utf8 text) = IsModifiedUtf8 text
-KeepsEntry pool (Class index) = (name : List ℕ) × IsText pool index name × IsClassName name
+KeepsEntry pool (Class index) = (name : List ℕ) × IsText pool index name × IsNameOf IsClass name
 
 -- super_class is 0 exactly in java/lang/Object, and else a class (4.1)
 abbrev pub KeepsSuper : List Entry → List ℕ → ℕ → Type 0
-KeepsSuper pool name super = ((name ≡ object) × (super ≡ 0)) ⊎ ((name ≡ object → ⊥) × (above : List ℕ) × IsClass pool super above)
+KeepsSuper pool name super = ((name ≡ object) × (super ≡ 0)) ⊎ ((name ≡ object → ⊥) × (above : List ℕ) × NamesClass pool super above)
 
 -- the file keeps the tables
 pub record Keeps (f : Structure) : Type 0 where
   pub pool : AllByRecursion (KeepsEntry f.pool) f.pool
   pub name : List ℕ
-  pub this_class : IsClass f.pool f.this_class name
+  pub this_class : NamesClass f.pool f.this_class name
   pub super_class : KeepsSuper f.pool name f.super_class
 
 -- what is read so far: a public class that is not final, with no interface, member or attribute

@@ -8,9 +8,8 @@ ghost use Rattle.cl_classfile.specs.Raw.{plain_entry, plain_entries};
 
 use crate::entry::Entry;
 use crate::fault::{Fault, ReadError};
-use crate::names::is_class_name;
 use crate::reading::RawEntry;
-use cl_names::{Name, NameFault};
+use cl_names::{Name, NameFault, is_class_name};
 use std::alloc::{AllocError, Global};
 
 fn is_class_text(entry: RawEntry<'_>) -> bool

@@ -5,7 +5,6 @@ mod checking;
 mod entry;
 mod fault;
 mod file;
-mod names;
 mod reading;
 
 pub use entry::Entry;

@@ -5,4 +5,5 @@ pub mod Tables
 pub mod Spelled
 pub mod Header
 pub mod Quiet
-pub mod Laws
+pub mod Exact
+pub mod Whole

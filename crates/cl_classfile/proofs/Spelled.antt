@@ -1,6 +1,6 @@
 -- Each reader of a structure takes what spells it, and reads again what was spelled.
 use Rattle.std.proofs.Common.{◌≡◌, ◌⊎◌, ℕ, zero, suc, ◌+◌, ◌-◌, ◌^◌, ◌<◌, ◌≤◌, Bool, true, false, cond, eqb, leb, ◌&&◌, List, [], ◌∷◌, ◌++◌, length, Result, Ok, Err, refl, sym, ap, subst, ◌∙◌, append_assoc, arith, inl, inr}
-use Rattle.std.specs.Int.{w16, w32, to_be_bytes}
+use Rattle.std.specs.Int.{Width, w16, w32, to_be_bytes}
 use Rattle.std.specs.List.{flat_map, AllByRecursion}
 use Rattle.std.proofs.lemmas.Bool.{eqb-true, leb-true}
 use Rattle.std.proofs.lemmas.Bool.Decides.{nat_tests}
@@ -19,18 +19,25 @@ also r q s t F G first second = one_then r (λ a. q) s (λ a. t) F (λ a. G) fir
 
 -- ---- entries
 
+-- a length, and that many bytes
+abbrev pub sized_at : Width → Reader (List ℕ)
+sized_at w bytes = number_at w bytes >>= λ n. bytes_at n.0 n.1
+
+pub sized : (w : Width) (limit : ℕ) → IsCodec (number_at w) (to_be_bytes w) (λ n. n < limit) → IsCodec (sized_at w) (λ t. to_be_bytes w (length t) ++ t) (λ t. length t < limit)
+sized w limit number = record {
+  takes = λ bytes x fits e.
+      let b = bind_ok (number_at w bytes) (λ n. bytes_at n.0 n.1) x e in
+      let one = number.takes bytes b.0 fits b.1 in
+      let two = (bytes_of b.0.0).takes b.0.1 x one.0.rest_fits b.2 in
+      let whole = Takes-then bytes (to_be_bytes w b.0.0) b.0.1 x.0 x.1 one.0 two.0 in
+      (subst (λ (k : ℕ). Takes bytes (to_be_bytes w k ++ x.0) x.1) (sym two.1) whole, omega (arith, two.1, one.1));
+  again = λ t rest h.
+      ap (sized_at w) (append_assoc (to_be_bytes w (length t)) t rest) ∙ rw (number.again (length t) (t ++ rest) h, (bytes_of (length t)).again t rest refl) refl;
+}
+
 text : IsCodec text_at (λ t. to_be_bytes w16 (length t) ++ t) (λ t. length t < 2 ^ 16)
 unfolding text_at
-text = record {
-  takes = λ bytes x fits e.
-      let b = bind_ok (number_at w16 bytes) (λ n. bytes_at n.0 n.1) x e in
-      let one = number16.takes bytes b.0 fits b.1 in
-      let two = (bytes_of b.0.0).takes b.0.1 x one.0.rest_fits b.2 in
-      let whole = Takes-then bytes (to_be_bytes w16 b.0.0) b.0.1 x.0 x.1 one.0 two.0 in
-      (subst (λ (k : ℕ). Takes bytes (to_be_bytes w16 k ++ x.0) x.1) (sym two.1) whole, omega (arith, two.1, one.1));
-  again = λ t rest h.
-      ap text_at (append_assoc (to_be_bytes w16 (length t)) t rest) ∙ rw (number16.again (length t) (t ++ rest) h, (bytes_of (length t)).again t rest refl) refl;
-}
+text = sized w16 (2 ^ 16) number16
 
 chosen : {A : Type 0} (b : Bool) (x y z : A) → cond b x y ≡ z → ((b ≡ true) × (x ≡ z)) ⊎ ((b ≡ false) × (y ≡ z))
 chosen true x y z e = inl (refl, e)
@@ -70,7 +77,7 @@ entries : (n : ℕ) → IsCodec (entries_at n) (flat_map entry_spelling) (λ es.
 unfolding entries_at
 entries n = many entry_at (λ i e. i + 1) entry_spelling (λ i e. EntryFits e) entry n 1
 
-pool : IsCodec pool_at pool_spelling PoolFits
+pub pool : IsCodec pool_at pool_spelling PoolFits
 unfolding pool_at
 pool = record {
   takes = λ bytes x fits e.
@@ -90,9 +97,6 @@ pool = record {
 
 -- ---- the parts of the file
 
-zero-is : (n : ℕ) → eqb n 0 ≡ true → n ≡ 0
-zero-is n e = eqb-true n 0 e
-
 none : {A : Type 0} (fault : Fault) (spell : A → List ℕ) → IsCodec (none_at {A = A} fault) (counted spell) (λ xs. xs ≡ [])
 none {A} fault spell =
     mapped (zero_at fault) (to_be_bytes w16) (λ n. (n < 2 ^ 16) × (eqb n 0 ≡ true)) (λ n. []) (λ xs. 0) (counted spell) (λ xs. xs ≡ [])
@@ -100,15 +104,37 @@ none {A} fault spell =
     (λ n h. (ap (to_be_bytes w16) (eqb-true n 0 h.1), refl))
     (λ xs h. ((omega arith, refl), ap (λ (ys : List A). counted spell ys) (sym h), sym h))
 
-header : IsCodec header_at (λ p. to_be_bytes w32 p.0 ++ (to_be_bytes w16 p.1.0 ++ to_be_bytes w16 p.1.1))
-    (λ p. ((p.0 < 2 ^ 32) × (eqb p.0 0xcafebabe ≡ true)) × (((p.1.0 < 2 ^ 16) × (p.1.1 < 2 ^ 16)) × (eqb p.1.0 0 && eqb p.1.1 52 ≡ true)))
+abbrev pub header_spelling : ℕ × (ℕ × ℕ) → List ℕ
+header_spelling p = to_be_bytes w32 p.0 ++ (to_be_bytes w16 p.1.0 ++ to_be_bytes w16 p.1.1)
+
+abbrev pub HeaderFits : ℕ × (ℕ × ℕ) → Type 0
+HeaderFits p = ((p.0 < 2 ^ 32) × (eqb p.0 0xcafebabe ≡ true)) × (((p.1.0 < 2 ^ 16) × (p.1.1 < 2 ^ 16)) × (eqb p.1.0 0 && eqb p.1.1 52 ≡ true))
+
+pub header : IsCodec header_at header_spelling HeaderFits
 unfolding header_at magic_at version_at
 header =
     also magic_at version_at _ _ _ _
     (tested (number_at w32) (to_be_bytes w32) (λ n. n < 2 ^ 32) (λ n. eqb n 0xcafebabe) BadMagic number32)
     (tested (then_at (number_at w16) (λ minor. number_at w16)) _ _ (λ v. eqb v.0 0 && eqb v.1 52) Version (also (number_at w16) (number_at w16) _ _ _ _ number16 number16))
 
-class : IsCodec class_at (λ p. to_be_bytes w16 p.0 ++ (to_be_bytes w16 p.1.0 ++ to_be_bytes w16 p.1.1)) (λ p. (p.0 < 2 ^ 16) × ((p.1.0 < 2 ^ 16) × (p.1.1 < 2 ^ 16)))
+-- the header that is read has one spelling
+pub header_says : (p : ℕ × (ℕ × ℕ)) → HeaderFits p → header_spelling p ≡ magic ++ version
+header_says p h =
+    let v = both (eqb p.1.0 0) (eqb p.1.1 52) h.1.1 in
+    ap (λ (n : ℕ). to_be_bytes w32 n ++ (to_be_bytes w16 p.1.0 ++ to_be_bytes w16 p.1.1)) (eqb-true p.0 0xcafebabe h.0.1)
+    ∙ ap (λ (n : ℕ). magic ++ (to_be_bytes w16 n ++ to_be_bytes w16 p.1.1)) (eqb-true p.1.0 0 v.0)
+    ∙ ap (λ (n : ℕ). magic ++ (to_be_bytes w16 0 ++ to_be_bytes w16 n)) (eqb-true p.1.1 52 v.1)
+
+pub header_fits : HeaderFits (0xcafebabe, (0, 52))
+header_fits = ((omega arith, refl), ((omega arith, omega arith), refl))
+
+abbrev pub class_spelling : ℕ × (ℕ × ℕ) → List ℕ
+class_spelling p = to_be_bytes w16 p.0 ++ (to_be_bytes w16 p.1.0 ++ to_be_bytes w16 p.1.1)
+
+abbrev pub ClassFits : ℕ × (ℕ × ℕ) → Type 0
+ClassFits p = (p.0 < 2 ^ 16) × ((p.1.0 < 2 ^ 16) × (p.1.1 < 2 ^ 16))
+
+pub class : IsCodec class_at class_spelling ClassFits
 unfolding class_at
 class = also (number_at w16) (then_at (number_at w16) (λ this. number_at w16)) _ _ _ _ number16 (also (number_at w16) (number_at w16) _ _ _ _ number16 number16)
 
@@ -128,22 +154,19 @@ tables : IsCodec tables_at (λ p. counted member_spelling p.0 ++ (counted member
 unfolding tables_at
 tables = also members_at (then_at members_at (λ methods. attributes_at)) _ _ _ _ members (also members_at attributes_at _ _ _ _ members attributes)
 
-abbrev PartsFit : Parts → Type 0
-PartsFit p =
-    (((p.0.0 < 2 ^ 32) × (eqb p.0.0 0xcafebabe ≡ true)) × (((p.0.1.0 < 2 ^ 16) × (p.0.1.1 < 2 ^ 16)) × (eqb p.0.1.0 0 && eqb p.0.1.1 52 ≡ true)))
-    × (PoolFits p.1.0
-    × (((p.1.1.0.0 < 2 ^ 16) × ((p.1.1.0.1.0 < 2 ^ 16) × (p.1.1.0.1.1 < 2 ^ 16)))
-    × ((p.1.1.1.0 ≡ []) × ((p.1.1.1.1.0 ≡ []) × ((p.1.1.1.1.1.0 ≡ []) × (p.1.1.1.1.1.1 ≡ []))))))
+-- the parts, where those behind the class are so
+abbrev pub PartsFit : (List ℕ → Type 0) → (List Member → Type 0) → (List Attribute → Type 0) → Parts → Type 0
+PartsFit I M A p = HeaderFits p.0 × (PoolFits p.1.0 × (ClassFits p.1.1.0 × (I p.1.1.1.0 × (M p.1.1.1.1.0 × (M p.1.1.1.1.1.0 × A p.1.1.1.1.1.1)))))
 
-abbrev parts_spelling : Parts → List ℕ
+abbrev pub parts_spelling : Parts → List ℕ
 parts_spelling p =
-    (to_be_bytes w32 p.0.0 ++ (to_be_bytes w16 p.0.1.0 ++ to_be_bytes w16 p.0.1.1))
+    header_spelling p.0
     ++ (pool_spelling p.1.0
-    ++ ((to_be_bytes w16 p.1.1.0.0 ++ (to_be_bytes w16 p.1.1.0.1.0 ++ to_be_bytes w16 p.1.1.0.1.1))
+    ++ (class_spelling p.1.1.0
     ++ (counted (to_be_bytes w16) p.1.1.1.0
     ++ (counted member_spelling p.1.1.1.1.0 ++ (counted member_spelling p.1.1.1.1.1.0 ++ counted attribute_spelling p.1.1.1.1.1.1)))))
 
-parts : IsCodec parts_at parts_spelling PartsFit
+parts : IsCodec parts_at parts_spelling (PartsFit (λ xs. xs ≡ []) (λ xs. xs ≡ []) (λ xs. xs ≡ []))
 unfolding parts_at
 parts = also header_at _ _ _ _ _ header (also pool_at _ _ _ _ _ pool (also class_at _ _ _ _ _ class (also interfaces_at tables_at _ _ _ _ interfaces tables)))
 
@@ -158,44 +181,38 @@ pub record IsRead (f : Structure) : Type 0 where
 nothing_fits : {A : Type 0} (F : A → Type 0) (xs : List A) → xs ≡ [] → AllFit F xs
 nothing_fits {A} F xs e = subst (λ (ys : List A). AllFit F ys) (sym e) (omega arith, tt)
 
-abbrev parts_of : Structure → Parts
+abbrev pub parts_of : Structure → Parts
 parts_of f = ((0xcafebabe, (0, 52)), (f.pool, ((f.flags, (f.this_class, f.super_class)), (f.interfaces, (f.fields, (f.methods, f.attributes))))))
 
-joined : (m v pool flags this super rest : List ℕ) → m ≡ magic → v ≡ version → (m ++ v) ++ (pool ++ ((flags ++ (this ++ super)) ++ rest)) ≡ magic ++ (version ++ (pool ++ (flags ++ (this ++ (super ++ rest)))))
-joined m v pool flags this super rest e f = rw (e, f) (simp append_assoc)
+joined : (header pool flags this super rest : List ℕ) → header ≡ magic ++ version → header ++ (pool ++ ((flags ++ (this ++ super)) ++ rest)) ≡ magic ++ (version ++ (pool ++ (flags ++ (this ++ (super ++ rest)))))
+joined header pool flags this super rest e = rw e (simp append_assoc)
 
-there : (p : Parts) → PartsFit p → (parts_spelling p ≡ spelling (structure_of p)) × IsRead (structure_of p)
+-- the parts' spelling is the file's
+pub there : (p : Parts) → HeaderFits p.0 → parts_spelling p ≡ spelling (structure_of p)
 there p h =
-    let v = both (eqb p.0.1.0 0) (eqb p.0.1.1 52) h.0.1.1 in
-    let first : to_be_bytes w32 p.0.0 ≡ magic = ap (to_be_bytes w32) (eqb-true p.0.0 0xcafebabe h.0.0.1) in
-    let second : to_be_bytes w16 p.0.1.0 ++ to_be_bytes w16 p.0.1.1 ≡ version =
-        ap (λ (n : ℕ). to_be_bytes w16 n ++ to_be_bytes w16 p.0.1.1) (eqb-true p.0.1.0 0 v.0) ∙ ap (λ (n : ℕ). to_be_bytes w16 0 ++ to_be_bytes w16 n) (eqb-true p.0.1.1 52 v.1) in
-    (joined (to_be_bytes w32 p.0.0) (to_be_bytes w16 p.0.1.0 ++ to_be_bytes w16 p.0.1.1) (pool_spelling p.1.0) (to_be_bytes w16 p.1.1.0.0) (to_be_bytes w16 p.1.1.0.1.0) (to_be_bytes w16 p.1.1.0.1.1)
-      (counted (to_be_bytes w16) p.1.1.1.0 ++ (counted member_spelling p.1.1.1.1.0 ++ (counted member_spelling p.1.1.1.1.1.0 ++ counted attribute_spelling p.1.1.1.1.1.1))) first second,
-    record {
-      fits = record {
-        pool = h.1.0;
-        flags = h.1.1.0.0;
-        this_class = h.1.1.0.1.0;
-        super_class = h.1.1.0.1.1;
-        interfaces = nothing_fits _ p.1.1.1.0 h.1.1.1.0;
-        fields = nothing_fits _ p.1.1.1.1.0 h.1.1.1.1.0;
-        methods = nothing_fits _ p.1.1.1.1.1.0 h.1.1.1.1.1.0;
-        attributes = nothing_fits _ p.1.1.1.1.1.1 h.1.1.1.1.1.1;
-      };
-      interfaces = h.1.1.1.0;
-      fields = h.1.1.1.1.0;
-      methods = h.1.1.1.1.1.0;
-      attributes = h.1.1.1.1.1.1;
-    })
+    joined (header_spelling p.0) (pool_spelling p.1.0) (to_be_bytes w16 p.1.1.0.0) (to_be_bytes w16 p.1.1.0.1.0) (to_be_bytes w16 p.1.1.0.1.1)
+    (counted (to_be_bytes w16) p.1.1.1.0 ++ (counted member_spelling p.1.1.1.1.0 ++ (counted member_spelling p.1.1.1.1.1.0 ++ counted attribute_spelling p.1.1.1.1.1.1))) (header_says p.0 h)
 
-again : (f : Structure) → IsRead f → PartsFit (parts_of f) × (parts_spelling (parts_of f) ≡ spelling f) × (structure_of (parts_of f) ≡ f)
-again f h =
-    ((((omega arith, refl), ((omega arith, omega arith), refl)), (h.fits.pool, ((h.fits.flags, (h.fits.this_class, h.fits.super_class)), (h.interfaces, (h.fields, (h.methods, h.attributes)))))),
-    joined magic version (pool_spelling f.pool) (to_be_bytes w16 f.flags) (to_be_bytes w16 f.this_class) (to_be_bytes w16 f.super_class)
-    (counted (to_be_bytes w16) f.interfaces ++ (counted member_spelling f.fields ++ (counted member_spelling f.methods ++ counted attribute_spelling f.attributes))) refl refl,
-    refl)
+says : (p : Parts) → PartsFit (λ xs. xs ≡ []) (λ xs. xs ≡ []) (λ xs. xs ≡ []) p → IsRead (structure_of p)
+says p h = record {
+  fits = record {
+    pool = h.1.0;
+    flags = h.1.1.0.0;
+    this_class = h.1.1.0.1.0;
+    super_class = h.1.1.0.1.1;
+    interfaces = nothing_fits _ p.1.1.1.0 h.1.1.1.0;
+    fields = nothing_fits _ p.1.1.1.1.0 h.1.1.1.1.0;
+    methods = nothing_fits _ p.1.1.1.1.1.0 h.1.1.1.1.1.0;
+    attributes = nothing_fits _ p.1.1.1.1.1.1 h.1.1.1.1.1.1;
+  };
+  interfaces = h.1.1.1.0;
+  fields = h.1.1.1.1.0;
+  methods = h.1.1.1.1.1.0;
+  attributes = h.1.1.1.1.1.1;
+}
 
 pub structure : IsCodec structure_at spelling IsRead
 unfolding structure_at
-structure = mapped parts_at parts_spelling PartsFit structure_of parts_of spelling IsRead parts there again
+structure =
+    mapped parts_at parts_spelling (PartsFit (λ xs. xs ≡ []) (λ xs. xs ≡ []) (λ xs. xs ≡ [])) structure_of parts_of spelling IsRead parts (λ p h. (there p h.0, says p h))
+    (λ f h. ((header_fits, (h.fits.pool, ((h.fits.flags, (h.fits.this_class, h.fits.super_class)), (h.interfaces, (h.fields, (h.methods, h.attributes)))))), there (parts_of f) header_fits, refl))

@@ -43,7 +43,12 @@ fn names_class(texts: &[bool], index: u16) -> bool
 }
 
 /// The entry, where it keeps its row of the table.
-fn kept_entry(alloc: Global, texts: &[bool], index: u16, entry: RawEntry<'_>) -> Result<Entry, ReadError>
+fn kept_entry(
+    alloc: Global,
+    texts: &[bool],
+    index: u16,
+    entry: RawEntry<'_>,
+) -> Result<Entry, ReadError>
     ensures { (pool : List Entry) → texts.now ≡ map is_class_text pool → Gives (λ e. e) result (kept_entry pool index (plain_entry entry.entry)) }
 {
     match entry {

@@ -9,9 +9,9 @@ ghost use Rattle.cl_classfile.specs.Raw.{plain_file};
 ghost use Rattle.cl_classfile.specs.Checking.{Gives, kept_file};
 ghost use Rattle.cl_classfile.specs.Reading.{header_at, read_of};
 
+use crate::checking::{check_class, class_name, kept_entries};
 use crate::entry::Entry;
 use crate::fault::{Fault, ReadError};
-use crate::checking::{check_class, class_name, kept_entries};
 use crate::reading::{RawFile, whole_of};
 use cl_names::Name;
 use std::alloc::Global;

@@ -5,8 +5,10 @@ mod checking;
 mod entry;
 mod fault;
 mod file;
+mod laws;
 mod reading;
 
 pub use entry::Entry;
 pub use fault::{Fault, ReadError};
 pub use file::{ClassFile, read};
+pub use laws::{has_one_spelling, spells_one_file};

@@ -96,7 +96,11 @@ fn entry_at(index: u16, bytes: &[u8]) -> Result<(RawEntry<'_>, &[u8]), Fault>
     }
 }
 
-fn entries_at(alloc: Global, count: u16, bytes: &[u8]) -> Result<(Vec<RawEntry<'_>>, &[u8]), ReadError>
+fn entries_at(
+    alloc: Global,
+    count: u16,
+    bytes: &[u8],
+) -> Result<(Vec<RawEntry<'_>>, &[u8]), ReadError>
     requires { count + 1 < 2 ^ 16 }
     ensures { Gives (λ x. (plain_entries x.0.items, x.1.now)) result (entries_at count bytes.now) }
 {

@@ -1,6 +1,6 @@
 use Rattle.std.proofs.Common.{arith}
 use Rattle.cl_classfile.specs.Raw.{plain_file}
-use Rattle.cl_classfile.proofs.Laws.{is_fitting}
+use Rattle.cl_classfile.proofs.Exact.{is_fitting}
 use Rattle.cl_classfile.proofs.reading.whole_of.Goals as goal
 
 pub returns-clause-fits : goal.returns-clause-fits

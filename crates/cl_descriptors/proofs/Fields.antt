@@ -4,7 +4,7 @@ use Rattle.std.specs.Prelude.{codes, option_map, option_and_then, position}
 use Rattle.std.specs.List.{AllByRecursion}
 use Rattle.std.proofs.lemmas.Bool.{eqb-true, not-false}
 use Rattle.std.proofs.lemmas.List.{take_at, drop_at, take-append-drop, length-append, length-replicate}
-use Rattle.cl_descriptors.specs.Class.{is_class_name, are_parts, is_mark}
+use Rattle.cl_names.specs.Kind.{is_class_name}
 use Rattle.cl_descriptors.specs.Types.{spelling_of_base, spelling_of_field, IsBase}
 use Rattle.cl_descriptors.specs.Reading.{base_of_letter, class_at, base_at, field_at}
 use Rattle.cl_descriptors.specs.declared.types.Base.{Base}
@@ -138,7 +138,7 @@ field = record {
       let regrouped : spelling_of_field t ++ rest ≡ replicate t.dims 91 ++ tail = append_assoc (replicate t.dims 91) (spelling_of_base t.base) rest in
       let begun : replicate t.dims 91 ++ tail ≡ replicate t.dims 91 ++ (b.first ∷ (b.more ++ rest)) = ap (λ (w : List ℕ). replicate t.dims 91 ++ (w ++ rest)) b.spelled in
       let place : position (λ c. not (eqb c 91)) (replicate t.dims 91 ++ tail) ≡ Some t.dims =
-        ap (position (λ c. not (eqb c 91))) begun ∙ position-at (λ c. not (eqb c 91)) (replicate t.dims 91) b.first (b.more ++ rest) (brackets t.dims) b.other ∙ ap (λ (n : ℕ). Some n) (length-replicate t.dims 91) in
+      ap (position (λ c. not (eqb c 91))) begun ∙ position-at (λ c. not (eqb c 91)) (replicate t.dims 91) b.first (b.more ++ rest) (brackets t.dims) b.other ∙ ap (λ (n : ℕ). Some n) (length-replicate t.dims 91) in
       let back : drop t.dims (replicate t.dims 91 ++ tail) ≡ tail = drop_at (replicate t.dims 91) tail t.dims (length-replicate t.dims 91) in
       ap field_at regrouped ∙ rw (place, back, base_again t.base rest fits) refl;
 }

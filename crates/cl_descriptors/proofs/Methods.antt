@@ -143,7 +143,7 @@ whole_method_spelled (c ∷ rest) m e =
           let a = closed_spelled (all_types rest).0 (all_types rest).1 m h.1 in
           let t = types_take (length rest) rest in
           let parts : rest ≡ flat_map spelling_of_field m.params ++ (41 ∷ spelling_of_return m.ret) =
-            t.0 ∙ ap (λ (w : List ℕ). flat_map spelling_of_field (all_types rest).0 ++ w) a.0 ∙ ap (λ (ts : List FieldType). flat_map spelling_of_field ts ++ (41 ∷ spelling_of_return m.ret)) (sym a.1) in
+          t.0 ∙ ap (λ (w : List ℕ). flat_map spelling_of_field (all_types rest).0 ++ w) a.0 ∙ ap (λ (ts : List FieldType). flat_map spelling_of_field ts ++ (41 ∷ spelling_of_return m.ret)) (sym a.1) in
           record {
             named = joined m.ret m.params a.2 (subst (λ (ts : List FieldType). AllByRecursion (λ t. IsBase t.base) ts) (sym a.1) t.1);
             spelled = ap (λ (k : ℕ). k ∷ rest) (eqb-true _ _ h.0) ∙ ap (λ (w : List ℕ). 40 ∷ w) parts;

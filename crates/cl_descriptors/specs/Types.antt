@@ -1,7 +1,7 @@
 -- Types, how descriptors spell them, and the limits that they keep (JVMS SE 8, 4.3).
 use Rattle.std.specs.Prelude.{◌≡◌, ℕ, ◌≤◌, ◌==◌, Bool, IsTrue, nat_le, if◌then◌else◌, List, [], ◌∷◌, ◌++◌, replicate, codes, flat_map, filter_map, sum_by, Option, Some, None, option_to_list}
 use Rattle.std.specs.List.{AllByRecursion, list_all}
-use Rattle.cl_descriptors.specs.Class.{is_class_name}
+use Rattle.cl_names.specs.Kind.{is_class_name}
 use Rattle.cl_descriptors.specs.Units.{units_of_types}
 use Rattle.cl_descriptors.specs.declared.types.Base.{Base}
 use Rattle.cl_descriptors.specs.declared.types.Base.TheVariants.{Byte, Char, Double, Float, Int, Long, Short, Boolean, Class}

@@ -30,7 +30,10 @@ impl FieldType {
         ensures { IfOk result (λ t. t ≡ self.now) }
     {
         let base = self.base.try_clone(alloc)?;
-        Ok(FieldType { dims: self.dims, base })
+        Ok(FieldType {
+            dims: self.dims,
+            base,
+        })
     }
 }
 

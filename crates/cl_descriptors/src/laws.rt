@@ -12,19 +12,16 @@ ghost use Rattle.cl_descriptors.specs.contracts.types.MethodTypePartialEq.TheImp
 pub fn one_field_spelling()
     ensures one { (bytes : List ℕ) (s t : FieldType) → SpellsField bytes s → SpellsField bytes t → s ≡ t }
     ensures read { (bytes : List ℕ) (t : FieldType) → (whole_field bytes ≡ Some t) ↔ SpellsField bytes t }
-{
-}
+{}
 
 /// A method type has one spelling, which is that of no other; reading finds the type exactly where the bytes spell it.
 pub fn one_method_spelling()
     ensures one { (bytes : List ℕ) (m n : MethodType) → SpellsMethod bytes m → SpellsMethod bytes n → m ≡ n }
     ensures read { (bytes : List ℕ) (m : MethodType) → (whole_method bytes ≡ Some m) ↔ SpellsMethod bytes m }
-{
-}
+{}
 
 /// Two types are equal by `==` exactly where they are the same.
 pub fn equal_types_are_the_same()
     ensures fields { (s t : FieldType) → IsTrue (fields.ghosts.eq s t) ↔ (s ≡ t) }
     ensures methods { (m n : MethodType) → IsTrue (methods.ghosts.eq m n) ↔ (m ≡ n) }
-{
-}
+{}

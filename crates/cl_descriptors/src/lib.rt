@@ -1,7 +1,6 @@
 //! Descriptors: the types of fields, and of methods' parameters and results (JVMS SE 8, 4.3).
 #![tactic(auto)]
 
-mod class;
 mod cloning;
 mod laws;
 mod naming;

@@ -2,14 +2,13 @@
 
 ghost use Rattle.std.specs.Prelude.{◌≡◌, ◌==◌, ◌<◌, ◌≤◌, not, length, position, IsTrue, IfSome, IfOk, option_map};
 ghost use Rattle.cl_descriptors.specs.Reading.{base_of_letter, class_at, base_at, field_at, whole_field, whole_return};
-ghost use Rattle.cl_descriptors.specs.Class.{is_class_name};
+ghost use Rattle.cl_names.specs.Kind.{is_class_name};
 ghost use Rattle.cl_descriptors.specs.Types.{IsBase, is_shallow};
 ghost use Rattle.cl_descriptors.specs.Units.{units_of_field};
 ghost use Rattle.cl_descriptors.specs.Pieces.{seen, seen_base};
 
-use crate::class::is_class_name;
 use crate::types::{Base, FieldType};
-use cl_names::Name;
+use cl_names::{Name, is_class_name};
 use std::alloc::{AllocError, Global};
 
 /// A base whose class name still stands in the bytes.

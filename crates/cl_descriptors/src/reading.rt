@@ -51,7 +51,11 @@ fn counted(bytes: &[u8]) -> (Tally, &[u8])
     ensures shallow { result.0.shallow ≡ list_all is_shallow (all_types bytes.now).0 }
     ensures rest { result.1.now ≡ (all_types bytes.now).1 }
 {
-    let mut tally = Tally { count: 0, units: 0, shallow: true };
+    let mut tally = Tally {
+        count: 0,
+        units: 0,
+        shallow: true,
+    };
     let mut rest = bytes;
     while let Some((piece, after)) = field_at(rest) {
         tally = tally.with(piece);
@@ -121,7 +125,10 @@ impl Outline<'_> {
             Some(ret) => Some(ret.build(alloc)?),
             None => None,
         };
-        Ok(MethodType { params: Params::new(params), ret })
+        Ok(MethodType {
+            params: Params::new(params),
+            ret,
+        })
     }
 }
 

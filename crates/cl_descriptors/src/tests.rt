@@ -10,7 +10,13 @@ const TOO_DEEP: Option<DescriptorFault> = Some(DescriptorFault::TooManyDimension
 const TOO_LONG: Option<DescriptorFault> = Some(DescriptorFault::TooManyUnits);
 
 /// So many times a byte between two texts.
-fn around(alloc: Global, front: &[u8], count: usize, byte: u8, back: &[u8]) -> Result<Vec<u8>, AllocError> {
+fn around(
+    alloc: Global,
+    front: &[u8],
+    count: usize,
+    byte: u8,
+    back: &[u8],
+) -> Result<Vec<u8>, AllocError> {
     let mut text = Vec::from_slice(alloc, front)?;
     for _ in 0..count {
         text.push(byte)?;
@@ -90,12 +96,20 @@ fn limits(rt: HostRuntime) -> Result<(), Fail> {
     let fields = [(255, None), (256, TOO_DEEP)];
     for (dims, fault) in fields {
         let text = around(rt.alloc(), b"", dims, b'[', b"I")?;
-        assert_eq!(rt; read_field(rt.alloc(), text.as_slice()).err(), fault, "{dims} dimensions");
+        assert_eq!(rt;
+            read_field(rt.alloc(), text.as_slice()).err(),
+            fault,
+            "{dims} dimensions"
+        );
     }
     let methods = [(127, None), (128, TOO_LONG)];
     for (longs, fault) in methods {
         let text = around(rt.alloc(), b"(", longs, b'J', b"I)V")?;
-        assert_eq!(rt; read_method(rt.alloc(), text.as_slice()).err(), fault, "{longs} longs");
+        assert_eq!(rt;
+            read_method(rt.alloc(), text.as_slice()).err(),
+            fault,
+            "{longs} longs"
+        );
     }
     let full = around(rt.alloc(), b"(", 127, b'J', b"I)V")?;
     assert_eq!(rt; read_method(rt.alloc(), full.as_slice())?.units(), 255);

@@ -1,7 +1,7 @@
 //! The form of each kind of name, in the bytes of a text.
-ghost use Rattle.std.specs.Prelude.{◌≡◌, ◌≤◌, not, length, take};
+ghost use Rattle.std.specs.Prelude.{◌≡◌, ◌≤◌, MatchBool, not, length, take};
 ghost use Rattle.std.specs.List.{list_all};
-ghost use Rattle.cl_names.specs.Kind.{is_allowed, is_angle, has_unqualified_form, has_method_form, has_class_form, is_class_name, package_of};
+ghost use Rattle.cl_names.specs.Kind.{IsClass, IsNameOf, is_allowed, is_angle, has_unqualified_form, has_method_form, has_class_form, is_class_name, package_of};
 
 use crate::text::is_modified_utf8;
 
@@ -54,12 +54,20 @@ pub fn has_class_form(bytes: &[u8]) -> bool
         .all(|part| has_unqualified_form(part))
 }
 
-/// Whether the bytes are a class's name (JVMS SE 8, 4.2.1, 4.4.7).
 #[tactic(auto, unfolding(crate::specs::Kind::is_class_name))]
-pub fn is_class_name(bytes: &[u8]) -> bool
+fn passes_as_class(bytes: &[u8]) -> bool
     ensures { result ≡ is_class_name bytes.now }
 {
     is_modified_utf8(bytes) && bytes.len() <= 65535 && has_class_form(bytes)
+}
+
+/// Whether the bytes are a class's name, in modified UTF-8 and not over 65,535 bytes (JVMS SE 8, 4.2.1, 4.4.7).
+#[tactic(auto, using(crate::proofs::Grammars::class_told))]
+pub fn is_class_name(bytes: &[u8]) -> bool
+    ensures kind { MatchBool result (IsNameOf IsClass bytes.now) (IsNameOf IsClass bytes.now → ⊥) }
+    ensures test { result ≡ is_class_name bytes.now }
+{
+    passes_as_class(bytes)
 }
 
 /// How many bytes stand before the last `/`.

@@ -67,7 +67,7 @@ units_of (a ∷ b ∷ c ∷ rest) =
 unfoldable pub escaped : List ℕ → List ℕ
 escaped name = flat_map printed_unit (units_of name)
 
--- the same behind a \
+-- the code unit that `u` and four digits behind a \ write, and what follows them
 abbrev pub after_backslash : List ℕ → Option (ℕ × List ℕ)
 after_backslash (u ∷ a ∷ b ∷ c ∷ d ∷ rest) = if u == 117 && are_hex a b c d then Some (hex_value a b c d, rest) else None
 after_backslash _ = None

@@ -13,7 +13,7 @@ NameOf bytes (Err NotModifiedUtf8) = IsModifiedUtf8 bytes → ⊥
 NameOf bytes (Err BadName) = IsModifiedUtf8 bytes × (65535 < length bytes)
 NameOf bytes (Err Memory) = IsModifiedUtf8 bytes × (length bytes ≤ 65535)
 
--- what reading bytes as a name of one kind may answer
+-- the same, as a name of one kind
 abbrev pub KindNameOf : (List ℕ → Type 0) → List ℕ → Result (List ℕ) NameFault → Type 0
 KindNameOf Kind bytes (Ok name) = (name ≡ bytes) × IsNameOf Kind bytes
 KindNameOf Kind bytes (Err NotModifiedUtf8) = IsModifiedUtf8 bytes → ⊥
@@ -27,7 +27,7 @@ TextNameOf text (Err NotModifiedUtf8) = ⊥
 TextNameOf text (Err BadName) = (name : List ℕ) → WritesName text name → ⊥
 TextNameOf text (Err Memory) = (name : List ℕ) × WritesName text name
 
--- the same by tests, where the bytes passed a test of their kind, or not
+-- what reading bytes as a name of one kind may answer, said by tests: `form` is whether the bytes have its form
 abbrev pub TestedNameOf : Bool → List ℕ → Result (List ℕ) NameFault → Type 0
 TestedNameOf form bytes (Ok name) = (name ≡ bytes) × ((is_text bytes && nat_le (length bytes) 65535 && form) ≡ true)
 TestedNameOf form bytes (Err NotModifiedUtf8) = is_text bytes ≡ false

@@ -134,3 +134,20 @@ unfolding kept_file
 file_told f fits kept flags =
     let named : class_name f.pool f.this_class ≡ Some kept.name = class_named f.pool f.this_class kept.name kept.this_class in
     rw (rows_told f.pool 1 f.pool fits.pool.1 kept.pool, flags, named, super_told f.pool kept.name f.super_class kept.super_class) refl
+
+-- ---- the names of classes
+
+-- what holds of all entries holds of the one at an index
+at_kept : (P : Entry → Type 0) (es : List Entry) (i : ℕ) (e : Entry) → AllByRecursion P es → at es i ≡ Some e → P e
+at_kept P es zero e all h = absurd cc
+at_kept P [] (suc i) e all h = absurd cc
+at_kept P (x ∷ es) (suc zero) e all h = let k : x ≡ e = cc in subst P k all.0
+at_kept P (x ∷ es) (suc (suc i)) e all h = at_kept P es (suc i) e all.1 h
+
+-- what a class of the pool is called is a class's name
+pub named_well : (f : Structure) → Keeps f → (i : ℕ) (name : List ℕ) → class_name f.pool i ≡ Some name → IsNameOf IsClass name
+named_well f kept i name h =
+    let c = class_says f.pool i (at f.pool i) name refl h in
+    let k = at_kept (KeepsEntry f.pool) f.pool i (Class c.index) kept.pool c.is_entry in
+    let same : k.0 ≡ name = cc (k.1, c.named) in
+    subst (λ (n : List ℕ). IsNameOf IsClass n) same k.2

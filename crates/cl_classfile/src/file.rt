@@ -1,10 +1,11 @@
-ghost use Rattle.std.specs.Prelude.{◌≡◌, ◌↔◌, IfOk, Ok, IsErrOf};
+ghost use Rattle.std.specs.Prelude.{◌≡◌, ◌↔◌, IfOk, IfSome, Ok, IsErrOf};
 ghost use Rattle.std.specs.Option.{option_map};
 ghost use Rattle.cl_classfile.specs.declared.fault.Fault.{Fault};
 ghost use Rattle.cl_classfile.specs.declared.fault.Fault.TheVariants as faults;
 ghost use Rattle.cl_classfile.specs.declared.fault.ReadError.TheVariants as errors;
 ghost use Rattle.cl_classfile.specs.Structure.{Structure, Fits, Spells, IsNarrow, IsClassFile, HasOtherMagic, HasOtherVersion};
 ghost use Rattle.cl_classfile.specs.Files.{file_of};
+ghost use Rattle.cl_names.specs.Kind.{IsNameOf, IsClass};
 ghost use Rattle.cl_classfile.specs.Raw.{plain_file};
 ghost use Rattle.cl_classfile.specs.Checking.{Gives, kept_file};
 ghost use Rattle.cl_classfile.specs.Reading.{header_at, read_of};
@@ -78,14 +79,16 @@ impl ClassFile {
 
     /// The name of the class.
     pub fn this_name(&self) -> &Name
-        ensures { result.now ≡ (file_of self.now).name }
+        ensures name { result.now ≡ (file_of self.now).name }
+        ensures class { IsNameOf IsClass result.now }
     {
         class_name(self.pool.as_slice(), self.this_class).unwrap()
     }
 
     /// The name of the superclass, if there is one.
     pub fn super_name(&self) -> Option<&Name>
-        ensures { option_map (λ n. n.now) result ≡ (file_of self.now).super_name }
+        ensures name { option_map (λ n. n.now) result ≡ (file_of self.now).super_name }
+        ensures class { IfSome result (λ n. IsNameOf IsClass n.now) }
     {
         class_name(self.pool.as_slice(), self.super_class)
     }

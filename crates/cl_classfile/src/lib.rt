@@ -12,3 +12,6 @@ pub use entry::Entry;
 pub use fault::{Fault, ReadError};
 pub use file::{ClassFile, read};
 pub use laws::{has_one_spelling, spells_one_file};
+
+#[cfg(test)]
+mod tests;

@@ -1,0 +1,17 @@
+pub mod Examples
+pub mod Looks
+pub mod Sound
+pub mod Trees
+pub mod Planned
+pub mod Ending
+pub mod Circles
+pub mod Outcomes
+pub mod Obstacles
+pub mod Bind
+pub mod Closed
+pub mod Complete
+pub mod Derivations
+pub mod Derived
+pub mod Heights
+pub mod Homes
+pub mod Runs

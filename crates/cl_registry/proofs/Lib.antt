@@ -1,1 +1,2 @@
 pub mod LineCuts
+pub mod Places

@@ -1,3 +1,4 @@
+pub mod Configs
 pub mod Counts
 pub mod Lines
 pub mod Outcomes

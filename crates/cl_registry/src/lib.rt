@@ -8,8 +8,8 @@ pub mod report;
 pub mod script;
 pub mod source;
 
-pub use config::Config;
-pub use lines::{Line, Lines, Words, is_skipped};
+pub use config::{Config, ConfigFault};
+pub use lines::{Line, Lines, Stated, Words, is_skipped};
 pub use report::{Answers, History, Report};
 pub use script::Script;
 pub use source::{ClassBytes, Outcome, Probe, Source, SourceFault};

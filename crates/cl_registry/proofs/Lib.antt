@@ -1,2 +1,3 @@
 pub mod LineCuts
 pub mod Places
+pub mod Contents

@@ -6,6 +6,7 @@ pub mod config;
 pub mod lines;
 pub mod report;
 pub mod script;
+mod shelf;
 pub mod source;
 
 pub use config::{Config, ConfigFault};

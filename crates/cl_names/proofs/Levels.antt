@@ -1,6 +1,6 @@
 -- The tests of names see the same in the bytes of a text, in its code units and in its code points.
-use Rattle.std.proofs.Common.{◌≡◌, ◌⊎◌, ℕ, ◌+◌, ◌-◌, ◌*◌, ◌/◌, ◌%◌, ◌<◌, ◌≤◌, Bool, true, false, not, cond, List, [], ◌∷◌, ◌++◌, length, refl, sym, ap, subst, ◌∙◌, ◌&&◌, ◌||◌, arith, inl, inr, eqb, ltb, leb}
-use Rattle.std.specs.Prelude.{nat_lt, nat_le, nat_eq, codes}
+use Rattle.std.proofs.Common.{◌≡◌, ◌⊎◌, ℕ, ◌+◌, ◌-◌, ◌*◌, ◌<◌, ◌≤◌, Bool, true, false, not, cond, List, [], ◌∷◌, ◌++◌, length, refl, sym, ap, ◌∙◌, ◌&&◌, arith, inl, inr, eqb}
+use Rattle.std.specs.Prelude.{nat_lt, nat_eq, codes}
 use Rattle.std.specs.List.{flat_map, AllByRecursion, list_all, slice_split, onto_first}
 use Rattle.std.specs.Cmp.Lexicographic.{pointwise}
 use Rattle.std.proofs.lemmas.Bool.Decides.{nat_tests}
@@ -57,6 +57,7 @@ allowed_passes x o = grind (arith, nat_tests)
 
 angle_passes : (x : ℕ) → IsOther x → not (is_angle x) ≡ true
 angle_passes x o = grind (arith, nat_tests)
+
 unqualified_split : (xs : List ℕ) → 0 < length xs → has_unqualified_form xs ≡ list_all is_allowed xs
 unqualified_split [] h = absurd (omega arith)
 unqualified_split (x ∷ xs) h = refl
@@ -119,14 +120,16 @@ split_parts (x ∷ xs) =
     let fresh = list_all has_unqualified_form in
     elim (cases_Bool (eqb x 47)) [
       | inl e ↦
-        let cut = cond-true (eqb x 47) ([] ∷ parts) (onto_first x parts) e in
-        (ap fresh cut ∙ sym (cond-true (eqb x 47) false (is_allowed x && parts_from false xs) e),
-          ap open_parts cut ∙ (split_parts xs).0 ∙ sym (cond-true (eqb x 47) (parts_from true xs) (is_allowed x && parts_from false xs) e))
+          let cut = cond-true (eqb x 47) ([] ∷ parts) (onto_first x parts) e in (
+            ap fresh cut ∙ sym (cond-true (eqb x 47) false (is_allowed x && parts_from false xs) e),
+            ap open_parts cut ∙ (split_parts xs).0 ∙ sym (cond-true (eqb x 47) (parts_from true xs) (is_allowed x && parts_from false xs) e),
+          )
       | inr e ↦
-        let kept = cond-false (eqb x 47) ([] ∷ parts) (onto_first x parts) e in
-        let on = ap (λ b. is_allowed x && b) (split_parts xs).1 in
-        (ap fresh kept ∙ fresh_onto x parts ∙ on ∙ sym (cond-false (eqb x 47) false (is_allowed x && parts_from false xs) e),
-          ap open_parts kept ∙ open_onto x parts ∙ on ∙ sym (cond-false (eqb x 47) (parts_from true xs) (is_allowed x && parts_from false xs) e))
+          let kept = cond-false (eqb x 47) ([] ∷ parts) (onto_first x parts) e in
+          let on = ap (λ b. is_allowed x && b) (split_parts xs).1 in (
+            ap fresh kept ∙ fresh_onto x parts ∙ on ∙ sym (cond-false (eqb x 47) false (is_allowed x && parts_from false xs) e),
+            ap open_parts kept ∙ open_onto x parts ∙ on ∙ sym (cond-false (eqb x 47) (parts_from true xs) (is_allowed x && parts_from false xs) e),
+          )
     ]
 
 parts_other : (fresh : Bool) (x : ℕ) (xs : List ℕ) → IsOther x → parts_from fresh (x ∷ xs) ≡ parts_from false xs

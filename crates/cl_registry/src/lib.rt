@@ -14,5 +14,5 @@ pub use config::{Config, ConfigFault};
 pub use lines::{Line, Lines, Stated, Words, is_skipped};
 pub use memory::{MemorySource, PutRefused, Telling};
 pub use report::{Answers, History, Report};
-pub use script::Script;
+pub use script::{Script, ScriptFault};
 pub use source::{ClassBytes, Outcome, Probe, Source, SourceFault};

@@ -4,6 +4,8 @@
 
 pub mod config;
 pub mod faulty;
+#[cfg(test)]
+mod input_tests;
 pub mod lines;
 pub mod memory;
 pub mod report;

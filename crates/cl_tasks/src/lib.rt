@@ -1,0 +1,2 @@
+//! A request as a task: turn by turn, to its answer.
+#![tactic(auto)]

@@ -4,6 +4,7 @@
 mod answer;
 mod class;
 mod event;
+pub mod laws;
 mod loader;
 mod request;
 mod told;

@@ -1,0 +1,63 @@
+-- Laws of the definitions: each is the contract of a function without a body.
+use Rattle.std.specs.Prelude.{◌≡◌, ℕ, suc, List, [], ◌∷◌, ◌++◌, Some, Ok}
+use Rattle.cl_classfile.specs.Files.{Name}
+use Rattle.cl_model.specs.Homes.{World, home}
+use Rattle.cl_model.specs.declared.class.Class.{Class}
+use Rattle.cl_model.specs.Classes.{Error, Good, Fails}
+use Rattle.cl_model.specs.Lineages.{Kin}
+use Rattle.cl_model.specs.Works.{Made}
+use Rattle.cl_model.specs.Plans.{derive}
+use Rattle.cl_model.specs.States.{State, start, Need, Verdict, recorded, Violated, Met, AllMet, IsRecorded}
+use Rattle.cl_model.specs.Machine.{Setting, Step, May, state_after, Run, Answers, IsClosed}
+
+-- a home is its own home
+abbrev pub HomeOfHome : Type 0
+HomeOfHome = (w : World) (loader found : ℕ) (name : Name) → home w loader name ≡ Some found → home w found name ≡ Some found
+
+-- a greater height derives the same
+abbrev pub HigherDerives : Type 0
+HigherDerives = (w : World) (n : ℕ) (path : List Class) (c : Class) (m : Made Kin) → derive w n path c ≡ Some m → derive w (suc n) path c ≡ Some m
+
+-- what is good does not fail
+abbrev pub GoodIsNotFailing : Type 0
+GoodIsNotFailing = (w : World) (n m : ℕ) (c : Class) (e : Error) → Good w n c → Fails w m c e → ⊥
+
+-- what derives to a lineage is good
+abbrev pub DerivedIsGood : Type 0
+DerivedIsGood = (w : World) (n : ℕ) (path : List Class) (c : Class) (m : Made Kin) (k : Kin) → derive w n path c ≡ Some m → m.ends ≡ Ok k → Good w n c
+
+-- a run goes on by what may happen
+abbrev pub RunGoesOn : Type 0
+RunGoesOn = (g : Setting) (s : State) (es : List Step) (e : Step) → Run g s es → May g (state_after s es) e → Run g s (es ++ e ∷ [])
+
+-- a record never changes
+abbrev pub RecordsStay : Type 0
+RecordsStay = (s : State) (es : List Step) (loader place : ℕ) (name : Name) → recorded s.records loader name ≡ Some place → recorded (state_after s es).records loader name ≡ Some place
+
+-- what is met stays met
+abbrev pub MetStays : Type 0
+MetStays = (s : State) (es : List Step) (n : Need) → Met s n → Met (state_after s es) n
+
+-- along a run nothing is violated
+abbrev pub NeverViolated : Type 0
+NeverViolated = (g : Setting) (es : List Step) → Run g start es → Violated (state_after start es) → ⊥
+
+-- an answer stays the same along a run
+abbrev pub AnswersStay : Type 0
+AnswersStay = (g : Setting) (s : State) (es : List Step) (ns : List Need) (ends v : Verdict) → (Violated s → ⊥) → Run g s es → Answers s ns ends v → Answers (state_after s es) ns ends v
+
+-- a list of needs has one answer in a state
+abbrev pub OneAnswer : Type 0
+OneAnswer = (s : State) (ns : List Need) (ends v u : Verdict) → Answers s ns ends v → Answers s ns ends u → v ≡ u
+
+-- in a closed state a recorded class needs nothing more: all needs of its derivation are met
+abbrev pub RecordedIsMet : Type 0
+RecordedIsMet = (w : World) (s : State) (n : ℕ) (path : List Class) (c : Class) (m : Made Kin) (k : Kin) → IsClosed w s → IsRecorded s c → derive w n path c ≡ Some m → m.ends ≡ Ok k → AllMet s m.needs
+
+-- every state of a run is closed
+abbrev pub RunsAreClosed : Type 0
+RunsAreClosed = (g : Setting) (es : List Step) → Run g start es → IsClosed g.world (state_after start es)
+
+-- what is good is derived at its height: a class met again cannot be good
+abbrev pub GoodIsDerived : Type 0
+GoodIsDerived = (w : World) (n : ℕ) (c : Class) → Good w n c → (m : Made Kin) × (k : Kin) × (derive w n [] c ≡ Some m) × (m.ends ≡ Ok k)

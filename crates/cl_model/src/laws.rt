@@ -1,0 +1,66 @@
+ghost use Rattle.cl_model.specs.Laws.{HomeOfHome, HigherDerives, DerivedIsGood, GoodIsNotFailing, RunGoesOn, RecordsStay, MetStays, NeverViolated, OneAnswer, AnswersStay, RecordedIsMet, RunsAreClosed, GoodIsDerived};
+
+/// A home is its own home.
+pub fn home_of_home()
+    ensures { HomeOfHome }
+{}
+
+/// What is good does not fail.
+pub fn good_or_fails()
+    ensures { GoodIsNotFailing }
+{}
+
+/// A run goes on by what may happen.
+pub fn run_goes_on()
+    ensures { RunGoesOn }
+{}
+
+/// A record never changes.
+pub fn records_stay()
+    ensures { RecordsStay }
+{}
+
+/// What is met stays met.
+pub fn met_stays()
+    ensures { MetStays }
+{}
+
+/// Along a run nothing is violated.
+pub fn never_violated()
+    ensures { NeverViolated }
+{}
+
+/// A list of needs has one answer in a state.
+pub fn one_answer()
+    ensures { OneAnswer }
+{}
+
+/// A greater height derives the same.
+pub fn higher_derives()
+    ensures { HigherDerives }
+{}
+
+/// An answer stays the same along a run.
+pub fn answers_stay()
+    ensures { AnswersStay }
+{}
+
+/// What derives to a lineage is good.
+pub fn derived_is_good()
+    ensures { DerivedIsGood }
+{}
+
+/// In a closed state a recorded class needs nothing more.
+pub fn recorded_is_met()
+    ensures { RecordedIsMet }
+{}
+
+/// Every state of a run is closed.
+pub fn runs_are_closed()
+    ensures { RunsAreClosed }
+{}
+
+/// What is good is derived at its height.
+pub fn good_is_derived()
+    ensures { GoodIsDerived }
+{}

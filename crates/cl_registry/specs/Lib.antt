@@ -1,4 +1,15 @@
 pub mod Counts
+pub mod DraftReads
+pub mod Drafts
+pub mod Findings
+pub mod Kept
 pub mod Outcomes
+pub mod Parts
+pub mod Refusals
+pub mod Reports
+pub mod Searches
+pub mod Tables
 pub mod Told
 pub mod Views
+pub mod Walks
+pub mod Worlds

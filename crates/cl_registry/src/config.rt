@@ -11,12 +11,14 @@ pub struct Config {
 }
 
 impl Model for Config {
-    ghost use Rattle.std.specs.Prelude.{map, string_bytes};
+    ghost use Rattle.std.specs.Prelude.{◌≡◌, length, map, string_bytes};
     ghost use Rattle.cl_registry.specs.Views.{Configured};
 
     ghost Value = { Configured };
 
     ghost view = { λ c. record { names = map string_bytes c.names.items } };
+
+    ghost invariant = { λ c. length c.names.items ≡ 1 };
 }
 
 impl Config {
@@ -29,7 +31,8 @@ impl Config {
 
     /// How many loaders there are.
     pub fn count(&self) -> usize
-        ensures { result ≡ length self.now.names }
+        ensures count { result ≡ length self.now.names }
+        ensures one { length self.now.names ≡ 1 }
     {
         self.names.len()
     }

@@ -11,44 +11,11 @@ use Rattle.cl_model.specs.Lineages.{Bare, Tree, Kin}
 use Rattle.cl_model.specs.States.{Need, Entry}
 use Rattle.cl_model.specs.Works.{Work, Made, Ask, done, need, ask, or_fail, unless_wrong, of_result, after_made, go_on, ◌>>=◌}
 use Rattle.cl_model.specs.Plans.{initiating, load_by, loads_above, derive_new, derive}
+use Rattle.cl_model.proofs.Bind.{Ends, then_ends, ill_ends, at_once, or_fail_ends, unless_ends}
 use Rattle.cl_model.proofs.Heights.{Reaches, derive_reaches, loaded, found, sought, grown, others_after, checked, finished, interfaces_next, superclass_next, circle_or}
 use Rattle.cl_model.proofs.Derived.{derive_yields, load_ok}
 use Rattle.cl_model.proofs.Closed.{all_left, all_right}
 use Rattle.cl_model.proofs.Runs.{names_equal, and_is}
-
--- work ends so
-pub record Ends {A : Type 0} (a : Work A) (r : Result A Error) : Type 0 where
-  pub made : Made A
-  pub is : a ≡ Some made
-  pub ends : made.ends ≡ r
-
-same_value : {A : Type 0} (x y : A) (r : Result A Error) → r ≡ Ok x → r ≡ Ok y → x ≡ y
-same_value x y r h k = cc
-
-same_error : {A : Type 0} (x y : Error) (r : Result A Error) → r ≡ Err x → r ≡ Err y → x ≡ y
-same_error x y r h k = cc
-
-not_both : {A : Type 0} (x : A) (y : Error) (r : Result A Error) → r ≡ Ok x → r ≡ Err y → ⊥
-not_both x y r h k = cc
-
-go_well : {A B : Type 0} (ns : List Need) (asked : List Ask) (ends : Result A Error) (f : A → Work B) (x : A) (r : Result B Error) → ends ≡ Ok x → Ends (f x) r → Ends (go_on ns asked ends f) r
-go_well ns asked (Err e) f x r h k = absurd (not_both x e (Err e) h refl)
-go_well {A = A} {B = B} ns asked (Ok y) f x r h k =
-    let same : y ≡ x = same_value y x (Ok y) refl h in
-    record { made = after_made ns asked k.made; is = ap (λ (z : A). option_map (after_made ns asked) (f z)) same ∙ ap (λ (z : Work B). option_map (after_made ns asked) z) k.is; ends = k.ends }
-
-then_ends : {A B : Type 0} (a : Work A) (f : A → Work B) (x : A) (r : Result B Error) → Ends a (Ok x) → Ends (f x) r → Ends (a >>= f) r
-then_ends a f x r h k = subst (λ (z : Work _). Ends (z >>= f) r) (sym h.is) (go_well h.made.needs h.made.asked h.made.ends f x r h.ends k)
-
-go_ill : {A B : Type 0} (ns : List Need) (asked : List Ask) (ends : Result A Error) (f : A → Work B) (e : Error) → ends ≡ Err e → Ends (go_on ns asked ends f) (Err e)
-go_ill ns asked (Err d) f e h = record { made = record { needs = ns; asked = asked; ends = Err d }; is = refl; ends = ap (λ (x : Error). Err x) (same_error d e (Err d) refl h) }
-go_ill ns asked (Ok y) f e h = absurd (not_both y e (Ok y) refl h)
-
-ill_ends : {A B : Type 0} (a : Work A) (f : A → Work B) (e : Error) → Ends a (Err e) → Ends (a >>= f) (Err e)
-ill_ends a f e h = subst (λ (z : Work _). Ends (z >>= f) (Err e)) (sym h.is) (go_ill h.made.needs h.made.asked h.made.ends f e h.ends)
-
-at_once : {A : Type 0} (m : Made A) → Ends (Some m) m.ends
-at_once m = record { made = m; is = refl; ends = refl }
 
 -- a number up to another
 abbrev Upto : ℕ → ℕ → Type 0
@@ -93,12 +60,6 @@ then_either w n path a f x e h = elim h [
   | inl r ↦ inl (r.0, then_ends a f x (Ok r.0) e r.1)
   | inr r ↦ inr (r.0, r.1, then_ends a f x (Err (ClassCircularity r.0)) e r.2, r.3, r.4, r.5)
 ]
-
-or_fail_ends : {A : Type 0} (e : Error) (o : Option A) (x : A) → o ≡ Some x → Ends (or_fail e o) (Ok x)
-or_fail_ends {A} e o x h = subst (λ (z : Option A). Ends (or_fail e z) (Ok x)) (sym h) (at_once _)
-
-unless_ends : (o : Option Error) → o ≡ None → Ends (unless_wrong o) (Ok tt)
-unless_ends o h = subst (λ (z : Option Error). Ends (unless_wrong z) (Ok tt)) (sym h) (at_once _)
 
 load_either : (w : World) (n m : ℕ) (path : List Class) (d : Class → Work Kin) → Derives w n path d m → (absent : Class → Error) (loader : ℕ) (name : Name) (place : ℕ) → home w loader name ≡ Some place → Good w m (class name place) → Either w n path (load_by w d absent loader name)
 load_either w n m path d ih absent loader name place f g =

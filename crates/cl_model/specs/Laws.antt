@@ -1,9 +1,9 @@
 -- Laws of the definitions: each is the contract of a function without a body.
-use Rattle.std.specs.Prelude.{◌≡◌, ℕ, suc, List, [], ◌∷◌, ◌++◌, Some, Ok}
+use Rattle.std.specs.Prelude.{◌≡◌, ℕ, suc, List, [], ◌∷◌, ◌++◌, Some, None, Ok, Err, ◌⊎◌, Result, IsSome}
 use Rattle.cl_classfile.specs.Files.{Name}
 use Rattle.cl_model.specs.Homes.{World, home}
 use Rattle.cl_model.specs.declared.class.Class.{Class}
-use Rattle.cl_model.specs.Classes.{Error, Good, Fails}
+use Rattle.cl_model.specs.Classes.{class, Error, ClassCircularity, ClassNotFound, HasFile, IsAtHome, Good, IsGood, Fails, Circular, Next, Returns}
 use Rattle.cl_model.specs.Lineages.{Kin}
 use Rattle.cl_model.specs.Works.{Made}
 use Rattle.cl_model.specs.Plans.{derive}
@@ -61,3 +61,19 @@ RunsAreClosed = (g : Setting) (es : List Step) → Run g start es → IsClosed g
 -- what is good is derived at its height: a class met again cannot be good
 abbrev pub GoodIsDerived : Type 0
 GoodIsDerived = (w : World) (n : ℕ) (c : Class) → Good w n c → (m : Made Kin) × (k : Kin) × (derive w n [] c ≡ Some m) × (m.ends ≡ Ok k)
+
+-- what derives to an error fails with it, or a walk ends in it
+abbrev pub ErrorIsFailing : Type 0
+ErrorIsFailing = (w : World) (n : ℕ) (path : List Class) (c : Class) (m : Made Kin) (e : Error) → derive w n path c ≡ Some m → m.ends ≡ Err e → Fails w n c e ⊎ ((x : Class) × (e ≡ ClassCircularity x) × Returns w path c x)
+
+-- a class fails with one error
+abbrev pub OneError : Type 0
+OneError = (w : World) (n m : ℕ) (c : Class) (e d : Error) → Fails w n c e → Fails w m c d → e ≡ d
+
+-- what is good at a height is good at a greater one
+abbrev pub GoodGrows : Type 0
+GoodGrows = (w : World) (n : ℕ) (c : Class) → Good w n c → Good w (suc n) c
+
+-- what fails at a height fails at a greater one
+abbrev pub FailsGrows : Type 0
+FailsGrows = (w : World) (n : ℕ) (c : Class) (e : Error) → Fails w n c e → Fails w (suc n) c e

@@ -1,4 +1,4 @@
-ghost use Rattle.cl_model.specs.Laws.{HomeOfHome, HigherDerives, DerivedIsGood, GoodIsNotFailing, RunGoesOn, RecordsStay, MetStays, NeverViolated, OneAnswer, AnswersStay, RecordedIsMet, RunsAreClosed, GoodIsDerived};
+ghost use Rattle.cl_model.specs.Laws.{HomeOfHome, GoodIsNotFailing, RunGoesOn, RecordsStay, MetStays, NeverViolated, OneAnswer, HigherDerives, AnswersStay, DerivedIsGood, RecordedIsMet, RunsAreClosed, GoodIsDerived, ErrorIsFailing, OneError, GoodGrows, FailsGrows};
 
 /// A home is its own home.
 pub fn home_of_home()
@@ -60,7 +60,27 @@ pub fn runs_are_closed()
     ensures { RunsAreClosed }
 {}
 
-/// What is good is derived at its height.
+/// What is good is derived at its height: a class met again cannot be good.
 pub fn good_is_derived()
     ensures { GoodIsDerived }
+{}
+
+/// What derives to an error fails with it, or a walk ends in it.
+pub fn error_is_failing()
+    ensures { ErrorIsFailing }
+{}
+
+/// A class fails with one error.
+pub fn one_error()
+    ensures { OneError }
+{}
+
+/// What is good at a height is good at a greater one.
+pub fn good_grows()
+    ensures { GoodGrows }
+{}
+
+/// What fails at a height fails at a greater one.
+pub fn fails_grows()
+    ensures { FailsGrows }
 {}

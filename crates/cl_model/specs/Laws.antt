@@ -77,3 +77,7 @@ GoodGrows = (w : World) (n : ℕ) (c : Class) → Good w n c → Good w (suc n) 
 -- what fails at a height fails at a greater one
 abbrev pub FailsGrows : Type 0
 FailsGrows = (w : World) (n : ℕ) (c : Class) (e : Error) → Fails w n c e → Fails w (suc n) c e
+
+-- what fails is derived to its error at its height: a class met again cannot fail
+abbrev pub FailingIsDerived : Type 0
+FailingIsDerived = (w : World) (n : ℕ) (c : Class) (e : Error) → Fails w n c e → (m : Made Kin) × (derive w n [] c ≡ Some m) × (m.ends ≡ Err e)

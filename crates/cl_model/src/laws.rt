@@ -1,4 +1,4 @@
-ghost use Rattle.cl_model.specs.Laws.{HomeOfHome, GoodIsNotFailing, RunGoesOn, RecordsStay, MetStays, NeverViolated, OneAnswer, HigherDerives, AnswersStay, DerivedIsGood, RecordedIsMet, RunsAreClosed, GoodIsDerived, ErrorIsFailing, OneError, GoodGrows, FailsGrows};
+ghost use Rattle.cl_model.specs.Laws.{HomeOfHome, GoodIsNotFailing, RunGoesOn, RecordsStay, MetStays, NeverViolated, OneAnswer, HigherDerives, AnswersStay, DerivedIsGood, RecordedIsMet, RunsAreClosed, GoodIsDerived, ErrorIsFailing, OneError, GoodGrows, FailsGrows, FailingIsDerived};
 
 /// A home is its own home.
 pub fn home_of_home()
@@ -83,4 +83,9 @@ pub fn good_grows()
 /// What fails at a height fails at a greater one.
 pub fn fails_grows()
     ensures { FailsGrows }
+{}
+
+/// What fails is derived to its error at its height: a class met again cannot fail.
+pub fn fails_is_derived()
+    ensures { FailingIsDerived }
 {}

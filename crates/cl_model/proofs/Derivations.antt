@@ -9,19 +9,19 @@ use Rattle.cl_model.specs.Classes.{class, Error, NoClassDef, Above, supers, file
 some_is : {A : Type 0} {x y : A} → Some x ≡ Some y → x ≡ y
 some_is e = cc
 
-some_none : {A : Type 0} {x : A} → Some x ≡ None → ⊥
+pub some_none : {A : Type 0} {x : A} → Some x ≡ None → ⊥
 some_none e = cc
 
-abbrev of_file : File → Result File Error
+abbrev pub of_file : File → Result File Error
 of_file f = Ok f
 
-abbrev of_error : Error → Result File Error
+abbrev pub of_error : Error → Result File Error
 of_error e = Err e
 
-ok_is : {x y : File} → of_file x ≡ of_file y → x ≡ y
+pub ok_is : {x y : File} → of_file x ≡ of_file y → x ≡ y
 ok_is e = cc
 
-ok_err : {x : File} {y : Error} → of_file x ≡ of_error y → ⊥
+pub ok_err : {x : File} {y : Error} → of_file x ≡ of_error y → ⊥
 ok_err e = cc
 
 -- what all fit, none is the first wrong of
@@ -30,7 +30,7 @@ none_wrong fits fits' wrong never [] all first = first
 none_wrong fits fits' wrong never (a ∷ others) all first = elim first [ inl h ↦ never a all.0 h | inr h ↦ none_wrong fits fits' wrong never others all.1 h.1 ]
 
 -- what holds at one home holds at the same home, found again
-at_same : (w : World) (c : Class) (P Q : Class → Type 0) (name : Name) → (x : AtHome w c P name) (y : AtHome w c Q name) → P (class name y.place)
+pub at_same : (w : World) (c : Class) (P Q : Class → Type 0) (name : Name) → (x : AtHome w c P name) (y : AtHome w c Q name) → P (class name y.place)
 at_same w c P Q name x y = subst (λ (l : ℕ). P (class name l)) (some_is (sym x.found ∙ y.found)) x.holds
 
 -- a supertype that fits is not one that does not

@@ -81,3 +81,31 @@ FailsGrows = (w : World) (n : ℕ) (c : Class) (e : Error) → Fails w n c e →
 -- what fails is derived to its error at its height: a class met again cannot fail
 abbrev pub FailingIsDerived : Type 0
 FailingIsDerived = (w : World) (n : ℕ) (c : Class) (e : Error) → Fails w n c e → (m : Made Kin) × (derive w n [] c ≡ Some m) × (m.ends ≡ Err e)
+
+-- a walk that returns excludes both
+abbrev pub ReturnIsCircular : Type 0
+ReturnIsCircular = (w : World) (c x : Class) → Returns w [] c x → Circular w c
+
+-- from a class whose walk returns the first supertype that is not good is circular too
+abbrev pub ReturnGoesOn : Type 0
+ReturnGoesOn = (w : World) (c x : Class) → Returns w [] c x → (s : Class) × Next w c s × Circular w s
+
+-- what derives to a circle is where a walk returns
+abbrev pub CircleReturns : Type 0
+CircleReturns = (w : World) (n : ℕ) (path : List Class) (c : Class) (m : Made Kin) (x : Class) → derive w n path c ≡ Some m → m.ends ≡ Err (ClassCircularity x) → Returns w path c x
+
+-- where a walk returns, the class is derived to the circle of that subject
+abbrev pub ReturnIsDerived : Type 0
+ReturnIsDerived = (w : World) (c x : Class) → Returns w [] c x → (n : ℕ) × (m : Made Kin) × (derive w n [] c ≡ Some m) × (m.ends ≡ Err (ClassCircularity x))
+
+-- a circle has one subject
+abbrev pub OneSubject : Type 0
+OneSubject = (w : World) (c x y : Class) → Returns w [] c x → Returns w [] c y → x ≡ y
+
+-- a failure is no circle
+abbrev pub FailureIsNoCircle : Type 0
+FailureIsNoCircle = (w : World) (n : ℕ) (c x : Class) → Fails w n c (ClassCircularity x) → ⊥
+
+-- two heights derive the same
+abbrev pub OneDerivation : Type 0
+OneDerivation = (w : World) (n h : ℕ) (path : List Class) (c : Class) (m k : Made Kin) → derive w n path c ≡ Some m → derive w h path c ≡ Some k → m ≡ k

@@ -1,4 +1,4 @@
-ghost use Rattle.cl_model.specs.Laws.{HomeOfHome, GoodIsNotFailing, RunGoesOn, RecordsStay, MetStays, NeverViolated, OneAnswer, HigherDerives, AnswersStay, DerivedIsGood, RecordedIsMet, RunsAreClosed, GoodIsDerived, ErrorIsFailing, OneError, GoodGrows, FailsGrows, FailingIsDerived};
+ghost use Rattle.cl_model.specs.Laws.{HomeOfHome, GoodIsNotFailing, RunGoesOn, RecordsStay, MetStays, NeverViolated, OneAnswer, HigherDerives, AnswersStay, DerivedIsGood, RecordedIsMet, RunsAreClosed, GoodIsDerived, ErrorIsFailing, OneError, GoodGrows, FailsGrows, FailingIsDerived, ReturnIsCircular, ReturnGoesOn, CircleReturns, ReturnIsDerived, OneSubject, FailureIsNoCircle, OneDerivation};
 
 /// A home is its own home.
 pub fn home_of_home()
@@ -88,4 +88,39 @@ pub fn fails_grows()
 /// What fails is derived to its error at its height: a class met again cannot fail.
 pub fn fails_is_derived()
     ensures { FailingIsDerived }
+{}
+
+/// A walk that returns excludes both.
+pub fn return_is_circular()
+    ensures { ReturnIsCircular }
+{}
+
+/// From a class whose walk returns the first supertype that is not good is circular too.
+pub fn return_goes_on()
+    ensures { ReturnGoesOn }
+{}
+
+/// What derives to a circle is where a walk returns.
+pub fn circle_returns()
+    ensures { CircleReturns }
+{}
+
+/// Where a walk returns, the class is derived to the circle of that subject.
+pub fn return_is_derived()
+    ensures { ReturnIsDerived }
+{}
+
+/// A circle has one subject.
+pub fn one_subject()
+    ensures { OneSubject }
+{}
+
+/// A failure is no circle.
+pub fn fails_no_circle()
+    ensures { FailureIsNoCircle }
+{}
+
+/// Two heights derive the same.
+pub fn one_derivation()
+    ensures { OneDerivation }
 {}

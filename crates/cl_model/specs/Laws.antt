@@ -109,3 +109,19 @@ FailureIsNoCircle = (w : World) (n : ℕ) (c x : Class) → Fails w n c (ClassCi
 -- two heights derive the same
 abbrev pub OneDerivation : Type 0
 OneDerivation = (w : World) (n h : ℕ) (path : List Class) (c : Class) (m k : Made Kin) → derive w n path c ≡ Some m → derive w h path c ≡ Some k → m ≡ k
+
+-- what has a file, and so what is good, is at home
+abbrev pub GoodIsAtHome : Type 0
+GoodIsAtHome = (w : World) (n : ℕ) (c : Class) → Good w n c → IsAtHome w c
+
+-- each class is good, or fails, or a walk from it returns
+abbrev pub ComesOut : Type 0
+ComesOut = (w : World) (c : Class) → IsGood w c ⊎ ((n : ℕ) × (e : Error) × Fails w n c e) ⊎ ((x : Class) × Returns w [] c x)
+
+-- from a circular class a walk returns
+abbrev pub CircularReturns : Type 0
+CircularReturns = (w : World) (c : Class) → Circular w c → (x : Class) × Returns w [] c x
+
+-- of a circular class the first supertype that is not good is circular too
+abbrev pub CircularGoesOn : Type 0
+CircularGoesOn = (w : World) (c : Class) → Circular w c → (s : Class) × Next w c s × Circular w s

@@ -1,4 +1,4 @@
-ghost use Rattle.cl_model.specs.Laws.{HomeOfHome, GoodIsNotFailing, RunGoesOn, RecordsStay, MetStays, NeverViolated, OneAnswer, HigherDerives, AnswersStay, DerivedIsGood, RecordedIsMet, RunsAreClosed, GoodIsDerived, ErrorIsFailing, OneError, GoodGrows, FailsGrows, FailingIsDerived, ReturnIsCircular, ReturnGoesOn, CircleReturns, ReturnIsDerived, OneSubject, FailureIsNoCircle, OneDerivation};
+ghost use Rattle.cl_model.specs.Laws.{HomeOfHome, GoodIsNotFailing, RunGoesOn, RecordsStay, MetStays, NeverViolated, OneAnswer, HigherDerives, AnswersStay, DerivedIsGood, RecordedIsMet, RunsAreClosed, GoodIsDerived, ErrorIsFailing, OneError, GoodGrows, FailsGrows, FailingIsDerived, ReturnIsCircular, ReturnGoesOn, CircleReturns, ReturnIsDerived, OneSubject, FailureIsNoCircle, OneDerivation, GoodIsAtHome, ComesOut, CircularReturns, CircularGoesOn};
 
 /// A home is its own home.
 pub fn home_of_home()
@@ -123,4 +123,24 @@ pub fn fails_no_circle()
 /// Two heights derive the same.
 pub fn one_derivation()
     ensures { OneDerivation }
+{}
+
+/// What is good is at home.
+pub fn good_is_at_home()
+    ensures { GoodIsAtHome }
+{}
+
+/// Each class is good, or fails, or a walk from it returns.
+pub fn comes_out()
+    ensures { ComesOut }
+{}
+
+/// From a circular class a walk returns.
+pub fn circular_returns()
+    ensures { CircularReturns }
+{}
+
+/// Of a circular class the first supertype that is not good is circular too.
+pub fn circular_goes_on()
+    ensures { CircularGoesOn }
 {}

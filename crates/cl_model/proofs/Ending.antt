@@ -97,7 +97,7 @@ left_less path c (e ∷ es) b h k = less_at path c e es b (λ q. left_less path 
 abbrev pub Done : {A : Type 0} → Work A → Type 0
 Done {A} a = (m : Made A) × (a ≡ Some m)
 
-now : {A : Type 0} (m : Made A) → Done (Some m)
+pub now : {A : Type 0} (m : Made A) → Done (Some m)
 now m = (m, refl)
 
 go_done : {A B : Type 0} (ns : List Need) (asked : List Ask) (ends : Result A Error) (f : A → Work B) → ((x : A) → ends ≡ Ok x → Done (f x)) → Done (go_on ns asked ends f)
@@ -108,15 +108,15 @@ pub done_then : {A B : Type 0} (a : Work A) (f : A → Work B) → Done a → ((
 done_then {B = B} a f d h =
     subst (λ (z : Work _). Done {A = B} (z >>= f)) (sym d.1) (go_done d.0.needs d.0.asked d.0.ends f (λ x e. h x (record { made = d.0; is = d.1; ends = e })))
 
-or_fail_done : {A : Type 0} (e : Error) (o : Option A) → Done (or_fail e o)
+pub or_fail_done : {A : Type 0} (e : Error) (o : Option A) → Done (or_fail e o)
 or_fail_done e None = now _
 or_fail_done e (Some x) = now _
 
-unless_done : (o : Option Error) → Done (unless_wrong o)
+pub unless_done : (o : Option Error) → Done (unless_wrong o)
 unless_done None = now _
 unless_done (Some e) = now _
 
-load_done : (w : World) (d : Class → Work Kin) → ((s : Class) → Done (d s)) → (absent : Class → Error) (loader : ℕ) (name : Name) → Done (load_by w d absent loader name)
+pub load_done : (w : World) (d : Class → Work Kin) → ((s : Class) → Done (d s)) → (absent : Class → Error) (loader : ℕ) (name : Name) → Done (load_by w d absent loader name)
 load_done w d h absent loader name =
     done_then (ask loader name) (sought w d absent loader name) (now _) (λ a x.
     done_then (or_fail (absent (class name loader)) (home w loader name)) (found w d loader name) (or_fail_done (absent (class name loader)) (home w loader name)) (λ place y.

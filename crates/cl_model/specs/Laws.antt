@@ -6,9 +6,9 @@ use Rattle.cl_model.specs.declared.class.Class.{Class}
 use Rattle.cl_model.specs.Classes.{class, Error, ClassCircularity, ClassNotFound, HasFile, IsAtHome, Good, IsGood, Fails, Circular, Next, Returns}
 use Rattle.cl_model.specs.Lineages.{Kin}
 use Rattle.cl_model.specs.Works.{Made}
-use Rattle.cl_model.specs.Plans.{derive}
+use Rattle.cl_model.specs.Plans.{derive, Request, Plan}
 use Rattle.cl_model.specs.States.{State, start, Need, Verdict, recorded, Violated, Met, AllMet, IsRecorded}
-use Rattle.cl_model.specs.Machine.{Setting, Step, May, state_after, Run, Answers, IsClosed}
+use Rattle.cl_model.specs.Machine.{Setting, Step, May, state_after, Run, Answers, IsClosed, IsPlan, HasLineage, IsResolution}
 
 -- a home is its own home
 abbrev pub HomeOfHome : Type 0
@@ -125,3 +125,27 @@ CircularReturns = (w : World) (c : Class) → Circular w c → (x : Class) × Re
 -- of a circular class the first supertype that is not good is circular too
 abbrev pub CircularGoesOn : Type 0
 CircularGoesOn = (w : World) (c : Class) → Circular w c → (s : Class) × Next w c s × Circular w s
+
+-- each request has a plan
+abbrev pub PlanExists : Type 0
+PlanExists = (w : World) (q : Request) → (p : Plan) × IsPlan w q p
+
+-- and one alone
+abbrev pub OnePlan : Type 0
+OnePlan = (w : World) (q : Request) (p r : Plan) → IsPlan w q p → IsPlan w q r → p ≡ r
+
+-- a good class has a lineage
+abbrev pub LineageExists : Type 0
+LineageExists = (w : World) (n : ℕ) (c : Class) → Good w n c → (k : Kin) × HasLineage w c k
+
+-- and one alone
+abbrev pub OneLineage : Type 0
+OneLineage = (w : World) (c : Class) (k l : Kin) → HasLineage w c k → HasLineage w c l → k ≡ l
+
+-- each entry of a good class has a resolution
+abbrev pub ResolutionExists : Type 0
+ResolutionExists = (w : World) (d : Class) (i n : ℕ) → Good w n d → (m : Made Verdict) × IsResolution w d i m
+
+-- and one alone
+abbrev pub OneResolution : Type 0
+OneResolution = (w : World) (d : Class) (i : ℕ) (m k : Made Verdict) → IsResolution w d i m → IsResolution w d i k → m ≡ k

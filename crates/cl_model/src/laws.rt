@@ -1,4 +1,4 @@
-ghost use Rattle.cl_model.specs.Laws.{HomeOfHome, GoodIsNotFailing, RunGoesOn, RecordsStay, MetStays, NeverViolated, OneAnswer, HigherDerives, AnswersStay, DerivedIsGood, RecordedIsMet, RunsAreClosed, GoodIsDerived, ErrorIsFailing, OneError, GoodGrows, FailsGrows, FailingIsDerived, ReturnIsCircular, ReturnGoesOn, CircleReturns, ReturnIsDerived, OneSubject, FailureIsNoCircle, OneDerivation, GoodIsAtHome, ComesOut, CircularReturns, CircularGoesOn};
+ghost use Rattle.cl_model.specs.Laws.{HomeOfHome, GoodIsNotFailing, RunGoesOn, RecordsStay, MetStays, NeverViolated, OneAnswer, HigherDerives, AnswersStay, DerivedIsGood, RecordedIsMet, RunsAreClosed, GoodIsDerived, ErrorIsFailing, OneError, GoodGrows, FailsGrows, FailingIsDerived, ReturnIsCircular, ReturnGoesOn, CircleReturns, ReturnIsDerived, OneSubject, FailureIsNoCircle, OneDerivation, GoodIsAtHome, ComesOut, CircularReturns, CircularGoesOn, PlanExists, OnePlan, LineageExists, OneLineage, ResolutionExists, OneResolution};
 
 /// A home is its own home.
 pub fn home_of_home()
@@ -143,4 +143,34 @@ pub fn circular_returns()
 /// Of a circular class the first supertype that is not good is circular too.
 pub fn circular_goes_on()
     ensures { CircularGoesOn }
+{}
+
+/// Each request has a plan.
+pub fn plan_exists()
+    ensures { PlanExists }
+{}
+
+/// A request has one plan.
+pub fn one_plan()
+    ensures { OnePlan }
+{}
+
+/// A good class has a lineage.
+pub fn lineage_exists()
+    ensures { LineageExists }
+{}
+
+/// A class has one lineage.
+pub fn one_lineage()
+    ensures { OneLineage }
+{}
+
+/// Each entry of a good class has a resolution.
+pub fn resolution_exists()
+    ensures { ResolutionExists }
+{}
+
+/// An entry has one resolution.
+pub fn one_resolution()
+    ensures { OneResolution }
 {}

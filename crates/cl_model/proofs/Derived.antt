@@ -6,11 +6,11 @@ use Rattle.cl_classfile.specs.Files.{Name, File}
 use Rattle.cl_model.specs.Homes.{World, home}
 use Rattle.cl_model.specs.declared.class.Class.{Class}
 use Rattle.cl_model.specs.Classes.{class, Error, Above, is_among, NoClassDef, ClassCircularity, file_of, misfit, superclass_of, superinterfaces_of, HasFile, FitsAt, Good}
-use Rattle.cl_model.specs.Lineages.{Forest, Kin}
+use Rattle.cl_model.specs.Lineages.{Forest, Tree, Kin}
 use Rattle.cl_model.specs.States.{Need, Entry}
 use Rattle.cl_model.specs.Works.{Work, Made, done, need, ask, or_fail, unless_wrong, of_result, after_made, go_on, ◌>>=◌}
 use Rattle.cl_model.specs.Plans.{initiating, load_by, loads_above, derive_new, derive}
-use Rattle.cl_model.proofs.Bind.{Bound, bind_ok, ok_not_err, step_is, or_fail_ok, unless_ok, result_ok, done_is, needs_two}
+use Rattle.cl_model.proofs.Bind.{ok_same, Bound, bind_ok, ok_not_err, step_is, or_fail_ok, unless_ok, result_ok, done_is, needs_two}
 use Rattle.cl_model.proofs.Heights.{loaded, found, sought, grown, others_after, checked, finished, interfaces_next, superclass_next, circle_or}
 
 -- a load that ends well
@@ -46,7 +46,7 @@ load_ok w d absent loader name m k h e =
     }
 
 -- the loads of supertypes that end well: the first, and those of the others
-pub record IsAbove (w : World) (d : Class → Work Kin) (c : Class) (a : Above) (others : List Above) (m : Made Forest) : Type 0 where
+pub record IsAbove (w : World) (d : Class → Work Kin) (c : Class) (a : Above) (others : List Above) (m : Made Forest) (fs : Forest) : Type 0 where
   pub one : Made Kin
   pub kin : Kin
   pub load : IsLoad w d c.loader a.name one kin
@@ -55,9 +55,10 @@ pub record IsAbove (w : World) (d : Class → Work Kin) (c : Class) (a : Above) 
   pub forest : Forest
   pub made : loads_above w d c others ≡ Some rest
   pub ends : rest.ends ≡ Ok forest
+  pub grows : Tree kin.class kin.file kin.superclass kin.interfaces forest ≡ fs
   pub needs : m.needs ≡ one.needs ++ (rest.needs ++ [])
 
-pub above_ok : (w : World) (d : Class → Work Kin) (c : Class) (a : Above) (others : List Above) (m : Made Forest) (fs : Forest) → loads_above w d c (a ∷ others) ≡ Some m → m.ends ≡ Ok fs → IsAbove w d c a others m
+pub above_ok : (w : World) (d : Class → Work Kin) (c : Class) (a : Above) (others : List Above) (m : Made Forest) (fs : Forest) → loads_above w d c (a ∷ others) ≡ Some m → m.ends ≡ Ok fs → IsAbove w d c a others m fs
 above_ok w d c a others m fs h e =
     let one = bind_ok (load_by w d NoClassDef c.loader a.name) (checked w d c a others) m fs h e in
     let test = bind_ok (unless_wrong (misfit c a.role one.value.class one.value.file)) (others_after w d c others one.value) one.second fs one.next one.ends in
@@ -72,6 +73,7 @@ above_ok w d c a others m fs h e =
       forest = rest.value;
       made = rest.made;
       ends = rest.ended;
+      grows = ok_same (Tree one.value.class one.value.file one.value.superclass one.value.interfaces rest.value) fs rest.second.ends (step_is _ rest.second rest.next).1 rest.ends;
       needs = one.needs ∙ ap (λ (x : List Need). one.first.needs ++ x) (joined_needs one.second.needs test.first.needs test.second.needs test.needs fit.1 ∙ rest.needs ∙ ap (λ (x : List Need). rest.first.needs ++ x) ((step_is _ rest.second rest.next).0));
     }
 

@@ -4,7 +4,7 @@ use Rattle.cl_classfile.specs.Files.{Name}
 use Rattle.cl_model.specs.Homes.{World, home}
 use Rattle.cl_model.specs.declared.class.Class.{Class}
 use Rattle.cl_model.specs.Classes.{class, Error, ClassCircularity, ClassNotFound, HasFile, IsAtHome, Good, IsGood, Fails, Circular, Next, Returns}
-use Rattle.cl_model.specs.Lineages.{Kin}
+use Rattle.cl_model.specs.Lineages.{Kin, IsLineage}
 use Rattle.cl_model.specs.Works.{Made}
 use Rattle.cl_model.specs.Plans.{derive, Request, Plan}
 use Rattle.cl_model.specs.States.{State, start, Need, Verdict, recorded, Violated, Met, AllMet, IsRecorded}
@@ -149,3 +149,11 @@ ResolutionExists = (w : World) (d : Class) (i n : ℕ) → Good w n d → (m : M
 -- and one alone
 abbrev pub OneResolution : Type 0
 OneResolution = (w : World) (d : Class) (i : ℕ) (m k : Made Verdict) → IsResolution w d i m → IsResolution w d i k → m ≡ k
+
+-- what a derivation ends in is the lineage of its class
+abbrev pub DerivedIsLineage : Type 0
+DerivedIsLineage = (w : World) (n : ℕ) (path : List Class) (c : Class) (m : Made Kin) (k : Kin) → derive w n path c ≡ Some m → m.ends ≡ Ok k → (k.class ≡ c) × IsLineage w k
+
+-- a lineage is what its class is derived to
+abbrev pub LineageIsDerived : Type 0
+LineageIsDerived = (w : World) (k : Kin) → IsLineage w k → HasLineage w k.class k

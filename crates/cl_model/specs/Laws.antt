@@ -1,5 +1,5 @@
 -- Laws of the definitions: each is the contract of a function without a body.
-use Rattle.std.specs.Prelude.{◌≡◌, ℕ, suc, List, [], ◌∷◌, ◌++◌, Some, None, Ok, Err, ◌⊎◌, Result, IsSome}
+use Rattle.std.specs.Prelude.{◌≡◌, ℕ, suc, List, [], ◌∷◌, ◌++◌, Some, None, Ok, Err, ◌⊎◌, Contains}
 use Rattle.cl_classfile.specs.Files.{Name}
 use Rattle.cl_model.specs.Homes.{World, home}
 use Rattle.cl_model.specs.declared.class.Class.{Class}
@@ -7,8 +7,8 @@ use Rattle.cl_model.specs.Classes.{class, Error, ClassCircularity, ClassNotFound
 use Rattle.cl_model.specs.Lineages.{Kin, IsLineage}
 use Rattle.cl_model.specs.Works.{Made}
 use Rattle.cl_model.specs.Plans.{derive, Request, Plan}
-use Rattle.cl_model.specs.States.{State, start, Need, Verdict, recorded, Violated, Met, AllMet, IsRecorded}
-use Rattle.cl_model.specs.Machine.{Setting, Step, May, state_after, Run, Answers, IsClosed, IsPlan, HasLineage, IsResolution}
+use Rattle.cl_model.specs.States.{State, start, Answer, settled_to, answer_to, IsFresh, Clashes, added, Need, Verdict, recorded, Violated, Met, AllMet, IsRecorded}
+use Rattle.cl_model.specs.Machine.{Setting, Step, May, state_after, Run, Answers, IsClosed, IsSound, after, AnswersPlan, AnswersReference, IsPlan, HasLineage, IsResolution}
 
 -- a home is its own home
 abbrev pub HomeOfHome : Type 0
@@ -157,3 +157,47 @@ DerivedIsLineage = (w : World) (n : ℕ) (path : List Class) (c : Class) (m : Ma
 -- a lineage is what its class is derived to
 abbrev pub LineageIsDerived : Type 0
 LineageIsDerived = (w : World) (k : Kin) → IsLineage w k → HasLineage w k.class k
+
+-- a settled verdict never changes
+abbrev pub SettledStay : Type 0
+SettledStay = (s : State) (es : List Step) (d : Class) (i : ℕ) (v : Verdict) → settled_to s.settled d i ≡ Some v → settled_to (state_after s es).settled d i ≡ Some v
+
+-- what is prepared stays so
+abbrev pub PreparedStay : Type 0
+PreparedStay = (s : State) (es : List Step) (c : Class) → Contains s.prepared c → Contains (state_after s es).prepared c
+
+-- a posted answer never changes
+abbrev pub PostedStay : Type 0
+PostedStay = (s : State) (es : List Step) (q : ℕ) (a : Answer) → answer_to s.answers q ≡ Some a → answer_to (state_after s es).answers q ≡ Some a
+
+-- the answer of a request stays the same along a run
+abbrev pub RequestAnswerStays : Type 0
+RequestAnswerStays = (g : Setting) (s : State) (es : List Step) (q : Request) (v : Verdict) → (Violated s → ⊥) → Run g s es → AnswersPlan g s q v → AnswersPlan g (state_after s es) q v
+
+-- the answer of a reference stays the same along a run
+abbrev pub ReferenceAnswerStays : Type 0
+ReferenceAnswerStays = (g : Setting) (s : State) (es : List Step) (d : Class) (i : ℕ) (v : Verdict) → (Violated s → ⊥) → Run g s es → AnswersReference g s d i v → AnswersReference g (state_after s es) d i v
+
+-- a request has one answer in a state
+abbrev pub OneRequestAnswer : Type 0
+OneRequestAnswer = (g : Setting) (s : State) (q : Request) (v u : Verdict) → AnswersPlan g s q v → AnswersPlan g s q u → v ≡ u
+
+-- a reference has one answer in a state
+abbrev pub OneReferenceAnswer : Type 0
+OneReferenceAnswer = (g : Setting) (s : State) (d : Class) (i : ℕ) (v u : Verdict) → AnswersReference g s d i v → AnswersReference g s d i u → v ≡ u
+
+-- all that a state of a run holds is as it should be
+abbrev pub RunsAreSound : Type 0
+RunsAreSound = (g : Setting) (es : List Step) → Run g start es → IsSound g (state_after start es)
+
+-- a step that may happen keeps a state sound
+abbrev pub StepIsSound : Type 0
+StepIsSound = (g : Setting) (s : State) (e : Step) → May g s e → IsSound g s → IsSound g (after s e)
+
+-- what clashes would violate, where it is fresh
+abbrev pub ClashViolates : Type 0
+ClashViolates = (s : State) (n : Need) → IsFresh s n → Clashes s n → Violated (added s n)
+
+-- what would violate clashes, where nothing was violated before
+abbrev pub ViolationClashes : Type 0
+ViolationClashes = (s : State) (n : Need) → Violated (added s n) → Violated s ⊎ Clashes s n

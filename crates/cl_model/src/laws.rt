@@ -1,4 +1,4 @@
-ghost use Rattle.cl_model.specs.Laws.{HomeOfHome, GoodIsNotFailing, RunGoesOn, RecordsStay, MetStays, NeverViolated, OneAnswer, HigherDerives, AnswersStay, DerivedIsGood, RecordedIsMet, RunsAreClosed, GoodIsDerived, ErrorIsFailing, OneError, GoodGrows, FailsGrows, FailingIsDerived, ReturnIsCircular, ReturnGoesOn, CircleReturns, ReturnIsDerived, OneSubject, FailureIsNoCircle, OneDerivation, GoodIsAtHome, ComesOut, CircularReturns, CircularGoesOn, PlanExists, OnePlan, LineageExists, OneLineage, ResolutionExists, OneResolution, DerivedIsLineage, LineageIsDerived};
+ghost use Rattle.cl_model.specs.Laws.{HomeOfHome, GoodIsNotFailing, RunGoesOn, RecordsStay, MetStays, NeverViolated, OneAnswer, HigherDerives, AnswersStay, DerivedIsGood, RecordedIsMet, RunsAreClosed, GoodIsDerived, ErrorIsFailing, OneError, GoodGrows, FailsGrows, FailingIsDerived, ReturnIsCircular, ReturnGoesOn, CircleReturns, ReturnIsDerived, OneSubject, FailureIsNoCircle, OneDerivation, GoodIsAtHome, ComesOut, CircularReturns, CircularGoesOn, PlanExists, OnePlan, LineageExists, OneLineage, ResolutionExists, OneResolution, DerivedIsLineage, LineageIsDerived, SettledStay, PreparedStay, PostedStay, RequestAnswerStays, ReferenceAnswerStays, OneRequestAnswer, OneReferenceAnswer, RunsAreSound, StepIsSound, ClashViolates, ViolationClashes};
 
 /// A home is its own home.
 pub fn home_of_home()
@@ -183,4 +183,59 @@ pub fn derived_is_lineage()
 /// A lineage is what its class is derived to.
 pub fn lineage_is_derived()
     ensures { LineageIsDerived }
+{}
+
+/// A settled verdict never changes.
+pub fn settled_stay()
+    ensures { SettledStay }
+{}
+
+/// What is prepared stays so.
+pub fn prepared_stay()
+    ensures { PreparedStay }
+{}
+
+/// A posted answer never changes.
+pub fn posted_stay()
+    ensures { PostedStay }
+{}
+
+/// The answer of a request stays the same along a run.
+pub fn request_answer_stays()
+    ensures { RequestAnswerStays }
+{}
+
+/// The answer of a reference stays the same along a run.
+pub fn reference_answer_stays()
+    ensures { ReferenceAnswerStays }
+{}
+
+/// A request has one answer in a state.
+pub fn one_request_answer()
+    ensures { OneRequestAnswer }
+{}
+
+/// A reference has one answer in a state.
+pub fn one_reference_answer()
+    ensures { OneReferenceAnswer }
+{}
+
+/// All that a state of a run holds is as it should be.
+pub fn runs_are_sound()
+    ensures { RunsAreSound }
+{}
+
+/// A step that may happen keeps a state sound.
+pub fn step_is_sound()
+    ensures { StepIsSound }
+{}
+
+/// What clashes would violate, where it is fresh.
+pub fn clash_violates()
+    ensures { ClashViolates }
+{}
+
+/// What would violate clashes, where nothing was violated before.
+pub fn violation_clashes()
+    ensures { ViolationClashes }
 {}

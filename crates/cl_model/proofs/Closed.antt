@@ -13,7 +13,7 @@ use Rattle.cl_model.specs.Machine.{Setting, Step, Define, Initiate, Constrain, S
 use Rattle.cl_model.proofs.Derived.{above_ok, derive_ok}
 use Rattle.cl_model.proofs.Runs.{IsLater, after_later, recorded_added}
 
-met_both : (s : State) (xs ys : List Need) → AllMet s xs → AllMet s ys → AllMet s (xs ++ ys)
+pub met_both : (s : State) (xs ys : List Need) → AllMet s xs → AllMet s ys → AllMet s (xs ++ ys)
 met_both s [] ys a b = b
 met_both s (x ∷ xs) ys a b = (a.0, met_both s xs ys a.1 b)
 
@@ -32,7 +32,7 @@ some_is e = cc
 abbrev Stands : World → State → Class → Above → Type 0
 Stands w s c a = AtHome w c (λ t. Met s (Entry c.loader a.name t.loader)) a.name
 
-initiating_met : (s : State) (loader place : ℕ) (name : Name) (b : Bool) → Met s (Entry loader name place) → AllMet s ((if b then [] else Entry loader name place ∷ []) ++ [])
+pub initiating_met : (s : State) (loader place : ℕ) (name : Name) (b : Bool) → Met s (Entry loader name place) → AllMet s ((if b then [] else Entry loader name place ∷ []) ++ [])
 initiating_met s loader place name true h = tt
 initiating_met s loader place name false h = (h, tt)
 

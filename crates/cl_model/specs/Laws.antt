@@ -6,8 +6,8 @@ use Rattle.cl_model.specs.declared.class.Class.{Class}
 use Rattle.cl_model.specs.Classes.{class, Error, ClassCircularity, ClassNotFound, HasFile, IsAtHome, Good, IsGood, Fails, Circular, Next, Returns}
 use Rattle.cl_model.specs.Lineages.{Kin, IsLineage}
 use Rattle.cl_model.specs.Works.{Made}
-use Rattle.cl_model.specs.Plans.{derive, Request, Plan}
-use Rattle.cl_model.specs.States.{State, start, Answer, settled_to, answer_to, IsFresh, Clashes, added, Need, Verdict, recorded, Violated, Met, AllMet, IsRecorded}
+use Rattle.cl_model.specs.Plans.{derive, load, Load, Request, Plan}
+use Rattle.cl_model.specs.States.{State, start, Entry, IsClass, Answer, settled_to, answer_to, IsFresh, Clashes, added, Need, Verdict, recorded, Violated, Met, AllMet, IsRecorded}
 use Rattle.cl_model.specs.Machine.{Setting, Step, May, state_after, Run, Answers, IsClosed, IsSound, after, AnswersPlan, AnswersReference, IsPlan, HasLineage, IsResolution}
 
 -- a home is its own home
@@ -201,3 +201,15 @@ ClashViolates = (s : State) (n : Need) → IsFresh s n → Clashes s n → Viola
 -- what would violate clashes, where nothing was violated before
 abbrev pub ViolationClashes : Type 0
 ViolationClashes = (s : State) (n : Need) → Violated (added s n) → Violated s ⊎ Clashes s n
+
+-- where a loader records a name, its load ends in that class, and all its needs stand, its own record too
+abbrev pub RecordedLoadStands : Type 0
+RecordedLoadStands = (w : World) (s : State) (n : ℕ) (absent : Class → Error) (loader place : ℕ) (name : Name) (m : Made Kin) → IsClosed w s → recorded s.records loader name ≡ Some place → load w n absent loader name ≡ Some m → (k : Kin) × (m.ends ≡ Ok k) × (k.class ≡ class name place) × AllMet s m.needs
+
+-- the class that a loader records for a name is the answer of its load
+abbrev pub RecordedAnswers : Type 0
+RecordedAnswers = (g : Setting) (s : State) (loader place : ℕ) (name : Name) → IsClosed g.world s → recorded s.records loader name ≡ Some place → AnswersPlan g s (Load loader name) (IsClass (class name place))
+
+-- a record that is wanted with its home and does not stand is fresh
+abbrev pub UnmetIsFresh : Type 0
+UnmetIsFresh = (w : World) (s : State) (loader place : ℕ) (name : Name) → IsClosed w s → home w loader name ≡ Some place → (Met s (Entry loader name place) → ⊥) → recorded s.records loader name ≡ None

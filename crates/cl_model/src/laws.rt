@@ -1,4 +1,4 @@
-ghost use Rattle.cl_model.specs.Laws.{HomeOfHome, GoodIsNotFailing, RunGoesOn, RecordsStay, MetStays, NeverViolated, OneAnswer, HigherDerives, AnswersStay, DerivedIsGood, RecordedIsMet, RunsAreClosed, GoodIsDerived, ErrorIsFailing, OneError, GoodGrows, FailsGrows, FailingIsDerived, ReturnIsCircular, ReturnGoesOn, CircleReturns, ReturnIsDerived, OneSubject, FailureIsNoCircle, OneDerivation, GoodIsAtHome, ComesOut, CircularReturns, CircularGoesOn, PlanExists, OnePlan, LineageExists, OneLineage, ResolutionExists, OneResolution, DerivedIsLineage, LineageIsDerived, SettledStay, PreparedStay, PostedStay, RequestAnswerStays, ReferenceAnswerStays, OneRequestAnswer, OneReferenceAnswer, RunsAreSound, StepIsSound, ClashViolates, ViolationClashes};
+ghost use Rattle.cl_model.specs.Laws.{HomeOfHome, GoodIsNotFailing, RunGoesOn, RecordsStay, MetStays, NeverViolated, OneAnswer, HigherDerives, AnswersStay, DerivedIsGood, RecordedIsMet, RunsAreClosed, GoodIsDerived, ErrorIsFailing, OneError, GoodGrows, FailsGrows, FailingIsDerived, ReturnIsCircular, ReturnGoesOn, CircleReturns, ReturnIsDerived, OneSubject, FailureIsNoCircle, OneDerivation, GoodIsAtHome, ComesOut, CircularReturns, CircularGoesOn, PlanExists, OnePlan, LineageExists, OneLineage, ResolutionExists, OneResolution, DerivedIsLineage, LineageIsDerived, SettledStay, PreparedStay, PostedStay, RequestAnswerStays, ReferenceAnswerStays, OneRequestAnswer, OneReferenceAnswer, RunsAreSound, StepIsSound, ClashViolates, ViolationClashes, RecordedLoadStands, RecordedAnswers, UnmetIsFresh};
 
 /// A home is its own home.
 pub fn home_of_home()
@@ -238,4 +238,19 @@ pub fn clash_violates()
 /// What would violate clashes, where nothing was violated before.
 pub fn violation_clashes()
     ensures { ViolationClashes }
+{}
+
+/// Where a loader records a name, its load ends in that class, and all its needs stand, its own record too.
+pub fn recorded_load_stands()
+    ensures { RecordedLoadStands }
+{}
+
+/// The class that a loader records for a name is the answer of its load.
+pub fn recorded_answers()
+    ensures { RecordedAnswers }
+{}
+
+/// A record that is wanted with its home and does not stand is fresh.
+pub fn unmet_is_fresh()
+    ensures { UnmetIsFresh }
 {}

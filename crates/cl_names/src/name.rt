@@ -1,4 +1,4 @@
-ghost use Rattle.std.specs.Prelude.{◌≡◌, ◌≤◌, length, IfOk};
+ghost use Rattle.std.specs.Prelude.{◌≡◌, ◌≤◌, ℕ, List, [], ◌∷◌, ◌++◌, length, IfOk};
 ghost use Rattle.std.specs.Prelude.{refl, nat_eq, Some};
 ghost use Rattle.std.specs.Ordering.{nat_cmp};
 ghost use Rattle.std.specs.Cmp;
@@ -7,7 +7,11 @@ ghost use Rattle.std.specs.Cmp.Rules.{hashing};
 ghost use Rattle.std.specs.Hash as fed;
 ghost use Rattle.std.proofs.Common.{rules};
 ghost use Rattle.cl_names.specs.Text.{IsModifiedUtf8};
+ghost use Rattle.cl_names.specs.Escape.{escaped};
+ghost use Rattle.cl_names.specs.Name.{TestedNameOf};
 
+use crate::escape::{printed, written_bytes, written_len};
+use crate::kind::{has_class_form, has_method_form, has_unqualified_form, package_len};
 use crate::text::is_modified_utf8;
 use std::alloc::{AllocError, Global};
 use std::cmp::Ordering;
@@ -15,7 +19,10 @@ use std::hash::{Hash, Hasher};
 use std::marker::Model;
 use thiserror::Error;
 
-/// A name, in modified UTF-8.
+/// The most bytes of a name: a class file counts them in two bytes (JVMS SE 8, 4.4.7).
+const MAX_LEN: usize = 65535;
+
+/// A name, in modified UTF-8 (JVMS SE 8, 4.4.7).
 #[derive(Debug, Drop)]
 pub struct Name {
     bytes: Vec<u8>,
@@ -38,7 +45,7 @@ impl PartialEq for Name {
     ghost laws = { Cmp.partial_equiv_from_equiv nat_list_eq_equiv };
 
     fn eq(&self, other: &Name) -> bool {
-        self.bytes.as_slice() == other.bytes.as_slice()
+        self.bytes() == other.bytes()
     }
 }
 
@@ -66,7 +73,7 @@ impl Ord for Name {
     ghost matches_eq = { λ x y. texts_ties x y };
 
     fn cmp(&self, other: &Name) -> Ordering {
-        self.bytes.as_slice().cmp(other.bytes.as_slice())
+        self.bytes().cmp(other.bytes())
     }
 }
 
@@ -76,7 +83,7 @@ impl Hash for Name {
     ghost respects_eq = { Prim.search (hashing, rules) };
 
     fn hash<H: Hasher>(&self, state: &mut H) {
-        self.bytes.as_slice().hash(state);
+        self.bytes().hash(state);
     }
 }
 
@@ -102,24 +109,112 @@ impl From<AllocError> for NameFault {
 }
 
 impl Name {
-    ghost use Rattle.cl_names.specs.Name.{NameOf};
+    ghost use Rattle.std.specs.Prelude.{MatchBool, string_bytes};
+    ghost use Rattle.std.specs.List.{starts_with};
+    ghost use Rattle.cl_names.specs.Kind.{IsUnqualified, IsMethod, IsClass, IsNameOf, is_unqualified_name, is_method_name, is_class_name, HasNoSlash, package_of};
+    ghost use Rattle.cl_names.specs.Name.{NameOf, KindNameOf, TextNameOf};
 
-    /// The name that the bytes spell.
+    /// The name of any kind that the bytes spell: `NotModifiedUtf8` where they spell nothing, `BadName`
+    /// where they are over 65,535, and then `Memory` (JVMS SE 8, 4.4.7).
     pub fn any(alloc: Global, bytes: &[u8]) -> Result<Name, NameFault>
         ensures { NameOf bytes.now result }
     {
-        if !is_modified_utf8(bytes) {
-            return Err(NameFault::NotModifiedUtf8);
-        }
-        if bytes.len() > 65535 {
-            return Err(NameFault::BadName);
-        }
-        Ok(Name {
-            bytes: Vec::from_slice(alloc, bytes)?,
-        })
+        spelled(alloc, bytes, true)
     }
 
-    /// The bytes.
+    /// The class's name that the bytes spell, unqualified names with `/` between them: `NotModifiedUtf8`,
+    /// then `BadName` where it is another or over 65,535 bytes, then `Memory` (JVMS SE 8, 4.2.1).
+    pub fn class(alloc: Global, bytes: &[u8]) -> Result<Name, NameFault>
+        ensures { KindNameOf IsClass bytes.now result }
+    {
+        spelled(alloc, bytes, has_class_form(bytes))
+    }
+
+    /// The unqualified name that the bytes spell, with none of `.` `;` `[` `/`: `NotModifiedUtf8`, then
+    /// `BadName` where it is another or over 65,535 bytes, then `Memory` (JVMS SE 8, 4.2.2).
+    pub fn unqualified(alloc: Global, bytes: &[u8]) -> Result<Name, NameFault>
+        ensures { KindNameOf IsUnqualified bytes.now result }
+    {
+        spelled(alloc, bytes, has_unqualified_form(bytes))
+    }
+
+    /// The method's name that the bytes spell, unqualified without `<` and `>`, or `<init>` or
+    /// `<clinit>`: `NotModifiedUtf8`, then `BadName` where it is another or over 65,535 bytes, then
+    /// `Memory` (JVMS SE 8, 4.2.2).
+    pub fn method(alloc: Global, bytes: &[u8]) -> Result<Name, NameFault>
+        ensures { KindNameOf IsMethod bytes.now result }
+    {
+        spelled(alloc, bytes, has_method_form(bytes))
+    }
+
+    /// The name of any kind that escaped text writes: each code unit as itself, where it is one of
+    /// 0x21 to 0x7E but `\`, or as `\u` and four hexadecimal digits. `BadName` where the text is no
+    /// such text or writes over 65,535 bytes, and then `Memory`.
+    pub fn from_text(alloc: Global, text: &str) -> Result<Name, NameFault>
+        ensures { TextNameOf text.now result }
+    {
+        let text = text.as_bytes();
+        match written_len(text) {
+            Some(len) if len <= MAX_LEN => Ok(Name {
+                bytes: written_bytes(alloc, text, len)?,
+            }),
+            _ => Err(NameFault::BadName),
+        }
+    }
+
+    /// The name as escaped text, in lower case, with escapes only where they are needed. Only want of
+    /// memory refuses it.
+    pub fn text(&self, alloc: Global) -> Result<String, AllocError>
+        ensures { IfOk result (λ text. string_bytes text ≡ escaped self.now) }
+    {
+        printed(alloc, self.bytes())
+    }
+
+    /// Whether it is a class's name (JVMS SE 8, 4.2.1).
+    pub fn is_class(&self) -> bool
+        ensures kind { MatchBool result (IsNameOf IsClass self.now) (IsNameOf IsClass self.now → ⊥) }
+        ensures test { result ≡ is_class_name self.now }
+    {
+        has_class_form(self.bytes())
+    }
+
+    /// Whether it is an unqualified name (JVMS SE 8, 4.2.2).
+    pub fn is_unqualified(&self) -> bool
+        ensures kind { MatchBool result (IsNameOf IsUnqualified self.now) (IsNameOf IsUnqualified self.now → ⊥) }
+        ensures test { result ≡ is_unqualified_name self.now }
+    {
+        has_unqualified_form(self.bytes())
+    }
+
+    /// Whether it is a method's name (JVMS SE 8, 4.2.2).
+    pub fn is_method(&self) -> bool
+        ensures kind { MatchBool result (IsNameOf IsMethod self.now) (IsNameOf IsMethod self.now → ⊥) }
+        ensures test { result ≡ is_method_name self.now }
+    {
+        has_method_form(self.bytes())
+    }
+
+    /// The package of a class's name: what stands before the last `/`, nothing where there is none
+    /// (JVMS SE 8, 5.3).
+    pub fn package(&self) -> &[u8]
+        ensures before { (front last : List ℕ) → self.now ≡ front ++ 47 ∷ last → HasNoSlash last → result.now ≡ front }
+        ensures none { HasNoSlash self.now → result.now ≡ [] }
+        ensures value { result.now ≡ package_of self.now }
+    {
+        let bytes = self.bytes();
+        &bytes[..package_len(bytes)]
+    }
+
+    /// Whether its bytes begin with those of `prefix`.
+    pub fn starts_with(&self, prefix: &Name) -> bool
+        ensures begins { MatchBool result ((rest : List ℕ) × (self.now ≡ prefix.now ++ rest))
+            ((rest : List ℕ) → self.now ≡ prefix.now ++ rest → ⊥) }
+        ensures value { result ≡ starts_with nat_eq self.now prefix.now }
+    {
+        self.bytes().starts_with(prefix.bytes())
+    }
+
+    /// The bytes, in modified UTF-8.
     pub fn bytes(&self) -> &[u8]
         ensures bytes { result.now ≡ self.now }
         ensures text { IsModifiedUtf8 self.now }
@@ -128,12 +223,27 @@ impl Name {
         self.bytes.as_slice()
     }
 
-    /// A copy.
+    /// A copy. Only want of memory refuses it.
     pub fn try_clone(&self, alloc: Global) -> Result<Name, AllocError>
         ensures { IfOk result (λ name. name ≡ self.now) }
     {
         Ok(Name {
-            bytes: Vec::from_slice(alloc, self.bytes.as_slice())?,
+            bytes: Vec::from_slice(alloc, self.bytes())?,
         })
     }
+}
+
+/// The name that the bytes spell, where they have the form of its kind.
+fn spelled(alloc: Global, bytes: &[u8], has_form: bool) -> Result<Name, NameFault>
+    ensures { TestedNameOf has_form bytes.now result }
+{
+    if !is_modified_utf8(bytes) {
+        return Err(NameFault::NotModifiedUtf8);
+    }
+    if !has_form || bytes.len() > MAX_LEN {
+        return Err(NameFault::BadName);
+    }
+    Ok(Name {
+        bytes: Vec::from_slice(alloc, bytes)?,
+    })
 }

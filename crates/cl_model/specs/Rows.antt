@@ -8,6 +8,8 @@ use Rattle.cl_classfile.specs.Files.{Name, File, FileFault, BadFormat, Key, Memb
 use Rattle.cl_model.specs.Content.{Content, Stored}
 use Rattle.cl_model.specs.Homes.{World, Loader, Import, ParentFirst, ChildFirst}
 use Rattle.cl_model.specs.States.{Need, Verdict}
+use Rattle.cl_model.specs.Classes.{class}
+use Rattle.cl_model.specs.Machine.{Setting, Step, Define, Initiate, Constrain}
 use Rattle.cl_model.specs.Plans.{Request, Plan, plan, needs_of}
 
 -- the first loader; a second under it; a third under the second, child first; a fourth under the second
@@ -221,3 +223,29 @@ needs_at w height q = option_map needs_of (plan w height q)
 
 abbrev pub more_at : World → ℕ → Request → Option (List Need)
 more_at w height q = option_map (λ p. p.more) (plan w height q)
+
+-- a setting of one round without requests
+abbrev pub over : World → Setting
+over w = record { world = w; script = []; rounds = 1 }
+
+-- what stands before a reference of Use in plug is resolved, where T is defined in app and in plug
+abbrev pub both_defined : List Step
+both_defined =
+    Define (class object boot) ∷ Initiate object boot app ∷ Define (class (codes "p/T") app)
+    ∷ Initiate object boot plug ∷ Define (class (codes "p/T") plug) ∷ Define (class (codes "p/Use") plug)
+    ∷ Define (class (codes "p/Svc") app) ∷ Initiate (codes "p/Svc") app plug ∷ []
+
+-- what stands after that reference is resolved and T is defined in app
+abbrev pub constrained : List Step
+constrained =
+    Define (class object boot) ∷ Initiate object boot plug ∷ Define (class (codes "p/Use") plug)
+    ∷ Initiate object boot app ∷ Define (class (codes "p/Svc") app) ∷ Initiate (codes "p/Svc") app plug
+    ∷ Constrain (codes "p/T") app plug ∷ Define (class (codes "p/T") app) ∷ []
+
+-- what stands after the references of two users are resolved and T is defined in one of them
+abbrev pub across : List Step
+across =
+    Define (class object boot) ∷ Initiate object boot plug ∷ Define (class (codes "p/Use") plug)
+    ∷ Initiate object boot app ∷ Define (class (codes "p/Svc") app) ∷ Initiate (codes "p/Svc") app plug
+    ∷ Constrain (codes "p/T") app plug ∷ Initiate object boot kid ∷ Define (class (codes "p/Use") kid)
+    ∷ Initiate (codes "p/Svc") app kid ∷ Constrain (codes "p/T") app kid ∷ Define (class (codes "p/T") plug) ∷ []

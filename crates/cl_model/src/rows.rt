@@ -3,9 +3,11 @@
 ghost use Rattle.std.specs.Prelude.{◌≡◌, List, ◌∷◌, [], Some, None, option_map, codes};
 ghost use Rattle.cl_model.specs.Homes.{home};
 ghost use Rattle.cl_model.specs.Classes.{class, ClassFormat, NoClassDef, ClassCircularity, IncompatibleClassChange, IllegalAccess};
-ghost use Rattle.cl_model.specs.States.{Entry, Equal, IsClass, IsArrayOf, IsArrayOfBase, IsField, IsMethod, IsLinked, Wrong, BadEntry, ArrayMember};
+ghost use Rattle.cl_model.specs.States.{Entry, Equal, IsClass, IsArrayOf, IsArrayOfBase, IsField, IsMethod, IsLinked, Wrong, BadEntry, ArrayMember, Linkage, Said, SourceFault, start};
+ghost use Rattle.cl_model.specs.Machine.{Define, Initiate, Constrain, Prepare, NextRound, AnswersPlan, state_after};
+ghost use Rattle.cl_model.specs.Lines.{line, verdict_text, answer_text, answer_line};
 ghost use Rattle.cl_model.specs.Plans.{plan, Load, Resolve, Link, cost};
-ghost use Rattle.cl_model.specs.Rows.{boot, app, plug, kid, object, copies, service, bad, circle, missing, hidden, lookups, overriding, arrays, importing, taking, taking_t, taking_none, an_int, ends_at, needs_at, more_at};
+ghost use Rattle.cl_model.specs.Rows.{boot, app, plug, kid, object, copies, service, bad, circle, missing, hidden, lookups, overriding, arrays, importing, taking, taking_t, taking_none, an_int, ends_at, needs_at, more_at, names, over, both_defined, constrained, across, three_users};
 
 /// A search goes to the parent first, or to the own content first; a `java/` name is searched in
 /// the first loader alone; what an import takes hides the own content.
@@ -94,4 +96,39 @@ pub fn arrays_and_bad_entries()
 pub fn resolved_method()
     ensures needs { needs_at service 3 (Resolve plug (codes "p/Use") 1) ≡ Some (Entry boot object boot ∷ Entry plug object boot ∷ Entry plug (codes "p/Use") plug ∷ Entry boot object boot ∷ Entry app object boot ∷ Entry app (codes "p/Svc") app ∷ Entry plug (codes "p/Svc") app ∷ Equal (codes "p/T") app plug ∷ []) }
     ensures ends { ends_at service 3 (Resolve plug (codes "p/Use") 1) ≡ Some (IsMethod (class (codes "p/Svc") app) taking_t) }
+{}
+
+/// An equality that would join two loaders with different classes is refused: it is the answer.
+pub fn equality_refused()
+    ensures { AnswersPlan (over service) (state_after start both_defined) (Resolve plug (codes "p/Use") 1) (Linkage (Equal (codes "p/T") app plug)) }
+{}
+
+/// A record that would differ from that of a joined loader is refused: it is the answer.
+pub fn record_refused()
+    ensures resolved { AnswersPlan (over service) (state_after start constrained) (Resolve plug (codes "p/Use") 1) (IsMethod (class (codes "p/Svc") app) taking_t) }
+    ensures loaded { AnswersPlan (over service) (state_after start constrained) (Load app (codes "p/T")) (IsClass (class (codes "p/T") app)) }
+    ensures refused { AnswersPlan (over service) (state_after start constrained) (Load plug (codes "p/T")) (Linkage (Entry plug (codes "p/T") plug)) }
+{}
+
+/// Two loaders that no equality names together are joined through a third.
+pub fn constraint_across_three()
+    ensures loaded { AnswersPlan (over three_users) (state_after start across) (Load plug (codes "p/T")) (IsClass (class (codes "p/T") plug)) }
+    ensures refused { AnswersPlan (over three_users) (state_after start across) (Load kid (codes "p/T")) (Linkage (Entry kid (codes "p/T") kid)) }
+{}
+
+/// The lines of events and answers.
+#[tactic(auto, unfolding(cl_names::specs::Escape::escaped, cl_names::specs::Escape::units_of))]
+pub fn printed_lines()
+    ensures define { line names (Define (class object boot)) ≡ Some (codes "define java/lang/Object@boot") }
+    ensures initiate { line names (Initiate object boot plug) ≡ Some (codes "initiate java/lang/Object boot by plug") }
+    ensures constrain { line names (Constrain (codes "p/T") app plug) ≡ Some (codes "constrain p/T app plug") }
+    ensures prepare { line names (Prepare (class (codes "p/A") app)) ≡ Some (codes "prepare p/A@app") }
+    ensures silent { line names NextRound ≡ None }
+    ensures class { verdict_text names (IsClass (class (codes "p/T") plug)) ≡ codes "class p/T@plug" }
+    ensures method { verdict_text names (IsMethod (class (codes "p/Svc") app) taking_t) ≡ codes "method p/Svc@app m (Lp/T;)V" }
+    ensures error { verdict_text names (Wrong (ClassCircularity (class (codes "p/A") app))) ≡ codes "ClassCircularityError p/A@app" }
+    ensures record { verdict_text names (Linkage (Entry plug (codes "p/T") plug)) ≡ codes "LinkageError record p/T@plug" }
+    ensures equality { verdict_text names (Linkage (Equal (codes "p/T") app plug)) ≡ codes "LinkageError equal p/T app plug" }
+    ensures fault { answer_text names (SourceFault (codes "p/T") boot) ≡ codes "SourceFault p/T@boot" }
+    ensures array { answer_line names 9 (Said (IsArrayOf 2 (class (codes "p/T") app))) ≡ codes "10 array 2 p/T@app" }
 {}

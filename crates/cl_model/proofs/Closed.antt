@@ -29,7 +29,7 @@ some_is : {A : Type 0} {x y : A} → Some x ≡ Some y → x ≡ y
 some_is e = cc
 
 -- a supertype's record stands
-abbrev Stands : World → State → Class → Above → Type 0
+abbrev pub Stands : World → State → Class → Above → Type 0
 Stands w s c a = AtHome w c (λ t. Met s (Entry c.loader a.name t.loader)) a.name
 
 pub initiating_met : (s : State) (loader place : ℕ) (name : Name) (b : Bool) → Met s (Entry loader name place) → AllMet s ((if b then [] else Entry loader name place ∷ []) ++ [])

@@ -62,7 +62,7 @@ lineage_of w c k h = derive_gives w h.height [] c h.made k h.derived h.ends
 
 -- ---- a lineage is derived
 
-all_two : {A : Type 0} (P : A → Type 0) (xs ys : List A) → AllByRecursion P xs → AllByRecursion P ys → AllByRecursion P (xs ++ ys)
+pub all_two : {A : Type 0} (P : A → Type 0) (xs ys : List A) → AllByRecursion P xs → AllByRecursion P ys → AllByRecursion P (xs ++ ys)
 all_two P [] ys a b = b
 all_two P (x ∷ xs) ys a b = (a.0, all_two P xs ys a.1 b)
 

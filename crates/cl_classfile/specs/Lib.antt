@@ -1,3 +1,6 @@
-pub mod Names
 pub mod Structure
 pub mod Files
+pub mod Checking
+pub mod Raw
+pub mod Reading
+pub mod View

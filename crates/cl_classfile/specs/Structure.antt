@@ -1,11 +1,11 @@
 -- What a class file is, and how it is spelled (JVMS SE 8, 4.1).
-use Rattle.std.specs.Prelude.{◌≡◌, ◌⊎◌, ℕ, zero, suc, ◌+◌, ◌<◌, ◌^◌, List, [], ◌∷◌, ◌++◌, length, Option, Some, None, slice_get}
+use Rattle.std.specs.Prelude.{◌≡◌, ◌≢◌, ◌⊎◌, ◌≤◌, ℕ, zero, suc, ◌+◌, ◌<◌, ◌^◌, List, [], ◌∷◌, ◌++◌, length, take, drop, Option, Some, None, codes, slice_get}
 use Rattle.std.specs.List.{flat_map, AllByRecursion}
 use Rattle.std.specs.Int.{w16, w32, to_be_bytes}
 use Rattle.cl_names.specs.Text.{IsModifiedUtf8}
+use Rattle.cl_names.specs.Kind.{IsNameOf, IsClass}
 use Rattle.cl_classfile.specs.declared.entry.Entry.{Entry}
 use Rattle.cl_classfile.specs.declared.entry.Entry.TheVariants.{Utf8, Class}
-use Rattle.cl_classfile.specs.Names.{IsClassName, object}
 
 -- ---- the parts
 
@@ -108,8 +108,8 @@ pub record Fits (f : Structure) : Type 0 where
 
 -- ---- what the tables ask
 
--- what stands at an index of the pool, from 1 on (4.1)
-abbrev pub at : List Entry → ℕ → Option Entry
+-- what stands at an index, from 1 on (4.1)
+abbrev pub at : {A : Type 0} → List A → ℕ → Option A
 at pool zero = None
 at pool (suc i) = slice_get pool i
 
@@ -118,25 +118,29 @@ abbrev pub IsText : List Entry → ℕ → List ℕ → Type 0
 IsText pool i text = at pool i ≡ Some (Utf8 text)
 
 -- the entry at the index is a class of this name (4.4.1)
-pub record IsClass (pool : List Entry) (i : ℕ) (name : List ℕ) : Type 0 where
+pub record NamesClass (pool : List Entry) (i : ℕ) (name : List ℕ) : Type 0 where
   pub index : ℕ
   pub is_entry : at pool i ≡ Some (Class index)
   pub named : IsText pool index name
 
+-- java/lang/Object
+abbrev pub object : List ℕ
+object = codes "java/lang/Object"
+
 -- what the table of entries asks of each kind (4.4)
 abbrev pub KeepsEntry : List Entry → Entry → Type 0
 KeepsEntry pool (Utf8 text) = IsModifiedUtf8 text
-KeepsEntry pool (Class index) = (name : List ℕ) × IsText pool index name × IsClassName name
+KeepsEntry pool (Class index) = (name : List ℕ) × IsText pool index name × IsNameOf IsClass name
 
 -- super_class is 0 exactly in java/lang/Object, and else a class (4.1)
 abbrev pub KeepsSuper : List Entry → List ℕ → ℕ → Type 0
-KeepsSuper pool name super = ((name ≡ object) × (super ≡ 0)) ⊎ ((name ≡ object → ⊥) × (above : List ℕ) × IsClass pool super above)
+KeepsSuper pool name super = ((name ≡ object) × (super ≡ 0)) ⊎ ((name ≡ object → ⊥) × (above : List ℕ) × NamesClass pool super above)
 
 -- the file keeps the tables
 pub record Keeps (f : Structure) : Type 0 where
   pub pool : AllByRecursion (KeepsEntry f.pool) f.pool
   pub name : List ℕ
-  pub this_class : IsClass f.pool f.this_class name
+  pub this_class : NamesClass f.pool f.this_class name
   pub super_class : KeepsSuper f.pool name f.super_class
 
 -- what is read so far: a public class that is not final, with no interface, member or attribute
@@ -147,8 +151,24 @@ pub record IsNarrow (f : Structure) : Type 0 where
   pub methods : f.methods ≡ []
   pub attributes : f.attributes ≡ []
 
+-- what a class file that was read is
+pub record IsClassFile (f : Structure) : Type 0 where
+  pub fits : Fits f
+  pub kept : Keeps f
+  pub narrow : IsNarrow f
+
 -- the bytes spell the file, which keeps the tables
 pub record Spells (bytes : List ℕ) (f : Structure) : Type 0 where
   pub fits : Fits f
   pub kept : Keeps f
   pub spelled : bytes ≡ spelling f
+
+-- ---- the two faults of the header
+
+-- four bytes stand, and are not the magic
+abbrev pub HasOtherMagic : List ℕ → Type 0
+HasOtherMagic bytes = (4 ≤ length bytes) × (take 4 bytes ≢ magic)
+
+-- eight bytes stand, the magic and another version
+abbrev pub HasOtherVersion : List ℕ → Type 0
+HasOtherVersion bytes = (8 ≤ length bytes) × (take 4 bytes ≡ magic) × (take 4 (drop 4 bytes) ≢ version)

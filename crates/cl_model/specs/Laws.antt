@@ -12,7 +12,8 @@ use Rattle.cl_model.specs.Lineages.{Kin, IsLineage}
 use Rattle.cl_model.specs.Works.{Made}
 use Rattle.cl_model.specs.Plans.{derive, load, Load, Resolve, needs_of, Request, Plan}
 use Rattle.cl_model.specs.States.{State, start, IsNext, MayAdd, Said, Entry, IsClass, Answer, settled_to, answer_to, IsFresh, Clashes, added, Need, Verdict, recorded, Violated, Met, AllMet, IsRecorded}
-use Rattle.cl_model.specs.Machine.{Setting, Step, May, state_after, Run, Answers, IsClosed, IsSound, Scheduled, step_for, after, AnswersPlan, AnswersReference, IsPlan, HasLineage, IsResolution}
+use Rattle.cl_model.specs.Tables.{Allows, Orderly, IsTrusted, Stands}
+use Rattle.cl_model.specs.Machine.{Define, Setting, Step, May, state_after, Run, Answers, IsClosed, IsSound, Scheduled, step_for, after, AnswersPlan, AnswersReference, IsPlan, HasLineage, IsResolution}
 
 -- a home is its own home
 abbrev pub HomeOfHome : Type 0
@@ -257,3 +258,23 @@ NextMayBeMade = (g : Setting) (s : State) (q : Request) (p : Plan) (n : Need) �
 -- the step of a need adds it
 abbrev pub StepAdds : Type 0
 StepAdds = (s : State) (n : Need) → after s (step_for n) ≡ added s n
+
+-- tables that were kept in order can be trusted
+abbrev pub OrderlyIsTrusted : Type 0
+OrderlyIsTrusted = (es : List Step) → Orderly start es → IsTrusted (state_after start es)
+
+-- a step that the tables allow keeps them so
+abbrev pub AllowedIsTrusted : Type 0
+AllowedIsTrusted = (s : State) (e : Step) → Allows s e → IsTrusted s → IsTrusted (after s e)
+
+-- tables in order stay so by a step that they allow
+abbrev pub OrderlyGoesOn : Type 0
+OrderlyGoesOn = (s : State) (es : List Step) (e : Step) → Orderly s es → Allows (state_after s es) e → Orderly s (es ++ e ∷ [])
+
+-- a run keeps the tables in order
+abbrev pub RunsAreOrderly : Type 0
+RunsAreOrderly = (g : Setting) (es : List Step) → Run g start es → Orderly start es
+
+-- a class is defined once
+abbrev pub DefinedOnce : Type 0
+DefinedOnce = (es fs : List Step) (c : Class) → Orderly start (es ++ Define c ∷ fs) → Stands es (Define c) ⊎ Stands fs (Define c) → ⊥

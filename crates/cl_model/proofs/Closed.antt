@@ -4,7 +4,7 @@ use Rattle.std.specs.List.{AllByRecursion}
 use Rattle.cl_classfile.specs.Files.{Name, File}
 use Rattle.cl_model.specs.Homes.{World, home}
 use Rattle.cl_model.specs.declared.class.Class.{Class}
-use Rattle.cl_model.specs.Classes.{class, Error, Above, superclass_of, superinterfaces_of, supers, HasFile, AtHome}
+use Rattle.cl_model.specs.Classes.{class, Error, Above, superclass_of, superinterfaces_of, supers, HasFile, AtHome, IsGood}
 use Rattle.cl_model.specs.Lineages.{Forest, Kin}
 use Rattle.cl_model.specs.States.{State, start, Record, Need, Entry, Met, AllMet, recorded, IsRecorded, added}
 use Rattle.cl_model.specs.Works.{Work, Made}
@@ -13,7 +13,7 @@ use Rattle.cl_model.specs.Machine.{Setting, Step, Define, Initiate, Constrain, S
 use Rattle.cl_model.proofs.Derived.{above_ok, derive_ok}
 use Rattle.cl_model.proofs.Runs.{IsLater, after_later, recorded_added}
 
-met_both : (s : State) (xs ys : List Need) → AllMet s xs → AllMet s ys → AllMet s (xs ++ ys)
+pub met_both : (s : State) (xs ys : List Need) → AllMet s xs → AllMet s ys → AllMet s (xs ++ ys)
 met_both s [] ys a b = b
 met_both s (x ∷ xs) ys a b = (a.0, met_both s xs ys a.1 b)
 
@@ -29,10 +29,10 @@ some_is : {A : Type 0} {x y : A} → Some x ≡ Some y → x ≡ y
 some_is e = cc
 
 -- a supertype's record stands
-abbrev Stands : World → State → Class → Above → Type 0
+abbrev pub Stands : World → State → Class → Above → Type 0
 Stands w s c a = AtHome w c (λ t. Met s (Entry c.loader a.name t.loader)) a.name
 
-initiating_met : (s : State) (loader place : ℕ) (name : Name) (b : Bool) → Met s (Entry loader name place) → AllMet s ((if b then [] else Entry loader name place ∷ []) ++ [])
+pub initiating_met : (s : State) (loader place : ℕ) (name : Name) (b : Bool) → Met s (Entry loader name place) → AllMet s ((if b then [] else Entry loader name place ∷ []) ++ [])
 initiating_met s loader place name true h = tt
 initiating_met s loader place name false h = (h, tt)
 
@@ -78,7 +78,7 @@ home_moved w loader place l p name n a b c h = subst (λ (x : ℕ). home w x n �
 record_moved : (rs : List Record) (place p : ℕ) (name n : Name) → name ≡ n → place ≡ p → recorded rs place name ≡ Some place → recorded rs p n ≡ Some p
 record_moved rs place p name n b c h = subst (λ (x : ℕ). recorded rs x n ≡ Some x) c (subst (λ (x : Name). recorded rs place x ≡ Some place) b h)
 
-own_moved : (s t : State) → IsLater s t → (loader place l p : ℕ) (name n : Name) → (loader ≡ place ⊎ (recorded s.records place name ≡ Some place)) → loader ≡ l → name ≡ n → place ≡ p → recorded t.records l n ≡ Some p → recorded t.records p n ≡ Some p
+pub own_moved : (s t : State) → IsLater s t → (loader place l p : ℕ) (name n : Name) → (loader ≡ place ⊎ (recorded s.records place name ≡ Some place)) → loader ≡ l → name ≡ n → place ≡ p → recorded t.records l n ≡ Some p → recorded t.records p n ≡ Some p
 own_moved s t later loader place l p name n (inl e) a b c h = subst (λ (x : ℕ). recorded t.records x n ≡ Some p) (sym a ∙ e ∙ c) h
 own_moved s t later loader place l p name n (inr q) a b c h = record_moved t.records place p name n b c (later.records place place name q)
 
@@ -86,30 +86,35 @@ own_moved s t later loader place l p name n (inr q) a b c h = record_moved t.rec
 closed_added : (w : World) (s : State) (loader place : ℕ) (name : Name) → IsClosed w s → home w loader name ≡ Some place
     → (loader ≡ place ⊎ (recorded s.records place name ≡ Some place))
     → IsLater s (added s (Entry loader name place))
+    → (loader ≡ place → IsGood w (class name place))
     → (loader ≡ place → (f : File) → HasFile w (class name place) f → AllByRecursion (Stands w s (class name place)) (supers f))
     → IsClosed w (added s (Entry loader name place))
-closed_added w s loader place name closed at_home own later above =
+closed_added w s loader place name closed at_home own later good above =
     let t = added s (Entry loader name place) in
     let r : Record = record { loader = loader; name = name; place = place } in
     record {
       homes = λ l p n h. elim (recorded_added s.records r l p n h) [ inl k ↦ closed.homes l p n k | inr k ↦ home_moved w loader place l p name n k.0 k.1 k.2 at_home ];
       own = λ l p n h. elim (recorded_added s.records r l p n h) [ inl k ↦ later.records p p n (closed.own l p n k) | inr k ↦ own_moved s t later loader place l p name n own k.0 k.1 k.2 h ];
+      good = λ c h. elim (recorded_added s.records r c.loader c.loader c.name h) [
+        | inl k ↦ closed.good c k
+        | inr k ↦ subst (λ (x : Class). IsGood w x) (class_is c name place k.1 k.2) (good (k.0 ∙ sym k.2))
+      ];
       above = λ c f h hf. elim (recorded_added s.records r c.loader c.loader c.name h) [
         | inl k ↦ stands_later w s t later c (supers f) (closed.above c f k hf)
         | inr k ↦ stands_later w s t later c (supers f) (subst (λ (x : Class). AllByRecursion (Stands w s x) (supers f)) (class_is c name place k.1 k.2) (above (k.0 ∙ sym k.2) f (subst (λ (x : Class). HasFile w x f) (sym (class_is c name place k.1 k.2)) hf)))
       ];
     }
 
-closed_after : (g : Setting) (s : State) (e : Step) → May g s e → IsClosed g.world s → IsClosed g.world (after s e)
+pub closed_after : (g : Setting) (s : State) (e : Step) → May g s e → IsClosed g.world s → IsClosed g.world (after s e)
 closed_after g s (Define c) may closed =
-    closed_added g.world s c.loader c.loader c.name closed may.at_home (inl refl) (after_later s (Define c)) (λ e f hf. subst (λ (x : File). AllByRecursion (Stands g.world s c) (supers x)) (file_same may.file f _ may.has_file hf) may.above)
+    closed_added g.world s c.loader c.loader c.name closed may.at_home (inl refl) (after_later s (Define c)) (λ e. may.good) (λ e f hf. subst (λ (x : File). AllByRecursion (Stands g.world s c) (supers x)) (file_same may.file f _ may.has_file hf) may.above)
 closed_after g s (Initiate name place loader) may closed =
-    closed_added g.world s loader place name closed may.found (inr may.defined) (after_later s (Initiate name place loader)) (λ e f hf. absurd (may.not_own e))
-closed_after g s (Constrain name a b) may closed = record { homes = closed.homes; own = closed.own; above = closed.above }
-closed_after g s (Settle d i v) may closed = record { homes = closed.homes; own = closed.own; above = closed.above }
-closed_after g s (Prepare c) may closed = record { homes = closed.homes; own = closed.own; above = closed.above }
-closed_after g s (Post q a) may closed = record { homes = closed.homes; own = closed.own; above = closed.above }
-closed_after g s NextRound may closed = record { homes = closed.homes; own = closed.own; above = closed.above }
+    closed_added g.world s loader place name closed may.found (inr may.defined) (after_later s (Initiate name place loader)) (λ e. absurd (may.not_own e)) (λ e f hf. absurd (may.not_own e))
+closed_after g s (Constrain name a b) may closed = record { homes = closed.homes; own = closed.own; good = closed.good; above = closed.above }
+closed_after g s (Settle d i v) may closed = record { homes = closed.homes; own = closed.own; good = closed.good; above = closed.above }
+closed_after g s (Prepare c) may closed = record { homes = closed.homes; own = closed.own; good = closed.good; above = closed.above }
+closed_after g s (Post q a) may closed = record { homes = closed.homes; own = closed.own; good = closed.good; above = closed.above }
+closed_after g s NextRound may closed = record { homes = closed.homes; own = closed.own; good = closed.good; above = closed.above }
 closed_after g s Stray may closed = absurd may
 
 closed_run : (g : Setting) (s : State) (es : List Step) → IsClosed g.world s → Run g s es → IsClosed g.world (state_after s es)
@@ -119,9 +124,13 @@ closed_run g s (e ∷ es) closed run = closed_run g (after s e) es (closed_after
 no_record : {x : ℕ} → None ≡ Some x → ⊥
 no_record h = cc
 
-pub runs_are_closed : (g : Setting) (es : List Step) → Run g start es → IsClosed g.world (state_after start es)
-runs_are_closed g es run = closed_run g start es (record {
+pub start_closed : (w : World) → IsClosed w start
+start_closed w = record {
   homes = λ l p n h. absurd (no_record h);
   own = λ l p n h. absurd (no_record h);
+  good = λ c h. absurd (no_record h);
   above = λ c f h k. absurd (no_record h);
-}) run
+}
+
+pub runs_are_closed : (g : Setting) (es : List Step) → Run g start es → IsClosed g.world (state_after start es)
+runs_are_closed g es run = closed_run g start es (start_closed g.world) run

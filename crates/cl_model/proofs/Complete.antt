@@ -11,64 +11,31 @@ use Rattle.cl_model.specs.Lineages.{Bare, Tree, Kin}
 use Rattle.cl_model.specs.States.{Need, Entry}
 use Rattle.cl_model.specs.Works.{Work, Made, Ask, done, need, ask, or_fail, unless_wrong, of_result, after_made, go_on, ◌>>=◌}
 use Rattle.cl_model.specs.Plans.{initiating, load_by, loads_above, derive_new, derive}
+use Rattle.cl_model.proofs.Bind.{Ends, then_ends, ill_ends, at_once, or_fail_ends, unless_ends}
 use Rattle.cl_model.proofs.Heights.{Reaches, derive_reaches, loaded, found, sought, grown, others_after, checked, finished, interfaces_next, superclass_next, circle_or}
 use Rattle.cl_model.proofs.Derived.{derive_yields, load_ok}
 use Rattle.cl_model.proofs.Closed.{all_left, all_right}
 use Rattle.cl_model.proofs.Runs.{names_equal, and_is}
 
--- work ends so
-pub record Ends {A : Type 0} (a : Work A) (r : Result A Error) : Type 0 where
-  pub made : Made A
-  pub is : a ≡ Some made
-  pub ends : made.ends ≡ r
-
-same_value : {A : Type 0} (x y : A) (r : Result A Error) → r ≡ Ok x → r ≡ Ok y → x ≡ y
-same_value x y r h k = cc
-
-same_error : {A : Type 0} (x y : Error) (r : Result A Error) → r ≡ Err x → r ≡ Err y → x ≡ y
-same_error x y r h k = cc
-
-not_both : {A : Type 0} (x : A) (y : Error) (r : Result A Error) → r ≡ Ok x → r ≡ Err y → ⊥
-not_both x y r h k = cc
-
-go_well : {A B : Type 0} (ns : List Need) (asked : List Ask) (ends : Result A Error) (f : A → Work B) (x : A) (r : Result B Error) → ends ≡ Ok x → Ends (f x) r → Ends (go_on ns asked ends f) r
-go_well ns asked (Err e) f x r h k = absurd (not_both x e (Err e) h refl)
-go_well {A = A} {B = B} ns asked (Ok y) f x r h k =
-    let same : y ≡ x = same_value y x (Ok y) refl h in
-    record { made = after_made ns asked k.made; is = ap (λ (z : A). option_map (after_made ns asked) (f z)) same ∙ ap (λ (z : Work B). option_map (after_made ns asked) z) k.is; ends = k.ends }
-
-then_ends : {A B : Type 0} (a : Work A) (f : A → Work B) (x : A) (r : Result B Error) → Ends a (Ok x) → Ends (f x) r → Ends (a >>= f) r
-then_ends a f x r h k = subst (λ (z : Work _). Ends (z >>= f) r) (sym h.is) (go_well h.made.needs h.made.asked h.made.ends f x r h.ends k)
-
-go_ill : {A B : Type 0} (ns : List Need) (asked : List Ask) (ends : Result A Error) (f : A → Work B) (e : Error) → ends ≡ Err e → Ends (go_on ns asked ends f) (Err e)
-go_ill ns asked (Err d) f e h = record { made = record { needs = ns; asked = asked; ends = Err d }; is = refl; ends = ap (λ (x : Error). Err x) (same_error d e (Err d) refl h) }
-go_ill ns asked (Ok y) f e h = absurd (not_both y e (Ok y) refl h)
-
-ill_ends : {A B : Type 0} (a : Work A) (f : A → Work B) (e : Error) → Ends a (Err e) → Ends (a >>= f) (Err e)
-ill_ends a f e h = subst (λ (z : Work _). Ends (z >>= f) (Err e)) (sym h.is) (go_ill h.made.needs h.made.asked h.made.ends f e h.ends)
-
-at_once : {A : Type 0} (m : Made A) → Ends (Some m) m.ends
-at_once m = record { made = m; is = refl; ends = refl }
-
 -- a number up to another
-abbrev Upto : ℕ → ℕ → Type 0
+abbrev pub Upto : ℕ → ℕ → Type 0
 Upto h zero = h ≡ zero
 Upto h (suc m) = (h ≡ suc m) ⊎ Upto h m
 
-upto_self : (n : ℕ) → Upto n n
+pub upto_self : (n : ℕ) → Upto n n
 upto_self zero = refl
 upto_self (suc n) = inl refl
 
-upto_then : (h m n : ℕ) → Upto h m → Upto m n → Upto h n
+pub upto_then : (h m n : ℕ) → Upto h m → Upto m n → Upto h n
 upto_then h m zero a b = subst (λ (x : ℕ). Upto h x) b a
 upto_then h m (suc n) a b = elim b [ inl e ↦ subst (λ (x : ℕ). Upto h x) e a | inr k ↦ inr (upto_then h m n a k) ]
 
-higher : (w : World) (path : List Class) (c : Class) (h n : ℕ) → Upto h n → Reaches (derive w h path c) (derive w n path c)
+pub higher : (w : World) (path : List Class) (c : Class) (h n : ℕ) → Upto h n → Reaches (derive w h path c) (derive w n path c)
 higher w path c h zero u m e = subst (λ (x : ℕ). derive w x path c ≡ Some m) u e
 higher w path c h (suc n) u m e = elim u [ inl k ↦ subst (λ (x : ℕ). derive w x path c ≡ Some m) k e | inr k ↦ derive_reaches w n path c m (higher w path c h n k m e) ]
 
 -- it ends well, or at a class of these that is good up to a height
-abbrev Either : {A : Type 0} → World → ℕ → List Class → Work A → Type 0
+abbrev pub Either : {A : Type 0} → World → ℕ → List Class → Work A → Type 0
 Either {A} w n path a = ((x : A) × Ends a (Ok x)) ⊎ ((x : Class) × (h : ℕ) × Ends a (Err (ClassCircularity x)) × (is_among path x ≡ true) × Upto h n × Good w h x)
 
 either_then : {A B : Type 0} (w : World) (n : ℕ) (path : List Class) (a : Work A) (f : A → Work B) → Either w n path a → ((x : A) → Ends a (Ok x) → Either w n path (f x)) → Either w n path (a >>= f)
@@ -79,13 +46,13 @@ either_then w n path a f (inl h) k = elim (k h.0 h.1) [
 ]
 
 -- what is derived below
-abbrev Derives : World → ℕ → List Class → (Class → Work Kin) → ℕ → Type 0
+abbrev pub Derives : World → ℕ → List Class → (Class → Work Kin) → ℕ → Type 0
 Derives w n path d m = (s : Class) → Good w m s → Either w n path (d s)
 
-abbrev Tells : World → (Class → Work Kin) → Type 0
+abbrev pub Tells : World → (Class → Work Kin) → Type 0
 Tells w d = (s : Class) (m : Made Kin) (k : Kin) → d s ≡ Some m → m.ends ≡ Ok k → (k.class ≡ s) × HasFile w s k.file
 
-some_place : {x y : ℕ} → Some x ≡ Some y → x ≡ y
+pub some_place : {x y : ℕ} → Some x ≡ Some y → x ≡ y
 some_place e = cc
 
 then_either : {A B : Type 0} (w : World) (n : ℕ) (path : List Class) (a : Work A) (f : A → Work B) (x : A) → Ends a (Ok x) → Either w n path (f x) → Either w n path (a >>= f)
@@ -94,27 +61,21 @@ then_either w n path a f x e h = elim h [
   | inr r ↦ inr (r.0, r.1, then_ends a f x (Err (ClassCircularity r.0)) e r.2, r.3, r.4, r.5)
 ]
 
-or_fail_ends : {A : Type 0} (e : Error) (o : Option A) (x : A) → o ≡ Some x → Ends (or_fail e o) (Ok x)
-or_fail_ends {A} e o x h = subst (λ (z : Option A). Ends (or_fail e z) (Ok x)) (sym h) (at_once _)
-
-unless_ends : (o : Option Error) → o ≡ None → Ends (unless_wrong o) (Ok tt)
-unless_ends o h = subst (λ (z : Option Error). Ends (unless_wrong z) (Ok tt)) (sym h) (at_once _)
-
-load_either : (w : World) (n m : ℕ) (path : List Class) (d : Class → Work Kin) → Derives w n path d m → (absent : Class → Error) (loader : ℕ) (name : Name) (place : ℕ) → home w loader name ≡ Some place → Good w m (class name place) → Either w n path (load_by w d absent loader name)
+pub load_either : (w : World) (n m : ℕ) (path : List Class) (d : Class → Work Kin) → Derives w n path d m → (absent : Class → Error) (loader : ℕ) (name : Name) (place : ℕ) → home w loader name ≡ Some place → Good w m (class name place) → Either w n path (load_by w d absent loader name)
 load_either w n m path d ih absent loader name place f g =
     then_either w n path (ask loader name) (sought w d absent loader name) tt (at_once _)
     (then_either w n path (or_fail (absent (class name loader)) (home w loader name)) (found w d loader name) place (or_fail_ends (absent (class name loader)) (home w loader name) place f)
     (either_then w n path (d (class name place)) (loaded w loader name place) (ih (class name place) g) (λ k e.
     inl (k, then_ends (need (initiating loader name place)) (λ (b : Unit {0}). done k) tt (Ok k) (at_once _) (at_once _)))))
 
-file_is : (x y : File) (r : Result File Error) → r ≡ Ok x → r ≡ Ok y → x ≡ y
+pub file_is : (x y : File) (r : Result File Error) → r ≡ Ok x → r ≡ Ok y → x ≡ y
 file_is x y r h k = cc
 
-fits_still : (w : World) (c : Class) (a : Above) (s : Class) (k : Kin) → Fitting w c a.role None s → k.class ≡ s → HasFile w s k.file → misfit c a.role k.class k.file ≡ None
+pub fits_still : (w : World) (c : Class) (a : Above) (s : Class) (k : Kin) → Fitting w c a.role None s → k.class ≡ s → HasFile w s k.file → misfit c a.role k.class k.file ≡ None
 fits_still w c a s k fit e h =
     ap (λ (x : Class). misfit c a.role x k.file) e ∙ ap (λ (x : File). misfit c a.role s x) (file_is k.file fit.file (file_of w s) h fit.has_file) ∙ fit.judged
 
-above_either : (w : World) (n m : ℕ) (path : List Class) (d : Class → Work Kin) → Derives w n path d m → Tells w d → (c : Class) (others : List Above) → AllByRecursion (FitsAt w c (Good w m)) others → Either w n path (loads_above w d c others)
+pub above_either : (w : World) (n m : ℕ) (path : List Class) (d : Class → Work Kin) → Derives w n path d m → Tells w d → (c : Class) (others : List Above) → AllByRecursion (FitsAt w c (Good w m)) others → Either w n path (loads_above w d c others)
 above_either w n m path d ih tells c [] all = inl (Bare, at_once _)
 above_either w n m path d ih tells c (a ∷ others) all =
     either_then w n path (load_by w d NoClassDef c.loader a.name) (checked w d c a others) (load_either w n m path d ih NoClassDef c.loader a.name all.0.place all.0.found all.0.holds.0) (λ k e.
@@ -139,26 +100,26 @@ upto_pred n (suc m) h = elim h [ inl e ↦ inr (let same : n ≡ m = suc_is n m 
     suc_is : (a b : ℕ) → suc a ≡ suc b → a ≡ b
     suc_is a b e = cc
 
-upto_less : (n b : ℕ) → Upto (suc n) (suc b) → Upto n b
+pub upto_less : (n b : ℕ) → Upto (suc n) (suc b) → Upto n b
 upto_less n b h = elim h [ inl e ↦ (let same : n ≡ b = cc in subst (λ (x : ℕ). Upto n x) same (upto_self n)) | inr k ↦ upto_pred n b k ]
 
-is_class : (x c : Class) → same_class x c ≡ true → x ≡ c
+pub is_class : (x c : Class) → same_class x c ≡ true → x ≡ c
 is_class x c h =
     let both : (same_name x.name c.name ≡ true) × ((x.loader == c.loader) ≡ true) = and_is (same_name x.name c.name) (x.loader == c.loader) h in
     ap (λ (n : Name). class n x.loader) (names_equal x.name c.name both.0) ∙ ap (λ (l : ℕ). class c.name l) (eqb-true x.loader c.loader both.1)
 
 -- of two tests one holds
-or_true : (a b : Bool) → (a || b) ≡ true → (a ≡ true) ⊎ (b ≡ true)
+pub or_true : (a b : Bool) → (a || b) ≡ true → (a ≡ true) ⊎ (b ≡ true)
 or_true true b h = inl refl
 or_true false b h = inr h
 
 -- the whole derivation ends as the new one does, where the class is not met again
-passed : (w : World) (n : ℕ) (path : List Class) (c : Class) (r : Result Kin Error) → is_among path c ≡ false → Ends (derive_new w (derive w n (c ∷ path)) c) r → Ends (derive w (suc n) path c) r
+pub passed : (w : World) (n : ℕ) (path : List Class) (c : Class) (r : Result Kin Error) → is_among path c ≡ false → Ends (derive_new w (derive w n (c ∷ path)) c) r → Ends (derive w (suc n) path c) r
 passed w n path c r e h =
     then_ends (ask c.loader c.name) (λ (a : Unit {0}). circle_or c (derive_new w (derive w n (c ∷ path)) c) (is_among path c)) tt r (at_once _)
     (subst (λ (t : Bool). Ends (circle_or c (derive_new w (derive w n (c ∷ path)) c) t) r) (sym e) h)
 
-circled : (w : World) (n : ℕ) (path : List Class) (c : Class) → is_among path c ≡ true → Ends (derive w (suc n) path c) (Err (ClassCircularity c))
+pub circled : (w : World) (n : ℕ) (path : List Class) (c : Class) → is_among path c ≡ true → Ends (derive w (suc n) path c) (Err (ClassCircularity c))
 circled w n path c e =
     then_ends (ask c.loader c.name) (λ (a : Unit {0}). circle_or c (derive_new w (derive w n (c ∷ path)) c) (is_among path c)) tt (Err (ClassCircularity c)) (at_once _)
     (subst (λ (t : Bool). Ends (circle_or c (derive_new w (derive w n (c ∷ path)) c) t) (Err (ClassCircularity c))) (sym e) (at_once _))

@@ -6,64 +6,12 @@ use Rattle.cl_classfile.specs.Files.{Name, File}
 use Rattle.cl_model.specs.Homes.{World, home}
 use Rattle.cl_model.specs.declared.class.Class.{Class}
 use Rattle.cl_model.specs.Classes.{class, Error, Above, is_among, NoClassDef, ClassCircularity, file_of, misfit, superclass_of, superinterfaces_of, HasFile, FitsAt, Good}
-use Rattle.cl_model.specs.Lineages.{Forest, Kin}
+use Rattle.cl_model.specs.Lineages.{Forest, Tree, Kin}
 use Rattle.cl_model.specs.States.{Need, Entry}
 use Rattle.cl_model.specs.Works.{Work, Made, done, need, ask, or_fail, unless_wrong, of_result, after_made, go_on, ◌>>=◌}
 use Rattle.cl_model.specs.Plans.{initiating, load_by, loads_above, derive_new, derive}
+use Rattle.cl_model.proofs.Bind.{ok_same, Bound, bind_ok, ok_not_err, step_is, or_fail_ok, unless_ok, result_ok, done_is, needs_two}
 use Rattle.cl_model.proofs.Heights.{loaded, found, sought, grown, others_after, checked, finished, interfaces_next, superclass_next, circle_or}
-
--- work that ends well is two pieces that do
-pub record Bound {A B : Type 0} (a : Work A) (f : A → Work B) (m : Made B) (b : B) : Type 0 where
-  pub first : Made A
-  pub value : A
-  pub second : Made B
-  pub made : a ≡ Some first
-  pub ended : first.ends ≡ Ok value
-  pub next : f value ≡ Some second
-  pub ends : second.ends ≡ Ok b
-  pub needs : m.needs ≡ first.needs ++ second.needs
-
-ok_not_err : {B : Type 0} (r : Result B Error) (b : B) (e : Error) → r ≡ Ok b → r ≡ Err e → ⊥
-ok_not_err r b e h k = cc
-
-some_same : {A : Type 0} (x y : A) → Some x ≡ Some y → x ≡ y
-some_same x y h = cc
-
-go_ok : {A B : Type 0} (first : Made A) (ends : Result A Error) (f : A → Work B) (m : Made B) (b : B) → first.ends ≡ ends → go_on first.needs first.asked ends f ≡ Some m → m.ends ≡ Ok b → Bound (Some first) f m b
-go_ok first (Err e) f m b is h k = absurd (ok_not_err m.ends b e k (ap (λ (x : Made _). x.ends) (sym (some_same _ _ h))))
-go_ok {B = B} first (Ok x) f m b is h k = mapped (f x) refl h
-  where
-    mapped : (y : Work B) → f x ≡ y → option_map (after_made first.needs first.asked) y ≡ Some m → Bound (Some first) f m b
-    mapped None e h2 = absurd cc
-    mapped (Some y) e h2 =
-        let same : after_made first.needs first.asked y ≡ m = some_same _ _ h2 in
-        record { first = first; value = x; second = y; made = refl; ended = is; next = e; ends = ap (λ (z : Made B). z.ends) same ∙ k; needs = ap (λ (z : Made B). z.needs) (sym same) }
-
-pub bind_ok : {A B : Type 0} (a : Work A) (f : A → Work B) (m : Made B) (b : B) → (a >>= f) ≡ Some m → m.ends ≡ Ok b → Bound a f m b
-bind_ok None f m b h k = absurd cc
-bind_ok (Some first) f m b h k = go_ok first first.ends f m b refl h k
-
--- the needs and the end of a single step
-needs_are : {A : Type 0} (x y : Made A) → Some x ≡ Some y → (y.needs ≡ x.needs) × (y.ends ≡ x.ends)
-needs_are x y h = (ap (λ (z : Made _). z.needs) (sym (some_same x y h)), ap (λ (z : Made _). z.ends) (sym (some_same x y h)))
-
-ok_same : {A : Type 0} (x y : A) (r : Result A Error) → r ≡ Ok x → r ≡ Ok y → x ≡ y
-ok_same x y r h k = cc
-
-or_fail_ok : {A : Type 0} (e : Error) (o : Option A) (m : Made A) (x : A) → or_fail e o ≡ Some m → m.ends ≡ Ok x → (o ≡ Some x) × (m.needs ≡ [])
-or_fail_ok e None m x h k = absurd (ok_not_err m.ends x e k (needs_are _ m h).1)
-or_fail_ok e (Some y) m x h k = (ap (λ (z : _). Some z) (ok_same y x m.ends (needs_are _ m h).1 k), (needs_are _ m h).0)
-
-unless_ok : (o : Option Error) (m : Made (Unit {0})) (x : Unit {0}) → unless_wrong o ≡ Some m → m.ends ≡ Ok x → (o ≡ None) × (m.needs ≡ [])
-unless_ok None m x h k = (refl, (needs_are _ m h).0)
-unless_ok (Some e) m x h k = absurd (ok_not_err m.ends x e k (needs_are _ m h).1)
-
-result_ok : {A : Type 0} (r : Result A Error) (m : Made A) (x : A) → of_result r ≡ Some m → m.ends ≡ Ok x → (r ≡ Ok x) × (m.needs ≡ [])
-result_ok r m x h k = (sym (needs_are _ m h).1 ∙ k, (needs_are _ m h).0)
-
--- needs in two parts, each of which is known
-needs_two : (m a b x y : List Need) → m ≡ a ++ b → a ≡ x → b ≡ y → m ≡ x ++ y
-needs_two m a b x y h p q = cc
 
 -- a load that ends well
 pub record IsLoad (w : World) (d : Class → Work Kin) (loader : ℕ) (name : Name) (m : Made Kin) (k : Kin) : Type 0 where
@@ -74,9 +22,6 @@ pub record IsLoad (w : World) (d : Class → Work Kin) (loader : ℕ) (name : Na
   pub ends : below.ends ≡ Ok k
   pub needs : m.needs ≡ below.needs ++ (initiating loader name place ++ [])
 
-kin_same : (x y : Kin) (m : Made Kin) → done x ≡ Some m → m.ends ≡ Ok y → (x ≡ y) × (m.needs ≡ [])
-kin_same x y m h k = (ok_same x y m.ends (needs_are _ m h).1 k, (needs_are _ m h).0)
-
 joined_needs : (m a b : List Need) → m ≡ a ++ b → a ≡ [] → m ≡ b
 joined_needs m a b h e = cc
 
@@ -86,22 +31,22 @@ load_ok w d absent loader name m k h e =
     let at = bind_ok (or_fail (absent (class name loader)) (home w loader name)) (found w d loader name) asked.second k asked.next asked.ends in
     let derived = bind_ok (d (class name at.value)) (loaded w loader name at.value) at.second k at.next at.ends in
     let recorded_at = bind_ok (need (initiating loader name at.value)) (λ (b : Unit {0}). done derived.value) derived.second k derived.next derived.ends in
-    let same = kin_same derived.value k recorded_at.second recorded_at.next recorded_at.ends in
+    let same = done_is derived.value k recorded_at.second recorded_at.next recorded_at.ends in
     let place = or_fail_ok (absent (class name loader)) (home w loader name) at.first at.value at.made at.ended in
-    let last : derived.second.needs ≡ initiating loader name at.value ++ [] = needs_two derived.second.needs recorded_at.first.needs recorded_at.second.needs (initiating loader name at.value) [] recorded_at.needs (needs_are _ recorded_at.first recorded_at.made).0 same.1 in
+    let last : derived.second.needs ≡ initiating loader name at.value ++ [] = needs_two derived.second.needs recorded_at.first.needs recorded_at.second.needs (initiating loader name at.value) [] recorded_at.needs (step_is _ recorded_at.first recorded_at.made).0 same.1 in
     record {
       place = at.value;
       found = place.0;
       below = derived.first;
       made = derived.made;
       ends = derived.ended ∙ ap (λ (x : Kin). Ok x) same.0;
-      needs = joined_needs m.needs asked.first.needs asked.second.needs asked.needs ((needs_are _ asked.first asked.made).0)
+      needs = joined_needs m.needs asked.first.needs asked.second.needs asked.needs ((step_is _ asked.first asked.made).0)
           ∙ joined_needs asked.second.needs at.first.needs at.second.needs at.needs place.1
           ∙ derived.needs ∙ ap (λ (x : List Need). derived.first.needs ++ x) last;
     }
 
 -- the loads of supertypes that end well: the first, and those of the others
-pub record IsAbove (w : World) (d : Class → Work Kin) (c : Class) (a : Above) (others : List Above) (m : Made Forest) : Type 0 where
+pub record IsAbove (w : World) (d : Class → Work Kin) (c : Class) (a : Above) (others : List Above) (m : Made Forest) (fs : Forest) : Type 0 where
   pub one : Made Kin
   pub kin : Kin
   pub load : IsLoad w d c.loader a.name one kin
@@ -110,9 +55,10 @@ pub record IsAbove (w : World) (d : Class → Work Kin) (c : Class) (a : Above) 
   pub forest : Forest
   pub made : loads_above w d c others ≡ Some rest
   pub ends : rest.ends ≡ Ok forest
+  pub grows : Tree kin.class kin.file kin.superclass kin.interfaces forest ≡ fs
   pub needs : m.needs ≡ one.needs ++ (rest.needs ++ [])
 
-pub above_ok : (w : World) (d : Class → Work Kin) (c : Class) (a : Above) (others : List Above) (m : Made Forest) (fs : Forest) → loads_above w d c (a ∷ others) ≡ Some m → m.ends ≡ Ok fs → IsAbove w d c a others m
+pub above_ok : (w : World) (d : Class → Work Kin) (c : Class) (a : Above) (others : List Above) (m : Made Forest) (fs : Forest) → loads_above w d c (a ∷ others) ≡ Some m → m.ends ≡ Ok fs → IsAbove w d c a others m fs
 above_ok w d c a others m fs h e =
     let one = bind_ok (load_by w d NoClassDef c.loader a.name) (checked w d c a others) m fs h e in
     let test = bind_ok (unless_wrong (misfit c a.role one.value.class one.value.file)) (others_after w d c others one.value) one.second fs one.next one.ends in
@@ -127,7 +73,8 @@ above_ok w d c a others m fs h e =
       forest = rest.value;
       made = rest.made;
       ends = rest.ended;
-      needs = one.needs ∙ ap (λ (x : List Need). one.first.needs ++ x) (joined_needs one.second.needs test.first.needs test.second.needs test.needs fit.1 ∙ rest.needs ∙ ap (λ (x : List Need). rest.first.needs ++ x) ((needs_are _ rest.second rest.next).0));
+      grows = ok_same (Tree one.value.class one.value.file one.value.superclass one.value.interfaces rest.value) fs rest.second.ends (step_is _ rest.second rest.next).1 rest.ends;
+      needs = one.needs ∙ ap (λ (x : List Need). one.first.needs ++ x) (joined_needs one.second.needs test.first.needs test.second.needs test.needs fit.1 ∙ rest.needs ∙ ap (λ (x : List Need). rest.first.needs ++ x) ((step_is _ rest.second rest.next).0));
     }
 
 -- a derivation that ends well
@@ -152,8 +99,8 @@ new_ok w d c m k h e =
     let up = bind_ok (loads_above w d c (superclass_of read.value)) (interfaces_next w d c read.value) read.second k read.next read.ends in
     let over = bind_ok (loads_above w d c (superinterfaces_of read.value)) (finished c read.value up.value) up.second k up.next up.ends in
     let last = bind_ok (need (Entry c.loader c.name c.loader ∷ [])) (λ (b : Unit {0}). done (record { class = c; file = read.value; superclass = up.value; interfaces = over.value })) over.second k over.next over.ends in
-    let same = kin_same (record { class = c; file = read.value; superclass = up.value; interfaces = over.value }) k last.second last.next last.ends in
-    let tail : over.second.needs ≡ Entry c.loader c.name c.loader ∷ [] = needs_two over.second.needs last.first.needs last.second.needs (Entry c.loader c.name c.loader ∷ []) [] last.needs (needs_are _ last.first last.made).0 same.1 in
+    let same = done_is (record { class = c; file = read.value; superclass = up.value; interfaces = over.value }) k last.second last.next last.ends in
+    let tail : over.second.needs ≡ Entry c.loader c.name c.loader ∷ [] = needs_two over.second.needs last.first.needs last.second.needs (Entry c.loader c.name c.loader ∷ []) [] last.needs (step_is _ last.first last.made).0 same.1 in
     record {
       file = read.value;
       has_file = file.0;
@@ -170,7 +117,7 @@ new_ok w d c m k h e =
     }
 
 circle_ok : (c : Class) (a : Work Kin) (t : Bool) (m : Made Kin) (k : Kin) → circle_or c a t ≡ Some m → m.ends ≡ Ok k → a ≡ Some m
-circle_ok c a true m k h e = absurd (ok_not_err m.ends k (ClassCircularity c) e (needs_are _ m h).1)
+circle_ok c a true m k h e = absurd (ok_not_err k (ClassCircularity c) m.ends e (step_is _ m h).1)
 circle_ok c a false m k h e = h
 
 -- a derivation within a height is a new one, over those within the height below
@@ -185,7 +132,7 @@ derive_ok w n path c m k h e =
     record {
       inner = asked.second;
       new = new_ok w (derive w n (c ∷ path)) c asked.second k (circle_ok c (derive_new w (derive w n (c ∷ path)) c) (is_among path c) asked.second k asked.next asked.ends) asked.ends;
-      needs = joined_needs m.needs asked.first.needs asked.second.needs asked.needs ((needs_are _ asked.first asked.made).0);
+      needs = joined_needs m.needs asked.first.needs asked.second.needs asked.needs ((step_is _ asked.first asked.made).0);
     }
 
 -- ---- what derives is good
@@ -195,10 +142,10 @@ all_both P [] ys a b = b
 all_both P (x ∷ xs) ys a b = (a.0, all_both P xs ys a.1 b)
 
 -- what a derivation gives: the class itself, with its file
-abbrev Yields : World → (Class → Work Kin) → (Class → Type 0) → Type 0
+abbrev pub Yields : World → (Class → Work Kin) → (Class → Type 0) → Type 0
 Yields w d P = (s : Class) (m : Made Kin) (k : Kin) → d s ≡ Some m → m.ends ≡ Ok k → P s × (k.class ≡ s) × HasFile w s k.file
 
-above_good : (w : World) (d : Class → Work Kin) (P : Class → Type 0) → Yields w d P → (c : Class) (others : List Above) (m : Made Forest) (fs : Forest) → loads_above w d c others ≡ Some m → m.ends ≡ Ok fs → AllByRecursion (FitsAt w c P) others
+pub above_good : (w : World) (d : Class → Work Kin) (P : Class → Type 0) → Yields w d P → (c : Class) (others : List Above) (m : Made Forest) (fs : Forest) → loads_above w d c others ≡ Some m → m.ends ≡ Ok fs → AllByRecursion (FitsAt w c P) others
 above_good w d P y c [] m fs h e = tt
 above_good w d P y c (a ∷ others) m fs h e =
     let one = above_ok w d c a others m fs h e in

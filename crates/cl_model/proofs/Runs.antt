@@ -1,13 +1,14 @@
 -- What runs keep.
-use Rattle.std.proofs.Common.{◌≡◌, ◌⊎◌, inl, inr, ℕ, zero, suc, Bool, true, false, ◌==◌, ◌&&◌, if◌then◌else◌, List, [], ◌∷◌, ◌++◌, Option, Some, None, refl, sym, subst, ◌∙◌}
+use Rattle.std.proofs.Common.{◌≡◌, ◌⊎◌, inl, inr, ℕ, zero, suc, Bool, true, false, ◌==◌, ◌&&◌, if◌then◌else◌, List, [], ◌∷◌, ◌++◌, Option, Some, None, refl, sym, ap, subst, ◌∙◌}
 use Rattle.std.specs.Prelude.{find, option_map, Contains}
 use Rattle.std.specs.Option.{option_or}
 use Rattle.std.proofs.lemmas.List.Folds.{find-append}
-use Rattle.std.proofs.lemmas.List.Elements.{Contains-append_left, Contains-append_cases}
+use Rattle.std.proofs.lemmas.List.Elements.{Contains-append_left, Contains-append_right, Contains-append_cases}
 use Rattle.std.proofs.lemmas.Bool.{eqb-true}
 use Rattle.std.proofs.Common.{nat_eq, ◌≢◌, ◌<◌, arith, slice_index_or}
+use Rattle.std.proofs.lemmas.Cmp.{nat_eq_equiv, nat_list_eq_equiv}
 use Rattle.cl_classfile.specs.Files.{Name, same_name}
-use Rattle.cl_model.specs.States.{State, start, Record, Equality, Need, Entry, Equal, Verdict, recorded, Linked, IsPath, Joined, Violated, Met, Differs, Divides, Clashes, Refused, added}
+use Rattle.cl_model.specs.States.{State, start, Record, Equality, Need, Entry, Equal, Verdict, recorded, Linked, IsPath, Joined, Violated, Met, Differs, Divides, Clashes, Refused, added, IsFresh}
 use Rattle.cl_model.specs.Machine.{Setting, Step, Define, Initiate, Constrain, Settle, Prepare, Post, NextRound, Stray, May, after, state_after, Run, Answers}
 
 pub run_goes_on : (g : Setting) (s : State) (es : List Step) (e : Step) → Run g s es → May g (state_after s es) e → Run g s (es ++ e ∷ [])
@@ -19,7 +20,7 @@ pub record IsLater (s t : State) : Type 0 where
   pub records : (loader place : ℕ) (name : Name) → recorded s.records loader name ≡ Some place → recorded t.records loader name ≡ Some place
   pub equalities : (e : Equality) → Contains s.equalities e → Contains t.equalities e
 
-or_map : {A B : Type 0} (f : A → B) (a b : Option A) (y : B) → option_map f a ≡ Some y → option_map f (option_or a b) ≡ Some y
+pub or_map : {A B : Type 0} (f : A → B) (a b : Option A) (y : B) → option_map f a ≡ Some y → option_map f (option_or a b) ≡ Some y
 or_map f None b y h = absurd cc
 or_map f (Some x) b y h = h
 
@@ -60,7 +61,7 @@ path_later s t l name a [] b h = h
 path_later s t l name a (c ∷ cs) b h =
     (record { equality = h.0.equality; imposed = l.equalities h.0.equality h.0.imposed; named = h.0.named; ends = h.0.ends }, path_later s t l name c cs b h.1)
 
-joined_later : (s t : State) → IsLater s t → (name : Name) (a b : ℕ) → Joined s.equalities name a b → Joined t.equalities name a b
+pub joined_later : (s t : State) → IsLater s t → (name : Name) (a b : ℕ) → Joined s.equalities name a b → Joined t.equalities name a b
 joined_later s t l name a b h = record { path = h.path; along = path_later s t l name a h.path b h.along }
 
 pub met_later : (s t : State) → IsLater s t → (n : Need) → Met s n → Met t n
@@ -71,7 +72,7 @@ pub met_stays : (s : State) (es : List Step) (n : Need) → Met s n → Met (sta
 met_stays s es n h = met_later s (state_after s es) (run_later s es) n h
 
 -- what violates a state violates one with the same records and equalities
-violated_as : (s t : State) → s.records ≡ t.records → s.equalities ≡ t.equalities → Violated t → Violated s
+pub violated_as : (s t : State) → s.records ≡ t.records → s.equalities ≡ t.equalities → Violated t → Violated s
 violated_as s t r e v =
     record {
       name = v.name;
@@ -116,13 +117,13 @@ differs_later : (s t : State) → IsLater s t → (name : Name) (loader place : 
 differs_later s t l name loader place h =
     record { other = h.other; other_place = h.other_place; joined = joined_later s t l name loader h.other h.joined; recorded_there = l.records h.other h.other_place name h.recorded_there; differ = h.differ }
 
-clash_later : (s t : State) → IsLater s t → (n : Need) → Clashes s n → Clashes t n
+pub clash_later : (s t : State) → IsLater s t → (n : Need) → Clashes s n → Clashes t n
 clash_later s t l (Entry loader name place) h = differs_later s t l name loader place h
 clash_later s t l (Equal name a b) h =
     record { one = h.one; place = h.place; joined = joined_later s t l name a h.one h.joined; recorded_there = l.records h.one h.place name h.recorded_there; differs = differs_later s t l name b h.place h.differs }
 
 -- a need that is met and clashes violates
-met_clash : (s : State) (n : Need) → Met s n → Clashes s n → Violated s
+pub met_clash : (s : State) (n : Need) → Met s n → Clashes s n → Violated s
 met_clash s (Entry loader name place) m h =
     record { name = name; one = loader; other = h.other; place = place; other_place = h.other_place; joined = h.joined; first = m; second = h.recorded_there; differ = h.differ }
 met_clash s (Equal name a b) m h =
@@ -193,16 +194,16 @@ moved s name m x y p q ex em ep other other_place j r d =
       differ = λ e. d (sym ep ∙ e);
     }
 
-entry_kept : (s : State) (loader place : ℕ) (name : Name) → (Differs s name loader place → ⊥) → (Violated s → ⊥) → Violated (added s (Entry loader name place)) → ⊥
-entry_kept s loader place name fits u v =
+entry_kept : (s : State) (loader place : ℕ) (name : Name) → Violated (added s (Entry loader name place)) → Violated s ⊎ Differs s name loader place
+entry_kept s loader place name v =
     elim (recorded_added s.records (record { loader = loader; name = name; place = place }) v.one v.place v.name v.first) [
       | inl a ↦ elim (recorded_added s.records (record { loader = loader; name = name; place = place }) v.other v.other_place v.name v.second) [
-        | inl b ↦ u (record { name = v.name; one = v.one; other = v.other; place = v.place; other_place = v.other_place; joined = v.joined; first = a; second = b; differ = v.differ })
-        | inr b ↦ fits (moved s name v.name loader v.other place v.other_place b.0 b.1 b.2 v.one v.place (joined_back s.equalities v.name v.one v.other v.joined) a (λ e. v.differ (sym e)))
+        | inl b ↦ inl (record { name = v.name; one = v.one; other = v.other; place = v.place; other_place = v.other_place; joined = v.joined; first = a; second = b; differ = v.differ })
+        | inr b ↦ inr (moved s name v.name loader v.other place v.other_place b.0 b.1 b.2 v.one v.place (joined_back s.equalities v.name v.one v.other v.joined) a (λ e. v.differ (sym e)))
       ]
       | inr a ↦ elim (recorded_added s.records (record { loader = loader; name = name; place = place }) v.other v.other_place v.name v.second) [
-        | inl b ↦ fits (moved s name v.name loader v.one place v.place a.0 a.1 a.2 v.other v.other_place v.joined b v.differ)
-        | inr b ↦ v.differ (sym a.2 ∙ b.2)
+        | inl b ↦ inr (moved s name v.name loader v.one place v.place a.0 a.1 a.2 v.other v.other_place v.joined b v.differ)
+        | inr b ↦ absurd (v.differ (sym a.2 ∙ b.2))
       ]
     ]
 
@@ -282,24 +283,29 @@ divided s name m a b x y p q e j k r t d =
       differs = moved s name m b b p p refl e refl y q k t d;
     }
 
-equal_kept_at : (s : State) (name : Name) (a b : ℕ) → (Divides s name a b → ⊥) → (Violated s → ⊥) → (v : Violated (added s (Equal name a b))) → Through s.equalities (record { name = name; one = a; other = b }) v.name v.one v.other → ⊥
-equal_kept_at s name a b fits u v (inl j) = u (record { name = v.name; one = v.one; other = v.other; place = v.place; other_place = v.other_place; joined = j; first = v.first; second = v.second; differ = v.differ })
-equal_kept_at s name a b fits u v (inr h) =
+equal_kept_at : (s : State) (name : Name) (a b : ℕ) → (v : Violated (added s (Equal name a b))) → Through s.equalities (record { name = name; one = a; other = b }) v.name v.one v.other → Violated s ⊎ Divides s name a b
+equal_kept_at s name a b v (inl j) = inl (record { name = v.name; one = v.one; other = v.other; place = v.place; other_place = v.other_place; joined = j; first = v.first; second = v.second; differ = v.differ })
+equal_kept_at s name a b v (inr h) =
     elim (h.1) [
-      | inl j ↦ u (record { name = v.name; one = v.one; other = v.other; place = v.place; other_place = v.other_place; joined = j; first = v.first; second = v.second; differ = v.differ })
+      | inl j ↦ inl (record { name = v.name; one = v.one; other = v.other; place = v.place; other_place = v.other_place; joined = j; first = v.first; second = v.second; differ = v.differ })
       | inr k ↦ elim k [
-        | inl x ↦ fits (divided s name v.name a b v.one v.other v.place v.other_place h.0 x.0 x.1 v.first v.second v.differ)
-        | inr x ↦ fits (divided s name v.name a b v.other v.one v.other_place v.place h.0 (joined_back s.equalities v.name a v.other x.1) (joined_back s.equalities v.name v.one b x.0) v.second v.first (λ e. v.differ (sym e)))
+        | inl x ↦ inr (divided s name v.name a b v.one v.other v.place v.other_place h.0 x.0 x.1 v.first v.second v.differ)
+        | inr x ↦ inr (divided s name v.name a b v.other v.one v.other_place v.place h.0 (joined_back s.equalities v.name a v.other x.1) (joined_back s.equalities v.name v.one b x.0) v.second v.first (λ e. v.differ (sym e)))
       ]
     ]
 
-equal_kept : (s : State) (name : Name) (a b : ℕ) → (Divides s name a b → ⊥) → (Violated s → ⊥) → Violated (added s (Equal name a b)) → ⊥
-equal_kept s name a b fits u v = equal_kept_at s name a b fits u v (path_added s.equalities (record { name = name; one = a; other = b }) v.name v.one v.joined.path v.other v.joined.along)
+-- where adding a need violates, it clashes, or something was violated before
+pub violation_clashes : (s : State) (n : Need) → Violated (added s n) → Violated s ⊎ Clashes s n
+violation_clashes s (Entry loader name place) v = entry_kept s loader place name v
+violation_clashes s (Equal name a b) v = equal_kept_at s name a b v (path_added s.equalities (record { name = name; one = a; other = b }) v.name v.one v.joined.path v.other v.joined.along)
 
-keeps : (g : Setting) (s : State) (e : Step) → May g s e → (Violated s → ⊥) → Violated (after s e) → ⊥
-keeps g s (Define c) may u v = entry_kept s c.loader c.loader c.name may.may_add.fits u v
-keeps g s (Initiate name place loader) may u v = entry_kept s loader place name may.may_add.fits u v
-keeps g s (Constrain name a b) may u v = equal_kept s name a b may.may_add.fits u v
+pub adds : (s : State) (n : Need) → (Clashes s n → ⊥) → (Violated s → ⊥) → Violated (added s n) → ⊥
+adds s n fits u v = elim (violation_clashes s n v) [ inl k ↦ u k | inr k ↦ fits k ]
+
+pub keeps : (g : Setting) (s : State) (e : Step) → May g s e → (Violated s → ⊥) → Violated (after s e) → ⊥
+keeps g s (Define c) may u v = adds s (Entry c.loader c.name c.loader) may.may_add.fits u v
+keeps g s (Initiate name place loader) may u v = adds s (Entry loader name place) may.may_add.fits u v
+keeps g s (Constrain name a b) may u v = adds s (Equal name a b) may.may_add.fits u v
 keeps g s (Settle d i x) may u v = u (violated_as s (after s (Settle d i x)) refl refl v)
 keeps g s (Prepare c) may u v = u (violated_as s (after s (Prepare c)) refl refl v)
 keeps g s (Post q a) may u v = u (violated_as s (after s (Post q a)) refl refl v)
@@ -310,7 +316,7 @@ pub stays_unviolated : (g : Setting) (s : State) (es : List Step) → (Violated 
 stays_unviolated g s [] u run v = u v
 stays_unviolated g s (e ∷ es) u run v = stays_unviolated g (after s e) es (keeps g s e run.0 u) run.1 v
 
-start_unviolated : Violated start → ⊥
+pub start_unviolated : Violated start → ⊥
 start_unviolated v = let h : None ≡ Some v.place = v.first in absurd cc
 
 pub never_violated : (g : Setting) (es : List Step) → Run g start es → Violated (state_after start es) → ⊥
@@ -326,3 +332,51 @@ one_answer s (n ∷ ns) ends v u a b =
 
 pub answers_stay : (g : Setting) (s : State) (es : List Step) (ns : List Need) (ends v : Verdict) → (Violated s → ⊥) → Run g s es → Answers s ns ends v → Answers (state_after s es) ns ends v
 answers_stay g s es ns ends v u run h = answers_later s (state_after s es) (run_later s es) (stays_unviolated g s es u run) ns ends v h
+
+-- ---- what clashes would violate
+
+pub record_found : (rs : List Record) (r : Record) → recorded rs r.loader r.name ≡ None → recorded (rs ++ r ∷ []) r.loader r.name ≡ Some r.place
+record_found [] r h = ap (λ (b : Bool). option_map (λ (x : Record). x.place) (if b then Some r else None)) (self r.loader r.name)
+  where
+    self : (l : ℕ) (n : Name) → ((l == l) && same_name n n) ≡ true
+    self l n = rw (nat_eq_equiv.refl l) (nat_list_eq_equiv.refl n)
+record_found (x ∷ rs) r h = at ((x.loader == r.loader) && same_name x.name r.name) (λ q. record_found rs r q) h
+  where
+    at : (b : Bool) → (recorded rs r.loader r.name ≡ None → recorded (rs ++ r ∷ []) r.loader r.name ≡ Some r.place) → option_map (λ (y : Record). y.place) (if b then Some x else find (λ (y : Record). (y.loader == r.loader) && same_name y.name r.name) rs) ≡ None → option_map (λ (y : Record). y.place) (if b then Some x else find (λ (y : Record). (y.loader == r.loader) && same_name y.name r.name) (rs ++ r ∷ [])) ≡ Some r.place
+    at true ih k = absurd cc
+    at false ih k = ih k
+
+last_linked : (ks : List Equality) (name : Name) (a b : ℕ) → Linked (ks ++ record { name = name; one = a; other = b } ∷ []) name a b
+last_linked ks name a b = record { equality = record { name = name; one = a; other = b }; imposed = Contains-append_right ks (record { name = name; one = a; other = b } ∷ []) (record { name = name; one = a; other = b }) (0, omega arith, refl); named = refl; ends = inl (refl, refl) }
+
+-- a fresh need that clashes would violate, if it were added
+pub clash_violates : (s : State) (n : Need) → IsFresh s n → Clashes s n → Violated (added s n)
+clash_violates s (Entry loader name place) fresh h =
+    let t = added s (Entry loader name place) in
+    let l = added_later s (Entry loader name place) in
+    record {
+      name = name;
+      one = loader;
+      other = h.other;
+      place = place;
+      other_place = h.other_place;
+      joined = h.joined;
+      first = record_found s.records (record { loader = loader; name = name; place = place }) fresh;
+      second = l.records h.other h.other_place name h.recorded_there;
+      differ = h.differ;
+    }
+clash_violates s (Equal name a b) fresh h =
+    let t = added s (Equal name a b) in
+    let l = added_later s (Equal name a b) in
+    let link = joined_link t.equalities name a b (last_linked s.equalities name a b) in
+    record {
+      name = name;
+      one = h.one;
+      other = h.differs.other;
+      place = h.place;
+      other_place = h.differs.other_place;
+      joined = joined_then t.equalities name h.one a h.differs.other (joined_back t.equalities name a h.one (joined_later s t l name a h.one h.joined)) (joined_then t.equalities name a b h.differs.other link (joined_later s t l name b h.differs.other h.differs.joined));
+      first = h.recorded_there;
+      second = h.differs.recorded_there;
+      differ = h.differs.differ;
+    }

@@ -166,3 +166,20 @@ IsGood w c = (n : ℕ) × Good w n c
 pub record Circular (w : World) (c : Class) : Type 0 where
   pub not_good : (n : ℕ) → Good w n c → ⊥
   pub not_failing : (n : ℕ) (e : Error) → Fails w n c e → ⊥
+
+-- ---- circles
+
+-- s is a supertype of c, and all before it are good and fit
+abbrev pub Next : World → Class → Class → Type 0
+Next w c s = (f : File) × HasFile w c f × FirstWrong (FitsAt w c (IsGood w)) (λ a. AtHome w c (λ t. t ≡ s) a.name) (supers f)
+
+-- a walk from c by these steps, after the classes of a path, to x, the first class that is met again
+abbrev pub IsWalk : World → List Class → Class → List Class → Class → Type 0
+IsWalk w path c [] x = (is_among path c ≡ true) × (c ≡ x)
+IsWalk w path c (s ∷ steps) x = (is_among path c ≡ false) × Next w c s × IsWalk w (c ∷ path) s steps x
+
+-- a walk from c along first supertypes that are not good, after the classes of a path, meets x again:
+-- x is the subject of the ClassCircularityError (5.3.5, steps 3 and 4)
+pub record Returns (w : World) (path : List Class) (c x : Class) : Type 0 where
+  pub steps : List Class
+  pub along : IsWalk w path c steps x

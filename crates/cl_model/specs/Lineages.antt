@@ -1,10 +1,11 @@
 -- A good class with all that stands above it, and what it declares and inherits (JVMS SE 8, 5.4.3 to 5.4.5).
-use Rattle.std.specs.Prelude.{ℕ, Bool, true, false, ◌&&◌, ◌||◌, not, if◌then◌else◌, List, [], ◌∷◌, ◌++◌, map, Option, Some, None, find, filter, is_some}
+use Rattle.std.specs.Prelude.{◌≡◌, ℕ, Bool, true, false, ◌&&◌, ◌||◌, not, if◌then◌else◌, List, [], ◌∷◌, ◌++◌, map, Option, Some, None, find, filter, is_some}
 use Rattle.std.specs.Option.{option_or}
 use Rattle.std.specs.List.{list_any}
 use Rattle.cl_classfile.specs.Files.{File, Key, Member, member, is_public, is_private, is_protected, is_static, is_abstract}
 use Rattle.cl_model.specs.declared.class.Class.{Class}
-use Rattle.cl_model.specs.Classes.{same_class, is_among, same_package}
+use Rattle.cl_model.specs.Homes.{World, home}
+use Rattle.cl_model.specs.Classes.{same_class, is_among, same_package, Above, HasFile, misfit, superclass_of, superinterfaces_of}
 
 -- a list of classes, each with its superclass (of one class or none) and its direct superinterfaces (5.3.5)
 pub data Forest : Type 0 where
@@ -17,6 +18,27 @@ pub record Kin : Type 0 where
   pub file : File
   pub superclass : Forest
   pub interfaces : Forest
+
+-- a class s of file f is a direct supertype of c, which fits (5.3.5, steps 3 and 4)
+pub record IsAbove (w : World) (c : Class) (a : Above) (s : Class) (f : File) : Type 0 where
+  pub named : s.name ≡ a.name
+  pub found : home w c.loader a.name ≡ Some s.loader
+  pub has_file : HasFile w s f
+  pub fits : misfit c a.role s f ≡ None
+
+-- the list has these direct supertypes of c in order, each with all that stands above it
+abbrev pub StandsFor : World → Class → Forest → List Above → Type 0
+StandsFor w c Bare [] = Unit {0}
+StandsFor w c Bare (a ∷ more) = ⊥
+StandsFor w c (Tree s f sup ints others) [] = ⊥
+StandsFor w c (Tree s f sup ints others) (a ∷ more) =
+    IsAbove w c a s f × StandsFor w s sup (superclass_of f) × StandsFor w s ints (superinterfaces_of f) × StandsFor w c others more
+
+-- a class with its own file and its own lineage (5.3.5)
+pub record IsLineage (w : World) (k : Kin) : Type 0 where
+  pub has_file : HasFile w k.class k.file
+  pub above : StandsFor w k.class k.superclass (superclass_of k.file)
+  pub over : StandsFor w k.class k.interfaces (superinterfaces_of k.file)
 
 -- the class, its file and what stands above it, alone
 abbrev pub alone : Kin → Forest

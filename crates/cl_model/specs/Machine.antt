@@ -1,13 +1,13 @@
 -- The linkage machine, of one event a step, over a script of requests.
-use Rattle.std.specs.Prelude.{◌≡◌, ◌≢◌, ◌⊎◌, ℕ, ◌+◌, ◌<◌, List, [], ◌∷◌, ◌++◌, Some, None, Ok, slice_get, IsSome, Contains}
+use Rattle.std.specs.Prelude.{◌==◌, if◌then◌else◌, ◌≡◌, ◌≢◌, ◌⊎◌, ℕ, ◌+◌, ◌<◌, List, [], ◌∷◌, ◌++◌, Some, None, Ok, slice_get, IsSome, Contains}
 use Rattle.std.specs.List.{AllByRecursion}
 use Rattle.cl_classfile.specs.Files.{Name, File}
 use Rattle.cl_model.specs.Homes.{World, home}
 use Rattle.cl_model.specs.declared.class.Class.{Class}
-use Rattle.cl_model.specs.Classes.{IsAtHome, IsGood, HasFile, AtHome, Above, supers}
+use Rattle.cl_model.specs.Classes.{class, IsAtHome, IsGood, HasFile, AtHome, Above, supers}
 use Rattle.cl_model.specs.Lineages.{Kin}
 use Rattle.cl_model.specs.Preparation.{constraints_of}
-use Rattle.cl_model.specs.States.{State, Need, Entry, Equal, Verdict, BadEntry, ArrayMember, IsLinked, Linkage, Answer, Said, OutOfMemory, SourceFault, recorded, IsRecorded, settled_to, answer_to, Met, Refused, MayAdd, AllMet, IsNext, added}
+use Rattle.cl_model.specs.States.{State, Need, Entry, Equal, Verdict, BadEntry, ArrayMember, IsLinked, Linkage, Answer, Said, OutOfMemory, SourceFault, recorded, IsRecorded, settled_to, answer_to, Met, Refused, MayAdd, Violated, AllMet, IsNext, added}
 use Rattle.cl_model.specs.Works.{Made}
 use Rattle.cl_model.specs.Plans.{Request, Load, Resolve, Link, Plan, plan, derive, resolve, needs_of, ending}
 
@@ -181,10 +181,43 @@ abbrev pub Run : Setting → State → List Step → Type 0
 Run g s [] = Unit {0}
 Run g s (e ∷ es) = May g s e × Run g (after s e) es
 
+-- the step that makes a need stand
+abbrev pub step_for : Need → Step
+step_for (Entry loader name place) = if loader == place then Define (class name place) else Initiate name place loader
+step_for (Equal name a b) = Constrain name a b
+
 -- ---- what every state of a run is
 
--- a record has its home, whose own record stands, and with a definer's record those of the supertypes stand
+-- a record has its home, whose own record stands; a recorded class is good, and the records of its supertypes stand
 pub record IsClosed (w : World) (s : State) : Type 0 where
   pub homes : (loader place : ℕ) (name : Name) → recorded s.records loader name ≡ Some place → home w loader name ≡ Some place
   pub own : (loader place : ℕ) (name : Name) → recorded s.records loader name ≡ Some place → recorded s.records place name ≡ Some place
+  pub good : (c : Class) → IsRecorded s c → IsGood w c
   pub above : (c : Class) (f : File) → IsRecorded s c → HasFile w c f → AllByRecursion (λ (a : Above). AtHome w c (λ t. Met s (Entry c.loader a.name t.loader)) a.name) (supers f)
+
+-- a prepared class is recorded, its supertypes are prepared, and all its constraints are imposed (5.4.2)
+pub record IsPrepared (g : Setting) (s : State) (c : Class) : Type 0 where
+  pub recorded : IsRecorded s c
+  pub kin : Kin
+  pub lineage : HasLineage g.world c kin
+  pub above : AllByRecursion (λ (a : Above). AtHome g.world c (Contains s.prepared) a.name) (supers kin.file)
+  pub imposed : AllMet s (constraints_of kin)
+
+-- a settled reference is one of a recorded class, and is answered so (5.4.3)
+pub record IsSettled (g : Setting) (s : State) (d : Class) (i : ℕ) (v : Verdict) : Type 0 where
+  pub recorded : IsRecorded s d
+  pub answered : AnswersReference g s d i v
+
+-- an answer is one of a request of the script, which may be answered so
+pub record IsAnswered (g : Setting) (s : State) (q : ℕ) (a : Answer) : Type 0 where
+  pub scheduled : Scheduled
+  pub asked : slice_get g.script q ≡ Some scheduled
+  pub may_answer : MayAnswer g s scheduled.request a
+
+-- all that a state holds is as it should be
+pub record IsSound (g : Setting) (s : State) : Type 0 where
+  pub closed : IsClosed g.world s
+  pub unviolated : Violated s → ⊥
+  pub settled : (d : Class) (i : ℕ) (v : Verdict) → settled_to s.settled d i ≡ Some v → IsSettled g s d i v
+  pub prepared : (c : Class) → Contains s.prepared c → IsPrepared g s c
+  pub answered : (q : ℕ) (a : Answer) → answer_to s.answers q ≡ Some a → IsAnswered g s q a

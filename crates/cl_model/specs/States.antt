@@ -1,5 +1,5 @@
 -- What has been recorded, imposed, settled and prepared, and what that meets or refuses (JVMS SE 8, 5.3 to 5.4).
-use Rattle.std.specs.Prelude.{◌≡◌, ◌≢◌, ◌⊎◌, ℕ, ◌&&◌, ◌==◌, List, [], ◌∷◌, ◌++◌, Option, Some, find, option_map, Contains}
+use Rattle.std.specs.Prelude.{◌≡◌, ◌≢◌, ◌⊎◌, ℕ, ◌&&◌, ◌==◌, List, [], ◌∷◌, ◌++◌, Option, Some, None, find, option_map, Contains}
 use Rattle.cl_classfile.specs.Files.{Name, Key, same_name}
 use Rattle.cl_model.specs.declared.class.Class.{Class}
 use Rattle.cl_model.specs.Classes.{same_class, Error}
@@ -114,6 +114,11 @@ Met s (Equal name a b) = Joined s.equalities name a b
 abbrev pub added : State → Need → State
 added s (Entry loader name place) = record s { records = s.records ++ record { loader = loader; name = name; place = place } ∷ [] }
 added s (Equal name a b) = record s { equalities = s.equalities ++ record { name = name; one = a; other = b } ∷ [] }
+
+-- no record stands where the need would put one
+abbrev pub IsFresh : State → Need → Type 0
+IsFresh s (Entry loader name place) = recorded s.records loader name ≡ None
+IsFresh s (Equal name a b) = Unit {0}
 
 -- a loader joined to this one records another class for a name
 pub record Differs (s : State) (name : Name) (loader place : ℕ) : Type 0 where

@@ -5,6 +5,7 @@ mod answer;
 mod class;
 mod event;
 pub mod laws;
+pub mod rows;
 mod loader;
 mod request;
 mod told;

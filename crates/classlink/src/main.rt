@@ -1,0 +1,6 @@
+//! The program.
+#![tactic(auto)]
+
+pub mod serve;
+
+fn main() {}

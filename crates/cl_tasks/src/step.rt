@@ -268,8 +268,9 @@ fn descend<T: Told>(alloc: Global, job: Job<T>, draft: Draft<T>, above: Name) ->
         return obstacle(job, Obstacle::Circle(draft, above));
     }
     let Job { request, mut walk } = job;
-    if walk.push(draft, above).is_err() {
-        return post(Finding::memory(request));
+    match walk.push(draft, above) {
+        Ok(()) => {}
+        Err(_) => return post(Finding::memory(request)),
     }
     let _ = walk.at();
     look(alloc, Job { request, walk })

@@ -1,0 +1,16 @@
+-- Which faults a step of the program may have.
+use Rattle.std.specs.Prelude.{⊤}
+use Rattle.classlink.specs.declared.fault.Fault.{Fault}
+use Rattle.classlink.specs.declared.fault.Fault.TheVariants.{Input, TooLarge, NotUtf8, Memory}
+
+-- a read failed, the bytes are too many, or memory was wanting
+abbrev pub IsReadFault : Fault → Type 0
+IsReadFault Input = ⊤
+IsReadFault TooLarge = ⊤
+IsReadFault Memory = ⊤
+IsReadFault _ = ⊥
+
+-- so it is, or the bytes are no text
+abbrev pub IsInputFault : Fault → Type 0
+IsInputFault NotUtf8 = ⊤
+IsInputFault fault = IsReadFault fault

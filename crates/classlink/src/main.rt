@@ -1,0 +1,29 @@
+//! Loads and links the classes of a bundle as a Java machine does.
+#![tactic(auto)]
+
+mod fault;
+mod input;
+mod words;
+
+use std::env;
+use std::io;
+
+fn main(rt: HostRuntime) -> io::Result<()> {
+    let alloc = rt.alloc();
+    let given: Vec<String> = env::args(&rt)?.collect(alloc)?;
+    match words::read(alloc, given.as_slice()) {
+        Ok(asked) => {
+            let answers = asked.answers;
+            println!(rt; "{answers}")?;
+        }
+        Err(e) => println!(rt; "{e}")?,
+    }
+    match input::read_text(alloc, rt.stdin()) {
+        Ok(text) => {
+            let n = text.len();
+            println!(rt; "{n}")?;
+        }
+        Err(e) => println!(rt; "{e}")?,
+    }
+    Ok(())
+}

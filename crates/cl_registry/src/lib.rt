@@ -3,11 +3,13 @@
 #![tactic(auto)]
 
 pub mod config;
+pub mod lines;
 pub mod report;
 pub mod script;
 pub mod source;
 
 pub use config::Config;
+pub use lines::{Line, Lines, Words, is_skipped};
 pub use report::{Answers, History, Report};
 pub use script::Script;
 pub use source::{ClassBytes, Outcome, Probe, Source, SourceFault};

@@ -7,7 +7,9 @@ ghost use Rattle.std.specs.Cmp.Rules.{hashing};
 ghost use Rattle.std.specs.Hash as fed;
 ghost use Rattle.std.proofs.Common.{rules};
 ghost use Rattle.cl_names.specs.Text.{IsModifiedUtf8};
+ghost use Rattle.cl_names.specs.Name.{TestedNameOf};
 
+use crate::kind::{has_class_form, has_method_form, has_unqualified_form, package_len};
 use crate::text::is_modified_utf8;
 use std::alloc::{AllocError, Global};
 use std::cmp::Ordering;
@@ -15,7 +17,10 @@ use std::hash::{Hash, Hasher};
 use std::marker::Model;
 use thiserror::Error;
 
-/// A name, in modified UTF-8.
+/// The most bytes of a name: a class file counts them in two bytes (JVMS SE 8, 4.4.7).
+const MAX_LEN: usize = 65535;
+
+/// A name, in modified UTF-8 (JVMS SE 8, 4.4.7).
 #[derive(Debug, Drop)]
 pub struct Name {
     bytes: Vec<u8>,
@@ -102,21 +107,77 @@ impl From<AllocError> for NameFault {
 }
 
 impl Name {
-    ghost use Rattle.cl_names.specs.Name.{NameOf};
+    ghost use Rattle.std.specs.Prelude.{MatchBool};
+    ghost use Rattle.std.specs.List.{starts_with};
+    ghost use Rattle.cl_names.specs.Kind.{IsUnqualified, IsMethod, IsClass, IsNameOf, is_unqualified_name, is_method_name, is_class_name, package_of};
+    ghost use Rattle.cl_names.specs.Escape.{escaped};
+    ghost use Rattle.cl_names.specs.Name.{NameOf, KindNameOf, TextNameOf};
 
-    /// The name that the bytes spell.
+    /// The name of any kind that the bytes spell.
     pub fn any(alloc: Global, bytes: &[u8]) -> Result<Name, NameFault>
         ensures { NameOf bytes.now result }
     {
-        if !is_modified_utf8(bytes) {
-            return Err(NameFault::NotModifiedUtf8);
-        }
-        if bytes.len() > 65535 {
-            return Err(NameFault::BadName);
-        }
-        Ok(Name {
-            bytes: Vec::from_slice(alloc, bytes)?,
-        })
+        spelled(alloc, bytes, true)
+    }
+
+    /// The class's name that the bytes spell (JVMS SE 8, 4.2.1).
+    pub fn class(alloc: Global, bytes: &[u8]) -> Result<Name, NameFault>
+        ensures { KindNameOf IsClass bytes.now result }
+    {
+        spelled(alloc, bytes, has_class_form(bytes))
+    }
+
+    /// The unqualified name that the bytes spell (JVMS SE 8, 4.2.2).
+    pub fn unqualified(alloc: Global, bytes: &[u8]) -> Result<Name, NameFault>
+        ensures { KindNameOf IsUnqualified bytes.now result }
+    {
+        spelled(alloc, bytes, has_unqualified_form(bytes))
+    }
+
+    /// The method's name that the bytes spell (JVMS SE 8, 4.2.2).
+    pub fn method(alloc: Global, bytes: &[u8]) -> Result<Name, NameFault>
+        ensures { KindNameOf IsMethod bytes.now result }
+    {
+        spelled(alloc, bytes, has_method_form(bytes))
+    }
+
+    /// Whether it is a class's name.
+    pub fn is_class(&self) -> bool
+        ensures kind { MatchBool result (IsNameOf IsClass self.now) (IsNameOf IsClass self.now → ⊥) }
+        ensures test { result ≡ is_class_name self.now }
+    {
+        has_class_form(self.bytes())
+    }
+
+    /// Whether it is an unqualified name.
+    pub fn is_unqualified(&self) -> bool
+        ensures kind { MatchBool result (IsNameOf IsUnqualified self.now) (IsNameOf IsUnqualified self.now → ⊥) }
+        ensures test { result ≡ is_unqualified_name self.now }
+    {
+        has_unqualified_form(self.bytes())
+    }
+
+    /// Whether it is a method's name.
+    pub fn is_method(&self) -> bool
+        ensures kind { MatchBool result (IsNameOf IsMethod self.now) (IsNameOf IsMethod self.now → ⊥) }
+        ensures test { result ≡ is_method_name self.now }
+    {
+        has_method_form(self.bytes())
+    }
+
+    /// The package of a class's name: what stands before the last `/`.
+    pub fn package(&self) -> &[u8]
+        ensures { result.now ≡ package_of self.now }
+    {
+        let bytes = self.bytes.as_slice();
+        &bytes[..package_len(bytes)]
+    }
+
+    /// Whether its bytes begin with those of `prefix`.
+    pub fn starts_with(&self, prefix: &Name) -> bool
+        ensures { result ≡ starts_with nat_eq self.now prefix.now }
+    {
+        self.bytes.as_slice().starts_with(prefix.bytes.as_slice())
     }
 
     /// The bytes.
@@ -136,4 +197,19 @@ impl Name {
             bytes: Vec::from_slice(alloc, self.bytes.as_slice())?,
         })
     }
+}
+
+/// The name that the bytes spell, where they have the form of its kind.
+fn spelled(alloc: Global, bytes: &[u8], has_form: bool) -> Result<Name, NameFault>
+    ensures { TestedNameOf has_form bytes.now result }
+{
+    if !is_modified_utf8(bytes) {
+        return Err(NameFault::NotModifiedUtf8);
+    }
+    if !has_form || bytes.len() > MAX_LEN {
+        return Err(NameFault::BadName);
+    }
+    Ok(Name {
+        bytes: Vec::from_slice(alloc, bytes)?,
+    })
 }

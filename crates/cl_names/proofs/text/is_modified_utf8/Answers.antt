@@ -4,7 +4,7 @@ use Rattle.std.proofs.lemmas.List.{nil_from_length}
 use Rattle.std.proofs.lemmas.Bool.{eqb-true}
 use Rattle.cl_names.specs.Text.{is_text}
 use Rattle.cl_names.proofs.Texts.{goes_on, stops}
-use Rattle.cl_names.proofs.text.passes.Goals as goal
+use Rattle.cl_names.proofs.text.is_modified_utf8.Goals as goal
 
 pub loop-rest-preserved : goal.loop-rest-preserved
 loop-rest-preserved c = sym (goes_on c.loop-rest.rest.now c.in-Some.others.now (sym c.in-Some.ensures)) ∙ c.loop-rest.invariant

@@ -1,0 +1,7 @@
+use Rattle.std.proofs.Common.{subst, Bool}
+use Rattle.cl_names.specs.Name.{TestedNameOf}
+use Rattle.cl_names.proofs.Grammars.{name_class}
+use Rattle.cl_names.proofs.name.Name.class.Goals as goal
+
+pub returns : goal.returns
+returns c = name_class _ _ (subst (λ (b : Bool). TestedNameOf b c.args.bytes.now c.spelled.result) c.has_class_form.ensures c.spelled.ensures)

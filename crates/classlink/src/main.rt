@@ -3,6 +3,7 @@
 
 mod fault;
 mod input;
+mod print;
 mod words;
 
 use std::env;

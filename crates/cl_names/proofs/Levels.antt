@@ -57,6 +57,7 @@ allowed_passes x o = grind (arith, nat_tests)
 
 angle_passes : (x : ℕ) → IsOther x → not (is_angle x) ≡ true
 angle_passes x o = grind (arith, nat_tests)
+
 unqualified_split : (xs : List ℕ) → 0 < length xs → has_unqualified_form xs ≡ list_all is_allowed xs
 unqualified_split [] h = absurd (omega arith)
 unqualified_split (x ∷ xs) h = refl
@@ -119,14 +120,16 @@ split_parts (x ∷ xs) =
     let fresh = list_all has_unqualified_form in
     elim (cases_Bool (eqb x 47)) [
       | inl e ↦
-        let cut = cond-true (eqb x 47) ([] ∷ parts) (onto_first x parts) e in
-        (ap fresh cut ∙ sym (cond-true (eqb x 47) false (is_allowed x && parts_from false xs) e),
-          ap open_parts cut ∙ (split_parts xs).0 ∙ sym (cond-true (eqb x 47) (parts_from true xs) (is_allowed x && parts_from false xs) e))
+          let cut = cond-true (eqb x 47) ([] ∷ parts) (onto_first x parts) e in (
+            ap fresh cut ∙ sym (cond-true (eqb x 47) false (is_allowed x && parts_from false xs) e),
+            ap open_parts cut ∙ (split_parts xs).0 ∙ sym (cond-true (eqb x 47) (parts_from true xs) (is_allowed x && parts_from false xs) e),
+          )
       | inr e ↦
-        let kept = cond-false (eqb x 47) ([] ∷ parts) (onto_first x parts) e in
-        let on = ap (λ b. is_allowed x && b) (split_parts xs).1 in
-        (ap fresh kept ∙ fresh_onto x parts ∙ on ∙ sym (cond-false (eqb x 47) false (is_allowed x && parts_from false xs) e),
-          ap open_parts kept ∙ open_onto x parts ∙ on ∙ sym (cond-false (eqb x 47) (parts_from true xs) (is_allowed x && parts_from false xs) e))
+          let kept = cond-false (eqb x 47) ([] ∷ parts) (onto_first x parts) e in
+          let on = ap (λ b. is_allowed x && b) (split_parts xs).1 in (
+            ap fresh kept ∙ fresh_onto x parts ∙ on ∙ sym (cond-false (eqb x 47) false (is_allowed x && parts_from false xs) e),
+            ap open_parts kept ∙ open_onto x parts ∙ on ∙ sym (cond-false (eqb x 47) (parts_from true xs) (is_allowed x && parts_from false xs) e),
+          )
     ]
 
 parts_other : (fresh : Bool) (x : ℕ) (xs : List ℕ) → IsOther x → parts_from fresh (x ∷ xs) ≡ parts_from false xs

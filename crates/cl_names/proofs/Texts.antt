@@ -136,7 +136,7 @@ text_from_test (a ∷ b ∷ c ∷ rest) e =
     ]
 
 -- behind the spelling of a code unit the test goes on
-after_spelling : (u : ℕ) (rest : List ℕ) → u < 65536 → after_unit (unit u ++ rest) ≡ Some rest
+pub after_spelling : (u : ℕ) (rest : List ℕ) → u < 65536 → after_unit (unit u ++ rest) ≡ Some rest
 after_spelling u rest h =
     elim (tests (nat_lt 0 u && nat_lt u 128)) [
       | inl s ↦ rw (s, s) refl

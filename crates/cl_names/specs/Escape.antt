@@ -1,5 +1,5 @@
 -- Escaped text: how it writes code units, and the one text that is printed for them.
-use Rattle.std.specs.Prelude.{◌≡◌, ◌⊎◌, ℕ, ◌+◌, ◌*◌, ◌/◌, ◌%◌, ◌≤◌, ◌<◌, Bool, not, ◌&&◌, ◌==◌, nat_lt, nat_le, if◌then◌else◌, List, [], ◌∷◌, ◌++◌, length, true, Option, Some, None, option_map}
+use Rattle.std.specs.Prelude.{◌≡◌, ◌⊎◌, ℕ, ◌+◌, ◌*◌, ◌/◌, ◌%◌, ◌≤◌, ◌<◌, Bool, not, ◌&&◌, ◌==◌, nat_lt, nat_le, if◌then◌else◌, List, [], ◌∷◌, ◌++◌, length, true, Option, Some, None, option_map, option_and_then}
 use Rattle.std.specs.List.{flat_map, AllByRecursion}
 use Rattle.std.specs.Char.{digit_value, digit_char, is_digit}
 use Rattle.cl_names.specs.Text.{unit}
@@ -84,3 +84,10 @@ written_units (x ∷ u ∷ a ∷ b ∷ c ∷ d ∷ rest) =
     then option_map (λ units. hex_value a b c d ∷ units) (written_units rest)
     else None
 written_units (x ∷ rest) = if is_plain x then option_map (λ units. x ∷ units) (written_units rest) else None
+
+abbrev pub if_short : List ℕ → Option (List ℕ)
+if_short name = if nat_le (length name) 65535 then Some name else None
+
+-- the name that an escaped text writes, if it writes one
+unfoldable pub unescaped : List ℕ → Option (List ℕ)
+unescaped text = option_and_then if_short (option_map (λ units. flat_map unit units) (written_units text))

@@ -50,6 +50,9 @@ pub record IsNameOf (Kind : List ℕ → Type 0) (bytes : List ℕ) : Type 0 whe
   pub kind : Kind (code_points text.units)
   pub short : length bytes ≤ 65535
 
+abbrev pub HasNoSlash : List ℕ → Type 0
+HasNoSlash bytes = AllByRecursion (λ b. b ≢ 47) bytes
+
 -- ---- tests; they see the same in the bytes of a text, its code units and its code points
 
 abbrev pub is_allowed : ℕ → Bool
@@ -82,7 +85,7 @@ is_method_name bytes = is_name_of has_method_form bytes
 unfoldable pub is_class_name : List ℕ → Bool
 is_class_name bytes = is_name_of has_class_form bytes
 
--- what stands before the last /, and nothing where there is none
+-- what stands before the last /, and nothing where there is none: a class's package (JVMS SE 8, 5.3)
 unfoldable pub package_of : List ℕ → List ℕ
 package_of [] = []
 package_of (b ∷ bytes) = if list_any (λ p. p == 47) bytes then b ∷ package_of bytes else []

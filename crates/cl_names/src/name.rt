@@ -1,4 +1,4 @@
-ghost use Rattle.std.specs.Prelude.{◌≡◌, ◌≤◌, length, IfOk};
+ghost use Rattle.std.specs.Prelude.{◌≡◌, ◌≤◌, ℕ, List, [], ◌∷◌, ◌++◌, length, IfOk};
 ghost use Rattle.std.specs.Prelude.{refl, nat_eq, Some};
 ghost use Rattle.std.specs.Ordering.{nat_cmp};
 ghost use Rattle.std.specs.Cmp;
@@ -7,8 +7,10 @@ ghost use Rattle.std.specs.Cmp.Rules.{hashing};
 ghost use Rattle.std.specs.Hash as fed;
 ghost use Rattle.std.proofs.Common.{rules};
 ghost use Rattle.cl_names.specs.Text.{IsModifiedUtf8};
+ghost use Rattle.cl_names.specs.Escape.{escaped};
 ghost use Rattle.cl_names.specs.Name.{TestedNameOf};
 
+use crate::escape::{printed, written_bytes, written_len};
 use crate::kind::{has_class_form, has_method_form, has_unqualified_form, package_len};
 use crate::text::is_modified_utf8;
 use std::alloc::{AllocError, Global};
@@ -107,10 +109,9 @@ impl From<AllocError> for NameFault {
 }
 
 impl Name {
-    ghost use Rattle.std.specs.Prelude.{MatchBool};
+    ghost use Rattle.std.specs.Prelude.{MatchBool, string_bytes};
     ghost use Rattle.std.specs.List.{starts_with};
-    ghost use Rattle.cl_names.specs.Kind.{IsUnqualified, IsMethod, IsClass, IsNameOf, is_unqualified_name, is_method_name, is_class_name, package_of};
-    ghost use Rattle.cl_names.specs.Escape.{escaped};
+    ghost use Rattle.cl_names.specs.Kind.{IsUnqualified, IsMethod, IsClass, IsNameOf, is_unqualified_name, is_method_name, is_class_name, HasNoSlash, package_of};
     ghost use Rattle.cl_names.specs.Name.{NameOf, KindNameOf, TextNameOf};
 
     /// The name of any kind that the bytes spell.
@@ -141,6 +142,27 @@ impl Name {
         spelled(alloc, bytes, has_method_form(bytes))
     }
 
+    /// The name of any kind that escaped text writes: each code unit as itself, where it is one of
+    /// 0x21 to 0x7E but `\`, or as `\u` and four hexadecimal digits. Other text is no name.
+    pub fn from_text(alloc: Global, text: &str) -> Result<Name, NameFault>
+        ensures { TextNameOf text.now result }
+    {
+        let text = text.as_bytes();
+        match written_len(text) {
+            Some(len) if len <= MAX_LEN => Ok(Name {
+                bytes: written_bytes(alloc, text, len)?,
+            }),
+            _ => Err(NameFault::BadName),
+        }
+    }
+
+    /// The name as escaped text, in lower case, with escapes only where they are needed.
+    pub fn text(&self, alloc: Global) -> Result<String, AllocError>
+        ensures { IfOk result (λ text. string_bytes text ≡ escaped self.now) }
+    {
+        printed(alloc, self.bytes())
+    }
+
     /// Whether it is a class's name.
     pub fn is_class(&self) -> bool
         ensures kind { MatchBool result (IsNameOf IsClass self.now) (IsNameOf IsClass self.now → ⊥) }
@@ -167,17 +189,21 @@ impl Name {
 
     /// The package of a class's name: what stands before the last `/`.
     pub fn package(&self) -> &[u8]
-        ensures { result.now ≡ package_of self.now }
+        ensures before { (front last : List ℕ) → self.now ≡ front ++ 47 ∷ last → HasNoSlash last → result.now ≡ front }
+        ensures none { HasNoSlash self.now → result.now ≡ [] }
+        ensures value { result.now ≡ package_of self.now }
     {
-        let bytes = self.bytes.as_slice();
+        let bytes = self.bytes();
         &bytes[..package_len(bytes)]
     }
 
     /// Whether its bytes begin with those of `prefix`.
     pub fn starts_with(&self, prefix: &Name) -> bool
-        ensures { result ≡ starts_with nat_eq self.now prefix.now }
+        ensures begins { MatchBool result ((rest : List ℕ) × (self.now ≡ prefix.now ++ rest))
+            ((rest : List ℕ) → self.now ≡ prefix.now ++ rest → ⊥) }
+        ensures value { result ≡ starts_with nat_eq self.now prefix.now }
     {
-        self.bytes.as_slice().starts_with(prefix.bytes.as_slice())
+        self.bytes().starts_with(prefix.bytes())
     }
 
     /// The bytes.

@@ -7,10 +7,10 @@ use Rattle.cl_names.proofs.Texts.{goes_on, stops}
 use Rattle.cl_names.proofs.text.is_modified_utf8.Goals as goal
 
 pub loop-rest-preserved : goal.loop-rest-preserved
-loop-rest-preserved c = sym (goes_on c.loop-rest.rest.now c.in-Some.others.now (sym c.in-Some.ensures)) ∙ c.loop-rest.invariant
+loop-rest-preserved c = sym (goes_on c.loop-rest.rest.now c.in-Some.others.now (sym c.in-Some.ensures.rest)) ∙ c.loop-rest.invariant
 
 pub returns-in-None : goal.returns-in-None
-returns-in-None c = sym (stops c.loop-rest.rest.now (let filled : eqb (length c.loop-rest.rest.now) 0 ≡ false = sym c.is_empty.ensures ∙ c.loop-rest-test.true in grind (arith, nat_tests)) (sym c.in-None.ensures)) ∙ c.loop-rest.invariant
+returns-in-None c = sym (stops c.loop-rest.rest.now (let filled : eqb (length c.loop-rest.rest.now) 0 ≡ false = sym c.is_empty.ensures ∙ c.loop-rest-test.true in grind (arith, nat_tests)) (sym c.in-None.ensures.rest)) ∙ c.loop-rest.invariant
 
 pub returns : goal.returns
 unfolding is_text

@@ -1,5 +1,7 @@
+pub mod Configs
 pub mod Counts
 pub mod Lines
 pub mod Outcomes
+pub mod Shelves
 pub mod Told
 pub mod Views

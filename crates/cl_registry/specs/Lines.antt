@@ -39,3 +39,7 @@ pub record Numbered : Type 0 where
 abbrev pub numbered_from : ℕ → List (List ℕ) → List Numbered
 numbered_from number [] = []
 numbered_from number (line ∷ lines) = record { number = number; text = line } ∷ numbered_from (number + 1) lines
+
+-- the lines of a text that are not skipped, where its first line has this number
+abbrev pub stated_from : ℕ → List ℕ → List Numbered
+stated_from number text = filter (λ line. not (is_skipped line.text)) (numbered_from number (lines_of text))

@@ -6,10 +6,11 @@ pub mod config;
 pub mod lines;
 pub mod report;
 pub mod script;
+mod shelf;
 pub mod source;
 
-pub use config::Config;
-pub use lines::{Line, Lines, Words, is_skipped};
+pub use config::{Config, ConfigFault};
+pub use lines::{Line, Lines, Stated, Words, is_skipped};
 pub use report::{Answers, History, Report};
 pub use script::Script;
 pub use source::{ClassBytes, Outcome, Probe, Source, SourceFault};

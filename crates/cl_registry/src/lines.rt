@@ -1,7 +1,7 @@
 ghost use Rattle.std.specs.Prelude.{◌≡◌, ◌<◌, ◌==◌, length};
 ghost use Rattle.std.specs.List.{before_first, after_first};
 ghost use Rattle.std.specs.Iterator.{YieldsFirstBy, YieldsFirstRef, item_count};
-ghost use Rattle.cl_registry.specs.Lines.{lines_of, words_of, is_skipped, is_remark, numbered_from, Numbered};
+ghost use Rattle.cl_registry.specs.Lines.{lines_of, words_of, is_skipped, is_remark, numbered_from, stated_from, Numbered};
 
 use std::marker::Model;
 
@@ -65,6 +65,55 @@ impl<'a> Iterator for Lines<'a> {
         self.number += 1;
         self.rest = rest;
         Some(Line { number, text })
+    }
+}
+
+/// The lines that are left of a text, without those that are skipped.
+#[derive(Drop)]
+pub struct Stated<'a> {
+    lines: Lines<'a>,
+}
+
+impl<'a> Model for Stated<'a> {
+    ghost use Rattle.cl_registry.specs.Lines.{Numbered};
+
+    ghost Value = { Numbered };
+
+    ghost view = { λ s. s.lines };
+}
+
+impl<'a> Stated<'a> {
+    /// The lines of a text that are not skipped, where its first line is number 1.
+    pub fn new(text: &'a str) -> Stated<'a>
+        ensures { result ≡ record { number = 1; text = text.now } }
+    {
+        Stated {
+            lines: Lines::new(text),
+        }
+    }
+
+    /// The text that is left, from the start of the next line, skipped or not.
+    pub fn rest(&self) -> &'a str
+        ensures { result.now ≡ self.now.text }
+    {
+        self.lines.rest()
+    }
+}
+
+impl<'a> Iterator for Stated<'a> {
+    type Item = Line<'a>;
+
+    ghost next_gives = { YieldsFirstBy (λ l. record { number = l.number; text = l.text.now }) (λ s. stated_from s.number s.text) };
+
+    ghost remaining = { item_count (λ s. stated_from s.number s.text) };
+
+    fn next(&mut self) -> Option<Line<'a>> {
+        while let Some(line) = self.lines.next() {
+            if !is_skipped(line.text) {
+                return Some(line);
+            }
+        }
+        None
     }
 }
 

@@ -37,6 +37,13 @@ impl ClassBytes {
     {
         self.items.as_slice()
     }
+
+    /// The bytes, taken out.
+    pub fn into_vec(self) -> Vec<u8>
+        ensures { result.items ≡ self }
+    {
+        self.items
+    }
 }
 
 /// What stands for a loader and a name.

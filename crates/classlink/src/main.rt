@@ -4,6 +4,7 @@
 mod fault;
 mod input;
 mod print;
+mod sections;
 mod words;
 
 use std::env;
@@ -20,10 +21,22 @@ fn main(rt: HostRuntime) -> io::Result<()> {
         Err(e) => println!(rt; "{e}")?,
     }
     match input::read_text(alloc, rt.stdin()) {
-        Ok(text) => {
-            let n = text.len();
-            println!(rt; "{n}")?;
-        }
+        Ok(text) => match sections::cut(alloc, text.as_str()) {
+            Ok(s) => {
+                let line = s.config_line;
+                let config = s.config;
+                println!(rt; "config {line} {config}")?;
+                for class in &s.classes {
+                    let line = class.line;
+                    let loader = class.loader;
+                    let body = class.body;
+                    println!(rt; "class {line} {loader} {body}")?;
+                }
+                let script = s.script;
+                println!(rt; "script {script}")?;
+            }
+            Err(e) => println!(rt; "{e}")?,
+        },
         Err(e) => println!(rt; "{e}")?,
     }
     Ok(())

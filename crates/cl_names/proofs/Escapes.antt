@@ -1,6 +1,6 @@
 -- What an escaped text writes.
-use Rattle.std.proofs.Common.{◌≡◌, ◌⊎◌, ℕ, zero, suc, ◌+◌, ◌-◌, ◌*◌, ◌/◌, ◌%◌, ◌<◌, ◌≤◌, Bool, true, false, not, cond, List, [], ◌∷◌, ◌++◌, length, get_or, take, drop, Option, Some, None, refl, sym, ap, subst, ◌∙◌, ◌&&◌, eqb, ltb, leb, arith, inl, inr}
-use Rattle.std.specs.Prelude.{nat_lt, nat_le, IsSome, Result, Ok, Err}
+use Rattle.std.proofs.Common.{◌≡◌, ◌⊎◌, ℕ, zero, suc, ◌+◌, ◌-◌, ◌*◌, ◌/◌, ◌%◌, ◌<◌, ◌≤◌, Bool, true, false, cond, List, [], ◌∷◌, ◌++◌, length, get_or, take, drop, Option, Some, None, refl, sym, ap, subst, ◌∙◌, ◌&&◌, eqb, ltb, leb, arith, inl, inr}
+use Rattle.std.specs.Prelude.{nat_lt, IsSome}
 use Rattle.std.specs.Option.{option_map, option_and_then}
 use Rattle.std.specs.List.{flat_map, AllByRecursion}
 use Rattle.std.specs.Char.{digit_value, digit_char, is_digit}
@@ -9,7 +9,7 @@ use Rattle.std.proofs.lemmas.Bool.Decides.{nat_tests}
 use Rattle.std.proofs.lemmas.Bool.{cases_Bool, false≢true, and_parts, and_from, cond-true, cond-false, eqb-true, lt-ltb, le-leb, leb-true}
 use Rattle.std.proofs.lemmas.List.{append_assoc, append-nil, length-append, take_rest}
 use Rattle.cl_names.specs.Text.{unit, IsModifiedUtf8}
-use Rattle.cl_names.specs.Escape.{is_plain, hex_value, are_hex, IsEscape, WritesUnit, Writes, WritesName, printed_unit, escaped, after_backslash, first_written, written_units, if_short, unescaped}
+use Rattle.cl_names.specs.Escape.{is_plain, hex_value, are_hex, WritesUnit, Writes, WritesName, printed_unit, escaped, after_backslash, first_written, written_units, if_short, unescaped}
 use Rattle.cl_names.proofs.Units.{escaped_is}
 
 some_is : {A : Type 0} (b : Bool) (x y : A) (o : Option A) → cond b (Some x) o ≡ Some y → ((b ≡ true) × (x ≡ y)) ⊎ ((b ≡ false) × (o ≡ Some y))

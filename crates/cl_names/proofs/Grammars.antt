@@ -1,10 +1,10 @@
 -- The tests of names tell the kinds.
-use Rattle.std.proofs.Common.{◌≡◌, ◌≢◌, ◌⊎◌, ℕ, suc, ◌<◌, ◌≤◌, Bool, true, false, not, cond, List, [], ◌∷◌, ◌++◌, length, refl, sym, ap, subst, ◌∙◌, ◌&&◌, ◌||◌, arith, inl, inr, eqb, ltb, leb}
+use Rattle.std.proofs.Common.{◌≡◌, ℕ, ◌<◌, ◌≤◌, Bool, true, false, not, List, [], ◌∷◌, length, refl, sym, ap, ◌∙◌, ◌&&◌, ◌||◌, arith, inl, inr, eqb}
 use Rattle.std.specs.Prelude.{nat_eq, nat_le, codes, MatchBool, Result, Ok, Err}
-use Rattle.std.specs.List.{flat_map, All, AllByRecursion, list_all, slice_split, join_with_byte}
+use Rattle.std.specs.List.{flat_map, AllByRecursion, list_all, slice_split, join_with_byte}
 use Rattle.std.specs.Cmp.Lexicographic.{pointwise, bytes_decides}
 use Rattle.std.proofs.lemmas.Bool.Decides.{nat_tests}
-use Rattle.std.proofs.lemmas.Bool.{cases_Bool, and_parts, and_from, or_cases, or_left, or_right, false≢true, le-leb, leb-true}
+use Rattle.std.proofs.lemmas.Bool.{and_parts, and_from, or_cases, or_left, or_right, false≢true, le-leb, leb-true}
 use Rattle.std.proofs.lemmas.List.Splits.{slice_split_none, slice_split_at, join_with_byte-slice_split, length-slice_split}
 use Rattle.std.proofs.lemmas.List.Elements.{All-from_recursion}
 use Rattle.cl_names.specs.Text.{unit, IsModifiedUtf8, is_text}

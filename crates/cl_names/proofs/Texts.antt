@@ -1,9 +1,9 @@
 -- The test of modified UTF-8 goes on after each code unit.
-use Rattle.std.proofs.Common.{◌≡◌, ◌⊎◌, ℕ, zero, suc, ◌+◌, ◌<◌, ◌≤◌, Bool, true, false, cond, List, [], ◌∷◌, ◌++◌, length, Option, Some, None, refl, sym, ap, subst, ◌∙◌, ◌&&◌, arith, inl, inr}
-use Rattle.std.specs.Prelude.{nat_lt, MatchBool}
+use Rattle.std.proofs.Common.{◌≡◌, ◌⊎◌, ℕ, ◌+◌, ◌<◌, ◌≤◌, Bool, true, false, cond, List, [], ◌∷◌, ◌++◌, length, Option, Some, None, refl, ap, subst, ◌∙◌, ◌&&◌, arith, inl, inr}
+use Rattle.std.specs.Prelude.{nat_lt}
 use Rattle.std.specs.List.{flat_map, AllByRecursion}
 use Rattle.std.proofs.lemmas.Bool.Decides.{nat_tests}
-use Rattle.std.proofs.Common.{◌*◌, ◌-◌, ◌/◌, ◌%◌, ltb, leb, eqb}
+use Rattle.std.proofs.Common.{◌*◌, ◌-◌, ◌/◌, ◌%◌}
 use Rattle.cl_names.specs.Text.{unit, IsModifiedUtf8, is_single, is_pair, is_triple, after_unit, after_single, after_pair, is_text}
 
 some_is : {A : Type 0} (b : Bool) (x y : A) (o : Option A) → cond b (Some x) o ≡ Some y → ((b ≡ true) × (x ≡ y)) ⊎ ((b ≡ false) × (o ≡ Some y))
@@ -153,11 +153,6 @@ test_from_text (u ∷ us) h = goes_on (unit u ++ flat_map unit us) (flat_map uni
 
 pub no_text : (bytes : List ℕ) → is_text bytes ≡ false → IsModifiedUtf8 bytes → ⊥
 no_text bytes e t = differ (is_text bytes) e (ap is_text t.spelled ∙ test_from_text t.units t.each)
-
--- what the test says
-pub told : (bytes : List ℕ) (b : Bool) → b ≡ is_text bytes → MatchBool b (IsModifiedUtf8 bytes) (IsModifiedUtf8 bytes → ⊥)
-told bytes true e = text_from_test bytes (sym e)
-told bytes false e = no_text bytes (sym e)
 
 -- for callers that go by the test
 pub test_of : (bytes : List ℕ) → IsModifiedUtf8 bytes → is_text bytes ≡ true

@@ -1,6 +1,6 @@
 -- Escaped text: how it writes code units, and the one text that is printed for them.
-use Rattle.std.specs.Prelude.{◌≡◌, ◌⊎◌, ℕ, ◌+◌, ◌*◌, ◌/◌, ◌%◌, ◌≤◌, ◌<◌, Bool, not, ◌&&◌, ◌==◌, nat_lt, nat_le, if◌then◌else◌, List, [], ◌∷◌, ◌++◌, length, true, Option, Some, None, option_map, option_and_then}
-use Rattle.std.specs.List.{flat_map, AllByRecursion}
+use Rattle.std.specs.Prelude.{◌≡◌, ◌⊎◌, ℕ, ◌+◌, ◌*◌, ◌/◌, ◌%◌, ◌≤◌, Bool, not, ◌&&◌, ◌==◌, nat_lt, nat_le, if◌then◌else◌, List, [], ◌∷◌, ◌++◌, length, true, Option, Some, None, option_map, option_and_then}
+use Rattle.std.specs.List.{flat_map}
 use Rattle.std.specs.Char.{digit_value, digit_char, is_digit}
 use Rattle.cl_names.specs.Text.{unit}
 
@@ -12,6 +12,7 @@ is_plain u = nat_le 33 u && nat_lt u 127 && not (u == 92)
 abbrev pub hex_value : ℕ → ℕ → ℕ → ℕ → ℕ
 hex_value a b c d = digit_value a * 4096 + digit_value b * 256 + digit_value c * 16 + digit_value d
 
+-- whether they are such digits
 abbrev pub are_hex : ℕ → ℕ → ℕ → ℕ → Bool
 are_hex a b c d = is_digit a 16 && is_digit b 16 && is_digit c 16 && is_digit d 16
 
@@ -25,6 +26,7 @@ pub record IsEscape (text : List ℕ) (u : ℕ) : Type 0 where
   pub value : u ≡ hex_value a b c d
   pub spelled : text ≡ 92 ∷ 117 ∷ a ∷ b ∷ c ∷ d ∷ []
 
+-- a code unit is written as itself, where it may be, or as an escape
 abbrev pub WritesUnit : List ℕ → ℕ → Type 0
 WritesUnit text u = ((is_plain u ≡ true) × (text ≡ u ∷ [])) ⊎ IsEscape text u
 
@@ -65,11 +67,12 @@ units_of (a ∷ b ∷ c ∷ rest) =
 unfoldable pub escaped : List ℕ → List ℕ
 escaped name = flat_map printed_unit (units_of name)
 
--- the first code unit that an escaped text writes, and what follows it
+-- the same behind a \
 abbrev pub after_backslash : List ℕ → Option (ℕ × List ℕ)
 after_backslash (u ∷ a ∷ b ∷ c ∷ d ∷ rest) = if u == 117 && are_hex a b c d then Some (hex_value a b c d, rest) else None
 after_backslash _ = None
 
+-- the first code unit that an escaped text writes, and what follows it
 abbrev pub first_written : List ℕ → Option (ℕ × List ℕ)
 first_written [] = None
 first_written (x ∷ rest) = if is_plain x then Some (x, rest) else if x == 92 then after_backslash rest else None
@@ -85,6 +88,7 @@ written_units (x ∷ u ∷ a ∷ b ∷ c ∷ d ∷ rest) =
     else None
 written_units (x ∷ rest) = if is_plain x then option_map (λ units. x ∷ units) (written_units rest) else None
 
+-- a name that is not too long
 abbrev pub if_short : List ℕ → Option (List ℕ)
 if_short name = if nat_le (length name) 65535 then Some name else None
 

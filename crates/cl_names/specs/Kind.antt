@@ -1,5 +1,5 @@
 -- The kinds of names as grammars over code points (JVMS SE 8, 4.2.1, 4.2.2), and a test of each over bytes.
-use Rattle.std.specs.Prelude.{◌≡◌, ◌≢◌, ◌⊎◌, ℕ, ◌+◌, ◌-◌, ◌*◌, ◌<◌, ◌≤◌, Bool, true, false, not, ◌&&◌, ◌||◌, ◌==◌, nat_eq, nat_lt, nat_le, if◌then◌else◌, List, [], ◌∷◌, length, codes}
+use Rattle.std.specs.Prelude.{◌≡◌, ◌≢◌, ◌⊎◌, ℕ, ◌+◌, ◌-◌, ◌*◌, ◌<◌, ◌≤◌, Bool, false, not, ◌&&◌, ◌||◌, ◌==◌, nat_eq, nat_lt, nat_le, if◌then◌else◌, List, [], ◌∷◌, length, codes}
 use Rattle.std.specs.List.{AllByRecursion, list_all, list_any, join_with_byte, slice_split}
 use Rattle.std.specs.Cmp.Lexicographic.{pointwise}
 use Rattle.cl_names.specs.Text.{IsModifiedUtf8, is_text}
@@ -50,25 +50,31 @@ pub record IsNameOf (Kind : List ℕ → Type 0) (bytes : List ℕ) : Type 0 whe
   pub kind : Kind (code_points text.units)
   pub short : length bytes ≤ 65535
 
+-- none of the bytes is a /
 abbrev pub HasNoSlash : List ℕ → Type 0
 HasNoSlash bytes = AllByRecursion (λ b. b ≢ 47) bytes
 
 -- ---- tests; they see the same in the bytes of a text, its code units and its code points
 
+-- whether an unqualified name may have it
 abbrev pub is_allowed : ℕ → Bool
 is_allowed p = not (p == 46 || p == 59 || p == 91 || p == 47)
 
+-- < or >
 abbrev pub is_angle : ℕ → Bool
 is_angle p = p == 60 || p == 62
 
+-- some bytes, each of them allowed
 abbrev pub has_unqualified_form : List ℕ → Bool
 has_unqualified_form [] = false
 has_unqualified_form (p ∷ points) = list_all is_allowed (p ∷ points)
 
+-- a special name, or an unqualified one with no < and no >
 abbrev pub has_method_form : List ℕ → Bool
 has_method_form points =
     pointwise nat_eq points (codes "<init>") || pointwise nat_eq points (codes "<clinit>") || has_unqualified_form points && list_all (λ p. not (is_angle p)) points
 
+-- each part between two / is unqualified
 abbrev pub has_class_form : List ℕ → Bool
 has_class_form points = list_all has_unqualified_form (slice_split (λ p. p == 47) points)
 
@@ -76,6 +82,7 @@ has_class_form points = list_all has_unqualified_form (slice_split (λ p. p == 4
 abbrev pub is_name_of : (List ℕ → Bool) → List ℕ → Bool
 is_name_of form bytes = is_text bytes && nat_le (length bytes) 65535 && form bytes
 
+-- the bytes are an unqualified name, a method's name, a class's name
 unfoldable pub is_unqualified_name : List ℕ → Bool
 is_unqualified_name bytes = is_name_of has_unqualified_form bytes
 

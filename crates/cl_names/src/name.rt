@@ -45,7 +45,7 @@ impl PartialEq for Name {
     ghost laws = { Cmp.partial_equiv_from_equiv nat_list_eq_equiv };
 
     fn eq(&self, other: &Name) -> bool {
-        self.bytes.as_slice() == other.bytes.as_slice()
+        self.bytes() == other.bytes()
     }
 }
 
@@ -73,7 +73,7 @@ impl Ord for Name {
     ghost matches_eq = { λ x y. texts_ties x y };
 
     fn cmp(&self, other: &Name) -> Ordering {
-        self.bytes.as_slice().cmp(other.bytes.as_slice())
+        self.bytes().cmp(other.bytes())
     }
 }
 
@@ -83,7 +83,7 @@ impl Hash for Name {
     ghost respects_eq = { Prim.search (hashing, rules) };
 
     fn hash<H: Hasher>(&self, state: &mut H) {
-        self.bytes.as_slice().hash(state);
+        self.bytes().hash(state);
     }
 }
 
@@ -114,28 +114,33 @@ impl Name {
     ghost use Rattle.cl_names.specs.Kind.{IsUnqualified, IsMethod, IsClass, IsNameOf, is_unqualified_name, is_method_name, is_class_name, HasNoSlash, package_of};
     ghost use Rattle.cl_names.specs.Name.{NameOf, KindNameOf, TextNameOf};
 
-    /// The name of any kind that the bytes spell.
+    /// The name of any kind that the bytes spell: `NotModifiedUtf8` where they spell nothing, `BadName`
+    /// where they are over 65,535, and then `Memory` (JVMS SE 8, 4.4.7).
     pub fn any(alloc: Global, bytes: &[u8]) -> Result<Name, NameFault>
         ensures { NameOf bytes.now result }
     {
         spelled(alloc, bytes, true)
     }
 
-    /// The class's name that the bytes spell (JVMS SE 8, 4.2.1).
+    /// The class's name that the bytes spell, unqualified names with `/` between them: `NotModifiedUtf8`,
+    /// then `BadName` where it is another or over 65,535 bytes, then `Memory` (JVMS SE 8, 4.2.1).
     pub fn class(alloc: Global, bytes: &[u8]) -> Result<Name, NameFault>
         ensures { KindNameOf IsClass bytes.now result }
     {
         spelled(alloc, bytes, has_class_form(bytes))
     }
 
-    /// The unqualified name that the bytes spell (JVMS SE 8, 4.2.2).
+    /// The unqualified name that the bytes spell, with none of `.` `;` `[` `/`: `NotModifiedUtf8`, then
+    /// `BadName` where it is another or over 65,535 bytes, then `Memory` (JVMS SE 8, 4.2.2).
     pub fn unqualified(alloc: Global, bytes: &[u8]) -> Result<Name, NameFault>
         ensures { KindNameOf IsUnqualified bytes.now result }
     {
         spelled(alloc, bytes, has_unqualified_form(bytes))
     }
 
-    /// The method's name that the bytes spell (JVMS SE 8, 4.2.2).
+    /// The method's name that the bytes spell, unqualified without `<` and `>`, or `<init>` or
+    /// `<clinit>`: `NotModifiedUtf8`, then `BadName` where it is another or over 65,535 bytes, then
+    /// `Memory` (JVMS SE 8, 4.2.2).
     pub fn method(alloc: Global, bytes: &[u8]) -> Result<Name, NameFault>
         ensures { KindNameOf IsMethod bytes.now result }
     {
@@ -143,7 +148,8 @@ impl Name {
     }
 
     /// The name of any kind that escaped text writes: each code unit as itself, where it is one of
-    /// 0x21 to 0x7E but `\`, or as `\u` and four hexadecimal digits. Other text is no name.
+    /// 0x21 to 0x7E but `\`, or as `\u` and four hexadecimal digits. `BadName` where the text is no
+    /// such text or writes over 65,535 bytes, and then `Memory`.
     pub fn from_text(alloc: Global, text: &str) -> Result<Name, NameFault>
         ensures { TextNameOf text.now result }
     {
@@ -156,14 +162,15 @@ impl Name {
         }
     }
 
-    /// The name as escaped text, in lower case, with escapes only where they are needed.
+    /// The name as escaped text, in lower case, with escapes only where they are needed. Only want of
+    /// memory refuses it.
     pub fn text(&self, alloc: Global) -> Result<String, AllocError>
         ensures { IfOk result (λ text. string_bytes text ≡ escaped self.now) }
     {
         printed(alloc, self.bytes())
     }
 
-    /// Whether it is a class's name.
+    /// Whether it is a class's name (JVMS SE 8, 4.2.1).
     pub fn is_class(&self) -> bool
         ensures kind { MatchBool result (IsNameOf IsClass self.now) (IsNameOf IsClass self.now → ⊥) }
         ensures test { result ≡ is_class_name self.now }
@@ -171,7 +178,7 @@ impl Name {
         has_class_form(self.bytes())
     }
 
-    /// Whether it is an unqualified name.
+    /// Whether it is an unqualified name (JVMS SE 8, 4.2.2).
     pub fn is_unqualified(&self) -> bool
         ensures kind { MatchBool result (IsNameOf IsUnqualified self.now) (IsNameOf IsUnqualified self.now → ⊥) }
         ensures test { result ≡ is_unqualified_name self.now }
@@ -179,7 +186,7 @@ impl Name {
         has_unqualified_form(self.bytes())
     }
 
-    /// Whether it is a method's name.
+    /// Whether it is a method's name (JVMS SE 8, 4.2.2).
     pub fn is_method(&self) -> bool
         ensures kind { MatchBool result (IsNameOf IsMethod self.now) (IsNameOf IsMethod self.now → ⊥) }
         ensures test { result ≡ is_method_name self.now }
@@ -187,7 +194,8 @@ impl Name {
         has_method_form(self.bytes())
     }
 
-    /// The package of a class's name: what stands before the last `/`.
+    /// The package of a class's name: what stands before the last `/`, nothing where there is none
+    /// (JVMS SE 8, 5.3).
     pub fn package(&self) -> &[u8]
         ensures before { (front last : List ℕ) → self.now ≡ front ++ 47 ∷ last → HasNoSlash last → result.now ≡ front }
         ensures none { HasNoSlash self.now → result.now ≡ [] }
@@ -206,7 +214,7 @@ impl Name {
         self.bytes().starts_with(prefix.bytes())
     }
 
-    /// The bytes.
+    /// The bytes, in modified UTF-8.
     pub fn bytes(&self) -> &[u8]
         ensures bytes { result.now ≡ self.now }
         ensures text { IsModifiedUtf8 self.now }
@@ -215,12 +223,12 @@ impl Name {
         self.bytes.as_slice()
     }
 
-    /// A copy.
+    /// A copy. Only want of memory refuses it.
     pub fn try_clone(&self, alloc: Global) -> Result<Name, AllocError>
         ensures { IfOk result (λ name. name ≡ self.now) }
     {
         Ok(Name {
-            bytes: Vec::from_slice(alloc, self.bytes.as_slice())?,
+            bytes: Vec::from_slice(alloc, self.bytes())?,
         })
     }
 }

@@ -2,6 +2,7 @@ pub mod Configs
 pub mod Counts
 pub mod Lines
 pub mod Outcomes
+pub mod Puts
 pub mod Shelves
 pub mod Told
 pub mod Views

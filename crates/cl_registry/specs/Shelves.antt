@@ -1,7 +1,7 @@
 -- The contents of several loaders, each a list of names with their bytes, and how a content grows.
-use Rattle.std.specs.Prelude.{◌≡◌, ℕ, ◌+◌, ◌<◌, ◌≤◌, ◌==◌, ◌&&◌, Bool, nat_eq, List, [], ◌∷◌, ◌++◌, length, map, Option, Some, None, IsSome, Result, Ok, Err, if◌then◌else◌}
+use Rattle.std.specs.Prelude.{◌≡◌, ℕ, ◌+◌, nat_eq, List, [], ◌∷◌, ◌++◌, map, Option, Some, None, if◌then◌else◌}
 use Rattle.std.specs.Cmp.Lexicographic.{pointwise}
-use Rattle.cl_model.specs.Content.{Stored, Content, content_at}
+use Rattle.cl_model.specs.Content.{Stored, Content}
 
 -- names with their bytes
 abbrev pub Shelved : Type 0

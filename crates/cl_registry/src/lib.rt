@@ -4,6 +4,7 @@
 
 pub mod config;
 pub mod lines;
+pub mod memory;
 pub mod report;
 pub mod script;
 mod shelf;
@@ -11,6 +12,7 @@ pub mod source;
 
 pub use config::{Config, ConfigFault};
 pub use lines::{Line, Lines, Stated, Words, is_skipped};
+pub use memory::{MemorySource, PutRefused, Telling};
 pub use report::{Answers, History, Report};
 pub use script::Script;
 pub use source::{ClassBytes, Outcome, Probe, Source, SourceFault};

@@ -1,5 +1,7 @@
-ghost use Rattle.std.specs.Prelude.{◌≡◌, [], ◌∷◌, ◌++◌, None, Some, OnOk, IfErr, OnErr, IfOk};
+ghost use Rattle.std.specs.Prelude.{◌≡◌, [], ◌∷◌, ◌++◌, None, Some, OnOk, IfErr, OnErr, IfOk, nat_eq};
 ghost use Rattle.std.specs.Option.{option_map};
+ghost use Rattle.std.specs.Cmp.Lexicographic.{pointwise};
+ghost use Rattle.indexmap.specs.IndexMap.{insert_entry};
 ghost use Rattle.cl_registry.specs.Shelves.{bytes_in};
 
 use crate::source::ClassBytes;
@@ -48,6 +50,17 @@ impl Shelf {
         self.entries.get(name)
     }
 
+    /// A copy, which shares the bytes.
+    pub fn try_clone(&self, alloc: Global) -> Result<Shelf, AllocError>
+        ensures { IfOk result (λ s. s ≡ self.now) }
+    {
+        let mut entries = IndexMap::with_capacity(alloc, self.entries.len())?;
+        for (name, bytes) in self.entries.iter() {
+            store(&mut entries, name.try_clone(alloc)?, Arc::try_clone(bytes)?)?;
+        }
+        Ok(Shelf { entries })
+    }
+
     /// Puts a name that is not there. Only want of memory refuses it.
     pub fn put(&mut self, alloc: Global, name: Name, bytes: Vec<u8>) -> Result<(), NotPut>
         requires { bytes_in self.old name ≡ None }
@@ -70,4 +83,16 @@ impl Shelf {
             }),
         }
     }
+}
+
+/// Stores the bytes of a name.
+fn store(
+    entries: &mut IndexMap<Name, Arc<ClassBytes>>,
+    name: Name,
+    bytes: Arc<ClassBytes>,
+) -> Result<(), AllocError>
+    ensures { OnOk result (entries.new.entries ≡ insert_entry (pointwise nat_eq) entries.old.entries name bytes) }
+{
+    entries.insert(name, bytes)?;
+    Ok(())
 }

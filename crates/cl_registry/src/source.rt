@@ -3,7 +3,7 @@ ghost use Rattle.cl_registry.specs.Told.{IsTold};
 
 use cl_model::{LoaderId, Told};
 use cl_names::Name;
-use std::alloc::Global;
+use std::alloc::{AllocError, Global};
 use std::marker::{Model, PhantomData};
 use std::sync::Arc;
 use thiserror::Error;
@@ -124,6 +124,16 @@ pub enum SourceFault {
     TooLarge,
     #[error("S3 Twice")]
     Twice,
+}
+
+impl From<AllocError> for SourceFault {
+    ghost use Rattle.cl_registry.specs.declared.source.SourceFault.TheVariants.{Memory};
+
+    ghost from_gives = { λ _ e. e ≡ Memory };
+
+    fn from(_e: AllocError) -> SourceFault {
+        SourceFault::Memory
+    }
 }
 
 /// Gives the bytes that each loader's own content has for a name (JVMS SE 8, 5.3.2).

@@ -1,10 +1,9 @@
-use Rattle.std.proofs.Common.{◌≡◌, ◌++◌, length, ap, refl, sym, ◌∙◌, arith, List, [], ℕ, Option, None, Some}
-use Rattle.std.proofs.lemmas.List.{append-nil}
+use Rattle.std.proofs.Common.{◌++◌, ap, sym, ◌∙◌}
 use Rattle.std.specs.Option.{option_map}
 use Rattle.std.specs.List.{flat_map}
 use Rattle.cl_names.specs.Text.{unit}
 use Rattle.cl_names.specs.Escape.{written_units}
-use Rattle.cl_names.proofs.Escapes.{copied_end, written_more, written_none, copied_more, front_length}
+use Rattle.cl_names.proofs.Escapes.{copied_end, written_more, copied_more, front_length}
 use Rattle.cl_names.proofs.escape.written_bytes.Goals as goal
 
 pub loop-unit-preserved : goal.loop-unit-preserved

@@ -1,4 +1,4 @@
-use Rattle.std.proofs.Common.{◌≡◌, ◌+◌, length, eqb, true, false, ap, refl, sym, ◌∙◌, arith, List, ℕ, Option, None, Some}
+use Rattle.std.proofs.Common.{◌≡◌, ◌+◌, length, eqb, false, ap, sym, ◌∙◌, arith}
 use Rattle.std.proofs.lemmas.Bool.{eqb-true}
 use Rattle.std.proofs.lemmas.Bool.Decides.{nat_tests}
 use Rattle.std.proofs.lemmas.List.{nil_from_length}
@@ -6,7 +6,7 @@ use Rattle.std.specs.Option.{option_map}
 use Rattle.std.specs.List.{flat_map}
 use Rattle.cl_names.specs.Text.{unit}
 use Rattle.cl_names.specs.Escape.{written_units}
-use Rattle.cl_names.proofs.Escapes.{written_stops, written_more, written_none, counted_more, counted_none, counted_end, front_length}
+use Rattle.cl_names.proofs.Escapes.{written_stops, written_more, counted_more, counted_none, counted_end, front_length}
 use Rattle.cl_names.proofs.escape.written_len.Goals as goal
 
 pub loop-rest-init : goal.loop-rest-init

@@ -1,7 +1,7 @@
-use Rattle.std.proofs.Common.{not, rules, tests}
+use Rattle.std.proofs.Common.{rules, tests}
 use Rattle.std.proofs.lemmas.Iterator.{YieldsList-from_slice}
 use Rattle.std.proofs.lemmas.Iterator.Search.{all_from_yields_List}
-use Rattle.cl_names.specs.Kind.{is_allowed, is_angle}
+use Rattle.cl_names.specs.Kind.{is_allowed}
 use Rattle.cl_names.proofs.kind.are_allowed.Goals as goal
 
 pub returns : goal.returns

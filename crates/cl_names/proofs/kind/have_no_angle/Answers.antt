@@ -1,7 +1,7 @@
 use Rattle.std.proofs.Common.{not, rules, tests}
 use Rattle.std.proofs.lemmas.Iterator.{YieldsList-from_slice}
 use Rattle.std.proofs.lemmas.Iterator.Search.{all_from_yields_List}
-use Rattle.cl_names.specs.Kind.{is_allowed, is_angle}
+use Rattle.cl_names.specs.Kind.{is_angle}
 use Rattle.cl_names.proofs.kind.have_no_angle.Goals as goal
 
 pub returns : goal.returns

@@ -1,4 +1,4 @@
-use Rattle.std.proofs.Common.{◌≡◌, sym, ◌∙◌, arith, length, true}
+use Rattle.std.proofs.Common.{◌≡◌, sym, ◌∙◌, arith, true}
 use Rattle.cl_names.specs.Text.{is_text}
 use Rattle.cl_names.proofs.Texts.{text_from_test}
 use Rattle.cl_names.proofs.name.spelled.Goals as goal

@@ -1,6 +1,5 @@
-use Rattle.std.proofs.Common.{◌≡◌, ◌≤◌, length, List, ℕ, subst, sym, ap, ◌∙◌, arith}
+use Rattle.std.proofs.Common.{◌≤◌, length, List, ℕ, subst, sym, arith}
 use Rattle.std.proofs.lemmas.Result.{err_from_is_err_and}
-use Rattle.cl_names.specs.Name.{TextNameOf}
 use Rattle.cl_names.specs.Escape.{WritesName}
 use Rattle.cl_names.proofs.Escapes.{name_read, name_counted, name_too_long, name_unread, name_length, writes_text}
 use Rattle.cl_names.proofs.name.Name.from_text.Goals as goal

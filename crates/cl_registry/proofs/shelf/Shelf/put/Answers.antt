@@ -1,4 +1,4 @@
-use Rattle.std.proofs.Common.{◌≡◌, [], ◌∷◌, ◌++◌, ap, ◌∙◌}
+use Rattle.std.proofs.Common.{[], ◌∷◌, ◌++◌, ap, ◌∙◌}
 use Rattle.cl_registry.proofs.Contents.{put_in_room, not_err}
 use Rattle.cl_registry.proofs.shelf.Shelf.put.Goals as goal
 

@@ -1,6 +1,7 @@
 //! Loads and links the classes of a bundle as a Java machine does.
 #![tactic(auto)]
 
+mod bundle;
 mod fault;
 mod input;
 mod print;
@@ -21,19 +22,10 @@ fn main(rt: HostRuntime) -> io::Result<()> {
         Err(e) => println!(rt; "{e}")?,
     }
     match input::read_text(alloc, rt.stdin()) {
-        Ok(text) => match sections::cut(alloc, text.as_str()) {
+        Ok(text) => match bundle::read(alloc, text.as_str()) {
             Ok(s) => {
-                let line = s.config_line;
-                let config = s.config;
-                println!(rt; "config {line} {config}")?;
-                for class in &s.classes {
-                    let line = class.line;
-                    let loader = class.loader;
-                    let body = class.body;
-                    println!(rt; "class {line} {loader} {body}")?;
-                }
-                let script = s.script;
-                println!(rt; "script {script}")?;
+                let n = s.config.count();
+                println!(rt; "{n}")?;
             }
             Err(e) => println!(rt; "{e}")?,
         },

@@ -1,6 +1,6 @@
 -- Lines and words of scripts and bundles. Bytes are compared, so a carriage return or a tab is a character like any other.
-use Rattle.std.specs.Prelude.{ℕ, ◌+◌, ◌==◌, Bool, true, false, not, List, [], ◌∷◌, length, filter, if◌then◌else◌}
-use Rattle.std.specs.List.{slice_split}
+use Rattle.std.specs.Prelude.{◌≡◌, ℕ, ◌+◌, ◌==◌, Bool, true, false, not, List, [], ◌∷◌, length, filter, if◌then◌else◌}
+use Rattle.std.specs.List.{after_first, before_first, slice_split}
 
 -- the parts of a text, where an empty one at its end is none
 abbrev pub without_empty_end : List (List ℕ) → List (List ℕ)
@@ -34,6 +34,13 @@ is_skipped line = skips (words_of line)
 pub record Numbered : Type 0 where
   pub number : ℕ
   pub text : List ℕ
+
+-- the first line is cut off a text whose first line has this number
+pub record CutsLine (old line new : Numbered) : Type 0 where
+  pub number : line.number ≡ old.number
+  pub text : line.text ≡ before_first (λ b. b == 10) old.text
+  pub rest : new.text ≡ after_first (λ b. b == 10) old.text
+  pub next : new.number ≡ old.number + 1
 
 -- lines with their numbers, skipped ones included
 abbrev pub numbered_from : ℕ → List (List ℕ) → List Numbered

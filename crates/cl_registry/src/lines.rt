@@ -1,7 +1,7 @@
-ghost use Rattle.std.specs.Prelude.{◌≡◌, ◌<◌, ◌==◌, length};
+ghost use Rattle.std.specs.Prelude.{◌≡◌, ◌<◌, ◌==◌, ⊤, [], length, IfSome, IfNone};
 ghost use Rattle.std.specs.List.{before_first, after_first};
-ghost use Rattle.std.specs.Iterator.{YieldsFirstBy, YieldsFirstRef, item_count};
-ghost use Rattle.cl_registry.specs.Lines.{lines_of, words_of, is_skipped, is_remark, numbered_from, stated_from, Numbered};
+ghost use Rattle.std.specs.Iterator.{MakesProgress, YieldsFirstBy, YieldsFirstRef, item_count};
+ghost use Rattle.cl_registry.specs.Lines.{lines_of, words_of, is_skipped, is_remark, numbered_from, stated_from, CutsLine, Numbered};
 
 use std::marker::Model;
 
@@ -56,7 +56,12 @@ impl<'a> Iterator for Lines<'a> {
 
     ghost remaining = { item_count (λ s. numbered_from s.number (lines_of s.text)) };
 
-    fn next(&mut self) -> Option<Line<'a>> {
+    fn next(&mut self) -> Option<Line<'a>>
+        ensures steps { YieldsFirstBy (λ l. record { number = l.number; text = l.text.now }) (λ s. numbered_from s.number (lines_of s.text)) self.old result self.new }
+        ensures goes { MakesProgress (λ _. ⊤) (item_count (λ s. numbered_from s.number (lines_of s.text))) self.old result self.new }
+        ensures cut { IfSome result (λ l. CutsLine self.old (record { number = l.number; text = l.text.now }) self.new) }
+        ensures end { IfNone result (self.old.text ≡ []) }
+    {
         if self.rest.is_empty() {
             return None;
         }

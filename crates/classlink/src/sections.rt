@@ -1,3 +1,6 @@
+ghost use Rattle.std.specs.Prelude.{◌≡◌, ◌<◌, ◌++◌, List, ℕ};
+ghost use Rattle.classlink.specs.Cuts.{ClassNameOf, SectionLineOf};
+
 use crate::fault::Fault;
 use cl_names::{Name, NameFault};
 use cl_registry::lines::{Lines, Words, is_skipped};
@@ -25,29 +28,17 @@ pub struct Sections<'a> {
     pub script: &'a str,
 }
 
-/// What a line is to a bundle, up to the line `%script`.
-#[derive(Clone, Copy)]
-enum Heading<'a> {
-    /// A line of the section that it stands in.
-    Inner,
-    Class(&'a str, &'a str),
-    Script,
-    /// A section line that may not stand there, or with other words than it should have.
-    Wrong,
-}
-
-/// Some lines of a section, and the section line that ends them.
-#[derive(Clone, Copy)]
+/// The lines of a section, and the section line that ends it.
+#[derive(Drop)]
 struct Body<'a> {
     text: &'a str,
-    line: usize,
     end: End<'a>,
 }
 
-/// The line that ends a section: of the next class, with loader and name, or of the script.
-#[derive(Clone, Copy)]
+/// A section line: of a class, with its number, loader and name, or of the script.
+#[derive(Drop)]
 enum End<'a> {
-    Class(&'a str, &'a str),
+    Class(usize, &'a str, Name),
     Script,
 }
 
@@ -55,13 +46,13 @@ enum End<'a> {
 pub fn cut<'a>(alloc: Global, text: &'a str) -> Result<Sections<'a>, Fault> {
     let mut lines = Lines::new(text);
     let config_line = opening(&mut lines)?;
-    let mut body = next_body(&mut lines)?;
-    let config = body.text;
+    let Body {
+        text: config,
+        mut end,
+    } = next_body(alloc, &mut lines)?;
     let mut classes = Vec::new(alloc);
-    while let End::Class(loader, name) = body.end {
-        let line = body.line;
-        let name = class_name(alloc, name, line)?;
-        body = next_body(&mut lines)?;
+    while let End::Class(line, loader, name) = end {
+        let body = next_body(alloc, &mut lines)?;
         let section = ClassSection {
             line,
             loader,
@@ -69,6 +60,7 @@ pub fn cut<'a>(alloc: Global, text: &'a str) -> Result<Sections<'a>, Fault> {
             body: body.text,
         };
         classes.push(section).map_err(AllocError::from)?;
+        end = body.end;
     }
     Ok(Sections {
         config_line,
@@ -93,52 +85,61 @@ fn opening(lines: &mut Lines<'_>) -> Result<usize, Fault> {
     Err(Fault::Bundle(0))
 }
 
-/// The lines up to the next section line.
-fn next_body<'a>(lines: &mut Lines<'a>) -> Result<Body<'a>, Fault> {
+/// The lines up to the next section line, and that line.
+fn next_body<'a>(alloc: Global, lines: &mut Lines<'a>) -> Result<Body<'a>, Fault>
+{
     let start = lines.rest();
     loop {
         let here = lines.rest();
         let Some(line) = lines.next() else {
             return Err(Fault::Bundle(0));
         };
-        let end = match heading_of(line.text) {
-            Heading::Inner => continue,
-            Heading::Class(loader, name) => End::Class(loader, name),
-            Heading::Script => End::Script,
-            Heading::Wrong => return Err(Fault::Bundle(line.number)),
-        };
-        return Ok(Body {
-            text: before(start, here),
-            line: line.number,
-            end,
-        });
+        if let Some(end) = section_line(alloc, line.number, line.text)? {
+            let text = before(start, here);
+            return Ok(Body { text, end });
+        }
     }
 }
 
 /// What precedes `rest` in a text that ends in it.
-fn before<'a>(text: &'a str, rest: &str) -> &'a str {
+fn before<'a>(text: &'a str, rest: &str) -> &'a str
+    requires { (front : List ℕ) × (text.now ≡ front ++ rest.now) }
+    ensures { text.now ≡ result.now ++ rest.now }
+{
     let (front, _) = text.split_at(text.len() - rest.len());
     front
 }
 
-fn heading_of<'a>(line: &'a str) -> Heading<'a> {
+/// The section line that a line is, if it is one.
+fn section_line<'a>(alloc: Global, number: usize, line: &'a str) -> Result<Option<End<'a>>, Fault>
+    ensures { SectionLineOf number line.entry.now result }
+{
     let mut words = Words::new(line);
     match words.next() {
         Some("%class") => match (words.next(), words.next(), words.next()) {
-            (Some(loader), Some(name), None) => Heading::Class(loader, name),
-            _ => Heading::Wrong,
+            (Some(loader), Some(name), None) => {
+                let name = class_name(alloc, number, name)?;
+                Ok(Some(End::Class(number, loader, name)))
+            }
+            _ => Err(Fault::Bundle(number)),
         },
-        Some("%script") if words.next().is_none() => Heading::Script,
-        Some("%script" | "%config") => Heading::Wrong,
-        _ => Heading::Inner,
+        Some("%script") if words.next().is_none() => Ok(Some(End::Script)),
+        Some("%script" | "%config") => Err(Fault::Bundle(number)),
+        _ => Ok(None),
     }
 }
 
 /// The class name whose escaped text stands in a section line.
-fn class_name(alloc: Global, text: &str, line: usize) -> Result<Name, Fault> {
-    match Name::from_text(alloc, text) {
-        Ok(name) if name.is_class() => Ok(name),
-        Err(NameFault::Memory) => Err(Fault::Memory),
-        _ => Err(Fault::Bundle(line)),
+fn class_name(alloc: Global, number: usize, text: &str) -> Result<Name, Fault>
+    ensures { ClassNameOf number text.now result }
+{
+    let name = match Name::from_text(alloc, text) {
+        Ok(name) => name,
+        Err(NameFault::Memory) => return Err(Fault::Memory),
+        Err(NameFault::BadName | NameFault::NotModifiedUtf8) => return Err(Fault::Bundle(number)),
+    };
+    if !name.is_class() {
+        return Err(Fault::Bundle(number));
     }
+    Ok(name)
 }

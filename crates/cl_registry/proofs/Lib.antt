@@ -1,3 +1,4 @@
 pub mod LineCuts
 pub mod Places
 pub mod Contents
+pub mod Requests

@@ -1,8 +1,10 @@
+pub mod ClassTexts
 pub mod Configs
 pub mod Counts
 pub mod Lines
 pub mod Outcomes
 pub mod Puts
+pub mod Scripts
 pub mod Shelves
 pub mod Told
 pub mod Views

@@ -3,6 +3,7 @@
 #![tactic(auto)]
 
 pub mod config;
+pub mod faulty;
 pub mod lines;
 pub mod memory;
 pub mod report;
@@ -11,8 +12,9 @@ mod shelf;
 pub mod source;
 
 pub use config::{Config, ConfigFault};
+pub use faulty::FaultySource;
 pub use lines::{Line, Lines, Stated, Words, is_skipped};
 pub use memory::{MemorySource, PutRefused, Telling};
 pub use report::{Answers, History, Report};
-pub use script::Script;
+pub use script::{Script, ScriptFault};
 pub use source::{ClassBytes, Outcome, Probe, Source, SourceFault};

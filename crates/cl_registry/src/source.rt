@@ -1,4 +1,4 @@
-ghost use Rattle.std.specs.Prelude.{◌≡◌, ℕ, IfOk, IfErr};
+ghost use Rattle.std.specs.Prelude.{◌≡◌, ◌+◌, ◌^◌, ℕ, IfOk, IfErr, IsErrOf};
 ghost use Rattle.cl_registry.specs.Told.{IsTold};
 
 use cl_model::{LoaderId, Told};
@@ -143,7 +143,7 @@ pub trait Source<T: Told>: Drop {
     /// How many reads the source has refused for another cause than memory.
     ghost refused: { Self → ℕ };
 
-    /// What stands for a loader and a name.
+    /// What stands for a loader and a name. Once the count of failures is at its end, every read is `Device`.
     fn read(
         &mut self,
         alloc: Global,
@@ -151,7 +151,8 @@ pub trait Source<T: Told>: Drop {
         name: &Name,
     ) -> Result<Probe<T>, SourceFault>
         ensures asked { IfOk result (λ p. (p.loader ≡ loader) × (p.name ≡ name.now)) }
-        ensures counts { Counts (refused self.old) (refused self.new) result };
+        ensures counts { Counts (refused self.old) (refused self.new) result }
+        ensures spent { refused self.old + 1 ≡ 2 ^ 64 → IsErrOf result SourceFault.Device };
 
     /// How many reads were refused for another cause than memory, at most 2^64 - 1.
     fn failures(&self) -> u64

@@ -1,0 +1,67 @@
+-- Reading the lines of a script.
+use Rattle.std.proofs.Common.{◌≡◌, ℕ, ◌≤◌, List, [], ◌∷◌, ◌++◌, length, append_assoc, append-nil, codes, refl, sym, ap, subst, ◌∙◌, arith}
+use Rattle.std.proofs.lemmas.List.{length_push}
+use Rattle.cl_model.specs.declared.request.Request.{Request}
+use Rattle.cl_names.specs.Kind.{IsNameOf, IsClass}
+use Rattle.cl_names.specs.Escape.{WritesName}
+use Rattle.cl_names.proofs.Escapes.{name_alone}
+use Rattle.cl_registry.specs.Lines.{Numbered, words_of}
+use Rattle.cl_registry.specs.Scripts.{IsBad, Asks, AllAsk, StopsAt}
+use Rattle.cl_registry.specs.ClassTexts.{WritesClass}
+
+-- a text writes one name, so none of a class where that is none
+pub other_kind : (text name : List ℕ) → WritesName text name → (IsNameOf IsClass name → ⊥) → (other : List ℕ) → WritesClass text other → ⊥
+other_kind text name written none other t = none (subst (λ n. IsNameOf IsClass n) (sym (name_alone text name other written t.written)) t.kind)
+
+third_word : {a b c d e f : List ℕ} → a ∷ b ∷ c ∷ [] ≡ d ∷ e ∷ f ∷ [] → c ≡ f
+third_word h = cc
+
+-- a line whose third word writes no class's name
+pub bad_name : (line word text : List ℕ) → words_of line ≡ codes "load" ∷ word ∷ text ∷ [] → ((name : List ℕ) → WritesClass text name → ⊥) → IsBad line
+bad_name line word text words none loader name t = none name (subst (λ w. WritesClass w name) (third_word (sym t.words ∙ words)) t.writes)
+
+-- ---- reading on, line after line
+
+-- so far each line asked for its request; these lines are left
+pub record IsRead (names : List (List ℕ)) (lines left : List Numbered) (requests : List Request) : Type 0 where
+  pub front : List Numbered
+  pub cut : lines ≡ front ++ left
+  pub asked : AllAsk names front requests
+  pub few : length requests ≤ 65535
+
+pub none_read : (names : List (List ℕ)) (lines : List Numbered) → IsRead names lines lines []
+none_read names lines = record { front = []; cut = refl; asked = tt; few = omega arith }
+
+all_ask_more : (names : List (List ℕ)) (front : List Numbered) (requests : List Request) (line : Numbered) (request : Request) → AllAsk names front requests → Asks names line.text request → AllAsk names (front ++ line ∷ []) (requests ++ request ∷ [])
+all_ask_more names [] [] line request all here = (here, tt)
+all_ask_more names [] (r ∷ rs) line request all here = absurd all
+all_ask_more names (l ∷ ls) [] line request all here = absurd all
+all_ask_more names (l ∷ ls) (r ∷ rs) line request all here = (all.0, all_ask_more names ls rs line request all.1 here)
+
+-- one more line asks for a request
+pub more_read : (names : List (List ℕ)) (lines left rest : List Numbered) (requests more : List Request) (line : Numbered) (request : Request) (count : ℕ)
+    → IsRead names lines left requests → left ≡ line ∷ rest → Asks names line.text request → more ≡ requests ++ request ∷ [] → count ≡ length requests → (count ≡ 65535 → ⊥) → IsRead names lines rest more
+more_read names lines left rest requests more line request count t first here grown counted room = record {
+  front = t.front ++ line ∷ [];
+  cut = t.cut ∙ ap (λ l. t.front ++ l) first ∙ sym (append_assoc t.front (line ∷ []) rest);
+  asked = subst (λ rs. AllAsk names (t.front ++ line ∷ []) rs) (sym grown) (all_ask_more names t.front requests line request t.asked here);
+  few = rw (grown, length_push requests request) (omega (arith, room));
+}
+
+-- a line stops the reading
+pub stops_here : (names : List (List ℕ)) (lines left rest : List Numbered) (requests : List Request) (line : Numbered) (P : ℕ → Numbered → Type 0)
+    → IsRead names lines left requests → left ≡ line ∷ rest → P (length requests) line → StopsAt names lines P
+stops_here names lines left rest requests line P t first here = record {
+  front = t.front;
+  line = line;
+  behind = rest;
+  requests = requests;
+  cut = t.cut ∙ ap (λ l. t.front ++ l) first;
+  asked = t.asked;
+  within = t.few;
+  here = here;
+}
+
+-- no line is left
+pub whole_read : (names : List (List ℕ)) (lines left : List Numbered) (requests : List Request) → IsRead names lines left requests → left ≡ [] → AllAsk names lines requests × (length requests ≤ 65535)
+whole_read names lines left requests t none = (subst (λ ls. AllAsk names ls requests) (sym (t.cut ∙ ap (λ l. t.front ++ l) none ∙ append-nil t.front)) t.asked, t.few)

@@ -27,13 +27,6 @@ abbrev pub CutOf : List ℕ → Result Sections Fault → Type 0
 CutOf text (Ok s) = cut_of text ≡ Ok (sections_of s)
 CutOf text (Err fault) = IsWrongLine (cut_of text) fault
 
--- the class's name that a word writes, or the number of its line
-abbrev pub ClassNameOf : ℕ → List ℕ → Result (List ℕ) Fault → Type 0
-ClassNameOf n word (Ok name) = class_named word ≡ Some name
-ClassNameOf n word (Err (Bundle m)) = (class_named word ≡ None) × (m ≡ n)
-ClassNameOf n word (Err Memory) = ⊤
-ClassNameOf n word (Err _) = ⊥
-
 -- the section line that a line is
 abbrev pub heading_from : Option End → Heading
 heading_from None = InnerLine

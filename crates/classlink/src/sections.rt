@@ -1,9 +1,10 @@
-ghost use Rattle.std.specs.Prelude.{◌≡◌, ◌<◌, ◌++◌, List, ℕ};
-ghost use Rattle.classlink.specs.Cuts.{ClassNameOf, SectionLineOf};
+ghost use Rattle.std.specs.Prelude.{◌≡◌, ◌<◌, ◌<◌, ◌++◌, List, ℕ, length, OnOk};
+ghost use Rattle.classlink.specs.Cuts.{BodyOf, SectionLineOf};
 
 use crate::fault::Fault;
-use cl_names::{Name, NameFault};
+use cl_names::Name;
 use cl_registry::lines::{Lines, Words, is_skipped};
+use cl_registry::script::class_name;
 use std::alloc::{AllocError, Global};
 
 /// The bytes of a class, as a bundle has them.
@@ -86,7 +87,10 @@ fn opening(lines: &mut Lines<'_>) -> Result<usize, Fault> {
 }
 
 /// The lines up to the next section line, and that line.
+#[tactic(auto, using(crate::proofs::Cutting::parts_of_line))]
 fn next_body<'a>(alloc: Global, lines: &mut Lines<'a>) -> Result<Body<'a>, Fault>
+    ensures body { BodyOf lines.old result lines.new }
+    ensures less { OnOk result (length lines.new.text < length lines.old.text) }
 {
     let start = lines.rest();
     loop {
@@ -117,29 +121,14 @@ fn section_line<'a>(alloc: Global, number: usize, line: &'a str) -> Result<Optio
     let mut words = Words::new(line);
     match words.next() {
         Some("%class") => match (words.next(), words.next(), words.next()) {
-            (Some(loader), Some(name), None) => {
-                let name = class_name(alloc, number, name)?;
-                Ok(Some(End::Class(number, loader, name)))
-            }
+            (Some(loader), Some(name), None) => match class_name(alloc, name)? {
+                Some(name) => Ok(Some(End::Class(number, loader, name))),
+                None => Err(Fault::Bundle(number)),
+            },
             _ => Err(Fault::Bundle(number)),
         },
         Some("%script") if words.next().is_none() => Ok(Some(End::Script)),
         Some("%script" | "%config") => Err(Fault::Bundle(number)),
         _ => Ok(None),
     }
-}
-
-/// The class name whose escaped text stands in a section line.
-fn class_name(alloc: Global, number: usize, text: &str) -> Result<Name, Fault>
-    ensures { ClassNameOf number text.now result }
-{
-    let name = match Name::from_text(alloc, text) {
-        Ok(name) => name,
-        Err(NameFault::Memory) => return Err(Fault::Memory),
-        Err(NameFault::BadName | NameFault::NotModifiedUtf8) => return Err(Fault::Bundle(number)),
-    };
-    if !name.is_class() {
-        return Err(Fault::Bundle(number));
-    }
-    Ok(name)
 }

@@ -1,14 +1,17 @@
 -- A bundle's lines, cut off one by one.
-use Rattle.std.proofs.Common.{◌≡◌, ◌⊎◌, ℕ, ◌+◌, ◌<◌, ◌≤◌, Bool, true, false, not, ◌==◌, List, [], ◌∷◌, ◌++◌, length, Option, Some, Result, Ok, Err, refl, sym, ap, ◌∙◌, arith, inl, inr, append-nil}
+use Rattle.std.proofs.Common.{◌≡◌, ◌⊎◌, ℕ, ◌+◌, ◌<◌, ◌≤◌, Bool, true, false, not, if◌then◌else◌, ◌==◌, List, [], ◌∷◌, ◌++◌, length, Option, Some, Result, Ok, Err, refl, sym, ap, ◌∙◌, arith, inl, inr, append-nil, append_assoc, subst, IsErrAnd, Bor}
 use Rattle.std.specs.List.{slice_split, join_with_byte, position_or_len, before_first, after_first}
 use Rattle.std.proofs.lemmas.Bool.{cases_lt}
 use Rattle.std.proofs.lemmas.Grind.{common_steps}
 use Rattle.std.proofs.lemmas.List.{append_cancel_right, length-drop}
 use Rattle.std.proofs.lemmas.List.Splits.{slice_split_first, slice_split_none, length-slice_split, join_with_byte-slice_split}
 use Rattle.std.proofs.lemmas.List.Sums.{fails_before_first, prefix_len-le-length}
-use Rattle.cl_registry.specs.Lines.{CutsLine, Numbered, words_of}
-use Rattle.classlink.specs.Sections.{Heading, InnerLine, ClassLine, ScriptLine, WrongLine, Parts, add_class, add_line, behind_line, heading_of, lines_in, parts_from}
-use Rattle.classlink.specs.Cuts.{HasNumber, SectionLineOf, add_front, ended_by, heading_from, parts_of}
+use Rattle.cl_registry.specs.Lines.{CutsLine, Numbered, is_skipped, words_of}
+use Rattle.classlink.specs.Sections.{Heading, InnerLine, ClassLine, ScriptLine, WrongLine, Cut, Part, Parts, add_class, add_line, behind_line, cut_from, cut_of, heading_of, is_config, lines_in, parts_from, with_config}
+use Rattle.classlink.specs.Cuts.{CutOf, HasNumber, IsWrongLine, SectionLineOf, cuts_of, add_front, ended_by, heading_from, parts_of}
+use Rattle.classlink.specs.declared.fault.Fault.{Fault}
+use Rattle.classlink.specs.declared.fault.Fault.TheVariants.{Bundle, Memory, Input, Write, TooLarge, NotUtf8}
+use Rattle.classlink.specs.declared.sections.Sections.{Sections}
 use Rattle.classlink.specs.declared.sections.End.{End}
 use Rattle.classlink.specs.declared.sections.End.TheVariants as ends
 
@@ -125,3 +128,107 @@ body_goes_on start old left new line b cut less h =
         less = omega arith;
       }
     ]
+
+-- ---- the line `%config`
+
+abbrev pub after_line : ℕ → List ℕ → Result Cut ℕ → Result Parts ℕ → Result Cut ℕ
+after_line n line cuts parts = if is_skipped line then cuts else if is_config (words_of line) then with_config n parts else Err n
+
+pub cuts_of_line : (n : ℕ) (text line rest : List ℕ) → line ≡ before_first (λ b. b == 10) text → rest ≡ after_first (λ b. b == 10) text
+    → cut_from n (lines_in text) ≡ after_line n line (cut_from (n + 1) (lines_in rest)) (parts_from (n + 1) (lines_in rest))
+cuts_of_line n text line rest before after =
+    elim (first_of_lines text) [
+      | inl e ↦ rw (before, after, e) refl
+      | inr e ↦ rw (before, after, e.2, e.1, e.0) refl
+    ]
+
+pub opens_at : (left new line : Numbered) → CutsLine left line new → is_skipped line.text ≡ false → is_config (words_of line.text) ≡ true → cuts_of left ≡ with_config line.number (parts_of new)
+opens_at left new line cut s k =
+    cuts_of_line left.number left.text line.text new.text cut.text cut.rest ∙ rw (s, k, cut.next, cut.number) refl
+
+pub opens_wrong : (left new line : Numbered) → CutsLine left line new → is_skipped line.text ≡ false → is_config (words_of line.text) ≡ false → cuts_of left ≡ Err line.number
+opens_wrong left new line cut s k =
+    cuts_of_line left.number left.text line.text new.text cut.text cut.rest ∙ rw (s, k, cut.number) refl
+
+pub opens_later : (left new line : Numbered) → CutsLine left line new → is_skipped line.text ≡ true → cuts_of left ≡ cuts_of new
+opens_later left new line cut s =
+    cuts_of_line left.number left.text line.text new.text cut.text cut.rest ∙ rw (s, cut.next) refl
+
+pub opens_never : (left : Numbered) → left.text ≡ [] → cuts_of left ≡ Err 0
+opens_never left e = ap (λ (t : List ℕ). cut_from left.number (lines_in t)) e
+
+-- ---- section after section
+
+abbrev pub add_parts : List Part → Result Parts ℕ → Result Parts ℕ
+add_parts done (Ok p) = Ok (record { body = p.body; classes = done ++ p.classes; script = p.script })
+add_parts done (Err n) = Err n
+
+-- what a text gives is what was cut so far, and then what the line at hand begins
+pub record IsCutSoFar (text : List ℕ) (config_line : ℕ) (config : List ℕ) (done : List Part) (end : End) (left : Numbered) : Type 0 where
+  pub all : Result Parts ℕ
+  pub opened : cut_of text ≡ with_config config_line all
+  pub so : all ≡ add_front config (add_parts done (ended_by end left))
+
+pub cut_starts : (text : List ℕ) (n : ℕ) (config : List ℕ) (end : End) (first left : Numbered) → cut_of text ≡ with_config n (parts_of first) → parts_of first ≡ add_front config (ended_by end left)
+    → IsCutSoFar text n config [] end left
+cut_starts text n config end first left o e = record { all = parts_of first; opened = o; so = e ∙ ap (add_front config) (none_yet (ended_by end left)) }
+  where
+    none_yet : (r : Result Parts ℕ) → r ≡ add_parts [] r
+    none_yet (Ok p) = refl
+    none_yet (Err n) = refl
+
+-- the parts that a class section begins have its body, and then what its end begins
+of_class : (n m : ℕ) (loader name text l k : List ℕ) (r : Result Parts ℕ)
+    → add_class n loader name (add_front text (add_class m l k r)) ≡ add_parts (record { line = n; loader = loader; name = name; body = text } ∷ []) (add_class m l k r)
+of_class n m loader name text l k (Ok p) = rw (append-nil text) refl
+of_class n m loader name text l k (Err e) = refl
+
+next_part : (n : ℕ) (loader name text : List ℕ) (end : End) (left : Numbered)
+    → add_class n loader name (add_front text (ended_by end left)) ≡ add_parts (record { line = n; loader = loader; name = name; body = text } ∷ []) (ended_by end left)
+next_part n loader name text (ends.Class m l k) left = of_class n m loader name text l.now k (parts_of left)
+next_part n loader name text ends.Script left = rw (append-nil text) refl
+
+parts_then : (done more : List Part) (r : Result Parts ℕ) → add_parts done (add_parts more r) ≡ add_parts (done ++ more) r
+parts_then done more (Ok p) = ap (λ (c : List Part). Ok (record { body = p.body; classes = c; script = p.script })) (sym (append_assoc done more p.classes))
+parts_then done more (Err n) = refl
+
+pub cut_goes_on : (whole : List ℕ) (line : ℕ) (config : List ℕ) (done : List Part) (n : ℕ) (loader : Bor (List ℕ)) (name text : List ℕ) (end : End) (left new : Numbered)
+    → IsCutSoFar whole line config done (ends.Class n loader name) left → parts_of left ≡ add_front text (ended_by end new)
+    → IsCutSoFar whole line config (done ++ record { line = n; loader = loader.now; name = name; body = text } ∷ []) end new
+cut_goes_on whole line config done n loader name text end left new s e = record {
+  all = s.all;
+  opened = s.opened;
+  so = s.so ∙ ap (λ (r : Result Parts ℕ). add_front config (add_parts done (add_class n loader.now name r))) e
+    ∙ ap (λ (r : Result Parts ℕ). add_front config (add_parts done r)) (next_part n loader.now name text end new)
+    ∙ ap (add_front config) (parts_then done (record { line = n; loader = loader.now; name = name; body = text } ∷ []) (ended_by end new));
+}
+
+pub cut_ends : (text : List ℕ) (line : ℕ) (config : List ℕ) (done : List Part) (left : Numbered) → IsCutSoFar text line config done ends.Script left
+    → cut_of text ≡ Ok (record { config_line = line; config = config; classes = done; script = left.text })
+cut_ends text line config done left s = s.opened ∙ ap (with_config line) s.so ∙ rw (append-nil config, append-nil done) refl
+
+-- a wrong line is wrong for all
+err_after : (line m n : ℕ) (config loader name : List ℕ) (done : List Part) (r : Result Parts ℕ) → r ≡ Err m → with_config line (add_front config (add_parts done (add_class n loader name r))) ≡ Err m
+err_after line m n config loader name done r e = rw e refl
+
+pub cut_wrong : (text : List ℕ) (line : ℕ) (config : List ℕ) (done : List Part) (n : ℕ) (loader : Bor (List ℕ)) (name : List ℕ) (left : Numbered) (fault : Fault)
+    → IsCutSoFar text line config done (ends.Class n loader name) left → IsWrongLine (parts_of left) fault → IsWrongLine (cut_of text) fault
+cut_wrong text line config done n loader name left (Bundle m) s e = s.opened ∙ ap (with_config line) s.so ∙ err_after line m n config loader.now name done (parts_of left) e
+cut_wrong text line config done n loader name left Memory s e = tt
+cut_wrong text line config done n loader name left Input s e = e
+cut_wrong text line config done n loader name left Write s e = e
+cut_wrong text line config done n loader name left TooLarge s e = e
+cut_wrong text line config done n loader name left NotUtf8 s e = e
+
+-- so is one in the configuration
+pub config_wrong : (text : List ℕ) (line : ℕ) (left : Numbered) (fault : Fault) → cut_of text ≡ with_config line (parts_of left) → IsWrongLine (parts_of left) fault → IsWrongLine (cut_of text) fault
+config_wrong text line left (Bundle m) o e = o ∙ ap (with_config line) e
+config_wrong text line left Memory o e = tt
+config_wrong text line left Input o e = e
+config_wrong text line left Write o e = e
+config_wrong text line left TooLarge o e = e
+config_wrong text line left NotUtf8 o e = e
+
+pub cut_err : (text : List ℕ) (r : Result Sections Fault) (fault : Fault) → IsErrAnd r (λ e. e ≡ fault) → IsWrongLine (cut_of text) fault → CutOf text r
+cut_err text (Ok s) fault e w = absurd e
+cut_err text (Err f) fault e w = subst (λ (g : Fault). IsWrongLine (cut_of text) g) (sym e) w

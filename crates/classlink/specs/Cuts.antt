@@ -1,7 +1,7 @@
 -- What the code that cuts a bundle answers, in the words of its sections.
 use Rattle.std.specs.Prelude.{◌≡◌, ℕ, ⊤, List, [], ◌++◌, map, Option, Some, None, Result, Ok, Err}
 use Rattle.cl_registry.specs.Lines.{Numbered, words_of}
-use Rattle.classlink.specs.Sections.{Cut, Heading, InnerLine, ClassLine, ScriptLine, WrongLine, Part, Parts, add_class, class_named, cut_of, heading_of, lines_in, parts_from}
+use Rattle.classlink.specs.Sections.{Cut, Heading, InnerLine, ClassLine, ScriptLine, WrongLine, Part, Parts, add_class, cut_from, cut_of, heading_of, lines_in, parts_from, with_config}
 use Rattle.classlink.specs.declared.fault.Fault.{Fault}
 use Rattle.classlink.specs.declared.fault.Fault.TheVariants.{Bundle, Memory}
 use Rattle.classlink.specs.declared.sections.ClassSection.{ClassSection}
@@ -63,3 +63,12 @@ add_front front (Err n) = Err n
 abbrev pub BodyOf : Numbered → Result Body Fault → Numbered → Type 0
 BodyOf old (Ok body) new = parts_of old ≡ add_front body.text.now (ended_by body.end new)
 BodyOf old (Err fault) new = IsWrongLine (parts_of old) fault
+
+-- the sections of what is left of a text, from `%config` on
+abbrev pub cuts_of : Numbered → Result Cut ℕ
+cuts_of left = cut_from left.number (lines_in left.text)
+
+-- what looking for `%config` answers
+abbrev pub OpeningOf : Numbered → Result ℕ Fault → Numbered → Type 0
+OpeningOf old (Ok n) new = cuts_of old ≡ with_config n (parts_of new)
+OpeningOf old (Err fault) new = IsWrongLine (cuts_of old) fault

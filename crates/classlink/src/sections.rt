@@ -1,5 +1,7 @@
-ghost use Rattle.std.specs.Prelude.{◌≡◌, ◌<◌, ◌<◌, ◌++◌, List, ℕ, length, OnOk};
-ghost use Rattle.classlink.specs.Cuts.{BodyOf, SectionLineOf};
+ghost use Rattle.std.specs.Prelude.{◌≡◌, ◌<◌, ◌<◌, ◌++◌, ◌∷◌, [], List, ℕ, length, OnOk};
+ghost use Rattle.cl_registry.specs.Lines.{words_of};
+ghost use Rattle.classlink.specs.Sections.{is_config};
+ghost use Rattle.classlink.specs.Cuts.{BodyOf, CutOf, OpeningOf, SectionLineOf};
 
 use crate::fault::Fault;
 use cl_names::Name;
@@ -44,7 +46,9 @@ enum End<'a> {
 }
 
 /// Cuts a bundle into its sections, and finds the first section line that is wrong.
-pub fn cut<'a>(alloc: Global, text: &'a str) -> Result<Sections<'a>, Fault> {
+pub fn cut<'a>(alloc: Global, text: &'a str) -> Result<Sections<'a>, Fault>
+    ensures { CutOf text.entry.now result }
+{
     let mut lines = Lines::new(text);
     let config_line = opening(&mut lines)?;
     let Body {
@@ -60,7 +64,7 @@ pub fn cut<'a>(alloc: Global, text: &'a str) -> Result<Sections<'a>, Fault> {
             name,
             body: body.text,
         };
-        classes.push(section).map_err(AllocError::from)?;
+        push(&mut classes, section)?;
         end = body.end;
     }
     Ok(Sections {
@@ -71,19 +75,38 @@ pub fn cut<'a>(alloc: Global, text: &'a str) -> Result<Sections<'a>, Fault> {
     })
 }
 
+fn push<'a>(
+    classes: &mut Vec<ClassSection<'a>>,
+    section: ClassSection<'a>,
+) -> Result<(), AllocError>
+    ensures { OnOk result (classes.new.items ≡ classes.old.items ++ section.entry ∷ []) }
+{
+    classes.push(section)?;
+    Ok(())
+}
+
 /// The number of the line `%config`, which only skipped lines may precede.
-fn opening(lines: &mut Lines<'_>) -> Result<usize, Fault> {
-    for line in lines {
-        if is_skipped(line.text) {
-            continue;
+fn opening(lines: &mut Lines<'_>) -> Result<usize, Fault>
+    ensures { OpeningOf lines.old result lines.new }
+{
+    while let Some(line) = lines.next() {
+        if !is_skipped(line.text) {
+            return if is_config(line.text) {
+                Ok(line.number)
+            } else {
+                Err(Fault::Bundle(line.number))
+            };
         }
-        let mut words = Words::new(line.text);
-        return match (words.next(), words.next()) {
-            (Some("%config"), None) => Ok(line.number),
-            _ => Err(Fault::Bundle(line.number)),
-        };
     }
     Err(Fault::Bundle(0))
+}
+
+/// Whether a line is `%config` alone.
+fn is_config(line: &str) -> bool
+    ensures { result ≡ is_config (words_of line.now) }
+{
+    let mut words = Words::new(line);
+    words.next() == Some("%config") && words.next().is_none()
 }
 
 /// The lines up to the next section line, and that line.

@@ -4,6 +4,8 @@
 mod answer;
 mod class;
 mod event;
+pub mod laws;
+pub mod rows;
 mod loader;
 mod request;
 mod told;

@@ -1,7 +1,9 @@
 //! The form of each kind of name, in the bytes of a text.
 ghost use Rattle.std.specs.Prelude.{◌≡◌, ◌≤◌, not, length, take};
 ghost use Rattle.std.specs.List.{list_all};
-ghost use Rattle.cl_names.specs.Kind.{is_allowed, is_angle, has_unqualified_form, has_method_form, has_class_form, package_of};
+ghost use Rattle.cl_names.specs.Kind.{is_allowed, is_angle, has_unqualified_form, has_method_form, has_class_form, is_class_name, package_of};
+
+use crate::text::is_modified_utf8;
 
 fn is_allowed(b: u8) -> bool
     ensures { result ≡ is_allowed b }
@@ -50,6 +52,14 @@ pub fn has_class_form(bytes: &[u8]) -> bool
     bytes
         .split(|b| *b == b'/')
         .all(|part| has_unqualified_form(part))
+}
+
+/// Whether the bytes are a class's name (JVMS SE 8, 4.2.1, 4.4.7).
+#[tactic(auto, unfolding(crate::specs::Kind::is_class_name))]
+pub fn is_class_name(bytes: &[u8]) -> bool
+    ensures { result ≡ is_class_name bytes.now }
+{
+    is_modified_utf8(bytes) && bytes.len() <= 65535 && has_class_form(bytes)
 }
 
 /// How many bytes stand before the last `/`.

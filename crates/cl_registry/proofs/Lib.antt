@@ -2,3 +2,6 @@ pub mod LineCuts
 pub mod Places
 pub mod Contents
 pub mod Requests
+pub mod Homes
+pub mod Kept
+pub mod Walks

@@ -1,12 +1,16 @@
 -- Reading the lines of a script.
-use Rattle.std.proofs.Common.{◌≡◌, ℕ, ◌≤◌, List, [], ◌∷◌, ◌++◌, length, append_assoc, append-nil, codes, refl, sym, ap, subst, ◌∙◌, arith}
+use Rattle.std.proofs.Common.{◌<◌, Bool, true, false, cond, nat_lt, nat_eq, Some, None, ◌≡◌, ℕ, ◌≤◌, List, [], ◌∷◌, ◌++◌, length, append_assoc, append-nil, codes, refl, sym, ap, subst, ◌∙◌, arith}
+use Rattle.std.specs.List.{position_or_len}
+use Rattle.std.specs.Cmp.Lexicographic.{pointwise}
+use Rattle.std.proofs.lemmas.Bool.Decides.{nat_tests}
 use Rattle.std.proofs.lemmas.List.{length_push}
+use Rattle.std.proofs.lemmas.List.Elements.{All-nil, All-cons}
 use Rattle.cl_model.specs.declared.request.Request.{Request}
 use Rattle.cl_names.specs.Kind.{IsNameOf, IsClass}
 use Rattle.cl_names.specs.Escape.{WritesName}
 use Rattle.cl_names.proofs.Escapes.{name_alone}
 use Rattle.cl_registry.specs.Lines.{Numbered, words_of}
-use Rattle.cl_registry.specs.Scripts.{IsBad, Asks, AllAsk, StopsAt}
+use Rattle.cl_registry.specs.Scripts.{HasLoader, HasLoaders, IsBad, Asks, AllAsk, StopsAt}
 use Rattle.cl_registry.specs.ClassTexts.{WritesClass}
 
 -- a text writes one name, so none of a class where that is none
@@ -65,3 +69,19 @@ stops_here names lines left rest requests line P t first here = record {
 -- no line is left
 pub whole_read : (names : List (List ℕ)) (lines left : List Numbered) (requests : List Request) → IsRead names lines left requests → left ≡ [] → AllAsk names lines requests × (length requests ≤ 65535)
 whole_read names lines left requests t none = (subst (λ ls. AllAsk names ls requests) (sym (t.cut ∙ ap (λ l. t.front ++ l) none ∙ append-nil t.front)) t.asked, t.few)
+
+-- ---- the loaders of what is read
+
+-- a name that is found stands among the names
+within : (b : Bool) (n count l : ℕ) → b ≡ nat_lt n count → cond b (Some n) None ≡ Some l → l < count
+within true n count l e f = let same : n ≡ l = cc in grind (arith, nat_tests)
+within false n count l e f = absurd cc
+
+has_loader : (names : List (List ℕ)) (line : List ℕ) (request : Request) → Asks names line request → HasLoader (length names) request
+has_loader names line request t = subst (λ r. HasLoader (length names) r) (sym t.is) (within _ (position_or_len (λ name. pointwise nat_eq name t.word) names) (length names) t.loader refl t.known)
+
+pub have_loaders : (names : List (List ℕ)) (lines : List Numbered) (requests : List Request) → AllAsk names lines requests → HasLoaders (length names) requests
+have_loaders names [] [] t = All-nil (HasLoader (length names))
+have_loaders names [] (r ∷ rs) t = absurd t
+have_loaders names (l ∷ ls) [] t = absurd t
+have_loaders names (l ∷ ls) (r ∷ rs) t = All-cons (HasLoader (length names)) r rs (has_loader names l.text r t.0) (have_loaders names ls rs t.1)

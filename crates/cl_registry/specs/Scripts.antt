@@ -1,5 +1,5 @@
 -- Which texts are a script, and what their lines ask for. For now a line asks for a load alone.
-use Rattle.std.specs.Prelude.{◌≡◌, ℕ, ◌<◌, ◌≤◌, nat_eq, List, [], ◌∷◌, ◌++◌, length, position, Option, Some, None, Result, Ok, Err, codes}
+use Rattle.std.specs.Prelude.{All, ◌≡◌, ℕ, ◌<◌, ◌≤◌, nat_eq, List, [], ◌∷◌, ◌++◌, length, position, Option, Some, None, Result, Ok, Err, codes}
 use Rattle.std.specs.Cmp.Lexicographic.{pointwise}
 use Rattle.cl_model.specs.declared.request.Request.{Request}
 use Rattle.cl_model.specs.declared.request.Request.TheVariants.{Load}
@@ -10,8 +10,8 @@ use Rattle.cl_registry.specs.declared.script.ScriptFault.{ScriptFault}
 use Rattle.cl_registry.specs.declared.script.ScriptFault.TheVariants.{Memory, BadLine, UnknownLoader, TooMany}
 
 -- the first loader of this name, counted from 0
-abbrev pub loader_of : List (List ℕ) → List ℕ → Option ℕ
-loader_of names word = position (λ name. pointwise nat_eq name word) names
+abbrev pub loader_named : List (List ℕ) → List ℕ → Option ℕ
+loader_named names word = position (λ name. pointwise nat_eq name word) names
 
 -- the words are `load`, a loader's name and the text of a class's name
 pub record IsLoad (line loader name : List ℕ) : Type 0 where
@@ -25,7 +25,7 @@ pub record Asks (names : List (List ℕ)) (line : List ℕ) (request : Request) 
   pub name : List ℕ
   pub loader : ℕ
   pub load : IsLoad line word name
-  pub known : loader_of names word ≡ Some loader
+  pub known : loader_named names word ≡ Some loader
   pub is : request ≡ Load loader name
 
 -- the line is no request
@@ -34,7 +34,7 @@ IsBad line = (loader name : List ℕ) → IsLoad line loader name → ⊥
 
 -- the line is a request but for its loader
 abbrev pub LacksLoader : List (List ℕ) → List ℕ → Type 0
-LacksLoader names line = (loader : List ℕ) × (name : List ℕ) × IsLoad line loader name × (loader_of names loader ≡ None)
+LacksLoader names line = (loader : List ℕ) × (name : List ℕ) × IsLoad line loader name × (loader_named names loader ≡ None)
 
 -- each line asks for its request, in order
 abbrev pub AllAsk : List (List ℕ) → List Numbered → List Request → Type 0
@@ -69,3 +69,11 @@ line_of names line (Err (BadLine n)) = (n ≡ line.number) × IsBad line.text
 line_of names line (Err (UnknownLoader n)) = (n ≡ line.number) × LacksLoader names line.text
 line_of names line (Err TooMany) = ⊥
 line_of names line (Err Memory) = Unit {0}
+
+-- the request's loader is one of so many
+abbrev pub HasLoader : ℕ → Request → Type 0
+HasLoader count (Load loader name) = loader < count
+
+-- each request's loader is one of so many
+abbrev pub HasLoaders : ℕ → List Request → Type 0
+HasLoaders count requests = All (HasLoader count) requests

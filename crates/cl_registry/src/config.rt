@@ -1,4 +1,4 @@
-ghost use Rattle.std.specs.Prelude.{◌≡◌, ◌<◌, ◌≤◌, length, map, string_bytes, slice_get, MatchBool, position, nat_eq};
+ghost use Rattle.std.specs.Prelude.{◌≡◌, ◌<◌, length, map, string_bytes, slice_get, MatchBool, position, nat_eq};
 ghost use Rattle.std.specs.Cmp.Lexicographic.{pointwise};
 ghost use Rattle.cl_registry.specs.Configs.{IsBoot, ConfigOf};
 
@@ -8,21 +8,21 @@ use std::alloc::{AllocError, Global};
 use std::marker::Model;
 use thiserror::Error;
 
-/// The loaders, in order: 1 to 64 of them. For now there is one, without parent or imports (JVMS SE 8, 5.3).
+/// The loaders, in order. For now there is one, without parent or imports (JVMS SE 8, 5.3).
 #[derive(Debug, Drop)]
 pub struct Config {
     names: Vec<String>,
 }
 
 impl Model for Config {
-    ghost use Rattle.std.specs.Prelude.{map, string_bytes, length, ◌<◌, ◌≤◌};
+    ghost use Rattle.std.specs.Prelude.{◌≡◌, length, map, string_bytes};
     ghost use Rattle.cl_registry.specs.Views.{Configured};
 
     ghost Value = { Configured };
 
     ghost view = { λ c. record { names = map string_bytes c.names.items } };
 
-    ghost invariant = { λ c. (0 < length c.names.items) × (length c.names.items ≤ 64) };
+    ghost invariant = { λ c. length c.names.items ≡ 1 };
 }
 
 /// Why a text is no configuration. Loaders count from 0.
@@ -87,8 +87,7 @@ impl Config {
     /// How many loaders there are.
     pub fn count(&self) -> usize
         ensures count { result ≡ length self.now.names }
-        ensures some { 0 < result }
-        ensures few { result ≤ 64 }
+        ensures one { length self.now.names ≡ 1 }
     {
         self.names.len()
     }

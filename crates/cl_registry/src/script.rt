@@ -1,6 +1,6 @@
 ghost use Rattle.std.specs.Prelude.{◌≡◌, ◌≤◌, List, ℕ, [], ◌∷◌, ◌++◌, MatchOption, IfOk, OnOk, codes, length};
 ghost use Rattle.cl_registry.specs.Lines.{words_of};
-ghost use Rattle.cl_registry.specs.Scripts.{script_of, line_of};
+ghost use Rattle.cl_registry.specs.Scripts.{script_of, line_of, HasLoaders};
 ghost use Rattle.cl_registry.specs.ClassTexts.{WritesClass};
 
 use crate::config::Config;
@@ -59,7 +59,8 @@ impl Script {
     /// class's name. Else the first line that is wrong: `BadLine`, then `UnknownLoader`, then `TooMany`, where it is
     /// one over 65,535 requests. `Memory`.
     pub fn read(alloc: Global, config: &Config, text: &str) -> Result<Script, ScriptFault>
-        ensures { script_of config.now.names text.now result }
+        ensures read { script_of config.now.names text.now result }
+        ensures loaders { IfOk result (λ s. HasLoaders (length config.now.names) s.requests) }
     {
         let mut requests = Vec::new(alloc);
         for line in Stated::new(text) {

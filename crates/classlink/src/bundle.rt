@@ -2,7 +2,7 @@ use crate::fault::Fault;
 use crate::sections::{self, ClassSection};
 use cl_registry::lines::{Stated, Words};
 use cl_registry::source::SourceFault;
-use cl_registry::{Config, ConfigFault, MemorySource};
+use cl_registry::{Config, ConfigFault, MemorySource, Script};
 use hex::FromHexError;
 use std::alloc::{AllocError, Global};
 
@@ -11,6 +11,7 @@ use std::alloc::{AllocError, Global};
 pub struct Bundle {
     pub config: Config,
     pub source: MemorySource,
+    pub script: Script,
 }
 
 /// Reads a bundle from its front: section lines, configuration, class sections in order, script.
@@ -21,7 +22,12 @@ pub fn read(alloc: Global, text: &str) -> Result<Bundle, Fault> {
     for section in sections.classes {
         put(alloc, &config, section, &mut source)?;
     }
-    Ok(Bundle { config, source })
+    let script = Script::read(alloc, &config, sections.script)?;
+    Ok(Bundle {
+        config,
+        source,
+        script,
+    })
 }
 
 fn read_config(alloc: Global, text: &str, line: usize) -> Result<Config, Fault> {

@@ -5,31 +5,24 @@ mod bundle;
 mod fault;
 mod input;
 mod print;
+mod run;
 mod sections;
+mod serve;
 mod words;
 
+use run::run_over;
 use std::env;
 use std::io;
+use std::process::ExitCode;
 
-fn main(rt: HostRuntime) -> io::Result<()> {
-    let alloc = rt.alloc();
-    let given: Vec<String> = env::args(&rt)?.collect(alloc)?;
-    match words::read(alloc, given.as_slice()) {
-        Ok(asked) => {
-            let answers = asked.answers;
-            println!(rt; "{answers}")?;
-        }
-        Err(e) => println!(rt; "{e}")?,
-    }
-    match input::read_text(alloc, rt.stdin()) {
-        Ok(text) => match bundle::read(alloc, text.as_str()) {
-            Ok(s) => {
-                let n = s.config.count();
-                println!(rt; "{n}")?;
-            }
-            Err(e) => println!(rt; "{e}")?,
-        },
-        Err(e) => println!(rt; "{e}")?,
-    }
-    Ok(())
+fn main(rt: HostRuntime) -> io::Result<ExitCode> {
+    let words: Vec<String> = env::args(&rt)?.collect(rt.alloc())?;
+    let status = run_over(
+        &rt,
+        words.as_slice(),
+        rt.stdin(),
+        &mut rt.stdout(),
+        &mut rt.stderr(),
+    );
+    Ok(ExitCode::from(status))
 }

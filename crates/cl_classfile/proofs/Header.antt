@@ -1,0 +1,157 @@
+-- The faults of the header, in the words of its bytes.
+use Rattle.std.proofs.Common.{◌≡◌, ◌≢◌, ◌⊎◌, ℕ, suc, ◌+◌, ◌-◌, ◌^◌, ◌<◌, ◌≤◌, Bool, true, false, cond, eqb, ltb, ◌&&◌, List, [], ◌∷◌, ◌++◌, length, take, drop, get_or, Result, Ok, Err, refl, sym, ap, subst, ◌∙◌, append_assoc, arith, inl, inr}
+use Rattle.std.specs.Int.{Width, w16, w32, byte_len, from_be_bytes, to_be_bytes}
+use Rattle.std.proofs.lemmas.Bool.{cases_lt, lt-ltb, le-ltb, eqb-true}
+use Rattle.std.proofs.lemmas.List.{take_at, length-drop}
+use Rattle.cl_classfile.specs.declared.fault.Fault.{Fault}
+use Rattle.cl_classfile.specs.declared.fault.Fault.TheVariants.{BadMagic, Version, Truncated}
+use Rattle.cl_classfile.specs.Structure.{magic, version, HasOtherMagic, HasOtherVersion}
+use Rattle.cl_classfile.specs.Checking.{◌>>=◌}
+use Rattle.cl_classfile.specs.Reading.{Reader, number_at, then_at, test_at, magic_at, version_at, header_at}
+use Rattle.cl_classfile.proofs.Codec.{both, IsBytes, IsBytes-drop, Takes, IsCodec, number16, number32, ok_is}
+use Rattle.cl_classfile.proofs.Spelled.{also}
+
+-- a number stands where there are bytes enough
+short : (w : Width) (bytes : List ℕ) → length bytes < byte_len w → number_at w bytes ≡ Err Truncated
+short w bytes lt = let t : ltb (length bytes) (byte_len w) ≡ true = lt-ltb _ _ lt in rw t refl
+
+long : (w : Width) (bytes : List ℕ) → byte_len w ≤ length bytes → number_at w bytes ≡ Ok (from_be_bytes w (take (byte_len w) bytes), drop (byte_len w) bytes)
+long w bytes le = let t : ltb (length bytes) (byte_len w) ≡ false = le-ltb _ _ le in rw t refl
+
+-- what was read is this value where the bytes are its spelling
+same_value : {A : Type 0} (r : Reader A) (s : A → List ℕ) (F : A → Type 0) → IsCodec r s F → (bytes : List ℕ) (x : A × List ℕ) (a : A) → IsBytes bytes → r bytes ≡ Ok x → F a → s x.0 ≡ s a → x.0 ≡ a
+same_value {A} r s F c bytes x a fits e h same =
+    let one = c.takes bytes x fits e in
+    let again : r bytes ≡ Ok (a, x.1) = ap r (one.0.parts ∙ ap (λ (t : List ℕ). t ++ x.1) same) ∙ c.again a x.1 h in
+    ap (λ (p : A × List ℕ). p.0) (ok_is x (a, x.1) (sym e ∙ again))
+
+-- the bytes that were read stand in front
+front : {A : Type 0} (r : Reader A) (s : A → List ℕ) (F : A → Type 0) → IsCodec r s F → (bytes : List ℕ) (x : A × List ℕ) (n : ℕ) → IsBytes bytes → r bytes ≡ Ok x → length (s x.0) ≡ n → take n bytes ≡ s x.0
+front r s F c bytes x n fits e len = let one = c.takes bytes x fits e in ap (take n) one.0.parts ∙ take_at (s x.0) x.1 n len
+
+tests : (b : Bool) → (b ≡ true) ⊎ (b ≡ false)
+tests true = inl refl
+tests false = inr refl
+
+differ : (b : Bool) → b ≡ false → b ≡ true → ⊥
+differ true e f = absurd cc
+differ false e f = absurd cc
+
+-- ---- the magic
+
+data Magic (bytes : List ℕ) : Type 0 where
+  Cut : length bytes < 4 → magic_at bytes ≡ Err Truncated → Magic bytes
+  Other : 4 ≤ length bytes → take 4 bytes ≢ magic → magic_at bytes ≡ Err BadMagic → Magic bytes
+  Right : 4 ≤ length bytes → take 4 bytes ≡ magic → (n : ℕ) → magic_at bytes ≡ Ok (n, drop 4 bytes) → Magic bytes
+
+magic_of : (bytes : List ℕ) → IsBytes bytes → Magic bytes
+unfolding magic_at
+magic_of bytes fits =
+    elim (cases_lt (length bytes) 4) [
+      | inl lt ↦ Cut lt (rw (short w32 bytes lt) refl)
+      | inr le ↦
+          let n : ℕ = from_be_bytes w32 (take 4 bytes) in
+          let read : number_at w32 bytes ≡ Ok (n, drop 4 bytes) = long w32 bytes le in
+          let stands : take 4 bytes ≡ to_be_bytes w32 n = front (number_at w32) (to_be_bytes w32) (λ n. n < 2 ^ 32) number32 bytes (n, drop 4 bytes) 4 fits read refl in
+          elim (tests (eqb n 0xcafebabe)) [
+            | inl t ↦ Right le (stands ∙ ap (to_be_bytes w32) (eqb-true n 0xcafebabe t)) n (rw (read, t) refl)
+            | inr t ↦
+                Other le
+                (λ is. differ (eqb n 0xcafebabe) t (ap (λ (k : ℕ). eqb k 0xcafebabe) (same_value (number_at w32) (to_be_bytes w32) (λ n. n < 2 ^ 32) number32 bytes (n, drop 4 bytes) 0xcafebabe fits read (omega arith) (sym stands ∙ is))))
+                (rw (read, t) refl)
+          ]
+    ]
+
+-- ---- the version
+
+data Two (bytes : List ℕ) : Type 0 where
+  Cut : length bytes < 4 → version_at bytes ≡ Err Truncated → Two bytes
+  Other : 4 ≤ length bytes → take 4 bytes ≢ version → version_at bytes ≡ Err Version → Two bytes
+  Right : 4 ≤ length bytes → take 4 bytes ≡ version → (v : ℕ × ℕ) (rest : List ℕ) → version_at bytes ≡ Ok (v, rest) → Two bytes
+
+abbrev numbers_at : Reader (ℕ × ℕ)
+numbers_at = then_at (number_at w16) (λ minor. number_at w16)
+
+abbrev numbers_spelling : ℕ × ℕ → List ℕ
+numbers_spelling v = to_be_bytes w16 v.0 ++ to_be_bytes w16 v.1
+
+numbers : IsCodec numbers_at numbers_spelling (λ v. (v.0 < 2 ^ 16) × (v.1 < 2 ^ 16))
+numbers = also (number_at w16) (number_at w16) (to_be_bytes w16) (to_be_bytes w16) (λ n. n < 2 ^ 16) (λ n. n < 2 ^ 16) number16 number16
+
+cut_at : (bytes : List ℕ) → length bytes < 4 → numbers_at bytes ≡ Err Truncated
+cut_at bytes lt =
+    elim (cases_lt (length bytes) 2) [
+      | inl few ↦ rw (short w16 bytes few) refl
+      | inr le ↦ rw (long w16 bytes le, short w16 (drop 2 bytes) (omega (arith, length-drop 2 bytes))) refl
+    ]
+
+version_of : (bytes : List ℕ) → IsBytes bytes → Two bytes
+unfolding version_at
+version_of bytes fits =
+    elim (cases_lt (length bytes) 4) [
+      | inl lt ↦ Cut lt (rw (cut_at bytes lt) refl)
+      | inr le ↦
+          let v : ℕ × ℕ = (from_be_bytes w16 (take 2 bytes), from_be_bytes w16 (take 2 (drop 2 bytes))) in
+          let rest : List ℕ = drop 2 (drop 2 bytes) in
+          let read : numbers_at bytes ≡ Ok (v, rest) = rw (long w16 bytes (omega arith), long w16 (drop 2 bytes) (omega (arith, length-drop 2 bytes))) refl in
+          let stands : take 4 bytes ≡ numbers_spelling v = front numbers_at numbers_spelling (λ v. (v.0 < 2 ^ 16) × (v.1 < 2 ^ 16)) numbers bytes (v, rest) 4 fits read refl in
+          elim (tests (eqb v.0 0 && eqb v.1 52)) [
+            | inl t ↦
+                let b = both (eqb v.0 0) (eqb v.1 52) t in
+                Right le (stands ∙ ap (λ (n : ℕ). to_be_bytes w16 n ++ to_be_bytes w16 v.1) (eqb-true v.0 0 b.0) ∙ ap (λ (n : ℕ). to_be_bytes w16 0 ++ to_be_bytes w16 n) (eqb-true v.1 52 b.1)) v rest (rw (read, t) refl)
+            | inr t ↦
+                Other le
+                (λ is. differ (eqb v.0 0 && eqb v.1 52) t (ap (λ (k : ℕ × ℕ). eqb k.0 0 && eqb k.1 52) (same_value numbers_at numbers_spelling (λ v. (v.0 < 2 ^ 16) × (v.1 < 2 ^ 16)) numbers bytes (v, rest) (0, 52) fits read (omega arith, omega arith) (sym stands ∙ is))))
+                (rw (read, t) refl)
+          ]
+    ]
+
+-- ---- both
+
+pub magic_says : (bytes : List ℕ) → IsBytes bytes → header_at bytes ≡ Err BadMagic → HasOtherMagic bytes
+unfolding header_at
+magic_says bytes fits e =
+    elim (magic_of bytes fits) [
+      | Magic.Cut lt h ↦ absurd (let k : header_at bytes ≡ Err Truncated = rw h refl in cc)
+      | Magic.Other le differs h ↦ (le, differs)
+      | Magic.Right le is n h ↦ elim (version_of (drop 4 bytes) (IsBytes-drop 4 bytes fits)) [
+        | Two.Cut lt v ↦ absurd (let k : header_at bytes ≡ Err Truncated = rw (h, v) refl in cc)
+        | Two.Other few differs v ↦ absurd (let k : header_at bytes ≡ Err Version = rw (h, v) refl in cc)
+        | Two.Right few same found rest v ↦ absurd (let k : header_at bytes ≡ Ok ((n, found), rest) = rw (h, v) refl in cc)
+      ]
+    ]
+
+pub magic_told : (bytes : List ℕ) → IsBytes bytes → HasOtherMagic bytes → header_at bytes ≡ Err BadMagic
+unfolding header_at
+magic_told bytes fits o =
+    elim (magic_of bytes fits) [
+      | Magic.Cut lt h ↦ absurd (omega (arith, o.0))
+      | Magic.Other le differs h ↦ rw h refl
+      | Magic.Right le is n h ↦ absurd (o.1 is)
+    ]
+
+pub version_says : (bytes : List ℕ) → IsBytes bytes → header_at bytes ≡ Err Version → HasOtherVersion bytes
+unfolding header_at
+version_says bytes fits e =
+    elim (magic_of bytes fits) [
+      | Magic.Cut lt h ↦ absurd (let k : header_at bytes ≡ Err Truncated = rw h refl in cc)
+      | Magic.Other le differs h ↦ absurd (let k : header_at bytes ≡ Err BadMagic = rw h refl in cc)
+      | Magic.Right le is n h ↦ elim (version_of (drop 4 bytes) (IsBytes-drop 4 bytes fits)) [
+        | Two.Cut lt v ↦ absurd (let k : header_at bytes ≡ Err Truncated = rw (h, v) refl in cc)
+        | Two.Other few differs v ↦ (omega (arith, length-drop 4 bytes), is, differs)
+        | Two.Right few same found rest v ↦ absurd (let k : header_at bytes ≡ Ok ((n, found), rest) = rw (h, v) refl in cc)
+      ]
+    ]
+
+pub version_told : (bytes : List ℕ) → IsBytes bytes → HasOtherVersion bytes → header_at bytes ≡ Err Version
+unfolding header_at
+version_told bytes fits o =
+    elim (magic_of bytes fits) [
+      | Magic.Cut lt h ↦ absurd (omega (arith, o.0))
+      | Magic.Other le differs h ↦ absurd (differs o.1)
+      | Magic.Right le is n h ↦ elim (version_of (drop 4 bytes) (IsBytes-drop 4 bytes fits)) [
+        | Two.Cut lt v ↦ absurd (omega (arith, o.0, length-drop 4 bytes))
+        | Two.Other few differs v ↦ rw (h, v) refl
+        | Two.Right few same found rest v ↦ absurd (o.2 same)
+      ]
+    ]

@@ -1,0 +1,44 @@
+-- Reading many of a structure, one after the other, as a loop does.
+use Rattle.std.proofs.Common.{◌≡◌, ℕ, suc, ◌-◌, ◌+◌, ◌≤◌, ◌<◌, List, [], ◌∷◌, ◌++◌, Result, Ok, Err, refl, sym, ap, ◌∙◌, append_assoc, arith}
+use Rattle.std.proofs.lemmas.List.{append-nil}
+use Rattle.cl_classfile.specs.declared.fault.Fault.{Fault}
+use Rattle.cl_classfile.specs.Checking.{◌>>=◌}
+use Rattle.cl_classfile.specs.Reading.{Reader, many_at}
+
+-- what was read before, and what is still read
+abbrev pub with_front : {A : Type 0} → List A → Result (List A × List ℕ) Fault → Result (List A × List ℕ) Fault
+with_front front read = read >>= λ x. Ok (front ++ x.0, x.1)
+
+regroup : {A : Type 0} (front : List A) (n : A) (read : Result (List A × List ℕ) Fault) → with_front front (read >>= λ x. Ok (n ∷ x.0, x.1)) ≡ with_front (front ++ n ∷ []) read
+regroup {A} front n (Ok x) = ap (λ (ns : List A). Ok (ns, x.1)) (simp append_assoc)
+regroup front n (Err f) = refl
+
+pub goes_on : {C A : Type 0} (step : C → Reader A) (next : C → A → C) (front : List A) (count i : ℕ) (c : C) (bytes : List ℕ) (n : A) (after : List ℕ) (total : Result (List A × List ℕ) Fault) → i < count → step c bytes ≡ Ok (n, after)
+    → with_front front (many_at step next (count - i) c bytes) ≡ total → with_front (front ++ n ∷ []) (many_at step next (count - (i + 1)) (next c n) after) ≡ total
+unfolding many_at
+goes_on step next front count i c bytes n after total lt h so_far =
+    let k : count - i ≡ suc (count - (i + 1)) = omega arith in
+    let one : with_front front (many_at step next (count - i) c bytes) ≡ with_front (front ++ n ∷ []) (many_at step next (count - (i + 1)) (next c n) after) = rw (k, h) (regroup front n (many_at step next (count - (i + 1)) (next c n) after)) in
+    sym one ∙ so_far
+
+pub ends : {C A : Type 0} (step : C → Reader A) (next : C → A → C) (f : Fault) (front : List A) (count i : ℕ) (c : C) (bytes : List ℕ) (total : Result (List A × List ℕ) Fault) → i < count → step c bytes ≡ Err f
+    → with_front front (many_at step next (count - i) c bytes) ≡ total → total ≡ Err f
+unfolding many_at
+ends step next f front count i c bytes total lt h so_far =
+    let k : count - i ≡ suc (count - (i + 1)) = omega arith in
+    let one : with_front front (many_at step next (count - i) c bytes) ≡ Err f = rw (k, h) refl in
+    sym so_far ∙ one
+
+pub is_done : {C A : Type 0} (step : C → Reader A) (next : C → A → C) (front : List A) (count i : ℕ) (c : C) (bytes : List ℕ) (total : Result (List A × List ℕ) Fault) → count ≤ i → with_front front (many_at step next (count - i) c bytes) ≡ total → total ≡ Ok (front, bytes)
+unfolding many_at
+is_done {A = A} step next front count i c bytes total le so_far =
+    let k : count - i ≡ 0 = omega arith in
+    let one : with_front front (many_at step next (count - i) c bytes) ≡ Ok (front, bytes) = rw k (ap (λ (ns : List A). Ok (ns, bytes)) (append-nil front)) in
+    sym so_far ∙ one
+
+with_none : {A : Type 0} (read : Result (List A × List ℕ) Fault) → with_front [] read ≡ read
+with_none (Ok x) = refl
+with_none (Err f) = refl
+
+pub starts : {C A : Type 0} (step : C → Reader A) (next : C → A → C) (count : ℕ) (c : C) (bytes : List ℕ) → with_front [] (many_at step next (count - 0) c bytes) ≡ many_at step next count c bytes
+starts step next count c bytes = let k : count - 0 ≡ count = omega arith in rw k (with_none (many_at step next count c bytes))

@@ -1,0 +1,159 @@
+-- Behind the header no fault of the header is found.
+use Rattle.std.proofs.Common.{◌≡◌, ◌⊎◌, ℕ, zero, suc, ◌+◌, ◌-◌, Bool, true, false, cond, eqb, leb, ltb, List, [], ◌∷◌, length, take, drop, Result, Ok, Err, refl, sym, ap, ◌∙◌, inl, inr}
+use Rattle.std.specs.Int.{Width, w16, w32, byte_len, from_be_bytes}
+use Rattle.cl_classfile.specs.declared.entry.Entry.{Entry}
+use Rattle.cl_classfile.specs.declared.entry.Entry.TheVariants.{Utf8, Class}
+use Rattle.cl_classfile.specs.declared.fault.Fault.{Fault}
+use Rattle.cl_classfile.specs.declared.fault.Fault.TheVariants.{BadMagic, Version, Truncated, Trailing, BadPool, BadFlags, BadMember, Duplicate, BadSupertype}
+use Rattle.cl_classfile.specs.Structure.{Structure, Member, Attribute}
+use Rattle.cl_classfile.specs.Files.{class_name}
+use Rattle.cl_classfile.specs.Checking.{◌>>=◌, keeps_entry, kept_entry, checked_entries, keeps_supertypes, checked_class, kept_file}
+use Rattle.cl_classfile.specs.Reading.{Reader, number_at, bytes_at, then_at, test_at, map_at, many_at, zero_at, none_at, header_at, text_at, entry_at, entries_at, pool_at, class_at, interfaces_at, members_at, attributes_at, tables_at, Parts, parts_at, structure_of, structure_at, whole_of, read_of}
+
+-- the header's own faults
+abbrev pub is_header : Fault → Bool
+is_header BadMagic = true
+is_header Version = true
+is_header Truncated = false
+is_header Trailing = false
+is_header (BadPool i) = false
+is_header BadFlags = false
+is_header BadMember = false
+is_header Duplicate = false
+is_header BadSupertype = false
+
+-- a result whose fault, if it is one, is none of the header's
+pub record IsQuiet {A : Type 0} (r : Result A Fault) : Type 0 where
+  pub quiet : (f : Fault) → r ≡ Err f → is_header f ≡ false
+
+err_is : {A : Type 0} (f g : Fault) → (let r : Result A Fault = Err f in r) ≡ Err g → f ≡ g
+err_is f g e = cc
+
+ok : {A : Type 0} (x : A) → IsQuiet (let r : Result A Fault = Ok x in r)
+ok x = record { quiet = λ f e. absurd cc }
+
+err : {A : Type 0} (g : Fault) → is_header g ≡ false → IsQuiet (let r : Result A Fault = Err g in r)
+err g h = record { quiet = λ f e. ap is_header (sym (err_is g f e)) ∙ h }
+
+choice : {A : Type 0} (b : Bool) (x y : Result A Fault) → IsQuiet x → IsQuiet y → IsQuiet (cond b x y)
+choice true x y p q = p
+choice false x y p q = q
+
+bind : {A B : Type 0} (r : Result A Fault) (f : A → Result B Fault) → IsQuiet r → ((x : A) → IsQuiet (f x)) → IsQuiet (r >>= f)
+bind (Ok x) f p q = q x
+bind (Err e) f p q = err e (p.quiet e refl)
+
+-- ---- readers
+
+abbrev Quiet : {A : Type 0} → Reader A → Type 0
+Quiet r = (bytes : List ℕ) → IsQuiet (r bytes)
+
+number : (w : Width) → Quiet (number_at w)
+number w bytes = choice (ltb (length bytes) (byte_len w)) (Err Truncated) _ (err Truncated refl) (ok _)
+
+those : (n : ℕ) → Quiet (bytes_at n)
+those n bytes = choice (ltb (length bytes) n) (Err Truncated) _ (err Truncated refl) (ok _)
+
+also : {A B : Type 0} (r : Reader A) (q : A → Reader B) → Quiet r → ((a : A) → Quiet (q a)) → Quiet (then_at r q)
+also r q p k bytes = bind (r bytes) _ (p bytes) (λ x. bind (q x.0 x.1) _ (k x.0 x.1) (λ y. ok _))
+
+tested : {A : Type 0} (r : Reader A) (test : A → Bool) (g : Fault) → is_header g ≡ false → Quiet r → Quiet (test_at r test g)
+tested r test g h p bytes = bind (r bytes) _ (p bytes) (λ x. choice (test x.0) (Ok x) (Err g) (ok x) (err g h))
+
+seen : {A B : Type 0} (r : Reader A) (view : A → B) → Quiet r → Quiet (map_at r view)
+seen r view p bytes = bind (r bytes) _ (p bytes) (λ x. ok _)
+
+many : {C A : Type 0} (step : C → Reader A) (next : C → A → C) → ((c : C) → Quiet (step c)) → (n : ℕ) (c : C) → Quiet (many_at step next n c)
+unfolding many_at
+many step next p zero c bytes = ok _
+many step next p (suc n) c bytes = bind (step c bytes) _ (p c bytes) (λ x. bind (many_at step next n (next c x.0) x.1) _ (many step next p n (next c x.0) x.1) (λ y. ok _))
+
+none : {A : Type 0} (g : Fault) → is_header g ≡ false → Quiet (none_at {A = A} g)
+none g h = seen (zero_at g) _ (tested (number_at w16) _ g h (number w16))
+
+text : Quiet text_at
+unfolding text_at
+text bytes = bind (number_at w16 bytes) _ (number w16 bytes) (λ n. those n.0 n.1)
+
+entry : (i : ℕ) → Quiet (entry_at i)
+unfolding entry_at
+entry i [] = err Truncated refl
+entry i (tag ∷ rest) =
+    choice (eqb tag 1) (map_at text_at (λ t. Utf8 t) rest) _ (seen text_at (λ t. Utf8 t) text rest)
+    (choice (eqb tag 7) (map_at (number_at w16) (λ n. Class n) rest) (Err (BadPool i)) (seen (number_at w16) (λ n. Class n) (number w16) rest) (err (BadPool i) refl))
+
+pool : Quiet pool_at
+unfolding pool_at entries_at
+pool bytes = bind (test_at (number_at w16) (λ n. leb 1 n) (BadPool 0) bytes) _ (tested (number_at w16) _ (BadPool 0) refl (number w16) bytes) (λ n. many entry_at (λ i e. i + 1) entry (n.0 - 1) 1 n.1)
+
+class : Quiet class_at
+unfolding class_at
+class = also (number_at w16) _ (number w16) (λ flags. also (number_at w16) _ (number w16) (λ this. number w16))
+
+tables : Quiet tables_at
+unfolding tables_at members_at attributes_at
+tables = also (none_at BadMember) _ (none BadMember refl) (λ fields. also (none_at BadMember) _ (none BadMember refl) (λ methods. none BadMember refl))
+
+interfaces : Quiet interfaces_at
+unfolding interfaces_at
+interfaces = none BadSupertype refl
+
+-- ---- tables
+
+rows : (entries : List Entry) (i : ℕ) (es : List Entry) → IsQuiet (checked_entries entries i es)
+unfolding checked_entries
+rows entries i [] = ok tt
+rows entries i (e ∷ es) = bind (kept_entry entries i e) _ (choice (keeps_entry entries e) (Ok e) (Err (BadPool i)) (ok e) (err (BadPool i) refl)) (λ x. rows entries (i + 1) es)
+
+file : (f : Structure) → IsQuiet (kept_file f)
+unfolding kept_file
+file f =
+    bind (checked_entries f.pool 1 f.pool) _ (rows f.pool 1 f.pool) (λ entries. bind (checked_class f.pool f.flags f.this_class f.super_class) _
+    (choice (eqb f.flags 33) _ (Err BadFlags) (choice (keeps_supertypes f.pool f.super_class (class_name f.pool f.this_class)) (Ok tt) (Err BadSupertype) (ok tt) (err BadSupertype refl)) (err BadFlags refl))
+    (λ class. ok f))
+
+-- ---- the whole
+
+rest_at : Reader (List Entry × ((ℕ × (ℕ × ℕ)) × (List ℕ × (List Member × (List Member × List Attribute)))))
+rest_at = then_at pool_at (λ pool. then_at class_at (λ class. then_at interfaces_at (λ interfaces. tables_at)))
+
+rest : Quiet rest_at
+unfolding rest_at
+rest = also pool_at _ pool (λ p. also class_at _ class (λ c. also interfaces_at _ interfaces (λ i. tables)))
+
+-- what follows the header, and what is asked of it
+abbrev Header : Type 0
+Header = (ℕ × (ℕ × ℕ)) × List ℕ
+
+parts_behind : Header → Result (Parts × List ℕ) Fault
+parts_behind x = rest_at x.1 >>= λ y. Ok ((x.0, y.0), y.1)
+
+structure_behind : Header → Result (Structure × List ℕ) Fault
+structure_behind x = parts_behind x >>= λ p. Ok (structure_of p.0, p.1)
+
+whole_behind : Header → Result Structure Fault
+whole_behind x = structure_behind x >>= λ s. cond (eqb (length s.1) 0) (Ok s.0) (Err Trailing)
+
+file_behind : Header → Result Structure Fault
+file_behind x = whole_behind x >>= kept_file
+
+behind : (x : Header) → IsQuiet (file_behind x)
+unfolding parts_behind structure_behind whole_behind file_behind
+behind x =
+    let one : IsQuiet (parts_behind x) = bind (rest_at x.1) _ (rest x.1) (λ y. ok _) in
+    let two : IsQuiet (structure_behind x) = bind (parts_behind x) _ one (λ p. ok _) in
+    let three : IsQuiet (whole_behind x) = bind (structure_behind x) _ two (λ s. choice (eqb (length s.1) 0) (Ok s.0) (Err Trailing) (ok _) (err Trailing refl)) in
+    bind (whole_behind x) kept_file three file
+
+differ : (b : Bool) → b ≡ true → b ≡ false → ⊥
+differ true e f = absurd cc
+differ false e f = absurd cc
+
+by_header : (bytes : List ℕ) (f : Fault) (r : Result ((ℕ × (ℕ × ℕ)) × List ℕ) Fault) → is_header f ≡ true → read_of bytes ≡ Err f → header_at bytes ≡ r → header_at bytes ≡ Err f
+unfolding read_of whole_of structure_at parts_at parts_behind structure_behind whole_behind file_behind rest_at
+by_header bytes f (Ok x) h e is = let k : read_of bytes ≡ file_behind x = rw is refl in absurd (differ (is_header f) h ((behind x).quiet f (sym k ∙ e)))
+by_header bytes f (Err g) h e is = let k : read_of bytes ≡ Err g = rw is refl in is ∙ ap (λ (d : Fault). Err d) (err_is g f (sym k ∙ e))
+
+-- a fault of the header is found in the header
+pub in_header : (bytes : List ℕ) (f : Fault) → is_header f ≡ true → read_of bytes ≡ Err f → header_at bytes ≡ Err f
+in_header bytes f h e = by_header bytes f (header_at bytes) h e refl

@@ -1,0 +1,74 @@
+-- The tables as tests, with the first fault in the order in which a file is looked at.
+use Rattle.std.specs.Prelude.{◌≡◌, ℕ, ◌+◌, Bool, false, true, ◌&&◌, ◌==◌, nat_eq, nat_le, length, List, [], ◌∷◌, Option, Some, None, is_some, Result, Ok, Err, if◌then◌else◌}
+use Rattle.std.specs.Cmp.Lexicographic.{pointwise}
+use Rattle.cl_names.specs.Text.{is_text}
+use Rattle.cl_names.specs.Kind.{is_class_name}
+use Rattle.cl_classfile.specs.declared.entry.Entry.{Entry}
+use Rattle.cl_classfile.specs.declared.entry.Entry.TheVariants.{Utf8, Class}
+use Rattle.cl_classfile.specs.declared.fault.Fault.{Fault}
+use Rattle.cl_classfile.specs.declared.fault.Fault.TheVariants.{BadPool, BadFlags, BadSupertype}
+use Rattle.cl_classfile.specs.declared.fault.ReadError.{ReadError}
+use Rattle.cl_classfile.specs.declared.fault.ReadError.TheVariants as errors
+use Rattle.cl_classfile.specs.Structure.{Structure, object, at}
+use Rattle.cl_classfile.specs.Files.{class_name}
+
+infixl 10 ◌>>=◌
+abbrev pub ◌>>=◌ : {A B : Type 0} → Result A Fault → (A → Result B Fault) → Result B Fault
+(Ok x) >>= f = f x
+(Err e) >>= f = Err e
+
+-- what a function that takes no memory returned is, seen by view, this value or fault
+abbrev pub Finds : {X Y : Type 0} → (X → Y) → Result X Fault → Result Y Fault → Type 0
+Finds view (Ok x) read = read ≡ Ok (view x)
+Finds view (Err f) read = read ≡ Err f
+
+-- the same of a function that takes memory, unless memory ran out
+abbrev pub Fails : {Y : Type 0} → ReadError → Result Y Fault → Type 0
+Fails errors.Memory read = Unit {0}
+Fails (errors.Fault f) read = read ≡ Err f
+
+abbrev pub Gives : {X Y : Type 0} → (X → Y) → Result X ReadError → Result Y Fault → Type 0
+Gives view (Ok x) read = read ≡ Ok (view x)
+Gives view (Err e) read = Fails e read
+
+-- the entry is a text that names a class
+abbrev pub is_class_text : Entry → Bool
+is_class_text (Utf8 text) = is_class_name text
+is_class_text (Class name) = false
+
+abbrev pub names_class : Option Entry → Bool
+names_class None = false
+names_class (Some e) = is_class_text e
+
+-- the entry keeps its row of the table (JVMS SE 8, 4.4)
+abbrev pub keeps_entry : List Entry → Entry → Bool
+keeps_entry pool (Utf8 text) = is_text text && nat_le (length text) 65535
+keeps_entry pool (Class name) = names_class (at pool name)
+
+-- the entry at index i, where it keeps its row
+abbrev pub kept_entry : List Entry → ℕ → Entry → Result Entry Fault
+kept_entry pool i e = if keeps_entry pool e then Ok e else Err (BadPool i)
+
+-- the entries from index i on: whether each keeps its row
+unfoldable pub checked_entries : List Entry → ℕ → List Entry → Result (Unit {0}) Fault
+checked_entries pool i [] = Ok tt
+checked_entries pool i (e ∷ es) = kept_entry pool i e >>= λ kept. checked_entries pool (i + 1) es
+
+-- super_class is 0 exactly in java/lang/Object (JVMS SE 8, 4.1)
+abbrev pub keeps_super : List Entry → List ℕ → ℕ → Bool
+keeps_super pool name super = if pointwise nat_eq name object then super == 0 else is_some (class_name pool super)
+
+abbrev pub keeps_supertypes : List Entry → ℕ → Option (List ℕ) → Bool
+keeps_supertypes pool super None = false
+keeps_supertypes pool super (Some name) = keeps_super pool name super
+
+-- the flags, and then the supertypes (JVMS SE 8, 4.1)
+abbrev pub checked_class : List Entry → ℕ → ℕ → ℕ → Result (Unit {0}) Fault
+checked_class pool flags this super =
+    if flags == 33
+    then if keeps_supertypes pool super (class_name pool this) then Ok tt else Err BadSupertype
+    else Err BadFlags
+
+-- the file, where it keeps the tables
+unfoldable pub kept_file : Structure → Result Structure Fault
+kept_file f = checked_entries f.pool 1 f.pool >>= λ entries. (checked_class f.pool f.flags f.this_class f.super_class >>= λ class. Ok f)

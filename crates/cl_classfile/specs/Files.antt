@@ -1,0 +1,169 @@
+-- The parts of a class file that linking looks at (JVMS SE 8, 4.1 to 4.6).
+use Rattle.std.specs.Prelude.{ℕ, ◌+◌, ◌/◌, ◌%◌, Bool, false, ◌&&◌, ◌==◌, nat_eq, List, [], ◌∷◌, ◌++◌, Option, Some, None, find, filter_map, option_map, option_to_list, unwrap_or}
+use Rattle.std.specs.Cmp.Lexicographic.{pointwise}
+use Rattle.cl_descriptors.specs.declared.types.Base.{Base}
+use Rattle.cl_descriptors.specs.declared.types.Base.TheVariants as bases
+use Rattle.cl_descriptors.specs.declared.types.FieldType.{FieldType}
+use Rattle.cl_descriptors.specs.declared.types.Descriptor.{Descriptor}
+use Rattle.cl_descriptors.specs.declared.types.Descriptor.TheVariants as descriptors
+use Rattle.cl_classfile.specs.declared.entry.Entry.{Entry}
+use Rattle.cl_classfile.specs.declared.entry.Entry.TheVariants.{Utf8, Class}
+use Rattle.cl_classfile.specs.Structure.{Structure, at}
+
+-- the bytes of the name of a class or a member (4.2)
+abbrev pub Name : Type 0
+Name = List ℕ
+
+-- what a member is looked up by (5.4.3)
+pub record Key : Type 0 where
+  pub name : Name
+  pub descriptor : Descriptor
+
+-- a field or a method (4.5, 4.6)
+pub record Member : Type 0 where
+  pub flags : ℕ
+  pub key : Key
+
+-- a reference in the pool: its class, and the member asked of it (4.4.1, 4.4.2)
+pub data Reference : Type 0 where
+  ToClass : (target : FieldType) → Reference
+  ToField : (target : FieldType) → (key : Key) → Reference
+  ToMethod : (target : FieldType) → (key : Key) → Reference
+  ToInterfaceMethod : (target : FieldType) → (key : Key) → Reference
+
+-- a class file (4.1); each reference with its index in the pool
+pub record File : Type 0 where
+  pub flags : ℕ
+  pub name : Name
+  pub super_name : Option Name
+  pub interfaces : List Name
+  pub fields : List Member
+  pub methods : List Member
+  pub references : List (ℕ × Reference)
+
+-- why bytes spell no file: of another version, or of no class file's form (4.8)
+pub data FileFault : Type 0 where
+  BadVersion : FileFault
+  BadFormat : FileFault
+
+-- ---- the file of a structure
+
+-- the text at an index of the pool
+abbrev pub text_of : Option Entry → Option Name
+text_of None = None
+text_of (Some (Utf8 text)) = Some text
+text_of (Some (Class name)) = None
+
+abbrev pub text_at : List Entry → ℕ → Option Name
+text_at pool i = text_of (at pool i)
+
+-- the name of an entry that is a class (4.4.1)
+abbrev pub class_of : List Entry → Option Entry → Option Name
+class_of pool None = None
+class_of pool (Some (Utf8 text)) = None
+class_of pool (Some (Class index)) = text_at pool index
+
+abbrev pub class_name : List Entry → ℕ → Option Name
+class_name pool i = class_of pool (at pool i)
+
+-- a class that is no array, as a type (4.3.2)
+abbrev pub class_type : Name → FieldType
+class_type name = record { dims = 0; base = bases.Class name }
+
+-- what an entry refers to, if it is a reference
+abbrev pub reference_of : List Entry → Entry → Option Reference
+reference_of pool (Utf8 text) = None
+reference_of pool (Class index) = option_map (λ name. ToClass (class_type name)) (text_at pool index)
+
+-- the references among the entries from an index on
+abbrev pub references_from : List Entry → ℕ → List Entry → List (ℕ × Reference)
+references_from pool i [] = []
+references_from pool i (e ∷ es) = option_to_list (option_map (λ r. (i, r)) (reference_of pool e)) ++ references_from pool (i + 1) es
+
+-- what linking looks at in a structure with no fields and methods
+abbrev pub file_of : Structure → File
+file_of f = record {
+  flags = f.flags;
+  name = unwrap_or (class_name f.pool f.this_class) [];
+  super_name = class_name f.pool f.super_class;
+  interfaces = filter_map (class_name f.pool) f.interfaces;
+  fields = [];
+  methods = [];
+  references = references_from f.pool 1 f.pool;
+}
+
+-- ---- flags, and members by their key
+
+-- flags have this bit (tables 4.1-A, 4.5-A, 4.6-A)
+abbrev pub has : ℕ → ℕ → Bool
+has flags bit = flags / bit % 2 == 1
+
+abbrev pub is_public : ℕ → Bool
+is_public flags = has flags 1
+
+abbrev pub is_private : ℕ → Bool
+is_private flags = has flags 2
+
+abbrev pub is_protected : ℕ → Bool
+is_protected flags = has flags 4
+
+abbrev pub is_static : ℕ → Bool
+is_static flags = has flags 8
+
+abbrev pub is_abstract : ℕ → Bool
+is_abstract flags = has flags 1024
+
+abbrev pub is_interface : File → Bool
+is_interface f = has f.flags 512
+
+-- two names are the same
+abbrev pub same_name : Name → Name → Bool
+same_name a b = pointwise nat_eq a b
+
+-- the letter of a base that is no class (4.3.2), and the name of one that is
+abbrev pub letter : Base → ℕ
+letter bases.Byte = 66
+letter bases.Char = 67
+letter bases.Double = 68
+letter bases.Float = 70
+letter bases.Int = 73
+letter bases.Long = 74
+letter bases.Short = 83
+letter bases.Boolean = 90
+letter (bases.Class name) = 76
+
+abbrev pub element_name : Base → List Name
+element_name bases.Byte = []
+element_name bases.Char = []
+element_name bases.Double = []
+element_name bases.Float = []
+element_name bases.Int = []
+element_name bases.Long = []
+element_name bases.Short = []
+element_name bases.Boolean = []
+element_name (bases.Class name) = name ∷ []
+
+abbrev pub same_base : Base → Base → Bool
+same_base a b = (letter a == letter b) && pointwise same_name (element_name a) (element_name b)
+
+abbrev pub same_type : FieldType → FieldType → Bool
+same_type a b = (a.dims == b.dims) && same_base a.base b.base
+
+-- two descriptors are the same
+abbrev pub same_descriptor : Descriptor → Descriptor → Bool
+same_descriptor (descriptors.Field a) (descriptors.Field b) = same_type a b
+same_descriptor (descriptors.Method a) (descriptors.Method b) = pointwise same_type (option_to_list a.ret) (option_to_list b.ret) && pointwise same_type a.params b.params
+same_descriptor (descriptors.Field a) (descriptors.Method b) = false
+same_descriptor (descriptors.Method a) (descriptors.Field b) = false
+
+-- two keys are the same
+abbrev pub same_key : Key → Key → Bool
+same_key a b = same_name a.name b.name && same_descriptor a.descriptor b.descriptor
+
+-- the member of a list with this key: there is at most one (4.5, 4.6)
+abbrev pub member : List Member → Key → Option Member
+member ms key = find (λ m. same_key m.key key) ms
+
+-- the reference at an index of the pool (4.4)
+abbrev pub reference : File → ℕ → Option Reference
+reference f i = option_map (λ e. e.1) (find (λ e. e.0 == i) f.references)

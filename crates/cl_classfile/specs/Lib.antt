@@ -1,0 +1,6 @@
+pub mod Structure
+pub mod Files
+pub mod Checking
+pub mod Raw
+pub mod Reading
+pub mod View

@@ -1,0 +1,126 @@
+-- Reading from left to right, with the first fault that is met.
+use Rattle.std.specs.Prelude.{◌≡◌, ℕ, zero, suc, ◌+◌, ◌-◌, Bool, ◌&&◌, List, [], ◌∷◌, length, take, drop, Result, Ok, Err, nat_lt, nat_le, ◌==◌, if◌then◌else◌}
+use Rattle.std.specs.Int.{Width, w16, w32, byte_len, from_be_bytes}
+use Rattle.cl_classfile.specs.declared.entry.Entry.{Entry}
+use Rattle.cl_classfile.specs.declared.entry.Entry.TheVariants.{Utf8, Class}
+use Rattle.cl_classfile.specs.declared.fault.Fault.{Fault}
+use Rattle.cl_classfile.specs.declared.fault.Fault.TheVariants.{BadMagic, Version, Truncated, Trailing, BadPool, BadMember, BadSupertype}
+use Rattle.cl_classfile.specs.Structure.{Structure, Member, Attribute}
+use Rattle.cl_classfile.specs.Checking.{◌>>=◌, kept_file}
+
+-- ---- readers, and how they are put together
+
+-- a reader takes a value from the front
+abbrev pub Reader : Type 0 → Type 0
+Reader A = List ℕ → Result (A × List ℕ) Fault
+
+abbrev pub number_at : Width → Reader ℕ
+number_at w bytes = if nat_lt (length bytes) (byte_len w) then Err Truncated else Ok (from_be_bytes w (take (byte_len w) bytes), drop (byte_len w) bytes)
+
+-- that many bytes
+abbrev pub bytes_at : ℕ → Reader (List ℕ)
+bytes_at n bytes = if nat_lt (length bytes) n then Err Truncated else Ok (take n bytes, drop n bytes)
+
+-- one field, and then another that may depend on it
+abbrev pub then_at : {A B : Type 0} → Reader A → (A → Reader B) → Reader (A × B)
+then_at r q bytes = r bytes >>= λ x. (q x.0 x.1 >>= λ y. Ok ((x.0, y.0), y.1))
+
+-- a field that passes a test
+abbrev pub test_at : {A : Type 0} → Reader A → (A → Bool) → Fault → Reader A
+test_at r test fault bytes = r bytes >>= λ x. (if test x.0 then Ok x else Err fault)
+
+-- a field seen in another way
+abbrev pub map_at : {A B : Type 0} → Reader A → (A → B) → Reader B
+map_at r view bytes = r bytes >>= λ x. Ok (view x.0, x.1)
+
+-- that many of a structure, each read where the ones before it say
+unfoldable pub many_at : {C A : Type 0} → (C → Reader A) → (C → A → C) → ℕ → C → Reader (List A)
+many_at step next zero c bytes = Ok ([], bytes)
+many_at step next (suc n) c bytes = step c bytes >>= λ x. (many_at step next n (next c x.0) x.1 >>= λ y. Ok (x.0 ∷ y.0, y.1))
+
+-- a count that has to be 0, so that there are none
+abbrev pub zero_at : Fault → Reader ℕ
+zero_at fault = test_at (number_at w16) (λ n. n == 0) fault
+
+abbrev pub none_at : {A : Type 0} → Fault → Reader (List A)
+none_at fault = map_at (zero_at fault) (λ n. [])
+
+-- ---- the structures of a class file (JVMS SE 8, 4.1, 4.4)
+
+-- the magic
+unfoldable pub magic_at : Reader ℕ
+magic_at = test_at (number_at w32) (λ n. n == 0xcafebabe) BadMagic
+
+-- the minor and the major version
+unfoldable pub version_at : Reader (ℕ × ℕ)
+version_at = test_at (then_at (number_at w16) (λ minor. number_at w16)) (λ v. v.0 == 0 && v.1 == 52) Version
+
+unfoldable pub header_at : Reader (ℕ × (ℕ × ℕ))
+header_at = then_at magic_at (λ magic. version_at)
+
+-- two bytes of length, and that many bytes of text
+unfoldable pub text_at : Reader (List ℕ)
+text_at bytes = number_at w16 bytes >>= λ n. bytes_at n.0 n.1
+
+-- the entry at index i
+unfoldable pub entry_at : ℕ → Reader Entry
+entry_at i [] = Err Truncated
+entry_at i (tag ∷ rest) =
+    if tag == 1
+    then map_at text_at (λ t. Utf8 t) rest
+    else if tag == 7
+    then map_at (number_at w16) (λ n. Class n) rest
+    else Err (BadPool i)
+
+-- that many entries, the first of them at index 1
+unfoldable pub entries_at : ℕ → Reader (List Entry)
+entries_at n = many_at entry_at (λ i e. i + 1) n 1
+
+unfoldable pub pool_at : Reader (List Entry)
+pool_at bytes = test_at (number_at w16) (λ n. nat_le 1 n) (BadPool 0) bytes >>= λ n. entries_at (n.0 - 1) n.1
+
+-- the flags, this_class and super_class
+unfoldable pub class_at : Reader (ℕ × (ℕ × ℕ))
+class_at = then_at (number_at w16) (λ flags. then_at (number_at w16) (λ this. number_at w16))
+
+unfoldable pub interfaces_at : Reader (List ℕ)
+interfaces_at = none_at BadSupertype
+
+unfoldable pub members_at : Reader (List Member)
+members_at = none_at BadMember
+
+unfoldable pub attributes_at : Reader (List Attribute)
+attributes_at = none_at BadMember
+
+-- the fields, the methods and the class's attributes
+unfoldable pub tables_at : Reader (List Member × (List Member × List Attribute))
+tables_at = then_at members_at (λ fields. then_at members_at (λ methods. attributes_at))
+
+abbrev pub Parts : Type 0
+Parts = (ℕ × (ℕ × ℕ)) × (List Entry × ((ℕ × (ℕ × ℕ)) × (List ℕ × (List Member × (List Member × List Attribute)))))
+
+unfoldable pub parts_at : Reader Parts
+parts_at = then_at header_at (λ header. then_at pool_at (λ pool. then_at class_at (λ class. then_at interfaces_at (λ interfaces. tables_at))))
+
+abbrev pub structure_of : Parts → Structure
+structure_of p = record {
+  pool = p.1.0;
+  flags = p.1.1.0.0;
+  this_class = p.1.1.0.1.0;
+  super_class = p.1.1.0.1.1;
+  interfaces = p.1.1.1.0;
+  fields = p.1.1.1.1.0;
+  methods = p.1.1.1.1.1.0;
+  attributes = p.1.1.1.1.1.1;
+}
+
+unfoldable pub structure_at : Reader Structure
+structure_at = map_at parts_at structure_of
+
+-- all of the bytes
+unfoldable pub whole_of : List ℕ → Result Structure Fault
+whole_of bytes = structure_at bytes >>= λ x. (if length x.1 == 0 then Ok x.0 else Err Trailing)
+
+-- the file that the bytes spell, or its first fault
+unfoldable pub read_of : List ℕ → Result Structure Fault
+read_of bytes = whole_of bytes >>= kept_file

@@ -1,0 +1,16 @@
+-- A class file without where it lies in memory.
+use Rattle.std.specs.Prelude.{[]}
+use Rattle.cl_classfile.specs.declared.file.ClassFile.TheInside.{Inside}
+use Rattle.cl_classfile.specs.Structure.{Structure}
+
+abbrev pub structure : Inside → Structure
+structure f = record {
+  pool = f.pool.items;
+  flags = f.flags;
+  this_class = f.this_class;
+  super_class = f.super_class;
+  interfaces = f.interfaces.items;
+  fields = [];
+  methods = [];
+  attributes = [];
+}

@@ -1,0 +1,149 @@
+ghost use Rattle.std.specs.Prelude.{◌≡◌, ◌↔◌, IfOk, IfSome, Ok, IsErrOf};
+ghost use Rattle.std.specs.Option.{option_map};
+ghost use Rattle.cl_classfile.specs.declared.fault.Fault.{Fault};
+ghost use Rattle.cl_classfile.specs.declared.fault.Fault.TheVariants as faults;
+ghost use Rattle.cl_classfile.specs.declared.fault.ReadError.TheVariants as errors;
+ghost use Rattle.cl_classfile.specs.Structure.{Structure, Fits, Spells, IsNarrow, IsClassFile, HasOtherMagic, HasOtherVersion};
+ghost use Rattle.cl_classfile.specs.Files.{file_of};
+ghost use Rattle.cl_names.specs.Kind.{IsNameOf, IsClass};
+ghost use Rattle.cl_classfile.specs.Raw.{plain_file};
+ghost use Rattle.cl_classfile.specs.Checking.{Gives, kept_file};
+ghost use Rattle.cl_classfile.specs.Reading.{header_at, read_of};
+
+use crate::checking::{check_class, class_name, kept_entries};
+use crate::entry::Entry;
+use crate::fault::{Fault, ReadError};
+use crate::reading::{RawFile, whole_of};
+use cl_names::Name;
+use std::alloc::Global;
+use std::marker::Model;
+
+/// A class file, whose parts keep the tables of JVMS SE 8, 4.1 and 4.4.
+#[derive(Debug, Drop)]
+pub struct ClassFile {
+    pool: Vec<Entry>,
+    flags: u16,
+    this_class: u16,
+    super_class: u16,
+    interfaces: Vec<u16>,
+}
+
+impl Model for ClassFile {
+    ghost use Rattle.cl_classfile.specs.Structure.{Structure, IsClassFile};
+
+    ghost Value = { Structure };
+
+    ghost use Rattle.cl_classfile.specs.View.{structure};
+
+    ghost view = { structure };
+
+    ghost invariant = { λ f. IsClassFile (structure f) };
+}
+
+impl ClassFile {
+    /// The class's flags (JVMS SE 8, 4.1).
+    pub fn flags(&self) -> u16
+        ensures { result ≡ self.now.flags }
+    {
+        self.flags
+    }
+
+    /// The index of the entry of the class itself.
+    pub fn this_class(&self) -> u16
+        ensures { result ≡ self.now.this_class }
+    {
+        self.this_class
+    }
+
+    /// The index of the entry of the superclass, and 0 in `java/lang/Object`.
+    pub fn super_class(&self) -> u16
+        ensures { result ≡ self.now.super_class }
+    {
+        self.super_class
+    }
+
+    /// The entries of the pool from index 1 on.
+    pub fn pool(&self) -> &[Entry]
+        ensures entries { result.now ≡ self.now.pool }
+        ensures sound { IsClassFile self.now }
+    {
+        self.pool.as_slice()
+    }
+
+    /// The indices of the entries of the interfaces, in order.
+    pub fn interfaces(&self) -> &[u16]
+        ensures { result.now ≡ self.now.interfaces }
+    {
+        self.interfaces.as_slice()
+    }
+
+    /// The name of the class.
+    pub fn this_name(&self) -> &Name
+        ensures name { result.now ≡ (file_of self.now).name }
+        ensures class { IsNameOf IsClass result.now }
+    {
+        class_name(self.pool.as_slice(), self.this_class).unwrap()
+    }
+
+    /// The name of the superclass, if there is one.
+    pub fn super_name(&self) -> Option<&Name>
+        ensures name { option_map (λ n. n.now) result ≡ (file_of self.now).super_name }
+        ensures class { IfSome result (λ n. IsNameOf IsClass n.now) }
+    {
+        class_name(self.pool.as_slice(), self.super_class)
+    }
+}
+
+fn made(alloc: Global, pool: Vec<Entry>, file: &RawFile<'_>) -> ClassFile
+    requires { IsClassFile (record (plain_file file.now) { pool = pool.items }) }
+    ensures { result ≡ record (plain_file file.now) { pool = pool.items } }
+{
+    ClassFile {
+        pool,
+        flags: file.flags,
+        this_class: file.this_class,
+        super_class: file.super_class,
+        interfaces: Vec::new(alloc),
+    }
+}
+
+#[tactic(auto, unfolding(crate::specs::Checking::kept_file))]
+fn kept_file(alloc: Global, file: RawFile<'_>) -> Result<ClassFile, ReadError>
+    requires { Fits (plain_file file) }
+    ensures { Gives (λ f. f) result (kept_file (plain_file file.entry)) }
+{
+    let pool = kept_entries(alloc, file.pool.as_slice())?;
+    check_class(
+        pool.as_slice(),
+        file.flags,
+        file.this_class,
+        file.super_class,
+    )?;
+    Ok(made(alloc, pool, &file))
+}
+
+#[tactic(auto, unfolding(crate::specs::Reading::read_of))]
+fn read_of(alloc: Global, bytes: &[u8]) -> Result<ClassFile, ReadError>
+    ensures exact { Gives (λ f. f) result (read_of bytes.now) }
+    ensures early { (f : Fault) → header_at bytes.now ≡ Err f → IsErrOf result (errors.Fault f) }
+{
+    let file = whole_of(alloc, bytes)?;
+    kept_file(alloc, file)
+}
+
+/// The file that the bytes spell, all of the bytes.
+///
+/// The errors come in this order: those of the bytes from left to right (F1 to F3, F5 at a tag and at a count of
+/// 0, and where a count of interfaces or members is not 0 F9 or F7), F4, F5 for each entry in turn, F6, F9.
+pub fn read(alloc: Global, bytes: &[u8]) -> Result<ClassFile, ReadError>
+    // What is read is spelled so.
+    ensures found { IfOk result (λ f. Spells bytes.now f × IsNarrow f) }
+    // What is spelled so is read, unless memory runs out.
+    ensures only { (f : Structure) → Spells bytes.now f → IsNarrow f → Gives (λ g. g) result (Ok f) }
+    // Which fault it is.
+    ensures exact { Gives (λ f. f) result (read_of bytes.now) }
+    ensures magic { IsErrOf result (errors.Fault faults.BadMagic) ↔ HasOtherMagic bytes.now }
+    ensures version { IsErrOf result (errors.Fault faults.Version) ↔ HasOtherVersion bytes.now }
+{
+    read_of(alloc, bytes)
+}

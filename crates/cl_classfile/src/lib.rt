@@ -1,0 +1,17 @@
+//! Class files: their parts, and reading them from bytes (JVMS SE 8, chapter 4).
+#![tactic(auto)]
+
+mod checking;
+mod entry;
+mod fault;
+mod file;
+mod laws;
+mod reading;
+
+pub use entry::Entry;
+pub use fault::{Fault, ReadError};
+pub use file::{ClassFile, read};
+pub use laws::{has_one_spelling, spells_one_file};
+
+#[cfg(test)]
+mod tests;

@@ -1,0 +1,216 @@
+ghost use Rattle.std.specs.Prelude.{◌≡◌, ◌+◌, ◌<◌, ◌^◌, List, [], length, IfOk, IsErrOf};
+ghost use Rattle.std.specs.Int.{w16, w32};
+ghost use Rattle.cl_classfile.specs.declared.fault.Fault.{Fault};
+ghost use Rattle.cl_classfile.specs.declared.fault.ReadError.TheVariants as errors;
+ghost use Rattle.cl_classfile.specs.Structure.{Fits};
+ghost use Rattle.cl_classfile.specs.Checking.{Finds, Gives};
+ghost use Rattle.cl_classfile.specs.Reading.{number_at, bytes_at, zero_at, magic_at, version_at, header_at, text_at, entry_at, entries_at, pool_at, class_at, interfaces_at, tables_at, structure_at, whole_of};
+ghost use Rattle.cl_classfile.specs.Raw.{plain_entry, plain_entries, plain_file};
+
+use crate::fault::{Fault, ReadError};
+use std::alloc::Global;
+
+/// An entry as it is read, before it is looked at.
+#[derive(Clone, Copy)]
+pub enum RawEntry<'a> {
+    Utf8(&'a [u8]),
+    Class(u16),
+}
+
+/// A file as it is read, before it is looked at.
+#[derive(Drop)]
+pub struct RawFile<'a> {
+    pub pool: Vec<RawEntry<'a>>,
+    pub flags: u16,
+    pub this_class: u16,
+    pub super_class: u16,
+}
+
+fn u16_at(bytes: &[u8]) -> Result<(u16, &[u8]), Fault>
+    ensures { Finds (λ x. (x.0, x.1.now)) result (number_at w16 bytes.now) }
+{
+    if bytes.len() < 2 {
+        return Err(Fault::Truncated);
+    }
+    let (front, rest) = bytes.split_at(2);
+    let number = u16::from_be_bytes([front[0], front[1]]);
+    Ok((number, rest))
+}
+
+fn u32_at(bytes: &[u8]) -> Result<(u32, &[u8]), Fault>
+    ensures { Finds (λ x. (x.0, x.1.now)) result (number_at w32 bytes.now) }
+{
+    if bytes.len() < 4 {
+        return Err(Fault::Truncated);
+    }
+    let (front, rest) = bytes.split_at(4);
+    let number = u32::from_be_bytes([front[0], front[1], front[2], front[3]]);
+    Ok((number, rest))
+}
+
+fn bytes_at(count: usize, bytes: &[u8]) -> Result<(&[u8], &[u8]), Fault>
+    ensures { Finds (λ x. (x.0.now, x.1.now)) result (bytes_at count bytes.now) }
+{
+    if bytes.len() < count {
+        return Err(Fault::Truncated);
+    }
+    Ok(bytes.split_at(count))
+}
+
+/// A count that has to be 0.
+fn zero_at(fault: Fault, bytes: &[u8]) -> Result<&[u8], Fault>
+    ensures { Finds (λ x. (0, x.now)) result (zero_at fault bytes.now) }
+{
+    let (count, rest) = u16_at(bytes)?;
+    if count != 0 {
+        return Err(fault);
+    }
+    Ok(rest)
+}
+
+#[tactic(auto, unfolding(crate::specs::Reading::text_at))]
+fn text_at(bytes: &[u8]) -> Result<(&[u8], &[u8]), Fault>
+    ensures { Finds (λ x. (x.0.now, x.1.now)) result (text_at bytes.now) }
+{
+    let (count, rest) = u16_at(bytes)?;
+    bytes_at(count as usize, rest)
+}
+
+#[tactic(auto, unfolding(crate::specs::Reading::entry_at))]
+fn entry_at(index: u16, bytes: &[u8]) -> Result<(RawEntry<'_>, &[u8]), Fault>
+    ensures { Finds (λ x. (plain_entry x.0, x.1.now)) result (entry_at index bytes.now) }
+{
+    let [tag, rest @ ..] = bytes else {
+        return Err(Fault::Truncated);
+    };
+    match *tag {
+        1 => {
+            let (text, rest) = text_at(rest)?;
+            Ok((RawEntry::Utf8(text), rest))
+        }
+        7 => {
+            let (name, rest) = u16_at(rest)?;
+            Ok((RawEntry::Class(name), rest))
+        }
+        _ => Err(Fault::BadPool(index)),
+    }
+}
+
+fn entries_at(
+    alloc: Global,
+    count: u16,
+    bytes: &[u8],
+) -> Result<(Vec<RawEntry<'_>>, &[u8]), ReadError>
+    requires { count + 1 < 2 ^ 16 }
+    ensures { Gives (λ x. (plain_entries x.0.items, x.1.now)) result (entries_at count bytes.now) }
+{
+    let mut entries = Vec::new(alloc);
+    let mut rest = bytes;
+    for i in 0..count {
+        let (entry, after) = entry_at(i + 1, rest)?;
+        entries.push(entry)?;
+        rest = after;
+    }
+    Ok((entries, rest))
+}
+
+#[tactic(auto, unfolding(crate::specs::Reading::pool_at))]
+fn pool_at(alloc: Global, bytes: &[u8]) -> Result<(Vec<RawEntry<'_>>, &[u8]), ReadError>
+    ensures { Gives (λ x. (plain_entries x.0.items, x.1.now)) result (pool_at bytes.now) }
+{
+    let (count, rest) = u16_at(bytes)?;
+    if count == 0 {
+        return Err(ReadError::Fault(Fault::BadPool(0)));
+    }
+    entries_at(alloc, count - 1, rest)
+}
+
+#[tactic(auto, unfolding(crate::specs::Reading::magic_at))]
+fn magic_at(bytes: &[u8]) -> Result<(u32, &[u8]), Fault>
+    ensures { Finds (λ x. (x.0, x.1.now)) result (magic_at bytes.now) }
+{
+    let (magic, rest) = u32_at(bytes)?;
+    if magic != 0xcafebabe {
+        return Err(Fault::BadMagic);
+    }
+    Ok((magic, rest))
+}
+
+#[tactic(auto, unfolding(crate::specs::Reading::version_at))]
+fn version_at(bytes: &[u8]) -> Result<((u16, u16), &[u8]), Fault>
+    ensures { Finds (λ x. (x.0, x.1.now)) result (version_at bytes.now) }
+{
+    let (minor, rest) = u16_at(bytes)?;
+    let (major, rest) = u16_at(rest)?;
+    if minor != 0 || major != 52 {
+        return Err(Fault::Version);
+    }
+    Ok(((minor, major), rest))
+}
+
+#[tactic(auto, unfolding(crate::specs::Reading::header_at))]
+fn header_at(bytes: &[u8]) -> Result<((u32, (u16, u16)), &[u8]), Fault>
+    ensures { Finds (λ x. (x.0, x.1.now)) result (header_at bytes.now) }
+{
+    let (magic, rest) = magic_at(bytes)?;
+    let (version, rest) = version_at(rest)?;
+    Ok(((magic, version), rest))
+}
+
+#[tactic(auto, unfolding(crate::specs::Reading::class_at))]
+fn class_at(bytes: &[u8]) -> Result<((u16, (u16, u16)), &[u8]), Fault>
+    ensures { Finds (λ x. (x.0, x.1.now)) result (class_at bytes.now) }
+{
+    let (flags, rest) = u16_at(bytes)?;
+    let (this_class, rest) = u16_at(rest)?;
+    let (super_class, rest) = u16_at(rest)?;
+    Ok(((flags, (this_class, super_class)), rest))
+}
+
+#[tactic(auto, unfolding(crate::specs::Reading::interfaces_at))]
+fn interfaces_at(bytes: &[u8]) -> Result<&[u8], Fault>
+    ensures { Finds (λ x. ([], x.now)) result (interfaces_at bytes.now) }
+{
+    zero_at(Fault::BadSupertype, bytes)
+}
+
+#[tactic(auto, unfolding(crate::specs::Reading::tables_at, crate::specs::Reading::members_at, crate::specs::Reading::attributes_at))]
+fn tables_at(bytes: &[u8]) -> Result<&[u8], Fault>
+    ensures { Finds (λ x. (([], ([], [])), x.now)) result (tables_at bytes.now) }
+{
+    let rest = zero_at(Fault::BadMember, bytes)?;
+    let rest = zero_at(Fault::BadMember, rest)?;
+    zero_at(Fault::BadMember, rest)
+}
+
+#[tactic(auto, unfolding(crate::specs::Reading::structure_at, crate::specs::Reading::parts_at))]
+fn structure_at(alloc: Global, bytes: &[u8]) -> Result<(RawFile<'_>, &[u8]), ReadError>
+    ensures exact { Gives (λ x. (plain_file x.0, x.1.now)) result (structure_at bytes.now) }
+    ensures early { (f : Fault) → header_at bytes.now ≡ Err f → IsErrOf result (errors.Fault f) }
+{
+    let (_, rest) = header_at(bytes)?;
+    let (pool, rest) = pool_at(alloc, rest)?;
+    let ((flags, (this_class, super_class)), rest) = class_at(rest)?;
+    let rest = interfaces_at(rest)?;
+    let rest = tables_at(rest)?;
+    let file = RawFile {
+        pool,
+        flags,
+        this_class,
+        super_class,
+    };
+    Ok((file, rest))
+}
+
+#[tactic(auto, unfolding(crate::specs::Reading::whole_of))]
+pub fn whole_of(alloc: Global, bytes: &[u8]) -> Result<RawFile<'_>, ReadError>
+    ensures exact { Gives plain_file result (whole_of bytes.now) }
+    ensures fits { IfOk result (λ x. Fits (plain_file x)) }
+    ensures early { (f : Fault) → header_at bytes.now ≡ Err f → IsErrOf result (errors.Fault f) }
+{
+    let (file, rest) = structure_at(alloc, bytes)?;
+    if !rest.is_empty() {
+        return Err(ReadError::Fault(Fault::Trailing));
+    }
+    Ok(file)
+}

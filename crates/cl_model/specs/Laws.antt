@@ -1,0 +1,280 @@
+-- Laws of the definitions: each is the contract of a function without a body.
+use Rattle.std.specs.Prelude.{◌≡◌, ℕ, suc, List, [], ◌∷◌, ◌++◌, Some, None, Ok, Err, ◌⊎◌, Contains, Option, slice_get, ◌≢◌}
+use Rattle.std.specs.List.{AllByRecursion}
+use Rattle.cl_classfile.specs.Files.{Name, File}
+use Rattle.cl_model.specs.Content.{content_at}
+use Rattle.cl_model.specs.declared.event.Event as events
+use Rattle.cl_model.specs.Views.{answer_at, steps_of, IsOther}
+use Rattle.cl_model.specs.Homes.{World, home}
+use Rattle.cl_model.specs.declared.class.Class.{Class}
+use Rattle.cl_model.specs.Classes.{class, Error, ClassCircularity, ClassNotFound, HasFile, IsAtHome, Good, IsGood, Fails, Circular, Next, Returns}
+use Rattle.cl_model.specs.Lineages.{Kin, IsLineage}
+use Rattle.cl_model.specs.Works.{Made}
+use Rattle.cl_model.specs.Plans.{derive, load, Load, Resolve, needs_of, Request, Plan}
+use Rattle.cl_model.specs.States.{State, start, IsNext, MayAdd, Said, Entry, IsClass, Answer, settled_to, answer_to, IsFresh, Clashes, added, Need, Verdict, recorded, Violated, Met, AllMet, IsRecorded}
+use Rattle.cl_model.specs.Tables.{Allows, Orderly, IsTrusted, Stands}
+use Rattle.cl_model.specs.Machine.{Define, Setting, Step, May, state_after, Run, Answers, IsClosed, IsSound, Scheduled, step_for, after, AnswersPlan, AnswersReference, IsPlan, HasLineage, IsResolution}
+
+-- a home is its own home
+abbrev pub HomeOfHome : Type 0
+HomeOfHome = (w : World) (loader found : ℕ) (name : Name) → home w loader name ≡ Some found → home w found name ≡ Some found
+
+-- a greater height derives the same
+abbrev pub HigherDerives : Type 0
+HigherDerives = (w : World) (n : ℕ) (path : List Class) (c : Class) (m : Made Kin) → derive w n path c ≡ Some m → derive w (suc n) path c ≡ Some m
+
+-- what is good does not fail
+abbrev pub GoodIsNotFailing : Type 0
+GoodIsNotFailing = (w : World) (n m : ℕ) (c : Class) (e : Error) → Good w n c → Fails w m c e → ⊥
+
+-- what derives to a lineage is good
+abbrev pub DerivedIsGood : Type 0
+DerivedIsGood = (w : World) (n : ℕ) (path : List Class) (c : Class) (m : Made Kin) (k : Kin) → derive w n path c ≡ Some m → m.ends ≡ Ok k → Good w n c
+
+-- a run goes on by what may happen
+abbrev pub RunGoesOn : Type 0
+RunGoesOn = (g : Setting) (s : State) (es : List Step) (e : Step) → Run g s es → May g (state_after s es) e → Run g s (es ++ e ∷ [])
+
+-- a record never changes
+abbrev pub RecordsStay : Type 0
+RecordsStay = (s : State) (es : List Step) (loader place : ℕ) (name : Name) → recorded s.records loader name ≡ Some place → recorded (state_after s es).records loader name ≡ Some place
+
+-- what is met stays met
+abbrev pub MetStays : Type 0
+MetStays = (s : State) (es : List Step) (n : Need) → Met s n → Met (state_after s es) n
+
+-- along a run nothing is violated
+abbrev pub NeverViolated : Type 0
+NeverViolated = (g : Setting) (es : List Step) → Run g start es → Violated (state_after start es) → ⊥
+
+-- an answer stays the same along a run
+abbrev pub AnswersStay : Type 0
+AnswersStay = (g : Setting) (s : State) (es : List Step) (ns : List Need) (ends v : Verdict) → (Violated s → ⊥) → Run g s es → Answers s ns ends v → Answers (state_after s es) ns ends v
+
+-- a list of needs has one answer in a state
+abbrev pub OneAnswer : Type 0
+OneAnswer = (s : State) (ns : List Need) (ends v u : Verdict) → Answers s ns ends v → Answers s ns ends u → v ≡ u
+
+-- in a closed state a recorded class needs nothing more: all needs of its derivation are met
+abbrev pub RecordedIsMet : Type 0
+RecordedIsMet = (w : World) (s : State) (n : ℕ) (path : List Class) (c : Class) (m : Made Kin) (k : Kin) → IsClosed w s → IsRecorded s c → derive w n path c ≡ Some m → m.ends ≡ Ok k → AllMet s m.needs
+
+-- every state of a run is closed
+abbrev pub RunsAreClosed : Type 0
+RunsAreClosed = (g : Setting) (es : List Step) → Run g start es → IsClosed g.world (state_after start es)
+
+-- what is good is derived at its height: a class met again cannot be good
+abbrev pub GoodIsDerived : Type 0
+GoodIsDerived = (w : World) (n : ℕ) (c : Class) → Good w n c → (m : Made Kin) × (k : Kin) × (derive w n [] c ≡ Some m) × (m.ends ≡ Ok k)
+
+-- what derives to an error fails with it, or a walk ends in it
+abbrev pub ErrorIsFailing : Type 0
+ErrorIsFailing = (w : World) (n : ℕ) (path : List Class) (c : Class) (m : Made Kin) (e : Error) → derive w n path c ≡ Some m → m.ends ≡ Err e → Fails w n c e ⊎ ((x : Class) × (e ≡ ClassCircularity x) × Returns w path c x)
+
+-- a class fails with one error
+abbrev pub OneError : Type 0
+OneError = (w : World) (n m : ℕ) (c : Class) (e d : Error) → Fails w n c e → Fails w m c d → e ≡ d
+
+-- what is good at a height is good at a greater one
+abbrev pub GoodGrows : Type 0
+GoodGrows = (w : World) (n : ℕ) (c : Class) → Good w n c → Good w (suc n) c
+
+-- what fails at a height fails at a greater one
+abbrev pub FailsGrows : Type 0
+FailsGrows = (w : World) (n : ℕ) (c : Class) (e : Error) → Fails w n c e → Fails w (suc n) c e
+
+-- what fails is derived to its error at its height: a class met again cannot fail
+abbrev pub FailingIsDerived : Type 0
+FailingIsDerived = (w : World) (n : ℕ) (c : Class) (e : Error) → Fails w n c e → (m : Made Kin) × (derive w n [] c ≡ Some m) × (m.ends ≡ Err e)
+
+-- a walk that returns excludes both
+abbrev pub ReturnIsCircular : Type 0
+ReturnIsCircular = (w : World) (c x : Class) → Returns w [] c x → Circular w c
+
+-- from a class whose walk returns the first supertype that is not good is circular too
+abbrev pub ReturnGoesOn : Type 0
+ReturnGoesOn = (w : World) (c x : Class) → Returns w [] c x → (s : Class) × Next w c s × Circular w s
+
+-- what derives to a circle is where a walk returns
+abbrev pub CircleReturns : Type 0
+CircleReturns = (w : World) (n : ℕ) (path : List Class) (c : Class) (m : Made Kin) (x : Class) → derive w n path c ≡ Some m → m.ends ≡ Err (ClassCircularity x) → Returns w path c x
+
+-- where a walk returns, the class is derived to the circle of that subject
+abbrev pub ReturnIsDerived : Type 0
+ReturnIsDerived = (w : World) (c x : Class) → Returns w [] c x → (n : ℕ) × (m : Made Kin) × (derive w n [] c ≡ Some m) × (m.ends ≡ Err (ClassCircularity x))
+
+-- a circle has one subject
+abbrev pub OneSubject : Type 0
+OneSubject = (w : World) (c x y : Class) → Returns w [] c x → Returns w [] c y → x ≡ y
+
+-- a failure is no circle
+abbrev pub FailureIsNoCircle : Type 0
+FailureIsNoCircle = (w : World) (n : ℕ) (c x : Class) → Fails w n c (ClassCircularity x) → ⊥
+
+-- two heights derive the same
+abbrev pub OneDerivation : Type 0
+OneDerivation = (w : World) (n h : ℕ) (path : List Class) (c : Class) (m k : Made Kin) → derive w n path c ≡ Some m → derive w h path c ≡ Some k → m ≡ k
+
+-- what has a file, and so what is good, is at home
+abbrev pub GoodIsAtHome : Type 0
+GoodIsAtHome = (w : World) (n : ℕ) (c : Class) → Good w n c → IsAtHome w c
+
+-- each class is good, or fails, or a walk from it returns
+abbrev pub ComesOut : Type 0
+ComesOut = (w : World) (c : Class) → IsGood w c ⊎ ((n : ℕ) × (e : Error) × Fails w n c e) ⊎ ((x : Class) × Returns w [] c x)
+
+-- from a circular class a walk returns
+abbrev pub CircularReturns : Type 0
+CircularReturns = (w : World) (c : Class) → Circular w c → (x : Class) × Returns w [] c x
+
+-- of a circular class the first supertype that is not good is circular too
+abbrev pub CircularGoesOn : Type 0
+CircularGoesOn = (w : World) (c : Class) → Circular w c → (s : Class) × Next w c s × Circular w s
+
+-- each request has a plan
+abbrev pub PlanExists : Type 0
+PlanExists = (w : World) (q : Request) → (p : Plan) × IsPlan w q p
+
+-- and one alone
+abbrev pub OnePlan : Type 0
+OnePlan = (w : World) (q : Request) (p r : Plan) → IsPlan w q p → IsPlan w q r → p ≡ r
+
+-- a good class has a lineage
+abbrev pub LineageExists : Type 0
+LineageExists = (w : World) (n : ℕ) (c : Class) → Good w n c → (k : Kin) × HasLineage w c k
+
+-- and one alone
+abbrev pub OneLineage : Type 0
+OneLineage = (w : World) (c : Class) (k l : Kin) → HasLineage w c k → HasLineage w c l → k ≡ l
+
+-- each entry of a good class has a resolution
+abbrev pub ResolutionExists : Type 0
+ResolutionExists = (w : World) (d : Class) (i n : ℕ) → Good w n d → (m : Made Verdict) × IsResolution w d i m
+
+-- and one alone
+abbrev pub OneResolution : Type 0
+OneResolution = (w : World) (d : Class) (i : ℕ) (m k : Made Verdict) → IsResolution w d i m → IsResolution w d i k → m ≡ k
+
+-- what a derivation ends in is the lineage of its class
+abbrev pub DerivedIsLineage : Type 0
+DerivedIsLineage = (w : World) (n : ℕ) (path : List Class) (c : Class) (m : Made Kin) (k : Kin) → derive w n path c ≡ Some m → m.ends ≡ Ok k → (k.class ≡ c) × IsLineage w k
+
+-- a lineage is what its class is derived to
+abbrev pub LineageIsDerived : Type 0
+LineageIsDerived = (w : World) (k : Kin) → IsLineage w k → HasLineage w k.class k
+
+-- a settled verdict never changes
+abbrev pub SettledStay : Type 0
+SettledStay = (s : State) (es : List Step) (d : Class) (i : ℕ) (v : Verdict) → settled_to s.settled d i ≡ Some v → settled_to (state_after s es).settled d i ≡ Some v
+
+-- what is prepared stays so
+abbrev pub PreparedStay : Type 0
+PreparedStay = (s : State) (es : List Step) (c : Class) → Contains s.prepared c → Contains (state_after s es).prepared c
+
+-- a posted answer never changes
+abbrev pub PostedStay : Type 0
+PostedStay = (s : State) (es : List Step) (q : ℕ) (a : Answer) → answer_to s.answers q ≡ Some a → answer_to (state_after s es).answers q ≡ Some a
+
+-- the answer of a request stays the same along a run
+abbrev pub RequestAnswerStays : Type 0
+RequestAnswerStays = (g : Setting) (s : State) (es : List Step) (q : Request) (v : Verdict) → (Violated s → ⊥) → Run g s es → AnswersPlan g s q v → AnswersPlan g (state_after s es) q v
+
+-- the answer of a reference stays the same along a run
+abbrev pub ReferenceAnswerStays : Type 0
+ReferenceAnswerStays = (g : Setting) (s : State) (es : List Step) (d : Class) (i : ℕ) (v : Verdict) → (Violated s → ⊥) → Run g s es → AnswersReference g s d i v → AnswersReference g (state_after s es) d i v
+
+-- a request has one answer in a state
+abbrev pub OneRequestAnswer : Type 0
+OneRequestAnswer = (g : Setting) (s : State) (q : Request) (v u : Verdict) → AnswersPlan g s q v → AnswersPlan g s q u → v ≡ u
+
+-- a reference has one answer in a state
+abbrev pub OneReferenceAnswer : Type 0
+OneReferenceAnswer = (g : Setting) (s : State) (d : Class) (i : ℕ) (v u : Verdict) → AnswersReference g s d i v → AnswersReference g s d i u → v ≡ u
+
+-- all that a state of a run holds is as it should be
+abbrev pub RunsAreSound : Type 0
+RunsAreSound = (g : Setting) (es : List Step) → Run g start es → IsSound g (state_after start es)
+
+-- a step that may happen keeps a state sound
+abbrev pub StepIsSound : Type 0
+StepIsSound = (g : Setting) (s : State) (e : Step) → May g s e → IsSound g s → IsSound g (after s e)
+
+-- what clashes would violate, where it is fresh
+abbrev pub ClashViolates : Type 0
+ClashViolates = (s : State) (n : Need) → IsFresh s n → Clashes s n → Violated (added s n)
+
+-- what would violate clashes, where nothing was violated before
+abbrev pub ViolationClashes : Type 0
+ViolationClashes = (s : State) (n : Need) → Violated (added s n) → Violated s ⊎ Clashes s n
+
+-- where a loader records a name, its load ends in that class, and all its needs stand, its own record too
+abbrev pub RecordedLoadStands : Type 0
+RecordedLoadStands = (w : World) (s : State) (n : ℕ) (absent : Class → Error) (loader place : ℕ) (name : Name) (m : Made Kin) → IsClosed w s → recorded s.records loader name ≡ Some place → load w n absent loader name ≡ Some m → (k : Kin) × (m.ends ≡ Ok k) × (k.class ≡ class name place) × AllMet s m.needs
+
+-- the class that a loader records for a name is the answer of its load
+abbrev pub RecordedAnswers : Type 0
+RecordedAnswers = (g : Setting) (s : State) (loader place : ℕ) (name : Name) → IsClosed g.world s → recorded s.records loader name ≡ Some place → AnswersPlan g s (Load loader name) (IsClass (class name place))
+
+-- a record that is wanted with its home and does not stand is fresh
+abbrev pub UnmetIsFresh : Type 0
+UnmetIsFresh = (w : World) (s : State) (loader place : ℕ) (name : Name) → IsClosed w s → home w loader name ≡ Some place → (Met s (Entry loader name place) → ⊥) → recorded s.records loader name ≡ None
+
+-- a run in two parts is a run and one that goes on from its state
+abbrev pub RunThen : Type 0
+RunThen = (g : Setting) (s : State) (es fs : List Step) → Run g s es → Run g (state_after s es) fs → Run g s (es ++ fs)
+
+-- each part of a run is a run
+abbrev pub RunParts : Type 0
+RunParts = (g : Setting) (s : State) (es fs : List Step) → Run g s (es ++ fs) → Run g s es × Run g (state_after s es) fs
+
+-- the state after two parts
+abbrev pub StateThen : Type 0
+StateThen = (s : State) (es fs : List Step) → state_after s (es ++ fs) ≡ state_after (state_after s es) fs
+
+-- two answers of the machine to equal requests are equal
+abbrev pub SaidAlike : Type 0
+SaidAlike = (g : Setting) (s : State) (p q : ℕ) (a b : Scheduled) (v u : Verdict) → IsSound g s → slice_get g.script p ≡ Some a → slice_get g.script q ≡ Some b → a.request ≡ b.request → answer_to s.answers p ≡ Some (Said v) → answer_to s.answers q ≡ Some (Said u) → v ≡ u
+
+-- the answer of a request that got past the load of its class is that of the reference, which has one
+abbrev pub SaidReference : Type 0
+SaidReference = (g : Setting) (s : State) (q : ℕ) (a : Scheduled) (loader : ℕ) (name : Name) (i : ℕ) (p : Plan) (d : Class) (v : Verdict) → IsSound g s → slice_get g.script q ≡ Some a → a.request ≡ Resolve loader name i → IsPlan g.world (Resolve loader name i) p → p.reached ≡ Some d → AllMet s p.own → answer_to s.answers q ≡ Some (Said v) → AnswersReference g s d i v
+
+-- what has a file is spelled by its own loader's bytes, and the file names it
+abbrev pub FileIsSpelt : Type 0
+FileIsSpelt = (w : World) (c : Class) (f : File) → HasFile w c f → (bytes : List ℕ) × (content_at w.content c.loader c.name ≡ Some bytes) × (w.read bytes ≡ Ok f) × (f.name ≡ c.name)
+
+-- what a history tells, where it goes on
+abbrev pub StepsThen : Type 0
+StepsThen = (given : List (Option Answer)) (es fs : List events.Event) → steps_of given (es ++ fs) ≡ steps_of given es ++ steps_of given fs
+
+-- answers that differ at one request alone tell the same of a history in which it is not posted
+abbrev pub StepsSame : Type 0
+StepsSame = (given more : List (Option Answer)) (q : ℕ) → ((p : ℕ) → p ≢ q → answer_at more p ≡ answer_at given p) → (es : List events.Event) → AllByRecursion (IsOther q) es → steps_of more es ≡ steps_of given es
+
+-- the first need of a plan that does not stand may be made, unless it is refused
+abbrev pub NextMayBeMade : Type 0
+NextMayBeMade = (g : Setting) (s : State) (q : Request) (p : Plan) (n : Need) → IsClosed g.world s → IsPlan g.world q p → IsNext s (needs_of p) n → MayAdd s n → May g s (step_for n)
+
+-- the step of a need adds it
+abbrev pub StepAdds : Type 0
+StepAdds = (s : State) (n : Need) → after s (step_for n) ≡ added s n
+
+-- tables that were kept in order can be trusted
+abbrev pub OrderlyIsTrusted : Type 0
+OrderlyIsTrusted = (es : List Step) → Orderly start es → IsTrusted (state_after start es)
+
+-- a step that the tables allow keeps them so
+abbrev pub AllowedIsTrusted : Type 0
+AllowedIsTrusted = (s : State) (e : Step) → Allows s e → IsTrusted s → IsTrusted (after s e)
+
+-- tables in order stay so by a step that they allow
+abbrev pub OrderlyGoesOn : Type 0
+OrderlyGoesOn = (s : State) (es : List Step) (e : Step) → Orderly s es → Allows (state_after s es) e → Orderly s (es ++ e ∷ [])
+
+-- a run keeps the tables in order
+abbrev pub RunsAreOrderly : Type 0
+RunsAreOrderly = (g : Setting) (es : List Step) → Run g start es → Orderly start es
+
+-- a class is defined once
+abbrev pub DefinedOnce : Type 0
+DefinedOnce = (es fs : List Step) (c : Class) → Orderly start (es ++ Define c ∷ fs) → Stands es (Define c) ⊎ Stands fs (Define c) → ⊥

@@ -1,0 +1,89 @@
+-- The printed line of each event and answer, each loader by its name.
+use Rattle.std.specs.Prelude.{ℕ, ◌+◌, List, [], ◌∷◌, ◌++◌, codes, Option, Some, None, slice_get, unwrap_or}
+use Rattle.std.specs.Fmt.{decimal}
+use Rattle.cl_names.specs.Escape.{escaped}
+use Rattle.cl_descriptors.specs.Types.{spelling_of_field, spelling_of_method}
+use Rattle.cl_descriptors.specs.declared.types.Descriptor.{Descriptor}
+use Rattle.cl_descriptors.specs.declared.types.Descriptor.TheVariants as descriptors
+use Rattle.cl_classfile.specs.Files.{Name, Key}
+use Rattle.cl_model.specs.declared.class.Class.{Class}
+use Rattle.cl_model.specs.Classes.{class, Error, ClassNotFound, NoClassDef, ClassFormat, UnsupportedVersion, ClassCircularity, IncompatibleClassChange, IllegalAccess, NoSuchField, NoSuchMethod}
+use Rattle.cl_model.specs.States.{Need, Entry, Equal, Verdict, IsClass, IsArrayOf, IsArrayOfBase, IsField, IsMethod, IsLinked, BadEntry, ArrayMember, Wrong, Linkage, Answer, Said, OutOfMemory, SourceFault}
+use Rattle.cl_model.specs.Machine.{Step, Define, Initiate, Constrain, Settle, Prepare, Post, NextRound, Stray}
+
+abbrev pub Text : Type 0
+Text = List ℕ
+
+-- words, with a space between each two
+abbrev pub words : List Text → Text
+words [] = []
+words (a ∷ []) = a
+words (a ∷ b ∷ more) = a ++ (codes " " ++ words (b ∷ more))
+
+-- a loader's name, among those of all loaders in order
+abbrev pub loader_text : List Text → ℕ → Text
+loader_text names loader = unwrap_or (slice_get names loader) []
+
+-- `N@M`
+abbrev pub class_text : List Text → Class → Text
+class_text names c = escaped c.name ++ (codes "@" ++ loader_text names c.loader)
+
+-- the bytes of a descriptor (4.3)
+abbrev pub spelling_of : Descriptor → Name
+spelling_of (descriptors.Field t) = spelling_of_field t
+spelling_of (descriptors.Method t) = spelling_of_method t
+
+-- the class that declares a member, its name and its descriptor
+abbrev pub member_texts : List Text → Class → Key → List Text
+member_texts names c key = class_text names c ∷ escaped key.name ∷ escaped (spelling_of key.descriptor) ∷ []
+
+abbrev pub error_texts : List Text → Error → List Text
+error_texts names (ClassNotFound c) = codes "ClassNotFoundException" ∷ class_text names c ∷ []
+error_texts names (NoClassDef c) = codes "NoClassDefFoundError" ∷ class_text names c ∷ []
+error_texts names (ClassFormat c) = codes "ClassFormatError" ∷ class_text names c ∷ []
+error_texts names (UnsupportedVersion c) = codes "UnsupportedClassVersionError" ∷ class_text names c ∷ []
+error_texts names (ClassCircularity c) = codes "ClassCircularityError" ∷ class_text names c ∷ []
+error_texts names (IncompatibleClassChange c) = codes "IncompatibleClassChangeError" ∷ class_text names c ∷ []
+error_texts names (IllegalAccess c) = codes "IllegalAccessError" ∷ class_text names c ∷ []
+error_texts names (NoSuchField c) = codes "NoSuchFieldError" ∷ class_text names c ∷ []
+error_texts names (NoSuchMethod c) = codes "NoSuchMethodError" ∷ class_text names c ∷ []
+
+-- a refused record names the loader that was asked
+abbrev pub need_texts : List Text → Need → List Text
+need_texts names (Entry loader name place) = codes "record" ∷ class_text names (class name loader) ∷ []
+need_texts names (Equal name a b) = codes "equal" ∷ escaped name ∷ loader_text names a ∷ loader_text names b ∷ []
+
+abbrev pub verdict_texts : List Text → Verdict → List Text
+verdict_texts names (IsClass c) = codes "class" ∷ class_text names c ∷ []
+verdict_texts names (IsArrayOf dimensions c) = codes "array" ∷ decimal dimensions ∷ class_text names c ∷ []
+verdict_texts names (IsArrayOfBase dimensions letter) = codes "array" ∷ decimal dimensions ∷ (letter ∷ []) ∷ []
+verdict_texts names (IsField c key) = codes "field" ∷ member_texts names c key
+verdict_texts names (IsMethod c key) = codes "method" ∷ member_texts names c key
+verdict_texts names (IsLinked c) = codes "linked" ∷ class_text names c ∷ []
+verdict_texts names BadEntry = codes "BadEntry" ∷ []
+verdict_texts names ArrayMember = codes "ArrayMember" ∷ []
+verdict_texts names (Wrong e) = error_texts names e
+verdict_texts names (Linkage n) = codes "LinkageError" ∷ need_texts names n
+
+abbrev pub verdict_text : List Text → Verdict → Text
+verdict_text names v = words (verdict_texts names v)
+
+abbrev pub answer_text : List Text → Answer → Text
+answer_text names (Said v) = verdict_text names v
+answer_text names OutOfMemory = codes "OutOfMemory"
+answer_text names (SourceFault name loader) = words (codes "SourceFault" ∷ class_text names (class name loader) ∷ [])
+
+-- the line of an answer: the request's number, counted from 1, and the text
+abbrev pub answer_line : List Text → ℕ → Answer → Text
+answer_line names q a = words (decimal (q + 1) ∷ answer_text names a ∷ [])
+
+-- the line of a step, if it has one
+abbrev pub line : List Text → Step → Option Text
+line names (Define c) = Some (words (codes "define" ∷ class_text names c ∷ []))
+line names (Initiate name place loader) = Some (words (codes "initiate" ∷ escaped name ∷ loader_text names place ∷ codes "by" ∷ loader_text names loader ∷ []))
+line names (Constrain name a b) = Some (words (codes "constrain" ∷ escaped name ∷ loader_text names a ∷ loader_text names b ∷ []))
+line names (Settle d i v) = None
+line names (Prepare c) = Some (words (codes "prepare" ∷ class_text names c ∷ []))
+line names (Post q a) = None
+line names NextRound = None
+line names Stray = None

@@ -1,0 +1,206 @@
+-- What each request needs in turn, and how it ends, from the loaders and the contents alone (JVMS SE 8, 5.3 to 5.4).
+use Rattle.std.specs.Prelude.{ℕ, zero, suc, ◌+◌, ◌*◌, Bool, true, false, ◌&&◌, ◌==◌, if◌then◌else◌, List, [], ◌∷◌, ◌++◌, length, Option, Some, None, Result, Ok, Err, option_map, option_and_then, count_by, flat_map, sum_by}
+use Rattle.std.specs.List.{list_any}
+use Rattle.cl_classfile.specs.Files.{Name, same_name, element_name, letter, Key, Member, Reference, ToClass, ToField, ToMethod, ToInterfaceMethod, reference, is_interface}
+use Rattle.cl_model.specs.Homes.{World, home}
+use Rattle.cl_descriptors.specs.declared.types.FieldType.{FieldType}
+use Rattle.cl_model.specs.declared.class.Class.{Class}
+use Rattle.cl_model.specs.Classes.{class, is_among, Error, ClassNotFound, NoClassDef, ClassCircularity, IncompatibleClassChange, IllegalAccess, NoSuchField, NoSuchMethod, file_of, Above, supers, superclass_of, superinterfaces_of, misfit, class_accessible}
+use Rattle.cl_model.specs.Lineages.{Forest, Bare, Tree, Kin, lineage, field_of, method_of, member_accessible, lookup_field, lookup_method, lookup_interface_method}
+use Rattle.cl_model.specs.Preparation.{equals_of, constraints_of}
+use Rattle.cl_model.specs.States.{Need, Entry, Equal, Verdict, IsClass, IsArrayOf, IsArrayOfBase, IsField, IsMethod, IsLinked, BadEntry, ArrayMember, Wrong}
+use Rattle.cl_model.specs.Works.{Work, Made, Ask, done, fail, need, ask, or_fail, unless_wrong, of_result, ◌>>=◌}
+
+-- the record of a loader that is not the definer (5.3.1, 5.3.2)
+abbrev pub initiating : ℕ → Name → ℕ → List Need
+initiating loader name place = if loader == place then [] else Entry loader name place ∷ []
+
+-- a load through a loader: its home, what deriving there needs, and the initiating record (5.3.2)
+abbrev pub load_by : World → (Class → Work Kin) → (Class → Error) → ℕ → Name → Work Kin
+load_by w derived absent loader name =
+    ask loader name >>= λ a. or_fail (absent (class name loader)) (home w loader name)
+    >>= λ place. derived (class name place)
+    >>= λ k. need (initiating loader name place)
+    >>= λ b. done k
+
+-- the loads of direct supertypes, each followed by the check that it fits (5.3.5, steps 3 and 4)
+abbrev pub loads_above : World → (Class → Work Kin) → Class → List Above → Work Forest
+loads_above w derived c [] = done Bare
+loads_above w derived c (a ∷ others) =
+    load_by w derived NoClassDef c.loader a.name
+    >>= λ k. unless_wrong (misfit c a.role k.class k.file)
+    >>= λ b. loads_above w derived c others
+    >>= λ ks. done (Tree k.class k.file k.superclass k.interfaces ks)
+
+-- the derivation of a class from its bytes, of the file, what stands above, and its record (5.3.5)
+abbrev pub derive_new : World → (Class → Work Kin) → Class → Work Kin
+derive_new w derived c =
+    of_result (file_of w c)
+    >>= λ f. loads_above w derived c (superclass_of f)
+    >>= λ sup. loads_above w derived c (superinterfaces_of f)
+    >>= λ ints. need (Entry c.loader c.name c.loader ∷ [])
+    >>= λ b. done (record { class = c; file = f; superclass = sup; interfaces = ints })
+
+-- the derivation of a class within a height, while those of the list are being derived:
+-- one of them that is met again is its own supertype (5.3.5, step 3)
+abbrev pub derive : World → ℕ → List Class → Class → Work Kin
+derive w zero path c = None
+derive w (suc n) path c =
+    ask c.loader c.name >>= λ a. elim (is_among path c) [
+      | true ↦ fail (ClassCircularity c)
+      | false ↦ derive_new w (derive w n (c ∷ path)) c
+    ]
+
+-- a load through a loader
+abbrev pub load : World → ℕ → (Class → Error) → ℕ → Name → Work Kin
+load w n absent loader name = load_by w (derive w n []) absent loader name
+
+-- ---- resolution
+
+-- the class that d's reference names, where it is accessible (5.4.3.1)
+abbrev pub resolve_class : World → ℕ → Kin → Name → Work Kin
+resolve_class w n d name =
+    load w n NoClassDef d.class.loader name
+    >>= λ k. unless_wrong (if class_accessible k.file.flags k.class d.class then None else Some (IllegalAccess k.class))
+    >>= λ b. done k
+
+abbrev pub class_verdict : ℕ → Class → Verdict
+class_verdict zero c = IsClass c
+class_verdict (suc n) c = IsArrayOf (suc n) c
+
+-- the class whose member is asked for, if it is no array
+abbrev pub member_target : FieldType → Option Name
+member_target t = elim (element_name t.base) [
+  | [] ↦ None
+  | name ∷ more ↦ if t.dims == 0 then Some name else None
+]
+
+abbrev pub flags_of : Option Member → ℕ
+flags_of None = 0
+flags_of (Some m) = m.flags
+
+-- what was found through c is accessible to d, and its classes are equal in both loaders (5.4.3.2, 5.4.3.3)
+abbrev pub resolve_found : Kin → Kin → Kin → Option Member → Key → Verdict → Work Verdict
+resolve_found d c owner found key verdict =
+    unless_wrong (if member_accessible d owner (flags_of found) c then None else Some (IllegalAccess owner.class))
+    >>= λ a. need (equals_of key owner.class.loader d.class.loader)
+    >>= λ b. done verdict
+
+abbrev pub resolve_field : Kin → Key → Kin → Work Verdict
+resolve_field d key c =
+    or_fail (NoSuchField c.class) (lookup_field c key)
+    >>= λ owner. resolve_found d c owner (field_of owner key) key (IsField owner.class key)
+
+-- an interface's method is asked of an interface, another's of a class (5.4.3.3, 5.4.3.4)
+abbrev pub resolve_method : Bool → Kin → Key → Kin → Work Verdict
+resolve_method interface d key c =
+    unless_wrong (if interface then (if is_interface c.file then None else Some (IncompatibleClassChange c.class))
+    else (if is_interface c.file then Some (IncompatibleClassChange c.class) else None))
+    >>= λ a. or_fail (NoSuchMethod c.class) (if interface then lookup_interface_method c key else lookup_method c key)
+    >>= λ owner. resolve_found d c owner (method_of owner key) key (IsMethod owner.class key)
+
+-- a member reference: its class, and then the member
+abbrev pub resolve_member : World → ℕ → Kin → Option Name → (Kin → Work Verdict) → Work Verdict
+resolve_member w n d None member = done ArrayMember
+resolve_member w n d (Some name) member = resolve_class w n d name >>= λ c. member c
+
+abbrev pub resolve_reference : World → ℕ → Kin → Reference → Work Verdict
+resolve_reference w n d (ToClass t) = elim (element_name t.base) [
+  | [] ↦ done (IsArrayOfBase t.dims (letter t.base))
+  | name ∷ more ↦ resolve_class w n d name >>= λ k. done (class_verdict t.dims k.class)
+]
+resolve_reference w n d (ToField t key) = resolve_member w n d (member_target t) (resolve_field d key)
+resolve_reference w n d (ToMethod t key) = resolve_member w n d (member_target t) (resolve_method false d key)
+resolve_reference w n d (ToInterfaceMethod t key) = resolve_member w n d (member_target t) (resolve_method true d key)
+
+-- the resolution of an entry of d's constant pool (5.4.3)
+abbrev pub resolve : World → ℕ → Kin → ℕ → Work Verdict
+resolve w n d i = elim (reference d.file i) [
+  | None ↦ done BadEntry
+  | Some r ↦ resolve_reference w n d r
+]
+
+-- ---- requests
+
+-- what a script asks for: to load a class through a loader, and then to resolve an entry of its pool, or to link it
+pub data Request : Type 0 where
+  Load : (loader : ℕ) → (name : Name) → Request
+  Resolve : (loader : ℕ) → (name : Name) → (index : ℕ) → Request
+  Link : (loader : ℕ) → (name : Name) → Request
+
+-- the class that a request loads
+abbrev pub loaded_by : Request → Ask
+loaded_by (Load loader name) = record { loader = loader; name = name }
+loaded_by (Resolve loader name i) = record { loader = loader; name = name }
+loaded_by (Link loader name) = record { loader = loader; name = name }
+
+-- what follows once the class is loaded
+abbrev pub go_on_with : World → ℕ → Request → Kin → Work Verdict
+go_on_with w n (Load loader name) k = done (IsClass k.class)
+go_on_with w n (Resolve loader name i) k = resolve w n k i
+go_on_with w n (Link loader name) k = need (flat_map constraints_of (lineage k)) >>= λ a. done (IsLinked k.class)
+
+-- a request's needs: those of its own load, and those that follow; the class that it reaches, and its end
+pub record Plan : Type 0 where
+  pub own : List Need
+  pub more : List Need
+  pub asked : List Ask
+  pub reached : Option Class
+  pub ends : Verdict
+
+abbrev pub ending : Result Verdict Error → Verdict
+ending (Ok v) = v
+ending (Err e) = Wrong e
+
+abbrev pub plan_after : Made Kin → Kin → Made Verdict → Plan
+plan_after m k r = record { own = m.needs; more = r.needs; asked = m.asked ++ r.asked; reached = Some k.class; ends = ending r.ends }
+
+abbrev pub plan_from : World → ℕ → Request → Made Kin → Option Plan
+plan_from w n q m = elim (m.ends) [
+  | Err e ↦ Some (record { own = m.needs; more = []; asked = m.asked; reached = None; ends = Wrong e })
+  | Ok k ↦ option_map (plan_after m k) (go_on_with w n q k)
+]
+
+-- the plan of a request, where a height suffices
+abbrev pub plan : World → ℕ → Request → Option Plan
+plan w n q = option_and_then (plan_from w n q) (load w n ClassNotFound (loaded_by q).loader (loaded_by q).name)
+
+-- all needs of a plan
+abbrev pub needs_of : Plan → List Need
+needs_of p = p.own ++ p.more
+
+-- ---- cost
+
+abbrev pub same_ask : Ask → Ask → Bool
+same_ask a b = (a.loader == b.loader) && same_name a.name b.name
+
+-- each at its last place alone
+abbrev pub distinct : List Ask → List Ask
+distinct [] = []
+distinct (a ∷ others) = if list_any (same_ask a) others then distinct others else a ∷ distinct others
+
+-- the home of what was asked, as what is asked of that home
+abbrev pub asked_at_home : World → Ask → List Ask
+asked_at_home w a = elim (home w a.loader a.name) [
+  | None ↦ []
+  | Some place ↦ record { loader = place; name = a.name } ∷ []
+]
+
+-- the supertypes of a class that has a file
+abbrev pub edges_of : World → Ask → ℕ
+edges_of w a = elim (file_of w (class a.name a.loader)) [
+  | Err e ↦ 0
+  | Ok f ↦ length (supers f)
+]
+
+abbrev pub is_equal : Need → Bool
+is_equal (Entry loader name place) = false
+is_equal (Equal name a b) = true
+
+-- a bound on the steps of a request
+abbrev pub cost : World → Plan → ℕ
+cost w p =
+    3 * length (distinct (p.asked ++ flat_map (asked_at_home w) p.asked))
+    + sum_by (edges_of w) (distinct (flat_map (asked_at_home w) p.asked))
+    + count_by is_equal (needs_of p)
+    + 7

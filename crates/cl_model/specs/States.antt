@@ -1,0 +1,161 @@
+-- What has been recorded, imposed, settled and prepared, and what that meets or refuses (JVMS SE 8, 5.3 to 5.4).
+use Rattle.std.specs.Prelude.{◌≡◌, ◌≢◌, ◌⊎◌, ℕ, ◌&&◌, ◌==◌, List, [], ◌∷◌, ◌++◌, Option, Some, None, find, option_map, Contains}
+use Rattle.cl_classfile.specs.Files.{Name, Key, same_name}
+use Rattle.cl_model.specs.declared.class.Class.{Class}
+use Rattle.cl_model.specs.Classes.{same_class, Error}
+
+-- what a request needs to stand: a record with its home, or an equality
+pub data Need : Type 0 where
+  Entry : (loader : ℕ) → (name : Name) → (place : ℕ) → Need
+  Equal : (name : Name) → (one : ℕ) → (other : ℕ) → Need
+
+-- how a request ends
+pub data Verdict : Type 0 where
+  IsClass : (class : Class) → Verdict
+  IsArrayOf : (dimensions : ℕ) → (class : Class) → Verdict
+  IsArrayOfBase : (dimensions : ℕ) → (letter : ℕ) → Verdict
+  IsField : (declaring : Class) → (key : Key) → Verdict
+  IsMethod : (declaring : Class) → (key : Key) → Verdict
+  IsLinked : (class : Class) → Verdict
+  BadEntry : Verdict
+  ArrayMember : Verdict
+  Wrong : (error : Error) → Verdict
+  Linkage : (refused : Need) → Verdict
+
+-- what is posted
+pub data Answer : Type 0 where
+  Said : (verdict : Verdict) → Answer
+  OutOfMemory : Answer
+  SourceFault : (name : Name) → (loader : ℕ) → Answer
+
+-- a loader's record of a name: who defined the class (5.3)
+pub record Record : Type 0 where
+  pub loader : ℕ
+  pub name : Name
+  pub place : ℕ
+
+-- an imposed loading constraint (5.3.4)
+pub record Equality : Type 0 where
+  pub name : Name
+  pub one : ℕ
+  pub other : ℕ
+
+-- a reference's verdict (5.4.3)
+pub record Settled : Type 0 where
+  pub class : Class
+  pub index : ℕ
+  pub verdict : Verdict
+
+pub record Posted : Type 0 where
+  pub request : ℕ
+  pub answer : Answer
+
+pub record State : Type 0 where
+  pub records : List Record
+  pub equalities : List Equality
+  pub settled : List Settled
+  pub prepared : List Class
+  pub answers : List Posted
+  pub round : ℕ
+
+abbrev pub start : State
+start = record { records = []; equalities = []; settled = []; prepared = []; answers = []; round = 0 }
+
+-- who defined the class that a loader records for a name
+abbrev pub recorded : List Record → ℕ → Name → Option ℕ
+recorded rs loader name = option_map (λ r. r.place) (find (λ r. (r.loader == loader) && same_name r.name name) rs)
+
+-- a class is recorded by its own loader
+abbrev pub IsRecorded : State → Class → Type 0
+IsRecorded s c = recorded s.records c.loader c.name ≡ Some c.loader
+
+-- what a reference is settled to
+abbrev pub settled_to : List Settled → Class → ℕ → Option Verdict
+settled_to rs c i = option_map (λ r. r.verdict) (find (λ r. same_class r.class c && (r.index == i)) rs)
+
+abbrev pub answer_to : List Posted → ℕ → Option Answer
+answer_to ps q = option_map (λ p. p.answer) (find (λ p. p.request == q) ps)
+
+-- two loaders are the ends of an equality for a name, in either order
+pub record Linked (ks : List Equality) (name : Name) (a b : ℕ) : Type 0 where
+  pub equality : Equality
+  pub imposed : Contains ks equality
+  pub named : equality.name ≡ name
+  pub ends : ((equality.one ≡ a) × (equality.other ≡ b)) ⊎ ((equality.one ≡ b) × (equality.other ≡ a))
+
+-- a path of equalities from one loader over these to another
+abbrev pub IsPath : List Equality → Name → ℕ → List ℕ → ℕ → Type 0
+IsPath ks name a [] b = a ≡ b
+IsPath ks name a (c ∷ cs) b = Linked ks name a c × IsPath ks name c cs b
+
+-- equalities join two loaders for a name; each is joined with itself (5.3.4)
+pub record Joined (ks : List Equality) (name : Name) (a b : ℕ) : Type 0 where
+  pub path : List ℕ
+  pub along : IsPath ks name a path b
+
+-- two joined loaders record different classes for a name (5.3.4)
+pub record Violated (s : State) : Type 0 where
+  pub name : Name
+  pub one : ℕ
+  pub other : ℕ
+  pub place : ℕ
+  pub other_place : ℕ
+  pub joined : Joined s.equalities name one other
+  pub first : recorded s.records one name ≡ Some place
+  pub second : recorded s.records other name ≡ Some other_place
+  pub differ : place ≢ other_place
+
+-- a need stands in a state
+abbrev pub Met : State → Need → Type 0
+Met s (Entry loader name place) = recorded s.records loader name ≡ Some place
+Met s (Equal name a b) = Joined s.equalities name a b
+
+-- a need is added
+abbrev pub added : State → Need → State
+added s (Entry loader name place) = record s { records = s.records ++ record { loader = loader; name = name; place = place } ∷ [] }
+added s (Equal name a b) = record s { equalities = s.equalities ++ record { name = name; one = a; other = b } ∷ [] }
+
+-- no record stands where the need would put one
+abbrev pub IsFresh : State → Need → Type 0
+IsFresh s (Entry loader name place) = recorded s.records loader name ≡ None
+IsFresh s (Equal name a b) = Unit {0}
+
+-- a loader joined to this one records another class for a name
+pub record Differs (s : State) (name : Name) (loader place : ℕ) : Type 0 where
+  pub other : ℕ
+  pub other_place : ℕ
+  pub joined : Joined s.equalities name loader other
+  pub recorded_there : recorded s.records other name ≡ Some other_place
+  pub differ : place ≢ other_place
+
+-- loaders joined to one and to the other record different classes for a name
+pub record Divides (s : State) (name : Name) (a b : ℕ) : Type 0 where
+  pub one : ℕ
+  pub place : ℕ
+  pub joined : Joined s.equalities name a one
+  pub recorded_there : recorded s.records one name ≡ Some place
+  pub differs : Differs s name b place
+
+-- adding a need would violate an equality (5.3.4)
+abbrev pub Clashes : State → Need → Type 0
+Clashes s (Entry loader name place) = Differs s name loader place
+Clashes s (Equal name a b) = Divides s name a b
+
+-- a need does not stand, and adding it would violate an equality (5.3.4)
+pub record Refused (s : State) (need : Need) : Type 0 where
+  pub unmet : Met s need → ⊥
+  pub clashes : Clashes s need
+
+-- a need may be added
+pub record MayAdd (s : State) (need : Need) : Type 0 where
+  pub unmet : Met s need → ⊥
+  pub fits : Clashes s need → ⊥
+
+abbrev pub AllMet : State → List Need → Type 0
+AllMet s [] = Unit {0}
+AllMet s (n ∷ ns) = Met s n × AllMet s ns
+
+-- a need stands in a list, and all before it are met
+abbrev pub IsNext : State → List Need → Need → Type 0
+IsNext s [] need = ⊥
+IsNext s (n ∷ ns) need = (n ≡ need) ⊎ (Met s n × IsNext s ns need)

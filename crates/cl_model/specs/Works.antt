@@ -1,0 +1,60 @@
+-- What a load, a resolution or a link needs in turn, and how it ends: needs are a list, and the first error ends it.
+use Rattle.std.specs.Prelude.{ℕ, List, [], ◌∷◌, ◌++◌, Option, Some, None, Result, Ok, Err, option_map}
+use Rattle.cl_classfile.specs.Files.{Name}
+use Rattle.cl_model.specs.Classes.{Error}
+use Rattle.cl_model.specs.States.{Need}
+
+-- a loader and a name that was asked of it
+pub record Ask : Type 0 where
+  pub loader : ℕ
+  pub name : Name
+
+-- the needs in order, what was asked, and the end
+pub record Made (A : Type 0) : Type 0 where
+  pub needs : List Need
+  pub asked : List Ask
+  pub ends : Result A Error
+
+-- None is work that a height did not reach the end of
+abbrev pub Work : Type 0 → Type 0
+Work A = Option (Made A)
+
+-- an end, without a need
+abbrev pub done : {A : Type 0} → A → Work A
+done a = Some (record { needs = []; asked = []; ends = Ok a })
+
+abbrev pub fail : {A : Type 0} → Error → Work A
+fail e = Some (record { needs = []; asked = []; ends = Err e })
+
+-- these needs
+abbrev pub need : List Need → Work (Unit {0})
+need ns = Some (record { needs = ns; asked = []; ends = Ok tt })
+
+abbrev pub ask : ℕ → Name → Work (Unit {0})
+ask loader name = Some (record { needs = []; asked = record { loader = loader; name = name } ∷ []; ends = Ok tt })
+
+-- the end, or this error
+abbrev pub or_fail : {A : Type 0} → Error → Option A → Work A
+or_fail e None = fail e
+or_fail e (Some a) = done a
+
+abbrev pub unless_wrong : Option Error → Work (Unit {0})
+unless_wrong None = done tt
+unless_wrong (Some e) = fail e
+
+abbrev pub of_result : {A : Type 0} → Result A Error → Work A
+of_result r = Some (record { needs = []; asked = []; ends = r })
+
+-- after what was made
+abbrev pub after_made : {B : Type 0} → List Need → List Ask → Made B → Made B
+after_made ns asked m = record { needs = ns ++ m.needs; asked = asked ++ m.asked; ends = m.ends }
+
+-- goes on where there was no error
+abbrev pub go_on : {A B : Type 0} → List Need → List Ask → Result A Error → (A → Work B) → Work B
+go_on ns asked (Err e) f = Some (record { needs = ns; asked = asked; ends = Err e })
+go_on ns asked (Ok a) f = option_map (after_made ns asked) (f a)
+
+infixl 10 ◌>>=◌
+abbrev pub ◌>>=◌ : {A B : Type 0} → Work A → (A → Work B) → Work B
+None >>= f = None
+(Some m) >>= f = go_on m.needs m.asked m.ends f

@@ -1,0 +1,331 @@
+ghost use Rattle.cl_model.specs.Laws.{HomeOfHome, GoodIsNotFailing, RunGoesOn, RecordsStay, MetStays, NeverViolated, OneAnswer, HigherDerives, AnswersStay, DerivedIsGood, RecordedIsMet, RunsAreClosed, GoodIsDerived, ErrorIsFailing, OneError, GoodGrows, FailsGrows, FailingIsDerived, ReturnIsCircular, ReturnGoesOn, CircleReturns, ReturnIsDerived, OneSubject, FailureIsNoCircle, OneDerivation, GoodIsAtHome, ComesOut, CircularReturns, CircularGoesOn, PlanExists, OnePlan, LineageExists, OneLineage, ResolutionExists, OneResolution, DerivedIsLineage, LineageIsDerived, SettledStay, PreparedStay, PostedStay, RequestAnswerStays, ReferenceAnswerStays, OneRequestAnswer, OneReferenceAnswer, RunsAreSound, StepIsSound, ClashViolates, ViolationClashes, RecordedLoadStands, RecordedAnswers, UnmetIsFresh, RunThen, RunParts, StateThen, SaidAlike, SaidReference, FileIsSpelt, StepsThen, StepsSame, NextMayBeMade, StepAdds, OrderlyIsTrusted, AllowedIsTrusted, OrderlyGoesOn, RunsAreOrderly, DefinedOnce};
+
+/// A home is its own home.
+pub fn home_of_home()
+    ensures { HomeOfHome }
+{}
+
+/// What is good does not fail.
+pub fn good_or_fails()
+    ensures { GoodIsNotFailing }
+{}
+
+/// A run goes on by what may happen.
+pub fn run_goes_on()
+    ensures { RunGoesOn }
+{}
+
+/// A record never changes.
+pub fn records_stay()
+    ensures { RecordsStay }
+{}
+
+/// What is met stays met.
+pub fn met_stays()
+    ensures { MetStays }
+{}
+
+/// Along a run nothing is violated.
+pub fn never_violated()
+    ensures { NeverViolated }
+{}
+
+/// A list of needs has one answer in a state.
+pub fn one_answer()
+    ensures { OneAnswer }
+{}
+
+/// A greater height derives the same.
+pub fn higher_derives()
+    ensures { HigherDerives }
+{}
+
+/// An answer stays the same along a run.
+pub fn answers_stay()
+    ensures { AnswersStay }
+{}
+
+/// What derives to a lineage is good.
+pub fn derived_is_good()
+    ensures { DerivedIsGood }
+{}
+
+/// In a closed state a recorded class needs nothing more.
+pub fn recorded_is_met()
+    ensures { RecordedIsMet }
+{}
+
+/// Every state of a run is closed.
+pub fn runs_are_closed()
+    ensures { RunsAreClosed }
+{}
+
+/// What is good is derived at its height: a class met again cannot be good.
+pub fn good_is_derived()
+    ensures { GoodIsDerived }
+{}
+
+/// What derives to an error fails with it, or a walk ends in it.
+pub fn error_is_failing()
+    ensures { ErrorIsFailing }
+{}
+
+/// A class fails with one error.
+pub fn one_error()
+    ensures { OneError }
+{}
+
+/// What is good at a height is good at a greater one.
+pub fn good_grows()
+    ensures { GoodGrows }
+{}
+
+/// What fails at a height fails at a greater one.
+pub fn fails_grows()
+    ensures { FailsGrows }
+{}
+
+/// What fails is derived to its error at its height: a class met again cannot fail.
+pub fn fails_is_derived()
+    ensures { FailingIsDerived }
+{}
+
+/// A walk that returns excludes both.
+pub fn return_is_circular()
+    ensures { ReturnIsCircular }
+{}
+
+/// From a class whose walk returns the first supertype that is not good is circular too.
+pub fn return_goes_on()
+    ensures { ReturnGoesOn }
+{}
+
+/// What derives to a circle is where a walk returns.
+pub fn circle_returns()
+    ensures { CircleReturns }
+{}
+
+/// Where a walk returns, the class is derived to the circle of that subject.
+pub fn return_is_derived()
+    ensures { ReturnIsDerived }
+{}
+
+/// A circle has one subject.
+pub fn one_subject()
+    ensures { OneSubject }
+{}
+
+/// A failure is no circle.
+pub fn fails_no_circle()
+    ensures { FailureIsNoCircle }
+{}
+
+/// Two heights derive the same.
+pub fn one_derivation()
+    ensures { OneDerivation }
+{}
+
+/// What is good is at home.
+pub fn good_is_at_home()
+    ensures { GoodIsAtHome }
+{}
+
+/// Each class is good, or fails, or a walk from it returns.
+pub fn comes_out()
+    ensures { ComesOut }
+{}
+
+/// From a circular class a walk returns.
+pub fn circular_returns()
+    ensures { CircularReturns }
+{}
+
+/// Of a circular class the first supertype that is not good is circular too.
+pub fn circular_goes_on()
+    ensures { CircularGoesOn }
+{}
+
+/// Each request has a plan.
+pub fn plan_exists()
+    ensures { PlanExists }
+{}
+
+/// A request has one plan.
+pub fn one_plan()
+    ensures { OnePlan }
+{}
+
+/// A good class has a lineage.
+pub fn lineage_exists()
+    ensures { LineageExists }
+{}
+
+/// A class has one lineage.
+pub fn one_lineage()
+    ensures { OneLineage }
+{}
+
+/// Each entry of a good class has a resolution.
+pub fn resolution_exists()
+    ensures { ResolutionExists }
+{}
+
+/// An entry has one resolution.
+pub fn one_resolution()
+    ensures { OneResolution }
+{}
+
+/// What a derivation ends in is the lineage of its class, with its file and its supertypes at their homes.
+pub fn derived_is_lineage()
+    ensures { DerivedIsLineage }
+{}
+
+/// A lineage is what its class is derived to.
+pub fn lineage_is_derived()
+    ensures { LineageIsDerived }
+{}
+
+/// A settled verdict never changes.
+pub fn settled_stay()
+    ensures { SettledStay }
+{}
+
+/// What is prepared stays so.
+pub fn prepared_stay()
+    ensures { PreparedStay }
+{}
+
+/// A posted answer never changes.
+pub fn posted_stay()
+    ensures { PostedStay }
+{}
+
+/// The answer of a request stays the same along a run.
+pub fn request_answer_stays()
+    ensures { RequestAnswerStays }
+{}
+
+/// The answer of a reference stays the same along a run.
+pub fn reference_answer_stays()
+    ensures { ReferenceAnswerStays }
+{}
+
+/// A request has one answer in a state.
+pub fn one_request_answer()
+    ensures { OneRequestAnswer }
+{}
+
+/// A reference has one answer in a state.
+pub fn one_reference_answer()
+    ensures { OneReferenceAnswer }
+{}
+
+/// All that a state of a run holds is as it should be.
+pub fn runs_are_sound()
+    ensures { RunsAreSound }
+{}
+
+/// A step that may happen keeps a state sound.
+pub fn step_is_sound()
+    ensures { StepIsSound }
+{}
+
+/// What clashes would violate, where it is fresh.
+pub fn clash_violates()
+    ensures { ClashViolates }
+{}
+
+/// What would violate clashes, where nothing was violated before.
+pub fn violation_clashes()
+    ensures { ViolationClashes }
+{}
+
+/// Where a loader records a name, its load ends in that class, and all its needs stand, its own record too.
+pub fn recorded_load_stands()
+    ensures { RecordedLoadStands }
+{}
+
+/// The class that a loader records for a name is the answer of its load.
+pub fn recorded_answers()
+    ensures { RecordedAnswers }
+{}
+
+/// A record that is wanted with its home and does not stand is fresh.
+pub fn unmet_is_fresh()
+    ensures { UnmetIsFresh }
+{}
+
+/// A run goes on by a run from its state.
+pub fn run_then()
+    ensures { RunThen }
+{}
+
+/// Each part of a run is a run.
+pub fn run_parts()
+    ensures { RunParts }
+{}
+
+/// The state after two parts of a history.
+pub fn state_then()
+    ensures { StateThen }
+{}
+
+/// Two answers of the machine to equal requests are equal.
+pub fn said_alike()
+    ensures { SaidAlike }
+{}
+
+/// The answer of a request that got past the load of its class is that of the reference.
+pub fn said_reference()
+    ensures { SaidReference }
+{}
+
+/// What has a file is spelled by its own bytes, and the file names it.
+pub fn file_is_spelt()
+    ensures { FileIsSpelt }
+{}
+
+/// What a history tells, where it goes on.
+pub fn steps_then()
+    ensures { StepsThen }
+{}
+
+/// Answers that differ at one request alone tell the same of a history in which it is not posted.
+pub fn steps_same()
+    ensures { StepsSame }
+{}
+
+/// The first need of a plan that does not stand may be made, unless it is refused.
+pub fn next_may_be_made()
+    ensures { NextMayBeMade }
+{}
+
+/// The step of a need adds it.
+pub fn step_adds()
+    ensures { StepAdds }
+{}
+
+/// Tables that were kept in order can be trusted, under any source.
+pub fn orderly_is_trusted()
+    ensures { OrderlyIsTrusted }
+{}
+
+/// A step that trusted tables allow keeps them so.
+pub fn allowed_is_trusted()
+    ensures { AllowedIsTrusted }
+{}
+
+/// Tables in order stay so by a step that they allow.
+pub fn orderly_goes_on()
+    ensures { OrderlyGoesOn }
+{}
+
+/// A run keeps the tables in order.
+pub fn runs_are_orderly()
+    ensures { RunsAreOrderly }
+{}
+
+/// A class is defined once, under any source.
+pub fn defined_once()
+    ensures { DefinedOnce }
+{}

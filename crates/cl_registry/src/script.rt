@@ -109,8 +109,8 @@ fn load_words(line: &str) -> Option<(&str, &str)>
     }
 }
 
-/// The class's name that escaped text writes.
-fn class_name(alloc: Global, text: &str) -> Result<Option<Name>, AllocError>
+/// The class's name that escaped text writes, if it writes one.
+pub fn class_name(alloc: Global, text: &str) -> Result<Option<Name>, AllocError>
     ensures { IfOk result (λ o. MatchOption o ((name : List ℕ) → WritesClass text.now name → ⊥) (λ name. WritesClass text.now name)) }
 {
     let name = match Name::from_text(alloc, text) {

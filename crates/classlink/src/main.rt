@@ -1,6 +1,28 @@
-//! The program.
+//! Loads and links the classes of a bundle as a Java machine does.
 #![tactic(auto)]
 
-pub mod serve;
+mod bundle;
+mod fault;
+mod input;
+mod print;
+mod run;
+mod sections;
+mod serve;
+mod words;
 
-fn main() {}
+use run::run_over;
+use std::env;
+use std::io;
+use std::process::ExitCode;
+
+fn main(rt: HostRuntime) -> io::Result<ExitCode> {
+    let words: Vec<String> = env::args(&rt)?.collect(rt.alloc())?;
+    let status = run_over(
+        &rt,
+        words.as_slice(),
+        rt.stdin(),
+        &mut rt.stdout(),
+        &mut rt.stderr(),
+    );
+    Ok(ExitCode::from(status))
+}

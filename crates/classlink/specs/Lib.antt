@@ -1,0 +1,4 @@
+pub mod Cuts
+pub mod Faults
+pub mod Report
+pub mod Sections

@@ -105,11 +105,12 @@ rows_define told x table new d row at fresh draft made is l n =
     let test = (d.class.loader == l) && pointwise nat_eq d.class.name n in
     let here : test ≡ true → (recorded (records_of x) l n ≡ None) × IsRow told row l n d.class.loader =
     λ t.
-      let both = and_true (d.class.loader == l) (pointwise nat_eq d.class.name n) t in
-      let ln : d.class.loader ≡ l = eq_nat d.class.loader l both.0 in
-      let nn : d.class.name ≡ n = eq_name d.class.name n both.1 in
-      (subst (λ (k : ℕ). recorded (records_of x) k n ≡ None) ln (subst (λ (m : List ℕ). recorded (records_of x) d.class.loader m ≡ None) nn fresh),
-        subst (λ (k : ℕ). IsRow told row k n d.class.loader) ln (subst (λ (m : List ℕ). IsRow told row d.class.loader m d.class.loader) nn (new_row told d row draft made))) in
+    let both = and_true (d.class.loader == l) (pointwise nat_eq d.class.name n) t in
+    let ln : d.class.loader ≡ l = eq_nat d.class.loader l both.0 in
+    let nn : d.class.name ≡ n = eq_name d.class.name n both.1 in (
+      subst (λ (k : ℕ). recorded (records_of x) k n ≡ None) ln (subst (λ (m : List ℕ). recorded (records_of x) d.class.loader m ≡ None) nn fresh),
+      subst (λ (k : ℕ). IsRow told row k n d.class.loader) ln (subst (λ (m : List ℕ). IsRow told row d.class.loader m d.class.loader) nn (new_row told d row draft made)),
+    ) in
     let now : recorded (records_of (with_define x d.class)) l n ≡ option_or (recorded (records_of x) l n) (if test then Some d.class.loader else None) =
     ap (λ (s : State). recorded s.records l n) (state_defines x d.class) ∙ recorded_push (records_of x) (record { loader = d.class.loader; name = d.class.name; place = d.class.loader }) l n in
     subst (λ (o : Option ClassRow). RowAt told l n o (recorded (records_of (with_define x d.class)) l n)) (sym (is l n)) (row_push told l n test (table l n) row _ _ d.class.loader (at l n) here now)

@@ -158,9 +158,13 @@ held_push told loader len at above es new d held e draft is sup other whole smal
     let drafts : drafts_in new ≡ drafts_in es ++ d ∷ [] = ap drafts_in e ∙ map_push (λ (e : List ℕ × Drafted). e.1) es e-of in
     let keys : keys_in new ≡ keys_in es ++ at ∷ [] = ap keys_in e ∙ map_push (λ (e : List ℕ × Drafted). e.0) es e-of in
     let name : at ≡ d.class.name = sym (ap (λ c. c.name) is) in
-    let short : length (drafts_in es ++ d ∷ []) ≤ most = subst (λ (ds : List Drafted). length ds ≤ most) drafts (rw (length-map new (λ (e : List ℕ × Drafted). e.1)) (under_most len (length new) whole small)) in
-    ((subst (λ (ds : List Drafted). IsWalk told (record { loader = loader; drafts = ds; at = above })) (sym drafts) (walk_push told loader at above (drafts_in es) d held.0 draft is sup other short),
-        keys ∙ rw (held.1, name) (sym (names_push (drafts_in es) d) ∙ ap names (sym drafts))), drafts)
+    let short : length (drafts_in es ++ d ∷ []) ≤ most = subst (λ (ds : List Drafted). length ds ≤ most) drafts (rw (length-map new (λ (e : List ℕ × Drafted). e.1)) (under_most len (length new) whole small)) in (
+      (
+        subst (λ (ds : List Drafted). IsWalk told (record { loader = loader; drafts = ds; at = above })) (sym drafts) (walk_push told loader at above (drafts_in es) d held.0 draft is sup other short),
+        keys ∙ rw (held.1, name) (sym (names_push (drafts_in es) d) ∙ ap names (sym drafts)),
+      ),
+      drafts,
+    )
 
 none_cond : {X : Type 0} (b : Bool) (x : X) (o : Option X) → b ≡ false → o ≡ None → cond b (Some x) o ≡ None
 none_cond b x o p q = rw (p, q) refl

@@ -10,7 +10,9 @@ use crate::finding::Finding;
 use crate::report::{Answers, History, Report};
 use crate::row::ClassRow;
 use crate::script::Script;
-use crate::tables::{Rows, backs, collect, empty_rows, find, is_asked, is_open, known, may_enter, record, rooms_for};
+use crate::tables::{
+    Rows, backs, collect, empty_rows, find, is_asked, is_open, known, may_enter, record, rooms_for,
+};
 use cl_model::{Answer, Event, LoaderId, Told};
 use cl_names::Name;
 use std::alloc::Global;
@@ -123,7 +125,11 @@ impl<T: Told> Registry<T> {
     }
 
     /// Records a class with its loader, which defines it; one that is recorded is answered as it is.
-    pub fn define(&mut self, alloc: Global, draft: Draft<T>) -> Result<Arc<ClassRow>, DefineRefused<T>>
+    pub fn define(
+        &mut self,
+        alloc: Global,
+        draft: Draft<T>,
+    ) -> Result<Arc<ClassRow>, DefineRefused<T>>
         ensures defined { OnOk result (DefinedAs self.old self.new draft (recorded (records_of self.old) draft.class.loader draft.class.name)) }
         ensures row { IfOk result (λ r. IsRow T.told r.value draft.class.loader draft.class.name r.value.class.loader) }
         ensures refused { IfErr result (λ e. DefineRefusedFor self.old draft e.fault) }
@@ -133,17 +139,26 @@ impl<T: Told> Registry<T> {
             Some(row) => {
                 return match Arc::try_clone(row) {
                     Ok(row) => Ok(row),
-                    Err(_) => Err(DefineRefused { fault: RegistryFault::Memory, draft }),
+                    Err(_) => Err(DefineRefused {
+                        fault: RegistryFault::Memory,
+                        draft,
+                    }),
                 };
             }
             None => {}
         }
         if !may_enter(&self.rows, self.config.count(), &draft) {
-            return Err(DefineRefused { fault: RegistryFault::Stray, draft });
+            return Err(DefineRefused {
+                fault: RegistryFault::Stray,
+                draft,
+            });
         }
         let row = match record(alloc, &mut self.rows, &mut self.history, self.left, &draft) {
             Ok(row) => row,
-            Err(_) => return Err(DefineRefused { fault: RegistryFault::Memory, draft }),
+            Err(_) => return Err(DefineRefused {
+                fault: RegistryFault::Memory,
+                draft,
+            }),
         };
         Ok(row)
     }
@@ -156,13 +171,27 @@ impl<T: Told> Registry<T> {
         ensures unchanged { IfErr result (λ e. (self.new ≡ self.old) × (e.finding ≡ finding)) }
     {
         if !is_asked(self.script.requests(), q, finding.request()) {
-            return Err(PostRefused { fault: RegistryFault::Stray, finding });
+            return Err(PostRefused {
+                fault: RegistryFault::Stray,
+                finding,
+            });
         }
         if !is_open(&self.answers, q) {
-            return Err(PostRefused { fault: RegistryFault::AlreadyPosted, finding });
+            return Err(PostRefused {
+                fault: RegistryFault::AlreadyPosted,
+                finding,
+            });
         }
-        if !backs(&self.rows, self.config.count(), finding.request(), finding.answer()) {
-            return Err(PostRefused { fault: RegistryFault::Stray, finding });
+        if !backs(
+            &self.rows,
+            self.config.count(),
+            finding.request(),
+            finding.answer(),
+        ) {
+            return Err(PostRefused {
+                fault: RegistryFault::Stray,
+                finding,
+            });
         }
         self.answers[q as usize] = Some(finding.into_answer());
         self.left -= 1;

@@ -11,7 +11,9 @@ ghost use Rattle.cl_tasks.specs.declared.phase.Phase.TheVariants as phases;
 use crate::stage::{Job, Next, Reply, Stage, Turn};
 use cl_model::{Class, Told};
 use cl_names::Name;
-use cl_registry::{Config, Draft, DraftRefused, Finding, Home, Obstacle, Probe, Search, SourceFault};
+use cl_registry::{
+    Config, Draft, DraftRefused, Finding, Home, Obstacle, Probe, Search, SourceFault,
+};
 use std::alloc::{AllocError, Global};
 use std::sync::Arc;
 
@@ -225,7 +227,10 @@ fn read<T: Told>(alloc: Global, job: Job<T>, home: Home<T>) -> Next<T>
 {
     match Draft::read(alloc, home) {
         Err(DraftRefused::Memory(_)) => out_of_memory(job),
-        Err(DraftRefused::Unreadable(unreadable)) => obstacle(job, Obstacle::Unreadable(unreadable)),
+        Err(DraftRefused::Unreadable(unreadable)) => obstacle(
+            job,
+            Obstacle::Unreadable(unreadable),
+        ),
         Ok(draft) => drafted(alloc, job, draft),
     }
 }

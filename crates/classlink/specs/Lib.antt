@@ -2,3 +2,4 @@ pub mod Cuts
 pub mod Faults
 pub mod Report
 pub mod Sections
+pub mod Serving

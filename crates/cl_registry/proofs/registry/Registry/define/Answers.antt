@@ -19,11 +19,11 @@ may g c = may_enter (shown g c) _ c.count.result c.args.draft (c.count.ensures.c
 pub invariant_of-self-2 : goal.invariant_of-self-2
 invariant_of-self-2 g c =
     rw c.in-Ok-record.ensures.event
-        (kept_define g.T.Told.told (shown g c) _ _ c.args.draft c.in-Ok-record.row.value _ _ _ _ _ _ _ _ _ c.self.invariant (fresh g c) (may g c) (subst (IsDraft g.T.Told.told) c.draft.view_is c.draft.invariant) c.in-Ok-record.ensures.row
-        c.in-Ok-record.ensures.put c.in-Ok-record.ensures.width c.in-Ok-record.ensures.used c.in-Ok-record.ensures.room)
+    (kept_define g.T.Told.told (shown g c) _ _ c.args.draft c.in-Ok-record.row.value _ _ _ _ _ _ _ _ _ c.self.invariant (fresh g c) (may g c) (subst (IsDraft g.T.Told.told) c.draft.view_is c.draft.invariant) c.in-Ok-record.ensures.row
+    c.in-Ok-record.ensures.put c.in-Ok-record.ensures.width c.in-Ok-record.ensures.used c.in-Ok-record.ensures.room)
 
 pub returns-clause-defined : goal.returns-clause-defined
 returns-clause-defined g c =
     subst (λ (x : Shown). DefinedAs x (record (shown g c) { history = c.record.new.history.items }) c.args.draft (recorded (records_of x) c.args.draft.class.loader c.args.draft.class.name)) c.self.view_is
-        (subst (λ (o : Option ℕ). DefinedAs (shown g c) (record (shown g c) { history = c.record.new.history.items }) c.args.draft o) (sym (fresh g c))
-        (ap (λ (h : List Event). record (shown g c) { history = h }) c.in-Ok-record.ensures.event, may g c))
+    (subst (λ (o : Option ℕ). DefinedAs (shown g c) (record (shown g c) { history = c.record.new.history.items }) c.args.draft o) (sym (fresh g c))
+    (ap (λ (h : List Event). record (shown g c) { history = h }) c.in-Ok-record.ensures.event, may g c))

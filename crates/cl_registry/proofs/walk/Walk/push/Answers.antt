@@ -9,7 +9,7 @@ use Rattle.cl_registry.proofs.walk.Walk.push.Goals as goal
 pub put-requires-clause-absent : goal.put-requires-clause-absent
 put-requires-clause-absent g c =
     rw (c.replace-name.ensures.value, c.in_ok-reserve.ensures.entries)
-        (absent c.self.inside.at c.self.inside.drafts.entries (subst (λ (ns : List (List ℕ)). has c.self.inside.at ns ≡ false) (sym c.self.invariant.1) c.self.invariant.0.unseen))
+    (absent c.self.inside.at c.self.inside.drafts.entries (subst (λ (ns : List (List ℕ)). has c.self.inside.at ns ≡ false) (sym c.self.invariant.1) c.self.invariant.0.unseen))
 
 held : (g : _) (c : goal.After-len g) → IsHeld g.T.Told.told c.self.inside.loader c.put.new.drafts.entries c.args.above × (drafts_in c.put.new.drafts.entries ≡ drafts_in c.self.inside.drafts.entries ++ c.args.draft ∷ [])
 held g c =

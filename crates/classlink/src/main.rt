@@ -10,6 +10,9 @@ mod sections;
 mod serve;
 mod words;
 
+#[cfg(test)]
+mod tests;
+
 use run::run_over;
 use std::env;
 use std::io;

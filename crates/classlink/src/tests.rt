@@ -197,7 +197,8 @@ impl Write for FailingWriter {
     }
 }
 
-const OBJECT_BUNDLE: &str = "%config\n[[loader]]\nname = \"boot\"\n%class boot java/lang/Object\n@hex cafebabe0000003400030100106a6176612f6c616e672f4f626a6563740700010021000200000000000000000000\n%script\nload boot java/lang/Object\n";
+const OBJECT_BUNDLE: &str =
+    "%config\n[[loader]]\nname = \"boot\"\n%class boot java/lang/Object\n@hex cafebabe0000003400030100106a6176612f6c616e672f4f626a6563740700010021000200000000000000000000\n%script\nload boot java/lang/Object\n";
 
 #[test]
 fn reads_and_writes_fail(rt: HostRuntime) -> Result<(), Fail> {
@@ -208,7 +209,10 @@ fn reads_and_writes_fail(rt: HostRuntime) -> Result<(), Fail> {
     let reader = FailingReader(OBJECT_BUNDLE.as_bytes());
     assert_eq!(rt; run_over(&rt, &words, reader, &mut out, &mut err), 1);
     assert_eq!(rt; out.as_slice(), b"".as_slice());
-    assert_eq!(rt; err.as_slice(), b"classlink: cannot read standard input\n".as_slice());
+    assert_eq!(rt;
+        err.as_slice(),
+        b"classlink: cannot read standard input\n".as_slice()
+    );
     for room in [0usize, 1, 40, lines.len()] {
         let mut out = FailingWriter {
             bytes: Vec::new(rt.alloc()),
@@ -220,7 +224,11 @@ fn reads_and_writes_fail(rt: HostRuntime) -> Result<(), Fail> {
         assert!(rt; lines.as_bytes().starts_with(bytes.as_slice()));
         assert_eq!(rt; bytes.len(), room);
         assert_eq!(rt; status, if room == lines.len() { 0 } else { 1 });
-        let want = if status == 0 { "" } else { "classlink: cannot write\n" };
+        let want = if status == 0 {
+            ""
+        } else {
+            "classlink: cannot write\n"
+        };
         assert_eq!(rt; err.as_slice(), want.as_bytes());
     }
     Ok(())

@@ -10,7 +10,7 @@ use Rattle.cl_registry.specs.Lines.{CutsLine, Numbered, is_skipped, words_of}
 use Rattle.classlink.specs.Sections.{Heading, InnerLine, ClassLine, ScriptLine, WrongLine, Cut, Part, Parts, add_class, add_line, behind_line, cut_from, cut_of, heading_of, is_config, lines_in, parts_from, with_config}
 use Rattle.classlink.specs.Cuts.{CutOf, HasNumber, IsWrongLine, SectionLineOf, cuts_of, add_front, ended_by, heading_from, parts_of}
 use Rattle.classlink.specs.declared.fault.Fault.{Fault}
-use Rattle.classlink.specs.declared.fault.Fault.TheVariants.{Bundle, Memory, Input, Write, TooLarge, NotUtf8}
+use Rattle.classlink.specs.declared.fault.Fault.TheVariants.{Bundle, Memory}
 use Rattle.classlink.specs.declared.sections.Sections.{Sections}
 use Rattle.classlink.specs.declared.sections.End.{End}
 use Rattle.classlink.specs.declared.sections.End.TheVariants as ends
@@ -199,8 +199,8 @@ cut_goes_on whole line config done n loader name text end left new s e = record 
   all = s.all;
   opened = s.opened;
   so = s.so ∙ ap (λ (r : Result Parts ℕ). add_front config (add_parts done (add_class n loader.now name r))) e
-    ∙ ap (λ (r : Result Parts ℕ). add_front config (add_parts done r)) (next_part n loader.now name text end new)
-    ∙ ap (add_front config) (parts_then done (record { line = n; loader = loader.now; name = name; body = text } ∷ []) (ended_by end new));
+      ∙ ap (λ (r : Result Parts ℕ). add_front config (add_parts done r)) (next_part n loader.now name text end new)
+      ∙ ap (add_front config) (parts_then done (record { line = n; loader = loader.now; name = name; body = text } ∷ []) (ended_by end new));
 }
 
 pub cut_ends : (text : List ℕ) (line : ℕ) (config : List ℕ) (done : List Part) (left : Numbered) → IsCutSoFar text line config done ends.Script left
@@ -211,23 +211,15 @@ cut_ends text line config done left s = s.opened ∙ ap (with_config line) s.so 
 err_after : (line m n : ℕ) (config loader name : List ℕ) (done : List Part) (r : Result Parts ℕ) → r ≡ Err m → with_config line (add_front config (add_parts done (add_class n loader name r))) ≡ Err m
 err_after line m n config loader name done r e = rw e refl
 
+same_wrong : {A B : Type 0} (r : Result A ℕ) (s : Result B ℕ) (fault : Fault) → ((m : ℕ) → r ≡ Err m → s ≡ Err m) → IsWrongLine r fault → IsWrongLine s fault
+same_wrong r s (Bundle m) f e = f m e
+same_wrong r s Memory f e = tt
+same_wrong r s fault f e = absurd e
+
 pub cut_wrong : (text : List ℕ) (line : ℕ) (config : List ℕ) (done : List Part) (n : ℕ) (loader : Bor (List ℕ)) (name : List ℕ) (left : Numbered) (fault : Fault)
     → IsCutSoFar text line config done (ends.Class n loader name) left → IsWrongLine (parts_of left) fault → IsWrongLine (cut_of text) fault
-cut_wrong text line config done n loader name left (Bundle m) s e = s.opened ∙ ap (with_config line) s.so ∙ err_after line m n config loader.now name done (parts_of left) e
-cut_wrong text line config done n loader name left Memory s e = tt
-cut_wrong text line config done n loader name left Input s e = e
-cut_wrong text line config done n loader name left Write s e = e
-cut_wrong text line config done n loader name left TooLarge s e = e
-cut_wrong text line config done n loader name left NotUtf8 s e = e
-
--- so is one in the configuration
-pub config_wrong : (text : List ℕ) (line : ℕ) (left : Numbered) (fault : Fault) → cut_of text ≡ with_config line (parts_of left) → IsWrongLine (parts_of left) fault → IsWrongLine (cut_of text) fault
-config_wrong text line left (Bundle m) o e = o ∙ ap (with_config line) e
-config_wrong text line left Memory o e = tt
-config_wrong text line left Input o e = e
-config_wrong text line left Write o e = e
-config_wrong text line left TooLarge o e = e
-config_wrong text line left NotUtf8 o e = e
+cut_wrong text line config done n loader name left fault s e =
+    same_wrong (parts_of left) (cut_of text) fault (λ m w. s.opened ∙ ap (with_config line) s.so ∙ err_after line m n config loader.now name done (parts_of left) w) e
 
 pub cut_err : (text : List ℕ) (r : Result Sections Fault) (fault : Fault) → IsErrAnd r (λ e. e ≡ fault) → IsWrongLine (cut_of text) fault → CutOf text r
 cut_err text (Ok s) fault e w = absurd e

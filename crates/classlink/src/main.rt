@@ -8,12 +8,13 @@ mod print;
 mod run;
 mod sections;
 mod serve;
+#[cfg(test)]
+mod tests;
 mod words;
 
 use run::run_over;
-use std::env;
-use std::io;
 use std::process::ExitCode;
+use std::{env, io};
 
 fn main(rt: HostRuntime) -> io::Result<ExitCode> {
     let words: Vec<String> = env::args(&rt)?.collect(rt.alloc())?;

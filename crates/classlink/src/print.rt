@@ -59,7 +59,11 @@ pub fn print_report<W: Write>(
 fn shown_events(report: &Report, answers: bool) -> &[Event]
     ensures { result.now ≡ (if answers then [] else report.now.history) }
 {
-    if answers { &[] } else { report.history.events() }
+    if answers {
+        &[]
+    } else {
+        report.history.events()
+    }
 }
 
 /// Puts the lines of events behind what waits.

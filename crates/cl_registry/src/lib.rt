@@ -18,5 +18,5 @@ pub use faulty::FaultySource;
 pub use lines::{Line, Lines, Stated, Words, is_skipped};
 pub use memory::{MemorySource, PutRefused, Telling};
 pub use report::{Answers, History, Report};
-pub use script::{Script, ScriptFault};
+pub use script::{Script, ScriptFault, text_is_one_script};
 pub use source::{ClassBytes, Outcome, Probe, Source, SourceFault};

@@ -6,11 +6,12 @@ use Rattle.std.proofs.lemmas.Bool.Decides.{nat_tests}
 use Rattle.std.proofs.lemmas.List.{length_push}
 use Rattle.std.proofs.lemmas.List.Elements.{All-nil, All-cons}
 use Rattle.cl_model.specs.declared.request.Request.{Request}
+use Rattle.cl_model.specs.declared.request.Request.TheVariants.{Load}
 use Rattle.cl_names.specs.Kind.{IsNameOf, IsClass}
 use Rattle.cl_names.specs.Escape.{WritesName}
 use Rattle.cl_names.proofs.Escapes.{name_alone}
 use Rattle.cl_registry.specs.Lines.{Numbered, words_of}
-use Rattle.cl_registry.specs.Scripts.{HasLoader, HasLoaders, IsBad, Asks, AllAsk, StopsAt}
+use Rattle.cl_registry.specs.Scripts.{loader_named, HasLoader, HasLoaders, IsBad, Asks, AllAsk, StopsAt}
 use Rattle.cl_registry.specs.ClassTexts.{WritesClass}
 
 -- a text writes one name, so none of a class where that is none
@@ -85,3 +86,26 @@ have_loaders names [] [] t = All-nil (HasLoader (length names))
 have_loaders names [] (r ∷ rs) t = absurd t
 have_loaders names (l ∷ ls) [] t = absurd t
 have_loaders names (l ∷ ls) (r ∷ rs) t = All-cons (HasLoader (length names)) r rs (has_loader names l.text r t.0) (have_loaders names ls rs t.1)
+
+-- ---- a text is one script at most
+
+second_word : {a b c d e f : List ℕ} → a ∷ b ∷ c ∷ [] ≡ d ∷ e ∷ f ∷ [] → b ≡ e
+second_word h = cc
+
+one_request : (names : List (List ℕ)) (line : List ℕ) (r s : Request) → Asks names line r → Asks names line s → r ≡ s
+one_request names line r s t u =
+    let words : codes "load" ∷ t.word ∷ t.load.text ∷ [] ≡ codes "load" ∷ u.word ∷ u.load.text ∷ [] = sym t.load.words ∙ u.load.words in
+    let same_name : t.name ≡ u.name = name_alone u.load.text t.name u.name (subst (λ w. WritesName w t.name) (third_word words) t.load.writes.written) u.load.writes.written in
+    let same_loader : Some t.loader ≡ Some u.loader = sym t.known ∙ ap (loader_named names) (second_word words) ∙ u.known in
+    t.is ∙ ap (λ l. Load l t.name) (some_same same_loader) ∙ ap (Load u.loader) same_name ∙ sym u.is
+  where
+    some_same : {a b : ℕ} → Some a ≡ Some b → a ≡ b
+    some_same h = cc
+
+pub one_script : (names : List (List ℕ)) (lines : List Numbered) (rs ss : List Request) → AllAsk names lines rs → AllAsk names lines ss → rs ≡ ss
+one_script names [] [] [] t u = refl
+one_script names [] [] (s ∷ ss) t u = absurd u
+one_script names [] (r ∷ rs) ss t u = absurd t
+one_script names (l ∷ ls) [] ss t u = absurd t
+one_script names (l ∷ ls) (r ∷ rs) [] t u = absurd u
+one_script names (l ∷ ls) (r ∷ rs) (s ∷ ss) t u = let first : r ≡ s = one_request names l.text r s t.0 u.0 in let others : rs ≡ ss = one_script names ls rs ss t.1 u.1 in cc

@@ -29,7 +29,7 @@ pub use memory::{MemorySource, PutRefused, Telling};
 pub use registry::{DefineRefused, NotYet, PostRefused, Registry, RegistryFault};
 pub use report::{Answers, History, Report};
 pub use row::ClassRow;
-pub use script::{Script, ScriptFault};
+pub use script::{Script, ScriptFault, text_is_one_script};
 pub use search::{Home, Search, SearchFault, Unfound, WrongProbe};
 pub use source::{ClassBytes, Outcome, Probe, Source, SourceFault};
 pub use walk::Walk;

@@ -125,7 +125,7 @@ impl<'a> Iterator for Stated<'a> {
 /// The words that are left of a line. U+0020 alone parts them.
 #[derive(Drop)]
 pub struct Words<'a> {
-    rest: &'a str,
+    left: &'a str,
 }
 
 impl<'a> Model for Words<'a> {
@@ -133,7 +133,7 @@ impl<'a> Model for Words<'a> {
 
     ghost Value = { List ℕ };
 
-    ghost view = { λ w. w.rest.now };
+    ghost view = { λ w. w.left.now };
 }
 
 impl<'a> Words<'a> {
@@ -141,7 +141,7 @@ impl<'a> Words<'a> {
     pub fn new(line: &'a str) -> Words<'a>
         ensures { result ≡ line.now }
     {
-        Words { rest: line }
+        Words { left: line }
     }
 }
 
@@ -153,9 +153,9 @@ impl<'a> Iterator for Words<'a> {
     ghost remaining = { item_count words_of };
 
     fn next(&mut self) -> Option<&'a str> {
-        while !self.rest.is_empty() {
-            let (word, rest) = cut(self.rest, ' ');
-            self.rest = rest;
+        while !self.left.is_empty() {
+            let (word, rest) = cut(self.left, ' ');
+            self.left = rest;
             if !word.is_empty() {
                 return Some(word);
             }

@@ -1,6 +1,7 @@
 ghost use Rattle.std.specs.Prelude.{◌≡◌, ◌≤◌, List, ℕ, [], ◌∷◌, ◌++◌, MatchOption, IfOk, OnOk, codes, length};
 ghost use Rattle.cl_registry.specs.Lines.{words_of};
 ghost use Rattle.cl_registry.specs.Scripts.{script_of, line_of, HasLoaders};
+ghost use Rattle.cl_registry.specs.Views.{Scripted};
 ghost use Rattle.cl_registry.specs.ClassTexts.{WritesClass};
 
 use crate::config::Config;
@@ -81,6 +82,11 @@ impl Script {
         self.requests.as_slice()
     }
 }
+
+/// A law of the definition: a text is one script at most.
+pub fn text_is_one_script()
+    ensures { (names : List (List ℕ)) (text : List ℕ) (a b : Scripted) → script_of names text (Ok a) → script_of names text (Ok b) → a ≡ b }
+{}
 
 /// What a line asks for.
 fn asked(alloc: Global, config: &Config, line: Line<'_>) -> Result<Request, ScriptFault>

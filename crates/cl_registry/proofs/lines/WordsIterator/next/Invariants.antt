@@ -3,7 +3,7 @@ use Rattle.cl_registry.specs.Lines.{words_of}
 use Rattle.cl_registry.proofs.lines.WordsIterator.next.Given as goal
 
 abbrev pub invariant-loop-self : goal.invariant-loop-self
-invariant-loop-self l = words_of l.self-inside.rest.now ≡ words_of l.initial.self-inside.rest.now
+invariant-loop-self l = words_of l.self-inside.left.now ≡ words_of l.initial.self-inside.left.now
 
 abbrev pub decreases-loop-self : goal.decreases-loop-self
-decreases-loop-self l = length l.self-inside.rest.now
+decreases-loop-self l = length l.self-inside.left.now

@@ -1,3 +1,6 @@
+ghost use Rattle.std.specs.Prelude.{IfOk, length};
+ghost use Rattle.cl_registry.specs.Scripts.{HasLoaders};
+
 use crate::fault::Fault;
 use crate::sections::{self, ClassSection};
 use cl_registry::lines::{Stated, Words};
@@ -15,7 +18,9 @@ pub struct Bundle {
 }
 
 /// Reads a bundle from its front: section lines, configuration, class sections in order, script.
-pub fn read(alloc: Global, text: &str) -> Result<Bundle, Fault> {
+pub fn read(alloc: Global, text: &str) -> Result<Bundle, Fault>
+    ensures loaders { IfOk result (λ b. HasLoaders (length b.config.names) b.script.requests) }
+{
     let sections = sections::cut(alloc, text)?;
     let config = read_config(alloc, sections.config, sections.config_line)?;
     let mut source = MemorySource::new(alloc);

@@ -4,6 +4,7 @@
 mod bundle;
 mod fault;
 mod input;
+mod named;
 mod print;
 mod run;
 mod sections;

@@ -1,8 +1,13 @@
+ghost use Rattle.std.specs.Prelude.{◌≡◌, ◌⊎◌, IfOk, length};
+ghost use Rattle.cl_model.specs.Content.{Tells};
+ghost use Rattle.cl_registry.specs.Scripts.{HasLoaders};
+
 use crate::bundle::{self, Bundle};
 use crate::fault::Fault;
 use crate::input::read_text;
+use crate::named::{answers_are_named, events_are_named};
 use crate::print::{PrintFault, print_report};
-use crate::serve::serve_one;
+use crate::serve::{ServeFault, serve_one};
 use crate::words::{self, Asked};
 use cl_model::Told;
 use cl_registry::{Config, MemorySource, Report, Script};
@@ -22,7 +27,9 @@ pub fn run_over<R: AllocGlobal, S: AsStr, I: Read + Drop, W: Write, E: Write>(
     input: I,
     out: &mut W,
     err: &mut E,
-) -> u8 {
+) -> u8
+    ensures { (result ≡ 0) ⊎ (result ≡ 1) ⊎ (result ≡ 2) }
+{
     let alloc = rt.alloc();
     let outcome = match words::read(alloc, words) {
         Ok(asked) => run_bundle(alloc, asked, input, out),
@@ -59,7 +66,13 @@ fn run_bundle<I: Read + Drop, W: Write>(
     let script = Arc::new(alloc, script)?;
     let loaders = Arc::try_clone(&config)?;
     let report = serve(alloc, config, source, script)?;
-    print_report(alloc, &report, loaders.names(), asked.answers, out)?;
+    let names = loaders.names();
+    let events = report.history.events();
+    let answers = report.answers.as_slice();
+    if !events_are_named(events, names.len()) || !answers_are_named(answers, names.len()) {
+        return Err(Fault::Serve(ServeFault::Stray));
+    }
+    print_report(alloc, &report, names, asked.answers, out)?;
     Ok(())
 }
 
@@ -69,7 +82,10 @@ fn serve(
     config: Arc<Config>,
     source: MemorySource,
     script: Arc<Script>,
-) -> Result<Report, Fault> {
+) -> Result<Report, Fault>
+    requires { HasLoaders (length config.value.names) script.value.requests }
+    ensures { IfOk result (λ r. r.script.value ≡ script.value) }
+{
     serve_told::<Brand>(alloc, config, source, script)
 }
 
@@ -78,7 +94,11 @@ fn serve_told<T: Told>(
     config: Arc<Config>,
     source: MemorySource,
     script: Arc<Script>,
-) -> Result<Report, Fault> {
+) -> Result<Report, Fault>
+    requires tells { Tells T.told source }
+    requires loaders { HasLoaders (length config.value.names) script.value.requests }
+    ensures { IfOk result (λ r. r.script.value ≡ script.value) }
+{
     let mut source = source.tell::<T>();
     match serve_one::<T, _>(alloc, config, &mut source, script) {
         Ok(report) => Ok(report),

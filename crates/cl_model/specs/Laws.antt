@@ -1,5 +1,5 @@
 -- Laws of the definitions: each is the contract of a function without a body.
-use Rattle.std.specs.Prelude.{◌≡◌, ℕ, suc, List, [], ◌∷◌, ◌++◌, Some, None, Ok, Err, ◌⊎◌, Contains}
+use Rattle.std.specs.Prelude.{◌≡◌, ℕ, suc, ◌+◌, List, [], ◌∷◌, ◌++◌, length, Some, None, Ok, Err, ◌⊎◌, Contains}
 use Rattle.cl_classfile.specs.Files.{Name}
 use Rattle.cl_model.specs.Homes.{World, home}
 use Rattle.cl_model.specs.declared.class.Class.{Class}
@@ -7,8 +7,9 @@ use Rattle.cl_model.specs.Classes.{class, Error, ClassCircularity, ClassNotFound
 use Rattle.cl_model.specs.Lineages.{Kin, IsLineage}
 use Rattle.cl_model.specs.Works.{Made}
 use Rattle.cl_model.specs.Plans.{derive, load, Load, Request, Plan}
-use Rattle.cl_model.specs.States.{State, start, Entry, IsClass, Answer, settled_to, answer_to, IsFresh, Clashes, added, Need, Verdict, recorded, Violated, Met, AllMet, IsRecorded}
-use Rattle.cl_model.specs.Machine.{Setting, Step, May, state_after, Run, Answers, IsClosed, IsSound, after, AnswersPlan, AnswersReference, IsPlan, HasLineage, IsResolution}
+use Rattle.cl_model.specs.States.{State, start, Entry, IsClass, Answer, settled_to, answer_to, IsFresh, Clashes, added, Need, Verdict, recorded, Violated, Met, AllMet, IsRecorded, MayAdd, Said}
+use Rattle.cl_model.specs.Service.{step_for, IsNextNeed, IsBegun, Serves, AllServed}
+use Rattle.cl_model.specs.Machine.{Setting, Scheduled, Step, Post, May, state_after, Run, Answers, IsClosed, IsSound, after, AnswersPlan, AnswersReference, IsPlan, HasLineage, IsResolution}
 
 -- a home is its own home
 abbrev pub HomeOfHome : Type 0
@@ -213,3 +214,17 @@ RecordedAnswers = (g : Setting) (s : State) (loader place : ℕ) (name : Name) �
 -- a record that is wanted with its home and does not stand is fresh
 abbrev pub UnmetIsFresh : Type 0
 UnmetIsFresh = (w : World) (s : State) (loader place : ℕ) (name : Name) → IsClosed w s → home w loader name ≡ Some place → (Met s (Entry loader name place) → ⊥) → recorded s.records loader name ≡ None
+
+-- ---- service
+
+-- a beginning of a service goes on by the need that comes next
+abbrev pub ServiceGoesOn : Type 0
+ServiceGoesOn = (w : World) (r : Request) (s : State) (es : List Step) (n : Need) → IsBegun w r s es → IsNextNeed w (state_after s es) r n → MayAdd (state_after s es) n → IsBegun w r s (es ++ step_for n ∷ [])
+
+-- a service follows the plan: a beginning in whose last state the request has an answer is whole
+abbrev pub ServiceIsWhole : Type 0
+ServiceIsWhole = (g : Setting) (q : ℕ) (r : Request) (s : State) (es : List Step) (v : Verdict) → IsBegun g.world r s es → AnswersPlan g (state_after s es) r v → Serves g q r s (es ++ Post q (Said v) ∷ [])
+
+-- services go on by that of the next request
+abbrev pub ServicesGoOn : Type 0
+ServicesGoOn = (g : Setting) (q p : ℕ) (s : State) (rs : List Scheduled) (r : Scheduled) (es more : List Step) → AllServed g q s rs es → Serves g p r.request (state_after s es) more → p ≡ q + length rs → AllServed g q s (rs ++ r ∷ []) (es ++ more)

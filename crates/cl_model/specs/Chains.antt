@@ -31,7 +31,7 @@ first_or (x ∷ xs) at = x.name
 -- the name is one of these
 abbrev pub stands_in : List Waiting → Name → Bool
 stands_in [] name = false
-stands_in (x ∷ xs) name = same_name x.name name || stands_in xs name
+stands_in (x ∷ xs) name = same_name name x.name || stands_in xs name
 
 -- a class of the loader has this file, whose superclass is named so
 pub record IsLink (w : World) (loader : ℕ) (x : Waiting) (above : Name) : Type 0 where

@@ -1,6 +1,6 @@
 -- Laws of the definitions: each is the contract of a function without a body.
 use Rattle.std.specs.Prelude.{◌≡◌, ℕ, suc, ◌+◌, List, [], ◌∷◌, ◌++◌, length, Some, None, Ok, Err, ◌⊎◌, Contains}
-use Rattle.cl_classfile.specs.Files.{Name}
+use Rattle.cl_classfile.specs.Files.{Name, File}
 use Rattle.cl_model.specs.Homes.{World, home}
 use Rattle.cl_model.specs.declared.class.Class.{Class}
 use Rattle.cl_model.specs.Classes.{class, Error, ClassCircularity, ClassNotFound, HasFile, IsAtHome, Good, IsGood, Fails, Circular, Next, Returns}
@@ -8,6 +8,7 @@ use Rattle.cl_model.specs.Lineages.{Kin, IsLineage}
 use Rattle.cl_model.specs.Works.{Made}
 use Rattle.cl_model.specs.Plans.{derive, load, Load, Request, Plan}
 use Rattle.cl_model.specs.States.{State, start, Entry, IsClass, Answer, settled_to, answer_to, IsFresh, Clashes, added, Need, Verdict, recorded, Violated, Met, AllMet, IsRecorded, MayAdd, Said}
+use Rattle.cl_model.specs.Chains.{ReadsPlain, Waiting, first_or, IsChain}
 use Rattle.cl_model.specs.Service.{step_for, IsNextNeed, IsBegun, Serves, AllServed}
 use Rattle.cl_model.specs.Machine.{Setting, Scheduled, Step, Post, May, state_after, Run, Answers, IsClosed, IsSound, after, AnswersPlan, AnswersReference, IsPlan, HasLineage, IsResolution}
 
@@ -228,3 +229,11 @@ ServiceIsWhole = (g : Setting) (q : ℕ) (r : Request) (s : State) (es : List St
 -- services go on by that of the next request
 abbrev pub ServicesGoOn : Type 0
 ServicesGoOn = (g : Setting) (q p : ℕ) (s : State) (rs : List Scheduled) (r : Scheduled) (es more : List Step) → AllServed g q s rs es → Serves g p r.request (state_after s es) more → p ≡ q + length rs → AllServed g q s (rs ++ r ∷ []) (es ++ more)
+
+-- where a superclass is recorded, the record of the class that waits for it is the need that comes next
+abbrev pub WaitingIsNext : Type 0
+WaitingIsNext = (w : World) (s : State) (l : ℕ) (xs : List Waiting) (x : Waiting) (at : Name) → ReadsPlain w → IsClosed w s → IsRecorded s (class at l) → IsChain w l (xs ++ x ∷ []) at → IsNextNeed w s (Load l (first_or xs x.name)) (Entry l x.name l)
+
+-- where what is looked for has no superclass, its own record is the need that comes next
+abbrev pub RootIsNext : Type 0
+RootIsNext = (w : World) (s : State) (l : ℕ) (xs : List Waiting) (at : Name) (f : File) → ReadsPlain w → IsChain w l xs at → HasFile w (class at l) f → f.super_name ≡ None → IsNextNeed w s (Load l (first_or xs at)) (Entry l at l)

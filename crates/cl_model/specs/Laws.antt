@@ -1,14 +1,14 @@
 -- Laws of the definitions: each is the contract of a function without a body.
-use Rattle.std.specs.Prelude.{◌≡◌, ℕ, suc, ◌+◌, List, [], ◌∷◌, ◌++◌, length, Some, None, Ok, Err, ◌⊎◌, Contains}
+use Rattle.std.specs.Prelude.{◌≡◌, ℕ, suc, ◌+◌, true, false, List, [], ◌∷◌, ◌++◌, length, Some, None, Ok, Err, ◌⊎◌, Contains}
 use Rattle.cl_classfile.specs.Files.{Name, File}
 use Rattle.cl_model.specs.Homes.{World, home}
 use Rattle.cl_model.specs.declared.class.Class.{Class}
-use Rattle.cl_model.specs.Classes.{class, Error, ClassCircularity, ClassNotFound, HasFile, IsAtHome, Good, IsGood, Fails, Circular, Next, Returns}
+use Rattle.cl_model.specs.Classes.{class, Error, ClassCircularity, ClassNotFound, file_of, HasFile, IsAtHome, Good, IsGood, Fails, Circular, Next, Returns}
 use Rattle.cl_model.specs.Lineages.{Kin, IsLineage}
 use Rattle.cl_model.specs.Works.{Made}
 use Rattle.cl_model.specs.Plans.{derive, load, Load, Request, Plan}
-use Rattle.cl_model.specs.States.{State, start, Entry, IsClass, Answer, settled_to, answer_to, IsFresh, Clashes, added, Need, Verdict, recorded, Violated, Met, AllMet, IsRecorded, MayAdd, Said}
-use Rattle.cl_model.specs.Chains.{ReadsPlain, Waiting, first_or, IsChain}
+use Rattle.cl_model.specs.States.{State, start, Entry, IsClass, Answer, settled_to, answer_to, IsFresh, Clashes, added, Need, Verdict, recorded, Violated, Met, AllMet, IsRecorded, MayAdd, Said, Wrong}
+use Rattle.cl_model.specs.Chains.{ReadsPlain, Waiting, first_or, stands_in, IsChain, NoneWaitsTwice, absent_of, EndsAtOnce}
 use Rattle.cl_model.specs.Service.{step_for, IsNextNeed, IsBegun, Serves, AllServed}
 use Rattle.cl_model.specs.Machine.{Setting, Scheduled, Step, Post, May, state_after, Run, Answers, IsClosed, IsSound, after, AnswersPlan, AnswersReference, IsPlan, HasLineage, IsResolution}
 
@@ -237,3 +237,19 @@ WaitingIsNext = (w : World) (s : State) (l : ℕ) (xs : List Waiting) (x : Waiti
 -- where what is looked for has no superclass, its own record is the need that comes next
 abbrev pub RootIsNext : Type 0
 RootIsNext = (w : World) (s : State) (l : ℕ) (xs : List Waiting) (at : Name) (f : File) → ReadsPlain w → IsChain w l xs at → HasFile w (class at l) f → f.super_name ≡ None → IsNextNeed w s (Load l (first_or xs at)) (Entry l at l)
+
+-- where what is looked for has no home, the load ends at once: the request's own class is not found, another not defined
+abbrev pub MissingStops : Type 0
+MissingStops = (w : World) (l : ℕ) (xs : List Waiting) (at : Name) → IsChain w l xs at → NoneWaitsTwice xs → home w l at ≡ None → EndsAtOnce w (Load l (first_or xs at)) (Wrong (absent_of xs (class at l)))
+
+-- where the bytes of what is looked for are not its class, the load ends at once in what is wrong with them
+abbrev pub FaultyStops : Type 0
+FaultyStops = (w : World) (l : ℕ) (xs : List Waiting) (at : Name) (e : Error) → IsChain w l xs at → NoneWaitsTwice xs → stands_in xs at ≡ false → home w l at ≡ Some l → file_of w (class at l) ≡ Err e → EndsAtOnce w (Load l (first_or xs at)) (Wrong e)
+
+-- where what is looked for waits already, the load ends at once in the circle, with it as its subject
+abbrev pub CircleStops : Type 0
+CircleStops = (w : World) (l : ℕ) (xs : List Waiting) (at : Name) → IsChain w l xs at → NoneWaitsTwice xs → stands_in xs at ≡ true → EndsAtOnce w (Load l (first_or xs at)) (Wrong (ClassCircularity (class at l)))
+
+-- a request whose plan ends at once is answered so in every state
+abbrev pub AnswersAtOnce : Type 0
+AnswersAtOnce = (g : Setting) (s : State) (r : Request) (v : Verdict) → EndsAtOnce g.world r v → AnswersPlan g s r v

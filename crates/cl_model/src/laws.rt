@@ -1,4 +1,4 @@
-ghost use Rattle.cl_model.specs.Laws.{HomeOfHome, GoodIsNotFailing, RunGoesOn, RecordsStay, MetStays, NeverViolated, OneAnswer, HigherDerives, AnswersStay, DerivedIsGood, RecordedIsMet, RunsAreClosed, GoodIsDerived, ErrorIsFailing, OneError, GoodGrows, FailsGrows, FailingIsDerived, ReturnIsCircular, ReturnGoesOn, CircleReturns, ReturnIsDerived, OneSubject, FailureIsNoCircle, OneDerivation, GoodIsAtHome, ComesOut, CircularReturns, CircularGoesOn, PlanExists, OnePlan, LineageExists, OneLineage, ResolutionExists, OneResolution, DerivedIsLineage, LineageIsDerived, SettledStay, PreparedStay, PostedStay, RequestAnswerStays, ReferenceAnswerStays, OneRequestAnswer, OneReferenceAnswer, RunsAreSound, StepIsSound, ClashViolates, ViolationClashes, RecordedLoadStands, RecordedAnswers, UnmetIsFresh, ServiceGoesOn, ServiceIsWhole, ServicesGoOn, WaitingIsNext, RootIsNext};
+ghost use Rattle.cl_model.specs.Laws.{HomeOfHome, GoodIsNotFailing, RunGoesOn, RecordsStay, MetStays, NeverViolated, OneAnswer, HigherDerives, AnswersStay, DerivedIsGood, RecordedIsMet, RunsAreClosed, GoodIsDerived, ErrorIsFailing, OneError, GoodGrows, FailsGrows, FailingIsDerived, ReturnIsCircular, ReturnGoesOn, CircleReturns, ReturnIsDerived, OneSubject, FailureIsNoCircle, OneDerivation, GoodIsAtHome, ComesOut, CircularReturns, CircularGoesOn, PlanExists, OnePlan, LineageExists, OneLineage, ResolutionExists, OneResolution, DerivedIsLineage, LineageIsDerived, SettledStay, PreparedStay, PostedStay, RequestAnswerStays, ReferenceAnswerStays, OneRequestAnswer, OneReferenceAnswer, RunsAreSound, StepIsSound, ClashViolates, ViolationClashes, RecordedLoadStands, RecordedAnswers, UnmetIsFresh, ServiceGoesOn, ServiceIsWhole, ServicesGoOn, WaitingIsNext, RootIsNext, MissingStops, FaultyStops, CircleStops, AnswersAtOnce};
 
 /// A home is its own home.
 pub fn home_of_home()
@@ -278,4 +278,24 @@ pub fn waiting_is_next()
 /// Where what is looked for has no superclass, its own record is the need that comes next.
 pub fn root_is_next()
     ensures { RootIsNext }
+{}
+
+/// Where what is looked for has no home, the load ends at once: the request's own class is not found, another not defined.
+pub fn missing_stops()
+    ensures { MissingStops }
+{}
+
+/// Where the bytes of what is looked for are not its class, the load ends at once in what is wrong with them.
+pub fn faulty_stops()
+    ensures { FaultyStops }
+{}
+
+/// Where what is looked for waits already, the load ends at once in the circle.
+pub fn circle_stops()
+    ensures { CircleStops }
+{}
+
+/// A request whose plan ends at once is answered so in every state.
+pub fn answers_at_once()
+    ensures { AnswersAtOnce }
 {}

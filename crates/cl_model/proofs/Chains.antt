@@ -1,9 +1,11 @@
 -- The plan of a load whose class stands under a chain of superclasses: what is looked for, and then the chain from its end.
 use Rattle.std.proofs.Common.{◌≡◌, ◌⊎◌, inl, inr, ℕ, zero, suc, Bool, true, false, ◌==◌, ◌||◌, not, if◌then◌else◌, List, [], ◌∷◌, ◌++◌, map, Option, Some, None, Result, Ok, Err, refl, sym, ap, subst, ◌∙◌, append_assoc}
-use Rattle.std.specs.Prelude.{option_to_list}
+use Rattle.std.specs.Prelude.{option_to_list, filter_map}
 use Rattle.std.specs.List.{AllByRecursion}
 use Rattle.std.proofs.lemmas.Cmp.{nat_eq_equiv}
-use Rattle.cl_classfile.specs.Files.{Name, File, FileFault, same_name, is_public, is_interface}
+use Rattle.cl_classfile.specs.Structure.{Structure}
+use Rattle.cl_classfile.specs.Files.{Name, File, FileFault, same_name, has, is_public, is_interface, class_name}
+use Rattle.cl_classfile.specs.Files as files
 use Rattle.cl_model.specs.Homes.{World, home}
 use Rattle.cl_model.specs.declared.class.Class.{Class}
 use Rattle.cl_model.specs.Classes.{class, Error, ClassNotFound, NoClassDef, bytes_of, fault_of, named, read_found, file_of, Above, AsSuperclass, superclass_of, superinterfaces_of, supers, misfit, HasFile, Fitting, FitsAt, Good, IsGood}
@@ -278,3 +280,11 @@ next_root w s l xs at f plain c h none =
     let r = p.reached in
     let split : needs_of p.plan ≡ Entry l at l ∷ entries l xs = r.split ∙ ap (λ (ns : List Need). ns ++ entries l xs) (root_needs w r.height r.path t f r.below r.kin h none alone r.made r.ends) in
     record { plan = p.plan; planned = p.planned; next = subst (λ (ns : List Need). IsNext s ns (Entry l at l)) (sym split) (inl refl) }
+
+-- a file that was read as a public class without interfaces is plain
+pub narrow_plain : (f : Structure) → (let flags : ℕ = f.flags in flags) ≡ 33 → f.interfaces ≡ [] → IsPlain (files.file_of f)
+narrow_plain f flags alone = record {
+  public = ap (λ (x : ℕ). is_public x) flags;
+  of_class = ap (λ (x : ℕ). has x 512) flags;
+  alone = ap (λ (xs : List ℕ). filter_map (class_name f.pool) xs) alone;
+}

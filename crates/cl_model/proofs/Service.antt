@@ -91,6 +91,20 @@ begins_makes s (m ∷ ns) es ends v (inr (inr h)) a =
     let a-of : Answers (state_after t more) (m ∷ ns) ends v = subst (λ (x : State). Answers x (m ∷ ns) ends v) (ap (state_after s) h.1.1) a in
     inr (inr (h.0, (more, h.1.1, begins_makes t ns more ends v h.1.2 (past (state_after t more) m ns ends v (met_stays t more m (made_met s m h.0)) a-of))))
 
+split_front : (e d : Step) (xs ys more : List Step) → (e ∷ (xs ++ ys)) ≡ d ∷ more → (e ≡ d) × ((xs ++ ys) ≡ more)
+split_front e d xs ys more h = (cc, cc)
+
+-- a beginning of what needs make is a beginning
+pub part_begins : (s : State) (ns : List Need) (xs ys : List Step) → Makes s ns (xs ++ ys) → Begins s ns xs
+part_begins s [] [] ys h = refl
+part_begins s [] (e ∷ xs) ys h = absurd cc
+part_begins s (n ∷ ns) [] ys h = inl refl
+part_begins s (n ∷ ns) (e ∷ xs) ys (inl h) = inr (inl (h.0, part_begins s ns (e ∷ xs) ys h.1))
+part_begins s (n ∷ ns) (e ∷ xs) ys (inr (inl h)) = absurd (let none : (e ∷ (xs ++ ys)) ≡ [] = h.1 in cc)
+part_begins s (n ∷ ns) (e ∷ xs) ys (inr (inr h)) =
+    let front = split_front e (step_for n) xs ys h.1.0 h.1.1 in
+    inr (inr (h.0, (xs, ap (λ (d : Step). d ∷ xs) front.0, part_begins (after s (step_for n)) ns xs ys (subst (λ (es : List Step). Makes (after s (step_for n)) ns es) (sym front.1) h.1.2))))
+
 -- ---- a service
 
 pub begun_start : (w : World) (r : Request) (s : State) → IsBegun w r s []

@@ -209,10 +209,10 @@ load_along w l x xs at e n c once k =
 
 -- ---- plans
 
-abbrev stopped_plan : Made Kin → Error → Plan
+abbrev pub stopped_plan : Made Kin → Error → Plan
 stopped_plan m e = record { own = m.needs; more = []; asked = m.asked; reached = None; ends = Wrong e }
 
-stops : (w : World) (n l : ℕ) (name : Name) (m : Made Kin) (e : Error) → m.ends ≡ Err e → plan_from w n (Load l name) m ≡ Some (stopped_plan m e)
+pub stops : (w : World) (n l : ℕ) (name : Name) (m : Made Kin) (e : Error) → m.ends ≡ Err e → plan_from w n (Load l name) m ≡ Some (stopped_plan m e)
 stops w n l name m e h = at m.ends h
   where
     at : (r : Result Kin Error) → r ≡ Err e → (elim r as (λ x. Option Plan) [

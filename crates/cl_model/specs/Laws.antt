@@ -7,9 +7,9 @@ use Rattle.cl_model.specs.Classes.{class, Error, ClassCircularity, ClassNotFound
 use Rattle.cl_model.specs.Lineages.{Kin, IsLineage}
 use Rattle.cl_model.specs.Works.{Made}
 use Rattle.cl_model.specs.Plans.{derive, load, Load, Request, Plan}
-use Rattle.cl_model.specs.States.{State, start, Entry, IsClass, Answer, settled_to, answer_to, IsFresh, Clashes, added, Need, Verdict, recorded, Violated, Met, AllMet, IsRecorded, MayAdd, Said, Wrong}
+use Rattle.cl_model.specs.States.{State, start, Entry, IsClass, Answer, settled_to, answer_to, IsFresh, Clashes, added, Need, Verdict, recorded, Violated, Met, AllMet, IsRecorded, MayAdd, Said, Wrong, Linkage}
 use Rattle.cl_model.specs.Chains.{ReadsPlain, Waiting, first_or, stands_in, IsChain, NoneWaitsTwice, absent_of, EndsAtOnce}
-use Rattle.cl_model.specs.Service.{step_for, IsNextNeed, IsBegun, Serves, AllServed}
+use Rattle.cl_model.specs.Service.{step_for, Makes, Begins, IsNextNeed, IsBegun, Serves, AllServed}
 use Rattle.cl_model.specs.Machine.{Setting, Scheduled, Step, Post, May, state_after, Run, Answers, IsClosed, IsSound, after, AnswersPlan, AnswersReference, IsPlan, HasLineage, IsResolution}
 
 -- a home is its own home
@@ -253,3 +253,15 @@ CircleStops = (w : World) (l : ℕ) (xs : List Waiting) (at : Name) → IsChain 
 -- a request whose plan ends at once is answered so in every state
 abbrev pub AnswersAtOnce : Type 0
 AnswersAtOnce = (g : Setting) (s : State) (r : Request) (v : Verdict) → EndsAtOnce g.world r v → AnswersPlan g s r v
+
+-- a load is answered a circle only where its home is circular, of the class that its walk meets again
+abbrev pub CircleIsAnswered : Type 0
+CircleIsAnswered = (g : Setting) (s : State) (l : ℕ) (name : Name) (x : Class) → AnswersPlan g s (Load l name) (Wrong (ClassCircularity x)) → (place : ℕ) × (home g.world l name ≡ Some place) × Returns g.world [] (class name place) x
+
+-- a load whose home is circular is answered so, unless a need before is refused
+abbrev pub CircularIsAnswered : Type 0
+CircularIsAnswered = (g : Setting) (s : State) (l place : ℕ) (name : Name) (x : Class) (v : Verdict) → home g.world l name ≡ Some place → Returns g.world [] (class name place) x → AnswersPlan g s (Load l name) v → (v ≡ Wrong (ClassCircularity x)) ⊎ ((n : Need) × (v ≡ Linkage n))
+
+-- a beginning of what needs make is a beginning
+abbrev pub PartBegins : Type 0
+PartBegins = (s : State) (ns : List Need) (xs ys : List Step) → Makes s ns (xs ++ ys) → Begins s ns xs

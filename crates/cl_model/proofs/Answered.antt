@@ -1,5 +1,5 @@
 -- A load is answered a circle exactly where its home is circular, needs that are refused aside.
-use Rattle.std.proofs.Common.{◌≡◌, ◌⊎◌, inl, inr, ℕ, List, [], ◌∷◌, ◌++◌, Option, Some, None, Result, Ok, Err, refl, sym, ap, subst, ◌∙◌}
+use Rattle.std.proofs.Common.{◌≡◌, ◌⊎◌, inl, inr, ℕ, List, [], ◌∷◌, ◌++◌, Option, Some, None, Result, Ok, Err, refl, sym, ap, ◌∙◌}
 use Rattle.std.specs.Prelude.{option_and_then}
 use Rattle.cl_classfile.specs.Files.{Name}
 use Rattle.cl_model.specs.Homes.{World, home}
@@ -7,10 +7,9 @@ use Rattle.cl_model.specs.declared.class.Class.{Class}
 use Rattle.cl_model.specs.Classes.{class, Error, ClassNotFound, ClassCircularity, Returns}
 use Rattle.cl_model.specs.Lineages.{Kin}
 use Rattle.cl_model.specs.States.{State, Need, Verdict, IsClass, Wrong, Linkage}
-use Rattle.cl_model.specs.Works.{Work, Made}
+use Rattle.cl_model.specs.Works.{Made}
 use Rattle.cl_model.specs.Plans.{derive, load, Request, Load, Plan, plan_from, needs_of}
 use Rattle.cl_model.specs.Machine.{Setting, Answers, AnswersPlan, IsPlan}
-use Rattle.cl_model.proofs.Bind.{Ends}
 use Rattle.cl_model.proofs.Obstacles.{load_err}
 use Rattle.cl_model.proofs.Circles.{load_ill, circle_returns, return_is_derived}
 use Rattle.cl_model.proofs.Planned.{one_plan}
@@ -55,13 +54,13 @@ pub circle_is_answered : (g : Setting) (s : State) (l : ℕ) (name : Name) (x : 
 circle_is_answered g s l name x a = elim (end_or_refused s (needs_of a.plan) a.plan.ends (Wrong (ClassCircularity x)) a.answered) [
   | inr h ↦ absurd (let e : Wrong (ClassCircularity x) ≡ Linkage h.0 = h.1 in cc)
   | inl h ↦
-    let w = g.world in
-    let n = a.planned.height in
-    let m = load_of w n (Load l name) (load w n ClassNotFound l name) a.plan a.planned.planned in
-    elim (load_err w (derive w n []) ClassNotFound l name m.0 (ClassCircularity x) m.1 (load_wrong w n l name m.0 a.plan (ClassCircularity x) m.2 (sym h))) [
-      | inl k ↦ absurd (not_circle (class name l) x k.1)
-      | inr k ↦ (k.place, k.found, circle_returns w n [] (class name k.place) k.below x k.made k.ends)
-    ]
+      let w = g.world in
+      let n = a.planned.height in
+      let m = load_of w n (Load l name) (load w n ClassNotFound l name) a.plan a.planned.planned in
+      elim (load_err w (derive w n []) ClassNotFound l name m.0 (ClassCircularity x) m.1 (load_wrong w n l name m.0 a.plan (ClassCircularity x) m.2 (sym h))) [
+        | inl k ↦ absurd (not_circle (class name l) x k.1)
+        | inr k ↦ (k.place, k.found, circle_returns w n [] (class name k.place) k.below x k.made k.ends)
+      ]
 ]
 
 pub circular_is_answered : (g : Setting) (s : State) (l place : ℕ) (name : Name) (x : Class) (v : Verdict) → home g.world l name ≡ Some place → Returns g.world [] (class name place) x → AnswersPlan g s (Load l name) v → (v ≡ Wrong (ClassCircularity x)) ⊎ ((n : Need) × (v ≡ Linkage n))

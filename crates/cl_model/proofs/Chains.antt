@@ -1,5 +1,5 @@
 -- The plan of a load whose class stands under a chain of superclasses: what is looked for, and then the chain from its end.
-use Rattle.std.proofs.Common.{◌≡◌, ◌⊎◌, inl, inr, ℕ, zero, suc, Bool, true, false, ◌==◌, ◌||◌, not, if◌then◌else◌, List, [], ◌∷◌, ◌++◌, map, Option, Some, None, Result, Ok, Err, refl, sym, ap, subst, ◌∙◌, append_assoc}
+use Rattle.std.proofs.Common.{◌≡◌, inl, inr, ℕ, zero, suc, Bool, true, false, ◌||◌, not, if◌then◌else◌, List, [], ◌∷◌, ◌++◌, map, Option, Some, None, Result, Ok, Err, refl, sym, ap, subst, ◌∙◌, append_assoc}
 use Rattle.std.specs.Prelude.{option_to_list, filter_map}
 use Rattle.std.specs.List.{AllByRecursion}
 use Rattle.std.proofs.lemmas.Cmp.{nat_eq_equiv}
@@ -8,11 +8,11 @@ use Rattle.cl_classfile.specs.Files.{Name, File, FileFault, same_name, has, is_p
 use Rattle.cl_classfile.specs.Files as files
 use Rattle.cl_model.specs.Homes.{World, home}
 use Rattle.cl_model.specs.declared.class.Class.{Class}
-use Rattle.cl_model.specs.Classes.{class, Error, ClassNotFound, NoClassDef, bytes_of, fault_of, named, read_found, file_of, Above, AsSuperclass, superclass_of, superinterfaces_of, supers, misfit, HasFile, Fitting, FitsAt, Good, IsGood}
-use Rattle.cl_model.specs.Lineages.{Forest, Bare, Kin}
-use Rattle.cl_model.specs.States.{State, Need, Entry, Verdict, IsClass, Met, AllMet, IsNext, IsRecorded}
+use Rattle.cl_model.specs.Classes.{class, Error, ClassNotFound, NoClassDef, bytes_of, named, read_found, file_of, Above, AsSuperclass, superclass_of, superinterfaces_of, supers, HasFile, Fitting, FitsAt, Good, IsGood}
+use Rattle.cl_model.specs.Lineages.{Forest, Kin}
+use Rattle.cl_model.specs.States.{State, Need, Entry, IsClass, AllMet, IsNext, IsRecorded}
 use Rattle.cl_model.specs.Works.{Work, Made}
-use Rattle.cl_model.specs.Plans.{initiating, loads_above, derive, load, Request, Load, Plan, needs_of}
+use Rattle.cl_model.specs.Plans.{initiating, loads_above, derive, load, Load, Plan, needs_of}
 use Rattle.cl_model.specs.Machine.{IsPlan, IsClosed}
 use Rattle.cl_model.specs.Service.{IsNextNeed}
 use Rattle.cl_model.specs.Chains.{IsPlain, ReadsPlain, Waiting, first_or, IsLink, IsChain}
@@ -105,9 +105,15 @@ good_up w l plain (x ∷ xs) at c h g =
     let above = first_or xs at in
     let up = good_up w l plain xs at c.1 h g in
     let p = file_plain w plain (class x.name l) x.file c.0.has_file in
-    let all = supers_two x.file (up_to above ∷ []) (one_above x.file above c.0.superclass) (none_beside x.file p.alone) in
-    (suc up.0, (x.file, c.0.has_file, subst (λ (ys : List Above). AllByRecursion (FitsAt w (class x.name l) (Good w up.0)) ys) (sym all)
-      (record { place = l; found = home_first w l xs at c.1 h; holds = (up.1, plain_fits w plain up.0 (class x.name l) (class above l) up.1) }, tt)))
+    let all = supers_two x.file (up_to above ∷ []) (one_above x.file above c.0.superclass) (none_beside x.file p.alone) in (
+      suc up.0,
+      (
+        x.file,
+        c.0.has_file,
+        subst (λ (ys : List Above). AllByRecursion (FitsAt w (class x.name l) (Good w up.0)) ys) (sym all)
+            (record { place = l; found = home_first w l xs at c.1 h; holds = (up.1, plain_fits w plain up.0 (class x.name l) (class above l) up.1) }, tt),
+      ),
+    )
 
 -- ---- what a derivation along a chain needs
 
@@ -210,8 +216,8 @@ load_well w n l absent name m h good e =
     at (Err z) r x y p q = elim (load_err w (derive w n []) absent l name m z e r) [
       | inl i ↦ absurd (no_home (home w l name) i.0 h)
       | inr i ↦
-        let made : derive w n [] (class name l) ≡ Some i.below = subst (λ (u : ℕ). derive w n [] (class name u) ≡ Some i.below) (some_place (sym i.found ∙ h)) i.made in
-        absurd (ok_not_err y z i.below.ends (ap (λ (u : Made Kin). u.ends) (one_derivation w n good.0 [] (class name l) i.below x made p) ∙ q) i.ends)
+          let made : derive w n [] (class name l) ≡ Some i.below = subst (λ (u : ℕ). derive w n [] (class name u) ≡ Some i.below) (some_place (sym i.found ∙ h)) i.made in
+          absurd (ok_not_err y z i.below.ends (ap (λ (u : Made Kin). u.ends) (one_derivation w n good.0 [] (class name l) i.below x made p) ∙ q) i.ends)
     ]
 
 -- the plan of a load along a chain

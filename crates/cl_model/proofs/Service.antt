@@ -1,14 +1,14 @@
 -- Serving: one made need more, an answer, and one request after another.
-use Rattle.std.proofs.Common.{◌≡◌, ◌⊎◌, inl, inr, ℕ, zero, suc, ◌+◌, Bool, true, false, ◌==◌, if◌then◌else◌, List, [], ◌∷◌, ◌++◌, length, Option, Some, None, refl, sym, ap, subst, ◌∙◌, arith, append_assoc}
+use Rattle.std.proofs.Common.{◌≡◌, inl, inr, ℕ, suc, ◌+◌, Bool, true, false, ◌==◌, if◌then◌else◌, List, [], ◌∷◌, ◌++◌, length, Option, Some, None, refl, sym, ap, subst, ◌∙◌, arith, append_assoc}
 use Rattle.std.proofs.lemmas.Bool.{eqb-true}
 use Rattle.cl_classfile.specs.Files.{Name}
 use Rattle.cl_model.specs.Homes.{World}
 use Rattle.cl_model.specs.Classes.{class}
-use Rattle.cl_model.specs.States.{State, Need, Entry, Equal, Verdict, Answer, Said, OutOfMemory, SourceFault, recorded, Met, Refused, MayAdd, Clashes, AllMet, IsNext, added}
+use Rattle.cl_model.specs.States.{State, Need, Entry, Equal, Verdict, Answer, Said, recorded, Met, MayAdd, IsNext}
 use Rattle.cl_model.specs.Plans.{Request, Plan, needs_of}
-use Rattle.cl_model.specs.Machine.{Setting, Scheduled, Step, Define, Initiate, Constrain, Post, IsPlan, Answers, AnswersPlan, after, state_after}
-use Rattle.cl_model.specs.Service.{step_for, Makes, Begins, IsNextNeed, IsSaid, IsFailure, IsBrokenOff, Serves, IsBegun, AllServed}
-use Rattle.cl_model.proofs.Runs.{met_stays, after_later, met_later, joined_self, joined_link, last_linked, record_found}
+use Rattle.cl_model.specs.Machine.{Setting, Scheduled, Step, Define, Initiate, Constrain, Post, Answers, AnswersPlan, after, state_after}
+use Rattle.cl_model.specs.Service.{step_for, Makes, Begins, IsNextNeed, IsFailure, Serves, IsBegun, AllServed}
+use Rattle.cl_model.proofs.Runs.{met_stays, joined_self, joined_link, last_linked, record_found}
 use Rattle.cl_model.proofs.Planned.{plan_exists, one_plan}
 
 -- ---- a need that may be added is met once its step was made
@@ -153,7 +153,11 @@ serves_at g q p r s t es e f h = subst (λ (k : ℕ). Serves g k r t es) e (subs
 pub all_served_push : (g : Setting) (q p : ℕ) (s : State) (rs : List Scheduled) (r : Scheduled) (es more : List Step) → AllServed g q s rs es → Serves g p r.request (state_after s es) more → p ≡ q + length rs → AllServed g q s (rs ++ r ∷ []) (es ++ more)
 all_served_push g q p s [] r es more all one e =
     (more, [], ap (λ (l : List Step). l ++ more) all ∙ sym (append_nil more), serves_at g q p r.request (state_after s es) s more (omega arith) (ap (state_after s) all) one, refl)
-all_served_push g q p s (k ∷ rs) r es more all one e =
-    (all.0, all.1 ++ more, ap (λ (l : List Step). l ++ more) all.2 ∙ append_assoc all.0 all.1 more, all.3,
-      all_served_push g (suc q) p (state_after s all.0) rs r all.1 more all.4
-      (serves_at g p p r.request (state_after s es) (state_after (state_after s all.0) all.1) more refl (ap (state_after s) all.2 ∙ state_append s all.0 all.1) one) (omega arith))
+all_served_push g q p s (k ∷ rs) r es more all one e = (
+  all.0,
+  all.1 ++ more,
+  ap (λ (l : List Step). l ++ more) all.2 ∙ append_assoc all.0 all.1 more,
+  all.3,
+  all_served_push g (suc q) p (state_after s all.0) rs r all.1 more all.4
+      (serves_at g p p r.request (state_after s es) (state_after (state_after s all.0) all.1) more refl (ap (state_after s) all.2 ∙ state_append s all.0 all.1) one) (omega arith),
+)

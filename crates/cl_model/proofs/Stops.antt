@@ -1,25 +1,25 @@
 -- Loads along a chain that end ill: their plans need nothing, and end in what stops the chain.
-use Rattle.std.proofs.Common.{◌≡◌, ◌⊎◌, inl, inr, ℕ, zero, suc, Bool, true, false, ◌==◌, ◌&&◌, ◌||◌, List, [], ◌∷◌, ◌++◌, Option, Some, None, Result, Ok, Err, refl, sym, ap, subst, ◌∙◌, nat_eq, arith}
-use Rattle.std.specs.Prelude.{option_map, option_and_then}
+use Rattle.std.proofs.Common.{◌≡◌, inl, inr, ℕ, suc, Bool, true, false, ◌==◌, ◌&&◌, ◌||◌, List, [], ◌∷◌, ◌++◌, Option, Some, None, Result, Ok, Err, refl, sym, ap, subst, ◌∙◌, nat_eq, arith}
+use Rattle.std.specs.Prelude.{option_map}
 use Rattle.std.proofs.lemmas.Cmp.{nat_eq_equiv}
 use Rattle.std.proofs.lemmas.Bool.Decides.{nat_tests}
 use Rattle.cl_classfile.specs.Files.{Name, File, same_name}
 use Rattle.cl_model.specs.Homes.{World, home}
 use Rattle.cl_model.specs.declared.class.Class.{Class}
 use Rattle.cl_model.specs.Classes.{class, same_class, is_among, Error, ClassNotFound, NoClassDef, ClassCircularity, file_of, Above, superclass_of, HasFile}
-use Rattle.cl_model.specs.Lineages.{Forest, Kin}
+use Rattle.cl_model.specs.Lineages.{Kin}
 use Rattle.cl_model.specs.States.{State, Need, Verdict, IsClass, Wrong}
 use Rattle.cl_model.specs.Works.{Work, Made, Ask, ask, or_fail, of_result, after_made, go_on, ◌>>=◌}
-use Rattle.cl_model.specs.Plans.{load_by, loads_above, derive_new, derive, load, Request, Load, Plan, plan_from, needs_of}
-use Rattle.cl_model.specs.Machine.{Setting, Answers, AnswersPlan, IsPlan}
-use Rattle.cl_model.specs.Chains.{Waiting, first_or, stands_in, IsLink, IsChain, NoneWaitsTwice, absent_of, EndsAtOnce}
+use Rattle.cl_model.specs.Plans.{load_by, loads_above, derive_new, derive, load, Request, Load, Plan, plan_from}
+use Rattle.cl_model.specs.Machine.{Setting, Answers, AnswersPlan}
+use Rattle.cl_model.specs.Chains.{Waiting, first_or, stands_in, IsChain, NoneWaitsTwice, absent_of, EndsAtOnce}
 use Rattle.cl_model.proofs.Bind.{ok_same, err_same, ok_not_err}
 use Rattle.cl_model.proofs.Heights.{loaded, found, sought, checked, interfaces_next, superclass_next, circle_or}
-use Rattle.cl_model.proofs.Runs.{names_equal, and_is}
+use Rattle.cl_model.proofs.Runs.{names_equal}
 use Rattle.cl_model.proofs.Complete.{or_true}
 use Rattle.cl_model.proofs.Ending.{file_at_home}
 use Rattle.cl_model.proofs.Looks.{planned_at}
-use Rattle.cl_model.proofs.Chains.{up_to, one_above, append_nil, home_first}
+use Rattle.cl_model.proofs.Chains.{up_to, one_above, append_nil}
 
 -- ---- work without needs
 
@@ -197,9 +197,11 @@ walk_ill w l x [] at e path n c once apart k =
 walk_ill w l x (y ∷ ys) at e path n c once apart k =
     let t = class x.name l in
     let up = walk_ill w l y ys at e (t ∷ path) n c.1 once.1 (apart_more l path (y ∷ ys) x.name apart.1 once.0) k in
-    let own : home w l y.name ≡ Some l = file_at_home w (class y.name l) y.file c.1.0.has_file in
-    (suc up.0, pass_ill w up.0 path t e apart.0 (new_ill w (derive w up.0 (t ∷ path)) t x.file y.name e c.0.has_file c.0.superclass
-      (load_ill w (derive w up.0 (t ∷ path)) NoClassDef l y.name e own up.1)))
+    let own : home w l y.name ≡ Some l = file_at_home w (class y.name l) y.file c.1.0.has_file in (
+      suc up.0,
+      pass_ill w up.0 path t e apart.0 (new_ill w (derive w up.0 (t ∷ path)) t x.file y.name e c.0.has_file c.0.superclass
+          (load_ill w (derive w up.0 (t ∷ path)) NoClassDef l y.name e own up.1)),
+    )
 
 load_along : (w : World) (l : ℕ) (x : Waiting) (xs : List Waiting) (at : Name) (e : Error) (n : ℕ) → IsChain w l (x ∷ xs) at → NoneWaitsTwice (x ∷ xs)
     → EndsIll (load_by w (derive w n (along l (x ∷ xs) [])) NoClassDef l at) e → (h : ℕ) × EndsIll (load w h ClassNotFound l x.name) e

@@ -1,6 +1,6 @@
 -- Superclass chains at one loader: what waits for its superclass while a class is derived (JVMS SE 8, 5.3.5).
-use Rattle.std.specs.Prelude.{◌≡◌, ℕ, Bool, true, false, ◌||◌, List, [], ◌∷◌, map, Some, None, Ok}
-use Rattle.cl_classfile.specs.Files.{Name, File, FileFault, same_name, is_public, is_interface}
+use Rattle.std.specs.Prelude.{◌≡◌, ℕ, Bool, true, false, ◌||◌, List, [], ◌∷◌, Some, Ok}
+use Rattle.cl_classfile.specs.Files.{Name, File, same_name, is_public, is_interface}
 use Rattle.cl_model.specs.Homes.{World}
 use Rattle.cl_model.specs.declared.class.Class.{Class}
 use Rattle.cl_model.specs.Classes.{class, Error, ClassNotFound, NoClassDef, HasFile}

@@ -3,7 +3,7 @@ use Rattle.std.specs.Prelude.{◌≡◌, ℕ, suc, ◌+◌, true, false, List, [
 use Rattle.cl_classfile.specs.Files.{Name, File}
 use Rattle.cl_model.specs.Homes.{World, home}
 use Rattle.cl_model.specs.declared.class.Class.{Class}
-use Rattle.cl_model.specs.Classes.{class, Error, ClassCircularity, ClassNotFound, file_of, HasFile, IsAtHome, Good, IsGood, Fails, Circular, Next, Returns}
+use Rattle.cl_model.specs.Classes.{class, Error, ClassCircularity, file_of, HasFile, IsAtHome, Good, IsGood, Fails, Circular, Next, Returns}
 use Rattle.cl_model.specs.Lineages.{Kin, IsLineage}
 use Rattle.cl_model.specs.Works.{Made}
 use Rattle.cl_model.specs.Plans.{derive, load, Load, Request, Plan}

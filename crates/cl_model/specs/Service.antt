@@ -1,6 +1,5 @@
 -- Requests served one after another: what a history holds of each (JVMS SE 8, 5.3 to 5.4).
 use Rattle.std.specs.Prelude.{◌≡◌, ◌⊎◌, ℕ, suc, ◌==◌, if◌then◌else◌, List, [], ◌∷◌, ◌++◌}
-use Rattle.cl_classfile.specs.Files.{Name}
 use Rattle.cl_model.specs.Classes.{class}
 use Rattle.cl_model.specs.Homes.{World}
 use Rattle.cl_model.specs.States.{State, Need, Entry, Equal, Verdict, Answer, Said, OutOfMemory, SourceFault, Met, Refused, MayAdd, IsNext}

@@ -1,12 +1,13 @@
 -- Serving: one made need more, an answer, and one request after another.
 use Rattle.std.proofs.Common.{◌≡◌, inl, inr, ℕ, suc, ◌+◌, Bool, true, false, ◌==◌, if◌then◌else◌, List, [], ◌∷◌, ◌++◌, length, Option, Some, None, refl, sym, ap, subst, ◌∙◌, arith, append_assoc}
 use Rattle.std.proofs.lemmas.Bool.{eqb-true}
+use Rattle.std.proofs.lemmas.Cmp.{nat_eq_equiv}
 use Rattle.cl_classfile.specs.Files.{Name}
 use Rattle.cl_model.specs.Homes.{World}
 use Rattle.cl_model.specs.Classes.{class}
 use Rattle.cl_model.specs.States.{State, Need, Entry, Equal, Verdict, Answer, Said, recorded, Met, MayAdd, IsNext}
 use Rattle.cl_model.specs.Plans.{Request, Plan, needs_of}
-use Rattle.cl_model.specs.Machine.{Setting, Scheduled, Step, Define, Initiate, Constrain, Post, Answers, AnswersPlan, after, state_after}
+use Rattle.cl_model.specs.Machine.{Setting, Scheduled, Step, Define, Initiate, Constrain, Post, Answers, AnswersPlan, after, state_after, Run, May}
 use Rattle.cl_model.specs.Service.{step_for, Makes, Begins, IsNextNeed, IsFailure, Serves, IsBegun, AllServed}
 use Rattle.cl_model.proofs.Runs.{met_stays, joined_self, joined_link, last_linked, record_found}
 use Rattle.cl_model.proofs.Planned.{plan_exists, one_plan}
@@ -121,6 +122,24 @@ begun_push w r s es n b next may =
       planned = b.planned;
       begun = begins_push s (needs_of b.plan) es n b.begun (subst (λ (p : Plan). IsNext (state_after s es) (needs_of p) n) (one_plan w r next.plan b.plan next.planned b.planned) next.next) may;
     }
+
+-- the last step of a run may happen where it does
+pub run_last : (g : Setting) (s : State) (es : List Step) (e : Step) → Run g s (es ++ e ∷ []) → May g (state_after s es) e
+run_last g s [] e run = run.0
+run_last g s (d ∷ es) e run = run_last g (after s d) es e run.1
+
+-- of a run that goes on what comes after its first part is a run
+pub run_later_part : (g : Setting) (s : State) (xs ys : List Step) → Run g s (xs ++ ys) → Run g (state_after s xs) ys
+run_later_part g s [] ys run = run
+run_later_part g s (d ∷ xs) ys run = run_later_part g (after s d) xs ys run.1
+
+define_for : (l : ℕ) (name : Name) → step_for (Entry l name l) ≡ Define (class name l)
+define_for l name = rw (nat_eq_equiv.refl l) refl
+
+-- the same of a class's own record
+pub begun_define : (g : Setting) (r : Request) (s : State) (es : List Step) (l : ℕ) (name : Name) → IsBegun g.world r s es → IsNextNeed g.world (state_after s es) r (Entry l name l) → May g (state_after s es) (Define (class name l)) → IsBegun g.world r s (es ++ Define (class name l) ∷ [])
+begun_define g r s es l name b next may =
+    subst (λ (e : Step). IsBegun g.world r s (es ++ e ∷ [])) (define_for l name) (begun_push g.world r s es (Entry l name l) b next may.may_add)
 
 pub begun_said : (g : Setting) (q : ℕ) (r : Request) (s : State) (es : List Step) (v : Verdict) → IsBegun g.world r s es → AnswersPlan g (state_after s es) r v → Serves g q r s (es ++ Post q (Said v) ∷ [])
 begun_said g q r s es v b a =

@@ -1,9 +1,9 @@
 -- Looking at the entries of the pool one after the other.
-use Rattle.std.proofs.Common.{◌≡◌, ℕ, zero, suc, ◌-◌, ◌+◌, ◌≤◌, ◌<◌, Bool, true, false, cond, leb, List, [], ◌∷◌, ◌++◌, length, map, take, drop, get_or, Option, Some, None, unwrap_or, slice_get, Result, Ok, Err, refl, sym, ap, subst, ◌∙◌, append_assoc, add-one, arith}
+use Rattle.std.proofs.Common.{◌≡◌, ℕ, zero, suc, ◌+◌, ◌≤◌, ◌<◌, Bool, true, false, cond, leb, List, [], ◌∷◌, ◌++◌, length, map, take, drop, get_or, unwrap_or, Result, Ok, Err, refl, sym, ap, ◌∙◌, add-one, arith}
 use Rattle.std.proofs.Math.Seq.{drop-cons, take-suc}
 use Rattle.std.proofs.lemmas.List.{drop-map, take-map, take_all, map-append, length-drop, length-map, nil_from_length}
 use Rattle.std.proofs.lemmas.Bool.Decides.{nat_tests}
-use Rattle.cl_names.specs.Text.{IsModifiedUtf8, is_text}
+use Rattle.cl_names.specs.Text.{IsModifiedUtf8}
 use Rattle.cl_names.proofs.Texts.{test_of, test_of_none}
 use Rattle.cl_classfile.specs.declared.entry.Entry.{Entry}
 use Rattle.cl_classfile.specs.declared.entry.Entry.TheVariants.{Utf8, Class}
@@ -14,7 +14,7 @@ use Rattle.cl_classfile.specs.declared.fault.ReadError.TheVariants as errors
 use Rattle.cl_classfile.specs.declared.reading.RawEntry.{RawEntry}
 use Rattle.cl_classfile.specs.Raw.{plain_entry, plain_entries}
 use Rattle.cl_classfile.specs.Structure.{at}
-use Rattle.cl_classfile.specs.Checking.{◌>>=◌, Fails, is_class_text, names_class, keeps_entry, kept_entry, checked_entries}
+use Rattle.cl_classfile.specs.Checking.{Fails, is_class_text, names_class, keeps_entry, kept_entry, checked_entries}
 
 -- what the flags of the entries say at an index
 pub named : (pool : List Entry) (i : ℕ) → unwrap_or (at (map is_class_text pool) i) false ≡ names_class (at pool i)

@@ -7,10 +7,10 @@ use Rattle.cl_classfile.specs.declared.fault.Fault.{Fault}
 use Rattle.cl_classfile.specs.declared.fault.Fault.TheVariants.{Trailing}
 use Rattle.cl_classfile.specs.declared.fault.ReadError.{ReadError}
 use Rattle.cl_classfile.specs.declared.fault.ReadError.TheVariants as errors
-use Rattle.cl_classfile.specs.Structure.{Structure, spelling, Fits, Keeps, IsNarrow, IsClassFile, Spells}
-use Rattle.cl_classfile.specs.Checking.{◌>>=◌, Gives, checked_entries, checked_class, kept_file}
+use Rattle.cl_classfile.specs.Structure.{Structure, spelling, Fits, IsNarrow, IsClassFile, Spells}
+use Rattle.cl_classfile.specs.Checking.{Gives, checked_entries, checked_class, kept_file}
 use Rattle.cl_classfile.specs.Reading.{header_at, structure_at, whole_of, read_of}
-use Rattle.cl_classfile.proofs.Codec.{IsBytes, bind_ok, ok_is}
+use Rattle.cl_classfile.proofs.Codec.{IsBytes, bind_ok}
 use Rattle.cl_classfile.proofs.Spelled.{IsRead, structure}
 use Rattle.cl_classfile.proofs.Quiet.{is_header, in_header}
 use Rattle.cl_classfile.proofs.Tables.{tables_say, file_says, file_told}

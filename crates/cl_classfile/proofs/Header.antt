@@ -1,14 +1,12 @@
 -- The faults of the header, in the words of its bytes.
-use Rattle.std.proofs.Common.{◌≡◌, ◌≢◌, ◌⊎◌, ℕ, suc, ◌+◌, ◌-◌, ◌^◌, ◌<◌, ◌≤◌, Bool, true, false, cond, eqb, ltb, ◌&&◌, List, [], ◌∷◌, ◌++◌, length, take, drop, get_or, Result, Ok, Err, refl, sym, ap, subst, ◌∙◌, append_assoc, arith, inl, inr}
+use Rattle.std.proofs.Common.{◌≡◌, ◌≢◌, ◌⊎◌, ℕ, ◌^◌, ◌<◌, ◌≤◌, Bool, true, false, eqb, ltb, ◌&&◌, List, ◌++◌, length, take, drop, Ok, Err, refl, sym, ap, ◌∙◌, arith, inl, inr}
 use Rattle.std.specs.Int.{Width, w16, w32, byte_len, from_be_bytes, to_be_bytes}
 use Rattle.std.proofs.lemmas.Bool.{cases_lt, lt-ltb, le-ltb, eqb-true}
 use Rattle.std.proofs.lemmas.List.{take_at, length-drop}
-use Rattle.cl_classfile.specs.declared.fault.Fault.{Fault}
 use Rattle.cl_classfile.specs.declared.fault.Fault.TheVariants.{BadMagic, Version, Truncated}
 use Rattle.cl_classfile.specs.Structure.{magic, version, HasOtherMagic, HasOtherVersion}
-use Rattle.cl_classfile.specs.Checking.{◌>>=◌}
-use Rattle.cl_classfile.specs.Reading.{Reader, number_at, then_at, test_at, magic_at, version_at, header_at}
-use Rattle.cl_classfile.proofs.Codec.{both, IsBytes, IsBytes-drop, Takes, IsCodec, number16, number32, ok_is}
+use Rattle.cl_classfile.specs.Reading.{Reader, number_at, then_at, magic_at, version_at, header_at}
+use Rattle.cl_classfile.proofs.Codec.{both, IsBytes, IsBytes-drop, IsCodec, number16, number32, ok_is}
 use Rattle.cl_classfile.proofs.Spelled.{also}
 
 -- a number stands where there are bytes enough

@@ -1,10 +1,9 @@
 -- What is read has no interface, whatever is read.
-use Rattle.std.proofs.Common.{◌≡◌, ℕ, cond, eqb, List, [], length, Ok, Err, Result, sym, ap, subst, ◌∙◌}
-use Rattle.cl_classfile.specs.declared.fault.Fault.{Fault}
+use Rattle.std.proofs.Common.{◌≡◌, ℕ, cond, eqb, List, [], length, Ok, Err, sym, ap, subst, ◌∙◌}
 use Rattle.cl_classfile.specs.declared.fault.Fault.TheVariants.{Trailing, BadSupertype}
-use Rattle.cl_classfile.specs.Structure.{Structure, Member, Attribute}
+use Rattle.cl_classfile.specs.Structure.{Structure}
 use Rattle.cl_classfile.specs.Checking.{◌>>=◌, kept_file}
-use Rattle.cl_classfile.specs.Reading.{Reader, then_at, map_at, zero_at, header_at, pool_at, class_at, interfaces_at, tables_at, parts_at, structure_of, structure_at, whole_of, read_of, Parts}
+use Rattle.cl_classfile.specs.Reading.{Reader, then_at, zero_at, header_at, pool_at, class_at, interfaces_at, tables_at, parts_at, structure_of, structure_at, whole_of, read_of, Parts}
 use Rattle.cl_classfile.proofs.Codec.{bind_ok, ok_is}
 use Rattle.cl_classfile.proofs.Exact.{ended}
 use Rattle.cl_classfile.proofs.Tables.{file_says}

@@ -1,10 +1,10 @@
 -- The tests of the tables, and what they say.
-use Rattle.std.proofs.Common.{◌≡◌, ◌⊎◌, ℕ, zero, suc, ◌+◌, ◌<◌, ◌≤◌, ◌^◌, Bool, true, false, cond, eqb, leb, ◌&&◌, nat_eq, List, [], ◌∷◌, length, Option, Some, None, Result, Ok, Err, refl, sym, ap, subst, ◌∙◌, arith, inl, inr}
+use Rattle.std.proofs.Common.{◌≡◌, ◌⊎◌, ℕ, zero, suc, ◌+◌, Bool, true, false, cond, eqb, leb, nat_eq, List, [], ◌∷◌, length, Option, Some, None, Result, Ok, Err, refl, sym, ap, subst, ◌∙◌, arith, inl, inr}
 use Rattle.std.specs.Prelude.{is_some}
 use Rattle.std.specs.List.{AllByRecursion}
 use Rattle.std.specs.Cmp.Lexicographic.{pointwise, same_text}
 use Rattle.std.proofs.lemmas.Bool.{eqb-true, le-leb}
-use Rattle.cl_names.specs.Text.{IsModifiedUtf8, is_text}
+use Rattle.cl_names.specs.Text.{is_text}
 use Rattle.cl_names.specs.Kind.{IsNameOf, IsClass}
 use Rattle.cl_names.proofs.Texts.{text_from_test, test_of}
 use Rattle.cl_names.proofs.Grammars.{class_from_test, class_test_of}
@@ -12,9 +12,9 @@ use Rattle.cl_classfile.specs.declared.entry.Entry.{Entry}
 use Rattle.cl_classfile.specs.declared.entry.Entry.TheVariants.{Utf8, Class}
 use Rattle.cl_classfile.specs.declared.fault.Fault.{Fault}
 use Rattle.cl_classfile.specs.declared.fault.Fault.TheVariants.{BadPool, BadFlags, BadSupertype}
-use Rattle.cl_classfile.specs.Structure.{Structure, EntryFits, Fits, at, object, IsText, NamesClass, KeepsEntry, KeepsSuper, Keeps, IsNarrow, IsClassFile}
-use Rattle.cl_classfile.specs.Files.{text_of, text_at, class_of, class_name}
-use Rattle.cl_classfile.specs.Checking.{◌>>=◌, is_class_text, names_class, keeps_entry, kept_entry, checked_entries, keeps_super, keeps_supertypes, checked_class, kept_file}
+use Rattle.cl_classfile.specs.Structure.{Structure, EntryFits, Fits, at, object, NamesClass, KeepsEntry, KeepsSuper, Keeps}
+use Rattle.cl_classfile.specs.Files.{text_of, class_of, class_name}
+use Rattle.cl_classfile.specs.Checking.{◌>>=◌, names_class, keeps_entry, kept_entry, checked_entries, keeps_super, keeps_supertypes, checked_class, kept_file}
 use Rattle.cl_classfile.proofs.Codec.{bind_ok, ok_is, both}
 
 -- ---- an entry's row

@@ -1,14 +1,13 @@
 -- The whole grammar, read on lists: that each file has one spelling, and each spelling one file.
-use Rattle.std.proofs.Common.{◌≡◌, ℕ, ◌+◌, ◌^◌, ◌<◌, ◌≤◌, List, [], ◌∷◌, ◌++◌, length, Result, Ok, Err, refl, sym, ap, subst, ◌∙◌, append_assoc, arith}
-use Rattle.std.specs.Int.{Width, w16, w32, to_be_bytes}
-use Rattle.std.specs.List.{flat_map, AllByRecursion}
+use Rattle.std.proofs.Common.{◌≡◌, ℕ, ◌^◌, ◌<◌, List, [], ◌++◌, length, Ok, refl, sym, ap, subst, ◌∙◌, append_assoc, arith}
+use Rattle.std.specs.Int.{w16, w32, to_be_bytes}
+use Rattle.std.specs.List.{flat_map}
 use Rattle.std.proofs.lemmas.List.{append-nil}
-use Rattle.cl_classfile.specs.declared.fault.Fault.{Fault}
-use Rattle.cl_classfile.specs.Structure.{Structure, Member, Attribute, counted, pool_spelling, attribute_spelling, member_spelling, spelling, AllFit, AttributeFits, MemberFits, Fits, Spells}
+use Rattle.cl_classfile.specs.Structure.{Structure, Member, Attribute, counted, attribute_spelling, member_spelling, spelling, AllFit, AttributeFits, MemberFits, Fits, Spells}
 use Rattle.cl_classfile.specs.Checking.{◌>>=◌}
-use Rattle.cl_classfile.specs.Reading.{Reader, number_at, bytes_at, then_at, map_at, many_at, header_at, pool_at, class_at, Parts, structure_of}
-use Rattle.cl_classfile.proofs.Codec.{IsBytes, bind_ok, ok_is, Takes, Takes-then, IsCodec, number16, number32, bytes_of, mapped, many, EachFits, each_of_all, all_of_each}
-use Rattle.cl_classfile.proofs.Spelled.{also, sized_at, sized, HeaderFits, header_spelling, header, pool, ClassFits, class_spelling, class, parts_spelling, PartsFit, there, header_fits, parts_of}
+use Rattle.cl_classfile.specs.Reading.{Reader, number_at, then_at, map_at, many_at, header_at, pool_at, class_at, Parts, structure_of}
+use Rattle.cl_classfile.proofs.Codec.{bind_ok, ok_is, Takes, Takes-then, IsCodec, number16, number32, mapped, many, EachFits, each_of_all, all_of_each}
+use Rattle.cl_classfile.proofs.Spelled.{also, sized_at, sized, header, pool, class, parts_spelling, PartsFit, there, header_fits, parts_of}
 
 -- ---- counted structures
 

@@ -136,7 +136,8 @@ KeepsEntry pool (Class index) = (name : List ℕ) × IsText pool index name × I
 abbrev pub KeepsSuper : List Entry → List ℕ → ℕ → Type 0
 KeepsSuper pool name super = ((name ≡ object) × (super ≡ 0)) ⊎ ((name ≡ object → ⊥) × (above : List ℕ) × NamesClass pool super above)
 
--- the file keeps the tables
+-- the file keeps the tables of entries, this_class and super_class; within the bound below those of flags,
+-- interfaces and members ask for nothing more
 pub record Keeps (f : Structure) : Type 0 where
   pub pool : AllByRecursion (KeepsEntry f.pool) f.pool
   pub name : List ℕ

@@ -1,5 +1,5 @@
 -- What holds of class names.
-use Rattle.std.proofs.Common.{◌≡◌, Bool, true, false, eqb, ◌&&◌, List, [], ◌∷◌, ◌++◌, ℕ, refl, subst, arith}
+use Rattle.std.proofs.Common.{◌≡◌, true, false, eqb, ◌&&◌, List, [], ◌∷◌, ◌++◌, ℕ, refl, subst, arith}
 use Rattle.std.specs.Prelude.{length, nat_le}
 use Rattle.std.specs.List.{AllByRecursion, list_all, slice_split, join_with_byte}
 use Rattle.std.proofs.lemmas.Bool.{and_parts}

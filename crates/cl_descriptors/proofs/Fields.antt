@@ -1,10 +1,11 @@
 -- What is read as a type is spelled so, and what is spelled so is read.
-use Rattle.std.proofs.Common.{◌≡◌, ◌⊎◌, inl, inr, ℕ, zero, suc, ◌+◌, ◌<◌, Bool, true, false, cond, not, eqb, List, [], ◌∷◌, ◌++◌, length, take, drop, replicate, Option, Some, None, refl, sym, ap, subst, ◌∙◌, append_assoc, add-one, arith}
-use Rattle.std.specs.Prelude.{codes, option_map, option_and_then, position}
+use Rattle.std.proofs.Common.{◌≡◌, inl, inr, ℕ, zero, suc, ◌+◌, ◌<◌, true, false, cond, not, eqb, List, [], ◌∷◌, ◌++◌, length, take, drop, replicate, Option, Some, None, refl, sym, ap, subst, ◌∙◌, append_assoc, add-one, arith}
+use Rattle.std.specs.Prelude.{codes, option_map, position}
 use Rattle.std.specs.List.{AllByRecursion}
 use Rattle.std.proofs.lemmas.Bool.{eqb-true, not-false}
 use Rattle.std.proofs.lemmas.List.{take_at, drop_at, take-append-drop, length-append, length-replicate}
-use Rattle.cl_names.specs.Kind.{is_class_name}
+use Rattle.cl_names.specs.Kind.{IsNameOf, IsClass, is_class_name}
+use Rattle.cl_names.proofs.Grammars.{class_from_test, class_test_of}
 use Rattle.cl_descriptors.specs.Types.{spelling_of_base, spelling_of_field, IsBase}
 use Rattle.cl_descriptors.specs.Reading.{base_of_letter, class_at, base_at, field_at}
 use Rattle.cl_descriptors.specs.declared.types.Base.{Base}
@@ -15,7 +16,7 @@ use Rattle.cl_descriptors.proofs.ClassNames.{no_semicolon}
 
 -- ---- class names
 
-class : IsCodec class_at (λ n. n ++ codes ";") (λ n. is_class_name n ≡ true)
+class : IsCodec class_at (λ n. n ++ codes ";") (λ n. IsNameOf IsClass n)
 unfolding class_at
 class = record {
   takes = λ bytes x e.
@@ -24,13 +25,13 @@ class = record {
       let f = position-is (λ b. eqb b 59) bytes a.0 a.1 in
       let mark : f.at ≡ 59 = eqb-true _ _ f.passes in
       let parts : bytes ≡ take a.0 bytes ++ 59 ∷ drop (a.0 + 1) bytes = f.parts ∙ ap (λ (y : ℕ). take a.0 bytes ++ y ∷ drop (suc a.0) bytes) mark ∙ ap (λ (n : ℕ). take a.0 bytes ++ 59 ∷ drop n bytes) (sym (add-one a.0)) in
-      subst (λ (y : List ℕ × List ℕ). (bytes ≡ (y.0 ++ codes ";") ++ y.1) × (is_class_name y.0 ≡ true)) g.1
-      (parts ∙ sym (append_assoc (take a.0 bytes) (59 ∷ []) (drop (a.0 + 1) bytes)), g.0);
+      subst (λ (y : List ℕ × List ℕ). (bytes ≡ (y.0 ++ codes ";") ++ y.1) × IsNameOf IsClass y.0) g.1
+      (parts ∙ sym (append_assoc (take a.0 bytes) (59 ∷ []) (drop (a.0 + 1) bytes)), class_from_test (take a.0 bytes) g.0);
   again = λ n rest fits.
-      let place : position (λ b. eqb b 59) ((n ++ 59 ∷ []) ++ rest) ≡ Some (length n) = ap (position (λ b. eqb b 59)) (append_assoc n (59 ∷ []) rest) ∙ position-at (λ b. eqb b 59) n 59 rest (no_semicolon n fits) refl in
+      let place : position (λ b. eqb b 59) ((n ++ 59 ∷ []) ++ rest) ≡ Some (length n) = ap (position (λ b. eqb b 59)) (append_assoc n (59 ∷ []) rest) ∙ position-at (λ b. eqb b 59) n 59 rest (no_semicolon n (class_test_of n fits)) refl in
       let front : take (length n) ((n ++ 59 ∷ []) ++ rest) ≡ n = ap (take (length n)) (append_assoc n (59 ∷ []) rest) ∙ take_at n (59 ∷ rest) (length n) refl in
       let back : drop (length n + 1) ((n ++ 59 ∷ []) ++ rest) ≡ rest = drop_at (n ++ 59 ∷ []) rest (length n + 1) (length-append n (59 ∷ [])) in
-      rw (place, front, back, fits) refl;
+      rw (place, front, back, class_test_of n fits) refl;
 }
 
 -- ---- bases

@@ -1,21 +1,17 @@
 -- Reading types one after the other, as a loop does.
-use Rattle.std.proofs.Common.{◌≡◌, ℕ, zero, suc, ◌+◌, ◌*◌, ◌<◌, ◌≤◌, Bool, true, false, cond, eqb, ◌&&◌, List, [], ◌∷◌, ◌++◌, length, Option, Some, None, refl, sym, ap, subst, ◌∙◌, append_assoc, arith}
-use Rattle.std.specs.Prelude.{flat_map, option_map, sum_by, replicate, codes}
-use Rattle.std.specs.List.{AllByRecursion, list_all}
+use Rattle.std.proofs.Common.{◌≡◌, ℕ, zero, suc, ◌+◌, ◌*◌, ◌<◌, ◌≤◌, Bool, true, false, cond, eqb, ◌&&◌, List, [], ◌∷◌, ◌++◌, length, Some, None, refl, sym, ap, ◌∙◌, append_assoc, arith}
+use Rattle.std.specs.Prelude.{sum_by}
+use Rattle.std.specs.List.{list_all}
 use Rattle.std.proofs.lemmas.Bool.{and_parts}
 use Rattle.std.proofs.lemmas.List.{append-nil, length-append}
-use Rattle.std.proofs.lemmas.List.Concat.{flat_map-cons}
 use Rattle.std.proofs.lemmas.List.Folds.{list_all-append}
 use Rattle.std.proofs.lemmas.List.Sums.{sum_by_push}
-use Rattle.cl_descriptors.specs.Types.{spelling_of_base, spelling_of_field, IsBase, is_shallow}
+use Rattle.cl_descriptors.specs.Types.{spelling_of_field, is_shallow}
 use Rattle.cl_descriptors.specs.Units.{units_of_base, units_of_field}
 use Rattle.cl_descriptors.specs.Reading.{field_at, types_at, all_types}
-use Rattle.cl_descriptors.specs.Pieces.{seen}
 use Rattle.cl_descriptors.specs.declared.types.Base.{Base}
-use Rattle.cl_descriptors.specs.declared.types.Base.TheVariants.{Byte, Char, Double, Float, Int, Long, Short, Boolean, Class}
+use Rattle.cl_descriptors.specs.declared.types.Base.TheVariants.{Double, Long}
 use Rattle.cl_descriptors.specs.declared.types.FieldType.{FieldType}
-use Rattle.cl_descriptors.specs.declared.piece.Piece.{Piece}
-use Rattle.cl_descriptors.proofs.Codec.{map_some}
 use Rattle.cl_descriptors.proofs.Fields.{field, spelling_is_some}
 
 -- ---- the steps

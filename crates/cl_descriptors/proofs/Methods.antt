@@ -1,11 +1,10 @@
 -- What is read as a method type is spelled so, and what is spelled so is read.
-use Rattle.std.proofs.Common.{◌≡◌, ◌⊎◌, inl, inr, ℕ, zero, suc, ◌+◌, ◌<◌, ◌≤◌, Bool, true, false, cond, not, eqb, ◌&&◌, List, [], ◌∷◌, ◌++◌, length, Option, Some, None, refl, sym, ap, subst, ◌∙◌, append_assoc, arith}
-use Rattle.std.specs.Prelude.{codes, flat_map, option_map, option_and_then, option_to_list, position}
+use Rattle.std.proofs.Common.{◌≡◌, inl, inr, ℕ, zero, suc, ◌≤◌, true, false, cond, not, eqb, List, [], ◌∷◌, ◌++◌, length, Option, Some, None, refl, sym, ap, subst, ◌∙◌, append_assoc, arith}
+use Rattle.std.specs.Prelude.{flat_map, option_map, option_to_list}
 use Rattle.std.specs.List.{AllByRecursion}
 use Rattle.std.proofs.lemmas.Bool.{eqb-true, and_parts}
 use Rattle.std.proofs.lemmas.List.{append-nil, nil_from_length, length-append}
-use Rattle.std.proofs.lemmas.List.Concat.{flat_map-cons}
-use Rattle.cl_descriptors.specs.Types.{spelling_of_base, spelling_of_field, spelling_of_return, spelling_of_method, types_of, IsBase, AreNamed, SpellsField, SpellsMethod}
+use Rattle.cl_descriptors.specs.Types.{spelling_of_field, spelling_of_return, IsBase, SpellsField, SpellsMethod}
 use Rattle.cl_descriptors.specs.Reading.{base_at, field_at, types_at, all_types, whole_field, whole_return, whole_method, is_void, closed_with}
 use Rattle.cl_descriptors.specs.declared.types.Base.{Base}
 use Rattle.cl_descriptors.specs.declared.types.Base.TheVariants.{Byte, Char, Double, Float, Int, Long, Short, Boolean, Class}

@@ -1,5 +1,5 @@
 -- What an answer says of the bytes.
-use Rattle.std.proofs.Common.{◌≡◌, ℕ, Bool, true, false, List, Option, Some, None, Result, Ok, Err, refl, sym, ap, subst, ◌∙◌}
+use Rattle.std.proofs.Common.{◌≡◌, ℕ, Bool, true, false, List, Option, Some, None, Result, Ok, Err, refl, ap, subst}
 use Rattle.std.specs.Prelude.{if◌then◌else◌}
 use Rattle.cl_descriptors.specs.Types.{SpellsField, SpellsMethod, is_shallow, are_shallow, is_short}
 use Rattle.cl_descriptors.specs.Reading.{whole_field, whole_method, within_field, within_method, field_of, method_of}

@@ -1,5 +1,5 @@
 -- Reading descriptors from left to right.
-use Rattle.std.specs.Prelude.{◌≡◌, ℕ, zero, suc, ◌+◌, ◌==◌, ◌&&◌, Bool, true, false, not, if◌then◌else◌, List, [], ◌∷◌, ◌++◌, length, take, drop, position, Option, Some, None, option_map, option_and_then, Result, Ok, Err}
+use Rattle.std.specs.Prelude.{ℕ, zero, suc, ◌+◌, ◌==◌, ◌&&◌, Bool, false, not, if◌then◌else◌, List, [], ◌∷◌, length, take, drop, position, Option, Some, None, option_map, option_and_then, Result, Ok, Err}
 use Rattle.cl_names.specs.Kind.{is_class_name}
 use Rattle.cl_descriptors.specs.Types.{is_shallow, are_shallow, is_short}
 use Rattle.cl_descriptors.specs.declared.types.Base.{Base}

@@ -1,7 +1,7 @@
 -- Types, how descriptors spell them, and the limits that they keep (JVMS SE 8, 4.3).
-use Rattle.std.specs.Prelude.{◌≡◌, ℕ, ◌≤◌, ◌==◌, Bool, IsTrue, nat_le, if◌then◌else◌, List, [], ◌∷◌, ◌++◌, replicate, codes, flat_map, filter_map, sum_by, Option, Some, None, option_to_list}
+use Rattle.std.specs.Prelude.{◌≡◌, ℕ, Bool, nat_le, List, ◌++◌, replicate, codes, flat_map, filter_map, Option, Some, None, option_to_list}
 use Rattle.std.specs.List.{AllByRecursion, list_all}
-use Rattle.cl_names.specs.Kind.{is_class_name}
+use Rattle.cl_names.specs.Kind.{IsNameOf, IsClass}
 use Rattle.cl_descriptors.specs.Units.{units_of_types}
 use Rattle.cl_descriptors.specs.declared.types.Base.{Base}
 use Rattle.cl_descriptors.specs.declared.types.Base.TheVariants.{Byte, Char, Double, Float, Int, Long, Short, Boolean, Class}
@@ -37,9 +37,9 @@ spelling_of_method m = codes "(" ++ (flat_map spelling_of_field m.params ++ (cod
 abbrev pub types_of : MethodType → List FieldType
 types_of m = option_to_list m.ret ++ m.params
 
--- what it names as a class is a class name
+-- what it names as a class is a class name (JVMS SE 8, 4.2.1)
 abbrev pub IsBase : Base → Type 0
-IsBase (Class name) = IsTrue (is_class_name name)
+IsBase (Class name) = IsNameOf IsClass name
 IsBase _ = Unit {0}
 
 -- so is each that a method type names

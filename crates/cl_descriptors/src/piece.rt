@@ -2,7 +2,7 @@
 
 ghost use Rattle.std.specs.Prelude.{◌≡◌, ◌==◌, ◌<◌, ◌≤◌, not, length, position, IsTrue, IfSome, IfOk, option_map};
 ghost use Rattle.cl_descriptors.specs.Reading.{base_of_letter, class_at, base_at, field_at, whole_field, whole_return};
-ghost use Rattle.cl_names.specs.Kind.{is_class_name};
+ghost use Rattle.cl_names.specs.Kind.{IsNameOf, IsClass};
 ghost use Rattle.cl_descriptors.specs.Types.{IsBase, is_shallow};
 ghost use Rattle.cl_descriptors.specs.Units.{units_of_field};
 ghost use Rattle.cl_descriptors.specs.Pieces.{seen, seen_base};
@@ -70,10 +70,10 @@ impl Head<'_> {
 
 /// The name in these bytes.
 fn class_name(alloc: Global, bytes: &[u8]) -> Result<Name, AllocError>
-    requires { IsTrue (is_class_name bytes.now) }
+    requires { IsNameOf IsClass bytes.now }
     ensures { IfOk result (λ name. name ≡ bytes.now) }
 {
-    match Name::any(alloc, bytes) {
+    match Name::class(alloc, bytes) {
         Ok(name) => Ok(name),
         Err(_) => Err(AllocError),
     }

@@ -135,3 +135,17 @@ fn named_classes(rt: HostRuntime) -> Result<(), Fail> {
     assert_eq!(rt; m.params.get(2).map(|t| t.dims), None);
     Ok(())
 }
+
+#[test]
+fn printed_faults(rt: HostRuntime) -> Result<(), Fail> {
+    let cases = [
+        (DescriptorFault::Memory, "D0 Memory"),
+        (DescriptorFault::Malformed, "D1 Malformed"),
+        (DescriptorFault::TooManyDimensions, "D2 TooManyDimensions"),
+        (DescriptorFault::TooManyUnits, "D3 TooManyUnits"),
+    ];
+    for (fault, text) in cases {
+        assert_eq!(rt; format!(in rt.alloc(); "{fault}")?.as_str(), text);
+    }
+    Ok(())
+}

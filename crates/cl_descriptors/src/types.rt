@@ -63,7 +63,7 @@ pub struct Params {
 }
 
 impl Model for Params {
-    ghost use Rattle.std.specs.Prelude.{List, sum_by, ◌≤◌};
+    ghost use Rattle.std.specs.Prelude.{List, ◌≤◌};
     ghost use Rattle.cl_descriptors.specs.declared.types.FieldType.{FieldType};
 
     ghost Value = { List FieldType };

@@ -1,9 +1,9 @@
 -- Work in two pieces: what it makes, and what it is made of.
-use Rattle.std.proofs.Common.{◌≡◌, ◌⊎◌, inl, inr, List, [], ◌∷◌, ◌++◌, Option, Some, None, Result, Ok, Err, refl, sym, ap, subst, ◌∙◌}
-use Rattle.std.specs.Prelude.{ℕ, option_map}
+use Rattle.std.proofs.Common.{◌≡◌, ◌⊎◌, inl, inr, List, [], ◌++◌, Option, Some, None, Result, Ok, Err, refl, sym, ap, subst, ◌∙◌}
+use Rattle.std.specs.Prelude.{option_map}
 use Rattle.cl_model.specs.Classes.{Error}
 use Rattle.cl_model.specs.States.{Need}
-use Rattle.cl_model.specs.Works.{Work, Made, Ask, need, ask, or_fail, unless_wrong, of_result, done, fail, after_made, go_on, ◌>>=◌}
+use Rattle.cl_model.specs.Works.{Work, Made, Ask, or_fail, unless_wrong, of_result, done, after_made, go_on, ◌>>=◌}
 
 pub some_same : {A : Type 0} (x y : A) → Some x ≡ Some y → x ≡ y
 some_same x y h = cc

@@ -5,8 +5,8 @@ use Rattle.cl_classfile.specs.Files.{Name, File, FileFault, BadVersion, BadForma
 use Rattle.cl_model.specs.Homes.{World, home}
 use Rattle.cl_model.specs.declared.class.Class.{Class}
 use Rattle.cl_model.specs.Classes.{class, same_class, Error, Above, Role, is_among, NoClassDef, ClassCircularity, IncompatibleClassChange, IllegalAccess, bytes_of, read_found, named, file_of, misfit, class_accessible, is_fit, superclass_of, superinterfaces_of, supers, HasFile, AtHome, Fitting, FitsAt, Good, IsGood, FirstWrong, WrongAt, Fails, Circular, Next, IsWalk, Returns}
-use Rattle.cl_model.specs.Lineages.{Forest, Kin}
-use Rattle.cl_model.specs.Works.{Work, Made, ask, or_fail, unless_wrong, of_result, ◌>>=◌}
+use Rattle.cl_model.specs.Lineages.{Kin}
+use Rattle.cl_model.specs.Works.{Work, Made, ask, or_fail, unless_wrong, of_result}
 use Rattle.cl_model.specs.Plans.{load_by, loads_above, derive_new, derive}
 use Rattle.cl_model.proofs.Bind.{Ends, then_ends, ill_ends, at_once, or_fail_ends, unless_ends, some_same}
 use Rattle.cl_model.proofs.Heights.{loaded, found, sought, grown, others_after, checked, finished, interfaces_next, superclass_next}
@@ -154,11 +154,13 @@ one_height w c P [] h = absurd h
 one_height w c P (a ∷ others) (inl h) = (zero, inl h)
 one_height w c P (a ∷ others) (inr h) =
     let rest = one_height w c P others h.1 in
-    let both = above_both h.0.holds.0.0 rest.0 in
-    (both.top, inr (
-      record { place = h.0.place; found = h.0.found; holds = (good_upto w (class a.name h.0.place) h.0.holds.0.0 both.top both.one h.0.holds.0.1, h.0.holds.1) },
-      first_map (FitsAt w c (Good w rest.0)) (FitsAt w c (Good w both.top)) P P (fits_map w c (Good w rest.0) (Good w both.top) (λ s g. good_upto w s rest.0 both.top both.other g)) (λ b k. k) others rest.1,
-    ))
+    let both = above_both h.0.holds.0.0 rest.0 in (
+      both.top,
+      inr (
+        record { place = h.0.place; found = h.0.found; holds = (good_upto w (class a.name h.0.place) h.0.holds.0.0 both.top both.one h.0.holds.0.1, h.0.holds.1) },
+        first_map (FitsAt w c (Good w rest.0)) (FitsAt w c (Good w both.top)) P P (fits_map w c (Good w rest.0) (Good w both.top) (λ s g. good_upto w s rest.0 both.top both.other g)) (λ b k. k) others rest.1,
+      ),
+    )
 
 -- no class of the path is good, so what may end well or at one of them ends well
 abbrev NoneGood : World → List Class → Type 0
@@ -194,8 +196,8 @@ new_ill w n path d e s none good tells end c f hf h =
     (elim (wrong_split (FitsAt w c (Good w n)) (IsThere w c s) (superclass_of f) (superinterfaces_of f) h) [
       | inl k ↦ ill_ends (loads_above w d c (superclass_of f)) (interfaces_next w d c f) e (above_ill w n path d e s none good tells end c (superclass_of f) k)
       | inr k ↦ (let up = well w n path (loads_above w d c (superclass_of f)) none (above_either w n n path d good tells c (superclass_of f) k.0) in
-        then_ends (loads_above w d c (superclass_of f)) (interfaces_next w d c f) up.0 (Err e) up.1
-        (ill_ends (loads_above w d c (superinterfaces_of f)) (finished c f up.0) e (above_ill w n path d e s none good tells end c (superinterfaces_of f) k.1)))
+          then_ends (loads_above w d c (superclass_of f)) (interfaces_next w d c f) up.0 (Err e) up.1
+          (ill_ends (loads_above w d c (superinterfaces_of f)) (finished c f up.0) e (above_ill w n path d e s none good tells end c (superinterfaces_of f) k.1)))
     ])
 
 ends_higher : (w : World) (path : List Class) (c : Class) (e : Error) (h n : ℕ) → Upto h n → Ends (derive w h path c) (Err e) → Ends (derive w n path c) (Err e)
@@ -208,15 +210,17 @@ walk_ends w (s ∷ ss) path c x here walk =
     let below = walk_ends w ss (c ∷ path) s x on walk.2 in
     let level = one_height w c (IsThere w c s) (supers walk.1.0) walk.1.2 in
     let both = above_both below.0 level.0 in
-    let n = both.top in
-    (suc n, passed w n path c (Err (ClassCircularity x)) walk.0
-      (new_ill w n (c ∷ path) (derive w n (c ∷ path)) (ClassCircularity x) s
-        (λ y h a g. none w ss (c ∷ path) s x on walk.2 y h a g)
-        (λ t g. all_either w n n (c ∷ path) t (upto_self n) g)
-        (λ t m k p q. let z = derive_yields w n (c ∷ path) t m k p q in (z.1, z.2))
-        (ends_higher w (c ∷ path) s (ClassCircularity x) below.0 n both.one below.1)
-        c walk.1.0 walk.1.1
-        (first_map (FitsAt w c (Good w level.0)) (FitsAt w c (Good w n)) (IsThere w c s) (IsThere w c s) (fits_map w c (Good w level.0) (Good w n) (λ t g. good_upto w t level.0 n both.other g)) (λ b k. k) (supers walk.1.0) level.1)))
+    let n = both.top in (
+      suc n,
+      passed w n path c (Err (ClassCircularity x)) walk.0
+          (new_ill w n (c ∷ path) (derive w n (c ∷ path)) (ClassCircularity x) s
+          (λ y h a g. none w ss (c ∷ path) s x on walk.2 y h a g)
+          (λ t g. all_either w n n (c ∷ path) t (upto_self n) g)
+          (λ t m k p q. let z = derive_yields w n (c ∷ path) t m k p q in (z.1, z.2))
+          (ends_higher w (c ∷ path) s (ClassCircularity x) below.0 n both.one below.1)
+          c walk.1.0 walk.1.1
+          (first_map (FitsAt w c (Good w level.0)) (FitsAt w c (Good w n)) (IsThere w c s) (IsThere w c s) (fits_map w c (Good w level.0) (Good w n) (λ t g. good_upto w t level.0 n both.other g)) (λ b k. k) (supers walk.1.0) level.1)),
+    )
   where
     none : (v : World) (ts : List Class) (way : List Class) (t z : Class) → LeadsHere v way t → IsWalk v way t ts z → NoneGood v way
     none v ts way t z on w y zero a g = absurd g

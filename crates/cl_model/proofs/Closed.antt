@@ -29,7 +29,7 @@ some_is : {A : Type 0} {x y : A} → Some x ≡ Some y → x ≡ y
 some_is e = cc
 
 -- a supertype's record stands
-abbrev Stands : World → State → Class → Above → Type 0
+abbrev pub Stands : World → State → Class → Above → Type 0
 Stands w s c a = AtHome w c (λ t. Met s (Entry c.loader a.name t.loader)) a.name
 
 pub initiating_met : (s : State) (loader place : ℕ) (name : Name) (b : Bool) → Met s (Entry loader name place) → AllMet s ((if b then [] else Entry loader name place ∷ []) ++ [])
@@ -78,7 +78,7 @@ home_moved w loader place l p name n a b c h = subst (λ (x : ℕ). home w x n �
 record_moved : (rs : List Record) (place p : ℕ) (name n : Name) → name ≡ n → place ≡ p → recorded rs place name ≡ Some place → recorded rs p n ≡ Some p
 record_moved rs place p name n b c h = subst (λ (x : ℕ). recorded rs x n ≡ Some x) c (subst (λ (x : Name). recorded rs place x ≡ Some place) b h)
 
-own_moved : (s t : State) → IsLater s t → (loader place l p : ℕ) (name n : Name) → (loader ≡ place ⊎ (recorded s.records place name ≡ Some place)) → loader ≡ l → name ≡ n → place ≡ p → recorded t.records l n ≡ Some p → recorded t.records p n ≡ Some p
+pub own_moved : (s t : State) → IsLater s t → (loader place l p : ℕ) (name n : Name) → (loader ≡ place ⊎ (recorded s.records place name ≡ Some place)) → loader ≡ l → name ≡ n → place ≡ p → recorded t.records l n ≡ Some p → recorded t.records p n ≡ Some p
 own_moved s t later loader place l p name n (inl e) a b c h = subst (λ (x : ℕ). recorded t.records x n ≡ Some p) (sym a ∙ e ∙ c) h
 own_moved s t later loader place l p name n (inr q) a b c h = record_moved t.records place p name n b c (later.records place place name q)
 

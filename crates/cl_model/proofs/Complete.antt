@@ -1,6 +1,5 @@
 -- What is good is derived, whatever is met on the way.
-use Rattle.std.proofs.Common.{◌≡◌, ◌⊎◌, inl, inr, ℕ, zero, suc, Bool, true, false, ◌==◌, ◌||◌, List, [], ◌∷◌, Option, Some, None, Result, Ok, Err, refl, sym, ap, subst, ◌∙◌}
-use Rattle.std.specs.Prelude.{option_map}
+use Rattle.std.proofs.Common.{◌≡◌, ◌⊎◌, inl, inr, ℕ, zero, suc, Bool, true, false, ◌==◌, ◌||◌, List, [], ◌∷◌, Some, None, Result, Ok, Err, refl, sym, ap, subst, ◌∙◌}
 use Rattle.std.specs.List.{AllByRecursion}
 use Rattle.std.proofs.lemmas.Bool.{eqb-true}
 use Rattle.cl_classfile.specs.Files.{Name, File, same_name}
@@ -8,8 +7,8 @@ use Rattle.cl_model.specs.Homes.{World, home}
 use Rattle.cl_model.specs.declared.class.Class.{Class}
 use Rattle.cl_model.specs.Classes.{class, same_class, Error, Above, is_among, NoClassDef, ClassCircularity, file_of, misfit, superclass_of, superinterfaces_of, HasFile, Fitting, FitsAt, Good}
 use Rattle.cl_model.specs.Lineages.{Bare, Tree, Kin}
-use Rattle.cl_model.specs.States.{Need, Entry}
-use Rattle.cl_model.specs.Works.{Work, Made, Ask, done, need, ask, or_fail, unless_wrong, of_result, after_made, go_on, ◌>>=◌}
+use Rattle.cl_model.specs.States.{Entry}
+use Rattle.cl_model.specs.Works.{Work, Made, done, need, ask, or_fail, unless_wrong, of_result, ◌>>=◌}
 use Rattle.cl_model.specs.Plans.{initiating, load_by, loads_above, derive_new, derive}
 use Rattle.cl_model.proofs.Bind.{Ends, then_ends, ill_ends, at_once, or_fail_ends, unless_ends}
 use Rattle.cl_model.proofs.Heights.{Reaches, derive_reaches, loaded, found, sought, grown, others_after, checked, finished, interfaces_next, superclass_next, circle_or}

@@ -1,10 +1,10 @@
 -- Good and failing: never both, one error, and the same at greater heights.
-use Rattle.std.proofs.Common.{◌≡◌, ◌⊎◌, inl, inr, ℕ, zero, suc, List, [], ◌∷◌, Some, None, Result, Ok, Err, refl, sym, ap, subst, ◌∙◌}
+use Rattle.std.proofs.Common.{◌≡◌, inl, inr, ℕ, zero, suc, List, [], ◌∷◌, Some, None, Result, Ok, Err, sym, ap, subst, ◌∙◌}
 use Rattle.std.specs.List.{AllByRecursion}
 use Rattle.cl_classfile.specs.Files.{Name, File}
 use Rattle.cl_model.specs.Homes.{World}
 use Rattle.cl_model.specs.declared.class.Class.{Class}
-use Rattle.cl_model.specs.Classes.{class, Error, NoClassDef, Above, supers, file_of, HasFile, IsGood, misfit, AtHome, Fitting, FitsAt, Good, FirstWrong, WrongAt, Fails}
+use Rattle.cl_model.specs.Classes.{class, Error, Above, supers, misfit, AtHome, Fitting, FitsAt, Good, FirstWrong, WrongAt, Fails}
 
 some_is : {A : Type 0} {x y : A} → Some x ≡ Some y → x ≡ y
 some_is e = cc
@@ -88,10 +88,14 @@ pub fails_grows : (w : World) (n : ℕ) (c : Class) (e : Error) → Fails w n c 
 fails_grows w zero c e h = absurd h
 fails_grows w (suc n) c e h = elim h [
   | inl k ↦ inl k
-  | inr k ↦ inr (k.0, k.1, first_map (FitsAt w c (Good w n)) (FitsAt w c (Good w (suc n))) (WrongAt w c (Good w n) (λ s. Fails w n s e) e) (WrongAt w c (Good w (suc n)) (λ s. Fails w (suc n) s e) e)
-    (fits_map w c (Good w n) (Good w (suc n)) (good_grows w n))
-    (wrong_map w c (Good w n) (Good w (suc n)) (λ s. Fails w n s e) (λ s. Fails w (suc n) s e) e (good_grows w n) (λ s x. fails_grows w n s e x))
-    (supers k.0) k.2)
+  | inr k ↦ inr (
+    k.0,
+    k.1,
+    first_map (FitsAt w c (Good w n)) (FitsAt w c (Good w (suc n))) (WrongAt w c (Good w n) (λ s. Fails w n s e) e) (WrongAt w c (Good w (suc n)) (λ s. Fails w (suc n) s e) e)
+        (fits_map w c (Good w n) (Good w (suc n)) (good_grows w n))
+        (wrong_map w c (Good w n) (Good w (suc n)) (λ s. Fails w n s e) (λ s. Fails w (suc n) s e) e (good_grows w n) (λ s x. fails_grows w n s e x))
+        (supers k.0) k.2,
+  )
 ]
 
 -- ---- one error

@@ -1,6 +1,5 @@
 -- What derives to a lineage is good, and once its class is recorded all its needs are met.
-use Rattle.std.proofs.Common.{◌≡◌, ℕ, zero, suc, Bool, true, false, List, [], ◌∷◌, ◌++◌, Option, Some, None, Result, Ok, Err, refl, sym, ap, ◌∙◌}
-use Rattle.std.specs.Prelude.{option_map}
+use Rattle.std.proofs.Common.{◌≡◌, ℕ, zero, suc, Bool, true, false, List, [], ◌∷◌, ◌++◌, Some, None, Ok, sym, ap, ◌∙◌}
 use Rattle.std.specs.List.{AllByRecursion}
 use Rattle.cl_classfile.specs.Files.{Name, File}
 use Rattle.cl_model.specs.Homes.{World, home}
@@ -8,10 +7,22 @@ use Rattle.cl_model.specs.declared.class.Class.{Class}
 use Rattle.cl_model.specs.Classes.{class, Error, Above, is_among, NoClassDef, ClassCircularity, file_of, misfit, superclass_of, superinterfaces_of, HasFile, FitsAt, Good}
 use Rattle.cl_model.specs.Lineages.{Forest, Tree, Kin}
 use Rattle.cl_model.specs.States.{Need, Entry}
-use Rattle.cl_model.specs.Works.{Work, Made, done, need, ask, or_fail, unless_wrong, of_result, after_made, go_on, ◌>>=◌}
+use Rattle.cl_model.specs.Works.{Work, Made, done, need, ask, or_fail, unless_wrong, of_result}
 use Rattle.cl_model.specs.Plans.{initiating, load_by, loads_above, derive_new, derive}
-use Rattle.cl_model.proofs.Bind.{ok_same, Bound, bind_ok, ok_not_err, step_is, or_fail_ok, unless_ok, result_ok, done_is, needs_two}
+use Rattle.cl_model.proofs.Bind.{ok_same, bind_ok, ok_not_err, step_is, or_fail_ok, unless_ok, result_ok, done_is, needs_two}
 use Rattle.cl_model.proofs.Heights.{loaded, found, sought, grown, others_after, checked, finished, interfaces_next, superclass_next, circle_or}
+
+-- needs of a load, put together from its pieces
+load_needs : (m a b c d e f x : List Need) → m ≡ a ++ b → a ≡ [] → b ≡ c ++ d → c ≡ [] → d ≡ e ++ f → f ≡ x → m ≡ e ++ x
+load_needs m a b c d e f x p q r t u v = cc
+
+-- and those of the loads of supertypes
+above_needs : (m a b c d e f : List Need) → m ≡ a ++ b → b ≡ c ++ d → c ≡ [] → d ≡ e ++ f → f ≡ [] → m ≡ a ++ (e ++ [])
+above_needs m a b c d e f p q r t u = cc
+
+-- and those of a derivation
+new_needs : (m a b c d e f x : List Need) → m ≡ a ++ b → a ≡ [] → b ≡ c ++ d → d ≡ e ++ f → f ≡ x → m ≡ c ++ (e ++ x)
+new_needs m a b c d e f x p q r t u = cc
 
 -- a load that ends well
 pub record IsLoad (w : World) (d : Class → Work Kin) (loader : ℕ) (name : Name) (m : Made Kin) (k : Kin) : Type 0 where
@@ -40,9 +51,7 @@ load_ok w d absent loader name m k h e =
       below = derived.first;
       made = derived.made;
       ends = derived.ended ∙ ap (λ (x : Kin). Ok x) same.0;
-      needs = joined_needs m.needs asked.first.needs asked.second.needs asked.needs ((step_is _ asked.first asked.made).0)
-          ∙ joined_needs asked.second.needs at.first.needs at.second.needs at.needs place.1
-          ∙ derived.needs ∙ ap (λ (x : List Need). derived.first.needs ++ x) last;
+      needs = load_needs m.needs asked.first.needs asked.second.needs at.first.needs at.second.needs derived.first.needs derived.second.needs (initiating loader name at.value ++ []) asked.needs (step_is _ asked.first asked.made).0 at.needs place.1 derived.needs last;
     }
 
 -- the loads of supertypes that end well: the first, and those of the others
@@ -74,7 +83,7 @@ above_ok w d c a others m fs h e =
       made = rest.made;
       ends = rest.ended;
       grows = ok_same (Tree one.value.class one.value.file one.value.superclass one.value.interfaces rest.value) fs rest.second.ends (step_is _ rest.second rest.next).1 rest.ends;
-      needs = one.needs ∙ ap (λ (x : List Need). one.first.needs ++ x) (joined_needs one.second.needs test.first.needs test.second.needs test.needs fit.1 ∙ rest.needs ∙ ap (λ (x : List Need). rest.first.needs ++ x) ((step_is _ rest.second rest.next).0));
+      needs = above_needs m.needs one.first.needs one.second.needs test.first.needs test.second.needs rest.first.needs rest.second.needs one.needs test.needs fit.1 rest.needs (step_is _ rest.second rest.next).0;
     }
 
 -- a derivation that ends well
@@ -113,7 +122,7 @@ new_ok w d c m k h e =
       over_made = over.made;
       over_ends = over.ended;
       kin = same.0;
-      needs = joined_needs m.needs read.first.needs read.second.needs read.needs file.1 ∙ up.needs ∙ ap (λ (x : List Need). up.first.needs ++ x) (over.needs ∙ ap (λ (x : List Need). over.first.needs ++ x) tail);
+      needs = new_needs m.needs read.first.needs read.second.needs up.first.needs up.second.needs over.first.needs over.second.needs (Entry c.loader c.name c.loader ∷ []) read.needs file.1 up.needs over.needs tail;
     }
 
 circle_ok : (c : Class) (a : Work Kin) (t : Bool) (m : Made Kin) (k : Kin) → circle_or c a t ≡ Some m → m.ends ≡ Ok k → a ≡ Some m

@@ -1,30 +1,28 @@
 -- Over a finite content each derivation ends, and so does each plan; two heights that give one give the same.
-use Rattle.std.proofs.Common.{◌≡◌, ◌⊎◌, inl, inr, ℕ, zero, suc, ◌<◌, ◌≤◌, Bool, true, false, ◌==◌, ◌&&◌, ◌||◌, if◌then◌else◌, List, [], ◌∷◌, ◌++◌, Option, Some, None, Result, Ok, Err, refl, sym, ap, subst, ◌∙◌, arith, nat_eq}
-use Rattle.std.specs.Prelude.{option_map, option_and_then, flat_map}
+use Rattle.std.proofs.Common.{◌≡◌, ◌⊎◌, inl, inr, ℕ, zero, suc, ◌<◌, ◌≤◌, Bool, true, false, ◌==◌, ◌&&◌, ◌||◌, if◌then◌else◌, List, [], ◌∷◌, Option, Some, None, Result, Ok, Err, refl, sym, ap, subst, ◌∙◌, arith, nat_eq}
+use Rattle.std.specs.Prelude.{option_map}
 use Rattle.std.specs.Cmp.Lexicographic.{pointwise}
 use Rattle.std.proofs.lemmas.Bool.{eqb-true}
-use Rattle.cl_descriptors.specs.declared.types.FieldType.{FieldType}
-use Rattle.cl_classfile.specs.Files.{Name, File, FileFault, BadVersion, BadFormat, same_name, Key, Reference, ToClass, ToField, ToMethod, ToInterfaceMethod, reference, is_interface, element_name, letter}
+use Rattle.cl_classfile.specs.Files.{Name, File, same_name}
 use Rattle.cl_model.specs.Content.{Content, Stored, content_at}
 use Rattle.cl_model.specs.Homes.{World, home}
 use Rattle.cl_model.specs.declared.class.Class.{Class}
-use Rattle.cl_model.specs.Classes.{class, same_class, Error, Above, is_among, ClassNotFound, NoClassDef, ClassCircularity, NoSuchField, NoSuchMethod, IncompatibleClassChange, IllegalAccess, IsAtHome, is_own, bytes_of, read_found, named, file_of, misfit, class_accessible, superclass_of, superinterfaces_of, HasFile, Good, IsGood, Fails, Circular, Next, Returns}
-use Rattle.cl_model.specs.Lineages.{Forest, Bare, Kin, lineage, field_of, method_of, lookup_field, lookup_method, lookup_interface_method}
-use Rattle.cl_model.specs.Preparation.{constraints_of}
-use Rattle.cl_model.specs.States.{Need, Verdict, IsClass, IsLinked, IsField, IsMethod, ArrayMember, BadEntry, IsArrayOfBase}
-use Rattle.cl_model.specs.Works.{Work, Made, Ask, done, fail, need, ask, or_fail, unless_wrong, of_result, after_made, go_on, ◌>>=◌}
-use Rattle.cl_model.specs.Plans.{load_by, loads_above, derive_new, derive, load, initiating, resolve_class, resolve_found, resolve_field, resolve_method, resolve_member, member_target, resolve_reference, resolve, class_verdict, Request, Load, Resolve, Link, loaded_by, go_on_with, Plan, plan_after, plan_from, plan}
-use Rattle.cl_model.proofs.Bind.{Ends, at_once, some_same}
-use Rattle.cl_model.proofs.Heights.{Reaches, loaded, found, sought, grown, others_after, checked, finished, interfaces_next, superclass_next, circle_or, bind_reaches, then_reaches, first_reaches, load_reaches, derive_reaches}
+use Rattle.cl_model.specs.Classes.{class, same_class, Error, Above, is_among, NoClassDef, IsAtHome, is_own, bytes_of, read_found, file_of, misfit, superclass_of, superinterfaces_of, HasFile, Good, IsGood, Fails, Circular, Next, Returns}
+use Rattle.cl_model.specs.Lineages.{Kin}
+use Rattle.cl_model.specs.States.{Need}
+use Rattle.cl_model.specs.Works.{Work, Made, Ask, ask, or_fail, unless_wrong, of_result, after_made, go_on, ◌>>=◌}
+use Rattle.cl_model.specs.Plans.{load_by, loads_above, derive_new, derive}
+use Rattle.cl_model.proofs.Bind.{Ends, some_same}
+use Rattle.cl_model.proofs.Heights.{loaded, found, sought, grown, others_after, checked, finished, interfaces_next, superclass_next, circle_or}
 use Rattle.cl_model.proofs.Derived.{derive_yields}
-use Rattle.cl_model.proofs.Runs.{names_equal, and_is}
-use Rattle.cl_model.proofs.Complete.{Upto, is_class}
-use Rattle.cl_model.proofs.Circles.{return_next, upto_total}
+use Rattle.cl_model.proofs.Runs.{and_is}
+use Rattle.cl_model.proofs.Complete.{is_class}
+use Rattle.cl_model.proofs.Circles.{return_next}
 use Rattle.cl_model.proofs.Obstacles.{derive_err}
 
 -- ---- what has a file is at home, and in the content
 
-if_some : {A : Type 0} (b : Bool) (o : Option A) (x : A) → (if b then o else None) ≡ Some x → (b ≡ true) × (o ≡ Some x)
+pub if_some : {A : Type 0} (b : Bool) (o : Option A) (x : A) → (if b then o else None) ≡ Some x → (b ≡ true) × (o ≡ Some x)
 if_some true o x h = (refl, h)
 if_some false o x h = absurd cc
 

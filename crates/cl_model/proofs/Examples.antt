@@ -1,8 +1,8 @@
 -- What the examples' answers rest on.
-use Rattle.std.proofs.Common.{◌≡◌, ◌≢◌, inl, ℕ, List, [], ◌∷◌, Option, Some, None, refl, sym, subst, ◌∙◌, ◌<◌, arith}
+use Rattle.std.proofs.Common.{◌≡◌, ◌≢◌, ℕ, List, [], ◌∷◌, Option, Some, None, refl, sym, subst, ◌∙◌, ◌<◌, arith}
 use Rattle.std.specs.Prelude.{Contains}
 use Rattle.cl_classfile.specs.Files.{Name}
-use Rattle.cl_model.specs.States.{State, Entry, Equal, BadEntry, Refused, Equality, Linked, Joined, IsPath, Met, recorded}
+use Rattle.cl_model.specs.States.{State, Entry, Equal, BadEntry, Refused, Equality, Joined, IsPath, recorded}
 use Rattle.cl_model.specs.Plans.{Plan}
 
 -- a plan that computes

@@ -1,15 +1,15 @@
 -- Where a loader records a name, its whole load stands, and the class is the answer.
-use Rattle.std.proofs.Common.{◌≡◌, ◌⊎◌, inl, inr, ℕ, zero, suc, Bool, true, false, ◌==◌, if◌then◌else◌, List, [], ◌∷◌, ◌++◌, Option, Some, None, Result, Ok, Err, refl, sym, ap, subst, ◌∙◌}
-use Rattle.std.specs.Prelude.{option_map, option_and_then}
+use Rattle.std.proofs.Common.{◌≡◌, inl, inr, ℕ, ◌==◌, List, [], ◌∷◌, ◌++◌, Option, Some, None, Result, Ok, Err, refl, sym, ap, subst, ◌∙◌}
+use Rattle.std.specs.Prelude.{option_and_then}
 use Rattle.cl_classfile.specs.Files.{Name}
 use Rattle.cl_model.specs.Homes.{World, home}
 use Rattle.cl_model.specs.declared.class.Class.{Class}
-use Rattle.cl_model.specs.Classes.{class, Error, ClassNotFound, Good}
+use Rattle.cl_model.specs.Classes.{class, Error, ClassNotFound}
 use Rattle.cl_model.specs.Lineages.{Kin}
-use Rattle.cl_model.specs.States.{State, Record, Need, Entry, Verdict, IsClass, Wrong, Met, AllMet, recorded, IsRecorded, added}
-use Rattle.cl_model.specs.Works.{Work, Made}
-use Rattle.cl_model.specs.Plans.{initiating, derive, load, Request, Load, Plan, plan, plan_from, needs_of}
-use Rattle.cl_model.specs.Machine.{Setting, Answers, AnswersPlan, IsPlan, IsClosed}
+use Rattle.cl_model.specs.States.{State, Need, Entry, Verdict, IsClass, Wrong, Met, AllMet, recorded, IsRecorded}
+use Rattle.cl_model.specs.Works.{Made}
+use Rattle.cl_model.specs.Plans.{initiating, derive, load, Request, Load, Plan, plan_from}
+use Rattle.cl_model.specs.Machine.{Setting, Answers, AnswersPlan, IsClosed}
 use Rattle.cl_model.proofs.Bind.{ok_not_err, ok_same}
 use Rattle.cl_model.proofs.Derived.{load_ok}
 use Rattle.cl_model.proofs.Obstacles.{load_err}
@@ -38,22 +38,22 @@ load_stands w s n absent loader place name m closed h e =
   where
     at : (r : Result Kin Error) → m.ends ≡ r → IsRecorded s (class name place) → (x : Made Kin) (k : Kin) (g : ℕ) → derive w g [] (class name place) ≡ Some x → x.ends ≡ Ok k → LoadStands s name place m
     at (Ok k) r own x y g p q =
-      let l = load_ok w (derive w n []) absent loader name m k e r in
-      let same : l.place ≡ place = some_place (sym l.found ∙ closed.homes loader place name h) in
-      let made : derive w n [] (class name place) ≡ Some l.below = subst (λ (z : ℕ). derive w n [] (class name z) ≡ Some l.below) same l.made in
-      record {
-        kin = k;
-        ends = r;
-        is_class = (derive_gives w n [] (class name place) l.below k made l.ends).0;
-        met = subst (λ (z : List Need). AllMet s z) (sym (l.needs ∙ ap (λ (z : ℕ). l.below.needs ++ (initiating loader name z ++ [])) same))
-            (met_both s l.below.needs (initiating loader name place ++ []) (recorded_is_met w s n [] (class name place) l.below k closed own made l.ends) (initiating_met s loader place name (loader == place) h));
-      }
+        let l = load_ok w (derive w n []) absent loader name m k e r in
+        let same : l.place ≡ place = some_place (sym l.found ∙ closed.homes loader place name h) in
+        let made : derive w n [] (class name place) ≡ Some l.below = subst (λ (z : ℕ). derive w n [] (class name z) ≡ Some l.below) same l.made in
+        record {
+          kin = k;
+          ends = r;
+          is_class = (derive_gives w n [] (class name place) l.below k made l.ends).0;
+          met = subst (λ (z : List Need). AllMet s z) (sym (l.needs ∙ ap (λ (z : ℕ). l.below.needs ++ (initiating loader name z ++ [])) same))
+              (met_both s l.below.needs (initiating loader name place ++ []) (recorded_is_met w s n [] (class name place) l.below k closed own made l.ends) (initiating_met s loader place name (loader == place) h));
+        }
     at (Err x) r own d k g p q = elim (load_err w (derive w n []) absent loader name m x e r) [
       | inl z ↦ absurd (none_some (home w loader name) z.0 (closed.homes loader place name h))
       | inr z ↦
-        let same : z.place ≡ place = some_place (sym z.found ∙ closed.homes loader place name h) in
-        let made : derive w n [] (class name place) ≡ Some z.below = subst (λ (y : ℕ). derive w n [] (class name y) ≡ Some z.below) same z.made in
-        absurd (ok_not_err k x z.below.ends (ap (λ (y : Made Kin). y.ends) (one_derivation w n g [] (class name place) z.below d made p) ∙ q) z.ends)
+          let same : z.place ≡ place = some_place (sym z.found ∙ closed.homes loader place name h) in
+          let made : derive w n [] (class name place) ≡ Some z.below = subst (λ (y : ℕ). derive w n [] (class name y) ≡ Some z.below) same z.made in
+          absurd (ok_not_err k x z.below.ends (ap (λ (y : Made Kin). y.ends) (one_derivation w n g [] (class name place) z.below d made p) ∙ q) z.ends)
     ]
 
 pub answers_met : (s : State) (ns : List Need) (ends v : Verdict) → AllMet s ns → v ≡ ends → Answers s ns ends v

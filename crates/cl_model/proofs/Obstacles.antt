@@ -1,17 +1,17 @@
 -- A derivation that ends in an error: it fails with that error, or it met a class again on a walk.
-use Rattle.std.proofs.Common.{◌≡◌, ◌⊎◌, inl, inr, ℕ, zero, suc, Bool, true, false, List, [], ◌∷◌, ◌++◌, Option, Some, None, Result, Ok, Err, refl, sym, ap, subst, ◌∙◌}
+use Rattle.std.proofs.Common.{◌≡◌, ◌⊎◌, inl, inr, ℕ, zero, suc, Bool, true, false, List, [], ◌∷◌, ◌++◌, Some, None, Err, refl, sym, ap, ◌∙◌}
 use Rattle.std.specs.List.{AllByRecursion}
 use Rattle.cl_classfile.specs.Files.{Name, File}
 use Rattle.cl_model.specs.Homes.{World, home}
 use Rattle.cl_model.specs.declared.class.Class.{Class}
-use Rattle.cl_model.specs.Classes.{class, Error, Above, is_among, NoClassDef, ClassCircularity, file_of, misfit, superclass_of, superinterfaces_of, supers, HasFile, AtHome, FitsAt, Good, IsGood, FirstWrong, WrongAt, Fails, Next, IsWalk, Returns}
+use Rattle.cl_model.specs.Classes.{class, Error, Above, is_among, NoClassDef, ClassCircularity, file_of, misfit, superclass_of, superinterfaces_of, supers, HasFile, AtHome, FitsAt, Good, IsGood, FirstWrong, WrongAt, Fails, Returns}
 use Rattle.cl_model.specs.Lineages.{Forest, Bare, Kin}
-use Rattle.cl_model.specs.States.{Need, Entry}
-use Rattle.cl_model.specs.Works.{Work, Made, done, need, ask, or_fail, unless_wrong, of_result, ◌>>=◌}
+use Rattle.cl_model.specs.States.{Entry}
+use Rattle.cl_model.specs.Works.{Work, Made, ask, or_fail, unless_wrong, of_result}
 use Rattle.cl_model.specs.Plans.{initiating, load_by, loads_above, derive_new, derive}
-use Rattle.cl_model.proofs.Bind.{Bound, bind_err, ok_not_err, err_same, step_is, or_fail_ok, or_fail_err, unless_ok, unless_err, result_ok, result_err, then_done_not}
+use Rattle.cl_model.proofs.Bind.{bind_err, ok_not_err, err_same, step_is, or_fail_ok, or_fail_err, unless_ok, unless_err, result_ok, result_err, then_done_not}
 use Rattle.cl_model.proofs.Heights.{loaded, found, sought, grown, others_after, checked, finished, interfaces_next, superclass_next, circle_or}
-use Rattle.cl_model.proofs.Derived.{IsLoad, load_ok, above_good, derive_yields, Yields}
+use Rattle.cl_model.proofs.Derived.{load_ok, above_good, derive_yields, Yields}
 
 -- a load that ends ill: no home, or a derivation that does
 pub record IsIll (w : World) (d : Class → Work Kin) (loader : ℕ) (name : Name) (e : Error) : Type 0 where
@@ -51,23 +51,26 @@ above_err w d P y c (a ∷ others) m e h k =
         | inr i ↦ inl (inr i)
       ]
       | inl one ↦
-        let l = load_ok w d NoClassDef c.loader a.name one.first one.value one.made one.ended in
-        let s = y (class a.name l.place) l.below one.value l.made l.ends in
-        elim (bind_err (unless_wrong (misfit c a.role one.value.class one.value.file)) (others_after w d c others one.value) one.second e one.next one.ends) [
-          | inr t ↦ inl (inl (inr (inr (record {
-            place = l.place;
-            found = l.found;
-            holds = (s.0, record { file = one.value.file; has_file = s.2; judged = ap (λ (x : Class). misfit c a.role x one.value.file) (sym s.1) ∙ unless_err (misfit c a.role one.value.class one.value.file) t.first e t.made t.ended });
-          }))))
-          | inl t ↦ elim (bind_err (loads_above w d c others) (grown one.value) t.second e t.next t.ends) [
-            | inl u ↦ absurd (ok_not_err _ e u.second.ends (step_is _ u.second u.next).1 u.ends)
-            | inr u ↦ inr (record {
+          let l = load_ok w d NoClassDef c.loader a.name one.first one.value one.made one.ended in
+          let s = y (class a.name l.place) l.below one.value l.made l.ends in
+          elim (bind_err (unless_wrong (misfit c a.role one.value.class one.value.file)) (others_after w d c others one.value) one.second e one.next one.ends) [
+            | inr t ↦ inl (inl (inr (inr (record {
               place = l.place;
               found = l.found;
-              holds = (s.0, record { file = one.value.file; has_file = s.2; judged = ap (λ (x : Class). misfit c a.role x one.value.file) (sym s.1) ∙ (unless_ok (misfit c a.role one.value.class one.value.file) t.first t.value t.made t.ended).0 });
-            }, above_err w d P y c others u.first e u.made u.ended)
+              holds = (s.0, record { file = one.value.file; has_file = s.2; judged = ap (λ (x : Class). misfit c a.role x one.value.file) (sym s.1) ∙ unless_err (misfit c a.role one.value.class one.value.file) t.first e t.made t.ended });
+            }))))
+            | inl t ↦ elim (bind_err (loads_above w d c others) (grown one.value) t.second e t.next t.ends) [
+              | inl u ↦ absurd (ok_not_err _ e u.second.ends (step_is _ u.second u.next).1 u.ends)
+              | inr u ↦ inr (
+                record {
+                  place = l.place;
+                  found = l.found;
+                  holds = (s.0, record { file = one.value.file; has_file = s.2; judged = ap (λ (x : Class). misfit c a.role x one.value.file) (sym s.1) ∙ (unless_ok (misfit c a.role one.value.class one.value.file) t.first t.value t.made t.ended).0 });
+                },
+                above_err w d P y c others u.first e u.made u.ended,
+              )
+            ]
           ]
-        ]
     ]
 
 -- the first wrong of a list is that of a longer one, and that of what follows things that fit too
@@ -88,16 +91,20 @@ new_err w d P y c m e h k =
     elim (bind_err (of_result (file_of w c)) (superclass_next w d c) m e h k) [
       | inr s ↦ inl (result_err (file_of w c) s.first e s.made s.ended)
       | inl read ↦
-        let file = (result_ok (file_of w c) read.first read.value read.made read.ended).0 in
-        elim (bind_err (loads_above w d c (superclass_of read.value)) (interfaces_next w d c read.value) read.second e read.next read.ends) [
-          | inr s ↦ inr (read.value, file, wrong_left (FitsAt w c P) (BlockedAt w d c P e) (superclass_of read.value) (superinterfaces_of read.value) (above_err w d P y c (superclass_of read.value) s.first e s.made s.ended))
-          | inl up ↦ elim (bind_err (loads_above w d c (superinterfaces_of read.value)) (finished c read.value up.value) up.second e up.next up.ends) [
-            | inl over ↦ absurd (then_done_not (Entry c.loader c.name c.loader ∷ []) [] _ over.second e over.next over.ends)
-            | inr s ↦ inr (read.value, file, wrong_right (FitsAt w c P) (BlockedAt w d c P e) (superclass_of read.value) (superinterfaces_of read.value)
-              (above_good w d P y c (superclass_of read.value) up.first up.value up.made up.ended)
-              (above_err w d P y c (superinterfaces_of read.value) s.first e s.made s.ended))
+          let file = (result_ok (file_of w c) read.first read.value read.made read.ended).0 in
+          elim (bind_err (loads_above w d c (superclass_of read.value)) (interfaces_next w d c read.value) read.second e read.next read.ends) [
+            | inr s ↦ inr (read.value, file, wrong_left (FitsAt w c P) (BlockedAt w d c P e) (superclass_of read.value) (superinterfaces_of read.value) (above_err w d P y c (superclass_of read.value) s.first e s.made s.ended))
+            | inl up ↦ elim (bind_err (loads_above w d c (superinterfaces_of read.value)) (finished c read.value up.value) up.second e up.next up.ends) [
+              | inl over ↦ absurd (then_done_not (Entry c.loader c.name c.loader ∷ []) [] _ over.second e over.next over.ends)
+              | inr s ↦ inr (
+                read.value,
+                file,
+                wrong_right (FitsAt w c P) (BlockedAt w d c P e) (superclass_of read.value) (superinterfaces_of read.value)
+                    (above_good w d P y c (superclass_of read.value) up.first up.value up.made up.ended)
+                    (above_err w d P y c (superinterfaces_of read.value) s.first e s.made s.ended),
+              )
+            ]
           ]
-        ]
     ]
 
 -- a walk ends in this error

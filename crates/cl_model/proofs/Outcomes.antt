@@ -1,18 +1,18 @@
 -- What fails is derived to its error, whatever is met on the way.
-use Rattle.std.proofs.Common.{◌≡◌, ◌⊎◌, inl, inr, ℕ, zero, suc, Bool, true, false, List, [], ◌∷◌, ◌++◌, Option, Some, None, Result, Ok, Err, refl, sym, ap, subst, ◌∙◌}
+use Rattle.std.proofs.Common.{◌≡◌, ◌⊎◌, inl, inr, ℕ, zero, suc, Bool, true, false, List, [], ◌∷◌, ◌++◌, Option, Some, None, Ok, Err, refl, sym, ap, subst, ◌∙◌}
 use Rattle.std.specs.List.{AllByRecursion}
 use Rattle.cl_classfile.specs.Files.{Name, File}
 use Rattle.cl_model.specs.Homes.{World, home}
 use Rattle.cl_model.specs.declared.class.Class.{Class}
-use Rattle.cl_model.specs.Classes.{class, same_class, Error, Above, is_among, NoClassDef, ClassCircularity, file_of, misfit, superclass_of, superinterfaces_of, supers, HasFile, Fitting, FitsAt, Good, FirstWrong, WrongAt, Fails}
-use Rattle.cl_model.specs.Lineages.{Forest, Kin}
+use Rattle.cl_model.specs.Classes.{class, same_class, Error, Above, is_among, NoClassDef, ClassCircularity, file_of, misfit, superclass_of, superinterfaces_of, HasFile, Fitting, FitsAt, Good, FirstWrong, WrongAt, Fails}
+use Rattle.cl_model.specs.Lineages.{Kin}
 use Rattle.cl_model.specs.Works.{Work, Made, ask, or_fail, unless_wrong, of_result, ◌>>=◌}
 use Rattle.cl_model.specs.Plans.{load_by, loads_above, derive_new, derive}
 use Rattle.cl_model.proofs.Bind.{Ends, then_ends, ill_ends, at_once, or_fail_ends, or_fail_ill, unless_ends, unless_ill}
 use Rattle.cl_model.proofs.Heights.{loaded, found, sought, grown, others_after, checked, finished, interfaces_next, superclass_next}
 use Rattle.cl_model.proofs.Derived.{derive_yields, load_ok}
 use Rattle.cl_model.proofs.Derivations.{good_or_fails, one_error}
-use Rattle.cl_model.proofs.Complete.{Upto, upto_self, upto_then, upto_less, higher, Either, Derives, Tells, load_either, fits_still, file_is, above_either, all_either, some_place, is_class, or_true, passed, circled}
+use Rattle.cl_model.proofs.Complete.{Upto, upto_self, upto_then, upto_less, higher, Either, Derives, Tells, load_either, file_is, above_either, all_either, some_place, is_class, or_true, passed, circled}
 
 -- a class comes out at a height: it is good, or fails
 abbrev pub Comes : World → ℕ → Class → Type 0
@@ -94,7 +94,7 @@ new_fails w n m path d e good ih tells c (inr h) =
     (elim (wrong_split fits wrong (superclass_of h.0) (superinterfaces_of h.0) h.2) [
       | inl k ↦ ill_then w n path (loads_above w d c (superclass_of h.0)) (interfaces_next w d c h.0) e (above_fails w n m path d e good ih tells c (superclass_of h.0) k)
       | inr k ↦ either_then w n path (loads_above w d c (superclass_of h.0)) (interfaces_next w d c h.0) e (above_either w n m path d good tells c (superclass_of h.0) k.0) (λ sup x.
-        ill_then w n path (loads_above w d c (superinterfaces_of h.0)) (finished c h.0 sup) e (above_fails w n m path d e good ih tells c (superinterfaces_of h.0) k.1))
+          ill_then w n path (loads_above w d c (superinterfaces_of h.0)) (finished c h.0 sup) e (above_fails w n m path d e good ih tells c (superinterfaces_of h.0) k.1))
     ])
 
 -- the same at a greater height

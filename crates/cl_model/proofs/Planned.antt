@@ -1,19 +1,19 @@
 -- Each request has one plan, and each reference of a good class one resolution.
-use Rattle.std.proofs.Common.{◌≡◌, ◌⊎◌, inl, inr, ℕ, zero, suc, Bool, true, false, if◌then◌else◌, List, [], ◌∷◌, ◌++◌, Option, Some, None, Result, Ok, Err, refl, sym, ap, subst, ◌∙◌}
-use Rattle.std.specs.Prelude.{option_map, option_and_then, flat_map, ◌==◌}
+use Rattle.std.proofs.Common.{◌≡◌, inl, inr, ℕ, zero, suc, Bool, true, false, if◌then◌else◌, List, [], ◌∷◌, Option, Some, None, Result, Ok, Err, refl, sym, ap, subst, ◌∙◌}
+use Rattle.std.specs.Prelude.{option_map, option_and_then}
 use Rattle.cl_descriptors.specs.declared.types.FieldType.{FieldType}
 use Rattle.cl_classfile.specs.Files.{Name, Key, Member, Reference, ToClass, ToField, ToMethod, ToInterfaceMethod, reference, is_interface, element_name, letter}
 use Rattle.cl_model.specs.Homes.{World}
 use Rattle.cl_model.specs.declared.class.Class.{Class}
 use Rattle.cl_model.specs.Classes.{Error, ClassNotFound, NoClassDef, NoSuchField, NoSuchMethod, IncompatibleClassChange, IllegalAccess, class_accessible, Good}
-use Rattle.cl_model.specs.Lineages.{Kin, lineage, field_of, method_of, lookup_field, lookup_method, lookup_interface_method, member_accessible}
-use Rattle.cl_model.specs.Preparation.{constraints_of, equals_of}
-use Rattle.cl_model.specs.States.{Verdict, IsClass, IsLinked, IsArrayOfBase, BadEntry, ArrayMember, Wrong, IsField, IsMethod}
+use Rattle.cl_model.specs.Lineages.{Kin, field_of, method_of, lookup_field, lookup_method, lookup_interface_method, member_accessible}
+use Rattle.cl_model.specs.Preparation.{equals_of}
+use Rattle.cl_model.specs.States.{Verdict, IsArrayOfBase, BadEntry, Wrong, IsField, IsMethod}
 use Rattle.cl_model.specs.Works.{Work, Made, done, need, or_fail, unless_wrong, ◌>>=◌}
 use Rattle.cl_model.specs.Plans.{derive, flags_of, load, resolve_class, resolve_found, resolve_field, resolve_method, resolve_member, member_target, resolve_reference, resolve, class_verdict, Request, Load, Resolve, Link, loaded_by, go_on_with, Plan, plan_after, plan_from, plan}
 use Rattle.cl_model.specs.Machine.{HasLineage, IsPlan, IsResolution}
 use Rattle.cl_model.proofs.Bind.{some_same}
-use Rattle.cl_model.proofs.Heights.{Reaches, first_reaches, then_reaches, load_reaches, derive_reaches}
+use Rattle.cl_model.proofs.Heights.{Reaches, first_reaches, load_reaches, derive_reaches}
 use Rattle.cl_model.proofs.Complete.{Upto, good_is_derived}
 use Rattle.cl_model.proofs.Circles.{upto_total, one_derivation}
 use Rattle.cl_model.proofs.Ending.{Done, now, done_then, or_fail_done, unless_done, load_done, enough, derive_enough}
@@ -33,19 +33,19 @@ one_value f g n h x y p q = elim (upto_total n h) [
 
 -- ---- the pieces of a resolution
 
-abbrev accessible : Kin → Kin → Work Kin
+abbrev pub accessible : Kin → Kin → Work Kin
 accessible d k = unless_wrong (if class_accessible k.file.flags k.class d.class then None else Some (IllegalAccess k.class)) >>= λ b. done k
 
-abbrev class_found : FieldType → Kin → Work Verdict
+abbrev pub class_found : FieldType → Kin → Work Verdict
 class_found t k = done (class_verdict t.dims k.class)
 
-abbrev to_class : World → ℕ → Kin → FieldType → List Name → Work Verdict
+abbrev pub to_class : World → ℕ → Kin → FieldType → List Name → Work Verdict
 to_class w n d t l = elim l [
   | [] ↦ done (IsArrayOfBase t.dims (letter t.base))
   | name ∷ more ↦ resolve_class w n d name >>= class_found t
 ]
 
-abbrev resolved : World → ℕ → Kin → Option Reference → Work Verdict
+abbrev pub resolved : World → ℕ → Kin → Option Reference → Work Verdict
 resolved w n d o = elim o [
   | None ↦ done BadEntry
   | Some r ↦ resolve_reference w n d r
@@ -136,28 +136,28 @@ to_class_done w d t [] = now _
 to_class_done w d t (name ∷ more) = done_then (resolve_class w (enough w) d name) (class_found t) (class_done w d name) (λ k x. now _)
 
 -- what follows in the resolution of a member
-abbrev imposed : Kin → Kin → Key → Verdict → Unit {0} → Work Verdict
+abbrev pub imposed : Kin → Kin → Key → Verdict → Unit {0} → Work Verdict
 imposed d owner key v a = need (equals_of key owner.class.loader d.class.loader) >>= λ b. done v
 
 found_done : (d c owner : Kin) (found : Option Member) (key : Key) (v : Verdict) → Done (resolve_found d c owner found key v)
 found_done d c owner found key v = done_then (unless_wrong (if member_accessible d owner (flags_of found) c then None else Some (IllegalAccess owner.class))) (imposed d owner key v) (unless_done _) (λ a x. now _)
 
-abbrev field_found : Kin → Key → Kin → Kin → Work Verdict
+abbrev pub field_found : Kin → Key → Kin → Kin → Work Verdict
 field_found d key c owner = resolve_found d c owner (field_of owner key) key (IsField owner.class key)
 
 field_done : (d : Kin) (key : Key) (c : Kin) → Done (resolve_field d key c)
 field_done d key c = done_then (or_fail (NoSuchField c.class) (lookup_field c key)) (field_found d key c) (or_fail_done (NoSuchField c.class) (lookup_field c key)) (λ owner x. found_done d c owner (field_of owner key) key (IsField owner.class key))
 
-abbrev method_found : Kin → Key → Kin → Kin → Work Verdict
+abbrev pub method_found : Kin → Key → Kin → Kin → Work Verdict
 method_found d key c owner = resolve_found d c owner (method_of owner key) key (IsMethod owner.class key)
 
-abbrev looked_up : Bool → Kin → Key → Option Kin
+abbrev pub looked_up : Bool → Kin → Key → Option Kin
 looked_up b c key = if b then lookup_interface_method c key else lookup_method c key
 
-abbrev method_sought : Bool → Kin → Key → Kin → Unit {0} → Work Verdict
+abbrev pub method_sought : Bool → Kin → Key → Kin → Unit {0} → Work Verdict
 method_sought b d key c a = or_fail (NoSuchMethod c.class) (looked_up b c key) >>= method_found d key c
 
-abbrev wrong_kind : Bool → Kin → Option Error
+abbrev pub wrong_kind : Bool → Kin → Option Error
 wrong_kind b c =
     if b then (if is_interface c.file then None else Some (IncompatibleClassChange c.class))
     else (if is_interface c.file then Some (IncompatibleClassChange c.class) else None)

@@ -72,7 +72,7 @@ pub met_stays : (s : State) (es : List Step) (n : Need) → Met s n → Met (sta
 met_stays s es n h = met_later s (state_after s es) (run_later s es) n h
 
 -- what violates a state violates one with the same records and equalities
-violated_as : (s t : State) → s.records ≡ t.records → s.equalities ≡ t.equalities → Violated t → Violated s
+pub violated_as : (s t : State) → s.records ≡ t.records → s.equalities ≡ t.equalities → Violated t → Violated s
 violated_as s t r e v =
     record {
       name = v.name;
@@ -299,7 +299,7 @@ pub violation_clashes : (s : State) (n : Need) → Violated (added s n) → Viol
 violation_clashes s (Entry loader name place) v = entry_kept s loader place name v
 violation_clashes s (Equal name a b) v = equal_kept_at s name a b v (path_added s.equalities (record { name = name; one = a; other = b }) v.name v.one v.joined.path v.other v.joined.along)
 
-adds : (s : State) (n : Need) → (Clashes s n → ⊥) → (Violated s → ⊥) → Violated (added s n) → ⊥
+pub adds : (s : State) (n : Need) → (Clashes s n → ⊥) → (Violated s → ⊥) → Violated (added s n) → ⊥
 adds s n fits u v = elim (violation_clashes s n v) [ inl k ↦ u k | inr k ↦ fits k ]
 
 pub keeps : (g : Setting) (s : State) (e : Step) → May g s e → (Violated s → ⊥) → Violated (after s e) → ⊥

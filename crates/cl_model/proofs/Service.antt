@@ -1,16 +1,16 @@
 -- Serving: one made need more, an answer, and one request after another.
-use Rattle.std.proofs.Common.{◌≡◌, inl, inr, ℕ, suc, ◌+◌, Bool, true, false, ◌==◌, if◌then◌else◌, List, [], ◌∷◌, ◌++◌, length, Option, Some, None, refl, sym, ap, subst, ◌∙◌, arith, append_assoc}
-use Rattle.std.proofs.lemmas.Bool.{eqb-true}
+use Rattle.std.proofs.Common.{◌≡◌, inl, inr, ℕ, suc, ◌+◌, List, [], ◌∷◌, ◌++◌, length, Option, Some, None, refl, sym, ap, subst, ◌∙◌, arith, append_assoc}
 use Rattle.std.proofs.lemmas.Cmp.{nat_eq_equiv}
 use Rattle.cl_classfile.specs.Files.{Name}
 use Rattle.cl_model.specs.Homes.{World}
 use Rattle.cl_model.specs.Classes.{class}
-use Rattle.cl_model.specs.States.{State, Need, Entry, Equal, Verdict, Answer, Said, recorded, Met, MayAdd, IsNext}
+use Rattle.cl_model.specs.States.{State, Need, Entry, Equal, Verdict, Answer, Said, recorded, Met, MayAdd, IsNext, added}
 use Rattle.cl_model.specs.Plans.{Request, Plan, needs_of}
-use Rattle.cl_model.specs.Machine.{Setting, Scheduled, Step, Define, Initiate, Constrain, Post, Answers, AnswersPlan, after, state_after, Run, May}
-use Rattle.cl_model.specs.Service.{step_for, Makes, Begins, IsNextNeed, IsFailure, Serves, IsBegun, AllServed}
+use Rattle.cl_model.specs.Machine.{Setting, Scheduled, Step, Define, Post, Answers, AnswersPlan, after, state_after, step_for, Run, May}
+use Rattle.cl_model.specs.Service.{Makes, Begins, IsNextNeed, IsFailure, Serves, IsBegun, AllServed}
 use Rattle.cl_model.proofs.Runs.{met_stays, joined_self, joined_link, last_linked, record_found}
 use Rattle.cl_model.proofs.Planned.{plan_exists, one_plan}
+use Rattle.cl_model.proofs.Progress.{step_adds}
 
 -- ---- a need that may be added is met once its step was made
 
@@ -25,15 +25,13 @@ no_record s loader place name may (Some p) h =
       differ = λ e. may.unmet (h ∙ ap (λ (x : ℕ). Some x) (sym e));
     }))
 
-entry_made : (s : State) (loader place : ℕ) (name : Name) → MayAdd s (Entry loader name place) → (b : Bool) → (loader == place) ≡ b → Met (after s (if b then Define (class name loader) else Initiate name place loader)) (Entry loader name place)
-entry_made s loader place name may true e =
-    record_found s.records (record { loader = loader; name = name; place = loader }) (no_record s loader place name may (recorded s.records loader name) refl) ∙ ap (λ (x : ℕ). Some x) (eqb-true loader place e)
-entry_made s loader place name may false e =
+added_met : (s : State) (n : Need) → MayAdd s n → Met (added s n) n
+added_met s (Entry loader name place) may =
     record_found s.records (record { loader = loader; name = name; place = place }) (no_record s loader place name may (recorded s.records loader name) refl)
+added_met s (Equal name a b) may = joined_link (added s (Equal name a b)).equalities name a b (last_linked s.equalities name a b)
 
 pub made_met : (s : State) (n : Need) → MayAdd s n → Met (after s (step_for n)) n
-made_met s (Entry loader name place) may = entry_made s loader place name may (loader == place) refl
-made_met s (Equal name a b) may = joined_link (after s (Constrain name a b)).equalities name a b (last_linked s.equalities name a b)
+made_met s n may = subst (λ (t : State). Met t n) (sym (step_adds s n)) (added_met s n may)
 
 -- ---- a beginning, one need more
 

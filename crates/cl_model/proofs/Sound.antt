@@ -1,22 +1,19 @@
 -- What every state of a run holds is as it should be, and stays.
-use Rattle.std.proofs.Common.{◌≡◌, ◌≢◌, ◌⊎◌, inl, inr, ℕ, zero, suc, ◌<◌, Bool, true, false, ◌==◌, ◌&&◌, if◌then◌else◌, List, [], ◌∷◌, ◌++◌, Option, Some, None, refl, sym, ap, subst, ◌∙◌, arith, slice_index_or, slice_get}
+use Rattle.std.proofs.Common.{◌≡◌, ◌⊎◌, inl, inr, ℕ, zero, suc, ◌<◌, Bool, true, false, ◌==◌, ◌&&◌, if◌then◌else◌, List, [], ◌∷◌, ◌++◌, Option, Some, None, refl, subst, arith, slice_index_or}
 use Rattle.std.specs.Prelude.{find, option_map, Contains}
 use Rattle.std.specs.Option.{option_or}
 use Rattle.std.specs.List.{AllByRecursion}
 use Rattle.std.proofs.lemmas.List.Folds.{find-append}
 use Rattle.std.proofs.lemmas.List.Elements.{Contains-append_left, Contains-append_cases}
 use Rattle.std.proofs.lemmas.Bool.{eqb-true}
-use Rattle.cl_classfile.specs.Files.{Name}
 use Rattle.cl_model.specs.Homes.{World}
 use Rattle.cl_model.specs.declared.class.Class.{Class}
 use Rattle.cl_model.specs.Classes.{same_class, Above, AtHome, supers}
-use Rattle.cl_model.specs.Lineages.{Kin}
 use Rattle.cl_model.specs.Preparation.{constraints_of}
-use Rattle.cl_model.specs.States.{State, start, Need, Verdict, BadEntry, ArrayMember, IsLinked, Linkage, Answer, Said, OutOfMemory, SourceFault, Settled, Posted, recorded, IsRecorded, settled_to, answer_to, Violated, Met, Refused, AllMet}
+use Rattle.cl_model.specs.States.{State, start, Need, Verdict, Answer, Said, OutOfMemory, SourceFault, Settled, Posted, settled_to, answer_to, Violated, AllMet}
 use Rattle.cl_model.specs.Plans.{Request, Load, Resolve, Link, Plan, needs_of, ending}
 use Rattle.cl_model.specs.Works.{Made}
-use Rattle.cl_model.specs.Machine.{Setting, Scheduled, Step, Define, Initiate, Constrain, Settle, Prepare, Post, NextRound, Stray, May, after, state_after, Run, Answers, AnswersPlan, AnswersReference, MaySay, MayAnswer, RestsOn, IsClosed, IsPrepared, IsSettled, IsAnswered, IsSound}
-use Rattle.cl_model.proofs.Bind.{some_same}
+use Rattle.cl_model.specs.Machine.{Setting, Step, Define, Initiate, Constrain, Settle, Prepare, Post, NextRound, Stray, May, after, state_after, Run, Answers, AnswersPlan, AnswersReference, MayAnswer, RestsOn, IsClosed, IsPrepared, IsSettled, IsAnswered, IsSound}
 use Rattle.cl_model.proofs.Runs.{IsLater, after_later, run_later, met_later, refused_later, answers_later, keeps, start_unviolated, stays_unviolated, one_answer, and_is, or_map}
 use Rattle.cl_model.proofs.Complete.{is_class}
 use Rattle.cl_model.proofs.Closed.{closed_after, start_closed}
@@ -161,9 +158,10 @@ settled_new rs r d i v h =
   where
     found_new : (b : Bool) → (same_class r.class d && (r.index == i)) ≡ b → option_map (λ (x : Settled). x.verdict) (if b then Some r else None) ≡ Some v → (r.class ≡ d) × (r.index ≡ i) × (r.verdict ≡ v)
     found_new true e k =
-      let both : (same_class r.class d ≡ true) × ((r.index == i) ≡ true) = and_is (same_class r.class d) (r.index == i) e in
-      (is_class r.class d both.0, eqb-true r.index i both.1, cc)
+        let both : (same_class r.class d ≡ true) × ((r.index == i) ≡ true) = and_is (same_class r.class d) (r.index == i) e in
+        (is_class r.class d both.0, eqb-true r.index i both.1, cc)
     found_new false e k = absurd cc
+
     or_new : (a : Option Settled) → option_map (λ (x : Settled). x.verdict) (option_or a (if same_class r.class d && (r.index == i) then Some r else None)) ≡ Some v → (option_map (λ (x : Settled). x.verdict) a ≡ Some v) ⊎ ((r.class ≡ d) × (r.index ≡ i) × (r.verdict ≡ v))
     or_new None k = inr (found_new (same_class r.class d && (r.index == i)) refl k)
     or_new (Some x) k = inl k
@@ -176,6 +174,7 @@ answer_new ps r q a h =
     found_new : (b : Bool) → (r.request == q) ≡ b → option_map (λ (x : Posted). x.answer) (if b then Some r else None) ≡ Some a → (r.request ≡ q) × (r.answer ≡ a)
     found_new true e k = (eqb-true r.request q e, cc)
     found_new false e k = absurd cc
+
     or_new : (o : Option Posted) → option_map (λ (x : Posted). x.answer) (option_or o (if r.request == q then Some r else None)) ≡ Some a → (option_map (λ (x : Posted). x.answer) o ≡ Some a) ⊎ ((r.request ≡ q) × (r.answer ≡ a))
     or_new None k = inr (found_new (r.request == q) refl k)
     or_new (Some x) k = inl k

@@ -4,13 +4,12 @@ use Rattle.std.specs.List.{AllByRecursion}
 use Rattle.cl_classfile.specs.Files.{Name, File}
 use Rattle.cl_model.specs.Homes.{World, home}
 use Rattle.cl_model.specs.declared.class.Class.{Class}
-use Rattle.cl_model.specs.Classes.{class, Error, Above, misfit, superclass_of, superinterfaces_of, file_of, HasFile, Fitting, FitsAt, Good}
-use Rattle.cl_model.specs.Lineages.{Forest, Bare, Tree, Kin, IsAbove, StandsFor, IsLineage}
-use Rattle.cl_model.specs.Works.{Work, Made, done, ◌>>=◌}
+use Rattle.cl_model.specs.Classes.{class, Error, Above, superclass_of, superinterfaces_of, file_of, HasFile, Fitting, FitsAt, Good}
+use Rattle.cl_model.specs.Lineages.{Forest, Bare, Tree, Kin, StandsFor, IsLineage}
+use Rattle.cl_model.specs.Works.{Work, Made, done}
 use Rattle.cl_model.specs.Plans.{loads_above, derive}
 use Rattle.cl_model.specs.Machine.{HasLineage}
-use Rattle.cl_model.proofs.Bind.{step_is, ok_same, bind_ok, some_same}
-use Rattle.cl_model.proofs.Heights.{grown, checked, others_after}
+use Rattle.cl_model.proofs.Bind.{step_is, ok_same}
 use Rattle.cl_model.proofs.Derived.{above_ok, derive_ok}
 use Rattle.cl_model.proofs.Derivations.{all_map, fits_map}
 use Rattle.cl_model.proofs.Circles.{above_both, good_upto}
@@ -47,8 +46,7 @@ pub derive_gives : (w : World) (n : ℕ) (path : List Class) → Gives w (derive
 derive_gives w zero path s m k h e = absurd cc
 derive_gives w (suc n) path s m k h e =
     let new = (derive_ok w n path s m k h e).new in
-    let ih = derive_gives w n (s ∷ path) in
-    (
+    let ih = derive_gives w n (s ∷ path) in (
       ap (λ (x : Kin). x.class) (sym new.kin),
       subst (λ (x : Kin). IsLineage w x) new.kin (record {
         has_file = new.has_file;
@@ -62,7 +60,7 @@ lineage_of w c k h = derive_gives w h.height [] c h.made k h.derived h.ends
 
 -- ---- a lineage is derived
 
-all_two : {A : Type 0} (P : A → Type 0) (xs ys : List A) → AllByRecursion P xs → AllByRecursion P ys → AllByRecursion P (xs ++ ys)
+pub all_two : {A : Type 0} (P : A → Type 0) (xs ys : List A) → AllByRecursion P xs → AllByRecursion P ys → AllByRecursion P (xs ++ ys)
 all_two P [] ys a b = b
 all_two P (x ∷ xs) ys a b = (a.0, all_two P xs ys a.1 b)
 
@@ -75,10 +73,16 @@ raise_all w c h n others f all = all_map (FitsAt w c (Good w h)) (FitsAt w c (Go
 
 good_of : (w : World) (c : Class) (f : File) → HasFile w c f → FitsSome w c (superclass_of f) → FitsSome w c (superinterfaces_of f) → (n : ℕ) × Good w n c
 good_of w c f hf up over =
-    let both = above_both up.0 over.0 in
-    (suc both.top, (f, hf, all_two (FitsAt w c (Good w both.top)) (superclass_of f) (superinterfaces_of f)
-      (raise_all w c up.0 both.top (superclass_of f) (λ s g. good_upto w s up.0 both.top both.one g) up.1)
-      (raise_all w c over.0 both.top (superinterfaces_of f) (λ s g. good_upto w s over.0 both.top both.other g) over.1)))
+    let both = above_both up.0 over.0 in (
+      suc both.top,
+      (
+        f,
+        hf,
+        all_two (FitsAt w c (Good w both.top)) (superclass_of f) (superinterfaces_of f)
+            (raise_all w c up.0 both.top (superclass_of f) (λ s g. good_upto w s up.0 both.top both.one g) up.1)
+            (raise_all w c over.0 both.top (superinterfaces_of f) (λ s g. good_upto w s over.0 both.top both.other g) over.1),
+      ),
+    )
 
 stands_good : (w : World) (c : Class) (fs : Forest) (others : List Above) → StandsFor w c fs others → FitsSome w c others
 stands_good w c Bare [] h = (zero, tt)
@@ -88,14 +92,17 @@ stands_good w c (Tree s f sup ints others) (a ∷ more) h =
     let good = good_of w s f h.0.has_file (stands_good w s sup (superclass_of f) h.1) (stands_good w s ints (superinterfaces_of f) h.2) in
     let rest = stands_good w c others more h.3 in
     let both = above_both good.0 rest.0 in
-    let same : s ≡ class a.name s.loader = ap (λ (x : Name). class x s.loader) h.0.named in
-    (both.top, (
-      record {
-        place = s.loader;
-        found = h.0.found;
-        holds = subst (λ (x : Class). Good w both.top x × Fitting w c a.role None x) same (good_upto w s good.0 both.top both.one good.1, record { file = f; has_file = h.0.has_file; judged = h.0.fits });
-      },
-      raise_all w c rest.0 both.top more (λ t g. good_upto w t rest.0 both.top both.other g) rest.1))
+    let same : s ≡ class a.name s.loader = ap (λ (x : Name). class x s.loader) h.0.named in (
+      both.top,
+      (
+        record {
+          place = s.loader;
+          found = h.0.found;
+          holds = subst (λ (x : Class). Good w both.top x × Fitting w c a.role None x) same (good_upto w s good.0 both.top both.one good.1, record { file = f; has_file = h.0.has_file; judged = h.0.fits });
+        },
+        raise_all w c rest.0 both.top more (λ t g. good_upto w t rest.0 both.top both.other g) rest.1,
+      ),
+    )
 
 file_same : (x y : File) (r : Result File Error) → r ≡ Ok x → r ≡ Ok y → x ≡ y
 file_same x y r h k = cc
@@ -118,9 +125,9 @@ stands_same w c (Tree s f sup ints rest) (Tree t g a b e) (x ∷ more) h k =
     let same : t ≡ s = class_same t s (k.0.named ∙ sym h.0.named) (loader_same t.loader s.loader (home w c.loader x.name) k.0.found h.0.found) in
     let file : g ≡ f = file_same g f (file_of w s) (subst (λ (y : Class). HasFile w y g) same k.0.has_file) h.0.has_file in
     tree_same s t f g sup a ints b rest e (sym same) (sym file)
-      (stands_same w s sup a (superclass_of f) h.1 (subst (λ (y : File). StandsFor w s a (superclass_of y)) file (subst (λ (y : Class). StandsFor w y a (superclass_of g)) same k.1)))
-      (stands_same w s ints b (superinterfaces_of f) h.2 (subst (λ (y : File). StandsFor w s b (superinterfaces_of y)) file (subst (λ (y : Class). StandsFor w y b (superinterfaces_of g)) same k.2)))
-      (stands_same w c rest e more h.3 k.3)
+    (stands_same w s sup a (superclass_of f) h.1 (subst (λ (y : File). StandsFor w s a (superclass_of y)) file (subst (λ (y : Class). StandsFor w y a (superclass_of g)) same k.1)))
+    (stands_same w s ints b (superinterfaces_of f) h.2 (subst (λ (y : File). StandsFor w s b (superinterfaces_of y)) file (subst (λ (y : Class). StandsFor w y b (superinterfaces_of g)) same k.2)))
+    (stands_same w c rest e more h.3 k.3)
   where
     class_same : (x y : Class) → x.name ≡ y.name → x.loader ≡ y.loader → x ≡ y
     class_same x y p q = ap (λ (n : Name). class n x.loader) p ∙ ap (λ (l : ℕ). class y.name l) q
@@ -136,8 +143,8 @@ lineage_same : (w : World) (k l : Kin) → k.class ≡ l.class → IsLineage w k
 lineage_same w k l same h i =
     let file : k.file ≡ l.file = file_same k.file l.file (file_of w l.class) (subst (λ (y : Class). HasFile w y k.file) same h.has_file) i.has_file in
     kin_same k l same file
-      (stands_same w l.class k.superclass l.superclass (superclass_of l.file) (subst (λ (y : File). StandsFor w l.class k.superclass (superclass_of y)) file (subst (λ (y : Class). StandsFor w y k.superclass (superclass_of k.file)) same h.above)) i.above)
-      (stands_same w l.class k.interfaces l.interfaces (superinterfaces_of l.file) (subst (λ (y : File). StandsFor w l.class k.interfaces (superinterfaces_of y)) file (subst (λ (y : Class). StandsFor w y k.interfaces (superinterfaces_of k.file)) same h.over)) i.over)
+    (stands_same w l.class k.superclass l.superclass (superclass_of l.file) (subst (λ (y : File). StandsFor w l.class k.superclass (superclass_of y)) file (subst (λ (y : Class). StandsFor w y k.superclass (superclass_of k.file)) same h.above)) i.above)
+    (stands_same w l.class k.interfaces l.interfaces (superinterfaces_of l.file) (subst (λ (y : File). StandsFor w l.class k.interfaces (superinterfaces_of y)) file (subst (λ (y : Class). StandsFor w y k.interfaces (superinterfaces_of k.file)) same h.over)) i.over)
 
 pub lineage_good : (w : World) (k : Kin) → IsLineage w k → (n : ℕ) × Good w n k.class
 lineage_good w k h = good_of w k.class k.file h.has_file (stands_good w k.class k.superclass (superclass_of k.file) h.above) (stands_good w k.class k.interfaces (superinterfaces_of k.file) h.over)

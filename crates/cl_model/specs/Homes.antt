@@ -5,7 +5,7 @@ use Rattle.std.specs.List.{starts_with}
 use Rattle.cl_model.specs.Content.{Content, content_at}
 use Rattle.cl_classfile.specs.Files.{Name, File, FileFault}
 
--- whether the loaders above are asked before a loader's own content
+-- whether the loaders above are asked before a loader's own content (5.3.2 leaves it to the loader)
 pub data Order : Type 0 where
   ParentFirst : Order
   ChildFirst : Order
@@ -52,7 +52,7 @@ abbrev pub first_home : (ℕ → Option ℕ) → List ℕ → Option ℕ
 first_home earlier [] = None
 first_home earlier (p ∷ ps) = option_or (earlier p) (first_home earlier ps)
 
--- only absence leads on
+-- only absence leads on: bytes of any kind are the answer (5.3.2)
 abbrev pub in_order : Order → Option ℕ → Option ℕ → Option ℕ
 in_order ParentFirst above own = option_or above own
 in_order ChildFirst above own = option_or own above
@@ -78,7 +78,7 @@ home_below w name (suc n) loader =
       | false ↦ home_below w name n loader
     ]
 
--- the loader whose own content answers where this one is asked for the name: of a `java/` name the first loader alone
+-- the loader whose own content answers where this one is asked for the name: of a `java/` name the first loader alone (5.3.1, 5.3.2)
 abbrev pub home : World → ℕ → Name → Option ℕ
 home w loader name =
     elim (is_java name) [

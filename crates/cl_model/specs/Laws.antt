@@ -1,16 +1,21 @@
 -- Laws of the definitions: each is the contract of a function without a body.
-use Rattle.std.specs.Prelude.{◌≡◌, ℕ, suc, ◌+◌, true, false, List, [], ◌∷◌, ◌++◌, length, Some, None, Ok, Err, ◌⊎◌, Contains}
+use Rattle.std.specs.Prelude.{◌≡◌, ℕ, suc, ◌+◌, true, false, List, [], ◌∷◌, ◌++◌, length, Some, None, Ok, Err, ◌⊎◌, Contains, Option, slice_get, ◌≢◌}
 use Rattle.cl_classfile.specs.Files.{Name, File}
 use Rattle.cl_model.specs.Homes.{World, home}
 use Rattle.cl_model.specs.declared.class.Class.{Class}
 use Rattle.cl_model.specs.Classes.{class, Error, ClassCircularity, file_of, HasFile, IsAtHome, Good, IsGood, Fails, Circular, Next, Returns}
 use Rattle.cl_model.specs.Lineages.{Kin, IsLineage}
 use Rattle.cl_model.specs.Works.{Made}
-use Rattle.cl_model.specs.Plans.{derive, load, Load, Request, Plan}
-use Rattle.cl_model.specs.States.{State, start, Entry, IsClass, Answer, settled_to, answer_to, IsFresh, Clashes, added, Need, Verdict, recorded, Violated, Met, AllMet, IsRecorded, MayAdd, Said, Wrong, Linkage}
+use Rattle.cl_model.specs.Plans.{derive, load, Load, Request, Plan, Resolve, needs_of}
+use Rattle.cl_model.specs.States.{State, start, Entry, IsClass, Answer, settled_to, answer_to, IsFresh, Clashes, added, Need, Verdict, recorded, Violated, Met, AllMet, IsRecorded, MayAdd, Said, Wrong, Linkage, IsNext}
 use Rattle.cl_model.specs.Chains.{ReadsPlain, Waiting, first_or, stands_in, IsChain, NoneWaitsTwice, absent_of, EndsAtOnce}
-use Rattle.cl_model.specs.Service.{step_for, Makes, Begins, IsNextNeed, IsBegun, Serves, AllServed}
-use Rattle.cl_model.specs.Machine.{Setting, Scheduled, Step, Post, May, state_after, Run, Answers, IsClosed, IsSound, after, AnswersPlan, AnswersReference, IsPlan, HasLineage, IsResolution}
+use Rattle.cl_model.specs.Service.{Makes, Begins, IsNextNeed, IsBegun, Serves, AllServed}
+use Rattle.cl_model.specs.Machine.{Setting, Scheduled, Step, Post, May, state_after, Run, Answers, IsClosed, IsSound, after, AnswersPlan, AnswersReference, IsPlan, HasLineage, IsResolution, Define, step_for}
+use Rattle.std.specs.List.{AllByRecursion}
+use Rattle.cl_model.specs.Content.{content_at}
+use Rattle.cl_model.specs.declared.event.Event as events
+use Rattle.cl_model.specs.Views.{answer_at, steps_of, IsOther}
+use Rattle.cl_model.specs.Tables.{Allows, Orderly, IsTrusted, Stands}
 
 -- a home is its own home
 abbrev pub HomeOfHome : Type 0
@@ -265,3 +270,63 @@ CircularIsAnswered = (g : Setting) (s : State) (l place : ℕ) (name : Name) (x 
 -- a beginning of what needs make is a beginning
 abbrev pub PartBegins : Type 0
 PartBegins = (s : State) (ns : List Need) (xs ys : List Step) → Makes s ns (xs ++ ys) → Begins s ns xs
+
+-- a run in two parts is a run and one that goes on from its state
+abbrev pub RunThen : Type 0
+RunThen = (g : Setting) (s : State) (es fs : List Step) → Run g s es → Run g (state_after s es) fs → Run g s (es ++ fs)
+
+-- each part of a run is a run
+abbrev pub RunParts : Type 0
+RunParts = (g : Setting) (s : State) (es fs : List Step) → Run g s (es ++ fs) → Run g s es × Run g (state_after s es) fs
+
+-- the state after two parts
+abbrev pub StateThen : Type 0
+StateThen = (s : State) (es fs : List Step) → state_after s (es ++ fs) ≡ state_after (state_after s es) fs
+
+-- two answers of the machine to equal requests are equal
+abbrev pub SaidAlike : Type 0
+SaidAlike = (g : Setting) (s : State) (p q : ℕ) (a b : Scheduled) (v u : Verdict) → IsSound g s → slice_get g.script p ≡ Some a → slice_get g.script q ≡ Some b → a.request ≡ b.request → answer_to s.answers p ≡ Some (Said v) → answer_to s.answers q ≡ Some (Said u) → v ≡ u
+
+-- the answer of a request that got past the load of its class is that of the reference, which has one
+abbrev pub SaidReference : Type 0
+SaidReference = (g : Setting) (s : State) (q : ℕ) (a : Scheduled) (loader : ℕ) (name : Name) (i : ℕ) (p : Plan) (d : Class) (v : Verdict) → IsSound g s → slice_get g.script q ≡ Some a → a.request ≡ Resolve loader name i → IsPlan g.world (Resolve loader name i) p → p.reached ≡ Some d → AllMet s p.own → answer_to s.answers q ≡ Some (Said v) → AnswersReference g s d i v
+
+-- what has a file is spelled by its own loader's bytes, and the file names it
+abbrev pub FileIsSpelt : Type 0
+FileIsSpelt = (w : World) (c : Class) (f : File) → HasFile w c f → (bytes : List ℕ) × (content_at w.content c.loader c.name ≡ Some bytes) × (w.read bytes ≡ Ok f) × (f.name ≡ c.name)
+
+-- what a history tells, where it goes on
+abbrev pub StepsThen : Type 0
+StepsThen = (given : List (Option Answer)) (es fs : List events.Event) → steps_of given (es ++ fs) ≡ steps_of given es ++ steps_of given fs
+
+-- answers that differ at one request alone tell the same of a history in which it is not posted
+abbrev pub StepsSame : Type 0
+StepsSame = (given more : List (Option Answer)) (q : ℕ) → ((p : ℕ) → p ≢ q → answer_at more p ≡ answer_at given p) → (es : List events.Event) → AllByRecursion (IsOther q) es → steps_of more es ≡ steps_of given es
+
+-- the first need of a plan that does not stand may be made, unless it is refused
+abbrev pub NextMayBeMade : Type 0
+NextMayBeMade = (g : Setting) (s : State) (q : Request) (p : Plan) (n : Need) → IsClosed g.world s → IsPlan g.world q p → IsNext s (needs_of p) n → MayAdd s n → May g s (step_for n)
+
+-- the step of a need adds it
+abbrev pub StepAdds : Type 0
+StepAdds = (s : State) (n : Need) → after s (step_for n) ≡ added s n
+
+-- tables that were kept in order can be trusted
+abbrev pub OrderlyIsTrusted : Type 0
+OrderlyIsTrusted = (es : List Step) → Orderly start es → IsTrusted (state_after start es)
+
+-- a step that the tables allow keeps them so
+abbrev pub AllowedIsTrusted : Type 0
+AllowedIsTrusted = (s : State) (e : Step) → Allows s e → IsTrusted s → IsTrusted (after s e)
+
+-- tables in order stay so by a step that they allow
+abbrev pub OrderlyGoesOn : Type 0
+OrderlyGoesOn = (s : State) (es : List Step) (e : Step) → Orderly s es → Allows (state_after s es) e → Orderly s (es ++ e ∷ [])
+
+-- a run keeps the tables in order
+abbrev pub RunsAreOrderly : Type 0
+RunsAreOrderly = (g : Setting) (es : List Step) → Run g start es → Orderly start es
+
+-- a class is defined once
+abbrev pub DefinedOnce : Type 0
+DefinedOnce = (es fs : List Step) (c : Class) → Orderly start (es ++ Define c ∷ fs) → Stands es (Define c) ⊎ Stands fs (Define c) → ⊥

@@ -1,10 +1,10 @@
 -- The linkage machine, of one event a step, over a script of requests.
-use Rattle.std.specs.Prelude.{◌≡◌, ◌≢◌, ◌⊎◌, ℕ, ◌+◌, ◌<◌, List, [], ◌∷◌, ◌++◌, Some, None, Ok, slice_get, IsSome, Contains}
+use Rattle.std.specs.Prelude.{◌==◌, if◌then◌else◌, ◌≡◌, ◌≢◌, ◌⊎◌, ℕ, ◌+◌, ◌<◌, List, [], ◌∷◌, ◌++◌, Some, None, Ok, slice_get, IsSome, Contains}
 use Rattle.std.specs.List.{AllByRecursion}
 use Rattle.cl_classfile.specs.Files.{Name, File}
 use Rattle.cl_model.specs.Homes.{World, home}
 use Rattle.cl_model.specs.declared.class.Class.{Class}
-use Rattle.cl_model.specs.Classes.{IsAtHome, IsGood, HasFile, AtHome, Above, supers}
+use Rattle.cl_model.specs.Classes.{class, IsAtHome, IsGood, HasFile, AtHome, Above, supers}
 use Rattle.cl_model.specs.Lineages.{Kin}
 use Rattle.cl_model.specs.Preparation.{constraints_of}
 use Rattle.cl_model.specs.States.{State, Need, Entry, Equal, Verdict, BadEntry, ArrayMember, IsLinked, Linkage, Answer, Said, OutOfMemory, SourceFault, recorded, IsRecorded, settled_to, answer_to, Met, Refused, MayAdd, Violated, AllMet, IsNext, added}
@@ -180,6 +180,11 @@ state_after s (e ∷ es) = state_after (after s e) es
 abbrev pub Run : Setting → State → List Step → Type 0
 Run g s [] = Unit {0}
 Run g s (e ∷ es) = May g s e × Run g (after s e) es
+
+-- the step that makes a need stand
+abbrev pub step_for : Need → Step
+step_for (Entry loader name place) = if loader == place then Define (class name place) else Initiate name place loader
+step_for (Equal name a b) = Constrain name a b
 
 -- ---- what every state of a run is
 

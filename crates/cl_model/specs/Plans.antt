@@ -128,7 +128,7 @@ pub data Request : Type 0 where
   Resolve : (loader : ℕ) → (name : Name) → (index : ℕ) → Request
   Link : (loader : ℕ) → (name : Name) → Request
 
--- the class that a request loads
+-- the class that a request loads (5.3)
 abbrev pub loaded_by : Request → Ask
 loaded_by (Load loader name) = record { loader = loader; name = name }
 loaded_by (Resolve loader name i) = record { loader = loader; name = name }
@@ -161,7 +161,7 @@ plan_from w n q m = elim (m.ends) [
   | Ok k ↦ option_map (plan_after m k) (go_on_with w n q k)
 ]
 
--- the plan of a request, where a height suffices
+-- the plan of a request, where a height suffices (5.3 to 5.4.3)
 abbrev pub plan : World → ℕ → Request → Option Plan
 plan w n q = option_and_then (plan_from w n q) (load w n ClassNotFound (loaded_by q).loader (loaded_by q).name)
 

@@ -1,16 +1,15 @@
 -- Four loaders and a few classes, over which examples are computed.
-use Rattle.std.specs.Prelude.{ℕ, if◌then◌else◌, List, [], ◌∷◌, ◌++◌, map, codes, Option, Some, None, Result, Ok, Err, slice_get, option_map}
+use Rattle.std.specs.Prelude.{ℕ, List, [], ◌∷◌, ◌++◌, map, codes, Option, Some, None, Result, Ok, Err, slice_get, option_map}
 use Rattle.cl_descriptors.specs.declared.types.Base.TheVariants as bases
 use Rattle.cl_descriptors.specs.declared.types.FieldType.{FieldType}
-use Rattle.cl_descriptors.specs.declared.types.Descriptor.{Descriptor}
 use Rattle.cl_descriptors.specs.declared.types.Descriptor.TheVariants as descriptors
 use Rattle.cl_classfile.specs.Files.{Name, File, FileFault, BadFormat, Key, Member, Reference, ToClass, ToField, ToMethod, ToInterfaceMethod}
-use Rattle.cl_model.specs.Content.{Content, Stored}
-use Rattle.cl_model.specs.Homes.{World, Loader, Import, ParentFirst, ChildFirst}
+use Rattle.cl_model.specs.Content.{Content}
+use Rattle.cl_model.specs.Homes.{World, Loader, ParentFirst, ChildFirst}
 use Rattle.cl_model.specs.States.{Need, Verdict}
 use Rattle.cl_model.specs.Classes.{class}
 use Rattle.cl_model.specs.Machine.{Setting, Step, Define, Initiate, Constrain}
-use Rattle.cl_model.specs.Plans.{Request, Plan, plan, needs_of}
+use Rattle.cl_model.specs.Plans.{Request, Load, Resolve, plan, needs_of}
 
 -- the first loader; a second under it; a third under the second, child first; a fourth under the second
 abbrev pub boot : ℕ
@@ -166,13 +165,13 @@ lookups = bundle
     ∷ with_interfaces (codes "p/J3" ∷ codes "p/J1" ∷ codes "p/J2" ∷ []) (plain (codes "p/D"))
     ∷ with_interfaces (codes "p/J3" ∷ codes "p/J1" ∷ []) (plain (codes "p/E"))
     ∷ with_references
-      ((1, ToField (a_class (codes "p/C")) an_int)
-      ∷ (2, ToMethod (a_class (codes "p/D")) taking_none)
-      ∷ (3, ToMethod (a_class (codes "p/E")) taking_none)
-      ∷ (4, ToInterfaceMethod (a_class (codes "p/J1")) taking_none)
-      ∷ (5, ToInterfaceMethod (a_class (codes "p/D")) taking_none)
-      ∷ [])
-      (plain (codes "p/U"))
+    ((1, ToField (a_class (codes "p/C")) an_int)
+    ∷ (2, ToMethod (a_class (codes "p/D")) taking_none)
+    ∷ (3, ToMethod (a_class (codes "p/E")) taking_none)
+    ∷ (4, ToInterfaceMethod (a_class (codes "p/J1")) taking_none)
+    ∷ (5, ToInterfaceMethod (a_class (codes "p/D")) taking_none)
+    ∷ [])
+    (plain (codes "p/U"))
     ∷ [])
     ((boot, object, 0) ∷ (app, codes "p/I", 1) ∷ (app, codes "p/S", 2) ∷ (app, codes "p/C", 3) ∷ (app, codes "p/J1", 4) ∷ (app, codes "p/J2", 5) ∷ (app, codes "p/J3", 6) ∷ (app, codes "p/D", 7) ∷ (app, codes "p/E", 8) ∷ (app, codes "p/U", 9) ∷ [])
 
@@ -197,11 +196,11 @@ arrays = bundle
     (root
     ∷ plain (codes "p/T")
     ∷ with_references
-      ((2, ToMethod (record { dims = 1; base = bases.Int }) (record { name = codes "clone"; descriptor = descriptors.Method (record { params = []; ret = Some (a_class object) }) }))
-      ∷ (3, ToClass (record { dims = 2; base = bases.Class (codes "p/T") }))
-      ∷ (4, ToClass (record { dims = 1; base = bases.Int }))
-      ∷ [])
-      (plain (codes "p/X"))
+    ((2, ToMethod (record { dims = 1; base = bases.Int }) (record { name = codes "clone"; descriptor = descriptors.Method (record { params = []; ret = Some (a_class object) }) }))
+    ∷ (3, ToClass (record { dims = 2; base = bases.Class (codes "p/T") }))
+    ∷ (4, ToClass (record { dims = 1; base = bases.Int }))
+    ∷ [])
+    (plain (codes "p/X"))
     ∷ [])
     ((boot, object, 0) ∷ (app, codes "p/T", 1) ∷ (app, codes "p/X", 2) ∷ [])
 
@@ -249,3 +248,11 @@ across =
     ∷ Initiate object boot app ∷ Define (class (codes "p/Svc") app) ∷ Initiate (codes "p/Svc") app plug
     ∷ Constrain (codes "p/T") app plug ∷ Initiate object boot kid ∷ Define (class (codes "p/Use") kid)
     ∷ Initiate (codes "p/Svc") app kid ∷ Constrain (codes "p/T") app kid ∷ Define (class (codes "p/T") plug) ∷ []
+
+-- three requests in the first two of three rounds
+abbrev pub in_rounds : Setting
+in_rounds = record {
+  world = service;
+  script = record { request = Resolve plug (codes "p/Use") 1; round = 0 } ∷ record { request = Load app (codes "p/T"); round = 1 } ∷ record { request = Load plug (codes "p/T"); round = 1 } ∷ [];
+  rounds = 3;
+}

@@ -1,15 +1,9 @@
 -- Requests served one after another: what a history holds of each (JVMS SE 8, 5.3 to 5.4).
-use Rattle.std.specs.Prelude.{◌≡◌, ◌⊎◌, ℕ, suc, ◌==◌, if◌then◌else◌, List, [], ◌∷◌, ◌++◌}
-use Rattle.cl_model.specs.Classes.{class}
+use Rattle.std.specs.Prelude.{◌≡◌, ◌⊎◌, ℕ, suc, List, [], ◌∷◌, ◌++◌}
 use Rattle.cl_model.specs.Homes.{World}
-use Rattle.cl_model.specs.States.{State, Need, Entry, Equal, Verdict, Answer, Said, OutOfMemory, SourceFault, Met, Refused, MayAdd, IsNext}
+use Rattle.cl_model.specs.States.{State, Need, Verdict, Answer, Said, OutOfMemory, SourceFault, Met, Refused, MayAdd, IsNext}
 use Rattle.cl_model.specs.Plans.{Request, Plan, needs_of}
-use Rattle.cl_model.specs.Machine.{Setting, Scheduled, Step, Define, Initiate, Constrain, Post, IsPlan, AnswersPlan, after, state_after}
-
--- the one step that adds a need: a definer's record, that of another loader, or an equality (5.3, 5.3.4)
-abbrev pub step_for : Need → Step
-step_for (Entry loader name place) = if loader == place then Define (class name loader) else Initiate name place loader
-step_for (Equal name a b) = Constrain name a b
+use Rattle.cl_model.specs.Machine.{Setting, Scheduled, Step, Post, IsPlan, AnswersPlan, after, state_after, step_for}
 
 -- these steps make the unmet of these needs in order, up to the first that is refused
 abbrev pub Makes : State → List Need → List Step → Type 0

@@ -4,12 +4,12 @@ use Rattle.cl_classfile.specs.Files.{Name, Key, same_name}
 use Rattle.cl_model.specs.declared.class.Class.{Class}
 use Rattle.cl_model.specs.Classes.{same_class, Error}
 
--- what a request needs to stand: a record with its home, or an equality
+-- what a request needs to stand: a record with its home (5.3), or an equality (5.3.4)
 pub data Need : Type 0 where
   Entry : (loader : ℕ) → (name : Name) → (place : ℕ) → Need
   Equal : (name : Name) → (one : ℕ) → (other : ℕ) → Need
 
--- how a request ends
+-- how a request ends (5.3.5, 5.4.3)
 pub data Verdict : Type 0 where
   IsClass : (class : Class) → Verdict
   IsArrayOf : (dimensions : ℕ) → (class : Class) → Verdict
@@ -105,7 +105,7 @@ pub record Violated (s : State) : Type 0 where
   pub second : recorded s.records other name ≡ Some other_place
   pub differ : place ≢ other_place
 
--- a need stands in a state
+-- a need stands in a state (5.3, 5.3.4)
 abbrev pub Met : State → Need → Type 0
 Met s (Entry loader name place) = recorded s.records loader name ≡ Some place
 Met s (Equal name a b) = Joined s.equalities name a b

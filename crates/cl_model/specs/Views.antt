@@ -1,5 +1,5 @@
 -- What today's Rust types say, in the words of the linkage machine.
-use Rattle.std.specs.Prelude.{ℕ, List, map, Option, Some, None, slice_get, option_map, option_and_then}
+use Rattle.std.specs.Prelude.{◌≢◌, ℕ, List, map, Option, Some, None, slice_get, option_map, option_and_then}
 use Rattle.cl_model.specs.declared.class.Class.{Class}
 use Rattle.cl_model.specs.declared.verdict.ErrorKind.{ErrorKind}
 use Rattle.cl_model.specs.declared.verdict.ErrorKind.TheVariants as kinds
@@ -52,3 +52,8 @@ step_of given (events.TheVariants.Post q) = post_of q (answer_at given q)
 -- the steps that a history tells, where a post's answer stands in the answers at its number
 abbrev pub steps_of : List (Option Answer) → List events.Event → List Step
 steps_of given history = map (step_of given) history
+
+-- an event that is no post of this request
+abbrev pub IsOther : ℕ → events.Event → Type 0
+IsOther q (events.TheVariants.Define c) = Unit {0}
+IsOther q (events.TheVariants.Post p) = p ≢ q

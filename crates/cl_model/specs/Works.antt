@@ -4,7 +4,7 @@ use Rattle.cl_classfile.specs.Files.{Name}
 use Rattle.cl_model.specs.Classes.{Error}
 use Rattle.cl_model.specs.States.{Need}
 
--- a loader and a name that was asked of it
+-- a loader and a name that was asked of it (5.3)
 pub record Ask : Type 0 where
   pub loader : ℕ
   pub name : Name

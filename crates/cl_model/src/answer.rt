@@ -1,6 +1,9 @@
-use crate::loader::LoaderId;
+ghost use Rattle.std.specs.Prelude.{◌≡◌, length, map, string_bytes, IfOk};
+
+use crate::loader::{LoaderId, located_text};
 use crate::verdict::Verdict;
 use cl_names::Name;
+use std::alloc::{AllocError, Global};
 
 /// What a request is answered.
 #[derive(Debug, Drop, PartialEq, Eq)]
@@ -11,4 +14,23 @@ pub enum Answer {
     Memory,
     /// The source could not be read at this name of this loader. An answer of this request alone.
     SourceFault(Name, LoaderId),
+}
+
+impl Answer {
+    ghost use Rattle.cl_model.specs.Texts.{answer_text, AnswerNames};
+
+    /// The text that is printed behind the request's number, with each loader by its name.
+    pub fn text(&self, alloc: Global, loaders: &[String]) -> Result<String, AllocError>
+        requires { AnswerNames (length loaders.now) self.now }
+        ensures { IfOk result (λ t. string_bytes t ≡ answer_text (map string_bytes loaders.now) self.now) }
+    {
+        match self {
+            Answer::Said(verdict) => verdict.text(alloc, loaders),
+            Answer::Memory => String::from_str(alloc, "OutOfMemory"),
+            Answer::SourceFault(name, loader) => {
+                let place = located_text(alloc, loaders, name, *loader)?;
+                format!(in alloc; "SourceFault {place}")
+            }
+        }
+    }
 }

@@ -1,6 +1,6 @@
-ghost use Rattle.std.specs.Prelude.{◌≡◌, IfOk};
+ghost use Rattle.std.specs.Prelude.{◌≡◌, ◌<◌, length, map, string_bytes, IfOk};
 
-use crate::loader::LoaderId;
+use crate::loader::{LoaderId, located_text};
 use cl_names::Name;
 use std::alloc::{AllocError, Global};
 
@@ -12,6 +12,8 @@ pub struct Class {
 }
 
 impl Class {
+    ghost use Rattle.cl_model.specs.Texts.{class_text};
+
     /// A copy.
     pub fn try_clone(&self, alloc: Global) -> Result<Class, AllocError>
         ensures { IfOk result (λ c. c ≡ self.now) }
@@ -20,5 +22,13 @@ impl Class {
             name: self.name.try_clone(alloc)?,
             loader: self.loader,
         })
+    }
+
+    /// Its text `N@M`: the name in escaped text and the name of its loader.
+    pub fn text(&self, alloc: Global, loaders: &[String]) -> Result<String, AllocError>
+        requires { self.now.loader < length loaders.now }
+        ensures { IfOk result (λ t. string_bytes t ≡ class_text (map string_bytes loaders.now) self.now) }
+    {
+        located_text(alloc, loaders, &self.name, self.loader)
     }
 }

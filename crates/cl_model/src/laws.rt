@@ -1,4 +1,4 @@
-ghost use Rattle.cl_model.specs.Laws.{HomeOfHome, GoodIsNotFailing, RunGoesOn, RecordsStay, MetStays, NeverViolated, OneAnswer, HigherDerives, AnswersStay, DerivedIsGood, RecordedIsMet, RunsAreClosed, GoodIsDerived, ErrorIsFailing, OneError, GoodGrows, FailsGrows, FailingIsDerived, ReturnIsCircular, ReturnGoesOn, CircleReturns, ReturnIsDerived, OneSubject, FailureIsNoCircle, OneDerivation, GoodIsAtHome, ComesOut, CircularReturns, CircularGoesOn, PlanExists, OnePlan, LineageExists, OneLineage, ResolutionExists, OneResolution, DerivedIsLineage, LineageIsDerived, SettledStay, PreparedStay, PostedStay, RequestAnswerStays, ReferenceAnswerStays, OneRequestAnswer, OneReferenceAnswer, RunsAreSound, StepIsSound, ClashViolates, ViolationClashes, RecordedLoadStands, RecordedAnswers, UnmetIsFresh, ServiceGoesOn, ServiceIsWhole, ServicesGoOn, WaitingIsNext, RootIsNext, MissingStops, FaultyStops, CircleStops, AnswersAtOnce, CircleIsAnswered, CircularIsAnswered, PartBegins};
+ghost use Rattle.cl_model.specs.Laws.{HomeOfHome, GoodIsNotFailing, RunGoesOn, RecordsStay, MetStays, NeverViolated, OneAnswer, HigherDerives, AnswersStay, DerivedIsGood, RecordedIsMet, RunsAreClosed, GoodIsDerived, ErrorIsFailing, OneError, GoodGrows, FailsGrows, FailingIsDerived, ReturnIsCircular, ReturnGoesOn, CircleReturns, ReturnIsDerived, OneSubject, FailureIsNoCircle, OneDerivation, GoodIsAtHome, ComesOut, CircularReturns, CircularGoesOn, PlanExists, OnePlan, LineageExists, OneLineage, ResolutionExists, OneResolution, DerivedIsLineage, LineageIsDerived, SettledStay, PreparedStay, PostedStay, RequestAnswerStays, ReferenceAnswerStays, OneRequestAnswer, OneReferenceAnswer, RunsAreSound, StepIsSound, ClashViolates, ViolationClashes, RecordedLoadStands, RecordedAnswers, UnmetIsFresh, ServiceGoesOn, ServiceIsWhole, ServicesGoOn, WaitingIsNext, RootIsNext, MissingStops, FaultyStops, CircleStops, AnswersAtOnce, CircleIsAnswered, CircularIsAnswered, PartBegins, RunThen, RunParts, StateThen, SaidAlike, SaidReference, FileIsSpelt, StepsThen, StepsSame, NextMayBeMade, StepAdds, OrderlyIsTrusted, AllowedIsTrusted, OrderlyGoesOn, RunsAreOrderly, DefinedOnce};
 
 /// A home is its own home.
 pub fn home_of_home()
@@ -313,4 +313,79 @@ pub fn circular_is_answered()
 /// A beginning of what needs make is a beginning.
 pub fn part_begins()
     ensures { PartBegins }
+{}
+
+/// A run goes on by a run from its state.
+pub fn run_then()
+    ensures { RunThen }
+{}
+
+/// Each part of a run is a run.
+pub fn run_parts()
+    ensures { RunParts }
+{}
+
+/// The state after two parts of a history.
+pub fn state_then()
+    ensures { StateThen }
+{}
+
+/// Two answers of the machine to equal requests are equal.
+pub fn said_alike()
+    ensures { SaidAlike }
+{}
+
+/// The answer of a request that got past the load of its class is that of the reference.
+pub fn said_reference()
+    ensures { SaidReference }
+{}
+
+/// What has a file is spelled by its own bytes, and the file names it.
+pub fn file_is_spelt()
+    ensures { FileIsSpelt }
+{}
+
+/// What a history tells, where it goes on.
+pub fn steps_then()
+    ensures { StepsThen }
+{}
+
+/// Answers that differ at one request alone tell the same of a history in which it is not posted.
+pub fn steps_same()
+    ensures { StepsSame }
+{}
+
+/// The first need of a plan that does not stand may be made, unless it is refused.
+pub fn next_may_be_made()
+    ensures { NextMayBeMade }
+{}
+
+/// The step of a need adds it.
+pub fn step_adds()
+    ensures { StepAdds }
+{}
+
+/// Tables that were kept in order can be trusted, under any source.
+pub fn orderly_is_trusted()
+    ensures { OrderlyIsTrusted }
+{}
+
+/// A step that trusted tables allow keeps them so.
+pub fn allowed_is_trusted()
+    ensures { AllowedIsTrusted }
+{}
+
+/// Tables in order stay so by a step that they allow.
+pub fn orderly_goes_on()
+    ensures { OrderlyGoesOn }
+{}
+
+/// A run keeps the tables in order.
+pub fn runs_are_orderly()
+    ensures { RunsAreOrderly }
+{}
+
+/// A class is defined once, under any source.
+pub fn defined_once()
+    ensures { DefinedOnce }
 {}

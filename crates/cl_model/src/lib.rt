@@ -5,9 +5,9 @@ mod answer;
 mod class;
 mod event;
 pub mod laws;
-pub mod rows;
 mod loader;
 mod request;
+pub mod rows;
 mod told;
 mod verdict;
 

@@ -1,3 +1,8 @@
+ghost use Rattle.std.specs.Prelude.{◌≡◌, ◌<◌, [], length, map, slice_index_or, string_bytes, IfOk};
+ghost use Rattle.cl_model.specs.Texts.{located_text};
+
+use cl_names::Name;
+use std::alloc::{AllocError, Global};
 use std::marker::Model;
 
 /// A class loader, by its place in the configuration, counted from 0 (JVMS SE 8, 5.3).
@@ -12,4 +17,28 @@ impl Model for LoaderId {
     ghost view = { λ l. l.0 };
 
     ghost inverse = { λ n. record { 0 = n } };
+}
+
+/// The text `N@M` of a name and a loader.
+pub(crate) fn located_text(
+    alloc: Global,
+    loaders: &[String],
+    name: &Name,
+    loader: LoaderId,
+) -> Result<String, AllocError>
+    requires { loader < length loaders.now }
+    ensures { IfOk result (λ t. string_bytes t ≡ located_text (map string_bytes loaders.now) name.now loader) }
+{
+    let mut text = name.text(alloc)?;
+    text.push_str("@")?;
+    text.push_str(loader_name(loaders, loader))?;
+    Ok(text)
+}
+
+/// The name of a loader.
+fn loader_name<'a>(loaders: &'a [String], loader: LoaderId) -> &'a str
+    requires { loader < length loaders.now }
+    ensures { result.now ≡ slice_index_or (map string_bytes loaders.now) loader [] }
+{
+    loaders[usize::from(loader.0)].as_str()
 }

@@ -3,11 +3,11 @@
 ghost use Rattle.std.specs.Prelude.{◌≡◌, List, ◌∷◌, [], Some, None, option_map, codes};
 ghost use Rattle.cl_model.specs.Homes.{home};
 ghost use Rattle.cl_model.specs.Classes.{class, ClassFormat, NoClassDef, ClassCircularity, IncompatibleClassChange, IllegalAccess};
-ghost use Rattle.cl_model.specs.States.{Entry, Equal, IsClass, IsArrayOf, IsArrayOfBase, IsField, IsMethod, IsLinked, Wrong, BadEntry, ArrayMember, Linkage, Said, SourceFault, start};
-ghost use Rattle.cl_model.specs.Machine.{Define, Initiate, Constrain, Prepare, NextRound, AnswersPlan, state_after};
+ghost use Rattle.cl_model.specs.States.{Entry, Equal, IsClass, IsArrayOf, IsArrayOfBase, IsField, IsMethod, IsLinked, Wrong, BadEntry, ArrayMember, Linkage, Said, OutOfMemory, SourceFault, start};
+ghost use Rattle.cl_model.specs.Machine.{Define, Initiate, Constrain, Prepare, Post, NextRound, AnswersPlan, MayPost, MayGoOn, after, state_after};
 ghost use Rattle.cl_model.specs.Lines.{line, verdict_text, answer_text, answer_line};
 ghost use Rattle.cl_model.specs.Plans.{plan, Load, Resolve, Link, cost};
-ghost use Rattle.cl_model.specs.Rows.{boot, app, plug, kid, object, copies, service, bad, circle, missing, hidden, lookups, overriding, arrays, importing, taking, taking_t, taking_none, an_int, ends_at, needs_at, more_at, names, over, both_defined, constrained, across, three_users};
+ghost use Rattle.cl_model.specs.Rows.{boot, app, plug, kid, object, copies, service, bad, circle, missing, hidden, lookups, overriding, arrays, importing, taking, taking_t, taking_none, an_int, ends_at, needs_at, more_at, names, over, both_defined, constrained, across, three_users, in_rounds};
 
 /// A search goes to the parent first, or to the own content first; a `java/` name is searched in
 /// the first loader alone; what an import takes hides the own content.
@@ -131,4 +131,17 @@ pub fn printed_lines()
     ensures equality { verdict_text names (Linkage (Equal (codes "p/T") app plug)) ≡ codes "LinkageError equal p/T app plug" }
     ensures fault { answer_text names (SourceFault (codes "p/T") boot) ≡ codes "SourceFault p/T@boot" }
     ensures array { answer_line names 9 (Said (IsArrayOf 2 (class (codes "p/T") app))) ≡ codes "10 array 2 p/T@app" }
+{}
+
+/// A request is answered in its round, once; the next round begins when all of this one are
+/// answered, if there is one, also where no request is of it.
+pub fn round_discipline()
+    ensures early { MayPost in_rounds start 1 OutOfMemory → ⊥ }
+    ensures no_request { MayPost in_rounds start 9 OutOfMemory → ⊥ }
+    ensures unanswered { MayGoOn in_rounds start → ⊥ }
+    ensures posted { MayPost in_rounds start 0 OutOfMemory }
+    ensures again { MayPost in_rounds (after start (Post 0 OutOfMemory)) 0 OutOfMemory → ⊥ }
+    ensures next { MayGoOn in_rounds (after start (Post 0 OutOfMemory)) }
+    ensures empty_next { MayGoOn in_rounds (state_after start (Post 0 OutOfMemory ∷ NextRound ∷ Post 1 OutOfMemory ∷ Post 2 OutOfMemory ∷ [])) }
+    ensures no_next { MayGoOn in_rounds (state_after start (Post 0 OutOfMemory ∷ NextRound ∷ Post 1 OutOfMemory ∷ Post 2 OutOfMemory ∷ NextRound ∷ [])) → ⊥ }
 {}

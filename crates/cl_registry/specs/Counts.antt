@@ -17,3 +17,9 @@ CountsFault old new Twice = ⊥
 abbrev pub Counts : {A : Type 0} → ℕ → ℕ → Result A SourceFault → Type 0
 Counts old new (Ok probe) = new ≡ old
 Counts old new (Err fault) = CountsFault old new fault
+
+-- a source that refuses one read: which, how many reads until then, and how many were refused
+pub record Faulting : Type 0 where
+  pub at : ℕ
+  pub until : ℕ
+  pub refused : ℕ

@@ -3,11 +3,33 @@
 #![tactic(auto)]
 
 pub mod config;
+pub mod draft;
+pub mod faulty;
+pub mod finding;
+#[cfg(test)]
+mod input_tests;
+pub mod lines;
+pub mod memory;
+pub mod registry;
 pub mod report;
+pub mod row;
 pub mod script;
+pub mod search;
+mod shelf;
 pub mod source;
+mod tables;
+pub mod walk;
 
-pub use config::Config;
+pub use config::{Config, ConfigFault};
+pub use draft::{Draft, DraftFault, DraftRefused, Unreadable};
+pub use faulty::FaultySource;
+pub use finding::{Finding, Obstacle};
+pub use lines::{Line, Lines, Stated, Words, is_skipped};
+pub use memory::{MemorySource, PutRefused, Telling};
+pub use registry::{DefineRefused, NotYet, PostRefused, Registry, RegistryFault};
 pub use report::{Answers, History, Report};
-pub use script::Script;
+pub use row::ClassRow;
+pub use script::{Script, ScriptFault, text_is_one_script};
+pub use search::{Home, Search, SearchFault, Unfound, WrongProbe};
 pub use source::{ClassBytes, Outcome, Probe, Source, SourceFault};
+pub use walk::Walk;

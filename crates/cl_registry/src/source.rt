@@ -1,9 +1,9 @@
-ghost use Rattle.std.specs.Prelude.{◌≡◌, ℕ, IfOk, IfErr};
+ghost use Rattle.std.specs.Prelude.{◌≡◌, ◌+◌, ◌^◌, ℕ, IfOk, IfErr, IsErrOf};
 ghost use Rattle.cl_registry.specs.Told.{IsTold};
 
 use cl_model::{LoaderId, Told};
 use cl_names::Name;
-use std::alloc::Global;
+use std::alloc::{AllocError, Global};
 use std::marker::{Model, PhantomData};
 use std::sync::Arc;
 use thiserror::Error;
@@ -36,6 +36,13 @@ impl ClassBytes {
         ensures { result.now ≡ self.now }
     {
         self.items.as_slice()
+    }
+
+    /// The bytes, taken out.
+    pub fn into_vec(self) -> Vec<u8>
+        ensures { result.items ≡ self }
+    {
+        self.items
     }
 }
 
@@ -119,6 +126,16 @@ pub enum SourceFault {
     Twice,
 }
 
+impl From<AllocError> for SourceFault {
+    ghost use Rattle.cl_registry.specs.declared.source.SourceFault.TheVariants.{Memory};
+
+    ghost from_gives = { λ _ e. e ≡ Memory };
+
+    fn from(_e: AllocError) -> SourceFault {
+        SourceFault::Memory
+    }
+}
+
 /// Gives the bytes that each loader's own content has for a name (JVMS SE 8, 5.3.2).
 pub trait Source<T: Told>: Drop {
     ghost use Rattle.cl_registry.specs.Counts.{Counts};
@@ -126,7 +143,7 @@ pub trait Source<T: Told>: Drop {
     /// How many reads the source has refused for another cause than memory.
     ghost refused: { Self → ℕ };
 
-    /// What stands for a loader and a name.
+    /// What stands for a loader and a name. Once the count of failures is at its end, every read is `Device`.
     fn read(
         &mut self,
         alloc: Global,
@@ -134,7 +151,8 @@ pub trait Source<T: Told>: Drop {
         name: &Name,
     ) -> Result<Probe<T>, SourceFault>
         ensures asked { IfOk result (λ p. (p.loader ≡ loader) × (p.name ≡ name.now)) }
-        ensures counts { Counts (refused self.old) (refused self.new) result };
+        ensures counts { Counts (refused self.old) (refused self.new) result }
+        ensures spent { refused self.old + 1 ≡ 2 ^ 64 → IsErrOf result SourceFault.Device };
 
     /// How many reads were refused for another cause than memory, at most 2^64 - 1.
     fn failures(&self) -> u64

@@ -1,5 +1,4 @@
-use Rattle.std.proofs.Common.{◌≡◌, ◌∙◌, ap, unwrap_or, false}
-use Rattle.cl_classfile.specs.Structure.{at}
+use Rattle.std.proofs.Common.{◌∙◌}
 use Rattle.cl_classfile.proofs.Entries.{named, text_kept, text_refused, class_kept}
 use Rattle.cl_classfile.proofs.checking.kept_entry.Goals as goal
 

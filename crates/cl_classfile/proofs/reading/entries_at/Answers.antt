@@ -1,8 +1,8 @@
-use Rattle.std.proofs.Common.{◌≡◌, ◌++◌, ◌∷◌, [], ◌+◌, ◌∙◌, ap, sym, arith}
+use Rattle.std.proofs.Common.{◌≡◌, ◌++◌, ◌∷◌, [], ◌+◌, ◌∙◌, ap}
 use Rattle.std.proofs.lemmas.Result.{err_from_is_err_and}
 use Rattle.std.proofs.lemmas.List.{map-append}
 use Rattle.cl_classfile.specs.Raw.{plain_entry, plain_entries}
-use Rattle.cl_classfile.specs.Reading.{many_at, entry_at, entries_at}
+use Rattle.cl_classfile.specs.Reading.{entry_at, entries_at}
 use Rattle.cl_classfile.proofs.Loop.{starts, goes_on, ends, is_done}
 use Rattle.cl_classfile.proofs.reading.entries_at.Goals as goal
 

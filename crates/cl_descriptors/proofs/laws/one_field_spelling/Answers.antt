@@ -1,4 +1,4 @@
-use Rattle.std.proofs.Common.{◌≡◌, sym, ◌∙◌, Some}
+use Rattle.std.proofs.Common.{sym, ◌∙◌}
 use Rattle.std.proofs.lemmas.Option.{same_Some}
 use Rattle.cl_descriptors.proofs.Methods.{whole_field_spelled, whole_field_again}
 use Rattle.cl_descriptors.proofs.laws.one_field_spelling.Goals as goal

@@ -1,7 +1,6 @@
-use Rattle.std.proofs.Common.{◌≡◌, ◌+◌, ◌≤◌, ◌<◌, List, ℕ, length, sym, ap, ◌∙◌, subst, Some, None, arith}
+use Rattle.std.proofs.Common.{◌<◌, List, length, sym, ap, ◌∙◌, arith}
 use Rattle.std.specs.Prelude.{sum_by}
 use Rattle.std.specs.List.{list_all}
-use Rattle.cl_descriptors.specs.Reading.{field_at, all_types}
 use Rattle.cl_descriptors.specs.Types.{is_shallow}
 use Rattle.cl_descriptors.specs.Units.{units_of_field}
 use Rattle.cl_descriptors.specs.Pieces.{seen}

@@ -1,5 +1,4 @@
-use Rattle.std.proofs.Common.{◌≡◌, sym, ◌∙◌, ap, Some, arith}
-use Rattle.std.specs.Prelude.{option_map}
+use Rattle.std.proofs.Common.{sym}
 use Rattle.cl_descriptors.specs.Pieces.{outlined}
 use Rattle.cl_descriptors.proofs.Methods.{whole_method_spelled}
 use Rattle.cl_descriptors.proofs.reading.method_of.Goals as goal

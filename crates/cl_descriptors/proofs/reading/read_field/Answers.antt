@@ -1,4 +1,4 @@
-use Rattle.std.proofs.Common.{◌≡◌, subst}
+use Rattle.std.proofs.Common.{subst}
 use Rattle.cl_descriptors.specs.Answers.{Gives}
 use Rattle.cl_descriptors.proofs.Outcomes.{field_is, field_of_spelling}
 use Rattle.cl_descriptors.proofs.reading.read_field.Goals as goal

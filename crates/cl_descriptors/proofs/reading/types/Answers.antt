@@ -1,10 +1,8 @@
-use Rattle.std.proofs.Common.{◌≡◌, ◌+◌, ◌≤◌, ◌++◌, ◌∷◌, [], length, sym, ap, ◌∙◌, subst, Some, None, List, arith}
+use Rattle.std.proofs.Common.{sym}
 use Rattle.std.proofs.lemmas.Bool.{leb-true}
-use Rattle.cl_descriptors.specs.Reading.{field_at, all_types}
 use Rattle.cl_descriptors.specs.Pieces.{seen}
-use Rattle.cl_descriptors.specs.declared.types.FieldType.{FieldType}
 use Rattle.cl_descriptors.proofs.Fields.{field}
-use Rattle.cl_descriptors.proofs.Loop.{Passed, goes_on, shorter, next_is_shallow, types-end}
+use Rattle.cl_descriptors.proofs.Loop.{goes_on, shorter, next_is_shallow, types-end}
 use Rattle.cl_descriptors.proofs.reading.types.Goals as goal
 
 pub build-requires-clause-named : goal.build-requires-clause-named

@@ -17,13 +17,22 @@ pub returns-clause-refused : goal.returns-clause-refused
 returns-clause-refused c = record {
   plan = the (plan three_users 3 (Load kid (codes "p/T")));
   planned = record { height = 3; planned = refl };
-  answered = inl (refl, inl (refl, inr (
-    refused_record (state_after start across) (codes "p/T") kid plug kid plug refl
-      (record { path = app ∷ plug ∷ []; along = (
-        record { equality = record { name = codes "p/T"; one = app; other = kid }; imposed = (1, omega arith, refl); named = refl; ends = inr (refl, refl) },
-        (record { equality = record { name = codes "p/T"; one = app; other = plug }; imposed = (0, omega arith, refl); named = refl; ends = inl (refl, refl) }, refl),
-      ) })
-      refl (λ e. absurd cc),
+  answered = inl (
     refl,
-  )));
+    inl (
+      refl,
+      inr (
+        refused_record (state_after start across) (codes "p/T") kid plug kid plug refl
+            (record {
+              path = app ∷ plug ∷ [];
+              along = (
+                record { equality = record { name = codes "p/T"; one = app; other = kid }; imposed = (1, omega arith, refl); named = refl; ends = inr (refl, refl) },
+                (record { equality = record { name = codes "p/T"; one = app; other = plug }; imposed = (0, omega arith, refl); named = refl; ends = inl (refl, refl) }, refl),
+              );
+            })
+            refl (λ e. absurd cc),
+        refl,
+      ),
+    ),
+  );
 }

@@ -10,8 +10,29 @@ pub returns : goal.returns
 returns c = record {
   plan = the (plan service 3 (Resolve plug (codes "p/Use") 1));
   planned = record { height = 3; planned = refl };
-  answered = inl (refl, inl (refl, inl (refl, inl (refl, inl (refl, inl (refl, inl (refl, inr (
-    refused_equal (state_after start both_defined) (codes "p/T") app plug app plug refl (λ e. absurd cc) refl refl (λ e. absurd cc),
+  answered = inl (
     refl,
-  ))))))));
+    inl (
+      refl,
+      inl (
+        refl,
+        inl (
+          refl,
+          inl (
+            refl,
+            inl (
+              refl,
+              inl (
+                refl,
+                inr (
+                  refused_equal (state_after start both_defined) (codes "p/T") app plug app plug refl (λ e. absurd cc) refl refl (λ e. absurd cc),
+                  refl,
+                ),
+              ),
+            ),
+          ),
+        ),
+      ),
+    ),
+  );
 }

@@ -1,0 +1,7 @@
+pub mod LineCuts
+pub mod Places
+pub mod Contents
+pub mod Requests
+pub mod Homes
+pub mod Kept
+pub mod Walks

@@ -1,0 +1,29 @@
+use Rattle.std.proofs.Common.{◌≡◌, ◌∙◌, refl, ap, sym, length, subst, None, is_some, Option, ℕ, List}
+use Rattle.std.specs.Option.{option_map}
+use Rattle.cl_model.specs.declared.event.Event.{Event}
+use Rattle.cl_model.specs.States.{recorded}
+use Rattle.cl_registry.specs.Drafts.{IsDraft}
+use Rattle.cl_registry.specs.Tables.{Shown, MayEnter, DefinedAs, records_of}
+use Rattle.cl_registry.proofs.Kept.{kept_define, may_enter, unrecorded_at, known_at}
+use Rattle.cl_registry.proofs.registry.Registry.define.Goals as goal
+
+abbrev shown : (g : _) → goal.After-drop-draft-inside-3 g → Shown
+shown g c = record { config = c.self.inside.config.value; script = c.self.inside.script.value; history = c.self.inside.history.items; answers = c.self.inside.answers.items }
+
+fresh : (g : _) (c : goal.After-drop-draft-inside-3 g) → recorded (records_of (shown g c)) c.args.draft.class.loader c.args.draft.class.name ≡ None
+fresh g c = unrecorded_at (λ r. r.value) g.T.Told.told (shown g c) _ c.self.invariant.rows c.args.draft.class.loader c.args.draft.class.name (sym c.known.ensures ∙ ap (option_map (λ r. r.now)) c.in-None.is)
+
+may : (g : _) (c : goal.After-drop-draft-inside-3 g) → MayEnter (shown g c) c.args.draft
+may g c = may_enter (shown g c) _ c.count.result c.args.draft (c.count.ensures.count ∙ ap (λ k. length k.names) c.deref.ensures) (known_at (λ r. r.value) g.T.Told.told (shown g c) _ c.self.invariant.rows) c.if-not-may_enter.ensures
+
+pub invariant_of-self-2 : goal.invariant_of-self-2
+invariant_of-self-2 g c =
+    rw c.in-Ok-record.ensures.event
+    (kept_define g.T.Told.told (shown g c) _ _ c.args.draft c.in-Ok-record.row.value _ _ _ _ _ _ _ _ _ c.self.invariant (fresh g c) (may g c) (subst (IsDraft g.T.Told.told) c.draft.view_is c.draft.invariant) c.in-Ok-record.ensures.row
+    c.in-Ok-record.ensures.put c.in-Ok-record.ensures.width c.in-Ok-record.ensures.used c.in-Ok-record.ensures.room)
+
+pub returns-clause-defined : goal.returns-clause-defined
+returns-clause-defined g c =
+    subst (λ (x : Shown). DefinedAs x (record (shown g c) { history = c.record.new.history.items }) c.args.draft (recorded (records_of x) c.args.draft.class.loader c.args.draft.class.name)) c.self.view_is
+    (subst (λ (o : Option ℕ). DefinedAs (shown g c) (record (shown g c) { history = c.record.new.history.items }) c.args.draft o) (sym (fresh g c))
+    (ap (λ (h : List Event). record (shown g c) { history = h }) c.in-Ok-record.ensures.event, may g c))

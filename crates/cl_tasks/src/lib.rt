@@ -1,0 +1,11 @@
+//! A request as a task: turn by turn, to its answer.
+#![tactic(auto)]
+
+mod phase;
+mod stage;
+mod step;
+mod task;
+
+pub use phase::Phase;
+pub use stage::{Reply, Turn};
+pub use task::{Task, TaskRefused};

@@ -1,0 +1,54 @@
+use cl_model::{LoaderId, Request, Told};
+use cl_names::Name;
+use cl_registry::{ClassRow, Draft, Finding, Probe, Search, SourceFault, Walk};
+use std::sync::Arc;
+
+/// What a task is told: the answer or the refusal of the call that its last turn asked for.
+#[derive(Drop)]
+pub enum Reply<T: Told> {
+    /// To be the first.
+    Start,
+    Looked(Option<Arc<ClassRow>>),
+    Probed(Probe<T>),
+    Defined(Arc<ClassRow>),
+    /// Memory was refused.
+    Memory,
+    SourceFault(SourceFault),
+}
+
+/// The call that a task asks for.
+#[derive(Drop)]
+pub enum Turn<T: Told> {
+    /// To look a name up at a loader.
+    Look(LoaderId, Name),
+    /// To read a name of a loader.
+    Read(LoaderId, Name),
+    /// To record a class.
+    Define(Draft<T>),
+    /// To post the answer. It is the last.
+    Post(Finding<T>),
+}
+
+/// A request, and how far its derivation went.
+#[derive(Drop)]
+pub struct Job<T: Told> {
+    pub request: Request,
+    pub walk: Walk<T>,
+}
+
+/// What a task is at.
+#[derive(Drop)]
+pub enum Stage<T: Told> {
+    Fresh(Job<T>),
+    Looking(Job<T>),
+    Searching(Job<T>, Search<T>),
+    Defining(Job<T>),
+    Done,
+}
+
+/// A turn, and what the task is at after it.
+#[derive(Drop)]
+pub struct Next<T: Told> {
+    pub stage: Stage<T>,
+    pub turn: Turn<T>,
+}

@@ -1,0 +1,4 @@
+pub mod Cutting
+pub mod Headings
+pub mod Serving
+pub mod Written

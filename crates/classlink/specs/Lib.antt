@@ -1,0 +1,5 @@
+pub mod Cuts
+pub mod Faults
+pub mod Report
+pub mod Sections
+pub mod Serving

@@ -1,0 +1,235 @@
+//! Whole runs of the program, over a slice and two vectors.
+
+use crate::run::run_over;
+use std::io::{self, ErrorKind, Read, Write};
+use std::process::Abort;
+use std::test::Fail;
+
+/// What a run answers and writes.
+#[derive(Clone, Copy)]
+struct Row<'a> {
+    name: &'a str,
+    text: &'a str,
+    status: u8,
+    out: &'a str,
+    err: &'a str,
+}
+
+fn check<R: AllocGlobal + Abort>(rt: &R, row: &Row<'_>) {
+    let mut out = Vec::new(rt.alloc());
+    let mut err = Vec::new(rt.alloc());
+    let input = row.text.as_bytes();
+    let status = run_over(rt, &["classlink", "bundle"], input, &mut out, &mut err);
+    assert_eq!(rt; status, row.status, "{}", row.name);
+    assert_eq!(rt; out.as_slice(), row.out.as_bytes(), "{}", row.name);
+    assert_eq!(rt; err.as_slice(), row.err.as_bytes(), "{}", row.name);
+}
+
+#[test]
+fn bundles_are_run(rt: HostRuntime) -> Result<(), Fail> {
+    let rows = [
+        Row {
+            name: "object_bundle",
+            text: "%config\n[[loader]]\nname = \"boot\"\n%class boot java/lang/Object\n@hex cafebabe0000003400030100106a6176612f6c616e672f4f626a6563740700010021000200000000000000000000\n%script\nload boot java/lang/Object\n",
+            status: 0,
+            out: "define java/lang/Object@boot\n1 class java/lang/Object@boot\n",
+            err: "",
+        },
+        Row {
+            name: "truncated_object",
+            text: "%config\n[[loader]]\nname = \"boot\"\n%class boot java/lang/Object\n@hex cafebabe0000003400030100106a6176612f6c616e672f4f626a65637407000100210002000000000000000000\n%script\nload boot java/lang/Object\n",
+            status: 0,
+            out: "1 ClassFormatError java/lang/Object@boot\n",
+            err: "",
+        },
+        Row {
+            name: "empty_script",
+            text: "%config\n[[loader]]\nname = \"boot\"\n%script\n",
+            status: 0,
+            out: "",
+            err: "",
+        },
+        Row {
+            name: "missing_class",
+            text: "%config\n[[loader]]\nname = \"boot\"\n%script\nload boot p/X",
+            status: 0,
+            out: "1 ClassNotFoundException p/X@boot\n",
+            err: "",
+        },
+        Row {
+            name: "empty_text",
+            text: "\n# nothing\n",
+            status: 1,
+            out: "",
+            err: "classlink: bundle line 0\n",
+        },
+        Row {
+            name: "no_config",
+            text: "\n%class boot p/A\n",
+            status: 1,
+            out: "",
+            err: "classlink: bundle line 2\n",
+        },
+        Row {
+            name: "second_config",
+            text: "%config\n%config\n%script\n",
+            status: 1,
+            out: "",
+            err: "classlink: bundle line 2\n",
+        },
+        Row {
+            name: "no_script",
+            text: "%config\n[[loader]]\nname = \"boot\"\n",
+            status: 1,
+            out: "",
+            err: "classlink: bundle line 0\n",
+        },
+        Row {
+            name: "other_configuration",
+            text: "# a remark\n%config\n[[loader]]\nname = \"app\"\n%script\n",
+            status: 1,
+            out: "",
+            err: "classlink: bundle line 2\n",
+        },
+        Row {
+            name: "no_class_name",
+            text: "%config\n[[loader]]\nname = \"boot\"\n%class boot p.A\n%script\n",
+            status: 1,
+            out: "",
+            err: "classlink: bundle line 4\n",
+        },
+        Row {
+            name: "unknown_loader",
+            text: "%config\n[[loader]]\nname = \"boot\"\n%class app p/A\n@hex\n%script\n",
+            status: 1,
+            out: "",
+            err: "classlink: bundle line 4\n",
+        },
+        Row {
+            name: "repeated_section",
+            text: "%config\n[[loader]]\nname = \"boot\"\n%class boot p/A\n@hex\n%class boot \\u0070/A\n@hex 00\n%script\n",
+            status: 1,
+            out: "",
+            err: "classlink: bundle line 6\n",
+        },
+        Row {
+            name: "half_a_byte",
+            text: "%config\n[[loader]]\nname = \"boot\"\n%class boot p/A\n@hex 0\n@hex 0 0\n%script\n",
+            status: 1,
+            out: "",
+            err: "classlink: bundle line 4\n",
+        },
+        Row {
+            name: "assembler_text",
+            text: "%config\n[[loader]]\nname = \"boot\"\n%class boot p/A\n# nothing\n%script\n",
+            status: 1,
+            out: "",
+            err: "classlink: bundle line 4\n",
+        },
+        Row {
+            name: "script_faults",
+            text: "%config\n[[loader]]\nname = \"boot\"\n%script\n\nload app p/A\n",
+            status: 1,
+            out: "",
+            err: "classlink: script: L2 UnknownLoader 2\n",
+        },
+    ];
+    for row in &rows {
+        check(&rt, row);
+    }
+    Ok(())
+}
+
+#[test]
+fn words_are_refused_or_helped(rt: HostRuntime) -> Result<(), Fail> {
+    let rows: [(&[&str], u8); 6] = [
+        (&["classlink"], 2),
+        (&["classlink", "run", "a", "b"], 2),
+        (&["classlink", "read", "a"], 2),
+        (&["classlink", "bundle", "--workers", "2"], 2),
+        (&["classlink", "--help"], 0),
+        (&["classlink", "bundle", "--help"], 0),
+    ];
+    for (words, status) in rows {
+        let mut out = Vec::new(rt.alloc());
+        let mut err = Vec::new(rt.alloc());
+        let text: &[u8] = b"";
+        assert_eq!(rt; run_over(&rt, words, text, &mut out, &mut err), status);
+        assert_eq!(rt; out.is_empty(), status == 2);
+        assert_eq!(rt; err.is_empty(), status == 0);
+    }
+    Ok(())
+}
+
+/// A reader that fails behind some bytes.
+#[derive(Drop)]
+struct FailingReader<'a>(&'a [u8]);
+
+impl Read for FailingReader<'_> {
+    fn read(&mut self, buf: &mut [u8]) -> io::Result<usize> {
+        if self.0.is_empty() {
+            return Err(io::Error::from(ErrorKind::ConnectionReset));
+        }
+        self.0.read(buf)
+    }
+}
+
+/// A writer that takes one byte at a time, and refuses the write behind the last.
+struct FailingWriter {
+    bytes: Vec<u8>,
+    room: usize,
+}
+
+impl Write for FailingWriter {
+    fn write(&mut self, buf: &[u8]) -> io::Result<usize> {
+        let Some(byte) = buf.first() else {
+            return Ok(0);
+        };
+        if self.bytes.len() >= self.room {
+            return Err(io::Error::from(ErrorKind::BrokenPipe));
+        }
+        self.bytes.push(*byte)?;
+        Ok(1)
+    }
+
+    fn flush(&mut self) -> io::Result<()> {
+        Ok(())
+    }
+}
+
+const OBJECT_BUNDLE: &str =
+    "%config\n[[loader]]\nname = \"boot\"\n%class boot java/lang/Object\n@hex cafebabe0000003400030100106a6176612f6c616e672f4f626a6563740700010021000200000000000000000000\n%script\nload boot java/lang/Object\n";
+
+#[test]
+fn reads_and_writes_fail(rt: HostRuntime) -> Result<(), Fail> {
+    let words = ["classlink", "bundle"];
+    let lines = "define java/lang/Object@boot\n1 class java/lang/Object@boot\n";
+    let mut out = Vec::new(rt.alloc());
+    let mut err = Vec::new(rt.alloc());
+    let reader = FailingReader(OBJECT_BUNDLE.as_bytes());
+    assert_eq!(rt; run_over(&rt, &words, reader, &mut out, &mut err), 1);
+    assert_eq!(rt; out.as_slice(), b"".as_slice());
+    assert_eq!(rt;
+        err.as_slice(),
+        b"classlink: cannot read standard input\n".as_slice()
+    );
+    for room in [0usize, 1, 40, lines.len()] {
+        let mut out = FailingWriter {
+            bytes: Vec::new(rt.alloc()),
+            room,
+        };
+        let mut err = Vec::new(rt.alloc());
+        let status = run_over(&rt, &words, OBJECT_BUNDLE.as_bytes(), &mut out, &mut err);
+        let FailingWriter { bytes, room: _ } = out;
+        assert!(rt; lines.as_bytes().starts_with(bytes.as_slice()));
+        assert_eq!(rt; bytes.len(), room);
+        assert_eq!(rt; status, if room == lines.len() { 0 } else { 1 });
+        let want = if status == 0 {
+            ""
+        } else {
+            "classlink: cannot write\n"
+        };
+        assert_eq!(rt; err.as_slice(), want.as_bytes());
+    }
+    Ok(())
+}

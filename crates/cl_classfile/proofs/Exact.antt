@@ -15,7 +15,7 @@ use Rattle.cl_classfile.proofs.Spelled.{IsRead, structure}
 use Rattle.cl_classfile.proofs.Quiet.{is_header, in_header}
 use Rattle.cl_classfile.proofs.Tables.{tables_say, file_says, file_told}
 
-ended : {A : Type 0} (b : Bool) (x y : A) → cond b (Ok x) (Err Trailing) ≡ Ok y → (b ≡ true) × (x ≡ y)
+pub ended : {A : Type 0} (b : Bool) (x y : A) → cond b (Ok x) (Err Trailing) ≡ Ok y → (b ≡ true) × (x ≡ y)
 ended true x y e = (refl, cc)
 ended false x y e = absurd cc
 

@@ -1,3 +1,4 @@
+pub mod Narrow
 pub mod Loop
 pub mod Entries
 pub mod Codec

@@ -170,7 +170,7 @@ well : {A : Type 0} (w : World) (n : ℕ) (path : List Class) (a : Work A) → N
 well w n path a none (inl h) = h
 well w n path a none (inr h) = absurd (none h.0 h.1 h.3 h.5)
 
-load_ill : (w : World) (d : Class → Work Kin) (e : Error) (absent : Class → Error) (loader : ℕ) (name : Name) (place : ℕ) → home w loader name ≡ Some place → Ends (d (class name place)) (Err e) → Ends (load_by w d absent loader name) (Err e)
+pub load_ill : (w : World) (d : Class → Work Kin) (e : Error) (absent : Class → Error) (loader : ℕ) (name : Name) (place : ℕ) → home w loader name ≡ Some place → Ends (d (class name place)) (Err e) → Ends (load_by w d absent loader name) (Err e)
 load_ill w d e absent loader name place f h =
     then_ends (ask loader name) (sought w d absent loader name) tt (Err e) (at_once _)
     (then_ends (or_fail (absent (class name loader)) (home w loader name)) (found w d loader name) place (Err e) (or_fail_ends (absent (class name loader)) (home w loader name) place f)

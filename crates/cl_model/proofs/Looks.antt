@@ -60,15 +60,15 @@ pub answers_met : (s : State) (ns : List Need) (ends v : Verdict) → AllMet s n
 answers_met s [] ends v h e = e
 answers_met s (n ∷ ns) ends v h e = inl (h.0, answers_met s ns ends v h.1 e)
 
-planned_at : (w : World) (n : ℕ) (q : Request) (m : Made Kin) (o : Option (Made Kin)) (p : Plan) → o ≡ Some m → plan_from w n q m ≡ Some p → option_and_then (plan_from w n q) o ≡ Some p
+pub planned_at : (w : World) (n : ℕ) (q : Request) (m : Made Kin) (o : Option (Made Kin)) (p : Plan) → o ≡ Some m → plan_from w n q m ≡ Some p → option_and_then (plan_from w n q) o ≡ Some p
 planned_at w n q m None p h k = absurd cc
 planned_at w n q m (Some x) p h k = let same : x ≡ m = cc in subst (λ (z : Made Kin). plan_from w n q z ≡ Some p) (sym same) k
 
 -- the plan of a load that ends in a class
-abbrev loading : Made Kin → Class → Plan
+abbrev pub loading : Made Kin → Class → Plan
 loading m c = record { own = m.needs; more = []; asked = m.asked ++ []; reached = Some c; ends = IsClass c }
 
-loads : (w : World) (n : ℕ) (loader : ℕ) (name : Name) (m : Made Kin) (k : Kin) → m.ends ≡ Ok k → plan_from w n (Load loader name) m ≡ Some (loading m k.class)
+pub loads : (w : World) (n : ℕ) (loader : ℕ) (name : Name) (m : Made Kin) (k : Kin) → m.ends ≡ Ok k → plan_from w n (Load loader name) m ≡ Some (loading m k.class)
 loads w n loader name m k h = at m.ends h
   where
     at : (r : Result Kin Error) → r ≡ Ok k → (elim r as (λ x. Option Plan) [

@@ -101,7 +101,7 @@ joined_self ks name a = record { path = []; along = refl }
 linked_back : (ks : List Equality) (name : Name) (a b : ℕ) → Linked ks name a b → Linked ks name b a
 linked_back ks name a b h = record { equality = h.equality; imposed = h.imposed; named = h.named; ends = elim (h.ends) [ inl x ↦ inr x | inr x ↦ inl x ] }
 
-joined_link : (ks : List Equality) (name : Name) (a b : ℕ) → Linked ks name a b → Joined ks name a b
+pub joined_link : (ks : List Equality) (name : Name) (a b : ℕ) → Linked ks name a b → Joined ks name a b
 joined_link ks name a b h = record { path = b ∷ []; along = (h, refl) }
 
 path_back : (ks : List Equality) (name : Name) (a : ℕ) (path : List ℕ) (b : ℕ) → IsPath ks name a path b → Joined ks name b a
@@ -346,7 +346,7 @@ record_found (x ∷ rs) r h = at ((x.loader == r.loader) && same_name x.name r.n
     at true ih k = absurd cc
     at false ih k = ih k
 
-last_linked : (ks : List Equality) (name : Name) (a b : ℕ) → Linked (ks ++ record { name = name; one = a; other = b } ∷ []) name a b
+pub last_linked : (ks : List Equality) (name : Name) (a b : ℕ) → Linked (ks ++ record { name = name; one = a; other = b } ∷ []) name a b
 last_linked ks name a b = record { equality = record { name = name; one = a; other = b }; imposed = Contains-append_right ks (record { name = name; one = a; other = b } ∷ []) (record { name = name; one = a; other = b }) (0, omega arith, refl); named = refl; ends = inl (refl, refl) }
 
 -- a fresh need that clashes would violate, if it were added

@@ -1,19 +1,21 @@
 -- Laws of the definitions: each is the contract of a function without a body.
-use Rattle.std.specs.Prelude.{◌≡◌, ℕ, suc, List, [], ◌∷◌, ◌++◌, Some, None, Ok, Err, ◌⊎◌, Contains, Option, slice_get, ◌≢◌}
-use Rattle.std.specs.List.{AllByRecursion}
+use Rattle.std.specs.Prelude.{◌≡◌, ℕ, suc, ◌+◌, true, false, List, [], ◌∷◌, ◌++◌, length, Some, None, Ok, Err, ◌⊎◌, Contains, Option, slice_get, ◌≢◌}
 use Rattle.cl_classfile.specs.Files.{Name, File}
+use Rattle.cl_model.specs.Homes.{World, home}
+use Rattle.cl_model.specs.declared.class.Class.{Class}
+use Rattle.cl_model.specs.Classes.{class, Error, ClassCircularity, file_of, HasFile, IsAtHome, Good, IsGood, Fails, Circular, Next, Returns}
+use Rattle.cl_model.specs.Lineages.{Kin, IsLineage}
+use Rattle.cl_model.specs.Works.{Made}
+use Rattle.cl_model.specs.Plans.{derive, load, Load, Request, Plan, Resolve, needs_of}
+use Rattle.cl_model.specs.States.{State, start, Entry, IsClass, Answer, settled_to, answer_to, IsFresh, Clashes, added, Need, Verdict, recorded, Violated, Met, AllMet, IsRecorded, MayAdd, Said, Wrong, Linkage, IsNext}
+use Rattle.cl_model.specs.Chains.{ReadsPlain, Waiting, first_or, stands_in, IsChain, NoneWaitsTwice, absent_of, EndsAtOnce}
+use Rattle.cl_model.specs.Service.{Makes, Begins, IsNextNeed, IsBegun, Serves, AllServed}
+use Rattle.cl_model.specs.Machine.{Setting, Scheduled, Step, Post, May, state_after, Run, Answers, IsClosed, IsSound, after, AnswersPlan, AnswersReference, IsPlan, HasLineage, IsResolution, Define, step_for}
+use Rattle.std.specs.List.{AllByRecursion}
 use Rattle.cl_model.specs.Content.{content_at}
 use Rattle.cl_model.specs.declared.event.Event as events
 use Rattle.cl_model.specs.Views.{answer_at, steps_of, IsOther}
-use Rattle.cl_model.specs.Homes.{World, home}
-use Rattle.cl_model.specs.declared.class.Class.{Class}
-use Rattle.cl_model.specs.Classes.{class, Error, ClassCircularity, HasFile, IsAtHome, Good, IsGood, Fails, Circular, Next, Returns}
-use Rattle.cl_model.specs.Lineages.{Kin, IsLineage}
-use Rattle.cl_model.specs.Works.{Made}
-use Rattle.cl_model.specs.Plans.{derive, load, Load, Resolve, needs_of, Request, Plan}
-use Rattle.cl_model.specs.States.{State, start, IsNext, MayAdd, Said, Entry, IsClass, Answer, settled_to, answer_to, IsFresh, Clashes, added, Need, Verdict, recorded, Violated, Met, AllMet, IsRecorded}
 use Rattle.cl_model.specs.Tables.{Allows, Orderly, IsTrusted, Stands}
-use Rattle.cl_model.specs.Machine.{Define, Setting, Step, May, state_after, Run, Answers, IsClosed, IsSound, Scheduled, step_for, after, AnswersPlan, AnswersReference, IsPlan, HasLineage, IsResolution}
 
 -- a home is its own home
 abbrev pub HomeOfHome : Type 0
@@ -218,6 +220,56 @@ RecordedAnswers = (g : Setting) (s : State) (loader place : ℕ) (name : Name) �
 -- a record that is wanted with its home and does not stand is fresh
 abbrev pub UnmetIsFresh : Type 0
 UnmetIsFresh = (w : World) (s : State) (loader place : ℕ) (name : Name) → IsClosed w s → home w loader name ≡ Some place → (Met s (Entry loader name place) → ⊥) → recorded s.records loader name ≡ None
+
+-- ---- service
+
+-- a beginning of a service goes on by the need that comes next
+abbrev pub ServiceGoesOn : Type 0
+ServiceGoesOn = (w : World) (r : Request) (s : State) (es : List Step) (n : Need) → IsBegun w r s es → IsNextNeed w (state_after s es) r n → MayAdd (state_after s es) n → IsBegun w r s (es ++ step_for n ∷ [])
+
+-- a service follows the plan: a beginning in whose last state the request has an answer is whole
+abbrev pub ServiceIsWhole : Type 0
+ServiceIsWhole = (g : Setting) (q : ℕ) (r : Request) (s : State) (es : List Step) (v : Verdict) → IsBegun g.world r s es → AnswersPlan g (state_after s es) r v → Serves g q r s (es ++ Post q (Said v) ∷ [])
+
+-- services go on by that of the next request
+abbrev pub ServicesGoOn : Type 0
+ServicesGoOn = (g : Setting) (q p : ℕ) (s : State) (rs : List Scheduled) (r : Scheduled) (es more : List Step) → AllServed g q s rs es → Serves g p r.request (state_after s es) more → p ≡ q + length rs → AllServed g q s (rs ++ r ∷ []) (es ++ more)
+
+-- where a superclass is recorded, the record of the class that waits for it is the need that comes next
+abbrev pub WaitingIsNext : Type 0
+WaitingIsNext = (w : World) (s : State) (l : ℕ) (xs : List Waiting) (x : Waiting) (at : Name) → ReadsPlain w → IsClosed w s → IsRecorded s (class at l) → IsChain w l (xs ++ x ∷ []) at → IsNextNeed w s (Load l (first_or xs x.name)) (Entry l x.name l)
+
+-- where what is looked for has no superclass, its own record is the need that comes next
+abbrev pub RootIsNext : Type 0
+RootIsNext = (w : World) (s : State) (l : ℕ) (xs : List Waiting) (at : Name) (f : File) → ReadsPlain w → IsChain w l xs at → HasFile w (class at l) f → f.super_name ≡ None → IsNextNeed w s (Load l (first_or xs at)) (Entry l at l)
+
+-- where what is looked for has no home, the load ends at once: the request's own class is not found, another not defined
+abbrev pub MissingStops : Type 0
+MissingStops = (w : World) (l : ℕ) (xs : List Waiting) (at : Name) → IsChain w l xs at → NoneWaitsTwice xs → home w l at ≡ None → EndsAtOnce w (Load l (first_or xs at)) (Wrong (absent_of xs (class at l)))
+
+-- where the bytes of what is looked for are not its class, the load ends at once in what is wrong with them
+abbrev pub FaultyStops : Type 0
+FaultyStops = (w : World) (l : ℕ) (xs : List Waiting) (at : Name) (e : Error) → IsChain w l xs at → NoneWaitsTwice xs → stands_in xs at ≡ false → home w l at ≡ Some l → file_of w (class at l) ≡ Err e → EndsAtOnce w (Load l (first_or xs at)) (Wrong e)
+
+-- where what is looked for waits already, the load ends at once in the circle, with it as its subject
+abbrev pub CircleStops : Type 0
+CircleStops = (w : World) (l : ℕ) (xs : List Waiting) (at : Name) → IsChain w l xs at → NoneWaitsTwice xs → stands_in xs at ≡ true → EndsAtOnce w (Load l (first_or xs at)) (Wrong (ClassCircularity (class at l)))
+
+-- a request whose plan ends at once is answered so in every state
+abbrev pub AnswersAtOnce : Type 0
+AnswersAtOnce = (g : Setting) (s : State) (r : Request) (v : Verdict) → EndsAtOnce g.world r v → AnswersPlan g s r v
+
+-- a load is answered a circle only where its home is circular, of the class that its walk meets again
+abbrev pub CircleIsAnswered : Type 0
+CircleIsAnswered = (g : Setting) (s : State) (l : ℕ) (name : Name) (x : Class) → AnswersPlan g s (Load l name) (Wrong (ClassCircularity x)) → (place : ℕ) × (home g.world l name ≡ Some place) × Returns g.world [] (class name place) x
+
+-- a load whose home is circular is answered so, unless a need before is refused
+abbrev pub CircularIsAnswered : Type 0
+CircularIsAnswered = (g : Setting) (s : State) (l place : ℕ) (name : Name) (x : Class) (v : Verdict) → home g.world l name ≡ Some place → Returns g.world [] (class name place) x → AnswersPlan g s (Load l name) v → (v ≡ Wrong (ClassCircularity x)) ⊎ ((n : Need) × (v ≡ Linkage n))
+
+-- a beginning of what needs make is a beginning
+abbrev pub PartBegins : Type 0
+PartBegins = (s : State) (ns : List Need) (xs ys : List Step) → Makes s ns (xs ++ ys) → Begins s ns xs
 
 -- a run in two parts is a run and one that goes on from its state
 abbrev pub RunThen : Type 0

@@ -1,5 +1,5 @@
 -- What is printed for classes, verdicts, answers and events, where loaders are written by their names.
-use Rattle.std.specs.Prelude.{ℕ, ◌<◌, ⊤, List, [], ◌∷◌, ◌++◌, length, slice_index_or, codes, Option, Some, None}
+use Rattle.std.specs.Prelude.{ℕ, ◌<◌, ⊤, List, [], ◌++◌, slice_index_or, codes, Option, Some, None}
 use Rattle.cl_names.specs.Escape.{escaped}
 use Rattle.cl_model.specs.declared.class.Class.{Class}
 use Rattle.cl_model.specs.declared.verdict.ErrorKind.{ErrorKind}

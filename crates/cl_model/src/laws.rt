@@ -1,4 +1,4 @@
-ghost use Rattle.cl_model.specs.Laws.{HomeOfHome, GoodIsNotFailing, RunGoesOn, RecordsStay, MetStays, NeverViolated, OneAnswer, HigherDerives, AnswersStay, DerivedIsGood, RecordedIsMet, RunsAreClosed, GoodIsDerived, ErrorIsFailing, OneError, GoodGrows, FailsGrows, FailingIsDerived, ReturnIsCircular, ReturnGoesOn, CircleReturns, ReturnIsDerived, OneSubject, FailureIsNoCircle, OneDerivation, GoodIsAtHome, ComesOut, CircularReturns, CircularGoesOn, PlanExists, OnePlan, LineageExists, OneLineage, ResolutionExists, OneResolution, DerivedIsLineage, LineageIsDerived, SettledStay, PreparedStay, PostedStay, RequestAnswerStays, ReferenceAnswerStays, OneRequestAnswer, OneReferenceAnswer, RunsAreSound, StepIsSound, ClashViolates, ViolationClashes, RecordedLoadStands, RecordedAnswers, UnmetIsFresh, RunThen, RunParts, StateThen, SaidAlike, SaidReference, FileIsSpelt, StepsThen, StepsSame, NextMayBeMade, StepAdds, OrderlyIsTrusted, AllowedIsTrusted, OrderlyGoesOn, RunsAreOrderly, DefinedOnce};
+ghost use Rattle.cl_model.specs.Laws.{HomeOfHome, GoodIsNotFailing, RunGoesOn, RecordsStay, MetStays, NeverViolated, OneAnswer, HigherDerives, AnswersStay, DerivedIsGood, RecordedIsMet, RunsAreClosed, GoodIsDerived, ErrorIsFailing, OneError, GoodGrows, FailsGrows, FailingIsDerived, ReturnIsCircular, ReturnGoesOn, CircleReturns, ReturnIsDerived, OneSubject, FailureIsNoCircle, OneDerivation, GoodIsAtHome, ComesOut, CircularReturns, CircularGoesOn, PlanExists, OnePlan, LineageExists, OneLineage, ResolutionExists, OneResolution, DerivedIsLineage, LineageIsDerived, SettledStay, PreparedStay, PostedStay, RequestAnswerStays, ReferenceAnswerStays, OneRequestAnswer, OneReferenceAnswer, RunsAreSound, StepIsSound, ClashViolates, ViolationClashes, RecordedLoadStands, RecordedAnswers, UnmetIsFresh, ServiceGoesOn, ServiceIsWhole, ServicesGoOn, WaitingIsNext, RootIsNext, MissingStops, FaultyStops, CircleStops, AnswersAtOnce, CircleIsAnswered, CircularIsAnswered, PartBegins, RunThen, RunParts, StateThen, SaidAlike, SaidReference, FileIsSpelt, StepsThen, StepsSame, NextMayBeMade, StepAdds, OrderlyIsTrusted, AllowedIsTrusted, OrderlyGoesOn, RunsAreOrderly, DefinedOnce};
 
 /// A home is its own home.
 pub fn home_of_home()
@@ -253,6 +253,66 @@ pub fn recorded_answers()
 /// A record that is wanted with its home and does not stand is fresh.
 pub fn unmet_is_fresh()
     ensures { UnmetIsFresh }
+{}
+
+/// A beginning of a service goes on by the need that comes next.
+pub fn service_goes_on()
+    ensures { ServiceGoesOn }
+{}
+
+/// A beginning of a service in whose last state the request has an answer is whole.
+pub fn service_is_whole()
+    ensures { ServiceIsWhole }
+{}
+
+/// Services go on by that of the next request.
+pub fn services_go_on()
+    ensures { ServicesGoOn }
+{}
+
+/// Where a superclass is recorded, the record of the class that waits for it is the need that comes next.
+pub fn waiting_is_next()
+    ensures { WaitingIsNext }
+{}
+
+/// Where what is looked for has no superclass, its own record is the need that comes next.
+pub fn root_is_next()
+    ensures { RootIsNext }
+{}
+
+/// Where what is looked for has no home, the load ends at once: the request's own class is not found, another not defined.
+pub fn missing_stops()
+    ensures { MissingStops }
+{}
+
+/// Where the bytes of what is looked for are not its class, the load ends at once in what is wrong with them.
+pub fn faulty_stops()
+    ensures { FaultyStops }
+{}
+
+/// Where what is looked for waits already, the load ends at once in the circle.
+pub fn circle_stops()
+    ensures { CircleStops }
+{}
+
+/// A request whose plan ends at once is answered so in every state.
+pub fn answers_at_once()
+    ensures { AnswersAtOnce }
+{}
+
+/// A load is answered a circle only where its home is circular, of the class that its walk meets again.
+pub fn circle_is_answered()
+    ensures { CircleIsAnswered }
+{}
+
+/// A load whose home is circular is answered so, unless a need before is refused.
+pub fn circular_is_answered()
+    ensures { CircularIsAnswered }
+{}
+
+/// A beginning of what needs make is a beginning.
+pub fn part_begins()
+    ensures { PartBegins }
 {}
 
 /// A run goes on by a run from its state.

@@ -1,0 +1,5 @@
+use Rattle.cl_model.proofs.Chains.{next_waiting}
+use Rattle.cl_model.proofs.laws.waiting_is_next.Goals as goal
+
+pub returns : goal.returns
+returns c = next_waiting

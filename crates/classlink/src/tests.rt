@@ -141,6 +141,65 @@ fn bundles_are_run(rt: HostRuntime) -> Result<(), Fail> {
 }
 
 #[test]
+fn superclasses_are_loaded(rt: HostRuntime) -> Result<(), Fail> {
+    let rows = [
+        Row {
+            name: "superclass_chain",
+            text: "%config\n[[loader]]\nname = \"boot\"\n%class boot java/lang/Object\n@hex cafebabe0000003400030100106a6176612f6c616e672f4f626a6563740700010021000200000000000000000000\n%class boot p/A\n@hex cafebabe000000340005010003702f410700010100106a6176612f6c616e672f4f626a6563740700030021000200040000000000000000\n%class boot p/B\n@hex cafebabe000000340005010003702f42070001010003702f410700030021000200040000000000000000\n%script\nload boot p/B\nload boot p/A\n",
+            status: 0,
+            out: "define java/lang/Object@boot\ndefine p/A@boot\ndefine p/B@boot\n1 class p/B@boot\n2 class p/A@boot\n",
+            err: "",
+        },
+        Row {
+            name: "circle_of_one",
+            text: "%config\n[[loader]]\nname = \"boot\"\n%class boot p/A\n@hex cafebabe000000340005010003702f41070001010003702f410700030021000200040000000000000000\n%script\nload boot p/A\n",
+            status: 0,
+            out: "1 ClassCircularityError p/A@boot\n",
+            err: "",
+        },
+        Row {
+            name: "circle_of_two",
+            text: "%config\n[[loader]]\nname = \"boot\"\n%class boot p/A\n@hex cafebabe000000340005010003702f41070001010003702f420700030021000200040000000000000000\n%class boot p/B\n@hex cafebabe000000340005010003702f42070001010003702f410700030021000200040000000000000000\n%class boot p/C\n@hex cafebabe000000340005010003702f43070001010003702f410700030021000200040000000000000000\n%script\nload boot p/A\nload boot p/B\nload boot p/C\n",
+            status: 0,
+            out: "1 ClassCircularityError p/A@boot\n2 ClassCircularityError p/B@boot\n3 ClassCircularityError p/A@boot\n",
+            err: "",
+        },
+        Row {
+            name: "circle_of_three",
+            text: "%config\n[[loader]]\nname = \"boot\"\n%class boot p/A\n@hex cafebabe000000340005010003702f41070001010003702f420700030021000200040000000000000000\n%class boot p/B\n@hex cafebabe000000340005010003702f42070001010003702f430700030021000200040000000000000000\n%class boot p/C\n@hex cafebabe000000340005010003702f43070001010003702f410700030021000200040000000000000000\n%script\nload boot p/B\n",
+            status: 0,
+            out: "1 ClassCircularityError p/B@boot\n",
+            err: "",
+        },
+        Row {
+            name: "missing_superclass",
+            text: "%config\n[[loader]]\nname = \"boot\"\n%class boot p/A\n@hex cafebabe000000340005010003702f41070001010003702f5a0700030021000200040000000000000000\n%script\nload boot p/A\n",
+            status: 0,
+            out: "1 NoClassDefFoundError p/Z@boot\n",
+            err: "",
+        },
+        Row {
+            name: "other_name",
+            text: "%config\n[[loader]]\nname = \"boot\"\n%class boot java/lang/Object\n@hex cafebabe0000003400030100106a6176612f6c616e672f4f626a6563740700010021000200000000000000000000\n%class boot p/X\n@hex cafebabe000000340005010003702f410700010100106a6176612f6c616e672f4f626a6563740700030021000200040000000000000000\n%script\nload boot p/X\n",
+            status: 0,
+            out: "1 NoClassDefFoundError p/X@boot\n",
+            err: "",
+        },
+        Row {
+            name: "other_version",
+            text: "%config\n[[loader]]\nname = \"boot\"\n%class boot java/lang/Object\n@hex cafebabe0000003400030100106a6176612f6c616e672f4f626a6563740700010021000200000000000000000000\n%class boot p/A\n@hex cafebabe000000350005010003702f410700010100106a6176612f6c616e672f4f626a6563740700030021000200040000000000000000\n%script\nload boot p/A\n",
+            status: 0,
+            out: "1 UnsupportedClassVersionError p/A@boot\n",
+            err: "",
+        },
+    ];
+    for row in &rows {
+        check(&rt, row);
+    }
+    Ok(())
+}
+
+#[test]
 fn words_are_refused_or_helped(rt: HostRuntime) -> Result<(), Fail> {
     let rows: [(&[&str], u8); 6] = [
         (&["classlink"], 2),

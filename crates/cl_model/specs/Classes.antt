@@ -15,6 +15,7 @@ class name loader = record { name = name; loader = loader }
 abbrev pub same_class : Class → Class → Bool
 same_class a b = same_name a.name b.name && (a.loader == b.loader)
 
+-- a class is one of these (5.3)
 abbrev pub is_among : List Class → Class → Bool
 is_among cs c = list_any (same_class c) cs
 
@@ -43,6 +44,7 @@ is_own loader (Some place) = place == loader
 abbrev pub bytes_of : World → Class → Option (List ℕ)
 bytes_of w c = if is_own c.loader (home w c.loader c.name) then content_at w.content c.loader c.name else None
 
+-- the error that a fault of the bytes is (5.3.5, step 2; version before the rest of the form is chosen here)
 abbrev pub fault_of : Class → FileFault → Error
 fault_of c BadVersion = UnsupportedVersion c
 fault_of c BadFormat = ClassFormat c

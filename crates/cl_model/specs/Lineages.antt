@@ -44,6 +44,7 @@ pub record IsLineage (w : World) (k : Kin) : Type 0 where
 abbrev pub alone : Kin → Forest
 alone k = Tree k.class k.file k.superclass k.interfaces Bare
 
+-- the classes of these, in order
 abbrev pub classes : List Kin → List Class
 classes ks = map (λ k. k.class) ks
 
@@ -68,6 +69,7 @@ abbrev pub once_after : List Class → List Kin → List Kin
 once_after seen [] = []
 once_after seen (k ∷ ks) = if is_among seen k.class then once_after seen ks else k ∷ once_after (k.class ∷ seen) ks
 
+-- each class at its first place alone, from the front
 abbrev pub once : List Kin → List Kin
 once ks = once_after [] ks
 
@@ -93,6 +95,7 @@ is_subclass k c = is_among (classes (superclasses k)) c
 abbrev pub field_of : Kin → Key → Option Member
 field_of k key = member k.file.fields key
 
+-- the method with this key that a class declares (4.6)
 abbrev pub method_of : Kin → Key → Option Member
 method_of k key = member k.file.methods key
 

@@ -11,6 +11,7 @@ use Rattle.cl_model.specs.Classes.{class, Error, ClassNotFound, NoClassDef, Clas
 use Rattle.cl_model.specs.States.{Need, Entry, Equal, Verdict, IsClass, IsArrayOf, IsArrayOfBase, IsField, IsMethod, IsLinked, BadEntry, ArrayMember, Wrong, Linkage, Answer, Said, OutOfMemory, SourceFault}
 use Rattle.cl_model.specs.Machine.{Step, Define, Initiate, Constrain, Settle, Prepare, Post, NextRound, Stray}
 
+-- the bytes of a printed text
 abbrev pub Text : Type 0
 Text = List ℕ
 
@@ -37,6 +38,7 @@ spelling_of (descriptors.Method t) = spelling_of_method t
 abbrev pub member_texts : List Text → Class → Key → List Text
 member_texts names c key = class_text names c ∷ escaped key.name ∷ escaped (spelling_of key.descriptor) ∷ []
 
+-- the words of an error: its name and its subject (5.3.5, 5.4.3, 5.4.4)
 abbrev pub error_texts : List Text → Error → List Text
 error_texts names (ClassNotFound c) = codes "ClassNotFoundException" ∷ class_text names c ∷ []
 error_texts names (NoClassDef c) = codes "NoClassDefFoundError" ∷ class_text names c ∷ []
@@ -53,6 +55,7 @@ abbrev pub need_texts : List Text → Need → List Text
 need_texts names (Entry loader name place) = codes "record" ∷ class_text names (class name loader) ∷ []
 need_texts names (Equal name a b) = codes "equal" ∷ escaped name ∷ loader_text names a ∷ loader_text names b ∷ []
 
+-- the words of a verdict (5.4.3)
 abbrev pub verdict_texts : List Text → Verdict → List Text
 verdict_texts names (IsClass c) = codes "class" ∷ class_text names c ∷ []
 verdict_texts names (IsArrayOf dimensions c) = codes "array" ∷ decimal dimensions ∷ class_text names c ∷ []
@@ -65,9 +68,11 @@ verdict_texts names ArrayMember = codes "ArrayMember" ∷ []
 verdict_texts names (Wrong e) = error_texts names e
 verdict_texts names (Linkage n) = codes "LinkageError" ∷ need_texts names n
 
+-- the text of a verdict
 abbrev pub verdict_text : List Text → Verdict → Text
 verdict_text names v = words (verdict_texts names v)
 
+-- the text of an answer
 abbrev pub answer_text : List Text → Answer → Text
 answer_text names (Said v) = verdict_text names v
 answer_text names OutOfMemory = codes "OutOfMemory"

@@ -150,6 +150,7 @@ pub record MayGoOn (g : Setting) (s : State) : Type 0 where
   pub answered : (q : ℕ) (e : Scheduled) → slice_get g.script q ≡ Some e → e.round ≡ s.round → IsSome (answer_to s.answers q)
   pub later : s.round + 1 < g.rounds
 
+-- a step may happen in a state (5.3 to 5.4.3)
 abbrev pub May : Setting → State → Step → Type 0
 May g s (Define c) = MayDefine g s c
 May g s (Initiate name place loader) = MayInitiate g s name place loader
@@ -162,6 +163,7 @@ May g s Stray = ⊥
 
 -- ---- what happens
 
+-- the state after a step: one entry more, and nothing else changes
 abbrev pub after : State → Step → State
 after s (Define c) = added s (Entry c.loader c.name c.loader)
 after s (Initiate name place loader) = added s (Entry loader name place)
@@ -172,6 +174,7 @@ after s (Post q a) = record s { answers = s.answers ++ record { request = q; ans
 after s NextRound = record s { round = s.round + 1 }
 after s Stray = s
 
+-- the state after these steps
 abbrev pub state_after : State → List Step → State
 state_after s [] = s
 state_after s (e ∷ es) = state_after (after s e) es

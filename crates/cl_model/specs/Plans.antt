@@ -64,6 +64,7 @@ resolve_class w n d name =
     >>= λ k. unless_wrong (if class_accessible k.file.flags k.class d.class then None else Some (IllegalAccess k.class))
     >>= λ b. done k
 
+-- a class, or an array of it (5.4.3.1, 5.3.3)
 abbrev pub class_verdict : ℕ → Class → Verdict
 class_verdict zero c = IsClass c
 class_verdict (suc n) c = IsArrayOf (suc n) c
@@ -75,6 +76,7 @@ member_target t = elim (element_name t.base) [
   | name ∷ more ↦ if t.dims == 0 then Some name else None
 ]
 
+-- the flags of a member that was found (4.5, 4.6)
 abbrev pub flags_of : Option Member → ℕ
 flags_of None = 0
 flags_of (Some m) = m.flags
@@ -86,6 +88,7 @@ resolve_found d c owner found key verdict =
     >>= λ a. need (equals_of key owner.class.loader d.class.loader)
     >>= λ b. done verdict
 
+-- a field of c: lookup, then access and equality (5.4.3.2)
 abbrev pub resolve_field : Kin → Key → Kin → Work Verdict
 resolve_field d key c =
     or_fail (NoSuchField c.class) (lookup_field c key)
@@ -104,6 +107,7 @@ abbrev pub resolve_member : World → ℕ → Kin → Option Name → (Kin → W
 resolve_member w n d None member = done ArrayMember
 resolve_member w n d (Some name) member = resolve_class w n d name >>= λ c. member c
 
+-- what a reference of d is resolved to, by its kind (5.4.3.1 to 5.4.3.4)
 abbrev pub resolve_reference : World → ℕ → Kin → Reference → Work Verdict
 resolve_reference w n d (ToClass t) = elim (element_name t.base) [
   | [] ↦ done (IsArrayOfBase t.dims (letter t.base))
@@ -148,13 +152,16 @@ pub record Plan : Type 0 where
   pub reached : Option Class
   pub ends : Verdict
 
+-- the verdict that a resolution ends in
 abbrev pub ending : Result Verdict Error → Verdict
 ending (Ok v) = v
 ending (Err e) = Wrong e
 
+-- the plan of a load that ends in a class, and of what follows it
 abbrev pub plan_after : Made Kin → Kin → Made Verdict → Plan
 plan_after m k r = record { own = m.needs; more = r.needs; asked = m.asked ++ r.asked; reached = Some k.class; ends = ending r.ends }
 
+-- the plan of a request, from what its load made
 abbrev pub plan_from : World → ℕ → Request → Made Kin → Option Plan
 plan_from w n q m = elim (m.ends) [
   | Err e ↦ Some (record { own = m.needs; more = []; asked = m.asked; reached = None; ends = Wrong e })
@@ -171,6 +178,7 @@ needs_of p = p.own ++ p.more
 
 -- ---- cost
 
+-- the same loader and name
 abbrev pub same_ask : Ask → Ask → Bool
 same_ask a b = (a.loader == b.loader) && same_name a.name b.name
 
@@ -193,6 +201,7 @@ edges_of w a = elim (file_of w (class a.name a.loader)) [
   | Ok f ↦ length (supers f)
 ]
 
+-- the need is an equality (5.3.4)
 abbrev pub is_equal : Need → Bool
 is_equal (Entry loader name place) = false
 is_equal (Equal name a b) = true

@@ -29,6 +29,7 @@ pub record Split : Type 0 where
   pub at : Kin
   pub after : List Kin
 
+-- a place of the list behind one more
 abbrev pub shifted : Kin → Split → Split
 shifted k s = record { before = k ∷ s.before; at = s.at; after = s.after }
 
@@ -44,6 +45,7 @@ overrides_over key (suc n) c between a =
     overrides_directly key c a
     || list_any (λ s. overrides_over key n c s.before s.at && overrides_over key n s.at s.after a) (splits between)
 
+-- the method of c overrides the one of its superclass a, over the classes between (5.4.5)
 abbrev pub overrides : Key → Kin → List Kin → Kin → Bool
 overrides key c between a = overrides_over key (length between) c between a
 
@@ -80,6 +82,7 @@ for_declared c m =
 abbrev pub inherited_from : Kin → Key → Option Kin
 inherited_from c key = find (λ a. if_declared (method_of a key) (λ x. not (is_private x) && not (is_static x))) (superclasses c)
 
+-- equalities of the inherited implementation with the superinterface, if there is one (5.4.2)
 abbrev pub with_inherited : Key → Kin → Option Kin → List Need
 with_inherited key j None = []
 with_inherited key j (Some a) = equals_of key a.class.loader j.class.loader

@@ -46,10 +46,12 @@ pub record Settled : Type 0 where
   pub index : ℕ
   pub verdict : Verdict
 
+-- the answer of a request, by its number
 pub record Posted : Type 0 where
   pub request : ℕ
   pub answer : Answer
 
+-- all that serving a script adds to (5.3.4, 5.4)
 pub record State : Type 0 where
   pub records : List Record
   pub equalities : List Equality
@@ -58,6 +60,7 @@ pub record State : Type 0 where
   pub answers : List Posted
   pub round : ℕ
 
+-- nothing yet, in the first round
 abbrev pub start : State
 start = record { records = []; equalities = []; settled = []; prepared = []; answers = []; round = 0 }
 
@@ -73,6 +76,7 @@ IsRecorded s c = recorded s.records c.loader c.name ≡ Some c.loader
 abbrev pub settled_to : List Settled → Class → ℕ → Option Verdict
 settled_to rs c i = option_map (λ r. r.verdict) (find (λ r. same_class r.class c && (r.index == i)) rs)
 
+-- what a request is answered, if it is
 abbrev pub answer_to : List Posted → ℕ → Option Answer
 answer_to ps q = option_map (λ p. p.answer) (find (λ p. p.request == q) ps)
 
@@ -151,6 +155,7 @@ pub record MayAdd (s : State) (need : Need) : Type 0 where
   pub unmet : Met s need → ⊥
   pub fits : Clashes s need → ⊥
 
+-- each of these needs is met (5.3.4)
 abbrev pub AllMet : State → List Need → Type 0
 AllMet s [] = Unit {0}
 AllMet s (n ∷ ns) = Met s n × AllMet s ns

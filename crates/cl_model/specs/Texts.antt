@@ -19,6 +19,7 @@ located_text loaders name loader = escaped name ++ codes "@" ++ slice_index_or l
 abbrev pub class_text : List (List ℕ) → Class → List ℕ
 class_text loaders c = located_text loaders c.name c.loader
 
+-- the name of an error (5.3.5, 5.4.3)
 abbrev pub kind_text : ErrorKind → List ℕ
 kind_text kinds.ClassNotFoundException = codes "ClassNotFoundException"
 kind_text kinds.NoClassDefFoundError = codes "NoClassDefFoundError"
@@ -26,10 +27,12 @@ kind_text kinds.ClassFormatError = codes "ClassFormatError"
 kind_text kinds.UnsupportedClassVersionError = codes "UnsupportedClassVersionError"
 kind_text kinds.ClassCircularityError = codes "ClassCircularityError"
 
+-- the text of a verdict
 abbrev pub verdict_text : List (List ℕ) → Verdict → List ℕ
 verdict_text loaders (verdicts.Class c) = codes "class " ++ class_text loaders c
 verdict_text loaders (verdicts.Error kind subject) = kind_text kind ++ codes " " ++ class_text loaders subject
 
+-- the text of an answer
 abbrev pub answer_text : List (List ℕ) → Answer → List ℕ
 answer_text loaders (answers.Said verdict) = verdict_text loaders verdict
 answer_text loaders answers.Memory = codes "OutOfMemory"
@@ -42,15 +45,18 @@ event_text loaders (events.Post q) = None
 
 -- ---- which loaders a value names; all of them are below a count
 
+-- each loader of a verdict is below a count
 abbrev pub VerdictNames : ℕ → Verdict → Type 0
 VerdictNames count (verdicts.Class c) = c.loader < count
 VerdictNames count (verdicts.Error kind subject) = subject.loader < count
 
+-- each loader of an answer is below a count
 abbrev pub AnswerNames : ℕ → Answer → Type 0
 AnswerNames count (answers.Said verdict) = VerdictNames count verdict
 AnswerNames count answers.Memory = ⊤
 AnswerNames count (answers.SourceFault name loader) = loader < count
 
+-- each loader of an event is below a count
 abbrev pub EventNames : ℕ → Event → Type 0
 EventNames count (events.Define c) = c.loader < count
 EventNames count (events.Post q) = ⊤

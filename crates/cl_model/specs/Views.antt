@@ -20,10 +20,12 @@ error_of kinds.ClassFormatError c = ClassFormat c
 error_of kinds.UnsupportedClassVersionError c = UnsupportedVersion c
 error_of kinds.ClassCircularityError c = ClassCircularity c
 
+-- a verdict of today, as the machine has it
 abbrev pub verdict_of : verdicts.Verdict → Verdict
 verdict_of (verdicts.TheVariants.Class c) = IsClass c
 verdict_of (verdicts.TheVariants.Error kind c) = Wrong (error_of kind c)
 
+-- an answer of today
 abbrev pub answer_of : answers.Answer → Answer
 answer_of (answers.TheVariants.Said v) = Said (verdict_of v)
 answer_of answers.TheVariants.Memory = OutOfMemory
@@ -33,6 +35,7 @@ answer_of (answers.TheVariants.SourceFault name loader) = SourceFault name loade
 abbrev pub answers_of : List (Option answers.Answer) → List (Option Answer)
 answers_of given = map (option_map answer_of) given
 
+-- a request of today
 abbrev pub request_of : requests.Request → Request
 request_of (requests.TheVariants.Load loader name) = Load loader name
 
@@ -45,6 +48,7 @@ post_of q (Some a) = Post q a
 abbrev pub answer_at : List (Option Answer) → ℕ → Option Answer
 answer_at given q = option_and_then (λ a. a) (slice_get given q)
 
+-- the step that an event tells
 abbrev pub step_of : List (Option Answer) → events.Event → Step
 step_of given (events.TheVariants.Define c) = Define c
 step_of given (events.TheVariants.Post q) = post_of q (answer_at given q)

@@ -23,6 +23,7 @@ Work A = Option (Made A)
 abbrev pub done : {A : Type 0} → A → Work A
 done a = Some (record { needs = []; asked = []; ends = Ok a })
 
+-- an error, without a need
 abbrev pub fail : {A : Type 0} → Error → Work A
 fail e = Some (record { needs = []; asked = []; ends = Err e })
 
@@ -30,6 +31,7 @@ fail e = Some (record { needs = []; asked = []; ends = Err e })
 abbrev pub need : List Need → Work (Unit {0})
 need ns = Some (record { needs = ns; asked = []; ends = Ok tt })
 
+-- a loader is asked for a name
 abbrev pub ask : ℕ → Name → Work (Unit {0})
 ask loader name = Some (record { needs = []; asked = record { loader = loader; name = name } ∷ []; ends = Ok tt })
 
@@ -38,10 +40,12 @@ abbrev pub or_fail : {A : Type 0} → Error → Option A → Work A
 or_fail e None = fail e
 or_fail e (Some a) = done a
 
+-- the error, if there is one
 abbrev pub unless_wrong : Option Error → Work (Unit {0})
 unless_wrong None = done tt
 unless_wrong (Some e) = fail e
 
+-- a value, or its error
 abbrev pub of_result : {A : Type 0} → Result A Error → Work A
 of_result r = Some (record { needs = []; asked = []; ends = r })
 

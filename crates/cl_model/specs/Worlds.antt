@@ -22,5 +22,6 @@ seen (Err fault) = Err (kind_of fault)
 abbrev pub read_file : List ℕ → Result File FileFault
 read_file bytes = seen (read_of bytes)
 
+-- the world of these loaders and this content, with the reader of class files (4.1)
 abbrev pub world_of : List Loader → Content → World
 world_of loaders content = record { loaders = loaders; content = content; read = read_file }

@@ -1,4 +1,3 @@
-pub mod LineCuts
 pub mod Places
 pub mod Contents
 pub mod Requests

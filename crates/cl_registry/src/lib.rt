@@ -8,7 +8,6 @@ pub mod faulty;
 pub mod finding;
 #[cfg(test)]
 mod input_tests;
-pub mod lines;
 pub mod memory;
 pub mod registry;
 pub mod report;
@@ -24,7 +23,8 @@ pub use config::{Config, ConfigFault};
 pub use draft::{Draft, DraftFault, DraftRefused, Unreadable};
 pub use faulty::FaultySource;
 pub use finding::{Finding, Obstacle};
-pub use lines::{Line, Lines, Stated, Words, is_skipped};
+pub use cl_lines as lines;
+pub use cl_lines::{Line, Lines, Stated, Words, is_skipped};
 pub use memory::{MemorySource, PutRefused, Telling};
 pub use registry::{DefineRefused, NotYet, PostRefused, Registry, RegistryFault};
 pub use report::{Answers, History, Report};

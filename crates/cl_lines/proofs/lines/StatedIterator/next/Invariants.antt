@@ -1,6 +1,6 @@
 use Rattle.std.proofs.Common.{◌≡◌, length}
-use Rattle.cl_registry.specs.Lines.{lines_of, numbered_from, stated_from}
-use Rattle.cl_registry.proofs.lines.StatedIterator.next.Given as goal
+use Rattle.cl_lines.specs.Lines.{lines_of, numbered_from, stated_from}
+use Rattle.cl_lines.proofs.lines.StatedIterator.next.Given as goal
 
 abbrev pub invariant-loop-line : goal.invariant-loop-line
 invariant-loop-line l = stated_from l.self-inside.lines.number l.self-inside.lines.text ≡ stated_from l.initial.self-inside.lines.number l.initial.self-inside.lines.text

@@ -1,7 +1,7 @@
 ghost use Rattle.std.specs.Prelude.{◌≡◌, ◌<◌, ◌==◌, ⊤, [], length, IfSome, IfNone};
 ghost use Rattle.std.specs.List.{before_first, after_first};
 ghost use Rattle.std.specs.Iterator.{MakesProgress, YieldsFirstBy, YieldsFirstRef, item_count};
-ghost use Rattle.cl_registry.specs.Lines.{lines_of, words_of, is_skipped, is_remark, numbered_from, stated_from, CutsLine, Numbered};
+ghost use Rattle.cl_lines.specs.Lines.{lines_of, words_of, is_skipped, is_remark, numbered_from, stated_from, CutsLine, Numbered};
 
 use std::marker::Model;
 
@@ -21,7 +21,7 @@ pub struct Lines<'a> {
 
 impl<'a> Model for Lines<'a> {
     ghost use Rattle.std.specs.Prelude.{◌+◌, ◌<◌, ◌^◌, length};
-    ghost use Rattle.cl_registry.specs.Lines.{Numbered};
+    ghost use Rattle.cl_lines.specs.Lines.{Numbered};
 
     ghost Value = { Numbered };
 
@@ -80,7 +80,7 @@ pub struct Stated<'a> {
 }
 
 impl<'a> Model for Stated<'a> {
-    ghost use Rattle.cl_registry.specs.Lines.{Numbered};
+    ghost use Rattle.cl_lines.specs.Lines.{Numbered};
 
     ghost Value = { Numbered };
 

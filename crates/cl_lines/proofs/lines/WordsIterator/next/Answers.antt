@@ -1,6 +1,6 @@
 use Rattle.std.proofs.Common.{◌∙◌, sym}
-use Rattle.cl_registry.proofs.LineCuts.{first_word, some_left, shorter}
-use Rattle.cl_registry.proofs.lines.WordsIterator.next.Goals as goal
+use Rattle.cl_lines.proofs.LineCuts.{first_word, some_left, shorter}
+use Rattle.cl_lines.proofs.lines.WordsIterator.next.Goals as goal
 
 pub returns-then-not-is_empty-clause-steps : goal.returns-then-not-is_empty-clause-steps
 returns-then-not-is_empty-clause-steps c =

@@ -6,7 +6,7 @@ use Rattle.std.proofs.lemmas.Bool.Decides.{nat_tests}
 use Rattle.std.proofs.lemmas.Grind.{common_steps}
 use Rattle.std.proofs.lemmas.List.Splits.{slice_split_first, slice_split_none, length-slice_split}
 use Rattle.std.proofs.lemmas.List.Sums.{fails_before_first, prefix_len-le-length}
-use Rattle.cl_registry.specs.Lines.{lines_of, words_of, without_empty_end, numbered_from}
+use Rattle.cl_lines.specs.Lines.{lines_of, words_of, without_empty_end, numbered_from}
 
 module _ (p : ℕ → Bool) (xs : List ℕ) where
   -- an element passes, or the whole list is one part

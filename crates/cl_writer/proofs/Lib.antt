@@ -1,0 +1,3 @@
+pub mod Assembling
+pub mod Indexed
+pub mod Rows

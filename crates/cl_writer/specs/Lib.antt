@@ -1,1 +1,3 @@
-pub mod Lists
+pub mod Assemblies
+pub mod Items
+pub mod Statements

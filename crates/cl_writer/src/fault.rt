@@ -45,3 +45,13 @@ impl From<AllocError> for AssembleFault {
         AssembleFault::Memory
     }
 }
+
+impl<T: Drop> From<AllocFailed<T>> for AssembleFault {
+    ghost use Rattle.cl_writer.specs.declared.fault.AssembleFault.TheVariants.{Memory};
+
+    ghost from_gives = { λ _ e. e ≡ Memory };
+
+    fn from(_e: AllocFailed<T>) -> AssembleFault {
+        AssembleFault::Memory
+    }
+}

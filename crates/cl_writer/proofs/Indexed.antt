@@ -8,7 +8,9 @@ use Rattle.cl_writer.specs.declared.item.MemberKind.TheVariants as kinds
 use Rattle.cl_writer.specs.declared.item.MemberName.{MemberName}
 use Rattle.cl_writer.specs.declared.item.Item.{Item}
 use Rattle.cl_writer.specs.declared.item.Item.TheVariants.{Text, Integer, Class, NameAndType, Member}
-use Rattle.cl_writer.specs.Items.{same_text, same_kind, same_member, same_item, index_from, index_of}
+use Rattle.std.proofs.lemmas.List.{length_push}
+use Rattle.indexmap.specs.IndexMap.{IndexMap, get}
+use Rattle.cl_writer.specs.Items.{same_text, same_kind, same_member, same_item, index_from, index_of, IsIndexed}
 
 -- ---- equal entries are the same
 
@@ -147,12 +149,40 @@ enters items item q m o none e count = by (same_item item q) refl ∙ sym (index
     by false same = rw same (none_else (same_item q item) refl same)
 
 -- an index is within the list
+some_same : {a b : ℕ} → Some a ≡ Some b → a ≡ b
+some_same h = cc
+
 pub within : (n : ℕ) (xs : List Item) (q : Item) (k : ℕ) → index_from n xs q ≡ Some k → k < n + length xs
 within n [] q k e = absurd cc
-within n (x ∷ xs) q k e = by (same_item q x) refl
+within n (x ∷ xs) q k e = by (within (n + 1) xs q k) (same_item q x) refl
   where
-    some_same : {a b : ℕ} → Some a ≡ Some b → a ≡ b
-    some_same h = cc
-    by : (b : Bool) → same_item q x ≡ b → k < n + length (x ∷ xs)
-    by true same = let f : n ≡ k = some_same (rw same at e) in omega arith
-    by false same = let later : k < n + 1 + length xs = within (n + 1) xs q k (rw same at e) in omega arith
+    by : (index_from (n + 1) xs q ≡ Some k → k < n + 1 + length xs) → (b : Bool) → same_item q x ≡ b → k < n + length (x ∷ xs)
+    by later true same = let f : n ≡ k = some_same (rw same at e) in omega arith
+    by later false same = let g : k < n + 1 + length xs = later (rw same at e) in omega arith
+
+some_is : (o : Option ℕ) → is_some o ≡ true → (n : ℕ) × (o ≡ Some n)
+some_is None e = absurd cc
+some_is (Some n) e = (n, refl)
+
+none_is : (o : Option ℕ) → is_some o ≡ false → o ≡ None
+none_is None e = refl
+none_is (Some n) e = absurd cc
+
+-- ---- the map, with an entry more
+
+module _ {S : Type 0} (old new : IndexMap Item ℕ S) (items pushed : List Item) (item copy : Item) (m : ℕ) (b : Bool) (indexed : IsIndexed items old) (grown : pushed ≡ items ++ item ∷ []) (copied : copy ≡ item) (tested : b ≡ is_some (get same_item old copy)) where
+  known : is_some (index_of items item) ≡ b
+  known = sym (tested ∙ ap is_some (indexed copy) ∙ ap (λ i. is_some (index_of items i)) copied)
+
+  pub with_stayed : b ≡ true → IsIndexed pushed old
+  with_stayed e q =
+      let there = some_is (index_of items item) (known ∙ e) in
+      rw grown (stays items item q there.0 (get same_item old q) there.1 (indexed q))
+
+  pub with_entered : b ≡ false → m ≡ length pushed → ((q : Item) → get same_item new q ≡ cond (same_item copy q) (Some m) (get same_item old q)) → IsIndexed pushed new
+  with_entered e count updated q =
+      let counted : m ≡ 1 + length items = count ∙ ap length grown ∙ length_push items item ∙ one_more (length items) in
+      rw grown (updated q ∙ ap (λ i. cond (same_item i q) (Some m) (get same_item old q)) copied ∙ enters items item q m (get same_item old q) (none_is (index_of items item) (known ∙ e)) (indexed q) counted)
+    where
+      one_more : (n : ℕ) → n + 1 ≡ 1 + n
+      one_more n = omega arith

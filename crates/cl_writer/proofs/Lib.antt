@@ -1,3 +1,5 @@
 pub mod Assembling
+pub mod Equal
 pub mod Indexed
 pub mod Rows
+pub mod Wanted

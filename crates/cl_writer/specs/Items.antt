@@ -53,6 +53,10 @@ index items item = unwrap_or (index_of items item) 0
 abbrev pub IsIndexed : {S : Type 0} → List Item → IndexMap Item ℕ S → Type 0
 IsIndexed items indices = (item : Item) → get same_item indices item ≡ index_of items item
 
+-- one entry of the map is put, and the others stay
+abbrev pub PutsIndex : {S : Type 0} → IndexMap Item ℕ S → IndexMap Item ℕ S → Item → ℕ → Type 0
+PutsIndex old new item index = (q : Item) → get same_item new q ≡ (if same_item item q then Some index else get same_item old q)
+
 -- ---- what stands
 
 -- the entries with one more at the end, where no equal one stands

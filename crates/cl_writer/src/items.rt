@@ -1,10 +1,11 @@
 //! The pool that the assembler makes, as entries that name one another.
 
-ghost use Rattle.std.specs.Prelude.{◌≡◌, ◌≤◌, ◌++◌, ◌∷◌, [], fold, length, is_some, option_to_list, IfOk};
+ghost use Rattle.std.specs.Prelude.{◌≡◌, ◌≤◌, ◌++◌, ◌∷◌, [], fold, length, is_some, option_to_list, IfOk, OnOk};
 ghost use Rattle.std.specs.List.{flat_map};
 ghost use Rattle.cl_writer.specs.Assemblies.{lists_of};
 ghost use Rattle.cl_writer.specs.declared.item.Item.TheVariants as said;
-ghost use Rattle.cl_writer.specs.Items.{index, index_of, with_item, class_wanted, type_wanted, wanted, line_wanted, items_of};
+ghost use Rattle.indexmap.specs.IndexMap.{get};
+ghost use Rattle.cl_writer.specs.Items.{PutsIndex, same_item, index, index_of, with_item, class_wanted, type_wanted, wanted, line_wanted, items_of};
 
 use crate::assembly::Assembly;
 use crate::item::Item;
@@ -66,7 +67,7 @@ impl Items {
     fn has(&self, item: &Item) -> bool
         ensures { result ≡ is_some (index_of self.now item.now) }
     {
-        self.indices.contains_key(item)
+        holds(&self.indices, item)
     }
 
     /// With an entry at the end.
@@ -75,8 +76,9 @@ impl Items {
     {
         let copy = item.try_clone(alloc)?;
         self.items.push(item)?;
-        if !self.indices.contains_key(&copy) {
-            self.indices.insert(copy, self.items.len())?;
+        if !holds(&self.indices, &copy) {
+            let index = self.items.len();
+            insert_new(&mut self.indices, copy, index)?;
         }
         Ok(self)
     }
@@ -140,6 +142,25 @@ impl Items {
         };
         items.with_new(alloc, item.try_clone(alloc)?)
     }
+}
+
+/// Whether the indices have an entry.
+fn holds(indices: &IndexMap<Item, usize>, item: &Item) -> bool
+    ensures { result ≡ is_some (get same_item indices.now item.now) }
+{
+    indices.contains_key(item)
+}
+
+/// Puts the index of an entry to the indices.
+fn insert_new(
+    indices: &mut IndexMap<Item, usize>,
+    item: Item,
+    index: usize,
+) -> Result<(), AllocError>
+    ensures { OnOk result (PutsIndex indices.old indices.new item index) }
+{
+    indices.insert(item, index)?;
+    Ok(())
 }
 
 /// With these entries at the end.

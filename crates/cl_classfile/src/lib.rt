@@ -6,7 +6,11 @@ mod entry;
 mod fault;
 mod file;
 mod laws;
+mod pool;
+mod raw;
 mod reading;
+mod rows;
+mod traits;
 
 pub use entry::Entry;
 pub use fault::{Fault, ReadError};

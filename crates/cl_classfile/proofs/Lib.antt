@@ -3,6 +3,7 @@ pub mod Loop
 pub mod Entries
 pub mod Codec
 pub mod Tables
+pub mod Pooled
 pub mod Spelled
 pub mod Header
 pub mod Quiet

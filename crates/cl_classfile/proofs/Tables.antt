@@ -17,21 +17,6 @@ use Rattle.cl_classfile.specs.Files.{text_of, class_of, class_name}
 use Rattle.cl_classfile.specs.Checking.{◌>>=◌, names_class, keeps_entry, kept_entry, checked_entries, keeps_super, keeps_supertypes, checked_class, kept_file}
 use Rattle.cl_classfile.proofs.Codec.{bind_ok, ok_is, both}
 
--- ---- an entry's row
-
-names_class_says : (o : Option Entry) → names_class o ≡ true → (text : List ℕ) × (o ≡ Some (Utf8 text)) × IsNameOf IsClass text
-names_class_says None e = absurd cc
-names_class_says (Some (Utf8 text)) e = (text, refl, class_from_test text e)
-names_class_says (Some (Class index)) e = absurd cc
-
-keeps_entry_says : (pool : List Entry) (e : Entry) → keeps_entry pool e ≡ true → KeepsEntry pool e
-keeps_entry_says pool (Utf8 text) h = text_from_test text (both (is_text text) (leb (length text) 65535) h).0
-keeps_entry_says pool (Class index) h = names_class_says (at pool index) h
-
-keeps_entry_told : (pool : List Entry) (e : Entry) → EntryFits e → KeepsEntry pool e → keeps_entry pool e ≡ true
-keeps_entry_told pool (Utf8 text) fits h = let short : leb (length text) 65535 ≡ true = le-leb _ _ (omega (arith, fits)) in rw (test_of text h, short) refl
-keeps_entry_told pool (Class index) fits h = ap names_class h.1 ∙ class_test_of h.0 h.2
-
 -- ---- all of the entries
 
 row_ok : (b : Bool) (e x : Entry) (i : ℕ) → cond b (Ok e) (let r : Result Entry Fault = Err (BadPool i) in r) ≡ Ok x → b ≡ true
@@ -43,7 +28,7 @@ unfolding checked_entries
 rows_say pool i [] u h = tt
 rows_say pool i (e ∷ es) u h =
     let a = bind_ok (kept_entry pool i e) (λ kept. checked_entries pool (i + 1) es) u h in
-    (keeps_entry_says pool e (row_ok (keeps_entry pool e) e a.0 i a.1), rows_say pool (i + 1) es u a.2)
+    (keeps_entry_says pool e (row_ok (keeps_entry (map entry_traits pool) pool e) e a.0 i a.1), rows_say pool (i + 1) es u a.2)
 
 rows_told : (pool : List Entry) (i : ℕ) (es : List Entry) → AllByRecursion EntryFits es → AllByRecursion (KeepsEntry pool) es → checked_entries pool i es ≡ Ok tt
 unfolding checked_entries
@@ -53,17 +38,44 @@ rows_told pool i (e ∷ es) fits h = rw (keeps_entry_told pool e fits.0 h.0, row
 -- ---- classes
 
 text_says : (o : Option Entry) (name : List ℕ) → text_of o ≡ Some name → o ≡ Some (Utf8 name)
-text_says None name h = absurd cc
 text_says (Some (Utf8 text)) name h = cc
-text_says (Some (Class index)) name h = absurd cc
+text_says _ name h = absurd cc
 
-class_says : (pool : List Entry) (i : ℕ) (o : Option Entry) (name : List ℕ) → at pool i ≡ o → class_of pool o ≡ Some name → NamesClass pool i name
-class_says pool i None name e h = absurd cc
-class_says pool i (Some (Utf8 text)) name e h = absurd cc
-class_says pool i (Some (Class index)) name e h = record { index = index; is_entry = e; named = text_says (at pool index) name h }
+-- what the entry at an index is called, a class or an array
+record NamesAny (pool : List Entry) (i : ℕ) (name : List ℕ) : Type 0 where
+  index : ℕ
+  is_entry : at pool i ≡ Some (Class index)
+  named : IsText pool index name
+
+type_says : (pool : List Entry) (i : ℕ) (o : Option Entry) (name : List ℕ) → at pool i ≡ o → type_of pool o ≡ Some name → NamesAny pool i name
+type_says pool i (Some (Class index)) name e h = record { index = index; is_entry = e; named = text_says (at pool index) name h }
+type_says pool i _ name e h = absurd cc
+
+not_array : (o : Option (List ℕ)) (name : List ℕ) → option_and_then no_array o ≡ Some name → (o ≡ Some name) × (is_array_name name ≡ false)
+not_array None name h = absurd cc
+not_array (Some text) name h = of_test (is_array_name text) refl h
+  where
+    of_test : (b : Bool) → is_array_name text ≡ b → cond b None (Some text) ≡ Some name → (Some text ≡ Some name) × (is_array_name name ≡ false)
+    of_test true e k = absurd cc
+    of_test false e k = let same : text ≡ name = cc in (k, ap is_array_name (sym same) ∙ e)
+
+-- a class's name does not begin as an array's
+class_begins : (name : List ℕ) → IsNameOf IsClass name → is_array_name name ≡ false
+class_begins [] h = refl
+class_begins (c ∷ rest) h = no_bracket c rest (class_test_of (c ∷ rest) h)
+
+class_says : (pool : List Entry) → AllByRecursion (KeepsEntry pool) pool → (i : ℕ) (name : List ℕ) → class_name pool i ≡ Some name → NamesClass pool i name
+class_says pool kept i name h =
+    let a = not_array (type_name pool i) name h in
+    let c = type_says pool i (at pool i) name refl a.0 in
+    let k = at_kept (KeepsEntry pool) pool i (Class c.index) kept c.is_entry in
+    let same : k.text ≡ name = cc (k.is_text, c.named) in
+    record { index = c.index; is_entry = c.is_entry; named = c.named; is_name = no_array_name name (subst NamesType same k.kind) a.1 }
 
 pub class_named : (pool : List Entry) (i : ℕ) (name : List ℕ) → NamesClass pool i name → class_name pool i ≡ Some name
-class_named pool i name c = ap (class_of pool) c.is_entry ∙ ap text_of c.named
+class_named pool i name c =
+    let type : type_name pool i ≡ Some name = ap (type_of pool) c.is_entry ∙ ap text_of c.named in
+    rw (type, class_begins name c.is_name) refl
 
 -- ---- supertypes
 

@@ -6,8 +6,9 @@ use Rattle.std.proofs.lemmas.List.{append-nil}
 use Rattle.cl_classfile.specs.Structure.{Structure, Member, Attribute, counted, attribute_spelling, member_spelling, spelling, AllFit, AttributeFits, MemberFits, Fits, Spells}
 use Rattle.cl_classfile.specs.Checking.{◌>>=◌}
 use Rattle.cl_classfile.specs.Reading.{Reader, number_at, then_at, map_at, many_at, header_at, pool_at, class_at, Parts, structure_of}
-use Rattle.cl_classfile.proofs.Codec.{bind_ok, ok_is, Takes, Takes-then, IsCodec, number16, number32, mapped, many, EachFits, each_of_all, all_of_each}
-use Rattle.cl_classfile.proofs.Spelled.{also, sized_at, sized, header, pool, class, parts_spelling, PartsFit, there, header_fits, parts_of}
+use Rattle.cl_classfile.proofs.Codec.{bind_ok, ok_is, Takes, Takes-then, IsCodec, number16, number32, also, mapped, many, EachFits, each_of_all, all_of_each, sized_at, sized}
+use Rattle.cl_classfile.proofs.Pooled.{pool}
+use Rattle.cl_classfile.proofs.Spelled.{header, class, parts_spelling, PartsFit, there, header_fits, parts_of}
 
 -- ---- counted structures
 

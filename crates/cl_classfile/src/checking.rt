@@ -1,7 +1,7 @@
 ghost use Rattle.std.specs.Prelude.{◌≡◌};
 ghost use Rattle.std.specs.Option.{option_map};
 ghost use Rattle.cl_classfile.specs.Structure.{at};
-ghost use Rattle.cl_classfile.specs.Files.{text_at, class_name};
+ghost use Rattle.cl_classfile.specs.Files.{text_at, type_name, is_array_name, class_name};
 ghost use Rattle.cl_classfile.specs.Checking.{Finds, keeps_super, keeps_supertypes, checked_class};
 
 use crate::entry::Entry;
@@ -37,12 +37,21 @@ fn type_name(pool: &[Entry], index: u16) -> Option<&Name>
     }
 }
 
+fn is_array_name(name: &[u8]) -> bool
+    ensures { result ≡ is_array_name name.now }
+{
+    match name {
+        [b'[', ..] => true,
+        _ => false,
+    }
+}
+
 /// The name of the class that stands at an index.
 pub fn class_name(pool: &[Entry], index: u16) -> Option<&Name>
     ensures { option_map (λ n. n.now) result ≡ class_name pool.now index }
 {
     let name = type_name(pool, index)?;
-    if is_array(name.bytes()) {
+    if is_array_name(name.bytes()) {
         return None;
     }
     Some(name)

@@ -1,4 +1,3 @@
-pub mod Narrow
 pub mod Loop
 pub mod Entries
 pub mod Codec

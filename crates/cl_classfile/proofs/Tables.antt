@@ -1,7 +1,7 @@
 -- The tests of the tables, and what they say.
-use Rattle.std.proofs.Common.{◌≡◌, ◌⊎◌, ℕ, zero, suc, ◌+◌, Bool, true, false, cond, eqb, leb, nat_eq, List, [], ◌∷◌, length, Option, Some, None, Result, Ok, Err, refl, sym, ap, subst, ◌∙◌, arith, inl, inr}
+use Rattle.std.proofs.Common.{◌≡◌, ◌⊎◌, ℕ, zero, suc, ◌+◌, Bool, true, false, cond, not, ◌&&◌, ◌||◌, eqb, leb, nat_eq, List, [], ◌∷◌, length, Option, Some, None, Result, Ok, Err, refl, sym, ap, subst, ◌∙◌, arith, inl, inr}
 use Rattle.std.specs.Prelude.{is_some}
-use Rattle.std.specs.List.{AllByRecursion}
+use Rattle.std.specs.List.{AllByRecursion, list_all}
 use Rattle.std.specs.Cmp.Lexicographic.{pointwise, same_text}
 use Rattle.std.proofs.lemmas.Bool.{eqb-true, le-leb}
 use Rattle.cl_names.specs.Text.{is_text}
@@ -12,9 +12,10 @@ use Rattle.cl_classfile.specs.declared.entry.Entry.{Entry}
 use Rattle.cl_classfile.specs.declared.entry.Entry.TheVariants.{Utf8, Class}
 use Rattle.cl_classfile.specs.declared.fault.Fault.{Fault}
 use Rattle.cl_classfile.specs.declared.fault.Fault.TheVariants.{BadPool, BadFlags, BadSupertype}
-use Rattle.cl_classfile.specs.Structure.{Structure, EntryFits, Fits, at, object, NamesClass, KeepsEntry, KeepsSuper, Keeps}
+use Rattle.cl_classfile.specs.Flags.{has, interface, is_class_flags}
+use Rattle.cl_classfile.specs.Structure.{Structure, EntryFits, Fits, at, object, NamesClass, KeepsEntry, KeepsSuper, KeepsInterface, Keeps}
 use Rattle.cl_classfile.specs.Files.{text_of, class_of, class_name}
-use Rattle.cl_classfile.specs.Checking.{◌>>=◌, names_class, keeps_entry, kept_entry, checked_entries, keeps_super, keeps_supertypes, checked_class, kept_file}
+use Rattle.cl_classfile.specs.Checking.{◌>>=◌, names_class, keeps_entry, kept_entry, checked_entries, may_stand_above, keeps_super, keeps_names, keeps_interfaces, checked_class, kept_file}
 use Rattle.cl_classfile.proofs.Codec.{bind_ok, ok_is, both}
 
 -- ---- an entry's row
@@ -78,33 +79,58 @@ tests false = inr refl
 is_object : (name : List ℕ) → name ≡ object → pointwise nat_eq name object ≡ true
 is_object name e = ap (λ (n : List ℕ). pointwise nat_eq n object) e
 
-super_says : (pool : List Entry) (name : List ℕ) (super : ℕ) → keeps_super pool name super ≡ true → KeepsSuper pool name super
-super_says pool name super h =
+-- what stands above: of an interface it is java/lang/Object
+above_says : (pool : List Entry) (of_interface : Bool) (super : ℕ) (o : Option (List ℕ)) → class_name pool super ≡ o → may_stand_above of_interface o ≡ true
+    → (above : List ℕ) × NamesClass pool super above × (of_interface ≡ true → above ≡ object)
+above_says pool of_interface super None e h = absurd cc
+above_says pool false super (Some above) e h = (above, class_says pool super (at pool super) above refl e, λ is. absurd cc)
+above_says pool true super (Some above) e h = (above, class_says pool super (at pool super) above refl e, λ is. same_text above object (sym h))
+
+above_told : (of_interface : Bool) (above : List ℕ) → (of_interface ≡ true → above ≡ object) → may_stand_above of_interface (Some above) ≡ true
+above_told false above h = refl
+above_told true above h = is_object above (h refl)
+
+no_interface : (of_interface : Bool) (b : Bool) → not of_interface && b ≡ true → (of_interface ≡ false) × (b ≡ true)
+no_interface true b h = absurd cc
+no_interface false b h = (refl, h)
+
+super_says : (pool : List Entry) (of_interface : Bool) (name : List ℕ) (super : ℕ) → keeps_super pool of_interface name super ≡ true → KeepsSuper pool of_interface name super
+super_says pool of_interface name super h =
     elim (tests (pointwise nat_eq name object)) [
-      | inl e ↦ inl (same_text name object (sym e), eqb-true super 0 (rw e at h))
+      | inl e ↦ let k = no_interface of_interface (eqb super 0) (rw e at h) in inl (same_text name object (sym e), k.0, eqb-true super 0 k.1)
       | inr e ↦
-          let k : is_some (class_name pool super) ≡ true = rw e at h in
-          let a = some_is (class_name pool super) k in
-          inr (λ is. absurd (let f : true ≡ false = sym (is_object name is) ∙ e in cc), a.0, class_says pool super (at pool super) a.0 refl a.1)
+          let a = above_says pool of_interface super (class_name pool super) refl (rw e at h) in
+          inr (λ is. absurd (let f : true ≡ false = sym (is_object name is) ∙ e in cc), a.0, a.1, a.2)
     ]
 
-super_told : (pool : List Entry) (name : List ℕ) (super : ℕ) → KeepsSuper pool name super → keeps_super pool name super ≡ true
-super_told pool name super (inl h) = rw (is_object name h.0, h.1) refl
-super_told pool name super (inr h) =
+super_told : (pool : List Entry) (of_interface : Bool) (name : List ℕ) (super : ℕ) → KeepsSuper pool of_interface name super → keeps_super pool of_interface name super ≡ true
+super_told pool of_interface name super (inl h) = rw (is_object name h.0, h.1, h.2) refl
+super_told pool of_interface name super (inr h) =
     elim (tests (pointwise nat_eq name object)) [
       | inl e ↦ absurd (h.0 (same_text name object (sym e)))
-      | inr e ↦ rw (e, class_named pool super h.1 h.2) refl
+      | inr e ↦ rw (e, class_named pool super h.1 h.2) (above_told of_interface h.1 h.3)
     ]
 
 -- this_class and super_class keep the tables
-record KeepsNames (pool : List Entry) (this super : ℕ) : Type 0 where
+record KeepsNames (pool : List Entry) (of_interface : Bool) (this super : ℕ) : Type 0 where
   name : List ℕ
   this_class : NamesClass pool this name
-  super_class : KeepsSuper pool name super
+  super_class : KeepsSuper pool of_interface name super
 
-supertypes_say : (pool : List Entry) (this super : ℕ) (o : Option (List ℕ)) → class_name pool this ≡ o → keeps_supertypes pool super o ≡ true → KeepsNames pool this super
-supertypes_say pool this super None e h = absurd cc
-supertypes_say pool this super (Some name) e h = record { name = name; this_class = class_says pool this (at pool this) name refl e; super_class = super_says pool name super h }
+names_say : (pool : List Entry) (of_interface : Bool) (this super : ℕ) (o : Option (List ℕ)) → class_name pool this ≡ o → keeps_names pool of_interface super o ≡ true → KeepsNames pool of_interface this super
+names_say pool of_interface this super None e h = absurd cc
+names_say pool of_interface this super (Some name) e h = record { name = name; this_class = class_says pool this (at pool this) name refl e; super_class = super_says pool of_interface name super h }
+
+interfaces_say : (pool : List Entry) (interfaces : List ℕ) → keeps_interfaces pool interfaces ≡ true → AllByRecursion (KeepsInterface pool) interfaces
+interfaces_say pool [] h = tt
+interfaces_say pool (i ∷ is) h =
+    let k = both (is_some (class_name pool i)) (keeps_interfaces pool is) h in
+    let a = some_is (class_name pool i) k.0 in
+    ((a.0, class_says pool i (at pool i) a.0 refl a.1), interfaces_say pool is k.1)
+
+interfaces_told : (pool : List Entry) (interfaces : List ℕ) → AllByRecursion (KeepsInterface pool) interfaces → keeps_interfaces pool interfaces ≡ true
+interfaces_told pool [] h = refl
+interfaces_told pool (i ∷ is) h = rw (class_named pool i h.0.0 h.0.1, interfaces_told pool is h.1) refl
 
 -- ---- the file
 
@@ -113,27 +139,40 @@ checks_say true true u h = (refl, refl)
 checks_say true false u h = absurd cc
 checks_say false kept u h = absurd cc
 
+abbrev class_checked : Structure → Result (Unit {0}) Fault
+class_checked f = checked_class f.pool f.flags f.this_class f.super_class f.interfaces
+
 -- what a file is whose tests were passed
-pub tables_say : (f : Structure) (u v : Unit {0}) → checked_entries f.pool 1 f.pool ≡ Ok u → checked_class f.pool f.flags f.this_class f.super_class ≡ Ok v → Keeps f × (f.flags ≡ 33)
+pub tables_say : (f : Structure) (u v : Unit {0}) → checked_entries f.pool 1 f.pool ≡ Ok u → class_checked f ≡ Ok v → Keeps f
 tables_say f u v rows class =
-    let c = checks_say (eqb f.flags 33) (keeps_supertypes f.pool f.super_class (class_name f.pool f.this_class)) v class in
-    let n = supertypes_say f.pool f.this_class f.super_class (class_name f.pool f.this_class) refl c.1 in
-    (record { pool = rows_say f.pool 1 f.pool u rows; name = n.name; this_class = n.this_class; super_class = n.super_class }, eqb-true f.flags 33 c.0)
+    let of_interface = has f.flags interface in
+    let names = keeps_names f.pool of_interface f.super_class (class_name f.pool f.this_class) in
+    let c = checks_say (is_class_flags f.flags) (names && keeps_interfaces f.pool f.interfaces) v class in
+    let k = both names (keeps_interfaces f.pool f.interfaces) c.1 in
+    let n = names_say f.pool of_interface f.this_class f.super_class (class_name f.pool f.this_class) refl k.0 in
+    record {
+      pool = rows_say f.pool 1 f.pool u rows;
+      flags = c.0;
+      name = n.name;
+      this_class = n.this_class;
+      super_class = n.super_class;
+      interfaces = interfaces_say f.pool f.interfaces k.1;
+    }
 
 -- a file that passes the tests is answered as it is
-pub file_says : (f g : Structure) → kept_file f ≡ Ok g → (f ≡ g) × Keeps f × (f.flags ≡ 33)
+pub file_says : (f g : Structure) → kept_file f ≡ Ok g → (f ≡ g) × Keeps f
 unfolding kept_file
 file_says f g h =
-    let a = bind_ok (checked_entries f.pool 1 f.pool) (λ entries. checked_class f.pool f.flags f.this_class f.super_class >>= λ class. Ok f) g h in
-    let b = bind_ok (checked_class f.pool f.flags f.this_class f.super_class) (λ class. Ok f) g a.2 in
-    let k = tables_say f a.0 b.0 a.1 b.1 in
-    (ok_is f g b.2, k.0, k.1)
+    let a = bind_ok (checked_entries f.pool 1 f.pool) (λ entries. class_checked f >>= λ class. Ok f) g h in
+    let b = bind_ok (class_checked f) (λ class. Ok f) g a.2 in
+    (ok_is f g b.2, tables_say f a.0 b.0 a.1 b.1)
 
-pub file_told : (f : Structure) → Fits f → Keeps f → f.flags ≡ 33 → kept_file f ≡ Ok f
+pub file_told : (f : Structure) → Fits f → Keeps f → kept_file f ≡ Ok f
 unfolding kept_file
-file_told f fits kept flags =
+file_told f fits kept =
     let named : class_name f.pool f.this_class ≡ Some kept.name = class_named f.pool f.this_class kept.name kept.this_class in
-    rw (rows_told f.pool 1 f.pool fits.pool.1 kept.pool, flags, named, super_told f.pool kept.name f.super_class kept.super_class) refl
+    let super = super_told f.pool (has f.flags interface) kept.name f.super_class kept.super_class in
+    rw (rows_told f.pool 1 f.pool fits.pool.1 kept.pool, kept.flags, named, super, interfaces_told f.pool f.interfaces kept.interfaces) refl
 
 -- ---- the names of classes
 

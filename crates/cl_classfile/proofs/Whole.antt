@@ -5,30 +5,9 @@ use Rattle.std.specs.List.{flat_map}
 use Rattle.std.proofs.lemmas.List.{append-nil}
 use Rattle.cl_classfile.specs.Structure.{Structure, Member, Attribute, counted, attribute_spelling, member_spelling, spelling, AllFit, AttributeFits, MemberFits, Fits, Spells}
 use Rattle.cl_classfile.specs.Checking.{◌>>=◌}
-use Rattle.cl_classfile.specs.Reading.{Reader, number_at, then_at, map_at, many_at, header_at, pool_at, class_at, Parts, structure_of}
-use Rattle.cl_classfile.proofs.Codec.{bind_ok, ok_is, Takes, Takes-then, IsCodec, number16, number32, mapped, many, EachFits, each_of_all, all_of_each}
-use Rattle.cl_classfile.proofs.Spelled.{also, sized_at, sized, header, pool, class, parts_spelling, PartsFit, there, header_fits, parts_of}
-
--- ---- counted structures
-
-abbrev counted_at : {A : Type 0} → Reader A → Reader (List A)
-counted_at r bytes = number_at w16 bytes >>= λ n. many_at {C = ℕ} (λ i. r) (λ i a. i) n.0 0 n.1
-
-each : {A : Type 0} (r : Reader A) (s : A → List ℕ) (F : A → Type 0) → IsCodec r s F → (n : ℕ) → IsCodec (many_at {C = ℕ} (λ i. r) (λ i a. i) n 0) (flat_map s) (λ xs. (length xs ≡ n) × EachFits {C = ℕ} (λ i. F) (λ i a. i) 0 xs)
-each r s F c n = many {C = ℕ} (λ i. r) (λ i a. i) s (λ i. F) (λ i. c) n 0
-
-counts : {A : Type 0} (r : Reader A) (s : A → List ℕ) (F : A → Type 0) → IsCodec r s F → IsCodec (counted_at r) (counted s) (AllFit F)
-counts r s F c = record {
-  takes = λ bytes x fits e.
-      let a = bind_ok (number_at w16 bytes) (λ n. many_at {C = ℕ} (λ i. r) (λ i a. i) n.0 0 n.1) x e in
-      let one = number16.takes bytes a.0 fits a.1 in
-      let two = (each r s F c a.0.0).takes a.0.1 x one.0.rest_fits a.2 in
-      let whole = Takes-then bytes (to_be_bytes w16 a.0.0) a.0.1 (flat_map s x.0) x.1 one.0 two.0 in
-      (subst (λ (k : ℕ). Takes bytes (to_be_bytes w16 k ++ flat_map s x.0) x.1) (sym two.1.0) whole, (omega (arith, two.1.0, one.1), all_of_each {C = ℕ} F (λ i a. i) 0 x.0 two.1.1));
-  again = λ xs rest h.
-      ap (counted_at r) (append_assoc (to_be_bytes w16 (length xs)) (flat_map s xs) rest)
-      ∙ rw (number16.again (length xs) (flat_map s xs ++ rest) h.0, (each r s F c (length xs)).again xs rest (refl, each_of_all {C = ℕ} F (λ i a. i) 0 xs h.1)) refl;
-}
+use Rattle.cl_classfile.specs.Reading.{Reader, number_at, then_at, map_at, counted_at, header_at, pool_at, class_at, Parts, structure_of}
+use Rattle.cl_classfile.proofs.Codec.{ok_is, IsCodec, number16, number32, mapped}
+use Rattle.cl_classfile.proofs.Spelled.{also, sized_at, sized, counts, header, pool, class, parts_spelling, PartsFit, there, header_fits, parts_of}
 
 -- ---- attributes and members
 

@@ -1,3 +1,4 @@
+pub mod Flags
 pub mod Structure
 pub mod Files
 pub mod Checking

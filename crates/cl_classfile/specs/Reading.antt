@@ -4,7 +4,7 @@ use Rattle.std.specs.Int.{Width, w16, w32, byte_len, from_be_bytes}
 use Rattle.cl_classfile.specs.declared.entry.Entry.{Entry}
 use Rattle.cl_classfile.specs.declared.entry.Entry.TheVariants.{Utf8, Class}
 use Rattle.cl_classfile.specs.declared.fault.Fault.{Fault}
-use Rattle.cl_classfile.specs.declared.fault.Fault.TheVariants.{BadMagic, Version, Truncated, Trailing, BadPool, BadMember, BadSupertype}
+use Rattle.cl_classfile.specs.declared.fault.Fault.TheVariants.{BadMagic, Version, Truncated, Trailing, BadPool, BadMember}
 use Rattle.cl_classfile.specs.Structure.{Structure, Member, Attribute}
 use Rattle.cl_classfile.specs.Checking.{◌>>=◌, kept_file}
 
@@ -37,6 +37,14 @@ map_at r view bytes = r bytes >>= λ x. Ok (view x.0, x.1)
 unfoldable pub many_at : {C A : Type 0} → (C → Reader A) → (C → A → C) → ℕ → C → Reader (List A)
 many_at step next zero c bytes = Ok ([], bytes)
 many_at step next (suc n) c bytes = step c bytes >>= λ x. (many_at step next n (next c x.0) x.1 >>= λ y. Ok (x.0 ∷ y.0, y.1))
+
+-- that many of a structure that is read the same way wherever it stands
+abbrev pub each_at : {A : Type 0} → Reader A → ℕ → Reader (List A)
+each_at r n = many_at {C = ℕ} (λ i. r) (λ i a. i) n 0
+
+-- a count, and that many of a structure
+abbrev pub counted_at : {A : Type 0} → Reader A → Reader (List A)
+counted_at r bytes = number_at w16 bytes >>= λ n. each_at r n.0 n.1
 
 -- a count that has to be 0, so that there are none
 abbrev pub zero_at : Fault → Reader ℕ
@@ -84,7 +92,7 @@ unfoldable pub class_at : Reader (ℕ × (ℕ × ℕ))
 class_at = then_at (number_at w16) (λ flags. then_at (number_at w16) (λ this. number_at w16))
 
 unfoldable pub interfaces_at : Reader (List ℕ)
-interfaces_at = none_at BadSupertype
+interfaces_at = counted_at (number_at w16)
 
 unfoldable pub members_at : Reader (List Member)
 members_at = none_at BadMember

@@ -94,16 +94,16 @@ impl ClassFile {
     }
 }
 
-fn made(alloc: Global, pool: Vec<Entry>, file: &RawFile<'_>) -> ClassFile
-    requires { IsClassFile (record (plain_file file.now) { pool = pool.items }) }
-    ensures { result ≡ record (plain_file file.now) { pool = pool.items } }
+fn made(pool: Vec<Entry>, file: RawFile<'_>) -> ClassFile
+    requires { IsClassFile (record (plain_file file) { pool = pool.items }) }
+    ensures { result ≡ record (plain_file file.entry) { pool = pool.items } }
 {
     ClassFile {
         pool,
         flags: file.flags,
         this_class: file.this_class,
         super_class: file.super_class,
-        interfaces: Vec::new(alloc),
+        interfaces: file.interfaces,
     }
 }
 
@@ -113,13 +113,8 @@ fn kept_file(alloc: Global, file: RawFile<'_>) -> Result<ClassFile, ReadError>
     ensures { Gives (λ f. f) result (kept_file (plain_file file.entry)) }
 {
     let pool = kept_entries(alloc, file.pool.as_slice())?;
-    check_class(
-        pool.as_slice(),
-        file.flags,
-        file.this_class,
-        file.super_class,
-    )?;
-    Ok(made(alloc, pool, &file))
+    check_class(pool.as_slice(), &file)?;
+    Ok(made(pool, file))
 }
 
 #[tactic(auto, unfolding(crate::specs::Reading::read_of))]

@@ -5,6 +5,7 @@ mod checking;
 mod entry;
 mod fault;
 mod file;
+mod flags;
 mod laws;
 mod reading;
 

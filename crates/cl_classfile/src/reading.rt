@@ -4,7 +4,7 @@ ghost use Rattle.cl_classfile.specs.declared.fault.Fault.{Fault};
 ghost use Rattle.cl_classfile.specs.declared.fault.ReadError.TheVariants as errors;
 ghost use Rattle.cl_classfile.specs.Structure.{Fits};
 ghost use Rattle.cl_classfile.specs.Checking.{Finds, Gives};
-ghost use Rattle.cl_classfile.specs.Reading.{number_at, bytes_at, zero_at, magic_at, version_at, header_at, text_at, entry_at, entries_at, pool_at, class_at, interfaces_at, tables_at, structure_at, whole_of};
+ghost use Rattle.cl_classfile.specs.Reading.{number_at, bytes_at, zero_at, each_at, magic_at, version_at, header_at, text_at, entry_at, entries_at, pool_at, class_at, interfaces_at, tables_at, structure_at, whole_of};
 ghost use Rattle.cl_classfile.specs.Raw.{plain_entry, plain_entries, plain_file};
 
 use crate::fault::{Fault, ReadError};
@@ -24,6 +24,7 @@ pub struct RawFile<'a> {
     pub flags: u16,
     pub this_class: u16,
     pub super_class: u16,
+    pub interfaces: Vec<u16>,
 }
 
 fn u16_at(bytes: &[u8]) -> Result<(u16, &[u8]), Fault>
@@ -157,6 +158,19 @@ fn header_at(bytes: &[u8]) -> Result<((u32, (u16, u16)), &[u8]), Fault>
     Ok(((magic, version), rest))
 }
 
+fn numbers_at(alloc: Global, count: u16, bytes: &[u8]) -> Result<(Vec<u16>, &[u8]), ReadError>
+    ensures { Gives (λ x. (x.0.items, x.1.now)) result (each_at (number_at w16) count bytes.now) }
+{
+    let mut numbers = Vec::new(alloc);
+    let mut rest = bytes;
+    for i in 0..count {
+        let (number, after) = u16_at(rest)?;
+        numbers.push(number)?;
+        rest = after;
+    }
+    Ok((numbers, rest))
+}
+
 #[tactic(auto, unfolding(crate::specs::Reading::class_at))]
 fn class_at(bytes: &[u8]) -> Result<((u16, (u16, u16)), &[u8]), Fault>
     ensures { Finds (λ x. (x.0, x.1.now)) result (class_at bytes.now) }
@@ -168,10 +182,11 @@ fn class_at(bytes: &[u8]) -> Result<((u16, (u16, u16)), &[u8]), Fault>
 }
 
 #[tactic(auto, unfolding(crate::specs::Reading::interfaces_at))]
-fn interfaces_at(bytes: &[u8]) -> Result<&[u8], Fault>
-    ensures { Finds (λ x. ([], x.now)) result (interfaces_at bytes.now) }
+fn interfaces_at(alloc: Global, bytes: &[u8]) -> Result<(Vec<u16>, &[u8]), ReadError>
+    ensures { Gives (λ x. (x.0.items, x.1.now)) result (interfaces_at bytes.now) }
 {
-    zero_at(Fault::BadSupertype, bytes)
+    let (count, rest) = u16_at(bytes)?;
+    numbers_at(alloc, count, rest)
 }
 
 #[tactic(auto, unfolding(crate::specs::Reading::tables_at, crate::specs::Reading::members_at, crate::specs::Reading::attributes_at))]
@@ -191,13 +206,14 @@ fn structure_at(alloc: Global, bytes: &[u8]) -> Result<(RawFile<'_>, &[u8]), Rea
     let (_, rest) = header_at(bytes)?;
     let (pool, rest) = pool_at(alloc, rest)?;
     let ((flags, (this_class, super_class)), rest) = class_at(rest)?;
-    let rest = interfaces_at(rest)?;
+    let (interfaces, rest) = interfaces_at(alloc, rest)?;
     let rest = tables_at(rest)?;
     let file = RawFile {
         pool,
         flags,
         this_class,
         super_class,
+        interfaces,
     };
     Ok((file, rest))
 }

@@ -37,7 +37,7 @@ whole_again f h =
     rw one refl
 
 narrow : (f : Structure) → IsRead f → IsNarrow f
-narrow f h = record { fields = h.fields; methods = h.methods; attributes = h.attributes }
+narrow f h = record { fields = h.fields; methods = h.methods }
 
 pub read_takes : (bytes : List ℕ) (f : Structure) → IsBytes bytes → read_of bytes ≡ Ok f → Spells bytes f × IsNarrow f
 unfolding read_of
@@ -50,15 +50,15 @@ read_takes bytes f fits e =
 pub read_again : (bytes : List ℕ) (f : Structure) → Spells bytes f → IsNarrow f → read_of bytes ≡ Ok f
 unfolding read_of
 read_again bytes f s n =
-    let read : IsRead f = record { fits = s.fits; fields = n.fields; methods = n.methods; attributes = n.attributes } in
+    let read : IsRead f = record { fits = s.fits; fields = n.fields; methods = n.methods } in
     let one : whole_of bytes ≡ Ok f = ap whole_of s.spelled ∙ whole_again f read in
     rw one (file_told f s.fits s.kept)
 
 -- a file that passed the tests
-pub is_class_file : (f : Structure) (u v : Unit {0}) → Fits f → f.fields ≡ [] → f.methods ≡ [] → f.attributes ≡ [] → checked_entries f.pool 1 f.pool ≡ Ok u
+pub is_class_file : (f : Structure) (u v : Unit {0}) → Fits f → f.fields ≡ [] → f.methods ≡ [] → checked_entries f.pool 1 f.pool ≡ Ok u
     → checked_class f.pool f.flags f.this_class f.super_class f.interfaces ≡ Ok v → IsClassFile f
-is_class_file f u v fits no_fields no_methods no_attributes rows class =
-    record { fits = fits; kept = tables_say f u v rows class; narrow = record { fields = no_fields; methods = no_methods; attributes = no_attributes } }
+is_class_file f u v fits no_fields no_methods rows class =
+    record { fits = fits; kept = tables_say f u v rows class; narrow = record { fields = no_fields; methods = no_methods } }
 
 -- for the calls
 pub is_fitting : (bytes : List ℕ) (f : Structure) (rest : List ℕ) → IsBytes bytes → structure_at bytes ≡ Ok (f, rest) → Fits f

@@ -1,6 +1,6 @@
 -- Behind the header no fault of the header is found.
 use Rattle.std.proofs.Common.{◌≡◌, ℕ, zero, suc, ◌+◌, ◌-◌, Bool, true, false, cond, eqb, leb, ltb, ◌&&◌, List, [], ◌∷◌, length, Result, Ok, Err, refl, sym, ap, ◌∙◌}
-use Rattle.std.specs.Int.{Width, w16, byte_len}
+use Rattle.std.specs.Int.{Width, w16, w32, byte_len}
 use Rattle.cl_classfile.specs.declared.entry.Entry.{Entry}
 use Rattle.cl_classfile.specs.declared.entry.Entry.TheVariants.{Utf8, Class}
 use Rattle.cl_classfile.specs.declared.fault.Fault.{Fault}
@@ -9,7 +9,7 @@ use Rattle.cl_classfile.specs.Flags.{has, interface, is_class_flags}
 use Rattle.cl_classfile.specs.Structure.{Structure, Member, Attribute}
 use Rattle.cl_classfile.specs.Files.{class_name}
 use Rattle.cl_classfile.specs.Checking.{◌>>=◌, keeps_entry, kept_entry, checked_entries, keeps_names, keeps_interfaces, checked_class, kept_file}
-use Rattle.cl_classfile.specs.Reading.{Reader, number_at, bytes_at, then_at, test_at, map_at, many_at, each_at, counted_at, zero_at, none_at, header_at, text_at, entry_at, entries_at, pool_at, class_at, interfaces_at, members_at, attributes_at, tables_at, Parts, parts_at, structure_of, structure_at, whole_of, read_of}
+use Rattle.cl_classfile.specs.Reading.{Reader, number_at, bytes_at, then_at, test_at, map_at, sized_at, many_at, each_at, counted_at, zero_at, none_at, header_at, text_at, entry_at, entries_at, pool_at, class_at, interfaces_at, attribute_at, members_at, attributes_at, tables_at, Parts, parts_at, structure_of, structure_at, whole_of, read_of}
 
 -- the header's own faults
 abbrev pub is_header : Fault → Bool
@@ -94,9 +94,20 @@ class : Quiet class_at
 unfolding class_at
 class = also (number_at w16) _ (number w16) (λ flags. also (number_at w16) _ (number w16) (λ this. number w16))
 
+sized : (w : Width) → Quiet (sized_at w)
+sized w bytes = bind (number_at w bytes) _ (number w bytes) (λ n. those n.0 n.1)
+
+attribute : Quiet attribute_at
+unfolding attribute_at
+attribute = seen (then_at (number_at w16) (λ name. sized_at w32)) _ (also (number_at w16) _ (number w16) (λ name. sized w32))
+
+attributes : Quiet attributes_at
+unfolding attributes_at
+attributes = counts attribute_at attribute
+
 tables : Quiet tables_at
-unfolding tables_at members_at attributes_at
-tables = also (none_at BadMember) _ (none BadMember refl) (λ fields. also (none_at BadMember) _ (none BadMember refl) (λ methods. none BadMember refl))
+unfolding tables_at members_at
+tables = also (none_at BadMember) _ (none BadMember refl) (λ fields. also (none_at BadMember) _ (none BadMember refl) (λ methods. attributes))
 
 interfaces : Quiet interfaces_at
 unfolding interfaces_at

@@ -8,9 +8,9 @@ use Rattle.cl_classfile.specs.declared.entry.Entry.{Entry}
 use Rattle.cl_classfile.specs.declared.entry.Entry.TheVariants.{Utf8, Class}
 use Rattle.cl_classfile.specs.declared.fault.Fault.{Fault}
 use Rattle.cl_classfile.specs.declared.fault.Fault.TheVariants.{BadMagic, Version, BadPool, BadMember}
-use Rattle.cl_classfile.specs.Structure.{Structure, Member, Attribute, entry_spelling, counted, pool_spelling, member_spelling, attribute_spelling, magic, version, spelling, EntryFits, AllFit, PoolFits, Fits}
+use Rattle.cl_classfile.specs.Structure.{Structure, Member, Attribute, entry_spelling, counted, pool_spelling, member_spelling, attribute_spelling, magic, version, spelling, EntryFits, AllFit, PoolFits, AttributeFits, Fits}
 use Rattle.cl_classfile.specs.Checking.{◌>>=◌}
-use Rattle.cl_classfile.specs.Reading.{Reader, number_at, bytes_at, then_at, test_at, map_at, each_at, counted_at, zero_at, none_at, magic_at, version_at, header_at, text_at, entry_at, entries_at, pool_at, class_at, interfaces_at, members_at, attributes_at, tables_at, Parts, parts_at, structure_of, structure_at}
+use Rattle.cl_classfile.specs.Reading.{Reader, number_at, bytes_at, then_at, test_at, map_at, sized_at, each_at, counted_at, zero_at, none_at, magic_at, version_at, header_at, text_at, entry_at, entries_at, pool_at, class_at, interfaces_at, attribute_at, members_at, attributes_at, tables_at, Parts, parts_at, structure_of, structure_at}
 use Rattle.cl_classfile.proofs.Codec.{both, IsBytes, bind_ok, ok_is, Takes, Takes-then, IsCodec, number16, number32, bytes_of, one_then, tested, mapped, many, EachFits, each_of_all, all_of_each}
 
 -- one structure, and then another
@@ -18,10 +18,6 @@ pub also : {A B : Type 0} (r : Reader A) (q : Reader B) (s : A → List ℕ) (t 
 also r q s t F G first second = one_then r (λ a. q) s (λ a. t) F (λ a. G) first (λ a. second)
 
 -- ---- entries
-
--- a length, and that many bytes
-abbrev pub sized_at : Width → Reader (List ℕ)
-sized_at w bytes = number_at w bytes >>= λ n. bytes_at n.0 n.1
 
 pub sized : (w : Width) (limit : ℕ) → IsCodec (number_at w) (to_be_bytes w) (λ n. n < limit) → IsCodec (sized_at w) (λ t. to_be_bytes w (length t) ++ t) (λ t. length t < limit)
 sized w limit number = record {
@@ -162,11 +158,19 @@ members : IsCodec members_at (counted member_spelling) (λ ms. ms ≡ [])
 unfolding members_at
 members = none BadMember member_spelling
 
-attributes : IsCodec attributes_at (counted attribute_spelling) (λ xs. xs ≡ [])
-unfolding attributes_at
-attributes = none BadMember attribute_spelling
+attribute : IsCodec attribute_at attribute_spelling AttributeFits
+unfolding attribute_at
+attribute =
+    mapped _ _ _ (λ p. record { name_index = p.0; bytes = p.1 }) (λ a. (a.name_index, a.bytes)) attribute_spelling AttributeFits
+    (also (number_at w16) (sized_at w32) _ _ _ _ number16 (sized w32 (2 ^ 32) number32))
+    (λ p h. (refl, record { name_index = h.0; bytes = h.1 }))
+    (λ a h. ((h.name_index, h.bytes), refl, refl))
 
-tables : IsCodec tables_at (λ p. counted member_spelling p.0 ++ (counted member_spelling p.1.0 ++ counted attribute_spelling p.1.1)) (λ p. (p.0 ≡ []) × ((p.1.0 ≡ []) × (p.1.1 ≡ [])))
+pub attributes : IsCodec attributes_at (counted attribute_spelling) (AllFit AttributeFits)
+unfolding attributes_at
+attributes = counts attribute_at attribute_spelling AttributeFits attribute
+
+tables : IsCodec tables_at (λ p. counted member_spelling p.0 ++ (counted member_spelling p.1.0 ++ counted attribute_spelling p.1.1)) (λ p. (p.0 ≡ []) × ((p.1.0 ≡ []) × AllFit AttributeFits p.1.1))
 unfolding tables_at
 tables = also members_at (then_at members_at (λ methods. attributes_at)) _ _ _ _ members (also members_at attributes_at _ _ _ _ members attributes)
 
@@ -182,7 +186,7 @@ parts_spelling p =
     ++ (counted (to_be_bytes w16) p.1.1.1.0
     ++ (counted member_spelling p.1.1.1.1.0 ++ (counted member_spelling p.1.1.1.1.1.0 ++ counted attribute_spelling p.1.1.1.1.1.1)))))
 
-parts : IsCodec parts_at parts_spelling (PartsFit (AllFit (λ i. i < 2 ^ 16)) (λ xs. xs ≡ []) (λ xs. xs ≡ []))
+parts : IsCodec parts_at parts_spelling (PartsFit (AllFit (λ i. i < 2 ^ 16)) (λ xs. xs ≡ []) (AllFit AttributeFits))
 unfolding parts_at
 parts = also header_at _ _ _ _ _ header (also pool_at _ _ _ _ _ pool (also class_at _ _ _ _ _ class (also interfaces_at tables_at _ _ _ _ interfaces tables)))
 
@@ -191,7 +195,6 @@ pub record IsRead (f : Structure) : Type 0 where
   pub fits : Fits f
   pub fields : f.fields ≡ []
   pub methods : f.methods ≡ []
-  pub attributes : f.attributes ≡ []
 
 nothing_fits : {A : Type 0} (F : A → Type 0) (xs : List A) → xs ≡ [] → AllFit F xs
 nothing_fits {A} F xs e = subst (λ (ys : List A). AllFit F ys) (sym e) (omega arith, tt)
@@ -208,7 +211,7 @@ there p h =
     joined (header_spelling p.0) (pool_spelling p.1.0) (to_be_bytes w16 p.1.1.0.0) (to_be_bytes w16 p.1.1.0.1.0) (to_be_bytes w16 p.1.1.0.1.1)
     (counted (to_be_bytes w16) p.1.1.1.0 ++ (counted member_spelling p.1.1.1.1.0 ++ (counted member_spelling p.1.1.1.1.1.0 ++ counted attribute_spelling p.1.1.1.1.1.1))) (header_says p.0 h)
 
-says : (p : Parts) → PartsFit (AllFit (λ i. i < 2 ^ 16)) (λ xs. xs ≡ []) (λ xs. xs ≡ []) p → IsRead (structure_of p)
+says : (p : Parts) → PartsFit (AllFit (λ i. i < 2 ^ 16)) (λ xs. xs ≡ []) (AllFit AttributeFits) p → IsRead (structure_of p)
 says p h = record {
   fits = record {
     pool = h.1.0;
@@ -218,15 +221,14 @@ says p h = record {
     interfaces = h.1.1.1.0;
     fields = nothing_fits _ p.1.1.1.1.0 h.1.1.1.1.0;
     methods = nothing_fits _ p.1.1.1.1.1.0 h.1.1.1.1.1.0;
-    attributes = nothing_fits _ p.1.1.1.1.1.1 h.1.1.1.1.1.1;
+    attributes = h.1.1.1.1.1.1;
   };
   fields = h.1.1.1.1.0;
   methods = h.1.1.1.1.1.0;
-  attributes = h.1.1.1.1.1.1;
 }
 
 pub structure : IsCodec structure_at spelling IsRead
 unfolding structure_at
 structure =
-    mapped parts_at parts_spelling (PartsFit (AllFit (λ i. i < 2 ^ 16)) (λ xs. xs ≡ []) (λ xs. xs ≡ [])) structure_of parts_of spelling IsRead parts (λ p h. (there p h.0, says p h))
-    (λ f h. ((header_fits, (h.fits.pool, ((h.fits.flags, (h.fits.this_class, h.fits.super_class)), (h.fits.interfaces, (h.fields, (h.methods, h.attributes)))))), there (parts_of f) header_fits, refl))
+    mapped parts_at parts_spelling (PartsFit (AllFit (λ i. i < 2 ^ 16)) (λ xs. xs ≡ []) (AllFit AttributeFits)) structure_of parts_of spelling IsRead parts (λ p h. (there p h.0, says p h))
+    (λ f h. ((header_fits, (h.fits.pool, ((h.fits.flags, (h.fits.this_class, h.fits.super_class)), (h.fits.interfaces, (h.fields, (h.methods, h.fits.attributes)))))), there (parts_of f) header_fits, refl))

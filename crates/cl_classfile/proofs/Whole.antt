@@ -1,37 +1,26 @@
 -- The whole grammar, read on lists: that each file has one spelling, and each spelling one file.
 use Rattle.std.proofs.Common.{◌≡◌, ℕ, ◌^◌, ◌<◌, List, [], ◌++◌, length, Ok, refl, sym, ap, subst, ◌∙◌, append_assoc, arith}
-use Rattle.std.specs.Int.{w16, w32, to_be_bytes}
+use Rattle.std.specs.Int.{w16, to_be_bytes}
 use Rattle.std.specs.List.{flat_map}
 use Rattle.std.proofs.lemmas.List.{append-nil}
-use Rattle.cl_classfile.specs.Structure.{Structure, Member, Attribute, counted, attribute_spelling, member_spelling, spelling, AllFit, AttributeFits, MemberFits, Fits, Spells}
+use Rattle.cl_classfile.specs.Structure.{Structure, Member, counted, member_spelling, spelling, AllFit, AttributeFits, MemberFits, Fits, Spells}
 use Rattle.cl_classfile.specs.Checking.{◌>>=◌}
-use Rattle.cl_classfile.specs.Reading.{Reader, number_at, then_at, map_at, counted_at, header_at, pool_at, class_at, Parts, structure_of}
-use Rattle.cl_classfile.proofs.Codec.{ok_is, IsCodec, number16, number32, mapped}
-use Rattle.cl_classfile.proofs.Spelled.{also, sized_at, sized, counts, header, pool, class, parts_spelling, PartsFit, there, header_fits, parts_of}
+use Rattle.cl_classfile.specs.Reading.{Reader, number_at, then_at, map_at, counted_at, header_at, pool_at, class_at, attributes_at, Parts, structure_of}
+use Rattle.cl_classfile.proofs.Codec.{ok_is, IsCodec, number16, mapped}
+use Rattle.cl_classfile.proofs.Spelled.{also, counts, attributes, header, pool, class, parts_spelling, PartsFit, there, header_fits, parts_of}
 
--- ---- attributes and members
-
-attribute_at : Reader Attribute
-attribute_at = map_at (then_at (number_at w16) (λ name. sized_at w32)) (λ p. record { name_index = p.0; bytes = p.1 })
-
-attribute : IsCodec attribute_at attribute_spelling AttributeFits
-unfolding attribute_at
-attribute =
-    mapped _ _ _ (λ p. record { name_index = p.0; bytes = p.1 }) (λ a. (a.name_index, a.bytes)) attribute_spelling AttributeFits
-    (also (number_at w16) (sized_at w32) _ _ _ _ number16 (sized w32 (2 ^ 32) number32))
-    (λ p h. (refl, record { name_index = h.0; bytes = h.1 }))
-    (λ a h. ((h.name_index, h.bytes), refl, refl))
+-- ---- members
 
 member_at : Reader Member
 member_at =
-    map_at (then_at (number_at w16) (λ flags. then_at (number_at w16) (λ name. then_at (number_at w16) (λ descriptor. counted_at attribute_at))))
+    map_at (then_at (number_at w16) (λ flags. then_at (number_at w16) (λ name. then_at (number_at w16) (λ descriptor. attributes_at))))
     (λ p. record { flags = p.0; name_index = p.1.0; descriptor_index = p.1.1.0; attributes = p.1.1.1 })
 
 member : IsCodec member_at member_spelling MemberFits
 unfolding member_at
 member =
     mapped _ _ _ (λ p. record { flags = p.0; name_index = p.1.0; descriptor_index = p.1.1.0; attributes = p.1.1.1 }) (λ m. (m.flags, (m.name_index, (m.descriptor_index, m.attributes)))) member_spelling MemberFits
-    (also (number_at w16) _ _ _ _ _ number16 (also (number_at w16) _ _ _ _ _ number16 (also (number_at w16) (counted_at attribute_at) _ _ _ _ number16 (counts attribute_at attribute_spelling AttributeFits attribute))))
+    (also (number_at w16) _ _ _ _ _ number16 (also (number_at w16) _ _ _ _ _ number16 (also (number_at w16) (attributes_at) _ _ _ _ number16 (attributes))))
     (λ p h. (refl, record { flags = h.0; name_index = h.1.0; descriptor_index = h.1.1.0; attributes = h.1.1.1 }))
     (λ m h. ((h.flags, (h.name_index, (h.descriptor_index, h.attributes))), refl, refl))
 
@@ -40,14 +29,14 @@ member =
 parts_at : Reader Parts
 parts_at =
     then_at header_at (λ header. then_at pool_at (λ pool. then_at class_at (λ class. then_at (counted_at (number_at w16)) (λ interfaces.
-    then_at (counted_at member_at) (λ fields. then_at (counted_at member_at) (λ methods. counted_at attribute_at))))))
+    then_at (counted_at member_at) (λ fields. then_at (counted_at member_at) (λ methods. attributes_at))))))
 
 parts : IsCodec parts_at parts_spelling (PartsFit (AllFit (λ i. i < 2 ^ 16)) (AllFit MemberFits) (AllFit AttributeFits))
 unfolding parts_at
 parts =
     let members = counts member_at member_spelling MemberFits member in
     also header_at _ _ _ _ _ header (also pool_at _ _ _ _ _ pool (also class_at _ _ _ _ _ class (also (counted_at (number_at w16)) _ _ _ _ _ (counts (number_at w16) (to_be_bytes w16) (λ i. i < 2 ^ 16) number16)
-    (also (counted_at member_at) _ _ _ _ _ members (also (counted_at member_at) (counted_at attribute_at) _ _ _ _ members (counts attribute_at attribute_spelling AttributeFits attribute))))))
+    (also (counted_at member_at) _ _ _ _ _ members (also (counted_at member_at) (attributes_at) _ _ _ _ members (attributes))))))
 
 structure_at : Reader Structure
 structure_at = map_at parts_at structure_of

@@ -23,5 +23,5 @@ plain_file f = record {
   interfaces = f.interfaces.items;
   fields = [];
   methods = [];
-  attributes = [];
+  attributes = f.attributes.items;
 }

@@ -38,6 +38,10 @@ unfoldable pub many_at : {C A : Type 0} → (C → Reader A) → (C → A → C)
 many_at step next zero c bytes = Ok ([], bytes)
 many_at step next (suc n) c bytes = step c bytes >>= λ x. (many_at step next n (next c x.0) x.1 >>= λ y. Ok (x.0 ∷ y.0, y.1))
 
+-- a length, and that many bytes
+abbrev pub sized_at : Width → Reader (List ℕ)
+sized_at w bytes = number_at w bytes >>= λ n. bytes_at n.0 n.1
+
 -- that many of a structure that is read the same way wherever it stands
 abbrev pub each_at : {A : Type 0} → Reader A → ℕ → Reader (List A)
 each_at r n = many_at {C = ℕ} (λ i. r) (λ i a. i) n 0
@@ -94,11 +98,15 @@ class_at = then_at (number_at w16) (λ flags. then_at (number_at w16) (λ this. 
 unfoldable pub interfaces_at : Reader (List ℕ)
 interfaces_at = counted_at (number_at w16)
 
+-- a name, a length, and that many bytes (JVMS SE 8, 4.7)
+unfoldable pub attribute_at : Reader Attribute
+attribute_at = map_at (then_at (number_at w16) (λ name. sized_at w32)) (λ p. record { name_index = p.0; bytes = p.1 })
+
 unfoldable pub members_at : Reader (List Member)
 members_at = none_at BadMember
 
 unfoldable pub attributes_at : Reader (List Attribute)
-attributes_at = none_at BadMember
+attributes_at = counted_at attribute_at
 
 -- the fields, the methods and the class's attributes
 unfoldable pub tables_at : Reader (List Member × (List Member × List Attribute))

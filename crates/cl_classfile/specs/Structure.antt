@@ -152,11 +152,10 @@ pub record Keeps (f : Structure) : Type 0 where
   pub super_class : KeepsSuper f.pool (has f.flags interface) name f.super_class
   pub interfaces : AllByRecursion (KeepsInterface f.pool) f.interfaces
 
--- what is read so far: no member and no attribute
+-- what is read so far: no member
 pub record IsNarrow (f : Structure) : Type 0 where
   pub fields : f.fields ≡ []
   pub methods : f.methods ≡ []
-  pub attributes : f.attributes ≡ []
 
 -- what a class file that was read is
 pub record IsClassFile (f : Structure) : Type 0 where

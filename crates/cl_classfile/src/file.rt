@@ -13,6 +13,7 @@ ghost use Rattle.cl_classfile.specs.Reading.{header_at, read_of};
 use crate::checking::{check_class, class_name, kept_entries};
 use crate::entry::Entry;
 use crate::fault::{Fault, ReadError};
+use crate::member::Attribute;
 use crate::reading::{RawFile, whole_of};
 use cl_names::Name;
 use std::alloc::Global;
@@ -26,6 +27,7 @@ pub struct ClassFile {
     this_class: u16,
     super_class: u16,
     interfaces: Vec<u16>,
+    attributes: Vec<Attribute>,
 }
 
 impl Model for ClassFile {
@@ -77,6 +79,13 @@ impl ClassFile {
         self.interfaces.as_slice()
     }
 
+    /// The attributes of the class, in order.
+    pub fn attributes(&self) -> &[Attribute]
+        ensures { result.now ≡ self.now.attributes }
+    {
+        self.attributes.as_slice()
+    }
+
     /// The name of the class.
     pub fn this_name(&self) -> &Name
         ensures name { result.now ≡ (file_of self.now).name }
@@ -104,6 +113,7 @@ fn made(pool: Vec<Entry>, file: RawFile<'_>) -> ClassFile
         this_class: file.this_class,
         super_class: file.super_class,
         interfaces: file.interfaces,
+        attributes: file.attributes,
     }
 }
 

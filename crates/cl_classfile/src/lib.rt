@@ -7,12 +7,14 @@ mod fault;
 mod file;
 mod flags;
 mod laws;
+mod member;
 mod reading;
 
 pub use entry::Entry;
 pub use fault::{Fault, ReadError};
 pub use file::{ClassFile, read};
 pub use laws::{has_one_spelling, spells_one_file};
+pub use member::Attribute;
 
 #[cfg(test)]
 mod tests;

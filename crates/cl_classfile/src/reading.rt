@@ -4,10 +4,11 @@ ghost use Rattle.cl_classfile.specs.declared.fault.Fault.{Fault};
 ghost use Rattle.cl_classfile.specs.declared.fault.ReadError.TheVariants as errors;
 ghost use Rattle.cl_classfile.specs.Structure.{Fits};
 ghost use Rattle.cl_classfile.specs.Checking.{Finds, Gives};
-ghost use Rattle.cl_classfile.specs.Reading.{number_at, bytes_at, zero_at, each_at, magic_at, version_at, header_at, text_at, entry_at, entries_at, pool_at, class_at, interfaces_at, tables_at, structure_at, whole_of};
+ghost use Rattle.cl_classfile.specs.Reading.{number_at, bytes_at, zero_at, each_at, magic_at, version_at, header_at, text_at, entry_at, entries_at, pool_at, class_at, interfaces_at, attribute_at, attributes_at, tables_at, structure_at, whole_of};
 ghost use Rattle.cl_classfile.specs.Raw.{plain_entry, plain_entries, plain_file};
 
 use crate::fault::{Fault, ReadError};
+use crate::member::Attribute;
 use std::alloc::Global;
 
 /// An entry as it is read, before it is looked at.
@@ -25,6 +26,7 @@ pub struct RawFile<'a> {
     pub this_class: u16,
     pub super_class: u16,
     pub interfaces: Vec<u16>,
+    pub attributes: Vec<Attribute>,
 }
 
 fn u16_at(bytes: &[u8]) -> Result<(u16, &[u8]), Fault>
@@ -189,13 +191,49 @@ fn interfaces_at(alloc: Global, bytes: &[u8]) -> Result<(Vec<u16>, &[u8]), ReadE
     numbers_at(alloc, count, rest)
 }
 
-#[tactic(auto, unfolding(crate::specs::Reading::tables_at, crate::specs::Reading::members_at, crate::specs::Reading::attributes_at))]
-fn tables_at(bytes: &[u8]) -> Result<&[u8], Fault>
-    ensures { Finds (λ x. (([], ([], [])), x.now)) result (tables_at bytes.now) }
+#[tactic(auto, unfolding(crate::specs::Reading::attribute_at))]
+fn attribute_at(alloc: Global, bytes: &[u8]) -> Result<(Attribute, &[u8]), ReadError>
+    ensures { Gives (λ x. (x.0, x.1.now)) result (attribute_at bytes.now) }
+{
+    let (name_index, rest) = u16_at(bytes)?;
+    let (count, rest) = u32_at(rest)?;
+    let (content, rest) = bytes_at(count as usize, rest)?;
+    let attribute = Attribute::copied(alloc, name_index, content)?;
+    Ok((attribute, rest))
+}
+
+fn each_attribute(
+    alloc: Global,
+    count: u16,
+    bytes: &[u8],
+) -> Result<(Vec<Attribute>, &[u8]), ReadError>
+    ensures { Gives (λ x. (x.0.items, x.1.now)) result (each_at attribute_at count bytes.now) }
+{
+    let mut attributes = Vec::new(alloc);
+    let mut rest = bytes;
+    for i in 0..count {
+        let (attribute, after) = attribute_at(alloc, rest)?;
+        attributes.push(attribute)?;
+        rest = after;
+    }
+    Ok((attributes, rest))
+}
+
+#[tactic(auto, unfolding(crate::specs::Reading::attributes_at))]
+fn attributes_at(alloc: Global, bytes: &[u8]) -> Result<(Vec<Attribute>, &[u8]), ReadError>
+    ensures { Gives (λ x. (x.0.items, x.1.now)) result (attributes_at bytes.now) }
+{
+    let (count, rest) = u16_at(bytes)?;
+    each_attribute(alloc, count, rest)
+}
+
+#[tactic(auto, unfolding(crate::specs::Reading::tables_at, crate::specs::Reading::members_at))]
+fn tables_at(alloc: Global, bytes: &[u8]) -> Result<(Vec<Attribute>, &[u8]), ReadError>
+    ensures { Gives (λ x. (([], ([], x.0.items)), x.1.now)) result (tables_at bytes.now) }
 {
     let rest = zero_at(Fault::BadMember, bytes)?;
     let rest = zero_at(Fault::BadMember, rest)?;
-    zero_at(Fault::BadMember, rest)
+    attributes_at(alloc, rest)
 }
 
 #[tactic(auto, unfolding(crate::specs::Reading::structure_at, crate::specs::Reading::parts_at))]
@@ -207,13 +245,14 @@ fn structure_at(alloc: Global, bytes: &[u8]) -> Result<(RawFile<'_>, &[u8]), Rea
     let (pool, rest) = pool_at(alloc, rest)?;
     let ((flags, (this_class, super_class)), rest) = class_at(rest)?;
     let (interfaces, rest) = interfaces_at(alloc, rest)?;
-    let rest = tables_at(rest)?;
+    let (attributes, rest) = tables_at(alloc, rest)?;
     let file = RawFile {
         pool,
         flags,
         this_class,
         super_class,
         interfaces,
+        attributes,
     };
     Ok((file, rest))
 }

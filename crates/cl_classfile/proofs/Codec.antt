@@ -9,7 +9,7 @@ use Rattle.std.proofs.lemmas.Nat.{be_bytes_2, be_bytes_4, be_bytes_8, from_be_by
 use Rattle.cl_classfile.specs.declared.fault.Fault.{Fault}
 use Rattle.cl_classfile.specs.declared.fault.Fault.TheVariants.{Truncated}
 use Rattle.cl_classfile.specs.Checking.{◌>>=◌}
-use Rattle.cl_classfile.specs.Reading.{Reader, many_at, number_at, then_at, test_at, map_at, bytes_at}
+use Rattle.cl_classfile.specs.Reading.{Reader, many_at, number_at, then_at, test_at, map_at, bytes_at, sized_at}
 
 abbrev pub IsBytes : List ℕ → Type 0
 IsBytes bytes = (i : ℕ) → get_or bytes i 0 < 256
@@ -216,9 +216,6 @@ all_of_each F next c [] h = tt
 all_of_each F next c (x ∷ xs) h = (h.0, all_of_each F next (next c x) xs h.1)
 
 -- a length, and that many bytes
-abbrev pub sized_at : Width → Reader (List ℕ)
-sized_at w bytes = number_at w bytes >>= λ n. bytes_at n.0 n.1
-
 pub sized : (w : Width) (limit : ℕ) → IsCodec (number_at w) (to_be_bytes w) (λ n. n < limit) → IsCodec (sized_at w) (λ t. to_be_bytes w (length t) ++ t) (λ t. length t < limit)
 sized w limit number = record {
   takes = λ bytes x fits e.

@@ -36,8 +36,8 @@ whole_again f h =
     let one : structure_at (spelling f) ≡ Ok (f, []) = ap structure_at (sym (append-nil (spelling f))) ∙ structure.again f [] h in
     rw one refl
 
-narrow : (f : Structure) → IsRead f → (let flags : ℕ = f.flags in flags) ≡ 33 → IsNarrow f
-narrow f h flags = record { flags = flags; interfaces = h.interfaces; fields = h.fields; methods = h.methods; attributes = h.attributes }
+narrow : (f : Structure) → IsRead f → IsNarrow f
+narrow f h = record { fields = h.fields; methods = h.methods }
 
 pub read_takes : (bytes : List ℕ) (f : Structure) → IsBytes bytes → read_of bytes ≡ Ok f → Spells bytes f × IsNarrow f
 unfolding read_of
@@ -45,21 +45,20 @@ read_takes bytes f fits e =
     let a = bind_ok (whole_of bytes) kept_file f e in
     let one = whole_takes bytes a.0 fits a.1 in
     let two = file_says a.0 f a.2 in
-    subst (λ (y : Structure). Spells bytes y × IsNarrow y) two.0 (record { fits = one.1.fits; kept = two.1; spelled = one.0 }, narrow a.0 one.1 two.2)
+    subst (λ (y : Structure). Spells bytes y × IsNarrow y) two.0 (record { fits = one.1.fits; kept = two.1; spelled = one.0 }, narrow a.0 one.1)
 
 pub read_again : (bytes : List ℕ) (f : Structure) → Spells bytes f → IsNarrow f → read_of bytes ≡ Ok f
 unfolding read_of
 read_again bytes f s n =
-    let read : IsRead f = record { fits = s.fits; interfaces = n.interfaces; fields = n.fields; methods = n.methods; attributes = n.attributes } in
+    let read : IsRead f = record { fits = s.fits; fields = n.fields; methods = n.methods } in
     let one : whole_of bytes ≡ Ok f = ap whole_of s.spelled ∙ whole_again f read in
-    rw one (file_told f s.fits s.kept n.flags)
+    rw one (file_told f s.fits s.kept)
 
 -- a file that passed the tests
-pub is_class_file : (f : Structure) (u v : Unit {0}) → Fits f → f.interfaces ≡ [] → f.fields ≡ [] → f.methods ≡ [] → f.attributes ≡ [] → checked_entries f.pool 1 f.pool ≡ Ok u
-    → checked_class f.pool f.flags f.this_class f.super_class ≡ Ok v → IsClassFile f
-is_class_file f u v fits no_interfaces no_fields no_methods no_attributes rows class =
-    let k = tables_say f u v rows class in
-    record { fits = fits; kept = k.0; narrow = record { flags = k.1; interfaces = no_interfaces; fields = no_fields; methods = no_methods; attributes = no_attributes } }
+pub is_class_file : (f : Structure) (u v : Unit {0}) → Fits f → f.fields ≡ [] → f.methods ≡ [] → checked_entries f.pool 1 f.pool ≡ Ok u
+    → checked_class f.pool f.flags f.this_class f.super_class f.interfaces ≡ Ok v → IsClassFile f
+is_class_file f u v fits no_fields no_methods rows class =
+    record { fits = fits; kept = tables_say f u v rows class; narrow = record { fields = no_fields; methods = no_methods } }
 
 -- for the calls
 pub is_fitting : (bytes : List ℕ) (f : Structure) (rest : List ℕ) → IsBytes bytes → structure_at bytes ≡ Ok (f, rest) → Fits f

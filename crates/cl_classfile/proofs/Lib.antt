@@ -1,7 +1,8 @@
-pub mod Narrow
 pub mod Loop
 pub mod Entries
 pub mod Codec
+pub mod Rows
+pub mod Classes
 pub mod Tables
 pub mod Pooled
 pub mod Spelled

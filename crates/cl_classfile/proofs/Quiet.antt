@@ -1,15 +1,16 @@
 -- Behind the header no fault of the header is found.
-use Rattle.std.proofs.Common.{◌≡◌, ℕ, zero, suc, ◌+◌, ◌-◌, Bool, true, false, cond, eqb, leb, ltb, List, [], ◌∷◌, length, map, Result, Ok, Err, refl, sym, ap, ◌∙◌}
+use Rattle.std.proofs.Common.{◌≡◌, ℕ, zero, suc, ◌+◌, ◌-◌, Bool, true, false, cond, eqb, leb, ltb, ◌&&◌, List, [], ◌∷◌, length, map, Result, Ok, Err, refl, sym, ap, ◌∙◌}
 use Rattle.std.specs.Int.{Width, w16, w32, w64, byte_len}
 use Rattle.cl_classfile.specs.declared.entry.Entry.{Entry}
 use Rattle.cl_classfile.specs.declared.entry.Entry.TheVariants.{Unusable}
 use Rattle.cl_classfile.specs.declared.fault.Fault.{Fault}
 use Rattle.cl_classfile.specs.declared.fault.Fault.TheVariants.{BadMagic, Version, Truncated, Trailing, BadPool, BadFlags, BadMember, Duplicate, BadSupertype}
+use Rattle.cl_classfile.specs.Flags.{has, interface, is_class_flags}
 use Rattle.cl_classfile.specs.Structure.{Structure, Member, Attribute}
 use Rattle.cl_classfile.specs.Files.{class_name}
 use Rattle.cl_classfile.specs.Rows.{entry_traits, keeps_entry}
-use Rattle.cl_classfile.specs.Checking.{◌>>=◌, kept_entry, checked_entries, keeps_supertypes, checked_class, kept_file}
-use Rattle.cl_classfile.specs.Reading.{Reader, number_at, bytes_at, then_at, test_at, map_at, many_at, zero_at, none_at, header_at, text_at, byte_at, signed_at, two_at, handle_at, wide_at, value_at, index_at, pair_at, other_at, entry_at, slot_at, next_place, entries_at, pool_at, class_at, interfaces_at, members_at, attributes_at, tables_at, Parts, parts_at, structure_of, structure_at, whole_of, read_of}
+use Rattle.cl_classfile.specs.Checking.{◌>>=◌, kept_entry, checked_entries, keeps_names, keeps_interfaces, checked_class, kept_file}
+use Rattle.cl_classfile.specs.Reading.{Reader, number_at, bytes_at, then_at, test_at, map_at, sized_at, many_at, each_at, counted_at, zero_at, none_at, header_at, text_at, byte_at, signed_at, two_at, handle_at, wide_at, value_at, index_at, pair_at, other_at, entry_at, slot_at, next_place, entries_at, pool_at, class_at, interfaces_at, attribute_at, members_at, attributes_at, tables_at, Parts, parts_at, structure_of, structure_at, whole_of, read_of}
 
 -- the header's own faults
 abbrev pub is_header : Fault → Bool
@@ -69,6 +70,9 @@ unfolding many_at
 many step next p zero c bytes = ok _
 many step next p (suc n) c bytes = bind (step c bytes) _ (p c bytes) (λ x. bind (many_at step next n (next c x.0) x.1) _ (many step next p n (next c x.0) x.1) (λ y. ok _))
 
+counts : {A : Type 0} (r : Reader A) → Quiet r → Quiet (counted_at r)
+counts r p bytes = bind (number_at w16 bytes) _ (number w16 bytes) (λ n. many {C = ℕ} (λ i. r) (λ i a. i) (λ i. p) n.0 0 n.1)
+
 none : {A : Type 0} (g : Fault) → is_header g ≡ false → Quiet (none_at {A = A} g)
 none g h = seen (zero_at g) _ (tested (number_at w16) _ g h (number w16))
 
@@ -127,13 +131,24 @@ class : Quiet class_at
 unfolding class_at
 class = also (number_at w16) _ (number w16) (λ flags. also (number_at w16) _ (number w16) (λ this. number w16))
 
+sized : (w : Width) → Quiet (sized_at w)
+sized w bytes = bind (number_at w bytes) _ (number w bytes) (λ n. those n.0 n.1)
+
+attribute : Quiet attribute_at
+unfolding attribute_at
+attribute = seen (then_at (number_at w16) (λ name. sized_at w32)) _ (also (number_at w16) _ (number w16) (λ name. sized w32))
+
+attributes : Quiet attributes_at
+unfolding attributes_at
+attributes = counts attribute_at attribute
+
 tables : Quiet tables_at
-unfolding tables_at members_at attributes_at
-tables = also (none_at BadMember) _ (none BadMember refl) (λ fields. also (none_at BadMember) _ (none BadMember refl) (λ methods. none BadMember refl))
+unfolding tables_at members_at
+tables = also (none_at BadMember) _ (none BadMember refl) (λ fields. also (none_at BadMember) _ (none BadMember refl) (λ methods. attributes))
 
 interfaces : Quiet interfaces_at
 unfolding interfaces_at
-interfaces = none BadSupertype refl
+interfaces = counts (number_at w16) (number w16)
 
 -- ---- tables
 
@@ -145,8 +160,9 @@ rows entries i (e ∷ es) = bind (kept_entry entries i e) _ (choice (keeps_entry
 file : (f : Structure) → IsQuiet (kept_file f)
 unfolding kept_file
 file f =
-    bind (checked_entries f.pool 1 f.pool) _ (rows f.pool 1 f.pool) (λ entries. bind (checked_class f.pool f.flags f.this_class f.super_class) _
-    (choice (eqb f.flags 33) _ (Err BadFlags) (choice (keeps_supertypes f.pool f.super_class (class_name f.pool f.this_class)) (Ok tt) (Err BadSupertype) (ok tt) (err BadSupertype refl)) (err BadFlags refl))
+    bind (checked_entries f.pool 1 f.pool) _ (rows f.pool 1 f.pool) (λ entries. bind (checked_class f.pool f.flags f.this_class f.super_class f.interfaces) _
+    (choice (is_class_flags f.flags) _ (Err BadFlags)
+    (choice (keeps_names f.pool (has f.flags interface) f.super_class (class_name f.pool f.this_class) && keeps_interfaces f.pool f.interfaces) (Ok tt) (Err BadSupertype) (ok tt) (err BadSupertype refl)) (err BadFlags refl))
     (λ class. ok f))
 
 -- ---- the whole

@@ -5,11 +5,11 @@ use Rattle.std.specs.List.{flat_map}
 use Rattle.std.proofs.lemmas.Bool.{eqb-true, leb-true}
 use Rattle.std.proofs.lemmas.Bool.Decides.{nat_tests}
 use Rattle.cl_classfile.specs.declared.fault.Fault.{Fault}
-use Rattle.cl_classfile.specs.declared.fault.Fault.TheVariants.{BadMagic, Version, BadPool, BadMember, BadSupertype}
-use Rattle.cl_classfile.specs.Structure.{Structure, Member, Attribute, counted, pool_spelling, member_spelling, attribute_spelling, magic, version, spelling, AllFit, PoolFits, Fits}
+use Rattle.cl_classfile.specs.declared.fault.Fault.TheVariants.{BadMagic, Version, BadMember}
+use Rattle.cl_classfile.specs.Structure.{Structure, Member, Attribute, counted, pool_spelling, member_spelling, attribute_spelling, magic, version, spelling, AllFit, PoolFits, AttributeFits, Fits}
 use Rattle.cl_classfile.specs.Checking.{◌>>=◌}
-use Rattle.cl_classfile.specs.Reading.{Reader, number_at, bytes_at, then_at, test_at, map_at, zero_at, none_at, magic_at, version_at, header_at, text_at, entry_at, entries_at, pool_at, class_at, interfaces_at, members_at, attributes_at, tables_at, Parts, parts_at, structure_of, structure_at}
-use Rattle.cl_classfile.proofs.Codec.{both, IsCodec, number16, number32, also, tested, mapped}
+use Rattle.cl_classfile.specs.Reading.{Reader, number_at, then_at, test_at, map_at, sized_at, each_at, counted_at, zero_at, none_at, magic_at, version_at, header_at, pool_at, class_at, interfaces_at, attribute_at, members_at, attributes_at, tables_at, Parts, parts_at, structure_of, structure_at}
+use Rattle.cl_classfile.proofs.Codec.{both, IsBytes, bind_ok, ok_is, Takes, Takes-then, IsCodec, number16, number32, also, sized, tested, mapped, many, EachFits, each_of_all, all_of_each}
 use Rattle.cl_classfile.proofs.Pooled.{pool}
 
 -- ---- the parts of the file
@@ -55,19 +55,43 @@ pub class : IsCodec class_at class_spelling ClassFits
 unfolding class_at
 class = also (number_at w16) (then_at (number_at w16) (λ this. number_at w16)) _ _ _ _ number16 (also (number_at w16) (number_at w16) _ _ _ _ number16 number16)
 
-interfaces : IsCodec interfaces_at (counted (to_be_bytes w16)) (λ is. is ≡ [])
+each : {A : Type 0} (r : Reader A) (s : A → List ℕ) (F : A → Type 0) → IsCodec r s F → (n : ℕ) → IsCodec (each_at r n) (flat_map s) (λ xs. (length xs ≡ n) × EachFits {C = ℕ} (λ i. F) (λ i a. i) 0 xs)
+each r s F c n = many {C = ℕ} (λ i. r) (λ i a. i) s (λ i. F) (λ i. c) n 0
+
+pub counts : {A : Type 0} (r : Reader A) (s : A → List ℕ) (F : A → Type 0) → IsCodec r s F → IsCodec (counted_at r) (counted s) (AllFit F)
+counts r s F c = record {
+  takes = λ bytes x fits e.
+      let a = bind_ok (number_at w16 bytes) (λ n. each_at r n.0 n.1) x e in
+      let one = number16.takes bytes a.0 fits a.1 in
+      let two = (each r s F c a.0.0).takes a.0.1 x one.0.rest_fits a.2 in
+      let whole = Takes-then bytes (to_be_bytes w16 a.0.0) a.0.1 (flat_map s x.0) x.1 one.0 two.0 in
+      (subst (λ (k : ℕ). Takes bytes (to_be_bytes w16 k ++ flat_map s x.0) x.1) (sym two.1.0) whole, (omega (arith, two.1.0, one.1), all_of_each {C = ℕ} F (λ i a. i) 0 x.0 two.1.1));
+  again = λ xs rest h.
+      ap (counted_at r) (append_assoc (to_be_bytes w16 (length xs)) (flat_map s xs) rest)
+      ∙ rw (number16.again (length xs) (flat_map s xs ++ rest) h.0, (each r s F c (length xs)).again xs rest (refl, each_of_all {C = ℕ} F (λ i a. i) 0 xs h.1)) refl;
+}
+
+interfaces : IsCodec interfaces_at (counted (to_be_bytes w16)) (AllFit (λ i. i < 2 ^ 16))
 unfolding interfaces_at
-interfaces = none BadSupertype (to_be_bytes w16)
+interfaces = counts (number_at w16) (to_be_bytes w16) (λ i. i < 2 ^ 16) number16
 
 members : IsCodec members_at (counted member_spelling) (λ ms. ms ≡ [])
 unfolding members_at
 members = none BadMember member_spelling
 
-attributes : IsCodec attributes_at (counted attribute_spelling) (λ xs. xs ≡ [])
-unfolding attributes_at
-attributes = none BadMember attribute_spelling
+attribute : IsCodec attribute_at attribute_spelling AttributeFits
+unfolding attribute_at
+attribute =
+    mapped _ _ _ (λ p. record { name_index = p.0; bytes = p.1 }) (λ a. (a.name_index, a.bytes)) attribute_spelling AttributeFits
+    (also (number_at w16) (sized_at w32) _ _ _ _ number16 (sized w32 (2 ^ 32) number32))
+    (λ p h. (refl, record { name_index = h.0; bytes = h.1 }))
+    (λ a h. ((h.name_index, h.bytes), refl, refl))
 
-tables : IsCodec tables_at (λ p. counted member_spelling p.0 ++ (counted member_spelling p.1.0 ++ counted attribute_spelling p.1.1)) (λ p. (p.0 ≡ []) × ((p.1.0 ≡ []) × (p.1.1 ≡ [])))
+pub attributes : IsCodec attributes_at (counted attribute_spelling) (AllFit AttributeFits)
+unfolding attributes_at
+attributes = counts attribute_at attribute_spelling AttributeFits attribute
+
+tables : IsCodec tables_at (λ p. counted member_spelling p.0 ++ (counted member_spelling p.1.0 ++ counted attribute_spelling p.1.1)) (λ p. (p.0 ≡ []) × ((p.1.0 ≡ []) × AllFit AttributeFits p.1.1))
 unfolding tables_at
 tables = also members_at (then_at members_at (λ methods. attributes_at)) _ _ _ _ members (also members_at attributes_at _ _ _ _ members attributes)
 
@@ -83,17 +107,15 @@ parts_spelling p =
     ++ (counted (to_be_bytes w16) p.1.1.1.0
     ++ (counted member_spelling p.1.1.1.1.0 ++ (counted member_spelling p.1.1.1.1.1.0 ++ counted attribute_spelling p.1.1.1.1.1.1)))))
 
-parts : IsCodec parts_at parts_spelling (PartsFit (λ xs. xs ≡ []) (λ xs. xs ≡ []) (λ xs. xs ≡ []))
+parts : IsCodec parts_at parts_spelling (PartsFit (AllFit (λ i. i < 2 ^ 16)) (λ xs. xs ≡ []) (AllFit AttributeFits))
 unfolding parts_at
 parts = also header_at _ _ _ _ _ header (also pool_at _ _ _ _ _ pool (also class_at _ _ _ _ _ class (also interfaces_at tables_at _ _ _ _ interfaces tables)))
 
 -- what the reader takes so far
 pub record IsRead (f : Structure) : Type 0 where
   pub fits : Fits f
-  pub interfaces : f.interfaces ≡ []
   pub fields : f.fields ≡ []
   pub methods : f.methods ≡ []
-  pub attributes : f.attributes ≡ []
 
 nothing_fits : {A : Type 0} (F : A → Type 0) (xs : List A) → xs ≡ [] → AllFit F xs
 nothing_fits {A} F xs e = subst (λ (ys : List A). AllFit F ys) (sym e) (omega arith, tt)
@@ -110,26 +132,24 @@ there p h =
     joined (header_spelling p.0) (pool_spelling p.1.0) (to_be_bytes w16 p.1.1.0.0) (to_be_bytes w16 p.1.1.0.1.0) (to_be_bytes w16 p.1.1.0.1.1)
     (counted (to_be_bytes w16) p.1.1.1.0 ++ (counted member_spelling p.1.1.1.1.0 ++ (counted member_spelling p.1.1.1.1.1.0 ++ counted attribute_spelling p.1.1.1.1.1.1))) (header_says p.0 h)
 
-says : (p : Parts) → PartsFit (λ xs. xs ≡ []) (λ xs. xs ≡ []) (λ xs. xs ≡ []) p → IsRead (structure_of p)
+says : (p : Parts) → PartsFit (AllFit (λ i. i < 2 ^ 16)) (λ xs. xs ≡ []) (AllFit AttributeFits) p → IsRead (structure_of p)
 says p h = record {
   fits = record {
     pool = h.1.0;
     flags = h.1.1.0.0;
     this_class = h.1.1.0.1.0;
     super_class = h.1.1.0.1.1;
-    interfaces = nothing_fits _ p.1.1.1.0 h.1.1.1.0;
+    interfaces = h.1.1.1.0;
     fields = nothing_fits _ p.1.1.1.1.0 h.1.1.1.1.0;
     methods = nothing_fits _ p.1.1.1.1.1.0 h.1.1.1.1.1.0;
-    attributes = nothing_fits _ p.1.1.1.1.1.1 h.1.1.1.1.1.1;
+    attributes = h.1.1.1.1.1.1;
   };
-  interfaces = h.1.1.1.0;
   fields = h.1.1.1.1.0;
   methods = h.1.1.1.1.1.0;
-  attributes = h.1.1.1.1.1.1;
 }
 
 pub structure : IsCodec structure_at spelling IsRead
 unfolding structure_at
 structure =
-    mapped parts_at parts_spelling (PartsFit (λ xs. xs ≡ []) (λ xs. xs ≡ []) (λ xs. xs ≡ [])) structure_of parts_of spelling IsRead parts (λ p h. (there p h.0, says p h))
-    (λ f h. ((header_fits, (h.fits.pool, ((h.fits.flags, (h.fits.this_class, h.fits.super_class)), (h.interfaces, (h.fields, (h.methods, h.attributes)))))), there (parts_of f) header_fits, refl))
+    mapped parts_at parts_spelling (PartsFit (AllFit (λ i. i < 2 ^ 16)) (λ xs. xs ≡ []) (AllFit AttributeFits)) structure_of parts_of spelling IsRead parts (λ p h. (there p h.0, says p h))
+    (λ f h. ((header_fits, (h.fits.pool, ((h.fits.flags, (h.fits.this_class, h.fits.super_class)), (h.fits.interfaces, (h.fields, (h.methods, h.fits.attributes)))))), there (parts_of f) header_fits, refl))

@@ -1,5 +1,5 @@
 -- The parts of a class file that linking looks at (JVMS SE 8, 4.1 to 4.6).
-use Rattle.std.specs.Prelude.{ℕ, ◌+◌, ◌/◌, ◌%◌, Bool, false, ◌&&◌, ◌==◌, nat_eq, List, [], ◌∷◌, ◌++◌, Option, Some, None, find, filter_map, option_map, option_and_then, option_to_list, unwrap_or, if◌then◌else◌}
+use Rattle.std.specs.Prelude.{ℕ, ◌+◌, Bool, false, ◌&&◌, ◌==◌, nat_eq, List, [], ◌∷◌, ◌++◌, Option, Some, None, find, filter_map, option_map, option_and_then, option_to_list, unwrap_or, if◌then◌else◌}
 use Rattle.std.specs.Cmp.Lexicographic.{pointwise}
 use Rattle.cl_descriptors.specs.declared.types.Base.{Base}
 use Rattle.cl_descriptors.specs.declared.types.Base.TheVariants as bases
@@ -9,6 +9,7 @@ use Rattle.cl_descriptors.specs.declared.types.Descriptor.TheVariants as descrip
 use Rattle.cl_classfile.specs.declared.entry.Entry.{Entry}
 use Rattle.cl_descriptors.specs.Reading.{whole_field, whole_method}
 use Rattle.cl_classfile.specs.declared.entry.Entry.TheVariants.{Utf8, Class, Fieldref, Methodref, InterfaceMethodref, NameAndType}
+pub use Rattle.cl_classfile.specs.Flags.{has}
 use Rattle.cl_classfile.specs.Structure.{Structure, at}
 
 -- the bytes of the name of a class or a member (4.2)
@@ -135,10 +136,6 @@ file_of f = record {
 }
 
 -- ---- flags, and members by their key
-
--- flags have this bit (tables 4.1-A, 4.5-A, 4.6-A)
-abbrev pub has : ℕ → ℕ → Bool
-has flags bit = flags / bit % 2 == 1
 
 abbrev pub is_public : ℕ → Bool
 is_public flags = has flags 1

@@ -1,3 +1,4 @@
+pub mod Flags
 pub mod Pool
 pub mod Structure
 pub mod Files

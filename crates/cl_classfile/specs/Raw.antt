@@ -33,8 +33,8 @@ plain_file f = record {
   flags = f.flags;
   this_class = f.this_class;
   super_class = f.super_class;
-  interfaces = [];
+  interfaces = f.interfaces.items;
   fields = [];
   methods = [];
-  attributes = [];
+  attributes = f.attributes.items;
 }

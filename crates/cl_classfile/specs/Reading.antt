@@ -4,7 +4,7 @@ use Rattle.std.specs.Int.{Width, w16, w32, w64, byte_len, from_be_bytes, cast_si
 use Rattle.cl_classfile.specs.declared.entry.Entry.{Entry}
 use Rattle.cl_classfile.specs.declared.entry.Entry.TheVariants.{Utf8, Integer, Float, Long, Double, Unusable, Class, String, Fieldref, Methodref, InterfaceMethodref, NameAndType, MethodHandle, MethodType, InvokeDynamic}
 use Rattle.cl_classfile.specs.declared.fault.Fault.{Fault}
-use Rattle.cl_classfile.specs.declared.fault.Fault.TheVariants.{BadMagic, Version, Truncated, Trailing, BadPool, BadMember, BadSupertype}
+use Rattle.cl_classfile.specs.declared.fault.Fault.TheVariants.{BadMagic, Version, Truncated, Trailing, BadPool, BadMember}
 use Rattle.cl_classfile.specs.Pool.{is_wide}
 use Rattle.cl_classfile.specs.Structure.{Structure, Member, Attribute}
 use Rattle.cl_classfile.specs.Checking.{◌>>=◌, kept_file}
@@ -38,6 +38,18 @@ map_at r view bytes = r bytes >>= λ x. Ok (view x.0, x.1)
 unfoldable pub many_at : {C A : Type 0} → (C → Reader A) → (C → A → C) → ℕ → C → Reader (List A)
 many_at step next zero c bytes = Ok ([], bytes)
 many_at step next (suc n) c bytes = step c bytes >>= λ x. (many_at step next n (next c x.0) x.1 >>= λ y. Ok (x.0 ∷ y.0, y.1))
+
+-- a length, and that many bytes
+abbrev pub sized_at : Width → Reader (List ℕ)
+sized_at w bytes = number_at w bytes >>= λ n. bytes_at n.0 n.1
+
+-- that many of a structure that is read the same way wherever it stands
+abbrev pub each_at : {A : Type 0} → Reader A → ℕ → Reader (List A)
+each_at r n = many_at {C = ℕ} (λ i. r) (λ i a. i) n 0
+
+-- a count, and that many of a structure
+abbrev pub counted_at : {A : Type 0} → Reader A → Reader (List A)
+counted_at r bytes = number_at w16 bytes >>= λ n. each_at r n.0 n.1
 
 -- a count that has to be 0, so that there are none
 abbrev pub zero_at : Fault → Reader ℕ
@@ -156,13 +168,17 @@ unfoldable pub class_at : Reader (ℕ × (ℕ × ℕ))
 class_at = then_at (number_at w16) (λ flags. then_at (number_at w16) (λ this. number_at w16))
 
 unfoldable pub interfaces_at : Reader (List ℕ)
-interfaces_at = none_at BadSupertype
+interfaces_at = counted_at (number_at w16)
+
+-- a name, a length, and that many bytes (JVMS SE 8, 4.7)
+unfoldable pub attribute_at : Reader Attribute
+attribute_at = map_at (then_at (number_at w16) (λ name. sized_at w32)) (λ p. record { name_index = p.0; bytes = p.1 })
 
 unfoldable pub members_at : Reader (List Member)
 members_at = none_at BadMember
 
 unfoldable pub attributes_at : Reader (List Attribute)
-attributes_at = none_at BadMember
+attributes_at = counted_at attribute_at
 
 -- the fields, the methods and the class's attributes
 unfoldable pub tables_at : Reader (List Member × (List Member × List Attribute))

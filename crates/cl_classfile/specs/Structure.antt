@@ -1,5 +1,5 @@
 -- What a class file is, and how it is spelled (JVMS SE 8, 4.1).
-use Rattle.std.specs.Prelude.{◌≡◌, ◌≢◌, ◌⊎◌, ◌≤◌, ℕ, ◌+◌, ◌<◌, ◌^◌, false, List, [], ◌∷◌, ◌++◌, length, take, drop, Some, codes}
+use Rattle.std.specs.Prelude.{◌≡◌, ◌≢◌, ◌⊎◌, ◌≤◌, IsTrue, IsFalse, ℕ, Bool, ◌+◌, ◌<◌, ◌^◌, false, List, [], ◌∷◌, ◌++◌, length, take, drop, Some, codes}
 use Rattle.std.specs.List.{flat_map, AllByRecursion}
 use Rattle.std.specs.Int.{w16, w32, to_be_bytes}
 use Rattle.cl_names.specs.Kind.{IsNameOf, IsClass}
@@ -7,6 +7,7 @@ use Rattle.cl_classfile.specs.declared.entry.Entry.{Entry}
 use Rattle.cl_classfile.specs.declared.entry.Entry.TheVariants.{Class}
 use Rattle.cl_classfile.specs.Pool.{entry_spelling, EntryFits, AreSpaced, IsText, KeepsEntry}
 pub use Rattle.cl_classfile.specs.Pool.{at}
+use Rattle.cl_classfile.specs.Flags.{has, interface, is_class_flags}
 
 -- ---- the parts
 
@@ -112,25 +113,29 @@ pub record NamesClass (pool : List Entry) (i : ℕ) (name : List ℕ) : Type 0 w
 abbrev pub object : List ℕ
 object = codes "java/lang/Object"
 
--- super_class is 0 exactly in java/lang/Object, and else a class (4.1)
-abbrev pub KeepsSuper : List Entry → List ℕ → ℕ → Type 0
-KeepsSuper pool name super = ((name ≡ object) × (super ≡ 0)) ⊎ ((name ≡ object → ⊥) × (above : List ℕ) × NamesClass pool super above)
+-- super_class is 0 exactly in java/lang/Object, which is no interface; of any other it is a class, and of an
+-- interface java/lang/Object (4.1)
+abbrev pub KeepsSuper : List Entry → Bool → List ℕ → ℕ → Type 0
+KeepsSuper pool of_interface name super =
+    ((name ≡ object) × IsFalse of_interface × (super ≡ 0)) ⊎ ((name ≡ object → ⊥) × (above : List ℕ) × NamesClass pool super above × (IsTrue of_interface → above ≡ object))
 
--- the file keeps the tables of entries, this_class and super_class; within the bound below those of flags,
--- interfaces and members ask for nothing more
+-- an interface of the class is a class of the pool (4.1)
+abbrev pub KeepsInterface : List Entry → ℕ → Type 0
+KeepsInterface pool i = (name : List ℕ) × NamesClass pool i name
+
+-- the file keeps the tables of entries, flags and supertypes
 pub record Keeps (f : Structure) : Type 0 where
   pub pool : AllByRecursion (KeepsEntry f.pool) f.pool
+  pub flags : IsTrue (is_class_flags f.flags)
   pub name : List ℕ
   pub this_class : NamesClass f.pool f.this_class name
-  pub super_class : KeepsSuper f.pool name f.super_class
+  pub super_class : KeepsSuper f.pool (has f.flags interface) name f.super_class
+  pub interfaces : AllByRecursion (KeepsInterface f.pool) f.interfaces
 
--- what is read so far: a public class that is not final, with no interface, member or attribute
+-- what is read so far: no member
 pub record IsNarrow (f : Structure) : Type 0 where
-  pub flags : f.flags ≡ 33
-  pub interfaces : f.interfaces ≡ []
   pub fields : f.fields ≡ []
   pub methods : f.methods ≡ []
-  pub attributes : f.attributes ≡ []
 
 -- what a class file that was read is
 pub record IsClassFile (f : Structure) : Type 0 where

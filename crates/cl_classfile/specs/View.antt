@@ -12,5 +12,5 @@ structure f = record {
   interfaces = f.interfaces.items;
   fields = [];
   methods = [];
-  attributes = [];
+  attributes = f.attributes.items;
 }

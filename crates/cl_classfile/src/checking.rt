@@ -1,11 +1,16 @@
-ghost use Rattle.std.specs.Prelude.{◌≡◌};
+ghost use Rattle.std.specs.Prelude.{◌≡◌, nat_eq};
 ghost use Rattle.std.specs.Option.{option_map};
-ghost use Rattle.cl_classfile.specs.Structure.{at};
+ghost use Rattle.std.specs.List.{list_all};
+ghost use Rattle.std.specs.Cmp.Lexicographic.{pointwise};
+ghost use Rattle.cl_classfile.specs.Structure.{at, object};
 ghost use Rattle.cl_classfile.specs.Files.{text_at, type_name, is_array_name, class_name};
-ghost use Rattle.cl_classfile.specs.Checking.{Finds, keeps_super, keeps_supertypes, checked_class};
+ghost use Rattle.cl_classfile.specs.Flags.{has, interface};
+ghost use Rattle.cl_classfile.specs.Checking.{Finds, may_stand_above, keeps_super, keeps_names, keeps_interfaces, checked_class};
 
 use crate::entry::Entry;
 use crate::fault::Fault;
+use crate::flags::{is_class_flags, is_interface};
+use crate::reading::RawFile;
 use cl_names::Name;
 
 /// What stands at an index, from 1 on.
@@ -57,38 +62,59 @@ pub fn class_name(pool: &[Entry], index: u16) -> Option<&Name>
     Some(name)
 }
 
-fn keeps_super(pool: &[Entry], name: &Name, super_class: u16) -> bool
-    ensures { result ≡ keeps_super pool.now name.now super_class }
+/// Whether the class named above may be the superclass: of an interface it is `java/lang/Object`.
+fn may_stand_above(of_interface: bool, above: Option<&Name>) -> bool
+    ensures { result ≡ may_stand_above of_interface (option_map (λ n. n.now) above.entry) }
 {
-    if name.bytes() == b"java/lang/Object".as_slice() {
-        super_class == 0
-    } else {
-        class_name(pool, super_class).is_some()
-    }
-}
-
-fn keeps_supertypes(pool: &[Entry], this_class: u16, super_class: u16) -> bool
-    ensures { result ≡ keeps_supertypes pool.now super_class (class_name pool.now this_class) }
-{
-    match class_name(pool, this_class) {
-        Some(name) => keeps_super(pool, name, super_class),
+    match above {
+        Some(above) => !of_interface || is_object(above),
         None => false,
     }
 }
 
-/// Whether the flags and the supertypes keep their tables.
-pub fn check_class(
-    pool: &[Entry],
-    flags: u16,
-    this_class: u16,
-    super_class: u16,
-) -> Result<(), Fault>
-    ensures { Finds (λ u. u) result (checked_class pool.now flags this_class super_class) }
+fn is_object(name: &Name) -> bool
+    ensures { result ≡ pointwise nat_eq name.now object }
 {
-    if flags != 33 {
+    name.bytes() == b"java/lang/Object".as_slice()
+}
+
+fn keeps_super(pool: &[Entry], of_interface: bool, name: &Name, super_class: u16) -> bool
+    ensures { result ≡ keeps_super pool.now of_interface name.now super_class }
+{
+    if is_object(name) {
+        !of_interface && super_class == 0
+    } else {
+        may_stand_above(of_interface, class_name(pool, super_class))
+    }
+}
+
+fn keeps_names(pool: &[Entry], of_interface: bool, this_class: u16, super_class: u16) -> bool
+    ensures { result ≡ keeps_names pool.now of_interface super_class (class_name pool.now this_class) }
+{
+    match class_name(pool, this_class) {
+        Some(name) => keeps_super(pool, of_interface, name, super_class),
+        None => false,
+    }
+}
+
+fn keeps_interfaces(pool: &[Entry], interfaces: &[u16]) -> bool
+    ensures { result ≡ keeps_interfaces pool.now interfaces.now }
+{
+    interfaces.iter().all(|i| class_name(pool, *i).is_some())
+}
+
+/// Whether the flags and the supertypes keep their tables.
+pub fn check_class(pool: &[Entry], file: &RawFile<'_>) -> Result<(), Fault>
+    ensures { Finds (λ u. u) result (checked_class pool.now file.now.flags file.now.this_class file.now.super_class file.now.interfaces.items) }
+{
+    if !is_class_flags(file.flags) {
         return Err(Fault::BadFlags);
     }
-    if !keeps_supertypes(pool, this_class, super_class) {
+    let of_interface = is_interface(file.flags);
+    if !keeps_names(pool, of_interface, file.this_class, file.super_class) {
+        return Err(Fault::BadSupertype);
+    }
+    if !keeps_interfaces(pool, file.interfaces.as_slice()) {
         return Err(Fault::BadSupertype);
     }
     Ok(())

@@ -13,6 +13,7 @@ ghost use Rattle.cl_classfile.specs.Reading.{header_at, read_of};
 use crate::checking::{check_class, class_name};
 use crate::entry::Entry;
 use crate::fault::{Fault, ReadError};
+use crate::member::Attribute;
 use crate::raw::owned_entries;
 use crate::reading::{RawFile, whole_of};
 use crate::rows::check_entries;
@@ -28,6 +29,7 @@ pub struct ClassFile {
     this_class: u16,
     super_class: u16,
     interfaces: Vec<u16>,
+    attributes: Vec<Attribute>,
 }
 
 impl Model for ClassFile {
@@ -79,6 +81,13 @@ impl ClassFile {
         self.interfaces.as_slice()
     }
 
+    /// The attributes of the class, in order.
+    pub fn attributes(&self) -> &[Attribute]
+        ensures { result.now ≡ self.now.attributes }
+    {
+        self.attributes.as_slice()
+    }
+
     /// The name of the class.
     pub fn this_name(&self) -> &Name
         ensures name { result.now ≡ (file_of self.now).name }
@@ -96,16 +105,17 @@ impl ClassFile {
     }
 }
 
-fn made(alloc: Global, pool: Vec<Entry>, file: &RawFile<'_>) -> ClassFile
-    requires { IsClassFile (record (plain_file file.now) { pool = pool.items }) }
-    ensures { result ≡ record (plain_file file.now) { pool = pool.items } }
+fn made(pool: Vec<Entry>, file: RawFile<'_>) -> ClassFile
+    requires { IsClassFile (record (plain_file file) { pool = pool.items }) }
+    ensures { result ≡ record (plain_file file.entry) { pool = pool.items } }
 {
     ClassFile {
         pool,
         flags: file.flags,
         this_class: file.this_class,
         super_class: file.super_class,
-        interfaces: Vec::new(alloc),
+        interfaces: file.interfaces,
+        attributes: file.attributes,
     }
 }
 
@@ -116,13 +126,8 @@ fn kept_file(alloc: Global, file: RawFile<'_>) -> Result<ClassFile, ReadError>
 {
     check_entries(alloc, file.pool.as_slice())?;
     let pool = owned_entries(alloc, file.pool.as_slice())?;
-    check_class(
-        pool.as_slice(),
-        file.flags,
-        file.this_class,
-        file.super_class,
-    )?;
-    Ok(made(alloc, pool, &file))
+    check_class(pool.as_slice(), &file)?;
+    Ok(made(pool, file))
 }
 
 #[tactic(auto, unfolding(crate::specs::Reading::read_of))]

@@ -5,7 +5,9 @@ mod checking;
 mod entry;
 mod fault;
 mod file;
+mod flags;
 mod laws;
+mod member;
 mod pool;
 mod raw;
 mod reading;
@@ -16,6 +18,7 @@ pub use entry::Entry;
 pub use fault::{Fault, ReadError};
 pub use file::{ClassFile, read};
 pub use laws::{has_one_spelling, spells_one_file};
+pub use member::Attribute;
 
 #[cfg(test)]
 mod tests;

@@ -4,10 +4,11 @@ ghost use Rattle.cl_classfile.specs.declared.fault.Fault.{Fault};
 ghost use Rattle.cl_classfile.specs.declared.fault.ReadError.TheVariants as errors;
 ghost use Rattle.cl_classfile.specs.Structure.{Fits};
 ghost use Rattle.cl_classfile.specs.Checking.{Finds, Gives};
-ghost use Rattle.cl_classfile.specs.Reading.{number_at, bytes_at, zero_at, magic_at, version_at, header_at, class_at, interfaces_at, tables_at, structure_at, whole_of};
+ghost use Rattle.cl_classfile.specs.Reading.{number_at, bytes_at, zero_at, each_at, magic_at, version_at, header_at, class_at, interfaces_at, attribute_at, attributes_at, tables_at, structure_at, whole_of};
 ghost use Rattle.cl_classfile.specs.Raw.{plain_file};
 
 use crate::fault::{Fault, ReadError};
+use crate::member::Attribute;
 use crate::pool::pool_at;
 use crate::raw::RawEntry;
 use std::alloc::Global;
@@ -19,6 +20,8 @@ pub struct RawFile<'a> {
     pub flags: u16,
     pub this_class: u16,
     pub super_class: u16,
+    pub interfaces: Vec<u16>,
+    pub attributes: Vec<Attribute>,
 }
 
 pub fn u16_at(bytes: &[u8]) -> Result<(u16, &[u8]), Fault>
@@ -95,6 +98,19 @@ fn header_at(bytes: &[u8]) -> Result<((u32, (u16, u16)), &[u8]), Fault>
     Ok(((magic, version), rest))
 }
 
+fn numbers_at(alloc: Global, count: u16, bytes: &[u8]) -> Result<(Vec<u16>, &[u8]), ReadError>
+    ensures { Gives (λ x. (x.0.items, x.1.now)) result (each_at (number_at w16) count bytes.now) }
+{
+    let mut numbers = Vec::new(alloc);
+    let mut rest = bytes;
+    for i in 0..count {
+        let (number, after) = u16_at(rest)?;
+        numbers.push(number)?;
+        rest = after;
+    }
+    Ok((numbers, rest))
+}
+
 #[tactic(auto, unfolding(crate::specs::Reading::class_at))]
 fn class_at(bytes: &[u8]) -> Result<((u16, (u16, u16)), &[u8]), Fault>
     ensures { Finds (λ x. (x.0, x.1.now)) result (class_at bytes.now) }
@@ -106,19 +122,56 @@ fn class_at(bytes: &[u8]) -> Result<((u16, (u16, u16)), &[u8]), Fault>
 }
 
 #[tactic(auto, unfolding(crate::specs::Reading::interfaces_at))]
-fn interfaces_at(bytes: &[u8]) -> Result<&[u8], Fault>
-    ensures { Finds (λ x. ([], x.now)) result (interfaces_at bytes.now) }
+fn interfaces_at(alloc: Global, bytes: &[u8]) -> Result<(Vec<u16>, &[u8]), ReadError>
+    ensures { Gives (λ x. (x.0.items, x.1.now)) result (interfaces_at bytes.now) }
 {
-    zero_at(Fault::BadSupertype, bytes)
+    let (count, rest) = u16_at(bytes)?;
+    numbers_at(alloc, count, rest)
 }
 
-#[tactic(auto, unfolding(crate::specs::Reading::tables_at, crate::specs::Reading::members_at, crate::specs::Reading::attributes_at))]
-fn tables_at(bytes: &[u8]) -> Result<&[u8], Fault>
-    ensures { Finds (λ x. (([], ([], [])), x.now)) result (tables_at bytes.now) }
+#[tactic(auto, unfolding(crate::specs::Reading::attribute_at))]
+fn attribute_at(alloc: Global, bytes: &[u8]) -> Result<(Attribute, &[u8]), ReadError>
+    ensures { Gives (λ x. (x.0, x.1.now)) result (attribute_at bytes.now) }
+{
+    let (name_index, rest) = u16_at(bytes)?;
+    let (count, rest) = u32_at(rest)?;
+    let (content, rest) = bytes_at(count as usize, rest)?;
+    let attribute = Attribute::copied(alloc, name_index, content)?;
+    Ok((attribute, rest))
+}
+
+fn each_attribute(
+    alloc: Global,
+    count: u16,
+    bytes: &[u8],
+) -> Result<(Vec<Attribute>, &[u8]), ReadError>
+    ensures { Gives (λ x. (x.0.items, x.1.now)) result (each_at attribute_at count bytes.now) }
+{
+    let mut attributes = Vec::new(alloc);
+    let mut rest = bytes;
+    for i in 0..count {
+        let (attribute, after) = attribute_at(alloc, rest)?;
+        attributes.push(attribute)?;
+        rest = after;
+    }
+    Ok((attributes, rest))
+}
+
+#[tactic(auto, unfolding(crate::specs::Reading::attributes_at))]
+fn attributes_at(alloc: Global, bytes: &[u8]) -> Result<(Vec<Attribute>, &[u8]), ReadError>
+    ensures { Gives (λ x. (x.0.items, x.1.now)) result (attributes_at bytes.now) }
+{
+    let (count, rest) = u16_at(bytes)?;
+    each_attribute(alloc, count, rest)
+}
+
+#[tactic(auto, unfolding(crate::specs::Reading::tables_at, crate::specs::Reading::members_at))]
+fn tables_at(alloc: Global, bytes: &[u8]) -> Result<(Vec<Attribute>, &[u8]), ReadError>
+    ensures { Gives (λ x. (([], ([], x.0.items)), x.1.now)) result (tables_at bytes.now) }
 {
     let rest = zero_at(Fault::BadMember, bytes)?;
     let rest = zero_at(Fault::BadMember, rest)?;
-    zero_at(Fault::BadMember, rest)
+    attributes_at(alloc, rest)
 }
 
 #[tactic(auto, unfolding(crate::specs::Reading::structure_at, crate::specs::Reading::parts_at))]
@@ -129,13 +182,15 @@ fn structure_at(alloc: Global, bytes: &[u8]) -> Result<(RawFile<'_>, &[u8]), Rea
     let (_, rest) = header_at(bytes)?;
     let (pool, rest) = pool_at(alloc, rest)?;
     let ((flags, (this_class, super_class)), rest) = class_at(rest)?;
-    let rest = interfaces_at(rest)?;
-    let rest = tables_at(rest)?;
+    let (interfaces, rest) = interfaces_at(alloc, rest)?;
+    let (attributes, rest) = tables_at(alloc, rest)?;
     let file = RawFile {
         pool,
         flags,
         this_class,
         super_class,
+        interfaces,
+        attributes,
     };
     Ok((file, rest))
 }

@@ -1,8 +1,9 @@
 pub mod Loop
 pub mod Entries
 pub mod Codec
-pub mod Rows
+pub mod Judging
 pub mod Classes
+pub mod References
 pub mod Tables
 pub mod Pooled
 pub mod Spelled

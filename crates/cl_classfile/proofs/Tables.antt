@@ -4,6 +4,7 @@ use Rattle.std.specs.Prelude.{is_some}
 use Rattle.std.specs.List.{AllByRecursion, list_all}
 use Rattle.std.specs.Cmp.Lexicographic.{pointwise, same_text}
 use Rattle.std.proofs.lemmas.Bool.{eqb-true, le-leb}
+use Rattle.cl_names.specs.Kind.{IsNameOf, IsClass}
 use Rattle.cl_classfile.specs.declared.entry.Entry.{Entry}
 use Rattle.cl_classfile.specs.declared.fault.Fault.{Fault}
 use Rattle.cl_classfile.specs.declared.fault.Fault.TheVariants.{BadPool, BadFlags, BadSupertype}
@@ -14,7 +15,7 @@ use Rattle.cl_classfile.specs.Files.{class_name}
 use Rattle.cl_classfile.specs.Rows.{entry_traits, keeps_entry}
 use Rattle.cl_classfile.specs.Checking.{◌>>=◌, kept_entry, checked_entries, may_stand_above, keeps_super, keeps_names, keeps_interfaces, checked_class, kept_file}
 use Rattle.cl_classfile.proofs.Codec.{bind_ok, ok_is, both}
-use Rattle.cl_classfile.proofs.Rows.{keeps_entry_says, keeps_entry_told}
+use Rattle.cl_classfile.proofs.Judging.{keeps_entry_says, keeps_entry_told}
 use Rattle.cl_classfile.proofs.Classes.{Rows, class_says, class_named}
 
 -- ---- all of the entries
@@ -143,3 +144,7 @@ file_told f fits kept =
     let named : class_name f.pool f.this_class ≡ Some kept.name = class_named f.pool f.this_class kept.name kept.this_class in
     let super = super_told f.pool (has f.flags interface) kept.name f.super_class kept.super_class in
     rw (rows_told f.pool 1 f.pool fits.pool.1 kept.pool, kept.flags, named, super, interfaces_told f.pool f.interfaces kept.interfaces) refl
+
+-- what a class of the pool is called is a class's name
+pub named_well : (f : Structure) → Keeps f → (i : ℕ) (name : List ℕ) → class_name f.pool i ≡ Some name → IsNameOf IsClass name
+named_well f kept i name h = (class_says f.pool i name kept.pool h).is_name

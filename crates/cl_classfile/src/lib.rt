@@ -11,12 +11,14 @@ mod member;
 mod pool;
 mod raw;
 mod reading;
+mod reference;
 mod rows;
 mod traits;
 
 pub use entry::Entry;
 pub use fault::{Fault, ReadError};
 pub use file::{ClassFile, read};
+pub use reference::{Reference, Symbol};
 pub use laws::{has_one_spelling, spells_one_file};
 pub use member::Attribute;
 

@@ -18,9 +18,11 @@ mod traits;
 pub use entry::Entry;
 pub use fault::{Fault, ReadError};
 pub use file::{ClassFile, read};
-pub use reference::{Reference, Symbol};
 pub use laws::{has_one_spelling, spells_one_file};
 pub use member::Attribute;
+pub use reference::{Reference, Symbol};
 
+#[cfg(test)]
+mod pool_tests;
 #[cfg(test)]
 mod tests;

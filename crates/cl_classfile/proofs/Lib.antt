@@ -6,4 +6,3 @@ pub mod Spelled
 pub mod Header
 pub mod Quiet
 pub mod Exact
-pub mod Whole

@@ -9,7 +9,7 @@ use Rattle.cl_classfile.specs.Flags.{has, interface, is_class_flags}
 use Rattle.cl_classfile.specs.Structure.{Structure, Member, Attribute}
 use Rattle.cl_classfile.specs.Files.{class_name}
 use Rattle.cl_classfile.specs.Checking.{◌>>=◌, keeps_entry, kept_entry, checked_entries, keeps_names, keeps_interfaces, checked_class, kept_file}
-use Rattle.cl_classfile.specs.Reading.{Reader, number_at, bytes_at, then_at, test_at, map_at, sized_at, many_at, each_at, counted_at, zero_at, none_at, header_at, text_at, entry_at, entries_at, pool_at, class_at, interfaces_at, attribute_at, members_at, attributes_at, tables_at, Parts, parts_at, structure_of, structure_at, whole_of, read_of}
+use Rattle.cl_classfile.specs.Reading.{Reader, number_at, bytes_at, then_at, test_at, map_at, sized_at, many_at, each_at, counted_at, header_at, text_at, entry_at, entries_at, pool_at, class_at, interfaces_at, attribute_at, attributes_at, member_at, members_at, tables_at, Parts, parts_at, structure_of, structure_at, whole_of, read_of}
 
 -- the header's own faults
 abbrev pub is_header : Fault → Bool
@@ -72,9 +72,6 @@ many step next p (suc n) c bytes = bind (step c bytes) _ (p c bytes) (λ x. bind
 counts : {A : Type 0} (r : Reader A) → Quiet r → Quiet (counted_at r)
 counts r p bytes = bind (number_at w16 bytes) _ (number w16 bytes) (λ n. many {C = ℕ} (λ i. r) (λ i a. i) (λ i. p) n.0 0 n.1)
 
-none : {A : Type 0} (g : Fault) → is_header g ≡ false → Quiet (none_at {A = A} g)
-none g h = seen (zero_at g) _ (tested (number_at w16) _ g h (number w16))
-
 text : Quiet text_at
 unfolding text_at
 text bytes = bind (number_at w16 bytes) _ (number w16 bytes) (λ n. those n.0 n.1)
@@ -105,9 +102,19 @@ attributes : Quiet attributes_at
 unfolding attributes_at
 attributes = counts attribute_at attribute
 
+member : Quiet member_at
+unfolding member_at
+member =
+    seen (then_at (number_at w16) (λ flags. then_at (number_at w16) (λ name. then_at (number_at w16) (λ descriptor. attributes_at)))) _
+    (also (number_at w16) _ (number w16) (λ flags. also (number_at w16) _ (number w16) (λ name. also (number_at w16) _ (number w16) (λ descriptor. attributes))))
+
+members : Quiet members_at
+unfolding members_at
+members = counts member_at member
+
 tables : Quiet tables_at
-unfolding tables_at members_at
-tables = also (none_at BadMember) _ (none BadMember refl) (λ fields. also (none_at BadMember) _ (none BadMember refl) (λ methods. attributes))
+unfolding tables_at
+tables = also members_at _ members (λ fields. also members_at _ members (λ methods. attributes))
 
 interfaces : Quiet interfaces_at
 unfolding interfaces_at

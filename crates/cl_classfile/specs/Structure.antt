@@ -152,16 +152,10 @@ pub record Keeps (f : Structure) : Type 0 where
   pub super_class : KeepsSuper f.pool (has f.flags interface) name f.super_class
   pub interfaces : AllByRecursion (KeepsInterface f.pool) f.interfaces
 
--- what is read so far: no member
-pub record IsNarrow (f : Structure) : Type 0 where
-  pub fields : f.fields ≡ []
-  pub methods : f.methods ≡ []
-
 -- what a class file that was read is
 pub record IsClassFile (f : Structure) : Type 0 where
   pub fits : Fits f
   pub kept : Keeps f
-  pub narrow : IsNarrow f
 
 -- the bytes spell the file, which keeps the tables
 pub record Spells (bytes : List ℕ) (f : Structure) : Type 0 where

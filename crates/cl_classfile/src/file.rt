@@ -3,7 +3,7 @@ ghost use Rattle.std.specs.Option.{option_map};
 ghost use Rattle.cl_classfile.specs.declared.fault.Fault.{Fault};
 ghost use Rattle.cl_classfile.specs.declared.fault.Fault.TheVariants as faults;
 ghost use Rattle.cl_classfile.specs.declared.fault.ReadError.TheVariants as errors;
-ghost use Rattle.cl_classfile.specs.Structure.{Structure, Fits, Spells, IsNarrow, IsClassFile, HasOtherMagic, HasOtherVersion};
+ghost use Rattle.cl_classfile.specs.Structure.{Structure, Fits, Spells, IsClassFile, HasOtherMagic, HasOtherVersion};
 ghost use Rattle.cl_classfile.specs.Files.{file_of};
 ghost use Rattle.cl_names.specs.Kind.{IsNameOf, IsClass};
 ghost use Rattle.cl_classfile.specs.Raw.{plain_file};
@@ -13,7 +13,7 @@ ghost use Rattle.cl_classfile.specs.Reading.{header_at, read_of};
 use crate::checking::{check_class, class_name, kept_entries};
 use crate::entry::Entry;
 use crate::fault::{Fault, ReadError};
-use crate::member::Attribute;
+use crate::member::{Attribute, Member};
 use crate::reading::{RawFile, whole_of};
 use cl_names::Name;
 use std::alloc::Global;
@@ -27,6 +27,8 @@ pub struct ClassFile {
     this_class: u16,
     super_class: u16,
     interfaces: Vec<u16>,
+    fields: Vec<Member>,
+    methods: Vec<Member>,
     attributes: Vec<Attribute>,
 }
 
@@ -79,6 +81,20 @@ impl ClassFile {
         self.interfaces.as_slice()
     }
 
+    /// The fields, in order.
+    pub fn fields(&self) -> &[Member]
+        ensures { result.now ≡ self.now.fields }
+    {
+        self.fields.as_slice()
+    }
+
+    /// The methods, in order.
+    pub fn methods(&self) -> &[Member]
+        ensures { result.now ≡ self.now.methods }
+    {
+        self.methods.as_slice()
+    }
+
     /// The attributes of the class, in order.
     pub fn attributes(&self) -> &[Attribute]
         ensures { result.now ≡ self.now.attributes }
@@ -113,6 +129,8 @@ fn made(pool: Vec<Entry>, file: RawFile<'_>) -> ClassFile
         this_class: file.this_class,
         super_class: file.super_class,
         interfaces: file.interfaces,
+        fields: file.fields,
+        methods: file.methods,
         attributes: file.attributes,
     }
 }
@@ -142,9 +160,9 @@ fn read_of(alloc: Global, bytes: &[u8]) -> Result<ClassFile, ReadError>
 /// 0, and where a count of interfaces or members is not 0 F9 or F7), F4, F5 for each entry in turn, F6, F9.
 pub fn read(alloc: Global, bytes: &[u8]) -> Result<ClassFile, ReadError>
     // What is read is spelled so.
-    ensures found { IfOk result (λ f. Spells bytes.now f × IsNarrow f) }
+    ensures found { IfOk result (λ f. Spells bytes.now f) }
     // What is spelled so is read, unless memory runs out.
-    ensures only { (f : Structure) → Spells bytes.now f → IsNarrow f → Gives (λ g. g) result (Ok f) }
+    ensures only { (f : Structure) → Spells bytes.now f → Gives (λ g. g) result (Ok f) }
     // Which fault it is.
     ensures exact { Gives (λ f. f) result (read_of bytes.now) }
     ensures magic { IsErrOf result (errors.Fault faults.BadMagic) ↔ HasOtherMagic bytes.now }

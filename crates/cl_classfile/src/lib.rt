@@ -14,7 +14,7 @@ pub use entry::Entry;
 pub use fault::{Fault, ReadError};
 pub use file::{ClassFile, read};
 pub use laws::{has_one_spelling, spells_one_file};
-pub use member::Attribute;
+pub use member::{Attribute, Member};
 
 #[cfg(test)]
 mod tests;

@@ -13,4 +13,4 @@ made-requires c =
     let rows : checked_entries f.pool 1 f.pool ≡ Ok tt = subst (λ (rs : List RawEntry). checked_entries (plain_entries rs) 1 (plain_entries rs) ≡ Ok tt) c.as_slice.ensures.value c.in_ok-pool.ensures.exact in
     let class : checked_class f.pool f.flags f.this_class f.super_class f.interfaces ≡ Ok c.in_ok-check_class.field-0 =
     subst (λ (es : List Entry). checked_class es f.flags f.this_class f.super_class f.interfaces ≡ Ok c.in_ok-check_class.field-0) (c.as_slice-2.ensures.value ∙ same) c.in_ok-check_class.ensures in
-    rw same (is_class_file f tt c.in_ok-check_class.field-0 c.requires refl refl rows class)
+    rw same (is_class_file f tt c.in_ok-check_class.field-0 c.requires rows class)

@@ -1,7 +1,10 @@
 pub mod Loop
 pub mod Entries
 pub mod Codec
+pub mod Rows
+pub mod Classes
 pub mod Tables
+pub mod Pooled
 pub mod Spelled
 pub mod Header
 pub mod Quiet

@@ -1,15 +1,16 @@
 -- Behind the header no fault of the header is found.
-use Rattle.std.proofs.Common.{◌≡◌, ℕ, zero, suc, ◌+◌, ◌-◌, Bool, true, false, cond, eqb, leb, ltb, ◌&&◌, List, [], ◌∷◌, length, Result, Ok, Err, refl, sym, ap, ◌∙◌}
-use Rattle.std.specs.Int.{Width, w16, w32, byte_len}
+use Rattle.std.proofs.Common.{◌≡◌, ℕ, zero, suc, ◌+◌, ◌-◌, Bool, true, false, cond, eqb, leb, ltb, ◌&&◌, List, [], ◌∷◌, length, map, Result, Ok, Err, refl, sym, ap, ◌∙◌}
+use Rattle.std.specs.Int.{Width, w16, w32, w64, byte_len}
 use Rattle.cl_classfile.specs.declared.entry.Entry.{Entry}
-use Rattle.cl_classfile.specs.declared.entry.Entry.TheVariants.{Utf8, Class}
+use Rattle.cl_classfile.specs.declared.entry.Entry.TheVariants.{Unusable}
 use Rattle.cl_classfile.specs.declared.fault.Fault.{Fault}
 use Rattle.cl_classfile.specs.declared.fault.Fault.TheVariants.{BadMagic, Version, Truncated, Trailing, BadPool, BadFlags, BadMember, Duplicate, BadSupertype}
 use Rattle.cl_classfile.specs.Flags.{has, interface, is_class_flags}
 use Rattle.cl_classfile.specs.Structure.{Structure, Member, Attribute}
 use Rattle.cl_classfile.specs.Files.{class_name}
-use Rattle.cl_classfile.specs.Checking.{◌>>=◌, keeps_entry, kept_entry, checked_entries, keeps_names, keeps_interfaces, checked_class, kept_file}
-use Rattle.cl_classfile.specs.Reading.{Reader, number_at, bytes_at, then_at, test_at, map_at, sized_at, many_at, each_at, counted_at, header_at, text_at, entry_at, entries_at, pool_at, class_at, interfaces_at, attribute_at, attributes_at, member_at, members_at, tables_at, Parts, parts_at, structure_of, structure_at, whole_of, read_of}
+use Rattle.cl_classfile.specs.Rows.{entry_traits, keeps_entry}
+use Rattle.cl_classfile.specs.Checking.{◌>>=◌, kept_entry, checked_entries, keeps_names, keeps_interfaces, checked_class, kept_file}
+use Rattle.cl_classfile.specs.Reading.{Reader, number_at, bytes_at, then_at, test_at, map_at, sized_at, many_at, each_at, counted_at, header_at, text_at, byte_at, signed_at, two_at, handle_at, wide_at, value_at, index_at, pair_at, other_at, entry_at, slot_at, next_place, entries_at, pool_at, class_at, interfaces_at, attribute_at, attributes_at, member_at, members_at, tables_at, Parts, parts_at, structure_of, structure_at, whole_of, read_of}
 
 -- the header's own faults
 abbrev pub is_header : Fault → Bool
@@ -76,16 +77,52 @@ text : Quiet text_at
 unfolding text_at
 text bytes = bind (number_at w16 bytes) _ (number w16 bytes) (λ n. those n.0 n.1)
 
-entry : (i : ℕ) → Quiet (entry_at i)
-unfolding entry_at
-entry i [] = err Truncated refl
-entry i (tag ∷ rest) =
-    choice (eqb tag 1) (map_at text_at (λ t. Utf8 t) rest) _ (seen text_at (λ t. Utf8 t) text rest)
-    (choice (eqb tag 7) (map_at (number_at w16) (λ n. Class n) rest) (Err (BadPool i)) (seen (number_at w16) (λ n. Class n) (number w16) rest) (err (BadPool i) refl))
+byte : Quiet byte_at
+unfolding byte_at
+byte [] = err Truncated refl
+byte (b ∷ rest) = ok _
+
+signed : (w : Width) → Quiet (signed_at w)
+unfolding signed_at
+signed w = seen (number_at w) _ (number w)
+
+pair : Quiet two_at
+unfolding two_at
+pair = also (number_at w16) _ (number w16) (λ first. number w16)
+
+handle : Quiet handle_at
+unfolding handle_at
+handle = also byte_at _ byte (λ kind. number w16)
+
+wide : (n i : ℕ) (r : Reader Entry) → Quiet r → Quiet (wide_at n i r)
+wide n i r p bytes = choice (ltb i n) (r bytes) (Err (BadPool i)) (p bytes) (err (BadPool i) refl)
+
+entry : (n i : ℕ) → Quiet (entry_at n i)
+unfolding entry_at value_at index_at pair_at other_at
+entry n i [] = err Truncated refl
+entry n i (tag ∷ rest) =
+    choice (eqb tag 3) _ _ (seen (signed_at w32) _ (signed w32) rest)
+    (choice (eqb tag 4) _ _ (seen (number_at w32) _ (number w32) rest)
+    (choice (eqb tag 5) _ _ (wide n i _ (seen (signed_at w64) _ (signed w64)) rest)
+    (choice (eqb tag 6) _ _ (wide n i _ (seen (number_at w64) _ (number w64)) rest)
+    (choice (eqb tag 7) _ _ (seen (number_at w16) _ (number w16) rest)
+    (choice (eqb tag 8) _ _ (seen (number_at w16) _ (number w16) rest)
+    (choice (eqb tag 16) _ _ (seen (number_at w16) _ (number w16) rest)
+    (choice (eqb tag 9) _ _ (seen two_at _ pair rest)
+    (choice (eqb tag 10) _ _ (seen two_at _ pair rest)
+    (choice (eqb tag 11) _ _ (seen two_at _ pair rest)
+    (choice (eqb tag 12) _ _ (seen two_at _ pair rest)
+    (choice (eqb tag 18) _ _ (seen two_at _ pair rest)
+    (choice (eqb tag 1) _ _ (seen text_at _ text rest)
+    (choice (eqb tag 15) _ _ (seen handle_at _ handle rest) (err (BadPool i) refl))))))))))))))
+
+slot : (n : ℕ) (place : ℕ × Bool) → Quiet (slot_at n place)
+unfolding slot_at
+slot n place bytes = choice place.1 (Ok (Unusable, bytes)) _ (ok _) (entry n place.0 bytes)
 
 pool : Quiet pool_at
 unfolding pool_at entries_at
-pool bytes = bind (test_at (number_at w16) (λ n. leb 1 n) (BadPool 0) bytes) _ (tested (number_at w16) _ (BadPool 0) refl (number w16) bytes) (λ n. many entry_at (λ i e. i + 1) entry (n.0 - 1) 1 n.1)
+pool bytes = bind (test_at (number_at w16) (λ n. leb 1 n) (BadPool 0) bytes) _ (tested (number_at w16) _ (BadPool 0) refl (number w16) bytes) (λ n. many (slot_at (n.0 - 1)) next_place (slot (n.0 - 1)) (n.0 - 1) (1, false) n.1)
 
 class : Quiet class_at
 unfolding class_at
@@ -125,7 +162,7 @@ interfaces = counts (number_at w16) (number w16)
 rows : (entries : List Entry) (i : ℕ) (es : List Entry) → IsQuiet (checked_entries entries i es)
 unfolding checked_entries
 rows entries i [] = ok tt
-rows entries i (e ∷ es) = bind (kept_entry entries i e) _ (choice (keeps_entry entries e) (Ok e) (Err (BadPool i)) (ok e) (err (BadPool i) refl)) (λ x. rows entries (i + 1) es)
+rows entries i (e ∷ es) = bind (kept_entry entries i e) _ (choice (keeps_entry (map entry_traits entries) entries e) (Ok e) (Err (BadPool i)) (ok e) (err (BadPool i) refl)) (λ x. rows entries (i + 1) es)
 
 file : (f : Structure) → IsQuiet (kept_file f)
 unfolding kept_file

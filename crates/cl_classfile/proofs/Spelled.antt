@@ -4,92 +4,13 @@ use Rattle.std.specs.Int.{Width, w16, w32, to_be_bytes}
 use Rattle.std.specs.List.{flat_map}
 use Rattle.std.proofs.lemmas.Bool.{eqb-true, leb-true}
 use Rattle.std.proofs.lemmas.Bool.Decides.{nat_tests}
-use Rattle.cl_classfile.specs.declared.entry.Entry.{Entry}
-use Rattle.cl_classfile.specs.declared.entry.Entry.TheVariants.{Utf8, Class}
 use Rattle.cl_classfile.specs.declared.fault.Fault.{Fault}
-use Rattle.cl_classfile.specs.declared.fault.Fault.TheVariants.{BadMagic, Version, BadPool}
-use Rattle.cl_classfile.specs.Structure.{Structure, Member, Attribute, entry_spelling, counted, pool_spelling, member_spelling, attribute_spelling, magic, version, spelling, EntryFits, AllFit, PoolFits, AttributeFits, MemberFits, Fits}
+use Rattle.cl_classfile.specs.declared.fault.Fault.TheVariants.{BadMagic, Version}
+use Rattle.cl_classfile.specs.Structure.{Structure, Member, Attribute, counted, pool_spelling, member_spelling, attribute_spelling, magic, version, spelling, AllFit, PoolFits, AttributeFits, MemberFits, Fits}
 use Rattle.cl_classfile.specs.Checking.{◌>>=◌}
-use Rattle.cl_classfile.specs.Reading.{Reader, number_at, bytes_at, then_at, test_at, map_at, sized_at, each_at, counted_at, magic_at, version_at, header_at, text_at, entry_at, entries_at, pool_at, class_at, interfaces_at, attribute_at, attributes_at, member_at, members_at, tables_at, Parts, parts_at, structure_of, structure_at}
-use Rattle.cl_classfile.proofs.Codec.{both, IsBytes, bind_ok, ok_is, Takes, Takes-then, IsCodec, number16, number32, bytes_of, one_then, tested, mapped, many, EachFits, each_of_all, all_of_each}
-
--- one structure, and then another
-pub also : {A B : Type 0} (r : Reader A) (q : Reader B) (s : A → List ℕ) (t : B → List ℕ) (F : A → Type 0) (G : B → Type 0) → IsCodec r s F → IsCodec q t G → IsCodec (then_at r (λ a. q)) (λ p. s p.0 ++ t p.1) (λ p. F p.0 × G p.1)
-also r q s t F G first second = one_then r (λ a. q) s (λ a. t) F (λ a. G) first (λ a. second)
-
--- ---- entries
-
-pub sized : (w : Width) (limit : ℕ) → IsCodec (number_at w) (to_be_bytes w) (λ n. n < limit) → IsCodec (sized_at w) (λ t. to_be_bytes w (length t) ++ t) (λ t. length t < limit)
-sized w limit number = record {
-  takes = λ bytes x fits e.
-      let b = bind_ok (number_at w bytes) (λ n. bytes_at n.0 n.1) x e in
-      let one = number.takes bytes b.0 fits b.1 in
-      let two = (bytes_of b.0.0).takes b.0.1 x one.0.rest_fits b.2 in
-      let whole = Takes-then bytes (to_be_bytes w b.0.0) b.0.1 x.0 x.1 one.0 two.0 in
-      (subst (λ (k : ℕ). Takes bytes (to_be_bytes w k ++ x.0) x.1) (sym two.1) whole, omega (arith, two.1, one.1));
-  again = λ t rest h.
-      ap (sized_at w) (append_assoc (to_be_bytes w (length t)) t rest) ∙ rw (number.again (length t) (t ++ rest) h, (bytes_of (length t)).again t rest refl) refl;
-}
-
-text : IsCodec text_at (λ t. to_be_bytes w16 (length t) ++ t) (λ t. length t < 2 ^ 16)
-unfolding text_at
-text = sized w16 (2 ^ 16) number16
-
-chosen : {A : Type 0} (b : Bool) (x y z : A) → cond b x y ≡ z → ((b ≡ true) × (x ≡ z)) ⊎ ((b ≡ false) × (y ≡ z))
-chosen true x y z e = inl (refl, e)
-chosen false x y z e = inr (refl, e)
-
--- an entry of one kind: behind its tag stands what it is made of
-kind : {B : Type 0} (tag given : ℕ) (rest : List ℕ) (r : Reader B) (s : B → List ℕ) (F : B → Type 0) (make : B → Entry) (x : Entry × List ℕ) → IsCodec r s F
-    → ((b : B) → F b → (entry_spelling (make b) ≡ tag ∷ s b) × EntryFits (make b)) → IsBytes (given ∷ rest) → eqb given tag ≡ true → map_at r make rest ≡ Ok x → Takes (given ∷ rest) (entry_spelling x.0) x.1 × EntryFits x.0
-kind {B} tag given rest r s F make x c spelled fits is e =
-    let a = bind_ok (r rest) (λ b. Ok (make b.0, b.1)) x e in
-    let t = c.takes rest a.0 (λ i. fits (suc i)) a.1 in
-    let k = spelled a.0.0 t.1 in
-    let parts : given ∷ rest ≡ entry_spelling (make a.0.0) ++ a.0.1 = ap (λ (n : ℕ). n ∷ rest) (eqb-true given tag is) ∙ ap (λ (w : List ℕ). tag ∷ w) t.0.parts ∙ ap (λ (w : List ℕ). w ++ a.0.1) (sym k.0) in
-    subst (λ (y : Entry × List ℕ). Takes (given ∷ rest) (entry_spelling y.0) y.1 × EntryFits y.0) (ok_is (make a.0.0, a.0.1) x a.2) (record { parts = parts; rest_fits = t.0.rest_fits }, k.1)
-
-entry_takes : (i : ℕ) (bytes : List ℕ) (x : Entry × List ℕ) → IsBytes bytes → entry_at i bytes ≡ Ok x → Takes bytes (entry_spelling x.0) x.1 × EntryFits x.0
-unfolding entry_at
-entry_takes i [] x fits e = absurd cc
-entry_takes i (tag ∷ rest) x fits e =
-    elim (chosen (eqb tag 1) (map_at text_at (λ t. Utf8 t) rest) (cond (eqb tag 7) (map_at (number_at w16) (λ n. Class n) rest) (Err (BadPool i))) (Ok x) e) [
-      | inl h ↦ kind 1 tag rest text_at _ _ (λ t. Utf8 t) x text (λ t k. (refl, k)) fits h.0 h.1
-      | inr h ↦ elim (chosen (eqb tag 7) (map_at (number_at w16) (λ n. Class n) rest) (Err (BadPool i)) (Ok x) h.1) [
-        | inl k ↦ kind 7 tag rest (number_at w16) _ _ (λ n. Class n) x number16 (λ n m. (refl, m)) fits k.0 k.1
-        | inr k ↦ absurd cc
-      ]
-    ]
-
-entry_again : (i : ℕ) (x : Entry) (rest : List ℕ) → EntryFits x → entry_at i (entry_spelling x ++ rest) ≡ Ok (x, rest)
-unfolding entry_at
-entry_again i (Utf8 t) rest h = rw (text.again t rest h) refl
-entry_again i (Class n) rest h = rw (number16.again n rest h) refl
-
-entry : (i : ℕ) → IsCodec (entry_at i) entry_spelling EntryFits
-entry i = record { takes = entry_takes i; again = entry_again i }
-
-entries : (n : ℕ) → IsCodec (entries_at n) (flat_map entry_spelling) (λ es. (length es ≡ n) × EachFits (λ i e. EntryFits e) (λ i e. i + 1) 1 es)
-unfolding entries_at
-entries n = many entry_at (λ i e. i + 1) entry_spelling (λ i e. EntryFits e) entry n 1
-
-pub pool : IsCodec pool_at pool_spelling PoolFits
-unfolding pool_at
-pool = record {
-  takes = λ bytes x fits e.
-      let a = bind_ok (test_at (number_at w16) (λ n. leb 1 n) (BadPool 0) bytes) (λ n. entries_at (n.0 - 1) n.1) x e in
-      let one = (tested (number_at w16) (to_be_bytes w16) (λ n. n < 2 ^ 16) (λ n. leb 1 n) (BadPool 0) number16).takes bytes a.0 fits a.1 in
-      let two = (entries (a.0.0 - 1)).takes a.0.1 x one.0.rest_fits a.2 in
-      let some : 1 ≤ a.0.0 = leb-true 1 a.0.0 one.1.1 in
-      let count : a.0.0 ≡ length x.0 + 1 = omega (arith, two.1.0) in
-      let whole = Takes-then bytes (to_be_bytes w16 a.0.0) a.0.1 (flat_map entry_spelling x.0) x.1 one.0 two.0 in
-      (subst (λ (k : ℕ). Takes bytes (to_be_bytes w16 k ++ flat_map entry_spelling x.0) x.1) count whole, (omega (arith, one.1.0, count), all_of_each EntryFits (λ i e. i + 1) 1 x.0 two.1.1));
-  again = λ es rest h.
-      let less : length es + 1 - 1 ≡ length es = omega arith in
-      let some : leb 1 (length es + 1) ≡ true = grind (arith, nat_tests) in
-      ap pool_at (append_assoc (to_be_bytes w16 (length es + 1)) (flat_map entry_spelling es) rest)
-      ∙ rw (number16.again (length es + 1) (flat_map entry_spelling es ++ rest) h.0, some, less, (entries (length es)).again es rest (refl, each_of_all EntryFits (λ i e. i + 1) 1 es h.1)) refl;
-}
+use Rattle.cl_classfile.specs.Reading.{Reader, number_at, then_at, test_at, map_at, sized_at, each_at, counted_at, magic_at, version_at, header_at, pool_at, class_at, interfaces_at, attribute_at, attributes_at, member_at, members_at, tables_at, Parts, parts_at, structure_of, structure_at}
+use Rattle.cl_classfile.proofs.Codec.{both, IsBytes, bind_ok, ok_is, Takes, Takes-then, IsCodec, number16, number32, also, sized, tested, mapped, many, EachFits, each_of_all, all_of_each}
+use Rattle.cl_classfile.proofs.Pooled.{pool}
 
 -- ---- the parts of the file
 

@@ -1,17 +1,15 @@
 -- The tables as tests, with the first fault in the order in which a file is looked at.
-use Rattle.std.specs.Prelude.{◌≡◌, ℕ, ◌+◌, Bool, false, not, ◌&&◌, ◌||◌, ◌==◌, nat_eq, nat_le, length, List, [], ◌∷◌, Option, Some, None, is_some, Result, Ok, Err, if◌then◌else◌}
+use Rattle.std.specs.Prelude.{◌≡◌, ℕ, ◌+◌, Bool, false, not, ◌&&◌, ◌||◌, ◌==◌, nat_eq, List, [], ◌∷◌, map, Option, Some, None, is_some, Result, Ok, Err, if◌then◌else◌}
 use Rattle.std.specs.List.{list_all}
 use Rattle.std.specs.Cmp.Lexicographic.{pointwise}
-use Rattle.cl_names.specs.Text.{is_text}
-use Rattle.cl_names.specs.Kind.{is_class_name}
 use Rattle.cl_classfile.specs.declared.entry.Entry.{Entry}
-use Rattle.cl_classfile.specs.declared.entry.Entry.TheVariants.{Utf8, Class}
 use Rattle.cl_classfile.specs.declared.fault.Fault.{Fault}
 use Rattle.cl_classfile.specs.declared.fault.Fault.TheVariants.{BadPool, BadFlags, BadSupertype}
 use Rattle.cl_classfile.specs.declared.fault.ReadError.{ReadError}
 use Rattle.cl_classfile.specs.declared.fault.ReadError.TheVariants as errors
 use Rattle.cl_classfile.specs.Flags.{has, interface, is_class_flags}
 use Rattle.cl_classfile.specs.Structure.{Structure, object, at}
+use Rattle.cl_classfile.specs.Rows.{entry_traits, keeps_entry}
 use Rattle.cl_classfile.specs.Files.{class_name}
 
 infixl 10 ◌>>=◌
@@ -33,23 +31,9 @@ abbrev pub Gives : {X Y : Type 0} → (X → Y) → Result X ReadError → Resul
 Gives view (Ok x) read = read ≡ Ok (view x)
 Gives view (Err e) read = Fails e read
 
--- the entry is a text that names a class
-abbrev pub is_class_text : Entry → Bool
-is_class_text (Utf8 text) = is_class_name text
-is_class_text (Class name) = false
-
-abbrev pub names_class : Option Entry → Bool
-names_class None = false
-names_class (Some e) = is_class_text e
-
--- the entry keeps its row of the table (JVMS SE 8, 4.4)
-abbrev pub keeps_entry : List Entry → Entry → Bool
-keeps_entry pool (Utf8 text) = is_text text && nat_le (length text) 65535
-keeps_entry pool (Class name) = names_class (at pool name)
-
--- the entry at index i, where it keeps its row
+-- the entry at index i, where it keeps its row of the table (JVMS SE 8, 4.4)
 abbrev pub kept_entry : List Entry → ℕ → Entry → Result Entry Fault
-kept_entry pool i e = if keeps_entry pool e then Ok e else Err (BadPool i)
+kept_entry pool i e = if keeps_entry (map entry_traits pool) pool e then Ok e else Err (BadPool i)
 
 -- the entries from index i on: whether each keeps its row
 unfoldable pub checked_entries : List Entry → ℕ → List Entry → Result (Unit {0}) Fault

@@ -1,5 +1,5 @@
 -- The parts of a class file that linking looks at (JVMS SE 8, 4.1 to 4.6).
-use Rattle.std.specs.Prelude.{ℕ, ◌+◌, Bool, false, ◌&&◌, ◌==◌, nat_eq, List, [], ◌∷◌, ◌++◌, Option, Some, None, find, filter_map, option_map, option_to_list, unwrap_or}
+use Rattle.std.specs.Prelude.{ℕ, ◌+◌, Bool, false, ◌&&◌, ◌==◌, nat_eq, List, [], ◌∷◌, ◌++◌, Option, Some, None, find, filter_map, option_map, option_and_then, option_to_list, unwrap_or, if◌then◌else◌}
 use Rattle.std.specs.Cmp.Lexicographic.{pointwise}
 use Rattle.cl_descriptors.specs.declared.types.Base.{Base}
 use Rattle.cl_descriptors.specs.declared.types.Base.TheVariants as bases
@@ -7,7 +7,8 @@ use Rattle.cl_descriptors.specs.declared.types.FieldType.{FieldType}
 use Rattle.cl_descriptors.specs.declared.types.Descriptor.{Descriptor}
 use Rattle.cl_descriptors.specs.declared.types.Descriptor.TheVariants as descriptors
 use Rattle.cl_classfile.specs.declared.entry.Entry.{Entry}
-use Rattle.cl_classfile.specs.declared.entry.Entry.TheVariants.{Utf8, Class}
+use Rattle.cl_descriptors.specs.Reading.{whole_field, whole_method}
+use Rattle.cl_classfile.specs.declared.entry.Entry.TheVariants.{Utf8, Class, Fieldref, Methodref, InterfaceMethodref, NameAndType}
 pub use Rattle.cl_classfile.specs.Flags.{has}
 use Rattle.cl_classfile.specs.Structure.{Structure, at}
 
@@ -51,30 +52,71 @@ pub data FileFault : Type 0 where
 
 -- the text at an index of the pool
 abbrev pub text_of : Option Entry → Option Name
-text_of None = None
 text_of (Some (Utf8 text)) = Some text
-text_of (Some (Class name)) = None
+text_of _ = None
 
 abbrev pub text_at : List Entry → ℕ → Option Name
 text_at pool i = text_of (at pool i)
 
--- the name of an entry that is a class (4.4.1)
-abbrev pub class_of : List Entry → Option Entry → Option Name
-class_of pool None = None
-class_of pool (Some (Utf8 text)) = None
-class_of pool (Some (Class index)) = text_at pool index
+-- the name of an entry that is a class or an array (4.4.1)
+abbrev pub type_of : List Entry → Option Entry → Option Name
+type_of pool (Some (Class index)) = text_at pool index
+type_of pool _ = None
 
+abbrev pub type_name : List Entry → ℕ → Option Name
+type_name pool i = type_of pool (at pool i)
+
+-- the name of an array is its descriptor (4.4.1)
+abbrev pub is_array_name : Name → Bool
+is_array_name [] = false
+is_array_name (c ∷ rest) = c == 91
+
+abbrev pub no_array : Name → Option Name
+no_array name = if is_array_name name then None else Some name
+
+-- the name of an entry that is a class and no array
 abbrev pub class_name : List Entry → ℕ → Option Name
-class_name pool i = class_of pool (at pool i)
+class_name pool i = option_and_then no_array (type_name pool i)
 
 -- a class that is no array, as a type (4.3.2)
 abbrev pub class_type : Name → FieldType
 class_type name = record { dims = 0; base = bases.Class name }
 
+-- the type of this name
+abbrev pub named_type : Name → Option FieldType
+named_type name = if is_array_name name then whole_field name else Some (class_type name)
+
+-- the member of this name and descriptor, of a field and of a method (4.3.2, 4.3.3)
+abbrev pub field_key : Name → Name → Option Key
+field_key name text = option_map (λ t. record { name = name; descriptor = descriptors.Field t }) (whole_field text)
+
+abbrev pub method_key : Name → Name → Option Key
+method_key name text = option_map (λ m. record { name = name; descriptor = descriptors.Method m }) (whole_method text)
+
+-- the texts of a name and type (4.4.6)
+abbrev pub pair_name : List Entry → Option Entry → Option Name
+pair_name pool (Some (NameAndType name descriptor)) = text_at pool name
+pair_name pool _ = None
+
+abbrev pub pair_descriptor : List Entry → Option Entry → Option Name
+pair_descriptor pool (Some (NameAndType name descriptor)) = text_at pool descriptor
+pair_descriptor pool _ = None
+
+-- a member of this class, of this name and descriptor
+abbrev pub member_of : (FieldType → Key → Reference) → (Name → Name → Option Key) → Option Name → Option Name → Option Name → Option Reference
+member_of make key (Some class) (Some name) (Some text) = option_and_then (λ target. option_map (make target) (key name text)) (named_type class)
+member_of make key _ _ _ = None
+
+abbrev pub member_at : (FieldType → Key → Reference) → (Name → Name → Option Key) → List Entry → ℕ → ℕ → Option Reference
+member_at make key pool class pair = member_of make key (type_name pool class) (pair_name pool (at pool pair)) (pair_descriptor pool (at pool pair))
+
 -- what an entry refers to, if it is a reference
 abbrev pub reference_of : List Entry → Entry → Option Reference
-reference_of pool (Utf8 text) = None
-reference_of pool (Class index) = option_map (λ name. ToClass (class_type name)) (text_at pool index)
+reference_of pool (Class index) = option_map ToClass (option_and_then named_type (text_at pool index))
+reference_of pool (Fieldref class pair) = member_at ToField field_key pool class pair
+reference_of pool (Methodref class pair) = member_at ToMethod method_key pool class pair
+reference_of pool (InterfaceMethodref class pair) = member_at ToInterfaceMethod method_key pool class pair
+reference_of pool _ = None
 
 -- the references among the entries from an index on
 abbrev pub references_from : List Entry → ℕ → List Entry → List (ℕ × Reference)

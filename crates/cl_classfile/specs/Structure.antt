@@ -1,11 +1,12 @@
 -- What a class file is, and how it is spelled (JVMS SE 8, 4.1).
-use Rattle.std.specs.Prelude.{◌≡◌, ◌≢◌, ◌⊎◌, ◌≤◌, IsTrue, IsFalse, ℕ, Bool, zero, suc, ◌+◌, ◌<◌, ◌^◌, List, [], ◌∷◌, ◌++◌, length, take, drop, Option, Some, None, codes, slice_get}
+use Rattle.std.specs.Prelude.{◌≡◌, ◌≢◌, ◌⊎◌, ◌≤◌, IsTrue, IsFalse, ℕ, Bool, ◌+◌, ◌<◌, ◌^◌, false, List, [], ◌∷◌, ◌++◌, length, take, drop, Some, codes}
 use Rattle.std.specs.List.{flat_map, AllByRecursion}
 use Rattle.std.specs.Int.{w16, w32, to_be_bytes}
-use Rattle.cl_names.specs.Text.{IsModifiedUtf8}
 use Rattle.cl_names.specs.Kind.{IsNameOf, IsClass}
 use Rattle.cl_classfile.specs.declared.entry.Entry.{Entry}
-use Rattle.cl_classfile.specs.declared.entry.Entry.TheVariants.{Utf8, Class}
+use Rattle.cl_classfile.specs.declared.entry.Entry.TheVariants.{Class}
+use Rattle.cl_classfile.specs.Pool.{entry_spelling, EntryFits, AreSpaced, IsText, KeepsEntry}
+pub use Rattle.cl_classfile.specs.Pool.{at}
 use Rattle.cl_classfile.specs.Flags.{has, interface, is_class_flags}
 
 -- ---- the parts
@@ -34,11 +35,6 @@ pub record Structure : Type 0 where
   pub attributes : List Attribute
 
 -- ---- the one spelling of each
-
--- an entry of the pool: its tag, and what follows it (4.4)
-abbrev pub entry_spelling : Entry → List ℕ
-entry_spelling (Utf8 text) = 1 ∷ (to_be_bytes w16 (length text) ++ text)
-entry_spelling (Class name) = 7 ∷ to_be_bytes w16 name
 
 -- how many there are, and each of them
 abbrev pub counted : {A : Type 0} → (A → List ℕ) → List A → List ℕ
@@ -76,10 +72,6 @@ spelling f =
 
 -- ---- what the widths hold
 
-abbrev pub EntryFits : Entry → Type 0
-EntryFits (Utf8 text) = length text < 2 ^ 16
-EntryFits (Class name) = name < 2 ^ 16
-
 -- as many as a count can say, and each of them fits
 abbrev pub AllFit : {A : Type 0} → (A → Type 0) → List A → Type 0
 AllFit Fits xs = (length xs < 2 ^ 16) × AllByRecursion Fits xs
@@ -94,8 +86,9 @@ pub record MemberFits (m : Member) : Type 0 where
   pub descriptor_index : m.descriptor_index < 2 ^ 16
   pub attributes : AllFit AttributeFits m.attributes
 
+-- the indices that a long or a double takes are there (4.4.5)
 abbrev pub PoolFits : List Entry → Type 0
-PoolFits pool = (length pool + 1 < 2 ^ 16) × AllByRecursion EntryFits pool
+PoolFits pool = (length pool + 1 < 2 ^ 16) × AllByRecursion EntryFits pool × AreSpaced false pool
 
 pub record Fits (f : Structure) : Type 0 where
   pub pool : PoolFits f.pool
@@ -109,29 +102,16 @@ pub record Fits (f : Structure) : Type 0 where
 
 -- ---- what the tables ask
 
--- what stands at an index, from 1 on (4.1)
-abbrev pub at : {A : Type 0} → List A → ℕ → Option A
-at pool zero = None
-at pool (suc i) = slice_get pool i
-
--- the entry at the index is this text
-abbrev pub IsText : List Entry → ℕ → List ℕ → Type 0
-IsText pool i text = at pool i ≡ Some (Utf8 text)
-
--- the entry at the index is a class of this name (4.4.1)
+-- the entry at the index is a class of this name, and no array (4.4.1)
 pub record NamesClass (pool : List Entry) (i : ℕ) (name : List ℕ) : Type 0 where
   pub index : ℕ
   pub is_entry : at pool i ≡ Some (Class index)
   pub named : IsText pool index name
+  pub is_name : IsNameOf IsClass name
 
 -- java/lang/Object
 abbrev pub object : List ℕ
 object = codes "java/lang/Object"
-
--- what the table of entries asks of each kind (4.4)
-abbrev pub KeepsEntry : List Entry → Entry → Type 0
-KeepsEntry pool (Utf8 text) = IsModifiedUtf8 text
-KeepsEntry pool (Class index) = (name : List ℕ) × IsText pool index name × IsNameOf IsClass name
 
 -- super_class is 0 exactly in java/lang/Object, which is no interface; of any other it is a class, and of an
 -- interface java/lang/Object (4.1)

@@ -1,92 +1,17 @@
-ghost use Rattle.std.specs.Prelude.{◌≡◌, ◌+◌, ◌<◌, ◌≤◌, ◌^◌, List, IfOk, length, map, unwrap_or, nat_eq, false};
+ghost use Rattle.std.specs.Prelude.{◌≡◌, nat_eq};
 ghost use Rattle.std.specs.Option.{option_map};
-ghost use Rattle.cl_classfile.specs.Structure.{at, object};
-ghost use Rattle.std.specs.Cmp.Lexicographic.{pointwise};
-ghost use Rattle.cl_classfile.specs.declared.entry.Entry.{Entry};
-ghost use Rattle.cl_classfile.specs.Files.{text_at, class_name};
-ghost use Rattle.cl_classfile.specs.Flags.{has, interface};
 ghost use Rattle.std.specs.List.{list_all};
-ghost use Rattle.cl_classfile.specs.Checking.{Gives, Finds, is_class_text, names_class, keeps_entry, kept_entry, checked_entries, may_stand_above, keeps_super, keeps_names, keeps_interfaces, checked_class};
-ghost use Rattle.cl_classfile.specs.Raw.{plain_entry, plain_entries};
+ghost use Rattle.std.specs.Cmp.Lexicographic.{pointwise};
+ghost use Rattle.cl_classfile.specs.Structure.{at, object};
+ghost use Rattle.cl_classfile.specs.Files.{text_at, type_name, is_array_name, class_name};
+ghost use Rattle.cl_classfile.specs.Flags.{has, interface};
+ghost use Rattle.cl_classfile.specs.Checking.{Finds, may_stand_above, keeps_super, keeps_names, keeps_interfaces, checked_class};
 
 use crate::entry::Entry;
-use crate::fault::{Fault, ReadError};
+use crate::fault::Fault;
 use crate::flags::{is_class_flags, is_interface};
-use crate::reading::{RawEntry, RawFile};
-use cl_names::{Name, NameFault, is_class_name};
-ghost use Rattle.cl_classfile.specs.Flags.{has, interface};
-ghost use Rattle.std.specs.List.{list_all};
-use std::alloc::{AllocError, Global};
-
-fn is_class_text(entry: RawEntry<'_>) -> bool
-    ensures { result ≡ is_class_text (plain_entry entry.entry) }
-{
-    match entry {
-        RawEntry::Utf8(text) => is_class_name(text),
-        RawEntry::Class(_) => false,
-    }
-}
-
-/// Of each entry, whether it is a text that names a class.
-fn class_texts(alloc: Global, pool: &[RawEntry<'_>]) -> Result<Vec<bool>, AllocError>
-    ensures { IfOk result (λ v. v.items ≡ map is_class_text (plain_entries pool.now)) }
-{
-    let mut texts = Vec::new(alloc);
-    for entry in pool {
-        texts.push(is_class_text(*entry))?;
-    }
-    Ok(texts)
-}
-
-/// Whether a text that names a class stands at the index, from 1 on.
-fn names_class(texts: &[bool], index: u16) -> bool
-    ensures { result ≡ unwrap_or (at texts.now index) false }
-{
-    if index == 0 {
-        return false;
-    }
-    texts.get(index as usize - 1).copied().unwrap_or(false)
-}
-
-/// The entry, where it keeps its row of the table.
-fn kept_entry(
-    alloc: Global,
-    texts: &[bool],
-    index: u16,
-    entry: RawEntry<'_>,
-) -> Result<Entry, ReadError>
-    ensures { (pool : List Entry) → texts.now ≡ map is_class_text pool → Gives (λ e. e) result (kept_entry pool index (plain_entry entry.entry)) }
-{
-    match entry {
-        RawEntry::Utf8(text) => match Name::any(alloc, text) {
-            Ok(name) => Ok(Entry::Utf8(name)),
-            Err(NameFault::Memory) => Err(ReadError::Memory),
-            Err(NameFault::NotModifiedUtf8) => Err(ReadError::Fault(Fault::BadPool(index))),
-            Err(NameFault::BadName) => Err(ReadError::Fault(Fault::BadPool(index))),
-        },
-        RawEntry::Class(name) => {
-            if !names_class(texts, name) {
-                return Err(ReadError::Fault(Fault::BadPool(index)));
-            }
-            Ok(Entry::Class(name))
-        }
-    }
-}
-
-/// The entries, where each keeps its row of the table.
-pub fn kept_entries(alloc: Global, pool: &[RawEntry<'_>]) -> Result<Vec<Entry>, ReadError>
-    requires { length pool.now + 1 < 2 ^ 16 }
-    ensures exact { Gives (λ v. tt) result (checked_entries (plain_entries pool.now) 1 (plain_entries pool.now)) }
-    ensures same { IfOk result (λ v. v.items ≡ plain_entries pool.now) }
-{
-    let texts = class_texts(alloc, pool)?;
-    let mut entries = Vec::new(alloc);
-    for (i, entry) in pool.iter().enumerate() {
-        let entry = kept_entry(alloc, texts.as_slice(), i as u16 + 1, *entry)?;
-        entries.push(entry)?;
-    }
-    Ok(entries)
-}
+use crate::reading::RawFile;
+use cl_names::Name;
 
 /// What stands at an index, from 1 on.
 fn at(pool: &[Entry], index: u16) -> Option<&Entry>
@@ -107,14 +32,34 @@ fn text_at(pool: &[Entry], index: u16) -> Option<&Name>
     }
 }
 
+/// The name of the class or the array that stands at an index.
+fn type_name(pool: &[Entry], index: u16) -> Option<&Name>
+    ensures { option_map (λ n. n.now) result ≡ type_name pool.now index }
+{
+    match at(pool, index) {
+        Some(Entry::Class(text)) => text_at(pool, *text),
+        _ => None,
+    }
+}
+
+fn is_array_name(name: &[u8]) -> bool
+    ensures { result ≡ is_array_name name.now }
+{
+    match name {
+        [b'[', ..] => true,
+        _ => false,
+    }
+}
+
 /// The name of the class that stands at an index.
 pub fn class_name(pool: &[Entry], index: u16) -> Option<&Name>
     ensures { option_map (λ n. n.now) result ≡ class_name pool.now index }
 {
-    match at(pool, index) {
-        Some(Entry::Class(name)) => text_at(pool, *name),
-        _ => None,
+    let name = type_name(pool, index)?;
+    if is_array_name(name.bytes()) {
+        return None;
     }
+    Some(name)
 }
 
 /// Whether the class named above may be the superclass: of an interface it is `java/lang/Object`.

@@ -10,11 +10,13 @@ ghost use Rattle.cl_classfile.specs.Raw.{plain_file};
 ghost use Rattle.cl_classfile.specs.Checking.{Gives, kept_file};
 ghost use Rattle.cl_classfile.specs.Reading.{header_at, read_of};
 
-use crate::checking::{check_class, class_name, kept_entries};
+use crate::checking::{check_class, class_name};
 use crate::entry::Entry;
 use crate::fault::{Fault, ReadError};
 use crate::member::{Attribute, Member};
+use crate::raw::owned_entries;
 use crate::reading::{RawFile, whole_of};
+use crate::rows::check_entries;
 use cl_names::Name;
 use std::alloc::Global;
 use std::marker::Model;
@@ -140,7 +142,8 @@ fn kept_file(alloc: Global, file: RawFile<'_>) -> Result<ClassFile, ReadError>
     requires { Fits (plain_file file) }
     ensures { Gives (λ f. f) result (kept_file (plain_file file.entry)) }
 {
-    let pool = kept_entries(alloc, file.pool.as_slice())?;
+    check_entries(alloc, file.pool.as_slice())?;
+    let pool = owned_entries(alloc, file.pool.as_slice())?;
     check_class(pool.as_slice(), &file)?;
     Ok(made(pool, file))
 }

@@ -8,7 +8,11 @@ mod file;
 mod flags;
 mod laws;
 mod member;
+mod pool;
+mod raw;
 mod reading;
+mod rows;
+mod traits;
 
 pub use entry::Entry;
 pub use fault::{Fault, ReadError};

@@ -4,19 +4,14 @@ ghost use Rattle.cl_classfile.specs.declared.fault.Fault.{Fault};
 ghost use Rattle.cl_classfile.specs.declared.fault.ReadError.TheVariants as errors;
 ghost use Rattle.cl_classfile.specs.Structure.{Fits};
 ghost use Rattle.cl_classfile.specs.Checking.{Finds, Gives};
-ghost use Rattle.cl_classfile.specs.Reading.{number_at, bytes_at, each_at, magic_at, version_at, header_at, text_at, entry_at, entries_at, pool_at, class_at, interfaces_at, attribute_at, attributes_at, member_at, members_at, tables_at, structure_at, whole_of};
-ghost use Rattle.cl_classfile.specs.Raw.{plain_entry, plain_entries, plain_file};
+ghost use Rattle.cl_classfile.specs.Reading.{number_at, bytes_at, each_at, magic_at, version_at, header_at, class_at, interfaces_at, attribute_at, attributes_at, member_at, members_at, tables_at, structure_at, whole_of};
+ghost use Rattle.cl_classfile.specs.Raw.{plain_file};
 
 use crate::fault::{Fault, ReadError};
 use crate::member::{Attribute, Member};
+use crate::pool::pool_at;
+use crate::raw::RawEntry;
 use std::alloc::Global;
-
-/// An entry as it is read, before it is looked at.
-#[derive(Clone, Copy)]
-pub enum RawEntry<'a> {
-    Utf8(&'a [u8]),
-    Class(u16),
-}
 
 /// A file as it is read, before it is looked at.
 #[derive(Drop)]
@@ -31,7 +26,7 @@ pub struct RawFile<'a> {
     pub attributes: Vec<Attribute>,
 }
 
-fn u16_at(bytes: &[u8]) -> Result<(u16, &[u8]), Fault>
+pub fn u16_at(bytes: &[u8]) -> Result<(u16, &[u8]), Fault>
     ensures { Finds (λ x. (x.0, x.1.now)) result (number_at w16 bytes.now) }
 {
     if bytes.len() < 2 {
@@ -42,7 +37,7 @@ fn u16_at(bytes: &[u8]) -> Result<(u16, &[u8]), Fault>
     Ok((number, rest))
 }
 
-fn u32_at(bytes: &[u8]) -> Result<(u32, &[u8]), Fault>
+pub fn u32_at(bytes: &[u8]) -> Result<(u32, &[u8]), Fault>
     ensures { Finds (λ x. (x.0, x.1.now)) result (number_at w32 bytes.now) }
 {
     if bytes.len() < 4 {
@@ -53,70 +48,13 @@ fn u32_at(bytes: &[u8]) -> Result<(u32, &[u8]), Fault>
     Ok((number, rest))
 }
 
-fn bytes_at(count: usize, bytes: &[u8]) -> Result<(&[u8], &[u8]), Fault>
+pub fn bytes_at(count: usize, bytes: &[u8]) -> Result<(&[u8], &[u8]), Fault>
     ensures { Finds (λ x. (x.0.now, x.1.now)) result (bytes_at count bytes.now) }
 {
     if bytes.len() < count {
         return Err(Fault::Truncated);
     }
     Ok(bytes.split_at(count))
-}
-
-#[tactic(auto, unfolding(crate::specs::Reading::text_at))]
-fn text_at(bytes: &[u8]) -> Result<(&[u8], &[u8]), Fault>
-    ensures { Finds (λ x. (x.0.now, x.1.now)) result (text_at bytes.now) }
-{
-    let (count, rest) = u16_at(bytes)?;
-    bytes_at(count as usize, rest)
-}
-
-#[tactic(auto, unfolding(crate::specs::Reading::entry_at))]
-fn entry_at(index: u16, bytes: &[u8]) -> Result<(RawEntry<'_>, &[u8]), Fault>
-    ensures { Finds (λ x. (plain_entry x.0, x.1.now)) result (entry_at index bytes.now) }
-{
-    let [tag, rest @ ..] = bytes else {
-        return Err(Fault::Truncated);
-    };
-    match *tag {
-        1 => {
-            let (text, rest) = text_at(rest)?;
-            Ok((RawEntry::Utf8(text), rest))
-        }
-        7 => {
-            let (name, rest) = u16_at(rest)?;
-            Ok((RawEntry::Class(name), rest))
-        }
-        _ => Err(Fault::BadPool(index)),
-    }
-}
-
-fn entries_at(
-    alloc: Global,
-    count: u16,
-    bytes: &[u8],
-) -> Result<(Vec<RawEntry<'_>>, &[u8]), ReadError>
-    requires { count + 1 < 2 ^ 16 }
-    ensures { Gives (λ x. (plain_entries x.0.items, x.1.now)) result (entries_at count bytes.now) }
-{
-    let mut entries = Vec::new(alloc);
-    let mut rest = bytes;
-    for i in 0..count {
-        let (entry, after) = entry_at(i + 1, rest)?;
-        entries.push(entry)?;
-        rest = after;
-    }
-    Ok((entries, rest))
-}
-
-#[tactic(auto, unfolding(crate::specs::Reading::pool_at))]
-fn pool_at(alloc: Global, bytes: &[u8]) -> Result<(Vec<RawEntry<'_>>, &[u8]), ReadError>
-    ensures { Gives (λ x. (plain_entries x.0.items, x.1.now)) result (pool_at bytes.now) }
-{
-    let (count, rest) = u16_at(bytes)?;
-    if count == 0 {
-        return Err(ReadError::Fault(Fault::BadPool(0)));
-    }
-    entries_at(alloc, count - 1, rest)
 }
 
 #[tactic(auto, unfolding(crate::specs::Reading::magic_at))]

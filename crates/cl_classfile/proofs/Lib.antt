@@ -1,7 +1,8 @@
 pub mod Loop
 pub mod Entries
 pub mod Codec
-pub mod Rows
+pub mod EntryRows
+pub mod MemberRows
 pub mod Classes
 pub mod Tables
 pub mod Pooled

@@ -12,9 +12,10 @@ use Rattle.cl_classfile.specs.Pool.{EntryFits, KeepsEntry}
 use Rattle.cl_classfile.specs.Structure.{Structure, Fits, object, NamesClass, KeepsSuper, KeepsInterface, Keeps}
 use Rattle.cl_classfile.specs.Files.{class_name}
 use Rattle.cl_classfile.specs.Rows.{entry_traits, keeps_entry}
-use Rattle.cl_classfile.specs.Checking.{◌>>=◌, kept_entry, checked_entries, may_stand_above, keeps_super, keeps_names, keeps_interfaces, checked_class, kept_file}
+use Rattle.cl_classfile.specs.Checking.{◌>>=◌, kept_entry, checked_entries, may_stand_above, keeps_super, keeps_names, keeps_interfaces, checked_class, keeps_field, keeps_method, checked_members, checked_tables, kept_file}
 use Rattle.cl_classfile.proofs.Codec.{bind_ok, ok_is, both}
-use Rattle.cl_classfile.proofs.Rows.{keeps_entry_says, keeps_entry_told}
+use Rattle.cl_classfile.proofs.EntryRows.{keeps_entry_says, keeps_entry_told}
+use Rattle.cl_classfile.proofs.MemberRows.{fields_say, fields_told, methods_say, methods_told}
 use Rattle.cl_classfile.proofs.Classes.{Rows, class_says, class_named}
 
 -- ---- all of the entries
@@ -108,18 +109,33 @@ checks_say true true u h = (refl, refl)
 checks_say true false u h = absurd cc
 checks_say false kept u h = absurd cc
 
-abbrev class_checked : Structure → Result (Unit {0}) Fault
+abbrev pub class_checked : Structure → Result (Unit {0}) Fault
 class_checked f = checked_class f.pool f.flags f.this_class f.super_class f.interfaces
 
+abbrev pub fields_checked : Structure → Result (Unit {0}) Fault
+fields_checked f = checked_members (keeps_field (map entry_traits f.pool) (has f.flags interface)) f.pool [] f.fields
+
+abbrev pub methods_checked : Structure → Result (Unit {0}) Fault
+methods_checked f = checked_members (keeps_method (map entry_traits f.pool) (has f.flags interface)) f.pool [] f.methods
+
+-- the tests of a file were passed
+pub record Passes (f : Structure) : Type 0 where
+  pub entries : checked_entries f.pool 1 f.pool ≡ Ok tt
+  pub class : class_checked f ≡ Ok tt
+  pub fields : fields_checked f ≡ Ok tt
+  pub methods : methods_checked f ≡ Ok tt
+
 -- what a file is whose tests were passed
-pub tables_say : (f : Structure) (u v : Unit {0}) → checked_entries f.pool 1 f.pool ≡ Ok u → class_checked f ≡ Ok v → Keeps f
-tables_say f u v rows class =
+pub tables_say : (f : Structure) → Passes f → Keeps f
+tables_say f p =
     let of_interface = has f.flags interface in
-    let entries = rows_say f.pool 1 f.pool u rows in
+    let entries = rows_say f.pool 1 f.pool tt p.entries in
     let names = keeps_names f.pool of_interface f.super_class (class_name f.pool f.this_class) in
-    let c = checks_say (is_class_flags f.flags) (names && keeps_interfaces f.pool f.interfaces) v class in
+    let c = checks_say (is_class_flags f.flags) (names && keeps_interfaces f.pool f.interfaces) tt p.class in
     let k = both names (keeps_interfaces f.pool f.interfaces) c.1 in
     let n = names_say f.pool entries of_interface f.this_class f.super_class (class_name f.pool f.this_class) refl k.0 in
+    let fields = fields_say f.pool of_interface f.fields tt p.fields in
+    let methods = methods_say f.pool of_interface f.methods tt p.methods in
     record {
       pool = entries;
       flags = c.0;
@@ -127,19 +143,27 @@ tables_say f u v rows class =
       this_class = n.this_class;
       super_class = n.super_class;
       interfaces = interfaces_say f.pool entries f.interfaces k.1;
+      fields = record { each = fields.0; new = fields.1 };
+      methods = record { each = methods.0; new = methods.1 };
     }
 
 -- a file that passes the tests is answered as it is
 pub file_says : (f g : Structure) → kept_file f ≡ Ok g → (f ≡ g) × Keeps f
 unfolding kept_file
 file_says f g h =
-    let a = bind_ok (checked_entries f.pool 1 f.pool) (λ entries. class_checked f >>= λ class. Ok f) g h in
-    let b = bind_ok (class_checked f) (λ class. Ok f) g a.2 in
-    (ok_is f g b.2, tables_say f a.0 b.0 a.1 b.1)
+    let a = bind_ok (checked_entries f.pool 1 f.pool) (λ entries. class_checked f >>= λ class. (checked_tables f >>= λ tables. Ok f)) g h in
+    let b = bind_ok (class_checked f) (λ class. checked_tables f >>= λ tables. Ok f) g a.2 in
+    let d = bind_ok (checked_tables f) (λ tables. Ok f) g b.2 in
+    let e = bind_ok (fields_checked f) (λ fields. methods_checked f) d.0 d.1 in
+    (ok_is f g d.2, tables_say f (record { entries = a.1; class = b.1; fields = e.1; methods = e.2 }))
 
 pub file_told : (f : Structure) → Fits f → Keeps f → kept_file f ≡ Ok f
 unfolding kept_file
 file_told f fits kept =
+    let of_interface = has f.flags interface in
     let named : class_name f.pool f.this_class ≡ Some kept.name = class_named f.pool f.this_class kept.name kept.this_class in
-    let super = super_told f.pool (has f.flags interface) kept.name f.super_class kept.super_class in
-    rw (rows_told f.pool 1 f.pool fits.pool.1 kept.pool, kept.flags, named, super, interfaces_told f.pool f.interfaces kept.interfaces) refl
+    let super = super_told f.pool of_interface kept.name f.super_class kept.super_class in
+    let class : class_checked f ≡ Ok tt = rw (kept.flags, named, super, interfaces_told f.pool f.interfaces kept.interfaces) refl in
+    let fields : fields_checked f ≡ Ok tt = fields_told f.pool of_interface f.fields kept.fields.each kept.fields.new in
+    let methods : methods_checked f ≡ Ok tt = methods_told f.pool of_interface f.methods kept.methods.each kept.methods.new in
+    rw (rows_told f.pool 1 f.pool fits.pool.1 kept.pool, class, fields, methods) refl

@@ -11,6 +11,7 @@ use Rattle.cl_descriptors.specs.Reading.{whole_field, whole_method}
 use Rattle.cl_classfile.specs.declared.entry.Entry.TheVariants.{Utf8, Class, Fieldref, Methodref, InterfaceMethodref, NameAndType}
 pub use Rattle.cl_classfile.specs.Flags.{has}
 use Rattle.cl_classfile.specs.Structure.{Structure, at}
+use Rattle.cl_classfile.specs.Structure as structure
 
 -- the bytes of the name of a class or a member (4.2)
 abbrev pub Name : Type 0
@@ -123,15 +124,20 @@ abbrev pub references_from : List Entry → ℕ → List Entry → List (ℕ × 
 references_from pool i [] = []
 references_from pool i (e ∷ es) = option_to_list (option_map (λ r. (i, r)) (reference_of pool e)) ++ references_from pool (i + 1) es
 
--- what linking looks at in a structure with no fields and methods
+-- what linking looks at of a field or a method
+abbrev pub keyed : (Name → Name → Option Key) → List Entry → structure.Member → Option Member
+keyed key pool m =
+    option_map (λ k. record { flags = m.flags; key = k }) (option_and_then (λ name. option_and_then (key name) (text_at pool m.descriptor_index)) (text_at pool m.name_index))
+
+-- what linking looks at in a structure
 abbrev pub file_of : Structure → File
 file_of f = record {
   flags = f.flags;
   name = unwrap_or (class_name f.pool f.this_class) [];
   super_name = class_name f.pool f.super_class;
   interfaces = filter_map (class_name f.pool) f.interfaces;
-  fields = [];
-  methods = [];
+  fields = filter_map (keyed field_key f.pool) f.fields;
+  methods = filter_map (keyed method_key f.pool) f.methods;
   references = references_from f.pool 1 f.pool;
 }
 

@@ -23,7 +23,7 @@ fn at(pool: &[Entry], index: u16) -> Option<&Entry>
     pool.get(index as usize - 1)
 }
 
-fn text_at(pool: &[Entry], index: u16) -> Option<&Name>
+pub fn text_at(pool: &[Entry], index: u16) -> Option<&Name>
     ensures { option_map (λ n. n.now) result ≡ text_at pool.now index }
 {
     match at(pool, index) {

@@ -13,10 +13,12 @@ ghost use Rattle.cl_classfile.specs.Reading.{header_at, read_of};
 use crate::checking::{check_class, class_name};
 use crate::entry::Entry;
 use crate::fault::{Fault, ReadError};
+use crate::flags::is_interface;
 use crate::member::{Attribute, Member};
 use crate::raw::owned_entries;
 use crate::reading::{RawFile, whole_of};
-use crate::rows::check_entries;
+use crate::members::{check_fields, check_methods};
+use crate::rows::{all_traits, check_entries};
 use cl_names::Name;
 use std::alloc::Global;
 use std::marker::Model;
@@ -142,9 +144,23 @@ fn kept_file(alloc: Global, file: RawFile<'_>) -> Result<ClassFile, ReadError>
     requires { Fits (plain_file file) }
     ensures { Gives (λ f. f) result (kept_file (plain_file file.entry)) }
 {
-    check_entries(alloc, file.pool.as_slice())?;
+    let traits = all_traits(alloc, file.pool.as_slice())?;
+    check_entries(traits.as_slice(), file.pool.as_slice())?;
     let pool = owned_entries(alloc, file.pool.as_slice())?;
     check_class(pool.as_slice(), &file)?;
+    let of_interface = is_interface(file.flags);
+    check_fields(
+        traits.as_slice(),
+        pool.as_slice(),
+        of_interface,
+        file.fields.as_slice(),
+    )?;
+    check_methods(
+        traits.as_slice(),
+        pool.as_slice(),
+        of_interface,
+        file.methods.as_slice(),
+    )?;
     Ok(made(pool, file))
 }
 

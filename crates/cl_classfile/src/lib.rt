@@ -8,6 +8,7 @@ mod file;
 mod flags;
 mod laws;
 mod member;
+mod members;
 mod pool;
 mod raw;
 mod reading;

@@ -1,5 +1,5 @@
 -- What is read is spelled so, and what is spelled so is read.
-use Rattle.std.proofs.Common.{◌≡◌, ℕ, Bool, true, false, cond, eqb, List, [], ◌++◌, length, Result, Ok, Err, refl, sym, ap, subst, ◌∙◌}
+use Rattle.std.proofs.Common.{◌≡◌, ℕ, Bool, true, false, cond, eqb, List, [], ◌++◌, length, map, Result, Ok, Err, refl, sym, ap, subst, ◌∙◌}
 use Rattle.std.specs.Prelude.{IfOk}
 use Rattle.std.proofs.lemmas.Bool.{eqb-true}
 use Rattle.std.proofs.lemmas.List.{append-nil, nil_from_length}
@@ -8,12 +8,13 @@ use Rattle.cl_classfile.specs.declared.fault.Fault.TheVariants.{Trailing}
 use Rattle.cl_classfile.specs.declared.fault.ReadError.{ReadError}
 use Rattle.cl_classfile.specs.declared.fault.ReadError.TheVariants as errors
 use Rattle.cl_classfile.specs.Structure.{Structure, spelling, Fits, IsClassFile, Spells}
-use Rattle.cl_classfile.specs.Checking.{Gives, kept_file}
+use Rattle.cl_classfile.specs.Checking.{Gives, checked_entries, checked_tables, kept_file}
+use Rattle.cl_classfile.specs.Rows.{entry_traits}
 use Rattle.cl_classfile.specs.Reading.{header_at, structure_at, whole_of, read_of}
 use Rattle.cl_classfile.proofs.Codec.{IsBytes, bind_ok, ok_is}
 use Rattle.cl_classfile.proofs.Spelled.{structure}
 use Rattle.cl_classfile.proofs.Quiet.{is_header, in_header}
-use Rattle.cl_classfile.proofs.Tables.{Passes, tables_say, file_says, file_told}
+use Rattle.cl_classfile.proofs.Tables.{tables_say, file_says, file_told}
 
 pub ended : {A : Type 0} (b : Bool) (x y : A) → cond b (Ok x) (Err Trailing) ≡ Ok y → (b ≡ true) × (x ≡ y)
 ended true x y e = (refl, cc)
@@ -51,8 +52,8 @@ read_again bytes f s =
     rw one (file_told f s.fits s.kept)
 
 -- a file that passed the tests
-pub is_class_file : (f : Structure) → Fits f → Passes f → IsClassFile f
-is_class_file f fits p = record { fits = fits; kept = tables_say f p }
+pub is_class_file : (f : Structure) (u v : Unit {0}) → Fits f → checked_entries f.pool 1 f.pool ≡ Ok u → checked_tables (map entry_traits f.pool) f.pool f ≡ Ok v → IsClassFile f
+is_class_file f u v fits rows tables = record { fits = fits; kept = tables_say f u v rows tables }
 
 -- for the calls
 pub is_fitting : (bytes : List ℕ) (f : Structure) (rest : List ℕ) → IsBytes bytes → structure_at bytes ≡ Ok (f, rest) → Fits f

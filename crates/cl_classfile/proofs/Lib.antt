@@ -1,7 +1,7 @@
 pub mod Loop
 pub mod Entries
 pub mod Codec
-pub mod EntryRows
+pub mod Judging
 pub mod MemberRows
 pub mod Classes
 pub mod Tables

@@ -25,7 +25,7 @@ use Rattle.cl_classfile.specs.Rows.{special_of, is_field, is_init, entry_traits,
 use Rattle.cl_classfile.specs.Files.{text_of, text_at}
 use Rattle.cl_classfile.specs.Checking.{◌>>=◌, keeps_field, has_room, keeps_method_flags, keeps_method, same_text, same_member, checked_members}
 use Rattle.cl_classfile.proofs.Codec.{both}
-use Rattle.cl_classfile.proofs.EntryRows.{tests, differ, all, IsTrait, field, unqualified, method, option_traits, traits_are, text_says, text_told, is_clinit, init_says, clinit_says}
+use Rattle.cl_classfile.proofs.Judging.{tests, differ, all, IsTrait, field, unqualified, method, option_traits, traits_are, text_says, text_told, is_clinit, init_says, clinit_says}
 
 -- ---- units
 

@@ -12,7 +12,6 @@ use Rattle.cl_classfile.specs.Files.{class_name}
 use Rattle.cl_classfile.specs.Rows.{entry_traits, keeps_entry}
 use Rattle.cl_classfile.specs.Checking.{◌>>=◌, kept_entry, checked_entries, keeps_names, keeps_interfaces, checked_class, keeps_field, keeps_method, same_member, checked_members, checked_tables, kept_file}
 use Rattle.cl_classfile.specs.Reading.{Reader, number_at, bytes_at, then_at, test_at, map_at, sized_at, many_at, each_at, counted_at, header_at, text_at, byte_at, signed_at, two_at, handle_at, wide_at, value_at, index_at, pair_at, other_at, entry_at, slot_at, next_place, entries_at, pool_at, class_at, interfaces_at, attribute_at, attributes_at, member_at, members_at, tables_at, Parts, parts_at, structure_of, structure_at, whole_of, read_of}
-use Rattle.cl_classfile.proofs.Tables.{fields_checked}
 
 -- the header's own faults
 abbrev pub is_header : Fault → Bool
@@ -178,12 +177,16 @@ each_member keeps entries before (m ∷ ms) =
     choice (keeps m) _ (Err BadMember)
     (choice (list_any (λ e. same_member entries e m) before) (Err Duplicate) _ (err Duplicate refl) (each_member keeps entries (before ++ m ∷ []) ms)) (err BadMember refl)
 
+tables_checked : (f : Structure) → IsQuiet (checked_tables (map entry_traits f.pool) f.pool f)
+unfolding checked_tables
+tables_checked f =
+    bind (checked_class f.pool f.flags f.this_class f.super_class f.interfaces) _ (class_tables f) (λ class.
+    bind (checked_members (keeps_field (map entry_traits f.pool) (has f.flags interface)) f.pool [] f.fields) _ (each_member (keeps_field (map entry_traits f.pool) (has f.flags interface)) f.pool [] f.fields)
+    (λ fields. each_member (keeps_method (map entry_traits f.pool) (has f.flags interface)) f.pool [] f.methods))
+
 file : (f : Structure) → IsQuiet (kept_file f)
 unfolding kept_file
-file f =
-    bind (checked_entries f.pool 1 f.pool) _ (rows f.pool 1 f.pool) (λ entries. bind (checked_class f.pool f.flags f.this_class f.super_class f.interfaces) _ (class_tables f) (λ class.
-    bind (checked_tables f) _ (bind (fields_checked f) _ (each_member (keeps_field (map entry_traits f.pool) (has f.flags interface)) f.pool [] f.fields) (λ fields. each_member (keeps_method (map entry_traits f.pool) (has f.flags interface)) f.pool [] f.methods))
-    (λ tables. ok f)))
+file f = bind (checked_entries f.pool 1 f.pool) _ (rows f.pool 1 f.pool) (λ entries. bind (checked_tables (map entry_traits f.pool) f.pool f) _ (tables_checked f) (λ tables. ok f))
 
 -- ---- the whole
 

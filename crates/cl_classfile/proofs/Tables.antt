@@ -14,7 +14,7 @@ use Rattle.cl_classfile.specs.Files.{class_name}
 use Rattle.cl_classfile.specs.Rows.{entry_traits, keeps_entry}
 use Rattle.cl_classfile.specs.Checking.{◌>>=◌, kept_entry, checked_entries, may_stand_above, keeps_super, keeps_names, keeps_interfaces, checked_class, keeps_field, keeps_method, checked_members, checked_tables, kept_file}
 use Rattle.cl_classfile.proofs.Codec.{bind_ok, ok_is, both}
-use Rattle.cl_classfile.proofs.EntryRows.{keeps_entry_says, keeps_entry_told}
+use Rattle.cl_classfile.proofs.Judging.{keeps_entry_says, keeps_entry_told}
 use Rattle.cl_classfile.proofs.MemberRows.{fields_say, fields_told, methods_say, methods_told}
 use Rattle.cl_classfile.proofs.Classes.{Rows, class_says, class_named}
 
@@ -109,56 +109,54 @@ checks_say true true u h = (refl, refl)
 checks_say true false u h = absurd cc
 checks_say false kept u h = absurd cc
 
-abbrev pub class_checked : Structure → Result (Unit {0}) Fault
+abbrev class_checked : Structure → Result (Unit {0}) Fault
 class_checked f = checked_class f.pool f.flags f.this_class f.super_class f.interfaces
 
-abbrev pub fields_checked : Structure → Result (Unit {0}) Fault
+abbrev fields_checked : Structure → Result (Unit {0}) Fault
 fields_checked f = checked_members (keeps_field (map entry_traits f.pool) (has f.flags interface)) f.pool [] f.fields
 
-abbrev pub methods_checked : Structure → Result (Unit {0}) Fault
+abbrev methods_checked : Structure → Result (Unit {0}) Fault
 methods_checked f = checked_members (keeps_method (map entry_traits f.pool) (has f.flags interface)) f.pool [] f.methods
 
--- the tests of a file were passed
-pub record Passes (f : Structure) : Type 0 where
-  pub entries : checked_entries f.pool 1 f.pool ≡ Ok tt
-  pub class : class_checked f ≡ Ok tt
-  pub fields : fields_checked f ≡ Ok tt
-  pub methods : methods_checked f ≡ Ok tt
-
 -- what a file is whose tests were passed
-pub tables_say : (f : Structure) → Passes f → Keeps f
-tables_say f p =
+keeps : (f : Structure) (u c d e : Unit {0}) → checked_entries f.pool 1 f.pool ≡ Ok u → class_checked f ≡ Ok c → fields_checked f ≡ Ok d → methods_checked f ≡ Ok e → Keeps f
+keeps f u c d e rows class fields methods =
     let of_interface = has f.flags interface in
-    let entries = rows_say f.pool 1 f.pool tt p.entries in
+    let entries = rows_say f.pool 1 f.pool u rows in
     let names = keeps_names f.pool of_interface f.super_class (class_name f.pool f.this_class) in
-    let c = checks_say (is_class_flags f.flags) (names && keeps_interfaces f.pool f.interfaces) tt p.class in
-    let k = both names (keeps_interfaces f.pool f.interfaces) c.1 in
+    let a = checks_say (is_class_flags f.flags) (names && keeps_interfaces f.pool f.interfaces) c class in
+    let k = both names (keeps_interfaces f.pool f.interfaces) a.1 in
     let n = names_say f.pool entries of_interface f.this_class f.super_class (class_name f.pool f.this_class) refl k.0 in
-    let fields = fields_say f.pool of_interface f.fields tt p.fields in
-    let methods = methods_say f.pool of_interface f.methods tt p.methods in
+    let each_field = fields_say f.pool of_interface f.fields d fields in
+    let each_method = methods_say f.pool of_interface f.methods e methods in
     record {
       pool = entries;
-      flags = c.0;
+      flags = a.0;
       name = n.name;
       this_class = n.this_class;
       super_class = n.super_class;
       interfaces = interfaces_say f.pool entries f.interfaces k.1;
-      fields = record { each = fields.0; new = fields.1 };
-      methods = record { each = methods.0; new = methods.1 };
+      fields = record { each = each_field.0; new = each_field.1 };
+      methods = record { each = each_method.0; new = each_method.1 };
     }
+
+pub tables_say : (f : Structure) (u v : Unit {0}) → checked_entries f.pool 1 f.pool ≡ Ok u → checked_tables (map entry_traits f.pool) f.pool f ≡ Ok v → Keeps f
+unfolding checked_tables
+tables_say f u v rows tables =
+    let b = bind_ok (class_checked f) (λ class. fields_checked f >>= λ fields. methods_checked f) v tables in
+    let d = bind_ok (fields_checked f) (λ fields. methods_checked f) v b.2 in
+    keeps f u b.0 d.0 v rows b.1 d.1 d.2
 
 -- a file that passes the tests is answered as it is
 pub file_says : (f g : Structure) → kept_file f ≡ Ok g → (f ≡ g) × Keeps f
 unfolding kept_file
 file_says f g h =
-    let a = bind_ok (checked_entries f.pool 1 f.pool) (λ entries. class_checked f >>= λ class. (checked_tables f >>= λ tables. Ok f)) g h in
-    let b = bind_ok (class_checked f) (λ class. checked_tables f >>= λ tables. Ok f) g a.2 in
-    let d = bind_ok (checked_tables f) (λ tables. Ok f) g b.2 in
-    let e = bind_ok (fields_checked f) (λ fields. methods_checked f) d.0 d.1 in
-    (ok_is f g d.2, tables_say f (record { entries = a.1; class = b.1; fields = e.1; methods = e.2 }))
+    let a = bind_ok (checked_entries f.pool 1 f.pool) (λ entries. checked_tables (map entry_traits f.pool) f.pool f >>= λ tables. Ok f) g h in
+    let b = bind_ok (checked_tables (map entry_traits f.pool) f.pool f) (λ tables. Ok f) g a.2 in
+    (ok_is f g b.2, tables_say f a.0 b.0 a.1 b.1)
 
 pub file_told : (f : Structure) → Fits f → Keeps f → kept_file f ≡ Ok f
-unfolding kept_file
+unfolding kept_file checked_tables
 file_told f fits kept =
     let of_interface = has f.flags interface in
     let named : class_name f.pool f.this_class ≡ Some kept.name = class_named f.pool f.this_class kept.name kept.this_class in

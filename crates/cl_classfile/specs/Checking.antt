@@ -109,14 +109,12 @@ checked_members keeps pool before (m ∷ ms) =
     then if list_any (λ e. same_member pool e m) before then Err Duplicate else checked_members keeps pool (before ++ m ∷ []) ms
     else Err BadMember
 
--- the fields, and then the methods
-abbrev pub checked_tables : Structure → Result (Unit {0}) Fault
-checked_tables f =
-    checked_members (keeps_field (map entry_traits f.pool) (has f.flags interface)) f.pool [] f.fields
-    >>= λ fields. checked_members (keeps_method (map entry_traits f.pool) (has f.flags interface)) f.pool [] f.methods
+-- the class's own tables, then its fields, then its methods, where the traits of the entries are given
+unfoldable pub checked_tables : List Traits → List Entry → Structure → Result (Unit {0}) Fault
+checked_tables traits pool f =
+    checked_class pool f.flags f.this_class f.super_class f.interfaces >>= λ class.
+    (checked_members (keeps_field traits (has f.flags interface)) pool [] f.fields >>= λ fields. checked_members (keeps_method traits (has f.flags interface)) pool [] f.methods)
 
 -- the file, where it keeps the tables
 unfoldable pub kept_file : Structure → Result Structure Fault
-kept_file f =
-    checked_entries f.pool 1 f.pool >>= λ entries.
-    (checked_class f.pool f.flags f.this_class f.super_class f.interfaces >>= λ class. (checked_tables f >>= λ tables. Ok f))
+kept_file f = checked_entries f.pool 1 f.pool >>= λ entries. (checked_tables (map entry_traits f.pool) f.pool f >>= λ tables. Ok f)

@@ -7,18 +7,20 @@ ghost use Rattle.cl_classfile.specs.Structure.{Structure, Fits, Spells, IsClassF
 ghost use Rattle.cl_classfile.specs.Files.{file_of};
 ghost use Rattle.cl_names.specs.Kind.{IsNameOf, IsClass};
 ghost use Rattle.cl_classfile.specs.Raw.{plain_file};
-ghost use Rattle.cl_classfile.specs.Checking.{Gives, kept_file};
+ghost use Rattle.cl_classfile.specs.Checking.{Finds, Gives, checked_tables, kept_file};
 ghost use Rattle.cl_classfile.specs.Reading.{header_at, read_of};
 
+use crate::attribute::Attribute;
 use crate::checking::{check_class, class_name};
 use crate::entry::Entry;
 use crate::fault::{Fault, ReadError};
 use crate::flags::is_interface;
-use crate::member::{Attribute, Member};
+use crate::member::Member;
 use crate::raw::owned_entries;
 use crate::reading::{RawFile, whole_of};
 use crate::members::{check_fields, check_methods};
 use crate::rows::{all_traits, check_entries};
+use crate::traits::Traits;
 use cl_names::Name;
 use std::alloc::Global;
 use std::marker::Model;
@@ -139,6 +141,17 @@ fn made(pool: Vec<Entry>, file: RawFile<'_>) -> ClassFile
     }
 }
 
+/// Whether the flags and the supertypes keep their tables, then the fields, then the methods.
+#[tactic(auto, unfolding(crate::specs::Checking::checked_tables))]
+fn check_tables(traits: &[Traits], pool: &[Entry], file: &RawFile<'_>) -> Result<(), Fault>
+    ensures { Finds (λ u. u) result (checked_tables traits.now pool.now (plain_file file.now)) }
+{
+    check_class(pool, file)?;
+    let of_interface = is_interface(file.flags);
+    check_fields(traits, pool, of_interface, file.fields.as_slice())?;
+    check_methods(traits, pool, of_interface, file.methods.as_slice())
+}
+
 #[tactic(auto, unfolding(crate::specs::Checking::kept_file))]
 fn kept_file(alloc: Global, file: RawFile<'_>) -> Result<ClassFile, ReadError>
     requires { Fits (plain_file file) }
@@ -147,20 +160,7 @@ fn kept_file(alloc: Global, file: RawFile<'_>) -> Result<ClassFile, ReadError>
     let traits = all_traits(alloc, file.pool.as_slice())?;
     check_entries(traits.as_slice(), file.pool.as_slice())?;
     let pool = owned_entries(alloc, file.pool.as_slice())?;
-    check_class(pool.as_slice(), &file)?;
-    let of_interface = is_interface(file.flags);
-    check_fields(
-        traits.as_slice(),
-        pool.as_slice(),
-        of_interface,
-        file.fields.as_slice(),
-    )?;
-    check_methods(
-        traits.as_slice(),
-        pool.as_slice(),
-        of_interface,
-        file.methods.as_slice(),
-    )?;
+    check_tables(traits.as_slice(), pool.as_slice(), &file)?;
     Ok(made(pool, file))
 }
 

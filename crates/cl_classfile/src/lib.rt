@@ -1,6 +1,7 @@
 //! Class files: their parts, and reading them from bytes (JVMS SE 8, chapter 4).
 #![tactic(auto)]
 
+mod attribute;
 mod checking;
 mod entry;
 mod fault;
@@ -15,11 +16,12 @@ mod reading;
 mod rows;
 mod traits;
 
+pub use attribute::Attribute;
 pub use entry::Entry;
 pub use fault::{Fault, ReadError};
 pub use file::{ClassFile, read};
 pub use laws::{has_one_spelling, spells_one_file};
-pub use member::{Attribute, Member};
+pub use member::Member;
 
 #[cfg(test)]
 mod tests;

@@ -7,8 +7,9 @@ ghost use Rattle.cl_classfile.specs.Checking.{Finds, Gives};
 ghost use Rattle.cl_classfile.specs.Reading.{number_at, bytes_at, each_at, magic_at, version_at, header_at, class_at, interfaces_at, attribute_at, attributes_at, member_at, members_at, tables_at, structure_at, whole_of};
 ghost use Rattle.cl_classfile.specs.Raw.{plain_file};
 
+use crate::attribute::Attribute;
 use crate::fault::{Fault, ReadError};
-use crate::member::{Attribute, Member};
+use crate::member::Member;
 use crate::pool::pool_at;
 use crate::raw::RawEntry;
 use std::alloc::Global;

@@ -1,6 +1,6 @@
 -- The names of classes in a pool that keeps its table.
 use Rattle.std.proofs.Common.{◌≡◌, ◌⊎◌, ℕ, zero, suc, Bool, true, false, cond, ◌&&◌, eqb, leb, List, [], ◌∷◌, ◌++◌, length, replicate, Option, Some, None, refl, sym, ap, subst, ◌∙◌, inl, inr}
-use Rattle.std.specs.Prelude.{option_and_then}
+use Rattle.std.specs.Prelude.{option_map, option_and_then, IsSome}
 use Rattle.std.specs.List.{AllByRecursion, list_all, slice_split, onto_first}
 use Rattle.std.proofs.lemmas.Bool.{eqb-true}
 use Rattle.cl_names.specs.Text.{is_text}
@@ -104,6 +104,6 @@ class_named pool i name c =
     let type : type_name pool i ≡ Some name = ap (type_of pool) c.is_entry ∙ ap text_of c.named in
     rw (type, class_begins name c.is_name) refl
 
--- what a class of the pool is called is a class's name
-pub named_well : (pool : List Entry) → Rows pool → (i : ℕ) (name : List ℕ) → class_name pool i ≡ Some name → IsNameOf IsClass name
-named_well pool rows i name h = (class_says pool i name rows h).is_name
+pub is_there : {A B : Type 0} (f : A → B) (o : Option A) (x : B) → option_map f o ≡ Some x → IsSome o
+is_there f None x e = absurd cc
+is_there f (Some y) x e = refl

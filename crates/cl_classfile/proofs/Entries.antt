@@ -1,14 +1,23 @@
 -- Looking at the entries of the pool one after the other.
-use Rattle.std.proofs.Common.{◌≡◌, ℕ, suc, ◌+◌, ◌≤◌, ◌<◌, Bool, true, false, cond, List, [], ◌∷◌, length, map, drop, get_or, Ok, Err, refl, sym, ap, ◌∙◌, add-one, arith}
+use Rattle.std.proofs.Common.{◌≡◌, ℕ, zero, suc, ◌+◌, ◌≤◌, ◌<◌, Bool, true, false, cond, List, [], ◌∷◌, length, map, drop, get_or, Ok, Err, refl, sym, ap, ◌∙◌, add-one, arith}
 use Rattle.std.proofs.Math.Seq.{drop-cons}
 use Rattle.std.proofs.lemmas.List.{drop-map, length-drop, length-map, nil_from_length}
 use Rattle.cl_classfile.specs.declared.entry.Entry.{Entry}
 use Rattle.cl_classfile.specs.declared.fault.Fault.TheVariants.{BadPool}
 use Rattle.cl_classfile.specs.declared.raw.RawEntry.{RawEntry}
+use Rattle.std.specs.Option.{option_map}
+use Rattle.cl_classfile.specs.Pool.{at}
 use Rattle.cl_classfile.specs.Raw.{plain_entry, plain_entries}
 use Rattle.cl_classfile.specs.Rows.{entry_traits, keeps_entry}
 use Rattle.cl_classfile.specs.declared.traits.Traits.{Traits}
 use Rattle.cl_classfile.specs.Checking.{kept_entry, checked_entries}
+
+-- what stands at an index of them
+pub at_plain : (raws : List RawEntry) (i : ℕ) → at (plain_entries raws) i ≡ option_map plain_entry (at raws i)
+at_plain raws zero = refl
+at_plain [] (suc i) = refl
+at_plain (r ∷ raws) (suc zero) = refl
+at_plain (r ∷ raws) (suc (suc i)) = at_plain raws (suc i)
 
 -- the entry at i, and those behind it
 split : (raws : List RawEntry) (i : ℕ) (d : RawEntry) → i < length raws → drop i (plain_entries raws) ≡ plain_entry (get_or raws i d) ∷ drop (i + 1) (plain_entries raws)

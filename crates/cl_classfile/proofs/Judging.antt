@@ -108,7 +108,7 @@ arrays n false e h = refl
 field_says : (text : List ℕ) → is_field (form_of text) ≡ true → IsField text
 field_says text = field_form_says text (form_of text) (form_is text)
 
-field_is : (text : List ℕ) → IsField text → is_field (form_of text) ≡ true
+pub field_is : (text : List ℕ) → IsField text → is_field (form_of text) ≡ true
 field_is text h = ap is_field (field_told text h.0 h.1 h.2) ∙ fields (eqb h.0.dims 0)
 
 array_is : (text : List ℕ) → IsArray text → is_array (form_of text) ≡ true
@@ -117,7 +117,7 @@ array_is text h = ap is_array (field_told text h.0 h.1 h.2.0) ∙ arrays h.0.dim
 call_says : (text : List ℕ) → is_call (form_of text) ≡ true → IsCall text
 call_says text = call_form_says text (form_of text) (form_is text)
 
-call_is : (text : List ℕ) → IsCall text → is_call (form_of text) ≡ true
+pub call_is : (text : List ℕ) → IsCall text → is_call (form_of text) ≡ true
 call_is text h = ap is_call (method_told text h.0 h.1 h.2) ∙ calls (is_some h.0.ret)
 
 void_says : (text : List ℕ) → is_void (form_of text) ≡ true → IsVoid text

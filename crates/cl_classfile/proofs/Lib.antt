@@ -4,6 +4,7 @@ pub mod Codec
 pub mod Judging
 pub mod MemberRows
 pub mod Classes
+pub mod References
 pub mod Tables
 pub mod Pooled
 pub mod Spelled

@@ -4,6 +4,7 @@ use Rattle.std.specs.Prelude.{is_some}
 use Rattle.std.specs.List.{AllByRecursion, list_all}
 use Rattle.std.specs.Cmp.Lexicographic.{pointwise, same_text}
 use Rattle.std.proofs.lemmas.Bool.{eqb-true, le-leb}
+use Rattle.cl_names.specs.Kind.{IsNameOf, IsClass}
 use Rattle.cl_classfile.specs.declared.entry.Entry.{Entry}
 use Rattle.cl_classfile.specs.declared.fault.Fault.{Fault}
 use Rattle.cl_classfile.specs.declared.fault.Fault.TheVariants.{BadPool, BadFlags, BadSupertype}
@@ -165,3 +166,7 @@ file_told f fits kept =
     let fields : fields_checked f ≡ Ok tt = fields_told f.pool of_interface f.fields kept.fields.each kept.fields.new in
     let methods : methods_checked f ≡ Ok tt = methods_told f.pool of_interface f.methods kept.methods.each kept.methods.new in
     rw (rows_told f.pool 1 f.pool fits.pool.1 kept.pool, class, fields, methods) refl
+
+-- what a class of the pool is called is a class's name
+pub named_well : (f : Structure) → Keeps f → (i : ℕ) (name : List ℕ) → class_name f.pool i ≡ Some name → IsNameOf IsClass name
+named_well f kept i name h = (class_says f.pool i name kept.pool h).is_name

@@ -87,14 +87,26 @@ class_type name = record { dims = 0; base = bases.Class name }
 abbrev pub named_type : Name → Option FieldType
 named_type name = if is_array_name name then whole_field name else Some (class_type name)
 
--- the member of this name and descriptor, of a field and of a method (4.3.2, 4.3.3)
-abbrev pub field_key : Name → Name → Option Key
-field_key name text = option_map (λ t. record { name = name; descriptor = descriptors.Field t }) (whole_field text)
+-- ---- references, by their texts and by their types
 
-abbrev pub method_key : Name → Name → Option Key
-method_key name text = option_map (λ m. record { name = name; descriptor = descriptors.Method m }) (whole_method text)
+-- the class or array that a member is asked of, the member's name and its descriptor (4.4.2)
+pub record Symbol : Type 0 where
+  pub class : Name
+  pub name : Name
+  pub descriptor : Name
 
--- the texts of a name and type (4.4.6)
+-- what a reference says
+pub data Cited : Type 0 where
+  CitesClass : (name : Name) → Cited
+  CitesField : (symbol : Symbol) → Cited
+  CitesMethod : (symbol : Symbol) → Cited
+  CitesInterfaceMethod : (symbol : Symbol) → Cited
+
+abbrev pub symbol_of : Option Name → Option Name → Option Name → Option Symbol
+symbol_of (Some class) (Some name) (Some descriptor) = Some (record { class = class; name = name; descriptor = descriptor })
+symbol_of _ _ _ = None
+
+-- the texts of the name and of the descriptor of a name and type (4.4.6)
 abbrev pub pair_name : List Entry → Option Entry → Option Name
 pair_name pool (Some (NameAndType name descriptor)) = text_at pool name
 pair_name pool _ = None
@@ -103,21 +115,36 @@ abbrev pub pair_descriptor : List Entry → Option Entry → Option Name
 pair_descriptor pool (Some (NameAndType name descriptor)) = text_at pool descriptor
 pair_descriptor pool _ = None
 
--- a member of this class, of this name and descriptor
-abbrev pub member_of : (FieldType → Key → Reference) → (Name → Name → Option Key) → Option Name → Option Name → Option Name → Option Reference
-member_of make key (Some class) (Some name) (Some text) = option_and_then (λ target. option_map (make target) (key name text)) (named_type class)
-member_of make key _ _ _ = None
+abbrev pub symbol_at : List Entry → ℕ → ℕ → Option Symbol
+symbol_at pool class pair = symbol_of (type_name pool class) (pair_name pool (at pool pair)) (pair_descriptor pool (at pool pair))
 
-abbrev pub member_at : (FieldType → Key → Reference) → (Name → Name → Option Key) → List Entry → ℕ → ℕ → Option Reference
-member_at make key pool class pair = member_of make key (type_name pool class) (pair_name pool (at pool pair)) (pair_descriptor pool (at pool pair))
+abbrev pub cited : List Entry → Entry → Option Cited
+cited pool (Class text) = option_map (λ name. CitesClass name) (text_at pool text)
+cited pool (Fieldref class pair) = option_map (λ s. CitesField s) (symbol_at pool class pair)
+cited pool (Methodref class pair) = option_map (λ s. CitesMethod s) (symbol_at pool class pair)
+cited pool (InterfaceMethodref class pair) = option_map (λ s. CitesInterfaceMethod s) (symbol_at pool class pair)
+cited pool _ = None
+
+-- the key of a field, and of a method (4.3.2, 4.3.3)
+abbrev pub field_key : Symbol → Option Key
+field_key s = option_map (λ t. record { name = s.name; descriptor = descriptors.Field t }) (whole_field s.descriptor)
+
+abbrev pub method_key : Symbol → Option Key
+method_key s = option_map (λ m. record { name = s.name; descriptor = descriptors.Method m }) (whole_method s.descriptor)
+
+abbrev pub typed_by : (FieldType → Key → Reference) → Option FieldType → Option Key → Option Reference
+typed_by make (Some target) (Some key) = Some (make target key)
+typed_by make _ _ = None
+
+abbrev pub typed : Cited → Option Reference
+typed (CitesClass name) = option_map (λ t. ToClass t) (named_type name)
+typed (CitesField s) = typed_by ToField (named_type s.class) (field_key s)
+typed (CitesMethod s) = typed_by ToMethod (named_type s.class) (method_key s)
+typed (CitesInterfaceMethod s) = typed_by ToInterfaceMethod (named_type s.class) (method_key s)
 
 -- what an entry refers to, if it is a reference
 abbrev pub reference_of : List Entry → Entry → Option Reference
-reference_of pool (Class index) = option_map ToClass (option_and_then named_type (text_at pool index))
-reference_of pool (Fieldref class pair) = member_at ToField field_key pool class pair
-reference_of pool (Methodref class pair) = member_at ToMethod method_key pool class pair
-reference_of pool (InterfaceMethodref class pair) = member_at ToInterfaceMethod method_key pool class pair
-reference_of pool _ = None
+reference_of pool e = option_and_then typed (cited pool e)
 
 -- the references among the entries from an index on
 abbrev pub references_from : List Entry → ℕ → List Entry → List (ℕ × Reference)

@@ -7,4 +7,5 @@ pub mod Rows
 pub mod Checking
 pub mod Raw
 pub mod Reading
+pub mod References
 pub mod View

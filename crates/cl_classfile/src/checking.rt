@@ -1,4 +1,4 @@
-ghost use Rattle.std.specs.Prelude.{◌≡◌, nat_eq};
+ghost use Rattle.std.specs.Prelude.{◌≡◌, is_some, nat_eq};
 ghost use Rattle.std.specs.Option.{option_map};
 ghost use Rattle.std.specs.List.{list_all};
 ghost use Rattle.std.specs.Cmp.Lexicographic.{pointwise};
@@ -14,7 +14,7 @@ use crate::reading::RawFile;
 use cl_names::Name;
 
 /// What stands at an index, from 1 on.
-fn at(pool: &[Entry], index: u16) -> Option<&Entry>
+pub fn at(pool: &[Entry], index: u16) -> Option<&Entry>
     ensures { option_map (λ e. e.now) result ≡ at pool.now index }
 {
     if index == 0 {
@@ -33,7 +33,7 @@ pub fn text_at(pool: &[Entry], index: u16) -> Option<&Name>
 }
 
 /// The name of the class or the array that stands at an index.
-fn type_name(pool: &[Entry], index: u16) -> Option<&Name>
+pub fn type_name(pool: &[Entry], index: u16) -> Option<&Name>
     ensures { option_map (λ n. n.now) result ≡ type_name pool.now index }
 {
     match at(pool, index) {
@@ -97,10 +97,16 @@ fn keeps_names(pool: &[Entry], of_interface: bool, this_class: u16, super_class:
     }
 }
 
+fn is_class(pool: &[Entry], index: u16) -> bool
+    ensures { result ≡ is_some (class_name pool.now index) }
+{
+    class_name(pool, index).is_some()
+}
+
 fn keeps_interfaces(pool: &[Entry], interfaces: &[u16]) -> bool
     ensures { result ≡ keeps_interfaces pool.now interfaces.now }
 {
-    interfaces.iter().all(|i| class_name(pool, *i).is_some())
+    interfaces.iter().all(|i| is_class(pool, *i))
 }
 
 /// Whether the flags and the supertypes keep their tables.

@@ -1,10 +1,11 @@
-ghost use Rattle.std.specs.Prelude.{◌≡◌, ◌↔◌, IfOk, IfSome, Ok, IsErrOf};
-ghost use Rattle.std.specs.Option.{option_map};
+ghost use Rattle.std.specs.Prelude.{◌≡◌, ◌↔◌, is_some, IfOk, IfSome, Ok, IsErrOf};
+ghost use Rattle.std.specs.Option.{option_map, option_and_then};
 ghost use Rattle.cl_classfile.specs.declared.fault.Fault.{Fault};
 ghost use Rattle.cl_classfile.specs.declared.fault.Fault.TheVariants as faults;
 ghost use Rattle.cl_classfile.specs.declared.fault.ReadError.TheVariants as errors;
-ghost use Rattle.cl_classfile.specs.Structure.{Structure, Fits, Spells, IsClassFile, HasOtherMagic, HasOtherVersion};
-ghost use Rattle.cl_classfile.specs.Files.{file_of};
+ghost use Rattle.cl_classfile.specs.Structure.{Structure, at, Fits, Spells, IsClassFile, HasOtherMagic, HasOtherVersion};
+ghost use Rattle.cl_classfile.specs.Files.{file_of, typed, reference};
+ghost use Rattle.cl_classfile.specs.References.{plain_reference, refers, IsCited};
 ghost use Rattle.cl_names.specs.Kind.{IsNameOf, IsClass};
 ghost use Rattle.cl_classfile.specs.Raw.{plain_file};
 ghost use Rattle.cl_classfile.specs.Checking.{Finds, Gives, checked_tables, kept_file};
@@ -19,6 +20,7 @@ use crate::member::Member;
 use crate::raw::owned_entries;
 use crate::reading::{RawFile, whole_of};
 use crate::members::{check_fields, check_methods};
+use crate::reference::{Reference, reference_at};
 use crate::rows::{all_traits, check_entries};
 use crate::traits::Traits;
 use cl_names::Name;
@@ -122,6 +124,18 @@ impl ClassFile {
         ensures class { IfSome result (λ n. IsNameOf IsClass n.now) }
     {
         class_name(self.pool.as_slice(), self.super_class)
+    }
+
+    /// What the entry at an index refers to, and nothing where it is neither a class or an array nor a member of one
+    /// (JVMS SE 8, 4.4.1, 4.4.2).
+    pub fn reference(&self, index: u16) -> Option<Reference<'_>>
+        // Its texts are those of the reference.
+        ensures value { option_and_then typed (option_map plain_reference result) ≡ reference (file_of self.now) index }
+        ensures some { is_some result ≡ refers (at self.now.pool index) }
+        // Each text is of its kind.
+        ensures sound { IfSome result (λ r. IsCited (plain_reference r)) }
+    {
+        reference_at(self.pool.as_slice(), index)
     }
 }
 

@@ -13,6 +13,7 @@ mod members;
 mod pool;
 mod raw;
 mod reading;
+mod reference;
 mod rows;
 mod traits;
 
@@ -20,6 +21,7 @@ pub use attribute::Attribute;
 pub use entry::Entry;
 pub use fault::{Fault, ReadError};
 pub use file::{ClassFile, read};
+pub use reference::{Reference, Symbol};
 pub use laws::{has_one_spelling, spells_one_file};
 pub use member::Member;
 

@@ -19,13 +19,14 @@ fn text_at(bytes: &[u8]) -> Result<(&[u8], &[u8]), Fault>
     bytes_at(count as usize, rest)
 }
 
+#[tactic(auto, unfolding(crate::specs::Reading::byte_at))]
 fn byte_at(bytes: &[u8]) -> Result<(u8, &[u8]), Fault>
     ensures { Finds (λ x. (x.0, x.1.now)) result (byte_at bytes.now) }
 {
-    match bytes {
-        [byte, rest @ ..] => Ok((*byte, rest)),
-        _ => Err(Fault::Truncated),
-    }
+    let [byte, rest @ ..] = bytes else {
+        return Err(Fault::Truncated);
+    };
+    Ok((*byte, rest))
 }
 
 fn u64_at(bytes: &[u8]) -> Result<(u64, &[u8]), Fault>

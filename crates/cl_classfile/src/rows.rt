@@ -33,24 +33,44 @@ pub fn all_traits(alloc: Global, pool: &[RawEntry<'_>]) -> Result<Vec<Traits>, A
     Ok(traits)
 }
 
-/// The traits of the text at an index, from 1 on.
-pub fn traits_at(traits: &[Traits], index: u16) -> Traits
-    ensures { result ≡ traits_at traits.now index }
-{
-    if index == 0 {
-        return nothing();
-    }
-    traits.get(index as usize - 1).copied().unwrap_or(nothing())
-}
-
-/// The entry at an index, from 1 on.
-fn at<'a>(pool: &[RawEntry<'a>], index: u16) -> Option<RawEntry<'a>>
-    ensures { option_map plain_entry result ≡ at (plain_entries pool.now) index }
+/// What stands in the row of an index, from 1 on.
+fn listed(traits: &[Traits], index: u16) -> Option<&Traits>
+    ensures { option_map (λ t. t.now) result ≡ at traits.now index }
 {
     if index == 0 {
         return None;
     }
-    pool.get(index as usize - 1).copied()
+    traits.get(index as usize - 1)
+}
+
+/// The traits of the text at an index.
+pub fn traits_at(traits: &[Traits], index: u16) -> Traits
+    ensures { result ≡ traits_at traits.now index }
+{
+    match listed(traits, index) {
+        Some(traits) => *traits,
+        None => nothing(),
+    }
+}
+
+fn raw_at<'a, 'b>(pool: &'b [RawEntry<'a>], index: u16) -> Option<&'b RawEntry<'a>>
+    ensures { option_map (λ e. e.now) result ≡ at pool.now index }
+{
+    if index == 0 {
+        return None;
+    }
+    pool.get(index as usize - 1)
+}
+
+/// The entry at an index.
+#[tactic(auto, using(crate::proofs::Entries::at_plain))]
+fn at<'a>(pool: &[RawEntry<'a>], index: u16) -> Option<RawEntry<'a>>
+    ensures { option_map plain_entry result ≡ at (plain_entries pool.now) index }
+{
+    match raw_at(pool, index) {
+        Some(entry) => Some(*entry),
+        None => None,
+    }
 }
 
 fn is_class(pool: &[RawEntry<'_>], index: u16) -> bool

@@ -18,7 +18,7 @@ returns-in_err-entry c =
 pub loop-i-preserved : goal.loop-i-preserved
 loop-i-preserved c =
     let e : plain_entries c.push.new.self.items ≡ plain_entries c.loop-i.entries.items ++ plain_entry c.in_ok-entry.entry ∷ [] = ap plain_entries c.in_ok-push.ensures.items ∙ map-append plain_entry c.loop-i.entries.items (c.in_ok-entry.entry ∷ []) in
-    rw (e, c.is_wide.ensures) (goes_on (slot_at c.args.count) next_place (plain_entries c.loop-i.entries.items) c.args.count c.loop-i.i (c.loop-i.i + 1, c.loop-i.taken) c.loop-i.rest.now (plain_entry c.in_ok-entry.entry) c.in_ok-entry.after.now (entries_at c.args.count c.args.bytes.now) c.loop-i-test.true c.in_ok-entry.ensures c.loop-i.invariant)
+    rw (e, c.is_wide-taken.ensures) (goes_on (slot_at c.args.count) next_place (plain_entries c.loop-i.entries.items) c.args.count c.loop-i.i (c.loop-i.i + 1, c.loop-i.taken) c.loop-i.rest.now (plain_entry c.in_ok-entry.entry) c.in_ok-entry.after.now (entries_at c.args.count c.args.bytes.now) c.loop-i-test.true c.in_ok-entry.ensures c.loop-i.invariant)
 
 pub returns : goal.returns
 returns c = is_done (slot_at c.args.count) next_place (plain_entries c.loop-i.entries.items) c.args.count c.loop-i.i (c.loop-i.i + 1, c.loop-i.taken) c.loop-i.rest.now (entries_at c.args.count c.args.bytes.now) c.loop-i-test.false c.loop-i.invariant

@@ -1,16 +1,31 @@
 -- Looking at the entries of the pool one after the other.
-use Rattle.std.proofs.Common.{◌≡◌, ℕ, zero, suc, ◌+◌, ◌≤◌, ◌<◌, Bool, true, false, cond, List, [], ◌∷◌, length, map, drop, get_or, Ok, Err, refl, sym, ap, ◌∙◌, add-one, arith}
+use Rattle.std.proofs.Common.{◌≡◌, ℕ, zero, suc, ◌+◌, ◌-◌, Bor, Option, Some, None, ◌≤◌, ◌<◌, Bool, true, false, cond, List, [], ◌∷◌, length, map, drop, get_or, Ok, Err, refl, sym, ap, ◌∙◌, add-one, arith}
 use Rattle.std.proofs.Math.Seq.{drop-cons}
 use Rattle.std.proofs.lemmas.List.{drop-map, length-drop, length-map, nil_from_length}
 use Rattle.cl_classfile.specs.declared.entry.Entry.{Entry}
 use Rattle.cl_classfile.specs.declared.fault.Fault.TheVariants.{BadPool}
 use Rattle.cl_classfile.specs.declared.raw.RawEntry.{RawEntry}
+use Rattle.std.specs.Prelude.{slice_get}
 use Rattle.std.specs.Option.{option_map}
+use Rattle.std.specs.Slice.{IsItemAt}
+use Rattle.std.proofs.lemmas.Option.{slice_get_past, slice_get_read}
 use Rattle.cl_classfile.specs.Pool.{at}
 use Rattle.cl_classfile.specs.Raw.{plain_entry, plain_entries}
 use Rattle.cl_classfile.specs.Rows.{entry_traits, keeps_entry}
 use Rattle.cl_classfile.specs.declared.traits.Traits.{Traits}
 use Rattle.cl_classfile.specs.Checking.{kept_entry, checked_entries}
+
+-- what a slice lends at an index, from 1 on
+lent : {X : Type 0} (xs : List X) (i : ℕ) (r : Option (Bor X)) → IsItemAt xs i r → option_map (λ x. x.now) r ≡ slice_get xs i
+lent xs i None h = sym (slice_get_past xs i h.3)
+lent xs i (Some x) h = sym (slice_get_read xs (length xs) i x.now refl h.3.0 h.1)
+
+from_one : {X : Type 0} (xs : List X) (i : ℕ) → (i ≡ 0 → ⊥) → slice_get xs (i - 1) ≡ at xs i
+from_one xs zero h = absurd (h refl)
+from_one xs (suc i) h = let k : suc i - 1 ≡ i = omega arith in ap (slice_get xs) k
+
+pub at_lent : {X : Type 0} (xs : List X) (i : ℕ) (r : Option (Bor X)) → (i ≡ 0 → ⊥) → IsItemAt xs (i - 1) r → option_map (λ x. x.now) r ≡ at xs i
+at_lent xs i r some h = lent xs (i - 1) r h ∙ from_one xs i some
 
 -- what stands at an index of them
 pub at_plain : (raws : List RawEntry) (i : ℕ) → at (plain_entries raws) i ≡ option_map plain_entry (at raws i)

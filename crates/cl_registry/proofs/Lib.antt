@@ -4,5 +4,6 @@ pub mod Contents
 pub mod Requests
 pub mod Homes
 pub mod Chained
+pub mod Rests
 pub mod Kept
 pub mod Walks

@@ -24,11 +24,11 @@ use Rattle.cl_classfile.proofs.Codec.{both}
 
 -- ---- tests
 
-tests : (b : Bool) → (b ≡ true) ⊎ (b ≡ false)
+pub tests : (b : Bool) → (b ≡ true) ⊎ (b ≡ false)
 tests true = inl refl
 tests false = inr refl
 
-differ : (b : Bool) → b ≡ true → b ≡ false → ⊥
+pub differ : (b : Bool) → b ≡ true → b ≡ false → ⊥
 differ true e f = absurd cc
 differ false e f = absurd cc
 
@@ -44,7 +44,7 @@ second : (a b : Bool) → b ≡ true → a || b ≡ true
 second true b e = refl
 second false b e = e
 
-all : (a b : Bool) → a ≡ true → b ≡ true → a && b ≡ true
+pub all : (a b : Bool) → a ≡ true → b ≡ true → a && b ≡ true
 all true b e f = f
 all false b e f = absurd cc
 
@@ -135,35 +135,35 @@ void_calls (Some forms.Void) h = refl
 
 -- ---- texts at an index
 
-abbrev option_traits : Option Entry → Traits
+abbrev pub option_traits : Option Entry → Traits
 option_traits o = unwrap_or (option_map entry_traits o) nothing
 
-traits_are : (pool : List Entry) (i : ℕ) → traits_at (map entry_traits pool) i ≡ option_traits (at pool i)
+pub traits_are : (pool : List Entry) (i : ℕ) → traits_at (map entry_traits pool) i ≡ option_traits (at pool i)
 traits_are pool zero = refl
 traits_are [] (suc i) = refl
 traits_are (e ∷ es) (suc zero) = refl
 traits_are (e ∷ es) (suc (suc i)) = traits_are es (suc i)
 
 -- a trait that is true of some text says what kind of text that is
-record IsTrait (trait : Traits → Bool) (Kind : List ℕ → Type 0) : Type 0 where
-  never : trait nothing ≡ false
-  says : (text : List ℕ) → trait (traits_of text) ≡ true → Kind text
-  told : (text : List ℕ) → Kind text → trait (traits_of text) ≡ true
+pub record IsTrait (trait : Traits → Bool) (Kind : List ℕ → Type 0) : Type 0 where
+  pub never : trait nothing ≡ false
+  pub says : (text : List ℕ) → trait (traits_of text) ≡ true → Kind text
+  pub told : (text : List ℕ) → Kind text → trait (traits_of text) ≡ true
 
 text_by : (trait : Traits → Bool) (Kind : List ℕ → Type 0) → IsTrait trait Kind → (pool : List Entry) (i : ℕ) (o : Option Entry) → at pool i ≡ o → trait (option_traits o) ≡ true → HasText pool i Kind
 text_by trait Kind t pool i (Some (Utf8 text)) e h = record { text = text; is_text = e; kind = t.says text h }
 text_by trait Kind t pool i _ e h = absurd (differ (trait nothing) h t.never)
 
-text_says : (trait : Traits → Bool) (Kind : List ℕ → Type 0) → IsTrait trait Kind → (pool : List Entry) (i : ℕ) → trait (traits_at (map entry_traits pool) i) ≡ true → HasText pool i Kind
+pub text_says : (trait : Traits → Bool) (Kind : List ℕ → Type 0) → IsTrait trait Kind → (pool : List Entry) (i : ℕ) → trait (traits_at (map entry_traits pool) i) ≡ true → HasText pool i Kind
 text_says trait Kind t pool i h = text_by trait Kind t pool i (at pool i) refl (ap trait (sym (traits_are pool i)) ∙ h)
 
-text_told : (trait : Traits → Bool) (Kind : List ℕ → Type 0) → IsTrait trait Kind → (pool : List Entry) (i : ℕ) → HasText pool i Kind → trait (traits_at (map entry_traits pool) i) ≡ true
+pub text_told : (trait : Traits → Bool) (Kind : List ℕ → Type 0) → IsTrait trait Kind → (pool : List Entry) (i : ℕ) → HasText pool i Kind → trait (traits_at (map entry_traits pool) i) ≡ true
 text_told trait Kind t pool i h = ap trait (traits_are pool i) ∙ ap (λ (o : Option Entry). trait (option_traits o)) h.is_text ∙ t.told h.text h.kind
 
 stands : IsTrait (λ t. t.stands) (λ text. Unit {0})
 stands = record { never = refl; says = λ text h. tt; told = λ text h. refl }
 
-field : IsTrait (λ t. is_field t.form) IsField
+pub field : IsTrait (λ t. is_field t.form) IsField
 field = record { never = refl; says = field_says; told = field_is }
 
 call : IsTrait (λ t. is_call t.form) IsCall
@@ -172,10 +172,10 @@ call = record { never = refl; says = call_says; told = call_is }
 void : IsTrait (λ t. is_void t.form) IsVoid
 void = record { never = refl; says = void_says; told = void_is }
 
-unqualified : IsTrait (λ t. t.unqualified) (IsNameOf IsUnqualified)
+pub unqualified : IsTrait (λ t. t.unqualified) (IsNameOf IsUnqualified)
 unqualified = record { never = refl; says = unqualified_from_test; told = unqualified_test_of }
 
-method : IsTrait (λ t. t.method) (IsNameOf IsMethod)
+pub method : IsTrait (λ t. t.method) (IsNameOf IsMethod)
 method = record { never = refl; says = method_from_test; told = method_test_of }
 
 type_says : (text : List ℕ) → is_class_name text || is_array (form_of text) ≡ true → NamesType text
@@ -222,7 +222,7 @@ special_begins text h =
           | inr g ↦ absurd (differ (is_special (cond (eqb d 60) names.Angle names.Plain)) k (rw g refl))
         ]
 
-init_says : (text : List ℕ) → is_init (special_of text) ≡ true → text ≡ init
+pub init_says : (text : List ℕ) → is_init (special_of text) ≡ true → text ≡ init
 init_says text h =
     elim (tests (pointwise nat_eq text init)) [
       | inl e ↦ same text init e
@@ -235,13 +235,13 @@ init_says text h =
       ]
     ]
 
-abbrev is_clinit : Special → Bool
+abbrev pub is_clinit : Special → Bool
 is_clinit names.Plain = false
 is_clinit names.Init = false
 is_clinit names.Clinit = true
 is_clinit names.Angle = false
 
-clinit_says : (text : List ℕ) → is_clinit (special_of text) ≡ true → text ≡ clinit
+pub clinit_says : (text : List ℕ) → is_clinit (special_of text) ≡ true → text ≡ clinit
 clinit_says text h =
     elim (tests (pointwise nat_eq text clinit)) [
       | inl e ↦ same text clinit e

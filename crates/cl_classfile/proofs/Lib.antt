@@ -2,6 +2,7 @@ pub mod Loop
 pub mod Entries
 pub mod Codec
 pub mod Judging
+pub mod MemberRows
 pub mod Classes
 pub mod References
 pub mod Tables
@@ -10,4 +11,3 @@ pub mod Spelled
 pub mod Header
 pub mod Quiet
 pub mod Exact
-pub mod Whole

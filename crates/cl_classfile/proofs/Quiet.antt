@@ -1,6 +1,7 @@
 -- Behind the header no fault of the header is found.
-use Rattle.std.proofs.Common.{◌≡◌, ℕ, zero, suc, ◌+◌, ◌-◌, Bool, true, false, cond, eqb, leb, ltb, ◌&&◌, List, [], ◌∷◌, length, map, Result, Ok, Err, refl, sym, ap, ◌∙◌}
+use Rattle.std.proofs.Common.{◌≡◌, ℕ, zero, suc, ◌+◌, ◌-◌, Bool, true, false, cond, eqb, leb, ltb, ◌&&◌, List, [], ◌∷◌, ◌++◌, length, map, Result, Ok, Err, refl, sym, ap, ◌∙◌}
 use Rattle.std.specs.Int.{Width, w16, w32, w64, byte_len}
+use Rattle.std.specs.List.{list_any}
 use Rattle.cl_classfile.specs.declared.entry.Entry.{Entry}
 use Rattle.cl_classfile.specs.declared.entry.Entry.TheVariants.{Unusable}
 use Rattle.cl_classfile.specs.declared.fault.Fault.{Fault}
@@ -9,8 +10,8 @@ use Rattle.cl_classfile.specs.Flags.{has, interface, is_class_flags}
 use Rattle.cl_classfile.specs.Structure.{Structure, Member, Attribute}
 use Rattle.cl_classfile.specs.Files.{class_name}
 use Rattle.cl_classfile.specs.Rows.{entry_traits, keeps_entry}
-use Rattle.cl_classfile.specs.Checking.{◌>>=◌, kept_entry, checked_entries, keeps_names, keeps_interfaces, checked_class, kept_file}
-use Rattle.cl_classfile.specs.Reading.{Reader, number_at, bytes_at, then_at, test_at, map_at, sized_at, many_at, each_at, counted_at, zero_at, none_at, header_at, text_at, byte_at, signed_at, two_at, handle_at, wide_at, value_at, index_at, pair_at, other_at, entry_at, slot_at, next_place, entries_at, pool_at, class_at, interfaces_at, attribute_at, members_at, attributes_at, tables_at, Parts, parts_at, structure_of, structure_at, whole_of, read_of}
+use Rattle.cl_classfile.specs.Checking.{◌>>=◌, kept_entry, checked_entries, keeps_names, keeps_interfaces, checked_class, keeps_field, keeps_method, same_member, checked_members, checked_tables, kept_file}
+use Rattle.cl_classfile.specs.Reading.{Reader, number_at, bytes_at, then_at, test_at, map_at, sized_at, many_at, each_at, counted_at, header_at, text_at, byte_at, signed_at, two_at, handle_at, wide_at, value_at, index_at, pair_at, other_at, entry_at, slot_at, next_place, entries_at, pool_at, class_at, interfaces_at, attribute_at, attributes_at, member_at, members_at, tables_at, Parts, parts_at, structure_of, structure_at, whole_of, read_of}
 
 -- the header's own faults
 abbrev pub is_header : Fault → Bool
@@ -72,9 +73,6 @@ many step next p (suc n) c bytes = bind (step c bytes) _ (p c bytes) (λ x. bind
 
 counts : {A : Type 0} (r : Reader A) → Quiet r → Quiet (counted_at r)
 counts r p bytes = bind (number_at w16 bytes) _ (number w16 bytes) (λ n. many {C = ℕ} (λ i. r) (λ i a. i) (λ i. p) n.0 0 n.1)
-
-none : {A : Type 0} (g : Fault) → is_header g ≡ false → Quiet (none_at {A = A} g)
-none g h = seen (zero_at g) _ (tested (number_at w16) _ g h (number w16))
 
 text : Quiet text_at
 unfolding text_at
@@ -142,9 +140,19 @@ attributes : Quiet attributes_at
 unfolding attributes_at
 attributes = counts attribute_at attribute
 
+member : Quiet member_at
+unfolding member_at
+member =
+    seen (then_at (number_at w16) (λ flags. then_at (number_at w16) (λ name. then_at (number_at w16) (λ descriptor. attributes_at)))) _
+    (also (number_at w16) _ (number w16) (λ flags. also (number_at w16) _ (number w16) (λ name. also (number_at w16) _ (number w16) (λ descriptor. attributes))))
+
+members : Quiet members_at
+unfolding members_at
+members = counts member_at member
+
 tables : Quiet tables_at
-unfolding tables_at members_at
-tables = also (none_at BadMember) _ (none BadMember refl) (λ fields. also (none_at BadMember) _ (none BadMember refl) (λ methods. attributes))
+unfolding tables_at
+tables = also members_at _ members (λ fields. also members_at _ members (λ methods. attributes))
 
 interfaces : Quiet interfaces_at
 unfolding interfaces_at
@@ -157,13 +165,28 @@ unfolding checked_entries
 rows entries i [] = ok tt
 rows entries i (e ∷ es) = bind (kept_entry entries i e) _ (choice (keeps_entry (map entry_traits entries) entries e) (Ok e) (Err (BadPool i)) (ok e) (err (BadPool i) refl)) (λ x. rows entries (i + 1) es)
 
+class_tables : (f : Structure) → IsQuiet (checked_class f.pool f.flags f.this_class f.super_class f.interfaces)
+class_tables f =
+    choice (is_class_flags f.flags) _ (Err BadFlags)
+    (choice (keeps_names f.pool (has f.flags interface) f.super_class (class_name f.pool f.this_class) && keeps_interfaces f.pool f.interfaces) (Ok tt) (Err BadSupertype) (ok tt) (err BadSupertype refl)) (err BadFlags refl)
+
+each_member : (keeps : Member → Bool) (entries : List Entry) (before ms : List Member) → IsQuiet (checked_members keeps entries before ms)
+unfolding checked_members
+each_member keeps entries before [] = ok tt
+each_member keeps entries before (m ∷ ms) =
+    choice (keeps m) _ (Err BadMember)
+    (choice (list_any (λ e. same_member entries e m) before) (Err Duplicate) _ (err Duplicate refl) (each_member keeps entries (before ++ m ∷ []) ms)) (err BadMember refl)
+
+tables_checked : (f : Structure) → IsQuiet (checked_tables (map entry_traits f.pool) f.pool f)
+unfolding checked_tables
+tables_checked f =
+    bind (checked_class f.pool f.flags f.this_class f.super_class f.interfaces) _ (class_tables f) (λ class.
+    bind (checked_members (keeps_field (map entry_traits f.pool) (has f.flags interface)) f.pool [] f.fields) _ (each_member (keeps_field (map entry_traits f.pool) (has f.flags interface)) f.pool [] f.fields)
+    (λ fields. each_member (keeps_method (map entry_traits f.pool) (has f.flags interface)) f.pool [] f.methods))
+
 file : (f : Structure) → IsQuiet (kept_file f)
 unfolding kept_file
-file f =
-    bind (checked_entries f.pool 1 f.pool) _ (rows f.pool 1 f.pool) (λ entries. bind (checked_class f.pool f.flags f.this_class f.super_class f.interfaces) _
-    (choice (is_class_flags f.flags) _ (Err BadFlags)
-    (choice (keeps_names f.pool (has f.flags interface) f.super_class (class_name f.pool f.this_class) && keeps_interfaces f.pool f.interfaces) (Ok tt) (Err BadSupertype) (ok tt) (err BadSupertype refl)) (err BadFlags refl))
-    (λ class. ok f))
+file f = bind (checked_entries f.pool 1 f.pool) _ (rows f.pool 1 f.pool) (λ entries. bind (checked_tables (map entry_traits f.pool) f.pool f) _ (tables_checked f) (λ tables. ok f))
 
 -- ---- the whole
 

@@ -5,21 +5,14 @@ use Rattle.std.specs.List.{flat_map}
 use Rattle.std.proofs.lemmas.Bool.{eqb-true, leb-true}
 use Rattle.std.proofs.lemmas.Bool.Decides.{nat_tests}
 use Rattle.cl_classfile.specs.declared.fault.Fault.{Fault}
-use Rattle.cl_classfile.specs.declared.fault.Fault.TheVariants.{BadMagic, Version, BadMember}
-use Rattle.cl_classfile.specs.Structure.{Structure, Member, Attribute, counted, pool_spelling, member_spelling, attribute_spelling, magic, version, spelling, AllFit, PoolFits, AttributeFits, Fits}
+use Rattle.cl_classfile.specs.declared.fault.Fault.TheVariants.{BadMagic, Version}
+use Rattle.cl_classfile.specs.Structure.{Structure, Member, Attribute, counted, pool_spelling, member_spelling, attribute_spelling, magic, version, spelling, AllFit, PoolFits, AttributeFits, MemberFits, Fits}
 use Rattle.cl_classfile.specs.Checking.{◌>>=◌}
-use Rattle.cl_classfile.specs.Reading.{Reader, number_at, then_at, test_at, map_at, sized_at, each_at, counted_at, zero_at, none_at, magic_at, version_at, header_at, pool_at, class_at, interfaces_at, attribute_at, members_at, attributes_at, tables_at, Parts, parts_at, structure_of, structure_at}
+use Rattle.cl_classfile.specs.Reading.{Reader, number_at, then_at, test_at, map_at, sized_at, each_at, counted_at, magic_at, version_at, header_at, pool_at, class_at, interfaces_at, attribute_at, attributes_at, member_at, members_at, tables_at, Parts, parts_at, structure_of, structure_at}
 use Rattle.cl_classfile.proofs.Codec.{both, IsBytes, bind_ok, ok_is, Takes, Takes-then, IsCodec, number16, number32, also, sized, tested, mapped, many, EachFits, each_of_all, all_of_each}
 use Rattle.cl_classfile.proofs.Pooled.{pool}
 
 -- ---- the parts of the file
-
-none : {A : Type 0} (fault : Fault) (spell : A → List ℕ) → IsCodec (none_at {A = A} fault) (counted spell) (λ xs. xs ≡ [])
-none {A} fault spell =
-    mapped (zero_at fault) (to_be_bytes w16) (λ n. (n < 2 ^ 16) × (eqb n 0 ≡ true)) (λ n. []) (λ xs. 0) (counted spell) (λ xs. xs ≡ [])
-    (tested (number_at w16) (to_be_bytes w16) (λ n. n < 2 ^ 16) (λ n. eqb n 0) fault number16)
-    (λ n h. (ap (to_be_bytes w16) (eqb-true n 0 h.1), refl))
-    (λ xs h. ((omega arith, refl), ap (λ (ys : List A). counted spell ys) (sym h), sym h))
 
 abbrev pub header_spelling : ℕ × (ℕ × ℕ) → List ℕ
 header_spelling p = to_be_bytes w32 p.0 ++ (to_be_bytes w16 p.1.0 ++ to_be_bytes w16 p.1.1)
@@ -35,30 +28,30 @@ header =
     (tested (then_at (number_at w16) (λ minor. number_at w16)) _ _ (λ v. eqb v.0 0 && eqb v.1 52) Version (also (number_at w16) (number_at w16) _ _ _ _ number16 number16))
 
 -- the header that is read has one spelling
-pub header_says : (p : ℕ × (ℕ × ℕ)) → HeaderFits p → header_spelling p ≡ magic ++ version
+header_says : (p : ℕ × (ℕ × ℕ)) → HeaderFits p → header_spelling p ≡ magic ++ version
 header_says p h =
     let v = both (eqb p.1.0 0) (eqb p.1.1 52) h.1.1 in
     ap (λ (n : ℕ). to_be_bytes w32 n ++ (to_be_bytes w16 p.1.0 ++ to_be_bytes w16 p.1.1)) (eqb-true p.0 0xcafebabe h.0.1)
     ∙ ap (λ (n : ℕ). magic ++ (to_be_bytes w16 n ++ to_be_bytes w16 p.1.1)) (eqb-true p.1.0 0 v.0)
     ∙ ap (λ (n : ℕ). magic ++ (to_be_bytes w16 0 ++ to_be_bytes w16 n)) (eqb-true p.1.1 52 v.1)
 
-pub header_fits : HeaderFits (0xcafebabe, (0, 52))
+header_fits : HeaderFits (0xcafebabe, (0, 52))
 header_fits = ((omega arith, refl), ((omega arith, omega arith), refl))
 
-abbrev pub class_spelling : ℕ × (ℕ × ℕ) → List ℕ
+abbrev class_spelling : ℕ × (ℕ × ℕ) → List ℕ
 class_spelling p = to_be_bytes w16 p.0 ++ (to_be_bytes w16 p.1.0 ++ to_be_bytes w16 p.1.1)
 
-abbrev pub ClassFits : ℕ × (ℕ × ℕ) → Type 0
+abbrev ClassFits : ℕ × (ℕ × ℕ) → Type 0
 ClassFits p = (p.0 < 2 ^ 16) × ((p.1.0 < 2 ^ 16) × (p.1.1 < 2 ^ 16))
 
-pub class : IsCodec class_at class_spelling ClassFits
+class : IsCodec class_at class_spelling ClassFits
 unfolding class_at
 class = also (number_at w16) (then_at (number_at w16) (λ this. number_at w16)) _ _ _ _ number16 (also (number_at w16) (number_at w16) _ _ _ _ number16 number16)
 
 each : {A : Type 0} (r : Reader A) (s : A → List ℕ) (F : A → Type 0) → IsCodec r s F → (n : ℕ) → IsCodec (each_at r n) (flat_map s) (λ xs. (length xs ≡ n) × EachFits {C = ℕ} (λ i. F) (λ i a. i) 0 xs)
 each r s F c n = many {C = ℕ} (λ i. r) (λ i a. i) s (λ i. F) (λ i. c) n 0
 
-pub counts : {A : Type 0} (r : Reader A) (s : A → List ℕ) (F : A → Type 0) → IsCodec r s F → IsCodec (counted_at r) (counted s) (AllFit F)
+counts : {A : Type 0} (r : Reader A) (s : A → List ℕ) (F : A → Type 0) → IsCodec r s F → IsCodec (counted_at r) (counted s) (AllFit F)
 counts r s F c = record {
   takes = λ bytes x fits e.
       let a = bind_ok (number_at w16 bytes) (λ n. each_at r n.0 n.1) x e in
@@ -75,10 +68,6 @@ interfaces : IsCodec interfaces_at (counted (to_be_bytes w16)) (AllFit (λ i. i 
 unfolding interfaces_at
 interfaces = counts (number_at w16) (to_be_bytes w16) (λ i. i < 2 ^ 16) number16
 
-members : IsCodec members_at (counted member_spelling) (λ ms. ms ≡ [])
-unfolding members_at
-members = none BadMember member_spelling
-
 attribute : IsCodec attribute_at attribute_spelling AttributeFits
 unfolding attribute_at
 attribute =
@@ -87,19 +76,30 @@ attribute =
     (λ p h. (refl, record { name_index = h.0; bytes = h.1 }))
     (λ a h. ((h.name_index, h.bytes), refl, refl))
 
-pub attributes : IsCodec attributes_at (counted attribute_spelling) (AllFit AttributeFits)
+attributes : IsCodec attributes_at (counted attribute_spelling) (AllFit AttributeFits)
 unfolding attributes_at
 attributes = counts attribute_at attribute_spelling AttributeFits attribute
 
-tables : IsCodec tables_at (λ p. counted member_spelling p.0 ++ (counted member_spelling p.1.0 ++ counted attribute_spelling p.1.1)) (λ p. (p.0 ≡ []) × ((p.1.0 ≡ []) × AllFit AttributeFits p.1.1))
+member : IsCodec member_at member_spelling MemberFits
+unfolding member_at
+member =
+    mapped _ _ _ (λ p. record { flags = p.0; name_index = p.1.0; descriptor_index = p.1.1.0; attributes = p.1.1.1 }) (λ m. (m.flags, (m.name_index, (m.descriptor_index, m.attributes)))) member_spelling MemberFits
+    (also (number_at w16) _ _ _ _ _ number16 (also (number_at w16) _ _ _ _ _ number16 (also (number_at w16) attributes_at _ _ _ _ number16 attributes)))
+    (λ p h. (refl, record { flags = h.0; name_index = h.1.0; descriptor_index = h.1.1.0; attributes = h.1.1.1 }))
+    (λ m h. ((h.flags, (h.name_index, (h.descriptor_index, h.attributes))), refl, refl))
+
+members : IsCodec members_at (counted member_spelling) (AllFit MemberFits)
+unfolding members_at
+members = counts member_at member_spelling MemberFits member
+
+tables : IsCodec tables_at (λ p. counted member_spelling p.0 ++ (counted member_spelling p.1.0 ++ counted attribute_spelling p.1.1)) (λ p. AllFit MemberFits p.0 × (AllFit MemberFits p.1.0 × AllFit AttributeFits p.1.1))
 unfolding tables_at
 tables = also members_at (then_at members_at (λ methods. attributes_at)) _ _ _ _ members (also members_at attributes_at _ _ _ _ members attributes)
 
--- the parts, where those behind the class are so
-abbrev pub PartsFit : (List ℕ → Type 0) → (List Member → Type 0) → (List Attribute → Type 0) → Parts → Type 0
-PartsFit I M A p = HeaderFits p.0 × (PoolFits p.1.0 × (ClassFits p.1.1.0 × (I p.1.1.1.0 × (M p.1.1.1.1.0 × (M p.1.1.1.1.1.0 × A p.1.1.1.1.1.1)))))
+abbrev PartsFit : Parts → Type 0
+PartsFit p = HeaderFits p.0 × (PoolFits p.1.0 × (ClassFits p.1.1.0 × (AllFit (λ i. i < 2 ^ 16) p.1.1.1.0 × (AllFit MemberFits p.1.1.1.1.0 × (AllFit MemberFits p.1.1.1.1.1.0 × AllFit AttributeFits p.1.1.1.1.1.1)))))
 
-abbrev pub parts_spelling : Parts → List ℕ
+abbrev parts_spelling : Parts → List ℕ
 parts_spelling p =
     header_spelling p.0
     ++ (pool_spelling p.1.0
@@ -107,49 +107,36 @@ parts_spelling p =
     ++ (counted (to_be_bytes w16) p.1.1.1.0
     ++ (counted member_spelling p.1.1.1.1.0 ++ (counted member_spelling p.1.1.1.1.1.0 ++ counted attribute_spelling p.1.1.1.1.1.1)))))
 
-parts : IsCodec parts_at parts_spelling (PartsFit (AllFit (λ i. i < 2 ^ 16)) (λ xs. xs ≡ []) (AllFit AttributeFits))
+parts : IsCodec parts_at parts_spelling PartsFit
 unfolding parts_at
 parts = also header_at _ _ _ _ _ header (also pool_at _ _ _ _ _ pool (also class_at _ _ _ _ _ class (also interfaces_at tables_at _ _ _ _ interfaces tables)))
 
--- what the reader takes so far
-pub record IsRead (f : Structure) : Type 0 where
-  pub fits : Fits f
-  pub fields : f.fields ≡ []
-  pub methods : f.methods ≡ []
-
-nothing_fits : {A : Type 0} (F : A → Type 0) (xs : List A) → xs ≡ [] → AllFit F xs
-nothing_fits {A} F xs e = subst (λ (ys : List A). AllFit F ys) (sym e) (omega arith, tt)
-
-abbrev pub parts_of : Structure → Parts
+abbrev parts_of : Structure → Parts
 parts_of f = ((0xcafebabe, (0, 52)), (f.pool, ((f.flags, (f.this_class, f.super_class)), (f.interfaces, (f.fields, (f.methods, f.attributes))))))
 
 joined : (header pool flags this super rest : List ℕ) → header ≡ magic ++ version → header ++ (pool ++ ((flags ++ (this ++ super)) ++ rest)) ≡ magic ++ (version ++ (pool ++ (flags ++ (this ++ (super ++ rest)))))
 joined header pool flags this super rest e = rw e (simp append_assoc)
 
 -- the parts' spelling is the file's
-pub there : (p : Parts) → HeaderFits p.0 → parts_spelling p ≡ spelling (structure_of p)
+there : (p : Parts) → HeaderFits p.0 → parts_spelling p ≡ spelling (structure_of p)
 there p h =
     joined (header_spelling p.0) (pool_spelling p.1.0) (to_be_bytes w16 p.1.1.0.0) (to_be_bytes w16 p.1.1.0.1.0) (to_be_bytes w16 p.1.1.0.1.1)
     (counted (to_be_bytes w16) p.1.1.1.0 ++ (counted member_spelling p.1.1.1.1.0 ++ (counted member_spelling p.1.1.1.1.1.0 ++ counted attribute_spelling p.1.1.1.1.1.1))) (header_says p.0 h)
 
-says : (p : Parts) → PartsFit (AllFit (λ i. i < 2 ^ 16)) (λ xs. xs ≡ []) (AllFit AttributeFits) p → IsRead (structure_of p)
+says : (p : Parts) → PartsFit p → Fits (structure_of p)
 says p h = record {
-  fits = record {
-    pool = h.1.0;
-    flags = h.1.1.0.0;
-    this_class = h.1.1.0.1.0;
-    super_class = h.1.1.0.1.1;
-    interfaces = h.1.1.1.0;
-    fields = nothing_fits _ p.1.1.1.1.0 h.1.1.1.1.0;
-    methods = nothing_fits _ p.1.1.1.1.1.0 h.1.1.1.1.1.0;
-    attributes = h.1.1.1.1.1.1;
-  };
+  pool = h.1.0;
+  flags = h.1.1.0.0;
+  this_class = h.1.1.0.1.0;
+  super_class = h.1.1.0.1.1;
+  interfaces = h.1.1.1.0;
   fields = h.1.1.1.1.0;
   methods = h.1.1.1.1.1.0;
+  attributes = h.1.1.1.1.1.1;
 }
 
-pub structure : IsCodec structure_at spelling IsRead
+pub structure : IsCodec structure_at spelling Fits
 unfolding structure_at
 structure =
-    mapped parts_at parts_spelling (PartsFit (AllFit (λ i. i < 2 ^ 16)) (λ xs. xs ≡ []) (AllFit AttributeFits)) structure_of parts_of spelling IsRead parts (λ p h. (there p h.0, says p h))
-    (λ f h. ((header_fits, (h.fits.pool, ((h.fits.flags, (h.fits.this_class, h.fits.super_class)), (h.fits.interfaces, (h.fields, (h.methods, h.fits.attributes)))))), there (parts_of f) header_fits, refl))
+    mapped parts_at parts_spelling PartsFit structure_of parts_of spelling Fits parts (λ p h. (there p h.0, says p h))
+    (λ f h. ((header_fits, (h.pool, ((h.flags, (h.this_class, h.super_class)), (h.interfaces, (h.fields, (h.methods, h.attributes)))))), there (parts_of f) header_fits, refl))

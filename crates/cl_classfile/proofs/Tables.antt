@@ -13,9 +13,10 @@ use Rattle.cl_classfile.specs.Pool.{EntryFits, KeepsEntry}
 use Rattle.cl_classfile.specs.Structure.{Structure, Fits, object, NamesClass, KeepsSuper, KeepsInterface, Keeps}
 use Rattle.cl_classfile.specs.Files.{class_name}
 use Rattle.cl_classfile.specs.Rows.{entry_traits, keeps_entry}
-use Rattle.cl_classfile.specs.Checking.{◌>>=◌, kept_entry, checked_entries, may_stand_above, keeps_super, keeps_names, keeps_interfaces, checked_class, kept_file}
+use Rattle.cl_classfile.specs.Checking.{◌>>=◌, kept_entry, checked_entries, may_stand_above, keeps_super, keeps_names, keeps_interfaces, checked_class, keeps_field, keeps_method, checked_members, checked_tables, kept_file}
 use Rattle.cl_classfile.proofs.Codec.{bind_ok, ok_is, both}
 use Rattle.cl_classfile.proofs.Judging.{keeps_entry_says, keeps_entry_told}
+use Rattle.cl_classfile.proofs.MemberRows.{fields_say, fields_told, methods_say, methods_told}
 use Rattle.cl_classfile.proofs.Classes.{Rows, class_says, class_named}
 
 -- ---- all of the entries
@@ -112,38 +113,59 @@ checks_say false kept u h = absurd cc
 abbrev class_checked : Structure → Result (Unit {0}) Fault
 class_checked f = checked_class f.pool f.flags f.this_class f.super_class f.interfaces
 
+abbrev fields_checked : Structure → Result (Unit {0}) Fault
+fields_checked f = checked_members (keeps_field (map entry_traits f.pool) (has f.flags interface)) f.pool [] f.fields
+
+abbrev methods_checked : Structure → Result (Unit {0}) Fault
+methods_checked f = checked_members (keeps_method (map entry_traits f.pool) (has f.flags interface)) f.pool [] f.methods
+
 -- what a file is whose tests were passed
-pub tables_say : (f : Structure) (u v : Unit {0}) → checked_entries f.pool 1 f.pool ≡ Ok u → class_checked f ≡ Ok v → Keeps f
-tables_say f u v rows class =
+keeps : (f : Structure) (u c d e : Unit {0}) → checked_entries f.pool 1 f.pool ≡ Ok u → class_checked f ≡ Ok c → fields_checked f ≡ Ok d → methods_checked f ≡ Ok e → Keeps f
+keeps f u c d e rows class fields methods =
     let of_interface = has f.flags interface in
     let entries = rows_say f.pool 1 f.pool u rows in
     let names = keeps_names f.pool of_interface f.super_class (class_name f.pool f.this_class) in
-    let c = checks_say (is_class_flags f.flags) (names && keeps_interfaces f.pool f.interfaces) v class in
-    let k = both names (keeps_interfaces f.pool f.interfaces) c.1 in
+    let a = checks_say (is_class_flags f.flags) (names && keeps_interfaces f.pool f.interfaces) c class in
+    let k = both names (keeps_interfaces f.pool f.interfaces) a.1 in
     let n = names_say f.pool entries of_interface f.this_class f.super_class (class_name f.pool f.this_class) refl k.0 in
+    let each_field = fields_say f.pool of_interface f.fields d fields in
+    let each_method = methods_say f.pool of_interface f.methods e methods in
     record {
       pool = entries;
-      flags = c.0;
+      flags = a.0;
       name = n.name;
       this_class = n.this_class;
       super_class = n.super_class;
       interfaces = interfaces_say f.pool entries f.interfaces k.1;
+      fields = record { each = each_field.0; new = each_field.1 };
+      methods = record { each = each_method.0; new = each_method.1 };
     }
+
+pub tables_say : (f : Structure) (u v : Unit {0}) → checked_entries f.pool 1 f.pool ≡ Ok u → checked_tables (map entry_traits f.pool) f.pool f ≡ Ok v → Keeps f
+unfolding checked_tables
+tables_say f u v rows tables =
+    let b = bind_ok (class_checked f) (λ class. fields_checked f >>= λ fields. methods_checked f) v tables in
+    let d = bind_ok (fields_checked f) (λ fields. methods_checked f) v b.2 in
+    keeps f u b.0 d.0 v rows b.1 d.1 d.2
 
 -- a file that passes the tests is answered as it is
 pub file_says : (f g : Structure) → kept_file f ≡ Ok g → (f ≡ g) × Keeps f
 unfolding kept_file
 file_says f g h =
-    let a = bind_ok (checked_entries f.pool 1 f.pool) (λ entries. class_checked f >>= λ class. Ok f) g h in
-    let b = bind_ok (class_checked f) (λ class. Ok f) g a.2 in
+    let a = bind_ok (checked_entries f.pool 1 f.pool) (λ entries. checked_tables (map entry_traits f.pool) f.pool f >>= λ tables. Ok f) g h in
+    let b = bind_ok (checked_tables (map entry_traits f.pool) f.pool f) (λ tables. Ok f) g a.2 in
     (ok_is f g b.2, tables_say f a.0 b.0 a.1 b.1)
 
 pub file_told : (f : Structure) → Fits f → Keeps f → kept_file f ≡ Ok f
-unfolding kept_file
+unfolding kept_file checked_tables
 file_told f fits kept =
+    let of_interface = has f.flags interface in
     let named : class_name f.pool f.this_class ≡ Some kept.name = class_named f.pool f.this_class kept.name kept.this_class in
-    let super = super_told f.pool (has f.flags interface) kept.name f.super_class kept.super_class in
-    rw (rows_told f.pool 1 f.pool fits.pool.1 kept.pool, kept.flags, named, super, interfaces_told f.pool f.interfaces kept.interfaces) refl
+    let super = super_told f.pool of_interface kept.name f.super_class kept.super_class in
+    let class : class_checked f ≡ Ok tt = rw (kept.flags, named, super, interfaces_told f.pool f.interfaces kept.interfaces) refl in
+    let fields : fields_checked f ≡ Ok tt = fields_told f.pool of_interface f.fields kept.fields.each kept.fields.new in
+    let methods : methods_checked f ≡ Ok tt = methods_told f.pool of_interface f.methods kept.methods.each kept.methods.new in
+    rw (rows_told f.pool 1 f.pool fits.pool.1 kept.pool, class, fields, methods) refl
 
 -- what a class of the pool is called is a class's name
 pub named_well : (f : Structure) → Keeps f → (i : ℕ) (name : List ℕ) → class_name f.pool i ≡ Some name → IsNameOf IsClass name

@@ -11,6 +11,7 @@ use Rattle.cl_descriptors.specs.Reading.{whole_field, whole_method}
 use Rattle.cl_classfile.specs.declared.entry.Entry.TheVariants.{Utf8, Class, Fieldref, Methodref, InterfaceMethodref, NameAndType}
 pub use Rattle.cl_classfile.specs.Flags.{has}
 use Rattle.cl_classfile.specs.Structure.{Structure, at}
+use Rattle.cl_classfile.specs.Structure as structure
 
 -- the bytes of the name of a class or a member (4.2)
 abbrev pub Name : Type 0
@@ -124,12 +125,18 @@ cited pool (Methodref class pair) = option_map (λ s. CitesMethod s) (symbol_at 
 cited pool (InterfaceMethodref class pair) = option_map (λ s. CitesInterfaceMethod s) (symbol_at pool class pair)
 cited pool _ = None
 
--- the key of a field, and of a method (4.3.2, 4.3.3)
+-- the key of a field, and of a method, of this name and descriptor (4.3.2, 4.3.3)
+abbrev pub field_of : Name → Name → Option Key
+field_of name descriptor = option_map (λ t. record { name = name; descriptor = descriptors.Field t }) (whole_field descriptor)
+
+abbrev pub method_of : Name → Name → Option Key
+method_of name descriptor = option_map (λ m. record { name = name; descriptor = descriptors.Method m }) (whole_method descriptor)
+
 abbrev pub field_key : Symbol → Option Key
-field_key s = option_map (λ t. record { name = s.name; descriptor = descriptors.Field t }) (whole_field s.descriptor)
+field_key s = field_of s.name s.descriptor
 
 abbrev pub method_key : Symbol → Option Key
-method_key s = option_map (λ m. record { name = s.name; descriptor = descriptors.Method m }) (whole_method s.descriptor)
+method_key s = method_of s.name s.descriptor
 
 abbrev pub typed_by : (FieldType → Key → Reference) → Option FieldType → Option Key → Option Reference
 typed_by make (Some target) (Some key) = Some (make target key)
@@ -150,15 +157,23 @@ abbrev pub references_from : List Entry → ℕ → List Entry → List (ℕ × 
 references_from pool i [] = []
 references_from pool i (e ∷ es) = option_to_list (option_map (λ r. (i, r)) (reference_of pool e)) ++ references_from pool (i + 1) es
 
--- what linking looks at in a structure with no fields and methods
+-- what linking looks at of a field or a method (4.5, 4.6)
+abbrev pub keyed : (Name → Name → Option Key) → ℕ → Option Name → Option Name → Option Member
+keyed key flags (Some name) (Some descriptor) = option_map (λ k. record { flags = flags; key = k }) (key name descriptor)
+keyed key flags _ _ = None
+
+abbrev pub declared_by : (Name → Name → Option Key) → List Entry → structure.Member → Option Member
+declared_by key pool m = keyed key m.flags (text_at pool m.name_index) (text_at pool m.descriptor_index)
+
+-- what linking looks at in a structure
 abbrev pub file_of : Structure → File
 file_of f = record {
   flags = f.flags;
   name = unwrap_or (class_name f.pool f.this_class) [];
   super_name = class_name f.pool f.super_class;
   interfaces = filter_map (class_name f.pool) f.interfaces;
-  fields = [];
-  methods = [];
+  fields = filter_map (declared_by field_of f.pool) f.fields;
+  methods = filter_map (declared_by method_of f.pool) f.methods;
   references = references_from f.pool 1 f.pool;
 }
 

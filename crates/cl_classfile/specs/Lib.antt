@@ -1,5 +1,6 @@
 pub mod Flags
 pub mod Pool
+pub mod Members
 pub mod Structure
 pub mod Files
 pub mod Rows

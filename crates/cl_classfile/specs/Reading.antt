@@ -4,7 +4,7 @@ use Rattle.std.specs.Int.{Width, w16, w32, w64, byte_len, from_be_bytes, cast_si
 use Rattle.cl_classfile.specs.declared.entry.Entry.{Entry}
 use Rattle.cl_classfile.specs.declared.entry.Entry.TheVariants.{Utf8, Integer, Float, Long, Double, Unusable, Class, String, Fieldref, Methodref, InterfaceMethodref, NameAndType, MethodHandle, MethodType, InvokeDynamic}
 use Rattle.cl_classfile.specs.declared.fault.Fault.{Fault}
-use Rattle.cl_classfile.specs.declared.fault.Fault.TheVariants.{BadMagic, Version, Truncated, Trailing, BadPool, BadMember}
+use Rattle.cl_classfile.specs.declared.fault.Fault.TheVariants.{BadMagic, Version, Truncated, Trailing, BadPool}
 use Rattle.cl_classfile.specs.Pool.{is_wide}
 use Rattle.cl_classfile.specs.Structure.{Structure, Member, Attribute}
 use Rattle.cl_classfile.specs.Checking.{◌>>=◌, kept_file}
@@ -50,13 +50,6 @@ each_at r n = many_at {C = ℕ} (λ i. r) (λ i a. i) n 0
 -- a count, and that many of a structure
 abbrev pub counted_at : {A : Type 0} → Reader A → Reader (List A)
 counted_at r bytes = number_at w16 bytes >>= λ n. each_at r n.0 n.1
-
--- a count that has to be 0, so that there are none
-abbrev pub zero_at : Fault → Reader ℕ
-zero_at fault = test_at (number_at w16) (λ n. n == 0) fault
-
-abbrev pub none_at : {A : Type 0} → Fault → Reader (List A)
-none_at fault = map_at (zero_at fault) (λ n. [])
 
 -- ---- the structures of a class file (JVMS SE 8, 4.1, 4.4)
 
@@ -174,11 +167,17 @@ interfaces_at = counted_at (number_at w16)
 unfoldable pub attribute_at : Reader Attribute
 attribute_at = map_at (then_at (number_at w16) (λ name. sized_at w32)) (λ p. record { name_index = p.0; bytes = p.1 })
 
-unfoldable pub members_at : Reader (List Member)
-members_at = none_at BadMember
-
 unfoldable pub attributes_at : Reader (List Attribute)
 attributes_at = counted_at attribute_at
+
+-- a field or a method (JVMS SE 8, 4.5, 4.6)
+unfoldable pub member_at : Reader Member
+member_at =
+    map_at (then_at (number_at w16) (λ flags. then_at (number_at w16) (λ name. then_at (number_at w16) (λ descriptor. attributes_at))))
+    (λ p. record { flags = p.0; name_index = p.1.0; descriptor_index = p.1.1.0; attributes = p.1.1.1 })
+
+unfoldable pub members_at : Reader (List Member)
+members_at = counted_at member_at
 
 -- the fields, the methods and the class's attributes
 unfoldable pub tables_at : Reader (List Member × (List Member × List Attribute))

@@ -3,7 +3,7 @@ use Rattle.std.specs.Prelude.{ℕ, Bool, true, false, not, ◌&&◌, ◌||◌, �
 use Rattle.std.specs.Cmp.Lexicographic.{pointwise}
 use Rattle.cl_names.specs.Text.{is_text}
 use Rattle.cl_names.specs.Kind.{is_class_name, is_unqualified_name, is_method_name}
-use Rattle.cl_descriptors.specs.Reading.{form_of}
+use Rattle.cl_descriptors.specs.Reading.{form_of, units_of}
 use Rattle.cl_descriptors.specs.declared.types.Form.{Form}
 use Rattle.cl_descriptors.specs.declared.types.Form.TheVariants as forms
 use Rattle.cl_classfile.specs.declared.entry.Entry.{Entry}
@@ -66,11 +66,12 @@ traits_of text = record {
   method = is_method_name text;
   special = special_of text;
   form = form_of text;
+  units = units_of text;
 }
 
 -- of what is no text nothing is true
 abbrev pub nothing : Traits
-nothing = record { stands = false; class = false; unqualified = false; method = false; special = names.Plain; form = None }
+nothing = record { stands = false; class = false; unqualified = false; method = false; special = names.Plain; form = None; units = None }
 
 abbrev pub entry_traits : Entry → Traits
 entry_traits (Utf8 text) = traits_of text

@@ -8,20 +8,10 @@ use Rattle.cl_classfile.specs.declared.entry.Entry.TheVariants.{Class}
 use Rattle.cl_classfile.specs.Pool.{entry_spelling, EntryFits, AreSpaced, IsText, KeepsEntry}
 pub use Rattle.cl_classfile.specs.Pool.{at}
 use Rattle.cl_classfile.specs.Flags.{has, interface, is_class_flags}
+pub use Rattle.cl_classfile.specs.Members.{Attribute, Member, counted, attribute_spelling, member_spelling, AllFit, AttributeFits, MemberFits}
+use Rattle.cl_classfile.specs.Members.{KeepsField, KeepsMethod, KeepMembers}
 
 -- ---- the parts
-
--- an attribute: what it is called, and its bytes (4.7)
-pub record Attribute : Type 0 where
-  pub name_index : ℕ
-  pub bytes : List ℕ
-
--- a field or a method (4.5, 4.6)
-pub record Member : Type 0 where
-  pub flags : ℕ
-  pub name_index : ℕ
-  pub descriptor_index : ℕ
-  pub attributes : List Attribute
 
 -- a class file without its magic, its version and its counts, which are what they have to be (4.1)
 pub record Structure : Type 0 where
@@ -36,21 +26,9 @@ pub record Structure : Type 0 where
 
 -- ---- the one spelling of each
 
--- how many there are, and each of them
-abbrev pub counted : {A : Type 0} → (A → List ℕ) → List A → List ℕ
-counted spell xs = to_be_bytes w16 (length xs) ++ flat_map spell xs
-
 -- the pool's count is one more than that of its entries (4.1)
 abbrev pub pool_spelling : List Entry → List ℕ
 pool_spelling pool = to_be_bytes w16 (length pool + 1) ++ flat_map entry_spelling pool
-
-abbrev pub attribute_spelling : Attribute → List ℕ
-attribute_spelling a = to_be_bytes w16 a.name_index ++ (to_be_bytes w32 (length a.bytes) ++ a.bytes)
-
-abbrev pub member_spelling : Member → List ℕ
-member_spelling m =
-    to_be_bytes w16 m.flags
-    ++ (to_be_bytes w16 m.name_index ++ (to_be_bytes w16 m.descriptor_index ++ counted attribute_spelling m.attributes))
 
 -- the magic, and version 52.0 as its minor and its major number
 abbrev pub magic : List ℕ
@@ -71,20 +49,6 @@ spelling f =
     ++ (counted member_spelling f.fields ++ (counted member_spelling f.methods ++ counted attribute_spelling f.attributes))))))))
 
 -- ---- what the widths hold
-
--- as many as a count can say, and each of them fits
-abbrev pub AllFit : {A : Type 0} → (A → Type 0) → List A → Type 0
-AllFit Fits xs = (length xs < 2 ^ 16) × AllByRecursion Fits xs
-
-pub record AttributeFits (a : Attribute) : Type 0 where
-  pub name_index : a.name_index < 2 ^ 16
-  pub bytes : length a.bytes < 2 ^ 32
-
-pub record MemberFits (m : Member) : Type 0 where
-  pub flags : m.flags < 2 ^ 16
-  pub name_index : m.name_index < 2 ^ 16
-  pub descriptor_index : m.descriptor_index < 2 ^ 16
-  pub attributes : AllFit AttributeFits m.attributes
 
 -- the indices that a long or a double takes are there (4.4.5)
 abbrev pub PoolFits : List Entry → Type 0
@@ -123,7 +87,7 @@ KeepsSuper pool of_interface name super =
 abbrev pub KeepsInterface : List Entry → ℕ → Type 0
 KeepsInterface pool i = (name : List ℕ) × NamesClass pool i name
 
--- the file keeps the tables of entries, flags and supertypes
+-- the file keeps the tables of entries, flags, supertypes and members
 pub record Keeps (f : Structure) : Type 0 where
   pub pool : AllByRecursion (KeepsEntry f.pool) f.pool
   pub flags : IsTrue (is_class_flags f.flags)
@@ -131,17 +95,13 @@ pub record Keeps (f : Structure) : Type 0 where
   pub this_class : NamesClass f.pool f.this_class name
   pub super_class : KeepsSuper f.pool (has f.flags interface) name f.super_class
   pub interfaces : AllByRecursion (KeepsInterface f.pool) f.interfaces
-
--- what is read so far: no member
-pub record IsNarrow (f : Structure) : Type 0 where
-  pub fields : f.fields ≡ []
-  pub methods : f.methods ≡ []
+  pub fields : KeepMembers (KeepsField f.pool (has f.flags interface)) f.pool f.fields
+  pub methods : KeepMembers (KeepsMethod f.pool (has f.flags interface)) f.pool f.methods
 
 -- what a class file that was read is
 pub record IsClassFile (f : Structure) : Type 0 where
   pub fits : Fits f
   pub kept : Keeps f
-  pub narrow : IsNarrow f
 
 -- the bytes spell the file, which keeps the tables
 pub record Spells (bytes : List ℕ) (f : Structure) : Type 0 where

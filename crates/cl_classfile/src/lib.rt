@@ -1,6 +1,7 @@
 //! Class files: their parts, and reading them from bytes (JVMS SE 8, chapter 4).
 #![tactic(auto)]
 
+mod attribute;
 mod checking;
 mod entry;
 mod fault;
@@ -8,6 +9,7 @@ mod file;
 mod flags;
 mod laws;
 mod member;
+mod members;
 mod pool;
 mod raw;
 mod reading;
@@ -15,11 +17,12 @@ mod reference;
 mod rows;
 mod traits;
 
+pub use attribute::Attribute;
 pub use entry::Entry;
 pub use fault::{Fault, ReadError};
 pub use file::{ClassFile, read};
 pub use laws::{has_one_spelling, spells_one_file};
-pub use member::Attribute;
+pub use member::Member;
 pub use reference::{Reference, Symbol};
 
 #[cfg(test)]

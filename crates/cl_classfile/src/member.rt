@@ -1,32 +1,50 @@
-//! Attributes (JVMS SE 8, 4.7).
+//! Fields and methods (JVMS SE 8, 4.5, 4.6).
 
-ghost use Rattle.std.specs.Prelude.{◌≡◌, IfOk};
+ghost use Rattle.std.specs.Prelude.{◌≡◌};
 
-use std::alloc::{AllocError, Global};
+use crate::attribute::Attribute;
 use std::marker::Model;
 
-/// An attribute, of which nothing but its length is looked at (JVMS SE 8, 4.7).
+/// A field or a method (JVMS SE 8, 4.5, 4.6).
 #[derive(Debug, Drop)]
-pub struct Attribute {
+pub struct Member {
+    flags: u16,
     name_index: u16,
-    bytes: Vec<u8>,
+    descriptor_index: u16,
+    attributes: Vec<Attribute>,
 }
 
-impl Model for Attribute {
+impl Model for Member {
     ghost use Rattle.cl_classfile.specs.Structure as structure;
 
-    ghost Value = { structure.Attribute };
+    ghost Value = { structure.Member };
 
-    ghost view = { λ a. record { name_index = a.name_index; bytes = a.bytes.items } };
+    ghost view = { λ m. record { flags = m.flags; name_index = m.name_index; descriptor_index = m.descriptor_index; attributes = m.attributes.items } };
 }
 
-impl Attribute {
-    /// The attribute with a copy of these bytes.
-    pub(crate) fn copied(alloc: Global, name_index: u16, bytes: &[u8]) -> Result<Attribute, AllocError>
-        ensures { IfOk result (λ a. a ≡ record { name_index = name_index; bytes = bytes.now }) }
+impl Member {
+    /// The member of these parts.
+    pub(crate) fn new(
+        flags: u16,
+        name_index: u16,
+        descriptor_index: u16,
+        attributes: Vec<Attribute>,
+    ) -> Member
+        ensures { result ≡ record { flags = flags; name_index = name_index; descriptor_index = descriptor_index; attributes = attributes.items } }
     {
-        let bytes = Vec::from_slice(alloc, bytes)?;
-        Ok(Attribute { name_index, bytes })
+        Member {
+            flags,
+            name_index,
+            descriptor_index,
+            attributes,
+        }
+    }
+
+    /// Its flags (tables 4.5-A, 4.6-A).
+    pub fn flags(&self) -> u16
+        ensures { result ≡ self.now.flags }
+    {
+        self.flags
     }
 
     /// The index of its name.
@@ -36,10 +54,17 @@ impl Attribute {
         self.name_index
     }
 
-    /// What it holds.
-    pub fn bytes(&self) -> &[u8]
-        ensures { result.now ≡ self.now.bytes }
+    /// The index of its descriptor.
+    pub fn descriptor_index(&self) -> u16
+        ensures { result ≡ self.now.descriptor_index }
     {
-        self.bytes.as_slice()
+        self.descriptor_index
+    }
+
+    /// Its attributes, in order.
+    pub fn attributes(&self) -> &[Attribute]
+        ensures { result.now ≡ self.now.attributes }
+    {
+        self.attributes.as_slice()
     }
 }

@@ -1,14 +1,15 @@
-ghost use Rattle.std.specs.Prelude.{◌≡◌, ◌+◌, ◌<◌, ◌^◌, List, [], length, IfOk, IsErrOf};
+ghost use Rattle.std.specs.Prelude.{◌≡◌, ◌+◌, ◌<◌, ◌^◌, List, length, IfOk, IsErrOf};
 ghost use Rattle.std.specs.Int.{w16, w32};
 ghost use Rattle.cl_classfile.specs.declared.fault.Fault.{Fault};
 ghost use Rattle.cl_classfile.specs.declared.fault.ReadError.TheVariants as errors;
 ghost use Rattle.cl_classfile.specs.Structure.{Fits};
 ghost use Rattle.cl_classfile.specs.Checking.{Finds, Gives};
-ghost use Rattle.cl_classfile.specs.Reading.{number_at, bytes_at, zero_at, each_at, magic_at, version_at, header_at, class_at, interfaces_at, attribute_at, attributes_at, tables_at, structure_at, whole_of};
+ghost use Rattle.cl_classfile.specs.Reading.{number_at, bytes_at, each_at, magic_at, version_at, header_at, class_at, interfaces_at, attribute_at, attributes_at, member_at, members_at, tables_at, structure_at, whole_of};
 ghost use Rattle.cl_classfile.specs.Raw.{plain_file};
 
+use crate::attribute::Attribute;
 use crate::fault::{Fault, ReadError};
-use crate::member::Attribute;
+use crate::member::Member;
 use crate::pool::pool_at;
 use crate::raw::RawEntry;
 use std::alloc::Global;
@@ -21,6 +22,8 @@ pub struct RawFile<'a> {
     pub this_class: u16,
     pub super_class: u16,
     pub interfaces: Vec<u16>,
+    pub fields: Vec<Member>,
+    pub methods: Vec<Member>,
     pub attributes: Vec<Attribute>,
 }
 
@@ -53,17 +56,6 @@ pub fn bytes_at(count: usize, bytes: &[u8]) -> Result<(&[u8], &[u8]), Fault>
         return Err(Fault::Truncated);
     }
     Ok(bytes.split_at(count))
-}
-
-/// A count that has to be 0.
-fn zero_at(fault: Fault, bytes: &[u8]) -> Result<&[u8], Fault>
-    ensures { Finds (λ x. (0, x.now)) result (zero_at fault bytes.now) }
-{
-    let (count, rest) = u16_at(bytes)?;
-    if count != 0 {
-        return Err(fault);
-    }
-    Ok(rest)
 }
 
 #[tactic(auto, unfolding(crate::specs::Reading::magic_at))]
@@ -165,13 +157,60 @@ fn attributes_at(alloc: Global, bytes: &[u8]) -> Result<(Vec<Attribute>, &[u8]),
     each_attribute(alloc, count, rest)
 }
 
-#[tactic(auto, unfolding(crate::specs::Reading::tables_at, crate::specs::Reading::members_at))]
-fn tables_at(alloc: Global, bytes: &[u8]) -> Result<(Vec<Attribute>, &[u8]), ReadError>
-    ensures { Gives (λ x. (([], ([], x.0.items)), x.1.now)) result (tables_at bytes.now) }
+#[tactic(auto, unfolding(crate::specs::Reading::member_at))]
+fn member_at(alloc: Global, bytes: &[u8]) -> Result<(Member, &[u8]), ReadError>
+    ensures { Gives (λ x. (x.0, x.1.now)) result (member_at bytes.now) }
 {
-    let rest = zero_at(Fault::BadMember, bytes)?;
-    let rest = zero_at(Fault::BadMember, rest)?;
-    attributes_at(alloc, rest)
+    let (flags, rest) = u16_at(bytes)?;
+    let (name_index, rest) = u16_at(rest)?;
+    let (descriptor_index, rest) = u16_at(rest)?;
+    let (attributes, rest) = attributes_at(alloc, rest)?;
+    let member = Member::new(flags, name_index, descriptor_index, attributes);
+    Ok((member, rest))
+}
+
+fn each_member(alloc: Global, count: u16, bytes: &[u8]) -> Result<(Vec<Member>, &[u8]), ReadError>
+    ensures { Gives (λ x. (x.0.items, x.1.now)) result (each_at member_at count bytes.now) }
+{
+    let mut members = Vec::new(alloc);
+    let mut rest = bytes;
+    for i in 0..count {
+        let (member, after) = member_at(alloc, rest)?;
+        members.push(member)?;
+        rest = after;
+    }
+    Ok((members, rest))
+}
+
+#[tactic(auto, unfolding(crate::specs::Reading::members_at))]
+fn members_at(alloc: Global, bytes: &[u8]) -> Result<(Vec<Member>, &[u8]), ReadError>
+    ensures { Gives (λ x. (x.0.items, x.1.now)) result (members_at bytes.now) }
+{
+    let (count, rest) = u16_at(bytes)?;
+    each_member(alloc, count, rest)
+}
+
+/// The fields, the methods and the class's attributes.
+#[derive(Drop)]
+struct Tables {
+    fields: Vec<Member>,
+    methods: Vec<Member>,
+    attributes: Vec<Attribute>,
+}
+
+#[tactic(auto, unfolding(crate::specs::Reading::tables_at))]
+fn tables_at(alloc: Global, bytes: &[u8]) -> Result<(Tables, &[u8]), ReadError>
+    ensures { Gives (λ x. ((x.0.fields.items, (x.0.methods.items, x.0.attributes.items)), x.1.now)) result (tables_at bytes.now) }
+{
+    let (fields, rest) = members_at(alloc, bytes)?;
+    let (methods, rest) = members_at(alloc, rest)?;
+    let (attributes, rest) = attributes_at(alloc, rest)?;
+    let tables = Tables {
+        fields,
+        methods,
+        attributes,
+    };
+    Ok((tables, rest))
 }
 
 #[tactic(auto, unfolding(crate::specs::Reading::structure_at, crate::specs::Reading::parts_at))]
@@ -183,14 +222,16 @@ fn structure_at(alloc: Global, bytes: &[u8]) -> Result<(RawFile<'_>, &[u8]), Rea
     let (pool, rest) = pool_at(alloc, rest)?;
     let ((flags, (this_class, super_class)), rest) = class_at(rest)?;
     let (interfaces, rest) = interfaces_at(alloc, rest)?;
-    let (attributes, rest) = tables_at(alloc, rest)?;
+    let (tables, rest) = tables_at(alloc, rest)?;
     let file = RawFile {
         pool,
         flags,
         this_class,
         super_class,
         interfaces,
-        attributes,
+        fields: tables.fields,
+        methods: tables.methods,
+        attributes: tables.attributes,
     };
     Ok((file, rest))
 }

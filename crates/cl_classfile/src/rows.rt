@@ -3,10 +3,10 @@
 ghost use Rattle.std.specs.Prelude.{◌≡◌, ◌+◌, ◌<◌, ◌^◌, IfOk, length, map, option_map};
 ghost use Rattle.cl_classfile.specs.Pool.{at};
 ghost use Rattle.cl_classfile.specs.Rows.{entry_traits, traits_at, is_class, pair_of, pair_at, may_call, may_pair, is_plain, is_init, may_handle, keeps_entry};
-ghost use Rattle.cl_classfile.specs.Checking.{Gives, checked_entries};
+ghost use Rattle.cl_classfile.specs.Checking.{Finds, checked_entries};
 ghost use Rattle.cl_classfile.specs.Raw.{plain_entry, plain_entries};
 
-use crate::fault::{Fault, ReadError};
+use crate::fault::Fault;
 use crate::raw::RawEntry;
 use crate::traits::{Special, Traits, is_call, is_field, is_void, nothing, traits_of};
 use cl_descriptors::Form;
@@ -23,7 +23,7 @@ fn entry_traits(entry: RawEntry<'_>) -> Traits
 }
 
 /// Of each entry, what is true of it as a text.
-fn all_traits(alloc: Global, pool: &[RawEntry<'_>]) -> Result<Vec<Traits>, AllocError>
+pub fn all_traits(alloc: Global, pool: &[RawEntry<'_>]) -> Result<Vec<Traits>, AllocError>
     ensures { IfOk result (λ v. v.items ≡ map entry_traits (plain_entries pool.now)) }
 {
     let mut traits = Vec::new(alloc);
@@ -44,7 +44,7 @@ fn listed(traits: &[Traits], index: u16) -> Option<&Traits>
 }
 
 /// The traits of the text at an index.
-fn traits_at(traits: &[Traits], index: u16) -> Traits
+pub fn traits_at(traits: &[Traits], index: u16) -> Traits
     ensures { result ≡ traits_at traits.now index }
 {
     match listed(traits, index) {
@@ -186,14 +186,14 @@ fn keeps_entry(traits: &[Traits], pool: &[RawEntry<'_>], entry: RawEntry<'_>) ->
 }
 
 /// Whether each entry keeps its row of the table.
-pub fn check_entries(alloc: Global, pool: &[RawEntry<'_>]) -> Result<(), ReadError>
-    requires { length pool.now + 1 < 2 ^ 16 }
-    ensures { Gives (λ u. u) result (checked_entries (plain_entries pool.now) 1 (plain_entries pool.now)) }
+pub fn check_entries(traits: &[Traits], pool: &[RawEntry<'_>]) -> Result<(), Fault>
+    requires few { length pool.now + 1 < 2 ^ 16 }
+    requires traits { traits.now ≡ map entry_traits (plain_entries pool.now) }
+    ensures { Finds (λ u. u) result (checked_entries (plain_entries pool.now) 1 (plain_entries pool.now)) }
 {
-    let traits = all_traits(alloc, pool)?;
     for (i, entry) in pool.iter().enumerate() {
-        if !keeps_entry(traits.as_slice(), pool, *entry) {
-            return Err(ReadError::Fault(Fault::BadPool(i as u16 + 1)));
+        if !keeps_entry(traits, pool, *entry) {
+            return Err(Fault::BadPool(i as u16 + 1));
         }
     }
     Ok(())

@@ -3,7 +3,7 @@
 ghost use Rattle.std.specs.Prelude.{◌≡◌};
 ghost use Rattle.cl_classfile.specs.Rows.{special_of, is_field, is_array, is_call, is_void, traits_of, nothing};
 
-use cl_descriptors::{Form, form_of};
+use cl_descriptors::{Form, form_of, units_of};
 use cl_names::{is_class_name, is_method_name, is_unqualified_name};
 
 /// How a name begins that no programmer writes (JVMS SE 8, 2.9).
@@ -33,6 +33,8 @@ pub struct Traits {
     pub special: Special,
     /// What it is the descriptor of.
     pub form: Option<Form>,
+    /// How many units the parameters count of a method descriptor.
+    pub units: Option<usize>,
 }
 
 /// Of what is no text nothing is true.
@@ -46,6 +48,7 @@ pub fn nothing() -> Traits
         method: false,
         special: Special::Plain,
         form: None,
+        units: None,
     }
 }
 
@@ -111,5 +114,6 @@ pub fn traits_of(text: &[u8]) -> Traits
         method: is_method_name(text),
         special: special_of(text),
         form,
+        units: units_of(text),
     }
 }

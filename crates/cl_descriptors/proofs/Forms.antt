@@ -3,9 +3,11 @@ use Rattle.std.proofs.Common.{◌≡◌, ◌≢◌, ℕ, Bool, true, false, cond
 use Rattle.std.specs.Prelude.{is_some}
 use Rattle.std.specs.Option.{option_or}
 use Rattle.std.proofs.lemmas.Bool.{eqb-true, eq-eqb}
-use Rattle.cl_descriptors.specs.Types.{SpellsField, SpellsMethod, is_shallow, are_shallow, is_short}
-use Rattle.cl_descriptors.specs.Reading.{base_at, field_at, whole_field, field_of, method_of, within_field, within_method, field_form, method_form, form_of}
-use Rattle.cl_descriptors.specs.Answers.{IsField, IsMethod, IsFieldType, IsMethodType, FormOf}
+use Rattle.std.specs.Prelude.{option_map}
+use Rattle.std.specs.Result.{result_ok}
+use Rattle.cl_descriptors.specs.Types.{SpellsField, SpellsMethod, is_shallow, are_shallow, is_short, units_of_method}
+use Rattle.cl_descriptors.specs.Reading.{base_at, field_at, whole_field, field_of, method_of, within_field, within_method, field_form, method_form, form_of, units_of}
+use Rattle.cl_descriptors.specs.Answers.{IsField, IsMethod, IsFieldType, IsMethodType, FormOf, UnitsOf}
 use Rattle.cl_descriptors.specs.declared.types.FieldType.{FieldType}
 use Rattle.cl_descriptors.specs.declared.types.MethodType.{MethodType}
 use Rattle.cl_descriptors.specs.declared.types.Form.{Form}
@@ -72,3 +74,20 @@ begins bytes rest e = ap (λ (b : List ℕ). field_form (field_of b)) e ∙ ap f
 pub method_told : (bytes : List ℕ) (m : MethodType) → SpellsMethod bytes m → IsMethodType m → form_of bytes ≡ cond (is_some m.ret) (Some Method) (Some Void)
 unfolding form_of
 method_told bytes m s k = rw (begins bytes _ s.spelled, method_read bytes m s k) refl
+
+-- ---- units
+
+units_by : (bytes : List ℕ) (q : Result MethodType DescriptorFault) → method_of bytes ≡ q → UnitsOf bytes (option_map units_of_method (result_ok q))
+units_by bytes (Ok m) d = let is = method_is bytes (Ok m) d in (m, is.0, (record { shallow = is.1; short = is.2 }, refl))
+units_by bytes (Err g) d = λ h. absurd (let read = method_read bytes h.0 h.1 h.2 in cc)
+
+pub units_are : (bytes : List ℕ) → UnitsOf bytes (units_of bytes)
+unfolding units_of
+units_are bytes = units_by bytes (method_of bytes) refl
+
+pub units_say : (bytes : List ℕ) (o : Option ℕ) → o ≡ units_of bytes → UnitsOf bytes o
+units_say bytes o e = subst (λ (p : Option ℕ). UnitsOf bytes p) (sym e) (units_are bytes)
+
+pub units_told : (bytes : List ℕ) (m : MethodType) → SpellsMethod bytes m → IsMethodType m → units_of bytes ≡ Some (units_of_method m)
+unfolding units_of
+units_told bytes m s k = rw (method_read bytes m s k) refl

@@ -1,6 +1,6 @@
 -- What reading bytes as a descriptor may answer: which of these it is, the bytes say, but for want of memory.
 use Rattle.std.specs.Prelude.{◌≡◌, ◌≢◌, ℕ, IsTrue, IsFalse, IsOk, IsSome, List, Option, Some, None, Result, Ok, Err}
-use Rattle.cl_descriptors.specs.Types.{SpellsField, SpellsMethod, is_shallow, are_shallow, is_short}
+use Rattle.cl_descriptors.specs.Types.{SpellsField, SpellsMethod, is_shallow, are_shallow, is_short, units_of_method}
 use Rattle.cl_descriptors.specs.declared.types.FieldType.{FieldType}
 use Rattle.cl_descriptors.specs.declared.types.MethodType.{MethodType}
 use Rattle.cl_descriptors.specs.declared.types.Form.{Form}
@@ -52,3 +52,8 @@ FormOf bytes (Some Plain) = IsField bytes (λ t. IsFieldType t × (t.dims ≡ 0)
 FormOf bytes (Some Array) = IsField bytes (λ t. IsFieldType t × (t.dims ≢ 0))
 FormOf bytes (Some Method) = IsMethod bytes (λ m. IsMethodType m × IsSome m.ret)
 FormOf bytes (Some Void) = IsMethod bytes (λ m. IsMethodType m × (m.ret ≡ None))
+
+-- the units of the parameters, if the bytes are the descriptor of a method
+abbrev pub UnitsOf : List ℕ → Option ℕ → Type 0
+UnitsOf bytes None = IsMethod bytes IsMethodType → ⊥
+UnitsOf bytes (Some n) = IsMethod bytes (λ m. IsMethodType m × (units_of_method m ≡ n))

@@ -2,7 +2,8 @@
 use Rattle.std.specs.Prelude.{ℕ, zero, suc, ◌+◌, ◌==◌, ◌&&◌, Bool, false, not, if◌then◌else◌, List, [], ◌∷◌, length, take, drop, position, Option, Some, None, option_map, option_and_then, is_some, Result, Ok, Err}
 use Rattle.std.specs.Option.{option_or}
 use Rattle.cl_names.specs.Kind.{is_class_name}
-use Rattle.cl_descriptors.specs.Types.{is_shallow, are_shallow, is_short}
+use Rattle.std.specs.Result.{result_ok}
+use Rattle.cl_descriptors.specs.Types.{is_shallow, are_shallow, is_short, units_of_method}
 use Rattle.cl_descriptors.specs.declared.types.Base.{Base}
 use Rattle.cl_descriptors.specs.declared.types.Base.TheVariants.{Byte, Char, Double, Float, Int, Long, Short, Boolean, Class}
 use Rattle.cl_descriptors.specs.declared.types.FieldType.{FieldType}
@@ -119,3 +120,7 @@ method_form (Ok m) = if is_some m.ret then Some forms.Method else Some forms.Voi
 -- the form of the descriptor that the bytes are
 unfoldable pub form_of : List ℕ → Option Form
 form_of bytes = option_or (field_form (field_of bytes)) (method_form (method_of bytes))
+
+-- how many units the parameters count of the method descriptor that the bytes are
+unfoldable pub units_of : List ℕ → Option ℕ
+units_of bytes = option_map units_of_method (result_ok (method_of bytes))

@@ -1,6 +1,11 @@
+pub mod Flags
+pub mod Pool
+pub mod Members
 pub mod Structure
 pub mod Files
+pub mod Rows
 pub mod Checking
 pub mod Raw
 pub mod Reading
+pub mod References
 pub mod View

@@ -10,7 +10,7 @@ structure f = record {
   this_class = f.this_class;
   super_class = f.super_class;
   interfaces = f.interfaces.items;
-  fields = [];
-  methods = [];
-  attributes = [];
+  fields = f.fields.items;
+  methods = f.methods.items;
+  attributes = f.attributes.items;
 }

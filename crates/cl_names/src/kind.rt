@@ -1,7 +1,7 @@
 //! The form of each kind of name, in the bytes of a text.
 ghost use Rattle.std.specs.Prelude.{◌≡◌, ◌≤◌, MatchBool, not, length, take};
 ghost use Rattle.std.specs.List.{list_all};
-ghost use Rattle.cl_names.specs.Kind.{IsClass, IsNameOf, is_allowed, is_angle, has_unqualified_form, has_method_form, has_class_form, is_class_name, package_of};
+ghost use Rattle.cl_names.specs.Kind.{IsUnqualified, IsMethod, IsClass, IsNameOf, is_allowed, is_angle, has_unqualified_form, has_method_form, has_class_form, is_unqualified_name, is_method_name, is_class_name, package_of};
 
 use crate::text::is_modified_utf8;
 
@@ -68,6 +68,38 @@ pub fn is_class_name(bytes: &[u8]) -> bool
     ensures test { result ≡ is_class_name bytes.now }
 {
     passes_as_class(bytes)
+}
+
+#[tactic(auto, unfolding(crate::specs::Kind::is_unqualified_name))]
+fn passes_as_unqualified(bytes: &[u8]) -> bool
+    ensures { result ≡ is_unqualified_name bytes.now }
+{
+    is_modified_utf8(bytes) && bytes.len() <= 65535 && has_unqualified_form(bytes)
+}
+
+/// Whether the bytes are an unqualified name, in modified UTF-8 and not over 65,535 bytes (JVMS SE 8, 4.2.2, 4.4.7).
+#[tactic(auto, using(crate::proofs::Grammars::unqualified_told))]
+pub fn is_unqualified_name(bytes: &[u8]) -> bool
+    ensures kind { MatchBool result (IsNameOf IsUnqualified bytes.now) (IsNameOf IsUnqualified bytes.now → ⊥) }
+    ensures test { result ≡ is_unqualified_name bytes.now }
+{
+    passes_as_unqualified(bytes)
+}
+
+#[tactic(auto, unfolding(crate::specs::Kind::is_method_name))]
+fn passes_as_method(bytes: &[u8]) -> bool
+    ensures { result ≡ is_method_name bytes.now }
+{
+    is_modified_utf8(bytes) && bytes.len() <= 65535 && has_method_form(bytes)
+}
+
+/// Whether the bytes are a method's name, in modified UTF-8 and not over 65,535 bytes (JVMS SE 8, 4.2.2, 4.4.7).
+#[tactic(auto, using(crate::proofs::Grammars::method_told))]
+pub fn is_method_name(bytes: &[u8]) -> bool
+    ensures kind { MatchBool result (IsNameOf IsMethod bytes.now) (IsNameOf IsMethod bytes.now → ⊥) }
+    ensures test { result ≡ is_method_name bytes.now }
+{
+    passes_as_method(bytes)
 }
 
 /// How many bytes stand before the last `/`.

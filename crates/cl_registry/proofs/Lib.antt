@@ -1,6 +1,9 @@
+pub mod Bounds
 pub mod Places
 pub mod Contents
 pub mod Requests
 pub mod Homes
+pub mod Chained
+pub mod Rests
 pub mod Kept
 pub mod Walks

@@ -1,17 +1,16 @@
 //! Class files as bytes.
 
 ghost use Rattle.std.specs.Prelude.{◌≡◌, ◌+◌, ◌<◌, ◌^◌, ◌++◌, ◌∷◌, OnOk, IfOk, Ok, length};
-ghost use Rattle.std.specs.List.{flat_map};
+ghost use Rattle.std.specs.List.{flat_map, AllByRecursion};
 ghost use Rattle.std.specs.Int.{w16, to_be_bytes};
-ghost use Rattle.cl_classfile.specs.Structure.{IsNarrow, Spells, counted, entry_spelling, pool_spelling};
+ghost use Rattle.cl_classfile.specs.Pool.{entry_spelling};
+ghost use Rattle.cl_classfile.specs.Structure.{AllFit, AttributeFits, MemberFits, Spells, attribute_spelling, counted, member_spelling, pool_spelling};
 ghost use Rattle.cl_classfile.specs.Reading.{read_of};
 
+use crate::bytes::{HEADER, put_tagged, put_text, put_two, put_u16};
 use crate::fault::WriteFault;
-use cl_classfile::{ClassFile, Entry};
+use cl_classfile::{Attribute, ClassFile, Entry, Member};
 use std::alloc::{AllocError, Global};
-
-/// The magic, and version 52.0 as its minor and its major number.
-const HEADER: [u8; 8] = [0xca, 0xfe, 0xba, 0xbe, 0, 0, 0, 52];
 
 /// The bytes that spell a file (JVMS SE 8, 4.1). Only want of memory refuses it.
 pub fn write(alloc: Global, file: &ClassFile) -> Result<Vec<u8>, WriteFault>
@@ -24,8 +23,7 @@ pub fn write(alloc: Global, file: &ClassFile) -> Result<Vec<u8>, WriteFault>
 }
 
 fn spelled(alloc: Global, file: &ClassFile) -> Result<Vec<u8>, AllocError>
-    ensures spelled { IfOk result (λ bytes. Spells bytes.items file.now) }
-    ensures narrow { IfOk result (λ bytes. IsNarrow file.now) }
+    ensures { IfOk result (λ bytes. Spells bytes.items file.now) }
 {
     let mut out = Vec::new(alloc);
     out.extend_from_slice(&HEADER)?;
@@ -34,16 +32,10 @@ fn spelled(alloc: Global, file: &ClassFile) -> Result<Vec<u8>, AllocError>
     put_u16(&mut out, file.this_class())?;
     put_u16(&mut out, file.super_class())?;
     put_interfaces(&mut out, file.interfaces())?;
-    put_u16(&mut out, 0)?;
-    put_u16(&mut out, 0)?;
-    put_u16(&mut out, 0)?;
+    put_members(&mut out, file.fields())?;
+    put_members(&mut out, file.methods())?;
+    put_attributes(&mut out, file.attributes())?;
     Ok(out)
-}
-
-fn put_u16(out: &mut Vec<u8>, number: u16) -> Result<(), AllocError>
-    ensures { OnOk result (out.new.items ≡ out.old.items ++ to_be_bytes w16 number) }
-{
-    out.extend_from_slice(&number.to_be_bytes())
 }
 
 /// A count, and each of the entries (JVMS SE 8, 4.1).
@@ -70,26 +62,42 @@ fn put_entry(out: &mut Vec<u8>, entry: &Entry) -> Result<(), AllocError>
 {
     match entry {
         Entry::Utf8(text) => put_text(out, text.bytes()),
-        Entry::Class(name) => put_index(out, 7, *name),
+        Entry::Integer(value) => put_tagged(out, 3, &value.to_be_bytes()),
+        Entry::Float(bits) => put_tagged(out, 4, &bits.to_be_bytes()),
+        Entry::Long(value) => put_tagged(out, 5, &value.to_be_bytes()),
+        Entry::Double(bits) => put_tagged(out, 6, &bits.to_be_bytes()),
+        Entry::Unusable => Ok(()),
+        Entry::Class(text) => put_tagged(out, 7, &text.to_be_bytes()),
+        Entry::String(text) => put_tagged(out, 8, &text.to_be_bytes()),
+        Entry::Fieldref {
+            class,
+            name_and_type,
+        } => put_two(out, 9, *class, *name_and_type),
+        Entry::Methodref {
+            class,
+            name_and_type,
+        } => put_two(out, 10, *class, *name_and_type),
+        Entry::InterfaceMethodref {
+            class,
+            name_and_type,
+        } => put_two(out, 11, *class, *name_and_type),
+        Entry::NameAndType { name, descriptor } => put_two(out, 12, *name, *descriptor),
+        Entry::MethodHandle { kind, reference } => put_handle(out, *kind, *reference),
+        Entry::MethodType(descriptor) => put_tagged(out, 16, &descriptor.to_be_bytes()),
+        Entry::InvokeDynamic {
+            bootstrap,
+            name_and_type,
+        } => put_two(out, 18, *bootstrap, *name_and_type),
     }
 }
 
-/// A text's tag, its length and its bytes (JVMS SE 8, 4.4.7).
-fn put_text(out: &mut Vec<u8>, text: &[u8]) -> Result<(), AllocError>
-    requires { length text.now < 2 ^ 16 }
-    ensures { OnOk result (out.new.items ≡ out.old.items ++ (1 ∷ (to_be_bytes w16 (length text.now) ++ text.now))) }
+/// A method handle's tag, its kind and its reference (JVMS SE 8, 4.4.8).
+fn put_handle(out: &mut Vec<u8>, kind: u8, reference: u16) -> Result<(), AllocError>
+    ensures { OnOk result (out.new.items ≡ out.old.items ++ (15 ∷ kind ∷ to_be_bytes w16 reference)) }
 {
-    out.push(1)?;
-    put_u16(out, text.len() as u16)?;
-    out.extend_from_slice(text)
-}
-
-/// A tag, and an index.
-fn put_index(out: &mut Vec<u8>, tag: u8, index: u16) -> Result<(), AllocError>
-    ensures { OnOk result (out.new.items ≡ out.old.items ++ (tag ∷ to_be_bytes w16 index)) }
-{
-    out.push(tag)?;
-    put_u16(out, index)
+    out.push(15)?;
+    out.push(kind)?;
+    put_u16(out, reference)
 }
 
 /// A count, and each of the indices.
@@ -108,4 +116,64 @@ fn put_numbers(out: &mut Vec<u8>, numbers: &[u16]) -> Result<(), AllocError>
         put_u16(out, *number)?;
     }
     Ok(())
+}
+
+/// A count, and each of the fields or methods.
+fn put_members(out: &mut Vec<u8>, members: &[Member]) -> Result<(), AllocError>
+    requires { AllFit MemberFits members.now }
+    ensures { OnOk result (out.new.items ≡ out.old.items ++ counted member_spelling members.now) }
+{
+    put_u16(out, members.len() as u16)?;
+    put_each_member(out, members)
+}
+
+fn put_each_member(out: &mut Vec<u8>, members: &[Member]) -> Result<(), AllocError>
+    requires { AllByRecursion MemberFits members.now }
+    ensures { OnOk result (out.new.items ≡ out.old.items ++ flat_map member_spelling members.now) }
+{
+    for member in members {
+        put_member(out, member)?;
+    }
+    Ok(())
+}
+
+/// A field or a method (JVMS SE 8, 4.5, 4.6).
+fn put_member(out: &mut Vec<u8>, member: &Member) -> Result<(), AllocError>
+    requires { MemberFits member.now }
+    ensures { OnOk result (out.new.items ≡ out.old.items ++ member_spelling member.now) }
+{
+    put_u16(out, member.flags())?;
+    put_u16(out, member.name_index())?;
+    put_u16(out, member.descriptor_index())?;
+    put_attributes(out, member.attributes())
+}
+
+/// A count, and each of the attributes.
+fn put_attributes(out: &mut Vec<u8>, attributes: &[Attribute]) -> Result<(), AllocError>
+    requires { AllFit AttributeFits attributes.now }
+    ensures { OnOk result (out.new.items ≡ out.old.items ++ counted attribute_spelling attributes.now) }
+{
+    put_u16(out, attributes.len() as u16)?;
+    put_each_attribute(out, attributes)
+}
+
+fn put_each_attribute(out: &mut Vec<u8>, attributes: &[Attribute]) -> Result<(), AllocError>
+    requires { AllByRecursion AttributeFits attributes.now }
+    ensures { OnOk result (out.new.items ≡ out.old.items ++ flat_map attribute_spelling attributes.now) }
+{
+    for attribute in attributes {
+        put_attribute(out, attribute)?;
+    }
+    Ok(())
+}
+
+/// An attribute: the index of its name, its length and its bytes (JVMS SE 8, 4.7).
+fn put_attribute(out: &mut Vec<u8>, attribute: &Attribute) -> Result<(), AllocError>
+    requires { AttributeFits attribute.now }
+    ensures { OnOk result (out.new.items ≡ out.old.items ++ attribute_spelling attribute.now) }
+{
+    let length = attribute.bytes().len() as u32;
+    put_u16(out, attribute.name_index())?;
+    out.extend_from_slice(&length.to_be_bytes())?;
+    out.extend_from_slice(attribute.bytes())
 }

@@ -1,6 +1,6 @@
 use Rattle.std.proofs.Common.{◌≡◌, ◌++◌, take}
 use Rattle.std.specs.List.{flat_map}
-use Rattle.cl_classfile.specs.Structure.{entry_spelling}
+use Rattle.cl_classfile.specs.Pool.{entry_spelling}
 use Rattle.cl_writer.proofs.writing.put_entries.Given as goal
 
 abbrev pub invariant-loop-entry : goal.invariant-loop-entry

@@ -140,12 +140,13 @@ enters items item q m o none e count = by (same_item item q) refl ∙ sym (index
         false_true : false ≡ true → ⊥
         false_true h = cc
     none_else false same other = rw same (e ∙ sym (nothing_else (index_of items q)))
+
     by : (b : Bool) → same_item item q ≡ b → cond (same_item item q) (Some m) o ≡ or_else (index_of items q) (cond (same_item q item) (Some m) None)
     by true same =
-      let here : item ≡ q = same_says item q same in
-      let self : same_item q item ≡ true = subst (λ x. same_item x item ≡ true) here (same_self item) in
-      let absent : index_of items q ≡ None = ap (index_of items) (sym here) ∙ none in
-      rw (same, self) (sym (second_else (index_of items q) (Some m) absent))
+        let here : item ≡ q = same_says item q same in
+        let self : same_item q item ≡ true = subst (λ x. same_item x item ≡ true) here (same_self item) in
+        let absent : index_of items q ≡ None = ap (index_of items) (sym here) ∙ none in
+        rw (same, self) (sym (second_else (index_of items q) (Some m) absent))
     by false same = rw same (none_else (same_item q item) refl same)
 
 -- an index is within the list

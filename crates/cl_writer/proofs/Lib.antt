@@ -1,6 +1,7 @@
 pub mod Each
 pub mod Equal
+pub mod Gathered
 pub mod Indexed
-pub mod Reads
+pub mod Mapped
 pub mod Rows
 pub mod Wanted

@@ -38,11 +38,7 @@ pub fn read_lines(alloc: Global, text: &str) -> Result<Assembly, AssembleFault>
 }
 
 /// Reads the lines behind that of the class.
-fn read_rest(
-    alloc: Global,
-    class: ClassLine,
-    lines: Stated<'_>,
-) -> Result<Assembly, AssembleFault>
+fn read_rest(alloc: Global, class: ClassLine, lines: Stated<'_>) -> Result<Assembly, AssembleFault>
     ensures { RestOf class (stated_from lines.entry.number lines.entry.text) result }
 {
     let mut assembly = Assembly {

@@ -104,12 +104,7 @@ fn put_items(
 }
 
 /// An entry's tag, and what follows it (JVMS SE 8, 4.4).
-fn put_item(
-    out: &mut Vec<u8>,
-    alloc: Global,
-    items: &Items,
-    item: &Item,
-) -> Result<(), AllocError>
+fn put_item(out: &mut Vec<u8>, alloc: Global, items: &Items, item: &Item) -> Result<(), AllocError>
     requires { length items.now ≤ 65534 }
     ensures { OnOk result (out.new.items ≡ out.old.items ++ entry_spelling (entry_of items.now item.now)) }
 {
@@ -144,12 +139,7 @@ fn tag_of(kind: MemberKind) -> u8
     }
 }
 
-fn put_class(
-    out: &mut Vec<u8>,
-    alloc: Global,
-    items: &Items,
-    name: &Name,
-) -> Result<(), AllocError>
+fn put_class(out: &mut Vec<u8>, alloc: Global, items: &Items, name: &Name) -> Result<(), AllocError>
     requires { length items.now ≤ 65534 }
     ensures { OnOk result (out.new.items ≡ out.old.items ++ to_be_bytes w16 (index items.now (said.Class name.now))) }
 {

@@ -6,12 +6,15 @@ use std::alloc::Global;
 use std::test::Fail;
 
 /// `class 0021 java/lang/Object -`.
-const OBJECT: &[u8] = b"\xca\xfe\xba\xbe\x00\x00\x00\x34\x00\x03\x01\x00\x10java/lang/Object\x07\x00\x01\x00\x21\x00\x02\x00\x00\x00\x00\x00\x00\x00\x00\x00\x00";
+const OBJECT: &[u8] =
+    b"\xca\xfe\xba\xbe\x00\x00\x00\x34\x00\x03\x01\x00\x10java/lang/Object\x07\x00\x01\x00\x21\x00\x02\x00\x00\x00\x00\x00\x00\x00\x00\x00\x00";
 
 /// The public class p/Use, which refers to a method of p/Svc.
-const USE: &[u8] = b"\xca\xfe\xba\xbe\x00\x00\x00\x34\x00\x0b\x0a\x00\x03\x00\x06\x01\x00\x05p/Svc\x07\x00\x02\x01\x00\x01m\x01\x00\x08(Lp/T;)V\x0c\x00\x04\x00\x05\x01\x00\x05p/Use\x07\x00\x07\x01\x00\x10java/lang/Object\x07\x00\x09\x00\x21\x00\x08\x00\x0a\x00\x00\x00\x00\x00\x00\x00\x00";
+const USE: &[u8] =
+    b"\xca\xfe\xba\xbe\x00\x00\x00\x34\x00\x0b\x0a\x00\x03\x00\x06\x01\x00\x05p/Svc\x07\x00\x02\x01\x00\x01m\x01\x00\x08(Lp/T;)V\x0c\x00\x04\x00\x05\x01\x00\x05p/Use\x07\x00\x07\x01\x00\x10java/lang/Object\x07\x00\x09\x00\x21\x00\x08\x00\x0a\x00\x00\x00\x00\x00\x00\x00\x00";
 
-const USE_TEXT: &str = "# a user\n\nclass 0021 p/Use java/lang/Object\nref method p/Svc m (Lp/T;)V\n";
+const USE_TEXT: &str =
+    "# a user\n\nclass 0021 p/Use java/lang/Object\nref method p/Svc m (Lp/T;)V\n";
 
 /// Why a text is not assembled.
 fn fault(alloc: Global, text: &str) -> Option<AssembleFault> {
@@ -59,7 +62,11 @@ fn bad_lines(rt: HostRuntime) -> Result<(), Fail> {
         ("class 0021 p/A java/lang/Object\n@hex", 2),
     ];
     for (text, line) in rows {
-        assert_eq!(rt; fault(rt.alloc(), text), Some(AssembleFault::BadLine(line)), "{text}");
+        assert_eq!(rt;
+            fault(rt.alloc(), text),
+            Some(AssembleFault::BadLine(line)),
+            "{text}"
+        );
     }
     Ok(())
 }
@@ -71,13 +78,29 @@ fn files_that_break_the_tables(rt: HostRuntime) -> Result<(), Fail> {
         ("class 0021 p.A java/lang/Object", Fault::BadPool(2)),
         ("class 0021 p/A -", Fault::BadSupertype),
         ("class 0021 [I java/lang/Object", Fault::BadSupertype),
-        ("class 0021 p/A java/lang/Object\nmethod 0003 m ()V", Fault::BadMember),
-        ("class 0021 p/A java/lang/Object\nfield 0001 x ()V", Fault::BadMember),
-        ("class 0021 p/A java/lang/Object\nfield 0001 x I\nfield 0002 x I", Fault::Duplicate),
-        ("class 0021 p/A java/lang/Object\nref field p/B x ()V", Fault::BadPool(1)),
+        (
+            "class 0021 p/A java/lang/Object\nmethod 0003 m ()V",
+            Fault::BadMember,
+        ),
+        (
+            "class 0021 p/A java/lang/Object\nfield 0001 x ()V",
+            Fault::BadMember,
+        ),
+        (
+            "class 0021 p/A java/lang/Object\nfield 0001 x I\nfield 0002 x I",
+            Fault::Duplicate,
+        ),
+        (
+            "class 0021 p/A java/lang/Object\nref field p/B x ()V",
+            Fault::BadPool(1),
+        ),
     ];
     for (text, invalid) in rows {
-        assert_eq!(rt; fault(rt.alloc(), text), Some(AssembleFault::Invalid(invalid)), "{text}");
+        assert_eq!(rt;
+            fault(rt.alloc(), text),
+            Some(AssembleFault::Invalid(invalid)),
+            "{text}"
+        );
     }
     Ok(())
 }
@@ -97,7 +120,8 @@ fn pools_are_counted(rt: HostRuntime) -> Result<(), Fail> {
 
 #[test]
 fn listings_assemble(rt: HostRuntime) -> Result<(), Fail> {
-    let text = "class 0601 p/\\u0041 java/lang/Object\nimplements p/I\nimplements p/\\u00e9\nfield 0019 \\u0020 [Lp/T;\nmethod 0401 m (I)V\n";
+    let text =
+        "class 0601 p/\\u0041 java/lang/Object\nimplements p/I\nimplements p/\\u00e9\nfield 0019 \\u0020 [Lp/T;\nmethod 0401 m (I)V\n";
     let file = assemble(rt.alloc(), text)?;
     let lines = listing(rt.alloc(), &file)?;
     assert_eq!(rt;

@@ -1,4 +1,4 @@
-use Rattle.cl_writer.proofs.Reads.{all_lines}
+use Rattle.cl_writer.proofs.Gathered.{all_lines}
 use Rattle.cl_writer.proofs.assembly.read_lines.Goals as goal
 
 pub returns : goal.returns

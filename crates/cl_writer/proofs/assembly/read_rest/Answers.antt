@@ -1,5 +1,5 @@
 use Rattle.cl_writer.specs.Assemblies.{lists_of}
-use Rattle.cl_writer.proofs.Reads.{starts, more_read}
+use Rattle.cl_writer.proofs.Gathered.{starts, more_read}
 use Rattle.cl_writer.proofs.assembly.read_rest.Goals as goal
 
 pub loop-line-init : goal.loop-line-init

@@ -1,6 +1,6 @@
 use Rattle.cl_lines.specs.Lines.{stated_from}
 use Rattle.cl_writer.specs.Assemblies.{lists_of}
-use Rattle.cl_writer.proofs.Reads.{IsReadSoFar}
+use Rattle.cl_writer.proofs.Gathered.{IsReadSoFar}
 use Rattle.cl_writer.proofs.assembly.read_rest.Given as goal
 
 abbrev pub invariant-loop-line : goal.invariant-loop-line

@@ -1,7 +1,3 @@
-pub mod Assembled
 pub mod Assemblies
-pub mod Described
 pub mod Items
-pub mod Listings
-pub mod Outlines
 pub mod Statements

@@ -1,4 +1,9 @@
 pub mod Cutting
+pub mod Digits
+pub mod Flags
 pub mod Headings
+pub mod Refusals
+pub mod Running
 pub mod Serving
+pub mod Storing
 pub mod Written

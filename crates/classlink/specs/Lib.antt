@@ -1,5 +1,8 @@
+pub mod Bundles
+pub mod CommandLine
 pub mod Cuts
 pub mod Faults
 pub mod Report
+pub mod Runs
 pub mod Sections
 pub mod Serving

@@ -1,10 +1,10 @@
 -- What `clap` makes of the words that ask for a bundle's report.
-use Rattle.std.proofs.Common.{◌≡◌, ◌∙◌, ℕ, Bool, true, false, List, [], ◌∷◌, map, codes, drop, Option, Some, None, find, option_map, option_and_then, slice_get, Result, Ok, Err, IsErrAnd, IfErr, MatchResult, inl, inr, refl, sym, ap, subst}
+use Rattle.std.proofs.Common.{◌≡◌, ◌∙◌, Bool, true, false, List, [], ◌∷◌, map, codes, Option, Some, None, find, option_map, option_and_then, slice_get, Result, Ok, Err, IsErrAnd, IfErr, MatchResult, inl, inr, refl, sym, ap, subst}
 use Rattle.std.specs.Str.{bytes_eq}
 use Rattle.std.specs.Borrow.{Bor}
 use Rattle.clap.specs.Facts.{Entry}
 use Rattle.clap.specs.Faults.{built_fault}
-use Rattle.clap.specs.Matches.{matched_of, one_text}
+use Rattle.clap.specs.Matches.{one_text}
 use Rattle.clap.specs.Simple.{built, entered, names_of}
 use Rattle.clap.specs.Values.{bool_text, read_as}
 use Rattle.clap.specs.Walk.{nothing_held, row_of, row_text, stop_after}

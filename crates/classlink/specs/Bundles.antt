@@ -11,7 +11,6 @@ use Rattle.cl_registry.specs.Views.{Configured, Scripted}
 use Rattle.cl_registry.specs.Configs.{ConfigOf}
 use Rattle.cl_registry.specs.Puts.{TellsMore}
 use Rattle.cl_registry.specs.Scripts.{loader_named, script_of}
-use Rattle.cl_registry.specs.declared.config.ConfigFault.{ConfigFault}
 use Rattle.cl_registry.specs.declared.config.ConfigFault.TheVariants.{BadLoader}
 use Rattle.cl_registry.specs.declared.script.ScriptFault.{ScriptFault}
 use Rattle.classlink.specs.Sections.{Cut, Part, cut_of}

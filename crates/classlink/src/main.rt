@@ -21,7 +21,9 @@ use std::{env, io};
 
 fn main(rt: HostRuntime) -> io::Result<ExitCode> {
     let words = match env::args(&rt) {
-        Ok(words) => words.collect::<Vec<String>>(rt.alloc()).map_err(io::Error::from),
+        Ok(words) => words
+            .collect::<Vec<String>>(rt.alloc())
+            .map_err(io::Error::from),
         Err(error) => Err(error),
     };
     let status = match words {

@@ -44,12 +44,7 @@ pub fn run_over<R: AllocGlobal, S: AsStr, I: Read + Drop, W: Write, E: Write>(
 }
 
 /// Writes the text of words that ask for no run to where it belongs.
-fn turn_down<W: Write, E: Write>(
-    alloc: Global,
-    error: &clap::Error,
-    out: &mut W,
-    err: &mut E,
-) -> u8
+fn turn_down<W: Write, E: Write>(alloc: Global, error: &clap::Error, out: &mut W, err: &mut E) -> u8
     ensures status { StatusOf (kind_of error.now) result }
     ensures memory { kind_of error.now ≡ ErrorKind.OutOfMemory → TellsFault (E.contents err.old) (E.contents err.new) Fault.Memory }
     ensures nothing { kind_of error.now ≡ ErrorKind.OutOfMemory → Appends (W.contents out.old) (W.contents out.new) [] }

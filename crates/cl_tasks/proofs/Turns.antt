@@ -13,7 +13,7 @@ use Rattle.cl_model.specs.declared.answer.Answer.TheVariants as answers
 use Rattle.cl_model.specs.Content.{Content}
 use Rattle.cl_model.specs.Homes.{World}
 use Rattle.cl_model.specs.Classes.{class, HasFile}
-use Rattle.cl_model.specs.States.{State, Need, Entry, IsClass, Wrong, recorded, IsRecorded}
+use Rattle.cl_model.specs.States.{State, Entry, IsClass, Wrong, recorded, IsRecorded}
 use Rattle.cl_model.specs.Plans.{Load}
 use Rattle.cl_model.specs.Plans as plans
 use Rattle.cl_model.specs.Machine.{Setting, AnswersPlan, IsClosed}

@@ -1,4 +1,4 @@
-use Rattle.std.proofs.Common.{◌≡◌, sym, ap, ◌∙◌, None}
+use Rattle.std.proofs.Common.{sym}
 use Rattle.cl_tasks.proofs.Turns.{follows_root}
 use Rattle.cl_tasks.proofs.step.drafted.Goals as goal
 

@@ -5,5 +5,7 @@ pub mod Contents
 pub mod Requests
 pub mod Homes
 pub mod Chained
+pub mod Histories
+pub mod Running
 pub mod Kept
 pub mod Walks

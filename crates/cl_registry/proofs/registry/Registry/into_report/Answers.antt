@@ -1,5 +1,5 @@
 use Rattle.std.proofs.Common.{◌≡◌, ◌∙◌, refl, ap, sym}
-use Rattle.cl_registry.proofs.Kept.{first_open}
+use Rattle.cl_registry.proofs.Histories.{first_open}
 use Rattle.cl_registry.proofs.registry.Registry.into_report.Goals as goal
 
 pub returns-then-self-ne0-clause-refused : goal.returns-then-self-ne0-clause-refused

@@ -2,7 +2,8 @@ use Rattle.std.proofs.Common.{◌≡◌, ◌≤◌, ◌∙◌, ◌+◌, ◌-◌,
 use Rattle.std.specs.Prelude.{slice_get}
 use Rattle.std.specs.Option.{option_map}
 use Rattle.cl_registry.specs.Tables.{Shown}
-use Rattle.cl_registry.proofs.Kept.{left_set, kept_post, backed_by, place_at}
+use Rattle.cl_registry.proofs.Histories.{left_set}
+use Rattle.cl_registry.proofs.Kept.{kept_post, backed_by, place_at}
 use Rattle.cl_registry.proofs.registry.Registry.post.Goals as goal
 
 pub overflow_sub-self : goal.overflow_sub-self

@@ -7,5 +7,6 @@ pub mod Homes
 pub mod Chained
 pub mod Histories
 pub mod Running
+pub mod Rests
 pub mod Kept
 pub mod Walks

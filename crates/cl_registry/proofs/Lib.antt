@@ -7,6 +7,7 @@ pub mod Homes
 pub mod Chained
 pub mod Histories
 pub mod Running
+pub mod Allowed
 pub mod Rests
 pub mod Kept
 pub mod Walks

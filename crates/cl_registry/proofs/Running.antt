@@ -48,7 +48,7 @@ use Rattle.cl_registry.proofs.Histories.{steps_defines, steps_posts, or_of_false
 -- ---- what definitions and posts leave as it is
 
 -- no equality more, and the same round
-record IsQuiet (s t : State) : Type 0 where
+pub record IsQuiet (s t : State) : Type 0 where
   pub equalities : t.equalities ≡ s.equalities
   pub round : t.round ≡ s.round
 
@@ -66,6 +66,10 @@ quiet now (e ∷ h) s =
     let one = step_quiet s now e in
     let more = quiet now h (after s (step_of now e)) in
     record { equalities = more.equalities ∙ one.equalities; round = more.round ∙ one.round }
+
+-- what a registry's history leaves as it is
+pub calm : (x : Shown) → IsQuiet start (state_of x)
+calm x = quiet (answers_of x.answers) x.history start
 
 or_nothing : {A : Type 0} (o : Option A) → option_or o None ≡ o
 or_nothing None = refl
@@ -122,7 +126,7 @@ same_place : (c : Configured) (content : Content) (l p : ℕ) (name : Name) → 
 same_place c content l p name one below h = sym (some_place (if_some _ (Some l) p (sym (own c content l name one below) ∙ h)).1)
 
 -- a draft whose superclass is recorded may be defined
-may_define : (c : Configured) (sc : Scripted) (content : Content) (s : State) (d : Drafted) (above : Option Name) → length c.names ≡ 1 → d.class.loader < length c.names → IsDraft (Some content) d → IsClosed (world_of c content) s
+pub may_define : (c : Configured) (sc : Scripted) (content : Content) (s : State) (d : Drafted) (above : Option Name) → length c.names ≡ 1 → d.class.loader < length c.names → IsDraft (Some content) d → IsClosed (world_of c content) s
     → s.equalities ≡ [] → recorded s.records d.class.loader d.class.name ≡ None → (file_of d.file).super_name ≡ above → AboveIn s.records d.class.loader above → May (setting_of c sc content) s (Define d.class)
 may_define c sc content s d None one below draft closed quiet fresh super over =
     let l = d.class.loader in
@@ -146,15 +150,14 @@ pub run_define : (told : Option Content) (x : Shown) (d : Drafted) → RunsAs to
 run_define None x d run one fresh may draft = tt
 run_define (Some content) x d run one fresh may draft =
     let g = setting_of x.config x.script content in
-    let calm = quiet (answers_of x.answers) x.history start in
     subst (λ (es : List Step). Run g start es) (sym (steps_defines x d.class))
     (run_goes_on g start (steps x) (Define d.class) run
-    (may_define x.config x.script content (state_of x) d (file_of d.file).super_name one may.loader draft (runs_are_closed g (steps x) run) calm.equalities fresh refl may.above))
+    (may_define x.config x.script content (state_of x) d (file_of d.file).super_name one may.loader draft (runs_are_closed g (steps x) run) (calm x).equalities fresh refl may.above))
 
 -- ---- posts
 
 -- a request of the script, for now in the first round
-abbrev scheduled : Request → Scheduled
+abbrev pub scheduled : Request → Scheduled
 scheduled r = record { request = request_of r; round = 0 }
 
 say : (g : Setting) (s : State) (l : ℕ) (name : Name) (v : Verdict) → AnswersPlan g s (Load l name) v → MaySay g s (Load l name) v
@@ -177,21 +180,22 @@ may_answer c sc content s (requests.Load l name) (answers.Said (verdicts.Error k
 may_answer c sc content s r answers.Memory closed backed rests = tt
 may_answer c sc content s r (answers.SourceFault name l) closed backed rests = tt
 
+pub may_post : (content : Content) (x : Shown) (q : ℕ) (r : Request) (a : rust.Answer) → RunsAs (Some content) x → length x.config.names ≡ 1 → IsTrusted x → slice_get x.script.requests q ≡ Some r → IsOpen x q → IsBacked x (record { request = r; answer = a }) → Rests (Some content) r a
+    → MayPost (setting_of x.config x.script content) (state_of x) q (answer_of a)
+may_post content x q r a run one trusted asked is backed rests = record {
+  scheduled = scheduled r;
+  asked = slice_get-map scheduled x.script.requests q ∙ ap (λ (o : Option Request). option_map scheduled o) asked;
+  in_round = sym (calm x).round;
+  unposted = unposted_stays (answers_of x.answers) x.history start q (unposted x q trusted is);
+  may_answer = may_answer x.config x.script content (state_of x) r a (runs_are_closed (setting_of x.config x.script content) (steps x) run) backed.answer (rests x.config one backed.loader);
+}
+
 pub run_post : (told : Option Content) (x : Shown) (q : ℕ) (r : Request) (a : rust.Answer) → RunsAs told x → length x.config.names ≡ 1 → IsTrusted x → slice_get x.script.requests q ≡ Some r → IsOpen x q → IsBacked x (record { request = r; answer = a }) → Rests told r a
     → RunsAs told (with_post x q a)
 run_post None x q r a run one trusted asked is backed rests = tt
 run_post (Some content) x q r a run one trusted asked is backed rests =
     let g = setting_of x.config x.script content in
-    let out = unposted x q trusted is in
-    let calm = quiet (answers_of x.answers) x.history start in
-    let may : MayPost g (state_of x) q (answer_of a) = record {
-      scheduled = scheduled r;
-      asked = slice_get-map scheduled x.script.requests q ∙ ap (λ (o : Option Request). option_map scheduled o) asked;
-      in_round = sym calm.round;
-      unposted = unposted_stays (answers_of x.answers) x.history start q out;
-      may_answer = may_answer x.config x.script content (state_of x) r a (runs_are_closed g (steps x) run) backed.answer (rests x.config one backed.loader);
-    } in
-    subst (λ (es : List Step). Run g start es) (sym (steps_posts x q a out is)) (run_goes_on g start (steps x) (Post q (answer_of a)) run may)
+    subst (λ (es : List Step). Run g start es) (sym (steps_posts x q a (unposted x q trusted is) is)) (run_goes_on g start (steps x) (Post q (answer_of a)) run (may_post content x q r a run one trusted asked is backed rests))
 
 pub run_new : (told : Option Content) (x : Shown) → steps x ≡ [] → RunsAs told x
 run_new None x e = tt

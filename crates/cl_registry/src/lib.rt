@@ -8,6 +8,7 @@ pub mod faulty;
 pub mod finding;
 #[cfg(test)]
 mod input_tests;
+pub mod laws;
 pub mod lines;
 pub mod memory;
 pub mod registry;

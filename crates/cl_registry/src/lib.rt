@@ -33,4 +33,4 @@ pub use row::ClassRow;
 pub use script::{Script, ScriptFault, text_is_one_script};
 pub use search::{Home, Search, SearchFault, Unfound, WrongProbe};
 pub use source::{ClassBytes, Outcome, Probe, Source, SourceFault};
-pub use walk::Walk;
+pub use walk::{PushRefused, Walk};

@@ -1,14 +1,14 @@
--- What a report says of the registry that it was made from.
+-- What a report says of the registry that it was made from (own choice).
 use Rattle.std.specs.Prelude.{◌≡◌, ◌<◌, ℕ, map, Some}
 use Rattle.cl_registry.specs.declared.report.Report.{Report}
 use Rattle.cl_registry.specs.Tables.{Shown, IsOpen}
 
--- the script, the history, and the answers, each of which was given
+-- the script, the history, and the answers, each of which was given (own choice)
 pub record IsReport (x : Shown) (r : Report) : Type 0 where
   pub script : r.script.value ≡ x.script
   pub history : r.history ≡ x.history
   pub answers : map (λ a. Some a) r.answers ≡ x.answers
 
--- a request has no answer
+-- a request has no answer (own choice)
 abbrev pub HasOpen : Shown → Type 0
 HasOpen x = (q : ℕ) × IsOpen x q

@@ -1,3 +1,5 @@
+pub mod Allowed
+pub mod Bounds
 pub mod ClassTexts
 pub mod Configs
 pub mod Counts

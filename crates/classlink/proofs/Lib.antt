@@ -1,4 +1,6 @@
 pub mod Cutting
 pub mod Headings
 pub mod Serving
+pub mod Served
+pub mod Counted
 pub mod Written

@@ -3,3 +3,4 @@ pub mod Faults
 pub mod Report
 pub mod Sections
 pub mod Serving
+pub mod Counting

@@ -1,3 +1,5 @@
+use Rattle.classlink.proofs.Served.{begun_none, begun_defined, served_posted, served_next, served_whole, served_none}
+use Rattle.classlink.proofs.Counted.{grows_none, grows_same, grows_then, rises_grows, faults_set, faults_none}
 use Rattle.classlink.proofs.Serving.{goes_define, posts_once}
 use Rattle.classlink.proofs.serve.serve_request.Goals as goal
 

@@ -1,0 +1,146 @@
+-- One request from its first turn to its post, and one request after another, where a content is told.
+use Rattle.std.proofs.Common.{◌≡◌, ◌∙◌, ◌+◌, ◌<◌, ℕ, suc, List, [], ◌∷◌, ◌++◌, length, map, Option, Some, None, refl, sym, ap, subst, arith, append_assoc}
+use Rattle.std.specs.Prelude.{slice_get, take}
+use Rattle.std.proofs.Common.{zero, add-one}
+use Rattle.std.proofs.lemmas.List.{map_push, append-nil, length-map}
+use Rattle.cl_model.specs.declared.class.Class.{Class}
+use Rattle.cl_model.specs.declared.event.Event.TheVariants as events
+use Rattle.cl_model.specs.declared.answer.Answer as rust
+use Rattle.cl_model.specs.declared.request.Request.{Request}
+use Rattle.cl_model.specs.Content.{Content}
+use Rattle.cl_model.specs.Classes.{class}
+use Rattle.cl_model.specs.States.{State, Entry, Answer, Said, OutOfMemory, SourceFault, recorded, start}
+use Rattle.cl_model.specs.Machine.{Setting, Step, Define, Post, Scheduled, AnswersPlan, state_after, Run, May}
+use Rattle.cl_model.specs.Service.{IsNextNeed, IsFailure, Serves, IsBegun, AllServed}
+use Rattle.cl_model.specs.Views.{answer_of, answers_of, request_of, step_of}
+use Rattle.cl_model.proofs.Service.{begun_start, begun_define, begun_said, begun_failed, all_served_push, run_last, state_append}
+use Rattle.cl_registry.specs.Searches.{Drafted}
+use Rattle.cl_registry.specs.Worlds.{world_of, setting_of}
+use Rattle.cl_registry.specs.Tables.{Shown, DefinedAs, RunsAs, steps, state_of, records_of, with_define, with_post}
+use Rattle.classlink.specs.Serving.{machine, InOrder, Since, Served}
+
+-- some first needs of the request's plan were made since
+abbrev pub BegunIn : Option Content → Shown → Shown → Request → Type 0
+BegunIn None old new r = Unit {0}
+BegunIn (Some content) old new r = (s : Since old new) × IsBegun (machine old content).world (request_of r) (state_of old) s.more
+
+same_machine : (old new : Shown) (content : Content) → Since old new → machine new content ≡ machine old content
+same_machine old new content s = rw (s.config, s.script) refl
+
+state_since : (old new : Shown) (s : Since old new) → state_of new ≡ state_after (state_of old) s.more
+state_since old new s = ap (state_after start) s.steps_more ∙ state_append start (steps old) s.more
+
+pub begun_none : (told : Option Content) (x : Shown) (r : Request) → BegunIn told x x r
+begun_none None x r = tt
+begun_none (Some content) x r =
+    (record { config = refl; script = refl; more = []; steps_more = sym (append-nil (steps x)) }, begun_start (machine x content).world (request_of r) (state_of x))
+
+since_more : (old x new : Shown) (s : Since old x) (e : Step) → new.config ≡ x.config → new.script ≡ x.script → steps new ≡ steps x ++ e ∷ [] → Since old new
+since_more old x new s e c p h =
+    record {
+      config = c ∙ s.config;
+      script = p ∙ s.script;
+      more = s.more ++ e ∷ [];
+      steps_more = h ∙ ap (λ (es : List Step). es ++ e ∷ []) s.steps_more ∙ append_assoc (steps old) s.more (e ∷ []);
+    }
+
+steps_define : (x : Shown) (c : Class) → steps (with_define x c) ≡ steps x ++ Define c ∷ []
+steps_define x c = map_push (step_of (answers_of x.answers)) x.history (events.Define c)
+
+-- the last step of a registry's run
+last_may : (content : Content) (x new : Shown) (g : Setting) (e : Step) → RunsAs (Some content) new → machine new content ≡ g → steps new ≡ steps x ++ e ∷ [] → May g (state_of x) e
+last_may content x new g e run same h =
+    run_last g start (steps x) e (subst (λ (es : List Step). Run g start es) h (subst (λ (k : Setting). Run k start (steps new)) same run))
+
+pub begun_defined : (told : Option Content) (old x new : Shown) (r : Request) (d : Drafted) (l : ℕ) (n : List ℕ) → BegunIn told old x r → RunsAs told new → d.class ≡ class n l
+    → ((content : Content) → told ≡ Some content → IsNextNeed (world_of x.config content) (state_of x) (request_of r) (Entry l n l))
+    → DefinedAs x new d (recorded (records_of x) d.class.loader d.class.name) → BegunIn told old new r
+unfolding since_more
+begun_defined None old x new r d l n b run is next made = tt
+begun_defined (Some content) old x new r d l n b run is next made =
+    by_record (recorded (records_of x) l n) refl
+    (subst (λ (c : Class). DefinedAs x new d (recorded (records_of x) c.loader c.name)) is made)
+  where
+    defined : recorded (records_of x) l n ≡ None → new ≡ with_define x d.class → BegunIn (Some content) old new r
+    defined none e =
+        let s = b.0 in
+        let h : steps new ≡ steps x ++ Define (class n l) ∷ [] = ap steps e ∙ steps_define x d.class ∙ ap (λ (c : Class). steps x ++ Define c ∷ []) is in
+        let more = since_more old x new s (Define (class n l)) (ap (λ (y : Shown). y.config) e) (ap (λ (y : Shown). y.script) e) h in
+        let same : machine new content ≡ machine old content = same_machine old new content more in
+        let may : May (machine old content) (state_of x) (Define (class n l)) = last_may content x new (machine old content) (Define (class n l)) run same h in
+        let here : state_of x ≡ state_after (state_of old) s.more = state_since old x s in
+        let need = subst (λ (g : Setting). IsNextNeed g.world (state_of x) (request_of r) (Entry l n l)) (same_machine old x content s) (next content refl) in
+        (more, begun_define (machine old content) (request_of r) (state_of old) s.more l n b.1
+            (subst (λ (t : State). IsNextNeed (machine old content).world t (request_of r) (Entry l n l)) here need)
+            (subst (λ (t : State). May (machine old content) t (Define (class n l))) here may))
+    by_record : (o : Option ℕ) → recorded (records_of x) l n ≡ o → DefinedAs x new d o → BegunIn (Some content) old new r
+    by_record None none m = defined none m.0
+    by_record (Some p) some m = subst (λ (y : Shown). BegunIn (Some content) old y r) (sym m) b
+
+-- an answer is the plan's in this state, or a failure
+abbrev pub Answering : Setting → State → Request → Answer → Type 0
+Answering g s r (Said v) = AnswersPlan g s (request_of r) v
+Answering g s r OutOfMemory = Unit {0}
+Answering g s r (SourceFault n l) = Unit {0}
+
+begun_answered : (g : Setting) (q : ℕ) (r : Request) (s : State) (es : List Step) (a : Answer) → IsBegun g.world (request_of r) s es → Answering g (state_after s es) r a → Serves g q (request_of r) s (es ++ Post q a ∷ [])
+begun_answered g q r s es (Said v) b a = begun_said g q (request_of r) s es v b a
+begun_answered g q r s es OutOfMemory b a = begun_failed g q (request_of r) s es OutOfMemory b tt
+begun_answered g q r s es (SourceFault n l) b a = begun_failed g q (request_of r) s es (SourceFault n l) b tt
+
+pub served_posted : (told : Option Content) (old x new : Shown) (q : ℕ) (r : Request) (a : rust.Answer) → BegunIn told old x r → ((content : Content) → told ≡ Some content → Answering (machine x content) (state_of x) r (answer_of a))
+    → new ≡ with_post x q a → steps (with_post x q a) ≡ steps x ++ Post q (answer_of a) ∷ [] → Served told old new q r
+unfolding since_more
+served_posted None old x new q r a b answering e h = tt
+served_posted (Some content) old x new q r a b answering e h =
+    let s = b.0 in
+    let more = since_more old x new s (Post q (answer_of a)) (ap (λ (y : Shown). y.config) e) (ap (λ (y : Shown). y.script) e) (ap steps e ∙ h) in
+    let here : state_of x ≡ state_after (state_of old) s.more = state_since old x s in
+    let answered = subst (λ (g : Setting). Answering g (state_of x) r (answer_of a)) (same_machine old x content s) (answering content refl) in
+    (more, begun_answered (machine old content) q r (state_of old) s.more (answer_of a) b.1 (subst (λ (t : State). Answering (machine old content) t r (answer_of a)) here answered))
+
+-- ---- one request after another
+
+abbrev scheduled : Request → Scheduled
+scheduled r = record { request = request_of r; round = 0 }
+
+-- the requests before this number are served
+abbrev pub ServedBelow : Option Content → Shown → ℕ → Type 0
+ServedBelow None x q = Unit {0}
+ServedBelow (Some content) x q = AllServed (machine x content) 0 start (take q (machine x content).script) (steps x)
+
+pub served_none : (told : Option Content) (x : Shown) → steps x ≡ [] → ServedBelow told x 0
+served_none None x e = tt
+served_none (Some content) x e = e
+
+take_next : (rs : List Request) (q : ℕ) (r : Request) → slice_get rs q ≡ Some r → take (suc q) (map scheduled rs) ≡ take q (map scheduled rs) ++ scheduled r ∷ []
+take_next [] q r e = absurd cc
+take_next (x ∷ rs) zero r e = let same : x ≡ r = cc in rw same refl
+take_next (x ∷ rs) (suc q) r e = ap (λ (l : List Scheduled). scheduled x ∷ l) (take_next rs q r e)
+
+length_below : (rs : List Request) (q : ℕ) (r : Request) → slice_get rs q ≡ Some r → length (take q (map scheduled rs)) ≡ q
+length_below [] q r e = absurd cc
+length_below (x ∷ rs) zero r e = refl
+length_below (x ∷ rs) (suc q) r e = ap (λ (n : ℕ). suc n) (length_below rs q r e)
+
+take_all : (xs : List Scheduled) → take (length xs) xs ≡ xs
+take_all [] = refl
+take_all (x ∷ xs) = ap (λ (l : List Scheduled). x ∷ l) (take_all xs)
+
+pub served_next : (told : Option Content) (old new : Shown) (q : ℕ) (r : Request) → ServedBelow told old q → slice_get old.script.requests q ≡ Some r → Served told old new q r → ServedBelow told new (q + 1)
+served_next None old new q r below asked one = tt
+served_next (Some content) old new q r below asked one =
+    let s = one.0 in
+    let g = machine old content in
+    let all = all_served_push g 0 q start (take q g.script) (scheduled r) (steps old) s.more below one.1 (let n = length_below old.script.requests q r asked in omega arith) in
+    subst (λ (k : ℕ). ServedBelow (Some content) new k) (sym (add-one q))
+    (subst (λ (h : Setting). AllServed h 0 start (take (suc q) h.script) (steps new)) (sym (same_machine old new content s))
+    (subst (λ (rs : List Scheduled). AllServed g 0 start rs (steps new)) (sym (take_next old.script.requests q r asked))
+    (subst (λ (es : List Step). AllServed g 0 start (take q g.script ++ scheduled r ∷ []) es) (sym s.steps_more) all)))
+
+pub served_whole : (told : Option Content) (x : Shown) (q : ℕ) → ServedBelow told x q → q ≡ length x.script.requests → InOrder told x
+served_whole None x q below e = tt
+served_whole (Some content) x q below e =
+    let g = machine x content in
+    let n : q ≡ length g.script = e ∙ sym (length-map x.script.requests scheduled) in
+    subst (λ (rs : List Scheduled). AllServed g 0 start rs (steps x)) (ap (λ (k : ℕ). take k g.script) n ∙ take_all g.script) below

@@ -1,9 +1,18 @@
 -- The count of a source beside the answers that are its faults.
-use Rattle.std.proofs.Common.{◌≡◌, ◌⊎◌, inl, inr, ◌∙◌, ◌+◌, ◌≤◌, ℕ, zero, suc, List, [], ◌∷◌, Option, Some, None, map, refl, sym, ap, arith, replicate}
+use Rattle.std.proofs.Common.{◌≡◌, ◌⊎◌, inl, inr, ◌∙◌, ◌+◌, ◌≤◌, ℕ, zero, suc, List, [], ◌∷◌, Option, Some, None, map, refl, sym, ap, subst, arith, replicate}
 use Rattle.std.specs.Prelude.{◌^◌, slice_get, slice_set}
 use Rattle.cl_model.specs.declared.answer.Answer.{Answer}
-use Rattle.cl_registry.specs.Counts.{Rises}
-use Rattle.classlink.specs.Counting.{fault, faults, RoseBy, Grows}
+use Rattle.cl_model.specs.declared.answer.Answer.TheVariants as answers
+use Rattle.cl_registry.specs.Counts.{Rises, CountsFault}
+use Rattle.cl_registry.specs.declared.source.SourceFault.{SourceFault}
+use Rattle.cl_registry.specs.declared.source.SourceFault.TheVariants as sources
+use Rattle.cl_registry.specs.Findings.{Answered}
+use Rattle.cl_registry.specs.Walks.{Walked}
+use Rattle.cl_tasks.specs.declared.stage.Reply.{Reply}
+use Rattle.cl_tasks.specs.declared.stage.Reply.TheVariants as reply
+use Rattle.cl_tasks.specs.declared.stage.Turn.TheVariants as turn
+use Rattle.cl_tasks.specs.Follows.{NoFault, Refuses, refusal}
+use Rattle.classlink.specs.Counting.{fault, faults, told_faults, RoseBy, Grows, FaultsGrow}
 
 pub grows_none : (old : ℕ) → Grows 0 old old
 grows_none old = record { stays = λ e. e; rose = inr (omega arith) }
@@ -44,3 +53,32 @@ faults_set (Some b ∷ xs) (suc q) a e = let h = faults_set xs q a e in omega ar
 pub faults_none : (n : ℕ) → faults (replicate n None) ≡ 0
 faults_none zero = refl
 faults_none (suc n) = faults_none n
+
+-- ---- an answer and the reply before it
+
+no_fault : (a : Answer) → NoFault a → fault a ≡ 0
+no_fault (answers.Said v) n = refl
+no_fault answers.Memory n = refl
+no_fault (answers.SourceFault name loader) n = absurd n
+
+-- an answer is a fault of the source where the reply before it told of one, and nowhere else
+pub told_fault : {A : Type 0} (w : Walked) (r : Reply A) (f : Answered) → Refuses (refusal w r) (turn.Post f) → fault f.answer ≡ told_faults r
+told_fault w (reply.Start) f h = no_fault f.answer h
+told_fault w (reply.Looked row) f h = no_fault f.answer h
+told_fault w (reply.Probed p) f h = no_fault f.answer h
+told_fault w (reply.Defined row) f h = no_fault f.answer h
+told_fault w (reply.Memory) f h = ap fault h
+told_fault w (reply.SourceFault sources.Memory) f h = ap fault h
+told_fault w (reply.SourceFault sources.Device) f h = ap fault h
+told_fault w (reply.SourceFault sources.TooLarge) f h = ap fault h
+told_fault w (reply.SourceFault sources.Twice) f h = ap fault h
+
+-- a reply to a read, and the count
+pub read_grows : {A : Type 0} (old new : ℕ) (f : SourceFault) → CountsFault old new f → Grows (told_faults {A = A} (reply.SourceFault f)) old new
+read_grows old new sources.Memory c = grows_same 0 old old new (grows_none old) c
+read_grows old new sources.Device c = rises_grows old new c
+read_grows old new sources.TooLarge c = rises_grows old new c
+read_grows old new sources.Twice c = absurd c
+
+pub post_grows : (xs ys : List (Option Answer)) (q : ℕ) (a : Answer) (n old new : ℕ) → slice_get xs q ≡ Some None → ys ≡ slice_set xs q (Some a) → fault a ≡ n → Grows n old new → FaultsGrow xs ys old new
+post_grows xs ys q a n old new open e one g = record { number = fault a; counted = ap faults e ∙ faults_set xs q a open; grows = subst (λ (k : ℕ). Grows k old new) (sym one) g }

@@ -3,4 +3,5 @@ pub mod Headings
 pub mod Serving
 pub mod Served
 pub mod Counted
+pub mod Headline
 pub mod Written

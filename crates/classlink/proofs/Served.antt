@@ -1,5 +1,5 @@
 -- One request from its first turn to its post, and one request after another, where a content is told.
-use Rattle.std.proofs.Common.{◌≡◌, ◌∙◌, ◌+◌, ◌<◌, ℕ, suc, List, [], ◌∷◌, ◌++◌, length, map, Option, Some, None, refl, sym, ap, subst, arith, append_assoc}
+use Rattle.std.proofs.Common.{◌≡◌, ◌⊎◌, inl, inr, ◌∙◌, ◌+◌, ◌<◌, ℕ, suc, List, [], ◌∷◌, ◌++◌, length, map, Option, Some, None, refl, sym, ap, subst, arith, append_assoc}
 use Rattle.std.specs.Prelude.{slice_get, take}
 use Rattle.std.proofs.Common.{zero, add-one}
 use Rattle.std.proofs.lemmas.List.{map_push, append-nil, length-map}
@@ -13,11 +13,18 @@ use Rattle.cl_model.specs.States.{State, Entry, Answer, Said, OutOfMemory, Sourc
 use Rattle.cl_model.specs.Machine.{Setting, Step, Define, Post, Scheduled, AnswersPlan, state_after, Run, May}
 use Rattle.cl_model.specs.Service.{IsNextNeed, IsFailure, Serves, IsBegun, AllServed}
 use Rattle.cl_model.specs.Views.{answer_of, answers_of, request_of, step_of}
+use Rattle.cl_model.proofs.Closed.{runs_are_closed}
 use Rattle.cl_model.proofs.Service.{begun_start, begun_define, begun_said, begun_failed, all_served_push, run_last, state_append}
 use Rattle.cl_registry.specs.Searches.{Drafted}
 use Rattle.cl_registry.specs.Worlds.{world_of, setting_of}
-use Rattle.cl_registry.specs.Tables.{Shown, DefinedAs, RunsAs, steps, state_of, records_of, with_define, with_post}
-use Rattle.classlink.specs.Serving.{machine, InOrder, Since, Served}
+use Rattle.cl_registry.specs.Findings.{Answered, loader_of}
+use Rattle.cl_registry.specs.Tables.{Shown, IsKept, IsOpen, RunsAs, steps, state_of, with_define, with_post}
+use Rattle.cl_registry.proofs.Histories.{steps_defines, steps_posts}
+use Rattle.cl_registry.proofs.Kept.{unposted}
+use Rattle.cl_tasks.specs.declared.stage.Turn.TheVariants as turn
+use Rattle.cl_tasks.specs.Follows.{ServedIn, FollowsWhere, AnswerFollows}
+use Rattle.classlink.specs.Serving.{machine, InOrder, Since, Served, DefinesFor}
+use Rattle.classlink.proofs.Serving.{Goes, goes_none, goes_same, goes_event}
 
 -- some first needs of the request's plan were made since
 abbrev pub BegunIn : Option Content → Shown → Shown → Request → Type 0
@@ -44,38 +51,26 @@ since_more old x new s e c p h =
       steps_more = h ∙ ap (λ (es : List Step). es ++ e ∷ []) s.steps_more ∙ append_assoc (steps old) s.more (e ∷ []);
     }
 
-steps_define : (x : Shown) (c : Class) → steps (with_define x c) ≡ steps x ++ Define c ∷ []
-steps_define x c = map_push (step_of (answers_of x.answers)) x.history (events.Define c)
-
 -- the last step of a registry's run
 last_may : (content : Content) (x new : Shown) (g : Setting) (e : Step) → RunsAs (Some content) new → machine new content ≡ g → steps new ≡ steps x ++ e ∷ [] → May g (state_of x) e
 last_may content x new g e run same h =
     run_last g start (steps x) e (subst (λ (es : List Step). Run g start es) h (subst (λ (k : Setting). Run k start (steps new)) same run))
 
-pub begun_defined : (told : Option Content) (old x new : Shown) (r : Request) (d : Drafted) (l : ℕ) (n : List ℕ) → BegunIn told old x r → RunsAs told new → d.class ≡ class n l
-    → ((content : Content) → told ≡ Some content → IsNextNeed (world_of x.config content) (state_of x) (request_of r) (Entry l n l))
-    → DefinedAs x new d (recorded (records_of x) d.class.loader d.class.name) → BegunIn told old new r
+pub begun_defined : (told : Option Content) (old x new : Shown) (r : Request) (c : Class) → BegunIn told old x r → RunsAs told new
+    → ((content : Content) → told ≡ Some content → IsNextNeed (machine x content).world (state_of x) (request_of r) (Entry c.loader c.name c.loader)) → new ≡ with_define x c → BegunIn told old new r
 unfolding since_more
-begun_defined None old x new r d l n b run is next made = tt
-begun_defined (Some content) old x new r d l n b run is next made =
-    by_record (recorded (records_of x) l n) refl
-    (subst (λ (c : Class). DefinedAs x new d (recorded (records_of x) c.loader c.name)) is made)
-  where
-    defined : recorded (records_of x) l n ≡ None → new ≡ with_define x d.class → BegunIn (Some content) old new r
-    defined none e =
-        let s = b.0 in
-        let h : steps new ≡ steps x ++ Define (class n l) ∷ [] = ap steps e ∙ steps_define x d.class ∙ ap (λ (c : Class). steps x ++ Define c ∷ []) is in
-        let more = since_more old x new s (Define (class n l)) (ap (λ (y : Shown). y.config) e) (ap (λ (y : Shown). y.script) e) h in
-        let same : machine new content ≡ machine old content = same_machine old new content more in
-        let may : May (machine old content) (state_of x) (Define (class n l)) = last_may content x new (machine old content) (Define (class n l)) run same h in
-        let here : state_of x ≡ state_after (state_of old) s.more = state_since old x s in
-        let need = subst (λ (g : Setting). IsNextNeed g.world (state_of x) (request_of r) (Entry l n l)) (same_machine old x content s) (next content refl) in
-        (more, begun_define (machine old content) (request_of r) (state_of old) s.more l n b.1
-            (subst (λ (t : State). IsNextNeed (machine old content).world t (request_of r) (Entry l n l)) here need)
-            (subst (λ (t : State). May (machine old content) t (Define (class n l))) here may))
-    by_record : (o : Option ℕ) → recorded (records_of x) l n ≡ o → DefinedAs x new d o → BegunIn (Some content) old new r
-    by_record None none m = defined none m.0
-    by_record (Some p) some m = subst (λ (y : Shown). BegunIn (Some content) old y r) (sym m) b
+begun_defined None old x new r c b run next e = tt
+begun_defined (Some content) old x new r c b run next e =
+    let s = b.0 in
+    let h : steps new ≡ steps x ++ Define c ∷ [] = ap steps e ∙ steps_defines x c in
+    let more = since_more old x new s (Define c) (ap (λ (y : Shown). y.config) e) (ap (λ (y : Shown). y.script) e) h in
+    let same : machine new content ≡ machine old content = same_machine old new content more in
+    let may : May (machine old content) (state_of x) (Define c) = last_may content x new (machine old content) (Define c) run same h in
+    let here : state_of x ≡ state_after (state_of old) s.more = state_since old x s in
+    let need = subst (λ (g : Setting). IsNextNeed g.world (state_of x) (request_of r) (Entry c.loader c.name c.loader)) (same_machine old x content s) (next content refl) in
+    (more, begun_define (machine old content) (request_of r) (state_of old) s.more c.loader c.name b.1
+        (subst (λ (t : State). IsNextNeed (machine old content).world t (request_of r) (Entry c.loader c.name c.loader)) here need)
+        (subst (λ (t : State). May (machine old content) t (Define c)) here may))
 
 -- an answer is the plan's in this state, or a failure
 abbrev pub Answering : Setting → State → Request → Answer → Type 0
@@ -98,6 +93,60 @@ served_posted (Some content) old x new q r a b answering e h =
     let here : state_of x ≡ state_after (state_of old) s.more = state_since old x s in
     let answered = subst (λ (g : Setting). Answering g (state_of x) r (answer_of a)) (same_machine old x content s) (answering content refl) in
     (more, begun_answered (machine old content) q r (state_of old) s.more (answer_of a) b.1 (subst (λ (t : State). Answering (machine old content) t r (answer_of a)) here answered))
+
+-- ---- what a task says, where its request is served
+
+-- what a registry keeps from the first turn of a request on
+pub record Going (told : Option Content) (old now : Shown) (r : Request) : Type 0 where
+  pub goes : Goes old now
+  pub answers : now.answers ≡ old.answers
+  pub kept : IsKept told now
+  pub begun : BegunIn told old now r
+
+pub going_start : (told : Option Content) (x : Shown) (r : Request) → IsKept told x → Going told x x r
+going_start told x r kept = record { goes = goes_none x; answers = refl; kept = kept; begun = begun_none told x r }
+
+-- one loader's content is told, and the request names that loader
+pub served_where : (told : Option Content) (x : Shown) (r : Request) (content : Content) → told ≡ Some content → IsKept told x → length x.config.names ≡ 1 → loader_of r < length x.config.names → ServedIn told (machine x content) (state_of x) r
+served_where told x r content e kept one below =
+    record {
+      content = content;
+      told_so = e;
+      config = x.config;
+      world = refl;
+      one = one;
+      loader = below;
+      closed = runs_are_closed (machine x content) (steps x) (subst (λ (o : Option Content). RunsAs o x) e kept.run);
+    }
+
+pub going_define : {A : Type 0} (told : Option Content) (old x new : Shown) (r : Request) (d : Drafted) → Going told old x r → length x.config.names ≡ 1 → loader_of r < length x.config.names → (holds : State → Type 0) → holds (state_of x)
+    → FollowsWhere {A = A} told holds r (turn.Define d) → DefinesFor x new d → IsKept told new → Going told old new r
+going_define told old x new r d g one below holds held follows (inl same) kept =
+    record {
+      goes = goes_same old x new g.goes same;
+      answers = ap (λ (y : Shown). y.answers) same ∙ g.answers;
+      kept = kept;
+      begun = subst (λ (y : Shown). BegunIn told old y r) (sym same) g.begun;
+    }
+going_define told old x new r d g one below holds held follows (inr one_more) kept =
+    record {
+      goes = goes_event old x new d.class g.goes one_more;
+      answers = ap (λ (y : Shown). y.answers) one_more ∙ g.answers;
+      kept = kept;
+      begun = begun_defined told old x new r d.class g.begun kept.run (λ content e. follows (machine x content) (state_of x) (served_where told x r content e g.kept one below) held) one_more;
+    }
+
+answering : (g : Setting) (s : State) (r : Request) (a : rust.Answer) → AnswerFollows g s r a → Answering g s r (answer_of a)
+answering g s r (rust.TheVariants.Said v) f = f
+answering g s r rust.TheVariants.Memory f = tt
+answering g s r (rust.TheVariants.SourceFault n l) f = tt
+
+pub going_post : {A : Type 0} (told : Option Content) (old x new : Shown) (q : ℕ) (r : Request) (f : Answered) → Going told old x r → length x.config.names ≡ 1 → loader_of r < length x.config.names → (holds : State → Type 0) → holds (state_of x)
+    → FollowsWhere {A = A} told holds r (turn.Post f) → IsOpen x q → new ≡ with_post x q f.answer → Served told old new q r
+going_post told old x new q r f g one below holds held follows open e =
+    served_posted told old x new q r f.answer g.begun
+    (λ content t. answering (machine x content) (state_of x) r f.answer (follows (machine x content) (state_of x) (served_where told x r content t g.kept one below) held)) e
+    (steps_posts x q f.answer (unposted x q g.kept.trusted open) open)
 
 -- ---- one request after another
 

@@ -2,8 +2,8 @@
 use Rattle.std.proofs.Common.{◌≡◌, ◌≢◌, ◌∙◌, ◌+◌, ◌∷◌, ◌++◌, [], ℕ, List, Option, Some, None, map, refl, ap, sym, subst, add-one}
 use Rattle.cl_model.specs.declared.answer.Answer.{Answer}
 use Rattle.cl_registry.specs.declared.report.Report.{Report}
-use Rattle.cl_registry.specs.Searches.{Drafted}
-use Rattle.cl_registry.specs.Tables.{Shown, DefinedAs, IsTrusted, posts, with_post}
+use Rattle.cl_model.specs.declared.class.Class.{Class}
+use Rattle.cl_registry.specs.Tables.{Shown, IsTrusted, posts, with_define, with_post}
 use Rattle.cl_registry.specs.Reports.{IsReport}
 use Rattle.cl_registry.proofs.Kept.{posts_define, posts_post}
 use Rattle.cl_tasks.specs.declared.phase.Phase.{Phase}
@@ -19,14 +19,13 @@ pub record Goes (old new : Shown) : Type 0 where
 pub goes_none : (x : Shown) → Goes x x
 goes_none x = record { config = refl; script = refl; posts_same = refl }
 
-pub goes_define : (start old new : Shown) (d : Drafted) (o : Option ℕ) → Goes start old → DefinedAs old new d o → Goes start new
-goes_define start old new d None g e =
+pub goes_event : (start old new : Shown) (c : Class) → Goes start old → new ≡ with_define old c → Goes start new
+goes_event start old new c g e =
     record {
-      config = ap (λ x. x.config) e.0 ∙ g.config;
-      script = ap (λ x. x.script) e.0 ∙ g.script;
-      posts_same = ap (λ x. posts x.history) e.0 ∙ posts_define old.history d.class ∙ g.posts_same;
+      config = ap (λ x. x.config) e ∙ g.config;
+      script = ap (λ x. x.script) e ∙ g.script;
+      posts_same = ap (λ x. posts x.history) e ∙ posts_define old.history c ∙ g.posts_same;
     }
-goes_define start old new d (Some place) g e = subst (Goes start) (sym e) g
 
 pub goes_same : (start old new : Shown) → Goes start old → new ≡ old → Goes start new
 goes_same start old new g e = subst (Goes start) (sym e) g

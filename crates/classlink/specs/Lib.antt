@@ -4,3 +4,4 @@ pub mod Report
 pub mod Sections
 pub mod Serving
 pub mod Counting
+pub mod Headline

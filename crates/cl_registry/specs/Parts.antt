@@ -4,6 +4,7 @@ use Rattle.cl_classfile.specs.Files.{file_of}
 use Rattle.cl_model.specs.declared.answer.Answer.{Answer}
 use Rattle.cl_model.specs.declared.request.Request.{Request}
 use Rattle.cl_model.specs.Classes.{class}
+use Rattle.cl_model.specs.Texts.{AnswerNames}
 use Rattle.cl_registry.specs.declared.row.ClassRow.{ClassRow}
 use Rattle.cl_registry.specs.Searches.{Drafted}
 use Rattle.cl_registry.specs.Findings.{loader_of, name_of}
@@ -23,6 +24,7 @@ pub record IsOf (row : ClassRow) (d : Drafted) : Type 0 where
 -- what an answer rests on stands in a table of places
 pub record BackedIn (place : ℕ → List ℕ → Option ℕ) (count : ℕ) (r : Request) (a : Answer) : Type 0 where
   pub loader : loader_of r < count
+  pub names : AnswerNames count a
   pub answer : AnswerBacked (place (loader_of r) (name_of r)) (name_of r) a
 
 -- a class may be recorded, by a table of who has a row

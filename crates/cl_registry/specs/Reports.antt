@@ -1,5 +1,6 @@
 -- What a report says of the registry that it was made from.
-use Rattle.std.specs.Prelude.{◌≡◌, ◌<◌, ℕ, map, Some}
+use Rattle.std.specs.Prelude.{◌≡◌, ◌<◌, ℕ, map, Some, All}
+use Rattle.cl_model.specs.Texts.{AnswerNames, EventNames}
 use Rattle.cl_registry.specs.declared.report.Report.{Report}
 use Rattle.cl_registry.specs.Tables.{Shown, IsOpen}
 
@@ -8,6 +9,11 @@ pub record IsReport (x : Shown) (r : Report) : Type 0 where
   pub script : r.script.value ≡ x.script
   pub history : r.history ≡ x.history
   pub answers : map (λ a. Some a) r.answers ≡ x.answers
+
+-- each loader that the report names is below this count
+pub record IsNamed (count : ℕ) (r : Report) : Type 0 where
+  pub history : All (EventNames count) r.history
+  pub answers : All (AnswerNames count) r.answers
 
 -- a request has no answer
 abbrev pub HasOpen : Shown → Type 0

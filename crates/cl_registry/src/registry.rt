@@ -2,7 +2,7 @@ ghost use Rattle.std.specs.Prelude.{◌≡◌, ◌<◌, replicate, [], OnOk, IfO
 ghost use Rattle.cl_model.specs.States.{recorded};
 ghost use Rattle.cl_registry.specs.Tables.{DefinedAs, IsAsked, IsBacked, IsKept, IsOpen, IsRow, records_of, with_post};
 ghost use Rattle.cl_registry.specs.Refusals.{DefineRefusedFor, PostRefusedFor};
-ghost use Rattle.cl_registry.specs.Reports.{HasOpen, IsReport};
+ghost use Rattle.cl_registry.specs.Reports.{HasOpen, IsNamed, IsReport};
 
 use crate::config::Config;
 use crate::draft::Draft;
@@ -134,6 +134,7 @@ impl<T: Told> Registry<T> {
         ensures row { IfOk result (λ r. IsRow T.told r.value draft.class.loader draft.class.name r.value.class.loader) }
         ensures refused { IfErr result (λ e. DefineRefusedFor self.old draft e.fault) }
         ensures unchanged { IfErr result (λ e. (self.new ≡ self.old) × (e.draft ≡ draft)) }
+        ensures kept { IsKept T.told self.new }
     {
         match known(&self.rows, &draft) {
             Some(row) => {
@@ -169,6 +170,7 @@ impl<T: Told> Registry<T> {
         ensures posted { OnOk result (self.new ≡ with_post self.old q finding.answer) }
         ensures refused { IfErr result (λ e. PostRefusedFor self.old q finding e.fault) }
         ensures unchanged { IfErr result (λ e. (self.new ≡ self.old) × (e.finding ≡ finding)) }
+        ensures kept { IsKept T.told self.new }
     {
         if !is_asked(self.script.requests(), q, finding.request()) {
             return Err(PostRefused {
@@ -203,6 +205,7 @@ impl<T: Told> Registry<T> {
     pub fn into_report(self) -> Result<Report, NotYet<T>>
         ensures whole { IfOk result (λ r. IsReport self r) }
         ensures kept { IfOk result (λ r. IsKept T.told self) }
+        ensures loaders { IfOk result (λ r. IsNamed (length self.config.names) r) }
         ensures refused { IfErr result (λ e. (e.registry ≡ self) × HasOpen self) }
     {
         if self.left != 0 {

@@ -81,4 +81,4 @@ read_grows old new sources.TooLarge c = rises_grows old new c
 read_grows old new sources.Twice c = absurd c
 
 pub post_grows : (xs ys : List (Option Answer)) (q : ℕ) (a : Answer) (n old new : ℕ) → slice_get xs q ≡ Some None → ys ≡ slice_set xs q (Some a) → fault a ≡ n → Grows n old new → FaultsGrow xs ys old new
-post_grows xs ys q a n old new open e one g = record { number = fault a; counted = ap faults e ∙ faults_set xs q a open; grows = subst (λ (k : ℕ). Grows k old new) (sym one) g }
+post_grows xs ys q a n old new opened e one g = record { number = fault a; counted = ap faults e ∙ faults_set xs q a opened; grows = subst (λ (k : ℕ). Grows k old new) (sym one) g }

@@ -1,9 +1,9 @@
 -- What follows of a report from its being a run: spelling, equal answers, circles.
-use Rattle.std.proofs.Common.{◌≡◌, ◌⊎◌, inl, inr, ◌∙◌, ℕ, zero, suc, Bool, true, false, List, [], ◌∷◌, ◌++◌, Option, Some, None, refl, sym, ap, subst}
+use Rattle.std.proofs.Common.{◌≡◌, ◌⊎◌, inl, inr, ◌∙◌, ℕ, zero, suc, Bool, true, false, List, [], ◌∷◌, ◌++◌, Option, Some, None, refl, sym, ap, subst, is_some}
 use Rattle.std.specs.Prelude.{◌||◌, ◌==◌, nat_eq, if◌then◌else◌, slice_get, find, option_map, option_and_then}
 use Rattle.std.specs.Option.{option_or}
 use Rattle.std.proofs.lemmas.Option.{slice_get-map}
-use Rattle.std.proofs.lemmas.List.{find-append}
+use Rattle.std.specs.FinMap.Entries.{find-append}
 use Rattle.std.proofs.lemmas.Cmp.{nat_eq_equiv}
 use Rattle.cl_model.specs.declared.class.Class.{Class}
 use Rattle.cl_model.specs.declared.event.Event.{Event}
@@ -92,15 +92,17 @@ found_here xs q a none =
 posted_answer : (now : List (Option Answer)) (h : List Event) (s : State) (q : ℕ) (a : Answer) → answer_at now q ≡ Some a → answer_to s.answers q ≡ None → is_in q (posts h) ≡ true → answer_to (state_after s (steps_of now h)).answers q ≡ Some a
 posted_answer now [] s q a at none is = absurd cc
 posted_answer now (events.Define c ∷ h) s q a at none is = posted_answer now h (after s (Define c)) q a at none is
-posted_answer now (events.Post p ∷ h) s q a at none is = by_test (nat_eq q p) refl is
+posted_answer now (events.Post p ∷ h) s q a at none is = by_test (nat_eq q p) refl is (posted_answer now h (after s (post_of p (answer_at now p))) q a at)
   where
     here : q ≡ p → answer_to (after s (post_of p (answer_at now p))).answers q ≡ Some a
     here same =
         subst (λ (k : ℕ). answer_to (after s (post_of k (answer_at now k))).answers q ≡ Some a) same
         (ap (λ (o : Option Answer). answer_to (after s (post_of q o)).answers q) at ∙ found_here s.answers q a none)
-    by_test : (b : Bool) → nat_eq q p ≡ b → (b || is_in q (posts h)) ≡ true → answer_to (state_after s (steps_of now (events.Post p ∷ h))).answers q ≡ Some a
-    by_test true e t = posted_stay (after s (post_of p (answer_at now p))) (steps_of now h) q a (here (eq_nat q p e))
-    by_test false e t = posted_answer now h (after s (post_of p (answer_at now p))) q a at (post_other s q p (answer_at now p) (swap_nat p q ∙ e) ∙ none) t
+    by_test : (b : Bool) → nat_eq q p ≡ b → (b || is_in q (posts h)) ≡ true
+        → (answer_to (after s (post_of p (answer_at now p))).answers q ≡ None → is_in q (posts h) ≡ true → answer_to (state_after s (steps_of now (events.Post p ∷ h))).answers q ≡ Some a)
+        → answer_to (state_after s (steps_of now (events.Post p ∷ h))).answers q ≡ Some a
+    by_test true e t rest = posted_stay (after s (post_of p (answer_at now p))) (steps_of now h) q a (here (eq_nat q p e))
+    by_test false e t rest = rest (post_other s q p (answer_at now p) (swap_nat p q ∙ e) ∙ none) t
 
 given_at : (xs : List (Option answers.Answer)) (q : ℕ) (a : answers.Answer) → slice_get xs q ≡ Some (Some a) → answer_at (answers_of xs) q ≡ Some (answer_of a)
 given_at xs q a e =
@@ -109,10 +111,7 @@ given_at xs q a e =
 said_there : (x : Shown) (q : ℕ) (v : verdicts.Verdict) → IsTrusted x → slice_get x.answers q ≡ Some (Some (answers.TheVariants.Said v)) → answer_to (state_of x).answers q ≡ Some (Said (verdict_of v))
 said_there x q v t e =
     let at = given_at x.answers q (answers.TheVariants.Said v) e in
-    posted_answer (answers_of x.answers) x.history start q (Said (verdict_of v)) at refl (t.posted q ∙ ap is_some_of at)
-  where
-    is_some_of : Option Answer → Bool
-    is_some_of o = is_some o
+    posted_answer (answers_of x.answers) x.history start q (Said (verdict_of v)) at refl (t.posted q ∙ ap is_some at)
 
 -- ---- the clauses
 

@@ -1,26 +1,29 @@
 -- One request from its first turn to its post, and one request after another, where a content is told.
 use Rattle.std.proofs.Common.{◌≡◌, ◌⊎◌, inl, inr, ◌∙◌, ◌+◌, ◌<◌, ℕ, suc, List, [], ◌∷◌, ◌++◌, length, map, Option, Some, None, refl, sym, ap, subst, arith, append_assoc}
-use Rattle.std.specs.Prelude.{slice_get, take}
+use Rattle.std.specs.Prelude.{◌==◌, ◌&&◌, Bool, true, false, if◌then◌else◌, find, option_map, slice_get, take}
+use Rattle.std.specs.List.{AllByRecursion}
 use Rattle.std.proofs.Common.{zero, add-one}
 use Rattle.std.proofs.lemmas.List.{map_push, append-nil, length-map}
 use Rattle.cl_model.specs.declared.class.Class.{Class}
+use Rattle.cl_model.specs.declared.event.Event.{Event}
 use Rattle.cl_model.specs.declared.event.Event.TheVariants as events
+use Rattle.cl_classfile.specs.Files.{same_name}
 use Rattle.cl_model.specs.declared.answer.Answer as rust
 use Rattle.cl_model.specs.declared.request.Request.{Request}
 use Rattle.cl_model.specs.Content.{Content}
 use Rattle.cl_model.specs.Classes.{class}
-use Rattle.cl_model.specs.States.{State, Entry, Answer, Said, OutOfMemory, SourceFault, recorded, start}
-use Rattle.cl_model.specs.Machine.{Setting, Step, Define, Post, Scheduled, AnswersPlan, state_after, Run, May}
+use Rattle.cl_model.specs.States.{State, Entry, Answer, Said, OutOfMemory, SourceFault, Record, IsRecorded, recorded, start}
+use Rattle.cl_model.specs.Machine.{Setting, Step, Define, Post, Scheduled, AnswersPlan, after, state_after, Run, May}
 use Rattle.cl_model.specs.Service.{IsNextNeed, IsFailure, Serves, IsBegun, AllServed}
-use Rattle.cl_model.specs.Views.{answer_of, answers_of, request_of, step_of}
+use Rattle.cl_model.specs.Views.{answer_of, answers_of, answer_at, request_of, post_of, step_of, steps_of}
+use Rattle.cl_model.proofs.Runs.{record_found}
 use Rattle.cl_model.proofs.Closed.{runs_are_closed}
 use Rattle.cl_model.proofs.Service.{begun_start, begun_define, begun_said, begun_failed, all_served_push, run_last, state_append}
 use Rattle.cl_registry.specs.Searches.{Drafted}
 use Rattle.cl_registry.specs.Worlds.{world_of, setting_of}
 use Rattle.cl_registry.specs.Findings.{Answered, loader_of}
-use Rattle.cl_registry.specs.Tables.{Shown, IsKept, IsOpen, RunsAs, steps, state_of, with_define, with_post}
-use Rattle.cl_registry.proofs.Histories.{steps_defines, steps_posts}
-use Rattle.cl_registry.proofs.Kept.{unposted}
+use Rattle.cl_registry.specs.Tables.{Shown, DefinedAs, IsKept, IsOpen, RunsAs, steps, state_of, records_of, with_define, with_post}
+use Rattle.cl_registry.proofs.Histories.{eq_nat, state_defines, steps_defines, steps_posts, unposted}
 use Rattle.cl_tasks.specs.declared.stage.Turn.TheVariants as turn
 use Rattle.cl_tasks.specs.Follows.{ServedIn, FollowsWhere, AnswerFollows}
 use Rattle.classlink.specs.Serving.{machine, InOrder, Since, Served, DefinesFor}
@@ -143,10 +146,44 @@ answering g s r (rust.TheVariants.SourceFault n l) f = tt
 
 pub going_post : {A : Type 0} (told : Option Content) (old x new : Shown) (q : ℕ) (r : Request) (f : Answered) → Going told old x r → length x.config.names ≡ 1 → loader_of r < length x.config.names → (holds : State → Type 0) → holds (state_of x)
     → FollowsWhere {A = A} told holds r (turn.Post f) → IsOpen x q → new ≡ with_post x q f.answer → Served told old new q r
-going_post told old x new q r f g one below holds held follows open e =
+going_post told old x new q r f g one below holds held follows opened e =
     served_posted told old x new q r f.answer g.begun
     (λ content t. answering (machine x content) (state_of x) r f.answer (follows (machine x content) (state_of x) (served_where told x r content t g.kept one below) held)) e
-    (steps_posts x q f.answer (unposted x q g.kept.trusted open) open)
+    (steps_posts x q f.answer (unposted x q g.kept.trusted opened) opened)
+
+-- ---- what is defined is recorded by its own loader
+
+own_push : (rs : List Record) (r : Record) → AllByRecursion (λ (x : Record). x.place ≡ x.loader) rs → r.place ≡ r.loader → AllByRecursion (λ (x : Record). x.place ≡ x.loader) (rs ++ r ∷ [])
+own_push [] r all own = (own, tt)
+own_push (x ∷ rs) r all own = (all.0, own_push rs r all.1 own)
+
+own_after : (now : List (Option Answer)) (h : List Event) (s : State) → AllByRecursion (λ (x : Record). x.place ≡ x.loader) s.records → AllByRecursion (λ (x : Record). x.place ≡ x.loader) (state_after s (steps_of now h)).records
+own_after now [] s all = all
+own_after now (events.Define c ∷ h) s all = own_after now h (after s (Define c)) (own_push s.records (record { loader = c.loader; name = c.name; place = c.loader }) all refl)
+own_after now (events.Post q ∷ h) s all = own_after now h (after s (post_of q (answer_at now q))) (posted (answer_at now q))
+  where
+    posted : (o : Option Answer) → AllByRecursion (λ (x : Record). x.place ≡ x.loader) (after s (post_of q o)).records
+    posted None = all
+    posted (Some a) = all
+
+own_found : (rs : List Record) (l : ℕ) (n : List ℕ) (p : ℕ) → AllByRecursion (λ (x : Record). x.place ≡ x.loader) rs → recorded rs l n ≡ Some p → p ≡ l
+own_found [] l n p all e = absurd cc
+own_found (r ∷ rs) l n p all e = by_test ((r.loader == l) && same_name r.name n) refl e (own_found rs l n p all.1)
+  where
+    and_left : (a b : Bool) → (a && b) ≡ true → a ≡ true
+    and_left true b t = refl
+    and_left false b t = absurd cc
+    by_test : (b : Bool) → ((r.loader == l) && same_name r.name n) ≡ b → option_map (λ (x : Record). x.place) (if b then Some r else find (λ (x : Record). (x.loader == l) && same_name x.name n) rs) ≡ Some p → (recorded rs l n ≡ Some p → p ≡ l) → p ≡ l
+    by_test true t f rest = let here : r.place ≡ p = cc in sym here ∙ all.0 ∙ eq_nat r.loader l (and_left (r.loader == l) (same_name r.name n) t)
+    by_test false t f rest = rest f
+
+pub recorded_own : (old new : Shown) (d : Drafted) (o : Option ℕ) → recorded (records_of old) d.class.loader d.class.name ≡ o → DefinedAs old new d o → IsRecorded (state_of new) d.class
+recorded_own old new d None none m =
+    subst (λ (s : State). recorded s.records d.class.loader d.class.name ≡ Some d.class.loader) (sym (ap state_of m.0 ∙ state_defines old d.class))
+    (record_found (records_of old) (record { loader = d.class.loader; name = d.class.name; place = d.class.loader }) none)
+recorded_own old new d (Some p) some m =
+    subst (λ (x : Shown). IsRecorded (state_of x) d.class) (sym m)
+    (some ∙ ap (λ (k : ℕ). Some k) (own_found (records_of old) d.class.loader d.class.name p (own_after (answers_of old.answers) old.history start tt) some))
 
 -- ---- one request after another
 

@@ -9,6 +9,7 @@ use Rattle.cl_model.specs.States.{State, Entry, IsRecorded}
 use Rattle.cl_model.specs.Machine.{Setting, AnswersPlan, IsClosed}
 use Rattle.cl_model.specs.Service.{IsNextNeed}
 use Rattle.cl_model.specs.Views.{request_of, verdict_of}
+use Rattle.cl_registry.specs.declared.source.SourceFault.{SourceFault}
 use Rattle.cl_registry.specs.declared.source.SourceFault.TheVariants as faults
 use Rattle.cl_registry.specs.Findings.{loader_of}
 use Rattle.cl_registry.specs.Tables.{Shown, state_of, MayEnter, IsBacked}
@@ -75,17 +76,21 @@ FollowsWhere told holds r t = (g : Setting) (s : State) → ServedIn told g s r 
 
 -- ---- faults
 
--- the answer that a refusal is; a source's fault names what was to be read
+-- the answer that a refused read is: want of memory, or what was to be read
+abbrev pub fault_answer : Walked → SourceFault → Answer
+fault_answer w faults.Memory = answers.Memory
+fault_answer w faults.Device = answers.SourceFault w.at w.loader
+fault_answer w faults.TooLarge = answers.SourceFault w.at w.loader
+fault_answer w faults.Twice = answers.SourceFault w.at w.loader
+
+-- the answer that a reply is, where it is a refusal
 abbrev pub refusal : {A : Type 0} → Walked → Reply A → Option Answer
 refusal w (reply.Start) = None
 refusal w (reply.Looked row) = None
 refusal w (reply.Probed p) = None
 refusal w (reply.Defined row) = None
 refusal w (reply.Memory) = Some answers.Memory
-refusal w (reply.SourceFault faults.Memory) = Some answers.Memory
-refusal w (reply.SourceFault faults.Device) = Some (answers.SourceFault w.at w.loader)
-refusal w (reply.SourceFault faults.TooLarge) = Some (answers.SourceFault w.at w.loader)
-refusal w (reply.SourceFault faults.Twice) = Some (answers.SourceFault w.at w.loader)
+refusal w (reply.SourceFault fault) = Some (fault_answer w fault)
 
 -- an answer is no fault of the source
 abbrev pub NoFault : Answer → Type 0

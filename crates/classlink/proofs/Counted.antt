@@ -54,6 +54,15 @@ pub faults_none : (n : ℕ) → faults (replicate n None) ≡ 0
 faults_none zero = refl
 faults_none (suc n) = faults_none n
 
+pub grows_on : (n m a b c : ℕ) → Grows n a b → Grows m b c → Grows m a c
+grows_on n m a b c g h = subst (λ (k : ℕ). Grows k a c) (omega arith) (grows_then 0 m a b c (grows_less n a b g) h)
+
+pub grows_quiet : (n m a b : ℕ) → Grows n a b → m ≡ 0 → Grows m a b
+grows_quiet n m a b g e = subst (λ (k : ℕ). Grows k a b) (sym e) (grows_less n a b g)
+
+pub faults_then : (xs ys : List (Option Answer)) (a b c : ℕ) → Grows (faults xs) a b → FaultsGrow xs ys b c → Grows (faults ys) a c
+faults_then xs ys a b c g h = subst (λ (k : ℕ). Grows k a c) (sym h.counted) (grows_then (faults xs) h.number a b c g h.grows)
+
 -- ---- an answer and the reply before it
 
 no_fault : (a : Answer) → NoFault a → fault a ≡ 0
@@ -62,23 +71,23 @@ no_fault answers.Memory n = refl
 no_fault (answers.SourceFault name loader) n = absurd n
 
 -- an answer is a fault of the source where the reply before it told of one, and nowhere else
-pub told_fault : {A : Type 0} (w : Walked) (r : Reply A) (f : Answered) → Refuses (refusal w r) (turn.Post f) → fault f.answer ≡ told_faults r
-told_fault w (reply.Start) f h = no_fault f.answer h
-told_fault w (reply.Looked row) f h = no_fault f.answer h
-told_fault w (reply.Probed p) f h = no_fault f.answer h
-told_fault w (reply.Defined row) f h = no_fault f.answer h
-told_fault w (reply.Memory) f h = ap fault h
-told_fault w (reply.SourceFault sources.Memory) f h = ap fault h
-told_fault w (reply.SourceFault sources.Device) f h = ap fault h
-told_fault w (reply.SourceFault sources.TooLarge) f h = ap fault h
-told_fault w (reply.SourceFault sources.Twice) f h = ap fault h
+pub told_fault : (A : Type 0) (w : Walked) (r : Reply A) (f : Answered) → Refuses {A = A} (refusal w r) (turn.Post f) → fault f.answer ≡ told_faults r
+told_fault A w (reply.Start) f h = no_fault f.answer h
+told_fault A w (reply.Looked row) f h = no_fault f.answer h
+told_fault A w (reply.Probed p) f h = no_fault f.answer h
+told_fault A w (reply.Defined row) f h = no_fault f.answer h
+told_fault A w (reply.Memory) f h = ap fault h
+told_fault A w (reply.SourceFault sources.Memory) f h = ap fault h
+told_fault A w (reply.SourceFault sources.Device) f h = ap fault h
+told_fault A w (reply.SourceFault sources.TooLarge) f h = ap fault h
+told_fault A w (reply.SourceFault sources.Twice) f h = ap fault h
 
 -- a reply to a read, and the count
-pub read_grows : {A : Type 0} (old new : ℕ) (f : SourceFault) → CountsFault old new f → Grows (told_faults {A = A} (reply.SourceFault f)) old new
-read_grows old new sources.Memory c = grows_same 0 old old new (grows_none old) c
-read_grows old new sources.Device c = rises_grows old new c
-read_grows old new sources.TooLarge c = rises_grows old new c
-read_grows old new sources.Twice c = absurd c
+pub read_grows : (A : Type 0) (old new : ℕ) (f : SourceFault) → CountsFault old new f → Grows (told_faults {A = A} (reply.SourceFault f)) old new
+read_grows A old new sources.Memory c = grows_same 0 old old new (grows_none old) c
+read_grows A old new sources.Device c = rises_grows old new c
+read_grows A old new sources.TooLarge c = rises_grows old new c
+read_grows A old new sources.Twice c = absurd c
 
 pub post_grows : (xs ys : List (Option Answer)) (q : ℕ) (a : Answer) (n old new : ℕ) → slice_get xs q ≡ Some None → ys ≡ slice_set xs q (Some a) → fault a ≡ n → Grows n old new → FaultsGrow xs ys old new
 post_grows xs ys q a n old new opened e one g = record { number = fault a; counted = ap faults e ∙ faults_set xs q a opened; grows = subst (λ (k : ℕ). Grows k old new) (sym one) g }

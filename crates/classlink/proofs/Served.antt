@@ -1,6 +1,6 @@
 -- One request from its first turn to its post, and one request after another, where a content is told.
 use Rattle.std.proofs.Common.{◌≡◌, ◌⊎◌, inl, inr, ◌∙◌, ◌+◌, ◌<◌, ℕ, suc, List, [], ◌∷◌, ◌++◌, length, map, Option, Some, None, refl, sym, ap, subst, arith, append_assoc}
-use Rattle.std.specs.Prelude.{◌==◌, ◌&&◌, Bool, true, false, if◌then◌else◌, find, option_map, slice_get, take}
+use Rattle.std.specs.Prelude.{◌==◌, ◌&&◌, Bool, true, false, if◌then◌else◌, find, option_map, slice_get, take, IfSome}
 use Rattle.std.specs.List.{AllByRecursion}
 use Rattle.std.proofs.Common.{zero, add-one}
 use Rattle.std.proofs.lemmas.List.{map_push, append-nil, length-map}
@@ -20,6 +20,7 @@ use Rattle.cl_model.proofs.Runs.{record_found}
 use Rattle.cl_model.proofs.Closed.{runs_are_closed}
 use Rattle.cl_model.proofs.Service.{begun_start, begun_define, begun_said, begun_failed, all_served_push, run_last, state_append}
 use Rattle.cl_registry.specs.Searches.{Drafted}
+use Rattle.cl_registry.specs.Views.{Configured}
 use Rattle.cl_registry.specs.Worlds.{world_of, setting_of}
 use Rattle.cl_registry.specs.Findings.{Answered, loader_of}
 use Rattle.cl_registry.specs.Tables.{Shown, DefinedAs, IsKept, IsOpen, RunsAs, steps, state_of, records_of, with_define, with_post}
@@ -122,16 +123,16 @@ served_where told x r content e kept one below =
       closed = runs_are_closed (machine x content) (steps x) (subst (λ (o : Option Content). RunsAs o x) e kept.run);
     }
 
-pub going_define : {A : Type 0} (told : Option Content) (old x new : Shown) (r : Request) (d : Drafted) → Going told old x r → length x.config.names ≡ 1 → loader_of r < length x.config.names → (holds : State → Type 0) → holds (state_of x)
+pub going_define : (A : Type 0) (told : Option Content) (old x new : Shown) (r : Request) (d : Drafted) → Going told old x r → length x.config.names ≡ 1 → loader_of r < length x.config.names → (holds : State → Type 0) → holds (state_of x)
     → FollowsWhere {A = A} told holds r (turn.Define d) → DefinesFor x new d → IsKept told new → Going told old new r
-going_define told old x new r d g one below holds held follows (inl same) kept =
+going_define A told old x new r d g one below holds held follows (inl same) kept =
     record {
       goes = goes_same old x new g.goes same;
       answers = ap (λ (y : Shown). y.answers) same ∙ g.answers;
       kept = kept;
       begun = subst (λ (y : Shown). BegunIn told old y r) (sym same) g.begun;
     }
-going_define told old x new r d g one below holds held follows (inr one_more) kept =
+going_define A told old x new r d g one below holds held follows (inr one_more) kept =
     record {
       goes = goes_event old x new d.class g.goes one_more;
       answers = ap (λ (y : Shown). y.answers) one_more ∙ g.answers;
@@ -144,12 +145,25 @@ answering g s r (rust.TheVariants.Said v) f = f
 answering g s r rust.TheVariants.Memory f = tt
 answering g s r (rust.TheVariants.SourceFault n l) f = tt
 
-pub going_post : {A : Type 0} (told : Option Content) (old x new : Shown) (q : ℕ) (r : Request) (f : Answered) → Going told old x r → length x.config.names ≡ 1 → loader_of r < length x.config.names → (holds : State → Type 0) → holds (state_of x)
+pub going_post : (A : Type 0) (told : Option Content) (old x new : Shown) (q : ℕ) (r : Request) (f : Answered) → Going told old x r → length x.config.names ≡ 1 → loader_of r < length x.config.names → (holds : State → Type 0) → holds (state_of x)
     → FollowsWhere {A = A} told holds r (turn.Post f) → IsOpen x q → new ≡ with_post x q f.answer → Served told old new q r
-going_post told old x new q r f g one below holds held follows opened e =
+going_post A told old x new q r f g one below holds held follows opened e =
     served_posted told old x new q r f.answer g.begun
     (λ content t. answering (machine x content) (state_of x) r f.answer (follows (machine x content) (state_of x) (served_where told x r content t g.kept one below) held)) e
     (steps_posts x q f.answer (unposted x q g.kept.trusted opened) opened)
+
+-- memory ran out before the first turn
+pub posted_memory : (told : Option Content) (x new : Shown) (q : ℕ) (r : Request) (a : rust.Answer) → IsKept told x → IsOpen x q → a ≡ rust.TheVariants.Memory → new ≡ with_post x q a → Served told x new q r
+posted_memory told x new q r a kept opened is e =
+    served_posted told x x new q r rust.TheVariants.Memory (begun_none told x r) (λ content t. tt) (e ∙ ap (with_post x q) is) (steps_posts x q rust.TheVariants.Memory (unposted x q kept.trusted opened) opened)
+
+-- what holds of a task's request
+pub of_request : (o : Option Request) (r : Request) (P : Request → Type 0) → o ≡ Some r → IfSome o P → P r
+of_request o r P e h = subst (λ (k : Option Request). IfSome k P) e h
+
+-- the loader that a request names is one of the registry's
+pub named_there : (old now : Shown) (c : Configured) (r : Request) → Goes old now → old.config ≡ c → loader_of r < length c.names → loader_of r < length now.config.names
+named_there old now c r g e below = subst (λ (k : Configured). loader_of r < length k.names) (sym (g.config ∙ e)) below
 
 -- ---- what is defined is recorded by its own loader
 

@@ -10,6 +10,7 @@ ghost use Rattle.cl_tasks.specs.Turns.{Expects};
 ghost use Rattle.cl_tasks.specs.Follows.{Tells};
 ghost use Rattle.cl_tasks.specs.declared.phase.Phase.TheVariants.{Looking, Reading, Defining};
 ghost use Rattle.classlink.specs.Counting.{FaultsGrow, Grows, RoseBy, faults, told_faults};
+ghost use Rattle.classlink.specs.Headline.{Alike, CirclesExact, EachSpelt};
 ghost use Rattle.classlink.specs.Serving.{DefinesFor, InOrder, Served, reported, upto};
 
 use cl_model::{LoaderId, Request, Told};
@@ -178,6 +179,9 @@ pub fn serve_one<T: Told, S: Source<T>>(
     ensures trusted { IfOk result (λ r. IsTrusted (reported config.value r)) }
     ensures run { IfOk result (λ r. RunsAs T.told (reported config.value r)) }
     ensures in_order { IfOk result (λ r. InOrder T.told (reported config.value r)) }
+    ensures spelt { IfOk result (λ r. EachSpelt T.told (reported config.value r)) }
+    ensures alike { IfOk result (λ r. Alike T.told (reported config.value r)) }
+    ensures circles { IfOk result (λ r. CirclesExact T.told (reported config.value r)) }
     ensures source_faults { IfOk result (λ r. RoseBy (faults (reported config.value r).answers) (S.refused source.old) (S.refused source.new)) }
     ensures no_stray { IfErr result (λ e. e ≡ ServeFault.Memory) }
 {

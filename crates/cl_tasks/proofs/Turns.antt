@@ -76,11 +76,23 @@ backs_class x r w f alone below here =
     let name : name_of r ≡ w.at = f.name ∙ root_alone w alone in
     record {
       loader = below;
+      names = subst (λ (l : ℕ). l < length x.config.names) f.loader below;
       answer = (
         subst (λ (l : ℕ). recorded (records_of x) l (name_of r) ≡ Some w.loader) (sym f.loader) (subst (λ (n : List ℕ). recorded (records_of x) w.loader n ≡ Some w.loader) (sym name) here),
         sym name,
       );
     }
+
+pub backs_obstacle : {A : Type 0} (x : Shown) (r : Request) (w : Walked) (end : Obstacle A) → IsFor r w → loader_of r < length x.config.names → IsBacked x (record { request = r; answer = answers.Said (verdict_at w end) })
+backs_obstacle x r w (Missing u) f below = record { loader = below; names = subst (λ (l : ℕ). l < length x.config.names) f.loader below; answer = tt }
+backs_obstacle x r w (Unreadable u) f below = record { loader = below; names = subst (λ (l : ℕ). l < length x.config.names) f.loader below; answer = tt }
+backs_obstacle x r w (Circle d above) f below = record { loader = below; names = subst (λ (l : ℕ). l < length x.config.names) f.loader below; answer = tt }
+
+pub backs_memory : (x : Shown) (r : Request) → loader_of r < length x.config.names → IsBacked x (record { request = r; answer = answers.Memory })
+backs_memory x r below = record { loader = below; names = tt; answer = tt }
+
+pub backs_fault : (x : Shown) (r : Request) (w : Walked) (name : List ℕ) (loader : ℕ) → IsFor r w → loader ≡ w.loader → loader_of r < length x.config.names → IsBacked x (record { request = r; answer = answers.SourceFault name loader })
+backs_fault x r w name loader f e below = record { loader = below; names = subst (λ (l : ℕ). l < length x.config.names) (f.loader ∙ sym e) below; answer = tt }
 
 -- ---- a turn follows the plan
 

@@ -109,6 +109,7 @@ fn out_of_memory<T: Told>(job: Job<T>) -> Next<T>
 
 /// The source refused a read, for want of memory or for another cause.
 fn faulted<T: Told>(job: Job<T>, fault: SourceFault) -> Next<T>
+    requires job { IsFor job.request job.walk }
     ensures stage { result.stage ≡ Stage.Done }
     ensures asks { Asks (tasked result.stage) result.turn }
     ensures serves { Serves (at_work phases.Done job) (tasked result.stage) result.turn }
@@ -314,7 +315,7 @@ fn descend<T: Told>(alloc: Global, job: Job<T>, draft: Draft<T>, above: Name) ->
     let Job { request, mut walk } = job;
     match walk.push(draft, above) {
         Ok(()) => {}
-        Err(_) => return post(Finding::memory(request)),
+        Err(_) => return out_of_memory(Job { request, walk }),
     }
     let _ = walk.at();
     look(alloc, Job { request, walk })

@@ -25,8 +25,11 @@ use Rattle.cl_registry.specs.Worlds.{world_of, setting_of}
 use Rattle.cl_registry.specs.Findings.{Answered, loader_of}
 use Rattle.cl_registry.specs.Tables.{Shown, DefinedAs, IsKept, IsOpen, RunsAs, steps, state_of, records_of, with_define, with_post}
 use Rattle.cl_registry.proofs.Histories.{eq_nat, state_defines, steps_defines, steps_posts, unposted}
+use Rattle.cl_registry.specs.Walks.{Walked}
+use Rattle.cl_tasks.specs.declared.stage.Reply.{Reply}
+use Rattle.cl_tasks.specs.declared.stage.Turn.{Turn}
 use Rattle.cl_tasks.specs.declared.stage.Turn.TheVariants as turn
-use Rattle.cl_tasks.specs.Follows.{ServedIn, FollowsWhere, AnswerFollows}
+use Rattle.cl_tasks.specs.Follows.{Tells, Backed, BackedWhere, ServedIn, FollowsWhere, AnswerFollows}
 use Rattle.classlink.specs.Serving.{machine, InOrder, Since, Served, DefinesFor}
 use Rattle.classlink.proofs.Serving.{Goes, goes_none, goes_same, goes_event}
 
@@ -100,6 +103,19 @@ served_posted (Some content) old x new q r a b answering e h =
 
 -- ---- what a task says, where its request is served
 
+-- what holds of a task's request
+pub of_request : (o : Option Request) (r : Request) (P : Request → Type 0) → o ≡ Some r → IfSome o P → P r
+of_request o r P e h = subst (λ (k : Option Request). IfSome k P) e h
+
+-- the loader that a request names is one of the registry's
+pub named_there : (old now : Shown) (c : Configured) (r : Request) → Goes old now → old.config ≡ c → loader_of r < length c.names → loader_of r < length now.config.names
+named_there old now c r g e below = subst (λ (k : Configured). loader_of r < length k.names) (sym (g.config ∙ e)) below
+
+-- the tables bear a turn of a task that was told of them
+pub backed_now : {A : Type 0} (old x : Shown) (c : Configured) (r : Request) (w : Walked) (reply : Reply A) (t : Turn A) (o : Option Request) → Goes old x → old.config ≡ c → loader_of r < length c.names → Tells (state_of x) w reply → o ≡ Some r
+    → IfSome o (λ (r : Request). BackedWhere (λ s. Tells s w reply) r t) → Backed x t
+backed_now old x c r w reply t o g is below tells asked backed = of_request o r (λ (r : Request). BackedWhere (λ s. Tells s w reply) r t) asked backed x (named_there old x c r g is below) tells
+
 -- what a registry keeps from the first turn of a request on
 pub record Going (told : Option Content) (old now : Shown) (r : Request) : Type 0 where
   pub goes : Goes old now
@@ -123,21 +139,21 @@ served_where told x r content e kept one below =
       closed = runs_are_closed (machine x content) (steps x) (subst (λ (o : Option Content). RunsAs o x) e kept.run);
     }
 
-pub going_define : (A : Type 0) (told : Option Content) (old x new : Shown) (r : Request) (d : Drafted) → Going told old x r → length x.config.names ≡ 1 → loader_of r < length x.config.names → (holds : State → Type 0) → holds (state_of x)
-    → FollowsWhere {A = A} told holds r (turn.Define d) → DefinesFor x new d → IsKept told new → Going told old new r
-going_define A told old x new r d g one below holds held follows (inl same) kept =
+pub going_define : {A : Type 0} (told : Option Content) (old x new : Shown) (c : Configured) (r : Request) (w : Walked) (reply : Reply A) (d : Drafted) (o : Option Request) → Going told old x r → old.config ≡ c → loader_of r < length c.names → Tells (state_of x) w reply → o ≡ Some r
+    → IfSome o (λ (r : Request). FollowsWhere {A = A} told (λ s. Tells s w reply) r (turn.Define d)) → DefinesFor x new d → IsKept told new → Going told old new r
+going_define told old x new c r w reply d o g is below tells asked follows (inl same) kept =
     record {
       goes = goes_same old x new g.goes same;
       answers = ap (λ (y : Shown). y.answers) same ∙ g.answers;
       kept = kept;
       begun = subst (λ (y : Shown). BegunIn told old y r) (sym same) g.begun;
     }
-going_define A told old x new r d g one below holds held follows (inr one_more) kept =
+going_define {A = A} told old x new c r w reply d o g is below tells asked follows (inr one_more) kept =
     record {
       goes = goes_event old x new d.class g.goes one_more;
       answers = ap (λ (y : Shown). y.answers) one_more ∙ g.answers;
       kept = kept;
-      begun = begun_defined told old x new r d.class g.begun kept.run (λ content e. follows (machine x content) (state_of x) (served_where told x r content e g.kept one below) held) one_more;
+      begun = begun_defined told old x new r d.class g.begun kept.run (λ content e. of_request o r (λ (r : Request). FollowsWhere {A = A} told (λ s. Tells s w reply) r (turn.Define d)) asked follows (machine x content) (state_of x) (served_where told x r content e g.kept g.kept.one (named_there old x c r g.goes is below)) tells) one_more;
     }
 
 answering : (g : Setting) (s : State) (r : Request) (a : rust.Answer) → AnswerFollows g s r a → Answering g s r (answer_of a)
@@ -145,25 +161,18 @@ answering g s r (rust.TheVariants.Said v) f = f
 answering g s r rust.TheVariants.Memory f = tt
 answering g s r (rust.TheVariants.SourceFault n l) f = tt
 
-pub going_post : (A : Type 0) (told : Option Content) (old x new : Shown) (q : ℕ) (r : Request) (f : Answered) → Going told old x r → length x.config.names ≡ 1 → loader_of r < length x.config.names → (holds : State → Type 0) → holds (state_of x)
-    → FollowsWhere {A = A} told holds r (turn.Post f) → IsOpen x q → new ≡ with_post x q f.answer → Served told old new q r
-going_post A told old x new q r f g one below holds held follows opened e =
+pub going_post : {A : Type 0} (told : Option Content) (old x new : Shown) (c : Configured) (q : ℕ) (r : Request) (w : Walked) (reply : Reply A) (f : Answered) (o : Option Request) → Going told old x r → old.config ≡ c → loader_of r < length c.names → Tells (state_of x) w reply → o ≡ Some r
+    → IfSome o (λ (r : Request). FollowsWhere {A = A} told (λ s. Tells s w reply) r (turn.Post f)) → IsOpen old q → new ≡ with_post x q f.answer → Served told old new q r
+going_post {A = A} told old x new c q r w reply f o g is below tells asked follows open_before e =
+    let opened : IsOpen x q = subst (λ (xs : List (Option rust.Answer)). slice_get xs q ≡ Some None) (sym g.answers) open_before in
     served_posted told old x new q r f.answer g.begun
-    (λ content t. answering (machine x content) (state_of x) r f.answer (follows (machine x content) (state_of x) (served_where told x r content t g.kept one below) held)) e
+    (λ content t. answering (machine x content) (state_of x) r f.answer (of_request o r (λ (r : Request). FollowsWhere {A = A} told (λ s. Tells s w reply) r (turn.Post f)) asked follows (machine x content) (state_of x) (served_where told x r content t g.kept g.kept.one (named_there old x c r g.goes is below)) tells)) e
     (steps_posts x q f.answer (unposted x q g.kept.trusted opened) opened)
 
 -- memory ran out before the first turn
 pub posted_memory : (told : Option Content) (x new : Shown) (q : ℕ) (r : Request) (a : rust.Answer) → IsKept told x → IsOpen x q → a ≡ rust.TheVariants.Memory → new ≡ with_post x q a → Served told x new q r
 posted_memory told x new q r a kept opened is e =
     served_posted told x x new q r rust.TheVariants.Memory (begun_none told x r) (λ content t. tt) (e ∙ ap (with_post x q) is) (steps_posts x q rust.TheVariants.Memory (unposted x q kept.trusted opened) opened)
-
--- what holds of a task's request
-pub of_request : (o : Option Request) (r : Request) (P : Request → Type 0) → o ≡ Some r → IfSome o P → P r
-of_request o r P e h = subst (λ (k : Option Request). IfSome k P) e h
-
--- the loader that a request names is one of the registry's
-pub named_there : (old now : Shown) (c : Configured) (r : Request) → Goes old now → old.config ≡ c → loader_of r < length c.names → loader_of r < length now.config.names
-named_there old now c r g e below = subst (λ (k : Configured). loader_of r < length k.names) (sym (g.config ∙ e)) below
 
 -- ---- what is defined is recorded by its own loader
 

@@ -1,10 +1,14 @@
 -- What the calls of one request do to a registry.
 use Rattle.std.proofs.Common.{◌≡◌, ◌≢◌, ◌∙◌, ◌+◌, ◌<◌, ◌≤◌, ◌∷◌, ◌++◌, [], ℕ, zero, suc, Bool, true, false, List, length, Option, Some, None, map, refl, ap, sym, subst, arith, is_some, add-one}
-use Rattle.std.specs.Prelude.{◌||◌, nat_eq, slice_get}
+use Rattle.std.specs.Prelude.{◌||◌, nat_eq, slice_get, slice_index_or}
 use Rattle.std.proofs.lemmas.Bool.Decides.{nat_tests}
 use Rattle.cl_model.specs.declared.answer.Answer.{Answer}
 use Rattle.cl_model.specs.declared.class.Class.{Class}
 use Rattle.cl_model.specs.declared.event.Event.{Event}
+use Rattle.cl_model.specs.declared.request.Request as requests
+use Rattle.cl_model.specs.declared.request.Request.{Request}
+use Rattle.cl_registry.specs.Findings.{loader_of}
+use Rattle.cl_registry.specs.Scripts.{HasLoader, HasLoaders}
 use Rattle.cl_model.specs.Views.{answers_of, answer_at}
 use Rattle.cl_registry.specs.declared.report.Report.{Report}
 use Rattle.cl_registry.specs.Views.{Configured}
@@ -58,18 +62,18 @@ report_tells x r c is e = same x.config c x.script r.script.value x.history r.hi
 
 in_upto : (n q : ℕ) → q < n → is_in q (upto n) ≡ true
 in_upto zero q below = absurd (omega arith)
-in_upto (suc n) q below = is_in_push (upto n) q n ∙ by_test (nat_eq q n) refl
+in_upto (suc n) q below = is_in_push (upto n) q n ∙ by_test (nat_eq q n) refl (in_upto n q)
   where
     or_true : (b : Bool) → (b || true) ≡ true
     or_true true = refl
     or_true false = refl
     or_left : (b d : Bool) → b ≡ true → (b || d) ≡ true
     or_left b d e = rw e refl
-    by_test : (b : Bool) → nat_eq q n ≡ b → (is_in q (upto n) || nat_eq q n) ≡ true
-    by_test true e = ap (λ (d : Bool). is_in q (upto n) || d) e ∙ or_true (is_in q (upto n))
-    by_test false e = or_left (is_in q (upto n)) (nat_eq q n) (in_upto n q (less q n below e))
     less : (a b : ℕ) → a < suc b → nat_eq a b ≡ false → a < b
     less a b l e = grind (arith, nat_tests)
+    by_test : (b : Bool) → nat_eq q n ≡ b → (q < n → is_in q (upto n) ≡ true) → (is_in q (upto n) || nat_eq q n) ≡ true
+    by_test true e before = ap (λ (d : Bool). is_in q (upto n) || d) e ∙ or_true (is_in q (upto n))
+    by_test false e before = or_left (is_in q (upto n)) (nat_eq q n) (before (less q n below e))
 
 not_in_upto : (n q : ℕ) → n ≤ q → is_in q (upto n) ≡ false
 not_in_upto zero q above = refl
@@ -91,6 +95,12 @@ next_is_open x q t order below =
     unanswered (Some a ∷ xs) zero l e = absurd cc
     unanswered (a ∷ xs) (suc p) l e = unanswered xs p (omega arith) e
 
+-- a request of the script is one of its numbers
+pub in_script : (rs : List Request) (q : ℕ) (r : Request) → slice_get rs q ≡ Some r → q < length rs
+in_script [] q r e = absurd cc
+in_script (x ∷ rs) zero r e = omega arith
+in_script (x ∷ rs) (suc q) r e = let below = in_script rs q r e in omega arith
+
 -- where all requests are posted, none is open
 pub none_is_open : (x : Shown) (n : ℕ) → IsTrusted x → posts x.history ≡ upto n → length x.script.requests ≡ n → HasOpen x → ⊥
 none_is_open x n t order whole (q, is) =
@@ -103,3 +113,16 @@ none_is_open x n t order whole (q, is) =
     in_range [] p e = absurd cc
     in_range (x ∷ xs) zero e = omega arith
     in_range (x ∷ xs) (suc p) e = let below = in_range xs p e in omega arith
+
+-- ---- the loader of a request of the script
+
+asked_is : (rs : List Request) (q : ℕ) (r d : Request) → slice_get rs q ≡ Some r → slice_index_or rs q d ≡ r
+asked_is [] q r d e = absurd cc
+asked_is (x ∷ rs) zero r d e = let same : x ≡ r = cc in same
+asked_is (x ∷ rs) (suc q) r d e = asked_is rs q r d e
+
+names_loader : (n : ℕ) (r : Request) → HasLoader n r → loader_of r < n
+names_loader n (requests.TheVariants.Load loader name) h = h
+
+pub has_loader : (n : ℕ) (rs : List Request) (q : ℕ) (r : Request) → HasLoaders n rs → slice_get rs q ≡ Some r → loader_of r < n
+has_loader n rs q r all e = names_loader n r (subst (HasLoader n) (asked_is rs q r r e) (all q r (in_script rs q r e)))

@@ -34,6 +34,10 @@ pub enum ServeFault {
 }
 
 impl From<AllocError> for ServeFault {
+    ghost use Rattle.classlink.specs.declared.serve.ServeFault.TheVariants.{Memory};
+
+    ghost from_gives = { λ _ e. e ≡ Memory };
+
     fn from(_error: AllocError) -> ServeFault {
         ServeFault::Memory
     }

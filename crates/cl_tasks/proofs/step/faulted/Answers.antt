@@ -5,4 +5,4 @@ use Rattle.cl_tasks.proofs.step.faulted.Goals as goal
 
 pub returns-clause-backed : goal.returns-clause-backed
 returns-clause-backed g c = λ x below holds.
-    rw (c.post.ensures.turn, c.source_fault.ensures) (backs_fault x c.args.job.request c.args.job.walk _ _ c.requires.job (ap (λ (k : Class). k.loader) c.into_class.ensures) below)
+    rw (c.post.ensures.turn, c.source_fault.ensures) (backs_fault x c.args.job.request c.args.job.walk _ _ c.requires.job (ap (λ (k : Class). k.loader) c.into_class-name.ensures) below)

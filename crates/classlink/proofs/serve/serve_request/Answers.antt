@@ -1,14 +1,11 @@
-use Rattle.std.proofs.Common.{◌≡◌, ◌∙◌, ◌<◌, length, List, Option, Some, None, refl, ap, sym, subst}
-use Rattle.std.specs.Prelude.{slice_get, slice_set}
+use Rattle.std.proofs.Common.{◌≡◌, ◌∙◌, List, Option, Some, ap}
+use Rattle.std.specs.Prelude.{slice_set}
 use Rattle.cl_model.specs.declared.answer.Answer.{Answer}
-use Rattle.cl_model.specs.States.{State}
-use Rattle.cl_registry.specs.Findings.{loader_of}
-use Rattle.cl_registry.specs.Tables.{Shown, IsOpen, MayEnter, IsBacked, state_of}
-use Rattle.cl_tasks.specs.Follows.{Tells, BackedWhere, FollowsWhere}
+use Rattle.cl_registry.specs.Tables.{Shown, state_of}
 use Rattle.cl_tasks.specs.declared.stage.Turn.TheVariants as turn
 use Rattle.classlink.specs.Counting.{fault}
 use Rattle.classlink.proofs.Serving.{goes_none, posts_once}
-use Rattle.classlink.proofs.Served.{going_start, going_define, going_post, posted_memory, of_request, named_there}
+use Rattle.classlink.proofs.Served.{backed_now, going_start, going_define, going_post, posted_memory}
 use Rattle.classlink.proofs.Counted.{grows_none, grows_on, grows_quiet, told_fault, post_grows}
 use Rattle.classlink.proofs.serve.serve_request.Goals as goal
 
@@ -53,20 +50,18 @@ loop-loader-preserved-in-Read g c = record {
 pub define-reply-requires : goal.define-reply-requires
 define-reply-requires g c =
     let inv = c.loop-loader.invariant in
-    of_request c.loop-loader.task.request c.args.request (λ r. BackedWhere (λ s. Tells s c.loop-loader.task.walk c.loop-loader.reply) r (turn.Define c.in-Define.draft)) inv.request c.in-Define.ensures.backed
-    c.loop-loader.registry (named_there c.args.registry.now c.loop-loader.registry c.args.config.value c.args.request inv.going.goes c.requires.config c.requires.loader) inv.tells
+    backed_now c.args.registry.now c.loop-loader.registry c.args.config.value c.args.request c.loop-loader.task.walk c.loop-loader.reply (turn.Define c.in-Define.draft) c.loop-loader.task.request
+    inv.going.goes c.requires.config c.requires.loader inv.tells inv.request c.in-Define.ensures.backed
 
 pub loop-loader-preserved : goal.loop-loader-preserved
 loop-loader-preserved g c =
     let inv = c.loop-loader.invariant in
-    let holds = λ (s : State). Tells s c.loop-loader.task.walk c.loop-loader.reply in
     record {
       expects = c.define-reply.ensures.expects c.turn.new.self c.in-Define.ensures.asks.0;
       request = c.in-Define.ensures.serves ∙ inv.request;
       going =
-        going_define _ g.T.Told.told c.args.registry.now c.loop-loader.registry c.define-reply.new.registry c.args.request c.in-Define.draft inv.going inv.going.kept.one
-        (named_there c.args.registry.now c.loop-loader.registry c.args.config.value c.args.request inv.going.goes c.requires.config c.requires.loader) holds inv.tells
-        (of_request c.loop-loader.task.request c.args.request (λ r. FollowsWhere g.T.Told.told holds r (turn.Define c.in-Define.draft)) inv.request c.in-Define.ensures.next) c.define-reply.ensures.defined c.define-reply.ensures.kept;
+        going_define g.T.Told.told c.args.registry.now c.loop-loader.registry c.define-reply.new.registry c.args.config.value c.args.request c.loop-loader.task.walk c.loop-loader.reply c.in-Define.draft c.loop-loader.task.request
+        inv.going c.requires.config c.requires.loader inv.tells inv.request c.in-Define.ensures.next c.define-reply.ensures.defined c.define-reply.ensures.kept;
       tells = c.define-reply.ensures.tells c.turn.new.self.walk c.in-Define.ensures.asks.1;
       faults = grows_quiet _ _ _ _ inv.faults c.define-reply.ensures.faults;
     }
@@ -74,8 +69,8 @@ loop-loader-preserved g c =
 pub post-requires-in-Post-clause-backed : goal.post-requires-in-Post-clause-backed
 post-requires-in-Post-clause-backed g c =
     let inv = c.loop-loader.invariant in
-    of_request c.loop-loader.task.request c.args.request (λ r. BackedWhere (λ s. Tells s c.loop-loader.task.walk c.loop-loader.reply) r (turn.Post c.in-Post.finding)) inv.request c.in-Post.ensures.backed
-    c.loop-loader.registry (named_there c.args.registry.now c.loop-loader.registry c.args.config.value c.args.request inv.going.goes c.requires.config c.requires.loader) inv.tells
+    backed_now c.args.registry.now c.loop-loader.registry c.args.config.value c.args.request c.loop-loader.task.walk c.loop-loader.reply (turn.Post c.in-Post.finding) c.loop-loader.task.request
+    inv.going.goes c.requires.config c.requires.loader inv.tells inv.request c.in-Post.ensures.backed
 
 pub returns-in-Post-clause-posted : goal.returns-in-Post-clause-posted
 returns-in-Post-clause-posted g c =
@@ -84,11 +79,8 @@ returns-in-Post-clause-posted g c =
 pub returns-in-Post-clause-served : goal.returns-in-Post-clause-served
 returns-in-Post-clause-served g c =
     let inv = c.loop-loader.invariant in
-    let holds = λ (s : State). Tells s c.loop-loader.task.walk c.loop-loader.reply in
-    going_post _ g.T.Told.told c.args.registry.now c.loop-loader.registry c.post-in-Post.new.registry c.args.q c.args.request c.in-Post.finding inv.going inv.going.kept.one
-    (named_there c.args.registry.now c.loop-loader.registry c.args.config.value c.args.request inv.going.goes c.requires.config c.requires.loader) holds inv.tells
-    (of_request c.loop-loader.task.request c.args.request (λ r. FollowsWhere g.T.Told.told holds r (turn.Post c.in-Post.finding)) inv.request c.in-Post.ensures.next)
-    (subst (λ (xs : List (Option Answer)). slice_get xs c.args.q ≡ Some None) (sym inv.going.answers) c.requires.open) c.post-in-Post.ensures.posted
+    going_post g.T.Told.told c.args.registry.now c.loop-loader.registry c.post-in-Post.new.registry c.args.config.value c.args.q c.args.request c.loop-loader.task.walk c.loop-loader.reply c.in-Post.finding c.loop-loader.task.request
+    inv.going c.requires.config c.requires.loader inv.tells inv.request c.in-Post.ensures.next c.requires.open c.post-in-Post.ensures.posted
 
 pub returns-in-Post-clause-faults : goal.returns-in-Post-clause-faults
 returns-in-Post-clause-faults g c =

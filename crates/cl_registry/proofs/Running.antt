@@ -78,7 +78,7 @@ or_nothing (Some x) = refl
 find_other : {A : Type 0} (test : A → Bool) (xs : List A) (x : A) → test x ≡ false → find test (xs ++ x ∷ []) ≡ find test xs
 find_other test xs x e = find-append test xs (x ∷ []) ∙ ap (λ (b : Bool). option_or (find test xs) (if b then Some x else None)) e ∙ or_nothing (find test xs)
 
-post_other : (s : State) (q p : ℕ) (o : Option Answer) → nat_eq p q ≡ false → answer_to (after s (post_of p o)).answers q ≡ answer_to s.answers q
+pub post_other : (s : State) (q p : ℕ) (o : Option Answer) → nat_eq p q ≡ false → answer_to (after s (post_of p o)).answers q ≡ answer_to s.answers q
 post_other s q p None ne = refl
 post_other s q p (Some a) ne = ap (λ (o : Option Posted). option_map (λ r. r.answer) o) (find_other (λ (r : Posted). r.request == q) s.answers (record { request = p; answer = a }) ne)
 

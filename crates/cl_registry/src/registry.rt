@@ -92,6 +92,7 @@ impl<T: Told> Registry<T> {
         script: Arc<Script>,
     ) -> Result<Registry<T>, RegistryFault>
         ensures empty { IfOk result (λ r. r ≡ record { config = config.value; script = script.value; history = []; answers = replicate (length script.value.requests) None }) }
+        ensures kept { IfOk result (λ r. IsKept T.told r) }
         ensures memory { IfErr result (λ e. e ≡ RegistryFault.Memory) }
     {
         let left = script.requests().len();

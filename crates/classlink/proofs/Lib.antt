@@ -6,4 +6,7 @@ pub mod Refusals
 pub mod Running
 pub mod Serving
 pub mod Storing
+pub mod Served
+pub mod Counted
+pub mod Headline
 pub mod Written

@@ -6,3 +6,5 @@ pub mod Report
 pub mod Runs
 pub mod Sections
 pub mod Serving
+pub mod Counting
+pub mod Headline

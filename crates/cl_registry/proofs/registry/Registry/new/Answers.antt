@@ -12,3 +12,6 @@ invariant_of-result g c =
     (c.in-Ok.ensures.count ∙ c.count.ensures.count ∙ ap (λ k. length k.names) c.deref-2.ensures)
     (λ l n. ap (option_map (λ r. r.value)) (c.in-Ok.ensures.empty l n))
     rooms.history.1 rooms.history.2 rooms.room.1 rooms.room.2
+
+pub returns-clause-kept : goal.returns-clause-kept
+returns-clause-kept g c = (invariant_of-result g c).kept

@@ -22,7 +22,11 @@ impl Model for Attribute {
 
 impl Attribute {
     /// The attribute with a copy of these bytes.
-    pub(crate) fn copied(alloc: Global, name_index: u16, bytes: &[u8]) -> Result<Attribute, AllocError>
+    pub(crate) fn copied(
+        alloc: Global,
+        name_index: u16,
+        bytes: &[u8],
+    ) -> Result<Attribute, AllocError>
         ensures { IfOk result (λ a. a ≡ record { name_index = name_index; bytes = bytes.now }) }
     {
         let bytes = Vec::from_slice(alloc, bytes)?;

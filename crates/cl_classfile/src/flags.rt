@@ -4,20 +4,35 @@ ghost use Rattle.std.specs.Prelude.{◌≡◌, ◌<◌};
 ghost use Rattle.cl_classfile.specs.Flags.{has, static, interface, is_interface_flags, is_plain_flags, is_class_flags, has_one_access, is_constant_flags, is_field_flags, may_be_abstract, may_be_of_interface, is_method_flags, is_init_flags};
 
 const PUBLIC: u16 = 0x0001;
+
 const PRIVATE: u16 = 0x0002;
+
 const PROTECTED: u16 = 0x0004;
+
 const STATIC: u16 = 0x0008;
+
 const FINAL: u16 = 0x0010;
+
 const SUPER: u16 = 0x0020;
+
 const SYNCHRONIZED: u16 = 0x0020;
+
 const VOLATILE: u16 = 0x0040;
+
 const BRIDGE: u16 = 0x0040;
+
 const TRANSIENT: u16 = 0x0080;
+
 const NATIVE: u16 = 0x0100;
+
 const INTERFACE: u16 = 0x0200;
+
 const ABSTRACT: u16 = 0x0400;
+
 const STRICT: u16 = 0x0800;
+
 const ANNOTATION: u16 = 0x2000;
+
 const ENUM: u16 = 0x4000;
 
 /// Whether the flags have this bit.

@@ -22,9 +22,9 @@ pub use attribute::Attribute;
 pub use entry::Entry;
 pub use fault::{Fault, ReadError};
 pub use file::{ClassFile, read};
-pub use reference::{Reference, Symbol};
 pub use laws::{has_one_spelling, spells_one_file};
 pub use member::Member;
+pub use reference::{Reference, Symbol};
 
 #[cfg(test)]
 mod tests;

@@ -169,11 +169,7 @@ fn member_at(alloc: Global, bytes: &[u8]) -> Result<(Member, &[u8]), ReadError>
     Ok((member, rest))
 }
 
-fn each_member(
-    alloc: Global,
-    count: u16,
-    bytes: &[u8],
-) -> Result<(Vec<Member>, &[u8]), ReadError>
+fn each_member(alloc: Global, count: u16, bytes: &[u8]) -> Result<(Vec<Member>, &[u8]), ReadError>
     ensures { Gives (λ x. (x.0.items, x.1.now)) result (each_at member_at count bytes.now) }
 {
     let mut members = Vec::new(alloc);

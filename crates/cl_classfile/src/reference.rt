@@ -62,11 +62,7 @@ pub fn reference_at(pool: &[Entry], index: u16) -> Option<Reference<'_>>
         Entry::InterfaceMethodref {
             class,
             name_and_type,
-        } => Some(Reference::InterfaceMethod(symbol_at(
-            pool,
-            *class,
-            *name_and_type,
-        )?)),
+        } => Some(Reference::InterfaceMethod(symbol_at(pool, *class, *name_and_type)?)),
         _ => None,
     }
 }

@@ -424,14 +424,22 @@ fn members_in_order(rt: HostRuntime) -> Result<(), Fail> {
 
 /// A class with a method that has these flags and so many parameters of one unit.
 fn method_of(alloc: Global, flags: u8, units: usize) -> Result<Vec<u8>, AllocError> {
-    let mut bytes = file(alloc, &[0, 7, 7, 0, 4, 7, 0, 5, 1, 0, 1, b'm', 1, 0, 1, b'A', 1, 0, 1, b'B'], &[])?;
+    let mut bytes = file(
+        alloc,
+        &[
+            0, 7, 7, 0, 4, 7, 0, 5, 1, 0, 1, b'm', 1, 0, 1, b'A', 1, 0, 1, b'B',
+        ],
+        &[],
+    )?;
     let len = units + 3;
     bytes.extend_from_slice(&[1, (len / 256) as u8, (len % 256) as u8, b'('])?;
     for _ in 0..units {
         bytes.push(b'I')?;
     }
     bytes.extend_from_slice(b")V")?;
-    bytes.extend_from_slice(&[0, 0x21, 0, 1, 0, 2, 0, 0, 0, 0, 0, 1, 0, flags, 0, 3, 0, 6, 0, 0, 0, 0])?;
+    bytes.extend_from_slice(&[
+        0, 0x21, 0, 1, 0, 2, 0, 0, 0, 0, 0, 1, 0, flags, 0, 3, 0, 6, 0, 0, 0, 0,
+    ])?;
     Ok(bytes)
 }
 
@@ -442,7 +450,11 @@ fn units_of_methods(rt: HostRuntime) -> Result<(), Fail> {
     let cases = [(8, 255, None), (8, 256, bad), (1, 254, None), (1, 255, bad)];
     for (flags, units, expected) in cases {
         let bytes = method_of(rt.alloc(), flags, units)?;
-        assert_eq!(rt; fault(rt.alloc(), bytes.as_slice()), expected, "at {flags} {units}");
+        assert_eq!(rt;
+            fault(rt.alloc(), bytes.as_slice()),
+            expected,
+            "at {flags} {units}"
+        );
     }
     Ok(())
 }

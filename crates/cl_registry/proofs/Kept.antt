@@ -1,6 +1,6 @@
 -- What a registry keeps goes on by a definition and by a post.
 use Rattle.std.proofs.Common.{◌≡◌, ◌≢◌, ◌⊎◌, inl, inr, ◌∙◌, ◌<◌, ◌≤◌, ◌+◌, ℕ, zero, suc, Bool, true, false, List, [], ◌∷◌, ◌++◌, length, map, Option, Some, None, refl, sym, ap, subst, arith, is_some, append_assoc, add-one, replicate}
-use Rattle.std.specs.Prelude.{◌||◌, ◌&&◌, ◌==◌, nat_eq, if◌then◌else◌, slice_get, slice_set, find, option_map, option_and_then, IsSome}
+use Rattle.std.specs.Prelude.{Result, Ok, Err, OnOk, ◌||◌, ◌&&◌, ◌==◌, nat_eq, if◌then◌else◌, slice_get, slice_set, find, option_map, option_and_then, IsSome}
 use Rattle.std.specs.Option.{option_or}
 use Rattle.std.specs.Cmp.Lexicographic.{pointwise}
 use Rattle.std.proofs.lemmas.List.{map_push, append-nil, length-set, length_push, length-replicate}
@@ -23,7 +23,7 @@ use Rattle.cl_registry.specs.Searches.{Drafted}
 use Rattle.cl_registry.specs.Parts.{IsOf, is_above, EntersIn, BackedIn}
 use Rattle.cl_registry.specs.Findings.{Answered, loader_of, name_of}
 use Rattle.cl_registry.specs.Kept.{left_in, IsRegistry}
-use Rattle.cl_registry.specs.Tables.{Shown, steps, state_of, records_of, posts, is_in, EachOnce, NoneTwice, IsTrusted, IsKept, with_define, with_post, IsRow, RowAt, MayEnter, AboveIn, IsOpen, IsBacked, AnswerBacked}
+use Rattle.cl_registry.specs.Tables.{Shown, steps, state_of, records_of, posts, is_in, EachOnce, NoneTwice, IsTrusted, IsKept, with_define, with_post, IsRow, RowAt, MayEnter, AboveIn, IsOpen, IsBacked, AnswerBacked, DefinedAs}
 
 -- ---- steps and states
 
@@ -395,3 +395,11 @@ kept_failed told x y table new parts wide used now room more left filled answers
 
 pub same_history : (x : Shown) (h : List Event) → h ≡ x.history → record x { history = h } ≡ x
 same_history x h e = rw e refl
+
+on_ok : {A B : Type 0} (r : Result A B) (P : Type 0) → P → OnOk r P
+on_ok (Ok x) P p = p
+on_ok (Err e) P p = tt
+
+-- a name that is recorded changes nothing
+pub known_defined : {A B : Type 0} (r : Result A B) (x : Shown) (d : Drafted) (o : Option ℕ) (place : ℕ) → o ≡ Some place → OnOk r (DefinedAs x x d o)
+known_defined r x d o place e = on_ok r (DefinedAs x x d o) (subst (λ (o : Option ℕ). DefinedAs x x d o) (sym e) refl)

@@ -1,7 +1,10 @@
+pub mod Bounds
 pub mod LineCuts
 pub mod Places
 pub mod Contents
 pub mod Requests
 pub mod Homes
+pub mod Chained
+pub mod Rests
 pub mod Kept
 pub mod Walks

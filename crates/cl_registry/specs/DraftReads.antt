@@ -1,8 +1,8 @@
 -- What reading a home answers (JVMS SE 8, 5.3.5).
 use Rattle.std.specs.Prelude.{◌≡◌, Result, Ok, Err}
-use Rattle.cl_classfile.specs.Reading.{read_of}
 use Rattle.cl_classfile.specs.Files.{file_of}
 use Rattle.cl_model.specs.Classes.{class}
+use Rattle.cl_registry.specs.Bounds.{drafted_of}
 use Rattle.cl_registry.specs.Searches.{Located, Drafted}
 use Rattle.cl_registry.specs.Drafts.{IsWrong}
 use Rattle.cl_registry.specs.declared.draft.DraftRefused.{DraftRefused}
@@ -10,6 +10,6 @@ use Rattle.cl_registry.specs.declared.draft.DraftRefused.TheVariants.{Memory, Un
 
 -- the class with the file that the bytes spell; or what is wrong with them; or the home, where memory ran out
 abbrev pub ReadAs : {A : Type 0} → Located → Result Drafted (DraftRefused A) → Type 0
-ReadAs home (Ok d) = (d.class ≡ class home.name home.place) × (read_of home.bytes ≡ Ok d.file) × ((file_of d.file).name ≡ home.name)
+ReadAs home (Ok d) = (d.class ≡ class home.name home.place) × (drafted_of home.bytes ≡ Ok d.file) × ((file_of d.file).name ≡ home.name)
 ReadAs home (Err (Memory back)) = back ≡ home
 ReadAs home (Err (Unreadable u)) = (u.home ≡ home) × IsWrong home u.fault

@@ -9,10 +9,9 @@ use Rattle.cl_model.specs.declared.answer.Answer as answers
 use Rattle.cl_model.specs.declared.request.Request as requests
 use Rattle.cl_model.specs.Content.{Content}
 use Rattle.cl_model.specs.Classes.{class}
-use Rattle.cl_model.specs.States.{Verdict, Wrong}
+use Rattle.cl_model.specs.States.{Wrong}
 use Rattle.cl_model.specs.Homes.{World}
-use Rattle.cl_model.specs.Plans.{Request, Plan, needs_of}
-use Rattle.cl_model.specs.Machine.{IsPlan}
+use Rattle.cl_model.specs.Chains.{EndsAtOnce}
 use Rattle.cl_model.specs.Views.{request_of, error_of}
 use Rattle.cl_registry.specs.declared.draft.DraftFault.{DraftFault}
 use Rattle.cl_registry.specs.declared.draft.DraftFault.TheVariants as drafts
@@ -64,17 +63,10 @@ verdict_at w (Missing u) = verdicts.TheVariants.Error (missing_kind w.drafts) (c
 verdict_at w (Unreadable u) = verdicts.TheVariants.Error (kind_of u.fault) (class w.at w.loader)
 verdict_at w (Circle d above) = verdicts.TheVariants.Error kinds.ClassCircularityError (class above w.loader)
 
--- the plan of a request needs nothing and ends so
-pub record EndsIn (w : World) (q : Request) (v : Verdict) : Type 0 where
-  pub plan : Plan
-  pub planned : IsPlan w q plan
-  pub needs_nothing : needs_of plan ≡ []
-  pub ends : plan.ends ≡ v
-
--- a verdict is an error that the plan ends in; a class is looked up in the tables
+-- an error is where the plan of the request ends at once; a class is looked up in the tables
 abbrev pub VerdictRests : World → requests.Request → verdicts.Verdict → Type 0
 VerdictRests w r (verdicts.TheVariants.Class c) = Unit {0}
-VerdictRests w r (verdicts.TheVariants.Error kind c) = EndsIn w (request_of r) (Wrong (error_of kind c))
+VerdictRests w r (verdicts.TheVariants.Error kind c) = EndsAtOnce w (request_of r) (Wrong (error_of kind c))
 
 abbrev pub AnswerRests : World → requests.Request → answers.Answer → Type 0
 AnswerRests w r (answers.TheVariants.Said v) = VerdictRests w r v

@@ -1,3 +1,4 @@
+pub mod Bounds
 pub mod ClassTexts
 pub mod Configs
 pub mod Counts

@@ -4,7 +4,6 @@ use Rattle.cl_classfile.specs.declared.fault.Fault.{Fault}
 use Rattle.cl_classfile.specs.declared.fault.Fault.TheVariants as faults
 use Rattle.cl_classfile.specs.Structure.{Structure}
 use Rattle.cl_classfile.specs.Files.{file_of}
-use Rattle.cl_classfile.specs.Reading.{read_of}
 use Rattle.cl_model.specs.declared.class.Class.{Class}
 use Rattle.cl_model.specs.Content.{Content}
 use Rattle.cl_model.specs.Homes.{home}

@@ -4,11 +4,11 @@ use Rattle.cl_classfile.specs.declared.fault.Fault.{Fault}
 use Rattle.cl_classfile.specs.declared.fault.Fault.TheVariants as faults
 use Rattle.cl_classfile.specs.Structure.{Structure}
 use Rattle.cl_classfile.specs.Files.{File, FileFault, BadVersion, BadFormat, file_of}
-use Rattle.cl_classfile.specs.Reading.{read_of}
 use Rattle.cl_model.specs.Content.{Content}
 use Rattle.cl_model.specs.Homes.{World, Loader, ParentFirst}
 use Rattle.cl_model.specs.Machine.{Setting, Scheduled}
 use Rattle.cl_model.specs.Views.{request_of}
+use Rattle.cl_registry.specs.Bounds.{drafted_of}
 use Rattle.cl_registry.specs.Views.{Configured, Scripted}
 
 -- another version is told apart from all that is no class file's form (5.3.5, 4.8)
@@ -29,7 +29,7 @@ file_read (Err e) = Err (fault_of e)
 
 -- the file that bytes spell, or its first fault
 abbrev pub read : List ℕ → Result File FileFault
-read bytes = file_read (read_of bytes)
+read bytes = file_read (drafted_of bytes)
 
 -- for now a loader has neither parents nor imports
 abbrev pub loaders_of : Configured → List Loader

@@ -1,6 +1,8 @@
-ghost use Rattle.std.specs.Prelude.{◌≡◌, MatchResult};
+ghost use Rattle.std.specs.Prelude.{◌≡◌, ◌<◌, MatchResult};
 ghost use Rattle.std.specs.Option.{option_map};
-ghost use Rattle.cl_classfile.specs.Files.{file_of};
+ghost use Rattle.cl_classfile.specs.Files.{file_of, has};
+ghost use Rattle.cl_classfile.specs.Checking.{Gives};
+ghost use Rattle.cl_registry.specs.Bounds.{drafted_of, is_public_class};
 ghost use Rattle.cl_registry.specs.Drafts.{IsDraft, IsWrong, fault_as};
 ghost use Rattle.cl_registry.specs.DraftReads.{ReadAs};
 
@@ -13,10 +15,15 @@ use std::marker::{Model, PhantomData};
 use std::sync::Arc;
 use thiserror::Error;
 
+/// The bits of flags that tell public classes from others, and interfaces (JVMS SE 8, table 4.1-A).
+const PUBLIC: u16 = 0x0001;
+
+const INTERFACE: u16 = 0x0200;
+
 /// What is wrong with the bytes of a home (JVMS SE 8, 5.3.5).
 #[derive(Clone, Copy, Debug, PartialEq, Eq, Error)]
 pub enum DraftFault {
-    /// They spell no class file, for another cause than the version.
+    /// They spell no class file that is derived, for another cause than the version.
     #[error("H1 Format {0}")]
     Format(Fault),
     /// The version is not 52.0.
@@ -89,10 +96,13 @@ pub enum DraftRefused<T: Told> {
 
 impl<T: Told> Draft<T> {
     /// The class that a home's bytes spell (JVMS SE 8, 5.3.5).
+    ///
+    /// For now a file that is not of a public class is refused as one with bad flags, and one with interfaces as one
+    /// with a bad supertype.
     pub fn read(alloc: Global, home: Home<T>) -> Result<Draft<T>, DraftRefused<T>>
         ensures { ReadAs home result }
     {
-        match cl_classfile::read(alloc, home.bytes()) {
+        match read_derivable(alloc, home.bytes()) {
             Err(ReadError::Memory) => Err(DraftRefused::Memory(home)),
             Err(ReadError::Fault(fault)) => Err(refuse(home, fault_of(fault))),
             Ok(file) => {
@@ -135,6 +145,35 @@ impl<T: Told> Draft<T> {
     {
         &self.file
     }
+}
+
+/// Whether flags have this bit.
+fn has(flags: u16, bit: u16) -> bool
+    requires { 0 < bit }
+    ensures { result ≡ has flags bit }
+{
+    flags / bit % 2 == 1
+}
+
+/// Whether a file is of a public class.
+fn is_public_class(file: &ClassFile) -> bool
+    ensures { result ≡ is_public_class (file_of file.now) }
+{
+    has(file.flags(), PUBLIC) && !has(file.flags(), INTERFACE)
+}
+
+/// The file that the bytes spell, where it is one that is derived.
+fn read_derivable(alloc: Global, bytes: &[u8]) -> Result<ClassFile, ReadError>
+    ensures { Gives (λ f. f) result (drafted_of bytes.now) }
+{
+    let file = cl_classfile::read(alloc, bytes)?;
+    if !is_public_class(&file) {
+        return Err(ReadError::Fault(Fault::BadFlags));
+    }
+    if !file.interfaces().is_empty() {
+        return Err(ReadError::Fault(Fault::BadSupertype));
+    }
+    Ok(file)
 }
 
 fn refuse<T: Told>(home: Home<T>, fault: DraftFault) -> DraftRefused<T>

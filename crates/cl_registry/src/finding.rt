@@ -35,6 +35,8 @@ impl<T: Told> Model for Finding<T> {
     ghost Value = { Answered };
 
     ghost view = { λ f. record { request = f.request; answer = f.answer } };
+
+    ghost invariant = { λ f. Rests T.told f.request f.answer };
 }
 
 fn kind_of(fault: DraftFault) -> ErrorKind
@@ -57,19 +59,27 @@ fn missing_kind<T: Told>(walk: &Walk<T>) -> ErrorKind
     }
 }
 
-fn verdict_at<T: Told>(walk: Walk<T>, end: Obstacle<T>) -> Verdict
-    ensures { result ≡ verdict_at walk end }
+/// The error of a request, from its walk and what stopped it.
+fn verdict_at<T: Told>(request: &Request, walk: Walk<T>, end: Obstacle<T>) -> Verdict
+    requires walk { IsFor request.now walk }
+    requires stops { Stops walk end }
+    ensures verdict { result ≡ verdict_at walk end }
+    ensures rests { Rests T.told request.now (answers.Said result) }
 {
+    let _ = walk.at();
     match end {
-        Obstacle::Missing(_) => {
+        Obstacle::Missing(unfound) => {
+            let _ = unfound.name();
             let kind = missing_kind(&walk);
             Verdict::Error(kind, walk.into_class())
         }
         Obstacle::Unreadable(unreadable) => {
+            let _ = unreadable.home().bytes();
             let kind = kind_of(unreadable.fault());
             Verdict::Error(kind, walk.into_class())
         }
-        Obstacle::Circle(_, above) => {
+        Obstacle::Circle(draft, above) => {
+            let _ = draft.super_name();
             let loader = walk.loader();
             let class = Class {
                 name: above,
@@ -96,9 +106,10 @@ impl<T: Told> Finding<T> {
     pub fn obstacle(request: Request, walk: Walk<T>, end: Obstacle<T>) -> Finding<T>
         requires walk { IsFor request walk }
         requires stops { Stops walk end }
-        ensures { result ≡ record { request = request; answer = answers.Said (verdict_at walk end) } }
+        ensures answer { result ≡ record { request = request; answer = answers.Said (verdict_at walk end) } }
+        ensures rests { Rests T.told result.request result.answer }
     {
-        let verdict = verdict_at(walk, end);
+        let verdict = verdict_at(&request, walk, end);
         Finding {
             request,
             answer: Answer::Said(verdict),
@@ -137,14 +148,16 @@ impl<T: Told> Finding<T> {
 
     /// Its answer.
     pub fn answer(&self) -> &Answer
-        ensures { result.now ≡ self.now.answer }
+        ensures answer { result.now ≡ self.now.answer }
+        ensures rests { Rests T.told self.now.request self.now.answer }
     {
         &self.answer
     }
 
     /// Its answer, given up.
     pub(crate) fn into_answer(self) -> Answer
-        ensures { result ≡ self.answer }
+        ensures answer { result ≡ self.answer }
+        ensures rests { Rests T.told self.request self.answer }
     {
         self.answer
     }

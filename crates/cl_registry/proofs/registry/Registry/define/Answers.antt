@@ -1,10 +1,11 @@
 use Rattle.std.proofs.Common.{◌≡◌, ◌∙◌, refl, ap, sym, length, subst, None, is_some, Option, ℕ, List}
+use Rattle.std.specs.Prelude.{OnOk}
 use Rattle.std.specs.Option.{option_map}
 use Rattle.cl_model.specs.declared.event.Event.{Event}
 use Rattle.cl_model.specs.States.{recorded}
 use Rattle.cl_registry.specs.Drafts.{IsDraft}
 use Rattle.cl_registry.specs.Tables.{Shown, MayEnter, DefinedAs, records_of}
-use Rattle.cl_registry.proofs.Kept.{kept_define, may_enter, unrecorded_at, known_at}
+use Rattle.cl_registry.proofs.Kept.{kept_define, may_enter, unrecorded_at, known_at, place_at, known_defined}
 use Rattle.cl_registry.proofs.registry.Registry.define.Goals as goal
 
 abbrev shown : (g : _) → goal.After-drop-draft-inside-3 g → Shown
@@ -27,3 +28,10 @@ returns-clause-defined g c =
     subst (λ (x : Shown). DefinedAs x (record (shown g c) { history = c.record.new.history.items }) c.args.draft (recorded (records_of x) c.args.draft.class.loader c.args.draft.class.name)) c.self.view_is
     (subst (λ (o : Option ℕ). DefinedAs (shown g c) (record (shown g c) { history = c.record.new.history.items }) c.args.draft o) (sym (fresh g c))
     (ap (λ (h : List Event). record (shown g c) { history = h }) c.in-Ok-record.ensures.event, may g c))
+
+pub returns-in-Some-clause-defined : goal.returns-in-Some-clause-defined
+returns-in-Some-clause-defined g c =
+    let x : Shown = record { config = c.self.inside.config.value; script = c.self.inside.script.value; history = c.self.inside.history.items; answers = c.self.inside.answers.items } in
+    subst (λ (y : Shown). OnOk c.match-try_clone.result (DefinedAs y y c.args.draft (recorded (records_of y) c.args.draft.class.loader c.args.draft.class.name))) c.self.view_is
+    (known_defined c.match-try_clone.result x c.args.draft _ c.in-Some.row.now.value.class.loader
+    (sym (place_at (λ r. r.value) g.T.Told.told x _ c.self.invariant.rows c.args.draft.class.loader c.args.draft.class.name) ∙ ap (option_map (λ r. r.value.class.loader)) (sym c.known.ensures ∙ ap (option_map (λ r. r.now)) c.in-Some.is)))

@@ -37,5 +37,5 @@ returns-clause-fits g c =
     rw (← c.self.view_is) (
       ap (λ l. slice_get l c.args.q) (sym (c.requests.ensures.requests ∙ ap (λ s. s.requests) c.deref.ensures)) ∙ c.if-not-is_asked.ensures ∙ ap (λ r. Some r) c.request.ensures,
       is,
-      backed_by x _ _ _ _ c.args.finding (c.count.ensures.count ∙ ap (λ k. length k.names) c.deref-3.ensures) (place_at (λ r. r.value) g.T.Told.told x _ c.self.invariant.rows) c.request-2.ensures c.answer.ensures c.if-not-backs.ensures,
+      backed_by x _ _ _ _ c.args.finding (c.count.ensures.count ∙ ap (λ k. length k.names) c.deref-3.ensures) (place_at (λ r. r.value) g.T.Told.told x _ c.self.invariant.rows) c.request-2.ensures c.answer.ensures.answer c.if-not-backs.ensures,
     )

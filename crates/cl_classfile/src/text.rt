@@ -14,7 +14,7 @@ pub struct Text<'a> {
     bytes: &'a [u8],
 }
 
-impl Model for Text<'_> {
+impl<'a> Model for Text<'a> {
     ghost use Rattle.std.specs.Prelude.{ℕ, List};
 
     ghost Value = { List ℕ };

@@ -27,4 +27,6 @@ pub use member::Member;
 pub use reference::{Reference, Symbol};
 
 #[cfg(test)]
+mod pool_tests;
+#[cfg(test)]
 mod tests;

@@ -19,8 +19,7 @@ returns-then-not-branch c =
 
 pub loop-i-preserved : goal.loop-i-preserved
 loop-i-preserved c =
-    let k = c.in_ok-is_new.ensures (take c.loop-i.i c.args.methods.now) c.loop-i.invariant.1 in
-    (
+    let k = c.in_ok-is_new.ensures (take c.loop-i.i c.args.methods.now) c.loop-i.invariant.1 in (
       goes_on (keeps_method c.args.traits.now c.args.of_interface) c.args.pool.now c.args.methods.now c.loop-i.i c.index-methods-i.result c.loop-i-test.true c.index-methods-i.is (sym c.keeps_method.ensures ∙ c.if-not-keeps_method.false) (fresh c.in_ok-is_new.field-0 _ k.0 c.if-not-branch.false) c.loop-i.invariant.0,
       subst (λ (ms : List Member). HasKeys c.args.pool.now c.is_new.new.seen.keys ms) (sym (front c.args.methods.now c.loop-i.i c.index-methods-i.result c.loop-i-test.true c.index-methods-i.is)) k.1,
     )

@@ -8,7 +8,7 @@ ghost use Rattle.cl_classfile.specs.Files.{file_of, typed, reference};
 ghost use Rattle.cl_classfile.specs.References.{plain_reference, refers, IsCited};
 ghost use Rattle.cl_names.specs.Kind.{IsNameOf, IsClass};
 ghost use Rattle.cl_classfile.specs.Raw.{plain_file};
-ghost use Rattle.cl_classfile.specs.Checking.{Finds, Gives, checked_tables, kept_file};
+ghost use Rattle.cl_classfile.specs.Checking.{Gives, checked_tables, kept_file};
 ghost use Rattle.cl_classfile.specs.Reading.{header_at, read_of};
 
 use crate::attribute::Attribute;
@@ -157,13 +157,18 @@ fn made(pool: Vec<Entry>, file: RawFile<'_>) -> ClassFile
 
 /// Whether the flags and the supertypes keep their tables, then the fields, then the methods.
 #[tactic(auto, unfolding(crate::specs::Checking::checked_tables))]
-fn check_tables(traits: &[Traits], pool: &[Entry], file: &RawFile<'_>) -> Result<(), Fault>
-    ensures { Finds (λ u. u) result (checked_tables traits.now pool.now (plain_file file.now)) }
+fn check_tables(
+    alloc: Global,
+    traits: &[Traits],
+    pool: &[Entry],
+    file: &RawFile<'_>,
+) -> Result<(), ReadError>
+    ensures { Gives (λ u. u) result (checked_tables traits.now pool.now (plain_file file.now)) }
 {
     check_class(pool, file)?;
     let of_interface = is_interface(file.flags);
-    check_fields(traits, pool, of_interface, file.fields.as_slice())?;
-    check_methods(traits, pool, of_interface, file.methods.as_slice())
+    check_fields(alloc, traits, pool, of_interface, file.fields.as_slice())?;
+    check_methods(alloc, traits, pool, of_interface, file.methods.as_slice())
 }
 
 #[tactic(auto, unfolding(crate::specs::Checking::kept_file))]
@@ -174,7 +179,7 @@ fn kept_file(alloc: Global, file: RawFile<'_>) -> Result<ClassFile, ReadError>
     let traits = all_traits(alloc, file.pool.as_slice())?;
     check_entries(traits.as_slice(), file.pool.as_slice())?;
     let pool = owned_entries(alloc, file.pool.as_slice())?;
-    check_tables(traits.as_slice(), pool.as_slice(), &file)?;
+    check_tables(alloc, traits.as_slice(), pool.as_slice(), &file)?;
     Ok(made(pool, file))
 }
 

@@ -431,8 +431,8 @@ fn method_of(alloc: Global, flags: u8, units: u16) -> Result<Vec<u8>, AllocError
         ],
         &[],
     )?;
-    let len = units as usize + 3;
-    bytes.extend_from_slice(&[1, (len / 256) as u8, (len % 256) as u8, b'('])?;
+    let len = units.wrapping_add(3).to_be_bytes();
+    bytes.extend_from_slice(&[1, len[0], len[1], b'('])?;
     for _ in 0..units {
         bytes.push(b'I')?;
     }

@@ -423,7 +423,7 @@ fn members_in_order(rt: HostRuntime) -> Result<(), Fail> {
 }
 
 /// A class with a method that has these flags and so many parameters of one unit.
-fn method_of(alloc: Global, flags: u8, units: usize) -> Result<Vec<u8>, AllocError> {
+fn method_of(alloc: Global, flags: u8, units: u16) -> Result<Vec<u8>, AllocError> {
     let mut bytes = file(
         alloc,
         &[
@@ -431,7 +431,7 @@ fn method_of(alloc: Global, flags: u8, units: usize) -> Result<Vec<u8>, AllocErr
         ],
         &[],
     )?;
-    let len = units + 3;
+    let len = units as usize + 3;
     bytes.extend_from_slice(&[1, (len / 256) as u8, (len % 256) as u8, b'('])?;
     for _ in 0..units {
         bytes.push(b'I')?;

@@ -11,7 +11,7 @@ use Rattle.cl_classfile.specs.declared.traits.Special.{Special}
 use Rattle.cl_classfile.specs.declared.traits.Special.TheVariants as names
 use Rattle.cl_classfile.specs.declared.traits.Traits.{Traits}
 use Rattle.cl_classfile.specs.Flags.{has, static, interface, is_class_flags, is_field_flags, is_method_flags, is_init_flags}
-use Rattle.cl_classfile.specs.Structure.{Structure, Member, object, at}
+use Rattle.cl_classfile.specs.Structure.{Structure, Member, object}
 use Rattle.cl_classfile.specs.Rows.{is_field, entry_traits, traits_at, keeps_entry}
 use Rattle.cl_classfile.specs.Files.{text_at, class_name}
 

@@ -194,8 +194,9 @@ fn read_of(alloc: Global, bytes: &[u8]) -> Result<ClassFile, ReadError>
 
 /// The file that the bytes spell, all of the bytes.
 ///
-/// The errors come in this order: those of the bytes from left to right (F1 to F3, F5 at a tag and at a count of
-/// 0, and where a count of interfaces or members is not 0 F9 or F7), F4, F5 for each entry in turn, F6, F9.
+/// The errors come in this order: those of the bytes from left to right (F1 to F3, F5 at a count of 0, at an unknown
+/// tag and at a long or a double as the last entry), F4, F5 for each entry in turn, F6, F9, and F7 and then F8 for
+/// each field and then for each method.
 pub fn read(alloc: Global, bytes: &[u8]) -> Result<ClassFile, ReadError>
     // What is read is spelled so.
     ensures found { IfOk result (λ f. Spells bytes.now f) }

@@ -27,7 +27,7 @@ use cl_names::Name;
 use std::alloc::Global;
 use std::marker::Model;
 
-/// A class file, whose parts keep the tables of JVMS SE 8, 4.1 and 4.4.
+/// A class file, whose parts keep the tables of JVMS SE 8, 4.1 and 4.4 to 4.6.
 #[derive(Debug, Drop)]
 pub struct ClassFile {
     pool: Vec<Entry>,

@@ -162,7 +162,7 @@ fn refusals_in_order(rt: HostRuntime) -> Result<(), Fail> {
             Some(Fault::BadPool(2)),
         ),
         (
-            &[0, 3, 1, 0, 2, b'[', b'I', 7, 0, 1],
+            &[0, 3, 1, 0, 2, b'[', b'X', 7, 0, 1],
             &[0; 14],
             Some(Fault::BadPool(2)),
         ),

@@ -1,15 +1,15 @@
 -- A reader and a spelling that undo each other, and how they are put together.
 use Rattle.std.proofs.Common.{◌≡◌, ℕ, zero, suc, ◌+◌, ◌^◌, ◌<◌, ◌≤◌, Bool, true, false, cond, ltb, ◌&&◌, List, [], ◌∷◌, ◌++◌, length, get_or, take, drop, Result, Ok, Err, refl, sym, ap, subst, ◌∙◌, append_assoc, arith, inl, inr}
-use Rattle.std.specs.Int.{Width, w16, w32, byte_len, from_be_bytes, to_be_bytes}
+use Rattle.std.specs.Int.{Width, w16, w32, w64, byte_len, from_be_bytes, to_be_bytes}
 use Rattle.std.specs.List.{flat_map, AllByRecursion}
 use Rattle.std.proofs.lemmas.Bool.{cases_lt, ltb-false, le-ltb}
 use Rattle.std.proofs.lemmas.List.{take_at, drop_at, take-append-drop, length-append, length-take, get_or-drop, get_or-take, get_or_past}
 use Rattle.std.proofs.lemmas.List.Concat.{flat_map-cons}
-use Rattle.std.proofs.lemmas.Nat.{be_bytes_2, be_bytes_4, from_be_bytes-to_be_bytes_2, from_be_bytes-to_be_bytes_4}
+use Rattle.std.proofs.lemmas.Nat.{be_bytes_2, be_bytes_4, be_bytes_8, from_be_bytes-to_be_bytes_2, from_be_bytes-to_be_bytes_4, from_be_bytes-to_be_bytes_8}
 use Rattle.cl_classfile.specs.declared.fault.Fault.{Fault}
 use Rattle.cl_classfile.specs.declared.fault.Fault.TheVariants.{Truncated}
 use Rattle.cl_classfile.specs.Checking.{◌>>=◌}
-use Rattle.cl_classfile.specs.Reading.{Reader, many_at, number_at, then_at, test_at, map_at, bytes_at}
+use Rattle.cl_classfile.specs.Reading.{Reader, many_at, number_at, then_at, test_at, map_at, bytes_at, sized_at}
 
 abbrev pub IsBytes : List ℕ → Type 0
 IsBytes bytes = (i : ℕ) → get_or bytes i 0 < 256
@@ -83,6 +83,14 @@ wide32 = record {
   below = λ bytes fits. omega (arith, fits 0, fits 1, fits 2, fits 3);
 }
 
+wide64 : IsWide w64 (2 ^ 64)
+wide64 = record {
+  len = λ n. refl;
+  back = λ bytes len fits. be_bytes_8 bytes _ len fits refl;
+  again = λ n lt. from_be_bytes-to_be_bytes_8 n lt;
+  below = λ bytes fits. omega (arith, fits 0, fits 1, fits 2, fits 3, fits 4, fits 5, fits 6, fits 7);
+}
+
 number : (w : Width) (limit : ℕ) → IsWide w limit → IsCodec (number_at w) (to_be_bytes w) (λ n. n < limit)
 number w limit wide = record {
   takes = λ bytes x fits e.
@@ -102,6 +110,9 @@ number16 = number w16 (2 ^ 16) wide16
 
 pub number32 : IsCodec (number_at w32) (to_be_bytes w32) (λ n. n < 2 ^ 32)
 number32 = number w32 (2 ^ 32) wide32
+
+pub number64 : IsCodec (number_at w64) (to_be_bytes w64) (λ n. n < 2 ^ 64)
+number64 = number w64 (2 ^ 64) wide64
 
 pub bytes_of : (n : ℕ) → IsCodec (bytes_at n) (λ t. t) (λ t. length t ≡ n)
 bytes_of n = record {
@@ -129,6 +140,10 @@ one_then {A} {B} r q s t F G first second = record {
   again = λ p rest h.
       rw (append_assoc (s p.0) (t p.0 p.1) rest, first.again p.0 (t p.0 p.1 ++ rest) h.0, (second p.0).again p.1 rest h.1) refl;
 }
+
+-- one structure, and then another
+pub also : {A B : Type 0} (r : Reader A) (q : Reader B) (s : A → List ℕ) (t : B → List ℕ) (F : A → Type 0) (G : B → Type 0) → IsCodec r s F → IsCodec q t G → IsCodec (then_at r (λ a. q)) (λ p. s p.0 ++ t p.1) (λ p. F p.0 × G p.1)
+also r q s t F G first second = one_then r (λ a. q) s (λ a. t) F (λ a. G) first (λ a. second)
 
 pub tested : {A : Type 0} (r : Reader A) (s : A → List ℕ) (F : A → Type 0) (test : A → Bool) (fault : Fault) → IsCodec r s F → IsCodec (test_at r test fault) s (λ a. F a × (test a ≡ true))
 tested {A} r s F test fault c = record {
@@ -199,3 +214,16 @@ each_of_all F next c (x ∷ xs) h = (h.0, each_of_all F next (next c x) xs h.1)
 pub all_of_each : {C A : Type 0} (F : A → Type 0) (next : C → A → C) (c : C) (xs : List A) → EachFits (λ place x. F x) next c xs → AllByRecursion F xs
 all_of_each F next c [] h = tt
 all_of_each F next c (x ∷ xs) h = (h.0, all_of_each F next (next c x) xs h.1)
+
+-- a length, and that many bytes
+pub sized : (w : Width) (limit : ℕ) → IsCodec (number_at w) (to_be_bytes w) (λ n. n < limit) → IsCodec (sized_at w) (λ t. to_be_bytes w (length t) ++ t) (λ t. length t < limit)
+sized w limit number = record {
+  takes = λ bytes x fits e.
+      let b = bind_ok (number_at w bytes) (λ n. bytes_at n.0 n.1) x e in
+      let one = number.takes bytes b.0 fits b.1 in
+      let two = (bytes_of b.0.0).takes b.0.1 x one.0.rest_fits b.2 in
+      let whole = Takes-then bytes (to_be_bytes w b.0.0) b.0.1 x.0 x.1 one.0 two.0 in
+      (subst (λ (k : ℕ). Takes bytes (to_be_bytes w k ++ x.0) x.1) (sym two.1) whole, omega (arith, two.1, one.1));
+  again = λ t rest h.
+      ap (sized_at w) (append_assoc (to_be_bytes w (length t)) t rest) ∙ rw (number.again (length t) (t ++ rest) h, (bytes_of (length t)).again t rest refl) refl;
+}

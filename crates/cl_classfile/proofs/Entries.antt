@@ -1,89 +1,73 @@
 -- Looking at the entries of the pool one after the other.
-use Rattle.std.proofs.Common.{◌≡◌, ℕ, zero, suc, ◌+◌, ◌≤◌, ◌<◌, Bool, true, false, cond, leb, List, [], ◌∷◌, ◌++◌, length, map, take, drop, get_or, unwrap_or, Result, Ok, Err, refl, sym, ap, ◌∙◌, add-one, arith}
-use Rattle.std.proofs.Math.Seq.{drop-cons, take-suc}
-use Rattle.std.proofs.lemmas.List.{drop-map, take-map, take_all, map-append, length-drop, length-map, nil_from_length}
-use Rattle.std.proofs.lemmas.Bool.Decides.{nat_tests}
-use Rattle.cl_names.specs.Text.{IsModifiedUtf8}
-use Rattle.cl_names.proofs.Texts.{test_of, test_of_none}
+use Rattle.std.proofs.Common.{◌≡◌, ℕ, zero, suc, ◌+◌, ◌-◌, Bor, Option, Some, None, ◌≤◌, ◌<◌, Bool, true, false, cond, List, [], ◌∷◌, length, map, drop, get_or, Ok, Err, refl, sym, ap, ◌∙◌, add-one, arith}
+use Rattle.std.proofs.Math.Seq.{drop-cons}
+use Rattle.std.proofs.lemmas.List.{drop-map, length-drop, length-map, nil_from_length}
 use Rattle.cl_classfile.specs.declared.entry.Entry.{Entry}
-use Rattle.cl_classfile.specs.declared.entry.Entry.TheVariants.{Utf8, Class}
-use Rattle.cl_classfile.specs.declared.fault.Fault.{Fault}
 use Rattle.cl_classfile.specs.declared.fault.Fault.TheVariants.{BadPool}
-use Rattle.cl_classfile.specs.declared.fault.ReadError.{ReadError}
-use Rattle.cl_classfile.specs.declared.fault.ReadError.TheVariants as errors
-use Rattle.cl_classfile.specs.declared.reading.RawEntry.{RawEntry}
+use Rattle.cl_classfile.specs.declared.raw.RawEntry.{RawEntry}
+use Rattle.std.specs.Prelude.{slice_get}
+use Rattle.std.specs.Option.{option_map}
+use Rattle.std.specs.Slice.{IsItemAt}
+use Rattle.std.proofs.lemmas.Option.{slice_get_past, slice_get_read}
+use Rattle.cl_classfile.specs.Pool.{at}
 use Rattle.cl_classfile.specs.Raw.{plain_entry, plain_entries}
-use Rattle.cl_classfile.specs.Structure.{at}
-use Rattle.cl_classfile.specs.Checking.{Fails, is_class_text, names_class, keeps_entry, kept_entry, checked_entries}
+use Rattle.cl_classfile.specs.Rows.{entry_traits, keeps_entry}
+use Rattle.cl_classfile.specs.declared.traits.Traits.{Traits}
+use Rattle.cl_classfile.specs.Checking.{kept_entry, checked_entries}
 
--- what the flags of the entries say at an index
-pub named : (pool : List Entry) (i : ℕ) → unwrap_or (at (map is_class_text pool) i) false ≡ names_class (at pool i)
-named pool zero = refl
-named [] (suc i) = refl
-named (e ∷ es) (suc zero) = refl
-named (e ∷ es) (suc (suc i)) = named es (suc i)
+-- what a slice lends at an index, from 1 on
+lent : {X : Type 0} (xs : List X) (i : ℕ) (r : Option (Bor X)) → IsItemAt xs i r → option_map (λ x. x.now) r ≡ slice_get xs i
+lent xs i None h = sym (slice_get_past xs i h.3)
+lent xs i (Some x) h = sym (slice_get_read xs (length xs) i x.now refl h.3.0 h.1)
 
-pub text_kept : (pool : List Entry) (i : ℕ) (text name : List ℕ) → name ≡ text → IsModifiedUtf8 text → length text ≤ 65535 → kept_entry pool i (Utf8 text) ≡ Ok (Utf8 name)
-text_kept pool i text name same h short =
-    let le : leb (length text) 65535 ≡ true = grind (arith, nat_tests) in
-    rw (same, test_of text h, le) refl
+from_one : {X : Type 0} (xs : List X) (i : ℕ) → (i ≡ 0 → ⊥) → slice_get xs (i - 1) ≡ at xs i
+from_one xs zero h = absurd (h refl)
+from_one xs (suc i) h = let k : suc i - 1 ≡ i = omega arith in ap (slice_get xs) k
 
-pub text_refused : (pool : List Entry) (i : ℕ) (text : List ℕ) → (IsModifiedUtf8 text → ⊥) → kept_entry pool i (Utf8 text) ≡ Err (BadPool i)
-text_refused pool i text h = rw (test_of_none text h) refl
+pub at_lent : {X : Type 0} (xs : List X) (i : ℕ) (r : Option (Bor X)) → (i ≡ 0 → ⊥) → IsItemAt xs (i - 1) r → option_map (λ x. x.now) r ≡ at xs i
+at_lent xs i r some h = lent xs (i - 1) r h ∙ from_one xs i some
 
-pub class_kept : (pool : List Entry) (i name : ℕ) (test : Bool) → test ≡ names_class (at pool name) → test ≡ true → kept_entry pool i (Class name) ≡ Ok (Class name)
-class_kept pool i name test e t = rw (sym e ∙ t) refl
-
--- ---- one after the other
+-- what stands at an index of them
+pub at_plain : (raws : List RawEntry) (i : ℕ) → at (plain_entries raws) i ≡ option_map plain_entry (at raws i)
+at_plain raws zero = refl
+at_plain [] (suc i) = refl
+at_plain (r ∷ raws) (suc zero) = refl
+at_plain (r ∷ raws) (suc (suc i)) = at_plain raws (suc i)
 
 -- the entry at i, and those behind it
 split : (raws : List RawEntry) (i : ℕ) (d : RawEntry) → i < length raws → drop i (plain_entries raws) ≡ plain_entry (get_or raws i d) ∷ drop (i + 1) (plain_entries raws)
 split raws i d lt = drop-map plain_entry i raws ∙ ap plain_entries (drop-cons raws i d lt) ∙ rw (add-one, drop-map plain_entry (suc i) raws) refl
 
-take-split : (raws : List RawEntry) (i : ℕ) (d : RawEntry) → i < length raws → take (i + 1) (plain_entries raws) ≡ take i (plain_entries raws) ++ plain_entry (get_or raws i d) ∷ []
-take-split raws i d lt = rw (take-map plain_entry (i + 1) raws, take-map plain_entry i raws, add-one, take-suc raws i d lt) (map-append plain_entry (take i raws) (get_or raws i d ∷ []))
+-- the entries from i on are still to be looked at
+abbrev pub IsLookedAt : List Entry → ℕ → Type 0
+IsLookedAt pool i = checked_entries pool (i + 1) (drop i pool) ≡ checked_entries pool 1 pool
 
--- the entries before i are kept, and those from i on are still to be looked at
-pub record IsLookedAt (pool kept : List Entry) (i : ℕ) : Type 0 where
-  pub front : kept ≡ take i pool
-  pub back : checked_entries pool (i + 1) (drop i pool) ≡ checked_entries pool 1 pool
+-- whether an entry keeps its row, with the traits that were found
+row : (pool : List Entry) (traits : List Traits) (i : ℕ) (e : Entry) (b : Bool) → traits ≡ map entry_traits pool → b ≡ keeps_entry traits pool e → kept_entry pool i e ≡ cond b (Ok e) (Err (BadPool i))
+row pool traits i e b t h = ap (λ (ts : List Traits). cond (keeps_entry ts pool e) (Ok e) (Err (BadPool i))) (sym t) ∙ ap (λ (k : Bool). cond k (Ok e) (Err (BadPool i))) (sym h)
 
--- an entry that was kept is the one that stood there
-same_entry : (pool : List Entry) (i : ℕ) (e x : Entry) → kept_entry pool i e ≡ Ok x → x ≡ e
-same_entry pool i e x h = same (keeps_entry pool e) h
-  where
-    same : (b : Bool) → cond b (Ok e) (let r : Result Entry Fault = Err (BadPool i) in r) ≡ Ok x → x ≡ e
-    same true k = cc
-    same false k = absurd cc
-
-pub goes_on : (kept : List Entry) (raws : List RawEntry) (i : ℕ) (d : RawEntry) (e : Entry) → i < length raws → kept_entry (plain_entries raws) (i + 1) (plain_entry (get_or raws i d)) ≡ Ok e
-    → IsLookedAt (plain_entries raws) kept i → IsLookedAt (plain_entries raws) (kept ++ e ∷ []) (i + 1)
+pub goes_on : (traits : List Traits) (raws : List RawEntry) (i : ℕ) (d : RawEntry) (b : Bool) → i < length raws → traits ≡ map entry_traits (plain_entries raws) → b ≡ keeps_entry traits (plain_entries raws) (plain_entry (get_or raws i d)) → b ≡ true
+    → IsLookedAt (plain_entries raws) i → IsLookedAt (plain_entries raws) (i + 1)
 unfolding checked_entries
-goes_on kept raws i d e lt h so_far =
+goes_on traits raws i d b lt t h kept so_far =
     let pool = plain_entries raws in
-    let one : checked_entries pool (i + 1) (drop i pool) ≡ checked_entries pool (i + 1 + 1) (drop (i + 1) pool) = rw (split raws i d lt, h) refl in
-    record {
-      front = rw (same_entry pool (i + 1) (plain_entry (get_or raws i d)) e h, so_far.front) (sym (take-split raws i d lt));
-      back = sym one ∙ so_far.back;
-    }
+    let kept_row : kept_entry pool (i + 1) (plain_entry (get_or raws i d)) ≡ Ok (plain_entry (get_or raws i d)) = row pool traits (i + 1) (plain_entry (get_or raws i d)) b t h ∙ rw kept refl in
+    let one : checked_entries pool (i + 1) (drop i pool) ≡ checked_entries pool (i + 1 + 1) (drop (i + 1) pool) = rw (split raws i d lt, kept_row) refl in
+    sym one ∙ so_far
 
-pub ends : (kept : List Entry) (raws : List RawEntry) (i : ℕ) (d : RawEntry) (e : ReadError) → i < length raws → Fails e (kept_entry (plain_entries raws) (i + 1) (plain_entry (get_or raws i d)))
-    → IsLookedAt (plain_entries raws) kept i → Fails e (checked_entries (plain_entries raws) 1 (plain_entries raws))
+pub ends : (traits : List Traits) (raws : List RawEntry) (i : ℕ) (d : RawEntry) (b : Bool) → i < length raws → traits ≡ map entry_traits (plain_entries raws) → b ≡ keeps_entry traits (plain_entries raws) (plain_entry (get_or raws i d)) → b ≡ false
+    → IsLookedAt (plain_entries raws) i → checked_entries (plain_entries raws) 1 (plain_entries raws) ≡ Err (BadPool (i + 1))
 unfolding checked_entries
-ends kept raws i d errors.Memory lt h so_far = tt
-ends kept raws i d (errors.Fault f) lt h so_far =
+ends traits raws i d b lt t h bad so_far =
     let pool = plain_entries raws in
-    let one : checked_entries pool (i + 1) (drop i pool) ≡ Err f = rw (split raws i d lt, h) refl in
-    sym so_far.back ∙ one
+    let bad_row : kept_entry pool (i + 1) (plain_entry (get_or raws i d)) ≡ Err (BadPool (i + 1)) = row pool traits (i + 1) (plain_entry (get_or raws i d)) b t h ∙ rw bad refl in
+    let one : checked_entries pool (i + 1) (drop i pool) ≡ Err (BadPool (i + 1)) = rw (split raws i d lt, bad_row) refl in
+    sym so_far ∙ one
 
-pub starts : (pool : List Entry) → IsLookedAt pool [] 0
-starts pool = record { front = refl; back = refl }
-
-pub is_done : (kept : List Entry) (raws : List RawEntry) (i : ℕ) → length raws ≤ i → IsLookedAt (plain_entries raws) kept i
-    → (checked_entries (plain_entries raws) 1 (plain_entries raws) ≡ Ok tt) × (kept ≡ plain_entries raws)
+pub is_done : (raws : List RawEntry) (i : ℕ) → length raws ≤ i → IsLookedAt (plain_entries raws) i → checked_entries (plain_entries raws) 1 (plain_entries raws) ≡ Ok tt
 unfolding checked_entries
-is_done kept raws i le so_far =
+is_done raws i le so_far =
     let pool = plain_entries raws in
     let none : drop i pool ≡ [] = nil_from_length _ (omega (arith, length-drop i pool, length-map raws plain_entry)) in
     let one : checked_entries pool (i + 1) (drop i pool) ≡ Ok tt = rw none refl in
-    (sym so_far.back ∙ one, so_far.front ∙ take_all i pool (omega (arith, length-map raws plain_entry)))
+    sym so_far ∙ one

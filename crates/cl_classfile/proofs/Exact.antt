@@ -1,5 +1,5 @@
 -- What is read is spelled so, and what is spelled so is read.
-use Rattle.std.proofs.Common.{◌≡◌, ℕ, Bool, true, false, cond, eqb, List, [], ◌++◌, length, Result, Ok, Err, refl, sym, ap, subst, ◌∙◌}
+use Rattle.std.proofs.Common.{◌≡◌, ℕ, Bool, true, false, cond, eqb, List, [], ◌++◌, length, map, Result, Ok, Err, refl, sym, ap, subst, ◌∙◌}
 use Rattle.std.specs.Prelude.{IfOk}
 use Rattle.std.proofs.lemmas.Bool.{eqb-true}
 use Rattle.std.proofs.lemmas.List.{append-nil, nil_from_length}
@@ -7,11 +7,12 @@ use Rattle.cl_classfile.specs.declared.fault.Fault.{Fault}
 use Rattle.cl_classfile.specs.declared.fault.Fault.TheVariants.{Trailing}
 use Rattle.cl_classfile.specs.declared.fault.ReadError.{ReadError}
 use Rattle.cl_classfile.specs.declared.fault.ReadError.TheVariants as errors
-use Rattle.cl_classfile.specs.Structure.{Structure, spelling, Fits, IsNarrow, IsClassFile, Spells}
-use Rattle.cl_classfile.specs.Checking.{Gives, checked_entries, checked_class, kept_file}
+use Rattle.cl_classfile.specs.Structure.{Structure, spelling, Fits, IsClassFile, Spells}
+use Rattle.cl_classfile.specs.Checking.{Gives, checked_entries, checked_tables, kept_file}
+use Rattle.cl_classfile.specs.Rows.{entry_traits}
 use Rattle.cl_classfile.specs.Reading.{header_at, structure_at, whole_of, read_of}
-use Rattle.cl_classfile.proofs.Codec.{IsBytes, bind_ok}
-use Rattle.cl_classfile.proofs.Spelled.{IsRead, structure}
+use Rattle.cl_classfile.proofs.Codec.{IsBytes, bind_ok, ok_is}
+use Rattle.cl_classfile.proofs.Spelled.{structure}
 use Rattle.cl_classfile.proofs.Quiet.{is_header, in_header}
 use Rattle.cl_classfile.proofs.Tables.{tables_say, file_says, file_told}
 
@@ -20,7 +21,7 @@ ended true x y e = (refl, cc)
 ended false x y e = absurd cc
 
 -- all of the bytes are the file's spelling
-pub whole_takes : (bytes : List ℕ) (f : Structure) → IsBytes bytes → whole_of bytes ≡ Ok f → (bytes ≡ spelling f) × IsRead f
+pub whole_takes : (bytes : List ℕ) (f : Structure) → IsBytes bytes → whole_of bytes ≡ Ok f → (bytes ≡ spelling f) × Fits f
 unfolding whole_of
 whole_takes bytes f fits e =
     let a = bind_ok (structure_at bytes) (λ x. cond (eqb (length x.1) 0) (Ok x.0) (Err Trailing)) f e in
@@ -28,51 +29,53 @@ whole_takes bytes f fits e =
     let one = structure.takes bytes a.0 fits a.1 in
     let nothing : a.0.1 ≡ [] = nil_from_length a.0.1 (eqb-true _ _ g.0) in
     let spelled : bytes ≡ spelling a.0.0 = one.0.parts ∙ ap (λ (rest : List ℕ). spelling a.0.0 ++ rest) nothing ∙ append-nil (spelling a.0.0) in
-    subst (λ (y : Structure). (bytes ≡ spelling y) × IsRead y) g.1 (spelled, one.1)
+    subst (λ (y : Structure). (bytes ≡ spelling y) × Fits y) g.1 (spelled, one.1)
 
-pub whole_again : (f : Structure) → IsRead f → whole_of (spelling f) ≡ Ok f
+pub whole_again : (f : Structure) → Fits f → whole_of (spelling f) ≡ Ok f
 unfolding whole_of
 whole_again f h =
     let one : structure_at (spelling f) ≡ Ok (f, []) = ap structure_at (sym (append-nil (spelling f))) ∙ structure.again f [] h in
     rw one refl
 
-narrow : (f : Structure) → IsRead f → (let flags : ℕ = f.flags in flags) ≡ 33 → IsNarrow f
-narrow f h flags = record { flags = flags; interfaces = h.interfaces; fields = h.fields; methods = h.methods; attributes = h.attributes }
-
-pub read_takes : (bytes : List ℕ) (f : Structure) → IsBytes bytes → read_of bytes ≡ Ok f → Spells bytes f × IsNarrow f
+pub read_takes : (bytes : List ℕ) (f : Structure) → IsBytes bytes → read_of bytes ≡ Ok f → Spells bytes f
 unfolding read_of
 read_takes bytes f fits e =
     let a = bind_ok (whole_of bytes) kept_file f e in
     let one = whole_takes bytes a.0 fits a.1 in
     let two = file_says a.0 f a.2 in
-    subst (λ (y : Structure). Spells bytes y × IsNarrow y) two.0 (record { fits = one.1.fits; kept = two.1; spelled = one.0 }, narrow a.0 one.1 two.2)
+    subst (λ (y : Structure). Spells bytes y) two.0 (record { fits = one.1; kept = two.1; spelled = one.0 })
 
-pub read_again : (bytes : List ℕ) (f : Structure) → Spells bytes f → IsNarrow f → read_of bytes ≡ Ok f
+pub read_again : (bytes : List ℕ) (f : Structure) → Spells bytes f → read_of bytes ≡ Ok f
 unfolding read_of
-read_again bytes f s n =
-    let read : IsRead f = record { fits = s.fits; interfaces = n.interfaces; fields = n.fields; methods = n.methods; attributes = n.attributes } in
-    let one : whole_of bytes ≡ Ok f = ap whole_of s.spelled ∙ whole_again f read in
-    rw one (file_told f s.fits s.kept n.flags)
+read_again bytes f s =
+    let one : whole_of bytes ≡ Ok f = ap whole_of s.spelled ∙ whole_again f s.fits in
+    rw one (file_told f s.fits s.kept)
 
 -- a file that passed the tests
-pub is_class_file : (f : Structure) (u v : Unit {0}) → Fits f → f.interfaces ≡ [] → f.fields ≡ [] → f.methods ≡ [] → f.attributes ≡ [] → checked_entries f.pool 1 f.pool ≡ Ok u
-    → checked_class f.pool f.flags f.this_class f.super_class ≡ Ok v → IsClassFile f
-is_class_file f u v fits no_interfaces no_fields no_methods no_attributes rows class =
-    let k = tables_say f u v rows class in
-    record { fits = fits; kept = k.0; narrow = record { flags = k.1; interfaces = no_interfaces; fields = no_fields; methods = no_methods; attributes = no_attributes } }
+pub is_class_file : (f : Structure) (u v : Unit {0}) → Fits f → checked_entries f.pool 1 f.pool ≡ Ok u → checked_tables (map entry_traits f.pool) f.pool f ≡ Ok v → IsClassFile f
+is_class_file f u v fits rows tables = record { fits = fits; kept = tables_say f u v rows tables }
 
 -- for the calls
 pub is_fitting : (bytes : List ℕ) (f : Structure) (rest : List ℕ) → IsBytes bytes → structure_at bytes ≡ Ok (f, rest) → Fits f
-is_fitting bytes f rest fits e = (structure.takes bytes (f, rest) fits e).1.fits
+is_fitting bytes f rest fits e = (structure.takes bytes (f, rest) fits e).1
 
-pub is_found : (bytes : List ℕ) (r : Result Structure ReadError) → IsBytes bytes → Gives (λ f. f) r (read_of bytes) → IfOk r (λ f. Spells bytes f × IsNarrow f)
+pub is_found : (bytes : List ℕ) (r : Result Structure ReadError) → IsBytes bytes → Gives (λ f. f) r (read_of bytes) → IfOk r (λ f. Spells bytes f)
 is_found bytes (Ok f) fits given = read_takes bytes f fits given
 is_found bytes (Err e) fits given = tt
 
-pub is_only : (bytes : List ℕ) (r : Result Structure ReadError) (f : Structure) → Gives (λ g. g) r (read_of bytes) → Spells bytes f → IsNarrow f → Gives (λ g. g) r (Ok f)
-is_only bytes r f given s n = subst (λ (read : Result Structure Fault). Gives (λ g. g) r read) (read_again bytes f s n) given
+pub is_only : (bytes : List ℕ) (r : Result Structure ReadError) (f : Structure) → Gives (λ g. g) r (read_of bytes) → Spells bytes f → Gives (λ g. g) r (Ok f)
+is_only bytes r f given s = subst (λ (read : Result Structure Fault). Gives (λ g. g) r read) (read_again bytes f s) given
 
 -- a fault of the header is answered exactly where it stands there
 pub is_early : (bytes : List ℕ) (r : Result Structure ReadError) (f : Fault) → is_header f ≡ true → Gives (λ g. g) r (read_of bytes) → r ≡ Err (errors.Fault f) → header_at bytes ≡ Err f
 is_early bytes r f h given is =
     in_header bytes f h (subst (λ (x : Result Structure ReadError). Gives (λ g. g) x (read_of bytes)) is given)
+
+-- ---- laws
+
+read_back : (bytes : List ℕ) (f : Structure) → Spells bytes f → structure_at bytes ≡ Ok (f, [])
+read_back bytes f s = ap structure_at (s.spelled ∙ sym (append-nil (spelling f))) ∙ structure.again f [] s.fits
+
+-- what bytes spell is one file
+pub one_file : (bytes : List ℕ) (f g : Structure) → Spells bytes f → Spells bytes g → f ≡ g
+one_file bytes f g s t = ap (λ (x : Structure × List ℕ). x.0) (ok_is (f, []) (g, []) (sym (read_back bytes f s) ∙ read_back bytes g t))

@@ -6,8 +6,7 @@ use Rattle.std.proofs.lemmas.List.{take_at, length-drop}
 use Rattle.cl_classfile.specs.declared.fault.Fault.TheVariants.{BadMagic, Version, Truncated}
 use Rattle.cl_classfile.specs.Structure.{magic, version, HasOtherMagic, HasOtherVersion}
 use Rattle.cl_classfile.specs.Reading.{Reader, number_at, then_at, magic_at, version_at, header_at}
-use Rattle.cl_classfile.proofs.Codec.{both, IsBytes, IsBytes-drop, IsCodec, number16, number32, ok_is}
-use Rattle.cl_classfile.proofs.Spelled.{also}
+use Rattle.cl_classfile.proofs.Codec.{both, IsBytes, IsBytes-drop, IsCodec, number16, number32, ok_is, also}
 
 -- a number stands where there are bytes enough
 short : (w : Width) (bytes : List ℕ) → length bytes < byte_len w → number_at w bytes ≡ Err Truncated

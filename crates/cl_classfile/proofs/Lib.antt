@@ -1,10 +1,14 @@
-pub mod Narrow
 pub mod Loop
 pub mod Entries
 pub mod Codec
+pub mod Judging
+pub mod MemberRows
+pub mod Keys
+pub mod Classes
+pub mod References
 pub mod Tables
+pub mod Pooled
 pub mod Spelled
 pub mod Header
 pub mod Quiet
 pub mod Exact
-pub mod Whole

@@ -1,14 +1,17 @@
 -- Behind the header no fault of the header is found.
-use Rattle.std.proofs.Common.{◌≡◌, ℕ, zero, suc, ◌+◌, ◌-◌, Bool, true, false, cond, eqb, leb, ltb, List, [], ◌∷◌, length, Result, Ok, Err, refl, sym, ap, ◌∙◌}
-use Rattle.std.specs.Int.{Width, w16, byte_len}
+use Rattle.std.proofs.Common.{◌≡◌, ℕ, zero, suc, ◌+◌, ◌-◌, Bool, true, false, cond, eqb, leb, ltb, ◌&&◌, List, [], ◌∷◌, ◌++◌, length, map, Result, Ok, Err, refl, sym, ap, ◌∙◌}
+use Rattle.std.specs.Int.{Width, w16, w32, w64, byte_len}
+use Rattle.std.specs.List.{list_any}
 use Rattle.cl_classfile.specs.declared.entry.Entry.{Entry}
-use Rattle.cl_classfile.specs.declared.entry.Entry.TheVariants.{Utf8, Class}
+use Rattle.cl_classfile.specs.declared.entry.Entry.TheVariants.{Unusable}
 use Rattle.cl_classfile.specs.declared.fault.Fault.{Fault}
 use Rattle.cl_classfile.specs.declared.fault.Fault.TheVariants.{BadMagic, Version, Truncated, Trailing, BadPool, BadFlags, BadMember, Duplicate, BadSupertype}
+use Rattle.cl_classfile.specs.Flags.{has, interface, is_class_flags}
 use Rattle.cl_classfile.specs.Structure.{Structure, Member, Attribute}
 use Rattle.cl_classfile.specs.Files.{class_name}
-use Rattle.cl_classfile.specs.Checking.{◌>>=◌, keeps_entry, kept_entry, checked_entries, keeps_supertypes, checked_class, kept_file}
-use Rattle.cl_classfile.specs.Reading.{Reader, number_at, bytes_at, then_at, test_at, map_at, many_at, zero_at, none_at, header_at, text_at, entry_at, entries_at, pool_at, class_at, interfaces_at, members_at, attributes_at, tables_at, Parts, parts_at, structure_of, structure_at, whole_of, read_of}
+use Rattle.cl_classfile.specs.Rows.{entry_traits, keeps_entry}
+use Rattle.cl_classfile.specs.Checking.{◌>>=◌, kept_entry, checked_entries, keeps_names, keeps_interfaces, checked_class, keeps_field, keeps_method, same_member, checked_members, checked_tables, kept_file}
+use Rattle.cl_classfile.specs.Reading.{Reader, number_at, bytes_at, then_at, test_at, map_at, sized_at, many_at, counted_at, header_at, text_at, byte_at, signed_at, two_at, handle_at, wide_at, value_at, index_at, pair_at, other_at, entry_at, slot_at, next_place, entries_at, pool_at, class_at, interfaces_at, attribute_at, attributes_at, member_at, members_at, tables_at, Parts, parts_at, structure_of, structure_at, whole_of, read_of}
 
 -- the header's own faults
 abbrev pub is_header : Fault → Bool
@@ -68,49 +71,122 @@ unfolding many_at
 many step next p zero c bytes = ok _
 many step next p (suc n) c bytes = bind (step c bytes) _ (p c bytes) (λ x. bind (many_at step next n (next c x.0) x.1) _ (many step next p n (next c x.0) x.1) (λ y. ok _))
 
-none : {A : Type 0} (g : Fault) → is_header g ≡ false → Quiet (none_at {A = A} g)
-none g h = seen (zero_at g) _ (tested (number_at w16) _ g h (number w16))
+counts : {A : Type 0} (r : Reader A) → Quiet r → Quiet (counted_at r)
+counts r p bytes = bind (number_at w16 bytes) _ (number w16 bytes) (λ n. many {C = ℕ} (λ i. r) (λ i a. i) (λ i. p) n.0 0 n.1)
 
 text : Quiet text_at
 unfolding text_at
 text bytes = bind (number_at w16 bytes) _ (number w16 bytes) (λ n. those n.0 n.1)
 
-entry : (i : ℕ) → Quiet (entry_at i)
-unfolding entry_at
-entry i [] = err Truncated refl
-entry i (tag ∷ rest) =
-    choice (eqb tag 1) (map_at text_at (λ t. Utf8 t) rest) _ (seen text_at (λ t. Utf8 t) text rest)
-    (choice (eqb tag 7) (map_at (number_at w16) (λ n. Class n) rest) (Err (BadPool i)) (seen (number_at w16) (λ n. Class n) (number w16) rest) (err (BadPool i) refl))
+byte : Quiet byte_at
+unfolding byte_at
+byte [] = err Truncated refl
+byte (b ∷ rest) = ok _
+
+signed : (w : Width) → Quiet (signed_at w)
+unfolding signed_at
+signed w = seen (number_at w) _ (number w)
+
+pair : Quiet two_at
+unfolding two_at
+pair = also (number_at w16) _ (number w16) (λ first. number w16)
+
+handle : Quiet handle_at
+unfolding handle_at
+handle = also byte_at _ byte (λ kind. number w16)
+
+wide : (n i : ℕ) (r : Reader Entry) → Quiet r → Quiet (wide_at n i r)
+wide n i r p bytes = choice (ltb i n) (r bytes) (Err (BadPool i)) (p bytes) (err (BadPool i) refl)
+
+entry : (n i : ℕ) → Quiet (entry_at n i)
+unfolding entry_at value_at index_at pair_at other_at
+entry n i [] = err Truncated refl
+entry n i (tag ∷ rest) =
+    choice (eqb tag 3) _ _ (seen (signed_at w32) _ (signed w32) rest)
+    (choice (eqb tag 4) _ _ (seen (number_at w32) _ (number w32) rest)
+    (choice (eqb tag 5) _ _ (wide n i _ (seen (signed_at w64) _ (signed w64)) rest)
+    (choice (eqb tag 6) _ _ (wide n i _ (seen (number_at w64) _ (number w64)) rest)
+    (choice (eqb tag 7) _ _ (seen (number_at w16) _ (number w16) rest)
+    (choice (eqb tag 8) _ _ (seen (number_at w16) _ (number w16) rest)
+    (choice (eqb tag 16) _ _ (seen (number_at w16) _ (number w16) rest)
+    (choice (eqb tag 9) _ _ (seen two_at _ pair rest)
+    (choice (eqb tag 10) _ _ (seen two_at _ pair rest)
+    (choice (eqb tag 11) _ _ (seen two_at _ pair rest)
+    (choice (eqb tag 12) _ _ (seen two_at _ pair rest)
+    (choice (eqb tag 18) _ _ (seen two_at _ pair rest)
+    (choice (eqb tag 1) _ _ (seen text_at _ text rest)
+    (choice (eqb tag 15) _ _ (seen handle_at _ handle rest) (err (BadPool i) refl))))))))))))))
+
+slot : (n : ℕ) (place : ℕ × Bool) → Quiet (slot_at n place)
+unfolding slot_at
+slot n place bytes = choice place.1 (Ok (Unusable, bytes)) _ (ok _) (entry n place.0 bytes)
 
 pool : Quiet pool_at
 unfolding pool_at entries_at
-pool bytes = bind (test_at (number_at w16) (λ n. leb 1 n) (BadPool 0) bytes) _ (tested (number_at w16) _ (BadPool 0) refl (number w16) bytes) (λ n. many entry_at (λ i e. i + 1) entry (n.0 - 1) 1 n.1)
+pool bytes = bind (test_at (number_at w16) (λ n. leb 1 n) (BadPool 0) bytes) _ (tested (number_at w16) _ (BadPool 0) refl (number w16) bytes) (λ n. many (slot_at (n.0 - 1)) next_place (slot (n.0 - 1)) (n.0 - 1) (1, false) n.1)
 
 class : Quiet class_at
 unfolding class_at
 class = also (number_at w16) _ (number w16) (λ flags. also (number_at w16) _ (number w16) (λ this. number w16))
 
+sized : (w : Width) → Quiet (sized_at w)
+sized w bytes = bind (number_at w bytes) _ (number w bytes) (λ n. those n.0 n.1)
+
+attribute : Quiet attribute_at
+unfolding attribute_at
+attribute = seen (then_at (number_at w16) (λ name. sized_at w32)) _ (also (number_at w16) _ (number w16) (λ name. sized w32))
+
+attributes : Quiet attributes_at
+unfolding attributes_at
+attributes = counts attribute_at attribute
+
+member : Quiet member_at
+unfolding member_at
+member =
+    seen (then_at (number_at w16) (λ flags. then_at (number_at w16) (λ name. then_at (number_at w16) (λ descriptor. attributes_at)))) _
+    (also (number_at w16) _ (number w16) (λ flags. also (number_at w16) _ (number w16) (λ name. also (number_at w16) _ (number w16) (λ descriptor. attributes))))
+
+members : Quiet members_at
+unfolding members_at
+members = counts member_at member
+
 tables : Quiet tables_at
-unfolding tables_at members_at attributes_at
-tables = also (none_at BadMember) _ (none BadMember refl) (λ fields. also (none_at BadMember) _ (none BadMember refl) (λ methods. none BadMember refl))
+unfolding tables_at
+tables = also members_at _ members (λ fields. also members_at _ members (λ methods. attributes))
 
 interfaces : Quiet interfaces_at
 unfolding interfaces_at
-interfaces = none BadSupertype refl
+interfaces = counts (number_at w16) (number w16)
 
 -- ---- tables
 
 rows : (entries : List Entry) (i : ℕ) (es : List Entry) → IsQuiet (checked_entries entries i es)
 unfolding checked_entries
 rows entries i [] = ok tt
-rows entries i (e ∷ es) = bind (kept_entry entries i e) _ (choice (keeps_entry entries e) (Ok e) (Err (BadPool i)) (ok e) (err (BadPool i) refl)) (λ x. rows entries (i + 1) es)
+rows entries i (e ∷ es) = bind (kept_entry entries i e) _ (choice (keeps_entry (map entry_traits entries) entries e) (Ok e) (Err (BadPool i)) (ok e) (err (BadPool i) refl)) (λ x. rows entries (i + 1) es)
+
+class_tables : (f : Structure) → IsQuiet (checked_class f.pool f.flags f.this_class f.super_class f.interfaces)
+class_tables f =
+    choice (is_class_flags f.flags) _ (Err BadFlags)
+    (choice (keeps_names f.pool (has f.flags interface) f.super_class (class_name f.pool f.this_class) && keeps_interfaces f.pool f.interfaces) (Ok tt) (Err BadSupertype) (ok tt) (err BadSupertype refl)) (err BadFlags refl)
+
+each_member : (keeps : Member → Bool) (entries : List Entry) (before ms : List Member) → IsQuiet (checked_members keeps entries before ms)
+unfolding checked_members
+each_member keeps entries before [] = ok tt
+each_member keeps entries before (m ∷ ms) =
+    choice (keeps m) _ (Err BadMember)
+    (choice (list_any (λ e. same_member entries e m) before) (Err Duplicate) _ (err Duplicate refl) (each_member keeps entries (before ++ m ∷ []) ms)) (err BadMember refl)
+
+tables_checked : (f : Structure) → IsQuiet (checked_tables (map entry_traits f.pool) f.pool f)
+unfolding checked_tables
+tables_checked f =
+    bind (checked_class f.pool f.flags f.this_class f.super_class f.interfaces) _ (class_tables f) (λ class.
+    bind (checked_members (keeps_field (map entry_traits f.pool) (has f.flags interface)) f.pool [] f.fields) _ (each_member (keeps_field (map entry_traits f.pool) (has f.flags interface)) f.pool [] f.fields)
+    (λ fields. each_member (keeps_method (map entry_traits f.pool) (has f.flags interface)) f.pool [] f.methods))
 
 file : (f : Structure) → IsQuiet (kept_file f)
 unfolding kept_file
-file f =
-    bind (checked_entries f.pool 1 f.pool) _ (rows f.pool 1 f.pool) (λ entries. bind (checked_class f.pool f.flags f.this_class f.super_class) _
-    (choice (eqb f.flags 33) _ (Err BadFlags) (choice (keeps_supertypes f.pool f.super_class (class_name f.pool f.this_class)) (Ok tt) (Err BadSupertype) (ok tt) (err BadSupertype refl)) (err BadFlags refl))
-    (λ class. ok f))
+file f = bind (checked_entries f.pool 1 f.pool) _ (rows f.pool 1 f.pool) (λ entries. bind (checked_tables (map entry_traits f.pool) f.pool f) _ (tables_checked f) (λ tables. ok f))
 
 -- ---- the whole
 

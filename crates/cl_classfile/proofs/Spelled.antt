@@ -1,108 +1,15 @@
 -- Each reader of a structure takes what spells it, and reads again what was spelled.
-use Rattle.std.proofs.Common.{◌≡◌, ◌⊎◌, ℕ, suc, ◌+◌, ◌-◌, ◌^◌, ◌<◌, ◌≤◌, Bool, true, false, cond, eqb, leb, ◌&&◌, List, [], ◌∷◌, ◌++◌, length, Ok, Err, refl, sym, ap, subst, ◌∙◌, append_assoc, arith, inl, inr}
-use Rattle.std.specs.Int.{Width, w16, w32, to_be_bytes}
+use Rattle.std.proofs.Common.{◌≡◌, ℕ, ◌^◌, ◌<◌, true, eqb, ◌&&◌, List, ◌++◌, length, refl, sym, ap, subst, ◌∙◌, append_assoc, arith}
+use Rattle.std.specs.Int.{w16, w32, to_be_bytes}
 use Rattle.std.specs.List.{flat_map}
-use Rattle.std.proofs.lemmas.Bool.{eqb-true, leb-true}
-use Rattle.std.proofs.lemmas.Bool.Decides.{nat_tests}
-use Rattle.cl_classfile.specs.declared.entry.Entry.{Entry}
-use Rattle.cl_classfile.specs.declared.entry.Entry.TheVariants.{Utf8, Class}
-use Rattle.cl_classfile.specs.declared.fault.Fault.{Fault}
-use Rattle.cl_classfile.specs.declared.fault.Fault.TheVariants.{BadMagic, Version, BadPool, BadMember, BadSupertype}
-use Rattle.cl_classfile.specs.Structure.{Structure, Member, Attribute, entry_spelling, counted, pool_spelling, member_spelling, attribute_spelling, magic, version, spelling, EntryFits, AllFit, PoolFits, Fits}
-use Rattle.cl_classfile.specs.Checking.{◌>>=◌}
-use Rattle.cl_classfile.specs.Reading.{Reader, number_at, bytes_at, then_at, test_at, map_at, zero_at, none_at, magic_at, version_at, header_at, text_at, entry_at, entries_at, pool_at, class_at, interfaces_at, members_at, attributes_at, tables_at, Parts, parts_at, structure_of, structure_at}
-use Rattle.cl_classfile.proofs.Codec.{both, IsBytes, bind_ok, ok_is, Takes, Takes-then, IsCodec, number16, number32, bytes_of, one_then, tested, mapped, many, EachFits, each_of_all, all_of_each}
-
--- one structure, and then another
-pub also : {A B : Type 0} (r : Reader A) (q : Reader B) (s : A → List ℕ) (t : B → List ℕ) (F : A → Type 0) (G : B → Type 0) → IsCodec r s F → IsCodec q t G → IsCodec (then_at r (λ a. q)) (λ p. s p.0 ++ t p.1) (λ p. F p.0 × G p.1)
-also r q s t F G first second = one_then r (λ a. q) s (λ a. t) F (λ a. G) first (λ a. second)
-
--- ---- entries
-
--- a length, and that many bytes
-abbrev pub sized_at : Width → Reader (List ℕ)
-sized_at w bytes = number_at w bytes >>= λ n. bytes_at n.0 n.1
-
-pub sized : (w : Width) (limit : ℕ) → IsCodec (number_at w) (to_be_bytes w) (λ n. n < limit) → IsCodec (sized_at w) (λ t. to_be_bytes w (length t) ++ t) (λ t. length t < limit)
-sized w limit number = record {
-  takes = λ bytes x fits e.
-      let b = bind_ok (number_at w bytes) (λ n. bytes_at n.0 n.1) x e in
-      let one = number.takes bytes b.0 fits b.1 in
-      let two = (bytes_of b.0.0).takes b.0.1 x one.0.rest_fits b.2 in
-      let whole = Takes-then bytes (to_be_bytes w b.0.0) b.0.1 x.0 x.1 one.0 two.0 in
-      (subst (λ (k : ℕ). Takes bytes (to_be_bytes w k ++ x.0) x.1) (sym two.1) whole, omega (arith, two.1, one.1));
-  again = λ t rest h.
-      ap (sized_at w) (append_assoc (to_be_bytes w (length t)) t rest) ∙ rw (number.again (length t) (t ++ rest) h, (bytes_of (length t)).again t rest refl) refl;
-}
-
-text : IsCodec text_at (λ t. to_be_bytes w16 (length t) ++ t) (λ t. length t < 2 ^ 16)
-unfolding text_at
-text = sized w16 (2 ^ 16) number16
-
-chosen : {A : Type 0} (b : Bool) (x y z : A) → cond b x y ≡ z → ((b ≡ true) × (x ≡ z)) ⊎ ((b ≡ false) × (y ≡ z))
-chosen true x y z e = inl (refl, e)
-chosen false x y z e = inr (refl, e)
-
--- an entry of one kind: behind its tag stands what it is made of
-kind : {B : Type 0} (tag given : ℕ) (rest : List ℕ) (r : Reader B) (s : B → List ℕ) (F : B → Type 0) (make : B → Entry) (x : Entry × List ℕ) → IsCodec r s F
-    → ((b : B) → F b → (entry_spelling (make b) ≡ tag ∷ s b) × EntryFits (make b)) → IsBytes (given ∷ rest) → eqb given tag ≡ true → map_at r make rest ≡ Ok x → Takes (given ∷ rest) (entry_spelling x.0) x.1 × EntryFits x.0
-kind {B} tag given rest r s F make x c spelled fits is e =
-    let a = bind_ok (r rest) (λ b. Ok (make b.0, b.1)) x e in
-    let t = c.takes rest a.0 (λ i. fits (suc i)) a.1 in
-    let k = spelled a.0.0 t.1 in
-    let parts : given ∷ rest ≡ entry_spelling (make a.0.0) ++ a.0.1 = ap (λ (n : ℕ). n ∷ rest) (eqb-true given tag is) ∙ ap (λ (w : List ℕ). tag ∷ w) t.0.parts ∙ ap (λ (w : List ℕ). w ++ a.0.1) (sym k.0) in
-    subst (λ (y : Entry × List ℕ). Takes (given ∷ rest) (entry_spelling y.0) y.1 × EntryFits y.0) (ok_is (make a.0.0, a.0.1) x a.2) (record { parts = parts; rest_fits = t.0.rest_fits }, k.1)
-
-entry_takes : (i : ℕ) (bytes : List ℕ) (x : Entry × List ℕ) → IsBytes bytes → entry_at i bytes ≡ Ok x → Takes bytes (entry_spelling x.0) x.1 × EntryFits x.0
-unfolding entry_at
-entry_takes i [] x fits e = absurd cc
-entry_takes i (tag ∷ rest) x fits e =
-    elim (chosen (eqb tag 1) (map_at text_at (λ t. Utf8 t) rest) (cond (eqb tag 7) (map_at (number_at w16) (λ n. Class n) rest) (Err (BadPool i))) (Ok x) e) [
-      | inl h ↦ kind 1 tag rest text_at _ _ (λ t. Utf8 t) x text (λ t k. (refl, k)) fits h.0 h.1
-      | inr h ↦ elim (chosen (eqb tag 7) (map_at (number_at w16) (λ n. Class n) rest) (Err (BadPool i)) (Ok x) h.1) [
-        | inl k ↦ kind 7 tag rest (number_at w16) _ _ (λ n. Class n) x number16 (λ n m. (refl, m)) fits k.0 k.1
-        | inr k ↦ absurd cc
-      ]
-    ]
-
-entry_again : (i : ℕ) (x : Entry) (rest : List ℕ) → EntryFits x → entry_at i (entry_spelling x ++ rest) ≡ Ok (x, rest)
-unfolding entry_at
-entry_again i (Utf8 t) rest h = rw (text.again t rest h) refl
-entry_again i (Class n) rest h = rw (number16.again n rest h) refl
-
-entry : (i : ℕ) → IsCodec (entry_at i) entry_spelling EntryFits
-entry i = record { takes = entry_takes i; again = entry_again i }
-
-entries : (n : ℕ) → IsCodec (entries_at n) (flat_map entry_spelling) (λ es. (length es ≡ n) × EachFits (λ i e. EntryFits e) (λ i e. i + 1) 1 es)
-unfolding entries_at
-entries n = many entry_at (λ i e. i + 1) entry_spelling (λ i e. EntryFits e) entry n 1
-
-pub pool : IsCodec pool_at pool_spelling PoolFits
-unfolding pool_at
-pool = record {
-  takes = λ bytes x fits e.
-      let a = bind_ok (test_at (number_at w16) (λ n. leb 1 n) (BadPool 0) bytes) (λ n. entries_at (n.0 - 1) n.1) x e in
-      let one = (tested (number_at w16) (to_be_bytes w16) (λ n. n < 2 ^ 16) (λ n. leb 1 n) (BadPool 0) number16).takes bytes a.0 fits a.1 in
-      let two = (entries (a.0.0 - 1)).takes a.0.1 x one.0.rest_fits a.2 in
-      let some : 1 ≤ a.0.0 = leb-true 1 a.0.0 one.1.1 in
-      let count : a.0.0 ≡ length x.0 + 1 = omega (arith, two.1.0) in
-      let whole = Takes-then bytes (to_be_bytes w16 a.0.0) a.0.1 (flat_map entry_spelling x.0) x.1 one.0 two.0 in
-      (subst (λ (k : ℕ). Takes bytes (to_be_bytes w16 k ++ flat_map entry_spelling x.0) x.1) count whole, (omega (arith, one.1.0, count), all_of_each EntryFits (λ i e. i + 1) 1 x.0 two.1.1));
-  again = λ es rest h.
-      let less : length es + 1 - 1 ≡ length es = omega arith in
-      let some : leb 1 (length es + 1) ≡ true = grind (arith, nat_tests) in
-      ap pool_at (append_assoc (to_be_bytes w16 (length es + 1)) (flat_map entry_spelling es) rest)
-      ∙ rw (number16.again (length es + 1) (flat_map entry_spelling es ++ rest) h.0, some, less, (entries (length es)).again es rest (refl, each_of_all EntryFits (λ i e. i + 1) 1 es h.1)) refl;
-}
+use Rattle.std.proofs.lemmas.Bool.{eqb-true}
+use Rattle.cl_classfile.specs.declared.fault.Fault.TheVariants.{BadMagic, Version}
+use Rattle.cl_classfile.specs.Structure.{Structure, counted, pool_spelling, member_spelling, attribute_spelling, magic, version, spelling, AllFit, PoolFits, AttributeFits, MemberFits, Fits}
+use Rattle.cl_classfile.specs.Reading.{Reader, number_at, then_at, sized_at, each_at, counted_at, magic_at, version_at, header_at, pool_at, class_at, interfaces_at, attribute_at, attributes_at, member_at, members_at, tables_at, Parts, parts_at, structure_of, structure_at}
+use Rattle.cl_classfile.proofs.Codec.{both, bind_ok, Takes, Takes-then, IsCodec, number16, number32, also, sized, tested, mapped, many, EachFits, each_of_all, all_of_each}
+use Rattle.cl_classfile.proofs.Pooled.{pool}
 
 -- ---- the parts of the file
-
-none : {A : Type 0} (fault : Fault) (spell : A → List ℕ) → IsCodec (none_at {A = A} fault) (counted spell) (λ xs. xs ≡ [])
-none {A} fault spell =
-    mapped (zero_at fault) (to_be_bytes w16) (λ n. (n < 2 ^ 16) × (eqb n 0 ≡ true)) (λ n. []) (λ xs. 0) (counted spell) (λ xs. xs ≡ [])
-    (tested (number_at w16) (to_be_bytes w16) (λ n. n < 2 ^ 16) (λ n. eqb n 0) fault number16)
-    (λ n h. (ap (to_be_bytes w16) (eqb-true n 0 h.1), refl))
-    (λ xs h. ((omega arith, refl), ap (λ (ys : List A). counted spell ys) (sym h), sym h))
 
 abbrev pub header_spelling : ℕ × (ℕ × ℕ) → List ℕ
 header_spelling p = to_be_bytes w32 p.0 ++ (to_be_bytes w16 p.1.0 ++ to_be_bytes w16 p.1.1)
@@ -118,47 +25,78 @@ header =
     (tested (then_at (number_at w16) (λ minor. number_at w16)) _ _ (λ v. eqb v.0 0 && eqb v.1 52) Version (also (number_at w16) (number_at w16) _ _ _ _ number16 number16))
 
 -- the header that is read has one spelling
-pub header_says : (p : ℕ × (ℕ × ℕ)) → HeaderFits p → header_spelling p ≡ magic ++ version
+header_says : (p : ℕ × (ℕ × ℕ)) → HeaderFits p → header_spelling p ≡ magic ++ version
 header_says p h =
     let v = both (eqb p.1.0 0) (eqb p.1.1 52) h.1.1 in
     ap (λ (n : ℕ). to_be_bytes w32 n ++ (to_be_bytes w16 p.1.0 ++ to_be_bytes w16 p.1.1)) (eqb-true p.0 0xcafebabe h.0.1)
     ∙ ap (λ (n : ℕ). magic ++ (to_be_bytes w16 n ++ to_be_bytes w16 p.1.1)) (eqb-true p.1.0 0 v.0)
     ∙ ap (λ (n : ℕ). magic ++ (to_be_bytes w16 0 ++ to_be_bytes w16 n)) (eqb-true p.1.1 52 v.1)
 
-pub header_fits : HeaderFits (0xcafebabe, (0, 52))
+header_fits : HeaderFits (0xcafebabe, (0, 52))
 header_fits = ((omega arith, refl), ((omega arith, omega arith), refl))
 
-abbrev pub class_spelling : ℕ × (ℕ × ℕ) → List ℕ
+abbrev class_spelling : ℕ × (ℕ × ℕ) → List ℕ
 class_spelling p = to_be_bytes w16 p.0 ++ (to_be_bytes w16 p.1.0 ++ to_be_bytes w16 p.1.1)
 
-abbrev pub ClassFits : ℕ × (ℕ × ℕ) → Type 0
+abbrev ClassFits : ℕ × (ℕ × ℕ) → Type 0
 ClassFits p = (p.0 < 2 ^ 16) × ((p.1.0 < 2 ^ 16) × (p.1.1 < 2 ^ 16))
 
-pub class : IsCodec class_at class_spelling ClassFits
+class : IsCodec class_at class_spelling ClassFits
 unfolding class_at
 class = also (number_at w16) (then_at (number_at w16) (λ this. number_at w16)) _ _ _ _ number16 (also (number_at w16) (number_at w16) _ _ _ _ number16 number16)
 
-interfaces : IsCodec interfaces_at (counted (to_be_bytes w16)) (λ is. is ≡ [])
+each : {A : Type 0} (r : Reader A) (s : A → List ℕ) (F : A → Type 0) → IsCodec r s F → (n : ℕ) → IsCodec (each_at r n) (flat_map s) (λ xs. (length xs ≡ n) × EachFits {C = ℕ} (λ i. F) (λ i a. i) 0 xs)
+each r s F c n = many {C = ℕ} (λ i. r) (λ i a. i) s (λ i. F) (λ i. c) n 0
+
+counts : {A : Type 0} (r : Reader A) (s : A → List ℕ) (F : A → Type 0) → IsCodec r s F → IsCodec (counted_at r) (counted s) (AllFit F)
+counts r s F c = record {
+  takes = λ bytes x fits e.
+      let a = bind_ok (number_at w16 bytes) (λ n. each_at r n.0 n.1) x e in
+      let one = number16.takes bytes a.0 fits a.1 in
+      let two = (each r s F c a.0.0).takes a.0.1 x one.0.rest_fits a.2 in
+      let whole = Takes-then bytes (to_be_bytes w16 a.0.0) a.0.1 (flat_map s x.0) x.1 one.0 two.0 in
+      (subst (λ (k : ℕ). Takes bytes (to_be_bytes w16 k ++ flat_map s x.0) x.1) (sym two.1.0) whole, (omega (arith, two.1.0, one.1), all_of_each {C = ℕ} F (λ i a. i) 0 x.0 two.1.1));
+  again = λ xs rest h.
+      ap (counted_at r) (append_assoc (to_be_bytes w16 (length xs)) (flat_map s xs) rest)
+      ∙ rw (number16.again (length xs) (flat_map s xs ++ rest) h.0, (each r s F c (length xs)).again xs rest (refl, each_of_all {C = ℕ} F (λ i a. i) 0 xs h.1)) refl;
+}
+
+interfaces : IsCodec interfaces_at (counted (to_be_bytes w16)) (AllFit (λ i. i < 2 ^ 16))
 unfolding interfaces_at
-interfaces = none BadSupertype (to_be_bytes w16)
+interfaces = counts (number_at w16) (to_be_bytes w16) (λ i. i < 2 ^ 16) number16
 
-members : IsCodec members_at (counted member_spelling) (λ ms. ms ≡ [])
-unfolding members_at
-members = none BadMember member_spelling
+attribute : IsCodec attribute_at attribute_spelling AttributeFits
+unfolding attribute_at
+attribute =
+    mapped _ _ _ (λ p. record { name_index = p.0; bytes = p.1 }) (λ a. (a.name_index, a.bytes)) attribute_spelling AttributeFits
+    (also (number_at w16) (sized_at w32) _ _ _ _ number16 (sized w32 (2 ^ 32) number32))
+    (λ p h. (refl, record { name_index = h.0; bytes = h.1 }))
+    (λ a h. ((h.name_index, h.bytes), refl, refl))
 
-attributes : IsCodec attributes_at (counted attribute_spelling) (λ xs. xs ≡ [])
+attributes : IsCodec attributes_at (counted attribute_spelling) (AllFit AttributeFits)
 unfolding attributes_at
-attributes = none BadMember attribute_spelling
+attributes = counts attribute_at attribute_spelling AttributeFits attribute
 
-tables : IsCodec tables_at (λ p. counted member_spelling p.0 ++ (counted member_spelling p.1.0 ++ counted attribute_spelling p.1.1)) (λ p. (p.0 ≡ []) × ((p.1.0 ≡ []) × (p.1.1 ≡ [])))
+member : IsCodec member_at member_spelling MemberFits
+unfolding member_at
+member =
+    mapped _ _ _ (λ p. record { flags = p.0; name_index = p.1.0; descriptor_index = p.1.1.0; attributes = p.1.1.1 }) (λ m. (m.flags, (m.name_index, (m.descriptor_index, m.attributes)))) member_spelling MemberFits
+    (also (number_at w16) _ _ _ _ _ number16 (also (number_at w16) _ _ _ _ _ number16 (also (number_at w16) attributes_at _ _ _ _ number16 attributes)))
+    (λ p h. (refl, record { flags = h.0; name_index = h.1.0; descriptor_index = h.1.1.0; attributes = h.1.1.1 }))
+    (λ m h. ((h.flags, (h.name_index, (h.descriptor_index, h.attributes))), refl, refl))
+
+members : IsCodec members_at (counted member_spelling) (AllFit MemberFits)
+unfolding members_at
+members = counts member_at member_spelling MemberFits member
+
+tables : IsCodec tables_at (λ p. counted member_spelling p.0 ++ (counted member_spelling p.1.0 ++ counted attribute_spelling p.1.1)) (λ p. AllFit MemberFits p.0 × (AllFit MemberFits p.1.0 × AllFit AttributeFits p.1.1))
 unfolding tables_at
 tables = also members_at (then_at members_at (λ methods. attributes_at)) _ _ _ _ members (also members_at attributes_at _ _ _ _ members attributes)
 
--- the parts, where those behind the class are so
-abbrev pub PartsFit : (List ℕ → Type 0) → (List Member → Type 0) → (List Attribute → Type 0) → Parts → Type 0
-PartsFit I M A p = HeaderFits p.0 × (PoolFits p.1.0 × (ClassFits p.1.1.0 × (I p.1.1.1.0 × (M p.1.1.1.1.0 × (M p.1.1.1.1.1.0 × A p.1.1.1.1.1.1)))))
+abbrev PartsFit : Parts → Type 0
+PartsFit p = HeaderFits p.0 × (PoolFits p.1.0 × (ClassFits p.1.1.0 × (AllFit (λ i. i < 2 ^ 16) p.1.1.1.0 × (AllFit MemberFits p.1.1.1.1.0 × (AllFit MemberFits p.1.1.1.1.1.0 × AllFit AttributeFits p.1.1.1.1.1.1)))))
 
-abbrev pub parts_spelling : Parts → List ℕ
+abbrev parts_spelling : Parts → List ℕ
 parts_spelling p =
     header_spelling p.0
     ++ (pool_spelling p.1.0
@@ -166,53 +104,36 @@ parts_spelling p =
     ++ (counted (to_be_bytes w16) p.1.1.1.0
     ++ (counted member_spelling p.1.1.1.1.0 ++ (counted member_spelling p.1.1.1.1.1.0 ++ counted attribute_spelling p.1.1.1.1.1.1)))))
 
-parts : IsCodec parts_at parts_spelling (PartsFit (λ xs. xs ≡ []) (λ xs. xs ≡ []) (λ xs. xs ≡ []))
+parts : IsCodec parts_at parts_spelling PartsFit
 unfolding parts_at
 parts = also header_at _ _ _ _ _ header (also pool_at _ _ _ _ _ pool (also class_at _ _ _ _ _ class (also interfaces_at tables_at _ _ _ _ interfaces tables)))
 
--- what the reader takes so far
-pub record IsRead (f : Structure) : Type 0 where
-  pub fits : Fits f
-  pub interfaces : f.interfaces ≡ []
-  pub fields : f.fields ≡ []
-  pub methods : f.methods ≡ []
-  pub attributes : f.attributes ≡ []
-
-nothing_fits : {A : Type 0} (F : A → Type 0) (xs : List A) → xs ≡ [] → AllFit F xs
-nothing_fits {A} F xs e = subst (λ (ys : List A). AllFit F ys) (sym e) (omega arith, tt)
-
-abbrev pub parts_of : Structure → Parts
+abbrev parts_of : Structure → Parts
 parts_of f = ((0xcafebabe, (0, 52)), (f.pool, ((f.flags, (f.this_class, f.super_class)), (f.interfaces, (f.fields, (f.methods, f.attributes))))))
 
 joined : (header pool flags this super rest : List ℕ) → header ≡ magic ++ version → header ++ (pool ++ ((flags ++ (this ++ super)) ++ rest)) ≡ magic ++ (version ++ (pool ++ (flags ++ (this ++ (super ++ rest)))))
 joined header pool flags this super rest e = rw e (simp append_assoc)
 
 -- the parts' spelling is the file's
-pub there : (p : Parts) → HeaderFits p.0 → parts_spelling p ≡ spelling (structure_of p)
+there : (p : Parts) → HeaderFits p.0 → parts_spelling p ≡ spelling (structure_of p)
 there p h =
     joined (header_spelling p.0) (pool_spelling p.1.0) (to_be_bytes w16 p.1.1.0.0) (to_be_bytes w16 p.1.1.0.1.0) (to_be_bytes w16 p.1.1.0.1.1)
     (counted (to_be_bytes w16) p.1.1.1.0 ++ (counted member_spelling p.1.1.1.1.0 ++ (counted member_spelling p.1.1.1.1.1.0 ++ counted attribute_spelling p.1.1.1.1.1.1))) (header_says p.0 h)
 
-says : (p : Parts) → PartsFit (λ xs. xs ≡ []) (λ xs. xs ≡ []) (λ xs. xs ≡ []) p → IsRead (structure_of p)
+says : (p : Parts) → PartsFit p → Fits (structure_of p)
 says p h = record {
-  fits = record {
-    pool = h.1.0;
-    flags = h.1.1.0.0;
-    this_class = h.1.1.0.1.0;
-    super_class = h.1.1.0.1.1;
-    interfaces = nothing_fits _ p.1.1.1.0 h.1.1.1.0;
-    fields = nothing_fits _ p.1.1.1.1.0 h.1.1.1.1.0;
-    methods = nothing_fits _ p.1.1.1.1.1.0 h.1.1.1.1.1.0;
-    attributes = nothing_fits _ p.1.1.1.1.1.1 h.1.1.1.1.1.1;
-  };
+  pool = h.1.0;
+  flags = h.1.1.0.0;
+  this_class = h.1.1.0.1.0;
+  super_class = h.1.1.0.1.1;
   interfaces = h.1.1.1.0;
   fields = h.1.1.1.1.0;
   methods = h.1.1.1.1.1.0;
   attributes = h.1.1.1.1.1.1;
 }
 
-pub structure : IsCodec structure_at spelling IsRead
+pub structure : IsCodec structure_at spelling Fits
 unfolding structure_at
 structure =
-    mapped parts_at parts_spelling (PartsFit (λ xs. xs ≡ []) (λ xs. xs ≡ []) (λ xs. xs ≡ [])) structure_of parts_of spelling IsRead parts (λ p h. (there p h.0, says p h))
-    (λ f h. ((header_fits, (h.fits.pool, ((h.fits.flags, (h.fits.this_class, h.fits.super_class)), (h.interfaces, (h.fields, (h.methods, h.attributes)))))), there (parts_of f) header_fits, refl))
+    mapped parts_at parts_spelling PartsFit structure_of parts_of spelling Fits parts (λ p h. (there p h.0, says p h))
+    (λ f h. ((header_fits, (h.pool, ((h.flags, (h.this_class, h.super_class)), (h.interfaces, (h.fields, (h.methods, h.attributes)))))), there (parts_of f) header_fits, refl))

@@ -1,36 +1,23 @@
 -- The tests of the tables, and what they say.
-use Rattle.std.proofs.Common.{◌≡◌, ◌⊎◌, ℕ, zero, suc, ◌+◌, Bool, true, false, cond, eqb, leb, nat_eq, List, [], ◌∷◌, length, Option, Some, None, Result, Ok, Err, refl, sym, ap, subst, ◌∙◌, arith, inl, inr}
+use Rattle.std.proofs.Common.{◌≡◌, ◌⊎◌, ℕ, ◌+◌, Bool, true, false, cond, not, ◌&&◌, eqb, nat_eq, List, [], ◌∷◌, map, Option, Some, None, Result, Ok, Err, refl, sym, ap, ◌∙◌, inl, inr}
 use Rattle.std.specs.Prelude.{is_some}
 use Rattle.std.specs.List.{AllByRecursion}
 use Rattle.std.specs.Cmp.Lexicographic.{pointwise, same_text}
-use Rattle.std.proofs.lemmas.Bool.{eqb-true, le-leb}
-use Rattle.cl_names.specs.Text.{is_text}
+use Rattle.std.proofs.lemmas.Bool.{eqb-true}
 use Rattle.cl_names.specs.Kind.{IsNameOf, IsClass}
-use Rattle.cl_names.proofs.Texts.{text_from_test, test_of}
-use Rattle.cl_names.proofs.Grammars.{class_from_test, class_test_of}
 use Rattle.cl_classfile.specs.declared.entry.Entry.{Entry}
-use Rattle.cl_classfile.specs.declared.entry.Entry.TheVariants.{Utf8, Class}
 use Rattle.cl_classfile.specs.declared.fault.Fault.{Fault}
 use Rattle.cl_classfile.specs.declared.fault.Fault.TheVariants.{BadPool, BadFlags, BadSupertype}
-use Rattle.cl_classfile.specs.Structure.{Structure, EntryFits, Fits, at, object, NamesClass, KeepsEntry, KeepsSuper, Keeps}
-use Rattle.cl_classfile.specs.Files.{text_of, class_of, class_name}
-use Rattle.cl_classfile.specs.Checking.{◌>>=◌, names_class, keeps_entry, kept_entry, checked_entries, keeps_super, keeps_supertypes, checked_class, kept_file}
+use Rattle.cl_classfile.specs.Flags.{has, interface, is_class_flags}
+use Rattle.cl_classfile.specs.Pool.{EntryFits, KeepsEntry}
+use Rattle.cl_classfile.specs.Structure.{Structure, Fits, object, NamesClass, KeepsSuper, KeepsInterface, Keeps}
+use Rattle.cl_classfile.specs.Files.{class_name}
+use Rattle.cl_classfile.specs.Rows.{entry_traits, keeps_entry}
+use Rattle.cl_classfile.specs.Checking.{◌>>=◌, kept_entry, checked_entries, may_stand_above, keeps_super, keeps_names, keeps_interfaces, checked_class, keeps_field, keeps_method, checked_members, checked_tables, kept_file}
 use Rattle.cl_classfile.proofs.Codec.{bind_ok, ok_is, both}
-
--- ---- an entry's row
-
-names_class_says : (o : Option Entry) → names_class o ≡ true → (text : List ℕ) × (o ≡ Some (Utf8 text)) × IsNameOf IsClass text
-names_class_says None e = absurd cc
-names_class_says (Some (Utf8 text)) e = (text, refl, class_from_test text e)
-names_class_says (Some (Class index)) e = absurd cc
-
-keeps_entry_says : (pool : List Entry) (e : Entry) → keeps_entry pool e ≡ true → KeepsEntry pool e
-keeps_entry_says pool (Utf8 text) h = text_from_test text (both (is_text text) (leb (length text) 65535) h).0
-keeps_entry_says pool (Class index) h = names_class_says (at pool index) h
-
-keeps_entry_told : (pool : List Entry) (e : Entry) → EntryFits e → KeepsEntry pool e → keeps_entry pool e ≡ true
-keeps_entry_told pool (Utf8 text) fits h = let short : leb (length text) 65535 ≡ true = le-leb _ _ (omega (arith, fits)) in rw (test_of text h, short) refl
-keeps_entry_told pool (Class index) fits h = ap names_class h.1 ∙ class_test_of h.0 h.2
+use Rattle.cl_classfile.proofs.Judging.{keeps_entry_says, keeps_entry_told}
+use Rattle.cl_classfile.proofs.MemberRows.{fields_say, fields_told, methods_say, methods_told}
+use Rattle.cl_classfile.proofs.Classes.{Rows, class_says, class_named}
 
 -- ---- all of the entries
 
@@ -43,27 +30,12 @@ unfolding checked_entries
 rows_say pool i [] u h = tt
 rows_say pool i (e ∷ es) u h =
     let a = bind_ok (kept_entry pool i e) (λ kept. checked_entries pool (i + 1) es) u h in
-    (keeps_entry_says pool e (row_ok (keeps_entry pool e) e a.0 i a.1), rows_say pool (i + 1) es u a.2)
+    (keeps_entry_says pool e (row_ok (keeps_entry (map entry_traits pool) pool e) e a.0 i a.1), rows_say pool (i + 1) es u a.2)
 
 rows_told : (pool : List Entry) (i : ℕ) (es : List Entry) → AllByRecursion EntryFits es → AllByRecursion (KeepsEntry pool) es → checked_entries pool i es ≡ Ok tt
 unfolding checked_entries
 rows_told pool i [] fits h = refl
 rows_told pool i (e ∷ es) fits h = rw (keeps_entry_told pool e fits.0 h.0, rows_told pool (i + 1) es fits.1 h.1) refl
-
--- ---- classes
-
-text_says : (o : Option Entry) (name : List ℕ) → text_of o ≡ Some name → o ≡ Some (Utf8 name)
-text_says None name h = absurd cc
-text_says (Some (Utf8 text)) name h = cc
-text_says (Some (Class index)) name h = absurd cc
-
-class_says : (pool : List Entry) (i : ℕ) (o : Option Entry) (name : List ℕ) → at pool i ≡ o → class_of pool o ≡ Some name → NamesClass pool i name
-class_says pool i None name e h = absurd cc
-class_says pool i (Some (Utf8 text)) name e h = absurd cc
-class_says pool i (Some (Class index)) name e h = record { index = index; is_entry = e; named = text_says (at pool index) name h }
-
-pub class_named : (pool : List Entry) (i : ℕ) (name : List ℕ) → NamesClass pool i name → class_name pool i ≡ Some name
-class_named pool i name c = ap (class_of pool) c.is_entry ∙ ap text_of c.named
 
 -- ---- supertypes
 
@@ -78,33 +50,58 @@ tests false = inr refl
 is_object : (name : List ℕ) → name ≡ object → pointwise nat_eq name object ≡ true
 is_object name e = ap (λ (n : List ℕ). pointwise nat_eq n object) e
 
-super_says : (pool : List Entry) (name : List ℕ) (super : ℕ) → keeps_super pool name super ≡ true → KeepsSuper pool name super
-super_says pool name super h =
+-- what stands above: of an interface it is java/lang/Object
+above_says : (pool : List Entry) → Rows pool → (of_interface : Bool) (super : ℕ) (o : Option (List ℕ)) → class_name pool super ≡ o → may_stand_above of_interface o ≡ true
+    → (above : List ℕ) × NamesClass pool super above × (of_interface ≡ true → above ≡ object)
+above_says pool rows of_interface super None e h = absurd cc
+above_says pool rows false super (Some above) e h = (above, class_says pool super above rows e, λ is. absurd cc)
+above_says pool rows true super (Some above) e h = (above, class_says pool super above rows e, λ is. same_text above object (sym h))
+
+above_told : (of_interface : Bool) (above : List ℕ) → (of_interface ≡ true → above ≡ object) → may_stand_above of_interface (Some above) ≡ true
+above_told false above h = refl
+above_told true above h = is_object above (h refl)
+
+no_interface : (of_interface : Bool) (b : Bool) → not of_interface && b ≡ true → (of_interface ≡ false) × (b ≡ true)
+no_interface true b h = absurd cc
+no_interface false b h = (refl, h)
+
+super_says : (pool : List Entry) → Rows pool → (of_interface : Bool) (name : List ℕ) (super : ℕ) → keeps_super pool of_interface name super ≡ true → KeepsSuper pool of_interface name super
+super_says pool rows of_interface name super h =
     elim (tests (pointwise nat_eq name object)) [
-      | inl e ↦ inl (same_text name object (sym e), eqb-true super 0 (rw e at h))
+      | inl e ↦ let k = no_interface of_interface (eqb super 0) (rw e at h) in inl (same_text name object (sym e), k.0, eqb-true super 0 k.1)
       | inr e ↦
-          let k : is_some (class_name pool super) ≡ true = rw e at h in
-          let a = some_is (class_name pool super) k in
-          inr (λ is. absurd (let f : true ≡ false = sym (is_object name is) ∙ e in cc), a.0, class_says pool super (at pool super) a.0 refl a.1)
+          let a = above_says pool rows of_interface super (class_name pool super) refl (rw e at h) in
+          inr (λ is. absurd (let f : true ≡ false = sym (is_object name is) ∙ e in cc), a.0, a.1, a.2)
     ]
 
-super_told : (pool : List Entry) (name : List ℕ) (super : ℕ) → KeepsSuper pool name super → keeps_super pool name super ≡ true
-super_told pool name super (inl h) = rw (is_object name h.0, h.1) refl
-super_told pool name super (inr h) =
+super_told : (pool : List Entry) (of_interface : Bool) (name : List ℕ) (super : ℕ) → KeepsSuper pool of_interface name super → keeps_super pool of_interface name super ≡ true
+super_told pool of_interface name super (inl h) = rw (is_object name h.0, h.1, h.2) refl
+super_told pool of_interface name super (inr h) =
     elim (tests (pointwise nat_eq name object)) [
       | inl e ↦ absurd (h.0 (same_text name object (sym e)))
-      | inr e ↦ rw (e, class_named pool super h.1 h.2) refl
+      | inr e ↦ rw (e, class_named pool super h.1 h.2) (above_told of_interface h.1 h.3)
     ]
 
 -- this_class and super_class keep the tables
-record KeepsNames (pool : List Entry) (this super : ℕ) : Type 0 where
+record KeepsNames (pool : List Entry) (of_interface : Bool) (this super : ℕ) : Type 0 where
   name : List ℕ
   this_class : NamesClass pool this name
-  super_class : KeepsSuper pool name super
+  super_class : KeepsSuper pool of_interface name super
 
-supertypes_say : (pool : List Entry) (this super : ℕ) (o : Option (List ℕ)) → class_name pool this ≡ o → keeps_supertypes pool super o ≡ true → KeepsNames pool this super
-supertypes_say pool this super None e h = absurd cc
-supertypes_say pool this super (Some name) e h = record { name = name; this_class = class_says pool this (at pool this) name refl e; super_class = super_says pool name super h }
+names_say : (pool : List Entry) → Rows pool → (of_interface : Bool) (this super : ℕ) (o : Option (List ℕ)) → class_name pool this ≡ o → keeps_names pool of_interface super o ≡ true → KeepsNames pool of_interface this super
+names_say pool rows of_interface this super None e h = absurd cc
+names_say pool rows of_interface this super (Some name) e h = record { name = name; this_class = class_says pool this name rows e; super_class = super_says pool rows of_interface name super h }
+
+interfaces_say : (pool : List Entry) → Rows pool → (interfaces : List ℕ) → keeps_interfaces pool interfaces ≡ true → AllByRecursion (KeepsInterface pool) interfaces
+interfaces_say pool rows [] h = tt
+interfaces_say pool rows (i ∷ is) h =
+    let k = both (is_some (class_name pool i)) (keeps_interfaces pool is) h in
+    let a = some_is (class_name pool i) k.0 in
+    ((a.0, class_says pool i a.0 rows a.1), interfaces_say pool rows is k.1)
+
+interfaces_told : (pool : List Entry) (interfaces : List ℕ) → AllByRecursion (KeepsInterface pool) interfaces → keeps_interfaces pool interfaces ≡ true
+interfaces_told pool [] h = refl
+interfaces_told pool (i ∷ is) h = rw (class_named pool i h.0.0 h.0.1, interfaces_told pool is h.1) refl
 
 -- ---- the file
 
@@ -113,41 +110,63 @@ checks_say true true u h = (refl, refl)
 checks_say true false u h = absurd cc
 checks_say false kept u h = absurd cc
 
+abbrev class_checked : Structure → Result (Unit {0}) Fault
+class_checked f = checked_class f.pool f.flags f.this_class f.super_class f.interfaces
+
+abbrev fields_checked : Structure → Result (Unit {0}) Fault
+fields_checked f = checked_members (keeps_field (map entry_traits f.pool) (has f.flags interface)) f.pool [] f.fields
+
+abbrev methods_checked : Structure → Result (Unit {0}) Fault
+methods_checked f = checked_members (keeps_method (map entry_traits f.pool) (has f.flags interface)) f.pool [] f.methods
+
 -- what a file is whose tests were passed
-pub tables_say : (f : Structure) (u v : Unit {0}) → checked_entries f.pool 1 f.pool ≡ Ok u → checked_class f.pool f.flags f.this_class f.super_class ≡ Ok v → Keeps f × (f.flags ≡ 33)
-tables_say f u v rows class =
-    let c = checks_say (eqb f.flags 33) (keeps_supertypes f.pool f.super_class (class_name f.pool f.this_class)) v class in
-    let n = supertypes_say f.pool f.this_class f.super_class (class_name f.pool f.this_class) refl c.1 in
-    (record { pool = rows_say f.pool 1 f.pool u rows; name = n.name; this_class = n.this_class; super_class = n.super_class }, eqb-true f.flags 33 c.0)
+keeps : (f : Structure) (u c d e : Unit {0}) → checked_entries f.pool 1 f.pool ≡ Ok u → class_checked f ≡ Ok c → fields_checked f ≡ Ok d → methods_checked f ≡ Ok e → Keeps f
+keeps f u c d e rows class fields methods =
+    let of_interface = has f.flags interface in
+    let entries = rows_say f.pool 1 f.pool u rows in
+    let names = keeps_names f.pool of_interface f.super_class (class_name f.pool f.this_class) in
+    let a = checks_say (is_class_flags f.flags) (names && keeps_interfaces f.pool f.interfaces) c class in
+    let k = both names (keeps_interfaces f.pool f.interfaces) a.1 in
+    let n = names_say f.pool entries of_interface f.this_class f.super_class (class_name f.pool f.this_class) refl k.0 in
+    let each_field = fields_say f.pool of_interface f.fields d fields in
+    let each_method = methods_say f.pool of_interface f.methods e methods in
+    record {
+      pool = entries;
+      flags = a.0;
+      name = n.name;
+      this_class = n.this_class;
+      super_class = n.super_class;
+      interfaces = interfaces_say f.pool entries f.interfaces k.1;
+      fields = record { each = each_field.0; new = each_field.1 };
+      methods = record { each = each_method.0; new = each_method.1 };
+    }
+
+pub tables_say : (f : Structure) (u v : Unit {0}) → checked_entries f.pool 1 f.pool ≡ Ok u → checked_tables (map entry_traits f.pool) f.pool f ≡ Ok v → Keeps f
+unfolding checked_tables
+tables_say f u v rows tables =
+    let b = bind_ok (class_checked f) (λ class. fields_checked f >>= λ fields. methods_checked f) v tables in
+    let d = bind_ok (fields_checked f) (λ fields. methods_checked f) v b.2 in
+    keeps f u b.0 d.0 v rows b.1 d.1 d.2
 
 -- a file that passes the tests is answered as it is
-pub file_says : (f g : Structure) → kept_file f ≡ Ok g → (f ≡ g) × Keeps f × (f.flags ≡ 33)
+pub file_says : (f g : Structure) → kept_file f ≡ Ok g → (f ≡ g) × Keeps f
 unfolding kept_file
 file_says f g h =
-    let a = bind_ok (checked_entries f.pool 1 f.pool) (λ entries. checked_class f.pool f.flags f.this_class f.super_class >>= λ class. Ok f) g h in
-    let b = bind_ok (checked_class f.pool f.flags f.this_class f.super_class) (λ class. Ok f) g a.2 in
-    let k = tables_say f a.0 b.0 a.1 b.1 in
-    (ok_is f g b.2, k.0, k.1)
+    let a = bind_ok (checked_entries f.pool 1 f.pool) (λ entries. checked_tables (map entry_traits f.pool) f.pool f >>= λ tables. Ok f) g h in
+    let b = bind_ok (checked_tables (map entry_traits f.pool) f.pool f) (λ tables. Ok f) g a.2 in
+    (ok_is f g b.2, tables_say f a.0 b.0 a.1 b.1)
 
-pub file_told : (f : Structure) → Fits f → Keeps f → f.flags ≡ 33 → kept_file f ≡ Ok f
-unfolding kept_file
-file_told f fits kept flags =
+pub file_told : (f : Structure) → Fits f → Keeps f → kept_file f ≡ Ok f
+unfolding kept_file checked_tables
+file_told f fits kept =
+    let of_interface = has f.flags interface in
     let named : class_name f.pool f.this_class ≡ Some kept.name = class_named f.pool f.this_class kept.name kept.this_class in
-    rw (rows_told f.pool 1 f.pool fits.pool.1 kept.pool, flags, named, super_told f.pool kept.name f.super_class kept.super_class) refl
-
--- ---- the names of classes
-
--- what holds of all entries holds of the one at an index
-at_kept : (P : Entry → Type 0) (es : List Entry) (i : ℕ) (e : Entry) → AllByRecursion P es → at es i ≡ Some e → P e
-at_kept P es zero e all h = absurd cc
-at_kept P [] (suc i) e all h = absurd cc
-at_kept P (x ∷ es) (suc zero) e all h = let k : x ≡ e = cc in subst P k all.0
-at_kept P (x ∷ es) (suc (suc i)) e all h = at_kept P es (suc i) e all.1 h
+    let super = super_told f.pool of_interface kept.name f.super_class kept.super_class in
+    let class : class_checked f ≡ Ok tt = rw (kept.flags, named, super, interfaces_told f.pool f.interfaces kept.interfaces) refl in
+    let fields : fields_checked f ≡ Ok tt = fields_told f.pool of_interface f.fields kept.fields.each kept.fields.new in
+    let methods : methods_checked f ≡ Ok tt = methods_told f.pool of_interface f.methods kept.methods.each kept.methods.new in
+    rw (rows_told f.pool 1 f.pool fits.pool.1 kept.pool, class, fields, methods) refl
 
 -- what a class of the pool is called is a class's name
 pub named_well : (f : Structure) → Keeps f → (i : ℕ) (name : List ℕ) → class_name f.pool i ≡ Some name → IsNameOf IsClass name
-named_well f kept i name h =
-    let c = class_says f.pool i (at f.pool i) name refl h in
-    let k = at_kept (KeepsEntry f.pool) f.pool i (Class c.index) kept.pool c.is_entry in
-    let same : k.0 ≡ name = cc (k.1, c.named) in
-    subst (λ (n : List ℕ). IsNameOf IsClass n) same k.2
+named_well f kept i name h = (class_says f.pool i name kept.pool h).is_name

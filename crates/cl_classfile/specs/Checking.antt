@@ -1,16 +1,19 @@
 -- The tables as tests, with the first fault in the order in which a file is looked at.
-use Rattle.std.specs.Prelude.{◌≡◌, ℕ, ◌+◌, Bool, false, ◌&&◌, ◌==◌, nat_eq, nat_le, length, List, [], ◌∷◌, Option, Some, None, is_some, Result, Ok, Err, if◌then◌else◌}
+use Rattle.std.specs.Prelude.{◌≡◌, ℕ, ◌+◌, Bool, true, false, not, ◌&&◌, ◌||◌, ◌==◌, nat_eq, nat_lt, List, [], ◌∷◌, ◌++◌, map, Option, Some, None, is_some, Result, Ok, Err, if◌then◌else◌}
+use Rattle.std.specs.List.{list_all, list_any}
 use Rattle.std.specs.Cmp.Lexicographic.{pointwise}
-use Rattle.cl_names.specs.Text.{is_text}
-use Rattle.cl_names.specs.Kind.{is_class_name}
 use Rattle.cl_classfile.specs.declared.entry.Entry.{Entry}
-use Rattle.cl_classfile.specs.declared.entry.Entry.TheVariants.{Utf8, Class}
 use Rattle.cl_classfile.specs.declared.fault.Fault.{Fault}
-use Rattle.cl_classfile.specs.declared.fault.Fault.TheVariants.{BadPool, BadFlags, BadSupertype}
+use Rattle.cl_classfile.specs.declared.fault.Fault.TheVariants.{BadPool, BadFlags, BadMember, Duplicate, BadSupertype}
 use Rattle.cl_classfile.specs.declared.fault.ReadError.{ReadError}
 use Rattle.cl_classfile.specs.declared.fault.ReadError.TheVariants as errors
-use Rattle.cl_classfile.specs.Structure.{Structure, object, at}
-use Rattle.cl_classfile.specs.Files.{class_name}
+use Rattle.cl_classfile.specs.declared.traits.Special.{Special}
+use Rattle.cl_classfile.specs.declared.traits.Special.TheVariants as names
+use Rattle.cl_classfile.specs.declared.traits.Traits.{Traits}
+use Rattle.cl_classfile.specs.Flags.{has, static, interface, is_class_flags, is_field_flags, is_method_flags, is_init_flags}
+use Rattle.cl_classfile.specs.Structure.{Structure, Member, object}
+use Rattle.cl_classfile.specs.Rows.{is_field, entry_traits, traits_at, keeps_entry}
+use Rattle.cl_classfile.specs.Files.{text_at, class_name}
 
 infixl 10 ◌>>=◌
 abbrev pub ◌>>=◌ : {A B : Type 0} → Result A Fault → (A → Result B Fault) → Result B Fault
@@ -31,44 +34,99 @@ abbrev pub Gives : {X Y : Type 0} → (X → Y) → Result X ReadError → Resul
 Gives view (Ok x) read = read ≡ Ok (view x)
 Gives view (Err e) read = Fails e read
 
--- the entry is a text that names a class
-abbrev pub is_class_text : Entry → Bool
-is_class_text (Utf8 text) = is_class_name text
-is_class_text (Class name) = false
-
-abbrev pub names_class : Option Entry → Bool
-names_class None = false
-names_class (Some e) = is_class_text e
-
--- the entry keeps its row of the table (JVMS SE 8, 4.4)
-abbrev pub keeps_entry : List Entry → Entry → Bool
-keeps_entry pool (Utf8 text) = is_text text && nat_le (length text) 65535
-keeps_entry pool (Class name) = names_class (at pool name)
-
--- the entry at index i, where it keeps its row
+-- the entry at index i, where it keeps its row of the table (JVMS SE 8, 4.4)
 abbrev pub kept_entry : List Entry → ℕ → Entry → Result Entry Fault
-kept_entry pool i e = if keeps_entry pool e then Ok e else Err (BadPool i)
+kept_entry pool i e = if keeps_entry (map entry_traits pool) pool e then Ok e else Err (BadPool i)
 
 -- the entries from index i on: whether each keeps its row
 unfoldable pub checked_entries : List Entry → ℕ → List Entry → Result (Unit {0}) Fault
 checked_entries pool i [] = Ok tt
 checked_entries pool i (e ∷ es) = kept_entry pool i e >>= λ kept. checked_entries pool (i + 1) es
 
--- super_class is 0 exactly in java/lang/Object (JVMS SE 8, 4.1)
-abbrev pub keeps_super : List Entry → List ℕ → ℕ → Bool
-keeps_super pool name super = if pointwise nat_eq name object then super == 0 else is_some (class_name pool super)
+-- the class named above may be the superclass: of an interface it is java/lang/Object (JVMS SE 8, 4.1)
+abbrev pub may_stand_above : Bool → Option (List ℕ) → Bool
+may_stand_above of_interface None = false
+may_stand_above of_interface (Some above) = not of_interface || pointwise nat_eq above object
 
-abbrev pub keeps_supertypes : List Entry → ℕ → Option (List ℕ) → Bool
-keeps_supertypes pool super None = false
-keeps_supertypes pool super (Some name) = keeps_super pool name super
+-- super_class is 0 exactly in java/lang/Object, which is no interface (JVMS SE 8, 4.1)
+abbrev pub keeps_super : List Entry → Bool → List ℕ → ℕ → Bool
+keeps_super pool of_interface name super =
+    if pointwise nat_eq name object
+    then not of_interface && super == 0
+    else may_stand_above of_interface (class_name pool super)
 
--- the flags, and then the supertypes (JVMS SE 8, 4.1)
-abbrev pub checked_class : List Entry → ℕ → ℕ → ℕ → Result (Unit {0}) Fault
-checked_class pool flags this super =
-    if flags == 33
-    then if keeps_supertypes pool super (class_name pool this) then Ok tt else Err BadSupertype
+abbrev pub keeps_names : List Entry → Bool → ℕ → Option (List ℕ) → Bool
+keeps_names pool of_interface super None = false
+keeps_names pool of_interface super (Some name) = keeps_super pool of_interface name super
+
+-- each interface is a class (JVMS SE 8, 4.1)
+abbrev pub keeps_interfaces : List Entry → List ℕ → Bool
+keeps_interfaces pool interfaces = list_all (λ i. is_some (class_name pool i)) interfaces
+
+-- the flags, and then this_class, super_class and the interfaces (JVMS SE 8, 4.1)
+abbrev pub checked_class : List Entry → ℕ → ℕ → ℕ → List ℕ → Result (Unit {0}) Fault
+checked_class pool flags this super interfaces =
+    if is_class_flags flags
+    then if keeps_names pool (has flags interface) super (class_name pool this) && keeps_interfaces pool interfaces then Ok tt else Err BadSupertype
     else Err BadFlags
+
+-- ---- members (JVMS SE 8, 4.5, 4.6)
+
+abbrev pub keeps_field : List Traits → Bool → Member → Bool
+keeps_field traits of_interface m = is_field_flags of_interface m.flags && (traits_at traits m.name_index).unqualified && is_field (traits_at traits m.descriptor_index).form
+
+-- the parameters leave a unit for this, where the method is of an instance (4.3.3)
+abbrev pub has_room : Bool → Option ℕ → Bool
+has_room of_class None = false
+has_room of_class (Some units) = of_class || nat_lt units 255
+
+abbrev pub keeps_method_flags : Special → Bool → ℕ → Bool
+keeps_method_flags names.Clinit of_interface flags = true
+keeps_method_flags names.Init of_interface flags = is_method_flags of_interface flags && is_init_flags flags
+keeps_method_flags names.Plain of_interface flags = is_method_flags of_interface flags
+keeps_method_flags names.Angle of_interface flags = is_method_flags of_interface flags
+
+abbrev pub keeps_method : List Traits → Bool → Member → Bool
+keeps_method traits of_interface m =
+    keeps_method_flags (traits_at traits m.name_index).special of_interface m.flags
+    && (traits_at traits m.name_index).method
+    && has_room (has m.flags static) (traits_at traits m.descriptor_index).units
+
+-- the texts of a name and of a descriptor
+abbrev pub Key : Type 0
+Key = List ℕ × List ℕ
+
+abbrev pub both_texts : Option (List ℕ) → Option (List ℕ) → Option Key
+both_texts (Some a) (Some b) = Some (a, b)
+both_texts (Some a) None = None
+both_texts None other = None
+
+abbrev pub key_of : List Entry → Member → Option Key
+key_of pool m = both_texts (text_at pool m.name_index) (text_at pool m.descriptor_index)
+
+abbrev pub same_key : Option Key → Option Key → Bool
+same_key (Some a) (Some b) = pointwise nat_eq a.0 b.0 && pointwise nat_eq a.1 b.1
+same_key (Some a) None = false
+same_key None other = false
+
+-- the members agree in name and descriptor
+abbrev pub same_member : List Entry → Member → Member → Bool
+same_member pool a b = same_key (key_of pool a) (key_of pool b)
+
+-- each member keeps its row, and agrees with none before it, nor with one of these
+unfoldable pub checked_members : (Member → Bool) → List Entry → List Member → List Member → Result (Unit {0}) Fault
+checked_members keeps pool before [] = Ok tt
+checked_members keeps pool before (m ∷ ms) =
+    if keeps m
+    then if list_any (λ e. same_member pool e m) before then Err Duplicate else checked_members keeps pool (before ++ m ∷ []) ms
+    else Err BadMember
+
+-- the class's own tables, then its fields, then its methods, where the traits of the entries are given
+unfoldable pub checked_tables : List Traits → List Entry → Structure → Result (Unit {0}) Fault
+checked_tables traits pool f =
+    checked_class pool f.flags f.this_class f.super_class f.interfaces >>= λ class.
+    (checked_members (keeps_field traits (has f.flags interface)) pool [] f.fields >>= λ fields. checked_members (keeps_method traits (has f.flags interface)) pool [] f.methods)
 
 -- the file, where it keeps the tables
 unfoldable pub kept_file : Structure → Result Structure Fault
-kept_file f = checked_entries f.pool 1 f.pool >>= λ entries. (checked_class f.pool f.flags f.this_class f.super_class >>= λ class. Ok f)
+kept_file f = checked_entries f.pool 1 f.pool >>= λ entries. (checked_tables (map entry_traits f.pool) f.pool f >>= λ tables. Ok f)

@@ -1,5 +1,5 @@
 -- The parts of a class file that linking looks at (JVMS SE 8, 4.1 to 4.6).
-use Rattle.std.specs.Prelude.{ℕ, ◌+◌, ◌/◌, ◌%◌, Bool, false, ◌&&◌, ◌==◌, nat_eq, List, [], ◌∷◌, ◌++◌, Option, Some, None, find, filter_map, option_map, option_to_list, unwrap_or}
+use Rattle.std.specs.Prelude.{ℕ, ◌+◌, Bool, false, ◌&&◌, ◌==◌, nat_eq, List, [], ◌∷◌, ◌++◌, Option, Some, None, find, filter_map, option_map, option_and_then, option_to_list, unwrap_or, if◌then◌else◌}
 use Rattle.std.specs.Cmp.Lexicographic.{pointwise}
 use Rattle.cl_descriptors.specs.declared.types.Base.{Base}
 use Rattle.cl_descriptors.specs.declared.types.Base.TheVariants as bases
@@ -7,8 +7,11 @@ use Rattle.cl_descriptors.specs.declared.types.FieldType.{FieldType}
 use Rattle.cl_descriptors.specs.declared.types.Descriptor.{Descriptor}
 use Rattle.cl_descriptors.specs.declared.types.Descriptor.TheVariants as descriptors
 use Rattle.cl_classfile.specs.declared.entry.Entry.{Entry}
-use Rattle.cl_classfile.specs.declared.entry.Entry.TheVariants.{Utf8, Class}
+use Rattle.cl_descriptors.specs.Reading.{whole_field, whole_method}
+use Rattle.cl_classfile.specs.declared.entry.Entry.TheVariants.{Utf8, Class, Fieldref, Methodref, InterfaceMethodref, NameAndType}
+pub use Rattle.cl_classfile.specs.Flags.{has}
 use Rattle.cl_classfile.specs.Structure.{Structure, at}
+use Rattle.cl_classfile.specs.Structure as structure
 
 -- the bytes of the name of a class or a member (4.2)
 abbrev pub Name : Type 0
@@ -50,53 +53,131 @@ pub data FileFault : Type 0 where
 
 -- the text at an index of the pool
 abbrev pub text_of : Option Entry → Option Name
-text_of None = None
 text_of (Some (Utf8 text)) = Some text
-text_of (Some (Class name)) = None
+text_of _ = None
 
 abbrev pub text_at : List Entry → ℕ → Option Name
 text_at pool i = text_of (at pool i)
 
--- the name of an entry that is a class (4.4.1)
-abbrev pub class_of : List Entry → Option Entry → Option Name
-class_of pool None = None
-class_of pool (Some (Utf8 text)) = None
-class_of pool (Some (Class index)) = text_at pool index
+-- the name of an entry that is a class or an array (4.4.1)
+abbrev pub type_of : List Entry → Option Entry → Option Name
+type_of pool (Some (Class index)) = text_at pool index
+type_of pool _ = None
 
+abbrev pub type_name : List Entry → ℕ → Option Name
+type_name pool i = type_of pool (at pool i)
+
+-- the name of an array is its descriptor (4.4.1)
+abbrev pub is_array_name : Name → Bool
+is_array_name [] = false
+is_array_name (c ∷ rest) = c == 91
+
+abbrev pub no_array : Name → Option Name
+no_array name = if is_array_name name then None else Some name
+
+-- the name of an entry that is a class and no array
 abbrev pub class_name : List Entry → ℕ → Option Name
-class_name pool i = class_of pool (at pool i)
+class_name pool i = option_and_then no_array (type_name pool i)
 
 -- a class that is no array, as a type (4.3.2)
 abbrev pub class_type : Name → FieldType
 class_type name = record { dims = 0; base = bases.Class name }
 
+-- the type of this name
+abbrev pub named_type : Name → Option FieldType
+named_type name = if is_array_name name then whole_field name else Some (class_type name)
+
+-- ---- references, by their texts and by their types
+
+-- the class or array that a member is asked of, the member's name and its descriptor (4.4.2)
+pub record Symbol : Type 0 where
+  pub class : Name
+  pub name : Name
+  pub descriptor : Name
+
+-- what a reference says
+pub data Cited : Type 0 where
+  CitesClass : (name : Name) → Cited
+  CitesField : (symbol : Symbol) → Cited
+  CitesMethod : (symbol : Symbol) → Cited
+  CitesInterfaceMethod : (symbol : Symbol) → Cited
+
+abbrev pub symbol_of : Option Name → Option Name → Option Name → Option Symbol
+symbol_of (Some class) (Some name) (Some descriptor) = Some (record { class = class; name = name; descriptor = descriptor })
+symbol_of _ _ _ = None
+
+-- the texts of the name and of the descriptor of a name and type (4.4.6)
+abbrev pub pair_name : List Entry → Option Entry → Option Name
+pair_name pool (Some (NameAndType name descriptor)) = text_at pool name
+pair_name pool _ = None
+
+abbrev pub pair_descriptor : List Entry → Option Entry → Option Name
+pair_descriptor pool (Some (NameAndType name descriptor)) = text_at pool descriptor
+pair_descriptor pool _ = None
+
+abbrev pub symbol_at : List Entry → ℕ → ℕ → Option Symbol
+symbol_at pool class pair = symbol_of (type_name pool class) (pair_name pool (at pool pair)) (pair_descriptor pool (at pool pair))
+
+abbrev pub cited : List Entry → Entry → Option Cited
+cited pool (Class text) = option_map (λ name. CitesClass name) (text_at pool text)
+cited pool (Fieldref class pair) = option_map (λ s. CitesField s) (symbol_at pool class pair)
+cited pool (Methodref class pair) = option_map (λ s. CitesMethod s) (symbol_at pool class pair)
+cited pool (InterfaceMethodref class pair) = option_map (λ s. CitesInterfaceMethod s) (symbol_at pool class pair)
+cited pool _ = None
+
+-- the key of a field, and of a method, of this name and descriptor (4.3.2, 4.3.3)
+abbrev pub field_of : Name → Name → Option Key
+field_of name descriptor = option_map (λ t. record { name = name; descriptor = descriptors.Field t }) (whole_field descriptor)
+
+abbrev pub method_of : Name → Name → Option Key
+method_of name descriptor = option_map (λ m. record { name = name; descriptor = descriptors.Method m }) (whole_method descriptor)
+
+abbrev pub field_key : Symbol → Option Key
+field_key s = field_of s.name s.descriptor
+
+abbrev pub method_key : Symbol → Option Key
+method_key s = method_of s.name s.descriptor
+
+abbrev pub typed_by : (FieldType → Key → Reference) → Option FieldType → Option Key → Option Reference
+typed_by make (Some target) (Some key) = Some (make target key)
+typed_by make _ _ = None
+
+abbrev pub typed : Cited → Option Reference
+typed (CitesClass name) = option_map (λ t. ToClass t) (named_type name)
+typed (CitesField s) = typed_by ToField (named_type s.class) (field_key s)
+typed (CitesMethod s) = typed_by ToMethod (named_type s.class) (method_key s)
+typed (CitesInterfaceMethod s) = typed_by ToInterfaceMethod (named_type s.class) (method_key s)
+
 -- what an entry refers to, if it is a reference
 abbrev pub reference_of : List Entry → Entry → Option Reference
-reference_of pool (Utf8 text) = None
-reference_of pool (Class index) = option_map (λ name. ToClass (class_type name)) (text_at pool index)
+reference_of pool e = option_and_then typed (cited pool e)
 
 -- the references among the entries from an index on
 abbrev pub references_from : List Entry → ℕ → List Entry → List (ℕ × Reference)
 references_from pool i [] = []
 references_from pool i (e ∷ es) = option_to_list (option_map (λ r. (i, r)) (reference_of pool e)) ++ references_from pool (i + 1) es
 
--- what linking looks at in a structure with no fields and methods
+-- what linking looks at of a field or a method (4.5, 4.6)
+abbrev pub keyed : (Name → Name → Option Key) → ℕ → Option Name → Option Name → Option Member
+keyed key flags (Some name) (Some descriptor) = option_map (λ k. record { flags = flags; key = k }) (key name descriptor)
+keyed key flags _ _ = None
+
+abbrev pub declared_by : (Name → Name → Option Key) → List Entry → structure.Member → Option Member
+declared_by key pool m = keyed key m.flags (text_at pool m.name_index) (text_at pool m.descriptor_index)
+
+-- what linking looks at in a structure
 abbrev pub file_of : Structure → File
 file_of f = record {
   flags = f.flags;
   name = unwrap_or (class_name f.pool f.this_class) [];
   super_name = class_name f.pool f.super_class;
   interfaces = filter_map (class_name f.pool) f.interfaces;
-  fields = [];
-  methods = [];
+  fields = filter_map (declared_by field_of f.pool) f.fields;
+  methods = filter_map (declared_by method_of f.pool) f.methods;
   references = references_from f.pool 1 f.pool;
 }
 
 -- ---- flags, and members by their key
-
--- flags have this bit (tables 4.1-A, 4.5-A, 4.6-A)
-abbrev pub has : ℕ → ℕ → Bool
-has flags bit = flags / bit % 2 == 1
 
 abbrev pub is_public : ℕ → Bool
 is_public flags = has flags 1

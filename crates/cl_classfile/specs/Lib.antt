@@ -1,6 +1,12 @@
+pub mod Flags
+pub mod Pool
+pub mod Members
 pub mod Structure
 pub mod Files
+pub mod Rows
 pub mod Checking
+pub mod Seen
 pub mod Raw
 pub mod Reading
+pub mod References
 pub mod View

@@ -1,15 +1,28 @@
 -- What is read, without where it lies in memory.
-use Rattle.std.specs.Prelude.{List, [], map}
+use Rattle.std.specs.Prelude.{List, map}
 use Rattle.cl_classfile.specs.declared.entry.Entry.{Entry}
-use Rattle.cl_classfile.specs.declared.entry.Entry.TheVariants.{Utf8, Class}
-use Rattle.cl_classfile.specs.declared.reading.RawEntry.{RawEntry}
-use Rattle.cl_classfile.specs.declared.reading.RawEntry.TheVariants as raw
+use Rattle.cl_classfile.specs.declared.entry.Entry.TheVariants.{Utf8, Integer, Float, Long, Double, Unusable, Class, String, Fieldref, Methodref, InterfaceMethodref, NameAndType, MethodHandle, MethodType, InvokeDynamic}
+use Rattle.cl_classfile.specs.declared.raw.RawEntry.{RawEntry}
+use Rattle.cl_classfile.specs.declared.raw.RawEntry.TheVariants as raw
 use Rattle.cl_classfile.specs.declared.reading.RawFile.{RawFile}
 use Rattle.cl_classfile.specs.Structure.{Structure}
 
 abbrev pub plain_entry : RawEntry → Entry
 plain_entry (raw.Utf8 text) = Utf8 text.now
-plain_entry (raw.Class name) = Class name
+plain_entry (raw.Integer value) = Integer value
+plain_entry (raw.Float bits) = Float bits
+plain_entry (raw.Long value) = Long value
+plain_entry (raw.Double bits) = Double bits
+plain_entry raw.Unusable = Unusable
+plain_entry (raw.Class text) = Class text
+plain_entry (raw.String text) = String text
+plain_entry (raw.Fieldref class pair) = Fieldref class pair
+plain_entry (raw.Methodref class pair) = Methodref class pair
+plain_entry (raw.InterfaceMethodref class pair) = InterfaceMethodref class pair
+plain_entry (raw.NameAndType name descriptor) = NameAndType name descriptor
+plain_entry (raw.MethodHandle kind reference) = MethodHandle kind reference
+plain_entry (raw.MethodType descriptor) = MethodType descriptor
+plain_entry (raw.InvokeDynamic bootstrap pair) = InvokeDynamic bootstrap pair
 
 abbrev pub plain_entries : List RawEntry → List Entry
 plain_entries es = map plain_entry es
@@ -20,8 +33,8 @@ plain_file f = record {
   flags = f.flags;
   this_class = f.this_class;
   super_class = f.super_class;
-  interfaces = [];
-  fields = [];
-  methods = [];
-  attributes = [];
+  interfaces = f.interfaces.items;
+  fields = f.fields.items;
+  methods = f.methods.items;
+  attributes = f.attributes.items;
 }

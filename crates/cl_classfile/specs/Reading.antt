@@ -1,10 +1,11 @@
 -- Reading from left to right, with the first fault that is met.
-use Rattle.std.specs.Prelude.{ℕ, zero, suc, ◌+◌, ◌-◌, Bool, ◌&&◌, List, [], ◌∷◌, length, take, drop, Result, Ok, Err, nat_lt, nat_le, ◌==◌, if◌then◌else◌}
-use Rattle.std.specs.Int.{Width, w16, w32, byte_len, from_be_bytes}
+use Rattle.std.specs.Prelude.{ℕ, ℤ, zero, suc, ◌+◌, ◌-◌, Bool, false, ◌&&◌, List, [], ◌∷◌, length, take, drop, Result, Ok, Err, nat_lt, nat_le, ◌==◌, if◌then◌else◌}
+use Rattle.std.specs.Int.{Width, w16, w32, w64, byte_len, from_be_bytes, cast_signed}
 use Rattle.cl_classfile.specs.declared.entry.Entry.{Entry}
-use Rattle.cl_classfile.specs.declared.entry.Entry.TheVariants.{Utf8, Class}
+use Rattle.cl_classfile.specs.declared.entry.Entry.TheVariants.{Utf8, Integer, Float, Long, Double, Unusable, Class, String, Fieldref, Methodref, InterfaceMethodref, NameAndType, MethodHandle, MethodType, InvokeDynamic}
 use Rattle.cl_classfile.specs.declared.fault.Fault.{Fault}
-use Rattle.cl_classfile.specs.declared.fault.Fault.TheVariants.{BadMagic, Version, Truncated, Trailing, BadPool, BadMember, BadSupertype}
+use Rattle.cl_classfile.specs.declared.fault.Fault.TheVariants.{BadMagic, Version, Truncated, Trailing, BadPool}
+use Rattle.cl_classfile.specs.Pool.{is_wide}
 use Rattle.cl_classfile.specs.Structure.{Structure, Member, Attribute}
 use Rattle.cl_classfile.specs.Checking.{◌>>=◌, kept_file}
 
@@ -38,12 +39,17 @@ unfoldable pub many_at : {C A : Type 0} → (C → Reader A) → (C → A → C)
 many_at step next zero c bytes = Ok ([], bytes)
 many_at step next (suc n) c bytes = step c bytes >>= λ x. (many_at step next n (next c x.0) x.1 >>= λ y. Ok (x.0 ∷ y.0, y.1))
 
--- a count that has to be 0, so that there are none
-abbrev pub zero_at : Fault → Reader ℕ
-zero_at fault = test_at (number_at w16) (λ n. n == 0) fault
+-- a length, and that many bytes
+abbrev pub sized_at : Width → Reader (List ℕ)
+sized_at w bytes = number_at w bytes >>= λ n. bytes_at n.0 n.1
 
-abbrev pub none_at : {A : Type 0} → Fault → Reader (List A)
-none_at fault = map_at (zero_at fault) (λ n. [])
+-- that many of a structure that is read the same way wherever it stands
+abbrev pub each_at : {A : Type 0} → Reader A → ℕ → Reader (List A)
+each_at r n = many_at {C = ℕ} (λ i. r) (λ i a. i) n 0
+
+-- a count, and that many of a structure
+abbrev pub counted_at : {A : Type 0} → Reader A → Reader (List A)
+counted_at r bytes = number_at w16 bytes >>= λ n. each_at r n.0 n.1
 
 -- ---- the structures of a class file (JVMS SE 8, 4.1, 4.4)
 
@@ -62,19 +68,90 @@ header_at = then_at magic_at (λ magic. version_at)
 unfoldable pub text_at : Reader (List ℕ)
 text_at bytes = number_at w16 bytes >>= λ n. bytes_at n.0 n.1
 
--- the entry at index i
-unfoldable pub entry_at : ℕ → Reader Entry
-entry_at i [] = Err Truncated
-entry_at i (tag ∷ rest) =
+-- one byte
+unfoldable pub byte_at : Reader ℕ
+byte_at [] = Err Truncated
+byte_at (b ∷ rest) = Ok (b, rest)
+
+-- a number in two's complement
+unfoldable pub signed_at : Width → Reader ℤ
+signed_at w = map_at (number_at w) (cast_signed w)
+
+-- two indices
+unfoldable pub two_at : Reader (ℕ × ℕ)
+two_at = then_at (number_at w16) (λ first. number_at w16)
+
+-- a kind and an index
+unfoldable pub handle_at : Reader (ℕ × ℕ)
+handle_at = then_at byte_at (λ kind. number_at w16)
+
+-- what takes the index behind i too, of which n is the last
+abbrev pub wide_at : ℕ → ℕ → Reader Entry → Reader Entry
+wide_at n i r bytes = if nat_lt i n then r bytes else Err (BadPool i)
+
+-- behind the tag of the entry at index i: numbers (4.4.4, 4.4.5)
+unfoldable pub value_at : ℕ → ℕ → ℕ → Reader Entry → Reader Entry
+value_at n i tag other rest =
+    if tag == 3
+    then map_at (signed_at w32) (λ value. Integer value) rest
+    else if tag == 4
+    then map_at (number_at w32) (λ bits. Float bits) rest
+    else if tag == 5
+    then wide_at n i (map_at (signed_at w64) (λ value. Long value)) rest
+    else if tag == 6
+    then wide_at n i (map_at (number_at w64) (λ bits. Double bits)) rest
+    else other rest
+
+-- one index (4.4.1, 4.4.3, 4.4.9)
+unfoldable pub index_at : ℕ → Reader Entry → Reader Entry
+index_at tag other rest =
+    if tag == 7
+    then map_at (number_at w16) (λ text. Class text) rest
+    else if tag == 8
+    then map_at (number_at w16) (λ text. String text) rest
+    else if tag == 16
+    then map_at (number_at w16) (λ descriptor. MethodType descriptor) rest
+    else other rest
+
+-- two indices (4.4.2, 4.4.6, 4.4.10)
+unfoldable pub pair_at : ℕ → Reader Entry → Reader Entry
+pair_at tag other rest =
+    if tag == 9
+    then map_at two_at (λ p. Fieldref p.0 p.1) rest
+    else if tag == 10
+    then map_at two_at (λ p. Methodref p.0 p.1) rest
+    else if tag == 11
+    then map_at two_at (λ p. InterfaceMethodref p.0 p.1) rest
+    else if tag == 12
+    then map_at two_at (λ p. NameAndType p.0 p.1) rest
+    else if tag == 18
+    then map_at two_at (λ p. InvokeDynamic p.0 p.1) rest
+    else other rest
+
+-- a text, a method handle, or none that there is (4.4.7, 4.4.8)
+unfoldable pub other_at : ℕ → ℕ → Reader Entry
+other_at i tag rest =
     if tag == 1
-    then map_at text_at (λ t. Utf8 t) rest
-    else if tag == 7
-    then map_at (number_at w16) (λ n. Class n) rest
+    then map_at text_at (λ text. Utf8 text) rest
+    else if tag == 15
+    then map_at handle_at (λ p. MethodHandle p.0 p.1) rest
     else Err (BadPool i)
+
+-- the entry at index i, of which n is the last
+unfoldable pub entry_at : ℕ → ℕ → Reader Entry
+entry_at n i [] = Err Truncated
+entry_at n i (tag ∷ rest) = value_at n i tag (index_at tag (pair_at tag (other_at i tag))) rest
+
+-- at an index and behind such an entry: the index behind a long or a double is unusable
+unfoldable pub slot_at : ℕ → ℕ × Bool → Reader Entry
+slot_at n place bytes = if place.1 then Ok (Unusable, bytes) else entry_at n place.0 bytes
+
+abbrev pub next_place : ℕ × Bool → Entry → ℕ × Bool
+next_place place e = (place.0 + 1, is_wide e)
 
 -- that many entries, the first of them at index 1
 unfoldable pub entries_at : ℕ → Reader (List Entry)
-entries_at n = many_at entry_at (λ i e. i + 1) n 1
+entries_at n = many_at (slot_at n) next_place n (1, false)
 
 unfoldable pub pool_at : Reader (List Entry)
 pool_at bytes = test_at (number_at w16) (λ n. nat_le 1 n) (BadPool 0) bytes >>= λ n. entries_at (n.0 - 1) n.1
@@ -84,13 +161,23 @@ unfoldable pub class_at : Reader (ℕ × (ℕ × ℕ))
 class_at = then_at (number_at w16) (λ flags. then_at (number_at w16) (λ this. number_at w16))
 
 unfoldable pub interfaces_at : Reader (List ℕ)
-interfaces_at = none_at BadSupertype
+interfaces_at = counted_at (number_at w16)
 
-unfoldable pub members_at : Reader (List Member)
-members_at = none_at BadMember
+-- a name, a length, and that many bytes (JVMS SE 8, 4.7)
+unfoldable pub attribute_at : Reader Attribute
+attribute_at = map_at (then_at (number_at w16) (λ name. sized_at w32)) (λ p. record { name_index = p.0; bytes = p.1 })
 
 unfoldable pub attributes_at : Reader (List Attribute)
-attributes_at = none_at BadMember
+attributes_at = counted_at attribute_at
+
+-- a field or a method (JVMS SE 8, 4.5, 4.6)
+unfoldable pub member_at : Reader Member
+member_at =
+    map_at (then_at (number_at w16) (λ flags. then_at (number_at w16) (λ name. then_at (number_at w16) (λ descriptor. attributes_at))))
+    (λ p. record { flags = p.0; name_index = p.1.0; descriptor_index = p.1.1.0; attributes = p.1.1.1 })
+
+unfoldable pub members_at : Reader (List Member)
+members_at = counted_at member_at
 
 -- the fields, the methods and the class's attributes
 unfoldable pub tables_at : Reader (List Member × (List Member × List Attribute))

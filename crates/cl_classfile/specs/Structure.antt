@@ -1,25 +1,17 @@
 -- What a class file is, and how it is spelled (JVMS SE 8, 4.1).
-use Rattle.std.specs.Prelude.{◌≡◌, ◌≢◌, ◌⊎◌, ◌≤◌, ℕ, zero, suc, ◌+◌, ◌<◌, ◌^◌, List, [], ◌∷◌, ◌++◌, length, take, drop, Option, Some, None, codes, slice_get}
+use Rattle.std.specs.Prelude.{◌≡◌, ◌≢◌, ◌⊎◌, ◌≤◌, IsTrue, IsFalse, ℕ, Bool, ◌+◌, ◌<◌, ◌^◌, false, List, [], ◌∷◌, ◌++◌, length, take, drop, Some, codes}
 use Rattle.std.specs.List.{flat_map, AllByRecursion}
-use Rattle.std.specs.Int.{w16, w32, to_be_bytes}
-use Rattle.cl_names.specs.Text.{IsModifiedUtf8}
+use Rattle.std.specs.Int.{w16, to_be_bytes}
 use Rattle.cl_names.specs.Kind.{IsNameOf, IsClass}
 use Rattle.cl_classfile.specs.declared.entry.Entry.{Entry}
-use Rattle.cl_classfile.specs.declared.entry.Entry.TheVariants.{Utf8, Class}
+use Rattle.cl_classfile.specs.declared.entry.Entry.TheVariants.{Class}
+use Rattle.cl_classfile.specs.Pool.{entry_spelling, EntryFits, AreSpaced, IsText, KeepsEntry}
+pub use Rattle.cl_classfile.specs.Pool.{at}
+use Rattle.cl_classfile.specs.Flags.{has, interface, is_class_flags}
+pub use Rattle.cl_classfile.specs.Members.{Attribute, Member, counted, attribute_spelling, member_spelling, AllFit, AttributeFits, MemberFits}
+use Rattle.cl_classfile.specs.Members.{KeepsField, KeepsMethod, KeepMembers}
 
 -- ---- the parts
-
--- an attribute: what it is called, and its bytes (4.7)
-pub record Attribute : Type 0 where
-  pub name_index : ℕ
-  pub bytes : List ℕ
-
--- a field or a method (4.5, 4.6)
-pub record Member : Type 0 where
-  pub flags : ℕ
-  pub name_index : ℕ
-  pub descriptor_index : ℕ
-  pub attributes : List Attribute
 
 -- a class file without its magic, its version and its counts, which are what they have to be (4.1)
 pub record Structure : Type 0 where
@@ -34,26 +26,9 @@ pub record Structure : Type 0 where
 
 -- ---- the one spelling of each
 
--- an entry of the pool: its tag, and what follows it (4.4)
-abbrev pub entry_spelling : Entry → List ℕ
-entry_spelling (Utf8 text) = 1 ∷ (to_be_bytes w16 (length text) ++ text)
-entry_spelling (Class name) = 7 ∷ to_be_bytes w16 name
-
--- how many there are, and each of them
-abbrev pub counted : {A : Type 0} → (A → List ℕ) → List A → List ℕ
-counted spell xs = to_be_bytes w16 (length xs) ++ flat_map spell xs
-
 -- the pool's count is one more than that of its entries (4.1)
 abbrev pub pool_spelling : List Entry → List ℕ
 pool_spelling pool = to_be_bytes w16 (length pool + 1) ++ flat_map entry_spelling pool
-
-abbrev pub attribute_spelling : Attribute → List ℕ
-attribute_spelling a = to_be_bytes w16 a.name_index ++ (to_be_bytes w32 (length a.bytes) ++ a.bytes)
-
-abbrev pub member_spelling : Member → List ℕ
-member_spelling m =
-    to_be_bytes w16 m.flags
-    ++ (to_be_bytes w16 m.name_index ++ (to_be_bytes w16 m.descriptor_index ++ counted attribute_spelling m.attributes))
 
 -- the magic, and version 52.0 as its minor and its major number
 abbrev pub magic : List ℕ
@@ -75,26 +50,9 @@ spelling f =
 
 -- ---- what the widths hold
 
-abbrev pub EntryFits : Entry → Type 0
-EntryFits (Utf8 text) = length text < 2 ^ 16
-EntryFits (Class name) = name < 2 ^ 16
-
--- as many as a count can say, and each of them fits
-abbrev pub AllFit : {A : Type 0} → (A → Type 0) → List A → Type 0
-AllFit Fits xs = (length xs < 2 ^ 16) × AllByRecursion Fits xs
-
-pub record AttributeFits (a : Attribute) : Type 0 where
-  pub name_index : a.name_index < 2 ^ 16
-  pub bytes : length a.bytes < 2 ^ 32
-
-pub record MemberFits (m : Member) : Type 0 where
-  pub flags : m.flags < 2 ^ 16
-  pub name_index : m.name_index < 2 ^ 16
-  pub descriptor_index : m.descriptor_index < 2 ^ 16
-  pub attributes : AllFit AttributeFits m.attributes
-
+-- the indices that a long or a double takes are there (4.4.5)
 abbrev pub PoolFits : List Entry → Type 0
-PoolFits pool = (length pool + 1 < 2 ^ 16) × AllByRecursion EntryFits pool
+PoolFits pool = (length pool + 1 < 2 ^ 16) × AllByRecursion EntryFits pool × AreSpaced false pool
 
 pub record Fits (f : Structure) : Type 0 where
   pub pool : PoolFits f.pool
@@ -108,55 +66,42 @@ pub record Fits (f : Structure) : Type 0 where
 
 -- ---- what the tables ask
 
--- what stands at an index, from 1 on (4.1)
-abbrev pub at : {A : Type 0} → List A → ℕ → Option A
-at pool zero = None
-at pool (suc i) = slice_get pool i
-
--- the entry at the index is this text
-abbrev pub IsText : List Entry → ℕ → List ℕ → Type 0
-IsText pool i text = at pool i ≡ Some (Utf8 text)
-
--- the entry at the index is a class of this name (4.4.1)
+-- the entry at the index is a class of this name, and no array (4.4.1)
 pub record NamesClass (pool : List Entry) (i : ℕ) (name : List ℕ) : Type 0 where
   pub index : ℕ
   pub is_entry : at pool i ≡ Some (Class index)
   pub named : IsText pool index name
+  pub is_name : IsNameOf IsClass name
 
 -- java/lang/Object
 abbrev pub object : List ℕ
 object = codes "java/lang/Object"
 
--- what the table of entries asks of each kind (4.4)
-abbrev pub KeepsEntry : List Entry → Entry → Type 0
-KeepsEntry pool (Utf8 text) = IsModifiedUtf8 text
-KeepsEntry pool (Class index) = (name : List ℕ) × IsText pool index name × IsNameOf IsClass name
+-- super_class is 0 exactly in java/lang/Object, which is no interface; of any other it is a class, and of an
+-- interface java/lang/Object (4.1)
+abbrev pub KeepsSuper : List Entry → Bool → List ℕ → ℕ → Type 0
+KeepsSuper pool of_interface name super =
+    ((name ≡ object) × IsFalse of_interface × (super ≡ 0)) ⊎ ((name ≡ object → ⊥) × (above : List ℕ) × NamesClass pool super above × (IsTrue of_interface → above ≡ object))
 
--- super_class is 0 exactly in java/lang/Object, and else a class (4.1)
-abbrev pub KeepsSuper : List Entry → List ℕ → ℕ → Type 0
-KeepsSuper pool name super = ((name ≡ object) × (super ≡ 0)) ⊎ ((name ≡ object → ⊥) × (above : List ℕ) × NamesClass pool super above)
+-- an interface of the class is a class of the pool (4.1)
+abbrev pub KeepsInterface : List Entry → ℕ → Type 0
+KeepsInterface pool i = (name : List ℕ) × NamesClass pool i name
 
--- the file keeps the tables of entries, this_class and super_class; within the bound below those of flags,
--- interfaces and members ask for nothing more
+-- the file keeps the tables of entries, flags, supertypes and members
 pub record Keeps (f : Structure) : Type 0 where
   pub pool : AllByRecursion (KeepsEntry f.pool) f.pool
+  pub flags : IsTrue (is_class_flags f.flags)
   pub name : List ℕ
   pub this_class : NamesClass f.pool f.this_class name
-  pub super_class : KeepsSuper f.pool name f.super_class
-
--- what is read so far: a public class that is not final, with no interface, member or attribute
-pub record IsNarrow (f : Structure) : Type 0 where
-  pub flags : f.flags ≡ 33
-  pub interfaces : f.interfaces ≡ []
-  pub fields : f.fields ≡ []
-  pub methods : f.methods ≡ []
-  pub attributes : f.attributes ≡ []
+  pub super_class : KeepsSuper f.pool (has f.flags interface) name f.super_class
+  pub interfaces : AllByRecursion (KeepsInterface f.pool) f.interfaces
+  pub fields : KeepMembers (KeepsField f.pool (has f.flags interface)) f.pool f.fields
+  pub methods : KeepMembers (KeepsMethod f.pool (has f.flags interface)) f.pool f.methods
 
 -- what a class file that was read is
 pub record IsClassFile (f : Structure) : Type 0 where
   pub fits : Fits f
   pub kept : Keeps f
-  pub narrow : IsNarrow f
 
 -- the bytes spell the file, which keeps the tables
 pub record Spells (bytes : List ℕ) (f : Structure) : Type 0 where

@@ -1,5 +1,4 @@
 -- A class file without where it lies in memory.
-use Rattle.std.specs.Prelude.{[]}
 use Rattle.cl_classfile.specs.declared.file.ClassFile.TheInside.{Inside}
 use Rattle.cl_classfile.specs.Structure.{Structure}
 
@@ -10,7 +9,7 @@ structure f = record {
   this_class = f.this_class;
   super_class = f.super_class;
   interfaces = f.interfaces.items;
-  fields = [];
-  methods = [];
-  attributes = [];
+  fields = f.fields.items;
+  methods = f.methods.items;
+  attributes = f.attributes.items;
 }

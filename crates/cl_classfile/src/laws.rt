@@ -1,7 +1,6 @@
 //! Laws of the grammar, each the contract of a function that does nothing.
-ghost use Rattle.std.specs.Prelude.{◌≡◌, ℕ, List, [], Ok};
+ghost use Rattle.std.specs.Prelude.{◌≡◌, ℕ, List};
 ghost use Rattle.cl_classfile.specs.Structure.{Structure, Fits, Keeps, Spells};
-ghost use Rattle.cl_classfile.specs.Reading.{read_of};
 
 /// Bytes spell at most one class file.
 pub fn spells_one_file()
@@ -12,9 +11,4 @@ pub fn spells_one_file()
 pub fn has_one_spelling()
     ensures some { (f : Structure) → Fits f → Keeps f → (bytes : List ℕ) × Spells bytes f }
     ensures one { (f : Structure) (bytes other : List ℕ) → Spells bytes f → Spells other f → bytes ≡ other }
-{}
-
-/// What is read so far is a public class without interfaces, whatever is read.
-pub fn reads_public_classes()
-    ensures { (bytes : List ℕ) (f : Structure) → read_of bytes ≡ Ok f → (f.flags ≡ 33) × (f.interfaces ≡ []) }
 {}

@@ -1,17 +1,32 @@
 //! Class files: their parts, and reading them from bytes (JVMS SE 8, chapter 4).
 #![tactic(auto)]
 
+mod attribute;
 mod checking;
 mod entry;
 mod fault;
 mod file;
+mod flags;
 mod laws;
+mod member;
+mod members;
+mod pool;
+mod raw;
 mod reading;
+mod reference;
+mod rows;
+mod text;
+mod traits;
 
+pub use attribute::Attribute;
 pub use entry::Entry;
 pub use fault::{Fault, ReadError};
 pub use file::{ClassFile, read};
 pub use laws::{has_one_spelling, spells_one_file};
+pub use member::Member;
+pub use reference::{Reference, Symbol};
 
+#[cfg(test)]
+mod pool_tests;
 #[cfg(test)]
 mod tests;

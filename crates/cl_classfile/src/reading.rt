@@ -1,21 +1,18 @@
-ghost use Rattle.std.specs.Prelude.{◌≡◌, ◌+◌, ◌<◌, ◌^◌, List, [], length, IfOk, IsErrOf};
+ghost use Rattle.std.specs.Prelude.{◌≡◌, ◌+◌, ◌<◌, ◌^◌, List, length, IfOk, IsErrOf};
 ghost use Rattle.std.specs.Int.{w16, w32};
 ghost use Rattle.cl_classfile.specs.declared.fault.Fault.{Fault};
 ghost use Rattle.cl_classfile.specs.declared.fault.ReadError.TheVariants as errors;
 ghost use Rattle.cl_classfile.specs.Structure.{Fits};
 ghost use Rattle.cl_classfile.specs.Checking.{Finds, Gives};
-ghost use Rattle.cl_classfile.specs.Reading.{number_at, bytes_at, zero_at, magic_at, version_at, header_at, text_at, entry_at, entries_at, pool_at, class_at, interfaces_at, tables_at, structure_at, whole_of};
-ghost use Rattle.cl_classfile.specs.Raw.{plain_entry, plain_entries, plain_file};
+ghost use Rattle.cl_classfile.specs.Reading.{number_at, bytes_at, each_at, magic_at, version_at, header_at, class_at, interfaces_at, attribute_at, attributes_at, member_at, members_at, tables_at, structure_at, whole_of};
+ghost use Rattle.cl_classfile.specs.Raw.{plain_file};
 
+use crate::attribute::Attribute;
 use crate::fault::{Fault, ReadError};
+use crate::member::Member;
+use crate::pool::pool_at;
+use crate::raw::RawEntry;
 use std::alloc::Global;
-
-/// An entry as it is read, before it is looked at.
-#[derive(Clone, Copy)]
-pub enum RawEntry<'a> {
-    Utf8(&'a [u8]),
-    Class(u16),
-}
 
 /// A file as it is read, before it is looked at.
 #[derive(Drop)]
@@ -24,9 +21,13 @@ pub struct RawFile<'a> {
     pub flags: u16,
     pub this_class: u16,
     pub super_class: u16,
+    pub interfaces: Vec<u16>,
+    pub fields: Vec<Member>,
+    pub methods: Vec<Member>,
+    pub attributes: Vec<Attribute>,
 }
 
-fn u16_at(bytes: &[u8]) -> Result<(u16, &[u8]), Fault>
+pub fn u16_at(bytes: &[u8]) -> Result<(u16, &[u8]), Fault>
     ensures { Finds (λ x. (x.0, x.1.now)) result (number_at w16 bytes.now) }
 {
     if bytes.len() < 2 {
@@ -37,7 +38,7 @@ fn u16_at(bytes: &[u8]) -> Result<(u16, &[u8]), Fault>
     Ok((number, rest))
 }
 
-fn u32_at(bytes: &[u8]) -> Result<(u32, &[u8]), Fault>
+pub fn u32_at(bytes: &[u8]) -> Result<(u32, &[u8]), Fault>
     ensures { Finds (λ x. (x.0, x.1.now)) result (number_at w32 bytes.now) }
 {
     if bytes.len() < 4 {
@@ -48,81 +49,13 @@ fn u32_at(bytes: &[u8]) -> Result<(u32, &[u8]), Fault>
     Ok((number, rest))
 }
 
-fn bytes_at(count: usize, bytes: &[u8]) -> Result<(&[u8], &[u8]), Fault>
+pub fn bytes_at(count: usize, bytes: &[u8]) -> Result<(&[u8], &[u8]), Fault>
     ensures { Finds (λ x. (x.0.now, x.1.now)) result (bytes_at count bytes.now) }
 {
     if bytes.len() < count {
         return Err(Fault::Truncated);
     }
     Ok(bytes.split_at(count))
-}
-
-/// A count that has to be 0.
-fn zero_at(fault: Fault, bytes: &[u8]) -> Result<&[u8], Fault>
-    ensures { Finds (λ x. (0, x.now)) result (zero_at fault bytes.now) }
-{
-    let (count, rest) = u16_at(bytes)?;
-    if count != 0 {
-        return Err(fault);
-    }
-    Ok(rest)
-}
-
-#[tactic(auto, unfolding(crate::specs::Reading::text_at))]
-fn text_at(bytes: &[u8]) -> Result<(&[u8], &[u8]), Fault>
-    ensures { Finds (λ x. (x.0.now, x.1.now)) result (text_at bytes.now) }
-{
-    let (count, rest) = u16_at(bytes)?;
-    bytes_at(count as usize, rest)
-}
-
-#[tactic(auto, unfolding(crate::specs::Reading::entry_at))]
-fn entry_at(index: u16, bytes: &[u8]) -> Result<(RawEntry<'_>, &[u8]), Fault>
-    ensures { Finds (λ x. (plain_entry x.0, x.1.now)) result (entry_at index bytes.now) }
-{
-    let [tag, rest @ ..] = bytes else {
-        return Err(Fault::Truncated);
-    };
-    match *tag {
-        1 => {
-            let (text, rest) = text_at(rest)?;
-            Ok((RawEntry::Utf8(text), rest))
-        }
-        7 => {
-            let (name, rest) = u16_at(rest)?;
-            Ok((RawEntry::Class(name), rest))
-        }
-        _ => Err(Fault::BadPool(index)),
-    }
-}
-
-fn entries_at(
-    alloc: Global,
-    count: u16,
-    bytes: &[u8],
-) -> Result<(Vec<RawEntry<'_>>, &[u8]), ReadError>
-    requires { count + 1 < 2 ^ 16 }
-    ensures { Gives (λ x. (plain_entries x.0.items, x.1.now)) result (entries_at count bytes.now) }
-{
-    let mut entries = Vec::new(alloc);
-    let mut rest = bytes;
-    for i in 0..count {
-        let (entry, after) = entry_at(i + 1, rest)?;
-        entries.push(entry)?;
-        rest = after;
-    }
-    Ok((entries, rest))
-}
-
-#[tactic(auto, unfolding(crate::specs::Reading::pool_at))]
-fn pool_at(alloc: Global, bytes: &[u8]) -> Result<(Vec<RawEntry<'_>>, &[u8]), ReadError>
-    ensures { Gives (λ x. (plain_entries x.0.items, x.1.now)) result (pool_at bytes.now) }
-{
-    let (count, rest) = u16_at(bytes)?;
-    if count == 0 {
-        return Err(ReadError::Fault(Fault::BadPool(0)));
-    }
-    entries_at(alloc, count - 1, rest)
 }
 
 #[tactic(auto, unfolding(crate::specs::Reading::magic_at))]
@@ -157,6 +90,19 @@ fn header_at(bytes: &[u8]) -> Result<((u32, (u16, u16)), &[u8]), Fault>
     Ok(((magic, version), rest))
 }
 
+fn numbers_at(alloc: Global, count: u16, bytes: &[u8]) -> Result<(Vec<u16>, &[u8]), ReadError>
+    ensures { Gives (λ x. (x.0.items, x.1.now)) result (each_at (number_at w16) count bytes.now) }
+{
+    let mut numbers = Vec::new(alloc);
+    let mut rest = bytes;
+    for i in 0..count {
+        let (number, after) = u16_at(rest)?;
+        numbers.push(number)?;
+        rest = after;
+    }
+    Ok((numbers, rest))
+}
+
 #[tactic(auto, unfolding(crate::specs::Reading::class_at))]
 fn class_at(bytes: &[u8]) -> Result<((u16, (u16, u16)), &[u8]), Fault>
     ensures { Finds (λ x. (x.0, x.1.now)) result (class_at bytes.now) }
@@ -168,19 +114,103 @@ fn class_at(bytes: &[u8]) -> Result<((u16, (u16, u16)), &[u8]), Fault>
 }
 
 #[tactic(auto, unfolding(crate::specs::Reading::interfaces_at))]
-fn interfaces_at(bytes: &[u8]) -> Result<&[u8], Fault>
-    ensures { Finds (λ x. ([], x.now)) result (interfaces_at bytes.now) }
+fn interfaces_at(alloc: Global, bytes: &[u8]) -> Result<(Vec<u16>, &[u8]), ReadError>
+    ensures { Gives (λ x. (x.0.items, x.1.now)) result (interfaces_at bytes.now) }
 {
-    zero_at(Fault::BadSupertype, bytes)
+    let (count, rest) = u16_at(bytes)?;
+    numbers_at(alloc, count, rest)
 }
 
-#[tactic(auto, unfolding(crate::specs::Reading::tables_at, crate::specs::Reading::members_at, crate::specs::Reading::attributes_at))]
-fn tables_at(bytes: &[u8]) -> Result<&[u8], Fault>
-    ensures { Finds (λ x. (([], ([], [])), x.now)) result (tables_at bytes.now) }
+#[tactic(auto, unfolding(crate::specs::Reading::attribute_at))]
+fn attribute_at(alloc: Global, bytes: &[u8]) -> Result<(Attribute, &[u8]), ReadError>
+    ensures { Gives (λ x. (x.0, x.1.now)) result (attribute_at bytes.now) }
 {
-    let rest = zero_at(Fault::BadMember, bytes)?;
-    let rest = zero_at(Fault::BadMember, rest)?;
-    zero_at(Fault::BadMember, rest)
+    let (name_index, rest) = u16_at(bytes)?;
+    let (count, rest) = u32_at(rest)?;
+    let (content, rest) = bytes_at(count as usize, rest)?;
+    let attribute = Attribute::copied(alloc, name_index, content)?;
+    Ok((attribute, rest))
+}
+
+fn each_attribute(
+    alloc: Global,
+    count: u16,
+    bytes: &[u8],
+) -> Result<(Vec<Attribute>, &[u8]), ReadError>
+    ensures { Gives (λ x. (x.0.items, x.1.now)) result (each_at attribute_at count bytes.now) }
+{
+    let mut attributes = Vec::new(alloc);
+    let mut rest = bytes;
+    for i in 0..count {
+        let (attribute, after) = attribute_at(alloc, rest)?;
+        attributes.push(attribute)?;
+        rest = after;
+    }
+    Ok((attributes, rest))
+}
+
+#[tactic(auto, unfolding(crate::specs::Reading::attributes_at))]
+fn attributes_at(alloc: Global, bytes: &[u8]) -> Result<(Vec<Attribute>, &[u8]), ReadError>
+    ensures { Gives (λ x. (x.0.items, x.1.now)) result (attributes_at bytes.now) }
+{
+    let (count, rest) = u16_at(bytes)?;
+    each_attribute(alloc, count, rest)
+}
+
+#[tactic(auto, unfolding(crate::specs::Reading::member_at))]
+fn member_at(alloc: Global, bytes: &[u8]) -> Result<(Member, &[u8]), ReadError>
+    ensures { Gives (λ x. (x.0, x.1.now)) result (member_at bytes.now) }
+{
+    let (flags, rest) = u16_at(bytes)?;
+    let (name_index, rest) = u16_at(rest)?;
+    let (descriptor_index, rest) = u16_at(rest)?;
+    let (attributes, rest) = attributes_at(alloc, rest)?;
+    let member = Member::new(flags, name_index, descriptor_index, attributes);
+    Ok((member, rest))
+}
+
+fn each_member(alloc: Global, count: u16, bytes: &[u8]) -> Result<(Vec<Member>, &[u8]), ReadError>
+    ensures { Gives (λ x. (x.0.items, x.1.now)) result (each_at member_at count bytes.now) }
+{
+    let mut members = Vec::new(alloc);
+    let mut rest = bytes;
+    for i in 0..count {
+        let (member, after) = member_at(alloc, rest)?;
+        members.push(member)?;
+        rest = after;
+    }
+    Ok((members, rest))
+}
+
+#[tactic(auto, unfolding(crate::specs::Reading::members_at))]
+fn members_at(alloc: Global, bytes: &[u8]) -> Result<(Vec<Member>, &[u8]), ReadError>
+    ensures { Gives (λ x. (x.0.items, x.1.now)) result (members_at bytes.now) }
+{
+    let (count, rest) = u16_at(bytes)?;
+    each_member(alloc, count, rest)
+}
+
+/// The fields, the methods and the class's attributes.
+#[derive(Drop)]
+struct Tables {
+    fields: Vec<Member>,
+    methods: Vec<Member>,
+    attributes: Vec<Attribute>,
+}
+
+#[tactic(auto, unfolding(crate::specs::Reading::tables_at))]
+fn tables_at(alloc: Global, bytes: &[u8]) -> Result<(Tables, &[u8]), ReadError>
+    ensures { Gives (λ x. ((x.0.fields.items, (x.0.methods.items, x.0.attributes.items)), x.1.now)) result (tables_at bytes.now) }
+{
+    let (fields, rest) = members_at(alloc, bytes)?;
+    let (methods, rest) = members_at(alloc, rest)?;
+    let (attributes, rest) = attributes_at(alloc, rest)?;
+    let tables = Tables {
+        fields,
+        methods,
+        attributes,
+    };
+    Ok((tables, rest))
 }
 
 #[tactic(auto, unfolding(crate::specs::Reading::structure_at, crate::specs::Reading::parts_at))]
@@ -191,13 +221,17 @@ fn structure_at(alloc: Global, bytes: &[u8]) -> Result<(RawFile<'_>, &[u8]), Rea
     let (_, rest) = header_at(bytes)?;
     let (pool, rest) = pool_at(alloc, rest)?;
     let ((flags, (this_class, super_class)), rest) = class_at(rest)?;
-    let rest = interfaces_at(rest)?;
-    let rest = tables_at(rest)?;
+    let (interfaces, rest) = interfaces_at(alloc, rest)?;
+    let (tables, rest) = tables_at(alloc, rest)?;
     let file = RawFile {
         pool,
         flags,
         this_class,
         super_class,
+        interfaces,
+        fields: tables.fields,
+        methods: tables.methods,
+        attributes: tables.attributes,
     };
     Ok((file, rest))
 }

@@ -5,3 +5,4 @@ pub mod Loop
 pub mod Methods
 pub mod Outcomes
 pub mod Equality
+pub mod Forms

@@ -1,8 +1,10 @@
 -- What reading bytes as a descriptor may answer: which of these it is, the bytes say, but for want of memory (JVMS SE 8, 4.3).
-use Rattle.std.specs.Prelude.{◌≡◌, ℕ, IsTrue, IsFalse, IsOk, List, Result, Ok, Err}
-use Rattle.cl_descriptors.specs.Types.{SpellsField, SpellsMethod, is_shallow, are_shallow, is_short}
+use Rattle.std.specs.Prelude.{◌≡◌, ◌≢◌, ℕ, IsTrue, IsFalse, IsOk, IsSome, List, Option, Some, None, Result, Ok, Err}
+use Rattle.cl_descriptors.specs.Types.{SpellsField, SpellsMethod, is_shallow, are_shallow, is_short, units_of_method}
 use Rattle.cl_descriptors.specs.declared.types.FieldType.{FieldType}
 use Rattle.cl_descriptors.specs.declared.types.MethodType.{MethodType}
+use Rattle.cl_descriptors.specs.declared.types.Form.{Form}
+use Rattle.cl_descriptors.specs.declared.types.Form.TheVariants.{Plain, Array, Method, Void}
 use Rattle.cl_descriptors.specs.declared.types.DescriptorFault.{DescriptorFault}
 use Rattle.cl_descriptors.specs.declared.types.DescriptorFault.TheVariants.{Memory, Malformed, TooManyDimensions, TooManyUnits}
 
@@ -37,3 +39,24 @@ Gives (Err Malformed) reading = reading ≡ Err Malformed
 Gives (Err TooManyDimensions) reading = reading ≡ Err TooManyDimensions
 Gives (Err TooManyUnits) reading = reading ≡ Err TooManyUnits
 Gives (Err Memory) reading = IsOk reading
+
+-- a field type, a method type within the limits
+pub record IsFieldType (t : FieldType) : Type 0 where
+  pub shallow : IsTrue (is_shallow t)
+
+pub record IsMethodType (m : MethodType) : Type 0 where
+  pub shallow : IsTrue (are_shallow m)
+  pub short : IsTrue (is_short m)
+
+-- the form says what the bytes are the descriptor of, if of anything
+abbrev pub FormOf : List ℕ → Option Form → Type 0
+FormOf bytes None = (IsField bytes IsFieldType → ⊥) × (IsMethod bytes IsMethodType → ⊥)
+FormOf bytes (Some Plain) = IsField bytes (λ t. IsFieldType t × (t.dims ≡ 0))
+FormOf bytes (Some Array) = IsField bytes (λ t. IsFieldType t × (t.dims ≢ 0))
+FormOf bytes (Some Method) = IsMethod bytes (λ m. IsMethodType m × IsSome m.ret)
+FormOf bytes (Some Void) = IsMethod bytes (λ m. IsMethodType m × (m.ret ≡ None))
+
+-- the units of the parameters, if the bytes are the descriptor of a method
+abbrev pub UnitsOf : List ℕ → Option ℕ → Type 0
+UnitsOf bytes None = IsMethod bytes IsMethodType → ⊥
+UnitsOf bytes (Some n) = IsMethod bytes (λ m. IsMethodType m × (units_of_method m ≡ n))

@@ -1,11 +1,15 @@
 -- Reading descriptors from left to right (JVMS SE 8, 4.3).
-use Rattle.std.specs.Prelude.{ℕ, zero, suc, ◌+◌, ◌==◌, ◌&&◌, Bool, false, not, if◌then◌else◌, List, [], ◌∷◌, length, take, drop, position, Option, Some, None, option_map, option_and_then, Result, Ok, Err}
+use Rattle.std.specs.Prelude.{ℕ, zero, suc, ◌+◌, ◌==◌, ◌&&◌, Bool, false, not, if◌then◌else◌, List, [], ◌∷◌, length, take, drop, position, Option, Some, None, option_map, option_and_then, is_some, Result, Ok, Err}
+use Rattle.std.specs.Option.{option_or}
 use Rattle.cl_names.specs.Kind.{is_class_name}
-use Rattle.cl_descriptors.specs.Types.{is_shallow, are_shallow, is_short}
+use Rattle.std.specs.Result.{result_ok}
+use Rattle.cl_descriptors.specs.Types.{is_shallow, are_shallow, is_short, units_of_method}
 use Rattle.cl_descriptors.specs.declared.types.Base.{Base}
 use Rattle.cl_descriptors.specs.declared.types.Base.TheVariants.{Byte, Char, Double, Float, Int, Long, Short, Boolean, Class}
 use Rattle.cl_descriptors.specs.declared.types.FieldType.{FieldType}
 use Rattle.cl_descriptors.specs.declared.types.MethodType.{MethodType}
+use Rattle.cl_descriptors.specs.declared.types.Form.{Form}
+use Rattle.cl_descriptors.specs.declared.types.Form.TheVariants as forms
 use Rattle.cl_descriptors.specs.declared.types.DescriptorFault.{DescriptorFault}
 use Rattle.cl_descriptors.specs.declared.types.DescriptorFault.TheVariants.{Malformed, TooManyDimensions, TooManyUnits}
 
@@ -103,3 +107,21 @@ field_of bytes = within_field (whole_field bytes)
 -- the method type that the bytes are the descriptor of, or why they are none (JVMS SE 8, 4.3.3)
 unfoldable pub method_of : List ℕ → Result MethodType DescriptorFault
 method_of bytes = within_method (whole_method bytes)
+
+-- what a field type is
+abbrev pub field_form : Result FieldType DescriptorFault → Option Form
+field_form (Err f) = None
+field_form (Ok t) = if t.dims == 0 then Some forms.Plain else Some forms.Array
+
+-- whether a method type returns something
+abbrev pub method_form : Result MethodType DescriptorFault → Option Form
+method_form (Err f) = None
+method_form (Ok m) = if is_some m.ret then Some forms.Method else Some forms.Void
+
+-- the form of the descriptor that the bytes are
+unfoldable pub form_of : List ℕ → Option Form
+form_of bytes = option_or (field_form (field_of bytes)) (method_form (method_of bytes))
+
+-- how many units the parameters count of the method descriptor that the bytes are
+unfoldable pub units_of : List ℕ → Option ℕ
+units_of bytes = option_map units_of_method (result_ok (method_of bytes))

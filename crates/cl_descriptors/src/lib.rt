@@ -12,5 +12,5 @@ mod tests;
 mod types;
 
 pub use laws::{equal_types_are_the_same, one_field_spelling, one_method_spelling};
-pub use reading::{read_field, read_method};
-pub use types::{Base, Descriptor, DescriptorFault, FieldType, MethodType, Params};
+pub use reading::{form_of, read_field, read_method, units_of};
+pub use types::{Base, Descriptor, DescriptorFault, FieldType, Form, MethodType, Params};

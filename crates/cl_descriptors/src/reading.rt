@@ -5,11 +5,11 @@ ghost use Rattle.std.specs.List.{list_all};
 ghost use Rattle.cl_descriptors.specs.Types.{SpellsField, SpellsMethod, AreNamed, is_shallow, are_shallow, is_short};
 ghost use Rattle.cl_descriptors.specs.Units.{units_of_field};
 ghost use Rattle.cl_descriptors.specs.Pieces.{seen, outlined, IsCounted};
-ghost use Rattle.cl_descriptors.specs.Reading.{all_types, whole_method, within_field, within_method, field_of, method_of};
-ghost use Rattle.cl_descriptors.specs.Answers.{FieldOf, MethodOf, Gives};
+ghost use Rattle.cl_descriptors.specs.Reading.{all_types, whole_method, within_field, within_method, field_of, method_of, field_form, method_form, form_of, units_of};
+ghost use Rattle.cl_descriptors.specs.Answers.{FieldOf, MethodOf, FormOf, UnitsOf, Gives};
 
 use crate::piece::{Piece, field_at, whole_field, whole_return};
-use crate::types::{DescriptorFault, FieldType, MethodType, Params};
+use crate::types::{DescriptorFault, FieldType, Form, MethodType, Params};
 use std::alloc::{AllocError, Global};
 
 /// What a list of types counts for the limits.
@@ -183,4 +183,73 @@ pub fn read_method(alloc: Global, bytes: &[u8]) -> Result<MethodType, Descriptor
     ensures exact { Gives result (method_of bytes.now) }
 {
     method_of(alloc, bytes)
+}
+
+#[tactic(auto, unfolding(crate::specs::Reading::field_of))]
+fn field_form(bytes: &[u8]) -> Option<Form>
+    ensures { result ≡ field_form (field_of bytes.now) }
+{
+    let piece = whole_field(bytes)?;
+    if !piece.is_shallow() {
+        return None;
+    }
+    if piece.dims == 0 {
+        Some(Form::Plain)
+    } else {
+        Some(Form::Array)
+    }
+}
+
+#[tactic(auto, unfolding(crate::specs::Reading::method_of))]
+fn method_form(bytes: &[u8]) -> Option<Form>
+    ensures { result ≡ method_form (method_of bytes.now) }
+{
+    let outline = outline_of(bytes)?;
+    if !outline.is_shallow() || !outline.is_short() {
+        return None;
+    }
+    match outline.ret {
+        Some(_) => Some(Form::Method),
+        None => Some(Form::Void),
+    }
+}
+
+#[tactic(auto, unfolding(crate::specs::Reading::form_of))]
+fn either_form(bytes: &[u8]) -> Option<Form>
+    ensures { result ≡ form_of bytes.now }
+{
+    match field_form(bytes) {
+        Some(form) => Some(form),
+        None => method_form(bytes),
+    }
+}
+
+/// Which form of descriptor the bytes have, if they are one within the limits. It takes no memory (JVMS SE 8, 4.3).
+#[tactic(auto, using(crate::proofs::Forms::form_says))]
+pub fn form_of(bytes: &[u8]) -> Option<Form>
+    ensures grammar { FormOf bytes.now result }
+    ensures exact { result ≡ form_of bytes.now }
+{
+    either_form(bytes)
+}
+
+#[tactic(auto, unfolding(crate::specs::Reading::method_of, crate::specs::Reading::units_of))]
+fn parameter_units(bytes: &[u8]) -> Option<usize>
+    ensures { result ≡ units_of bytes.now }
+{
+    let outline = outline_of(bytes)?;
+    if !outline.is_shallow() || !outline.is_short() {
+        return None;
+    }
+    Some(outline.tally.units)
+}
+
+/// How many units the parameters count, if the bytes are a method descriptor within the limits. It takes no memory
+/// (JVMS SE 8, 4.3.3).
+#[tactic(auto, using(crate::proofs::Forms::units_say))]
+pub fn units_of(bytes: &[u8]) -> Option<usize>
+    ensures grammar { UnitsOf bytes.now result }
+    ensures exact { result ≡ units_of bytes.now }
+{
+    parameter_units(bytes)
 }

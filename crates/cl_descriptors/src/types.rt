@@ -203,6 +203,19 @@ pub enum Descriptor {
     Method(MethodType),
 }
 
+/// What a descriptor is of (JVMS SE 8, 4.3.2, 4.3.3).
+#[derive(Clone, Copy, Debug, PartialEq, Eq)]
+pub enum Form {
+    /// A field type that is no array.
+    Plain,
+    /// An array type.
+    Array,
+    /// A method that returns something.
+    Method,
+    /// A method that returns nothing.
+    Void,
+}
+
 /// Why bytes could not be read as a descriptor.
 #[derive(Clone, Copy, Debug, PartialEq, Eq, Error)]
 pub enum DescriptorFault {

@@ -2,6 +2,7 @@
 ghost use Rattle.std.specs.Prelude.{◌≡◌, ◌≤◌, MatchBool, length, take};
 ghost use Rattle.cl_names.specs.Kind.{IsClass, IsMethod, IsUnqualified, IsNameOf, is_name_of, is_class_name, is_method_name, is_unqualified_name, package_of};
 ghost use Rattle.cl_names.specs.Form.{completes, FormOf};
+ghost use Rattle.cl_names.specs.Text.{is_text};
 
 use crate::form::Form;
 use crate::text::take_unit;
@@ -62,6 +63,13 @@ pub fn is_method_name(bytes: &[u8]) -> bool
     ensures test { result ≡ is_method_name bytes.now }
 {
     is_name(bytes, Form::Method { fresh: true })
+}
+
+/// Whether the bytes are modified UTF-8 (JVMS SE 8, 4.4.7).
+pub fn is_modified_utf8(bytes: &[u8]) -> bool
+    ensures { result ≡ is_text bytes.now }
+{
+    read_form(bytes, Form::Any).is_some()
 }
 
 /// How many bytes stand before the last `/`.

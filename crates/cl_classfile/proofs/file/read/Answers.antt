@@ -8,7 +8,7 @@ pub returns-clause-found : goal.returns-clause-found
 returns-clause-found c = is_found c.args.bytes.now c.read_of.result (λ i. omega (arith, c.type_inv.bytes i)) c.read_of.ensures.exact
 
 pub returns-clause-only : goal.returns-clause-only
-returns-clause-only c = λ f s n. is_only c.args.bytes.now c.read_of.result f c.read_of.ensures.exact s n
+returns-clause-only c = λ f s. is_only c.args.bytes.now c.read_of.result f c.read_of.ensures.exact s
 
 pub returns-clause-magic : goal.returns-clause-magic
 returns-clause-magic c =

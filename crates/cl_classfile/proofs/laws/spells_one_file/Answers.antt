@@ -1,4 +1,4 @@
-use Rattle.cl_classfile.proofs.Whole.{one_file}
+use Rattle.cl_classfile.proofs.Exact.{one_file}
 use Rattle.cl_classfile.proofs.laws.spells_one_file.Goals as goal
 
 pub returns : goal.returns

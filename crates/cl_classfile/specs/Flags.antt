@@ -1,0 +1,104 @@
+-- The tables of flags (JVMS SE 8, 4.1, 4.5, 4.6); a bit that a table does not name may be set.
+use Rattle.std.specs.Prelude.{ℕ, ◌/◌, ◌%◌, Bool, not, ◌&&◌, ◌||◌, ◌==◌, if◌then◌else◌}
+
+-- flags have this bit
+abbrev pub has : ℕ → ℕ → Bool
+has flags bit = flags / bit % 2 == 1
+
+-- ---- the bits, by their names in the tables 4.1-A, 4.5-A and 4.6-A
+
+abbrev pub public : ℕ
+public = 1
+
+abbrev pub private : ℕ
+private = 2
+
+abbrev pub protected : ℕ
+protected = 4
+
+abbrev pub static : ℕ
+static = 8
+
+abbrev pub final : ℕ
+final = 16
+
+abbrev pub super : ℕ
+super = 32
+
+abbrev pub synchronized : ℕ
+synchronized = 32
+
+abbrev pub volatile : ℕ
+volatile = 64
+
+abbrev pub bridge : ℕ
+bridge = 64
+
+abbrev pub transient : ℕ
+transient = 128
+
+abbrev pub native : ℕ
+native = 256
+
+abbrev pub interface : ℕ
+interface = 512
+
+abbrev pub abstract : ℕ
+abstract = 1024
+
+abbrev pub strict : ℕ
+strict = 2048
+
+abbrev pub annotation : ℕ
+annotation = 8192
+
+abbrev pub enum : ℕ
+enum = 16384
+
+-- ---- classes
+
+-- an interface is abstract, and not final, super or an enum (4.1)
+abbrev pub is_interface_flags : ℕ → Bool
+is_interface_flags flags = has flags abstract && not (has flags final) && not (has flags super) && not (has flags enum)
+
+-- a class that is no interface is no annotation, and not both final and abstract (4.1)
+abbrev pub is_plain_flags : ℕ → Bool
+is_plain_flags flags = not (has flags annotation) && not (has flags final && has flags abstract)
+
+abbrev pub is_class_flags : ℕ → Bool
+is_class_flags flags = if has flags interface then is_interface_flags flags else is_plain_flags flags
+
+-- ---- members
+
+-- at most one of public, private and protected (4.5, 4.6)
+abbrev pub has_one_access : ℕ → Bool
+has_one_access flags = not (has flags public && has flags private) && not (has flags public && has flags protected) && not (has flags private && has flags protected)
+
+-- a field of an interface is public, static and final, and of the others synthetic at most (4.5)
+abbrev pub is_constant_flags : ℕ → Bool
+is_constant_flags flags =
+    has flags public && has flags static && has flags final
+    && not (has flags private || has flags protected || has flags volatile || has flags transient || has flags enum)
+
+-- a field is not both final and volatile (4.5)
+abbrev pub is_field_flags : Bool → ℕ → Bool
+is_field_flags of_interface flags = if of_interface then is_constant_flags flags else has_one_access flags && not (has flags final && has flags volatile)
+
+-- an abstract method is none of these (4.6)
+abbrev pub may_be_abstract : ℕ → Bool
+may_be_abstract flags =
+    not (has flags private || has flags static || has flags final || has flags synchronized || has flags native || has flags strict)
+
+-- a method of an interface is public or private, and none of these (4.6)
+abbrev pub may_be_of_interface : ℕ → Bool
+may_be_of_interface flags =
+    (has flags public || has flags private) && not (has flags protected || has flags final || has flags synchronized || has flags native)
+
+abbrev pub is_method_flags : Bool → ℕ → Bool
+is_method_flags of_interface flags =
+    has_one_access flags && (not (has flags abstract) || may_be_abstract flags) && (not of_interface || may_be_of_interface flags)
+
+-- what makes an instance is none of these (4.6)
+abbrev pub is_init_flags : ℕ → Bool
+is_init_flags flags =
+    not (has flags static || has flags final || has flags synchronized || has flags bridge || has flags native || has flags abstract)

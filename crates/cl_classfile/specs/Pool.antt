@@ -1,0 +1,163 @@
+-- The entries of the pool: how each is spelled, and what its row of the table asks (JVMS SE 8, 4.4).
+use Rattle.std.specs.Prelude.{◌≡◌, ◌≢◌, ◌⊎◌, ◌≤◌, ℕ, zero, suc, ◌<◌, ◌^◌, Bool, true, false, FitsSigned, List, [], ◌∷◌, ◌++◌, length, Option, Some, None, codes, slice_get}
+use Rattle.std.specs.Int.{w16, w32, w64, to_be_bytes, cast_unsigned}
+use Rattle.cl_names.specs.Text.{IsModifiedUtf8}
+use Rattle.cl_names.specs.Kind.{IsNameOf, IsUnqualified, IsMethod, IsClass}
+use Rattle.cl_descriptors.specs.Answers as descriptors
+use Rattle.cl_classfile.specs.declared.entry.Entry.{Entry}
+use Rattle.cl_classfile.specs.declared.entry.Entry.TheVariants.{Utf8, Integer, Float, Long, Double, Unusable, Class, String, Fieldref, Methodref, InterfaceMethodref, NameAndType, MethodHandle, MethodType, InvokeDynamic}
+
+-- ---- the one spelling of each: its tag, and what follows it (table 4.4-A)
+
+-- two indices, one after the other
+abbrev pub two : ℕ → ℕ → List ℕ
+two a b = to_be_bytes w16 a ++ to_be_bytes w16 b
+
+abbrev pub entry_spelling : Entry → List ℕ
+entry_spelling (Utf8 text) = 1 ∷ (to_be_bytes w16 (length text) ++ text)
+entry_spelling (Integer value) = 3 ∷ to_be_bytes w32 (cast_unsigned w32 value)
+entry_spelling (Float bits) = 4 ∷ to_be_bytes w32 bits
+entry_spelling (Long value) = 5 ∷ to_be_bytes w64 (cast_unsigned w64 value)
+entry_spelling (Double bits) = 6 ∷ to_be_bytes w64 bits
+entry_spelling Unusable = []
+entry_spelling (Class text) = 7 ∷ to_be_bytes w16 text
+entry_spelling (String text) = 8 ∷ to_be_bytes w16 text
+entry_spelling (Fieldref class pair) = 9 ∷ two class pair
+entry_spelling (Methodref class pair) = 10 ∷ two class pair
+entry_spelling (InterfaceMethodref class pair) = 11 ∷ two class pair
+entry_spelling (NameAndType name descriptor) = 12 ∷ two name descriptor
+entry_spelling (MethodHandle kind reference) = 15 ∷ kind ∷ to_be_bytes w16 reference
+entry_spelling (MethodType descriptor) = 16 ∷ to_be_bytes w16 descriptor
+entry_spelling (InvokeDynamic bootstrap pair) = 18 ∷ two bootstrap pair
+
+-- ---- what the widths hold
+
+abbrev pub IsIndex : ℕ → Type 0
+IsIndex i = i < 2 ^ 16
+
+abbrev pub EntryFits : Entry → Type 0
+EntryFits (Utf8 text) = length text < 2 ^ 16
+EntryFits (Integer value) = FitsSigned w32 value
+EntryFits (Float bits) = bits < 2 ^ 32
+EntryFits (Long value) = FitsSigned w64 value
+EntryFits (Double bits) = bits < 2 ^ 64
+EntryFits Unusable = Unit {0}
+EntryFits (Class text) = IsIndex text
+EntryFits (String text) = IsIndex text
+EntryFits (Fieldref class pair) = IsIndex class × IsIndex pair
+EntryFits (Methodref class pair) = IsIndex class × IsIndex pair
+EntryFits (InterfaceMethodref class pair) = IsIndex class × IsIndex pair
+EntryFits (NameAndType name descriptor) = IsIndex name × IsIndex descriptor
+EntryFits (MethodHandle kind reference) = (kind < 2 ^ 8) × IsIndex reference
+EntryFits (MethodType descriptor) = IsIndex descriptor
+EntryFits (InvokeDynamic bootstrap pair) = IsIndex bootstrap × IsIndex pair
+
+-- a long and a double take the index behind them too (4.4.5)
+abbrev pub is_wide : Entry → Bool
+is_wide (Long value) = true
+is_wide (Double bits) = true
+is_wide _ = false
+
+-- the index behind a wide entry is there and unusable, and no other is
+abbrev pub AreSpaced : Bool → List Entry → Type 0
+AreSpaced false [] = Unit {0}
+AreSpaced true [] = ⊥
+AreSpaced false (e ∷ es) = (e ≢ Unusable) × AreSpaced (is_wide e) es
+AreSpaced true (e ∷ es) = (e ≡ Unusable) × AreSpaced false es
+
+-- ---- what stands at an index
+
+-- from 1 on (4.1)
+abbrev pub at : {A : Type 0} → List A → ℕ → Option A
+at pool zero = None
+at pool (suc i) = slice_get pool i
+
+-- the entry at the index is this text
+abbrev pub IsText : List Entry → ℕ → List ℕ → Type 0
+IsText pool i text = at pool i ≡ Some (Utf8 text)
+
+-- it is a text of this kind
+pub record HasText (pool : List Entry) (i : ℕ) (Kind : List ℕ → Type 0) : Type 0 where
+  pub text : List ℕ
+  pub is_text : IsText pool i text
+  pub kind : Kind text
+
+-- it is a class, or an array (4.4.1)
+pub record HasClass (pool : List Entry) (i : ℕ) : Type 0 where
+  pub text : ℕ
+  pub is_entry : at pool i ≡ Some (Class text)
+
+-- it is a name and type with a descriptor of this kind (4.4.6)
+pub record HasPair (pool : List Entry) (i : ℕ) (Kind : List ℕ → Type 0) : Type 0 where
+  pub name : ℕ
+  pub descriptor : ℕ
+  pub is_entry : at pool i ≡ Some (NameAndType name descriptor)
+  pub described : HasText pool descriptor Kind
+
+-- it is a name and type of this name
+pub record IsNamed (pool : List Entry) (i : ℕ) (text : List ℕ) : Type 0 where
+  pub name : ℕ
+  pub descriptor : ℕ
+  pub is_entry : at pool i ≡ Some (NameAndType name descriptor)
+  pub named : IsText pool name text
+
+-- ---- what the table asks of each kind
+
+-- the descriptor of a field, an array, a method, a method that returns nothing (4.3)
+abbrev pub IsField : List ℕ → Type 0
+IsField text = descriptors.IsField text descriptors.IsFieldType
+
+abbrev pub IsArray : List ℕ → Type 0
+IsArray text = descriptors.IsField text (λ t. descriptors.IsFieldType t × (t.dims ≢ 0))
+
+abbrev pub IsCall : List ℕ → Type 0
+IsCall text = descriptors.IsMethod text descriptors.IsMethodType
+
+abbrev pub IsVoid : List ℕ → Type 0
+IsVoid text = descriptors.IsMethod text (λ m. descriptors.IsMethodType m × (m.ret ≡ None))
+
+-- a class's name, or the descriptor of an array (4.4.1)
+abbrev pub NamesType : List ℕ → Type 0
+NamesType text = IsNameOf IsClass text ⊎ IsArray text
+
+-- the two names that no programmer writes (2.9)
+abbrev pub init : List ℕ
+init = codes "<init>"
+
+abbrev pub clinit : List ℕ
+clinit = codes "<clinit>"
+
+-- the name, if it begins with <, is <init>, and the descriptor returns nothing (4.4.2)
+abbrev pub MayCall : List Entry → ℕ → Type 0
+MayCall pool i = (rest : List ℕ) → IsNamed pool i (60 ∷ rest) → (60 ∷ rest ≡ init) × HasPair pool i IsVoid
+
+-- it is a name that a programmer may write (4.4.8)
+abbrev pub IsPlain : List Entry → ℕ → Type 0
+IsPlain pool i = (IsNamed pool i init → ⊥) × (IsNamed pool i clinit → ⊥)
+
+-- a name and its descriptor go together (4.4.6)
+abbrev pub MayPair : List Entry → ℕ → ℕ → Type 0
+MayPair pool name descriptor =
+    (HasText pool descriptor IsField × HasText pool name (IsNameOf IsUnqualified))
+    ⊎ (HasText pool descriptor IsCall × HasText pool name (IsNameOf IsMethod))
+
+-- what a method handle of each kind may be made of (4.4.8)
+abbrev pub MayHandle : List Entry → ℕ → Option Entry → Type 0
+MayHandle pool kind (Some (Fieldref class pair)) = (1 ≤ kind) × (kind ≤ 4)
+MayHandle pool kind (Some (Methodref class pair)) = (((kind ≡ 5) ⊎ ((kind ≡ 6) ⊎ (kind ≡ 7))) × IsPlain pool pair) ⊎ ((kind ≡ 8) × IsNamed pool pair init)
+MayHandle pool kind (Some (InterfaceMethodref class pair)) = ((kind ≡ 6) ⊎ ((kind ≡ 7) ⊎ (kind ≡ 9))) × IsPlain pool pair
+MayHandle pool kind _ = ⊥
+
+-- what the table of entries asks of each
+abbrev pub KeepsEntry : List Entry → Entry → Type 0
+KeepsEntry pool (Utf8 text) = IsModifiedUtf8 text
+KeepsEntry pool (Class text) = HasText pool text NamesType
+KeepsEntry pool (String text) = HasText pool text (λ text. Unit {0})
+KeepsEntry pool (Fieldref class pair) = HasClass pool class × HasPair pool pair IsField
+KeepsEntry pool (Methodref class pair) = HasClass pool class × HasPair pool pair IsCall × MayCall pool pair
+KeepsEntry pool (InterfaceMethodref class pair) = HasClass pool class × HasPair pool pair IsCall
+KeepsEntry pool (NameAndType name descriptor) = MayPair pool name descriptor
+KeepsEntry pool (MethodHandle kind reference) = MayHandle pool kind (at pool reference)
+KeepsEntry pool (MethodType descriptor) = HasText pool descriptor IsCall
+KeepsEntry pool (InvokeDynamic bootstrap pair) = HasPair pool pair IsCall
+KeepsEntry pool _ = Unit {0}

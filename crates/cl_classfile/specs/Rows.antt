@@ -1,0 +1,144 @@
+-- The table of entries as tests (JVMS SE 8, 4.4).
+use Rattle.std.specs.Prelude.{ℕ, Bool, true, false, ◌&&◌, ◌||◌, ◌==◌, nat_eq, nat_le, length, List, [], ◌∷◌, Option, Some, None, unwrap_or, if◌then◌else◌}
+use Rattle.std.specs.Cmp.Lexicographic.{pointwise}
+use Rattle.cl_names.specs.Text.{is_text}
+use Rattle.cl_names.specs.Kind.{is_class_name, is_unqualified_name, is_method_name}
+use Rattle.cl_descriptors.specs.Reading.{form_of, units_of}
+use Rattle.cl_descriptors.specs.declared.types.Form.{Form}
+use Rattle.cl_descriptors.specs.declared.types.Form.TheVariants as forms
+use Rattle.cl_classfile.specs.declared.entry.Entry.{Entry}
+use Rattle.cl_classfile.specs.declared.entry.Entry.TheVariants.{Utf8, Class, String, Fieldref, Methodref, InterfaceMethodref, NameAndType, MethodHandle, MethodType, InvokeDynamic}
+use Rattle.cl_classfile.specs.declared.traits.Special.{Special}
+use Rattle.cl_classfile.specs.declared.traits.Special.TheVariants as names
+use Rattle.cl_classfile.specs.declared.traits.Traits.{Traits}
+use Rattle.cl_classfile.specs.Pool.{at, init, clinit}
+
+-- ---- what a text is
+
+abbrev pub begins_angle : List ℕ → Bool
+begins_angle [] = false
+begins_angle (c ∷ rest) = c == 60
+
+abbrev pub special_of : List ℕ → Special
+special_of text =
+    if pointwise nat_eq text init
+    then names.Init
+    else if pointwise nat_eq text clinit
+    then names.Clinit
+    else if begins_angle text
+    then names.Angle
+    else names.Plain
+
+-- a descriptor of a field, an array, a method, a method that returns nothing
+abbrev pub is_field : Option Form → Bool
+is_field None = false
+is_field (Some forms.Plain) = true
+is_field (Some forms.Array) = true
+is_field (Some forms.Method) = false
+is_field (Some forms.Void) = false
+
+abbrev pub is_array : Option Form → Bool
+is_array None = false
+is_array (Some forms.Plain) = false
+is_array (Some forms.Array) = true
+is_array (Some forms.Method) = false
+is_array (Some forms.Void) = false
+
+abbrev pub is_call : Option Form → Bool
+is_call None = false
+is_call (Some forms.Plain) = false
+is_call (Some forms.Array) = false
+is_call (Some forms.Method) = true
+is_call (Some forms.Void) = true
+
+abbrev pub is_void : Option Form → Bool
+is_void None = false
+is_void (Some forms.Plain) = false
+is_void (Some forms.Array) = false
+is_void (Some forms.Method) = false
+is_void (Some forms.Void) = true
+
+abbrev pub traits_of : List ℕ → Traits
+traits_of text = record {
+  stands = true;
+  class = is_class_name text || is_array (form_of text);
+  unqualified = is_unqualified_name text;
+  method = is_method_name text;
+  special = special_of text;
+  form = form_of text;
+  units = units_of text;
+}
+
+-- of what is no text nothing is true
+abbrev pub nothing : Traits
+nothing = record { stands = false; class = false; unqualified = false; method = false; special = names.Plain; form = None; units = None }
+
+abbrev pub entry_traits : Entry → Traits
+entry_traits (Utf8 text) = traits_of text
+entry_traits _ = nothing
+
+-- ---- what stands at an index, where the traits of each entry are given
+
+abbrev pub traits_at : List Traits → ℕ → Traits
+traits_at traits i = unwrap_or (at traits i) nothing
+
+abbrev pub is_class : Option Entry → Bool
+is_class (Some (Class text)) = true
+is_class _ = false
+
+-- the traits of the name and of the descriptor of a name and type
+abbrev pub pair_of : List Traits → Option Entry → Traits × Traits
+pair_of traits (Some (NameAndType name descriptor)) = (traits_at traits name, traits_at traits descriptor)
+pair_of traits _ = (nothing, nothing)
+
+abbrev pub pair_at : List Traits → List Entry → ℕ → Traits × Traits
+pair_at traits pool i = pair_of traits (at pool i)
+
+-- ---- what the table asks of each kind
+
+-- of a method with this name and this descriptor (4.4.2)
+abbrev pub may_call : Special → Option Form → Bool
+may_call names.Plain form = is_call form
+may_call names.Init form = is_void form
+may_call names.Clinit form = false
+may_call names.Angle form = false
+
+-- of a name with this descriptor (4.4.6)
+abbrev pub may_pair : Traits → Option Form → Bool
+may_pair name form = is_field form && name.unqualified || is_call form && name.method
+
+-- neither <init> nor <clinit>
+abbrev pub is_plain : Special → Bool
+is_plain names.Plain = true
+is_plain names.Angle = true
+is_plain names.Init = false
+is_plain names.Clinit = false
+
+abbrev pub is_init : Special → Bool
+is_init names.Init = true
+is_init names.Plain = false
+is_init names.Angle = false
+is_init names.Clinit = false
+
+-- of a method handle over this entry (4.4.8)
+abbrev pub may_handle : List Traits → List Entry → ℕ → Option Entry → Bool
+may_handle traits pool kind (Some (Fieldref class pair)) = nat_le 1 kind && nat_le kind 4
+may_handle traits pool kind (Some (Methodref class pair)) =
+    (kind == 5 || kind == 6 || kind == 7) && is_plain (pair_at traits pool pair).0.special
+    || kind == 8 && is_init (pair_at traits pool pair).0.special
+may_handle traits pool kind (Some (InterfaceMethodref class pair)) = (kind == 6 || kind == 7 || kind == 9) && is_plain (pair_at traits pool pair).0.special
+may_handle traits pool kind _ = false
+
+-- the entry keeps its row of the table
+abbrev pub keeps_entry : List Traits → List Entry → Entry → Bool
+keeps_entry traits pool (Utf8 text) = is_text text && nat_le (length text) 65535
+keeps_entry traits pool (Class text) = (traits_at traits text).class
+keeps_entry traits pool (String text) = (traits_at traits text).stands
+keeps_entry traits pool (Fieldref class pair) = is_class (at pool class) && is_field (pair_at traits pool pair).1.form
+keeps_entry traits pool (Methodref class pair) = is_class (at pool class) && may_call (pair_at traits pool pair).0.special (pair_at traits pool pair).1.form
+keeps_entry traits pool (InterfaceMethodref class pair) = is_class (at pool class) && is_call (pair_at traits pool pair).1.form
+keeps_entry traits pool (NameAndType name descriptor) = may_pair (traits_at traits name) (traits_at traits descriptor).form
+keeps_entry traits pool (MethodHandle kind reference) = may_handle traits pool kind (at pool reference)
+keeps_entry traits pool (MethodType descriptor) = is_call (traits_at traits descriptor).form
+keeps_entry traits pool (InvokeDynamic bootstrap pair) = is_call (pair_at traits pool pair).1.form
+keeps_entry traits pool _ = true

@@ -1,0 +1,155 @@
+//! The tables of flags; a bit that a table does not name may be set (JVMS SE 8, 4.1, 4.5, 4.6).
+
+ghost use Rattle.std.specs.Prelude.{◌≡◌, ◌<◌};
+ghost use Rattle.cl_classfile.specs.Flags.{has, static, interface, is_interface_flags, is_plain_flags, is_class_flags, has_one_access, is_constant_flags, is_field_flags, may_be_abstract, may_be_of_interface, is_method_flags, is_init_flags};
+
+const PUBLIC: u16 = 0x0001;
+
+const PRIVATE: u16 = 0x0002;
+
+const PROTECTED: u16 = 0x0004;
+
+const STATIC: u16 = 0x0008;
+
+const FINAL: u16 = 0x0010;
+
+const SUPER: u16 = 0x0020;
+
+const SYNCHRONIZED: u16 = 0x0020;
+
+const VOLATILE: u16 = 0x0040;
+
+const BRIDGE: u16 = 0x0040;
+
+const TRANSIENT: u16 = 0x0080;
+
+const NATIVE: u16 = 0x0100;
+
+const INTERFACE: u16 = 0x0200;
+
+const ABSTRACT: u16 = 0x0400;
+
+const STRICT: u16 = 0x0800;
+
+const ANNOTATION: u16 = 0x2000;
+
+const ENUM: u16 = 0x4000;
+
+/// Whether the flags have this bit.
+fn has(flags: u16, bit: u16) -> bool
+    requires { 0 < bit }
+    ensures { result ≡ has flags bit }
+{
+    flags / bit % 2 == 1
+}
+
+/// Whether these are the flags of an interface.
+pub fn is_interface(flags: u16) -> bool
+    ensures { result ≡ has flags interface }
+{
+    has(flags, INTERFACE)
+}
+
+fn is_interface_flags(flags: u16) -> bool
+    ensures { result ≡ is_interface_flags flags }
+{
+    has(flags, ABSTRACT) && !has(flags, FINAL) && !has(flags, SUPER) && !has(flags, ENUM)
+}
+
+fn is_plain_flags(flags: u16) -> bool
+    ensures { result ≡ is_plain_flags flags }
+{
+    !has(flags, ANNOTATION) && !(has(flags, FINAL) && has(flags, ABSTRACT))
+}
+
+/// Whether the flags of a class keep their table (JVMS SE 8, 4.1).
+pub fn is_class_flags(flags: u16) -> bool
+    ensures { result ≡ is_class_flags flags }
+{
+    if is_interface(flags) {
+        is_interface_flags(flags)
+    } else {
+        is_plain_flags(flags)
+    }
+}
+
+pub fn is_static(flags: u16) -> bool
+    ensures { result ≡ has flags static }
+{
+    has(flags, STATIC)
+}
+
+/// At most one of public, private and protected.
+fn has_one_access(flags: u16) -> bool
+    ensures { result ≡ has_one_access flags }
+{
+    !(has(flags, PUBLIC) && has(flags, PRIVATE))
+        && !(has(flags, PUBLIC) && has(flags, PROTECTED))
+        && !(has(flags, PRIVATE) && has(flags, PROTECTED))
+}
+
+fn is_constant_flags(flags: u16) -> bool
+    ensures { result ≡ is_constant_flags flags }
+{
+    has(flags, PUBLIC)
+        && has(flags, STATIC)
+        && has(flags, FINAL)
+        && !(has(flags, PRIVATE)
+            || has(flags, PROTECTED)
+            || has(flags, VOLATILE)
+            || has(flags, TRANSIENT)
+            || has(flags, ENUM))
+}
+
+/// Whether the flags of a field, of an interface or another class, keep their table (JVMS SE 8, 4.5).
+pub fn is_field_flags(of_interface: bool, flags: u16) -> bool
+    ensures { result ≡ is_field_flags of_interface flags }
+{
+    if of_interface {
+        is_constant_flags(flags)
+    } else {
+        has_one_access(flags) && !(has(flags, FINAL) && has(flags, VOLATILE))
+    }
+}
+
+fn may_be_abstract(flags: u16) -> bool
+    ensures { result ≡ may_be_abstract flags }
+{
+    !(has(flags, PRIVATE)
+        || has(flags, STATIC)
+        || has(flags, FINAL)
+        || has(flags, SYNCHRONIZED)
+        || has(flags, NATIVE)
+        || has(flags, STRICT))
+}
+
+fn may_be_of_interface(flags: u16) -> bool
+    ensures { result ≡ may_be_of_interface flags }
+{
+    (has(flags, PUBLIC) || has(flags, PRIVATE))
+        && !(has(flags, PROTECTED)
+            || has(flags, FINAL)
+            || has(flags, SYNCHRONIZED)
+            || has(flags, NATIVE))
+}
+
+/// Whether the flags of a method that is neither `<init>` nor `<clinit>` keep their table (JVMS SE 8, 4.6).
+pub fn is_method_flags(of_interface: bool, flags: u16) -> bool
+    ensures { result ≡ is_method_flags of_interface flags }
+{
+    has_one_access(flags)
+        && (!has(flags, ABSTRACT) || may_be_abstract(flags))
+        && (!of_interface || may_be_of_interface(flags))
+}
+
+/// What else is asked of the flags of `<init>` (JVMS SE 8, 4.6).
+pub fn is_init_flags(flags: u16) -> bool
+    ensures { result ≡ is_init_flags flags }
+{
+    !(has(flags, STATIC)
+        || has(flags, FINAL)
+        || has(flags, SYNCHRONIZED)
+        || has(flags, BRIDGE)
+        || has(flags, NATIVE)
+        || has(flags, ABSTRACT))
+}

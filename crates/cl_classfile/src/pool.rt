@@ -1,0 +1,245 @@
+//! Reading the pool: its entries are told by their tags (JVMS SE 8, 4.4).
+
+ghost use Rattle.std.specs.Prelude.{◌+◌, ◌<◌, ◌^◌};
+ghost use Rattle.std.specs.Int.{w32, w64};
+ghost use Rattle.cl_classfile.specs.Checking.{Finds, Gives};
+ghost use Rattle.cl_classfile.specs.Reading.{number_at, text_at, byte_at, signed_at, two_at, handle_at, value_at, index_at, pair_at, other_at, entry_at, slot_at, entries_at, pool_at};
+ghost use Rattle.cl_classfile.specs.Raw.{plain_entry, plain_entries};
+
+use crate::fault::{Fault, ReadError};
+use crate::raw::{RawEntry, is_wide};
+use crate::reading::{bytes_at, u16_at, u32_at};
+use std::alloc::Global;
+
+#[tactic(auto, unfolding(crate::specs::Reading::text_at))]
+fn text_at(bytes: &[u8]) -> Result<(&[u8], &[u8]), Fault>
+    ensures { Finds (λ x. (x.0.now, x.1.now)) result (text_at bytes.now) }
+{
+    let (count, rest) = u16_at(bytes)?;
+    bytes_at(count as usize, rest)
+}
+
+#[tactic(auto, unfolding(crate::specs::Reading::byte_at))]
+fn byte_at(bytes: &[u8]) -> Result<(u8, &[u8]), Fault>
+    ensures { Finds (λ x. (x.0, x.1.now)) result (byte_at bytes.now) }
+{
+    let [byte, rest @ ..] = bytes else {
+        return Err(Fault::Truncated);
+    };
+    Ok((*byte, rest))
+}
+
+fn u64_at(bytes: &[u8]) -> Result<(u64, &[u8]), Fault>
+    ensures { Finds (λ x. (x.0, x.1.now)) result (number_at w64 bytes.now) }
+{
+    if bytes.len() < 8 {
+        return Err(Fault::Truncated);
+    }
+    let (b, rest) = bytes.split_at(8);
+    let number = u64::from_be_bytes([b[0], b[1], b[2], b[3], b[4], b[5], b[6], b[7]]);
+    Ok((number, rest))
+}
+
+#[tactic(auto, unfolding(crate::specs::Reading::signed_at))]
+fn i32_at(bytes: &[u8]) -> Result<(i32, &[u8]), Fault>
+    ensures { Finds (λ x. (x.0, x.1.now)) result (signed_at w32 bytes.now) }
+{
+    let (number, rest) = u32_at(bytes)?;
+    Ok((number.cast_signed(), rest))
+}
+
+#[tactic(auto, unfolding(crate::specs::Reading::signed_at))]
+fn i64_at(bytes: &[u8]) -> Result<(i64, &[u8]), Fault>
+    ensures { Finds (λ x. (x.0, x.1.now)) result (signed_at w64 bytes.now) }
+{
+    let (number, rest) = u64_at(bytes)?;
+    Ok((number.cast_signed(), rest))
+}
+
+#[tactic(auto, unfolding(crate::specs::Reading::two_at))]
+fn two_at(bytes: &[u8]) -> Result<((u16, u16), &[u8]), Fault>
+    ensures { Finds (λ x. (x.0, x.1.now)) result (two_at bytes.now) }
+{
+    let (first, rest) = u16_at(bytes)?;
+    let (second, rest) = u16_at(rest)?;
+    Ok(((first, second), rest))
+}
+
+#[tactic(auto, unfolding(crate::specs::Reading::handle_at))]
+fn handle_at(bytes: &[u8]) -> Result<((u8, u16), &[u8]), Fault>
+    ensures { Finds (λ x. (x.0, x.1.now)) result (handle_at bytes.now) }
+{
+    let (kind, rest) = byte_at(bytes)?;
+    let (reference, rest) = u16_at(rest)?;
+    Ok(((kind, reference), rest))
+}
+
+/// A text, a method handle, or none that there is.
+#[tactic(auto, unfolding(crate::specs::Reading::other_at))]
+fn other_at(index: u16, tag: u8, bytes: &[u8]) -> Result<(RawEntry<'_>, &[u8]), Fault>
+    ensures { Finds (λ x. (plain_entry x.0, x.1.now)) result (other_at index tag bytes.now) }
+{
+    match tag {
+        1 => {
+            let (text, rest) = text_at(bytes)?;
+            Ok((RawEntry::Utf8(text), rest))
+        }
+        15 => {
+            let ((kind, reference), rest) = handle_at(bytes)?;
+            Ok((RawEntry::MethodHandle { kind, reference }, rest))
+        }
+        _ => Err(Fault::BadPool(index)),
+    }
+}
+
+/// An entry of two indices, or another.
+#[tactic(auto, unfolding(crate::specs::Reading::pair_at))]
+fn pair_at(index: u16, tag: u8, bytes: &[u8]) -> Result<(RawEntry<'_>, &[u8]), Fault>
+    ensures { Finds (λ x. (plain_entry x.0, x.1.now)) result (pair_at tag (other_at index tag) bytes.now) }
+{
+    match tag {
+        9 => {
+            let ((class, name_and_type), rest) = two_at(bytes)?;
+            let entry = RawEntry::Fieldref {
+                class,
+                name_and_type,
+            };
+            Ok((entry, rest))
+        }
+        10 => {
+            let ((class, name_and_type), rest) = two_at(bytes)?;
+            let entry = RawEntry::Methodref {
+                class,
+                name_and_type,
+            };
+            Ok((entry, rest))
+        }
+        11 => {
+            let ((class, name_and_type), rest) = two_at(bytes)?;
+            let entry = RawEntry::InterfaceMethodref {
+                class,
+                name_and_type,
+            };
+            Ok((entry, rest))
+        }
+        12 => {
+            let ((name, descriptor), rest) = two_at(bytes)?;
+            Ok((RawEntry::NameAndType { name, descriptor }, rest))
+        }
+        18 => {
+            let ((bootstrap, name_and_type), rest) = two_at(bytes)?;
+            let entry = RawEntry::InvokeDynamic {
+                bootstrap,
+                name_and_type,
+            };
+            Ok((entry, rest))
+        }
+        _ => other_at(index, tag, bytes),
+    }
+}
+
+/// An entry of one index, or another.
+#[tactic(auto, unfolding(crate::specs::Reading::index_at))]
+fn index_at(index: u16, tag: u8, bytes: &[u8]) -> Result<(RawEntry<'_>, &[u8]), Fault>
+    ensures { Finds (λ x. (plain_entry x.0, x.1.now)) result (index_at tag (pair_at tag (other_at index tag)) bytes.now) }
+{
+    match tag {
+        7 => {
+            let (text, rest) = u16_at(bytes)?;
+            Ok((RawEntry::Class(text), rest))
+        }
+        8 => {
+            let (text, rest) = u16_at(bytes)?;
+            Ok((RawEntry::String(text), rest))
+        }
+        16 => {
+            let (descriptor, rest) = u16_at(bytes)?;
+            Ok((RawEntry::MethodType(descriptor), rest))
+        }
+        _ => pair_at(index, tag, bytes),
+    }
+}
+
+/// A number, or another entry. One that takes the index behind it too is no last one.
+#[tactic(auto, unfolding(crate::specs::Reading::value_at))]
+fn value_at(last: u16, index: u16, tag: u8, bytes: &[u8]) -> Result<(RawEntry<'_>, &[u8]), Fault>
+    ensures { Finds (λ x. (plain_entry x.0, x.1.now)) result (value_at last index tag (index_at tag (pair_at tag (other_at index tag))) bytes.now) }
+{
+    match tag {
+        3 => {
+            let (value, rest) = i32_at(bytes)?;
+            Ok((RawEntry::Integer(value), rest))
+        }
+        4 => {
+            let (bits, rest) = u32_at(bytes)?;
+            Ok((RawEntry::Float(bits), rest))
+        }
+        5 => {
+            if index >= last {
+                return Err(Fault::BadPool(index));
+            }
+            let (value, rest) = i64_at(bytes)?;
+            Ok((RawEntry::Long(value), rest))
+        }
+        6 => {
+            if index >= last {
+                return Err(Fault::BadPool(index));
+            }
+            let (bits, rest) = u64_at(bytes)?;
+            Ok((RawEntry::Double(bits), rest))
+        }
+        _ => index_at(index, tag, bytes),
+    }
+}
+
+#[tactic(auto, unfolding(crate::specs::Reading::entry_at))]
+fn entry_at(last: u16, index: u16, bytes: &[u8]) -> Result<(RawEntry<'_>, &[u8]), Fault>
+    ensures { Finds (λ x. (plain_entry x.0, x.1.now)) result (entry_at last index bytes.now) }
+{
+    let [tag, rest @ ..] = bytes else {
+        return Err(Fault::Truncated);
+    };
+    value_at(last, index, *tag, rest)
+}
+
+/// What stands at an index, behind an entry that takes it too or another.
+#[tactic(auto, unfolding(crate::specs::Reading::slot_at))]
+fn slot_at(last: u16, index: u16, taken: bool, bytes: &[u8]) -> Result<(RawEntry<'_>, &[u8]), Fault>
+    ensures { Finds (λ x. (plain_entry x.0, x.1.now)) result (slot_at last (index, taken) bytes.now) }
+{
+    if taken {
+        return Ok((RawEntry::Unusable, bytes));
+    }
+    entry_at(last, index, bytes)
+}
+
+fn entries_at(
+    alloc: Global,
+    count: u16,
+    bytes: &[u8],
+) -> Result<(Vec<RawEntry<'_>>, &[u8]), ReadError>
+    requires { count + 1 < 2 ^ 16 }
+    ensures { Gives (λ x. (plain_entries x.0.items, x.1.now)) result (entries_at count bytes.now) }
+{
+    let mut entries = Vec::new(alloc);
+    let mut rest = bytes;
+    let mut taken = false;
+    for i in 0..count {
+        let (entry, after) = slot_at(count, i + 1, taken, rest)?;
+        taken = is_wide(entry);
+        entries.push(entry)?;
+        rest = after;
+    }
+    Ok((entries, rest))
+}
+
+#[tactic(auto, unfolding(crate::specs::Reading::pool_at))]
+pub fn pool_at(alloc: Global, bytes: &[u8]) -> Result<(Vec<RawEntry<'_>>, &[u8]), ReadError>
+    ensures { Gives (λ x. (plain_entries x.0.items, x.1.now)) result (pool_at bytes.now) }
+{
+    let (count, rest) = u16_at(bytes)?;
+    if count == 0 {
+        return Err(ReadError::Fault(Fault::BadPool(0)));
+    }
+    entries_at(alloc, count - 1, rest)
+}

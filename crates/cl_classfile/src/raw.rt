@@ -1,0 +1,100 @@
+//! Entries of the pool as they stand in the bytes.
+
+ghost use Rattle.std.specs.Prelude.{◌≡◌, IfOk};
+ghost use Rattle.cl_classfile.specs.Pool.{is_wide};
+ghost use Rattle.cl_classfile.specs.Raw.{plain_entry, plain_entries};
+
+use crate::entry::Entry;
+use cl_names::Name;
+use std::alloc::{AllocError, Global};
+
+/// An entry whose text still stands in the bytes, before it is looked at.
+#[derive(Clone, Copy)]
+pub enum RawEntry<'a> {
+    Utf8(&'a [u8]),
+    Integer(i32),
+    Float(u32),
+    Long(i64),
+    Double(u64),
+    Unusable,
+    Class(u16),
+    String(u16),
+    Fieldref { class: u16, name_and_type: u16 },
+    Methodref { class: u16, name_and_type: u16 },
+    InterfaceMethodref { class: u16, name_and_type: u16 },
+    NameAndType { name: u16, descriptor: u16 },
+    MethodHandle { kind: u8, reference: u16 },
+    MethodType(u16),
+    InvokeDynamic { bootstrap: u16, name_and_type: u16 },
+}
+
+/// Whether it takes the index behind it too.
+pub fn is_wide(entry: RawEntry<'_>) -> bool
+    ensures { result ≡ is_wide (plain_entry entry.entry) }
+{
+    match entry {
+        RawEntry::Long(_) | RawEntry::Double(_) => true,
+        _ => false,
+    }
+}
+
+/// The entry of its own, with a copy of its text.
+fn owned(alloc: Global, entry: RawEntry<'_>) -> Result<Entry, AllocError>
+    ensures { IfOk result (λ e. e ≡ plain_entry entry.entry) }
+{
+    Ok(match entry {
+        RawEntry::Utf8(text) => match Name::any(alloc, text) {
+            Ok(name) => Entry::Utf8(name),
+            Err(_) => return Err(AllocError),
+        },
+        RawEntry::Integer(value) => Entry::Integer(value),
+        RawEntry::Float(bits) => Entry::Float(bits),
+        RawEntry::Long(value) => Entry::Long(value),
+        RawEntry::Double(bits) => Entry::Double(bits),
+        RawEntry::Unusable => Entry::Unusable,
+        RawEntry::Class(text) => Entry::Class(text),
+        RawEntry::String(text) => Entry::String(text),
+        RawEntry::Fieldref {
+            class,
+            name_and_type,
+        } => Entry::Fieldref {
+            class,
+            name_and_type,
+        },
+        RawEntry::Methodref {
+            class,
+            name_and_type,
+        } => Entry::Methodref {
+            class,
+            name_and_type,
+        },
+        RawEntry::InterfaceMethodref {
+            class,
+            name_and_type,
+        } => Entry::InterfaceMethodref {
+            class,
+            name_and_type,
+        },
+        RawEntry::NameAndType { name, descriptor } => Entry::NameAndType { name, descriptor },
+        RawEntry::MethodHandle { kind, reference } => Entry::MethodHandle { kind, reference },
+        RawEntry::MethodType(descriptor) => Entry::MethodType(descriptor),
+        RawEntry::InvokeDynamic {
+            bootstrap,
+            name_and_type,
+        } => Entry::InvokeDynamic {
+            bootstrap,
+            name_and_type,
+        },
+    })
+}
+
+/// The entries of their own.
+pub fn owned_entries(alloc: Global, pool: &[RawEntry<'_>]) -> Result<Vec<Entry>, AllocError>
+    ensures { IfOk result (λ v. v.items ≡ plain_entries pool.now) }
+{
+    let mut entries = Vec::with_capacity(alloc, pool.len())?;
+    for entry in pool {
+        entries.push(owned(alloc, *entry)?)?;
+    }
+    Ok(entries)
+}

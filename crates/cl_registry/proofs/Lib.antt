@@ -1,5 +1,4 @@
 pub mod Bounds
-pub mod LineCuts
 pub mod Places
 pub mod Contents
 pub mod Requests

@@ -7,7 +7,7 @@ pub mod DraftReads
 pub mod Drafts
 pub mod Findings
 pub mod Kept
-pub mod Lines
+pub use Rattle.cl_lines.specs.Lines
 pub mod Outcomes
 pub mod Parts
 pub mod Puts

@@ -2,7 +2,7 @@ ghost use Rattle.std.specs.Prelude.{◌≡◌, ◌<◌, length, map, string_byte
 ghost use Rattle.std.specs.Cmp.Lexicographic.{pointwise};
 ghost use Rattle.cl_registry.specs.Configs.{IsBoot, ConfigOf};
 
-use crate::lines::Stated;
+use cl_lines::Stated;
 use cl_model::LoaderId;
 use std::alloc::{AllocError, Global};
 use std::marker::Model;

@@ -9,7 +9,6 @@ pub mod finding;
 #[cfg(test)]
 mod input_tests;
 pub mod laws;
-pub mod lines;
 pub mod memory;
 pub mod registry;
 pub mod report;
@@ -21,11 +20,12 @@ pub mod source;
 mod tables;
 pub mod walk;
 
+pub use cl_lines as lines;
+pub use cl_lines::{Line, Lines, Stated, Words, is_skipped};
 pub use config::{Config, ConfigFault};
 pub use draft::{Draft, DraftFault, DraftRefused, Unreadable};
 pub use faulty::FaultySource;
 pub use finding::{Finding, Obstacle};
-pub use lines::{Line, Lines, Stated, Words, is_skipped};
 pub use memory::{MemorySource, PutRefused, Telling};
 pub use registry::{DefineRefused, NotYet, PostRefused, Registry, RegistryFault};
 pub use report::{Answers, History, Report};

@@ -5,7 +5,7 @@ ghost use Rattle.cl_registry.specs.Views.{Scripted};
 ghost use Rattle.cl_registry.specs.ClassTexts.{WritesClass};
 
 use crate::config::Config;
-use crate::lines::{Line, Stated, Words};
+use cl_lines::{Line, Stated, Words};
 use cl_model::Request;
 use cl_names::{Name, NameFault};
 use std::alloc::{AllocError, Global};

@@ -1,0 +1,154 @@
+-- Lines that say nothing.
+use Rattle.std.proofs.Common.{◌≡◌, ℕ, ◌+◌, ◌*◌, ℤ, List, [], ◌∷◌, Option, Some, None, Result, Ok, Err, codes, refl, sym, ap, subst, ◌∙◌, arith}
+use Rattle.cl_names.specs.Escape.{WritesName}
+use Rattle.cl_writer.specs.declared.item.MemberKind.{MemberKind}
+use Rattle.cl_writer.specs.declared.item.MemberKind.TheVariants as kinds
+use Rattle.cl_writer.specs.declared.item.MemberName.{MemberName}
+use Rattle.cl_writer.specs.declared.item.Item.{Item}
+use Rattle.cl_writer.specs.declared.item.Item.TheVariants.{Text, Integer, Class, NameAndType, Member}
+use Rattle.cl_writer.specs.declared.statement.ClassLine.{ClassLine}
+use Rattle.cl_writer.specs.declared.statement.MemberLine.{MemberLine}
+use Rattle.cl_writer.specs.declared.statement.Statement.{Statement}
+use Rattle.cl_writer.specs.declared.statement.Statement.TheVariants.{Implements, Field, Method, Ref}
+use Rattle.cl_writer.specs.Statements.{Reads, WritesSuper, IsName, IsInteger, IsMemberLine, IsMemberName, IsClassLine, Begins, kind_word, Refers, Says}
+
+-- ---- a word that writes nothing
+
+-- a text that no name writes
+abbrev pub NoName : List ℕ → Type 0
+NoName text = (name : List ℕ) → WritesName text name → ⊥
+
+first_of : {a b c d e f : List ℕ} → a ∷ b ∷ c ∷ [] ≡ d ∷ e ∷ f ∷ [] → a ≡ d
+first_of h = cc
+
+second_of : {a b c d e f : List ℕ} → a ∷ b ∷ c ∷ [] ≡ d ∷ e ∷ f ∷ [] → b ≡ e
+second_of h = cc
+
+third_of : {a b c d e f : List ℕ} → a ∷ b ∷ c ∷ [] ≡ d ∷ e ∷ f ∷ [] → c ≡ f
+third_of h = cc
+
+tail_of : {a b : List ℕ} {xs ys : List (List ℕ)} → a ∷ xs ≡ b ∷ ys → xs ≡ ys
+tail_of h = cc
+
+head_of : {a b : List ℕ} {xs ys : List (List ℕ)} → a ∷ xs ≡ b ∷ ys → a ≡ b
+head_of h = cc
+
+-- where the text of one is the other's, that writes nothing either
+along : {a b : List ℕ} (name : List ℕ) → a ≡ b → NoName b → WritesName a name → ⊥
+along name e none t = none name (subst (λ w. WritesName w name) e t)
+
+pub no_class_name : (words : List (List ℕ)) (first flags name above : List ℕ) → words ≡ first ∷ flags ∷ name ∷ above ∷ [] → NoName name → (line : ClassLine) → IsClassLine words line → ⊥
+no_class_name words first flags name above e none line t = along line.name (second_of (tail_of (sym t.spelled ∙ e))) none t.name
+
+pub no_line_name : (words : List (List ℕ)) (flags name descriptor : List ℕ) → words ≡ flags ∷ name ∷ descriptor ∷ [] → NoName name → (line : MemberLine) → IsMemberLine words line → ⊥
+no_line_name words flags name descriptor e none line t = along line.name (second_of (sym t.spelled ∙ e)) none t.name
+
+pub no_line_descriptor : (words : List (List ℕ)) (flags name descriptor : List ℕ) → words ≡ flags ∷ name ∷ descriptor ∷ [] → NoName descriptor → (line : MemberLine) → IsMemberLine words line → ⊥
+no_line_descriptor words flags name descriptor e none line t = along line.descriptor (third_of (sym t.spelled ∙ e)) none t.descriptor
+
+pub no_member_class : (words : List (List ℕ)) (class name descriptor : List ℕ) → words ≡ class ∷ name ∷ descriptor ∷ [] → NoName class → (m : MemberName) → IsMemberName words m → ⊥
+no_member_class words class name descriptor e none m t = along m.class (first_of (sym t.spelled ∙ e)) none t.class
+
+pub no_member_name : (words : List (List ℕ)) (class name descriptor : List ℕ) → words ≡ class ∷ name ∷ descriptor ∷ [] → NoName name → (m : MemberName) → IsMemberName words m → ⊥
+no_member_name words class name descriptor e none m t = along m.name (second_of (sym t.spelled ∙ e)) none t.name
+
+pub no_member_descriptor : (words : List (List ℕ)) (class name descriptor : List ℕ) → words ≡ class ∷ name ∷ descriptor ∷ [] → NoName descriptor → (m : MemberName) → IsMemberName words m → ⊥
+no_member_descriptor words class name descriptor e none m t = along m.descriptor (third_of (sym t.spelled ∙ e)) none t.descriptor
+
+pub no_super : (text : List ℕ) → (text ≡ codes "-" → ⊥) → NoName text → (name : Option (List ℕ)) → WritesSuper text name → ⊥
+no_super text named none None t = named t
+no_super text named none (Some name) t = none name t.1
+
+only_of : {a b : List ℕ} → a ∷ [] ≡ b ∷ [] → a ≡ b
+only_of h = cc
+
+-- the one word is what its text writes
+pub named : {E : Type 0} (words : List (List ℕ)) (text : List ℕ) (r : Result (Option (List ℕ)) E) → words ≡ text ∷ [] → Reads (WritesName text) r → Reads (IsName words) r
+named words text (Ok None) e none = λ name t. along name (only_of (sym t.spelled ∙ e)) none t.writes
+named words text (Ok (Some name)) e here = record { text = text; spelled = e; writes = here }
+named words text (Err x) e h = tt
+
+-- ---- a keyword that another line begins with
+
+-- the second and the third letter of a word, which tell keywords apart
+letters : List ℕ → ℕ
+letters (a ∷ b ∷ c ∷ word) = b + 1000 * c
+letters (a ∷ b ∷ []) = 0
+letters (a ∷ []) = 0
+letters [] = 0
+
+other : {P : List (List ℕ) → Type 0} (keyword word : List ℕ) {words rest : List (List ℕ)} → words ≡ word ∷ rest → (keyword ≡ word → ⊥) → Begins keyword words P → ⊥
+other keyword word e differ t = differ (head_of (sym t.spelled ∙ e))
+
+-- keywords differ
+differs : (a b : List ℕ) → (letters a ≡ letters b → ⊥) → a ≡ b → ⊥
+differs a b d e = d (ap letters e)
+
+pub no_implements : (words rest : List (List ℕ)) → words ≡ codes "implements" ∷ rest → ((n : List ℕ) → IsName rest n → ⊥) → (s : Statement) → Says words s → ⊥
+unfolding letters
+no_implements words rest e none (Implements n) t = none n (subst (λ ws. IsName ws n) (tail_of (sym t.spelled ∙ e)) t.behind)
+no_implements words rest e none (Field l) t = other (codes "field") (codes "implements") e (differs _ _ (λ h. absurd (omega arith))) t
+no_implements words rest e none (Method l) t = other (codes "method") (codes "implements") e (differs _ _ (λ h. absurd (omega arith))) t
+no_implements words rest e none (Ref i) t = other (codes "ref") (codes "implements") e (differs _ _ (λ h. absurd (omega arith))) t
+
+pub no_field : (words rest : List (List ℕ)) → words ≡ codes "field" ∷ rest → ((l : MemberLine) → IsMemberLine rest l → ⊥) → (s : Statement) → Says words s → ⊥
+unfolding letters
+no_field words rest e none (Implements n) t = other (codes "implements") (codes "field") e (differs _ _ (λ h. absurd (omega arith))) t
+no_field words rest e none (Field l) t = none l (subst (λ ws. IsMemberLine ws l) (tail_of (sym t.spelled ∙ e)) t.behind)
+no_field words rest e none (Method l) t = other (codes "method") (codes "field") e (differs _ _ (λ h. absurd (omega arith))) t
+no_field words rest e none (Ref i) t = other (codes "ref") (codes "field") e (differs _ _ (λ h. absurd (omega arith))) t
+
+pub no_method : (words rest : List (List ℕ)) → words ≡ codes "method" ∷ rest → ((l : MemberLine) → IsMemberLine rest l → ⊥) → (s : Statement) → Says words s → ⊥
+unfolding letters
+no_method words rest e none (Implements n) t = other (codes "implements") (codes "method") e (differs _ _ (λ h. absurd (omega arith))) t
+no_method words rest e none (Field l) t = other (codes "field") (codes "method") e (differs _ _ (λ h. absurd (omega arith))) t
+no_method words rest e none (Method l) t = none l (subst (λ ws. IsMemberLine ws l) (tail_of (sym t.spelled ∙ e)) t.behind)
+no_method words rest e none (Ref i) t = other (codes "ref") (codes "method") e (differs _ _ (λ h. absurd (omega arith))) t
+
+pub no_ref : (words rest : List (List ℕ)) → words ≡ codes "ref" ∷ rest → ((i : Item) → Refers rest i → ⊥) → (s : Statement) → Says words s → ⊥
+unfolding letters
+no_ref words rest e none (Implements n) t = other (codes "implements") (codes "ref") e (differs _ _ (λ h. absurd (omega arith))) t
+no_ref words rest e none (Field l) t = other (codes "field") (codes "ref") e (differs _ _ (λ h. absurd (omega arith))) t
+no_ref words rest e none (Method l) t = other (codes "method") (codes "ref") e (differs _ _ (λ h. absurd (omega arith))) t
+no_ref words rest e none (Ref i) t = none i (subst (λ ws. Refers ws i) (tail_of (sym t.spelled ∙ e)) t.behind)
+
+pub no_keyword : (words rest : List (List ℕ)) (first : List ℕ) → words ≡ first ∷ rest → (first ≡ codes "implements" → ⊥) → (first ≡ codes "field" → ⊥) → (first ≡ codes "method" → ⊥) → (first ≡ codes "ref" → ⊥)
+    → (s : Statement) → Says words s → ⊥
+no_keyword words rest first e a b c d (Implements n) t = other (codes "implements") first e (λ h. a (sym h)) t
+no_keyword words rest first e a b c d (Field l) t = other (codes "field") first e (λ h. b (sym h)) t
+no_keyword words rest first e a b c d (Method l) t = other (codes "method") first e (λ h. c (sym h)) t
+no_keyword words rest first e a b c d (Ref i) t = other (codes "ref") first e (λ h. d (sym h)) t
+
+pub no_ref_class : (words rest : List (List ℕ)) → words ≡ codes "class" ∷ rest → ((n : List ℕ) → IsName rest n → ⊥) → (i : Item) → Refers words i → ⊥
+unfolding letters
+no_ref_class words rest e none (Text text) t = t
+no_ref_class words rest e none (Integer n) t = other (codes "int") (codes "class") e (differs _ _ (λ h. absurd (omega arith))) t
+no_ref_class words rest e none (Class n) t = none n (subst (λ ws. IsName ws n) (tail_of (sym t.spelled ∙ e)) t.behind)
+no_ref_class words rest e none (NameAndType n d) t = t
+no_ref_class words rest e none (Member kinds.Field m) t = other (codes "field") (codes "class") e (differs _ _ (λ h. absurd (omega arith))) t
+no_ref_class words rest e none (Member kinds.Method m) t = other (codes "method") (codes "class") e (differs _ _ (λ h. absurd (omega arith))) t
+no_ref_class words rest e none (Member kinds.InterfaceMethod m) t = other (codes "imethod") (codes "class") e (differs _ _ (λ h. absurd (omega arith))) t
+
+pub no_ref_int : (words rest : List (List ℕ)) → words ≡ codes "int" ∷ rest → ((n : ℤ) → IsInteger rest n → ⊥) → (i : Item) → Refers words i → ⊥
+unfolding letters
+no_ref_int words rest e none (Text text) t = t
+no_ref_int words rest e none (Integer n) t = none n (subst (λ ws. IsInteger ws n) (tail_of (sym t.spelled ∙ e)) t.behind)
+no_ref_int words rest e none (Class n) t = other (codes "class") (codes "int") e (differs _ _ (λ h. absurd (omega arith))) t
+no_ref_int words rest e none (NameAndType n d) t = t
+no_ref_int words rest e none (Member kinds.Field m) t = other (codes "field") (codes "int") e (differs _ _ (λ h. absurd (omega arith))) t
+no_ref_int words rest e none (Member kinds.Method m) t = other (codes "method") (codes "int") e (differs _ _ (λ h. absurd (omega arith))) t
+no_ref_int words rest e none (Member kinds.InterfaceMethod m) t = other (codes "imethod") (codes "int") e (differs _ _ (λ h. absurd (omega arith))) t
+
+pub no_ref_kind : (words rest : List (List ℕ)) (first : List ℕ) → words ≡ first ∷ rest → (first ≡ codes "class" → ⊥) → (first ≡ codes "int" → ⊥) → ((k : MemberKind) → first ≡ kind_word k → ⊥) → (i : Item) → Refers words i → ⊥
+no_ref_kind words rest first e a b none (Text text) t = t
+no_ref_kind words rest first e a b none (Integer n) t = other (codes "int") first e (λ h. b (sym h)) t
+no_ref_kind words rest first e a b none (Class n) t = other (codes "class") first e (λ h. a (sym h)) t
+no_ref_kind words rest first e a b none (NameAndType n d) t = t
+no_ref_kind words rest first e a b none (Member k m) t = other (kind_word k) first e (λ h. none k (sym h)) t
+
+pub no_ref_member : (words rest : List (List ℕ)) (first : List ℕ) → words ≡ first ∷ rest → (first ≡ codes "class" → ⊥) → (first ≡ codes "int" → ⊥) → ((m : MemberName) → IsMemberName rest m → ⊥) → (i : Item) → Refers words i → ⊥
+no_ref_member words rest first e a b none (Text text) t = t
+no_ref_member words rest first e a b none (Integer n) t = other (codes "int") first e (λ h. b (sym h)) t
+no_ref_member words rest first e a b none (Class n) t = other (codes "class") first e (λ h. a (sym h)) t
+no_ref_member words rest first e a b none (NameAndType n d) t = t
+no_ref_member words rest first e a b none (Member k m) t = none m (subst (λ ws. IsMemberName ws m) (tail_of (sym t.spelled ∙ e)) t.behind)

@@ -1,0 +1,8 @@
+use Rattle.cl_writer.proofs.Rows.{no_line_name, no_line_descriptor}
+use Rattle.cl_writer.proofs.statement.member_line.Goals as goal
+
+pub returns-in_default-2 : goal.returns-in_default-2
+returns-in_default-2 c = no_line_name _ _ _ _ c.in-Some.ensures (rw c.in_default-2.is at c.in_ok-name.ensures)
+
+pub returns-in_default-3 : goal.returns-in_default-3
+returns-in_default-3 c = no_line_descriptor _ _ _ _ c.in-Some.ensures (rw c.in_default-3.is at c.in_ok-descriptor.ensures)

@@ -1,0 +1,3 @@
+pub mod Assemblies
+pub mod Items
+pub mod Statements

@@ -1,0 +1,103 @@
+-- What the lines of assembler text say. Words count from the left, a keyword first.
+use Rattle.std.specs.Prelude.{◌≡◌, ◌≢◌, ℕ, ℤ, List, [], ◌∷◌, Option, Some, None, Result, IfOk, MatchOption, codes, slice_index, if◌then◌else◌, FitsSigned}
+use Rattle.std.specs.Int.{w32}
+use Rattle.std.specs.Str.Parse.{IsNumeral, without_leading_sign, signed_digits_value}
+use Rattle.cl_names.specs.Escape.{are_hex, hex_value, WritesName}
+use Rattle.cl_writer.specs.declared.item.MemberKind.{MemberKind}
+use Rattle.cl_writer.specs.declared.item.MemberKind.TheVariants as kinds
+use Rattle.cl_writer.specs.declared.item.MemberName.{MemberName}
+use Rattle.cl_writer.specs.declared.item.Item.{Item}
+use Rattle.cl_writer.specs.declared.item.Item.TheVariants.{Text, Integer, Class, NameAndType, Member}
+use Rattle.cl_writer.specs.declared.statement.ClassLine.{ClassLine}
+use Rattle.cl_writer.specs.declared.statement.MemberLine.{MemberLine}
+use Rattle.cl_writer.specs.declared.statement.Statement.{Statement}
+use Rattle.cl_writer.specs.declared.statement.Statement.TheVariants.{Implements, Field, Method, Ref}
+
+-- what was read is what P says, or it says nothing; memory may have run out
+abbrev pub Reads : {A E : Type 0} → (A → Type 0) → Result (Option A) E → Type 0
+Reads {A} P r = IfOk r (λ o. MatchOption o ((a : A) → P a → ⊥) P)
+
+-- the value of four hexadecimal digits of either case
+abbrev pub flags_of : List ℕ → Option ℕ
+flags_of (a ∷ b ∷ c ∷ d ∷ []) = if are_hex a b c d then Some (hex_value a b c d) else None
+flags_of _ = None
+
+-- a minus, if there is one, and decimal digits write this number of 32 bits
+pub record WritesInteger (text : List ℕ) (number : ℤ) : Type 0 where
+  pub unsigned : slice_index text 0 ≢ 43
+  pub digits : IsNumeral 10 (without_leading_sign text)
+  pub value : number ≡ signed_digits_value 10 text
+  pub fits : FitsSigned w32 number
+
+-- `-` writes that there is no superclass
+abbrev pub WritesSuper : List ℕ → Option (List ℕ) → Type 0
+WritesSuper text None = text ≡ codes "-"
+WritesSuper text (Some name) = (text ≢ codes "-") × WritesName text name
+
+-- NAME
+pub record IsName (words : List (List ℕ)) (name : List ℕ) : Type 0 where
+  pub text : List ℕ
+  pub spelled : words ≡ text ∷ []
+  pub writes : WritesName text name
+
+-- N
+pub record IsInteger (words : List (List ℕ)) (number : ℤ) : Type 0 where
+  pub text : List ℕ
+  pub spelled : words ≡ text ∷ []
+  pub writes : WritesInteger text number
+
+-- FLAGS NAME DESC
+pub record IsMemberLine (words : List (List ℕ)) (line : MemberLine) : Type 0 where
+  pub flags_text : List ℕ
+  pub name_text : List ℕ
+  pub descriptor_text : List ℕ
+  pub spelled : words ≡ flags_text ∷ name_text ∷ descriptor_text ∷ []
+  pub flags : flags_of flags_text ≡ Some line.flags
+  pub name : WritesName name_text line.name
+  pub descriptor : WritesName descriptor_text line.descriptor
+
+-- CLASS NAME DESC
+pub record IsMemberName (words : List (List ℕ)) (member : MemberName) : Type 0 where
+  pub class_text : List ℕ
+  pub name_text : List ℕ
+  pub descriptor_text : List ℕ
+  pub spelled : words ≡ class_text ∷ name_text ∷ descriptor_text ∷ []
+  pub class : WritesName class_text member.class
+  pub name : WritesName name_text member.name
+  pub descriptor : WritesName descriptor_text member.descriptor
+
+-- class FLAGS NAME SUPER
+pub record IsClassLine (words : List (List ℕ)) (line : ClassLine) : Type 0 where
+  pub flags_text : List ℕ
+  pub name_text : List ℕ
+  pub super_text : List ℕ
+  pub spelled : words ≡ codes "class" ∷ flags_text ∷ name_text ∷ super_text ∷ []
+  pub flags : flags_of flags_text ≡ Some line.flags
+  pub name : WritesName name_text line.name
+  pub superclass : WritesSuper super_text line.superclass
+
+-- a keyword, and behind it words of which P holds
+pub record Begins (keyword : List ℕ) (words : List (List ℕ)) (P : List (List ℕ) → Type 0) : Type 0 where
+  pub rest : List (List ℕ)
+  pub spelled : words ≡ keyword ∷ rest
+  pub behind : P rest
+
+abbrev pub kind_word : MemberKind → List ℕ
+kind_word kinds.Field = codes "field"
+kind_word kinds.Method = codes "method"
+kind_word kinds.InterfaceMethod = codes "imethod"
+
+-- the words behind `ref` ask for this entry
+abbrev pub Refers : List (List ℕ) → Item → Type 0
+Refers words (Text text) = ⊥
+Refers words (Integer number) = Begins (codes "int") words (λ rest. IsInteger rest number)
+Refers words (Class name) = Begins (codes "class") words (λ rest. IsName rest name)
+Refers words (NameAndType name descriptor) = ⊥
+Refers words (Member kind member) = Begins (kind_word kind) words (λ rest. IsMemberName rest member)
+
+-- a line after the first says this
+abbrev pub Says : List (List ℕ) → Statement → Type 0
+Says words (Implements name) = Begins (codes "implements") words (λ rest. IsName rest name)
+Says words (Field line) = Begins (codes "field") words (λ rest. IsMemberLine rest line)
+Says words (Method line) = Begins (codes "method") words (λ rest. IsMemberLine rest line)
+Says words (Ref item) = Begins (codes "ref") words (λ rest. Refers rest item)

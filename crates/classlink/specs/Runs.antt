@@ -1,23 +1,34 @@
 -- What a run of the program answers, and what it writes.
-use Rattle.std.specs.Prelude.{◌≡◌, ◌⊎◌, ◌<◌, ◌≤◌, ℕ, ⊤, Bool, List, [], ◌∷◌, ◌++◌, length, codes, Option, Result, Ok, Err, IfSome}
+use Rattle.std.specs.Prelude.{◌≡◌, ◌⊎◌, ◌<◌, ◌≤◌, ℕ, ⊤, Bool, List, [], ◌∷◌, ◌++◌, length, codes, Option, Some, Result, Ok, Err, IfSome}
 use Rattle.std.specs.Str.{IsUtf8}
 use Rattle.std.specs.Io.KnownBytes.{Appends}
 use Rattle.cl_model.specs.Content.{Content}
 use Rattle.cl_registry.specs.Views.{Configured, Scripted}
-use Rattle.cl_registry.specs.Tables.{IsTrusted, posts}
+use Rattle.cl_registry.specs.Reports.{IsNamed}
+use Rattle.cl_registry.specs.Tables.{IsTrusted, RunsAs, posts}
 use Rattle.cl_registry.specs.declared.report.Report.{Report}
 use Rattle.classlink.specs.Bundles.{IsBundle, IsNoBundle}
 use Rattle.classlink.specs.Faults.{fault_text}
 use Rattle.classlink.specs.Report.{AppendsPart, report_lines}
-use Rattle.classlink.specs.Serving.{reported, upto}
+use Rattle.classlink.specs.Headline.{EachSpelt, Alike, CirclesExact}
+use Rattle.classlink.specs.Serving.{InOrder, reported, upto}
 use Rattle.classlink.specs.declared.fault.Fault.{Fault}
 use Rattle.classlink.specs.declared.fault.Fault.TheVariants.{Input, Write, TooLarge, NotUtf8, Bundle, Script, Serve, Memory}
 
--- the report of a script that was served under a configuration
-pub record IsServed (config : Configured) (script : Scripted) (r : Report) : Type 0 where
+-- the report of a script that was served under a configuration. Where a content is told, the history is a run of the
+-- linkage machine over it, in which each request is answered once, with what its plan yields in the state at that point,
+-- failures apart; each class is spelt by its defining loader's bytes, equal requests are answered alike, and circles are
+-- told exactly (JVMS SE 8, 5.3)
+pub record IsServed (told : Option Content) (config : Configured) (script : Scripted) (r : Report) : Type 0 where
   pub of_script : r.script.value ≡ script
-  pub in_order : posts r.history ≡ upto (length script.requests)
+  pub each_once : posts r.history ≡ upto (length script.requests)
+  pub named : IsNamed (length config.names) r
   pub trusted : IsTrusted (reported config r)
+  pub run : RunsAs told (reported config r)
+  pub in_order : InOrder told (reported config r)
+  pub spelt : EachSpelt told (reported config r)
+  pub alike : Alike told (reported config r)
+  pub circles : CirclesExact told (reported config r)
 
 -- the lines of a report of the bundle that an input is
 pub record AreLinesFor (input : Option (List ℕ)) (only_answers : Bool) (lines : List ℕ) : Type 0 where
@@ -28,7 +39,7 @@ pub record AreLinesFor (input : Option (List ℕ)) (only_answers : Bool) (lines 
   pub report : Report
   pub read : IfSome input (λ bytes. text ≡ bytes)
   pub bundle : IsBundle text config content script
-  pub served : IsServed config script report
+  pub served : IsServed (Some content) config script report
   pub are : lines ≡ report_lines config.names only_answers report.history report.answers
 
 -- a first part of the lines is written, and no more

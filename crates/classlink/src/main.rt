@@ -4,7 +4,6 @@
 mod bundle;
 mod fault;
 mod input;
-mod named;
 mod print;
 mod run;
 mod sections;

@@ -1,4 +1,4 @@
-ghost use Rattle.std.specs.Prelude.{◌≡◌, ◌⊎◌, [], Bool, IfOk, length, map};
+ghost use Rattle.std.specs.Prelude.{◌≡◌, ◌⊎◌, [], Bool, IfOk, Some, length, map};
 ghost use Rattle.std.specs.Io.KnownBytes.{Appends};
 ghost use Rattle.clap.specs.Words.{kind_of};
 ghost use Rattle.cl_model.specs.Content.{Tells};
@@ -9,7 +9,6 @@ ghost use Rattle.classlink.specs.Runs.{IsRun, IsServed, RunOf, TellsFault};
 use crate::bundle::{self, Bundle};
 use crate::fault::Fault;
 use crate::input::read_text;
-use crate::named::{answers_are_named, events_are_named};
 use crate::print::{print_report, write_out};
 use crate::serve::{ServeFault, serve_one};
 use crate::words::{self, Asked};
@@ -110,11 +109,6 @@ fn report_bundle<I: Read + Drop, W: Write>(
     let loaders = Arc::try_clone(&config)?;
     let report = serve(alloc, config, source, script)?;
     let names = loaders.names();
-    let events = report.history.events();
-    let answers = report.answers.as_slice();
-    if !events_are_named(events, names.len()) || !answers_are_named(answers, names.len()) {
-        return Err(Fault::Serve(ServeFault::Stray));
-    }
     print_report(alloc, &report, names, asked.answers, out)?;
     Ok(())
 }
@@ -127,7 +121,7 @@ fn serve(
     script: Arc<Script>,
 ) -> Result<Report, ServeFault>
     requires { HasLoaders (length config.value.names) script.value.requests }
-    ensures { IfOk result (IsServed config.value script.value) }
+    ensures { IfOk result (IsServed (Some source) config.value script.value) }
 {
     serve_told::<Brand>(alloc, config, source, script)
 }
@@ -140,7 +134,7 @@ fn serve_told<T: Told>(
 ) -> Result<Report, ServeFault>
     requires tells { Tells T.told source }
     requires loaders { HasLoaders (length config.value.names) script.value.requests }
-    ensures { IfOk result (IsServed config.value script.value) }
+    ensures { IfOk result (IsServed T.told config.value script.value) }
 {
     let mut source = source.tell::<T>();
     serve_one::<T, _>(alloc, config, &mut source, script)

@@ -2,6 +2,7 @@ ghost use Rattle.std.specs.Prelude.{◌≡◌, ◌<◌, ◌++◌, ◌∷◌, [],
 ghost use Rattle.cl_model.specs.Classes.{class};
 ghost use Rattle.cl_model.specs.States.{State};
 ghost use Rattle.cl_registry.specs.Findings.{loader_of};
+ghost use Rattle.cl_registry.specs.Reports.{IsNamed};
 ghost use Rattle.cl_registry.specs.Scripts.{HasLoaders};
 ghost use Rattle.cl_registry.specs.Tables.{IsAsked, IsBacked, IsKept, IsOpen, IsTrusted, MayEnter, RunsAs, posts, state_of, with_post};
 ghost use Rattle.cl_registry.specs.Walks.{Walked};
@@ -180,6 +181,7 @@ pub fn serve_one<T: Told, S: Source<T>>(
     requires { HasLoaders (length config.value.names) script.value.requests }
     ensures script { IfOk result (λ r. r.script.value ≡ script.value) }
     ensures each_once { IfOk result (λ r. posts r.history ≡ upto (length script.value.requests)) }
+    ensures named { IfOk result (IsNamed (length config.value.names)) }
     ensures trusted { IfOk result (λ r. IsTrusted (reported config.value r)) }
     ensures run { IfOk result (λ r. RunsAs T.told (reported config.value r)) }
     ensures in_order { IfOk result (λ r. InOrder T.told (reported config.value r)) }

@@ -2,6 +2,7 @@ use Rattle.std.proofs.Common.{◌≡◌, ◌∙◌, ◌<◌, ℕ, length, Some, 
 use Rattle.std.specs.Prelude.{slice_get}
 use Rattle.cl_model.specs.Views.{answers_of, steps_of}
 use Rattle.cl_registry.specs.Views.{Configured, Scripted}
+use Rattle.cl_registry.specs.Reports.{IsNamed}
 use Rattle.cl_registry.specs.Scripts.{HasLoaders}
 use Rattle.cl_registry.specs.Tables.{Shown, posts}
 use Rattle.classlink.specs.Counting.{Grows, faults}
@@ -76,3 +77,6 @@ returns-clause-alike g c = subst (Alike g.T.Told.told) (told_of g c) (alike g.T.
 
 pub returns-clause-circles : goal.returns-clause-circles
 returns-clause-circles g c = subst (CirclesExact g.T.Told.told) (told_of g c) (circles_exact g.T.Told.told c.loop-q.registry c.loop-q.invariant.kept.trusted c.loop-q.invariant.kept.run)
+
+pub returns-clause-named : goal.returns-clause-named
+returns-clause-named g c = subst (λ (k : Configured). IsNamed (length k.names) c.in-Ok-into_report.report) c.loop-q.invariant.config c.in-Ok-into_report.ensures.loaders

@@ -83,7 +83,7 @@ found_here xs q a none =
     let test = λ (p : Posted). p.request == q in
     let last : Posted = record { request = q; answer = a } in
     ap (option_map (λ (p : Posted). p.answer))
-        (find-append test xs (last ∷ []) ∙ ap (λ (b : Bool). option_or (find test xs) (if b then Some last else None)) (nat_eq_equiv.refl q) ∙ nothing_found (find test xs) (Some last) none)
+    (find-append test xs (last ∷ []) ∙ ap (λ (b : Bool). option_or (find test xs) (if b then Some last else None)) (nat_eq_equiv.refl q) ∙ nothing_found (find test xs) (Some last) none)
   where
     nothing_found : (o k : Option Posted) → option_map (λ (p : Posted). p.answer) o ≡ None → option_or o k ≡ k
     nothing_found None k e = refl
@@ -98,6 +98,7 @@ posted_answer now (events.Post p ∷ h) s q a at none is = by_test (nat_eq q p) 
     here same =
         subst (λ (k : ℕ). answer_to (after s (post_of k (answer_at now k))).answers q ≡ Some a) same
         (ap (λ (o : Option Answer). answer_to (after s (post_of q o)).answers q) at ∙ found_here s.answers q a none)
+
     by_test : (b : Bool) → nat_eq q p ≡ b → (b || is_in q (posts h)) ≡ true
         → (answer_to (after s (post_of p (answer_at now p))).answers q ≡ None → is_in q (posts h) ≡ true → answer_to (state_after s (steps_of now (events.Post p ∷ h))).answers q ≡ Some a)
         → answer_to (state_after s (steps_of now (events.Post p ∷ h))).answers q ≡ Some a
@@ -133,8 +134,8 @@ alike (Some content) x t run =
     let g = machine x content in
     let entry : Scheduled = record { request = request_of r; round = 0 } in
     same_verdict v u
-        (said_alike g (state_of x) p q entry entry (verdict_of v) (verdict_of u) (runs_are_sound g (steps x) run) (scheduled_at x content p r one.asked) (scheduled_at x content q r two.asked) refl
-            (said_there x p v t one.answered) (said_there x q u t two.answered))
+    (said_alike g (state_of x) p q entry entry (verdict_of v) (verdict_of u) (runs_are_sound g (steps x) run) (scheduled_at x content p r one.asked) (scheduled_at x content q r two.asked) refl
+    (said_there x p v t one.answered) (said_there x q u t two.answered))
 
 answered_plan : (g : Setting) (s : State) (q l : ℕ) (name : List ℕ) (v : Verdict) → IsSound g s → slice_get g.script q ≡ Some (record { request = Load l name; round = 0 }) → answer_to s.answers q ≡ Some (Said v) → AnswersPlan g s (Load l name) v
 answered_plan g s q l name v sound asked is =
@@ -158,6 +159,7 @@ circles_exact (Some content) x t run =
   where
     only_there : (g : Setting) (s : State) (loader : ℕ) (name : List ℕ) (c : Class) → AnswersPlan g s (Load loader name) (Wrong (ClassCircularity c)) → EndsInCircle g.world loader name c
     only_there g s loader name c plan = let r = circle_is_answered g s loader name c plan in record { place = r.0; found = r.1; returns = r.2 }
+
     no_need : (v : verdicts.Verdict) (c : Class) → (verdict_of v ≡ Wrong (ClassCircularity c)) ⊎ ((n : Need) × (verdict_of v ≡ Linkage n)) → verdict_of v ≡ Wrong (ClassCircularity c)
     no_need v c (inl e) = e
     no_need v c (inr n) = absurd (no_linkage v n.0 n.1)

@@ -74,10 +74,12 @@ begun_defined (Some content) old x new r c b run next e =
     let same : machine new content ≡ machine old content = same_machine old new content more in
     let may : May (machine old content) (state_of x) (Define c) = last_may content x new (machine old content) (Define c) run same h in
     let here : state_of x ≡ state_after (state_of old) s.more = state_since old x s in
-    let need = subst (λ (g : Setting). IsNextNeed g.world (state_of x) (request_of r) (Entry c.loader c.name c.loader)) (same_machine old x content s) (next content refl) in
-    (more, begun_define (machine old content) (request_of r) (state_of old) s.more c.loader c.name b.1
-        (subst (λ (t : State). IsNextNeed (machine old content).world t (request_of r) (Entry c.loader c.name c.loader)) here need)
-        (subst (λ (t : State). May (machine old content) t (Define c)) here may))
+    let need = subst (λ (g : Setting). IsNextNeed g.world (state_of x) (request_of r) (Entry c.loader c.name c.loader)) (same_machine old x content s) (next content refl) in (
+      more,
+      begun_define (machine old content) (request_of r) (state_of old) s.more c.loader c.name b.1
+          (subst (λ (t : State). IsNextNeed (machine old content).world t (request_of r) (Entry c.loader c.name c.loader)) here need)
+          (subst (λ (t : State). May (machine old content) t (Define c)) here may),
+    )
 
 -- an answer is the plan's in this state, or a failure
 abbrev pub Answering : Setting → State → Request → Answer → Type 0
@@ -196,6 +198,7 @@ own_found (r ∷ rs) l n p all e = by_test ((r.loader == l) && same_name r.name 
     and_left : (a b : Bool) → (a && b) ≡ true → a ≡ true
     and_left true b t = refl
     and_left false b t = absurd cc
+
     by_test : (b : Bool) → ((r.loader == l) && same_name r.name n) ≡ b → option_map (λ (x : Record). x.place) (if b then Some r else find (λ (x : Record). (x.loader == l) && same_name x.name n) rs) ≡ Some p → (recorded rs l n ≡ Some p → p ≡ l) → p ≡ l
     by_test true t f rest = let here : r.place ≡ p = cc in sym here ∙ all.0 ∙ eq_nat r.loader l (and_left (r.loader == l) (same_name r.name n) t)
     by_test false t f rest = rest f

@@ -67,10 +67,13 @@ in_upto (suc n) q below = is_in_push (upto n) q n ∙ by_test (nat_eq q n) refl 
     or_true : (b : Bool) → (b || true) ≡ true
     or_true true = refl
     or_true false = refl
+
     or_left : (b d : Bool) → b ≡ true → (b || d) ≡ true
     or_left b d e = rw e refl
+
     less : (a b : ℕ) → a < suc b → nat_eq a b ≡ false → a < b
     less a b l e = grind (arith, nat_tests)
+
     by_test : (b : Bool) → nat_eq q n ≡ b → (q < n → is_in q (upto n) ≡ true) → (is_in q (upto n) || nat_eq q n) ≡ true
     by_test true e before = ap (λ (d : Bool). is_in q (upto n) || d) e ∙ or_true (is_in q (upto n))
     by_test false e before = or_left (is_in q (upto n)) (nat_eq q n) (before (less q n below e))
@@ -81,6 +84,7 @@ not_in_upto (suc n) q above = is_in_push (upto n) q n ∙ both (is_in q (upto n)
   where
     both : (a b : Bool) → a ≡ false → b ≡ false → (a || b) ≡ false
     both a b p e = rw (p, e) refl
+
     other : (a b : ℕ) → suc b ≤ a → nat_eq a b ≡ false
     other a b l = grind (arith, nat_tests)
 

@@ -16,9 +16,7 @@ ghost use Rattle.classlink.specs.Serving.{DefinesFor, InOrder, Served, reported,
 
 use cl_model::{LoaderId, Request, Told};
 use cl_names::Name;
-use cl_registry::{
-    Config, Draft, Finding, Registry, RegistryFault, Report, Script, Source,
-};
+use cl_registry::{Config, Draft, Finding, Registry, RegistryFault, Report, Script, Source};
 use cl_tasks::{Reply, Task, Turn};
 use std::alloc::{AllocError, Global};
 use std::sync::Arc;

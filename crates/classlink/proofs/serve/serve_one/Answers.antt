@@ -47,8 +47,8 @@ loop-q-preserved g c =
       order = next_upto c.loop-q.q _ _ c.serve_request.ensures.posted inv.order;
       kept = c.serve_request.ensures.kept;
       served =
-        served_next g.T.Told.told c.loop-q.registry c.serve_request.new.registry c.loop-q.q c.in_ok-request.request inv.served
-        (subst (λ (s : Scripted). slice_get s.requests c.loop-q.q ≡ Some c.in_ok-request.request) (c.deref-in-loop-q.ensures ∙ sym inv.script) c.in_ok-request.ensures) c.serve_request.ensures.served;
+          served_next g.T.Told.told c.loop-q.registry c.serve_request.new.registry c.loop-q.q c.in_ok-request.request inv.served
+          (subst (λ (s : Scripted). slice_get s.requests c.loop-q.q ≡ Some c.in_ok-request.request) (c.deref-in-loop-q.ensures ∙ sym inv.script) c.in_ok-request.ensures) c.serve_request.ensures.served;
       counted = faults_then c.loop-q.registry.answers c.serve_request.new.registry.answers _ _ _ inv.counted c.serve_request.ensures.faults;
     }
 

@@ -60,8 +60,8 @@ loop-loader-preserved g c =
       expects = c.define-reply.ensures.expects c.turn.new.self c.in-Define.ensures.asks.0;
       request = c.in-Define.ensures.serves ∙ inv.request;
       going =
-        going_define g.T.Told.told c.args.registry.now c.loop-loader.registry c.define-reply.new.registry c.args.config.value c.args.request c.loop-loader.task.walk c.loop-loader.reply c.in-Define.draft c.loop-loader.task.request
-        inv.going c.requires.config c.requires.loader inv.tells inv.request c.in-Define.ensures.next c.define-reply.ensures.defined c.define-reply.ensures.kept;
+          going_define g.T.Told.told c.args.registry.now c.loop-loader.registry c.define-reply.new.registry c.args.config.value c.args.request c.loop-loader.task.walk c.loop-loader.reply c.in-Define.draft c.loop-loader.task.request
+          inv.going c.requires.config c.requires.loader inv.tells inv.request c.in-Define.ensures.next c.define-reply.ensures.defined c.define-reply.ensures.kept;
       tells = c.define-reply.ensures.tells c.turn.new.self.walk c.in-Define.ensures.asks.1;
       faults = grows_quiet _ _ _ _ inv.faults c.define-reply.ensures.faults;
     }

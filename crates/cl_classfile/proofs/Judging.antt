@@ -4,7 +4,7 @@ use Rattle.std.specs.Prelude.{option_map, is_some}
 use Rattle.std.specs.Cmp.Lexicographic.{pointwise, same_text}
 use Rattle.std.proofs.lemmas.Bool.{eqb-true, eq-eqb, leb-true, le-leb}
 use Rattle.cl_names.specs.Text.{is_text}
-use Rattle.cl_names.specs.Kind.{IsNameOf, IsUnqualified, IsMethod, IsClass, is_class_name}
+use Rattle.cl_names.specs.Kind.{IsNameOf, IsUnqualified, IsMethod, is_class_name}
 use Rattle.cl_names.proofs.Texts.{text_from_test, test_of}
 use Rattle.cl_names.proofs.Grammars.{class_from_test, class_test_of, unqualified_from_test, unqualified_test_of, method_from_test, method_test_of}
 use Rattle.cl_descriptors.specs.Answers.{FormOf}
@@ -18,7 +18,7 @@ use Rattle.cl_classfile.specs.declared.entry.Entry.TheVariants.{Utf8, Integer, F
 use Rattle.cl_classfile.specs.declared.traits.Special.{Special}
 use Rattle.cl_classfile.specs.declared.traits.Special.TheVariants as names
 use Rattle.cl_classfile.specs.declared.traits.Traits.{Traits}
-use Rattle.cl_classfile.specs.Pool.{at, IsText, HasText, HasClass, HasPair, IsNamed, IsField, IsArray, IsCall, IsVoid, NamesType, init, clinit, MayCall, IsPlain, MayPair, MayHandle, EntryFits, KeepsEntry}
+use Rattle.cl_classfile.specs.Pool.{at, HasText, HasClass, HasPair, IsNamed, IsField, IsArray, IsCall, IsVoid, NamesType, init, clinit, MayCall, IsPlain, MayPair, MayHandle, EntryFits, KeepsEntry}
 use Rattle.cl_classfile.specs.Rows.{begins_angle, special_of, is_field, is_array, is_call, is_void, traits_of, nothing, entry_traits, traits_at, is_class, pair_of, pair_at, may_call, may_pair, is_plain, is_init, may_handle, keeps_entry}
 use Rattle.cl_classfile.proofs.Codec.{both}
 

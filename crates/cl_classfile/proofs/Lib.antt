@@ -3,6 +3,7 @@ pub mod Entries
 pub mod Codec
 pub mod Judging
 pub mod MemberRows
+pub mod Keys
 pub mod Classes
 pub mod References
 pub mod Tables

@@ -1,8 +1,7 @@
 -- The tests of the tables of members, and what they say.
-use Rattle.std.proofs.Common.{◌≡◌, ◌⊎◌, ℕ, zero, suc, ◌+◌, ◌≤◌, ◌<◌, Bool, true, false, cond, not, ◌&&◌, ◌||◌, eqb, ltb, nat_eq, List, [], ◌∷◌, ◌++◌, length, map, take, drop, get_or, Option, Some, None, Result, Ok, Err, refl, sym, ap, subst, ◌∙◌, add-one, arith, inl, inr}
+use Rattle.std.proofs.Common.{◌≡◌, ℕ, suc, ◌+◌, ◌≤◌, ◌<◌, Bool, true, false, cond, ◌&&◌, ◌||◌, eqb, ltb, nat_eq, List, [], ◌∷◌, ◌++◌, length, map, take, drop, get_or, Option, Some, None, Result, Ok, Err, refl, sym, ap, ◌∙◌, add-one, arith, inl, inr}
 use Rattle.std.specs.List.{AllByRecursion, list_any}
-use Rattle.std.specs.Cmp.Lexicographic.{pointwise}
-use Rattle.std.specs.Cmp.Lexicographic as texts
+use Rattle.std.specs.Cmp.Lexicographic.{pointwise, same_text}
 use Rattle.std.proofs.Math.Seq.{drop-cons, take-suc}
 use Rattle.std.proofs.lemmas.Bool.{leb-true, ltb-true, lt-ltb, eq-eqb}
 use Rattle.std.proofs.lemmas.List.{length-drop, nil_from_length}
@@ -20,10 +19,10 @@ use Rattle.cl_classfile.specs.declared.traits.Special.TheVariants as names
 use Rattle.cl_classfile.specs.declared.traits.Traits.{Traits}
 use Rattle.cl_classfile.specs.Flags.{has, static, is_field_flags, is_method_flags, is_init_flags}
 use Rattle.cl_classfile.specs.Pool.{at, IsText, HasText, IsField, init, clinit}
-use Rattle.cl_classfile.specs.Members.{Member, KeepsField, TakesUnits, KeepsMethod, SameText, SameMember, AreNew}
+use Rattle.cl_classfile.specs.Members.{Member, KeepsField, TakesUnits, KeepsMethod, SameMember, AreNew}
 use Rattle.cl_classfile.specs.Rows.{special_of, is_field, is_init, entry_traits, traits_at}
 use Rattle.cl_classfile.specs.Files.{text_of, text_at}
-use Rattle.cl_classfile.specs.Checking.{◌>>=◌, keeps_field, has_room, keeps_method_flags, keeps_method, same_text, same_member, checked_members}
+use Rattle.cl_classfile.specs.Checking.{keeps_field, has_room, keeps_method_flags, keeps_method, Key, both_texts, key_of, same_key, same_member, checked_members}
 use Rattle.cl_classfile.proofs.Codec.{both}
 use Rattle.cl_classfile.proofs.Judging.{tests, differ, all, IsTrait, field, unqualified, method, option_traits, traits_are, text_says, text_told, is_clinit, init_says, clinit_says}
 
@@ -138,33 +137,52 @@ named_text : (o : Option Entry) (text : List ℕ) → text_of o ≡ Some text �
 named_text (Some (Utf8 t)) text e = cc
 named_text _ text e = absurd cc
 
-same_by : (pool : List Entry) (i j : ℕ) (o p : Option (List ℕ)) → text_at pool i ≡ o → text_at pool j ≡ p → same_text o p ≡ true → SameText pool i j
-same_by pool i j (Some a) (Some b) e f h =
-    let same : a ≡ b = texts.same_text a b (sym h) in
-    record { text = b; first = named_text (at pool i) b (e ∙ ap (λ (t : List ℕ). Some t) same); second = named_text (at pool j) b f }
-same_by pool i j (Some a) None e f h = absurd cc
-same_by pool i j None p e f h = absurd cc
-
 reflexive : (text : List ℕ) → pointwise nat_eq text text ≡ true
 reflexive [] = refl
 reflexive (b ∷ bytes) = all (eqb b b) (pointwise nat_eq bytes bytes) (eq-eqb b b refl) (reflexive bytes)
 
-same_text_says : (pool : List Entry) (i j : ℕ) → same_text (text_at pool i) (text_at pool j) ≡ true → SameText pool i j
-same_text_says pool i j h = same_by pool i j (text_at pool i) (text_at pool j) refl refl h
+-- a key is that of two texts
+both_are : (o p : Option (List ℕ)) (k : Key) → both_texts o p ≡ Some k → (o ≡ Some k.0) × (p ≡ Some k.1)
+both_are (Some a) (Some b) k e = let same : (let x : Key = (a, b) in x) ≡ k = cc in (ap (λ (x : Key). Some x.0) same, ap (λ (x : Key). Some x.1) same)
+both_are (Some a) None k e = absurd cc
+both_are None p k e = absurd cc
 
-same_text_told : (pool : List Entry) (i j : ℕ) → SameText pool i j → same_text (text_at pool i) (text_at pool j) ≡ true
-same_text_told pool i j s =
-    ap (λ (o : Option Entry). same_text (text_of o) (text_at pool j)) s.first ∙ ap (λ (o : Option Entry). same_text (Some s.text) (text_of o)) s.second ∙ reflexive s.text
+record HasKey (pool : List Entry) (m : Member) (k : Key) : Type 0 where
+  name : IsText pool m.name_index k.0
+  descriptor : IsText pool m.descriptor_index k.1
+
+key_says : (pool : List Entry) (m : Member) (k : Key) → key_of pool m ≡ Some k → HasKey pool m k
+key_says pool m k e =
+    let b = both_are (text_at pool m.name_index) (text_at pool m.descriptor_index) k e in
+    record { name = named_text (at pool m.name_index) k.0 b.0; descriptor = named_text (at pool m.descriptor_index) k.1 b.1 }
+
+key_told : (pool : List Entry) (m : Member) (name descriptor : List ℕ) → IsText pool m.name_index name → IsText pool m.descriptor_index descriptor → key_of pool m ≡ Some (name, descriptor)
+key_told pool m name descriptor n d =
+    ap (λ (o : Option Entry). both_texts (text_of o) (text_at pool m.descriptor_index)) n ∙ ap (λ (o : Option Entry). both_texts (Some name) (text_of o)) d
+
+same_by : (pool : List Entry) (a b : Member) (o p : Option Key) → key_of pool a ≡ o → key_of pool b ≡ p → same_key o p ≡ true → SameMember pool a b
+same_by pool a b (Some k) (Some l) e f h =
+    let t = both (pointwise nat_eq k.0 l.0) (pointwise nat_eq k.1 l.1) h in
+    let first = key_says pool a k e in
+    let second = key_says pool b l f in
+    let name : k.0 ≡ l.0 = same_text k.0 l.0 (sym t.0) in
+    let descriptor : k.1 ≡ l.1 = same_text k.1 l.1 (sym t.1) in
+    record {
+      name = record { text = l.0; first = first.name ∙ ap (λ (x : List ℕ). Some (Utf8 x)) name; second = second.name };
+      descriptor = record { text = l.1; first = first.descriptor ∙ ap (λ (x : List ℕ). Some (Utf8 x)) descriptor; second = second.descriptor };
+    }
+same_by pool a b (Some k) None e f h = absurd cc
+same_by pool a b None p e f h = absurd cc
 
 same_says : (pool : List Entry) (a b : Member) → same_member pool a b ≡ true → SameMember pool a b
-same_says pool a b h =
-    let k = both (same_text (text_at pool a.name_index) (text_at pool b.name_index)) (same_text (text_at pool a.descriptor_index) (text_at pool b.descriptor_index)) h in
-    record { name = same_text_says pool a.name_index b.name_index k.0; descriptor = same_text_says pool a.descriptor_index b.descriptor_index k.1 }
+same_says pool a b h = same_by pool a b (key_of pool a) (key_of pool b) refl refl h
 
 same_told : (pool : List Entry) (a b : Member) → SameMember pool a b → same_member pool a b ≡ true
 same_told pool a b s =
-    all (same_text (text_at pool a.name_index) (text_at pool b.name_index)) (same_text (text_at pool a.descriptor_index) (text_at pool b.descriptor_index))
-    (same_text_told pool a.name_index b.name_index s.name) (same_text_told pool a.descriptor_index b.descriptor_index s.descriptor)
+    let k : Key = (s.name.text, s.descriptor.text) in
+    ap (λ (o : Option Key). same_key o (key_of pool b)) (key_told pool a s.name.text s.descriptor.text s.name.first s.descriptor.first)
+    ∙ ap (λ (o : Option Key). same_key (Some k) o) (key_told pool b s.name.text s.descriptor.text s.name.second s.descriptor.second)
+    ∙ all (pointwise nat_eq k.0 k.0) (pointwise nat_eq k.1 k.1) (reflexive k.0) (reflexive k.1)
 
 neither : (a b : Bool) → a || b ≡ false → (a ≡ false) × (b ≡ false)
 neither true b h = absurd cc
@@ -226,14 +244,16 @@ methods_told pool of_interface ms h new = each_told (keeps_methods pool of_inter
 abbrev pub AreLookedAt : (Member → Bool) → List Entry → List Member → ℕ → Type 0
 AreLookedAt keeps pool ms i = checked_members keeps pool (take i ms) (drop i ms) ≡ checked_members keeps pool [] ms
 
+pub front : (ms : List Member) (i : ℕ) (m : Member) → i < length ms → m ≡ get_or ms i m → take (i + 1) ms ≡ take i ms ++ m ∷ []
+front ms i m lt is = rw add-one (take-suc ms i m lt ∙ ap (λ (x : Member). take i ms ++ x ∷ []) (sym is))
+
 -- the member at i, behind those before it
 next : (keeps : Member → Bool) (pool : List Entry) (ms : List Member) (i : ℕ) (m : Member) → i < length ms → m ≡ get_or ms i m
     → checked_members keeps pool (take i ms) (drop i ms) ≡ cond (keeps m) (cond (list_any (λ e. same_member pool e m) (take i ms)) (Err Duplicate) (checked_members keeps pool (take (i + 1) ms) (drop (i + 1) ms))) (Err BadMember)
 unfolding checked_members
 next keeps pool ms i m lt is =
-    let front : take (i + 1) ms ≡ take i ms ++ m ∷ [] = rw add-one (take-suc ms i m lt ∙ ap (λ (x : Member). take i ms ++ x ∷ []) (sym is)) in
     let back : drop i ms ≡ m ∷ drop (i + 1) ms = drop-cons ms i m lt ∙ ap (λ (x : Member). x ∷ drop (suc i) ms) (sym is) ∙ rw add-one refl in
-    rw (back, front) refl
+    rw (back, front ms i m lt is) refl
 
 pub goes_on : (keeps : Member → Bool) (pool : List Entry) (ms : List Member) (i : ℕ) (m : Member) → i < length ms → m ≡ get_or ms i m → keeps m ≡ true → list_any (λ e. same_member pool e m) (take i ms) ≡ false
     → AreLookedAt keeps pool ms i → AreLookedAt keeps pool ms (i + 1)

@@ -1,6 +1,6 @@
 -- The pool: each entry is read from what spells it, and the index behind a long or a double is skipped.
 use Rattle.std.proofs.Common.{◌≡◌, ◌≢◌, ℕ, suc, ◌+◌, ◌-◌, ◌^◌, ◌<◌, ◌≤◌, Bool, true, false, cond, eqb, leb, ltb, List, [], ◌∷◌, ◌++◌, length, Result, Ok, Err, refl, sym, ap, subst, ◌∙◌, append_assoc, arith}
-use Rattle.std.specs.Prelude.{ℤ, FitsSigned}
+use Rattle.std.specs.Prelude.{FitsSigned}
 use Rattle.std.specs.Int.{Width, w16, w32, w64, to_be_bytes, cast_signed, cast_unsigned}
 use Rattle.std.specs.List.{flat_map, AllByRecursion}
 use Rattle.std.proofs.lemmas.Bool.{eqb-true, leb-true, ltb-true, lt-ltb}
@@ -13,8 +13,7 @@ use Rattle.cl_classfile.specs.declared.fault.Fault.{Fault}
 use Rattle.cl_classfile.specs.declared.fault.Fault.TheVariants.{BadPool}
 use Rattle.cl_classfile.specs.Pool.{entry_spelling, two, EntryFits, IsIndex, is_wide, AreSpaced}
 use Rattle.cl_classfile.specs.Structure.{pool_spelling, PoolFits}
-use Rattle.cl_classfile.specs.Checking.{◌>>=◌}
-use Rattle.cl_classfile.specs.Reading.{Reader, number_at, test_at, map_at, then_at, text_at, byte_at, signed_at, two_at, handle_at, wide_at, value_at, index_at, pair_at, other_at, entry_at, slot_at, next_place, entries_at, pool_at}
+use Rattle.cl_classfile.specs.Reading.{Reader, number_at, test_at, map_at, text_at, byte_at, signed_at, two_at, handle_at, value_at, index_at, pair_at, other_at, entry_at, slot_at, next_place, entries_at, pool_at}
 use Rattle.cl_classfile.proofs.Codec.{IsBytes, bind_ok, ok_is, Takes, Takes-then, IsCodec, number16, number32, number64, also, tested, mapped, many, EachFits, sized}
 
 -- ---- what stands behind a tag

@@ -1,17 +1,17 @@
 -- What the references of a file are.
-use Rattle.std.proofs.Common.{◌≡◌, ◌⊎◌, ℕ, zero, suc, ◌+◌, ◌<◌, ◌≤◌, Bool, true, false, eqb, List, [], ◌∷◌, Option, Some, None, refl, sym, ap, subst, ◌∙◌, arith, inl, inr}
+use Rattle.std.proofs.Common.{◌≡◌, ℕ, zero, suc, ◌+◌, ◌<◌, Bool, true, false, eqb, List, [], ◌∷◌, Option, Some, None, refl, sym, ap, subst, ◌∙◌, arith, inl, inr}
 use Rattle.std.specs.Prelude.{option_map, option_and_then, is_some, find, slice_get, IfSome}
-use Rattle.std.proofs.lemmas.Bool.{eqb-true, eq-eqb, ne_eqb}
+use Rattle.std.proofs.lemmas.Bool.{eq-eqb, ne_eqb}
 use Rattle.cl_names.specs.Kind.{IsNameOf, IsUnqualified, IsMethod}
 use Rattle.cl_descriptors.specs.Reading.{form_of}
 use Rattle.cl_descriptors.specs.declared.types.Form.{Form}
 use Rattle.cl_descriptors.specs.declared.types.Form.TheVariants as forms
 use Rattle.cl_classfile.specs.declared.entry.Entry.{Entry}
-use Rattle.cl_classfile.specs.declared.entry.Entry.TheVariants.{Utf8, Integer, Float, Long, Double, Unusable, Class, String, Fieldref, Methodref, InterfaceMethodref, NameAndType, MethodHandle, MethodType, InvokeDynamic}
+use Rattle.cl_classfile.specs.declared.entry.Entry.TheVariants.{Class, Fieldref, Methodref, InterfaceMethodref, NameAndType}
 use Rattle.cl_classfile.specs.Pool.{at, HasText, HasClass, HasPair, IsField, IsCall, NamesType, MayPair, KeepsEntry}
 use Rattle.cl_classfile.specs.Rows.{is_field, is_call}
 use Rattle.cl_classfile.specs.Structure.{Structure}
-use Rattle.cl_classfile.specs.Files.{Reference, Symbol, Cited, text_of, text_at, type_of, type_name, pair_name, pair_descriptor, symbol_of, symbol_at, cited, typed, reference_of, references_from, file_of, reference}
+use Rattle.cl_classfile.specs.Files.{Reference, Symbol, Cited, text_of, type_of, type_name, pair_name, pair_descriptor, symbol_at, cited, typed, reference_of, references_from, file_of, reference}
 use Rattle.cl_classfile.specs.References.{refers, IsFieldSymbol, IsMethodSymbol, IsCited}
 use Rattle.cl_classfile.proofs.Judging.{field_is, call_is}
 use Rattle.cl_classfile.proofs.Classes.{Rows, row_at}

@@ -1,15 +1,12 @@
 -- Each reader of a structure takes what spells it, and reads again what was spelled.
-use Rattle.std.proofs.Common.{◌≡◌, ◌⊎◌, ℕ, suc, ◌+◌, ◌-◌, ◌^◌, ◌<◌, ◌≤◌, Bool, true, false, cond, eqb, leb, ◌&&◌, List, [], ◌∷◌, ◌++◌, length, Ok, Err, refl, sym, ap, subst, ◌∙◌, append_assoc, arith, inl, inr}
-use Rattle.std.specs.Int.{Width, w16, w32, to_be_bytes}
+use Rattle.std.proofs.Common.{◌≡◌, ℕ, ◌^◌, ◌<◌, true, eqb, ◌&&◌, List, ◌++◌, length, refl, sym, ap, subst, ◌∙◌, append_assoc, arith}
+use Rattle.std.specs.Int.{w16, w32, to_be_bytes}
 use Rattle.std.specs.List.{flat_map}
-use Rattle.std.proofs.lemmas.Bool.{eqb-true, leb-true}
-use Rattle.std.proofs.lemmas.Bool.Decides.{nat_tests}
-use Rattle.cl_classfile.specs.declared.fault.Fault.{Fault}
+use Rattle.std.proofs.lemmas.Bool.{eqb-true}
 use Rattle.cl_classfile.specs.declared.fault.Fault.TheVariants.{BadMagic, Version}
-use Rattle.cl_classfile.specs.Structure.{Structure, Member, Attribute, counted, pool_spelling, member_spelling, attribute_spelling, magic, version, spelling, AllFit, PoolFits, AttributeFits, MemberFits, Fits}
-use Rattle.cl_classfile.specs.Checking.{◌>>=◌}
-use Rattle.cl_classfile.specs.Reading.{Reader, number_at, then_at, test_at, map_at, sized_at, each_at, counted_at, magic_at, version_at, header_at, pool_at, class_at, interfaces_at, attribute_at, attributes_at, member_at, members_at, tables_at, Parts, parts_at, structure_of, structure_at}
-use Rattle.cl_classfile.proofs.Codec.{both, IsBytes, bind_ok, ok_is, Takes, Takes-then, IsCodec, number16, number32, also, sized, tested, mapped, many, EachFits, each_of_all, all_of_each}
+use Rattle.cl_classfile.specs.Structure.{Structure, counted, pool_spelling, member_spelling, attribute_spelling, magic, version, spelling, AllFit, PoolFits, AttributeFits, MemberFits, Fits}
+use Rattle.cl_classfile.specs.Reading.{Reader, number_at, then_at, sized_at, each_at, counted_at, magic_at, version_at, header_at, pool_at, class_at, interfaces_at, attribute_at, attributes_at, member_at, members_at, tables_at, Parts, parts_at, structure_of, structure_at}
+use Rattle.cl_classfile.proofs.Codec.{both, bind_ok, Takes, Takes-then, IsCodec, number16, number32, also, sized, tested, mapped, many, EachFits, each_of_all, all_of_each}
 use Rattle.cl_classfile.proofs.Pooled.{pool}
 
 -- ---- the parts of the file

@@ -11,7 +11,7 @@ use Rattle.cl_classfile.specs.declared.traits.Special.{Special}
 use Rattle.cl_classfile.specs.declared.traits.Special.TheVariants as names
 use Rattle.cl_classfile.specs.declared.traits.Traits.{Traits}
 use Rattle.cl_classfile.specs.Flags.{has, static, interface, is_class_flags, is_field_flags, is_method_flags, is_init_flags}
-use Rattle.cl_classfile.specs.Structure.{Structure, Member, object, at}
+use Rattle.cl_classfile.specs.Structure.{Structure, Member, object}
 use Rattle.cl_classfile.specs.Rows.{is_field, entry_traits, traits_at, keeps_entry}
 use Rattle.cl_classfile.specs.Files.{text_at, class_name}
 
@@ -92,14 +92,26 @@ keeps_method traits of_interface m =
     && (traits_at traits m.name_index).method
     && has_room (has m.flags static) (traits_at traits m.descriptor_index).units
 
-abbrev pub same_text : Option (List ℕ) → Option (List ℕ) → Bool
-same_text (Some a) (Some b) = pointwise nat_eq a b
-same_text (Some a) None = false
-same_text None other = false
+-- the texts of a name and of a descriptor
+abbrev pub Key : Type 0
+Key = List ℕ × List ℕ
+
+abbrev pub both_texts : Option (List ℕ) → Option (List ℕ) → Option Key
+both_texts (Some a) (Some b) = Some (a, b)
+both_texts (Some a) None = None
+both_texts None other = None
+
+abbrev pub key_of : List Entry → Member → Option Key
+key_of pool m = both_texts (text_at pool m.name_index) (text_at pool m.descriptor_index)
+
+abbrev pub same_key : Option Key → Option Key → Bool
+same_key (Some a) (Some b) = pointwise nat_eq a.0 b.0 && pointwise nat_eq a.1 b.1
+same_key (Some a) None = false
+same_key None other = false
 
 -- the members agree in name and descriptor
 abbrev pub same_member : List Entry → Member → Member → Bool
-same_member pool a b = same_text (text_at pool a.name_index) (text_at pool b.name_index) && same_text (text_at pool a.descriptor_index) (text_at pool b.descriptor_index)
+same_member pool a b = same_key (key_of pool a) (key_of pool b)
 
 -- each member keeps its row, and agrees with none before it, nor with one of these
 unfoldable pub checked_members : (Member → Bool) → List Entry → List Member → List Member → Result (Unit {0}) Fault

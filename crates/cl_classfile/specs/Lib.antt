@@ -5,6 +5,7 @@ pub mod Structure
 pub mod Files
 pub mod Rows
 pub mod Checking
+pub mod Seen
 pub mod Raw
 pub mod Reading
 pub mod References

@@ -1,5 +1,5 @@
 -- Fields, methods and attributes: how they are spelled, and what their tables ask (JVMS SE 8, 4.5 to 4.7).
-use Rattle.std.specs.Prelude.{◌≡◌, ◌≤◌, IsTrue, ℕ, ◌+◌, ◌<◌, ◌^◌, Bool, List, [], ◌∷◌, ◌++◌, length, if◌then◌else◌}
+use Rattle.std.specs.Prelude.{◌≤◌, IsTrue, ℕ, ◌+◌, ◌<◌, ◌^◌, Bool, List, [], ◌∷◌, ◌++◌, length, if◌then◌else◌}
 use Rattle.std.specs.List.{flat_map, AllByRecursion}
 use Rattle.std.specs.Int.{w16, w32, to_be_bytes}
 use Rattle.cl_names.specs.Kind.{IsNameOf, IsUnqualified, IsMethod}

@@ -1,5 +1,5 @@
 -- The entries of the pool: how each is spelled, and what its row of the table asks (JVMS SE 8, 4.4).
-use Rattle.std.specs.Prelude.{◌≡◌, ◌≢◌, ◌⊎◌, ◌≤◌, ℕ, zero, suc, ◌+◌, ◌<◌, ◌^◌, Bool, true, false, FitsSigned, List, [], ◌∷◌, ◌++◌, length, Option, Some, None, codes, slice_get}
+use Rattle.std.specs.Prelude.{◌≡◌, ◌≢◌, ◌⊎◌, ◌≤◌, ℕ, zero, suc, ◌<◌, ◌^◌, Bool, true, false, FitsSigned, List, [], ◌∷◌, ◌++◌, length, Option, Some, None, codes, slice_get}
 use Rattle.std.specs.Int.{w16, w32, w64, to_be_bytes, cast_unsigned}
 use Rattle.cl_names.specs.Text.{IsModifiedUtf8}
 use Rattle.cl_names.specs.Kind.{IsNameOf, IsUnqualified, IsMethod, IsClass}

@@ -1,5 +1,5 @@
 -- References without where their names lie in memory, and what is true of them.
-use Rattle.std.specs.Prelude.{Bool, true, false, Option, Some, None}
+use Rattle.std.specs.Prelude.{Bool, true, false, Option, Some}
 use Rattle.cl_names.specs.Kind.{IsNameOf, IsUnqualified, IsMethod}
 use Rattle.cl_classfile.specs.declared.entry.Entry.{Entry}
 use Rattle.cl_classfile.specs.declared.entry.Entry.TheVariants.{Class, Fieldref, Methodref, InterfaceMethodref}

@@ -1,5 +1,4 @@
 -- A class file without where it lies in memory.
-use Rattle.std.specs.Prelude.{[]}
 use Rattle.cl_classfile.specs.declared.file.ClassFile.TheInside.{Inside}
 use Rattle.cl_classfile.specs.Structure.{Structure}
 

@@ -8,7 +8,7 @@ ghost use Rattle.cl_classfile.specs.Files.{file_of, typed, reference};
 ghost use Rattle.cl_classfile.specs.References.{plain_reference, refers, IsCited};
 ghost use Rattle.cl_names.specs.Kind.{IsNameOf, IsClass};
 ghost use Rattle.cl_classfile.specs.Raw.{plain_file};
-ghost use Rattle.cl_classfile.specs.Checking.{Finds, Gives, checked_tables, kept_file};
+ghost use Rattle.cl_classfile.specs.Checking.{Gives, checked_tables, kept_file};
 ghost use Rattle.cl_classfile.specs.Reading.{header_at, read_of};
 
 use crate::attribute::Attribute;
@@ -27,7 +27,7 @@ use cl_names::Name;
 use std::alloc::Global;
 use std::marker::Model;
 
-/// A class file, whose parts keep the tables of JVMS SE 8, 4.1 and 4.4.
+/// A class file, whose parts keep the tables of JVMS SE 8, 4.1 and 4.4 to 4.6.
 #[derive(Debug, Drop)]
 pub struct ClassFile {
     pool: Vec<Entry>,
@@ -157,13 +157,18 @@ fn made(pool: Vec<Entry>, file: RawFile<'_>) -> ClassFile
 
 /// Whether the flags and the supertypes keep their tables, then the fields, then the methods.
 #[tactic(auto, unfolding(crate::specs::Checking::checked_tables))]
-fn check_tables(traits: &[Traits], pool: &[Entry], file: &RawFile<'_>) -> Result<(), Fault>
-    ensures { Finds (λ u. u) result (checked_tables traits.now pool.now (plain_file file.now)) }
+fn check_tables(
+    alloc: Global,
+    traits: &[Traits],
+    pool: &[Entry],
+    file: &RawFile<'_>,
+) -> Result<(), ReadError>
+    ensures { Gives (λ u. u) result (checked_tables traits.now pool.now (plain_file file.now)) }
 {
     check_class(pool, file)?;
     let of_interface = is_interface(file.flags);
-    check_fields(traits, pool, of_interface, file.fields.as_slice())?;
-    check_methods(traits, pool, of_interface, file.methods.as_slice())
+    check_fields(alloc, traits, pool, of_interface, file.fields.as_slice())?;
+    check_methods(alloc, traits, pool, of_interface, file.methods.as_slice())
 }
 
 #[tactic(auto, unfolding(crate::specs::Checking::kept_file))]
@@ -174,7 +179,7 @@ fn kept_file(alloc: Global, file: RawFile<'_>) -> Result<ClassFile, ReadError>
     let traits = all_traits(alloc, file.pool.as_slice())?;
     check_entries(traits.as_slice(), file.pool.as_slice())?;
     let pool = owned_entries(alloc, file.pool.as_slice())?;
-    check_tables(traits.as_slice(), pool.as_slice(), &file)?;
+    check_tables(alloc, traits.as_slice(), pool.as_slice(), &file)?;
     Ok(made(pool, file))
 }
 
@@ -189,8 +194,9 @@ fn read_of(alloc: Global, bytes: &[u8]) -> Result<ClassFile, ReadError>
 
 /// The file that the bytes spell, all of the bytes.
 ///
-/// The errors come in this order: those of the bytes from left to right (F1 to F3, F5 at a tag and at a count of
-/// 0, and where a count of interfaces or members is not 0 F9 or F7), F4, F5 for each entry in turn, F6, F9.
+/// The errors come in this order: those of the bytes from left to right (F1 to F3, F5 at a count of 0, at an unknown
+/// tag and at a long or a double as the last entry), F4, F5 for each entry in turn, F6, F9, and F7 and then F8 for
+/// each field and then for each method.
 pub fn read(alloc: Global, bytes: &[u8]) -> Result<ClassFile, ReadError>
     // What is read is spelled so.
     ensures found { IfOk result (λ f. Spells bytes.now f) }

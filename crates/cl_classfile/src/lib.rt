@@ -15,6 +15,7 @@ mod raw;
 mod reading;
 mod reference;
 mod rows;
+mod text;
 mod traits;
 
 pub use attribute::Attribute;

@@ -6,7 +6,7 @@ use std::test::Fail;
 /// The file of class 1 with superclass 2, and these entries at index 5 and behind it.
 fn file(alloc: Global, count: u8, entries: &[u8]) -> Result<Vec<u8>, AllocError> {
     let mut bytes = Vec::from_slice(alloc, b"\xca\xfe\xba\xbe\x00\x00\x00\x34\x00")?;
-    bytes.push(count + 5)?;
+    bytes.push(count.saturating_add(5))?;
     bytes.extend_from_slice(b"\x07\x00\x03\x07\x00\x04\x01\x00\x03p/A\x01\x00\x03p/B")?;
     bytes.extend_from_slice(entries)?;
     bytes.extend_from_slice(b"\x00\x21\x00\x01\x00\x02\x00\x00\x00\x00\x00\x00\x00\x00")?;

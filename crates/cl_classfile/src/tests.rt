@@ -162,7 +162,7 @@ fn refusals_in_order(rt: HostRuntime) -> Result<(), Fail> {
             Some(Fault::BadPool(2)),
         ),
         (
-            &[0, 3, 1, 0, 2, b'[', b'I', 7, 0, 1],
+            &[0, 3, 1, 0, 2, b'[', b'X', 7, 0, 1],
             &[0; 14],
             Some(Fault::BadPool(2)),
         ),
@@ -423,7 +423,7 @@ fn members_in_order(rt: HostRuntime) -> Result<(), Fail> {
 }
 
 /// A class with a method that has these flags and so many parameters of one unit.
-fn method_of(alloc: Global, flags: u8, units: usize) -> Result<Vec<u8>, AllocError> {
+fn method_of(alloc: Global, flags: u8, units: u16) -> Result<Vec<u8>, AllocError> {
     let mut bytes = file(
         alloc,
         &[
@@ -431,8 +431,8 @@ fn method_of(alloc: Global, flags: u8, units: usize) -> Result<Vec<u8>, AllocErr
         ],
         &[],
     )?;
-    let len = units + 3;
-    bytes.extend_from_slice(&[1, (len / 256) as u8, (len % 256) as u8, b'('])?;
+    let len = units.wrapping_add(3).to_be_bytes();
+    bytes.extend_from_slice(&[1, len[0], len[1], b'('])?;
     for _ in 0..units {
         bytes.push(b'I')?;
     }

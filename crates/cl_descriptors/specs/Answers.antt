@@ -1,4 +1,4 @@
--- What reading bytes as a descriptor may answer: which of these it is, the bytes say, but for want of memory.
+-- What reading bytes as a descriptor may answer: which of these it is, the bytes say, but for want of memory (JVMS SE 8, 4.3).
 use Rattle.std.specs.Prelude.{◌≡◌, ◌≢◌, ℕ, IsTrue, IsFalse, IsOk, IsSome, List, Option, Some, None, Result, Ok, Err}
 use Rattle.cl_descriptors.specs.Types.{SpellsField, SpellsMethod, is_shallow, are_shallow, is_short, units_of_method}
 use Rattle.cl_descriptors.specs.declared.types.FieldType.{FieldType}
@@ -8,13 +8,15 @@ use Rattle.cl_descriptors.specs.declared.types.Form.TheVariants.{Plain, Array, M
 use Rattle.cl_descriptors.specs.declared.types.DescriptorFault.{DescriptorFault}
 use Rattle.cl_descriptors.specs.declared.types.DescriptorFault.TheVariants.{Memory, Malformed, TooManyDimensions, TooManyUnits}
 
--- some type of that kind is spelled so
+-- some field type of that kind is spelled so (JVMS SE 8, 4.3.2)
 abbrev pub IsField : List ℕ → (FieldType → Type 0) → Type 0
 IsField bytes Kind = (t : FieldType) × SpellsField bytes t × Kind t
 
+-- some method type of that kind is spelled so (JVMS SE 8, 4.3.3)
 abbrev pub IsMethod : List ℕ → (MethodType → Type 0) → Type 0
 IsMethod bytes Kind = (m : MethodType) × SpellsMethod bytes m × Kind m
 
+-- what reading as a field descriptor may answer (JVMS SE 8, 4.3.2)
 abbrev pub FieldOf : List ℕ → Result FieldType DescriptorFault → Type 0
 FieldOf bytes (Ok t) = SpellsField bytes t × IsTrue (is_shallow t)
 FieldOf bytes (Err Malformed) = (t : FieldType) → SpellsField bytes t → ⊥
@@ -22,6 +24,7 @@ FieldOf bytes (Err TooManyDimensions) = IsField bytes (λ t. IsFalse (is_shallow
 FieldOf bytes (Err TooManyUnits) = ⊥
 FieldOf bytes (Err Memory) = IsField bytes (λ t. IsTrue (is_shallow t))
 
+-- what reading as a method descriptor may answer (JVMS SE 8, 4.3.3)
 abbrev pub MethodOf : List ℕ → Result MethodType DescriptorFault → Type 0
 MethodOf bytes (Ok m) = SpellsMethod bytes m × IsTrue (are_shallow m) × IsTrue (is_short m)
 MethodOf bytes (Err Malformed) = (m : MethodType) → SpellsMethod bytes m → ⊥
@@ -29,7 +32,7 @@ MethodOf bytes (Err TooManyDimensions) = IsMethod bytes (λ m. IsFalse (are_shal
 MethodOf bytes (Err TooManyUnits) = IsMethod bytes (λ m. IsTrue (are_shallow m) × IsFalse (is_short m))
 MethodOf bytes (Err Memory) = IsMethod bytes (λ m. IsTrue (are_shallow m) × IsTrue (is_short m))
 
--- the answer is that of the bytes, and memory is wanting only where they are a descriptor
+-- the answer is that of the bytes, and memory is wanting only where they are a descriptor (own choice of form)
 abbrev pub Gives : {A : Type 0} → Result A DescriptorFault → Result A DescriptorFault → Type 0
 Gives (Ok x) reading = reading ≡ Ok x
 Gives (Err Malformed) reading = reading ≡ Err Malformed

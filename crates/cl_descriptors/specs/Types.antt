@@ -33,7 +33,7 @@ spelling_of_return (Some t) = spelling_of_field t
 abbrev pub spelling_of_method : MethodType → List ℕ
 spelling_of_method m = codes "(" ++ (flat_map spelling_of_field m.params ++ (codes ")" ++ spelling_of_return m.ret))
 
--- the type that is returned, if any, and then the parameters in order
+-- the type that is returned, if any, and then the parameters in order (JVMS SE 8, 4.3.3)
 abbrev pub types_of : MethodType → List FieldType
 types_of m = option_to_list m.ret ++ m.params
 
@@ -42,16 +42,16 @@ abbrev pub IsBase : Base → Type 0
 IsBase (Class name) = IsNameOf IsClass name
 IsBase _ = Unit {0}
 
--- so is each that a method type names
+-- each that a method type names as a class is a class name (JVMS SE 8, 4.2.1)
 abbrev pub AreNamed : MethodType → Type 0
 AreNamed m = AllByRecursion (λ t. IsBase t.base) (types_of m)
 
--- the bytes are the descriptor of this field type, but for the limit on dimensions
+-- the bytes are the descriptor of this field type, but for the limit on dimensions (JVMS SE 8, 4.3.2)
 pub record SpellsField (bytes : List ℕ) (t : FieldType) : Type 0 where
   pub named : IsBase t.base
   pub spelled : bytes ≡ spelling_of_field t
 
--- the bytes are the descriptor of this method type, but for the limits
+-- the bytes are the descriptor of this method type, but for the limits (JVMS SE 8, 4.3.3)
 pub record SpellsMethod (bytes : List ℕ) (m : MethodType) : Type 0 where
   pub named : AreNamed m
   pub spelled : bytes ≡ spelling_of_method m
@@ -60,11 +60,11 @@ pub record SpellsMethod (bytes : List ℕ) (m : MethodType) : Type 0 where
 abbrev pub is_shallow : FieldType → Bool
 is_shallow t = nat_le t.dims 255
 
--- each type of a method has at most 255 dimensions
+-- each type of a method has at most 255 dimensions (JVMS SE 8, 4.3.2)
 abbrev pub are_shallow : MethodType → Bool
 are_shallow m = list_all is_shallow (types_of m)
 
--- the units of the parameters, without one for `this`
+-- the units of the parameters, without one for `this` (JVMS SE 8, 4.3.3)
 abbrev pub units_of_method : MethodType → ℕ
 units_of_method m = units_of_types m.params
 
@@ -72,14 +72,15 @@ units_of_method m = units_of_types m.params
 abbrev pub is_short : MethodType → Bool
 is_short m = nat_le (units_of_method m) 255
 
+-- the class that a base is, if it is one (JVMS SE 8, 4.3.2)
 abbrev pub class_of_base : Base → Option (List ℕ)
 class_of_base (Class name) = Some name
 class_of_base _ = None
 
--- the class that a type names, that of an array's elements too
+-- the class that a type names, that of an array's elements too (JVMS SE 8, 4.3.2)
 abbrev pub class_of : FieldType → Option (List ℕ)
 class_of t = class_of_base t.base
 
--- the classes that a method type names: that of the return type, and then those of the parameters in order
+-- the classes that a method type names: that of the return type, and then those of the parameters in order (JVMS SE 8, 4.3.3)
 abbrev pub classes_of : MethodType → List (List ℕ)
 classes_of m = filter_map class_of (types_of m)

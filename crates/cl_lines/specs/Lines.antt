@@ -1,52 +1,52 @@
--- Lines and words of scripts and bundles. Bytes are compared, so a carriage return or a tab is a character like any other.
+-- Lines and words of scripts and bundles (own choice). Bytes are compared, so a carriage return or a tab is a character like any other.
 use Rattle.std.specs.Prelude.{◌≡◌, ℕ, ◌+◌, ◌==◌, Bool, true, false, not, List, [], ◌∷◌, length, filter, if◌then◌else◌}
 use Rattle.std.specs.List.{after_first, before_first, slice_split}
 
--- the parts of a text, where an empty one at its end is none
+-- the parts of a text, where an empty one at its end is none (own choice)
 abbrev pub without_empty_end : List (List ℕ) → List (List ℕ)
 without_empty_end [] = []
 without_empty_end (part ∷ []) = if length part == 0 then [] else part ∷ []
 without_empty_end (part ∷ next ∷ more) = part ∷ without_empty_end (next ∷ more)
 
--- the lines of a text, which U+000A alone parts; a last line without one counts
+-- the lines of a text, which U+000A alone parts; a last line without one counts (own choice)
 abbrev pub lines_of : List ℕ → List (List ℕ)
 lines_of text = without_empty_end (slice_split (λ b. b == 10) text)
 
--- the words of a line, which one or more U+0020 part
+-- the words of a line, which one or more U+0020 part (own choice)
 abbrev pub words_of : List ℕ → List (List ℕ)
 words_of line = filter (λ word. not (length word == 0)) (slice_split (λ b. b == 32) line)
 
--- a word that begins with `#`
+-- a word that begins with `#` (own choice)
 abbrev pub is_remark : List ℕ → Bool
 is_remark [] = false
 is_remark (b ∷ bs) = b == 35
 
--- no word, or a first word that begins with `#`
+-- no word, or a first word that begins with `#` (own choice)
 abbrev pub skips : List (List ℕ) → Bool
 skips [] = true
 skips (word ∷ words) = is_remark word
 
--- a line that is empty, all spaces, or a remark
+-- a line that is empty, all spaces, or a remark (own choice)
 abbrev pub is_skipped : List ℕ → Bool
 is_skipped line = skips (words_of line)
 
--- a line with its number
+-- a line with its number (own choice)
 pub record Numbered : Type 0 where
   pub number : ℕ
   pub text : List ℕ
 
--- the first line is cut off a text whose first line has this number
+-- the first line is cut off a text whose first line has this number (own choice)
 pub record CutsLine (old line new : Numbered) : Type 0 where
   pub number : line.number ≡ old.number
   pub text : line.text ≡ before_first (λ b. b == 10) old.text
   pub rest : new.text ≡ after_first (λ b. b == 10) old.text
   pub next : new.number ≡ old.number + 1
 
--- lines with their numbers, skipped ones included
+-- lines with their numbers, skipped ones included (own choice)
 abbrev pub numbered_from : ℕ → List (List ℕ) → List Numbered
 numbered_from number [] = []
 numbered_from number (line ∷ lines) = record { number = number; text = line } ∷ numbered_from (number + 1) lines
 
--- the lines of a text that are not skipped, where its first line has this number
+-- the lines of a text that are not skipped, where its first line has this number (own choice)
 abbrev pub stated_from : ℕ → List ℕ → List Numbered
 stated_from number text = filter (λ line. not (is_skipped line.text)) (numbered_from number (lines_of text))

@@ -1,6 +1,6 @@
--- Laws of the definitions: each is the contract of a function without a body.
-use Rattle.std.specs.Prelude.{◌≡◌, ℕ, suc, ◌+◌, true, false, List, [], ◌∷◌, ◌++◌, length, Some, None, Ok, Err, ◌⊎◌, Contains, Option, slice_get, ◌≢◌}
-use Rattle.cl_classfile.specs.Files.{Name, File}
+-- Laws of the definitions (JVMS SE 8, 5.3 to 5.4.5): each is the contract of a function without a body.
+use Rattle.std.specs.Prelude.{◌≡◌, ℕ, suc, ◌+◌, true, false, List, [], ◌∷◌, ◌++◌, length, Some, None, Ok, Err, ◌⊎◌, ◌↔◌, Contains, Option, slice_get, ◌≢◌}
+use Rattle.cl_classfile.specs.Files.{Name, File, Key, same_key}
 use Rattle.cl_model.specs.Homes.{World, home}
 use Rattle.cl_model.specs.declared.class.Class.{Class}
 use Rattle.cl_model.specs.Classes.{class, Error, ClassCircularity, file_of, HasFile, IsAtHome, Good, IsGood, Fails, Circular, Next, Returns}
@@ -14,319 +14,345 @@ use Rattle.cl_model.specs.Machine.{Setting, Scheduled, Step, Post, May, state_af
 use Rattle.std.specs.List.{AllByRecursion}
 use Rattle.cl_model.specs.Content.{content_at}
 use Rattle.cl_model.specs.declared.event.Event as events
-use Rattle.cl_model.specs.Views.{answer_at, steps_of, IsOther}
+use Rattle.cl_model.specs.declared.verdict.Verdict as verdicts
+use Rattle.cl_model.specs.declared.answer.Answer as answers
+use Rattle.cl_model.specs.Views.{answer_at, steps_of, IsOther, verdict_of, answer_of, step_of}
+use Rattle.cl_model.specs.Texts as texts
+use Rattle.cl_model.specs.Lines as lines
 use Rattle.cl_model.specs.Tables.{Allows, Orderly, IsTrusted, Stands}
 
--- a home is its own home
+-- a home is its own home (5.3.1, 5.3.2)
 abbrev pub HomeOfHome : Type 0
 HomeOfHome = (w : World) (loader found : ℕ) (name : Name) → home w loader name ≡ Some found → home w found name ≡ Some found
 
--- a greater height derives the same
+-- a greater height derives the same (5.3.5)
 abbrev pub HigherDerives : Type 0
 HigherDerives = (w : World) (n : ℕ) (path : List Class) (c : Class) (m : Made Kin) → derive w n path c ≡ Some m → derive w (suc n) path c ≡ Some m
 
--- what is good does not fail
+-- what is good does not fail (5.3.5)
 abbrev pub GoodIsNotFailing : Type 0
 GoodIsNotFailing = (w : World) (n m : ℕ) (c : Class) (e : Error) → Good w n c → Fails w m c e → ⊥
 
--- what derives to a lineage is good
+-- what derives to a lineage is good (5.3.5)
 abbrev pub DerivedIsGood : Type 0
 DerivedIsGood = (w : World) (n : ℕ) (path : List Class) (c : Class) (m : Made Kin) (k : Kin) → derive w n path c ≡ Some m → m.ends ≡ Ok k → Good w n c
 
--- a run goes on by what may happen
+-- a run goes on by what may happen (5.3 to 5.4.3)
 abbrev pub RunGoesOn : Type 0
 RunGoesOn = (g : Setting) (s : State) (es : List Step) (e : Step) → Run g s es → May g (state_after s es) e → Run g s (es ++ e ∷ [])
 
--- a record never changes
+-- a record never changes (5.3)
 abbrev pub RecordsStay : Type 0
 RecordsStay = (s : State) (es : List Step) (loader place : ℕ) (name : Name) → recorded s.records loader name ≡ Some place → recorded (state_after s es).records loader name ≡ Some place
 
--- what is met stays met
+-- what is met stays met (5.3, 5.3.4)
 abbrev pub MetStays : Type 0
 MetStays = (s : State) (es : List Step) (n : Need) → Met s n → Met (state_after s es) n
 
--- along a run nothing is violated
+-- along a run nothing is violated (5.3.4)
 abbrev pub NeverViolated : Type 0
 NeverViolated = (g : Setting) (es : List Step) → Run g start es → Violated (state_after start es) → ⊥
 
--- an answer stays the same along a run
+-- an answer stays the same along a run (5.3 to 5.4.3)
 abbrev pub AnswersStay : Type 0
 AnswersStay = (g : Setting) (s : State) (es : List Step) (ns : List Need) (ends v : Verdict) → (Violated s → ⊥) → Run g s es → Answers s ns ends v → Answers (state_after s es) ns ends v
 
--- a list of needs has one answer in a state
+-- a list of needs has one answer in a state (5.3 to 5.4.3)
 abbrev pub OneAnswer : Type 0
 OneAnswer = (s : State) (ns : List Need) (ends v u : Verdict) → Answers s ns ends v → Answers s ns ends u → v ≡ u
 
--- in a closed state a recorded class needs nothing more: all needs of its derivation are met
+-- in a closed state a recorded class needs nothing more: all needs of its derivation are met (5.3, 5.3.5)
 abbrev pub RecordedIsMet : Type 0
 RecordedIsMet = (w : World) (s : State) (n : ℕ) (path : List Class) (c : Class) (m : Made Kin) (k : Kin) → IsClosed w s → IsRecorded s c → derive w n path c ≡ Some m → m.ends ≡ Ok k → AllMet s m.needs
 
--- every state of a run is closed
+-- every state of a run is closed (5.3, 5.3.5)
 abbrev pub RunsAreClosed : Type 0
 RunsAreClosed = (g : Setting) (es : List Step) → Run g start es → IsClosed g.world (state_after start es)
 
--- what is good is derived at its height: a class met again cannot be good
+-- what is good is derived at its height: a class met again cannot be good (5.3.5)
 abbrev pub GoodIsDerived : Type 0
 GoodIsDerived = (w : World) (n : ℕ) (c : Class) → Good w n c → (m : Made Kin) × (k : Kin) × (derive w n [] c ≡ Some m) × (m.ends ≡ Ok k)
 
--- what derives to an error fails with it, or a walk ends in it
+-- what derives to an error fails with it, or a walk ends in it (5.3.5)
 abbrev pub ErrorIsFailing : Type 0
 ErrorIsFailing = (w : World) (n : ℕ) (path : List Class) (c : Class) (m : Made Kin) (e : Error) → derive w n path c ≡ Some m → m.ends ≡ Err e → Fails w n c e ⊎ ((x : Class) × (e ≡ ClassCircularity x) × Returns w path c x)
 
--- a class fails with one error
+-- a class fails with one error (5.3.5)
 abbrev pub OneError : Type 0
 OneError = (w : World) (n m : ℕ) (c : Class) (e d : Error) → Fails w n c e → Fails w m c d → e ≡ d
 
--- what is good at a height is good at a greater one
+-- what is good at a height is good at a greater one (5.3.5)
 abbrev pub GoodGrows : Type 0
 GoodGrows = (w : World) (n : ℕ) (c : Class) → Good w n c → Good w (suc n) c
 
--- what fails at a height fails at a greater one
+-- what fails at a height fails at a greater one (5.3.5)
 abbrev pub FailsGrows : Type 0
 FailsGrows = (w : World) (n : ℕ) (c : Class) (e : Error) → Fails w n c e → Fails w (suc n) c e
 
--- what fails is derived to its error at its height: a class met again cannot fail
+-- what fails is derived to its error at its height: a class met again cannot fail (5.3.5)
 abbrev pub FailingIsDerived : Type 0
 FailingIsDerived = (w : World) (n : ℕ) (c : Class) (e : Error) → Fails w n c e → (m : Made Kin) × (derive w n [] c ≡ Some m) × (m.ends ≡ Err e)
 
--- a walk that returns excludes both
+-- a walk that returns excludes both (5.3.5, steps 3 and 4)
 abbrev pub ReturnIsCircular : Type 0
 ReturnIsCircular = (w : World) (c x : Class) → Returns w [] c x → Circular w c
 
--- from a class whose walk returns the first supertype that is not good is circular too
+-- from a class whose walk returns the first supertype that is not good is circular too (5.3.5, steps 3 and 4)
 abbrev pub ReturnGoesOn : Type 0
 ReturnGoesOn = (w : World) (c x : Class) → Returns w [] c x → (s : Class) × Next w c s × Circular w s
 
--- what derives to a circle is where a walk returns
+-- what derives to a circle is where a walk returns (5.3.5, steps 3 and 4)
 abbrev pub CircleReturns : Type 0
 CircleReturns = (w : World) (n : ℕ) (path : List Class) (c : Class) (m : Made Kin) (x : Class) → derive w n path c ≡ Some m → m.ends ≡ Err (ClassCircularity x) → Returns w path c x
 
--- where a walk returns, the class is derived to the circle of that subject
+-- where a walk returns, the class is derived to the circle of that subject (5.3.5, steps 3 and 4)
 abbrev pub ReturnIsDerived : Type 0
 ReturnIsDerived = (w : World) (c x : Class) → Returns w [] c x → (n : ℕ) × (m : Made Kin) × (derive w n [] c ≡ Some m) × (m.ends ≡ Err (ClassCircularity x))
 
--- a circle has one subject
+-- a circle has one subject (5.3.5, steps 3 and 4)
 abbrev pub OneSubject : Type 0
 OneSubject = (w : World) (c x y : Class) → Returns w [] c x → Returns w [] c y → x ≡ y
 
--- a failure is no circle
+-- a failure is no circle (5.3.5, steps 3 and 4)
 abbrev pub FailureIsNoCircle : Type 0
 FailureIsNoCircle = (w : World) (n : ℕ) (c x : Class) → Fails w n c (ClassCircularity x) → ⊥
 
--- two heights derive the same
+-- two heights derive the same (5.3.5)
 abbrev pub OneDerivation : Type 0
 OneDerivation = (w : World) (n h : ℕ) (path : List Class) (c : Class) (m k : Made Kin) → derive w n path c ≡ Some m → derive w h path c ≡ Some k → m ≡ k
 
--- what has a file, and so what is good, is at home
+-- what has a file, and so what is good, is at home (5.3)
 abbrev pub GoodIsAtHome : Type 0
 GoodIsAtHome = (w : World) (n : ℕ) (c : Class) → Good w n c → IsAtHome w c
 
--- each class is good, or fails, or a walk from it returns
+-- each class is good, or fails, or a walk from it returns (5.3.5)
 abbrev pub ComesOut : Type 0
 ComesOut = (w : World) (c : Class) → IsGood w c ⊎ ((n : ℕ) × (e : Error) × Fails w n c e) ⊎ ((x : Class) × Returns w [] c x)
 
--- from a circular class a walk returns
+-- from a circular class a walk returns (5.3.5, steps 3 and 4)
 abbrev pub CircularReturns : Type 0
 CircularReturns = (w : World) (c : Class) → Circular w c → (x : Class) × Returns w [] c x
 
--- of a circular class the first supertype that is not good is circular too
+-- of a circular class the first supertype that is not good is circular too (5.3.5, steps 3 and 4)
 abbrev pub CircularGoesOn : Type 0
 CircularGoesOn = (w : World) (c : Class) → Circular w c → (s : Class) × Next w c s × Circular w s
 
--- each request has a plan
+-- each request has a plan (5.3 to 5.4.3)
 abbrev pub PlanExists : Type 0
 PlanExists = (w : World) (q : Request) → (p : Plan) × IsPlan w q p
 
--- and one alone
+-- a request has one plan (5.3 to 5.4.3)
 abbrev pub OnePlan : Type 0
 OnePlan = (w : World) (q : Request) (p r : Plan) → IsPlan w q p → IsPlan w q r → p ≡ r
 
--- a good class has a lineage
+-- a good class has a lineage (5.3.5)
 abbrev pub LineageExists : Type 0
 LineageExists = (w : World) (n : ℕ) (c : Class) → Good w n c → (k : Kin) × HasLineage w c k
 
--- and one alone
+-- a class has one lineage (5.3.5)
 abbrev pub OneLineage : Type 0
 OneLineage = (w : World) (c : Class) (k l : Kin) → HasLineage w c k → HasLineage w c l → k ≡ l
 
--- each entry of a good class has a resolution
+-- each entry of a good class has a resolution (5.4.3)
 abbrev pub ResolutionExists : Type 0
 ResolutionExists = (w : World) (d : Class) (i n : ℕ) → Good w n d → (m : Made Verdict) × IsResolution w d i m
 
--- and one alone
+-- an entry of a class has one resolution (5.4.3)
 abbrev pub OneResolution : Type 0
 OneResolution = (w : World) (d : Class) (i : ℕ) (m k : Made Verdict) → IsResolution w d i m → IsResolution w d i k → m ≡ k
 
--- what a derivation ends in is the lineage of its class
+-- what a derivation ends in is the lineage of its class (5.3.5)
 abbrev pub DerivedIsLineage : Type 0
 DerivedIsLineage = (w : World) (n : ℕ) (path : List Class) (c : Class) (m : Made Kin) (k : Kin) → derive w n path c ≡ Some m → m.ends ≡ Ok k → (k.class ≡ c) × IsLineage w k
 
--- a lineage is what its class is derived to
+-- a lineage is what its class is derived to (5.3.5)
 abbrev pub LineageIsDerived : Type 0
 LineageIsDerived = (w : World) (k : Kin) → IsLineage w k → HasLineage w k.class k
 
--- a settled verdict never changes
+-- a settled verdict never changes (5.4.3)
 abbrev pub SettledStay : Type 0
 SettledStay = (s : State) (es : List Step) (d : Class) (i : ℕ) (v : Verdict) → settled_to s.settled d i ≡ Some v → settled_to (state_after s es).settled d i ≡ Some v
 
--- what is prepared stays so
+-- what is prepared stays so (5.4.2)
 abbrev pub PreparedStay : Type 0
 PreparedStay = (s : State) (es : List Step) (c : Class) → Contains s.prepared c → Contains (state_after s es).prepared c
 
--- a posted answer never changes
+-- a posted answer never changes (own choice)
 abbrev pub PostedStay : Type 0
 PostedStay = (s : State) (es : List Step) (q : ℕ) (a : Answer) → answer_to s.answers q ≡ Some a → answer_to (state_after s es).answers q ≡ Some a
 
--- the answer of a request stays the same along a run
+-- the answer of a request stays the same along a run (5.3 to 5.4.3)
 abbrev pub RequestAnswerStays : Type 0
 RequestAnswerStays = (g : Setting) (s : State) (es : List Step) (q : Request) (v : Verdict) → (Violated s → ⊥) → Run g s es → AnswersPlan g s q v → AnswersPlan g (state_after s es) q v
 
--- the answer of a reference stays the same along a run
+-- the answer of a reference stays the same along a run (5.4.3)
 abbrev pub ReferenceAnswerStays : Type 0
 ReferenceAnswerStays = (g : Setting) (s : State) (es : List Step) (d : Class) (i : ℕ) (v : Verdict) → (Violated s → ⊥) → Run g s es → AnswersReference g s d i v → AnswersReference g (state_after s es) d i v
 
--- a request has one answer in a state
+-- a request has one answer in a state (5.3 to 5.4.3)
 abbrev pub OneRequestAnswer : Type 0
 OneRequestAnswer = (g : Setting) (s : State) (q : Request) (v u : Verdict) → AnswersPlan g s q v → AnswersPlan g s q u → v ≡ u
 
--- a reference has one answer in a state
+-- a reference has one answer in a state (5.4.3)
 abbrev pub OneReferenceAnswer : Type 0
 OneReferenceAnswer = (g : Setting) (s : State) (d : Class) (i : ℕ) (v u : Verdict) → AnswersReference g s d i v → AnswersReference g s d i u → v ≡ u
 
--- all that a state of a run holds is as it should be
+-- all that a state of a run holds is as it should be (5.3 to 5.4.3)
 abbrev pub RunsAreSound : Type 0
 RunsAreSound = (g : Setting) (es : List Step) → Run g start es → IsSound g (state_after start es)
 
--- a step that may happen keeps a state sound
+-- a step that may happen keeps a state sound (5.3 to 5.4.3)
 abbrev pub StepIsSound : Type 0
 StepIsSound = (g : Setting) (s : State) (e : Step) → May g s e → IsSound g s → IsSound g (after s e)
 
--- what clashes would violate, where it is fresh
+-- what clashes would violate, where it is fresh (5.3.4)
 abbrev pub ClashViolates : Type 0
 ClashViolates = (s : State) (n : Need) → IsFresh s n → Clashes s n → Violated (added s n)
 
--- what would violate clashes, where nothing was violated before
+-- what would violate clashes, where nothing was violated before (5.3.4)
 abbrev pub ViolationClashes : Type 0
 ViolationClashes = (s : State) (n : Need) → Violated (added s n) → Violated s ⊎ Clashes s n
 
--- where a loader records a name, its load ends in that class, and all its needs stand, its own record too
+-- where a loader records a name, its load ends in that class, and all its needs stand, its own record too (5.3, 5.3.5)
 abbrev pub RecordedLoadStands : Type 0
 RecordedLoadStands = (w : World) (s : State) (n : ℕ) (absent : Class → Error) (loader place : ℕ) (name : Name) (m : Made Kin) → IsClosed w s → recorded s.records loader name ≡ Some place → load w n absent loader name ≡ Some m → (k : Kin) × (m.ends ≡ Ok k) × (k.class ≡ class name place) × AllMet s m.needs
 
--- the class that a loader records for a name is the answer of its load
+-- the class that a loader records for a name is the answer of its load (5.3)
 abbrev pub RecordedAnswers : Type 0
 RecordedAnswers = (g : Setting) (s : State) (loader place : ℕ) (name : Name) → IsClosed g.world s → recorded s.records loader name ≡ Some place → AnswersPlan g s (Load loader name) (IsClass (class name place))
 
--- a record that is wanted with its home and does not stand is fresh
+-- a record that is wanted with its home and does not stand is fresh (5.3)
 abbrev pub UnmetIsFresh : Type 0
 UnmetIsFresh = (w : World) (s : State) (loader place : ℕ) (name : Name) → IsClosed w s → home w loader name ≡ Some place → (Met s (Entry loader name place) → ⊥) → recorded s.records loader name ≡ None
 
 -- ---- service
 
--- a beginning of a service goes on by the need that comes next
+-- a beginning of a service goes on by the need that comes next (own choice)
 abbrev pub ServiceGoesOn : Type 0
 ServiceGoesOn = (w : World) (r : Request) (s : State) (es : List Step) (n : Need) → IsBegun w r s es → IsNextNeed w (state_after s es) r n → MayAdd (state_after s es) n → IsBegun w r s (es ++ step_for n ∷ [])
 
--- a service follows the plan: a beginning in whose last state the request has an answer is whole
+-- a service follows the plan: a beginning in whose last state the request has an answer is whole (own choice)
 abbrev pub ServiceIsWhole : Type 0
 ServiceIsWhole = (g : Setting) (q : ℕ) (r : Request) (s : State) (es : List Step) (v : Verdict) → IsBegun g.world r s es → AnswersPlan g (state_after s es) r v → Serves g q r s (es ++ Post q (Said v) ∷ [])
 
--- services go on by that of the next request
+-- services go on by that of the next request (own choice)
 abbrev pub ServicesGoOn : Type 0
 ServicesGoOn = (g : Setting) (q p : ℕ) (s : State) (rs : List Scheduled) (r : Scheduled) (es more : List Step) → AllServed g q s rs es → Serves g p r.request (state_after s es) more → p ≡ q + length rs → AllServed g q s (rs ++ r ∷ []) (es ++ more)
 
--- where a superclass is recorded, the record of the class that waits for it is the need that comes next
+-- where a superclass is recorded, the record of the class that waits for it is the need that comes next (5.3.5, step 3)
 abbrev pub WaitingIsNext : Type 0
 WaitingIsNext = (w : World) (s : State) (l : ℕ) (xs : List Waiting) (x : Waiting) (at : Name) → ReadsPlain w → IsClosed w s → IsRecorded s (class at l) → IsChain w l (xs ++ x ∷ []) at → IsNextNeed w s (Load l (first_or xs x.name)) (Entry l x.name l)
 
--- where what is looked for has no superclass, its own record is the need that comes next
+-- where what is looked for has no superclass, its own record is the need that comes next (5.3.5, step 3)
 abbrev pub RootIsNext : Type 0
 RootIsNext = (w : World) (s : State) (l : ℕ) (xs : List Waiting) (at : Name) (f : File) → ReadsPlain w → IsChain w l xs at → HasFile w (class at l) f → f.super_name ≡ None → IsNextNeed w s (Load l (first_or xs at)) (Entry l at l)
 
--- where what is looked for has no home, the load ends at once: the request's own class is not found, another not defined
+-- where what is looked for has no home, the load ends at once: the request's own class is not found, another not defined (5.3.1, 5.3.5)
 abbrev pub MissingStops : Type 0
 MissingStops = (w : World) (l : ℕ) (xs : List Waiting) (at : Name) → IsChain w l xs at → NoneWaitsTwice xs → home w l at ≡ None → EndsAtOnce w (Load l (first_or xs at)) (Wrong (absent_of xs (class at l)))
 
--- where the bytes of what is looked for are not its class, the load ends at once in what is wrong with them
+-- where the bytes of what is looked for are not its class, the load ends at once in what is wrong with them (5.3.5, step 2)
 abbrev pub FaultyStops : Type 0
 FaultyStops = (w : World) (l : ℕ) (xs : List Waiting) (at : Name) (e : Error) → IsChain w l xs at → NoneWaitsTwice xs → stands_in xs at ≡ false → home w l at ≡ Some l → file_of w (class at l) ≡ Err e → EndsAtOnce w (Load l (first_or xs at)) (Wrong e)
 
--- where what is looked for waits already, the load ends at once in the circle, with it as its subject
+-- where what is looked for waits already, the load ends at once in the circle, with it as its subject (5.3.5, step 3)
 abbrev pub CircleStops : Type 0
 CircleStops = (w : World) (l : ℕ) (xs : List Waiting) (at : Name) → IsChain w l xs at → NoneWaitsTwice xs → stands_in xs at ≡ true → EndsAtOnce w (Load l (first_or xs at)) (Wrong (ClassCircularity (class at l)))
 
--- a request whose plan ends at once is answered so in every state
+-- a request whose plan ends at once is answered so in every state (5.3.5)
 abbrev pub AnswersAtOnce : Type 0
 AnswersAtOnce = (g : Setting) (s : State) (r : Request) (v : Verdict) → EndsAtOnce g.world r v → AnswersPlan g s r v
 
--- a load is answered a circle only where its home is circular, of the class that its walk meets again
+-- a load is answered a circle only where its home is circular, of the class that its walk meets again (5.3.5, step 3)
 abbrev pub CircleIsAnswered : Type 0
 CircleIsAnswered = (g : Setting) (s : State) (l : ℕ) (name : Name) (x : Class) → AnswersPlan g s (Load l name) (Wrong (ClassCircularity x)) → (place : ℕ) × (home g.world l name ≡ Some place) × Returns g.world [] (class name place) x
 
--- a load whose home is circular is answered so, unless a need before is refused
+-- a load whose home is circular is answered so, unless a need before is refused (5.3.5, step 3)
 abbrev pub CircularIsAnswered : Type 0
 CircularIsAnswered = (g : Setting) (s : State) (l place : ℕ) (name : Name) (x : Class) (v : Verdict) → home g.world l name ≡ Some place → Returns g.world [] (class name place) x → AnswersPlan g s (Load l name) v → (v ≡ Wrong (ClassCircularity x)) ⊎ ((n : Need) × (v ≡ Linkage n))
 
--- a beginning of what needs make is a beginning
+-- a beginning of what needs make is a beginning (own choice)
 abbrev pub PartBegins : Type 0
 PartBegins = (s : State) (ns : List Need) (xs ys : List Step) → Makes s ns (xs ++ ys) → Begins s ns xs
 
--- a run in two parts is a run and one that goes on from its state
+-- a run in two parts is a run and one that goes on from its state (5.3 to 5.4.3)
 abbrev pub RunThen : Type 0
 RunThen = (g : Setting) (s : State) (es fs : List Step) → Run g s es → Run g (state_after s es) fs → Run g s (es ++ fs)
 
--- each part of a run is a run
+-- each part of a run is a run (5.3 to 5.4.3)
 abbrev pub RunParts : Type 0
 RunParts = (g : Setting) (s : State) (es fs : List Step) → Run g s (es ++ fs) → Run g s es × Run g (state_after s es) fs
 
--- the state after two parts
+-- the state after two parts (own choice)
 abbrev pub StateThen : Type 0
 StateThen = (s : State) (es fs : List Step) → state_after s (es ++ fs) ≡ state_after (state_after s es) fs
 
--- two answers of the machine to equal requests are equal
+-- two answers of the machine to equal requests are equal (5.3 to 5.4.3)
 abbrev pub SaidAlike : Type 0
 SaidAlike = (g : Setting) (s : State) (p q : ℕ) (a b : Scheduled) (v u : Verdict) → IsSound g s → slice_get g.script p ≡ Some a → slice_get g.script q ≡ Some b → a.request ≡ b.request → answer_to s.answers p ≡ Some (Said v) → answer_to s.answers q ≡ Some (Said u) → v ≡ u
 
--- the answer of a request that got past the load of its class is that of the reference, which has one
+-- the answer of a request that got past the load of its class is that of the reference, which has one (5.4.3)
 abbrev pub SaidReference : Type 0
 SaidReference = (g : Setting) (s : State) (q : ℕ) (a : Scheduled) (loader : ℕ) (name : Name) (i : ℕ) (p : Plan) (d : Class) (v : Verdict) → IsSound g s → slice_get g.script q ≡ Some a → a.request ≡ Resolve loader name i → IsPlan g.world (Resolve loader name i) p → p.reached ≡ Some d → AllMet s p.own → answer_to s.answers q ≡ Some (Said v) → AnswersReference g s d i v
 
--- what has a file is spelled by its own loader's bytes, and the file names it
+-- what has a file is spelled by its own loader's bytes, and the file names it (5.3.5, step 2)
 abbrev pub FileIsSpelt : Type 0
 FileIsSpelt = (w : World) (c : Class) (f : File) → HasFile w c f → (bytes : List ℕ) × (content_at w.content c.loader c.name ≡ Some bytes) × (w.read bytes ≡ Ok f) × (f.name ≡ c.name)
 
--- what a history tells, where it goes on
+-- what a history tells, where it goes on (own choice)
 abbrev pub StepsThen : Type 0
 StepsThen = (given : List (Option Answer)) (es fs : List events.Event) → steps_of given (es ++ fs) ≡ steps_of given es ++ steps_of given fs
 
--- answers that differ at one request alone tell the same of a history in which it is not posted
+-- answers that differ at one request alone tell the same of a history in which it is not posted (own choice)
 abbrev pub StepsSame : Type 0
 StepsSame = (given more : List (Option Answer)) (q : ℕ) → ((p : ℕ) → p ≢ q → answer_at more p ≡ answer_at given p) → (es : List events.Event) → AllByRecursion (IsOther q) es → steps_of more es ≡ steps_of given es
 
--- the first need of a plan that does not stand may be made, unless it is refused
+-- the first need of a plan that does not stand may be made, unless it is refused (5.3 to 5.4.3)
 abbrev pub NextMayBeMade : Type 0
 NextMayBeMade = (g : Setting) (s : State) (q : Request) (p : Plan) (n : Need) → IsClosed g.world s → IsPlan g.world q p → IsNext s (needs_of p) n → MayAdd s n → May g s (step_for n)
 
--- the step of a need adds it
+-- the step of a need adds it (5.3, 5.3.4)
 abbrev pub StepAdds : Type 0
 StepAdds = (s : State) (n : Need) → after s (step_for n) ≡ added s n
 
--- tables that were kept in order can be trusted
+-- tables that were kept in order can be trusted (5.3, 5.3.4)
 abbrev pub OrderlyIsTrusted : Type 0
 OrderlyIsTrusted = (es : List Step) → Orderly start es → IsTrusted (state_after start es)
 
--- a step that the tables allow keeps them so
+-- a step that the tables allow keeps them so (5.3, 5.3.4)
 abbrev pub AllowedIsTrusted : Type 0
 AllowedIsTrusted = (s : State) (e : Step) → Allows s e → IsTrusted s → IsTrusted (after s e)
 
--- tables in order stay so by a step that they allow
+-- tables in order stay so by a step that they allow (5.3, 5.3.4)
 abbrev pub OrderlyGoesOn : Type 0
 OrderlyGoesOn = (s : State) (es : List Step) (e : Step) → Orderly s es → Allows (state_after s es) e → Orderly s (es ++ e ∷ [])
 
--- a run keeps the tables in order
+-- a run keeps the tables in order (5.3, 5.3.4)
 abbrev pub RunsAreOrderly : Type 0
 RunsAreOrderly = (g : Setting) (es : List Step) → Run g start es → Orderly start es
 
--- a class is defined once
+-- a class is defined once (5.3.5, step 1)
 abbrev pub DefinedOnce : Type 0
 DefinedOnce = (es fs : List Step) (c : Class) → Orderly start (es ++ Define c ∷ fs) → Stands es (Define c) ⊎ Stands fs (Define c) → ⊥
+
+-- ---- words of the definitions that say the same
+
+-- the test of two keys tells whether they are equal (4.5, 4.6)
+abbrev pub SameKey : Type 0
+SameKey = (a b : Key) → (same_key a b ≡ true) ↔ (a ≡ b)
+
+-- a class is printed as in the lines of the machine (5.3)
+abbrev pub ClassTexts : Type 0
+ClassTexts = (loaders : List (List ℕ)) (c : Class) → texts.class_text loaders c ≡ lines.class_text loaders c
+
+-- a verdict of today is printed as that of the machine (own choice)
+abbrev pub VerdictTexts : Type 0
+VerdictTexts = (loaders : List (List ℕ)) (v : verdicts.Verdict) → texts.verdict_text loaders v ≡ lines.verdict_text loaders (verdict_of v)
+
+-- an answer of today is printed as that of the machine (own choice)
+abbrev pub AnswerTexts : Type 0
+AnswerTexts = (loaders : List (List ℕ)) (a : answers.Answer) → texts.answer_text loaders a ≡ lines.answer_text loaders (answer_of a)
+
+-- an event of today is printed as the step that it tells (own choice)
+abbrev pub EventTexts : Type 0
+EventTexts = (loaders : List (List ℕ)) (given : List (Option Answer)) (e : events.Event) → texts.event_text loaders e ≡ lines.line loaders (step_of given e)

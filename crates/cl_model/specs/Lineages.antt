@@ -1,4 +1,4 @@
--- A good class with all that stands above it, and what it declares and inherits (JVMS SE 8, 5.4.3 to 5.4.5).
+-- A good class with all that stands above it, and what it declares and inherits (JVMS SE 8, 5.3.5, 5.4.3 to 5.4.5).
 use Rattle.std.specs.Prelude.{◌≡◌, ℕ, Bool, true, false, ◌&&◌, ◌||◌, not, if◌then◌else◌, List, [], ◌∷◌, ◌++◌, map, Option, Some, None, find, filter, is_some}
 use Rattle.std.specs.Option.{option_or}
 use Rattle.std.specs.List.{list_any}
@@ -12,7 +12,7 @@ pub data Forest : Type 0 where
   Bare : Forest
   Tree : (class : Class) → (file : File) → (superclass : Forest) → (interfaces : Forest) → (others : Forest) → Forest
 
--- one class of them
+-- one class of them (5.3.5)
 pub record Kin : Type 0 where
   pub class : Class
   pub file : File
@@ -26,7 +26,7 @@ pub record IsAbove (w : World) (c : Class) (a : Above) (s : Class) (f : File) : 
   pub has_file : HasFile w s f
   pub fits : misfit c a.role s f ≡ None
 
--- the list has these direct supertypes of c in order, each with all that stands above it
+-- the list has these direct supertypes of c in order, each with all that stands above it (5.3.5, steps 3 and 4)
 abbrev pub StandsFor : World → Class → Forest → List Above → Type 0
 StandsFor w c Bare [] = Unit {0}
 StandsFor w c Bare (a ∷ more) = ⊥
@@ -40,36 +40,36 @@ pub record IsLineage (w : World) (k : Kin) : Type 0 where
   pub above : StandsFor w k.class k.superclass (superclass_of k.file)
   pub over : StandsFor w k.class k.interfaces (superinterfaces_of k.file)
 
--- the class, its file and what stands above it, alone
+-- the class, its file and what stands above it, alone (own choice of form)
 abbrev pub alone : Kin → Forest
 alone k = Tree k.class k.file k.superclass k.interfaces Bare
 
--- the classes of these, in order
+-- the classes of these, in order (own choice of form)
 abbrev pub classes : List Kin → List Class
 classes ks = map (λ k. k.class) ks
 
--- the first of the list and its superclasses, nearest first
+-- the first of the list and its superclasses, nearest first (4.1; 5.3.5, step 3)
 abbrev pub chain : Forest → List Kin
 chain Bare = []
 chain (Tree c f sup ints others) = record { class = c; file = f; superclass = sup; interfaces = ints } ∷ chain sup
 
--- the proper superclasses, nearest first (8.1.4 of the language)
+-- the proper superclasses, nearest first (4.1, super_class)
 abbrev pub superclasses : Kin → List Kin
 superclasses k = chain k.superclass
 
--- the classes of the list where wanted, each followed by its superinterfaces, then those of the superclass
+-- the classes of the list where wanted, each followed by its superinterfaces, then those of the superclass (own choice of order, 5.4.3.3)
 abbrev pub preorder : Forest → Bool → List Kin
 preorder Bare wanted = []
 preorder (Tree c f sup ints others) wanted =
     (if wanted then record { class = c; file = f; superclass = sup; interfaces = ints } ∷ [] else [])
     ++ preorder ints true ++ preorder sup false ++ preorder others wanted
 
--- each class at its first place alone
+-- each class at its first place alone, after those that were seen (own choice of form)
 abbrev pub once_after : List Class → List Kin → List Kin
 once_after seen [] = []
 once_after seen (k ∷ ks) = if is_among seen k.class then once_after seen ks else k ∷ once_after (k.class ∷ seen) ks
 
--- each class at its first place alone, from the front
+-- each class at its first place alone, from the front (own choice of form)
 abbrev pub once : List Kin → List Kin
 once ks = once_after [] ks
 
@@ -77,7 +77,7 @@ once ks = once_after [] ks
 abbrev pub superinterfaces : Kin → List Kin
 superinterfaces k = once (preorder k.interfaces true ++ preorder k.superclass false)
 
--- the classes of the list, each after its superclass's and its superinterfaces' lineages
+-- the classes of the list, each after its superclass's and its superinterfaces' lineages (5.4)
 abbrev pub postorder : Forest → List Kin
 postorder Bare = []
 postorder (Tree c f sup ints others) =
@@ -87,11 +87,11 @@ postorder (Tree c f sup ints others) =
 abbrev pub lineage : Kin → List Kin
 lineage k = once (postorder (alone k))
 
--- a class has another as proper superclass
+-- a class has another as proper superclass (4.1, super_class)
 abbrev pub is_subclass : Kin → Class → Bool
 is_subclass k c = is_among (classes (superclasses k)) c
 
--- a class declares a field, or a method, with this key
+-- the field with this key that a class declares (4.5)
 abbrev pub field_of : Kin → Key → Option Member
 field_of k key = member k.file.fields key
 
@@ -129,7 +129,7 @@ field_among key (Tree c f sup ints others) =
 abbrev pub lookup_field : Kin → Key → Option Kin
 lookup_field k key = field_among key (alone k)
 
--- a method's flags pass a test, if it is declared
+-- a method's flags pass a test, if it is declared (4.6)
 abbrev pub if_declared : Option Member → (ℕ → Bool) → Bool
 if_declared None test = false
 if_declared (Some m) test = test m.flags
@@ -138,7 +138,7 @@ if_declared (Some m) test = test m.flags
 abbrev pub is_offered : Key → Kin → Bool
 is_offered key k = if_declared (method_of k key) (λ x. not (is_private x) && not (is_static x))
 
--- the superinterfaces that offer a method, in preorder
+-- the superinterfaces that offer a method, in preorder (5.4.3.3)
 abbrev pub offering : Kin → Key → List Kin
 offering k key = filter (is_offered key) (superinterfaces k)
 
@@ -150,22 +150,22 @@ is_maximal ks k = not (list_any (λ other. is_among (classes (superinterfaces ot
 abbrev pub maximally_specific : Kin → Key → List Kin
 maximally_specific k key = filter (is_maximal (offering k key)) (offering k key)
 
--- it declares it with a body
+-- it declares it, and it is not abstract (5.4.3.3, step 3)
 abbrev pub is_default : Key → Kin → Bool
 is_default key k = if_declared (method_of k key) (λ x. not (is_abstract x))
 
--- the first
+-- the first: 'arbitrarily chosen' is read so (own choice, 5.4.3.3)
 abbrev pub first : List Kin → Option Kin
 first [] = None
 first (k ∷ ks) = Some k
 
--- the one, if there is exactly one
+-- the one, if there is exactly one (5.4.3.3, step 3)
 abbrev pub only : List Kin → Option Kin
 only [] = None
 only (k ∷ []) = Some k
 only (k ∷ l ∷ ks) = None
 
--- the one maximally specific method that is not abstract, else any that is offered (5.4.3.3, steps 3 and 4)
+-- the one maximally specific method that is not abstract, else the first that is offered (5.4.3.3, step 3)
 abbrev pub from_superinterfaces : Kin → Key → Option Kin
 from_superinterfaces k key = option_or (only (filter (is_default key) (maximally_specific k key))) (first (offering k key))
 
@@ -173,7 +173,7 @@ from_superinterfaces k key = option_or (only (filter (is_default key) (maximally
 abbrev pub lookup_method : Kin → Key → Option Kin
 lookup_method k key = option_or (find (λ a. is_some (method_of a key)) (k ∷ superclasses k)) (from_superinterfaces k key)
 
--- it declares a public method that is not static
+-- it declares a public method that is not static (5.4.3.4)
 abbrev pub is_public_instance : Key → Kin → Bool
 is_public_instance key k = if_declared (method_of k key) (λ x. is_public x && not (is_static x))
 

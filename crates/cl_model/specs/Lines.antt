@@ -1,4 +1,4 @@
--- The printed line of each event and answer, each loader by its name.
+-- The printed line of each event and answer, each loader by its name (own choice; the words of errors are those of JVMS SE 8, 5.3 to 5.4.4).
 use Rattle.std.specs.Prelude.{ℕ, ◌+◌, List, [], ◌∷◌, ◌++◌, codes, Option, Some, None, slice_get, unwrap_or}
 use Rattle.std.specs.Fmt.{decimal}
 use Rattle.cl_names.specs.Escape.{escaped}
@@ -11,21 +11,21 @@ use Rattle.cl_model.specs.Classes.{class, Error, ClassNotFound, NoClassDef, Clas
 use Rattle.cl_model.specs.States.{Need, Entry, Equal, Verdict, IsClass, IsArrayOf, IsArrayOfBase, IsField, IsMethod, IsLinked, BadEntry, ArrayMember, Wrong, Linkage, Answer, Said, OutOfMemory, SourceFault}
 use Rattle.cl_model.specs.Machine.{Step, Define, Initiate, Constrain, Settle, Prepare, Post, NextRound, Stray}
 
--- the bytes of a printed text
+-- the bytes of a printed text (own choice)
 abbrev pub Text : Type 0
 Text = List ℕ
 
--- words, with a space between each two
+-- words, with a space between each two (own choice)
 abbrev pub words : List Text → Text
 words [] = []
 words (a ∷ []) = a
 words (a ∷ b ∷ more) = a ++ (codes " " ++ words (b ∷ more))
 
--- a loader's name, among those of all loaders in order
+-- a loader's name, among those of all loaders in order (own choice)
 abbrev pub loader_text : List Text → ℕ → Text
 loader_text names loader = unwrap_or (slice_get names loader) []
 
--- `N@M`
+-- `N@M`: a class by its binary name and its defining loader (5.3)
 abbrev pub class_text : List Text → Class → Text
 class_text names c = escaped c.name ++ (codes "@" ++ loader_text names c.loader)
 
@@ -34,7 +34,7 @@ abbrev pub spelling_of : Descriptor → Name
 spelling_of (descriptors.Field t) = spelling_of_field t
 spelling_of (descriptors.Method t) = spelling_of_method t
 
--- the class that declares a member, its name and its descriptor
+-- the class that declares a member, its name and its descriptor (4.5, 4.6)
 abbrev pub member_texts : List Text → Class → Key → List Text
 member_texts names c key = class_text names c ∷ escaped key.name ∷ escaped (spelling_of key.descriptor) ∷ []
 
@@ -50,7 +50,7 @@ error_texts names (IllegalAccess c) = codes "IllegalAccessError" ∷ class_text 
 error_texts names (NoSuchField c) = codes "NoSuchFieldError" ∷ class_text names c ∷ []
 error_texts names (NoSuchMethod c) = codes "NoSuchMethodError" ∷ class_text names c ∷ []
 
--- a refused record names the loader that was asked
+-- the words of a refused need; a refused record names the loader that was asked (5.3.4)
 abbrev pub need_texts : List Text → Need → List Text
 need_texts names (Entry loader name place) = codes "record" ∷ class_text names (class name loader) ∷ []
 need_texts names (Equal name a b) = codes "equal" ∷ escaped name ∷ loader_text names a ∷ loader_text names b ∷ []
@@ -68,21 +68,21 @@ verdict_texts names ArrayMember = codes "ArrayMember" ∷ []
 verdict_texts names (Wrong e) = error_texts names e
 verdict_texts names (Linkage n) = codes "LinkageError" ∷ need_texts names n
 
--- the text of a verdict
+-- the text of a verdict (own choice)
 abbrev pub verdict_text : List Text → Verdict → Text
 verdict_text names v = words (verdict_texts names v)
 
--- the text of an answer
+-- the text of an answer (own choice)
 abbrev pub answer_text : List Text → Answer → Text
 answer_text names (Said v) = verdict_text names v
 answer_text names OutOfMemory = codes "OutOfMemory"
 answer_text names (SourceFault name loader) = words (codes "SourceFault" ∷ class_text names (class name loader) ∷ [])
 
--- the line of an answer: the request's number, counted from 1, and the text
+-- the line of an answer: the request's number, counted from 1, and the text (own choice)
 abbrev pub answer_line : List Text → ℕ → Answer → Text
 answer_line names q a = words (decimal (q + 1) ∷ answer_text names a ∷ [])
 
--- the line of a step, if it has one
+-- the line of a step, if it has one (own choice)
 abbrev pub line : List Text → Step → Option Text
 line names (Define c) = Some (words (codes "define" ∷ class_text names c ∷ []))
 line names (Initiate name place loader) = Some (words (codes "initiate" ∷ escaped name ∷ loader_text names place ∷ codes "by" ∷ loader_text names loader ∷ []))

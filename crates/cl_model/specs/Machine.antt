@@ -1,4 +1,4 @@
--- The linkage machine, of one event a step, over a script of requests.
+-- The linkage machine, of one event a step, over a script of requests (JVMS SE 8, 5.3 to 5.4.3).
 use Rattle.std.specs.Prelude.{◌==◌, if◌then◌else◌, ◌≡◌, ◌≢◌, ◌⊎◌, ℕ, ◌+◌, ◌<◌, List, [], ◌∷◌, ◌++◌, Some, None, Ok, slice_get, IsSome, Contains}
 use Rattle.std.specs.List.{AllByRecursion}
 use Rattle.cl_classfile.specs.Files.{Name, File}
@@ -11,18 +11,19 @@ use Rattle.cl_model.specs.States.{State, Need, Entry, Equal, Verdict, BadEntry, 
 use Rattle.cl_model.specs.Works.{Made}
 use Rattle.cl_model.specs.Plans.{Request, Load, Resolve, Link, Plan, plan, derive, resolve, needs_of, ending}
 
--- a request and its round
+-- a request and its round (own choice)
 pub record Scheduled : Type 0 where
   pub request : Request
   pub round : ℕ
 
--- what is given, what is asked, and in how many rounds; a round may be empty
+-- what is given, what is asked, and in how many rounds; a round may be empty (own choice)
 pub record Setting : Type 0 where
   pub world : World
   pub script : List Scheduled
   pub rounds : ℕ
 
--- one step; Stray is the post of a request that has no answer, which never happens
+-- one step: a definition, an initiating record, a constraint, a resolution, a preparation, an answer (5.3 to 5.4.3);
+-- Stray is the post of a request that has no answer, which never happens
 pub data Step : Type 0 where
   Define : (class : Class) → Step
   Initiate : (name : Name) → (place : ℕ) → (loader : ℕ) → Step
@@ -33,37 +34,37 @@ pub data Step : Type 0 where
   NextRound : Step
   Stray : Step
 
--- a class has this lineage: some height derives it
+-- a class has this lineage: some height derives it (5.3.5)
 pub record HasLineage (w : World) (c : Class) (k : Kin) : Type 0 where
   pub height : ℕ
   pub made : Made Kin
   pub derived : derive w height [] c ≡ Some made
   pub ends : made.ends ≡ Ok k
 
--- some height gives a request this plan
+-- some height gives a request this plan (5.3 to 5.4.3)
 pub record IsPlan (w : World) (q : Request) (p : Plan) : Type 0 where
   pub height : ℕ
   pub planned : plan w height q ≡ Some p
 
--- some height resolves an entry of a class so
+-- some height resolves an entry of a class so (5.4.3)
 pub record IsResolution (w : World) (d : Class) (i : ℕ) (m : Made Verdict) : Type 0 where
   pub kin : Kin
   pub above : HasLineage w d kin
   pub height : ℕ
   pub made : resolve w height kin i ≡ Some m
 
--- the needs are met and the end is the verdict, or the first unmet one is refused
+-- the needs are met and the end is the verdict, or the first unmet one is refused (5.3.4, 5.4.3)
 abbrev pub Answers : State → List Need → Verdict → Verdict → Type 0
 Answers s [] ends v = v ≡ ends
 Answers s (n ∷ ns) ends v = (Met s n × Answers s ns ends v) ⊎ (Refused s n × (v ≡ Linkage n))
 
--- a request is answered so in a state
+-- a request is answered so in a state (5.3 to 5.4.3)
 pub record AnswersPlan (g : Setting) (s : State) (q : Request) (v : Verdict) : Type 0 where
   pub plan : Plan
   pub planned : IsPlan g.world q plan
   pub answered : Answers s (needs_of plan) plan.ends v
 
--- a reference is answered so in a state
+-- a reference is answered so in a state (5.4.3)
 pub record AnswersReference (g : Setting) (s : State) (d : Class) (i : ℕ) (v : Verdict) : Type 0 where
   pub made : Made Verdict
   pub resolved : IsResolution g.world d i made
@@ -87,7 +88,7 @@ pub record MayInitiate (g : Setting) (s : State) (name : Name) (place loader : �
   pub defined : Met s (Entry place name place)
   pub may_add : MayAdd s (Entry loader name place)
 
--- a list of needs that may impose equalities belongs to a recorded class
+-- a list of needs that may impose equalities belongs to a recorded class: its preparation, or a reference of it (5.3.4, 5.4.2, 5.4.3)
 abbrev pub Imposes : Setting → State → List Need → Type 0
 Imposes g s needs =
     ((c : Class) × IsRecorded s c × ((k : Kin) × HasLineage g.world c k × (needs ≡ constraints_of k)))
@@ -117,27 +118,27 @@ pub record MayPrepare (g : Setting) (s : State) (c : Class) : Type 0 where
   pub above : AllByRecursion (λ (a : Above). AtHome g.world c (Contains s.prepared) a.name) (supers kin.file)
   pub imposed : AllMet s (constraints_of kin)
 
--- what a verdict rests on: a reference that was reached is settled to it, what is linked is prepared
+-- what a verdict rests on: a reference that was reached is settled to it, what is linked is prepared (5.4.2, 5.4.3)
 abbrev pub RestsOn : State → Request → Plan → Verdict → Type 0
 RestsOn s (Load loader name) p v = Unit {0}
 RestsOn s (Resolve loader name i) p v =
     (d : Class) → p.reached ≡ Some d → AllMet s p.own → v ≢ BadEntry → v ≢ ArrayMember → settled_to s.settled d i ≡ Some v
 RestsOn s (Link loader name) p v = (c : Class) → v ≡ IsLinked c → Contains s.prepared c
 
--- a request may be answered with a verdict
+-- a request may be answered with a verdict (5.3 to 5.4.3)
 pub record MaySay (g : Setting) (s : State) (q : Request) (v : Verdict) : Type 0 where
   pub plan : Plan
   pub planned : IsPlan g.world q plan
   pub answered : Answers s (needs_of plan) plan.ends v
   pub rests : RestsOn s q plan v
 
--- a request may be answered: memory and the source are answers of their request alone
+-- a request may be answered: memory and the source are answers of their request alone (own choice)
 abbrev pub MayAnswer : Setting → State → Request → Answer → Type 0
 MayAnswer g s q (Said v) = MaySay g s q v
 MayAnswer g s q OutOfMemory = Unit {0}
 MayAnswer g s q (SourceFault name loader) = Unit {0}
 
--- an answer may be posted, in its round and once
+-- an answer may be posted, in its round and once (own choice)
 pub record MayPost (g : Setting) (s : State) (q : ℕ) (a : Answer) : Type 0 where
   pub scheduled : Scheduled
   pub asked : slice_get g.script q ≡ Some scheduled
@@ -145,7 +146,7 @@ pub record MayPost (g : Setting) (s : State) (q : ℕ) (a : Answer) : Type 0 whe
   pub unposted : answer_to s.answers q ≡ None
   pub may_answer : MayAnswer g s scheduled.request a
 
--- the next round may begin: all of this one is answered, and there is a later one
+-- the next round may begin: all of this one is answered, and there is a later one (own choice)
 pub record MayGoOn (g : Setting) (s : State) : Type 0 where
   pub answered : (q : ℕ) (e : Scheduled) → slice_get g.script q ≡ Some e → e.round ≡ s.round → IsSome (answer_to s.answers q)
   pub later : s.round + 1 < g.rounds
@@ -163,7 +164,7 @@ May g s Stray = ⊥
 
 -- ---- what happens
 
--- the state after a step: one entry more, and nothing else changes
+-- the state after a step: one entry more, and nothing else changes (5.3 to 5.4.3)
 abbrev pub after : State → Step → State
 after s (Define c) = added s (Entry c.loader c.name c.loader)
 after s (Initiate name place loader) = added s (Entry loader name place)
@@ -174,24 +175,24 @@ after s (Post q a) = record s { answers = s.answers ++ record { request = q; ans
 after s NextRound = record s { round = s.round + 1 }
 after s Stray = s
 
--- the state after these steps
+-- the state after these steps (own choice)
 abbrev pub state_after : State → List Step → State
 state_after s [] = s
 state_after s (e ∷ es) = state_after (after s e) es
 
--- the steps may happen one after another
+-- the steps may happen one after another (5.3 to 5.4.3)
 abbrev pub Run : Setting → State → List Step → Type 0
 Run g s [] = Unit {0}
 Run g s (e ∷ es) = May g s e × Run g (after s e) es
 
--- the step that makes a need stand
+-- the step that makes a need stand (5.3, 5.3.4)
 abbrev pub step_for : Need → Step
 step_for (Entry loader name place) = if loader == place then Define (class name place) else Initiate name place loader
 step_for (Equal name a b) = Constrain name a b
 
 -- ---- what every state of a run is
 
--- a record has its home, whose own record stands; a recorded class is good, and the records of its supertypes stand
+-- a record has its home, whose own record stands; a recorded class is good, and the records of its supertypes stand (5.3, 5.3.5)
 pub record IsClosed (w : World) (s : State) : Type 0 where
   pub homes : (loader place : ℕ) (name : Name) → recorded s.records loader name ≡ Some place → home w loader name ≡ Some place
   pub own : (loader place : ℕ) (name : Name) → recorded s.records loader name ≡ Some place → recorded s.records place name ≡ Some place
@@ -211,13 +212,13 @@ pub record IsSettled (g : Setting) (s : State) (d : Class) (i : ℕ) (v : Verdic
   pub recorded : IsRecorded s d
   pub answered : AnswersReference g s d i v
 
--- an answer is one of a request of the script, which may be answered so
+-- an answer is one of a request of the script, which may be answered so (own choice)
 pub record IsAnswered (g : Setting) (s : State) (q : ℕ) (a : Answer) : Type 0 where
   pub scheduled : Scheduled
   pub asked : slice_get g.script q ≡ Some scheduled
   pub may_answer : MayAnswer g s scheduled.request a
 
--- all that a state holds is as it should be
+-- all that a state holds is as it should be (5.3 to 5.4.3)
 pub record IsSound (g : Setting) (s : State) : Type 0 where
   pub closed : IsClosed g.world s
   pub unviolated : Violated s → ⊥

@@ -1,4 +1,4 @@
--- What each request needs in turn, and how it ends, from the loaders and the contents alone (JVMS SE 8, 5.3 to 5.4).
+-- What each request needs in turn, and how it ends, from the loaders and the contents alone (JVMS SE 8, 5.3 to 5.4.3).
 use Rattle.std.specs.Prelude.{ℕ, zero, suc, ◌+◌, ◌*◌, Bool, true, false, ◌&&◌, ◌==◌, if◌then◌else◌, List, [], ◌∷◌, ◌++◌, length, Option, Some, None, Result, Ok, Err, option_map, option_and_then, count_by, flat_map, sum_by}
 use Rattle.std.specs.List.{list_any}
 use Rattle.cl_classfile.specs.Files.{Name, same_name, element_name, letter, Key, Member, Reference, ToClass, ToField, ToMethod, ToInterfaceMethod, reference, is_interface}
@@ -51,7 +51,7 @@ derive w (suc n) path c =
       | false ↦ derive_new w (derive w n (c ∷ path)) c
     ]
 
--- a load through a loader
+-- a load through a loader (5.3.1, 5.3.2)
 abbrev pub load : World → ℕ → (Class → Error) → ℕ → Name → Work Kin
 load w n absent loader name = load_by w (derive w n []) absent loader name
 
@@ -69,7 +69,7 @@ abbrev pub class_verdict : ℕ → Class → Verdict
 class_verdict zero c = IsClass c
 class_verdict (suc n) c = IsArrayOf (suc n) c
 
--- the class whose member is asked for, if it is no array
+-- the class whose member is asked for, if it is no array (5.4.3.2, 5.4.3.3; own choice for arrays)
 abbrev pub member_target : FieldType → Option Name
 member_target t = elim (element_name t.base) [
   | [] ↦ None
@@ -102,7 +102,7 @@ resolve_method interface d key c =
     >>= λ a. or_fail (NoSuchMethod c.class) (if interface then lookup_interface_method c key else lookup_method c key)
     >>= λ owner. resolve_found d c owner (method_of owner key) key (IsMethod owner.class key)
 
--- a member reference: its class, and then the member
+-- a member reference: its class, and then the member (5.4.3.2 to 5.4.3.4)
 abbrev pub resolve_member : World → ℕ → Kin → Option Name → (Kin → Work Verdict) → Work Verdict
 resolve_member w n d None member = done ArrayMember
 resolve_member w n d (Some name) member = resolve_class w n d name >>= λ c. member c
@@ -126,7 +126,7 @@ resolve w n d i = elim (reference d.file i) [
 
 -- ---- requests
 
--- what a script asks for: to load a class through a loader, and then to resolve an entry of its pool, or to link it
+-- what a script asks for: to load a class through a loader, and then to resolve an entry of its pool, or to link it (5.3, 5.4, 5.4.3)
 pub data Request : Type 0 where
   Load : (loader : ℕ) → (name : Name) → Request
   Resolve : (loader : ℕ) → (name : Name) → (index : ℕ) → Request
@@ -138,13 +138,13 @@ loaded_by (Load loader name) = record { loader = loader; name = name }
 loaded_by (Resolve loader name i) = record { loader = loader; name = name }
 loaded_by (Link loader name) = record { loader = loader; name = name }
 
--- what follows once the class is loaded
+-- what follows once the class is loaded (5.4, 5.4.3)
 abbrev pub go_on_with : World → ℕ → Request → Kin → Work Verdict
 go_on_with w n (Load loader name) k = done (IsClass k.class)
 go_on_with w n (Resolve loader name i) k = resolve w n k i
 go_on_with w n (Link loader name) k = need (flat_map constraints_of (lineage k)) >>= λ a. done (IsLinked k.class)
 
--- a request's needs: those of its own load, and those that follow; the class that it reaches, and its end
+-- a request's needs: those of its own load, and those that follow; the class that it reaches, and its end (5.3 to 5.4.3)
 pub record Plan : Type 0 where
   pub own : List Need
   pub more : List Need
@@ -152,16 +152,16 @@ pub record Plan : Type 0 where
   pub reached : Option Class
   pub ends : Verdict
 
--- the verdict that a resolution ends in
+-- the verdict that a resolution ends in (5.4.3)
 abbrev pub ending : Result Verdict Error → Verdict
 ending (Ok v) = v
 ending (Err e) = Wrong e
 
--- the plan of a load that ends in a class, and of what follows it
+-- the plan of a load that ends in a class, and of what follows it (5.3 to 5.4.3)
 abbrev pub plan_after : Made Kin → Kin → Made Verdict → Plan
 plan_after m k r = record { own = m.needs; more = r.needs; asked = m.asked ++ r.asked; reached = Some k.class; ends = ending r.ends }
 
--- the plan of a request, from what its load made
+-- the plan of a request, from what its load made (5.3 to 5.4.3)
 abbrev pub plan_from : World → ℕ → Request → Made Kin → Option Plan
 plan_from w n q m = elim (m.ends) [
   | Err e ↦ Some (record { own = m.needs; more = []; asked = m.asked; reached = None; ends = Wrong e })
@@ -172,29 +172,29 @@ plan_from w n q m = elim (m.ends) [
 abbrev pub plan : World → ℕ → Request → Option Plan
 plan w n q = option_and_then (plan_from w n q) (load w n ClassNotFound (loaded_by q).loader (loaded_by q).name)
 
--- all needs of a plan
+-- all needs of a plan (5.3 to 5.4.3)
 abbrev pub needs_of : Plan → List Need
 needs_of p = p.own ++ p.more
 
 -- ---- cost
 
--- the same loader and name
+-- the same loader and name (5.3)
 abbrev pub same_ask : Ask → Ask → Bool
 same_ask a b = (a.loader == b.loader) && same_name a.name b.name
 
--- each at its last place alone
+-- each at its last place alone (own choice of form)
 abbrev pub distinct : List Ask → List Ask
 distinct [] = []
 distinct (a ∷ others) = if list_any (same_ask a) others then distinct others else a ∷ distinct others
 
--- the home of what was asked, as what is asked of that home
+-- the home of what was asked, as what is asked of that home (5.3.2)
 abbrev pub asked_at_home : World → Ask → List Ask
 asked_at_home w a = elim (home w a.loader a.name) [
   | None ↦ []
   | Some place ↦ record { loader = place; name = a.name } ∷ []
 ]
 
--- the supertypes of a class that has a file
+-- how many supertypes a class has that has a file (5.3.5, steps 3 and 4)
 abbrev pub edges_of : World → Ask → ℕ
 edges_of w a = elim (file_of w (class a.name a.loader)) [
   | Err e ↦ 0
@@ -206,7 +206,7 @@ abbrev pub is_equal : Need → Bool
 is_equal (Entry loader name place) = false
 is_equal (Equal name a b) = true
 
--- a bound on the steps of a request
+-- a bound on the steps of a request (own choice)
 abbrev pub cost : World → Plan → ℕ
 cost w p =
     3 * length (distinct (p.asked ++ flat_map (asked_at_home w) p.asked))

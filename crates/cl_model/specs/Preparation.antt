@@ -1,15 +1,15 @@
 -- Overriding, and the loading constraints that preparation imposes (JVMS SE 8, 5.4.2 and 5.4.5).
 use Rattle.std.specs.Prelude.{ℕ, zero, suc, Bool, ◌&&◌, ◌||◌, not, nat_eq, nat_le, if◌then◌else◌, List, [], ◌∷◌, ◌++◌, map, length, Option, Some, None, find, filter, flat_map, is_some, option_to_list}
 use Rattle.std.specs.List.{list_any, starts_with}
-use Rattle.cl_classfile.specs.Files.{Name, Key, Member, is_public, is_private, is_protected, is_static, is_interface, element_name}
-use Rattle.cl_descriptors.specs.declared.types.FieldType.{FieldType}
+use Rattle.cl_classfile.specs.Files.{Name, Key, Member, is_public, is_private, is_protected, is_static, is_interface}
+use Rattle.cl_descriptors.specs.Types.{class_of, classes_of}
 use Rattle.cl_descriptors.specs.declared.types.Descriptor.{Descriptor}
 use Rattle.cl_descriptors.specs.declared.types.Descriptor.TheVariants as descriptors
 use Rattle.cl_model.specs.Classes.{same_package}
 use Rattle.cl_model.specs.Lineages.{Kin, superclasses, superinterfaces, method_of, if_declared}
 use Rattle.cl_model.specs.States.{Need, Equal}
 
--- a name that begins with `<` is `<init>` or `<clinit>`
+-- a name that begins with `<` is `<init>` or `<clinit>` (4.2.2)
 abbrev pub is_special : Name → Bool
 is_special name = starts_with nat_eq name (60 ∷ [])
 
@@ -23,17 +23,17 @@ overrides_directly key c a =
     takes_part key c && takes_part key a
     && (if_declared (method_of a key) (λ x. is_public x || is_protected x) || same_package a.class c.class)
 
--- a place in a list
+-- a place in a list (own choice of form)
 pub record Split : Type 0 where
   pub before : List Kin
   pub at : Kin
   pub after : List Kin
 
--- a place of the list behind one more
+-- a place of the list behind one more (own choice of form)
 abbrev pub shifted : Kin → Split → Split
 shifted k s = record { before = k ∷ s.before; at = s.at; after = s.after }
 
--- each place of a list
+-- each place of a list (own choice of form)
 abbrev pub splits : List Kin → List Split
 splits [] = []
 splits (k ∷ ks) = record { before = []; at = k; after = ks } ∷ map (shifted k) (splits ks)
@@ -49,24 +49,20 @@ overrides_over key (suc n) c between a =
 abbrev pub overrides : Key → Kin → List Kin → Kin → Bool
 overrides key c between a = overrides_over key (length between) c between a
 
--- the superclasses whose method that of c overrides, nearest first
+-- the superclasses whose method that of c overrides, nearest first (5.4.5; the order is an own choice)
 abbrev pub overridden : Key → Kin → List Kin
 overridden key c = map (λ s. s.at) (filter (λ s. overrides key c s.before s.at) (splits (superclasses c)))
 
--- the class that a type names, its element's where it is an array
-abbrev pub named_by : FieldType → List Name
-named_by t = element_name t.base
-
 -- the classes that a descriptor names, the return type first (5.4.2, 5.4.3)
 abbrev pub class_names : Descriptor → List Name
-class_names (descriptors.Field t) = named_by t
-class_names (descriptors.Method t) = flat_map named_by (option_to_list t.ret ++ t.params)
+class_names (descriptors.Field t) = option_to_list (class_of t)
+class_names (descriptors.Method m) = classes_of m
 
 -- an equality for each class that a key's descriptor names, the lesser loader first (5.3.4)
 abbrev pub equals_of : Key → ℕ → ℕ → List Need
 equals_of key a b = map (λ n. if nat_le a b then Equal n a b else Equal n b a) (class_names key.descriptor)
 
--- equalities with the loaders of each of these
+-- equalities with the loaders of each of these (5.4.2)
 abbrev pub equals_with : Key → ℕ → List Kin → List Need
 equals_with key loader ks = flat_map (λ k. equals_of key loader k.class.loader) ks
 
@@ -78,7 +74,7 @@ for_declared c m =
     ++ equals_with m.key c.class.loader (filter (takes_part m.key) (superinterfaces c))
     else []
 
--- the nearest superclass that declares a method that is neither private nor static
+-- the nearest superclass that declares a method that is neither private nor static (5.4.2, 5.4.5)
 abbrev pub inherited_from : Kin → Key → Option Kin
 inherited_from c key = find (λ a. if_declared (method_of a key) (λ x. not (is_private x) && not (is_static x))) (superclasses c)
 

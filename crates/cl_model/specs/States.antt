@@ -1,4 +1,4 @@
--- What has been recorded, imposed, settled and prepared, and what that meets or refuses (JVMS SE 8, 5.3 to 5.4).
+-- What has been recorded, imposed, settled and prepared, and what that meets or refuses (JVMS SE 8, 5.3 to 5.4.3).
 use Rattle.std.specs.Prelude.{◌≡◌, ◌≢◌, ◌⊎◌, ℕ, ◌&&◌, ◌==◌, List, [], ◌∷◌, ◌++◌, Option, Some, None, find, option_map, Contains}
 use Rattle.cl_classfile.specs.Files.{Name, Key, same_name}
 use Rattle.cl_model.specs.declared.class.Class.{Class}
@@ -22,7 +22,7 @@ pub data Verdict : Type 0 where
   Wrong : (error : Error) → Verdict
   Linkage : (refused : Need) → Verdict
 
--- what is posted
+-- what is posted: a verdict, or that memory or the source failed (own choice)
 pub data Answer : Type 0 where
   Said : (verdict : Verdict) → Answer
   OutOfMemory : Answer
@@ -46,7 +46,7 @@ pub record Settled : Type 0 where
   pub index : ℕ
   pub verdict : Verdict
 
--- the answer of a request, by its number
+-- the answer of a request, by its number (own choice)
 pub record Posted : Type 0 where
   pub request : ℕ
   pub answer : Answer
@@ -60,34 +60,34 @@ pub record State : Type 0 where
   pub answers : List Posted
   pub round : ℕ
 
--- nothing yet, in the first round
+-- nothing yet, in the first round (own choice)
 abbrev pub start : State
 start = record { records = []; equalities = []; settled = []; prepared = []; answers = []; round = 0 }
 
--- who defined the class that a loader records for a name
+-- who defined the class that a loader records for a name (5.3)
 abbrev pub recorded : List Record → ℕ → Name → Option ℕ
 recorded rs loader name = option_map (λ r. r.place) (find (λ r. (r.loader == loader) && same_name r.name name) rs)
 
--- a class is recorded by its own loader
+-- a class is recorded by its own loader (5.3)
 abbrev pub IsRecorded : State → Class → Type 0
 IsRecorded s c = recorded s.records c.loader c.name ≡ Some c.loader
 
--- what a reference is settled to
+-- what a reference is settled to: later attempts give the same (5.4.3)
 abbrev pub settled_to : List Settled → Class → ℕ → Option Verdict
 settled_to rs c i = option_map (λ r. r.verdict) (find (λ r. same_class r.class c && (r.index == i)) rs)
 
--- what a request is answered, if it is
+-- what a request is answered, if it is (own choice)
 abbrev pub answer_to : List Posted → ℕ → Option Answer
 answer_to ps q = option_map (λ p. p.answer) (find (λ p. p.request == q) ps)
 
--- two loaders are the ends of an equality for a name, in either order
+-- two loaders are the ends of an equality for a name, in either order (5.3.4)
 pub record Linked (ks : List Equality) (name : Name) (a b : ℕ) : Type 0 where
   pub equality : Equality
   pub imposed : Contains ks equality
   pub named : equality.name ≡ name
   pub ends : ((equality.one ≡ a) × (equality.other ≡ b)) ⊎ ((equality.one ≡ b) × (equality.other ≡ a))
 
--- a path of equalities from one loader over these to another
+-- a path of equalities from one loader over these to another (5.3.4)
 abbrev pub IsPath : List Equality → Name → ℕ → List ℕ → ℕ → Type 0
 IsPath ks name a [] b = a ≡ b
 IsPath ks name a (c ∷ cs) b = Linked ks name a c × IsPath ks name c cs b
@@ -114,17 +114,17 @@ abbrev pub Met : State → Need → Type 0
 Met s (Entry loader name place) = recorded s.records loader name ≡ Some place
 Met s (Equal name a b) = Joined s.equalities name a b
 
--- a need is added
+-- a need is added (5.3, 5.3.4)
 abbrev pub added : State → Need → State
 added s (Entry loader name place) = record s { records = s.records ++ record { loader = loader; name = name; place = place } ∷ [] }
 added s (Equal name a b) = record s { equalities = s.equalities ++ record { name = name; one = a; other = b } ∷ [] }
 
--- no record stands where the need would put one
+-- no record stands where the need would put one (5.3)
 abbrev pub IsFresh : State → Need → Type 0
 IsFresh s (Entry loader name place) = recorded s.records loader name ≡ None
 IsFresh s (Equal name a b) = Unit {0}
 
--- a loader joined to this one records another class for a name
+-- a loader joined to this one records another class for a name (5.3.4)
 pub record Differs (s : State) (name : Name) (loader place : ℕ) : Type 0 where
   pub other : ℕ
   pub other_place : ℕ
@@ -132,7 +132,7 @@ pub record Differs (s : State) (name : Name) (loader place : ℕ) : Type 0 where
   pub recorded_there : recorded s.records other name ≡ Some other_place
   pub differ : place ≢ other_place
 
--- loaders joined to one and to the other record different classes for a name
+-- loaders joined to one and to the other record different classes for a name (5.3.4)
 pub record Divides (s : State) (name : Name) (a b : ℕ) : Type 0 where
   pub one : ℕ
   pub place : ℕ
@@ -150,7 +150,7 @@ pub record Refused (s : State) (need : Need) : Type 0 where
   pub unmet : Met s need → ⊥
   pub clashes : Clashes s need
 
--- a need may be added
+-- a need may be added (5.3.4)
 pub record MayAdd (s : State) (need : Need) : Type 0 where
   pub unmet : Met s need → ⊥
   pub fits : Clashes s need → ⊥
@@ -160,7 +160,7 @@ abbrev pub AllMet : State → List Need → Type 0
 AllMet s [] = Unit {0}
 AllMet s (n ∷ ns) = Met s n × AllMet s ns
 
--- a need stands in a list, and all before it are met
+-- a need stands in a list, and all before it are met (own choice: needs are made in order)
 abbrev pub IsNext : State → List Need → Need → Type 0
 IsNext s [] need = ⊥
 IsNext s (n ∷ ns) need = (n ≡ need) ⊎ (Met s n × IsNext s ns need)

@@ -1,4 +1,4 @@
--- What is printed for classes, verdicts, answers and events, where loaders are written by their names.
+-- What is printed for classes, verdicts, answers and events of today, where loaders are written by their names (own choice; the words of errors are those of JVMS SE 8, 5.3 to 5.4.3).
 use Rattle.std.specs.Prelude.{ℕ, ◌<◌, ⊤, List, [], ◌++◌, slice_index_or, codes, Option, Some, None}
 use Rattle.cl_names.specs.Escape.{escaped}
 use Rattle.cl_model.specs.declared.class.Class.{Class}
@@ -11,11 +11,11 @@ use Rattle.cl_model.specs.declared.answer.Answer.TheVariants as answers
 use Rattle.cl_model.specs.declared.event.Event.{Event}
 use Rattle.cl_model.specs.declared.event.Event.TheVariants as events
 
--- `N@M`: a name in escaped text, and the name of the loader of this number
+-- `N@M`: a name in escaped text, and the name of the loader of this number (own choice)
 abbrev pub located_text : List (List ℕ) → List ℕ → ℕ → List ℕ
 located_text loaders name loader = escaped name ++ codes "@" ++ slice_index_or loaders loader []
 
--- a class, by its binary name and its defining loader
+-- a class, by its binary name and its defining loader (5.3)
 abbrev pub class_text : List (List ℕ) → Class → List ℕ
 class_text loaders c = located_text loaders c.name c.loader
 
@@ -27,36 +27,36 @@ kind_text kinds.ClassFormatError = codes "ClassFormatError"
 kind_text kinds.UnsupportedClassVersionError = codes "UnsupportedClassVersionError"
 kind_text kinds.ClassCircularityError = codes "ClassCircularityError"
 
--- the text of a verdict
+-- the text of a verdict (own choice)
 abbrev pub verdict_text : List (List ℕ) → Verdict → List ℕ
 verdict_text loaders (verdicts.Class c) = codes "class " ++ class_text loaders c
 verdict_text loaders (verdicts.Error kind subject) = kind_text kind ++ codes " " ++ class_text loaders subject
 
--- the text of an answer
+-- the text of an answer (own choice)
 abbrev pub answer_text : List (List ℕ) → Answer → List ℕ
 answer_text loaders (answers.Said verdict) = verdict_text loaders verdict
 answer_text loaders answers.Memory = codes "OutOfMemory"
 answer_text loaders (answers.SourceFault name loader) = codes "SourceFault " ++ located_text loaders name loader
 
--- the line of an event, but for its end; a post has none
+-- the line of an event, but for its end; a post has none (own choice)
 abbrev pub event_text : List (List ℕ) → Event → Option (List ℕ)
 event_text loaders (events.Define c) = Some (codes "define " ++ class_text loaders c)
 event_text loaders (events.Post q) = None
 
 -- ---- which loaders a value names; all of them are below a count
 
--- each loader of a verdict is below a count
+-- each loader of a verdict is below a count (own choice of form)
 abbrev pub VerdictNames : ℕ → Verdict → Type 0
 VerdictNames count (verdicts.Class c) = c.loader < count
 VerdictNames count (verdicts.Error kind subject) = subject.loader < count
 
--- each loader of an answer is below a count
+-- each loader of an answer is below a count (own choice of form)
 abbrev pub AnswerNames : ℕ → Answer → Type 0
 AnswerNames count (answers.Said verdict) = VerdictNames count verdict
 AnswerNames count answers.Memory = ⊤
 AnswerNames count (answers.SourceFault name loader) = loader < count
 
--- each loader of an event is below a count
+-- each loader of an event is below a count (own choice of form)
 abbrev pub EventNames : ℕ → Event → Type 0
 EventNames count (events.Define c) = c.loader < count
 EventNames count (events.Post q) = ⊤

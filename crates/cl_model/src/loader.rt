@@ -29,7 +29,7 @@ pub(crate) fn located_text(
     requires { loader < length loaders.now }
     ensures { IfOk result (λ t. string_bytes t ≡ located_text (map string_bytes loaders.now) name.now loader) }
 {
-    let mut text = name.text(alloc)?;
+    let mut text = name.text(alloc).map_err(|_| AllocError)?;
     text.push_str("@")?;
     text.push_str(loader_name(loaders, loader))?;
     Ok(text)

@@ -1,4 +1,4 @@
-ghost use Rattle.std.specs.Prelude.{◌≡◌, ◌≤◌, ℕ, List, [], ◌∷◌, ◌++◌, length, IfOk};
+ghost use Rattle.std.specs.Prelude.{◌≡◌, ◌≤◌, ℕ, List, [], ◌∷◌, ◌++◌, length, IfErr, IfOk};
 ghost use Rattle.std.specs.Prelude.{refl, nat_eq, Some};
 ghost use Rattle.std.specs.Ordering.{nat_cmp};
 ghost use Rattle.std.specs.Cmp;
@@ -8,19 +8,19 @@ ghost use Rattle.std.specs.Hash as fed;
 ghost use Rattle.std.proofs.Common.{rules};
 ghost use Rattle.cl_names.specs.Text.{IsModifiedUtf8};
 ghost use Rattle.cl_names.specs.Escape.{escaped};
+ghost use Rattle.cl_names.specs.Form.{completes};
 ghost use Rattle.cl_names.specs.Name.{TestedNameOf};
 
-use crate::escape::{printed, written_bytes, written_len};
-use crate::kind::{has_class_form, has_method_form, has_unqualified_form, package_len};
-use crate::text::is_modified_utf8;
+use crate::escape::{printed, written};
+use crate::form::Form;
+use crate::kind::{
+    MAX_LEN, is_class_name, is_method_name, is_unqualified_name, package_len, read_form,
+};
 use std::alloc::{AllocError, Global};
 use std::cmp::Ordering;
 use std::hash::{Hash, Hasher};
 use std::marker::Model;
 use thiserror::Error;
-
-/// The most bytes of a name: a class file counts them in two bytes (JVMS SE 8, 4.4.7).
-const MAX_LEN: usize = 65535;
 
 /// A name, in modified UTF-8 (JVMS SE 8, 4.4.7).
 #[derive(Debug, Drop)]
@@ -113,13 +113,14 @@ impl Name {
     ghost use Rattle.std.specs.List.{starts_with};
     ghost use Rattle.cl_names.specs.Kind.{IsUnqualified, IsMethod, IsClass, IsNameOf, is_unqualified_name, is_method_name, is_class_name, HasNoSlash, package_of};
     ghost use Rattle.cl_names.specs.Name.{NameOf, KindNameOf, TextNameOf};
+    ghost use Rattle.cl_names.specs.declared.name.NameFault.TheVariants.{Memory};
 
     /// The name of any kind that the bytes spell: `NotModifiedUtf8` where they spell nothing, `BadName`
     /// where they are over 65,535, and then `Memory` (JVMS SE 8, 4.4.7).
     pub fn any(alloc: Global, bytes: &[u8]) -> Result<Name, NameFault>
         ensures { NameOf bytes.now result }
     {
-        spelled(alloc, bytes, true)
+        spelled(alloc, bytes, Form::Any)
     }
 
     /// The class's name that the bytes spell, unqualified names with `/` between them: `NotModifiedUtf8`,
@@ -127,7 +128,7 @@ impl Name {
     pub fn class(alloc: Global, bytes: &[u8]) -> Result<Name, NameFault>
         ensures { KindNameOf IsClass bytes.now result }
     {
-        spelled(alloc, bytes, has_class_form(bytes))
+        spelled(alloc, bytes, Form::Class { fresh: true })
     }
 
     /// The unqualified name that the bytes spell, with none of `.` `;` `[` `/`: `NotModifiedUtf8`, then
@@ -135,7 +136,7 @@ impl Name {
     pub fn unqualified(alloc: Global, bytes: &[u8]) -> Result<Name, NameFault>
         ensures { KindNameOf IsUnqualified bytes.now result }
     {
-        spelled(alloc, bytes, has_unqualified_form(bytes))
+        spelled(alloc, bytes, Form::Unqualified { fresh: true })
     }
 
     /// The method's name that the bytes spell, unqualified without `<` and `>`, or `<init>` or
@@ -144,7 +145,7 @@ impl Name {
     pub fn method(alloc: Global, bytes: &[u8]) -> Result<Name, NameFault>
         ensures { KindNameOf IsMethod bytes.now result }
     {
-        spelled(alloc, bytes, has_method_form(bytes))
+        spelled(alloc, bytes, Form::Method { fresh: true })
     }
 
     /// The name of any kind that escaped text writes: each code unit as itself, where it is one of
@@ -153,21 +154,17 @@ impl Name {
     pub fn from_text(alloc: Global, text: &str) -> Result<Name, NameFault>
         ensures { TextNameOf text.now result }
     {
-        let text = text.as_bytes();
-        match written_len(text) {
-            Some(len) if len <= MAX_LEN => Ok(Name {
-                bytes: written_bytes(alloc, text, len)?,
-            }),
-            _ => Err(NameFault::BadName),
-        }
+        Ok(Name {
+            bytes: written(alloc, text.as_bytes())?,
+        })
     }
 
-    /// The name as escaped text, in lower case, with escapes only where they are needed. Only want of
-    /// memory refuses it.
-    pub fn text(&self, alloc: Global) -> Result<String, AllocError>
-        ensures { IfOk result (λ text. string_bytes text ≡ escaped self.now) }
+    /// The name as escaped text, in lower case, with escapes only where they are needed, or `Memory`.
+    pub fn text(&self, alloc: Global) -> Result<String, NameFault>
+        ensures printed { IfOk result (λ text. string_bytes text ≡ escaped self.now) }
+        ensures memory { IfErr result (λ e. e ≡ Memory) }
     {
-        printed(alloc, self.bytes())
+        Ok(printed(alloc, self.bytes())?)
     }
 
     /// Whether it is a class's name (JVMS SE 8, 4.2.1).
@@ -175,7 +172,7 @@ impl Name {
         ensures kind { MatchBool result (IsNameOf IsClass self.now) (IsNameOf IsClass self.now → ⊥) }
         ensures test { result ≡ is_class_name self.now }
     {
-        has_class_form(self.bytes())
+        is_class_name(self.bytes())
     }
 
     /// Whether it is an unqualified name (JVMS SE 8, 4.2.2).
@@ -183,7 +180,7 @@ impl Name {
         ensures kind { MatchBool result (IsNameOf IsUnqualified self.now) (IsNameOf IsUnqualified self.now → ⊥) }
         ensures test { result ≡ is_unqualified_name self.now }
     {
-        has_unqualified_form(self.bytes())
+        is_unqualified_name(self.bytes())
     }
 
     /// Whether it is a method's name (JVMS SE 8, 4.2.2).
@@ -191,7 +188,7 @@ impl Name {
         ensures kind { MatchBool result (IsNameOf IsMethod self.now) (IsNameOf IsMethod self.now → ⊥) }
         ensures test { result ≡ is_method_name self.now }
     {
-        has_method_form(self.bytes())
+        is_method_name(self.bytes())
     }
 
     /// The package of a class's name: what stands before the last `/`, nothing where there is none
@@ -233,13 +230,13 @@ impl Name {
     }
 }
 
-/// The name that the bytes spell, where they have the form of its kind.
-fn spelled(alloc: Global, bytes: &[u8], has_form: bool) -> Result<Name, NameFault>
-    ensures { TestedNameOf has_form bytes.now result }
+/// The name that the bytes spell, where they have this form.
+fn spelled(alloc: Global, bytes: &[u8], form: Form) -> Result<Name, NameFault>
+    ensures { TestedNameOf (completes form bytes.now) bytes.now result }
 {
-    if !is_modified_utf8(bytes) {
+    let Some(has_form) = read_form(bytes, form) else {
         return Err(NameFault::NotModifiedUtf8);
-    }
+    };
     if !has_form || bytes.len() > MAX_LEN {
         return Err(NameFault::BadName);
     }

@@ -14,6 +14,7 @@ use Rattle.cl_model.specs.declared.answer.Answer as rust
 use Rattle.cl_model.specs.declared.request.Request.{Request}
 use Rattle.cl_model.specs.Content.{Content}
 use Rattle.cl_model.specs.Classes.{class}
+use Rattle.cl_model.specs.Texts.{AnswerNames}
 use Rattle.cl_model.specs.States.{State, Record, Answer, recorded, start}
 use Rattle.cl_model.specs.Machine.{Step, Define, Post, after, state_after}
 use Rattle.cl_model.specs.Views.{answer_of, answers_of, answer_at, post_of, step_of, steps_of}
@@ -21,18 +22,12 @@ use Rattle.cl_registry.specs.declared.row.ClassRow.{ClassRow}
 use Rattle.cl_registry.specs.Drafts.{IsDraft}
 use Rattle.cl_registry.specs.Searches.{Drafted}
 use Rattle.cl_registry.specs.Parts.{IsOf, is_above, EntersIn, BackedIn}
-use Rattle.cl_registry.specs.Findings.{Answered, loader_of, name_of}
+use Rattle.cl_registry.specs.Findings.{Answered, loader_of, name_of, Rests}
 use Rattle.cl_registry.specs.Kept.{left_in, IsRegistry}
+pub use Rattle.cl_registry.proofs.Histories.{posts_define, posts_post}
+use Rattle.cl_registry.proofs.Histories.{eq_nat, state_defines, given, left_set, swap_nat, is_in_push, each_push, posted_by, unposted, state_posts}
+use Rattle.cl_registry.proofs.Running.{run_define, run_post, run_new, named_define, named_post, named_new}
 use Rattle.cl_registry.specs.Tables.{Shown, steps, state_of, records_of, posts, is_in, EachOnce, NoneTwice, IsTrusted, IsKept, with_define, with_post, IsRow, RowAt, MayEnter, AboveIn, IsOpen, IsBacked, AnswerBacked, DefinedAs}
-
--- ---- steps and states
-
-pub state_push : (s : State) (es : List Step) (e : Step) → state_after s (es ++ e ∷ []) ≡ after (state_after s es) e
-state_push s [] e = refl
-state_push s (f ∷ es) e = state_push (after s f) es e
-
-pub state_defines : (x : Shown) (c : Class) → state_of (with_define x c) ≡ after (state_of x) (Define c)
-state_defines x c = ap (state_after start) (map_push (step_of (answers_of x.answers)) x.history (events.Define c)) ∙ state_push start (steps x) (Define c)
 
 -- ---- records
 
@@ -59,9 +54,6 @@ none_push before [] r h new = (subst (λ (rs : List Record). recorded rs r.loade
 none_push before (x ∷ rs) r h new = (h.0, none_push (before ++ x ∷ []) rs r h.1 (subst (λ (l : List Record). recorded l r.loader r.name ≡ None) (sym (append_assoc before (x ∷ []) rs)) new))
 
 -- ---- rows
-
-eq_nat : (a b : ℕ) → nat_eq a b ≡ true → a ≡ b
-eq_nat a b e = grind (arith, nat_tests)
 
 and_true : (a b : Bool) → (a && b) ≡ true → (a ≡ true) × (b ≡ true)
 and_true true b e = (refl, e)
@@ -115,18 +107,6 @@ rows_define told x table new d row at fresh draft made is l n =
     ap (λ (s : State). recorded s.records l n) (state_defines x d.class) ∙ recorded_push (records_of x) (record { loader = d.class.loader; name = d.class.name; place = d.class.loader }) l n in
     subst (λ (o : Option ClassRow). RowAt told l n o (recorded (records_of (with_define x d.class)) l n)) (sym (is l n)) (row_push told l n test (table l n) row _ _ d.class.loader (at l n) here now)
 
--- ---- posts
-
-pub posts_define : (h : List Event) (c : Class) → posts (h ++ events.Define c ∷ []) ≡ posts h
-posts_define [] c = refl
-posts_define (events.Define d ∷ h) c = posts_define h c
-posts_define (events.Post q ∷ h) c = ap (◌∷◌ q) (posts_define h c)
-
-pub posts_post : (h : List Event) (q : ℕ) → posts (h ++ events.Post q ∷ []) ≡ posts h ++ q ∷ []
-posts_post [] q = refl
-posts_post (events.Define d ∷ h) q = posts_post h q
-posts_post (events.Post p ∷ h) q = ap (◌∷◌ p) (posts_post h q)
-
 pub kept_define : (told : Option Content) (x : Shown) (table new : ℕ → List ℕ → Option ClassRow) (d : Drafted) (row : ClassRow) (parts wide used now room more left filled answers : ℕ)
     → IsRegistry told x table parts used room left filled answers → recorded (records_of x) d.class.loader d.class.name ≡ None → MayEnter x d → IsDraft told d → IsOf row d
     → ((l : ℕ) (n : List ℕ) → new l n ≡ (if (d.class.loader == l) && pointwise nat_eq d.class.name n then Some row else table l n))
@@ -135,6 +115,9 @@ pub kept_define : (told : Option Content) (x : Shown) (table new : ℕ → List 
 kept_define told x table new d row parts wide used now room more left filled answers k fresh may draft made is same one fits =
     record {
       kept = record {
+        one = k.kept.one;
+        named = named_define x d.class k.kept.named may.loader;
+        run = run_define told x d k.kept.run k.kept.one fresh may draft;
         trusted = record {
           once = subst (λ (rs : List Record). NoneTwice [] rs) (sym (ap (λ (s : State). s.records) (state_defines x d.class))) (none_push [] (records_of x) (record { loader = d.class.loader; name = d.class.name; place = d.class.loader }) k.kept.trusted.once fresh);
           posted_once = subst EachOnce (sym (posts_define x.history d.class)) k.kept.trusted.posted_once;
@@ -151,112 +134,18 @@ kept_define told x table new d row parts wide used now room more left filled ans
       answers_fit = k.answers_fit;
     }
 
--- ---- answers
-
-abbrev given : List (Option rust.Answer) → ℕ → Option Answer
-given xs p = answer_at (answers_of xs) p
-
-less : (q p : ℕ) → nat_eq (suc q) (suc p) ≡ false → nat_eq q p ≡ false
-less q p e = grind (arith, nat_tests)
-
-other_answer : (xs : List (Option rust.Answer)) (q p : ℕ) (a : rust.Answer) → nat_eq q p ≡ false → given (slice_set xs q (Some a)) p ≡ given xs p
-other_answer [] q p a e = refl
-other_answer (x ∷ xs) zero zero a e = absurd cc
-other_answer (x ∷ xs) zero (suc p) a e = refl
-other_answer (x ∷ xs) (suc q) zero a e = refl
-other_answer (x ∷ xs) (suc q) (suc p) a e = other_answer xs q p a (less q p e)
-
-this_answer : (xs : List (Option rust.Answer)) (q : ℕ) (a : rust.Answer) → slice_get xs q ≡ Some None → given (slice_set xs q (Some a)) q ≡ Some (answer_of a)
-this_answer [] q a e = absurd cc
-this_answer (x ∷ xs) zero a e = refl
-this_answer (x ∷ xs) (suc q) a e = this_answer xs q a e
-
-open_answer : (xs : List (Option rust.Answer)) (q : ℕ) → slice_get xs q ≡ Some None → given xs q ≡ None
-open_answer [] q e = absurd cc
-open_answer (x ∷ xs) zero e = let n : x ≡ None = cc in rw n refl
-open_answer (x ∷ xs) (suc q) e = open_answer xs q e
-
-pub left_set : (xs : List (Option rust.Answer)) (q : ℕ) (a : rust.Answer) → slice_get xs q ≡ Some None → left_in xs ≡ left_in (slice_set xs q (Some a)) + 1
-left_set [] q a e = absurd cc
-left_set (None ∷ xs) zero a e = refl
-left_set (Some b ∷ xs) zero a e = absurd cc
-left_set (None ∷ xs) (suc q) a e = ap (λ n. n + 1) (left_set xs q a e)
-left_set (Some b ∷ xs) (suc q) a e = left_set xs q a e
-
-pub first_open : (xs : List (Option rust.Answer)) → (left_in xs ≡ 0 → ⊥) → (q : ℕ) × (slice_get xs q ≡ Some None)
-first_open [] some = absurd (some refl)
-first_open (None ∷ xs) some = (0, refl)
-first_open (Some a ∷ xs) some = let r = first_open xs some in (suc r.0, r.1)
-
-or_of_false : (a b : Bool) → (a || b) ≡ false → (a ≡ false) × (b ≡ false)
-or_of_false true b e = absurd cc
-or_of_false false b e = (refl, e)
-
-steps_set : (old new : List (Option Answer)) (h : List Event) (q : ℕ) → ((p : ℕ) → nat_eq q p ≡ false → answer_at new p ≡ answer_at old p) → is_in q (posts h) ≡ false → steps_of new h ≡ steps_of old h
-steps_set old new [] q same out = refl
-steps_set old new (events.Define c ∷ h) q same out = ap (◌∷◌ (Define c)) (steps_set old new h q same out)
-steps_set old new (events.Post p ∷ h) q same out =
-    let o = or_of_false (nat_eq q p) (is_in q (posts h)) out in
-    rw (same p o.0, steps_set old new h q same o.1) refl
-
-pub state_posts : (x : Shown) (q : ℕ) (a : rust.Answer) → is_in q (posts x.history) ≡ false → IsOpen x q → state_of (with_post x q a) ≡ after (state_of x) (Post q (answer_of a))
-state_posts x q a out is =
-    ap (state_after start) (map_push (step_of (answers_of (slice_set x.answers q (Some a)))) x.history (events.Post q))
-    ∙ state_push start (steps_of (answers_of (slice_set x.answers q (Some a))) x.history) (step_of (answers_of (slice_set x.answers q (Some a))) (events.Post q))
-    ∙ ap (λ (o : Option Answer). after (state_after start (steps_of (answers_of (slice_set x.answers q (Some a))) x.history)) (post_of q o)) (this_answer x.answers q a is)
-    ∙ ap (λ (es : List Step). after (state_after start es) (Post q (answer_of a))) (steps_set (answers_of x.answers) (answers_of (slice_set x.answers q (Some a))) x.history q (λ p ne. other_answer x.answers q p a ne) out)
-
-is_in_push : (xs : List ℕ) (p q : ℕ) → is_in p (xs ++ q ∷ []) ≡ (is_in p xs || nat_eq p q)
-is_in_push [] p q = or_right (nat_eq p q)
-  where
-    or_right : (b : Bool) → (b || false) ≡ b
-    or_right true = refl
-    or_right false = refl
-is_in_push (x ∷ xs) p q = ap (λ b. nat_eq p x || b) (is_in_push xs p q) ∙ regroup (nat_eq p x) (is_in p xs) (nat_eq p q)
-  where
-    regroup : (a b d : Bool) → (a || (b || d)) ≡ ((a || b) || d)
-    regroup true b d = refl
-    regroup false b d = refl
-
-swap_nat : (a b : ℕ) → nat_eq a b ≡ nat_eq b a
-swap_nat a b = grind (arith, nat_tests)
-
-or_all : (a b : Bool) → a ≡ false → b ≡ false → (a || b) ≡ false
-or_all a b p q = rw (p, q) refl
-
-each_push : (xs : List ℕ) (q : ℕ) → EachOnce xs → is_in q xs ≡ false → EachOnce (xs ++ q ∷ [])
-each_push [] q h out = (refl, tt)
-each_push (x ∷ xs) q h out =
-    let o = or_of_false (nat_eq q x) (is_in q xs) out in
-    (is_in_push xs x q ∙ or_all (is_in x xs) (nat_eq x q) h.0 (swap_nat x q ∙ o.0), each_push xs q h.1 o.1)
-
-posted_by : (xs : List (Option rust.Answer)) (h : List ℕ) (p q : ℕ) (a : rust.Answer) (b : Bool) → nat_eq q p ≡ b → slice_get xs q ≡ Some None → is_in p h ≡ is_some (given xs p) → (is_in p h || b) ≡ is_some (given (slice_set xs q (Some a)) p)
-posted_by xs h p q a true e is at =
-    let same : q ≡ p = eq_nat q p e in
-    let here : given (slice_set xs q (Some a)) p ≡ Some (answer_of a) = subst (λ (k : ℕ). given (slice_set xs q (Some a)) k ≡ Some (answer_of a)) same (this_answer xs q a is) in
-    or_last (is_in p h) ∙ sym (ap is_some here)
-  where
-    or_last : (b : Bool) → (b || true) ≡ true
-    or_last true = refl
-    or_last false = refl
-posted_by xs h p q a false e is at = or_none_here (is_in p h) ∙ at ∙ ap is_some (sym (other_answer xs q p a e))
-  where
-    or_none_here : (b : Bool) → (b || false) ≡ b
-    or_none_here true = refl
-    or_none_here false = refl
-
-pub unposted : (x : Shown) (q : ℕ) → IsTrusted x → IsOpen x q → is_in q (posts x.history) ≡ false
-unposted x q t is = t.posted q ∙ ap is_some (open_answer x.answers q is)
-
-pub kept_post : (told : Option Content) (x : Shown) (table : ℕ → List ℕ → Option ClassRow) (q : ℕ) (a : rust.Answer) (parts used now room more left less filled answers : ℕ)
-    → IsRegistry told x table parts used room left filled answers → IsOpen x q
+pub kept_post : (told : Option Content) (x : Shown) (table : ℕ → List ℕ → Option ClassRow) (q : ℕ) (r : Request) (a : rust.Answer) (parts used now room more left less filled answers : ℕ)
+    → IsRegistry told x table parts used room left filled answers → slice_get x.script.requests q ≡ Some r → IsOpen x q → IsBacked x (record { request = r; answer = a }) → Rests told r a
     → now ≡ used + 1 → more ≡ room → less + 1 ≡ left
     → IsRegistry told (with_post x q a) table parts now more less filled answers
-kept_post told x table q a parts used now room more left less filled answers k is one same fewer =
+kept_post told x table q r a parts used now room more left less filled answers k asked is backed rests one same fewer =
     let out = unposted x q k.kept.trusted is in
     let records : records_of (with_post x q a) ≡ records_of x = ap (λ (s : State). s.records) (state_posts x q a out is) in
     record {
       kept = record {
+        one = k.kept.one;
+        named = named_post x q a k.kept.named backed.names;
+        run = run_post told x q r a k.kept.run k.kept.one k.kept.trusted asked is backed rests;
         trusted = record {
           once = subst (λ (rs : List Record). NoneTwice [] rs) (sym records) k.kept.trusted.once;
           posted_once = subst EachOnce (sym (posts_post x.history q)) (each_push (posts x.history) q k.kept.trusted.posted_once out);
@@ -285,15 +174,18 @@ none_given (suc n) zero = refl
 none_given (suc n) (suc q) = none_given n q
 
 pub kept_new : (told : Option Content) (x : Shown) (table : ℕ → List ℕ → Option ClassRow) (parts used room left filled answers : ℕ) → x.history ≡ [] → x.answers ≡ replicate left None → length x.script.requests ≡ left
-    → parts ≡ length x.config.names → ((l : ℕ) (n : List ℕ) → table l n ≡ None) → used ≡ 0 → left ≤ room → filled ≡ 0 → left ≤ answers
+    → length x.config.names ≡ 1 → parts ≡ length x.config.names → ((l : ℕ) (n : List ℕ) → table l n ≡ None) → used ≡ 0 → left ≤ room → filled ≡ 0 → left ≤ answers
     → IsRegistry told x table parts used room left filled answers
-kept_new told x table parts used room left filled answers h a s width none zero-used fit zero-filled fits =
+kept_new told x table parts used room left filled answers h a s loaders width none zero-used fit zero-filled fits =
     let no-steps : steps x ≡ [] = ap (λ (h : List Event). steps_of (answers_of x.answers) h) h in
     let records : records_of x ≡ [] = ap (λ (es : List Step). (state_after start es).records) no-steps in
     let no-posts : posts x.history ≡ [] = ap posts h in
     let whole : length x.answers ≡ left = ap length a ∙ length-replicate left None in
     record {
       kept = record {
+        one = loaders;
+        named = named_new x left h a;
+        run = run_new told x no-steps;
         trusted = record {
           once = subst (λ (rs : List Record). NoneTwice [] rs) (sym records) tt;
           posted_once = subst EachOnce (sym no-posts) tt;
@@ -366,10 +258,10 @@ pub enters : (x : Shown) (has_row : ℕ → List ℕ → Bool) (count : ℕ) (d 
 enters x has_row count d c same m = record { loader = subst (λ k. d.class.loader < k) (sym c) m.loader; above = in_above (records_of x) d.class.loader (has_row d.class.loader) (file_of d.file).super_name (same d.class.loader) m.above }
 
 pub backed : (x : Shown) (place : ℕ → List ℕ → Option ℕ) (count : ℕ) (f : Answered) → count ≡ length x.config.names → ((l : ℕ) (n : List ℕ) → place l n ≡ recorded (records_of x) l n) → BackedIn place count f.request f.answer → IsBacked x f
-backed x place count f c same b = record { loader = subst (λ k. loader_of f.request < k) c b.loader; answer = subst (λ (p : Option ℕ). AnswerBacked p (name_of f.request) f.answer) (same (loader_of f.request) (name_of f.request)) b.answer }
+backed x place count f c same b = record { loader = subst (λ k. loader_of f.request < k) c b.loader; answer = subst (λ (p : Option ℕ). AnswerBacked p (name_of f.request) f.answer) (same (loader_of f.request) (name_of f.request)) b.answer; names = subst (λ k. AnswerNames k f.answer) c b.names }
 
 pub backs : (x : Shown) (place : ℕ → List ℕ → Option ℕ) (count : ℕ) (f : Answered) → count ≡ length x.config.names → ((l : ℕ) (n : List ℕ) → place l n ≡ recorded (records_of x) l n) → IsBacked x f → BackedIn place count f.request f.answer
-backs x place count f c same b = record { loader = subst (λ k. loader_of f.request < k) (sym c) b.loader; answer = subst (λ (p : Option ℕ). AnswerBacked p (name_of f.request) f.answer) (sym (same (loader_of f.request) (name_of f.request))) b.answer }
+backs x place count f c same b = record { loader = subst (λ k. loader_of f.request < k) (sym c) b.loader; answer = subst (λ (p : Option ℕ). AnswerBacked p (name_of f.request) f.answer) (sym (same (loader_of f.request) (name_of f.request))) b.answer; names = subst (λ k. AnswerNames k f.answer) (sym c) b.names }
 
 pub backed_by : (x : Shown) (place : ℕ → List ℕ → Option ℕ) (count : ℕ) (r : Request) (a : rust.Answer) (f : Answered) → count ≡ length x.config.names → ((l : ℕ) (n : List ℕ) → place l n ≡ recorded (records_of x) l n) → r ≡ f.request → a ≡ f.answer → BackedIn place count r a → IsBacked x f
 backed_by x place count r a f c same p q b = backed x place count f c same (subst (λ (r : Request). BackedIn place count r f.answer) p (subst (λ (a : rust.Answer). BackedIn place count r a) q b))

@@ -4,6 +4,9 @@ pub mod Contents
 pub mod Requests
 pub mod Homes
 pub mod Chained
+pub mod Histories
+pub mod Running
+pub mod Allowed
 pub mod Rests
 pub mod Kept
 pub mod Walks

@@ -112,7 +112,7 @@ module _ (c : Configured) (content : Content) (one : length c.names ≡ 1) where
       let chain = chain_push v w.loader xs x above (walk_is_chain c content one w at walk) (record { has_file = file; superclass = sup }) in
       let once = once_push xs x (waits_once (Some content) w walk) (stands_waiting w.drafts w.at ∙ walk.unseen) in
       let stood : stands_in (xs ++ x ∷ []) above ≡ true =
-        stands_push xs x above ∙ ap (λ (b : Bool). b || same_name above w.at) (stands_waiting w.drafts above) ∙ or_swapped (same_name above w.at) (has above (names w.drafts)) again in
+      stands_push xs x above ∙ ap (λ (b : Bool). b || same_name above w.at) (stands_waiting w.drafts above) ∙ or_swapped (same_name above w.at) (has above (names w.drafts)) again in
       stopped v r w (ClassCircularity (class above w.loader)) (ClassCircularity (class above w.loader)) for refl
       (subst (λ (n : List ℕ). EndsAtOnce v (plans.Load w.loader n) (Wrong (ClassCircularity (class above w.loader)))) (first_push xs x above)
       (circle_stops v w.loader (xs ++ x ∷ []) above chain once stood))

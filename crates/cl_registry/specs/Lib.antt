@@ -1,3 +1,4 @@
+pub mod Allowed
 pub mod Bounds
 pub mod ClassTexts
 pub mod Configs

@@ -1,4 +1,4 @@
--- When a registry refuses a value.
+-- When a registry refuses a value (own choice; JVMS SE 8, 5.3.5).
 use Rattle.std.specs.Prelude.{◌≡◌, ◌⊎◌, ℕ, Some, None}
 use Rattle.cl_model.specs.States.{recorded}
 use Rattle.cl_registry.specs.declared.registry.RegistryFault.{RegistryFault}
@@ -7,7 +7,7 @@ use Rattle.cl_registry.specs.Searches.{Drafted}
 use Rattle.cl_registry.specs.Findings.{Answered}
 use Rattle.cl_registry.specs.Tables.{Shown, records_of, MayEnter, IsAsked, IsOpen, IsBacked}
 
--- a class is strayed where its loader has no record of it and it may not be recorded
+-- a class is strayed where its loader has no record of it and it may not be recorded (5.3.5, steps 1 and 3)
 abbrev pub DefineRefusedFor : Shown → Drafted → RegistryFault → Type 0
 DefineRefusedFor x d Memory = Unit {0}
 DefineRefusedFor x d Stray = (recorded (records_of x) d.class.loader d.class.name ≡ None) × (MayEnter x d → ⊥)
@@ -15,7 +15,7 @@ DefineRefusedFor x d AlreadyPosted = ⊥
 DefineRefusedFor x d NotYet = ⊥
 
 -- an answer is strayed where the request is another, or where what it rests on is not in the tables; a request that has
--- an answer is told between the two
+-- an answer is told between the two (own choice)
 abbrev pub PostRefusedFor : Shown → ℕ → Answered → RegistryFault → Type 0
 PostRefusedFor x q f Memory = ⊥
 PostRefusedFor x q f Stray = (IsAsked x q f → ⊥) ⊎ (IsAsked x q f × IsOpen x q × (IsBacked x f → ⊥))

@@ -1,5 +1,5 @@
 -- What a registry keeps, and what a call does to it.
-use Rattle.std.specs.Prelude.{◌≡◌, ◌≢◌, ◌⊎◌, ◌+◌, ◌≤◌, ◌<◌, ℕ, Bool, true, false, ◌||◌, nat_eq, List, [], ◌∷◌, ◌++◌, length, map, Option, Some, None, is_some, slice_get, slice_set, option_map, option_and_then, IsSome}
+use Rattle.std.specs.Prelude.{◌≡◌, ◌≢◌, ◌⊎◌, ◌+◌, ◌≤◌, ◌<◌, ℕ, Bool, true, false, ◌||◌, nat_eq, List, [], ◌∷◌, ◌++◌, length, map, Option, Some, None, is_some, slice_get, slice_set, option_map, option_and_then, IsSome, IfSome, All}
 use Rattle.std.specs.HashMap.{HashMap, get}
 use Rattle.std.specs.Cmp.Lexicographic.{pointwise}
 use Rattle.cl_classfile.specs.Files.{file_of}
@@ -12,6 +12,7 @@ use Rattle.cl_model.specs.declared.verdict.Verdict.{Verdict}
 use Rattle.cl_model.specs.declared.verdict.Verdict.TheVariants as verdicts
 use Rattle.cl_model.specs.Content.{Content}
 use Rattle.cl_model.specs.Classes.{class}
+use Rattle.cl_model.specs.Texts.{AnswerNames, EventNames}
 use Rattle.cl_model.specs.States.{State, Record, recorded, start}
 use Rattle.cl_model.specs.Machine.{Step, state_after, Run}
 use Rattle.cl_model.specs.Views.{answers_of, answer_at, steps_of}
@@ -71,8 +72,17 @@ abbrev pub RunsAs : Option Content → Shown → Type 0
 RunsAs None x = Unit {0}
 RunsAs (Some content) x = Run (setting_of x.config x.script content) start (steps x)
 
+-- each loader that the history and the answers name is one of the configuration
+pub record NamesLoaders (x : Shown) : Type 0 where
+  pub history : All (EventNames (length x.config.names)) x.history
+  pub answers : All (λ o. IfSome o (AnswerNames (length x.config.names))) x.answers
+
+-- what a registry keeps; for now there is one loader
 pub record IsKept (told : Option Content) (x : Shown) : Type 0 where
+  pub one : length x.config.names ≡ 1
   pub trusted : IsTrusted x
+  pub named : NamesLoaders x
+  pub run : RunsAs told x
 
 -- one event more
 abbrev pub with_define : Shown → Class → Shown
@@ -127,8 +137,10 @@ AnswerBacked place name (answers.Said v) = VerdictBacked place name v
 AnswerBacked place name answers.Memory = Unit {0}
 AnswerBacked place name (answers.SourceFault n l) = Unit {0}
 
+-- its loaders are those of the configuration, too
 pub record IsBacked (x : Shown) (f : Answered) : Type 0 where
   pub loader : loader_of f.request < length x.config.names
+  pub names : AnswerNames (length x.config.names) f.answer
   pub answer : AnswerBacked (recorded (records_of x) (loader_of f.request) (name_of f.request)) (name_of f.request) f.answer
 
 -- the request of this number asks what was answered

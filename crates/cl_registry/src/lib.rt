@@ -8,6 +8,7 @@ pub mod faulty;
 pub mod finding;
 #[cfg(test)]
 mod input_tests;
+pub mod laws;
 pub mod memory;
 pub mod registry;
 pub mod report;
@@ -32,4 +33,4 @@ pub use row::ClassRow;
 pub use script::{Script, ScriptFault, text_is_one_script};
 pub use search::{Home, Search, SearchFault, Unfound, WrongProbe};
 pub use source::{ClassBytes, Outcome, Probe, Source, SourceFault};
-pub use walk::Walk;
+pub use walk::{PushRefused, Walk};

@@ -2,7 +2,7 @@ ghost use Rattle.std.specs.Prelude.{◌≡◌, ◌<◌, replicate, [], OnOk, IfO
 ghost use Rattle.cl_model.specs.States.{recorded};
 ghost use Rattle.cl_registry.specs.Tables.{DefinedAs, IsAsked, IsBacked, IsKept, IsOpen, IsRow, records_of, with_post};
 ghost use Rattle.cl_registry.specs.Refusals.{DefineRefusedFor, PostRefusedFor};
-ghost use Rattle.cl_registry.specs.Reports.{HasOpen, IsReport};
+ghost use Rattle.cl_registry.specs.Reports.{HasOpen, IsNamed, IsReport};
 
 use crate::config::Config;
 use crate::draft::Draft;
@@ -92,6 +92,7 @@ impl<T: Told> Registry<T> {
         script: Arc<Script>,
     ) -> Result<Registry<T>, RegistryFault>
         ensures empty { IfOk result (λ r. r ≡ record { config = config.value; script = script.value; history = []; answers = replicate (length script.value.requests) None }) }
+        ensures kept { IfOk result (λ r. IsKept T.told r) }
         ensures memory { IfErr result (λ e. e ≡ RegistryFault.Memory) }
     {
         let left = script.requests().len();
@@ -134,6 +135,7 @@ impl<T: Told> Registry<T> {
         ensures row { IfOk result (λ r. IsRow T.told r.value draft.class.loader draft.class.name r.value.class.loader) }
         ensures refused { IfErr result (λ e. DefineRefusedFor self.old draft e.fault) }
         ensures unchanged { IfErr result (λ e. (self.new ≡ self.old) × (e.draft ≡ draft)) }
+        ensures kept { IsKept T.told self.new }
     {
         match known(&self.rows, &draft) {
             Some(row) => {
@@ -169,6 +171,7 @@ impl<T: Told> Registry<T> {
         ensures posted { OnOk result (self.new ≡ with_post self.old q finding.answer) }
         ensures refused { IfErr result (λ e. PostRefusedFor self.old q finding e.fault) }
         ensures unchanged { IfErr result (λ e. (self.new ≡ self.old) × (e.finding ≡ finding)) }
+        ensures kept { IsKept T.told self.new }
     {
         if !is_asked(self.script.requests(), q, finding.request()) {
             return Err(PostRefused {
@@ -203,6 +206,7 @@ impl<T: Told> Registry<T> {
     pub fn into_report(self) -> Result<Report, NotYet<T>>
         ensures whole { IfOk result (λ r. IsReport self r) }
         ensures kept { IfOk result (λ r. IsKept T.told self) }
+        ensures loaders { IfOk result (λ r. IsNamed (length self.config.names) r) }
         ensures refused { IfErr result (λ e. (e.registry ≡ self) × HasOpen self) }
     {
         if self.left != 0 {

@@ -5,6 +5,7 @@ ghost use Rattle.std.specs.Option.{option_map};
 ghost use Rattle.std.specs.Cmp.Lexicographic.{pointwise};
 ghost use Rattle.cl_classfile.specs.Files.{file_of};
 ghost use Rattle.cl_model.specs.Classes.{class};
+ghost use Rattle.cl_model.specs.Texts.{AnswerNames, VerdictNames};
 ghost use Rattle.cl_model.specs.declared.event.Event.TheVariants as events;
 ghost use Rattle.cl_registry.specs.Kept.{left_in};
 ghost use Rattle.cl_registry.specs.Parts.{BackedIn, EntersIn, IsOf, is_above};
@@ -235,12 +236,33 @@ fn backs_verdict(place: Option<LoaderId>, name: &Name, verdict: &Verdict) -> boo
     }
 }
 
-/// Whether what an answer rests on has a row.
+/// Whether the loader of a verdict's class is below a count.
+fn verdict_is_named(verdict: &Verdict, count: usize) -> bool
+    ensures { MatchBool result (VerdictNames count verdict.now) (VerdictNames count verdict.now → ⊥) }
+{
+    match verdict {
+        Verdict::Class(class) => (class.loader.0 as usize) < count,
+        Verdict::Error(_, subject) => (subject.loader.0 as usize) < count,
+    }
+}
+
+/// Whether the loader of an answer is below a count, if it names one.
+fn is_named(answer: &Answer, count: usize) -> bool
+    ensures { MatchBool result (AnswerNames count answer.now) (AnswerNames count answer.now → ⊥) }
+{
+    match answer {
+        Answer::Said(verdict) => verdict_is_named(verdict, count),
+        Answer::Memory => true,
+        Answer::SourceFault(_, loader) => (loader.0 as usize) < count,
+    }
+}
+
+/// Whether what an answer rests on has a row, and its loaders are below a count.
 pub fn backs(rows: &Rows, count: usize, request: &Request, answer: &Answer) -> bool
     ensures { MatchBool result (BackedIn (λ l n. option_map (λ r. r.value.class.loader) (row_at rows.now.items l n)) count request.now answer.now) (BackedIn (λ l n. option_map (λ r. r.value.class.loader) (row_at rows.now.items l n)) count request.now answer.now → ⊥) }
 {
     let Request::Load(loader, name) = request;
-    if loader.0 as usize >= count {
+    if loader.0 as usize >= count || !is_named(answer, count) {
         return false;
     }
     match answer {

@@ -1,4 +1,4 @@
-ghost use Rattle.std.specs.Prelude.{◌≡◌, ◌<◌, ◌++◌, ◌∷◌, ◌==◌, [], OnOk, OnErr, MatchOption, false, None, Some, length, nat_eq};
+ghost use Rattle.std.specs.Prelude.{◌≡◌, ◌<◌, ◌++◌, ◌∷◌, ◌==◌, [], OnOk, IfErr, MatchOption, false, None, Some, length, nat_eq};
 ghost use Rattle.std.specs.Cmp.Lexicographic.{pointwise};
 ghost use Rattle.indexmap.specs.IndexMap.{get, spare};
 ghost use Rattle.cl_classfile.specs.Files.{file_of};
@@ -9,7 +9,7 @@ use crate::draft::Draft;
 use cl_model::{Class, LoaderId, Told};
 use cl_names::Name;
 use indexmap::IndexMap;
-use std::alloc::{AllocError, Global};
+use std::alloc::Global;
 use std::marker::Model;
 use std::mem;
 
@@ -31,6 +31,13 @@ impl<T: Told> Model for Walk<T> {
     ghost view = { λ w. record { loader = w.loader; drafts = map (λ e. e.1) w.drafts.entries; at = w.at } };
 
     ghost invariant = { λ w. IsWalk T.told (record { loader = w.loader; drafts = map (λ e. e.1) w.drafts.entries; at = w.at }) × (map (λ e. e.0) w.drafts.entries ≡ names (map (λ e. e.1) w.drafts.entries)) };
+}
+
+/// A class for which there was no memory to wait, and the name of its superclass.
+#[derive(Drop)]
+pub struct PushRefused<T: Told> {
+    pub draft: Draft<T>,
+    pub above: Name,
 }
 
 /// Adds a draft under a name that has none, where there is room.
@@ -87,14 +94,18 @@ impl<T: Told> Walk<T> {
     }
 
     /// The class that is looked for waits for its superclass from now on, which is looked for instead.
-    pub fn push(&mut self, draft: Draft<T>, above: Name) -> Result<(), AllocError>
+    pub fn push(&mut self, draft: Draft<T>, above: Name) -> Result<(), PushRefused<T>>
         requires class { draft.class ≡ class self.old.at self.old.loader }
         requires above { (file_of draft.file).super_name ≡ Some above }
         requires other { stands above self.old ≡ false }
         ensures pushed { OnOk result (self.new ≡ record { loader = self.old.loader; drafts = self.old.drafts ++ draft ∷ []; at = above }) }
-        ensures unchanged { OnErr result (self.new ≡ self.old) }
+        ensures unchanged { IfErr result (λ e. (self.new ≡ self.old) × (e.draft ≡ draft) × (e.above ≡ above)) }
     {
-        self.drafts.reserve(1)?;
+        match self.drafts.reserve(1) {
+            Ok(()) => {}
+            Err(_) => return Err(PushRefused { draft, above }),
+        }
+        let _ = draft.super_name();
         let name = mem::replace(&mut self.at, above);
         put(&mut self.drafts, name, draft);
         let _ = self.drafts.len();

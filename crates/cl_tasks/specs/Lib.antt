@@ -1,3 +1,4 @@
 pub mod Tasks
 pub mod Stages
 pub mod Turns
+pub mod Follows

@@ -1,11 +1,14 @@
-ghost use Rattle.std.specs.Prelude.{◌≡◌, ◌<◌, ◌≤◌, IfOk, MatchBool, None, Some, length};
+ghost use Rattle.std.specs.Prelude.{◌≡◌, ◌<◌, ◌≤◌, IfOk, IfSome, MatchBool, None, Some, length};
 ghost use Rattle.cl_classfile.specs.Files.{file_of};
 ghost use Rattle.cl_model.specs.Classes.{class};
+ghost use Rattle.cl_model.specs.States.{IsRecorded};
+ghost use Rattle.cl_model.specs.declared.answer.Answer.TheVariants as answers;
 ghost use Rattle.cl_registry.specs.Views.{Configured};
 ghost use Rattle.cl_registry.specs.Findings.{IsFor, Stops};
 ghost use Rattle.cl_tasks.specs.Tasks.{left};
 ghost use Rattle.cl_tasks.specs.Stages.{IsJob, IsSearch, IsStage, at_work, tasked};
 ghost use Rattle.cl_tasks.specs.Turns.{Asks, Expects, Serves};
+ghost use Rattle.cl_tasks.specs.Follows.{BackedWhere, FollowsWhere, Posts, PostsNoFault, Refuses, Tells, fault_answer, refusal};
 ghost use Rattle.cl_tasks.specs.declared.phase.Phase.TheVariants as phases;
 
 use crate::stage::{Job, Next, Reply, Stage, Turn};
@@ -50,6 +53,9 @@ pub fn step<T: Told>(
     ensures asks { Asks (tasked result.stage) result.turn }
     ensures serves { Serves (tasked stage) (tasked result.stage) result.turn }
     ensures left { left (tasked result.stage) < left (tasked stage) }
+    ensures backed { IfSome (tasked stage).request (λ r. BackedWhere (λ s. Tells s (tasked stage).walk reply) r result.turn) }
+    ensures next { IfSome (tasked stage).request (λ r. FollowsWhere T.told (λ s. Tells s (tasked stage).walk reply) r result.turn) }
+    ensures refused { Refuses (refusal (tasked stage).walk reply) result.turn }
 {
     match stage {
         Stage::Fresh(job) => match reply {
@@ -58,8 +64,10 @@ pub fn step<T: Told>(
             _ => unreachable!(),
         },
         Stage::Looking(job) => match reply {
-            Reply::Looked(Some(_)) => ascend(job),
-            Reply::Looked(None) => begin_search(alloc, config, job),
+            Reply::Looked(row) => match row {
+                Some(_) => ascend(job),
+                None => begin_search(alloc, config, job),
+            },
             Reply::Memory => out_of_memory(job),
             _ => unreachable!(),
         },
@@ -92,15 +100,22 @@ fn out_of_memory<T: Told>(job: Job<T>) -> Next<T>
     ensures stage { result.stage ≡ Stage.Done }
     ensures asks { Asks (tasked result.stage) result.turn }
     ensures serves { Serves (at_work phases.Done job) (tasked result.stage) result.turn }
+    ensures backed { BackedWhere (λ s. Unit {0}) job.request result.turn }
+    ensures next { FollowsWhere T.told (λ s. Unit {0}) job.request result.turn }
+    ensures posts { Posts answers.Memory result.turn }
 {
     post(Finding::memory(job.request))
 }
 
 /// The source refused a read, for want of memory or for another cause.
 fn faulted<T: Told>(job: Job<T>, fault: SourceFault) -> Next<T>
+    requires job { IsFor job.request job.walk }
     ensures stage { result.stage ≡ Stage.Done }
     ensures asks { Asks (tasked result.stage) result.turn }
     ensures serves { Serves (at_work phases.Done job) (tasked result.stage) result.turn }
+    ensures backed { BackedWhere (λ s. Unit {0}) job.request result.turn }
+    ensures next { FollowsWhere T.told (λ s. Unit {0}) job.request result.turn }
+    ensures posts { Posts (fault_answer job.walk fault) result.turn }
 {
     if fault == SourceFault::Memory {
         return out_of_memory(job);
@@ -115,6 +130,9 @@ fn obstacle<T: Told>(job: Job<T>, end: Obstacle<T>) -> Next<T>
     ensures stage { result.stage ≡ Stage.Done }
     ensures asks { Asks (tasked result.stage) result.turn }
     ensures serves { Serves (at_work phases.Done job) (tasked result.stage) result.turn }
+    ensures backed { BackedWhere (λ s. Unit {0}) job.request result.turn }
+    ensures next { FollowsWhere T.told (λ s. Unit {0}) job.request result.turn }
+    ensures no_fault { PostsNoFault result.turn }
 {
     post(Finding::obstacle(job.request, job.walk, end))
 }
@@ -125,6 +143,9 @@ fn look<T: Told>(alloc: Global, job: Job<T>) -> Next<T>
     ensures asks { Asks (tasked result.stage) result.turn }
     ensures serves { Serves (at_work phases.Fresh job) (tasked result.stage) result.turn }
     ensures left { left (tasked result.stage) < left (at_work phases.Fresh job) }
+    ensures backed { BackedWhere (λ s. Unit {0}) job.request result.turn }
+    ensures next { FollowsWhere T.told (λ s. Unit {0}) job.request result.turn }
+    ensures no_fault { PostsNoFault result.turn }
 {
     match job.walk.at().try_clone(alloc) {
         Err(_) => out_of_memory(job),
@@ -145,6 +166,9 @@ fn begin_search<T: Told>(alloc: Global, config: &Arc<Config>, job: Job<T>) -> Ne
     ensures asks { Asks (tasked result.stage) result.turn }
     ensures serves { Serves (at_work phases.Looking job) (tasked result.stage) result.turn }
     ensures left { left (tasked result.stage) < left (at_work phases.Looking job) }
+    ensures backed { BackedWhere (λ s. Unit {0}) job.request result.turn }
+    ensures next { FollowsWhere T.told (λ s. Unit {0}) job.request result.turn }
+    ensures no_fault { PostsNoFault result.turn }
 {
     match search_for(alloc, config, &job) {
         Err(_) => out_of_memory(job),
@@ -179,11 +203,15 @@ fn search_for<T: Told>(
 
 /// What the walk is at is recorded: the class that waits for it is next, or it is the answer.
 fn ascend<T: Told>(job: Job<T>) -> Next<T>
+    requires job { IsFor job.request job.walk }
     ensures kept { (c : Configured) → IsJob c job → IsStage c result.stage }
     ensures asks { Asks (tasked result.stage) result.turn }
     ensures serves { Serves (at_work phases.Defining job) (tasked result.stage) result.turn }
     ensures left { left (tasked result.stage) < left (at_work phases.Defining job) }
     ensures short { left (at_work phases.Defining job) ≤ left (at_work phases.Looking job) }
+    ensures backed { BackedWhere (λ s. IsRecorded s (class job.walk.at job.walk.loader)) job.request result.turn }
+    ensures next { FollowsWhere T.told (λ s. IsRecorded s (class job.walk.at job.walk.loader)) job.request result.turn }
+    ensures no_fault { PostsNoFault result.turn }
 {
     let _ = job.walk.at();
     let Job { request, mut walk } = job;
@@ -205,6 +233,9 @@ fn probed<T: Told>(alloc: Global, job: Job<T>, search: Search<T>, probe: Probe<T
     ensures asks { Asks (tasked result.stage) result.turn }
     ensures serves { Serves (at_work phases.Reading job) (tasked result.stage) result.turn }
     ensures left { left (tasked result.stage) < left (at_work phases.Reading job) }
+    ensures backed { BackedWhere (λ s. Unit {0}) job.request result.turn }
+    ensures next { FollowsWhere T.told (λ s. Unit {0}) job.request result.turn }
+    ensures no_fault { PostsNoFault result.turn }
 {
     let mut search = search;
     if search.take(probe).is_err() {
@@ -224,6 +255,9 @@ fn read<T: Told>(alloc: Global, job: Job<T>, home: Home<T>) -> Next<T>
     ensures asks { Asks (tasked result.stage) result.turn }
     ensures serves { Serves (at_work phases.Reading job) (tasked result.stage) result.turn }
     ensures left { left (tasked result.stage) < left (at_work phases.Reading job) }
+    ensures backed { BackedWhere (λ s. Unit {0}) job.request result.turn }
+    ensures next { FollowsWhere T.told (λ s. Unit {0}) job.request result.turn }
+    ensures no_fault { PostsNoFault result.turn }
 {
     match Draft::read(alloc, home) {
         Err(DraftRefused::Memory(_)) => out_of_memory(job),
@@ -243,6 +277,9 @@ fn drafted<T: Told>(alloc: Global, job: Job<T>, draft: Draft<T>) -> Next<T>
     ensures asks { Asks (tasked result.stage) result.turn }
     ensures serves { Serves (at_work phases.Reading job) (tasked result.stage) result.turn }
     ensures left { left (tasked result.stage) < left (at_work phases.Reading job) }
+    ensures backed { BackedWhere (λ s. Unit {0}) job.request result.turn }
+    ensures next { FollowsWhere T.told (λ s. Unit {0}) job.request result.turn }
+    ensures no_fault { PostsNoFault result.turn }
 {
     match draft.super_name() {
         None => {
@@ -268,6 +305,9 @@ fn descend<T: Told>(alloc: Global, job: Job<T>, draft: Draft<T>, above: Name) ->
     ensures asks { Asks (tasked result.stage) result.turn }
     ensures serves { Serves (at_work phases.Reading job) (tasked result.stage) result.turn }
     ensures left { left (tasked result.stage) < left (at_work phases.Reading job) }
+    ensures backed { BackedWhere (λ s. Unit {0}) job.request result.turn }
+    ensures next { FollowsWhere T.told (λ s. Unit {0}) job.request result.turn }
+    ensures no_fault { PostsNoFault result.turn }
 {
     if job.walk.stands(&above) {
         return obstacle(job, Obstacle::Circle(draft, above));
@@ -275,7 +315,7 @@ fn descend<T: Told>(alloc: Global, job: Job<T>, draft: Draft<T>, above: Name) ->
     let Job { request, mut walk } = job;
     match walk.push(draft, above) {
         Ok(()) => {}
-        Err(_) => return post(Finding::memory(request)),
+        Err(_) => return out_of_memory(Job { request, walk }),
     }
     let _ = walk.at();
     look(alloc, Job { request, walk })

@@ -1,7 +1,8 @@
-ghost use Rattle.std.specs.Prelude.{◌≡◌, ◌<◌, [], IfOk, IfErr, MatchBool, Some, length};
+ghost use Rattle.std.specs.Prelude.{◌≡◌, ◌<◌, [], IfOk, IfErr, IfSome, MatchBool, Some, length};
 ghost use Rattle.cl_registry.specs.Findings.{loader_of, name_of};
 ghost use Rattle.cl_tasks.specs.Tasks.{left};
 ghost use Rattle.cl_tasks.specs.Turns.{Asks, Expects, Serves};
+ghost use Rattle.cl_tasks.specs.Follows.{BackedWhere, FollowsWhere, Refuses, Tells, refusal};
 ghost use Rattle.cl_tasks.specs.declared.phase.Phase.TheVariants.{Fresh};
 
 use crate::stage::{Job, Reply, Stage, Turn};
@@ -80,6 +81,9 @@ impl<T: Told> Task<T> {
         ensures asks { Asks self.new result }
         ensures serves { Serves self.old self.new result }
         ensures left { left self.new < left self.old }
+        ensures backed { IfSome self.old.request (λ r. BackedWhere (λ s. Tells s self.old.walk reply) r result) }
+        ensures next { IfSome self.old.request (λ r. FollowsWhere T.told (λ s. Tells s self.old.walk reply) r result) }
+        ensures refused { Refuses (refusal self.old.walk reply) result }
     {
         let stage = mem::replace(&mut self.stage, Stage::Done);
         let next = step(alloc, &self.config, stage, reply);

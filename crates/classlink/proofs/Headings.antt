@@ -6,7 +6,7 @@ use Rattle.cl_names.proofs.Escapes.{unescaped_from, unescaped_of}
 use Rattle.cl_names.proofs.Grammars.{class_from_test, class_test_of}
 use Rattle.cl_registry.specs.ClassTexts.{WritesClass}
 use Rattle.cl_registry.specs.Lines.{words_of}
-use Rattle.classlink.specs.Sections.{ClassLine, WrongLine, class_named, heading_of, named_heading}
+use Rattle.classlink.specs.Sections.{ClassLine, WrongLine, class_named, heading_of}
 
 pub class_named_some : (word name : List ℕ) → WritesClass word name → class_named word ≡ Some name
 class_named_some word name w = rw (unescaped_of word name w.written, class_test_of name w.kind) refl

@@ -1,4 +1,12 @@
 pub mod Cutting
+pub mod Digits
+pub mod Flags
 pub mod Headings
+pub mod Refusals
+pub mod Running
 pub mod Serving
+pub mod Storing
+pub mod Served
+pub mod Counted
+pub mod Headline
 pub mod Written

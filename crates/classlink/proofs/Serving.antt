@@ -1,11 +1,20 @@
 -- What the calls of one request do to a registry.
-use Rattle.std.proofs.Common.{◌≡◌, ◌≢◌, ◌∙◌, ◌+◌, ◌∷◌, ◌++◌, [], ℕ, List, Option, Some, None, map, refl, ap, sym, subst, add-one}
+use Rattle.std.proofs.Common.{◌≡◌, ◌≢◌, ◌∙◌, ◌+◌, ◌<◌, ◌≤◌, ◌∷◌, ◌++◌, [], ℕ, zero, suc, Bool, true, false, List, length, Option, Some, None, map, refl, ap, sym, subst, arith, is_some, add-one}
+use Rattle.std.specs.Prelude.{◌||◌, nat_eq, slice_get, slice_index_or}
+use Rattle.std.proofs.lemmas.Bool.Decides.{nat_tests}
 use Rattle.cl_model.specs.declared.answer.Answer.{Answer}
+use Rattle.cl_model.specs.declared.class.Class.{Class}
+use Rattle.cl_model.specs.declared.event.Event.{Event}
+use Rattle.cl_model.specs.declared.request.Request as requests
+use Rattle.cl_model.specs.declared.request.Request.{Request}
+use Rattle.cl_registry.specs.Findings.{loader_of}
+use Rattle.cl_registry.specs.Scripts.{HasLoader, HasLoaders}
+use Rattle.cl_model.specs.Views.{answers_of, answer_at}
 use Rattle.cl_registry.specs.declared.report.Report.{Report}
-use Rattle.cl_registry.specs.Searches.{Drafted}
-use Rattle.cl_registry.specs.Tables.{Shown, DefinedAs, IsTrusted, posts, with_post}
-use Rattle.cl_registry.specs.Reports.{IsReport}
-use Rattle.cl_registry.proofs.Kept.{posts_define, posts_post}
+use Rattle.cl_registry.specs.Views.{Configured}
+use Rattle.cl_registry.specs.Tables.{Shown, IsTrusted, IsOpen, is_in, posts, with_define, with_post}
+use Rattle.cl_registry.specs.Reports.{IsReport, HasOpen}
+use Rattle.cl_registry.proofs.Histories.{posts_define, posts_post, is_in_push, unposted}
 use Rattle.cl_tasks.specs.declared.phase.Phase.{Phase}
 use Rattle.cl_tasks.specs.declared.phase.Phase.TheVariants.{Defining, Done}
 use Rattle.classlink.specs.Serving.{upto, reported}
@@ -19,14 +28,13 @@ pub record Goes (old new : Shown) : Type 0 where
 pub goes_none : (x : Shown) → Goes x x
 goes_none x = record { config = refl; script = refl; posts_same = refl }
 
-pub goes_define : (start old new : Shown) (d : Drafted) (o : Option ℕ) → Goes start old → DefinedAs old new d o → Goes start new
-goes_define start old new d None g e =
+pub goes_event : (start old new : Shown) (c : Class) → Goes start old → new ≡ with_define old c → Goes start new
+goes_event start old new c g e =
     record {
-      config = ap (λ x. x.config) e.0 ∙ g.config;
-      script = ap (λ x. x.script) e.0 ∙ g.script;
-      posts_same = ap (λ x. posts x.history) e.0 ∙ posts_define old.history d.class ∙ g.posts_same;
+      config = ap (λ x. x.config) e ∙ g.config;
+      script = ap (λ x. x.script) e ∙ g.script;
+      posts_same = ap (λ x. posts x.history) e ∙ posts_define old.history c ∙ g.posts_same;
     }
-goes_define start old new d (Some place) g e = subst (Goes start) (sym e) g
 
 pub goes_same : (start old new : Shown) → Goes start old → new ≡ old → Goes start new
 goes_same start old new g e = subst (Goes start) (sym e) g
@@ -43,9 +51,82 @@ not_done p e = λ d. absurd cc
 pub next_upto : (q : ℕ) (xs ys : List ℕ) → xs ≡ ys ++ q ∷ [] → ys ≡ upto q → xs ≡ upto (q + 1)
 next_upto q xs ys e h = rw (add-one, e, h) refl
 
-pub trusted_report : (x : Shown) (r : Report) → IsReport x r → IsTrusted x → IsTrusted (reported x.config r)
-trusted_report x r is t =
-    subst IsTrusted (let p = is.script in let q = is.history in let s = is.answers in same x.script r.script.value x.history r.history x.answers (map (λ a. Some a) r.answers) p q s) t
+-- a registry of which a report was made is the one that the report tells of
+pub report_tells : (x : Shown) (r : Report) (c : Configured) → IsReport x r → x.config ≡ c → x ≡ reported c r
+report_tells x r c is e = same x.config c x.script r.script.value x.history r.history x.answers (map (λ a. Some a) r.answers) e is.script is.history is.answers
   where
-    same : (s u : _) (h k : _) (a b : List (Option Answer)) → u ≡ s → k ≡ h → b ≡ a → record x { script = s; history = h; answers = a } ≡ record x { script = u; history = k; answers = b }
-    same s u h k a b p q e = rw (p, q, e) refl
+    same : (f e : Configured) (s u : _) (h k : _) (a b : List (Option Answer)) → f ≡ e → u ≡ s → k ≡ h → b ≡ a → (let y : Shown = record { config = f; script = s; history = h; answers = a } in y) ≡ record { config = e; script = u; history = k; answers = b }
+    same f e s u h k a b w p q t = rw (w, p, q, t) refl
+
+-- ---- which requests are posted
+
+in_upto : (n q : ℕ) → q < n → is_in q (upto n) ≡ true
+in_upto zero q below = absurd (omega arith)
+in_upto (suc n) q below = is_in_push (upto n) q n ∙ by_test (nat_eq q n) refl (in_upto n q)
+  where
+    or_true : (b : Bool) → (b || true) ≡ true
+    or_true true = refl
+    or_true false = refl
+
+    or_left : (b d : Bool) → b ≡ true → (b || d) ≡ true
+    or_left b d e = rw e refl
+
+    less : (a b : ℕ) → a < suc b → nat_eq a b ≡ false → a < b
+    less a b l e = grind (arith, nat_tests)
+
+    by_test : (b : Bool) → nat_eq q n ≡ b → (q < n → is_in q (upto n) ≡ true) → (is_in q (upto n) || nat_eq q n) ≡ true
+    by_test true e before = ap (λ (d : Bool). is_in q (upto n) || d) e ∙ or_true (is_in q (upto n))
+    by_test false e before = or_left (is_in q (upto n)) (nat_eq q n) (before (less q n below e))
+
+not_in_upto : (n q : ℕ) → n ≤ q → is_in q (upto n) ≡ false
+not_in_upto zero q above = refl
+not_in_upto (suc n) q above = is_in_push (upto n) q n ∙ both (is_in q (upto n)) (nat_eq q n) (not_in_upto n q (omega arith)) (other q n above)
+  where
+    both : (a b : Bool) → a ≡ false → b ≡ false → (a || b) ≡ false
+    both a b p e = rw (p, e) refl
+
+    other : (a b : ℕ) → suc b ≤ a → nat_eq a b ≡ false
+    other a b l = grind (arith, nat_tests)
+
+-- where the requests before this number are posted, it is not
+pub next_is_open : (x : Shown) (q : ℕ) → IsTrusted x → posts x.history ≡ upto q → q < length x.script.requests → IsOpen x q
+next_is_open x q t order below =
+    unanswered x.answers q (subst (λ (n : ℕ). q < n) (sym t.whole) below) (sym (t.posted q) ∙ ap (is_in q) order ∙ not_in_upto q q (omega arith))
+  where
+    unanswered : (xs : List (Option Answer)) (p : ℕ) → p < length xs → is_some (answer_at (answers_of xs) p) ≡ false → slice_get xs p ≡ Some None
+    unanswered [] p l e = absurd (omega arith)
+    unanswered (None ∷ xs) zero l e = refl
+    unanswered (Some a ∷ xs) zero l e = absurd cc
+    unanswered (a ∷ xs) (suc p) l e = unanswered xs p (omega arith) e
+
+-- a request of the script is one of its numbers
+pub in_script : (rs : List Request) (q : ℕ) (r : Request) → slice_get rs q ≡ Some r → q < length rs
+in_script [] q r e = absurd cc
+in_script (x ∷ rs) zero r e = omega arith
+in_script (x ∷ rs) (suc q) r e = let below = in_script rs q r e in omega arith
+
+-- where all requests are posted, none is open
+pub none_is_open : (x : Shown) (n : ℕ) → IsTrusted x → posts x.history ≡ upto n → length x.script.requests ≡ n → HasOpen x → ⊥
+none_is_open x n t order whole (q, is) =
+    let below : q < n = subst (λ (k : ℕ). q < k) (t.whole ∙ whole) (in_range x.answers q is) in
+    let there : is_in q (posts x.history) ≡ true = ap (is_in q) order ∙ in_upto n q below in
+    let out : is_in q (posts x.history) ≡ false = unposted x q t is in
+    absurd cc
+  where
+    in_range : (xs : List (Option Answer)) (p : ℕ) → slice_get xs p ≡ Some None → p < length xs
+    in_range [] p e = absurd cc
+    in_range (x ∷ xs) zero e = omega arith
+    in_range (x ∷ xs) (suc p) e = let below = in_range xs p e in omega arith
+
+-- ---- the loader of a request of the script
+
+asked_is : (rs : List Request) (q : ℕ) (r d : Request) → slice_get rs q ≡ Some r → slice_index_or rs q d ≡ r
+asked_is [] q r d e = absurd cc
+asked_is (x ∷ rs) zero r d e = let same : x ≡ r = cc in same
+asked_is (x ∷ rs) (suc q) r d e = asked_is rs q r d e
+
+names_loader : (n : ℕ) (r : Request) → HasLoader n r → loader_of r < n
+names_loader n (requests.TheVariants.Load loader name) h = h
+
+pub has_loader : (n : ℕ) (rs : List Request) (q : ℕ) (r : Request) → HasLoaders n rs → slice_get rs q ≡ Some r → loader_of r < n
+has_loader n rs q r all e = names_loader n r (subst (HasLoader n) (asked_is rs q r r e) (all q r (in_script rs q r e)))

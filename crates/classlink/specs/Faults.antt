@@ -1,7 +1,10 @@
--- Which faults a step of the program may have.
-use Rattle.std.specs.Prelude.{⊤}
+-- Which faults a step of the program may have, and their texts.
+use Rattle.std.specs.Prelude.{⊤, ℕ, List, ◌++◌, codes, Option, Some, None}
+use Rattle.std.specs.Fmt.{decimal}
+use Rattle.cl_registry.specs.declared.script.ScriptFault.{ScriptFault}
+use Rattle.cl_registry.specs.declared.script.ScriptFault.TheVariants as scripts
 use Rattle.classlink.specs.declared.fault.Fault.{Fault}
-use Rattle.classlink.specs.declared.fault.Fault.TheVariants.{Input, Write, TooLarge, NotUtf8, Memory}
+use Rattle.classlink.specs.declared.fault.Fault.TheVariants.{Input, Write, TooLarge, NotUtf8, Bundle, Script, Serve, Memory}
 use Rattle.classlink.specs.declared.print.PrintFault.{PrintFault}
 use Rattle.classlink.specs.declared.print.PrintFault.TheVariants as print
 
@@ -21,3 +24,19 @@ IsInputFault fault = IsReadFault fault
 abbrev pub print_fault : PrintFault → Fault
 print_fault print.Write = Write
 print_fault print.Memory = Memory
+
+-- why a text is no script, and want of memory told apart
+abbrev pub script_fault : ScriptFault → Fault
+script_fault scripts.Memory = Memory
+script_fault fault = Script fault
+
+-- the text of a fault; of what a script or its service is refused with, the text is not said here
+abbrev pub fault_text : Fault → Option (List ℕ)
+fault_text Input = Some (codes "cannot read standard input")
+fault_text Write = Some (codes "cannot write")
+fault_text TooLarge = Some (codes "input too large")
+fault_text NotUtf8 = Some (codes "input is not UTF-8")
+fault_text (Bundle n) = Some (codes "bundle line " ++ decimal n)
+fault_text (Script fault) = None
+fault_text (Serve fault) = None
+fault_text Memory = Some (codes "out of memory")

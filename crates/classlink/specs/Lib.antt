@@ -1,5 +1,10 @@
+pub mod Bundles
+pub mod CommandLine
 pub mod Cuts
 pub mod Faults
 pub mod Report
+pub mod Runs
 pub mod Sections
 pub mod Serving
+pub mod Counting
+pub mod Headline

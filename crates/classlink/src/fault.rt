@@ -4,29 +4,43 @@ use crate::print::PrintFault;
 use crate::serve::ServeFault;
 use cl_registry::ScriptFault;
 use std::alloc::{AllocError, AllocFailed};
-use thiserror::Error;
+use std::error::Error;
+use std::fmt::{self, Display, Formatter};
 
 /// Why the program ends with status 1. The text stands on standard error behind `classlink: `.
-#[derive(Debug, Drop, PartialEq, Eq, Error)]
+#[derive(Debug, Drop, PartialEq, Eq)]
 pub enum Fault {
-    #[error("cannot read standard input")]
     Input,
-    #[error("cannot write")]
     Write,
-    #[error("input too large")]
     TooLarge,
-    #[error("input is not UTF-8")]
     NotUtf8,
     /// A line of the bundle, counted from 1; 0 is for a bundle that lacks a line.
-    #[error("bundle line {0}")]
     Bundle(usize),
-    #[error("script: {0}")]
     Script(ScriptFault),
-    #[error("{0}")]
     Serve(ServeFault),
-    #[error("out of memory")]
     Memory,
 }
+
+impl Display for Fault {
+    ghost use Rattle.classlink.specs.Faults.{fault_text};
+
+    ghost output = { fault_text };
+
+    fn fmt<W: fmt::Write>(&self, f: &mut Formatter<W>) -> fmt::Result {
+        match self {
+            Fault::Input => write!(f, "cannot read standard input"),
+            Fault::Write => write!(f, "cannot write"),
+            Fault::TooLarge => write!(f, "input too large"),
+            Fault::NotUtf8 => write!(f, "input is not UTF-8"),
+            Fault::Bundle(line) => write!(f, "bundle line {line}"),
+            Fault::Script(fault) => write!(f, "script: {fault}"),
+            Fault::Serve(fault) => write!(f, "{fault}"),
+            Fault::Memory => write!(f, "out of memory"),
+        }
+    }
+}
+
+impl Error for Fault {}
 
 impl From<AllocError> for Fault {
     ghost use Rattle.classlink.specs.declared.fault.Fault.TheVariants.{Memory};
@@ -61,12 +75,25 @@ impl From<PrintFault> for Fault {
     }
 }
 
-impl From<ScriptFault> for Fault {
-    ghost use Rattle.classlink.specs.declared.fault.Fault.TheVariants.{Script};
+impl From<ServeFault> for Fault {
+    ghost use Rattle.classlink.specs.declared.fault.Fault.TheVariants.{Serve};
 
-    ghost from_gives = { λ fault e. e ≡ Script fault };
+    ghost from_gives = { λ fault e. e ≡ Serve fault };
+
+    fn from(fault: ServeFault) -> Fault {
+        Fault::Serve(fault)
+    }
+}
+
+impl From<ScriptFault> for Fault {
+    ghost use Rattle.classlink.specs.Faults.{script_fault};
+
+    ghost from_gives = { λ fault e. e ≡ script_fault fault };
 
     fn from(fault: ScriptFault) -> Fault {
-        Fault::Script(fault)
+        match fault {
+            ScriptFault::Memory => Fault::Memory,
+            fault => Fault::Script(fault),
+        }
     }
 }

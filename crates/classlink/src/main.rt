@@ -4,7 +4,6 @@
 mod bundle;
 mod fault;
 mod input;
-mod named;
 mod print;
 mod run;
 mod sections;
@@ -13,18 +12,31 @@ mod serve;
 mod tests;
 mod words;
 
-use run::run_over;
+use fault::Fault;
+use run::{fail, run_over};
+use std::io::ErrorKind;
 use std::process::ExitCode;
 use std::{env, io};
 
 fn main(rt: HostRuntime) -> io::Result<ExitCode> {
-    let words: Vec<String> = env::args(&rt)?.collect(rt.alloc())?;
-    let status = run_over(
-        &rt,
-        words.as_slice(),
-        rt.stdin(),
-        &mut rt.stdout(),
-        &mut rt.stderr(),
-    );
+    let words = match env::args(&rt) {
+        Ok(words) => words
+            .collect::<Vec<String>>(rt.alloc())
+            .map_err(io::Error::from),
+        Err(error) => Err(error),
+    };
+    let status = match words {
+        Ok(words) => run_over(
+            &rt,
+            words.as_slice(),
+            rt.stdin(),
+            &mut rt.stdout(),
+            &mut rt.stderr(),
+        ),
+        Err(error) if error.kind() == ErrorKind::OutOfMemory => {
+            fail(rt.alloc(), &Fault::Memory, &mut rt.stderr())
+        }
+        Err(error) => return Err(error),
+    };
     Ok(ExitCode::from(status))
 }

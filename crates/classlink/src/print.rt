@@ -167,7 +167,7 @@ fn put_line<W: Write>(out: &mut W, waiting: &mut String, line: &str) -> Result<(
 }
 
 /// Writes all of the bytes. Where a write is refused or takes nothing, no other is tried.
-fn write_out<W: Write>(out: &mut W, bytes: &[u8]) -> Result<(), PrintFault>
+pub fn write_out<W: Write>(out: &mut W, bytes: &[u8]) -> Result<(), PrintFault>
     ensures all { OnOk result (Appends (W.contents out.old) (W.contents out.new) bytes.now) }
     ensures part { OnErr result (AppendsPart (W.contents out.old) (W.contents out.new) bytes.now) }
 {

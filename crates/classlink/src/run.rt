@@ -1,12 +1,15 @@
-ghost use Rattle.std.specs.Prelude.{◌≡◌, ◌⊎◌, IfOk, length};
+ghost use Rattle.std.specs.Prelude.{◌≡◌, ◌⊎◌, [], Bool, IfOk, Some, length, map};
+ghost use Rattle.std.specs.Io.KnownBytes.{Appends};
+ghost use Rattle.clap.specs.Words.{kind_of};
 ghost use Rattle.cl_model.specs.Content.{Tells};
 ghost use Rattle.cl_registry.specs.Scripts.{HasLoaders};
+ghost use Rattle.classlink.specs.CommandLine.{AskFor, IsTurnedDown, StatusOf, wrong_words};
+ghost use Rattle.classlink.specs.Runs.{IsRun, IsServed, RunOf, TellsFault};
 
 use crate::bundle::{self, Bundle};
 use crate::fault::Fault;
 use crate::input::read_text;
-use crate::named::{answers_are_named, events_are_named};
-use crate::print::{PrintFault, print_report};
+use crate::print::{print_report, write_out};
 use crate::serve::{ServeFault, serve_one};
 use crate::words::{self, Asked};
 use cl_model::Told;
@@ -28,34 +31,73 @@ pub fn run_over<R: AllocGlobal, S: AsStr, I: Read + Drop, W: Write, E: Write>(
     out: &mut W,
     err: &mut E,
 ) -> u8
-    ensures { (result ≡ 0) ⊎ (result ≡ 1) ⊎ (result ≡ 2) }
+    ensures bundle { (answers : Bool) → AskFor (map S.text words.now) answers
+        → IsRun (I.remaining input) answers (W.contents out.old) (W.contents out.new) (E.contents err.old) (E.contents err.new) result }
+    ensures other { (wrong_words (map S.text words.now) ≡ [] → ⊥) → IsTurnedDown (wrong_words (map S.text words.now)) result }
 {
     let alloc = rt.alloc();
-    let outcome = match words::read(alloc, words) {
-        Ok(asked) => run_bundle(alloc, asked, input, out),
-        Err(error) if error.kind() == ErrorKind::OutOfMemory => Err(Fault::Memory),
-        Err(error) if error.use_stderr() => {
+    match words::read(alloc, words) {
+        Ok(asked) => run_bundle(alloc, asked, input, out, err),
+        Err(error) => turn_down(alloc, &error, out, err),
+    }
+}
+
+/// Writes the text of words that ask for no run to where it belongs.
+fn turn_down<W: Write, E: Write>(alloc: Global, error: &clap::Error, out: &mut W, err: &mut E) -> u8
+    ensures status { StatusOf (kind_of error.now) result }
+    ensures memory { kind_of error.now ≡ ErrorKind.OutOfMemory → TellsFault (E.contents err.old) (E.contents err.new) Fault.Memory }
+    ensures nothing { kind_of error.now ≡ ErrorKind.OutOfMemory → Appends (W.contents out.old) (W.contents out.new) [] }
+{
+    match error.kind() {
+        ErrorKind::OutOfMemory => fail(alloc, &Fault::Memory, err),
+        ErrorKind::DisplayHelp | ErrorKind::DisplayVersion => match write!(out, "{error}") {
+            Ok(()) => 0,
+            Err(_) => fail(alloc, &Fault::Write, err),
+        },
+        _ => {
             let _ = write!(err, "{error}");
-            return 2;
-        }
-        Err(error) => write!(out, "{error}").map_err(|_| Fault::Write),
-    };
-    match outcome {
-        Ok(()) => 0,
-        Err(fault) => {
-            let _ = writeln!(err, "classlink: {fault}");
-            1
+            2
         }
     }
 }
 
-/// Reads a bundle, serves its script and prints the report.
-fn run_bundle<I: Read + Drop, W: Write>(
+/// Runs a bundle, and tells of the fault that ended it.
+fn run_bundle<I: Read + Drop, W: Write, E: Write>(
     alloc: Global,
     asked: Asked,
     input: I,
     out: &mut W,
-) -> Result<(), Fault> {
+    err: &mut E,
+) -> u8
+    ensures { IsRun (I.remaining input) asked.answers (W.contents out.old) (W.contents out.new) (E.contents err.old) (E.contents err.new) result }
+{
+    match report_bundle(alloc, asked, input, out) {
+        Ok(()) => 0,
+        Err(fault) => fail(alloc, &fault, err),
+    }
+}
+
+/// Writes the line of a fault, and answers its exit status. Where memory is wanting for it, that is what is told.
+pub fn fail<E: Write>(alloc: Global, fault: &Fault, err: &mut E) -> u8
+    ensures status { result ≡ 1 }
+    ensures told { TellsFault (E.contents err.old) (E.contents err.new) fault.now ⊎ TellsFault (E.contents err.old) (E.contents err.new) Fault.Memory }
+{
+    let _ = match format!(in alloc; "classlink: {fault}\n") {
+        Ok(line) => write_out(err, line.as_bytes()),
+        Err(_) => write_out(err, b"classlink: out of memory\n"),
+    };
+    1
+}
+
+/// Reads a bundle, serves its script and prints the report.
+fn report_bundle<I: Read + Drop, W: Write>(
+    alloc: Global,
+    asked: Asked,
+    input: I,
+    out: &mut W,
+) -> Result<(), Fault>
+    ensures { RunOf (I.remaining input) asked.answers (W.contents out.old) (W.contents out.new) result }
+{
     let text = read_text(alloc, input)?;
     let Bundle {
         config,
@@ -67,11 +109,6 @@ fn run_bundle<I: Read + Drop, W: Write>(
     let loaders = Arc::try_clone(&config)?;
     let report = serve(alloc, config, source, script)?;
     let names = loaders.names();
-    let events = report.history.events();
-    let answers = report.answers.as_slice();
-    if !events_are_named(events, names.len()) || !answers_are_named(answers, names.len()) {
-        return Err(Fault::Serve(ServeFault::Stray));
-    }
     print_report(alloc, &report, names, asked.answers, out)?;
     Ok(())
 }
@@ -82,9 +119,9 @@ fn serve(
     config: Arc<Config>,
     source: MemorySource,
     script: Arc<Script>,
-) -> Result<Report, Fault>
+) -> Result<Report, ServeFault>
     requires { HasLoaders (length config.value.names) script.value.requests }
-    ensures { IfOk result (λ r. r.script.value ≡ script.value) }
+    ensures { IfOk result (IsServed (Some source) config.value script.value) }
 {
     serve_told::<Brand>(alloc, config, source, script)
 }
@@ -94,14 +131,11 @@ fn serve_told<T: Told>(
     config: Arc<Config>,
     source: MemorySource,
     script: Arc<Script>,
-) -> Result<Report, Fault>
+) -> Result<Report, ServeFault>
     requires tells { Tells T.told source }
     requires loaders { HasLoaders (length config.value.names) script.value.requests }
-    ensures { IfOk result (λ r. r.script.value ≡ script.value) }
+    ensures { IfOk result (IsServed T.told config.value script.value) }
 {
     let mut source = source.tell::<T>();
-    match serve_one::<T, _>(alloc, config, &mut source, script) {
-        Ok(report) => Ok(report),
-        Err(fault) => Err(Fault::Serve(fault)),
-    }
+    serve_one::<T, _>(alloc, config, &mut source, script)
 }

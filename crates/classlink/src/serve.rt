@@ -1,15 +1,22 @@
-ghost use Rattle.std.specs.Prelude.{◌≡◌, ◌<◌, ◌++◌, ◌∷◌, [], IfOk, OnOk, Some, length, slice_get};
+ghost use Rattle.std.specs.Prelude.{◌≡◌, ◌<◌, ◌++◌, ◌∷◌, [], IfOk, IfErr, length, slice_get};
+ghost use Rattle.cl_model.specs.Classes.{class};
+ghost use Rattle.cl_model.specs.States.{State};
 ghost use Rattle.cl_registry.specs.Findings.{loader_of};
+ghost use Rattle.cl_registry.specs.Reports.{IsNamed};
 ghost use Rattle.cl_registry.specs.Scripts.{HasLoaders};
-ghost use Rattle.cl_registry.specs.Tables.{IsTrusted, posts};
+ghost use Rattle.cl_registry.specs.Tables.{IsAsked, IsBacked, IsKept, IsOpen, IsTrusted, MayEnter, RunsAs, posts, state_of, with_post};
+ghost use Rattle.cl_registry.specs.Walks.{Walked};
 ghost use Rattle.cl_tasks.specs.Tasks.{Tasked};
 ghost use Rattle.cl_tasks.specs.Turns.{Expects};
-ghost use Rattle.cl_tasks.specs.declared.phase.Phase.TheVariants.{Looking, Reading};
-ghost use Rattle.classlink.specs.Serving.{reported, upto};
+ghost use Rattle.cl_tasks.specs.Follows.{Tells};
+ghost use Rattle.cl_tasks.specs.declared.phase.Phase.TheVariants.{Looking, Reading, Defining};
+ghost use Rattle.classlink.specs.Counting.{FaultsGrow, Grows, RoseBy, faults, told_faults};
+ghost use Rattle.classlink.specs.Headline.{Alike, CirclesExact, EachSpelt};
+ghost use Rattle.classlink.specs.Serving.{DefinesFor, InOrder, Served, reported, upto};
 
 use cl_model::{LoaderId, Request, Told};
 use cl_names::Name;
-use cl_registry::{Config, Registry, RegistryFault, Report, Script, Source};
+use cl_registry::{Config, Draft, Finding, Registry, RegistryFault, Report, Script, Source};
 use cl_tasks::{Reply, Task, Turn};
 use std::alloc::{AllocError, Global};
 use std::sync::Arc;
@@ -20,12 +27,16 @@ use thiserror::Error;
 pub enum ServeFault {
     #[error("Z0 Memory")]
     Memory,
-    /// A value did not fit the tables: of a source that tells a content this is never answered.
+    /// A value did not fit the tables. Serving in order never answers it.
     #[error("Z1 Stray")]
     Stray,
 }
 
 impl From<AllocError> for ServeFault {
+    ghost use Rattle.classlink.specs.declared.serve.ServeFault.TheVariants.{Memory};
+
+    ghost from_gives = { λ _ e. e ≡ Memory };
+
     fn from(_error: AllocError) -> ServeFault {
         ServeFault::Memory
     }
@@ -33,7 +44,9 @@ impl From<AllocError> for ServeFault {
 
 /// The reply of a look at a registry.
 fn look<T: Told>(registry: &Registry<T>, loader: LoaderId, name: &Name) -> Reply<T>
-    ensures { (t : Tasked) → t.phase ≡ Looking → Expects t result }
+    ensures expects { (t : Tasked) → t.phase ≡ Looking → Expects t result }
+    ensures tells { (w : Walked) → loader ≡ w.loader → name.now ≡ w.at → Tells (state_of registry.now) w result }
+    ensures faults { told_faults result ≡ 0 }
 {
     match registry.look(loader, name) {
         None => Reply::Looked(None),
@@ -51,11 +64,45 @@ fn read<T: Told, S: Source<T>>(
     loader: LoaderId,
     name: &Name,
 ) -> Reply<T>
-    ensures { (t : Tasked) → t.phase ≡ Reading → loader ≡ t.walk.loader → name.now ≡ t.walk.at → Expects t result }
+    ensures expects { (t : Tasked) → t.phase ≡ Reading → loader ≡ t.walk.loader → name.now ≡ t.walk.at → Expects t result }
+    ensures tells { (w : Walked) (s : State) → Tells s w result }
+    ensures faults { Grows (told_faults result) (S.refused source.old) (S.refused source.new) }
 {
     match source.read(alloc, loader, name) {
         Ok(probe) => Reply::Probed(probe),
         Err(fault) => Reply::SourceFault(fault),
+    }
+}
+
+/// The reply of a definition that the tables bear.
+fn define<T: Told>(alloc: Global, registry: &mut Registry<T>, draft: Draft<T>) -> Reply<T>
+    requires { MayEnter registry.old draft }
+    ensures expects { (t : Tasked) → t.phase ≡ Defining → Expects t result }
+    ensures tells { (w : Walked) → draft.class ≡ class w.at w.loader → Tells (state_of registry.new) w result }
+    ensures faults { told_faults result ≡ 0 }
+    ensures defined { DefinesFor registry.old registry.new draft }
+    ensures kept { IsKept T.told registry.new }
+{
+    match registry.define(alloc, draft) {
+        Ok(row) => Reply::Defined(row),
+        Err(refused) => match refused.fault {
+            RegistryFault::Memory => Reply::Memory,
+            _ => unreachable!(),
+        },
+    }
+}
+
+/// Posts an answer that the tables bear.
+fn post<T: Told>(registry: &mut Registry<T>, q: u32, finding: Finding<T>)
+    requires asked { IsAsked registry.old q finding }
+    requires open { IsOpen registry.old q }
+    requires backed { IsBacked registry.old finding }
+    ensures posted { registry.new ≡ with_post registry.old q finding.answer }
+    ensures kept { IsKept T.told registry.new }
+{
+    match registry.post(q, finding) {
+        Ok(()) => {}
+        Err(_) => unreachable!(),
     }
 }
 
@@ -67,15 +114,25 @@ fn serve_request<T: Told, S: Source<T>>(
     source: &mut S,
     q: u32,
     request: Request,
-) -> Result<(), ServeFault>
-    requires { loader_of request < length config.value.names }
-    ensures config { OnOk result (registry.new.config ≡ registry.old.config) }
-    ensures script { OnOk result (registry.new.script ≡ registry.old.script) }
-    ensures posted { OnOk result (posts registry.new.history ≡ posts registry.old.history ++ q ∷ []) }
+)
+    requires config { registry.old.config ≡ config.value }
+    requires loader { loader_of request < length config.value.names }
+    requires asked { slice_get registry.old.script.requests q ≡ Some request }
+    requires open { IsOpen registry.old q }
+    requires kept { IsKept T.told registry.old }
+    ensures config { registry.new.config ≡ registry.old.config }
+    ensures script { registry.new.script ≡ registry.old.script }
+    ensures posted { posts registry.new.history ≡ posts registry.old.history ++ q ∷ [] }
+    ensures served { Served T.told registry.old registry.new q request }
+    ensures faults { FaultsGrow registry.old.answers registry.new.answers (S.refused source.old) (S.refused source.new) }
+    ensures kept { IsKept T.told registry.new }
 {
     let mut task = match Task::<T>::new(alloc, config, q, request) {
         Ok(task) => task,
-        Err(_) => return Err(ServeFault::Memory),
+        Err(refused) => {
+            post(registry, q, Finding::memory(refused.request));
+            return;
+        }
     };
     let mut reply = Reply::Start;
     loop {
@@ -86,21 +143,13 @@ fn serve_request<T: Told, S: Source<T>>(
             Turn::Read(loader, name) => {
                 reply = read(alloc, source, loader, &name);
             }
-            Turn::Define(draft) => match registry.define(alloc, draft) {
-                Ok(row) => {
-                    reply = Reply::Defined(row);
-                }
-                Err(refused) => {
-                    if refused.fault != RegistryFault::Memory {
-                        return Err(ServeFault::Stray);
-                    }
-                    reply = Reply::Memory;
-                }
-            },
-            Turn::Post(finding) => match registry.post(q, finding) {
-                Ok(()) => return Ok(()),
-                Err(_) => return Err(ServeFault::Stray),
-            },
+            Turn::Define(draft) => {
+                reply = define(alloc, registry, draft);
+            }
+            Turn::Post(finding) => {
+                post(registry, q, finding);
+                return;
+            }
         }
     }
 }
@@ -114,7 +163,13 @@ fn request_at(alloc: Global, script: &Script, q: u32) -> Result<Request, AllocEr
     Ok(Request::Load(*loader, name.try_clone(alloc)?))
 }
 
-/// Serves the requests of a script in order. The report's tables can be trusted whatever the source tells.
+/// Serves the requests of a script in order (JVMS SE 8, 5.3). Where the source tells a content, the report's history is
+/// a run of the linkage machine over it, in which each request is answered once, with what its plan ends in there, or
+/// with a failure. Whatever the source tells, the report's tables can be trusted.
+///
+/// # Errors
+///
+/// `Z0`, where the registry, or the copy of a request, could not be made.
 pub fn serve_one<T: Told, S: Source<T>>(
     alloc: Global,
     config: Arc<Config>,
@@ -123,8 +178,16 @@ pub fn serve_one<T: Told, S: Source<T>>(
 ) -> Result<Report, ServeFault>
     requires { HasLoaders (length config.value.names) script.value.requests }
     ensures script { IfOk result (λ r. r.script.value ≡ script.value) }
-    ensures in_order { IfOk result (λ r. posts r.history ≡ upto (length script.value.requests)) }
+    ensures each_once { IfOk result (λ r. posts r.history ≡ upto (length script.value.requests)) }
+    ensures named { IfOk result (IsNamed (length config.value.names)) }
     ensures trusted { IfOk result (λ r. IsTrusted (reported config.value r)) }
+    ensures run { IfOk result (λ r. RunsAs T.told (reported config.value r)) }
+    ensures in_order { IfOk result (λ r. InOrder T.told (reported config.value r)) }
+    ensures spelt { IfOk result (λ r. EachSpelt T.told (reported config.value r)) }
+    ensures alike { IfOk result (λ r. Alike T.told (reported config.value r)) }
+    ensures circles { IfOk result (λ r. CirclesExact T.told (reported config.value r)) }
+    ensures source_faults { IfOk result (λ r. RoseBy (faults (reported config.value r).answers) (S.refused source.old) (S.refused source.new)) }
+    ensures no_stray { IfErr result (λ e. e ≡ ServeFault.Memory) }
 {
     let held = Arc::try_clone(&config)?;
     let asked = Arc::try_clone(&script)?;
@@ -136,10 +199,10 @@ pub fn serve_one<T: Told, S: Source<T>>(
     for q in 0..count as u32 {
         let request = request_at(alloc, &script, q)?;
         let held = Arc::try_clone(&config)?;
-        serve_request(alloc, held, &mut registry, source, q, request)?;
+        serve_request(alloc, held, &mut registry, source, q, request);
     }
     match registry.into_report() {
         Ok(report) => Ok(report),
-        Err(_) => Err(ServeFault::Stray),
+        Err(_) => unreachable!(),
     }
 }

@@ -43,6 +43,13 @@ fn bundles_are_run(rt: HostRuntime) -> Result<(), Fail> {
             err: "",
         },
         Row {
+            name: "trailing_object",
+            text: "%config\n[[loader]]\nname = \"boot\"\n%class boot java/lang/Object\n@hex cafebabe0000003400030100106a6176612f6c616e672f4f626a656374070001002100020000000000000000000000\n%script\nload boot java/lang/Object\n",
+            status: 0,
+            out: "1 ClassFormatError java/lang/Object@boot\n",
+            err: "",
+        },
+        Row {
             name: "empty_script",
             text: "%config\n[[loader]]\nname = \"boot\"\n%script\n",
             status: 0,
@@ -94,6 +101,27 @@ fn bundles_are_run(rt: HostRuntime) -> Result<(), Fail> {
         Row {
             name: "no_class_name",
             text: "%config\n[[loader]]\nname = \"boot\"\n%class boot p.A\n%script\n",
+            status: 1,
+            out: "",
+            err: "classlink: bundle line 4\n",
+        },
+        Row {
+            name: "class_without_name",
+            text: "%config\nnothing\n%class boot\n%script\n",
+            status: 1,
+            out: "",
+            err: "classlink: bundle line 3\n",
+        },
+        Row {
+            name: "script_line_with_more",
+            text: "%config\nnothing\n%class boot p/A\n\n%script now\n",
+            status: 1,
+            out: "",
+            err: "classlink: bundle line 5\n",
+        },
+        Row {
+            name: "other_line_in_bytes",
+            text: "%config\n[[loader]]\nname = \"boot\"\n%class boot p/A\n@hex 00\nclass 0021 p/A -\n%script\n",
             status: 1,
             out: "",
             err: "classlink: bundle line 4\n",
@@ -288,6 +316,42 @@ fn reads_and_writes_fail(rt: HostRuntime) -> Result<(), Fail> {
         } else {
             "classlink: cannot write\n"
         };
+        assert_eq!(rt; err.as_slice(), want.as_bytes());
+    }
+    Ok(())
+}
+
+/// A reader of so many equal bytes, as many at a time as there is room.
+#[derive(Drop)]
+struct Repeated {
+    byte: u8,
+    left: usize,
+}
+
+impl Read for Repeated {
+    fn read(&mut self, buf: &mut [u8]) -> io::Result<usize> {
+        let count = self.left.min(buf.len());
+        self.left -= count;
+        for byte in &mut buf[..count] {
+            *byte = self.byte;
+        }
+        Ok(count)
+    }
+}
+
+#[test]
+fn inputs_are_refused(rt: HostRuntime) -> Result<(), Fail> {
+    let words = ["classlink", "bundle"];
+    let rows: [(u8, usize, &str); 2] = [
+        (0xff, 67_108_865, "classlink: input too large\n"),
+        (0xff, 1, "classlink: input is not UTF-8\n"),
+    ];
+    for (byte, left, want) in rows {
+        let mut out = Vec::new(rt.alloc());
+        let mut err = Vec::new(rt.alloc());
+        let input = Repeated { byte, left };
+        assert_eq!(rt; run_over(&rt, &words, input, &mut out, &mut err), 1);
+        assert_eq!(rt; out.as_slice(), b"".as_slice());
         assert_eq!(rt; err.as_slice(), want.as_bytes());
     }
     Ok(())

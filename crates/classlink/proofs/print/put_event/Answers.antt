@@ -1,4 +1,3 @@
-use Rattle.std.proofs.Common.{map, string_bytes}
 use Rattle.classlink.proofs.Written.{on_err, part_none}
 use Rattle.classlink.proofs.print.put_event.Goals as goal
 

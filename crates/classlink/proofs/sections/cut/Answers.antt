@@ -1,4 +1,4 @@
-use Rattle.std.proofs.Common.{◌≡◌, ◌∙◌, refl}
+use Rattle.std.proofs.Common.{◌∙◌, refl}
 use Rattle.std.proofs.lemmas.List.{map-append}
 use Rattle.classlink.specs.Cuts.{part_of}
 use Rattle.classlink.proofs.Cutting.{cut_starts, cut_goes_on, cut_ends, cut_wrong, cut_err}

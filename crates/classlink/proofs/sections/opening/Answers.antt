@@ -1,4 +1,4 @@
-use Rattle.std.proofs.Common.{◌≡◌, true, false, sym, ◌∙◌}
+use Rattle.std.proofs.Common.{◌∙◌}
 use Rattle.classlink.proofs.Cutting.{opens_at, opens_later}
 use Rattle.classlink.proofs.sections.opening.Goals as goal
 

@@ -1,6 +1,8 @@
 use Rattle.std.proofs.Common.{◌≡◌}
-use Rattle.cl_registry.specs.Tables.{posts}
+use Rattle.cl_registry.specs.Tables.{IsKept, posts}
 use Rattle.classlink.specs.Serving.{upto}
+use Rattle.classlink.specs.Counting.{Grows, faults}
+use Rattle.classlink.proofs.Served.{ServedBelow}
 use Rattle.classlink.proofs.serve.serve_one.Given as goal
 
 abbrev pub invariant-loop-q : goal.invariant-loop-q
@@ -8,4 +10,7 @@ invariant-loop-q g l = record {
   config : l.registry.config ≡ l.fn.config.value;
   script : l.registry.script ≡ l.fn.script.value;
   order : posts l.registry.history ≡ upto l.q;
+  kept : IsKept g.T.Told.told l.registry;
+  served : ServedBelow g.T.Told.told l.registry l.q;
+  counted : Grows (faults l.registry.answers) (g.S.Source.refused l.fn.source) (g.S.Source.refused l.source);
 }

@@ -35,3 +35,6 @@ returns-in-Some-clause-defined g c =
     subst (λ (y : Shown). OnOk c.match-try_clone.result (DefinedAs y y c.args.draft (recorded (records_of y) c.args.draft.class.loader c.args.draft.class.name))) c.self.view_is
     (known_defined c.match-try_clone.result x c.args.draft _ c.in-Some.row.now.value.class.loader
     (sym (place_at (λ r. r.value) g.T.Told.told x _ c.self.invariant.rows c.args.draft.class.loader c.args.draft.class.name) ∙ ap (option_map (λ r. r.value.class.loader)) (sym c.known.ensures ∙ ap (option_map (λ r. r.now)) c.in-Some.is)))
+
+pub returns-clause-kept : goal.returns-clause-kept
+returns-clause-kept g c = (invariant_of-self-2 g c).kept

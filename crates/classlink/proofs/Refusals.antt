@@ -1,0 +1,43 @@
+-- Why a text is no bundle, from the step that found it.
+use Rattle.std.proofs.Common.{◌≡◌, ℕ, List, Result, Ok, Err, refl, sym, subst, IsErrAnd}
+use Rattle.cl_model.specs.Content.{Content}
+use Rattle.cl_registry.specs.Views.{Configured}
+use Rattle.cl_registry.specs.Configs.{ConfigOf}
+use Rattle.cl_registry.specs.Scripts.{script_of}
+use Rattle.cl_registry.specs.declared.script.ScriptFault.{ScriptFault}
+use Rattle.classlink.specs.Sections.{Cut, cut_of}
+use Rattle.classlink.specs.Cuts.{IsWrongLine}
+use Rattle.classlink.specs.Faults.{script_fault}
+use Rattle.classlink.specs.Bundles.{BundleOf, ConfigFaultOf, ContentsOf, IsNoBundle, UnlessMemory, WrongClass, WrongConfig, WrongLine, WrongScript}
+use Rattle.classlink.specs.declared.bundle.Bundle as declared
+use Rattle.classlink.specs.declared.fault.Fault.{Fault}
+use Rattle.classlink.specs.declared.fault.Fault.TheVariants.{Bundle, Memory}
+
+unless : (fault : Fault) (P : Type 0) → P → UnlessMemory fault P
+unless Memory P p = tt
+unless fault P p = p
+
+unless_by : (fault : Fault) (P Q : Type 0) → (P → Q) → UnlessMemory fault P → UnlessMemory fault Q
+unless_by Memory P Q f p = tt
+unless_by fault P Q f p = f p
+
+pub no_bundle : (text : List ℕ) (r : Result declared.Bundle Fault) (fault : Fault) → IsErrAnd r (λ e. e ≡ fault) → UnlessMemory fault (IsNoBundle text fault) → BundleOf text r
+no_bundle text (Ok b) fault e w = absurd e
+no_bundle text (Err f) fault e w = subst (λ (g : Fault). UnlessMemory g (IsNoBundle text g)) (sym e) w
+
+pub by_line : (text : List ℕ) (fault : Fault) → IsWrongLine (cut_of text) fault → UnlessMemory fault (IsNoBundle text fault)
+by_line text (Bundle n) w = WrongLine n w refl
+by_line text Memory w = tt
+by_line text fault w = absurd w
+
+pub by_config : (text : List ℕ) (cut : Cut) (fault : Fault) → cut_of text ≡ Ok cut → ConfigFaultOf cut.config cut.config_line (Err fault) → UnlessMemory fault (IsNoBundle text fault)
+by_config text cut fault e w = unless_by fault _ (IsNoBundle text fault) (λ p. WrongConfig cut e p.0 p.1) w
+
+pub by_class : (text : List ℕ) (cut : Cut) (config : Configured) (fault : Fault) → cut_of text ≡ Ok cut → ConfigOf cut.config (Ok config) → ContentsOf config.names cut.classes (Err fault)
+    → UnlessMemory fault (IsNoBundle text fault)
+by_class text cut config fault e k w = unless_by fault _ (IsNoBundle text fault) (λ p. WrongClass cut config e k p) w
+
+pub by_script : (text : List ℕ) (cut : Cut) (config : Configured) (content : Content) (wrong : ScriptFault) → cut_of text ≡ Ok cut → ConfigOf cut.config (Ok config)
+    → ContentsOf config.names cut.classes (Ok content) → script_of config.names cut.script (Err wrong) → UnlessMemory (script_fault wrong) (IsNoBundle text (script_fault wrong))
+by_script text cut config content wrong e k told w =
+    unless (script_fault wrong) (IsNoBundle text (script_fault wrong)) (WrongScript cut config told.0 wrong e k told.1 w refl)

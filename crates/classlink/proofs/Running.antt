@@ -1,0 +1,132 @@
+-- How a run ends, from its steps.
+use Rattle.std.proofs.Common.{◌≡◌, ◌⊎◌, ◌∙◌, ◌<◌, ◌≤◌, ℕ, Bool, List, [], ◌∷◌, ◌++◌, length, Option, Some, None, is_some, Result, Ok, Err, IfSome, IsErrAnd, OnOk, OnErr, append-nil, append_assoc, codes, inl, inr, refl, sym, ap, subst, if◌then◌else◌, true, false}
+use Rattle.std.specs.Str.{IsUtf8}
+use Rattle.std.specs.Fmt.{option_append}
+use Rattle.std.specs.Io.KnownBytes.{Appends}
+use Rattle.cl_model.specs.Content.{Content, Stored, content_at}
+use Rattle.cl_registry.specs.Scripts.{loader_named}
+use Rattle.classlink.specs.Sections.{Part}
+use Rattle.classlink.specs.Bundles.{IsNoBundle, UnlessMemory, WrongClass, WrongConfig, WrongLine, WrongScript, and_then, content_of, content_or, contents_from, stored_as, stored_by, stored_of}
+use Rattle.classlink.specs.Faults.{IsInputFault, script_fault}
+use Rattle.classlink.specs.Runs.{EndsBy, IsRun, RunOf, TellsFault, fault_line}
+use Rattle.classlink.specs.Report.{AppendsPart}
+use Rattle.classlink.specs.declared.fault.Fault.{Fault}
+use Rattle.classlink.specs.declared.fault.Fault.TheVariants.{Input, Write, TooLarge, NotUtf8, Bundle, Script, Serve, Memory}
+use Rattle.cl_registry.specs.declared.script.ScriptFault.{ScriptFault}
+use Rattle.cl_registry.specs.declared.script.ScriptFault.TheVariants as scripts
+use Rattle.classlink.proofs.Written.{appends_nothing}
+
+pub ran_wrong : (input : Option (List ℕ)) (only : Bool) (old new : Option (List ℕ)) (r : Result (Unit {0}) Fault) (fault : Fault) → IsErrAnd r (λ e. e ≡ fault) → EndsBy input only old new fault → RunOf input only old new r
+ran_wrong input only old new (Ok x) fault e w = absurd e
+ran_wrong input only old new (Err f) fault e w = subst (EndsBy input only old new) (sym e) w
+
+pub by_input : (input : Option (List ℕ)) (only : Bool) (old : Option (List ℕ)) (fault : Fault) → IsInputFault fault → (fault ≡ TooLarge → IfSome input (λ bytes. 67108864 < length bytes))
+    → (fault ≡ NotUtf8 → IfSome input (λ bytes. (length bytes ≤ 67108864) × ¬ (IsUtf8 bytes))) → EndsBy input only old old fault
+by_input input only old Input k large other = (appends_nothing old, tt)
+by_input input only old TooLarge k large other = (appends_nothing old, large refl)
+by_input input only old NotUtf8 k large other = (appends_nothing old, other refl)
+by_input input only old Memory k large other = inl (appends_nothing old, tt)
+by_input input only old fault k large other = absurd k
+
+pub by_memory : (input : Option (List ℕ)) (only : Bool) (old : Option (List ℕ)) → EndsBy input only old old Memory
+by_memory input only old = inl (appends_nothing old, tt)
+
+-- ---- a fault of a bundle
+
+abbrev IsOfBundle : Fault → Type 0
+IsOfBundle (Bundle n) = Unit {0}
+IsOfBundle (Script wrong) = Unit {0}
+IsOfBundle Memory = Unit {0}
+IsOfBundle _ = ⊥
+
+err_is : {A : Type 0} (a b : Fault) (r : Result A Fault) → r ≡ Err a → r ≡ Err b → a ≡ b
+err_is a b r p q = cc
+
+same_of : (a b : Fault) → a ≡ b → IsOfBundle a → IsOfBundle b
+same_of a b e k = subst IsOfBundle e k
+
+stored_wrong : (loader : ℕ) (name : List ℕ) (line : ℕ) (o : Option (List ℕ)) (fault : Fault) → stored_as loader name (content_or line o) ≡ Err fault → IsOfBundle fault
+stored_wrong loader name line None fault e = same_of (Bundle line) fault (err_is _ _ _ refl e) tt
+stored_wrong loader name line (Some bytes) fault e = absurd cc
+
+else_wrong : (b : Bool) (line : ℕ) (r : Result Stored Fault) (fault : Fault) → (r ≡ Err fault → IsOfBundle fault) → (if b then Err (Bundle line) else r) ≡ Err fault → IsOfBundle fault
+else_wrong true line r fault k e = same_of (Bundle line) fault (err_is {A = Stored} _ _ _ refl e) tt
+else_wrong false line r fault k e = k e
+
+part_wrong : (o : Option ℕ) (before : Content) (part : Part) (fault : Fault) → stored_by o before part ≡ Err fault → IsOfBundle fault
+part_wrong None before part fault e = same_of (Bundle part.line) fault (err_is {A = Stored} _ _ _ refl e) tt
+part_wrong (Some loader) before part fault e =
+    else_wrong (is_some (content_at before loader part.name)) part.line (stored_as loader part.name (content_of part)) fault (stored_wrong loader part.name part.line _ fault) e
+
+then_wrong : (r : Result Stored Fault) (next : Stored → Result Content Fault) (fault : Fault) → (r ≡ Err fault → IsOfBundle fault) → ((s : Stored) → next s ≡ Err fault → IsOfBundle fault)
+    → and_then r next ≡ Err fault → IsOfBundle fault
+then_wrong (Ok s) next fault k more e = more s e
+then_wrong (Err f) next fault k more e = k (ap Err (err_is {A = Content} _ _ _ refl e))
+
+parts_wrong : (names : List (List ℕ)) (before : Content) (parts : List Part) (fault : Fault) → contents_from names before parts ≡ Err fault → IsOfBundle fault
+parts_wrong names before [] fault e = absurd cc
+parts_wrong names before (part ∷ parts) fault e =
+    then_wrong (stored_of names before part) (λ s. contents_from names (before ++ s ∷ []) parts) fault (part_wrong (loader_named names part.loader) before part fault)
+    (λ s q. parts_wrong names (before ++ s ∷ []) parts fault q) e
+
+script_wrong : (wrong : ScriptFault) → IsOfBundle (script_fault wrong)
+script_wrong scripts.Memory = tt
+script_wrong wrong = tt
+
+of_bundle : (text : List ℕ) (fault : Fault) → IsNoBundle text fault → IsOfBundle fault
+of_bundle text fault (WrongLine n cut is) = same_of (Bundle n) fault (sym is) tt
+of_bundle text fault (WrongConfig cut e config is) = same_of (Bundle cut.config_line) fault (sym is) tt
+of_bundle text fault (WrongClass cut config e k w) = parts_wrong config.names [] cut.classes fault w
+of_bundle text fault (WrongScript cut config told wrong e k t w is) = same_of (script_fault wrong) fault (sym is) (script_wrong wrong)
+
+if_read : (input : Option (List ℕ)) (text : List ℕ) (fault : Fault) → IfSome input (λ bytes. text ≡ bytes) → IsNoBundle text fault → IfSome input (λ bytes. IsNoBundle bytes fault)
+if_read None text fault e w = tt
+if_read (Some bytes) text fault e w = subst (λ (t : List ℕ). IsNoBundle t fault) e w
+
+by_fault : (input : Option (List ℕ)) (only : Bool) (old : Option (List ℕ)) (text : List ℕ) (fault : Fault) → IfSome input (λ bytes. text ≡ bytes) → IsNoBundle text fault → IsOfBundle fault
+    → EndsBy input only old old fault
+by_fault input only old text (Bundle n) e w k = (appends_nothing old, if_read input text (Bundle n) e w)
+by_fault input only old text (Script wrong) e w k = (appends_nothing old, if_read input text (Script wrong) e w)
+by_fault input only old text Memory e w k = by_memory input only old
+by_fault input only old text fault e w k = absurd k
+
+unless_wrong : (input : Option (List ℕ)) (only : Bool) (old : Option (List ℕ)) (text : List ℕ) (fault : Fault) → IfSome input (λ bytes. text ≡ bytes) → (IsNoBundle text fault → EndsBy input only old old fault)
+    → UnlessMemory fault (IsNoBundle text fault) → EndsBy input only old old fault
+unless_wrong input only old text Memory e k w = by_memory input only old
+unless_wrong input only old text fault e k w = k w
+
+pub by_bundle : (input : Option (List ℕ)) (only : Bool) (old : Option (List ℕ)) (text : List ℕ) (fault : Fault) → IfSome input (λ bytes. text ≡ bytes) → UnlessMemory fault (IsNoBundle text fault)
+    → EndsBy input only old old fault
+by_bundle input only old text fault e w = unless_wrong input only old text fault e (λ n. by_fault input only old text fault e n (of_bundle text fault n)) w
+
+-- ---- the exit status
+
+-- want of memory may be told in place of any other fault
+as_memory : (input : Option (List ℕ)) (only : Bool) (old new : Option (List ℕ)) (fault : Fault) → EndsBy input only old new fault → EndsBy input only old new Memory
+as_memory input only old new Input w = inl (w.0, tt)
+as_memory input only old new TooLarge w = inl (w.0, tt)
+as_memory input only old new NotUtf8 w = inl (w.0, tt)
+as_memory input only old new (Bundle n) w = inl (w.0, tt)
+as_memory input only old new (Script wrong) w = inl (w.0, tt)
+as_memory input only old new (Serve wrong) w = inl (w.0, tt)
+as_memory input only old new Write w = inr w
+as_memory input only old new Memory w = w
+
+pub run_done : (input : Option (List ℕ)) (only : Bool) (old_out new_out err : Option (List ℕ)) → RunOf input only old_out new_out (Ok tt) → IsRun input only old_out new_out err err 0
+run_done input only old_out new_out err ran = record { outcome = Ok tt; ran = ran; told = (refl, appends_nothing err) }
+
+pub run_failed : (input : Option (List ℕ)) (only : Bool) (old_out new_out old_err new_err : Option (List ℕ)) (fault : Fault) (status : ℕ) → EndsBy input only old_out new_out fault → status ≡ 1
+    → TellsFault old_err new_err fault ⊎ TellsFault old_err new_err Memory → IsRun input only old_out new_out old_err new_err status
+run_failed input only old_out new_out old_err new_err fault status ran is (inl told) = record { outcome = Err fault; ran = ran; told = (is, told) }
+run_failed input only old_out new_out old_err new_err fault status ran is (inr told) = record { outcome = Err Memory; ran = as_memory input only old_out new_out fault ran; told = (is, told) }
+
+-- ---- the line of a fault
+
+pub write_part : {E : Type 0} (r : Result (Unit {0}) E) (old new : Option (List ℕ)) (bytes : List ℕ) → OnOk r (Appends old new bytes) → OnErr r (AppendsPart old new bytes) → AppendsPart old new bytes
+write_part (Ok x) old new bytes all part = record { front = bytes; rest = []; whole = sym (append-nil bytes); grown = all }
+write_part (Err e) old new bytes all part = part
+
+pub told_line : (old new : Option (List ℕ)) (o : Option (List ℕ)) (line : List ℕ) → IfSome (option_append (Some (codes "classlink: ")) (option_append o (Some (10 ∷ [])))) (λ bytes. line ≡ bytes)
+    → AppendsPart old new line → IfSome o (λ text. AppendsPart old new (fault_line text))
+told_line old new None line e p = tt
+told_line old new (Some text) line e p = subst (AppendsPart old new) (e ∙ sym (append_assoc (codes "classlink: ") text (10 ∷ []))) p

@@ -1,0 +1,11 @@
+use Rattle.std.proofs.Common.{rules, ◌≡◌, ◌∷◌, map}
+use Rattle.classlink.specs.Cuts.{part_of}
+use Rattle.classlink.proofs.Storing.{stored_more}
+use Rattle.classlink.proofs.bundle.read_classes.Goals as goal
+
+pub loop-section-preserved : goal.loop-section-preserved
+loop-section-preserved c =
+    let next : c.loop-section.section-iterator.rest.items ≡ c.in-Some.section ∷ c.next.new.self.rest.items = search rules in
+    let put = c.in_ok-put.ensures in
+    stored_more c.args.config.now.names _ (map part_of c.next.new.self.rest.items) (part_of c.in-Some.section) c.loop-section.source c.put.new.source put.0
+    (rw next at c.loop-section.invariant) put.1 put.2

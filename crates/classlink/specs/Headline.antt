@@ -1,0 +1,52 @@
+-- What a report says where a content is told: the headline, clause by clause (JVMS SE 8, 5.3).
+use Rattle.std.specs.Prelude.{◌≡◌, ℕ, List, [], Option, Some, None, Ok, slice_get}
+use Rattle.cl_classfile.specs.Files.{File}
+use Rattle.cl_model.specs.declared.class.Class.{Class}
+use Rattle.cl_model.specs.declared.answer.Answer as answers
+use Rattle.cl_model.specs.declared.request.Request as requests
+use Rattle.cl_model.specs.declared.verdict.Verdict as verdicts
+use Rattle.cl_model.specs.declared.verdict.ErrorKind.TheVariants as kinds
+use Rattle.cl_model.specs.Content.{Content, content_at}
+use Rattle.cl_model.specs.Homes.{World, home}
+use Rattle.cl_model.specs.Classes.{class, Returns}
+use Rattle.cl_model.specs.States.{IsRecorded}
+use Rattle.cl_registry.specs.Tables.{Shown, state_of}
+use Rattle.classlink.specs.Serving.{machine}
+
+-- the own content of the class's loader has bytes for its name, and they spell a file that names it (5.3.5)
+pub record IsSpelt (w : World) (c : Class) : Type 0 where
+  pub bytes : List ℕ
+  pub stored : content_at w.content c.loader c.name ≡ Some bytes
+  pub file : File
+  pub read : w.read bytes ≡ Ok file
+  pub named : file.name ≡ c.name
+
+-- each class that is recorded is spelt by its defining loader's bytes
+abbrev pub EachSpelt : Option Content → Shown → Type 0
+EachSpelt None x = Unit {0}
+EachSpelt (Some content) x = (c : Class) → IsRecorded (state_of x) c → IsSpelt (machine x content).world c
+
+-- the request of this number asks this, and was answered so
+pub record Says (x : Shown) (q : ℕ) (r : requests.Request) (v : verdicts.Verdict) : Type 0 where
+  pub asked : slice_get x.script.requests q ≡ Some r
+  pub answered : slice_get x.answers q ≡ Some (Some (answers.TheVariants.Said v))
+
+-- equal requests are answered alike, failures apart
+abbrev pub Alike : Option Content → Shown → Type 0
+Alike None x = Unit {0}
+Alike (Some content) x = (p q : ℕ) (r : requests.Request) (v u : verdicts.Verdict) → Says x p r v → Says x q r u → v ≡ u
+
+-- a load ends in a circle of this class: its home's walk along first supertypes that are not good meets the class again
+pub record EndsInCircle (w : World) (loader : ℕ) (name : List ℕ) (c : Class) : Type 0 where
+  pub place : ℕ
+  pub found : home w loader name ≡ Some place
+  pub returns : Returns w [] (class name place) c
+
+-- ClassCircularityError is answered where the load ends in a circle, of that class, and nowhere else (5.3.5)
+pub record CircleAnswer (w : World) (x : Shown) (q loader : ℕ) (name : List ℕ) (v : verdicts.Verdict) : Type 0 where
+  pub only : (c : Class) → v ≡ verdicts.TheVariants.Error kinds.ClassCircularityError c → EndsInCircle w loader name c
+  pub there : (c : Class) → EndsInCircle w loader name c → v ≡ verdicts.TheVariants.Error kinds.ClassCircularityError c
+
+abbrev pub CirclesExact : Option Content → Shown → Type 0
+CirclesExact None x = Unit {0}
+CirclesExact (Some content) x = (q loader : ℕ) (name : List ℕ) (v : verdicts.Verdict) → Says x q (requests.TheVariants.Load loader name) v → CircleAnswer (machine x content).world x q loader name v

@@ -1,0 +1,94 @@
+-- What a run of the program answers, and what it writes.
+use Rattle.std.specs.Prelude.{◌≡◌, ◌⊎◌, ◌<◌, ◌≤◌, ℕ, ⊤, Bool, List, [], ◌∷◌, ◌++◌, length, codes, Option, Some, Result, Ok, Err, IfSome}
+use Rattle.std.specs.Str.{IsUtf8}
+use Rattle.std.specs.Io.KnownBytes.{Appends}
+use Rattle.cl_model.specs.Content.{Content}
+use Rattle.cl_registry.specs.Views.{Configured, Scripted}
+use Rattle.cl_registry.specs.Reports.{IsNamed}
+use Rattle.cl_registry.specs.Tables.{IsTrusted, RunsAs, posts}
+use Rattle.cl_registry.specs.declared.report.Report.{Report}
+use Rattle.classlink.specs.Bundles.{IsBundle, IsNoBundle}
+use Rattle.classlink.specs.Faults.{fault_text}
+use Rattle.classlink.specs.Report.{AppendsPart, report_lines}
+use Rattle.classlink.specs.Headline.{EachSpelt, Alike, CirclesExact}
+use Rattle.classlink.specs.Serving.{InOrder, reported, upto}
+use Rattle.classlink.specs.declared.fault.Fault.{Fault}
+use Rattle.classlink.specs.declared.fault.Fault.TheVariants.{Input, Write, TooLarge, NotUtf8, Bundle, Script, Serve, Memory}
+
+-- the report of a script that was served under a configuration. Where a content is told, the history is a run of the
+-- linkage machine over it, in which each request is answered once, with what its plan yields in the state at that point,
+-- failures apart; each class is spelt by its defining loader's bytes, equal requests are answered alike, and circles are
+-- told exactly (JVMS SE 8, 5.3)
+pub record IsServed (told : Option Content) (config : Configured) (script : Scripted) (r : Report) : Type 0 where
+  pub of_script : r.script.value ≡ script
+  pub each_once : posts r.history ≡ upto (length script.requests)
+  pub named : IsNamed (length config.names) r
+  pub trusted : IsTrusted (reported config r)
+  pub run : RunsAs told (reported config r)
+  pub in_order : InOrder told (reported config r)
+  pub spelt : EachSpelt told (reported config r)
+  pub alike : Alike told (reported config r)
+  pub circles : CirclesExact told (reported config r)
+
+-- the lines of a report of the bundle that an input is
+pub record AreLinesFor (input : Option (List ℕ)) (only_answers : Bool) (lines : List ℕ) : Type 0 where
+  pub text : List ℕ
+  pub config : Configured
+  pub content : Content
+  pub script : Scripted
+  pub report : Report
+  pub read : IfSome input (λ bytes. text ≡ bytes)
+  pub bundle : IsBundle text config content script
+  pub served : IsServed (Some content) config script report
+  pub are : lines ≡ report_lines config.names only_answers report.history report.answers
+
+-- a first part of the lines is written, and no more
+pub record BreaksOff (input : Option (List ℕ)) (only_answers : Bool) (old new : Option (List ℕ)) : Type 0 where
+  pub lines : List ℕ
+  pub for_input : AreLinesFor input only_answers lines
+  pub part : AppendsPart old new lines
+
+-- nothing is written, for this reason
+abbrev pub WritesNothing : Option (List ℕ) → Option (List ℕ) → Type 0 → Type 0
+WritesNothing old new reason = Appends old new [] × reason
+
+-- when a run ends by a fault, and what is on its output
+abbrev pub EndsBy : Option (List ℕ) → Bool → Option (List ℕ) → Option (List ℕ) → Fault → Type 0
+EndsBy input only_answers old new Input = WritesNothing old new ⊤
+EndsBy input only_answers old new TooLarge = WritesNothing old new (IfSome input (λ bytes. 67108864 < length bytes))
+EndsBy input only_answers old new NotUtf8 = WritesNothing old new (IfSome input (λ bytes. (length bytes ≤ 67108864) × ¬ (IsUtf8 bytes)))
+EndsBy input only_answers old new (Bundle n) = WritesNothing old new (IfSome input (λ bytes. IsNoBundle bytes (Bundle n)))
+EndsBy input only_answers old new (Script wrong) = WritesNothing old new (IfSome input (λ bytes. IsNoBundle bytes (Script wrong)))
+EndsBy input only_answers old new (Serve wrong) = WritesNothing old new ⊤
+EndsBy input only_answers old new Write = BreaksOff input only_answers old new
+EndsBy input only_answers old new Memory = WritesNothing old new ⊤ ⊎ BreaksOff input only_answers old new
+
+-- the lines of a report are written
+pub record Prints (input : Option (List ℕ)) (only_answers : Bool) (old new : Option (List ℕ)) : Type 0 where
+  pub lines : List ℕ
+  pub for_input : AreLinesFor input only_answers lines
+  pub whole : Appends old new lines
+
+-- what running a bundle answers, and what is on its output
+abbrev pub RunOf : Option (List ℕ) → Bool → Option (List ℕ) → Option (List ℕ) → Result (Unit {0}) Fault → Type 0
+RunOf input only_answers old new (Ok x) = Prints input only_answers old new
+RunOf input only_answers old new (Err fault) = EndsBy input only_answers old new fault
+
+-- the line of a fault
+abbrev pub fault_line : List ℕ → List ℕ
+fault_line text = codes "classlink: " ++ text ++ 10 ∷ []
+
+-- the line of a fault is written, as far as its output takes it
+abbrev pub TellsFault : Option (List ℕ) → Option (List ℕ) → Fault → Type 0
+TellsFault old new fault = IfSome (fault_text fault) (λ text. AppendsPart old new (fault_line text))
+
+-- the exit status, and what is on standard error
+abbrev pub EndsWith : Option (List ℕ) → Option (List ℕ) → ℕ → Result (Unit {0}) Fault → Type 0
+EndsWith old new status (Ok x) = (status ≡ 0) × Appends old new []
+EndsWith old new status (Err fault) = (status ≡ 1) × TellsFault old new fault
+
+-- a bundle was run, or a fault ended it, and the exit status and both outputs say so
+pub record IsRun (input : Option (List ℕ)) (only_answers : Bool) (old_out new_out old_err new_err : Option (List ℕ)) (status : ℕ) : Type 0 where
+  pub outcome : Result (Unit {0}) Fault
+  pub ran : RunOf input only_answers old_out new_out outcome
+  pub told : EndsWith old_err new_err status outcome

@@ -1,5 +1,5 @@
 -- Reading the lines of a class, one after another.
-use Rattle.std.proofs.Common.{◌≡◌, ◌⊎◌, inl, inr, ℕ, Result, Ok, Err, List, [], ◌∷◌, ◌++◌, fold, append_assoc, append-nil, refl, sym, ap, subst, ◌∙◌}
+use Rattle.std.proofs.Common.{◌≡◌, inr, ℕ, Result, Ok, Err, List, [], ◌∷◌, ◌++◌, fold, append_assoc, append-nil, refl, sym, ap, subst, ◌∙◌}
 use Rattle.cl_lines.specs.Lines.{Numbered, words_of}
 use Rattle.cl_writer.specs.declared.statement.ClassLine.{ClassLine}
 use Rattle.cl_writer.specs.declared.statement.MemberLine.{MemberLine}

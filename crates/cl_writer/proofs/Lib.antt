@@ -1,5 +1,8 @@
+pub mod Described
 pub mod Equal
 pub mod Gathered
 pub mod Indexed
+pub mod Mapped
+pub mod Printed
 pub mod Rows
 pub mod Wanted

@@ -1,5 +1,5 @@
 -- Lines that say nothing.
-use Rattle.std.proofs.Common.{◌≡◌, ℕ, ◌+◌, ◌*◌, ℤ, List, [], ◌∷◌, Option, Some, None, Result, Ok, Err, codes, refl, sym, ap, subst, ◌∙◌, arith}
+use Rattle.std.proofs.Common.{◌≡◌, ℕ, ◌+◌, ◌*◌, ℤ, List, [], ◌∷◌, Option, Some, None, Result, Ok, Err, codes, sym, ap, subst, ◌∙◌, arith}
 use Rattle.cl_names.specs.Escape.{WritesName}
 use Rattle.cl_writer.specs.declared.item.MemberKind.{MemberKind}
 use Rattle.cl_writer.specs.declared.item.MemberKind.TheVariants as kinds

@@ -1,15 +1,20 @@
-//! Class files as bytes; and what the lines of assembler text say, with the entries of the pool that they ask for.
+//! Class files as bytes and as lines of text, and class files from such lines.
 #![tactic(auto)]
 
+mod assembling;
 mod assembly;
 mod bytes;
 mod fault;
 mod item;
 mod items;
+mod listings;
+mod outline;
 mod statement;
 mod writing;
 
+pub use assembling::assemble;
 pub use fault::{AssembleFault, WriteFault};
+pub use listings::listing;
 pub use writing::write;
 
 #[cfg(test)]

@@ -1,0 +1,45 @@
+-- The lines of a class file in the assembler's form.
+use Rattle.std.specs.Prelude.{ℕ, ◌/◌, ◌%◌, ◌==◌, List, [], ◌∷◌, ◌++◌, Option, Some, None, codes, if◌then◌else◌}
+use Rattle.std.specs.List.{flat_map}
+use Rattle.std.specs.Char.{digit_char}
+use Rattle.cl_names.specs.Escape.{escaped}
+use Rattle.cl_classfile.specs.declared.entry.Entry.{Entry}
+use Rattle.cl_classfile.specs.Files.{type_name, text_at}
+use Rattle.cl_classfile.specs.Structure.{Structure, Member}
+
+-- four hexadecimal digits, in lower case
+abbrev pub printed_flags : ℕ → List ℕ
+printed_flags flags = digit_char (flags / 4096) ∷ digit_char (flags / 256 % 16) ∷ digit_char (flags / 16 % 16) ∷ digit_char (flags % 16) ∷ []
+
+-- a name as escaped text
+abbrev pub printed_name : Option (List ℕ) → List ℕ
+printed_name None = []
+printed_name (Some name) = escaped name
+
+-- the name of a class
+unfoldable pub printed_type : List Entry → ℕ → List ℕ
+printed_type pool i = printed_name (type_name pool i)
+
+-- - where there is no superclass
+abbrev pub printed_super : List Entry → ℕ → List ℕ
+printed_super pool super = if super == 0 then codes "-" else printed_type pool super
+
+-- class FLAGS NAME SUPER
+abbrev pub class_line : Structure → List ℕ
+class_line f = codes "class " ++ printed_flags f.flags ++ codes " " ++ printed_type f.pool f.this_class ++ codes " " ++ printed_super f.pool f.super_class ++ 10 ∷ []
+
+-- implements NAME
+abbrev pub implements_line : List Entry → ℕ → List ℕ
+implements_line pool interface = codes "implements " ++ printed_type pool interface ++ 10 ∷ []
+
+-- field FLAGS NAME DESC, and so a method
+abbrev pub member_line : List ℕ → List Entry → Member → List ℕ
+member_line word pool m = word ++ printed_flags m.flags ++ codes " " ++ printed_name (text_at pool m.name_index) ++ codes " " ++ printed_name (text_at pool m.descriptor_index) ++ 10 ∷ []
+
+-- the lines of a file
+abbrev pub listing_of : Structure → List ℕ
+listing_of f =
+    class_line f
+    ++ flat_map (implements_line f.pool) f.interfaces
+    ++ flat_map (member_line (codes "field ") f.pool) f.fields
+    ++ flat_map (member_line (codes "method ") f.pool) f.methods

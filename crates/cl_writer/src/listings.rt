@@ -1,0 +1,190 @@
+//! Class files as lines of the assembler.
+
+ghost use Rattle.std.specs.Prelude.{◌≡◌, ◌<◌, ◌++◌, ◌∷◌, [], OnOk, IfOk, codes, string_bytes};
+ghost use Rattle.std.specs.List.{flat_map};
+ghost use Rattle.std.specs.Option.{option_map};
+ghost use Rattle.std.specs.Char.{digit_char};
+ghost use Rattle.cl_classfile.specs.Files.{type_name, text_at};
+ghost use Rattle.cl_classfile.specs.Pool.{at};
+ghost use Rattle.cl_writer.specs.Listings.{printed_flags, printed_name, printed_super, printed_type, class_line, implements_line, member_line, listing_of};
+
+use cl_classfile::{ClassFile, Entry, Member};
+use cl_names::Name;
+use std::alloc::{AllocError, Global};
+
+/// The lines of a file in the assembler's form: its `class`, `implements`, `field` and `method` lines, each ended by
+/// U+000A. Flags are in lower case; a superclass that is not there is `-`. Only want of memory refuses it.
+pub fn listing(alloc: Global, file: &ClassFile) -> Result<String, AllocError>
+    ensures { IfOk result (λ text. string_bytes text ≡ listing_of file.now) }
+{
+    let mut text = String::new(alloc);
+    put_class(&mut text, alloc, file)?;
+    put_interfaces(&mut text, alloc, file.pool(), file.interfaces())?;
+    put_members(&mut text, alloc, "field ", file.pool(), file.fields())?;
+    put_members(&mut text, alloc, "method ", file.pool(), file.methods())?;
+    Ok(text)
+}
+
+fn put_class(text: &mut String, alloc: Global, file: &ClassFile) -> Result<(), AllocError>
+    ensures { OnOk result (string_bytes text.new ≡ string_bytes text.old ++ class_line file.now) }
+{
+    put_head(text, "class ", file.flags())?;
+    put_type(text, alloc, file.pool(), file.this_class())?;
+    text.push_str(" ")?;
+    put_super(text, alloc, file.pool(), file.super_class())?;
+    text.push_str("\n")
+}
+
+/// A word, flags and a space.
+fn put_head(text: &mut String, word: &str, flags: u16) -> Result<(), AllocError>
+    ensures { OnOk result (string_bytes text.new ≡ string_bytes text.old ++ (word.now ++ printed_flags flags ++ codes " ")) }
+{
+    text.push_str(word)?;
+    put_flags(text, flags)?;
+    text.push_str(" ")
+}
+
+/// The name of a class.
+#[tactic(auto, unfolding(crate::specs::Listings::printed_type))]
+fn put_type(text: &mut String, alloc: Global, pool: &[Entry], index: u16) -> Result<(), AllocError>
+    ensures { OnOk result (string_bytes text.new ≡ string_bytes text.old ++ printed_type pool.now index) }
+{
+    put_name(text, alloc, type_name(pool, index))
+}
+
+/// The name of the superclass, and `-` where there is none.
+fn put_super(
+    text: &mut String,
+    alloc: Global,
+    pool: &[Entry],
+    super_class: u16,
+) -> Result<(), AllocError>
+    ensures { OnOk result (string_bytes text.new ≡ string_bytes text.old ++ printed_super pool.now super_class) }
+{
+    if super_class == 0 {
+        return text.push_str("-");
+    }
+    put_type(text, alloc, pool, super_class)
+}
+
+fn put_interfaces(
+    text: &mut String,
+    alloc: Global,
+    pool: &[Entry],
+    interfaces: &[u16],
+) -> Result<(), AllocError>
+    ensures { OnOk result (string_bytes text.new ≡ string_bytes text.old ++ flat_map (implements_line pool.now) interfaces.now) }
+{
+    for interface in interfaces {
+        put_interface(text, alloc, pool, *interface)?;
+    }
+    Ok(())
+}
+
+fn put_interface(
+    text: &mut String,
+    alloc: Global,
+    pool: &[Entry],
+    interface: u16,
+) -> Result<(), AllocError>
+    ensures { OnOk result (string_bytes text.new ≡ string_bytes text.old ++ implements_line pool.now interface) }
+{
+    text.push_str("implements ")?;
+    put_type(text, alloc, pool, interface)?;
+    text.push_str("\n")
+}
+
+fn put_members(
+    text: &mut String,
+    alloc: Global,
+    word: &str,
+    pool: &[Entry],
+    members: &[Member],
+) -> Result<(), AllocError>
+    ensures { OnOk result (string_bytes text.new ≡ string_bytes text.old ++ flat_map (member_line word.now pool.now) members.now) }
+{
+    for member in members {
+        put_member(text, alloc, word, pool, member)?;
+    }
+    Ok(())
+}
+
+fn put_member(
+    text: &mut String,
+    alloc: Global,
+    word: &str,
+    pool: &[Entry],
+    member: &Member,
+) -> Result<(), AllocError>
+    ensures { OnOk result (string_bytes text.new ≡ string_bytes text.old ++ member_line word.now pool.now member.now) }
+{
+    put_head(text, word, member.flags())?;
+    put_name(text, alloc, text_at(pool, member.name_index()))?;
+    text.push_str(" ")?;
+    put_name(text, alloc, text_at(pool, member.descriptor_index()))?;
+    text.push_str("\n")
+}
+
+/// A name as escaped text.
+fn put_name(text: &mut String, alloc: Global, name: Option<&Name>) -> Result<(), AllocError>
+    ensures { OnOk result (string_bytes text.new ≡ string_bytes text.old ++ printed_name (option_map (λ n. n.now) name.entry)) }
+{
+    let Some(name) = name else {
+        return Ok(());
+    };
+    let printed = name.text(alloc)?;
+    text.push_str(printed.as_str())
+}
+
+/// Four hexadecimal digits.
+fn put_flags(text: &mut String, flags: u16) -> Result<(), AllocError>
+    ensures { OnOk result (string_bytes text.new ≡ string_bytes text.old ++ printed_flags flags) }
+{
+    put_digit(text, flags / 4096)?;
+    put_digit(text, flags / 256 % 16)?;
+    put_digit(text, flags / 16 % 16)?;
+    put_digit(text, flags % 16)
+}
+
+fn put_digit(text: &mut String, value: u16) -> Result<(), AllocError>
+    requires { value < 16 }
+    ensures { OnOk result (string_bytes text.new ≡ string_bytes text.old ++ digit_char value ∷ []) }
+{
+    let value = value as u8;
+    let digit = if value < 10 {
+        b'0' + value
+    } else {
+        b'a' + (value - 10)
+    };
+    text.push(char::from(digit))
+}
+
+/// The entry at an index, from 1 on.
+fn at(pool: &[Entry], index: u16) -> Option<&Entry>
+    ensures { option_map (λ e. e.now) result ≡ at pool.now index }
+{
+    if index == 0 {
+        return None;
+    }
+    pool.get(usize::from(index) - 1)
+}
+
+/// The text at an index.
+fn text_at(pool: &[Entry], index: u16) -> Option<&Name>
+    ensures { option_map (λ n. n.now) result ≡ text_at pool.now index }
+{
+    match at(pool, index)? {
+        Entry::Utf8(text) => Some(text),
+        _ => None,
+    }
+}
+
+/// The name of the class or array at an index.
+fn type_name(pool: &[Entry], index: u16) -> Option<&Name>
+    ensures { option_map (λ n. n.now) result ≡ type_name pool.now index }
+{
+    match at(pool, index)? {
+        Entry::Class(name) => text_at(pool, *name),
+        _ => None,
+    }
+}

@@ -15,21 +15,23 @@ use Rattle.cl_classfile.specs.Structure.{Structure, Member, object}
 use Rattle.cl_classfile.specs.Rows.{is_field, entry_traits, traits_at, keeps_entry}
 use Rattle.cl_classfile.specs.Files.{text_at, class_name}
 
+-- the first fault of two steps, or what the second gives (own choice)
 infixl 10 ◌>>=◌
 abbrev pub ◌>>=◌ : {A B : Type 0} → Result A Fault → (A → Result B Fault) → Result B Fault
 (Ok x) >>= f = f x
 (Err e) >>= f = Err e
 
--- what a function that takes no memory returned is, seen by view, this value or fault
+-- what a function that takes no memory returned is, seen by view, this value or fault (own choice)
 abbrev pub Finds : {X Y : Type 0} → (X → Y) → Result X Fault → Result Y Fault → Type 0
 Finds view (Ok x) read = read ≡ Ok (view x)
 Finds view (Err f) read = read ≡ Err f
 
--- the same of a function that takes memory, unless memory ran out
+-- the same of a function that takes memory, unless memory ran out (own choice)
 abbrev pub Fails : {Y : Type 0} → ReadError → Result Y Fault → Type 0
 Fails errors.Memory read = Unit {0}
 Fails (errors.Fault f) read = read ≡ Err f
 
+-- what a function that takes memory returned is this value or fault, unless memory ran out (own choice)
 abbrev pub Gives : {X Y : Type 0} → (X → Y) → Result X ReadError → Result Y Fault → Type 0
 Gives view (Ok x) read = read ≡ Ok (view x)
 Gives view (Err e) read = Fails e read
@@ -38,7 +40,7 @@ Gives view (Err e) read = Fails e read
 abbrev pub kept_entry : List Entry → ℕ → Entry → Result Entry Fault
 kept_entry pool i e = if keeps_entry (map entry_traits pool) pool e then Ok e else Err (BadPool i)
 
--- the entries from index i on: whether each keeps its row
+-- the entries from index i on: whether each keeps its row (4.4)
 unfoldable pub checked_entries : List Entry → ℕ → List Entry → Result (Unit {0}) Fault
 checked_entries pool i [] = Ok tt
 checked_entries pool i (e ∷ es) = kept_entry pool i e >>= λ kept. checked_entries pool (i + 1) es
@@ -55,6 +57,7 @@ keeps_super pool of_interface name super =
     then not of_interface && super == 0
     else may_stand_above of_interface (class_name pool super)
 
+-- this_class has a name, and super_class suits it (4.1)
 abbrev pub keeps_names : List Entry → Bool → ℕ → Option (List ℕ) → Bool
 keeps_names pool of_interface super None = false
 keeps_names pool of_interface super (Some name) = keeps_super pool of_interface name super
@@ -72,6 +75,7 @@ checked_class pool flags this super interfaces =
 
 -- ---- members (JVMS SE 8, 4.5, 4.6)
 
+-- a field keeps its table (4.5)
 abbrev pub keeps_field : List Traits → Bool → Member → Bool
 keeps_field traits of_interface m = is_field_flags of_interface m.flags && (traits_at traits m.name_index).unqualified && is_field (traits_at traits m.descriptor_index).form
 
@@ -80,40 +84,45 @@ abbrev pub has_room : Bool → Option ℕ → Bool
 has_room of_class None = false
 has_room of_class (Some units) = of_class || nat_lt units 255
 
+-- the flags of a method of such a name (4.6)
 abbrev pub keeps_method_flags : Special → Bool → ℕ → Bool
 keeps_method_flags names.Clinit of_interface flags = true
 keeps_method_flags names.Init of_interface flags = is_method_flags of_interface flags && is_init_flags flags
 keeps_method_flags names.Plain of_interface flags = is_method_flags of_interface flags
 keeps_method_flags names.Angle of_interface flags = is_method_flags of_interface flags
 
+-- a method keeps its table (4.6)
 abbrev pub keeps_method : List Traits → Bool → Member → Bool
 keeps_method traits of_interface m =
     keeps_method_flags (traits_at traits m.name_index).special of_interface m.flags
     && (traits_at traits m.name_index).method
     && has_room (has m.flags static) (traits_at traits m.descriptor_index).units
 
--- the texts of a name and of a descriptor
+-- the texts of a name and of a descriptor (4.5, 4.6)
 abbrev pub Key : Type 0
 Key = List ℕ × List ℕ
 
+-- two texts, where both are there (4.5, 4.6)
 abbrev pub both_texts : Option (List ℕ) → Option (List ℕ) → Option Key
 both_texts (Some a) (Some b) = Some (a, b)
 both_texts (Some a) None = None
 both_texts None other = None
 
+-- what no two fields, and no two methods, may have in common (4.5, 4.6)
 abbrev pub key_of : List Entry → Member → Option Key
 key_of pool m = both_texts (text_at pool m.name_index) (text_at pool m.descriptor_index)
 
+-- two keys are the same (4.5, 4.6)
 abbrev pub same_key : Option Key → Option Key → Bool
 same_key (Some a) (Some b) = pointwise nat_eq a.0 b.0 && pointwise nat_eq a.1 b.1
 same_key (Some a) None = false
 same_key None other = false
 
--- the members agree in name and descriptor
+-- the members agree in name and descriptor (4.5, 4.6)
 abbrev pub same_member : List Entry → Member → Member → Bool
 same_member pool a b = same_key (key_of pool a) (key_of pool b)
 
--- each member keeps its row, and agrees with none before it, nor with one of these
+-- each member keeps its row, and agrees with none before it, nor with one of these (4.5, 4.6)
 unfoldable pub checked_members : (Member → Bool) → List Entry → List Member → List Member → Result (Unit {0}) Fault
 checked_members keeps pool before [] = Ok tt
 checked_members keeps pool before (m ∷ ms) =
@@ -121,12 +130,12 @@ checked_members keeps pool before (m ∷ ms) =
     then if list_any (λ e. same_member pool e m) before then Err Duplicate else checked_members keeps pool (before ++ m ∷ []) ms
     else Err BadMember
 
--- the class's own tables, then its fields, then its methods, where the traits of the entries are given
+-- the class's own tables, then its fields, then its methods, where the traits of the entries are given (4.1, 4.5, 4.6)
 unfoldable pub checked_tables : List Traits → List Entry → Structure → Result (Unit {0}) Fault
 checked_tables traits pool f =
     checked_class pool f.flags f.this_class f.super_class f.interfaces >>= λ class.
     (checked_members (keeps_field traits (has f.flags interface)) pool [] f.fields >>= λ fields. checked_members (keeps_method traits (has f.flags interface)) pool [] f.methods)
 
--- the file, where it keeps the tables
+-- the file, where it keeps the tables (4.1)
 unfoldable pub kept_file : Structure → Result Structure Fault
 kept_file f = checked_entries f.pool 1 f.pool >>= λ entries. (checked_tables (map entry_traits f.pool) f.pool f >>= λ tables. Ok f)

@@ -51,11 +51,12 @@ pub data FileFault : Type 0 where
 
 -- ---- the file of a structure
 
--- the text at an index of the pool
+-- the text at an index of the pool (4.4.7)
 abbrev pub text_of : Option Entry → Option Name
 text_of (Some (Utf8 text)) = Some text
 text_of _ = None
 
+-- the text at an index (4.4.7)
 abbrev pub text_at : List Entry → ℕ → Option Name
 text_at pool i = text_of (at pool i)
 
@@ -64,6 +65,7 @@ abbrev pub type_of : List Entry → Option Entry → Option Name
 type_of pool (Some (Class index)) = text_at pool index
 type_of pool _ = None
 
+-- the name that stands at an index, of a class or an array (4.4.1)
 abbrev pub type_name : List Entry → ℕ → Option Name
 type_name pool i = type_of pool (at pool i)
 
@@ -72,10 +74,11 @@ abbrev pub is_array_name : Name → Bool
 is_array_name [] = false
 is_array_name (c ∷ rest) = c == 91
 
+-- a name, unless it is that of an array (4.4.1)
 abbrev pub no_array : Name → Option Name
 no_array name = if is_array_name name then None else Some name
 
--- the name of an entry that is a class and no array
+-- the name of an entry that is a class and no array (4.4.1)
 abbrev pub class_name : List Entry → ℕ → Option Name
 class_name pool i = option_and_then no_array (type_name pool i)
 
@@ -83,7 +86,7 @@ class_name pool i = option_and_then no_array (type_name pool i)
 abbrev pub class_type : Name → FieldType
 class_type name = record { dims = 0; base = bases.Class name }
 
--- the type of this name
+-- the type of this name (4.4.1, 4.3.2)
 abbrev pub named_type : Name → Option FieldType
 named_type name = if is_array_name name then whole_field name else Some (class_type name)
 
@@ -95,13 +98,14 @@ pub record Symbol : Type 0 where
   pub name : Name
   pub descriptor : Name
 
--- what a reference says
+-- what a reference says (4.4.1, 4.4.2)
 pub data Cited : Type 0 where
   CitesClass : (name : Name) → Cited
   CitesField : (symbol : Symbol) → Cited
   CitesMethod : (symbol : Symbol) → Cited
   CitesInterfaceMethod : (symbol : Symbol) → Cited
 
+-- three texts, where each is there (4.4.2)
 abbrev pub symbol_of : Option Name → Option Name → Option Name → Option Symbol
 symbol_of (Some class) (Some name) (Some descriptor) = Some (record { class = class; name = name; descriptor = descriptor })
 symbol_of _ _ _ = None
@@ -111,13 +115,16 @@ abbrev pub pair_name : List Entry → Option Entry → Option Name
 pair_name pool (Some (NameAndType name descriptor)) = text_at pool name
 pair_name pool _ = None
 
+-- the descriptor of a name and type (4.4.6)
 abbrev pub pair_descriptor : List Entry → Option Entry → Option Name
 pair_descriptor pool (Some (NameAndType name descriptor)) = text_at pool descriptor
 pair_descriptor pool _ = None
 
+-- the texts of a member reference with this class and this name and type (4.4.2)
 abbrev pub symbol_at : List Entry → ℕ → ℕ → Option Symbol
 symbol_at pool class pair = symbol_of (type_name pool class) (pair_name pool (at pool pair)) (pair_descriptor pool (at pool pair))
 
+-- the texts of an entry that refers to a class or a member (4.4.1, 4.4.2)
 abbrev pub cited : List Entry → Entry → Option Cited
 cited pool (Class text) = option_map (λ name. CitesClass name) (text_at pool text)
 cited pool (Fieldref class pair) = option_map (λ s. CitesField s) (symbol_at pool class pair)
@@ -129,30 +136,35 @@ cited pool _ = None
 abbrev pub field_of : Name → Name → Option Key
 field_of name descriptor = option_map (λ t. record { name = name; descriptor = descriptors.Field t }) (whole_field descriptor)
 
+-- the key of a method (4.3.3)
 abbrev pub method_of : Name → Name → Option Key
 method_of name descriptor = option_map (λ m. record { name = name; descriptor = descriptors.Method m }) (whole_method descriptor)
 
+-- the key of a field that is referred to (4.4.2)
 abbrev pub field_key : Symbol → Option Key
 field_key s = field_of s.name s.descriptor
 
+-- the key of a method that is referred to (4.4.2)
 abbrev pub method_key : Symbol → Option Key
 method_key s = method_of s.name s.descriptor
 
+-- a reference to a member, where its type and its key are there (4.4.2)
 abbrev pub typed_by : (FieldType → Key → Reference) → Option FieldType → Option Key → Option Reference
 typed_by make (Some target) (Some key) = Some (make target key)
 typed_by make _ _ = None
 
+-- a reference with its descriptors read (4.3, 4.4.2)
 abbrev pub typed : Cited → Option Reference
 typed (CitesClass name) = option_map (λ t. ToClass t) (named_type name)
 typed (CitesField s) = typed_by ToField (named_type s.class) (field_key s)
 typed (CitesMethod s) = typed_by ToMethod (named_type s.class) (method_key s)
 typed (CitesInterfaceMethod s) = typed_by ToInterfaceMethod (named_type s.class) (method_key s)
 
--- what an entry refers to, if it is a reference
+-- what an entry refers to, if it is a reference (4.4.1, 4.4.2)
 abbrev pub reference_of : List Entry → Entry → Option Reference
 reference_of pool e = option_and_then typed (cited pool e)
 
--- the references among the entries from an index on
+-- the references among the entries from an index on (4.4)
 abbrev pub references_from : List Entry → ℕ → List Entry → List (ℕ × Reference)
 references_from pool i [] = []
 references_from pool i (e ∷ es) = option_to_list (option_map (λ r. (i, r)) (reference_of pool e)) ++ references_from pool (i + 1) es
@@ -162,10 +174,11 @@ abbrev pub keyed : (Name → Name → Option Key) → ℕ → Option Name → Op
 keyed key flags (Some name) (Some descriptor) = option_map (λ k. record { flags = flags; key = k }) (key name descriptor)
 keyed key flags _ _ = None
 
+-- what linking looks at of a member of the structure (4.5, 4.6)
 abbrev pub declared_by : (Name → Name → Option Key) → List Entry → structure.Member → Option Member
 declared_by key pool m = keyed key m.flags (text_at pool m.name_index) (text_at pool m.descriptor_index)
 
--- what linking looks at in a structure
+-- what linking looks at in a structure (4.1)
 abbrev pub file_of : Structure → File
 file_of f = record {
   flags = f.flags;
@@ -179,25 +192,31 @@ file_of f = record {
 
 -- ---- flags, and members by their key
 
+-- it is public (tables 4.1-A, 4.5-A, 4.6-A)
 abbrev pub is_public : ℕ → Bool
 is_public flags = has flags 1
 
+-- it is private (tables 4.5-A, 4.6-A)
 abbrev pub is_private : ℕ → Bool
 is_private flags = has flags 2
 
+-- it is protected (tables 4.5-A, 4.6-A)
 abbrev pub is_protected : ℕ → Bool
 is_protected flags = has flags 4
 
+-- it is static (tables 4.5-A, 4.6-A)
 abbrev pub is_static : ℕ → Bool
 is_static flags = has flags 8
 
+-- it is abstract (tables 4.1-A, 4.6-A)
 abbrev pub is_abstract : ℕ → Bool
 is_abstract flags = has flags 1024
 
+-- it is an interface (table 4.1-A)
 abbrev pub is_interface : File → Bool
 is_interface f = has f.flags 512
 
--- two names are the same
+-- two names are the same (4.2)
 abbrev pub same_name : Name → Name → Bool
 same_name a b = pointwise nat_eq a b
 
@@ -213,6 +232,7 @@ letter bases.Short = 83
 letter bases.Boolean = 90
 letter (bases.Class name) = 76
 
+-- the name of a base that is a class (4.3.2)
 abbrev pub element_name : Base → List Name
 element_name bases.Byte = []
 element_name bases.Char = []
@@ -224,20 +244,22 @@ element_name bases.Short = []
 element_name bases.Boolean = []
 element_name (bases.Class name) = name ∷ []
 
+-- two bases are the same (4.3.2)
 abbrev pub same_base : Base → Base → Bool
 same_base a b = (letter a == letter b) && pointwise same_name (element_name a) (element_name b)
 
+-- two types are the same (4.3.2)
 abbrev pub same_type : FieldType → FieldType → Bool
 same_type a b = (a.dims == b.dims) && same_base a.base b.base
 
--- two descriptors are the same
+-- two descriptors are the same (4.3)
 abbrev pub same_descriptor : Descriptor → Descriptor → Bool
 same_descriptor (descriptors.Field a) (descriptors.Field b) = same_type a b
 same_descriptor (descriptors.Method a) (descriptors.Method b) = pointwise same_type (option_to_list a.ret) (option_to_list b.ret) && pointwise same_type a.params b.params
 same_descriptor (descriptors.Field a) (descriptors.Method b) = false
 same_descriptor (descriptors.Method a) (descriptors.Field b) = false
 
--- two keys are the same
+-- two keys are the same (5.4.3)
 abbrev pub same_key : Key → Key → Bool
 same_key a b = same_name a.name b.name && same_descriptor a.descriptor b.descriptor
 

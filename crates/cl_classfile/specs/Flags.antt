@@ -1,57 +1,73 @@
 -- The tables of flags (JVMS SE 8, 4.1, 4.5, 4.6); a bit that a table does not name may be set.
 use Rattle.std.specs.Prelude.{ℕ, ◌/◌, ◌%◌, Bool, not, ◌&&◌, ◌||◌, ◌==◌, if◌then◌else◌}
 
--- flags have this bit
+-- flags have this bit (4.1)
 abbrev pub has : ℕ → ℕ → Bool
 has flags bit = flags / bit % 2 == 1
 
 -- ---- the bits, by their names in the tables 4.1-A, 4.5-A and 4.6-A
 
+-- what has it may be used from outside its package (table 4.1-A, 4.5-A, 4.6-A)
 abbrev pub public : ℕ
 public = 1
 
+-- what has it is used in its own class alone (table 4.5-A, 4.6-A)
 abbrev pub private : ℕ
 private = 2
 
+-- what has it may be used in subclasses (table 4.5-A, 4.6-A)
 abbrev pub protected : ℕ
 protected = 4
 
+-- what has it is of the class, and of no instance (table 4.5-A, 4.6-A)
 abbrev pub static : ℕ
 static = 8
 
+-- what has it is not changed, overridden or extended (table 4.1-A, 4.5-A, 4.6-A)
 abbrev pub final : ℕ
 final = 16
 
+-- what has it is treated as a class is since JDK 1.0.2 (table 4.1-A)
 abbrev pub super : ℕ
 super = 32
 
+-- what has it is wrapped in a lock (table 4.6-A)
 abbrev pub synchronized : ℕ
 synchronized = 32
 
+-- what has it is not cached (table 4.5-A)
 abbrev pub volatile : ℕ
 volatile = 64
 
+-- what has it was made by a compiler to bridge two types (table 4.6-A)
 abbrev pub bridge : ℕ
 bridge = 64
 
+-- what has it is not kept with an object (table 4.5-A)
 abbrev pub transient : ℕ
 transient = 128
 
+-- what has it is written in another language (table 4.6-A)
 abbrev pub native : ℕ
 native = 256
 
+-- what has it is an interface (table 4.1-A)
 abbrev pub interface : ℕ
 interface = 512
 
+-- what has it is not instantiated, or has no body (table 4.1-A, 4.6-A)
 abbrev pub abstract : ℕ
 abstract = 1024
 
+-- what has it computes floating point strictly (table 4.6-A)
 abbrev pub strict : ℕ
 strict = 2048
 
+-- what has it is an annotation type (table 4.1-A)
 abbrev pub annotation : ℕ
 annotation = 8192
 
+-- what has it is an enum, or an element of one (table 4.1-A, 4.5-A)
 abbrev pub enum : ℕ
 enum = 16384
 
@@ -65,6 +81,7 @@ is_interface_flags flags = has flags abstract && not (has flags final) && not (h
 abbrev pub is_plain_flags : ℕ → Bool
 is_plain_flags flags = not (has flags annotation) && not (has flags final && has flags abstract)
 
+-- the flags of a class file go together (4.1)
 abbrev pub is_class_flags : ℕ → Bool
 is_class_flags flags = if has flags interface then is_interface_flags flags else is_plain_flags flags
 
@@ -94,6 +111,7 @@ abbrev pub may_be_of_interface : ℕ → Bool
 may_be_of_interface flags =
     (has flags public || has flags private) && not (has flags protected || has flags final || has flags synchronized || has flags native)
 
+-- the flags of a method go together (4.6)
 abbrev pub is_method_flags : Bool → ℕ → Bool
 is_method_flags of_interface flags =
     has_one_access flags && (not (has flags abstract) || may_be_abstract flags) && (not of_interface || may_be_of_interface flags)

@@ -25,13 +25,15 @@ pub record Member : Type 0 where
 
 -- ---- the one spelling of each
 
--- how many there are, and each of them
+-- how many there are, and each of them (4.1)
 abbrev pub counted : {A : Type 0} → (A → List ℕ) → List A → List ℕ
 counted spell xs = to_be_bytes w16 (length xs) ++ flat_map spell xs
 
+-- the bytes of an attribute (4.7)
 abbrev pub attribute_spelling : Attribute → List ℕ
 attribute_spelling a = to_be_bytes w16 a.name_index ++ (to_be_bytes w32 (length a.bytes) ++ a.bytes)
 
+-- the bytes of a field or a method (4.5, 4.6)
 abbrev pub member_spelling : Member → List ℕ
 member_spelling m =
     to_be_bytes w16 m.flags
@@ -39,14 +41,16 @@ member_spelling m =
 
 -- ---- what the widths hold
 
--- as many as a count can say, and each of them fits
+-- as many as a count can say, and each of them fits (4.1)
 abbrev pub AllFit : {A : Type 0} → (A → Type 0) → List A → Type 0
 AllFit Fits xs = (length xs < 2 ^ 16) × AllByRecursion Fits xs
 
+-- each item of an attribute is such as its width can say (4.7)
 pub record AttributeFits (a : Attribute) : Type 0 where
   pub name_index : a.name_index < 2 ^ 16
   pub bytes : length a.bytes < 2 ^ 32
 
+-- each item of a field or a method is such as its width can say (4.5, 4.6)
 pub record MemberFits (m : Member) : Type 0 where
   pub flags : m.flags < 2 ^ 16
   pub name_index : m.name_index < 2 ^ 16
@@ -72,13 +76,13 @@ pub record KeepsMethod (pool : List Entry) (of_interface : Bool) (m : Member) : 
   pub name : HasText pool m.name_index (IsNameOf IsMethod)
   pub descriptor : HasText pool m.descriptor_index (TakesUnits (has m.flags static))
 
--- the texts at two indices are the same
+-- the texts at two indices are the same (4.4.7)
 pub record SameText (pool : List Entry) (i j : ℕ) : Type 0 where
   pub text : List ℕ
   pub first : IsText pool i text
   pub second : IsText pool j text
 
--- two members agree in name and descriptor
+-- two members agree in name and descriptor (4.5, 4.6)
 pub record SameMember (pool : List Entry) (a b : Member) : Type 0 where
   pub name : SameText pool a.name_index b.name_index
   pub descriptor : SameText pool a.descriptor_index b.descriptor_index
@@ -88,6 +92,7 @@ abbrev pub AreNew : List Entry → List Member → List Member → Type 0
 AreNew pool before [] = Unit {0}
 AreNew pool before (m ∷ ms) = AllByRecursion (λ e. SameMember pool e m → ⊥) before × AreNew pool (before ++ m ∷ []) ms
 
+-- each member keeps its table, and no two agree (4.5, 4.6)
 pub record KeepMembers (Keeps : Member → Type 0) (pool : List Entry) (ms : List Member) : Type 0 where
   pub each : AllByRecursion Keeps ms
   pub new : AreNew pool [] ms

@@ -9,10 +9,11 @@ use Rattle.cl_classfile.specs.declared.entry.Entry.TheVariants.{Utf8, Integer, F
 
 -- ---- the one spelling of each: its tag, and what follows it (table 4.4-A)
 
--- two indices, one after the other
+-- two indices, one after the other (4.4)
 abbrev pub two : ℕ → ℕ → List ℕ
 two a b = to_be_bytes w16 a ++ to_be_bytes w16 b
 
+-- the tag of an entry, and what follows it (4.4)
 abbrev pub entry_spelling : Entry → List ℕ
 entry_spelling (Utf8 text) = 1 ∷ (to_be_bytes w16 (length text) ++ text)
 entry_spelling (Integer value) = 3 ∷ to_be_bytes w32 (cast_unsigned w32 value)
@@ -32,9 +33,11 @@ entry_spelling (InvokeDynamic bootstrap pair) = 18 ∷ two bootstrap pair
 
 -- ---- what the widths hold
 
+-- an index is a number of two bytes (4.1)
 abbrev pub IsIndex : ℕ → Type 0
 IsIndex i = i < 2 ^ 16
 
+-- what follows the tag is such as its width can say (4.4)
 abbrev pub EntryFits : Entry → Type 0
 EntryFits (Utf8 text) = length text < 2 ^ 16
 EntryFits (Integer value) = FitsSigned w32 value
@@ -58,7 +61,7 @@ is_wide (Long value) = true
 is_wide (Double bits) = true
 is_wide _ = false
 
--- the index behind a wide entry is there and unusable, and no other is
+-- the index behind a wide entry is there and unusable, and no other is (4.4.5)
 abbrev pub AreSpaced : Bool → List Entry → Type 0
 AreSpaced false [] = Unit {0}
 AreSpaced true [] = ⊥
@@ -72,11 +75,11 @@ abbrev pub at : {A : Type 0} → List A → ℕ → Option A
 at pool zero = None
 at pool (suc i) = slice_get pool i
 
--- the entry at the index is this text
+-- the entry at the index is this text (4.4.7)
 abbrev pub IsText : List Entry → ℕ → List ℕ → Type 0
 IsText pool i text = at pool i ≡ Some (Utf8 text)
 
--- it is a text of this kind
+-- it is a text of this kind (4.4.7)
 pub record HasText (pool : List Entry) (i : ℕ) (Kind : List ℕ → Type 0) : Type 0 where
   pub text : List ℕ
   pub is_text : IsText pool i text
@@ -94,7 +97,7 @@ pub record HasPair (pool : List Entry) (i : ℕ) (Kind : List ℕ → Type 0) : 
   pub is_entry : at pool i ≡ Some (NameAndType name descriptor)
   pub described : HasText pool descriptor Kind
 
--- it is a name and type of this name
+-- it is a name and type of this name (4.4.6)
 pub record IsNamed (pool : List Entry) (i : ℕ) (text : List ℕ) : Type 0 where
   pub name : ℕ
   pub descriptor : ℕ
@@ -107,12 +110,15 @@ pub record IsNamed (pool : List Entry) (i : ℕ) (text : List ℕ) : Type 0 wher
 abbrev pub IsField : List ℕ → Type 0
 IsField text = descriptors.IsField text descriptors.IsFieldType
 
+-- the descriptor of an array (4.3.2)
 abbrev pub IsArray : List ℕ → Type 0
 IsArray text = descriptors.IsField text (λ t. descriptors.IsFieldType t × (t.dims ≢ 0))
 
+-- the descriptor of a method (4.3.3)
 abbrev pub IsCall : List ℕ → Type 0
 IsCall text = descriptors.IsMethod text descriptors.IsMethodType
 
+-- the descriptor of a method that returns nothing (4.3.3)
 abbrev pub IsVoid : List ℕ → Type 0
 IsVoid text = descriptors.IsMethod text (λ m. descriptors.IsMethodType m × (m.ret ≡ None))
 
@@ -124,6 +130,7 @@ NamesType text = IsNameOf IsClass text ⊎ IsArray text
 abbrev pub init : List ℕ
 init = codes "<init>"
 
+-- the name of what initializes a class (2.9)
 abbrev pub clinit : List ℕ
 clinit = codes "<clinit>"
 
@@ -148,7 +155,7 @@ MayHandle pool kind (Some (Methodref class pair)) = (((kind ≡ 5) ⊎ ((kind �
 MayHandle pool kind (Some (InterfaceMethodref class pair)) = ((kind ≡ 6) ⊎ ((kind ≡ 7) ⊎ (kind ≡ 9))) × IsPlain pool pair
 MayHandle pool kind _ = ⊥
 
--- what the table of entries asks of each
+-- what the table of entries asks of each (4.4)
 abbrev pub KeepsEntry : List Entry → Entry → Type 0
 KeepsEntry pool (Utf8 text) = IsModifiedUtf8 text
 KeepsEntry pool (Class text) = HasText pool text NamesType

@@ -7,6 +7,7 @@ use Rattle.cl_classfile.specs.declared.raw.RawEntry.TheVariants as raw
 use Rattle.cl_classfile.specs.declared.reading.RawFile.{RawFile}
 use Rattle.cl_classfile.specs.Structure.{Structure}
 
+-- an entry without where its text lies (4.4)
 abbrev pub plain_entry : RawEntry → Entry
 plain_entry (raw.Utf8 text) = Utf8 text.now
 plain_entry (raw.Integer value) = Integer value
@@ -24,9 +25,11 @@ plain_entry (raw.MethodHandle kind reference) = MethodHandle kind reference
 plain_entry (raw.MethodType descriptor) = MethodType descriptor
 plain_entry (raw.InvokeDynamic bootstrap pair) = InvokeDynamic bootstrap pair
 
+-- the entries, so (4.4)
 abbrev pub plain_entries : List RawEntry → List Entry
 plain_entries es = map plain_entry es
 
+-- the file, so (4.1)
 abbrev pub plain_file : RawFile → Structure
 plain_file f = record {
   pool = plain_entries f.pool.items;

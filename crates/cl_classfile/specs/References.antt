@@ -9,9 +9,11 @@ use Rattle.cl_classfile.specs.declared.reference.Reference.TheVariants as refere
 use Rattle.cl_classfile.specs.Pool.{IsField, IsCall, NamesType}
 use Rattle.cl_classfile.specs.Files.{Symbol, Cited, CitesClass, CitesField, CitesMethod, CitesInterfaceMethod}
 
+-- three texts without where they lie (4.4.2)
 abbrev pub plain_symbol : code.Symbol → Symbol
 plain_symbol s = record { class = s.class.now; name = s.name.now; descriptor = s.descriptor.now }
 
+-- a reference without where its texts lie (4.4.1, 4.4.2)
 abbrev pub plain_reference : Reference → Cited
 plain_reference (references.Class name) = CitesClass name.now
 plain_reference (references.Field s) = CitesField (plain_symbol s)
@@ -26,18 +28,19 @@ refers (Some (Methodref class pair)) = true
 refers (Some (InterfaceMethodref class pair)) = true
 refers _ = false
 
--- the names of a reference to a field, to a method
+-- the names of a reference to a field, to a method (4.4.2)
 pub record IsFieldSymbol (s : Symbol) : Type 0 where
   pub class : NamesType s.class
   pub name : IsNameOf IsUnqualified s.name
   pub descriptor : IsField s.descriptor
 
+-- the names of a reference to a method (4.4.2)
 pub record IsMethodSymbol (s : Symbol) : Type 0 where
   pub class : NamesType s.class
   pub name : IsNameOf IsMethod s.name
   pub descriptor : IsCall s.descriptor
 
--- each name is of its kind
+-- each name is of its kind (4.4.1, 4.4.2)
 abbrev pub IsCited : Cited → Type 0
 IsCited (CitesClass name) = NamesType name
 IsCited (CitesField s) = IsFieldSymbol s

@@ -15,10 +15,12 @@ use Rattle.cl_classfile.specs.Pool.{at, init, clinit}
 
 -- ---- what a text is
 
+-- the text begins with < (4.2.2)
 abbrev pub begins_angle : List ℕ → Bool
 begins_angle [] = false
 begins_angle (c ∷ rest) = c == 60
 
+-- which of the names that begin with < it is, if one (2.9, 4.2.2)
 abbrev pub special_of : List ℕ → Special
 special_of text =
     if pointwise nat_eq text init
@@ -29,7 +31,7 @@ special_of text =
     then names.Angle
     else names.Plain
 
--- a descriptor of a field, an array, a method, a method that returns nothing
+-- a descriptor of a field, an array, a method, a method that returns nothing (4.3)
 abbrev pub is_field : Option Form → Bool
 is_field None = false
 is_field (Some forms.Plain) = true
@@ -37,6 +39,7 @@ is_field (Some forms.Array) = true
 is_field (Some forms.Method) = false
 is_field (Some forms.Void) = false
 
+-- the descriptor of an array (4.3.2)
 abbrev pub is_array : Option Form → Bool
 is_array None = false
 is_array (Some forms.Plain) = false
@@ -44,6 +47,7 @@ is_array (Some forms.Array) = true
 is_array (Some forms.Method) = false
 is_array (Some forms.Void) = false
 
+-- the descriptor of a method (4.3.3)
 abbrev pub is_call : Option Form → Bool
 is_call None = false
 is_call (Some forms.Plain) = false
@@ -51,6 +55,7 @@ is_call (Some forms.Array) = false
 is_call (Some forms.Method) = true
 is_call (Some forms.Void) = true
 
+-- the descriptor of a method that returns nothing (4.3.3)
 abbrev pub is_void : Option Form → Bool
 is_void None = false
 is_void (Some forms.Plain) = false
@@ -58,6 +63,7 @@ is_void (Some forms.Array) = false
 is_void (Some forms.Method) = false
 is_void (Some forms.Void) = true
 
+-- all that the tables ask of a text (4.4)
 abbrev pub traits_of : List ℕ → Traits
 traits_of text = record {
   stands = true;
@@ -69,28 +75,32 @@ traits_of text = record {
   units = units_of text;
 }
 
--- of what is no text nothing is true
+-- of what is no text nothing is true (4.4)
 abbrev pub nothing : Traits
 nothing = record { stands = false; class = false; unqualified = false; method = false; special = names.Plain; form = None; units = None }
 
+-- what the tables ask of the text that an entry is (4.4.7)
 abbrev pub entry_traits : Entry → Traits
 entry_traits (Utf8 text) = traits_of text
 entry_traits _ = nothing
 
 -- ---- what stands at an index, where the traits of each entry are given
 
+-- the traits at an index (4.4)
 abbrev pub traits_at : List Traits → ℕ → Traits
 traits_at traits i = unwrap_or (at traits i) nothing
 
+-- the entry is a class or an array (4.4.1)
 abbrev pub is_class : Option Entry → Bool
 is_class (Some (Class text)) = true
 is_class _ = false
 
--- the traits of the name and of the descriptor of a name and type
+-- the traits of the name and of the descriptor of a name and type (4.4.6)
 abbrev pub pair_of : List Traits → Option Entry → Traits × Traits
 pair_of traits (Some (NameAndType name descriptor)) = (traits_at traits name, traits_at traits descriptor)
 pair_of traits _ = (nothing, nothing)
 
+-- the same of the name and type at an index (4.4.6)
 abbrev pub pair_at : List Traits → List Entry → ℕ → Traits × Traits
 pair_at traits pool i = pair_of traits (at pool i)
 
@@ -107,13 +117,14 @@ may_call names.Angle form = false
 abbrev pub may_pair : Traits → Option Form → Bool
 may_pair name form = is_field form && name.unqualified || is_call form && name.method
 
--- neither <init> nor <clinit>
+-- neither <init> nor <clinit> (2.9)
 abbrev pub is_plain : Special → Bool
 is_plain names.Plain = true
 is_plain names.Angle = true
 is_plain names.Init = false
 is_plain names.Clinit = false
 
+-- it is <init> (2.9)
 abbrev pub is_init : Special → Bool
 is_init names.Init = true
 is_init names.Plain = false
@@ -129,7 +140,7 @@ may_handle traits pool kind (Some (Methodref class pair)) =
 may_handle traits pool kind (Some (InterfaceMethodref class pair)) = (kind == 6 || kind == 7 || kind == 9) && is_plain (pair_at traits pool pair).0.special
 may_handle traits pool kind _ = false
 
--- the entry keeps its row of the table
+-- the entry keeps its row of the table (4.4)
 abbrev pub keeps_entry : List Traits → List Entry → Entry → Bool
 keeps_entry traits pool (Utf8 text) = is_text text && nat_le (length text) 65535
 keeps_entry traits pool (Class text) = (traits_at traits text).class

@@ -30,13 +30,15 @@ pub record Structure : Type 0 where
 abbrev pub pool_spelling : List Entry → List ℕ
 pool_spelling pool = to_be_bytes w16 (length pool + 1) ++ flat_map entry_spelling pool
 
--- the magic, and version 52.0 as its minor and its major number
+-- the magic, and version 52.0 as its minor and its major number (4.1)
 abbrev pub magic : List ℕ
 magic = 202 ∷ 254 ∷ 186 ∷ 190 ∷ []
 
+-- version 52.0, as its minor and then its major number (4.1)
 abbrev pub version : List ℕ
 version = 0 ∷ 0 ∷ 0 ∷ 52 ∷ []
 
+-- the bytes of a whole file, item after item (4.1)
 abbrev pub spelling : Structure → List ℕ
 spelling f =
     magic
@@ -54,6 +56,7 @@ spelling f =
 abbrev pub PoolFits : List Entry → Type 0
 PoolFits pool = (length pool + 1 < 2 ^ 16) × AllByRecursion EntryFits pool × AreSpaced false pool
 
+-- each item is such as its width can say (4.1)
 pub record Fits (f : Structure) : Type 0 where
   pub pool : PoolFits f.pool
   pub flags : f.flags < 2 ^ 16
@@ -73,7 +76,7 @@ pub record NamesClass (pool : List Entry) (i : ℕ) (name : List ℕ) : Type 0 w
   pub named : IsText pool index name
   pub is_name : IsNameOf IsClass name
 
--- java/lang/Object
+-- java/lang/Object (4.1)
 abbrev pub object : List ℕ
 object = codes "java/lang/Object"
 
@@ -87,7 +90,7 @@ KeepsSuper pool of_interface name super =
 abbrev pub KeepsInterface : List Entry → ℕ → Type 0
 KeepsInterface pool i = (name : List ℕ) × NamesClass pool i name
 
--- the file keeps the tables of entries, flags, supertypes and members
+-- the file keeps the tables of entries, flags, supertypes and members (4.1, 4.4 to 4.6)
 pub record Keeps (f : Structure) : Type 0 where
   pub pool : AllByRecursion (KeepsEntry f.pool) f.pool
   pub flags : IsTrue (is_class_flags f.flags)
@@ -98,12 +101,12 @@ pub record Keeps (f : Structure) : Type 0 where
   pub fields : KeepMembers (KeepsField f.pool (has f.flags interface)) f.pool f.fields
   pub methods : KeepMembers (KeepsMethod f.pool (has f.flags interface)) f.pool f.methods
 
--- what a class file that was read is
+-- what a class file that was read is (4.1)
 pub record IsClassFile (f : Structure) : Type 0 where
   pub fits : Fits f
   pub kept : Keeps f
 
--- the bytes spell the file, which keeps the tables
+-- the bytes spell the file, which keeps the tables (4.1)
 pub record Spells (bytes : List ℕ) (f : Structure) : Type 0 where
   pub fits : Fits f
   pub kept : Keeps f
@@ -111,10 +114,10 @@ pub record Spells (bytes : List ℕ) (f : Structure) : Type 0 where
 
 -- ---- the two faults of the header
 
--- four bytes stand, and are not the magic
+-- four bytes stand, and are not the magic (4.1)
 abbrev pub HasOtherMagic : List ℕ → Type 0
 HasOtherMagic bytes = (4 ≤ length bytes) × (take 4 bytes ≢ magic)
 
--- eight bytes stand, the magic and another version
+-- eight bytes stand, the magic and another version (4.1)
 abbrev pub HasOtherVersion : List ℕ → Type 0
 HasOtherVersion bytes = (8 ≤ length bytes) × (take 4 bytes ≡ magic) × (take 4 (drop 4 bytes) ≢ version)

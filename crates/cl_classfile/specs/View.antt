@@ -2,6 +2,7 @@
 use Rattle.cl_classfile.specs.declared.file.ClassFile.TheInside.{Inside}
 use Rattle.cl_classfile.specs.Structure.{Structure}
 
+-- the file that a value of the program is (4.1)
 abbrev pub structure : Inside → Structure
 structure f = record {
   pool = f.pool.items;

@@ -59,6 +59,7 @@ go_on ns asked (Err e) f = Some (record { needs = ns; asked = asked; ends = Err 
 go_on ns asked (Ok a) f = option_map (after_made ns asked) (f a)
 
 -- one work, and then what follows from its end (own choice of form)
+-- work, and then the work that its end leads to (own choice)
 infixl 10 ◌>>=◌
 abbrev pub ◌>>=◌ : {A B : Type 0} → Work A → (A → Work B) → Work B
 None >>= f = None

@@ -7,14 +7,14 @@ use Rattle.cl_classfile.specs.Files.{File, file_of, is_public, is_interface}
 use Rattle.cl_classfile.specs.Checking.{◌>>=◌}
 use Rattle.cl_classfile.specs.Reading.{read_of}
 
--- a public class, no interface
+-- a public class, no interface (4.1)
 abbrev pub is_public_class : File → Bool
 is_public_class f = is_public f.flags && not (is_interface f)
 
--- the file, where its flags and then its interfaces are those of a class that is derived
+-- the file, where its flags and then its interfaces are those of a class that is derived (own choice)
 abbrev pub derivable : Structure → Result Structure Fault
 derivable f = if is_public_class (file_of f) then (if length f.interfaces == 0 then Ok f else Err BadSupertype) else Err BadFlags
 
--- the file of a class that is derived, or its first fault: those of the form come before those of the bound
+-- the file of a class that is derived, or its first fault: those of the form come before those of the bound (own choice)
 abbrev pub drafted_of : List ℕ → Result Structure Fault
 drafted_of bytes = read_of bytes >>= derivable

@@ -11,25 +11,25 @@ use Rattle.cl_registry.specs.Told.{IsTold}
 use Rattle.cl_registry.specs.Bounds.{drafted_of}
 use Rattle.cl_registry.specs.Searches.{Drafted, Located}
 
--- the class's own loader has bytes for its name, which spell its file
+-- the class's own loader has bytes for its name, which spell its file (5.3.5)
 pub record IsDraft (told : Option Content) (d : Drafted) : Type 0 where
   pub bytes : List ℕ
   pub told_so : IsTold told d.class.loader d.class.name (Some bytes)
   pub read : drafted_of bytes ≡ Ok d.file
   pub named : (file_of d.file).name ≡ d.class.name
 
--- the first thing that is wrong with the bytes of a home: the version, the rest of the form, the name
+-- the first thing that is wrong with the bytes of a home: the version, the rest of the form, the name (5.3.5)
 abbrev pub IsWrong : Located → DraftFault → Type 0
 IsWrong home drafts.Version = drafted_of home.bytes ≡ Err faults.Version
 IsWrong home (drafts.Format fault) = (drafted_of home.bytes ≡ Err fault) × (fault ≢ faults.Version)
 IsWrong home drafts.OtherName = (f : Structure) × (drafted_of home.bytes ≡ Ok f) × ((file_of f).name ≢ home.name)
 
--- a home whose bytes are not its class
+-- a home whose bytes are not its class (5.3.5)
 pub record Misread : Type 0 where
   pub home : Located
   pub fault : DraftFault
 
--- a fault of the form, as it is told
+-- a fault of the form, as it is told (5.3.5)
 abbrev pub fault_as : Fault → DraftFault
 fault_as faults.Version = drafts.Version
 fault_as faults.BadMagic = drafts.Format faults.BadMagic

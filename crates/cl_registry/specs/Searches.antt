@@ -11,29 +11,30 @@ use Rattle.cl_registry.specs.Told.{IsTold}
 use Rattle.cl_registry.specs.Views.{Configured}
 use Rattle.cl_registry.specs.Worlds.{world_of}
 
--- a search: what is asked, and what the one probe found, once it was made
+-- a search: what is asked, and what the one probe found, once it was made (5.3.2)
 pub record Searched : Type 0 where
   pub config : Configured
   pub loader : ℕ
   pub name : List ℕ
   pub found : Option (Option (List ℕ))
 
--- the loader that is asked next, if any is
+-- the loader that is asked next, if any is (5.3.2)
 abbrev pub next_after : ℕ → Option (Option (List ℕ)) → Option ℕ
 next_after loader None = Some loader
 next_after loader (Some found) = None
 
+-- the loader that a search asks next (5.3.2)
 abbrev pub next_of : Searched → Option ℕ
 next_of s = next_after s.loader s.found
 
--- a home: the loader that was asked, the one whose own content answered, and the bytes there
+-- a home: the loader that was asked, the one whose own content answered, and the bytes there (5.3.2)
 pub record Located : Type 0 where
   pub asked : ℕ
   pub place : ℕ
   pub name : List ℕ
   pub bytes : List ℕ
 
--- a name that no loader has, of those that the asked one leads to
+-- a name that no loader has, of those that the asked one leads to (5.3.2)
 pub record Sought : Type 0 where
   pub asked : ℕ
   pub name : List ℕ
@@ -43,7 +44,7 @@ abbrev pub LeadsTo : Option Content → Configured → ℕ → List ℕ → Opti
 LeadsTo None c loader name place = Unit {0}
 LeadsTo (Some content) c loader name place = home (world_of c content) loader name ≡ place
 
--- a class and its file
+-- a class and its file (5.3.5)
 pub record Drafted : Type 0 where
   pub class : Class
   pub file : Structure

@@ -23,21 +23,23 @@ fault_of faults.BadMember = BadFormat
 fault_of faults.Duplicate = BadFormat
 fault_of faults.BadSupertype = BadFormat
 
+-- what was read, as linking looks at it (4.1)
 abbrev pub file_read : Result Structure Fault → Result File FileFault
 file_read (Ok f) = Ok (file_of f)
 file_read (Err e) = Err (fault_of e)
 
--- the file that bytes spell, or its first fault
+-- the file that bytes spell, or its first fault (4.1)
 abbrev pub read : List ℕ → Result File FileFault
 read bytes = file_read (drafted_of bytes)
 
--- for now a loader has neither parents nor imports
+-- for now a loader has neither parents nor imports (5.3)
 abbrev pub loaders_of : Configured → List Loader
 loaders_of c = map (λ n. record { parents = []; order = ParentFirst; imports = [] }) c.names
 
+-- the loaders, their content, and how bytes are read (5.3)
 abbrev pub world_of : Configured → Content → World
 world_of c content = record { loaders = loaders_of c; content = content; read = read }
 
--- for now there is one round
+-- for now there is one round (5.3)
 abbrev pub setting_of : Configured → Scripted → Content → Setting
 setting_of c s content = record { world = world_of c content; script = map (λ r. record { request = request_of r; round = 0 }) s.requests; rounds = 1 }

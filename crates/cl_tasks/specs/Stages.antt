@@ -10,9 +10,11 @@ use Rattle.cl_tasks.specs.declared.stage.Stage.{Stage}
 use Rattle.cl_tasks.specs.declared.stage.Stage.TheVariants.{Fresh, Looking, Searching, Defining, Done}
 use Rattle.cl_tasks.specs.Tasks.{Tasked, nowhere}
 
+-- a task that is at work on its request (own choice)
 abbrev pub at_work : {A : Type 0} → Phase → Job A → Tasked
 at_work phase j = record { phase = phase; request = Some j.request; walk = j.walk }
 
+-- what contracts see of each stage (own choice)
 abbrev pub tasked : {A : Type 0} → Stage A → Tasked
 tasked (Fresh j) = at_work phases.Fresh j
 tasked (Looking j) = at_work phases.Looking j
@@ -20,18 +22,19 @@ tasked (Searching j s) = at_work phases.Reading j
 tasked (Defining j) = at_work phases.Defining j
 tasked Done = record { phase = phases.Done; request = None; walk = nowhere }
 
--- the walk is the request's, by a loader of the configuration
+-- the walk is the request's, by a loader of the configuration (5.3)
 pub record IsJob {A : Type 0} (c : Configured) (j : Job A) : Type 0 where
   pub for_request : IsFor j.request j.walk
   pub loader : j.walk.loader < length c.names
 
--- the search is for what the walk is at, and has probed nothing
+-- the search is for what the walk is at, and has probed nothing (5.3.2)
 pub record IsSearch {A : Type 0} (c : Configured) (j : Job A) (s : Searched) : Type 0 where
   pub config : s.config ≡ c
   pub loader : s.loader ≡ j.walk.loader
   pub name : s.name ≡ j.walk.at
   pub found : s.found ≡ None
 
+-- what each stage keeps (5.3)
 abbrev pub IsStage : {A : Type 0} → Configured → Stage A → Type 0
 IsStage c (Fresh j) = IsJob c j
 IsStage c (Looking j) = IsJob c j

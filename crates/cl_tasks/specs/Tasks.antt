@@ -5,16 +5,17 @@ use Rattle.cl_registry.specs.Walks.{Walked, most}
 use Rattle.cl_tasks.specs.declared.phase.Phase.{Phase}
 use Rattle.cl_tasks.specs.declared.phase.Phase.TheVariants.{Fresh, Looking, Reading, Defining, Done}
 
--- what a task waits for, for which request, and the classes that it derives
+-- what a task waits for, for which request, and the classes that it derives (5.3.5)
 pub record Tasked : Type 0 where
   pub phase : Phase
   pub request : Option Request
   pub walk : Walked
 
+-- the walk of a task that is done (own choice)
 abbrev pub nowhere : Walked
 nowhere = record { loader = 0; drafts = []; at = [] }
 
--- no more than this many turns are left, with this many classes on the walk
+-- no more than this many turns are left, with this many classes on the walk (own choice)
 abbrev pub left_at : Phase → ℕ → ℕ
 left_at Fresh k = most + 3 * (most - k) + 4
 left_at Looking k = most + 3 * (most - k) + 3
@@ -22,5 +23,6 @@ left_at Reading k = most + 3 * (most - k) + 2
 left_at Defining k = k + 1
 left_at Done k = 0
 
+-- the same of a task (own choice)
 abbrev pub left : Tasked → ℕ
 left t = left_at t.phase (length t.walk.drafts)

@@ -43,10 +43,11 @@ pub record EndsInCircle (w : World) (loader : ℕ) (name : List ℕ) (c : Class)
   pub returns : Returns w [] (class name place) c
 
 -- ClassCircularityError is answered where the load ends in a circle, of that class, and nowhere else (5.3.5)
-pub record CircleAnswer (w : World) (x : Shown) (q loader : ℕ) (name : List ℕ) (v : verdicts.Verdict) : Type 0 where
+pub record CircleAnswer (w : World) (loader : ℕ) (name : List ℕ) (v : verdicts.Verdict) : Type 0 where
   pub only : (c : Class) → v ≡ verdicts.TheVariants.Error kinds.ClassCircularityError c → EndsInCircle w loader name c
   pub there : (c : Class) → EndsInCircle w loader name c → v ≡ verdicts.TheVariants.Error kinds.ClassCircularityError c
 
+-- each load that is answered with a verdict is answered so
 abbrev pub CirclesExact : Option Content → Shown → Type 0
 CirclesExact None x = Unit {0}
-CirclesExact (Some content) x = (q loader : ℕ) (name : List ℕ) (v : verdicts.Verdict) → Says x q (requests.TheVariants.Load loader name) v → CircleAnswer (machine x content).world x q loader name v
+CirclesExact (Some content) x = (q loader : ℕ) (name : List ℕ) (v : verdicts.Verdict) → Says x q (requests.TheVariants.Load loader name) v → CircleAnswer (machine x content).world loader name v

@@ -132,7 +132,9 @@ fn put_name(text: &mut String, alloc: Global, name: Option<&Name>) -> Result<(),
     let Some(name) = name else {
         return Ok(());
     };
-    let printed = name.text(alloc)?;
+    let Ok(printed) = name.text(alloc) else {
+        return Err(AllocError);
+    };
     text.push_str(printed.as_str())
 }
 

@@ -40,16 +40,16 @@ Gives (Err TooManyDimensions) reading = reading ≡ Err TooManyDimensions
 Gives (Err TooManyUnits) reading = reading ≡ Err TooManyUnits
 Gives (Err Memory) reading = IsOk reading
 
--- a field type, a method type within the limits (4.3.2)
+-- a field type within the limit (JVMS SE 8, 4.3.2)
 pub record IsFieldType (t : FieldType) : Type 0 where
   pub shallow : IsTrue (is_shallow t)
 
--- it is of no more parameters than a call can hand over (4.3.3)
+-- a method type within the limits (JVMS SE 8, 4.3.2, 4.3.3)
 pub record IsMethodType (m : MethodType) : Type 0 where
   pub shallow : IsTrue (are_shallow m)
   pub short : IsTrue (is_short m)
 
--- the form says what the bytes are the descriptor of, if of anything (4.3)
+-- the form says what the bytes are the descriptor of, if of anything (JVMS SE 8, 4.3)
 abbrev pub FormOf : List ℕ → Option Form → Type 0
 FormOf bytes None = (IsField bytes IsFieldType → ⊥) × (IsMethod bytes IsMethodType → ⊥)
 FormOf bytes (Some Plain) = IsField bytes (λ t. IsFieldType t × (t.dims ≡ 0))
@@ -57,7 +57,7 @@ FormOf bytes (Some Array) = IsField bytes (λ t. IsFieldType t × (t.dims ≢ 0)
 FormOf bytes (Some Method) = IsMethod bytes (λ m. IsMethodType m × IsSome m.ret)
 FormOf bytes (Some Void) = IsMethod bytes (λ m. IsMethodType m × (m.ret ≡ None))
 
--- the units of the parameters, if the bytes are the descriptor of a method (4.3.3)
+-- the units of the parameters, if the bytes are the descriptor of a method (JVMS SE 8, 4.3.3)
 abbrev pub UnitsOf : List ℕ → Option ℕ → Type 0
 UnitsOf bytes None = IsMethod bytes IsMethodType → ⊥
 UnitsOf bytes (Some n) = IsMethod bytes (λ m. IsMethodType m × (units_of_method m ≡ n))

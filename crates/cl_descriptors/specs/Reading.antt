@@ -108,20 +108,20 @@ field_of bytes = within_field (whole_field bytes)
 unfoldable pub method_of : List ℕ → Result MethodType DescriptorFault
 method_of bytes = within_method (whole_method bytes)
 
--- what a field type is (4.3.2)
+-- what a field type is (JVMS SE 8, 4.3.2)
 abbrev pub field_form : Result FieldType DescriptorFault → Option Form
 field_form (Err f) = None
 field_form (Ok t) = if t.dims == 0 then Some forms.Plain else Some forms.Array
 
--- whether a method type returns something (4.3.3)
+-- whether a method type returns something (JVMS SE 8, 4.3.3)
 abbrev pub method_form : Result MethodType DescriptorFault → Option Form
 method_form (Err f) = None
 method_form (Ok m) = if is_some m.ret then Some forms.Method else Some forms.Void
 
--- the form of the descriptor that the bytes are (4.3)
+-- the form of the descriptor that the bytes are (JVMS SE 8, 4.3)
 unfoldable pub form_of : List ℕ → Option Form
 form_of bytes = option_or (field_form (field_of bytes)) (method_form (method_of bytes))
 
--- how many units the parameters count of the method descriptor that the bytes are (4.3.3)
+-- how many units the parameters count of the method descriptor that the bytes are (JVMS SE 8, 4.3.3)
 unfoldable pub units_of : List ℕ → Option ℕ
 units_of bytes = option_map units_of_method (result_ok (method_of bytes))

@@ -46,7 +46,7 @@ IsBase _ = Unit {0}
 abbrev pub AreNamed : MethodType → Type 0
 AreNamed m = AllByRecursion (λ t. IsBase t.base) (types_of m)
 
--- the bytes are the descriptor of this field type, but for the limit on dimensions (JVMS SE 8, 4.3.2)
+-- the bytes are the descriptor of this field type, but for the limit on dimensions: in a definition a type has any number of them (JVMS SE 8, 4.3.2)
 pub record SpellsField (bytes : List ℕ) (t : FieldType) : Type 0 where
   pub named : IsBase t.base
   pub spelled : bytes ≡ spelling_of_field t

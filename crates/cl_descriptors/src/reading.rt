@@ -161,7 +161,8 @@ fn method_of(alloc: Global, bytes: &[u8]) -> Result<MethodType, DescriptorFault>
     Ok(outline.build(alloc)?)
 }
 
-/// The type that the bytes are the field descriptor of, all of the bytes (JVMS SE 8, 4.3.2).
+/// The type that the bytes are the field descriptor of, all of the bytes: `Malformed` where they are none,
+/// `TooManyDimensions` where they are one but for the limit of 255, and then `Memory` (JVMS SE 8, 4.3.2).
 pub fn read_field(alloc: Global, bytes: &[u8]) -> Result<FieldType, DescriptorFault>
     // What is read is spelled so, and each fault is that of the bytes.
     ensures grammar { FieldOf bytes.now result }
@@ -173,7 +174,9 @@ pub fn read_field(alloc: Global, bytes: &[u8]) -> Result<FieldType, DescriptorFa
     field_of(alloc, bytes)
 }
 
-/// The type that the bytes are the method descriptor of, all of the bytes (JVMS SE 8, 4.3.3).
+/// The type that the bytes are the method descriptor of, all of the bytes: `Malformed` where they are none,
+/// `TooManyDimensions` and then `TooManyUnits` where they are one but for a limit of 255, and then `Memory`.
+/// `this` is not counted (JVMS SE 8, 4.3.3).
 pub fn read_method(alloc: Global, bytes: &[u8]) -> Result<MethodType, DescriptorFault>
     // What is read is spelled so, and each fault is that of the bytes.
     ensures grammar { MethodOf bytes.now result }

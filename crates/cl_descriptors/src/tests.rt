@@ -1,5 +1,5 @@
 //! Examples of descriptors, with memory to spare: the clauses leave open that a call succeeds.
-use super::{DescriptorFault, read_field, read_method};
+use super::{Descriptor, DescriptorFault, Form, form_of, read_field, read_method, units_of};
 use std::alloc::{AllocError, Global};
 use std::test::Fail;
 
@@ -102,9 +102,12 @@ fn limits(rt: HostRuntime) -> Result<(), Fail> {
             "{dims} dimensions"
         );
     }
-    let methods = [(127, None), (128, TOO_LONG)];
-    for (longs, fault) in methods {
-        let text = around(rt.alloc(), b"(", longs, b'J', b"I)V")?;
+    let methods: [(usize, &[u8], Option<DescriptorFault>); 2] = [
+        (127, b"I)V", None),
+        (128, b")V", TOO_LONG),
+    ];
+    for (longs, back, fault) in methods {
+        let text = around(rt.alloc(), b"(", longs, b'J', back)?;
         assert_eq!(rt;
             read_method(rt.alloc(), text.as_slice()).err(),
             fault,
@@ -113,12 +116,37 @@ fn limits(rt: HostRuntime) -> Result<(), Fail> {
     }
     let full = around(rt.alloc(), b"(", 127, b'J', b"I)V")?;
     assert_eq!(rt; read_method(rt.alloc(), full.as_slice())?.units(), 255);
+    for (len, fault) in [(65_535, None), (65_536, MALFORMED)] {
+        let text = around(rt.alloc(), b"L", len, b'a', b";")?;
+        assert_eq!(rt;
+            read_field(rt.alloc(), text.as_slice()).err(),
+            fault,
+            "a name of {len} bytes"
+        );
+    }
     let deep = around(rt.alloc(), b")", 256, b'[', b"I")?;
     let both = around(rt.alloc(), b"(", 256, b'I', deep.as_slice())?;
     assert_eq!(rt; read_method(rt.alloc(), both.as_slice()).err(), TOO_DEEP);
     let bad = around(rt.alloc(), b"(", 256, b'I', b")I)")?;
     assert_eq!(rt; read_method(rt.alloc(), bad.as_slice()).err(), MALFORMED);
     Ok(())
+}
+
+#[test]
+fn forms_and_units(rt: HostRuntime) {
+    let cases: [(&[u8], Option<Form>, Option<usize>); 7] = [
+        (b"Lp/A;", Some(Form::Plain), None),
+        (b"[J", Some(Form::Array), None),
+        (b"(J[J)I", Some(Form::Method), Some(3)),
+        (b"(D)V", Some(Form::Void), Some(2)),
+        (b"V", None, None),
+        (b"Lp//A;", None, None),
+        (b"(I", None, None),
+    ];
+    for (bytes, form, units) in cases {
+        assert_eq!(rt; form_of(bytes), form, "at {bytes:?}");
+        assert_eq!(rt; units_of(bytes), units, "at {bytes:?}");
+    }
 }
 
 #[test]
@@ -133,6 +161,8 @@ fn named_classes(rt: HostRuntime) -> Result<(), Fail> {
     assert_eq!(rt; m.params.iter().filter(|t| t.dims == 1).count(), 1);
     assert_eq!(rt; m.params.get(1).map(|t| t.dims), Some(1));
     assert_eq!(rt; m.params.get(2).map(|t| t.dims), None);
+    let whole = Descriptor::Method(m);
+    assert!(rt; whole.try_clone(rt.alloc())? == whole);
     Ok(())
 }
 

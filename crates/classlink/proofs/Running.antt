@@ -1,5 +1,5 @@
 -- How a run ends, from its steps.
-use Rattle.std.proofs.Common.{◌≡◌, ◌⊎◌, ◌∙◌, ◌<◌, ◌≤◌, ℕ, Bool, MatchBool, List, [], ◌∷◌, ◌++◌, length, Option, Some, None, is_some, Result, Ok, Err, IfSome, IsErrAnd, OnOk, OnErr, append-nil, append_assoc, codes, inl, inr, refl, sym, ap, subst, if◌then◌else◌, true, false}
+use Rattle.std.proofs.Common.{◌≡◌, ◌⊎◌, ◌∙◌, ◌<◌, ◌≤◌, ℕ, Bool, MatchBool, List, [], ◌∷◌, ◌++◌, length, Option, Some, None, is_some, Result, Ok, Err, IfSome, IsErrAnd, OnOk, OnErr, append-nil, append_assoc, codes, inl, inr, refl, sym, subst, true, false}
 use Rattle.std.specs.Str.{IsUtf8}
 use Rattle.std.specs.Fmt.{option_append}
 use Rattle.std.specs.Io.KnownBytes.{Appends}

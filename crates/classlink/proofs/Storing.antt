@@ -1,5 +1,5 @@
 -- Class sections put into a source one by one.
-use Rattle.std.proofs.Common.{◌≡◌, ◌≢◌, ◌≤◌, ◌<◌, ℕ, Bool, true, false, MatchBool, List, [], ◌∷◌, ◌++◌, length, Option, Some, None, is_some, Result, Ok, Err, ◌==◌, ◌&&◌, nat_eq, if◌then◌else◌, refl, sym, subst, ap, ◌∙◌, append-nil, inl, inr}
+use Rattle.std.proofs.Common.{◌≡◌, ℕ, Bool, false, MatchBool, List, [], ◌∷◌, ◌++◌, Option, Some, None, is_some, Result, Ok, Err, ◌==◌, ◌&&◌, nat_eq, if◌then◌else◌, refl, sym, subst, ap, ◌∙◌, append-nil, inl, inr}
 use Rattle.std.specs.Cmp.Lexicographic.{pointwise}
 use Rattle.cl_model.specs.Content.{Content, Stored, content_at}
 use Rattle.cl_registry.specs.Puts.{TellsMore}

@@ -3,7 +3,6 @@ use Rattle.std.specs.Prelude.{◌≡◌, ◌⊎◌, ◌<◌, ◌≤◌, ℕ, ⊤
 use Rattle.std.specs.List.{concat}
 use Rattle.std.specs.Result.{result_ok}
 use Rattle.std.specs.Cmp.Lexicographic.{pointwise}
-use Rattle.std.specs.declared.string.String.{String}
 use Rattle.hex.specs.Hex.{decode_of}
 use Rattle.cl_names.specs.Escape.{escaped}
 use Rattle.cl_classfile.specs.Structure.{Structure, Spells}

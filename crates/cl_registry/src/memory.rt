@@ -1,4 +1,4 @@
-ghost use Rattle.std.specs.Prelude.{◌≡◌, ◌+◌, ◌<◌, ◌≤◌, ◌^◌, [], None, length, OnOk, OnErr, IfOk, IfErr, IsErrOf};
+ghost use Rattle.std.specs.Prelude.{◌≡◌, ◌+◌, ◌<◌, ◌≤◌, ◌^◌, [], None, is_some, length, OnOk, OnErr, IfOk, IfErr, IsErrOf};
 ghost use Rattle.std.specs.Option.{option_map};
 ghost use Rattle.cl_model.specs.Content.{Content, content_at, Tells};
 ghost use Rattle.cl_registry.specs.Counts.{Counts};
@@ -85,6 +85,13 @@ impl MemorySource {
             }
         };
         Err(PutRefused { fault, name, bytes })
+    }
+
+    /// Whether a loader and name have bytes.
+    pub fn has(&self, loader: LoaderId, name: &Name) -> bool
+        ensures { result ≡ is_some (content_at self.now loader name.now) }
+    {
+        find(self.shelves.as_slice(), loader, name).is_some()
     }
 
     /// The source of what was put, where that is what `T` tells, or it tells nothing.

@@ -1,19 +1,18 @@
 -- The digits of a class section, line by line.
-use Rattle.std.proofs.Common.{◌≡◌, Bool, true, false, MatchBool, ℕ, List, [], ◌∷◌, ◌++◌, Option, Some, None, option_map, option_and_then, refl, sym, ap, ◌∙◌, append_assoc, append-nil}
+use Rattle.std.proofs.Common.{◌≡◌, ℕ, List, [], ◌∷◌, ◌++◌, Option, Some, None, option_map, option_and_then, refl, sym, ap, ◌∙◌, append_assoc, append-nil}
 use Rattle.cl_registry.specs.Lines.{Numbered, words_of}
-use Rattle.classlink.specs.Bundles.{all_digits, line_digits, some_digits}
+use Rattle.classlink.specs.Contents.{all_digits, line_digits}
 
 -- the lines before those that are left have these digits
-pub record IsJoined (lines left : List Numbered) (digits : List ℕ) (is_empty : Bool) : Type 0 where
+pub record IsJoined (lines left : List Numbered) (digits : List ℕ) : Type 0 where
   pub all : all_digits lines ≡ option_map (λ rest. digits ++ rest) (all_digits left)
-  pub some : MatchBool is_empty (lines ≡ left) (some_digits lines ≡ all_digits lines)
 
 nothing_before : (o : Option (List ℕ)) → o ≡ option_map (λ rest. [] ++ rest) o
 nothing_before None = refl
 nothing_before (Some rest) = refl
 
-pub joined_first : (lines : List Numbered) → IsJoined lines lines [] true
-joined_first lines = record { all = nothing_before (all_digits lines); some = refl }
+pub joined_first : (lines : List Numbered) → IsJoined lines lines []
+joined_first lines = record { all = nothing_before (all_digits lines) }
 
 more_digits : (digits more : List ℕ) (o : Option (List ℕ)) → option_map (λ rest. digits ++ rest) (option_map (λ rest. more ++ rest) o) ≡ option_map (λ rest. (digits ++ more) ++ rest) o
 more_digits digits more None = refl
@@ -28,28 +27,18 @@ digits_then digits new (Some more) p e = more_digits digits more p ∙ ap (λ (f
     some_is : Some (digits ++ more) ≡ Some new → digits ++ more ≡ new
     some_is e = cc
 
--- where a first line is there, that there is one says nothing
-same_digits : (lines left : List Numbered) (line : Numbered) (is_empty : Bool) → MatchBool is_empty (lines ≡ line ∷ left) (some_digits lines ≡ all_digits lines) → some_digits lines ≡ all_digits lines
-same_digits lines left line true e = rw e refl
-same_digits lines left line false e = e
-
-pub joined_more : (lines left after : List Numbered) (line : Numbered) (digits new : List ℕ) (is_empty : Bool) → IsJoined lines left digits is_empty → left ≡ line ∷ after
-    → option_map (λ more. digits ++ more) (line_digits (words_of line.text)) ≡ Some new → IsJoined lines after new false
-joined_more lines left after line digits new is_empty j e d = record {
+pub joined_more : (lines left after : List Numbered) (line : Numbered) (digits new : List ℕ) → IsJoined lines left digits → left ≡ line ∷ after
+    → option_map (λ more. digits ++ more) (line_digits (words_of line.text)) ≡ Some new → IsJoined lines after new
+joined_more lines left after line digits new j e d = record {
   all = j.all ∙ rw e (digits_then digits new (line_digits (words_of line.text)) (all_digits after) d);
-  some = same_digits lines after line is_empty (rw e at j.some);
 }
 
 none_of : (digits : List ℕ) (o p : Option (List ℕ)) → o ≡ None → option_map (λ rest. digits ++ rest) (option_and_then (λ front. option_map (λ rest. front ++ rest) p) o) ≡ None
 none_of digits o p e = rw e refl
 
-pub joined_bad : (lines left after : List Numbered) (line : Numbered) (digits : List ℕ) (is_empty : Bool) → IsJoined lines left digits is_empty → left ≡ line ∷ after
-    → line_digits (words_of line.text) ≡ None → some_digits lines ≡ None
-joined_bad lines left after line digits is_empty j e d =
-    same_digits lines after line is_empty (rw e at j.some) ∙ j.all ∙ rw e (none_of digits (line_digits (words_of line.text)) (all_digits after) d)
+pub joined_bad : (lines left after : List Numbered) (line : Numbered) (digits : List ℕ) → IsJoined lines left digits → left ≡ line ∷ after
+    → line_digits (words_of line.text) ≡ None → all_digits lines ≡ None
+joined_bad lines left after line digits j e d = j.all ∙ rw e (none_of digits (line_digits (words_of line.text)) (all_digits after) d)
 
-pub joined_none : (lines left : List Numbered) (digits : List ℕ) → IsJoined lines left digits true → left ≡ [] → some_digits lines ≡ None
-joined_none lines left digits j e = rw (j.some ∙ e) refl
-
-pub joined_all : (lines left : List Numbered) (digits : List ℕ) → IsJoined lines left digits false → left ≡ [] → some_digits lines ≡ Some digits
-joined_all lines left digits j e = j.some ∙ j.all ∙ rw e (ap Some (append-nil digits))
+pub joined_all : (lines left : List Numbered) (digits : List ℕ) → IsJoined lines left digits → left ≡ [] → all_digits lines ≡ Some digits
+joined_all lines left digits j e = j.all ∙ rw e (ap Some (append-nil digits))

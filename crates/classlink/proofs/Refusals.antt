@@ -8,7 +8,8 @@ use Rattle.cl_registry.specs.declared.script.ScriptFault.{ScriptFault}
 use Rattle.classlink.specs.Sections.{Cut, cut_of}
 use Rattle.classlink.specs.Cuts.{IsWrongLine}
 use Rattle.classlink.specs.Faults.{script_fault}
-use Rattle.classlink.specs.Bundles.{BundleOf, ConfigFaultOf, ContentsOf, IsNoBundle, UnlessMemory, WrongClass, WrongConfig, WrongLine, WrongScript}
+use Rattle.classlink.specs.Contents.{UnlessMemory}
+use Rattle.classlink.specs.Bundles.{BundleOf, ConfigFaultOf, ContentsOf, IsNoBundle, WrongClass, WrongConfig, WrongLine, WrongScript}
 use Rattle.classlink.specs.declared.bundle.Bundle as declared
 use Rattle.classlink.specs.declared.fault.Fault.{Fault}
 use Rattle.classlink.specs.declared.fault.Fault.TheVariants.{Bundle, Memory}
@@ -17,7 +18,7 @@ unless : (fault : Fault) (P : Type 0) → P → UnlessMemory fault P
 unless Memory P p = tt
 unless fault P p = p
 
-unless_by : (fault : Fault) (P Q : Type 0) → (P → Q) → UnlessMemory fault P → UnlessMemory fault Q
+pub unless_by : (fault : Fault) (P Q : Type 0) → (P → Q) → UnlessMemory fault P → UnlessMemory fault Q
 unless_by Memory P Q f p = tt
 unless_by fault P Q f p = f p
 

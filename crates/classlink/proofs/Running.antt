@@ -1,17 +1,18 @@
 -- How a run ends, from its steps.
-use Rattle.std.proofs.Common.{◌≡◌, ◌⊎◌, ◌∙◌, ◌<◌, ◌≤◌, ℕ, Bool, List, [], ◌∷◌, ◌++◌, length, Option, Some, None, is_some, Result, Ok, Err, IfSome, IsErrAnd, OnOk, OnErr, append-nil, append_assoc, codes, inl, inr, refl, sym, ap, subst, if◌then◌else◌, true, false}
+use Rattle.std.proofs.Common.{◌≡◌, ◌⊎◌, ◌∙◌, ◌<◌, ◌≤◌, ℕ, Bool, MatchBool, List, [], ◌∷◌, ◌++◌, length, Option, Some, None, is_some, Result, Ok, Err, IfSome, IsErrAnd, OnOk, OnErr, append-nil, append_assoc, codes, inl, inr, refl, sym, subst, true, false}
 use Rattle.std.specs.Str.{IsUtf8}
 use Rattle.std.specs.Fmt.{option_append}
 use Rattle.std.specs.Io.KnownBytes.{Appends}
 use Rattle.cl_model.specs.Content.{Content, Stored, content_at}
 use Rattle.cl_registry.specs.Scripts.{loader_named}
 use Rattle.classlink.specs.Sections.{Part}
-use Rattle.classlink.specs.Bundles.{IsNoBundle, UnlessMemory, WrongClass, WrongConfig, WrongLine, WrongScript, and_then, content_of, content_or, contents_from, stored_as, stored_by, stored_of}
+use Rattle.classlink.specs.Contents.{ContentOf, TextWritten, UnlessMemory, bytes_or, hex_bytes, hex_written, is_hex, stated}
+use Rattle.classlink.specs.Bundles.{FirstWrong, IsNoBundle, StoredAs, StoredBy, WrongClass, WrongConfig, WrongLine, WrongScript}
 use Rattle.classlink.specs.Faults.{IsInputFault, script_fault}
 use Rattle.classlink.specs.Runs.{EndsBy, IsRun, RunOf, TellsFault, fault_line}
 use Rattle.classlink.specs.Report.{AppendsPart}
 use Rattle.classlink.specs.declared.fault.Fault.{Fault}
-use Rattle.classlink.specs.declared.fault.Fault.TheVariants.{Input, Write, TooLarge, NotUtf8, Bundle, Script, Serve, Memory}
+use Rattle.classlink.specs.declared.fault.Fault.TheVariants.{Input, Write, TooLarge, NotUtf8, Bundle, Class, Script, Serve, Memory}
 use Rattle.cl_registry.specs.declared.script.ScriptFault.{ScriptFault}
 use Rattle.cl_registry.specs.declared.script.ScriptFault.TheVariants as scripts
 use Rattle.classlink.proofs.Written.{appends_nothing}
@@ -35,6 +36,7 @@ by_memory input only old = inl (appends_nothing old, tt)
 
 abbrev IsOfBundle : Fault → Type 0
 IsOfBundle (Bundle n) = Unit {0}
+IsOfBundle (Class class wrong) = Unit {0}
 IsOfBundle (Script wrong) = Unit {0}
 IsOfBundle Memory = Unit {0}
 IsOfBundle _ = ⊥
@@ -45,29 +47,34 @@ err_is a b r p q = cc
 same_of : (a b : Fault) → a ≡ b → IsOfBundle a → IsOfBundle b
 same_of a b e k = subst IsOfBundle e k
 
-stored_wrong : (loader : ℕ) (name : List ℕ) (line : ℕ) (o : Option (List ℕ)) (fault : Fault) → stored_as loader name (content_or line o) ≡ Err fault → IsOfBundle fault
-stored_wrong loader name line None fault e = same_of (Bundle line) fault (err_is _ _ _ refl e) tt
-stored_wrong loader name line (Some bytes) fault e = absurd cc
+hex_wrong : (line : ℕ) (o : Option (List ℕ)) (fault : Fault) → Err fault ≡ bytes_or line o → IsOfBundle fault
+hex_wrong line None fault e = same_of (Bundle line) fault (sym (err_is {A = List ℕ} _ _ _ refl e)) tt
+hex_wrong line (Some bytes) fault e = absurd cc
 
-else_wrong : (b : Bool) (line : ℕ) (r : Result Stored Fault) (fault : Fault) → (r ≡ Err fault → IsOfBundle fault) → (if b then Err (Bundle line) else r) ≡ Err fault → IsOfBundle fault
-else_wrong true line r fault k e = same_of (Bundle line) fault (err_is {A = Stored} _ _ _ refl e) tt
-else_wrong false line r fault k e = k e
+text_wrong : (part : Part) (fault : Fault) → TextWritten part (Err fault) → IsOfBundle fault
+text_wrong part (Class class wrong) w = tt
+text_wrong part fault w = absurd w
 
-part_wrong : (o : Option ℕ) (before : Content) (part : Part) (fault : Fault) → stored_by o before part ≡ Err fault → IsOfBundle fault
-part_wrong None before part fault e = same_of (Bundle part.line) fault (err_is {A = Stored} _ _ _ refl e) tt
-part_wrong (Some loader) before part fault e =
-    else_wrong (is_some (content_at before loader part.name)) part.line (stored_as loader part.name (content_of part)) fault (stored_wrong loader part.name part.line _ fault) e
+either_wrong : (b : Bool) (part : Part) (fault : Fault) → MatchBool b (Err fault ≡ hex_written part) (TextWritten part (Err fault)) → IsOfBundle fault
+either_wrong true part fault e = hex_wrong part.line (hex_bytes (stated part)) fault e
+either_wrong false part fault w = text_wrong part fault w
 
-then_wrong : (r : Result Stored Fault) (next : Stored → Result Content Fault) (fault : Fault) → (r ≡ Err fault → IsOfBundle fault) → ((s : Stored) → next s ≡ Err fault → IsOfBundle fault)
-    → and_then r next ≡ Err fault → IsOfBundle fault
-then_wrong (Ok s) next fault k more e = more s e
-then_wrong (Err f) next fault k more e = k (ap Err (err_is {A = Content} _ _ _ refl e))
+content_wrong : (part : Part) (fault : Fault) → ContentOf part (Err fault) → IsOfBundle fault
+content_wrong part fault (inl w) = either_wrong (is_hex (stated part)) part fault w
+content_wrong part fault (inr w) = same_of (Bundle part.line) fault (sym w.0) tt
 
-parts_wrong : (names : List (List ℕ)) (before : Content) (parts : List Part) (fault : Fault) → contents_from names before parts ≡ Err fault → IsOfBundle fault
-parts_wrong names before [] fault e = absurd cc
-parts_wrong names before (part ∷ parts) fault e =
-    then_wrong (stored_of names before part) (λ s. contents_from names (before ++ s ∷ []) parts) fault (part_wrong (loader_named names part.loader) before part fault)
-    (λ s q. parts_wrong names (before ++ s ∷ []) parts fault q) e
+else_wrong : (b : Bool) (loader : ℕ) (part : Part) (fault : Fault) → MatchBool b (◌≡◌ {A = Result Stored Fault} (Err fault) (Err (Bundle part.line))) (StoredAs loader part (Err fault)) → IsOfBundle fault
+else_wrong true loader part fault e = same_of (Bundle part.line) fault (err_is {A = Stored} _ _ _ refl (sym e)) tt
+else_wrong false loader part fault w = content_wrong part fault w
+
+part_wrong : (o : Option ℕ) (before : Content) (part : Part) (fault : Fault) → StoredBy o before part (Err fault) → IsOfBundle fault
+part_wrong None before part fault e = same_of (Bundle part.line) fault (err_is {A = Stored} _ _ _ refl (sym e)) tt
+part_wrong (Some loader) before part fault w = else_wrong (is_some (content_at before loader part.name)) loader part fault w
+
+parts_wrong : (names : List (List ℕ)) (before : Content) (parts : List Part) (fault : Fault) → FirstWrong names before parts fault → IsOfBundle fault
+parts_wrong names before [] fault w = absurd w
+parts_wrong names before (part ∷ parts) fault (inl w) = part_wrong (loader_named names part.loader) before part fault w
+parts_wrong names before (part ∷ parts) fault (inr w) = parts_wrong names (before ++ w.0 ∷ []) parts fault w.2
 
 script_wrong : (wrong : ScriptFault) → IsOfBundle (script_fault wrong)
 script_wrong scripts.Memory = tt
@@ -86,6 +93,7 @@ if_read (Some bytes) text fault e w = subst (λ (t : List ℕ). IsNoBundle t fau
 by_fault : (input : Option (List ℕ)) (only : Bool) (old : Option (List ℕ)) (text : List ℕ) (fault : Fault) → IfSome input (λ bytes. text ≡ bytes) → IsNoBundle text fault → IsOfBundle fault
     → EndsBy input only old old fault
 by_fault input only old text (Bundle n) e w k = (appends_nothing old, if_read input text (Bundle n) e w)
+by_fault input only old text (Class class wrong) e w k = (appends_nothing old, if_read input text (Class class wrong) e w)
 by_fault input only old text (Script wrong) e w k = (appends_nothing old, if_read input text (Script wrong) e w)
 by_fault input only old text Memory e w k = by_memory input only old
 by_fault input only old text fault e w k = absurd k
@@ -107,6 +115,7 @@ as_memory input only old new Input w = inl (w.0, tt)
 as_memory input only old new TooLarge w = inl (w.0, tt)
 as_memory input only old new NotUtf8 w = inl (w.0, tt)
 as_memory input only old new (Bundle n) w = inl (w.0, tt)
+as_memory input only old new (Class class wrong) w = inl (w.0, tt)
 as_memory input only old new (Script wrong) w = inl (w.0, tt)
 as_memory input only old new (Serve wrong) w = inl (w.0, tt)
 as_memory input only old new Write w = inr w

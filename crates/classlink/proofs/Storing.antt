@@ -1,34 +1,36 @@
 -- Class sections put into a source one by one.
-use Rattle.std.proofs.Common.{◌≡◌, ◌≤◌, ℕ, Bool, true, false, List, [], ◌∷◌, ◌++◌, length, Option, Some, None, is_some, Result, Ok, Err, ◌==◌, ◌&&◌, nat_eq, if◌then◌else◌, refl, sym, ap, ◌∙◌, append-nil}
-use Rattle.std.proofs.lemmas.Bool.{le-leb}
+use Rattle.std.proofs.Common.{◌≡◌, ℕ, Bool, false, MatchBool, List, [], ◌∷◌, ◌++◌, Option, Some, None, is_some, Result, Ok, Err, ◌==◌, ◌&&◌, nat_eq, if◌then◌else◌, refl, sym, subst, ap, ◌∙◌, append-nil, inl, inr}
 use Rattle.std.specs.Cmp.Lexicographic.{pointwise}
 use Rattle.cl_model.specs.Content.{Content, Stored, content_at}
-use Rattle.cl_registry.specs.Lines.{stated_from}
 use Rattle.cl_registry.specs.Puts.{TellsMore}
 use Rattle.cl_registry.specs.Shelves.{Inserts}
 use Rattle.cl_registry.proofs.Contents.{tells_more}
 use Rattle.cl_registry.specs.Scripts.{loader_named}
 use Rattle.classlink.specs.Sections.{Part}
-use Rattle.classlink.specs.Bundles.{TellsSame, and_then, content_of, contents_from, contents_of, hex_bytes, stored_as, stored_by, stored_of}
+use Rattle.classlink.specs.Contents.{UnlessMemory}
+use Rattle.classlink.specs.Bundles.{AllTell, ContentsOf, FirstWrong, StoredAs, StoredBy, StoredOf, TellsSame}
 use Rattle.classlink.specs.declared.fault.Fault.{Fault}
 use Rattle.classlink.specs.declared.fault.Fault.TheVariants.{Bundle}
+use Rattle.classlink.proofs.Refusals.{unless_by}
 
 -- the sections so far tell what the source has
 pub record IsStored (names : List (List ℕ)) (all left : List Part) (content : Content) : Type 0 where
   pub told : Content
   pub same : TellsSame content told
-  pub so : contents_of names all ≡ contents_from names told left
+  pub go_on : (after : Content) → AllTell names told left after → AllTell names [] all after
+  pub stop : (fault : Fault) → FirstWrong names told left fault → FirstWrong names [] all fault
 
 pub stored_first : (names : List (List ℕ)) (all : List Part) (content : Content) → content ≡ [] → IsStored names all all content
-stored_first names all content e = record { told = []; same = λ l n. rw e refl; so = refl }
+stored_first names all content e = record { told = []; same = λ l n. rw e refl; go_on = λ after t. t; stop = λ fault w. w }
 
 -- what tells the same counts the same
-same_by : (o : Option ℕ) (a b : Content) (part : Part) → TellsSame a b → stored_by o a part ≡ stored_by o b part
-same_by None a b part s = refl
-same_by (Some loader) a b part s = rw (s loader part.name) refl
+same_by : (o : Option ℕ) (a b : Content) (part : Part) (r : Result Stored Fault) → TellsSame a b → StoredBy o a part r → StoredBy o b part r
+same_by None a b part r s w = w
+same_by (Some loader) a b part r s w =
+    subst (λ (o : Option (List ℕ)). MatchBool (is_some o) (r ≡ Err (Bundle part.line)) (StoredAs loader part r)) (s loader part.name) w
 
-same_stored : (names : List (List ℕ)) (a b : Content) (part : Part) → TellsSame a b → stored_of names a part ≡ stored_of names b part
-same_stored names a b part s = same_by (loader_named names part.loader) a b part s
+same_stored : (names : List (List ℕ)) (a b : Content) (part : Part) (r : Result Stored Fault) → TellsSame a b → StoredOf names a part r → StoredOf names b part r
+same_stored names a b part r s w = same_by (loader_named names part.loader) a b part r s w
 
 -- ---- one more at the end
 
@@ -43,58 +45,39 @@ same_after old new told s same none more = λ l n.
     ∙ sym (tells_more told (told ++ s ∷ []) s.loader s.name s.bytes none (ends_with told s) l n)
 
 -- what is stored had nothing before
-not_stored : (b : Bool) (fault : Fault) (r : Result Stored Fault) (s : Stored) → (if b then Err fault else r) ≡ Ok s → b ≡ false
-not_stored true fault r s e = absurd cc
-not_stored false fault r s e = refl
+place_of : (o : Option (List ℕ)) (loader : ℕ) (part : Part) (s : Stored) → MatchBool (is_some o) (Ok s ≡ Err (Bundle part.line)) (StoredAs loader part (Ok s))
+    → (o ≡ None) × (s.loader ≡ loader) × (s.name ≡ part.name)
+place_of None loader part s w = (refl, w.0, w.1)
+place_of (Some bytes) loader part s e = absurd cc
 
-is_none : {A : Type 0} (o : Option A) → is_some o ≡ false → o ≡ None
-is_none None e = refl
-is_none (Some x) e = absurd cc
-
-place_of : (loader : ℕ) (name : List ℕ) (r : Result (List ℕ) Fault) (s : Stored) → stored_as loader name r ≡ Ok s → (s.loader ≡ loader) × (s.name ≡ name)
-place_of loader name (Ok bytes) s e = (ap (λ (r : Result Stored Fault). loader_in loader r) (sym e), ap (λ (r : Result Stored Fault). name_in name r) (sym e))
-  where
-    loader_in : ℕ → Result Stored Fault → ℕ
-    loader_in d (Ok s) = s.loader
-    loader_in d (Err f) = d
-
-    name_in : List ℕ → Result Stored Fault → List ℕ
-    name_in d (Ok s) = s.name
-    name_in d (Err f) = d
-place_of loader name (Err f) s e = absurd cc
-
-else_of : (b : Bool) (fault : Fault) (r : Result Stored Fault) (s : Stored) → b ≡ false → (if b then Err fault else r) ≡ Ok s → r ≡ Ok s
-else_of true fault r s b e = absurd cc
-else_of false fault r s b e = e
-
-none_before : (o : Option ℕ) (told : Content) (part : Part) (s : Stored) → stored_by o told part ≡ Ok s → content_at told s.loader s.name ≡ None
+none_before : (o : Option ℕ) (told : Content) (part : Part) (s : Stored) → StoredBy o told part (Ok s) → content_at told s.loader s.name ≡ None
 none_before None told part s e = absurd cc
-none_before (Some loader) told part s e =
-    let free = not_stored (is_some (content_at told loader part.name)) (Bundle part.line) (stored_as loader part.name (content_of part)) s e in
-    let place = place_of loader part.name (content_of part) s (else_of (is_some (content_at told loader part.name)) (Bundle part.line) (stored_as loader part.name (content_of part)) s free e) in
-    rw (place.0, place.1) (is_none (content_at told loader part.name) free)
+none_before (Some loader) told part s w =
+    let place = place_of (content_at told loader part.name) loader part s w in
+    rw (place.1, place.2) place.0
 
 pub stored_more : (names : List (List ℕ)) (all after : List Part) (part : Part) (old new : Content) (s : Stored) → IsStored names all (part ∷ after) old
-    → stored_of names old part ≡ Ok s → TellsMore old new s.loader s.name s.bytes → IsStored names all after new
-stored_more names all after part old new s i e more =
-    let here : stored_of names i.told part ≡ Ok s = sym (same_stored names old i.told part i.same) ∙ e in
+    → StoredOf names old part (Ok s) → TellsMore old new s.loader s.name s.bytes → IsStored names all after new
+stored_more names all after part old new s i w more =
+    let here : StoredOf names i.told part (Ok s) = same_stored names old i.told part (Ok s) i.same w in
     record {
       told = i.told ++ s ∷ [];
       same = same_after old new i.told s i.same (none_before (loader_named names part.loader) i.told part s here) more;
-      so = i.so ∙ ap (λ (r : Result Stored Fault). and_then r (λ stored. contents_from names (i.told ++ stored ∷ []) after)) here;
+      go_on = λ all t. i.go_on all (s, here, t);
+      stop = λ fault t. i.stop fault (inr (s, here, t));
     }
 
 pub stored_wrong : (names : List (List ℕ)) (all after : List Part) (part : Part) (old : Content) (fault : Fault) → IsStored names all (part ∷ after) old
-    → stored_of names old part ≡ Err fault → contents_of names all ≡ Err fault
-stored_wrong names all after part old fault i e =
-    i.so ∙ ap (λ (r : Result Stored Fault). and_then r (λ stored. contents_from names (i.told ++ stored ∷ []) after)) (sym (same_stored names old i.told part i.same) ∙ e)
+    → UnlessMemory fault (StoredOf names old part (Err fault)) → ContentsOf names all (Err fault)
+stored_wrong names all after part old fault i w =
+    unless_by fault (StoredOf names old part (Err fault)) (FirstWrong names [] all fault) (λ e. i.stop fault (inl (same_stored names old i.told part (Err fault) i.same e))) w
 
--- ---- a section that is in order
+pub stored_all : (names : List (List ℕ)) (all : List Part) (content : Content) → IsStored names all [] content → ContentsOf names all (Ok content)
+stored_all names all content i = (i.told, i.go_on i.told refl, i.same)
 
-content_is : (part : Part) (bytes : List ℕ) → hex_bytes (stated_from 1 part.body) ≡ Some bytes → length bytes ≤ 16777216 → content_of part ≡ Ok bytes
-content_is part bytes e fits = rw e (rw (le-leb (length bytes) 16777216 fits) refl)
+-- ---- one section
 
-pub stored_is : (names : List (List ℕ)) (before : Content) (part : Part) (loader : ℕ) (bytes : List ℕ) → loader_named names part.loader ≡ Some loader
-    → content_at before loader part.name ≡ None → hex_bytes (stated_from 1 part.body) ≡ Some bytes → length bytes ≤ 16777216
-    → stored_of names before part ≡ Ok (record { loader = loader; name = part.name; bytes = bytes })
-stored_is names before part loader bytes e none written fits = rw e (rw none (rw (content_is part bytes written fits) refl))
+pub stored_as : (names : List (List ℕ)) (before : Content) (part : Part) (loader : ℕ) (r : Result Stored Fault) → loader_named names part.loader ≡ Some loader
+    → is_some (content_at before loader part.name) ≡ false → StoredAs loader part r → StoredOf names before part r
+stored_as names before part loader r e h w =
+    subst (λ (o : Option ℕ). StoredBy o before part r) (sym e) (subst (λ (b : Bool). MatchBool b (r ≡ Err (Bundle part.line)) (StoredAs loader part r)) (sym h) w)

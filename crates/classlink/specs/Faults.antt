@@ -4,7 +4,7 @@ use Rattle.std.specs.Fmt.{decimal}
 use Rattle.cl_registry.specs.declared.script.ScriptFault.{ScriptFault}
 use Rattle.cl_registry.specs.declared.script.ScriptFault.TheVariants as scripts
 use Rattle.classlink.specs.declared.fault.Fault.{Fault}
-use Rattle.classlink.specs.declared.fault.Fault.TheVariants.{Input, Write, TooLarge, NotUtf8, Bundle, Script, Serve, Memory}
+use Rattle.classlink.specs.declared.fault.Fault.TheVariants.{Input, Write, TooLarge, NotUtf8, Bundle, Class, Script, Serve, Memory}
 use Rattle.classlink.specs.declared.print.PrintFault.{PrintFault}
 use Rattle.classlink.specs.declared.print.PrintFault.TheVariants as print
 
@@ -30,13 +30,14 @@ abbrev pub script_fault : ScriptFault → Fault
 script_fault scripts.Memory = Memory
 script_fault fault = Script fault
 
--- the text of a fault; of what a script or its service is refused with, the text is not said here
+-- the text of a fault; of what a class's assembler text, a script or its service is refused with, the text is not said here
 abbrev pub fault_text : Fault → Option (List ℕ)
 fault_text Input = Some (codes "cannot read standard input")
 fault_text Write = Some (codes "cannot write")
 fault_text TooLarge = Some (codes "input too large")
 fault_text NotUtf8 = Some (codes "input is not UTF-8")
 fault_text (Bundle n) = Some (codes "bundle line " ++ decimal n)
+fault_text (Class class fault) = None
 fault_text (Script fault) = None
 fault_text (Serve fault) = None
 fault_text Memory = Some (codes "out of memory")

@@ -1,5 +1,6 @@
 pub mod Bundles
 pub mod CommandLine
+pub mod Contents
 pub mod Cuts
 pub mod Faults
 pub mod Report

@@ -13,7 +13,7 @@ use Rattle.classlink.specs.Report.{AppendsPart, report_lines}
 use Rattle.classlink.specs.Headline.{EachSpelt, Alike, CirclesExact}
 use Rattle.classlink.specs.Serving.{InOrder, reported, upto}
 use Rattle.classlink.specs.declared.fault.Fault.{Fault}
-use Rattle.classlink.specs.declared.fault.Fault.TheVariants.{Input, Write, TooLarge, NotUtf8, Bundle, Script, Serve, Memory}
+use Rattle.classlink.specs.declared.fault.Fault.TheVariants.{Input, Write, TooLarge, NotUtf8, Bundle, Class, Script, Serve, Memory}
 
 -- the report of a script that was served under a configuration. Where a content is told, the history is a run of the
 -- linkage machine over it, in which each request is answered once, with what its plan yields in the state at that point,
@@ -58,6 +58,7 @@ EndsBy input only_answers old new Input = WritesNothing old new ⊤
 EndsBy input only_answers old new TooLarge = WritesNothing old new (IfSome input (λ bytes. 67108864 < length bytes))
 EndsBy input only_answers old new NotUtf8 = WritesNothing old new (IfSome input (λ bytes. (length bytes ≤ 67108864) × ¬ (IsUtf8 bytes)))
 EndsBy input only_answers old new (Bundle n) = WritesNothing old new (IfSome input (λ bytes. IsNoBundle bytes (Bundle n)))
+EndsBy input only_answers old new (Class class wrong) = WritesNothing old new (IfSome input (λ bytes. IsNoBundle bytes (Class class wrong)))
 EndsBy input only_answers old new (Script wrong) = WritesNothing old new (IfSome input (λ bytes. IsNoBundle bytes (Script wrong)))
 EndsBy input only_answers old new (Serve wrong) = WritesNothing old new ⊤
 EndsBy input only_answers old new Write = BreaksOff input only_answers old new

@@ -1,9 +1,10 @@
-ghost use Rattle.std.specs.Prelude.{◌≡◌, ◌++◌, IfOk, OnOk, None, Some, length, map, option_map, string_bytes};
+ghost use Rattle.std.specs.Prelude.{◌≡◌, ◌++◌, IfOk, IfErr, OnOk, None, Some, length, map, option_map, string_bytes};
 ghost use Rattle.std.specs.List.{concat};
 ghost use Rattle.cl_registry.specs.Configs.{ConfigOf};
 ghost use Rattle.cl_registry.specs.Lines.{stated_from, words_of};
 ghost use Rattle.cl_registry.specs.Scripts.{HasLoaders};
-ghost use Rattle.classlink.specs.Bundles.{BundleOf, ConfigFaultOf, ContentsOf, PutOf, hex_bytes, line_digits, some_digits};
+ghost use Rattle.classlink.specs.Bundles.{BundleOf, ConfigFaultOf, ContentsOf, PutOf};
+ghost use Rattle.classlink.specs.Contents.{FaultOf, TextWritten, UnlessMemory, Written, all_digits, class_text, hex_bytes, is_hex, line_digits};
 ghost use Rattle.classlink.specs.Cuts.{part_of};
 
 use crate::fault::Fault;
@@ -11,6 +12,7 @@ use crate::sections::{self, ClassSection};
 use cl_registry::lines::{Stated, Words};
 use cl_registry::source::SourceFault;
 use cl_registry::{Config, ConfigFault, MemorySource, Script};
+use cl_writer::{AssembleFault, WriteFault, assemble, write};
 use hex::FromHexError;
 use std::alloc::{AllocError, Global};
 
@@ -23,7 +25,7 @@ pub struct Bundle {
 }
 
 /// Reads a bundle from its front: section lines, configuration, class sections in order, script. The first thing that
-/// is wrong is `Bundle`, with its line, or in the script `Script`. `Memory`.
+/// is wrong is `Bundle`, with its line, `Class` in the assembler text of a class, or in the script `Script`. `Memory`.
 pub fn read(alloc: Global, text: &str) -> Result<Bundle, Fault>
     ensures bundle { BundleOf text.now result }
     ensures loaders { IfOk result (λ b. HasLoaders (length b.config.names) b.script.requests) }
@@ -64,7 +66,8 @@ fn read_classes(
     Ok(source)
 }
 
-/// Puts the bytes of a class section into a source.
+/// Puts the content of a class section into a source. Its loader is looked at first, then whether this loader and name
+/// have a section already, and then its content.
 fn put(
     alloc: Global,
     config: &Config,
@@ -77,11 +80,10 @@ fn put(
     let Some(loader) = config.loader(section.loader) else {
         return Err(Fault::Bundle(line));
     };
-    let bytes = match class_bytes(alloc, section.body) {
-        Ok(bytes) => bytes,
-        Err(HexFault::Memory) => return Err(Fault::Memory),
-        Err(HexFault::Bad) => return Err(Fault::Bundle(line)),
-    };
+    if source.has(loader, &section.name) {
+        return Err(Fault::Bundle(line));
+    }
+    let bytes = class_bytes(alloc, &section)?;
     match source.put(alloc, loader, section.name, bytes) {
         Ok(()) => Ok(()),
         Err(refused) => Err(match refused.fault {
@@ -91,11 +93,73 @@ fn put(
     }
 }
 
+/// The bytes that a class section writes: in hexadecimal, where its first line begins so, else as assembler text.
+fn class_bytes(alloc: Global, section: &ClassSection<'_>) -> Result<Vec<u8>, Fault>
+    ensures ok { IfOk result (λ bytes. Written (part_of section.now) (Ok bytes.items)) }
+    ensures err { IfErr result (λ fault. UnlessMemory fault (Written (part_of section.now) (Err fault))) }
+{
+    if !is_hex(section.body) {
+        return assembled(alloc, section);
+    }
+    match hex_bytes(alloc, section.body) {
+        Ok(bytes) => Ok(bytes),
+        Err(HexFault::Memory) => Err(Fault::Memory),
+        Err(HexFault::Bad) => Err(Fault::Bundle(section.line)),
+    }
+}
+
+/// Whether the first line that is not skipped begins with `@hex`.
+fn is_hex(body: &str) -> bool
+    ensures { result ≡ is_hex (stated_from 1 body.now) }
+{
+    match Stated::new(body).next() {
+        Some(line) => Words::new(line.text).next() == Some("@hex"),
+        None => false,
+    }
+}
+
+/// The bytes of the class that a section of assembler text describes.
+fn assembled(alloc: Global, section: &ClassSection<'_>) -> Result<Vec<u8>, Fault>
+    ensures ok { IfOk result (λ bytes. TextWritten (part_of section.now) (Ok bytes.items)) }
+    ensures err { IfErr result (λ fault. UnlessMemory fault (TextWritten (part_of section.now) (Err fault))) }
+{
+    match assemble(alloc, section.body) {
+        Ok(file) => match write(alloc, &file) {
+            Ok(bytes) => Ok(bytes),
+            Err(WriteFault::Memory) => Err(Fault::Memory),
+        },
+        Err(fault) => Err(class_fault(alloc, section, fault)),
+    }
+}
+
+/// The fault of a section whose assembler text has this one.
+fn class_fault(alloc: Global, section: &ClassSection<'_>, fault: AssembleFault) -> Fault
+    ensures { FaultOf (part_of section.now) fault result }
+{
+    if fault == AssembleFault::Memory {
+        return Fault::Memory;
+    }
+    match class_text(alloc, section) {
+        Ok(class) => Fault::Class { class, fault },
+        Err(_) => Fault::Memory,
+    }
+}
+
+/// The text `N@L` of a section: its name in escaped text, and its loader.
+fn class_text(alloc: Global, section: &ClassSection<'_>) -> Result<String, AllocError>
+    ensures { IfOk result (λ text. string_bytes text ≡ class_text (part_of section.now)) }
+{
+    let mut text = section.name.text(alloc).map_err(|_| AllocError)?;
+    text.push_str("@")?;
+    text.push_str(section.loader)?;
+    Ok(text)
+}
+
 /// Why the lines of a class section give no bytes.
 #[derive(Clone, Copy)]
 enum HexFault {
     Memory,
-    /// There is no line, one that does not begin with `@hex`, or what follows it is not hexadecimal.
+    /// There is a line that does not begin with `@hex`, or what follows is not hexadecimal.
     Bad,
 }
 
@@ -110,7 +174,7 @@ impl From<AllocError> for HexFault {
 }
 
 /// The bytes that the `@hex` lines of a class section write.
-fn class_bytes(alloc: Global, body: &str) -> Result<Vec<u8>, HexFault>
+fn hex_bytes(alloc: Global, body: &str) -> Result<Vec<u8>, HexFault>
     ensures ok { IfOk result (λ bytes. hex_bytes (stated_from 1 body.now) ≡ Some bytes.items) }
     ensures bad { result ≡ Err HexFault.Bad → hex_bytes (stated_from 1 body.now) ≡ None }
 {
@@ -124,17 +188,12 @@ fn class_bytes(alloc: Global, body: &str) -> Result<Vec<u8>, HexFault>
 
 /// The words behind `@hex` of all lines that are not skipped, joined.
 fn hex_digits(alloc: Global, body: &str) -> Result<String, HexFault>
-    ensures ok { IfOk result (λ digits. some_digits (stated_from 1 body.now) ≡ Some (string_bytes digits)) }
-    ensures bad { result ≡ Err HexFault.Bad → some_digits (stated_from 1 body.now) ≡ None }
+    ensures ok { IfOk result (λ digits. all_digits (stated_from 1 body.now) ≡ Some (string_bytes digits)) }
+    ensures bad { result ≡ Err HexFault.Bad → all_digits (stated_from 1 body.now) ≡ None }
 {
     let mut digits = String::new(alloc);
-    let mut is_empty = true;
     for line in Stated::new(body) {
         push_digits(&mut digits, line.text)?;
-        is_empty = false;
-    }
-    if is_empty {
-        return Err(HexFault::Bad);
     }
     Ok(digits)
 }

@@ -3,6 +3,7 @@ ghost use Rattle.std.specs.Prelude.{◌≡◌};
 use crate::print::PrintFault;
 use crate::serve::ServeFault;
 use cl_registry::ScriptFault;
+use cl_writer::AssembleFault;
 use std::alloc::{AllocError, AllocFailed};
 use std::error::Error;
 use std::fmt::{self, Display, Formatter};
@@ -16,6 +17,8 @@ pub enum Fault {
     NotUtf8,
     /// A line of the bundle, counted from 1; 0 is for a bundle that lacks a line.
     Bundle(usize),
+    /// The assembler text of a class of the bundle, with the class's name and loader as `N@L`.
+    Class { class: String, fault: AssembleFault },
     Script(ScriptFault),
     Serve(ServeFault),
     Memory,
@@ -33,6 +36,7 @@ impl Display for Fault {
             Fault::TooLarge => write!(f, "input too large"),
             Fault::NotUtf8 => write!(f, "input is not UTF-8"),
             Fault::Bundle(line) => write!(f, "bundle line {line}"),
+            Fault::Class { class, fault } => write!(f, "class {class}: {fault}"),
             Fault::Script(fault) => write!(f, "script: {fault}"),
             Fault::Serve(fault) => write!(f, "{fault}"),
             Fault::Memory => write!(f, "out of memory"),

@@ -148,18 +148,77 @@ fn bundles_are_run(rt: HostRuntime) -> Result<(), Fail> {
             err: "classlink: bundle line 4\n",
         },
         Row {
-            name: "assembler_text",
-            text: "%config\n[[loader]]\nname = \"boot\"\n%class boot p/A\n# nothing\n%script\n",
-            status: 1,
-            out: "",
-            err: "classlink: bundle line 4\n",
-        },
-        Row {
             name: "script_faults",
             text: "%config\n[[loader]]\nname = \"boot\"\n%script\n\nload app p/A\n",
             status: 1,
             out: "",
             err: "classlink: script: L2 UnknownLoader 2\n",
+        },
+    ];
+    for row in &rows {
+        check(&rt, row);
+    }
+    Ok(())
+}
+
+#[test]
+fn classes_are_assembled(rt: HostRuntime) -> Result<(), Fail> {
+    let rows = [
+        Row {
+            name: "assembled_object",
+            text: "%config\n[[loader]]\nname = \"boot\"\n%class boot java/lang/Object\n# the root\n\nclass 0021 java/lang/Object -\n%class boot p/A\nclass 0021 p/A java/lang/Object\n%script\nload boot p/A\n",
+            status: 0,
+            out: "define java/lang/Object@boot\ndefine p/A@boot\n1 class p/A@boot\n",
+            err: "",
+        },
+        Row {
+            name: "bad_class_line",
+            text: "%config\n[[loader]]\nname = \"boot\"\n%class boot p/A\nclass 0021 p/A\n%script\n",
+            status: 1,
+            out: "",
+            err: "classlink: class p/A@boot: A1 BadLine 1\n",
+        },
+        Row {
+            name: "bad_later_line",
+            text: "%config\n[[loader]]\nname = \"boot\"\n%class boot p/\\u0041\\u00e9\n# p\nclass 0021 p/A java/lang/Object\n\n@hex 00\n%script\n",
+            status: 1,
+            out: "",
+            err: "classlink: class p/A\\u00e9@boot: A1 BadLine 4\n",
+        },
+        Row {
+            name: "no_lines",
+            text: "%config\n[[loader]]\nname = \"boot\"\n%class boot p/A\n# nothing\n%script\n",
+            status: 1,
+            out: "",
+            err: "classlink: class p/A@boot: A1 BadLine 0\n",
+        },
+        Row {
+            name: "bad_flags",
+            text: "%config\n[[loader]]\nname = \"boot\"\n%class boot p/A\nclass 0210 p/A java/lang/Object\n%script\n",
+            status: 1,
+            out: "",
+            err: "classlink: class p/A@boot: A2 Invalid F6 BadFlags\n",
+        },
+        Row {
+            name: "hex_with_more",
+            text: "%config\n[[loader]]\nname = \"boot\"\n%class boot p/A\n@hexa 00\n%script\n",
+            status: 1,
+            out: "",
+            err: "classlink: class p/A@boot: A1 BadLine 1\n",
+        },
+        Row {
+            name: "repeated_before_content",
+            text: "%config\n[[loader]]\nname = \"boot\"\n%class boot p/A\nclass 0021 p/A java/lang/Object\n%class boot p/A\nnothing\n%script\n",
+            status: 1,
+            out: "",
+            err: "classlink: bundle line 6\n",
+        },
+        Row {
+            name: "loader_before_content",
+            text: "%config\n[[loader]]\nname = \"boot\"\n%class app p/A\nnothing\n%class boot p/A\nnothing\n%script\n",
+            status: 1,
+            out: "",
+            err: "classlink: bundle line 4\n",
         },
     ];
     for row in &rows {

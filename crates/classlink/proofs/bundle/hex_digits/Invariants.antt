@@ -4,4 +4,4 @@ use Rattle.classlink.proofs.Digits.{IsJoined}
 use Rattle.classlink.proofs.bundle.hex_digits.Given as goal
 
 abbrev pub invariant-loop-line : goal.invariant-loop-line
-invariant-loop-line l = IsJoined (stated_from 1 l.body) (stated_from l.line-iterator.number l.line-iterator.text) (string_bytes l.digits) l.is_empty
+invariant-loop-line l = IsJoined (stated_from 1 l.body) (stated_from l.line-iterator.number l.line-iterator.text) (string_bytes l.digits)

@@ -1,11 +1,14 @@
-use Rattle.std.proofs.Common.{sym}
+use Rattle.std.proofs.Common.{◌∙◌, Ok, refl, sym}
+use Rattle.cl_model.specs.Content.{Stored}
 use Rattle.classlink.specs.Cuts.{part_of}
-use Rattle.classlink.proofs.Storing.{stored_is}
+use Rattle.classlink.proofs.Storing.{stored_as}
 use Rattle.classlink.proofs.bundle.put.Goals as goal
 
-pub returns-in-Ok-put : goal.returns-in-Ok-put
-returns-in-Ok-put c = (
-  record { loader = c.in-Some.loader; name = c.args.section.name; bytes = c.in-Ok.bytes.items },
-  stored_is c.args.config.now.names c.args.source.now (part_of c.args.section) c.in-Some.loader c.in-Ok.bytes.items (sym c.in-Some.ensures) c.in-Ok-put.ensures.absent c.in-Ok.ensures.ok c.in-Ok-put.ensures.fits,
-  c.in-Ok-put.ensures.told,
-)
+pub returns-in-Ok : goal.returns-in-Ok
+returns-in-Ok c =
+    let stored : Stored = record { loader = c.in-Some.loader; name = c.args.section.name; bytes = c.in_ok-bytes.bytes.items } in (
+      stored,
+      stored_as c.args.config.now.names c.args.source.now (part_of c.args.section) c.in-Some.loader (Ok stored) (sym c.in-Some.ensures) (sym c.has.ensures ∙ c.if-has.false)
+          (refl, refl, (c.in_ok-bytes.ensures.ok, c.in-Ok.ensures.fits)),
+      c.in-Ok.ensures.told,
+    )

@@ -3,7 +3,7 @@ use Rattle.std.proofs.Common.{◌≡◌, ◌==◌, Bool, true, false, ◌&&◌, 
 use Rattle.std.proofs.lemmas.Bool.{eqb-true}
 use Rattle.std.proofs.lemmas.List.{nil_from_length}
 use Rattle.cl_classfile.specs.declared.fault.Fault.{Fault}
-use Rattle.cl_classfile.specs.declared.fault.Fault.TheVariants.{BadFlags, BadMember, BadSupertype}
+use Rattle.cl_classfile.specs.declared.fault.Fault.TheVariants.{BadFlags, BadSupertype}
 use Rattle.cl_classfile.specs.Structure.{Structure}
 use Rattle.cl_classfile.specs.Files.{File, file_of, is_public, is_interface}
 use Rattle.cl_classfile.specs.Checking.{◌>>=◌}
@@ -11,7 +11,7 @@ use Rattle.cl_classfile.specs.Reading.{read_of}
 use Rattle.cl_model.specs.Content.{Content}
 use Rattle.cl_model.specs.Chains.{IsPlain, ReadsPlain}
 use Rattle.cl_model.proofs.Runs.{and_is}
-use Rattle.cl_registry.specs.Bounds.{is_public_class, derivable, is_small, drafted}
+use Rattle.cl_registry.specs.Bounds.{is_public_class, derivable}
 use Rattle.cl_registry.specs.Views.{Configured}
 use Rattle.cl_registry.specs.Worlds.{file_read, world_of}
 
@@ -34,12 +34,8 @@ plain_by s f true true p q h = let same : file_of s ≡ f = cc in subst IsPlain 
 plain_by s f true false p q h = absurd cc
 plain_by s f false alone p q h = absurd cc
 
-small_by : (s : Structure) (f : File) (small : Bool) → file_read (if small then derivable s else Err BadMember) ≡ Ok f → IsPlain f
-small_by s f true h = plain_by s f (is_public_class (file_of s)) (length s.interfaces == 0) refl refl h
-small_by s f false h = absurd cc
-
-plain_of : (r : Result Structure Fault) (f : File) → file_read (r >>= drafted) ≡ Ok f → IsPlain f
-plain_of (Ok s) f h = small_by s f (is_small s) h
+plain_of : (r : Result Structure Fault) (f : File) → file_read (r >>= derivable) ≡ Ok f → IsPlain f
+plain_of (Ok s) f h = plain_by s f (is_public_class (file_of s)) (length s.interfaces == 0) refl refl h
 plain_of (Err e) f h = absurd cc
 
 -- whatever a world reads is plain

@@ -2,12 +2,12 @@ ghost use Rattle.std.specs.Prelude.{◌≡◌, ◌<◌, MatchResult};
 ghost use Rattle.std.specs.Option.{option_map};
 ghost use Rattle.cl_classfile.specs.Files.{file_of, has};
 ghost use Rattle.cl_classfile.specs.Checking.{Gives};
-ghost use Rattle.cl_registry.specs.Bounds.{drafted_of, is_public_class, has_small_pool, is_bare, is_small, is_small_entry};
+ghost use Rattle.cl_registry.specs.Bounds.{drafted_of, is_public_class};
 ghost use Rattle.cl_registry.specs.Drafts.{IsDraft, IsWrong, fault_as};
 ghost use Rattle.cl_registry.specs.DraftReads.{ReadAs};
 
 use crate::search::Home;
-use cl_classfile::{ClassFile, Entry, Fault, ReadError};
+use cl_classfile::{ClassFile, Fault, ReadError};
 use cl_model::{Class, Told};
 use cl_names::Name;
 use std::alloc::Global;
@@ -17,8 +17,6 @@ use thiserror::Error;
 
 /// The bits of flags that tell public classes from others, and interfaces (JVMS SE 8, table 4.1-A).
 const PUBLIC: u16 = 0x0001;
-
-const SUPER: u16 = 0x0020;
 
 const INTERFACE: u16 = 0x0200;
 
@@ -100,8 +98,7 @@ impl<T: Told> Draft<T> {
     /// The class that a home's bytes spell (JVMS SE 8, 5.3.5).
     ///
     /// For now a file that is not of a public class is refused as one with bad flags, and one with interfaces as one
-    /// with a bad supertype; before that, until bundles have assembler text, a file with other entries than texts and
-    /// classes, with members, attributes or other flags is refused as one with a bad member.
+    /// with a bad supertype.
     pub fn read(alloc: Global, home: Home<T>) -> Result<Draft<T>, DraftRefused<T>>
         ensures { ReadAs home result }
     {
@@ -165,39 +162,11 @@ fn is_public_class(file: &ClassFile) -> bool
     has(file.flags(), PUBLIC) && !has(file.flags(), INTERFACE)
 }
 
-fn is_small_entry(entry: &Entry) -> bool
-    ensures { result ≡ is_small_entry entry.now }
-{
-    matches!(entry, Entry::Utf8(_) | Entry::Class(_))
-}
-
-fn has_small_pool(file: &ClassFile) -> bool
-    ensures { result ≡ has_small_pool file.now }
-{
-    file.pool().iter().all(|entry| is_small_entry(entry))
-}
-
-fn is_bare(file: &ClassFile) -> bool
-    ensures { result ≡ is_bare file.now }
-{
-    file.fields().is_empty() && file.methods().is_empty() && file.attributes().is_empty()
-}
-
-/// Whether a file is such as the classes of this version are.
-fn is_small(file: &ClassFile) -> bool
-    ensures { result ≡ is_small file.now }
-{
-    has_small_pool(file) && file.flags() == PUBLIC + SUPER && is_bare(file)
-}
-
 /// The file that the bytes spell, where it is one that is derived.
 fn read_derivable(alloc: Global, bytes: &[u8]) -> Result<ClassFile, ReadError>
     ensures { Gives (λ f. f) result (drafted_of bytes.now) }
 {
     let file = cl_classfile::read(alloc, bytes)?;
-    if !is_small(&file) {
-        return Err(ReadError::Fault(Fault::BadMember));
-    }
     if !is_public_class(&file) {
         return Err(ReadError::Fault(Fault::BadFlags));
     }

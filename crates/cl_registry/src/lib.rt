@@ -11,6 +11,8 @@ mod input_tests;
 pub mod laws;
 pub mod memory;
 pub mod registry;
+#[cfg(test)]
+mod registry_tests;
 pub mod report;
 pub mod row;
 pub mod script;

@@ -10,6 +10,8 @@ mod sections;
 mod serve;
 #[cfg(test)]
 mod tests;
+#[cfg(test)]
+mod tests_serve;
 mod words;
 
 use fault::Fault;

@@ -8,12 +8,13 @@ use Rattle.cl_classfile.specs.declared.fault.Fault.TheVariants.{Trailing}
 use Rattle.cl_classfile.specs.declared.fault.ReadError.{ReadError}
 use Rattle.cl_classfile.specs.declared.fault.ReadError.TheVariants as errors
 use Rattle.cl_classfile.specs.Structure.{Structure, spelling, Fits, IsClassFile, Spells}
-use Rattle.cl_classfile.specs.Checking.{Gives, checked_entries, checked_tables, kept_file}
+use Rattle.cl_classfile.specs.Checking.{Gives, checked_entries, checked_tables, kept_file, parts_of}
 use Rattle.cl_classfile.specs.Rows.{entry_traits}
 use Rattle.cl_classfile.specs.Reading.{header_at, structure_at, whole_of, read_of}
 use Rattle.cl_classfile.proofs.Codec.{IsBytes, bind_ok, ok_is}
 use Rattle.cl_classfile.proofs.Spelled.{structure}
 use Rattle.cl_classfile.proofs.Quiet.{is_header, in_header}
+use Rattle.cl_classfile.proofs.Fitting.{pool_told}
 use Rattle.cl_classfile.proofs.Tables.{tables_say, file_says, file_told}
 
 pub ended : {A : Type 0} (b : Bool) (x y : A) → cond b (Ok x) (Err Trailing) ≡ Ok y → (b ≡ true) × (x ≡ y)
@@ -50,6 +51,11 @@ unfolding read_of
 read_again bytes f s =
     let one : whole_of bytes ≡ Ok f = ap whole_of s.spelled ∙ whole_again f s.fits in
     rw one (file_told f s.fits s.kept)
+
+-- parts that the widths can say are judged as their bytes are
+pub parts_as_read : (f : Structure) → Fits f → parts_of f ≡ read_of (spelling f)
+unfolding parts_of read_of
+parts_as_read f h = rw (pool_told f.pool h.pool, whole_again f h) refl
 
 -- a file that passed the tests
 pub is_class_file : (f : Structure) (u v : Unit {0}) → Fits f → checked_entries f.pool 1 f.pool ≡ Ok u → checked_tables (map entry_traits f.pool) f.pool f ≡ Ok v → IsClassFile f

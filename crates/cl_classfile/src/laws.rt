@@ -1,7 +1,8 @@
 //! Laws of the grammar, each the contract of a function that does nothing.
 ghost use Rattle.std.specs.Prelude.{◌≡◌, ◌↔◌, ℕ, List, Ok};
-ghost use Rattle.cl_classfile.specs.Structure.{Structure, Fits, Keeps, Spells};
+ghost use Rattle.cl_classfile.specs.Structure.{Structure, Fits, Keeps, Spells, spelling};
 ghost use Rattle.cl_classfile.specs.Checking.{parts_of};
+ghost use Rattle.cl_classfile.specs.Reading.{read_of};
 
 /// Bytes spell at most one class file.
 pub fn spells_one_file()
@@ -14,8 +15,10 @@ pub fn has_one_spelling()
     ensures one { (f : Structure) (bytes other : List ℕ) → Spells bytes f → Spells other f → bytes ≡ other }
 {}
 
-/// The tests of parts answer them as a class file exactly where some bytes spell them.
+/// Parts pass their tests exactly where some bytes spell them. Where their widths can say them, they have the fault that
+/// their bytes have.
 pub fn parts_are_spelled()
     ensures same { (f g : Structure) → parts_of f ≡ Ok g → f ≡ g }
     ensures spelled { (f : Structure) → (parts_of f ≡ Ok f) ↔ ((bytes : List ℕ) × Spells bytes f) }
+    ensures as_read { (f : Structure) → Fits f → parts_of f ≡ read_of (spelling f) }
 {}

@@ -1,6 +1,7 @@
 use Rattle.std.proofs.Common.{refl}
 use Rattle.cl_classfile.specs.Structure.{spelling}
 use Rattle.cl_classfile.proofs.Tables.{parts_say, parts_told}
+use Rattle.cl_classfile.proofs.Exact.{parts_as_read}
 use Rattle.cl_classfile.proofs.laws.parts_are_spelled.Goals as goal
 
 pub returns-clause-same : goal.returns-clause-same
@@ -11,3 +12,6 @@ returns-clause-spelled c = λ f. (
   λ h. let is = (parts_say f f h).1 in (spelling f, record { fits = is.fits; kept = is.kept; spelled = refl }),
   λ s. parts_told f s.1.fits s.1.kept,
 )
+
+pub returns-clause-as_read : goal.returns-clause-as_read
+returns-clause-as_read c = parts_as_read

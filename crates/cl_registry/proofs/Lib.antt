@@ -1,4 +1,5 @@
 pub mod Bounds
+pub mod Drafting
 pub mod Places
 pub mod Contents
 pub mod Requests

@@ -1,10 +1,11 @@
-ghost use Rattle.std.specs.Prelude.{◌≡◌, ◌<◌, MatchResult};
+ghost use Rattle.std.specs.Prelude.{◌≡◌, ◌<◌, MatchResult, Ok, Some};
 ghost use Rattle.std.specs.Option.{option_map};
 ghost use Rattle.cl_classfile.specs.Files.{file_of, has};
 ghost use Rattle.cl_classfile.specs.Checking.{Gives};
 ghost use Rattle.cl_registry.specs.Bounds.{drafted_of, is_public_class};
 ghost use Rattle.cl_registry.specs.Drafts.{IsDraft, IsWrong, fault_as};
 ghost use Rattle.cl_registry.specs.DraftReads.{ReadAs};
+ghost use Rattle.cl_registry.specs.Told.{IsTold};
 
 use crate::search::Home;
 use cl_classfile::{ClassFile, Fault, ReadError};
@@ -94,6 +95,30 @@ pub enum DraftRefused<T: Told> {
     Unreadable(Unreadable<T>),
 }
 
+/// The draft of a home whose bytes spell this file of its class.
+fn draft_of<T: Told>(
+    alloc: Global,
+    home: Home<T>,
+    file: ClassFile,
+) -> Result<Draft<T>, DraftRefused<T>>
+    requires told { IsTold T.told home.place home.name (Some home.bytes) }
+    requires file { drafted_of home.bytes ≡ Ok file }
+    requires named { (file_of file).name ≡ home.name }
+    ensures { ReadAs home result }
+{
+    let file = match Arc::new(alloc, file) {
+        Ok(file) => file,
+        Err(_) => return Err(DraftRefused::Memory(home)),
+    };
+    let loader = home.place();
+    let name = home.into_name();
+    Ok(Draft {
+        class: Class { name, loader },
+        file,
+        of: PhantomData,
+    })
+}
+
 impl<T: Told> Draft<T> {
     /// The class that a home's bytes spell (JVMS SE 8, 5.3.5).
     ///
@@ -105,22 +130,10 @@ impl<T: Told> Draft<T> {
         match read_derivable(alloc, home.bytes()) {
             Err(ReadError::Memory) => Err(DraftRefused::Memory(home)),
             Err(ReadError::Fault(fault)) => Err(refuse(home, fault_of(fault))),
-            Ok(file) => {
-                if file.this_name() != home.name() {
-                    return Err(refuse(home, DraftFault::OtherName));
-                }
-                let file = match Arc::new(alloc, file) {
-                    Ok(file) => file,
-                    Err(_) => return Err(DraftRefused::Memory(home)),
-                };
-                let loader = home.place();
-                let name = home.into_name();
-                Ok(Draft {
-                    class: Class { name, loader },
-                    file,
-                    of: PhantomData,
-                })
+            Ok(file) if file.this_name() != home.name() => {
+                Err(refuse(home, DraftFault::OtherName))
             }
+            Ok(file) => draft_of(alloc, home, file),
         }
     }
 

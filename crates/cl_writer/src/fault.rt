@@ -4,27 +4,41 @@ ghost use Rattle.std.specs.Prelude.{◌≡◌};
 
 use cl_classfile::Fault;
 use std::alloc::{AllocError, AllocFailed};
-use thiserror::Error;
+use std::error::Error;
+use std::fmt::{self, Display, Formatter};
 
 /// Why a class file could not be written: only for want of memory.
-#[derive(Clone, Copy, Debug, PartialEq, Eq, Error)]
+#[derive(Clone, Copy, Debug, PartialEq, Eq, thiserror::Error)]
 pub enum WriteFault {
     #[error("A0 Memory")]
     Memory,
 }
 
 /// Why a text could not be assembled. Lines count from 1, skipped ones included.
-#[derive(Clone, Copy, Debug, PartialEq, Eq, Error)]
+#[derive(Clone, Copy, Debug, PartialEq, Eq)]
 pub enum AssembleFault {
-    #[error("A0 Memory")]
     Memory,
     /// A line that is none of the assembler's, or 0 where all lines are skipped.
-    #[error("A1 BadLine {0}")]
     BadLine(usize),
     /// The lines give no class file.
-    #[error("A2 Invalid {0}")]
     Invalid(Fault),
 }
+
+impl Display for AssembleFault {
+    ghost use Rattle.cl_writer.specs.Faults.{assemble_text};
+
+    ghost output = { assemble_text };
+
+    fn fmt<W: fmt::Write>(&self, f: &mut Formatter<W>) -> fmt::Result {
+        match self {
+            AssembleFault::Memory => write!(f, "A0 Memory"),
+            AssembleFault::BadLine(line) => write!(f, "A1 BadLine {line}"),
+            AssembleFault::Invalid(fault) => write!(f, "A2 Invalid {fault}"),
+        }
+    }
+}
+
+impl Error for AssembleFault {}
 
 impl From<AllocError> for WriteFault {
     ghost use Rattle.cl_writer.specs.declared.fault.WriteFault.TheVariants.{Memory};

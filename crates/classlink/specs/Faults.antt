@@ -1,6 +1,7 @@
 -- Which faults a step of the program may have, and their texts.
-use Rattle.std.specs.Prelude.{⊤, ℕ, List, ◌++◌, codes, Option, Some, None}
-use Rattle.std.specs.Fmt.{decimal}
+use Rattle.std.specs.Prelude.{⊤, ℕ, List, ◌++◌, codes, string_bytes, Option, Some, None}
+use Rattle.std.specs.Fmt.{decimal, option_append}
+use Rattle.cl_writer.specs.Faults.{assemble_text}
 use Rattle.cl_registry.specs.declared.script.ScriptFault.{ScriptFault}
 use Rattle.cl_registry.specs.declared.script.ScriptFault.TheVariants as scripts
 use Rattle.classlink.specs.declared.fault.Fault.{Fault}
@@ -30,14 +31,14 @@ abbrev pub script_fault : ScriptFault → Fault
 script_fault scripts.Memory = Memory
 script_fault fault = Script fault
 
--- the text of a fault; of what a class's assembler text, a script or its service is refused with, the text is not said here
+-- the text of a fault; of what a class file, a script or its service is refused with, the text is not said here
 abbrev pub fault_text : Fault → Option (List ℕ)
 fault_text Input = Some (codes "cannot read standard input")
 fault_text Write = Some (codes "cannot write")
 fault_text TooLarge = Some (codes "input too large")
 fault_text NotUtf8 = Some (codes "input is not UTF-8")
 fault_text (Bundle n) = Some (codes "bundle line " ++ decimal n)
-fault_text (Class class fault) = None
+fault_text (Class class fault) = option_append (Some (codes "class " ++ string_bytes class ++ codes ": ")) (assemble_text fault)
 fault_text (Script fault) = None
 fault_text (Serve fault) = None
 fault_text Memory = Some (codes "out of memory")

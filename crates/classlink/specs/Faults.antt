@@ -1,10 +1,12 @@
 -- Which faults a step of the program may have, and their texts.
-use Rattle.std.specs.Prelude.{⊤, ℕ, List, ◌++◌, codes, Option, Some, None}
+use Rattle.std.specs.Prelude.{⊤, ℕ, List, ◌++◌, codes, Option, Some, None, string_bytes}
 use Rattle.std.specs.Fmt.{decimal}
 use Rattle.cl_registry.specs.declared.script.ScriptFault.{ScriptFault}
 use Rattle.cl_registry.specs.declared.script.ScriptFault.TheVariants as scripts
 use Rattle.classlink.specs.declared.fault.Fault.{Fault}
-use Rattle.classlink.specs.declared.fault.Fault.TheVariants.{Input, Write, TooLarge, NotUtf8, Bundle, Script, Serve, Memory}
+use Rattle.classlink.specs.declared.fault.Fault.TheVariants.{Input, Write, TooLarge, NotUtf8, Bundle, Script, Serve, Path, File, Words, Memory}
+use Rattle.classlink.specs.declared.input.InputFault.{InputFault}
+use Rattle.classlink.specs.declared.input.InputFault.TheVariants as input
 use Rattle.classlink.specs.declared.print.PrintFault.{PrintFault}
 use Rattle.classlink.specs.declared.print.PrintFault.TheVariants as print
 
@@ -20,6 +22,12 @@ abbrev pub IsInputFault : Fault → Type 0
 IsInputFault NotUtf8 = ⊤
 IsInputFault fault = IsReadFault fault
 
+-- why standard input was not read is what ends the program
+abbrev pub input_fault : InputFault → Fault
+input_fault input.Unread = Input
+input_fault input.TooLarge = TooLarge
+input_fault input.Memory = Memory
+
 -- what refuses a report is what ends the program
 abbrev pub print_fault : PrintFault → Fault
 print_fault print.Write = Write
@@ -30,7 +38,7 @@ abbrev pub script_fault : ScriptFault → Fault
 script_fault scripts.Memory = Memory
 script_fault fault = Script fault
 
--- the text of a fault; of what a script or its service is refused with, the text is not said here
+-- the text of a fault; of what a script, its service or a class file is refused with, the text is not said here
 abbrev pub fault_text : Fault → Option (List ℕ)
 fault_text Input = Some (codes "cannot read standard input")
 fault_text Write = Some (codes "cannot write")
@@ -39,4 +47,7 @@ fault_text NotUtf8 = Some (codes "input is not UTF-8")
 fault_text (Bundle n) = Some (codes "bundle line " ++ decimal n)
 fault_text (Script fault) = None
 fault_text (Serve fault) = None
+fault_text (Path path) = Some (codes "cannot read " ++ string_bytes path)
+fault_text (File fault) = None
+fault_text Words = Some (codes "words are not UTF-8")
 fault_text Memory = Some (codes "out of memory")

@@ -8,3 +8,4 @@ pub mod Sections
 pub mod Serving
 pub mod Counting
 pub mod Headline
+pub mod Readings

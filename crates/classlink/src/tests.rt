@@ -261,6 +261,7 @@ fn words_are_refused_or_helped(rt: HostRuntime) -> Result<(), Fail> {
 }
 
 /// One file, and nothing else, of which everything is known.
+#[derive(Drop)]
 struct OneFile<'a> {
     alloc: Global,
     path: &'a str,

@@ -1,21 +1,27 @@
--- What `clap` makes of the words that ask for a bundle's report.
-use Rattle.std.proofs.Common.{◌≡◌, ◌∙◌, Bool, true, false, List, [], ◌∷◌, map, codes, Option, Some, None, find, option_map, option_and_then, slice_get, Result, Ok, Err, IsErrAnd, IfErr, MatchResult, inl, inr, refl, sym, ap, subst}
-use Rattle.std.specs.Str.{bytes_eq}
+-- What `clap` makes of the words that ask for a bundle's report or for a class file's lines.
+use Rattle.std.proofs.Common.{◌≡◌, ◌∙◌, ◌==◌, ℕ, Bool, true, false, not, List, [], ◌∷◌, codes, drop, Option, Some, None, option_map, option_and_then, unwrap_or, Result, Ok, Err, IsErrAnd, IfErr, MatchResult, inl, inr, refl, sym, ap, subst}
 use Rattle.std.specs.Borrow.{Bor}
-use Rattle.clap.specs.Facts.{Entry}
+use Rattle.std.specs.Prelude.{Box}
+use Rattle.std.specs.Box.{box_value}
+use Rattle.std.specs.Str.{bytes_eq}
 use Rattle.clap.specs.Faults.{built_fault}
-use Rattle.clap.specs.Matches.{one_text}
+use Rattle.clap.specs.Lexer.{long_of, short_of}
+use Rattle.clap.specs.Matches.{first_value, one_text}
 use Rattle.clap.specs.Simple.{built, entered, names_of}
-use Rattle.clap.specs.Values.{bool_text, read_as}
-use Rattle.clap.specs.Walk.{nothing_held, row_of, row_text, stop_after}
-use Rattle.clap.specs.Words.{App, FailsBy, HasMatchesOf, Row, Text, fault_of, is_simple, is_simple_and_free, HasKind, Kinds, kind_of, one_of, rows_of, subcommand_of}
+use Rattle.clap.specs.Values.{bool_text}
+use Rattle.clap.specs.Walk.{nothing_held, stop_after}
+use Rattle.clap.specs.Words.{App, FailsBy, HasMatchesOf, Row, Text, fault_of, first_of, is_simple, is_simple_and_free, HasKind, Kinds, kind_of, one_of, rows_of, subcommand_name_of, subcommand_of, subcommand_rows, subcommand_rows_of}
 use Rattle.clap.specs.declared.error.Error.{Error}
 use Rattle.clap.specs.declared.error.kind.ErrorKind.TheVariants.{OutOfMemory}
 use Rattle.clap.specs.declared.parser.matches.ArgMatches.{ArgMatches}
+use Rattle.clap.specs.declared.parser.matches.ArgMatches.TheViews.{out-ArgMatches, out-SubCommand}
 use Rattle.clap.specs.declared.parser.matches.Found.{Found}
-use Rattle.clap.specs.declared.parser.matches.MatchedArg.{MatchedArg}
+use Rattle.clap.specs.declared.parser.matches.SubCommand.{SubCommand}
 use Rattle.clap.proofs.OnLiterals.{clap_on_literals}
-use Rattle.classlink.specs.CommandLine.{AskFor, HasFlag, SaysFlag, program, words_for, wrong_words}
+use Rattle.clap.proofs.WalkLemmas.{first_value-rows, one_text-rows}
+use Rattle.classlink.specs.CommandLine.{AskFor, AskToRead, HasFlag, IsAsked, IsBundle, IsRead, IsToRead, file_of, is_plain_word, program, words_for, wrong_words}
+use Rattle.classlink.specs.declared.words.Asked.{Asked}
+use Rattle.classlink.specs.declared.words.Asked.TheVariants.{Bundle, Read}
 
 -- ---- the program's command on its words
 
@@ -52,39 +58,136 @@ flag_at true = refl
 flag_of_words : (words : List Text) (answers : Bool) → AskFor words answers → HasFlag (subcommand_of program words) answers
 flag_of_words words answers e = ap (λ (ws : List Text). option_and_then (λ p. one_of (codes "answers") p.1) (entered_at ws)) e ∙ flag_at answers
 
-pub flag_in_words : (a : App) (words : List Text) (m : ArgMatches) (answers : Bool) → a ≡ program → HasMatchesOf a words m → AskFor words answers → SaysFlag m answers
-flag_in_words a words m answers is matches ask =
+-- ---- a path among the words
+
+abbrev Passes : List Text → Type 0
+Passes words = built_fault (built program) nothing_held words ≡ []
+
+abbrev Finds : Text → List Text → Type 0
+Finds path words = IsToRead (entered_at words) × (file_of (entered_at words) ≡ path)
+
+abbrev to_read : Text → List Text
+to_read path = codes "read" ∷ path ∷ []
+
+abbrev to_read_behind : Text → List Text
+to_read_behind path = codes "read" ∷ codes "--" ∷ path ∷ []
+
+not_true : (b : Bool) → not b ≡ true → b ≡ false
+not_true true e = cc
+not_true false e = refl
+
+no_long : (path : Text) → is_plain_word path ≡ true → long_of path ≡ None
+no_long [] p = refl
+no_long (c ∷ []) p = one (c == 45) refl
+  where
+    one : (b : Bool) → (c == 45) ≡ b → long_of (c ∷ []) ≡ None
+    one true t = rw t refl
+    one false t = rw t refl
+no_long (c ∷ d ∷ rest) p = let t = not_true (c == 45) p in rw t refl
+
+no_short : (path : Text) → is_plain_word path ≡ true → short_of path ≡ None
+no_short [] p = refl
+no_short (c ∷ []) p = one (c == 45) refl
+  where
+    one : (b : Bool) → (c == 45) ≡ b → short_of (c ∷ []) ≡ None
+    one true t = rw t refl
+    one false t = rw t refl
+no_short (c ∷ d ∷ rest) p = let t = not_true (c == 45) p in rw t refl
+
+no_dashes : (path : Text) → is_plain_word path ≡ true → bytes_eq path (45 ∷ 45 ∷ []) ≡ false
+no_dashes [] p = refl
+no_dashes (c ∷ []) p = one (c == 45) refl
+  where
+    one : (b : Bool) → (c == 45) ≡ b → bytes_eq (c ∷ []) (45 ∷ 45 ∷ []) ≡ false
+    one true t = rw t refl
+    one false t = rw t refl
+no_dashes (c ∷ d ∷ rest) p = let t = not_true (c == 45) p in rw t refl
+
+word_passes : (path : Text) → bytes_eq path (45 ∷ 45 ∷ []) ≡ false → long_of path ≡ None → short_of path ≡ None → Passes (to_read path)
+unfolding clap_on_literals
+word_passes path p q r = rw (p, q, r) refl
+
+word_found : (path : Text) → bytes_eq path (45 ∷ 45 ∷ []) ≡ false → long_of path ≡ None → short_of path ≡ None → Finds path (to_read path)
+unfolding clap_on_literals
+word_found path p q r = rw (p, q, r) (refl, refl)
+
+behind_passes : (path : Text) → Passes (to_read_behind path)
+unfolding clap_on_literals
+behind_passes path = refl
+
+behind_found : (path : Text) → Finds path (to_read_behind path)
+unfolding clap_on_literals
+behind_found path = (refl, refl)
+
+plain_passes : (path : Text) → is_plain_word path ≡ true → Passes (to_read path)
+plain_passes path p = word_passes path (no_dashes path p) (no_long path p) (no_short path p)
+
+plain_found : (path : Text) → is_plain_word path ≡ true → Finds path (to_read path)
+plain_found path p = word_found path (no_dashes path p) (no_long path p) (no_short path p)
+
+pub takes_path : (words : List Text) (path : Text) → AskToRead words path → wrong_words words ≡ []
+unfolding wrong_words
+takes_path words path (inl p) = ap (built_fault (built program) nothing_held) p.0 ∙ plain_passes path p.1
+takes_path words path (inr p) = ap (built_fault (built program) nothing_held) p ∙ behind_passes path
+
+found_path : (words : List Text) (path : Text) → AskToRead words path → Finds path (drop 1 words)
+found_path words path (inl p) = subst (Finds path) (sym p.0) (plain_found path p.1)
+found_path words path (inr p) = subst (Finds path) (sym p) (behind_found path)
+
+-- what is asked for by these words
+
+bundle_entered : (answers : Bool) → IsToRead (entered_at (words_for answers)) → ⊥
+unfolding clap_on_literals
+bundle_entered false = λ e. cc
+bundle_entered true = λ e. cc
+
+pub bundle_asked : (words : List Text) (answers : Bool) (a : Asked) → AskFor words answers → IsAsked (subcommand_of program words) a → IsBundle answers a
+bundle_asked words answers (Bundle b) ask is = is.1 answers (flag_of_words words answers ask)
+bundle_asked words answers (Read path) ask is = absurd (bundle_entered answers (subst (λ (ws : List Text). IsToRead (entered_at ws)) ask is.0))
+
+pub path_asked : (words : List Text) (path : Text) (a : Asked) → AskToRead words path → IsAsked (subcommand_of program words) a → IsRead path a
+path_asked words path (Bundle b) ask is = absurd (is.0 (found_path words path ask).0)
+path_asked words path (Read at) ask is = sym is.1 ∙ (found_path words path ask).1
+
+-- what the matches ask for is what the words ask for
+pub asked_by_words : (a : App) (words : List Text) (m : ArgMatches) (asked : Asked) → a ≡ program → HasMatchesOf a words m → IsAsked (subcommand_rows_of m) asked → IsAsked (subcommand_of program words) asked
+asked_by_words a words m asked is matches h =
     let found = (matches (ap is_simple is ∙ is_simple_program)).1 in
-    subst (λ (o : Option (Text × List Row)). HasFlag o answers) (ap (λ (b : App). subcommand_of b words) (sym is) ∙ sym found) (flag_of_words words answers ask)
+    subst (λ (o : Option (Text × List Row)). IsAsked o asked) (found ∙ ap (λ (b : App). subcommand_of b words) is) h
 
--- ---- an argument's text, by its row
-
-first_text : (how : MatchedArg) (vs : List (Bor Text)) → option_map (read_as how.reading) (slice_get (map (λ s. s.now) vs) 0) ≡ option_map (λ s. read_as how.reading s.now) (slice_get vs 0)
-first_text how [] = refl
-first_text how (v ∷ vs) = refl
-
-abbrev text_of : MatchedArg → Option Text
-text_of a = option_map (λ s. read_as a.reading s.now) (slice_get a.vals.items 0)
-
-abbrev SameText : Text → List Entry → Type 0
-SameText id es = option_and_then row_text (find (λ r. bytes_eq r.id id) (map row_of es)) ≡ option_and_then text_of (option_map (λ e. e.1) (find (λ e. bytes_eq e.0.now id) es))
-
-first_row : (id : Text) (e : Entry) (es : List Entry) (b : Bool) → bytes_eq e.0.now id ≡ b → SameText id es → SameText id (e ∷ es)
-first_row id e es true t k = rw t (first_text e.1 e.1.vals.items)
-first_row id e es false t k = rw t k
-
-by_rows : (id : Text) (es : List Entry) → SameText id es
-by_rows id [] = refl
-by_rows id (e ∷ es) = first_row id e es (bytes_eq e.0.now id) refl (by_rows id es)
-
-one_row : (f : Found) (id : Text) → one_of id (rows_of f) ≡ one_text f id
-one_row f id = by_rows id f.entries.items
+-- ---- what is read of the matches
 
 pub flag_text : (f : Found) (answers : Bool) (o : Option (Text × List Row)) → Some (rows_of f) ≡ option_map (λ p. p.1) o → HasFlag o answers → one_text f (codes "answers") ≡ Some (bool_text answers)
 flag_text f answers None e h = absurd cc
-flag_text f answers (Some p) e h = sym (one_row f (codes "answers")) ∙ ap (one_of (codes "answers")) (same e) ∙ h
+flag_text f answers (Some p) e h = one_text-rows f (codes "answers") ∙ ap (one_of (codes "answers")) (same e) ∙ h
   where
     same : Some (rows_of f) ≡ Some p.1 → rows_of f ≡ p.1
+    same e = cc
+
+name_of : {Z : Type 0} (o : Option (Box SubCommand Z)) → option_map (λ b. (out-SubCommand (box_value b)).name.now) o ≡ option_map (λ p. p.0) (subcommand_rows o)
+name_of None = refl
+name_of (Some b) = refl
+
+pub is_to_read : (m : ArgMatches) → subcommand_name_of m ≡ Some (codes "read") → IsToRead (subcommand_rows_of m)
+is_to_read m e = sym (name_of (out-ArgMatches m).subcommand) ∙ e
+
+false_true : false ≡ true → ⊥
+false_true e = cc
+
+pub is_other : (m : ArgMatches) → (subcommand_name_of m ≡ Some (codes "read") → false ≡ true) → IsToRead (subcommand_rows_of m) → ⊥
+is_other m other e = false_true (other (name_of (out-ArgMatches m).subcommand ∙ e))
+
+path_text : (read : Option (Bor Text)) (or : Bor Text) → or.now ≡ [] → unwrap_or (option_map (λ s. s.now) read) [] ≡ (unwrap_or read or).now
+path_text None or e = sym e
+path_text (Some s) or e = refl
+
+pub file_read : (o : Option (Text × List Row)) (f : Found) (read : Option (Bor Text)) (or given : Bor Text) → option_map (λ p. p.1) o ≡ Some (rows_of f) → option_map (λ s. s.now) read ≡ first_value f (codes "FILE")
+    → or.now ≡ [] → given ≡ unwrap_or read or → file_of o ≡ given.now
+file_read None f read or given e h n g = absurd cc
+file_read (Some p) f read or given e h n g =
+    ap (λ (o : Option Text). unwrap_or o []) (ap (first_of (codes "FILE")) (same e) ∙ sym (first_value-rows f (codes "FILE")) ∙ sym h) ∙ path_text read or n ∙ ap (λ (b : Bor Text). b.now) (sym g)
+  where
+    same : Some p.1 ≡ Some (rows_of f) → p.1 ≡ rows_of f
     same e = cc
 
 pub flag_read : (f : Found) (read : Bool) (answers : Bool) → (one_text f (codes "answers") ≡ Some (codes "true") → read ≡ true) → (one_text f (codes "answers") ≡ Some (codes "false") → read ≡ false)

@@ -2,6 +2,7 @@ pub mod Cutting
 pub mod Digits
 pub mod Flags
 pub mod Headings
+pub mod Listing
 pub mod Refusals
 pub mod Running
 pub mod Serving

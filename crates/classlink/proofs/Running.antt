@@ -120,6 +120,7 @@ as_memory input only old new (Script wrong) w = inl (w.0, tt)
 as_memory input only old new (Serve wrong) w = inl (w.0, tt)
 as_memory input only old new Write w = inr w
 as_memory input only old new Memory w = w
+as_memory input only old new fault w = absurd w
 
 pub run_done : (input : Option (List ℕ)) (only : Bool) (old_out new_out err : Option (List ℕ)) → RunOf input only old_out new_out (Ok tt) → IsRun input only old_out new_out err err 0
 run_done input only old_out new_out err ran = record { outcome = Ok tt; ran = ran; told = (refl, appends_nothing err) }

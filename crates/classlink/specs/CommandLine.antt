@@ -1,11 +1,14 @@
 -- The words that the program takes, as `clap` sees its command.
-use Rattle.std.specs.Prelude.{◌≡◌, ◌⊎◌, ◌≤◌, ℕ, Bool, true, false, List, [], ◌∷◌, codes, Option, Some, option_and_then, drop}
+use Rattle.std.specs.Prelude.{◌≡◌, ◌⊎◌, ◌≤◌, ◌==◌, ℕ, Bool, true, false, not, List, [], ◌∷◌, codes, Option, Some, option_map, option_and_then, unwrap_or, drop}
 use Rattle.clap.specs.Values.{bool_text}
-use Rattle.clap.specs.Words.{App, IsAmong, Kinds, Row, Rule, Text, fault_of, new_app, new_rule, one_of, subcommand_rows_of, with_rule, with_subcommand}
+use Rattle.clap.specs.Words.{App, IsAmong, Kinds, Row, Rule, Text, app_of, fault_of, first_of, new_app, new_rule, one_of, with_rule, with_subcommand}
 use Rattle.clap.specs.declared.error.kind.ErrorKind.{ErrorKind}
 use Rattle.clap.specs.declared.error.kind.ErrorKind.TheVariants as kinds
-use Rattle.clap.specs.declared.parser.matches.ArgMatches.{ArgMatches}
 use Rattle.clap.specs.declared.builder.ArgAction.TheVariants.{SetTrue}
+use Rattle.clap.specs.declared.builder.command.Command.{Command}
+use Rattle.clap.specs.declared.builder.command.Command.TheViews.{out-Command}
+use Rattle.classlink.specs.declared.words.Asked.{Asked}
+use Rattle.classlink.specs.declared.words.Asked.TheVariants.{Bundle, Read}
 
 -- the flag `--answers`
 abbrev pub answers : Rule
@@ -14,6 +17,14 @@ answers = record (new_rule (codes "answers")) { long = Some (codes "answers"); a
 -- `bundle`, with its flag
 abbrev pub bundle : App
 bundle = with_rule (new_app (codes "bundle")) answers
+
+-- the file that `read` wants
+abbrev pub file : Rule
+file = record (new_rule (codes "FILE")) { required = true }
+
+-- `read`, with its file
+abbrev pub reading : App
+reading = with_rule (new_app (codes "read")) file
 
 -- one of its subcommands is wanted
 abbrev pub with_required : App → App
@@ -24,7 +35,11 @@ wanting = with_required (new_app (codes "classlink"))
 
 -- the program
 abbrev pub program : App
-program = with_subcommand wanting bundle.top
+program = with_subcommand (with_subcommand wanting bundle.top) reading.top
+
+-- a command is this one, for what is built on it
+abbrev pub IsCommand : App → Command → Type 0
+IsCommand a c = (app_of c ≡ a) × ((out-Command c).has_globals ≡ false)
 
 -- what `clap` finds wrong with the words, of which the first is the program's name: nothing, or the kinds of error that it may give
 unfoldable pub wrong_words : List (List ℕ) → Kinds
@@ -39,12 +54,45 @@ words_for true = codes "bundle" ∷ codes "--answers" ∷ []
 abbrev pub AskFor : List (List ℕ) → Bool → Type 0
 AskFor words only_answers = drop 1 words ≡ words_for only_answers
 
--- the flag that a subcommand's matches have is `true` or `false`
+-- a word that is no flag: it does not begin with a hyphen, or is the hyphen alone
+abbrev pub is_plain_word : List ℕ → Bool
+is_plain_word [] = true
+is_plain_word (c ∷ []) = true
+is_plain_word (c ∷ d ∷ rest) = not (c == 45)
+
+-- the words, of which the first is the program's name, ask for the lines of the file at a path, which is plain or stands behind `--`
+abbrev pub AskToRead : List (List ℕ) → List ℕ → Type 0
+AskToRead words path =
+    ((drop 1 words ≡ codes "read" ∷ path ∷ []) × (is_plain_word path ≡ true)) ⊎ (drop 1 words ≡ codes "read" ∷ codes "--" ∷ path ∷ [])
+
+-- ---- what is asked for, by the subcommand that `clap` finds and what it finds for its arguments
+
+-- the subcommand is `read`
+abbrev pub IsToRead : Option (Text × List Row) → Type 0
+IsToRead entered = option_map (λ p. p.0) entered ≡ Some (codes "read")
+
+-- its file
+abbrev pub file_of : Option (Text × List Row) → Text
+file_of entered = unwrap_or (option_and_then (λ p. first_of (codes "FILE") p.1) entered) []
+
+-- the flag `--answers` is `true` or `false`
 abbrev pub HasFlag : Option (Text × List Row) → Bool → Type 0
 HasFlag entered b = option_and_then (λ p. one_of (codes "answers") p.1) entered ≡ Some (bool_text b)
 
-abbrev pub SaysFlag : ArgMatches → Bool → Type 0
-SaysFlag m b = HasFlag (subcommand_rows_of m) b
+-- what is asked for is what `clap` finds
+abbrev pub IsAsked : Option (Text × List Row) → Asked → Type 0
+IsAsked entered (Bundle answers) = (¬ IsToRead entered) × ((b : Bool) → HasFlag entered b → answers ≡ b)
+IsAsked entered (Read path) = IsToRead entered × (file_of entered ≡ path.now)
+
+-- a bundle's report is asked for, or its answers alone
+abbrev pub IsBundle : Bool → Asked → Type 0
+IsBundle only_answers (Bundle answers) = answers ≡ only_answers
+IsBundle only_answers (Read path) = ⊥
+
+-- the lines of the file at a path are asked for
+abbrev pub IsRead : List ℕ → Asked → Type 0
+IsRead at (Bundle answers) = ⊥
+IsRead at (Read path) = path.now ≡ at
 
 -- the exit status where a parse of the words fails: help may be written, or not
 abbrev pub StatusOf : ErrorKind → ℕ → Type 0

@@ -5,7 +5,9 @@ use Rattle.cl_writer.specs.Faults.{assemble_text}
 use Rattle.cl_registry.specs.declared.script.ScriptFault.{ScriptFault}
 use Rattle.cl_registry.specs.declared.script.ScriptFault.TheVariants as scripts
 use Rattle.classlink.specs.declared.fault.Fault.{Fault}
-use Rattle.classlink.specs.declared.fault.Fault.TheVariants.{Input, Write, TooLarge, NotUtf8, Bundle, Class, Script, Serve, Memory}
+use Rattle.classlink.specs.declared.fault.Fault.TheVariants.{Input, Write, TooLarge, NotUtf8, Bundle, Class, Script, Serve, Path, File, Words, Memory}
+use Rattle.classlink.specs.declared.input.InputFault.{InputFault}
+use Rattle.classlink.specs.declared.input.InputFault.TheVariants as input
 use Rattle.classlink.specs.declared.print.PrintFault.{PrintFault}
 use Rattle.classlink.specs.declared.print.PrintFault.TheVariants as print
 
@@ -20,6 +22,12 @@ IsReadFault _ = ⊥
 abbrev pub IsInputFault : Fault → Type 0
 IsInputFault NotUtf8 = ⊤
 IsInputFault fault = IsReadFault fault
+
+-- why standard input was not read is what ends the program
+abbrev pub input_fault : InputFault → Fault
+input_fault input.Unread = Input
+input_fault input.TooLarge = TooLarge
+input_fault input.Memory = Memory
 
 -- what refuses a report is what ends the program
 abbrev pub print_fault : PrintFault → Fault
@@ -41,4 +49,7 @@ fault_text (Bundle n) = Some (codes "bundle line " ++ decimal n)
 fault_text (Class class fault) = option_append (Some (codes "class " ++ string_bytes class ++ codes ": ")) (assemble_text fault)
 fault_text (Script fault) = None
 fault_text (Serve fault) = None
+fault_text (Path path) = Some (codes "cannot read " ++ string_bytes path)
+fault_text (File fault) = None
+fault_text Words = Some (codes "words are not UTF-8")
 fault_text Memory = Some (codes "out of memory")

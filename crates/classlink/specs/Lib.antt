@@ -9,3 +9,4 @@ pub mod Sections
 pub mod Serving
 pub mod Counting
 pub mod Headline
+pub mod Readings

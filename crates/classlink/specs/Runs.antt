@@ -63,6 +63,7 @@ EndsBy input only_answers old new (Script wrong) = WritesNothing old new (IfSome
 EndsBy input only_answers old new (Serve wrong) = WritesNothing old new ⊤
 EndsBy input only_answers old new Write = BreaksOff input only_answers old new
 EndsBy input only_answers old new Memory = WritesNothing old new ⊤ ⊎ BreaksOff input only_answers old new
+EndsBy input only_answers old new _ = ⊥
 
 -- the lines of a report are written
 pub record Prints (input : Option (List ℕ)) (only_answers : Bool) (old new : Option (List ℕ)) : Type 0 where

@@ -1,5 +1,6 @@
 ghost use Rattle.std.specs.Prelude.{◌≡◌};
 
+use crate::input::InputFault;
 use crate::print::PrintFault;
 use crate::serve::ServeFault;
 use cl_registry::ScriptFault;
@@ -21,6 +22,12 @@ pub enum Fault {
     Class { class: String, fault: AssembleFault },
     Script(ScriptFault),
     Serve(ServeFault),
+    /// The file at this path cannot be read.
+    Path(String),
+    /// What is wrong with a class file.
+    File(cl_classfile::Fault),
+    /// The program's own words are not UTF-8.
+    Words,
     Memory,
 }
 
@@ -39,6 +46,9 @@ impl Display for Fault {
             Fault::Class { class, fault } => write!(f, "class {class}: {fault}"),
             Fault::Script(fault) => write!(f, "script: {fault}"),
             Fault::Serve(fault) => write!(f, "{fault}"),
+            Fault::Path(path) => write!(f, "cannot read {path}"),
+            Fault::File(fault) => write!(f, "{fault}"),
+            Fault::Words => write!(f, "words are not UTF-8"),
             Fault::Memory => write!(f, "out of memory"),
         }
     }
@@ -63,6 +73,20 @@ impl<T: Drop> From<AllocFailed<T>> for Fault {
 
     fn from(_error: AllocFailed<T>) -> Fault {
         Fault::Memory
+    }
+}
+
+impl From<InputFault> for Fault {
+    ghost use Rattle.classlink.specs.Faults.{input_fault};
+
+    ghost from_gives = { λ fault e. e ≡ input_fault fault };
+
+    fn from(fault: InputFault) -> Fault {
+        match fault {
+            InputFault::Unread => Fault::Input,
+            InputFault::TooLarge => Fault::TooLarge,
+            InputFault::Memory => Fault::Memory,
+        }
     }
 }
 

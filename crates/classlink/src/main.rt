@@ -5,6 +5,7 @@ mod bundle;
 mod fault;
 mod input;
 mod print;
+mod reading;
 mod run;
 mod sections;
 mod serve;
@@ -15,12 +16,12 @@ mod tests_serve;
 mod words;
 
 use fault::Fault;
-use run::{fail, run_over};
+use run::{fail, refuse_words, run_over};
 use std::io::ErrorKind;
 use std::process::ExitCode;
 use std::{env, io};
 
-fn main(rt: HostRuntime) -> io::Result<ExitCode> {
+fn main(rt: HostRuntime) -> ExitCode {
     let words = match env::args(&rt) {
         Ok(words) => words
             .collect::<Vec<String>>(rt.alloc())
@@ -38,7 +39,7 @@ fn main(rt: HostRuntime) -> io::Result<ExitCode> {
         Err(error) if error.kind() == ErrorKind::OutOfMemory => {
             fail(rt.alloc(), &Fault::Memory, &mut rt.stderr())
         }
-        Err(error) => return Err(error),
+        Err(_) => refuse_words(rt.alloc(), &mut rt.stderr()),
     };
-    Ok(ExitCode::from(status))
+    ExitCode::from(status)
 }

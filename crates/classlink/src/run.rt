@@ -1,15 +1,17 @@
-ghost use Rattle.std.specs.Prelude.{◌≡◌, ◌⊎◌, [], Bool, IfOk, Some, length, map};
+ghost use Rattle.std.specs.Prelude.{◌≡◌, ◌⊎◌, [], ℕ, List, Bool, IfOk, Some, length, map};
 ghost use Rattle.std.specs.Io.KnownBytes.{Appends};
 ghost use Rattle.clap.specs.Words.{kind_of};
 ghost use Rattle.cl_model.specs.Content.{Tells};
 ghost use Rattle.cl_registry.specs.Scripts.{HasLoaders};
-ghost use Rattle.classlink.specs.CommandLine.{AskFor, IsTurnedDown, StatusOf, wrong_words};
+ghost use Rattle.classlink.specs.CommandLine.{AskFor, AskToRead, IsBundle, IsRead, IsTurnedDown, StatusOf, wrong_words};
+ghost use Rattle.classlink.specs.Readings.{IsReading};
 ghost use Rattle.classlink.specs.Runs.{IsRun, IsServed, RunOf, TellsFault};
 
 use crate::bundle::{self, Bundle};
 use crate::fault::Fault;
 use crate::input::read_text;
 use crate::print::{print_report, write_out};
+use crate::reading::{ReadFile, print_class};
 use crate::serve::{ServeFault, serve_one};
 use crate::words::{self, Asked};
 use cl_model::Told;
@@ -24,7 +26,7 @@ use std::sync::Arc;
 /// Runs the program: its words, of which the first is its name, its input and its two outputs. The answer is the exit
 /// status: 0; 1 for a fault, whose text is written to `err`; 2 for words that are refused, with their text on `err`;
 /// 0 for help, on `out`.
-pub fn run_over<R: AllocGlobal, S: AsStr, I: Read + Drop, W: Write, E: Write>(
+pub fn run_over<R: AllocGlobal + ReadFile, S: AsStr, I: Read + Drop, W: Write, E: Write>(
     rt: &R,
     words: &[S],
     input: I,
@@ -33,12 +35,34 @@ pub fn run_over<R: AllocGlobal, S: AsStr, I: Read + Drop, W: Write, E: Write>(
 ) -> u8
     ensures bundle { (answers : Bool) → AskFor (map S.text words.now) answers
         → IsRun (I.remaining input) answers (W.contents out.old) (W.contents out.new) (E.contents err.old) (E.contents err.new) result }
+    ensures read { (path : List ℕ) → AskToRead (map S.text words.now) path
+        → IsReading (R.gives rt.now path) path (W.contents out.old) (W.contents out.new) (E.contents err.old) (E.contents err.new) result }
     ensures other { (wrong_words (map S.text words.now) ≡ [] → ⊥) → IsTurnedDown (wrong_words (map S.text words.now)) result }
 {
     let alloc = rt.alloc();
     match words::read(alloc, words) {
-        Ok(asked) => run_bundle(alloc, asked, input, out, err),
+        Ok(asked) => run_asked(alloc, rt, asked, input, out, err),
         Err(error) => turn_down(alloc, &error, out, err),
+    }
+}
+
+/// Runs what is asked for.
+fn run_asked<F: ReadFile, I: Read + Drop, W: Write, E: Write>(
+    alloc: Global,
+    files: &F,
+    asked: Asked<'_>,
+    input: I,
+    out: &mut W,
+    err: &mut E,
+) -> u8
+    ensures bundle { (answers : Bool) → IsBundle answers asked.entry
+        → IsRun (I.remaining input) answers (W.contents out.old) (W.contents out.new) (E.contents err.old) (E.contents err.new) result }
+    ensures read { (path : List ℕ) → IsRead path asked.entry
+        → IsReading (F.gives files.now path) path (W.contents out.old) (W.contents out.new) (E.contents err.old) (E.contents err.new) result }
+{
+    match asked {
+        Asked::Bundle { answers } => run_bundle(alloc, answers, input, out, err),
+        Asked::Read { path } => run_read(alloc, files, path, out, err),
     }
 }
 
@@ -64,17 +88,42 @@ fn turn_down<W: Write, E: Write>(alloc: Global, error: &clap::Error, out: &mut W
 /// Runs a bundle, and tells of the fault that ended it.
 fn run_bundle<I: Read + Drop, W: Write, E: Write>(
     alloc: Global,
-    asked: Asked,
+    answers: bool,
     input: I,
     out: &mut W,
     err: &mut E,
 ) -> u8
-    ensures { IsRun (I.remaining input) asked.answers (W.contents out.old) (W.contents out.new) (E.contents err.old) (E.contents err.new) result }
+    ensures { IsRun (I.remaining input) answers (W.contents out.old) (W.contents out.new) (E.contents err.old) (E.contents err.new) result }
 {
-    match report_bundle(alloc, asked, input, out) {
+    match report_bundle(alloc, answers, input, out) {
         Ok(()) => 0,
         Err(fault) => fail(alloc, &fault, err),
     }
+}
+
+/// Prints the lines of the class file at a path, and tells of the fault that ended it.
+fn run_read<F: ReadFile, W: Write, E: Write>(
+    alloc: Global,
+    files: &F,
+    path: &str,
+    out: &mut W,
+    err: &mut E,
+) -> u8
+    ensures { IsReading (F.gives files.now path.now) path.now (W.contents out.old) (W.contents out.new) (E.contents err.old) (E.contents err.new) result }
+{
+    match print_class(alloc, files, path, out) {
+        Ok(()) => 0,
+        Err(fault) => fail(alloc, &fault, err),
+    }
+}
+
+/// Writes the line for words that are no text, and answers the exit status for words that are refused.
+pub fn refuse_words<E: Write>(alloc: Global, err: &mut E) -> u8
+    ensures status { result ≡ 2 }
+    ensures told { TellsFault (E.contents err.old) (E.contents err.new) Fault.Words ⊎ TellsFault (E.contents err.old) (E.contents err.new) Fault.Memory }
+{
+    let _ = fail(alloc, &Fault::Words, err);
+    2
 }
 
 /// Writes the line of a fault, and answers its exit status. Where memory is wanting for it, that is what is told.
@@ -92,11 +141,11 @@ pub fn fail<E: Write>(alloc: Global, fault: &Fault, err: &mut E) -> u8
 /// Reads a bundle, serves its script and prints the report.
 fn report_bundle<I: Read + Drop, W: Write>(
     alloc: Global,
-    asked: Asked,
+    answers: bool,
     input: I,
     out: &mut W,
 ) -> Result<(), Fault>
-    ensures { RunOf (I.remaining input) asked.answers (W.contents out.old) (W.contents out.new) result }
+    ensures { RunOf (I.remaining input) answers (W.contents out.old) (W.contents out.new) result }
 {
     let text = read_text(alloc, input)?;
     let Bundle {
@@ -109,7 +158,7 @@ fn report_bundle<I: Read + Drop, W: Write>(
     let loaders = Arc::try_clone(&config)?;
     let report = serve(alloc, config, source, script)?;
     let names = loaders.names();
-    print_report(alloc, &report, names, asked.answers, out)?;
+    print_report(alloc, &report, names, answers, out)?;
     Ok(())
 }
 

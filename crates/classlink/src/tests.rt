@@ -1,6 +1,9 @@
 //! Whole runs of the program, over a slice and two vectors.
 
-use crate::run::run_over;
+use crate::input::InputFault;
+use crate::reading::ReadFile;
+use crate::run::{refuse_words, run_over};
+use std::alloc::Global;
 use std::io::{self, ErrorKind, Read, Write};
 use std::process::Abort;
 use std::test::Fail;
@@ -15,7 +18,7 @@ struct Row<'a> {
     err: &'a str,
 }
 
-fn check<R: AllocGlobal + Abort>(rt: &R, row: &Row<'_>) {
+fn check<R: AllocGlobal + ReadFile + Abort>(rt: &R, row: &Row<'_>) {
     let mut out = Vec::new(rt.alloc());
     let mut err = Vec::new(rt.alloc());
     let input = row.text.as_bytes();
@@ -288,10 +291,13 @@ fn superclasses_are_loaded(rt: HostRuntime) -> Result<(), Fail> {
 
 #[test]
 fn words_are_refused_or_helped(rt: HostRuntime) -> Result<(), Fail> {
-    let rows: [(&[&str], u8); 6] = [
+    let rows: [(&[&str], u8); 9] = [
         (&["classlink"], 2),
         (&["classlink", "run", "a", "b"], 2),
-        (&["classlink", "read", "a"], 2),
+        (&["classlink", "read"], 2),
+        (&["classlink", "read", "a", "b"], 2),
+        (&["classlink", "read", "-a"], 2),
+        (&["classlink", "read", "--help"], 0),
         (&["classlink", "bundle", "--workers", "2"], 2),
         (&["classlink", "--help"], 0),
         (&["classlink", "bundle", "--help"], 0),
@@ -303,6 +309,91 @@ fn words_are_refused_or_helped(rt: HostRuntime) -> Result<(), Fail> {
         assert_eq!(rt; run_over(&rt, words, text, &mut out, &mut err), status);
         assert_eq!(rt; out.is_empty(), status == 2);
         assert_eq!(rt; err.is_empty(), status == 0);
+    }
+    let mut err = Vec::new(rt.alloc());
+    assert_eq!(rt; refuse_words(rt.alloc(), &mut err), 2);
+    assert_eq!(rt;
+        err.as_slice(),
+        b"classlink: words are not UTF-8\n".as_slice()
+    );
+    Ok(())
+}
+
+/// One file, and nothing else, of which everything is known.
+#[derive(Drop)]
+struct OneFile<'a> {
+    alloc: Global,
+    path: &'a str,
+    bytes: &'a [u8],
+}
+
+impl Alloc for OneFile<'_> {
+    type A = Global;
+
+    fn alloc(&self) -> Global {
+        self.alloc
+    }
+}
+
+impl ReadFile for OneFile<'_> {
+    ghost use Rattle.std.specs.Prelude.{◌≡◌, Some, None, if◌then◌else◌};
+    ghost use Rattle.std.specs.Str.{bytes_eq};
+
+    ghost gives = { λ files path given. given ≡ (if bytes_eq path files.path.now then Some files.bytes.now else None) };
+
+    fn read_file(&self, alloc: Global, path: &str, most: usize) -> Result<Vec<u8>, InputFault> {
+        if path != self.path {
+            return Err(InputFault::Unread);
+        }
+        if self.bytes.len() > most {
+            return Err(InputFault::TooLarge);
+        }
+        Ok(Vec::from_slice(alloc, self.bytes)?)
+    }
+}
+
+/// The class java/lang/Object, which is 46 bytes.
+const OBJECT: [u8; 46] = [
+    0xca, 0xfe, 0xba, 0xbe, 0, 0, 0, 0x34, 0, 3, 1, 0, 16, b'j', b'a', b'v', b'a', b'/', b'l',
+    b'a', b'n', b'g', b'/', b'O', b'b', b'j', b'e', b'c', b't', 7, 0, 1, 0, 0x21, 0, 2, 0, 0, 0, 0,
+    0, 0, 0, 0, 0, 0,
+];
+
+#[test]
+fn class_files_are_read(rt: HostRuntime) -> Result<(), Fail> {
+    let mut other_count = OBJECT;
+    other_count[9] = 4;
+    let rows: [(&[&str], &[u8], u8, &str, &str); 6] = [
+        (&["p"], &OBJECT, 0, "class 0021 java/lang/Object -\n", ""),
+        (
+            &["--", "p"],
+            &OBJECT,
+            0,
+            "class 0021 java/lang/Object -\n",
+            "",
+        ),
+        (&["p"], &OBJECT[..45], 1, "", "classlink: F3 Truncated\n"),
+        (&["p"], &other_count, 1, "", "classlink: F5 BadPool 3\n"),
+        (&["-"], &OBJECT, 1, "", "classlink: cannot read -\n"),
+        (&[""], &OBJECT, 1, "", "classlink: cannot read \n"),
+    ];
+    for (path, bytes, status, want_out, want_err) in rows {
+        let files = OneFile {
+            alloc: rt.alloc(),
+            path: "p",
+            bytes,
+        };
+        let mut words = vec![in rt.alloc(); "classlink", "read"]?;
+        words.extend_from_slice(path)?;
+        let mut out = Vec::new(rt.alloc());
+        let mut err = Vec::new(rt.alloc());
+        let input: &[u8] = b"";
+        assert_eq!(rt;
+            run_over(&files, words.as_slice(), input, &mut out, &mut err),
+            status
+        );
+        assert_eq!(rt; out.as_slice(), want_out.as_bytes());
+        assert_eq!(rt; err.as_slice(), want_err.as_bytes());
     }
     Ok(())
 }

@@ -1,11 +1,16 @@
 use Rattle.std.proofs.Common.{◌≡◌, Ok, Err, map}
-use Rattle.classlink.specs.CommandLine.{wrong_words}
-use Rattle.classlink.proofs.Flags.{ends_by, flag_in_words, for_memory, kind_by, takes_words}
+use Rattle.classlink.specs.CommandLine.{IsBundle, IsRead, wrong_words}
+use Rattle.classlink.proofs.Flags.{asked_by_words, bundle_asked, ends_by, for_memory, kind_by, path_asked, takes_path, takes_words}
 use Rattle.classlink.proofs.words.read.Goals as goal
 
 pub returns-in_err-matches-clause-asked : goal.returns-in_err-matches-clause-asked
 returns-in_err-matches-clause-asked g c = λ answers ask.
-    for_memory (wrong_words (map g.S.AsStr.text c.args.words.now)) c.from_residual-in_err-matches.result c.in_err-matches.field-0.0 (λ a. a.answers ≡ answers) (takes_words _ answers ask)
+    for_memory (wrong_words (map g.S.AsStr.text c.args.words.now)) c.from_residual-in_err-matches.result c.in_err-matches.field-0.0 (IsBundle answers) (takes_words _ answers ask)
+    c.from_residual-in_err-matches.ensures.1 (ends_by _ _ (Err c.in_err-matches.field-0.0) c.in_ok-command.ensures c.in_err-matches.ensures.kinds)
+
+pub returns-in_err-matches-clause-read : goal.returns-in_err-matches-clause-read
+returns-in_err-matches-clause-read g c = λ path ask.
+    for_memory (wrong_words (map g.S.AsStr.text c.args.words.now)) c.from_residual-in_err-matches.result c.in_err-matches.field-0.0 (IsRead path) (takes_path _ path ask)
     c.from_residual-in_err-matches.ensures.1 (ends_by _ _ (Err c.in_err-matches.field-0.0) c.in_ok-command.ensures c.in_err-matches.ensures.kinds)
 
 pub returns-in_err-matches-clause-refused : goal.returns-in_err-matches-clause-refused
@@ -14,7 +19,15 @@ returns-in_err-matches-clause-refused g c =
     c.from_residual-in_err-matches.ensures.1 (ends_by _ _ (Err c.in_err-matches.field-0.0) c.in_ok-command.ensures c.in_err-matches.ensures.kinds)
 
 pub returns-clause-asked : goal.returns-clause-asked
-returns-clause-asked g c = λ answers ask. c.wanted.ensures answers (flag_in_words _ _ _ answers c.in_ok-command.ensures c.in_ok-matches.ensures.matches ask)
+returns-clause-asked g c = λ answers ask.
+    bundle_asked (map g.S.AsStr.text c.args.words.now) answers c.wanted.result ask (asked_by_words _ (map g.S.AsStr.text c.args.words.now) c.in_ok-matches.matches c.wanted.result c.in_ok-command.ensures c.in_ok-matches.ensures.matches c.wanted.ensures)
+
+pub returns-clause-read : goal.returns-clause-read
+returns-clause-read g c = λ path ask.
+    path_asked (map g.S.AsStr.text c.args.words.now) path c.wanted.result ask (asked_by_words _ (map g.S.AsStr.text c.args.words.now) c.in_ok-matches.matches c.wanted.result c.in_ok-command.ensures c.in_ok-matches.ensures.matches c.wanted.ensures)
 
 pub returns-clause-taken : goal.returns-clause-taken
 returns-clause-taken g c = ends_by _ _ (Ok c.in_ok-matches.matches) c.in_ok-command.ensures c.in_ok-matches.ensures.kinds
+
+pub returns-clause-exact : goal.returns-clause-exact
+returns-clause-exact g c = asked_by_words _ (map g.S.AsStr.text c.args.words.now) c.in_ok-matches.matches c.wanted.result c.in_ok-command.ensures c.in_ok-matches.ensures.matches c.wanted.ensures

@@ -1,0 +1,91 @@
+-- What reading a class file answers, and what it writes.
+use Rattle.std.specs.Prelude.{◌≡◌, ◌⊎◌, ◌<◌, ◌≤◌, ℕ, ⊤, List, length, Option, Some, None, Result, Ok, Err, string_bytes}
+use Rattle.std.specs.Io.KnownBytes.{Appends}
+use Rattle.cl_classfile.specs.Structure.{Structure}
+use Rattle.cl_classfile.specs.declared.fault.Fault.{Fault as ClassFault}
+use Rattle.cl_classfile.specs.Reading.{read_of}
+use Rattle.cl_writer.specs.Listings.{listing_of}
+use Rattle.classlink.specs.Report.{AppendsPart}
+use Rattle.classlink.specs.Runs.{EndsWith, WritesNothing}
+use Rattle.classlink.specs.declared.fault.Fault.{Fault}
+use Rattle.classlink.specs.declared.fault.Fault.TheVariants.{Write, TooLarge, Path, File, Memory}
+
+-- what reading a file may give: its bytes, or nothing where it cannot be read
+abbrev pub Giving : Type 1
+Giving = Option (List ℕ) → Type 0
+
+-- bytes that a file gives, and not too many
+pub record IsContent (gives : Giving) (bytes : List ℕ) : Type 0 where
+  pub given : gives (Some bytes)
+  pub small : length bytes ≤ 16777216
+
+-- the lines of the class file that bytes spell
+pub record IsListing (bytes lines : List ℕ) : Type 0 where
+  pub file : Structure
+  pub read : read_of bytes ≡ Ok file
+  pub are : lines ≡ listing_of file
+
+-- the lines of the class file that was read
+pub record AreLinesOf (gives : Giving) (lines : List ℕ) : Type 0 where
+  pub bytes : List ℕ
+  pub content : IsContent gives bytes
+  pub listing : IsListing bytes lines
+
+-- what was read is no class file, and this is its first fault
+pub record IsNoClass (gives : Giving) (fault : ClassFault) : Type 0 where
+  pub bytes : List ℕ
+  pub content : IsContent gives bytes
+  pub read : read_of bytes ≡ Err fault
+
+-- the lines are written
+pub record PrintsLines (gives : Giving) (old new : Option (List ℕ)) : Type 0 where
+  pub lines : List ℕ
+  pub of_file : AreLinesOf gives lines
+  pub whole : Appends old new lines
+
+-- a first part of the lines is written, and no more
+pub record BreaksLines (gives : Giving) (old new : Option (List ℕ)) : Type 0 where
+  pub lines : List ℕ
+  pub of_file : AreLinesOf gives lines
+  pub part : AppendsPart old new lines
+
+-- more bytes than are read
+pub record IsTooLarge (gives : Giving) : Type 0 where
+  pub bytes : List ℕ
+  pub given : gives (Some bytes)
+  pub large : 16777216 < length bytes
+
+-- when a reading ends by a fault, and what is on its output
+abbrev pub FailsToRead : Giving → List ℕ → Option (List ℕ) → Option (List ℕ) → Fault → Type 0
+FailsToRead gives path old new (Path p) = WritesNothing old new ((string_bytes p ≡ path) × gives None)
+FailsToRead gives path old new TooLarge = WritesNothing old new (IsTooLarge gives)
+FailsToRead gives path old new (File fault) = WritesNothing old new (IsNoClass gives fault)
+FailsToRead gives path old new Write = BreaksLines gives old new
+FailsToRead gives path old new Memory = WritesNothing old new ⊤ ⊎ BreaksLines gives old new
+FailsToRead gives path old new _ = ⊥
+
+-- what reading a class file answers, and what is on its output
+abbrev pub ReadingOf : Giving → List ℕ → Option (List ℕ) → Option (List ℕ) → Result (Unit {0}) Fault → Type 0
+ReadingOf gives path old new (Ok x) = PrintsLines gives old new
+ReadingOf gives path old new (Err fault) = FailsToRead gives path old new fault
+
+-- the class file at a path was read, or a fault ended it, and the exit status and both outputs say so
+pub record IsReading (gives : Giving) (path : List ℕ) (old_out new_out old_err new_err : Option (List ℕ)) (status : ℕ) : Type 0 where
+  pub outcome : Result (Unit {0}) Fault
+  pub read : ReadingOf gives path old_out new_out outcome
+  pub told : EndsWith old_err new_err status outcome
+
+-- ---- its steps
+
+-- why there are no bytes of the file at a path
+abbrev pub IsUnread : Giving → List ℕ → Fault → Type 0
+IsUnread gives path (Path p) = (string_bytes p ≡ path) × gives None
+IsUnread gives path TooLarge = IsTooLarge gives
+IsUnread gives path Memory = ⊤
+IsUnread gives path _ = ⊥
+
+-- the first fault of bytes that spell none, or want of memory
+abbrev pub IsRefusal : List ℕ → Fault → Type 0
+IsRefusal bytes (File fault) = read_of bytes ≡ Err fault
+IsRefusal bytes Memory = ⊤
+IsRefusal bytes _ = ⊥

@@ -35,7 +35,7 @@ at_plain (r ∷ raws) (suc zero) = refl
 at_plain (r ∷ raws) (suc (suc i)) = at_plain raws (suc i)
 
 -- the entry at i, and those behind it
-split : (raws : List RawEntry) (i : ℕ) (d : RawEntry) → i < length raws → drop i (plain_entries raws) ≡ plain_entry (get_or raws i d) ∷ drop (i + 1) (plain_entries raws)
+pub split : (raws : List RawEntry) (i : ℕ) (d : RawEntry) → i < length raws → drop i (plain_entries raws) ≡ plain_entry (get_or raws i d) ∷ drop (i + 1) (plain_entries raws)
 split raws i d lt = drop-map plain_entry i raws ∙ ap plain_entries (drop-cons raws i d lt) ∙ rw (add-one, drop-map plain_entry (suc i) raws) refl
 
 -- the entries from i on are still to be looked at

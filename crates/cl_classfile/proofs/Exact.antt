@@ -43,7 +43,7 @@ read_takes bytes f fits e =
     let a = bind_ok (whole_of bytes) kept_file f e in
     let one = whole_takes bytes a.0 fits a.1 in
     let two = file_says a.0 f a.2 in
-    subst (λ (y : Structure). Spells bytes y) two.0 (record { fits = one.1; kept = two.1; spelled = one.0 })
+    subst (λ (y : Structure). Spells bytes y) two.0 (record { fits = one.1; kept = two.1.kept; spelled = one.0 })
 
 pub read_again : (bytes : List ℕ) (f : Structure) → Spells bytes f → read_of bytes ≡ Ok f
 unfolding read_of
@@ -53,7 +53,7 @@ read_again bytes f s =
 
 -- a file that passed the tests
 pub is_class_file : (f : Structure) (u v : Unit {0}) → Fits f → checked_entries f.pool 1 f.pool ≡ Ok u → checked_tables (map entry_traits f.pool) f.pool f ≡ Ok v → IsClassFile f
-is_class_file f u v fits rows tables = record { fits = fits; kept = tables_say f u v rows tables }
+is_class_file f u v fits rows tables = record { fits = fits; kept = (tables_say f u v rows tables).kept }
 
 -- for the calls
 pub is_fitting : (bytes : List ℕ) (f : Structure) (rest : List ℕ) → IsBytes bytes → structure_at bytes ≡ Ok (f, rest) → Fits f

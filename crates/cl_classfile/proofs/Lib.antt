@@ -2,6 +2,8 @@ pub mod Loop
 pub mod Entries
 pub mod Codec
 pub mod Judging
+pub mod Fitting
+pub mod Slots
 pub mod MemberRows
 pub mod Keys
 pub mod Classes

@@ -1,5 +1,5 @@
 -- The tests of the tables of members, and what they say.
-use Rattle.std.proofs.Common.{◌≡◌, ℕ, suc, ◌+◌, ◌≤◌, ◌<◌, Bool, true, false, cond, ◌&&◌, ◌||◌, eqb, ltb, nat_eq, List, [], ◌∷◌, ◌++◌, length, map, take, drop, get_or, Option, Some, None, Result, Ok, Err, refl, sym, ap, ◌∙◌, add-one, arith, inl, inr}
+use Rattle.std.proofs.Common.{◌≡◌, ℕ, suc, ◌+◌, ◌^◌, ◌≤◌, ◌<◌, Bool, true, false, cond, ◌&&◌, ◌||◌, eqb, ltb, nat_eq, List, [], ◌∷◌, ◌++◌, length, map, take, drop, get_or, Option, Some, None, Result, Ok, Err, refl, sym, ap, ◌∙◌, add-one, arith, inl, inr}
 use Rattle.std.specs.List.{AllByRecursion, list_any}
 use Rattle.std.specs.Cmp.Lexicographic.{pointwise, same_text}
 use Rattle.std.proofs.Math.Seq.{drop-cons, take-suc}
@@ -14,17 +14,21 @@ use Rattle.cl_classfile.specs.declared.entry.Entry.{Entry}
 use Rattle.cl_classfile.specs.declared.entry.Entry.TheVariants.{Utf8}
 use Rattle.cl_classfile.specs.declared.fault.Fault.{Fault}
 use Rattle.cl_classfile.specs.declared.fault.Fault.TheVariants.{BadMember, Duplicate}
+use Rattle.cl_classfile.specs.declared.members.Kind.{Kind}
+use Rattle.cl_classfile.specs.declared.members.Kind.TheVariants as kinds
 use Rattle.cl_classfile.specs.declared.traits.Special.{Special}
 use Rattle.cl_classfile.specs.declared.traits.Special.TheVariants as names
 use Rattle.cl_classfile.specs.declared.traits.Traits.{Traits}
 use Rattle.cl_classfile.specs.Flags.{has, static, is_field_flags, is_method_flags, is_init_flags}
 use Rattle.cl_classfile.specs.Pool.{at, IsText, HasText, IsField, init, clinit}
-use Rattle.cl_classfile.specs.Members.{Member, KeepsField, TakesUnits, KeepsMethod, SameMember, AreNew}
+use Rattle.cl_classfile.specs.Members.{Member, AllFit, MemberFits, KeepsField, TakesUnits, KeepsMethod, SameMember, AreNew, KeepMembers}
+use Rattle.cl_classfile.specs.Widths.{is_short, member_fits}
 use Rattle.cl_classfile.specs.Rows.{special_of, is_field, is_init, entry_traits, traits_at}
 use Rattle.cl_classfile.specs.Files.{text_of, text_at}
-use Rattle.cl_classfile.specs.Checking.{keeps_field, has_room, keeps_method_flags, keeps_method, Key, both_texts, key_of, same_key, same_member, checked_members}
+use Rattle.cl_classfile.specs.Checking.{keeps_field, has_room, keeps_method_flags, keeps_method, Key, both_texts, key_of, same_key, same_member, checked_members, keeps_member, checked_list}
 use Rattle.cl_classfile.proofs.Codec.{both}
 use Rattle.cl_classfile.proofs.Judging.{tests, differ, all, IsTrait, field, unqualified, method, option_traits, traits_are, text_says, text_told, is_clinit, init_says, clinit_says}
+use Rattle.cl_classfile.proofs.Fitting.{short_told, choice_ok, member_says, member_told}
 
 -- ---- units
 
@@ -224,21 +228,59 @@ unfolding checked_members
 each_told keeps Keeps told pool before [] h new = refl
 each_told keeps Keeps told pool before (m ∷ ms) h new = rw (told m h.0, none_told pool m before new.0, each_told keeps Keeps told pool (before ++ m ∷ []) ms h.1 new.1) refl
 
-pub fields_say : (pool : List Entry) (of_interface : Bool) (ms : List Member) (u : Unit {0}) → checked_members (keeps_fields pool of_interface) pool [] ms ≡ Ok u
-    → AllByRecursion (KeepsField pool of_interface) ms × AreNew pool [] ms
-fields_say pool of_interface ms u h = each_says (keeps_fields pool of_interface) (KeepsField pool of_interface) (field_says pool of_interface) pool [] ms u h
+both_of : (A B : Member → Type 0) (ms : List Member) → AllByRecursion (λ m. A m × B m) ms → AllByRecursion A ms × AllByRecursion B ms
+both_of A B [] h = (tt, tt)
+both_of A B (m ∷ ms) h = let others = both_of A B ms h.1 in ((h.0.0, others.0), (h.0.1, others.1))
 
-pub fields_told : (pool : List Entry) (of_interface : Bool) (ms : List Member) → AllByRecursion (KeepsField pool of_interface) ms → AreNew pool [] ms → checked_members (keeps_fields pool of_interface) pool [] ms ≡ Ok tt
-fields_told pool of_interface ms h new = each_told (keeps_fields pool of_interface) (KeepsField pool of_interface) (field_told pool of_interface) pool [] ms h new
+of_both : (A B : Member → Type 0) (ms : List Member) → AllByRecursion A ms → AllByRecursion B ms → AllByRecursion (λ m. A m × B m) ms
+of_both A B [] p q = tt
+of_both A B (m ∷ ms) p q = ((p.0, q.0), of_both A B ms p.1 q.1)
 
-pub methods_say : (pool : List Entry) (of_interface : Bool) (ms : List Member) (u : Unit {0}) → checked_members (keeps_methods pool of_interface) pool [] ms ≡ Ok u
-    → AllByRecursion (KeepsMethod pool of_interface) ms × AreNew pool [] ms
-methods_say pool of_interface ms u h = each_says (keeps_methods pool of_interface) (KeepsMethod pool of_interface) (method_says pool of_interface) pool [] ms u h
+-- a list of members that passed the tests
+pub record IsList (Keeps : Member → Type 0) (pool : List Entry) (ms : List Member) : Type 0 where
+  pub fits : AllFit MemberFits ms
+  pub kept : KeepMembers Keeps pool ms
 
-pub methods_told : (pool : List Entry) (of_interface : Bool) (ms : List Member) → AllByRecursion (KeepsMethod pool of_interface) ms → AreNew pool [] ms → checked_members (keeps_methods pool of_interface) pool [] ms ≡ Ok tt
-methods_told pool of_interface ms h new = each_told (keeps_methods pool of_interface) (KeepsMethod pool of_interface) (method_told pool of_interface) pool [] ms h new
+list_says : (kind : Kind) (of_interface : Bool) (pool : List Entry) (Keeps : Member → Type 0) → ((m : Member) → keeps_member kind (map entry_traits pool) of_interface m ≡ true → MemberFits m × Keeps m) → (ms : List Member) (u : Unit {0})
+    → checked_list kind (map entry_traits pool) of_interface pool ms ≡ Ok u → IsList Keeps pool ms
+unfolding checked_list
+list_says kind of_interface pool Keeps says ms u h =
+    let keeps = keeps_member kind (map entry_traits pool) of_interface in
+    let k = choice_ok (is_short (length ms)) (checked_members keeps pool [] ms) BadMember u h in
+    let each = each_says keeps (λ m. MemberFits m × Keeps m) says pool [] ms u k.1 in
+    let parts = both_of MemberFits Keeps ms each.0 in
+    record { fits = (ltb-true (length ms) (2 ^ 16) k.0, parts.0); kept = record { each = parts.1; new = each.1 } }
+
+list_told : (kind : Kind) (of_interface : Bool) (pool : List Entry) (Keeps : Member → Type 0) → ((m : Member) → MemberFits m × Keeps m → keeps_member kind (map entry_traits pool) of_interface m ≡ true) → (ms : List Member)
+    → AllFit MemberFits ms → KeepMembers Keeps pool ms → checked_list kind (map entry_traits pool) of_interface pool ms ≡ Ok tt
+unfolding checked_list
+list_told kind of_interface pool Keeps told ms fits kept =
+    let keeps = keeps_member kind (map entry_traits pool) of_interface in
+    rw (short_told (length ms) fits.0) (each_told keeps (λ m. MemberFits m × Keeps m) told pool [] ms (of_both MemberFits Keeps ms fits.1 kept.each) kept.new)
+
+pub fields_say : (pool : List Entry) (of_interface : Bool) (ms : List Member) (u : Unit {0}) → checked_list kinds.Field (map entry_traits pool) of_interface pool ms ≡ Ok u → IsList (KeepsField pool of_interface) pool ms
+fields_say pool of_interface =
+    list_says kinds.Field of_interface pool (KeepsField pool of_interface) (λ m h. let k = both (member_fits m) (keeps_fields pool of_interface m) h in (member_says m k.0, field_says pool of_interface m k.1))
+
+pub fields_told : (pool : List Entry) (of_interface : Bool) (ms : List Member) → AllFit MemberFits ms → KeepMembers (KeepsField pool of_interface) pool ms → checked_list kinds.Field (map entry_traits pool) of_interface pool ms ≡ Ok tt
+fields_told pool of_interface =
+    list_told kinds.Field of_interface pool (KeepsField pool of_interface) (λ m h. all (member_fits m) (keeps_fields pool of_interface m) (member_told m h.0) (field_told pool of_interface m h.1))
+
+pub methods_say : (pool : List Entry) (of_interface : Bool) (ms : List Member) (u : Unit {0}) → checked_list kinds.Method (map entry_traits pool) of_interface pool ms ≡ Ok u → IsList (KeepsMethod pool of_interface) pool ms
+methods_say pool of_interface =
+    list_says kinds.Method of_interface pool (KeepsMethod pool of_interface) (λ m h. let k = both (member_fits m) (keeps_methods pool of_interface m) h in (member_says m k.0, method_says pool of_interface m k.1))
+
+pub methods_told : (pool : List Entry) (of_interface : Bool) (ms : List Member) → AllFit MemberFits ms → KeepMembers (KeepsMethod pool of_interface) pool ms → checked_list kinds.Method (map entry_traits pool) of_interface pool ms ≡ Ok tt
+methods_told pool of_interface =
+    list_told kinds.Method of_interface pool (KeepsMethod pool of_interface) (λ m h. all (member_fits m) (keeps_methods pool of_interface m) (member_told m h.0) (method_told pool of_interface m h.1))
 
 -- ---- one after the other, as a loop does
+
+-- a count can say how many there are
+pub counted : (kind : Kind) (traits : List Traits) (of_interface : Bool) (pool : List Entry) (ms : List Member) → length ms ≤ 65535
+    → checked_list kind traits of_interface pool ms ≡ checked_members (keeps_member kind traits of_interface) pool [] ms
+unfolding checked_list
+counted kind traits of_interface pool ms le = rw (short_told (length ms) (omega arith)) refl
 
 -- the members from i on are still to be looked at
 abbrev pub AreLookedAt : (Member → Bool) → List Entry → List Member → ℕ → Type 0

@@ -7,10 +7,13 @@ use Rattle.cl_classfile.specs.declared.entry.Entry.TheVariants.{Unusable}
 use Rattle.cl_classfile.specs.declared.fault.Fault.{Fault}
 use Rattle.cl_classfile.specs.declared.fault.Fault.TheVariants.{BadMagic, Version, Truncated, Trailing, BadPool, BadFlags, BadMember, Duplicate, BadSupertype}
 use Rattle.cl_classfile.specs.Flags.{has, interface, is_class_flags}
+use Rattle.cl_classfile.specs.declared.members.Kind.{Kind}
+use Rattle.cl_classfile.specs.declared.members.Kind.TheVariants as kinds
 use Rattle.cl_classfile.specs.Structure.{Structure, Member, Attribute}
+use Rattle.cl_classfile.specs.Widths.{is_short, all_fit, attribute_fits}
 use Rattle.cl_classfile.specs.Files.{class_name}
 use Rattle.cl_classfile.specs.Rows.{entry_traits, keeps_entry}
-use Rattle.cl_classfile.specs.Checking.{◌>>=◌, kept_entry, checked_entries, keeps_names, keeps_interfaces, checked_class, keeps_field, keeps_method, same_member, checked_members, checked_tables, kept_file}
+use Rattle.cl_classfile.specs.Checking.{◌>>=◌, kept_entry, checked_entries, keeps_names, keeps_interfaces, checked_class, keeps_member, same_member, checked_members, checked_list, checked_tables, kept_file}
 use Rattle.cl_classfile.specs.Reading.{Reader, number_at, bytes_at, then_at, test_at, map_at, sized_at, many_at, counted_at, header_at, text_at, byte_at, signed_at, two_at, handle_at, wide_at, value_at, index_at, pair_at, other_at, entry_at, slot_at, next_place, entries_at, pool_at, class_at, interfaces_at, attribute_at, attributes_at, member_at, members_at, tables_at, Parts, parts_at, structure_of, structure_at, whole_of, read_of}
 
 -- the header's own faults
@@ -167,7 +170,7 @@ rows entries i (e ∷ es) = bind (kept_entry entries i e) _ (choice (keeps_entry
 
 class_tables : (f : Structure) → IsQuiet (checked_class f.pool f.flags f.this_class f.super_class f.interfaces)
 class_tables f =
-    choice (is_class_flags f.flags) _ (Err BadFlags)
+    choice (is_short f.flags && is_class_flags f.flags) _ (Err BadFlags)
     (choice (keeps_names f.pool (has f.flags interface) f.super_class (class_name f.pool f.this_class) && keeps_interfaces f.pool f.interfaces) (Ok tt) (Err BadSupertype) (ok tt) (err BadSupertype refl)) (err BadFlags refl)
 
 each_member : (keeps : Member → Bool) (entries : List Entry) (before ms : List Member) → IsQuiet (checked_members keeps entries before ms)
@@ -177,12 +180,17 @@ each_member keeps entries before (m ∷ ms) =
     choice (keeps m) _ (Err BadMember)
     (choice (list_any (λ e. same_member entries e m) before) (Err Duplicate) _ (err Duplicate refl) (each_member keeps entries (before ++ m ∷ []) ms)) (err BadMember refl)
 
+all_members : (kind : Kind) (f : Structure) (ms : List Member) → IsQuiet (checked_list kind (map entry_traits f.pool) (has f.flags interface) f.pool ms)
+unfolding checked_list
+all_members kind f ms = choice (is_short (length ms)) _ (Err BadMember) (each_member (keeps_member kind (map entry_traits f.pool) (has f.flags interface)) f.pool [] ms) (err BadMember refl)
+
 tables_checked : (f : Structure) → IsQuiet (checked_tables (map entry_traits f.pool) f.pool f)
 unfolding checked_tables
 tables_checked f =
     bind (checked_class f.pool f.flags f.this_class f.super_class f.interfaces) _ (class_tables f) (λ class.
-    bind (checked_members (keeps_field (map entry_traits f.pool) (has f.flags interface)) f.pool [] f.fields) _ (each_member (keeps_field (map entry_traits f.pool) (has f.flags interface)) f.pool [] f.fields)
-    (λ fields. each_member (keeps_method (map entry_traits f.pool) (has f.flags interface)) f.pool [] f.methods))
+    bind (checked_list kinds.Field (map entry_traits f.pool) (has f.flags interface) f.pool f.fields) _ (all_members kinds.Field f f.fields) (λ fields.
+    bind (checked_list kinds.Method (map entry_traits f.pool) (has f.flags interface) f.pool f.methods) _ (all_members kinds.Method f f.methods) (λ methods.
+    choice (all_fit attribute_fits f.attributes) (Ok tt) (Err BadMember) (ok tt) (err BadMember refl))))
 
 file : (f : Structure) → IsQuiet (kept_file f)
 unfolding kept_file

@@ -1,20 +1,25 @@
 -- The tests of the tables, and what they say.
-use Rattle.std.proofs.Common.{◌≡◌, ◌⊎◌, ℕ, ◌+◌, Bool, true, false, cond, not, ◌&&◌, eqb, nat_eq, List, [], ◌∷◌, map, Option, Some, None, Result, Ok, Err, refl, sym, ap, ◌∙◌, inl, inr}
+use Rattle.std.proofs.Common.{◌≡◌, ◌⊎◌, ℕ, ◌+◌, ◌^◌, ◌<◌, Bool, true, false, cond, not, ◌&&◌, eqb, nat_eq, List, [], ◌∷◌, length, map, Option, Some, None, Result, Ok, Err, refl, sym, ap, ◌∙◌, arith, inl, inr}
 use Rattle.std.specs.Prelude.{is_some}
 use Rattle.std.specs.List.{AllByRecursion}
 use Rattle.std.specs.Cmp.Lexicographic.{pointwise, same_text}
-use Rattle.std.proofs.lemmas.Bool.{eqb-true}
+use Rattle.std.proofs.lemmas.Bool.{eqb-true, ltb-true}
 use Rattle.cl_names.specs.Kind.{IsNameOf, IsClass}
 use Rattle.cl_classfile.specs.declared.entry.Entry.{Entry}
+use Rattle.cl_classfile.specs.declared.entry.Entry.TheVariants.{Class}
+use Rattle.cl_classfile.specs.declared.members.Kind.TheVariants as kinds
 use Rattle.cl_classfile.specs.declared.fault.Fault.{Fault}
-use Rattle.cl_classfile.specs.declared.fault.Fault.TheVariants.{BadPool, BadFlags, BadSupertype}
+use Rattle.cl_classfile.specs.declared.fault.Fault.TheVariants.{BadPool, BadFlags, BadMember, BadSupertype}
 use Rattle.cl_classfile.specs.Flags.{has, interface, is_class_flags}
 use Rattle.cl_classfile.specs.Pool.{EntryFits, KeepsEntry}
-use Rattle.cl_classfile.specs.Structure.{Structure, Fits, object, NamesClass, KeepsSuper, KeepsInterface, Keeps}
+use Rattle.cl_classfile.specs.Structure.{Structure, PoolFits, Fits, object, NamesClass, KeepsSuper, KeepsInterface, Keeps, IsClassFile}
+use Rattle.cl_classfile.specs.Members.{AllFit, AttributeFits, MemberFits}
+use Rattle.cl_classfile.specs.Widths.{is_short, all_fit, attribute_fits}
 use Rattle.cl_classfile.specs.Files.{class_name}
 use Rattle.cl_classfile.specs.Rows.{entry_traits, keeps_entry}
-use Rattle.cl_classfile.specs.Checking.{◌>>=◌, kept_entry, checked_entries, may_stand_above, keeps_super, keeps_names, keeps_interfaces, checked_class, keeps_field, keeps_method, checked_members, checked_tables, kept_file}
-use Rattle.cl_classfile.proofs.Codec.{bind_ok, ok_is, both}
+use Rattle.cl_classfile.specs.Checking.{◌>>=◌, kept_entry, checked_entries, may_stand_above, keeps_super, keeps_names, keeps_interfaces, checked_class, checked_list, checked_attributes, checked_tables, kept_file, checked_pool, parts_of}
+use Rattle.cl_classfile.proofs.Codec.{bind_ok, test_ok, ok_is, both}
+use Rattle.cl_classfile.proofs.Fitting.{short_told, all_say, all_told, attributes_say, attributes_told, pool_says, pool_told, within}
 use Rattle.cl_classfile.proofs.Judging.{keeps_entry_says, keeps_entry_told}
 use Rattle.cl_classfile.proofs.MemberRows.{fields_say, fields_told, methods_say, methods_told}
 use Rattle.cl_classfile.proofs.Classes.{Rows, class_says, class_named}
@@ -92,16 +97,21 @@ names_say : (pool : List Entry) → Rows pool → (of_interface : Bool) (this su
 names_say pool rows of_interface this super None e h = absurd cc
 names_say pool rows of_interface this super (Some name) e h = record { name = name; this_class = class_says pool this name rows e; super_class = super_says pool rows of_interface name super h }
 
-interfaces_say : (pool : List Entry) → Rows pool → (interfaces : List ℕ) → keeps_interfaces pool interfaces ≡ true → AllByRecursion (KeepsInterface pool) interfaces
-interfaces_say pool rows [] h = tt
-interfaces_say pool rows (i ∷ is) h =
-    let k = both (is_some (class_name pool i)) (keeps_interfaces pool is) h in
-    let a = some_is (class_name pool i) k.0 in
-    ((a.0, class_says pool i a.0 rows a.1), interfaces_say pool rows is k.1)
+interface_says : (pool : List Entry) → Rows pool → (i : ℕ) → is_some (class_name pool i) ≡ true → KeepsInterface pool i
+interface_says pool rows i h = let a = some_is (class_name pool i) h in (a.0, class_says pool i a.0 rows a.1)
 
-interfaces_told : (pool : List Entry) (interfaces : List ℕ) → AllByRecursion (KeepsInterface pool) interfaces → keeps_interfaces pool interfaces ≡ true
-interfaces_told pool [] h = refl
-interfaces_told pool (i ∷ is) h = rw (class_named pool i h.0.0 h.0.1, interfaces_told pool is h.1) refl
+interface_told : (pool : List Entry) (i : ℕ) → KeepsInterface pool i → is_some (class_name pool i) ≡ true
+interface_told pool i h = ap is_some (class_named pool i h.0 h.1)
+
+-- ---- indices are within the pool
+
+super_within : (pool : List Entry) → length pool + 1 < 2 ^ 16 → (of_interface : Bool) (name : List ℕ) (super : ℕ) → KeepsSuper pool of_interface name super → super < 2 ^ 16
+super_within pool few of_interface name super (inl h) = omega (arith, h.2)
+super_within pool few of_interface name super (inr h) = within pool super (Class h.2.index) few h.2.is_entry
+
+interfaces_within : (pool : List Entry) → length pool + 1 < 2 ^ 16 → (interfaces : List ℕ) → AllByRecursion (KeepsInterface pool) interfaces → AllByRecursion (λ i. i < 2 ^ 16) interfaces
+interfaces_within pool few [] h = tt
+interfaces_within pool few (i ∷ is) h = (within pool i (Class h.0.1.index) few h.0.1.is_entry, interfaces_within pool few is h.1)
 
 -- ---- the file
 
@@ -114,42 +124,61 @@ abbrev class_checked : Structure → Result (Unit {0}) Fault
 class_checked f = checked_class f.pool f.flags f.this_class f.super_class f.interfaces
 
 abbrev fields_checked : Structure → Result (Unit {0}) Fault
-fields_checked f = checked_members (keeps_field (map entry_traits f.pool) (has f.flags interface)) f.pool [] f.fields
+fields_checked f = checked_list kinds.Field (map entry_traits f.pool) (has f.flags interface) f.pool f.fields
 
 abbrev methods_checked : Structure → Result (Unit {0}) Fault
-methods_checked f = checked_members (keeps_method (map entry_traits f.pool) (has f.flags interface)) f.pool [] f.methods
+methods_checked f = checked_list kinds.Method (map entry_traits f.pool) (has f.flags interface) f.pool f.methods
 
--- what a file is whose tests were passed
-keeps : (f : Structure) (u c d e : Unit {0}) → checked_entries f.pool 1 f.pool ≡ Ok u → class_checked f ≡ Ok c → fields_checked f ≡ Ok d → methods_checked f ≡ Ok e → Keeps f
-keeps f u c d e rows class fields methods =
+-- a file whose tests were passed keeps the tables, and what stands behind its pool fits its widths
+pub record IsTested (f : Structure) : Type 0 where
+  pub kept : Keeps f
+  pub flags : f.flags < 2 ^ 16
+  pub interfaces : length f.interfaces < 2 ^ 16
+  pub fields : AllFit MemberFits f.fields
+  pub methods : AllFit MemberFits f.methods
+  pub attributes : AllFit AttributeFits f.attributes
+
+tested : (f : Structure) (u c d e v : Unit {0}) → checked_entries f.pool 1 f.pool ≡ Ok u → class_checked f ≡ Ok c → fields_checked f ≡ Ok d → methods_checked f ≡ Ok e → checked_attributes f.attributes ≡ Ok v → IsTested f
+tested f u c d e v rows class fields methods attributes =
     let of_interface = has f.flags interface in
     let entries = rows_say f.pool 1 f.pool u rows in
     let names = keeps_names f.pool of_interface f.super_class (class_name f.pool f.this_class) in
-    let a = checks_say (is_class_flags f.flags) (names && keeps_interfaces f.pool f.interfaces) c class in
+    let a = checks_say (is_short f.flags && is_class_flags f.flags) (names && keeps_interfaces f.pool f.interfaces) c class in
+    let flags = both (is_short f.flags) (is_class_flags f.flags) a.0 in
     let k = both names (keeps_interfaces f.pool f.interfaces) a.1 in
     let n = names_say f.pool entries of_interface f.this_class f.super_class (class_name f.pool f.this_class) refl k.0 in
+    let interfaces = all_say (λ i. is_some (class_name f.pool i)) (KeepsInterface f.pool) (interface_says f.pool entries) f.interfaces k.1 in
     let each_field = fields_say f.pool of_interface f.fields d fields in
     let each_method = methods_say f.pool of_interface f.methods e methods in
+    let some_attributes = test_ok (all_fit attribute_fits f.attributes) BadMember tt v attributes in
     record {
-      pool = entries;
-      flags = a.0;
-      name = n.name;
-      this_class = n.this_class;
-      super_class = n.super_class;
-      interfaces = interfaces_say f.pool entries f.interfaces k.1;
-      fields = record { each = each_field.0; new = each_field.1 };
-      methods = record { each = each_method.0; new = each_method.1 };
+      kept = record {
+        pool = entries;
+        flags = flags.1;
+        name = n.name;
+        this_class = n.this_class;
+        super_class = n.super_class;
+        interfaces = interfaces.1;
+        fields = each_field.kept;
+        methods = each_method.kept;
+      };
+      flags = ltb-true f.flags (2 ^ 16) flags.0;
+      interfaces = interfaces.0;
+      fields = each_field.fits;
+      methods = each_method.fits;
+      attributes = attributes_say f.attributes some_attributes.0;
     }
 
-pub tables_say : (f : Structure) (u v : Unit {0}) → checked_entries f.pool 1 f.pool ≡ Ok u → checked_tables (map entry_traits f.pool) f.pool f ≡ Ok v → Keeps f
+pub tables_say : (f : Structure) (u v : Unit {0}) → checked_entries f.pool 1 f.pool ≡ Ok u → checked_tables (map entry_traits f.pool) f.pool f ≡ Ok v → IsTested f
 unfolding checked_tables
 tables_say f u v rows tables =
-    let b = bind_ok (class_checked f) (λ class. fields_checked f >>= λ fields. methods_checked f) v tables in
-    let d = bind_ok (fields_checked f) (λ fields. methods_checked f) v b.2 in
-    keeps f u b.0 d.0 v rows b.1 d.1 d.2
+    let b = bind_ok (class_checked f) (λ class. fields_checked f >>= λ fields. (methods_checked f >>= λ methods. checked_attributes f.attributes)) v tables in
+    let d = bind_ok (fields_checked f) (λ fields. methods_checked f >>= λ methods. checked_attributes f.attributes) v b.2 in
+    let m = bind_ok (methods_checked f) (λ methods. checked_attributes f.attributes) v d.2 in
+    tested f u b.0 d.0 m.0 v rows b.1 d.1 m.1 m.2
 
 -- a file that passes the tests is answered as it is
-pub file_says : (f g : Structure) → kept_file f ≡ Ok g → (f ≡ g) × Keeps f
+pub file_says : (f g : Structure) → kept_file f ≡ Ok g → (f ≡ g) × IsTested f
 unfolding kept_file
 file_says f g h =
     let a = bind_ok (checked_entries f.pool 1 f.pool) (λ entries. checked_tables (map entry_traits f.pool) f.pool f >>= λ tables. Ok f) g h in
@@ -162,10 +191,38 @@ file_told f fits kept =
     let of_interface = has f.flags interface in
     let named : class_name f.pool f.this_class ≡ Some kept.name = class_named f.pool f.this_class kept.name kept.this_class in
     let super = super_told f.pool of_interface kept.name f.super_class kept.super_class in
-    let class : class_checked f ≡ Ok tt = rw (kept.flags, named, super, interfaces_told f.pool f.interfaces kept.interfaces) refl in
-    let fields : fields_checked f ≡ Ok tt = fields_told f.pool of_interface f.fields kept.fields.each kept.fields.new in
-    let methods : methods_checked f ≡ Ok tt = methods_told f.pool of_interface f.methods kept.methods.each kept.methods.new in
-    rw (rows_told f.pool 1 f.pool fits.pool.1 kept.pool, class, fields, methods) refl
+    let interfaces = all_told (λ i. is_some (class_name f.pool i)) (KeepsInterface f.pool) (interface_told f.pool) f.interfaces (fits.interfaces.0, kept.interfaces) in
+    let class : class_checked f ≡ Ok tt = rw (short_told f.flags fits.flags, kept.flags, named, super, interfaces) refl in
+    let fields : fields_checked f ≡ Ok tt = fields_told f.pool of_interface f.fields fits.fields kept.fields in
+    let methods : methods_checked f ≡ Ok tt = methods_told f.pool of_interface f.methods fits.methods kept.methods in
+    let attributes : checked_attributes f.attributes ≡ Ok tt = rw (attributes_told f.attributes fits.attributes) refl in
+    rw (rows_told f.pool 1 f.pool fits.pool.1 kept.pool, class, fields, methods, attributes) refl
+
+-- ---- parts that no bytes were read for
+
+fitting : (f : Structure) → PoolFits f.pool → IsTested f → Fits f
+fitting f pool t = record {
+  pool = pool;
+  flags = t.flags;
+  this_class = within f.pool f.this_class (Class t.kept.this_class.index) pool.0 t.kept.this_class.is_entry;
+  super_class = super_within f.pool pool.0 (has f.flags interface) t.kept.name f.super_class t.kept.super_class;
+  interfaces = (t.interfaces, interfaces_within f.pool pool.0 f.interfaces t.kept.interfaces);
+  fields = t.fields;
+  methods = t.methods;
+  attributes = t.attributes;
+}
+
+-- parts that pass the tests are a class file's
+pub parts_say : (f g : Structure) → parts_of f ≡ Ok g → (f ≡ g) × IsClassFile f
+unfolding parts_of
+parts_say f g h =
+    let a = bind_ok (checked_pool f.pool) (λ pool. kept_file f) g h in
+    let b = file_says f g a.2 in
+    (b.0, record { fits = fitting f (pool_says f.pool a.0 a.1) b.1; kept = b.1.kept })
+
+pub parts_told : (f : Structure) → Fits f → Keeps f → parts_of f ≡ Ok f
+unfolding parts_of
+parts_told f fits kept = rw (pool_told f.pool fits.pool) (file_told f fits kept)
 
 -- what a class of the pool is called is a class's name
 pub named_well : (f : Structure) → Keeps f → (i : ℕ) (name : List ℕ) → class_name f.pool i ≡ Some name → IsNameOf IsClass name

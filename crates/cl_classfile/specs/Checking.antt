@@ -1,17 +1,21 @@
 -- The tables as tests, with the first fault in the order in which a file is looked at.
-use Rattle.std.specs.Prelude.{◌≡◌, ℕ, ◌+◌, Bool, true, false, not, ◌&&◌, ◌||◌, ◌==◌, nat_eq, nat_lt, List, [], ◌∷◌, ◌++◌, map, Option, Some, None, is_some, Result, Ok, Err, if◌then◌else◌}
-use Rattle.std.specs.List.{list_all, list_any}
+use Rattle.std.specs.Prelude.{◌≡◌, ℕ, ◌+◌, Bool, true, false, not, ◌&&◌, ◌||◌, ◌==◌, nat_eq, nat_lt, List, [], ◌∷◌, ◌++◌, length, map, Option, Some, None, is_some, Result, Ok, Err, if◌then◌else◌}
+use Rattle.std.specs.List.{list_any}
 use Rattle.std.specs.Cmp.Lexicographic.{pointwise}
 use Rattle.cl_classfile.specs.declared.entry.Entry.{Entry}
 use Rattle.cl_classfile.specs.declared.fault.Fault.{Fault}
 use Rattle.cl_classfile.specs.declared.fault.Fault.TheVariants.{BadPool, BadFlags, BadMember, Duplicate, BadSupertype}
 use Rattle.cl_classfile.specs.declared.fault.ReadError.{ReadError}
 use Rattle.cl_classfile.specs.declared.fault.ReadError.TheVariants as errors
+use Rattle.cl_classfile.specs.declared.members.Kind.{Kind}
+use Rattle.cl_classfile.specs.declared.members.Kind.TheVariants as kinds
 use Rattle.cl_classfile.specs.declared.traits.Special.{Special}
 use Rattle.cl_classfile.specs.declared.traits.Special.TheVariants as names
 use Rattle.cl_classfile.specs.declared.traits.Traits.{Traits}
 use Rattle.cl_classfile.specs.Flags.{has, static, interface, is_class_flags, is_field_flags, is_method_flags, is_init_flags}
-use Rattle.cl_classfile.specs.Structure.{Structure, Member, object}
+use Rattle.cl_classfile.specs.Pool.{is_wide}
+use Rattle.cl_classfile.specs.Structure.{Structure, Member, Attribute, object}
+use Rattle.cl_classfile.specs.Widths.{is_short, entry_fits, is_unusable, all_fit, attribute_fits, member_fits}
 use Rattle.cl_classfile.specs.Rows.{is_field, entry_traits, traits_at, keeps_entry}
 use Rattle.cl_classfile.specs.Files.{text_at, class_name}
 
@@ -62,14 +66,14 @@ abbrev pub keeps_names : List Entry → Bool → ℕ → Option (List ℕ) → B
 keeps_names pool of_interface super None = false
 keeps_names pool of_interface super (Some name) = keeps_super pool of_interface name super
 
--- each interface is a class (JVMS SE 8, 4.1)
+-- a count can say how many interfaces there are, and each is a class (JVMS SE 8, 4.1)
 abbrev pub keeps_interfaces : List Entry → List ℕ → Bool
-keeps_interfaces pool interfaces = list_all (λ i. is_some (class_name pool i)) interfaces
+keeps_interfaces pool interfaces = all_fit (λ i. is_some (class_name pool i)) interfaces
 
 -- the flags, and then this_class, super_class and the interfaces (JVMS SE 8, 4.1)
 abbrev pub checked_class : List Entry → ℕ → ℕ → ℕ → List ℕ → Result (Unit {0}) Fault
 checked_class pool flags this super interfaces =
-    if is_class_flags flags
+    if is_short flags && is_class_flags flags
     then if keeps_names pool (has flags interface) super (class_name pool this) && keeps_interfaces pool interfaces then Ok tt else Err BadSupertype
     else Err BadFlags
 
@@ -97,6 +101,11 @@ keeps_method traits of_interface m =
     keeps_method_flags (traits_at traits m.name_index).special of_interface m.flags
     && (traits_at traits m.name_index).method
     && has_room (has m.flags static) (traits_at traits m.descriptor_index).units
+
+-- a field, or a method, fits its widths and keeps its table (4.5, 4.6)
+abbrev pub keeps_member : Kind → List Traits → Bool → Member → Bool
+keeps_member kinds.Field traits of_interface m = member_fits m && keeps_field traits of_interface m
+keeps_member kinds.Method traits of_interface m = member_fits m && keeps_method traits of_interface m
 
 -- the texts of a name and of a descriptor (4.5, 4.6)
 abbrev pub Key : Type 0
@@ -130,12 +139,43 @@ checked_members keeps pool before (m ∷ ms) =
     then if list_any (λ e. same_member pool e m) before then Err Duplicate else checked_members keeps pool (before ++ m ∷ []) ms
     else Err BadMember
 
--- the class's own tables, then its fields, then its methods, where the traits of the entries are given (4.1, 4.5, 4.6)
+-- a count can say how many members there are, and each is looked at (4.1, 4.5, 4.6)
+unfoldable pub checked_list : Kind → List Traits → Bool → List Entry → List Member → Result (Unit {0}) Fault
+checked_list kind traits of_interface pool ms = if is_short (length ms) then checked_members (keeps_member kind traits of_interface) pool [] ms else Err BadMember
+
+-- the attributes fit their widths (4.7)
+abbrev pub checked_attributes : List Attribute → Result (Unit {0}) Fault
+checked_attributes attributes = if all_fit attribute_fits attributes then Ok tt else Err BadMember
+
+-- the class's own tables, then its fields, its methods and its attributes, where the traits of the entries are given
+-- (4.1, 4.5 to 4.7)
 unfoldable pub checked_tables : List Traits → List Entry → Structure → Result (Unit {0}) Fault
 checked_tables traits pool f =
     checked_class pool f.flags f.this_class f.super_class f.interfaces >>= λ class.
-    (checked_members (keeps_field traits (has f.flags interface)) pool [] f.fields >>= λ fields. checked_members (keeps_method traits (has f.flags interface)) pool [] f.methods)
+    (checked_list kinds.Field traits (has f.flags interface) pool f.fields >>= λ fields.
+    (checked_list kinds.Method traits (has f.flags interface) pool f.methods >>= λ methods. checked_attributes f.attributes))
 
--- the file, where it keeps the tables (4.1)
+-- the file, where it keeps the tables and what stands behind its pool fits its widths (4.1)
 unfoldable pub kept_file : Structure → Result Structure Fault
 kept_file f = checked_entries f.pool 1 f.pool >>= λ entries. (checked_tables (map entry_traits f.pool) f.pool f >>= λ tables. Ok f)
+
+-- ---- parts that no bytes were read for (own choice of the order: that of the bytes, a count before its items)
+
+-- an entry may stand behind one that takes its index too, or behind another, and fits its width (4.4.5)
+abbrev pub fits_slot : Bool → Entry → Bool
+fits_slot true e = is_unusable e
+fits_slot false e = not (is_unusable e) && entry_fits e
+
+-- the entries behind index i: whether each may stand there (4.4.5)
+unfoldable pub checked_slots : ℕ → Bool → List Entry → Result (Unit {0}) Fault
+checked_slots i false [] = Ok tt
+checked_slots i true [] = Err (BadPool i)
+checked_slots i taken (e ∷ es) = if fits_slot taken e then checked_slots (i + 1) (is_wide e) es else Err (BadPool (i + 1))
+
+-- the count of the pool can say how many entries there are, and each may stand where it does (4.1, 4.4.5)
+unfoldable pub checked_pool : List Entry → Result (Unit {0}) Fault
+checked_pool pool = if is_short (length pool + 1) then checked_slots 0 false pool else Err (BadPool 0)
+
+-- the file of these parts, or their first fault: what no bytes spell of the pool, and then as in a file that is read (4.1)
+unfoldable pub parts_of : Structure → Result Structure Fault
+parts_of f = checked_pool f.pool >>= λ pool. kept_file f

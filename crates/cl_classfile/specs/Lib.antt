@@ -1,6 +1,7 @@
 pub mod Flags
 pub mod Pool
 pub mod Members
+pub mod Widths
 pub mod Structure
 pub mod Files
 pub mod Rows
@@ -10,3 +11,4 @@ pub mod Raw
 pub mod Reading
 pub mod References
 pub mod View
+pub mod Refusals

@@ -1,16 +1,16 @@
--- A class file without where it lies in memory.
-use Rattle.cl_classfile.specs.declared.file.ClassFile.TheInside.{Inside}
+-- The parts of a class file without where they lie in memory.
+use Rattle.cl_classfile.specs.declared.parts.Parts.{Parts}
 use Rattle.cl_classfile.specs.Structure.{Structure}
 
--- the file that a value of the program is (4.1)
-abbrev pub structure : Inside → Structure
-structure f = record {
-  pool = f.pool.items;
-  flags = f.flags;
-  this_class = f.this_class;
-  super_class = f.super_class;
-  interfaces = f.interfaces.items;
-  fields = f.fields.items;
-  methods = f.methods.items;
-  attributes = f.attributes.items;
+-- the file that these parts make (4.1)
+abbrev pub plain_parts : Parts → Structure
+plain_parts p = record {
+  pool = p.pool.items;
+  flags = p.flags;
+  this_class = p.this_class;
+  super_class = p.super_class;
+  interfaces = p.interfaces.items;
+  fields = p.fields.items;
+  methods = p.methods.items;
+  attributes = p.attributes.items;
 }

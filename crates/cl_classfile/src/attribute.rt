@@ -1,6 +1,7 @@
 //! Attributes (JVMS SE 8, 4.7).
 
 ghost use Rattle.std.specs.Prelude.{◌≡◌, IfOk};
+ghost use Rattle.cl_classfile.specs.Widths.{attribute_fits};
 
 use std::alloc::{AllocError, Global};
 use std::marker::Model;
@@ -21,6 +22,13 @@ impl Model for Attribute {
 }
 
 impl Attribute {
+    /// The attribute of this name and these bytes, of which a file can hold 4,294,967,295.
+    pub fn new(name_index: u16, bytes: Vec<u8>) -> Attribute
+        ensures { result ≡ record { name_index = name_index; bytes = bytes.items } }
+    {
+        Attribute { name_index, bytes }
+    }
+
     /// The attribute with a copy of these bytes.
     pub(crate) fn copied(
         alloc: Global,
@@ -31,6 +39,15 @@ impl Attribute {
     {
         let bytes = Vec::from_slice(alloc, bytes)?;
         Ok(Attribute { name_index, bytes })
+    }
+
+    /// Whether each item is such as its width can say.
+    pub(crate) fn fits(&self) -> bool
+        ensures { result ≡ attribute_fits self.now }
+    {
+        // Read for the proof, which has its range from there.
+        let _name = self.name_index;
+        self.bytes.len() <= u32::MAX as usize
     }
 
     /// The index of its name.

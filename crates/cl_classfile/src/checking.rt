@@ -10,7 +10,7 @@ ghost use Rattle.cl_classfile.specs.Checking.{Finds, may_stand_above, keeps_supe
 use crate::entry::Entry;
 use crate::fault::Fault;
 use crate::flags::{is_class_flags, is_interface};
-use crate::reading::RawFile;
+use crate::parts::Parts;
 use cl_names::Name;
 
 /// What stands at an index, from 1 on.
@@ -103,24 +103,32 @@ fn is_class(pool: &[Entry], index: u16) -> bool
     class_name(pool, index).is_some()
 }
 
-fn keeps_interfaces(pool: &[Entry], interfaces: &[u16]) -> bool
-    ensures { result ≡ keeps_interfaces pool.now interfaces.now }
+fn each_is_class(pool: &[Entry], interfaces: &[u16]) -> bool
+    ensures { result ≡ list_all (λ i. is_some (class_name pool.now i)) interfaces.now }
 {
     interfaces.iter().all(|i| is_class(pool, *i))
 }
 
-/// Whether the flags and the supertypes keep their tables.
-pub fn check_class(pool: &[Entry], file: &RawFile<'_>) -> Result<(), Fault>
-    ensures { Finds (λ u. u) result (checked_class pool.now file.now.flags file.now.this_class file.now.super_class file.now.interfaces.items) }
+/// Whether a count can say how many interfaces there are, and each is a class.
+fn keeps_interfaces(pool: &[Entry], interfaces: &[u16]) -> bool
+    ensures { result ≡ keeps_interfaces pool.now interfaces.now }
 {
-    if !is_class_flags(file.flags) {
+    interfaces.len() <= 65535 && each_is_class(pool, interfaces)
+}
+
+/// Whether the flags and the supertypes keep their tables.
+pub fn check_class(parts: &Parts) -> Result<(), Fault>
+    ensures { Finds (λ u. u) result (checked_class parts.now.pool.items parts.now.flags parts.now.this_class parts.now.super_class parts.now.interfaces.items) }
+{
+    let pool = parts.pool.as_slice();
+    if !is_class_flags(parts.flags) {
         return Err(Fault::BadFlags);
     }
-    let of_interface = is_interface(file.flags);
-    if !keeps_names(pool, of_interface, file.this_class, file.super_class) {
+    let of_interface = is_interface(parts.flags);
+    if !keeps_names(pool, of_interface, parts.this_class, parts.super_class) {
         return Err(Fault::BadSupertype);
     }
-    if !keeps_interfaces(pool, file.interfaces.as_slice()) {
+    if !keeps_interfaces(pool, parts.interfaces.as_slice()) {
         return Err(Fault::BadSupertype);
     }
     Ok(())

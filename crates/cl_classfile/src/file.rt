@@ -1,14 +1,16 @@
-ghost use Rattle.std.specs.Prelude.{◌≡◌, ◌↔◌, is_some, IfOk, IfSome, Ok, IsErrOf};
+ghost use Rattle.std.specs.Prelude.{◌≡◌, ◌↔◌, ℕ, List, is_some, IfOk, IfErr, IfSome, Ok, IsErrOf};
 ghost use Rattle.std.specs.Option.{option_map, option_and_then};
 ghost use Rattle.cl_classfile.specs.declared.fault.Fault.{Fault};
 ghost use Rattle.cl_classfile.specs.declared.fault.Fault.TheVariants as faults;
 ghost use Rattle.cl_classfile.specs.declared.fault.ReadError.TheVariants as errors;
-ghost use Rattle.cl_classfile.specs.Structure.{Structure, at, Fits, Spells, IsClassFile, HasOtherMagic, HasOtherVersion};
+ghost use Rattle.cl_classfile.specs.Structure.{Structure, at, Fits, Spells, spelling, IsClassFile, HasOtherMagic, HasOtherVersion};
 ghost use Rattle.cl_classfile.specs.Files.{file_of, typed, reference};
 ghost use Rattle.cl_classfile.specs.References.{plain_reference, refers, IsCited};
 ghost use Rattle.cl_names.specs.Kind.{IsNameOf, IsClass};
 ghost use Rattle.cl_classfile.specs.Raw.{plain_file};
-ghost use Rattle.cl_classfile.specs.Checking.{Gives, checked_tables, kept_file};
+ghost use Rattle.cl_classfile.specs.View.{plain_parts};
+ghost use Rattle.cl_classfile.specs.Refusals.{Answers};
+ghost use Rattle.cl_classfile.specs.Checking.{Gives, checked_tables, kept_file, parts_of};
 ghost use Rattle.cl_classfile.specs.Reading.{header_at, read_of};
 
 use crate::attribute::Attribute;
@@ -16,28 +18,23 @@ use crate::checking::{check_class, class_name};
 use crate::entry::Entry;
 use crate::fault::{Fault, ReadError};
 use crate::flags::is_interface;
-use crate::member::Member;
-use crate::members::{check_fields, check_methods};
-use crate::raw::owned_entries;
+use crate::member::{Member, attributes_fit};
+use crate::members::{Kind, check_members};
+use crate::parts::{Parts, Refused};
+use crate::raw::{borrowed_entries, owned_entries};
 use crate::reading::{RawFile, whole_of};
 use crate::reference::{Reference, reference_at};
 use crate::rows::{all_traits, check_entries};
 use crate::traits::Traits;
+use crate::widths::check_slots;
 use cl_names::Name;
-use std::alloc::Global;
+use std::alloc::{AllocError, Global};
 use std::marker::Model;
 
 /// A class file, whose parts keep the tables of JVMS SE 8, 4.1 and 4.4 to 4.6.
 #[derive(Debug, Drop)]
 pub struct ClassFile {
-    pool: Vec<Entry>,
-    flags: u16,
-    this_class: u16,
-    super_class: u16,
-    interfaces: Vec<u16>,
-    fields: Vec<Member>,
-    methods: Vec<Member>,
-    attributes: Vec<Attribute>,
+    parts: Parts,
 }
 
 impl Model for ClassFile {
@@ -45,33 +42,57 @@ impl Model for ClassFile {
 
     ghost Value = { Structure };
 
-    ghost use Rattle.cl_classfile.specs.View.{structure};
+    ghost use Rattle.cl_classfile.specs.View.{plain_parts};
 
-    ghost view = { structure };
+    ghost view = { λ f. plain_parts f.parts };
 
-    ghost invariant = { λ f. IsClassFile (structure f) };
+    ghost invariant = { λ f. IsClassFile (plain_parts f.parts) };
 }
 
 impl ClassFile {
+    /// The class file of these parts, which are handed back where they are no class file's.
+    ///
+    /// The errors come in the order of `read`: F5 of 0 for a pool over 65,534 entries, F5 for each entry in turn that no
+    /// bytes spell where it stands (the last one, where it is a long or a double; the one behind such an entry, where it
+    /// is not `Unusable`; an `Unusable` that stands elsewhere), and then for each in turn that breaks its row; F6; F9,
+    /// also for over 65,535 interfaces; F7 for over 65,535 fields, and F7 and then F8 for each field, where one with
+    /// over 65,535 attributes or an attribute over 4,294,967,295 bytes is F7 too; the methods likewise; F7 for such
+    /// attributes of the class. F0 where memory was refused.
+    pub fn from_parts(alloc: Global, parts: Parts) -> Result<ClassFile, Refused>
+        // The file has just these parts, and bytes spell it.
+        ensures found { IfOk result (λ f. (f ≡ plain_parts parts) × Spells (spelling f) f) }
+        // Parts that bytes spell are taken, unless memory runs out.
+        ensures only { (bytes : List ℕ) → Spells bytes (plain_parts parts) → Answers result (Ok (plain_parts parts)) }
+        // Which fault it is.
+        ensures exact { Answers result (parts_of (plain_parts parts)) }
+        // Refused parts are as they were.
+        ensures back { IfErr result (λ r. r.parts ≡ parts) }
+    {
+        match check_parts(alloc, &parts) {
+            Ok(()) => Ok(ClassFile { parts }),
+            Err(error) => Err(Refused { parts, error }),
+        }
+    }
+
     /// The class's flags (JVMS SE 8, 4.1).
     pub fn flags(&self) -> u16
         ensures { result ≡ self.now.flags }
     {
-        self.flags
+        self.parts.flags
     }
 
     /// The index of the entry of the class itself.
     pub fn this_class(&self) -> u16
         ensures { result ≡ self.now.this_class }
     {
-        self.this_class
+        self.parts.this_class
     }
 
     /// The index of the entry of the superclass, and 0 in `java/lang/Object`.
     pub fn super_class(&self) -> u16
         ensures { result ≡ self.now.super_class }
     {
-        self.super_class
+        self.parts.super_class
     }
 
     /// The entries of the pool from index 1 on.
@@ -79,35 +100,35 @@ impl ClassFile {
         ensures entries { result.now ≡ self.now.pool }
         ensures sound { IsClassFile self.now }
     {
-        self.pool.as_slice()
+        self.parts.pool.as_slice()
     }
 
     /// The indices of the entries of the interfaces, in order.
     pub fn interfaces(&self) -> &[u16]
         ensures { result.now ≡ self.now.interfaces }
     {
-        self.interfaces.as_slice()
+        self.parts.interfaces.as_slice()
     }
 
     /// The fields, in order.
     pub fn fields(&self) -> &[Member]
         ensures { result.now ≡ self.now.fields }
     {
-        self.fields.as_slice()
+        self.parts.fields.as_slice()
     }
 
     /// The methods, in order.
     pub fn methods(&self) -> &[Member]
         ensures { result.now ≡ self.now.methods }
     {
-        self.methods.as_slice()
+        self.parts.methods.as_slice()
     }
 
     /// The attributes of the class, in order.
     pub fn attributes(&self) -> &[Attribute]
         ensures { result.now ≡ self.now.attributes }
     {
-        self.attributes.as_slice()
+        self.parts.attributes.as_slice()
     }
 
     /// The name of the class.
@@ -115,7 +136,7 @@ impl ClassFile {
         ensures name { result.now ≡ (file_of self.now).name }
         ensures class { IsNameOf IsClass result.now }
     {
-        class_name(self.pool.as_slice(), self.this_class).unwrap()
+        class_name(self.parts.pool.as_slice(), self.parts.this_class).unwrap()
     }
 
     /// The name of the superclass, if there is one.
@@ -123,7 +144,7 @@ impl ClassFile {
         ensures name { option_map (λ n. n.now) result ≡ (file_of self.now).super_name }
         ensures class { IfSome result (λ n. IsNameOf IsClass n.now) }
     {
-        class_name(self.pool.as_slice(), self.super_class)
+        class_name(self.parts.pool.as_slice(), self.parts.super_class)
     }
 
     /// What the entry at an index refers to, and nothing where it is neither a class or an array nor a member of one
@@ -135,15 +156,34 @@ impl ClassFile {
         // Each text is of its kind.
         ensures sound { IfSome result (λ r. IsCited (plain_reference r)) }
     {
-        reference_at(self.pool.as_slice(), index)
+        reference_at(self.parts.pool.as_slice(), index)
     }
 }
 
-fn made(pool: Vec<Entry>, file: RawFile<'_>) -> ClassFile
-    requires { IsClassFile (record (plain_file file) { pool = pool.items }) }
-    ensures { result ≡ record (plain_file file.entry) { pool = pool.items } }
+/// Whether the flags and the supertypes keep their tables, then the fields, the methods and the attributes.
+#[tactic(auto, unfolding(crate::specs::Checking::checked_tables))]
+fn check_tables(alloc: Global, traits: &[Traits], parts: &Parts) -> Result<(), ReadError>
+    ensures { Gives (λ u. u) result (checked_tables traits.now parts.now.pool.items (plain_parts parts.now)) }
 {
-    ClassFile {
+    check_class(parts)?;
+    let pool = parts.pool.as_slice();
+    let of_interface = is_interface(parts.flags);
+    let fields = parts.fields.as_slice();
+    check_members(alloc, Kind::Field, traits, pool, of_interface, fields)?;
+    let methods = parts.methods.as_slice();
+    check_members(alloc, Kind::Method, traits, pool, of_interface, methods)?;
+    if !attributes_fit(parts.attributes.as_slice()) {
+        return Err(ReadError::Fault(Fault::BadMember));
+    }
+    Ok(())
+}
+
+/// The parts of what was read, of their own.
+fn owned_parts(alloc: Global, file: RawFile<'_>) -> Result<Parts, AllocError>
+    ensures { IfOk result (λ p. plain_parts p ≡ plain_file file.entry) }
+{
+    let pool = owned_entries(alloc, file.pool.as_slice())?;
+    Ok(Parts {
         pool,
         flags: file.flags,
         this_class: file.this_class,
@@ -152,23 +192,7 @@ fn made(pool: Vec<Entry>, file: RawFile<'_>) -> ClassFile
         fields: file.fields,
         methods: file.methods,
         attributes: file.attributes,
-    }
-}
-
-/// Whether the flags and the supertypes keep their tables, then the fields, then the methods.
-#[tactic(auto, unfolding(crate::specs::Checking::checked_tables))]
-fn check_tables(
-    alloc: Global,
-    traits: &[Traits],
-    pool: &[Entry],
-    file: &RawFile<'_>,
-) -> Result<(), ReadError>
-    ensures { Gives (λ u. u) result (checked_tables traits.now pool.now (plain_file file.now)) }
-{
-    check_class(pool, file)?;
-    let of_interface = is_interface(file.flags);
-    check_fields(alloc, traits, pool, of_interface, file.fields.as_slice())?;
-    check_methods(alloc, traits, pool, of_interface, file.methods.as_slice())
+    })
 }
 
 #[tactic(auto, unfolding(crate::specs::Checking::kept_file))]
@@ -178,9 +202,24 @@ fn kept_file(alloc: Global, file: RawFile<'_>) -> Result<ClassFile, ReadError>
 {
     let traits = all_traits(alloc, file.pool.as_slice())?;
     check_entries(traits.as_slice(), file.pool.as_slice())?;
-    let pool = owned_entries(alloc, file.pool.as_slice())?;
-    check_tables(alloc, traits.as_slice(), pool.as_slice(), &file)?;
-    Ok(made(pool, file))
+    let parts = owned_parts(alloc, file)?;
+    check_tables(alloc, traits.as_slice(), &parts)?;
+    Ok(ClassFile { parts })
+}
+
+/// Whether the parts are those of a class file.
+#[tactic(auto, unfolding(crate::specs::Checking::parts_of, crate::specs::Checking::checked_pool, crate::specs::Checking::kept_file))]
+fn check_parts(alloc: Global, parts: &Parts) -> Result<(), ReadError>
+    ensures { Gives (λ u. plain_parts parts.now) result (parts_of (plain_parts parts.now)) }
+{
+    if parts.pool.len() > 65534 {
+        return Err(ReadError::Fault(Fault::BadPool(0)));
+    }
+    let pool = borrowed_entries(alloc, parts.pool.as_slice())?;
+    check_slots(pool.as_slice())?;
+    let traits = all_traits(alloc, pool.as_slice())?;
+    check_entries(traits.as_slice(), pool.as_slice())?;
+    check_tables(alloc, traits.as_slice(), parts)
 }
 
 #[tactic(auto, unfolding(crate::specs::Reading::read_of))]

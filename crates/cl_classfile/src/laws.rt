@@ -1,6 +1,7 @@
 //! Laws of the grammar, each the contract of a function that does nothing.
-ghost use Rattle.std.specs.Prelude.{◌≡◌, ℕ, List};
+ghost use Rattle.std.specs.Prelude.{◌≡◌, ◌↔◌, ℕ, List, Ok};
 ghost use Rattle.cl_classfile.specs.Structure.{Structure, Fits, Keeps, Spells};
+ghost use Rattle.cl_classfile.specs.Checking.{parts_of};
 
 /// Bytes spell at most one class file.
 pub fn spells_one_file()
@@ -11,4 +12,10 @@ pub fn spells_one_file()
 pub fn has_one_spelling()
     ensures some { (f : Structure) → Fits f → Keeps f → (bytes : List ℕ) × Spells bytes f }
     ensures one { (f : Structure) (bytes other : List ℕ) → Spells bytes f → Spells other f → bytes ≡ other }
+{}
+
+/// The tests of parts answer them as a class file exactly where some bytes spell them.
+pub fn parts_are_spelled()
+    ensures same { (f g : Structure) → parts_of f ≡ Ok g → f ≡ g }
+    ensures spelled { (f : Structure) → (parts_of f ≡ Ok f) ↔ ((bytes : List ℕ) × Spells bytes f) }
 {}

@@ -10,6 +10,7 @@ mod flags;
 mod laws;
 mod member;
 mod members;
+mod parts;
 mod pool;
 mod raw;
 mod reading;
@@ -17,15 +18,19 @@ mod reference;
 mod rows;
 mod text;
 mod traits;
+mod widths;
 
 pub use attribute::Attribute;
 pub use entry::Entry;
 pub use fault::{Fault, ReadError};
 pub use file::{ClassFile, read};
-pub use laws::{has_one_spelling, spells_one_file};
+pub use laws::{has_one_spelling, parts_are_spelled, spells_one_file};
 pub use member::Member;
+pub use parts::{Parts, Refused};
 pub use reference::{Reference, Symbol};
 
+#[cfg(test)]
+mod parts_tests;
 #[cfg(test)]
 mod pool_tests;
 #[cfg(test)]

@@ -3,7 +3,7 @@
 ghost use Rattle.std.specs.Prelude.{◌≡◌, List, [], ◌∷◌, ◌++◌, not, IfOk};
 ghost use Rattle.std.specs.List.{list_any};
 ghost use Rattle.cl_classfile.specs.Members.{Member};
-ghost use Rattle.cl_classfile.specs.Checking.{Gives, keeps_field, has_room, keeps_method_flags, keeps_method, key_of, same_member, checked_members};
+ghost use Rattle.cl_classfile.specs.Checking.{Gives, keeps_field, has_room, keeps_method_flags, keeps_method, keeps_member, key_of, same_member, checked_list};
 ghost use Rattle.cl_classfile.specs.Seen.{HasKeys};
 
 use crate::checking::text_at;
@@ -16,6 +16,13 @@ use crate::text::Text;
 use crate::traits::{Special, Traits, is_field};
 use std::alloc::{AllocError, Global};
 use std::collections::BTreeSet;
+
+/// Which members of a class.
+#[derive(Clone, Copy)]
+pub enum Kind {
+    Field,
+    Method,
+}
 
 fn keeps_field(traits: &[Traits], of_interface: bool, field: &Member) -> bool
     ensures { result ≡ keeps_field traits.now of_interface field.now }
@@ -55,6 +62,16 @@ fn keeps_method(traits: &[Traits], of_interface: bool, method: &Member) -> bool
         && has_room(is_static(method.flags()), units)
 }
 
+/// Whether the member fits its widths and keeps its table.
+fn keeps_member(kind: Kind, traits: &[Traits], of_interface: bool, member: &Member) -> bool
+    ensures { result ≡ keeps_member kind traits.now of_interface member.now }
+{
+    match kind {
+        Kind::Field => member.fits() && keeps_field(traits, of_interface, member),
+        Kind::Method => member.fits() && keeps_method(traits, of_interface, member),
+    }
+}
+
 /// The texts of a member's name and descriptor.
 fn key_of<'a>(pool: &'a [Entry], member: &Member) -> Option<(Text<'a>, Text<'a>)>
     ensures { result ≡ key_of pool.now member.now }
@@ -78,46 +95,28 @@ fn is_new<'a>(
     }
 }
 
-/// Whether each field keeps the table, and agrees with none before it.
-pub fn check_fields(
+/// Whether a count can say how many members there are, each keeps its table, and agrees with none before it.
+#[tactic(auto, unfolding(crate::specs::Checking::checked_list))]
+pub fn check_members(
     alloc: Global,
+    kind: Kind,
     traits: &[Traits],
     pool: &[Entry],
     of_interface: bool,
-    fields: &[Member],
+    members: &[Member],
 ) -> Result<(), ReadError>
-    ensures { Gives (λ u. u) result (checked_members (keeps_field traits.now of_interface) pool.now [] fields.now) }
+    ensures { Gives (λ u. u) result (checked_list kind traits.now of_interface pool.now members.now) }
 {
-    let mut seen = BTreeSet::new(alloc);
-    for i in 0..fields.len() {
-        let field = &fields[i];
-        if !keeps_field(traits, of_interface, field) {
-            return Err(ReadError::Fault(Fault::BadMember));
-        }
-        if !is_new(&mut seen, pool, field)? {
-            return Err(ReadError::Fault(Fault::Duplicate));
-        }
+    if members.len() > 65535 {
+        return Err(ReadError::Fault(Fault::BadMember));
     }
-    Ok(())
-}
-
-/// Whether each method keeps the table, and agrees with none before it.
-pub fn check_methods(
-    alloc: Global,
-    traits: &[Traits],
-    pool: &[Entry],
-    of_interface: bool,
-    methods: &[Member],
-) -> Result<(), ReadError>
-    ensures { Gives (λ u. u) result (checked_members (keeps_method traits.now of_interface) pool.now [] methods.now) }
-{
     let mut seen = BTreeSet::new(alloc);
-    for i in 0..methods.len() {
-        let method = &methods[i];
-        if !keeps_method(traits, of_interface, method) {
+    for i in 0..members.len() {
+        let member = &members[i];
+        if !keeps_member(kind, traits, of_interface, member) {
             return Err(ReadError::Fault(Fault::BadMember));
         }
-        if !is_new(&mut seen, pool, method)? {
+        if !is_new(&mut seen, pool, member)? {
             return Err(ReadError::Fault(Fault::Duplicate));
         }
     }

@@ -98,3 +98,67 @@ pub fn owned_entries(alloc: Global, pool: &[RawEntry<'_>]) -> Result<Vec<Entry>,
     }
     Ok(entries)
 }
+
+/// The entry as it would stand in the bytes.
+fn borrowed(entry: &Entry) -> RawEntry<'_>
+    ensures { plain_entry result ≡ entry.now }
+{
+    match entry {
+        Entry::Utf8(text) => RawEntry::Utf8(text.bytes()),
+        Entry::Integer(value) => RawEntry::Integer(*value),
+        Entry::Float(bits) => RawEntry::Float(*bits),
+        Entry::Long(value) => RawEntry::Long(*value),
+        Entry::Double(bits) => RawEntry::Double(*bits),
+        Entry::Unusable => RawEntry::Unusable,
+        Entry::Class(text) => RawEntry::Class(*text),
+        Entry::String(text) => RawEntry::String(*text),
+        Entry::Fieldref {
+            class,
+            name_and_type,
+        } => RawEntry::Fieldref {
+            class: *class,
+            name_and_type: *name_and_type,
+        },
+        Entry::Methodref {
+            class,
+            name_and_type,
+        } => RawEntry::Methodref {
+            class: *class,
+            name_and_type: *name_and_type,
+        },
+        Entry::InterfaceMethodref {
+            class,
+            name_and_type,
+        } => RawEntry::InterfaceMethodref {
+            class: *class,
+            name_and_type: *name_and_type,
+        },
+        Entry::NameAndType { name, descriptor } => RawEntry::NameAndType {
+            name: *name,
+            descriptor: *descriptor,
+        },
+        Entry::MethodHandle { kind, reference } => RawEntry::MethodHandle {
+            kind: *kind,
+            reference: *reference,
+        },
+        Entry::MethodType(descriptor) => RawEntry::MethodType(*descriptor),
+        Entry::InvokeDynamic {
+            bootstrap,
+            name_and_type,
+        } => RawEntry::InvokeDynamic {
+            bootstrap: *bootstrap,
+            name_and_type: *name_and_type,
+        },
+    }
+}
+
+/// The entries, so.
+pub fn borrowed_entries(alloc: Global, pool: &[Entry]) -> Result<Vec<RawEntry<'_>>, AllocError>
+    ensures { IfOk result (λ v. plain_entries v.items ≡ pool.now) }
+{
+    let mut entries = Vec::with_capacity(alloc, pool.len())?;
+    for entry in pool {
+        entries.push(borrowed(entry))?;
+    }
+    Ok(entries)
+}

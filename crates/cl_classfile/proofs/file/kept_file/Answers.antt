@@ -1,8 +1,9 @@
-use Rattle.std.proofs.Common.{◌≡◌, List, Ok, map, sym, ap, ◌∙◌}
-use Rattle.cl_classfile.specs.declared.entry.Entry.{Entry}
+use Rattle.std.proofs.Common.{◌≡◌, List, Ok, map, sym, ap, subst, ◌∙◌}
 use Rattle.cl_classfile.specs.declared.raw.RawEntry.{RawEntry}
 use Rattle.cl_classfile.specs.declared.traits.Traits.{Traits}
+use Rattle.cl_classfile.specs.Structure.{Structure, IsClassFile}
 use Rattle.cl_classfile.specs.Raw.{plain_entries, plain_file}
+use Rattle.cl_classfile.specs.View.{plain_parts}
 use Rattle.cl_classfile.specs.Rows.{entry_traits}
 use Rattle.cl_classfile.specs.Checking.{checked_entries, checked_tables}
 use Rattle.cl_classfile.proofs.Exact.{is_class_file}
@@ -14,13 +15,13 @@ traits_of raws = map entry_traits (plain_entries raws)
 pub check_entries-requires-clause-traits : goal.check_entries-requires-clause-traits
 check_entries-requires-clause-traits c = c.as_slice-2.ensures.value ∙ c.in_ok-traits.ensures ∙ ap traits_of (c.as_slice.ensures.value ∙ sym c.as_slice-3.ensures.value)
 
-pub made-requires : goal.made-requires
-made-requires c =
+pub invariant_of-result : goal.invariant_of-result
+invariant_of-result c =
     let f = plain_file c.args.file in
-    let same : c.in_ok-pool.pool.items ≡ f.pool = c.in_ok-pool.ensures ∙ ap plain_entries c.as_slice-4.ensures.value in
-    let traits : c.as_slice-5.result.now ≡ map entry_traits f.pool = c.as_slice-5.ensures.value ∙ c.in_ok-traits.ensures ∙ ap traits_of c.as_slice.ensures.value in
+    let same : plain_parts c.in_ok-parts.parts ≡ f = c.in_ok-parts.ensures in
+    let traits : c.as_slice-4.result.now ≡ map entry_traits f.pool = c.as_slice-4.ensures.value ∙ c.in_ok-traits.ensures ∙ ap traits_of c.as_slice.ensures.value in
     let rows : checked_entries f.pool 1 f.pool ≡ Ok c.in_ok-check_entries.field-0 =
     ap (λ (rs : List RawEntry). checked_entries (plain_entries rs) 1 (plain_entries rs)) (sym c.as_slice-3.ensures.value) ∙ c.in_ok-check_entries.ensures in
     let tables : checked_tables (map entry_traits f.pool) f.pool f ≡ Ok c.in_ok-check_tables.field-0 =
-    ap (λ (ts : List Traits). checked_tables ts f.pool f) (sym traits) ∙ ap (λ (es : List Entry). checked_tables c.as_slice-5.result.now es f) (sym (c.as_slice-6.ensures.value ∙ same)) ∙ c.in_ok-check_tables.ensures in
-    rw same (is_class_file f c.in_ok-check_entries.field-0 c.in_ok-check_tables.field-0 c.requires rows tables)
+    ap (λ (ts : List Traits). checked_tables ts f.pool f) (sym traits) ∙ ap (λ (g : Structure). checked_tables c.as_slice-4.result.now g.pool g) (sym same) ∙ c.in_ok-check_tables.ensures in
+    subst IsClassFile (sym same) (is_class_file f c.in_ok-check_entries.field-0 c.in_ok-check_tables.field-0 c.requires rows tables)

@@ -1,8 +1,0 @@
-use Rattle.std.proofs.Common.{take}
-use Rattle.cl_classfile.specs.Checking.{keeps_method}
-use Rattle.cl_classfile.specs.Seen.{HasKeys}
-use Rattle.cl_classfile.proofs.MemberRows.{AreLookedAt}
-use Rattle.cl_classfile.proofs.members.check_methods.Given as goal
-
-abbrev pub invariant-loop-i : goal.invariant-loop-i
-invariant-loop-i l = AreLookedAt (keeps_method l.traits l.of_interface) l.pool l.methods l.i × HasKeys l.pool l.seen.keys (take l.i l.methods)

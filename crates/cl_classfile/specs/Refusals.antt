@@ -1,0 +1,11 @@
+-- What is answered to parts that no bytes were read for.
+use Rattle.std.specs.Prelude.{◌≡◌, Result, Ok, Err}
+use Rattle.cl_classfile.specs.declared.parts.Refused.{Refused}
+use Rattle.cl_classfile.specs.declared.fault.Fault.{Fault}
+use Rattle.cl_classfile.specs.Structure.{Structure}
+use Rattle.cl_classfile.specs.Checking.{Fails}
+
+-- the answer is this file, or parts refused with this fault, unless memory ran out (own choice)
+abbrev pub Answers : Result Structure Refused → Result Structure Fault → Type 0
+Answers (Ok f) file = file ≡ Ok f
+Answers (Err r) file = Fails r.error file

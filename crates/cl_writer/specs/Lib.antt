@@ -3,5 +3,4 @@ pub mod Assemblies
 pub mod Described
 pub mod Items
 pub mod Listings
-pub mod Outlines
 pub mod Statements

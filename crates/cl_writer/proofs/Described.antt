@@ -1,19 +1,20 @@
--- What lines describe that is no class file.
-use Rattle.std.proofs.Common.{◌≡◌, ◌+◌, ◌<◌, ℕ, false, List, length, map, Ok, Err, refl, sym, ap, subst, ◌∙◌, arith}
+-- What lines describe: a class file, or parts that are none.
+use Rattle.std.proofs.Common.{◌≡◌, ◌+◌, ◌<◌, ℕ, false, List, length, Ok, Err, refl, sym, ap, ◌∙◌, arith}
 use Rattle.std.proofs.lemmas.Bool.Decides.{nat_tests}
 use Rattle.std.proofs.lemmas.List.{length-map}
 use Rattle.cl_lines.specs.Lines.{Numbered}
-use Rattle.cl_classfile.specs.declared.entry.Entry.{Entry}
 use Rattle.cl_classfile.specs.declared.fault.Fault.{Fault}
 use Rattle.cl_classfile.specs.declared.fault.Fault.TheVariants.{BadPool}
-use Rattle.cl_classfile.specs.Structure.{Structure}
+use Rattle.cl_classfile.specs.Structure.{Structure, Spells, spelling}
 use Rattle.cl_classfile.specs.Widths.{is_short}
 use Rattle.cl_classfile.specs.Checking.{checked_pool, parts_of}
 use Rattle.cl_writer.specs.declared.item.Item.{Item}
 use Rattle.cl_writer.specs.Assemblies.{Listed, IsRead}
 use Rattle.cl_writer.specs.Items.{items_of}
 use Rattle.cl_writer.specs.Described.{described, described_over, entry_of}
-use Rattle.cl_writer.specs.Assembled.{IsInvalid}
+use Rattle.cl_writer.specs.Assembled.{IsAssembled, IsInvalid}
+use Rattle.cl_writer.specs.Listings.{listing_of}
+use Rattle.cl_writer.proofs.Standing.{printed_so}
 
 no_count : (n : ℕ) → 65534 < n → is_short (n + 1) ≡ false
 no_count n many = grind (arith, nat_tests)
@@ -36,3 +37,16 @@ faulty lines l items parts fault read is same first = record {
   read = read;
   first = ap parts_of (sym (same ∙ ap (λ i. described_over i l) is)) ∙ first;
 }
+
+pub made : (lines : List Numbered) (l : Listed) (items : List Item) (parts file : Structure) → IsRead lines l → items ≡ items_of l → parts ≡ described_over items l → (file ≡ parts) × Spells (spelling file) file → parts_of parts ≡ Ok file
+    → IsAssembled lines file
+made lines l items parts file read is same found kept =
+    let described_so : parts ≡ described l = same ∙ ap (λ i. described_over i l) is in
+    record {
+      listed = l;
+      read = read;
+      is = found.0 ∙ described_so;
+      kept = ap parts_of (sym described_so) ∙ kept;
+      spelled = found.1;
+      printed = ap listing_of (found.0 ∙ described_so) ∙ printed_so l;
+    }

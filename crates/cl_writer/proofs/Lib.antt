@@ -4,4 +4,5 @@ pub mod Gathered
 pub mod Indexed
 pub mod Printed
 pub mod Rows
+pub mod Standing
 pub mod Wanted

@@ -6,6 +6,9 @@ use Rattle.cl_names.specs.Escape.{escaped}
 use Rattle.cl_classfile.specs.declared.entry.Entry.{Entry}
 use Rattle.cl_classfile.specs.Files.{type_name, text_at}
 use Rattle.cl_classfile.specs.Structure.{Structure, Member}
+use Rattle.cl_writer.specs.declared.statement.ClassLine.{ClassLine}
+use Rattle.cl_writer.specs.declared.statement.MemberLine.{MemberLine}
+use Rattle.cl_writer.specs.Assemblies.{Listed}
 
 -- four hexadecimal digits, in lower case (own choice)
 abbrev pub printed_flags : ℕ → List ℕ
@@ -43,3 +46,30 @@ listing_of f =
     ++ flat_map (implements_line f.pool) f.interfaces
     ++ flat_map (member_line (codes "field ") f.pool) f.fields
     ++ flat_map (member_line (codes "method ") f.pool) f.methods
+
+-- ---- the lines of a text in this form
+
+-- the name of the superclass, and `-` where there is none (own choice)
+abbrev pub super_text : Option (List ℕ) → List ℕ
+super_text None = codes "-"
+super_text (Some name) = escaped name
+
+-- class FLAGS NAME SUPER, of what a line said (own choice)
+abbrev pub class_text : ClassLine → List ℕ
+class_text c = codes "class " ++ printed_flags c.flags ++ codes " " ++ escaped c.name ++ codes " " ++ super_text c.superclass ++ 10 ∷ []
+
+-- implements NAME (own choice)
+abbrev pub implements_text : List ℕ → List ℕ
+implements_text name = codes "implements " ++ escaped name ++ 10 ∷ []
+
+-- field FLAGS NAME DESC, and so a method (own choice)
+abbrev pub member_text : List ℕ → MemberLine → List ℕ
+member_text word m = word ++ printed_flags m.flags ++ codes " " ++ escaped m.name ++ codes " " ++ escaped m.descriptor ++ 10 ∷ []
+
+-- all lines but those of `ref`: the class, its interfaces, its fields, its methods (own choice)
+abbrev pub text_of : Listed → List ℕ
+text_of l =
+    class_text l.class
+    ++ flat_map implements_text l.interfaces
+    ++ flat_map (member_text (codes "field ")) l.fields
+    ++ flat_map (member_text (codes "method ")) l.methods

@@ -1,7 +1,5 @@
-use Rattle.std.proofs.Common.{◌∙◌, ap}
-use Rattle.cl_classfile.specs.Checking.{Fails, parts_of}
 use Rattle.cl_writer.specs.Assemblies.{lists_of}
-use Rattle.cl_writer.proofs.Described.{too_many, faulty}
+use Rattle.cl_writer.proofs.Described.{too_many, faulty, made}
 use Rattle.cl_writer.proofs.assembling.assemble.Goals as goal
 
 pub returns-then-as_slice-gt-MOST_ENTRIES : goal.returns-then-as_slice-gt-MOST_ENTRIES
@@ -13,3 +11,7 @@ pub returns : goal.returns
 returns c =
     faulty _ (lists_of c.in_ok-assembly.assembly) c.in_ok-items.items _ c.in-Fault.fault c.in_ok-assembly.ensures c.in_ok-items.ensures c.in_ok-parts.ensures
     (rw c.in-Fault.is at c.in-Err.ensures.exact)
+
+pub returns-in-Ok : goal.returns-in-Ok
+returns-in-Ok c =
+    made _ (lists_of c.in_ok-assembly.assembly) c.in_ok-items.items _ _ c.in_ok-assembly.ensures c.in_ok-items.ensures c.in_ok-parts.ensures c.in-Ok.ensures.found c.in-Ok.ensures.exact

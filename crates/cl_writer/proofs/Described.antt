@@ -1,52 +1,52 @@
--- The outline of what lines say describes the file that they describe.
-use Rattle.std.proofs.Common.{◌≡◌, ℕ, ◌<◌, ◌≤◌, ◌^◌, List, length, Result, Ok, Err, refl, sym, subst, arith}
+-- What lines describe: a class file, or parts that are none.
+use Rattle.std.proofs.Common.{◌≡◌, ◌+◌, ◌<◌, ℕ, false, List, length, Ok, Err, refl, sym, ap, ◌∙◌, arith}
+use Rattle.std.proofs.lemmas.Bool.Decides.{nat_tests}
+use Rattle.std.proofs.lemmas.List.{length-map}
 use Rattle.cl_lines.specs.Lines.{Numbered}
+use Rattle.cl_classfile.specs.declared.fault.Fault.{Fault}
+use Rattle.cl_classfile.specs.declared.fault.Fault.TheVariants.{BadPool}
 use Rattle.cl_classfile.specs.Structure.{Structure, Spells, spelling}
-use Rattle.cl_classfile.specs.Reading.{read_of}
+use Rattle.cl_classfile.specs.Widths.{is_short}
+use Rattle.cl_classfile.specs.Checking.{checked_pool, parts_of}
 use Rattle.cl_writer.specs.declared.item.Item.{Item}
-use Rattle.cl_writer.specs.declared.statement.ClassLine.{ClassLine}
-use Rattle.cl_writer.specs.declared.statement.MemberLine.{MemberLine}
-use Rattle.cl_writer.specs.declared.fault.AssembleFault.{AssembleFault}
-use Rattle.cl_writer.specs.declared.fault.AssembleFault.TheVariants.{Memory, BadLine, Invalid}
-use Rattle.cl_writer.specs.declared.outline.Outline.{Outline}
 use Rattle.cl_writer.specs.Assemblies.{Listed, IsRead}
 use Rattle.cl_writer.specs.Items.{items_of}
-use Rattle.cl_writer.specs.Described.{described, described_over}
-use Rattle.cl_writer.specs.Outlines.{IsCounted, outlined}
-use Rattle.cl_writer.specs.Assembled.{HasCounts, AssembleOf, FileOf}
+use Rattle.cl_writer.specs.Described.{described, described_over, entry_of}
+use Rattle.cl_writer.specs.Assembled.{IsAssembled, IsInvalid}
+use Rattle.cl_writer.specs.Listings.{listing_of}
+use Rattle.cl_writer.proofs.Standing.{printed_so}
 
--- the outline has the lines' entries, and what they say
-pub record IsOutline (o : Outline) (l : Listed) : Type 0 where
-  pub items : o.items.now ≡ items_of l
-  pub class : o.class.now ≡ l.class
-  pub interfaces : o.interfaces.now ≡ l.interfaces
-  pub fields : o.fields.now ≡ l.fields
-  pub methods : o.methods.now ≡ l.methods
+no_count : (n : ℕ) → 65534 < n → is_short (n + 1) ≡ false
+no_count n many = grind (arith, nat_tests)
 
-over_same : (l : Listed) (items : List Item) (class : ClassLine) (interfaces : List (List ℕ)) (fields methods : List MemberLine)
-    → items ≡ items_of l → class ≡ l.class → interfaces ≡ l.interfaces → fields ≡ l.fields → methods ≡ l.methods
-    → described_over items (record { class = class; interfaces = interfaces; fields = fields; methods = methods; references = items }) ≡ described l
-over_same l items class interfaces fields methods a b c d e = rw (a, b, c, d, e) refl
+-- a pool of which no count can say how many entries it has is the first fault of any parts
+too_long : (f : Structure) → is_short (length f.pool + 1) ≡ false → parts_of f ≡ Err (BadPool 0)
+unfolding checked_pool parts_of
+too_long f long = rw long refl
 
-described_so : (o : Outline) (l : Listed) → IsOutline o l → outlined o ≡ described l
-described_so o l h = over_same l o.items.now o.class.now o.interfaces.now o.fields.now o.methods.now h.items h.class h.interfaces h.fields h.methods
-
-counted_so : (o : Outline) (l : Listed) → IsOutline o l → HasCounts l → IsCounted o
-counted_so o l h t = record {
-  items = subst (λ xs. length xs ≤ 65534) (sym h.items) t.items;
-  interfaces = subst (λ xs. length xs < 2 ^ 16) (sym h.interfaces) t.interfaces;
-  fields = subst (λ xs. length xs < 2 ^ 16) (sym h.fields) t.fields;
-  methods = subst (λ xs. length xs < 2 ^ 16) (sym h.methods) t.methods;
-}
-
-pub assembled : (lines : List Numbered) (l : Listed) (o : Outline) (r : Result Structure AssembleFault) → FileOf o r → IsRead lines l → IsOutline o l → length o.items.now ≤ 65534 → AssembleOf lines r
-unfolding FileOf
-assembled lines l o (Ok file) t read h few = record { listed = l; read = read; spelled = subst (λ (s : Structure). Spells (spelling s) file) (described_so o l h) t }
-assembled lines l o (Err (BadLine n)) t read h few = absurd t
-assembled lines l o (Err (Invalid fault)) t read h few = record {
+pub too_many : (lines : List Numbered) (l : Listed) (items : List Item) → IsRead lines l → items ≡ items_of l → 65534 < length items → IsInvalid lines (BadPool 0)
+too_many lines l items read is many = record {
   listed = l;
   read = read;
-  pool = λ many. let bound : length (items_of l) ≤ 65534 = subst (λ xs. length xs ≤ 65534) h.items few in absurd (omega arith);
-  first = λ counts. subst (λ (s : Structure). read_of (spelling s) ≡ Err fault) (described_so o l h) (t (counted_so o l h counts));
+  first = too_long (described l) (ap (λ n. is_short (n + 1)) (length-map (items_of l) (entry_of (items_of l)) ∙ sym (ap length is)) ∙ no_count (length items) many);
 }
-assembled lines l o (Err Memory) t read h few = tt
+
+pub faulty : (lines : List Numbered) (l : Listed) (items : List Item) (parts : Structure) (fault : Fault) → IsRead lines l → items ≡ items_of l → parts ≡ described_over items l → parts_of parts ≡ Err fault → IsInvalid lines fault
+faulty lines l items parts fault read is same first = record {
+  listed = l;
+  read = read;
+  first = ap parts_of (sym (same ∙ ap (λ i. described_over i l) is)) ∙ first;
+}
+
+pub made : (lines : List Numbered) (l : Listed) (items : List Item) (parts file : Structure) → IsRead lines l → items ≡ items_of l → parts ≡ described_over items l → (file ≡ parts) × Spells (spelling file) file → parts_of parts ≡ Ok file
+    → IsAssembled lines file
+made lines l items parts file read is same found kept =
+    let described_so : parts ≡ described l = same ∙ ap (λ i. described_over i l) is in
+    record {
+      listed = l;
+      read = read;
+      is = found.0 ∙ described_so;
+      kept = ap parts_of (sym described_so) ∙ kept;
+      spelled = found.1;
+      printed = ap listing_of (found.0 ∙ described_so) ∙ printed_so l;
+    }

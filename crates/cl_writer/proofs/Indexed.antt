@@ -91,7 +91,7 @@ same_self (Member k m) = both_so _ _ (kind_self k) (both_so _ _ (text_self m.cla
 
 -- ---- one entry more
 
-or_else : Option ℕ → Option ℕ → Option ℕ
+unfoldable pub or_else : Option ℕ → Option ℕ → Option ℕ
 or_else None o = o
 or_else (Some n) o = Some n
 
@@ -100,7 +100,7 @@ unfolding or_else
 cond_else true n o p = refl
 cond_else false n o p = refl
 
-index_more : (n m : ℕ) (xs : List Item) (y q : Item) → m ≡ n + length xs → index_from n (xs ++ y ∷ []) q ≡ or_else (index_from n xs q) (cond (same_item q y) (Some m) None)
+pub index_more : (n m : ℕ) (xs : List Item) (y q : Item) → m ≡ n + length xs → index_from n (xs ++ y ∷ []) q ≡ or_else (index_from n xs q) (cond (same_item q y) (Some m) None)
 unfolding or_else
 index_more n m [] y q e = let same : m ≡ n = omega arith in rw same refl
 index_more n m (x ∷ xs) y q e =
@@ -150,7 +150,7 @@ enters items item q m o none e count = by (same_item item q) refl ∙ sym (index
     by false same = rw same (none_else (same_item q item) refl same)
 
 -- an index is within the list
-some_same : {a b : ℕ} → Some a ≡ Some b → a ≡ b
+pub some_same : {a b : ℕ} → Some a ≡ Some b → a ≡ b
 some_same h = cc
 
 pub within : (n : ℕ) (xs : List Item) (q : Item) (k : ℕ) → index_from n xs q ≡ Some k → k < n + length xs
@@ -161,7 +161,7 @@ within n (x ∷ xs) q k e = by (within (n + 1) xs q k) (same_item q x) refl
     by later true same = let f : n ≡ k = some_same (rw same at e) in omega arith
     by later false same = let g : k < n + 1 + length xs = later (rw same at e) in omega arith
 
-some_is : (o : Option ℕ) → is_some o ≡ true → (n : ℕ) × (o ≡ Some n)
+pub some_is : (o : Option ℕ) → is_some o ≡ true → (n : ℕ) × (o ≡ Some n)
 some_is None e = absurd cc
 some_is (Some n) e = (n, refl)
 

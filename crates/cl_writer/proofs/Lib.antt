@@ -2,7 +2,7 @@ pub mod Described
 pub mod Equal
 pub mod Gathered
 pub mod Indexed
-pub mod Mapped
 pub mod Printed
 pub mod Rows
+pub mod Standing
 pub mod Wanted

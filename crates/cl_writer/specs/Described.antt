@@ -11,6 +11,7 @@ use Rattle.cl_writer.specs.declared.statement.MemberLine.{MemberLine}
 use Rattle.cl_writer.specs.Assemblies.{Listed}
 use Rattle.cl_writer.specs.Items.{index, items_of}
 
+-- the reference to a member of such a kind (4.4.2)
 abbrev pub reference_of : MemberKind → ℕ → ℕ → Entry
 reference_of kinds.Field class pair = entries.Fieldref class pair
 reference_of kinds.Method class pair = entries.Methodref class pair
@@ -28,11 +29,12 @@ entry_of items (Member kind m) = reference_of kind (index items (Class m.class))
 abbrev pub member_of : List Item → MemberLine → structure.Member
 member_of items line = record { flags = line.flags; name_index = index items (Text line.name); descriptor_index = index items (Text line.descriptor); attributes = [] }
 
--- 0 where there is no superclass
+-- the index of the superclass, and 0 where there is none (4.1)
 abbrev pub super_index : List Item → Option (List ℕ) → ℕ
 super_index items None = 0
 super_index items (Some name) = index items (Class name)
 
+-- the file of these entries, with the flags, names and members of the lines (4.1)
 abbrev pub described_over : List Item → Listed → structure.Structure
 described_over items l = record {
   pool = map (entry_of items) items;
@@ -45,5 +47,6 @@ described_over items l = record {
   attributes = [];
 }
 
+-- the file that the lines describe, over the entries that they ask for (4.1)
 abbrev pub described : Listed → structure.Structure
 described l = described_over (items_of l) l

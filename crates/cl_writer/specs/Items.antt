@@ -14,18 +14,22 @@ use Rattle.cl_writer.specs.Assemblies.{Listed}
 
 -- ---- two entries are equal
 
+-- two texts are equal (4.4.7)
 abbrev pub same_text : List ℕ → List ℕ → Bool
 same_text a b = pointwise nat_eq a b
 
+-- two references are of one kind (4.4.2)
 abbrev pub same_kind : MemberKind → MemberKind → Bool
 same_kind kinds.Field kinds.Field = true
 same_kind kinds.Method kinds.Method = true
 same_kind kinds.InterfaceMethod kinds.InterfaceMethod = true
 same_kind _ _ = false
 
+-- two members are of one class, name and descriptor (4.4.2, 4.4.6)
 abbrev pub same_member : MemberName → MemberName → Bool
 same_member m n = same_text m.class n.class && (same_text m.name n.name && same_text m.descriptor n.descriptor)
 
+-- two entries name the same (4.4; own choice that names and not indices are compared)
 abbrev pub same_item : Item → Item → Bool
 same_item (Text a) (Text b) = same_text a b
 same_item (Integer a) (Integer b) = int_eq a b
@@ -36,40 +40,42 @@ same_item _ _ = false
 
 -- ---- where an entry stands
 
--- the least index at which the entry stands, where the first has this index
+-- the least index at which the entry stands, where the first has this index (4.1; own choice of the least)
 abbrev pub index_from : ℕ → List Item → Item → Option ℕ
 index_from n [] item = None
 index_from n (x ∷ xs) item = if same_item item x then Some n else index_from (n + 1) xs item
 
--- indices count from 1
+-- indices count from 1 (4.1)
 abbrev pub index_of : List Item → Item → Option ℕ
 index_of items item = index_from 1 items item
 
--- the index of an entry that stands, and 0 of another
+-- the index of an entry that stands, and 0 of another (4.1)
 abbrev pub index : List Item → Item → ℕ
 index items item = unwrap_or (index_of items item) 0
 
--- the map tells the index of each entry
+-- the map tells the index of each entry (own choice)
 abbrev pub IsIndexed : {S : Type 0} → List Item → IndexMap Item ℕ S → Type 0
 IsIndexed items indices = (item : Item) → get same_item indices item ≡ index_of items item
 
--- one entry of the map is put, and the others stay
+-- one entry of the map is put, and the others stay (own choice)
 abbrev pub PutsIndex : {S : Type 0} → IndexMap Item ℕ S → IndexMap Item ℕ S → Item → ℕ → Type 0
 PutsIndex old new item index = (q : Item) → get same_item new q ≡ (if same_item item q then Some index else get same_item old q)
 
 -- ---- what stands
 
--- the entries with one more at the end, where no equal one stands
+-- the entries with one more at the end, where no equal one stands (own choice)
 abbrev pub with_item : List Item → Item → List Item
 with_item items item = if is_some (index_of items item) then items else items ++ item ∷ []
 
--- what an entry wants to stand, in order: what it names, and then itself
+-- what a class wants to stand: its name, and then itself (4.4.1)
 abbrev pub class_wanted : List ℕ → List Item
 class_wanted name = Text name ∷ Class name ∷ []
 
+-- the name, the descriptor, and then the pair itself (4.4.6)
 abbrev pub type_wanted : List ℕ → List ℕ → List Item
 type_wanted name descriptor = Text name ∷ Text descriptor ∷ NameAndType name descriptor ∷ []
 
+-- what an entry wants to stand, in order: what it names, and then itself (4.4)
 abbrev pub wanted : Item → List Item
 wanted (Text text) = Text text ∷ []
 wanted (Integer number) = Integer number ∷ []
@@ -77,11 +83,12 @@ wanted (Class name) = class_wanted name
 wanted (NameAndType name descriptor) = type_wanted name descriptor
 wanted (Member kind m) = class_wanted m.class ++ (type_wanted m.name m.descriptor ++ Member kind m ∷ [])
 
--- what a field or a method wants
+-- what a field or a method wants: its name and its descriptor (4.5, 4.6)
 abbrev pub line_wanted : MemberLine → List Item
 line_wanted line = Text line.name ∷ Text line.descriptor ∷ []
 
 -- what all lines want, in their order: the `ref` lines, the class, its superclass, the interfaces, the fields, the methods
+-- (own choice)
 abbrev pub all_wanted : Listed → List Item
 all_wanted l =
     flat_map wanted l.references
@@ -89,6 +96,6 @@ all_wanted l =
     ++ (flat_map class_wanted (option_to_list l.class.superclass)
     ++ (flat_map class_wanted l.interfaces ++ (flat_map line_wanted l.fields ++ flat_map line_wanted l.methods))))
 
--- the entries of the `ref` lines stand from the start; what is wanted is appended where no equal entry stands
+-- the entries of the `ref` lines stand from the start; what is wanted is appended where no equal entry stands (own choice)
 abbrev pub items_of : Listed → List Item
 items_of l = fold with_item l.references (all_wanted l)

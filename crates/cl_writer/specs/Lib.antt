@@ -4,5 +4,4 @@ pub mod Described
 pub mod Faults
 pub mod Items
 pub mod Listings
-pub mod Outlines
 pub mod Statements

@@ -6,40 +6,70 @@ use Rattle.cl_names.specs.Escape.{escaped}
 use Rattle.cl_classfile.specs.declared.entry.Entry.{Entry}
 use Rattle.cl_classfile.specs.Files.{type_name, text_at}
 use Rattle.cl_classfile.specs.Structure.{Structure, Member}
+use Rattle.cl_writer.specs.declared.statement.ClassLine.{ClassLine}
+use Rattle.cl_writer.specs.declared.statement.MemberLine.{MemberLine}
+use Rattle.cl_writer.specs.Assemblies.{Listed}
 
--- four hexadecimal digits, in lower case
+-- four hexadecimal digits, in lower case (own choice)
 abbrev pub printed_flags : ℕ → List ℕ
 printed_flags flags = digit_char (flags / 4096) ∷ digit_char (flags / 256 % 16) ∷ digit_char (flags / 16 % 16) ∷ digit_char (flags % 16) ∷ []
 
--- a name as escaped text
+-- a name as escaped text (own choice)
 abbrev pub printed_name : Option (List ℕ) → List ℕ
 printed_name None = []
 printed_name (Some name) = escaped name
 
--- the name of a class
+-- the name of a class or an array (4.4.1)
 unfoldable pub printed_type : List Entry → ℕ → List ℕ
 printed_type pool i = printed_name (type_name pool i)
 
--- - where there is no superclass
+-- the name of the superclass, and `-` where there is none (4.1; own choice of the sign)
 abbrev pub printed_super : List Entry → ℕ → List ℕ
 printed_super pool super = if super == 0 then codes "-" else printed_type pool super
 
--- class FLAGS NAME SUPER
+-- class FLAGS NAME SUPER (own choice)
 abbrev pub class_line : Structure → List ℕ
 class_line f = codes "class " ++ printed_flags f.flags ++ codes " " ++ printed_type f.pool f.this_class ++ codes " " ++ printed_super f.pool f.super_class ++ 10 ∷ []
 
--- implements NAME
+-- implements NAME (own choice)
 abbrev pub implements_line : List Entry → ℕ → List ℕ
 implements_line pool interface = codes "implements " ++ printed_type pool interface ++ 10 ∷ []
 
--- field FLAGS NAME DESC, and so a method
+-- field FLAGS NAME DESC, and so a method (own choice)
 abbrev pub member_line : List ℕ → List Entry → Member → List ℕ
 member_line word pool m = word ++ printed_flags m.flags ++ codes " " ++ printed_name (text_at pool m.name_index) ++ codes " " ++ printed_name (text_at pool m.descriptor_index) ++ 10 ∷ []
 
--- the lines of a file
+-- the lines of a file: the class, its interfaces, its fields, its methods (own choice)
 abbrev pub listing_of : Structure → List ℕ
 listing_of f =
     class_line f
     ++ flat_map (implements_line f.pool) f.interfaces
     ++ flat_map (member_line (codes "field ") f.pool) f.fields
     ++ flat_map (member_line (codes "method ") f.pool) f.methods
+
+-- ---- the lines of a text in this form
+
+-- the name of the superclass, and `-` where there is none (own choice)
+abbrev pub super_text : Option (List ℕ) → List ℕ
+super_text None = codes "-"
+super_text (Some name) = escaped name
+
+-- class FLAGS NAME SUPER, of what a line said (own choice)
+abbrev pub class_text : ClassLine → List ℕ
+class_text c = codes "class " ++ printed_flags c.flags ++ codes " " ++ escaped c.name ++ codes " " ++ super_text c.superclass ++ 10 ∷ []
+
+-- implements NAME (own choice)
+abbrev pub implements_text : List ℕ → List ℕ
+implements_text name = codes "implements " ++ escaped name ++ 10 ∷ []
+
+-- field FLAGS NAME DESC, and so a method (own choice)
+abbrev pub member_text : List ℕ → MemberLine → List ℕ
+member_text word m = word ++ printed_flags m.flags ++ codes " " ++ escaped m.name ++ codes " " ++ escaped m.descriptor ++ 10 ∷ []
+
+-- all lines but those of `ref`: the class, its interfaces, its fields, its methods (own choice)
+abbrev pub text_of : Listed → List ℕ
+text_of l =
+    class_text l.class
+    ++ flat_map implements_text l.interfaces
+    ++ flat_map (member_text (codes "field ")) l.fields
+    ++ flat_map (member_text (codes "method ")) l.methods

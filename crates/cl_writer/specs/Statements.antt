@@ -13,40 +13,40 @@ use Rattle.cl_writer.specs.declared.statement.MemberLine.{MemberLine}
 use Rattle.cl_writer.specs.declared.statement.Statement.{Statement}
 use Rattle.cl_writer.specs.declared.statement.Statement.TheVariants.{Implements, Field, Method, Ref}
 
--- what was read is what P says, or it says nothing; memory may have run out
+-- what was read is what P says, or it says nothing; memory may have run out (own choice)
 abbrev pub Reads : {A E : Type 0} → (A → Type 0) → Result (Option A) E → Type 0
 Reads {A} P r = IfOk r (λ o. MatchOption o ((a : A) → P a → ⊥) P)
 
--- the value of four hexadecimal digits of either case
+-- the value of four hexadecimal digits of either case (own choice)
 abbrev pub flags_of : List ℕ → Option ℕ
 flags_of (a ∷ b ∷ c ∷ d ∷ []) = if are_hex a b c d then Some (hex_value a b c d) else None
 flags_of _ = None
 
--- a minus, if there is one, and decimal digits write this number of 32 bits
+-- a minus, if there is one, and decimal digits write this number of 32 bits (own choice; 4.4.4)
 pub record WritesInteger (text : List ℕ) (number : ℤ) : Type 0 where
   pub unsigned : slice_index text 0 ≢ 43
   pub digits : IsNumeral 10 (without_leading_sign text)
   pub value : number ≡ signed_digits_value 10 text
   pub fits : FitsSigned w32 number
 
--- `-` writes that there is no superclass
+-- `-` writes that there is no superclass (own choice)
 abbrev pub WritesSuper : List ℕ → Option (List ℕ) → Type 0
 WritesSuper text None = text ≡ codes "-"
 WritesSuper text (Some name) = (text ≢ codes "-") × WritesName text name
 
--- NAME
+-- NAME (own choice)
 pub record IsName (words : List (List ℕ)) (name : List ℕ) : Type 0 where
   pub text : List ℕ
   pub spelled : words ≡ text ∷ []
   pub writes : WritesName text name
 
--- N
+-- N (own choice)
 pub record IsInteger (words : List (List ℕ)) (number : ℤ) : Type 0 where
   pub text : List ℕ
   pub spelled : words ≡ text ∷ []
   pub writes : WritesInteger text number
 
--- FLAGS NAME DESC
+-- FLAGS NAME DESC (own choice)
 pub record IsMemberLine (words : List (List ℕ)) (line : MemberLine) : Type 0 where
   pub flags_text : List ℕ
   pub name_text : List ℕ
@@ -56,7 +56,7 @@ pub record IsMemberLine (words : List (List ℕ)) (line : MemberLine) : Type 0 w
   pub name : WritesName name_text line.name
   pub descriptor : WritesName descriptor_text line.descriptor
 
--- CLASS NAME DESC
+-- CLASS NAME DESC (own choice)
 pub record IsMemberName (words : List (List ℕ)) (member : MemberName) : Type 0 where
   pub class_text : List ℕ
   pub name_text : List ℕ
@@ -66,7 +66,7 @@ pub record IsMemberName (words : List (List ℕ)) (member : MemberName) : Type 0
   pub name : WritesName name_text member.name
   pub descriptor : WritesName descriptor_text member.descriptor
 
--- class FLAGS NAME SUPER
+-- class FLAGS NAME SUPER (own choice)
 pub record IsClassLine (words : List (List ℕ)) (line : ClassLine) : Type 0 where
   pub flags_text : List ℕ
   pub name_text : List ℕ
@@ -76,18 +76,19 @@ pub record IsClassLine (words : List (List ℕ)) (line : ClassLine) : Type 0 whe
   pub name : WritesName name_text line.name
   pub superclass : WritesSuper super_text line.superclass
 
--- a keyword, and behind it words of which P holds
+-- a keyword, and behind it words of which P holds (own choice)
 pub record Begins (keyword : List ℕ) (words : List (List ℕ)) (P : List (List ℕ) → Type 0) : Type 0 where
   pub rest : List (List ℕ)
   pub spelled : words ≡ keyword ∷ rest
   pub behind : P rest
 
+-- the word of each kind of member (own choice; 4.4.2)
 abbrev pub kind_word : MemberKind → List ℕ
 kind_word kinds.Field = codes "field"
 kind_word kinds.Method = codes "method"
 kind_word kinds.InterfaceMethod = codes "imethod"
 
--- the words behind `ref` ask for this entry
+-- the words behind `ref` ask for this entry (own choice; 4.4)
 abbrev pub Refers : List (List ℕ) → Item → Type 0
 Refers words (Text text) = ⊥
 Refers words (Integer number) = Begins (codes "int") words (λ rest. IsInteger rest number)
@@ -95,7 +96,7 @@ Refers words (Class name) = Begins (codes "class") words (λ rest. IsName rest n
 Refers words (NameAndType name descriptor) = ⊥
 Refers words (Member kind member) = Begins (kind_word kind) words (λ rest. IsMemberName rest member)
 
--- a line after the first says this
+-- a line after the first says this (own choice)
 abbrev pub Says : List (List ℕ) → Statement → Type 0
 Says words (Implements name) = Begins (codes "implements") words (λ rest. IsName rest name)
 Says words (Field line) = Begins (codes "field") words (λ rest. IsMemberLine rest line)

@@ -52,13 +52,13 @@ impl Items {
         self.items.as_slice()
     }
 
-    /// The least index at which an entry stands, and 0 where it does not.
-    pub fn index(&self, item: &Item) -> usize
-        ensures index { result ≡ index self.now item.now }
-        ensures within { result ≤ length self.now }
+    /// The least index at which an entry stands, and 0 where it does not (JVMS SE 8, 4.4).
+    pub fn index(&self, item: &Item) -> u16
+        requires { length self.now ≤ 65534 }
+        ensures { result ≡ index self.now item.now }
     {
         match self.indices.get(item) {
-            Some(index) => *index,
+            Some(index) => *index as u16,
             None => 0,
         }
     }

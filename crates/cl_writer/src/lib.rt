@@ -8,7 +8,7 @@ mod fault;
 mod item;
 mod items;
 mod listings;
-mod outline;
+mod making;
 mod statement;
 mod writing;
 

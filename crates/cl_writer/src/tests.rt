@@ -118,6 +118,38 @@ fn pools_are_counted(rt: HostRuntime) -> Result<(), Fail> {
     Ok(())
 }
 
+/// The text of a class, and the line once more than a count can say.
+fn with_many(alloc: Global, class: &str, line: &str) -> Result<String, Fail> {
+    let mut text = String::from_str(alloc, class)?;
+    for _ in 0..65_536 {
+        text.push_str(line)?;
+    }
+    Ok(text)
+}
+
+/// A count is judged before what it counts, and after what stands before it.
+#[test]
+fn other_counts(rt: HostRuntime) -> Result<(), Fail> {
+    let alloc = rt.alloc();
+    let rows = [
+        ("implements p/I\n", Fault::BadSupertype),
+        ("field 0001 x I\n", Fault::BadMember),
+        ("method 0001 m ()V\n", Fault::BadMember),
+    ];
+    for (line, invalid) in rows {
+        let text = with_many(alloc, "class 0021 p/A java/lang/Object\n", line)?;
+        assert_eq!(rt;
+            fault(alloc, text.as_str()),
+            Some(AssembleFault::Invalid(invalid)),
+            "{line}"
+        );
+        let text = with_many(alloc, "class 0210 p/A java/lang/Object\n", line)?;
+        let flags = AssembleFault::Invalid(Fault::BadFlags);
+        assert_eq!(rt; fault(alloc, text.as_str()), Some(flags), "{line}");
+    }
+    Ok(())
+}
+
 #[test]
 fn listings_assemble(rt: HostRuntime) -> Result<(), Fail> {
     let text =

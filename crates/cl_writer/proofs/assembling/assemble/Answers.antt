@@ -1,10 +1,17 @@
-use Rattle.std.proofs.Common.{refl}
 use Rattle.cl_writer.specs.Assemblies.{lists_of}
-use Rattle.cl_writer.proofs.Described.{assembled}
+use Rattle.cl_writer.proofs.Described.{too_many, faulty, made}
 use Rattle.cl_writer.proofs.assembling.assemble.Goals as goal
+
+pub returns-then-as_slice-gt-MOST_ENTRIES : goal.returns-then-as_slice-gt-MOST_ENTRIES
+returns-then-as_slice-gt-MOST_ENTRIES c =
+    too_many _ (lists_of c.in_ok-assembly.assembly) c.in_ok-items.items c.in_ok-assembly.ensures c.in_ok-items.ensures
+    (rw c.as_slice.ensures at c.if-as_slice-gt-MOST_ENTRIES.true)
 
 pub returns : goal.returns
 returns c =
-    assembled _ (lists_of c.in_ok-assembly.assembly) _ c.file_of.result c.file_of.ensures c.in_ok-assembly.ensures
-    (record { items = c.in_ok-items.ensures; class = refl; interfaces = c.as_slice-2.ensures.value; fields = c.as_slice-3.ensures.value; methods = c.as_slice-4.ensures.value })
-    (rw c.as_slice.ensures at c.if-as_slice-gt-MOST_ENTRIES.false)
+    faulty _ (lists_of c.in_ok-assembly.assembly) c.in_ok-items.items _ c.in-Fault.fault c.in_ok-assembly.ensures c.in_ok-items.ensures c.in_ok-parts.ensures
+    (rw c.in-Fault.is at c.in-Err.ensures.exact)
+
+pub returns-in-Ok : goal.returns-in-Ok
+returns-in-Ok c =
+    made _ (lists_of c.in_ok-assembly.assembly) c.in_ok-items.items _ _ c.in_ok-assembly.ensures c.in_ok-items.ensures c.in_ok-parts.ensures c.in-Ok.ensures.found c.in-Ok.ensures.exact

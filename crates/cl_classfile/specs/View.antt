@@ -1,4 +1,5 @@
--- The parts of a class file without where they lie in memory.
+-- A class file, and its parts, without where they lie in memory.
+use Rattle.cl_classfile.specs.declared.file.ClassFile.TheInside.{Inside}
 use Rattle.cl_classfile.specs.declared.parts.Parts.{Parts}
 use Rattle.cl_classfile.specs.Structure.{Structure}
 
@@ -13,4 +14,17 @@ plain_parts p = record {
   fields = p.fields.items;
   methods = p.methods.items;
   attributes = p.attributes.items;
+}
+
+-- the file that a value of the program is (4.1)
+abbrev pub structure : Inside → Structure
+structure f = record {
+  pool = f.pool.items;
+  flags = f.flags;
+  this_class = f.this_class;
+  super_class = f.super_class;
+  interfaces = f.interfaces.items;
+  fields = f.fields.items;
+  methods = f.methods.items;
+  attributes = f.attributes.items;
 }

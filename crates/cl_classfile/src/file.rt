@@ -34,7 +34,14 @@ use std::marker::Model;
 /// A class file, whose parts keep the tables of JVMS SE 8, 4.1 and 4.4 to 4.6.
 #[derive(Debug, Drop)]
 pub struct ClassFile {
-    parts: Parts,
+    pool: Vec<Entry>,
+    flags: u16,
+    this_class: u16,
+    super_class: u16,
+    interfaces: Vec<u16>,
+    fields: Vec<Member>,
+    methods: Vec<Member>,
+    attributes: Vec<Attribute>,
 }
 
 impl Model for ClassFile {
@@ -42,11 +49,11 @@ impl Model for ClassFile {
 
     ghost Value = { Structure };
 
-    ghost use Rattle.cl_classfile.specs.View.{plain_parts};
+    ghost use Rattle.cl_classfile.specs.View.{structure};
 
-    ghost view = { λ f. plain_parts f.parts };
+    ghost view = { structure };
 
-    ghost invariant = { λ f. IsClassFile (plain_parts f.parts) };
+    ghost invariant = { λ f. IsClassFile (structure f) };
 }
 
 impl ClassFile {
@@ -69,7 +76,7 @@ impl ClassFile {
         ensures back { IfErr result (λ r. r.parts ≡ parts) }
     {
         match check_parts(alloc, &parts) {
-            Ok(()) => Ok(ClassFile { parts }),
+            Ok(()) => Ok(made(parts)),
             Err(error) => Err(Refused { parts, error }),
         }
     }
@@ -78,21 +85,21 @@ impl ClassFile {
     pub fn flags(&self) -> u16
         ensures { result ≡ self.now.flags }
     {
-        self.parts.flags
+        self.flags
     }
 
     /// The index of the entry of the class itself.
     pub fn this_class(&self) -> u16
         ensures { result ≡ self.now.this_class }
     {
-        self.parts.this_class
+        self.this_class
     }
 
     /// The index of the entry of the superclass, and 0 in `java/lang/Object`.
     pub fn super_class(&self) -> u16
         ensures { result ≡ self.now.super_class }
     {
-        self.parts.super_class
+        self.super_class
     }
 
     /// The entries of the pool from index 1 on.
@@ -100,35 +107,35 @@ impl ClassFile {
         ensures entries { result.now ≡ self.now.pool }
         ensures sound { IsClassFile self.now }
     {
-        self.parts.pool.as_slice()
+        self.pool.as_slice()
     }
 
     /// The indices of the entries of the interfaces, in order.
     pub fn interfaces(&self) -> &[u16]
         ensures { result.now ≡ self.now.interfaces }
     {
-        self.parts.interfaces.as_slice()
+        self.interfaces.as_slice()
     }
 
     /// The fields, in order.
     pub fn fields(&self) -> &[Member]
         ensures { result.now ≡ self.now.fields }
     {
-        self.parts.fields.as_slice()
+        self.fields.as_slice()
     }
 
     /// The methods, in order.
     pub fn methods(&self) -> &[Member]
         ensures { result.now ≡ self.now.methods }
     {
-        self.parts.methods.as_slice()
+        self.methods.as_slice()
     }
 
     /// The attributes of the class, in order.
     pub fn attributes(&self) -> &[Attribute]
         ensures { result.now ≡ self.now.attributes }
     {
-        self.parts.attributes.as_slice()
+        self.attributes.as_slice()
     }
 
     /// The name of the class.
@@ -136,7 +143,7 @@ impl ClassFile {
         ensures name { result.now ≡ (file_of self.now).name }
         ensures class { IsNameOf IsClass result.now }
     {
-        class_name(self.parts.pool.as_slice(), self.parts.this_class).unwrap()
+        class_name(self.pool.as_slice(), self.this_class).unwrap()
     }
 
     /// The name of the superclass, if there is one.
@@ -144,7 +151,7 @@ impl ClassFile {
         ensures name { option_map (λ n. n.now) result ≡ (file_of self.now).super_name }
         ensures class { IfSome result (λ n. IsNameOf IsClass n.now) }
     {
-        class_name(self.parts.pool.as_slice(), self.parts.super_class)
+        class_name(self.pool.as_slice(), self.super_class)
     }
 
     /// What the entry at an index refers to, and nothing where it is neither a class or an array nor a member of one
@@ -156,7 +163,23 @@ impl ClassFile {
         // Each text is of its kind.
         ensures sound { IfSome result (λ r. IsCited (plain_reference r)) }
     {
-        reference_at(self.parts.pool.as_slice(), index)
+        reference_at(self.pool.as_slice(), index)
+    }
+}
+
+fn made(parts: Parts) -> ClassFile
+    requires { IsClassFile (plain_parts parts) }
+    ensures { result ≡ plain_parts parts }
+{
+    ClassFile {
+        pool: parts.pool,
+        flags: parts.flags,
+        this_class: parts.this_class,
+        super_class: parts.super_class,
+        interfaces: parts.interfaces,
+        fields: parts.fields,
+        methods: parts.methods,
+        attributes: parts.attributes,
     }
 }
 
@@ -204,7 +227,7 @@ fn kept_file(alloc: Global, file: RawFile<'_>) -> Result<ClassFile, ReadError>
     check_entries(traits.as_slice(), file.pool.as_slice())?;
     let parts = owned_parts(alloc, file)?;
     check_tables(alloc, traits.as_slice(), &parts)?;
-    Ok(ClassFile { parts })
+    Ok(made(parts))
 }
 
 /// Whether the parts are those of a class file.

@@ -15,8 +15,8 @@ traits_of raws = map entry_traits (plain_entries raws)
 pub check_entries-requires-clause-traits : goal.check_entries-requires-clause-traits
 check_entries-requires-clause-traits c = c.as_slice-2.ensures.value ∙ c.in_ok-traits.ensures ∙ ap traits_of (c.as_slice.ensures.value ∙ sym c.as_slice-3.ensures.value)
 
-pub invariant_of-result : goal.invariant_of-result
-invariant_of-result c =
+pub made-requires : goal.made-requires
+made-requires c =
     let f = plain_file c.args.file in
     let same : plain_parts c.in_ok-parts.parts ≡ f = c.in_ok-parts.ensures in
     let traits : c.as_slice-4.result.now ≡ map entry_traits f.pool = c.as_slice-4.ensures.value ∙ c.in_ok-traits.ensures ∙ ap traits_of c.as_slice.ensures.value in

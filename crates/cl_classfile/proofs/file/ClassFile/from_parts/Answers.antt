@@ -1,18 +1,18 @@
-use Rattle.std.proofs.Common.{Result, refl, subst}
+use Rattle.std.proofs.Common.{Result, refl, sym, subst}
 use Rattle.cl_classfile.specs.declared.fault.Fault.{Fault}
-use Rattle.cl_classfile.specs.Structure.{Structure}
+use Rattle.cl_classfile.specs.Structure.{Structure, Spells, spelling}
 use Rattle.cl_classfile.specs.View.{plain_parts}
 use Rattle.cl_classfile.specs.Checking.{Fails}
 use Rattle.cl_classfile.proofs.Tables.{parts_say, parts_told}
 use Rattle.cl_classfile.proofs.file.ClassFile.from_parts.Goals as goal
 
-pub invariant_of-result : goal.invariant_of-result
-invariant_of-result c = (parts_say (plain_parts c.args.parts) (plain_parts c.args.parts) c.in-Ok.ensures).1
+pub made-requires : goal.made-requires
+made-requires c = (parts_say (plain_parts c.args.parts) (plain_parts c.args.parts) c.in-Ok.ensures).1
 
 pub returns-in-Ok-clause-found : goal.returns-in-Ok-clause-found
 returns-in-Ok-clause-found c =
     let is = (parts_say (plain_parts c.args.parts) (plain_parts c.args.parts) c.in-Ok.ensures).1 in
-    (refl, record { fits = is.fits; kept = is.kept; spelled = refl })
+    (c.made.ensures, subst (λ (f : Structure). Spells (spelling f) f) (sym c.made.ensures) (record { fits = is.fits; kept = is.kept; spelled = refl }))
 
 pub returns-in-Err-clause-only : goal.returns-in-Err-clause-only
 returns-in-Err-clause-only c = λ bytes s. subst (λ (file : Result Structure Fault). Fails c.in-Err.error file) (parts_told (plain_parts c.args.parts) s.fits s.kept) c.in-Err.ensures

@@ -1,3 +1,4 @@
+pub mod Alone
 pub mod Described
 pub mod Equal
 pub mod Gathered

@@ -17,7 +17,8 @@ pub fn says_one_thing()
     ensures lines { (lines : List Numbered) (a b : Listed) → IsRead lines a → IsRead lines b → a ≡ b }
 {}
 
-/// Want of memory apart, a text is assembled to one file or has one fault, and not both.
+/// Want of memory apart, a text has one answer: the one file that it is assembled to, or its one fault.
 pub fn assembles_to_one_answer()
-    ensures { (lines : List Numbered) (r s : Result Structure AssembleFault) → AssembleOf lines r → AssembleOf lines s → r ≢ Err Memory → s ≢ Err Memory → r ≡ s }
+    ensures some { (lines : List Numbered) → (r : Result Structure AssembleFault) × (r ≢ Err Memory) × AssembleOf lines r }
+    ensures one { (lines : List Numbered) (r s : Result Structure AssembleFault) → AssembleOf lines r → AssembleOf lines s → r ≢ Err Memory → s ≢ Err Memory → r ≡ s }
 {}

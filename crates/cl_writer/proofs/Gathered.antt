@@ -80,7 +80,7 @@ said_of_class l (Field line) = refl
 said_of_class l (Method line) = refl
 said_of_class l (Ref i) = refl
 
-class_stays : (l : Listed) (ss : List Statement) → (fold with_said l ss).class ≡ l.class
+pub class_stays : (l : Listed) (ss : List Statement) → (fold with_said l ss).class ≡ l.class
 class_stays l [] = refl
 class_stays l (s ∷ ss) = class_stays (with_said l s) ss ∙ said_of_class l s
 

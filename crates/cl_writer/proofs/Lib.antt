@@ -1,5 +1,7 @@
+pub mod Alone
 pub mod Described
 pub mod Equal
+pub mod Found
 pub mod Gathered
 pub mod Indexed
 pub mod Printed

@@ -18,19 +18,19 @@ use Rattle.cl_writer.specs.Statements.{Reads, WritesSuper, IsName, IsInteger, Is
 abbrev pub NoName : List ℕ → Type 0
 NoName text = (name : List ℕ) → WritesName text name → ⊥
 
-first_of : {a b c d e f : List ℕ} → a ∷ b ∷ c ∷ [] ≡ d ∷ e ∷ f ∷ [] → a ≡ d
+pub first_of : {a b c d e f : List ℕ} → a ∷ b ∷ c ∷ [] ≡ d ∷ e ∷ f ∷ [] → a ≡ d
 first_of h = cc
 
-second_of : {a b c d e f : List ℕ} → a ∷ b ∷ c ∷ [] ≡ d ∷ e ∷ f ∷ [] → b ≡ e
+pub second_of : {a b c d e f : List ℕ} → a ∷ b ∷ c ∷ [] ≡ d ∷ e ∷ f ∷ [] → b ≡ e
 second_of h = cc
 
-third_of : {a b c d e f : List ℕ} → a ∷ b ∷ c ∷ [] ≡ d ∷ e ∷ f ∷ [] → c ≡ f
+pub third_of : {a b c d e f : List ℕ} → a ∷ b ∷ c ∷ [] ≡ d ∷ e ∷ f ∷ [] → c ≡ f
 third_of h = cc
 
-tail_of : {a b : List ℕ} {xs ys : List (List ℕ)} → a ∷ xs ≡ b ∷ ys → xs ≡ ys
+pub tail_of : {a b : List ℕ} {xs ys : List (List ℕ)} → a ∷ xs ≡ b ∷ ys → xs ≡ ys
 tail_of h = cc
 
-head_of : {a b : List ℕ} {xs ys : List (List ℕ)} → a ∷ xs ≡ b ∷ ys → a ≡ b
+pub head_of : {a b : List ℕ} {xs ys : List (List ℕ)} → a ∷ xs ≡ b ∷ ys → a ≡ b
 head_of h = cc
 
 -- where the text of one is the other's, that writes nothing either
@@ -59,7 +59,7 @@ pub no_super : (text : List ℕ) → (text ≡ codes "-" → ⊥) → NoName tex
 no_super text named none None t = named t
 no_super text named none (Some name) t = none name t.1
 
-only_of : {a b : List ℕ} → a ∷ [] ≡ b ∷ [] → a ≡ b
+pub only_of : {a b : List ℕ} → a ∷ [] ≡ b ∷ [] → a ≡ b
 only_of h = cc
 
 -- the one word is what its text writes
@@ -71,17 +71,17 @@ named words text (Err x) e h = tt
 -- ---- a keyword that another line begins with
 
 -- the second and the third letter of a word, which tell keywords apart
-letters : List ℕ → ℕ
+unfoldable pub letters : List ℕ → ℕ
 letters (a ∷ b ∷ c ∷ word) = b + 1000 * c
 letters (a ∷ b ∷ []) = 0
 letters (a ∷ []) = 0
 letters [] = 0
 
-other : {P : List (List ℕ) → Type 0} (keyword word : List ℕ) {words rest : List (List ℕ)} → words ≡ word ∷ rest → (keyword ≡ word → ⊥) → Begins keyword words P → ⊥
+pub other : {P : List (List ℕ) → Type 0} (keyword word : List ℕ) {words rest : List (List ℕ)} → words ≡ word ∷ rest → (keyword ≡ word → ⊥) → Begins keyword words P → ⊥
 other keyword word e differ t = differ (head_of (sym t.spelled ∙ e))
 
 -- keywords differ
-differs : (a b : List ℕ) → (letters a ≡ letters b → ⊥) → a ≡ b → ⊥
+pub differs : (a b : List ℕ) → (letters a ≡ letters b → ⊥) → a ≡ b → ⊥
 differs a b d e = d (ap letters e)
 
 pub no_implements : (words rest : List (List ℕ)) → words ≡ codes "implements" ∷ rest → ((n : List ℕ) → IsName rest n → ⊥) → (s : Statement) → Says words s → ⊥

@@ -7,6 +7,7 @@ mod bytes;
 mod fault;
 mod item;
 mod items;
+mod laws;
 mod listings;
 mod making;
 mod statement;
@@ -14,6 +15,7 @@ mod writing;
 
 pub use assembling::assemble;
 pub use fault::{AssembleFault, WriteFault};
+pub use laws::{assembles_to_one_answer, says_one_thing};
 pub use listings::listing;
 pub use writing::write;
 

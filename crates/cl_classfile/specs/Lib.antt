@@ -12,3 +12,4 @@ pub mod Reading
 pub mod References
 pub mod View
 pub mod Refusals
+pub mod Texts

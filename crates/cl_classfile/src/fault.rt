@@ -4,48 +4,77 @@ ghost use Rattle.std.specs.Prelude.{◌≡◌};
 ghost use Rattle.cl_classfile.specs.declared.fault.ReadError.TheVariants as errors;
 
 use std::alloc::{AllocError, AllocFailed};
-use thiserror::Error;
+use std::error::Error;
+use std::fmt::{self, Display, Formatter};
 
 /// What is wrong with a class file: the first of its faults, in the order in which a file is looked at.
-#[derive(Clone, Copy, Debug, PartialEq, Eq, Error)]
+#[derive(Clone, Copy, Debug, PartialEq, Eq)]
 pub enum Fault {
     /// The first four bytes are not the magic.
-    #[error("F1 BadMagic")]
     BadMagic,
     /// The version is not 52.0.
-    #[error("F2 Version")]
     Version,
     /// The bytes end within an item.
-    #[error("F3 Truncated")]
     Truncated,
     /// Bytes stand after the file.
-    #[error("F4 Trailing")]
     Trailing,
     /// The pool's entry at this index, or with 0 the pool's count (JVMS SE 8, 4.4).
-    #[error("F5 BadPool {0}")]
     BadPool(u16),
     /// The class's flags (JVMS SE 8, 4.1).
-    #[error("F6 BadFlags")]
     BadFlags,
     /// A field, a method or an attribute (JVMS SE 8, 4.5 to 4.7).
-    #[error("F7 BadMember")]
     BadMember,
     /// A field or a method that stands twice (JVMS SE 8, 4.5, 4.6).
-    #[error("F8 Duplicate")]
     Duplicate,
     /// this_class, super_class or an interface (JVMS SE 8, 4.1).
-    #[error("F9 BadSupertype")]
     BadSupertype,
 }
 
+impl Display for Fault {
+    ghost use Rattle.std.specs.Prelude.{Some};
+    ghost use Rattle.cl_classfile.specs.Texts.{fault_text};
+
+    ghost output = { λ fault. Some (fault_text fault) };
+
+    fn fmt<W: fmt::Write>(&self, f: &mut Formatter<W>) -> fmt::Result {
+        match self {
+            Fault::BadMagic => write!(f, "F1 BadMagic"),
+            Fault::Version => write!(f, "F2 Version"),
+            Fault::Truncated => write!(f, "F3 Truncated"),
+            Fault::Trailing => write!(f, "F4 Trailing"),
+            Fault::BadPool(index) => write!(f, "F5 BadPool {index}"),
+            Fault::BadFlags => write!(f, "F6 BadFlags"),
+            Fault::BadMember => write!(f, "F7 BadMember"),
+            Fault::Duplicate => write!(f, "F8 Duplicate"),
+            Fault::BadSupertype => write!(f, "F9 BadSupertype"),
+        }
+    }
+}
+
+impl Error for Fault {}
+
 /// Why a class file could not be read.
-#[derive(Clone, Copy, Debug, PartialEq, Eq, Error)]
+#[derive(Clone, Copy, Debug, PartialEq, Eq)]
 pub enum ReadError {
-    #[error("F0 Memory")]
     Memory,
-    #[error(transparent)]
     Fault(Fault),
 }
+
+impl Display for ReadError {
+    ghost use Rattle.std.specs.Prelude.{Some};
+    ghost use Rattle.cl_classfile.specs.Texts.{error_text};
+
+    ghost output = { λ error. Some (error_text error) };
+
+    fn fmt<W: fmt::Write>(&self, f: &mut Formatter<W>) -> fmt::Result {
+        match self {
+            ReadError::Memory => write!(f, "F0 Memory"),
+            ReadError::Fault(fault) => write!(f, "{fault}"),
+        }
+    }
+}
+
+impl Error for ReadError {}
 
 impl From<Fault> for ReadError {
     ghost from_gives = { λ f e. e ≡ errors.Fault f };

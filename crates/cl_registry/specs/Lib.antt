@@ -17,6 +17,7 @@ pub mod Scripts
 pub mod Searches
 pub mod Shelves
 pub mod Tables
+pub mod Texts
 pub mod Told
 pub mod Views
 pub mod Walks

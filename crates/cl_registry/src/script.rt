@@ -9,8 +9,9 @@ use cl_lines::{Line, Stated, Words};
 use cl_model::Request;
 use cl_names::{Name, NameFault};
 use std::alloc::{AllocError, Global};
+use std::error::Error;
+use std::fmt::{self, Display, Formatter};
 use std::marker::Model;
-use thiserror::Error;
 
 /// The most requests of a script.
 const MOST_REQUESTS: usize = 65_535;
@@ -33,17 +34,31 @@ impl Model for Script {
 }
 
 /// Why a text is no script. Lines count from 1, skipped ones included.
-#[derive(Clone, Copy, Debug, PartialEq, Eq, Error)]
+#[derive(Clone, Copy, Debug, PartialEq, Eq)]
 pub enum ScriptFault {
-    #[error("L0 Memory")]
     Memory,
-    #[error("L1 BadLine {0}")]
     BadLine(usize),
-    #[error("L2 UnknownLoader {0}")]
     UnknownLoader(usize),
-    #[error("L3 TooMany")]
     TooMany,
 }
+
+impl Display for ScriptFault {
+    ghost use Rattle.std.specs.Prelude.{Some};
+    ghost use Rattle.cl_registry.specs.Texts.{script_text};
+
+    ghost output = { λ fault. Some (script_text fault) };
+
+    fn fmt<W: fmt::Write>(&self, f: &mut Formatter<W>) -> fmt::Result {
+        match self {
+            ScriptFault::Memory => write!(f, "L0 Memory"),
+            ScriptFault::BadLine(line) => write!(f, "L1 BadLine {line}"),
+            ScriptFault::UnknownLoader(line) => write!(f, "L2 UnknownLoader {line}"),
+            ScriptFault::TooMany => write!(f, "L3 TooMany"),
+        }
+    }
+}
+
+impl Error for ScriptFault {}
 
 impl From<AllocError> for ScriptFault {
     ghost use Rattle.cl_registry.specs.declared.script.ScriptFault.TheVariants.{Memory};

@@ -25,9 +25,10 @@ pub enum AssembleFault {
 }
 
 impl Display for AssembleFault {
+    ghost use Rattle.std.specs.Prelude.{Some};
     ghost use Rattle.cl_writer.specs.Faults.{assemble_text};
 
-    ghost output = { assemble_text };
+    ghost output = { λ fault. Some (assemble_text fault) };
 
     fn fmt<W: fmt::Write>(&self, f: &mut Formatter<W>) -> fmt::Result {
         match self {

@@ -1,7 +1,6 @@
 -- How a run ends, from its steps.
 use Rattle.std.proofs.Common.{◌≡◌, ◌⊎◌, ◌∙◌, ◌<◌, ◌≤◌, ℕ, Bool, MatchBool, List, [], ◌∷◌, ◌++◌, length, Option, Some, None, is_some, Result, Ok, Err, IfSome, IsErrAnd, OnOk, OnErr, append-nil, append_assoc, codes, inl, inr, refl, sym, subst, true, false}
 use Rattle.std.specs.Str.{IsUtf8}
-use Rattle.std.specs.Fmt.{option_append}
 use Rattle.std.specs.Io.KnownBytes.{Appends}
 use Rattle.cl_model.specs.Content.{Content, Stored, content_at}
 use Rattle.cl_registry.specs.Scripts.{loader_named}
@@ -136,7 +135,5 @@ pub write_part : {E : Type 0} (r : Result (Unit {0}) E) (old new : Option (List 
 write_part (Ok x) old new bytes all part = record { front = bytes; rest = []; whole = sym (append-nil bytes); grown = all }
 write_part (Err e) old new bytes all part = part
 
-pub told_line : (old new : Option (List ℕ)) (o : Option (List ℕ)) (line : List ℕ) → IfSome (option_append (Some (codes "classlink: ")) (option_append o (Some (10 ∷ [])))) (λ bytes. line ≡ bytes)
-    → AppendsPart old new line → IfSome o (λ text. AppendsPart old new (fault_line text))
-told_line old new None line e p = tt
-told_line old new (Some text) line e p = subst (AppendsPart old new) (e ∙ sym (append_assoc (codes "classlink: ") text (10 ∷ []))) p
+pub told_line : (old new : Option (List ℕ)) (text line : List ℕ) → line ≡ codes "classlink: " ++ (text ++ 10 ∷ []) → AppendsPart old new line → AppendsPart old new (fault_line text)
+told_line old new text line e p = subst (AppendsPart old new) (e ∙ sym (append_assoc (codes "classlink: ") text (10 ∷ []))) p

@@ -1,7 +1,9 @@
 -- Which faults a step of the program may have, and their texts.
-use Rattle.std.specs.Prelude.{⊤, ℕ, List, ◌++◌, codes, string_bytes, Option, Some, None}
-use Rattle.std.specs.Fmt.{decimal, option_append}
+use Rattle.std.specs.Prelude.{⊤, ℕ, List, ◌++◌, codes, string_bytes}
+use Rattle.std.specs.Fmt.{decimal}
+use Rattle.cl_classfile.specs.Texts as files
 use Rattle.cl_writer.specs.Faults.{assemble_text}
+use Rattle.cl_registry.specs.Texts.{script_text}
 use Rattle.cl_registry.specs.declared.script.ScriptFault.{ScriptFault}
 use Rattle.cl_registry.specs.declared.script.ScriptFault.TheVariants as scripts
 use Rattle.classlink.specs.declared.fault.Fault.{Fault}
@@ -10,6 +12,8 @@ use Rattle.classlink.specs.declared.input.InputFault.{InputFault}
 use Rattle.classlink.specs.declared.input.InputFault.TheVariants as input
 use Rattle.classlink.specs.declared.print.PrintFault.{PrintFault}
 use Rattle.classlink.specs.declared.print.PrintFault.TheVariants as print
+use Rattle.classlink.specs.declared.serve.ServeFault.{ServeFault}
+use Rattle.classlink.specs.declared.serve.ServeFault.TheVariants as serve
 
 -- a read failed, the bytes are too many, or memory was wanting
 abbrev pub IsReadFault : Fault → Type 0
@@ -39,17 +43,22 @@ abbrev pub script_fault : ScriptFault → Fault
 script_fault scripts.Memory = Memory
 script_fault fault = Script fault
 
--- the text of a fault; of what a class file, a script or its service is refused with, the text is not said here
-abbrev pub fault_text : Fault → Option (List ℕ)
-fault_text Input = Some (codes "cannot read standard input")
-fault_text Write = Some (codes "cannot write")
-fault_text TooLarge = Some (codes "input too large")
-fault_text NotUtf8 = Some (codes "input is not UTF-8")
-fault_text (Bundle n) = Some (codes "bundle line " ++ decimal n)
-fault_text (Class class fault) = option_append (Some (codes "class " ++ string_bytes class ++ codes ": ")) (assemble_text fault)
-fault_text (Script fault) = None
-fault_text (Serve fault) = None
-fault_text (Path path) = Some (codes "cannot read " ++ string_bytes path)
-fault_text (File fault) = None
-fault_text Words = Some (codes "words are not UTF-8")
-fault_text Memory = Some (codes "out of memory")
+-- the text of why a script was not served (own choice)
+abbrev pub serve_text : ServeFault → List ℕ
+serve_text serve.Memory = codes "Z0 Memory"
+serve_text serve.Stray = codes "Z1 Stray"
+
+-- the text of a fault (own choice); of what a class file, a script or its service is refused with, that fault's own text
+abbrev pub fault_text : Fault → List ℕ
+fault_text Input = codes "cannot read standard input"
+fault_text Write = codes "cannot write"
+fault_text TooLarge = codes "input too large"
+fault_text NotUtf8 = codes "input is not UTF-8"
+fault_text (Bundle n) = codes "bundle line " ++ decimal n
+fault_text (Class class fault) = codes "class " ++ string_bytes class ++ codes ": " ++ assemble_text fault
+fault_text (Script fault) = codes "script: " ++ script_text fault
+fault_text (Serve fault) = serve_text fault
+fault_text (Path path) = codes "cannot read " ++ string_bytes path
+fault_text (File fault) = files.fault_text fault
+fault_text Words = codes "words are not UTF-8"
+fault_text Memory = codes "out of memory"

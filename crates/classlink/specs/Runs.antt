@@ -82,7 +82,7 @@ fault_line text = codes "classlink: " ++ text ++ 10 ∷ []
 
 -- the line of a fault is written, as far as its output takes it
 abbrev pub TellsFault : Option (List ℕ) → Option (List ℕ) → Fault → Type 0
-TellsFault old new fault = IfSome (fault_text fault) (λ text. AppendsPart old new (fault_line text))
+TellsFault old new fault = AppendsPart old new (fault_line (fault_text fault))
 
 -- the exit status, and what is on standard error
 abbrev pub EndsWith : Option (List ℕ) → Option (List ℕ) → ℕ → Result (Unit {0}) Fault → Type 0

@@ -32,9 +32,10 @@ pub enum Fault {
 }
 
 impl Display for Fault {
+    ghost use Rattle.std.specs.Prelude.{Some};
     ghost use Rattle.classlink.specs.Faults.{fault_text};
 
-    ghost output = { fault_text };
+    ghost output = { λ fault. Some (fault_text fault) };
 
     fn fmt<W: fmt::Write>(&self, f: &mut Formatter<W>) -> fmt::Result {
         match self {

@@ -19,18 +19,33 @@ use cl_names::Name;
 use cl_registry::{Config, Draft, Finding, Registry, RegistryFault, Report, Script, Source};
 use cl_tasks::{Reply, Task, Turn};
 use std::alloc::{AllocError, Global};
+use std::error::Error;
+use std::fmt::{self, Display, Formatter};
 use std::sync::Arc;
-use thiserror::Error;
 
 /// Why a script could not be served.
-#[derive(Clone, Copy, Debug, PartialEq, Eq, Error)]
+#[derive(Clone, Copy, Debug, PartialEq, Eq)]
 pub enum ServeFault {
-    #[error("Z0 Memory")]
     Memory,
     /// A value did not fit the tables. Serving in order never answers it.
-    #[error("Z1 Stray")]
     Stray,
 }
+
+impl Display for ServeFault {
+    ghost use Rattle.std.specs.Prelude.{Some};
+    ghost use Rattle.classlink.specs.Faults.{serve_text};
+
+    ghost output = { λ fault. Some (serve_text fault) };
+
+    fn fmt<W: fmt::Write>(&self, f: &mut Formatter<W>) -> fmt::Result {
+        match self {
+            ServeFault::Memory => write!(f, "Z0 Memory"),
+            ServeFault::Stray => write!(f, "Z1 Stray"),
+        }
+    }
+}
+
+impl Error for ServeFault {}
 
 impl From<AllocError> for ServeFault {
     ghost use Rattle.classlink.specs.declared.serve.ServeFault.TheVariants.{Memory};

@@ -11,3 +11,6 @@ pub mod Served
 pub mod Counted
 pub mod Headline
 pub mod Written
+pub mod Alone
+pub mod Asked
+pub mod OneReading

@@ -1,5 +1,5 @@
 -- Which faults a step of the program may have, and their texts.
-use Rattle.std.specs.Prelude.{⊤, ℕ, List, ◌++◌, codes, string_bytes}
+use Rattle.std.specs.Prelude.{◌≡◌, ⊤, ℕ, List, ◌++◌, codes, string_bytes, Result, Ok, Err}
 use Rattle.std.specs.Fmt.{decimal}
 use Rattle.cl_classfile.specs.Texts as files
 use Rattle.cl_writer.specs.Faults.{assemble_text}
@@ -62,3 +62,14 @@ fault_text (Path path) = codes "cannot read " ++ string_bytes path
 fault_text (File fault) = files.fault_text fault
 fault_text Words = codes "words are not UTF-8"
 fault_text Memory = codes "out of memory"
+
+-- the faults are the same; of a class's text its bytes count, and not where they lie (own choice)
+abbrev pub SameFault : Fault → Fault → Type 0
+SameFault (Class class fault) (Class other said) = (string_bytes class ≡ string_bytes other) × (fault ≡ said)
+SameFault fault other = fault ≡ other
+
+-- so are the answers (own choice)
+abbrev pub SameAnswer : {A : Type 0} → Result A Fault → Result A Fault → Type 0
+SameAnswer (Ok a) (Ok b) = a ≡ b
+SameAnswer (Err fault) (Err other) = SameFault fault other
+SameAnswer _ _ = ⊥

@@ -4,6 +4,7 @@
 mod bundle;
 mod fault;
 mod input;
+mod laws;
 mod print;
 mod reading;
 mod run;

@@ -1,7 +1,6 @@
 -- What a class section writes, and what class sections tell, is one thing at most.
 use Rattle.std.proofs.Common.{◌≡◌, ℕ, ◌≤◌, ◌<◌, Bool, true, false, MatchBool, List, [], ◌∷◌, ◌++◌, length, Option, Some, None, is_some, Result, Ok, Err, refl, sym, ap, subst, ◌∙◌, arith, inl, inr}
 use Rattle.std.specs.Prelude.{◌≢◌, codes, string_bytes}
-use Rattle.std.specs.Fmt.{option_append}
 use Rattle.cl_registry.specs.Lines.{Numbered}
 use Rattle.cl_model.specs.Content.{Content, Stored, content_at}
 use Rattle.cl_classfile.specs.Structure.{Structure, spelling}
@@ -36,8 +35,8 @@ same_answers {A = A} r s t e f = subst (λ (x : Result A Fault). SameAnswer r x)
 
 pub printed_alike : (f g : Fault) → SameFault f g → fault_text f ≡ fault_text g
 printed_alike (Class a x) (Class b y) e =
-    ap (λ (t : List ℕ). option_append (Some (codes "class " ++ t ++ codes ": ")) (assemble_text x)) e.0
-    ∙ ap (λ (z : AssembleFault). option_append (Some (codes "class " ++ string_bytes b ++ codes ": ")) (assemble_text z)) e.1
+    ap (λ (t : List ℕ). codes "class " ++ t ++ codes ": " ++ assemble_text x) e.0
+    ∙ ap (λ (z : AssembleFault). codes "class " ++ string_bytes b ++ codes ": " ++ assemble_text z) e.1
 printed_alike f g e = ap fault_text e
 
 -- ---- assembler text

@@ -14,20 +14,20 @@ pub fn same_faults_print_alike()
     ensures { (f g : Fault) → SameFault f g → fault_text f ≡ fault_text g }
 {}
 
-/// A class section writes one content, or has one fault, and it is stored so.
+/// A class section writes one content at most, or has one fault, and it is stored so.
 pub fn section_has_one_content()
     ensures content { (part : Part) (r s : Result (List ℕ) Fault) → ContentOf part r → ContentOf part s → SameAnswer r s }
     ensures stored { (names : List (List ℕ)) (before : Content) (part : Part) (r s : Result Stored Fault) → StoredOf names before part r → StoredOf names before part s → SameAnswer r s }
 {}
 
-/// Class sections in order tell one content, or the first that is wrong has one fault.
+/// Class sections in order tell one content at most, or the first that is wrong has one fault.
 pub fn sections_tell_one_content()
     ensures same { (names : List (List ℕ)) (before : Content) (parts : List Part) (a b : Content) → AllTell names before parts a → AllTell names before parts b → a ≡ b }
     ensures one { (names : List (List ℕ)) (before : Content) (parts : List Part) (a : Content) (fault : Fault) → AllTell names before parts a → FirstWrong names before parts fault → ⊥ }
     ensures fault { (names : List (List ℕ)) (before : Content) (parts : List Part) (f g : Fault) → FirstWrong names before parts f → FirstWrong names before parts g → SameFault f g }
 {}
 
-/// Want of memory apart, a text is read in one way: as one bundle, or with one fault.
+/// Want of memory apart, a text is read in one way at most: as one bundle, or with one fault.
 pub fn reads_one_way()
     ensures same { (text : List ℕ) (c d : Configured) (a b : Content) (s t : Scripted) → IsBundle text c a s → IsBundle text d b t → (c ≡ d) × TellsSame a b × (s ≡ t) }
     ensures one { (text : List ℕ) (c : Configured) (a : Content) (s : Scripted) (fault : Fault) → IsBundle text c a s → IsNoBundle text fault → fault ≢ Memory → ⊥ }

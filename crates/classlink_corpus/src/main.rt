@@ -4,6 +4,8 @@
 
 mod round;
 mod stream;
+#[cfg(test)]
+mod tests;
 
 use round::{Outcome, round_trip};
 use std::io;

@@ -12,13 +12,15 @@ use Rattle.classlink.specs.Faults.{fault_text}
 use Rattle.classlink.specs.Report.{AppendsPart, report_lines}
 use Rattle.classlink.specs.Headline.{EachSpelt, Alike, CirclesExact}
 use Rattle.classlink.specs.Serving.{InOrder, reported, upto}
+use Rattle.classlink.specs.Counting.{faults}
+use Rattle.classlink.specs.declared.serve.ServeFault.TheVariants as serve
 use Rattle.classlink.specs.declared.fault.Fault.{Fault}
 use Rattle.classlink.specs.declared.fault.Fault.TheVariants.{Input, Write, TooLarge, NotUtf8, Bundle, Class, Script, Serve, Memory}
 
 -- the report of a script that was served under a configuration. Where a content is told, the history is a run of the
 -- linkage machine over it, in which each request is answered once, with what its plan yields in the state at that point,
--- failures apart; each class is spelt by its defining loader's bytes, equal requests are answered alike, and circles are
--- told exactly (JVMS SE 8, 5.3)
+-- want of memory apart; each class is spelt by its defining loader's bytes, equal requests are answered alike, and circles
+-- are told exactly (JVMS SE 8, 5.3)
 pub record IsServed (told : Option Content) (config : Configured) (script : Scripted) (r : Report) : Type 0 where
   pub of_script : r.script.value ≡ script
   pub each_once : posts r.history ≡ upto (length script.requests)
@@ -29,6 +31,7 @@ pub record IsServed (told : Option Content) (config : Configured) (script : Scri
   pub spelt : EachSpelt told (reported config r)
   pub alike : Alike told (reported config r)
   pub circles : CirclesExact told (reported config r)
+  pub no_source_faults : faults (reported config r).answers ≡ 0
 
 -- the lines of a report of the bundle that an input is
 pub record AreLinesFor (input : Option (List ℕ)) (only_answers : Bool) (lines : List ℕ) : Type 0 where
@@ -60,7 +63,7 @@ EndsBy input only_answers old new NotUtf8 = WritesNothing old new (IfSome input 
 EndsBy input only_answers old new (Bundle n) = WritesNothing old new (IfSome input (λ bytes. IsNoBundle bytes (Bundle n)))
 EndsBy input only_answers old new (Class class wrong) = WritesNothing old new (IfSome input (λ bytes. IsNoBundle bytes (Class class wrong)))
 EndsBy input only_answers old new (Script wrong) = WritesNothing old new (IfSome input (λ bytes. IsNoBundle bytes (Script wrong)))
-EndsBy input only_answers old new (Serve wrong) = WritesNothing old new ⊤
+EndsBy input only_answers old new (Serve wrong) = WritesNothing old new (wrong ≡ serve.Memory)
 EndsBy input only_answers old new Write = BreaksOff input only_answers old new
 EndsBy input only_answers old new Memory = WritesNothing old new ⊤ ⊎ BreaksOff input only_answers old new
 EndsBy input only_answers old new _ = ⊥

@@ -1,4 +1,4 @@
-ghost use Rattle.std.specs.Prelude.{◌≡◌, ◌⊎◌, [], ℕ, List, Bool, IfOk, Some, length, map};
+ghost use Rattle.std.specs.Prelude.{◌≡◌, ◌⊎◌, [], ℕ, List, Bool, IfOk, IfErr, Some, length, map};
 ghost use Rattle.std.specs.Io.KnownBytes.{Appends};
 ghost use Rattle.clap.specs.Words.{kind_of};
 ghost use Rattle.cl_model.specs.Content.{Tells};
@@ -170,7 +170,8 @@ fn serve(
     script: Arc<Script>,
 ) -> Result<Report, ServeFault>
     requires { HasLoaders (length config.value.names) script.value.requests }
-    ensures { IfOk result (IsServed (Some source) config.value script.value) }
+    ensures served { IfOk result (IsServed (Some source) config.value script.value) }
+    ensures no_stray { IfErr result (λ e. e ≡ ServeFault.Memory) }
 {
     serve_told::<Brand>(alloc, config, source, script)
 }
@@ -183,7 +184,8 @@ fn serve_told<T: Told>(
 ) -> Result<Report, ServeFault>
     requires tells { Tells T.told source }
     requires loaders { HasLoaders (length config.value.names) script.value.requests }
-    ensures { IfOk result (IsServed T.told config.value script.value) }
+    ensures served { IfOk result (IsServed T.told config.value script.value) }
+    ensures no_stray { IfErr result (λ e. e ≡ ServeFault.Memory) }
 {
     let mut source = source.tell::<T>();
     serve_one::<T, _>(alloc, config, &mut source, script)

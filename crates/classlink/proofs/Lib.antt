@@ -5,11 +5,7 @@ pub mod Headings
 pub mod Listing
 pub mod Refusals
 pub mod Running
-pub mod Serving
 pub mod Storing
-pub mod Served
-pub mod Counted
-pub mod Headline
 pub mod Written
 pub mod Alone
 pub mod Asked

@@ -6,14 +6,13 @@ use Rattle.cl_writer.specs.Faults.{assemble_text}
 use Rattle.cl_registry.specs.Texts.{script_text}
 use Rattle.cl_registry.specs.declared.script.ScriptFault.{ScriptFault}
 use Rattle.cl_registry.specs.declared.script.ScriptFault.TheVariants as scripts
+use Rattle.cl_schedule.specs.Texts.{serve_text}
 use Rattle.classlink.specs.declared.fault.Fault.{Fault}
 use Rattle.classlink.specs.declared.fault.Fault.TheVariants.{Input, Write, TooLarge, NotUtf8, Bundle, Class, Script, Serve, Path, File, Words, Memory}
 use Rattle.classlink.specs.declared.input.InputFault.{InputFault}
 use Rattle.classlink.specs.declared.input.InputFault.TheVariants as input
 use Rattle.classlink.specs.declared.print.PrintFault.{PrintFault}
 use Rattle.classlink.specs.declared.print.PrintFault.TheVariants as print
-use Rattle.classlink.specs.declared.serve.ServeFault.{ServeFault}
-use Rattle.classlink.specs.declared.serve.ServeFault.TheVariants as serve
 
 -- a read failed, the bytes are too many, or memory was wanting
 abbrev pub IsReadFault : Fault → Type 0
@@ -42,11 +41,6 @@ print_fault print.Memory = Memory
 abbrev pub script_fault : ScriptFault → Fault
 script_fault scripts.Memory = Memory
 script_fault fault = Script fault
-
--- the text of why a script was not served (own choice)
-abbrev pub serve_text : ServeFault → List ℕ
-serve_text serve.Memory = codes "Z0 Memory"
-serve_text serve.Stray = codes "Z1 Stray"
 
 -- the text of a fault (own choice); of what a class file, a script or its service is refused with, that fault's own text
 abbrev pub fault_text : Fault → List ℕ

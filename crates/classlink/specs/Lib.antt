@@ -6,7 +6,4 @@ pub mod Faults
 pub mod Report
 pub mod Runs
 pub mod Sections
-pub mod Serving
-pub mod Counting
-pub mod Headline
 pub mod Readings

@@ -10,10 +10,10 @@ use Rattle.cl_registry.specs.declared.report.Report.{Report}
 use Rattle.classlink.specs.Bundles.{IsBundle, IsNoBundle}
 use Rattle.classlink.specs.Faults.{fault_text}
 use Rattle.classlink.specs.Report.{AppendsPart, report_lines}
-use Rattle.classlink.specs.Headline.{EachSpelt, Alike, CirclesExact}
-use Rattle.classlink.specs.Serving.{InOrder, reported, upto}
-use Rattle.classlink.specs.Counting.{faults}
-use Rattle.classlink.specs.declared.serve.ServeFault.TheVariants as serve
+use Rattle.cl_schedule.specs.Headline.{EachSpelt, Alike, CirclesExact}
+use Rattle.cl_schedule.specs.Serving.{InOrder, reported, upto}
+use Rattle.cl_schedule.specs.Counting.{faults}
+use Rattle.cl_schedule.specs.declared.serve.ServeFault.TheVariants as serve
 use Rattle.classlink.specs.declared.fault.Fault.{Fault}
 use Rattle.classlink.specs.declared.fault.Fault.TheVariants.{Input, Write, TooLarge, NotUtf8, Bundle, Class, Script, Serve, Memory}
 

@@ -2,8 +2,8 @@ ghost use Rattle.std.specs.Prelude.{◌≡◌};
 
 use crate::input::InputFault;
 use crate::print::PrintFault;
-use crate::serve::ServeFault;
 use cl_registry::ScriptFault;
+use cl_schedule::ServeFault;
 use cl_writer::AssembleFault;
 use std::alloc::{AllocError, AllocFailed};
 use std::error::Error;

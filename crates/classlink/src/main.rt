@@ -9,11 +9,8 @@ mod print;
 mod reading;
 mod run;
 mod sections;
-mod serve;
 #[cfg(test)]
 mod tests;
-#[cfg(test)]
-mod tests_serve;
 mod words;
 
 use fault::Fault;

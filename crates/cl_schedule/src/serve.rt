@@ -10,9 +10,9 @@ ghost use Rattle.cl_tasks.specs.Tasks.{Tasked};
 ghost use Rattle.cl_tasks.specs.Turns.{Expects};
 ghost use Rattle.cl_tasks.specs.Follows.{Tells};
 ghost use Rattle.cl_tasks.specs.declared.phase.Phase.TheVariants.{Looking, Reading, Defining};
-ghost use Rattle.classlink.specs.Counting.{FaultsGrow, Grows, RoseBy, faults, told_faults};
-ghost use Rattle.classlink.specs.Headline.{Alike, CirclesExact, EachSpelt};
-ghost use Rattle.classlink.specs.Serving.{DefinesFor, InOrder, Served, reported, upto};
+ghost use Rattle.cl_schedule.specs.Counting.{FaultsGrow, Grows, RoseBy, faults, told_faults};
+ghost use Rattle.cl_schedule.specs.Headline.{Alike, CirclesExact, EachSpelt};
+ghost use Rattle.cl_schedule.specs.Serving.{DefinesFor, InOrder, Served, reported, upto};
 
 use cl_model::{LoaderId, Request, Told};
 use cl_names::Name;
@@ -33,7 +33,7 @@ pub enum ServeFault {
 
 impl Display for ServeFault {
     ghost use Rattle.std.specs.Prelude.{Some};
-    ghost use Rattle.classlink.specs.Faults.{serve_text};
+    ghost use Rattle.cl_schedule.specs.Texts.{serve_text};
 
     ghost output = { λ fault. Some (serve_text fault) };
 
@@ -48,7 +48,7 @@ impl Display for ServeFault {
 impl Error for ServeFault {}
 
 impl From<AllocError> for ServeFault {
-    ghost use Rattle.classlink.specs.declared.serve.ServeFault.TheVariants.{Memory};
+    ghost use Rattle.cl_schedule.specs.declared.serve.ServeFault.TheVariants.{Memory};
 
     ghost from_gives = { λ _ e. e ≡ Memory };
 

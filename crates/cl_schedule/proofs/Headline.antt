@@ -26,8 +26,8 @@ use Rattle.cl_model.proofs.Answered.{circle_is_answered, circular_is_answered}
 use Rattle.cl_registry.specs.Tables.{Shown, IsTrusted, RunsAs, is_in, posts, state_of, steps}
 use Rattle.cl_registry.proofs.Histories.{eq_nat, swap_nat}
 use Rattle.cl_registry.proofs.Running.{post_other}
-use Rattle.classlink.specs.Serving.{machine}
-use Rattle.classlink.specs.Headline.{IsSpelt, EachSpelt, Says, Alike, EndsInCircle, CirclesExact}
+use Rattle.cl_schedule.specs.Serving.{machine}
+use Rattle.cl_schedule.specs.Headline.{IsSpelt, EachSpelt, Says, Alike, EndsInCircle, CirclesExact}
 
 -- ---- verdicts of the machine, back as the program has them
 

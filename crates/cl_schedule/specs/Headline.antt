@@ -11,7 +11,7 @@ use Rattle.cl_model.specs.Homes.{World, home}
 use Rattle.cl_model.specs.Classes.{class, Returns}
 use Rattle.cl_model.specs.States.{IsRecorded}
 use Rattle.cl_registry.specs.Tables.{Shown, state_of}
-use Rattle.classlink.specs.Serving.{machine}
+use Rattle.cl_schedule.specs.Serving.{machine}
 
 -- the own content of the class's loader has bytes for its name, and they spell a file that names it (5.3.5)
 pub record IsSpelt (w : World) (c : Class) : Type 0 where

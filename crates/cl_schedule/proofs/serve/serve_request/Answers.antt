@@ -3,11 +3,11 @@ use Rattle.std.specs.Prelude.{slice_set}
 use Rattle.cl_model.specs.declared.answer.Answer.{Answer}
 use Rattle.cl_registry.specs.Tables.{Shown, state_of}
 use Rattle.cl_tasks.specs.declared.stage.Turn.TheVariants as turn
-use Rattle.classlink.specs.Counting.{fault}
-use Rattle.classlink.proofs.Serving.{goes_none, posts_once}
-use Rattle.classlink.proofs.Served.{backed_now, going_start, going_define, going_post, posted_memory}
-use Rattle.classlink.proofs.Counted.{grows_none, grows_on, grows_quiet, told_fault, post_grows}
-use Rattle.classlink.proofs.serve.serve_request.Goals as goal
+use Rattle.cl_schedule.specs.Counting.{fault}
+use Rattle.cl_schedule.proofs.Serving.{goes_none, posts_once}
+use Rattle.cl_schedule.proofs.Served.{backed_now, going_start, going_define, going_post, posted_memory}
+use Rattle.cl_schedule.proofs.Counted.{grows_none, grows_on, grows_quiet, told_fault, post_grows}
+use Rattle.cl_schedule.proofs.serve.serve_request.Goals as goal
 
 pub returns-in-Err-clause-posted : goal.returns-in-Err-clause-posted
 returns-in-Err-clause-posted g c = posts_once c.args.registry.now c.args.registry.now c.post.new.registry c.args.q _ (goes_none c.args.registry.now) c.post.ensures.posted

@@ -5,14 +5,14 @@ use Rattle.cl_registry.specs.Views.{Configured, Scripted}
 use Rattle.cl_registry.specs.Reports.{IsNamed}
 use Rattle.cl_registry.specs.Scripts.{HasLoaders}
 use Rattle.cl_registry.specs.Tables.{Shown, posts}
-use Rattle.classlink.specs.Counting.{Grows, faults}
-use Rattle.classlink.specs.Serving.{reported, InOrder}
-use Rattle.classlink.specs.Headline.{EachSpelt, Alike, CirclesExact}
-use Rattle.classlink.proofs.Serving.{next_upto, next_is_open, none_is_open, in_script, has_loader, report_tells}
-use Rattle.classlink.proofs.Served.{served_none, served_next, served_whole}
-use Rattle.classlink.proofs.Counted.{grows_none, faults_none, faults_then}
-use Rattle.classlink.proofs.Headline.{each_spelt, alike, circles_exact}
-use Rattle.classlink.proofs.serve.serve_one.Goals as goal
+use Rattle.cl_schedule.specs.Counting.{Grows, faults}
+use Rattle.cl_schedule.specs.Serving.{reported, InOrder}
+use Rattle.cl_schedule.specs.Headline.{EachSpelt, Alike, CirclesExact}
+use Rattle.cl_schedule.proofs.Serving.{next_upto, next_is_open, none_is_open, in_script, has_loader, report_tells}
+use Rattle.cl_schedule.proofs.Served.{served_none, served_next, served_whole}
+use Rattle.cl_schedule.proofs.Counted.{grows_none, faults_none, faults_then}
+use Rattle.cl_schedule.proofs.Headline.{each_spelt, alike, circles_exact}
+use Rattle.cl_schedule.proofs.serve.serve_one.Goals as goal
 
 pub loop-q-init : goal.loop-q-init
 loop-q-init g c =

@@ -30,8 +30,8 @@ use Rattle.cl_tasks.specs.declared.stage.Reply.{Reply}
 use Rattle.cl_tasks.specs.declared.stage.Turn.{Turn}
 use Rattle.cl_tasks.specs.declared.stage.Turn.TheVariants as turn
 use Rattle.cl_tasks.specs.Follows.{Tells, Backed, BackedWhere, ServedIn, FollowsWhere, AnswerFollows}
-use Rattle.classlink.specs.Serving.{machine, InOrder, Since, Served, DefinesFor}
-use Rattle.classlink.proofs.Serving.{Goes, goes_none, goes_same, goes_event}
+use Rattle.cl_schedule.specs.Serving.{machine, InOrder, Since, Served, DefinesFor}
+use Rattle.cl_schedule.proofs.Serving.{Goes, goes_none, goes_same, goes_event}
 
 -- some first needs of the request's plan were made since
 abbrev pub BegunIn : Option Content → Shown → Shown → Request → Type 0

@@ -3,9 +3,9 @@ use Rattle.cl_registry.specs.Tables.{state_of}
 use Rattle.cl_tasks.specs.Tasks.{left}
 use Rattle.cl_tasks.specs.Turns.{Expects}
 use Rattle.cl_tasks.specs.Follows.{Tells}
-use Rattle.classlink.specs.Counting.{Grows, told_faults}
-use Rattle.classlink.proofs.Served.{Going}
-use Rattle.classlink.proofs.serve.serve_request.Given as goal
+use Rattle.cl_schedule.specs.Counting.{Grows, told_faults}
+use Rattle.cl_schedule.proofs.Served.{Going}
+use Rattle.cl_schedule.proofs.serve.serve_request.Given as goal
 
 abbrev pub invariant-loop-loader : goal.invariant-loop-loader
 invariant-loop-loader g l = record {

@@ -1,9 +1,13 @@
 //! Scripts served over a source in memory. A body that gives up on every request passes no line of these.
-use crate::print::print_report;
-use crate::serve::serve_one;
-use cl_model::{Answer, LoaderId, Request, Untold};
+ghost use Rattle.std.specs.Prelude.{length, All};
+ghost use Rattle.cl_model.specs.Texts.{AnswerNames, EventNames};
+
+use crate::serve_one;
+use cl_model::{Answer, Event, LoaderId, Request, Untold};
 use cl_names::Name;
-use cl_registry::{Config, FaultySource, MemorySource, Script, Source, SourceFault, Telling};
+use cl_registry::{
+    Config, FaultySource, MemorySource, Report, Script, Source, SourceFault, Telling,
+};
 use cl_tasks::{Reply, Task, Turn};
 use std::alloc::{AllocError, Global};
 use std::sync::Arc;
@@ -61,12 +65,32 @@ fn classes(alloc: Global) -> Result<Telling<Untold>, AllocError> {
     Ok(source.tell::<Untold>())
 }
 
+/// The definitions of a report, and its answers behind their numbers, each on a line.
+fn lines(alloc: Global, report: &Report, loaders: &[String]) -> Result<String, AllocError>
+    requires events { All (EventNames (length loaders.now)) report.now.history }
+    requires answers { All (AnswerNames (length loaders.now)) report.now.answers }
+{
+    let mut lines = String::new(alloc);
+    for event in report.history.events() {
+        if let Event::Define(class) = event {
+            let class = class.text(alloc, loaders)?;
+            lines.push_str(format!(in alloc; "define {class}\n")?.as_str())?;
+        }
+    }
+    for (index, answer) in report.answers.as_slice().iter().enumerate() {
+        let number = index + 1;
+        let answer = answer.text(alloc, loaders)?;
+        lines.push_str(format!(in alloc; "{number} {answer}\n")?.as_str())?;
+    }
+    Ok(lines)
+}
+
 /// The lines of a script that is served over a source.
 fn served<S: Source<Untold>>(
     alloc: Global,
     source: &mut S,
     text: &str,
-) -> Result<Vec<u8>, AllocError> {
+) -> Result<String, AllocError> {
     let Ok(config) = Config::read(alloc, "[[loader]]\nname = \"boot\"\n") else {
         return Err(AllocError);
     };
@@ -79,11 +103,7 @@ fn served<S: Source<Untold>>(
     let Ok(report) = serve_one::<Untold, S>(alloc, config, source, script) else {
         return Err(AllocError);
     };
-    let mut out = Vec::new(alloc);
-    match print_report(alloc, &report, loaders.names(), false, &mut out) {
-        Ok(()) => Ok(out),
-        Err(_) => Err(AllocError),
-    }
+    lines(alloc, &report, loaders.names())
 }
 
 #[test]
@@ -96,7 +116,7 @@ fn chains_and_circles(rt: HostRuntime) -> Result<(), Fail> {
         1 ClassCircularityError p/X@boot\n2 ClassCircularityError p/X@boot\n3 NoClassDefFoundError p/Z@boot\n\
         4 class p/B@boot\n5 ClassNotFoundException p/Z@boot\n6 ClassCircularityError p/Y@boot\n7 class p/A@boot\n";
     let lines = served(alloc, &mut source, script)?;
-    assert_eq!(rt; lines.as_slice(), want.as_bytes());
+    assert_eq!(rt; lines.as_str(), want);
     Ok(())
 }
 
@@ -120,7 +140,7 @@ fn each_read_fails_once(rt: HostRuntime) -> Result<(), Fail> {
         let lines = served(alloc, &mut source, script)?;
         let history = "define java/lang/Object@boot\ndefine p/A@boot\ndefine p/B@boot\n";
         let want = format!(in alloc; "{history}1 {first}\n2 {second}\n3 {class}\n4 {last}\n")?;
-        assert_eq!(rt; lines.as_slice(), want.as_bytes(), "at {at}");
+        assert_eq!(rt; lines.as_str(), want.as_str(), "at {at}");
         assert_eq!(rt; source.failures(), u64::from(0 < at && at < 6), "at {at}");
     }
     Ok(())

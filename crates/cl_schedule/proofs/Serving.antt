@@ -17,7 +17,7 @@ use Rattle.cl_registry.specs.Reports.{IsReport, HasOpen}
 use Rattle.cl_registry.proofs.Histories.{posts_define, posts_post, is_in_push, unposted}
 use Rattle.cl_tasks.specs.declared.phase.Phase.{Phase}
 use Rattle.cl_tasks.specs.declared.phase.Phase.TheVariants.{Defining, Done}
-use Rattle.classlink.specs.Serving.{upto, reported}
+use Rattle.cl_schedule.specs.Serving.{upto, reported}
 
 -- the same configuration and script, and no post more
 pub record Goes (old new : Shown) : Type 0 where

@@ -12,7 +12,7 @@ use Rattle.cl_tasks.specs.declared.stage.Reply.{Reply}
 use Rattle.cl_tasks.specs.declared.stage.Reply.TheVariants as reply
 use Rattle.cl_tasks.specs.declared.stage.Turn.TheVariants as turn
 use Rattle.cl_tasks.specs.Follows.{NoFault, Refuses, refusal}
-use Rattle.classlink.specs.Counting.{fault, faults, told_faults, RoseBy, Grows, FaultsGrow}
+use Rattle.cl_schedule.specs.Counting.{fault, faults, told_faults, RoseBy, Grows, FaultsGrow}
 
 pub grows_none : (old : ℕ) → Grows 0 old old
 grows_none old = record { stays = λ e. e; rose = inr (omega arith) }

@@ -1,9 +1,9 @@
 use Rattle.std.proofs.Common.{◌≡◌}
 use Rattle.cl_registry.specs.Tables.{IsKept, posts}
-use Rattle.classlink.specs.Serving.{upto}
-use Rattle.classlink.specs.Counting.{Grows, faults}
-use Rattle.classlink.proofs.Served.{ServedBelow}
-use Rattle.classlink.proofs.serve.serve_one.Given as goal
+use Rattle.cl_schedule.specs.Serving.{upto}
+use Rattle.cl_schedule.specs.Counting.{Grows, faults}
+use Rattle.cl_schedule.proofs.Served.{ServedBelow}
+use Rattle.cl_schedule.proofs.serve.serve_one.Given as goal
 
 abbrev pub invariant-loop-q : goal.invariant-loop-q
 invariant-loop-q g l = record {

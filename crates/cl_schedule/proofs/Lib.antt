@@ -1,0 +1,4 @@
+pub mod Serving
+pub mod Served
+pub mod Counted
+pub mod Headline

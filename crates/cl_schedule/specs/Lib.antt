@@ -1,0 +1,4 @@
+pub mod Serving
+pub mod Counting
+pub mod Headline
+pub mod Texts

@@ -80,7 +80,7 @@ two_say a b h = let k = both (is_short a) (is_short b) h in (short_says a k.0, s
 two_told : (a b : ℕ) → (a < 2 ^ 16) × (b < 2 ^ 16) → is_short a && is_short b ≡ true
 two_told a b h = all (is_short a) (is_short b) (short_told a h.0) (short_told b h.1)
 
-signed32_says : (z : ℤ) → is_signed (2 ^ 31) z ≡ true → FitsSigned w32 z
+pub signed32_says : (z : ℤ) → is_signed (2 ^ 31) z ≡ true → FitsSigned w32 z
 signed32_says (pos n) h = record { sfits = ltb-true n (2 ^ 31) h }
 signed32_says (negsuc n) h = record { sfits = ltb-true n (2 ^ 31) h }
 

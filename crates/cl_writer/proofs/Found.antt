@@ -13,7 +13,7 @@ use Rattle.cl_classfile.specs.declared.fault.Fault.{Fault}
 use Rattle.cl_classfile.specs.Structure.{Structure, Spells, spelling}
 use Rattle.cl_classfile.specs.Widths.{is_signed}
 use Rattle.cl_classfile.specs.Checking.{parts_of}
-use Rattle.cl_classfile.proofs.Fitting.{signed32_says, signed32_told}
+use Rattle.cl_classfile.proofs.Fitting.{signed32_tells}
 use Rattle.cl_classfile.proofs.Tables.{parts_say}
 use Rattle.cl_writer.specs.declared.item.MemberKind.{MemberKind}
 use Rattle.cl_writer.specs.declared.item.MemberKind.TheVariants as kinds
@@ -125,8 +125,8 @@ number_found text =
       | inr unsigned ↦ elim (numeral_found (without_leading_sign text)) [
         | inr none ↦ inr (λ z w. none w.digits)
         | inl digits ↦ elim (cases_Bool (is_signed (2 ^ 31) (signed_digits_value 10 text))) [
-          | inl fits ↦ inl (signed_digits_value 10 text, record { unsigned = unsigned; digits = digits; value = refl; fits = signed32_says (signed_digits_value 10 text) fits })
-          | inr large ↦ inr (λ z w. false≢true (sym large ∙ ap (is_signed (2 ^ 31)) (sym w.value) ∙ signed32_told z w.fits))
+          | inl fits ↦ inl (signed_digits_value 10 text, record { unsigned = unsigned; digits = digits; value = refl; fits = (signed32_tells (signed_digits_value 10 text)).0 fits })
+          | inr large ↦ inr (λ z w. false≢true (sym large ∙ ap (is_signed (2 ^ 31)) (sym w.value) ∙ (signed32_tells z).1 w.fits))
         ]
       ]
     ]

@@ -76,40 +76,26 @@ not_true : (b : Bool) → not b ≡ true → b ≡ false
 not_true true e = cc
 not_true false e = refl
 
-no_long : (path : Text) → is_plain_word path ≡ true → long_of path ≡ None
-no_long [] p = refl
-no_long (c ∷ []) p = one (c == 45) refl
-  where
-    one : (b : Bool) → (c == 45) ≡ b → long_of (c ∷ []) ≡ None
-    one true t = rw t refl
-    one false t = rw t refl
-no_long (c ∷ d ∷ rest) p = let t = not_true (c == 45) p in rw t refl
+-- no test for a flag takes it for one
+abbrev IsNoFlag : Text → Type 0
+IsNoFlag path = (bytes_eq path (45 ∷ 45 ∷ []) ≡ false) × (long_of path ≡ None) × (short_of path ≡ None)
 
-no_short : (path : Text) → is_plain_word path ≡ true → short_of path ≡ None
-no_short [] p = refl
-no_short (c ∷ []) p = one (c == 45) refl
+no_flag : (path : Text) → is_plain_word path ≡ true → IsNoFlag path
+no_flag [] p = (refl, refl, refl)
+no_flag (c ∷ []) p = one (c == 45) refl
   where
-    one : (b : Bool) → (c == 45) ≡ b → short_of (c ∷ []) ≡ None
-    one true t = rw t refl
-    one false t = rw t refl
-no_short (c ∷ d ∷ rest) p = let t = not_true (c == 45) p in rw t refl
+    one : (b : Bool) → (c == 45) ≡ b → IsNoFlag (c ∷ [])
+    one true t = rw t (refl, refl, refl)
+    one false t = rw t (refl, refl, refl)
+no_flag (c ∷ d ∷ rest) p = let t = not_true (c == 45) p in rw t (refl, refl, refl)
 
-no_dashes : (path : Text) → is_plain_word path ≡ true → bytes_eq path (45 ∷ 45 ∷ []) ≡ false
-no_dashes [] p = refl
-no_dashes (c ∷ []) p = one (c == 45) refl
-  where
-    one : (b : Bool) → (c == 45) ≡ b → bytes_eq (c ∷ []) (45 ∷ 45 ∷ []) ≡ false
-    one true t = rw t refl
-    one false t = rw t refl
-no_dashes (c ∷ d ∷ rest) p = let t = not_true (c == 45) p in rw t refl
-
-word_passes : (path : Text) → bytes_eq path (45 ∷ 45 ∷ []) ≡ false → long_of path ≡ None → short_of path ≡ None → Passes (to_read path)
+plain_passes : (path : Text) → IsNoFlag path → Passes (to_read path)
 unfolding clap_on_literals
-word_passes path p q r = rw (p, q, r) refl
+plain_passes path none = rw (none.0, none.1, none.2) refl
 
-word_found : (path : Text) → bytes_eq path (45 ∷ 45 ∷ []) ≡ false → long_of path ≡ None → short_of path ≡ None → Finds path (to_read path)
+plain_found : (path : Text) → IsNoFlag path → Finds path (to_read path)
 unfolding clap_on_literals
-word_found path p q r = rw (p, q, r) (refl, refl)
+plain_found path none = rw (none.0, none.1, none.2) (refl, refl)
 
 behind_passes : (path : Text) → Passes (to_read_behind path)
 unfolding clap_on_literals
@@ -119,19 +105,13 @@ behind_found : (path : Text) → Finds path (to_read_behind path)
 unfolding clap_on_literals
 behind_found path = (refl, refl)
 
-plain_passes : (path : Text) → is_plain_word path ≡ true → Passes (to_read path)
-plain_passes path p = word_passes path (no_dashes path p) (no_long path p) (no_short path p)
-
-plain_found : (path : Text) → is_plain_word path ≡ true → Finds path (to_read path)
-plain_found path p = word_found path (no_dashes path p) (no_long path p) (no_short path p)
-
 pub takes_path : (words : List Text) (path : Text) → AskToRead words path → wrong_words words ≡ []
 unfolding wrong_words
-takes_path words path (inl p) = ap (built_fault (built program) nothing_held) p.0 ∙ plain_passes path p.1
+takes_path words path (inl p) = ap (built_fault (built program) nothing_held) p.0 ∙ plain_passes path (no_flag path p.1)
 takes_path words path (inr p) = ap (built_fault (built program) nothing_held) p ∙ behind_passes path
 
 found_path : (words : List Text) (path : Text) → AskToRead words path → Finds path (drop 1 words)
-found_path words path (inl p) = subst (Finds path) (sym p.0) (plain_found path p.1)
+found_path words path (inl p) = subst (Finds path) (sym p.0) (plain_found path (no_flag path p.1))
 found_path words path (inr p) = subst (Finds path) (sym p) (behind_found path)
 
 -- what is asked for by these words

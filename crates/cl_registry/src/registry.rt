@@ -65,6 +65,14 @@ impl<T: Told> Model for Registry<T> {
 }
 
 /// A draft that was not recorded, and why.
+/// A registry could not be made.
+#[derive(Debug, Drop, Error)]
+#[error("B0 Memory")]
+pub struct RegistryRefused {
+    pub config: Arc<Config>,
+    pub script: Arc<Script>,
+}
+
 #[derive(Drop)]
 pub struct DefineRefused<T: Told> {
     pub fault: RegistryFault,
@@ -85,24 +93,24 @@ pub struct NotYet<T: Told> {
 }
 
 impl<T: Told> Registry<T> {
-    /// Empty tables, with room for all posts.
+    /// Empty tables, with room for all posts. Only memory refuses it.
     pub fn new(
         alloc: Global,
         config: Arc<Config>,
         script: Arc<Script>,
-    ) -> Result<Registry<T>, RegistryFault>
+    ) -> Result<Registry<T>, RegistryRefused>
         ensures empty { IfOk result (λ r. r ≡ record { config = config.value; script = script.value; history = []; answers = replicate (length script.value.requests) None }) }
         ensures kept { IfOk result (λ r. IsKept T.told r) }
-        ensures memory { IfErr result (λ e. e ≡ RegistryFault.Memory) }
+        ensures back { IfErr result (λ e. (e.config.value ≡ config.value) × (e.script.value ≡ script.value)) }
     {
         let left = script.requests().len();
         let rows = match empty_rows(alloc, config.count()) {
             Ok(rows) => rows,
-            Err(_) => return Err(RegistryFault::Memory),
+            Err(_) => return Err(RegistryRefused { config, script }),
         };
         let parts = match rooms_for(alloc, left) {
             Ok(parts) => parts,
-            Err(_) => return Err(RegistryFault::Memory),
+            Err(_) => return Err(RegistryRefused { config, script }),
         };
         Ok(Registry {
             config,

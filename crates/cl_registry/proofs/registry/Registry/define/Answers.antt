@@ -1,9 +1,10 @@
-use Rattle.std.proofs.Common.{◌≡◌, ◌∙◌, refl, ap, sym, length, subst, None, is_some, Option, ℕ, List}
-use Rattle.std.specs.Prelude.{OnOk}
+use Rattle.std.proofs.Common.{◌≡◌, ◌∙◌, refl, ap, sym, length, subst, None, Some, is_some, Option, ℕ, List}
+use Rattle.std.specs.Prelude.{Result, OnOk, IfOk}
 use Rattle.std.specs.Option.{option_map}
 use Rattle.cl_model.specs.declared.event.Event.{Event}
 use Rattle.cl_model.specs.States.{recorded}
 use Rattle.cl_registry.specs.Drafts.{IsDraft}
+use Rattle.cl_registry.specs.Parts.{IsOf}
 use Rattle.cl_registry.specs.Tables.{Shown, MayEnter, DefinedAs, records_of}
 use Rattle.cl_registry.proofs.Kept.{kept_define, may_enter, unrecorded_at, known_at, place_at, known_defined}
 use Rattle.cl_registry.proofs.registry.Registry.define.Goals as goal
@@ -38,3 +39,13 @@ returns-in-Some-clause-defined g c =
 
 pub returns-clause-kept : goal.returns-clause-kept
 returns-clause-kept g c = (invariant_of-self-2 g c).kept
+
+unknown : {A B : Type 0} (r : Result A B) (P : A → Type 0) (o : Option ℕ) (place : ℕ) → o ≡ Some place → o ≡ None → IfOk r P
+unknown r P o place is none = absurd cc
+
+pub returns-in-Some-clause-fresh : goal.returns-in-Some-clause-fresh
+returns-in-Some-clause-fresh g c =
+    let x : Shown = record { config = c.self.inside.config.value; script = c.self.inside.script.value; history = c.self.inside.history.items; answers = c.self.inside.answers.items } in
+    subst (λ (y : Shown). recorded (records_of y) c.args.draft.class.loader c.args.draft.class.name ≡ None → IfOk c.match-try_clone.result (λ r. IsOf r.value c.args.draft)) c.self.view_is
+    (unknown c.match-try_clone.result (λ r. IsOf r.value c.args.draft) _ c.in-Some.row.now.value.class.loader
+    (sym (place_at (λ r. r.value) g.T.Told.told x _ c.self.invariant.rows c.args.draft.class.loader c.args.draft.class.name) ∙ ap (option_map (λ r. r.value.class.loader)) (sym c.known.ensures ∙ ap (option_map (λ r. r.now)) c.in-Some.is)))

@@ -197,7 +197,7 @@ flag_read f read false by_true by_false e = by_false e
 
 -- ---- a parse that fails
 
-memory_alone : (kinds : Kinds) (e : Error) → kinds ≡ [] → HasKind kinds e → kind_of e ≡ OutOfMemory
+pub memory_alone : (kinds : Kinds) (e : Error) → kinds ≡ [] → HasKind kinds e → kind_of e ≡ OutOfMemory
 memory_alone [] e k (inl m) = m
 memory_alone [] e k (inr a) = absurd a
 memory_alone (x ∷ xs) e k h = absurd cc

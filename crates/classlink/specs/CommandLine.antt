@@ -1,9 +1,7 @@
 -- The words that the program takes, as `clap` sees its command.
-use Rattle.std.specs.Prelude.{◌≡◌, ◌⊎◌, ◌≤◌, ◌==◌, ℕ, Bool, true, false, not, List, [], ◌∷◌, codes, Option, Some, option_map, option_and_then, unwrap_or, drop}
+use Rattle.std.specs.Prelude.{◌≡◌, ◌⊎◌, ◌==◌, ℕ, Bool, true, false, not, List, [], ◌∷◌, codes, Option, Some, option_map, option_and_then, unwrap_or, drop}
 use Rattle.clap.specs.Values.{bool_text}
-use Rattle.clap.specs.Words.{App, IsAmong, Kinds, Row, Rule, Text, app_of, fault_of, first_of, new_app, new_rule, one_of, with_rule, with_subcommand}
-use Rattle.clap.specs.declared.error.kind.ErrorKind.{ErrorKind}
-use Rattle.clap.specs.declared.error.kind.ErrorKind.TheVariants as kinds
+use Rattle.clap.specs.Words.{App, Kinds, Row, Rule, Text, app_of, fault_of, first_of, new_app, new_rule, one_of, with_rule, with_subcommand}
 use Rattle.clap.specs.declared.builder.ArgAction.TheVariants.{SetTrue}
 use Rattle.clap.specs.declared.builder.command.Command.{Command}
 use Rattle.clap.specs.declared.builder.command.Command.TheViews.{out-Command}
@@ -93,16 +91,3 @@ IsBundle only_answers (Read path) = ⊥
 abbrev pub IsRead : List ℕ → Asked → Type 0
 IsRead at (Bundle answers) = ⊥
 IsRead at (Read path) = path.now ≡ at
-
--- the exit status where a parse of the words fails: help may be written, or not
-abbrev pub StatusOf : ErrorKind → ℕ → Type 0
-StatusOf kinds.OutOfMemory status = status ≡ 1
-StatusOf kinds.DisplayHelp status = status ≤ 1
-StatusOf kinds.DisplayVersion status = status ≤ 1
-StatusOf _ status = status ≡ 2
-
--- the exit status is that of want of memory or of one of these kinds
-pub record IsTurnedDown (faults : Kinds) (status : ℕ) : Type 0 where
-  pub kind : ErrorKind
-  pub among : (kind ≡ kinds.OutOfMemory) ⊎ IsAmong kind faults
-  pub ends : StatusOf kind status

@@ -3,7 +3,7 @@ use Rattle.std.proofs.Common.{◌≡◌, ◌⊎◌, ◌∙◌, ℕ, Bool, List, 
 use Rattle.clap.specs.Words.{Row, Text}
 use Rattle.clap.specs.declared.error.kind.ErrorKind.{ErrorKind}
 use Rattle.clap.specs.declared.error.kind.ErrorKind.TheVariants as kinds
-use Rattle.classlink.specs.CommandLine.{IsAsked, IsBundle, IsRead, file_of}
+use Rattle.classlink.specs.CommandLine.{IsAsked, AsksForBundle, AsksForFile, file_of}
 use Rattle.classlink.specs.Endings.{EndsFor, Grows, HelpOf, IsHelped, IsTaken, LacksMemory, Reads, Runs}
 use Rattle.classlink.specs.Faults.{print_fault}
 use Rattle.classlink.specs.Readings.{Giving, IsReading}
@@ -18,8 +18,8 @@ use Rattle.classlink.specs.declared.words.Asked.TheVariants.{Bundle, Read}
 use Rattle.classlink.proofs.Written.{appends_nothing}
 
 pub taken : (entered : Option (Text × List Row)) (input : Option (List ℕ)) (gives : List ℕ → Giving) (old_out new_out old_err new_err : Option (List ℕ)) (status : ℕ) (asked : Asked) → IsAsked entered asked
-    → ((answers : Bool) → IsBundle answers asked → IsRun input answers old_out new_out old_err new_err status)
-    → ((path : List ℕ) → IsRead path asked → IsReading (gives path) path old_out new_out old_err new_err status)
+    → ((answers : Bool) → AsksForBundle answers asked → IsRun input answers old_out new_out old_err new_err status)
+    → ((path : List ℕ) → AsksForFile path asked → IsReading (gives path) path old_out new_out old_err new_err status)
     → IsTaken entered input gives old_out new_out old_err new_err status
 taken entered input gives old_out new_out old_err new_err status (Bundle answers) is run read = Runs answers is.0 is.1 (run answers refl)
 taken entered input gives old_out new_out old_err new_err status (Read path) is run read = Reads is.0 (read (file_of entered) (sym is.1))

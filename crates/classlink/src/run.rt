@@ -3,7 +3,7 @@ ghost use Rattle.std.specs.Io.KnownBytes.{Appends};
 ghost use Rattle.clap.specs.Words.{kind_of, subcommand_of};
 ghost use Rattle.cl_model.specs.Content.{Tells};
 ghost use Rattle.cl_registry.specs.Scripts.{HasLoaders};
-ghost use Rattle.classlink.specs.CommandLine.{AskFor, AskToRead, IsBundle, IsRead, program, wrong_words};
+ghost use Rattle.classlink.specs.CommandLine.{AskFor, AskToRead, AsksForBundle, AsksForFile, program, wrong_words};
 ghost use Rattle.classlink.specs.Endings.{EndsFor, Grows, HelpOf, IsTaken, IsTurnedDown};
 ghost use Rattle.classlink.specs.Readings.{IsReading};
 ghost use Rattle.classlink.specs.Runs.{IsRun, IsServed, RunOf, TellsFault};
@@ -58,9 +58,9 @@ fn run_asked<F: ReadFile, I: Read + Drop, W: Write, E: Write>(
     out: &mut W,
     err: &mut E,
 ) -> u8
-    ensures bundle { (answers : Bool) → IsBundle answers asked.entry
+    ensures bundle { (answers : Bool) → AsksForBundle answers asked.entry
         → IsRun (I.remaining input) answers (W.contents out.old) (W.contents out.new) (E.contents err.old) (E.contents err.new) result }
-    ensures read { (path : List ℕ) → IsRead path asked.entry
+    ensures read { (path : List ℕ) → AsksForFile path asked.entry
         → IsReading (F.gives files.now path) path (W.contents out.old) (W.contents out.new) (E.contents err.old) (E.contents err.new) result }
 {
     match asked {

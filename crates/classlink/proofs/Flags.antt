@@ -19,7 +19,7 @@ use Rattle.clap.specs.declared.parser.matches.Found.{Found}
 use Rattle.clap.specs.declared.parser.matches.SubCommand.{SubCommand}
 use Rattle.clap.proofs.OnLiterals.{clap_on_literals}
 use Rattle.clap.proofs.WalkLemmas.{first_value-rows, one_text-rows}
-use Rattle.classlink.specs.CommandLine.{AskFor, AskToRead, HasFlag, IsAsked, IsBundle, IsRead, IsToRead, file_of, is_plain_word, program, words_for, wrong_words}
+use Rattle.classlink.specs.CommandLine.{AskFor, AskToRead, HasFlag, IsAsked, AsksForBundle, AsksForFile, IsToRead, file_of, is_plain_word, program, words_for, wrong_words}
 use Rattle.classlink.specs.declared.words.Asked.{Asked}
 use Rattle.classlink.specs.declared.words.Asked.TheVariants.{Bundle, Read}
 
@@ -121,11 +121,11 @@ unfolding clap_on_literals
 bundle_entered false = λ e. cc
 bundle_entered true = λ e. cc
 
-pub bundle_asked : (words : List Text) (answers : Bool) (a : Asked) → AskFor words answers → IsAsked (subcommand_of program words) a → IsBundle answers a
+pub bundle_asked : (words : List Text) (answers : Bool) (a : Asked) → AskFor words answers → IsAsked (subcommand_of program words) a → AsksForBundle answers a
 bundle_asked words answers (Bundle b) ask is = is.1 answers (flag_of_words words answers ask)
 bundle_asked words answers (Read path) ask is = absurd (bundle_entered answers (subst (λ (ws : List Text). IsToRead (entered_at ws)) ask is.0))
 
-pub path_asked : (words : List Text) (path : Text) (a : Asked) → AskToRead words path → IsAsked (subcommand_of program words) a → IsRead path a
+pub path_asked : (words : List Text) (path : Text) (a : Asked) → AskToRead words path → IsAsked (subcommand_of program words) a → AsksForFile path a
 path_asked words path (Bundle b) ask is = absurd (is.0 (found_path words path ask).0)
 path_asked words path (Read at) ask is = sym is.1 ∙ (found_path words path ask).1
 
@@ -177,7 +177,7 @@ flag_read f read false by_true by_false e = by_false e
 
 -- ---- a parse that fails
 
-memory_alone : (kinds : Kinds) (e : Error) → kinds ≡ [] → HasKind kinds e → kind_of e ≡ OutOfMemory
+pub memory_alone : (kinds : Kinds) (e : Error) → kinds ≡ [] → HasKind kinds e → kind_of e ≡ OutOfMemory
 memory_alone [] e k (inl m) = m
 memory_alone [] e k (inr a) = absurd a
 memory_alone (x ∷ xs) e k h = absurd cc

@@ -1,5 +1,6 @@
 pub mod Cutting
 pub mod Digits
+pub mod Ending
 pub mod Flags
 pub mod Headings
 pub mod Listing

@@ -12,5 +12,4 @@ pub mod Counted
 pub mod Headline
 pub mod Written
 pub mod Alone
-pub mod Asked
 pub mod OneReading

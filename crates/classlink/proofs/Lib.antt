@@ -9,5 +9,4 @@ pub mod Running
 pub mod Storing
 pub mod Written
 pub mod Alone
-pub mod Asked
 pub mod OneReading

@@ -1,5 +1,5 @@
 -- The tests of widths, and what they say.
-use Rattle.std.proofs.Common.{◌≡◌, ◌≢◌, ℕ, ℤ, pos, negsuc, zero, suc, ◌+◌, ◌^◌, ◌<◌, ◌≤◌, Bool, true, false, cond, not, ◌&&◌, leb, ltb, List, [], ◌∷◌, length, Some, Result, Ok, Err, refl, sym, ap, subst, ◌∙◌, arith}
+use Rattle.std.proofs.Common.{◌≡◌, ◌≢◌, ℕ, ℤ, pos, negsuc, zero, suc, ◌+◌, ◌^◌, ◌<◌, ◌≤◌, Bool, true, false, cond, not, ◌&&◌, ltb, List, [], ◌∷◌, length, Some, Result, Ok, Err, refl, sym, ap, subst, arith}
 use Rattle.std.specs.Prelude.{FitsSigned}
 use Rattle.std.specs.Int.{w32, w64}
 use Rattle.std.specs.List.{AllByRecursion, list_all}
@@ -14,7 +14,7 @@ use Rattle.cl_classfile.specs.Pool.{EntryFits, is_wide, AreSpaced, at}
 use Rattle.cl_classfile.specs.Members.{Attribute, Member, AllFit, AttributeFits, MemberFits}
 use Rattle.cl_classfile.specs.Widths.{is_short, is_signed, entry_fits, is_unusable, all_fit, attribute_fits, member_fits}
 use Rattle.cl_classfile.specs.Structure.{PoolFits}
-use Rattle.cl_classfile.specs.Checking.{fits_slot, checked_slots, checked_pool}
+use Rattle.cl_classfile.specs.Checking.{checked_slots, checked_pool}
 
 pub short_tells : (n : ℕ) → Decides (is_short n) (n < 2 ^ 16)
 short_tells n = Decides-ltb n (2 ^ 16)

@@ -28,7 +28,7 @@ use Rattle.cl_classfile.specs.Files.{text_of, text_at}
 use Rattle.cl_classfile.specs.Checking.{keeps_field, has_room, keeps_method_flags, keeps_method, Key, both_texts, key_of, same_key, same_member, checked_members, keeps_member, checked_list}
 use Rattle.cl_classfile.proofs.Codec.{both}
 use Rattle.cl_classfile.proofs.Judging.{tests, differ, all, IsTrait, field, unqualified, method, option_traits, traits_are, text_says, text_told, is_clinit, init_says, clinit_says}
-use Rattle.cl_classfile.proofs.Fitting.{short_told, choice_ok, member_says, member_told}
+use Rattle.cl_classfile.proofs.Fitting.{short_tells, choice_ok, member_tells}
 
 -- ---- units
 
@@ -256,23 +256,23 @@ list_told : (kind : Kind) (of_interface : Bool) (pool : List Entry) (Keeps : Mem
 unfolding checked_list
 list_told kind of_interface pool Keeps told ms fits kept =
     let keeps = keeps_member kind (map entry_traits pool) of_interface in
-    rw (short_told (length ms) fits.0) (each_told keeps (λ m. MemberFits m × Keeps m) told pool [] ms (of_both MemberFits Keeps ms fits.1 kept.each) kept.new)
+    rw ((short_tells (length ms)).1 fits.0) (each_told keeps (λ m. MemberFits m × Keeps m) told pool [] ms (of_both MemberFits Keeps ms fits.1 kept.each) kept.new)
 
 pub fields_say : (pool : List Entry) (of_interface : Bool) (ms : List Member) (u : Unit {0}) → checked_list kinds.Field (map entry_traits pool) of_interface pool ms ≡ Ok u → IsList (KeepsField pool of_interface) pool ms
 fields_say pool of_interface =
-    list_says kinds.Field of_interface pool (KeepsField pool of_interface) (λ m h. let k = both (member_fits m) (keeps_fields pool of_interface m) h in (member_says m k.0, field_says pool of_interface m k.1))
+    list_says kinds.Field of_interface pool (KeepsField pool of_interface) (λ m h. let k = both (member_fits m) (keeps_fields pool of_interface m) h in ((member_tells m).0 k.0, field_says pool of_interface m k.1))
 
 pub fields_told : (pool : List Entry) (of_interface : Bool) (ms : List Member) → AllFit MemberFits ms → KeepMembers (KeepsField pool of_interface) pool ms → checked_list kinds.Field (map entry_traits pool) of_interface pool ms ≡ Ok tt
 fields_told pool of_interface =
-    list_told kinds.Field of_interface pool (KeepsField pool of_interface) (λ m h. all (member_fits m) (keeps_fields pool of_interface m) (member_told m h.0) (field_told pool of_interface m h.1))
+    list_told kinds.Field of_interface pool (KeepsField pool of_interface) (λ m h. all (member_fits m) (keeps_fields pool of_interface m) ((member_tells m).1 h.0) (field_told pool of_interface m h.1))
 
 pub methods_say : (pool : List Entry) (of_interface : Bool) (ms : List Member) (u : Unit {0}) → checked_list kinds.Method (map entry_traits pool) of_interface pool ms ≡ Ok u → IsList (KeepsMethod pool of_interface) pool ms
 methods_say pool of_interface =
-    list_says kinds.Method of_interface pool (KeepsMethod pool of_interface) (λ m h. let k = both (member_fits m) (keeps_methods pool of_interface m) h in (member_says m k.0, method_says pool of_interface m k.1))
+    list_says kinds.Method of_interface pool (KeepsMethod pool of_interface) (λ m h. let k = both (member_fits m) (keeps_methods pool of_interface m) h in ((member_tells m).0 k.0, method_says pool of_interface m k.1))
 
 pub methods_told : (pool : List Entry) (of_interface : Bool) (ms : List Member) → AllFit MemberFits ms → KeepMembers (KeepsMethod pool of_interface) pool ms → checked_list kinds.Method (map entry_traits pool) of_interface pool ms ≡ Ok tt
 methods_told pool of_interface =
-    list_told kinds.Method of_interface pool (KeepsMethod pool of_interface) (λ m h. all (member_fits m) (keeps_methods pool of_interface m) (member_told m h.0) (method_told pool of_interface m h.1))
+    list_told kinds.Method of_interface pool (KeepsMethod pool of_interface) (λ m h. all (member_fits m) (keeps_methods pool of_interface m) ((member_tells m).1 h.0) (method_told pool of_interface m h.1))
 
 -- ---- one after the other, as a loop does
 
@@ -280,7 +280,7 @@ methods_told pool of_interface =
 pub counted : (kind : Kind) (traits : List Traits) (of_interface : Bool) (pool : List Entry) (ms : List Member) → length ms ≤ 65535
     → checked_list kind traits of_interface pool ms ≡ checked_members (keeps_member kind traits of_interface) pool [] ms
 unfolding checked_list
-counted kind traits of_interface pool ms le = rw (short_told (length ms) (omega arith)) refl
+counted kind traits of_interface pool ms le = rw ((short_tells (length ms)).1 (omega arith)) refl
 
 -- the members from i on are still to be looked at
 abbrev pub AreLookedAt : (Member → Bool) → List Entry → List Member → ℕ → Type 0

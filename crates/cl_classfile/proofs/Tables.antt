@@ -1,6 +1,7 @@
 -- The tests of the tables, and what they say.
 use Rattle.std.proofs.Common.{◌≡◌, ◌⊎◌, ℕ, ◌+◌, ◌^◌, ◌<◌, Bool, true, false, cond, not, ◌&&◌, eqb, nat_eq, List, [], ◌∷◌, length, map, Option, Some, None, Result, Ok, Err, refl, sym, ap, ◌∙◌, arith, inl, inr}
 use Rattle.std.specs.Prelude.{is_some}
+use Rattle.std.specs.Bool.{Decides}
 use Rattle.std.specs.List.{AllByRecursion}
 use Rattle.std.specs.Cmp.Lexicographic.{pointwise, same_text}
 use Rattle.std.proofs.lemmas.Bool.{eqb-true, ltb-true}
@@ -19,7 +20,7 @@ use Rattle.cl_classfile.specs.Files.{class_name}
 use Rattle.cl_classfile.specs.Rows.{entry_traits, keeps_entry}
 use Rattle.cl_classfile.specs.Checking.{◌>>=◌, kept_entry, checked_entries, may_stand_above, keeps_super, keeps_names, keeps_interfaces, checked_class, checked_list, checked_attributes, checked_tables, kept_file, checked_pool, parts_of}
 use Rattle.cl_classfile.proofs.Codec.{bind_ok, test_ok, ok_is, both}
-use Rattle.cl_classfile.proofs.Fitting.{short_told, all_say, all_told, attributes_say, attributes_told, pool_says, pool_told, within}
+use Rattle.cl_classfile.proofs.Fitting.{short_tells, all_tell, attributes_tell, pool_says, pool_told, within}
 use Rattle.cl_classfile.proofs.Judging.{keeps_entry_says, keeps_entry_told}
 use Rattle.cl_classfile.proofs.MemberRows.{fields_say, fields_told, methods_say, methods_told}
 use Rattle.cl_classfile.proofs.Classes.{Rows, class_says, class_named}
@@ -97,11 +98,8 @@ names_say : (pool : List Entry) → Rows pool → (of_interface : Bool) (this su
 names_say pool rows of_interface this super None e h = absurd cc
 names_say pool rows of_interface this super (Some name) e h = record { name = name; this_class = class_says pool this name rows e; super_class = super_says pool rows of_interface name super h }
 
-interface_says : (pool : List Entry) → Rows pool → (i : ℕ) → is_some (class_name pool i) ≡ true → KeepsInterface pool i
-interface_says pool rows i h = let a = some_is (class_name pool i) h in (a.0, class_says pool i a.0 rows a.1)
-
-interface_told : (pool : List Entry) (i : ℕ) → KeepsInterface pool i → is_some (class_name pool i) ≡ true
-interface_told pool i h = ap is_some (class_named pool i h.0 h.1)
+interface_tells : (pool : List Entry) → Rows pool → (i : ℕ) → Decides (is_some (class_name pool i)) (KeepsInterface pool i)
+interface_tells pool rows i = (λ h. let a = some_is (class_name pool i) h in (a.0, class_says pool i a.0 rows a.1), λ h. ap is_some (class_named pool i h.0 h.1))
 
 -- ---- indices are within the pool
 
@@ -147,7 +145,7 @@ tested f u c d e v rows class fields methods attributes =
     let flags = both (is_short f.flags) (is_class_flags f.flags) a.0 in
     let k = both names (keeps_interfaces f.pool f.interfaces) a.1 in
     let n = names_say f.pool entries of_interface f.this_class f.super_class (class_name f.pool f.this_class) refl k.0 in
-    let interfaces = all_say (λ i. is_some (class_name f.pool i)) (KeepsInterface f.pool) (interface_says f.pool entries) f.interfaces k.1 in
+    let interfaces = (all_tell (λ i. is_some (class_name f.pool i)) (KeepsInterface f.pool) (interface_tells f.pool entries) f.interfaces).0 k.1 in
     let each_field = fields_say f.pool of_interface f.fields d fields in
     let each_method = methods_say f.pool of_interface f.methods e methods in
     let some_attributes = test_ok (all_fit attribute_fits f.attributes) BadMember tt v attributes in
@@ -166,7 +164,7 @@ tested f u c d e v rows class fields methods attributes =
       interfaces = interfaces.0;
       fields = each_field.fits;
       methods = each_method.fits;
-      attributes = attributes_say f.attributes some_attributes.0;
+      attributes = (attributes_tell f.attributes).0 some_attributes.0;
     }
 
 pub tables_say : (f : Structure) (u v : Unit {0}) → checked_entries f.pool 1 f.pool ≡ Ok u → checked_tables (map entry_traits f.pool) f.pool f ≡ Ok v → IsTested f
@@ -191,11 +189,11 @@ file_told f fits kept =
     let of_interface = has f.flags interface in
     let named : class_name f.pool f.this_class ≡ Some kept.name = class_named f.pool f.this_class kept.name kept.this_class in
     let super = super_told f.pool of_interface kept.name f.super_class kept.super_class in
-    let interfaces = all_told (λ i. is_some (class_name f.pool i)) (KeepsInterface f.pool) (interface_told f.pool) f.interfaces (fits.interfaces.0, kept.interfaces) in
-    let class : class_checked f ≡ Ok tt = rw (short_told f.flags fits.flags, kept.flags, named, super, interfaces) refl in
+    let interfaces = (all_tell (λ i. is_some (class_name f.pool i)) (KeepsInterface f.pool) (interface_tells f.pool kept.pool) f.interfaces).1 (fits.interfaces.0, kept.interfaces) in
+    let class : class_checked f ≡ Ok tt = rw ((short_tells f.flags).1 fits.flags, kept.flags, named, super, interfaces) refl in
     let fields : fields_checked f ≡ Ok tt = fields_told f.pool of_interface f.fields fits.fields kept.fields in
     let methods : methods_checked f ≡ Ok tt = methods_told f.pool of_interface f.methods fits.methods kept.methods in
-    let attributes : checked_attributes f.attributes ≡ Ok tt = rw (attributes_told f.attributes fits.attributes) refl in
+    let attributes : checked_attributes f.attributes ≡ Ok tt = rw ((attributes_tell f.attributes).1 fits.attributes) refl in
     rw (rows_told f.pool 1 f.pool fits.pool.1 kept.pool, class, fields, methods, attributes) refl
 
 -- ---- parts that no bytes were read for

@@ -33,35 +33,25 @@ special_of text =
 
 -- a descriptor of a field, an array, a method, a method that returns nothing (4.3)
 abbrev pub is_field : Option Form → Bool
-is_field None = false
 is_field (Some forms.Plain) = true
 is_field (Some forms.Array) = true
-is_field (Some forms.Method) = false
-is_field (Some forms.Void) = false
+is_field _ = false
 
 -- the descriptor of an array (4.3.2)
 abbrev pub is_array : Option Form → Bool
-is_array None = false
-is_array (Some forms.Plain) = false
 is_array (Some forms.Array) = true
-is_array (Some forms.Method) = false
-is_array (Some forms.Void) = false
+is_array _ = false
 
 -- the descriptor of a method (4.3.3)
 abbrev pub is_call : Option Form → Bool
-is_call None = false
-is_call (Some forms.Plain) = false
-is_call (Some forms.Array) = false
 is_call (Some forms.Method) = true
 is_call (Some forms.Void) = true
+is_call _ = false
 
 -- the descriptor of a method that returns nothing (4.3.3)
 abbrev pub is_void : Option Form → Bool
-is_void None = false
-is_void (Some forms.Plain) = false
-is_void (Some forms.Array) = false
-is_void (Some forms.Method) = false
 is_void (Some forms.Void) = true
+is_void _ = false
 
 -- all that the tables ask of a text (4.4)
 abbrev pub traits_of : List ℕ → Traits

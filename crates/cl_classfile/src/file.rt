@@ -4,7 +4,7 @@ ghost use Rattle.cl_classfile.specs.declared.fault.Fault.{Fault};
 ghost use Rattle.cl_classfile.specs.declared.fault.Fault.TheVariants as faults;
 ghost use Rattle.cl_classfile.specs.declared.fault.ReadError.TheVariants as errors;
 ghost use Rattle.cl_classfile.specs.Structure.{Structure, at, Fits, Spells, spelling, IsClassFile, HasOtherMagic, HasOtherVersion};
-ghost use Rattle.cl_classfile.specs.Files.{file_of, typed, reference};
+ghost use Rattle.cl_classfile.specs.Files.{file_of, is_interface, is_public, typed, reference};
 ghost use Rattle.cl_classfile.specs.References.{plain_reference, refers, IsCited};
 ghost use Rattle.cl_names.specs.Kind.{IsNameOf, IsClass};
 ghost use Rattle.cl_classfile.specs.Raw.{plain_file};
@@ -17,7 +17,7 @@ use crate::attribute::Attribute;
 use crate::checking::{check_class, class_name};
 use crate::entry::Entry;
 use crate::fault::{Fault, ReadError};
-use crate::flags::is_interface;
+use crate::flags::{is_interface, is_public};
 use crate::member::{Member, attributes_fit};
 use crate::members::{Kind, check_members};
 use crate::parts::{Parts, Refused};
@@ -86,6 +86,20 @@ impl ClassFile {
         ensures { result ≡ self.now.flags }
     {
         self.flags
+    }
+
+    /// Whether the class is public: it may be used from outside its package (JVMS SE 8, table 4.1-A).
+    pub fn is_public(&self) -> bool
+        ensures { result ≡ is_public (file_of self.now).flags }
+    {
+        is_public(self.flags)
+    }
+
+    /// Whether the class is an interface (JVMS SE 8, table 4.1-A).
+    pub fn is_interface(&self) -> bool
+        ensures { result ≡ is_interface (file_of self.now) }
+    {
+        is_interface(self.flags)
     }
 
     /// The index of the entry of the class itself.

@@ -1,7 +1,7 @@
 //! The tables of flags; a bit that a table does not name may be set (JVMS SE 8, 4.1, 4.5, 4.6).
 
 ghost use Rattle.std.specs.Prelude.{◌≡◌, ◌<◌};
-ghost use Rattle.cl_classfile.specs.Flags.{has, static, interface, is_interface_flags, is_plain_flags, is_class_flags, has_one_access, is_constant_flags, is_field_flags, may_be_abstract, may_be_of_interface, is_method_flags, is_init_flags};
+ghost use Rattle.cl_classfile.specs.Flags.{has, public, static, interface, is_interface_flags, is_plain_flags, is_class_flags, has_one_access, is_constant_flags, is_field_flags, may_be_abstract, may_be_of_interface, is_method_flags, is_init_flags};
 
 const PUBLIC: u16 = 0x0001;
 
@@ -41,6 +41,13 @@ fn has(flags: u16, bit: u16) -> bool
     ensures { result ≡ has flags bit }
 {
     flags / bit % 2 == 1
+}
+
+/// Whether these are the flags of what is public.
+pub fn is_public(flags: u16) -> bool
+    ensures { result ≡ has flags public }
+{
+    has(flags, PUBLIC)
 }
 
 /// Whether these are the flags of an interface.

@@ -90,17 +90,67 @@ fn header_at(bytes: &[u8]) -> Result<((u32, (u16, u16)), &[u8]), Fault>
     Ok(((magic, version), rest))
 }
 
-fn numbers_at(alloc: Global, count: u16, bytes: &[u8]) -> Result<(Vec<u16>, &[u8]), ReadError>
-    ensures { Gives (λ x. (x.0.items, x.1.now)) result (each_at (number_at w16) count bytes.now) }
+/// What tables hold, one after the other (JVMS SE 8, 4).
+trait Listed: Drop {
+    ghost use Rattle.cl_classfile.specs.Reading.{Reader};
+
+    /// How one is read.
+    ghost reader: { Reader Self };
+
+    /// The first one in the bytes, and what is behind it.
+    fn read_at(alloc: Global, bytes: &[u8]) -> Result<(Self, &[u8]), ReadError>
+    where
+        Self: Sized,
+        ensures { Gives (λ x. (x.0, x.1.now)) result (reader bytes.now) };
+}
+
+impl Listed for u16 {
+    ghost reader = { number_at w16 };
+
+    fn read_at(_alloc: Global, bytes: &[u8]) -> Result<(u16, &[u8]), ReadError> {
+        Ok(u16_at(bytes)?)
+    }
+}
+
+impl Listed for Attribute {
+    ghost reader = { attribute_at };
+
+    #[tactic(auto, unfolding(crate::specs::Reading::attribute_at))]
+    fn read_at(alloc: Global, bytes: &[u8]) -> Result<(Attribute, &[u8]), ReadError> {
+        let (name_index, rest) = u16_at(bytes)?;
+        let (count, rest) = u32_at(rest)?;
+        let (content, rest) = bytes_at(count as usize, rest)?;
+        let attribute = Attribute::copied(alloc, name_index, content)?;
+        Ok((attribute, rest))
+    }
+}
+
+impl Listed for Member {
+    ghost reader = { member_at };
+
+    #[tactic(auto, unfolding(crate::specs::Reading::member_at))]
+    fn read_at(alloc: Global, bytes: &[u8]) -> Result<(Member, &[u8]), ReadError> {
+        let (flags, rest) = u16_at(bytes)?;
+        let (name_index, rest) = u16_at(rest)?;
+        let (descriptor_index, rest) = u16_at(rest)?;
+        let (attributes, rest) = attributes_at(alloc, rest)?;
+        let member = Member::new(flags, name_index, descriptor_index, attributes);
+        Ok((member, rest))
+    }
+}
+
+/// That many of a structure, one after the other.
+fn each_at<T: Listed>(alloc: Global, count: u16, bytes: &[u8]) -> Result<(Vec<T>, &[u8]), ReadError>
+    ensures { Gives (λ x. (x.0.items, x.1.now)) result (each_at T.reader count bytes.now) }
 {
-    let mut numbers = Vec::new(alloc);
+    let mut all = Vec::new(alloc);
     let mut rest = bytes;
     for i in 0..count {
-        let (number, after) = u16_at(rest)?;
-        numbers.push(number)?;
+        let (one, after) = T::read_at(alloc, rest)?;
+        all.push(one)?;
         rest = after;
     }
-    Ok((numbers, rest))
+    Ok((all, rest))
 }
 
 #[tactic(auto, unfolding(crate::specs::Reading::class_at))]
@@ -118,35 +168,7 @@ fn interfaces_at(alloc: Global, bytes: &[u8]) -> Result<(Vec<u16>, &[u8]), ReadE
     ensures { Gives (λ x. (x.0.items, x.1.now)) result (interfaces_at bytes.now) }
 {
     let (count, rest) = u16_at(bytes)?;
-    numbers_at(alloc, count, rest)
-}
-
-#[tactic(auto, unfolding(crate::specs::Reading::attribute_at))]
-fn attribute_at(alloc: Global, bytes: &[u8]) -> Result<(Attribute, &[u8]), ReadError>
-    ensures { Gives (λ x. (x.0, x.1.now)) result (attribute_at bytes.now) }
-{
-    let (name_index, rest) = u16_at(bytes)?;
-    let (count, rest) = u32_at(rest)?;
-    let (content, rest) = bytes_at(count as usize, rest)?;
-    let attribute = Attribute::copied(alloc, name_index, content)?;
-    Ok((attribute, rest))
-}
-
-fn each_attribute(
-    alloc: Global,
-    count: u16,
-    bytes: &[u8],
-) -> Result<(Vec<Attribute>, &[u8]), ReadError>
-    ensures { Gives (λ x. (x.0.items, x.1.now)) result (each_at attribute_at count bytes.now) }
-{
-    let mut attributes = Vec::new(alloc);
-    let mut rest = bytes;
-    for i in 0..count {
-        let (attribute, after) = attribute_at(alloc, rest)?;
-        attributes.push(attribute)?;
-        rest = after;
-    }
-    Ok((attributes, rest))
+    each_at::<u16>(alloc, count, rest)
 }
 
 #[tactic(auto, unfolding(crate::specs::Reading::attributes_at))]
@@ -154,32 +176,7 @@ fn attributes_at(alloc: Global, bytes: &[u8]) -> Result<(Vec<Attribute>, &[u8]),
     ensures { Gives (λ x. (x.0.items, x.1.now)) result (attributes_at bytes.now) }
 {
     let (count, rest) = u16_at(bytes)?;
-    each_attribute(alloc, count, rest)
-}
-
-#[tactic(auto, unfolding(crate::specs::Reading::member_at))]
-fn member_at(alloc: Global, bytes: &[u8]) -> Result<(Member, &[u8]), ReadError>
-    ensures { Gives (λ x. (x.0, x.1.now)) result (member_at bytes.now) }
-{
-    let (flags, rest) = u16_at(bytes)?;
-    let (name_index, rest) = u16_at(rest)?;
-    let (descriptor_index, rest) = u16_at(rest)?;
-    let (attributes, rest) = attributes_at(alloc, rest)?;
-    let member = Member::new(flags, name_index, descriptor_index, attributes);
-    Ok((member, rest))
-}
-
-fn each_member(alloc: Global, count: u16, bytes: &[u8]) -> Result<(Vec<Member>, &[u8]), ReadError>
-    ensures { Gives (λ x. (x.0.items, x.1.now)) result (each_at member_at count bytes.now) }
-{
-    let mut members = Vec::new(alloc);
-    let mut rest = bytes;
-    for i in 0..count {
-        let (member, after) = member_at(alloc, rest)?;
-        members.push(member)?;
-        rest = after;
-    }
-    Ok((members, rest))
+    each_at::<Attribute>(alloc, count, rest)
 }
 
 #[tactic(auto, unfolding(crate::specs::Reading::members_at))]
@@ -187,7 +184,7 @@ fn members_at(alloc: Global, bytes: &[u8]) -> Result<(Vec<Member>, &[u8]), ReadE
     ensures { Gives (λ x. (x.0.items, x.1.now)) result (members_at bytes.now) }
 {
     let (count, rest) = u16_at(bytes)?;
-    each_member(alloc, count, rest)
+    each_at::<Member>(alloc, count, rest)
 }
 
 /// The fields, the methods and the class's attributes.

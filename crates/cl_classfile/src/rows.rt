@@ -26,7 +26,7 @@ fn entry_traits(entry: RawEntry<'_>) -> Traits
 pub fn all_traits(alloc: Global, pool: &[RawEntry<'_>]) -> Result<Vec<Traits>, AllocError>
     ensures { IfOk result (λ v. v.items ≡ map entry_traits (plain_entries pool.now)) }
 {
-    let mut traits = Vec::new(alloc);
+    let mut traits = Vec::with_capacity(alloc, pool.len())?;
     for entry in pool {
         traits.push(entry_traits(*entry))?;
     }

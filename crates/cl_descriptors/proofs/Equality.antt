@@ -1,6 +1,6 @@
 -- Two types are equal where they are the same.
 use Rattle.std.proofs.Common.{◌≡◌, ◌↔◌, ℕ, true, eqb, List, [], ◌∷◌, Option, Some, None, refl, sym, ap, subst, ◌∙◌}
-use Rattle.std.specs.Cmp.Lexicographic.{pointwise, same_text}
+use Rattle.std.specs.Cmp.Lexicographic.{pointwise, pointwise_decides, same_text}
 use Rattle.std.specs.Option.{option_eq}
 use Rattle.std.specs.Prelude.{IsTrue}
 use Rattle.cl_descriptors.specs.declared.types.Base.{Base}
@@ -33,13 +33,9 @@ field_same s t e =
     let base : s.base ≡ t.base = base_same s.base t.base a.1 in
     ap (λ (n : ℕ). let made : FieldType = record { dims = n; base = s.base } in made) dims ∙ ap (λ (b : Base). let made : FieldType = record { dims = t.dims; base = b } in made) base
 
-types_same : (ss ts : List FieldType) → pointwise fields.ghosts.eq ss ts ≡ true → ss ≡ ts
-types_same [] [] e = refl
-types_same [] (t ∷ ts) e = absurd cc
-types_same (s ∷ ss) [] e = absurd cc
-types_same (s ∷ ss) (t ∷ ts) e =
-    let a = and_parts (fields.ghosts.eq s t) (pointwise fields.ghosts.eq ss ts) e in
-    ap (λ (x : FieldType). x ∷ ss) (field_same s t a.0) ∙ ap (λ (xs : List FieldType). t ∷ xs) (types_same ss ts a.1)
+-- each is equal to itself
+pub fields_equal : (s t : FieldType) → IsTrue (fields.ghosts.eq s t) ↔ (s ≡ t)
+fields_equal s t = (field_same s t, λ e. subst (λ (x : FieldType). fields.ghosts.eq s x ≡ true) e (laws_of_fields.laws-law.refl s))
 
 return_same : (r q : Option FieldType) → option_eq fields.ghosts.eq r q ≡ true → r ≡ q
 return_same None None e = refl
@@ -50,13 +46,9 @@ return_same (Some s) (Some t) e = ap (λ (x : FieldType). Some x) (field_same s 
 method_same : (m n : MethodType) → methods.ghosts.eq m n ≡ true → m ≡ n
 method_same m n e =
     let a = and_parts (pointwise fields.ghosts.eq m.params n.params) (option_eq fields.ghosts.eq m.ret n.ret) e in
-    let params : m.params ≡ n.params = types_same m.params n.params a.0 in
+    let params : m.params ≡ n.params = (pointwise_decides fields_equal m.params n.params).0 a.0 in
     let ret : m.ret ≡ n.ret = return_same m.ret n.ret a.1 in
     ap (λ (ts : List FieldType). let made : MethodType = record { params = ts; ret = m.ret } in made) params ∙ ap (λ (r : Option FieldType). let made : MethodType = record { params = n.params; ret = r } in made) ret
-
--- each is equal to itself
-pub fields_equal : (s t : FieldType) → IsTrue (fields.ghosts.eq s t) ↔ (s ≡ t)
-fields_equal s t = (field_same s t, λ e. subst (λ (x : FieldType). fields.ghosts.eq s x ≡ true) e (laws_of_fields.laws-law.refl s))
 
 pub methods_equal : (m n : MethodType) → IsTrue (methods.ghosts.eq m n) ↔ (m ≡ n)
 methods_equal m n = (method_same m n, λ e. subst (λ (x : MethodType). methods.ghosts.eq m x ≡ true) e (laws_of_methods.laws-law.refl m))

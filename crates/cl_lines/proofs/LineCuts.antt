@@ -22,6 +22,10 @@ module _ (p : ℕ → Bool) (xs : List ℕ) where
   nothing_after : position_or_len p xs ≡ length xs → after_first p xs ≡ []
   nothing_after e = grind (arith, common_steps)
 
+  -- the parts of a text are its first and those of what follows it, or it is one part, followed by nothing
+  pub first_part : (slice_split p xs ≡ before_first p xs ∷ slice_split p (after_first p xs)) ⊎ ((slice_split p xs ≡ xs ∷ []) × (before_first p xs ≡ xs) × (after_first p xs ≡ []))
+  first_part = elim cut_or_whole [ inl l ↦ inl (slice_split_first p xs 0 l) | inr e ↦ inr (whole_part e, whole_before e, nothing_after e) ]
+
 keeps_front : (part : List ℕ) (parts : List (List ℕ)) → 0 < length parts → without_empty_end (part ∷ parts) ≡ part ∷ without_empty_end parts
 keeps_front part [] h = absurd (omega arith)
 keeps_front part (next ∷ more) h = refl
@@ -32,9 +36,9 @@ keeps_full (b ∷ bs) h = grind (arith, common_steps)
 
 first_of_parts : (p : ℕ → Bool) (text : List ℕ) → 0 < length text → without_empty_end (slice_split p text) ≡ before_first p text ∷ without_empty_end (slice_split p (after_first p text))
 first_of_parts p text h =
-    elim (cut_or_whole p text) [
-      | inl l ↦ rw (slice_split_first p text 0 l) (keeps_front (before_first p text) (slice_split p (after_first p text)) (omega (arith, length-slice_split p (after_first p text))))
-      | inr e ↦ rw (whole_part p text e, whole_before p text e, nothing_after p text e) (keeps_full text h)
+    elim (first_part p text) [
+      | inl e ↦ rw e (keeps_front (before_first p text) (slice_split p (after_first p text)) (omega (arith, length-slice_split p (after_first p text))))
+      | inr e ↦ rw (e.0, e.1, e.2) (keeps_full text h)
     ]
 
 pub first_line : (number : ℕ) (text line rest : List ℕ) → 0 < length text → line ≡ before_first (λ b. b == 10) text → rest ≡ after_first (λ b. b == 10) text
@@ -50,16 +54,16 @@ word_left_out word words e = grind (arith, common_steps)
 
 pub first_word : (line word rest : List ℕ) → 0 < length word → word ≡ before_first (λ b. b == 32) line → rest ≡ after_first (λ b. b == 32) line → words_of line ≡ word ∷ words_of rest
 first_word line word rest h before after =
-    elim (cut_or_whole (λ b. b == 32) line) [
-      | inl l ↦ rw (slice_split_first (λ b. b == 32) line 0 l, ← before, ← after) (word_kept word (slice_split (λ b. b == 32) rest) h)
-      | inr e ↦ rw (whole_part (λ b. b == 32) line e, after, nothing_after (λ b. b == 32) line e, before, whole_before (λ b. b == 32) line e) (word_kept line [] (rw (before, whole_before (λ b. b == 32) line e) at h))
+    elim (first_part (λ b. b == 32) line) [
+      | inl e ↦ rw (e, ← before, ← after) (word_kept word (slice_split (λ b. b == 32) rest) h)
+      | inr e ↦ rw (e.0, after, e.2, before, e.1) (word_kept line [] (rw (before, e.1) at h))
     ]
 
 pub no_word : (line word rest : List ℕ) → length word ≡ 0 → word ≡ before_first (λ b. b == 32) line → rest ≡ after_first (λ b. b == 32) line → words_of line ≡ words_of rest
 no_word line word rest h before after =
-    elim (cut_or_whole (λ b. b == 32) line) [
-      | inl l ↦ rw (slice_split_first (λ b. b == 32) line 0 l, ← before, ← after) (word_left_out word (slice_split (λ b. b == 32) rest) h)
-      | inr e ↦ rw (whole_part (λ b. b == 32) line e, after, nothing_after (λ b. b == 32) line e) (word_left_out line [] (rw (before, whole_before (λ b. b == 32) line e) at h))
+    elim (first_part (λ b. b == 32) line) [
+      | inl e ↦ rw (e, ← before, ← after) (word_left_out word (slice_split (λ b. b == 32) rest) h)
+      | inr e ↦ rw (e.0, after, e.2) (word_left_out line [] (rw (before, e.1) at h))
     ]
 
 -- the tests of the code

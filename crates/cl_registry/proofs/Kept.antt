@@ -55,7 +55,7 @@ none_push before (x ∷ rs) r h new = (h.0, none_push (before ++ x ∷ []) rs r 
 
 -- ---- rows
 
-and_true : (a b : Bool) → (a && b) ≡ true → (a ≡ true) × (b ≡ true)
+pub and_true : (a b : Bool) → (a && b) ≡ true → (a ≡ true) × (b ≡ true)
 and_true true b e = (refl, e)
 and_true false b e = absurd cc
 

@@ -3,6 +3,7 @@ pub mod Drafting
 pub mod Places
 pub mod Contents
 pub mod Requests
+pub mod Asked
 pub mod Homes
 pub mod Chained
 pub mod Histories
@@ -10,4 +11,5 @@ pub mod Running
 pub mod Allowed
 pub mod Rests
 pub mod Kept
+pub mod Strangers
 pub mod Walks

@@ -89,7 +89,7 @@ have_loaders names (l ∷ ls) (r ∷ rs) t = All-cons (HasLoader (length names))
 
 -- ---- a text is one script at most
 
-second_word : {a b c d e f : List ℕ} → a ∷ b ∷ c ∷ [] ≡ d ∷ e ∷ f ∷ [] → b ≡ e
+pub second_word : {a b c d e f : List ℕ} → a ∷ b ∷ c ∷ [] ≡ d ∷ e ∷ f ∷ [] → b ≡ e
 second_word h = cc
 
 one_request : (names : List (List ℕ)) (line : List ℕ) (r s : Request) → Asks names line r → Asks names line s → r ≡ s

@@ -1,5 +1,5 @@
 -- What a registry accepts is what the linkage machine allows next: laws, each the contract of a function without a body.
-use Rattle.std.specs.Prelude.{◌≡◌, ◌<◌, ℕ, length, Some, None}
+use Rattle.std.specs.Prelude.{◌≡◌, ◌<◌, ℕ, length, Option, Some, None}
 use Rattle.cl_model.specs.Content.{Content}
 use Rattle.cl_model.specs.States.{recorded}
 use Rattle.cl_model.specs.Texts.{AnswerNames}
@@ -9,6 +9,8 @@ use Rattle.cl_registry.specs.Worlds.{setting_of}
 use Rattle.cl_registry.specs.Drafts.{IsDraft}
 use Rattle.cl_registry.specs.Searches.{Drafted}
 use Rattle.cl_registry.specs.Findings.{Answered, loader_of, Rests}
+use Rattle.cl_registry.specs.declared.registry.RegistryFault.TheVariants.{Stray}
+use Rattle.cl_registry.specs.Refusals.{DefineRefusedFor}
 use Rattle.cl_registry.specs.Tables.{Shown, state_of, records_of, IsKept, MayEnter, IsAsked, IsOpen, IsBacked}
 
 -- a class that the machine may define has no record and may be entered (5.3.5)
@@ -34,3 +36,8 @@ abbrev pub BackedIsAllowed : Type 0
 BackedIsAllowed =
     (content : Content) (x : Shown) (q : ℕ) (f : Answered) → IsKept (Some content) x → IsAsked x q f → IsOpen x q → IsBacked x f → Rests (Some content) f.request f.answer
     → MayPost (setting_of x.config x.script content) (state_of x) q (answer_of f.answer)
+
+-- a class of a loader that the configuration lacks has no record, and may not be entered (own choice)
+abbrev pub OtherLoaderIsStray : Type 0
+OtherLoaderIsStray =
+    (told : Option Content) (x : Shown) (d : Drafted) → IsKept told x → (d.class.loader < length x.config.names → ⊥) → DefineRefusedFor x d Stray

@@ -19,8 +19,10 @@ abbrev pub Counts : {A : Type 0} → ℕ → ℕ → Result A SourceFault → Ty
 Counts old new (Ok probe) = new ≡ old
 Counts old new (Err fault) = CountsFault old new fault
 
--- a source that refuses one read: which, how many reads until then, and how many were refused (own choice)
+-- a source that refuses one read of another: which, how many reads until then, and how many were refused by itself, and
+-- by the inner one (own choice)
 pub record Faulting : Type 0 where
   pub at : ℕ
   pub until : ℕ
   pub refused : ℕ
+  pub inner : ℕ

@@ -13,6 +13,7 @@ pub mod Parts
 pub mod Puts
 pub mod Refusals
 pub mod Reports
+pub mod ScriptLaws
 pub mod Scripts
 pub mod Searches
 pub mod Shelves

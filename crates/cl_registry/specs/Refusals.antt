@@ -7,9 +7,10 @@ use Rattle.cl_registry.specs.Searches.{Drafted}
 use Rattle.cl_registry.specs.Findings.{Answered}
 use Rattle.cl_registry.specs.Tables.{Shown, records_of, MayEnter, IsAsked, IsOpen, IsBacked}
 
--- a class is strayed where its loader has no record of it and it may not be recorded (5.3.5, steps 1 and 3)
+-- a class is strayed where its loader has no record of it and it may not be recorded; others are refused for want of
+-- memory alone (5.3.5, steps 1 and 3)
 abbrev pub DefineRefusedFor : Shown → Drafted → RegistryFault → Type 0
-DefineRefusedFor x d Memory = Unit {0}
+DefineRefusedFor x d Memory = recorded (records_of x) d.class.loader d.class.name ≡ None → MayEnter x d
 DefineRefusedFor x d Stray = (recorded (records_of x) d.class.loader d.class.name ≡ None) × (MayEnter x d → ⊥)
 DefineRefusedFor x d AlreadyPosted = ⊥
 DefineRefusedFor x d NotYet = ⊥

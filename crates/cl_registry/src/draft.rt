@@ -1,6 +1,6 @@
-ghost use Rattle.std.specs.Prelude.{◌≡◌, ◌<◌, MatchResult, Ok, Some};
+ghost use Rattle.std.specs.Prelude.{◌≡◌, MatchResult, Ok, Some};
 ghost use Rattle.std.specs.Option.{option_map};
-ghost use Rattle.cl_classfile.specs.Files.{file_of, has};
+ghost use Rattle.cl_classfile.specs.Files.{file_of};
 ghost use Rattle.cl_classfile.specs.Checking.{Gives};
 ghost use Rattle.cl_registry.specs.Bounds.{drafted_of, is_public_class};
 ghost use Rattle.cl_registry.specs.Drafts.{IsDraft, IsWrong, fault_as};
@@ -15,11 +15,6 @@ use std::alloc::Global;
 use std::marker::{Model, PhantomData};
 use std::sync::Arc;
 use thiserror::Error;
-
-/// The bits of flags that tell public classes from others, and interfaces (JVMS SE 8, table 4.1-A).
-const PUBLIC: u16 = 0x0001;
-
-const INTERFACE: u16 = 0x0200;
 
 /// What is wrong with the bytes of a home (JVMS SE 8, 5.3.5).
 #[derive(Clone, Copy, Debug, PartialEq, Eq, Error)]
@@ -160,19 +155,11 @@ impl<T: Told> Draft<T> {
     }
 }
 
-/// Whether flags have this bit.
-fn has(flags: u16, bit: u16) -> bool
-    requires { 0 < bit }
-    ensures { result ≡ has flags bit }
-{
-    flags / bit % 2 == 1
-}
-
-/// Whether a file is of a public class.
+/// Whether a file is of a public class that is no interface.
 fn is_public_class(file: &ClassFile) -> bool
     ensures { result ≡ is_public_class (file_of file.now) }
 {
-    has(file.flags(), PUBLIC) && !has(file.flags(), INTERFACE)
+    file.is_public() && !file.is_interface()
 }
 
 /// The file that the bytes spell, where it is one that is derived.

@@ -1,6 +1,7 @@
 ghost use Rattle.std.specs.Prelude.{◌≡◌, ◌<◌, replicate, [], OnOk, IfOk, IfErr, IfSome, MatchOption, MatchResult, None, Some, length, map, slice_get};
 ghost use Rattle.cl_model.specs.States.{recorded};
 ghost use Rattle.cl_registry.specs.Tables.{DefinedAs, IsAsked, IsBacked, IsKept, IsOpen, IsRow, records_of, with_post};
+ghost use Rattle.cl_registry.specs.Parts.{IsOf};
 ghost use Rattle.cl_registry.specs.Refusals.{DefineRefusedFor, PostRefusedFor};
 ghost use Rattle.cl_registry.specs.Reports.{HasOpen, IsNamed, IsReport};
 
@@ -64,6 +65,14 @@ impl<T: Told> Model for Registry<T> {
     ghost invariant = { λ r. IsRegistry T.told (record { config = r.config.value; script = r.script.value; history = r.history.items; answers = r.answers.items }) (λ l n. option_map (λ c. c.value) (row_at r.rows.items l n)) (length r.rows.items) (vec_len r.history) (vec_capacity r.history) r.left (vec_len r.room) (vec_capacity r.room) };
 }
 
+/// A registry could not be made.
+#[derive(Debug, Drop, Error)]
+#[error("B0 Memory")]
+pub struct RegistryRefused {
+    pub config: Arc<Config>,
+    pub script: Arc<Script>,
+}
+
 /// A draft that was not recorded, and why.
 #[derive(Drop)]
 pub struct DefineRefused<T: Told> {
@@ -85,24 +94,24 @@ pub struct NotYet<T: Told> {
 }
 
 impl<T: Told> Registry<T> {
-    /// Empty tables, with room for all posts.
+    /// Empty tables, with room for all posts. Only memory refuses it.
     pub fn new(
         alloc: Global,
         config: Arc<Config>,
         script: Arc<Script>,
-    ) -> Result<Registry<T>, RegistryFault>
+    ) -> Result<Registry<T>, RegistryRefused>
         ensures empty { IfOk result (λ r. r ≡ record { config = config.value; script = script.value; history = []; answers = replicate (length script.value.requests) None }) }
         ensures kept { IfOk result (λ r. IsKept T.told r) }
-        ensures memory { IfErr result (λ e. e ≡ RegistryFault.Memory) }
+        ensures back { IfErr result (λ e. (e.config.value ≡ config.value) × (e.script.value ≡ script.value)) }
     {
         let left = script.requests().len();
         let rows = match empty_rows(alloc, config.count()) {
             Ok(rows) => rows,
-            Err(_) => return Err(RegistryFault::Memory),
+            Err(_) => return Err(RegistryRefused { config, script }),
         };
         let parts = match rooms_for(alloc, left) {
             Ok(parts) => parts,
-            Err(_) => return Err(RegistryFault::Memory),
+            Err(_) => return Err(RegistryRefused { config, script }),
         };
         Ok(Registry {
             config,
@@ -125,7 +134,8 @@ impl<T: Told> Registry<T> {
         find(&self.rows, loader, name)
     }
 
-    /// Records a class with its loader, which defines it; one that is recorded is answered as it is.
+    /// Records a class with its loader, which defines it, and answers the row of the draft; one that is recorded is
+    /// answered as it is.
     pub fn define(
         &mut self,
         alloc: Global,
@@ -133,6 +143,7 @@ impl<T: Told> Registry<T> {
     ) -> Result<Arc<ClassRow>, DefineRefused<T>>
         ensures defined { OnOk result (DefinedAs self.old self.new draft (recorded (records_of self.old) draft.class.loader draft.class.name)) }
         ensures row { IfOk result (λ r. IsRow T.told r.value draft.class.loader draft.class.name r.value.class.loader) }
+        ensures fresh { recorded (records_of self.old) draft.class.loader draft.class.name ≡ None → IfOk result (λ r. IsOf r.value draft) }
         ensures refused { IfErr result (λ e. DefineRefusedFor self.old draft e.fault) }
         ensures unchanged { IfErr result (λ e. (self.new ≡ self.old) × (e.draft ≡ draft)) }
         ensures kept { IsKept T.told self.new }

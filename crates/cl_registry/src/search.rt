@@ -32,11 +32,12 @@ impl<T: Told> Model for Search<T> {
     ghost invariant = { λ s. (s.loader < length s.config.value.names) × MatchOption s.probe (Unit {0}) (λ p. (p.loader ≡ s.loader) × (p.name ≡ s.name)) };
 }
 
-/// Why a search could not begin.
-#[derive(Clone, Copy, Debug, PartialEq, Eq, Error)]
-pub enum SearchFault {
-    #[error("G0 Memory")]
-    Memory,
+/// A search could not begin.
+#[derive(Debug, Drop, Error)]
+#[error("G0 Memory")]
+pub struct SearchRefused {
+    pub config: Arc<Config>,
+    pub name: Name,
 }
 
 /// A probe of another loader or name than the next, or after the last.
@@ -46,15 +47,16 @@ pub struct WrongProbe<T: Told> {
 }
 
 impl<T: Told> Search<T> {
-    /// A search that has probed nothing yet.
+    /// A search that has probed nothing yet. Only memory refuses it.
     pub fn new(
         _alloc: Global,
         config: Arc<Config>,
         loader: LoaderId,
         name: Name,
-    ) -> Result<Search<T>, SearchFault>
+    ) -> Result<Search<T>, SearchRefused>
         requires { loader < length config.value.names }
-        ensures { IfOk result (λ s. s ≡ record { config = config.value; loader = loader; name = name; found = None }) }
+        ensures begun { IfOk result (λ s. s ≡ record { config = config.value; loader = loader; name = name; found = None }) }
+        ensures back { IfErr result (λ e. (e.config.value ≡ config.value) × (e.name ≡ name)) }
     {
         Ok(Search {
             config,

@@ -158,7 +158,9 @@ pub trait Source<T: Told>: Drop {
     fn failures(&self) -> u64
         ensures { result ≡ refused self.now };
 
-    /// A further source that tells the same, with a count of its own. Only memory refuses it.
+    /// A further source of the same content, with a count of its own. Only memory refuses it. Where `T` tells a content,
+    /// both give just that; what a further source gives where nothing is told, each source says for itself.
     fn another(&self, alloc: Global) -> Result<Self, SourceFault>
-        ensures { IfErr result (λ e. e ≡ SourceFault.Memory) };
+        ensures fault { IfErr result (λ e. e ≡ SourceFault.Memory) }
+        ensures own { IfOk result (λ s. refused s ≡ 0) };
 }

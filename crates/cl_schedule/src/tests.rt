@@ -146,41 +146,62 @@ fn each_read_fails_once(rt: HostRuntime) -> Result<(), Fail> {
     Ok(())
 }
 
-/// The next turn of a task, if the reply is one to the last.
-fn next(alloc: Global, task: &mut Task<Untold>, reply: Reply<Untold>) -> Option<Turn<Untold>> {
-    if !task.expects(&reply) {
-        return None;
-    }
-    Some(task.turn(alloc, reply))
+/// A task over one loader, for a load of `p/A`.
+fn task(alloc: Global) -> Result<Task<Untold>, AllocError> {
+    let Ok(config) = Config::read(alloc, "[[loader]]\nname = \"boot\"\n") else {
+        return Err(AllocError);
+    };
+    let config = Arc::new(alloc, config)?;
+    let _ = config.count();
+    let name = Name::class(alloc, b"p/A").map_err(|_| AllocError)?;
+    let task = Task::<Untold>::new(alloc, config, 0, Request::Load(LoaderId(0), name));
+    task.map_err(|_| AllocError)
 }
 
-/// Whether a turn posts a fault of the source.
-fn blames_source(turn: &Option<Turn<Untold>>) -> bool {
-    match turn {
-        Some(Turn::Post(finding)) => matches!(
-            finding.answer(),
-            Answer::SourceFault(_, LoaderId(0))
-        ),
-        _ => false,
+/// What a task does with a reply.
+#[derive(Clone, Copy, Debug, PartialEq, Eq)]
+enum Does {
+    ExpectsAnother,
+    Looks,
+    Reads,
+    BlamesSource,
+    Else,
+}
+
+fn told(alloc: Global, task: &mut Task<Untold>, reply: Reply<Untold>) -> Does {
+    if !task.expects(&reply) {
+        return Does::ExpectsAnother;
+    }
+    match task.turn(alloc, reply) {
+        Turn::Look(LoaderId(0), _) => Does::Looks,
+        Turn::Read(LoaderId(0), _) => Does::Reads,
+        Turn::Post(finding) => match finding.answer() {
+            Answer::SourceFault(_, LoaderId(0)) => Does::BlamesSource,
+            _ => Does::Else,
+        },
+        _ => Does::Else,
     }
 }
 
 #[test]
 fn replies_are_expected_in_turn(rt: HostRuntime) -> Result<(), Fail> {
     let alloc = rt.alloc();
-    let config = Arc::new(alloc, Config::read(alloc, "[[loader]]\nname = \"boot\"\n")?)?;
-    let _ = config.count();
-    let request = Request::Load(LoaderId(0), Name::class(alloc, b"p/A")?);
-    let mut task = Task::<Untold>::new(alloc, config, 0, request)?;
+    let mut task = task(alloc)?;
     let fault = SourceFault::Device;
-    assert!(rt; next(alloc, &mut task, Reply::Looked(None)).is_none());
-    let turn = next(alloc, &mut task, Reply::Start);
-    assert!(rt; matches!(turn, Some(Turn::Look(LoaderId(0), _))));
-    assert!(rt; next(alloc, &mut task, Reply::SourceFault(fault)).is_none());
-    let turn = next(alloc, &mut task, Reply::Looked(None));
-    assert!(rt; matches!(turn, Some(Turn::Read(LoaderId(0), _))));
-    let turn = next(alloc, &mut task, Reply::SourceFault(fault));
-    assert!(rt; blames_source(&turn));
-    assert!(rt; next(alloc, &mut task, Reply::Memory).is_none());
+    assert_eq!(rt;
+        told(alloc, &mut task, Reply::Looked(None)),
+        Does::ExpectsAnother
+    );
+    assert_eq!(rt; told(alloc, &mut task, Reply::Start), Does::Looks);
+    assert_eq!(rt;
+        told(alloc, &mut task, Reply::SourceFault(fault)),
+        Does::ExpectsAnother
+    );
+    assert_eq!(rt; told(alloc, &mut task, Reply::Looked(None)), Does::Reads);
+    assert_eq!(rt;
+        told(alloc, &mut task, Reply::SourceFault(fault)),
+        Does::BlamesSource
+    );
+    assert_eq!(rt; told(alloc, &mut task, Reply::Memory), Does::ExpectsAnother);
     Ok(())
 }

@@ -12,7 +12,7 @@ use Rattle.cl_tasks.specs.Tasks.{Tasked, nowhere}
 
 -- a task that is at work on its request (own choice)
 abbrev pub at_work : {A : Type 0} → Phase → Job A → Tasked
-at_work phase j = record { phase = phase; request = Some j.request; walk = j.walk }
+at_work phase j = record { q = j.q; phase = phase; request = Some j.request; walk = j.walk }
 
 -- what contracts see of each stage (own choice)
 abbrev pub tasked : {A : Type 0} → Stage A → Tasked
@@ -20,7 +20,7 @@ tasked (Fresh j) = at_work phases.Fresh j
 tasked (Looking j) = at_work phases.Looking j
 tasked (Searching j s) = at_work phases.Reading j
 tasked (Defining j) = at_work phases.Defining j
-tasked Done = record { phase = phases.Done; request = None; walk = nowhere }
+tasked (Done q) = record { q = q; phase = phases.Done; request = None; walk = nowhere }
 
 -- the walk is the request's, by a loader of the configuration (5.3)
 pub record IsJob {A : Type 0} (c : Configured) (j : Job A) : Type 0 where
@@ -40,4 +40,4 @@ IsStage c (Fresh j) = IsJob c j
 IsStage c (Looking j) = IsJob c j
 IsStage c (Searching j s) = IsJob c j × IsSearch c j s
 IsStage c (Defining j) = IsJob c j
-IsStage c Done = Unit {0}
+IsStage c (Done q) = Unit {0}

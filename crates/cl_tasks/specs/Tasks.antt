@@ -5,8 +5,9 @@ use Rattle.cl_registry.specs.Walks.{Walked, most}
 use Rattle.cl_tasks.specs.declared.phase.Phase.{Phase}
 use Rattle.cl_tasks.specs.declared.phase.Phase.TheVariants.{Fresh, Looking, Reading, Defining, Done}
 
--- what a task waits for, for which request, and the classes that it derives (5.3.5)
+-- for which request of the script a task is, what it waits for, and the classes that it derives (5.3.5)
 pub record Tasked : Type 0 where
+  pub q : ℕ
   pub phase : Phase
   pub request : Option Request
   pub walk : Walked

@@ -29,9 +29,10 @@ pub enum Turn<T: Told> {
     Post(Finding<T>),
 }
 
-/// A request, and how far its derivation went.
+/// A request with its number, and how far its derivation went.
 #[derive(Drop)]
 pub struct Job<T: Told> {
+    pub q: u32,
     pub request: Request,
     pub walk: Walk<T>,
 }
@@ -43,7 +44,8 @@ pub enum Stage<T: Told> {
     Looking(Job<T>),
     Searching(Job<T>, Search<T>),
     Defining(Job<T>),
-    Done,
+    /// The request of this number has its answer.
+    Done(u32),
 }
 
 /// A turn, and what the task is at after it.

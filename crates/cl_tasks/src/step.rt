@@ -50,6 +50,7 @@ pub fn step<T: Told>(
     requires kept { IsStage config.now.value stage }
     requires expects { Expects (tasked stage) reply }
     ensures kept { IsStage config.now.value result.stage }
+    ensures number { (tasked result.stage).q ≡ (tasked stage).q }
     ensures asks { Asks (tasked result.stage) result.turn }
     ensures serves { Serves (tasked stage) (tasked result.stage) result.turn }
     ensures left { left (tasked result.stage) < left (tasked stage) }
@@ -82,35 +83,35 @@ pub fn step<T: Told>(
             Reply::Memory => out_of_memory(job),
             _ => unreachable!(),
         },
-        Stage::Done => unreachable!(),
+        Stage::Done(_) => unreachable!(),
     }
 }
 
-fn post<T: Told>(finding: Finding<T>) -> Next<T>
-    ensures stage { result.stage ≡ Stage.Done }
+fn post<T: Told>(q: u32, finding: Finding<T>) -> Next<T>
+    ensures stage { result.stage ≡ Stage.Done q }
     ensures turn { result.turn ≡ Turn.Post finding }
 {
     Next {
-        stage: Stage::Done,
+        stage: Stage::Done(q),
         turn: Turn::Post(finding),
     }
 }
 
 fn out_of_memory<T: Told>(job: Job<T>) -> Next<T>
-    ensures stage { result.stage ≡ Stage.Done }
+    ensures stage { result.stage ≡ Stage.Done job.q }
     ensures asks { Asks (tasked result.stage) result.turn }
     ensures serves { Serves (at_work phases.Done job) (tasked result.stage) result.turn }
     ensures backed { BackedWhere (λ s. Unit {0}) job.request result.turn }
     ensures next { FollowsWhere T.told (λ s. Unit {0}) job.request result.turn }
     ensures posts { Posts answers.Memory result.turn }
 {
-    post(Finding::memory(job.request))
+    post(job.q, Finding::memory(job.request))
 }
 
 /// The source refused a read, for want of memory or for another cause.
 fn faulted<T: Told>(job: Job<T>, fault: SourceFault) -> Next<T>
     requires job { IsFor job.request job.walk }
-    ensures stage { result.stage ≡ Stage.Done }
+    ensures stage { result.stage ≡ Stage.Done job.q }
     ensures asks { Asks (tasked result.stage) result.turn }
     ensures serves { Serves (at_work phases.Done job) (tasked result.stage) result.turn }
     ensures backed { BackedWhere (λ s. Unit {0}) job.request result.turn }
@@ -121,25 +122,26 @@ fn faulted<T: Told>(job: Job<T>, fault: SourceFault) -> Next<T>
         return out_of_memory(job);
     }
     let Class { name, loader } = job.walk.into_class();
-    post(Finding::source_fault(job.request, name, loader))
+    post(job.q, Finding::source_fault(job.request, name, loader))
 }
 
 fn obstacle<T: Told>(job: Job<T>, end: Obstacle<T>) -> Next<T>
     requires job { IsFor job.request job.walk }
     requires stops { Stops job.walk end }
-    ensures stage { result.stage ≡ Stage.Done }
+    ensures stage { result.stage ≡ Stage.Done job.q }
     ensures asks { Asks (tasked result.stage) result.turn }
     ensures serves { Serves (at_work phases.Done job) (tasked result.stage) result.turn }
     ensures backed { BackedWhere (λ s. Unit {0}) job.request result.turn }
     ensures next { FollowsWhere T.told (λ s. Unit {0}) job.request result.turn }
     ensures no_fault { PostsNoFault result.turn }
 {
-    post(Finding::obstacle(job.request, job.walk, end))
+    post(job.q, Finding::obstacle(job.request, job.walk, end))
 }
 
 /// Looks up what the walk is at.
 fn look<T: Told>(alloc: Global, job: Job<T>) -> Next<T>
     ensures kept { (c : Configured) → IsJob c job → IsStage c result.stage }
+    ensures number { (tasked result.stage).q ≡ job.q }
     ensures asks { Asks (tasked result.stage) result.turn }
     ensures serves { Serves (at_work phases.Fresh job) (tasked result.stage) result.turn }
     ensures left { left (tasked result.stage) < left (at_work phases.Fresh job) }
@@ -163,6 +165,7 @@ fn look<T: Told>(alloc: Global, job: Job<T>) -> Next<T>
 fn begin_search<T: Told>(alloc: Global, config: &Arc<Config>, job: Job<T>) -> Next<T>
     requires job { IsJob config.now.value job }
     ensures kept { IsStage config.now.value result.stage }
+    ensures number { (tasked result.stage).q ≡ job.q }
     ensures asks { Asks (tasked result.stage) result.turn }
     ensures serves { Serves (at_work phases.Looking job) (tasked result.stage) result.turn }
     ensures left { left (tasked result.stage) < left (at_work phases.Looking job) }
@@ -205,6 +208,7 @@ fn search_for<T: Told>(
 fn ascend<T: Told>(job: Job<T>) -> Next<T>
     requires job { IsFor job.request job.walk }
     ensures kept { (c : Configured) → IsJob c job → IsStage c result.stage }
+    ensures number { (tasked result.stage).q ≡ job.q }
     ensures asks { Asks (tasked result.stage) result.turn }
     ensures serves { Serves (at_work phases.Defining job) (tasked result.stage) result.turn }
     ensures left { left (tasked result.stage) < left (at_work phases.Defining job) }
@@ -214,11 +218,15 @@ fn ascend<T: Told>(job: Job<T>) -> Next<T>
     ensures no_fault { PostsNoFault result.turn }
 {
     let _ = job.walk.at();
-    let Job { request, mut walk } = job;
+    let Job {
+        q,
+        request,
+        mut walk,
+    } = job;
     match walk.pop() {
-        None => post(Finding::class(request, walk.into_class())),
+        None => post(q, Finding::class(request, walk.into_class())),
         Some(draft) => Next {
-            stage: Stage::Defining(Job { request, walk }),
+            stage: Stage::Defining(Job { q, request, walk }),
             turn: Turn::Define(draft),
         },
     }
@@ -230,6 +238,7 @@ fn probed<T: Told>(alloc: Global, job: Job<T>, search: Search<T>, probe: Probe<T
     requires search { (search.loader ≡ job.walk.loader) × (search.name ≡ job.walk.at) × (search.found ≡ None) }
     requires probe { (probe.loader ≡ job.walk.loader) × (probe.name ≡ job.walk.at) }
     ensures kept { (c : Configured) → IsJob c job → IsStage c result.stage }
+    ensures number { (tasked result.stage).q ≡ job.q }
     ensures asks { Asks (tasked result.stage) result.turn }
     ensures serves { Serves (at_work phases.Reading job) (tasked result.stage) result.turn }
     ensures left { left (tasked result.stage) < left (at_work phases.Reading job) }
@@ -252,6 +261,7 @@ fn read<T: Told>(alloc: Global, job: Job<T>, home: Home<T>) -> Next<T>
     requires job { IsFor job.request job.walk }
     requires home { (home.place ≡ job.walk.loader) × (home.name ≡ job.walk.at) }
     ensures kept { (c : Configured) → IsJob c job → IsStage c result.stage }
+    ensures number { (tasked result.stage).q ≡ job.q }
     ensures asks { Asks (tasked result.stage) result.turn }
     ensures serves { Serves (at_work phases.Reading job) (tasked result.stage) result.turn }
     ensures left { left (tasked result.stage) < left (at_work phases.Reading job) }
@@ -274,6 +284,7 @@ fn drafted<T: Told>(alloc: Global, job: Job<T>, draft: Draft<T>) -> Next<T>
     requires job { IsFor job.request job.walk }
     requires draft { draft.class ≡ class job.walk.at job.walk.loader }
     ensures kept { (c : Configured) → IsJob c job → IsStage c result.stage }
+    ensures number { (tasked result.stage).q ≡ job.q }
     ensures asks { Asks (tasked result.stage) result.turn }
     ensures serves { Serves (at_work phases.Reading job) (tasked result.stage) result.turn }
     ensures left { left (tasked result.stage) < left (at_work phases.Reading job) }
@@ -302,6 +313,7 @@ fn descend<T: Told>(alloc: Global, job: Job<T>, draft: Draft<T>, above: Name) ->
     requires draft { draft.class ≡ class job.walk.at job.walk.loader }
     requires above { (file_of draft.file).super_name ≡ Some above }
     ensures kept { (c : Configured) → IsJob c job → IsStage c result.stage }
+    ensures number { (tasked result.stage).q ≡ job.q }
     ensures asks { Asks (tasked result.stage) result.turn }
     ensures serves { Serves (at_work phases.Reading job) (tasked result.stage) result.turn }
     ensures left { left (tasked result.stage) < left (at_work phases.Reading job) }
@@ -312,11 +324,15 @@ fn descend<T: Told>(alloc: Global, job: Job<T>, draft: Draft<T>, above: Name) ->
     if job.walk.stands(&above) {
         return obstacle(job, Obstacle::Circle(draft, above));
     }
-    let Job { request, mut walk } = job;
+    let Job {
+        q,
+        request,
+        mut walk,
+    } = job;
     match walk.push(draft, above) {
         Ok(()) => {}
-        Err(_) => return out_of_memory(Job { request, walk }),
+        Err(_) => return out_of_memory(Job { q, request, walk }),
     }
     let _ = walk.at();
-    look(alloc, Job { request, walk })
+    look(alloc, Job { q, request, walk })
 }

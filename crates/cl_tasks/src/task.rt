@@ -19,7 +19,6 @@ use thiserror::Error;
 #[derive(Drop)]
 pub struct Task<T: Told> {
     config: Arc<Config>,
-    q: u32,
     stage: Stage<T>,
 }
 
@@ -51,7 +50,7 @@ impl<T: Told> Task<T> {
         request: Request,
     ) -> Result<Task<T>, TaskRefused>
         requires { loader_of request < length config.value.names }
-        ensures fresh { IfOk result (λ t. t ≡ record { phase = Fresh; request = Some request; walk = record { loader = loader_of request; drafts = []; at = name_of request } }) }
+        ensures fresh { IfOk result (λ t. t ≡ record { q = q; phase = Fresh; request = Some request; walk = record { loader = loader_of request; drafts = []; at = name_of request } }) }
         ensures refused { IfErr result (λ e. (e.config.value ≡ config.value) × (e.request ≡ request)) }
     {
         let Request::Load(loader, name) = &request;
@@ -63,9 +62,21 @@ impl<T: Told> Task<T> {
         let walk = Walk::new(alloc, loader, name);
         Ok(Task {
             config,
-            q,
-            stage: Stage::Fresh(Job { request, walk }),
+            stage: Stage::Fresh(Job { q, request, walk }),
         })
+    }
+
+    /// The number of the request in its script.
+    pub fn q(&self) -> u32
+        ensures { result ≡ self.now.q }
+    {
+        match &self.stage {
+            Stage::Fresh(job) => job.q,
+            Stage::Looking(job) => job.q,
+            Stage::Searching(job, _) => job.q,
+            Stage::Defining(job) => job.q,
+            Stage::Done(q) => *q,
+        }
     }
 
     /// Whether a reply is one to what the task asked for.
@@ -78,6 +89,7 @@ impl<T: Told> Task<T> {
     /// The next turn, by the reply to the last.
     pub fn turn(&mut self, alloc: Global, reply: Reply<T>) -> Turn<T>
         requires expects { Expects self.old reply }
+        ensures number { self.new.q ≡ self.old.q }
         ensures asks { Asks self.new result }
         ensures serves { Serves self.old self.new result }
         ensures left { left self.new < left self.old }
@@ -85,7 +97,8 @@ impl<T: Told> Task<T> {
         ensures next { IfSome self.old.request (λ r. FollowsWhere T.told (λ s. Tells s self.old.walk reply) r result) }
         ensures refused { Refuses (refusal self.old.walk reply) result }
     {
-        let stage = mem::replace(&mut self.stage, Stage::Done);
+        let q = self.q();
+        let stage = mem::replace(&mut self.stage, Stage::Done(q));
         let next = step(alloc, &self.config, stage, reply);
         self.stage = next.stage;
         next.turn

@@ -19,77 +19,66 @@ use Rattle.cl_writer.specs.declared.statement.Statement.{Statement}
 use Rattle.cl_writer.specs.declared.statement.Statement.TheVariants.{Implements, Field, Method, Ref}
 use Rattle.cl_writer.specs.declared.fault.AssembleFault.{AssembleFault}
 use Rattle.cl_writer.specs.declared.fault.AssembleFault.TheVariants.{Memory, BadLine, Invalid}
-use Rattle.cl_writer.specs.Statements.{flags_of, WritesSuper, IsName, IsInteger, IsMemberLine, IsMemberName, IsClassLine, kind_word, Refers, Says}
+use Rattle.cl_writer.specs.Statements.{WritesInteger, WritesSuper, IsName, IsInteger, IsMemberLine, IsMemberName, IsClassLine, Begins, kind_word, Refers, Says}
 use Rattle.cl_writer.specs.Assemblies.{Listed, class_alone, with_said, AllSay, IsRest, StopsAt, IsRead, IsBadAt}
 use Rattle.cl_writer.specs.Described.{described}
 use Rattle.cl_writer.specs.Assembled.{IsAssembled, IsInvalid, AssembleOf}
-use Rattle.cl_writer.proofs.Rows.{first_of, second_of, third_of, tail_of, head_of, only_of, letters, differs, other}
+use Rattle.cl_writer.proofs.Rows.{first_of, second_of, third_of, head_of, only_of, letters, differs, other, behind, no_member_word}
+use Rattle.cl_writer.proofs.Words.{WritesFlags, One, Three, name_words, integer_words, member_line, member_line_words, member_name, member_name_words, class_line, class_line_words}
 
 -- ---- words
 
--- texts that are equal write one name
-one_name : (s t a b : List ℕ) → s ≡ t → WritesName s a → WritesName t b → a ≡ b
-one_name s t a b e v w = name_alone t a b (subst (λ x. WritesName x a) e v) w
+-- what is said is one thing
+abbrev Alone : {W A : Type 0} → (W → A → Type 0) → Type 0
+Alone {W} {A} P = (w : W) (a b : A) → P w a → P w b → a ≡ b
 
-one_super : (s t : List ℕ) (a b : Option (List ℕ)) → s ≡ t → WritesSuper s a → WritesSuper t b → a ≡ b
-one_super s t None None e v w = refl
-one_super s t None (Some n) e v w = absurd (w.0 (sym e ∙ v))
-one_super s t (Some m) None e v w = absurd (v.0 (e ∙ w))
-one_super s t (Some m) (Some n) e v w = ap (λ (x : List ℕ). Some x) (one_name s t m n e v.1 w.1)
+one_super : Alone WritesSuper
+one_super text None None v w = refl
+one_super text None (Some n) v w = absurd (w.0 v)
+one_super text (Some m) None v w = absurd (v.0 w)
+one_super text (Some m) (Some n) v w = ap (λ (x : List ℕ). Some x) (name_alone text m n v.1 w.1)
 
 some_is : (a b : ℕ) → Some a ≡ Some b → a ≡ b
 some_is a b e = cc
 
-one_flags : (s t : List ℕ) (a b : ℕ) → s ≡ t → flags_of s ≡ Some a → flags_of t ≡ Some b → a ≡ b
-one_flags s t a b e v w = some_is a b (sym v ∙ ap flags_of e ∙ w)
+one_flags : Alone WritesFlags
+one_flags text a b v w = some_is a b (sym v ∙ w)
 
-abbrev the_class_line : ℕ → List ℕ → Option (List ℕ) → ClassLine
-the_class_line x y z = record { flags = x; name = y; superclass = z }
+one_number : Alone WritesInteger
+one_number text a b v w = v.value ∙ sym w.value
 
-same_class_line : (a b : ClassLine) → a.flags ≡ b.flags → a.name ≡ b.name → a.superclass ≡ b.superclass → a ≡ b
-same_class_line a b e f g = ap (λ x. the_class_line x a.name a.superclass) e ∙ ap (λ y. the_class_line b.flags y a.superclass) f ∙ ap (the_class_line b.flags b.name) g
+one_alone : {A : Type 0} (P : List ℕ → A → Type 0) → Alone P → Alone (One P)
+one_alone P p words a b v w = p w.text a b (subst (λ s. P s a) (only_of (sym v.spelled ∙ w.spelled)) v.says) w.says
 
-abbrev the_member_line : ℕ → List ℕ → List ℕ → MemberLine
-the_member_line x y z = record { flags = x; name = y; descriptor = z }
+same_three : {A B C : Type 0} (x y : A × B × C) → x.0 ≡ y.0 → x.1 ≡ y.1 → x.2 ≡ y.2 → x ≡ y
+same_three (a, b, c) (x, y, z) e f g = cc
 
-same_member_line : (a b : MemberLine) → a.flags ≡ b.flags → a.name ≡ b.name → a.descriptor ≡ b.descriptor → a ≡ b
-same_member_line a b e f g = ap (λ x. the_member_line x a.name a.descriptor) e ∙ ap (λ y. the_member_line b.flags y a.descriptor) f ∙ ap (the_member_line b.flags b.name) g
+three_alone : {A B C : Type 0} (P : List ℕ → A → Type 0) (Q : List ℕ → B → Type 0) (R : List ℕ → C → Type 0) → Alone P → Alone Q → Alone R → Alone (Three P Q R)
+three_alone P Q R p q r words x y v w =
+    let texts = sym v.spelled ∙ w.spelled in
+    same_three x y
+    (p w.first x.0 y.0 (subst (λ s. P s x.0) (first_of texts) v.one) w.one)
+    (q w.second x.1 y.1 (subst (λ s. Q s x.1) (second_of texts) v.two) w.two)
+    (r w.third x.2 y.2 (subst (λ s. R s x.2) (third_of texts) v.three) w.three)
 
-abbrev the_member_name : List ℕ → List ℕ → List ℕ → MemberName
-the_member_name x y z = record { class = x; name = y; descriptor = z }
+begun_alone : {A : Type 0} (P : List (List ℕ) → A → Type 0) (keyword : List ℕ) → Alone P → Alone (λ (words : List (List ℕ)) (a : A). Begins keyword words (λ rest. P rest a))
+begun_alone P keyword p words a b v w = p w.rest a b (behind w.spelled v) w.behind
 
-same_member_name : (a b : MemberName) → a.class ≡ b.class → a.name ≡ b.name → a.descriptor ≡ b.descriptor → a ≡ b
-same_member_name a b e f g = ap (λ x. the_member_name x a.name a.descriptor) e ∙ ap (λ y. the_member_name b.class y a.descriptor) f ∙ ap (the_member_name b.class b.name) g
+one_word : Alone IsName
+one_word words a b v w = one_alone WritesName name_alone words a b (name_words words a v) (name_words words b w)
 
-one_word : (words others : List (List ℕ)) (a b : List ℕ) → words ≡ others → IsName words a → IsName others b → a ≡ b
-one_word words others a b e v w = one_name v.text w.text a b (only_of (sym v.spelled ∙ e ∙ w.spelled)) v.writes w.writes
+one_integer : Alone IsInteger
+one_integer words a b v w = one_alone WritesInteger one_number words a b (integer_words words a v) (integer_words words b w)
 
-one_integer : (words others : List (List ℕ)) (a b : ℤ) → words ≡ others → IsInteger words a → IsInteger others b → a ≡ b
-one_integer words others a b e v w = v.writes.value ∙ ap (signed_digits_value 10) (only_of (sym v.spelled ∙ e ∙ w.spelled)) ∙ sym w.writes.value
+one_member_line : Alone IsMemberLine
+one_member_line words a b v w = ap member_line (three_alone WritesFlags WritesName WritesName one_flags name_alone name_alone words _ _ (member_line_words words a v) (member_line_words words b w))
 
-one_member_line : (words others : List (List ℕ)) (a b : MemberLine) → words ≡ others → IsMemberLine words a → IsMemberLine others b → a ≡ b
-one_member_line words others a b e v w =
-    let texts = sym v.spelled ∙ e ∙ w.spelled in
-    same_member_line a b
-    (one_flags v.flags_text w.flags_text a.flags b.flags (first_of texts) v.flags w.flags)
-    (one_name v.name_text w.name_text a.name b.name (second_of texts) v.name w.name)
-    (one_name v.descriptor_text w.descriptor_text a.descriptor b.descriptor (third_of texts) v.descriptor w.descriptor)
+one_member_name : Alone IsMemberName
+one_member_name words a b v w = ap member_name (three_alone WritesName WritesName WritesName name_alone name_alone name_alone words _ _ (member_name_words words a v) (member_name_words words b w))
 
-one_member_name : (words others : List (List ℕ)) (a b : MemberName) → words ≡ others → IsMemberName words a → IsMemberName others b → a ≡ b
-one_member_name words others a b e v w =
-    let texts = sym v.spelled ∙ e ∙ w.spelled in
-    same_member_name a b
-    (one_name v.class_text w.class_text a.class b.class (first_of texts) v.class w.class)
-    (one_name v.name_text w.name_text a.name b.name (second_of texts) v.name w.name)
-    (one_name v.descriptor_text w.descriptor_text a.descriptor b.descriptor (third_of texts) v.descriptor w.descriptor)
-
-pub one_class_line : (words : List (List ℕ)) (a b : ClassLine) → IsClassLine words a → IsClassLine words b → a ≡ b
+pub one_class_line : Alone IsClassLine
 one_class_line words a b v w =
-    let texts = tail_of (sym v.spelled ∙ w.spelled) in
-    same_class_line a b
-    (one_flags v.flags_text w.flags_text a.flags b.flags (first_of texts) v.flags w.flags)
-    (one_name v.name_text w.name_text a.name b.name (second_of texts) v.name w.name)
-    (one_super v.super_text w.super_text a.superclass b.superclass (third_of texts) v.superclass w.superclass)
+    ap class_line (begun_alone (Three WritesFlags WritesName WritesSuper) (codes "class") (three_alone WritesFlags WritesName WritesSuper one_flags name_alone one_super) words _ _ (class_line_words words a v) (class_line_words words b w))
 
 -- ---- lines
 
@@ -100,12 +89,6 @@ one_kind kinds.Method kinds.Method e = refl
 one_kind kinds.InterfaceMethod kinds.InterfaceMethod e = refl
 one_kind k l e = absurd (differs (kind_word k) (kind_word l) (λ h. absurd (omega arith)) e)
 
-no_member_word : (k : MemberKind) → (codes "int" ≡ kind_word k → ⊥) × (codes "class" ≡ kind_word k → ⊥)
-unfolding letters
-no_member_word kinds.Field = (differs _ _ (λ h. absurd (omega arith)), differs _ _ (λ h. absurd (omega arith)))
-no_member_word kinds.Method = (differs _ _ (λ h. absurd (omega arith)), differs _ _ (λ h. absurd (omega arith)))
-no_member_word kinds.InterfaceMethod = (differs _ _ (λ h. absurd (omega arith)), differs _ _ (λ h. absurd (omega arith)))
-
 no_int_class : codes "int" ≡ codes "class" → ⊥
 unfolding letters
 no_int_class = differs _ _ (λ h. absurd (omega arith))
@@ -113,35 +96,31 @@ no_int_class = differs _ _ (λ h. absurd (omega arith))
 same_member : (k l : MemberKind) (m n : MemberName) → k ≡ l → m ≡ n → Member k m ≡ Member l n
 same_member k l m n e f = cc
 
-one_item : (words others : List (List ℕ)) (a b : Item) → words ≡ others → Refers words a → Refers others b → a ≡ b
-one_item words others (Text x) b e v w = absurd v
-one_item words others (NameAndType n d) b e v w = absurd v
-one_item words others a (Text x) e v w = absurd w
-one_item words others a (NameAndType n d) e v w = absurd w
-one_item words others (Integer m) (Integer n) e v w = ap (λ (i : ℤ). Integer i) (one_integer v.rest w.rest m n (tail_of (sym v.spelled ∙ e ∙ w.spelled)) v.behind w.behind)
-one_item words others (Class m) (Class n) e v w = ap (λ (i : List ℕ). Class i) (one_word v.rest w.rest m n (tail_of (sym v.spelled ∙ e ∙ w.spelled)) v.behind w.behind)
-one_item words others (Member k m) (Member l n) e v w =
-    let texts = sym v.spelled ∙ e ∙ w.spelled in
-    same_member k l m n (one_kind k l (head_of texts)) (one_member_name v.rest w.rest m n (tail_of texts) v.behind w.behind)
-one_item words others (Integer m) (Class n) e v w = absurd (no_int_class (head_of (sym v.spelled ∙ e ∙ w.spelled)))
-one_item words others (Class m) (Integer n) e v w = absurd (no_int_class (head_of (sym w.spelled ∙ sym e ∙ v.spelled)))
-one_item words others (Integer m) (Member l n) e v w = absurd ((no_member_word l).0 (head_of (sym v.spelled ∙ e ∙ w.spelled)))
-one_item words others (Member k m) (Integer n) e v w = absurd ((no_member_word k).0 (head_of (sym w.spelled ∙ sym e ∙ v.spelled)))
-one_item words others (Class m) (Member l n) e v w = absurd ((no_member_word l).1 (head_of (sym v.spelled ∙ e ∙ w.spelled)))
-one_item words others (Member k m) (Class n) e v w = absurd ((no_member_word k).1 (head_of (sym w.spelled ∙ sym e ∙ v.spelled)))
+one_item : Alone Refers
+one_item words (Text x) b v w = absurd v
+one_item words (NameAndType n d) b v w = absurd v
+one_item words a (Text x) v w = absurd w
+one_item words a (NameAndType n d) v w = absurd w
+one_item words (Integer m) (Integer n) v w = ap (λ (i : ℤ). Integer i) (begun_alone IsInteger (codes "int") one_integer words m n v w)
+one_item words (Class m) (Class n) v w = ap (λ (i : List ℕ). Class i) (begun_alone IsName (codes "class") one_word words m n v w)
+one_item words (Member k m) (Member l n) v w =
+    same_member k l m n (one_kind k l (head_of (sym v.spelled ∙ w.spelled))) (one_member_name w.rest m n (behind w.spelled v) w.behind)
+one_item words (Integer m) (Class n) v w = absurd (no_int_class (head_of (sym v.spelled ∙ w.spelled)))
+one_item words (Class m) (Integer n) v w = absurd (no_int_class (head_of (sym w.spelled ∙ v.spelled)))
+one_item words (Integer m) (Member l n) v w = absurd ((no_member_word l).0 (head_of (sym v.spelled ∙ w.spelled)))
+one_item words (Member k m) (Integer n) v w = absurd ((no_member_word k).0 (head_of (sym w.spelled ∙ v.spelled)))
+one_item words (Class m) (Member l n) v w = absurd ((no_member_word l).1 (head_of (sym v.spelled ∙ w.spelled)))
+one_item words (Member k m) (Class n) v w = absurd ((no_member_word k).1 (head_of (sym w.spelled ∙ v.spelled)))
 
-pub one_statement : (words : List (List ℕ)) (a b : Statement) → Says words a → Says words b → a ≡ b
+pub one_statement : Alone Says
 unfolding letters
-one_statement words (Implements m) (Implements n) v w = ap (λ (x : List ℕ). Implements x) (one_word v.rest w.rest m n (tail_of (sym v.spelled ∙ w.spelled)) v.behind w.behind)
-one_statement words (Field m) (Field n) v w = ap (λ (x : MemberLine). Field x) (one_member_line v.rest w.rest m n (tail_of (sym v.spelled ∙ w.spelled)) v.behind w.behind)
-one_statement words (Method m) (Method n) v w = ap (λ (x : MemberLine). Method x) (one_member_line v.rest w.rest m n (tail_of (sym v.spelled ∙ w.spelled)) v.behind w.behind)
-one_statement words (Ref m) (Ref n) v w = ap (λ (x : Item). Ref x) (one_item v.rest w.rest m n (tail_of (sym v.spelled ∙ w.spelled)) v.behind w.behind)
+one_statement words (Implements m) (Implements n) v w = ap (λ (x : List ℕ). Implements x) (begun_alone IsName (codes "implements") one_word words m n v w)
+one_statement words (Field m) (Field n) v w = ap (λ (x : MemberLine). Field x) (begun_alone IsMemberLine (codes "field") one_member_line words m n v w)
+one_statement words (Method m) (Method n) v w = ap (λ (x : MemberLine). Method x) (begun_alone IsMemberLine (codes "method") one_member_line words m n v w)
+one_statement words (Ref m) (Ref n) v w = ap (λ (x : Item). Ref x) (begun_alone Refers (codes "ref") one_item words m n v w)
 one_statement words a b v w = absurd (other _ _ w.spelled (differs _ _ (λ h. absurd (omega arith))) v)
 
 -- ---- texts
-
-one_row : (s t : Numbered) (a b : Statement) → s ≡ t → Says (words_of s.text) a → Says (words_of t.text) b → a ≡ b
-one_row s t a b e v w = one_statement (words_of t.text) a b (subst (λ (l : Numbered). Says (words_of l.text) a) e v) w
 
 same_more : (a b : Statement) (ss ts : List Statement) → a ≡ b → ss ≡ ts → a ∷ ss ≡ b ∷ ts
 same_more a b ss ts e f = cc

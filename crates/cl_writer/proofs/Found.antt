@@ -13,29 +13,41 @@ use Rattle.cl_classfile.specs.declared.fault.Fault.{Fault}
 use Rattle.cl_classfile.specs.Structure.{Structure, Spells, spelling}
 use Rattle.cl_classfile.specs.Widths.{is_signed}
 use Rattle.cl_classfile.specs.Checking.{parts_of}
-use Rattle.cl_classfile.proofs.Fitting.{signed32_told}
+use Rattle.cl_classfile.proofs.Fitting.{signed32_tells}
 use Rattle.cl_classfile.proofs.Tables.{parts_say}
 use Rattle.cl_writer.specs.declared.item.MemberKind.{MemberKind}
 use Rattle.cl_writer.specs.declared.item.MemberKind.TheVariants as kinds
+use Rattle.cl_writer.specs.declared.item.MemberName.{MemberName}
 use Rattle.cl_writer.specs.declared.item.Item.{Item}
 use Rattle.cl_writer.specs.declared.item.Item.TheVariants.{Text, Integer, Class, NameAndType, Member}
 use Rattle.cl_writer.specs.declared.statement.ClassLine.{ClassLine}
+use Rattle.cl_writer.specs.declared.statement.MemberLine.{MemberLine}
 use Rattle.cl_writer.specs.declared.statement.Statement.{Statement}
 use Rattle.cl_writer.specs.declared.statement.Statement.TheVariants.{Implements, Field, Method, Ref}
 use Rattle.cl_writer.specs.declared.fault.AssembleFault.{AssembleFault}
 use Rattle.cl_writer.specs.declared.fault.AssembleFault.TheVariants.{Memory, BadLine, Invalid}
-use Rattle.cl_writer.specs.Statements.{flags_of, WritesInteger, WritesSuper, IsName, IsInteger, IsMemberLine, IsMemberName, IsClassLine, kind_word, Refers, Says}
+use Rattle.cl_writer.specs.Statements.{flags_of, WritesInteger, WritesSuper, IsName, IsInteger, IsMemberLine, IsMemberName, IsClassLine, Begins, kind_word, Refers, Says}
 use Rattle.cl_writer.specs.Assemblies.{Listed, class_alone, with_said, AllSay, IsRest, StopsAt, IsRead, IsBadAt}
 use Rattle.cl_writer.specs.Described.{described}
 use Rattle.cl_writer.specs.Listings.{listing_of}
 use Rattle.cl_writer.specs.Assembled.{IsAssembled, AssembleOf}
-use Rattle.cl_writer.proofs.Rows.{first_of, third_of, tail_of, head_of, only_of, no_class_name, no_line_name, no_line_descriptor, no_member_class, no_member_name, no_member_descriptor, no_super, no_implements, no_field, no_method, no_ref, no_keyword, no_ref_class, no_ref_int, no_ref_kind, no_ref_member}
+use Rattle.cl_writer.proofs.Rows.{first_of, second_of, third_of, head_of, only_of, behind, no_super}
+use Rattle.cl_writer.proofs.Words.{WritesFlags, One, Three, name_words, integer_words, member_line, member_line_words, member_name, member_name_words, class_line, class_line_words}
 use Rattle.cl_writer.proofs.Gathered.{class_stays}
 use Rattle.cl_writer.proofs.Standing.{printed_so}
 
+-- P holds of nothing
+abbrev NoneOf : {A : Type 0} → (A → Type 0) → Type 0
+NoneOf {A} P = (a : A) → P a → ⊥
+
 -- something of which P holds, or nothing
 abbrev Finds : {A : Type 0} → (A → Type 0) → Type 0
-Finds {A} P = ((a : A) × P a) ⊎ ((a : A) → P a → ⊥)
+Finds {A} P = ((a : A) × P a) ⊎ NoneOf P
+
+-- where Q is P of something else, one is found where the other is
+found_as : {A B : Type 0} (P : A → Type 0) (Q : B → Type 0) (make : A → B) → ((a : A) → P a → Q (make a)) → (NoneOf P → NoneOf Q) → Finds P → Finds Q
+found_as P Q make here none (inl a) = inl (make a.0, here a.0 a.1)
+found_as P Q make here none (inr n) = inr (none n)
 
 -- ---- words and their shapes
 
@@ -67,34 +79,6 @@ word_cases (a ∷ xs) (b ∷ ys) =
       | inr e ↦ inr (λ h. e (first_letter a b xs ys h))
     ]
 
-no_words : (a : List ℕ) (ws : List (List ℕ)) → [] ≡ a ∷ ws → ⊥
-no_words a ws e = absurd cc
-
-two_words : (a b c : List ℕ) (ws : List (List ℕ)) → a ∷ b ∷ ws ≡ c ∷ [] → ⊥
-two_words a b c ws e = absurd cc
-
-one_of : (words : List (List ℕ)) → Finds (λ (a : List ℕ). words ≡ a ∷ [])
-one_of [] = inr (λ a e. no_words a [] e)
-one_of (a ∷ []) = inl (a, refl)
-one_of (a ∷ b ∷ ws) = inr (λ c e. two_words a b c ws e)
-
--- three words
-record Three (words : List (List ℕ)) : Type 0 where
-  a : List ℕ
-  b : List ℕ
-  c : List ℕ
-  spelled : words ≡ a ∷ b ∷ c ∷ []
-
-abbrev NotThree : List (List ℕ) → Type 0
-NotThree words = (a b c : List ℕ) → words ≡ a ∷ b ∷ c ∷ [] → ⊥
-
-three_of : (words : List (List ℕ)) → Three words ⊎ NotThree words
-three_of [] = inr (λ a b c e. absurd cc)
-three_of (d ∷ []) = inr (λ a b c e. absurd cc)
-three_of (d ∷ f ∷ []) = inr (λ a b c e. absurd cc)
-three_of (d ∷ f ∷ g ∷ []) = inl (record { a = d; b = f; c = g; spelled = refl })
-three_of (d ∷ f ∷ g ∷ h ∷ ws) = inr (λ a b c e. absurd cc)
-
 some_or_none : {A : Type 0} (o : Option A) → ((a : A) × (o ≡ Some a)) ⊎ (o ≡ None)
 some_or_none (Some a) = inl (a, refl)
 some_or_none None = inr refl
@@ -109,6 +93,9 @@ name_found text = elim (some_or_none (unescaped text)) [
   | inl found ↦ inl (found.0, unescaped_from text found.0 found.1)
   | inr none ↦ inr (λ name w. none_some name (unescaped text) none (unescaped_of text name w))
 ]
+
+flags_found : (text : List ℕ) → Finds (WritesFlags text)
+flags_found text = elim (some_or_none (flags_of text)) [ inl found ↦ inl found | inr none ↦ inr (λ flags w. none_some flags (flags_of text) none w) ]
 
 super_found : (text : List ℕ) → Finds (WritesSuper text)
 super_found text = elim (word_cases text (codes "-")) [
@@ -131,10 +118,6 @@ numeral_found ds =
       | inr e ↦ inr (λ h. e h.0)
     ]
 
-signed_says : (z : ℤ) → is_signed (2 ^ 31) z ≡ true → FitsSigned w32 z
-signed_says (pos n) h = record { sfits = ltb-true n (2 ^ 31) h }
-signed_says (negsuc n) h = record { sfits = ltb-true n (2 ^ 31) h }
-
 number_found : (text : List ℕ) → Finds (WritesInteger text)
 number_found text =
     elim (nat_cases (slice_index text 0) 43) [
@@ -142,180 +125,129 @@ number_found text =
       | inr unsigned ↦ elim (numeral_found (without_leading_sign text)) [
         | inr none ↦ inr (λ z w. none w.digits)
         | inl digits ↦ elim (cases_Bool (is_signed (2 ^ 31) (signed_digits_value 10 text))) [
-          | inl fits ↦ inl (signed_digits_value 10 text, record { unsigned = unsigned; digits = digits; value = refl; fits = signed_says (signed_digits_value 10 text) fits })
-          | inr large ↦ inr (λ z w. false≢true (sym large ∙ ap (is_signed (2 ^ 31)) (sym w.value) ∙ signed32_told z w.fits))
+          | inl fits ↦ inl (signed_digits_value 10 text, record { unsigned = unsigned; digits = digits; value = refl; fits = (signed32_tells (signed_digits_value 10 text)).0 fits })
+          | inr large ↦ inr (λ z w. false≢true (sym large ∙ ap (is_signed (2 ^ 31)) (sym w.value) ∙ (signed32_tells z).1 w.fits))
         ]
       ]
     ]
 
 -- ---- what words say
 
-word_found : (words : List (List ℕ)) → Finds (IsName words)
-word_found words = elim (one_of words) [
-  | inr none ↦ inr (λ n t. none t.text t.spelled)
-  | inl one ↦ elim (name_found one.0) [
-    | inl n ↦ inl (n.0, record { text = one.0; spelled = one.1; writes = n.1 })
-    | inr none ↦ inr (λ n t. none n (subst (λ w. WritesName w n) (only_of (sym t.spelled ∙ one.1)) t.writes))
+one_found : {A : Type 0} (P : List ℕ → A → Type 0) → ((text : List ℕ) → Finds (P text)) → (words : List (List ℕ)) → Finds (One P words)
+one_found P found [] = inr (λ a t. absurd cc)
+one_found P found (text ∷ []) =
+    found_as (P text) (One P (text ∷ [])) (λ a. a) (λ a w. record { text = text; spelled = refl; says = w })
+    (λ none a t. none a (subst (λ s. P s a) (sym (only_of t.spelled)) t.says)) (found text)
+one_found P found (text ∷ next ∷ more) = inr (λ a t. absurd cc)
+
+three_found : {A B C : Type 0} (P : List ℕ → A → Type 0) (Q : List ℕ → B → Type 0) (R : List ℕ → C → Type 0)
+    → ((text : List ℕ) → Finds (P text)) → ((text : List ℕ) → Finds (Q text)) → ((text : List ℕ) → Finds (R text)) → (words : List (List ℕ)) → Finds (Three P Q R words)
+three_found P Q R p q r [] = inr (λ said t. absurd cc)
+three_found P Q R p q r (a ∷ []) = inr (λ said t. absurd cc)
+three_found P Q R p q r (a ∷ b ∷ []) = inr (λ said t. absurd cc)
+three_found P Q R p q r (a ∷ b ∷ c ∷ []) = elim (p a) [
+  | inr none ↦ inr (λ said t. none said.0 (subst (λ w. P w said.0) (sym (first_of t.spelled)) t.one))
+  | inl x ↦ elim (q b) [
+    | inr none ↦ inr (λ said t. none said.1 (subst (λ w. Q w said.1) (sym (second_of t.spelled)) t.two))
+    | inl y ↦ elim (r c) [
+      | inr none ↦ inr (λ said t. none said.2 (subst (λ w. R w said.2) (sym (third_of t.spelled)) t.three))
+      | inl z ↦ inl ((x.0, y.0, z.0), record { first = a; second = b; third = c; spelled = refl; one = x.1; two = y.1; three = z.1 })
+    ]
   ]
 ]
+three_found P Q R p q r (a ∷ b ∷ c ∷ d ∷ more) = inr (λ said t. absurd cc)
+
+begun_found : {A : Type 0} (P : List (List ℕ) → A → Type 0) (keyword : List ℕ) → ((words : List (List ℕ)) → Finds (P words)) → (words : List (List ℕ)) → Finds (λ (a : A). Begins keyword words (λ rest. P rest a))
+begun_found P keyword found [] = inr (λ a t. absurd cc)
+begun_found P keyword found (first ∷ rest) = elim (word_cases first keyword) [
+  | inr e ↦ inr (λ a t. e (head_of t.spelled))
+  | inl e ↦
+      found_as (P rest) (λ a. Begins keyword (first ∷ rest) (λ ws. P ws a)) (λ a. a) (λ a w. record { rest = rest; spelled = ap (λ (w : List ℕ). w ∷ rest) e; behind = w })
+      (λ none a t. none a (behind refl t)) (found rest)
+]
+
+word_found : (words : List (List ℕ)) → Finds (IsName words)
+word_found words =
+    found_as (One WritesName words) (IsName words) (λ n. n) (λ n t. record { text = t.text; spelled = t.spelled; writes = t.says })
+    (λ none n t. none n (name_words words n t)) (one_found WritesName name_found words)
 
 integer_found : (words : List (List ℕ)) → Finds (IsInteger words)
-integer_found words = elim (one_of words) [
-  | inr none ↦ inr (λ n t. none t.text t.spelled)
-  | inl one ↦ elim (number_found one.0) [
-    | inl n ↦ inl (n.0, record { text = one.0; spelled = one.1; writes = n.1 })
-    | inr none ↦ inr (λ n t. none n (subst (λ w. WritesInteger w n) (only_of (sym t.spelled ∙ one.1)) t.writes))
-  ]
-]
-
-no_flags : (s t : List ℕ) (n : ℕ) → s ≡ t → flags_of t ≡ None → flags_of s ≡ Some n → ⊥
-no_flags s t n e none some = none_some n (flags_of s) (ap flags_of e ∙ none) some
-
-member_line_of : (words : List (List ℕ)) → Three words → Finds (IsMemberLine words)
-member_line_of words s = elim (some_or_none (flags_of s.a)) [
-  | inr none ↦ inr (λ l t. no_flags t.flags_text s.a l.flags (first_of (sym t.spelled ∙ s.spelled)) none t.flags)
-  | inl f ↦ elim (name_found s.b) [
-    | inr none ↦ inr (no_line_name words s.a s.b s.c s.spelled none)
-    | inl n ↦ elim (name_found s.c) [
-      | inr none ↦ inr (no_line_descriptor words s.a s.b s.c s.spelled none)
-      | inl d ↦ inl (record { flags = f.0; name = n.0; descriptor = d.0 }, record { flags_text = s.a; name_text = s.b; descriptor_text = s.c; spelled = s.spelled; flags = f.1; name = n.1; descriptor = d.1 })
-    ]
-  ]
-]
+integer_found words =
+    found_as (One WritesInteger words) (IsInteger words) (λ n. n) (λ n t. record { text = t.text; spelled = t.spelled; writes = t.says })
+    (λ none n t. none n (integer_words words n t)) (one_found WritesInteger number_found words)
 
 member_line_found : (words : List (List ℕ)) → Finds (IsMemberLine words)
-member_line_found words = elim (three_of words) [
-  | inl s ↦ member_line_of words s
-  | inr none ↦ inr (λ l t. none t.flags_text t.name_text t.descriptor_text t.spelled)
-]
-
-member_name_of : (words : List (List ℕ)) → Three words → Finds (IsMemberName words)
-member_name_of words s = elim (name_found s.a) [
-  | inr none ↦ inr (no_member_class words s.a s.b s.c s.spelled none)
-  | inl k ↦ elim (name_found s.b) [
-    | inr none ↦ inr (no_member_name words s.a s.b s.c s.spelled none)
-    | inl n ↦ elim (name_found s.c) [
-      | inr none ↦ inr (no_member_descriptor words s.a s.b s.c s.spelled none)
-      | inl d ↦ inl (record { class = k.0; name = n.0; descriptor = d.0 }, record { class_text = s.a; name_text = s.b; descriptor_text = s.c; spelled = s.spelled; class = k.1; name = n.1; descriptor = d.1 })
-    ]
-  ]
-]
+member_line_found words =
+    found_as (Three WritesFlags WritesName WritesName words) (IsMemberLine words) member_line
+    (λ said t. record { flags_text = t.first; name_text = t.second; descriptor_text = t.third; spelled = t.spelled; flags = t.one; name = t.two; descriptor = t.three })
+    (λ none l t. none (l.flags, l.name, l.descriptor) (member_line_words words l t)) (three_found WritesFlags WritesName WritesName flags_found name_found name_found words)
 
 member_name_found : (words : List (List ℕ)) → Finds (IsMemberName words)
-member_name_found words = elim (three_of words) [
-  | inl s ↦ member_name_of words s
-  | inr none ↦ inr (λ m t. none t.class_text t.name_text t.descriptor_text t.spelled)
-]
+member_name_found words =
+    found_as (Three WritesName WritesName WritesName words) (IsMemberName words) member_name
+    (λ said t. record { class_text = t.first; name_text = t.second; descriptor_text = t.third; spelled = t.spelled; class = t.one; name = t.two; descriptor = t.three })
+    (λ none m t. none (m.class, m.name, m.descriptor) (member_name_words words m t)) (three_found WritesName WritesName WritesName name_found name_found name_found words)
 
-begins_so : (first keyword : List ℕ) (rest : List (List ℕ)) → first ≡ keyword → first ∷ rest ≡ keyword ∷ rest
-begins_so first keyword rest e = ap (λ (w : List ℕ). w ∷ rest) e
+class_line_found : (words : List (List ℕ)) → Finds (IsClassLine words)
+class_line_found words =
+    found_as (λ said. Begins (codes "class") words (λ rest. Three WritesFlags WritesName WritesSuper rest said)) (IsClassLine words) class_line
+    (λ said t. record { flags_text = t.behind.first; name_text = t.behind.second; super_text = t.behind.third; spelled = t.spelled ∙ ap (λ (ws : List (List ℕ)). codes "class" ∷ ws) t.behind.spelled; flags = t.behind.one; name = t.behind.two; superclass = t.behind.three })
+    (λ none l t. none (l.flags, l.name, l.superclass) (class_line_words words l t))
+    (begun_found (Three WritesFlags WritesName WritesSuper) (codes "class") (three_found WritesFlags WritesName WritesSuper flags_found name_found super_found) words)
 
-no_class_super : (words : List (List ℕ)) (flags name above : List ℕ) → words ≡ codes "class" ∷ flags ∷ name ∷ above ∷ [] → ((n : Option (List ℕ)) → WritesSuper above n → ⊥) → (line : ClassLine) → IsClassLine words line → ⊥
-no_class_super words flags name above e none line t = none line.superclass (subst (λ w. WritesSuper w line.superclass) (third_of (tail_of (sym t.spelled ∙ e))) t.superclass)
+-- words that ask for no entry of any kind ask for none
+no_item : (words : List (List ℕ)) → NoneOf (λ n. Refers words (Class n)) → NoneOf (λ n. Refers words (Integer n)) → NoneOf (λ m. Refers words (Member kinds.Field m))
+    → NoneOf (λ m. Refers words (Member kinds.Method m)) → NoneOf (λ m. Refers words (Member kinds.InterfaceMethod m)) → NoneOf (Refers words)
+no_item words a b c d e (Text text) t = t
+no_item words a b c d e (Integer n) t = b n t
+no_item words a b c d e (Class n) t = a n t
+no_item words a b c d e (NameAndType n x) t = t
+no_item words a b c d e (Member kinds.Field m) t = c m t
+no_item words a b c d e (Member kinds.Method m) t = d m t
+no_item words a b c d e (Member kinds.InterfaceMethod m) t = e m t
 
-class_line_of : (words : List (List ℕ)) (first : List ℕ) (rest : List (List ℕ)) → words ≡ first ∷ rest → first ≡ codes "class" → Three rest → Finds (IsClassLine words)
-class_line_of words first rest e f s =
-    let spelled : words ≡ codes "class" ∷ s.a ∷ s.b ∷ s.c ∷ [] = e ∙ begins_so first (codes "class") rest f ∙ ap (λ (ws : List (List ℕ)). codes "class" ∷ ws) s.spelled in
-    elim (some_or_none (flags_of s.a)) [
-      | inr none ↦ inr (λ l t. no_flags t.flags_text s.a l.flags (first_of (tail_of (sym t.spelled ∙ spelled))) none t.flags)
-      | inl flags ↦ elim (name_found s.b) [
-        | inr none ↦ inr (no_class_name words (codes "class") s.a s.b s.c spelled none)
-        | inl n ↦ elim (super_found s.c) [
-          | inr none ↦ inr (no_class_super words s.a s.b s.c spelled none)
-          | inl above ↦ inl (record { flags = flags.0; name = n.0; superclass = above.0 }, record { flags_text = s.a; name_text = s.b; super_text = s.c; spelled = spelled; flags = flags.1; name = n.1; superclass = above.1 })
+member_found : (words : List (List ℕ)) (k : MemberKind) → Finds (λ (m : MemberName). Begins (kind_word k) words (λ rest. IsMemberName rest m))
+member_found words k = begun_found IsMemberName (kind_word k) member_name_found words
+
+item_found : (words : List (List ℕ)) → Finds (Refers words)
+item_found words = elim (begun_found IsName (codes "class") word_found words) [
+  | inl n ↦ inl (Class n.0, n.1)
+  | inr a ↦ elim (begun_found IsInteger (codes "int") integer_found words) [
+    | inl n ↦ inl (Integer n.0, n.1)
+    | inr b ↦ elim (member_found words kinds.Field) [
+      | inl m ↦ inl (Member kinds.Field m.0, m.1)
+      | inr c ↦ elim (member_found words kinds.Method) [
+        | inl m ↦ inl (Member kinds.Method m.0, m.1)
+        | inr d ↦ elim (member_found words kinds.InterfaceMethod) [
+          | inl m ↦ inl (Member kinds.InterfaceMethod m.0, m.1)
+          | inr e ↦ inr (no_item words a b c d e)
         ]
       ]
     ]
-
-class_line_found : (words : List (List ℕ)) → Finds (IsClassLine words)
-class_line_found [] = inr (λ l t. no_words _ _ t.spelled)
-class_line_found (first ∷ rest) =
-    elim (word_cases first (codes "class")) [
-      | inr e ↦ inr (λ l t. e (head_of t.spelled))
-      | inl e ↦ elim (three_of rest) [
-        | inr none ↦ inr (λ l t. none t.flags_text t.name_text t.super_text (tail_of t.spelled))
-        | inl s ↦ class_line_of (first ∷ rest) first rest refl e s
-      ]
-    ]
-
-no_kind : (word : List ℕ) → (word ≡ codes "field" → ⊥) → (word ≡ codes "method" → ⊥) → (word ≡ codes "imethod" → ⊥) → (k : MemberKind) → word ≡ kind_word k → ⊥
-no_kind word a b c kinds.Field e = a e
-no_kind word a b c kinds.Method e = b e
-no_kind word a b c kinds.InterfaceMethod e = c e
-
-kind_found : (word : List ℕ) → Finds (λ (k : MemberKind). word ≡ kind_word k)
-kind_found word = elim (word_cases word (codes "field")) [
-  | inl e ↦ inl (kinds.Field, e)
-  | inr a ↦ elim (word_cases word (codes "method")) [
-    | inl e ↦ inl (kinds.Method, e)
-    | inr b ↦ elim (word_cases word (codes "imethod")) [ inl e ↦ inl (kinds.InterfaceMethod, e) | inr c ↦ inr (no_kind word a b c) ]
   ]
 ]
 
-nothing_asked : (i : Item) → Refers [] i → ⊥
-nothing_asked (Text text) t = t
-nothing_asked (Integer n) t = no_words _ _ t.spelled
-nothing_asked (Class n) t = no_words _ _ t.spelled
-nothing_asked (NameAndType n d) t = t
-nothing_asked (Member k m) t = no_words _ _ t.spelled
-
-nothing_said : (s : Statement) → Says [] s → ⊥
-nothing_said (Implements n) t = no_words _ _ t.spelled
-nothing_said (Field l) t = no_words _ _ t.spelled
-nothing_said (Method l) t = no_words _ _ t.spelled
-nothing_said (Ref i) t = no_words _ _ t.spelled
-
-item_found : (words : List (List ℕ)) → Finds (Refers words)
-item_found [] = inr nothing_asked
-item_found (first ∷ rest) =
-    elim (word_cases first (codes "class")) [
-      | inl e ↦ elim (word_found rest) [
-        | inl n ↦ inl (Class n.0, record { rest = rest; spelled = begins_so first (codes "class") rest e; behind = n.1 })
-        | inr none ↦ inr (no_ref_class (first ∷ rest) rest (begins_so first (codes "class") rest e) none)
-      ]
-      | inr a ↦ elim (word_cases first (codes "int")) [
-        | inl e ↦ elim (integer_found rest) [
-          | inl n ↦ inl (Integer n.0, record { rest = rest; spelled = begins_so first (codes "int") rest e; behind = n.1 })
-          | inr none ↦ inr (no_ref_int (first ∷ rest) rest (begins_so first (codes "int") rest e) none)
-        ]
-        | inr b ↦ elim (kind_found first) [
-          | inr none ↦ inr (no_ref_kind (first ∷ rest) rest first refl a b none)
-          | inl k ↦ elim (member_name_found rest) [
-            | inl m ↦ inl (Member k.0 m.0, record { rest = rest; spelled = begins_so first (kind_word k.0) rest k.1; behind = m.1 })
-            | inr none ↦ inr (no_ref_member (first ∷ rest) rest first refl a b none)
-          ]
-        ]
-      ]
-    ]
+-- words that say nothing of any kind say nothing
+no_statement : (words : List (List ℕ)) → NoneOf (λ n. Says words (Implements n)) → NoneOf (λ l. Says words (Field l)) → NoneOf (λ l. Says words (Method l)) → NoneOf (λ i. Says words (Ref i)) → NoneOf (Says words)
+no_statement words a b c d (Implements n) t = a n t
+no_statement words a b c d (Field l) t = b l t
+no_statement words a b c d (Method l) t = c l t
+no_statement words a b c d (Ref i) t = d i t
 
 statement_found : (words : List (List ℕ)) → Finds (Says words)
-statement_found [] = inr nothing_said
-statement_found (first ∷ rest) =
-    elim (word_cases first (codes "implements")) [
-      | inl e ↦ elim (word_found rest) [
-        | inl n ↦ inl (Implements n.0, record { rest = rest; spelled = begins_so first (codes "implements") rest e; behind = n.1 })
-        | inr none ↦ inr (no_implements (first ∷ rest) rest (begins_so first (codes "implements") rest e) none)
-      ]
-      | inr a ↦ elim (word_cases first (codes "field")) [
-        | inl e ↦ elim (member_line_found rest) [
-          | inl l ↦ inl (Field l.0, record { rest = rest; spelled = begins_so first (codes "field") rest e; behind = l.1 })
-          | inr none ↦ inr (no_field (first ∷ rest) rest (begins_so first (codes "field") rest e) none)
-        ]
-        | inr b ↦ elim (word_cases first (codes "method")) [
-          | inl e ↦ elim (member_line_found rest) [
-            | inl l ↦ inl (Method l.0, record { rest = rest; spelled = begins_so first (codes "method") rest e; behind = l.1 })
-            | inr none ↦ inr (no_method (first ∷ rest) rest (begins_so first (codes "method") rest e) none)
-          ]
-          | inr c ↦ elim (word_cases first (codes "ref")) [
-            | inl e ↦ elim (item_found rest) [
-              | inl i ↦ inl (Ref i.0, record { rest = rest; spelled = begins_so first (codes "ref") rest e; behind = i.1 })
-              | inr none ↦ inr (no_ref (first ∷ rest) rest (begins_so first (codes "ref") rest e) none)
-            ]
-            | inr d ↦ inr (no_keyword (first ∷ rest) rest first refl a b c d)
-          ]
-        ]
+statement_found words = elim (begun_found IsName (codes "implements") word_found words) [
+  | inl n ↦ inl (Implements n.0, n.1)
+  | inr a ↦ elim (begun_found IsMemberLine (codes "field") member_line_found words) [
+    | inl l ↦ inl (Field l.0, l.1)
+    | inr b ↦ elim (begun_found IsMemberLine (codes "method") member_line_found words) [
+      | inl l ↦ inl (Method l.0, l.1)
+      | inr c ↦ elim (begun_found Refers (codes "ref") item_found words) [
+        | inl i ↦ inl (Ref i.0, i.1)
+        | inr d ↦ inr (no_statement words a b c d)
       ]
     ]
+  ]
+]
 
 -- ---- what the lines of a text say
 

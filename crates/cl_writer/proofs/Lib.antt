@@ -8,3 +8,4 @@ pub mod Printed
 pub mod Rows
 pub mod Standing
 pub mod Wanted
+pub mod Words

@@ -80,75 +80,59 @@ letters [] = 0
 pub other : {P : List (List ℕ) → Type 0} (keyword word : List ℕ) {words rest : List (List ℕ)} → words ≡ word ∷ rest → (keyword ≡ word → ⊥) → Begins keyword words P → ⊥
 other keyword word e differ t = differ (head_of (sym t.spelled ∙ e))
 
+-- what stands behind the keyword
+pub behind : {P : List (List ℕ) → Type 0} {keyword word : List ℕ} {words rest : List (List ℕ)} → words ≡ word ∷ rest → Begins keyword words P → P rest
+behind {P = P} e t = subst P (tail_of (sym t.spelled ∙ e)) t.behind
+
 -- keywords differ
 pub differs : (a b : List ℕ) → (letters a ≡ letters b → ⊥) → a ≡ b → ⊥
 differs a b d e = d (ap letters e)
 
+pub no_member_word : (k : MemberKind) → (codes "int" ≡ kind_word k → ⊥) × (codes "class" ≡ kind_word k → ⊥)
+unfolding letters
+no_member_word kinds.Field = (differs _ _ (λ h. absurd (omega arith)), differs _ _ (λ h. absurd (omega arith)))
+no_member_word kinds.Method = (differs _ _ (λ h. absurd (omega arith)), differs _ _ (λ h. absurd (omega arith)))
+no_member_word kinds.InterfaceMethod = (differs _ _ (λ h. absurd (omega arith)), differs _ _ (λ h. absurd (omega arith)))
+
 pub no_implements : (words rest : List (List ℕ)) → words ≡ codes "implements" ∷ rest → ((n : List ℕ) → IsName rest n → ⊥) → (s : Statement) → Says words s → ⊥
 unfolding letters
-no_implements words rest e none (Implements n) t = none n (subst (λ ws. IsName ws n) (tail_of (sym t.spelled ∙ e)) t.behind)
-no_implements words rest e none (Field l) t = other (codes "field") (codes "implements") e (differs _ _ (λ h. absurd (omega arith))) t
-no_implements words rest e none (Method l) t = other (codes "method") (codes "implements") e (differs _ _ (λ h. absurd (omega arith))) t
-no_implements words rest e none (Ref i) t = other (codes "ref") (codes "implements") e (differs _ _ (λ h. absurd (omega arith))) t
+no_implements words rest e none (Implements n) t = none n (behind e t)
+no_implements words rest e none s t = other _ _ e (differs _ _ (λ h. absurd (omega arith))) t
 
 pub no_field : (words rest : List (List ℕ)) → words ≡ codes "field" ∷ rest → ((l : MemberLine) → IsMemberLine rest l → ⊥) → (s : Statement) → Says words s → ⊥
 unfolding letters
-no_field words rest e none (Implements n) t = other (codes "implements") (codes "field") e (differs _ _ (λ h. absurd (omega arith))) t
-no_field words rest e none (Field l) t = none l (subst (λ ws. IsMemberLine ws l) (tail_of (sym t.spelled ∙ e)) t.behind)
-no_field words rest e none (Method l) t = other (codes "method") (codes "field") e (differs _ _ (λ h. absurd (omega arith))) t
-no_field words rest e none (Ref i) t = other (codes "ref") (codes "field") e (differs _ _ (λ h. absurd (omega arith))) t
+no_field words rest e none (Field l) t = none l (behind e t)
+no_field words rest e none s t = other _ _ e (differs _ _ (λ h. absurd (omega arith))) t
 
 pub no_method : (words rest : List (List ℕ)) → words ≡ codes "method" ∷ rest → ((l : MemberLine) → IsMemberLine rest l → ⊥) → (s : Statement) → Says words s → ⊥
 unfolding letters
-no_method words rest e none (Implements n) t = other (codes "implements") (codes "method") e (differs _ _ (λ h. absurd (omega arith))) t
-no_method words rest e none (Field l) t = other (codes "field") (codes "method") e (differs _ _ (λ h. absurd (omega arith))) t
-no_method words rest e none (Method l) t = none l (subst (λ ws. IsMemberLine ws l) (tail_of (sym t.spelled ∙ e)) t.behind)
-no_method words rest e none (Ref i) t = other (codes "ref") (codes "method") e (differs _ _ (λ h. absurd (omega arith))) t
+no_method words rest e none (Method l) t = none l (behind e t)
+no_method words rest e none s t = other _ _ e (differs _ _ (λ h. absurd (omega arith))) t
 
 pub no_ref : (words rest : List (List ℕ)) → words ≡ codes "ref" ∷ rest → ((i : Item) → Refers rest i → ⊥) → (s : Statement) → Says words s → ⊥
 unfolding letters
-no_ref words rest e none (Implements n) t = other (codes "implements") (codes "ref") e (differs _ _ (λ h. absurd (omega arith))) t
-no_ref words rest e none (Field l) t = other (codes "field") (codes "ref") e (differs _ _ (λ h. absurd (omega arith))) t
-no_ref words rest e none (Method l) t = other (codes "method") (codes "ref") e (differs _ _ (λ h. absurd (omega arith))) t
-no_ref words rest e none (Ref i) t = none i (subst (λ ws. Refers ws i) (tail_of (sym t.spelled ∙ e)) t.behind)
-
-pub no_keyword : (words rest : List (List ℕ)) (first : List ℕ) → words ≡ first ∷ rest → (first ≡ codes "implements" → ⊥) → (first ≡ codes "field" → ⊥) → (first ≡ codes "method" → ⊥) → (first ≡ codes "ref" → ⊥)
-    → (s : Statement) → Says words s → ⊥
-no_keyword words rest first e a b c d (Implements n) t = other (codes "implements") first e (λ h. a (sym h)) t
-no_keyword words rest first e a b c d (Field l) t = other (codes "field") first e (λ h. b (sym h)) t
-no_keyword words rest first e a b c d (Method l) t = other (codes "method") first e (λ h. c (sym h)) t
-no_keyword words rest first e a b c d (Ref i) t = other (codes "ref") first e (λ h. d (sym h)) t
+no_ref words rest e none (Ref i) t = none i (behind e t)
+no_ref words rest e none s t = other _ _ e (differs _ _ (λ h. absurd (omega arith))) t
 
 pub no_ref_class : (words rest : List (List ℕ)) → words ≡ codes "class" ∷ rest → ((n : List ℕ) → IsName rest n → ⊥) → (i : Item) → Refers words i → ⊥
 unfolding letters
+no_ref_class words rest e none (Class n) t = none n (behind e t)
 no_ref_class words rest e none (Text text) t = t
-no_ref_class words rest e none (Integer n) t = other (codes "int") (codes "class") e (differs _ _ (λ h. absurd (omega arith))) t
-no_ref_class words rest e none (Class n) t = none n (subst (λ ws. IsName ws n) (tail_of (sym t.spelled ∙ e)) t.behind)
 no_ref_class words rest e none (NameAndType n d) t = t
-no_ref_class words rest e none (Member kinds.Field m) t = other (codes "field") (codes "class") e (differs _ _ (λ h. absurd (omega arith))) t
-no_ref_class words rest e none (Member kinds.Method m) t = other (codes "method") (codes "class") e (differs _ _ (λ h. absurd (omega arith))) t
-no_ref_class words rest e none (Member kinds.InterfaceMethod m) t = other (codes "imethod") (codes "class") e (differs _ _ (λ h. absurd (omega arith))) t
+no_ref_class words rest e none (Member k m) t = other (kind_word k) _ e (λ h. (no_member_word k).1 (sym h)) t
+no_ref_class words rest e none (Integer n) t = other _ _ e (differs _ _ (λ h. absurd (omega arith))) t
 
 pub no_ref_int : (words rest : List (List ℕ)) → words ≡ codes "int" ∷ rest → ((n : ℤ) → IsInteger rest n → ⊥) → (i : Item) → Refers words i → ⊥
 unfolding letters
+no_ref_int words rest e none (Integer n) t = none n (behind e t)
 no_ref_int words rest e none (Text text) t = t
-no_ref_int words rest e none (Integer n) t = none n (subst (λ ws. IsInteger ws n) (tail_of (sym t.spelled ∙ e)) t.behind)
-no_ref_int words rest e none (Class n) t = other (codes "class") (codes "int") e (differs _ _ (λ h. absurd (omega arith))) t
 no_ref_int words rest e none (NameAndType n d) t = t
-no_ref_int words rest e none (Member kinds.Field m) t = other (codes "field") (codes "int") e (differs _ _ (λ h. absurd (omega arith))) t
-no_ref_int words rest e none (Member kinds.Method m) t = other (codes "method") (codes "int") e (differs _ _ (λ h. absurd (omega arith))) t
-no_ref_int words rest e none (Member kinds.InterfaceMethod m) t = other (codes "imethod") (codes "int") e (differs _ _ (λ h. absurd (omega arith))) t
-
-pub no_ref_kind : (words rest : List (List ℕ)) (first : List ℕ) → words ≡ first ∷ rest → (first ≡ codes "class" → ⊥) → (first ≡ codes "int" → ⊥) → ((k : MemberKind) → first ≡ kind_word k → ⊥) → (i : Item) → Refers words i → ⊥
-no_ref_kind words rest first e a b none (Text text) t = t
-no_ref_kind words rest first e a b none (Integer n) t = other (codes "int") first e (λ h. b (sym h)) t
-no_ref_kind words rest first e a b none (Class n) t = other (codes "class") first e (λ h. a (sym h)) t
-no_ref_kind words rest first e a b none (NameAndType n d) t = t
-no_ref_kind words rest first e a b none (Member k m) t = other (kind_word k) first e (λ h. none k (sym h)) t
+no_ref_int words rest e none (Member k m) t = other (kind_word k) _ e (λ h. (no_member_word k).0 (sym h)) t
+no_ref_int words rest e none (Class n) t = other _ _ e (differs _ _ (λ h. absurd (omega arith))) t
 
 pub no_ref_member : (words rest : List (List ℕ)) (first : List ℕ) → words ≡ first ∷ rest → (first ≡ codes "class" → ⊥) → (first ≡ codes "int" → ⊥) → ((m : MemberName) → IsMemberName rest m → ⊥) → (i : Item) → Refers words i → ⊥
 no_ref_member words rest first e a b none (Text text) t = t
 no_ref_member words rest first e a b none (Integer n) t = other (codes "int") first e (λ h. b (sym h)) t
 no_ref_member words rest first e a b none (Class n) t = other (codes "class") first e (λ h. a (sym h)) t
 no_ref_member words rest first e a b none (NameAndType n d) t = t
-no_ref_member words rest first e a b none (Member k m) t = none m (subst (λ ws. IsMemberName ws m) (tail_of (sym t.spelled ∙ e)) t.behind)
+no_ref_member words rest first e a b none (Member k m) t = none m (behind e t)

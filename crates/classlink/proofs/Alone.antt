@@ -11,7 +11,7 @@ use Rattle.cl_writer.specs.declared.fault.AssembleFault.TheVariants as assembler
 use Rattle.cl_writer.specs.Faults.{assemble_text}
 use Rattle.cl_writer.proofs.Alone.{one_answer}
 use Rattle.classlink.specs.Sections.{Part}
-use Rattle.classlink.specs.Contents.{ContentOf, IsRefused, IsSpelt, IsTooLong, TextWritten, Written, hex_written, is_hex, stated}
+use Rattle.classlink.specs.Contents.{ContentOf, IsRefused, IsSpelledBy, IsTooLong, TextWritten, Written, hex_written, is_hex, stated}
 use Rattle.classlink.specs.Bundles.{AllTell, FirstWrong, StoredAs, StoredBy, StoredOf}
 use Rattle.classlink.specs.Faults.{SameAnswer, SameFault, fault_text}
 use Rattle.classlink.specs.declared.fault.Fault.{Fault}
@@ -59,12 +59,12 @@ refused_is lines (assembler.Invalid f) w = (w, λ e. absurd cc)
 told : (f : AssembleFault) (r : Result Structure AssembleFault) → f ≢ assembler.Memory → r ≡ Err f → r ≢ Err assembler.Memory
 told f r some e = λ h. some (err_is f assembler.Memory r e h)
 
-one_spelt : (lines : List Numbered) (a b : List ℕ) → IsSpelt lines a → IsSpelt lines b → a ≡ b
+one_spelt : (lines : List Numbered) (a b : List ℕ) → IsSpelledBy lines a → IsSpelledBy lines b → a ≡ b
 one_spelt lines a b v w =
     let same = one_answer lines (Ok v.file) (Ok w.file) v.assembled w.assembled (λ e. not_both v.file assembler.Memory (Ok v.file) refl e) (λ e. not_both w.file assembler.Memory (Ok w.file) refl e) in
     v.spelled.spelled ∙ ap spelling (ok_is v.file w.file (Ok v.file) refl same) ∙ sym w.spelled.spelled
 
-spelt_or_refused : (lines : List Numbered) (a : List ℕ) (f : AssembleFault) → IsSpelt lines a → IsRefused lines f → ⊥
+spelt_or_refused : (lines : List Numbered) (a : List ℕ) (f : AssembleFault) → IsSpelledBy lines a → IsRefused lines f → ⊥
 spelt_or_refused lines a f v w =
     let r = refused_is lines f w in
     not_both v.file f (Ok v.file) refl (one_answer lines (Ok v.file) (Err f) v.assembled r.0 (λ e. not_both v.file assembler.Memory (Ok v.file) refl e) (told f (Err f) r.1 refl))

@@ -1,11 +1,10 @@
 -- A bundle's lines, cut off one by one.
 use Rattle.std.proofs.Common.{◌≡◌, ◌⊎◌, ℕ, ◌+◌, ◌<◌, ◌≤◌, Bool, true, false, not, if◌then◌else◌, ◌==◌, List, [], ◌∷◌, ◌++◌, length, Some, Result, Ok, Err, refl, sym, ap, ◌∙◌, arith, inl, inr, append-nil, append_assoc, subst, IsErrAnd, Bor}
 use Rattle.std.specs.List.{slice_split, join_with_byte, position_or_len, before_first, after_first}
-use Rattle.std.proofs.lemmas.Bool.{cases_lt}
 use Rattle.std.proofs.lemmas.Grind.{common_steps}
 use Rattle.std.proofs.lemmas.List.{append_cancel_right, length-drop}
-use Rattle.std.proofs.lemmas.List.Splits.{slice_split_first, slice_split_none, length-slice_split, join_with_byte-slice_split}
-use Rattle.std.proofs.lemmas.List.Sums.{fails_before_first, prefix_len-le-length}
+use Rattle.std.proofs.lemmas.List.Splits.{length-slice_split, join_with_byte-slice_split}
+use Rattle.cl_lines.proofs.LineCuts.{first_part}
 use Rattle.cl_registry.specs.Lines.{CutsLine, Numbered, is_skipped, words_of}
 use Rattle.classlink.specs.Sections.{Heading, InnerLine, ClassLine, ScriptLine, WrongLine, Cut, Part, Parts, add_class, add_line, behind_line, cut_from, cut_of, heading_of, is_config, lines_in, parts_from, with_config}
 use Rattle.classlink.specs.Cuts.{CutOf, HasNumber, IsWrongLine, SectionLineOf, cuts_of, add_front, ended_by, heading_from, parts_of}
@@ -22,29 +21,6 @@ pub record IsInBody (start : List ℕ) (old new : Numbered) : Type 0 where
   pub parts : parts_of old ≡ add_front front (parts_of new)
   pub less : length new.text ≤ length old.text
 
-module _ (p : ℕ → Bool) (xs : List ℕ) where
-  -- an element passes, or the whole list is one part
-  cut_or_whole : (position_or_len p xs < length xs) ⊎ (position_or_len p xs ≡ length xs)
-  cut_or_whole = elim (cases_lt (position_or_len p xs) (length xs)) [ inl l ↦ inl l | inr l ↦ let bound = prefix_len-le-length (λ x. not (p x)) xs in inr (omega arith) ]
-
-  whole_part : position_or_len p xs ≡ length xs → slice_split p xs ≡ xs ∷ []
-  whole_part e = slice_split_none p xs (λ k d m. let fails = fails_before_first p xs k d (omega arith) in grind (arith, common_steps))
-
-  whole_before : position_or_len p xs ≡ length xs → before_first p xs ≡ xs
-  whole_before e = grind (arith, common_steps)
-
-  nothing_after : position_or_len p xs ≡ length xs → after_first p xs ≡ []
-  nothing_after e = grind (arith, common_steps)
-
--- the lines of a text are its first one and those of what follows it, or it is one line, followed by none
-pub first_of_lines : (text : List ℕ) → (lines_in text ≡ before_first (λ b. b == 10) text ∷ lines_in (after_first (λ b. b == 10) text)) ⊎ ((lines_in text ≡ text ∷ []) × (before_first (λ b. b == 10) text ≡ text) × (after_first (λ b. b == 10) text ≡ []))
-first_of_lines text =
-    let p = λ (b : ℕ). b == 10 in
-    elim (cut_or_whole p text) [
-      | inl l ↦ inl (slice_split_first p text 0 l)
-      | inr e ↦ inr (whole_part p text e, whole_before p text e, nothing_after p text e)
-    ]
-
 -- no line, behind the last, is the same as an empty one
 none_behind : (h : Heading) (n : ℕ) (line rest : List ℕ) → behind_line h n line rest (Err 0) ≡ behind_line h n line rest (parts_from (n + 1) (lines_in []))
 none_behind InnerLine n line rest = refl
@@ -55,7 +31,7 @@ none_behind WrongLine n line rest = refl
 pub parts_of_line : (n : ℕ) (text line rest : List ℕ) → line ≡ before_first (λ b. b == 10) text → rest ≡ after_first (λ b. b == 10) text
     → parts_from n (lines_in text) ≡ behind_line (heading_of (words_of line)) n line rest (parts_from (n + 1) (lines_in rest))
 parts_of_line n text line rest before after =
-    elim (first_of_lines text) [
+    elim (first_part (λ (b : ℕ). b == 10) text) [
       | inl e ↦ rw (before, after, e) (rw (join_with_byte-slice_split 10 (after_first (λ b. b == 10) text)) refl)
       | inr e ↦ rw (before, after, e.2, e.1, e.0) (none_behind (heading_of (words_of text)) n text [])
     ]
@@ -68,7 +44,7 @@ join_more line (next ∷ lines) h = refl
 pub text_of_line : (text line rest : List ℕ) → line ≡ before_first (λ b. b == 10) text → rest ≡ after_first (λ b. b == 10) text
     → (text ≡ line ++ 10 ∷ rest) ⊎ (rest ≡ [])
 text_of_line text line rest before after =
-    elim (first_of_lines text) [
+    elim (first_part (λ (b : ℕ). b == 10) text) [
       | inl e ↦ inl (rw (before, after) (whole e))
       | inr e ↦ inr (after ∙ e.2)
     ]
@@ -137,7 +113,7 @@ after_line n line cuts parts = if is_skipped line then cuts else if is_config (w
 pub cuts_of_line : (n : ℕ) (text line rest : List ℕ) → line ≡ before_first (λ b. b == 10) text → rest ≡ after_first (λ b. b == 10) text
     → cut_from n (lines_in text) ≡ after_line n line (cut_from (n + 1) (lines_in rest)) (parts_from (n + 1) (lines_in rest))
 cuts_of_line n text line rest before after =
-    elim (first_of_lines text) [
+    elim (first_part (λ (b : ℕ). b == 10) text) [
       | inl e ↦ rw (before, after, e) refl
       | inr e ↦ rw (before, after, e.2, e.1, e.0) refl
     ]

@@ -19,7 +19,7 @@ use Rattle.clap.specs.declared.parser.matches.Found.{Found}
 use Rattle.clap.specs.declared.parser.matches.SubCommand.{SubCommand}
 use Rattle.clap.proofs.OnLiterals.{clap_on_literals}
 use Rattle.clap.proofs.WalkLemmas.{first_value-rows, one_text-rows}
-use Rattle.classlink.specs.CommandLine.{AskFor, AskToRead, HasFlag, IsAsked, IsBundle, IsRead, IsToRead, file_of, is_plain_word, program, words_for, wrong_words}
+use Rattle.classlink.specs.CommandLine.{AskFor, AskToRead, HasFlag, IsAsked, AsksForBundle, AsksForFile, IsToRead, file_of, is_plain_word, program, words_for, wrong_words}
 use Rattle.classlink.specs.declared.words.Asked.{Asked}
 use Rattle.classlink.specs.declared.words.Asked.TheVariants.{Bundle, Read}
 
@@ -76,40 +76,26 @@ not_true : (b : Bool) → not b ≡ true → b ≡ false
 not_true true e = cc
 not_true false e = refl
 
-no_long : (path : Text) → is_plain_word path ≡ true → long_of path ≡ None
-no_long [] p = refl
-no_long (c ∷ []) p = one (c == 45) refl
-  where
-    one : (b : Bool) → (c == 45) ≡ b → long_of (c ∷ []) ≡ None
-    one true t = rw t refl
-    one false t = rw t refl
-no_long (c ∷ d ∷ rest) p = let t = not_true (c == 45) p in rw t refl
+-- no test for a flag takes it for one
+abbrev IsNoFlag : Text → Type 0
+IsNoFlag path = (bytes_eq path (45 ∷ 45 ∷ []) ≡ false) × (long_of path ≡ None) × (short_of path ≡ None)
 
-no_short : (path : Text) → is_plain_word path ≡ true → short_of path ≡ None
-no_short [] p = refl
-no_short (c ∷ []) p = one (c == 45) refl
+no_flag : (path : Text) → is_plain_word path ≡ true → IsNoFlag path
+no_flag [] p = (refl, refl, refl)
+no_flag (c ∷ []) p = one (c == 45) refl
   where
-    one : (b : Bool) → (c == 45) ≡ b → short_of (c ∷ []) ≡ None
-    one true t = rw t refl
-    one false t = rw t refl
-no_short (c ∷ d ∷ rest) p = let t = not_true (c == 45) p in rw t refl
+    one : (b : Bool) → (c == 45) ≡ b → IsNoFlag (c ∷ [])
+    one true t = rw t (refl, refl, refl)
+    one false t = rw t (refl, refl, refl)
+no_flag (c ∷ d ∷ rest) p = let t = not_true (c == 45) p in rw t (refl, refl, refl)
 
-no_dashes : (path : Text) → is_plain_word path ≡ true → bytes_eq path (45 ∷ 45 ∷ []) ≡ false
-no_dashes [] p = refl
-no_dashes (c ∷ []) p = one (c == 45) refl
-  where
-    one : (b : Bool) → (c == 45) ≡ b → bytes_eq (c ∷ []) (45 ∷ 45 ∷ []) ≡ false
-    one true t = rw t refl
-    one false t = rw t refl
-no_dashes (c ∷ d ∷ rest) p = let t = not_true (c == 45) p in rw t refl
-
-word_passes : (path : Text) → bytes_eq path (45 ∷ 45 ∷ []) ≡ false → long_of path ≡ None → short_of path ≡ None → Passes (to_read path)
+plain_passes : (path : Text) → IsNoFlag path → Passes (to_read path)
 unfolding clap_on_literals
-word_passes path p q r = rw (p, q, r) refl
+plain_passes path none = rw (none.0, none.1, none.2) refl
 
-word_found : (path : Text) → bytes_eq path (45 ∷ 45 ∷ []) ≡ false → long_of path ≡ None → short_of path ≡ None → Finds path (to_read path)
+plain_found : (path : Text) → IsNoFlag path → Finds path (to_read path)
 unfolding clap_on_literals
-word_found path p q r = rw (p, q, r) (refl, refl)
+plain_found path none = rw (none.0, none.1, none.2) (refl, refl)
 
 behind_passes : (path : Text) → Passes (to_read_behind path)
 unfolding clap_on_literals
@@ -119,19 +105,13 @@ behind_found : (path : Text) → Finds path (to_read_behind path)
 unfolding clap_on_literals
 behind_found path = (refl, refl)
 
-plain_passes : (path : Text) → is_plain_word path ≡ true → Passes (to_read path)
-plain_passes path p = word_passes path (no_dashes path p) (no_long path p) (no_short path p)
-
-plain_found : (path : Text) → is_plain_word path ≡ true → Finds path (to_read path)
-plain_found path p = word_found path (no_dashes path p) (no_long path p) (no_short path p)
-
 pub takes_path : (words : List Text) (path : Text) → AskToRead words path → wrong_words words ≡ []
 unfolding wrong_words
-takes_path words path (inl p) = ap (built_fault (built program) nothing_held) p.0 ∙ plain_passes path p.1
+takes_path words path (inl p) = ap (built_fault (built program) nothing_held) p.0 ∙ plain_passes path (no_flag path p.1)
 takes_path words path (inr p) = ap (built_fault (built program) nothing_held) p ∙ behind_passes path
 
 found_path : (words : List Text) (path : Text) → AskToRead words path → Finds path (drop 1 words)
-found_path words path (inl p) = subst (Finds path) (sym p.0) (plain_found path p.1)
+found_path words path (inl p) = subst (Finds path) (sym p.0) (plain_found path (no_flag path p.1))
 found_path words path (inr p) = subst (Finds path) (sym p) (behind_found path)
 
 -- what is asked for by these words
@@ -141,11 +121,11 @@ unfolding clap_on_literals
 bundle_entered false = λ e. cc
 bundle_entered true = λ e. cc
 
-pub bundle_asked : (words : List Text) (answers : Bool) (a : Asked) → AskFor words answers → IsAsked (subcommand_of program words) a → IsBundle answers a
+pub bundle_asked : (words : List Text) (answers : Bool) (a : Asked) → AskFor words answers → IsAsked (subcommand_of program words) a → AsksForBundle answers a
 bundle_asked words answers (Bundle b) ask is = is.1 answers (flag_of_words words answers ask)
 bundle_asked words answers (Read path) ask is = absurd (bundle_entered answers (subst (λ (ws : List Text). IsToRead (entered_at ws)) ask is.0))
 
-pub path_asked : (words : List Text) (path : Text) (a : Asked) → AskToRead words path → IsAsked (subcommand_of program words) a → IsRead path a
+pub path_asked : (words : List Text) (path : Text) (a : Asked) → AskToRead words path → IsAsked (subcommand_of program words) a → AsksForFile path a
 path_asked words path (Bundle b) ask is = absurd (is.0 (found_path words path ask).0)
 path_asked words path (Read at) ask is = sym is.1 ∙ (found_path words path ask).1
 
@@ -197,7 +177,7 @@ flag_read f read false by_true by_false e = by_false e
 
 -- ---- a parse that fails
 
-memory_alone : (kinds : Kinds) (e : Error) → kinds ≡ [] → HasKind kinds e → kind_of e ≡ OutOfMemory
+pub memory_alone : (kinds : Kinds) (e : Error) → kinds ≡ [] → HasKind kinds e → kind_of e ≡ OutOfMemory
 memory_alone [] e k (inl m) = m
 memory_alone [] e k (inr a) = absurd a
 memory_alone (x ∷ xs) e k h = absurd cc

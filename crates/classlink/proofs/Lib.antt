@@ -1,5 +1,6 @@
 pub mod Cutting
 pub mod Digits
+pub mod Ending
 pub mod Flags
 pub mod Headings
 pub mod Listing
@@ -8,5 +9,4 @@ pub mod Running
 pub mod Storing
 pub mod Written
 pub mod Alone
-pub mod Asked
 pub mod OneReading

@@ -5,6 +5,7 @@ use Rattle.cl_model.specs.Content.{Content, content_at}
 use Rattle.cl_registry.specs.Views.{Configured, Scripted}
 use Rattle.cl_registry.specs.Configs.{ConfigOf}
 use Rattle.cl_registry.specs.Scripts.{script_of}
+use Rattle.cl_registry.proofs.Asked.{one_scripted, script_has_one_fault, script_or_its_fault}
 use Rattle.cl_registry.specs.declared.config.ConfigFault.TheVariants.{BadLoader}
 use Rattle.cl_registry.specs.declared.script.ScriptFault.{ScriptFault}
 use Rattle.cl_registry.specs.declared.script.ScriptFault.TheVariants as scripts
@@ -14,7 +15,6 @@ use Rattle.classlink.specs.Faults.{SameFault, script_fault}
 use Rattle.classlink.specs.declared.fault.Fault.{Fault}
 use Rattle.classlink.specs.declared.fault.Fault.TheVariants.{Bundle, Memory}
 use Rattle.classlink.proofs.Alone.{one_told, one_wrong, same_faults, told_or_wrong}
-use Rattle.classlink.proofs.Asked.{one_script_fault, one_scripted, script_or_fault}
 
 -- ---- sections and configuration
 
@@ -90,7 +90,7 @@ bundle_or_fault text c a s f v (WrongConfig cut e wrong is) some = config_or_fau
 bundle_or_fault text c a s f v (WrongClass cut config e k wrong) some =
     tells_or_wrong text v.cut cut c config v.told f (record { sections = v.sections; configuration = v.configuration }) (record { sections = e; configuration = k }) v.classes wrong
 bundle_or_fault text c a s f v (WrongScript cut config told fault e k tell wrong is) some =
-    script_or_fault config.names cut.script s fault
+    script_or_its_fault config.names cut.script s fault
     (script_at text v.cut cut c config (Ok s) (record { sections = v.sections; configuration = v.configuration }) (record { sections = e; configuration = k }) v.requests)
     wrong (told_fault f fault is some)
 
@@ -115,4 +115,4 @@ one_fault text f g (WrongScript cut config told fault e j tell bad is) (WrongCla
     absurd (tells_or_wrong text cut cut2 config config2 told g (record { sections = e; configuration = j }) (record { sections = h; configuration = k }) tell wrong)
 one_fault text f g (WrongScript cut config told fault e j tell bad is) (WrongScript cut2 config2 told2 fault2 h k tell2 wrong so) some other =
     let here = script_at text cut cut2 config config2 (Err fault) (record { sections = e; configuration = j }) (record { sections = h; configuration = k }) bad in
-    same_faults f g (is ∙ ap script_fault (one_script_fault config2.names cut2.script fault fault2 here wrong (told_fault f fault is some) (told_fault g fault2 so other)) ∙ sym so)
+    same_faults f g (is ∙ ap script_fault (script_has_one_fault config2.names cut2.script fault fault2 here wrong (told_fault f fault is some) (told_fault g fault2 so other)) ∙ sym so)

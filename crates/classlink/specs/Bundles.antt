@@ -47,11 +47,11 @@ FirstWrong names before (part ∷ parts) fault =
 
 -- ---- the whole
 
--- each loader has the same bytes for each name
+-- each loader has the same bytes for each name (own choice)
 abbrev pub TellsSame : Content → Content → Type 0
 TellsSame a b = (loader : ℕ) (name : List ℕ) → content_at a loader name ≡ content_at b loader name
 
--- the sections are in order, and each part is well formed
+-- the text is a bundle: its sections are in order, and each part is well formed (own choice)
 pub record IsBundle (text : List ℕ) (config : Configured) (content : Content) (script : Scripted) : Type 0 where
   pub cut : Cut
   pub told : Content
@@ -61,7 +61,7 @@ pub record IsBundle (text : List ℕ) (config : Configured) (content : Content) 
   pub content_is : TellsSame content told
   pub requests : script_of config.names cut.script (Ok script)
 
--- the first thing that is wrong with a text, with the fault that tells of it
+-- the first thing that is wrong with a text, with the fault that tells of it (own choice)
 pub data IsNoBundle (text : List ℕ) (fault : Fault) : Type 0 where
   WrongLine : (n : ℕ) → cut_of text ≡ Err n → fault ≡ Bundle n → IsNoBundle text fault
   WrongConfig : (cut : Cut) → cut_of text ≡ Ok cut → ConfigOf cut.config (Err (BadLoader 0)) → fault ≡ Bundle cut.config_line → IsNoBundle text fault
@@ -69,24 +69,24 @@ pub data IsNoBundle (text : List ℕ) (fault : Fault) : Type 0 where
   WrongScript : (cut : Cut) (config : Configured) (told : Content) (wrong : ScriptFault) → cut_of text ≡ Ok cut → ConfigOf cut.config (Ok config)
       → AllTell config.names [] cut.classes told → script_of config.names cut.script (Err wrong) → fault ≡ script_fault wrong → IsNoBundle text fault
 
--- what reading a text answers
+-- what reading a text answers (own choice)
 abbrev pub BundleOf : List ℕ → Result declared.Bundle Fault → Type 0
 BundleOf text (Ok b) = IsBundle text b.config b.source b.script
 BundleOf text (Err fault) = UnlessMemory fault (IsNoBundle text fault)
 
 -- ---- what the steps of reading one answer
 
--- what reading the configuration answers, whose `%config` stands in this line
+-- what reading the configuration answers, whose `%config` stands in this line (own choice)
 abbrev pub ConfigFaultOf : List ℕ → ℕ → Result Configured Fault → Type 0
 ConfigFaultOf text line (Ok config) = ConfigOf text (Ok config)
 ConfigFaultOf text line (Err fault) = UnlessMemory fault (ConfigOf text (Err (BadLoader 0)) × (fault ≡ Bundle line))
 
--- what putting a class section into a source does
+-- what putting a class section into a source does (own choice)
 abbrev pub PutOf : List (List ℕ) → Part → Content → Result (Unit {0}) Fault → Content → Type 0
 PutOf names part old (Ok x) new = (stored : Stored) × StoredOf names old part (Ok stored) × TellsMore old new stored.loader stored.name stored.bytes
 PutOf names part old (Err fault) new = UnlessMemory fault (StoredOf names old part (Err fault))
 
--- what the class sections give a source
+-- what the class sections give a source (own choice)
 abbrev pub ContentsOf : List (List ℕ) → List Part → Result Content Fault → Type 0
 ContentsOf names parts (Ok content) = (told : Content) × AllTell names [] parts told × TellsSame content told
 ContentsOf names parts (Err fault) = UnlessMemory fault (FirstWrong names [] parts fault)

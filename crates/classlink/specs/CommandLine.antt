@@ -1,108 +1,94 @@
 -- The words that the program takes, as `clap` sees its command.
-use Rattle.std.specs.Prelude.{◌≡◌, ◌⊎◌, ◌≤◌, ◌==◌, ℕ, Bool, true, false, not, List, [], ◌∷◌, codes, Option, Some, option_map, option_and_then, unwrap_or, drop}
+use Rattle.std.specs.Prelude.{◌≡◌, ◌⊎◌, ◌==◌, ℕ, Bool, true, false, not, List, [], ◌∷◌, codes, Option, Some, option_map, option_and_then, unwrap_or, drop}
 use Rattle.clap.specs.Values.{bool_text}
-use Rattle.clap.specs.Words.{App, IsAmong, Kinds, Row, Rule, Text, app_of, fault_of, first_of, new_app, new_rule, one_of, with_rule, with_subcommand}
-use Rattle.clap.specs.declared.error.kind.ErrorKind.{ErrorKind}
-use Rattle.clap.specs.declared.error.kind.ErrorKind.TheVariants as kinds
+use Rattle.clap.specs.Words.{App, Kinds, Row, Rule, Text, app_of, fault_of, first_of, new_app, new_rule, one_of, with_rule, with_subcommand}
 use Rattle.clap.specs.declared.builder.ArgAction.TheVariants.{SetTrue}
 use Rattle.clap.specs.declared.builder.command.Command.{Command}
 use Rattle.clap.specs.declared.builder.command.Command.TheViews.{out-Command}
 use Rattle.classlink.specs.declared.words.Asked.{Asked}
 use Rattle.classlink.specs.declared.words.Asked.TheVariants.{Bundle, Read}
 
--- the flag `--answers`
+-- the flag `--answers` (own choice)
 abbrev pub answers : Rule
 answers = record (new_rule (codes "answers")) { long = Some (codes "answers"); action = Some SetTrue }
 
--- `bundle`, with its flag
+-- `bundle`, with its flag (own choice)
 abbrev pub bundle : App
 bundle = with_rule (new_app (codes "bundle")) answers
 
--- the file that `read` wants
+-- the file that `read` wants (own choice)
 abbrev pub file : Rule
 file = record (new_rule (codes "FILE")) { required = true }
 
--- `read`, with its file
+-- `read`, with its file (own choice)
 abbrev pub reading : App
 reading = with_rule (new_app (codes "read")) file
 
--- one of its subcommands is wanted
+-- the command, with one of its subcommands wanted (own choice)
 abbrev pub with_required : App → App
 with_required a = record a { top = record a.top { subcommand_required = true } }
 
+-- the program before its subcommands are added: one of them is wanted (own choice)
 abbrev pub wanting : App
 wanting = with_required (new_app (codes "classlink"))
 
--- the program
+-- the program: `bundle` or `read` (own choice)
 abbrev pub program : App
 program = with_subcommand (with_subcommand wanting bundle.top) reading.top
 
--- a command is this one, for what is built on it
+-- a command is this one, for what is built on it (own choice)
 abbrev pub IsCommand : App → Command → Type 0
 IsCommand a c = (app_of c ≡ a) × ((out-Command c).has_globals ≡ false)
 
--- what `clap` finds wrong with the words, of which the first is the program's name: nothing, or the kinds of error that it may give
+-- what `clap` finds wrong with the words, of which the first is the program's name: nothing, or the kinds of error that it may give (own choice)
 unfoldable pub wrong_words : List (List ℕ) → Kinds
 wrong_words words = fault_of program words
 
--- the words behind the program's name that ask for a bundle's report, or for its answers alone
+-- the words behind the program's name that ask for a bundle's report, or for its answers alone (own choice)
 abbrev pub words_for : Bool → List (List ℕ)
 words_for false = codes "bundle" ∷ []
 words_for true = codes "bundle" ∷ codes "--answers" ∷ []
 
--- the words, of which the first is the program's name, ask so
+-- the words, of which the first is the program's name, ask so (own choice)
 abbrev pub AskFor : List (List ℕ) → Bool → Type 0
 AskFor words only_answers = drop 1 words ≡ words_for only_answers
 
--- a word that is no flag: it does not begin with a hyphen, or is the hyphen alone
+-- a word that is no flag: it does not begin with a hyphen, or is the hyphen alone (own choice)
 abbrev pub is_plain_word : List ℕ → Bool
 is_plain_word [] = true
 is_plain_word (c ∷ []) = true
 is_plain_word (c ∷ d ∷ rest) = not (c == 45)
 
--- the words, of which the first is the program's name, ask for the lines of the file at a path, which is plain or stands behind `--`
+-- the words, of which the first is the program's name, ask for the lines of the file at a path, which is plain or stands behind `--` (own choice)
 abbrev pub AskToRead : List (List ℕ) → List ℕ → Type 0
 AskToRead words path =
     ((drop 1 words ≡ codes "read" ∷ path ∷ []) × (is_plain_word path ≡ true)) ⊎ (drop 1 words ≡ codes "read" ∷ codes "--" ∷ path ∷ [])
 
 -- ---- what is asked for, by the subcommand that `clap` finds and what it finds for its arguments
 
--- the subcommand is `read`
+-- the subcommand is `read` (own choice)
 abbrev pub IsToRead : Option (Text × List Row) → Type 0
 IsToRead entered = option_map (λ p. p.0) entered ≡ Some (codes "read")
 
--- its file
+-- its file (own choice)
 abbrev pub file_of : Option (Text × List Row) → Text
 file_of entered = unwrap_or (option_and_then (λ p. first_of (codes "FILE") p.1) entered) []
 
--- the flag `--answers` is `true` or `false`
+-- the flag `--answers` is `true` or `false` (own choice)
 abbrev pub HasFlag : Option (Text × List Row) → Bool → Type 0
 HasFlag entered b = option_and_then (λ p. one_of (codes "answers") p.1) entered ≡ Some (bool_text b)
 
--- what is asked for is what `clap` finds
+-- what is asked for is what `clap` finds (own choice)
 abbrev pub IsAsked : Option (Text × List Row) → Asked → Type 0
 IsAsked entered (Bundle answers) = (¬ IsToRead entered) × ((b : Bool) → HasFlag entered b → answers ≡ b)
 IsAsked entered (Read path) = IsToRead entered × (file_of entered ≡ path.now)
 
--- a bundle's report is asked for, or its answers alone
-abbrev pub IsBundle : Bool → Asked → Type 0
-IsBundle only_answers (Bundle answers) = answers ≡ only_answers
-IsBundle only_answers (Read path) = ⊥
+-- a bundle's report is asked for, or its answers alone (own choice)
+abbrev pub AsksForBundle : Bool → Asked → Type 0
+AsksForBundle only_answers (Bundle answers) = answers ≡ only_answers
+AsksForBundle only_answers (Read _) = ⊥
 
--- the lines of the file at a path are asked for
-abbrev pub IsRead : List ℕ → Asked → Type 0
-IsRead at (Bundle answers) = ⊥
-IsRead at (Read path) = path.now ≡ at
-
--- the exit status where a parse of the words fails: help may be written, or not
-abbrev pub StatusOf : ErrorKind → ℕ → Type 0
-StatusOf kinds.OutOfMemory status = status ≡ 1
-StatusOf kinds.DisplayHelp status = status ≤ 1
-StatusOf kinds.DisplayVersion status = status ≤ 1
-StatusOf _ status = status ≡ 2
-
--- the exit status is that of want of memory or of one of these kinds
-pub record IsTurnedDown (faults : Kinds) (status : ℕ) : Type 0 where
-  pub kind : ErrorKind
-  pub among : (kind ≡ kinds.OutOfMemory) ⊎ IsAmong kind faults
-  pub ends : StatusOf kind status
+-- the lines of the file at a path are asked for (own choice)
+abbrev pub AsksForFile : List ℕ → Asked → Type 0
+AsksForFile at (Bundle _) = ⊥
+AsksForFile at (Read path) = path.now ≡ at

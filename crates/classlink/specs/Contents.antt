@@ -14,7 +14,7 @@ use Rattle.classlink.specs.Sections.{Part}
 use Rattle.classlink.specs.declared.fault.Fault.{Fault}
 use Rattle.classlink.specs.declared.fault.Fault.TheVariants.{Bundle, Class, Memory}
 
--- of want of memory nothing is said
+-- of want of memory nothing is said (own choice)
 abbrev pub UnlessMemory : Fault → Type 0 → Type 0
 UnlessMemory Memory P = ⊤
 UnlessMemory _ P = P
@@ -49,13 +49,14 @@ abbrev pub bytes_or : ℕ → Option (List ℕ) → Result (List ℕ) Fault
 bytes_or line (Some bytes) = Ok bytes
 bytes_or line None = Err (Bundle line)
 
+-- what the `@hex` lines of a class section write (own choice)
 abbrev pub hex_written : Part → Result (List ℕ) Fault
 hex_written part = bytes_or part.line (hex_bytes (stated part))
 
 -- ---- assembler text
 
--- bytes that spell the file that the lines describe (own choice)
-pub record IsSpelt (lines : List Numbered) (bytes : List ℕ) : Type 0 where
+-- bytes that spell the class file that the lines describe (JVMS SE 8, 4; the lines are an own choice)
+pub record IsSpelledBy (lines : List Numbered) (bytes : List ℕ) : Type 0 where
   pub file : Structure
   pub assembled : IsAssembled lines file
   pub spelled : Spells bytes file
@@ -71,7 +72,7 @@ class_text part = escaped part.name ++ codes "@" ++ part.loader
 
 -- what assembler text gives: bytes, or its fault, with the class that it is a fault of (own choice)
 abbrev pub TextWritten : Part → Result (List ℕ) Fault → Type 0
-TextWritten part (Ok bytes) = IsSpelt (stated part) bytes
+TextWritten part (Ok bytes) = IsSpelledBy (stated part) bytes
 TextWritten part (Err (Class class fault)) = IsRefused (stated part) fault × (string_bytes class ≡ class_text part)
 TextWritten part (Err _) = ⊥
 
@@ -92,7 +93,7 @@ abbrev pub ContentOf : Part → Result (List ℕ) Fault → Type 0
 ContentOf part (Ok bytes) = Written part (Ok bytes) × (length bytes ≤ 16777216)
 ContentOf part (Err fault) = Written part (Err fault) ⊎ ((fault ≡ Bundle part.line) × IsTooLong part)
 
--- the fault of a class section whose text has this one
+-- the fault of a class section whose text has this one (own choice)
 abbrev pub FaultOf : Part → AssembleFault → Fault → Type 0
 FaultOf part assembler.Memory fault = fault ≡ Memory
 FaultOf part said (Class class fault) = (fault ≡ said) × (string_bytes class ≡ class_text part)

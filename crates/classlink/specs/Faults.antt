@@ -14,30 +14,30 @@ use Rattle.classlink.specs.declared.input.InputFault.TheVariants as input
 use Rattle.classlink.specs.declared.print.PrintFault.{PrintFault}
 use Rattle.classlink.specs.declared.print.PrintFault.TheVariants as print
 
--- a read failed, the bytes are too many, or memory was wanting
+-- a read failed, the bytes are too many, or memory was wanting (own choice)
 abbrev pub IsReadFault : Fault → Type 0
 IsReadFault Input = ⊤
 IsReadFault TooLarge = ⊤
 IsReadFault Memory = ⊤
 IsReadFault _ = ⊥
 
--- so it is, or the bytes are no text
+-- so it is, or the bytes are no text (own choice)
 abbrev pub IsInputFault : Fault → Type 0
 IsInputFault NotUtf8 = ⊤
 IsInputFault fault = IsReadFault fault
 
--- why standard input was not read is what ends the program
+-- why standard input was not read is what ends the program (own choice)
 abbrev pub input_fault : InputFault → Fault
 input_fault input.Unread = Input
 input_fault input.TooLarge = TooLarge
 input_fault input.Memory = Memory
 
--- what refuses a report is what ends the program
+-- what refuses a report is what ends the program (own choice)
 abbrev pub print_fault : PrintFault → Fault
 print_fault print.Write = Write
 print_fault print.Memory = Memory
 
--- why a text is no script, and want of memory told apart
+-- why a text is no script, and want of memory told apart (own choice)
 abbrev pub script_fault : ScriptFault → Fault
 script_fault scripts.Memory = Memory
 script_fault fault = Script fault

@@ -2,6 +2,7 @@ pub mod Bundles
 pub mod CommandLine
 pub mod Contents
 pub mod Cuts
+pub mod Endings
 pub mod Faults
 pub mod Report
 pub mod Runs

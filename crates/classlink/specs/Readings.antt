@@ -10,52 +10,52 @@ use Rattle.classlink.specs.Runs.{EndsWith, WritesNothing}
 use Rattle.classlink.specs.declared.fault.Fault.{Fault}
 use Rattle.classlink.specs.declared.fault.Fault.TheVariants.{Write, TooLarge, Path, File, Memory}
 
--- what reading a file may give: its bytes, or nothing where it cannot be read
+-- what reading a file may give: its bytes, or nothing where it cannot be read (own choice)
 abbrev pub Giving : Type 1
 Giving = Option (List ℕ) → Type 0
 
--- bytes that a file gives, and not too many
+-- bytes that a file gives, and not too many (own choice)
 pub record IsContent (gives : Giving) (bytes : List ℕ) : Type 0 where
   pub given : gives (Some bytes)
   pub small : length bytes ≤ 16777216
 
--- the lines of the class file that bytes spell
+-- the lines of the class file that bytes spell (JVMS SE 8, 4; the lines are an own choice)
 pub record IsListing (bytes lines : List ℕ) : Type 0 where
   pub file : Structure
   pub read : read_of bytes ≡ Ok file
   pub are : lines ≡ listing_of file
 
--- the lines of the class file that was read
+-- the lines of the class file that was read (own choice)
 pub record AreLinesOf (gives : Giving) (lines : List ℕ) : Type 0 where
   pub bytes : List ℕ
   pub content : IsContent gives bytes
   pub listing : IsListing bytes lines
 
--- what was read is no class file, and this is its first fault
+-- what was read is no class file, and this is its first fault (JVMS SE 8, 4; the order of faults is an own choice)
 pub record IsNoClass (gives : Giving) (fault : ClassFault) : Type 0 where
   pub bytes : List ℕ
   pub content : IsContent gives bytes
   pub read : read_of bytes ≡ Err fault
 
--- the lines are written
+-- the lines are written (own choice)
 pub record PrintsLines (gives : Giving) (old new : Option (List ℕ)) : Type 0 where
   pub lines : List ℕ
   pub of_file : AreLinesOf gives lines
   pub whole : Appends old new lines
 
--- a first part of the lines is written, and no more
+-- a first part of the lines is written, and no more (own choice)
 pub record BreaksLines (gives : Giving) (old new : Option (List ℕ)) : Type 0 where
   pub lines : List ℕ
   pub of_file : AreLinesOf gives lines
   pub part : AppendsPart old new lines
 
--- more bytes than are read
+-- more bytes than are read (own choice)
 pub record IsTooLarge (gives : Giving) : Type 0 where
   pub bytes : List ℕ
   pub given : gives (Some bytes)
   pub large : 16777216 < length bytes
 
--- when a reading ends by a fault, and what is on its output
+-- when a reading ends by a fault, and what is on its output (own choice)
 abbrev pub FailsToRead : Giving → List ℕ → Option (List ℕ) → Option (List ℕ) → Fault → Type 0
 FailsToRead gives path old new (Path p) = WritesNothing old new ((string_bytes p ≡ path) × gives None)
 FailsToRead gives path old new TooLarge = WritesNothing old new (IsTooLarge gives)
@@ -64,12 +64,12 @@ FailsToRead gives path old new Write = BreaksLines gives old new
 FailsToRead gives path old new Memory = WritesNothing old new ⊤ ⊎ BreaksLines gives old new
 FailsToRead gives path old new _ = ⊥
 
--- what reading a class file answers, and what is on its output
+-- what reading a class file answers, and what is on its output (own choice)
 abbrev pub ReadingOf : Giving → List ℕ → Option (List ℕ) → Option (List ℕ) → Result (Unit {0}) Fault → Type 0
 ReadingOf gives path old new (Ok x) = PrintsLines gives old new
 ReadingOf gives path old new (Err fault) = FailsToRead gives path old new fault
 
--- the class file at a path was read, or a fault ended it, and the exit status and both outputs say so
+-- the class file at a path was read, or a fault ended it, and the exit status and both outputs say so (own choice)
 pub record IsReading (gives : Giving) (path : List ℕ) (old_out new_out old_err new_err : Option (List ℕ)) (status : ℕ) : Type 0 where
   pub outcome : Result (Unit {0}) Fault
   pub read : ReadingOf gives path old_out new_out outcome
@@ -77,14 +77,14 @@ pub record IsReading (gives : Giving) (path : List ℕ) (old_out new_out old_err
 
 -- ---- its steps
 
--- why there are no bytes of the file at a path
+-- why there are no bytes of the file at a path (own choice)
 abbrev pub IsUnread : Giving → List ℕ → Fault → Type 0
 IsUnread gives path (Path p) = (string_bytes p ≡ path) × gives None
 IsUnread gives path TooLarge = IsTooLarge gives
 IsUnread gives path Memory = ⊤
 IsUnread gives path _ = ⊥
 
--- the first fault of bytes that spell none, or want of memory
+-- the first fault of bytes that spell no class file (JVMS SE 8, 4; the order of faults is an own choice), or want of memory
 abbrev pub IsRefusal : List ℕ → Fault → Type 0
 IsRefusal bytes (File fault) = read_of bytes ≡ Err fault
 IsRefusal bytes Memory = ⊤

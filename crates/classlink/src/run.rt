@@ -1,9 +1,10 @@
 ghost use Rattle.std.specs.Prelude.{◌≡◌, ◌⊎◌, [], ℕ, List, Bool, IfOk, IfErr, Some, length, map};
 ghost use Rattle.std.specs.Io.KnownBytes.{Appends};
-ghost use Rattle.clap.specs.Words.{kind_of};
+ghost use Rattle.clap.specs.Words.{kind_of, subcommand_of};
 ghost use Rattle.cl_model.specs.Content.{Tells};
 ghost use Rattle.cl_registry.specs.Scripts.{HasLoaders};
-ghost use Rattle.classlink.specs.CommandLine.{AskFor, AskToRead, IsBundle, IsRead, IsTurnedDown, StatusOf, wrong_words};
+ghost use Rattle.classlink.specs.CommandLine.{AskFor, AskToRead, AsksForBundle, AsksForFile, program, wrong_words};
+ghost use Rattle.classlink.specs.Endings.{EndsFor, Grows, HelpOf, IsTaken, IsTurnedDown};
 ghost use Rattle.classlink.specs.Readings.{IsReading};
 ghost use Rattle.classlink.specs.Runs.{IsRun, IsServed, RunOf, TellsFault};
 
@@ -37,7 +38,9 @@ pub fn run_over<R: AllocGlobal + ReadFile, S: AsStr, I: Read + Drop, W: Write, E
         → IsRun (I.remaining input) answers (W.contents out.old) (W.contents out.new) (E.contents err.old) (E.contents err.new) result }
     ensures read { (path : List ℕ) → AskToRead (map S.text words.now) path
         → IsReading (R.gives rt.now path) path (W.contents out.old) (W.contents out.new) (E.contents err.old) (E.contents err.new) result }
-    ensures other { (wrong_words (map S.text words.now) ≡ [] → ⊥) → IsTurnedDown (wrong_words (map S.text words.now)) result }
+    ensures taken { wrong_words (map S.text words.now) ≡ []
+        → IsTaken (subcommand_of program (map S.text words.now)) (I.remaining input) (R.gives rt.now) (W.contents out.old) (W.contents out.new) (E.contents err.old) (E.contents err.new) result }
+    ensures other { (wrong_words (map S.text words.now) ≡ [] → ⊥) → IsTurnedDown (wrong_words (map S.text words.now)) (W.contents out.old) (W.contents out.new) (E.contents err.old) (E.contents err.new) result }
 {
     let alloc = rt.alloc();
     match words::read(alloc, words) {
@@ -55,9 +58,9 @@ fn run_asked<F: ReadFile, I: Read + Drop, W: Write, E: Write>(
     out: &mut W,
     err: &mut E,
 ) -> u8
-    ensures bundle { (answers : Bool) → IsBundle answers asked.entry
+    ensures bundle { (answers : Bool) → AsksForBundle answers asked.entry
         → IsRun (I.remaining input) answers (W.contents out.old) (W.contents out.new) (E.contents err.old) (E.contents err.new) result }
-    ensures read { (path : List ℕ) → IsRead path asked.entry
+    ensures read { (path : List ℕ) → AsksForFile path asked.entry
         → IsReading (F.gives files.now path) path (W.contents out.old) (W.contents out.new) (E.contents err.old) (E.contents err.new) result }
 {
     match asked {
@@ -68,21 +71,29 @@ fn run_asked<F: ReadFile, I: Read + Drop, W: Write, E: Write>(
 
 /// Writes the text of words that ask for no run to where it belongs.
 fn turn_down<W: Write, E: Write>(alloc: Global, error: &clap::Error, out: &mut W, err: &mut E) -> u8
-    ensures status { StatusOf (kind_of error.now) result }
-    ensures memory { kind_of error.now ≡ ErrorKind.OutOfMemory → TellsFault (E.contents err.old) (E.contents err.new) Fault.Memory }
-    ensures nothing { kind_of error.now ≡ ErrorKind.OutOfMemory → Appends (W.contents out.old) (W.contents out.new) [] }
+    ensures { EndsFor (kind_of error.now) (W.contents out.old) (W.contents out.new) (E.contents err.old) (E.contents err.new) result }
 {
     match error.kind() {
         ErrorKind::OutOfMemory => fail(alloc, &Fault::Memory, err),
-        ErrorKind::DisplayHelp | ErrorKind::DisplayVersion => match write!(out, "{error}") {
+        ErrorKind::DisplayHelp | ErrorKind::DisplayVersion => match print_help(alloc, error, out) {
             Ok(()) => 0,
-            Err(_) => fail(alloc, &Fault::Write, err),
+            Err(fault) => fail(alloc, &fault, err),
         },
         _ => {
             let _ = write!(err, "{error}");
             2
         }
     }
+}
+
+/// Writes the text of help.
+fn print_help<W: Write>(alloc: Global, help: &clap::Error, out: &mut W) -> Result<(), Fault>
+    ensures faults { HelpOf result }
+    ensures grown { Grows (W.contents out.old) (W.contents out.new) }
+{
+    let text = format!(in alloc; "{help}")?;
+    write_out(out, text.as_bytes())?;
+    Ok(())
 }
 
 /// Runs a bundle, and tells of the fault that ended it.

@@ -8,285 +8,246 @@ use std::io::{self, ErrorKind, Read, Write};
 use std::process::Abort;
 use std::test::Fail;
 
-/// What a run answers and writes.
-#[derive(Clone, Copy)]
-struct Row<'a> {
-    name: &'a str,
-    text: &'a str,
-    status: u8,
-    out: &'a str,
-    err: &'a str,
+/// Runs the program, and compares its status and both outputs.
+fn check_run<R: AllocGlobal + Abort, F: AllocGlobal + ReadFile, I: Read + Drop>(
+    rt: &R,
+    files: &F,
+    words: &[&str],
+    input: I,
+    want: (u8, &str, &str),
+    name: &str,
+) {
+    let (status, out, err) = want;
+    let mut written = Vec::new(rt.alloc());
+    let mut told = Vec::new(rt.alloc());
+    let found = run_over(files, words, input, &mut written, &mut told);
+    assert_eq!(rt; found, status, "{name}");
+    assert_eq!(rt; written.as_slice(), out.as_bytes(), "{name}");
+    assert_eq!(rt; told.as_slice(), err.as_bytes(), "{name}");
 }
 
-fn check<R: AllocGlobal + ReadFile + Abort>(rt: &R, row: &Row<'_>) {
-    let mut out = Vec::new(rt.alloc());
-    let mut err = Vec::new(rt.alloc());
-    let input = row.text.as_bytes();
-    let status = run_over(rt, &["classlink", "bundle"], input, &mut out, &mut err);
-    assert_eq!(rt; status, row.status, "{}", row.name);
-    assert_eq!(rt; out.as_slice(), row.out.as_bytes(), "{}", row.name);
-    assert_eq!(rt; err.as_slice(), row.err.as_bytes(), "{}", row.name);
+fn check_bundle<R: AllocGlobal + ReadFile + Abort>(
+    rt: &R,
+    text: &str,
+    want: (u8, &str, &str),
+    name: &str,
+) {
+    check_run(
+        rt,
+        rt,
+        &["classlink", "bundle"],
+        text.as_bytes(),
+        want,
+        name,
+    );
 }
 
 #[test]
 fn bundles_are_run(rt: HostRuntime) -> Result<(), Fail> {
-    let rows = [
-        Row {
-            name: "object_bundle",
-            text: "%config\n[[loader]]\nname = \"boot\"\n%class boot java/lang/Object\n@hex cafebabe0000003400030100106a6176612f6c616e672f4f626a6563740700010021000200000000000000000000\n%script\nload boot java/lang/Object\n",
-            status: 0,
-            out: "define java/lang/Object@boot\n1 class java/lang/Object@boot\n",
-            err: "",
-        },
-        Row {
-            name: "truncated_object",
-            text: "%config\n[[loader]]\nname = \"boot\"\n%class boot java/lang/Object\n@hex cafebabe0000003400030100106a6176612f6c616e672f4f626a65637407000100210002000000000000000000\n%script\nload boot java/lang/Object\n",
-            status: 0,
-            out: "1 ClassFormatError java/lang/Object@boot\n",
-            err: "",
-        },
-        Row {
-            name: "trailing_object",
-            text: "%config\n[[loader]]\nname = \"boot\"\n%class boot java/lang/Object\n@hex cafebabe0000003400030100106a6176612f6c616e672f4f626a656374070001002100020000000000000000000000\n%script\nload boot java/lang/Object\n",
-            status: 0,
-            out: "1 ClassFormatError java/lang/Object@boot\n",
-            err: "",
-        },
-        Row {
-            name: "empty_script",
-            text: "%config\n[[loader]]\nname = \"boot\"\n%script\n",
-            status: 0,
-            out: "",
-            err: "",
-        },
-        Row {
-            name: "missing_class",
-            text: "%config\n[[loader]]\nname = \"boot\"\n%script\nload boot p/X",
-            status: 0,
-            out: "1 ClassNotFoundException p/X@boot\n",
-            err: "",
-        },
-        Row {
-            name: "empty_text",
-            text: "\n# nothing\n",
-            status: 1,
-            out: "",
-            err: "classlink: bundle line 0\n",
-        },
-        Row {
-            name: "no_config",
-            text: "\n%class boot p/A\n",
-            status: 1,
-            out: "",
-            err: "classlink: bundle line 2\n",
-        },
-        Row {
-            name: "second_config",
-            text: "%config\n%config\n%script\n",
-            status: 1,
-            out: "",
-            err: "classlink: bundle line 2\n",
-        },
-        Row {
-            name: "no_script",
-            text: "%config\n[[loader]]\nname = \"boot\"\n",
-            status: 1,
-            out: "",
-            err: "classlink: bundle line 0\n",
-        },
-        Row {
-            name: "other_configuration",
-            text: "# a remark\n%config\n[[loader]]\nname = \"app\"\n%script\n",
-            status: 1,
-            out: "",
-            err: "classlink: bundle line 2\n",
-        },
-        Row {
-            name: "no_class_name",
-            text: "%config\n[[loader]]\nname = \"boot\"\n%class boot p.A\n%script\n",
-            status: 1,
-            out: "",
-            err: "classlink: bundle line 4\n",
-        },
-        Row {
-            name: "class_without_name",
-            text: "%config\nnothing\n%class boot\n%script\n",
-            status: 1,
-            out: "",
-            err: "classlink: bundle line 3\n",
-        },
-        Row {
-            name: "script_line_with_more",
-            text: "%config\nnothing\n%class boot p/A\n\n%script now\n",
-            status: 1,
-            out: "",
-            err: "classlink: bundle line 5\n",
-        },
-        Row {
-            name: "other_line_in_bytes",
-            text: "%config\n[[loader]]\nname = \"boot\"\n%class boot p/A\n@hex 00\nclass 0021 p/A -\n%script\n",
-            status: 1,
-            out: "",
-            err: "classlink: bundle line 4\n",
-        },
-        Row {
-            name: "unknown_loader",
-            text: "%config\n[[loader]]\nname = \"boot\"\n%class app p/A\n@hex\n%script\n",
-            status: 1,
-            out: "",
-            err: "classlink: bundle line 4\n",
-        },
-        Row {
-            name: "repeated_section",
-            text: "%config\n[[loader]]\nname = \"boot\"\n%class boot p/A\n@hex\n%class boot \\u0070/A\n@hex 00\n%script\n",
-            status: 1,
-            out: "",
-            err: "classlink: bundle line 6\n",
-        },
-        Row {
-            name: "half_a_byte",
-            text: "%config\n[[loader]]\nname = \"boot\"\n%class boot p/A\n@hex 0\n@hex 0 0\n%script\n",
-            status: 1,
-            out: "",
-            err: "classlink: bundle line 4\n",
-        },
-        Row {
-            name: "script_faults",
-            text: "%config\n[[loader]]\nname = \"boot\"\n%script\n\nload app p/A\n",
-            status: 1,
-            out: "",
-            err: "classlink: script: L2 UnknownLoader 2\n",
-        },
+    let answered = [
+        (
+            "object_bundle",
+            "%config\n[[loader]]\nname = \"boot\"\n%class boot java/lang/Object\n@hex cafebabe0000003400030100106a6176612f6c616e672f4f626a6563740700010021000200000000000000000000\n%script\nload boot java/lang/Object\n",
+            "define java/lang/Object@boot\n1 class java/lang/Object@boot\n",
+        ),
+        (
+            "truncated_object",
+            "%config\n[[loader]]\nname = \"boot\"\n%class boot java/lang/Object\n@hex cafebabe0000003400030100106a6176612f6c616e672f4f626a65637407000100210002000000000000000000\n%script\nload boot java/lang/Object\n",
+            "1 ClassFormatError java/lang/Object@boot\n",
+        ),
+        (
+            "trailing_object",
+            "%config\n[[loader]]\nname = \"boot\"\n%class boot java/lang/Object\n@hex cafebabe0000003400030100106a6176612f6c616e672f4f626a656374070001002100020000000000000000000000\n%script\nload boot java/lang/Object\n",
+            "1 ClassFormatError java/lang/Object@boot\n",
+        ),
+        (
+            "empty_script",
+            "%config\n[[loader]]\nname = \"boot\"\n%script\n",
+            "",
+        ),
+        (
+            "missing_class",
+            "%config\n[[loader]]\nname = \"boot\"\n%script\nload boot p/X",
+            "1 ClassNotFoundException p/X@boot\n",
+        ),
     ];
-    for row in &rows {
-        check(&rt, row);
+    let refused = [
+        ("empty_text", "\n# nothing\n", "classlink: bundle line 0\n"),
+        (
+            "no_config",
+            "\n%class boot p/A\n",
+            "classlink: bundle line 2\n",
+        ),
+        (
+            "second_config",
+            "%config\n%config\n%script\n",
+            "classlink: bundle line 2\n",
+        ),
+        (
+            "no_script",
+            "%config\n[[loader]]\nname = \"boot\"\n",
+            "classlink: bundle line 0\n",
+        ),
+        (
+            "other_configuration",
+            "# a remark\n%config\n[[loader]]\nname = \"app\"\n%script\n",
+            "classlink: bundle line 2\n",
+        ),
+        (
+            "no_class_name",
+            "%config\n[[loader]]\nname = \"boot\"\n%class boot p.A\n%script\n",
+            "classlink: bundle line 4\n",
+        ),
+        (
+            "class_without_name",
+            "%config\nnothing\n%class boot\n%script\n",
+            "classlink: bundle line 3\n",
+        ),
+        (
+            "script_line_with_more",
+            "%config\nnothing\n%class boot p/A\n\n%script now\n",
+            "classlink: bundle line 5\n",
+        ),
+        (
+            "other_line_in_bytes",
+            "%config\n[[loader]]\nname = \"boot\"\n%class boot p/A\n@hex 00\nclass 0021 p/A -\n%script\n",
+            "classlink: bundle line 4\n",
+        ),
+        (
+            "unknown_loader",
+            "%config\n[[loader]]\nname = \"boot\"\n%class app p/A\n@hex\n%script\n",
+            "classlink: bundle line 4\n",
+        ),
+        (
+            "repeated_section",
+            "%config\n[[loader]]\nname = \"boot\"\n%class boot p/A\n@hex\n%class boot \\u0070/A\n@hex 00\n%script\n",
+            "classlink: bundle line 6\n",
+        ),
+        (
+            "half_a_byte",
+            "%config\n[[loader]]\nname = \"boot\"\n%class boot p/A\n@hex 0\n@hex 0 0\n%script\n",
+            "classlink: bundle line 4\n",
+        ),
+        (
+            "script_faults",
+            "%config\n[[loader]]\nname = \"boot\"\n%script\n\nload app p/A\n",
+            "classlink: script: L2 UnknownLoader 2\n",
+        ),
+    ];
+    for (name, text, out) in answered {
+        check_bundle(&rt, text, (0, out, ""), name);
+    }
+    for (name, text, err) in refused {
+        check_bundle(&rt, text, (1, "", err), name);
     }
     Ok(())
 }
 
 #[test]
 fn classes_are_assembled(rt: HostRuntime) -> Result<(), Fail> {
-    let rows = [
-        Row {
-            name: "assembled_object",
-            text: "%config\n[[loader]]\nname = \"boot\"\n%class boot java/lang/Object\n# the root\n\nclass 0021 java/lang/Object -\n%class boot p/A\nclass 0021 p/A java/lang/Object\n%script\nload boot p/A\n",
-            status: 0,
-            out: "define java/lang/Object@boot\ndefine p/A@boot\n1 class p/A@boot\n",
-            err: "",
-        },
-        Row {
-            name: "bad_class_line",
-            text: "%config\n[[loader]]\nname = \"boot\"\n%class boot p/A\nclass 0021 p/A\n%script\n",
-            status: 1,
-            out: "",
-            err: "classlink: class p/A@boot: A1 BadLine 1\n",
-        },
-        Row {
-            name: "bad_later_line",
-            text: "%config\n[[loader]]\nname = \"boot\"\n%class boot p/\\u0041\\u00e9\n# p\nclass 0021 p/A java/lang/Object\n\n@hex 00\n%script\n",
-            status: 1,
-            out: "",
-            err: "classlink: class p/A\\u00e9@boot: A1 BadLine 4\n",
-        },
-        Row {
-            name: "no_lines",
-            text: "%config\n[[loader]]\nname = \"boot\"\n%class boot p/A\n# nothing\n%script\n",
-            status: 1,
-            out: "",
-            err: "classlink: class p/A@boot: A1 BadLine 0\n",
-        },
-        Row {
-            name: "bad_flags",
-            text: "%config\n[[loader]]\nname = \"boot\"\n%class boot p/A\nclass 0210 p/A java/lang/Object\n%script\n",
-            status: 1,
-            out: "",
-            err: "classlink: class p/A@boot: A2 Invalid F6 BadFlags\n",
-        },
-        Row {
-            name: "hex_with_more",
-            text: "%config\n[[loader]]\nname = \"boot\"\n%class boot p/A\n@hexa 00\n%script\n",
-            status: 1,
-            out: "",
-            err: "classlink: class p/A@boot: A1 BadLine 1\n",
-        },
-        Row {
-            name: "repeated_before_content",
-            text: "%config\n[[loader]]\nname = \"boot\"\n%class boot p/A\nclass 0021 p/A java/lang/Object\n%class boot p/A\nnothing\n%script\n",
-            status: 1,
-            out: "",
-            err: "classlink: bundle line 6\n",
-        },
-        Row {
-            name: "loader_before_content",
-            text: "%config\n[[loader]]\nname = \"boot\"\n%class app p/A\nnothing\n%class boot p/A\nnothing\n%script\n",
-            status: 1,
-            out: "",
-            err: "classlink: bundle line 4\n",
-        },
+    let answered = [(
+        "assembled_object",
+        "%config\n[[loader]]\nname = \"boot\"\n%class boot java/lang/Object\n# the root\n\nclass 0021 java/lang/Object -\n%class boot p/A\nclass 0021 p/A java/lang/Object\n%script\nload boot p/A\n",
+        "define java/lang/Object@boot\ndefine p/A@boot\n1 class p/A@boot\n",
+    )];
+    let refused = [
+        (
+            "bad_class_line",
+            "%config\n[[loader]]\nname = \"boot\"\n%class boot p/A\nclass 0021 p/A\n%script\n",
+            "classlink: class p/A@boot: A1 BadLine 1\n",
+        ),
+        (
+            "bad_later_line",
+            "%config\n[[loader]]\nname = \"boot\"\n%class boot p/\\u0041\\u00e9\n# p\nclass 0021 p/A java/lang/Object\n\n@hex 00\n%script\n",
+            "classlink: class p/A\\u00e9@boot: A1 BadLine 4\n",
+        ),
+        (
+            "no_lines",
+            "%config\n[[loader]]\nname = \"boot\"\n%class boot p/A\n# nothing\n%script\n",
+            "classlink: class p/A@boot: A1 BadLine 0\n",
+        ),
+        (
+            "bad_flags",
+            "%config\n[[loader]]\nname = \"boot\"\n%class boot p/A\nclass 0210 p/A java/lang/Object\n%script\n",
+            "classlink: class p/A@boot: A2 Invalid F6 BadFlags\n",
+        ),
+        (
+            "hex_with_more",
+            "%config\n[[loader]]\nname = \"boot\"\n%class boot p/A\n@hexa 00\n%script\n",
+            "classlink: class p/A@boot: A1 BadLine 1\n",
+        ),
+        (
+            "repeated_before_content",
+            "%config\n[[loader]]\nname = \"boot\"\n%class boot p/A\nclass 0021 p/A java/lang/Object\n%class boot p/A\nnothing\n%script\n",
+            "classlink: bundle line 6\n",
+        ),
+        (
+            "loader_before_content",
+            "%config\n[[loader]]\nname = \"boot\"\n%class app p/A\nnothing\n%class boot p/A\nnothing\n%script\n",
+            "classlink: bundle line 4\n",
+        ),
     ];
-    for row in &rows {
-        check(&rt, row);
+    for (name, text, out) in answered {
+        check_bundle(&rt, text, (0, out, ""), name);
+    }
+    for (name, text, err) in refused {
+        check_bundle(&rt, text, (1, "", err), name);
     }
     Ok(())
 }
 
 #[test]
 fn superclasses_are_loaded(rt: HostRuntime) -> Result<(), Fail> {
-    let rows = [
-        Row {
-            name: "superclass_chain",
-            text: "%config\n[[loader]]\nname = \"boot\"\n%class boot java/lang/Object\n@hex cafebabe0000003400030100106a6176612f6c616e672f4f626a6563740700010021000200000000000000000000\n%class boot p/A\n@hex cafebabe000000340005010003702f410700010100106a6176612f6c616e672f4f626a6563740700030021000200040000000000000000\n%class boot p/B\n@hex cafebabe000000340005010003702f42070001010003702f410700030021000200040000000000000000\n%script\nload boot p/B\nload boot p/A\n",
-            status: 0,
-            out: "define java/lang/Object@boot\ndefine p/A@boot\ndefine p/B@boot\n1 class p/B@boot\n2 class p/A@boot\n",
-            err: "",
-        },
-        Row {
-            name: "circle_of_one",
-            text: "%config\n[[loader]]\nname = \"boot\"\n%class boot p/A\n@hex cafebabe000000340005010003702f41070001010003702f410700030021000200040000000000000000\n%script\nload boot p/A\n",
-            status: 0,
-            out: "1 ClassCircularityError p/A@boot\n",
-            err: "",
-        },
-        Row {
-            name: "circle_of_two",
-            text: "%config\n[[loader]]\nname = \"boot\"\n%class boot p/A\n@hex cafebabe000000340005010003702f41070001010003702f420700030021000200040000000000000000\n%class boot p/B\n@hex cafebabe000000340005010003702f42070001010003702f410700030021000200040000000000000000\n%class boot p/C\n@hex cafebabe000000340005010003702f43070001010003702f410700030021000200040000000000000000\n%script\nload boot p/A\nload boot p/B\nload boot p/C\n",
-            status: 0,
-            out: "1 ClassCircularityError p/A@boot\n2 ClassCircularityError p/B@boot\n3 ClassCircularityError p/A@boot\n",
-            err: "",
-        },
-        Row {
-            name: "circle_of_three",
-            text: "%config\n[[loader]]\nname = \"boot\"\n%class boot p/A\n@hex cafebabe000000340005010003702f41070001010003702f420700030021000200040000000000000000\n%class boot p/B\n@hex cafebabe000000340005010003702f42070001010003702f430700030021000200040000000000000000\n%class boot p/C\n@hex cafebabe000000340005010003702f43070001010003702f410700030021000200040000000000000000\n%script\nload boot p/B\n",
-            status: 0,
-            out: "1 ClassCircularityError p/B@boot\n",
-            err: "",
-        },
-        Row {
-            name: "missing_superclass",
-            text: "%config\n[[loader]]\nname = \"boot\"\n%class boot p/A\n@hex cafebabe000000340005010003702f41070001010003702f5a0700030021000200040000000000000000\n%script\nload boot p/A\n",
-            status: 0,
-            out: "1 NoClassDefFoundError p/Z@boot\n",
-            err: "",
-        },
-        Row {
-            name: "other_name",
-            text: "%config\n[[loader]]\nname = \"boot\"\n%class boot java/lang/Object\n@hex cafebabe0000003400030100106a6176612f6c616e672f4f626a6563740700010021000200000000000000000000\n%class boot p/X\n@hex cafebabe000000340005010003702f410700010100106a6176612f6c616e672f4f626a6563740700030021000200040000000000000000\n%script\nload boot p/X\n",
-            status: 0,
-            out: "1 NoClassDefFoundError p/X@boot\n",
-            err: "",
-        },
-        Row {
-            name: "other_version",
-            text: "%config\n[[loader]]\nname = \"boot\"\n%class boot java/lang/Object\n@hex cafebabe0000003400030100106a6176612f6c616e672f4f626a6563740700010021000200000000000000000000\n%class boot p/A\n@hex cafebabe000000350005010003702f410700010100106a6176612f6c616e672f4f626a6563740700030021000200040000000000000000\n%script\nload boot p/A\n",
-            status: 0,
-            out: "1 UnsupportedClassVersionError p/A@boot\n",
-            err: "",
-        },
+    let answered = [
+        (
+            "superclass_chain",
+            "%config\n[[loader]]\nname = \"boot\"\n%class boot java/lang/Object\n@hex cafebabe0000003400030100106a6176612f6c616e672f4f626a6563740700010021000200000000000000000000\n%class boot p/A\n@hex cafebabe000000340005010003702f410700010100106a6176612f6c616e672f4f626a6563740700030021000200040000000000000000\n%class boot p/B\n@hex cafebabe000000340005010003702f42070001010003702f410700030021000200040000000000000000\n%script\nload boot p/B\nload boot p/A\n",
+            "define java/lang/Object@boot\ndefine p/A@boot\ndefine p/B@boot\n1 class p/B@boot\n2 class p/A@boot\n",
+        ),
+        (
+            "circle_of_one",
+            "%config\n[[loader]]\nname = \"boot\"\n%class boot p/A\n@hex cafebabe000000340005010003702f41070001010003702f410700030021000200040000000000000000\n%script\nload boot p/A\n",
+            "1 ClassCircularityError p/A@boot\n",
+        ),
+        (
+            "circle_of_two",
+            "%config\n[[loader]]\nname = \"boot\"\n%class boot p/A\n@hex cafebabe000000340005010003702f41070001010003702f420700030021000200040000000000000000\n%class boot p/B\n@hex cafebabe000000340005010003702f42070001010003702f410700030021000200040000000000000000\n%class boot p/C\n@hex cafebabe000000340005010003702f43070001010003702f410700030021000200040000000000000000\n%script\nload boot p/A\nload boot p/B\nload boot p/C\n",
+            "1 ClassCircularityError p/A@boot\n2 ClassCircularityError p/B@boot\n3 ClassCircularityError p/A@boot\n",
+        ),
+        (
+            "circle_of_three",
+            "%config\n[[loader]]\nname = \"boot\"\n%class boot p/A\n@hex cafebabe000000340005010003702f41070001010003702f420700030021000200040000000000000000\n%class boot p/B\n@hex cafebabe000000340005010003702f42070001010003702f430700030021000200040000000000000000\n%class boot p/C\n@hex cafebabe000000340005010003702f43070001010003702f410700030021000200040000000000000000\n%script\nload boot p/B\n",
+            "1 ClassCircularityError p/B@boot\n",
+        ),
+        (
+            "missing_superclass",
+            "%config\n[[loader]]\nname = \"boot\"\n%class boot p/A\n@hex cafebabe000000340005010003702f41070001010003702f5a0700030021000200040000000000000000\n%script\nload boot p/A\n",
+            "1 NoClassDefFoundError p/Z@boot\n",
+        ),
+        (
+            "other_name",
+            "%config\n[[loader]]\nname = \"boot\"\n%class boot java/lang/Object\n@hex cafebabe0000003400030100106a6176612f6c616e672f4f626a6563740700010021000200000000000000000000\n%class boot p/X\n@hex cafebabe000000340005010003702f410700010100106a6176612f6c616e672f4f626a6563740700030021000200040000000000000000\n%script\nload boot p/X\n",
+            "1 NoClassDefFoundError p/X@boot\n",
+        ),
+        (
+            "other_version",
+            "%config\n[[loader]]\nname = \"boot\"\n%class boot java/lang/Object\n@hex cafebabe0000003400030100106a6176612f6c616e672f4f626a6563740700010021000200000000000000000000\n%class boot p/A\n@hex cafebabe000000350005010003702f410700010100106a6176612f6c616e672f4f626a6563740700030021000200040000000000000000\n%script\nload boot p/A\n",
+            "1 UnsupportedClassVersionError p/A@boot\n",
+        ),
     ];
-    for row in &rows {
-        check(&rt, row);
+    for (name, text, out) in answered {
+        check_bundle(&rt, text, (0, out, ""), name);
     }
     Ok(())
+}
+
+/// The status of a run over no input, and whether nothing is written on its output, and on its standard error.
+fn status_and_silent<R: AllocGlobal + ReadFile>(rt: &R, words: &[&str]) -> (u8, bool, bool) {
+    let mut out = Vec::new(rt.alloc());
+    let mut err = Vec::new(rt.alloc());
+    let input: &[u8] = b"";
+    let status = run_over(rt, words, input, &mut out, &mut err);
+    (status, out.is_empty(), err.is_empty())
 }
 
 #[test]
@@ -303,12 +264,10 @@ fn words_are_refused_or_helped(rt: HostRuntime) -> Result<(), Fail> {
         (&["classlink", "bundle", "--help"], 0),
     ];
     for (words, status) in rows {
-        let mut out = Vec::new(rt.alloc());
-        let mut err = Vec::new(rt.alloc());
-        let text: &[u8] = b"";
-        assert_eq!(rt; run_over(&rt, words, text, &mut out, &mut err), status);
-        assert_eq!(rt; out.is_empty(), status == 2);
-        assert_eq!(rt; err.is_empty(), status == 0);
+        let (found, no_out, no_err) = status_and_silent(&rt, words);
+        assert_eq!(rt; found, status);
+        assert_eq!(rt; no_out, status == 2);
+        assert_eq!(rt; no_err, status == 0);
     }
     let mut err = Vec::new(rt.alloc());
     assert_eq!(rt; refuse_words(rt.alloc(), &mut err), 2);
@@ -363,37 +322,47 @@ const OBJECT: [u8; 46] = [
 fn class_files_are_read(rt: HostRuntime) -> Result<(), Fail> {
     let mut other_count = OBJECT;
     other_count[9] = 4;
+    let object = "class 0021 java/lang/Object -\n";
     let rows: [(&[&str], &[u8], u8, &str, &str); 6] = [
-        (&["p"], &OBJECT, 0, "class 0021 java/lang/Object -\n", ""),
+        (&["classlink", "read", "p"], &OBJECT, 0, object, ""),
+        (&["classlink", "read", "--", "p"], &OBJECT, 0, object, ""),
         (
-            &["--", "p"],
-            &OBJECT,
-            0,
-            "class 0021 java/lang/Object -\n",
+            &["classlink", "read", "p"],
+            &OBJECT[..45],
+            1,
             "",
+            "classlink: F3 Truncated\n",
         ),
-        (&["p"], &OBJECT[..45], 1, "", "classlink: F3 Truncated\n"),
-        (&["p"], &other_count, 1, "", "classlink: F5 BadPool 3\n"),
-        (&["-"], &OBJECT, 1, "", "classlink: cannot read -\n"),
-        (&[""], &OBJECT, 1, "", "classlink: cannot read \n"),
+        (
+            &["classlink", "read", "p"],
+            &other_count,
+            1,
+            "",
+            "classlink: F5 BadPool 3\n",
+        ),
+        (
+            &["classlink", "read", "-"],
+            &OBJECT,
+            1,
+            "",
+            "classlink: cannot read -\n",
+        ),
+        (
+            &["classlink", "read", ""],
+            &OBJECT,
+            1,
+            "",
+            "classlink: cannot read \n",
+        ),
     ];
-    for (path, bytes, status, want_out, want_err) in rows {
+    for (words, bytes, status, out, err) in rows {
         let files = OneFile {
             alloc: rt.alloc(),
             path: "p",
             bytes,
         };
-        let mut words = vec![in rt.alloc(); "classlink", "read"]?;
-        words.extend_from_slice(path)?;
-        let mut out = Vec::new(rt.alloc());
-        let mut err = Vec::new(rt.alloc());
         let input: &[u8] = b"";
-        assert_eq!(rt;
-            run_over(&files, words.as_slice(), input, &mut out, &mut err),
-            status
-        );
-        assert_eq!(rt; out.as_slice(), want_out.as_bytes());
-        assert_eq!(rt; err.as_slice(), want_err.as_bytes());
+        check_run(&rt, &files, words, input, (status, out, err), err);
     }
     Ok(())
 }
@@ -437,36 +406,36 @@ impl Write for FailingWriter {
 const OBJECT_BUNDLE: &str =
     "%config\n[[loader]]\nname = \"boot\"\n%class boot java/lang/Object\n@hex cafebabe0000003400030100106a6176612f6c616e672f4f626a6563740700010021000200000000000000000000\n%script\nload boot java/lang/Object\n";
 
+const OBJECT_LINES: &str = "define java/lang/Object@boot\n1 class java/lang/Object@boot\n";
+
+/// Runs the bundle with an output that takes so many bytes, and sees that these are written, and the refusal told.
+fn check_room<R: AllocGlobal + ReadFile + Abort>(rt: &R, room: usize) {
+    let words = ["classlink", "bundle"];
+    let mut out = FailingWriter {
+        bytes: Vec::new(rt.alloc()),
+        room,
+    };
+    let mut err = Vec::new(rt.alloc());
+    let status = run_over(rt, &words, OBJECT_BUNDLE.as_bytes(), &mut out, &mut err);
+    let FailingWriter { bytes, room: _ } = out;
+    let (want, told) = if room == OBJECT_LINES.len() {
+        (0u8, "")
+    } else {
+        (1, "classlink: cannot write\n")
+    };
+    assert!(rt; OBJECT_LINES.as_bytes().starts_with(bytes.as_slice()));
+    assert_eq!(rt; bytes.len(), room);
+    assert_eq!(rt; status, want);
+    assert_eq!(rt; err.as_slice(), told.as_bytes());
+}
+
 #[test]
 fn reads_and_writes_fail(rt: HostRuntime) -> Result<(), Fail> {
-    let words = ["classlink", "bundle"];
-    let lines = "define java/lang/Object@boot\n1 class java/lang/Object@boot\n";
-    let mut out = Vec::new(rt.alloc());
-    let mut err = Vec::new(rt.alloc());
     let reader = FailingReader(OBJECT_BUNDLE.as_bytes());
-    assert_eq!(rt; run_over(&rt, &words, reader, &mut out, &mut err), 1);
-    assert_eq!(rt; out.as_slice(), b"".as_slice());
-    assert_eq!(rt;
-        err.as_slice(),
-        b"classlink: cannot read standard input\n".as_slice()
-    );
-    for room in [0usize, 1, 40, lines.len()] {
-        let mut out = FailingWriter {
-            bytes: Vec::new(rt.alloc()),
-            room,
-        };
-        let mut err = Vec::new(rt.alloc());
-        let status = run_over(&rt, &words, OBJECT_BUNDLE.as_bytes(), &mut out, &mut err);
-        let FailingWriter { bytes, room: _ } = out;
-        assert!(rt; lines.as_bytes().starts_with(bytes.as_slice()));
-        assert_eq!(rt; bytes.len(), room);
-        assert_eq!(rt; status, if room == lines.len() { 0 } else { 1 });
-        let want = if status == 0 {
-            ""
-        } else {
-            "classlink: cannot write\n"
-        };
-        assert_eq!(rt; err.as_slice(), want.as_bytes());
+    let want = (1, "", "classlink: cannot read standard input\n");
+    check_run(&rt, &rt, &["classlink", "bundle"], reader, want, "read");
+    for room in [0usize, 1, 40, OBJECT_LINES.len()] {
+        check_room(&rt, room);
     }
     Ok(())
 }
@@ -496,13 +465,9 @@ fn inputs_are_refused(rt: HostRuntime) -> Result<(), Fail> {
         (0xff, 67_108_865, "classlink: input too large\n"),
         (0xff, 1, "classlink: input is not UTF-8\n"),
     ];
-    for (byte, left, want) in rows {
-        let mut out = Vec::new(rt.alloc());
-        let mut err = Vec::new(rt.alloc());
+    for (byte, left, told) in rows {
         let input = Repeated { byte, left };
-        assert_eq!(rt; run_over(&rt, &words, input, &mut out, &mut err), 1);
-        assert_eq!(rt; out.as_slice(), b"".as_slice());
-        assert_eq!(rt; err.as_slice(), want.as_bytes());
+        check_run(&rt, &rt, &words, input, (1, "", told), told);
     }
     Ok(())
 }

@@ -1,6 +1,6 @@
 ghost use Rattle.std.specs.Prelude.{◌≡◌, [], ℕ, List, Bool, IfOk, IfErr, MatchResult, map};
 ghost use Rattle.clap.specs.Words.{HasKind, app_of, kind_of, subcommand_of, subcommand_rows_of};
-ghost use Rattle.classlink.specs.CommandLine.{AskFor, AskToRead, HasFlag, IsAsked, IsBundle, IsCommand, IsRead, bundle, program, reading, wrong_words};
+ghost use Rattle.classlink.specs.CommandLine.{AskFor, AskToRead, HasFlag, IsAsked, AsksForBundle, IsCommand, AsksForFile, bundle, program, reading, wrong_words};
 
 use clap::error::ErrorKind;
 use clap::{Arg, ArgAction, ArgMatches, Command, Error};
@@ -60,8 +60,8 @@ fn read_command<'a>(alloc: Global) -> Result<Command<'a>, AllocError>
 /// Reads the words of a command line, of which the first is the program's name. The error is `clap`'s, for words that
 /// it refuses and for those that ask for help.
 pub fn read<'a, S: AsStr>(alloc: Global, words: &'a [S]) -> Result<Asked<'a>, Error>
-    ensures asked { (answers : Bool) → AskFor (map S.text words.entry.now) answers → MatchResult result (IsBundle answers) (λ e. kind_of e ≡ ErrorKind.OutOfMemory) }
-    ensures read { (path : List ℕ) → AskToRead (map S.text words.entry.now) path → MatchResult result (IsRead path) (λ e. kind_of e ≡ ErrorKind.OutOfMemory) }
+    ensures asked { (answers : Bool) → AskFor (map S.text words.entry.now) answers → MatchResult result (AsksForBundle answers) (λ e. kind_of e ≡ ErrorKind.OutOfMemory) }
+    ensures read { (path : List ℕ) → AskToRead (map S.text words.entry.now) path → MatchResult result (AsksForFile path) (λ e. kind_of e ≡ ErrorKind.OutOfMemory) }
     ensures taken { IfOk result (λ _. wrong_words (map S.text words.entry.now) ≡ []) }
     ensures exact { IfOk result (IsAsked (subcommand_of program (map S.text words.entry.now))) }
     ensures refused { IfErr result (HasKind (wrong_words (map S.text words.entry.now))) }

@@ -1,9 +1,9 @@
-use Rattle.std.proofs.Common.{inl, subst}
-use Rattle.clap.specs.declared.error.kind.ErrorKind.{ErrorKind}
-use Rattle.classlink.specs.declared.fault.Fault.TheVariants.{Memory}
-use Rattle.classlink.specs.CommandLine.{StatusOf}
-use Rattle.classlink.proofs.Listing.{reading_failed}
-use Rattle.classlink.proofs.Running.{run_failed}
+use Rattle.std.proofs.Common.{map}
+use Rattle.clap.specs.Words.{kind_of}
+use Rattle.classlink.specs.CommandLine.{wrong_words}
+use Rattle.classlink.specs.Endings.{Lacks}
+use Rattle.classlink.proofs.Ending.{lacking, lacking_reading, lacking_run, taken}
+use Rattle.classlink.proofs.Flags.{memory_alone}
 use Rattle.classlink.proofs.run.run_over.Goals as goal
 
 pub returns-in-Ok-clause-bundle : goal.returns-in-Ok-clause-bundle
@@ -12,14 +12,19 @@ returns-in-Ok-clause-bundle g c = λ answers ask. c.run_asked.ensures.bundle ans
 pub returns-in-Ok-clause-read : goal.returns-in-Ok-clause-read
 returns-in-Ok-clause-read g c = λ path ask. c.run_asked.ensures.read path (c.in-Ok.ensures.read path ask)
 
+pub returns-in-Ok-clause-taken : goal.returns-in-Ok-clause-taken
+returns-in-Ok-clause-taken g c = λ none. taken _ _ (g.R.ReadFile.gives c.args.rt.now) _ _ _ _ _ c.in-Ok.asked c.in-Ok.ensures.exact c.run_asked.ensures.bundle c.run_asked.ensures.read
+
 pub returns-in-Err-clause-bundle : goal.returns-in-Err-clause-bundle
-returns-in-Err-clause-bundle g c = λ answers ask.
-    let kind = c.in-Err.ensures.asked answers ask in
-    run_failed _ _ _ _ _ _ Memory c.turn_down.result (inl (c.turn_down.ensures.nothing kind, tt))
-    (subst (λ (k : ErrorKind). StatusOf k c.turn_down.result) kind c.turn_down.ensures.status) (inl (c.turn_down.ensures.memory kind))
+returns-in-Err-clause-bundle g c = λ answers ask. lacking_run _ _ _ _ _ _ _ (lacking _ _ _ _ _ _ (c.in-Err.ensures.asked answers ask) c.turn_down.ensures)
 
 pub returns-in-Err-clause-read : goal.returns-in-Err-clause-read
-returns-in-Err-clause-read g c = λ path ask.
-    let kind = c.in-Err.ensures.read path ask in
-    reading_failed _ _ _ _ _ _ Memory c.turn_down.result (inl (c.turn_down.ensures.nothing kind, tt))
-    (subst (λ (k : ErrorKind). StatusOf k c.turn_down.result) kind c.turn_down.ensures.status) (inl (c.turn_down.ensures.memory kind))
+returns-in-Err-clause-read g c = λ path ask. lacking_reading _ _ _ _ _ _ _ (lacking _ _ _ _ _ _ (c.in-Err.ensures.read path ask) c.turn_down.ensures)
+
+pub returns-in-Err-clause-taken : goal.returns-in-Err-clause-taken
+returns-in-Err-clause-taken g c = λ none.
+    let kind = memory_alone (wrong_words (map g.S.AsStr.text c.args.words.now)) c.in-Err.error none c.in-Err.ensures.refused in
+    Lacks (lacking _ _ _ _ _ _ kind c.turn_down.ensures)
+
+pub returns-in-Err-clause-other : goal.returns-in-Err-clause-other
+returns-in-Err-clause-other g c = λ some. record { kind = kind_of c.in-Err.error; among = c.in-Err.ensures.refused; ends = c.turn_down.ensures }

@@ -1,16 +1,16 @@
 use Rattle.std.proofs.Common.{◌≡◌, Ok, Err, map}
-use Rattle.classlink.specs.CommandLine.{IsBundle, IsRead, wrong_words}
+use Rattle.classlink.specs.CommandLine.{AsksForBundle, AsksForFile, wrong_words}
 use Rattle.classlink.proofs.Flags.{asked_by_words, bundle_asked, ends_by, for_memory, kind_by, path_asked, takes_path, takes_words}
 use Rattle.classlink.proofs.words.read.Goals as goal
 
 pub returns-in_err-matches-clause-asked : goal.returns-in_err-matches-clause-asked
 returns-in_err-matches-clause-asked g c = λ answers ask.
-    for_memory (wrong_words (map g.S.AsStr.text c.args.words.now)) c.from_residual-in_err-matches.result c.in_err-matches.field-0.0 (IsBundle answers) (takes_words _ answers ask)
+    for_memory (wrong_words (map g.S.AsStr.text c.args.words.now)) c.from_residual-in_err-matches.result c.in_err-matches.field-0.0 (AsksForBundle answers) (takes_words _ answers ask)
     c.from_residual-in_err-matches.ensures.1 (ends_by _ _ (Err c.in_err-matches.field-0.0) c.in_ok-command.ensures c.in_err-matches.ensures.kinds)
 
 pub returns-in_err-matches-clause-read : goal.returns-in_err-matches-clause-read
 returns-in_err-matches-clause-read g c = λ path ask.
-    for_memory (wrong_words (map g.S.AsStr.text c.args.words.now)) c.from_residual-in_err-matches.result c.in_err-matches.field-0.0 (IsRead path) (takes_path _ path ask)
+    for_memory (wrong_words (map g.S.AsStr.text c.args.words.now)) c.from_residual-in_err-matches.result c.in_err-matches.field-0.0 (AsksForFile path) (takes_path _ path ask)
     c.from_residual-in_err-matches.ensures.1 (ends_by _ _ (Err c.in_err-matches.field-0.0) c.in_ok-command.ensures c.in_err-matches.ensures.kinds)
 
 pub returns-in_err-matches-clause-refused : goal.returns-in_err-matches-clause-refused

@@ -1,13 +1,13 @@
 -- What the lines of a script ask for, and the first that is wrong, is one thing at most.
 use Rattle.std.proofs.Common.{◌≡◌, ℕ, ◌+◌, ◌≤◌, List, [], ◌∷◌, ◌++◌, length, Option, Some, None, Ok, Err, codes, refl, sym, ap, subst, ◌∙◌, arith}
-use Rattle.std.specs.Prelude.{◌≢◌}
 use Rattle.cl_model.specs.declared.request.Request.{Request}
 use Rattle.cl_registry.specs.Lines.{Numbered, stated_from}
 use Rattle.cl_registry.specs.Views.{Scripted}
+use Rattle.cl_registry.specs.ScriptLaws.{ScriptHasOneFault, ScriptOrItsFault}
 use Rattle.cl_registry.specs.Scripts.{loader_named, IsBad, LacksLoader, Asks, AllAsk, StopsAt, script_of}
 use Rattle.cl_registry.specs.declared.script.ScriptFault.{ScriptFault}
 use Rattle.cl_registry.specs.declared.script.ScriptFault.TheVariants.{Memory, BadLine, UnknownLoader, TooMany}
-use Rattle.cl_registry.proofs.Requests.{one_script}
+use Rattle.cl_registry.proofs.Requests.{second_word, one_script}
 
 -- ---- one line
 
@@ -18,9 +18,6 @@ AsksNot names line = (r : Request) → Asks names line.text r → ⊥
 bad_asks_not : (names : List (List ℕ)) (line : Numbered) → IsBad line.text → AsksNot names line
 unfolding AsksNot
 bad_asks_not names line bad = λ r t. bad t.word t.name t.load
-
-second_word : {a b c d e f : List ℕ} → a ∷ b ∷ c ∷ [] ≡ d ∷ e ∷ f ∷ [] → b ≡ e
-second_word h = cc
 
 none_or_some : (o : Option ℕ) (n : ℕ) → o ≡ None → o ≡ Some n → ⊥
 none_or_some o n e f = absurd cc
@@ -140,19 +137,19 @@ unfolding IsWrong
 wrong_or_many names lines n v w =
     stop_or_many names v.front w.front v.line w.line v.behind w.behind v.requests w.requests w.here.1.0 (sym v.cut ∙ w.cut) v.asked w.asked (few_or_many v.requests w.requests v.within w.here.0) v.here.1 w.here.1.1
 
-pub one_script_fault : (names : List (List ℕ)) (text : List ℕ) (f g : ScriptFault) → script_of names text (Err f) → script_of names text (Err g) → f ≢ Memory → g ≢ Memory → f ≡ g
-one_script_fault names text Memory g v w some other = absurd (some refl)
-one_script_fault names text f Memory v w some other = absurd (other refl)
-one_script_fault names text (BadLine m) (BadLine n) v w some other = ap (λ (i : ℕ). BadLine i) (one_number names (stated_from 1 text) m n (bad_here names (stated_from 1 text) m v) (bad_here names (stated_from 1 text) n w))
-one_script_fault names text (UnknownLoader m) (UnknownLoader n) v w some other =
+pub script_has_one_fault : ScriptHasOneFault
+script_has_one_fault names text Memory g v w some other = absurd (some refl)
+script_has_one_fault names text f Memory v w some other = absurd (other refl)
+script_has_one_fault names text (BadLine m) (BadLine n) v w some other = ap (λ (i : ℕ). BadLine i) (one_number names (stated_from 1 text) m n (bad_here names (stated_from 1 text) m v) (bad_here names (stated_from 1 text) n w))
+script_has_one_fault names text (UnknownLoader m) (UnknownLoader n) v w some other =
     ap (λ (i : ℕ). UnknownLoader i) (one_number names (stated_from 1 text) m n (lacks_here names (stated_from 1 text) m v) (lacks_here names (stated_from 1 text) n w))
-one_script_fault names text (BadLine m) (UnknownLoader n) v w some other = absurd (bad_or_lacks names (stated_from 1 text) m n v w)
-one_script_fault names text (UnknownLoader m) (BadLine n) v w some other = absurd (bad_or_lacks names (stated_from 1 text) n m w v)
-one_script_fault names text (BadLine m) TooMany v w some other = absurd (wrong_or_many names (stated_from 1 text) m (bad_here names (stated_from 1 text) m v) w)
-one_script_fault names text (UnknownLoader m) TooMany v w some other = absurd (wrong_or_many names (stated_from 1 text) m (lacks_here names (stated_from 1 text) m v) w)
-one_script_fault names text TooMany (BadLine n) v w some other = absurd (wrong_or_many names (stated_from 1 text) n (bad_here names (stated_from 1 text) n w) v)
-one_script_fault names text TooMany (UnknownLoader n) v w some other = absurd (wrong_or_many names (stated_from 1 text) n (lacks_here names (stated_from 1 text) n w) v)
-one_script_fault names text TooMany TooMany v w some other = refl
+script_has_one_fault names text (BadLine m) (UnknownLoader n) v w some other = absurd (bad_or_lacks names (stated_from 1 text) m n v w)
+script_has_one_fault names text (UnknownLoader m) (BadLine n) v w some other = absurd (bad_or_lacks names (stated_from 1 text) n m w v)
+script_has_one_fault names text (BadLine m) TooMany v w some other = absurd (wrong_or_many names (stated_from 1 text) m (bad_here names (stated_from 1 text) m v) w)
+script_has_one_fault names text (UnknownLoader m) TooMany v w some other = absurd (wrong_or_many names (stated_from 1 text) m (lacks_here names (stated_from 1 text) m v) w)
+script_has_one_fault names text TooMany (BadLine n) v w some other = absurd (wrong_or_many names (stated_from 1 text) n (bad_here names (stated_from 1 text) n w) v)
+script_has_one_fault names text TooMany (UnknownLoader n) v w some other = absurd (wrong_or_many names (stated_from 1 text) n (lacks_here names (stated_from 1 text) n w) v)
+script_has_one_fault names text TooMany TooMany v w some other = refl
 
 -- ---- a script or a fault
 
@@ -168,11 +165,11 @@ asked_or_many : (names : List (List ℕ)) (lines : List Numbered) (rs : List Req
 asked_or_many names lines rs v few w =
     too_many rs w.requests few w.here.0 (asks_more names w.front w.line w.behind rs w.requests (subst (λ (ls : List Numbered). AllAsk names ls rs) w.cut v) w.asked)
 
-pub script_or_fault : (names : List (List ℕ)) (text : List ℕ) (k : Scripted) (f : ScriptFault) → script_of names text (Ok k) → script_of names text (Err f) → f ≢ Memory → ⊥
-script_or_fault names text k Memory v w some = some refl
-script_or_fault names text k (BadLine n) v w some = asked_or_wrong names (stated_from 1 text) n k.requests v.0 (bad_here names (stated_from 1 text) n w)
-script_or_fault names text k (UnknownLoader n) v w some = asked_or_wrong names (stated_from 1 text) n k.requests v.0 (lacks_here names (stated_from 1 text) n w)
-script_or_fault names text k TooMany v w some = asked_or_many names (stated_from 1 text) k.requests v.0 v.1 w
+pub script_or_its_fault : ScriptOrItsFault
+script_or_its_fault names text k Memory v w some = some refl
+script_or_its_fault names text k (BadLine n) v w some = asked_or_wrong names (stated_from 1 text) n k.requests v.0 (bad_here names (stated_from 1 text) n w)
+script_or_its_fault names text k (UnknownLoader n) v w some = asked_or_wrong names (stated_from 1 text) n k.requests v.0 (lacks_here names (stated_from 1 text) n w)
+script_or_its_fault names text k TooMany v w some = asked_or_many names (stated_from 1 text) k.requests v.0 v.1 w
 
 abbrev the_script : List Request → Scripted
 the_script rs = record { requests = rs }

@@ -182,6 +182,8 @@ fn request_at(alloc: Global, script: &Script, q: u32) -> Result<Request, AllocEr
 /// a run of the linkage machine over it, in which each request is answered once, with what its plan ends in there, or
 /// with a failure. Whatever the source tells, the report's tables can be trusted.
 ///
+/// Configuration and script are shared: a refusal drops what was moved in, and a caller that goes on keeps its own clone.
+///
 /// # Errors
 ///
 /// `Z0`, where the registry, or the copy of a request, could not be made.

@@ -8,7 +8,7 @@ use crate::fixtures::{
 };
 use crate::{
     Config, ConfigFault, Draft, DraftFault, DraftRefused, FaultySource, Finding, MemorySource,
-    Outcome, Registry, RegistryFault, Script, ScriptFault, Source, SourceFault,
+    Outcome, Registry, RegistryFault, Script, ScriptFault, Source, SourceFault, Walk,
 };
 use cl_classfile::Fault;
 use cl_model::{Answer, Event, LoaderId, Request, Untold, Verdict};
@@ -357,6 +357,57 @@ fn sources(rt: HostRuntime) -> Result<(), Fail> {
     let mut second = another(&rt, alloc, &first)?;
     read_all(&rt, alloc, &mut first, names.as_slice())?;
     read_all(&rt, alloc, &mut second, names.as_slice())
+}
+
+/// Pushes a draft whose superclass is to be looked for next.
+fn push(
+    rt: &impl Print,
+    walk: &mut Walk<Untold>,
+    draft: Draft<Untold>,
+    above: Name,
+) -> Result<(), Fail> {
+    let is_next = draft.class().name == *walk.at() && draft.class().loader == walk.loader();
+    let is_above = match draft.super_name() {
+        Some(name) => *name == above,
+        None => false,
+    };
+    if !is_next || !is_above || walk.stands(&above) {
+        return Err(Fail::new("no draft to be pushed"));
+    }
+    match walk.push(draft, above) {
+        Ok(()) => Ok(()),
+        Err(back) => {
+            refused(rt, "Walk::push", true)?;
+            let is_same = back.draft.class().name == *walk.at() && !walk.stands(&back.above);
+            holds(is_same, "the walk changed")?;
+            let again = walk.push(back.draft, back.above);
+            again.map_err(|_| Fail::new("refused twice"))
+        }
+    }
+}
+
+/// A walk up the chain and down again.
+#[test]
+fn walks(rt: HostRuntime) -> Result<(), Fail> {
+    let alloc = rt.alloc();
+    let mut names = names(alloc)?;
+    let mut drafts = drafts(alloc)?;
+    let last = names.pop().ok_or("no names")?;
+    let mut walk = Walk::new(alloc, LoaderId(0), last);
+    assert!(rt; walk.is_empty());
+    for _ in 0..5usize {
+        let draft = drafts.pop().ok_or("no draft")?;
+        let above = names.pop().ok_or("no name")?;
+        push(&rt, &mut walk, draft, above)?;
+    }
+    assert!(rt; walk.at().bytes() == b"java/lang/Object".as_slice());
+    for name in CHAIN {
+        assert!(rt; walk.at().bytes() == name);
+        assert_eq!(rt; walk.pop().is_some(), name != b"p/E".as_slice());
+    }
+    let class = walk.into_class();
+    assert!(rt; class.name.bytes() == b"p/E".as_slice() && class.loader == LoaderId(0));
+    Ok(())
 }
 
 /// A want of memory is never told as a fault of a text.

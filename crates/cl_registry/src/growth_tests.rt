@@ -2,7 +2,7 @@
 //! succeeds when it is asked again.
 //!
 //! With ample memory nothing is refused. `rt try --test --fail-alloc N` refuses the Nth growth of each test, which then
-//! prints whose it was; a test that is refused one in what it makes beforehand ends with AllocError.
+//! prints whose it was; a test that is refused one in what it makes beforehand ends there, with an error.
 use crate::fixtures::{
     BOOT, FULL, FULL_POOL, OBJECT, PLAIN, POOL, boot, class, class_name, draft, file, home, load,
 };

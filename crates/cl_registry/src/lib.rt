@@ -7,6 +7,10 @@ pub mod draft;
 pub mod faulty;
 pub mod finding;
 #[cfg(test)]
+mod fixtures;
+#[cfg(test)]
+mod growth_tests;
+#[cfg(test)]
 mod input_tests;
 pub mod laws;
 pub mod memory;

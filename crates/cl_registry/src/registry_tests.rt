@@ -1,85 +1,16 @@
 //! The calls of the registry and of what it is given, with memory to spare, and values that belong elsewhere.
+use crate::fixtures::{
+    FULL, FULL_POOL, OBJECT, PLAIN, POOL, boot, class, class_name, draft, file, home, load,
+    registry, search, source,
+};
 use crate::{
-    Config, Draft, DraftFault, DraftRefused, Finding, Home, MemorySource, Registry, RegistryFault,
-    Script, Search, Source, Telling,
+    Config, Draft, DraftFault, DraftRefused, Finding, Registry, RegistryFault, Script, Source,
 };
 use cl_classfile::Fault;
-use cl_model::{Answer, Class, Event, LoaderId, Request, Untold, Verdict};
-use cl_names::Name;
+use cl_model::{Answer, Event, LoaderId, Request, Untold, Verdict};
 use std::alloc::{AllocError, Global};
 use std::sync::Arc;
 use std::test::Fail;
-
-const OBJECT: &[u8] =
-    b"\xca\xfe\xba\xbe\x00\x00\x00\x34\x00\x03\x01\x00\x10java/lang/Object\x07\x00\x01\x00\x21\x00\x02\x00\x00\x00\x00\x00\x00\x00\x00\x00\x00";
-
-/// A file up to its flags, in two parts: the version is between them. `p/A` is class 2, `java/lang/Object` class 4.
-const MAGIC: &[u8] = b"\xca\xfe\xba\xbe\x00\x00\x00";
-
-const POOL: &[u8] = b"\x00\x05\x01\x00\x03p/A\x07\x00\x01\x01\x00\x10java/lang/Object\x07\x00\x03";
-
-/// Flags and what follows them in a public class `p/A` over `java/lang/Object`.
-const PLAIN: &[u8] = b"\x00\x21\x00\x02\x00\x04\x00\x00\x00\x00\x00\x00\x00\x00";
-
-fn file(alloc: Global, version: u8, pool: &[u8], class: &[u8]) -> Result<Vec<u8>, AllocError> {
-    let mut bytes = Vec::from_slice(alloc, MAGIC)?;
-    bytes.push(version)?;
-    bytes.extend_from_slice(pool)?;
-    bytes.extend_from_slice(class)?;
-    Ok(bytes)
-}
-
-fn class_name(alloc: Global, name: &[u8]) -> Result<Name, AllocError> {
-    Name::class(alloc, name).map_err(|_| AllocError)
-}
-
-fn load(alloc: Global, loader: u16, name: &[u8]) -> Result<Request, AllocError> {
-    Ok(Request::Load(LoaderId(loader), class_name(alloc, name)?))
-}
-
-fn class(alloc: Global, loader: u16, name: &[u8]) -> Result<Class, AllocError> {
-    Ok(Class {
-        name: class_name(alloc, name)?,
-        loader: LoaderId(loader),
-    })
-}
-
-fn boot(alloc: Global) -> Result<Config, AllocError> {
-    Config::read(alloc, "[[loader]]\nname = \"boot\"\n").map_err(|_| AllocError)
-}
-
-/// A source that has these bytes for this name of the first loader.
-fn source(alloc: Global, name: &[u8], bytes: Vec<u8>) -> Result<Telling<Untold>, AllocError> {
-    let mut source = MemorySource::new(alloc);
-    let put = source.put(alloc, LoaderId(0), class_name(alloc, name)?, bytes);
-    put.map_err(|_| AllocError)?;
-    Ok(source.tell::<Untold>())
-}
-
-fn search(alloc: Global, name: &[u8]) -> Result<Search<Untold>, AllocError> {
-    let config = Arc::new(alloc, boot(alloc)?)?;
-    let _ = config.count();
-    let search = Search::new(alloc, config, LoaderId(0), class_name(alloc, name)?);
-    search.map_err(|_| AllocError)
-}
-
-/// The home of a name that has these bytes.
-fn home(alloc: Global, name: &[u8], bytes: Vec<u8>) -> Result<Home<Untold>, AllocError> {
-    let mut source = source(alloc, name, bytes)?;
-    let mut search = search(alloc, name)?;
-    let name = class_name(alloc, name)?;
-    let probe = source
-        .read(alloc, LoaderId(0), &name)
-        .map_err(|_| AllocError)?;
-    match search.take(probe) {
-        Ok(()) => search.home().map_err(|_| AllocError),
-        Err(_) => Err(AllocError),
-    }
-}
-
-fn draft(alloc: Global, name: &[u8], bytes: Vec<u8>) -> Result<Draft<Untold>, AllocError> {
-    Draft::read(alloc, home(alloc, name, bytes)?).map_err(|_| AllocError)
-}
 
 /// What is wrong with the bytes of a name.
 fn wrong(alloc: Global, name: &[u8], bytes: Vec<u8>) -> Result<Option<DraftFault>, AllocError> {
@@ -95,10 +26,6 @@ fn wrong(alloc: Global, name: &[u8], bytes: Vec<u8>) -> Result<Option<DraftFault
 #[test]
 fn drafts(rt: HostRuntime) -> Result<(), Fail> {
     let alloc = rt.alloc();
-    let full_pool: &[u8] =
-        b"\x00\x08\x01\x00\x03p/A\x07\x00\x01\x01\x00\x10java/lang/Object\x07\x00\x03\x01\x00\x01x\x01\x00\x01I\x03\x00\x00\x00\x07";
-    let full: &[u8] =
-        b"\x00\x31\x00\x02\x00\x04\x00\x00\x00\x01\x00\x02\x00\x05\x00\x06\x00\x00\x00\x00\x00\x01\x00\x05\x00\x00\x00\x01\x09";
     let hidden: &[u8] = b"\x00\x20\x00\x02\x00\x04\x00\x00\x00\x00\x00\x00\x00\x00";
     let interface: &[u8] = b"\x06\x01\x00\x02\x00\x04\x00\x01\x00\x04\x00\x00\x00\x00\x00\x00";
     let derived: &[u8] = b"\x00\x21\x00\x02\x00\x04\x00\x01\x00\x04\x00\x00\x00\x00\x00\x00";
@@ -107,13 +34,13 @@ fn drafts(rt: HostRuntime) -> Result<(), Fail> {
     let member = Some(DraftFault::Format(Fault::BadMember));
     for (name, version, pool, class, fault) in [
         (b"p/A".as_slice(), 52, POOL, PLAIN, None),
-        (b"p/A", 52, full_pool, full, None),
-        (b"p/Z", 52, full_pool, full, Some(DraftFault::OtherName)),
+        (b"p/A", 52, FULL_POOL, FULL, None),
+        (b"p/Z", 52, FULL_POOL, FULL, Some(DraftFault::OtherName)),
         (b"p/A", 53, POOL, PLAIN, Some(DraftFault::Version)),
         (b"p/Z", 52, POOL, hidden, flags),
         (b"p/Z", 52, POOL, interface, flags),
         (b"p/Z", 52, POOL, derived, supertype),
-        (b"p/A", 52, POOL, full, member),
+        (b"p/A", 52, POOL, FULL, member),
     ] {
         let bytes = file(alloc, version, pool, class)?;
         assert_eq!(rt; wrong(alloc, name, bytes)?, fault, "at {class:?}");
@@ -146,14 +73,6 @@ fn probes_that_are_not_next(rt: HostRuntime) -> Result<(), Fail> {
     }
     assert_eq!(rt; search.next_probe(), None);
     Ok(())
-}
-
-fn registry(alloc: Global, text: &str) -> Result<Registry<Untold>, AllocError> {
-    let config = boot(alloc)?;
-    let script = Script::read(alloc, &config, text).map_err(|_| AllocError)?;
-    let config = Arc::new(alloc, config)?;
-    let script = Arc::new(alloc, script)?;
-    Registry::new(alloc, config, script).map_err(|_| AllocError)
 }
 
 /// What a finding says: want of memory, a class of a loader, or a source fault at a loader.
@@ -282,6 +201,30 @@ fn strangers_change_nothing(rt: HostRuntime) -> Result<(), Fail> {
     );
     assert_eq!(rt;
         post(alloc, &mut tables, 0, load(alloc, 0, A)?, said)?,
+        None
+    );
+    assert!(rt; reports(alloc, tables)?);
+    Ok(())
+}
+
+/// What was made under one reading of a configuration's text serves a registry under another, of other lines.
+#[test]
+fn another_reading_is_the_same(rt: HostRuntime) -> Result<(), Fail> {
+    let alloc = rt.alloc();
+    let read = Config::read(alloc, "# a loader\n[[loader]]\n\nname = \"boot\"")?;
+    let script = Script::read(alloc, &boot(alloc)?, "load boot p/A\nload boot p/B")?;
+    let config = Arc::new(alloc, read)?;
+    let script = Arc::new(alloc, script)?;
+    let mut tables = Registry::<Untold>::new(alloc, config, script)?;
+    let top = Vec::from_slice(alloc, OBJECT)?;
+    assert_eq!(rt; define(alloc, &mut tables, b"java/lang/Object", top)?, None);
+    let plain = file(alloc, 52, POOL, PLAIN)?;
+    assert_eq!(rt; define(alloc, &mut tables, A, plain)?, None);
+    let other = load(alloc, 0, B)?;
+    assert_eq!(rt; post(alloc, &mut tables, 1, other, Says::Memory)?, None);
+    let asked = load(alloc, 0, A)?;
+    assert_eq!(rt;
+        post(alloc, &mut tables, 0, asked, Says::Class(0, A))?,
         None
     );
     assert!(rt; reports(alloc, tables)?);

@@ -1,5 +1,9 @@
 -- How a class file's reading ends, from its steps.
 use Rattle.std.proofs.Common.{◌≡◌, ◌⊎◌, ℕ, List, Option, Result, Ok, Err, IsErrAnd, inl, inr, refl, sym, subst}
+use Rattle.cl_classfile.specs.Checking.{Fails}
+use Rattle.cl_classfile.specs.Reading.{read_of}
+use Rattle.cl_classfile.specs.declared.fault.ReadError.{ReadError}
+use Rattle.cl_classfile.specs.declared.fault.ReadError.TheVariants as errors
 use Rattle.classlink.specs.Faults.{print_fault}
 use Rattle.classlink.specs.Report.{AppendsPart}
 use Rattle.classlink.specs.Readings.{AreLinesOf, FailsToRead, Giving, IsContent, IsReading, IsRefusal, IsUnread, ReadingOf}
@@ -24,9 +28,14 @@ by_bytes gives path old fault w = absurd w
 
 -- it is no class file
 pub by_class : (gives : Giving) (path : List ℕ) (old : Option (List ℕ)) (bytes : List ℕ) (fault : Fault) → IsContent gives bytes → IsRefusal bytes fault → FailsToRead gives path old old fault
-by_class gives path old bytes (File f) is w = (appends_nothing old, record { bytes = bytes; content = is; read = w })
+by_class gives path old bytes (File (errors.Fault f)) is w = (appends_nothing old, record { bytes = bytes; content = is; read = w })
+by_class gives path old bytes (File errors.Memory) is w = (appends_nothing old, tt)
 by_class gives path old bytes Memory is w = inl (appends_nothing old, tt)
 by_class gives path old bytes fault is w = absurd w
+
+pub refusal_is : (bytes : List ℕ) (error : ReadError) → Fails error (read_of bytes) → IsRefusal bytes (File error)
+refusal_is bytes errors.Memory w = tt
+refusal_is bytes (errors.Fault f) w = w
 
 -- its lines were not written whole
 pub by_writing : (gives : Giving) (path : List ℕ) (old new : Option (List ℕ)) (lines : List ℕ) (fault : PrintFault) → AreLinesOf gives lines → AppendsPart old new lines
@@ -40,7 +49,8 @@ by_writing gives path old new lines print.Memory is w = inr (record { lines = li
 as_memory : (gives : Giving) (path : List ℕ) (old new : Option (List ℕ)) (fault : Fault) → FailsToRead gives path old new fault → FailsToRead gives path old new Memory
 as_memory gives path old new (Path p) w = inl (w.0, tt)
 as_memory gives path old new TooLarge w = inl (w.0, tt)
-as_memory gives path old new (File f) w = inl (w.0, tt)
+as_memory gives path old new (File (errors.Fault f)) w = inl (w.0, tt)
+as_memory gives path old new (File errors.Memory) w = inl (w.0, tt)
 as_memory gives path old new Write w = inr w
 as_memory gives path old new Memory w = w
 as_memory gives path old new fault w = absurd w

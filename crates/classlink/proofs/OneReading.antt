@@ -11,9 +11,9 @@ use Rattle.cl_registry.specs.declared.script.ScriptFault.{ScriptFault}
 use Rattle.cl_registry.specs.declared.script.ScriptFault.TheVariants as scripts
 use Rattle.classlink.specs.Sections.{Cut, cut_of}
 use Rattle.classlink.specs.Bundles.{AllTell, FirstWrong, IsBundle, IsNoBundle, TellsSame, WrongClass, WrongConfig, WrongLine, WrongScript}
-use Rattle.classlink.specs.Faults.{SameFault, script_fault}
+use Rattle.classlink.specs.Faults.{IsReason, SameFault}
 use Rattle.classlink.specs.declared.fault.Fault.{Fault}
-use Rattle.classlink.specs.declared.fault.Fault.TheVariants.{Bundle, Memory}
+use Rattle.classlink.specs.declared.fault.Fault.TheVariants.{Bundle, Script}
 use Rattle.classlink.proofs.Alone.{one_told, one_wrong, same_faults, told_or_wrong}
 
 -- ---- sections and configuration
@@ -69,8 +69,8 @@ script_at text a b c d r v w p =
 
 -- ---- the script's fault
 
-told_fault : (f : Fault) (wrong : ScriptFault) → f ≡ script_fault wrong → f ≢ Memory → wrong ≢ scripts.Memory
-told_fault f wrong e some = λ h. some (e ∙ ap script_fault h)
+told_fault : (f : Fault) (wrong : ScriptFault) → f ≡ Script wrong → IsReason f → wrong ≢ scripts.Memory
+told_fault f wrong e some = λ h. subst IsReason (e ∙ ap (λ (x : ScriptFault). Script x) h) some
 
 -- ---- the whole
 
@@ -84,7 +84,7 @@ one_bundle text c d a b s t v w =
       one_scripted d.names w.cut.script s t (script_at text v.cut w.cut c d (Ok s) here there v.requests) w.requests,
     )
 
-pub bundle_or_fault : (text : List ℕ) (c : Configured) (a : Content) (s : Scripted) (f : Fault) → IsBundle text c a s → IsNoBundle text f → f ≢ Memory → ⊥
+pub bundle_or_fault : (text : List ℕ) (c : Configured) (a : Content) (s : Scripted) (f : Fault) → IsBundle text c a s → IsNoBundle text f → IsReason f → ⊥
 bundle_or_fault text c a s f v (WrongLine n e is) some = cut_or_line text v.cut n v.sections e
 bundle_or_fault text c a s f v (WrongConfig cut e wrong is) some = config_or_fault v.cut cut c (one_cut text v.cut cut v.sections e) v.configuration wrong
 bundle_or_fault text c a s f v (WrongClass cut config e k wrong) some =
@@ -94,7 +94,7 @@ bundle_or_fault text c a s f v (WrongScript cut config told fault e k tell wrong
     (script_at text v.cut cut c config (Ok s) (record { sections = v.sections; configuration = v.configuration }) (record { sections = e; configuration = k }) v.requests)
     wrong (told_fault f fault is some)
 
-pub one_fault : (text : List ℕ) (f g : Fault) → IsNoBundle text f → IsNoBundle text g → f ≢ Memory → g ≢ Memory → SameFault f g
+pub one_fault : (text : List ℕ) (f g : Fault) → IsNoBundle text f → IsNoBundle text g → IsReason f → IsReason g → SameFault f g
 one_fault text f g (WrongLine m e is) (WrongLine n h so) some other = same_faults f g (is ∙ ap (λ (i : ℕ). Bundle i) (one_line text m n e h) ∙ sym so)
 one_fault text f g (WrongLine m e is) (WrongConfig cut h wrong so) some other = absurd (cut_or_line text cut m h e)
 one_fault text f g (WrongLine m e is) (WrongClass cut config h k wrong) some other = absurd (cut_or_line text cut m h e)
@@ -115,4 +115,4 @@ one_fault text f g (WrongScript cut config told fault e j tell bad is) (WrongCla
     absurd (tells_or_wrong text cut cut2 config config2 told g (record { sections = e; configuration = j }) (record { sections = h; configuration = k }) tell wrong)
 one_fault text f g (WrongScript cut config told fault e j tell bad is) (WrongScript cut2 config2 told2 fault2 h k tell2 wrong so) some other =
     let here = script_at text cut cut2 config config2 (Err fault) (record { sections = e; configuration = j }) (record { sections = h; configuration = k }) bad in
-    same_faults f g (is ∙ ap script_fault (script_has_one_fault config2.names cut2.script fault fault2 here wrong (told_fault f fault is some) (told_fault g fault2 so other)) ∙ sym so)
+    same_faults f g (is ∙ ap (λ (x : ScriptFault). Script x) (script_has_one_fault config2.names cut2.script fault fault2 here wrong (told_fault f fault is some) (told_fault g fault2 so other)) ∙ sym so)

@@ -5,21 +5,29 @@ use Rattle.cl_registry.specs.Views.{Configured}
 use Rattle.cl_registry.specs.Configs.{ConfigOf}
 use Rattle.cl_registry.specs.Scripts.{script_of}
 use Rattle.cl_registry.specs.declared.script.ScriptFault.{ScriptFault}
-use Rattle.classlink.specs.Sections.{Cut, cut_of}
+use Rattle.cl_registry.specs.declared.script.ScriptFault.TheVariants as scripts
+use Rattle.cl_writer.specs.declared.fault.AssembleFault.TheVariants as assembler
+use Rattle.classlink.specs.Sections.{Cut, Part, cut_of}
 use Rattle.classlink.specs.Cuts.{IsWrongLine}
-use Rattle.classlink.specs.Faults.{script_fault}
-use Rattle.classlink.specs.Contents.{UnlessMemory}
+use Rattle.classlink.specs.Faults.{UnlessMemory}
+use Rattle.cl_writer.specs.Assembled.{AssembleOf}
+use Rattle.cl_writer.specs.declared.fault.AssembleFault.{AssembleFault}
+use Rattle.classlink.specs.Contents.{FaultOf, TextWritten, stated}
 use Rattle.classlink.specs.Bundles.{BundleOf, ConfigFaultOf, ContentsOf, IsNoBundle, WrongClass, WrongConfig, WrongLine, WrongScript}
 use Rattle.classlink.specs.declared.bundle.Bundle as declared
 use Rattle.classlink.specs.declared.fault.Fault.{Fault}
-use Rattle.classlink.specs.declared.fault.Fault.TheVariants.{Bundle, Memory}
+use Rattle.classlink.specs.declared.fault.Fault.TheVariants.{Bundle, Class, Script, Memory}
 
-unless : (fault : Fault) (P : Type 0) → P → UnlessMemory fault P
+pub unless : (fault : Fault) (P : Type 0) → P → UnlessMemory fault P
 unless Memory P p = tt
+unless (Script scripts.Memory) P p = tt
+unless (Class class assembler.Memory) P p = tt
 unless fault P p = p
 
 pub unless_by : (fault : Fault) (P Q : Type 0) → (P → Q) → UnlessMemory fault P → UnlessMemory fault Q
 unless_by Memory P Q f p = tt
+unless_by (Script scripts.Memory) P Q f p = tt
+unless_by (Class class assembler.Memory) P Q f p = tt
 unless_by fault P Q f p = f p
 
 pub no_bundle : (text : List ℕ) (r : Result declared.Bundle Fault) (fault : Fault) → IsErrAnd r (λ e. e ≡ fault) → UnlessMemory fault (IsNoBundle text fault) → BundleOf text r
@@ -39,6 +47,14 @@ pub by_class : (text : List ℕ) (cut : Cut) (config : Configured) (fault : Faul
 by_class text cut config fault e k w = unless_by fault _ (IsNoBundle text fault) (λ p. WrongClass cut config e k p) w
 
 pub by_script : (text : List ℕ) (cut : Cut) (config : Configured) (content : Content) (wrong : ScriptFault) → cut_of text ≡ Ok cut → ConfigOf cut.config (Ok config)
-    → ContentsOf config.names cut.classes (Ok content) → script_of config.names cut.script (Err wrong) → UnlessMemory (script_fault wrong) (IsNoBundle text (script_fault wrong))
+    → ContentsOf config.names cut.classes (Ok content) → script_of config.names cut.script (Err wrong) → UnlessMemory (Script wrong) (IsNoBundle text (Script wrong))
 by_script text cut config content wrong e k told w =
-    unless (script_fault wrong) (IsNoBundle text (script_fault wrong)) (WrongScript cut config told.0 wrong e k told.1 w refl)
+    unless (Script wrong) (IsNoBundle text (Script wrong)) (WrongScript cut config told.0 wrong e k told.1 w refl)
+
+-- a class section's assembler text is refused
+pub refused_text : (part : Part) (said : AssembleFault) (fault : Fault) → AssembleOf (stated part) (Err said) → FaultOf part said fault → UnlessMemory fault (TextWritten part (Err fault))
+refused_text part said Memory a f = tt
+refused_text part said (Class class assembler.Memory) a f = tt
+refused_text part said (Class class (assembler.BadLine n)) a f = (subst (λ (x : AssembleFault). AssembleOf (stated part) (Err x)) (sym f.0) a, f.1)
+refused_text part said (Class class (assembler.Invalid w)) a f = (subst (λ (x : AssembleFault). AssembleOf (stated part) (Err x)) (sym f.0) a, f.1)
+refused_text part said fault a f = absurd f

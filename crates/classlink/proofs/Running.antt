@@ -5,15 +5,16 @@ use Rattle.std.specs.Io.KnownBytes.{Appends}
 use Rattle.cl_model.specs.Content.{Content, Stored, content_at}
 use Rattle.cl_registry.specs.Scripts.{loader_named}
 use Rattle.classlink.specs.Sections.{Part}
-use Rattle.classlink.specs.Contents.{ContentOf, TextWritten, UnlessMemory, bytes_or, hex_bytes, hex_written, is_hex, stated}
+use Rattle.classlink.specs.Contents.{ContentOf, TextWritten, bytes_or, hex_bytes, hex_written, is_hex, stated}
 use Rattle.classlink.specs.Bundles.{FirstWrong, IsNoBundle, StoredAs, StoredBy, WrongClass, WrongConfig, WrongLine, WrongScript}
-use Rattle.classlink.specs.Faults.{IsInputFault, script_fault}
+use Rattle.classlink.specs.Faults.{IsInputFault, UnlessMemory}
 use Rattle.classlink.specs.Runs.{EndsBy, IsRun, RunOf, TellsFault, fault_line}
 use Rattle.classlink.specs.Report.{AppendsPart}
 use Rattle.classlink.specs.declared.fault.Fault.{Fault}
 use Rattle.classlink.specs.declared.fault.Fault.TheVariants.{Input, Write, TooLarge, NotUtf8, Bundle, Class, Script, Serve, Memory}
-use Rattle.cl_registry.specs.declared.script.ScriptFault.{ScriptFault}
 use Rattle.cl_registry.specs.declared.script.ScriptFault.TheVariants as scripts
+use Rattle.cl_writer.specs.declared.fault.AssembleFault.TheVariants as assembler
+use Rattle.classlink.proofs.Refusals.{unless}
 use Rattle.classlink.proofs.Written.{appends_nothing}
 
 pub ran_wrong : (input : Option (List ℕ)) (only : Bool) (old new : Option (List ℕ)) (r : Result (Unit {0}) Fault) (fault : Fault) → IsErrAnd r (λ e. e ≡ fault) → EndsBy input only old new fault → RunOf input only old new r
@@ -75,31 +76,37 @@ parts_wrong names before [] fault w = absurd w
 parts_wrong names before (part ∷ parts) fault (inl w) = part_wrong (loader_named names part.loader) before part fault w
 parts_wrong names before (part ∷ parts) fault (inr w) = parts_wrong names (before ++ w.0 ∷ []) parts fault w.2
 
-script_wrong : (wrong : ScriptFault) → IsOfBundle (script_fault wrong)
-script_wrong scripts.Memory = tt
-script_wrong wrong = tt
-
 of_bundle : (text : List ℕ) (fault : Fault) → IsNoBundle text fault → IsOfBundle fault
 of_bundle text fault (WrongLine n cut is) = same_of (Bundle n) fault (sym is) tt
 of_bundle text fault (WrongConfig cut e config is) = same_of (Bundle cut.config_line) fault (sym is) tt
 of_bundle text fault (WrongClass cut config e k w) = parts_wrong config.names [] cut.classes fault w
-of_bundle text fault (WrongScript cut config told wrong e k t w is) = same_of (script_fault wrong) fault (sym is) (script_wrong wrong)
+of_bundle text fault (WrongScript cut config told wrong e k t w is) = same_of (Script wrong) fault (sym is) tt
 
 if_read : (input : Option (List ℕ)) (text : List ℕ) (fault : Fault) → IfSome input (λ bytes. text ≡ bytes) → IsNoBundle text fault → IfSome input (λ bytes. IsNoBundle bytes fault)
 if_read None text fault e w = tt
 if_read (Some bytes) text fault e w = subst (λ (t : List ℕ). IsNoBundle t fault) e w
 
+if_told : (input : Option (List ℕ)) (fault : Fault) → IfSome input (λ bytes. IsNoBundle bytes fault) → IfSome input (λ bytes. UnlessMemory fault (IsNoBundle bytes fault))
+if_told None fault w = tt
+if_told (Some bytes) fault w = unless fault (IsNoBundle bytes fault) w
+
+if_any : (input : Option (List ℕ)) → IfSome input (λ _. Unit {0})
+if_any None = tt
+if_any (Some bytes) = tt
+
 by_fault : (input : Option (List ℕ)) (only : Bool) (old : Option (List ℕ)) (text : List ℕ) (fault : Fault) → IfSome input (λ bytes. text ≡ bytes) → IsNoBundle text fault → IsOfBundle fault
     → EndsBy input only old old fault
 by_fault input only old text (Bundle n) e w k = (appends_nothing old, if_read input text (Bundle n) e w)
-by_fault input only old text (Class class wrong) e w k = (appends_nothing old, if_read input text (Class class wrong) e w)
-by_fault input only old text (Script wrong) e w k = (appends_nothing old, if_read input text (Script wrong) e w)
+by_fault input only old text (Class class wrong) e w k = (appends_nothing old, if_told input (Class class wrong) (if_read input text (Class class wrong) e w))
+by_fault input only old text (Script wrong) e w k = (appends_nothing old, if_told input (Script wrong) (if_read input text (Script wrong) e w))
 by_fault input only old text Memory e w k = by_memory input only old
 by_fault input only old text fault e w k = absurd k
 
 unless_wrong : (input : Option (List ℕ)) (only : Bool) (old : Option (List ℕ)) (text : List ℕ) (fault : Fault) → IfSome input (λ bytes. text ≡ bytes) → (IsNoBundle text fault → EndsBy input only old old fault)
     → UnlessMemory fault (IsNoBundle text fault) → EndsBy input only old old fault
 unless_wrong input only old text Memory e k w = by_memory input only old
+unless_wrong input only old text (Script scripts.Memory) e k w = (appends_nothing old, if_any input)
+unless_wrong input only old text (Class class assembler.Memory) e k w = (appends_nothing old, if_any input)
 unless_wrong input only old text fault e k w = k w
 
 pub by_bundle : (input : Option (List ℕ)) (only : Bool) (old : Option (List ℕ)) (text : List ℕ) (fault : Fault) → IfSome input (λ bytes. text ≡ bytes) → UnlessMemory fault (IsNoBundle text fault)

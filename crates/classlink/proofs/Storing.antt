@@ -1,5 +1,5 @@
 -- Class sections put into a source one by one.
-use Rattle.std.proofs.Common.{◌≡◌, ℕ, Bool, false, MatchBool, List, [], ◌∷◌, ◌++◌, Option, Some, None, is_some, Result, Ok, Err, ◌==◌, ◌&&◌, nat_eq, if◌then◌else◌, refl, sym, subst, ap, ◌∙◌, append-nil, inl, inr}
+use Rattle.std.proofs.Common.{◌≡◌, ℕ, Bool, false, MatchBool, List, [], ◌∷◌, ◌++◌, Option, Some, None, is_some, Result, Ok, Err, IsErrAnd, ◌==◌, ◌&&◌, nat_eq, if◌then◌else◌, refl, sym, subst, ap, ◌∙◌, append-nil, inl, inr}
 use Rattle.std.specs.Cmp.Lexicographic.{pointwise}
 use Rattle.cl_model.specs.Content.{Content, Stored, content_at}
 use Rattle.cl_registry.specs.Puts.{TellsMore}
@@ -7,7 +7,7 @@ use Rattle.cl_registry.specs.Shelves.{Inserts}
 use Rattle.cl_registry.proofs.Contents.{tells_more}
 use Rattle.cl_registry.specs.Scripts.{loader_named}
 use Rattle.classlink.specs.Sections.{Part}
-use Rattle.classlink.specs.Contents.{UnlessMemory}
+use Rattle.classlink.specs.Faults.{UnlessMemory}
 use Rattle.classlink.specs.Bundles.{AllTell, ContentsOf, FirstWrong, StoredAs, StoredBy, StoredOf, TellsSame}
 use Rattle.classlink.specs.declared.fault.Fault.{Fault}
 use Rattle.classlink.specs.declared.fault.Fault.TheVariants.{Bundle}
@@ -71,6 +71,10 @@ pub stored_wrong : (names : List (List ℕ)) (all after : List Part) (part : Par
     → UnlessMemory fault (StoredOf names old part (Err fault)) → ContentsOf names all (Err fault)
 stored_wrong names all after part old fault i w =
     unless_by fault (StoredOf names old part (Err fault)) (FirstWrong names [] all fault) (λ e. i.stop fault (inl (same_stored names old i.told part (Err fault) i.same e))) w
+
+pub contents_wrong : (names : List (List ℕ)) (all : List Part) (r : Result Content Fault) (fault : Fault) → IsErrAnd r (λ e. e ≡ fault) → ContentsOf names all (Err fault) → ContentsOf names all r
+contents_wrong names all (Ok x) fault e w = absurd e
+contents_wrong names all (Err f) fault e w = subst (λ (g : Fault). ContentsOf names all (Err g)) (sym e) w
 
 pub stored_all : (names : List (List ℕ)) (all : List Part) (content : Content) → IsStored names all [] content → ContentsOf names all (Ok content)
 stored_all names all content i = (i.told, i.go_on i.told refl, i.same)

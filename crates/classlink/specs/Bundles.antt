@@ -9,10 +9,10 @@ use Rattle.cl_registry.specs.Scripts.{loader_named, script_of}
 use Rattle.cl_registry.specs.declared.config.ConfigFault.TheVariants.{BadLoader}
 use Rattle.cl_registry.specs.declared.script.ScriptFault.{ScriptFault}
 use Rattle.classlink.specs.Sections.{Cut, Part, cut_of}
-use Rattle.classlink.specs.Contents.{ContentOf, UnlessMemory}
-use Rattle.classlink.specs.Faults.{script_fault}
+use Rattle.classlink.specs.Contents.{ContentOf}
+use Rattle.classlink.specs.Faults.{UnlessMemory}
 use Rattle.classlink.specs.declared.fault.Fault.{Fault}
-use Rattle.classlink.specs.declared.fault.Fault.TheVariants.{Bundle}
+use Rattle.classlink.specs.declared.fault.Fault.TheVariants.{Bundle, Script}
 use Rattle.classlink.specs.declared.bundle.Bundle as declared
 
 -- ---- the class sections
@@ -67,7 +67,7 @@ pub data IsNoBundle (text : List ℕ) (fault : Fault) : Type 0 where
   WrongConfig : (cut : Cut) → cut_of text ≡ Ok cut → ConfigOf cut.config (Err (BadLoader 0)) → fault ≡ Bundle cut.config_line → IsNoBundle text fault
   WrongClass : (cut : Cut) (config : Configured) → cut_of text ≡ Ok cut → ConfigOf cut.config (Ok config) → FirstWrong config.names [] cut.classes fault → IsNoBundle text fault
   WrongScript : (cut : Cut) (config : Configured) (told : Content) (wrong : ScriptFault) → cut_of text ≡ Ok cut → ConfigOf cut.config (Ok config)
-      → AllTell config.names [] cut.classes told → script_of config.names cut.script (Err wrong) → fault ≡ script_fault wrong → IsNoBundle text fault
+      → AllTell config.names [] cut.classes told → script_of config.names cut.script (Err wrong) → fault ≡ Script wrong → IsNoBundle text fault
 
 -- what reading a text answers (own choice)
 abbrev pub BundleOf : List ℕ → Result declared.Bundle Fault → Type 0

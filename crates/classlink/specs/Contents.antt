@@ -14,11 +14,6 @@ use Rattle.classlink.specs.Sections.{Part}
 use Rattle.classlink.specs.declared.fault.Fault.{Fault}
 use Rattle.classlink.specs.declared.fault.Fault.TheVariants.{Bundle, Class, Memory}
 
--- of want of memory nothing is said (own choice)
-abbrev pub UnlessMemory : Fault → Type 0 → Type 0
-UnlessMemory Memory P = ⊤
-UnlessMemory _ P = P
-
 -- the lines of a class section that are not skipped, counted from the one after `%class` (own choice)
 abbrev pub stated : Part → List Numbered
 stated part = stated_from 1 part.body
@@ -95,7 +90,6 @@ ContentOf part (Err fault) = Written part (Err fault) ⊎ ((fault ≡ Bundle par
 
 -- the fault of a class section whose text has this one (own choice)
 abbrev pub FaultOf : Part → AssembleFault → Fault → Type 0
-FaultOf part assembler.Memory fault = fault ≡ Memory
 FaultOf part said (Class class fault) = (fault ≡ said) × (string_bytes class ≡ class_text part)
 FaultOf part said Memory = ⊤
 FaultOf part said _ = ⊥

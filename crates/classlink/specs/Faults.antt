@@ -3,8 +3,8 @@ use Rattle.std.specs.Prelude.{◌≡◌, ⊤, ℕ, List, ◌++◌, codes, string
 use Rattle.std.specs.Fmt.{decimal}
 use Rattle.cl_classfile.specs.Texts as files
 use Rattle.cl_writer.specs.Faults.{assemble_text}
+use Rattle.cl_writer.specs.declared.fault.AssembleFault.TheVariants as assembler
 use Rattle.cl_registry.specs.Texts.{script_text}
-use Rattle.cl_registry.specs.declared.script.ScriptFault.{ScriptFault}
 use Rattle.cl_registry.specs.declared.script.ScriptFault.TheVariants as scripts
 use Rattle.cl_schedule.specs.Texts.{serve_text}
 use Rattle.classlink.specs.declared.fault.Fault.{Fault}
@@ -37,10 +37,19 @@ abbrev pub print_fault : PrintFault → Fault
 print_fault print.Write = Write
 print_fault print.Memory = Memory
 
--- why a text is no script, and want of memory told apart (own choice)
-abbrev pub script_fault : ScriptFault → Fault
-script_fault scripts.Memory = Memory
-script_fault fault = Script fault
+-- of want of memory nothing is said, whoever tells of it (own choice)
+abbrev pub UnlessMemory : Fault → Type 0 → Type 0
+UnlessMemory Memory P = ⊤
+UnlessMemory (Script scripts.Memory) P = ⊤
+UnlessMemory (Class class assembler.Memory) P = ⊤
+UnlessMemory _ P = P
+
+-- the fault is not want of memory (own choice)
+abbrev pub IsReason : Fault → Type 0
+IsReason Memory = ⊥
+IsReason (Script scripts.Memory) = ⊥
+IsReason (Class class assembler.Memory) = ⊥
+IsReason _ = ⊤
 
 -- the text of a fault (own choice); of what a class file, a script or its service is refused with, that fault's own text
 abbrev pub fault_text : Fault → List ℕ
@@ -53,7 +62,7 @@ fault_text (Class class fault) = codes "class " ++ string_bytes class ++ codes "
 fault_text (Script fault) = codes "script: " ++ script_text fault
 fault_text (Serve fault) = serve_text fault
 fault_text (Path path) = codes "cannot read " ++ string_bytes path
-fault_text (File fault) = files.fault_text fault
+fault_text (File error) = files.error_text error
 fault_text Words = codes "words are not UTF-8"
 fault_text Memory = codes "out of memory"
 

@@ -3,6 +3,7 @@ use Rattle.std.specs.Prelude.{◌≡◌, ◌⊎◌, ◌<◌, ◌≤◌, ℕ, ⊤
 use Rattle.std.specs.Io.KnownBytes.{Appends}
 use Rattle.cl_classfile.specs.Structure.{Structure}
 use Rattle.cl_classfile.specs.declared.fault.Fault.{Fault as ClassFault}
+use Rattle.cl_classfile.specs.declared.fault.ReadError.TheVariants as errors
 use Rattle.cl_classfile.specs.Reading.{read_of}
 use Rattle.cl_writer.specs.Listings.{listing_of}
 use Rattle.classlink.specs.Report.{AppendsPart}
@@ -59,7 +60,8 @@ pub record IsTooLarge (gives : Giving) : Type 0 where
 abbrev pub FailsToRead : Giving → List ℕ → Option (List ℕ) → Option (List ℕ) → Fault → Type 0
 FailsToRead gives path old new (Path p) = WritesNothing old new ((string_bytes p ≡ path) × gives None)
 FailsToRead gives path old new TooLarge = WritesNothing old new (IsTooLarge gives)
-FailsToRead gives path old new (File fault) = WritesNothing old new (IsNoClass gives fault)
+FailsToRead gives path old new (File (errors.Fault fault)) = WritesNothing old new (IsNoClass gives fault)
+FailsToRead gives path old new (File errors.Memory) = WritesNothing old new ⊤
 FailsToRead gives path old new Write = BreaksLines gives old new
 FailsToRead gives path old new Memory = WritesNothing old new ⊤ ⊎ BreaksLines gives old new
 FailsToRead gives path old new _ = ⊥
@@ -86,6 +88,7 @@ IsUnread gives path _ = ⊥
 
 -- the first fault of bytes that spell no class file (JVMS SE 8, 4; the order of faults is an own choice), or want of memory
 abbrev pub IsRefusal : List ℕ → Fault → Type 0
-IsRefusal bytes (File fault) = read_of bytes ≡ Err fault
+IsRefusal bytes (File (errors.Fault fault)) = read_of bytes ≡ Err fault
+IsRefusal bytes (File errors.Memory) = ⊤
 IsRefusal bytes Memory = ⊤
 IsRefusal bytes _ = ⊥

@@ -8,7 +8,7 @@ use Rattle.cl_registry.specs.Reports.{IsNamed}
 use Rattle.cl_registry.specs.Tables.{IsTrusted, RunsAs, posts}
 use Rattle.cl_registry.specs.declared.report.Report.{Report}
 use Rattle.classlink.specs.Bundles.{IsBundle, IsNoBundle}
-use Rattle.classlink.specs.Faults.{fault_text}
+use Rattle.classlink.specs.Faults.{UnlessMemory, fault_text}
 use Rattle.classlink.specs.Report.{AppendsPart, report_lines}
 use Rattle.cl_schedule.specs.Headline.{EachSpelt, Alike, CirclesExact}
 use Rattle.cl_schedule.specs.Serving.{InOrder, reported, upto}
@@ -61,8 +61,8 @@ EndsBy input only_answers old new Input = WritesNothing old new ⊤
 EndsBy input only_answers old new TooLarge = WritesNothing old new (IfSome input (λ bytes. 67108864 < length bytes))
 EndsBy input only_answers old new NotUtf8 = WritesNothing old new (IfSome input (λ bytes. (length bytes ≤ 67108864) × ¬ (IsUtf8 bytes)))
 EndsBy input only_answers old new (Bundle n) = WritesNothing old new (IfSome input (λ bytes. IsNoBundle bytes (Bundle n)))
-EndsBy input only_answers old new (Class class wrong) = WritesNothing old new (IfSome input (λ bytes. IsNoBundle bytes (Class class wrong)))
-EndsBy input only_answers old new (Script wrong) = WritesNothing old new (IfSome input (λ bytes. IsNoBundle bytes (Script wrong)))
+EndsBy input only_answers old new (Class class wrong) = WritesNothing old new (IfSome input (λ bytes. UnlessMemory (Class class wrong) (IsNoBundle bytes (Class class wrong))))
+EndsBy input only_answers old new (Script wrong) = WritesNothing old new (IfSome input (λ bytes. UnlessMemory (Script wrong) (IsNoBundle bytes (Script wrong))))
 EndsBy input only_answers old new (Serve wrong) = WritesNothing old new (wrong ≡ serve.Memory)
 EndsBy input only_answers old new Write = BreaksOff input only_answers old new
 EndsBy input only_answers old new Memory = WritesNothing old new ⊤ ⊎ BreaksOff input only_answers old new

@@ -4,8 +4,9 @@ ghost use Rattle.cl_registry.specs.Configs.{ConfigOf};
 ghost use Rattle.cl_registry.specs.Lines.{stated_from, words_of};
 ghost use Rattle.cl_registry.specs.Scripts.{HasLoaders};
 ghost use Rattle.classlink.specs.Bundles.{BundleOf, ConfigFaultOf, ContentsOf, PutOf};
-ghost use Rattle.classlink.specs.Contents.{FaultOf, TextWritten, UnlessMemory, Written, all_digits, class_text, hex_bytes, is_hex, line_digits};
+ghost use Rattle.classlink.specs.Contents.{FaultOf, TextWritten, Written, all_digits, class_text, hex_bytes, is_hex, line_digits};
 ghost use Rattle.classlink.specs.Cuts.{part_of};
+ghost use Rattle.classlink.specs.Faults.{UnlessMemory};
 
 use crate::fault::Fault;
 use crate::sections::{self, ClassSection};
@@ -25,7 +26,8 @@ pub struct Bundle {
 }
 
 /// Reads a bundle from its front: section lines, configuration, class sections in order, script. The first thing that
-/// is wrong is `Bundle`, with its line, `Class` in the assembler text of a class, or in the script `Script`. `Memory`.
+/// is wrong is `Bundle`, with its line, `Class` in the assembler text of a class, or in the script `Script`. For
+/// want of memory it is `Memory`, or the assembler's or the script's own fault.
 pub fn read(alloc: Global, text: &str) -> Result<Bundle, Fault>
     ensures bundle { BundleOf text.now result }
     ensures loaders { IfOk result (λ b. HasLoaders (length b.config.names) b.script.requests) }
@@ -119,6 +121,7 @@ fn is_hex(body: &str) -> bool
 }
 
 /// The bytes of the class that a section of assembler text describes.
+#[tactic(auto, using(crate::proofs::Refusals::refused_text))]
 fn assembled(alloc: Global, section: &ClassSection<'_>) -> Result<Vec<u8>, Fault>
     ensures ok { IfOk result (λ bytes. TextWritten (part_of section.now) (Ok bytes.items)) }
     ensures err { IfErr result (λ fault. UnlessMemory fault (TextWritten (part_of section.now) (Err fault))) }
@@ -136,9 +139,6 @@ fn assembled(alloc: Global, section: &ClassSection<'_>) -> Result<Vec<u8>, Fault
 fn class_fault(alloc: Global, section: &ClassSection<'_>, fault: AssembleFault) -> Fault
     ensures { FaultOf (part_of section.now) fault result }
 {
-    if fault == AssembleFault::Memory {
-        return Fault::Memory;
-    }
     match class_text(alloc, section) {
         Ok(class) => Fault::Class { class, fault },
         Err(_) => Fault::Memory,

@@ -2,6 +2,7 @@ ghost use Rattle.std.specs.Prelude.{◌≡◌};
 
 use crate::input::InputFault;
 use crate::print::PrintFault;
+use cl_classfile::ReadError;
 use cl_registry::ScriptFault;
 use cl_schedule::ServeFault;
 use cl_writer::AssembleFault;
@@ -24,10 +25,11 @@ pub enum Fault {
     Serve(ServeFault),
     /// The file at this path cannot be read.
     Path(String),
-    /// What is wrong with a class file.
-    File(cl_classfile::Fault),
+    /// Why a class file was not read.
+    File(ReadError),
     /// The program's own words are not UTF-8.
     Words,
+    /// Want of memory that no other fault tells of.
     Memory,
 }
 
@@ -115,14 +117,11 @@ impl From<ServeFault> for Fault {
 }
 
 impl From<ScriptFault> for Fault {
-    ghost use Rattle.classlink.specs.Faults.{script_fault};
+    ghost use Rattle.classlink.specs.declared.fault.Fault.TheVariants.{Script};
 
-    ghost from_gives = { λ fault e. e ≡ script_fault fault };
+    ghost from_gives = { λ fault e. e ≡ Script fault };
 
     fn from(fault: ScriptFault) -> Fault {
-        match fault {
-            ScriptFault::Memory => Fault::Memory,
-            fault => Fault::Script(fault),
-        }
+        Fault::Script(fault)
     }
 }

@@ -1,13 +1,12 @@
 //! Laws of a bundle, each the contract of a function that does nothing.
-ghost use Rattle.std.specs.Prelude.{◌≡◌, ◌≢◌, ℕ, List, Result};
+ghost use Rattle.std.specs.Prelude.{◌≡◌, ℕ, List, Result};
 ghost use Rattle.cl_model.specs.Content.{Content, Stored};
 ghost use Rattle.cl_registry.specs.Views.{Configured, Scripted};
 ghost use Rattle.classlink.specs.Bundles.{AllTell, FirstWrong, IsBundle, IsNoBundle, StoredOf, TellsSame};
 ghost use Rattle.classlink.specs.Contents.{ContentOf};
-ghost use Rattle.classlink.specs.Faults.{SameAnswer, SameFault, fault_text};
+ghost use Rattle.classlink.specs.Faults.{IsReason, SameAnswer, SameFault, fault_text};
 ghost use Rattle.classlink.specs.Sections.{Part};
 ghost use Rattle.classlink.specs.declared.fault.Fault.{Fault};
-ghost use Rattle.classlink.specs.declared.fault.Fault.TheVariants.{Memory};
 
 /// Faults that are the same are printed as the same text.
 pub fn same_faults_print_alike()
@@ -30,6 +29,6 @@ pub fn sections_tell_one_content()
 /// Want of memory apart, a text is read in one way at most: as one bundle, or with one fault.
 pub fn reads_one_way()
     ensures same { (text : List ℕ) (c d : Configured) (a b : Content) (s t : Scripted) → IsBundle text c a s → IsBundle text d b t → (c ≡ d) × TellsSame a b × (s ≡ t) }
-    ensures one { (text : List ℕ) (c : Configured) (a : Content) (s : Scripted) (fault : Fault) → IsBundle text c a s → IsNoBundle text fault → fault ≢ Memory → ⊥ }
-    ensures fault { (text : List ℕ) (f g : Fault) → IsNoBundle text f → IsNoBundle text g → f ≢ Memory → g ≢ Memory → SameFault f g }
+    ensures one { (text : List ℕ) (c : Configured) (a : Content) (s : Scripted) (fault : Fault) → IsBundle text c a s → IsNoBundle text fault → IsReason fault → ⊥ }
+    ensures fault { (text : List ℕ) (f g : Fault) → IsNoBundle text f → IsNoBundle text g → IsReason f → IsReason g → SameFault f g }
 {}

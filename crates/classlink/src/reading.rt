@@ -6,7 +6,6 @@ ghost use Rattle.classlink.specs.Readings.{IsContent, IsListing, IsRefusal, IsUn
 use crate::fault::Fault;
 use crate::input::{InputFault, read_bytes};
 use crate::print::write_out;
-use cl_classfile::ReadError;
 use cl_writer::listing;
 use std::alloc::Global;
 use std::fs;
@@ -74,7 +73,6 @@ fn class_lines(alloc: Global, bytes: &[u8]) -> Result<String, Fault>
 {
     match cl_classfile::read(alloc, bytes) {
         Ok(file) => Ok(listing(alloc, &file)?),
-        Err(ReadError::Fault(fault)) => Err(Fault::File(fault)),
-        Err(ReadError::Memory) => Err(Fault::Memory),
+        Err(error) => Err(Fault::File(error)),
     }
 }

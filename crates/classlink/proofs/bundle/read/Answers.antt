@@ -1,5 +1,5 @@
 use Rattle.classlink.specs.Cuts.{sections_of}
-use Rattle.classlink.specs.Faults.{script_fault}
+use Rattle.classlink.specs.declared.fault.Fault.TheVariants.{Script}
 use Rattle.classlink.proofs.Refusals.{by_class, by_config, by_line, by_script, no_bundle}
 use Rattle.classlink.proofs.bundle.read.Goals as goal
 
@@ -19,5 +19,5 @@ returns-in_err-source-clause-bundle c =
 
 pub returns-in_err-script-clause-bundle : goal.returns-in_err-script-clause-bundle
 returns-in_err-script-clause-bundle c =
-    no_bundle c.args.text.now c.from_residual-in_err-script.result (script_fault c.in_err-script.field-0.0) c.from_residual-in_err-script.ensures.1
+    no_bundle c.args.text.now c.from_residual-in_err-script.result (Script c.in_err-script.field-0.0) c.from_residual-in_err-script.ensures.1
     (by_script c.args.text.now (sections_of c.in_ok-sections.sections) c.in_ok-config.config c.in_ok-source.source _ c.in_ok-sections.ensures c.in_ok-config.ensures c.in_ok-source.ensures c.in_err-script.ensures.read)

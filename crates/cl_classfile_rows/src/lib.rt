@@ -1,0 +1,11 @@
+//! Tables of class files (`docs/FORMATS.md`, 'Class file') as files: of each row one that keeps it and one that breaks it,
+//! with its fault. There is nothing here but tests. What is expected was taken from the tables and from chapter 4 of the
+//! Java Virtual Machine Specification, SE 8.
+#![tactic(auto)]
+
+#[cfg(test)]
+mod bytes;
+#[cfg(test)]
+mod check;
+#[cfg(test)]
+mod flags;

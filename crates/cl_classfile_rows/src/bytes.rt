@@ -3,7 +3,7 @@
 use std::alloc::{AllocError, Global};
 
 /// What stands in a pool (JVMS SE 8, 4.4). A long and a double take two indices, each of the others one.
-#[derive(Clone, Copy, Debug)]
+#[derive(Clone, Copy)]
 pub enum Item<'a> {
     Utf8(&'a [u8]),
     Integer(i32),
@@ -23,19 +23,32 @@ pub enum Item<'a> {
     MethodType(u16),
     /// The index of a bootstrap method, and a name and type.
     InvokeDynamic(u16, u16),
+    /// A Utf8 in which a part stands several times.
+    Repeated(Repeated<'a>),
+    /// A tag alone.
+    Tag(u8),
     /// These bytes, tag included, at one index.
     Raw(&'a [u8]),
 }
 
+/// A text in which a part stands so many times.
+#[derive(Clone, Copy)]
+pub struct Repeated<'a> {
+    pub before: &'a [u8],
+    pub part: &'a [u8],
+    pub count: usize,
+    pub behind: &'a [u8],
+}
+
 /// An attribute: the index of its name, and its bytes.
-#[derive(Clone, Copy, Debug)]
+#[derive(Clone, Copy)]
 pub struct Attribute<'a> {
     pub name: u16,
     pub bytes: &'a [u8],
 }
 
 /// A field or a method: its flags, the indices of its name and its descriptor, its attributes.
-#[derive(Clone, Copy, Debug)]
+#[derive(Clone, Copy)]
 pub struct Member<'a> {
     pub flags: u16,
     pub name: u16,
@@ -44,13 +57,14 @@ pub struct Member<'a> {
 }
 
 /// A class file, which may be no good one.
-#[derive(Clone, Copy, Debug)]
+#[derive(Clone, Copy)]
 pub struct File<'a> {
     /// The magic, the minor and the major version.
     pub header: &'a [u8],
-    /// The first entries of the pool, and those behind them.
+    /// The first entries of the pool, those behind them, and one more at the end, of one index.
     pub pool: &'a [Item<'a>],
     pub more: &'a [Item<'a>],
+    pub last: Option<Item<'a>>,
     pub flags: u16,
     pub this_class: u16,
     pub super_class: u16,
@@ -65,14 +79,12 @@ pub struct File<'a> {
 /// The magic, and version 52.0.
 pub const HEADER: &[u8] = &[0xca, 0xfe, 0xba, 0xbe, 0, 0, 0, 52];
 
-/// Indices of the pool of `CLASS`.
+/// Indices of the pool of `CLASS`, behind which the next is 5.
 pub const THIS: u16 = 1;
 
 pub const THIS_TEXT: u16 = 2;
 
 pub const OBJECT: u16 = 3;
-/// The first index behind it.
-pub const NEXT: u16 = 5;
 
 /// The public class p/A, with nothing in it.
 pub const CLASS: File<'static> = File {
@@ -84,6 +96,7 @@ pub const CLASS: File<'static> = File {
         Item::Utf8(b"java/lang/Object"),
     ],
     more: &[],
+    last: None,
     flags: 0x0021,
     this_class: THIS,
     super_class: OBJECT,
@@ -135,6 +148,18 @@ fn push_text(bytes: &mut Vec<u8>, text: &[u8]) -> Result<(), AllocError> {
     bytes.extend_from_slice(text)
 }
 
+fn push_repeated(bytes: &mut Vec<u8>, text: Repeated<'_>) -> Result<(), AllocError> {
+    let parts = text.part.len().saturating_mul(text.count);
+    let rest = text.before.len().saturating_add(text.behind.len());
+    bytes.push(1)?;
+    push_count(bytes, parts.saturating_add(rest))?;
+    bytes.extend_from_slice(text.before)?;
+    for _ in 0..text.count {
+        bytes.extend_from_slice(text.part)?;
+    }
+    bytes.extend_from_slice(text.behind)
+}
+
 /// Table 4.4-A.
 fn push_item(bytes: &mut Vec<u8>, item: Item<'_>) -> Result<(), AllocError> {
     match item {
@@ -155,6 +180,8 @@ fn push_item(bytes: &mut Vec<u8>, item: Item<'_>) -> Result<(), AllocError> {
         }
         Item::MethodType(descriptor) => push_one(bytes, 16, descriptor),
         Item::InvokeDynamic(bootstrap, pair) => push_two(bytes, 18, bootstrap, pair),
+        Item::Repeated(text) => push_repeated(bytes, text),
+        Item::Tag(tag) => Ok(bytes.push(tag)?),
         Item::Raw(raw) => bytes.extend_from_slice(raw),
     }
 }
@@ -186,12 +213,16 @@ impl<'a> File<'a> {
     pub fn bytes(&self, alloc: Global) -> Result<Vec<u8>, AllocError> {
         let mut bytes = Vec::from_slice(alloc, self.header)?;
         let count = indices(self.pool).saturating_add(indices(self.more));
-        push_u16(&mut bytes, count.saturating_add(1))?;
+        let last = if self.last.is_some() { 2 } else { 1 };
+        push_u16(&mut bytes, count.saturating_add(last))?;
         for item in self.pool {
             push_item(&mut bytes, *item)?;
         }
         for item in self.more {
             push_item(&mut bytes, *item)?;
+        }
+        if let Some(item) = self.last {
+            push_item(&mut bytes, item)?;
         }
         push_u16(&mut bytes, self.flags)?;
         push_u16(&mut bytes, self.this_class)?;

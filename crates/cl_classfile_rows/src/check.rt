@@ -14,15 +14,25 @@ pub fn fault_of(alloc: Global, bytes: &[u8]) -> Result<Option<Fault>, AllocError
     }
 }
 
+/// The bytes of this row have this fault, or with `None` are read.
+pub fn check_bytes<R: AllocGlobal + Abort>(
+    rt: &R,
+    rule: &str,
+    bytes: &[u8],
+    expected: Option<Fault>,
+) -> Result<(), AllocError> {
+    let found = fault_of(rt.alloc(), bytes)?;
+    assert_eq!(rt; found, expected, "{rule}: {bytes:?}");
+    Ok(())
+}
+
 /// The file of this row has this fault, or with `None` is read.
 pub fn check<R: AllocGlobal + Abort>(
     rt: &R,
-    row: &str,
+    rule: &str,
     file: &File<'_>,
     expected: Option<Fault>,
 ) -> Result<(), AllocError> {
     let bytes = file.bytes(rt.alloc())?;
-    let found = fault_of(rt.alloc(), bytes.as_slice())?;
-    assert_eq!(rt; found, expected, "{row}: {file:?}");
-    Ok(())
+    check_bytes(rt, rule, bytes.as_slice(), expected)
 }

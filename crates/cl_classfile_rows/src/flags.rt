@@ -51,7 +51,7 @@ const NO_FIELD: u16 = 0xaf20;
 const NO_METHOD: u16 = 0xe200;
 
 /// Whose flags they are. An interface's own flags are those of a class.
-#[derive(Clone, Copy, Debug)]
+#[derive(Clone, Copy)]
 enum Owner {
     Class,
     Field,

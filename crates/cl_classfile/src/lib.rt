@@ -28,10 +28,3 @@ pub use laws::{has_one_spelling, parts_are_spelled, spells_one_file};
 pub use member::Member;
 pub use parts::{Parts, Refused};
 pub use reference::{Reference, Symbol};
-
-#[cfg(test)]
-mod parts_tests;
-#[cfg(test)]
-mod pool_tests;
-#[cfg(test)]
-mod tests;

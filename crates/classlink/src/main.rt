@@ -11,6 +11,8 @@ mod run;
 mod sections;
 #[cfg(test)]
 mod tests;
+#[cfg(test)]
+mod tests_host;
 mod words;
 
 use fault::Fault;

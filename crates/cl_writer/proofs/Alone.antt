@@ -1,7 +1,6 @@
 -- What lines say, and what they are assembled to, is one thing at most.
-use Rattle.std.proofs.Common.{◌≡◌, inl, inr, ℕ, ℤ, List, [], ◌∷◌, ◌++◌, fold, Option, Some, None, Result, Ok, Err, codes, refl, sym, ap, subst, ◌∙◌, arith}
+use Rattle.std.proofs.Common.{◌≡◌, inl, inr, ℕ, ℤ, List, [], ◌∷◌, ◌++◌, fold, Some, None, Result, Ok, Err, codes, refl, sym, ap, subst, ◌∙◌, arith}
 use Rattle.std.specs.Prelude.{◌≢◌}
-use Rattle.std.specs.Str.Parse.{signed_digits_value}
 use Rattle.cl_lines.specs.Lines.{Numbered, words_of}
 use Rattle.cl_names.specs.Escape.{WritesName}
 use Rattle.cl_names.proofs.Escapes.{name_alone}

@@ -1,7 +1,6 @@
 -- Each text has an answer: what a line says is found, or that it says nothing.
-use Rattle.std.proofs.Common.{◌≡◌, ◌⊎◌, inl, inr, ℕ, ◌^◌, ◌<◌, ℤ, pos, negsuc, true, eqb, ltb, List, [], ◌∷◌, length, fold, Option, Some, None, Result, Ok, Err, codes, refl, sym, ap, subst, ◌∙◌, arith}
-use Rattle.std.specs.Prelude.{◌≢◌, slice_index, FitsSigned}
-use Rattle.std.specs.Int.{w32}
+use Rattle.std.proofs.Common.{◌≡◌, ◌⊎◌, inl, inr, ℕ, ◌^◌, ◌<◌, eqb, ltb, List, [], ◌∷◌, length, fold, Option, Some, None, Result, Ok, Err, codes, refl, sym, ap, subst, ◌∙◌, arith}
+use Rattle.std.specs.Prelude.{◌≢◌, slice_index}
 use Rattle.std.specs.Char.{digit_value}
 use Rattle.std.specs.Str.Parse.{AllDigits, IsNumeral, without_leading_sign, signed_digits_value}
 use Rattle.std.proofs.lemmas.Bool.{cases_Bool, eqb-true, ltb-true, lt-ltb, false≢true}
@@ -18,10 +17,8 @@ use Rattle.cl_classfile.proofs.Tables.{parts_say}
 use Rattle.cl_writer.specs.declared.item.MemberKind.{MemberKind}
 use Rattle.cl_writer.specs.declared.item.MemberKind.TheVariants as kinds
 use Rattle.cl_writer.specs.declared.item.MemberName.{MemberName}
-use Rattle.cl_writer.specs.declared.item.Item.{Item}
 use Rattle.cl_writer.specs.declared.item.Item.TheVariants.{Text, Integer, Class, NameAndType, Member}
 use Rattle.cl_writer.specs.declared.statement.ClassLine.{ClassLine}
-use Rattle.cl_writer.specs.declared.statement.MemberLine.{MemberLine}
 use Rattle.cl_writer.specs.declared.statement.Statement.{Statement}
 use Rattle.cl_writer.specs.declared.statement.Statement.TheVariants.{Implements, Field, Method, Ref}
 use Rattle.cl_writer.specs.declared.fault.AssembleFault.{AssembleFault}

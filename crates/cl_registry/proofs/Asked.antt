@@ -1,7 +1,7 @@
 -- What the lines of a script ask for, and the first that is wrong, is one thing at most.
 use Rattle.std.proofs.Common.{◌≡◌, ℕ, ◌+◌, ◌≤◌, List, [], ◌∷◌, ◌++◌, length, Option, Some, None, Ok, Err, codes, refl, sym, ap, subst, ◌∙◌, arith}
 use Rattle.cl_model.specs.declared.request.Request.{Request}
-use Rattle.cl_registry.specs.Lines.{Numbered, stated_from}
+use Rattle.cl_lines.specs.Lines.{Numbered, stated_from}
 use Rattle.cl_registry.specs.Views.{Scripted}
 use Rattle.cl_registry.specs.ScriptLaws.{ScriptHasOneFault, ScriptOrItsFault}
 use Rattle.cl_registry.specs.Scripts.{loader_named, IsBad, LacksLoader, Asks, AllAsk, StopsAt, script_of}

@@ -10,7 +10,7 @@ use Rattle.cl_model.specs.declared.request.Request.TheVariants.{Load}
 use Rattle.cl_names.specs.Kind.{IsNameOf, IsClass}
 use Rattle.cl_names.specs.Escape.{WritesName}
 use Rattle.cl_names.proofs.Escapes.{name_alone}
-use Rattle.cl_registry.specs.Lines.{Numbered, words_of}
+use Rattle.cl_lines.specs.Lines.{Numbered, words_of}
 use Rattle.cl_registry.specs.Scripts.{loader_named, HasLoader, HasLoaders, IsBad, Asks, AllAsk, StopsAt}
 use Rattle.cl_registry.specs.ClassTexts.{WritesClass}
 

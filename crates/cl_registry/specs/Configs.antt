@@ -1,6 +1,6 @@
 -- Which texts are a configuration (own choice). For now one alone is read: a loader `boot` with nothing else said.
 use Rattle.std.specs.Prelude.{◌≡◌, ℕ, List, [], ◌∷◌, Result, Ok, Err, codes, map}
-use Rattle.cl_registry.specs.Lines.{stated_from}
+use Rattle.cl_lines.specs.Lines.{stated_from}
 use Rattle.cl_registry.specs.Views.{Configured}
 use Rattle.cl_registry.specs.declared.config.ConfigFault.{ConfigFault}
 use Rattle.cl_registry.specs.declared.config.ConfigFault.TheVariants.{Memory, NotToml, BadLoader}

@@ -7,7 +7,6 @@ pub mod DraftReads
 pub mod Drafts
 pub mod Findings
 pub mod Kept
-pub use Rattle.cl_lines.specs.Lines
 pub mod Outcomes
 pub mod Parts
 pub mod Puts

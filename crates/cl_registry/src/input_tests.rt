@@ -1,8 +1,9 @@
 //! Examples of the formats and of sources, with memory to spare: the clauses leave open that a call succeeds.
 use crate::{
-    Config, ConfigFault, FaultySource, Lines, MemorySource, Outcome, Script, ScriptFault, Source,
-    SourceFault, Stated, Words,
+    Config, ConfigFault, FaultySource, MemorySource, Outcome, Script, ScriptFault, Source,
+    SourceFault,
 };
+use cl_lines::{Lines, Stated, Words};
 use cl_model::{LoaderId, Request, Untold};
 use cl_names::Name;
 use std::alloc::Global;

@@ -26,8 +26,6 @@ pub mod source;
 mod tables;
 pub mod walk;
 
-pub use cl_lines as lines;
-pub use cl_lines::{Line, Lines, Stated, Words, is_skipped};
 pub use config::{Config, ConfigFault};
 pub use draft::{Draft, DraftFault, DraftRefused, Unreadable};
 pub use faulty::FaultySource;
@@ -36,7 +34,7 @@ pub use memory::{MemorySource, PutRefused, Telling};
 pub use registry::{DefineRefused, NotYet, PostRefused, Registry, RegistryFault, RegistryRefused};
 pub use report::{Answers, History, Report};
 pub use row::ClassRow;
-pub use script::{Script, ScriptFault, text_is_one_script};
+pub use script::{Script, ScriptFault, class_name, text_is_one_script};
 pub use search::{Home, Search, SearchRefused, Unfound, WrongProbe};
 pub use source::{ClassBytes, Outcome, Probe, Source, SourceFault};
 pub use walk::{PushRefused, Walk};

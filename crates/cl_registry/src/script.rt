@@ -1,5 +1,5 @@
 ghost use Rattle.std.specs.Prelude.{◌≡◌, ◌≤◌, List, ℕ, [], ◌∷◌, ◌++◌, MatchOption, IfOk, OnOk, codes, length};
-ghost use Rattle.cl_registry.specs.Lines.{words_of};
+ghost use Rattle.cl_lines.specs.Lines.{words_of};
 ghost use Rattle.cl_registry.specs.Scripts.{script_of, line_of, HasLoaders};
 ghost use Rattle.cl_registry.specs.Views.{Scripted};
 ghost use Rattle.cl_registry.specs.ClassTexts.{WritesClass};

@@ -1,7 +1,7 @@
 -- What a class section writes, and what class sections tell, is one thing at most.
 use Rattle.std.proofs.Common.{◌≡◌, ℕ, ◌≤◌, ◌<◌, Bool, true, false, MatchBool, List, [], ◌∷◌, ◌++◌, length, Option, Some, None, is_some, Result, Ok, Err, refl, sym, ap, subst, ◌∙◌, arith, inl, inr}
 use Rattle.std.specs.Prelude.{◌≢◌, codes, string_bytes}
-use Rattle.cl_registry.specs.Lines.{Numbered}
+use Rattle.cl_lines.specs.Lines.{Numbered}
 use Rattle.cl_model.specs.Content.{Content, Stored, content_at}
 use Rattle.cl_classfile.specs.Structure.{Structure, spelling}
 use Rattle.cl_registry.specs.Scripts.{loader_named}

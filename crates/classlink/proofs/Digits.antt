@@ -1,6 +1,6 @@
 -- The digits of a class section, line by line.
 use Rattle.std.proofs.Common.{◌≡◌, ℕ, List, [], ◌∷◌, ◌++◌, Option, Some, None, option_map, option_and_then, refl, sym, ap, ◌∙◌, append_assoc, append-nil}
-use Rattle.cl_registry.specs.Lines.{Numbered, words_of}
+use Rattle.cl_lines.specs.Lines.{Numbered, words_of}
 use Rattle.classlink.specs.Contents.{all_digits, line_digits}
 
 -- the lines before those that are left have these digits

@@ -9,7 +9,7 @@ use Rattle.cl_classfile.specs.Structure.{Structure, Spells}
 use Rattle.cl_writer.specs.Assembled.{AssembleOf, IsAssembled}
 use Rattle.cl_writer.specs.declared.fault.AssembleFault.{AssembleFault}
 use Rattle.cl_writer.specs.declared.fault.AssembleFault.TheVariants as assembler
-use Rattle.cl_registry.specs.Lines.{Numbered, words_of, stated_from}
+use Rattle.cl_lines.specs.Lines.{Numbered, words_of, stated_from}
 use Rattle.classlink.specs.Sections.{Part}
 use Rattle.classlink.specs.declared.fault.Fault.{Fault}
 use Rattle.classlink.specs.declared.fault.Fault.TheVariants.{Bundle, Class, Memory}

@@ -1,6 +1,6 @@
 -- What the code that cuts a bundle answers, in the words of its sections.
 use Rattle.std.specs.Prelude.{◌≡◌, ℕ, ⊤, List, [], ◌++◌, map, Option, Some, None, Result, Ok, Err}
-use Rattle.cl_registry.specs.Lines.{Numbered, words_of}
+use Rattle.cl_lines.specs.Lines.{Numbered, words_of}
 use Rattle.classlink.specs.Sections.{Cut, Heading, InnerLine, ClassLine, ScriptLine, WrongLine, Part, Parts, add_class, cut_from, cut_of, heading_of, lines_in, parts_from, with_config}
 use Rattle.classlink.specs.declared.fault.Fault.{Fault}
 use Rattle.classlink.specs.declared.fault.Fault.TheVariants.{Bundle, Memory}

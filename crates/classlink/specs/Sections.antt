@@ -4,7 +4,7 @@ use Rattle.std.specs.List.{slice_split, join_with_byte}
 use Rattle.std.specs.Cmp.Lexicographic.{pointwise}
 use Rattle.cl_names.specs.Escape.{unescaped}
 use Rattle.cl_names.specs.Kind.{is_class_name}
-use Rattle.cl_registry.specs.Lines.{words_of, is_skipped}
+use Rattle.cl_lines.specs.Lines.{words_of, is_skipped}
 
 -- what a line is to a bundle, up to the line `%script` (own choice)
 pub data Heading : Type 0 where

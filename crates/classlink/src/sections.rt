@@ -1,12 +1,12 @@
 ghost use Rattle.std.specs.Prelude.{◌≡◌, ◌<◌, ◌<◌, ◌++◌, ◌∷◌, [], List, ℕ, length, OnOk};
-ghost use Rattle.cl_registry.specs.Lines.{words_of};
+ghost use Rattle.cl_lines.specs.Lines.{words_of};
 ghost use Rattle.classlink.specs.Sections.{is_config};
 ghost use Rattle.classlink.specs.Cuts.{BodyOf, CutOf, OpeningOf, SectionLineOf};
 
 use crate::fault::Fault;
+use cl_lines::{Lines, Words, is_skipped};
 use cl_names::Name;
-use cl_registry::lines::{Lines, Words, is_skipped};
-use cl_registry::script::class_name;
+use cl_registry::class_name;
 use std::alloc::{AllocError, Global};
 
 /// The bytes of a class, as a bundle has them.

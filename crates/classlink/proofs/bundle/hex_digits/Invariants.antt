@@ -1,5 +1,5 @@
 use Rattle.std.proofs.Common.{string_bytes}
-use Rattle.cl_registry.specs.Lines.{stated_from}
+use Rattle.cl_lines.specs.Lines.{stated_from}
 use Rattle.classlink.proofs.Digits.{IsJoined}
 use Rattle.classlink.proofs.bundle.hex_digits.Given as goal
 

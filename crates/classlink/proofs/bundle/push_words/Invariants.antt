@@ -1,6 +1,6 @@
 use Rattle.std.proofs.Common.{◌≡◌, ◌++◌, string_bytes}
 use Rattle.std.specs.List.{concat}
-use Rattle.cl_registry.specs.Lines.{words_of}
+use Rattle.cl_lines.specs.Lines.{words_of}
 use Rattle.classlink.proofs.bundle.push_words.Given as goal
 
 abbrev pub invariant-loop-word : goal.invariant-loop-word

@@ -1,5 +1,5 @@
 use Rattle.std.proofs.Common.{rules, ◌≡◌, ◌∷◌, [], codes, refl}
-use Rattle.cl_registry.specs.Lines.{words_of}
+use Rattle.cl_lines.specs.Lines.{words_of}
 use Rattle.classlink.proofs.Headings.{class_heading_is, class_heading_wrong}
 use Rattle.classlink.proofs.sections.section_line.Goals as goal
 

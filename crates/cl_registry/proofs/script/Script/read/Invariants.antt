@@ -1,4 +1,4 @@
-use Rattle.cl_registry.specs.Lines.{stated_from}
+use Rattle.cl_lines.specs.Lines.{stated_from}
 use Rattle.cl_registry.proofs.Requests.{IsRead}
 use Rattle.cl_registry.proofs.script.Script.read.Given as goal
 

@@ -193,6 +193,39 @@ const BLAMED: &[Row<'_>] = &[
         blamed: 5,
     },
     Row {
+        rule: "nor <clinit> of kind 5, though the Methodref breaks its own line too",
+        items: &[
+            Item::MethodHandle(5, 6),
+            Item::Methodref(THIS, 7),
+            Item::NameAndType(8, 9),
+            Item::Utf8(b"<clinit>"),
+            Item::Utf8(b"()V"),
+        ],
+        blamed: 5,
+    },
+    Row {
+        rule: "nor <clinit> of kind 6, though the Methodref breaks its own line too",
+        items: &[
+            Item::MethodHandle(6, 6),
+            Item::Methodref(THIS, 7),
+            Item::NameAndType(8, 9),
+            Item::Utf8(b"<clinit>"),
+            Item::Utf8(b"()V"),
+        ],
+        blamed: 5,
+    },
+    Row {
+        rule: "nor <clinit> of kind 7, though the Methodref breaks its own line too",
+        items: &[
+            Item::MethodHandle(7, 6),
+            Item::Methodref(THIS, 7),
+            Item::NameAndType(8, 9),
+            Item::Utf8(b"<clinit>"),
+            Item::Utf8(b"()V"),
+        ],
+        blamed: 5,
+    },
+    Row {
         rule: "a MethodHandle keeps its line over a Methodref to <init> that returns something",
         items: &[
             Item::MethodHandle(8, 6),

@@ -52,41 +52,50 @@ const FULL: File<'_> = File {
     rest: &[],
 };
 
-/// Each part of that file, and how many bytes stand up to its end.
-const ENDS: [(&str, usize); 33] = [
-    ("magic", 4),
-    ("minor, major version", 8),
-    ("pool count", 10),
-    ("pool entries: a Class", 13),
-    ("pool entries: a Utf8", 19),
-    ("pool entries: a Class", 22),
-    ("pool entries: a Utf8", 41),
-    ("pool entries: a Utf8", 45),
-    ("pool entries: a Utf8", 49),
-    ("pool entries: a Utf8", 53),
-    ("pool entries: a Utf8", 59),
-    ("pool entries: a Utf8", 66),
-    ("pool entries: a Long", 75),
-    ("class flags", 77),
-    ("this_class", 79),
-    ("super_class", 81),
-    ("interfaces: their count", 83),
-    ("interfaces: one", 85),
-    ("fields: their count", 87),
-    ("fields: flags, name, descriptor", 93),
-    ("fields: the count of attributes", 95),
-    ("fields: an attribute's name", 97),
-    ("fields: its length", 101),
-    ("fields: its bytes", 103),
-    ("methods: their count", 105),
-    ("methods: flags, name, descriptor", 111),
-    ("methods: the count of attributes", 113),
-    ("methods: an attribute's name", 115),
-    ("methods: its length", 119),
-    ("methods: its bytes", 120),
-    ("attributes: their count", 122),
-    ("attributes: name and length", 128),
-    ("attributes: bytes", 131),
+/// Each part of that file, as the bytes that it stands in.
+const PARTS: [(&str, &[u8]); 33] = [
+    ("magic", b"\xca\xfe\xba\xbe"),
+    ("minor, major version", b"\x00\x00\x00\x34"),
+    ("pool count", b"\x00\x0c"),
+    ("pool entries: a Class", b"\x07\x00\x02"),
+    ("pool entries: a Utf8", b"\x01\x00\x03p/A"),
+    ("pool entries: a Class", b"\x07\x00\x04"),
+    ("pool entries: a Utf8", b"\x01\x00\x10java/lang/Object"),
+    ("pool entries: a Utf8", b"\x01\x00\x01x"),
+    ("pool entries: a Utf8", b"\x01\x00\x01I"),
+    ("pool entries: a Utf8", b"\x01\x00\x01m"),
+    ("pool entries: a Utf8", b"\x01\x00\x03()V"),
+    ("pool entries: a Utf8", b"\x01\x00\x04Note"),
+    (
+        "pool entries: a Long",
+        b"\x05\xff\xff\xff\xff\xff\xff\xff\xfe",
+    ),
+    ("class flags", b"\x00\x21"),
+    ("this_class", b"\x00\x01"),
+    ("super_class", b"\x00\x03"),
+    ("interfaces: their count", b"\x00\x01"),
+    ("interfaces: one", b"\x00\x03"),
+    ("fields: their count", b"\x00\x01"),
+    (
+        "fields: flags, name, descriptor",
+        b"\x00\x02\x00\x05\x00\x06",
+    ),
+    ("fields: the count of attributes", b"\x00\x01"),
+    ("fields: an attribute's name", b"\x00\x09"),
+    ("fields: its length", b"\x00\x00\x00\x02"),
+    ("fields: its bytes", b"\x01\x02"),
+    ("methods: their count", b"\x00\x01"),
+    (
+        "methods: flags, name, descriptor",
+        b"\x04\x01\x00\x07\x00\x08",
+    ),
+    ("methods: the count of attributes", b"\x00\x01"),
+    ("methods: an attribute's name", b"\x00\x00"),
+    ("methods: its length", b"\x00\x00\x00\x01"),
+    ("methods: its bytes", b"\x03"),
+    ("attributes: their count", b"\x00\x01"),
+    ("attributes: name and length", b"\xff\xff\x00\x00\x00\x03"),
+    ("attributes: bytes", b"\x04\x05\x06"),
 ];
 
 /// There is one attribute, with this name and these bytes.
@@ -144,16 +153,16 @@ fn parts_of_a_file(rt: HostRuntime) -> Result<(), Fail> {
     Ok(())
 }
 
-/// Where the last byte of a part is missing, with all behind it.
+/// The parts, one after another, are the file; before each of them it is cut.
 #[test]
-fn cut_parts(rt: HostRuntime) -> Result<(), Fail> {
-    let bytes = FULL.bytes(rt.alloc())?;
-    assert_eq!(rt; bytes.len(), 131);
-    for (part, end) in ENDS {
-        let mut cut = Vec::from_slice(rt.alloc(), bytes.as_slice())?;
-        cut.truncate(end.saturating_sub(1));
-        check_bytes(&rt, part, cut.as_slice(), Some(Fault::Truncated))?;
+fn parts_in_bytes(rt: HostRuntime) -> Result<(), Fail> {
+    let mut bytes = Vec::new(rt.alloc());
+    for (part, more) in PARTS {
+        check_bytes(&rt, part, bytes.as_slice(), Some(Fault::Truncated))?;
+        bytes.extend_from_slice(more)?;
     }
+    let full = FULL.bytes(rt.alloc())?;
+    assert_eq!(rt; bytes.as_slice(), full.as_slice());
     Ok(())
 }
 

@@ -99,9 +99,11 @@ fn new_registry(rt: &impl Print, alloc: Global, text: &str) -> Result<Registry<U
     let asked = Arc::try_clone(&script)?;
     match Registry::new(alloc, held, asked) {
         Ok(registry) => Ok(registry),
-        Err(fault) => {
-            refused(rt, "Registry::new", fault == RegistryFault::Memory)?;
-            Ok(Registry::new(alloc, config, script)?)
+        Err(back) => {
+            let is_same = back.config.count() == config.count()
+                && back.script.requests().len() == script.requests().len();
+            refused(rt, "Registry::new", is_same)?;
+            Ok(Registry::new(alloc, back.config, back.script)?)
         }
     }
 }

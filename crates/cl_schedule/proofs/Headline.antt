@@ -11,15 +11,14 @@ use Rattle.cl_model.specs.declared.event.Event.TheVariants as events
 use Rattle.cl_model.specs.declared.answer.Answer as answers
 use Rattle.cl_model.specs.declared.request.Request as requests
 use Rattle.cl_model.specs.declared.verdict.Verdict as verdicts
-use Rattle.cl_model.specs.declared.verdict.ErrorKind.{ErrorKind}
 use Rattle.cl_model.specs.declared.verdict.ErrorKind.TheVariants as kinds
 use Rattle.cl_model.specs.Content.{Content}
 use Rattle.cl_model.specs.Homes.{World}
-use Rattle.cl_model.specs.Classes.{class, Error, ClassNotFound, NoClassDef, ClassFormat, UnsupportedVersion, ClassCircularity, IncompatibleClassChange, IllegalAccess, NoSuchField, NoSuchMethod, Good, IsGood}
-use Rattle.cl_model.specs.States.{State, Posted, Answer, Said, Verdict, IsClass, IsArrayOf, IsArrayOfBase, IsField, IsMethod, IsLinked, BadEntry, ArrayMember, Wrong, Linkage, Need, IsRecorded, answer_to, start}
+use Rattle.cl_model.specs.Classes.{Error, ClassNotFound, NoClassDef, ClassFormat, UnsupportedVersion, ClassCircularity, IncompatibleClassChange, IllegalAccess, NoSuchField, NoSuchMethod, IsGood}
+use Rattle.cl_model.specs.States.{State, Posted, Answer, Said, Verdict, IsClass, IsArrayOf, IsArrayOfBase, IsField, IsMethod, IsLinked, BadEntry, ArrayMember, Wrong, Linkage, Need, answer_to, start}
 use Rattle.cl_model.specs.Plans.{Load}
-use Rattle.cl_model.specs.Machine.{Setting, Step, Scheduled, Define, Post, AnswersPlan, IsSound, Run, after, state_after}
-use Rattle.cl_model.specs.Views.{error_of, verdict_of, answer_of, answers_of, answer_at, request_of, post_of, steps_of}
+use Rattle.cl_model.specs.Machine.{Setting, Scheduled, Define, AnswersPlan, IsSound, after, state_after}
+use Rattle.cl_model.specs.Views.{verdict_of, answer_of, answers_of, answer_at, request_of, post_of, steps_of}
 use Rattle.cl_model.proofs.Sound.{posted_stay, runs_are_sound}
 use Rattle.cl_model.proofs.Reached.{file_is_spelt, said_alike}
 use Rattle.cl_model.proofs.Answered.{circle_is_answered, circular_is_answered}
@@ -27,7 +26,7 @@ use Rattle.cl_registry.specs.Tables.{Shown, IsTrusted, RunsAs, is_in, posts, sta
 use Rattle.cl_registry.proofs.Histories.{eq_nat, swap_nat}
 use Rattle.cl_registry.proofs.Running.{post_other}
 use Rattle.cl_schedule.specs.Serving.{machine}
-use Rattle.cl_schedule.specs.Headline.{IsSpelt, EachSpelt, Says, Alike, EndsInCircle, CirclesExact}
+use Rattle.cl_schedule.specs.Headline.{IsSpelt, EachSpelt, Alike, EndsInCircle, CirclesExact}
 
 -- ---- verdicts of the machine, back as the program has them
 

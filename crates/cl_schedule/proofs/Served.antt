@@ -1,9 +1,9 @@
 -- One request from its first turn to its post, and one request after another, where a content is told.
-use Rattle.std.proofs.Common.{◌≡◌, ◌⊎◌, inl, inr, ◌∙◌, ◌+◌, ◌<◌, ℕ, suc, List, [], ◌∷◌, ◌++◌, length, map, Option, Some, None, refl, sym, ap, subst, arith, append_assoc}
+use Rattle.std.proofs.Common.{◌≡◌, inl, inr, ◌∙◌, ◌+◌, ◌<◌, ℕ, suc, List, [], ◌∷◌, ◌++◌, length, map, Option, Some, None, refl, sym, ap, subst, arith, append_assoc}
 use Rattle.std.specs.Prelude.{◌==◌, ◌&&◌, Bool, true, false, if◌then◌else◌, find, option_map, slice_get, take, IfSome}
 use Rattle.std.specs.List.{AllByRecursion}
 use Rattle.std.proofs.Common.{zero, add-one}
-use Rattle.std.proofs.lemmas.List.{map_push, append-nil, length-map}
+use Rattle.std.proofs.lemmas.List.{append-nil, length-map}
 use Rattle.cl_model.specs.declared.class.Class.{Class}
 use Rattle.cl_model.specs.declared.event.Event.{Event}
 use Rattle.cl_model.specs.declared.event.Event.TheVariants as events
@@ -11,17 +11,15 @@ use Rattle.cl_classfile.specs.Files.{same_name}
 use Rattle.cl_model.specs.declared.answer.Answer as rust
 use Rattle.cl_model.specs.declared.request.Request.{Request}
 use Rattle.cl_model.specs.Content.{Content}
-use Rattle.cl_model.specs.Classes.{class}
 use Rattle.cl_model.specs.States.{State, Entry, Answer, Said, OutOfMemory, SourceFault, Record, IsRecorded, recorded, start}
 use Rattle.cl_model.specs.Machine.{Setting, Step, Define, Post, Scheduled, AnswersPlan, after, state_after, Run, May}
-use Rattle.cl_model.specs.Service.{IsNextNeed, IsFailure, Serves, IsBegun, AllServed}
-use Rattle.cl_model.specs.Views.{answer_of, answers_of, answer_at, request_of, post_of, step_of, steps_of}
+use Rattle.cl_model.specs.Service.{IsNextNeed, Serves, IsBegun, AllServed}
+use Rattle.cl_model.specs.Views.{answer_of, answers_of, answer_at, request_of, post_of, steps_of}
 use Rattle.cl_model.proofs.Runs.{record_found}
 use Rattle.cl_model.proofs.Closed.{runs_are_closed}
 use Rattle.cl_model.proofs.Service.{begun_start, begun_define, begun_said, begun_failed, all_served_push, run_last, state_append}
 use Rattle.cl_registry.specs.Searches.{Drafted}
 use Rattle.cl_registry.specs.Views.{Configured}
-use Rattle.cl_registry.specs.Worlds.{world_of, setting_of}
 use Rattle.cl_registry.specs.Findings.{Answered, loader_of}
 use Rattle.cl_registry.specs.Tables.{Shown, DefinedAs, IsKept, IsOpen, RunsAs, steps, state_of, records_of, with_define, with_post}
 use Rattle.cl_registry.proofs.Histories.{eq_nat, state_defines, steps_defines, steps_posts, unposted}

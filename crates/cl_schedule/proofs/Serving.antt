@@ -4,7 +4,6 @@ use Rattle.std.specs.Prelude.{◌||◌, nat_eq, slice_get, slice_index_or}
 use Rattle.std.proofs.lemmas.Bool.Decides.{nat_tests}
 use Rattle.cl_model.specs.declared.answer.Answer.{Answer}
 use Rattle.cl_model.specs.declared.class.Class.{Class}
-use Rattle.cl_model.specs.declared.event.Event.{Event}
 use Rattle.cl_model.specs.declared.request.Request as requests
 use Rattle.cl_model.specs.declared.request.Request.{Request}
 use Rattle.cl_registry.specs.Findings.{loader_of}

@@ -21,22 +21,22 @@ pub record IsSpelt (w : World) (c : Class) : Type 0 where
   pub read : w.read bytes ≡ Ok file
   pub named : file.name ≡ c.name
 
--- each class that is recorded is spelt by its defining loader's bytes
+-- each class that is recorded is spelt by its defining loader's bytes (5.3.5)
 abbrev pub EachSpelt : Option Content → Shown → Type 0
 EachSpelt None x = Unit {0}
 EachSpelt (Some content) x = (c : Class) → IsRecorded (state_of x) c → IsSpelt (machine x content).world c
 
--- the request of this number asks this, and was answered so
+-- the request of this number asks this, and was answered so (own choice)
 pub record Says (x : Shown) (q : ℕ) (r : requests.Request) (v : verdicts.Verdict) : Type 0 where
   pub asked : slice_get x.script.requests q ≡ Some r
   pub answered : slice_get x.answers q ≡ Some (Some (answers.TheVariants.Said v))
 
--- equal requests are answered alike, failures apart
+-- equal requests are answered alike, failures apart (own choice)
 abbrev pub Alike : Option Content → Shown → Type 0
 Alike None x = Unit {0}
 Alike (Some content) x = (p q : ℕ) (r : requests.Request) (v u : verdicts.Verdict) → Says x p r v → Says x q r u → v ≡ u
 
--- a load ends in a circle of this class: its home's walk along first supertypes that are not good meets the class again
+-- a load ends in a circle of this class: its home's walk along first supertypes that are not good meets the class again (5.3.5)
 pub record EndsInCircle (w : World) (loader : ℕ) (name : List ℕ) (c : Class) : Type 0 where
   pub place : ℕ
   pub found : home w loader name ≡ Some place
@@ -47,7 +47,7 @@ pub record CircleAnswer (w : World) (loader : ℕ) (name : List ℕ) (v : verdic
   pub only : (c : Class) → v ≡ verdicts.TheVariants.Error kinds.ClassCircularityError c → EndsInCircle w loader name c
   pub there : (c : Class) → EndsInCircle w loader name c → v ≡ verdicts.TheVariants.Error kinds.ClassCircularityError c
 
--- each load that is answered with a verdict is answered so
+-- each load that is answered with a verdict is answered so (5.3.5)
 abbrev pub CirclesExact : Option Content → Shown → Type 0
 CirclesExact None x = Unit {0}
 CirclesExact (Some content) x = (q loader : ℕ) (name : List ℕ) (v : verdicts.Verdict) → Says x q (requests.TheVariants.Load loader name) v → CircleAnswer (machine x content).world loader name v

@@ -186,7 +186,7 @@ fn request_at(alloc: Global, script: &Script, q: u32) -> Result<Request, AllocEr
 ///
 /// # Errors
 ///
-/// `Z0`, where the registry, or the copy of a request, could not be made.
+/// `Z0`, where the registry, the copy of a request or a further handle of what is shared could not be had.
 pub fn serve_one<T: Told, S: Source<T>>(
     alloc: Global,
     config: Arc<Config>,

@@ -3,7 +3,7 @@ use Rattle.std.proofs.Common.{◌≡◌, ◌≤◌, ◌<◌, ◌∙◌, ◌+◌,
 use Rattle.cl_model.specs.declared.request.Request.{Request}
 use Rattle.cl_model.specs.Classes.{class}
 use Rattle.cl_registry.specs.Searches.{Drafted}
-use Rattle.cl_registry.specs.Walks.{Walked, root, most}
+use Rattle.cl_registry.specs.Walks.{Walked, root}
 use Rattle.cl_registry.specs.Findings.{IsFor}
 use Rattle.cl_registry.proofs.Walks.{head_push}
 

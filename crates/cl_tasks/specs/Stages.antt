@@ -1,5 +1,5 @@
 -- What a task is at, as contracts see it, and what it keeps.
-use Rattle.std.specs.Prelude.{◌≡◌, ◌<◌, ℕ, length, Some, None}
+use Rattle.std.specs.Prelude.{◌≡◌, ◌<◌, length, Some, None}
 use Rattle.cl_registry.specs.Views.{Configured}
 use Rattle.cl_registry.specs.Searches.{Searched}
 use Rattle.cl_registry.specs.Findings.{IsFor}

@@ -1,5 +1,5 @@
 -- What contracts see of a task, and how many turns it has left at most.
-use Rattle.std.specs.Prelude.{◌≡◌, ◌<◌, ◌+◌, ◌*◌, ◌-◌, ℕ, List, [], length, Option, Some, None}
+use Rattle.std.specs.Prelude.{◌+◌, ◌*◌, ◌-◌, ℕ, [], length, Option}
 use Rattle.cl_model.specs.declared.request.Request.{Request}
 use Rattle.cl_registry.specs.Walks.{Walked, most}
 use Rattle.cl_tasks.specs.declared.phase.Phase.{Phase}

@@ -1,7 +1,7 @@
 -- What a task asks, and what it may be told.
-use Rattle.std.specs.Prelude.{◌≡◌, ◌≢◌, ◌<◌, ℕ, List, Some}
+use Rattle.std.specs.Prelude.{◌≡◌, ◌≢◌, Some}
 use Rattle.cl_model.specs.Classes.{class}
-use Rattle.cl_tasks.specs.Tasks.{Tasked, left}
+use Rattle.cl_tasks.specs.Tasks.{Tasked}
 use Rattle.cl_tasks.specs.declared.phase.Phase.TheVariants.{Fresh, Looking, Reading, Defining, Done}
 use Rattle.cl_tasks.specs.declared.stage.Reply.{Reply}
 use Rattle.cl_tasks.specs.declared.stage.Reply.TheVariants as reply

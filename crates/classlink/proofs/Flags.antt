@@ -1,5 +1,5 @@
 -- What `clap` makes of the words that ask for a bundle's report or for a class file's lines.
-use Rattle.std.proofs.Common.{◌≡◌, ◌∙◌, ◌==◌, ℕ, Bool, true, false, not, List, [], ◌∷◌, codes, drop, Option, Some, None, option_map, option_and_then, unwrap_or, Result, Ok, Err, IsErrAnd, IfErr, MatchResult, inl, inr, refl, sym, ap, subst}
+use Rattle.std.proofs.Common.{◌≡◌, ◌∙◌, ◌==◌, Bool, true, false, not, List, [], ◌∷◌, codes, drop, Option, Some, None, option_map, option_and_then, unwrap_or, Result, Ok, Err, IsErrAnd, IfErr, MatchResult, inl, inr, refl, sym, ap, subst}
 use Rattle.std.specs.Borrow.{Bor}
 use Rattle.std.specs.Prelude.{Box}
 use Rattle.std.specs.Box.{box_value}

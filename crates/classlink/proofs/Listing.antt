@@ -1,5 +1,5 @@
 -- How a class file's reading ends, from its steps.
-use Rattle.std.proofs.Common.{◌≡◌, ◌⊎◌, ℕ, List, Option, Result, Ok, Err, IsErrAnd, inl, inr, refl, sym, subst}
+use Rattle.std.proofs.Common.{◌≡◌, ◌⊎◌, ℕ, List, Option, Result, Ok, Err, IsErrAnd, inl, inr, sym, subst}
 use Rattle.cl_classfile.specs.Checking.{Fails}
 use Rattle.cl_classfile.specs.Reading.{read_of}
 use Rattle.cl_classfile.specs.declared.fault.ReadError.{ReadError}
@@ -9,7 +9,7 @@ use Rattle.classlink.specs.Report.{AppendsPart}
 use Rattle.classlink.specs.Readings.{AreLinesOf, FailsToRead, Giving, IsContent, IsReading, IsRefusal, IsUnread, ReadingOf}
 use Rattle.classlink.specs.Runs.{TellsFault}
 use Rattle.classlink.specs.declared.fault.Fault.{Fault}
-use Rattle.classlink.specs.declared.fault.Fault.TheVariants.{Input, Write, TooLarge, NotUtf8, Path, File, Memory}
+use Rattle.classlink.specs.declared.fault.Fault.TheVariants.{Write, TooLarge, Path, File, Memory}
 use Rattle.classlink.specs.declared.print.PrintFault.{PrintFault}
 use Rattle.classlink.specs.declared.print.PrintFault.TheVariants as print
 use Rattle.classlink.proofs.Written.{appends_nothing}

@@ -32,21 +32,21 @@ pub record Grows (old new : Option (List ℕ)) : Type 0 where
   pub text : List ℕ
   pub grown : Appends old new text
 
--- help is written whole, or it breaks off because a write was refused or memory was wanting (own choice)
+-- writing help succeeds, or is refused for a write or for want of memory; what is written is clap's (own choice)
 abbrev pub HelpOf : Result (Unit {0}) Fault → Type 0
 HelpOf (Ok x) = ⊤
 HelpOf (Err Write) = ⊤
 HelpOf (Err Memory) = ⊤
 HelpOf (Err _) = ⊥
 
--- the text of help goes to standard output alone, and a fault that breaks it off is told (own choice)
+-- standard output grows by some text, and standard error by nothing but the line of a fault that breaks it off (own choice)
 pub record IsHelped (old_out new_out old_err new_err : Option (List ℕ)) (status : ℕ) : Type 0 where
   pub outcome : Result (Unit {0}) Fault
   pub helped : HelpOf outcome
   pub grown : Grows old_out new_out
   pub told : EndsWith old_err new_err status outcome
 
--- how the program ends where `clap` answers with an error of this kind: for any kind but these standard output is as it was (own choice)
+-- how the program ends where `clap` answers with an error of this kind: want of memory and help as above, any other with status 2 and standard output as it was (own choice)
 abbrev pub EndsFor : ErrorKind → Option (List ℕ) → Option (List ℕ) → Option (List ℕ) → Option (List ℕ) → ℕ → Type 0
 EndsFor kinds.OutOfMemory old_out new_out old_err new_err status = LacksMemory old_out new_out old_err new_err status
 EndsFor kinds.DisplayHelp old_out new_out old_err new_err status = IsHelped old_out new_out old_err new_err status

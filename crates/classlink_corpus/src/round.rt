@@ -1,44 +1,73 @@
 //! The way of a class file through reader, writer, listing and assembler.
 
-use cl_classfile::{Fault, ReadError, read};
-use cl_writer::{AssembleFault, WriteFault, assemble, listing, write};
+ghost use Rattle.std.specs.Prelude.{◌≡◌, Bool, IfOk, MatchBool, true};
+ghost use Rattle.cl_classfile.specs.Structure.{Spells};
+ghost use Rattle.classlink_corpus.specs.Rounds.{ListsAgain, OutcomeOf};
+
+use cl_classfile::{ClassFile, Fault, ReadError, has_one_spelling, read};
+use cl_writer::{AssembleFault, WriteFault, assemble, assembles_to_one_answer, listing, write};
 use std::alloc::{AllocError, Global};
 
 /// What became of the bytes of a file.
+#[derive(Drop)]
 pub enum Outcome {
     Same,
     /// They spell no class file.
     Refused(Fault),
-    /// The file is written with other bytes.
+    /// The file is written with other bytes. By proof there is none: a run looks at what was compiled.
     OtherBytes,
     /// Its listing is assembled to a file that lists otherwise, or not at all.
     OtherListing,
 }
 
 /// Reads the bytes, writes the file, and assembles its listing. Only want of memory refuses it.
-pub fn round_trip(alloc: Global, bytes: &[u8]) -> Result<Outcome, AllocError> {
+pub fn round_trip(alloc: Global, bytes: &[u8]) -> Result<Outcome, AllocError>
+    ensures { IfOk result (OutcomeOf bytes.now) }
+{
     let file = match read(alloc, bytes) {
         Ok(file) => file,
         Err(ReadError::Memory) => return Err(AllocError),
         Err(ReadError::Fault(fault)) => return Ok(Outcome::Refused(fault)),
     };
-    let written = match write(alloc, &file) {
-        Ok(written) => written,
-        Err(WriteFault::Memory) => return Err(AllocError),
-    };
-    if written.as_slice() != bytes {
+    if !is_written_as(alloc, &file, bytes)? {
         return Ok(Outcome::OtherBytes);
     }
-    let text = listing(alloc, &file)?;
-    let assembled = match assemble(alloc, text.as_str()) {
-        Ok(assembled) => assembled,
-        Err(AssembleFault::Memory) => return Err(AllocError),
-        Err(_) => return Ok(Outcome::OtherListing),
-    };
-    let again = listing(alloc, &assembled)?;
-    Ok(if again.as_str() == text.as_str() {
+    Ok(if lists_again(alloc, &file)? {
         Outcome::Same
     } else {
         Outcome::OtherListing
     })
+}
+
+/// Whether a file is written with these bytes.
+fn is_written_as(alloc: Global, file: &ClassFile, bytes: &[u8]) -> Result<bool, AllocError>
+    ensures { IfOk result (λ same. Spells bytes.now file.now → same ≡ true) }
+{
+    has_one_spelling();
+    match write(alloc, file) {
+        Ok(written) => Ok(written.as_slice() == bytes),
+        Err(WriteFault::Memory) => Err(AllocError),
+    }
+}
+
+/// Whether the listing of a file is assembled to one that lists the same.
+fn lists_again(alloc: Global, file: &ClassFile) -> Result<bool, AllocError>
+    ensures { IfOk result (λ again. MatchBool again (ListsAgain file.now) (ListsAgain file.now → ⊥)) }
+{
+    assembles_to_one_answer();
+    let text = listing(alloc, file)?;
+    let assembled = match assemble(alloc, text.as_str()) {
+        Ok(assembled) => assembled,
+        Err(AssembleFault::Memory) => return Err(AllocError),
+        Err(AssembleFault::BadLine(_)) => return Ok(false),
+        Err(AssembleFault::Invalid(_)) => return Ok(false),
+    };
+    let again = listing(alloc, &assembled)?;
+    Ok(is_same(again.as_str(), text.as_str()))
+}
+
+fn is_same(text: &str, other: &str) -> bool
+    ensures { MatchBool result (text.now ≡ other.now) (text.now ≡ other.now → ⊥) }
+{
+    text == other
 }

@@ -1,4 +1,4 @@
-use Rattle.std.proofs.Common.{sym, subst, refl}
+use Rattle.std.proofs.Common.{subst, refl}
 use Rattle.cl_model.specs.declared.class.Class.{Class}
 use Rattle.cl_model.specs.States.{IsRecorded}
 use Rattle.cl_registry.specs.Tables.{state_of}

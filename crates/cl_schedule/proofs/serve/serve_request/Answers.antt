@@ -1,4 +1,4 @@
-use Rattle.std.proofs.Common.{◌≡◌, ◌∙◌, List, Option, Some, ap}
+use Rattle.std.proofs.Common.{◌∙◌, List, Option, Some, ap}
 use Rattle.std.specs.Prelude.{slice_set}
 use Rattle.cl_model.specs.declared.answer.Answer.{Answer}
 use Rattle.cl_registry.specs.Tables.{Shown, state_of}

@@ -1,4 +1,4 @@
-use Rattle.classlink.proofs.Ending.{grows, help_wrong}
+use Rattle.classlink.proofs.Ending.{help_wrong}
 use Rattle.classlink.proofs.run.print_help.Goals as goal
 
 pub returns-in_err-write_out-clause-faults : goal.returns-in_err-write_out-clause-faults

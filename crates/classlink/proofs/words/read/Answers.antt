@@ -1,4 +1,4 @@
-use Rattle.std.proofs.Common.{◌≡◌, Ok, Err, map}
+use Rattle.std.proofs.Common.{Ok, Err, map}
 use Rattle.classlink.specs.CommandLine.{AsksForBundle, AsksForFile, wrong_words}
 use Rattle.classlink.proofs.Flags.{asked_by_words, bundle_asked, ends_by, for_memory, kind_by, path_asked, takes_path, takes_words}
 use Rattle.classlink.proofs.words.read.Goals as goal

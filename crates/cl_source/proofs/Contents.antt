@@ -11,8 +11,8 @@ use Rattle.std.proofs.lemmas.Bool.Decides.{nat_tests}
 use Rattle.std.proofs.lemmas.List.{map-append}
 use Rattle.std.proofs.lemmas.Map.Keys.{IsDistinct-head, IsDistinct-tail}
 use Rattle.cl_model.specs.Content.{Stored, Content, content_at}
-use Rattle.cl_registry.specs.Puts.{TellsMore}
-use Rattle.cl_registry.specs.Shelves.{Shelved, bytes_in, content_of_shelf, content_from, Inserts}
+use Rattle.cl_source.specs.Puts.{TellsMore}
+use Rattle.cl_source.specs.Shelves.{Shelved, bytes_in, content_of_shelf, content_from, Inserts}
 
 -- ---- a map of names, as contracts see it
 

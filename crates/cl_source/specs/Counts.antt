@@ -1,7 +1,7 @@
 -- A source counts the reads that it refuses (own choice).
 use Rattle.std.specs.Prelude.{◌≡◌, ◌⊎◌, ℕ, ◌+◌, ◌<◌, ◌^◌, Result, Ok, Err}
-use Rattle.cl_registry.specs.declared.source.SourceFault.{SourceFault}
-use Rattle.cl_registry.specs.declared.source.SourceFault.TheVariants.{Memory, Device, TooLarge, Twice}
+use Rattle.cl_source.specs.declared.source.SourceFault.{SourceFault}
+use Rattle.cl_source.specs.declared.source.SourceFault.TheVariants.{Memory, Device, TooLarge, Twice}
 
 -- the count rises by one; its last value stays (own choice)
 abbrev pub Rises : ℕ → ℕ → Type 0

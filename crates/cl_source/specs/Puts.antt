@@ -2,8 +2,8 @@
 use Rattle.std.specs.Prelude.{◌≡◌, ℕ, ◌<◌, ◌≤◌, List, length, Some, None, IsSome, ◌==◌, ◌&&◌, nat_eq, if◌then◌else◌}
 use Rattle.std.specs.Cmp.Lexicographic.{pointwise}
 use Rattle.cl_model.specs.Content.{Content, content_at}
-use Rattle.cl_registry.specs.declared.source.SourceFault.{SourceFault}
-use Rattle.cl_registry.specs.declared.source.SourceFault.TheVariants.{Memory, Device, TooLarge, Twice}
+use Rattle.cl_source.specs.declared.source.SourceFault.{SourceFault}
+use Rattle.cl_source.specs.declared.source.SourceFault.TheVariants.{Memory, Device, TooLarge, Twice}
 
 -- the bytes are not too many for a class file (own choice)
 abbrev pub Fits : List ℕ → Type 0

@@ -1,5 +1,5 @@
 ghost use Rattle.std.specs.Prelude.{◌≡◌, ◌≢◌, ◌<◌, ◌+◌, ◌-◌, ◌^◌, IfOk, IfErr, IsErrOf};
-ghost use Rattle.cl_registry.specs.Counts.{Counts};
+ghost use Rattle.cl_source.specs.Counts.{Counts};
 
 use crate::source::{Probe, Source, SourceFault};
 use cl_model::{LoaderId, Told};
@@ -20,7 +20,7 @@ pub struct FaultySource<T: Told, S: Source<T>> {
 }
 
 impl<T: Told, S: Source<T>> Model for FaultySource<T, S> {
-    ghost use Rattle.cl_registry.specs.Counts.{Faulting};
+    ghost use Rattle.cl_source.specs.Counts.{Faulting};
 
     ghost Value = { Faulting };
 

@@ -1,9 +1,9 @@
 ghost use Rattle.std.specs.Prelude.{◌≡◌, ◌+◌, ◌<◌, ◌≤◌, ◌^◌, [], None, is_some, length, OnOk, OnErr, IfOk, IfErr, IsErrOf};
 ghost use Rattle.std.specs.Option.{option_map};
 ghost use Rattle.cl_model.specs.Content.{Content, content_at, Tells};
-ghost use Rattle.cl_registry.specs.Counts.{Counts};
-ghost use Rattle.cl_registry.specs.Puts.{Fits, Refuses, TellsMore};
-ghost use Rattle.cl_registry.specs.Shelves.{content_from, Inserts};
+ghost use Rattle.cl_source.specs.Counts.{Counts};
+ghost use Rattle.cl_source.specs.Puts.{Fits, Refuses, TellsMore};
+ghost use Rattle.cl_source.specs.Shelves.{content_from, Inserts};
 
 use crate::shelf::{NotPut, Shelf};
 use crate::source::{ClassBytes, Outcome, Probe, Source, SourceFault};
@@ -25,7 +25,7 @@ pub struct MemorySource {
 
 impl Model for MemorySource {
     ghost use Rattle.cl_model.specs.Content.{Content};
-    ghost use Rattle.cl_registry.specs.Shelves.{content_from};
+    ghost use Rattle.cl_source.specs.Shelves.{content_from};
 
     ghost Value = { Content };
 
@@ -115,7 +115,7 @@ pub struct Telling<T: Told> {
 
 impl<T: Told> Model for Telling<T> {
     ghost use Rattle.cl_model.specs.Content.{Content, Tells};
-    ghost use Rattle.cl_registry.specs.Shelves.{content_from};
+    ghost use Rattle.cl_source.specs.Shelves.{content_from};
 
     ghost Value = { Content };
 

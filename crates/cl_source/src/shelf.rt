@@ -2,7 +2,7 @@ ghost use Rattle.std.specs.Prelude.{◌≡◌, [], ◌∷◌, ◌++◌, None, So
 ghost use Rattle.std.specs.Option.{option_map};
 ghost use Rattle.std.specs.Cmp.Lexicographic.{pointwise};
 ghost use Rattle.indexmap.specs.IndexMap.{insert_entry};
-ghost use Rattle.cl_registry.specs.Shelves.{bytes_in};
+ghost use Rattle.cl_source.specs.Shelves.{bytes_in};
 
 use crate::source::ClassBytes;
 use cl_names::Name;
@@ -19,7 +19,7 @@ pub(crate) struct Shelf {
 
 impl Model for Shelf {
     ghost use Rattle.std.specs.Prelude.{map};
-    ghost use Rattle.cl_registry.specs.Shelves.{Shelved};
+    ghost use Rattle.cl_source.specs.Shelves.{Shelved};
 
     ghost Value = { Shelved };
 

@@ -1,5 +1,5 @@
 ghost use Rattle.std.specs.Prelude.{◌≡◌, ◌+◌, ◌^◌, ℕ, IfOk, IfErr, IsErrOf};
-ghost use Rattle.cl_registry.specs.Told.{IsTold};
+ghost use Rattle.cl_source.specs.Told.{IsTold};
 
 use cl_model::{LoaderId, Told};
 use cl_names::Name;
@@ -63,9 +63,9 @@ pub struct Probe<T: Told> {
 }
 
 impl<T: Told> Model for Probe<T> {
-    ghost use Rattle.cl_registry.specs.Views.{Found};
-    ghost use Rattle.cl_registry.specs.Told.{IsTold};
-    ghost use Rattle.cl_registry.specs.Outcomes.{bytes_of};
+    ghost use Rattle.cl_source.specs.Views.{Found};
+    ghost use Rattle.cl_source.specs.Told.{IsTold};
+    ghost use Rattle.cl_source.specs.Outcomes.{bytes_of};
 
     ghost Value = { Found };
 
@@ -75,7 +75,7 @@ impl<T: Told> Model for Probe<T> {
 }
 
 impl<T: Told> Probe<T> {
-    ghost use Rattle.cl_registry.specs.Outcomes.{bytes_of};
+    ghost use Rattle.cl_source.specs.Outcomes.{bytes_of};
 
     /// What was found, for sources of this crate.
     pub(crate) fn new(loader: LoaderId, name: Name, outcome: Outcome) -> Probe<T>
@@ -127,7 +127,7 @@ pub enum SourceFault {
 }
 
 impl From<AllocError> for SourceFault {
-    ghost use Rattle.cl_registry.specs.declared.source.SourceFault.TheVariants.{Memory};
+    ghost use Rattle.cl_source.specs.declared.source.SourceFault.TheVariants.{Memory};
 
     ghost from_gives = { λ _ e. e ≡ Memory };
 
@@ -138,7 +138,7 @@ impl From<AllocError> for SourceFault {
 
 /// Gives the bytes that each loader's own content has for a name (JVMS SE 8, 5.3.2).
 pub trait Source<T: Told>: Drop {
-    ghost use Rattle.cl_registry.specs.Counts.{Counts};
+    ghost use Rattle.cl_source.specs.Counts.{Counts};
 
     /// How many reads the source has refused for another cause than memory.
     ghost refused: { Self → ℕ };

@@ -1,7 +1,7 @@
 use Rattle.std.proofs.Common.{[], ◌∷◌, ◌++◌, ◌∙◌, ap}
-use Rattle.cl_registry.specs.Shelves.{content_from}
-use Rattle.cl_registry.proofs.Contents.{empty_shelf}
-use Rattle.cl_registry.proofs.memory.make_room.Goals as goal
+use Rattle.cl_source.specs.Shelves.{content_from}
+use Rattle.cl_source.proofs.Contents.{empty_shelf}
+use Rattle.cl_source.proofs.memory.make_room.Goals as goal
 
 pub loop-alloc-preserved : goal.loop-alloc-preserved
 loop-alloc-preserved c =

@@ -1,8 +1,8 @@
 use Rattle.std.proofs.Common.{◌∙◌, sym, ap, arith}
 use Rattle.std.proofs.lemmas.Result.{on_ok_weaker}
 use Rattle.cl_model.specs.Content.{content_at}
-use Rattle.cl_registry.proofs.Contents.{at_place, put_at, tells_more, not_err}
-use Rattle.cl_registry.proofs.memory.put_on.Goals as goal
+use Rattle.cl_source.proofs.Contents.{at_place, put_at, tells_more, not_err}
+use Rattle.cl_source.proofs.memory.put_on.Goals as goal
 
 pub put-requires : goal.put-requires
 put-requires c =

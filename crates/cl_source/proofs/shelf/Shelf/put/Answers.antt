@@ -1,6 +1,6 @@
 use Rattle.std.proofs.Common.{[], ◌∷◌, ◌++◌, ap, ◌∙◌}
-use Rattle.cl_registry.proofs.Contents.{put_in_room, not_err}
-use Rattle.cl_registry.proofs.shelf.Shelf.put.Goals as goal
+use Rattle.cl_source.proofs.Contents.{put_in_room, not_err}
+use Rattle.cl_source.proofs.shelf.Shelf.put.Goals as goal
 
 pub returns-in-Ok-clause-ok : goal.returns-in-Ok-clause-ok
 returns-in-Ok-clause-ok c =

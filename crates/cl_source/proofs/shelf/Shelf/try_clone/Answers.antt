@@ -1,6 +1,6 @@
 use Rattle.std.proofs.Common.{◌∙◌}
-use Rattle.cl_registry.proofs.Contents.{copied_more, none_copied, all_copied}
-use Rattle.cl_registry.proofs.shelf.Shelf.try_clone.Goals as goal
+use Rattle.cl_source.proofs.Contents.{copied_more, none_copied, all_copied}
+use Rattle.cl_source.proofs.shelf.Shelf.try_clone.Goals as goal
 
 pub loop-name-preserved : goal.loop-name-preserved
 loop-name-preserved c =

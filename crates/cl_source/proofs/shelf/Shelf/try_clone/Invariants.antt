@@ -1,6 +1,6 @@
 use Rattle.std.proofs.Common.{◌≡◌, ◌++◌, map}
-use Rattle.cl_registry.specs.Shelves.{Shelved}
-use Rattle.cl_registry.proofs.shelf.Shelf.try_clone.Given as goal
+use Rattle.cl_source.specs.Shelves.{Shelved}
+use Rattle.cl_source.proofs.shelf.Shelf.try_clone.Given as goal
 
 -- what is copied and what is left are together what is there
 abbrev pub invariant-loop-name : goal.invariant-loop-name

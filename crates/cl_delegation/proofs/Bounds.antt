@@ -1,5 +1,5 @@
 -- Within the bound of what is derived every file is plain.
-use Rattle.std.proofs.Common.{◌≡◌, ◌==◌, Bool, true, false, ◌&&◌, not, if◌then◌else◌, List, [], ◌∷◌, length, Result, Ok, Err, ℕ, refl, ap, subst}
+use Rattle.std.proofs.Common.{◌≡◌, ◌==◌, Bool, true, false, not, if◌then◌else◌, List, [], length, Result, Ok, Err, ℕ, refl, ap, subst}
 use Rattle.std.proofs.lemmas.Bool.{eqb-true}
 use Rattle.std.proofs.lemmas.List.{nil_from_length}
 use Rattle.cl_classfile.specs.declared.fault.Fault.{Fault}
@@ -11,9 +11,10 @@ use Rattle.cl_classfile.specs.Reading.{read_of}
 use Rattle.cl_model.specs.Content.{Content}
 use Rattle.cl_model.specs.Chains.{IsPlain, ReadsPlain}
 use Rattle.cl_model.proofs.Runs.{and_is}
-use Rattle.cl_registry.specs.Bounds.{is_public_class, derivable}
-use Rattle.cl_registry.specs.Views.{Configured}
-use Rattle.cl_registry.specs.Worlds.{file_read, world_of}
+use Rattle.cl_delegation.specs.Bounds.{is_public_class, derivable}
+use Rattle.cl_config.specs.Views.{Configured}
+use Rattle.cl_model.specs.Worlds.{seen}
+use Rattle.cl_delegation.specs.Worlds.{world_of}
 
 not_true : (b : Bool) → not b ≡ true → b ≡ false
 not_true true e = absurd cc
@@ -29,12 +30,12 @@ is_plain s class alone =
       alone = ap (λ (xs : List ℕ). (file_of (record s { interfaces = xs })).interfaces) none;
     }
 
-plain_by : (s : Structure) (f : File) (class alone : Bool) → is_public_class (file_of s) ≡ class → (length s.interfaces == 0) ≡ alone → file_read (if class then (if alone then Ok s else Err BadSupertype) else Err BadFlags) ≡ Ok f → IsPlain f
+plain_by : (s : Structure) (f : File) (class alone : Bool) → is_public_class (file_of s) ≡ class → (length s.interfaces == 0) ≡ alone → seen (if class then (if alone then Ok s else Err BadSupertype) else Err BadFlags) ≡ Ok f → IsPlain f
 plain_by s f true true p q h = let same : file_of s ≡ f = cc in subst IsPlain same (is_plain s p q)
 plain_by s f true false p q h = absurd cc
 plain_by s f false alone p q h = absurd cc
 
-plain_of : (r : Result Structure Fault) (f : File) → file_read (r >>= derivable) ≡ Ok f → IsPlain f
+plain_of : (r : Result Structure Fault) (f : File) → seen (r >>= derivable) ≡ Ok f → IsPlain f
 plain_of (Ok s) f h = plain_by s f (is_public_class (file_of s)) (length s.interfaces == 0) refl refl h
 plain_of (Err e) f h = absurd cc
 

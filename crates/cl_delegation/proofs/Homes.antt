@@ -2,12 +2,13 @@
 use Rattle.std.proofs.Common.{◌≡◌, ◌<◌, ◌∙◌, ℕ, zero, suc, Bool, true, false, List, [], ◌∷◌, length, Option, Some, None, MatchOption, refl, sym, ap, subst, arith, is_some}
 use Rattle.std.specs.Option.{option_map}
 use Rattle.std.specs.Prelude.{if◌then◌else◌}
-use Rattle.cl_model.specs.Content.{Content, content_at}
-use Rattle.cl_model.specs.Homes.{World, home, own_home, is_java}
-use Rattle.cl_registry.specs.Told.{IsTold}
-use Rattle.cl_registry.specs.Views.{Configured, Found}
-use Rattle.cl_registry.specs.Worlds.{world_of}
-use Rattle.cl_registry.specs.Searches.{LeadsTo}
+use Rattle.cl_model.specs.Content.{Content}
+use Rattle.cl_model.specs.Homes.{home, own_home, is_java}
+use Rattle.cl_source.specs.Told.{IsTold}
+use Rattle.cl_config.specs.Views.{Configured}
+use Rattle.cl_source.specs.Views.{Found}
+use Rattle.cl_delegation.specs.Worlds.{world_of}
+use Rattle.cl_delegation.specs.Searches.{LeadsTo}
 
 either : (b : Bool) (x y z : Option ℕ) → x ≡ z → y ≡ z → (elim b [ true ↦ x | false ↦ y ]) ≡ z
 either true x y z p q = p

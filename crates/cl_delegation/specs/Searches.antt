@@ -1,15 +1,9 @@
--- What contracts see of a search, of what it ends in, and of what a home's bytes are read as.
-use Rattle.std.specs.Prelude.{◌≡◌, ◌≢◌, ◌<◌, ℕ, List, length, Option, Some, None, Result, Ok, Err}
-use Rattle.cl_classfile.specs.declared.fault.Fault.{Fault}
-use Rattle.cl_classfile.specs.declared.fault.Fault.TheVariants as faults
-use Rattle.cl_classfile.specs.Structure.{Structure}
-use Rattle.cl_classfile.specs.Files.{file_of}
-use Rattle.cl_model.specs.declared.class.Class.{Class}
+-- What contracts see of a search and of what it ends in (JVMS SE 8, 5.3.2).
+use Rattle.std.specs.Prelude.{◌≡◌, ℕ, List, Option, Some, None}
 use Rattle.cl_model.specs.Content.{Content}
 use Rattle.cl_model.specs.Homes.{home}
-use Rattle.cl_registry.specs.Told.{IsTold}
-use Rattle.cl_registry.specs.Views.{Configured}
-use Rattle.cl_registry.specs.Worlds.{world_of}
+use Rattle.cl_config.specs.Views.{Configured}
+use Rattle.cl_delegation.specs.Worlds.{world_of}
 
 -- a search: what is asked, and what the one probe found, once it was made (5.3.2)
 pub record Searched : Type 0 where
@@ -43,8 +37,3 @@ pub record Sought : Type 0 where
 abbrev pub LeadsTo : Option Content → Configured → ℕ → List ℕ → Option ℕ → Type 0
 LeadsTo None c loader name place = Unit {0}
 LeadsTo (Some content) c loader name place = home (world_of c content) loader name ≡ place
-
--- a class and its file (5.3.5)
-pub record Drafted : Type 0 where
-  pub class : Class
-  pub file : Structure

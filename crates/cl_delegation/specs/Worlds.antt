@@ -1,40 +1,18 @@
 -- What a configuration, a script and a content give the linkage machine (JVMS SE 8, 5.3).
-use Rattle.std.specs.Prelude.{◌≡◌, ℕ, List, [], map, length, Result, Ok, Err}
-use Rattle.cl_classfile.specs.declared.fault.Fault.{Fault}
-use Rattle.cl_classfile.specs.declared.fault.Fault.TheVariants as faults
-use Rattle.cl_classfile.specs.Structure.{Structure}
-use Rattle.cl_classfile.specs.Files.{File, FileFault, BadVersion, BadFormat, file_of}
+use Rattle.std.specs.Prelude.{ℕ, List, map, Result}
+use Rattle.cl_classfile.specs.Files.{File, FileFault}
 use Rattle.cl_model.specs.Content.{Content}
-use Rattle.cl_model.specs.Homes.{World, Loader, ParentFirst}
-use Rattle.cl_model.specs.Machine.{Setting, Scheduled}
+use Rattle.cl_model.specs.Homes.{World}
+use Rattle.cl_model.specs.Machine.{Setting}
 use Rattle.cl_model.specs.Views.{request_of}
-use Rattle.cl_registry.specs.Bounds.{drafted_of}
-use Rattle.cl_registry.specs.Views.{Configured, Scripted}
-
--- another version is told apart from all that is no class file's form (5.3.5, 4.8)
-abbrev pub fault_of : Fault → FileFault
-fault_of faults.BadMagic = BadFormat
-fault_of faults.Version = BadVersion
-fault_of faults.Truncated = BadFormat
-fault_of faults.Trailing = BadFormat
-fault_of (faults.BadPool i) = BadFormat
-fault_of faults.BadFlags = BadFormat
-fault_of faults.BadMember = BadFormat
-fault_of faults.Duplicate = BadFormat
-fault_of faults.BadSupertype = BadFormat
-
--- what was read, as linking looks at it (4.1)
-abbrev pub file_read : Result Structure Fault → Result File FileFault
-file_read (Ok f) = Ok (file_of f)
-file_read (Err e) = Err (fault_of e)
+use Rattle.cl_model.specs.Worlds.{seen}
+use Rattle.cl_config.specs.Loaders.{loaders_of}
+use Rattle.cl_delegation.specs.Bounds.{drafted_of}
+use Rattle.cl_config.specs.Views.{Configured, Scripted}
 
 -- the file that bytes spell, or its first fault (4.1)
 abbrev pub read : List ℕ → Result File FileFault
-read bytes = file_read (drafted_of bytes)
-
--- for now a loader has neither parents nor imports (5.3)
-abbrev pub loaders_of : Configured → List Loader
-loaders_of c = map (λ n. record { parents = []; order = ParentFirst; imports = [] }) c.names
+read bytes = seen (drafted_of bytes)
 
 -- the loaders, their content, and how bytes are read (5.3)
 abbrev pub world_of : Configured → Content → World

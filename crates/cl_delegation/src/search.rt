@@ -1,11 +1,11 @@
 ghost use Rattle.std.specs.Prelude.{◌≡◌, ◌<◌, IfOk, OnOk, IfErr, MatchResult, Option, Some, None, length, is_some};
-ghost use Rattle.cl_registry.specs.Searches.{LeadsTo, next_of};
-ghost use Rattle.cl_registry.specs.Told.{IsTold};
+ghost use Rattle.cl_delegation.specs.Searches.{LeadsTo, next_of};
+ghost use Rattle.cl_source.specs.Told.{IsTold};
 
-use crate::config::Config;
-use crate::source::{Outcome, Probe};
+use cl_config::Config;
 use cl_model::{LoaderId, Told};
 use cl_names::Name;
+use cl_source::{Outcome, Probe};
 use std::alloc::Global;
 use std::marker::Model;
 use std::sync::Arc;
@@ -23,7 +23,7 @@ pub struct Search<T: Told> {
 impl<T: Told> Model for Search<T> {
     ghost use Rattle.std.specs.Prelude.{◌≡◌, ◌<◌, length, MatchOption};
     ghost use Rattle.std.specs.Option.{option_map};
-    ghost use Rattle.cl_registry.specs.Searches.{Searched};
+    ghost use Rattle.cl_delegation.specs.Searches.{Searched};
 
     ghost Value = { Searched };
 
@@ -133,7 +133,7 @@ pub struct Home<T: Told> {
 
 impl<T: Told> Model for Home<T> {
     ghost use Rattle.std.specs.Prelude.{◌≡◌, [], Some, unwrap_or};
-    ghost use Rattle.cl_registry.specs.Searches.{Located};
+    ghost use Rattle.cl_delegation.specs.Searches.{Located};
 
     ghost Value = { Located };
 
@@ -176,7 +176,7 @@ impl<T: Told> Home<T> {
     }
 
     /// The name, given up by the home.
-    pub(crate) fn into_name(self) -> Name
+    pub fn into_name(self) -> Name
         ensures { result ≡ self.name }
     {
         self.name
@@ -193,7 +193,7 @@ pub struct Unfound<T: Told> {
 
 impl<T: Told> Model for Unfound<T> {
     ghost use Rattle.std.specs.Prelude.{◌≡◌, None};
-    ghost use Rattle.cl_registry.specs.Searches.{Sought};
+    ghost use Rattle.cl_delegation.specs.Searches.{Sought};
 
     ghost Value = { Sought };
 

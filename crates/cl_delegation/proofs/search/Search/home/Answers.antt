@@ -1,8 +1,7 @@
-use Rattle.std.proofs.Common.{◌≡◌, ◌∙◌, sym, ap, length, Option, Some, None}
-use Rattle.cl_registry.specs.Outcomes.{bytes_of}
-use Rattle.cl_registry.specs.declared.source.Outcome.{Outcome}
-use Rattle.cl_registry.proofs.Homes.{probe_leads}
-use Rattle.cl_registry.proofs.search.Search.home.Goals as goal
+use Rattle.std.proofs.Common.{◌∙◌, sym, ap, Some, None}
+use Rattle.cl_source.specs.Outcomes.{bytes_of}
+use Rattle.cl_delegation.proofs.Homes.{probe_leads}
+use Rattle.cl_delegation.proofs.search.Search.home.Goals as goal
 
 pub returns-in-Found-clause-leads : goal.returns-in-Found-clause-leads
 returns-in-Found-clause-leads g c =

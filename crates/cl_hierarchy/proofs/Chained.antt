@@ -10,12 +10,12 @@ use Rattle.cl_model.specs.Homes.{World, home}
 use Rattle.cl_model.specs.Classes.{class, Error, NoClassDef, is_own, named, read_found, HasFile}
 use Rattle.cl_model.specs.Classes as classes
 use Rattle.cl_model.specs.Chains.{Waiting, first_or, stands_in, IsChain, NoneWaitsTwice}
-use Rattle.cl_registry.specs.Views.{Configured}
-use Rattle.cl_registry.specs.Worlds.{file_read, world_of}
-use Rattle.cl_registry.specs.Searches.{Drafted}
-use Rattle.cl_registry.specs.Drafts.{IsDraft}
-use Rattle.cl_registry.specs.Walks.{has, Distinct, head_or, Walked, names, root, Linked, DraftAt, IsWalk}
-use Rattle.cl_registry.proofs.Homes.{leads_home}
+use Rattle.cl_config.specs.Views.{Configured}
+use Rattle.cl_model.specs.Worlds.{seen}
+use Rattle.cl_delegation.specs.Worlds.{world_of}
+use Rattle.cl_hierarchy.specs.Drafts.{Drafted, IsDraft}
+use Rattle.cl_hierarchy.specs.Walks.{has, Distinct, head_or, Walked, names, root, Linked, DraftAt, IsWalk}
+use Rattle.cl_delegation.proofs.Homes.{leads_home}
 
 -- ---- the file of what a loader's own content has
 
@@ -38,7 +38,7 @@ module _ (c : Configured) (content : Content) (one : length c.names ≡ 1) where
   draft_file d below draft =
       let w = world_of c content in
       file_found w d.class draft.bytes (at_home d.class.loader d.class.name draft.bytes below draft.told_so) draft.told_so
-      ∙ ap (λ r. named d.class (file_read r)) draft.read
+      ∙ ap (λ r. named d.class (seen r)) draft.read
       ∙ named_so d.class (file_of d.file) draft.named
 
 -- ---- what waits

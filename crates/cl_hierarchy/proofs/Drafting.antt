@@ -1,11 +1,11 @@
 -- A home whose bytes spell the file of its name is a class.
-use Rattle.std.proofs.Common.{◌≡◌, ℕ, List, Option, Some, Result, Ok, subst, sym}
+use Rattle.std.proofs.Common.{◌≡◌, ℕ, List, Option, Some, Ok, subst, sym}
 use Rattle.cl_classfile.specs.Structure.{Structure}
 use Rattle.cl_classfile.specs.Files.{file_of}
 use Rattle.cl_model.specs.Content.{Content}
-use Rattle.cl_registry.specs.Told.{IsTold}
-use Rattle.cl_registry.specs.Bounds.{drafted_of}
-use Rattle.cl_registry.specs.Drafts.{IsDraft}
+use Rattle.cl_source.specs.Told.{IsTold}
+use Rattle.cl_delegation.specs.Bounds.{drafted_of}
+use Rattle.cl_hierarchy.specs.Drafts.{IsDraft}
 
 pub is_draft : (told : Option Content) (loader : ℕ) (name bytes : List ℕ) (f : Structure) → IsTold told loader name (Some bytes) → drafted_of bytes ≡ Ok f → (file_of f).name ≡ name
     → IsDraft told (record { class = record { name = name; loader = loader }; file = f })

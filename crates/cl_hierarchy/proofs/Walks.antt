@@ -1,6 +1,6 @@
 -- Walks: what is pushed and popped keeps them.
-use Rattle.std.proofs.Common.{◌≡◌, ◌⊎◌, inl, inr, ◌∙◌, ◌<◌, ◌≤◌, ◌+◌, ℕ, suc, Bool, true, false, cond, List, [], ◌∷◌, ◌++◌, length, map, Option, Some, None, refl, sym, ap, subst, arith, is_some, length-append}
-use Rattle.std.specs.Prelude.{◌||◌, ◌&&◌, nat_eq, MatchOption}
+use Rattle.std.proofs.Common.{◌≡◌, ◌∙◌, ◌<◌, ◌≤◌, ℕ, Bool, true, false, cond, List, [], ◌∷◌, ◌++◌, length, map, Option, Some, None, refl, sym, ap, subst, arith, is_some, length-append}
+use Rattle.std.specs.Prelude.{◌||◌, ◌&&◌, nat_eq}
 use Rattle.std.specs.List.{AllByRecursion}
 use Rattle.std.specs.Map.{lookup}
 use Rattle.std.specs.Cmp.Lexicographic.{pointwise}
@@ -9,9 +9,8 @@ use Rattle.std.proofs.lemmas.Bool.Decides.{nat_tests}
 use Rattle.cl_classfile.specs.Files.{file_of}
 use Rattle.cl_model.specs.Content.{Content}
 use Rattle.cl_model.specs.Classes.{class}
-use Rattle.cl_registry.specs.Drafts.{IsDraft}
-use Rattle.cl_registry.specs.Searches.{Drafted}
-use Rattle.cl_registry.specs.Walks.{has, Distinct, head_or, Walked, names, root, stands, Linked, most, DraftAt, IsWalk}
+use Rattle.cl_hierarchy.specs.Drafts.{IsDraft, Drafted}
+use Rattle.cl_hierarchy.specs.Walks.{has, Distinct, head_or, Walked, names, stands, Linked, most, DraftAt, IsWalk}
 
 -- ---- names
 

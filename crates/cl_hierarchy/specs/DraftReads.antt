@@ -2,11 +2,11 @@
 use Rattle.std.specs.Prelude.{◌≡◌, Result, Ok, Err}
 use Rattle.cl_classfile.specs.Files.{file_of}
 use Rattle.cl_model.specs.Classes.{class}
-use Rattle.cl_registry.specs.Bounds.{drafted_of}
-use Rattle.cl_registry.specs.Searches.{Located, Drafted}
-use Rattle.cl_registry.specs.Drafts.{IsWrong}
-use Rattle.cl_registry.specs.declared.draft.DraftRefused.{DraftRefused}
-use Rattle.cl_registry.specs.declared.draft.DraftRefused.TheVariants.{Memory, Unreadable}
+use Rattle.cl_delegation.specs.Bounds.{drafted_of}
+use Rattle.cl_delegation.specs.Searches.{Located}
+use Rattle.cl_hierarchy.specs.Drafts.{Drafted, IsWrong}
+use Rattle.cl_hierarchy.specs.declared.draft.DraftRefused.{DraftRefused}
+use Rattle.cl_hierarchy.specs.declared.draft.DraftRefused.TheVariants.{Memory, Unreadable}
 
 -- the class with the file that the bytes spell; or what is wrong with them; or the home, where memory ran out (5.3.5)
 abbrev pub ReadAs : {A : Type 0} → Located → Result Drafted (DraftRefused A) → Type 0

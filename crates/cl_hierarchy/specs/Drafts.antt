@@ -1,15 +1,21 @@
 -- How the bytes of a home are read as its class (JVMS SE 8, 5.3.5).
-use Rattle.std.specs.Prelude.{◌≡◌, ◌≢◌, ℕ, List, Option, Some, None, Result, Ok, Err}
+use Rattle.std.specs.Prelude.{◌≡◌, ◌≢◌, ℕ, List, Option, Some, Ok, Err}
 use Rattle.cl_classfile.specs.declared.fault.Fault.{Fault}
 use Rattle.cl_classfile.specs.declared.fault.Fault.TheVariants as faults
 use Rattle.cl_classfile.specs.Structure.{Structure}
 use Rattle.cl_classfile.specs.Files.{file_of}
+use Rattle.cl_model.specs.declared.class.Class.{Class}
 use Rattle.cl_model.specs.Content.{Content}
-use Rattle.cl_registry.specs.declared.draft.DraftFault.{DraftFault}
-use Rattle.cl_registry.specs.declared.draft.DraftFault.TheVariants as drafts
-use Rattle.cl_registry.specs.Told.{IsTold}
-use Rattle.cl_registry.specs.Bounds.{drafted_of}
-use Rattle.cl_registry.specs.Searches.{Drafted, Located}
+use Rattle.cl_hierarchy.specs.declared.draft.DraftFault.{DraftFault}
+use Rattle.cl_hierarchy.specs.declared.draft.DraftFault.TheVariants as drafts
+use Rattle.cl_source.specs.Told.{IsTold}
+use Rattle.cl_delegation.specs.Bounds.{drafted_of}
+use Rattle.cl_delegation.specs.Searches.{Located}
+
+-- a class and its file (5.3.5)
+pub record Drafted : Type 0 where
+  pub class : Class
+  pub file : Structure
 
 -- the class's own loader has bytes for its name, which spell its file (5.3.5)
 pub record IsDraft (told : Option Content) (d : Drafted) : Type 0 where

@@ -1,11 +1,10 @@
 -- The classes that are being derived for one request, each for the sake of the one before it (JVMS SE 8, 5.3.5).
-use Rattle.std.specs.Prelude.{◌≡◌, ◌≤◌, ℕ, Bool, true, false, ◌||◌, nat_eq, List, [], ◌∷◌, map, length, Option, Some, None}
+use Rattle.std.specs.Prelude.{◌≡◌, ◌≤◌, ℕ, Bool, false, ◌||◌, nat_eq, List, [], ◌∷◌, map, length, Option, Some}
 use Rattle.std.specs.List.{AllByRecursion}
 use Rattle.std.specs.Cmp.Lexicographic.{pointwise}
 use Rattle.cl_classfile.specs.Files.{file_of}
 use Rattle.cl_model.specs.Content.{Content}
-use Rattle.cl_registry.specs.Drafts.{IsDraft}
-use Rattle.cl_registry.specs.Searches.{Drafted}
+use Rattle.cl_hierarchy.specs.Drafts.{IsDraft, Drafted}
 
 -- the name is one of these (own choice)
 abbrev pub has : List ℕ → List (List ℕ) → Bool

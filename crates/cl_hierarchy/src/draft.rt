@@ -2,13 +2,13 @@ ghost use Rattle.std.specs.Prelude.{◌≡◌, MatchResult, Ok, Some};
 ghost use Rattle.std.specs.Option.{option_map};
 ghost use Rattle.cl_classfile.specs.Files.{file_of};
 ghost use Rattle.cl_classfile.specs.Checking.{Gives};
-ghost use Rattle.cl_registry.specs.Bounds.{drafted_of, is_public_class};
-ghost use Rattle.cl_registry.specs.Drafts.{IsDraft, IsWrong, fault_as};
-ghost use Rattle.cl_registry.specs.DraftReads.{ReadAs};
-ghost use Rattle.cl_registry.specs.Told.{IsTold};
+ghost use Rattle.cl_delegation.specs.Bounds.{drafted_of, is_public_class};
+ghost use Rattle.cl_hierarchy.specs.Drafts.{IsDraft, IsWrong, fault_as};
+ghost use Rattle.cl_hierarchy.specs.DraftReads.{ReadAs};
+ghost use Rattle.cl_source.specs.Told.{IsTold};
 
-use crate::search::Home;
 use cl_classfile::{ClassFile, Fault, ReadError};
+use cl_delegation::Home;
 use cl_model::{Class, Told};
 use cl_names::Name;
 use std::alloc::Global;
@@ -39,8 +39,8 @@ pub struct Draft<T: Told> {
 }
 
 impl<T: Told> Model for Draft<T> {
-    ghost use Rattle.cl_registry.specs.Searches.{Drafted};
-    ghost use Rattle.cl_registry.specs.Drafts.{IsDraft};
+    ghost use Rattle.cl_hierarchy.specs.Drafts.{Drafted};
+    ghost use Rattle.cl_hierarchy.specs.Drafts.{IsDraft};
 
     ghost Value = { Drafted };
 
@@ -57,7 +57,7 @@ pub struct Unreadable<T: Told> {
 }
 
 impl<T: Told> Model for Unreadable<T> {
-    ghost use Rattle.cl_registry.specs.Drafts.{Misread, IsWrong};
+    ghost use Rattle.cl_hierarchy.specs.Drafts.{Misread, IsWrong};
 
     ghost Value = { Misread };
 

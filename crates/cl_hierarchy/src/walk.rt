@@ -3,7 +3,7 @@ ghost use Rattle.std.specs.Cmp.Lexicographic.{pointwise};
 ghost use Rattle.indexmap.specs.IndexMap.{get, spare};
 ghost use Rattle.cl_classfile.specs.Files.{file_of};
 ghost use Rattle.cl_model.specs.Classes.{class};
-ghost use Rattle.cl_registry.specs.Walks.{IsWalk, stands};
+ghost use Rattle.cl_hierarchy.specs.Walks.{IsWalk, stands};
 
 use crate::draft::Draft;
 use cl_model::{Class, LoaderId, Told};
@@ -24,7 +24,7 @@ pub struct Walk<T: Told> {
 
 impl<T: Told> Model for Walk<T> {
     ghost use Rattle.std.specs.Prelude.{◌≡◌, map};
-    ghost use Rattle.cl_registry.specs.Walks.{Walked, IsWalk, names};
+    ghost use Rattle.cl_hierarchy.specs.Walks.{Walked, IsWalk, names};
 
     ghost Value = { Walked };
 

@@ -1,7 +1,5 @@
-use Rattle.std.proofs.Common.{◌≡◌, Some, Ok}
-use Rattle.cl_classfile.specs.Files.{file_of}
-use Rattle.cl_registry.proofs.Drafting.{is_draft_of}
-use Rattle.cl_registry.proofs.draft.draft_of.Goals as goal
+use Rattle.cl_hierarchy.proofs.Drafting.{is_draft_of}
+use Rattle.cl_hierarchy.proofs.draft.draft_of.Goals as goal
 
 pub invariant_of-result : goal.invariant_of-result
 invariant_of-result g c =

@@ -1,9 +1,8 @@
 use Rattle.std.proofs.Common.{◌≡◌, ◌∙◌, ◌++◌, ◌∷◌, [], sym, ap, subst, List, ℕ, false}
 use Rattle.cl_model.specs.Classes.{class}
-use Rattle.cl_registry.specs.Walks.{has, names, stands, Walked}
-use Rattle.cl_registry.specs.Searches.{Drafted}
-use Rattle.cl_registry.proofs.Walks.{IsHeld, held_push, absent, same_walk, drafts_in}
-use Rattle.cl_registry.proofs.walk.Walk.push.Goals as goal
+use Rattle.cl_hierarchy.specs.Walks.{has, stands, Walked}
+use Rattle.cl_hierarchy.proofs.Walks.{IsHeld, held_push, absent, same_walk, drafts_in}
+use Rattle.cl_hierarchy.proofs.walk.Walk.push.Goals as goal
 
 pub put-requires-clause-absent : goal.put-requires-clause-absent
 put-requires-clause-absent g c =

@@ -1,6 +1,6 @@
-use Rattle.std.proofs.Common.{◌≡◌, ◌∙◌, sym}
-use Rattle.cl_registry.proofs.Walks.{stood}
-use Rattle.cl_registry.proofs.walk.Walk.stands.Goals as goal
+use Rattle.std.proofs.Common.{◌∙◌, sym}
+use Rattle.cl_hierarchy.proofs.Walks.{stood}
+use Rattle.cl_hierarchy.proofs.walk.Walk.stands.Goals as goal
 
 pub returns-else-eq : goal.returns-else-eq
 returns-else-eq g c =

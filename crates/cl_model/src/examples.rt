@@ -4,10 +4,10 @@ ghost use Rattle.std.specs.Prelude.{◌≡◌, ℕ, List, ◌∷◌, [], Option,
 ghost use Rattle.cl_model.specs.Homes.{home};
 ghost use Rattle.cl_model.specs.Classes.{class, ClassNotFound, NoClassDef, ClassFormat, UnsupportedVersion, ClassCircularity, IncompatibleClassChange, IllegalAccess, NoSuchField, NoSuchMethod};
 ghost use Rattle.cl_model.specs.States.{Verdict, Entry, Equal, IsClass, IsArrayOf, IsArrayOfBase, IsField, IsMethod, IsLinked, Wrong, BadEntry, ArrayMember, Linkage, Said, OutOfMemory, SourceFault, start};
-ghost use Rattle.cl_model.specs.Machine.{Define, Initiate, Constrain, Prepare, Post, NextRound, AnswersPlan, MayPost, MayGoOn, after, state_after};
+ghost use Rattle.cl_model.specs.Machine.{Define, Initiate, Constrain, Settle, Prepare, Post, NextRound, Stray, AnswersPlan, MayPost, MayGoOn, after, state_after};
 ghost use Rattle.cl_model.specs.Lines.{line, verdict_text, answer_text, answer_line};
 ghost use Rattle.cl_model.specs.Plans.{plan, cost};
-ghost use Rattle.cl_model.specs.Examples.{boot, app, plug, kid, object, names, in_boot, in_app, in_plug, taking_none, taking_t, an_int, an_array, load_of, resolve_of, link_of, entry, equal, ends_at, needs_at, more_at};
+ghost use Rattle.cl_model.specs.Examples.{boot, app, plug, kid, object, names, in_boot, in_app, in_plug, in_kid, taking_none, taking_t, an_int, an_array, load_of, resolve_of, link_of, entry, equal, ends_at, needs_at, more_at};
 ghost use Rattle.cl_model.specs.ExampleLoads.{copies, bad, circle, missing, importing, imports, misfits};
 ghost use Rattle.cl_model.specs.ExampleLookups.{chosen, found, from_d, from_r};
 ghost use Rattle.cl_model.specs.ExampleReferences.{service, three_users, hidden, arrays, references};
@@ -156,7 +156,18 @@ pub fn references_of_a_class()
     ensures through_subclass { ends_at references 4 (resolve_of plug "q/U" 5) ≡ Some (Wrong (IllegalAccess (in_app "p/P"))) }
     ensures of_base { ends_at references 4 (resolve_of plug "q/U" 6) ≡ Some (IsArrayOfBase 2 74) }
     ensures absent { ends_at references 4 (resolve_of plug "q/U" 7) ≡ Some (Wrong (NoSuchMethod (in_plug "q/G"))) }
-    ensures field_needs { more_at references 4 (resolve_of plug "q/U" 1) ≡ Some (Entry boot object boot ∷ Entry app object boot ∷ entry app "p/F" app ∷ entry plug "p/F" app ∷ equal "p/T" app plug ∷ []) }
+{}
+
+/// What the same references need past the load of their class: loads, and where a member is found
+/// and accessible the equalities of its class with the class that names it.
+pub fn needs_of_references()
+    ensures field { more_at references 4 (resolve_of plug "q/U" 1) ≡ Some (Entry boot object boot ∷ Entry app object boot ∷ entry app "p/F" app ∷ entry plug "p/F" app ∷ equal "p/T" app plug ∷ []) }
+    ensures method { more_at references 4 (resolve_of plug "q/U" 2) ≡ Some (Entry boot object boot ∷ Entry app object boot ∷ entry app "p/F" app ∷ entry plug "p/F" app ∷ entry plug "q/G" plug ∷ equal "p/T" app plug ∷ []) }
+    ensures no_class { more_at references 4 (resolve_of plug "q/U" 3) ≡ Some [] }
+    ensures hidden { more_at references 4 (resolve_of plug "q/U" 4) ≡ Some (Entry boot object boot ∷ Entry app object boot ∷ entry app "p/H" app ∷ entry plug "p/H" app ∷ []) }
+    ensures through_subclass { more_at references 4 (resolve_of plug "q/U" 5) ≡ Some (Entry boot object boot ∷ Entry app object boot ∷ entry app "p/P" app ∷ entry plug "p/P" app ∷ entry plug "q/X" plug ∷ []) }
+    ensures of_base { more_at references 4 (resolve_of plug "q/U" 6) ≡ Some [] }
+    ensures absent { more_at references 4 (resolve_of plug "q/U" 7) ≡ Some (Entry boot object boot ∷ Entry app object boot ∷ entry app "p/F" app ∷ entry plug "p/F" app ∷ entry plug "q/G" plug ∷ []) }
 {}
 
 /// A method of package access is overridden from another package only through a third method
@@ -233,21 +244,57 @@ pub fn constraint_across_three()
     ensures refused { AnswersPlan (over three_users) (state_after start across) (load_of kid "p/T") (Linkage (entry kid "p/T" kid)) }
 {}
 
-/// The lines of events and answers.
+/// The line of each kind of step; a settled reference, a post and a round have none.
 #[tactic(auto, unfolding(cl_names::specs::Escape::escaped, cl_names::specs::Escape::units_of))]
-pub fn printed_lines()
+pub fn printed_steps()
     ensures define { line names (Define (in_boot "java/lang/Object")) ≡ Some (codes "define java/lang/Object@boot") }
     ensures initiate { line names (Initiate object boot plug) ≡ Some (codes "initiate java/lang/Object boot by plug") }
     ensures constrain { line names (Constrain (codes "p/T") app plug) ≡ Some (codes "constrain p/T app plug") }
     ensures prepare { line names (Prepare (in_app "p/A")) ≡ Some (codes "prepare p/A@app") }
-    ensures silent { line names NextRound ≡ None }
-    ensures class { verdict_text names (IsClass (in_plug "p/T")) ≡ codes "class p/T@plug" }
+    ensures settle { line names (Settle (in_app "p/A") 1 BadEntry) ≡ None }
+    ensures posted { line names (Post 0 OutOfMemory) ≡ None }
+    ensures next_round { line names NextRound ≡ None }
+    ensures stray { line names Stray ≡ None }
+    ensures escaped_name { line names (Define (in_kid "p/A B")) ≡ Some (codes "define p/A\\u0020B@kid") }
+{}
+
+/// The text of each kind of verdict that is no error.
+#[tactic(auto, unfolding(cl_names::specs::Escape::escaped, cl_names::specs::Escape::units_of))]
+pub fn printed_verdicts()
+    ensures of_class { verdict_text names (IsClass (in_plug "p/T")) ≡ codes "class p/T@plug" }
+    ensures array { verdict_text names (IsArrayOf 2 (in_app "p/T")) ≡ codes "array 2 p/T@app" }
+    ensures base_array { verdict_text names (IsArrayOfBase 1 73) ≡ codes "array 1 I" }
+    ensures field { verdict_text names (IsField (in_app "p/F") (an_array "x")) ≡ codes "field p/F@app x [Lp/T;" }
     ensures method { verdict_text names (IsMethod (in_app "p/Svc") (taking_t "m")) ≡ codes "method p/Svc@app m (Lp/T;)V" }
-    ensures error { verdict_text names (Wrong (ClassCircularity (in_app "p/A"))) ≡ codes "ClassCircularityError p/A@app" }
-    ensures record { verdict_text names (Linkage (entry plug "p/T" plug)) ≡ codes "LinkageError record p/T@plug" }
+    ensures linked { verdict_text names (IsLinked (in_plug "q/A")) ≡ codes "linked q/A@plug" }
+    ensures bad_entry { verdict_text names BadEntry ≡ codes "BadEntry" }
+    ensures array_member { verdict_text names ArrayMember ≡ codes "ArrayMember" }
+    ensures record { verdict_text names (Linkage (entry plug "p/T" app)) ≡ codes "LinkageError record p/T@plug" }
     ensures equality { verdict_text names (Linkage (equal "p/T" app plug)) ≡ codes "LinkageError equal p/T app plug" }
+{}
+
+/// The text of each error: its name, and the class that it is about.
+#[tactic(auto, unfolding(cl_names::specs::Escape::escaped, cl_names::specs::Escape::units_of))]
+pub fn printed_errors()
+    ensures not_found { verdict_text names (Wrong (ClassNotFound (in_kid "p/T"))) ≡ codes "ClassNotFoundException p/T@kid" }
+    ensures no_definition { verdict_text names (Wrong (NoClassDef (in_app "q/B"))) ≡ codes "NoClassDefFoundError q/B@app" }
+    ensures format { verdict_text names (Wrong (ClassFormat (in_app "q/B"))) ≡ codes "ClassFormatError q/B@app" }
+    ensures version { verdict_text names (Wrong (UnsupportedVersion (in_app "q/V"))) ≡ codes "UnsupportedClassVersionError q/V@app" }
+    ensures circle { verdict_text names (Wrong (ClassCircularity (in_app "p/A"))) ≡ codes "ClassCircularityError p/A@app" }
+    ensures misfit { verdict_text names (Wrong (IncompatibleClassChange (in_app "p/J"))) ≡ codes "IncompatibleClassChangeError p/J@app" }
+    ensures access { verdict_text names (Wrong (IllegalAccess (in_app "p/H"))) ≡ codes "IllegalAccessError p/H@app" }
+    ensures field { verdict_text names (Wrong (NoSuchField (in_app "p/C"))) ≡ codes "NoSuchFieldError p/C@app" }
+    ensures method { verdict_text names (Wrong (NoSuchMethod (in_app "p/C"))) ≡ codes "NoSuchMethodError p/C@app" }
+{}
+
+/// The text of each kind of answer, and its line, whose number is counted from 1.
+#[tactic(auto, unfolding(cl_names::specs::Escape::escaped, cl_names::specs::Escape::units_of))]
+pub fn printed_answers()
+    ensures said { answer_text names (Said (IsClass (in_plug "p/T"))) ≡ codes "class p/T@plug" }
+    ensures memory { answer_text names OutOfMemory ≡ codes "OutOfMemory" }
     ensures fault { answer_text names (SourceFault (codes "p/T") boot) ≡ codes "SourceFault p/T@boot" }
-    ensures array { answer_line names 9 (Said (IsArrayOf 2 (in_app "p/T"))) ≡ codes "10 array 2 p/T@app" }
+    ensures first_line { answer_line names 0 OutOfMemory ≡ codes "1 OutOfMemory" }
+    ensures tenth_line { answer_line names 9 (Said (IsArrayOf 2 (in_app "p/T"))) ≡ codes "10 array 2 p/T@app" }
 {}
 
 /// A request is answered in its round, once; the next round begins when all of this one are

@@ -1,10 +1,10 @@
 //! Worked examples, computed from the definitions.
 
-ghost use Rattle.std.specs.Prelude.{◌≡◌, ℕ, List, ◌∷◌, [], Option, Some, None, option_map, codes};
+ghost use Rattle.std.specs.Prelude.{◌≡◌, ℕ, List, ◌∷◌, ◌++◌, [], Option, Some, None, option_map, codes};
 ghost use Rattle.cl_model.specs.Homes.{home};
 ghost use Rattle.cl_model.specs.Classes.{class, ClassNotFound, NoClassDef, ClassFormat, UnsupportedVersion, ClassCircularity, IncompatibleClassChange, IllegalAccess, NoSuchField, NoSuchMethod};
 ghost use Rattle.cl_model.specs.States.{Verdict, Entry, Equal, IsClass, IsArrayOf, IsArrayOfBase, IsField, IsMethod, IsLinked, Wrong, BadEntry, ArrayMember, Linkage, Said, OutOfMemory, SourceFault, start};
-ghost use Rattle.cl_model.specs.Machine.{Define, Initiate, Constrain, Settle, Prepare, Post, NextRound, Stray, AnswersPlan, MayPost, MayGoOn, after, state_after};
+ghost use Rattle.cl_model.specs.Machine.{Define, Initiate, Constrain, Settle, Prepare, Post, NextRound, Stray, Run, AnswersPlan, MayPost, MayGoOn, after, state_after};
 ghost use Rattle.cl_model.specs.Lines.{line, verdict_text, answer_text, answer_line};
 ghost use Rattle.cl_model.specs.Plans.{plan, cost};
 ghost use Rattle.cl_model.specs.Examples.{boot, app, plug, kid, object, names, in_boot, in_app, in_plug, in_kid, taking_none, taking_t, an_int, an_array, load_of, resolve_of, link_of, entry, equal, ends_at, needs_at, more_at};
@@ -12,7 +12,7 @@ ghost use Rattle.cl_model.specs.ExampleLoads.{copies, bad, circle, missing, impo
 ghost use Rattle.cl_model.specs.ExampleLookups.{chosen, found, from_d, from_r};
 ghost use Rattle.cl_model.specs.ExampleReferences.{service, three_users, hidden, arrays, references};
 ghost use Rattle.cl_model.specs.ExampleOverriding.{overriding, declared, through_kid, whole_lineage};
-ghost use Rattle.cl_model.specs.ExampleRuns.{over, both_defined, constrained, across, in_rounds};
+ghost use Rattle.cl_model.specs.ExampleRuns.{over, both_defined, constrained, across, in_rounds, serving, loading, resolving, linking};
 
 /// A search goes to the parent first, or to the own content first; a `java/` name is searched in
 /// the first loader alone; what an import takes hides the own content.
@@ -308,4 +308,10 @@ pub fn round_discipline()
     ensures next { MayGoOn in_rounds (after start (Post 0 OutOfMemory)) }
     ensures empty_next { MayGoOn in_rounds (state_after start (Post 0 OutOfMemory ∷ NextRound ∷ Post 1 OutOfMemory ∷ Post 2 OutOfMemory ∷ [])) }
     ensures no_next { MayGoOn in_rounds (state_after start (Post 0 OutOfMemory ∷ NextRound ∷ Post 1 OutOfMemory ∷ Post 2 OutOfMemory ∷ NextRound ∷ [])) → ⊥ }
+{}
+
+/// A reference is settled and then its request answered; a class is prepared after what stands
+/// above it, and then its link is answered.
+pub fn resolve_and_link()
+    ensures { Run serving start (loading ++ resolving ++ linking) }
 {}

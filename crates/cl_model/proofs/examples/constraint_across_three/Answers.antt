@@ -2,9 +2,11 @@ use Rattle.std.proofs.Common.{inl, inr, refl, codes, [], ◌∷◌, arith}
 use Rattle.cl_model.specs.States.{start}
 use Rattle.cl_model.specs.Machine.{state_after}
 use Rattle.cl_model.specs.Plans.{plan, Load}
-use Rattle.cl_model.specs.Rows.{app, plug, kid, three_users, across}
-use Rattle.cl_model.proofs.Examples.{the, refused_record}
-use Rattle.cl_model.proofs.rows.constraint_across_three.Goals as goal
+use Rattle.cl_model.specs.Examples.{app, plug, kid}
+use Rattle.cl_model.specs.ExampleReferences.{three_users}
+use Rattle.cl_model.specs.ExampleRuns.{across}
+use Rattle.cl_model.proofs.Refusals.{the, refused_record}
+use Rattle.cl_model.proofs.examples.constraint_across_three.Goals as goal
 
 pub returns-clause-loaded : goal.returns-clause-loaded
 returns-clause-loaded c = record {

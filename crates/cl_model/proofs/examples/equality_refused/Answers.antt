@@ -2,9 +2,11 @@ use Rattle.std.proofs.Common.{inl, inr, refl, codes}
 use Rattle.cl_model.specs.States.{start}
 use Rattle.cl_model.specs.Machine.{state_after}
 use Rattle.cl_model.specs.Plans.{plan, Resolve}
-use Rattle.cl_model.specs.Rows.{app, plug, service, both_defined}
-use Rattle.cl_model.proofs.Examples.{the, refused_equal}
-use Rattle.cl_model.proofs.rows.equality_refused.Goals as goal
+use Rattle.cl_model.specs.Examples.{app, plug}
+use Rattle.cl_model.specs.ExampleReferences.{service}
+use Rattle.cl_model.specs.ExampleRuns.{both_defined}
+use Rattle.cl_model.proofs.Refusals.{the, refused_equal}
+use Rattle.cl_model.proofs.examples.equality_refused.Goals as goal
 
 pub returns : goal.returns
 returns c = record {

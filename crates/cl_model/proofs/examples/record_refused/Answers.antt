@@ -2,9 +2,11 @@ use Rattle.std.proofs.Common.{inl, inr, refl, codes, [], ◌∷◌, arith}
 use Rattle.cl_model.specs.States.{start}
 use Rattle.cl_model.specs.Machine.{state_after}
 use Rattle.cl_model.specs.Plans.{plan, Load, Resolve}
-use Rattle.cl_model.specs.Rows.{app, plug, service, constrained}
-use Rattle.cl_model.proofs.Examples.{the, refused_record}
-use Rattle.cl_model.proofs.rows.record_refused.Goals as goal
+use Rattle.cl_model.specs.Examples.{app, plug}
+use Rattle.cl_model.specs.ExampleReferences.{service}
+use Rattle.cl_model.specs.ExampleRuns.{constrained}
+use Rattle.cl_model.proofs.Refusals.{the, refused_record}
+use Rattle.cl_model.proofs.examples.record_refused.Goals as goal
 
 pub returns-clause-resolved : goal.returns-clause-resolved
 returns-clause-resolved c = record {

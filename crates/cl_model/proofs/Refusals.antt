@@ -10,7 +10,7 @@ abbrev pub the : Option Plan → Plan
 the None = record { own = []; more = []; asked = []; reached = None; ends = BadEntry }
 the (Some p) = p
 
-no_equality : (e : Equality) → Contains [] e → ⊥
+pub no_equality : (e : Equality) → Contains [] e → ⊥
 no_equality e h = absurd (let l : h.0 < 0 = h.1 in omega arith)
 
 -- without an equality two loaders are not joined
@@ -31,7 +31,7 @@ refused_equal s name a b p q none differ r t d = record {
   };
 }
 
-missing : {x : ℕ} → None ≡ Some x → ⊥
+pub missing : {x : ℕ} → None ≡ Some x → ⊥
 missing h = cc
 
 -- a record is refused where a joined loader has another

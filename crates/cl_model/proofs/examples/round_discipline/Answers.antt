@@ -2,8 +2,8 @@ use Rattle.std.proofs.Common.{◌≡◌, ℕ, zero, suc, ◌<◌, ◌+◌, Some,
 use Rattle.std.specs.Option.{IsSome}
 use Rattle.cl_model.specs.States.{Answer, OutOfMemory, start, answer_to}
 use Rattle.cl_model.specs.Machine.{Scheduled, Post, NextRound, after, state_after}
-use Rattle.cl_model.specs.Rows.{in_rounds}
-use Rattle.cl_model.proofs.rows.round_discipline.Goals as goal
+use Rattle.cl_model.specs.ExampleRuns.{in_rounds}
+use Rattle.cl_model.proofs.examples.round_discipline.Goals as goal
 
 -- an equation of a request's entry gives its round
 round_is : {a b : Scheduled} → Some a ≡ Some b → a.round ≡ b.round

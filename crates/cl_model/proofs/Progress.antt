@@ -34,7 +34,7 @@ next_split s (x ∷ xs) ys n (inr h) = elim (next_split s xs ys n h.1) [
   | inr k ↦ inr ((h.0, k.0), k.1)
 ]
 
-met_split : (s : State) (xs ys : List Need) → AllMet s (xs ++ ys) → AllMet s xs × AllMet s ys
+pub met_split : (s : State) (xs ys : List Need) → AllMet s (xs ++ ys) → AllMet s xs × AllMet s ys
 met_split s [] ys h = (tt, h)
 met_split s (x ∷ xs) ys h = let k = met_split s xs ys h.1 in ((h.0, k.0), k.1)
 

@@ -109,12 +109,12 @@ run_later_part g s (d ∷ xs) ys run = run_later_part g (after s d) xs ys run.1
 define_for : (l : ℕ) (name : Name) → step_for (Entry l name l) ≡ Define (class name l)
 define_for l name = rw (nat_eq_equiv.refl l) refl
 
--- a load goes on by a class's own record
-pub begun_define : (g : Setting) (loader : ℕ) (asked : Name) (s : State) (es : List Step) (l : ℕ) (name : Name) → IsBegun g (Load loader asked) s es → IsNextNeed g.world (state_after s es) (Load loader asked) (Entry l name l)
-    → May g (state_after s es) (Define (class name l)) → IsBegun g (Load loader asked) s (es ++ Define (class name l) ∷ [])
-begun_define g loader asked s es l name b next may =
-    subst (λ (e : Step). IsBegun g (Load loader asked) s (es ++ e ∷ [])) (define_for l name)
-    (begun_push g (Load loader asked) s es (step_for (Entry l name l)) b (need_next g (state_after s es) (Load loader asked) (Entry l name l) (load_wants loader asked) next may.may_add))
+-- the same of a class's own record
+pub begun_define : (g : Setting) (r : Request) (s : State) (es : List Step) (l : ℕ) (name : Name) → WantsNeeds r → IsBegun g r s es → IsNextNeed g.world (state_after s es) r (Entry l name l) → May g (state_after s es) (Define (class name l))
+    → IsBegun g r s (es ++ Define (class name l) ∷ [])
+begun_define g r s es l name needs b next may =
+    subst (λ (e : Step). IsBegun g r s (es ++ e ∷ [])) (define_for l name)
+    (begun_push g r s es (step_for (Entry l name l)) b (need_next g (state_after s es) r (Entry l name l) needs next may.may_add))
 
 pub begun_ends : (g : Setting) (q : ℕ) (r : Request) (s : State) (es : List Step) (a : Answer) → IsBegun g r s es → MayEnd g (state_after s es) r a → Serves g q r s (es ++ Post q a ∷ [])
 begun_ends g q r s es a b ends = record { steps = es; begun = b; answer = a; ends = ends; posted = refl }

@@ -1,7 +1,8 @@
 -- Laws of the definitions (JVMS SE 8, 5.3 to 5.4.5): each is the contract of a function without a body.
-use Rattle.std.specs.Prelude.{◌≡◌, ℕ, suc, ◌+◌, true, false, List, [], ◌∷◌, ◌++◌, length, Some, None, Ok, Err, ◌⊎◌, ◌↔◌, Contains, Option, slice_get, ◌≢◌}
+use Rattle.std.specs.Prelude.{◌≡◌, ℕ, suc, ◌+◌, true, false, List, [], ◌∷◌, ◌++◌, length, Some, None, Ok, Err, ◌⊎◌, ◌↔◌, Contains, Option, slice_get, ◌≢◌, find}
 use Rattle.cl_classfile.specs.Files.{Name, File, Key, same_key}
-use Rattle.cl_model.specs.Homes.{World, home}
+use Rattle.cl_model.specs.Homes.{World, home, is_loader}
+use Rattle.cl_model.specs.Probes.{probes, has_own, EachOnce}
 use Rattle.cl_model.specs.declared.class.Class.{Class}
 use Rattle.cl_model.specs.Classes.{class, Error, ClassCircularity, file_of, HasFile, IsAtHome, Good, IsGood, Fails, Circular, Next, Returns}
 use Rattle.cl_model.specs.Lineages.{Kin, IsLineage}
@@ -24,6 +25,18 @@ use Rattle.cl_model.specs.Tables.{Allows, Orderly, IsTrusted, IsConsistent, Stan
 -- a home is its own home (5.3.1, 5.3.2)
 abbrev pub HomeOfHome : Type 0
 HomeOfHome = (w : World) (loader found : ℕ) (name : Name) → home w loader name ≡ Some found → home w found name ≡ Some found
+
+-- a home is the first of the loaders that are probed whose own content has the name (5.3.2)
+abbrev pub HomeIsProbed : Type 0
+HomeIsProbed = (w : World) (loader : ℕ) (name : Name) → home w loader name ≡ find (has_own w name) (probes w loader name)
+
+-- no loader is probed twice (5.3.2)
+abbrev pub ProbedOnce : Type 0
+ProbedOnce = (w : World) (loader : ℕ) (name : Name) → EachOnce (probes w loader name)
+
+-- what is probed is a loader (5.3.2)
+abbrev pub ProbesAreLoaders : Type 0
+ProbesAreLoaders = (w : World) (loader : ℕ) (name : Name) → AllByRecursion (λ (n : ℕ). is_loader w n ≡ true) (probes w loader name)
 
 -- a greater height derives the same (5.3.5)
 abbrev pub HigherDerives : Type 0

@@ -1,8 +1,16 @@
-ghost use Rattle.cl_model.specs.Laws.{HomeOfHome, GoodIsNotFailing, RunGoesOn, RecordsStay, MetStays, NeverViolated, OneAnswer, HigherDerives, AnswersStay, DerivedIsGood, RecordedIsMet, RunsAreClosed, GoodIsDerived, ErrorIsFailing, OneError, GoodGrows, FailsGrows, FailingIsDerived, ReturnIsCircular, ReturnGoesOn, CircleReturns, ReturnIsDerived, OneSubject, FailureIsNoCircle, OneDerivation, GoodIsAtHome, ComesOut, CircularReturns, CircularGoesOn, PlanExists, OnePlan, LineageExists, OneLineage, ResolutionExists, OneResolution, DerivedIsLineage, LineageIsDerived, SettledStay, PreparedStay, PostedStay, RequestAnswerStays, ReferenceAnswerStays, OneRequestAnswer, OneReferenceAnswer, RunsAreSound, StepIsSound, ClashViolates, ViolationClashes, RecordedLoadStands, RecordedAnswers, UnmetIsFresh, ServiceGoesOn, ServiceIsWhole, LoadNeedIsNext, ResolveNeedIsNext, LoadComes, ResolutionComes, ServicesGoOn, WaitingIsNext, RootIsNext, MissingStops, FaultyStops, CircleStops, AnswersAtOnce, CircleIsAnswered, CircularIsAnswered, PartBegins, RunThen, RunParts, StateThen, SaidAlike, SaidReference, FileIsSpelt, StepsThen, StepsSame, NextMayBeMade, StepAdds, TrustedIsConsistent, AllowedIsConsistent, TrustedGoesOn, TrustedParts, MayIsAllowed, RunsAreTrusted, DefinedOnce, AnsweredOnce, SameKey, ClassTexts, VerdictTexts, AnswerTexts, EventTexts};
+ghost use Rattle.cl_model.specs.Laws.{HomeOfHome, HomeIsProbed, ProbedOnce, ProbesAreLoaders, GoodIsNotFailing, RunGoesOn, RecordsStay, MetStays, NeverViolated, OneAnswer, HigherDerives, AnswersStay, DerivedIsGood, RecordedIsMet, RunsAreClosed, GoodIsDerived, ErrorIsFailing, OneError, GoodGrows, FailsGrows, FailingIsDerived, ReturnIsCircular, ReturnGoesOn, CircleReturns, ReturnIsDerived, OneSubject, FailureIsNoCircle, OneDerivation, GoodIsAtHome, ComesOut, CircularReturns, CircularGoesOn, PlanExists, OnePlan, LineageExists, OneLineage, ResolutionExists, OneResolution, DerivedIsLineage, LineageIsDerived, SettledStay, PreparedStay, PostedStay, RequestAnswerStays, ReferenceAnswerStays, OneRequestAnswer, OneReferenceAnswer, RunsAreSound, StepIsSound, ClashViolates, ViolationClashes, RecordedLoadStands, RecordedAnswers, UnmetIsFresh, ServiceGoesOn, ServiceIsWhole, LoadNeedIsNext, ResolveNeedIsNext, LoadComes, ResolutionComes, ServicesGoOn, WaitingIsNext, RootIsNext, MissingStops, FaultyStops, CircleStops, AnswersAtOnce, CircleIsAnswered, CircularIsAnswered, PartBegins, RunThen, RunParts, StateThen, SaidAlike, SaidReference, FileIsSpelt, StepsThen, StepsSame, NextMayBeMade, StepAdds, TrustedIsConsistent, AllowedIsConsistent, TrustedGoesOn, TrustedParts, MayIsAllowed, RunsAreTrusted, DefinedOnce, AnsweredOnce, SameKey, ClassTexts, VerdictTexts, AnswerTexts, EventTexts};
 
 /// A home is its own home.
 pub fn home_of_home()
     ensures { HomeOfHome }
+{}
+
+/// A home is the first of the loaders that are probed whose own content has the name; each of these is a loader, and
+/// none is probed twice.
+pub fn home_is_probed()
+    ensures home { HomeIsProbed }
+    ensures once { ProbedOnce }
+    ensures loaders { ProbesAreLoaders }
 {}
 
 /// What is good does not fail.

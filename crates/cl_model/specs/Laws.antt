@@ -4,8 +4,9 @@ use Rattle.cl_classfile.specs.Files.{Name, File, Key, same_key}
 use Rattle.cl_model.specs.Homes.{World, home, is_loader}
 use Rattle.cl_model.specs.Probes.{probes, has_own, EachOnce}
 use Rattle.cl_model.specs.declared.class.Class.{Class}
-use Rattle.cl_model.specs.Classes.{class, Error, ClassCircularity, file_of, HasFile, IsAtHome, Good, IsGood, Fails, Circular, Next, Returns}
-use Rattle.cl_model.specs.Lineages.{Kin, IsLineage}
+use Rattle.cl_model.specs.Classes.{class, is_among, Error, ClassCircularity, file_of, HasFile, IsAtHome, Good, IsGood, Fails, Circular, Next, Returns}
+use Rattle.cl_model.specs.Lineages.{Kin, IsLineage, classes, lineage}
+use Rattle.cl_model.specs.Ancestors.{EachClassOnce, SupersFirst}
 use Rattle.cl_model.specs.Works.{Made}
 use Rattle.cl_model.specs.Plans.{derive, load, Load, Request, Plan, Resolve, needs_of}
 use Rattle.cl_model.specs.States.{State, start, Entry, IsClass, Answer, settled_to, answer_to, IsFresh, Clashes, added, Need, Verdict, recorded, Violated, Met, AllMet, IsRecorded, MayAdd, Said, Wrong, Linkage, IsNext}
@@ -181,6 +182,22 @@ DerivedIsLineage = (w : World) (n : ℕ) (path : List Class) (c : Class) (m : Ma
 -- a lineage is what its class is derived to (5.3.5)
 abbrev pub LineageIsDerived : Type 0
 LineageIsDerived = (w : World) (k : Kin) → IsLineage w k → HasLineage w k.class k
+
+-- a lineage has each class once (5.4)
+abbrev pub LineageOnce : Type 0
+LineageOnce = (k : Kin) → EachClassOnce (lineage k)
+
+-- a lineage has its own class (5.4)
+abbrev pub LineageHas : Type 0
+LineageHas = (k : Kin) → is_among (classes (lineage k)) k.class ≡ true
+
+-- in a lineage each class stands after its direct supertypes (5.3.5, 5.4)
+abbrev pub LineageSupersFirst : Type 0
+LineageSupersFirst = (w : World) (k : Kin) → IsLineage w k → SupersFirst w [] (lineage k)
+
+-- the classes of a recorded class's lineage are recorded by their own loaders (5.3.5)
+abbrev pub LineageRecorded : Type 0
+LineageRecorded = (w : World) (s : State) (k : Kin) → IsClosed w s → IsLineage w k → IsRecorded s k.class → AllByRecursion (λ (a : Kin). IsRecorded s a.class) (lineage k)
 
 -- a settled verdict never changes (5.4.3)
 abbrev pub SettledStay : Type 0

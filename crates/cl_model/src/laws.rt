@@ -1,4 +1,4 @@
-ghost use Rattle.cl_model.specs.Laws.{HomeOfHome, HomeIsProbed, ProbedOnce, ProbesAreLoaders, GoodIsNotFailing, RunGoesOn, RecordsStay, MetStays, NeverViolated, OneAnswer, HigherDerives, AnswersStay, DerivedIsGood, RecordedIsMet, RunsAreClosed, GoodIsDerived, ErrorIsFailing, OneError, GoodGrows, FailsGrows, FailingIsDerived, ReturnIsCircular, ReturnGoesOn, CircleReturns, ReturnIsDerived, OneSubject, FailureIsNoCircle, OneDerivation, GoodIsAtHome, ComesOut, CircularReturns, CircularGoesOn, PlanExists, OnePlan, LineageExists, OneLineage, ResolutionExists, OneResolution, DerivedIsLineage, LineageIsDerived, SettledStay, PreparedStay, PostedStay, RequestAnswerStays, ReferenceAnswerStays, OneRequestAnswer, OneReferenceAnswer, RunsAreSound, StepIsSound, ClashViolates, ViolationClashes, RecordedLoadStands, RecordedAnswers, UnmetIsFresh, ServiceGoesOn, ServiceIsWhole, LoadNeedIsNext, ResolveNeedIsNext, LoadComes, ResolutionComes, ServicesGoOn, WaitingIsNext, RootIsNext, MissingStops, FaultyStops, CircleStops, AnswersAtOnce, CircleIsAnswered, CircularIsAnswered, PartBegins, RunThen, RunParts, StateThen, SaidAlike, SaidReference, FileIsSpelt, StepsThen, StepsSame, NextMayBeMade, StepAdds, TrustedIsConsistent, AllowedIsConsistent, TrustedGoesOn, TrustedParts, MayIsAllowed, RunsAreTrusted, DefinedOnce, AnsweredOnce, SameKey, ClassTexts, VerdictTexts, AnswerTexts, EventTexts};
+ghost use Rattle.cl_model.specs.Laws.{HomeOfHome, HomeIsProbed, ProbedOnce, ProbesAreLoaders, GoodIsNotFailing, RunGoesOn, RecordsStay, MetStays, NeverViolated, OneAnswer, HigherDerives, AnswersStay, DerivedIsGood, RecordedIsMet, RunsAreClosed, GoodIsDerived, ErrorIsFailing, OneError, GoodGrows, FailsGrows, FailingIsDerived, ReturnIsCircular, ReturnGoesOn, CircleReturns, ReturnIsDerived, OneSubject, FailureIsNoCircle, OneDerivation, GoodIsAtHome, ComesOut, CircularReturns, CircularGoesOn, PlanExists, OnePlan, LineageExists, OneLineage, ResolutionExists, OneResolution, DerivedIsLineage, LineageIsDerived, LineageOnce, LineageHas, LineageSupersFirst, LineageRecorded, SettledStay, PreparedStay, PostedStay, RequestAnswerStays, ReferenceAnswerStays, OneRequestAnswer, OneReferenceAnswer, RunsAreSound, StepIsSound, ClashViolates, ViolationClashes, RecordedLoadStands, RecordedAnswers, UnmetIsFresh, ServiceGoesOn, ServiceIsWhole, LoadNeedIsNext, ResolveNeedIsNext, LoadComes, ResolutionComes, ServicesGoOn, WaitingIsNext, RootIsNext, MissingStops, FaultyStops, CircleStops, AnswersAtOnce, CircleIsAnswered, CircularIsAnswered, PartBegins, RunThen, RunParts, StateThen, SaidAlike, SaidReference, FileIsSpelt, StepsThen, StepsSame, NextMayBeMade, StepAdds, TrustedIsConsistent, AllowedIsConsistent, TrustedGoesOn, TrustedParts, MayIsAllowed, RunsAreTrusted, DefinedOnce, AnsweredOnce, SameKey, ClassTexts, VerdictTexts, AnswerTexts, EventTexts};
 
 /// A home is its own home.
 pub fn home_of_home()
@@ -191,6 +191,14 @@ pub fn derived_is_lineage()
 /// A lineage is what its class is derived to.
 pub fn lineage_is_derived()
     ensures { LineageIsDerived }
+{}
+
+/// A lineage has each class once, its own too, each after its direct supertypes; those of a recorded class are recorded.
+pub fn lineage_is_ordered()
+    ensures once { LineageOnce }
+    ensures own { LineageHas }
+    ensures supers_first { LineageSupersFirst }
+    ensures recorded { LineageRecorded }
 {}
 
 /// A settled verdict never changes.

@@ -11,6 +11,8 @@ ITEM = re.compile(
 )
 CLAUSE = re.compile(r"\b(requires|ensures|ghost|decreases)\b")
 OPENING = {"{": "}", "(": ")", "[": "]"}
+# Traits whose impl is told as a whole, since one method of it says all.
+STANDARD = "From TryFrom Into Display Debug PartialEq Eq PartialOrd Ord Hash Iterator Default Clone Drop Deref Borrow AsRef Index Error".split()
 
 
 @dataclass(frozen=True)
@@ -134,11 +136,11 @@ def of_head(head):
 
 
 def label(function):
-    """What a page calls the function: `Type::name`, `Trait for Type`, or its name."""
+    """What a page calls the function: `Type::name`, `Trait for Type` for a trait of std, or its name."""
     if not function.head:
         return function.name
     trait, of_type = of_head(function.head)
-    if function.head.startswith("trait") or not trait:
+    if function.head.startswith("trait") or last_word(trait) not in STANDARD:
         return f"{of_type}::{function.name}"
     return f"{re.sub(r'^[^<]*::', '', trait)} for {of_type}"
 
@@ -217,8 +219,8 @@ def public_functions(folder):
     public, passed = reach(texts)
     types = {}
     for path, text in texts.items():
-        for it in re.findall(r"\bpub\s+(?:struct|enum|trait)\s+(\w+)", blank(text)):
-            types[it] = is_program or path in public or it in passed
+        for is_pub, it in re.findall(r"(\bpub\s+)?\b(?:struct|enum|trait)\s+(\w+)", blank(text)):
+            types[it] = bool(is_pub) and (is_program or path in public or it in passed)
     found = []
     for path, text in texts.items():
         for it in functions(path, text):
@@ -228,7 +230,7 @@ def public_functions(folder):
             if it.head.startswith("trait"):
                 is_reached = False
             elif trait:
-                is_reached = types.get(of_type, is_program)
+                is_reached = types.get(of_type, is_program) and types.get(last_word(trait), True)
             elif it.head:
                 is_reached = it.is_public and types.get(of_type, False)
             else:

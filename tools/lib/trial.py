@@ -40,19 +40,28 @@ def closures_too(said, name):
     return [it for it in said if it == name or it.startswith((f"{name}::{{", f"{name}::closure"))]
 
 
+def proof_of(name):
+    """Where the prover keeps a function's proof, as it names that."""
+    crate, *path = name.split("::")
+    return ".".join(["Rattle", crate, "proofs", *path, ""])
+
+
 def own_reason(name, checked, span=None, by_lemma=False):
     """Why the prover refuses the function by itself: '' where it is proved, where it only calls what is not, and where that is not told.
 
     It is told by what the function's line says of its own proof, or by a goal in its code that is not proved. Where a definition was
-    changed (by_lemma), a lemma that is refused counts too."""
+    changed (by_lemma), a lemma that is refused counts too, but no other function's proof."""
     what = checked.said[name]
     if not re.match(r"no proof|not proved", what):
         return ""
-    crate, *path = name.split("::")
-    own = re.escape(f"Rattle.{crate}.") if by_lemma else re.escape(".".join(["Rattle", crate, "proofs", *path, ""]))
+    own = proof_of(name)
+    others = [proof_of(it) for it in checked.said if it != name] if by_lemma else []
     for part in re.split(r"; (?=it |expected |`search`)|: ", what):
-        if part.startswith("`search` did not prove ") or re.match(rf"it stands on `{own}", part):
+        if part.startswith("`search` did not prove "):
             return part
+        for it in re.findall(r"`(Rattle\.[^`]*)`", part) if part.startswith("it stands on ") else ():
+            if it.startswith(own) or by_lemma and not it.startswith(tuple(others)):
+                return part
     for path, line, why in checked.goals:
         if span and path == span[0] and span[1] <= line <= span[2]:
             return f"{path}:{line}: {why}"

@@ -1,7 +1,7 @@
 use Rattle.std.proofs.Common.{ap}
 use Rattle.cl_model.specs.declared.class.Class.{Class}
 use Rattle.cl_tasks.proofs.Turns.{backs_fault}
-use Rattle.cl_tasks.proofs.step.faulted.Goals as goal
+use Rattle.cl_tasks.proofs.step.blame_source.Goals as goal
 
 pub returns-clause-backed : goal.returns-clause-backed
 returns-clause-backed g c = λ x below holds.

@@ -1,6 +1,6 @@
 use Rattle.std.proofs.Common.{sym}
 use Rattle.cl_tasks.proofs.Turns.{follows_root}
-use Rattle.cl_tasks.proofs.step.drafted.Goals as goal
+use Rattle.cl_tasks.proofs.step.follow_draft.Goals as goal
 
 pub returns-in-None-clause-next : goal.returns-in-None-clause-next
 returns-in-None-clause-next g c = λ setting s served holds.

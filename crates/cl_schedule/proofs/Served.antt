@@ -19,12 +19,12 @@ use Rattle.cl_model.specs.Views.{answer_of, answers_of, answer_at, request_of, p
 use Rattle.cl_model.proofs.Runs.{record_found}
 use Rattle.cl_model.proofs.Closed.{runs_are_closed}
 use Rattle.cl_model.proofs.Service.{WantsNeeds, load_wants, begun_define, begun_ends, load_comes, all_served_push, run_last, state_append}
-use Rattle.cl_registry.specs.Searches.{Drafted}
-use Rattle.cl_registry.specs.Views.{Configured}
+use Rattle.cl_hierarchy.specs.Drafts.{Drafted}
+use Rattle.cl_config.specs.Views.{Configured}
 use Rattle.cl_registry.specs.Findings.{Answered, loader_of}
 use Rattle.cl_registry.specs.Tables.{Shown, DefinedAs, IsKept, IsOpen, RunsAs, steps, state_of, records_of, with_define, with_post}
 use Rattle.cl_registry.proofs.Histories.{eq_nat, state_defines, steps_defines, steps_posts, unposted}
-use Rattle.cl_registry.specs.Walks.{Walked}
+use Rattle.cl_hierarchy.specs.Walks.{Walked}
 use Rattle.cl_tasks.specs.declared.stage.Reply.{Reply}
 use Rattle.cl_tasks.specs.declared.stage.Turn.{Turn}
 use Rattle.cl_tasks.specs.declared.stage.Turn.TheVariants as turn

@@ -7,9 +7,9 @@ use Rattle.cl_model.specs.Views.{request_of}
 use Rattle.cl_model.specs.Machine.{Setting, Step}
 use Rattle.cl_model.specs.Service.{Serves, AllServed}
 use Rattle.cl_registry.specs.declared.report.Report.{Report}
-use Rattle.cl_registry.specs.Views.{Configured}
-use Rattle.cl_registry.specs.Searches.{Drafted}
-use Rattle.cl_registry.specs.Worlds.{setting_of}
+use Rattle.cl_config.specs.Views.{Configured}
+use Rattle.cl_hierarchy.specs.Drafts.{Drafted}
+use Rattle.cl_delegation.specs.Worlds.{setting_of}
 use Rattle.cl_registry.specs.Tables.{Shown, steps, state_of, with_define}
 
 -- the numbers below a number, in order (own choice)

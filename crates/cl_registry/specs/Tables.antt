@@ -15,10 +15,11 @@ use Rattle.cl_model.specs.Classes.{class}
 use Rattle.cl_model.specs.Texts.{AnswerNames, EventNames}
 use Rattle.cl_model.specs.States.{State, Record, recorded, start}
 use Rattle.cl_model.specs.Machine.{Step, state_after, Run}
+use Rattle.cl_model.specs.Tables as tables
 use Rattle.cl_model.specs.Views.{answers_of, answer_at, steps_of}
 use Rattle.cl_hierarchy.specs.declared.row.ClassRow.{ClassRow}
 use Rattle.cl_config.specs.Views.{Configured, Scripted}
-use Rattle.cl_delegation.specs.Worlds.{setting_of}
+use Rattle.cl_delegation.specs.Worlds.{scheduled_of, setting_of}
 use Rattle.cl_hierarchy.specs.Drafts.{Drafted, IsDraft}
 use Rattle.cl_registry.specs.Findings.{Answered, loader_of, name_of}
 
@@ -57,21 +58,10 @@ abbrev pub is_in : ℕ → List ℕ → Bool
 is_in n [] = false
 is_in n (x ∷ xs) = nat_eq n x || is_in n xs
 
--- no number stands twice (own choice)
-abbrev pub EachOnce : List ℕ → Type 0
-EachOnce [] = Unit {0}
-EachOnce (x ∷ xs) = (is_in x xs ≡ false) × EachOnce xs
-
--- no loader records a name twice (5.3.5)
-abbrev pub NoneTwice : List Record → List Record → Type 0
-NoneTwice before [] = Unit {0}
-NoneTwice before (r ∷ rs) = (recorded before r.loader r.name ≡ None) × NoneTwice (before ++ r ∷ []) rs
-
--- what holds under any source: no name is defined twice by a loader, no request is answered twice, and those that have an
--- answer are those whose post the history has (5.3.5)
+-- what holds under any source: the tables can be trusted, those requests have an answer whose post the history has, and
+-- each has a place for one (5.3, 5.3.5)
 pub record IsTrusted (x : Shown) : Type 0 where
-  pub once : NoneTwice [] (records_of x)
-  pub posted_once : EachOnce (posts x.history)
+  pub tables : tables.IsTrusted (scheduled_of x.script) 1 (steps x)
   pub posted : (q : ℕ) → is_in q (posts x.history) ≡ is_some (answer_at (answers_of x.answers) q)
   pub whole : length x.answers ≡ length x.script.requests
 

@@ -33,6 +33,9 @@ rtlib = rt.rtlib
 # The line of a check that tells of one function, and the one that tells of a goal in the code.
 TOLD = re.compile(r"^fn (\S+): (.*)$", re.M)
 GOAL = re.compile(r"^note: (src/[^:]*):(\d+):\d+: (it is not proved .*)$", re.M)
+# What a check refuses in a proof file, and how it says that a name of that file stands for nothing.
+REFUSED = re.compile(r"^(?:\./)?proofs/([^:]*):\d+:\d+: error: (.*)$", re.M)
+NO_NAME = re.compile(r"has no field|is not in scope|has no `|was not admitted")
 # What a check may take: more lanes than memory has room for are not opened.
 MOST_BYTES = 4_500_000_000
 # A clock that runs this many times longer than the processor may work stops a check that waits for ever.
@@ -101,8 +104,16 @@ class Checked:
     def is_proved(self):
         return not self.status and re.search(r"^logic=proved ", self.text, re.M) is not None
 
+    def only_names(self, name):
+        """Whether all that is refused of the function's proof files is that they name what the edit took away."""
+        folder = "/".join([*name.split("::")[1:], ""])
+        found = [why for path, why in REFUSED.findall(self.text) if path.startswith(folder)]
+        return bool(found) and all(NO_NAME.search(it) for it in found)
+
     def unread(self, wanted):
         """Why the copy was not read, or says nothing of the wanted functions; '' where it was and does."""
+        if self.status < 0:
+            return f"the check was ended by signal {-self.status}, most likely for memory"
         lines = self.text.split("\n")
         # (an edit of src/ or specs/ that the prover cannot read is no wrong body)
         found = next((it for it in lines if rt.unread(it, self.changed)), "")
@@ -150,5 +161,4 @@ def run_limited(words, folder, said, limit):
     finally:
         clock.cancel()
     ran.returncode = os.waitstatus_to_exitcode(status)
-    is_out = ran.returncode < 0 and usage.ru_utime + usage.ru_stime >= limit - 1
-    return ran.returncode, usage, is_out or rung.is_set()
+    return ran.returncode, usage, ran.returncode == -signal.SIGXCPU or rung.is_set()

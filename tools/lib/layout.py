@@ -19,11 +19,13 @@ CITATION = re.compile(r"\b(?:[Pp]aper|[Ii]ssue|[Rr]equest|[Dd]efinition|[Rr]ule)
 
 
 def tracked(root):
-    """The files of the repository, out/ left out by .gitignore unless it was committed."""
-    ran = subprocess.run(["git", "ls-files"], cwd=root, capture_output=True, text=True, check=False)
-    if ran.returncode:
-        return [os.path.relpath(f"{at}/{it}", root) for at, _, names in os.walk(root) for it in names if "/out" not in at and "/.git" not in at]
-    return [it for it in ran.stdout.splitlines() if os.path.isfile(f"{root}/{it}")]
+    """The files of the repository; where git does not tell, all but what a check made."""
+    try:
+        ran = subprocess.run(["git", "ls-files"], cwd=root, capture_output=True, text=True, check=True)
+        return [it for it in ran.stdout.splitlines() if os.path.isfile(f"{root}/{it}")]
+    except (OSError, subprocess.CalledProcessError):
+        found = (os.path.relpath(f"{at}/{it}", root) for at, _, names in os.walk(root) for it in names)
+        return sorted(it for it in found if not {"out", ".git"} & {*it.split("/")})
 
 
 def lines_of(path):

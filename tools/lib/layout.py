@@ -1,6 +1,6 @@
 """The rules of the repository that are seen in seconds, before anything is proved.
 
-A rule that is broken is a failure. Some only list what should be mended: long files, long clauses, public functions with no edit.
+A rule that is broken is a failure. What only should be mended is listed: long clauses, public functions with no edit.
 """
 import os
 import re
@@ -72,12 +72,13 @@ def page_is_made(root, _files, crates):
     return [] if said == page.whole(crates) else ["docs/EDITS.md: it differs from what tools/wrong-bodies --list prints"]
 
 
-RULES = (handles, nothing_made, stands_alone, edits_apply, page_is_made)
-
-
-def long_files(root, files):
+def files_are_short(root, files, _crates):
+    """No file of code is so long that nobody reads it to its end."""
     counted = ((it, len(lines_of(f"{root}/{it}")) - 1) for it in files if it.endswith(".rt"))
     return [f"{it}: {number} lines, over {MOST_LINES}" for it, number in counted if number > MOST_LINES]
+
+
+RULES = (handles, nothing_made, stands_alone, files_are_short, edits_apply, page_is_made)
 
 
 def long_clauses(root, files):
@@ -104,7 +105,6 @@ def judged(root, crates):
     files = tracked(root)
     broken = [rule(root, files, crates) for rule in RULES]
     mend = {
-        "files too long": long_files(root, files),
         "clauses too long": long_clauses(root, files),
         "public functions without a wrong body": without_edit(crates),
     }

@@ -80,8 +80,9 @@ def build_libraries(crate, is_after_ci):
 
 
 def lanes():
-    """How many checks may run side by side: one a core, and as many as free memory holds."""
-    return max(1, min(rt.processors(), int(rt.free() // MOST_BYTES)))
+    """How many checks may run side by side: as many as RT_JOBS says, as for rt ci, else one a core, and as many as free memory holds."""
+    number = os.environ.get("RT_JOBS", "")
+    return int(number) if number.isdigit() and int(number) else max(1, min(rt.processors(), int(rt.free() // MOST_BYTES)))
 
 
 @dataclass

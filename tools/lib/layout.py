@@ -8,7 +8,6 @@ import subprocess
 
 import page
 from edits import FOLDERS, of_crate
-from source import label, public_functions
 
 HANDLES = "Handles allowed: Threads, Wait."
 MOST_LINES = 500
@@ -91,21 +90,12 @@ def long_clauses(root, files):
     return found
 
 
-def without_edit(crates):
-    found = []
-    for crate in crates:
-        public = [*dict.fromkeys(label(it) for it in public_functions(crate.folder))]
-        turned = {page.turned(edit, public)[0] for edit in of_crate(crate, FOLDERS)[0]} | {*page.without_edit(crate)}
-        found += [f"{crate.name}: {it} has no wrong body" for it in public if it not in turned]
-    return found
-
-
 def judged(root, crates):
     """How many rules hold, what breaks one, and what should be mended, by kind."""
     files = tracked(root)
     broken = [rule(root, files, crates) for rule in RULES]
     mend = {
         "clauses too long": long_clauses(root, files),
-        "public functions without a wrong body": without_edit(crates),
+        "public functions without a wrong body": [f"{crate.name}: {it} has no wrong body" for crate in crates for it in page.lacking(crate)],
     }
     return sum(not it for it in broken), [why for it in broken for why in it], mend

@@ -60,7 +60,8 @@ def edits_apply(_root, _files, crates):
     found = []
     for crate in crates:
         edits, stray = of_crate(crate, FOLDERS)
-        found += [f"{edit}: {edit.bad}" for edit in edits if edit.bad] + [f"{it}: only edits, FILE.edit, and none.txt stand here" for it in stray]
+        found += [f"{edit}: {edit.bad}" for edit in edits if edit.bad]
+        found += [f"{it}: only edits, FILE.edit, and none.txt stand here" for it in stray]
     return found
 
 
@@ -96,6 +97,6 @@ def judged(root, crates):
     broken = [rule(root, files, crates) for rule in RULES]
     mend = {
         "clauses too long": long_clauses(root, files),
-        "public functions without a wrong body": [f"{crate.name}: {it} has no wrong body" for crate in crates for it in page.lacking(crate)],
+        "public functions without a wrong body": [f"{it.name}: {name} has no wrong body" for it in crates for name in page.lacking(it)],
     }
     return sum(not it for it in broken), [why for it in broken for why in it], mend

@@ -54,7 +54,8 @@ def of_one(crate):
         name = edit.name if edit.folder == "wrong" else f"{edit.folder}/{edit.name}"
         function, place = turned(edit, public)
         if function:
-            rows.setdefault(function, []).append((f"`{function}`{f', in `{place}`' if place else ''}", f"`{name}`", edit.says or edit.name.replace("_", " ")))
+            where = f"`{function}`, in `{place}`" if place else f"`{function}`"
+            rows.setdefault(function, []).append((where, f"`{name}`", edit.says or edit.name.replace("_", " ")))
         else:
             further.setdefault(place, []).append(f"{name}{f' ({edit.says})' if edit.says else ''}")
     for function, why in reasons.items():

@@ -116,7 +116,8 @@ class Trial:
             waiting += [group[:half], group[half:]]
             return []
         if why:
-            self.fail(group[0], f"TOO LONG: no answer after {checked.seconds:.0f} seconds of processor" if checked.is_late else f"BAD EDIT: {why}")
+            late = f"TOO LONG: no answer after {checked.seconds:.0f} seconds of processor"
+            self.fail(group[0], late if checked.is_late else f"BAD EDIT: {why}")
             return []
         return [it for it in group if not self.tell(it, checked, len(group) == 1)]
 
@@ -198,7 +199,7 @@ def try_all(crates, log=None, only=(), lanes=None, verbose=False, folders=("wron
                 flush=True,
             )
             for name in sorted(told.weak):
-                print(f"to mend: {told.crate}/{name}: its proof file names what the edit takes away, so that its refusal says little", flush=True)
+                print(f"to mend: {told.crate}/{name}: its proof file names what the edit takes away, so its refusal says little")
             for why in told.failed:
                 print(f"FAILED: {why}", flush=True)
         return told

@@ -72,10 +72,14 @@ def reason_of(text, what):
     if "/" in crate:
         told = re.findall(rf"^rt: (?:must-fail )?{re.escape(crate)}(?:\.edit)?: (.*)$", text, re.M)
         return told[-1] if told else "see the log"
+    if kind == "(run)":
+        told = re.findall(rf"^rt: {re.escape(crate)}(?: \([^)]*\))?: (?!its tests)(.*)$", text, re.M)
+        return "; ".join(told[-MOST_REASONS:]) or "see the log"
     if kind:
-        name = crate if kind == "(run)" else f"{crate}: its tests"
-        told = re.findall(rf"^rt: {re.escape(name)}.*$", text, re.M) + re.findall(r"^test .*(?:FAILED|failed).*$", text, re.M)
-        return "; ".join(it.removeprefix("rt: ") for it in told[-MOST_REASONS:])
+        # (the tests write right before the line that tells how they ended)
+        wrote = text.partition(f"rt: {crate}: its tests FAILED")[0].rpartition("\nrt: ")[2]
+        told = re.findall(r"^test .*(?:FAILED|failed).*$|^.*panicked.*$", wrote, re.M)
+        return "its tests failed: " + ("; ".join(told[:MOST_REASONS]) or "see the log")
     parts = SECTION.split(text)
     found = []
     for head, body in zip(parts[1::2], parts[2::2]):

@@ -20,7 +20,8 @@ sys.dont_write_bytecode = True
 
 
 def load_rt():
-    file = os.path.realpath(shutil.which("rt") or "/opt/rattle/bin/rt")
+    places = [os.path.realpath(shutil.which("rt") or ""), "/opt/rattle/bin/rt"]
+    file = next(it for it in places if os.path.isfile(f"{os.path.dirname(it)}/rtlib.py"))
     loader = importlib.machinery.SourceFileLoader("rt_of_kit", file)
     made = importlib.util.module_from_spec(importlib.util.spec_from_loader("rt_of_kit", loader))
     loader.exec_module(made)

@@ -19,7 +19,7 @@ from edits import grouped, of_crate, together
 
 # What a group's check may take, in seconds of processor: so much to load and to prove what its functions call, and so much for each edit.
 LOADING_SECONDS = 240
-EDIT_SECONDS = 15
+EDIT_SECONDS = 10
 
 
 @dataclass
@@ -30,6 +30,7 @@ class Told:
     names: list = field(default_factory=list)  # of the edits
     refused: dict = field(default_factory=dict)  # the edit to the reason by which the prover refused it
     failed: list = field(default_factory=list)  # texts, with crate, file and reason
+    weak: list = field(default_factory=list)  # edits of which the refusal says little
     checks: int = 0
     seconds: float = 0.0
     peak: int = 0
@@ -115,7 +116,8 @@ class Trial:
             waiting += [group[:half], group[half:]]
             return []
         if why:
-            self.fail(group[0], f"TOO LONG: no answer after {checked.seconds:.0f} seconds of processor" if checked.is_late else f"BAD EDIT: {why}")
+            late = f"TOO LONG: no answer after {checked.seconds:.0f} seconds of processor"
+            self.fail(group[0], late if checked.is_late else f"BAD EDIT: {why}")
             return []
         return [it for it in group if not self.tell(it, checked, len(group) == 1)]
 
@@ -131,6 +133,7 @@ class Trial:
                 why = own_reason(it, checked, edit.spans.get(name), by_lemma=edit.is_alone())
                 if why:
                     self.told.refused[edit.name] = f"{it}: {why}"
+                    self.told.weak += [edit.name] if why.startswith("it stands on ") and checked.only_names(it) else []
                     return True
         said = {name: checked.said[name] for name in sorted(edit.functions)}
         names = ", ".join(said)
@@ -195,6 +198,8 @@ def try_all(crates, log=None, only=(), lanes=None, verbose=False, folders=("wron
                 f"{told.seconds:.0f} seconds of processor, {told.peak / 1e9:.1f} GB at the most",
                 flush=True,
             )
+            for name in sorted(told.weak):
+                print(f"to mend: {told.crate}/{name}: its proof file names what the edit takes away, so its refusal says little")
             for why in told.failed:
                 print(f"FAILED: {why}", flush=True)
         return told

@@ -3,8 +3,8 @@ use Rattle.std.specs.Prelude.{◌≡◌, ⊤, ℕ, List, ◌++◌, codes, string
 use Rattle.std.specs.Fmt.{decimal}
 use Rattle.cl_writer.specs.Faults.{assemble_text}
 use Rattle.cl_writer.specs.declared.fault.AssembleFault.TheVariants as assembler
-use Rattle.cl_registry.specs.Texts.{script_text}
-use Rattle.cl_registry.specs.declared.script.ScriptFault.TheVariants as scripts
+use Rattle.cl_config.specs.Texts.{script_text}
+use Rattle.cl_config.specs.declared.script.ScriptFault.TheVariants as scripts
 use Rattle.cl_bundle.specs.declared.fault.BundleFault.{BundleFault}
 use Rattle.cl_bundle.specs.declared.fault.BundleFault.TheVariants.{BadLine, Class, Script, Memory}
 

@@ -2,7 +2,7 @@
 
 ghost use Rattle.std.specs.Prelude.{◌≡◌};
 
-use cl_registry::ScriptFault;
+use cl_config::ScriptFault;
 use cl_writer::AssembleFault;
 use std::alloc::{AllocError, AllocFailed};
 use std::error::Error;

@@ -5,15 +5,17 @@ use Rattle.std.specs.Io.KnownBytes.{Appends}
 use Rattle.cl_model.specs.Content.{Content}
 use Rattle.cl_config.specs.Views.{Configured, Scripted}
 use Rattle.cl_registry.specs.declared.report.Report.{Report}
-use Rattle.classlink.specs.Bundles.{IsBundle, IsNoBundle}
-use Rattle.classlink.specs.Faults.{UnlessMemory, fault_text}
-use Rattle.classlink.specs.Report.{AppendsPart, report_lines}
+use Rattle.cl_bundle.specs.Bundles.{IsBundle, IsNoBundle}
+use Rattle.cl_bundle.specs.Faults.{UnlessMemory}
+use Rattle.classlink.specs.Faults.{fault_text}
+use Rattle.cl_streams.specs.Writing.{AppendsPart}
+use Rattle.cl_report.specs.Report.{report_lines}
 use Rattle.cl_schedule.specs.Headline.{IsServedInOrder}
 use Rattle.cl_schedule.specs.Serving.{reported}
 use Rattle.cl_schedule.specs.Counting.{faults}
 use Rattle.cl_schedule.specs.declared.serve.ServeFault.TheVariants as serve
 use Rattle.classlink.specs.declared.fault.Fault.{Fault}
-use Rattle.classlink.specs.declared.fault.Fault.TheVariants.{Input, Write, TooLarge, NotUtf8, Bundle, Class, Script, Serve, Memory}
+use Rattle.classlink.specs.declared.fault.Fault.TheVariants.{Input, Write, TooLarge, NotUtf8, Bundle, Serve, Memory}
 
 -- the report of a script that was served in order under a configuration, with no fault of the source (JVMS SE 8, 5.3)
 pub record IsServed (told : Option Content) (config : Configured) (script : Scripted) (r : Report) : Type 0 where
@@ -47,9 +49,7 @@ abbrev pub EndsBy : Option (List ℕ) → Bool → Option (List ℕ) → Option 
 EndsBy input only_answers old new Input = WritesNothing old new ⊤
 EndsBy input only_answers old new TooLarge = WritesNothing old new (IfSome input (λ bytes. 67108864 < length bytes))
 EndsBy input only_answers old new NotUtf8 = WritesNothing old new (IfSome input (λ bytes. (length bytes ≤ 67108864) × ¬ (IsUtf8 bytes)))
-EndsBy input only_answers old new (Bundle n) = WritesNothing old new (IfSome input (λ bytes. IsNoBundle bytes (Bundle n)))
-EndsBy input only_answers old new (Class class wrong) = WritesNothing old new (IfSome input (λ bytes. UnlessMemory (Class class wrong) (IsNoBundle bytes (Class class wrong))))
-EndsBy input only_answers old new (Script wrong) = WritesNothing old new (IfSome input (λ bytes. UnlessMemory (Script wrong) (IsNoBundle bytes (Script wrong))))
+EndsBy input only_answers old new (Bundle wrong) = WritesNothing old new (IfSome input (λ bytes. UnlessMemory wrong (IsNoBundle bytes wrong)))
 EndsBy input only_answers old new (Serve wrong) = WritesNothing old new (wrong ≡ serve.Memory)
 EndsBy input only_answers old new Write = BreaksOff input only_answers old new
 EndsBy input only_answers old new Memory = WritesNothing old new ⊤ ⊎ BreaksOff input only_answers old new

@@ -6,10 +6,11 @@ use cl_streams::InputFault;
 use std::alloc::Global;
 use std::io::{self, ErrorKind, Read, Write};
 use std::process::Abort;
+use std::random::RandomSource;
 use std::test::Fail;
 
 /// Runs the program, and compares its status and both outputs.
-fn check_run<R: AllocGlobal + Abort, F: AllocGlobal + ReadFile, I: Read + Drop>(
+fn check_run<R: AllocGlobal + Abort, F: AllocGlobal + ReadFile + RandomSource, I: Read + Drop>(
     rt: &R,
     files: &F,
     words: &[&str],
@@ -26,7 +27,7 @@ fn check_run<R: AllocGlobal + Abort, F: AllocGlobal + ReadFile, I: Read + Drop>(
     assert_eq!(rt; told.as_slice(), err.as_bytes(), "{name}");
 }
 
-fn check_bundle<R: AllocGlobal + ReadFile + Abort>(
+fn check_bundle<R: AllocGlobal + ReadFile + RandomSource + Abort>(
     rt: &R,
     text: &str,
     want: (u8, &str, &str),
@@ -242,7 +243,10 @@ fn superclasses_are_loaded(rt: HostRuntime) -> Result<(), Fail> {
 }
 
 /// The status of a run over no input, and whether nothing is written on its output, and on its standard error.
-fn status_and_silent<R: AllocGlobal + ReadFile>(rt: &R, words: &[&str]) -> (u8, bool, bool) {
+fn status_and_silent<R: AllocGlobal + ReadFile + RandomSource>(
+    rt: &R,
+    words: &[&str],
+) -> (u8, bool, bool) {
     let mut out = Vec::new(rt.alloc());
     let mut err = Vec::new(rt.alloc());
     let input: &[u8] = b"";
@@ -278,9 +282,10 @@ fn words_are_refused_or_helped(rt: HostRuntime) -> Result<(), Fail> {
     Ok(())
 }
 
-/// One file, and nothing else, of which everything is known.
+/// One file, and nothing else, of which everything is known. What it draws is this byte, and without one it draws none.
 #[derive(Drop)]
 struct OneFile<'a> {
+    drawn: Option<u8>,
     alloc: Global,
     path: &'a str,
     bytes: &'a [u8],
@@ -291,6 +296,18 @@ impl Alloc for OneFile<'_> {
 
     fn alloc(&self) -> Global {
         self.alloc
+    }
+}
+
+impl RandomSource for OneFile<'_> {
+    fn fill_bytes(&self, buf: &mut [u8]) -> io::Result<()> {
+        match self.drawn {
+            Some(byte) => {
+                buf.fill(byte);
+                Ok(())
+            }
+            None => Err(io::Error::from(ErrorKind::Other)),
+        }
     }
 }
 
@@ -357,6 +374,7 @@ fn class_files_are_read(rt: HostRuntime) -> Result<(), Fail> {
     ];
     for (words, bytes, status, out, err) in rows {
         let files = OneFile {
+            drawn: Some(7),
             alloc: rt.alloc(),
             path: "p",
             bytes,
@@ -409,7 +427,7 @@ const OBJECT_BUNDLE: &str =
 const OBJECT_LINES: &str = "define java/lang/Object@boot\n1 class java/lang/Object@boot\n";
 
 /// Runs the bundle with an output that takes so many bytes, and sees that these are written, and the refusal told.
-fn check_room<R: AllocGlobal + ReadFile + Abort>(rt: &R, room: usize) {
+fn check_room<R: AllocGlobal + ReadFile + RandomSource + Abort>(rt: &R, room: usize) {
     let words = ["classlink", "bundle"];
     let mut out = FailingWriter {
         bytes: Vec::new(rt.alloc()),
@@ -470,4 +488,31 @@ fn inputs_are_refused(rt: HostRuntime) -> Result<(), Fail> {
         check_run(&rt, &rt, &words, input, (1, "", told), told);
     }
     Ok(())
+}
+
+/// Two seeds give the same lines, and where none is drawn nothing is run.
+#[test]
+fn seeds_change_no_line(rt: HostRuntime) {
+    let bundle = ["classlink", "bundle"];
+    let unread = "classlink: cannot read standard input\n";
+    for (drawn, want) in [
+        (Some(0), (0, OBJECT_LINES, "")),
+        (Some(255), (0, OBJECT_LINES, "")),
+        (None, (1, "", unread)),
+    ] {
+        let runtime = OneFile {
+            drawn,
+            alloc: rt.alloc(),
+            path: "p",
+            bytes: &[],
+        };
+        check_run(
+            &rt,
+            &runtime,
+            &bundle,
+            OBJECT_BUNDLE.as_bytes(),
+            want,
+            "seed",
+        );
+    }
 }

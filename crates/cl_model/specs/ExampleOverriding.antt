@@ -20,7 +20,7 @@ overriding = bundle (
 -- app has p/I with m, s static and r private, p/S with m protected, s static, r private and a constructor, and p/K with g;
 -- in plug q/A implements p/I and q/B is under p/S, each with all that they name; q/I is an interface under p/I, with m and
 -- with o of the root; q/C has g private, q/D under it implements p/K, q/F too and has g private; q/G is under p/S and
--- implements q/J, an interface under p/I with g (5.4.2, 5.4.5)
+-- implements q/J, an interface under p/I with g; q/K implements q/I and p/I and has m (5.4.2, 5.4.5)
 abbrev pub declared : World
 declared = bundle (
     (boot, with_methods ((acc_public, taking_t "o") ∷ []) root)
@@ -35,6 +35,7 @@ declared = bundle (
     ∷ (plug, with_methods ((acc_private, taking_t "g") ∷ []) (with_interfaces ("p/K" ∷ []) (under "q/F" "q/C")))
     ∷ (plug, with_interfaces ("q/J" ∷ []) (under "q/G" "p/S"))
     ∷ (plug, with_methods ((acc_public + acc_abstract, taking_t "g") ∷ []) (with_interfaces ("p/I" ∷ []) (interface "q/J")))
+    ∷ (plug, with_methods ((acc_public, giving_v "m") ∷ []) (with_interfaces ("q/I" ∷ "p/I" ∷ []) (plain "q/K")))
     ∷ [])
 
 -- boot has b/I with m, app p/S with m and p/J with m; in kid r/C is under p/S and implements b/I, and r/J is an

@@ -98,3 +98,7 @@ overridden_alone = bundle ((boot, root) ∷ (app, svc) ∷ (plug, with_methods (
 -- the steps before a class under p/H, which is not accessible to it (5.3.5, step 3)
 abbrev pub below_hidden : List Step
 below_hidden = Define (in_boot "java/lang/Object") ∷ Initiate object boot app ∷ Define (in_app "p/H") ∷ Initiate (codes "p/H") app plug ∷ []
+
+-- T is defined in app, and is to be the same in kid (5.3.4)
+abbrev pub joined_with_kid : List Step
+joined_with_kid = Define (in_boot "java/lang/Object") ∷ Initiate object boot app ∷ Define (in_app "p/T") ∷ Constrain (codes "p/T") app kid ∷ []

@@ -4,7 +4,7 @@ ghost use Rattle.std.specs.Prelude.{◌≡◌, ℕ, List, ◌∷◌, ◌++◌, [
 ghost use Rattle.cl_model.specs.Homes.{home};
 ghost use Rattle.cl_model.specs.Content.{content_at};
 ghost use Rattle.cl_model.specs.Classes.{class, file_of, ClassNotFound, NoClassDef, ClassFormat, UnsupportedVersion, ClassCircularity, IncompatibleClassChange, IllegalAccess, NoSuchField, NoSuchMethod};
-ghost use Rattle.cl_model.specs.States.{State, Verdict, Entry, Equal, IsClass, IsArrayOf, IsArrayOfBase, IsField, IsMethod, IsLinked, Wrong, BadEntry, ArrayMember, Linkage, Said, OutOfMemory, SourceFault, start};
+ghost use Rattle.cl_model.specs.States.{State, Joined, Verdict, Entry, Equal, IsClass, IsArrayOf, IsArrayOfBase, IsField, IsMethod, IsLinked, Wrong, BadEntry, ArrayMember, Linkage, Said, OutOfMemory, SourceFault, start, settled_to, answer_to, recorded, IsNext};
 ghost use Rattle.cl_model.specs.Machine.{Define, Initiate, Constrain, Settle, Prepare, Post, NextRound, Stray, May, MayDefine, MayInitiate, MayConstrain, MaySettle, MayPrepare, Run, AnswersPlan, MayPost, MayGoOn, after, state_after};
 ghost use Rattle.cl_model.specs.Lines.{line, verdict_text, answer_text, answer_line};
 ghost use Rattle.cl_model.specs.Plans.{plan, cost};
@@ -13,7 +13,7 @@ ghost use Rattle.cl_model.specs.ExampleLoads.{copies, bad, circle, missing, impo
 ghost use Rattle.cl_model.specs.ExampleLookups.{chosen, found, from_d, from_r};
 ghost use Rattle.cl_model.specs.ExampleReferences.{service, three_users, hidden, arrays, references};
 ghost use Rattle.cl_model.specs.ExampleOverriding.{overriding, declared, through_kid, whole_lineage, three_loaders, packages};
-ghost use Rattle.cl_model.specs.ExampleRuns.{over, both_defined, constrained, across, in_rounds, serving, loading, resolving, linking, of_svc, unsettled, unprepared, ended, resolved_in_kid, overridden_alone, below_hidden};
+ghost use Rattle.cl_model.specs.ExampleRuns.{over, both_defined, constrained, across, in_rounds, serving, loading, resolving, linking, of_svc, unsettled, unprepared, ended, resolved_in_kid, overridden_alone, below_hidden, joined_with_kid};
 
 /// A search goes to the parent first, or to the own content first; a `java/` name is searched in
 /// the first loader alone; what an import takes hides the own content.
@@ -103,6 +103,7 @@ pub fn hidden_class()
 /// with a body is found.
 pub fn maximally_specific()
     ensures field { chosen 1 ≡ Some (IsField (in_app "p/I") (an_int "x")) }
+    ensures second_interface { chosen 7 ≡ Some (IsField (in_app "p/I") (an_int "x")) }
     ensures two { chosen 2 ≡ Some (IsMethod (in_app "p/J3") (taking_none "m")) }
     ensures one { chosen 3 ≡ Some (IsMethod (in_app "p/J1") (taking_none "m")) }
     ensures of_interface { chosen 4 ≡ Some (IsMethod (in_app "p/J1") (taking_none "m")) }
@@ -206,11 +207,12 @@ pub fn declared_methods()
 {}
 
 /// A private method is not inherited, and one that the class declares itself, also a private one,
-/// stands for none that is inherited.
+/// stands for none that is inherited; a superinterface that is met twice counts once.
 pub fn inherited_methods()
     ensures private_above { more_at declared 5 (link_of plug "q/D") ≡ Some [] }
     ensures private_own { more_at declared 5 (link_of plug "q/F") ≡ Some [] }
     ensures of_superclass { more_at declared 5 (link_of plug "q/G") ≡ Some (equal "p/V" app app ∷ equal "p/T" app app ∷ []) }
+    ensures each_once { more_at declared 5 (link_of plug "q/K") ≡ Some (equal "p/V" app plug ∷ equal "p/T" app plug ∷ equal "p/V" plug plug ∷ equal "p/T" plug plug ∷ equal "p/V" app plug ∷ equal "p/T" app plug ∷ equal "p/T" boot plug ∷ []) }
     ensures linked { ends_at declared 5 (link_of plug "q/G") ≡ Some (IsLinked (in_plug "q/G")) }
 {}
 
@@ -346,6 +348,24 @@ pub fn resolve_and_link()
     ensures { Run serving start (loading ++ resolving ++ linking) }
 {}
 
+/// A verdict is settled for its class and index alone, and an answer posted for its request; a
+/// record is of its loader and name.
+pub fn what_stands()
+    ensures settled { settled_to ended.settled (in_plug "p/Use") 1 ≡ Some of_svc }
+    ensures other_index { settled_to ended.settled (in_plug "p/Use") 2 ≡ None }
+    ensures other_class { settled_to ended.settled (in_app "p/Svc") 1 ≡ None }
+    ensures answered { answer_to ended.answers 2 ≡ Some (Said BadEntry) }
+    ensures other_request { answer_to ended.answers 3 ≡ None }
+    ensures initiating { recorded ended.records plug (codes "p/Svc") ≡ Some app }
+    ensures other_loader { recorded ended.records boot (codes "p/Svc") ≡ None }
+{}
+
+/// A need is next where all before it are met.
+pub fn needs_in_order()
+    ensures next { IsNext start (equal "p/T" app plug ∷ []) (equal "p/T" app plug) }
+    ensures not_yet { IsNext start (Entry boot object boot ∷ equal "p/T" app plug ∷ []) (equal "p/T" app plug) → ⊥ }
+{}
+
 /// No step is taken before what it rests on: supertypes, records, constraints, and for an answer
 /// the settled reference or the prepared class.
 pub fn steps_too_early()
@@ -390,6 +410,16 @@ pub fn misfit_not_defined()
 /// An equality is imposed by the preparation of a class, also where no reference imposes it.
 pub fn constrained_by_preparation()
     ensures { MayConstrain (over overridden_alone) (state_after start loading) (codes "p/T") app plug }
+{}
+
+/// An equality joins its loaders for its name alone.
+pub fn equality_for_one_name()
+    ensures { Joined (state_after start constrained).equalities (codes "p/V") app plug → ⊥ }
+{}
+
+/// A loader may record the class that one joined with it records.
+pub fn same_class_joined()
+    ensures { MayInitiate (over service) (state_after start joined_with_kid) (codes "p/T") app kid }
 {}
 
 /// What is refused is not added; the reference is settled to the refusal, and where its class's own

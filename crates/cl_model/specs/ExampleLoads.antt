@@ -41,8 +41,8 @@ importing = world_of (four ++ over_app ChildFirst (importing_from (codes "q/") b
 abbrev pub imports : World
 imports = with_bytes app "q/V" [] (with_bytes app "q/B" (3 ∷ []) (
     world_of
-        (four ++ over_app ParentFirst (importing_from (codes "p/") boot ∷ importing_from (codes "p/T") app ∷ importing_from (codes "java/") app ∷ []) ∷ [])
-        ((boot, root) ∷ (app, plain "p/T") ∷ (app, plain "java/x/Y") ∷ (app, plain "q/C") ∷ [])))
+    (four ++ over_app ParentFirst (importing_from (codes "p/") boot ∷ importing_from (codes "p/T") app ∷ importing_from (codes "java/") app ∷ []) ∷ [])
+    ((boot, root) ∷ (app, plain "p/T") ∷ (app, plain "java/x/Y") ∷ (app, plain "q/C") ∷ [])))
 
 -- app has p/H of package access, p/L under the interface p/J, p/N which implements the class p/S, and the
 -- interface p/X of package access; plug has p/K under p/H and p/G under p/X (5.3.5, steps 3 and 4)

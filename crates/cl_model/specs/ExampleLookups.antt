@@ -18,13 +18,16 @@ several = bundle (
     ∷ (app, with_methods ((acc_public + acc_abstract, taking_none "m") ∷ []) (interface "p/J3"))
     ∷ (app, with_interfaces ("p/J3" ∷ "p/J1" ∷ "p/J2" ∷ []) (plain "p/D"))
     ∷ (app, with_interfaces ("p/J3" ∷ "p/J1" ∷ []) (plain "p/E"))
-    ∷ (app, referring (
-        ToField (a_class "p/C") (an_int "x")
-        ∷ ToMethod (a_class "p/D") (taking_none "m")
-        ∷ ToMethod (a_class "p/E") (taking_none "m")
-        ∷ ToInterfaceMethod (a_class "p/J1") (taking_none "m")
-        ∷ ToInterfaceMethod (a_class "p/D") (taking_none "m")
-        ∷ []) (plain "p/U"))
+    ∷ (
+      app,
+      referring (
+          ToField (a_class "p/C") (an_int "x")
+          ∷ ToMethod (a_class "p/D") (taking_none "m")
+          ∷ ToMethod (a_class "p/E") (taking_none "m")
+          ∷ ToInterfaceMethod (a_class "p/J1") (taking_none "m")
+          ∷ ToInterfaceMethod (a_class "p/D") (taking_none "m")
+          ∷ []) (plain "p/U"),
+    )
     ∷ [])
 
 -- what this reference of p/U is resolved to in that world (5.4.3)
@@ -46,22 +49,25 @@ inherited = bundle (
     ∷ (app, with_methods ((acc_public + acc_abstract, taking_none "n") ∷ []) (interface "p/N"))
     ∷ (app, with_interfaces ("p/M" ∷ []) (under "p/V" "p/W"))
     ∷ (app, with_interfaces ("p/N" ∷ []) (plain "p/W"))
-    ∷ (app, referring (
-        ToMethod (a_class "p/C") (taking_none "m")
-        ∷ ToMethod (a_class "p/C") (taking_none "a")
-        ∷ ToField (a_class "p/C") (an_int "y")
-        ∷ ToMethod (a_class "p/V") (taking_none "n")
-        ∷ ToMethod (a_class "p/C") (taking_none "r")
-        ∷ ToMethod (a_class "p/C") (taking_none "t")
-        ∷ ToInterfaceMethod (a_class "p/K") (taking_none "m")
-        ∷ ToInterfaceMethod (a_class "p/K") (taking_none "h")
-        ∷ ToInterfaceMethod (a_class "p/I") (taking_none "f")
-        ∷ ToInterfaceMethod (a_class "p/K") (taking_none "f")
-        ∷ ToMethod (a_class "p/K") (taking_none "m")
-        ∷ ToMethod (a_class "p/C") (taking_none "z")
-        ∷ ToField (a_class "p/C") (an_int "z")
-        ∷ ToMethod (a_class "p/Y") (taking_none "m")
-        ∷ []) (plain "p/U"))
+    ∷ (
+      app,
+      referring (
+          ToMethod (a_class "p/C") (taking_none "m")
+          ∷ ToMethod (a_class "p/C") (taking_none "a")
+          ∷ ToField (a_class "p/C") (an_int "y")
+          ∷ ToMethod (a_class "p/V") (taking_none "n")
+          ∷ ToMethod (a_class "p/C") (taking_none "r")
+          ∷ ToMethod (a_class "p/C") (taking_none "t")
+          ∷ ToInterfaceMethod (a_class "p/K") (taking_none "m")
+          ∷ ToInterfaceMethod (a_class "p/K") (taking_none "h")
+          ∷ ToInterfaceMethod (a_class "p/I") (taking_none "f")
+          ∷ ToInterfaceMethod (a_class "p/K") (taking_none "f")
+          ∷ ToMethod (a_class "p/K") (taking_none "m")
+          ∷ ToMethod (a_class "p/C") (taking_none "z")
+          ∷ ToField (a_class "p/C") (an_int "z")
+          ∷ ToMethod (a_class "p/Y") (taking_none "m")
+          ∷ []) (plain "p/U"),
+    )
     ∷ (app, with_interfaces ("p/I" ∷ "p/J" ∷ []) (plain "p/Y"))
     ∷ [])
 
@@ -76,25 +82,31 @@ accesses = bundle (
     (boot, root)
     ∷ (app, with_methods ((acc_protected, taking_none "m") ∷ (acc_protected + acc_static, taking_none "s") ∷ (0, taking_none "k") ∷ (acc_private, taking_none "v") ∷ []) (plain "p/P"))
     ∷ (app, under "p/Q" "p/P")
-    ∷ (app, with_methods ((acc_private, taking_none "w") ∷ []) (referring (
-        ToMethod (a_class "p/P") (taking_none "m")
-        ∷ ToMethod (a_class "q/D") (taking_none "m")
-        ∷ ToMethod (a_class "q/E") (taking_none "m")
-        ∷ ToMethod (a_class "p/Q") (taking_none "m")
-        ∷ ToMethod (a_class "p/Q") (taking_none "s")
-        ∷ ToMethod (a_class "p/P") (taking_none "k")
-        ∷ ToMethod (a_class "p/P") (taking_none "v")
-        ∷ ToMethod (a_class "q/D") (taking_none "w")
-        ∷ ToMethod (a_class "p/R") (taking_none "m")
-        ∷ ToMethod (a_class "p/R") (taking_none "s")
-        ∷ []) (under "q/D" "p/P")))
+    ∷ (
+      app,
+      with_methods ((acc_private, taking_none "w") ∷ []) (referring (
+          ToMethod (a_class "p/P") (taking_none "m")
+          ∷ ToMethod (a_class "q/D") (taking_none "m")
+          ∷ ToMethod (a_class "q/E") (taking_none "m")
+          ∷ ToMethod (a_class "p/Q") (taking_none "m")
+          ∷ ToMethod (a_class "p/Q") (taking_none "s")
+          ∷ ToMethod (a_class "p/P") (taking_none "k")
+          ∷ ToMethod (a_class "p/P") (taking_none "v")
+          ∷ ToMethod (a_class "q/D") (taking_none "w")
+          ∷ ToMethod (a_class "p/R") (taking_none "m")
+          ∷ ToMethod (a_class "p/R") (taking_none "s")
+          ∷ []) (under "q/D" "p/P")),
+    )
     ∷ (app, under "q/E" "q/D")
-    ∷ (app, with_methods ((acc_protected, taking_none "m") ∷ (acc_protected + acc_static, taking_none "s") ∷ []) (referring (
-        ToMethod (a_class "p/P") (taking_none "k")
-        ∷ ToMethod (a_class "p/P") (taking_none "v")
-        ∷ ToMethod (a_class "q/D") (taking_none "m")
-        ∷ ToMethod (a_class "p/Q") (taking_none "m")
-        ∷ []) (plain "p/R")))
+    ∷ (
+      app,
+      with_methods ((acc_protected, taking_none "m") ∷ (acc_protected + acc_static, taking_none "s") ∷ []) (referring (
+          ToMethod (a_class "p/P") (taking_none "k")
+          ∷ ToMethod (a_class "p/P") (taking_none "v")
+          ∷ ToMethod (a_class "q/D") (taking_none "m")
+          ∷ ToMethod (a_class "p/Q") (taking_none "m")
+          ∷ []) (plain "p/R")),
+    )
     ∷ [])
 
 -- what this reference of q/D is resolved to in that world (5.4.4)

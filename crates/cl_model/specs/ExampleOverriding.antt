@@ -62,4 +62,3 @@ whole_lineage = bundle (
     ∷ (plug, with_methods ((acc_public + acc_abstract, taking_v "b") ∷ []) (with_interfaces ("p/I" ∷ []) (interface "q/I")))
     ∷ (plug, with_interfaces ("q/I" ∷ []) (under "q/C" "q/S"))
     ∷ [])
-

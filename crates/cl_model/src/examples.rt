@@ -3,8 +3,8 @@
 ghost use Rattle.std.specs.Prelude.{◌≡◌, ℕ, List, ◌∷◌, ◌++◌, [], Option, Some, None, option_map, codes};
 ghost use Rattle.cl_model.specs.Homes.{home};
 ghost use Rattle.cl_model.specs.Classes.{class, ClassNotFound, NoClassDef, ClassFormat, UnsupportedVersion, ClassCircularity, IncompatibleClassChange, IllegalAccess, NoSuchField, NoSuchMethod};
-ghost use Rattle.cl_model.specs.States.{Verdict, Entry, Equal, IsClass, IsArrayOf, IsArrayOfBase, IsField, IsMethod, IsLinked, Wrong, BadEntry, ArrayMember, Linkage, Said, OutOfMemory, SourceFault, start};
-ghost use Rattle.cl_model.specs.Machine.{Define, Initiate, Constrain, Settle, Prepare, Post, NextRound, Stray, Run, AnswersPlan, MayPost, MayGoOn, after, state_after};
+ghost use Rattle.cl_model.specs.States.{State, Verdict, Entry, Equal, IsClass, IsArrayOf, IsArrayOfBase, IsField, IsMethod, IsLinked, Wrong, BadEntry, ArrayMember, Linkage, Said, OutOfMemory, SourceFault, start};
+ghost use Rattle.cl_model.specs.Machine.{Define, Initiate, Constrain, Settle, Prepare, Post, NextRound, Stray, May, MayDefine, MayInitiate, MayConstrain, MaySettle, MayPrepare, Run, AnswersPlan, MayPost, MayGoOn, after, state_after};
 ghost use Rattle.cl_model.specs.Lines.{line, verdict_text, answer_text, answer_line};
 ghost use Rattle.cl_model.specs.Plans.{plan, cost};
 ghost use Rattle.cl_model.specs.Examples.{boot, app, plug, kid, object, names, in_boot, in_app, in_plug, in_kid, taking_none, taking_t, an_int, an_array, load_of, resolve_of, link_of, entry, equal, ends_at, needs_at, more_at};
@@ -12,7 +12,7 @@ ghost use Rattle.cl_model.specs.ExampleLoads.{copies, bad, circle, missing, impo
 ghost use Rattle.cl_model.specs.ExampleLookups.{chosen, found, from_d, from_r};
 ghost use Rattle.cl_model.specs.ExampleReferences.{service, three_users, hidden, arrays, references};
 ghost use Rattle.cl_model.specs.ExampleOverriding.{overriding, declared, through_kid, whole_lineage};
-ghost use Rattle.cl_model.specs.ExampleRuns.{over, both_defined, constrained, across, in_rounds, serving, loading, resolving, linking};
+ghost use Rattle.cl_model.specs.ExampleRuns.{over, both_defined, constrained, across, in_rounds, serving, loading, resolving, linking, of_svc, unsettled, unprepared, ended, resolved_in_kid};
 
 /// A search goes to the parent first, or to the own content first; a `java/` name is searched in
 /// the first loader alone; what an import takes hides the own content.
@@ -314,4 +314,49 @@ pub fn round_discipline()
 /// above it, and then its link is answered.
 pub fn resolve_and_link()
     ensures { Run serving start (loading ++ resolving ++ linking) }
+{}
+
+/// No step is taken before what it rests on: supertypes, records, constraints, and for an answer
+/// the settled reference or the prepared class.
+pub fn steps_too_early()
+    ensures define { MayDefine serving start (in_app "p/Svc") → ⊥ }
+    ensures initiate { MayInitiate serving start object boot app → ⊥ }
+    ensures constrain { MayConstrain serving start (codes "p/T") app plug → ⊥ }
+    ensures settle { MaySettle serving (state_after start loading) (in_plug "p/Use") 1 of_svc → ⊥ }
+    ensures settle_unrecorded { MaySettle serving start (in_plug "p/Use") 1 of_svc → ⊥ }
+    ensures resolve { MayPost serving unsettled 0 (Said of_svc) → ⊥ }
+    ensures prepare_unrecorded { MayPrepare serving start (in_boot "java/lang/Object") → ⊥ }
+    ensures prepare_below { MayPrepare serving unsettled (in_plug "p/Use") → ⊥ }
+    ensures prepare_unconstrained { MayPrepare serving (state_after start (loading ++ Prepare (in_boot "java/lang/Object") ∷ Prepare (in_app "p/Svc") ∷ [])) (in_plug "p/Use") → ⊥ }
+    ensures link { MayPost serving unprepared 1 (Said (IsLinked (in_plug "p/Use"))) → ⊥ }
+{}
+
+/// No step is taken twice.
+pub fn steps_made_again()
+    ensures define { MayDefine serving ended (in_plug "p/Use") → ⊥ }
+    ensures initiate { MayInitiate serving ended object boot app → ⊥ }
+    ensures constrain { MayConstrain serving ended (codes "p/T") app plug → ⊥ }
+    ensures settle { MaySettle serving ended (in_plug "p/Use") 1 of_svc → ⊥ }
+    ensures prepare { MayPrepare serving ended (in_plug "p/Use") → ⊥ }
+    ensures answer { MayPost serving ended 0 (Said of_svc) → ⊥ }
+{}
+
+/// What no state allows: a class elsewhere than at its home, an initiating record of the definer or
+/// of another home, and a settled entry that is no reference of a class's.
+pub fn steps_never_made()
+    ensures define { (s : State) → MayDefine serving s (in_plug "p/Svc") → ⊥ }
+    ensures initiate_own { (s : State) → MayInitiate serving s object boot boot → ⊥ }
+    ensures initiate_elsewhere { (s : State) → MayInitiate serving s object app plug → ⊥ }
+    ensures settle_no_reference { (s : State) → MaySettle serving s (in_plug "p/Use") 9 BadEntry → ⊥ }
+    ensures settle_array_member { (s : State) → MaySettle serving s (in_plug "p/Use") 1 ArrayMember → ⊥ }
+    ensures stray { (s : State) → May serving s Stray → ⊥ }
+{}
+
+/// What is refused is not added; the reference is settled to the refusal, and where its class's own
+/// load is refused, the answer needs no settled reference.
+pub fn refused_steps()
+    ensures define { MayDefine (over service) (state_after start constrained) (in_plug "p/T") → ⊥ }
+    ensures constrain { MayConstrain (over service) (state_after start both_defined) (codes "p/T") app plug → ⊥ }
+    ensures settle { MaySettle (over service) (state_after start both_defined) (in_plug "p/Use") 1 (Linkage (equal "p/T" app plug)) }
+    ensures own_load { MayPost resolved_in_kid (state_after start across) 0 (Said (Linkage (entry kid "p/T" kid))) }
 {}

@@ -30,7 +30,7 @@ def without_edit(crate):
 
 def turned(edit, public):
     """The public function that the edit turns and the private one where it does so; '' for the first where no public one is named."""
-    held = [public.get(it, label(it)) for it in edit.holders] or [path for path, _ in edit.outside[:1]]
+    held = [public.get(it, label(it)) for it in edit.holders] or [path for path, _ in edit.outside[:1]] or ["what cannot be applied"]
     if edit.turns:
         return edit.turns, "" if edit.turns in held else held[0]
     return (held[0], "") if held[0] in public.values() else ("", held[0])

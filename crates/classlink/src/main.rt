@@ -9,10 +9,6 @@ mod print;
 mod reading;
 mod run;
 mod sections;
-#[cfg(test)]
-mod tests;
-#[cfg(test)]
-mod tests_host;
 mod words;
 
 use fault::Fault;

@@ -106,7 +106,8 @@ DRAFTS = [
 
 def drafts():
     for number, (name, data, answer) in enumerate(DRAFTS, 1):
-        sections = "%%class boot java/lang/Object\n@hex %s\n%%class boot %s\n@hex %s\n" % (OBJECT.hex(), name, data.hex())
+        sections = "%%class boot java/lang/Object\n@hex %s\n%%class boot %s\n@hex %s\n" % (OBJECT.hex(), name,
+            data.hex())
         bundle = "%config\n" + BOOT + sections + "%script\nload boot " + name + "\n"
         history = "define java/lang/Object@boot\ndefine p/A@boot\n" if answer.startswith("class") else ""
         # A class of another name is told after its superclass was not yet asked for: nothing is defined.

@@ -13,7 +13,7 @@ use Rattle.cl_model.proofs.Trees.{all_two}
 
 -- ---- classes among others
 
-same_self : (c : Class) → same_class c c ≡ true
+pub same_self : (c : Class) → same_class c c ≡ true
 same_self c = rw (nat_eq_equiv.refl c.loader) (rw (nat_list_eq_equiv.refl c.name) refl)
 
 pub among_first : (cs : List Class) (c : Class) → is_among (c ∷ cs) c ≡ true

@@ -14,7 +14,7 @@ use Rattle.cl_model.proofs.Progress.{step_adds}
 
 -- ---- a need that may be added is met once its step was made
 
-no_record : (s : State) (loader place : ℕ) (name : Name) → MayAdd s (Entry loader name place) → (o : Option ℕ) → recorded s.records loader name ≡ o → o ≡ None
+pub no_record : (s : State) (loader place : ℕ) (name : Name) → MayAdd s (Entry loader name place) → (o : Option ℕ) → recorded s.records loader name ≡ o → o ≡ None
 no_record s loader place name may None h = refl
 no_record s loader place name may (Some p) h =
     absurd (may.fits (record {

@@ -1,12 +1,12 @@
 -- What comes next in a service may happen, and it is one step.
-use Rattle.std.proofs.Common.{◌≡◌, ◌≢◌, ◌⊎◌, inl, inr, ℕ, true, List, [], ◌∷◌, ◌++◌, Option, Some, None, refl, sym, ap, subst, ◌∙◌}
+use Rattle.std.proofs.Common.{◌≡◌, ◌⊎◌, inl, inr, true, List, [], ◌∷◌, ◌++◌, Option, Some, None, refl, sym, ap, subst, ◌∙◌}
 use Rattle.std.specs.Prelude.{flat_map, Contains}
 use Rattle.std.specs.List.{AllByRecursion}
 use Rattle.cl_classfile.specs.Files.{Name}
 use Rattle.cl_model.specs.Homes.{World}
 use Rattle.cl_model.specs.declared.class.Class.{Class}
 use Rattle.cl_model.specs.Classes.{class, same_class, is_among, Above, AtHome, supers}
-use Rattle.cl_model.specs.Lineages.{Kin, IsLineage, lineage}
+use Rattle.cl_model.specs.Lineages.{Kin, lineage}
 use Rattle.cl_model.specs.Preparation.{constraints_of}
 use Rattle.cl_model.specs.Ancestors.{SupersFirst}
 use Rattle.cl_model.specs.States.{State, Need, Verdict, AllMet, Refused, IsNext, IsRecorded, recorded}

@@ -7,8 +7,6 @@ mod naming;
 mod piece;
 mod reading;
 mod spelling;
-#[cfg(test)]
-mod tests;
 mod types;
 
 pub use laws::{equal_types_are_the_same, one_field_spelling, one_method_spelling};

@@ -18,6 +18,3 @@ pub use fault::{AssembleFault, WriteFault};
 pub use laws::{assembles_to_one_answer, says_one_thing};
 pub use listings::listing;
 pub use writing::write;
-
-#[cfg(test)]
-mod tests;

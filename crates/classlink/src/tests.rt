@@ -1,8 +1,8 @@
 //! Whole runs of the program, over a slice and two vectors.
 
-use crate::input::InputFault;
 use crate::reading::ReadFile;
 use crate::run::{refuse_words, run_over};
+use cl_streams::InputFault;
 use std::alloc::Global;
 use std::io::{self, ErrorKind, Read, Write};
 use std::process::Abort;

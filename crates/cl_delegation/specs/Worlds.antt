@@ -3,7 +3,7 @@ use Rattle.std.specs.Prelude.{ℕ, List, map, Result}
 use Rattle.cl_classfile.specs.Files.{File, FileFault}
 use Rattle.cl_model.specs.Content.{Content}
 use Rattle.cl_model.specs.Homes.{World}
-use Rattle.cl_model.specs.Machine.{Setting}
+use Rattle.cl_model.specs.Machine.{Setting, Scheduled}
 use Rattle.cl_model.specs.Views.{request_of}
 use Rattle.cl_model.specs.Worlds.{seen}
 use Rattle.cl_config.specs.Loaders.{loaders_of}
@@ -18,6 +18,10 @@ read bytes = seen (drafted_of bytes)
 abbrev pub world_of : Configured → Content → World
 world_of c content = record { loaders = loaders_of c; content = content; read = read }
 
--- for now there is one round (5.3)
+-- the requests with their rounds: for now there is one round (5.3)
+abbrev pub scheduled_of : Scripted → List Scheduled
+scheduled_of s = map (λ r. record { request = request_of r; round = 0 }) s.requests
+
+-- what is given, and what is asked of it: for now in one round (5.3)
 abbrev pub setting_of : Configured → Scripted → Content → Setting
-setting_of c s content = record { world = world_of c content; script = map (λ r. record { request = request_of r; round = 0 }) s.requests; rounds = 1 }
+setting_of c s content = record { world = world_of c content; script = scheduled_of s; rounds = 1 }

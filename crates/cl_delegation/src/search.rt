@@ -98,6 +98,7 @@ impl<T: Told> Search<T> {
         ensures found { MatchResult result (λ h. self.found ≡ Some (Some h.bytes)) (λ u. self.found ≡ Some None) }
         ensures leads { MatchResult result (λ h. LeadsTo T.told self.config self.loader self.name (Some h.place)) (λ u. LeadsTo T.told self.config self.loader self.name None) }
     {
+        // brings that there is one loader
         let _ = self.config.count();
         let Search {
             config: _,
@@ -215,6 +216,7 @@ impl<T: Told> Unfound<T> {
         ensures name { result.now ≡ self.now.name }
         ensures told { IsTold T.told self.now.asked self.now.name None }
     {
+        // brings that the probe is what the content has, where one is told
         let _ = self.probe.outcome();
         &self.name
     }

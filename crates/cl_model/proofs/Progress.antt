@@ -306,7 +306,7 @@ forest_kept w s c (Tree t f sup ints rest) (a ∷ more) closed all h =
     (forest_kept w s t ints (superinterfaces_of f) closed (all_right (Stands w s t) (superclass_of f) (superinterfaces_of f) above) h.2))
     ((rec, record { has_file = h.0.has_file; above = h.1; over = h.2 }), forest_kept w s c rest more closed all.1 h.3)
 
-once_kept : (P : Kin → Type 0) (seen : List Class) (ks : List Kin) → AllByRecursion P ks → AllByRecursion P (once_after seen ks)
+pub once_kept : (P : Kin → Type 0) (seen : List Class) (ks : List Kin) → AllByRecursion P ks → AllByRecursion P (once_after seen ks)
 once_kept P seen [] h = tt
 once_kept P seen (k ∷ ks) h = at (is_among seen k.class) (once_kept P seen ks h.1) (once_kept P (k.class ∷ seen) ks h.1)
   where

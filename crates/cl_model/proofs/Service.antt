@@ -35,7 +35,7 @@ made_met s n may = subst (λ (t : State). Met t n) (sym (step_adds s n)) (added_
 
 -- ---- needs as wants
 
-to_stand_both : (xs ys : List Need) → to_stand (xs ++ ys) ≡ to_stand xs ++ to_stand ys
+pub to_stand_both : (xs ys : List Need) → to_stand (xs ++ ys) ≡ to_stand xs ++ to_stand ys
 to_stand_both [] ys = refl
 to_stand_both (x ∷ xs) ys = ap (λ (l : List Want). ToStand x ∷ l) (to_stand_both xs ys)
 

@@ -4,15 +4,16 @@ use Rattle.cl_classfile.specs.Files.{Name, File, Key, same_key}
 use Rattle.cl_model.specs.Homes.{World, home, is_loader}
 use Rattle.cl_model.specs.Probes.{probes, has_own, EachOnce}
 use Rattle.cl_model.specs.declared.class.Class.{Class}
-use Rattle.cl_model.specs.Classes.{class, is_among, Error, ClassCircularity, file_of, HasFile, IsAtHome, Good, IsGood, Fails, Circular, Next, Returns}
+use Rattle.cl_model.specs.Preparation.{constraints_of}
+use Rattle.cl_model.specs.Classes.{class, is_among, Above, AtHome, supers, Error, ClassCircularity, file_of, HasFile, IsAtHome, Good, IsGood, Fails, Circular, Next, Returns}
 use Rattle.cl_model.specs.Lineages.{Kin, IsLineage, classes, lineage}
 use Rattle.cl_model.specs.Ancestors.{EachClassOnce, SupersFirst}
 use Rattle.cl_model.specs.Works.{Made}
-use Rattle.cl_model.specs.Plans.{derive, load, Load, Request, Plan, Resolve, needs_of}
-use Rattle.cl_model.specs.States.{State, start, Entry, IsClass, Answer, settled_to, answer_to, IsFresh, Clashes, added, Need, Verdict, recorded, Violated, Met, AllMet, IsRecorded, MayAdd, Said, Wrong, Linkage, IsNext}
+use Rattle.cl_model.specs.Plans.{derive, load, Load, Request, Plan, Resolve, Link, loaded_by, needs_of}
+use Rattle.cl_model.specs.States.{State, start, Entry, IsClass, Answer, settled_to, answer_to, IsFresh, Clashes, added, Need, Verdict, recorded, Violated, Met, AllMet, IsRecorded, IsLinked, BadEntry, ArrayMember, MayAdd, Said, Wrong, Linkage, IsNext}
 use Rattle.cl_model.specs.Chains.{ReadsPlain, Waiting, first_or, stands_in, IsChain, NoneWaitsTwice, absent_of, EndsAtOnce}
 use Rattle.cl_model.specs.Service.{IsNextNeed, IsNextStep, ComesTo, MayEnd, IsBegun, Serves, PassesRounds, AllServed}
-use Rattle.cl_model.specs.Machine.{Setting, Scheduled, Step, Post, May, state_after, Run, Answers, IsClosed, IsSound, after, AnswersPlan, AnswersReference, MaySay, IsPlan, HasLineage, IsResolution, Define, step_for}
+use Rattle.cl_model.specs.Machine.{Setting, Scheduled, Step, Post, Settle, Prepare, May, state_after, Run, Answers, IsClosed, IsSound, after, AnswersPlan, AnswersReference, MaySay, IsPlan, HasLineage, IsResolution, Define, step_for}
 use Rattle.std.specs.List.{AllByRecursion}
 use Rattle.cl_model.specs.Content.{content_at}
 use Rattle.cl_model.specs.declared.event.Event as events
@@ -21,7 +22,7 @@ use Rattle.cl_model.specs.declared.answer.Answer as answers
 use Rattle.cl_model.specs.Views.{answer_at, steps_of, IsOther, verdict_of, answer_of, step_of}
 use Rattle.cl_model.specs.Texts as texts
 use Rattle.cl_model.specs.Lines as lines
-use Rattle.cl_model.specs.Tables.{Allows, Orderly, IsTrusted, IsConsistent, Stands}
+use Rattle.cl_model.specs.Tables.{Records, Allows, Orderly, IsTrusted, IsConsistent, Stands}
 
 -- a home is its own home (5.3.1, 5.3.2)
 abbrev pub HomeOfHome : Type 0
@@ -265,6 +266,22 @@ ServiceGoesOn = (g : Setting) (r : Request) (s : State) (es : List Step) (e : St
 abbrev pub ServiceIsWhole : Type 0
 ServiceIsWhole = (g : Setting) (q : ℕ) (r : Request) (s : State) (es : List Step) (a : Answer) → IsBegun g r s es → MayEnd g (state_after s es) r a → Serves g q r s (es ++ Post q a ∷ [])
 
+-- in a closed state the step that comes next in a service may happen (5.3 to 5.4.3)
+abbrev pub NextStepMayHappen : Type 0
+NextStepMayHappen = (g : Setting) (s : State) (r : Request) (e : Step) → IsClosed g.world s → IsNextStep g s r e → May g s e
+
+-- from a closed state a service that was begun is a run (5.3 to 5.4.3)
+abbrev pub BegunIsRun : Type 0
+BegunIsRun = (g : Setting) (r : Request) (s : State) (es : List Step) → IsClosed g.world s → IsBegun g r s es → Run g s es
+
+-- at most one step comes next in a service (own choice)
+abbrev pub OneNextStep : Type 0
+OneNextStep = (g : Setting) (s : State) (r : Request) (e f : Step) → IsNextStep g s r e → IsNextStep g s r f → e ≡ f
+
+-- where a service has come to its verdict no step is left (own choice)
+abbrev pub ComeToEnds : Type 0
+ComeToEnds = (g : Setting) (s : State) (r : Request) (v : Verdict) (e : Step) → ComesTo g s r v → IsNextStep g s r e → ⊥
+
 -- the need that comes next in the plan of a load is served next (5.3, 5.3.5)
 abbrev pub LoadNeedIsNext : Type 0
 LoadNeedIsNext = (g : Setting) (s : State) (loader : ℕ) (name : Name) (n : Need) → IsNextNeed g.world s (Load loader name) n → MayAdd s n → IsNextStep g s (Load loader name) (step_for n)
@@ -342,6 +359,54 @@ SaidAlike = (g : Setting) (s : State) (p q : ℕ) (a b : Scheduled) (v u : Verdi
 -- the answer of a request that got past the load of its class is that of the reference, which has one (5.4.3)
 abbrev pub SaidReference : Type 0
 SaidReference = (g : Setting) (s : State) (q : ℕ) (a : Scheduled) (loader : ℕ) (name : Name) (i : ℕ) (p : Plan) (d : Class) (v : Verdict) → IsSound g s → slice_get g.script q ≡ Some a → a.request ≡ Resolve loader name i → IsPlan g.world (Resolve loader name i) p → p.reached ≡ Some d → AllMet s p.own → answer_to s.answers q ≡ Some (Said v) → AnswersReference g s d i v
+
+-- past its load the answer of a resolution is that of the reference (5.4.3)
+abbrev pub PlanIsReference : Type 0
+PlanIsReference =
+    (g : Setting) (s : State) (loader : ℕ) (name : Name) (i : ℕ) (p : Plan) (d : Class) (v : Verdict) → IsPlan g.world (Resolve loader name i) p → p.reached ≡ Some d → AllMet s p.own
+    → AnswersPlan g s (Resolve loader name i) v → AnswersReference g s d i v
+
+-- past the load of a resolution the answer of the reference is its own (5.4.3)
+abbrev pub ReferenceIsPlan : Type 0
+ReferenceIsPlan =
+    (g : Setting) (s : State) (loader : ℕ) (name : Name) (i : ℕ) (p : Plan) (d : Class) (v : Verdict) → IsPlan g.world (Resolve loader name i) p → p.reached ≡ Some d → AllMet s p.own
+    → AnswersReference g s d i v → AnswersPlan g s (Resolve loader name i) v
+
+-- where a loader records the class of a request, its plan reaches that class, past its load (5.3)
+abbrev pub RecordedIsReached : Type 0
+RecordedIsReached =
+    (w : World) (s : State) (q : Request) (p : Plan) (place : ℕ) → IsClosed w s → IsPlan w q p → recorded s.records (loaded_by q).loader (loaded_by q).name ≡ Some place
+    → (p.reached ≡ Some (class (loaded_by q).name place)) × AllMet s p.own
+
+-- past the load of a request its loader records the class that is reached (5.3)
+abbrev pub ReachedIsRecorded : Type 0
+ReachedIsRecorded = (w : World) (s : State) (q : Request) (p : Plan) (d : Class) → IsPlan w q p → p.reached ≡ Some d → AllMet s p.own → Records s (loaded_by q).loader (loaded_by q).name d
+
+-- an answered reference of a recorded class that is not settled may be, unless its verdict is none that is (5.4.3)
+abbrev pub AnsweredMaySettle : Type 0
+AnsweredMaySettle = (g : Setting) (s : State) (d : Class) (i : ℕ) (v : Verdict) → IsRecorded s d → settled_to s.settled d i ≡ None → AnswersReference g s d i v → v ≢ BadEntry → v ≢ ArrayMember → May g s (Settle d i v)
+
+-- a recorded class that is not prepared may be, once its constraints are imposed and its supertypes are prepared (5.4.2)
+abbrev pub ImposedMayPrepare : Type 0
+ImposedMayPrepare =
+    (g : Setting) (s : State) (c : Class) (k : Kin) → IsRecorded s c → (Contains s.prepared c → ⊥) → HasLineage g.world c k → AllByRecursion (λ (a : Above). AtHome g.world c (Contains s.prepared) a.name) (supers k.file)
+    → AllMet s (constraints_of k) → May g s (Prepare c)
+
+-- in a sound state what was said of a resolution past its load is what the reference is settled to (5.4.3)
+abbrev pub SaidIsSettled : Type 0
+SaidIsSettled =
+    (g : Setting) (s : State) (q : ℕ) (a : Scheduled) (loader : ℕ) (name : Name) (i : ℕ) (p : Plan) (d : Class) (v : Verdict) → IsSound g s → slice_get g.script q ≡ Some a → a.request ≡ Resolve loader name i
+    → IsPlan g.world (Resolve loader name i) p → p.reached ≡ Some d → AllMet s p.own → v ≢ BadEntry → v ≢ ArrayMember → answer_to s.answers q ≡ Some (Said v) → settled_to s.settled d i ≡ Some v
+
+-- in a sound state a class that was said to be linked is prepared (5.4)
+abbrev pub LinkedIsPrepared : Type 0
+LinkedIsPrepared =
+    (g : Setting) (s : State) (q : ℕ) (a : Scheduled) (loader : ℕ) (name : Name) (c : Class) → IsSound g s → slice_get g.script q ≡ Some a → a.request ≡ Link loader name
+    → answer_to s.answers q ≡ Some (Said (IsLinked c)) → Contains s.prepared c
+
+-- in a sound state the lineage of what is prepared is (5.4.2)
+abbrev pub LineagePrepared : Type 0
+LineagePrepared = (g : Setting) (s : State) (k : Kin) → IsSound g s → IsLineage g.world k → Contains s.prepared k.class → AllByRecursion (λ (a : Kin). Contains s.prepared a.class) (lineage k)
 
 -- what has a file is spelled by its own loader's bytes, and the file names it (5.3.5, step 2)
 abbrev pub FileIsSpelt : Type 0

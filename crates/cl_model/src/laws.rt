@@ -1,4 +1,4 @@
-ghost use Rattle.cl_model.specs.Laws.{HomeOfHome, HomeIsProbed, ProbedOnce, ProbesAreLoaders, GoodIsNotFailing, RunGoesOn, RecordsStay, MetStays, NeverViolated, OneAnswer, HigherDerives, AnswersStay, DerivedIsGood, RecordedIsMet, RunsAreClosed, GoodIsDerived, ErrorIsFailing, OneError, GoodGrows, FailsGrows, FailingIsDerived, ReturnIsCircular, ReturnGoesOn, CircleReturns, ReturnIsDerived, OneSubject, FailureIsNoCircle, OneDerivation, GoodIsAtHome, ComesOut, CircularReturns, CircularGoesOn, PlanExists, OnePlan, LineageExists, OneLineage, ResolutionExists, OneResolution, DerivedIsLineage, LineageIsDerived, LineageOnce, LineageHas, LineageSupersFirst, LineageRecorded, SettledStay, PreparedStay, PostedStay, RequestAnswerStays, ReferenceAnswerStays, OneRequestAnswer, OneReferenceAnswer, RunsAreSound, StepIsSound, ClashViolates, ViolationClashes, RecordedLoadStands, RecordedAnswers, UnmetIsFresh, ServiceGoesOn, ServiceIsWhole, LoadNeedIsNext, ResolveNeedIsNext, LoadComes, ResolutionComes, ServicesGoOn, WaitingIsNext, RootIsNext, MissingStops, FaultyStops, CircleStops, AnswersAtOnce, CircleIsAnswered, CircularIsAnswered, PartBegins, RunThen, RunParts, StateThen, SaidAlike, SaidReference, FileIsSpelt, StepsThen, StepsSame, NextMayBeMade, StepAdds, TrustedIsConsistent, AllowedIsConsistent, TrustedGoesOn, TrustedParts, MayIsAllowed, RunsAreTrusted, DefinedOnce, AnsweredOnce, SameKey, ClassTexts, VerdictTexts, AnswerTexts, EventTexts};
+ghost use Rattle.cl_model.specs.Laws.{HomeOfHome, HomeIsProbed, ProbedOnce, ProbesAreLoaders, GoodIsNotFailing, RunGoesOn, RecordsStay, MetStays, NeverViolated, OneAnswer, HigherDerives, AnswersStay, DerivedIsGood, RecordedIsMet, RunsAreClosed, GoodIsDerived, ErrorIsFailing, OneError, GoodGrows, FailsGrows, FailingIsDerived, ReturnIsCircular, ReturnGoesOn, CircleReturns, ReturnIsDerived, OneSubject, FailureIsNoCircle, OneDerivation, GoodIsAtHome, ComesOut, CircularReturns, CircularGoesOn, PlanExists, OnePlan, LineageExists, OneLineage, ResolutionExists, OneResolution, DerivedIsLineage, LineageIsDerived, LineageOnce, LineageHas, LineageSupersFirst, LineageRecorded, SettledStay, PreparedStay, PostedStay, RequestAnswerStays, ReferenceAnswerStays, OneRequestAnswer, OneReferenceAnswer, RunsAreSound, StepIsSound, ClashViolates, ViolationClashes, RecordedLoadStands, RecordedAnswers, UnmetIsFresh, ServiceGoesOn, ServiceIsWhole, NextStepMayHappen, BegunIsRun, OneNextStep, ComeToEnds, LoadNeedIsNext, ResolveNeedIsNext, LoadComes, ResolutionComes, ServicesGoOn, WaitingIsNext, RootIsNext, MissingStops, FaultyStops, CircleStops, AnswersAtOnce, CircleIsAnswered, CircularIsAnswered, PartBegins, RunThen, RunParts, StateThen, SaidAlike, SaidReference, PlanIsReference, ReferenceIsPlan, RecordedIsReached, ReachedIsRecorded, AnsweredMaySettle, ImposedMayPrepare, SaidIsSettled, LinkedIsPrepared, LineagePrepared, FileIsSpelt, StepsThen, StepsSame, NextMayBeMade, StepAdds, TrustedIsConsistent, AllowedIsConsistent, TrustedGoesOn, TrustedParts, MayIsAllowed, RunsAreTrusted, DefinedOnce, AnsweredOnce, SameKey, ClassTexts, VerdictTexts, AnswerTexts, EventTexts};
 
 /// A home is its own home.
 pub fn home_of_home()
@@ -281,6 +281,18 @@ pub fn service_is_whole()
     ensures { ServiceIsWhole }
 {}
 
+/// What comes next in a service may happen, so that a service that was begun is a run.
+pub fn service_is_run()
+    ensures step { NextStepMayHappen }
+    ensures run { BegunIsRun }
+{}
+
+/// At most one step comes next in a service, and none once it has come to its verdict.
+pub fn one_next_step()
+    ensures one { OneNextStep }
+    ensures none { ComeToEnds }
+{}
+
 /// The need that comes next in the plan of a load or of a resolution is served next.
 pub fn need_is_next()
     ensures load { LoadNeedIsNext }
@@ -366,6 +378,31 @@ pub fn said_alike()
 /// The answer of a request that got past the load of its class is that of the reference.
 pub fn said_reference()
     ensures { SaidReference }
+{}
+
+/// Past its load a resolution is answered as the reference, and the reference as the resolution.
+pub fn plan_is_reference()
+    ensures reference { PlanIsReference }
+    ensures plan { ReferenceIsPlan }
+{}
+
+/// Where a loader records the class of a request, its plan reaches that class past its load; and the other way round.
+pub fn reached_is_recorded()
+    ensures reached { RecordedIsReached }
+    ensures recorded { ReachedIsRecorded }
+{}
+
+/// What may be settled, and what may be prepared.
+pub fn answered_may_settle()
+    ensures settle { AnsweredMaySettle }
+    ensures prepare { ImposedMayPrepare }
+{}
+
+/// What a posted verdict rests on.
+pub fn said_is_settled()
+    ensures settled { SaidIsSettled }
+    ensures prepared { LinkedIsPrepared }
+    ensures lineage { LineagePrepared }
 {}
 
 /// What has a file is spelled by its own bytes, and the file names it.

@@ -1,7 +1,8 @@
 -- How many answers are faults of the source, beside the count that the source keeps of them.
-use Rattle.std.specs.Prelude.{◌≡◌, ◌⊎◌, ◌+◌, ◌≤◌, ◌^◌, ℕ, List, [], ◌∷◌, Option, Some, None}
+use Rattle.std.specs.Prelude.{◌≡◌, ◌⊎◌, ◌+◌, ◌≤◌, ◌^◌, ℕ, List, [], ◌∷◌, map, Option, Some, None}
 use Rattle.cl_model.specs.declared.answer.Answer.{Answer}
 use Rattle.cl_source.specs.declared.source.SourceFault.TheVariants as sources
+use Rattle.cl_registry.specs.declared.report.Report.{Report}
 use Rattle.cl_tasks.specs.declared.stage.Reply.{Reply}
 use Rattle.cl_tasks.specs.declared.stage.Reply.TheVariants as reply
 use Rattle.cl_model.specs.declared.answer.Answer.TheVariants.{Said, Memory, SourceFault}
@@ -44,3 +45,7 @@ told_faults (reply.SourceFault sources.Memory) = 0
 told_faults (reply.SourceFault sources.Device) = 1
 told_faults (reply.SourceFault sources.TooLarge) = 1
 told_faults (reply.SourceFault sources.Twice) = 1
+
+-- as many reads of a source were counted as refused, at least, as answers of a report are faults of the source (own choice)
+abbrev pub CountsFaults : Report → ℕ → ℕ → Type 0
+CountsFaults r old new = RoseBy (faults (map (λ a. Some a) r.answers)) old new

@@ -4,8 +4,7 @@ ghost use Rattle.std.specs.Prelude.{◌≡◌, ◌<◌, ◌≤◌, ◌^◌, ℕ,
 ghost use Rattle.classlink.specs.Readings.{IsContent, IsListing, IsRefusal, IsUnread, ReadingOf};
 
 use crate::fault::Fault;
-use crate::input::{InputFault, read_bytes};
-use crate::print::write_out;
+use cl_streams::{InputFault, read_bytes, write_out};
 use cl_writer::listing;
 use std::alloc::Global;
 use std::fs;

@@ -22,23 +22,23 @@ use Rattle.cl_delegation.specs.Worlds.{setting_of}
 use Rattle.cl_hierarchy.specs.Drafts.{Drafted, IsDraft}
 use Rattle.cl_registry.specs.Findings.{Answered, loader_of, name_of}
 
--- what a registry shows: whose it is, what happened, and the answer of each request that has one (own choice)
+-- what a registry shows: whose it is, what happened, and the answer of each request that has one
 pub record Shown : Type 0 where
   pub config : Configured
   pub script : Scripted
   pub history : List Event
   pub answers : List (Option Answer)
 
--- no event, and no answer to any request (own choice)
+-- no event, and no answer to any request
 abbrev pub empty_of : Configured → Scripted → Shown
 empty_of config script =
     record { config = config; script = script; history = []; answers = replicate (length script.requests) None }
 
--- the steps of the linkage machine that the history tells (own choice)
+-- the steps of the linkage machine that the history tells
 abbrev pub steps : Shown → List Step
 steps x = steps_of (answers_of x.answers) x.history
 
--- the state that the history leads to (own choice)
+-- the state that the history leads to
 abbrev pub state_of : Shown → State
 state_of x = state_after start (steps x)
 
@@ -46,18 +46,18 @@ state_of x = state_after start (steps x)
 abbrev pub records_of : Shown → List Record
 records_of x = (state_of x).records
 
--- the requests that are posted, in order (own choice)
+-- the requests that are posted, in order
 abbrev pub posts : List Event → List ℕ
 posts [] = []
 posts (events.Define c ∷ es) = posts es
 posts (events.Post q ∷ es) = q ∷ posts es
 
--- the number is one of these (own choice)
+-- the number is one of these
 abbrev pub is_in : ℕ → List ℕ → Bool
 is_in n [] = false
 is_in n (x ∷ xs) = nat_eq n x || is_in n xs
 
--- no number stands twice (own choice)
+-- no number stands twice
 abbrev pub EachOnce : List ℕ → Type 0
 EachOnce [] = Unit {0}
 EachOnce (x ∷ xs) = (is_in x xs ≡ false) × EachOnce xs
@@ -80,7 +80,7 @@ abbrev pub RunsAs : Option Content → Shown → Type 0
 RunsAs None x = Unit {0}
 RunsAs (Some content) x = Run (setting_of x.config x.script content) start (steps x)
 
--- each loader that the history and the answers name is one of the configuration (own choice)
+-- each loader that the history and the answers name is one of the configuration
 pub record NamesLoaders (x : Shown) : Type 0 where
   pub history : All (EventNames (length x.config.names)) x.history
   pub answers : All (λ o. IfSome o (AnswerNames (length x.config.names))) x.answers
@@ -96,7 +96,7 @@ pub record IsKept (told : Option Content) (x : Shown) : Type 0 where
 abbrev pub with_define : Shown → Class → Shown
 with_define x c = record x { history = x.history ++ events.Define c ∷ [] }
 
--- an answer more, and its event (own choice)
+-- an answer more, and its event
 abbrev pub with_post : Shown → ℕ → Answer → Shown
 with_post x q a = record x { history = x.history ++ events.Post q ∷ []; answers = slice_set x.answers q (Some a) }
 
@@ -174,11 +174,11 @@ pub record IsBacked (x : Shown) (f : Answered) : Type 0 where
   pub names : AnswerNames (length x.config.names) f.answer
   pub answer : AnswerBacked (recorded (records_of x) (loader_of f.request) (name_of f.request)) (name_of f.request) f.answer
 
--- the request of this number asks what was answered (own choice)
+-- the request of this number asks what was answered
 abbrev pub IsAsked : Shown → ℕ → Answered → Type 0
 IsAsked x q f = slice_get x.script.requests q ≡ Some f.request
 
--- the request of this number has no answer yet (own choice)
+-- the request of this number has no answer yet
 abbrev pub IsOpen : Shown → ℕ → Type 0
 IsOpen x q = slice_get x.answers q ≡ Some None
 

@@ -13,8 +13,8 @@ use Rattle.cl_model.specs.Plans.{derive, load, Load, Request, Plan, Resolve, Lin
 use Rattle.cl_model.specs.States.{State, start, Entry, IsClass, Answer, settled_to, answer_to, IsFresh, Clashes, added, Need, Verdict, recorded, Violated, Met, AllMet, IsRecorded, IsLinked, BadEntry, ArrayMember, MayAdd, Said, Wrong, Linkage, IsNext}
 use Rattle.cl_model.specs.Ascents.{ReadsPlain, Waiting, first_or, stands_in, IsAscent, NoneWaitsTwice, absent_of, EndsAtOnce}
 use Rattle.cl_model.specs.Progress.{Takes}
-use Rattle.cl_model.specs.Service.{IsNextNeed, IsNextStep, ComesTo, MayEnd, IsBegun, Serves, PassesRounds, AllServed}
-use Rattle.cl_model.specs.Machine.{Setting, Scheduled, Step, Post, Settle, Prepare, May, state_after, Run, Answers, IsClosed, IsSound, after, AnswersPlan, AnswersReference, MaySay, IsPlan, HasLineage, IsResolution, Define, step_for}
+use Rattle.cl_model.specs.Service.{IsNextNeed, IsNextStep, ComesTo, MayEnd, IsBegun, Serves, PassesRounds, AllServed, IsLinkedIn}
+use Rattle.cl_model.specs.Machine.{Setting, Scheduled, Step, Post, Settle, Prepare, May, state_after, Run, Answers, IsClosed, IsSound, after, AnswersPlan, AnswersReference, MaySay, IsPlan, HasLineage, IsResolution, Define, step_for, MaySettle, MayGoOn}
 use Rattle.std.specs.List.{AllByRecursion}
 use Rattle.cl_model.specs.Content.{content_at}
 use Rattle.cl_model.specs.declared.event.Event as events
@@ -291,6 +291,24 @@ LoadNeedIsNext = (g : Setting) (s : State) (loader : ℕ) (name : Name) (n : Nee
 abbrev pub ResolveNeedIsNext : Type 0
 ResolveNeedIsNext = (g : Setting) (s : State) (loader : ℕ) (name : Name) (i : ℕ) (n : Need) → IsNextNeed g.world s (Resolve loader name i) n → MayAdd s n → IsNextStep g s (Resolve loader name i) (step_for n)
 
+-- past its load a resolution settles its reference next, where that may be settled (5.4.3)
+abbrev pub SettleIsNext : Type 0
+SettleIsNext =
+    (g : Setting) (s : State) (loader : ℕ) (name : Name) (i : ℕ) (p : Plan) (d : Class) (v : Verdict) → IsPlan g.world (Resolve loader name i) p → p.reached ≡ Some d → AllMet s p.own
+    → MaySettle g s d i v → IsNextStep g s (Resolve loader name i) (Settle d i v)
+
+-- past its load a link imposes next what comes next of the constraints of a class of the lineage all before which are linked (5.4, 5.4.2)
+abbrev pub LinkNeedIsNext : Type 0
+LinkNeedIsNext =
+    (g : Setting) (s : State) (loader : ℕ) (name : Name) (p : Plan) (c : Class) (l k : Kin) (before behind : List Kin) (n : Need) → IsPlan g.world (Link loader name) p → p.reached ≡ Some c → AllMet s p.own
+    → HasLineage g.world c l → lineage l ≡ before ++ k ∷ behind → AllByRecursion (IsLinkedIn s) before → IsNext s (constraints_of k) n → MayAdd s n → IsNextStep g s (Link loader name) (step_for n)
+
+-- and prepares that class next once its constraints are imposed, unless it is prepared (5.4, 5.4.2)
+abbrev pub PrepareIsNext : Type 0
+PrepareIsNext =
+    (g : Setting) (s : State) (loader : ℕ) (name : Name) (p : Plan) (c : Class) (l k : Kin) (before behind : List Kin) → IsPlan g.world (Link loader name) p → p.reached ≡ Some c → AllMet s p.own
+    → HasLineage g.world c l → lineage l ≡ before ++ k ∷ behind → AllByRecursion (IsLinkedIn s) before → AllMet s (constraints_of k) → (Contains s.prepared k.class → ⊥) → IsNextStep g s (Link loader name) (Prepare k.class)
+
 -- a load that has an answer comes to it (5.3, 5.3.5)
 abbrev pub LoadComes : Type 0
 LoadComes = (g : Setting) (s : State) (loader : ℕ) (name : Name) (v : Verdict) → AnswersPlan g s (Load loader name) v → ComesTo g s (Load loader name) v
@@ -308,6 +326,10 @@ abbrev pub ServicesGoOn : Type 0
 ServicesGoOn =
     (g : Setting) (q p : ℕ) (s : State) (rs : List Scheduled) (r : Scheduled) (es one rounds : List Step) → AllServed g q s rs es → Serves g p r.request (state_after s es) one
     → PassesRounds g (state_after (state_after s es) one) rounds → p ≡ q + length rs → AllServed g q s (rs ++ r ∷ []) (es ++ (one ++ rounds))
+
+-- once all are served no later round may begin (own choice)
+abbrev pub NoRoundLeft : Type 0
+NoRoundLeft = (g : Setting) (q : ℕ) (s : State) (rs : List Scheduled) (es : List Step) → AllServed g q s rs es → MayGoOn g (state_after s es) → ⊥
 
 -- where a superclass is recorded, the record of the class that waits for it is the need that comes next (5.3.5, step 3)
 abbrev pub WaitingIsNext : Type 0
@@ -466,6 +488,28 @@ DefinedOnce = (script : List Scheduled) (rounds : ℕ) (es fs : List Step) (c : 
 -- a request is answered once (own choice)
 abbrev pub AnsweredOnce : Type 0
 AnsweredOnce = (script : List Scheduled) (rounds : ℕ) (es fs : List Step) (q : ℕ) (a b : Answer) → IsTrusted script rounds (es ++ Post q a ∷ fs) → Stands es (Post q b) ⊎ Stands fs (Post q b) → ⊥
+
+-- an answer is posted in the round of its request (own choice)
+abbrev pub ToldInRound : Type 0
+ToldInRound = (script : List Scheduled) (rounds : ℕ) (es fs : List Step) (q : ℕ) (a : Answer) (r : Scheduled) → IsTrusted script rounds (es ++ Post q a ∷ fs) → slice_get script q ≡ Some r → r.round ≡ (state_after start es).round
+
+-- a class that was told of a load was recorded by its loader (5.3)
+abbrev pub ToldIsRecorded : Type 0
+ToldIsRecorded =
+    (script : List Scheduled) (rounds : ℕ) (es fs : List Step) (q : ℕ) (r : Scheduled) (loader : ℕ) (name : Name) (c : Class) → IsTrusted script rounds (es ++ Post q (Said (IsClass c)) ∷ fs) → slice_get script q ≡ Some r
+    → r.request ≡ Load loader name → Records (state_after start es) loader name c
+
+-- a verdict that was told of a resolution whose class was recorded was the settled one of the reference (5.4.3)
+abbrev pub ToldIsSettled : Type 0
+ToldIsSettled =
+    (script : List Scheduled) (rounds : ℕ) (es fs : List Step) (q : ℕ) (r : Scheduled) (loader : ℕ) (name : Name) (i : ℕ) (d : Class) (v : Verdict) → IsTrusted script rounds (es ++ Post q (Said v) ∷ fs) → slice_get script q ≡ Some r
+    → r.request ≡ Resolve loader name i → Records (state_after start es) loader name d → v ≢ BadEntry → v ≢ ArrayMember → settled_to (state_after start es).settled d i ≡ Some v
+
+-- a class that was told to be linked was recorded by its loader, and prepared (5.4)
+abbrev pub ToldIsPrepared : Type 0
+ToldIsPrepared =
+    (script : List Scheduled) (rounds : ℕ) (es fs : List Step) (q : ℕ) (r : Scheduled) (loader : ℕ) (name : Name) (c : Class) → IsTrusted script rounds (es ++ Post q (Said (IsLinked c)) ∷ fs) → slice_get script q ≡ Some r
+    → r.request ≡ Link loader name → Records (state_after start es) loader name c × Contains (state_after start es).prepared c
 
 -- ---- words of the definitions that say the same
 

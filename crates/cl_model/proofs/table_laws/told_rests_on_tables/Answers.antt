@@ -1,5 +1,5 @@
 use Rattle.cl_model.proofs.Tables.{told_in_round, told_is_recorded, told_is_settled, told_is_prepared}
-use Rattle.cl_model.proofs.laws.told_rests_on_tables.Goals as goal
+use Rattle.cl_model.proofs.table_laws.told_rests_on_tables.Goals as goal
 
 pub returns-clause-in_round : goal.returns-clause-in_round
 returns-clause-in_round c = told_in_round

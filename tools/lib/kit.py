@@ -69,6 +69,11 @@ def guard():
     rtlib.guarded()
 
 
+def lock(crates):
+    """Waits until no other rt works on the crates and what is below them, and keeps others out while what it returns is held."""
+    return rtlib.lock({it.folder: it for crate in crates for it in [*crate.of_kit.below(), crate.of_kit]}.values())
+
+
 def build_libraries(crate, is_after_ci):
     """Makes the libraries below the crate, or takes what stands; whether all stand. After rt ci they do, with no stamp."""
     for below in crate.of_kit.below():
@@ -115,18 +120,18 @@ class Checked:
     def unread(self, wanted):
         """Why the copy was not read, or says nothing of the wanted functions; '' where it was and does."""
         if self.status < 0:
-            return f"the check was ended by signal {-self.status}, most likely for memory"
+            return f"NOT TOLD: the check was ended by signal {-self.status}, most likely for memory"
         lines = self.text.split("\n")
         # (an edit of src/ or specs/ that the prover cannot read is no wrong body)
         found = next((it for it in lines if rt.unread(it, self.changed)), "")
         if found:
-            return f"the prover cannot read it: {found}"
+            return f"BAD EDIT: the prover cannot read it: {found}"
         if rtlib.STALE.search(self.text):
-            return "the kept work of a library cannot be used"
+            return "NOT TOLD: the kept work of a library cannot be used"
         if all(it in self.said for it in wanted):
             return ""
         found = next((it for it in lines if re.match(r"(error|rattle:)|\S+: error", it)), "") or self.text[:160]
-        return f"it does not compile: {found.strip()}"
+        return f"{'NOT TOLD: the check did not run' if found.startswith('rattle:') else 'BAD EDIT: it does not compile'}: {found.strip()}"
 
 
 def check(crate, texts, functions=(), kept=None, limit=3600, is_whole=False):

@@ -3,7 +3,7 @@
 ghost use Rattle.std.specs.Prelude.{◌≡◌};
 ghost use Rattle.cl_classfile.specs.Rows.{special_of, is_field, is_array, is_call, is_void, traits_of, nothing};
 
-use cl_descriptors::{Form, form_of, units_of};
+use cl_descriptors::{Form, form_and_units};
 use cl_names::kinds_of;
 
 /// How a name begins that no programmer writes (JVMS SE 8, 2.9).
@@ -110,7 +110,7 @@ pub fn traits_of(text: &[u8]) -> Traits
     ensures { result ≡ traits_of text.now }
 {
     let kinds = kinds_of(text);
-    let form = form_of(text);
+    let (form, units) = form_and_units(text);
     Traits {
         stands: true,
         text: kinds.text,
@@ -119,6 +119,6 @@ pub fn traits_of(text: &[u8]) -> Traits
         method: kinds.method,
         special: special_of(text),
         form,
-        units: units_of(text),
+        units,
     }
 }

@@ -1,12 +1,12 @@
 -- What comes next in a service may happen, and it is one step.
-use Rattle.std.proofs.Common.{◌≡◌, ◌≢◌, ◌⊎◌, inl, inr, ℕ, true, List, [], ◌∷◌, ◌++◌, Option, Some, None, refl, sym, ap, subst, ◌∙◌}
+use Rattle.std.proofs.Common.{◌≡◌, ◌⊎◌, inl, inr, true, List, [], ◌∷◌, ◌++◌, Option, Some, None, refl, sym, ap, subst, ◌∙◌}
 use Rattle.std.specs.Prelude.{flat_map, Contains}
 use Rattle.std.specs.List.{AllByRecursion}
 use Rattle.cl_classfile.specs.Files.{Name}
 use Rattle.cl_model.specs.Homes.{World}
 use Rattle.cl_model.specs.declared.class.Class.{Class}
 use Rattle.cl_model.specs.Classes.{class, same_class, is_among, Above, AtHome, supers}
-use Rattle.cl_model.specs.Lineages.{Kin, IsLineage, lineage}
+use Rattle.cl_model.specs.Lineages.{Kin, lineage}
 use Rattle.cl_model.specs.Preparation.{constraints_of}
 use Rattle.cl_model.specs.Ancestors.{SupersFirst}
 use Rattle.cl_model.specs.States.{State, Need, Verdict, AllMet, Refused, IsNext, IsRecorded, recorded}
@@ -39,7 +39,7 @@ met_of : (s : State) (ns : List Need) → FulfilsAll s (to_stand ns) → AllMet 
 met_of s [] h = tt
 met_of s (n ∷ ns) h = (h.0, met_of s ns h.1)
 
-stand_is : (n m : Need) → ToStand n ≡ ToStand m → n ≡ m
+pub stand_is : (n m : Need) → ToStand n ≡ ToStand m → n ≡ m
 stand_is n m h = cc
 
 next_of : (s : State) (ns : List Need) (n : Need) → IsFirst s (to_stand ns) (ToStand n) → IsNext s ns n
@@ -59,10 +59,10 @@ next_left s (x ∷ xs) ys n (inr h) = inr (h.0, next_left s xs ys n h.1)
 
 -- ---- what links a lineage
 
-prepare_is : (c d : Class) → ToPrepare c ≡ ToPrepare d → c ≡ d
+pub prepare_is : (c d : Class) → ToPrepare c ≡ ToPrepare d → c ≡ d
 prepare_is c d h = cc
 
-stand_not : (c : Class) (n : Need) → ToPrepare c ≡ ToStand n → ⊥
+pub stand_not : (c : Class) (n : Need) → ToPrepare c ≡ ToStand n → ⊥
 stand_not c n h = cc
 
 -- the first of what links a class: a need, or its preparation, once its constraints are met

@@ -11,7 +11,7 @@ use Rattle.cl_model.specs.Lineages.{Kin}
 use Rattle.cl_model.specs.States.{State, start, Record, Posted, Need, Entry, Equal, Verdict, IsClass, IsArrayOf, IsArrayOfBase, IsField, IsMethod, IsLinked, BadEntry, ArrayMember, Wrong, Linkage, Answer, Said, OutOfMemory, SourceFault, recorded, settled_to, answer_to, AllMet, Clashes, added}
 use Rattle.cl_model.specs.Works.{Made}
 use Rattle.cl_model.specs.Plans.{derive, load, Request, Load, Resolve, Link, loaded_by, go_on_with, Plan, ending, plan_after, plan_from, needs_of}
-use Rattle.cl_model.specs.Machine.{Setting, Scheduled, Step, Define, Initiate, Constrain, Settle, Prepare, Post, NextRound, Stray, IsPlan, Answers, RestsOn, MaySay, MayAnswer, May, after, state_after, Run, IsClosed}
+use Rattle.cl_model.specs.Machine.{Setting, Scheduled, Step, Define, Initiate, Constrain, Settle, Prepare, Post, NextRound, Stray, IsPlan, Answers, MaySay, MayAnswer, May, after, state_after, Run, IsClosed}
 use Rattle.cl_model.specs.Tables.{Records, Bears, BearsAnswer, Allows, Orderly, IsTrusted, NoneTwice, NoneAgain, IsConsistent, Stands}
 use Rattle.cl_model.proofs.Bind.{some_same, ok_same, ok_not_err, step_is}
 use Rattle.cl_model.proofs.Derived.{load_ok}
@@ -20,7 +20,7 @@ use Rattle.cl_model.proofs.Closed.{closed_after, start_closed, own_moved}
 use Rattle.cl_model.proofs.Looks.{load_stands, unmet_is_fresh}
 use Rattle.cl_model.proofs.Progress.{met_split, derive_records, load_records}
 use Rattle.cl_model.proofs.Trees.{derive_gives}
-use Rattle.cl_model.proofs.Reached.{IsReached, reached, then_some, map_is}
+use Rattle.cl_model.proofs.Reached.{reached, then_some, map_is}
 use Rattle.cl_model.proofs.Sound.{posted_stay}
 
 -- ---- steps that are allowed keep tables consistent

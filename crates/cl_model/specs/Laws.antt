@@ -1,5 +1,5 @@
 -- Laws of the definitions (JVMS SE 8, 5.3 to 5.4.5): each is the contract of a function without a body.
-use Rattle.std.specs.Prelude.{◌≡◌, ℕ, suc, ◌+◌, true, false, List, [], ◌∷◌, ◌++◌, length, Some, None, Ok, Err, ◌⊎◌, ◌↔◌, Contains, Option, slice_get, ◌≢◌, find}
+use Rattle.std.specs.Prelude.{◌≡◌, ℕ, suc, ◌+◌, true, false, List, [], ◌∷◌, ◌++◌, length, Some, None, Ok, Err, ◌⊎◌, ◌↔◌, Contains, Option, slice_get, ◌≢◌, ◌≤◌, find}
 use Rattle.cl_classfile.specs.Files.{Name, File, Key, same_key}
 use Rattle.cl_model.specs.Homes.{World, home, is_loader}
 use Rattle.cl_model.specs.Probes.{probes, has_own, EachOnce}
@@ -9,9 +9,10 @@ use Rattle.cl_model.specs.Classes.{class, is_among, Above, AtHome, supers, Error
 use Rattle.cl_model.specs.Lineages.{Kin, IsLineage, classes, lineage}
 use Rattle.cl_model.specs.Ancestors.{EachClassOnce, SupersFirst}
 use Rattle.cl_model.specs.Works.{Made}
-use Rattle.cl_model.specs.Plans.{derive, load, Load, Request, Plan, Resolve, Link, loaded_by, needs_of}
+use Rattle.cl_model.specs.Plans.{derive, load, Load, Request, Plan, Resolve, Link, loaded_by, needs_of, cost}
 use Rattle.cl_model.specs.States.{State, start, Entry, IsClass, Answer, settled_to, answer_to, IsFresh, Clashes, added, Need, Verdict, recorded, Violated, Met, AllMet, IsRecorded, IsLinked, BadEntry, ArrayMember, MayAdd, Said, Wrong, Linkage, IsNext}
-use Rattle.cl_model.specs.Chains.{ReadsPlain, Waiting, first_or, stands_in, IsChain, NoneWaitsTwice, absent_of, EndsAtOnce}
+use Rattle.cl_model.specs.Ascents.{ReadsPlain, Waiting, first_or, stands_in, IsAscent, NoneWaitsTwice, absent_of, EndsAtOnce}
+use Rattle.cl_model.specs.Progress.{Takes}
 use Rattle.cl_model.specs.Service.{IsNextNeed, IsNextStep, ComesTo, MayEnd, IsBegun, Serves, PassesRounds, AllServed}
 use Rattle.cl_model.specs.Machine.{Setting, Scheduled, Step, Post, Settle, Prepare, May, state_after, Run, Answers, IsClosed, IsSound, after, AnswersPlan, AnswersReference, MaySay, IsPlan, HasLineage, IsResolution, Define, step_for}
 use Rattle.std.specs.List.{AllByRecursion}
@@ -298,6 +299,10 @@ LoadComes = (g : Setting) (s : State) (loader : ℕ) (name : Name) (v : Verdict)
 abbrev pub ResolutionComes : Type 0
 ResolutionComes = (g : Setting) (s : State) (loader : ℕ) (name : Name) (i : ℕ) (v : Verdict) → MaySay g s (Resolve loader name i) v → ComesTo g s (Resolve loader name i) v
 
+-- whatever else happens, so many steps of a request's service, and its post, are within its cost (own choice)
+abbrev pub ServiceWithinCost : Type 0
+ServiceWithinCost = (g : Setting) (r : Request) (p : Plan) (n : ℕ) (s : State) (es : List Step) → IsPlan g.world r p → Takes g r n s es → n + 1 ≤ cost g.world p
+
 -- services go on by that of the next request, and by the rounds that begin after it (own choice)
 abbrev pub ServicesGoOn : Type 0
 ServicesGoOn =
@@ -306,23 +311,23 @@ ServicesGoOn =
 
 -- where a superclass is recorded, the record of the class that waits for it is the need that comes next (5.3.5, step 3)
 abbrev pub WaitingIsNext : Type 0
-WaitingIsNext = (w : World) (s : State) (l : ℕ) (xs : List Waiting) (x : Waiting) (at : Name) → ReadsPlain w → IsClosed w s → IsRecorded s (class at l) → IsChain w l (xs ++ x ∷ []) at → IsNextNeed w s (Load l (first_or xs x.name)) (Entry l x.name l)
+WaitingIsNext = (w : World) (s : State) (l : ℕ) (xs : List Waiting) (x : Waiting) (at : Name) → ReadsPlain w → IsClosed w s → IsRecorded s (class at l) → IsAscent w l (xs ++ x ∷ []) at → IsNextNeed w s (Load l (first_or xs x.name)) (Entry l x.name l)
 
 -- where what is looked for has no superclass, its own record is the need that comes next (5.3.5, step 3)
 abbrev pub RootIsNext : Type 0
-RootIsNext = (w : World) (s : State) (l : ℕ) (xs : List Waiting) (at : Name) (f : File) → ReadsPlain w → IsChain w l xs at → HasFile w (class at l) f → f.super_name ≡ None → IsNextNeed w s (Load l (first_or xs at)) (Entry l at l)
+RootIsNext = (w : World) (s : State) (l : ℕ) (xs : List Waiting) (at : Name) (f : File) → ReadsPlain w → IsAscent w l xs at → HasFile w (class at l) f → f.super_name ≡ None → IsNextNeed w s (Load l (first_or xs at)) (Entry l at l)
 
 -- where what is looked for has no home, the load ends at once: the request's own class is not found, another not defined (5.3.1, 5.3.5)
 abbrev pub MissingStops : Type 0
-MissingStops = (w : World) (l : ℕ) (xs : List Waiting) (at : Name) → IsChain w l xs at → NoneWaitsTwice xs → home w l at ≡ None → EndsAtOnce w (Load l (first_or xs at)) (Wrong (absent_of xs (class at l)))
+MissingStops = (w : World) (l : ℕ) (xs : List Waiting) (at : Name) → IsAscent w l xs at → NoneWaitsTwice xs → home w l at ≡ None → EndsAtOnce w (Load l (first_or xs at)) (Wrong (absent_of xs (class at l)))
 
 -- where the bytes of what is looked for are not its class, the load ends at once in what is wrong with them (5.3.5, step 2)
 abbrev pub FaultyStops : Type 0
-FaultyStops = (w : World) (l : ℕ) (xs : List Waiting) (at : Name) (e : Error) → IsChain w l xs at → NoneWaitsTwice xs → stands_in xs at ≡ false → home w l at ≡ Some l → file_of w (class at l) ≡ Err e → EndsAtOnce w (Load l (first_or xs at)) (Wrong e)
+FaultyStops = (w : World) (l : ℕ) (xs : List Waiting) (at : Name) (e : Error) → IsAscent w l xs at → NoneWaitsTwice xs → stands_in xs at ≡ false → home w l at ≡ Some l → file_of w (class at l) ≡ Err e → EndsAtOnce w (Load l (first_or xs at)) (Wrong e)
 
 -- where what is looked for waits already, the load ends at once in the circle, with it as its subject (5.3.5, step 3)
 abbrev pub CircleStops : Type 0
-CircleStops = (w : World) (l : ℕ) (xs : List Waiting) (at : Name) → IsChain w l xs at → NoneWaitsTwice xs → stands_in xs at ≡ true → EndsAtOnce w (Load l (first_or xs at)) (Wrong (ClassCircularity (class at l)))
+CircleStops = (w : World) (l : ℕ) (xs : List Waiting) (at : Name) → IsAscent w l xs at → NoneWaitsTwice xs → stands_in xs at ≡ true → EndsAtOnce w (Load l (first_or xs at)) (Wrong (ClassCircularity (class at l)))
 
 -- a request whose plan ends at once is answered so in every state (5.3.5)
 abbrev pub AnswersAtOnce : Type 0

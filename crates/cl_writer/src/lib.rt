@@ -13,7 +13,7 @@ mod making;
 mod statement;
 mod writing;
 
-pub use assembling::assemble;
+pub use assembling::{assemble, assemble_with_hasher};
 pub use fault::{AssembleFault, WriteFault};
 pub use laws::{assembles_to_one_answer, says_one_thing};
 pub use listings::listing;

@@ -1,6 +1,6 @@
 use Rattle.cl_writer.specs.Assemblies.{lists_of}
 use Rattle.cl_writer.proofs.Described.{too_many, faulty, made}
-use Rattle.cl_writer.proofs.assembling.assemble.Goals as goal
+use Rattle.cl_writer.proofs.assembling.assemble_with_hasher.Goals as goal
 
 pub returns-then-as_slice-gt-MOST_ENTRIES : goal.returns-then-as_slice-gt-MOST_ENTRIES
 returns-then-as_slice-gt-MOST_ENTRIES c =

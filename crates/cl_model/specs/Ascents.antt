@@ -1,4 +1,4 @@
--- Superclass chains at one loader: what waits for its superclass while a class is derived (JVMS SE 8, 5.3.5).
+-- Ascents from class to superclass at one loader: what waits for its superclass while a class is derived (JVMS SE 8, 5.3.5).
 use Rattle.std.specs.Prelude.{◌≡◌, ℕ, Bool, true, false, ◌||◌, List, [], ◌∷◌, Some, Ok}
 use Rattle.cl_classfile.specs.Files.{Name, File, same_name, is_public, is_interface}
 use Rattle.cl_model.specs.Homes.{World}
@@ -39,9 +39,9 @@ pub record IsLink (w : World) (loader : ℕ) (x : Waiting) (above : Name) : Type
   pub superclass : x.file.super_name ≡ Some above
 
 -- each class of the loader has the next as its superclass, and the last the name that is looked for (5.3.5, step 3)
-abbrev pub IsChain : World → ℕ → List Waiting → Name → Type 0
-IsChain w loader [] at = Unit {0}
-IsChain w loader (x ∷ xs) at = IsLink w loader x (first_or xs at) × IsChain w loader xs at
+abbrev pub IsAscent : World → ℕ → List Waiting → Name → Type 0
+IsAscent w loader [] at = Unit {0}
+IsAscent w loader (x ∷ xs) at = IsLink w loader x (first_or xs at) × IsAscent w loader xs at
 
 -- no class waits twice (5.3.5, step 3: a class is not its own superclass)
 abbrev pub NoneWaitsTwice : List Waiting → Type 0

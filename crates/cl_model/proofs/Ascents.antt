@@ -1,4 +1,4 @@
--- The plan of a load whose class stands under a chain of superclasses: what is looked for, and then the chain from its end.
+-- The plan of a load whose class stands under an ascent: what is looked for, and then the ascent from its end.
 use Rattle.std.proofs.Common.{◌≡◌, inl, inr, ℕ, zero, suc, Bool, true, false, ◌||◌, not, if◌then◌else◌, List, [], ◌∷◌, ◌++◌, map, Option, Some, None, Result, Ok, Err, refl, sym, ap, subst, ◌∙◌, append_assoc}
 use Rattle.std.specs.Prelude.{option_to_list, filter_map}
 use Rattle.std.specs.List.{AllByRecursion}
@@ -15,7 +15,7 @@ use Rattle.cl_model.specs.Works.{Work, Made}
 use Rattle.cl_model.specs.Plans.{initiating, loads_above, derive, load, Load, Plan, needs_of}
 use Rattle.cl_model.specs.Machine.{IsPlan, IsClosed}
 use Rattle.cl_model.specs.Service.{IsNextNeed}
-use Rattle.cl_model.specs.Chains.{IsPlain, ReadsPlain, Waiting, first_or, IsLink, IsChain}
+use Rattle.cl_model.specs.Ascents.{IsPlain, ReadsPlain, Waiting, first_or, IsLink, IsAscent}
 use Rattle.cl_model.proofs.Bind.{step_is, ok_not_err}
 use Rattle.cl_model.proofs.Derived.{IsLoad, load_ok, above_ok, IsNew, derive_ok}
 use Rattle.cl_model.proofs.Obstacles.{load_err}
@@ -43,7 +43,7 @@ found_plain w plain c (Some bytes) f h = read_plain c (w.read bytes) f (plain by
 pub file_plain : (w : World) → ReadsPlain w → (c : Class) (f : File) → HasFile w c f → IsPlain f
 file_plain w plain c f h = found_plain w plain c (bytes_of w c) f h
 
--- ---- chains
+-- ---- ascents
 
 pub append_nil : {A : Type 0} (xs : List A) → xs ++ [] ≡ xs
 append_nil [] = refl
@@ -53,16 +53,16 @@ pub first_push : (xs : List Waiting) (x : Waiting) (at : Name) → first_or (xs 
 first_push [] x at = refl
 first_push (y ∷ ys) x at = refl
 
-pub chain_push : (w : World) (l : ℕ) (xs : List Waiting) (x : Waiting) (at : Name) → IsChain w l xs x.name → IsLink w l x at → IsChain w l (xs ++ x ∷ []) at
-chain_push w l [] x at c k = (k, tt)
-chain_push w l (y ∷ ys) x at c k = (subst (λ (n : Name). IsLink w l y n) (sym (first_push ys x at)) c.0, chain_push w l ys x at c.1 k)
+pub ascent_push : (w : World) (l : ℕ) (xs : List Waiting) (x : Waiting) (at : Name) → IsAscent w l xs x.name → IsLink w l x at → IsAscent w l (xs ++ x ∷ []) at
+ascent_push w l [] x at c k = (k, tt)
+ascent_push w l (y ∷ ys) x at c k = (subst (λ (n : Name). IsLink w l y n) (sym (first_push ys x at)) c.0, ascent_push w l ys x at c.1 k)
 
-pub chain_pop : (w : World) (l : ℕ) (xs : List Waiting) (x : Waiting) (at : Name) → IsChain w l (xs ++ x ∷ []) at → IsChain w l xs x.name × IsLink w l x at
-chain_pop w l [] x at c = (tt, c.0)
-chain_pop w l (y ∷ ys) x at c = let r = chain_pop w l ys x at c.1 in ((subst (λ (n : Name). IsLink w l y n) (first_push ys x at) c.0, r.0), r.1)
+pub ascent_pop : (w : World) (l : ℕ) (xs : List Waiting) (x : Waiting) (at : Name) → IsAscent w l (xs ++ x ∷ []) at → IsAscent w l xs x.name × IsLink w l x at
+ascent_pop w l [] x at c = (tt, c.0)
+ascent_pop w l (y ∷ ys) x at c = let r = ascent_pop w l ys x at c.1 in ((subst (λ (n : Name). IsLink w l y n) (first_push ys x at) c.0, r.0), r.1)
 
--- what a class waits for is at home, where the end of the chain is
-pub home_first : (w : World) (l : ℕ) (xs : List Waiting) (at : Name) → IsChain w l xs at → home w l at ≡ Some l → home w l (first_or xs at) ≡ Some l
+-- what a class waits for is at home, where the end of the ascent is
+pub home_first : (w : World) (l : ℕ) (xs : List Waiting) (at : Name) → IsAscent w l xs at → home w l at ≡ Some l → home w l (first_or xs at) ≡ Some l
 home_first w l [] at c h = h
 home_first w l (x ∷ xs) at c h = file_at_home w (class x.name l) x.file c.0.has_file
 
@@ -82,7 +82,7 @@ none_beside f h = rw h refl
 supers_two : (f : File) (xs : List Above) → superclass_of f ≡ xs → superinterfaces_of f ≡ [] → supers f ≡ xs ++ []
 supers_two f xs h k = ap (λ (ys : List Above). ys ++ superinterfaces_of f) h ∙ ap (λ (ys : List Above). xs ++ ys) k
 
--- ---- what is under a good class by a chain is good
+-- ---- what is under a good class by an ascent is good
 
 fits_if : (a p i : Bool) (x y : Option Error) → a ≡ true → i ≡ false → (if a || p then (if not i then None else x) else y) ≡ None
 fits_if true p false x y h k = refl
@@ -99,7 +99,7 @@ plain_fits w plain n c s g =
     let p = file_plain w plain s f.0 f.1 in
     record { file = f.0; has_file = f.1; judged = fits_if (is_public f.0.flags) _ (is_interface f.0) _ _ p.public p.of_class }
 
-pub good_up : (w : World) (l : ℕ) → ReadsPlain w → (xs : List Waiting) (at : Name) → IsChain w l xs at → home w l at ≡ Some l → IsGood w (class at l) → IsGood w (class (first_or xs at) l)
+pub good_up : (w : World) (l : ℕ) → ReadsPlain w → (xs : List Waiting) (at : Name) → IsAscent w l xs at → home w l at ≡ Some l → IsGood w (class at l) → IsGood w (class (first_or xs at) l)
 good_up w l plain [] at c h g = g
 good_up w l plain (x ∷ xs) at c h g =
     let above = first_or xs at in
@@ -115,9 +115,9 @@ good_up w l plain (x ∷ xs) at c h g =
       ),
     )
 
--- ---- what a derivation along a chain needs
+-- ---- what a derivation along an ascent needs
 
--- the records of the classes of a chain, from its end
+-- the records of the classes of an ascent, from its end
 abbrev pub entries : ℕ → List Waiting → List Need
 entries l [] = []
 entries l (x ∷ xs) = entries l xs ++ Entry l x.name l ∷ []
@@ -166,7 +166,7 @@ step_down w d c f above m k hf sup alone at new =
           (own_record c.loader one.load.place above place);
     }
 
--- what is looked for is derived, and then the chain is recorded
+-- what is looked for is derived, and then the ascent is recorded
 pub record IsReached (w : World) (l : ℕ) (xs : List Waiting) (at : Name) (needs : List Need) : Type 0 where
   pub height : ℕ
   pub path : List Class
@@ -176,7 +176,7 @@ pub record IsReached (w : World) (l : ℕ) (xs : List Waiting) (at : Name) (need
   pub ends : below.ends ≡ Ok kin
   pub split : needs ≡ below.needs ++ entries l xs
 
-walk_down : (w : World) (l : ℕ) → ReadsPlain w → (xs : List Waiting) (at : Name) → IsChain w l xs at → home w l at ≡ Some l → (n : ℕ) (path : List Class) (m : Made Kin) (k : Kin) → derive w n path (class (first_or xs at) l) ≡ Some m → m.ends ≡ Ok k → IsReached w l xs at m.needs
+walk_down : (w : World) (l : ℕ) → ReadsPlain w → (xs : List Waiting) (at : Name) → IsAscent w l xs at → home w l at ≡ Some l → (n : ℕ) (path : List Class) (m : Made Kin) (k : Kin) → derive w n path (class (first_or xs at) l) ≡ Some m → m.ends ≡ Ok k → IsReached w l xs at m.needs
 walk_down w l plain [] at c h n path m k made ends = record { height = n; path = path; below = m; kin = k; made = made; ends = ends; split = sym (append_nil m.needs) }
 walk_down w l plain (x ∷ xs) at c h zero path m k made ends = absurd cc
 walk_down w l plain (x ∷ xs) at c h (suc n) path m k made ends =
@@ -220,8 +220,8 @@ load_well w n l absent name m h good e =
           absurd (ok_not_err y z i.below.ends (ap (λ (u : Made Kin). u.ends) (one_derivation w n good.0 [] (class name l) i.below x made p) ∙ q) i.ends)
     ]
 
--- the plan of a load along a chain
-pub record IsChainPlan (w : World) (l : ℕ) (xs : List Waiting) (at : Name) : Type 0 where
+-- the plan of a load along an ascent
+pub record IsAscentPlan (w : World) (l : ℕ) (xs : List Waiting) (at : Name) : Type 0 where
   pub plan : Plan
   pub planned : IsPlan w (Load l (first_or xs at)) plan
   pub reached : IsReached w l xs at (needs_of plan)
@@ -230,8 +230,8 @@ pub record IsChainPlan (w : World) (l : ℕ) (xs : List Waiting) (at : Name) : T
 needs_alone : (d below init : List Need) → d ≡ below ++ (init ++ []) → init ≡ [] → d ++ [] ≡ below
 needs_alone d below init h i = append_nil d ∙ h ∙ ap (λ (x : List Need). below ++ (x ++ [])) i ∙ append_nil below
 
-pub chain_plan : (w : World) (l : ℕ) → ReadsPlain w → (xs : List Waiting) (at : Name) → IsChain w l xs at → IsGood w (class at l) → home w l at ≡ Some l → IsChainPlan w l xs at
-chain_plan w l plain xs at c good h =
+pub ascent_plan : (w : World) (l : ℕ) → ReadsPlain w → (xs : List Waiting) (at : Name) → IsAscent w l xs at → IsGood w (class at l) → home w l at ≡ Some l → IsAscentPlan w l xs at
+ascent_plan w l plain xs at c good h =
     let root = first_or xs at in
     let own = home_first w l xs at c h in
     let d = load_done w (derive w (enough w) []) (derive_enough w) ClassNotFound l root in
@@ -253,9 +253,9 @@ next_in s [] n others met = inl refl
 next_in s (m ∷ before) n others met = inr (met.0, next_in s before n others met.1)
 
 -- where a superclass is recorded, the record of the class that waits for it is next
-pub next_waiting : (w : World) (s : State) (l : ℕ) (xs : List Waiting) (x : Waiting) (at : Name) → ReadsPlain w → IsClosed w s → IsRecorded s (class at l) → IsChain w l (xs ++ x ∷ []) at → IsNextNeed w s (Load l (first_or xs x.name)) (Entry l x.name l)
+pub next_waiting : (w : World) (s : State) (l : ℕ) (xs : List Waiting) (x : Waiting) (at : Name) → ReadsPlain w → IsClosed w s → IsRecorded s (class at l) → IsAscent w l (xs ++ x ∷ []) at → IsNextNeed w s (Load l (first_or xs x.name)) (Entry l x.name l)
 next_waiting w s l xs x at plain closed here c =
-    let p = chain_plan w l plain (xs ++ x ∷ []) at c (closed.good (class at l) here) (closed.homes l l at here) in
+    let p = ascent_plan w l plain (xs ++ x ∷ []) at c (closed.good (class at l) here) (closed.homes l l at here) in
     let r = p.reached in
     let split : needs_of p.plan ≡ r.below.needs ++ (Entry l x.name l ∷ entries l xs) = r.split ∙ ap (λ (ns : List Need). r.below.needs ++ ns) (entries_push l xs x) in
     record {
@@ -278,11 +278,11 @@ root_needs w (suc n) path c f m k h none alone made ends =
     step.needs ∙ new.needs ∙ ap (λ (ns : List Need). ns ++ (new.over.needs ++ Entry c.loader c.name c.loader ∷ [])) up ∙ ap (λ (ns : List Need). ns ++ Entry c.loader c.name c.loader ∷ []) over
 
 -- where what is looked for has no superclass, its own record is next
-pub next_root : (w : World) (s : State) (l : ℕ) (xs : List Waiting) (at : Name) (f : File) → ReadsPlain w → IsChain w l xs at → HasFile w (class at l) f → f.super_name ≡ None → IsNextNeed w s (Load l (first_or xs at)) (Entry l at l)
+pub next_root : (w : World) (s : State) (l : ℕ) (xs : List Waiting) (at : Name) (f : File) → ReadsPlain w → IsAscent w l xs at → HasFile w (class at l) f → f.super_name ≡ None → IsNextNeed w s (Load l (first_or xs at)) (Entry l at l)
 next_root w s l xs at f plain c h none =
     let t = class at l in
     let alone = (file_plain w plain t f h).alone in
-    let p = chain_plan w l plain xs at c (good_root w t f h none alone) (file_at_home w t f h) in
+    let p = ascent_plan w l plain xs at c (good_root w t f h none alone) (file_at_home w t f h) in
     let r = p.reached in
     let split : needs_of p.plan ≡ Entry l at l ∷ entries l xs = r.split ∙ ap (λ (ns : List Need). ns ++ entries l xs) (root_needs w r.height r.path t f r.below r.kin h none alone r.made r.ends) in
     record { plan = p.plan; planned = p.planned; next = subst (λ (ns : List Need). IsNext s ns (Entry l at l)) (sym split) (inl refl) }

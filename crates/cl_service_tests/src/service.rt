@@ -1,14 +1,14 @@
-//! Scripts served over a source in memory. A body that gives up on every request passes no line of these.
+//! Scripts served over a source of which a read fails. A body that gives up on every request passes no line of these.
+
 ghost use Rattle.std.specs.Prelude.{length, All};
 ghost use Rattle.cl_model.specs.Texts.{AnswerNames, EventNames};
 
-use crate::serve_one;
 use cl_config::{Config, Script};
-use cl_model::{Answer, Event, LoaderId, Request, Untold};
+use cl_model::{Event, LoaderId, Untold};
 use cl_names::Name;
 use cl_registry::Report;
-use cl_source::{FaultySource, MemorySource, Source, SourceFault, Telling};
-use cl_tasks::{Reply, Task, Turn};
+use cl_schedule::serve_one;
+use cl_source::{FaultySource, MemorySource, Source, Telling};
 use std::alloc::{AllocError, Global};
 use std::sync::Arc;
 use std::test::Fail;
@@ -39,7 +39,7 @@ fn put(
     put.map_err(|_| AllocError)
 }
 
-/// `p/B` over `p/A` over `java/lang/Object`; `p/X` over `p/Y` over `p/X`; `p/W` over `p/X`; `p/V` over nothing that is there.
+/// `p/B` over `p/A` over `java/lang/Object`.
 fn classes(alloc: Global) -> Result<Telling<Untold>, AllocError> {
     let mut source = MemorySource::new(alloc);
     put(
@@ -55,10 +55,6 @@ fn classes(alloc: Global) -> Result<Telling<Untold>, AllocError> {
             b"\x10java/lang/Object".as_slice(),
         ),
         (b"p/B", b"\x03p/B", b"\x03p/A"),
-        (b"p/V", b"\x03p/V", b"\x03p/Z"),
-        (b"p/W", b"\x03p/W", b"\x03p/X"),
-        (b"p/X", b"\x03p/X", b"\x03p/Y"),
-        (b"p/Y", b"\x03p/Y", b"\x03p/X"),
     ] {
         put(alloc, &mut source, name, file(alloc, own, above)?)?;
     }
@@ -106,20 +102,6 @@ fn served<S: Source<Untold>>(
     lines(alloc, &report, loaders.names())
 }
 
-#[test]
-fn chains_and_circles(rt: HostRuntime) -> Result<(), Fail> {
-    let alloc = rt.alloc();
-    let mut source = classes(alloc)?;
-    let script =
-        "load boot p/X\nload boot p/W\nload boot p/V\nload boot p/B\nload boot p/Z\nload boot p/Y\nload boot p/A";
-    let want = "define java/lang/Object@boot\ndefine p/A@boot\ndefine p/B@boot\n\
-        1 ClassCircularityError p/X@boot\n2 ClassCircularityError p/X@boot\n3 NoClassDefFoundError p/Z@boot\n\
-        4 class p/B@boot\n5 ClassNotFoundException p/Z@boot\n6 ClassCircularityError p/Y@boot\n7 class p/A@boot\n";
-    let lines = served(alloc, &mut source, script)?;
-    assert_eq!(rt; lines.as_str(), want);
-    Ok(())
-}
-
 /// A read that fails is the answer of its request alone: no class is missing for it, and what is asked again is found.
 #[test]
 fn each_read_fails_once(rt: HostRuntime) -> Result<(), Fail> {
@@ -143,65 +125,5 @@ fn each_read_fails_once(rt: HostRuntime) -> Result<(), Fail> {
         assert_eq!(rt; lines.as_str(), want.as_str(), "at {at}");
         assert_eq!(rt; source.failures(), u64::from(0 < at && at < 6), "at {at}");
     }
-    Ok(())
-}
-
-/// A task over one loader, for a load of `p/A`.
-fn task(alloc: Global) -> Result<Task<Untold>, AllocError> {
-    let Ok(config) = Config::read(alloc, "[[loader]]\nname = \"boot\"\n") else {
-        return Err(AllocError);
-    };
-    let config = Arc::new(alloc, config)?;
-    let _ = config.count();
-    let name = Name::class(alloc, b"p/A").map_err(|_| AllocError)?;
-    let task = Task::<Untold>::new(alloc, config, 0, Request::Load(LoaderId(0), name));
-    task.map_err(|_| AllocError)
-}
-
-/// What a task does with a reply.
-#[derive(Clone, Copy, Debug, PartialEq, Eq)]
-enum Does {
-    ExpectsAnother,
-    Looks,
-    Reads,
-    BlamesSource,
-    Else,
-}
-
-fn told(alloc: Global, task: &mut Task<Untold>, reply: Reply<Untold>) -> Does {
-    if !task.expects(&reply) {
-        return Does::ExpectsAnother;
-    }
-    match task.turn(alloc, reply) {
-        Turn::Look(LoaderId(0), _) => Does::Looks,
-        Turn::Read(LoaderId(0), _) => Does::Reads,
-        Turn::Post(finding) => match finding.answer() {
-            Answer::SourceFault(_, LoaderId(0)) => Does::BlamesSource,
-            _ => Does::Else,
-        },
-        _ => Does::Else,
-    }
-}
-
-#[test]
-fn replies_are_expected_in_turn(rt: HostRuntime) -> Result<(), Fail> {
-    let alloc = rt.alloc();
-    let mut task = task(alloc)?;
-    let fault = SourceFault::Device;
-    assert_eq!(rt;
-        told(alloc, &mut task, Reply::Looked(None)),
-        Does::ExpectsAnother
-    );
-    assert_eq!(rt; told(alloc, &mut task, Reply::Start), Does::Looks);
-    assert_eq!(rt;
-        told(alloc, &mut task, Reply::SourceFault(fault)),
-        Does::ExpectsAnother
-    );
-    assert_eq!(rt; told(alloc, &mut task, Reply::Looked(None)), Does::Reads);
-    assert_eq!(rt;
-        told(alloc, &mut task, Reply::SourceFault(fault)),
-        Does::BlamesSource
-    );
-    assert_eq!(rt; told(alloc, &mut task, Reply::Memory), Does::ExpectsAnother);
     Ok(())
 }

@@ -50,13 +50,17 @@ class Crate:
     of_kit: object
     name: str = ""
     folder: str = ""
+    texts: dict = field(default_factory=dict)
 
     def __post_init__(self):
         self.name, self.folder = self.of_kit.name, self.of_kit.folder
 
     def text(self, path):
-        with open(f"{self.folder}/{path}", encoding="utf-8") as file:
-            return file.read()
+        """The text of a file, as it was when it was first asked for: edits are made to what they were read against."""
+        if path not in self.texts:
+            with open(f"{self.folder}/{path}", encoding="utf-8") as file:
+                self.texts[path] = file.read()
+        return self.texts[path]
 
 
 def crates(root):
@@ -67,6 +71,11 @@ def crates(root):
 def guard():
     """Has all that is started later end with this process. Only the main thread may call it first."""
     rtlib.guarded()
+
+
+def lock(crates):
+    """Waits until no other rt works on the crates and what is below them, and keeps others out while what it returns is held."""
+    return rtlib.lock({it.folder: it for crate in crates for it in [*crate.of_kit.below(), crate.of_kit]}.values())
 
 
 def build_libraries(crate, is_after_ci):
@@ -115,18 +124,18 @@ class Checked:
     def unread(self, wanted):
         """Why the copy was not read, or says nothing of the wanted functions; '' where it was and does."""
         if self.status < 0:
-            return f"the check was ended by signal {-self.status}, most likely for memory"
+            return f"NOT TOLD: the check was ended by signal {-self.status}, most likely for memory"
         lines = self.text.split("\n")
         # (an edit of src/ or specs/ that the prover cannot read is no wrong body)
         found = next((it for it in lines if rt.unread(it, self.changed)), "")
         if found:
-            return f"the prover cannot read it: {found}"
+            return f"BAD EDIT: the prover cannot read it: {found}"
         if rtlib.STALE.search(self.text):
-            return "the kept work of a library cannot be used"
+            return "NOT TOLD: the kept work of a library cannot be used"
         if all(it in self.said for it in wanted):
             return ""
         found = next((it for it in lines if re.match(r"(error|rattle:)|\S+: error", it)), "") or self.text[:160]
-        return f"it does not compile: {found.strip()}"
+        return f"{'NOT TOLD: the check did not run' if found.startswith('rattle:') else 'BAD EDIT: it does not compile'}: {found.strip()}"
 
 
 def check(crate, texts, functions=(), kept=None, limit=3600, is_whole=False):

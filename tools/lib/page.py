@@ -1,7 +1,7 @@
 """The page of wrong bodies, made from the edits: for each crate its public functions, each with the edits that turn it.
 
 What a wrong body does stands in the edit's line `says:`. A public function whose type leaves no other answer stands in
-crates/NAME/wrong/none.txt, a line `LABEL: why` for each.
+crates/NAME/wrong/none.txt, a line `LABEL: why` for each; a line `*: why` there says that the crate needs no wrong bodies.
 """
 import os
 import re
@@ -30,7 +30,7 @@ def without_edit(crate):
 
 def turned(edit, public):
     """The public function that the edit turns and the private one where it does so; '' for the first where no public one is named."""
-    held = [public.get(it, label(it)) for it in edit.holders] or [path for path, _ in edit.outside[:1]]
+    held = [public.get(it, label(it)) for it in edit.holders] or [path for path, _ in edit.outside[:1]] or ["what cannot be applied"]
     if edit.turns:
         return edit.turns, "" if edit.turns in held else held[0]
     return (held[0], "") if held[0] in public.values() else ("", held[0])
@@ -40,7 +40,7 @@ def lacking(crate):
     """The public functions of the crate with no edit, and no reason why there is none."""
     public = labels(crate.folder)
     told = {turned(edit, public)[0] for edit in of_crate(crate, FOLDERS)[0]} | {*without_edit(crate)}
-    return [it for it in dict.fromkeys(public.values()) if it not in told]
+    return [it for it in dict.fromkeys(public.values()) if it not in told and "*" not in told]
 
 
 def of_one(crate):
@@ -58,10 +58,12 @@ def of_one(crate):
             rows.setdefault(function, []).append((where, f"`{name}`", edit.says or edit.name.replace("_", " ")))
         else:
             further.setdefault(place, []).append(f"{name}{f' ({edit.says})' if edit.says else ''}")
+    lines = ["", f"## {crate.name}", ""]
+    if "*" in reasons:
+        lines += [f"None: {reasons.pop('*')}.", ""]
     for function, why in reasons.items():
         rows.setdefault(function, []).append((f"`{function}`", "none", why))
     order = [*dict.fromkeys(public.values()), *sorted(it for it in rows if it not in public.values())]
-    lines = ["", f"## {crate.name}", ""]
     if rows:
         lines += ["| public function | edit | what the wrong body does |", "|---|---|---|"]
         lines += [f"| {' | '.join(it)} |" for function in order for it in rows.get(function, [])]

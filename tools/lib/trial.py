@@ -108,7 +108,8 @@ class Trial:
         """Tries a group and returns those of its edits that have to be tried again. Where it has to be parted, its halves wait."""
         functions = {name for edit in group for name in edit.functions}
         checked = self.check(together(group), functions, LOADING_SECONDS + EDIT_SECONDS * len(group))
-        why = "it takes too long" if checked.is_late else checked.unread(functions)
+        late = f"TOO LONG: no answer after {checked.seconds:.0f} seconds of processor"
+        why = late if checked.is_late else checked.unread(functions)
         if not why and len(group) > 1:
             why = self.disturbed(group, functions, checked)
         if why and len(group) > 1:
@@ -116,8 +117,7 @@ class Trial:
             waiting += [group[:half], group[half:]]
             return []
         if why:
-            late = f"TOO LONG: no answer after {checked.seconds:.0f} seconds of processor"
-            self.fail(group[0], late if checked.is_late else f"BAD EDIT: {why}")
+            self.fail(group[0], why)
             return []
         return [it for it in group if not self.tell(it, checked, len(group) == 1)]
 
@@ -178,7 +178,7 @@ def try_crate(crate, edits, log):
 def try_all(crates, log=None, only=(), lanes=None, verbose=False, folders=("wrong",)):
     """Tries the edits of the crates side by side, says of each crate what was told, and returns that in the order of the crates."""
     kit.guard()
-    work, failed, printing = [], [], threading.Lock()
+    work, failed, printing, held = [], [], threading.Lock(), kit.lock(crates)
     for crate in crates:
         edits, stray = of_crate(crate, folders)
         failed += [f"{it}: only edits, FILE.edit, and none.txt stand here" for it in stray]
@@ -208,6 +208,8 @@ def try_all(crates, log=None, only=(), lanes=None, verbose=False, folders=("wron
     work.sort(key=lambda it: -len(it[1]) * it[0].of_kit.count(rb"\n"))
     with ThreadPoolExecutor(lanes or kit.lanes()) as pool:
         tolds = [*pool.map(one, work)]
+    for it in held:
+        os.close(it)
     for why in failed:
         print(f"FAILED: {why}")
     return tolds, failed

@@ -105,8 +105,10 @@ def make(rows):
             rows.ask("form", word(bytes(letters)), form_answer(bytes(letters)))
     rows.about("Field descriptors, and texts that are none.")
     for text in (
-        b"B", b"C", b"D", b"F", b"I", b"J", b"S", b"Z", b"[[J", b"Ljava/lang/Object;", b"[Lp/A;", b"", b"V", b"[", b"[V", b"II",
-        b"Lp/A", b"L;", b"Lp//A;", b"Lp.A;", b"L[I;", b"Lp/A;I", b"()V", b"Lp/\xc3\xa9;", b"L\xff;", b"L\xc1\x81;", b"L/;", b"Lp/;",
+        b"B", b"C", b"D", b"F", b"I", b"J", b"S", b"Z", b"[[J", b"Ljava/lang/Object;", b"[Lp/A;", b"", b"V", b"[",
+        b"[V", b"II",
+        b"Lp/A", b"L;", b"Lp//A;", b"Lp.A;", b"L[I;", b"Lp/A;I", b"()V", b"Lp/\xc3\xa9;", b"L\xff;", b"L\xc1\x81;",
+        b"L/;", b"Lp/;",
         b"L<init>;", b"[[[[D", b"(D)V", b"(J[J)I", b"(I", b"IV", b"VI", b"L p;", b" I", b"I ", b"l;", b"Lp/A;;",
     ):
         ask_all(rows, text)
@@ -119,8 +121,10 @@ def make(rows):
                 rows.ask("method", word(data), method_answer(data))
     rows.about("Texts that are no method descriptor.")
     for text in (
-        b"(I", b"(I)", b"(V)V", b"()VV", b"()[V", b"I)V", b"(I)(", b"(Lp/A)V", b"()", b"(", b")", b")V", b"((I)V)V", b"(I)V ",
-        b"([)V", b"(I[)V", b"(L;)V", b"(Lp//A;)V", b"()Lp.A;", b"(I)Lp/A", b"(IJ[JLp/A;D)[I", b"(I[Lp/T;)Lp/U;", b"(\xff)V",
+        b"(I", b"(I)", b"(V)V", b"()VV", b"()[V", b"I)V", b"(I)(", b"(Lp/A)V", b"()", b"(", b")", b")V", b"((I)V)V",
+        b"(I)V ",
+        b"([)V", b"(I[)V", b"(L;)V", b"(Lp//A;)V", b"()Lp.A;", b"(I)Lp/A", b"(IJ[JLp/A;D)[I", b"(I[Lp/T;)Lp/U;",
+        b"(\xff)V",
     ):
         ask_all(rows, text)
     rows.about("Limits: dimensions, units, the length of a name; which is told where more than one is passed.")

@@ -3,11 +3,11 @@ import itertools
 
 import flags as f
 from classfile import (
-    MAGIC, NEXT, OBJECT, OBJECT_FILE, OBJECT_TEXT, THIS, THIS_TEXT, VERSION, Attribute, File, Member, cls, double, dynamic,
-    fieldref, handle, imethodref, integer, long, method_type, methodref, pair, raw, real, string, u2, utf8,
+    MAGIC, OBJECT, OBJECT_FILE, OBJECT_TEXT, THIS, VERSION, Attribute, File, Member, cls, double, dynamic,
+    fieldref, handle, imethodref, integer, long, method_type, methodref, pair, raw, real, string, utf8,
 )
 from names import is_class
-from notation import repeated, word
+from notation import word
 
 FINE = "fine"
 F1, F2, F3, F4 = "F1 BadMagic", "F2 Version", "F3 Truncated", "F4 Trailing"
@@ -38,11 +38,14 @@ def of_flags(rows):
     sums |= {base ^ bit for base in (0x0021, 0x0600, 0x3601, 0x5031, 0x5421, 0x89CE, 0x8FCE) for bit in bits + [0]}
     for flags in sorted(sums):
         ask(rows, CLASS.changed(more=NAMES, flags=flags), FINE if f.class_keeps(flags) else F6)
-    named = [("a field", 5, 6, f.field_keeps), ("a method", 7, 8, f.method_keeps), ("<init>", 9, 8, f.init_keeps), ("<clinit>", 10, 8, f.clinit_keeps)]
-    bases = [0, 1, 2, 4, 0x19, 0x1019, 0xBF39, 0x5098, 0x50C8, 0xAF20, 0x14C1, 0x19F8, 0xE200, 0xFAC9, 0x0401, 0xFA81, 0xFFFF]
+    named = [("a field", 5, 6, f.field_keeps), ("a method", 7, 8, f.method_keeps), ("<init>", 9, 8, f.init_keeps),
+        ("<clinit>", 10, 8, f.clinit_keeps)]
+    bases = [0, 1, 2, 4, 0x19, 0x1019, 0xBF39, 0x5098, 0x50C8, 0xAF20, 0x14C1, 0x19F8, 0xE200, 0xFAC9, 0x0401, 0xFA81,
+        0xFFFF]
     for what, name, descriptor, keeps in named:
         for of_interface in (False, True):
-            rows.about("Flags of %s%s: some and each of them with a bit more or less." % (what, " of an interface" if of_interface else ""))
+            rows.about("Flags of %s%s: some and each of them with a bit more or less." % (what,
+                " of an interface" if of_interface else ""))
             some = set(bits) | {sum(two) for two in itertools.combinations(bits, 2)}
             some |= {base ^ bit for base in bases for bit in bits + [0]}
             for flags in sorted(some):
@@ -115,8 +118,9 @@ def of_members(rows):
 
 
 # p/A, java/lang/Object, p/B, an array, a long. Of each class the index, and behind it that of its text.
-CLASSES = [cls(2), utf8(b"p/A"), cls(4), utf8(b"java/lang/Object"), cls(6), utf8(b"p/B"), cls(8), utf8(b"[Lp/B;"), long(0)]
-A, B, ARRAY = 1, 5, 7
+CLASSES = [cls(2), utf8(b"p/A"), cls(4), utf8(b"java/lang/Object"), cls(6), utf8(b"p/B"), cls(8), utf8(b"[Lp/B;"),
+    long(0)]
+A, B = 1, 5
 INDICES = list(range(13)) + [65535]
 PLAIN, INTERFACE = 0x0021, 0x0600
 
@@ -149,7 +153,8 @@ def of_supertypes(rows):
 # A class with one of each, 131 bytes.
 FULL = File(
     pool=[
-        cls(2), utf8(b"p/A"), cls(4), utf8(b"java/lang/Object"), utf8(b"x"), utf8(b"I"), utf8(b"m"), utf8(b"()V"), utf8(b"Note"), long(-2),
+        cls(2), utf8(b"p/A"), cls(4), utf8(b"java/lang/Object"), utf8(b"x"), utf8(b"I"), utf8(b"m"), utf8(b"()V"),
+        utf8(b"Note"), long(-2),
     ],
     interfaces=[3],
     fields=[Member(0x0002, 5, 6, [Attribute(9, b"\x01\x02")])],
@@ -159,8 +164,10 @@ FULL = File(
 # One of each entry.
 ENTRIES = File(
     more=[
-        utf8(b"x"), utf8(b"I"), utf8(b"m"), utf8(b"()V"), pair(5, 6), pair(7, 8), integer(-7), real(0x7FC00000), long(-2),
-        double(1), string(5), fieldref(1, 9), methodref(1, 10), imethodref(3, 10), handle(1, 18), method_type(8), dynamic(513, 10),
+        utf8(b"x"), utf8(b"I"), utf8(b"m"), utf8(b"()V"), pair(5, 6), pair(7, 8), integer(-7), real(0x7FC00000),
+        long(-2),
+        double(1), string(5), fieldref(1, 9), methodref(1, 10), imethodref(3, 10), handle(1, 18), method_type(8),
+        dynamic(513, 10),
     ],
 )
 # What `docs/FORMATS.md`, 'Examples', calls assembled_use: the public class p/Use, which refers to a method of p/Svc.
@@ -205,8 +212,10 @@ def of_layout(rows):
             changed[place] ^= 1 << bit
             ask_bytes(bytes(changed), F1 if place < 4 else F2)
     for header, answer in (
-        (b"\xbe\xba\xfe\xca\0\0\0\x34", F1), (MAGIC + b"\0\0\0\x33", F2), (MAGIC + b"\0\0\0\x35", F2), (MAGIC + b"\0\x03\0\x34", F2),
-        (MAGIC + b"\xff\xff\0\x34", F2), (MAGIC + b"\0\0\x01\x34", F2), (MAGIC + b"\0\x34\0\0", F2), (MAGIC + VERSION, FINE),
+        (b"\xbe\xba\xfe\xca\0\0\0\x34", F1), (MAGIC + b"\0\0\0\x33", F2), (MAGIC + b"\0\0\0\x35", F2),
+        (MAGIC + b"\0\x03\0\x34", F2),
+        (MAGIC + b"\xff\xff\0\x34", F2), (MAGIC + b"\0\0\x01\x34", F2), (MAGIC + b"\0\x34\0\0", F2),
+        (MAGIC + VERSION, FINE),
     ):
         ask_bytes(header + data[8:], answer)
     rows.about("Pool counts: as many as stand, one more (class flags are no tag), one less.")
@@ -227,7 +236,8 @@ def of_layout(rows):
     rows.about("A class whose superclass is named `-`, which lists as none: each other name in its place comes back.")
     dash = File(pool=[utf8(b"p/A"), cls(1), utf8(b"-"), cls(3)], this_class=2, super_class=4).bytes()
     ask_bytes(dash, FINE)
-    rows.ask("changed", [word(dash), str(dash.index(b"-"))], str(sum(is_class(bytes([byte])) for byte in range(256) if byte != 0x2D)))
+    rows.ask("changed", [word(dash), str(dash.index(b"-"))],
+        str(sum(is_class(bytes([byte])) for byte in range(256) if byte != 0x2D)))
 
 
 def of_order(rows):
@@ -239,15 +249,18 @@ def of_order(rows):
     ):
         ask_bytes(data, answer)
     for behind, answer in (
-        (b"\0", F3), (b"\0\0", bad_pool(0)), (b"\0\x02\x02", bad_pool(1)), (b"\0\x02\x05", bad_pool(1)), (b"\0\x02\x06\0", bad_pool(1)),
+        (b"\0", F3), (b"\0\0", bad_pool(0)), (b"\0\x02\x02", bad_pool(1)), (b"\0\x02\x05", bad_pool(1)),
+        (b"\0\x02\x06\0", bad_pool(1)),
         (b"\0\x03\x05\0", F3), (b"\0\x03\x01\0\x02\x02", F3), (b"\0\x03\x07\0\x09\0", bad_pool(2)),
         (b"\0\x04\x05\0\0\0\0\0\0\0\0\x02", bad_pool(3)),
     ):
         ask_bytes(MAGIC + VERSION + behind, answer)
     rows.about("Each two steps that a file may break: the first is told.")
     order = [
-        ("magic", F1), ("version", F2), ("tag", bad_pool(6)), ("cut", F3), ("trailing", F4), ("entry", bad_pool(5)), ("flags", F6),
-        ("this", F9), ("super", F9), ("interface", F9), ("field", F7), ("field twice", F8), ("method", F7), ("method twice", F8),
+        ("magic", F1), ("version", F2), ("tag", bad_pool(6)), ("cut", F3), ("trailing", F4), ("entry", bad_pool(5)),
+        ("flags", F6),
+        ("this", F9), ("super", F9), ("interface", F9), ("field", F7), ("field twice", F8), ("method", F7),
+        ("method twice", F8),
     ]
     for i, (first, answer) in enumerate(order):
         for second, _ in order[i:]:
@@ -280,7 +293,8 @@ def of_order(rows):
     for some, others in itertools.product(lists[:21], lists[:21]):
         fields = [Member(*kinds[kind], 7) for kind in some]
         methods = [Member(*kinds[kind], 8) for kind in others]
-        ask(rows, CLASS.changed(more=names, fields=fields, methods=methods), first_fault(some) or first_fault(others) or FINE)
+        ask(rows, CLASS.changed(more=names, fields=fields, methods=methods),
+            first_fault(some) or first_fault(others) or FINE)
 
 
 def broken(steps):
@@ -291,7 +305,8 @@ def broken(steps):
     data = File(
         magic=b"\xca\xfe\xba\0" if "magic" in steps else MAGIC,
         version=b"\0\0\0\x33" if "version" in steps else VERSION,
-        more=[string(0 if "entry" in steps else 2), raw(b"\x02") if "tag" in steps else integer(0), utf8(b"x"), utf8(b"I"), utf8(b"()V")],
+        more=[string(0 if "entry" in steps else 2), raw(b"\x02") if "tag" in steps else integer(0), utf8(b"x"),
+            utf8(b"I"), utf8(b"()V")],
         flags=0x2001 if "flags" in steps else 0x0001,
         this_class=0 if "this" in steps else THIS,
         super_class=OBJECT_TEXT if "super" in steps else OBJECT,

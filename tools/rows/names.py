@@ -143,7 +143,8 @@ def limits(rows):
 
 def names(rows):
     rows.about("A name's text, its package, what it is; a copy is the same.")
-    samples = [b"", b"A", b"p/A", b"java/lang/Object", b"/", b"/a", b"a/", b"a//b", b"<init>", b"<clinit>", b"[I", b"(I)V"]
+    samples = [b"", b"A", b"p/A", b"java/lang/Object", b"/", b"/a", b"a/", b"a//b", b"<init>", b"<clinit>", b"[I",
+        b"(I)V"]
     samples += [b"a/b/c/d", b" ", b"\\", b"p/\xc3\xa9", b"\xed\xa0\x80\xed\xb0\x80", b"p/\xc0\x80/x", b"p.q/r"]
     samples += [spelled(u) for u in BORDERS]
     for data in samples:
@@ -154,7 +155,8 @@ def names(rows):
     rows.ask("name", "61*65536", N2)
     rows.ask("name", "61*65535", "65535 bytes package '' yes yes yes")
     rows.about("Whether the bytes of a name begin with another's; how two names are ordered and whether they are equal.")
-    orders = [b"", b"a", b"b", b"java/", b"java/lang", b"java/lang/Object", b"javax", b"\xc0\x80", b"\xc3\xa9", b"\xef\xbf\xbf"]
+    orders = [b"", b"a", b"b", b"java/", b"java/lang", b"java/lang/Object", b"javax", b"\xc0\x80", b"\xc3\xa9",
+        b"\xef\xbf\xbf"]
     for one, other in itertools.product(orders, orders):
         rows.ask("prefix", [word(one), word(other)], yes(one.startswith(other)))
         order = "less" if one < other else "greater" if one > other else "equal"
@@ -164,6 +166,7 @@ def names(rows):
 def ask_written(rows, text, data):
     """The name that a text writes, or none."""
     text = word(text.encode("utf-8"))
+    rows.ask("class", text, escaped(data) if data is not None and is_class(data) else "none")
     if data is None:
         rows.ask("written", text, N2)
     else:
@@ -184,7 +187,8 @@ def texts(rows):
     ask_written(rows, "\\u005C\\u0020", b"\\ ")
     ask_written(rows, "\\uaBcD", spelled(0xABCD))
     rows.about("What is no escaped text.")
-    for text in ("a b", "\\", "\\\\", "\\u", "\\u1", "\\u12", "\\u123", "\\u12 4", "\\U0041", "u0041\\", "\\n", "é", "\u20ac", "\U00010000"):
+    for text in ("a b", "\\", "\\\\", "\\u", "\\u1", "\\u12", "\\u123", "\\u12 4", "\\U0041", "u0041\\", "\\n", "é",
+        "\u20ac", "\U00010000"):
         ask_written(rows, text, None)
     for place in range(4):
         for digit in "gG/:@`+-é ":
@@ -203,6 +207,11 @@ def texts(rows):
         (b"a", 65536, b"\\", False),
     ):
         rows.ask("written", repeated((part, count), last), "65535 bytes" if fits else N2)
+        rows.ask("class", repeated((part, count), last), "65535 bytes" if fits else "none")
+    for text in ("p/A", "p//A", "p.A", "/", "p/", "p\\u002fA", "p\\u002eA", "[I", "\\u005bI", "<init>", "p\\u0020A",
+        "p/\\uD800"):
+        data = re.sub(rb"\\u(....)", lambda found: spelled(int(found.group(1), 16)), text.encode())
+        ask_written(rows, text, data)
 
 
 def make(rows):

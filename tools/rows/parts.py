@@ -28,9 +28,12 @@ def ask_size(rows, words, size):
 
 
 SLOTS = [
-    (["long", "unusable"], None), (["double", "unusable", "integer"], None), (["integer", "long"], 7), (["double"], 6), (["long"], 6),
-    (["long", "integer"], 7), (["double", "double", "unusable"], 7), (["integer", "unusable"], 7), (["long", "unusable", "unusable"], 8),
-    (["string:0", "unusable"], 7), (["unusable", "integer", "long"], 6), (["long", "unusable", "string:0"], 8), (["unusable"], 6),
+    (["long", "unusable"], None), (["double", "unusable", "integer"], None), (["integer", "long"], 7),
+    (["double"], 6), (["long"], 6),
+    (["long", "integer"], 7), (["double", "double", "unusable"], 7), (["integer", "unusable"], 7),
+    (["long", "unusable", "unusable"], 8),
+    (["string:0", "unusable"], 7), (["unusable", "integer", "long"], 6), (["long", "unusable", "string:0"], 8),
+    (["unusable"], 6),
 ]
 
 
@@ -47,13 +50,11 @@ def first_misplaced(slots):
 
 def of_slots(rows):
     rows.about("Where a Long, a Double and an unusable index may stand among the parts.")
-    sizes = {"long": 9, "double": 9, "unusable": 0, "integer": 5}
-    base = len(OBJECT_FILE.bytes()) + 4 + 4 + 6
     for slots, blamed in SLOTS:
         if blamed:
             ask(rows, slots, bad_pool(blamed), len(slots))
     for count in range(1, 5):
-        for slots in itertools.product(sizes, repeat=count):
+        for slots in itertools.product(("long", "double", "unusable", "integer"), repeat=count):
             blamed = first_misplaced(slots)
             if blamed:
                 ask(rows, list(slots), bad_pool(blamed), count)

@@ -1,18 +1,18 @@
 -- What comes next in a service may happen, and it is one step.
-use Rattle.std.proofs.Common.{◌≡◌, ◌≢◌, ◌⊎◌, inl, inr, ℕ, true, List, [], ◌∷◌, ◌++◌, Option, Some, None, refl, sym, ap, subst, ◌∙◌}
+use Rattle.std.proofs.Common.{ℕ, ◌≡◌, ◌⊎◌, inl, inr, true, List, [], ◌∷◌, ◌++◌, Option, Some, None, refl, sym, ap, subst, ◌∙◌, suc}
 use Rattle.std.specs.Prelude.{flat_map, Contains}
 use Rattle.std.specs.List.{AllByRecursion}
 use Rattle.cl_classfile.specs.Files.{Name}
 use Rattle.cl_model.specs.Homes.{World}
 use Rattle.cl_model.specs.declared.class.Class.{Class}
 use Rattle.cl_model.specs.Classes.{class, same_class, is_among, Above, AtHome, supers}
-use Rattle.cl_model.specs.Lineages.{Kin, IsLineage, lineage}
+use Rattle.cl_model.specs.Lineages.{Kin, lineage}
 use Rattle.cl_model.specs.Preparation.{constraints_of}
 use Rattle.cl_model.specs.Ancestors.{SupersFirst}
-use Rattle.cl_model.specs.States.{State, Need, Verdict, AllMet, Refused, IsNext, IsRecorded, recorded}
+use Rattle.cl_model.specs.States.{State, Need, Verdict, AllMet, Refused, IsNext, IsRecorded, recorded, MayAdd}
 use Rattle.cl_model.specs.Plans.{Request, Load, Resolve, Link, Plan, needs_of}
-use Rattle.cl_model.specs.Machine.{Setting, Step, Settle, IsPlan, Answers, AnswersReference, MaySay, May, after, Run, IsClosed}
-use Rattle.cl_model.specs.Service.{Want, ToStand, ToPrepare, Fulfils, FulfilsAll, IsFirst, MayServe, serving, to_stand, to_link, WantsPast, HasWants, Settles, IsNextStep, IsOver, ComesTo, IsBegun}
+use Rattle.cl_model.specs.Machine.{Setting, Step, Settle, IsPlan, Answers, AnswersReference, MaySay, May, after, Run, IsClosed, Scheduled, Prepare, NextRound, HasLineage, MaySettle, MayGoOn, state_after, step_for}
+use Rattle.cl_model.specs.Service.{Want, ToStand, ToPrepare, Fulfils, FulfilsAll, IsFirst, MayServe, serving, to_stand, to_link, WantsPast, HasWants, Settles, IsNextStep, IsOver, ComesTo, IsBegun, IsLinkedIn, PassesRounds, AllServed}
 use Rattle.cl_model.proofs.Complete.{is_class, or_true}
 use Rattle.cl_model.proofs.Closed.{closed_after}
 use Rattle.cl_model.proofs.Progress.{IsKept, lineage_kept, link_next, next_may}
@@ -22,7 +22,7 @@ use Rattle.cl_model.proofs.Bind.{some_same}
 use Rattle.cl_model.proofs.Planned.{one_plan, one_lineage}
 use Rattle.cl_model.proofs.Sound.{one_reference_answer}
 use Rattle.cl_model.proofs.Reached.{reference_answered, reference_is_plan}
-use Rattle.cl_model.proofs.Service.{to_stand_both, resolve_wants}
+use Rattle.cl_model.proofs.Service.{to_stand_both, resolve_wants, next_is_first, state_append}
 use Rattle.cl_model.proofs.Tables.{reached_records}
 
 -- ---- wants in two parts
@@ -39,7 +39,7 @@ met_of : (s : State) (ns : List Need) → FulfilsAll s (to_stand ns) → AllMet 
 met_of s [] h = tt
 met_of s (n ∷ ns) h = (h.0, met_of s ns h.1)
 
-stand_is : (n m : Need) → ToStand n ≡ ToStand m → n ≡ m
+pub stand_is : (n m : Need) → ToStand n ≡ ToStand m → n ≡ m
 stand_is n m h = cc
 
 next_of : (s : State) (ns : List Need) (n : Need) → IsFirst s (to_stand ns) (ToStand n) → IsNext s ns n
@@ -59,10 +59,10 @@ next_left s (x ∷ xs) ys n (inr h) = inr (h.0, next_left s xs ys n h.1)
 
 -- ---- what links a lineage
 
-prepare_is : (c d : Class) → ToPrepare c ≡ ToPrepare d → c ≡ d
+pub prepare_is : (c d : Class) → ToPrepare c ≡ ToPrepare d → c ≡ d
 prepare_is c d h = cc
 
-stand_not : (c : Class) (n : Need) → ToPrepare c ≡ ToStand n → ⊥
+pub stand_not : (c : Class) (n : Need) → ToPrepare c ≡ ToStand n → ⊥
 stand_not c n h = cc
 
 -- the first of what links a class: a need, or its preparation, once its constraints are met
@@ -276,3 +276,71 @@ come_to_ends g s r v e c a =
       | inl x ↦ over_none s c.wants x.0 c.over (subst (λ (ws : List Want). IsFirst s ws x.0) same x.1) x.2
       | inr x ↦ unsettled_none g s r a.plan v e c.may_say a.wanted.planned x
     ]
+
+-- ---- what comes next of a reference, and of a link
+
+pub settle_next : (g : Setting) (s : State) (loader : ℕ) (name : Name) (i : ℕ) (p : Plan) (d : Class) (v : Verdict) → IsPlan g.world (Resolve loader name i) p → p.reached ≡ Some d → AllMet s p.own → MaySettle g s d i v → IsNextStep g s (Resolve loader name i) (Settle d i v)
+settle_next g s loader name i p d v is reach met may = record { plan = p; wants = to_stand (needs_of p); wanted = resolve_wants loader name i g.world p is; next = inr (d, reach, met, (v, may, refl)) }
+
+first_right : (s : State) (xs ys : List Want) (x : Want) → FulfilsAll s xs → IsFirst s ys x → IsFirst s (xs ++ ys) x
+first_right s [] ys x all h = h
+first_right s (z ∷ xs) ys x all h = inr (all.0, first_right s xs ys x all.1 h)
+
+first_left : (s : State) (xs ys : List Want) (x : Want) → IsFirst s xs x → IsFirst s (xs ++ ys) x
+first_left s [] ys x h = absurd h
+first_left s (z ∷ xs) ys x (inl e) = inl e
+first_left s (z ∷ xs) ys x (inr h) = inr (h.0, first_left s xs ys x h.1)
+
+fulfilled_of : (s : State) (ns : List Need) → AllMet s ns → FulfilsAll s (to_stand ns)
+fulfilled_of s [] h = tt
+fulfilled_of s (n ∷ ns) h = (h.0, fulfilled_of s ns h.1)
+
+linked_of : (s : State) (ns : List Need) (c : Class) → AllMet s ns → Contains s.prepared c → FulfilsAll s (to_stand ns ++ ToPrepare c ∷ [])
+linked_of s [] c h k = (k, tt)
+linked_of s (n ∷ ns) c h k = (h.0, linked_of s ns c h.1 k)
+
+-- where what stands before a class in a lineage is linked, what links that class comes first
+links_first : (s : State) (before behind : List Kin) (k : Kin) (x : Want) → AllByRecursion (IsLinkedIn s) before → IsFirst s (to_link k) x → IsFirst s (flat_map to_link (before ++ k ∷ behind)) x
+links_first s [] behind k x all h = first_left s (to_link k) (flat_map to_link behind) x h
+links_first s (b ∷ before) behind k x all h = first_right s (to_link b) (flat_map to_link (before ++ k ∷ behind)) x (linked_of s (constraints_of b) b.class all.0.imposed all.0.prepared) (links_first s before behind k x all.1 h)
+
+-- what links a class of the lineage comes next
+link_step : (g : Setting) (s : State) (loader : ℕ) (name : Name) (p : Plan) (c : Class) (l k : Kin) (before behind : List Kin) (x : Want) → IsPlan g.world (Link loader name) p → p.reached ≡ Some c → AllMet s p.own → HasLineage g.world c l → lineage l ≡ before ++ k ∷ behind
+    → AllByRecursion (IsLinkedIn s) before → IsFirst s (to_link k) x → MayServe s x → IsNextStep g s (Link loader name) (serving x)
+link_step g s loader name p c l k before behind x is reach met lin parts all h may =
+    let past = flat_map to_link (lineage l) in
+    record {
+      plan = p;
+      wants = to_stand p.own ++ past;
+      wanted = record { planned = is; past = past; follows = subst (λ (o : Option Class). WantsPast g.world (Link loader name) p o past) (sym reach) (l, lin, refl); whole = refl };
+      next = inl (
+        x,
+        first_right s (to_stand p.own) past x (fulfilled_of s p.own met) (subst (λ (ks : List Kin). IsFirst s (flat_map to_link ks) x) (sym parts) (links_first s before behind k x all h)),
+        may,
+        refl,
+      );
+    }
+
+pub link_need_next : (g : Setting) (s : State) (loader : ℕ) (name : Name) (p : Plan) (c : Class) (l k : Kin) (before behind : List Kin) (n : Need) → IsPlan g.world (Link loader name) p → p.reached ≡ Some c → AllMet s p.own → HasLineage g.world c l → lineage l ≡ before ++ k ∷ behind
+    → AllByRecursion (IsLinkedIn s) before → IsNext s (constraints_of k) n → MayAdd s n → IsNextStep g s (Link loader name) (step_for n)
+link_need_next g s loader name p c l k before behind n is reach met lin parts all h may =
+    link_step g s loader name p c l k before behind (ToStand n) is reach met lin parts all (first_left s (to_stand (constraints_of k)) (ToPrepare k.class ∷ []) (ToStand n) (next_is_first s (constraints_of k) n h)) may
+
+pub prepare_next : (g : Setting) (s : State) (loader : ℕ) (name : Name) (p : Plan) (c : Class) (l k : Kin) (before behind : List Kin) → IsPlan g.world (Link loader name) p → p.reached ≡ Some c → AllMet s p.own → HasLineage g.world c l → lineage l ≡ before ++ k ∷ behind
+    → AllByRecursion (IsLinkedIn s) before → AllMet s (constraints_of k) → (Contains s.prepared k.class → ⊥) → IsNextStep g s (Link loader name) (Prepare k.class)
+prepare_next g s loader name p c l k before behind is reach met lin parts all imposed free =
+    link_step g s loader name p c l k before behind (ToPrepare k.class) is reach met lin parts all (first_right s (to_stand (constraints_of k)) (ToPrepare k.class ∷ []) (ToPrepare k.class) (fulfilled_of s (constraints_of k) imposed) (inl refl)) free
+
+-- ---- rounds
+
+passes_none : (g : Setting) (s : State) (es : List Step) → PassesRounds g s es → MayGoOn g (state_after s es) → ⊥
+passes_none g s [] h may = h may
+passes_none g s (e ∷ es) h may = passes_none g (after s NextRound) es h.2 (subst (λ (f : Step). MayGoOn g (state_after (after s f) es)) h.0 may)
+
+-- once all are served no later round may begin
+pub no_round_left : (g : Setting) (q : ℕ) (s : State) (rs : List Scheduled) (es : List Step) → AllServed g q s rs es → MayGoOn g (state_after s es) → ⊥
+no_round_left g q s [] es all may = passes_none g s es all may
+no_round_left g q s (r ∷ rs) es all may =
+    let t = state_after (state_after s all.0) all.1 in
+    let here : state_after s es ≡ state_after t all.2 = ap (state_after s) all.3 ∙ state_append s all.0 (all.1 ++ all.2) ∙ state_append (state_after s all.0) all.1 all.2 in
+    no_round_left g (suc q) t rs all.2 all.6 (subst (λ (u : State). MayGoOn g u) here may)

@@ -90,3 +90,15 @@ ended = state_after start (loading ++ resolving ++ linking)
 -- a class of kid's own is asked for an entry of its pool (5.4.3)
 abbrev pub resolved_in_kid : Setting
 resolved_in_kid = record { world = three_users; script = record { request = resolve_of kid "p/T" 1; round = 0 } ∷ []; rounds = 1 }
+
+-- Svc in app, and in plug a class under it which overrides its method and names nothing (5.4.2)
+abbrev pub overridden_alone : World
+overridden_alone = bundle ((boot, root) ∷ (app, svc) ∷ (plug, with_methods ((acc_public, taking_t "m") ∷ []) (under "p/Use" "p/Svc")) ∷ [])
+
+-- the steps before a class under p/H, which is not accessible to it (5.3.5, step 3)
+abbrev pub below_hidden : List Step
+below_hidden = Define (in_boot "java/lang/Object") ∷ Initiate object boot app ∷ Define (in_app "p/H") ∷ Initiate (codes "p/H") app plug ∷ []
+
+-- T is defined in app, and is to be the same in kid (5.3.4)
+abbrev pub joined_with_kid : List Step
+joined_with_kid = Define (in_boot "java/lang/Object") ∷ Initiate object boot app ∷ Define (in_app "p/T") ∷ Constrain (codes "p/T") app kid ∷ []

@@ -32,7 +32,7 @@ use Rattle.cl_model.proofs.Runs.{run_goes_on}
 use Rattle.cl_model.proofs.Closed.{runs_are_closed}
 use Rattle.cl_model.proofs.Complete.{some_place}
 use Rattle.cl_model.proofs.Ending.{if_some}
-use Rattle.cl_model.proofs.Chains.{next_waiting, next_root}
+use Rattle.cl_model.proofs.Ascents.{next_waiting, next_root}
 use Rattle.cl_model.proofs.Progress.{next_may}
 use Rattle.cl_model.proofs.Looks.{recorded_answers}
 use Rattle.cl_config.specs.Views.{Configured, Scripted}

@@ -144,3 +144,11 @@ on_ok_by (Err e) P Q f p = tt
 pub on_err_by : {A E : Type 0} (r : Result A E) (P Q : Type 0) → (P → Q) → OnErr r P → OnErr r Q
 on_err_by (Ok x) P Q f p = tt
 on_err_by (Err e) P Q f p = f p
+
+-- ---- a line put behind what waits, and then a page passed
+
+pub passes_after : (o n : Option (List ℕ)) (w w1 w2 b : List ℕ) → w1 ≡ w ++ b → Passes o w1 n w2 [] → Passes o w n w2 b
+passes_after o n w w1 w2 b e p = record { front = p.front; whole = sym e ∙ sym (append-nil w1) ∙ p.whole; grown = p.grown }
+
+pub part_after : (o n : Option (List ℕ)) (w w1 b : List ℕ) → w1 ≡ w ++ b → AppendsPart o n w1 → AppendsPart o n (w ++ b)
+part_after o n w w1 b e p = subst (AppendsPart o n) e p

@@ -5,4 +5,4 @@ mod input;
 mod output;
 
 pub use input::{InputFault, read_bytes};
-pub use output::{PrintFault, write_out};
+pub use output::{PrintFault, pass_page, write_out};

@@ -1,11 +1,11 @@
 //! Writing whole.
 
-ghost use Rattle.std.specs.Prelude.{◌≡◌, ◌<◌, ◌≤◌, [], take, length, OnOk, OnErr, IfOk};
+ghost use Rattle.std.specs.Prelude.{◌≡◌, ◌<◌, ◌≤◌, [], take, length, string_bytes, OnOk, OnErr, IfOk};
 ghost use Rattle.std.specs.Io.KnownBytes.{Appends};
-ghost use Rattle.cl_streams.specs.Writing.{AppendsPart};
+ghost use Rattle.cl_streams.specs.Writing.{AppendsPart, Passes};
 
 use std::alloc::AllocError;
-use std::io::Write;
+use std::io::{ErrorKind, Write};
 use thiserror::Error;
 
 /// Why bytes were not written whole.
@@ -28,7 +28,26 @@ impl From<AllocError> for PrintFault {
     }
 }
 
-/// Writes all of the bytes. Where a write is refused or takes nothing, no other is tried.
+/// What waits is kept until it has so many bytes, and then written at once.
+const PAGE: usize = 8192;
+
+/// Writes what waits, once it is a page or more. So a writer of many lines puts each behind what waits, passes the page
+/// and keeps no more than a page and a line. Where the write is refused, a beginning of what waited is written.
+pub fn pass_page<W: Write>(out: &mut W, waiting: &mut String) -> Result<(), PrintFault>
+    ensures passed { OnOk result (Passes (W.contents out.old) (string_bytes waiting.old)
+        (W.contents out.new) (string_bytes waiting.new) []) }
+    ensures part { OnErr result
+        (AppendsPart (W.contents out.old) (W.contents out.new) (string_bytes waiting.old)) }
+{
+    if waiting.len() >= PAGE {
+        write_out(out, waiting.as_bytes())?;
+        waiting.clear();
+    }
+    Ok(())
+}
+
+/// Writes all of the bytes. An interrupted write is tried again; where one is refused otherwise, or takes nothing, no
+/// other is tried.
 pub fn write_out<W: Write>(out: &mut W, bytes: &[u8]) -> Result<(), PrintFault>
     ensures all { OnOk result (Appends (W.contents out.old) (W.contents out.new) bytes.now) }
     ensures part { OnErr result (AppendsPart (W.contents out.old) (W.contents out.new) bytes.now) }
@@ -46,8 +65,12 @@ fn write_some<W: Write>(out: &mut W, bytes: &[u8]) -> Result<usize, PrintFault>
     ensures taken { IfOk result (λ count. Appends (W.contents out.old) (W.contents out.new) (take count bytes.now)) }
     ensures refused { OnErr result (Appends (W.contents out.old) (W.contents out.new) []) }
 {
-    match out.write(bytes) {
-        Ok(count) if count > 0 => Ok(count),
-        _ => Err(PrintFault::Write),
+    for _ in 0..u64::MAX {
+        match out.write(bytes) {
+            Ok(count) if count > 0 => return Ok(count),
+            Err(error) if error.kind() == ErrorKind::Interrupted => {}
+            _ => return Err(PrintFault::Write),
+        }
     }
+    Err(PrintFault::Write)
 }

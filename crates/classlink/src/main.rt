@@ -7,8 +7,6 @@ mod reading;
 mod run;
 #[cfg(test)]
 mod tests;
-#[cfg(test)]
-mod tests_host;
 mod words;
 
 use fault::Fault;

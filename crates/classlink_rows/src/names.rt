@@ -1,7 +1,8 @@
 //! Questions about names.
 
 use cl_names::{
-    Name, NameFault, is_class_name, is_method_name, is_modified_utf8, is_unqualified_name,
+    Name, NameFault, class_name, is_class_name, is_method_name, is_modified_utf8,
+    is_unqualified_name,
 };
 use std::alloc::{AllocError, Global};
 use std::cmp::Ordering;
@@ -82,6 +83,14 @@ pub fn written(alloc: Global, text: &str) -> Result<String, AllocError> {
         }
         Err(fault) => format!(in alloc; "{fault}"),
     }
+}
+
+/// The class's name that escaped text writes.
+pub fn class_written(alloc: Global, text: &str) -> Result<String, AllocError> {
+    let Some(name) = class_name(alloc, text)? else {
+        return String::from_str(alloc, "none");
+    };
+    shown(alloc, name.bytes())
 }
 
 /// Whether the bytes of one name begin with those of another.

@@ -4,7 +4,7 @@ use crate::changes::{changed, changes};
 use crate::descriptors::{field_type, form, method_type};
 use crate::files::{file_fault, file_parts, reference};
 use crate::input::{next_bytes, next_number, next_text, next_word};
-use crate::names::{kinds, name, prefix, same, tests, written};
+use crate::names::{class_written, kinds, name, prefix, same, tests, written};
 use crate::parts::made_of_parts;
 use crate::stop::Stop;
 use crate::texts::{assembled, listed, memory_fault, pool_len, rewritten, stated};
@@ -17,6 +17,7 @@ pub fn answer(alloc: Global, mut words: Words<'_>) -> Result<String, Stop> {
     match question {
         "memory" => Ok(memory_fault(alloc, next_word(&mut words)?)?),
         "written" => Ok(written(alloc, next_text(alloc, &mut words)?.as_str())?),
+        "class" => Ok(class_written(alloc, next_text(alloc, &mut words)?.as_str())?),
         "lines" => Ok(stated(alloc, next_text(alloc, &mut words)?.as_str())?),
         "assemble" => Ok(assembled(alloc, next_text(alloc, &mut words)?.as_str())?),
         "listing" => Ok(listed(alloc, next_text(alloc, &mut words)?.as_str())?),

@@ -20,9 +20,9 @@ use Rattle.cl_model.proofs.examples.steps_too_early.Goals as goal
 
 pub returns-clause-define : goal.returns-clause-define
 returns-clause-define c h =
-  missing
+    missing
     (subst (λ (f : File). AllByRecursion (λ (a : Above). AtHome overridden_service (in_app "p/Svc") (λ t. Met start (Entry app a.name t.loader)) a.name) (supers f))
-      (same_file (file_of overridden_service (in_app "p/Svc")) h.has_file refl) h.above).0.holds
+    (same_file (file_of overridden_service (in_app "p/Svc")) h.has_file refl) h.above).0.holds
 
 pub returns-clause-initiate : goal.returns-clause-initiate
 returns-clause-initiate c h = missing h.defined
@@ -49,9 +49,9 @@ unequal (inr (r, e)) = not_refused e
 
 pub returns-clause-settle : goal.returns-clause-settle
 returns-clause-settle c h =
-  unequal
+    unequal
     (subst (λ (m : Made Verdict). Answers (state_after start loading) m.needs (ending m.ends) of_svc)
-      (one_resolution overridden_service (in_plug "p/Use") 1 h.answered.made made_of_svc h.answered.resolved resolution_of_svc) h.answered.answered)
+    (one_resolution overridden_service (in_plug "p/Use") 1 h.answered.made made_of_svc h.answered.resolved resolution_of_svc) h.answered.answered)
 
 pub returns-clause-settle_unrecorded : goal.returns-clause-settle_unrecorded
 returns-clause-settle_unrecorded c h = missing h.recorded
@@ -61,9 +61,9 @@ unsettled_yet e = cc
 
 pub returns-clause-resolve : goal.returns-clause-resolve
 returns-clause-resolve c h =
-  unsettled_yet
+    unsettled_yet
     (rests_of serving unsettled (resolve_of plug "p/Use" 1) (the (plan overridden_service 3 (resolve_of plug "p/Use" 1))) of_svc (record { height = 3; planned = refl })
-      (said_of serving unsettled 0 (record { request = resolve_of plug "p/Use" 1; round = 0 }) of_svc refl h) (in_plug "p/Use") refl (refl, (refl, (refl, (refl, (refl, tt))))) (λ e. absurd cc) (λ e. absurd cc))
+    (said_of serving unsettled 0 (record { request = resolve_of plug "p/Use" 1; round = 0 }) of_svc refl h) (in_plug "p/Use") refl (refl, (refl, (refl, (refl, (refl, tt))))) (λ e. absurd cc) (λ e. absurd cc))
 
 pub returns-clause-prepare_unrecorded : goal.returns-clause-prepare_unrecorded
 returns-clause-prepare_unrecorded c h = missing h.recorded
@@ -73,9 +73,9 @@ none_of h = absurd (let l : h.0 < 0 = h.1 in omega arith)
 
 pub returns-clause-prepare_below : goal.returns-clause-prepare_below
 returns-clause-prepare_below c h =
-  none_of
+    none_of
     (subst (λ (k : Kin). AllByRecursion (λ (a : Above). AtHome overridden_service (in_plug "p/Use") (Contains unsettled.prepared) a.name) (supers k.file))
-      (one_lineage overridden_service (in_plug "p/Use") h.kin kin_of_use h.lineage lineage_of_use) h.above).0.holds
+    (one_lineage overridden_service (in_plug "p/Use") h.kin kin_of_use h.lineage lineage_of_use) h.above).0.holds
 
 pub returns-clause-prepare_unconstrained : goal.returns-clause-prepare_unconstrained
 returns-clause-prepare_unconstrained c h = absurd (let same : app ≡ plug = joined_alone [] (codes "p/T") app plug refl (subst (λ (k : Kin). AllMet (state_after start (loading ++ Prepare (in_boot "java/lang/Object") ∷ Prepare (in_app "p/Svc") ∷ [])) (constraints_of k)) (one_lineage overridden_service (in_plug "p/Use") h.kin kin_of_use h.lineage lineage_of_use) h.imposed).0 in cc)
@@ -87,6 +87,6 @@ use_unprepared (suc (suc x), l, e) = absurd (omega arith)
 
 pub returns-clause-link : goal.returns-clause-link
 returns-clause-link c h =
-  use_unprepared
+    use_unprepared
     (rests_of serving unprepared (link_of plug "p/Use") (the (plan overridden_service 3 (link_of plug "p/Use"))) (IsLinked (in_plug "p/Use")) (record { height = 3; planned = refl })
-      (said_of serving unprepared 1 (record { request = link_of plug "p/Use"; round = 1 }) (IsLinked (in_plug "p/Use")) refl h) (in_plug "p/Use") refl)
+    (said_of serving unprepared 1 (record { request = link_of plug "p/Use"; round = 1 }) (IsLinked (in_plug "p/Use")) refl h) (in_plug "p/Use") refl)

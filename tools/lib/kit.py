@@ -50,13 +50,17 @@ class Crate:
     of_kit: object
     name: str = ""
     folder: str = ""
+    texts: dict = field(default_factory=dict)
 
     def __post_init__(self):
         self.name, self.folder = self.of_kit.name, self.of_kit.folder
 
     def text(self, path):
-        with open(f"{self.folder}/{path}", encoding="utf-8") as file:
-            return file.read()
+        """The text of a file, as it was when it was first asked for: edits are made to what they were read against."""
+        if path not in self.texts:
+            with open(f"{self.folder}/{path}", encoding="utf-8") as file:
+                self.texts[path] = file.read()
+        return self.texts[path]
 
 
 def crates(root):

@@ -4,6 +4,7 @@ ghost use Rattle.cl_config.specs.Configs.{IsBoot, ConfigOf};
 
 use cl_lines::Stated;
 use cl_model::LoaderId;
+use cl_names::Seed;
 use std::alloc::{AllocError, Global};
 use std::marker::Model;
 use thiserror::Error;
@@ -12,6 +13,7 @@ use thiserror::Error;
 #[derive(Debug, Drop)]
 pub struct Config {
     names: Vec<String>,
+    seed: Seed,
 }
 
 impl Model for Config {
@@ -58,7 +60,26 @@ impl Config {
         let boot = String::from_str(alloc, "boot")?;
         let mut names = Vec::with_capacity(alloc, 1)?;
         names.push(boot).map_err(AllocError::from)?;
-        Ok(Config { names })
+        Ok(Config {
+            names,
+            seed: Seed::known(),
+        })
+    }
+
+    /// The same configuration with a seed for the tables of names that are made for it. One that was read has the seed
+    /// that everyone knows.
+    pub fn with_seed(self, seed: Seed) -> Config
+        ensures { result ≡ self }
+    {
+        Config {
+            names: self.names,
+            seed,
+        }
+    }
+
+    /// What the tables of names hash with that are made for the configuration. No answer depends on it.
+    pub fn seed(&self) -> Seed {
+        self.seed
     }
 
     /// The loader of this name.

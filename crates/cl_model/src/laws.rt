@@ -1,4 +1,4 @@
-ghost use Rattle.cl_model.specs.Laws.{HomeOfHome, HomeIsProbed, ProbedOnce, ProbesAreLoaders, GoodIsNotFailing, RunGoesOn, RecordsStay, MetStays, NeverViolated, OneAnswer, HigherDerives, AnswersStay, DerivedIsGood, RecordedIsMet, RunsAreClosed, GoodIsDerived, ErrorIsFailing, OneError, GoodGrows, FailsGrows, FailingIsDerived, ReturnIsCircular, ReturnGoesOn, CircleReturns, ReturnIsDerived, OneSubject, FailureIsNoCircle, OneDerivation, GoodIsAtHome, ComesOut, CircularReturns, CircularGoesOn, PlanExists, OnePlan, LineageExists, OneLineage, ResolutionExists, OneResolution, DerivedIsLineage, LineageIsDerived, LineageOnce, LineageHas, LineageSupersFirst, LineageRecorded, SettledStay, PreparedStay, PostedStay, RequestAnswerStays, ReferenceAnswerStays, OneRequestAnswer, OneReferenceAnswer, RunsAreSound, StepIsSound, ClashViolates, ViolationClashes, RecordedLoadStands, RecordedAnswers, UnmetIsFresh, ServiceGoesOn, ServiceIsWhole, NextStepMayHappen, BegunIsRun, OneNextStep, ComeToEnds, ServiceWithinCost, LoadNeedIsNext, ResolveNeedIsNext, SettleIsNext, LinkNeedIsNext, PrepareIsNext, LoadComes, ResolutionComes, ServicesGoOn, NoRoundLeft, WaitingIsNext, RootIsNext, MissingStops, FaultyStops, CircleStops, AnswersAtOnce, CircleIsAnswered, CircularIsAnswered, PartBegins, RunThen, RunParts, StateThen, SaidAlike, SaidReference, PlanIsReference, ReferenceIsPlan, RecordedIsReached, ReachedIsRecorded, AnsweredMaySettle, ImposedMayPrepare, SaidIsSettled, LinkedIsPrepared, LineagePrepared, FileIsSpelt, StepsThen, StepsSame, NextMayBeMade, StepAdds, TrustedIsConsistent, AllowedIsConsistent, TrustedGoesOn, TrustedParts, MayIsAllowed, RunsAreTrusted, DefinedOnce, AnsweredOnce, ToldInRound, ToldIsRecorded, ToldIsSettled, ToldIsPrepared, SameKey, ClassTexts, VerdictTexts, AnswerTexts, EventTexts};
+ghost use Rattle.cl_model.specs.Laws.{HomeOfHome, HomeIsProbed, ProbedOnce, ProbesAreLoaders, GoodIsNotFailing, RunGoesOn, RecordsStay, MetStays, NeverViolated, OneAnswer, HigherDerives, AnswersStay, DerivedIsGood, RecordedIsMet, RunsAreClosed, GoodIsDerived, ErrorIsFailing, OneError, GoodGrows, FailsGrows, FailingIsDerived, ReturnIsCircular, ReturnGoesOn, CircleReturns, ReturnIsDerived, OneSubject, FailureIsNoCircle, OneDerivation, GoodIsAtHome, ComesOut, CircularReturns, CircularGoesOn, PlanExists, OnePlan, LineageExists, OneLineage, ResolutionExists, OneResolution, DerivedIsLineage, LineageIsDerived, LineageOnce, LineageHas, LineageSupersFirst, LineageRecorded, SettledStay, PreparedStay, PostedStay, RequestAnswerStays, ReferenceAnswerStays, OneRequestAnswer, OneReferenceAnswer, RunsAreSound, StepIsSound, ClashViolates, ViolationClashes, RecordedLoadStands, RecordedAnswers, UnmetIsFresh, ServiceGoesOn, ServiceIsWhole, NextStepMayHappen, BegunIsRun, OneNextStep, ComeToEnds, ServiceWithinCost, LoadNeedIsNext, ResolveNeedIsNext, SettleIsNext, LinkNeedIsNext, PrepareIsNext, LoadComes, ResolutionComes, ServicesGoOn, NoRoundLeft, WaitingIsNext, RootIsNext, MissingStops, FaultyStops, CircleStops, AnswersAtOnce, CircleIsAnswered, CircularIsAnswered, PartBegins, RunThen, RunParts, StateThen, SaidAlike, SaidReference, PlanIsReference, ReferenceIsPlan, RecordedIsReached, ReachedIsRecorded, AnsweredMaySettle, ImposedMayPrepare, SaidIsSettled, LinkedIsPrepared, LineagePrepared, FileIsSpelt, StepsThen, StepsSame, NextMayBeMade, StepAdds, SameKey, ClassTexts, VerdictTexts, AnswerTexts, EventTexts};
 
 /// A home is its own home.
 pub fn home_of_home()
@@ -445,54 +445,6 @@ pub fn next_may_be_made()
 /// The step of a need adds it.
 pub fn step_adds()
     ensures { StepAdds }
-{}
-
-/// Trusted tables are consistent, under any source.
-pub fn trusted_is_consistent()
-    ensures { TrustedIsConsistent }
-{}
-
-/// A step that the tables allow keeps them consistent.
-pub fn allowed_is_consistent()
-    ensures { AllowedIsConsistent }
-{}
-
-/// Trusted tables stay so by a step that they allow.
-pub fn trusted_goes_on()
-    ensures { TrustedGoesOn }
-{}
-
-/// The parts of a trusted history.
-pub fn trusted_parts()
-    ensures { TrustedParts }
-{}
-
-/// In a closed state the tables allow a step that may happen.
-pub fn may_is_allowed()
-    ensures { MayIsAllowed }
-{}
-
-/// In a run the tables are trusted.
-pub fn runs_are_trusted()
-    ensures { RunsAreTrusted }
-{}
-
-/// A class is defined once, under any source.
-pub fn defined_once()
-    ensures { DefinedOnce }
-{}
-
-/// A request is answered once, under any source.
-pub fn answered_once()
-    ensures { AnsweredOnce }
-{}
-
-/// What an answer told rested on, under any source.
-pub fn told_rests_on_tables()
-    ensures in_round { ToldInRound }
-    ensures recorded { ToldIsRecorded }
-    ensures settled { ToldIsSettled }
-    ensures prepared { ToldIsPrepared }
 {}
 
 /// The test of two keys tells whether they are equal.

@@ -1,5 +1,6 @@
 ghost use Rattle.std.specs.Prelude.{◌≡◌, ◌≤◌, ℕ, List, [], ◌∷◌, ◌++◌, length, IfErr, IfOk, MatchOption};
-ghost use Rattle.std.specs.Prelude.{refl, nat_eq, Some};
+ghost use Rattle.std.specs.Prelude.{refl, nat_eq, Some, string_bytes};
+ghost use Rattle.std.specs.Option.{option_map};
 ghost use Rattle.std.specs.Ordering.{nat_cmp};
 ghost use Rattle.std.specs.Cmp;
 ghost use Rattle.std.specs.Cmp.Lexicographic.{pointwise, slice_cmp, nat_list_eq_equiv, nat_list_cmp_total, texts_ties, texts_po};
@@ -9,12 +10,14 @@ ghost use Rattle.std.proofs.Common.{rules};
 ghost use Rattle.cl_names.specs.Text.{IsModifiedUtf8};
 ghost use Rattle.cl_names.specs.Escape.{escaped, WritesName};
 ghost use Rattle.cl_names.specs.Name.{TestedNameOf, WritesClass};
+ghost use Rattle.cl_names.specs.Plain.{plain_of};
 
 use crate::escape::{printed, written};
 use crate::kind::{
     MAX_LEN, has_class_form, has_method_form, has_unqualified_form, is_class_name, is_method_name,
     is_unqualified_name, package_len,
 };
+use crate::plain::plain;
 use crate::text::is_text;
 use std::alloc::{AllocError, Global};
 use std::cmp::Ordering;
@@ -234,6 +237,14 @@ impl Name {
     }
 
     /// A copy: another handle on the same bytes, which takes no memory. An error only past as many copies
+    /// The name in UTF-8, as a system's paths are written, where a supplementary character is one character; none where
+    /// the name has U+0000 or half of a supplementary character.
+    pub fn plain(&self, alloc: Global) -> Result<Option<String>, AllocError>
+        ensures { IfOk result (λ o. option_map string_bytes o ≡ plain_of self.now) }
+    {
+        plain(alloc, self.bytes())
+    }
+
     /// as a counter counts.
     pub fn try_clone(&self, _alloc: Global) -> Result<Name, AllocError>
         ensures { IfOk result (λ name. name ≡ self.now) }

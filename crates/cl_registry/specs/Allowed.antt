@@ -26,16 +26,19 @@ EnteredIsAllowed =
 -- an answer that the machine may post to a request is backed, where request and answer name loaders of the configuration (5.3.5)
 abbrev pub AllowedIsBacked : Type 0
 AllowedIsBacked =
-    (content : Content) (x : Shown) (q : ℕ) (f : Answered) → IsKept (Some content) x → IsAsked x q f → loader_of f.request < length x.config.names → AnswerNames (length x.config.names) f.answer
+    (content : Content) (x : Shown) (q : ℕ) (f : Answered) → IsKept (Some content) x → IsAsked x q f
+    → loader_of f.request < length x.config.names → AnswerNames (length x.config.names) f.answer
     → MayPost (setting_of x.config x.script content) (state_of x) q (answer_of f.answer) → IsBacked x f
 
 -- an answer that is backed and rests on the content may be posted by the machine to its request, while that is open (5.3.5)
 abbrev pub BackedIsAllowed : Type 0
 BackedIsAllowed =
-    (content : Content) (x : Shown) (q : ℕ) (f : Answered) → IsKept (Some content) x → IsAsked x q f → IsOpen x q → IsBacked x f → Rests (Some content) f.request f.answer
+    (content : Content) (x : Shown) (q : ℕ) (f : Answered) → IsKept (Some content) x → IsAsked x q f
+    → IsOpen x q → IsBacked x f → Rests (Some content) f.request f.answer
     → MayPost (setting_of x.config x.script content) (state_of x) q (answer_of f.answer)
 
 -- a class of a loader that the configuration lacks has no record, and may not be entered (own choice)
 abbrev pub OtherLoaderIsStray : Type 0
 OtherLoaderIsStray =
-    (told : Option Content) (x : Shown) (d : Drafted) → IsKept told x → (d.class.loader < length x.config.names → ⊥) → DefineRefusedFor x d Stray
+    (told : Option Content) (x : Shown) (d : Drafted) → IsKept told x
+    → (d.class.loader < length x.config.names → ⊥) → DefineRefusedFor x d Stray

@@ -21,7 +21,7 @@ use Rattle.cl_delegation.specs.Worlds.{world_of}
 use Rattle.cl_hierarchy.specs.Drafts.{Drafted}
 use Rattle.cl_hierarchy.specs.Walks.{Walked, root, stands}
 
--- a request and its answer (own choice)
+-- a request and its answer
 pub record Answered : Type 0 where
   pub request : requests.Request
   pub answer : answers.Answer

@@ -25,7 +25,7 @@ IsPut old new loader name row =
 abbrev pub HasSameRows : {R : Type 0} → (ℕ → List ℕ → Option R) → (ℕ → List ℕ → Option R) → Type 0
 HasSameRows old new = (l : ℕ) (n : List ℕ) → new l n ≡ old l n
 
--- a table of handles, as one of what they share (own choice)
+-- a table of handles, as one of what they share
 abbrev pub shared_rows : {R V : Type 0} → (R → V) → (ℕ → List ℕ → Option R) → ℕ → List ℕ → Option V
 shared_rows value table l n = option_map value (table l n)
 

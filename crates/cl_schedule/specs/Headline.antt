@@ -29,15 +29,16 @@ abbrev pub EachSpelt : Option Content → Shown → Type 0
 EachSpelt None x = Unit {0}
 EachSpelt (Some content) x = (c : Class) → IsRecorded (state_of x) c → IsSpelt (machine x content).world c
 
--- the request of this number asks this, and was answered so (own choice)
+-- the request of this number asks this, and was answered so
 pub record Says (x : Shown) (q : ℕ) (r : requests.Request) (v : verdicts.Verdict) : Type 0 where
   pub asked : slice_get x.script.requests q ≡ Some r
   pub answered : slice_get x.answers q ≡ Some (Some (answers.TheVariants.Said v))
 
--- equal requests are answered alike, failures apart (own choice)
+-- equal requests are answered alike, failures apart
 abbrev pub Alike : Option Content → Shown → Type 0
 Alike None x = Unit {0}
-Alike (Some content) x = (p q : ℕ) (r : requests.Request) (v u : verdicts.Verdict) → Says x p r v → Says x q r u → v ≡ u
+Alike (Some content) x =
+    (p q : ℕ) (r : requests.Request) (v u : verdicts.Verdict) → Says x p r v → Says x q r u → v ≡ u
 
 -- a load ends in a circle of this class: its home's walk along first supertypes that are not good meets the class again (5.3.5)
 pub record EndsInCircle (w : World) (loader : ℕ) (name : List ℕ) (c : Class) : Type 0 where
@@ -53,7 +54,9 @@ pub record CircleAnswer (w : World) (loader : ℕ) (name : List ℕ) (v : verdic
 -- each load that is answered with a verdict is answered so (5.3.5)
 abbrev pub CirclesExact : Option Content → Shown → Type 0
 CirclesExact None x = Unit {0}
-CirclesExact (Some content) x = (q loader : ℕ) (name : List ℕ) (v : verdicts.Verdict) → Says x q (requests.TheVariants.Load loader name) v → CircleAnswer (machine x content).world loader name v
+CirclesExact (Some content) x =
+    (q loader : ℕ) (name : List ℕ) (v : verdicts.Verdict) → Says x q (requests.TheVariants.Load loader name) v
+    → CircleAnswer (machine x content).world loader name v
 
 -- the report of a script that was served in order under a configuration. Where a content is told, the history is a run
 -- of the linkage machine over it, in which each request is answered once, with what its plan yields in the state at that

@@ -10,11 +10,11 @@ use Rattle.cl_tasks.specs.declared.stage.Stage.{Stage}
 use Rattle.cl_tasks.specs.declared.stage.Stage.TheVariants.{Fresh, Looking, Searching, Defining, Done}
 use Rattle.cl_tasks.specs.Tasks.{Tasked, nowhere}
 
--- a task that is at work on its request (own choice)
+-- a task that is at work on its request
 abbrev pub at_work : {A : Type 0} → Phase → Job A → Tasked
 at_work phase j = record { q = j.q; phase = phase; request = Some j.request; walk = j.walk }
 
--- what contracts see of each stage (own choice)
+-- what contracts see of each stage
 abbrev pub task_at : {A : Type 0} → Stage A → Tasked
 task_at (Fresh j) = at_work phases.Fresh j
 task_at (Looking j) = at_work phases.Looking j

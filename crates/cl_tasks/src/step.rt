@@ -110,7 +110,7 @@ fn out_of_memory<T: Told>(job: Job<T>) -> Next<T>
     post(job.q, Finding::memory(job.request))
 }
 
-/// The source refused a read, for want of memory or for another cause.
+/// The source refused a read, out of memory or for another cause.
 fn blame_source<T: Told>(job: Job<T>, fault: SourceFault) -> Next<T>
     requires job { IsFor job.request job.walk }
     ensures stage { result.stage ≡ Stage.Done job.q }

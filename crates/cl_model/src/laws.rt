@@ -1,8 +1,16 @@
-ghost use Rattle.cl_model.specs.Laws.{HomeOfHome, GoodIsNotFailing, RunGoesOn, RecordsStay, MetStays, NeverViolated, OneAnswer, HigherDerives, AnswersStay, DerivedIsGood, RecordedIsMet, RunsAreClosed, GoodIsDerived, ErrorIsFailing, OneError, GoodGrows, FailsGrows, FailingIsDerived, ReturnIsCircular, ReturnGoesOn, CircleReturns, ReturnIsDerived, OneSubject, FailureIsNoCircle, OneDerivation, GoodIsAtHome, ComesOut, CircularReturns, CircularGoesOn, PlanExists, OnePlan, LineageExists, OneLineage, ResolutionExists, OneResolution, DerivedIsLineage, LineageIsDerived, SettledStay, PreparedStay, PostedStay, RequestAnswerStays, ReferenceAnswerStays, OneRequestAnswer, OneReferenceAnswer, RunsAreSound, StepIsSound, ClashViolates, ViolationClashes, RecordedLoadStands, RecordedAnswers, UnmetIsFresh, ServiceGoesOn, ServiceIsWhole, ServicesGoOn, WaitingIsNext, RootIsNext, MissingStops, FaultyStops, CircleStops, AnswersAtOnce, CircleIsAnswered, CircularIsAnswered, PartBegins, RunThen, RunParts, StateThen, SaidAlike, SaidReference, FileIsSpelt, StepsThen, StepsSame, NextMayBeMade, StepAdds, OrderlyIsTrusted, AllowedIsTrusted, OrderlyGoesOn, RunsAreOrderly, DefinedOnce, SameKey, ClassTexts, VerdictTexts, AnswerTexts, EventTexts};
+ghost use Rattle.cl_model.specs.Laws.{HomeOfHome, HomeIsProbed, ProbedOnce, ProbesAreLoaders, GoodIsNotFailing, RunGoesOn, RecordsStay, MetStays, NeverViolated, OneAnswer, HigherDerives, AnswersStay, DerivedIsGood, RecordedIsMet, RunsAreClosed, GoodIsDerived, ErrorIsFailing, OneError, GoodGrows, FailsGrows, FailingIsDerived, ReturnIsCircular, ReturnGoesOn, CircleReturns, ReturnIsDerived, OneSubject, FailureIsNoCircle, OneDerivation, GoodIsAtHome, ComesOut, CircularReturns, CircularGoesOn, PlanExists, OnePlan, LineageExists, OneLineage, ResolutionExists, OneResolution, DerivedIsLineage, LineageIsDerived, LineageOnce, LineageHas, LineageSupersFirst, LineageRecorded, SettledStay, PreparedStay, PostedStay, RequestAnswerStays, ReferenceAnswerStays, OneRequestAnswer, OneReferenceAnswer, RunsAreSound, StepIsSound, ClashViolates, ViolationClashes, RecordedLoadStands, RecordedAnswers, UnmetIsFresh, ServiceGoesOn, ServiceIsWhole, NextStepMayHappen, BegunIsRun, OneNextStep, ComeToEnds, ServiceWithinCost, LoadNeedIsNext, ResolveNeedIsNext, SettleIsNext, LinkNeedIsNext, PrepareIsNext, LoadComes, ResolutionComes, ServicesGoOn, NoRoundLeft, WaitingIsNext, RootIsNext, MissingStops, FaultyStops, CircleStops, AnswersAtOnce, CircleIsAnswered, CircularIsAnswered, PartBegins, RunThen, RunParts, StateThen, SaidAlike, SaidReference, PlanIsReference, ReferenceIsPlan, RecordedIsReached, ReachedIsRecorded, AnsweredMaySettle, ImposedMayPrepare, SaidIsSettled, LinkedIsPrepared, LineagePrepared, FileIsSpelt, StepsThen, StepsSame, NextMayBeMade, StepAdds, SameKey, ClassTexts, VerdictTexts, AnswerTexts, EventTexts};
 
 /// A home is its own home.
 pub fn home_of_home()
     ensures { HomeOfHome }
+{}
+
+/// A home is the first of the loaders that are probed whose own content has the name; each of these is a loader, and
+/// none is probed twice.
+pub fn home_is_probed()
+    ensures home { HomeIsProbed }
+    ensures once { ProbedOnce }
+    ensures loaders { ProbesAreLoaders }
 {}
 
 /// What is good does not fail.
@@ -185,6 +193,14 @@ pub fn lineage_is_derived()
     ensures { LineageIsDerived }
 {}
 
+/// A lineage has each class once, its own too, each after its direct supertypes; those of a recorded class are recorded.
+pub fn lineage_is_ordered()
+    ensures once { LineageOnce }
+    ensures own { LineageHas }
+    ensures supers_first { LineageSupersFirst }
+    ensures recorded { LineageRecorded }
+{}
+
 /// A settled verdict never changes.
 pub fn settled_stay()
     ensures { SettledStay }
@@ -255,19 +271,60 @@ pub fn unmet_is_fresh()
     ensures { UnmetIsFresh }
 {}
 
-/// A beginning of a service goes on by the need that comes next.
+/// A service that was begun goes on by the step that comes next.
 pub fn service_goes_on()
     ensures { ServiceGoesOn }
 {}
 
-/// A beginning of a service in whose last state the request has an answer is whole.
+/// A service that was begun is whole once its answer is posted.
 pub fn service_is_whole()
     ensures { ServiceIsWhole }
 {}
 
-/// Services go on by that of the next request.
+/// What comes next in a service may happen, so that a service that was begun is a run.
+pub fn service_is_run()
+    ensures step { NextStepMayHappen }
+    ensures run { BegunIsRun }
+{}
+
+/// At most one step comes next in a service, and none once it has come to its verdict.
+pub fn one_next_step()
+    ensures one { OneNextStep }
+    ensures none { ComeToEnds }
+{}
+
+/// The need that comes next in the plan of a load or of a resolution is served next.
+pub fn need_is_next()
+    ensures load { LoadNeedIsNext }
+    ensures resolve { ResolveNeedIsNext }
+{}
+
+/// What comes next past the load: of a resolution that its reference is settled, of a link what links each class in turn.
+pub fn past_load_is_next()
+    ensures settle { SettleIsNext }
+    ensures need { LinkNeedIsNext }
+    ensures prepare { PrepareIsNext }
+{}
+
+/// What may be said of a load or of a resolution is what its service comes to.
+pub fn said_is_come_to()
+    ensures load { LoadComes }
+    ensures resolve { ResolutionComes }
+{}
+
+/// Whatever else happens, the steps of a request's service, and its post, are within its cost.
+pub fn service_within_cost()
+    ensures { ServiceWithinCost }
+{}
+
+/// Services go on by that of the next request, and by the rounds that begin after it.
 pub fn services_go_on()
     ensures { ServicesGoOn }
+{}
+
+/// Once all are served no later round may begin.
+pub fn no_round_left()
+    ensures { NoRoundLeft }
 {}
 
 /// Where a superclass is recorded, the record of the class that waits for it is the need that comes next.
@@ -310,7 +367,7 @@ pub fn circular_is_answered()
     ensures { CircularIsAnswered }
 {}
 
-/// A beginning of what needs make is a beginning.
+/// The first part of a service that was begun is one.
 pub fn part_begins()
     ensures { PartBegins }
 {}
@@ -340,6 +397,31 @@ pub fn said_reference()
     ensures { SaidReference }
 {}
 
+/// Past its load a resolution is answered as the reference, and the reference as the resolution.
+pub fn plan_is_reference()
+    ensures reference { PlanIsReference }
+    ensures plan { ReferenceIsPlan }
+{}
+
+/// Where a loader records the class of a request, its plan reaches that class past its load; and the other way round.
+pub fn reached_is_recorded()
+    ensures reached { RecordedIsReached }
+    ensures recorded { ReachedIsRecorded }
+{}
+
+/// What may be settled, and what may be prepared.
+pub fn answered_may_settle()
+    ensures settle { AnsweredMaySettle }
+    ensures prepare { ImposedMayPrepare }
+{}
+
+/// What a posted verdict rests on.
+pub fn said_is_settled()
+    ensures settled { SaidIsSettled }
+    ensures prepared { LinkedIsPrepared }
+    ensures lineage { LineagePrepared }
+{}
+
 /// What has a file is spelled by its own bytes, and the file names it.
 pub fn file_is_spelt()
     ensures { FileIsSpelt }
@@ -363,31 +445,6 @@ pub fn next_may_be_made()
 /// The step of a need adds it.
 pub fn step_adds()
     ensures { StepAdds }
-{}
-
-/// Tables that were kept in order can be trusted, under any source.
-pub fn orderly_is_trusted()
-    ensures { OrderlyIsTrusted }
-{}
-
-/// A step that trusted tables allow keeps them so.
-pub fn allowed_is_trusted()
-    ensures { AllowedIsTrusted }
-{}
-
-/// Tables in order stay so by a step that they allow.
-pub fn orderly_goes_on()
-    ensures { OrderlyGoesOn }
-{}
-
-/// A run keeps the tables in order.
-pub fn runs_are_orderly()
-    ensures { RunsAreOrderly }
-{}
-
-/// A class is defined once, under any source.
-pub fn defined_once()
-    ensures { DefinedOnce }
 {}
 
 /// The test of two keys tells whether they are equal.

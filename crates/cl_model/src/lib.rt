@@ -4,10 +4,11 @@
 mod answer;
 mod class;
 mod event;
+pub mod examples;
 pub mod laws;
 mod loader;
 mod request;
-pub mod rows;
+pub mod table_laws;
 mod told;
 mod verdict;
 

@@ -1,5 +1,6 @@
-ghost use Rattle.std.specs.Prelude.{◌≡◌, ◌≤◌, ℕ, List, [], ◌∷◌, ◌++◌, length, IfErr, IfOk};
-ghost use Rattle.std.specs.Prelude.{refl, nat_eq, Some};
+ghost use Rattle.std.specs.Prelude.{◌≡◌, ◌≤◌, ℕ, List, [], ◌∷◌, ◌++◌, length, IfErr, IfOk, MatchOption};
+ghost use Rattle.std.specs.Prelude.{refl, nat_eq, Some, string_bytes};
+ghost use Rattle.std.specs.Option.{option_map};
 ghost use Rattle.std.specs.Ordering.{nat_cmp};
 ghost use Rattle.std.specs.Cmp;
 ghost use Rattle.std.specs.Cmp.Lexicographic.{pointwise, slice_cmp, nat_list_eq_equiv, nat_list_cmp_total, texts_ties, texts_po};
@@ -7,36 +8,40 @@ ghost use Rattle.std.specs.Cmp.Rules.{hashing};
 ghost use Rattle.std.specs.Hash as fed;
 ghost use Rattle.std.proofs.Common.{rules};
 ghost use Rattle.cl_names.specs.Text.{IsModifiedUtf8};
-ghost use Rattle.cl_names.specs.Escape.{escaped};
-ghost use Rattle.cl_names.specs.Form.{completes};
-ghost use Rattle.cl_names.specs.Name.{TestedNameOf};
+ghost use Rattle.cl_names.specs.Escape.{escaped, WritesName};
+ghost use Rattle.cl_names.specs.Name.{TestedNameOf, WritesClass};
+ghost use Rattle.cl_names.specs.Plain.{plain_of};
 
 use crate::escape::{printed, written};
-use crate::form::Form;
 use crate::kind::{
-    MAX_LEN, is_class_name, is_method_name, is_unqualified_name, package_len, read_form,
+    MAX_LEN, has_class_form, has_method_form, has_unqualified_form, is_class_name, is_method_name,
+    is_unqualified_name, package_len,
 };
+use crate::plain::plain;
+use crate::text::is_text;
 use std::alloc::{AllocError, Global};
 use std::cmp::Ordering;
 use std::hash::{Hash, Hasher};
 use std::marker::Model;
+use std::sync::ArcSlice;
 use thiserror::Error;
 
-/// A name, in modified UTF-8 (JVMS SE 8, 4.4.7).
+/// A name, in modified UTF-8 (JVMS SE 8, 4.4.7). Its copies share one allocation of the bytes.
 #[derive(Debug, Drop)]
 pub struct Name {
-    bytes: Vec<u8>,
+    bytes: ArcSlice<u8>,
 }
 
 impl Model for Name {
     ghost use Rattle.std.specs.Prelude.{ℕ, List, length, ◌≤◌};
+    ghost use Rattle.std.specs.Arc.{arc_slice_items};
     ghost use Rattle.cl_names.specs.Text.{IsModifiedUtf8};
 
     ghost Value = { List ℕ };
 
-    ghost view = { λ n. n.bytes.items };
+    ghost view = { λ n. arc_slice_items n.bytes };
 
-    ghost invariant = { λ n. IsModifiedUtf8 n.bytes.items × (length n.bytes.items ≤ 65535) };
+    ghost invariant = { λ n. IsModifiedUtf8 (arc_slice_items n.bytes) × (length (arc_slice_items n.bytes) ≤ 65535) };
 }
 
 impl PartialEq for Name {
@@ -120,7 +125,18 @@ impl Name {
     pub fn any(alloc: Global, bytes: &[u8]) -> Result<Name, NameFault>
         ensures { NameOf bytes.now result }
     {
-        spelled(alloc, bytes, Form::Any)
+        spelled(alloc, bytes, true)
+    }
+
+    /// The name whose bytes these are, which are known to be text: they are copied, and not looked at again.
+    pub fn of_text(alloc: Global, bytes: &[u8]) -> Result<Name, AllocError>
+        requires text { IsModifiedUtf8 bytes.now }
+        requires short { length bytes.now ≤ 65535 }
+        ensures { IfOk result (λ name. name ≡ bytes.now) }
+    {
+        Ok(Name {
+            bytes: ArcSlice::from_slice(alloc, bytes)?,
+        })
     }
 
     /// The class's name that the bytes spell, unqualified names with `/` between them: `NotModifiedUtf8`,
@@ -128,7 +144,7 @@ impl Name {
     pub fn class(alloc: Global, bytes: &[u8]) -> Result<Name, NameFault>
         ensures { KindNameOf IsClass bytes.now result }
     {
-        spelled(alloc, bytes, Form::Class { fresh: true })
+        spelled(alloc, bytes, has_class_form(bytes))
     }
 
     /// The unqualified name that the bytes spell, with none of `.` `;` `[` `/`: `NotModifiedUtf8`, then
@@ -136,7 +152,7 @@ impl Name {
     pub fn unqualified(alloc: Global, bytes: &[u8]) -> Result<Name, NameFault>
         ensures { KindNameOf IsUnqualified bytes.now result }
     {
-        spelled(alloc, bytes, Form::Unqualified { fresh: true })
+        spelled(alloc, bytes, has_unqualified_form(bytes))
     }
 
     /// The method's name that the bytes spell, unqualified without `<` and `>`, or `<init>` or
@@ -145,7 +161,7 @@ impl Name {
     pub fn method(alloc: Global, bytes: &[u8]) -> Result<Name, NameFault>
         ensures { KindNameOf IsMethod bytes.now result }
     {
-        spelled(alloc, bytes, Form::Method { fresh: true })
+        spelled(alloc, bytes, has_method_form(bytes))
     }
 
     /// The name of any kind that escaped text writes: each code unit as itself, where it is one of
@@ -155,7 +171,7 @@ impl Name {
         ensures { TextNameOf text.now result }
     {
         Ok(Name {
-            bytes: written(alloc, text.as_bytes())?,
+            bytes: ArcSlice::from_vec(written(alloc, text.as_bytes())?)?,
         })
     }
 
@@ -220,27 +236,53 @@ impl Name {
         self.bytes.as_slice()
     }
 
-    /// A copy. Only want of memory refuses it.
-    pub fn try_clone(&self, alloc: Global) -> Result<Name, AllocError>
+    /// A copy: another handle on the same bytes, which takes no memory. An error only past as many copies
+    /// The name in UTF-8, as a system's paths are written, where a supplementary character is one character; none where
+    /// the name has U+0000 or half of a supplementary character.
+    pub fn plain(&self, alloc: Global) -> Result<Option<String>, AllocError>
+        ensures { IfOk result (λ o. option_map string_bytes o ≡ plain_of self.now) }
+    {
+        plain(alloc, self.bytes())
+    }
+
+    /// as a counter counts.
+    pub fn try_clone(&self, _alloc: Global) -> Result<Name, AllocError>
         ensures { IfOk result (λ name. name ≡ self.now) }
     {
         Ok(Name {
-            bytes: Vec::from_slice(alloc, self.bytes())?,
+            bytes: self.bytes.clone()?,
         })
     }
 }
 
-/// The name that the bytes spell, where they have this form.
-fn spelled(alloc: Global, bytes: &[u8], form: Form) -> Result<Name, NameFault>
-    ensures { TestedNameOf (completes form bytes.now) bytes.now result }
+/// The class's name that escaped text writes, if it writes one (JVMS SE 8, 4.2.1): what a script or a
+/// bundle calls a class by. A text that writes no name is told without regard to memory.
+pub fn class_name(alloc: Global, text: &str) -> Result<Option<Name>, AllocError>
+    ensures writes { IfOk result (λ found. MatchOption found ((name : List ℕ) → WritesClass text.now name → ⊥) (λ name. WritesClass text.now name)) }
+    ensures memory { IfErr result (λ _. (name : List ℕ) × WritesName text.now name) }
 {
-    let Some(has_form) = read_form(bytes, form) else {
-        return Err(NameFault::NotModifiedUtf8);
+    let name = match Name::from_text(alloc, text) {
+        Ok(name) => name,
+        Err(NameFault::Memory) => return Err(AllocError),
+        Err(NameFault::NotModifiedUtf8) => return Ok(None),
+        Err(NameFault::BadName) => return Ok(None),
     };
+    if !name.is_class() {
+        return Ok(None);
+    }
+    Ok(Some(name))
+}
+
+/// The name that the bytes spell, where they have the form that is wanted.
+#[tactic(auto, using(crate::proofs::Texts::text_from_test))]
+fn spelled(alloc: Global, bytes: &[u8], has_form: bool) -> Result<Name, NameFault>
+    ensures { TestedNameOf has_form bytes.now result }
+{
+    if !is_text(bytes) {
+        return Err(NameFault::NotModifiedUtf8);
+    }
     if !has_form || bytes.len() > MAX_LEN {
         return Err(NameFault::BadName);
     }
-    Ok(Name {
-        bytes: Vec::from_slice(alloc, bytes)?,
-    })
+    Ok(Name::of_text(alloc, bytes)?)
 }

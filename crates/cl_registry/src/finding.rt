@@ -3,9 +3,8 @@ ghost use Rattle.cl_model.specs.declared.verdict.Verdict.TheVariants as verdicts
 ghost use Rattle.cl_model.specs.declared.answer.Answer.TheVariants as answers;
 ghost use Rattle.cl_registry.specs.Findings.{IsFor, Stops, verdict_at, kind_of, missing_kind, Rests};
 
-use crate::draft::{Draft, DraftFault, Unreadable};
-use crate::search::Unfound;
-use crate::walk::Walk;
+use cl_delegation::Unfound;
+use cl_hierarchy::{Draft, DraftFault, Unreadable, Walk};
 use cl_model::{Answer, Class, ErrorKind, LoaderId, Request, Told, Verdict};
 use cl_names::Name;
 use std::marker::{Model, PhantomData};
@@ -66,19 +65,23 @@ fn verdict_at<T: Told>(request: &Request, walk: Walk<T>, end: Obstacle<T>) -> Ve
     ensures verdict { result ≡ verdict_at walk end }
     ensures rests { Rests T.told request.now (answers.Said result) }
 {
+    // brings what a walk keeps
     let _ = walk.at();
     match end {
         Obstacle::Missing(unfound) => {
+            // brings that no content has the name, where one is told
             let _ = unfound.name();
             let kind = missing_kind(&walk);
             Verdict::Error(kind, walk.into_class())
         }
         Obstacle::Unreadable(unreadable) => {
+            // brings that the bytes are the home's, where a content is told
             let _ = unreadable.home().bytes();
             let kind = kind_of(unreadable.fault());
             Verdict::Error(kind, walk.into_class())
         }
         Obstacle::Circle(draft, above) => {
+            // brings that the draft is its class's, where a content is told
             let _ = draft.super_name();
             let loader = walk.loader();
             let class = Class {

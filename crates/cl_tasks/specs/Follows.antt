@@ -9,13 +9,13 @@ use Rattle.cl_model.specs.States.{State, Entry, IsRecorded}
 use Rattle.cl_model.specs.Machine.{Setting, AnswersPlan, IsClosed}
 use Rattle.cl_model.specs.Service.{IsNextNeed}
 use Rattle.cl_model.specs.Views.{request_of, verdict_of}
-use Rattle.cl_registry.specs.declared.source.SourceFault.{SourceFault}
-use Rattle.cl_registry.specs.declared.source.SourceFault.TheVariants as faults
+use Rattle.cl_source.specs.declared.source.SourceFault.{SourceFault}
+use Rattle.cl_source.specs.declared.source.SourceFault.TheVariants as faults
 use Rattle.cl_registry.specs.Findings.{loader_of}
 use Rattle.cl_registry.specs.Tables.{Shown, state_of, MayEnter, IsBacked}
-use Rattle.cl_registry.specs.Views.{Configured}
-use Rattle.cl_registry.specs.Walks.{Walked}
-use Rattle.cl_registry.specs.Worlds.{world_of}
+use Rattle.cl_config.specs.Views.{Configured}
+use Rattle.cl_hierarchy.specs.Walks.{Walked}
+use Rattle.cl_delegation.specs.Worlds.{world_of}
 use Rattle.cl_tasks.specs.declared.stage.Reply.{Reply}
 use Rattle.cl_tasks.specs.declared.stage.Reply.TheVariants as reply
 use Rattle.cl_tasks.specs.declared.stage.Turn.{Turn}
@@ -76,7 +76,7 @@ FollowsWhere told holds r t = (g : Setting) (s : State) → ServedIn told g s r 
 
 -- ---- faults
 
--- the answer that a refused read is: want of memory, or what was to be read (own choice)
+-- the answer that a refused read is: out of memory, or what was to be read (own choice)
 abbrev pub fault_answer : Walked → SourceFault → Answer
 fault_answer w faults.Memory = answers.Memory
 fault_answer w faults.Device = answers.SourceFault w.at w.loader
@@ -92,20 +92,20 @@ refusal w (reply.Defined row) = None
 refusal w (reply.Memory) = Some answers.Memory
 refusal w (reply.SourceFault fault) = Some (fault_answer w fault)
 
--- an answer is no fault of the source (own choice)
+-- an answer is no fault of the source
 abbrev pub NoFault : Answer → Type 0
 NoFault (answers.Said v) = Unit {0}
 NoFault answers.Memory = Unit {0}
 NoFault (answers.SourceFault name loader) = ⊥
 
--- a turn posts no fault of the source (own choice)
+-- a turn posts no fault of the source
 abbrev pub PostsNoFault : {A : Type 0} → Turn A → Type 0
 PostsNoFault (turn.Look l n) = Unit {0}
 PostsNoFault (turn.Read l n) = Unit {0}
 PostsNoFault (turn.Define d) = Unit {0}
 PostsNoFault (turn.Post f) = NoFault f.answer
 
--- a turn posts this answer (own choice)
+-- a turn posts this answer
 abbrev pub Posts : {A : Type 0} → Answer → Turn A → Type 0
 Posts a (turn.Look l n) = ⊥
 Posts a (turn.Read l n) = ⊥

@@ -1,7 +1,7 @@
 -- What contracts see of a task, and how many turns it has left at most.
 use Rattle.std.specs.Prelude.{◌+◌, ◌*◌, ◌-◌, ℕ, [], length, Option}
 use Rattle.cl_model.specs.declared.request.Request.{Request}
-use Rattle.cl_registry.specs.Walks.{Walked, most}
+use Rattle.cl_hierarchy.specs.Walks.{Walked, most}
 use Rattle.cl_tasks.specs.declared.phase.Phase.{Phase}
 use Rattle.cl_tasks.specs.declared.phase.Phase.TheVariants.{Fresh, Looking, Reading, Defining, Done}
 
@@ -12,11 +12,11 @@ pub record Tasked : Type 0 where
   pub request : Option Request
   pub walk : Walked
 
--- the walk of a task that is done (own choice)
+-- the walk of a task that is done
 abbrev pub nowhere : Walked
 nowhere = record { loader = 0; drafts = []; at = [] }
 
--- no more than this many turns are left, with this many classes on the walk (own choice)
+-- no more than this many turns are left, with this many classes on the walk
 abbrev pub left_at : Phase → ℕ → ℕ
 left_at Fresh k = most + 3 * (most - k) + 4
 left_at Looking k = most + 3 * (most - k) + 3
@@ -24,6 +24,6 @@ left_at Reading k = most + 3 * (most - k) + 2
 left_at Defining k = k + 1
 left_at Done k = 0
 
--- the same of a task (own choice)
+-- the same of a task
 abbrev pub left : Tasked → ℕ
 left t = left_at t.phase (length t.walk.drafts)

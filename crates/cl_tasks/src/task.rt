@@ -7,8 +7,9 @@ ghost use Rattle.cl_tasks.specs.declared.phase.Phase.TheVariants.{Fresh};
 
 use crate::stage::{Job, Reply, Stage, Turn};
 use crate::step::{expects, step};
+use cl_config::Config;
+use cl_hierarchy::Walk;
 use cl_model::{Request, Told};
-use cl_registry::{Config, Walk};
 use std::alloc::Global;
 use std::marker::Model;
 use std::mem;
@@ -24,11 +25,11 @@ pub struct Task<T: Told> {
 
 impl<T: Told> Model for Task<T> {
     ghost use Rattle.cl_tasks.specs.Tasks.{Tasked};
-    ghost use Rattle.cl_tasks.specs.Stages.{IsStage, tasked};
+    ghost use Rattle.cl_tasks.specs.Stages.{IsStage, task_at};
 
     ghost Value = { Tasked };
 
-    ghost view = { λ t. tasked t.stage };
+    ghost view = { λ t. task_at t.stage };
 
     ghost invariant = { λ t. IsStage t.config.value t.stage };
 }

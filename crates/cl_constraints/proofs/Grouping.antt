@@ -3,9 +3,9 @@ use Rattle.std.proofs.Common.{◌≡◌, ◌≢◌, ◌⊎◌, inl, inr, ℕ, Bo
 use Rattle.std.specs.List.{list_any}
 use Rattle.std.proofs.lemmas.Bool.{eqb-true}
 use Rattle.std.proofs.lemmas.List.Edits.{map_over_more}
-use Rattle.std.specs.Prelude.{option_map, if◌then◌else◌}
+use Rattle.std.specs.Prelude.{option_map, if◌then◌else◌, Result, Ok, Err, OnOk, OnErr}
 use Rattle.cl_constraints.specs.declared.grouped.Entered.{Entered}
-use Rattle.cl_constraints.specs.Groups.{Joint, Grouped, home_in, has, group_of, shared, AreJoined, AreApart, HasItsHome, HaveHomes, IsGrouped, home_or, class_in, IsClassOf, loaders_or, members, with_home, or_else, merged}
+use Rattle.cl_constraints.specs.Groups.{Joint, Grouped, home_in, has, group_of, shared, AreJoined, AreApart, HasItsHome, HaveHomes, IsGrouped, home_or, class_in, IsClassOf, loaders_or, members, with_home, or_else, without, joint_of, merged}
 use Rattle.cl_constraints.specs.Singles.{Differs, Divides, Enters, Joins}
 
 -- a loader that is in no group shares none
@@ -30,6 +30,7 @@ shared_found (g ∷ gs) a b h = at (has g.loaders a) (λ k. none_shared gs a b (
     or_false : (x y : Bool) → y ≡ false → (x || y) ≡ x
     or_false true y k = refl
     or_false false y k = k
+
     at : (x : Bool) → (x ≡ true → shared gs a b ≡ false) → shared gs a b ≡ in_group (group_of gs a) b → ((x && has g.loaders b) || shared gs a b) ≡ in_group (if x then Some g else group_of gs a) b
     at true k ih = or_false (has g.loaders b) (shared gs a b) (k refl)
     at false k ih = ih
@@ -149,9 +150,10 @@ homed_apart l h [] apart = tt
 homed_apart l h (g ∷ gs) apart = (λ x k. homed_any l h x gs ∙ apart.0 x (sym (with_home_has l h x g) ∙ k), homed_apart l h gs apart.1)
 
 pub homed_joined : (l h a b : ℕ) (gs : List Joint) → AreJoined (map (with_home l h) gs) a b ↔ AreJoined gs a b
-homed_joined l h a b gs =
-    (λ (j : AreJoined (map (with_home l h) gs) a b). elim j as (λ _. AreJoined gs a b) [ inl k ↦ inl k | inr k ↦ inr (sym (homed_shared l h a b gs) ∙ k) ],
-     λ (j : AreJoined gs a b). elim j as (λ _. AreJoined (map (with_home l h) gs) a b) [ inl k ↦ inl k | inr k ↦ inr (homed_shared l h a b gs ∙ k) ])
+homed_joined l h a b gs = (
+  λ (j : AreJoined (map (with_home l h) gs) a b). elim j as (λ _. AreJoined gs a b) [ inl k ↦ inl k | inr k ↦ inr (sym (homed_shared l h a b gs) ∙ k) ],
+  λ (j : AreJoined gs a b). elim j as (λ _. AreJoined (map (with_home l h) gs) a b) [ inl k ↦ inl k | inr k ↦ inr (homed_shared l h a b gs ∙ k) ],
+)
 
 -- a loop that notes a home at one group after another
 pub noted : (l h : ℕ) (gs ys : List Joint) (i : ℕ) (x y : Joint) → i < length gs → ys ≡ map (with_home l h) (take i gs) ++ drop i gs → x ≡ get_or ys i x → y ≡ with_home l h (get_or ys i x) → set ys i y ≡ map (with_home l h) (take (i + 1) gs) ++ drop (i + 1) gs
@@ -213,19 +215,21 @@ has_home_entered rs l h g fresh old agree = at (has g.loaders l) refl
             | inr y ↦ old.every x p i y.1
           ];
           some = λ p e.
-            let found = old.some p e in
-            let ne : found.0 ≢ l = λ s. (let t : home_in rs l ≡ Some p = subst (λ (z : ℕ). home_in rs z ≡ Some p) s found.2 in let z : None ≡ Some p = sym fresh ∙ t in absurd cc) in
-            (found.0, found.1, home_elsewhere rs l h found.0 ne ∙ found.2);
+              let found = old.some p e in
+              let ne : found.0 ≢ l = λ s. (let t : home_in rs l ≡ Some p = subst (λ (z : ℕ). home_in rs z ≡ Some p) s found.2 in let z : None ≡ Some p = sym fresh ∙ t in absurd cc) in
+              (found.0, found.1, home_elsewhere rs l h found.0 ne ∙ found.2);
         }
 
 pub have_homes_entered : (rs : List Entered) (l h : ℕ) (gs : List Joint) → home_in rs l ≡ None → HaveHomes rs gs → ((x p : ℕ) → shared gs l x ≡ true → home_in rs x ≡ Some p → p ≡ h) → HaveHomes (entered rs l h) (map (with_home l h) gs)
 have_homes_entered rs l h [] fresh old agree = tt
-have_homes_entered rs l h (g ∷ gs) fresh old agree =
-    (has_home_entered rs l h g fresh old.0 (λ x p i j e. agree x p (both (has g.loaders l) (has g.loaders x) (shared gs l x) i j) e),
-     have_homes_entered rs l h gs fresh old.1 (λ x p s e. agree x p (later (has g.loaders l && has g.loaders x) (shared gs l x) s) e))
+have_homes_entered rs l h (g ∷ gs) fresh old agree = (
+  has_home_entered rs l h g fresh old.0 (λ x p i j e. agree x p (both (has g.loaders l) (has g.loaders x) (shared gs l x) i j) e),
+  have_homes_entered rs l h gs fresh old.1 (λ x p s e. agree x p (later (has g.loaders l && has g.loaders x) (shared gs l x) s) e),
+)
   where
     both : (a b c : Bool) → a ≡ true → b ≡ true → ((a && b) || c) ≡ true
     both a b c i j = rw i (rw j refl)
+
     later : (a b : Bool) → b ≡ true → (a || b) ≡ true
     later true b s = refl
     later false b s = s
@@ -352,12 +356,15 @@ kept_shares a b c x (g ∷ gs) apart clear h = at (is_clear a b g) refl (has g.l
     and_false : (p q : Bool) → p ≡ false → (p && q) ≡ false
     and_false true q e = absurd cc
     and_false false q e = refl
+
     and_right : (p q : Bool) → q ≡ false → (p && q) ≡ false
     and_right true q e = e
     and_right false q e = refl
+
     or_both : (p q : Bool) → p ≡ false → q ≡ false → (p || q) ≡ false
     or_both true q e k = absurd cc
     or_both false q e k = k
+
     at : (p : Bool) → is_clear a b g ≡ p → (q : Bool) → has g.loaders x ≡ q → (list_any (λ g. has g.loaders x) (kept a b gs) ≡ true → shared gs c x ≡ false) → list_any (λ g. has g.loaders x) (if p then g ∷ kept a b gs else kept a b gs) ≡ true → ((has g.loaders c && has g.loaders x) || shared gs c x) ≡ false
     at true i true j ih h = or_both (has g.loaders c && has g.loaders x) (shared gs c x) (and_false (has g.loaders c) (has g.loaders x) (clear g i)) (none_shared_back gs c x (apart.0 x j))
     at true i false j ih h =
@@ -463,7 +470,7 @@ shared_merged : (v : Grouped) (a b x y : ℕ) → has (members v.groups a ++ mem
 shared_merged v a b x y h k =
     let all = members v.groups a ++ members v.groups b in
     inr (any_append (λ g. has g.loaders x && has g.loaders y) (kept a b v.groups) (record { home = or_else (class_in v a) (class_in v b); loaders = all } ∷ [])
-      ∙ or_right (shared (kept a b v.groups) x y) ((has all x && has all y) || false) (or_left (has all x && has all y) false (and_both (has all x) (has all y) h k)))
+    ∙ or_right (shared (kept a b v.groups) x y) ((has all x && has all y) || false) (or_left (has all x && has all y) false (and_both (has all x) (has all y) h k)))
 
 unshared : (gs : List Joint) (a b x : ℕ) → AreApart gs → has (members gs a ++ members gs b) x ≡ false → (shared gs a x ≡ false) × (shared gs b x ≡ false)
 unshared gs a b x apart h = (at a (shared gs a x) refl (λ s. has_merged gs a b x apart (inl (inr s))), at b (shared gs b x) refl (λ s. has_merged gs a b x apart (inr (inr s))))
@@ -485,8 +492,10 @@ merged_from v a b x y ok (inr s) =
   where
     all : List ℕ
     all = members v.groups a ++ members v.groups b
+
     J : ℕ → ℕ → Type 0
     J p q = AreJoined v.groups p q
+
     both : J a x ⊎ J b x → J a y ⊎ J b y → Joins J a b x y
     both (inl i) (inl j) = inl (grouped_then v.groups x a y ok.apart (grouped_back v.groups a x i) j)
     both (inl i) (inr j) = inr (inl (grouped_back v.groups a x i, j))
@@ -501,24 +510,27 @@ merged_to v a b x y ok (inl (inr s)) = at (has all x) refl
   where
     all : List ℕ
     all = members v.groups a ++ members v.groups b
+
     along : AreJoined v.groups a x ⊎ AreJoined v.groups b x → AreJoined v.groups a y ⊎ AreJoined v.groups b y
     along (inl i) = inl (grouped_then v.groups a x y ok.apart i (inr s))
     along (inr i) = inr (grouped_then v.groups b x y ok.apart i (inr s))
+
     at : (p : Bool) → has all x ≡ p → AreJoined (merged v a b) x y
     at true e = shared_merged v a b x y e (has_merged v.groups a b y ok.apart (along (merged_has v.groups a b x ok.apart e)))
     at false e =
         let none = unshared v.groups a b x ok.apart e in
         inr (any_append (λ g. has g.loaders x && has g.loaders y) (kept a b v.groups) (record { home = or_else (class_in v a) (class_in v b); loaders = all } ∷ [])
-          ∙ or_left (shared (kept a b v.groups) x y) ((has all x && has all y) || false) (kept_shared a b x y v.groups s none.0 none.1))
+        ∙ or_left (shared (kept a b v.groups) x y) ((has all x && has all y) || false) (kept_shared a b x y v.groups s none.0 none.1))
 
 pub merged_joined : (v : Grouped) (a b x y : ℕ) → IsGrouped v → AreJoined (merged v a b) x y ↔ Joins (λ p q. AreJoined v.groups p q) a b x y
 merged_joined v a b x y ok = (merged_from v a b x y ok, merged_to v a b x y ok)
 
 apart_push : (gs : List Joint) (n : Joint) → AreApart gs → ((x : ℕ) → list_any (λ g. has g.loaders x) gs ≡ true → has n.loaders x ≡ false) → AreApart (gs ++ n ∷ [])
 apart_push [] n apart new = (λ x h. refl, tt)
-apart_push (g ∷ gs) n apart new =
-    (λ x h. any_append (λ g. has g.loaders x) gs (n ∷ []) ∙ neither (list_any (λ g. has g.loaders x) gs) (has n.loaders x) (apart.0 x h) (new x (or_left (has g.loaders x) (list_any (λ g. has g.loaders x) gs) h)),
-     apart_push gs n apart.1 (λ x h. new x (or_right (has g.loaders x) (list_any (λ g. has g.loaders x) gs) h)))
+apart_push (g ∷ gs) n apart new = (
+  λ x h. any_append (λ g. has g.loaders x) gs (n ∷ []) ∙ neither (list_any (λ g. has g.loaders x) gs) (has n.loaders x) (apart.0 x h) (new x (or_left (has g.loaders x) (list_any (λ g. has g.loaders x) gs) h)),
+  apart_push gs n apart.1 (λ x h. new x (or_right (has g.loaders x) (list_any (λ g. has g.loaders x) gs) h)),
+)
   where
     neither : (p q : Bool) → p ≡ false → q ≡ false → (p || (q || false)) ≡ false
     neither true q e k = absurd cc
@@ -543,12 +555,14 @@ merged_home v a b p q ok ca cb fits =
         at : (z : Bool) → (m == n) ≡ z → m ≡ n
         at true k = eqb-true m n k
         at false k = absurd (fits (divides_by v a b m n cm cn (λ s. (let t : (m == n) ≡ true = eq-eqb m n s in let z : false ≡ true = sym k ∙ t in absurd cc))))
+
     every : (p q : Option ℕ) → IsClassOf v a p → IsClassOf v b q → (x place : ℕ) → AreJoined v.groups a x ⊎ AreJoined v.groups b x → home_in v.records x ≡ Some place → or_else p q ≡ Some place
     every None q cp cq x place (inl j) e = let z : None ≡ Some place = cp.every x place j e in absurd cc
     every None q cp cq x place (inr j) e = cq.every x place j e
     every (Some m) q cp cq x place (inl j) e = cp.every x place j e
     every (Some m) None cp cq x place (inr j) e = let z : None ≡ Some place = cq.every x place j e in absurd cc
     every (Some m) (Some n) cp cq x place (inr j) e = ap (λ (z : ℕ). Some z) (same m n cp cq) ∙ cq.every x place j e
+
     some : (p q : Option ℕ) → IsClassOf v a p → IsClassOf v b q → (place : ℕ) → or_else p q ≡ Some place → (l : ℕ) × (has (members v.groups a ++ members v.groups b) l ≡ true) × (home_in v.records l ≡ Some place)
     some None q cp cq place e = let f = cq.some place e in (f.0, has_merged v.groups a b f.0 ok.apart (inr f.1), f.2)
     some (Some m) q cp cq place e = let f = cp.some place e in (f.0, has_merged v.groups a b f.0 ok.apart (inl f.1), f.2)
@@ -562,12 +576,23 @@ merged_grouped v a b ok fits =
   where
     all : List ℕ
     all = members v.groups a ++ members v.groups b
+
     neither : (x : ℕ) → list_any (λ g. has g.loaders x) (kept a b v.groups) ≡ true → AreJoined v.groups a x ⊎ AreJoined v.groups b x → ⊥
     neither x h (inl j) = kept_unjoined a b a x v.groups ok.apart (clear_first a b) (kept_clear a b v.groups).0 h j
     neither x h (inr j) = kept_unjoined a b b x v.groups ok.apart (clear_second a b) (kept_clear a b v.groups).1 h j
+
     outside : (x : ℕ) → list_any (λ g. has g.loaders x) (kept a b v.groups) ≡ true → has all x ≡ false
     outside x h = at (has all x) refl
       where
         at : (p : Bool) → has all x ≡ p → has all x ≡ false
         at true e = absurd (neither x h (merged_has v.groups a b x ok.apart e))
         at false e = e
+
+-- what stands after a group was put in place of two, or was not
+pub joined_grouped : {A B : Type 0} (v : Grouped) (a b : ℕ) (joint : Joint) (gs : List Joint) (r : Result A B) → IsGrouped v → (Divides (λ x. home_in v.records x) (λ x y. AreJoined v.groups x y) a b → ⊥) → joint ≡ joint_of v a b → OnOk r (gs ≡ without a b v.groups ++ joint ∷ []) → OnErr r (gs ≡ v.groups) → IsGrouped (record { records = v.records; groups = gs })
+joined_grouped v a b joint gs (Ok x) ok fits is done same = rw (done, is) (merged_grouped v a b ok fits)
+joined_grouped v a b joint gs (Err e) ok fits is done same = rw same ok
+
+pub joined_joins : {A B : Type 0} (v : Grouped) (a b : ℕ) (joint : Joint) (gs : List Joint) (r : Result A B) → IsGrouped v → joint ≡ joint_of v a b → OnOk r (gs ≡ without a b v.groups ++ joint ∷ []) → OnOk r ((x y : ℕ) → AreJoined gs x y ↔ Joins (λ p q. AreJoined v.groups p q) a b x y)
+joined_joins v a b joint gs (Ok x) ok is done = λ x y. rw (done, is) (merged_joined v a b x y ok)
+joined_joins v a b joint gs (Err e) ok is done = tt

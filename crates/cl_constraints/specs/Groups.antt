@@ -80,10 +80,19 @@ members groups loader = loaders_or loader (group_of groups loader)
 abbrev pub with_home : ℕ → ℕ → Joint → Joint
 with_home loader place g = if has g.loaders loader then record g { home = Some place } else g
 
--- the groups once two loaders are joined (5.3.4)
+-- the first home that there is (own choice)
 abbrev pub or_else : Option ℕ → Option ℕ → Option ℕ
 or_else None other = other
 or_else (Some place) other = Some place
 
+-- the groups that neither of two loaders is in (own choice)
+abbrev pub without : ℕ → ℕ → List Joint → List Joint
+without a b gs = filter (λ g. not (has g.loaders a) && not (has g.loaders b)) gs
+
+-- the group that two loaders are in once they are joined (5.3.4)
+abbrev pub joint_of : Grouped → ℕ → ℕ → Joint
+joint_of v a b = record { home = or_else (class_in v a) (class_in v b); loaders = members v.groups a ++ members v.groups b }
+
+-- the groups once two loaders are joined (5.3.4)
 abbrev pub merged : Grouped → ℕ → ℕ → List Joint
-merged v a b = filter (λ g. not (has g.loaders a) && not (has g.loaders b)) v.groups ++ record { home = or_else (class_in v a) (class_in v b); loaders = members v.groups a ++ members v.groups b } ∷ []
+merged v a b = without a b v.groups ++ joint_of v a b ∷ []

@@ -1,6 +1,6 @@
-ghost use Rattle.std.specs.Prelude.{◌≡◌, ◌≢◌, ◌++◌, ◌∷◌, ◌&&◌, not, filter, map, ℕ, Option, None, MatchBool, IfOk, OnErr, OnOk, option_map};
+ghost use Rattle.std.specs.Prelude.{◌≡◌, [], ◌++◌, ◌∷◌, map, ℕ, Option, None, MatchBool, IfOk, OnErr, OnOk, option_map};
 ghost use Rattle.cl_constraints.specs.Singles.{Differs, Divides, Enters, Joins};
-ghost use Rattle.cl_constraints.specs.Groups.{has, class_in, members, with_home, home_in, AreJoined, merged, shared, group_of, IsClassOf};
+ghost use Rattle.cl_constraints.specs.Groups.{has, class_in, members, with_home, home_in, AreJoined, joint_of, without, shared, group_of, IsClassOf};
 
 use crate::single::NameBook;
 use cl_model::LoaderId;
@@ -77,11 +77,7 @@ impl Groups {
     }
 
     /// Adds the loaders that are joined to one.
-    fn add_members(
-        &self,
-        loaders: &mut Vec<LoaderId>,
-        loader: LoaderId,
-    ) -> Result<(), AllocError>
+    fn add_members(&self, loaders: &mut Vec<LoaderId>, loader: LoaderId) -> Result<(), AllocError>
         ensures { OnOk result (loaders.new.items ≡ loaders.old.items ++ members self.now.groups loader) }
     {
         match group_of(self.groups.as_slice(), loader) {
@@ -89,6 +85,19 @@ impl Groups {
             None => loaders.push(loader)?,
         }
         Ok(())
+    }
+
+    /// The group that two loaders are in once they are joined.
+    fn joint(&self, alloc: Global, a: LoaderId, b: LoaderId) -> Result<Group, AllocError>
+        ensures { IfOk result (λ g. g ≡ joint_of self.now a b) }
+    {
+        let mut loaders = Vec::new(alloc);
+        self.add_members(&mut loaders, a)?;
+        self.add_members(&mut loaders, b)?;
+        Ok(Group {
+            home: self.class(a).or(self.class(b)),
+            loaders,
+        })
     }
 }
 
@@ -135,14 +144,8 @@ impl NameBook for Groups {
     }
 
     fn join(&mut self, alloc: Global, a: LoaderId, b: LoaderId) -> Result<(), AllocError> {
-        let mut loaders = Vec::new(alloc);
-        self.add_members(&mut loaders, a)?;
-        self.add_members(&mut loaders, b)?;
-        let home = self.class(a).or(self.class(b));
-        self.groups.try_reserve(1)?;
-        self.groups.retain(|group| !group.has(a) && !group.has(b));
-        self.groups.push(Group { home, loaders })?;
-        Ok(())
+        let joint = self.joint(alloc, a, b)?;
+        replace(&mut self.groups, a, b, joint)
     }
 }
 
@@ -177,4 +180,20 @@ fn give_home(groups: &mut Vec<Group>, loader: LoaderId, home: LoaderId)
     for group in groups.iter_mut() {
         group.note(loader, home);
     }
+}
+
+/// Puts a group in place of those that two loaders are in.
+fn replace(
+    groups: &mut Vec<Group>,
+    a: LoaderId,
+    b: LoaderId,
+    joint: Group,
+) -> Result<(), AllocError>
+    ensures replaced { OnOk result (groups.new.items ≡ without a b groups.old.items ++ joint ∷ []) }
+    ensures unchanged { OnErr result (groups.new.items ≡ groups.old.items) }
+{
+    groups.try_reserve(1)?;
+    groups.retain(|group| !group.has(a) && !group.has(b));
+    groups.push(joint)?;
+    Ok(())
 }

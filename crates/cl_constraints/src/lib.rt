@@ -3,8 +3,15 @@
 
 mod book;
 mod fault;
-pub mod grouped;
-pub mod single;
+mod grouped;
+mod named;
+mod single;
 
 pub use book::{ConstraintBook, Refusal};
 pub use fault::BookFault;
+pub use grouped::Groups;
+pub use named::Book;
+pub use single::NameBook;
+
+/// The book that keeps, for each name, its loaders in groups.
+pub type GroupedBook = Book<Groups>;

@@ -13,7 +13,7 @@ use Rattle.cl_classfile.specs.Files.{Name, same_name}
 use Rattle.cl_model.specs.States.{State, start, Record, Equality, Need, Entry, Equal, recorded, Joined, Violated, Met, Clashes, Refused, added}
 use Rattle.cl_model.specs.States as States
 use Rattle.cl_model.proofs.Runs.{added_later, joined_later, joined_then, joined_back, joined_self, joined_link, last_linked, met_clash, adds, record_found, start_unviolated, names_equal, path_added}
-use Rattle.cl_constraints.specs.Books.{IsBookOf, Imposed}
+use Rattle.cl_constraints.specs.Books.{IsBookOf}
 use Rattle.cl_constraints.specs.Singles.{Differs, Divides, Enters, Joins}
 use Rattle.cl_constraints.specs.Named.{found, home_or_none, home_of, joins_or_same, joins_of, Sets, EntersAt, JoinsAt}
 
@@ -87,6 +87,7 @@ module _ {N : Type 0} (record_at : N → ℕ → Option ℕ) (joins : N → ℕ 
       to x y (inl j) = inl ((alone x y).0 j)
       to x y (inr (inl j)) = inr (inl ((alone x a).0 j.0, (alone b y).0 j.1))
       to x y (inr (inr j)) = inr (inr ((alone x b).0 j.0, (alone a y).0 j.1))
+
       from : (x y : ℕ) → Joins (λ p q. p ≡ q) a b x y → Joins (joins one) a b x y
       from x y (inl j) = inl ((alone x y).1 j)
       from x y (inr (inl j)) = inr (inl ((alone x a).1 j.0, (alone b y).1 j.1))

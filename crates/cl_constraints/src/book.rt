@@ -1,6 +1,6 @@
-ghost use Rattle.std.specs.Prelude.{◌≡◌, ℕ, List, Option, None, MatchBool, IfErr, IfOk, OnOk};
-ghost use Rattle.cl_model.specs.States.{State, Entry, Equal, Met, Refused, added};
-ghost use Rattle.cl_constraints.specs.Books.{BlamesOnly, Imposed};
+ghost use Rattle.std.specs.Prelude.{◌≡◌, ℕ, List, Option, None, IfErr, IfOk, OnOk};
+ghost use Rattle.cl_model.specs.States.{State, Entry, Equal};
+ghost use Rattle.cl_constraints.specs.Books.{Adds, Admits, Blames, Imposes, Meets};
 
 use crate::fault::BookFault;
 use cl_model::LoaderId;
@@ -26,11 +26,11 @@ pub trait ConstraintBook {
 
     /// Whether a loader may record the class that this home defines for a name.
     fn admits(&self, name: &Name, loader: LoaderId, home: LoaderId) -> bool
-        ensures { (s : State) → stands_for self.now s → MatchBool result (Refused s (Entry loader name.now home) → ⊥) (Refused s (Entry loader name.now home)) };
+        ensures { Admits (stands_for self.now) (Entry loader name.now home) result };
 
     /// Whether equalities join two loaders for a name.
     fn joined(&self, name: &Name, a: LoaderId, b: LoaderId) -> bool
-        ensures { (s : State) → stands_for self.now s → MatchBool result (Met s (Equal name.now a b)) (Met s (Equal name.now a b) → ⊥) };
+        ensures { Meets (stands_for self.now) (Equal name.now a b) result };
 
     /// Records a class for a loader that has none recorded for the name (`home` tells).
     fn enter(
@@ -41,9 +41,8 @@ pub trait ConstraintBook {
         home: LoaderId,
     ) -> Result<(), Refusal>
         requires fresh { record_of self.old name loader ≡ None }
-        ensures entered { OnOk result ((s : State) → stands_for self.old s → stands_for self.new (added s (Entry loader name home))) }
-        ensures admitted { OnOk result ((s : State) → stands_for self.old s → Refused s (Entry loader name home) → ⊥) }
-        ensures blames { IfErr result (λ e. (s : State) → stands_for self.old s → BlamesOnly e.fault (Refused s (Entry loader name home))) }
+        ensures entered { OnOk result (Adds stands_for self.old self.new (Entry loader name home)) }
+        ensures blames { IfErr result (λ e. Blames (stands_for self.old) (Entry loader name home) e.fault) }
         ensures unchanged { IfErr result (λ e. (self.new ≡ self.old) × (e.name ≡ name)) };
 
     /// Makes a name mean the same in two loaders; false where it does already.
@@ -54,7 +53,7 @@ pub trait ConstraintBook {
         a: LoaderId,
         b: LoaderId,
     ) -> Result<bool, Refusal>
-        ensures imposed { IfOk result (λ is_new. (s : State) → stands_for self.old s → Imposed stands_for self.old self.new (Equal name a b) s is_new) }
-        ensures blames { IfErr result (λ e. (s : State) → stands_for self.old s → BlamesOnly e.fault (Refused s (Equal name a b))) }
+        ensures imposed { IfOk result (Imposes stands_for self.old self.new (Equal name a b)) }
+        ensures blames { IfErr result (λ e. Blames (stands_for self.old) (Equal name a b) e.fault) }
         ensures unchanged { IfErr result (λ e. (self.new ≡ self.old) × (e.name ≡ name)) };
 }

@@ -1,8 +1,6 @@
-ghost use Rattle.std.specs.Prelude.{◌≡◌, [], None, MatchBool, IfErr, OnOk};
+ghost use Rattle.std.specs.Prelude.{◌≡◌, true, None, MatchBool, IfErr, OnOk};
 ghost use Rattle.cl_model.specs.States.{start};
-ghost use Rattle.cl_constraints.specs.Books.{IsBookOf};
-ghost use Rattle.cl_constraints.specs.Singles.{Differs, Divides};
-ghost use Rattle.cl_constraints.specs.Named.{found, home_of, joins_of, EntersAt, JoinsAt, Sets};
+ghost use Rattle.cl_constraints.specs.Named.{found, home_of, joins_of, AgreesAt, EntersAt, FitsAt, JoinsAt, Sets};
 
 use crate::book::{ConstraintBook, Refusal};
 use crate::fault::BookFault;
@@ -28,9 +26,16 @@ impl<N> Model for Book<N> {
 }
 
 impl<N: NameBook + Drop> Book<N> {
+    /// A book of nothing, whose table hashes with the seed that everyone knows.
+    pub fn new(alloc: Global) -> Book<N>
+        ensures { ⟦<Book<N> as ConstraintBook>⟧.stands_for result start }
+    {
+        Book::with_hasher(alloc, Seed::known())
+    }
+
     /// A book of nothing, whose table hashes with this seed.
     pub fn with_hasher(alloc: Global, seed: Seed) -> Book<N>
-        ensures { IsBookOf (home_of N.record_at result) (joins_of N.joins result) start }
+        ensures { ⟦<Book<N> as ConstraintBook>⟧.stands_for result start }
     {
         Book {
             names: IndexMap::with_hasher(alloc, seed),
@@ -39,7 +44,7 @@ impl<N: NameBook + Drop> Book<N> {
 
     /// Whether no loader that is joined to this one for the name records another class.
     fn fits(&self, name: &Name, loader: LoaderId, home: LoaderId) -> bool
-        ensures { MatchBool result (Differs (home_of N.record_at self.now name.now) (joins_of N.joins self.now name.now) loader home → ⊥) (Differs (home_of N.record_at self.now name.now) (joins_of N.joins self.now name.now) loader home) }
+        ensures { FitsAt N.record_at N.joins self.now name.now loader home result }
     {
         match self.names.get(name) {
             Some(one) => one.admits(loader, home),
@@ -59,7 +64,7 @@ impl<N: NameBook + Drop> Book<N> {
 
     /// Whether what is joined to one loader and to another records one class for the name.
     fn agrees(&self, name: &Name, a: LoaderId, b: LoaderId) -> bool
-        ensures { MatchBool result (Divides (home_of N.record_at self.now name.now) (joins_of N.joins self.now name.now) a b → ⊥) (Divides (home_of N.record_at self.now name.now) (joins_of N.joins self.now name.now) a b) }
+        ensures { AgreesAt N.record_at N.joins self.now name.now a b result }
     {
         match self.names.get(name) {
             Some(one) => one.agree(a, b),
@@ -88,7 +93,7 @@ impl<N: NameBook + Drop> Book<N> {
         home: LoaderId,
     ) -> Result<(), Name>
         requires fresh { home_of N.record_at self.old name loader ≡ None }
-        requires fits { Differs (home_of N.record_at self.old name) (joins_of N.joins self.old name) loader home → ⊥ }
+        requires fits { FitsAt N.record_at N.joins self.old name loader home true }
         ensures ok { OnOk result (EntersAt N.record_at N.joins self.old self.new name loader home) }
         ensures unchanged { IfErr result (λ n. (self.new ≡ self.old) × (n ≡ name)) }
     {
@@ -108,7 +113,7 @@ impl<N: NameBook + Drop> Book<N> {
     /// Joins two loaders that agree. A refused growth hands the name back.
     fn join(&mut self, alloc: Global, name: Name, a: LoaderId, b: LoaderId) -> Result<(), Name>
         requires apart { joins_of N.joins self.old name a b → ⊥ }
-        requires fits { Divides (home_of N.record_at self.old name) (joins_of N.joins self.old name) a b → ⊥ }
+        requires fits { AgreesAt N.record_at N.joins self.old name a b true }
         ensures ok { OnOk result (JoinsAt N.record_at N.joins self.old self.new name a b) }
         ensures unchanged { IfErr result (λ n. (self.new ≡ self.old) × (n ≡ name)) }
     {

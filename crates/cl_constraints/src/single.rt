@@ -1,5 +1,5 @@
 ghost use Rattle.std.specs.Prelude.{◌≡◌, ◌↔◌, ℕ, Option, None, MatchBool, OnErr, OnOk};
-ghost use Rattle.cl_constraints.specs.Singles.{Differs, Divides, Enters, Joins};
+ghost use Rattle.cl_constraints.specs.Singles.{Differs, Divides, Enters, Joins, TellsAgreement, TellsFit};
 
 use cl_model::LoaderId;
 use std::alloc::{AllocError, Global};
@@ -25,11 +25,11 @@ pub trait NameBook {
 
     /// Whether no loader that is joined to this one records another class.
     fn admits(&self, loader: LoaderId, home: LoaderId) -> bool
-        ensures { MatchBool result (Differs (record_at self.now) (joins self.now) loader home → ⊥) (Differs (record_at self.now) (joins self.now) loader home) };
+        ensures { TellsFit (record_at self.now) (joins self.now) loader home result };
 
     /// Whether what is joined to one loader and to another records one class.
     fn agree(&self, a: LoaderId, b: LoaderId) -> bool
-        ensures { MatchBool result (Divides (record_at self.now) (joins self.now) a b → ⊥) (Divides (record_at self.now) (joins self.now) a b) };
+        ensures { TellsAgreement (record_at self.now) (joins self.now) a b result };
 
     /// Records a class for a loader that has none.
     fn enter(&mut self, loader: LoaderId, home: LoaderId) -> Result<(), AllocError>

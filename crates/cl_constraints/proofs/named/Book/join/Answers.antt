@@ -12,9 +12,9 @@ pub returns-in-Some-clause-ok : goal.returns-in-Some-clause-ok
 returns-in-Some-clause-ok g c =
     elim c.match-join.branch [
       | in-Ok w ↦
-        let there = sym (c.in-Some.ensures.value ∙ ap (λ b. found b c.args.name) c.self.view_is) in
-        let sets = written c.self.inside.names (c.get_mut.follows.lender c.join.new.self) c.args.self.now c.args.name c.in-Some.one.now c.join.new.self c.self.view_is c.in-Some.ensures.value (c.get_mut.follows.holds c.join.new.self) in
-        rw w.result-is (joined_some g.N.NameBook.record_at g.N.NameBook.joins c.args.self.now (c.get_mut.follows.lender c.join.new.self).entries c.args.name c.in-Some.one.now c.join.new.self c.args.a c.args.b there sets w.in-Ok.ensures.records w.in-Ok.ensures.joined)
+          let there = sym (c.in-Some.ensures.value ∙ ap (λ b. found b c.args.name) c.self.view_is) in
+          let sets = written c.self.inside.names (c.get_mut.follows.lender c.join.new.self) c.args.self.now c.args.name c.in-Some.one.now c.join.new.self c.self.view_is c.in-Some.ensures.value (c.get_mut.follows.holds c.join.new.self) in
+          rw w.result-is (joined_some g.N.NameBook.record_at g.N.NameBook.joins c.args.self.now (c.get_mut.follows.lender c.join.new.self).entries c.args.name c.in-Some.one.now c.join.new.self c.args.a c.args.b there sets w.in-Ok.ensures.records w.in-Ok.ensures.joined)
       | in-Err w ↦ rw w.result-is tt
     ]
 

@@ -2,7 +2,7 @@
 use Rattle.std.proofs.Common.{◌≡◌, ◌≢◌, ◌⊎◌, inl, inr, ◌↔◌, ℕ, Bool, true, false, ◌==◌, ◌&&◌, if◌then◌else◌, List, [], ◌∷◌, ◌++◌, Option, Some, None, refl, sym, ap, subst, ◌∙◌, nat_eq, MatchBool, IsSome, arith, cond}
 use Rattle.std.specs.Prelude.{find, option_map, Contains}
 use Rattle.std.specs.Option.{option_or}
-use Rattle.std.specs.HashMap.{UpdatesBy, WritesThrough, get_by}
+use Rattle.std.specs.HashMap.{UpdatesBy, WritesThrough}
 use Rattle.std.specs.Map.{set_value}
 use Rattle.std.specs.Cmp.Lexicographic.{pointwise, bytes_decides}
 use Rattle.std.proofs.lemmas.List.Folds.{find-append}
@@ -12,7 +12,7 @@ use Rattle.indexmap.specs.IndexMap.{IndexMap}
 use Rattle.cl_classfile.specs.Files.{Name, same_name}
 use Rattle.cl_model.specs.States.{State, start, Record, Equality, Need, Entry, Equal, recorded, Joined, Violated, Met, Clashes, Refused, added}
 use Rattle.cl_model.specs.States as States
-use Rattle.cl_model.proofs.Runs.{added_later, joined_later, joined_then, joined_back, joined_self, joined_link, last_linked, met_clash, adds, record_found, start_unviolated, names_equal, path_added}
+use Rattle.cl_model.proofs.Runs.{added_later, joined_later, joined_then, joined_back, joined_link, last_linked, met_clash, adds, record_found, start_unviolated, names_equal, path_added}
 use Rattle.cl_constraints.specs.Books.{IsBookOf}
 use Rattle.cl_constraints.specs.Singles.{Differs, Divides, Enters, Joins}
 use Rattle.cl_constraints.specs.Named.{found, home_or_none, home_of, joins_or_same, joins_of, Sets, EntersAt, JoinsAt}

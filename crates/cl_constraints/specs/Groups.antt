@@ -1,5 +1,5 @@
 -- The constraints of one name, kept as groups of joined loaders (own choice; what they mean is of JVMS SE 8, 5.3.4).
-use Rattle.std.specs.Prelude.{◌≡◌, ◌⊎◌, ℕ, Bool, true, false, ◌==◌, ◌&&◌, not, List, [], ◌∷◌, ◌++◌, Option, Some, None, option_map, find, map, filter, if◌then◌else◌}
+use Rattle.std.specs.Prelude.{◌≡◌, ◌⊎◌, ℕ, Bool, true, false, ◌==◌, ◌&&◌, not, List, [], ◌∷◌, ◌++◌, Option, Some, None, option_map, find, filter, if◌then◌else◌}
 use Rattle.std.specs.List.{list_any}
 use Rattle.cl_constraints.specs.declared.grouped.Entered.{Entered}
 

@@ -1,4 +1,4 @@
-use Rattle.std.proofs.Common.{◌≡◌, [], ◌++◌, ◌∷◌, ◌&&◌, not, ap, ◌∙◌, rules, refl}
+use Rattle.std.proofs.Common.{◌≡◌, [], ◌++◌, ◌∷◌, ◌&&◌, not, ap, ◌∙◌, rules}
 use Rattle.std.proofs.lemmas.Fn.{filter_same}
 use Rattle.cl_constraints.specs.Groups.{without, has}
 use Rattle.cl_constraints.proofs.grouped.replace.Goals as goal

@@ -1,5 +1,4 @@
-use Rattle.std.proofs.Common.{rules, ◌≡◌, arith}
-use Rattle.std.proofs.lemmas.Grind.{common_steps}
+use Rattle.std.proofs.Common.{rules, ◌≡◌}
 use Rattle.cl_constraints.specs.Groups.{class_in, IsGrouped}
 use Rattle.cl_constraints.proofs.Grouping.{class_shared}
 use Rattle.cl_constraints.proofs.grouped.Groups.class.Goals as goal

@@ -1,7 +1,7 @@
-use Rattle.std.proofs.Common.{◌≡◌, ◌∙◌, ◌↔◌, ap, subst, sym, None}
-use Rattle.cl_constraints.specs.Groups.{Grouped, IsGrouped, AreJoined, home_in}
-use Rattle.cl_constraints.specs.Singles.{Differs, Enters}
-use Rattle.cl_constraints.proofs.Grouping.{entered, entered_grouped, enters, homed_joined}
+use Rattle.std.proofs.Common.{◌≡◌, subst, sym, None}
+use Rattle.cl_constraints.specs.Groups.{Grouped, AreJoined, home_in}
+use Rattle.cl_constraints.specs.Singles.{Differs}
+use Rattle.cl_constraints.proofs.Grouping.{entered_grouped, enters, homed_joined}
 use Rattle.cl_constraints.proofs.grouped.GroupsNameBook.enter.Goals as goal
 
 pub invariant_of-self-2 : goal.invariant_of-self-2

@@ -1,6 +1,6 @@
-use Rattle.std.proofs.Common.{◌≡◌, ◌∙◌, ◌++◌, ◌∷◌, [], ap, subst, sym, Result, Ok, Err, OnOk, OnErr, ℕ, ◌↔◌, List}
-use Rattle.cl_constraints.specs.Groups.{Joint, Grouped, IsGrouped, AreJoined, home_in, merged, joint_of, without}
-use Rattle.cl_constraints.specs.Singles.{Divides, Joins}
+use Rattle.std.proofs.Common.{◌≡◌, subst, sym}
+use Rattle.cl_constraints.specs.Groups.{Grouped, AreJoined, home_in, joint_of}
+use Rattle.cl_constraints.specs.Singles.{Divides}
 use Rattle.cl_constraints.proofs.Grouping.{joined_grouped, joined_joins}
 use Rattle.cl_constraints.proofs.grouped.GroupsNameBook.join.Goals as goal
 

@@ -1,5 +1,5 @@
 use Rattle.cl_constraints.specs.Named.{home_of, joins_of}
-use Rattle.cl_constraints.proofs.Naming.{joined_book, fitting_equal, refused_equal, joined_so}
+use Rattle.cl_constraints.proofs.Naming.{joined_book, fitting_equal, refused_equal}
 use Rattle.cl_constraints.proofs.named.BookConstraintBook.impose.Goals as goal
 
 pub returns-then-not-agrees-clause-blames : goal.returns-then-not-agrees-clause-blames

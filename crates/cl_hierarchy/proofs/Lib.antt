@@ -1,3 +1,5 @@
 pub mod Drafting
 pub mod Chained
 pub mod Walks
+pub mod Ancestry
+pub mod Worlds

@@ -1,3 +1,4 @@
 pub mod DraftReads
 pub mod Drafts
+pub mod Rows
 pub mod Walks

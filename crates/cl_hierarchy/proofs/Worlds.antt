@@ -4,7 +4,7 @@ use Rattle.std.specs.List.{AllByRecursion}
 use Rattle.cl_model.specs.declared.class.Class.{Class}
 use Rattle.cl_model.specs.Homes.{World}
 use Rattle.cl_model.specs.Classes.{Above, same_class, superclass_of, superinterfaces_of}
-use Rattle.cl_model.specs.Lineages.{Forest, IsAbove, IsLineage, Kin, StandsFor}
+use Rattle.cl_model.specs.Lineages.{IsAbove, IsLineage, Kin, StandsFor}
 use Rattle.cl_model.proofs.Complete.{is_class}
 use Rattle.cl_hierarchy.specs.Rows.{AreAbove, AreOfWorld, AreRowsOf, IsRowOf, Row, Rows, forest, in_front, kin_named, kin_of, kin_under, kins, kins_after}
 

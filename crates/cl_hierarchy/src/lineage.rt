@@ -52,6 +52,22 @@ impl LineageRow {
     {
         self.row.superclass.as_ref()
     }
+
+    /// The classes of its direct superinterfaces, in file order.
+    pub fn interfaces(&self) -> &[Class]
+        ensures { result.now ≡ self.now.interfaces }
+    {
+        self.interfaces.as_slice()
+    }
+
+    /// The class as it is recorded.
+    pub fn row(&self) -> &Arc<ClassRow>
+        ensures class { result.now.value.class ≡ self.now.class }
+        ensures file { file_of result.now.value.file.value ≡ self.now.file }
+        ensures superclass { result.now.value.superclass ≡ self.now.superclass }
+    {
+        &self.row
+    }
 }
 
 /// A class with all that stands above it, each class once: its superclass's lineage, then that of each superinterface
@@ -123,6 +139,21 @@ impl Lineage {
         ensures { result.now ≡ (kin_of self.now).class }
     {
         self.own.class()
+    }
+
+    /// The rows of all that stands above the class, each once, after those of its direct supertypes.
+    pub fn above(&self) -> &[LineageRow]
+        ensures rows { result.now ≡ self.now.above }
+        ensures order { IsInOrder self.now }
+    {
+        self.above.as_slice()
+    }
+
+    /// The class's own row.
+    pub fn own(&self) -> &LineageRow
+        ensures { result.now ≡ self.now.own }
+    {
+        &self.own
     }
 
     /// The superclass, if there is one (JVMS SE 8, 4.1). Takes no memory.

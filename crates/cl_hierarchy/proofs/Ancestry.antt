@@ -6,7 +6,7 @@ use Rattle.cl_model.specs.Lineages.{Bare, Kin, classes, superclasses, upward}
 use Rattle.cl_model.proofs.Complete.{is_class}
 use Rattle.cl_hierarchy.specs.Rows.{AllKnown, Row, Rows, forest, in_front, kin_named, kin_of, kin_under, kins_after, kins, nearest, reaches, wants}
 
-kins_push : (known : List Kin) (rows : List Row) (r : Row) → kins_after known (rows ++ r ∷ []) ≡ kin_under (kins_after known rows) r ∷ kins_after known rows
+pub kins_push : (known : List Kin) (rows : List Row) (r : Row) → kins_after known (rows ++ r ∷ []) ≡ kin_under (kins_after known rows) r ∷ kins_after known rows
 kins_push known [] r = refl
 kins_push known (x ∷ rows) r = kins_push (kin_under known x ∷ known) rows r
 

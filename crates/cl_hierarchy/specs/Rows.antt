@@ -1,11 +1,12 @@
 -- The rows of a class and of all that stands above it, and the tree that they make (JVMS SE 8, 5.3.5).
-use Rattle.std.specs.Prelude.{◌≡◌, Bool, true, false, List, [], ◌∷◌, Option, Some, None, find, is_some, option_to_list, reverse}
+use Rattle.std.specs.Prelude.{◌≡◌, ℕ, Bool, true, false, List, [], ◌∷◌, Option, Some, None, find, is_some, option_to_list, reverse}
 use Rattle.std.specs.List.{AllByRecursion}
-use Rattle.cl_classfile.specs.Files.{File}
+use Rattle.cl_classfile.specs.Files.{File, file_of}
 use Rattle.cl_model.specs.declared.class.Class.{Class}
+use Rattle.cl_hierarchy.specs.declared.row.ClassRow.{ClassRow}
 use Rattle.cl_model.specs.Homes.{World}
 use Rattle.cl_model.specs.Classes.{Above, HasFile, is_among, same_class, superclass_of, superinterfaces_of}
-use Rattle.cl_model.specs.Lineages.{Forest, Bare, Tree, IsAbove, Kin, classes, lineage, upward}
+use Rattle.cl_model.specs.Lineages.{Forest, Bare, Tree, IsAbove, Kin, classes, lineage, member_accessible, protected_open, superclasses, upward}
 
 -- a class, its file, and the classes of its direct supertypes (5.3.5, steps 3 and 4)
 pub record Row : Type 0 where
@@ -13,6 +14,10 @@ pub record Row : Type 0 where
   pub file : File
   pub superclass : Option Class
   pub interfaces : List Class
+
+-- a recorded class with the classes of its direct superinterfaces, as a row (5.3.5)
+abbrev pub row_of : ClassRow → List Class → Row
+row_of r interfaces = record { class = r.class; file = file_of r.file.value; superclass = r.superclass; interfaces = interfaces }
 
 -- the one of these with this class (own choice of form)
 abbrev pub kin_named : List Kin → Class → Option Kin
@@ -113,6 +118,10 @@ abbrev pub nearest : List Class → Option Class
 nearest [] = None
 nearest (c ∷ cs) = Some c
 
+-- the direct superclass, if there is one (4.1, super_class)
+abbrev pub direct_superclass : Rows → Option Class
+direct_superclass r = nearest (classes (superclasses (kin_of r)))
+
 -- a class is this superclass, or one of its superclasses (4.1, super_class)
 abbrev pub reaches : List Kin → Option Class → Class → Bool
 reaches known superclass c = is_among (classes (upward (forest known (option_to_list superclass)))) c
@@ -121,3 +130,11 @@ reaches known superclass c = is_among (classes (upward (forest known (option_to_
 abbrev pub wants : Option Class → Class → Bool
 wants None c = false
 wants (Some s) c = same_class s c
+
+-- this tells whether a protected member that owner declares with these flags is open to a class through another (5.4.4)
+abbrev pub TellsOpen : Bool → Rows → Class → ℕ → Rows → Type 0
+TellsOpen told from owner flags through = (k : Kin) → k.class ≡ owner → told ≡ protected_open (kin_of from) k flags (kin_of through)
+
+-- this tells whether a member that owner declares with these flags is accessible to a class through another (5.4.4)
+abbrev pub TellsAccess : Bool → Rows → Class → ℕ → Rows → Type 0
+TellsAccess told from owner flags through = (k : Kin) → k.class ≡ owner → told ≡ member_accessible (kin_of from) k flags (kin_of through)

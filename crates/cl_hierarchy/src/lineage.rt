@@ -6,8 +6,8 @@ ghost use Rattle.cl_classfile.specs.Files.{file_of};
 ghost use Rattle.cl_classfile.specs.Flags as flag;
 ghost use Rattle.cl_model.specs.Classes.{same_class};
 ghost use Rattle.cl_model.specs.Homes.{World};
-ghost use Rattle.cl_model.specs.Lineages.{IsLineage, Kin, classes, is_subclass, member_accessible, protected_open, superclasses};
-ghost use Rattle.cl_hierarchy.specs.Rows.{AreOfWorld, IsInOrder, kin_of, nearest, kins, reaches, wants};
+ghost use Rattle.cl_model.specs.Lineages.{IsLineage, is_subclass};
+ghost use Rattle.cl_hierarchy.specs.Rows.{AreOfWorld, IsInOrder, TellsAccess, TellsOpen, direct_superclass, kin_of, kins, reaches, row_of, wants};
 
 use crate::access::same_package;
 use crate::row::ClassRow;
@@ -23,18 +23,17 @@ pub struct LineageRow {
 }
 
 impl Model for LineageRow {
-    ghost use Rattle.cl_classfile.specs.Files.{file_of};
-    ghost use Rattle.cl_hierarchy.specs.Rows.{Row};
+    ghost use Rattle.cl_hierarchy.specs.Rows.{Row, row_of};
 
     ghost Value = { Row };
 
-    ghost view = { λ r. record { class = r.row.value.class; file = file_of r.row.value.file.value; superclass = r.row.value.superclass; interfaces = r.interfaces.items } };
+    ghost view = { λ r. row_of r.row.value r.interfaces.items };
 }
 
 impl LineageRow {
     /// A row with the classes of its direct superinterfaces.
     pub fn new(row: Arc<ClassRow>, interfaces: Vec<Class>) -> LineageRow
-        ensures { result ≡ record { class = row.value.class; file = file_of row.value.file.value; superclass = row.value.superclass; interfaces = interfaces.items } }
+        ensures { result ≡ row_of row.value interfaces.items }
     {
         LineageRow { row, interfaces }
     }
@@ -103,16 +102,16 @@ fn is_wanted(wanted: Option<&Class>, class: &Class) -> bool
     }
 }
 
-/// Whether a class is this superclass or stands above it, by superclasses. The rows of all these are among `rows`, each
+/// Whether `of` is this superclass or one of its superclasses. The rows of all these are among `rows`, each
 /// after its superclass.
-fn is_above(rows: &[LineageRow], superclass: Option<&Class>, class: &Class) -> bool
-    ensures { result ≡ reaches (kins rows.now) (option_map (λ c. c.now) superclass.entry) class.now }
+fn is_above(rows: &[LineageRow], superclass: Option<&Class>, of: &Class) -> bool
+    ensures { result ≡ reaches (kins rows.now) (option_map (λ c. c.now) superclass.entry) of.now }
 {
     let mut rest = rows;
     let mut wanted = superclass;
     while let Some((row, earlier)) = rest.split_last() {
         if is_wanted(wanted, row.class()) {
-            if is_same(class, row.class()) {
+            if is_same(of, row.class()) {
                 return true;
             }
             wanted = row.superclass();
@@ -158,7 +157,7 @@ impl Lineage {
 
     /// The superclass, if there is one (JVMS SE 8, 4.1). Takes no memory.
     pub fn superclass(&self) -> Option<&Class>
-        ensures { option_map (λ c. c.now) result ≡ nearest (classes (superclasses (kin_of self.now))) }
+        ensures { option_map (λ c. c.now) result ≡ direct_superclass self.now }
     {
         self.own.superclass()
     }
@@ -189,7 +188,7 @@ fn has(flags: u16, bit: u16) -> bool
 
 /// Whether a protected member of a class, with these flags, is open to another through a third (JVMS SE 8, 5.4.4).
 fn protected_open(from: &Lineage, owner: &Class, flags: u16, through: &Lineage) -> bool
-    ensures { (k : Kin) → k.class ≡ owner.now → result ≡ protected_open (kin_of from.now) k flags (kin_of through.now) }
+    ensures { TellsOpen result from.now owner.now flags through.now }
 {
     (is_same(owner, from.class()) || from.is_subclass(owner))
         && (has(flags, STATIC)
@@ -201,7 +200,7 @@ fn protected_open(from: &Lineage, owner: &Class, flags: u16, through: &Lineage) 
 /// Whether a member that `owner` declares with these flags is accessible to the class of `from`, where it is named
 /// through the class of `through` (JVMS SE 8, 5.4.4). Takes no memory.
 pub fn member_accessible(from: &Lineage, owner: &Class, flags: u16, through: &Lineage) -> bool
-    ensures { (k : Kin) → k.class ≡ owner.now → result ≡ member_accessible (kin_of from.now) k flags (kin_of through.now) }
+    ensures { TellsAccess result from.now owner.now flags through.now }
 {
     has(flags, PUBLIC)
         || has(flags, PROTECTED) && protected_open(from, owner, flags, through)

@@ -1,4 +1,5 @@
 pub mod DraftReads
 pub mod Drafts
+pub mod ExampleRows
 pub mod Rows
 pub mod Walks

@@ -4,6 +4,7 @@
 
 pub mod access;
 pub mod draft;
+pub mod examples;
 pub mod lineage;
 pub mod row;
 pub mod walk;

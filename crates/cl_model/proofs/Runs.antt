@@ -264,7 +264,7 @@ through_edge : (ks : List Equality) (e : Equality) (name : Name) (x c y : ℕ) �
 through_edge ks e name x c y (inl k) t = across_edge ks name e.one e.other x c y k.0 k.1 (across_of ks e name c y t)
 through_edge ks e name x c y (inr k) t = across_back ks name e.one e.other x c y k.0 k.1 (across_of ks e name c y t)
 
-path_added : (ks : List Equality) (e : Equality) (name : Name) (x : ℕ) (path : List ℕ) (y : ℕ) → IsPath (ks ++ e ∷ []) name x path y → Through ks e name x y
+pub path_added : (ks : List Equality) (e : Equality) (name : Name) (x : ℕ) (path : List ℕ) (y : ℕ) → IsPath (ks ++ e ∷ []) name x path y → Through ks e name x y
 path_added ks e name x [] y h = inl (record { path = []; along = h })
 path_added ks e name x (c ∷ cs) y h =
     elim (link_added ks e name x c h.0) [

@@ -1,0 +1,11 @@
+use Rattle.std.proofs.Common.{refl}
+use Rattle.cl_constraints.proofs.Naming.{rewritten}
+use Rattle.cl_constraints.proofs.named.Book.record.Goals as goal
+use Rattle.cl_constraints.proofs.named.Book.record.Goals.{in-Ok, in-Err}
+
+pub returns-in-Some-clause-unchanged : goal.returns-in-Some-clause-unchanged
+returns-in-Some-clause-unchanged g c =
+    elim c.match-enter.branch [
+      | in-Ok w ↦ rw w.result-is tt
+      | in-Err w ↦ rw w.result-is (rewritten c.self.inside.names (c.get_mut.follows.lender c.enter.new.self) c.args.self.now c.args.name c.in-Some.one.now c.enter.new.self c.self.view_is c.in-Some.ensures.value w.in-Err.ensures.unchanged (c.get_mut.follows.holds c.enter.new.self), refl)
+    ]

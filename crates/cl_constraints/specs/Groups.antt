@@ -1,0 +1,98 @@
+-- The constraints of one name, kept as groups of joined loaders (own choice; what they mean is of JVMS SE 8, 5.3.4).
+use Rattle.std.specs.Prelude.{◌≡◌, ◌⊎◌, ℕ, Bool, true, false, ◌==◌, ◌&&◌, not, List, [], ◌∷◌, ◌++◌, Option, Some, None, option_map, find, filter, if◌then◌else◌}
+use Rattle.std.specs.List.{list_any}
+use Rattle.cl_constraints.specs.declared.grouped.Entered.{Entered}
+
+-- loaders that are joined, and the one home that those of them have that record the name (5.3.4)
+pub record Joint : Type 0 where
+  pub home : Option ℕ
+  pub loaders : List ℕ
+
+-- all of one name: who recorded it, and the groups (5.3.4)
+pub record Grouped : Type 0 where
+  pub records : List Entered
+  pub groups : List Joint
+
+-- who defined the class that a loader records (5.3)
+abbrev pub home_in : List Entered → ℕ → Option ℕ
+home_in records loader = option_map (λ r. r.home) (find (λ r. r.loader == loader) records)
+
+-- a loader is one of these (5.3.4)
+abbrev pub has : List ℕ → ℕ → Bool
+has loaders loader = list_any (λ x. x == loader) loaders
+
+-- the first group that a loader is in (own choice)
+abbrev pub group_of : List Joint → ℕ → Option Joint
+group_of groups loader = find (λ g. has g.loaders loader) groups
+
+-- a group has both loaders (5.3.4)
+abbrev pub shared : List Joint → ℕ → ℕ → Bool
+shared groups a b = list_any (λ g. has g.loaders a && has g.loaders b) groups
+
+-- two loaders are joined: they are one, or a group has both (5.3.4)
+abbrev pub AreJoined : List Joint → ℕ → ℕ → Type 0
+AreJoined groups a b = (a ≡ b) ⊎ (shared groups a b ≡ true)
+
+-- no loader is in two groups (own choice)
+abbrev pub AreApart : List Joint → Type 0
+AreApart [] = Unit {0}
+AreApart (g ∷ gs) = ((loader : ℕ) → has g.loaders loader ≡ true → list_any (λ other. has other.loaders loader) gs ≡ false) × AreApart gs
+
+-- a group's home is that of each record of its loaders, and one of them has it (5.3.4)
+pub record HasItsHome (records : List Entered) (g : Joint) : Type 0 where
+  pub every : (loader place : ℕ) → has g.loaders loader ≡ true → home_in records loader ≡ Some place → g.home ≡ Some place
+  pub some : (place : ℕ) → g.home ≡ Some place → (loader : ℕ) × (has g.loaders loader ≡ true) × (home_in records loader ≡ Some place)
+
+-- each of these groups has (own choice)
+abbrev pub HaveHomes : List Entered → List Joint → Type 0
+HaveHomes records [] = Unit {0}
+HaveHomes records (g ∷ gs) = HasItsHome records g × HaveHomes records gs
+
+-- what holds of the constraints of each name (own choice)
+pub record IsGrouped (v : Grouped) : Type 0 where
+  pub apart : AreApart v.groups
+  pub homes : HaveHomes v.records v.groups
+
+-- the home of a group, else that of a loader alone (5.3.4)
+abbrev pub home_or : Option ℕ → Option Joint → Option ℕ
+home_or alone None = alone
+home_or alone (Some g) = g.home
+
+-- the one class that is recorded by what is joined to a loader (5.3.4)
+abbrev pub class_in : Grouped → ℕ → Option ℕ
+class_in v loader = home_or (home_in v.records loader) (group_of v.groups loader)
+
+-- the class is recorded by something joined to the loader, and by all of it that records the name (5.3.4)
+pub record IsClassOf (v : Grouped) (loader : ℕ) (class : Option ℕ) : Type 0 where
+  pub every : (other place : ℕ) → AreJoined v.groups loader other → home_in v.records other ≡ Some place → class ≡ Some place
+  pub some : (place : ℕ) → class ≡ Some place → (other : ℕ) × AreJoined v.groups loader other × (home_in v.records other ≡ Some place)
+
+-- the loaders of a group, else one alone (5.3.4)
+abbrev pub loaders_or : ℕ → Option Joint → List ℕ
+loaders_or loader None = loader ∷ []
+loaders_or loader (Some g) = g.loaders
+
+-- the loaders that are joined to one (5.3.4)
+abbrev pub members : List Joint → ℕ → List ℕ
+members groups loader = loaders_or loader (group_of groups loader)
+
+-- the groups once a loader records the name (5.3)
+abbrev pub with_home : ℕ → ℕ → Joint → Joint
+with_home loader place g = if has g.loaders loader then record g { home = Some place } else g
+
+-- the first home that there is (own choice)
+abbrev pub or_else : Option ℕ → Option ℕ → Option ℕ
+or_else None other = other
+or_else (Some place) other = Some place
+
+-- the groups that neither of two loaders is in (own choice)
+abbrev pub without : ℕ → ℕ → List Joint → List Joint
+without a b gs = filter (λ g. not (has g.loaders a) && not (has g.loaders b)) gs
+
+-- the group that two loaders are in once they are joined (5.3.4)
+abbrev pub joint_of : Grouped → ℕ → ℕ → Joint
+joint_of v a b = record { home = or_else (class_in v a) (class_in v b); loaders = members v.groups a ++ members v.groups b }
+
+-- the groups once two loaders are joined (5.3.4)
+abbrev pub merged : Grouped → ℕ → ℕ → List Joint
+merged v a b = without a b v.groups ++ joint_of v a b ∷ []

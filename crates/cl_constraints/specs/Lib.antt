@@ -1,0 +1,4 @@
+pub mod Books
+pub mod Singles
+pub mod Groups
+pub mod Named

@@ -1,0 +1,24 @@
+-- What contracts see of a configuration and a script (own choice; JVMS SE 8, 5.3).
+use Rattle.std.specs.Prelude.{ℕ, List, Option, map}
+use Rattle.cl_config.specs.declared.order.Order.{Order}
+
+-- names that begin with this prefix are searched at that loader alone (5.3.2)
+pub record Import : Type 0 where
+  pub prefix : List ℕ
+  pub target : ℕ
+
+-- a loader: its name, the directory of its own content, whom it asks and when, and what it takes from where (5.3, 5.3.2)
+pub record Loader : Type 0 where
+  pub name : List ℕ
+  pub dir : List ℕ
+  pub parent : Option ℕ
+  pub order : Order
+  pub imports : List Import
+
+-- the loaders, in order, the first of which is numbered 0 (5.3)
+pub record Configured : Type 0 where
+  pub loaders : List Loader
+
+-- the loaders' names, in order (5.3)
+abbrev pub names_of : Configured → List (List ℕ)
+names_of c = map (λ l. l.name) c.loaders

@@ -1,0 +1,208 @@
+//! The configuration that a text is.
+
+ghost use Rattle.std.specs.Prelude.{◌≡◌, ◌<◌, ◌≤◌, ◌++◌, [], ◌∷◌, length, map, string_bytes, slice_get, position, nat_eq, is_some, IfOk, IfSome};
+ghost use Rattle.std.specs.List.{list_all};
+ghost use Rattle.std.specs.Cmp.Lexicographic.{pointwise};
+ghost use Rattle.toml.specs.Data.{as_table};
+ghost use Rattle.toml.specs.View.{view, table_view, items_view};
+ghost use Rattle.cl_config.specs.Configs.{top_of, array_at, checked, config_in, config_of, IsConfig};
+ghost use Rattle.cl_config.specs.Steps.{Finds, Gives};
+ghost use Rattle.cl_config.specs.Views.{names_of};
+
+use crate::entry::entries_in;
+use crate::fault::{ConfigError, ConfigFault};
+use crate::fields::{has_only, value_at};
+use crate::loader::{Import, Loader, loaders_of};
+use crate::order::Order;
+use cl_model::LoaderId;
+use std::alloc::{AllocError, Global};
+use std::marker::Model;
+use toml::{Table, Value};
+
+/// The most loaders.
+const MOST_LOADERS: usize = 64;
+
+/// The loaders, in order: 1 to 64, each of which leads to earlier ones alone (JVMS SE 8, 5.3, 5.3.2).
+#[derive(Debug, Drop)]
+pub struct Config {
+    /// The loaders' names, which are lent together.
+    names: Vec<String>,
+    loaders: Vec<Loader>,
+}
+
+impl Model for Config {
+    ghost use Rattle.std.specs.Prelude.{◌≡◌, map, string_bytes};
+    ghost use Rattle.cl_config.specs.Views.{Configured, names_of};
+    ghost use Rattle.cl_config.specs.Configs.{IsConfig};
+
+    ghost Value = { Configured };
+
+    ghost view = { λ c. record { loaders = c.loaders.items } };
+
+    ghost invariant = { λ c. IsConfig (record { loaders = c.loaders.items }) × (map string_bytes c.names.items ≡ names_of (record { loaders = c.loaders.items })) };
+}
+
+impl Config {
+    /// The configuration that a text is: of the texts that `toml` reads those whose table keeps the rules of
+    /// `specs/Configs.antt`, and no others. Else the first fault, or want of memory.
+    pub fn read(alloc: Global, text: &str) -> Result<Config, ConfigError>
+        ensures { Gives (λ c. c) result (config_of text.now) }
+    {
+        match toml::table_from_str(alloc, text) {
+            Ok(table) => config_in(alloc, &table),
+            Err(e) if e.is_memory() => Err(ConfigError::Memory),
+            Err(_) => Err(ConfigError::Fault(ConfigFault::NotToml)),
+        }
+    }
+
+    /// The loader of this name.
+    pub fn loader(&self, word: &str) -> Option<LoaderId>
+        ensures found { result ≡ position (λ name. pointwise nat_eq name word.now) (names_of self.now) }
+        ensures within { IfSome result (λ l. l < length self.now.loaders) }
+    {
+        let place = place_of(self.loaders.as_slice(), word)?;
+        Some(LoaderId(place as u16))
+    }
+
+    /// How many loaders there are.
+    pub fn count(&self) -> usize
+        ensures count { result ≡ length self.now.loaders }
+        ensures config { IsConfig self.now }
+    {
+        self.loaders.len()
+    }
+
+    /// A loader's name.
+    pub fn name(&self, loader: LoaderId) -> &str
+        requires { loader < length self.now.loaders }
+        ensures { IfSome (slice_get self.now.loaders loader) (λ l. result.now ≡ l.name) }
+    {
+        self.at(loader).name()
+    }
+
+    /// The directory of a loader's own content.
+    pub fn dir(&self, loader: LoaderId) -> &str
+        requires { loader < length self.now.loaders }
+        ensures { IfSome (slice_get self.now.loaders loader) (λ l. result.now ≡ l.dir) }
+    {
+        self.at(loader).dir()
+    }
+
+    /// A loader's parent, if it has one: an earlier loader.
+    pub fn parent(&self, loader: LoaderId) -> Option<LoaderId>
+        requires { loader < length self.now.loaders }
+        ensures parent { IfSome (slice_get self.now.loaders loader) (λ l. result ≡ l.parent) }
+    {
+        self.at(loader).parent()
+    }
+
+    /// Where a loader looks first.
+    pub fn order(&self, loader: LoaderId) -> Order
+        requires { loader < length self.now.loaders }
+        ensures { IfSome (slice_get self.now.loaders loader) (λ l. result ≡ l.order) }
+    {
+        self.at(loader).order()
+    }
+
+    /// A loader's imports, in order, each of an earlier loader.
+    pub fn imports(&self, loader: LoaderId) -> &[Import]
+        requires { loader < length self.now.loaders }
+        ensures { IfSome (slice_get self.now.loaders loader) (λ l. result.now ≡ l.imports) }
+    {
+        self.at(loader).imports()
+    }
+
+    /// The loaders' names, in order.
+    pub fn names(&self) -> &[String]
+        ensures { map string_bytes result.now ≡ names_of self.now }
+    {
+        self.names.as_slice()
+    }
+
+    /// A loader.
+    fn at(&self, loader: LoaderId) -> &Loader
+        requires { loader < length self.now.loaders }
+        ensures { slice_get self.now.loaders loader ≡ Some result.now }
+    {
+        &self.loaders[usize::from(loader.0)]
+    }
+}
+
+/// The configuration that a document is.
+#[tactic(auto, unfolding(crate::specs::Configs::config_in))]
+fn config_in(alloc: Global, table: &Table) -> Result<Config, ConfigError>
+    ensures { Gives (λ c. c) result (config_in (table_view table.now)) }
+{
+    let values = top_in(table)?;
+    let entries = entries_in(alloc, values)?;
+    let loaders = loaders_of(alloc, entries.as_slice())?;
+    let names = names_of(alloc, loaders.as_slice())?;
+    Ok(Config { names, loaders })
+}
+
+/// The tables at the top.
+#[tactic(auto, unfolding(crate::specs::Configs::top_of))]
+fn top_in(table: &Table) -> Result<&[Value], ConfigFault>
+    ensures found { Finds (λ vs. items_view vs.now) result (top_of (table_view table.now)) }
+    ensures some { IfOk result (λ vs. 0 < length vs.now) }
+    ensures few { IfOk result (λ vs. length vs.now ≤ 64) }
+{
+    let values = array_at(table)?;
+    checked(has_only(table, &["loader"]), values)
+}
+
+/// The array at the top.
+fn array_at(table: &Table) -> Result<&[Value], ConfigFault>
+    ensures { Finds (λ vs. items_view vs.now) result (array_at (table_view table.now)) }
+{
+    let wrong = ConfigFault::BadLoader(0);
+    let Some(value) = value_at(table, "loader") else {
+        return Err(wrong);
+    };
+    match value.as_array() {
+        Some(array) => Ok(array.as_slice()),
+        None => Err(wrong),
+    }
+}
+
+/// Some tables, and not too many, where nothing stands beside them.
+#[tactic(auto, using(crate::proofs::Tops::count_is, crate::proofs::Tops::tables_are))]
+fn checked(alone: bool, values: &[Value]) -> Result<&[Value], ConfigFault>
+    ensures found { Finds (λ vs. items_view vs.now) result (checked alone (items_view values.now)) }
+    ensures some { IfOk result (λ vs. 0 < length vs.now) }
+    ensures few { IfOk result (λ vs. length vs.now ≤ 64) }
+{
+    if !alone || values.is_empty() || !are_tables(values) {
+        return Err(ConfigFault::BadLoader(0));
+    }
+    if values.len() > MOST_LOADERS {
+        return Err(ConfigFault::TooMany);
+    }
+    Ok(values)
+}
+
+/// Whether each value is a table.
+fn are_tables(values: &[Value]) -> bool
+    ensures { result ≡ list_all (λ v. is_some (as_table (view v))) values.now }
+{
+    values.iter().all(|value| value.is_table())
+}
+
+/// The loaders' names, in order.
+fn names_of(alloc: Global, loaders: &[Loader]) -> Result<Vec<String>, AllocError>
+    ensures { IfOk result (λ v. map string_bytes v.items ≡ names_of (record { loaders = loaders.now })) }
+{
+    let mut names = Vec::with_capacity(alloc, loaders.len())?;
+    for loader in loaders {
+        names.push(String::from_str(alloc, loader.name())?)?;
+    }
+    Ok(names)
+}
+
+/// The place of the first loader of this name.
+fn place_of(loaders: &[Loader], word: &str) -> Option<usize>
+    ensures found { result ≡ position (λ l. pointwise nat_eq l.name word.now) loaders.now }
+    ensures within { IfSome result (λ place. place < length loaders.now) }
+{
+    loaders.iter().position(|loader| loader.name() == word)
+}

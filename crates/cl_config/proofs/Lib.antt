@@ -3,4 +3,6 @@ pub mod Each
 pub mod Keys
 pub mod Names
 pub mod Places
+pub mod Requests
+pub mod Stops
 pub mod Tops

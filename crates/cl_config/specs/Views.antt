@@ -1,5 +1,6 @@
 -- What contracts see of a configuration and a script (own choice; JVMS SE 8, 5.3).
 use Rattle.std.specs.Prelude.{ℕ, List, Option, map}
+use Rattle.cl_model.specs.declared.request.Request.{Request}
 use Rattle.cl_config.specs.declared.order.Order.{Order}
 
 -- names that begin with this prefix are searched at that loader alone (5.3.2)
@@ -22,3 +23,10 @@ pub record Configured : Type 0 where
 -- the loaders' names, in order (5.3)
 abbrev pub names_of : Configured → List (List ℕ)
 names_of c = map (λ l. l.name) c.loaders
+
+-- the requests in order, the round of each, counted from 0, and how many rounds there are; a round may be empty (own
+-- choice)
+pub record Scripted : Type 0 where
+  pub requests : List Request
+  pub rounds_of : List ℕ
+  pub rounds : ℕ

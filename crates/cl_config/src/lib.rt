@@ -5,10 +5,13 @@ mod config;
 mod entry;
 mod fault;
 mod fields;
+pub mod laws;
 mod loader;
 mod order;
+mod script;
 
 pub use config::Config;
 pub use fault::{ConfigError, ConfigFault};
 pub use loader::{Import, Loader};
 pub use order::Order;
+pub use script::{Script, ScriptFault, class_name, text_is_one_script};

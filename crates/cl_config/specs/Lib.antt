@@ -3,6 +3,7 @@ pub mod ConfigTexts
 pub mod Configs
 pub mod Entries
 pub mod Fields
+pub mod Loaders
 pub mod ScriptLaws
 pub mod Scripts
 pub mod Steps

@@ -34,7 +34,7 @@ next_split s (x ∷ xs) ys n (inr h) = elim (next_split s xs ys n h.1) [
   | inr k ↦ inr ((h.0, k.0), k.1)
 ]
 
-met_split : (s : State) (xs ys : List Need) → AllMet s (xs ++ ys) → AllMet s xs × AllMet s ys
+pub met_split : (s : State) (xs ys : List Need) → AllMet s (xs ++ ys) → AllMet s xs × AllMet s ys
 met_split s [] ys h = (tt, h)
 met_split s (x ∷ xs) ys h = let k = met_split s xs ys h.1 in ((h.0, k.0), k.1)
 
@@ -324,7 +324,14 @@ lineage_kept w s k closed rec h =
     (forest_kept w s k.class k.interfaces (superinterfaces_of k.file) closed (all_right (Stands w s k.class) (superclass_of k.file) (superinterfaces_of k.file) above) h.over))
     ((rec, h), tt))
 
-link_next : (g : Setting) (s : State) (ks : List Kin) (n : Need) → AllByRecursion (IsKept g.world s) ks → IsNext s (flat_map constraints_of ks) n → MayAdd s n → May g s (step_for n)
+kept_recorded : (w : World) (s : State) (ks : List Kin) → AllByRecursion (IsKept w s) ks → AllByRecursion (λ (k : Kin). IsRecorded s k.class) ks
+kept_recorded w s [] h = tt
+kept_recorded w s (k ∷ ks) h = (h.0.0, kept_recorded w s ks h.1)
+
+pub lineage_recorded : (w : World) (s : State) (k : Kin) → IsClosed w s → IsLineage w k → IsRecorded s k.class → AllByRecursion (λ (a : Kin). IsRecorded s a.class) (lineage k)
+lineage_recorded w s k closed h rec = kept_recorded w s (lineage k) (lineage_kept w s k closed rec h)
+
+pub link_next : (g : Setting) (s : State) (ks : List Kin) (n : Need) → AllByRecursion (IsKept g.world s) ks → IsNext s (flat_map constraints_of ks) n → MayAdd s n → May g s (step_for n)
 link_next g s [] n all h may = absurd h
 link_next g s (k ∷ ks) n all h may = elim (next_split s (constraints_of k) (flat_map constraints_of ks) n h) [
   | inr x ↦ link_next g s ks n all.1 x.1 may

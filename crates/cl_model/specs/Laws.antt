@@ -1,16 +1,18 @@
 -- Laws of the definitions (JVMS SE 8, 5.3 to 5.4.5): each is the contract of a function without a body.
-use Rattle.std.specs.Prelude.{◌≡◌, ℕ, suc, ◌+◌, true, false, List, [], ◌∷◌, ◌++◌, length, Some, None, Ok, Err, ◌⊎◌, ◌↔◌, Contains, Option, slice_get, ◌≢◌}
+use Rattle.std.specs.Prelude.{◌≡◌, ℕ, suc, ◌+◌, true, false, List, [], ◌∷◌, ◌++◌, length, Some, None, Ok, Err, ◌⊎◌, ◌↔◌, Contains, Option, slice_get, ◌≢◌, find}
 use Rattle.cl_classfile.specs.Files.{Name, File, Key, same_key}
-use Rattle.cl_model.specs.Homes.{World, home}
+use Rattle.cl_model.specs.Homes.{World, home, is_loader}
+use Rattle.cl_model.specs.Probes.{probes, has_own, EachOnce}
 use Rattle.cl_model.specs.declared.class.Class.{Class}
-use Rattle.cl_model.specs.Classes.{class, Error, ClassCircularity, file_of, HasFile, IsAtHome, Good, IsGood, Fails, Circular, Next, Returns}
-use Rattle.cl_model.specs.Lineages.{Kin, IsLineage}
+use Rattle.cl_model.specs.Classes.{class, is_among, Error, ClassCircularity, file_of, HasFile, IsAtHome, Good, IsGood, Fails, Circular, Next, Returns}
+use Rattle.cl_model.specs.Lineages.{Kin, IsLineage, classes, lineage}
+use Rattle.cl_model.specs.Ancestors.{EachClassOnce, SupersFirst}
 use Rattle.cl_model.specs.Works.{Made}
 use Rattle.cl_model.specs.Plans.{derive, load, Load, Request, Plan, Resolve, needs_of}
 use Rattle.cl_model.specs.States.{State, start, Entry, IsClass, Answer, settled_to, answer_to, IsFresh, Clashes, added, Need, Verdict, recorded, Violated, Met, AllMet, IsRecorded, MayAdd, Said, Wrong, Linkage, IsNext}
 use Rattle.cl_model.specs.Chains.{ReadsPlain, Waiting, first_or, stands_in, IsChain, NoneWaitsTwice, absent_of, EndsAtOnce}
-use Rattle.cl_model.specs.Service.{Makes, Begins, IsNextNeed, IsBegun, Serves, AllServed}
-use Rattle.cl_model.specs.Machine.{Setting, Scheduled, Step, Post, May, state_after, Run, Answers, IsClosed, IsSound, after, AnswersPlan, AnswersReference, IsPlan, HasLineage, IsResolution, Define, step_for}
+use Rattle.cl_model.specs.Service.{IsNextNeed, IsNextStep, ComesTo, MayEnd, IsBegun, Serves, PassesRounds, AllServed}
+use Rattle.cl_model.specs.Machine.{Setting, Scheduled, Step, Post, May, state_after, Run, Answers, IsClosed, IsSound, after, AnswersPlan, AnswersReference, MaySay, IsPlan, HasLineage, IsResolution, Define, step_for}
 use Rattle.std.specs.List.{AllByRecursion}
 use Rattle.cl_model.specs.Content.{content_at}
 use Rattle.cl_model.specs.declared.event.Event as events
@@ -19,11 +21,23 @@ use Rattle.cl_model.specs.declared.answer.Answer as answers
 use Rattle.cl_model.specs.Views.{answer_at, steps_of, IsOther, verdict_of, answer_of, step_of}
 use Rattle.cl_model.specs.Texts as texts
 use Rattle.cl_model.specs.Lines as lines
-use Rattle.cl_model.specs.Tables.{Allows, Orderly, IsTrusted, Stands}
+use Rattle.cl_model.specs.Tables.{Allows, Orderly, IsTrusted, IsConsistent, Stands}
 
 -- a home is its own home (5.3.1, 5.3.2)
 abbrev pub HomeOfHome : Type 0
 HomeOfHome = (w : World) (loader found : ℕ) (name : Name) → home w loader name ≡ Some found → home w found name ≡ Some found
+
+-- a home is the first of the loaders that are probed whose own content has the name (5.3.2)
+abbrev pub HomeIsProbed : Type 0
+HomeIsProbed = (w : World) (loader : ℕ) (name : Name) → home w loader name ≡ find (has_own w name) (probes w loader name)
+
+-- no loader is probed twice (5.3.2)
+abbrev pub ProbedOnce : Type 0
+ProbedOnce = (w : World) (loader : ℕ) (name : Name) → EachOnce (probes w loader name)
+
+-- what is probed is a loader (5.3.2)
+abbrev pub ProbesAreLoaders : Type 0
+ProbesAreLoaders = (w : World) (loader : ℕ) (name : Name) → AllByRecursion (λ (n : ℕ). is_loader w n ≡ true) (probes w loader name)
 
 -- a greater height derives the same (5.3.5)
 abbrev pub HigherDerives : Type 0
@@ -169,6 +183,22 @@ DerivedIsLineage = (w : World) (n : ℕ) (path : List Class) (c : Class) (m : Ma
 abbrev pub LineageIsDerived : Type 0
 LineageIsDerived = (w : World) (k : Kin) → IsLineage w k → HasLineage w k.class k
 
+-- a lineage has each class once (5.4)
+abbrev pub LineageOnce : Type 0
+LineageOnce = (k : Kin) → EachClassOnce (lineage k)
+
+-- a lineage has its own class (5.4)
+abbrev pub LineageHas : Type 0
+LineageHas = (k : Kin) → is_among (classes (lineage k)) k.class ≡ true
+
+-- in a lineage each class stands after its direct supertypes (5.3.5, 5.4)
+abbrev pub LineageSupersFirst : Type 0
+LineageSupersFirst = (w : World) (k : Kin) → IsLineage w k → SupersFirst w [] (lineage k)
+
+-- the classes of a recorded class's lineage are recorded by their own loaders (5.3.5)
+abbrev pub LineageRecorded : Type 0
+LineageRecorded = (w : World) (s : State) (k : Kin) → IsClosed w s → IsLineage w k → IsRecorded s k.class → AllByRecursion (λ (a : Kin). IsRecorded s a.class) (lineage k)
+
 -- a settled verdict never changes (5.4.3)
 abbrev pub SettledStay : Type 0
 SettledStay = (s : State) (es : List Step) (d : Class) (i : ℕ) (v : Verdict) → settled_to s.settled d i ≡ Some v → settled_to (state_after s es).settled d i ≡ Some v
@@ -227,17 +257,35 @@ UnmetIsFresh = (w : World) (s : State) (loader place : ℕ) (name : Name) → Is
 
 -- ---- service
 
--- a beginning of a service goes on by the need that comes next (own choice)
+-- a service that was begun goes on by the step that comes next (own choice)
 abbrev pub ServiceGoesOn : Type 0
-ServiceGoesOn = (w : World) (r : Request) (s : State) (es : List Step) (n : Need) → IsBegun w r s es → IsNextNeed w (state_after s es) r n → MayAdd (state_after s es) n → IsBegun w r s (es ++ step_for n ∷ [])
+ServiceGoesOn = (g : Setting) (r : Request) (s : State) (es : List Step) (e : Step) → IsBegun g r s es → IsNextStep g (state_after s es) r e → IsBegun g r s (es ++ e ∷ [])
 
--- a service follows the plan: a beginning in whose last state the request has an answer is whole (own choice)
+-- a service that was begun is whole once its answer is posted (own choice)
 abbrev pub ServiceIsWhole : Type 0
-ServiceIsWhole = (g : Setting) (q : ℕ) (r : Request) (s : State) (es : List Step) (v : Verdict) → IsBegun g.world r s es → AnswersPlan g (state_after s es) r v → Serves g q r s (es ++ Post q (Said v) ∷ [])
+ServiceIsWhole = (g : Setting) (q : ℕ) (r : Request) (s : State) (es : List Step) (a : Answer) → IsBegun g r s es → MayEnd g (state_after s es) r a → Serves g q r s (es ++ Post q a ∷ [])
 
--- services go on by that of the next request (own choice)
+-- the need that comes next in the plan of a load is served next (5.3, 5.3.5)
+abbrev pub LoadNeedIsNext : Type 0
+LoadNeedIsNext = (g : Setting) (s : State) (loader : ℕ) (name : Name) (n : Need) → IsNextNeed g.world s (Load loader name) n → MayAdd s n → IsNextStep g s (Load loader name) (step_for n)
+
+-- the need that comes next in the plan of a resolution is served next (5.4.3)
+abbrev pub ResolveNeedIsNext : Type 0
+ResolveNeedIsNext = (g : Setting) (s : State) (loader : ℕ) (name : Name) (i : ℕ) (n : Need) → IsNextNeed g.world s (Resolve loader name i) n → MayAdd s n → IsNextStep g s (Resolve loader name i) (step_for n)
+
+-- a load that has an answer comes to it (5.3, 5.3.5)
+abbrev pub LoadComes : Type 0
+LoadComes = (g : Setting) (s : State) (loader : ℕ) (name : Name) (v : Verdict) → AnswersPlan g s (Load loader name) v → ComesTo g s (Load loader name) v
+
+-- a resolution whose verdict may be posted comes to it (5.4.3)
+abbrev pub ResolutionComes : Type 0
+ResolutionComes = (g : Setting) (s : State) (loader : ℕ) (name : Name) (i : ℕ) (v : Verdict) → MaySay g s (Resolve loader name i) v → ComesTo g s (Resolve loader name i) v
+
+-- services go on by that of the next request, and by the rounds that begin after it (own choice)
 abbrev pub ServicesGoOn : Type 0
-ServicesGoOn = (g : Setting) (q p : ℕ) (s : State) (rs : List Scheduled) (r : Scheduled) (es more : List Step) → AllServed g q s rs es → Serves g p r.request (state_after s es) more → p ≡ q + length rs → AllServed g q s (rs ++ r ∷ []) (es ++ more)
+ServicesGoOn =
+    (g : Setting) (q p : ℕ) (s : State) (rs : List Scheduled) (r : Scheduled) (es one rounds : List Step) → AllServed g q s rs es → Serves g p r.request (state_after s es) one
+    → PassesRounds g (state_after (state_after s es) one) rounds → p ≡ q + length rs → AllServed g q s (rs ++ r ∷ []) (es ++ (one ++ rounds))
 
 -- where a superclass is recorded, the record of the class that waits for it is the need that comes next (5.3.5, step 3)
 abbrev pub WaitingIsNext : Type 0
@@ -271,9 +319,9 @@ CircleIsAnswered = (g : Setting) (s : State) (l : ℕ) (name : Name) (x : Class)
 abbrev pub CircularIsAnswered : Type 0
 CircularIsAnswered = (g : Setting) (s : State) (l place : ℕ) (name : Name) (x : Class) (v : Verdict) → home g.world l name ≡ Some place → Returns g.world [] (class name place) x → AnswersPlan g s (Load l name) v → (v ≡ Wrong (ClassCircularity x)) ⊎ ((n : Need) × (v ≡ Linkage n))
 
--- a beginning of what needs make is a beginning (own choice)
+-- the first part of a service that was begun is one (own choice)
 abbrev pub PartBegins : Type 0
-PartBegins = (s : State) (ns : List Need) (xs ys : List Step) → Makes s ns (xs ++ ys) → Begins s ns xs
+PartBegins = (g : Setting) (r : Request) (s : State) (xs ys : List Step) → IsBegun g r s (xs ++ ys) → IsBegun g r s xs
 
 -- a run in two parts is a run and one that goes on from its state (5.3 to 5.4.3)
 abbrev pub RunThen : Type 0
@@ -315,25 +363,39 @@ NextMayBeMade = (g : Setting) (s : State) (q : Request) (p : Plan) (n : Need) �
 abbrev pub StepAdds : Type 0
 StepAdds = (s : State) (n : Need) → after s (step_for n) ≡ added s n
 
--- tables that were kept in order can be trusted (5.3, 5.3.4)
-abbrev pub OrderlyIsTrusted : Type 0
-OrderlyIsTrusted = (es : List Step) → Orderly start es → IsTrusted (state_after start es)
+-- ---- trusted tables
 
--- a step that the tables allow keeps them so (5.3, 5.3.4)
-abbrev pub AllowedIsTrusted : Type 0
-AllowedIsTrusted = (s : State) (e : Step) → Allows s e → IsTrusted s → IsTrusted (after s e)
+-- trusted tables are consistent (5.3, 5.3.4)
+abbrev pub TrustedIsConsistent : Type 0
+TrustedIsConsistent = (script : List Scheduled) (rounds : ℕ) (es : List Step) → IsTrusted script rounds es → IsConsistent (state_after start es)
 
--- tables in order stay so by a step that they allow (5.3, 5.3.4)
-abbrev pub OrderlyGoesOn : Type 0
-OrderlyGoesOn = (s : State) (es : List Step) (e : Step) → Orderly s es → Allows (state_after s es) e → Orderly s (es ++ e ∷ [])
+-- a step that the tables allow keeps them consistent (5.3, 5.3.4)
+abbrev pub AllowedIsConsistent : Type 0
+AllowedIsConsistent = (script : List Scheduled) (rounds : ℕ) (s : State) (e : Step) → Allows script rounds s e → IsConsistent s → IsConsistent (after s e)
 
--- a run keeps the tables in order (5.3, 5.3.4)
-abbrev pub RunsAreOrderly : Type 0
-RunsAreOrderly = (g : Setting) (es : List Step) → Run g start es → Orderly start es
+-- trusted tables stay so by a step that they allow (5.3 to 5.4.3)
+abbrev pub TrustedGoesOn : Type 0
+TrustedGoesOn = (script : List Scheduled) (rounds : ℕ) (es : List Step) (e : Step) → IsTrusted script rounds es → Allows script rounds (state_after start es) e → IsTrusted script rounds (es ++ e ∷ [])
+
+-- each part of a trusted history is trusted, or allowed after it (5.3 to 5.4.3)
+abbrev pub TrustedParts : Type 0
+TrustedParts = (script : List Scheduled) (rounds : ℕ) (es fs : List Step) → IsTrusted script rounds (es ++ fs) → IsTrusted script rounds es × Orderly script rounds (state_after start es) fs
+
+-- in a closed state the tables allow a step that may happen (5.3 to 5.4.3)
+abbrev pub MayIsAllowed : Type 0
+MayIsAllowed = (g : Setting) (s : State) (e : Step) → IsClosed g.world s → May g s e → Allows g.script g.rounds s e
+
+-- in a run the tables are trusted (5.3 to 5.4.3)
+abbrev pub RunsAreTrusted : Type 0
+RunsAreTrusted = (g : Setting) (es : List Step) → Run g start es → IsTrusted g.script g.rounds es
 
 -- a class is defined once (5.3.5, step 1)
 abbrev pub DefinedOnce : Type 0
-DefinedOnce = (es fs : List Step) (c : Class) → Orderly start (es ++ Define c ∷ fs) → Stands es (Define c) ⊎ Stands fs (Define c) → ⊥
+DefinedOnce = (script : List Scheduled) (rounds : ℕ) (es fs : List Step) (c : Class) → IsTrusted script rounds (es ++ Define c ∷ fs) → Stands es (Define c) ⊎ Stands fs (Define c) → ⊥
+
+-- a request is answered once (own choice)
+abbrev pub AnsweredOnce : Type 0
+AnsweredOnce = (script : List Scheduled) (rounds : ℕ) (es fs : List Step) (q : ℕ) (a b : Answer) → IsTrusted script rounds (es ++ Post q a ∷ fs) → Stands es (Post q b) ⊎ Stands fs (Post q b) → ⊥
 
 -- ---- words of the definitions that say the same
 

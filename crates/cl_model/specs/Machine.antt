@@ -146,10 +146,14 @@ pub record MayPost (g : Setting) (s : State) (q : ℕ) (a : Answer) : Type 0 whe
   pub unposted : answer_to s.answers q ≡ None
   pub may_answer : MayAnswer g s scheduled.request a
 
--- the next round may begin: all of this one is answered, and there is a later one (own choice)
-pub record MayGoOn (g : Setting) (s : State) : Type 0 where
-  pub answered : (q : ℕ) (e : Scheduled) → slice_get g.script q ≡ Some e → e.round ≡ s.round → IsSome (answer_to s.answers q)
-  pub later : s.round + 1 < g.rounds
+-- all of a script's requests of the round are answered, and there is a later round (own choice)
+pub record EndsRound (script : List Scheduled) (rounds : ℕ) (s : State) : Type 0 where
+  pub answered : (q : ℕ) (e : Scheduled) → slice_get script q ≡ Some e → e.round ≡ s.round → IsSome (answer_to s.answers q)
+  pub later : s.round + 1 < rounds
+
+-- the next round may begin (own choice)
+abbrev pub MayGoOn : Setting → State → Type 0
+MayGoOn g s = EndsRound g.script g.rounds s
 
 -- a step may happen in a state (5.3 to 5.4.3)
 abbrev pub May : Setting → State → Step → Type 0

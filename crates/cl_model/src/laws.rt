@@ -1,8 +1,16 @@
-ghost use Rattle.cl_model.specs.Laws.{HomeOfHome, GoodIsNotFailing, RunGoesOn, RecordsStay, MetStays, NeverViolated, OneAnswer, HigherDerives, AnswersStay, DerivedIsGood, RecordedIsMet, RunsAreClosed, GoodIsDerived, ErrorIsFailing, OneError, GoodGrows, FailsGrows, FailingIsDerived, ReturnIsCircular, ReturnGoesOn, CircleReturns, ReturnIsDerived, OneSubject, FailureIsNoCircle, OneDerivation, GoodIsAtHome, ComesOut, CircularReturns, CircularGoesOn, PlanExists, OnePlan, LineageExists, OneLineage, ResolutionExists, OneResolution, DerivedIsLineage, LineageIsDerived, SettledStay, PreparedStay, PostedStay, RequestAnswerStays, ReferenceAnswerStays, OneRequestAnswer, OneReferenceAnswer, RunsAreSound, StepIsSound, ClashViolates, ViolationClashes, RecordedLoadStands, RecordedAnswers, UnmetIsFresh, ServiceGoesOn, ServiceIsWhole, ServicesGoOn, WaitingIsNext, RootIsNext, MissingStops, FaultyStops, CircleStops, AnswersAtOnce, CircleIsAnswered, CircularIsAnswered, PartBegins, RunThen, RunParts, StateThen, SaidAlike, SaidReference, FileIsSpelt, StepsThen, StepsSame, NextMayBeMade, StepAdds, OrderlyIsTrusted, AllowedIsTrusted, OrderlyGoesOn, RunsAreOrderly, DefinedOnce, SameKey, ClassTexts, VerdictTexts, AnswerTexts, EventTexts};
+ghost use Rattle.cl_model.specs.Laws.{HomeOfHome, HomeIsProbed, ProbedOnce, ProbesAreLoaders, GoodIsNotFailing, RunGoesOn, RecordsStay, MetStays, NeverViolated, OneAnswer, HigherDerives, AnswersStay, DerivedIsGood, RecordedIsMet, RunsAreClosed, GoodIsDerived, ErrorIsFailing, OneError, GoodGrows, FailsGrows, FailingIsDerived, ReturnIsCircular, ReturnGoesOn, CircleReturns, ReturnIsDerived, OneSubject, FailureIsNoCircle, OneDerivation, GoodIsAtHome, ComesOut, CircularReturns, CircularGoesOn, PlanExists, OnePlan, LineageExists, OneLineage, ResolutionExists, OneResolution, DerivedIsLineage, LineageIsDerived, LineageOnce, LineageHas, LineageSupersFirst, LineageRecorded, SettledStay, PreparedStay, PostedStay, RequestAnswerStays, ReferenceAnswerStays, OneRequestAnswer, OneReferenceAnswer, RunsAreSound, StepIsSound, ClashViolates, ViolationClashes, RecordedLoadStands, RecordedAnswers, UnmetIsFresh, ServiceGoesOn, ServiceIsWhole, LoadNeedIsNext, ResolveNeedIsNext, LoadComes, ResolutionComes, ServicesGoOn, WaitingIsNext, RootIsNext, MissingStops, FaultyStops, CircleStops, AnswersAtOnce, CircleIsAnswered, CircularIsAnswered, PartBegins, RunThen, RunParts, StateThen, SaidAlike, SaidReference, FileIsSpelt, StepsThen, StepsSame, NextMayBeMade, StepAdds, TrustedIsConsistent, AllowedIsConsistent, TrustedGoesOn, TrustedParts, MayIsAllowed, RunsAreTrusted, DefinedOnce, AnsweredOnce, SameKey, ClassTexts, VerdictTexts, AnswerTexts, EventTexts};
 
 /// A home is its own home.
 pub fn home_of_home()
     ensures { HomeOfHome }
+{}
+
+/// A home is the first of the loaders that are probed whose own content has the name; each of these is a loader, and
+/// none is probed twice.
+pub fn home_is_probed()
+    ensures home { HomeIsProbed }
+    ensures once { ProbedOnce }
+    ensures loaders { ProbesAreLoaders }
 {}
 
 /// What is good does not fail.
@@ -185,6 +193,14 @@ pub fn lineage_is_derived()
     ensures { LineageIsDerived }
 {}
 
+/// A lineage has each class once, its own too, each after its direct supertypes; those of a recorded class are recorded.
+pub fn lineage_is_ordered()
+    ensures once { LineageOnce }
+    ensures own { LineageHas }
+    ensures supers_first { LineageSupersFirst }
+    ensures recorded { LineageRecorded }
+{}
+
 /// A settled verdict never changes.
 pub fn settled_stay()
     ensures { SettledStay }
@@ -255,17 +271,29 @@ pub fn unmet_is_fresh()
     ensures { UnmetIsFresh }
 {}
 
-/// A beginning of a service goes on by the need that comes next.
+/// A service that was begun goes on by the step that comes next.
 pub fn service_goes_on()
     ensures { ServiceGoesOn }
 {}
 
-/// A beginning of a service in whose last state the request has an answer is whole.
+/// A service that was begun is whole once its answer is posted.
 pub fn service_is_whole()
     ensures { ServiceIsWhole }
 {}
 
-/// Services go on by that of the next request.
+/// The need that comes next in the plan of a load or of a resolution is served next.
+pub fn need_is_next()
+    ensures load { LoadNeedIsNext }
+    ensures resolve { ResolveNeedIsNext }
+{}
+
+/// What may be said of a load or of a resolution is what its service comes to.
+pub fn said_is_come_to()
+    ensures load { LoadComes }
+    ensures resolve { ResolutionComes }
+{}
+
+/// Services go on by that of the next request, and by the rounds that begin after it.
 pub fn services_go_on()
     ensures { ServicesGoOn }
 {}
@@ -310,7 +338,7 @@ pub fn circular_is_answered()
     ensures { CircularIsAnswered }
 {}
 
-/// A beginning of what needs make is a beginning.
+/// The first part of a service that was begun is one.
 pub fn part_begins()
     ensures { PartBegins }
 {}
@@ -365,29 +393,44 @@ pub fn step_adds()
     ensures { StepAdds }
 {}
 
-/// Tables that were kept in order can be trusted, under any source.
-pub fn orderly_is_trusted()
-    ensures { OrderlyIsTrusted }
+/// Trusted tables are consistent, under any source.
+pub fn trusted_is_consistent()
+    ensures { TrustedIsConsistent }
 {}
 
-/// A step that trusted tables allow keeps them so.
-pub fn allowed_is_trusted()
-    ensures { AllowedIsTrusted }
+/// A step that the tables allow keeps them consistent.
+pub fn allowed_is_consistent()
+    ensures { AllowedIsConsistent }
 {}
 
-/// Tables in order stay so by a step that they allow.
-pub fn orderly_goes_on()
-    ensures { OrderlyGoesOn }
+/// Trusted tables stay so by a step that they allow.
+pub fn trusted_goes_on()
+    ensures { TrustedGoesOn }
 {}
 
-/// A run keeps the tables in order.
-pub fn runs_are_orderly()
-    ensures { RunsAreOrderly }
+/// The parts of a trusted history.
+pub fn trusted_parts()
+    ensures { TrustedParts }
+{}
+
+/// In a closed state the tables allow a step that may happen.
+pub fn may_is_allowed()
+    ensures { MayIsAllowed }
+{}
+
+/// In a run the tables are trusted.
+pub fn runs_are_trusted()
+    ensures { RunsAreTrusted }
 {}
 
 /// A class is defined once, under any source.
 pub fn defined_once()
     ensures { DefinedOnce }
+{}
+
+/// A request is answered once, under any source.
+pub fn answered_once()
+    ensures { AnsweredOnce }
 {}
 
 /// The test of two keys tells whether they are equal.

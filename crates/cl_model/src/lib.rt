@@ -4,10 +4,10 @@
 mod answer;
 mod class;
 mod event;
+pub mod examples;
 pub mod laws;
 mod loader;
 mod request;
-pub mod rows;
 mod told;
 mod verdict;
 

@@ -1,4 +1,4 @@
-ghost use Rattle.std.specs.Prelude.{◌≡◌, ◌≤◌, ℕ, List, [], ◌∷◌, ◌++◌, length, IfErr, IfOk};
+ghost use Rattle.std.specs.Prelude.{◌≡◌, ◌≤◌, ℕ, List, [], ◌∷◌, ◌++◌, length, IfErr, IfOk, MatchOption};
 ghost use Rattle.std.specs.Prelude.{refl, nat_eq, Some};
 ghost use Rattle.std.specs.Ordering.{nat_cmp};
 ghost use Rattle.std.specs.Cmp;
@@ -7,9 +7,9 @@ ghost use Rattle.std.specs.Cmp.Rules.{hashing};
 ghost use Rattle.std.specs.Hash as fed;
 ghost use Rattle.std.proofs.Common.{rules};
 ghost use Rattle.cl_names.specs.Text.{IsModifiedUtf8};
-ghost use Rattle.cl_names.specs.Escape.{escaped};
+ghost use Rattle.cl_names.specs.Escape.{escaped, WritesName};
 ghost use Rattle.cl_names.specs.Form.{completes};
-ghost use Rattle.cl_names.specs.Name.{TestedNameOf};
+ghost use Rattle.cl_names.specs.Name.{TestedNameOf, WritesClass};
 
 use crate::escape::{printed, written};
 use crate::form::Form;
@@ -20,23 +20,25 @@ use std::alloc::{AllocError, Global};
 use std::cmp::Ordering;
 use std::hash::{Hash, Hasher};
 use std::marker::Model;
+use std::sync::ArcSlice;
 use thiserror::Error;
 
-/// A name, in modified UTF-8 (JVMS SE 8, 4.4.7).
+/// A name, in modified UTF-8 (JVMS SE 8, 4.4.7). Its copies share one allocation of the bytes.
 #[derive(Debug, Drop)]
 pub struct Name {
-    bytes: Vec<u8>,
+    bytes: ArcSlice<u8>,
 }
 
 impl Model for Name {
     ghost use Rattle.std.specs.Prelude.{ℕ, List, length, ◌≤◌};
+    ghost use Rattle.std.specs.Arc.{arc_slice_items};
     ghost use Rattle.cl_names.specs.Text.{IsModifiedUtf8};
 
     ghost Value = { List ℕ };
 
-    ghost view = { λ n. n.bytes.items };
+    ghost view = { λ n. arc_slice_items n.bytes };
 
-    ghost invariant = { λ n. IsModifiedUtf8 n.bytes.items × (length n.bytes.items ≤ 65535) };
+    ghost invariant = { λ n. IsModifiedUtf8 (arc_slice_items n.bytes) × (length (arc_slice_items n.bytes) ≤ 65535) };
 }
 
 impl PartialEq for Name {
@@ -155,7 +157,7 @@ impl Name {
         ensures { TextNameOf text.now result }
     {
         Ok(Name {
-            bytes: written(alloc, text.as_bytes())?,
+            bytes: ArcSlice::from_vec(written(alloc, text.as_bytes())?)?,
         })
     }
 
@@ -220,14 +222,33 @@ impl Name {
         self.bytes.as_slice()
     }
 
-    /// A copy. Only want of memory refuses it.
-    pub fn try_clone(&self, alloc: Global) -> Result<Name, AllocError>
+    /// A copy: another handle on the same bytes, which takes no memory. An error only past as many copies
+    /// as a counter counts.
+    pub fn try_clone(&self, _alloc: Global) -> Result<Name, AllocError>
         ensures { IfOk result (λ name. name ≡ self.now) }
     {
         Ok(Name {
-            bytes: Vec::from_slice(alloc, self.bytes())?,
+            bytes: self.bytes.clone()?,
         })
     }
+}
+
+/// The class's name that escaped text writes, if it writes one (JVMS SE 8, 4.2.1): what a script or a
+/// bundle calls a class by. A text that writes no name is told without regard to memory.
+pub fn class_name(alloc: Global, text: &str) -> Result<Option<Name>, AllocError>
+    ensures writes { IfOk result (λ found. MatchOption found ((name : List ℕ) → WritesClass text.now name → ⊥) (λ name. WritesClass text.now name)) }
+    ensures memory { IfErr result (λ _. (name : List ℕ) × WritesName text.now name) }
+{
+    let name = match Name::from_text(alloc, text) {
+        Ok(name) => name,
+        Err(NameFault::Memory) => return Err(AllocError),
+        Err(NameFault::NotModifiedUtf8) => return Ok(None),
+        Err(NameFault::BadName) => return Ok(None),
+    };
+    if !name.is_class() {
+        return Ok(None);
+    }
+    Ok(Some(name))
 }
 
 /// The name that the bytes spell, where they have this form.
@@ -241,6 +262,6 @@ fn spelled(alloc: Global, bytes: &[u8], form: Form) -> Result<Name, NameFault>
         return Err(NameFault::BadName);
     }
     Ok(Name {
-        bytes: Vec::from_slice(alloc, bytes)?,
+        bytes: ArcSlice::from_slice(alloc, bytes)?,
     })
 }

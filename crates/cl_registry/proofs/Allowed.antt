@@ -1,6 +1,6 @@
 -- What the linkage machine allows next is what a registry accepts.
 use Rattle.std.proofs.Common.{◌≡◌, ◌<◌, ◌∙◌, ℕ, suc, Bool, true, false, if◌then◌else◌, List, [], ◌∷◌, ◌++◌, length, Option, Some, None, Result, Ok, Err, inl, inr, refl, sym, ap, subst, arith, is_some}
-use Rattle.std.specs.Prelude.{nat_lt, ◌==◌, slice_get, option_map, option_and_then}
+use Rattle.std.specs.Prelude.{nat_lt, slice_get, option_map, option_and_then}
 use Rattle.std.specs.List.{AllByRecursion}
 use Rattle.std.proofs.lemmas.Bool.Decides.{nat_tests}
 use Rattle.std.proofs.lemmas.List.{length-map, append-nil}
@@ -21,25 +21,23 @@ use Rattle.cl_model.specs.Lineages.{Kin}
 use Rattle.cl_model.specs.States.{State, Need, Entry, Verdict, IsClass, Wrong, Linkage, Met, AllMet, recorded}
 use Rattle.cl_model.specs.Works.{Made}
 use Rattle.cl_model.specs.Plans.{Load, Plan, derive, load, plan_from, needs_of}
-use Rattle.cl_model.specs.Machine.{Setting, Scheduled, Answers, MayDefine, MaySay, MayAnswer, MayPost}
+use Rattle.cl_model.specs.Machine.{Setting, Scheduled, Answers, MaySay, MayAnswer, MayPost}
 use Rattle.cl_model.specs.Views.{answer_of, request_of}
 use Rattle.cl_model.proofs.Chains.{one_above}
 use Rattle.cl_model.proofs.Closed.{runs_are_closed}
-use Rattle.cl_model.proofs.Complete.{file_is, some_place}
+use Rattle.cl_model.proofs.Complete.{file_is}
 use Rattle.cl_model.proofs.Derived.{load_ok}
 use Rattle.cl_model.proofs.Ending.{if_some}
 use Rattle.cl_model.proofs.Looks.{unmet_is_fresh}
 use Rattle.cl_model.proofs.Progress.{derive_records, load_records}
 use Rattle.cl_model.proofs.Reached.{then_some}
 use Rattle.cl_model.proofs.Trees.{derive_gives}
-use Rattle.cl_registry.specs.Views.{Configured}
-use Rattle.cl_registry.specs.Worlds.{world_of, setting_of}
-use Rattle.cl_registry.specs.Drafts.{IsDraft}
-use Rattle.cl_registry.specs.Searches.{Drafted}
+use Rattle.cl_config.specs.Views.{Configured}
+use Rattle.cl_delegation.specs.Worlds.{world_of, setting_of}
 use Rattle.cl_registry.specs.Findings.{Answered, loader_of, name_of}
 use Rattle.cl_registry.specs.Tables.{Shown, steps, state_of, AboveIn, AnswerBacked, IsAsked}
 use Rattle.cl_registry.specs.Allowed.{AllowedIsEntered, EnteredIsAllowed, AllowedIsBacked, BackedIsAllowed}
-use Rattle.cl_registry.proofs.Chained.{draft_file}
+use Rattle.cl_hierarchy.proofs.Chained.{draft_file}
 use Rattle.cl_registry.proofs.Running.{may_define, may_post, calm, scheduled}
 
 -- ---- definitions

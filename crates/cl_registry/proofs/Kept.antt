@@ -1,10 +1,9 @@
 -- What a registry keeps goes on by a definition and by a post.
-use Rattle.std.proofs.Common.{◌≡◌, ◌≢◌, ◌⊎◌, inl, inr, ◌∙◌, ◌<◌, ◌≤◌, ◌+◌, ℕ, zero, suc, Bool, true, false, List, [], ◌∷◌, ◌++◌, length, map, Option, Some, None, refl, sym, ap, subst, arith, is_some, append_assoc, add-one, replicate}
-use Rattle.std.specs.Prelude.{Result, Ok, Err, OnOk, ◌||◌, ◌&&◌, ◌==◌, nat_eq, if◌then◌else◌, slice_get, slice_set, find, option_map, option_and_then, IsSome}
+use Rattle.std.proofs.Common.{◌≡◌, ◌∙◌, ◌<◌, ◌≤◌, ◌+◌, ℕ, zero, suc, Bool, true, false, List, [], ◌∷◌, ◌++◌, length, Option, Some, None, refl, sym, ap, subst, arith, is_some, append_assoc, add-one, replicate}
+use Rattle.std.specs.Prelude.{Result, Ok, Err, OnOk, ◌&&◌, ◌==◌, nat_eq, if◌then◌else◌, slice_get, find, option_map, IsSome}
 use Rattle.std.specs.Option.{option_or}
 use Rattle.std.specs.Cmp.Lexicographic.{pointwise}
-use Rattle.std.proofs.lemmas.List.{map_push, append-nil, length-set, length_push, length-replicate}
-use Rattle.std.proofs.lemmas.Bool.Decides.{nat_tests}
+use Rattle.std.proofs.lemmas.List.{append-nil, length-set, length_push, length-replicate}
 use Rattle.cl_classfile.specs.Structure.{Structure}
 use Rattle.cl_classfile.specs.Files.{file_of, same_name}
 use Rattle.cl_model.specs.declared.class.Class.{Class}
@@ -15,19 +14,18 @@ use Rattle.cl_model.specs.declared.request.Request.{Request}
 use Rattle.cl_model.specs.Content.{Content}
 use Rattle.cl_model.specs.Classes.{class}
 use Rattle.cl_model.specs.Texts.{AnswerNames}
-use Rattle.cl_model.specs.States.{State, Record, Answer, recorded, start}
-use Rattle.cl_model.specs.Machine.{Step, Define, Post, after, state_after}
-use Rattle.cl_model.specs.Views.{answer_of, answers_of, answer_at, post_of, step_of, steps_of}
-use Rattle.cl_registry.specs.declared.row.ClassRow.{ClassRow}
-use Rattle.cl_registry.specs.Drafts.{IsDraft}
-use Rattle.cl_registry.specs.Searches.{Drafted}
+use Rattle.cl_model.specs.States.{State, Record, recorded, start}
+use Rattle.cl_model.specs.Machine.{Step, state_after}
+use Rattle.cl_model.specs.Views.{answers_of, steps_of}
+use Rattle.cl_hierarchy.specs.declared.row.ClassRow.{ClassRow}
+use Rattle.cl_hierarchy.specs.Drafts.{IsDraft, Drafted}
 use Rattle.cl_registry.specs.Parts.{IsOf, is_above, EntersIn, BackedIn}
 use Rattle.cl_registry.specs.Findings.{Answered, loader_of, name_of, Rests}
 use Rattle.cl_registry.specs.Kept.{left_in, IsRegistry}
 pub use Rattle.cl_registry.proofs.Histories.{posts_define, posts_post}
 use Rattle.cl_registry.proofs.Histories.{eq_nat, state_defines, given, left_set, swap_nat, is_in_push, each_push, posted_by, unposted, state_posts}
 use Rattle.cl_registry.proofs.Running.{run_define, run_post, run_new, named_define, named_post, named_new}
-use Rattle.cl_registry.specs.Tables.{Shown, steps, state_of, records_of, posts, is_in, EachOnce, NoneTwice, IsTrusted, IsKept, with_define, with_post, IsRow, RowAt, MayEnter, AboveIn, IsOpen, IsBacked, AnswerBacked, DefinedAs}
+use Rattle.cl_registry.specs.Tables.{Shown, steps, records_of, posts, is_in, EachOnce, NoneTwice, with_define, with_post, IsRow, RowAt, MayEnter, AboveIn, IsOpen, IsBacked, AnswerBacked, DefinedAs}
 
 -- ---- records
 

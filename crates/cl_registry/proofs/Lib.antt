@@ -1,15 +1,6 @@
-pub mod Bounds
-pub mod Drafting
-pub mod Places
-pub mod Contents
-pub mod Requests
-pub mod Asked
-pub mod Homes
-pub mod Chained
 pub mod Histories
 pub mod Running
 pub mod Allowed
 pub mod Rests
 pub mod Kept
 pub mod Strangers
-pub mod Walks

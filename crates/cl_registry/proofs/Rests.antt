@@ -14,7 +14,6 @@ use Rattle.cl_model.specs.declared.request.Request.TheVariants as requests
 use Rattle.cl_model.specs.Content.{Content}
 use Rattle.cl_model.specs.Homes.{World}
 use Rattle.cl_model.specs.Classes.{class, Error, NoClassDef, ClassCircularity, named, HasFile}
-use Rattle.cl_model.specs.Classes as classes
 use Rattle.cl_model.specs.States.{Wrong}
 use Rattle.cl_model.specs.Plans as plans
 use Rattle.cl_model.specs.Views.{request_of, error_of}
@@ -22,17 +21,18 @@ use Rattle.cl_model.specs.Chains.{Waiting, first_or, stands_in, absent_of, EndsA
 use Rattle.cl_model.proofs.Runs.{names_equal}
 use Rattle.cl_model.proofs.Chains.{chain_push, first_push}
 use Rattle.cl_model.proofs.Stops.{missing_stops, faulty_stops, circle_stops, stands_push, once_push}
-use Rattle.cl_registry.specs.declared.draft.DraftFault.{DraftFault}
-use Rattle.cl_registry.specs.declared.draft.DraftFault.TheVariants as drafts
-use Rattle.cl_registry.specs.Views.{Configured}
-use Rattle.cl_registry.specs.Told.{IsTold}
-use Rattle.cl_registry.specs.Worlds.{fault_of, file_read, read, world_of}
-use Rattle.cl_registry.specs.Searches.{Drafted, Located, Sought}
-use Rattle.cl_registry.specs.Drafts.{IsDraft, IsWrong}
-use Rattle.cl_registry.specs.Walks.{has, Walked, names, stands, IsWalk}
+use Rattle.cl_hierarchy.specs.declared.draft.DraftFault.{DraftFault}
+use Rattle.cl_hierarchy.specs.declared.draft.DraftFault.TheVariants as drafts
+use Rattle.cl_config.specs.Views.{Configured}
+use Rattle.cl_source.specs.Told.{IsTold}
+use Rattle.cl_model.specs.Worlds.{file_fault, seen}
+use Rattle.cl_delegation.specs.Worlds.{read, world_of}
+use Rattle.cl_hierarchy.specs.Drafts.{Drafted, IsDraft, IsWrong}
+use Rattle.cl_delegation.specs.Searches.{Located, Sought}
+use Rattle.cl_hierarchy.specs.Walks.{has, Walked, names, stands, IsWalk}
 use Rattle.cl_registry.specs.Findings.{loader_of, IsFor, kind_of, missing_kind, Rests}
-use Rattle.cl_registry.proofs.Homes.{leads_nowhere}
-use Rattle.cl_registry.proofs.Chained.{file_found, at_home, draft_file, waiting, stands_waiting, first_waiting, waits_once, walk_is_chain}
+use Rattle.cl_delegation.proofs.Homes.{leads_nowhere}
+use Rattle.cl_hierarchy.proofs.Chained.{file_found, at_home, draft_file, waiting, stands_waiting, first_waiting, waits_once, walk_is_chain}
 
 -- what a request loads stands first on its walk
 for_request : (r : Request) (w : Walked) → IsFor r w → plans.Load w.loader (first_or (map waiting w.drafts) w.at) ≡ request_of r
@@ -50,7 +50,7 @@ absent_same (d ∷ ds) c = refl
 
 -- ---- what is wrong with bytes
 
-other_than_version : (fault : Fault) → fault ≢ faults.Version → fault_of fault ≡ BadFormat
+other_than_version : (fault : Fault) → fault ≢ faults.Version → file_fault fault ≡ BadFormat
 other_than_version faults.BadMagic n = refl
 other_than_version faults.Version n = absurd (n refl)
 other_than_version faults.Truncated n = refl
@@ -66,12 +66,12 @@ apart a b true n h = absurd (n (names_equal a b h))
 apart a b false n h = refl
 
 wrong_read : (h : Located) (fault : DraftFault) (c : Class) → h.name ≡ c.name → IsWrong h fault → named c (read h.bytes) ≡ Err (error_of (kind_of fault) c)
-wrong_read h drafts.Version c same wrong = ap (λ (r : Result Structure Fault). named c (file_read r)) wrong
+wrong_read h drafts.Version c same wrong = ap (λ (r : Result Structure Fault). named c (seen r)) wrong
 wrong_read h (drafts.Format fault) c same wrong =
-    ap (λ (r : Result Structure Fault). named c (file_read r)) wrong.0 ∙ ap (λ (f : FileFault). named c (Err f)) (other_than_version fault wrong.1)
+    ap (λ (r : Result Structure Fault). named c (seen r)) wrong.0 ∙ ap (λ (f : FileFault). named c (Err f)) (other_than_version fault wrong.1)
 wrong_read h drafts.OtherName c same wrong =
     let f = file_of wrong.0 in
-    ap (λ (r : Result Structure Fault). named c (file_read r)) wrong.1
+    ap (λ (r : Result Structure Fault). named c (seen r)) wrong.1
     ∙ ap (λ (b : Bool). if b then Ok f else Err (NoClassDef c)) (apart f.name c.name (same_name f.name c.name) (λ e. wrong.2 (e ∙ sym same)) refl)
 
 -- ---- circles

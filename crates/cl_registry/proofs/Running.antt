@@ -1,6 +1,6 @@
 -- A registry's history is a run of the linkage machine, where a content is told; and it names loaders of the configuration.
 use Rattle.std.proofs.Common.{◌≡◌, ◌<◌, ◌∙◌, ℕ, Bool, true, false, if◌then◌else◌, List, [], ◌∷◌, ◌++◌, length, map, replicate, Option, Some, None, refl, sym, ap, subst, arith, is_some}
-use Rattle.std.specs.Prelude.{nat_eq, ◌==◌, find, option_map, slice_get, slice_set, Contains, All, IfSome}
+use Rattle.std.specs.Prelude.{nat_eq, ◌==◌, find, option_map, slice_get, Contains, All, IfSome}
 use Rattle.std.specs.Option.{option_or}
 use Rattle.std.specs.List.{AllByRecursion}
 use Rattle.std.proofs.lemmas.Option.{slice_get-map}
@@ -17,10 +17,10 @@ use Rattle.cl_model.specs.declared.verdict.Verdict.TheVariants as verdicts
 use Rattle.cl_model.specs.declared.answer.Answer as rust
 use Rattle.cl_model.specs.declared.answer.Answer.TheVariants as answers
 use Rattle.cl_model.specs.Content.{Content}
-use Rattle.cl_model.specs.Homes.{World, home}
-use Rattle.cl_model.specs.Classes.{class, HasFile}
+use Rattle.cl_model.specs.Homes.{home}
+use Rattle.cl_model.specs.Classes.{class}
 use Rattle.cl_model.specs.Texts.{AnswerNames, EventNames}
-use Rattle.cl_model.specs.States.{State, start, Equality, Posted, Entry, Verdict, IsClass, Wrong, Answer, recorded, answer_to, Linked, IsPath, Met, Clashes, MayAdd}
+use Rattle.cl_model.specs.States.{State, start, Equality, Posted, Entry, Verdict, IsClass, Wrong, Answer, recorded, answer_to, IsPath, Clashes, MayAdd}
 use Rattle.cl_model.specs.Plans.{Load}
 use Rattle.cl_model.specs.Service.{IsNextNeed}
 use Rattle.cl_model.specs.Machine.{Setting, Scheduled, Step, Define, Initiate, Post, May, MaySay, MayAnswer, MayPost, after, state_after, Run, Answers, AnswersPlan, IsClosed}
@@ -32,17 +32,16 @@ use Rattle.cl_model.proofs.Ending.{if_some}
 use Rattle.cl_model.proofs.Chains.{next_waiting, next_root}
 use Rattle.cl_model.proofs.Progress.{next_may}
 use Rattle.cl_model.proofs.Looks.{recorded_answers}
-use Rattle.cl_registry.specs.Views.{Configured, Scripted}
-use Rattle.cl_registry.specs.Worlds.{world_of, setting_of}
-use Rattle.cl_registry.specs.Drafts.{IsDraft}
-use Rattle.cl_registry.specs.Searches.{Drafted}
+use Rattle.cl_config.specs.Views.{Configured, Scripted}
+use Rattle.cl_delegation.specs.Worlds.{world_of, setting_of}
+use Rattle.cl_hierarchy.specs.Drafts.{IsDraft, Drafted}
 use Rattle.cl_registry.specs.Findings.{loader_of, name_of, AnswerRests, Rests}
 use Rattle.cl_registry.specs.Tables.{Shown, steps, state_of, records_of, posts, is_in, IsTrusted, RunsAs, NamesLoaders, with_define, with_post, AboveIn, MayEnter, AnswerBacked, IsBacked, IsOpen}
 use Rattle.cl_registry.specs.declared.report.Report.{Report}
 use Rattle.cl_registry.specs.Reports.{IsReport, IsNamed}
-use Rattle.cl_registry.proofs.Bounds.{reads_plain}
-use Rattle.cl_registry.proofs.Homes.{own}
-use Rattle.cl_registry.proofs.Chained.{draft_file}
+use Rattle.cl_delegation.proofs.Bounds.{reads_plain}
+use Rattle.cl_delegation.proofs.Homes.{own}
+use Rattle.cl_hierarchy.proofs.Chained.{draft_file}
 use Rattle.cl_registry.proofs.Histories.{steps_defines, steps_posts, or_of_false, swap_nat, unposted}
 
 -- ---- what definitions and posts leave as it is

@@ -5,9 +5,8 @@ use Rattle.cl_model.specs.States.{recorded}
 use Rattle.cl_model.specs.Texts.{AnswerNames}
 use Rattle.cl_model.specs.Views.{answer_of}
 use Rattle.cl_model.specs.Machine.{MayDefine, MayPost}
-use Rattle.cl_registry.specs.Worlds.{setting_of}
-use Rattle.cl_registry.specs.Drafts.{IsDraft}
-use Rattle.cl_registry.specs.Searches.{Drafted}
+use Rattle.cl_delegation.specs.Worlds.{setting_of}
+use Rattle.cl_hierarchy.specs.Drafts.{IsDraft, Drafted}
 use Rattle.cl_registry.specs.Findings.{Answered, loader_of, Rests}
 use Rattle.cl_registry.specs.declared.registry.RegistryFault.TheVariants.{Stray}
 use Rattle.cl_registry.specs.Refusals.{DefineRefusedFor}

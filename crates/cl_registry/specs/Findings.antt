@@ -1,7 +1,6 @@
 -- What an answer rests on (JVMS SE 8, 5.3.5).
-use Rattle.std.specs.Prelude.{◌≡◌, ◌≢◌, ◌<◌, ℕ, Bool, true, List, [], ◌∷◌, length, Option, Some, None, Result, Ok, Err}
+use Rattle.std.specs.Prelude.{◌≡◌, ◌<◌, ℕ, true, List, [], ◌∷◌, length, Option, Some, None}
 use Rattle.cl_classfile.specs.Files.{file_of}
-use Rattle.cl_model.specs.declared.class.Class.{Class}
 use Rattle.cl_model.specs.declared.verdict.ErrorKind.{ErrorKind}
 use Rattle.cl_model.specs.declared.verdict.ErrorKind.TheVariants as kinds
 use Rattle.cl_model.specs.declared.verdict.Verdict as verdicts
@@ -13,14 +12,14 @@ use Rattle.cl_model.specs.States.{Wrong}
 use Rattle.cl_model.specs.Homes.{World}
 use Rattle.cl_model.specs.Chains.{EndsAtOnce}
 use Rattle.cl_model.specs.Views.{request_of, error_of}
-use Rattle.cl_registry.specs.declared.draft.DraftFault.{DraftFault}
-use Rattle.cl_registry.specs.declared.draft.DraftFault.TheVariants as drafts
+use Rattle.cl_hierarchy.specs.declared.draft.DraftFault.{DraftFault}
+use Rattle.cl_hierarchy.specs.declared.draft.DraftFault.TheVariants as drafts
 use Rattle.cl_registry.specs.declared.finding.Obstacle.{Obstacle}
 use Rattle.cl_registry.specs.declared.finding.Obstacle.TheVariants.{Missing, Unreadable, Circle}
-use Rattle.cl_registry.specs.Views.{Configured}
-use Rattle.cl_registry.specs.Worlds.{world_of}
-use Rattle.cl_registry.specs.Searches.{Drafted}
-use Rattle.cl_registry.specs.Walks.{Walked, root, stands}
+use Rattle.cl_config.specs.Views.{Configured}
+use Rattle.cl_delegation.specs.Worlds.{world_of}
+use Rattle.cl_hierarchy.specs.Drafts.{Drafted}
+use Rattle.cl_hierarchy.specs.Walks.{Walked, root, stands}
 
 -- a request and its answer (own choice)
 pub record Answered : Type 0 where

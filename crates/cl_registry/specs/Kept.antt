@@ -3,7 +3,7 @@ use Rattle.std.specs.Prelude.{◌≡◌, ◌+◌, ◌≤◌, ℕ, List, [], ◌�
 use Rattle.cl_model.specs.declared.answer.Answer.{Answer}
 use Rattle.cl_model.specs.Content.{Content}
 use Rattle.cl_model.specs.States.{recorded}
-use Rattle.cl_registry.specs.declared.row.ClassRow.{ClassRow}
+use Rattle.cl_hierarchy.specs.declared.row.ClassRow.{ClassRow}
 use Rattle.cl_registry.specs.Tables.{Shown, IsKept, RowAt, records_of}
 
 -- how many have no answer (own choice)

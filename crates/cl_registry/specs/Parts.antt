@@ -5,8 +5,8 @@ use Rattle.cl_model.specs.declared.answer.Answer.{Answer}
 use Rattle.cl_model.specs.declared.request.Request.{Request}
 use Rattle.cl_model.specs.Classes.{class}
 use Rattle.cl_model.specs.Texts.{AnswerNames}
-use Rattle.cl_registry.specs.declared.row.ClassRow.{ClassRow}
-use Rattle.cl_registry.specs.Searches.{Drafted}
+use Rattle.cl_hierarchy.specs.declared.row.ClassRow.{ClassRow}
+use Rattle.cl_hierarchy.specs.Drafts.{Drafted}
 use Rattle.cl_registry.specs.Findings.{loader_of, name_of}
 use Rattle.cl_registry.specs.Tables.{AnswerBacked}
 

@@ -1,9 +1,9 @@
 -- When a registry refuses a value (own choice; JVMS SE 8, 5.3.5).
-use Rattle.std.specs.Prelude.{◌≡◌, ◌⊎◌, ℕ, Some, None}
+use Rattle.std.specs.Prelude.{◌≡◌, ◌⊎◌, ℕ, None}
 use Rattle.cl_model.specs.States.{recorded}
 use Rattle.cl_registry.specs.declared.registry.RegistryFault.{RegistryFault}
 use Rattle.cl_registry.specs.declared.registry.RegistryFault.TheVariants.{Memory, Stray, AlreadyPosted, NotYet}
-use Rattle.cl_registry.specs.Searches.{Drafted}
+use Rattle.cl_hierarchy.specs.Drafts.{Drafted}
 use Rattle.cl_registry.specs.Findings.{Answered}
 use Rattle.cl_registry.specs.Tables.{Shown, records_of, MayEnter, IsAsked, IsOpen, IsBacked}
 

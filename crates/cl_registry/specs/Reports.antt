@@ -1,5 +1,5 @@
 -- What a report says of the registry that it was made from (own choice).
-use Rattle.std.specs.Prelude.{◌≡◌, ◌<◌, ℕ, map, Some, All}
+use Rattle.std.specs.Prelude.{◌≡◌, ℕ, map, Some, All}
 use Rattle.cl_model.specs.Texts.{AnswerNames, EventNames}
 use Rattle.cl_registry.specs.declared.report.Report.{Report}
 use Rattle.cl_registry.specs.Tables.{Shown, IsOpen}

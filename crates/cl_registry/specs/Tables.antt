@@ -1,5 +1,5 @@
 -- What a registry keeps, and what a call does to it.
-use Rattle.std.specs.Prelude.{◌≡◌, ◌≢◌, ◌⊎◌, ◌+◌, ◌≤◌, ◌<◌, ℕ, Bool, true, false, ◌||◌, nat_eq, List, [], ◌∷◌, ◌++◌, length, map, Option, Some, None, is_some, slice_get, slice_set, option_map, option_and_then, IsSome, IfSome, All}
+use Rattle.std.specs.Prelude.{◌≡◌, ◌<◌, ℕ, Bool, false, ◌||◌, nat_eq, List, [], ◌∷◌, ◌++◌, length, Option, Some, None, is_some, slice_get, slice_set, option_map, option_and_then, IsSome, IfSome, All}
 use Rattle.std.specs.HashMap.{HashMap, get}
 use Rattle.std.specs.Cmp.Lexicographic.{pointwise}
 use Rattle.cl_classfile.specs.Files.{file_of}
@@ -16,11 +16,10 @@ use Rattle.cl_model.specs.Texts.{AnswerNames, EventNames}
 use Rattle.cl_model.specs.States.{State, Record, recorded, start}
 use Rattle.cl_model.specs.Machine.{Step, state_after, Run}
 use Rattle.cl_model.specs.Views.{answers_of, answer_at, steps_of}
-use Rattle.cl_registry.specs.declared.row.ClassRow.{ClassRow}
-use Rattle.cl_registry.specs.Views.{Configured, Scripted}
-use Rattle.cl_registry.specs.Worlds.{setting_of}
-use Rattle.cl_registry.specs.Searches.{Drafted}
-use Rattle.cl_registry.specs.Drafts.{IsDraft}
+use Rattle.cl_hierarchy.specs.declared.row.ClassRow.{ClassRow}
+use Rattle.cl_config.specs.Views.{Configured, Scripted}
+use Rattle.cl_delegation.specs.Worlds.{setting_of}
+use Rattle.cl_hierarchy.specs.Drafts.{Drafted, IsDraft}
 use Rattle.cl_registry.specs.Findings.{Answered, loader_of, name_of}
 
 -- what a registry shows: whose it is, what happened, and the answer of each request that has one (own choice)

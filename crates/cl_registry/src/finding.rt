@@ -3,9 +3,8 @@ ghost use Rattle.cl_model.specs.declared.verdict.Verdict.TheVariants as verdicts
 ghost use Rattle.cl_model.specs.declared.answer.Answer.TheVariants as answers;
 ghost use Rattle.cl_registry.specs.Findings.{IsFor, Stops, verdict_at, kind_of, missing_kind, Rests};
 
-use crate::draft::{Draft, DraftFault, Unreadable};
-use crate::search::Unfound;
-use crate::walk::Walk;
+use cl_delegation::Unfound;
+use cl_hierarchy::{Draft, DraftFault, Unreadable, Walk};
 use cl_model::{Answer, Class, ErrorKind, LoaderId, Request, Told, Verdict};
 use cl_names::Name;
 use std::marker::{Model, PhantomData};

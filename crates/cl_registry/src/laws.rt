@@ -1,16 +1,5 @@
-//! Laws of what a text is read as and of what a registry accepts, each the contract of a function that does nothing.
+//! Laws of what a registry accepts, each the contract of a function that does nothing.
 ghost use Rattle.cl_registry.specs.Allowed.{AllowedIsBacked, AllowedIsEntered, BackedIsAllowed, EnteredIsAllowed, OtherLoaderIsStray};
-ghost use Rattle.cl_registry.specs.ScriptLaws.{ScriptHasOneFault, ScriptOrItsFault};
-
-/// A text that is a script has no fault but want of memory, so `Script::read` refuses no script for what it says.
-pub fn script_or_its_fault()
-    ensures { ScriptOrItsFault }
-{}
-
-/// A text has one fault at most, want of memory apart: which line `Script::read` blames, and why, is settled.
-pub fn script_has_one_fault()
-    ensures { ScriptHasOneFault }
-{}
 
 /// A class that the linkage machine may define has no record and may be entered: `define` refuses it for memory alone.
 pub fn allowed_is_entered()

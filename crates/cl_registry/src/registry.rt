@@ -5,15 +5,13 @@ ghost use Rattle.cl_registry.specs.Parts.{IsOf};
 ghost use Rattle.cl_registry.specs.Refusals.{DefineRefusedFor, PostRefusedFor};
 ghost use Rattle.cl_registry.specs.Reports.{HasOpen, IsNamed, IsReport};
 
-use crate::config::Config;
-use crate::draft::Draft;
 use crate::finding::Finding;
 use crate::report::{Answers, History, Report};
-use crate::row::ClassRow;
-use crate::script::Script;
 use crate::tables::{
     Rows, backs, collect, empty_rows, find, is_asked, is_open, known, may_enter, record, rooms_for,
 };
+use cl_config::{Config, Script};
+use cl_hierarchy::{ClassRow, Draft};
 use cl_model::{Answer, Event, LoaderId, Told};
 use cl_names::Name;
 use std::alloc::Global;

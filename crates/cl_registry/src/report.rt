@@ -1,6 +1,6 @@
 ghost use Rattle.std.specs.Prelude.{◌≡◌};
 
-use crate::script::Script;
+use cl_config::Script;
 use cl_model::{Answer, Event};
 use std::marker::Model;
 use std::sync::Arc;

@@ -11,8 +11,7 @@ ghost use Rattle.cl_registry.specs.Kept.{left_in};
 ghost use Rattle.cl_registry.specs.Parts.{BackedIn, EntersIn, IsOf, is_above};
 ghost use Rattle.cl_registry.specs.Tables.{VerdictBacked, row_at};
 
-use crate::draft::Draft;
-use crate::row::ClassRow;
+use cl_hierarchy::{ClassRow, Draft};
 use cl_model::{Answer, Class, Event, LoaderId, Request, Told, Verdict};
 use cl_names::Name;
 use indexmap::IndexMap;

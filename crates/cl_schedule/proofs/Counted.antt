@@ -3,11 +3,11 @@ use Rattle.std.proofs.Common.{◌≡◌, inl, inr, ◌∙◌, ◌+◌, ℕ, zero
 use Rattle.std.specs.Prelude.{slice_get, slice_set}
 use Rattle.cl_model.specs.declared.answer.Answer.{Answer}
 use Rattle.cl_model.specs.declared.answer.Answer.TheVariants as answers
-use Rattle.cl_registry.specs.Counts.{Rises, CountsFault}
-use Rattle.cl_registry.specs.declared.source.SourceFault.{SourceFault}
-use Rattle.cl_registry.specs.declared.source.SourceFault.TheVariants as sources
+use Rattle.cl_source.specs.Counts.{Rises, CountsFault}
+use Rattle.cl_source.specs.declared.source.SourceFault.{SourceFault}
+use Rattle.cl_source.specs.declared.source.SourceFault.TheVariants as sources
 use Rattle.cl_registry.specs.Findings.{Answered}
-use Rattle.cl_registry.specs.Walks.{Walked}
+use Rattle.cl_hierarchy.specs.Walks.{Walked}
 use Rattle.cl_tasks.specs.declared.stage.Reply.{Reply}
 use Rattle.cl_tasks.specs.declared.stage.Reply.TheVariants as reply
 use Rattle.cl_tasks.specs.declared.stage.Turn.TheVariants as turn

@@ -10,20 +10,21 @@ use Rattle.cl_model.specs.declared.event.Event.TheVariants as events
 use Rattle.cl_classfile.specs.Files.{same_name}
 use Rattle.cl_model.specs.declared.answer.Answer as rust
 use Rattle.cl_model.specs.declared.request.Request.{Request}
+use Rattle.cl_model.specs.declared.request.Request as requests
 use Rattle.cl_model.specs.Content.{Content}
 use Rattle.cl_model.specs.States.{State, Entry, Answer, Said, OutOfMemory, SourceFault, Record, IsRecorded, recorded, start}
-use Rattle.cl_model.specs.Machine.{Setting, Step, Define, Post, Scheduled, AnswersPlan, after, state_after, Run, May}
-use Rattle.cl_model.specs.Service.{IsNextNeed, Serves, IsBegun, AllServed}
+use Rattle.cl_model.specs.Machine.{Setting, Step, Define, Post, Scheduled, AnswersPlan, MayGoOn, after, state_after, Run, May}
+use Rattle.cl_model.specs.Service.{IsNextNeed, MayEnd, Serves, IsBegun, PassesRounds, AllServed}
 use Rattle.cl_model.specs.Views.{answer_of, answers_of, answer_at, request_of, post_of, steps_of}
 use Rattle.cl_model.proofs.Runs.{record_found}
 use Rattle.cl_model.proofs.Closed.{runs_are_closed}
-use Rattle.cl_model.proofs.Service.{begun_start, begun_define, begun_said, begun_failed, all_served_push, run_last, state_append}
-use Rattle.cl_registry.specs.Searches.{Drafted}
-use Rattle.cl_registry.specs.Views.{Configured}
+use Rattle.cl_model.proofs.Service.{WantsNeeds, load_wants, begun_define, begun_ends, load_comes, all_served_push, run_last, state_append}
+use Rattle.cl_hierarchy.specs.Drafts.{Drafted}
+use Rattle.cl_config.specs.Views.{Configured}
 use Rattle.cl_registry.specs.Findings.{Answered, loader_of}
 use Rattle.cl_registry.specs.Tables.{Shown, DefinedAs, IsKept, IsOpen, RunsAs, steps, state_of, records_of, with_define, with_post}
 use Rattle.cl_registry.proofs.Histories.{eq_nat, state_defines, steps_defines, steps_posts, unposted}
-use Rattle.cl_registry.specs.Walks.{Walked}
+use Rattle.cl_hierarchy.specs.Walks.{Walked}
 use Rattle.cl_tasks.specs.declared.stage.Reply.{Reply}
 use Rattle.cl_tasks.specs.declared.stage.Turn.{Turn}
 use Rattle.cl_tasks.specs.declared.stage.Turn.TheVariants as turn
@@ -31,10 +32,14 @@ use Rattle.cl_tasks.specs.Follows.{Tells, Backed, BackedWhere, ServedIn, Follows
 use Rattle.cl_schedule.specs.Serving.{machine, InOrder, Since, Served, DefinesFor}
 use Rattle.cl_schedule.proofs.Serving.{Goes, goes_none, goes_same, goes_event}
 
--- some first needs of the request's plan were made since
+-- what a request of today wants
+wants_needs : (r : Request) → WantsNeeds (request_of r)
+wants_needs (requests.TheVariants.Load loader name) = load_wants loader name
+
+-- the request's service was begun since
 abbrev pub BegunIn : Option Content → Shown → Shown → Request → Type 0
 BegunIn None old new r = Unit {0}
-BegunIn (Some content) old new r = (s : Since old new) × IsBegun (machine old content).world (request_of r) (state_of old) s.more
+BegunIn (Some content) old new r = (s : Since old new) × IsBegun (machine old content) (request_of r) (state_of old) s.more
 
 same_machine : (old new : Shown) (content : Content) → Since old new → machine new content ≡ machine old content
 same_machine old new content s = rw (s.config, s.script) refl
@@ -45,7 +50,7 @@ state_since old new s = ap (state_after start) s.steps_more ∙ state_append sta
 pub begun_none : (told : Option Content) (x : Shown) (r : Request) → BegunIn told x x r
 begun_none None x r = tt
 begun_none (Some content) x r =
-    (record { config = refl; script = refl; more = []; steps_more = sym (append-nil (steps x)) }, begun_start (machine x content).world (request_of r) (state_of x))
+    (record { config = refl; script = refl; more = []; steps_more = sym (append-nil (steps x)) }, tt)
 
 since_more : (old x new : Shown) (s : Since old x) (e : Step) → new.config ≡ x.config → new.script ≡ x.script → steps new ≡ steps x ++ e ∷ [] → Since old new
 since_more old x new s e c p h =
@@ -74,7 +79,7 @@ begun_defined (Some content) old x new r c b run next e =
     let here : state_of x ≡ state_after (state_of old) s.more = state_since old x s in
     let need = subst (λ (g : Setting). IsNextNeed g.world (state_of x) (request_of r) (Entry c.loader c.name c.loader)) (same_machine old x content s) (next content refl) in (
       more,
-      begun_define (machine old content) (request_of r) (state_of old) s.more c.loader c.name b.1
+      begun_define (machine old content) (request_of r) (state_of old) s.more c.loader c.name (wants_needs r) b.1
           (subst (λ (t : State). IsNextNeed (machine old content).world t (request_of r) (Entry c.loader c.name c.loader)) here need)
           (subst (λ (t : State). May (machine old content) t (Define c)) here may),
     )
@@ -85,10 +90,10 @@ Answering g s r (Said v) = AnswersPlan g s (request_of r) v
 Answering g s r OutOfMemory = Unit {0}
 Answering g s r (SourceFault n l) = Unit {0}
 
-begun_answered : (g : Setting) (q : ℕ) (r : Request) (s : State) (es : List Step) (a : Answer) → IsBegun g.world (request_of r) s es → Answering g (state_after s es) r a → Serves g q (request_of r) s (es ++ Post q a ∷ [])
-begun_answered g q r s es (Said v) b a = begun_said g q (request_of r) s es v b a
-begun_answered g q r s es OutOfMemory b a = begun_failed g q (request_of r) s es OutOfMemory b tt
-begun_answered g q r s es (SourceFault n l) b a = begun_failed g q (request_of r) s es (SourceFault n l) b tt
+may_end : (g : Setting) (s : State) (r : Request) (a : Answer) → Answering g s r a → MayEnd g s (request_of r) a
+may_end g s (requests.TheVariants.Load loader name) (Said v) a = load_comes g s loader name v a
+may_end g s r OutOfMemory a = tt
+may_end g s r (SourceFault n l) a = tt
 
 pub served_posted : (told : Option Content) (old x new : Shown) (q : ℕ) (r : Request) (a : rust.Answer) → BegunIn told old x r → ((content : Content) → told ≡ Some content → Answering (machine x content) (state_of x) r (answer_of a))
     → new ≡ with_post x q a → steps (with_post x q a) ≡ steps x ++ Post q (answer_of a) ∷ [] → Served told old new q r
@@ -99,7 +104,7 @@ served_posted (Some content) old x new q r a b answering e h =
     let more = since_more old x new s (Post q (answer_of a)) (ap (λ (y : Shown). y.config) e) (ap (λ (y : Shown). y.script) e) (ap steps e ∙ h) in
     let here : state_of x ≡ state_after (state_of old) s.more = state_since old x s in
     let answered = subst (λ (g : Setting). Answering g (state_of x) r (answer_of a)) (same_machine old x content s) (answering content refl) in
-    (more, begun_answered (machine old content) q r (state_of old) s.more (answer_of a) b.1 (subst (λ (t : State). Answering (machine old content) t r (answer_of a)) here answered))
+    (more, begun_ends (machine old content) q (request_of r) (state_of old) s.more (answer_of a) b.1 (may_end (machine old content) (state_after (state_of old) s.more) r (answer_of a) (subst (λ (t : State). Answering (machine old content) t r (answer_of a)) here answered)))
 
 -- ---- what a task says, where its request is served
 
@@ -219,9 +224,13 @@ abbrev pub ServedBelow : Option Content → Shown → ℕ → Type 0
 ServedBelow None x q = Unit {0}
 ServedBelow (Some content) x q = AllServed (machine x content) 0 start (take q (machine x content).script) (steps x)
 
+-- there is one round
+last_round : (x : Shown) (content : Content) (s : State) → MayGoOn (machine x content) s → ⊥
+last_round x content s h = let later : s.round + 1 < 1 = h.later in omega arith
+
 pub served_none : (told : Option Content) (x : Shown) → steps x ≡ [] → ServedBelow told x 0
 served_none None x e = tt
-served_none (Some content) x e = e
+served_none (Some content) x e = subst (λ (es : List Step). PassesRounds (machine x content) start es) (sym e) (last_round x content start)
 
 take_next : (rs : List Request) (q : ℕ) (r : Request) → slice_get rs q ≡ Some r → take (suc q) (map scheduled rs) ≡ take q (map scheduled rs) ++ scheduled r ∷ []
 take_next [] q r e = absurd cc
@@ -242,11 +251,13 @@ served_next None old new q r below asked one = tt
 served_next (Some content) old new q r below asked one =
     let s = one.0 in
     let g = machine old content in
-    let all = all_served_push g 0 q start (take q g.script) (scheduled r) (steps old) s.more below one.1 (let n = length_below old.script.requests q r asked in omega arith) in
+    let all =
+    all_served_push g 0 q start (take q g.script) (scheduled r) (steps old) s.more [] below one.1 (last_round old content (state_after (state_of old) s.more))
+    (let n = length_below old.script.requests q r asked in omega arith) in
     subst (λ (k : ℕ). ServedBelow (Some content) new k) (sym (add-one q))
     (subst (λ (h : Setting). AllServed h 0 start (take (suc q) h.script) (steps new)) (sym (same_machine old new content s))
     (subst (λ (rs : List Scheduled). AllServed g 0 start rs (steps new)) (sym (take_next old.script.requests q r asked))
-    (subst (λ (es : List Step). AllServed g 0 start (take q g.script ++ scheduled r ∷ []) es) (sym s.steps_more) all)))
+    (subst (λ (es : List Step). AllServed g 0 start (take q g.script ++ scheduled r ∷ []) es) (ap (λ (es : List Step). steps old ++ es) (append-nil s.more) ∙ sym s.steps_more) all)))
 
 pub served_whole : (told : Option Content) (x : Shown) (q : ℕ) → ServedBelow told x q → q ≡ length x.script.requests → InOrder told x
 served_whole None x q below e = tt

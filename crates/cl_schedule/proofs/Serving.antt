@@ -7,10 +7,10 @@ use Rattle.cl_model.specs.declared.class.Class.{Class}
 use Rattle.cl_model.specs.declared.request.Request as requests
 use Rattle.cl_model.specs.declared.request.Request.{Request}
 use Rattle.cl_registry.specs.Findings.{loader_of}
-use Rattle.cl_registry.specs.Scripts.{HasLoader, HasLoaders}
+use Rattle.cl_config.specs.Scripts.{HasLoader, HasLoaders}
 use Rattle.cl_model.specs.Views.{answers_of, answer_at}
 use Rattle.cl_registry.specs.declared.report.Report.{Report}
-use Rattle.cl_registry.specs.Views.{Configured}
+use Rattle.cl_config.specs.Views.{Configured}
 use Rattle.cl_registry.specs.Tables.{Shown, IsTrusted, IsOpen, is_in, posts, with_define, with_post}
 use Rattle.cl_registry.specs.Reports.{IsReport, HasOpen}
 use Rattle.cl_registry.proofs.Histories.{posts_define, posts_post, is_in_push, unposted}

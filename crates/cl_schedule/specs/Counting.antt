@@ -1,7 +1,7 @@
 -- How many answers are faults of the source, beside the count that the source keeps of them.
 use Rattle.std.specs.Prelude.{◌≡◌, ◌⊎◌, ◌+◌, ◌≤◌, ◌^◌, ℕ, List, [], ◌∷◌, Option, Some, None}
 use Rattle.cl_model.specs.declared.answer.Answer.{Answer}
-use Rattle.cl_registry.specs.declared.source.SourceFault.TheVariants as sources
+use Rattle.cl_source.specs.declared.source.SourceFault.TheVariants as sources
 use Rattle.cl_tasks.specs.declared.stage.Reply.{Reply}
 use Rattle.cl_tasks.specs.declared.stage.Reply.TheVariants as reply
 use Rattle.cl_model.specs.declared.answer.Answer.TheVariants.{Said, Memory, SourceFault}

@@ -7,9 +7,9 @@ use Rattle.cl_model.specs.Views.{request_of}
 use Rattle.cl_model.specs.Machine.{Setting, Step}
 use Rattle.cl_model.specs.Service.{Serves, AllServed}
 use Rattle.cl_registry.specs.declared.report.Report.{Report}
-use Rattle.cl_registry.specs.Views.{Configured}
-use Rattle.cl_registry.specs.Searches.{Drafted}
-use Rattle.cl_registry.specs.Worlds.{setting_of}
+use Rattle.cl_config.specs.Views.{Configured}
+use Rattle.cl_hierarchy.specs.Drafts.{Drafted}
+use Rattle.cl_delegation.specs.Worlds.{setting_of}
 use Rattle.cl_registry.specs.Tables.{Shown, steps, state_of, with_define}
 
 -- the numbers below a number, in order (own choice)
@@ -25,8 +25,8 @@ reported config r = record { config = config; script = r.script.value; history =
 abbrev pub machine : Shown → Content → Setting
 machine x content = setting_of x.config x.script content
 
--- the requests are served in order: for each the unmet needs of its plan in order up to the first that is refused, then
--- the post of its answer in the state reached, or of a failure after some of these (5.3)
+-- the requests are served in order: for each what comes next in its service, one step after another, and then the post of
+-- the answer that it comes to, or of a failure after some of these (5.3)
 abbrev pub InOrder : Option Content → Shown → Type 0
 InOrder None x = Unit {0}
 InOrder (Some content) x = AllServed (machine x content) 0 start (machine x content).script (steps x)

@@ -3,9 +3,9 @@ ghost use Rattle.cl_model.specs.Classes.{class};
 ghost use Rattle.cl_model.specs.States.{State};
 ghost use Rattle.cl_registry.specs.Findings.{loader_of};
 ghost use Rattle.cl_registry.specs.Reports.{IsNamed};
-ghost use Rattle.cl_registry.specs.Scripts.{HasLoaders};
+ghost use Rattle.cl_config.specs.Scripts.{HasLoaders};
 ghost use Rattle.cl_registry.specs.Tables.{IsAsked, IsBacked, IsKept, IsOpen, IsTrusted, MayEnter, RunsAs, posts, state_of, with_post};
-ghost use Rattle.cl_registry.specs.Walks.{Walked};
+ghost use Rattle.cl_hierarchy.specs.Walks.{Walked};
 ghost use Rattle.cl_tasks.specs.Tasks.{Tasked};
 ghost use Rattle.cl_tasks.specs.Turns.{Expects};
 ghost use Rattle.cl_tasks.specs.Follows.{Tells};
@@ -14,9 +14,12 @@ ghost use Rattle.cl_schedule.specs.Counting.{FaultsGrow, Grows, RoseBy, faults, 
 ghost use Rattle.cl_schedule.specs.Headline.{Alike, CirclesExact, EachSpelt};
 ghost use Rattle.cl_schedule.specs.Serving.{DefinesFor, InOrder, Served, reported, upto};
 
+use cl_config::{Config, Script};
+use cl_hierarchy::Draft;
 use cl_model::{LoaderId, Request, Told};
 use cl_names::Name;
-use cl_registry::{Config, Draft, Finding, Registry, RegistryFault, Report, Script, Source};
+use cl_registry::{Finding, Registry, RegistryFault, Report};
+use cl_source::Source;
 use cl_tasks::{Reply, Task, Turn};
 use std::alloc::{AllocError, Global};
 use std::error::Error;

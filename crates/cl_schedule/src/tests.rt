@@ -3,11 +3,11 @@ ghost use Rattle.std.specs.Prelude.{length, All};
 ghost use Rattle.cl_model.specs.Texts.{AnswerNames, EventNames};
 
 use crate::serve_one;
+use cl_config::{Config, Script};
 use cl_model::{Answer, Event, LoaderId, Request, Untold};
 use cl_names::Name;
-use cl_registry::{
-    Config, FaultySource, MemorySource, Report, Script, Source, SourceFault, Telling,
-};
+use cl_registry::Report;
+use cl_source::{FaultySource, MemorySource, Source, SourceFault, Telling};
 use cl_tasks::{Reply, Task, Turn};
 use std::alloc::{AllocError, Global};
 use std::sync::Arc;

@@ -2,10 +2,10 @@
 use Rattle.std.proofs.Common.{◌≡◌, ◌≤◌, ◌<◌, ◌∙◌, ◌+◌, ◌*◌, ◌-◌, ◌++◌, ◌∷◌, [], ℕ, List, length, ap, sym, subst, arith, length-append}
 use Rattle.cl_model.specs.declared.request.Request.{Request}
 use Rattle.cl_model.specs.Classes.{class}
-use Rattle.cl_registry.specs.Searches.{Drafted}
-use Rattle.cl_registry.specs.Walks.{Walked, root}
+use Rattle.cl_hierarchy.specs.Drafts.{Drafted}
+use Rattle.cl_hierarchy.specs.Walks.{Walked, root}
 use Rattle.cl_registry.specs.Findings.{IsFor}
-use Rattle.cl_registry.proofs.Walks.{head_push}
+use Rattle.cl_hierarchy.proofs.Walks.{head_push}
 
 pub for_push : (r : Request) (old new : Walked) (d : Drafted) (above : List ℕ) → IsFor r old → d.class ≡ class old.at old.loader → new ≡ record { loader = old.loader; drafts = old.drafts ++ d ∷ []; at = above } → IsFor r new
 for_push r old new d above f is e =

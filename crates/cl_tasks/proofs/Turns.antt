@@ -25,14 +25,13 @@ use Rattle.cl_model.proofs.Looks.{recorded_answers}
 use Rattle.cl_model.proofs.Stops.{answers_at_once}
 use Rattle.cl_registry.specs.declared.finding.Obstacle.{Obstacle}
 use Rattle.cl_registry.specs.declared.finding.Obstacle.TheVariants.{Missing, Unreadable, Circle}
-use Rattle.cl_registry.specs.Worlds.{world_of}
-use Rattle.cl_registry.specs.Searches.{Drafted}
-use Rattle.cl_registry.specs.Drafts.{IsDraft}
-use Rattle.cl_registry.specs.Walks.{Walked, names, head_or, root, Linked, DraftAt, IsWalk}
+use Rattle.cl_delegation.specs.Worlds.{world_of}
+use Rattle.cl_hierarchy.specs.Drafts.{Drafted, IsDraft}
+use Rattle.cl_hierarchy.specs.Walks.{Walked, names, head_or, root, Linked, DraftAt, IsWalk}
 use Rattle.cl_registry.specs.Findings.{IsFor, loader_of, name_of, verdict_at, Rests}
 use Rattle.cl_registry.specs.Tables.{Shown, state_of, records_of, AboveIn, MayEnter, IsBacked}
-use Rattle.cl_registry.proofs.Bounds.{reads_plain}
-use Rattle.cl_registry.proofs.Chained.{draft_file, waiting, root_waits, walk_is_chain}
+use Rattle.cl_delegation.proofs.Bounds.{reads_plain}
+use Rattle.cl_hierarchy.proofs.Chained.{draft_file, waiting, root_waits, walk_is_chain}
 use Rattle.cl_tasks.specs.Follows.{ServedIn, AnswerFollows}
 
 -- ---- the class that waited last

@@ -9,13 +9,13 @@ use Rattle.cl_model.specs.States.{State, Entry, IsRecorded}
 use Rattle.cl_model.specs.Machine.{Setting, AnswersPlan, IsClosed}
 use Rattle.cl_model.specs.Service.{IsNextNeed}
 use Rattle.cl_model.specs.Views.{request_of, verdict_of}
-use Rattle.cl_registry.specs.declared.source.SourceFault.{SourceFault}
-use Rattle.cl_registry.specs.declared.source.SourceFault.TheVariants as faults
+use Rattle.cl_source.specs.declared.source.SourceFault.{SourceFault}
+use Rattle.cl_source.specs.declared.source.SourceFault.TheVariants as faults
 use Rattle.cl_registry.specs.Findings.{loader_of}
 use Rattle.cl_registry.specs.Tables.{Shown, state_of, MayEnter, IsBacked}
-use Rattle.cl_registry.specs.Views.{Configured}
-use Rattle.cl_registry.specs.Walks.{Walked}
-use Rattle.cl_registry.specs.Worlds.{world_of}
+use Rattle.cl_config.specs.Views.{Configured}
+use Rattle.cl_hierarchy.specs.Walks.{Walked}
+use Rattle.cl_delegation.specs.Worlds.{world_of}
 use Rattle.cl_tasks.specs.declared.stage.Reply.{Reply}
 use Rattle.cl_tasks.specs.declared.stage.Reply.TheVariants as reply
 use Rattle.cl_tasks.specs.declared.stage.Turn.{Turn}

@@ -1,7 +1,7 @@
 -- What a task is at, as contracts see it, and what it keeps.
 use Rattle.std.specs.Prelude.{◌≡◌, ◌<◌, length, Some, None}
-use Rattle.cl_registry.specs.Views.{Configured}
-use Rattle.cl_registry.specs.Searches.{Searched}
+use Rattle.cl_config.specs.Views.{Configured}
+use Rattle.cl_delegation.specs.Searches.{Searched}
 use Rattle.cl_registry.specs.Findings.{IsFor}
 use Rattle.cl_tasks.specs.declared.phase.Phase.{Phase}
 use Rattle.cl_tasks.specs.declared.phase.Phase.TheVariants as phases

@@ -1,7 +1,7 @@
 -- What contracts see of a task, and how many turns it has left at most.
 use Rattle.std.specs.Prelude.{◌+◌, ◌*◌, ◌-◌, ℕ, [], length, Option}
 use Rattle.cl_model.specs.declared.request.Request.{Request}
-use Rattle.cl_registry.specs.Walks.{Walked, most}
+use Rattle.cl_hierarchy.specs.Walks.{Walked, most}
 use Rattle.cl_tasks.specs.declared.phase.Phase.{Phase}
 use Rattle.cl_tasks.specs.declared.phase.Phase.TheVariants.{Fresh, Looking, Reading, Defining, Done}
 

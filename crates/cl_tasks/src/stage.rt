@@ -1,6 +1,9 @@
+use cl_delegation::Search;
+use cl_hierarchy::{ClassRow, Draft, Walk};
 use cl_model::{LoaderId, Request, Told};
 use cl_names::Name;
-use cl_registry::{ClassRow, Draft, Finding, Probe, Search, SourceFault, Walk};
+use cl_registry::Finding;
+use cl_source::{Probe, SourceFault};
 use std::sync::Arc;
 
 /// What a task is told: the answer or the refusal of the call that its last turn asked for.

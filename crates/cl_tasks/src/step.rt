@@ -3,7 +3,7 @@ ghost use Rattle.cl_classfile.specs.Files.{file_of};
 ghost use Rattle.cl_model.specs.Classes.{class};
 ghost use Rattle.cl_model.specs.States.{IsRecorded};
 ghost use Rattle.cl_model.specs.declared.answer.Answer.TheVariants as answers;
-ghost use Rattle.cl_registry.specs.Views.{Configured};
+ghost use Rattle.cl_config.specs.Views.{Configured};
 ghost use Rattle.cl_registry.specs.Findings.{IsFor, Stops};
 ghost use Rattle.cl_tasks.specs.Tasks.{left};
 ghost use Rattle.cl_tasks.specs.Stages.{IsJob, IsSearch, IsStage, at_work, tasked};
@@ -12,11 +12,13 @@ ghost use Rattle.cl_tasks.specs.Follows.{BackedWhere, FollowsWhere, Posts, Posts
 ghost use Rattle.cl_tasks.specs.declared.phase.Phase.TheVariants as phases;
 
 use crate::stage::{Job, Next, Reply, Stage, Turn};
+use cl_config::Config;
+use cl_delegation::{Home, Search};
+use cl_hierarchy::{Draft, DraftRefused};
 use cl_model::{Class, Told};
 use cl_names::Name;
-use cl_registry::{
-    Config, Draft, DraftRefused, Finding, Home, Obstacle, Probe, Search, SourceFault,
-};
+use cl_registry::{Finding, Obstacle};
+use cl_source::{Probe, SourceFault};
 use std::alloc::{AllocError, Global};
 use std::sync::Arc;
 

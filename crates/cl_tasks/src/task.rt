@@ -7,8 +7,9 @@ ghost use Rattle.cl_tasks.specs.declared.phase.Phase.TheVariants.{Fresh};
 
 use crate::stage::{Job, Reply, Stage, Turn};
 use crate::step::{expects, step};
+use cl_config::Config;
+use cl_hierarchy::Walk;
 use cl_model::{Request, Told};
-use cl_registry::{Config, Walk};
 use std::alloc::Global;
 use std::marker::Model;
 use std::mem;

@@ -2,13 +2,13 @@
 use Rattle.std.proofs.Common.{◌≡◌, ℕ, List, [], Result, Ok, Err, sym, ap, subst, ◌∙◌}
 use Rattle.std.specs.Prelude.{◌≢◌}
 use Rattle.cl_model.specs.Content.{Content, content_at}
-use Rattle.cl_registry.specs.Views.{Configured, Scripted}
-use Rattle.cl_registry.specs.Configs.{ConfigOf}
-use Rattle.cl_registry.specs.Scripts.{script_of}
-use Rattle.cl_registry.proofs.Asked.{one_scripted, script_has_one_fault, script_or_its_fault}
-use Rattle.cl_registry.specs.declared.config.ConfigFault.TheVariants.{BadLoader}
-use Rattle.cl_registry.specs.declared.script.ScriptFault.{ScriptFault}
-use Rattle.cl_registry.specs.declared.script.ScriptFault.TheVariants as scripts
+use Rattle.cl_config.specs.Views.{Configured, Scripted}
+use Rattle.cl_config.specs.Configs.{ConfigOf}
+use Rattle.cl_config.specs.Scripts.{script_of}
+use Rattle.cl_config.proofs.Asked.{one_scripted, script_has_one_fault, script_or_its_fault}
+use Rattle.cl_config.specs.declared.config.ConfigFault.TheVariants.{BadLoader}
+use Rattle.cl_config.specs.declared.script.ScriptFault.{ScriptFault}
+use Rattle.cl_config.specs.declared.script.ScriptFault.TheVariants as scripts
 use Rattle.classlink.specs.Sections.{Cut, cut_of}
 use Rattle.classlink.specs.Bundles.{AllTell, FirstWrong, IsBundle, IsNoBundle, TellsSame, WrongClass, WrongConfig, WrongLine, WrongScript}
 use Rattle.classlink.specs.Faults.{IsReason, SameFault}

@@ -1,11 +1,11 @@
 -- Why a text is no bundle, from the step that found it.
 use Rattle.std.proofs.Common.{◌≡◌, ℕ, List, Result, Ok, Err, refl, sym, subst, IsErrAnd}
 use Rattle.cl_model.specs.Content.{Content}
-use Rattle.cl_registry.specs.Views.{Configured}
-use Rattle.cl_registry.specs.Configs.{ConfigOf}
-use Rattle.cl_registry.specs.Scripts.{script_of}
-use Rattle.cl_registry.specs.declared.script.ScriptFault.{ScriptFault}
-use Rattle.cl_registry.specs.declared.script.ScriptFault.TheVariants as scripts
+use Rattle.cl_config.specs.Views.{Configured}
+use Rattle.cl_config.specs.Configs.{ConfigOf}
+use Rattle.cl_config.specs.Scripts.{script_of}
+use Rattle.cl_config.specs.declared.script.ScriptFault.{ScriptFault}
+use Rattle.cl_config.specs.declared.script.ScriptFault.TheVariants as scripts
 use Rattle.cl_writer.specs.declared.fault.AssembleFault.TheVariants as assembler
 use Rattle.classlink.specs.Sections.{Cut, Part, cut_of}
 use Rattle.classlink.specs.Cuts.{IsWrongLine}

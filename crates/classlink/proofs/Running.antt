@@ -3,7 +3,7 @@ use Rattle.std.proofs.Common.{◌≡◌, ◌⊎◌, ◌∙◌, ◌<◌, ◌≤�
 use Rattle.std.specs.Str.{IsUtf8}
 use Rattle.std.specs.Io.KnownBytes.{Appends}
 use Rattle.cl_model.specs.Content.{Content, Stored, content_at}
-use Rattle.cl_registry.specs.Scripts.{loader_named}
+use Rattle.cl_config.specs.Scripts.{loader_named}
 use Rattle.classlink.specs.Sections.{Part}
 use Rattle.classlink.specs.Contents.{ContentOf, TextWritten, bytes_or, hex_bytes, hex_written, is_hex, stated}
 use Rattle.classlink.specs.Bundles.{FirstWrong, IsNoBundle, StoredAs, StoredBy, WrongClass, WrongConfig, WrongLine, WrongScript}
@@ -12,7 +12,7 @@ use Rattle.classlink.specs.Runs.{EndsBy, IsRun, RunOf, TellsFault, fault_line}
 use Rattle.classlink.specs.Report.{AppendsPart}
 use Rattle.classlink.specs.declared.fault.Fault.{Fault}
 use Rattle.classlink.specs.declared.fault.Fault.TheVariants.{Input, Write, TooLarge, NotUtf8, Bundle, Class, Script, Serve, Memory}
-use Rattle.cl_registry.specs.declared.script.ScriptFault.TheVariants as scripts
+use Rattle.cl_config.specs.declared.script.ScriptFault.TheVariants as scripts
 use Rattle.cl_writer.specs.declared.fault.AssembleFault.TheVariants as assembler
 use Rattle.classlink.proofs.Refusals.{unless}
 use Rattle.classlink.proofs.Written.{appends_nothing}

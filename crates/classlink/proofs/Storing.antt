@@ -2,10 +2,10 @@
 use Rattle.std.proofs.Common.{◌≡◌, ℕ, Bool, false, MatchBool, List, [], ◌∷◌, ◌++◌, Option, Some, None, is_some, Result, Ok, Err, IsErrAnd, ◌==◌, ◌&&◌, nat_eq, if◌then◌else◌, refl, sym, subst, ap, ◌∙◌, append-nil, inl, inr}
 use Rattle.std.specs.Cmp.Lexicographic.{pointwise}
 use Rattle.cl_model.specs.Content.{Content, Stored, content_at}
-use Rattle.cl_registry.specs.Puts.{TellsMore}
-use Rattle.cl_registry.specs.Shelves.{Inserts}
-use Rattle.cl_registry.proofs.Contents.{tells_more}
-use Rattle.cl_registry.specs.Scripts.{loader_named}
+use Rattle.cl_source.specs.Puts.{TellsMore}
+use Rattle.cl_source.specs.Shelves.{Inserts}
+use Rattle.cl_source.proofs.Contents.{tells_more}
+use Rattle.cl_config.specs.Scripts.{loader_named}
 use Rattle.classlink.specs.Sections.{Part}
 use Rattle.classlink.specs.Faults.{UnlessMemory}
 use Rattle.classlink.specs.Bundles.{AllTell, ContentsOf, FirstWrong, StoredAs, StoredBy, StoredOf, TellsSame}

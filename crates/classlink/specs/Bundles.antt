@@ -2,12 +2,12 @@
 -- configuration, then its class sections in order, and its script last.
 use Rattle.std.specs.Prelude.{◌≡◌, ◌⊎◌, ℕ, MatchBool, List, [], ◌∷◌, ◌++◌, Option, Some, None, is_some, Result, Ok, Err}
 use Rattle.cl_model.specs.Content.{Content, Stored, content_at}
-use Rattle.cl_registry.specs.Views.{Configured, Scripted}
-use Rattle.cl_registry.specs.Configs.{ConfigOf}
-use Rattle.cl_registry.specs.Puts.{TellsMore}
-use Rattle.cl_registry.specs.Scripts.{loader_named, script_of}
-use Rattle.cl_registry.specs.declared.config.ConfigFault.TheVariants.{BadLoader}
-use Rattle.cl_registry.specs.declared.script.ScriptFault.{ScriptFault}
+use Rattle.cl_config.specs.Views.{Configured, Scripted}
+use Rattle.cl_config.specs.Configs.{ConfigOf}
+use Rattle.cl_source.specs.Puts.{TellsMore}
+use Rattle.cl_config.specs.Scripts.{loader_named, script_of}
+use Rattle.cl_config.specs.declared.config.ConfigFault.TheVariants.{BadLoader}
+use Rattle.cl_config.specs.declared.script.ScriptFault.{ScriptFault}
 use Rattle.classlink.specs.Sections.{Cut, Part, cut_of}
 use Rattle.classlink.specs.Contents.{ContentOf}
 use Rattle.classlink.specs.Faults.{UnlessMemory}

@@ -4,8 +4,8 @@ use Rattle.std.specs.Fmt.{decimal}
 use Rattle.cl_classfile.specs.Texts as files
 use Rattle.cl_writer.specs.Faults.{assemble_text}
 use Rattle.cl_writer.specs.declared.fault.AssembleFault.TheVariants as assembler
-use Rattle.cl_registry.specs.Texts.{script_text}
-use Rattle.cl_registry.specs.declared.script.ScriptFault.TheVariants as scripts
+use Rattle.cl_config.specs.Texts.{script_text}
+use Rattle.cl_config.specs.declared.script.ScriptFault.TheVariants as scripts
 use Rattle.cl_schedule.specs.Texts.{serve_text}
 use Rattle.classlink.specs.declared.fault.Fault.{Fault}
 use Rattle.classlink.specs.declared.fault.Fault.TheVariants.{Input, Write, TooLarge, NotUtf8, Bundle, Class, Script, Serve, Path, File, Words, Memory}

@@ -3,7 +3,7 @@ use Rattle.std.specs.Prelude.{◌≡◌, ◌⊎◌, ◌<◌, ◌≤◌, ℕ, ⊤
 use Rattle.std.specs.Str.{IsUtf8}
 use Rattle.std.specs.Io.KnownBytes.{Appends}
 use Rattle.cl_model.specs.Content.{Content}
-use Rattle.cl_registry.specs.Views.{Configured, Scripted}
+use Rattle.cl_config.specs.Views.{Configured, Scripted}
 use Rattle.cl_registry.specs.Reports.{IsNamed}
 use Rattle.cl_registry.specs.Tables.{IsTrusted, RunsAs, posts}
 use Rattle.cl_registry.specs.declared.report.Report.{Report}

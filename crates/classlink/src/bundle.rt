@@ -1,8 +1,8 @@
 ghost use Rattle.std.specs.Prelude.{◌≡◌, ◌++◌, IfOk, IfErr, OnOk, None, Some, length, map, option_map, string_bytes};
 ghost use Rattle.std.specs.List.{concat};
-ghost use Rattle.cl_registry.specs.Configs.{ConfigOf};
+ghost use Rattle.cl_config.specs.Configs.{ConfigOf};
 ghost use Rattle.cl_lines.specs.Lines.{stated_from, words_of};
-ghost use Rattle.cl_registry.specs.Scripts.{HasLoaders};
+ghost use Rattle.cl_config.specs.Scripts.{HasLoaders};
 ghost use Rattle.classlink.specs.Bundles.{BundleOf, ConfigFaultOf, ContentsOf, PutOf};
 ghost use Rattle.classlink.specs.Contents.{FaultOf, TextWritten, Written, all_digits, class_text, hex_bytes, is_hex, line_digits};
 ghost use Rattle.classlink.specs.Cuts.{part_of};
@@ -10,8 +10,9 @@ ghost use Rattle.classlink.specs.Faults.{UnlessMemory};
 
 use crate::fault::Fault;
 use crate::sections::{self, ClassSection};
+use cl_config::{Config, ConfigFault, Script};
 use cl_lines::{Stated, Words};
-use cl_registry::{Config, ConfigFault, MemorySource, Script, SourceFault};
+use cl_source::{MemorySource, SourceFault};
 use cl_writer::{AssembleFault, WriteFault, assemble, write};
 use hex::FromHexError;
 use std::alloc::{AllocError, Global};

@@ -3,7 +3,7 @@ ghost use Rattle.std.specs.Prelude.{◌≡◌};
 use crate::input::InputFault;
 use crate::print::PrintFault;
 use cl_classfile::ReadError;
-use cl_registry::ScriptFault;
+use cl_config::ScriptFault;
 use cl_schedule::ServeFault;
 use cl_writer::AssembleFault;
 use std::alloc::{AllocError, AllocFailed};

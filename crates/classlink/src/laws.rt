@@ -1,7 +1,7 @@
 //! Laws of a bundle, each the contract of a function that does nothing.
 ghost use Rattle.std.specs.Prelude.{◌≡◌, ℕ, List, Result};
 ghost use Rattle.cl_model.specs.Content.{Content, Stored};
-ghost use Rattle.cl_registry.specs.Views.{Configured, Scripted};
+ghost use Rattle.cl_config.specs.Views.{Configured, Scripted};
 ghost use Rattle.classlink.specs.Bundles.{AllTell, FirstWrong, IsBundle, IsNoBundle, StoredOf, TellsSame};
 ghost use Rattle.classlink.specs.Contents.{ContentOf};
 ghost use Rattle.classlink.specs.Faults.{IsReason, SameAnswer, SameFault, fault_text};

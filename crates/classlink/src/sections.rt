@@ -4,9 +4,9 @@ ghost use Rattle.classlink.specs.Sections.{is_config};
 ghost use Rattle.classlink.specs.Cuts.{BodyOf, CutOf, OpeningOf, SectionLineOf};
 
 use crate::fault::Fault;
+use cl_config::class_name;
 use cl_lines::{Lines, Words, is_skipped};
 use cl_names::Name;
-use cl_registry::class_name;
 use std::alloc::{AllocError, Global};
 
 /// The bytes of a class, as a bundle has them.

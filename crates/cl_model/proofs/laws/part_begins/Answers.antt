@@ -1,5 +1,5 @@
-use Rattle.cl_model.proofs.Service.{part_begins}
+use Rattle.cl_model.proofs.Service.{begun_part}
 use Rattle.cl_model.proofs.laws.part_begins.Goals as goal
 
 pub returns : goal.returns
-returns c = part_begins
+returns c = begun_part

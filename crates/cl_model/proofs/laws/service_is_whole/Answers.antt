@@ -1,5 +1,5 @@
-use Rattle.cl_model.proofs.Service.{begun_said}
+use Rattle.cl_model.proofs.Service.{begun_ends}
 use Rattle.cl_model.proofs.laws.service_is_whole.Goals as goal
 
 pub returns : goal.returns
-returns c = begun_said
+returns c = begun_ends

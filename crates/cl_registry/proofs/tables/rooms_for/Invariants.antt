@@ -1,4 +1,4 @@
-use Rattle.std.proofs.Common.{◌≡◌, length, replicate, None}
+use Rattle.std.proofs.Common.{◌≡◌, replicate, None}
 use Rattle.cl_registry.proofs.tables.rooms_for.Given as goal
 
 abbrev pub invariant-loop : goal.invariant-loop

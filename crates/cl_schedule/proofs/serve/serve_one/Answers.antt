@@ -1,9 +1,9 @@
 use Rattle.std.proofs.Common.{◌≡◌, ◌∙◌, ℕ, length, Some, ap, sym, subst, arith}
 use Rattle.std.specs.Prelude.{slice_get}
 use Rattle.cl_model.specs.Views.{answers_of, steps_of}
-use Rattle.cl_registry.specs.Views.{Configured, Scripted}
+use Rattle.cl_config.specs.Views.{Configured, Scripted}
 use Rattle.cl_registry.specs.Reports.{IsNamed}
-use Rattle.cl_registry.specs.Scripts.{HasLoaders}
+use Rattle.cl_config.specs.Scripts.{HasLoaders}
 use Rattle.cl_registry.specs.Tables.{Shown, posts}
 use Rattle.cl_schedule.specs.Counting.{Grows, faults}
 use Rattle.cl_schedule.specs.Serving.{reported, InOrder}

@@ -1,5 +1,5 @@
 use Rattle.std.proofs.Common.{◌<◌, ap, sym, subst, length, ℕ}
-use Rattle.cl_registry.specs.Walks.{Walked, most}
+use Rattle.cl_hierarchy.specs.Walks.{Walked, most}
 use Rattle.cl_tasks.proofs.Steps.{for_push, fewer, longer}
 use Rattle.cl_tasks.proofs.step.descend.Goals as goal
 

@@ -1,9 +1,9 @@
-use Rattle.std.proofs.Common.{◌≡◌, ◌∙◌, refl, ap, sym, length, subst, None, Some, is_some, Option, ℕ, List}
+use Rattle.std.proofs.Common.{◌≡◌, ◌∙◌, ap, sym, length, subst, None, Some, Option, ℕ, List}
 use Rattle.std.specs.Prelude.{Result, OnOk, IfOk}
 use Rattle.std.specs.Option.{option_map}
 use Rattle.cl_model.specs.declared.event.Event.{Event}
 use Rattle.cl_model.specs.States.{recorded}
-use Rattle.cl_registry.specs.Drafts.{IsDraft}
+use Rattle.cl_hierarchy.specs.Drafts.{IsDraft}
 use Rattle.cl_registry.specs.Parts.{IsOf}
 use Rattle.cl_registry.specs.Tables.{Shown, MayEnter, DefinedAs, records_of}
 use Rattle.cl_registry.proofs.Kept.{kept_define, may_enter, unrecorded_at, known_at, place_at, known_defined}

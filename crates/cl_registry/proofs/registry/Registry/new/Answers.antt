@@ -1,4 +1,4 @@
-use Rattle.std.proofs.Common.{◌≡◌, ◌∙◌, refl, ap, sym, length}
+use Rattle.std.proofs.Common.{◌∙◌, ap, sym, length}
 use Rattle.std.specs.Option.{option_map}
 use Rattle.cl_registry.proofs.Kept.{kept_new}
 use Rattle.cl_registry.proofs.registry.Registry.new.Goals as goal

@@ -1,0 +1,3 @@
+pub mod Bounds
+pub mod Searches
+pub mod Worlds

@@ -1,0 +1,3 @@
+pub mod DraftReads
+pub mod Drafts
+pub mod Walks

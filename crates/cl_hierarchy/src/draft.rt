@@ -1,0 +1,193 @@
+ghost use Rattle.std.specs.Prelude.{◌≡◌, MatchResult, Ok, Some};
+ghost use Rattle.std.specs.Option.{option_map};
+ghost use Rattle.cl_classfile.specs.Files.{file_of};
+ghost use Rattle.cl_classfile.specs.Checking.{Gives};
+ghost use Rattle.cl_delegation.specs.Bounds.{drafted_of, is_public_class};
+ghost use Rattle.cl_hierarchy.specs.Drafts.{IsDraft, IsWrong, fault_as};
+ghost use Rattle.cl_hierarchy.specs.DraftReads.{ReadAs};
+ghost use Rattle.cl_source.specs.Told.{IsTold};
+
+use cl_classfile::{ClassFile, Fault, ReadError};
+use cl_delegation::Home;
+use cl_model::{Class, Told};
+use cl_names::Name;
+use std::alloc::Global;
+use std::marker::{Model, PhantomData};
+use std::sync::Arc;
+use thiserror::Error;
+
+/// What is wrong with the bytes of a home (JVMS SE 8, 5.3.5).
+#[derive(Clone, Copy, Debug, PartialEq, Eq, Error)]
+pub enum DraftFault {
+    /// They spell no class file that is derived, for another cause than the version.
+    #[error("H1 Format {0}")]
+    Format(Fault),
+    /// The version is not 52.0.
+    #[error("H2 Version")]
+    Version,
+    /// The file names another class.
+    #[error("H3 OtherName")]
+    OtherName,
+}
+
+/// The class of a home, with its file.
+#[derive(Drop)]
+pub struct Draft<T: Told> {
+    class: Class,
+    file: Arc<ClassFile>,
+    of: PhantomData<T>,
+}
+
+impl<T: Told> Model for Draft<T> {
+    ghost use Rattle.cl_hierarchy.specs.Drafts.{Drafted};
+    ghost use Rattle.cl_hierarchy.specs.Drafts.{IsDraft};
+
+    ghost Value = { Drafted };
+
+    ghost view = { λ d. record { class = d.class; file = d.file.value } };
+
+    ghost invariant = { λ d. IsDraft T.told (record { class = d.class; file = d.file.value }) };
+}
+
+/// A home whose bytes are not its class.
+#[derive(Drop)]
+pub struct Unreadable<T: Told> {
+    home: Home<T>,
+    fault: DraftFault,
+}
+
+impl<T: Told> Model for Unreadable<T> {
+    ghost use Rattle.cl_hierarchy.specs.Drafts.{Misread, IsWrong};
+
+    ghost Value = { Misread };
+
+    ghost view = { λ u. record { home = u.home; fault = u.fault } };
+
+    ghost invariant = { λ u. IsWrong u.home u.fault };
+}
+
+impl<T: Told> Unreadable<T> {
+    /// The home.
+    pub fn home(&self) -> &Home<T>
+        ensures { result.now ≡ self.now.home }
+    {
+        &self.home
+    }
+
+    /// What is wrong with its bytes.
+    pub fn fault(&self) -> DraftFault
+        ensures fault { result ≡ self.now.fault }
+        ensures wrong { IsWrong self.now.home self.now.fault }
+    {
+        self.fault
+    }
+}
+
+/// Why a home was not read, with the home.
+#[derive(Drop)]
+pub enum DraftRefused<T: Told> {
+    Memory(Home<T>),
+    Unreadable(Unreadable<T>),
+}
+
+/// The draft of a home whose bytes spell this file of its class.
+fn draft_of<T: Told>(
+    alloc: Global,
+    home: Home<T>,
+    file: ClassFile,
+) -> Result<Draft<T>, DraftRefused<T>>
+    requires told { IsTold T.told home.place home.name (Some home.bytes) }
+    requires file { drafted_of home.bytes ≡ Ok file }
+    requires named { (file_of file).name ≡ home.name }
+    ensures { ReadAs home result }
+{
+    let file = match Arc::new(alloc, file) {
+        Ok(file) => file,
+        Err(_) => return Err(DraftRefused::Memory(home)),
+    };
+    let loader = home.place();
+    let name = home.into_name();
+    Ok(Draft {
+        class: Class { name, loader },
+        file,
+        of: PhantomData,
+    })
+}
+
+impl<T: Told> Draft<T> {
+    /// The class that a home's bytes spell (JVMS SE 8, 5.3.5).
+    ///
+    /// For now a file that is not of a public class is refused as one with bad flags, and one with interfaces as one
+    /// with a bad supertype.
+    pub fn read(alloc: Global, home: Home<T>) -> Result<Draft<T>, DraftRefused<T>>
+        ensures { ReadAs home result }
+    {
+        match read_derivable(alloc, home.bytes()) {
+            Err(ReadError::Memory) => Err(DraftRefused::Memory(home)),
+            Err(ReadError::Fault(fault)) => Err(refuse(home, fault_of(fault))),
+            Ok(file) if file.this_name() != home.name() => {
+                Err(refuse(home, DraftFault::OtherName))
+            }
+            Ok(file) => draft_of(alloc, home, file),
+        }
+    }
+
+    /// The class.
+    pub fn class(&self) -> &Class
+        ensures { result.now ≡ self.now.class }
+    {
+        &self.class
+    }
+
+    /// The name of the superclass, if there is one.
+    pub fn super_name(&self) -> Option<&Name>
+        ensures name { option_map (λ n. n.now) result ≡ (file_of self.now.file).super_name }
+        ensures draft { IsDraft T.told self.now }
+    {
+        self.file.super_name()
+    }
+
+    /// The class's file.
+    pub fn file(&self) -> &Arc<ClassFile>
+        ensures { result.now.value ≡ self.now.file }
+    {
+        &self.file
+    }
+}
+
+/// Whether a file is of a public class that is no interface.
+fn is_public_class(file: &ClassFile) -> bool
+    ensures { result ≡ is_public_class (file_of file.now) }
+{
+    file.is_public() && !file.is_interface()
+}
+
+/// The file that the bytes spell, where it is one that is derived.
+fn read_derivable(alloc: Global, bytes: &[u8]) -> Result<ClassFile, ReadError>
+    ensures { Gives (λ f. f) result (drafted_of bytes.now) }
+{
+    let file = cl_classfile::read(alloc, bytes)?;
+    if !is_public_class(&file) {
+        return Err(ReadError::Fault(Fault::BadFlags));
+    }
+    if !file.interfaces().is_empty() {
+        return Err(ReadError::Fault(Fault::BadSupertype));
+    }
+    Ok(file)
+}
+
+fn refuse<T: Told>(home: Home<T>, fault: DraftFault) -> DraftRefused<T>
+    requires { IsWrong home fault }
+    ensures { result ≡ DraftRefused.Unreadable (record { home = home; fault = fault }) }
+{
+    DraftRefused::Unreadable(Unreadable { home, fault })
+}
+
+fn fault_of(fault: Fault) -> DraftFault
+    ensures { result ≡ fault_as fault }
+{
+    match fault {
+        Fault::Version => DraftFault::Version,
+        other => DraftFault::Format(other),
+    }
+}

@@ -1,0 +1,75 @@
+-- What the examples of runs rest on.
+use Rattle.std.proofs.Common.{◌≡◌, ◌≢◌, ℕ, [], ◌∷◌, List, Option, Some, None, Ok, Err, sym, subst, ◌∙◌, refl, codes}
+use Rattle.std.specs.Prelude.{Contains}
+use Rattle.cl_classfile.specs.Files.{Name}
+use Rattle.cl_model.specs.declared.class.Class.{Class}
+use Rattle.cl_model.specs.Homes.{World}
+use Rattle.cl_model.specs.Classes.{class, Error, ClassNotFound, IsGood}
+use Rattle.cl_model.specs.Lineages.{Kin, Bare, alone}
+use Rattle.cl_model.specs.States.{State, Verdict, Entry, Equal, Equality, Joined, IsPath, MayAdd, recorded}
+use Rattle.cl_model.specs.Works.{Made}
+use Rattle.cl_model.specs.Plans.{derive, resolve}
+use Rattle.cl_model.specs.Machine.{HasLineage, IsResolution}
+use Rattle.cl_model.specs.Examples.{in_boot, in_app, in_plug, root}
+use Rattle.cl_model.specs.ExampleReferences.{svc}
+use Rattle.cl_model.specs.ExampleRuns.{overridden_service, user}
+use Rattle.cl_model.proofs.Derived.{derive_yields}
+use Rattle.cl_model.proofs.Refusals.{no_equality, missing}
+
+-- work that computes
+abbrev pub the_made : {A : Type 0} → Option (Made A) → Made A
+the_made None = record { needs = []; asked = []; ends = Err (ClassNotFound (class [] 0)) }
+the_made (Some m) = m
+
+-- without an equality a loader is joined with itself alone
+pub joined_alone : (ks : List Equality) (name : Name) (a b : ℕ) → ks ≡ [] → Joined ks name a b → a ≡ b
+joined_alone ks name a b none h = along h.path (subst (λ (es : List Equality). IsPath es name a h.path b) none h.along)
+  where
+    along : (path : List ℕ) → IsPath [] name a path b → a ≡ b
+    along [] h = h
+    along (c ∷ cs) h = absurd (no_equality h.0.equality h.0.imposed)
+
+-- without an equality a record may be added where there is none
+pub free_entry : (s : State) (name : Name) (loader place : ℕ) → s.equalities ≡ [] → recorded s.records loader name ≡ None → MayAdd s (Entry loader name place)
+free_entry s name loader place none fresh = record {
+  unmet = λ h. missing (sym fresh ∙ h);
+  fits = λ d. missing (sym fresh ∙ subst (λ (l : ℕ). recorded s.records l name ≡ Some d.other_place) (sym (joined_alone s.equalities name loader d.other none d.joined)) d.recorded_there);
+}
+
+-- the first equality may be imposed where one of its loaders has no record
+pub free_equal : (s : State) (name : Name) (a b : ℕ) → s.equalities ≡ [] → a ≢ b → recorded s.records a name ≡ None → MayAdd s (Equal name a b)
+free_equal s name a b none differ fresh = record {
+  unmet = λ h. differ (joined_alone s.equalities name a b none h);
+  fits = λ d. missing (sym fresh ∙ subst (λ (l : ℕ). recorded s.records l name ≡ Some d.place) (sym (joined_alone s.equalities name a d.one none d.joined)) d.recorded_there);
+}
+
+-- a class that has a lineage is good
+pub good_by : (w : World) (c : Class) (k : Kin) → HasLineage w c k → IsGood w c
+good_by w c k h = (h.height, (derive_yields w h.height [] c h.made k h.derived h.ends).0)
+
+-- ---- the lineages of the world of a run
+
+abbrev pub kin_of_object : Kin
+kin_of_object = record { class = in_boot "java/lang/Object"; file = root; superclass = Bare; interfaces = Bare }
+
+abbrev pub kin_of_svc : Kin
+kin_of_svc = record { class = in_app "p/Svc"; file = svc; superclass = alone kin_of_object; interfaces = Bare }
+
+abbrev pub kin_of_use : Kin
+kin_of_use = record { class = in_plug "p/Use"; file = user; superclass = alone kin_of_svc; interfaces = Bare }
+
+pub lineage_of_object : HasLineage overridden_service (in_boot "java/lang/Object") kin_of_object
+lineage_of_object = record { height = 3; made = the_made (derive overridden_service 3 [] (in_boot "java/lang/Object")); derived = refl; ends = refl }
+
+pub lineage_of_svc : HasLineage overridden_service (in_app "p/Svc") kin_of_svc
+lineage_of_svc = record { height = 3; made = the_made (derive overridden_service 3 [] (in_app "p/Svc")); derived = refl; ends = refl }
+
+pub lineage_of_use : HasLineage overridden_service (in_plug "p/Use") kin_of_use
+lineage_of_use = record { height = 3; made = the_made (derive overridden_service 3 [] (in_plug "p/Use")); derived = refl; ends = refl }
+
+-- how the reference of the run is resolved
+abbrev pub made_of_svc : Made Verdict
+made_of_svc = the_made (resolve overridden_service 3 kin_of_use 1)
+
+pub resolution_of_svc : IsResolution overridden_service (in_plug "p/Use") 1 made_of_svc
+resolution_of_svc = record { kin = kin_of_use; above = lineage_of_use; height = 3; made = refl }

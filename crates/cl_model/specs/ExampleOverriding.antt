@@ -1,0 +1,65 @@
+-- Worlds of the examples of overriding and preparation (own choice; they exercise JVMS SE 8, 5.4.2, 5.4.5).
+use Rattle.std.specs.Prelude.{ℕ, ◌+◌, List, [], ◌∷◌}
+use Rattle.cl_model.specs.Homes.{World}
+use Rattle.cl_model.specs.Examples.{boot, app, plug, kid, root, plain, under, interface, acc_public, acc_private, acc_protected, acc_static, acc_abstract, taking_t, taking_v, giving_v, with_methods, with_interfaces, bundle}
+
+-- p/A in app has m for its package, p/B under it makes it public, p/I wants n;
+-- in plug q/F is under p/A and q/C under p/B, each with m; q/S has n, and q/E under it implements p/I (5.4.2, 5.4.5)
+abbrev pub overriding : World
+overriding = bundle (
+    (boot, root)
+    ∷ (app, with_methods ((0, taking_t "m") ∷ []) (plain "p/A"))
+    ∷ (app, with_methods ((acc_public, taking_t "m") ∷ []) (under "p/B" "p/A"))
+    ∷ (app, with_methods ((acc_public + acc_abstract, taking_v "n") ∷ []) (interface "p/I"))
+    ∷ (plug, with_methods ((acc_public, taking_t "m") ∷ []) (under "q/F" "p/A"))
+    ∷ (plug, with_methods ((acc_public, taking_t "m") ∷ []) (under "q/C" "p/B"))
+    ∷ (plug, with_methods ((acc_public, taking_v "n") ∷ []) (plain "q/S"))
+    ∷ (plug, with_interfaces ("p/I" ∷ []) (under "q/E" "q/S"))
+    ∷ [])
+
+-- app has p/I with m, s static and r private, p/S with m protected, s static, r private and a constructor, and p/K with g;
+-- in plug q/A implements p/I and q/B is under p/S, each with all that they name; q/I is an interface under p/I, with m and
+-- with o of the root; q/C has g private, q/D under it implements p/K, q/F too and has g private; q/G is under p/S and
+-- implements q/J, an interface under p/I with g (5.4.2, 5.4.5)
+abbrev pub declared : World
+declared = bundle (
+    (boot, with_methods ((acc_public, taking_t "o") ∷ []) root)
+    ∷ (app, with_methods ((acc_public + acc_abstract, giving_v "m") ∷ (acc_public + acc_static, taking_t "s") ∷ (acc_private, taking_t "r") ∷ []) (interface "p/I"))
+    ∷ (app, with_methods ((acc_protected, giving_v "m") ∷ (acc_public + acc_static, taking_t "s") ∷ (acc_private, taking_t "r") ∷ (acc_public, taking_t "<init>") ∷ []) (plain "p/S"))
+    ∷ (app, with_methods ((acc_public + acc_abstract, taking_t "g") ∷ []) (interface "p/K"))
+    ∷ (plug, with_methods ((acc_public, giving_v "m") ∷ (acc_public + acc_static, taking_t "s") ∷ (acc_private, taking_t "r") ∷ []) (with_interfaces ("p/I" ∷ []) (plain "q/A")))
+    ∷ (plug, with_methods ((acc_public + acc_abstract, giving_v "m") ∷ (acc_public + acc_abstract, taking_t "o") ∷ []) (with_interfaces ("p/I" ∷ []) (interface "q/I")))
+    ∷ (plug, with_methods ((acc_public, giving_v "m") ∷ (acc_public + acc_static, taking_t "s") ∷ (acc_private, taking_t "r") ∷ (acc_public, taking_t "<init>") ∷ []) (with_interfaces ("p/I" ∷ []) (under "q/B" "p/S")))
+    ∷ (plug, with_methods ((acc_private, taking_t "g") ∷ []) (under "q/C" "p/S"))
+    ∷ (plug, with_interfaces ("p/K" ∷ []) (under "q/D" "q/C"))
+    ∷ (plug, with_methods ((acc_private, taking_t "g") ∷ []) (with_interfaces ("p/K" ∷ []) (under "q/F" "q/C")))
+    ∷ (plug, with_interfaces ("q/J" ∷ []) (under "q/G" "p/S"))
+    ∷ (plug, with_methods ((acc_public + acc_abstract, taking_t "g") ∷ []) (with_interfaces ("p/I" ∷ []) (interface "q/J")))
+    ∷ [])
+
+-- boot has b/I with m, app p/S with m and p/J with m; in kid r/C is under p/S and implements b/I, and r/J is an
+-- interface under b/I and p/J (5.4.2)
+abbrev pub through_kid : World
+through_kid = bundle (
+    (boot, root)
+    ∷ (boot, with_methods ((acc_public + acc_abstract, taking_t "m") ∷ []) (interface "b/I"))
+    ∷ (app, with_methods ((acc_public, taking_t "m") ∷ []) (plain "p/S"))
+    ∷ (app, with_methods ((acc_public + acc_abstract, taking_t "m") ∷ []) (interface "p/J"))
+    ∷ (kid, with_interfaces ("b/I" ∷ []) (under "r/C" "p/S"))
+    ∷ (kid, with_interfaces ("b/I" ∷ "p/J" ∷ []) (interface "r/J"))
+    ∷ [])
+
+-- the root and p/J of app have m, and q/J is an interface of plug under p/J; p/S of app and q/S of plug under it
+-- have a, p/I of app and q/I of plug under it b, and q/C of plug is under q/S and implements q/I (5.4.2)
+abbrev pub whole_lineage : World
+whole_lineage = bundle (
+    (boot, with_methods ((acc_public, taking_t "m") ∷ []) root)
+    ∷ (app, with_methods ((acc_public + acc_abstract, taking_t "m") ∷ []) (interface "p/J"))
+    ∷ (app, with_methods ((acc_public, taking_t "a") ∷ []) (plain "p/S"))
+    ∷ (app, with_methods ((acc_public + acc_abstract, taking_v "b") ∷ []) (interface "p/I"))
+    ∷ (plug, with_interfaces ("p/J" ∷ []) (interface "q/J"))
+    ∷ (plug, with_methods ((acc_public, taking_t "a") ∷ []) (under "q/S" "p/S"))
+    ∷ (plug, with_methods ((acc_public + acc_abstract, taking_v "b") ∷ []) (with_interfaces ("p/I" ∷ []) (interface "q/I")))
+    ∷ (plug, with_interfaces ("q/I" ∷ []) (under "q/C" "q/S"))
+    ∷ [])
+

@@ -1,0 +1,60 @@
+-- Worlds of the examples of references and the constraints that they impose (own choice; they exercise JVMS SE 8, 5.3.4, 5.4.3).
+use Rattle.std.specs.Prelude.{ℕ, List, [], ◌∷◌, Some, codes}
+use Rattle.cl_descriptors.specs.declared.types.Base.TheVariants as bases
+use Rattle.cl_classfile.specs.Files.{File, ToClass, ToField, ToMethod}
+use Rattle.cl_model.specs.Homes.{World}
+use Rattle.cl_model.specs.Examples.{boot, app, plug, kid, root, plain, under, of_package, acc_public, acc_protected, taking_none, taking_t, an_array, a_class, an_array_of, method_key, with_fields, with_methods, referring, bundle}
+
+-- a class with a method that takes a T (4.6)
+abbrev pub svc : File
+svc = with_methods ((acc_public, taking_t "m") ∷ []) (plain "p/Svc")
+
+-- a class that names that method (5.4.3)
+abbrev pub use_of_svc : File
+use_of_svc = referring (ToMethod (a_class "p/Svc") (taking_t "m") ∷ []) (plain "p/Use")
+
+-- T and Svc in app; T and Use in plug (5.3.4, 5.4.3.3)
+abbrev pub service : World
+service = bundle ((boot, root) ∷ (app, plain "p/T") ∷ (app, svc) ∷ (plug, plain "p/T") ∷ (plug, use_of_svc) ∷ [])
+
+-- Svc in app; T and Use in plug and in kid (5.3.4)
+abbrev pub three_users : World
+three_users = bundle ((boot, root) ∷ (app, svc) ∷ (plug, plain "p/T") ∷ (plug, use_of_svc) ∷ (kid, plain "p/T") ∷ (kid, use_of_svc) ∷ [])
+
+-- p/Hid in app is of package access, p/Peek in plug names it (5.4.4)
+abbrev pub hidden : World
+hidden = bundle ((boot, root) ∷ (app, of_package "p/Hid") ∷ (plug, referring (ToClass (a_class "p/Hid") ∷ []) (plain "p/Peek")) ∷ [])
+
+-- p/X names a method of an array, an array of arrays of p/T, and an array of a base type (5.3.3, 5.4.3.1)
+abbrev pub arrays : World
+arrays = bundle (
+    (boot, root)
+    ∷ (app, plain "p/T")
+    ∷ (app, referring (
+        ToMethod (an_array_of 1 bases.Int) (method_key "clone" [] (Some (a_class "java/lang/Object")))
+        ∷ ToClass (an_array_of 2 (bases.Class (codes "p/T")))
+        ∷ ToClass (an_array_of 1 bases.Int)
+        ∷ []) (plain "p/X"))
+    ∷ [])
+
+-- app has p/F with x and m, p/H of package access, and p/P with k protected; plug has q/G under p/F and q/X under p/P,
+-- and q/U, which names these, p/Z, which nobody has, and arrays (5.4.3.1 to 5.4.3.3)
+abbrev pub references : World
+references = bundle (
+    (boot, root)
+    ∷ (app, with_fields ((acc_public, an_array "x") ∷ []) (with_methods ((acc_public, taking_t "m") ∷ []) (plain "p/F")))
+    ∷ (app, of_package "p/H")
+    ∷ (app, with_methods ((acc_protected, taking_none "k") ∷ []) (plain "p/P"))
+    ∷ (plug, under "q/G" "p/F")
+    ∷ (plug, under "q/X" "p/P")
+    ∷ (plug, referring (
+        ToField (a_class "p/F") (an_array "x")
+        ∷ ToMethod (a_class "q/G") (taking_t "m")
+        ∷ ToClass (a_class "p/Z")
+        ∷ ToClass (an_array_of 1 (bases.Class (codes "p/H")))
+        ∷ ToMethod (a_class "q/X") (taking_none "k")
+        ∷ ToClass (an_array_of 2 bases.Long)
+        ∷ ToMethod (a_class "q/G") (taking_none "n")
+        ∷ []) (plain "q/U"))
+    ∷ [])
+

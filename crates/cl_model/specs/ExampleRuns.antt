@@ -1,0 +1,76 @@
+-- Settings and steps of the examples of answers and runs (own choice; they exercise JVMS SE 8, 5.3.4 to 5.4.3).
+use Rattle.std.specs.Prelude.{ℕ, List, [], ◌∷◌, codes}
+use Rattle.cl_classfile.specs.Files.{File, ToMethod}
+use Rattle.cl_model.specs.Homes.{World}
+use Rattle.cl_model.specs.States.{Verdict, IsMethod, IsLinked, BadEntry, Said}
+use Rattle.cl_model.specs.Machine.{Setting, Step, Define, Initiate, Constrain, Settle, Prepare, Post, NextRound}
+use Rattle.cl_model.specs.Examples.{boot, app, plug, kid, object, in_boot, in_app, in_plug, in_kid, load_of, resolve_of, link_of, root, under, acc_public, taking_t, a_class, with_methods, referring, bundle}
+use Rattle.cl_model.specs.ExampleReferences.{svc, service}
+
+-- a setting of one round without requests (own choice)
+abbrev pub over : World → Setting
+over w = record { world = w; script = []; rounds = 1 }
+
+-- what stands before a reference of Use in plug is resolved, where T is defined in app and in plug (5.3, 5.3.5)
+abbrev pub both_defined : List Step
+both_defined =
+    Define (in_boot "java/lang/Object") ∷ Initiate object boot app ∷ Define (in_app "p/T")
+    ∷ Initiate object boot plug ∷ Define (in_plug "p/T") ∷ Define (in_plug "p/Use")
+    ∷ Define (in_app "p/Svc") ∷ Initiate (codes "p/Svc") app plug ∷ []
+
+-- what stands after that reference is resolved and T is defined in app (5.3.4, 5.4.3)
+abbrev pub constrained : List Step
+constrained =
+    Define (in_boot "java/lang/Object") ∷ Initiate object boot plug ∷ Define (in_plug "p/Use")
+    ∷ Initiate object boot app ∷ Define (in_app "p/Svc") ∷ Initiate (codes "p/Svc") app plug
+    ∷ Constrain (codes "p/T") app plug ∷ Define (in_app "p/T") ∷ []
+
+-- what stands after the references of two users are resolved and T is defined in one of them (5.3.4)
+abbrev pub across : List Step
+across =
+    Define (in_boot "java/lang/Object") ∷ Initiate object boot plug ∷ Define (in_plug "p/Use")
+    ∷ Initiate object boot app ∷ Define (in_app "p/Svc") ∷ Initiate (codes "p/Svc") app plug
+    ∷ Constrain (codes "p/T") app plug ∷ Initiate object boot kid ∷ Define (in_kid "p/Use")
+    ∷ Initiate (codes "p/Svc") app kid ∷ Constrain (codes "p/T") app kid ∷ Define (in_plug "p/T") ∷ []
+
+-- three requests in the first two of three rounds (own choice)
+abbrev pub in_rounds : Setting
+in_rounds = record {
+  world = service;
+  script = record { request = resolve_of plug "p/Use" 1; round = 0 } ∷ record { request = load_of app "p/T"; round = 1 } ∷ record { request = load_of plug "p/T"; round = 1 } ∷ [];
+  rounds = 3;
+}
+
+-- ---- a run
+
+-- a class under Svc, which overrides its method and names it (4.6, 5.4.3)
+abbrev pub user : File
+user = with_methods ((acc_public, taking_t "m") ∷ []) (referring (ToMethod (a_class "p/Svc") (taking_t "m") ∷ []) (under "p/Use" "p/Svc"))
+
+-- Svc in app, and in plug Use under it (5.4.2, 5.4.3.3)
+abbrev pub overridden_service : World
+overridden_service = bundle ((boot, root) ∷ (app, svc) ∷ (plug, user) ∷ [])
+
+-- Use resolves that method in the first round and is linked in the second, where an entry that is no reference is resolved too (own choice)
+abbrev pub serving : Setting
+serving = record {
+  world = overridden_service;
+  script = record { request = resolve_of plug "p/Use" 1; round = 0 } ∷ record { request = link_of plug "p/Use"; round = 1 } ∷ record { request = resolve_of plug "p/Use" 9; round = 1 } ∷ [];
+  rounds = 2;
+}
+
+-- the steps that load Use (5.3.5)
+abbrev pub loading : List Step
+loading = Define (in_boot "java/lang/Object") ∷ Initiate object boot app ∷ Define (in_app "p/Svc") ∷ Initiate (codes "p/Svc") app plug ∷ Define (in_plug "p/Use") ∷ []
+
+-- the method that its reference is resolved to (5.4.3.3)
+abbrev pub of_svc : Verdict
+of_svc = IsMethod (in_app "p/Svc") (taking_t "m")
+
+-- the steps that resolve the reference (5.4.3)
+abbrev pub resolving : List Step
+resolving = Constrain (codes "p/T") app plug ∷ Settle (in_plug "p/Use") 1 of_svc ∷ Post 0 (Said of_svc) ∷ []
+
+-- the steps that link Use (5.4)
+abbrev pub linking : List Step
+linking = NextRound ∷ Prepare (in_boot "java/lang/Object") ∷ Prepare (in_app "p/Svc") ∷ Prepare (in_plug "p/Use") ∷ Post 1 (Said (IsLinked (in_plug "p/Use"))) ∷ Post 2 (Said BadEntry) ∷ []

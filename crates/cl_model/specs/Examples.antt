@@ -1,0 +1,240 @@
+-- The words of the worked examples: four loaders, files and worlds, each class and member by its text (own choice; they exercise JVMS SE 8, 5.3 to 5.4.5).
+use Prim.Native.String.{String}
+use Rattle.std.specs.Prelude.{ℕ, suc, ◌+◌, List, [], ◌∷◌, map, codes, Option, Some, None, Result, Ok, Err, slice_get, option_map}
+use Rattle.cl_descriptors.specs.declared.types.Base.{Base}
+use Rattle.cl_descriptors.specs.declared.types.Base.TheVariants as bases
+use Rattle.cl_descriptors.specs.declared.types.FieldType.{FieldType}
+use Rattle.cl_descriptors.specs.declared.types.Descriptor.TheVariants as descriptors
+use Rattle.cl_classfile.specs.Files.{Name, File, FileFault, BadVersion, BadFormat, Key, Member, Reference}
+use Rattle.cl_model.specs.declared.class.Class.{Class}
+use Rattle.cl_model.specs.Content.{Content}
+use Rattle.cl_model.specs.Homes.{World, Loader, ParentFirst, ChildFirst}
+use Rattle.cl_model.specs.Classes.{class}
+use Rattle.cl_model.specs.States.{Need, Entry, Equal, Verdict}
+use Rattle.cl_model.specs.Plans.{Request, Load, Resolve, Link, plan, needs_of}
+
+-- ---- loaders
+
+-- the first loader (5.3.1)
+abbrev pub boot : ℕ
+boot = 0
+
+-- a second under it (5.3.2)
+abbrev pub app : ℕ
+app = 1
+
+-- a third under the second, child first (5.3.2)
+abbrev pub plug : ℕ
+plug = 2
+
+-- a fourth under the second (5.3.2)
+abbrev pub kid : ℕ
+kid = 3
+
+-- the four, in the order of their numbers (5.3)
+abbrev pub four : List Loader
+four =
+    record { parents = []; order = ParentFirst; imports = [] }
+    ∷ record { parents = boot ∷ []; order = ParentFirst; imports = [] }
+    ∷ record { parents = app ∷ []; order = ChildFirst; imports = [] }
+    ∷ record { parents = app ∷ []; order = ParentFirst; imports = [] }
+    ∷ []
+
+-- the names of the four (own choice)
+abbrev pub names : List (List ℕ)
+names = codes "boot" ∷ codes "app" ∷ codes "plug" ∷ codes "kid" ∷ []
+
+-- ---- classes, descriptors and members
+
+-- the root class (4.1, super_class)
+abbrev pub object : Name
+object = codes "java/lang/Object"
+
+-- the class of this name that the first loader defines (5.3)
+abbrev pub in_boot : String → Class
+in_boot name = class (codes name) boot
+
+-- the class of this name that the second loader defines (5.3)
+abbrev pub in_app : String → Class
+in_app name = class (codes name) app
+
+-- the class of this name that the third loader defines (5.3)
+abbrev pub in_plug : String → Class
+in_plug name = class (codes name) plug
+
+-- the class of this name that the fourth loader defines (5.3)
+abbrev pub in_kid : String → Class
+in_kid name = class (codes name) kid
+
+-- an array of so many dimensions (4.3.2)
+abbrev pub an_array_of : ℕ → Base → FieldType
+an_array_of dimensions base = record { dims = dimensions; base = base }
+
+-- the type of a class of this name (4.3.2)
+abbrev pub a_class : String → FieldType
+a_class name = an_array_of 0 (bases.Class (codes name))
+
+-- a method's key by its parameters and what it returns (4.3.3)
+abbrev pub method_key : String → List FieldType → Option FieldType → Key
+method_key name params ret = record { name = codes name; descriptor = descriptors.Method (record { params = params; ret = ret }) }
+
+-- a field's key by its type (4.3.2)
+abbrev pub field_key : String → FieldType → Key
+field_key name type = record { name = codes name; descriptor = descriptors.Field type }
+
+-- `NAME ()V` (4.3.3)
+abbrev pub taking_none : String → Key
+taking_none name = method_key name [] None
+
+-- `NAME (Lp/T;)V` (4.3.3)
+abbrev pub taking_t : String → Key
+taking_t name = method_key name (a_class "p/T" ∷ []) None
+
+-- `NAME (Lp/V;)V` (4.3.3)
+abbrev pub taking_v : String → Key
+taking_v name = method_key name (a_class "p/V" ∷ []) None
+
+-- `NAME (Lp/T;)Lp/V;` (4.3.3)
+abbrev pub giving_v : String → Key
+giving_v name = method_key name (a_class "p/T" ∷ []) (Some (a_class "p/V"))
+
+-- `NAME I` (4.3.2)
+abbrev pub an_int : String → Key
+an_int name = field_key name (an_array_of 0 bases.Int)
+
+-- `NAME [Lp/T;` (4.3.2)
+abbrev pub an_array : String → Key
+an_array name = field_key name (an_array_of 1 (bases.Class (codes "p/T")))
+
+-- ACC_PUBLIC (tables 4.5-A, 4.6-A)
+abbrev pub acc_public : ℕ
+acc_public = 1
+
+-- ACC_PRIVATE (tables 4.5-A, 4.6-A)
+abbrev pub acc_private : ℕ
+acc_private = 2
+
+-- ACC_PROTECTED (tables 4.5-A, 4.6-A)
+abbrev pub acc_protected : ℕ
+acc_protected = 4
+
+-- ACC_STATIC (tables 4.5-A, 4.6-A)
+abbrev pub acc_static : ℕ
+acc_static = 8
+
+-- ACC_ABSTRACT (table 4.6-A)
+abbrev pub acc_abstract : ℕ
+acc_abstract = 1024
+
+-- ---- files
+
+-- a class with these flags, this name and superclass (4.1)
+abbrev pub flagged : ℕ → Name → Option Name → File
+flagged flags name sup = record { flags = flags; name = name; super_name = sup; interfaces = []; fields = []; methods = []; references = [] }
+
+-- the file of the root class (4.1, super_class)
+abbrev pub root : File
+root = flagged 33 object None
+
+-- a public class under another (4.1)
+abbrev pub under : String → String → File
+under name sup = flagged 33 (codes name) (Some (codes sup))
+
+-- a public class under the root (4.1)
+abbrev pub plain : String → File
+plain name = flagged 33 (codes name) (Some object)
+
+-- a class of package access under the root (4.1)
+abbrev pub of_package : String → File
+of_package name = flagged 32 (codes name) (Some object)
+
+-- a public interface (4.1)
+abbrev pub interface : String → File
+interface name = flagged 1537 (codes name) (Some object)
+
+-- an interface of package access (4.1)
+abbrev pub interface_of_package : String → File
+interface_of_package name = flagged 1536 (codes name) (Some object)
+
+-- members by their flags and keys (4.5, 4.6)
+abbrev pub members : List (ℕ × Key) → List Member
+members ms = map (λ m. record { flags = m.0; key = m.1 }) ms
+
+-- the file, with these fields (4.5)
+abbrev pub with_fields : List (ℕ × Key) → File → File
+with_fields ms f = record f { fields = members ms }
+
+-- the file, with these methods (4.6)
+abbrev pub with_methods : List (ℕ × Key) → File → File
+with_methods ms f = record f { methods = members ms }
+
+-- the file, with these superinterfaces (4.1)
+abbrev pub with_interfaces : List String → File → File
+with_interfaces is f = record f { interfaces = map codes is }
+
+-- references at the indices of the pool from one on (4.4)
+abbrev pub referring_from : ℕ → List Reference → List (ℕ × Reference)
+referring_from i [] = []
+referring_from i (r ∷ rs) = (i, r) ∷ referring_from (suc i) rs
+
+-- the file, with these references in its constant pool, from index 1 on (4.4)
+abbrev pub referring : List Reference → File → File
+referring rs f = record f { references = referring_from 1 rs }
+
+-- ---- worlds
+
+-- bytes are here the number of a file among these; no bytes at all are of another version (own choice)
+abbrev pub read_of : List File → List ℕ → Result File FileFault
+read_of files [] = Err BadVersion
+read_of files (i ∷ more) = elim (slice_get files i) [ None ↦ Err BadFormat | Some f ↦ Ok f ]
+
+-- each of these files at its loader and by its own name, as the number of its place (5.3)
+abbrev pub told_from : ℕ → List (ℕ × File) → Content
+told_from i [] = []
+told_from i (e ∷ es) = record { loader = e.0; name = e.1.name; bytes = i ∷ [] } ∷ told_from (suc i) es
+
+-- the world of these loaders, each with its files (5.3)
+abbrev pub world_of : List Loader → List (ℕ × File) → World
+world_of loaders files = record { loaders = loaders; content = told_from 0 files; read = read_of (map (λ e. e.1) files) }
+
+-- the world of the four, each with its files (5.3)
+abbrev pub bundle : List (ℕ × File) → World
+bundle files = world_of four files
+
+-- the world, with these bytes for this name at this loader too (5.3)
+abbrev pub with_bytes : ℕ → String → List ℕ → World → World
+with_bytes loader name bytes w = record w { content = record { loader = loader; name = codes name; bytes = bytes } ∷ w.content }
+
+-- ---- what is asked, and what is looked at in a plan
+
+-- a load by a text (5.3)
+abbrev pub load_of : ℕ → String → Request
+load_of loader name = Load loader (codes name)
+
+-- a resolution by a text (5.4.3)
+abbrev pub resolve_of : ℕ → String → ℕ → Request
+resolve_of loader name i = Resolve loader (codes name) i
+
+-- a link by a text (5.4)
+abbrev pub link_of : ℕ → String → Request
+link_of loader name = Link loader (codes name)
+
+-- a loader's record of a class that this one defines (5.3)
+abbrev pub entry : ℕ → String → ℕ → Need
+entry loader name place = Entry loader (codes name) place
+
+-- an equality for a name (5.3.4)
+abbrev pub equal : String → ℕ → ℕ → Need
+equal name one other = Equal (codes name) one other
+
+-- how the plan of a request ends at this height (5.3 to 5.4.3)
+abbrev pub ends_at : World → ℕ → Request → Option Verdict
+ends_at w height q = option_map (λ p. p.ends) (plan w height q)
+
+-- all needs of the plan of a request at this height (5.3 to 5.4.3)
+abbrev pub needs_at : World → ℕ → Request → Option (List Need)
+needs_at w height q = option_map needs_of (plan w height q)
+
+-- the needs that follow the load (5.4.2, 5.4.3)
+abbrev pub more_at : World → ℕ → Request → Option (List Need)
+more_at w height q = option_map (λ p. p.more) (plan w height q)

@@ -1,5 +1,0 @@
-use Rattle.cl_registry.proofs.Asked.{script_has_one_fault}
-use Rattle.cl_registry.proofs.laws.script_has_one_fault.Goals as goal
-
-pub returns : goal.returns
-returns c = script_has_one_fault

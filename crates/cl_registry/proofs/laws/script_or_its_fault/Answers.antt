@@ -1,5 +1,0 @@
-use Rattle.cl_registry.proofs.Asked.{script_or_its_fault}
-use Rattle.cl_registry.proofs.laws.script_or_its_fault.Goals as goal
-
-pub returns : goal.returns
-returns c = script_or_its_fault

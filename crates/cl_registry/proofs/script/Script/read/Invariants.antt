@@ -1,6 +1,0 @@
-use Rattle.cl_lines.specs.Lines.{stated_from}
-use Rattle.cl_registry.proofs.Requests.{IsRead}
-use Rattle.cl_registry.proofs.script.Script.read.Given as goal
-
-abbrev pub invariant-loop-line : goal.invariant-loop-line
-invariant-loop-line l = IsRead l.config.names (stated_from 1 l.text) (stated_from l.line-iterator.number l.line-iterator.text) l.requests.items

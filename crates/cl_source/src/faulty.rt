@@ -1,0 +1,90 @@
+ghost use Rattle.std.specs.Prelude.{◌≡◌, ◌≢◌, ◌<◌, ◌+◌, ◌-◌, ◌^◌, IfOk, IfErr, IsErrOf};
+ghost use Rattle.cl_source.specs.Counts.{Counts};
+
+use crate::source::{Probe, Source, SourceFault};
+use cl_model::{LoaderId, Told};
+use cl_names::Name;
+use std::alloc::Global;
+use std::marker::{Model, PhantomData};
+
+/// Another source, of which one read is refused.
+#[derive(Drop)]
+pub struct FaultySource<T: Told, S: Source<T>> {
+    inner: S,
+    /// The read that is refused, counted from 1; with 0 none is.
+    at: u64,
+    /// The reads until then, that one included; with 0 none is to come.
+    until: u64,
+    refused: u64,
+    of: PhantomData<T>,
+}
+
+impl<T: Told, S: Source<T>> Model for FaultySource<T, S> {
+    ghost use Rattle.cl_source.specs.Counts.{Faulting};
+
+    ghost Value = { Faulting };
+
+    ghost view = { λ f. record { at = f.at; until = f.until; refused = f.refused; inner = S.refused f.inner } };
+}
+
+impl<T: Told, S: Source<T>> FaultySource<T, S> {
+    /// The source whose `at`-th read, counted from 1, is refused as `Device`, and so is that of each `another`; with
+    /// 0 none is.
+    pub fn new(inner: S, at: u64) -> FaultySource<T, S>
+        ensures { result ≡ record { at = at; until = at; refused = 0; inner = S.refused inner } }
+    {
+        FaultySource {
+            inner,
+            at,
+            until: at,
+            refused: 0,
+            of: PhantomData,
+        }
+    }
+}
+
+impl<T: Told, S: Source<T>> Source<T> for FaultySource<T, S> {
+    ghost refused = { λ s. s.refused };
+
+    /// What the inner source answers, but for the one read that is refused, and once the count is at its end.
+    fn read(
+        &mut self,
+        alloc: Global,
+        loader: LoaderId,
+        name: &Name,
+    ) -> Result<Probe<T>, SourceFault>
+        ensures asked { IfOk result (λ p. (p.loader ≡ loader) × (p.name ≡ name.now)) }
+        ensures counts { Counts self.old.refused self.new.refused result }
+        ensures spent { self.old.refused + 1 ≡ 2 ^ 64 → IsErrOf result SourceFault.Device }
+        ensures refused { self.old.until ≡ 1 → IsErrOf result SourceFault.Device × (self.new.inner ≡ self.old.inner) }
+        ensures others { self.old.until ≢ 1 → self.old.refused + 1 < 2 ^ 64 → Counts self.old.inner self.new.inner result }
+        ensures nearer { self.new.until ≡ self.old.until - 1 }
+        ensures at { self.new.at ≡ self.old.at }
+    {
+        let refuses = self.until == 1;
+        self.until = self.until.saturating_sub(1);
+        if self.refused == u64::MAX {
+            return Err(SourceFault::Device);
+        }
+        let read = if refuses {
+            Err(SourceFault::Device)
+        } else {
+            self.inner.read(alloc, loader, name)
+        };
+        if let Err(SourceFault::Device | SourceFault::TooLarge) = read {
+            self.refused += 1;
+        }
+        read
+    }
+
+    fn failures(&self) -> u64 {
+        self.refused
+    }
+
+    fn another(&self, alloc: Global) -> Result<Self, SourceFault>
+        ensures fault { IfErr result (λ e. e ≡ SourceFault.Memory) }
+        ensures own { IfOk result (λ s. s ≡ record { at = self.now.at; until = self.now.at; refused = 0; inner = 0 }) }
+    {
+        Ok(FaultySource::new(self.inner.another(alloc)?, self.at))
+    }
+}

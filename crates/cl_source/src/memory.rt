@@ -1,0 +1,215 @@
+ghost use Rattle.std.specs.Prelude.{◌≡◌, ◌+◌, ◌<◌, ◌≤◌, ◌^◌, [], None, is_some, length, OnOk, OnErr, IfOk, IfErr, IsErrOf};
+ghost use Rattle.std.specs.Option.{option_map};
+ghost use Rattle.cl_model.specs.Content.{Content, content_at, Tells};
+ghost use Rattle.cl_source.specs.Counts.{Counts};
+ghost use Rattle.cl_source.specs.Puts.{Fits, Refuses, TellsMore};
+ghost use Rattle.cl_source.specs.Shelves.{content_from, Inserts};
+
+use crate::shelf::{NotPut, Shelf};
+use crate::source::{ClassBytes, Outcome, Probe, Source, SourceFault};
+use cl_model::{LoaderId, Told};
+use cl_names::Name;
+use std::alloc::{AllocError, Global};
+use std::marker::{Model, PhantomData};
+use std::sync::Arc;
+
+/// The most bytes that a class may have.
+const MOST_BYTES: usize = 16_777_216;
+
+/// A source in memory that is being filled, and tells nothing yet.
+#[derive(Drop)]
+pub struct MemorySource {
+    /// One for each loader, as far as any was put.
+    shelves: Vec<Shelf>,
+}
+
+impl Model for MemorySource {
+    ghost use Rattle.cl_model.specs.Content.{Content};
+    ghost use Rattle.cl_source.specs.Shelves.{content_from};
+
+    ghost Value = { Content };
+
+    ghost view = { λ m. content_from 0 m.shelves.items };
+}
+
+/// Why a class could not be put, with what was to be put.
+#[derive(Drop)]
+pub struct PutRefused {
+    pub fault: SourceFault,
+    pub name: Name,
+    pub bytes: Vec<u8>,
+}
+
+impl MemorySource {
+    /// An empty one.
+    pub fn new(alloc: Global) -> MemorySource
+        ensures { result ≡ [] }
+    {
+        MemorySource {
+            shelves: Vec::new(alloc),
+        }
+    }
+
+    /// Puts the bytes of a loader and name. `TooLarge` is over 16,777,216 bytes; `Twice`, where they have bytes
+    /// already; `Memory`.
+    pub fn put(
+        &mut self,
+        alloc: Global,
+        loader: LoaderId,
+        name: Name,
+        bytes: Vec<u8>,
+    ) -> Result<(), PutRefused>
+        ensures fits { OnOk result (Fits bytes.items) }
+        ensures absent { OnOk result (content_at self.old loader name ≡ None) }
+        ensures one_more { OnOk result (Inserts self.old self.new (record { loader = loader; name = name; bytes = bytes.items })) }
+        ensures told { OnOk result (TellsMore self.old self.new loader name bytes.items) }
+        ensures refused { IfErr result (λ e. Refuses self.old loader name bytes.items e.fault) }
+        ensures unchanged { OnErr result (self.new ≡ self.old) }
+        ensures name_returned { IfErr result (λ e. e.name ≡ name) }
+        ensures bytes_returned { IfErr result (λ e. e.bytes.items ≡ bytes.items) }
+    {
+        let fault = if bytes.len() > MOST_BYTES {
+            SourceFault::TooLarge
+        } else if find(self.shelves.as_slice(), loader, &name).is_some() {
+            SourceFault::Twice
+        } else {
+            match put_on(&mut self.shelves, alloc, loader, name, bytes) {
+                Ok(()) => return Ok(()),
+                Err(NotPut { name, bytes }) => {
+                    return Err(PutRefused {
+                        fault: SourceFault::Memory,
+                        name,
+                        bytes,
+                    });
+                }
+            }
+        };
+        Err(PutRefused { fault, name, bytes })
+    }
+
+    /// Whether a loader and name have bytes.
+    pub fn has(&self, loader: LoaderId, name: &Name) -> bool
+        ensures { result ≡ is_some (content_at self.now loader name.now) }
+    {
+        find(self.shelves.as_slice(), loader, name).is_some()
+    }
+
+    /// The source of what was put, where that is what `T` tells, or it tells nothing.
+    pub fn tell<T: Told>(self) -> Telling<T>
+        requires { Tells T.told self }
+        ensures { result ≡ self }
+    {
+        Telling {
+            shelves: self.shelves,
+            of: PhantomData,
+        }
+    }
+}
+
+/// The source of what was put.
+#[derive(Drop)]
+pub struct Telling<T: Told> {
+    shelves: Vec<Shelf>,
+    of: PhantomData<T>,
+}
+
+impl<T: Told> Model for Telling<T> {
+    ghost use Rattle.cl_model.specs.Content.{Content, Tells};
+    ghost use Rattle.cl_source.specs.Shelves.{content_from};
+
+    ghost Value = { Content };
+
+    ghost view = { λ m. content_from 0 m.shelves.items };
+
+    ghost invariant = { λ m. Tells T.told (content_from 0 m.shelves.items) };
+}
+
+impl<T: Told> Source<T> for Telling<T> {
+    ghost refused = { λ _. 0 };
+
+    /// What was put for a loader and a name. Only want of memory refuses it.
+    fn read(
+        &mut self,
+        alloc: Global,
+        loader: LoaderId,
+        name: &Name,
+    ) -> Result<Probe<T>, SourceFault>
+        ensures asked { IfOk result (λ p. (p.loader ≡ loader) × (p.name ≡ name.now)) }
+        ensures counts { Counts 0 0 result }
+        ensures told { IfOk result (λ p. p.bytes ≡ content_at self.old loader name.now) }
+        ensures refused { IfErr result (λ e. e ≡ SourceFault.Memory) }
+        ensures unchanged { self.new ≡ self.old }
+    {
+        let outcome = match find(self.shelves.as_slice(), loader, name) {
+            Some(bytes) => Outcome::Found(Arc::try_clone(bytes)?),
+            None => Outcome::Absent,
+        };
+        Ok(Probe::new(loader, name.try_clone(alloc)?, outcome))
+    }
+
+    fn failures(&self) -> u64 {
+        0
+    }
+
+    fn another(&self, alloc: Global) -> Result<Self, SourceFault>
+        ensures refused { IfErr result (λ e. e ≡ SourceFault.Memory) }
+        ensures same { IfOk result (λ s. s ≡ self.now) }
+    {
+        Ok(Telling {
+            shelves: copies(alloc, self.shelves.as_slice())?,
+            of: PhantomData,
+        })
+    }
+}
+
+/// The bytes of a loader and name.
+fn find<'a>(shelves: &'a [Shelf], loader: LoaderId, name: &Name) -> Option<&'a Arc<ClassBytes>>
+    ensures { option_map (λ b. b.now.value) result ≡ content_at (content_from 0 shelves.now) loader name.now }
+{
+    shelves.get(usize::from(loader.0))?.find(name)
+}
+
+/// Puts what is not there. Only want of memory refuses it.
+fn put_on(
+    shelves: &mut Vec<Shelf>,
+    alloc: Global,
+    loader: LoaderId,
+    name: Name,
+    bytes: Vec<u8>,
+) -> Result<(), NotPut>
+    requires { content_at (content_from 0 shelves.old.items) loader name ≡ None }
+    ensures ok { OnOk result (Inserts (content_from 0 shelves.old.items) (content_from 0 shelves.new.items) (record { loader = loader; name = name; bytes = bytes.items })) }
+    ensures told { OnOk result (TellsMore (content_from 0 shelves.old.items) (content_from 0 shelves.new.items) loader name bytes.items) }
+    ensures unchanged { OnErr result (content_from 0 shelves.new.items ≡ content_from 0 shelves.old.items) }
+    ensures name_returned { IfErr result (λ e. e.name ≡ name) }
+    ensures bytes_returned { IfErr result (λ e. e.bytes.items ≡ bytes.items) }
+{
+    let place = usize::from(loader.0);
+    if make_room(shelves, alloc, place).is_err() {
+        return Err(NotPut { name, bytes });
+    }
+    let shelf = &mut shelves[place];
+    shelf.put(alloc, name, bytes)
+}
+
+/// Makes empty shelves up to this place.
+fn make_room(shelves: &mut Vec<Shelf>, alloc: Global, place: usize) -> Result<(), AllocError>
+    ensures room { OnOk result (place < length shelves.new.items) }
+    ensures same { content_from 0 shelves.new.items ≡ content_from 0 shelves.old.items }
+{
+    while shelves.len() <= place {
+        shelves.push(Shelf::new(alloc))?;
+    }
+    Ok(())
+}
+
+/// Copies of shelves, which share the bytes.
+fn copies(alloc: Global, shelves: &[Shelf]) -> Result<Vec<Shelf>, AllocError>
+    ensures { IfOk result (λ v. v.items ≡ shelves.now) }
+{
+    let mut copies = Vec::with_capacity(alloc, shelves.len())?;
+    for shelf in shelves {
+        copies.push(shelf.try_clone(alloc)?)?;
+    }
+    Ok(copies)
+}

@@ -1,0 +1,82 @@
+"""Runs rt ci, the judge of all proofs, programs and stored runs, and tells in short what it says, and why what failed did."""
+import os
+import re
+import shutil
+import subprocess
+import time
+from dataclasses import dataclass
+
+from costs import Watch
+
+LAST = re.compile(r"^(\d+) passed, (\d+) failed$", re.M)
+SECTION = re.compile(r"^== (.*)\n", re.M)
+MOST_REASONS = 6
+
+
+@dataclass
+class Judged:
+    passed: int
+    failed: list  # texts, with crate, file and reason
+    are_proved: bool
+    log: str
+    costs: dict
+    seconds: float  # of processor, all that rt ci started
+    clock: float
+
+
+def clear(crates):
+    """Removes the libraries that earlier checks left, which rt ci would put back in place of its own."""
+    for crate in crates:
+        shutil.rmtree(f"{crate.folder}/out/rlib", ignore_errors=True)
+
+
+def run(root, crates, file):
+    """Runs rt ci with its output in the file, and shows it in short form as it goes."""
+    clear(crates)
+    begun, lines = time.time(), []
+    ran = subprocess.Popen(
+        ["rt", "ci"], cwd=root, stdin=subprocess.DEVNULL, stdout=subprocess.PIPE, stderr=subprocess.STDOUT, text=True, errors="replace"
+    )
+    watch = Watch(ran.pid)
+    with open(file, "w", encoding="utf-8") as log:
+        for line in ran.stdout:
+            log.write(line)
+            lines.append(line)
+            if line.startswith("rt: ") and not line.startswith(("rt: chose", "rt: note")):
+                print(f"{(time.time() - begun) / 60:5.1f} min  {line[4:].rstrip()[:150]}", flush=True)
+    _, status, usage = os.wait4(ran.pid, 0)
+    ran.returncode = os.waitstatus_to_exitcode(status)
+    text = "".join(lines)
+    last = [*LAST.finditer(text)]
+    passed, number = (int(last[-1][1]), int(last[-1][2])) if last else (0, 1)
+    failed = reasons(text) if number or ran.returncode else []
+    if (number or ran.returncode) and not failed:
+        failed = [f"rt ci ended with status {ran.returncode}: {' '.join(text.split(chr(10))[-4:])[-400:]}"]
+    are_proved = bool(last) and "NOT PROVED" not in text and passed > 0
+    return Judged(passed, failed, are_proved, text, watch.costs(), usage.ru_utime + usage.ru_stime, time.time() - begun)
+
+
+def reasons(text):
+    """What rt ci says that failed, each with what its log says of it."""
+    said = re.findall(r"^rt: FAILED: (.*)$", text, re.M)
+    if not said:
+        return [it for it in re.findall(r"^rt: (.*)$", text, re.M)][-1:]
+    return [f"{what}: {reason_of(text, what)}" for what in re.findall(r"\S+(?: \((?:tests|run)\))?", said[-1])]
+
+
+def reason_of(text, what):
+    crate, _, kind = what.partition(" ")
+    if "/" in crate:
+        told = re.findall(rf"^rt: (?:must-fail )?{re.escape(crate)}(?:\.edit)?: (.*)$", text, re.M)
+        return told[-1] if told else "see the log"
+    if kind:
+        name = crate if kind == "(run)" else f"{crate}: its tests"
+        told = re.findall(rf"^rt: {re.escape(name)}.*$", text, re.M) + re.findall(r"^test .*(?:FAILED|failed).*$", text, re.M)
+        return "; ".join(it.removeprefix("rt: ") for it in told[-MOST_REASONS:])
+    parts = SECTION.split(text)
+    found = []
+    for head, body in zip(parts[1::2], parts[2::2]):
+        if head in (crate, f"{crate}: its tests"):
+            found += re.findall(r"^(?:\./)?\S+\.(?:rt|antt):\d+:\d+: error.*$|^fn \S+: (?:not proved|no proof).*$|^rt: (?!chose|note).*$|^rattle: .*$", body, re.M)
+    told = [it for it in re.findall(rf"^rt: {re.escape(crate)} NOT PROVED.*$", text, re.M)]
+    return "; ".join(it[:200] for it in (found or told)[:MOST_REASONS]) or "see the log"

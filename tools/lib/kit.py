@@ -1,0 +1,154 @@
+"""What the tools take of the kit: the crates of the repository, and one check of an edited copy of a crate, with what it cost.
+
+The kit's own command `rt` is loaded as a module, so that crates.txt and edits are read as `rt` reads them. Nothing else of
+the tools touches the kit: after a new kit this file and `tools/wrong-bodies --self-test` tell whether all still holds.
+"""
+import importlib.machinery
+import importlib.util
+import os
+import re
+import resource
+import shutil
+import signal
+import subprocess
+import sys
+import tempfile
+import threading
+from dataclasses import dataclass, field
+
+sys.dont_write_bytecode = True
+
+
+def load_rt():
+    file = os.path.realpath(shutil.which("rt") or "/opt/rattle/bin/rt")
+    loader = importlib.machinery.SourceFileLoader("rt_of_kit", file)
+    made = importlib.util.module_from_spec(importlib.util.spec_from_loader("rt_of_kit", loader))
+    loader.exec_module(made)
+    return made
+
+
+rt = load_rt()
+rtlib = rt.rtlib
+
+# The line of a check that tells of one function, and the one that tells of a goal in the code.
+TOLD = re.compile(r"^fn (\S+): (.*)$", re.M)
+GOAL = re.compile(r"^note: (src/[^:]*):(\d+):\d+: (it is not proved .*)$", re.M)
+# What a check may take: more lanes than memory has room for are not opened.
+MOST_BYTES = 4_500_000_000
+# A clock that runs this many times longer than the processor may work stops a check that waits for ever.
+PATIENCE = 8
+
+
+@dataclass
+class Crate:
+    """A crate of the repository, by the kit's own description of it."""
+
+    of_kit: object
+    name: str = ""
+    folder: str = ""
+
+    def __post_init__(self):
+        self.name, self.folder = self.of_kit.name, self.of_kit.folder
+
+    def text(self, path):
+        with open(f"{self.folder}/{path}", encoding="utf-8") as file:
+            return file.read()
+
+
+def crates(root):
+    """The repository's crates, each after those that it uses."""
+    return [Crate(it) for it in rtlib.crates_below(root)]
+
+
+def guard():
+    """Has all that is started later end with this process. Only the main thread may call it first."""
+    rtlib.guarded()
+
+
+def build_libraries(crate, is_after_ci):
+    """Makes the libraries below the crate, or takes what stands; whether all stand. After rt ci they do, with no stamp."""
+    for below in crate.of_kit.below():
+        if is_after_ci and os.path.isdir(below.rlib):
+            continue
+        with open(os.devnull, "w", encoding="utf-8") as below.out:
+            if below.build_rlib(["--jobs", "1"], anew=False):
+                return False
+    return True
+
+
+def lanes():
+    """How many checks may run side by side: one a core, and as many as free memory holds."""
+    return max(1, min(rt.processors(), int(rt.free() // MOST_BYTES)))
+
+
+@dataclass
+class Checked:
+    """What a check said and cost."""
+
+    status: int
+    text: str
+    seconds: float
+    peak: int  # bytes
+    is_late: bool
+    changed: set
+    said: dict = field(default_factory=dict)
+    goals: list = field(default_factory=list)
+
+    def __post_init__(self):
+        self.said = dict(TOLD.findall(self.text))
+        self.goals = [(path, int(line), why) for path, line, why in GOAL.findall(self.text)]
+
+    def is_proved(self):
+        return not self.status and re.search(r"^logic=proved ", self.text, re.M) is not None
+
+    def unread(self, wanted):
+        """Why the copy was not read, or says nothing of the wanted functions; '' where it was and does."""
+        lines = self.text.split("\n")
+        # (an edit of src/ or specs/ that the prover cannot read is no wrong body)
+        found = next((it for it in lines if rt.unread(it, self.changed)), "")
+        if found:
+            return f"the prover cannot read it: {found}"
+        if rtlib.STALE.search(self.text):
+            return "the kept work of a library cannot be used"
+        if all(it in self.said for it in wanted):
+            return ""
+        found = next((it for it in lines if re.match(r"(error|rattle:)|\S+: error", it)), "") or self.text[:160]
+        return f"it does not compile: {found.strip()}"
+
+
+def check(crate, texts, functions=(), kept=None, limit=3600, is_whole=False):
+    """Checks a copy of the crate with these texts in place of its own: the named functions, or all, going on past those refused
+    unless is_whole. The check is ended after so many seconds of processor."""
+    flags = ["--jobs", "1", *([] if is_whole else ["--allow-holes"])]
+    for it in sorted(functions):
+        flags += ["--only", it.partition("::")[2]]
+    with tempfile.TemporaryDirectory(prefix="wrong-body-") as room, tempfile.TemporaryFile() as said:
+        for part in rtlib.PARTS:
+            if os.path.isdir(f"{crate.folder}/{part}"):
+                shutil.copytree(f"{crate.folder}/{part}", f"{room}/{part}")
+        for path, text in texts.items():
+            with open(f"{room}/{path}", "w", encoding="utf-8") as it:
+                it.write(text)
+        words = [rtlib.RATTLE, "check", *crate.of_kit.words(flags, keeps=False)]
+        words += ["--incremental", kept] if kept else []
+        status, usage, is_late = run_limited([*rtlib.guarded(), *words], room, said, limit)
+        said.seek(0)
+        text = said.read().decode(errors="replace")
+    seconds = usage.ru_utime + usage.ru_stime
+    return Checked(status, text, seconds, usage.ru_maxrss * 1024, is_late, {*texts})
+
+
+def run_limited(words, folder, said, limit):
+    """Runs the command and returns its status, what it used, and whether it was ended for its time."""
+    ran = subprocess.Popen(words, cwd=folder, stdin=subprocess.DEVNULL, stdout=said, stderr=subprocess.STDOUT)
+    resource.prlimit(ran.pid, resource.RLIMIT_CPU, (int(limit), int(limit) + 5))
+    rung = threading.Event()
+    clock = threading.Timer(PATIENCE * limit, lambda: (rung.set(), ran.send_signal(signal.SIGKILL)))
+    clock.start()
+    try:
+        _, status, usage = os.wait4(ran.pid, 0)
+    finally:
+        clock.cancel()
+    ran.returncode = os.waitstatus_to_exitcode(status)
+    is_out = ran.returncode < 0 and usage.ru_utime + usage.ru_stime >= limit - 1
+    return ran.returncode, usage, is_out or rung.is_set()

@@ -1,0 +1,109 @@
+"""The rules of the repository that are seen in seconds, before anything is proved.
+
+A rule that is broken is a failure. Some only list what should be mended: long files, long clauses, public functions with no edit.
+"""
+import os
+import re
+import subprocess
+
+import page
+from edits import FOLDERS, of_crate
+from source import label, public_functions
+
+HANDLES = "Handles allowed: Threads, Wait."
+MOST_LINES = 500
+MOST_COLUMNS = 100
+TEXTS = (".rt", ".antt", ".md", ".edit", ".txt", ".py", "")
+# A number of some paper or issue says nothing to a reader of the repository, which states its rules itself.
+CITATION = re.compile(r"\b(?:[Pp]aper|[Ii]ssue|[Rr]equest|[Dd]efinition|[Rr]ule) [DRW]?\d+\b|\b[TDRW]\d{1,2} ?\([ivx]+\)|\bW\d{1,2}\b")
+
+
+def tracked(root):
+    """The files of the repository, out/ left out by .gitignore unless it was committed."""
+    ran = subprocess.run(["git", "ls-files"], cwd=root, capture_output=True, text=True, check=False)
+    if ran.returncode:
+        return [os.path.relpath(f"{at}/{it}", root) for at, _, names in os.walk(root) for it in names if "/out" not in at and "/.git" not in at]
+    return [it for it in ran.stdout.splitlines() if os.path.isfile(f"{root}/{it}")]
+
+
+def lines_of(path):
+    with open(path, encoding="utf-8", errors="replace") as file:
+        return file.read().split("\n")
+
+
+def handles(root, _files, _crates):
+    """HANDLES is the one line that the task gives."""
+    file = f"{root}/HANDLES"
+    said = "\n".join(lines_of(file)).strip() if os.path.isfile(file) else "no such file"
+    return [] if said == HANDLES else [f"HANDLES: it has to be '{HANDLES}', and is '{said[:80]}'"]
+
+
+def nothing_made(_root, files, _crates):
+    """Nothing that a check or build made is committed."""
+    return [f"{it}: what a check made is never committed" for it in files if "out" in it.split("/")[:-1] or it.endswith(".pyc")]
+
+
+def stands_alone(root, files, _crates):
+    """No text cites a paper's or an issue's number."""
+    found = []
+    for it in files:
+        if os.path.splitext(it)[1] in TEXTS and not it.startswith("tools/"):
+            for number, line in enumerate(lines_of(f"{root}/{it}"), 1):
+                said = CITATION.search(line)
+                found += [f"{it}:{number}: '{said[0]}' cites a number that the repository does not have"] if said else []
+    return found
+
+
+def edits_apply(_root, _files, crates):
+    """Each edit can be applied."""
+    found = []
+    for crate in crates:
+        edits, stray = of_crate(crate, FOLDERS)
+        found += [f"{edit}: {edit.bad}" for edit in edits if edit.bad] + [f"{it}: only edits, FILE.edit, and none.txt stand here" for it in stray]
+    return found
+
+
+def page_is_made(root, _files, crates):
+    """docs/EDITS.md is what the tool prints."""
+    file = f"{root}/docs/EDITS.md"
+    said = "\n".join(lines_of(file)) if os.path.isfile(file) else ""
+    return [] if said == page.whole(crates) else ["docs/EDITS.md: it differs from what tools/wrong-bodies --list prints"]
+
+
+RULES = (handles, nothing_made, stands_alone, edits_apply, page_is_made)
+
+
+def long_files(root, files):
+    counted = ((it, len(lines_of(f"{root}/{it}")) - 1) for it in files if it.endswith(".rt"))
+    return [f"{it}: {number} lines, over {MOST_LINES}" for it, number in counted if number > MOST_LINES]
+
+
+def long_clauses(root, files):
+    found = []
+    for it in files:
+        if it.endswith(".rt"):
+            for number, line in enumerate(lines_of(f"{root}/{it}"), 1):
+                if len(line) > MOST_COLUMNS and re.match(r"\s*(requires|ensures)\b", line):
+                    found.append(f"{it}:{number}: a clause of {len(line)} columns, over {MOST_COLUMNS}")
+    return found
+
+
+def without_edit(crates):
+    found = []
+    for crate in crates:
+        public = [*dict.fromkeys(label(it) for it in public_functions(crate.folder))]
+        turned = {page.turned(edit, public)[0] for edit in of_crate(crate, FOLDERS)[0]} | {*page.without_edit(crate)}
+        found += [f"{crate.name}: {it} has no wrong body" for it in public if it not in turned]
+    return found
+
+
+def judged(root, crates):
+    """How many rules hold, what breaks one, and what should be mended, by kind."""
+    files = tracked(root)
+    broken = [rule(root, files, crates) for rule in RULES]
+    mend = {
+        "files too long": long_files(root, files),
+        "clauses too long": long_clauses(root, files),
+        "public functions without a wrong body": without_edit(crates),
+    }
+    return sum(not it for it in broken), [why for it in broken for why in it], mend

@@ -1,0 +1,70 @@
+"""The page of wrong bodies, made from the edits: for each crate its public functions, each with the edits that turn it.
+
+What a wrong body does stands in the edit's line `says:`. A public function whose type leaves no other answer stands in
+crates/NAME/wrong/none.txt, a line `LABEL: why` for each.
+"""
+import os
+import re
+
+from edits import FOLDERS, of_crate
+from source import label, public_functions
+
+HEAD = """# Wrong bodies
+
+This page is what `tools/wrong-bodies --list` prints; `tools/check` compares the two.
+
+An edit of `crates/NAME/wrong/`, or of `must-fail/` where the kit's own gate tries it too, turns a line or two of code into a wrong body, and the prover has to refuse it. `tools/wrong-bodies NAME` tries those of a crate, many in one check. An edit that is still proved shows that a contract is too weak: strengthen the contract, and leave the edit.
+
+Each public function stands here with the edits that turn it: of its own body, or of that of a private function which serves it and is then named. So do trait impls that are written out: printed texts, conversions, order, iterators. Derived ones have no body, and laws an empty one. Where it says 'none', the type leaves no other answer. Whoever adds a public function adds an edit, named for what the wrong body does, with a line `says: ..`.
+"""
+
+
+def without_edit(crate):
+    """The public functions that no edit can turn, with the reason."""
+    file = f"{crate.folder}/wrong/none.txt"
+    if not os.path.isfile(file):
+        return {}
+    with open(file, encoding="utf-8") as it:
+        return dict(re.findall(r"^(\S.*?): (.*)$", it.read(), re.M))
+
+
+def turned(edit, public):
+    """The public function that the edit turns and the private one where it does so; '' for the first where no public one is named."""
+    held = [label(it) for it in edit.holders] or [f"{path}" for path, _ in edit.outside[:1]]
+    if edit.turns:
+        return edit.turns, "" if edit.turns in held else held[0]
+    return (held[0], "") if held[0] in public else ("", held[0])
+
+
+def of_one(crate):
+    """The crate's part of the page: its lines."""
+    public = [*dict.fromkeys(label(it) for it in public_functions(crate.folder))]
+    edits, reasons = of_crate(crate, FOLDERS)[0], without_edit(crate)
+    if not edits and not public:
+        return []
+    rows, further = {}, {}
+    for edit in edits:
+        name = edit.name if edit.folder == "wrong" else f"{edit.folder}/{edit.name}"
+        function, place = turned(edit, public)
+        if function:
+            rows.setdefault(function, []).append((f"`{function}`{f', in `{place}`' if place else ''}", f"`{name}`", edit.says))
+        else:
+            further.setdefault(place, []).append(f"{name}{f' ({edit.says})' if edit.says else ''}")
+    for function, why in reasons.items():
+        rows.setdefault(function, []).append((f"`{function}`", "none", why))
+    order = [*public, *sorted(it for it in rows if it not in public)]
+    lines = ["", f"## {crate.name}", ""]
+    if rows:
+        lines += ["| public function | edit | what the wrong body does |", "|---|---|---|"]
+        lines += [f"| {' | '.join(it)} |" for function in order for it in rows.get(function, [])]
+    if further:
+        told = "; ".join(f"`{place}`: {', '.join(sorted(names))}" for place, names in sorted(further.items()))
+        lines += ["", f"Further edits, by the place that they change. {told}."]
+    bare = [f"`{it}`" for it in public if it not in rows]
+    if bare:
+        lines += ["", f"**Public functions without an edit**: {', '.join(bare)}."]
+    return lines
+
+
+def whole(crates):
+    return HEAD + "\n".join([line for crate in crates for line in of_one(crate)]) + "\n"

@@ -1,0 +1,99 @@
+"""The tool tried on a crate of its own, whose edits each have to be told for what they are.
+
+A wrong body passes. A right one, a right one whose callee alone is turned by another edit, one that does not compile, one that is
+refused for no reason of its own (the prover does not cover it), and one that changes a line in no body must be told by name.
+"""
+import contextlib
+import io
+import os
+import tempfile
+
+import kit
+import trial
+
+CODE = """//! A crate to try the tool on.
+#![tactic(auto)]
+
+ghost use Rattle.std.specs.Prelude.{◌≡◌, ◌+◌, ◌≤◌};
+
+const STEP: u32 = 1;
+
+/// The next number.
+pub fn next(n: u32) -> u32
+    requires { n ≤ 1000 }
+    ensures { result ≡ n + 1 }
+{
+    n + STEP
+}
+
+/// The number after the next.
+pub fn second(n: u32) -> u32
+    requires { n ≤ 900 }
+    ensures { result ≡ n + 2 }
+{
+    let first = next(n);
+    next(first)
+}
+
+/// The number itself.
+pub fn same(n: u32) -> u32
+    ensures { result ≡ n }
+{
+    let same = n;
+    same
+}
+
+/// The bytes in two parts.
+pub fn halves(s: &mut [u8]) -> (&mut [u8], &mut [u8]) {
+    let half = s.len() / 2;
+    s.split_at_mut(half)
+}
+
+/// The first of two.
+pub fn first_of(a: u32, b: u32) -> u32
+    ensures { result ≡ a }
+{
+    let _b = b;
+    a
+}
+"""
+
+# Each edit: what it turns into what, and how the tool has to tell of it.
+EDITS = {
+    "wrong": ("    n + STEP", "    n + STEP + 1", "refused"),
+    "caller_right": ("    let first = next(n);", "    let first: u32 = next(n);", "NOT REFUSED"),
+    "right": ("    let same = n;", "    let same = n + 0;", "NOT REFUSED"),
+    "uncompiled": ("    let _b = b;", "    let _b = c;", "BAD EDIT: it does not compile"),
+    "hollow": ("    s.split_at_mut(half)", "    s.split_at_mut(s.len() / 2)", "NOT TOLD"),
+    "outside": ("const STEP: u32 = 1;", "const STEP: u32 = 2;", "BAD EDIT: line"),
+}
+
+
+def write(root):
+    """Makes the repository of the throw-away crate."""
+    files = {"crates.txt": "tried:\n", "crates/tried/src/lib.rt": CODE}
+    for name, (old, new, _) in EDITS.items():
+        files[f"crates/tried/wrong/{name}.edit"] = f"file: src/lib.rt\nold: {old}\nnew: {new}\n"
+    for path, text in files.items():
+        os.makedirs(os.path.dirname(f"{root}/{path}"), exist_ok=True)
+        with open(f"{root}/{path}", "w", encoding="utf-8") as file:
+            file.write(text)
+
+
+def run():
+    """Tries the edits, says of each whether it was told for what it is, and returns the exit status."""
+    with tempfile.TemporaryDirectory(prefix="wrong-bodies-self-") as root:
+        write(root)
+        said = io.StringIO()
+        with contextlib.redirect_stdout(said):
+            (told,), stray = trial.try_all(kit.crates(root), lanes=1)
+    passed, failed = 0, [*stray]
+    for name, (_, _, wanted) in EDITS.items():
+        found = next((it for it in told.failed if it.startswith(f"tried/wrong/{name}: ")), "")
+        found = found or (f"refused: {told.refused[name]}" if name in told.refused else "nothing was told of it")
+        is_well = found.startswith(f"tried/wrong/{name}: {wanted}" if wanted != "refused" else "refused")
+        passed += is_well
+        print(f"{'ok' if is_well else 'WRONG'}: {name}: wanted {wanted}: {found}")
+        failed += [] if is_well else [name]
+    print(f"{passed} passed, {len(failed)} failed")
+    return 1 if failed else 0

@@ -1,0 +1,208 @@
+"""Tries the wrong bodies of crates, many in one check, and tells of each whether the prover refuses it.
+
+Edits of different functions go into one copy of the crate, and one check of just these functions tells of each. An edit passes
+only where a function that it changes is refused for a reason of its own. One whose function is only not proved because it calls
+another that is refused is tried again, without the edits that were told already. A group that cannot be told as a whole, since it
+does not compile, takes too long, or has a function refused that none of its edits changes, is parted in two, down to one edit.
+What does not compile, is still proved, takes too long or is not told even alone is a failure, with its reason.
+"""
+import os
+import re
+import shutil
+import tempfile
+import threading
+from concurrent.futures import ThreadPoolExecutor
+from dataclasses import dataclass, field
+
+import kit
+from edits import grouped, of_crate, together
+
+# What a group's check may take, in seconds of processor: so much to load and to prove what its functions call, and so much for each edit.
+LOADING_SECONDS = 240
+EDIT_SECONDS = 15
+
+
+@dataclass
+class Told:
+    """What the trial of a crate's edits told, and what it cost."""
+
+    crate: str
+    names: list = field(default_factory=list)  # of the edits
+    refused: dict = field(default_factory=dict)  # the edit to the reason by which the prover refused it
+    failed: list = field(default_factory=list)  # texts, with crate, file and reason
+    checks: int = 0
+    seconds: float = 0.0
+    peak: int = 0
+
+
+def closures_too(said, name):
+    """The function, and what stands inside it."""
+    return [it for it in said if it == name or it.startswith((f"{name}::{{", f"{name}::closure"))]
+
+
+def proof_of(name):
+    """Where the prover keeps a function's proof, as it names that."""
+    crate, *path = name.split("::")
+    return ".".join(["Rattle", crate, "proofs", *path, ""])
+
+
+def own_reason(name, checked, span=None, by_lemma=False):
+    """Why the prover refuses the function by itself: '' where it is proved, where it only calls what is not, and where that is not told.
+
+    It is told by what the function's line says of its own proof, or by a goal in its code that is not proved. Where a definition was
+    changed (by_lemma), a lemma that is refused counts too, but no other function's proof."""
+    what = checked.said[name]
+    if not re.match(r"no proof|not proved", what):
+        return ""
+    own = proof_of(name)
+    others = [proof_of(it) for it in checked.said if it != name] if by_lemma else []
+    for part in re.split(r"; (?=it |expected |`search`)|: ", what):
+        if part.startswith("`search` did not prove "):
+            return part
+        for it in re.findall(r"`(Rattle\.[^`]*)`", part) if part.startswith("it stands on ") else ():
+            if it.startswith(own) or by_lemma and not it.startswith(tuple(others)):
+                return part
+    for path, line, why in checked.goals:
+        if span and path == span[0] and span[1] <= line <= span[2]:
+            return f"{path}:{line}: {why}"
+    return ""
+
+
+class Trial:
+    """The trial of one crate's edits."""
+
+    def __init__(self, crate, edits, kept, known):
+        self.crate, self.kept = crate, kept
+        self.told = Told(crate.name, [it.name for it in edits])
+        self.edits = []
+        for edit in edits:
+            if not edit.bad:
+                edit.find_names(known)
+            if edit.bad:
+                self.fail(edit, f"BAD EDIT: {edit.bad}")
+            else:
+                self.edits.append(edit)
+
+    def fail(self, edit, why):
+        self.told.failed.append(f"{edit}: {' '.join(why.split())[:400]}")
+
+    def check(self, texts, functions, limit):
+        checked = kit.check(self.crate, texts, functions, self.kept, limit)
+        self.told.checks += 1
+        self.told.seconds += checked.seconds
+        self.told.peak = max(self.told.peak, checked.peak)
+        return checked
+
+    def run(self):
+        waiting = grouped(self.edits)
+        while waiting:
+            before, again = len(self.told.refused) + len(self.told.failed), []
+            while waiting:
+                again += self.try_group(waiting.pop(0), waiting)
+            is_stuck = len(self.told.refused) + len(self.told.failed) == before
+            waiting = [[it] for it in again] if is_stuck else grouped(again)
+        return self.told
+
+    def try_group(self, group, waiting):
+        """Tries a group and returns those of its edits that have to be tried again. Where it has to be parted, its halves wait."""
+        functions = {name for edit in group for name in edit.functions}
+        checked = self.check(together(group), functions, LOADING_SECONDS + EDIT_SECONDS * len(group))
+        why = "it takes too long" if checked.is_late else checked.unread(functions)
+        if not why and len(group) > 1:
+            why = self.disturbed(group, functions, checked)
+        if why and len(group) > 1:
+            half = len(group) // 2
+            waiting += [group[:half], group[half:]]
+            return []
+        if why:
+            self.fail(group[0], f"TOO LONG: no answer after {checked.seconds:.0f} seconds of processor" if checked.is_late else f"BAD EDIT: {why}")
+            return []
+        return [it for it in group if not self.tell(it, checked, len(group) == 1)]
+
+    def disturbed(self, group, functions, checked):
+        """Which function, changed by no edit of the group, is refused for a reason of its own; '' if none is."""
+        changed = {it for name in functions for it in closures_too(checked.said, name)}
+        return next((it for it in checked.said if it not in changed and own_reason(it, checked)), "")
+
+    def tell(self, edit, checked, is_last):
+        """Notes what the check tells of the edit. Returns whether it tells anything: of an edit tried alone it has to."""
+        for name in sorted(edit.functions):
+            for it in closures_too(checked.said, name):
+                why = own_reason(it, checked, edit.spans.get(name), by_lemma=edit.is_alone())
+                if why:
+                    self.told.refused[edit.name] = f"{it}: {why}"
+                    return True
+        said = {name: checked.said[name] for name in sorted(edit.functions)}
+        names = ", ".join(said)
+        if all(it.startswith(("proved", "no hole")) for it in said.values()):
+            self.fail(edit, f"NOT REFUSED: {names} is still proved")
+        elif is_last:
+            self.fail(edit, f"NOT TOLD: {names} is not refused for what it does: {'; '.join(said.values())}")
+        else:
+            return False
+        return True
+
+
+# ---- crates ----------------------------------------------------------------------------------------------------------------
+
+
+def known_by_log(crate, log):
+    """The functions of the crate, by what rt ci printed when it proved them; none where it did not."""
+    said = {name: what for name, what in kit.TOLD.findall(log) if name.startswith(f"{crate.name}::")}
+    return said if all(it.startswith(("proved", "assumed")) for it in said.values()) else {}
+
+
+def try_crate(crate, edits, log):
+    """Tries the edits of a crate. With no log of an rt ci that proved the crate, the crate has to be proved here first."""
+    with tempfile.TemporaryDirectory(prefix="wrong-bodies-") as kept:
+        if log is not None:
+            known, cost = known_by_log(crate, log), None
+        else:
+            # (over what rt check kept, as rt check itself is)
+            if os.path.isdir(f"{crate.folder}/out/incremental"):
+                shutil.copytree(f"{crate.folder}/out/incremental", kept, dirs_exist_ok=True)
+            cost = kit.check(crate, {}, kept=kept, is_whole=True)
+            known = cost.said if cost.is_proved() else {}
+        if not known:
+            why = f"{crate.name}: it is not proved as it stands, so its {len(edits)} edits were not tried"
+            return Told(crate.name, [it.name for it in edits], failed=[why])
+        told = Trial(crate, edits, kept, known).run()
+    if cost:
+        told.checks, told.seconds, told.peak = told.checks + 1, told.seconds + cost.seconds, max(told.peak, cost.peak)
+    return told
+
+
+def try_all(crates, log=None, only=(), lanes=None, verbose=False, folders=("wrong",)):
+    """Tries the edits of the crates side by side, says of each crate what was told, and returns that in the order of the crates."""
+    kit.guard()
+    work, failed, printing = [], [], threading.Lock()
+    for crate in crates:
+        edits, stray = of_crate(crate, folders)
+        failed += [f"{it}: only edits, FILE.edit, and none.txt stand here" for it in stray]
+        edits = [it for it in edits if not only or it.name in only]
+        if edits and not kit.build_libraries(crate, log is not None):
+            failed.append(f"{crate.name}: a library below it is not proved, so its {len(edits)} edits were not tried")
+        elif edits:
+            work.append((crate, edits))
+
+    def one(of):
+        told = try_crate(*of, log)
+        with printing:
+            for name, why in sorted(told.refused.items()) if verbose else ():
+                print(f"{told.crate}/{name}: refused: {why[:200]}")
+            print(
+                f"{told.crate}: {len(told.refused)} of {len(told.names)} wrong bodies refused; {told.checks} checks, "
+                f"{told.seconds:.0f} seconds of processor, {told.peak / 1e9:.1f} GB at the most",
+                flush=True,
+            )
+            for why in told.failed:
+                print(f"FAILED: {why}", flush=True)
+        return told
+
+    # the crates with most to do first, so that none is left to run alone at the end
+    work.sort(key=lambda it: -len(it[1]) * it[0].of_kit.count(rb"\n"))
+    with ThreadPoolExecutor(lanes or kit.lanes()) as pool:
+        tolds = [*pool.map(one, work)]
+    for why in failed:
+        print(f"FAILED: {why}")
+    return tolds, failed

@@ -1,6 +1,6 @@
 -- Each loader of a configuration leads to earlier ones.
-use Rattle.std.proofs.Common.{◌≡◌, ℕ, ◌+◌, ◌<◌, Bool, true, false, nat_lt, cond, List, [], ◌∷◌, ◌++◌, length, Option, Some, None, Result, Ok, Err, refl, ap, subst, arith, length-append}
-use Rattle.std.specs.Prelude.{IfSome, All}
+use Rattle.std.proofs.Common.{◌≡◌, ℕ, zero, suc, ◌+◌, ◌<◌, Bool, true, false, nat_lt, cond, List, [], ◌∷◌, ◌++◌, length, Option, Some, None, Result, Ok, Err, refl, ap, subst, arith, length-append}
+use Rattle.std.specs.Prelude.{IfSome, All, slice_get}
 use Rattle.std.proofs.lemmas.Bool.Decides.{nat_tests}
 use Rattle.std.proofs.lemmas.List.Elements.{All-push, All-nil}
 use Rattle.cl_config.specs.declared.fault.ConfigFault.{ConfigFault}
@@ -84,3 +84,9 @@ all_below entries front ls (e ∷ es) below h =
 
 pub are_loaders : (entries : List Entry) (ls : List Loader) → loaders_of entries ≡ Ok ls → AreLoaders entries [] ls entries
 are_loaders entries ls h = all_below entries [] ls entries tt h
+
+-- the loader at a place leads below it
+pub below_at : (i n : ℕ) (ls : List Loader) (l : Loader) → AllLeadBelow i ls → slice_get ls n ≡ Some l → LeadsBelow (i + n) l
+below_at i n [] l below h = absurd cc
+below_at i zero (f ∷ ls) l below h = let same : f ≡ l = cc in rw (← same) (subst (λ (k : ℕ). LeadsBelow k f) (omega arith) below.0)
+below_at i (suc n) (f ∷ ls) l below h = subst (λ (k : ℕ). LeadsBelow k l) (omega arith) (below_at (i + 1) n ls l below.1 h)

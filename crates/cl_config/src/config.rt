@@ -1,11 +1,11 @@
 //! The configuration that a text is.
 
-ghost use Rattle.std.specs.Prelude.{◌≡◌, ◌<◌, ◌≤◌, ◌++◌, [], ◌∷◌, length, map, string_bytes, slice_get, position, nat_eq, is_some, IfOk, IfSome};
+ghost use Rattle.std.specs.Prelude.{◌≡◌, ◌<◌, ◌≤◌, ◌++◌, [], ◌∷◌, length, map, string_bytes, slice_get, position, nat_eq, is_some, All, IfOk, IfSome};
 ghost use Rattle.std.specs.List.{list_all};
 ghost use Rattle.std.specs.Cmp.Lexicographic.{pointwise};
 ghost use Rattle.toml.specs.Data.{as_table};
 ghost use Rattle.toml.specs.View.{view, table_view, items_view};
-ghost use Rattle.cl_config.specs.Configs.{top_of, array_at, checked, config_in, config_of, IsConfig};
+ghost use Rattle.cl_config.specs.Configs.{top_of, array_at, checked, config_in, config_of, IsConfig, LeadsBelow};
 ghost use Rattle.cl_config.specs.Steps.{Finds, Gives};
 ghost use Rattle.cl_config.specs.Views.{names_of};
 
@@ -92,6 +92,7 @@ impl Config {
     pub fn parent(&self, loader: LoaderId) -> Option<LoaderId>
         requires { loader < length self.now.loaders }
         ensures parent { IfSome (slice_get self.now.loaders loader) (λ l. result ≡ l.parent) }
+        ensures below { IfSome result (λ parent. parent < loader) }
     {
         self.at(loader).parent()
     }
@@ -107,7 +108,8 @@ impl Config {
     /// A loader's imports, in order, each of an earlier loader.
     pub fn imports(&self, loader: LoaderId) -> &[Import]
         requires { loader < length self.now.loaders }
-        ensures { IfSome (slice_get self.now.loaders loader) (λ l. result.now ≡ l.imports) }
+        ensures imports { IfSome (slice_get self.now.loaders loader) (λ l. result.now ≡ l.imports) }
+        ensures below { All (λ m. m.target < loader) result.now }
     {
         self.at(loader).imports()
     }
@@ -122,10 +124,19 @@ impl Config {
     /// A loader.
     fn at(&self, loader: LoaderId) -> &Loader
         requires { loader < length self.now.loaders }
-        ensures { slice_get self.now.loaders loader ≡ Some result.now }
+        ensures at { slice_get self.now.loaders loader ≡ Some result.now }
+        ensures below { LeadsBelow loader result.now }
     {
-        &self.loaders[usize::from(loader.0)]
+        loader_at(self.loaders.as_slice(), usize::from(loader.0))
     }
+}
+
+/// The loader of a place.
+fn loader_at(loaders: &[Loader], place: usize) -> &Loader
+    requires { place < length loaders.now }
+    ensures { slice_get loaders.now place ≡ Some result.now }
+{
+    &loaders[place]
 }
 
 /// The configuration that a document is.

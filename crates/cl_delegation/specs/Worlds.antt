@@ -1,12 +1,11 @@
 -- What a configuration, a script and a content give the linkage machine (JVMS SE 8, 5.3).
-use Rattle.std.specs.Prelude.{ℕ, List, map, Result}
+use Rattle.std.specs.Prelude.{ℕ, List, Result}
 use Rattle.cl_classfile.specs.Files.{File, FileFault}
 use Rattle.cl_model.specs.Content.{Content}
 use Rattle.cl_model.specs.Homes.{World}
 use Rattle.cl_model.specs.Machine.{Setting}
-use Rattle.cl_model.specs.Views.{request_of}
 use Rattle.cl_model.specs.Worlds.{seen}
-use Rattle.cl_config.specs.Loaders.{loaders_of}
+use Rattle.cl_config.specs.Loaders.{loaders_of, schedule_of}
 use Rattle.cl_delegation.specs.Bounds.{drafted_of}
 use Rattle.cl_config.specs.Views.{Configured, Scripted}
 
@@ -18,6 +17,6 @@ read bytes = seen (drafted_of bytes)
 abbrev pub world_of : Configured → Content → World
 world_of c content = record { loaders = loaders_of c; content = content; read = read }
 
--- for now there is one round (5.3)
+-- the script over that world (5.3)
 abbrev pub setting_of : Configured → Scripted → Content → Setting
-setting_of c s content = record { world = world_of c content; script = map (λ r. record { request = request_of r; round = 0 }) s.requests; rounds = 1 }
+setting_of c s content = record { world = world_of c content; script = schedule_of s; rounds = s.rounds }

@@ -41,4 +41,5 @@ def main(folder):
     write_bundle(f"{folder}/chain.bundle", chain, [chain[-1][0]])
 
 
-main(sys.argv[1])
+if __name__ == "__main__":
+    main(sys.argv[1])

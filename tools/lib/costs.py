@@ -60,7 +60,8 @@ class Watch:
         """Notes of each process of the prover the most that it has used, its ended and its living copies included."""
         stats = {}
         for name in os.listdir("/proc"):
-            found = re.fullmatch(r"(\d+) \(.*\) . (\d+) (.*)\s*", read(f"/proc/{name}/stat"), re.S) if name.isdigit() else None
+            text = read(f"/proc/{name}/stat") if name.isdigit() else ""
+            found = re.fullmatch(r"(\d+) \(.*\) . (\d+) (.*)\s*", text, re.S)
             if found:
                 rest = found[3].split()
                 own, ended = [sum(map(int, rest[at : at + 2])) / TICKS for at in (9, 11)]
@@ -77,7 +78,8 @@ class Watch:
             if not what:
                 continue
             copies = [it for it, stat in stats.items() if stat[0] == process]
-            peak = max((int(it) for at in [process, *copies] for it in re.findall(r"VmHWM:\s+(\d+)", read(f"/proc/{at}/status"))), default=0)
+            held = "".join(read(f"/proc/{at}/status") for at in [process, *copies])
+            peak = max((int(it) for it in re.findall(r"VmHWM:\s+(\d+)", held)), default=0)
             used = own + ended + sum(stats[it][1] for it in copies)
             was = self.seen.get((process, began), (what, 0, 0))
             self.seen[process, began] = what, max(was[1], used), max(was[2], 1024 * peak)
@@ -124,11 +126,13 @@ def table(crates, costs, edits):
         budget, share = SECONDS_A_LINE * sum(lines), TESTS_OF_PROOF * proof
         cells = [crate.name, ", ".join(f"{it:,}" for it in lines), marked(proof, budget, f"{proof:.0f}"), f"{budget:.0f}"]
         cells += [f"{cost.seconds['build']:.0f}", marked(tests, share, f"{tests:.0f}"), f"{share:.0f}"]
-        cells += [str(edits.get(crate.name, 0)), f"{cost.seconds['edits']:.0f}", marked(cost.peak, MOST_BYTES, f"{cost.peak / 1e9:.1f}")]
+        cells += [str(edits.get(crate.name, 0)), f"{cost.seconds['edits']:.0f}"]
+        cells += [marked(cost.peak, MOST_BYTES, f"{cost.peak / 1e9:.1f}")]
         rows.append(f"| {' | '.join(cells)} |")
         total["lines"], total["number"] = total["lines"] + sum(lines), total["number"] + edits.get(crate.name, 0)
         for kind in KINDS:
             total[kind] += cost.seconds[kind]
     minutes = [f"{total[kind] / 60:.1f} min" for kind in KINDS]
-    rows.append(f"| all | {total['lines']:,} | {minutes[0]} | | {minutes[1]} | {minutes[2]} | | {total['number']} | {minutes[3]} | |")
+    cells = ["all", f"{total['lines']:,}", minutes[0], "", minutes[1], minutes[2], "", str(total["number"]), minutes[3], ""]
+    rows.append(f"| {' | '.join(cells)} |")
     return "\n".join(rows)

@@ -5,7 +5,7 @@ lines, of which `rt` takes no notice, may stand in it:
 
   says: TEXT          what the wrong body does, for the page of wrong bodies
   turns: LABEL        the public function whose meaning it turns, where it changes a private function that serves it
-  refuses: PATH       the prover's name of a function or law that has to be refused, for an edit of a constant, a type or a definition
+  refuses: PATH       the prover's name of a function or law that has to be refused, where a constant, a type or a definition is edited
 """
 import os
 import re
@@ -15,6 +15,7 @@ from kit import rt
 from source import functions, label, names_of
 
 FOLDERS = ("wrong", "must-fail")
+ASKS = "say by 'refuses: PATH'"
 FILE_NAME = r"[A-Za-z0-9_-][A-Za-z0-9_.-]*\.edit"
 
 
@@ -45,12 +46,12 @@ class Edit:
             return
         if self.outside:
             path, line = self.outside[0]
-            self.bad = f"line {line} of {path} is changed in no function's body: say by 'refuses: PATH' which function has to be refused"
+            self.bad = f"line {line} of {path} is changed in no function's body: {ASKS} which function has to be refused"
             return
         for it in self.holders:
             names = names_of(it, self.crate.name, known)
             if len(names) != 1:
-                self.bad = f"the prover's name of {label(it)} is not told apart ({', '.join(names) or 'none fits'}): say it by 'refuses: PATH'"
+                self.bad = f"the prover's name of {label(it)} is not told apart ({', '.join(names) or 'none fits'}): {ASKS} it"
                 return
             self.functions.add(names[0])
             self.spans[names[0]] = (it.path, it.first_line, it.last_line)

@@ -11,6 +11,10 @@ from costs import Watch
 LAST = re.compile(r"^(\d+) passed, (\d+) failed$", re.M)
 SECTION = re.compile(r"^== (.*)\n", re.M)
 MOST_REASONS = 6
+# The lines of a crate's log that say why it is not proved.
+REASON = re.compile(
+    r"^(?:\./)?\S+\.(?:rt|antt):\d+:\d+: error.*$|^fn \S+: (?:not proved|no proof).*$|^rt: (?!chose|note).*$|^rattle: .*$", re.M
+)
 
 
 @dataclass
@@ -34,9 +38,8 @@ def run(root, crates, file):
     """Runs rt ci with its output in the file, and shows it in short form as it goes."""
     clear(crates)
     begun, lines = time.time(), []
-    ran = subprocess.Popen(
-        ["rt", "ci"], cwd=root, stdin=subprocess.DEVNULL, stdout=subprocess.PIPE, stderr=subprocess.STDOUT, text=True, errors="replace"
-    )
+    how = {"cwd": root, "stdin": subprocess.DEVNULL, "stdout": subprocess.PIPE, "stderr": subprocess.STDOUT}
+    ran = subprocess.Popen(["rt", "ci"], text=True, errors="replace", **how)
     watch = Watch(ran.pid)
     with open(file, "w", encoding="utf-8") as log:
         for line in ran.stdout:
@@ -69,14 +72,18 @@ def reason_of(text, what):
     if "/" in crate:
         told = re.findall(rf"^rt: (?:must-fail )?{re.escape(crate)}(?:\.edit)?: (.*)$", text, re.M)
         return told[-1] if told else "see the log"
+    if kind == "(run)":
+        told = re.findall(rf"^rt: {re.escape(crate)}(?: \([^)]*\))?: (?!its tests)(.*)$", text, re.M)
+        return "; ".join(told[-MOST_REASONS:]) or "see the log"
     if kind:
-        name = crate if kind == "(run)" else f"{crate}: its tests"
-        told = re.findall(rf"^rt: {re.escape(name)}.*$", text, re.M) + re.findall(r"^test .*(?:FAILED|failed).*$", text, re.M)
-        return "; ".join(it.removeprefix("rt: ") for it in told[-MOST_REASONS:])
+        # (the tests write right before the line that tells how they ended)
+        wrote = text.partition(f"rt: {crate}: its tests FAILED")[0].rpartition("\nrt: ")[2]
+        told = re.findall(r"^test .*(?:FAILED|failed).*$|^.*panicked.*$", wrote, re.M)
+        return "its tests failed: " + ("; ".join(told[:MOST_REASONS]) or "see the log")
     parts = SECTION.split(text)
     found = []
     for head, body in zip(parts[1::2], parts[2::2]):
         if head in (crate, f"{crate}: its tests"):
-            found += re.findall(r"^(?:\./)?\S+\.(?:rt|antt):\d+:\d+: error.*$|^fn \S+: (?:not proved|no proof).*$|^rt: (?!chose|note).*$|^rattle: .*$", body, re.M)
+            found += REASON.findall(body)
     told = [it for it in re.findall(rf"^rt: {re.escape(crate)} NOT PROVED.*$", text, re.M)]
     return "; ".join(it[:200] for it in (found or told)[:MOST_REASONS]) or "see the log"

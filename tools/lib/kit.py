@@ -20,7 +20,8 @@ sys.dont_write_bytecode = True
 
 
 def load_rt():
-    file = os.path.realpath(shutil.which("rt") or "/opt/rattle/bin/rt")
+    places = [os.path.realpath(shutil.which("rt") or ""), "/opt/rattle/bin/rt"]
+    file = next(it for it in places if os.path.isfile(f"{os.path.dirname(it)}/rtlib.py"))
     loader = importlib.machinery.SourceFileLoader("rt_of_kit", file)
     made = importlib.util.module_from_spec(importlib.util.spec_from_loader("rt_of_kit", loader))
     loader.exec_module(made)
@@ -33,6 +34,9 @@ rtlib = rt.rtlib
 # The line of a check that tells of one function, and the one that tells of a goal in the code.
 TOLD = re.compile(r"^fn (\S+): (.*)$", re.M)
 GOAL = re.compile(r"^note: (src/[^:]*):(\d+):\d+: (it is not proved .*)$", re.M)
+# What a check refuses in a proof file, and how it says that a name of that file stands for nothing.
+REFUSED = re.compile(r"^(?:\./)?proofs/([^:]*):\d+:\d+: error: (.*)$", re.M)
+NO_NAME = re.compile(r"has no field|is not in scope|has no `|was not admitted")
 # What a check may take: more lanes than memory has room for are not opened.
 MOST_BYTES = 4_500_000_000
 # A clock that runs this many times longer than the processor may work stops a check that waits for ever.
@@ -46,13 +50,17 @@ class Crate:
     of_kit: object
     name: str = ""
     folder: str = ""
+    texts: dict = field(default_factory=dict)
 
     def __post_init__(self):
         self.name, self.folder = self.of_kit.name, self.of_kit.folder
 
     def text(self, path):
-        with open(f"{self.folder}/{path}", encoding="utf-8") as file:
-            return file.read()
+        """The text of a file, as it was when it was first asked for: edits are made to what they were read against."""
+        if path not in self.texts:
+            with open(f"{self.folder}/{path}", encoding="utf-8") as file:
+                self.texts[path] = file.read()
+        return self.texts[path]
 
 
 def crates(root):
@@ -63,6 +71,11 @@ def crates(root):
 def guard():
     """Has all that is started later end with this process. Only the main thread may call it first."""
     rtlib.guarded()
+
+
+def lock(crates):
+    """Waits until no other rt works on the crates and what is below them, and keeps others out while what it returns is held."""
+    return rtlib.lock({it.folder: it for crate in crates for it in [*crate.of_kit.below(), crate.of_kit]}.values())
 
 
 def build_libraries(crate, is_after_ci):
@@ -77,8 +90,9 @@ def build_libraries(crate, is_after_ci):
 
 
 def lanes():
-    """How many checks may run side by side: one a core, and as many as free memory holds."""
-    return max(1, min(rt.processors(), int(rt.free() // MOST_BYTES)))
+    """How many checks may run side by side: as many as RT_JOBS says, as for rt ci, else one a core, and as many as free memory holds."""
+    number = os.environ.get("RT_JOBS", "")
+    return int(number) if number.isdigit() and int(number) else max(1, min(rt.processors(), int(rt.free() // MOST_BYTES)))
 
 
 @dataclass
@@ -101,19 +115,27 @@ class Checked:
     def is_proved(self):
         return not self.status and re.search(r"^logic=proved ", self.text, re.M) is not None
 
+    def only_names(self, name):
+        """Whether all that is refused of the function's proof files is that they name what the edit took away."""
+        folder = "/".join([*name.split("::")[1:], ""])
+        found = [why for path, why in REFUSED.findall(self.text) if path.startswith(folder)]
+        return bool(found) and all(NO_NAME.search(it) for it in found)
+
     def unread(self, wanted):
         """Why the copy was not read, or says nothing of the wanted functions; '' where it was and does."""
+        if self.status < 0:
+            return f"NOT TOLD: the check was ended by signal {-self.status}, most likely for memory"
         lines = self.text.split("\n")
         # (an edit of src/ or specs/ that the prover cannot read is no wrong body)
         found = next((it for it in lines if rt.unread(it, self.changed)), "")
         if found:
-            return f"the prover cannot read it: {found}"
+            return f"BAD EDIT: the prover cannot read it: {found}"
         if rtlib.STALE.search(self.text):
-            return "the kept work of a library cannot be used"
+            return "NOT TOLD: the kept work of a library cannot be used"
         if all(it in self.said for it in wanted):
             return ""
         found = next((it for it in lines if re.match(r"(error|rattle:)|\S+: error", it)), "") or self.text[:160]
-        return f"it does not compile: {found.strip()}"
+        return f"{'NOT TOLD: the check did not run' if found.startswith('rattle:') else 'BAD EDIT: it does not compile'}: {found.strip()}"
 
 
 def check(crate, texts, functions=(), kept=None, limit=3600, is_whole=False):
@@ -150,5 +172,4 @@ def run_limited(words, folder, said, limit):
     finally:
         clock.cancel()
     ran.returncode = os.waitstatus_to_exitcode(status)
-    is_out = ran.returncode < 0 and usage.ru_utime + usage.ru_stime >= limit - 1
-    return ran.returncode, usage, is_out or rung.is_set()
+    return ran.returncode, usage, ran.returncode == -signal.SIGXCPU or rung.is_set()

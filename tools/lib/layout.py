@@ -1,6 +1,6 @@
 """The rules of the repository that are seen in seconds, before anything is proved.
 
-A rule that is broken is a failure. Some only list what should be mended: long files, long clauses, public functions with no edit.
+A rule that is broken is a failure. What only should be mended is listed: long clauses, public functions with no edit.
 """
 import os
 import re
@@ -8,7 +8,6 @@ import subprocess
 
 import page
 from edits import FOLDERS, of_crate
-from source import label, public_functions
 
 HANDLES = "Handles allowed: Threads, Wait."
 MOST_LINES = 500
@@ -19,11 +18,13 @@ CITATION = re.compile(r"\b(?:[Pp]aper|[Ii]ssue|[Rr]equest|[Dd]efinition|[Rr]ule)
 
 
 def tracked(root):
-    """The files of the repository, out/ left out by .gitignore unless it was committed."""
-    ran = subprocess.run(["git", "ls-files"], cwd=root, capture_output=True, text=True, check=False)
-    if ran.returncode:
-        return [os.path.relpath(f"{at}/{it}", root) for at, _, names in os.walk(root) for it in names if "/out" not in at and "/.git" not in at]
-    return [it for it in ran.stdout.splitlines() if os.path.isfile(f"{root}/{it}")]
+    """The files of the repository; where git does not tell, all but what a check made."""
+    try:
+        ran = subprocess.run(["git", "ls-files"], cwd=root, capture_output=True, text=True, check=True)
+        return [it for it in ran.stdout.splitlines() if os.path.isfile(f"{root}/{it}")]
+    except (OSError, subprocess.CalledProcessError):
+        found = (os.path.relpath(f"{at}/{it}", root) for at, _, names in os.walk(root) for it in names)
+        return sorted(it for it in found if not {"out", ".git"} & {*it.split("/")})
 
 
 def lines_of(path):
@@ -59,7 +60,8 @@ def edits_apply(_root, _files, crates):
     found = []
     for crate in crates:
         edits, stray = of_crate(crate, FOLDERS)
-        found += [f"{edit}: {edit.bad}" for edit in edits if edit.bad] + [f"{it}: only edits, FILE.edit, and none.txt stand here" for it in stray]
+        found += [f"{edit}: {edit.bad}" for edit in edits if edit.bad]
+        found += [f"{it}: only edits, FILE.edit, and none.txt stand here" for it in stray]
     return found
 
 
@@ -70,12 +72,13 @@ def page_is_made(root, _files, crates):
     return [] if said == page.whole(crates) else ["docs/EDITS.md: it differs from what tools/wrong-bodies --list prints"]
 
 
-RULES = (handles, nothing_made, stands_alone, edits_apply, page_is_made)
-
-
-def long_files(root, files):
+def files_are_short(root, files, _crates):
+    """No file of code is so long that nobody reads it to its end."""
     counted = ((it, len(lines_of(f"{root}/{it}")) - 1) for it in files if it.endswith(".rt"))
     return [f"{it}: {number} lines, over {MOST_LINES}" for it, number in counted if number > MOST_LINES]
+
+
+RULES = (handles, nothing_made, stands_alone, files_are_short, edits_apply, page_is_made)
 
 
 def long_clauses(root, files):
@@ -88,22 +91,12 @@ def long_clauses(root, files):
     return found
 
 
-def without_edit(crates):
-    found = []
-    for crate in crates:
-        public = [*dict.fromkeys(label(it) for it in public_functions(crate.folder))]
-        turned = {page.turned(edit, public)[0] for edit in of_crate(crate, FOLDERS)[0]} | {*page.without_edit(crate)}
-        found += [f"{crate.name}: {it} has no wrong body" for it in public if it not in turned]
-    return found
-
-
 def judged(root, crates):
     """How many rules hold, what breaks one, and what should be mended, by kind."""
     files = tracked(root)
     broken = [rule(root, files, crates) for rule in RULES]
     mend = {
-        "files too long": long_files(root, files),
         "clauses too long": long_clauses(root, files),
-        "public functions without a wrong body": without_edit(crates),
+        "public functions without a wrong body": [f"{it.name}: {name} has no wrong body" for it in crates for name in page.lacking(it)],
     }
     return sum(not it for it in broken), [why for it in broken for why in it], mend

@@ -1,13 +1,13 @@
 """The page of wrong bodies, made from the edits: for each crate its public functions, each with the edits that turn it.
 
 What a wrong body does stands in the edit's line `says:`. A public function whose type leaves no other answer stands in
-crates/NAME/wrong/none.txt, a line `LABEL: why` for each.
+crates/NAME/wrong/none.txt, a line `LABEL: why` for each; a line `*: why` there says that the crate needs no wrong bodies.
 """
 import os
 import re
 
 from edits import FOLDERS, of_crate
-from source import label, public_functions
+from source import label, labels
 
 HEAD = """# Wrong bodies
 
@@ -30,15 +30,22 @@ def without_edit(crate):
 
 def turned(edit, public):
     """The public function that the edit turns and the private one where it does so; '' for the first where no public one is named."""
-    held = [label(it) for it in edit.holders] or [f"{path}" for path, _ in edit.outside[:1]]
+    held = [public.get(it, label(it)) for it in edit.holders] or [path for path, _ in edit.outside[:1]] or ["what cannot be applied"]
     if edit.turns:
         return edit.turns, "" if edit.turns in held else held[0]
-    return (held[0], "") if held[0] in public else ("", held[0])
+    return (held[0], "") if held[0] in public.values() else ("", held[0])
+
+
+def lacking(crate):
+    """The public functions of the crate with no edit, and no reason why there is none."""
+    public = labels(crate.folder)
+    told = {turned(edit, public)[0] for edit in of_crate(crate, FOLDERS)[0]} | {*without_edit(crate)}
+    return [it for it in dict.fromkeys(public.values()) if it not in told and "*" not in told]
 
 
 def of_one(crate):
     """The crate's part of the page: its lines."""
-    public = [*dict.fromkeys(label(it) for it in public_functions(crate.folder))]
+    public = labels(crate.folder)
     edits, reasons = of_crate(crate, FOLDERS)[0], without_edit(crate)
     if not edits and not public:
         return []
@@ -47,20 +54,23 @@ def of_one(crate):
         name = edit.name if edit.folder == "wrong" else f"{edit.folder}/{edit.name}"
         function, place = turned(edit, public)
         if function:
-            rows.setdefault(function, []).append((f"`{function}`{f', in `{place}`' if place else ''}", f"`{name}`", edit.says))
+            where = f"`{function}`, in `{place}`" if place else f"`{function}`"
+            rows.setdefault(function, []).append((where, f"`{name}`", edit.says or edit.name.replace("_", " ")))
         else:
             further.setdefault(place, []).append(f"{name}{f' ({edit.says})' if edit.says else ''}")
+    lines = ["", f"## {crate.name}", ""]
+    if "*" in reasons:
+        lines += [f"None: {reasons.pop('*')}.", ""]
     for function, why in reasons.items():
         rows.setdefault(function, []).append((f"`{function}`", "none", why))
-    order = [*public, *sorted(it for it in rows if it not in public)]
-    lines = ["", f"## {crate.name}", ""]
+    order = [*dict.fromkeys(public.values()), *sorted(it for it in rows if it not in public.values())]
     if rows:
         lines += ["| public function | edit | what the wrong body does |", "|---|---|---|"]
         lines += [f"| {' | '.join(it)} |" for function in order for it in rows.get(function, [])]
     if further:
         told = "; ".join(f"`{place}`: {', '.join(sorted(names))}" for place, names in sorted(further.items()))
         lines += ["", f"Further edits, by the place that they change. {told}."]
-    bare = [f"`{it}`" for it in public if it not in rows]
+    bare = [f"`{it}`" for it in lacking(crate)]
     if bare:
         lines += ["", f"**Public functions without an edit**: {', '.join(bare)}."]
     return lines

@@ -1,7 +1,8 @@
 """The tool tried on a crate of its own, whose edits each have to be told for what they are.
 
-A wrong body passes. A right one, a right one whose callee alone is turned by another edit, one that does not compile, one that is
-refused for no reason of its own (the prover does not cover it), and one that changes a line in no body must be told by name.
+Wrong bodies pass, two of one function and one of a constant among them. A right one, a right one whose callee alone is turned by
+another edit, one that does not compile, one that is refused for no reason of its own (the borrow checker does not cover it), and
+one that changes a line in no body must be told by name.
 """
 import contextlib
 import io
@@ -58,22 +59,24 @@ pub fn first_of(a: u32, b: u32) -> u32
 }
 """
 
-# Each edit: what it turns into what, and how the tool has to tell of it.
+# Each edit: what it turns into what, how the tool has to tell of it, and any further line.
 EDITS = {
-    "wrong": ("    n + STEP", "    n + STEP + 1", "refused"),
-    "caller_right": ("    let first = next(n);", "    let first: u32 = next(n);", "NOT REFUSED"),
-    "right": ("    let same = n;", "    let same = n + 0;", "NOT REFUSED"),
-    "uncompiled": ("    let _b = b;", "    let _b = c;", "BAD EDIT: it does not compile"),
-    "hollow": ("    s.split_at_mut(half)", "    s.split_at_mut(s.len() / 2)", "NOT TOLD"),
-    "outside": ("const STEP: u32 = 1;", "const STEP: u32 = 2;", "BAD EDIT: line"),
+    "wrong": ("    n + STEP", "    n + STEP + 1", "refused", ""),
+    "wrong_again": ("    n + STEP", "    n", "refused", ""),
+    "constant": ("const STEP: u32 = 1;", "const STEP: u32 = 2;", "refused", "refuses: tried::next\n"),
+    "outside": ("const STEP: u32 = 1;", "const STEP: u32 = 2;", "BAD EDIT: line", ""),
+    "caller_right": ("    let first = next(n);", "    let first: u32 = next(n);", "NOT REFUSED", ""),
+    "right": ("    let same = n;", "    let same = n + 0;", "NOT REFUSED", ""),
+    "uncompiled": ("    let _b = b;", "    let _b = c;", "BAD EDIT: it does not compile", ""),
+    "hollow": ("    s.split_at_mut(half)", "    s.split_at_mut(s.len() / 2)", "NOT TOLD", ""),
 }
 
 
 def write(root):
     """Makes the repository of the throw-away crate."""
     files = {"crates.txt": "tried:\n", "crates/tried/src/lib.rt": CODE}
-    for name, (old, new, _) in EDITS.items():
-        files[f"crates/tried/wrong/{name}.edit"] = f"file: src/lib.rt\nold: {old}\nnew: {new}\n"
+    for name, (old, new, _, more) in EDITS.items():
+        files[f"crates/tried/wrong/{name}.edit"] = f"{more}file: src/lib.rt\nold: {old}\nnew: {new}\n"
     for path, text in files.items():
         os.makedirs(os.path.dirname(f"{root}/{path}"), exist_ok=True)
         with open(f"{root}/{path}", "w", encoding="utf-8") as file:
@@ -88,7 +91,7 @@ def run():
         with contextlib.redirect_stdout(said):
             (told,), stray = trial.try_all(kit.crates(root), lanes=1)
     passed, failed = 0, [*stray]
-    for name, (_, _, wanted) in EDITS.items():
+    for name, (_, _, wanted, _) in EDITS.items():
         found = next((it for it in told.failed if it.startswith(f"tried/wrong/{name}: ")), "")
         found = found or (f"refused: {told.refused[name]}" if name in told.refused else "nothing was told of it")
         is_well = found.startswith(f"tried/wrong/{name}: {wanted}" if wanted != "refused" else "refused")

@@ -238,3 +238,11 @@ def public_functions(folder):
             if is_reached:
                 found.append(it)
     return found
+
+
+def labels(folder):
+    """What a page calls each function that users of the crate can call: with its file's name, where two would be called the same."""
+    public = public_functions(folder)
+    free = [it.name for it in public if not it.head]
+    stem = lambda it: os.path.basename(it.path)[: -len(".rt")]
+    return {it: f"{stem(it)}::{it.name}" if not it.head and free.count(it.name) > 1 else label(it) for it in public}

@@ -19,7 +19,7 @@ from edits import grouped, of_crate, together
 
 # What a group's check may take, in seconds of processor: so much to load and to prove what its functions call, and so much for each edit.
 LOADING_SECONDS = 240
-EDIT_SECONDS = 15
+EDIT_SECONDS = 10
 
 
 @dataclass
@@ -30,6 +30,7 @@ class Told:
     names: list = field(default_factory=list)  # of the edits
     refused: dict = field(default_factory=dict)  # the edit to the reason by which the prover refused it
     failed: list = field(default_factory=list)  # texts, with crate, file and reason
+    weak: list = field(default_factory=list)  # edits of which the refusal says little
     checks: int = 0
     seconds: float = 0.0
     peak: int = 0
@@ -107,7 +108,8 @@ class Trial:
         """Tries a group and returns those of its edits that have to be tried again. Where it has to be parted, its halves wait."""
         functions = {name for edit in group for name in edit.functions}
         checked = self.check(together(group), functions, LOADING_SECONDS + EDIT_SECONDS * len(group))
-        why = "it takes too long" if checked.is_late else checked.unread(functions)
+        late = f"TOO LONG: no answer after {checked.seconds:.0f} seconds of processor"
+        why = late if checked.is_late else checked.unread(functions)
         if not why and len(group) > 1:
             why = self.disturbed(group, functions, checked)
         if why and len(group) > 1:
@@ -115,7 +117,7 @@ class Trial:
             waiting += [group[:half], group[half:]]
             return []
         if why:
-            self.fail(group[0], f"TOO LONG: no answer after {checked.seconds:.0f} seconds of processor" if checked.is_late else f"BAD EDIT: {why}")
+            self.fail(group[0], why)
             return []
         return [it for it in group if not self.tell(it, checked, len(group) == 1)]
 
@@ -131,6 +133,7 @@ class Trial:
                 why = own_reason(it, checked, edit.spans.get(name), by_lemma=edit.is_alone())
                 if why:
                     self.told.refused[edit.name] = f"{it}: {why}"
+                    self.told.weak += [edit.name] if why.startswith("it stands on ") and checked.only_names(it) else []
                     return True
         said = {name: checked.said[name] for name in sorted(edit.functions)}
         names = ", ".join(said)
@@ -175,7 +178,7 @@ def try_crate(crate, edits, log):
 def try_all(crates, log=None, only=(), lanes=None, verbose=False, folders=("wrong",)):
     """Tries the edits of the crates side by side, says of each crate what was told, and returns that in the order of the crates."""
     kit.guard()
-    work, failed, printing = [], [], threading.Lock()
+    work, failed, printing, held = [], [], threading.Lock(), kit.lock(crates)
     for crate in crates:
         edits, stray = of_crate(crate, folders)
         failed += [f"{it}: only edits, FILE.edit, and none.txt stand here" for it in stray]
@@ -195,6 +198,8 @@ def try_all(crates, log=None, only=(), lanes=None, verbose=False, folders=("wron
                 f"{told.seconds:.0f} seconds of processor, {told.peak / 1e9:.1f} GB at the most",
                 flush=True,
             )
+            for name in sorted(told.weak):
+                print(f"to mend: {told.crate}/{name}: its proof file names what the edit takes away, so its refusal says little")
             for why in told.failed:
                 print(f"FAILED: {why}", flush=True)
         return told
@@ -203,6 +208,8 @@ def try_all(crates, log=None, only=(), lanes=None, verbose=False, folders=("wron
     work.sort(key=lambda it: -len(it[1]) * it[0].of_kit.count(rb"\n"))
     with ThreadPoolExecutor(lanes or kit.lanes()) as pool:
         tolds = [*pool.map(one, work)]
+    for it in held:
+        os.close(it)
     for why in failed:
         print(f"FAILED: {why}")
     return tolds, failed

@@ -1,8 +1,14 @@
 -- Looking at the entries of the pool one after the other.
-use Rattle.std.proofs.Common.{◌≡◌, ℕ, zero, suc, ◌+◌, ◌-◌, Bor, Option, Some, None, ◌≤◌, ◌<◌, Bool, true, false, cond, List, [], ◌∷◌, length, map, drop, get_or, Ok, Err, refl, sym, ap, ◌∙◌, add-one, arith}
+use Rattle.std.proofs.Common.{◌≡◌, ℕ, zero, suc, ◌+◌, ◌-◌, Bor, Option, Some, None, ◌≤◌, ◌<◌, Bool, true, false, cond, List, [], ◌∷◌, length, map, drop, get_or, Result, Ok, Err, refl, sym, ap, ◌∙◌, leb, add-one, arith}
+use Rattle.std.specs.List.{AllByRecursion}
+use Rattle.std.proofs.lemmas.Bool.{and_parts, leb-true}
+use Rattle.cl_names.specs.Text.{is_text}
+use Rattle.cl_names.proofs.Texts.{text_from_test}
 use Rattle.std.proofs.Math.Seq.{drop-cons}
 use Rattle.std.proofs.lemmas.List.{drop-map, length-drop, length-map, nil_from_length}
 use Rattle.cl_classfile.specs.declared.entry.Entry.{Entry}
+use Rattle.cl_classfile.specs.declared.entry.Entry.TheVariants.{Utf8, Integer, Float, Long, Double, Unusable, Class, String, Fieldref, Methodref, InterfaceMethodref, NameAndType, MethodHandle, MethodType, InvokeDynamic}
+use Rattle.cl_classfile.specs.declared.fault.Fault.{Fault}
 use Rattle.cl_classfile.specs.declared.fault.Fault.TheVariants.{BadPool}
 use Rattle.cl_classfile.specs.declared.raw.RawEntry.{RawEntry}
 use Rattle.std.specs.Prelude.{slice_get}
@@ -10,10 +16,11 @@ use Rattle.std.specs.Option.{option_map}
 use Rattle.std.specs.Slice.{IsItemAt}
 use Rattle.std.proofs.lemmas.Option.{slice_get_past, slice_get_read}
 use Rattle.cl_classfile.specs.Pool.{at}
-use Rattle.cl_classfile.specs.Raw.{plain_entry, plain_entries}
-use Rattle.cl_classfile.specs.Rows.{entry_traits, keeps_entry}
+use Rattle.cl_classfile.specs.Raw.{plain_entry, plain_entries, HoldsText}
+use Rattle.cl_classfile.specs.Rows.{entry_traits, traits_at, keeps_entry}
 use Rattle.cl_classfile.specs.declared.traits.Traits.{Traits}
 use Rattle.cl_classfile.specs.Checking.{kept_entry, checked_entries}
+use Rattle.cl_classfile.proofs.Codec.{bind_ok}
 
 -- what a slice lends at an index, from 1 on
 lent : {X : Type 0} (xs : List X) (i : ℕ) (r : Option (Bor X)) → IsItemAt xs i r → option_map (λ x. x.now) r ≡ slice_get xs i
@@ -71,3 +78,47 @@ is_done raws i le so_far =
     let none : drop i pool ≡ [] = nil_from_length _ (omega (arith, length-drop i pool, length-map raws plain_entry)) in
     let one : checked_entries pool (i + 1) (drop i pool) ≡ Ok tt = rw none refl in
     sym so_far ∙ one
+
+-- the traits of the entry at i are its own
+own_traits : (raws : List RawEntry) (i : ℕ) (d : RawEntry) → i < length raws → traits_at (map entry_traits (plain_entries raws)) (suc i) ≡ entry_traits (plain_entry (get_or raws i d))
+own_traits [] i d lt = absurd (omega (arith, lt))
+own_traits (r ∷ raws) zero d lt = refl
+own_traits (r ∷ raws) (suc i) d lt = own_traits raws i d (omega (arith, lt))
+
+pub its_own : (traits : List Traits) (raws : List RawEntry) (i : ℕ) (d : RawEntry) → i < length raws → traits ≡ map entry_traits (plain_entries raws) → traits_at traits (i + 1) ≡ entry_traits (plain_entry (get_or raws i d))
+its_own traits raws i d lt t = rw (t, add-one) (own_traits raws i d lt)
+
+-- what holds of each entry holds of that at i
+pub each_holds : (P : Entry → Type 0) (raws : List RawEntry) (i : ℕ) (d : RawEntry) → i < length raws → AllByRecursion P (plain_entries raws) → P (plain_entry (get_or raws i d))
+each_holds P [] i d lt all = absurd (omega (arith, lt))
+each_holds P (r ∷ raws) zero d lt all = all.0
+each_holds P (r ∷ raws) (suc i) d lt all = each_holds P raws i d (omega (arith, lt)) all.1
+
+-- an entry that keeps its row holds a text, if it is one
+text_held : (traits : List Traits) (pool : List Entry) (e : Entry) → keeps_entry traits pool e ≡ true → HoldsText e
+text_held traits pool (Utf8 text) h = let b = and_parts (is_text text) (leb (length text) 65535) h in (text_from_test text b.0, leb-true _ _ b.1)
+text_held traits pool (Integer v) h = tt
+text_held traits pool (Float b) h = tt
+text_held traits pool (Long v) h = tt
+text_held traits pool (Double b) h = tt
+text_held traits pool Unusable h = tt
+text_held traits pool (Class t) h = tt
+text_held traits pool (String t) h = tt
+text_held traits pool (Fieldref c p) h = tt
+text_held traits pool (Methodref c p) h = tt
+text_held traits pool (InterfaceMethodref c p) h = tt
+text_held traits pool (NameAndType n d) h = tt
+text_held traits pool (MethodHandle k r) h = tt
+text_held traits pool (MethodType d) h = tt
+text_held traits pool (InvokeDynamic b p) h = tt
+
+row_kept : (b : Bool) (e x : Entry) (i : ℕ) → cond b (Ok e) (let r : Result Entry Fault = Err (BadPool i) in r) ≡ Ok x → b ≡ true
+row_kept true e x i h = refl
+row_kept false e x i h = absurd cc
+
+pub texts_held : (pool : List Entry) (i : ℕ) (es : List Entry) (u : Unit {0}) → checked_entries pool i es ≡ Ok u → AllByRecursion HoldsText es
+unfolding checked_entries
+texts_held pool i [] u h = tt
+texts_held pool i (e ∷ es) u h =
+    let a = bind_ok (kept_entry pool i e) (λ kept. checked_entries pool (i + 1) es) u h in
+    (text_held (map entry_traits pool) pool e (row_kept (keeps_entry (map entry_traits pool) pool e) e a.0 i a.1), texts_held pool (i + 1) es u a.2)

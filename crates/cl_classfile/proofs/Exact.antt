@@ -1,5 +1,5 @@
 -- What is read is spelled so, and what is spelled so is read.
-use Rattle.std.proofs.Common.{◌≡◌, ℕ, Bool, true, false, cond, eqb, List, [], ◌++◌, length, map, Result, Ok, Err, refl, sym, ap, subst, ◌∙◌}
+use Rattle.std.proofs.Common.{◌≡◌, ℕ, zero, suc, arith, Bool, true, false, cond, eqb, List, [], ◌∷◌, ◌++◌, length, map, Result, Ok, Err, refl, sym, ap, subst, ◌∙◌}
 use Rattle.std.specs.Prelude.{IfOk}
 use Rattle.std.proofs.lemmas.Bool.{eqb-true}
 use Rattle.std.proofs.lemmas.List.{append-nil, nil_from_length}
@@ -7,7 +7,7 @@ use Rattle.cl_classfile.specs.declared.fault.Fault.{Fault}
 use Rattle.cl_classfile.specs.declared.fault.Fault.TheVariants.{Trailing}
 use Rattle.cl_classfile.specs.declared.fault.ReadError.{ReadError}
 use Rattle.cl_classfile.specs.declared.fault.ReadError.TheVariants as errors
-use Rattle.cl_classfile.specs.Structure.{Structure, spelling, Fits, IsClassFile, Spells}
+use Rattle.cl_classfile.specs.Structure.{Structure, AreBytes, spelling, Fits, IsClassFile, Spells}
 use Rattle.cl_classfile.specs.Checking.{Gives, checked_entries, checked_tables, kept_file, parts_of}
 use Rattle.cl_classfile.specs.Rows.{entry_traits}
 use Rattle.cl_classfile.specs.Reading.{header_at, structure_at, whole_of, read_of}
@@ -85,3 +85,10 @@ read_back bytes f s = ap structure_at (s.spelled ∙ sym (append-nil (spelling f
 -- what bytes spell is one file
 pub one_file : (bytes : List ℕ) (f g : Structure) → Spells bytes f → Spells bytes g → f ≡ g
 one_file bytes f g s t = ap (λ (x : Structure × List ℕ). x.0) (ok_is (f, []) (g, []) (sym (read_back bytes f s) ∙ read_back bytes g t))
+
+-- each of the numbers of bytes is below 256, and so is what stands for none
+pub each_byte : (bytes : List ℕ) → AreBytes bytes → IsBytes bytes
+each_byte [] h zero = omega arith
+each_byte [] h (suc i) = omega arith
+each_byte (b ∷ bytes) h zero = h.0
+each_byte (b ∷ bytes) h (suc i) = each_byte bytes h.1 i

@@ -1,5 +1,6 @@
 -- What is read, without where it lies in memory.
-use Rattle.std.specs.Prelude.{List, map}
+use Rattle.std.specs.Prelude.{◌≤◌, List, length, map}
+use Rattle.cl_names.specs.Text.{IsModifiedUtf8}
 use Rattle.cl_classfile.specs.declared.entry.Entry.{Entry}
 use Rattle.cl_classfile.specs.declared.entry.Entry.TheVariants.{Utf8, Integer, Float, Long, Double, Unusable, Class, String, Fieldref, Methodref, InterfaceMethodref, NameAndType, MethodHandle, MethodType, InvokeDynamic}
 use Rattle.cl_classfile.specs.declared.raw.RawEntry.{RawEntry}
@@ -41,3 +42,8 @@ plain_file f = record {
   methods = f.methods.items;
   attributes = f.attributes.items;
 }
+
+-- where the entry is a text, it is modified UTF-8 and no longer than a class file can say (4.4.7)
+abbrev pub HoldsText : Entry → Type 0
+HoldsText (Utf8 text) = IsModifiedUtf8 text × (length text ≤ 65535)
+HoldsText _ = Unit {0}

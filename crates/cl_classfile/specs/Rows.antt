@@ -57,6 +57,7 @@ is_void _ = false
 abbrev pub traits_of : List ℕ → Traits
 traits_of text = record {
   stands = true;
+  text = is_text text;
   class = is_class_name text || is_array (form_of text);
   unqualified = is_unqualified_name text;
   method = is_method_name text;
@@ -67,7 +68,7 @@ traits_of text = record {
 
 -- of what is no text nothing is true (4.4)
 abbrev pub nothing : Traits
-nothing = record { stands = false; class = false; unqualified = false; method = false; special = names.Plain; form = None; units = None }
+nothing = record { stands = false; text = false; class = false; unqualified = false; method = false; special = names.Plain; form = None; units = None }
 
 -- what the tables ask of the text that an entry is (4.4.7)
 abbrev pub entry_traits : Entry → Traits

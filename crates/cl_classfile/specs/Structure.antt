@@ -106,6 +106,10 @@ pub record IsClassFile (f : Structure) : Type 0 where
   pub fits : Fits f
   pub kept : Keeps f
 
+-- the numbers are those of bytes (4)
+abbrev pub AreBytes : List ℕ → Type 0
+AreBytes bytes = AllByRecursion (λ b. b < 2 ^ 8) bytes
+
 -- the bytes spell the file, which keeps the tables (4.1)
 pub record Spells (bytes : List ℕ) (f : Structure) : Type 0 where
   pub fits : Fits f

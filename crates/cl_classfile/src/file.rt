@@ -7,7 +7,8 @@ ghost use Rattle.cl_classfile.specs.Structure.{Structure, at, Fits, Spells, spel
 ghost use Rattle.cl_classfile.specs.Files.{file_of, is_interface, is_public, typed, reference};
 ghost use Rattle.cl_classfile.specs.References.{plain_reference, refers, IsCited};
 ghost use Rattle.cl_names.specs.Kind.{IsNameOf, IsClass};
-ghost use Rattle.cl_classfile.specs.Raw.{plain_file};
+ghost use Rattle.std.specs.List.{AllByRecursion};
+ghost use Rattle.cl_classfile.specs.Raw.{plain_file, HoldsText};
 ghost use Rattle.cl_classfile.specs.View.{plain_parts};
 ghost use Rattle.cl_classfile.specs.Refusals.{Answers};
 ghost use Rattle.cl_classfile.specs.Checking.{Gives, checked_tables, kept_file, parts_of};
@@ -217,6 +218,7 @@ fn check_tables(alloc: Global, traits: &[Traits], parts: &Parts) -> Result<(), R
 
 /// The parts of what was read, of their own.
 fn owned_parts(alloc: Global, file: RawFile<'_>) -> Result<Parts, AllocError>
+    requires { AllByRecursion HoldsText (plain_file file).pool }
     ensures { IfOk result (λ p. plain_parts p ≡ plain_file file.entry) }
 {
     let pool = owned_entries(alloc, file.pool.as_slice())?;

@@ -1,6 +1,6 @@
 //! Laws of the grammar, each the contract of a function that does nothing.
 ghost use Rattle.std.specs.Prelude.{◌≡◌, ◌↔◌, ℕ, List, Ok};
-ghost use Rattle.cl_classfile.specs.Structure.{Structure, Fits, Keeps, Spells, spelling};
+ghost use Rattle.cl_classfile.specs.Structure.{Structure, AreBytes, Fits, Keeps, Spells, spelling};
 ghost use Rattle.cl_classfile.specs.Checking.{parts_of};
 ghost use Rattle.cl_classfile.specs.Reading.{read_of};
 
@@ -21,4 +21,11 @@ pub fn parts_are_spelled()
     ensures same { (f g : Structure) → parts_of f ≡ Ok g → f ≡ g }
     ensures spelled { (f : Structure) → (parts_of f ≡ Ok f) ↔ ((bytes : List ℕ) × Spells bytes f) }
     ensures as_read { (f : Structure) → Fits f → parts_of f ≡ read_of (spelling f) }
+{}
+
+/// The reader of lists, by which contracts say what is read and which fault comes first, finds in bytes the file that they
+/// spell, and no other: to say that it gives a file is to say that they spell the file.
+pub fn reading_finds_what_is_spelled()
+    ensures found { (bytes : List ℕ) (f : Structure) → AreBytes bytes → read_of bytes ≡ Ok f → Spells bytes f }
+    ensures all { (bytes : List ℕ) (f : Structure) → Spells bytes f → read_of bytes ≡ Ok f }
 {}

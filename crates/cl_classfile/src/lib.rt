@@ -24,7 +24,9 @@ pub use attribute::Attribute;
 pub use entry::Entry;
 pub use fault::{Fault, ReadError};
 pub use file::{ClassFile, read};
-pub use laws::{has_one_spelling, parts_are_spelled, spells_one_file};
+pub use laws::{
+    has_one_spelling, parts_are_spelled, reading_finds_what_is_spelled, spells_one_file,
+};
 pub use member::Member;
 pub use parts::{Parts, Refused};
 pub use reference::{Reference, Symbol};

@@ -221,7 +221,9 @@ fn entries_at(
     requires { count + 1 < 2 ^ 16 }
     ensures { Gives (λ x. (plain_entries x.0.items, x.1.now)) result (entries_at count bytes.now) }
 {
-    let mut entries = Vec::new(alloc);
+    // Each entry takes a byte at least, but for those behind a long or a double.
+    let room = (count as usize).min(bytes.len());
+    let mut entries = Vec::with_capacity(alloc, room)?;
     let mut rest = bytes;
     let mut taken = false;
     for i in 0..count {

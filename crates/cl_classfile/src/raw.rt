@@ -2,7 +2,8 @@
 
 ghost use Rattle.std.specs.Prelude.{◌≡◌, IfOk};
 ghost use Rattle.cl_classfile.specs.Pool.{is_wide};
-ghost use Rattle.cl_classfile.specs.Raw.{plain_entry, plain_entries};
+ghost use Rattle.std.specs.List.{AllByRecursion};
+ghost use Rattle.cl_classfile.specs.Raw.{plain_entry, plain_entries, HoldsText};
 
 use crate::entry::Entry;
 use cl_names::Name;
@@ -38,15 +39,13 @@ pub fn is_wide(entry: RawEntry<'_>) -> bool
     }
 }
 
-/// The entry of its own, with a copy of its text.
+/// The entry of its own, with a copy of its text, which was looked at before.
 fn owned(alloc: Global, entry: RawEntry<'_>) -> Result<Entry, AllocError>
+    requires { HoldsText (plain_entry entry) }
     ensures { IfOk result (λ e. e ≡ plain_entry entry.entry) }
 {
     Ok(match entry {
-        RawEntry::Utf8(text) => match Name::any(alloc, text) {
-            Ok(name) => Entry::Utf8(name),
-            Err(_) => return Err(AllocError),
-        },
+        RawEntry::Utf8(text) => Entry::Utf8(Name::of_text(alloc, text)?),
         RawEntry::Integer(value) => Entry::Integer(value),
         RawEntry::Float(bits) => Entry::Float(bits),
         RawEntry::Long(value) => Entry::Long(value),
@@ -90,6 +89,7 @@ fn owned(alloc: Global, entry: RawEntry<'_>) -> Result<Entry, AllocError>
 
 /// The entries of their own.
 pub fn owned_entries(alloc: Global, pool: &[RawEntry<'_>]) -> Result<Vec<Entry>, AllocError>
+    requires { AllByRecursion HoldsText (plain_entries pool.now) }
     ensures { IfOk result (λ v. v.items ≡ plain_entries pool.now) }
 {
     let mut entries = Vec::with_capacity(alloc, pool.len())?;

@@ -143,7 +143,8 @@ impl Listed for Member {
 fn each_at<T: Listed>(alloc: Global, count: u16, bytes: &[u8]) -> Result<(Vec<T>, &[u8]), ReadError>
     ensures { Gives (λ x. (x.0.items, x.1.now)) result (each_at T.reader count bytes.now) }
 {
-    let mut all = Vec::new(alloc);
+    let room = (count as usize).min(bytes.len());
+    let mut all = Vec::with_capacity(alloc, room)?;
     let mut rest = bytes;
     for i in 0..count {
         let (one, after) = T::read_at(alloc, rest)?;

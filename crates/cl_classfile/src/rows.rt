@@ -10,7 +10,6 @@ use crate::fault::Fault;
 use crate::raw::RawEntry;
 use crate::traits::{Special, Traits, is_call, is_field, is_void, nothing, traits_of};
 use cl_descriptors::Form;
-use cl_names::is_modified_utf8;
 use std::alloc::{AllocError, Global};
 
 fn entry_traits(entry: RawEntry<'_>) -> Traits
@@ -146,12 +145,13 @@ fn may_handle(traits: &[Traits], pool: &[RawEntry<'_>], kind: u8, reference: u16
     }
 }
 
-/// Whether the entry keeps its row of the table.
-fn keeps_entry(traits: &[Traits], pool: &[RawEntry<'_>], entry: RawEntry<'_>) -> bool
+/// Whether the entry, which has traits of its own, keeps its row of the table.
+fn keeps_entry(traits: &[Traits], pool: &[RawEntry<'_>], own: Traits, entry: RawEntry<'_>) -> bool
+    requires { own ≡ entry_traits (plain_entry entry) }
     ensures { result ≡ keeps_entry traits.now (plain_entries pool.now) (plain_entry entry.entry) }
 {
     match entry {
-        RawEntry::Utf8(text) => is_modified_utf8(text) && text.len() <= 65535,
+        RawEntry::Utf8(text) => own.text && text.len() <= 65535,
         RawEntry::Integer(_)
         | RawEntry::Float(_)
         | RawEntry::Long(_)
@@ -192,7 +192,8 @@ pub fn check_entries(traits: &[Traits], pool: &[RawEntry<'_>]) -> Result<(), Fau
     ensures { Finds (λ u. u) result (checked_entries (plain_entries pool.now) 1 (plain_entries pool.now)) }
 {
     for (i, entry) in pool.iter().enumerate() {
-        if !keeps_entry(traits, pool, *entry) {
+        let own = traits_at(traits, i as u16 + 1);
+        if !keeps_entry(traits, pool, own, *entry) {
             return Err(Fault::BadPool(i as u16 + 1));
         }
     }

@@ -3,8 +3,8 @@
 ghost use Rattle.std.specs.Prelude.{◌≡◌};
 ghost use Rattle.cl_classfile.specs.Rows.{special_of, is_field, is_array, is_call, is_void, traits_of, nothing};
 
-use cl_descriptors::{Form, form_of, units_of};
-use cl_names::{is_class_name, is_method_name, is_unqualified_name};
+use cl_descriptors::{Form, form_and_units};
+use cl_names::kinds_of;
 
 /// How a name begins that no programmer writes (JVMS SE 8, 2.9).
 #[derive(Clone, Copy)]
@@ -22,8 +22,10 @@ pub enum Special {
 /// What is true of a text, as far as entries ask.
 #[derive(Clone, Copy)]
 pub struct Traits {
-    /// It is a text at all.
+    /// An entry holds it.
     pub stands: bool,
+    /// It is modified UTF-8.
+    pub text: bool,
     /// A class's name, or the descriptor of an array.
     pub class: bool,
     /// An unqualified name.
@@ -43,6 +45,7 @@ pub fn nothing() -> Traits
 {
     Traits {
         stands: false,
+        text: false,
         class: false,
         unqualified: false,
         method: false,
@@ -106,14 +109,16 @@ pub fn is_void(form: Option<Form>) -> bool
 pub fn traits_of(text: &[u8]) -> Traits
     ensures { result ≡ traits_of text.now }
 {
-    let form = form_of(text);
+    let kinds = kinds_of(text);
+    let (form, units) = form_and_units(text);
     Traits {
         stands: true,
-        class: is_class_name(text) || is_array(form),
-        unqualified: is_unqualified_name(text),
-        method: is_method_name(text),
+        text: kinds.text,
+        class: kinds.class || is_array(form),
+        unqualified: kinds.unqualified,
+        method: kinds.method,
         special: special_of(text),
         form,
-        units: units_of(text),
+        units,
     }
 }

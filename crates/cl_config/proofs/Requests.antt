@@ -7,7 +7,6 @@ use Rattle.std.proofs.lemmas.Bool.Decides.{nat_tests}
 use Rattle.std.proofs.lemmas.List.Elements.{All-nil, All-cons}
 use Rattle.cl_model.specs.declared.request.Request.{Request}
 use Rattle.cl_model.specs.declared.request.Request.TheVariants.{Load}
-use Rattle.cl_names.specs.Kind.{IsNameOf, IsClass}
 use Rattle.cl_names.specs.Escape.{WritesName}
 use Rattle.cl_names.proofs.Escapes.{name_alone}
 use Rattle.cl_lines.specs.Lines.{Numbered, words_of}
@@ -15,11 +14,7 @@ use Rattle.cl_config.specs.declared.script.Said.{Said}
 use Rattle.cl_config.specs.declared.script.Said.TheVariants.{Ask, Then}
 use Rattle.cl_config.specs.Views.{Scripted}
 use Rattle.cl_config.specs.Scripts.{loader_named, HasLoader, HasLoaders, IsLoad, IsThen, Asks, Says, AllSay, requests_in, rounds_in, thens_in, Fits, StopsAt, Tells, IsOver, IsScript}
-use Rattle.cl_config.specs.ClassTexts.{WritesClass}
-
--- a text writes one name, so none of a class where that is none
-pub other_kind : (text name : List ℕ) → WritesName text name → (IsNameOf IsClass name → ⊥) → (other : List ℕ) → WritesClass text other → ⊥
-other_kind text name written none other t = none (subst (λ n. IsNameOf IsClass n) (sym (name_alone text name other written t.written)) t.kind)
+use Rattle.cl_names.specs.Name.{WritesClass}
 
 third_word : {a b c d e f : List ℕ} → a ∷ b ∷ c ∷ [] ≡ d ∷ e ∷ f ∷ [] → c ≡ f
 third_word h = cc

@@ -1,4 +1,3 @@
-pub mod ClassTexts
 pub mod ConfigTexts
 pub mod Configs
 pub mod Entries

@@ -3,7 +3,7 @@ use Rattle.std.specs.Prelude.{All, ◌≡◌, ℕ, ◌+◌, ◌<◌, ◌≤◌, 
 use Rattle.std.specs.Cmp.Lexicographic.{pointwise}
 use Rattle.cl_model.specs.declared.request.Request.{Request}
 use Rattle.cl_model.specs.declared.request.Request.TheVariants.{Load}
-use Rattle.cl_config.specs.ClassTexts.{WritesClass}
+use Rattle.cl_names.specs.Name.{WritesClass}
 use Rattle.cl_lines.specs.Lines.{Numbered, words_of, stated_from}
 use Rattle.cl_config.specs.Views.{Scripted}
 use Rattle.cl_config.specs.declared.script.Said.{Said}

@@ -15,6 +15,7 @@ use crate::fields::{has_only, value_at};
 use crate::loader::{Import, Loader, loaders_of};
 use crate::order::Order;
 use cl_model::LoaderId;
+use cl_names::Seed;
 use std::alloc::{AllocError, Global};
 use std::marker::Model;
 use toml::{Table, Value};
@@ -28,6 +29,7 @@ pub struct Config {
     /// The loaders' names, which are lent together.
     names: Vec<String>,
     loaders: Vec<Loader>,
+    seed: Seed,
 }
 
 impl Model for Config {
@@ -53,6 +55,23 @@ impl Config {
             Err(e) if e.is_memory() => Err(ConfigError::Memory),
             Err(_) => Err(ConfigError::Fault(ConfigFault::NotToml)),
         }
+    }
+
+    /// The same configuration with a seed for the tables of names that are made for it. One that was read has the seed
+    /// that everyone knows.
+    pub fn with_seed(self, seed: Seed) -> Config
+        ensures { result ≡ self }
+    {
+        Config {
+            names: self.names,
+            loaders: self.loaders,
+            seed,
+        }
+    }
+
+    /// What the tables of names hash with that are made for the configuration. No answer depends on it.
+    pub fn seed(&self) -> Seed {
+        self.seed
     }
 
     /// The loader of this name.
@@ -95,6 +114,13 @@ impl Config {
         ensures below { IfSome result (λ parent. parent < loader) }
     {
         self.at(loader).parent()
+    }
+
+    /// The directories of the loaders' own content, in order.
+    pub fn directories(&self, alloc: Global) -> Result<Vec<String>, AllocError>
+        ensures { IfOk result (λ v. map string_bytes v.items ≡ map (λ l. l.dir) self.now.loaders) }
+    {
+        dirs_of(alloc, self.loaders.as_slice())
     }
 
     /// Where a loader looks first.
@@ -148,7 +174,11 @@ fn config_in(alloc: Global, table: &Table) -> Result<Config, ConfigError>
     let entries = entries_in(alloc, values)?;
     let loaders = loaders_of(alloc, entries.as_slice())?;
     let names = names_of(alloc, loaders.as_slice())?;
-    Ok(Config { names, loaders })
+    Ok(Config {
+        names,
+        loaders,
+        seed: Seed::known(),
+    })
 }
 
 /// The tables at the top.
@@ -208,6 +238,17 @@ fn names_of(alloc: Global, loaders: &[Loader]) -> Result<Vec<String>, AllocError
         names.push(String::from_str(alloc, loader.name())?)?;
     }
     Ok(names)
+}
+
+/// The directories of loaders, in order.
+fn dirs_of(alloc: Global, loaders: &[Loader]) -> Result<Vec<String>, AllocError>
+    ensures { IfOk result (λ v. map string_bytes v.items ≡ map (λ l. l.dir) loaders.now) }
+{
+    let mut dirs = Vec::with_capacity(alloc, loaders.len())?;
+    for loader in loaders {
+        dirs.push(String::from_str(alloc, loader.dir())?)?;
+    }
+    Ok(dirs)
 }
 
 /// The place of the first loader of this name.

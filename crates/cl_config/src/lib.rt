@@ -14,4 +14,4 @@ pub use config::Config;
 pub use fault::{ConfigError, ConfigFault};
 pub use loader::{Import, Loader};
 pub use order::Order;
-pub use script::{Script, ScriptFault, class_name, text_is_one_script};
+pub use script::{Script, ScriptFault, text_is_one_script};

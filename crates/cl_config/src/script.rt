@@ -4,12 +4,11 @@ ghost use Rattle.std.specs.Prelude.{◌≡◌, ◌<◌, List, ℕ, [], ◌∷◌
 ghost use Rattle.cl_lines.specs.Lines.{words_of};
 ghost use Rattle.cl_config.specs.Scripts.{script_of, line_of, HasLoaders, IsScript, IsThen};
 ghost use Rattle.cl_config.specs.Views.{Scripted, names_of};
-ghost use Rattle.cl_config.specs.ClassTexts.{WritesClass};
 
 use crate::config::Config;
 use cl_lines::{Line, Stated, Words};
 use cl_model::Request;
-use cl_names::{Name, NameFault};
+use cl_names::class_name;
 use std::alloc::{AllocError, Global};
 use std::error::Error;
 use std::fmt::{self, Display, Formatter};
@@ -189,22 +188,6 @@ fn load_words(line: &str) -> Option<(&str, &str)>
         (Some(first), Some(loader), Some(name), None) if first == "load" => Some((loader, name)),
         _ => None,
     }
-}
-
-/// The class's name that escaped text writes, if it writes one.
-pub fn class_name(alloc: Global, text: &str) -> Result<Option<Name>, AllocError>
-    ensures { IfOk result (λ o. MatchOption o ((name : List ℕ) → WritesClass text.now name → ⊥) (λ name. WritesClass text.now name)) }
-{
-    let name = match Name::from_text(alloc, text) {
-        Ok(name) => name,
-        Err(NameFault::Memory) => return Err(AllocError),
-        Err(NameFault::NotModifiedUtf8) => return Ok(None),
-        Err(NameFault::BadName) => return Ok(None),
-    };
-    if !name.is_class() {
-        return Ok(None);
-    }
-    Ok(Some(name))
 }
 
 /// Adds a request of a round.

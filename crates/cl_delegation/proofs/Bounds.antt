@@ -9,7 +9,7 @@ use Rattle.cl_classfile.specs.Files.{File, file_of, is_public, is_interface}
 use Rattle.cl_classfile.specs.Checking.{◌>>=◌}
 use Rattle.cl_classfile.specs.Reading.{read_of}
 use Rattle.cl_model.specs.Content.{Content}
-use Rattle.cl_model.specs.Chains.{IsPlain, ReadsPlain}
+use Rattle.cl_model.specs.Ascents.{IsPlain, ReadsPlain}
 use Rattle.cl_model.proofs.Runs.{and_is}
 use Rattle.cl_delegation.specs.Bounds.{is_public_class, derivable}
 use Rattle.cl_config.specs.Views.{Configured}

@@ -6,7 +6,7 @@ use Rattle.std.proofs.lemmas.Bool.{eqb-true, eq-eqb}
 use Rattle.std.specs.Prelude.{option_map}
 use Rattle.std.specs.Result.{result_ok}
 use Rattle.cl_descriptors.specs.Types.{SpellsField, SpellsMethod, is_shallow, are_shallow, is_short, units_of_method}
-use Rattle.cl_descriptors.specs.Reading.{base_at, field_at, whole_field, field_of, method_of, within_field, within_method, field_form, method_form, form_of, units_of}
+use Rattle.cl_descriptors.specs.Reading.{base_at, field_at, whole_field, whole_method, field_of, method_of, within_field, within_method, field_form, method_form, form_of, units_of}
 use Rattle.cl_descriptors.specs.Answers.{IsField, IsMethod, IsFieldType, IsMethodType, FormOf, UnitsOf}
 use Rattle.cl_descriptors.specs.declared.types.FieldType.{FieldType}
 use Rattle.cl_descriptors.specs.declared.types.MethodType.{MethodType}
@@ -91,3 +91,23 @@ units_say bytes o e = subst (λ (p : Option ℕ). UnitsOf bytes p) (sym e) (unit
 pub units_told : (bytes : List ℕ) (m : MethodType) → SpellsMethod bytes m → IsMethodType m → units_of bytes ≡ Some (units_of_method m)
 unfolding units_of
 units_told bytes m s k = rw (method_read bytes m s k) refl
+
+-- ---- the form, where a method is looked for first
+
+by_first : (c : ℕ) (rest : List ℕ) (f : Form) (b : Bool) → eqb c 40 ≡ b → method_form (method_of (c ∷ rest)) ≡ Some f → form_of (c ∷ rest) ≡ Some f
+unfolding form_of method_of whole_method
+by_first c rest f true t e = rw (begins (c ∷ rest) rest (ap (λ (x : ℕ). x ∷ rest) (eqb-true c 40 t))) e
+by_first c rest f false t e = absurd (let none : Some f ≡ None = sym e ∙ rw t refl in cc)
+
+pub method_first : (bytes : List ℕ) (f : Form) → method_form (method_of bytes) ≡ Some f → form_of bytes ≡ Some f
+unfolding method_of whole_method
+method_first [] f e = absurd cc
+method_first (c ∷ rest) f e = by_first c rest f (eqb c 40) refl e
+
+or_none : (o : Option Form) → option_or o None ≡ o
+or_none None = refl
+or_none (Some f) = refl
+
+pub field_else : (bytes : List ℕ) → method_form (method_of bytes) ≡ None → form_of bytes ≡ field_form (field_of bytes)
+unfolding form_of
+field_else bytes e = ap (option_or (field_form (field_of bytes))) e ∙ or_none (field_form (field_of bytes))

@@ -7,10 +7,8 @@ mod naming;
 mod piece;
 mod reading;
 mod spelling;
-#[cfg(test)]
-mod tests;
 mod types;
 
 pub use laws::{equal_types_are_the_same, one_field_spelling, one_method_spelling};
-pub use reading::{form_of, read_field, read_method, units_of};
+pub use reading::{form_and_units, form_of, read_field, read_method, units_of};
 pub use types::{Base, Descriptor, DescriptorFault, FieldType, Form, MethodType, Params};

@@ -256,3 +256,33 @@ pub fn units_of(bytes: &[u8]) -> Option<usize>
 {
     parameter_units(bytes)
 }
+
+#[tactic(auto, unfolding(crate::specs::Reading::method_of, crate::specs::Reading::units_of))]
+fn method_form_and_units(bytes: &[u8]) -> (Option<Form>, Option<usize>)
+    ensures form { result.0 ≡ method_form (method_of bytes.now) }
+    ensures units { result.1 ≡ units_of bytes.now }
+{
+    let Some(outline) = outline_of(bytes) else {
+        return (None, None);
+    };
+    if !outline.is_shallow() || !outline.is_short() {
+        return (None, None);
+    }
+    let form = match &outline.ret {
+        Some(_) => Form::Method,
+        None => Form::Void,
+    };
+    (Some(form), Some(outline.tally.units))
+}
+
+/// What `form_of` and `units_of` answer, by one reading of the bytes (JVMS SE 8, 4.3).
+pub fn form_and_units(bytes: &[u8]) -> (Option<Form>, Option<usize>)
+    ensures form { result.0 ≡ form_of bytes.now }
+    ensures units { result.1 ≡ units_of bytes.now }
+{
+    let (form, units) = method_form_and_units(bytes);
+    match form {
+        Some(_) => (form, units),
+        None => (field_form(bytes), units),
+    }
+}

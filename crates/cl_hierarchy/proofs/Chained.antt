@@ -9,7 +9,7 @@ use Rattle.cl_model.specs.Content.{Content, content_at}
 use Rattle.cl_model.specs.Homes.{World, home}
 use Rattle.cl_model.specs.Classes.{class, Error, NoClassDef, is_own, named, read_found, HasFile}
 use Rattle.cl_model.specs.Classes as classes
-use Rattle.cl_model.specs.Chains.{Waiting, first_or, stands_in, IsChain, NoneWaitsTwice}
+use Rattle.cl_model.specs.Ascents.{Waiting, first_or, stands_in, IsAscent, NoneWaitsTwice}
 use Rattle.cl_config.specs.Views.{Configured}
 use Rattle.cl_model.specs.Worlds.{seen}
 use Rattle.cl_delegation.specs.Worlds.{world_of}
@@ -66,7 +66,7 @@ pub root_waits : (w : Walked) → first_or (map waiting w.drafts) w.at ≡ root 
 root_waits w = first_waiting w.drafts w.at
 
 module _ (c : Configured) (content : Content) (one : length c.names ≡ 1) where
-  linked : (loader : ℕ) (ds : List Drafted) (at : List ℕ) → loader < length c.names → AllByRecursion (DraftAt (Some content) loader) ds → Linked ds at → IsChain (world_of c content) loader (map waiting ds) at
+  linked : (loader : ℕ) (ds : List Drafted) (at : List ℕ) → loader < length c.names → AllByRecursion (DraftAt (Some content) loader) ds → Linked ds at → IsAscent (world_of c content) loader (map waiting ds) at
   linked loader [] at below drafts links = tt
   linked loader (d ∷ ds) at below drafts links =
       let w = world_of c content in
@@ -78,5 +78,5 @@ module _ (c : Configured) (content : Content) (one : length c.names ≡ 1) where
         linked loader ds at below drafts.1 links.1,
       )
 
-  pub walk_is_chain : (w : Walked) → w.loader < length c.names → IsWalk (Some content) w → IsChain (world_of c content) w.loader (map waiting w.drafts) w.at
+  pub walk_is_chain : (w : Walked) → w.loader < length c.names → IsWalk (Some content) w → IsAscent (world_of c content) w.loader (map waiting w.drafts) w.at
   walk_is_chain w below walk = linked w.loader w.drafts w.at below walk.drafts walk.linked

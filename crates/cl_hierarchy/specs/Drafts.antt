@@ -38,11 +38,4 @@ pub record Misread : Type 0 where
 -- a fault of the form, as it is told (5.3.5)
 abbrev pub fault_as : Fault → DraftFault
 fault_as faults.Version = drafts.Version
-fault_as faults.BadMagic = drafts.Format faults.BadMagic
-fault_as faults.Truncated = drafts.Format faults.Truncated
-fault_as faults.Trailing = drafts.Format faults.Trailing
-fault_as (faults.BadPool i) = drafts.Format (faults.BadPool i)
-fault_as faults.BadFlags = drafts.Format faults.BadFlags
-fault_as faults.BadMember = drafts.Format faults.BadMember
-fault_as faults.Duplicate = drafts.Format faults.Duplicate
-fault_as faults.BadSupertype = drafts.Format faults.BadSupertype
+fault_as fault = drafts.Format fault

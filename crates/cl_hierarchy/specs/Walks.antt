@@ -6,17 +6,17 @@ use Rattle.cl_classfile.specs.Files.{file_of}
 use Rattle.cl_model.specs.Content.{Content}
 use Rattle.cl_hierarchy.specs.Drafts.{IsDraft, Drafted}
 
--- the name is one of these (own choice)
+-- the name is one of these
 abbrev pub has : List ℕ → List (List ℕ) → Bool
 has n [] = false
 has n (x ∷ xs) = pointwise nat_eq n x || has n xs
 
--- no name stands twice (own choice)
+-- no name stands twice
 abbrev pub Distinct : List (List ℕ) → Type 0
 Distinct [] = Unit {0}
 Distinct (x ∷ xs) = (has x xs ≡ false) × Distinct xs
 
--- the first of these, or this one (own choice)
+-- the first of these, or this one
 abbrev pub head_or : List (List ℕ) → List ℕ → List ℕ
 head_or [] n = n
 head_or (x ∷ xs) n = x
@@ -44,7 +44,7 @@ abbrev pub Linked : List Drafted → List ℕ → Type 0
 Linked [] at = Unit {0}
 Linked (d ∷ ds) at = ((file_of d.file).super_name ≡ Some (head_or (names ds) at)) × Linked ds at
 
--- the most classes that a walk may have (own choice)
+-- the most classes that a walk may have
 unfoldable pub most : ℕ
 most = 18446744073709551615
 

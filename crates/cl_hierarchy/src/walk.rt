@@ -105,9 +105,11 @@ impl<T: Told> Walk<T> {
             Ok(()) => {}
             Err(_) => return Err(PushRefused { draft, above }),
         }
+        // brings that the draft is its class's, where a content is told
         let _ = draft.super_name();
         let name = mem::replace(&mut self.at, above);
         put(&mut self.drafts, name, draft);
+        // brings that so many are counted by a `usize`
         let _ = self.drafts.len();
         Ok(())
     }

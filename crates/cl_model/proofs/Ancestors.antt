@@ -1,5 +1,5 @@
 -- A lineage has each class once, and its direct supertypes before it.
-use Rattle.std.proofs.Common.{◌≡◌, inl, inr, ℕ, Bool, true, false, ◌||◌, if◌then◌else◌, List, [], ◌∷◌, ◌++◌, refl, sym, ap, subst, ◌∙◌}
+use Rattle.std.proofs.Common.{◌≡◌, inl, inr, Bool, true, false, ◌||◌, if◌then◌else◌, List, [], ◌∷◌, ◌++◌, refl, sym, ap, subst, ◌∙◌}
 use Rattle.std.specs.List.{AllByRecursion}
 use Rattle.std.proofs.lemmas.Cmp.{nat_eq_equiv, nat_list_eq_equiv}
 use Rattle.cl_classfile.specs.Files.{Name}
@@ -13,7 +13,7 @@ use Rattle.cl_model.proofs.Trees.{all_two}
 
 -- ---- classes among others
 
-same_self : (c : Class) → same_class c c ≡ true
+pub same_self : (c : Class) → same_class c c ≡ true
 same_self c = rw (nat_eq_equiv.refl c.loader) (rw (nat_list_eq_equiv.refl c.name) refl)
 
 pub among_first : (cs : List Class) (c : Class) → is_among (c ∷ cs) c ≡ true

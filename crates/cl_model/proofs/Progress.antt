@@ -187,7 +187,7 @@ abbrev IsEntry : Need → Type 0
 IsEntry (Entry loader name place) = Unit {0}
 IsEntry (Equal name a b) = ⊥
 
-abbrev IsEquality : Need → Type 0
+abbrev pub IsEquality : Need → Type 0
 IsEquality (Entry loader name place) = ⊥
 IsEquality (Equal name a b) = Unit {0}
 
@@ -204,7 +204,7 @@ equal_is : (name : Name) (a b : ℕ) (t : Bool) → IsEquality (if t then Equal 
 equal_is name a b true = tt
 equal_is name a b false = tt
 
-equals_are : (names : List Name) (a b : ℕ) → AllByRecursion IsEquality (map (λ (n : Name). if nat_le a b then Equal n a b else Equal n b a) names)
+pub equals_are : (names : List Name) (a b : ℕ) → AllByRecursion IsEquality (map (λ (n : Name). if nat_le a b then Equal n a b else Equal n b a) names)
 equals_are [] a b = tt
 equals_are (n ∷ names) a b = (equal_is n a b (nat_le a b), equals_are names a b)
 
@@ -266,7 +266,7 @@ if_are : (b : Bool) (xs ys : List Need) → AllByRecursion IsEquality xs → All
 if_are true xs ys p q = p
 if_are false xs ys p q = q
 
-flat_are : {A : Type 0} (f : A → List Need) → ((x : A) → AllByRecursion IsEquality (f x)) → (xs : List A) → AllByRecursion IsEquality (flat_map f xs)
+pub flat_are : {A : Type 0} (f : A → List Need) → ((x : A) → AllByRecursion IsEquality (f x)) → (xs : List A) → AllByRecursion IsEquality (flat_map f xs)
 flat_are f h [] = tt
 flat_are f h (x ∷ xs) = all_two IsEquality (f x) (flat_map f xs) (h x) (flat_are f h xs)
 
@@ -274,7 +274,7 @@ inherited_are : (key : Key) (j : Kin) (o : Option Kin) → AllByRecursion IsEqua
 inherited_are key j None = tt
 inherited_are key j (Some a) = equals_are (class_names key.descriptor) a.class.loader j.class.loader
 
-constraints_are : (c : Kin) → AllByRecursion IsEquality (constraints_of c)
+pub constraints_are : (c : Kin) → AllByRecursion IsEquality (constraints_of c)
 constraints_are c =
     all_two IsEquality (flat_map (for_declared c) c.file.methods) (if is_interface c.file then [] else flat_map (λ j. flat_map (for_inherited c j) j.file.methods) (superinterfaces c))
     (flat_are (for_declared c) (λ m. if_are (takes_part m.key c) _ [] (all_two IsEquality (if is_interface c.file then [] else equals_with m.key c.class.loader (overridden m.key c)) (equals_with m.key c.class.loader (filter (takes_part m.key) (superinterfaces c)))
@@ -306,7 +306,7 @@ forest_kept w s c (Tree t f sup ints rest) (a ∷ more) closed all h =
     (forest_kept w s t ints (superinterfaces_of f) closed (all_right (Stands w s t) (superclass_of f) (superinterfaces_of f) above) h.2))
     ((rec, record { has_file = h.0.has_file; above = h.1; over = h.2 }), forest_kept w s c rest more closed all.1 h.3)
 
-once_kept : (P : Kin → Type 0) (seen : List Class) (ks : List Kin) → AllByRecursion P ks → AllByRecursion P (once_after seen ks)
+pub once_kept : (P : Kin → Type 0) (seen : List Class) (ks : List Kin) → AllByRecursion P ks → AllByRecursion P (once_after seen ks)
 once_kept P seen [] h = tt
 once_kept P seen (k ∷ ks) h = at (is_among seen k.class) (once_kept P seen ks h.1) (once_kept P (k.class ∷ seen) ks h.1)
   where

@@ -9,13 +9,13 @@ use Rattle.cl_model.specs.Classes.{class, Error, ClassNotFound, NoClassDef, name
 use Rattle.cl_model.specs.Lineages.{Kin}
 use Rattle.cl_model.specs.States.{State, Need, Verdict, Wrong, Said, answer_to, AllMet}
 use Rattle.cl_model.specs.Works.{Made}
-use Rattle.cl_model.specs.Plans.{derive, load, Request, Resolve, loaded_by, go_on_with, Plan, plan_after, plan_from, plan, needs_of}
+use Rattle.cl_model.specs.Plans.{derive, load, Request, Resolve, loaded_by, go_on_with, Plan, ending, plan_after, plan_from, plan, needs_of}
 use Rattle.cl_model.specs.Machine.{Setting, HasLineage, IsPlan, Answers, AnswersPlan, AnswersReference, IsSound, Scheduled}
 use Rattle.cl_model.proofs.Bind.{some_same}
 use Rattle.cl_model.proofs.Derived.{load_ok}
 use Rattle.cl_model.proofs.Runs.{names_equal}
 use Rattle.cl_model.proofs.Ending.{if_some}
-use Rattle.cl_model.proofs.Planned.{one_plan}
+use Rattle.cl_model.proofs.Planned.{one_plan, one_resolution}
 use Rattle.cl_model.proofs.Sound.{one_plan_answer}
 use Rattle.cl_model.proofs.Trees.{derive_gives}
 
@@ -85,6 +85,23 @@ reference_answered g s loader name i p d v is r met h =
       resolved = record { kin = x.kin; above = x.lineage; height = is.height; made = x.goes_on };
       answered = subst (λ (y : Plan). Answers s y.more y.ends v) x.is after;
     }
+
+-- where the first part of the needs is met, the answer of the second is that of both
+pub answers_before : (s : State) (own more : List Need) (ends v : Verdict) → AllMet s own → Answers s more ends v → Answers s (own ++ more) ends v
+answers_before s [] more ends v m h = h
+answers_before s (n ∷ own) more ends v m h = inl (m.0, answers_before s own more ends v m.1 h)
+
+pub reference_is_plan : (g : Setting) (s : State) (loader : ℕ) (name : Name) (i : ℕ) (p : Plan) (d : Class) (v : Verdict) → IsPlan g.world (Resolve loader name i) p → p.reached ≡ Some d → AllMet s p.own → AnswersReference g s d i v → AnswersPlan g s (Resolve loader name i) v
+reference_is_plan g s loader name i p d v is r met a =
+    let x = reached g.world is.height (Resolve loader name i) p d is.planned r in
+    let same : a.made ≡ x.rest = one_resolution g.world d i a.made x.rest a.resolved (record { kin = x.kin; above = x.lineage; height = is.height; made = x.goes_on }) in
+    let more : Answers s x.rest.needs (ending x.rest.ends) v = subst (λ (m : Made Verdict). Answers s m.needs (ending m.ends) v) same a.answered in
+    record { plan = p; planned = is; answered = answers_before s p.own p.more p.ends v met (subst (λ (y : Plan). Answers s y.more y.ends v) (sym x.is) more) }
+
+pub plan_is_reference : (g : Setting) (s : State) (loader : ℕ) (name : Name) (i : ℕ) (p : Plan) (d : Class) (v : Verdict) → IsPlan g.world (Resolve loader name i) p → p.reached ≡ Some d → AllMet s p.own → AnswersPlan g s (Resolve loader name i) v → AnswersReference g s d i v
+plan_is_reference g s loader name i p d v is r met a =
+    let same : a.plan ≡ p = one_plan g.world (Resolve loader name i) a.plan p a.planned is in
+    reference_answered g s loader name i p d v is r met (subst (λ (y : Plan). Answers s (needs_of y) y.ends v) same a.answered)
 
 -- ---- equal requests and equal references are answered alike
 

@@ -1,19 +1,20 @@
 -- What the examples of runs rest on.
-use Rattle.std.proofs.Common.{◌≡◌, ◌≢◌, ℕ, [], ◌∷◌, List, Option, Some, None, Ok, Err, sym, subst, ◌∙◌, refl, codes}
+use Rattle.std.proofs.Common.{ap, inl, inr, Result, slice_get, ◌≡◌, ◌≢◌, ℕ, [], ◌∷◌, List, Option, Some, None, Ok, Err, sym, subst, ◌∙◌, refl, codes}
 use Rattle.std.specs.Prelude.{Contains}
-use Rattle.cl_classfile.specs.Files.{Name}
+use Rattle.cl_classfile.specs.Files.{Name, File}
 use Rattle.cl_model.specs.declared.class.Class.{Class}
 use Rattle.cl_model.specs.Homes.{World}
 use Rattle.cl_model.specs.Classes.{class, Error, ClassNotFound, IsGood}
 use Rattle.cl_model.specs.Lineages.{Kin, Bare, alone}
-use Rattle.cl_model.specs.States.{State, Verdict, Entry, Equal, Equality, Joined, IsPath, MayAdd, recorded}
+use Rattle.cl_model.specs.States.{State, Verdict, Need, Met, Said, Entry, Equal, Equality, Joined, IsPath, MayAdd, recorded}
 use Rattle.cl_model.specs.Works.{Made}
-use Rattle.cl_model.specs.Plans.{derive, resolve}
-use Rattle.cl_model.specs.Machine.{HasLineage, IsResolution}
+use Rattle.cl_model.specs.Plans.{derive, resolve, Plan, Request}
+use Rattle.cl_model.specs.Machine.{HasLineage, IsResolution, Answers, Setting, Scheduled, IsPlan, RestsOn, MayPost, MaySay}
 use Rattle.cl_model.specs.Examples.{in_boot, in_app, in_plug, root}
-use Rattle.cl_model.specs.ExampleReferences.{svc}
+use Rattle.cl_model.specs.ExampleReferences.{svc, use_of_svc, service}
 use Rattle.cl_model.specs.ExampleRuns.{overridden_service, user}
 use Rattle.cl_model.proofs.Derived.{derive_yields}
+use Rattle.cl_model.proofs.Planned.{one_plan}
 use Rattle.cl_model.proofs.Refusals.{no_equality, missing}
 
 -- work that computes
@@ -73,3 +74,45 @@ made_of_svc = the_made (resolve overridden_service 3 kin_of_use 1)
 
 pub resolution_of_svc : IsResolution overridden_service (in_plug "p/Use") 1 made_of_svc
 resolution_of_svc = record { kin = kin_of_use; above = lineage_of_use; height = 3; made = refl }
+
+-- ---- the reference of the world of a service
+
+abbrev pub kin_of_user : Kin
+kin_of_user = record { class = in_plug "p/Use"; file = use_of_svc; superclass = alone kin_of_object; interfaces = Bare }
+
+-- how its reference is resolved
+abbrev pub made_of_service : Made Verdict
+made_of_service = the_made (resolve service 3 kin_of_user 1)
+
+pub resolution_of_service : IsResolution service (in_plug "p/Use") 1 made_of_service
+resolution_of_service = record {
+  kin = kin_of_user;
+  above = record { height = 3; made = the_made (derive service 3 [] (in_plug "p/Use")); derived = refl; ends = refl };
+  height = 3;
+  made = refl;
+}
+
+-- ---- what tells that a step is too early
+
+-- classes of two loaders are two
+pub other_loader : {a b : Class} → a.loader ≢ b.loader → a ≡ b → ⊥
+other_loader differ e = differ (ap (λ (c : Class). c.loader) e)
+
+pub same_file : {f g : File} → (r : Result File Error) → r ≡ Ok f → r ≡ Ok g → f ≡ g
+same_file r a b = cc
+
+-- a need that stands is not the one that is refused
+pub past : (s : State) (n : Need) (ns : List Need) (ends v : Verdict) → Met s n → Answers s (n ∷ ns) ends v → Answers s ns ends v
+past s n ns ends v m (inl a) = a.1
+past s n ns ends v m (inr r) = absurd (r.0.unmet m)
+
+-- what may be posted for a request may be said of it
+pub said_of : (g : Setting) (s : State) (q : ℕ) (e : Scheduled) (v : Verdict) → slice_get g.script q ≡ Some e → MayPost g s q (Said v) → MaySay g s e.request v
+said_of g s q e v asked h = subst (λ (d : Scheduled). MaySay g s d.request v) (same h.scheduled e (slice_get g.script q) h.asked asked) h.may_answer
+  where
+    same : (a b : Scheduled) (o : Option Scheduled) → o ≡ Some a → o ≡ Some b → a ≡ b
+    same a b o x y = cc
+
+-- and it rests on what that plan says
+pub rests_of : (g : Setting) (s : State) (q : Request) (p : Plan) (v : Verdict) → IsPlan g.world q p → MaySay g s q v → RestsOn s q p v
+rests_of g s q p v planned h = subst (λ (r : Plan). RestsOn s q r v) (one_plan g.world q h.plan p h.planned planned) h.rests

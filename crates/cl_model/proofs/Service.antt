@@ -4,17 +4,16 @@ use Rattle.std.proofs.lemmas.Cmp.{nat_eq_equiv}
 use Rattle.cl_classfile.specs.Files.{Name}
 use Rattle.cl_model.specs.Homes.{World}
 use Rattle.cl_model.specs.Classes.{class}
-use Rattle.cl_model.specs.States.{State, Need, Entry, Equal, Verdict, Answer, Said, recorded, Met, MayAdd, IsNext, added}
+use Rattle.cl_model.specs.States.{State, Need, Entry, Equal, Verdict, Answer, recorded, Met, MayAdd, IsNext, added}
 use Rattle.cl_model.specs.Plans.{Request, Load, Resolve, Plan, needs_of}
 use Rattle.cl_model.specs.Machine.{Setting, Scheduled, Step, Define, Post, IsPlan, Answers, AnswersPlan, MaySay, after, state_after, step_for, Run, May}
 use Rattle.cl_model.specs.Service.{Want, ToStand, to_stand, IsFirst, HasWants, IsNextNeed, IsNextStep, IsOver, ComesTo, MayEnd, Serves, IsBegun, PassesRounds, AllServed}
 use Rattle.cl_model.proofs.Runs.{joined_self, joined_link, last_linked, record_found}
-use Rattle.cl_model.proofs.Planned.{one_plan}
 use Rattle.cl_model.proofs.Progress.{step_adds}
 
 -- ---- a need that may be added is met once its step was made
 
-no_record : (s : State) (loader place : ℕ) (name : Name) → MayAdd s (Entry loader name place) → (o : Option ℕ) → recorded s.records loader name ≡ o → o ≡ None
+pub no_record : (s : State) (loader place : ℕ) (name : Name) → MayAdd s (Entry loader name place) → (o : Option ℕ) → recorded s.records loader name ≡ o → o ≡ None
 no_record s loader place name may None h = refl
 no_record s loader place name may (Some p) h =
     absurd (may.fits (record {
@@ -35,7 +34,7 @@ made_met s n may = subst (λ (t : State). Met t n) (sym (step_adds s n)) (added_
 
 -- ---- needs as wants
 
-to_stand_both : (xs ys : List Need) → to_stand (xs ++ ys) ≡ to_stand xs ++ to_stand ys
+pub to_stand_both : (xs ys : List Need) → to_stand (xs ++ ys) ≡ to_stand xs ++ to_stand ys
 to_stand_both [] ys = refl
 to_stand_both (x ∷ xs) ys = ap (λ (l : List Want). ToStand x ∷ l) (to_stand_both xs ys)
 

@@ -1,4 +1,4 @@
--- Loads along a chain that end ill: their plans need nothing, and end in what stops the chain.
+-- Loads along an ascent that end ill: their plans need nothing, and end in what stops the ascent.
 use Rattle.std.proofs.Common.{◌≡◌, inl, inr, ℕ, suc, Bool, true, false, ◌==◌, ◌&&◌, ◌||◌, List, [], ◌∷◌, ◌++◌, Option, Some, None, Result, Ok, Err, refl, sym, ap, subst, ◌∙◌, nat_eq, arith}
 use Rattle.std.specs.Prelude.{option_map}
 use Rattle.std.proofs.lemmas.Cmp.{nat_eq_equiv}
@@ -12,14 +12,14 @@ use Rattle.cl_model.specs.States.{State, Need, Verdict, IsClass, Wrong}
 use Rattle.cl_model.specs.Works.{Work, Made, Ask, ask, or_fail, of_result, after_made, go_on, ◌>>=◌}
 use Rattle.cl_model.specs.Plans.{load_by, loads_above, derive_new, derive, load, Request, Load, Plan, plan_from}
 use Rattle.cl_model.specs.Machine.{Setting, Answers, AnswersPlan}
-use Rattle.cl_model.specs.Chains.{Waiting, first_or, stands_in, IsChain, NoneWaitsTwice, absent_of, EndsAtOnce}
+use Rattle.cl_model.specs.Ascents.{Waiting, first_or, stands_in, IsAscent, NoneWaitsTwice, absent_of, EndsAtOnce}
 use Rattle.cl_model.proofs.Bind.{ok_same, err_same, ok_not_err}
 use Rattle.cl_model.proofs.Heights.{loaded, found, sought, checked, interfaces_next, superclass_next, circle_or}
 use Rattle.cl_model.proofs.Runs.{names_equal}
 use Rattle.cl_model.proofs.Complete.{or_true}
 use Rattle.cl_model.proofs.Ending.{file_at_home}
 use Rattle.cl_model.proofs.Looks.{planned_at}
-use Rattle.cl_model.proofs.Chains.{up_to, one_above, append_nil}
+use Rattle.cl_model.proofs.Ascents.{up_to, one_above, append_nil}
 
 -- ---- work without needs
 
@@ -142,7 +142,7 @@ and_false a b h = rw h refl
 and_true : (a b : Bool) → a ≡ true → b ≡ true → (a && b) ≡ true
 and_true a b h k = rw (h, k) refl
 
--- the path that a derivation takes along a chain
+-- the path that a derivation takes along an ascent
 abbrev along : ℕ → List Waiting → List Class → List Class
 along l [] path = path
 along l (x ∷ xs) path = along l xs (class x.name l ∷ path)
@@ -179,17 +179,17 @@ along_none l (x ∷ xs) path name p h =
     let o = or_false (same_name name x.name) (stands_in xs name) h in
     along_none l xs (class x.name l ∷ path) name (both_false (same_class (class name l) (class x.name l)) (is_among path (class name l)) (and_false (same_name name x.name) (l == l) o.0) p) o.1
 
--- what stands on a chain is at home
-home_stood : (w : World) (l : ℕ) (xs : List Waiting) (at name : Name) → IsChain w l xs at → stands_in xs name ≡ true → home w l name ≡ Some l
+-- what stands on an ascent is at home
+home_stood : (w : World) (l : ℕ) (xs : List Waiting) (at name : Name) → IsAscent w l xs at → stands_in xs name ≡ true → home w l name ≡ Some l
 home_stood w l [] at name c h = absurd cc
 home_stood w l (x ∷ xs) at name c h = elim (or_true (same_name name x.name) (stands_in xs name) h) [
   | inl same ↦ subst (λ (n : Name). home w l n ≡ Some l) (sym (names_equal name x.name same)) (file_at_home w (class x.name l) x.file c.0.has_file)
   | inr later ↦ home_stood w l xs at name c.1 later
 ]
 
--- ---- up along a chain
+-- ---- up along an ascent
 
-walk_ill : (w : World) (l : ℕ) (x : Waiting) (xs : List Waiting) (at : Name) (e : Error) (path : List Class) (n : ℕ) → IsChain w l (x ∷ xs) at → NoneWaitsTwice (x ∷ xs) → Apart l path (x ∷ xs)
+walk_ill : (w : World) (l : ℕ) (x : Waiting) (xs : List Waiting) (at : Name) (e : Error) (path : List Class) (n : ℕ) → IsAscent w l (x ∷ xs) at → NoneWaitsTwice (x ∷ xs) → Apart l path (x ∷ xs)
     → EndsIll (load_by w (derive w n (along l (x ∷ xs) path)) NoClassDef l at) e → (h : ℕ) × EndsIll (derive w h path (class x.name l)) e
 walk_ill w l x [] at e path n c once apart k =
     let t = class x.name l in
@@ -203,7 +203,7 @@ walk_ill w l x (y ∷ ys) at e path n c once apart k =
           (load_ill w (derive w up.0 (t ∷ path)) NoClassDef l y.name e own up.1)),
     )
 
-load_along : (w : World) (l : ℕ) (x : Waiting) (xs : List Waiting) (at : Name) (e : Error) (n : ℕ) → IsChain w l (x ∷ xs) at → NoneWaitsTwice (x ∷ xs)
+load_along : (w : World) (l : ℕ) (x : Waiting) (xs : List Waiting) (at : Name) (e : Error) (n : ℕ) → IsAscent w l (x ∷ xs) at → NoneWaitsTwice (x ∷ xs)
     → EndsIll (load_by w (derive w n (along l (x ∷ xs) [])) NoClassDef l at) e → (h : ℕ) × EndsIll (load w h ClassNotFound l x.name) e
 load_along w l x xs at e n c once k =
     let up = walk_ill w l x xs at e [] n c once (nothing_apart l (x ∷ xs)) k in
@@ -233,14 +233,14 @@ plan_at_once w n l name e k = record {
 }
 
 -- what is looked for has no home
-pub missing_stops : (w : World) (l : ℕ) (xs : List Waiting) (at : Name) → IsChain w l xs at → NoneWaitsTwice xs → home w l at ≡ None → EndsAtOnce w (Load l (first_or xs at)) (Wrong (absent_of xs (class at l)))
+pub missing_stops : (w : World) (l : ℕ) (xs : List Waiting) (at : Name) → IsAscent w l xs at → NoneWaitsTwice xs → home w l at ≡ None → EndsAtOnce w (Load l (first_or xs at)) (Wrong (absent_of xs (class at l)))
 missing_stops w l [] at c once h = plan_at_once w 0 l at (ClassNotFound (class at l)) (load_missing w (derive w 0 []) ClassNotFound l at h)
 missing_stops w l (x ∷ xs) at c once h =
     let up = load_along w l x xs at (NoClassDef (class at l)) 0 c once (load_missing w (derive w 0 (along l (x ∷ xs) [])) NoClassDef l at h) in
     plan_at_once w up.0 l x.name (NoClassDef (class at l)) up.1
 
 -- the bytes of what is looked for are not its class
-pub faulty_stops : (w : World) (l : ℕ) (xs : List Waiting) (at : Name) (e : Error) → IsChain w l xs at → NoneWaitsTwice xs → stands_in xs at ≡ false → home w l at ≡ Some l → file_of w (class at l) ≡ Err e → EndsAtOnce w (Load l (first_or xs at)) (Wrong e)
+pub faulty_stops : (w : World) (l : ℕ) (xs : List Waiting) (at : Name) (e : Error) → IsAscent w l xs at → NoneWaitsTwice xs → stands_in xs at ≡ false → home w l at ≡ Some l → file_of w (class at l) ≡ Err e → EndsAtOnce w (Load l (first_or xs at)) (Wrong e)
 faulty_stops w l [] at e c once new h f =
     plan_at_once w 1 l at e (load_ill w (derive w 1 []) ClassNotFound l at e h (pass_ill w 0 [] (class at l) e refl (new_faulty w (derive w 0 (class at l ∷ [])) (class at l) e f)))
 faulty_stops w l (x ∷ xs) at e c once new h f =
@@ -251,7 +251,7 @@ faulty_stops w l (x ∷ xs) at e c once new h f =
     plan_at_once w up.0 l x.name e up.1
 
 -- what is looked for waits already
-pub circle_stops : (w : World) (l : ℕ) (xs : List Waiting) (at : Name) → IsChain w l xs at → NoneWaitsTwice xs → stands_in xs at ≡ true → EndsAtOnce w (Load l (first_or xs at)) (Wrong (ClassCircularity (class at l)))
+pub circle_stops : (w : World) (l : ℕ) (xs : List Waiting) (at : Name) → IsAscent w l xs at → NoneWaitsTwice xs → stands_in xs at ≡ true → EndsAtOnce w (Load l (first_or xs at)) (Wrong (ClassCircularity (class at l)))
 circle_stops w l [] at c once again = absurd cc
 circle_stops w l (x ∷ xs) at c once again =
     let path = along l (x ∷ xs) [] in

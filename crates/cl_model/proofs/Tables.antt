@@ -1,6 +1,6 @@
 -- Tables that can be trusted are consistent, and those of a run can be trusted.
 use Rattle.std.proofs.Common.{◌≡◌, ◌≢◌, ◌⊎◌, inl, inr, ℕ, Bool, true, false, ◌==◌, if◌then◌else◌, List, [], ◌∷◌, ◌++◌, Option, Some, None, Result, Ok, Err, refl, sym, ap, subst, ◌∙◌, append_assoc}
-use Rattle.std.specs.Prelude.{option_map, find}
+use Rattle.std.specs.Prelude.{option_map, find, slice_get, Contains}
 use Rattle.std.proofs.lemmas.Cmp.{nat_eq_equiv}
 use Rattle.std.proofs.lemmas.List.{append-nil}
 use Rattle.cl_classfile.specs.Files.{Name}
@@ -11,7 +11,7 @@ use Rattle.cl_model.specs.Lineages.{Kin}
 use Rattle.cl_model.specs.States.{State, start, Record, Posted, Need, Entry, Equal, Verdict, IsClass, IsArrayOf, IsArrayOfBase, IsField, IsMethod, IsLinked, BadEntry, ArrayMember, Wrong, Linkage, Answer, Said, OutOfMemory, SourceFault, recorded, settled_to, answer_to, AllMet, Clashes, added}
 use Rattle.cl_model.specs.Works.{Made}
 use Rattle.cl_model.specs.Plans.{derive, load, Request, Load, Resolve, Link, loaded_by, go_on_with, Plan, ending, plan_after, plan_from, needs_of}
-use Rattle.cl_model.specs.Machine.{Setting, Scheduled, Step, Define, Initiate, Constrain, Settle, Prepare, Post, NextRound, Stray, IsPlan, Answers, RestsOn, MaySay, MayAnswer, May, after, state_after, Run, IsClosed}
+use Rattle.cl_model.specs.Machine.{Setting, Scheduled, Step, Define, Initiate, Constrain, Settle, Prepare, Post, NextRound, Stray, IsPlan, Answers, MaySay, MayAnswer, May, after, state_after, Run, IsClosed}
 use Rattle.cl_model.specs.Tables.{Records, Bears, BearsAnswer, Allows, Orderly, IsTrusted, NoneTwice, NoneAgain, IsConsistent, Stands}
 use Rattle.cl_model.proofs.Bind.{some_same, ok_same, ok_not_err, step_is}
 use Rattle.cl_model.proofs.Derived.{load_ok}
@@ -20,7 +20,7 @@ use Rattle.cl_model.proofs.Closed.{closed_after, start_closed, own_moved}
 use Rattle.cl_model.proofs.Looks.{load_stands, unmet_is_fresh}
 use Rattle.cl_model.proofs.Progress.{met_split, derive_records, load_records}
 use Rattle.cl_model.proofs.Trees.{derive_gives}
-use Rattle.cl_model.proofs.Reached.{IsReached, reached, then_some, map_is}
+use Rattle.cl_model.proofs.Reached.{reached, then_some, map_is}
 use Rattle.cl_model.proofs.Sound.{posted_stay}
 
 -- ---- steps that are allowed keep tables consistent
@@ -309,3 +309,32 @@ answered_once script rounds es fs q a b run (inl x) =
 answered_once script rounds es fs q a b run (inr x) =
     let parts = trusted_parts script rounds es (Post q a ∷ fs) run in
     not_posted script rounds (after (state_after start es) (Post q a)) fs q a b (answer_found (state_after start es).answers q a parts.1.0.unposted) parts.1.1 x
+
+-- ---- what was told
+
+-- the tables bore an answer where it was posted
+told_there : (script : List Scheduled) (rounds : ℕ) (es fs : List Step) (q : ℕ) (a : Answer) (r : Scheduled) → IsTrusted script rounds (es ++ Post q a ∷ fs) → slice_get script q ≡ Some r → BearsAnswer (state_after start es) r.request a × (r.round ≡ (state_after start es).round)
+told_there script rounds es fs q a r trusted asked =
+    let may = (trusted_parts script rounds es (Post q a ∷ fs) trusted).1.0 in
+    let same : may.scheduled ≡ r = some_same may.scheduled r (sym may.asked ∙ asked) in
+    (subst (λ (x : Scheduled). BearsAnswer (state_after start es) x.request a) same may.bears, ap (λ (x : Scheduled). x.round) (sym same) ∙ may.in_round)
+
+pub told_in_round : (script : List Scheduled) (rounds : ℕ) (es fs : List Step) (q : ℕ) (a : Answer) (r : Scheduled) → IsTrusted script rounds (es ++ Post q a ∷ fs) → slice_get script q ≡ Some r → r.round ≡ (state_after start es).round
+told_in_round script rounds es fs q a r trusted asked = (told_there script rounds es fs q a r trusted asked).1
+
+pub told_is_recorded : (script : List Scheduled) (rounds : ℕ) (es fs : List Step) (q : ℕ) (r : Scheduled) (loader : ℕ) (name : Name) (c : Class) → IsTrusted script rounds (es ++ Post q (Said (IsClass c)) ∷ fs) → slice_get script q ≡ Some r → r.request ≡ Load loader name → Records (state_after start es) loader name c
+told_is_recorded script rounds es fs q r loader name c trusted asked is =
+    subst (λ (x : Request). BearsAnswer (state_after start es) x (Said (IsClass c))) is (told_there script rounds es fs q (Said (IsClass c)) r trusted asked).0 c refl
+
+pub told_is_settled : (script : List Scheduled) (rounds : ℕ) (es fs : List Step) (q : ℕ) (r : Scheduled) (loader : ℕ) (name : Name) (i : ℕ) (d : Class) (v : Verdict) → IsTrusted script rounds (es ++ Post q (Said v) ∷ fs) → slice_get script q ≡ Some r → r.request ≡ Resolve loader name i
+    → Records (state_after start es) loader name d → v ≢ BadEntry → v ≢ ArrayMember → settled_to (state_after start es).settled d i ≡ Some v
+told_is_settled script rounds es fs q r loader name i d v trusted asked is rec entry member =
+    elim (subst (λ (x : Request). BearsAnswer (state_after start es) x (Said v)) is (told_there script rounds es fs q (Said v) r trusted asked).0 d rec) [
+      | inl e ↦ absurd (entry e)
+      | inr k ↦ elim k [ inl e ↦ absurd (member e) | inr h ↦ h ]
+    ]
+
+pub told_is_prepared : (script : List Scheduled) (rounds : ℕ) (es fs : List Step) (q : ℕ) (r : Scheduled) (loader : ℕ) (name : Name) (c : Class) → IsTrusted script rounds (es ++ Post q (Said (IsLinked c)) ∷ fs) → slice_get script q ≡ Some r → r.request ≡ Link loader name
+    → Records (state_after start es) loader name c × Contains (state_after start es).prepared c
+told_is_prepared script rounds es fs q r loader name c trusted asked is =
+    subst (λ (x : Request). BearsAnswer (state_after start es) x (Said (IsLinked c))) is (told_there script rounds es fs q (Said (IsLinked c)) r trusted asked).0 c refl

@@ -1,6 +1,5 @@
 -- What is printed of today's types is what the lines of the machine say.
 use Rattle.std.proofs.Common.{◌≡◌, ℕ, zero, suc, List, [], ◌∷◌, ◌++◌, get_or, codes, Option, Some, None, refl, ap, ◌∙◌}
-use Rattle.std.specs.Prelude.{slice_get, unwrap_or}
 use Rattle.std.proofs.lemmas.List.{append_assoc}
 use Rattle.cl_names.specs.Escape.{escaped}
 use Rattle.cl_model.specs.declared.class.Class.{Class}

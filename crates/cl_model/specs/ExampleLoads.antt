@@ -41,8 +41,8 @@ importing = world_of (four ++ over_app ChildFirst (importing_from (codes "q/") b
 abbrev pub imports : World
 imports = with_bytes app "q/V" [] (with_bytes app "q/B" (3 ∷ []) (
     world_of
-        (four ++ over_app ParentFirst (importing_from (codes "p/") boot ∷ importing_from (codes "p/T") app ∷ importing_from (codes "java/") app ∷ []) ∷ [])
-        ((boot, root) ∷ (app, plain "p/T") ∷ (app, plain "java/x/Y") ∷ (app, plain "q/C") ∷ [])))
+    (four ++ over_app ParentFirst (importing_from (codes "p/") boot ∷ importing_from (codes "p/T") app ∷ importing_from (codes "java/") app ∷ []) ∷ [])
+    ((boot, root) ∷ (app, plain "p/T") ∷ (app, plain "java/x/Y") ∷ (app, plain "q/C") ∷ [])))
 
 -- app has p/H of package access, p/L under the interface p/J, p/N which implements the class p/S, and the
 -- interface p/X of package access; plug has p/K under p/H and p/G under p/X (5.3.5, steps 3 and 4)
@@ -58,3 +58,8 @@ misfits = bundle (
     ∷ (plug, under "p/K" "p/H")
     ∷ (plug, under "p/G" "p/X")
     ∷ [])
+
+-- a fifth loader asks app and then plug; p/T is in both, p/V in plug alone; app has a name that begins like the platform's (5.3.2)
+abbrev pub two_parents : World
+two_parents = world_of (four ++ record { parents = app ∷ plug ∷ []; order = ParentFirst; imports = [] } ∷ [])
+    ((boot, root) ∷ (app, plain "p/T") ∷ (plug, plain "p/T") ∷ (plug, plain "p/V") ∷ (app, plain "javax/T") ∷ [])

@@ -5,7 +5,8 @@ use Rattle.cl_model.specs.Homes.{World}
 use Rattle.cl_model.specs.States.{Verdict}
 use Rattle.cl_model.specs.Examples.{boot, app, root, under, plain, interface, acc_public, acc_private, acc_protected, acc_static, acc_abstract, taking_none, an_int, a_class, with_fields, with_methods, with_interfaces, referring, bundle, ends_at, resolve_of}
 
--- p/J1 and p/J2 have m with a body, p/J3 without; p/D has all three, p/E the third and the first;
+-- p/J1 and p/J2 have m with a body, p/J3 and p/J4 under it without; p/D has the first three, p/E the third and the first,
+-- p/F the last two; p/G has the field x from the second of its interfaces;
 -- p/C has the field x from p/I, which it implements, and from p/S, which it is under; p/U names these (5.4.3.2 to 5.4.3.4)
 abbrev pub several : World
 several = bundle (
@@ -18,50 +19,64 @@ several = bundle (
     ∷ (app, with_methods ((acc_public + acc_abstract, taking_none "m") ∷ []) (interface "p/J3"))
     ∷ (app, with_interfaces ("p/J3" ∷ "p/J1" ∷ "p/J2" ∷ []) (plain "p/D"))
     ∷ (app, with_interfaces ("p/J3" ∷ "p/J1" ∷ []) (plain "p/E"))
-    ∷ (app, referring (
-        ToField (a_class "p/C") (an_int "x")
-        ∷ ToMethod (a_class "p/D") (taking_none "m")
-        ∷ ToMethod (a_class "p/E") (taking_none "m")
-        ∷ ToInterfaceMethod (a_class "p/J1") (taking_none "m")
-        ∷ ToInterfaceMethod (a_class "p/D") (taking_none "m")
-        ∷ []) (plain "p/U"))
+    ∷ (app, with_methods ((acc_public + acc_abstract, taking_none "m") ∷ []) (with_interfaces ("p/J3" ∷ []) (interface "p/J4")))
+    ∷ (app, with_interfaces ("p/J3" ∷ "p/J4" ∷ []) (plain "p/F"))
+    ∷ (app, with_interfaces ("p/J1" ∷ "p/I" ∷ []) (plain "p/G"))
+    ∷ (
+      app,
+      referring (
+          ToField (a_class "p/C") (an_int "x")
+          ∷ ToMethod (a_class "p/D") (taking_none "m")
+          ∷ ToMethod (a_class "p/E") (taking_none "m")
+          ∷ ToInterfaceMethod (a_class "p/J1") (taking_none "m")
+          ∷ ToInterfaceMethod (a_class "p/D") (taking_none "m")
+          ∷ ToMethod (a_class "p/F") (taking_none "m")
+          ∷ ToField (a_class "p/G") (an_int "x")
+          ∷ []) (plain "p/U"),
+    )
     ∷ [])
 
 -- what this reference of p/U is resolved to in that world (5.4.3)
 abbrev pub chosen : ℕ → Option Verdict
 chosen i = ends_at several 4 (resolve_of app "p/U" i)
 
--- p/I has m and f; p/J under it has m, p/K under that none; p/S has a and y, and implements p/K; p/C is under p/S and
--- implements p/M, which has n without a body, r private and t static; p/V implements p/M and is under p/W, which implements
--- p/N, where n is too; p/Y implements p/I and p/J; the root has h public and f protected; p/U names these (5.4.3.2 to 5.4.3.4)
+-- p/I has m, f and e; p/J under it has m, p/K under that none; p/S has a and y, and implements p/K; p/C is under p/S and
+-- implements p/M, which has a, n without a body, r private and t static; p/V implements p/M and is under p/W, which
+-- implements p/N, where n is too; p/Y implements p/I and p/J; the root has h and e public, f protected and s static;
+-- p/U names these (5.4.3.2 to 5.4.3.4)
 abbrev pub inherited : World
 inherited = bundle (
-    (boot, with_methods ((acc_public, taking_none "h") ∷ (acc_protected, taking_none "f") ∷ []) root)
-    ∷ (app, with_methods ((acc_public, taking_none "m") ∷ (acc_public, taking_none "f") ∷ []) (interface "p/I"))
+    (boot, with_methods ((acc_public, taking_none "h") ∷ (acc_protected, taking_none "f") ∷ (acc_public + acc_static, taking_none "s") ∷ (acc_public, taking_none "e") ∷ []) root)
+    ∷ (app, with_methods ((acc_public, taking_none "m") ∷ (acc_public, taking_none "f") ∷ (acc_public, taking_none "e") ∷ []) (interface "p/I"))
     ∷ (app, with_methods ((acc_public, taking_none "m") ∷ []) (with_interfaces ("p/I" ∷ []) (interface "p/J")))
     ∷ (app, with_interfaces ("p/J" ∷ []) (interface "p/K"))
     ∷ (app, with_fields ((acc_public, an_int "y") ∷ []) (with_methods ((acc_public, taking_none "a") ∷ []) (with_interfaces ("p/K" ∷ []) (plain "p/S"))))
     ∷ (app, with_interfaces ("p/M" ∷ []) (under "p/C" "p/S"))
-    ∷ (app, with_methods ((acc_public + acc_abstract, taking_none "n") ∷ (acc_private, taking_none "r") ∷ (acc_public + acc_static, taking_none "t") ∷ []) (interface "p/M"))
+    ∷ (app, with_methods ((acc_public + acc_abstract, taking_none "n") ∷ (acc_private, taking_none "r") ∷ (acc_public + acc_static, taking_none "t") ∷ (acc_public, taking_none "a") ∷ []) (interface "p/M"))
     ∷ (app, with_methods ((acc_public + acc_abstract, taking_none "n") ∷ []) (interface "p/N"))
     ∷ (app, with_interfaces ("p/M" ∷ []) (under "p/V" "p/W"))
     ∷ (app, with_interfaces ("p/N" ∷ []) (plain "p/W"))
-    ∷ (app, referring (
-        ToMethod (a_class "p/C") (taking_none "m")
-        ∷ ToMethod (a_class "p/C") (taking_none "a")
-        ∷ ToField (a_class "p/C") (an_int "y")
-        ∷ ToMethod (a_class "p/V") (taking_none "n")
-        ∷ ToMethod (a_class "p/C") (taking_none "r")
-        ∷ ToMethod (a_class "p/C") (taking_none "t")
-        ∷ ToInterfaceMethod (a_class "p/K") (taking_none "m")
-        ∷ ToInterfaceMethod (a_class "p/K") (taking_none "h")
-        ∷ ToInterfaceMethod (a_class "p/I") (taking_none "f")
-        ∷ ToInterfaceMethod (a_class "p/K") (taking_none "f")
-        ∷ ToMethod (a_class "p/K") (taking_none "m")
-        ∷ ToMethod (a_class "p/C") (taking_none "z")
-        ∷ ToField (a_class "p/C") (an_int "z")
-        ∷ ToMethod (a_class "p/Y") (taking_none "m")
-        ∷ []) (plain "p/U"))
+    ∷ (
+      app,
+      referring (
+          ToMethod (a_class "p/C") (taking_none "m")
+          ∷ ToMethod (a_class "p/C") (taking_none "a")
+          ∷ ToField (a_class "p/C") (an_int "y")
+          ∷ ToMethod (a_class "p/V") (taking_none "n")
+          ∷ ToMethod (a_class "p/C") (taking_none "r")
+          ∷ ToMethod (a_class "p/C") (taking_none "t")
+          ∷ ToInterfaceMethod (a_class "p/K") (taking_none "m")
+          ∷ ToInterfaceMethod (a_class "p/K") (taking_none "h")
+          ∷ ToInterfaceMethod (a_class "p/I") (taking_none "f")
+          ∷ ToInterfaceMethod (a_class "p/K") (taking_none "f")
+          ∷ ToMethod (a_class "p/K") (taking_none "m")
+          ∷ ToMethod (a_class "p/C") (taking_none "z")
+          ∷ ToField (a_class "p/C") (an_int "z")
+          ∷ ToMethod (a_class "p/Y") (taking_none "m")
+          ∷ ToInterfaceMethod (a_class "p/K") (taking_none "s")
+          ∷ ToInterfaceMethod (a_class "p/K") (taking_none "e")
+          ∷ []) (plain "p/U"),
+    )
     ∷ (app, with_interfaces ("p/I" ∷ "p/J" ∷ []) (plain "p/Y"))
     ∷ [])
 
@@ -76,25 +91,31 @@ accesses = bundle (
     (boot, root)
     ∷ (app, with_methods ((acc_protected, taking_none "m") ∷ (acc_protected + acc_static, taking_none "s") ∷ (0, taking_none "k") ∷ (acc_private, taking_none "v") ∷ []) (plain "p/P"))
     ∷ (app, under "p/Q" "p/P")
-    ∷ (app, with_methods ((acc_private, taking_none "w") ∷ []) (referring (
-        ToMethod (a_class "p/P") (taking_none "m")
-        ∷ ToMethod (a_class "q/D") (taking_none "m")
-        ∷ ToMethod (a_class "q/E") (taking_none "m")
-        ∷ ToMethod (a_class "p/Q") (taking_none "m")
-        ∷ ToMethod (a_class "p/Q") (taking_none "s")
-        ∷ ToMethod (a_class "p/P") (taking_none "k")
-        ∷ ToMethod (a_class "p/P") (taking_none "v")
-        ∷ ToMethod (a_class "q/D") (taking_none "w")
-        ∷ ToMethod (a_class "p/R") (taking_none "m")
-        ∷ ToMethod (a_class "p/R") (taking_none "s")
-        ∷ []) (under "q/D" "p/P")))
+    ∷ (
+      app,
+      with_methods ((acc_private, taking_none "w") ∷ []) (referring (
+          ToMethod (a_class "p/P") (taking_none "m")
+          ∷ ToMethod (a_class "q/D") (taking_none "m")
+          ∷ ToMethod (a_class "q/E") (taking_none "m")
+          ∷ ToMethod (a_class "p/Q") (taking_none "m")
+          ∷ ToMethod (a_class "p/Q") (taking_none "s")
+          ∷ ToMethod (a_class "p/P") (taking_none "k")
+          ∷ ToMethod (a_class "p/P") (taking_none "v")
+          ∷ ToMethod (a_class "q/D") (taking_none "w")
+          ∷ ToMethod (a_class "p/R") (taking_none "m")
+          ∷ ToMethod (a_class "p/R") (taking_none "s")
+          ∷ []) (under "q/D" "p/P")),
+    )
     ∷ (app, under "q/E" "q/D")
-    ∷ (app, with_methods ((acc_protected, taking_none "m") ∷ (acc_protected + acc_static, taking_none "s") ∷ []) (referring (
-        ToMethod (a_class "p/P") (taking_none "k")
-        ∷ ToMethod (a_class "p/P") (taking_none "v")
-        ∷ ToMethod (a_class "q/D") (taking_none "m")
-        ∷ ToMethod (a_class "p/Q") (taking_none "m")
-        ∷ []) (plain "p/R")))
+    ∷ (
+      app,
+      with_methods ((acc_protected, taking_none "m") ∷ (acc_protected + acc_static, taking_none "s") ∷ []) (referring (
+          ToMethod (a_class "p/P") (taking_none "k")
+          ∷ ToMethod (a_class "p/P") (taking_none "v")
+          ∷ ToMethod (a_class "q/D") (taking_none "m")
+          ∷ ToMethod (a_class "p/Q") (taking_none "m")
+          ∷ []) (plain "p/R")),
+    )
     ∷ [])
 
 -- what this reference of q/D is resolved to in that world (5.4.4)

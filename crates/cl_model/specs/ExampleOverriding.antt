@@ -20,7 +20,7 @@ overriding = bundle (
 -- app has p/I with m, s static and r private, p/S with m protected, s static, r private and a constructor, and p/K with g;
 -- in plug q/A implements p/I and q/B is under p/S, each with all that they name; q/I is an interface under p/I, with m and
 -- with o of the root; q/C has g private, q/D under it implements p/K, q/F too and has g private; q/G is under p/S and
--- implements q/J, an interface under p/I with g (5.4.2, 5.4.5)
+-- implements q/J, an interface under p/I with g; q/K implements q/I and p/I and has m (5.4.2, 5.4.5)
 abbrev pub declared : World
 declared = bundle (
     (boot, with_methods ((acc_public, taking_t "o") ∷ []) root)
@@ -35,6 +35,7 @@ declared = bundle (
     ∷ (plug, with_methods ((acc_private, taking_t "g") ∷ []) (with_interfaces ("p/K" ∷ []) (under "q/F" "q/C")))
     ∷ (plug, with_interfaces ("q/J" ∷ []) (under "q/G" "p/S"))
     ∷ (plug, with_methods ((acc_public + acc_abstract, taking_t "g") ∷ []) (with_interfaces ("p/I" ∷ []) (interface "q/J")))
+    ∷ (plug, with_methods ((acc_public, giving_v "m") ∷ []) (with_interfaces ("q/I" ∷ "p/I" ∷ []) (plain "q/K")))
     ∷ [])
 
 -- boot has b/I with m, app p/S with m and p/J with m; in kid r/C is under p/S and implements b/I, and r/J is an
@@ -63,3 +64,27 @@ whole_lineage = bundle (
     ∷ (plug, with_interfaces ("q/I" ∷ []) (under "q/C" "q/S"))
     ∷ [])
 
+-- boot has b/A with m, b/I with m, n, k and a static j, and b/K with nothing; app has p/B under b/A with m, n, j and a static
+-- k; in plug q/C is under p/B, implements b/I and b/K and has m, and q/D is under q/C and has o (5.4.2, 5.4.5)
+abbrev pub three_loaders : World
+three_loaders = bundle (
+    (boot, root)
+    ∷ (boot, with_methods ((acc_public, taking_t "m") ∷ []) (plain "b/A"))
+    ∷ (boot, with_methods ((acc_public + acc_abstract, taking_t "m") ∷ (acc_public + acc_abstract, taking_v "n") ∷ (acc_public + acc_abstract, taking_t "k") ∷ (acc_public + acc_static, taking_v "j") ∷ []) (interface "b/I"))
+    ∷ (boot, interface "b/K")
+    ∷ (app, with_methods ((acc_public, taking_t "m") ∷ (acc_public, taking_v "n") ∷ (acc_public + acc_static, taking_t "k") ∷ (acc_public, taking_v "j") ∷ []) (under "p/B" "b/A"))
+    ∷ (plug, with_methods ((acc_public, taking_t "m") ∷ []) (with_interfaces ("b/I" ∷ "b/K" ∷ []) (under "q/C" "p/B")))
+    ∷ (plug, with_methods ((acc_public, taking_t "o") ∷ []) (under "q/D" "q/C"))
+    ∷ [])
+
+-- app has p/A with m for its package, p/B0 under it with m for its package too, and q/B1 under it with m public;
+-- in plug q/Y is under p/B0 and q/Z under q/B1, each with m (5.4.5)
+abbrev pub packages : World
+packages = bundle (
+    (boot, root)
+    ∷ (app, with_methods ((0, taking_t "m") ∷ []) (plain "p/A"))
+    ∷ (app, with_methods ((0, taking_t "m") ∷ []) (under "p/B0" "p/A"))
+    ∷ (app, with_methods ((acc_public, taking_t "m") ∷ []) (under "q/B1" "p/A"))
+    ∷ (plug, with_methods ((acc_public, taking_t "m") ∷ []) (under "q/Y" "p/B0"))
+    ∷ (plug, with_methods ((acc_public, taking_t "m") ∷ []) (under "q/Z" "q/B1"))
+    ∷ [])

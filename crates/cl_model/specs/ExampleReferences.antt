@@ -30,11 +30,14 @@ abbrev pub arrays : World
 arrays = bundle (
     (boot, root)
     ∷ (app, plain "p/T")
-    ∷ (app, referring (
-        ToMethod (an_array_of 1 bases.Int) (method_key "clone" [] (Some (a_class "java/lang/Object")))
-        ∷ ToClass (an_array_of 2 (bases.Class (codes "p/T")))
-        ∷ ToClass (an_array_of 1 bases.Int)
-        ∷ []) (plain "p/X"))
+    ∷ (
+      app,
+      referring (
+          ToMethod (an_array_of 1 bases.Int) (method_key "clone" [] (Some (a_class "java/lang/Object")))
+          ∷ ToClass (an_array_of 2 (bases.Class (codes "p/T")))
+          ∷ ToClass (an_array_of 1 bases.Int)
+          ∷ []) (plain "p/X"),
+    )
     ∷ [])
 
 -- app has p/F with x and m, p/H of package access, and p/P with k protected; plug has q/G under p/F and q/X under p/P,
@@ -47,14 +50,16 @@ references = bundle (
     ∷ (app, with_methods ((acc_protected, taking_none "k") ∷ []) (plain "p/P"))
     ∷ (plug, under "q/G" "p/F")
     ∷ (plug, under "q/X" "p/P")
-    ∷ (plug, referring (
-        ToField (a_class "p/F") (an_array "x")
-        ∷ ToMethod (a_class "q/G") (taking_t "m")
-        ∷ ToClass (a_class "p/Z")
-        ∷ ToClass (an_array_of 1 (bases.Class (codes "p/H")))
-        ∷ ToMethod (a_class "q/X") (taking_none "k")
-        ∷ ToClass (an_array_of 2 bases.Long)
-        ∷ ToMethod (a_class "q/G") (taking_none "n")
-        ∷ []) (plain "q/U"))
+    ∷ (
+      plug,
+      referring (
+          ToField (a_class "p/F") (an_array "x")
+          ∷ ToMethod (a_class "q/G") (taking_t "m")
+          ∷ ToClass (a_class "p/Z")
+          ∷ ToClass (an_array_of 1 (bases.Class (codes "p/H")))
+          ∷ ToMethod (a_class "q/X") (taking_none "k")
+          ∷ ToClass (an_array_of 2 bases.Long)
+          ∷ ToMethod (a_class "q/G") (taking_none "n")
+          ∷ []) (plain "q/U"),
+    )
     ∷ [])
-

@@ -1,11 +1,11 @@
 -- Settings and steps of the examples of answers and runs (own choice; they exercise JVMS SE 8, 5.3.4 to 5.4.3).
-use Rattle.std.specs.Prelude.{ℕ, List, [], ◌∷◌, codes}
+use Rattle.std.specs.Prelude.{ℕ, List, [], ◌∷◌, ◌++◌, codes}
 use Rattle.cl_classfile.specs.Files.{File, ToMethod}
 use Rattle.cl_model.specs.Homes.{World}
-use Rattle.cl_model.specs.States.{Verdict, IsMethod, IsLinked, BadEntry, Said}
-use Rattle.cl_model.specs.Machine.{Setting, Step, Define, Initiate, Constrain, Settle, Prepare, Post, NextRound}
+use Rattle.cl_model.specs.States.{State, start, Verdict, IsMethod, IsLinked, BadEntry, Said}
+use Rattle.cl_model.specs.Machine.{Setting, Step, Define, Initiate, Constrain, Settle, Prepare, Post, NextRound, state_after}
 use Rattle.cl_model.specs.Examples.{boot, app, plug, kid, object, in_boot, in_app, in_plug, in_kid, load_of, resolve_of, link_of, root, under, acc_public, taking_t, a_class, with_methods, referring, bundle}
-use Rattle.cl_model.specs.ExampleReferences.{svc, service}
+use Rattle.cl_model.specs.ExampleReferences.{svc, service, three_users}
 
 -- a setting of one round without requests (own choice)
 abbrev pub over : World → Setting
@@ -74,3 +74,31 @@ resolving = Constrain (codes "p/T") app plug ∷ Settle (in_plug "p/Use") 1 of_s
 -- the steps that link Use (5.4)
 abbrev pub linking : List Step
 linking = NextRound ∷ Prepare (in_boot "java/lang/Object") ∷ Prepare (in_app "p/Svc") ∷ Prepare (in_plug "p/Use") ∷ Post 1 (Said (IsLinked (in_plug "p/Use"))) ∷ Post 2 (Said BadEntry) ∷ []
+
+-- what stands before the reference is settled (5.3.4)
+abbrev pub unsettled : State
+unsettled = state_after start (loading ++ Constrain (codes "p/T") app plug ∷ [])
+
+-- what stands before Use is prepared, in the second round (5.4)
+abbrev pub unprepared : State
+unprepared = state_after start (loading ++ resolving ++ NextRound ∷ Prepare (in_boot "java/lang/Object") ∷ Prepare (in_app "p/Svc") ∷ [])
+
+-- what stands at the end (own choice)
+abbrev pub ended : State
+ended = state_after start (loading ++ resolving ++ linking)
+
+-- a class of kid's own is asked for an entry of its pool (5.4.3)
+abbrev pub resolved_in_kid : Setting
+resolved_in_kid = record { world = three_users; script = record { request = resolve_of kid "p/T" 1; round = 0 } ∷ []; rounds = 1 }
+
+-- Svc in app, and in plug a class under it which overrides its method and names nothing (5.4.2)
+abbrev pub overridden_alone : World
+overridden_alone = bundle ((boot, root) ∷ (app, svc) ∷ (plug, with_methods ((acc_public, taking_t "m") ∷ []) (under "p/Use" "p/Svc")) ∷ [])
+
+-- the steps before a class under p/H, which is not accessible to it (5.3.5, step 3)
+abbrev pub below_hidden : List Step
+below_hidden = Define (in_boot "java/lang/Object") ∷ Initiate object boot app ∷ Define (in_app "p/H") ∷ Initiate (codes "p/H") app plug ∷ []
+
+-- T is defined in app, and is to be the same in kid (5.3.4)
+abbrev pub joined_with_kid : List Step
+joined_with_kid = Define (in_boot "java/lang/Object") ∷ Initiate object boot app ∷ Define (in_app "p/T") ∷ Constrain (codes "p/T") app kid ∷ []

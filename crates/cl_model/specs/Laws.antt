@@ -1,18 +1,20 @@
 -- Laws of the definitions (JVMS SE 8, 5.3 to 5.4.5): each is the contract of a function without a body.
-use Rattle.std.specs.Prelude.{◌≡◌, ℕ, suc, ◌+◌, true, false, List, [], ◌∷◌, ◌++◌, length, Some, None, Ok, Err, ◌⊎◌, ◌↔◌, Contains, Option, slice_get, ◌≢◌, find}
+use Rattle.std.specs.Prelude.{◌≡◌, ℕ, suc, ◌+◌, true, false, List, [], ◌∷◌, ◌++◌, length, Some, None, Ok, Err, ◌⊎◌, ◌↔◌, Contains, Option, slice_get, ◌≢◌, ◌≤◌, find}
 use Rattle.cl_classfile.specs.Files.{Name, File, Key, same_key}
 use Rattle.cl_model.specs.Homes.{World, home, is_loader}
 use Rattle.cl_model.specs.Probes.{probes, has_own, EachOnce}
 use Rattle.cl_model.specs.declared.class.Class.{Class}
-use Rattle.cl_model.specs.Classes.{class, is_among, Error, ClassCircularity, file_of, HasFile, IsAtHome, Good, IsGood, Fails, Circular, Next, Returns}
+use Rattle.cl_model.specs.Preparation.{constraints_of}
+use Rattle.cl_model.specs.Classes.{class, is_among, Above, AtHome, supers, Error, ClassCircularity, file_of, HasFile, IsAtHome, Good, IsGood, Fails, Circular, Next, Returns}
 use Rattle.cl_model.specs.Lineages.{Kin, IsLineage, classes, lineage}
 use Rattle.cl_model.specs.Ancestors.{EachClassOnce, SupersFirst}
 use Rattle.cl_model.specs.Works.{Made}
-use Rattle.cl_model.specs.Plans.{derive, load, Load, Request, Plan, Resolve, needs_of}
-use Rattle.cl_model.specs.States.{State, start, Entry, IsClass, Answer, settled_to, answer_to, IsFresh, Clashes, added, Need, Verdict, recorded, Violated, Met, AllMet, IsRecorded, MayAdd, Said, Wrong, Linkage, IsNext}
-use Rattle.cl_model.specs.Chains.{ReadsPlain, Waiting, first_or, stands_in, IsChain, NoneWaitsTwice, absent_of, EndsAtOnce}
-use Rattle.cl_model.specs.Service.{IsNextNeed, IsNextStep, ComesTo, MayEnd, IsBegun, Serves, PassesRounds, AllServed}
-use Rattle.cl_model.specs.Machine.{Setting, Scheduled, Step, Post, May, state_after, Run, Answers, IsClosed, IsSound, after, AnswersPlan, AnswersReference, MaySay, IsPlan, HasLineage, IsResolution, Define, step_for}
+use Rattle.cl_model.specs.Plans.{derive, load, Load, Request, Plan, Resolve, Link, loaded_by, needs_of, cost}
+use Rattle.cl_model.specs.States.{State, start, Entry, IsClass, Answer, settled_to, answer_to, IsFresh, Clashes, added, Need, Verdict, recorded, Violated, Met, AllMet, IsRecorded, IsLinked, BadEntry, ArrayMember, MayAdd, Said, Wrong, Linkage, IsNext}
+use Rattle.cl_model.specs.Ascents.{ReadsPlain, Waiting, first_or, stands_in, IsAscent, NoneWaitsTwice, absent_of, EndsAtOnce}
+use Rattle.cl_model.specs.Progress.{Takes}
+use Rattle.cl_model.specs.Service.{IsNextNeed, IsNextStep, ComesTo, MayEnd, IsBegun, Serves, PassesRounds, AllServed, IsLinkedIn}
+use Rattle.cl_model.specs.Machine.{Setting, Scheduled, Step, Post, Settle, Prepare, May, state_after, Run, Answers, IsClosed, IsSound, after, AnswersPlan, AnswersReference, MaySay, IsPlan, HasLineage, IsResolution, Define, step_for, MaySettle, MayGoOn}
 use Rattle.std.specs.List.{AllByRecursion}
 use Rattle.cl_model.specs.Content.{content_at}
 use Rattle.cl_model.specs.declared.event.Event as events
@@ -21,7 +23,7 @@ use Rattle.cl_model.specs.declared.answer.Answer as answers
 use Rattle.cl_model.specs.Views.{answer_at, steps_of, IsOther, verdict_of, answer_of, step_of}
 use Rattle.cl_model.specs.Texts as texts
 use Rattle.cl_model.specs.Lines as lines
-use Rattle.cl_model.specs.Tables.{Allows, Orderly, IsTrusted, IsConsistent, Stands}
+use Rattle.cl_model.specs.Tables.{Records, Allows, Orderly, IsTrusted, IsConsistent, Stands}
 
 -- a home is its own home (5.3.1, 5.3.2)
 abbrev pub HomeOfHome : Type 0
@@ -265,6 +267,22 @@ ServiceGoesOn = (g : Setting) (r : Request) (s : State) (es : List Step) (e : St
 abbrev pub ServiceIsWhole : Type 0
 ServiceIsWhole = (g : Setting) (q : ℕ) (r : Request) (s : State) (es : List Step) (a : Answer) → IsBegun g r s es → MayEnd g (state_after s es) r a → Serves g q r s (es ++ Post q a ∷ [])
 
+-- in a closed state the step that comes next in a service may happen (5.3 to 5.4.3)
+abbrev pub NextStepMayHappen : Type 0
+NextStepMayHappen = (g : Setting) (s : State) (r : Request) (e : Step) → IsClosed g.world s → IsNextStep g s r e → May g s e
+
+-- from a closed state a service that was begun is a run (5.3 to 5.4.3)
+abbrev pub BegunIsRun : Type 0
+BegunIsRun = (g : Setting) (r : Request) (s : State) (es : List Step) → IsClosed g.world s → IsBegun g r s es → Run g s es
+
+-- at most one step comes next in a service (own choice)
+abbrev pub OneNextStep : Type 0
+OneNextStep = (g : Setting) (s : State) (r : Request) (e f : Step) → IsNextStep g s r e → IsNextStep g s r f → e ≡ f
+
+-- where a service has come to its verdict no step is left (own choice)
+abbrev pub ComeToEnds : Type 0
+ComeToEnds = (g : Setting) (s : State) (r : Request) (v : Verdict) (e : Step) → ComesTo g s r v → IsNextStep g s r e → ⊥
+
 -- the need that comes next in the plan of a load is served next (5.3, 5.3.5)
 abbrev pub LoadNeedIsNext : Type 0
 LoadNeedIsNext = (g : Setting) (s : State) (loader : ℕ) (name : Name) (n : Need) → IsNextNeed g.world s (Load loader name) n → MayAdd s n → IsNextStep g s (Load loader name) (step_for n)
@@ -272,6 +290,24 @@ LoadNeedIsNext = (g : Setting) (s : State) (loader : ℕ) (name : Name) (n : Nee
 -- the need that comes next in the plan of a resolution is served next (5.4.3)
 abbrev pub ResolveNeedIsNext : Type 0
 ResolveNeedIsNext = (g : Setting) (s : State) (loader : ℕ) (name : Name) (i : ℕ) (n : Need) → IsNextNeed g.world s (Resolve loader name i) n → MayAdd s n → IsNextStep g s (Resolve loader name i) (step_for n)
+
+-- past its load a resolution settles its reference next, where that may be settled (5.4.3)
+abbrev pub SettleIsNext : Type 0
+SettleIsNext =
+    (g : Setting) (s : State) (loader : ℕ) (name : Name) (i : ℕ) (p : Plan) (d : Class) (v : Verdict) → IsPlan g.world (Resolve loader name i) p → p.reached ≡ Some d → AllMet s p.own
+    → MaySettle g s d i v → IsNextStep g s (Resolve loader name i) (Settle d i v)
+
+-- past its load a link imposes next what comes next of the constraints of a class of the lineage all before which are linked (5.4, 5.4.2)
+abbrev pub LinkNeedIsNext : Type 0
+LinkNeedIsNext =
+    (g : Setting) (s : State) (loader : ℕ) (name : Name) (p : Plan) (c : Class) (l k : Kin) (before behind : List Kin) (n : Need) → IsPlan g.world (Link loader name) p → p.reached ≡ Some c → AllMet s p.own
+    → HasLineage g.world c l → lineage l ≡ before ++ k ∷ behind → AllByRecursion (IsLinkedIn s) before → IsNext s (constraints_of k) n → MayAdd s n → IsNextStep g s (Link loader name) (step_for n)
+
+-- and prepares that class next once its constraints are imposed, unless it is prepared (5.4, 5.4.2)
+abbrev pub PrepareIsNext : Type 0
+PrepareIsNext =
+    (g : Setting) (s : State) (loader : ℕ) (name : Name) (p : Plan) (c : Class) (l k : Kin) (before behind : List Kin) → IsPlan g.world (Link loader name) p → p.reached ≡ Some c → AllMet s p.own
+    → HasLineage g.world c l → lineage l ≡ before ++ k ∷ behind → AllByRecursion (IsLinkedIn s) before → AllMet s (constraints_of k) → (Contains s.prepared k.class → ⊥) → IsNextStep g s (Link loader name) (Prepare k.class)
 
 -- a load that has an answer comes to it (5.3, 5.3.5)
 abbrev pub LoadComes : Type 0
@@ -281,31 +317,39 @@ LoadComes = (g : Setting) (s : State) (loader : ℕ) (name : Name) (v : Verdict)
 abbrev pub ResolutionComes : Type 0
 ResolutionComes = (g : Setting) (s : State) (loader : ℕ) (name : Name) (i : ℕ) (v : Verdict) → MaySay g s (Resolve loader name i) v → ComesTo g s (Resolve loader name i) v
 
+-- whatever else happens, so many steps of a request's service, and its post, are within its cost (own choice)
+abbrev pub ServiceWithinCost : Type 0
+ServiceWithinCost = (g : Setting) (r : Request) (p : Plan) (n : ℕ) (s : State) (es : List Step) → IsPlan g.world r p → Takes g r n s es → n + 1 ≤ cost g.world p
+
 -- services go on by that of the next request, and by the rounds that begin after it (own choice)
 abbrev pub ServicesGoOn : Type 0
 ServicesGoOn =
     (g : Setting) (q p : ℕ) (s : State) (rs : List Scheduled) (r : Scheduled) (es one rounds : List Step) → AllServed g q s rs es → Serves g p r.request (state_after s es) one
     → PassesRounds g (state_after (state_after s es) one) rounds → p ≡ q + length rs → AllServed g q s (rs ++ r ∷ []) (es ++ (one ++ rounds))
 
+-- once all are served no later round may begin (own choice)
+abbrev pub NoRoundLeft : Type 0
+NoRoundLeft = (g : Setting) (q : ℕ) (s : State) (rs : List Scheduled) (es : List Step) → AllServed g q s rs es → MayGoOn g (state_after s es) → ⊥
+
 -- where a superclass is recorded, the record of the class that waits for it is the need that comes next (5.3.5, step 3)
 abbrev pub WaitingIsNext : Type 0
-WaitingIsNext = (w : World) (s : State) (l : ℕ) (xs : List Waiting) (x : Waiting) (at : Name) → ReadsPlain w → IsClosed w s → IsRecorded s (class at l) → IsChain w l (xs ++ x ∷ []) at → IsNextNeed w s (Load l (first_or xs x.name)) (Entry l x.name l)
+WaitingIsNext = (w : World) (s : State) (l : ℕ) (xs : List Waiting) (x : Waiting) (at : Name) → ReadsPlain w → IsClosed w s → IsRecorded s (class at l) → IsAscent w l (xs ++ x ∷ []) at → IsNextNeed w s (Load l (first_or xs x.name)) (Entry l x.name l)
 
 -- where what is looked for has no superclass, its own record is the need that comes next (5.3.5, step 3)
 abbrev pub RootIsNext : Type 0
-RootIsNext = (w : World) (s : State) (l : ℕ) (xs : List Waiting) (at : Name) (f : File) → ReadsPlain w → IsChain w l xs at → HasFile w (class at l) f → f.super_name ≡ None → IsNextNeed w s (Load l (first_or xs at)) (Entry l at l)
+RootIsNext = (w : World) (s : State) (l : ℕ) (xs : List Waiting) (at : Name) (f : File) → ReadsPlain w → IsAscent w l xs at → HasFile w (class at l) f → f.super_name ≡ None → IsNextNeed w s (Load l (first_or xs at)) (Entry l at l)
 
 -- where what is looked for has no home, the load ends at once: the request's own class is not found, another not defined (5.3.1, 5.3.5)
 abbrev pub MissingStops : Type 0
-MissingStops = (w : World) (l : ℕ) (xs : List Waiting) (at : Name) → IsChain w l xs at → NoneWaitsTwice xs → home w l at ≡ None → EndsAtOnce w (Load l (first_or xs at)) (Wrong (absent_of xs (class at l)))
+MissingStops = (w : World) (l : ℕ) (xs : List Waiting) (at : Name) → IsAscent w l xs at → NoneWaitsTwice xs → home w l at ≡ None → EndsAtOnce w (Load l (first_or xs at)) (Wrong (absent_of xs (class at l)))
 
 -- where the bytes of what is looked for are not its class, the load ends at once in what is wrong with them (5.3.5, step 2)
 abbrev pub FaultyStops : Type 0
-FaultyStops = (w : World) (l : ℕ) (xs : List Waiting) (at : Name) (e : Error) → IsChain w l xs at → NoneWaitsTwice xs → stands_in xs at ≡ false → home w l at ≡ Some l → file_of w (class at l) ≡ Err e → EndsAtOnce w (Load l (first_or xs at)) (Wrong e)
+FaultyStops = (w : World) (l : ℕ) (xs : List Waiting) (at : Name) (e : Error) → IsAscent w l xs at → NoneWaitsTwice xs → stands_in xs at ≡ false → home w l at ≡ Some l → file_of w (class at l) ≡ Err e → EndsAtOnce w (Load l (first_or xs at)) (Wrong e)
 
 -- where what is looked for waits already, the load ends at once in the circle, with it as its subject (5.3.5, step 3)
 abbrev pub CircleStops : Type 0
-CircleStops = (w : World) (l : ℕ) (xs : List Waiting) (at : Name) → IsChain w l xs at → NoneWaitsTwice xs → stands_in xs at ≡ true → EndsAtOnce w (Load l (first_or xs at)) (Wrong (ClassCircularity (class at l)))
+CircleStops = (w : World) (l : ℕ) (xs : List Waiting) (at : Name) → IsAscent w l xs at → NoneWaitsTwice xs → stands_in xs at ≡ true → EndsAtOnce w (Load l (first_or xs at)) (Wrong (ClassCircularity (class at l)))
 
 -- a request whose plan ends at once is answered so in every state (5.3.5)
 abbrev pub AnswersAtOnce : Type 0
@@ -342,6 +386,54 @@ SaidAlike = (g : Setting) (s : State) (p q : ℕ) (a b : Scheduled) (v u : Verdi
 -- the answer of a request that got past the load of its class is that of the reference, which has one (5.4.3)
 abbrev pub SaidReference : Type 0
 SaidReference = (g : Setting) (s : State) (q : ℕ) (a : Scheduled) (loader : ℕ) (name : Name) (i : ℕ) (p : Plan) (d : Class) (v : Verdict) → IsSound g s → slice_get g.script q ≡ Some a → a.request ≡ Resolve loader name i → IsPlan g.world (Resolve loader name i) p → p.reached ≡ Some d → AllMet s p.own → answer_to s.answers q ≡ Some (Said v) → AnswersReference g s d i v
+
+-- past its load the answer of a resolution is that of the reference (5.4.3)
+abbrev pub PlanIsReference : Type 0
+PlanIsReference =
+    (g : Setting) (s : State) (loader : ℕ) (name : Name) (i : ℕ) (p : Plan) (d : Class) (v : Verdict) → IsPlan g.world (Resolve loader name i) p → p.reached ≡ Some d → AllMet s p.own
+    → AnswersPlan g s (Resolve loader name i) v → AnswersReference g s d i v
+
+-- past the load of a resolution the answer of the reference is its own (5.4.3)
+abbrev pub ReferenceIsPlan : Type 0
+ReferenceIsPlan =
+    (g : Setting) (s : State) (loader : ℕ) (name : Name) (i : ℕ) (p : Plan) (d : Class) (v : Verdict) → IsPlan g.world (Resolve loader name i) p → p.reached ≡ Some d → AllMet s p.own
+    → AnswersReference g s d i v → AnswersPlan g s (Resolve loader name i) v
+
+-- where a loader records the class of a request, its plan reaches that class, past its load (5.3)
+abbrev pub RecordedIsReached : Type 0
+RecordedIsReached =
+    (w : World) (s : State) (q : Request) (p : Plan) (place : ℕ) → IsClosed w s → IsPlan w q p → recorded s.records (loaded_by q).loader (loaded_by q).name ≡ Some place
+    → (p.reached ≡ Some (class (loaded_by q).name place)) × AllMet s p.own
+
+-- past the load of a request its loader records the class that is reached (5.3)
+abbrev pub ReachedIsRecorded : Type 0
+ReachedIsRecorded = (w : World) (s : State) (q : Request) (p : Plan) (d : Class) → IsPlan w q p → p.reached ≡ Some d → AllMet s p.own → Records s (loaded_by q).loader (loaded_by q).name d
+
+-- an answered reference of a recorded class that is not settled may be, unless its verdict is none that is (5.4.3)
+abbrev pub AnsweredMaySettle : Type 0
+AnsweredMaySettle = (g : Setting) (s : State) (d : Class) (i : ℕ) (v : Verdict) → IsRecorded s d → settled_to s.settled d i ≡ None → AnswersReference g s d i v → v ≢ BadEntry → v ≢ ArrayMember → May g s (Settle d i v)
+
+-- a recorded class that is not prepared may be, once its constraints are imposed and its supertypes are prepared (5.4.2)
+abbrev pub ImposedMayPrepare : Type 0
+ImposedMayPrepare =
+    (g : Setting) (s : State) (c : Class) (k : Kin) → IsRecorded s c → (Contains s.prepared c → ⊥) → HasLineage g.world c k → AllByRecursion (λ (a : Above). AtHome g.world c (Contains s.prepared) a.name) (supers k.file)
+    → AllMet s (constraints_of k) → May g s (Prepare c)
+
+-- in a sound state what was said of a resolution past its load is what the reference is settled to (5.4.3)
+abbrev pub SaidIsSettled : Type 0
+SaidIsSettled =
+    (g : Setting) (s : State) (q : ℕ) (a : Scheduled) (loader : ℕ) (name : Name) (i : ℕ) (p : Plan) (d : Class) (v : Verdict) → IsSound g s → slice_get g.script q ≡ Some a → a.request ≡ Resolve loader name i
+    → IsPlan g.world (Resolve loader name i) p → p.reached ≡ Some d → AllMet s p.own → v ≢ BadEntry → v ≢ ArrayMember → answer_to s.answers q ≡ Some (Said v) → settled_to s.settled d i ≡ Some v
+
+-- in a sound state a class that was said to be linked is prepared (5.4)
+abbrev pub LinkedIsPrepared : Type 0
+LinkedIsPrepared =
+    (g : Setting) (s : State) (q : ℕ) (a : Scheduled) (loader : ℕ) (name : Name) (c : Class) → IsSound g s → slice_get g.script q ≡ Some a → a.request ≡ Link loader name
+    → answer_to s.answers q ≡ Some (Said (IsLinked c)) → Contains s.prepared c
+
+-- in a sound state the lineage of what is prepared is (5.4.2)
+abbrev pub LineagePrepared : Type 0
+LineagePrepared = (g : Setting) (s : State) (k : Kin) → IsSound g s → IsLineage g.world k → Contains s.prepared k.class → AllByRecursion (λ (a : Kin). Contains s.prepared a.class) (lineage k)
 
 -- what has a file is spelled by its own loader's bytes, and the file names it (5.3.5, step 2)
 abbrev pub FileIsSpelt : Type 0
@@ -396,6 +488,28 @@ DefinedOnce = (script : List Scheduled) (rounds : ℕ) (es fs : List Step) (c : 
 -- a request is answered once (own choice)
 abbrev pub AnsweredOnce : Type 0
 AnsweredOnce = (script : List Scheduled) (rounds : ℕ) (es fs : List Step) (q : ℕ) (a b : Answer) → IsTrusted script rounds (es ++ Post q a ∷ fs) → Stands es (Post q b) ⊎ Stands fs (Post q b) → ⊥
+
+-- an answer is posted in the round of its request (own choice)
+abbrev pub ToldInRound : Type 0
+ToldInRound = (script : List Scheduled) (rounds : ℕ) (es fs : List Step) (q : ℕ) (a : Answer) (r : Scheduled) → IsTrusted script rounds (es ++ Post q a ∷ fs) → slice_get script q ≡ Some r → r.round ≡ (state_after start es).round
+
+-- a class that was told of a load was recorded by its loader (5.3)
+abbrev pub ToldIsRecorded : Type 0
+ToldIsRecorded =
+    (script : List Scheduled) (rounds : ℕ) (es fs : List Step) (q : ℕ) (r : Scheduled) (loader : ℕ) (name : Name) (c : Class) → IsTrusted script rounds (es ++ Post q (Said (IsClass c)) ∷ fs) → slice_get script q ≡ Some r
+    → r.request ≡ Load loader name → Records (state_after start es) loader name c
+
+-- a verdict that was told of a resolution whose class was recorded was the settled one of the reference (5.4.3)
+abbrev pub ToldIsSettled : Type 0
+ToldIsSettled =
+    (script : List Scheduled) (rounds : ℕ) (es fs : List Step) (q : ℕ) (r : Scheduled) (loader : ℕ) (name : Name) (i : ℕ) (d : Class) (v : Verdict) → IsTrusted script rounds (es ++ Post q (Said v) ∷ fs) → slice_get script q ≡ Some r
+    → r.request ≡ Resolve loader name i → Records (state_after start es) loader name d → v ≢ BadEntry → v ≢ ArrayMember → settled_to (state_after start es).settled d i ≡ Some v
+
+-- a class that was told to be linked was recorded by its loader, and prepared (5.4)
+abbrev pub ToldIsPrepared : Type 0
+ToldIsPrepared =
+    (script : List Scheduled) (rounds : ℕ) (es fs : List Step) (q : ℕ) (r : Scheduled) (loader : ℕ) (name : Name) (c : Class) → IsTrusted script rounds (es ++ Post q (Said (IsLinked c)) ∷ fs) → slice_get script q ≡ Some r
+    → r.request ≡ Link loader name → Records (state_after start es) loader name c × Contains (state_after start es).prepared c
 
 -- ---- words of the definitions that say the same
 

@@ -49,13 +49,13 @@ abbrev pub classes : List Kin → List Class
 classes ks = map (λ k. k.class) ks
 
 -- the first of the list and its superclasses, nearest first (4.1; 5.3.5, step 3)
-abbrev pub chain : Forest → List Kin
-chain Bare = []
-chain (Tree c f sup ints others) = record { class = c; file = f; superclass = sup; interfaces = ints } ∷ chain sup
+abbrev pub upward : Forest → List Kin
+upward Bare = []
+upward (Tree c f sup ints others) = record { class = c; file = f; superclass = sup; interfaces = ints } ∷ upward sup
 
 -- the proper superclasses, nearest first (4.1, super_class)
 abbrev pub superclasses : Kin → List Kin
-superclasses k = chain k.superclass
+superclasses k = upward k.superclass
 
 -- the classes of the list where wanted, each followed by its superinterfaces, then those of the superclass (own choice of order, 5.4.3.3)
 abbrev pub preorder : Forest → Bool → List Kin

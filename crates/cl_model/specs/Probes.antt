@@ -1,5 +1,5 @@
 -- The search for a name as a list of loaders to probe (JVMS SE 8, 5.3.2).
-use Rattle.std.specs.Prelude.{◌≡◌, ℕ, zero, suc, Bool, true, false, ◌==◌, if◌then◌else◌, List, [], ◌∷◌, ◌++◌, Option, Some, None, is_some, slice_get, flat_map, option_to_list}
+use Rattle.std.specs.Prelude.{◌≡◌, ℕ, zero, suc, Bool, true, false, ◌==◌, if◌then◌else◌, List, [], ◌∷◌, ◌++◌, Some, None, is_some, slice_get, flat_map, option_to_list}
 use Rattle.std.specs.List.{list_any}
 use Rattle.cl_classfile.specs.Files.{Name}
 use Rattle.cl_model.specs.Content.{content_at}

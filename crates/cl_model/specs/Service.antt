@@ -48,6 +48,11 @@ to_stand needs = map (λ n. ToStand n) needs
 abbrev pub to_link : Kin → List Want
 to_link k = to_stand (constraints_of k) ++ ToPrepare k.class ∷ []
 
+-- a class is linked in a state: its constraints are imposed, and it is prepared (5.4.2)
+pub record IsLinkedIn (s : State) (k : Kin) : Type 0 where
+  pub imposed : AllMet s (constraints_of k)
+  pub prepared : Contains s.prepared k.class
+
 -- what a request wants past its load: the needs that follow (5.4.3);
 -- of a class to be linked, for each class of its lineage in order, what links it (5.4)
 abbrev pub WantsPast : World → Request → Plan → Option Class → List Want → Type 0

@@ -1,18 +1,19 @@
 //! Worked examples, computed from the definitions.
 
-ghost use Rattle.std.specs.Prelude.{◌≡◌, ℕ, List, ◌∷◌, ◌++◌, [], Option, Some, None, option_map, codes};
+ghost use Rattle.std.specs.Prelude.{◌≡◌, ℕ, List, ◌∷◌, ◌++◌, [], Option, Some, None, Err, option_map, codes};
 ghost use Rattle.cl_model.specs.Homes.{home};
-ghost use Rattle.cl_model.specs.Classes.{class, ClassNotFound, NoClassDef, ClassFormat, UnsupportedVersion, ClassCircularity, IncompatibleClassChange, IllegalAccess, NoSuchField, NoSuchMethod};
-ghost use Rattle.cl_model.specs.States.{Verdict, Entry, Equal, IsClass, IsArrayOf, IsArrayOfBase, IsField, IsMethod, IsLinked, Wrong, BadEntry, ArrayMember, Linkage, Said, OutOfMemory, SourceFault, start};
-ghost use Rattle.cl_model.specs.Machine.{Define, Initiate, Constrain, Settle, Prepare, Post, NextRound, Stray, Run, AnswersPlan, MayPost, MayGoOn, after, state_after};
+ghost use Rattle.cl_model.specs.Content.{content_at};
+ghost use Rattle.cl_model.specs.Classes.{class, file_of, ClassNotFound, NoClassDef, ClassFormat, UnsupportedVersion, ClassCircularity, IncompatibleClassChange, IllegalAccess, NoSuchField, NoSuchMethod};
+ghost use Rattle.cl_model.specs.States.{State, Joined, Verdict, Entry, Equal, IsClass, IsArrayOf, IsArrayOfBase, IsField, IsMethod, IsLinked, Wrong, BadEntry, ArrayMember, Linkage, Said, OutOfMemory, SourceFault, start, settled_to, answer_to, recorded, IsNext};
+ghost use Rattle.cl_model.specs.Machine.{Define, Initiate, Constrain, Settle, Prepare, Post, NextRound, Stray, May, MayDefine, MayInitiate, MayConstrain, MaySettle, MayPrepare, Run, AnswersPlan, MayPost, MayGoOn, after, state_after};
 ghost use Rattle.cl_model.specs.Lines.{line, verdict_text, answer_text, answer_line};
 ghost use Rattle.cl_model.specs.Plans.{plan, cost};
-ghost use Rattle.cl_model.specs.Examples.{boot, app, plug, kid, object, names, in_boot, in_app, in_plug, in_kid, taking_none, taking_t, an_int, an_array, load_of, resolve_of, link_of, entry, equal, ends_at, needs_at, more_at};
-ghost use Rattle.cl_model.specs.ExampleLoads.{copies, bad, circle, missing, importing, imports, misfits};
+ghost use Rattle.cl_model.specs.Examples.{boot, app, plug, kid, object, names, in_boot, in_app, in_plug, in_kid, taking_none, taking_t, an_int, an_array, load_of, resolve_of, link_of, with_bytes, entry, equal, ends_at, needs_at, more_at};
+ghost use Rattle.cl_model.specs.ExampleLoads.{copies, bad, circle, missing, importing, imports, misfits, two_parents};
 ghost use Rattle.cl_model.specs.ExampleLookups.{chosen, found, from_d, from_r};
 ghost use Rattle.cl_model.specs.ExampleReferences.{service, three_users, hidden, arrays, references};
-ghost use Rattle.cl_model.specs.ExampleOverriding.{overriding, declared, through_kid, whole_lineage};
-ghost use Rattle.cl_model.specs.ExampleRuns.{over, both_defined, constrained, across, in_rounds, serving, loading, resolving, linking};
+ghost use Rattle.cl_model.specs.ExampleOverriding.{overriding, declared, through_kid, whole_lineage, three_loaders, packages};
+ghost use Rattle.cl_model.specs.ExampleRuns.{over, both_defined, constrained, across, in_rounds, serving, loading, resolving, linking, of_svc, unsettled, unprepared, ended, resolved_in_kid, overridden_alone, below_hidden, joined_with_kid};
 
 /// A search goes to the parent first, or to the own content first; a `java/` name is searched in
 /// the first loader alone; what an import takes hides the own content.
@@ -25,6 +26,17 @@ pub fn probe_order()
     ensures imported { home importing 4 (codes "q/X") ≡ Some boot }
     ensures hidden { home importing 4 (codes "q/Y") ≡ None }
     ensures not_imported { home importing 4 (codes "p/T") ≡ Some 4 }
+    ensures first_parent { home two_parents 4 (codes "p/T") ≡ Some app }
+    ensures second_parent { home two_parents 4 (codes "p/V") ≡ Some plug }
+    ensures platform_prefix { home two_parents app (codes "javax/T") ≡ Some app }
+{}
+
+/// Of several entries for one loader and name the first counts; what a search does not find at a
+/// loader is no class of it, though its content has the name.
+pub fn told_bytes()
+    ensures first_entry { content_at (with_bytes app "p/T" (7 ∷ []) copies).content app (codes "p/T") ≡ Some (7 ∷ []) }
+    ensures other_loader { content_at (with_bytes app "p/T" (7 ∷ []) copies).content plug (codes "p/T") ≡ Some (3 ∷ []) }
+    ensures not_at_home { file_of importing (class (codes "q/Y") 4) ≡ Err (NoClassDef (class (codes "q/Y") 4)) }
 {}
 
 /// The first import whose prefix begins the name decides, and never of a `java/` name; bytes that
@@ -87,13 +99,16 @@ pub fn hidden_class()
 {}
 
 /// A field is found in a superinterface before the superclass. Of two superinterface methods with
-/// bodies neither is the one, so the first that is offered is found; one with a body is found.
+/// bodies neither is the one, so the first that is offered is found, as where none has a body; one
+/// with a body is found.
 pub fn maximally_specific()
     ensures field { chosen 1 ≡ Some (IsField (in_app "p/I") (an_int "x")) }
+    ensures second_interface { chosen 7 ≡ Some (IsField (in_app "p/I") (an_int "x")) }
     ensures two { chosen 2 ≡ Some (IsMethod (in_app "p/J3") (taking_none "m")) }
     ensures one { chosen 3 ≡ Some (IsMethod (in_app "p/J1") (taking_none "m")) }
     ensures of_interface { chosen 4 ≡ Some (IsMethod (in_app "p/J1") (taking_none "m")) }
     ensures of_class { chosen 5 ≡ Some (Wrong (IncompatibleClassChange (in_app "p/D"))) }
+    ensures none { chosen 6 ≡ Some (IsMethod (in_app "p/J3") (taking_none "m")) }
 {}
 
 /// A method of a class is looked up in the superclasses and then in the superinterfaces, those of
@@ -121,6 +136,8 @@ pub fn methods_of_interfaces()
     ensures of_root { found 8 ≡ Some (IsMethod (in_boot "java/lang/Object") (taking_none "h")) }
     ensures own { found 9 ≡ Some (IsMethod (in_app "p/I") (taking_none "f")) }
     ensures not_protected_of_root { found 10 ≡ Some (IsMethod (in_app "p/I") (taking_none "f")) }
+    ensures not_static_of_root { found 15 ≡ Some (Wrong (NoSuchMethod (in_app "p/K"))) }
+    ensures root_before_superinterfaces { found 16 ≡ Some (IsMethod (in_boot "java/lang/Object") (taking_none "e")) }
     ensures as_class { found 11 ≡ Some (Wrong (IncompatibleClassChange (in_app "p/K"))) }
 {}
 
@@ -190,11 +207,12 @@ pub fn declared_methods()
 {}
 
 /// A private method is not inherited, and one that the class declares itself, also a private one,
-/// stands for none that is inherited.
+/// stands for none that is inherited; a superinterface that is met twice counts once.
 pub fn inherited_methods()
     ensures private_above { more_at declared 5 (link_of plug "q/D") ≡ Some [] }
     ensures private_own { more_at declared 5 (link_of plug "q/F") ≡ Some [] }
     ensures of_superclass { more_at declared 5 (link_of plug "q/G") ≡ Some (equal "p/V" app app ∷ equal "p/T" app app ∷ []) }
+    ensures each_once { more_at declared 5 (link_of plug "q/K") ≡ Some (equal "p/V" app plug ∷ equal "p/T" app plug ∷ equal "p/V" plug plug ∷ equal "p/T" plug plug ∷ equal "p/V" app plug ∷ equal "p/T" app plug ∷ equal "p/T" boot plug ∷ []) }
     ensures linked { ends_at declared 5 (link_of plug "q/G") ≡ Some (IsLinked (in_plug "q/G")) }
 {}
 
@@ -209,6 +227,20 @@ pub fn inherited_across_loaders()
 pub fn whole_lineages()
     ensures root_above { more_at whole_lineage 4 (link_of plug "q/J") ≡ Some [] }
     ensures supertypes_first { more_at whole_lineage 5 (link_of plug "q/C") ≡ Some (equal "p/T" app plug ∷ equal "p/V" app plug ∷ []) }
+{}
+
+/// Of what a class overrides the nearest superclass comes first, then the farther ones, then the
+/// superinterfaces that declare the method, and last what it inherits for its superinterfaces;
+/// static methods, of either side, take no part.
+pub fn constraints_in_order()
+    ensures declared_and_inherited { more_at three_loaders 5 (link_of plug "q/C") ≡ Some (equal "p/T" boot app ∷ equal "p/T" app plug ∷ equal "p/T" boot plug ∷ equal "p/T" boot plug ∷ equal "p/V" boot app ∷ []) }
+    ensures below { more_at three_loaders 6 (link_of plug "q/D") ≡ Some (equal "p/T" boot app ∷ equal "p/T" app plug ∷ equal "p/T" boot plug ∷ equal "p/T" boot plug ∷ equal "p/V" boot app ∷ equal "p/T" boot plug ∷ equal "p/V" boot app ∷ []) }
+{}
+
+/// Through a third method only where it is overridden itself and overrides the other.
+pub fn third_methods()
+    ensures third_not_overridden { more_at packages 5 (link_of plug "q/Y") ≡ Some (equal "p/T" app app ∷ []) }
+    ensures third_not_overriding { more_at packages 5 (link_of plug "q/Z") ≡ Some (equal "p/T" app plug ∷ []) }
 {}
 
 /// Entries that are no reference, a method of an array, and arrays.
@@ -314,4 +346,87 @@ pub fn round_discipline()
 /// above it, and then its link is answered.
 pub fn resolve_and_link()
     ensures { Run serving start (loading ++ resolving ++ linking) }
+{}
+
+/// A verdict is settled for its class and index alone, and an answer posted for its request; a
+/// record is of its loader and name.
+pub fn what_stands()
+    ensures settled { settled_to ended.settled (in_plug "p/Use") 1 ≡ Some of_svc }
+    ensures other_index { settled_to ended.settled (in_plug "p/Use") 2 ≡ None }
+    ensures other_class { settled_to ended.settled (in_app "p/Svc") 1 ≡ None }
+    ensures answered { answer_to ended.answers 2 ≡ Some (Said BadEntry) }
+    ensures other_request { answer_to ended.answers 3 ≡ None }
+    ensures initiating { recorded ended.records plug (codes "p/Svc") ≡ Some app }
+    ensures other_loader { recorded ended.records boot (codes "p/Svc") ≡ None }
+{}
+
+/// A need is next where all before it are met.
+pub fn needs_in_order()
+    ensures next { IsNext start (equal "p/T" app plug ∷ []) (equal "p/T" app plug) }
+    ensures not_yet { IsNext start (Entry boot object boot ∷ equal "p/T" app plug ∷ []) (equal "p/T" app plug) → ⊥ }
+{}
+
+/// No step is taken before what it rests on: supertypes, records, constraints, and for an answer
+/// the settled reference or the prepared class.
+pub fn steps_too_early()
+    ensures define { MayDefine serving start (in_app "p/Svc") → ⊥ }
+    ensures initiate { MayInitiate serving start object boot app → ⊥ }
+    ensures constrain { MayConstrain serving start (codes "p/T") app plug → ⊥ }
+    ensures settle { MaySettle serving (state_after start loading) (in_plug "p/Use") 1 of_svc → ⊥ }
+    ensures settle_unrecorded { MaySettle serving start (in_plug "p/Use") 1 of_svc → ⊥ }
+    ensures resolve { MayPost serving unsettled 0 (Said of_svc) → ⊥ }
+    ensures prepare_unrecorded { MayPrepare serving start (in_boot "java/lang/Object") → ⊥ }
+    ensures prepare_below { MayPrepare serving unsettled (in_plug "p/Use") → ⊥ }
+    ensures prepare_unconstrained { MayPrepare serving (state_after start (loading ++ Prepare (in_boot "java/lang/Object") ∷ Prepare (in_app "p/Svc") ∷ [])) (in_plug "p/Use") → ⊥ }
+    ensures link { MayPost serving unprepared 1 (Said (IsLinked (in_plug "p/Use"))) → ⊥ }
+{}
+
+/// No step is taken twice.
+pub fn steps_made_again()
+    ensures define { MayDefine serving ended (in_plug "p/Use") → ⊥ }
+    ensures initiate { MayInitiate serving ended object boot app → ⊥ }
+    ensures constrain { MayConstrain serving ended (codes "p/T") app plug → ⊥ }
+    ensures settle { MaySettle serving ended (in_plug "p/Use") 1 of_svc → ⊥ }
+    ensures prepare { MayPrepare serving ended (in_plug "p/Use") → ⊥ }
+    ensures answer { MayPost serving ended 0 (Said of_svc) → ⊥ }
+{}
+
+/// What no state allows: a class elsewhere than at its home, an initiating record of the definer or
+/// of another home, and a settled entry that is no reference of a class's.
+pub fn steps_never_made()
+    ensures define { (s : State) → MayDefine serving s (in_plug "p/Svc") → ⊥ }
+    ensures initiate_own { (s : State) → MayInitiate serving s object boot boot → ⊥ }
+    ensures initiate_elsewhere { (s : State) → MayInitiate serving s object app plug → ⊥ }
+    ensures settle_no_reference { (s : State) → MaySettle serving s (in_plug "p/Use") 9 BadEntry → ⊥ }
+    ensures settle_array_member { (s : State) → MaySettle serving s (in_plug "p/Use") 1 ArrayMember → ⊥ }
+    ensures stray { (s : State) → May serving s Stray → ⊥ }
+{}
+
+/// A class that does not fit with its superclass is not defined, though the superclass is recorded.
+pub fn misfit_not_defined()
+    ensures { MayDefine (over misfits) (state_after start below_hidden) (in_plug "p/K") → ⊥ }
+{}
+
+/// An equality is imposed by the preparation of a class, also where no reference imposes it.
+pub fn constrained_by_preparation()
+    ensures { MayConstrain (over overridden_alone) (state_after start loading) (codes "p/T") app plug }
+{}
+
+/// An equality joins its loaders for its name alone.
+pub fn equality_for_one_name()
+    ensures { Joined (state_after start constrained).equalities (codes "p/V") app plug → ⊥ }
+{}
+
+/// A loader may record the class that one joined with it records.
+pub fn same_class_joined()
+    ensures { MayInitiate (over service) (state_after start joined_with_kid) (codes "p/T") app kid }
+{}
+
+/// What is refused is not added; the reference is settled to the refusal, and where its class's own
+/// load is refused, the answer needs no settled reference.
+pub fn refused_steps()
+    ensures define { MayDefine (over service) (state_after start constrained) (in_plug "p/T") → ⊥ }
+    ensures constrain { MayConstrain (over service) (state_after start both_defined) (codes "p/T") app plug → ⊥ }
+    ensures settle { MaySettle (over service) (state_after start both_defined) (in_plug "p/Use") 1 (Linkage (equal "p/T" app plug)) }
+    ensures own_load { MayPost resolved_in_kid (state_after start across) 0 (Said (Linkage (entry kid "p/T" kid))) }
 {}

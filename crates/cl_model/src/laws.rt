@@ -1,4 +1,4 @@
-ghost use Rattle.cl_model.specs.Laws.{HomeOfHome, HomeIsProbed, ProbedOnce, ProbesAreLoaders, GoodIsNotFailing, RunGoesOn, RecordsStay, MetStays, NeverViolated, OneAnswer, HigherDerives, AnswersStay, DerivedIsGood, RecordedIsMet, RunsAreClosed, GoodIsDerived, ErrorIsFailing, OneError, GoodGrows, FailsGrows, FailingIsDerived, ReturnIsCircular, ReturnGoesOn, CircleReturns, ReturnIsDerived, OneSubject, FailureIsNoCircle, OneDerivation, GoodIsAtHome, ComesOut, CircularReturns, CircularGoesOn, PlanExists, OnePlan, LineageExists, OneLineage, ResolutionExists, OneResolution, DerivedIsLineage, LineageIsDerived, LineageOnce, LineageHas, LineageSupersFirst, LineageRecorded, SettledStay, PreparedStay, PostedStay, RequestAnswerStays, ReferenceAnswerStays, OneRequestAnswer, OneReferenceAnswer, RunsAreSound, StepIsSound, ClashViolates, ViolationClashes, RecordedLoadStands, RecordedAnswers, UnmetIsFresh, ServiceGoesOn, ServiceIsWhole, LoadNeedIsNext, ResolveNeedIsNext, LoadComes, ResolutionComes, ServicesGoOn, WaitingIsNext, RootIsNext, MissingStops, FaultyStops, CircleStops, AnswersAtOnce, CircleIsAnswered, CircularIsAnswered, PartBegins, RunThen, RunParts, StateThen, SaidAlike, SaidReference, FileIsSpelt, StepsThen, StepsSame, NextMayBeMade, StepAdds, TrustedIsConsistent, AllowedIsConsistent, TrustedGoesOn, TrustedParts, MayIsAllowed, RunsAreTrusted, DefinedOnce, AnsweredOnce, SameKey, ClassTexts, VerdictTexts, AnswerTexts, EventTexts};
+ghost use Rattle.cl_model.specs.Laws.{HomeOfHome, HomeIsProbed, ProbedOnce, ProbesAreLoaders, GoodIsNotFailing, RunGoesOn, RecordsStay, MetStays, NeverViolated, OneAnswer, HigherDerives, AnswersStay, DerivedIsGood, RecordedIsMet, RunsAreClosed, GoodIsDerived, ErrorIsFailing, OneError, GoodGrows, FailsGrows, FailingIsDerived, ReturnIsCircular, ReturnGoesOn, CircleReturns, ReturnIsDerived, OneSubject, FailureIsNoCircle, OneDerivation, GoodIsAtHome, ComesOut, CircularReturns, CircularGoesOn, PlanExists, OnePlan, LineageExists, OneLineage, ResolutionExists, OneResolution, DerivedIsLineage, LineageIsDerived, LineageOnce, LineageHas, LineageSupersFirst, LineageRecorded, SettledStay, PreparedStay, PostedStay, RequestAnswerStays, ReferenceAnswerStays, OneRequestAnswer, OneReferenceAnswer, RunsAreSound, StepIsSound, ClashViolates, ViolationClashes, RecordedLoadStands, RecordedAnswers, UnmetIsFresh, ServiceGoesOn, ServiceIsWhole, NextStepMayHappen, BegunIsRun, OneNextStep, ComeToEnds, ServiceWithinCost, LoadNeedIsNext, ResolveNeedIsNext, SettleIsNext, LinkNeedIsNext, PrepareIsNext, LoadComes, ResolutionComes, ServicesGoOn, NoRoundLeft, WaitingIsNext, RootIsNext, MissingStops, FaultyStops, CircleStops, AnswersAtOnce, CircleIsAnswered, CircularIsAnswered, PartBegins, RunThen, RunParts, StateThen, SaidAlike, SaidReference, PlanIsReference, ReferenceIsPlan, RecordedIsReached, ReachedIsRecorded, AnsweredMaySettle, ImposedMayPrepare, SaidIsSettled, LinkedIsPrepared, LineagePrepared, FileIsSpelt, StepsThen, StepsSame, NextMayBeMade, StepAdds, SameKey, ClassTexts, VerdictTexts, AnswerTexts, EventTexts};
 
 /// A home is its own home.
 pub fn home_of_home()
@@ -281,10 +281,29 @@ pub fn service_is_whole()
     ensures { ServiceIsWhole }
 {}
 
+/// What comes next in a service may happen, so that a service that was begun is a run.
+pub fn service_is_run()
+    ensures step { NextStepMayHappen }
+    ensures run { BegunIsRun }
+{}
+
+/// At most one step comes next in a service, and none once it has come to its verdict.
+pub fn one_next_step()
+    ensures one { OneNextStep }
+    ensures none { ComeToEnds }
+{}
+
 /// The need that comes next in the plan of a load or of a resolution is served next.
 pub fn need_is_next()
     ensures load { LoadNeedIsNext }
     ensures resolve { ResolveNeedIsNext }
+{}
+
+/// What comes next past the load: of a resolution that its reference is settled, of a link what links each class in turn.
+pub fn past_load_is_next()
+    ensures settle { SettleIsNext }
+    ensures need { LinkNeedIsNext }
+    ensures prepare { PrepareIsNext }
 {}
 
 /// What may be said of a load or of a resolution is what its service comes to.
@@ -293,9 +312,19 @@ pub fn said_is_come_to()
     ensures resolve { ResolutionComes }
 {}
 
+/// Whatever else happens, the steps of a request's service, and its post, are within its cost.
+pub fn service_within_cost()
+    ensures { ServiceWithinCost }
+{}
+
 /// Services go on by that of the next request, and by the rounds that begin after it.
 pub fn services_go_on()
     ensures { ServicesGoOn }
+{}
+
+/// Once all are served no later round may begin.
+pub fn no_round_left()
+    ensures { NoRoundLeft }
 {}
 
 /// Where a superclass is recorded, the record of the class that waits for it is the need that comes next.
@@ -368,6 +397,31 @@ pub fn said_reference()
     ensures { SaidReference }
 {}
 
+/// Past its load a resolution is answered as the reference, and the reference as the resolution.
+pub fn plan_is_reference()
+    ensures reference { PlanIsReference }
+    ensures plan { ReferenceIsPlan }
+{}
+
+/// Where a loader records the class of a request, its plan reaches that class past its load; and the other way round.
+pub fn reached_is_recorded()
+    ensures reached { RecordedIsReached }
+    ensures recorded { ReachedIsRecorded }
+{}
+
+/// What may be settled, and what may be prepared.
+pub fn answered_may_settle()
+    ensures settle { AnsweredMaySettle }
+    ensures prepare { ImposedMayPrepare }
+{}
+
+/// What a posted verdict rests on.
+pub fn said_is_settled()
+    ensures settled { SaidIsSettled }
+    ensures prepared { LinkedIsPrepared }
+    ensures lineage { LineagePrepared }
+{}
+
 /// What has a file is spelled by its own bytes, and the file names it.
 pub fn file_is_spelt()
     ensures { FileIsSpelt }
@@ -391,46 +445,6 @@ pub fn next_may_be_made()
 /// The step of a need adds it.
 pub fn step_adds()
     ensures { StepAdds }
-{}
-
-/// Trusted tables are consistent, under any source.
-pub fn trusted_is_consistent()
-    ensures { TrustedIsConsistent }
-{}
-
-/// A step that the tables allow keeps them consistent.
-pub fn allowed_is_consistent()
-    ensures { AllowedIsConsistent }
-{}
-
-/// Trusted tables stay so by a step that they allow.
-pub fn trusted_goes_on()
-    ensures { TrustedGoesOn }
-{}
-
-/// The parts of a trusted history.
-pub fn trusted_parts()
-    ensures { TrustedParts }
-{}
-
-/// In a closed state the tables allow a step that may happen.
-pub fn may_is_allowed()
-    ensures { MayIsAllowed }
-{}
-
-/// In a run the tables are trusted.
-pub fn runs_are_trusted()
-    ensures { RunsAreTrusted }
-{}
-
-/// A class is defined once, under any source.
-pub fn defined_once()
-    ensures { DefinedOnce }
-{}
-
-/// A request is answered once, under any source.
-pub fn answered_once()
-    ensures { AnsweredOnce }
 {}
 
 /// The test of two keys tells whether they are equal.

@@ -8,6 +8,7 @@ pub mod examples;
 pub mod laws;
 mod loader;
 mod request;
+pub mod table_laws;
 mod told;
 mod verdict;
 

@@ -1,5 +1,6 @@
 ghost use Rattle.std.specs.Prelude.{◌≡◌, ◌≤◌, ℕ, List, [], ◌∷◌, ◌++◌, length, IfErr, IfOk, MatchOption};
-ghost use Rattle.std.specs.Prelude.{refl, nat_eq, Some};
+ghost use Rattle.std.specs.Prelude.{refl, nat_eq, Some, string_bytes};
+ghost use Rattle.std.specs.Option.{option_map};
 ghost use Rattle.std.specs.Ordering.{nat_cmp};
 ghost use Rattle.std.specs.Cmp;
 ghost use Rattle.std.specs.Cmp.Lexicographic.{pointwise, slice_cmp, nat_list_eq_equiv, nat_list_cmp_total, texts_ties, texts_po};
@@ -8,14 +9,16 @@ ghost use Rattle.std.specs.Hash as fed;
 ghost use Rattle.std.proofs.Common.{rules};
 ghost use Rattle.cl_names.specs.Text.{IsModifiedUtf8};
 ghost use Rattle.cl_names.specs.Escape.{escaped, WritesName};
-ghost use Rattle.cl_names.specs.Form.{completes};
 ghost use Rattle.cl_names.specs.Name.{TestedNameOf, WritesClass};
+ghost use Rattle.cl_names.specs.Plain.{plain_of};
 
 use crate::escape::{printed, written};
-use crate::form::Form;
 use crate::kind::{
-    MAX_LEN, is_class_name, is_method_name, is_unqualified_name, package_len, read_form,
+    MAX_LEN, has_class_form, has_method_form, has_unqualified_form, is_class_name, is_method_name,
+    is_unqualified_name, package_len,
 };
+use crate::plain::plain;
+use crate::text::is_text;
 use std::alloc::{AllocError, Global};
 use std::cmp::Ordering;
 use std::hash::{Hash, Hasher};
@@ -122,7 +125,18 @@ impl Name {
     pub fn any(alloc: Global, bytes: &[u8]) -> Result<Name, NameFault>
         ensures { NameOf bytes.now result }
     {
-        spelled(alloc, bytes, Form::Any)
+        spelled(alloc, bytes, true)
+    }
+
+    /// The name whose bytes these are, which are known to be text: they are copied, and not looked at again.
+    pub fn of_text(alloc: Global, bytes: &[u8]) -> Result<Name, AllocError>
+        requires text { IsModifiedUtf8 bytes.now }
+        requires short { length bytes.now ≤ 65535 }
+        ensures { IfOk result (λ name. name ≡ bytes.now) }
+    {
+        Ok(Name {
+            bytes: ArcSlice::from_slice(alloc, bytes)?,
+        })
     }
 
     /// The class's name that the bytes spell, unqualified names with `/` between them: `NotModifiedUtf8`,
@@ -130,7 +144,7 @@ impl Name {
     pub fn class(alloc: Global, bytes: &[u8]) -> Result<Name, NameFault>
         ensures { KindNameOf IsClass bytes.now result }
     {
-        spelled(alloc, bytes, Form::Class { fresh: true })
+        spelled(alloc, bytes, has_class_form(bytes))
     }
 
     /// The unqualified name that the bytes spell, with none of `.` `;` `[` `/`: `NotModifiedUtf8`, then
@@ -138,7 +152,7 @@ impl Name {
     pub fn unqualified(alloc: Global, bytes: &[u8]) -> Result<Name, NameFault>
         ensures { KindNameOf IsUnqualified bytes.now result }
     {
-        spelled(alloc, bytes, Form::Unqualified { fresh: true })
+        spelled(alloc, bytes, has_unqualified_form(bytes))
     }
 
     /// The method's name that the bytes spell, unqualified without `<` and `>`, or `<init>` or
@@ -147,7 +161,7 @@ impl Name {
     pub fn method(alloc: Global, bytes: &[u8]) -> Result<Name, NameFault>
         ensures { KindNameOf IsMethod bytes.now result }
     {
-        spelled(alloc, bytes, Form::Method { fresh: true })
+        spelled(alloc, bytes, has_method_form(bytes))
     }
 
     /// The name of any kind that escaped text writes: each code unit as itself, where it is one of
@@ -223,6 +237,14 @@ impl Name {
     }
 
     /// A copy: another handle on the same bytes, which takes no memory. An error only past as many copies
+    /// The name in UTF-8, as a system's paths are written, where a supplementary character is one character; none where
+    /// the name has U+0000 or half of a supplementary character.
+    pub fn plain(&self, alloc: Global) -> Result<Option<String>, AllocError>
+        ensures { IfOk result (λ o. option_map string_bytes o ≡ plain_of self.now) }
+    {
+        plain(alloc, self.bytes())
+    }
+
     /// as a counter counts.
     pub fn try_clone(&self, _alloc: Global) -> Result<Name, AllocError>
         ensures { IfOk result (λ name. name ≡ self.now) }
@@ -251,17 +273,16 @@ pub fn class_name(alloc: Global, text: &str) -> Result<Option<Name>, AllocError>
     Ok(Some(name))
 }
 
-/// The name that the bytes spell, where they have this form.
-fn spelled(alloc: Global, bytes: &[u8], form: Form) -> Result<Name, NameFault>
-    ensures { TestedNameOf (completes form bytes.now) bytes.now result }
+/// The name that the bytes spell, where they have the form that is wanted.
+#[tactic(auto, using(crate::proofs::Texts::text_from_test))]
+fn spelled(alloc: Global, bytes: &[u8], has_form: bool) -> Result<Name, NameFault>
+    ensures { TestedNameOf has_form bytes.now result }
 {
-    let Some(has_form) = read_form(bytes, form) else {
+    if !is_text(bytes) {
         return Err(NameFault::NotModifiedUtf8);
-    };
+    }
     if !has_form || bytes.len() > MAX_LEN {
         return Err(NameFault::BadName);
     }
-    Ok(Name {
-        bytes: ArcSlice::from_slice(alloc, bytes)?,
-    })
+    Ok(Name::of_text(alloc, bytes)?)
 }

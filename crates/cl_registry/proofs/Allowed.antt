@@ -23,7 +23,7 @@ use Rattle.cl_model.specs.Works.{Made}
 use Rattle.cl_model.specs.Plans.{Load, Plan, derive, load, plan_from, needs_of}
 use Rattle.cl_model.specs.Machine.{Setting, Scheduled, Answers, MaySay, MayAnswer, MayPost}
 use Rattle.cl_model.specs.Views.{answer_of, request_of}
-use Rattle.cl_model.proofs.Chains.{one_above}
+use Rattle.cl_model.proofs.Ascents.{one_above}
 use Rattle.cl_model.proofs.Closed.{runs_are_closed}
 use Rattle.cl_model.proofs.Complete.{file_is}
 use Rattle.cl_model.proofs.Derived.{load_ok}

@@ -11,7 +11,7 @@ use Rattle.cl_model.specs.States.{State, Answer, start}
 use Rattle.cl_model.specs.Machine.{Step, Define, Post, after, state_after}
 use Rattle.cl_model.specs.Views.{answer_of, answers_of, answer_at, post_of, step_of, steps_of}
 use Rattle.cl_registry.specs.Kept.{left_in}
-use Rattle.cl_registry.specs.Tables.{Shown, steps, state_of, posts, is_in, EachOnce, IsTrusted, with_define, with_post, IsOpen}
+use Rattle.cl_registry.specs.Tables.{Shown, steps, state_of, posts, is_in, IsTrusted, with_define, with_post, IsOpen}
 
 pub eq_nat : (a b : ℕ) → nat_eq a b ≡ true → a ≡ b
 eq_nat a b e = grind (arith, nat_tests)
@@ -112,15 +112,6 @@ is_in_push (x ∷ xs) p q = ap (λ b. nat_eq p x || b) (is_in_push xs p q) ∙ r
 
 pub swap_nat : (a b : ℕ) → nat_eq a b ≡ nat_eq b a
 swap_nat a b = grind (arith, nat_tests)
-
-or_all : (a b : Bool) → a ≡ false → b ≡ false → (a || b) ≡ false
-or_all a b p q = rw (p, q) refl
-
-pub each_push : (xs : List ℕ) (q : ℕ) → EachOnce xs → is_in q xs ≡ false → EachOnce (xs ++ q ∷ [])
-each_push [] q h out = (refl, tt)
-each_push (x ∷ xs) q h out =
-    let o = or_of_false (nat_eq q x) (is_in q xs) out in
-    (is_in_push xs x q ∙ or_all (is_in x xs) (nat_eq x q) h.0 (swap_nat x q ∙ o.0), each_push xs q h.1 o.1)
 
 pub posted_by : (xs : List (Option rust.Answer)) (h : List ℕ) (p q : ℕ) (a : rust.Answer) (b : Bool) → nat_eq q p ≡ b → slice_get xs q ≡ Some None → is_in p h ≡ is_some (given xs p) → (is_in p h || b) ≡ is_some (given (slice_set xs q (Some a)) p)
 posted_by xs h p q a true e is at =

@@ -18,14 +18,16 @@ use Rattle.cl_model.specs.States.{State, Record, recorded, start}
 use Rattle.cl_model.specs.Machine.{Step, state_after}
 use Rattle.cl_model.specs.Views.{answers_of, steps_of}
 use Rattle.cl_hierarchy.specs.declared.row.ClassRow.{ClassRow}
+use Rattle.cl_model.specs.Tables as tables
+use Rattle.cl_delegation.specs.Worlds.{scheduled_of}
 use Rattle.cl_hierarchy.specs.Drafts.{IsDraft, Drafted}
 use Rattle.cl_registry.specs.Parts.{IsOf, is_above, EntersIn, BackedIn}
 use Rattle.cl_registry.specs.Findings.{Answered, loader_of, name_of, Rests}
 use Rattle.cl_registry.specs.Kept.{left_in, IsRegistry}
 pub use Rattle.cl_registry.proofs.Histories.{posts_define, posts_post}
-use Rattle.cl_registry.proofs.Histories.{eq_nat, state_defines, given, left_set, swap_nat, is_in_push, each_push, posted_by, unposted, state_posts}
-use Rattle.cl_registry.proofs.Running.{run_define, run_post, run_new, named_define, named_post, named_new}
-use Rattle.cl_registry.specs.Tables.{Shown, steps, records_of, posts, is_in, EachOnce, NoneTwice, with_define, with_post, IsRow, RowAt, MayEnter, AboveIn, IsOpen, IsBacked, AnswerBacked, DefinedAs}
+use Rattle.cl_registry.proofs.Histories.{eq_nat, state_defines, given, left_set, swap_nat, is_in_push, posted_by, unposted, state_posts}
+use Rattle.cl_registry.proofs.Running.{run_define, run_post, run_new, trusted_define, trusted_post, named_define, named_post, named_new}
+use Rattle.cl_registry.specs.Tables.{Shown, steps, records_of, posts, is_in, with_define, with_post, IsRow, RowAt, MayEnter, AboveIn, IsOpen, IsBacked, AnswerBacked, DefinedAs}
 
 -- ---- records
 
@@ -46,10 +48,6 @@ pub recorded_push : (rs : List Record) (r : Record) (l : ℕ) (n : List ℕ) →
 recorded_push rs r l n =
     ap (option_map (λ (r : Record). r.place)) (found_push (λ r. (r.loader == l) && same_name r.name n) rs r)
     ∙ place_or (find (λ r. (r.loader == l) && same_name r.name n) rs) ((r.loader == l) && same_name r.name n) r
-
-none_push : (before rs : List Record) (r : Record) → NoneTwice before rs → recorded (before ++ rs) r.loader r.name ≡ None → NoneTwice before (rs ++ r ∷ [])
-none_push before [] r h new = (subst (λ (rs : List Record). recorded rs r.loader r.name ≡ None) (append-nil before) new, tt)
-none_push before (x ∷ rs) r h new = (h.0, none_push (before ++ x ∷ []) rs r h.1 (subst (λ (l : List Record). recorded l r.loader r.name ≡ None) (sym (append_assoc before (x ∷ []) rs)) new))
 
 -- ---- rows
 
@@ -117,8 +115,7 @@ kept_define told x table new d row parts wide used now room more left filled ans
         named = named_define x d.class k.kept.named may.loader;
         run = run_define told x d k.kept.run k.kept.one fresh may draft;
         trusted = record {
-          once = subst (λ (rs : List Record). NoneTwice [] rs) (sym (ap (λ (s : State). s.records) (state_defines x d.class))) (none_push [] (records_of x) (record { loader = d.class.loader; name = d.class.name; place = d.class.loader }) k.kept.trusted.once fresh);
-          posted_once = subst EachOnce (sym (posts_define x.history d.class)) k.kept.trusted.posted_once;
+          tables = trusted_define x d.class k.kept.trusted fresh;
           posted = λ q. ap (is_in q) (posts_define x.history d.class) ∙ k.kept.trusted.posted q;
           whole = k.kept.trusted.whole;
         };
@@ -145,8 +142,7 @@ kept_post told x table q r a parts used now room more left less filled answers k
         named = named_post x q a k.kept.named backed.names;
         run = run_post told x q r a k.kept.run k.kept.one k.kept.trusted asked is backed rests;
         trusted = record {
-          once = subst (λ (rs : List Record). NoneTwice [] rs) (sym records) k.kept.trusted.once;
-          posted_once = subst EachOnce (sym (posts_post x.history q)) (each_push (posts x.history) q k.kept.trusted.posted_once out);
+          tables = trusted_post x q r a k.kept.trusted asked is backed;
           posted = λ p. ap (is_in p) (posts_post x.history q) ∙ is_in_push (posts x.history) p q ∙ posted_by x.answers (posts x.history) p q a (nat_eq p q) (swap_nat q p) is (k.kept.trusted.posted p);
           whole = length-set x.answers q (Some a) ∙ k.kept.trusted.whole;
         };
@@ -185,8 +181,7 @@ kept_new told x table parts used room left filled answers h a s loaders width no
         named = named_new x left h a;
         run = run_new told x no-steps;
         trusted = record {
-          once = subst (λ (rs : List Record). NoneTwice [] rs) (sym records) tt;
-          posted_once = subst EachOnce (sym no-posts) tt;
+          tables = subst (λ (es : List Step). tables.IsTrusted (scheduled_of x.script) 1 es) (sym no-steps) tt;
           posted = λ q. ap (is_in q) no-posts ∙ sym (ap (λ (xs : List (Option rust.Answer)). is_some (given xs q)) a ∙ ap is_some (none_given left q));
           whole = whole ∙ sym s;
         };

@@ -17,9 +17,9 @@ use Rattle.cl_model.specs.Classes.{class, Error, NoClassDef, ClassCircularity, n
 use Rattle.cl_model.specs.States.{Wrong}
 use Rattle.cl_model.specs.Plans as plans
 use Rattle.cl_model.specs.Views.{request_of, error_of}
-use Rattle.cl_model.specs.Chains.{Waiting, first_or, stands_in, absent_of, EndsAtOnce}
+use Rattle.cl_model.specs.Ascents.{Waiting, first_or, stands_in, absent_of, EndsAtOnce}
 use Rattle.cl_model.proofs.Runs.{names_equal}
-use Rattle.cl_model.proofs.Chains.{chain_push, first_push}
+use Rattle.cl_model.proofs.Ascents.{ascent_push, first_push}
 use Rattle.cl_model.proofs.Stops.{missing_stops, faulty_stops, circle_stops, stands_push, once_push}
 use Rattle.cl_hierarchy.specs.declared.draft.DraftFault.{DraftFault}
 use Rattle.cl_hierarchy.specs.declared.draft.DraftFault.TheVariants as drafts
@@ -109,7 +109,7 @@ module _ (c : Configured) (content : Content) (one : length c.names ≡ 1) where
       let xs = map waiting w.drafts in
       let x : Waiting = record { name = w.at; file = file_of d.file } in
       let file : HasFile v (class w.at w.loader) (file_of d.file) = subst (λ (k : Class). HasFile v k (file_of d.file)) is (draft_file c content one d (subst (λ (k : Class). k.loader < length c.names) (sym is) at) draft) in
-      let chain = chain_push v w.loader xs x above (walk_is_chain c content one w at walk) (record { has_file = file; superclass = sup }) in
+      let chain = ascent_push v w.loader xs x above (walk_is_chain c content one w at walk) (record { has_file = file; superclass = sup }) in
       let once = once_push xs x (waits_once (Some content) w walk) (stands_waiting w.drafts w.at ∙ walk.unseen) in
       let stood : stands_in (xs ++ x ∷ []) above ≡ true =
       stands_push xs x above ∙ ap (λ (b : Bool). b || same_name above w.at) (stands_waiting w.drafts above) ∙ or_swapped (same_name above w.at) (has above (names w.drafts)) again in

@@ -18,22 +18,25 @@ use Rattle.cl_model.specs.declared.answer.Answer as rust
 use Rattle.cl_model.specs.declared.answer.Answer.TheVariants as answers
 use Rattle.cl_model.specs.Content.{Content}
 use Rattle.cl_model.specs.Homes.{home}
-use Rattle.cl_model.specs.Classes.{class}
+use Rattle.cl_model.specs.Classes.{class, Error}
 use Rattle.cl_model.specs.Texts.{AnswerNames, EventNames}
 use Rattle.cl_model.specs.States.{State, start, Equality, Posted, Entry, Verdict, IsClass, Wrong, Answer, recorded, answer_to, IsPath, Clashes, MayAdd}
 use Rattle.cl_model.specs.Plans.{Load}
 use Rattle.cl_model.specs.Service.{IsNextNeed}
 use Rattle.cl_model.specs.Machine.{Setting, Scheduled, Step, Define, Initiate, Post, May, MaySay, MayAnswer, MayPost, after, state_after, Run, Answers, AnswersPlan, IsClosed}
 use Rattle.cl_model.specs.Views.{answer_of, answers_of, answer_at, error_of, post_of, request_of, step_of, steps_of}
+use Rattle.cl_model.specs.Tables as tables
+use Rattle.cl_model.specs.Tables.{Records, BearsAnswer}
+use Rattle.cl_model.proofs.Tables.{trusted_goes_on}
 use Rattle.cl_model.proofs.Runs.{run_goes_on}
 use Rattle.cl_model.proofs.Closed.{runs_are_closed}
 use Rattle.cl_model.proofs.Complete.{some_place}
 use Rattle.cl_model.proofs.Ending.{if_some}
-use Rattle.cl_model.proofs.Chains.{next_waiting, next_root}
+use Rattle.cl_model.proofs.Ascents.{next_waiting, next_root}
 use Rattle.cl_model.proofs.Progress.{next_may}
 use Rattle.cl_model.proofs.Looks.{recorded_answers}
 use Rattle.cl_config.specs.Views.{Configured, Scripted}
-use Rattle.cl_delegation.specs.Worlds.{world_of, setting_of}
+use Rattle.cl_delegation.specs.Worlds.{world_of, scheduled_of, setting_of}
 use Rattle.cl_hierarchy.specs.Drafts.{IsDraft, Drafted}
 use Rattle.cl_registry.specs.Findings.{loader_of, name_of, AnswerRests, Rests}
 use Rattle.cl_registry.specs.Tables.{Shown, steps, state_of, records_of, posts, is_in, IsTrusted, RunsAs, NamesLoaders, with_define, with_post, AboveIn, MayEnter, AnswerBacked, IsBacked, IsOpen}
@@ -179,11 +182,15 @@ may_answer c sc content s (requests.Load l name) (answers.Said (verdicts.Error k
 may_answer c sc content s r answers.Memory closed backed rests = tt
 may_answer c sc content s r (answers.SourceFault name l) closed backed rests = tt
 
+-- the script of the machine asks what the registry's does
+script_asks : (x : Shown) (q : ℕ) (r : Request) → slice_get x.script.requests q ≡ Some r → slice_get (scheduled_of x.script) q ≡ Some (scheduled r)
+script_asks x q r asked = slice_get-map scheduled x.script.requests q ∙ ap (λ (o : Option Request). option_map scheduled o) asked
+
 pub may_post : (content : Content) (x : Shown) (q : ℕ) (r : Request) (a : rust.Answer) → RunsAs (Some content) x → length x.config.names ≡ 1 → IsTrusted x → slice_get x.script.requests q ≡ Some r → IsOpen x q → IsBacked x (record { request = r; answer = a }) → Rests (Some content) r a
     → MayPost (setting_of x.config x.script content) (state_of x) q (answer_of a)
 may_post content x q r a run one trusted asked is backed rests = record {
   scheduled = scheduled r;
-  asked = slice_get-map scheduled x.script.requests q ∙ ap (λ (o : Option Request). option_map scheduled o) asked;
+  asked = script_asks x q r asked;
   in_round = sym (calm x).round;
   unposted = unposted_stays (answers_of x.answers) x.history start q (unposted x q trusted is);
   may_answer = may_answer x.config x.script content (state_of x) r a (runs_are_closed (setting_of x.config x.script content) (steps x) run) backed.answer (rests x.config one backed.loader);
@@ -199,6 +206,38 @@ run_post (Some content) x q r a run one trusted asked is backed rests =
 pub run_new : (told : Option Content) (x : Shown) → steps x ≡ [] → RunsAs told x
 run_new None x e = tt
 run_new (Some content) x e = subst (λ (es : List Step). Run (setting_of x.config x.script content) start es) (sym e) tt
+
+-- ---- trusted tables, under any source
+
+class_is : (c k : Class) → IsClass k ≡ IsClass c → k ≡ c
+class_is c k e = cc
+
+no_class : (c : Class) (e : Error) → Wrong e ≡ IsClass c → ⊥
+no_class c e h = cc
+
+-- what is backed is borne by the tables
+borne : (s : State) (r : Request) (a : rust.Answer) → AnswerBacked (recorded s.records (loader_of r) (name_of r)) (name_of r) a → BearsAnswer s (request_of r) (answer_of a)
+borne s (requests.Load l name) (answers.Said (verdicts.Class k)) backed = λ c e. subst (λ (d : Class). Records s l name d) (class_is c k e) (backed.1, backed.0)
+borne s (requests.Load l name) (answers.Said (verdicts.Error kind k)) backed = λ c e. absurd (no_class c (error_of kind k) e)
+borne s (requests.Load l name) answers.Memory backed = tt
+borne s (requests.Load l name) (answers.SourceFault n m) backed = tt
+
+pub trusted_define : (x : Shown) (c : Class) → IsTrusted x → recorded (records_of x) c.loader c.name ≡ None → tables.IsTrusted (scheduled_of x.script) 1 (steps (with_define x c))
+trusted_define x c trusted fresh =
+    subst (λ (es : List Step). tables.IsTrusted (scheduled_of x.script) 1 es) (sym (steps_defines x c))
+    (trusted_goes_on (scheduled_of x.script) 1 (steps x) (Define c) trusted.tables (record { fresh = fresh; fits = no_clash (state_of x) c.loader c.name (calm x).equalities fresh }))
+
+pub trusted_post : (x : Shown) (q : ℕ) (r : Request) (a : rust.Answer) → IsTrusted x → slice_get x.script.requests q ≡ Some r → IsOpen x q → IsBacked x (record { request = r; answer = a }) → tables.IsTrusted (scheduled_of x.script) 1 (steps (with_post x q a))
+trusted_post x q r a trusted asked is backed =
+    let out = unposted x q trusted is in
+    subst (λ (es : List Step). tables.IsTrusted (scheduled_of x.script) 1 es) (sym (steps_posts x q a out is))
+    (trusted_goes_on (scheduled_of x.script) 1 (steps x) (Post q (answer_of a)) trusted.tables (record {
+      scheduled = scheduled r;
+      asked = script_asks x q r asked;
+      in_round = sym (calm x).round;
+      unposted = unposted_stays (answers_of x.answers) x.history start q out;
+      bears = borne (state_of x) r a backed.answer;
+    }))
 
 -- ---- loaders
 

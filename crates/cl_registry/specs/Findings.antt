@@ -10,7 +10,7 @@ use Rattle.cl_model.specs.Content.{Content}
 use Rattle.cl_model.specs.Classes.{class}
 use Rattle.cl_model.specs.States.{Wrong}
 use Rattle.cl_model.specs.Homes.{World}
-use Rattle.cl_model.specs.Chains.{EndsAtOnce}
+use Rattle.cl_model.specs.Ascents.{EndsAtOnce}
 use Rattle.cl_model.specs.Views.{request_of, error_of}
 use Rattle.cl_hierarchy.specs.declared.draft.DraftFault.{DraftFault}
 use Rattle.cl_hierarchy.specs.declared.draft.DraftFault.TheVariants as drafts
@@ -21,7 +21,7 @@ use Rattle.cl_delegation.specs.Worlds.{world_of}
 use Rattle.cl_hierarchy.specs.Drafts.{Drafted}
 use Rattle.cl_hierarchy.specs.Walks.{Walked, root, stands}
 
--- a request and its answer (own choice)
+-- a request and its answer
 pub record Answered : Type 0 where
   pub request : requests.Request
   pub answer : answers.Answer

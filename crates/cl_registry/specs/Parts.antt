@@ -1,5 +1,6 @@
 -- What the steps of a registry's calls make of plain tables (JVMS SE 8, 5.3, 5.3.5).
-use Rattle.std.specs.Prelude.{◌≡◌, ◌<◌, ℕ, Bool, true, List, Option, Some, None, option_map}
+use Rattle.std.specs.Prelude.{◌≡◌, ◌<◌, ◌==◌, ◌&&◌, ℕ, Bool, true, nat_eq, if◌then◌else◌, List, Option, Some, None, option_map}
+use Rattle.std.specs.Cmp.Lexicographic.{pointwise}
 use Rattle.cl_classfile.specs.Files.{file_of}
 use Rattle.cl_model.specs.declared.answer.Answer.{Answer}
 use Rattle.cl_model.specs.declared.request.Request.{Request}
@@ -14,6 +15,19 @@ use Rattle.cl_registry.specs.Tables.{AnswerBacked}
 abbrev pub is_above : (List ℕ → Bool) → Option (List ℕ) → Bool
 is_above has_row None = true
 is_above has_row (Some name) = has_row name
+
+-- a table has this row for a loader and a name, and for others what it had (5.3)
+abbrev pub IsPut : {R : Type 0} → (ℕ → List ℕ → Option R) → (ℕ → List ℕ → Option R) → ℕ → List ℕ → R → Type 0
+IsPut old new loader name row =
+    (l : ℕ) (n : List ℕ) → new l n ≡ (if (loader == l) && pointwise nat_eq name n then Some row else old l n)
+
+-- two tables have the same rows (5.3)
+abbrev pub HasSameRows : {R : Type 0} → (ℕ → List ℕ → Option R) → (ℕ → List ℕ → Option R) → Type 0
+HasSameRows old new = (l : ℕ) (n : List ℕ) → new l n ≡ old l n
+
+-- a table of handles, as one of what they share
+abbrev pub shared_rows : {R V : Type 0} → (R → V) → (ℕ → List ℕ → Option R) → ℕ → List ℕ → Option V
+shared_rows value table l n = option_map value (table l n)
 
 -- a row is made of this draft (5.3.5, step 5)
 pub record IsOf (row : ClassRow) (d : Drafted) : Type 0 where

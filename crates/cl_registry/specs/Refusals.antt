@@ -1,17 +1,16 @@
 -- When a registry refuses a value (own choice; JVMS SE 8, 5.3.5).
-use Rattle.std.specs.Prelude.{◌≡◌, ◌⊎◌, ℕ, None}
-use Rattle.cl_model.specs.States.{recorded}
+use Rattle.std.specs.Prelude.{◌⊎◌, ℕ}
 use Rattle.cl_registry.specs.declared.registry.RegistryFault.{RegistryFault}
 use Rattle.cl_registry.specs.declared.registry.RegistryFault.TheVariants.{Memory, Stray, AlreadyPosted, NotYet}
 use Rattle.cl_hierarchy.specs.Drafts.{Drafted}
 use Rattle.cl_registry.specs.Findings.{Answered}
-use Rattle.cl_registry.specs.Tables.{Shown, records_of, MayEnter, IsAsked, IsOpen, IsBacked}
+use Rattle.cl_registry.specs.Tables.{Shown, IsNew, MayEnter, IsAsked, IsOpen, IsBacked}
 
--- a class is strayed where its loader has no record of it and it may not be recorded; others are refused for want of
--- memory alone (5.3.5, steps 1 and 3)
+-- a class is strayed where its loader has no record of it and it may not be recorded; others are refused where memory ran
+-- out alone (5.3.5, steps 1 and 3)
 abbrev pub DefineRefusedFor : Shown → Drafted → RegistryFault → Type 0
-DefineRefusedFor x d Memory = recorded (records_of x) d.class.loader d.class.name ≡ None → MayEnter x d
-DefineRefusedFor x d Stray = (recorded (records_of x) d.class.loader d.class.name ≡ None) × (MayEnter x d → ⊥)
+DefineRefusedFor x d Memory = IsNew x d → MayEnter x d
+DefineRefusedFor x d Stray = IsNew x d × (MayEnter x d → ⊥)
 DefineRefusedFor x d AlreadyPosted = ⊥
 DefineRefusedFor x d NotYet = ⊥
 

@@ -1,20 +1,20 @@
--- What a report says of the registry that it was made from (own choice).
+-- What a report says of the registry that it was made from.
 use Rattle.std.specs.Prelude.{◌≡◌, ℕ, map, Some, All}
 use Rattle.cl_model.specs.Texts.{AnswerNames, EventNames}
 use Rattle.cl_registry.specs.declared.report.Report.{Report}
 use Rattle.cl_registry.specs.Tables.{Shown, IsOpen}
 
--- the script, the history, and the answers, each of which was given (own choice)
+-- the script, the history, and the answers, each of which was given
 pub record IsReport (x : Shown) (r : Report) : Type 0 where
   pub script : r.script.value ≡ x.script
   pub history : r.history ≡ x.history
   pub answers : map (λ a. Some a) r.answers ≡ x.answers
 
--- each loader that the report names is below this count (own choice)
+-- each loader that the report names is below this count
 pub record IsNamed (count : ℕ) (r : Report) : Type 0 where
   pub history : All (EventNames count) r.history
   pub answers : All (AnswerNames count) r.answers
 
--- a request has no answer (own choice)
+-- a request has no answer
 abbrev pub HasOpen : Shown → Type 0
 HasOpen x = (q : ℕ) × IsOpen x q

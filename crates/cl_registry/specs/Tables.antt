@@ -1,5 +1,5 @@
 -- What a registry keeps, and what a call does to it.
-use Rattle.std.specs.Prelude.{◌≡◌, ◌<◌, ℕ, Bool, false, ◌||◌, nat_eq, List, [], ◌∷◌, ◌++◌, length, Option, Some, None, is_some, slice_get, slice_set, option_map, option_and_then, IsSome, IfSome, All}
+use Rattle.std.specs.Prelude.{◌≡◌, ◌<◌, ℕ, Bool, false, ◌||◌, nat_eq, List, [], ◌∷◌, ◌++◌, length, Option, Some, None, is_some, replicate, slice_get, slice_set, option_map, option_and_then, IsSome, IfSome, All}
 use Rattle.std.specs.HashMap.{HashMap, get}
 use Rattle.std.specs.Cmp.Lexicographic.{pointwise}
 use Rattle.cl_classfile.specs.Files.{file_of}
@@ -15,10 +15,11 @@ use Rattle.cl_model.specs.Classes.{class}
 use Rattle.cl_model.specs.Texts.{AnswerNames, EventNames}
 use Rattle.cl_model.specs.States.{State, Record, recorded, start}
 use Rattle.cl_model.specs.Machine.{Step, state_after, Run}
+use Rattle.cl_model.specs.Tables as tables
 use Rattle.cl_model.specs.Views.{answers_of, answer_at, steps_of}
 use Rattle.cl_hierarchy.specs.declared.row.ClassRow.{ClassRow}
 use Rattle.cl_config.specs.Views.{Configured, Scripted}
-use Rattle.cl_delegation.specs.Worlds.{setting_of}
+use Rattle.cl_delegation.specs.Worlds.{scheduled_of, setting_of}
 use Rattle.cl_hierarchy.specs.Drafts.{Drafted, IsDraft}
 use Rattle.cl_registry.specs.Findings.{Answered, loader_of, name_of}
 
@@ -28,6 +29,11 @@ pub record Shown : Type 0 where
   pub script : Scripted
   pub history : List Event
   pub answers : List (Option Answer)
+
+-- no event, and no answer to any request (own choice)
+abbrev pub empty_of : Configured → Scripted → Shown
+empty_of config script =
+    record { config = config; script = script; history = []; answers = replicate (length script.requests) None }
 
 -- the steps of the linkage machine that the history tells (own choice)
 abbrev pub steps : Shown → List Step
@@ -52,21 +58,10 @@ abbrev pub is_in : ℕ → List ℕ → Bool
 is_in n [] = false
 is_in n (x ∷ xs) = nat_eq n x || is_in n xs
 
--- no number stands twice (own choice)
-abbrev pub EachOnce : List ℕ → Type 0
-EachOnce [] = Unit {0}
-EachOnce (x ∷ xs) = (is_in x xs ≡ false) × EachOnce xs
-
--- no loader records a name twice (5.3.5)
-abbrev pub NoneTwice : List Record → List Record → Type 0
-NoneTwice before [] = Unit {0}
-NoneTwice before (r ∷ rs) = (recorded before r.loader r.name ≡ None) × NoneTwice (before ++ r ∷ []) rs
-
--- what holds under any source: no name is defined twice by a loader, no request is answered twice, and those that have an
--- answer are those whose post the history has (5.3.5)
+-- what holds under any source: the tables can be trusted, those requests have an answer whose post the history has, and
+-- each has a place for one (5.3, 5.3.5)
 pub record IsTrusted (x : Shown) : Type 0 where
-  pub once : NoneTwice [] (records_of x)
-  pub posted_once : EachOnce (posts x.history)
+  pub tables : tables.IsTrusted (scheduled_of x.script) 1 (steps x)
   pub posted : (q : ℕ) → is_in q (posts x.history) ≡ is_some (answer_at (answers_of x.answers) q)
   pub whole : length x.answers ≡ length x.script.requests
 
@@ -104,6 +99,10 @@ pub record IsRow (told : Option Content) (row : ClassRow) (loader : ℕ) (name :
   pub draft : IsDraft told (record { class = row.class; file = row.file.value })
   pub superclass : row.superclass ≡ option_map (λ (n : List ℕ). class n place) (file_of row.file.value).super_name
 
+-- the same of the loader that defined its class (5.3.5)
+abbrev pub IsRowFor : Option Content → ClassRow → ℕ → List ℕ → Type 0
+IsRowFor told row loader name = IsRow told row loader name row.class.loader
+
 -- what is looked up is recorded, and nothing else (5.3)
 abbrev pub RowAt : Option Content → ℕ → List ℕ → Option ClassRow → Option ℕ → Type 0
 RowAt told loader name None None = Unit {0}
@@ -116,6 +115,18 @@ abbrev pub row_at : {R S : Type 0} → List (HashMap (List ℕ) R S) → ℕ →
 row_at rows loader name = option_and_then (λ m. get (pointwise nat_eq) m name) (slice_get rows loader)
 
 -- ---- calls
+
+-- the loader has recorded the name as this row's class (5.3)
+abbrev pub Records : Shown → ℕ → List ℕ → ClassRow → Type 0
+Records x loader name row = recorded (records_of x) loader name ≡ Some row.class.loader
+
+-- the loader has not recorded the name (5.3)
+abbrev pub LacksRecord : Shown → ℕ → List ℕ → Type 0
+LacksRecord x loader name = recorded (records_of x) loader name ≡ None
+
+-- the class's own loader has not recorded it (5.3.5)
+abbrev pub IsNew : Shown → Drafted → Type 0
+IsNew x d = LacksRecord x d.class.loader d.class.name
 
 -- a class may be recorded: its loader is one of these, and its superclass is recorded, if it has one (5.3.5)
 abbrev pub AboveIn : List Record → ℕ → Option (List ℕ) → Type 0
@@ -131,6 +142,10 @@ pub record MayEnter (x : Shown) (d : Drafted) : Type 0 where
 abbrev pub DefinedAs : Shown → Shown → Drafted → Option ℕ → Type 0
 DefinedAs old new d None = (new ≡ with_define old d.class) × MayEnter old d
 DefinedAs old new d (Some place) = new ≡ old
+
+-- the class is recorded, by an event more unless its loader has recorded the name before (5.3.5)
+abbrev pub Defines : Shown → Shown → Drafted → Type 0
+Defines old new d = DefinedAs old new d (recorded (records_of old) d.class.loader d.class.name)
 
 -- what an answer rests on is recorded: the class that is answered, by the loader that defined it (5.3)
 abbrev pub VerdictBacked : Option ℕ → List ℕ → Verdict → Type 0
@@ -156,3 +171,7 @@ IsAsked x q f = slice_get x.script.requests q ≡ Some f.request
 -- the request of this number has no answer yet (own choice)
 abbrev pub IsOpen : Shown → ℕ → Type 0
 IsOpen x q = slice_get x.answers q ≡ Some None
+
+-- the request of this number asks what was answered, has no answer yet, and the tables bear the answer (5.3)
+abbrev pub Fits : Shown → ℕ → Answered → Type 0
+Fits x q f = IsAsked x q f × IsOpen x q × IsBacked x f

@@ -65,19 +65,23 @@ fn verdict_at<T: Told>(request: &Request, walk: Walk<T>, end: Obstacle<T>) -> Ve
     ensures verdict { result ≡ verdict_at walk end }
     ensures rests { Rests T.told request.now (answers.Said result) }
 {
+    // brings what a walk keeps
     let _ = walk.at();
     match end {
         Obstacle::Missing(unfound) => {
+            // brings that no content has the name, where one is told
             let _ = unfound.name();
             let kind = missing_kind(&walk);
             Verdict::Error(kind, walk.into_class())
         }
         Obstacle::Unreadable(unreadable) => {
+            // brings that the bytes are the home's, where a content is told
             let _ = unreadable.home().bytes();
             let kind = kind_of(unreadable.fault());
             Verdict::Error(kind, walk.into_class())
         }
         Obstacle::Circle(draft, above) => {
+            // brings that the draft is its class's, where a content is told
             let _ = draft.super_name();
             let loader = walk.loader();
             let class = Class {

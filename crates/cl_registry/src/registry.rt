@@ -1,6 +1,5 @@
-ghost use Rattle.std.specs.Prelude.{◌≡◌, ◌<◌, replicate, [], OnOk, IfOk, IfErr, IfSome, MatchOption, MatchResult, None, Some, length, map, slice_get};
-ghost use Rattle.cl_model.specs.States.{recorded};
-ghost use Rattle.cl_registry.specs.Tables.{DefinedAs, IsAsked, IsBacked, IsKept, IsOpen, IsRow, records_of, with_post};
+ghost use Rattle.std.specs.Prelude.{◌≡◌, OnOk, IfOk, IfErr, IfSome, MatchOption, length};
+ghost use Rattle.cl_registry.specs.Tables.{Defines, Fits, IsKept, IsNew, IsRowFor, LacksRecord, Records, empty_of, with_post};
 ghost use Rattle.cl_registry.specs.Parts.{IsOf};
 ghost use Rattle.cl_registry.specs.Refusals.{DefineRefusedFor, PostRefusedFor};
 ghost use Rattle.cl_registry.specs.Reports.{HasOpen, IsNamed, IsReport};
@@ -8,7 +7,7 @@ ghost use Rattle.cl_registry.specs.Reports.{HasOpen, IsNamed, IsReport};
 use crate::finding::Finding;
 use crate::report::{Answers, History, Report};
 use crate::tables::{
-    Rows, backs, collect, empty_rows, find, is_asked, is_open, known, may_enter, record, rooms_for,
+    Rows, backs, collect, empty_rows, find, is_asked, is_open, may_enter, record, rooms_for, row_of,
 };
 use cl_config::{Config, Script};
 use cl_hierarchy::{ClassRow, Draft};
@@ -98,9 +97,10 @@ impl<T: Told> Registry<T> {
         config: Arc<Config>,
         script: Arc<Script>,
     ) -> Result<Registry<T>, RegistryRefused>
-        ensures empty { IfOk result (λ r. r ≡ record { config = config.value; script = script.value; history = []; answers = replicate (length script.value.requests) None }) }
+        ensures empty { IfOk result (λ r. r ≡ empty_of config.value script.value) }
         ensures kept { IfOk result (λ r. IsKept T.told r) }
-        ensures back { IfErr result (λ e. (e.config.value ≡ config.value) × (e.script.value ≡ script.value)) }
+        ensures config_back { IfErr result (λ e. e.config.value ≡ config.value) }
+        ensures script_back { IfErr result (λ e. e.script.value ≡ script.value) }
     {
         let left = script.requests().len();
         let rows = match empty_rows(alloc, config.count()) {
@@ -125,8 +125,8 @@ impl<T: Told> Registry<T> {
 
     /// The class that a loader has recorded for a name (JVMS SE 8, 5.3).
     pub fn look(&self, loader: LoaderId, name: &Name) -> Option<&Arc<ClassRow>>
-        ensures found { MatchOption result (recorded (records_of self.now) loader name.now ≡ None) (λ r. recorded (records_of self.now) loader name.now ≡ Some r.now.value.class.loader) }
-        ensures row { IfSome result (λ r. IsRow T.told r.now.value loader name.now r.now.value.class.loader) }
+        ensures found { MatchOption result (LacksRecord self.now loader name.now) (λ r. Records self.now loader name.now r.now.value) }
+        ensures row { IfSome result (λ r. IsRowFor T.told r.now.value loader name.now) }
         ensures kept { IsKept T.told self.now }
     {
         find(&self.rows, loader, name)
@@ -139,14 +139,14 @@ impl<T: Told> Registry<T> {
         alloc: Global,
         draft: Draft<T>,
     ) -> Result<Arc<ClassRow>, DefineRefused<T>>
-        ensures defined { OnOk result (DefinedAs self.old self.new draft (recorded (records_of self.old) draft.class.loader draft.class.name)) }
-        ensures row { IfOk result (λ r. IsRow T.told r.value draft.class.loader draft.class.name r.value.class.loader) }
-        ensures fresh { recorded (records_of self.old) draft.class.loader draft.class.name ≡ None → IfOk result (λ r. IsOf r.value draft) }
+        ensures defined { OnOk result (Defines self.old self.new draft) }
+        ensures row { IfOk result (λ r. IsRowFor T.told r.value draft.class.loader draft.class.name) }
+        ensures fresh { IsNew self.old draft → IfOk result (λ r. IsOf r.value draft) }
         ensures refused { IfErr result (λ e. DefineRefusedFor self.old draft e.fault) }
         ensures unchanged { IfErr result (λ e. (self.new ≡ self.old) × (e.draft ≡ draft)) }
         ensures kept { IsKept T.told self.new }
     {
-        match known(&self.rows, &draft) {
+        match row_of(&self.rows, &draft) {
             Some(row) => {
                 return match Arc::try_clone(row) {
                     Ok(row) => Ok(row),
@@ -176,7 +176,7 @@ impl<T: Told> Registry<T> {
 
     /// Posts the answer of a request.
     pub fn post(&mut self, q: u32, finding: Finding<T>) -> Result<(), PostRefused<T>>
-        ensures fits { OnOk result (IsAsked self.old q finding × IsOpen self.old q × IsBacked self.old finding) }
+        ensures fits { OnOk result (Fits self.old q finding) }
         ensures posted { OnOk result (self.new ≡ with_post self.old q finding.answer) }
         ensures refused { IfErr result (λ e. PostRefusedFor self.old q finding e.fault) }
         ensures unchanged { IfErr result (λ e. (self.new ≡ self.old) × (e.finding ≡ finding)) }

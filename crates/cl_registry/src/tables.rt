@@ -1,14 +1,13 @@
 //! The tables of a registry, as plain maps and lists.
 
-ghost use Rattle.std.specs.Prelude.{◌≡◌, ℕ, List, ◌≢◌, ◌<◌, ◌≤◌, ◌&&◌, ◌==◌, [], IfOk, OnOk, OnErr, ◌+◌, ◌++◌, ◌∷◌, MatchBool, None, Some, is_some, length, map, nat_eq, replicate, slice_get, vec_len, vec_capacity, if◌then◌else◌};
+ghost use Rattle.std.specs.Prelude.{◌≡◌, ℕ, List, ◌≢◌, ◌<◌, ◌≤◌, [], IfOk, OnOk, OnErr, ◌+◌, ◌++◌, ◌∷◌, MatchBool, None, Some, is_some, length, map, replicate, slice_get, vec_len, vec_capacity};
 ghost use Rattle.std.specs.Option.{option_map};
-ghost use Rattle.std.specs.Cmp.Lexicographic.{pointwise};
 ghost use Rattle.cl_classfile.specs.Files.{file_of};
 ghost use Rattle.cl_model.specs.Classes.{class};
 ghost use Rattle.cl_model.specs.Texts.{AnswerNames, VerdictNames};
 ghost use Rattle.cl_model.specs.declared.event.Event.TheVariants as events;
 ghost use Rattle.cl_registry.specs.Kept.{left_in};
-ghost use Rattle.cl_registry.specs.Parts.{BackedIn, EntersIn, IsOf, is_above};
+ghost use Rattle.cl_registry.specs.Parts.{BackedIn, EntersIn, HasSameRows, IsOf, IsPut, is_above, shared_rows};
 ghost use Rattle.cl_registry.specs.Tables.{VerdictBacked, row_at};
 
 use cl_hierarchy::{ClassRow, Draft};
@@ -49,8 +48,8 @@ pub fn insert(
 ) -> Result<(), AllocError>
     requires { loader < length rows.old.items }
     ensures width { length rows.new.items ≡ length rows.old.items }
-    ensures put { OnOk result ((l : ℕ) (n : List ℕ) → row_at rows.new.items l n ≡ (if (loader == l) && pointwise nat_eq name n then Some row else row_at rows.old.items l n)) }
-    ensures unchanged { OnErr result ((l : ℕ) (n : List ℕ) → row_at rows.new.items l n ≡ row_at rows.old.items l n) }
+    ensures put { OnOk result (IsPut (row_at rows.old.items) (row_at rows.new.items) loader name row) }
+    ensures unchanged { OnErr result (HasSameRows (row_at rows.old.items) (row_at rows.new.items)) }
 {
     match rows[loader.0 as usize].insert(name, row) {
         Ok(_) => Ok(()),
@@ -59,7 +58,7 @@ pub fn insert(
 }
 
 /// The row of a draft's class.
-pub fn known<'a, T: Told>(rows: &'a Rows, draft: &Draft<T>) -> Option<&'a Arc<ClassRow>>
+pub fn row_of<'a, T: Told>(rows: &'a Rows, draft: &Draft<T>) -> Option<&'a Arc<ClassRow>>
     ensures { option_map (λ r. r.now) result ≡ row_at rows.now.items draft.now.class.loader draft.now.class.name }
 {
     find(rows, draft.class().loader, &draft.class().name)
@@ -148,8 +147,10 @@ pub fn record<T: Told>(
     ensures row { IfOk result (λ r. IsOf r.value draft.now) }
     ensures event { OnOk result (history.new.items ≡ history.old.items ++ events.Define draft.now.class ∷ []) }
     ensures used { OnOk result (vec_len history.new ≡ vec_len history.old + 1) }
-    ensures put { IfOk result (λ r. (l : ℕ) (n : List ℕ) → option_map (λ c. c.value) (row_at rows.new.items l n) ≡ (if (draft.now.class.loader == l) && pointwise nat_eq draft.now.class.name n then Some r.value else option_map (λ c. c.value) (row_at rows.old.items l n))) }
-    ensures unchanged { OnErr result ((history.new.items ≡ history.old.items) × (vec_len history.new ≡ vec_len history.old) × ((l : ℕ) (n : List ℕ) → row_at rows.new.items l n ≡ row_at rows.old.items l n)) }
+    ensures put { IfOk result (λ r. IsPut (shared_rows (λ c. c.value) (row_at rows.old.items)) (shared_rows (λ c. c.value) (row_at rows.new.items)) draft.now.class.loader draft.now.class.name r.value) }
+    ensures same_history { OnErr result (history.new.items ≡ history.old.items) }
+    ensures same_length { OnErr result (vec_len history.new ≡ vec_len history.old) }
+    ensures same_rows { OnErr result (HasSameRows (row_at rows.old.items) (row_at rows.new.items)) }
 {
     let parts = parts_of(alloc, draft)?;
     history.reserve(left + 1)?;

@@ -1,5 +1,5 @@
 -- What a report says where a content is told: the headline, clause by clause (JVMS SE 8, 5.3).
-use Rattle.std.specs.Prelude.{◌≡◌, ℕ, List, [], Option, Some, None, Ok, slice_get}
+use Rattle.std.specs.Prelude.{◌≡◌, ℕ, List, [], length, Option, Some, None, Ok, slice_get}
 use Rattle.cl_classfile.specs.Files.{File}
 use Rattle.cl_model.specs.declared.class.Class.{Class}
 use Rattle.cl_model.specs.declared.answer.Answer as answers
@@ -10,8 +10,11 @@ use Rattle.cl_model.specs.Content.{Content, content_at}
 use Rattle.cl_model.specs.Homes.{World, home}
 use Rattle.cl_model.specs.Classes.{class, Returns}
 use Rattle.cl_model.specs.States.{IsRecorded}
-use Rattle.cl_registry.specs.Tables.{Shown, state_of}
-use Rattle.cl_schedule.specs.Serving.{machine}
+use Rattle.cl_config.specs.Views.{Configured, Scripted}
+use Rattle.cl_registry.specs.declared.report.Report.{Report}
+use Rattle.cl_registry.specs.Reports.{IsNamed}
+use Rattle.cl_registry.specs.Tables.{Shown, IsTrusted, RunsAs, posts, state_of}
+use Rattle.cl_schedule.specs.Serving.{InOrder, machine, reported, upto}
 
 -- the own content of the class's loader has bytes for its name, and they spell a file that names it (5.3.5)
 pub record IsSpelt (w : World) (c : Class) : Type 0 where
@@ -26,15 +29,16 @@ abbrev pub EachSpelt : Option Content → Shown → Type 0
 EachSpelt None x = Unit {0}
 EachSpelt (Some content) x = (c : Class) → IsRecorded (state_of x) c → IsSpelt (machine x content).world c
 
--- the request of this number asks this, and was answered so (own choice)
+-- the request of this number asks this, and was answered so
 pub record Says (x : Shown) (q : ℕ) (r : requests.Request) (v : verdicts.Verdict) : Type 0 where
   pub asked : slice_get x.script.requests q ≡ Some r
   pub answered : slice_get x.answers q ≡ Some (Some (answers.TheVariants.Said v))
 
--- equal requests are answered alike, failures apart (own choice)
+-- equal requests are answered alike, failures apart
 abbrev pub Alike : Option Content → Shown → Type 0
 Alike None x = Unit {0}
-Alike (Some content) x = (p q : ℕ) (r : requests.Request) (v u : verdicts.Verdict) → Says x p r v → Says x q r u → v ≡ u
+Alike (Some content) x =
+    (p q : ℕ) (r : requests.Request) (v u : verdicts.Verdict) → Says x p r v → Says x q r u → v ≡ u
 
 -- a load ends in a circle of this class: its home's walk along first supertypes that are not good meets the class again (5.3.5)
 pub record EndsInCircle (w : World) (loader : ℕ) (name : List ℕ) (c : Class) : Type 0 where
@@ -50,4 +54,21 @@ pub record CircleAnswer (w : World) (loader : ℕ) (name : List ℕ) (v : verdic
 -- each load that is answered with a verdict is answered so (5.3.5)
 abbrev pub CirclesExact : Option Content → Shown → Type 0
 CirclesExact None x = Unit {0}
-CirclesExact (Some content) x = (q loader : ℕ) (name : List ℕ) (v : verdicts.Verdict) → Says x q (requests.TheVariants.Load loader name) v → CircleAnswer (machine x content).world loader name v
+CirclesExact (Some content) x =
+    (q loader : ℕ) (name : List ℕ) (v : verdicts.Verdict) → Says x q (requests.TheVariants.Load loader name) v
+    → CircleAnswer (machine x content).world loader name v
+
+-- the report of a script that was served in order under a configuration. Where a content is told, the history is a run
+-- of the linkage machine over it, in which each request is answered once, with what its plan yields in the state at that
+-- point, or with a failure; each class is spelt by its defining loader's bytes, equal requests are answered alike, and
+-- circles are told exactly (5.3)
+pub record IsServedInOrder (told : Option Content) (config : Configured) (script : Scripted) (r : Report) : Type 0 where
+  pub of_script : r.script.value ≡ script
+  pub each_once : posts r.history ≡ upto (length script.requests)
+  pub named : IsNamed (length config.names) r
+  pub trusted : IsTrusted (reported config r)
+  pub run : RunsAs told (reported config r)
+  pub in_order : InOrder told (reported config r)
+  pub spelt : EachSpelt told (reported config r)
+  pub alike : Alike told (reported config r)
+  pub circles : CirclesExact told (reported config r)

@@ -12,12 +12,12 @@ use Rattle.cl_hierarchy.specs.Drafts.{Drafted}
 use Rattle.cl_delegation.specs.Worlds.{setting_of}
 use Rattle.cl_registry.specs.Tables.{Shown, steps, state_of, with_define}
 
--- the numbers below a number, in order (own choice)
+-- the numbers below a number, in order
 abbrev pub upto : ℕ → List ℕ
 upto zero = []
 upto (suc n) = upto n ++ n ∷ []
 
--- the registry that a report was made from, where each request has its answer (own choice)
+-- the registry that a report was made from, where each request has its answer
 abbrev pub reported : Configured → Report → Shown
 reported config r = record { config = config; script = r.script.value; history = r.history; answers = map (λ a. Some a) r.answers }
 
@@ -31,7 +31,7 @@ abbrev pub InOrder : Option Content → Shown → Type 0
 InOrder None x = Unit {0}
 InOrder (Some content) x = AllServed (machine x content) 0 start (machine x content).script (steps x)
 
--- the steps of a registry since another state of it (own choice)
+-- the steps of a registry since another state of it
 pub record Since (old new : Shown) : Type 0 where
   pub config : new.config ≡ old.config
   pub script : new.script ≡ old.script

@@ -2,7 +2,5 @@
 #![tactic(auto)]
 
 mod serve;
-#[cfg(test)]
-mod tests;
 
 pub use serve::{ServeFault, serve_one};

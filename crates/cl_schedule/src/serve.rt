@@ -2,17 +2,16 @@ ghost use Rattle.std.specs.Prelude.{◌≡◌, ◌<◌, ◌++◌, ◌∷◌, [],
 ghost use Rattle.cl_model.specs.Classes.{class};
 ghost use Rattle.cl_model.specs.States.{State};
 ghost use Rattle.cl_registry.specs.Findings.{loader_of};
-ghost use Rattle.cl_registry.specs.Reports.{IsNamed};
 ghost use Rattle.cl_config.specs.Scripts.{HasLoaders};
-ghost use Rattle.cl_registry.specs.Tables.{IsAsked, IsBacked, IsKept, IsOpen, IsTrusted, MayEnter, RunsAs, posts, state_of, with_post};
+ghost use Rattle.cl_registry.specs.Tables.{IsAsked, IsBacked, IsKept, IsOpen, MayEnter, posts, state_of, with_post};
 ghost use Rattle.cl_hierarchy.specs.Walks.{Walked};
 ghost use Rattle.cl_tasks.specs.Tasks.{Tasked};
 ghost use Rattle.cl_tasks.specs.Turns.{Expects};
 ghost use Rattle.cl_tasks.specs.Follows.{Tells};
 ghost use Rattle.cl_tasks.specs.declared.phase.Phase.TheVariants.{Looking, Reading, Defining};
-ghost use Rattle.cl_schedule.specs.Counting.{FaultsGrow, Grows, RoseBy, faults, told_faults};
-ghost use Rattle.cl_schedule.specs.Headline.{Alike, CirclesExact, EachSpelt};
-ghost use Rattle.cl_schedule.specs.Serving.{DefinesFor, InOrder, Served, reported, upto};
+ghost use Rattle.cl_schedule.specs.Counting.{CountsFaults, FaultsGrow, Grows, told_faults};
+ghost use Rattle.cl_schedule.specs.Headline.{IsServedInOrder};
+ghost use Rattle.cl_schedule.specs.Serving.{DefinesFor, Served};
 
 use cl_config::{Config, Script};
 use cl_hierarchy::Draft;
@@ -197,16 +196,8 @@ pub fn serve_one<T: Told, S: Source<T>>(
     script: Arc<Script>,
 ) -> Result<Report, ServeFault>
     requires { HasLoaders (length config.value.names) script.value.requests }
-    ensures script { IfOk result (λ r. r.script.value ≡ script.value) }
-    ensures each_once { IfOk result (λ r. posts r.history ≡ upto (length script.value.requests)) }
-    ensures named { IfOk result (IsNamed (length config.value.names)) }
-    ensures trusted { IfOk result (λ r. IsTrusted (reported config.value r)) }
-    ensures run { IfOk result (λ r. RunsAs T.told (reported config.value r)) }
-    ensures in_order { IfOk result (λ r. InOrder T.told (reported config.value r)) }
-    ensures spelt { IfOk result (λ r. EachSpelt T.told (reported config.value r)) }
-    ensures alike { IfOk result (λ r. Alike T.told (reported config.value r)) }
-    ensures circles { IfOk result (λ r. CirclesExact T.told (reported config.value r)) }
-    ensures source_faults { IfOk result (λ r. RoseBy (faults (reported config.value r).answers) (S.refused source.old) (S.refused source.new)) }
+    ensures served { IfOk result (IsServedInOrder T.told config.value script.value) }
+    ensures source_faults { IfOk result (λ r. CountsFaults r (S.refused source.old) (S.refused source.new)) }
     ensures no_stray { IfErr result (λ e. e ≡ ServeFault.Memory) }
 {
     let held = Arc::try_clone(&config)?;

@@ -1,12 +1,16 @@
-//! Sources, which give the bytes that each loader's own content has for a name (JVMS SE 8, 5.3.2): in memory, and one
-//! that refuses a read.
+//! Sources, which give the bytes that each loader's own content has for a name (JVMS SE 8, 5.3.2): in memory, in
+//! directories, and one that refuses a read.
 #![tactic(auto)]
 
+pub mod directory;
 pub mod faulty;
+pub mod files;
 pub mod memory;
 mod shelf;
 pub mod source;
 
+pub use directory::DirSource;
 pub use faulty::FaultySource;
+pub use files::{ReadFile, read_limited};
 pub use memory::{MemorySource, PutRefused, Telling};
 pub use source::{ClassBytes, Outcome, Probe, Source, SourceFault};

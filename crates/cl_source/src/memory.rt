@@ -8,7 +8,7 @@ ghost use Rattle.cl_source.specs.Shelves.{content_from, Inserts};
 use crate::shelf::{NotPut, Shelf};
 use crate::source::{ClassBytes, Outcome, Probe, Source, SourceFault};
 use cl_model::{LoaderId, Told};
-use cl_names::Name;
+use cl_names::{Name, Seed};
 use std::alloc::{AllocError, Global};
 use std::marker::{Model, PhantomData};
 use std::sync::Arc;
@@ -19,6 +19,7 @@ const MOST_BYTES: usize = 16_777_216;
 /// A source in memory that is being filled, and tells nothing yet.
 #[derive(Drop)]
 pub struct MemorySource {
+    seed: Seed,
     /// One for each loader, as far as any was put.
     shelves: Vec<Shelf>,
 }
@@ -41,11 +42,19 @@ pub struct PutRefused {
 }
 
 impl MemorySource {
-    /// An empty one.
+    /// An empty one, for names that no stranger chooses: its tables hash with the seed that everyone knows.
     pub fn new(alloc: Global) -> MemorySource
         ensures { result ≡ [] }
     {
+        MemorySource::with_hasher(alloc, Seed::known())
+    }
+
+    /// An empty one, whose tables hash with this seed.
+    pub fn with_hasher(alloc: Global, seed: Seed) -> MemorySource
+        ensures { result ≡ [] }
+    {
         MemorySource {
+            seed,
             shelves: Vec::new(alloc),
         }
     }
@@ -73,7 +82,7 @@ impl MemorySource {
         } else if find(self.shelves.as_slice(), loader, &name).is_some() {
             SourceFault::Twice
         } else {
-            match put_on(&mut self.shelves, alloc, loader, name, bytes) {
+            match put_on(&mut self.shelves, alloc, self.seed, loader, name, bytes) {
                 Ok(()) => return Ok(()),
                 Err(NotPut { name, bytes }) => {
                     return Err(PutRefused {
@@ -173,6 +182,7 @@ fn find<'a>(shelves: &'a [Shelf], loader: LoaderId, name: &Name) -> Option<&'a A
 fn put_on(
     shelves: &mut Vec<Shelf>,
     alloc: Global,
+    seed: Seed,
     loader: LoaderId,
     name: Name,
     bytes: Vec<u8>,
@@ -185,7 +195,7 @@ fn put_on(
     ensures bytes_returned { IfErr result (λ e. e.bytes.items ≡ bytes.items) }
 {
     let place = usize::from(loader.0);
-    if make_room(shelves, alloc, place).is_err() {
+    if make_room(shelves, alloc, seed, place).is_err() {
         return Err(NotPut { name, bytes });
     }
     let shelf = &mut shelves[place];
@@ -193,12 +203,17 @@ fn put_on(
 }
 
 /// Makes empty shelves up to this place.
-fn make_room(shelves: &mut Vec<Shelf>, alloc: Global, place: usize) -> Result<(), AllocError>
+fn make_room(
+    shelves: &mut Vec<Shelf>,
+    alloc: Global,
+    seed: Seed,
+    place: usize,
+) -> Result<(), AllocError>
     ensures room { OnOk result (place < length shelves.new.items) }
     ensures same { content_from 0 shelves.new.items ≡ content_from 0 shelves.old.items }
 {
     while shelves.len() <= place {
-        shelves.push(Shelf::new(alloc))?;
+        shelves.push(Shelf::new(alloc, seed))?;
     }
     Ok(())
 }

@@ -5,7 +5,7 @@ ghost use Rattle.indexmap.specs.IndexMap.{insert_entry};
 ghost use Rattle.cl_source.specs.Shelves.{bytes_in};
 
 use crate::source::ClassBytes;
-use cl_names::Name;
+use cl_names::{Name, Seed};
 use indexmap::IndexMap;
 use std::alloc::{AllocError, Global};
 use std::marker::Model;
@@ -14,7 +14,7 @@ use std::sync::Arc;
 /// The content of one loader: names with the bytes that stand for them, each name once.
 #[derive(Drop)]
 pub(crate) struct Shelf {
-    entries: IndexMap<Name, Arc<ClassBytes>>,
+    entries: IndexMap<Name, Arc<ClassBytes>, Seed>,
 }
 
 impl Model for Shelf {
@@ -34,12 +34,12 @@ pub(crate) struct NotPut {
 }
 
 impl Shelf {
-    /// An empty one.
-    pub fn new(alloc: Global) -> Shelf
+    /// An empty one, whose table hashes with this seed.
+    pub fn new(alloc: Global, seed: Seed) -> Shelf
         ensures { result ≡ [] }
     {
         Shelf {
-            entries: IndexMap::new(alloc),
+            entries: IndexMap::with_hasher(alloc, seed),
         }
     }
 
@@ -54,7 +54,8 @@ impl Shelf {
     pub fn try_clone(&self, alloc: Global) -> Result<Shelf, AllocError>
         ensures { IfOk result (λ s. s ≡ self.now) }
     {
-        let mut entries = IndexMap::with_capacity(alloc, self.entries.len())?;
+        let seed = *self.entries.hasher();
+        let mut entries = IndexMap::with_capacity_and_hasher(alloc, self.entries.len(), seed)?;
         for (name, bytes) in self.entries.iter() {
             store(&mut entries, name.try_clone(alloc)?, Arc::try_clone(bytes)?)?;
         }
@@ -87,7 +88,7 @@ impl Shelf {
 
 /// Stores the bytes of a name.
 fn store(
-    entries: &mut IndexMap<Name, Arc<ClassBytes>>,
+    entries: &mut IndexMap<Name, Arc<ClassBytes>, Seed>,
     name: Name,
     bytes: Arc<ClassBytes>,
 ) -> Result<(), AllocError>

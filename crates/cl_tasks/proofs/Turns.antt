@@ -18,9 +18,9 @@ use Rattle.cl_model.specs.Plans.{Load}
 use Rattle.cl_model.specs.Plans as plans
 use Rattle.cl_model.specs.Machine.{Setting, AnswersPlan, IsClosed}
 use Rattle.cl_model.specs.Service.{IsNextNeed}
-use Rattle.cl_model.specs.Chains.{Waiting, first_or, IsChain, EndsAtOnce}
+use Rattle.cl_model.specs.Ascents.{Waiting, first_or, IsAscent, EndsAtOnce}
 use Rattle.cl_model.specs.Views.{request_of, error_of}
-use Rattle.cl_model.proofs.Chains.{first_push, next_waiting, next_root}
+use Rattle.cl_model.proofs.Ascents.{first_push, next_waiting, next_root}
 use Rattle.cl_model.proofs.Looks.{recorded_answers}
 use Rattle.cl_model.proofs.Stops.{answers_at_once}
 use Rattle.cl_registry.specs.declared.finding.Obstacle.{Obstacle}
@@ -113,7 +113,7 @@ module _ (told : Option Content) (g : Setting) (s : State) (r : Request) (p : Se
   below : w.loader < length p.config.names
   below = subst (λ (l : ℕ). l < length p.config.names) for.loader p.loader
 
-  chain : IsChain world w.loader (map waiting w.drafts) w.at
+  chain : IsAscent world w.loader (map waiting w.drafts) w.at
   chain = walk_is_chain p.config p.content p.one w below (subst (λ (t : Option Content). IsWalk t w) p.told_so walk)
 
   pub follows_popped : (new : Walked) (d : Drafted) → IsPopped w new d → IsRecorded s (class w.at w.loader) → IsNextNeed g.world s (request_of r) (Entry d.class.loader d.class.name d.class.loader)
@@ -124,7 +124,7 @@ module _ (told : Option Content) (g : Setting) (s : State) (r : Request) (p : Se
       next_for g.world world s (request_of r) (Load w.loader (first_or (map waiting new.drafts) d.class.name)) w.loader d.class.name d.class p.world
       (request_for r w (first_or (map waiting new.drafts) d.class.name) for name)
       (ap (λ (l : ℕ). class d.class.name l) (popped_loader told w new d walk popped))
-      (next_waiting world s w.loader (map waiting new.drafts) (waiting d) w.at (reads_plain p.config p.content) (subst (λ (u : World). IsClosed u s) p.world p.closed) here (subst (λ (xs : List Waiting). IsChain world w.loader xs w.at) drafts chain))
+      (next_waiting world s w.loader (map waiting new.drafts) (waiting d) w.at (reads_plain p.config p.content) (subst (λ (u : World). IsClosed u s) p.world p.closed) here (subst (λ (xs : List Waiting). IsAscent world w.loader xs w.at) drafts chain))
 
   pub follows_root : (d : Drafted) → IsDraft told d → d.class ≡ class w.at w.loader → (file_of d.file).super_name ≡ None → IsNextNeed g.world s (request_of r) (Entry d.class.loader d.class.name d.class.loader)
   follows_root d draft is none =

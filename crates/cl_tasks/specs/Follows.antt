@@ -76,7 +76,7 @@ FollowsWhere told holds r t = (g : Setting) (s : State) → ServedIn told g s r 
 
 -- ---- faults
 
--- the answer that a refused read is: want of memory, or what was to be read (own choice)
+-- the answer that a refused read is: out of memory, or what was to be read (own choice)
 abbrev pub fault_answer : Walked → SourceFault → Answer
 fault_answer w faults.Memory = answers.Memory
 fault_answer w faults.Device = answers.SourceFault w.at w.loader
@@ -92,20 +92,20 @@ refusal w (reply.Defined row) = None
 refusal w (reply.Memory) = Some answers.Memory
 refusal w (reply.SourceFault fault) = Some (fault_answer w fault)
 
--- an answer is no fault of the source (own choice)
+-- an answer is no fault of the source
 abbrev pub NoFault : Answer → Type 0
 NoFault (answers.Said v) = Unit {0}
 NoFault answers.Memory = Unit {0}
 NoFault (answers.SourceFault name loader) = ⊥
 
--- a turn posts no fault of the source (own choice)
+-- a turn posts no fault of the source
 abbrev pub PostsNoFault : {A : Type 0} → Turn A → Type 0
 PostsNoFault (turn.Look l n) = Unit {0}
 PostsNoFault (turn.Read l n) = Unit {0}
 PostsNoFault (turn.Define d) = Unit {0}
 PostsNoFault (turn.Post f) = NoFault f.answer
 
--- a turn posts this answer (own choice)
+-- a turn posts this answer
 abbrev pub Posts : {A : Type 0} → Answer → Turn A → Type 0
 Posts a (turn.Look l n) = ⊥
 Posts a (turn.Read l n) = ⊥

@@ -10,17 +10,17 @@ use Rattle.cl_tasks.specs.declared.stage.Stage.{Stage}
 use Rattle.cl_tasks.specs.declared.stage.Stage.TheVariants.{Fresh, Looking, Searching, Defining, Done}
 use Rattle.cl_tasks.specs.Tasks.{Tasked, nowhere}
 
--- a task that is at work on its request (own choice)
+-- a task that is at work on its request
 abbrev pub at_work : {A : Type 0} → Phase → Job A → Tasked
 at_work phase j = record { q = j.q; phase = phase; request = Some j.request; walk = j.walk }
 
--- what contracts see of each stage (own choice)
-abbrev pub tasked : {A : Type 0} → Stage A → Tasked
-tasked (Fresh j) = at_work phases.Fresh j
-tasked (Looking j) = at_work phases.Looking j
-tasked (Searching j s) = at_work phases.Reading j
-tasked (Defining j) = at_work phases.Defining j
-tasked (Done q) = record { q = q; phase = phases.Done; request = None; walk = nowhere }
+-- what contracts see of each stage
+abbrev pub task_at : {A : Type 0} → Stage A → Tasked
+task_at (Fresh j) = at_work phases.Fresh j
+task_at (Looking j) = at_work phases.Looking j
+task_at (Searching j s) = at_work phases.Reading j
+task_at (Defining j) = at_work phases.Defining j
+task_at (Done q) = record { q = q; phase = phases.Done; request = None; walk = nowhere }
 
 -- the walk is the request's, by a loader of the configuration (5.3)
 pub record IsJob {A : Type 0} (c : Configured) (j : Job A) : Type 0 where

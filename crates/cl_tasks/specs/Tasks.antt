@@ -12,11 +12,11 @@ pub record Tasked : Type 0 where
   pub request : Option Request
   pub walk : Walked
 
--- the walk of a task that is done (own choice)
+-- the walk of a task that is done
 abbrev pub nowhere : Walked
 nowhere = record { loader = 0; drafts = []; at = [] }
 
--- no more than this many turns are left, with this many classes on the walk (own choice)
+-- no more than this many turns are left, with this many classes on the walk
 abbrev pub left_at : Phase → ℕ → ℕ
 left_at Fresh k = most + 3 * (most - k) + 4
 left_at Looking k = most + 3 * (most - k) + 3
@@ -24,6 +24,6 @@ left_at Reading k = most + 3 * (most - k) + 2
 left_at Defining k = k + 1
 left_at Done k = 0
 
--- the same of a task (own choice)
+-- the same of a task
 abbrev pub left : Tasked → ℕ
 left t = left_at t.phase (length t.walk.drafts)

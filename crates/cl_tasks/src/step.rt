@@ -6,7 +6,7 @@ ghost use Rattle.cl_model.specs.declared.answer.Answer.TheVariants as answers;
 ghost use Rattle.cl_config.specs.Views.{Configured};
 ghost use Rattle.cl_registry.specs.Findings.{IsFor, Stops};
 ghost use Rattle.cl_tasks.specs.Tasks.{left};
-ghost use Rattle.cl_tasks.specs.Stages.{IsJob, IsSearch, IsStage, at_work, tasked};
+ghost use Rattle.cl_tasks.specs.Stages.{IsJob, IsSearch, IsStage, at_work, task_at};
 ghost use Rattle.cl_tasks.specs.Turns.{Asks, Expects, Serves};
 ghost use Rattle.cl_tasks.specs.Follows.{BackedWhere, FollowsWhere, Posts, PostsNoFault, Refuses, Tells, fault_answer, refusal};
 ghost use Rattle.cl_tasks.specs.declared.phase.Phase.TheVariants as phases;
@@ -24,7 +24,7 @@ use std::sync::Arc;
 
 /// Whether a reply is one to what a task at this stage asked for.
 pub fn expects<T: Told>(stage: &Stage<T>, reply: &Reply<T>) -> bool
-    ensures { MatchBool result (Expects (tasked stage.now) reply.now) (Expects (tasked stage.now) reply.now → ⊥) }
+    ensures { MatchBool result (Expects (task_at stage.now) reply.now) (Expects (task_at stage.now) reply.now → ⊥) }
 {
     match (stage, reply) {
         (Stage::Fresh(_), Reply::Start) => true,
@@ -50,15 +50,15 @@ pub fn step<T: Told>(
     reply: Reply<T>,
 ) -> Next<T>
     requires kept { IsStage config.now.value stage }
-    requires expects { Expects (tasked stage) reply }
+    requires expects { Expects (task_at stage) reply }
     ensures kept { IsStage config.now.value result.stage }
-    ensures number { (tasked result.stage).q ≡ (tasked stage).q }
-    ensures asks { Asks (tasked result.stage) result.turn }
-    ensures serves { Serves (tasked stage) (tasked result.stage) result.turn }
-    ensures left { left (tasked result.stage) < left (tasked stage) }
-    ensures backed { IfSome (tasked stage).request (λ r. BackedWhere (λ s. Tells s (tasked stage).walk reply) r result.turn) }
-    ensures next { IfSome (tasked stage).request (λ r. FollowsWhere T.told (λ s. Tells s (tasked stage).walk reply) r result.turn) }
-    ensures refused { Refuses (refusal (tasked stage).walk reply) result.turn }
+    ensures number { (task_at result.stage).q ≡ (task_at stage).q }
+    ensures asks { Asks (task_at result.stage) result.turn }
+    ensures serves { Serves (task_at stage) (task_at result.stage) result.turn }
+    ensures left { left (task_at result.stage) < left (task_at stage) }
+    ensures backed { IfSome (task_at stage).request (λ r. BackedWhere (λ s. Tells s (task_at stage).walk reply) r result.turn) }
+    ensures next { IfSome (task_at stage).request (λ r. FollowsWhere T.told (λ s. Tells s (task_at stage).walk reply) r result.turn) }
+    ensures refused { Refuses (refusal (task_at stage).walk reply) result.turn }
 {
     match stage {
         Stage::Fresh(job) => match reply {
@@ -75,8 +75,8 @@ pub fn step<T: Told>(
             _ => unreachable!(),
         },
         Stage::Searching(job, search) => match reply {
-            Reply::Probed(probe) => probed(alloc, job, search, probe),
-            Reply::SourceFault(fault) => faulted(job, fault),
+            Reply::Probed(probe) => take_probe(alloc, job, search, probe),
+            Reply::SourceFault(fault) => blame_source(job, fault),
             Reply::Memory => out_of_memory(job),
             _ => unreachable!(),
         },
@@ -101,8 +101,8 @@ fn post<T: Told>(q: u32, finding: Finding<T>) -> Next<T>
 
 fn out_of_memory<T: Told>(job: Job<T>) -> Next<T>
     ensures stage { result.stage ≡ Stage.Done job.q }
-    ensures asks { Asks (tasked result.stage) result.turn }
-    ensures serves { Serves (at_work phases.Done job) (tasked result.stage) result.turn }
+    ensures asks { Asks (task_at result.stage) result.turn }
+    ensures serves { Serves (at_work phases.Done job) (task_at result.stage) result.turn }
     ensures backed { BackedWhere (λ s. Unit {0}) job.request result.turn }
     ensures next { FollowsWhere T.told (λ s. Unit {0}) job.request result.turn }
     ensures posts { Posts answers.Memory result.turn }
@@ -110,12 +110,12 @@ fn out_of_memory<T: Told>(job: Job<T>) -> Next<T>
     post(job.q, Finding::memory(job.request))
 }
 
-/// The source refused a read, for want of memory or for another cause.
-fn faulted<T: Told>(job: Job<T>, fault: SourceFault) -> Next<T>
+/// The source refused a read, out of memory or for another cause.
+fn blame_source<T: Told>(job: Job<T>, fault: SourceFault) -> Next<T>
     requires job { IsFor job.request job.walk }
     ensures stage { result.stage ≡ Stage.Done job.q }
-    ensures asks { Asks (tasked result.stage) result.turn }
-    ensures serves { Serves (at_work phases.Done job) (tasked result.stage) result.turn }
+    ensures asks { Asks (task_at result.stage) result.turn }
+    ensures serves { Serves (at_work phases.Done job) (task_at result.stage) result.turn }
     ensures backed { BackedWhere (λ s. Unit {0}) job.request result.turn }
     ensures next { FollowsWhere T.told (λ s. Unit {0}) job.request result.turn }
     ensures posts { Posts (fault_answer job.walk fault) result.turn }
@@ -131,8 +131,8 @@ fn obstacle<T: Told>(job: Job<T>, end: Obstacle<T>) -> Next<T>
     requires job { IsFor job.request job.walk }
     requires stops { Stops job.walk end }
     ensures stage { result.stage ≡ Stage.Done job.q }
-    ensures asks { Asks (tasked result.stage) result.turn }
-    ensures serves { Serves (at_work phases.Done job) (tasked result.stage) result.turn }
+    ensures asks { Asks (task_at result.stage) result.turn }
+    ensures serves { Serves (at_work phases.Done job) (task_at result.stage) result.turn }
     ensures backed { BackedWhere (λ s. Unit {0}) job.request result.turn }
     ensures next { FollowsWhere T.told (λ s. Unit {0}) job.request result.turn }
     ensures no_fault { PostsNoFault result.turn }
@@ -143,10 +143,10 @@ fn obstacle<T: Told>(job: Job<T>, end: Obstacle<T>) -> Next<T>
 /// Looks up what the walk is at.
 fn look<T: Told>(alloc: Global, job: Job<T>) -> Next<T>
     ensures kept { (c : Configured) → IsJob c job → IsStage c result.stage }
-    ensures number { (tasked result.stage).q ≡ job.q }
-    ensures asks { Asks (tasked result.stage) result.turn }
-    ensures serves { Serves (at_work phases.Fresh job) (tasked result.stage) result.turn }
-    ensures left { left (tasked result.stage) < left (at_work phases.Fresh job) }
+    ensures number { (task_at result.stage).q ≡ job.q }
+    ensures asks { Asks (task_at result.stage) result.turn }
+    ensures serves { Serves (at_work phases.Fresh job) (task_at result.stage) result.turn }
+    ensures left { left (task_at result.stage) < left (at_work phases.Fresh job) }
     ensures backed { BackedWhere (λ s. Unit {0}) job.request result.turn }
     ensures next { FollowsWhere T.told (λ s. Unit {0}) job.request result.turn }
     ensures no_fault { PostsNoFault result.turn }
@@ -167,10 +167,10 @@ fn look<T: Told>(alloc: Global, job: Job<T>) -> Next<T>
 fn begin_search<T: Told>(alloc: Global, config: &Arc<Config>, job: Job<T>) -> Next<T>
     requires job { IsJob config.now.value job }
     ensures kept { IsStage config.now.value result.stage }
-    ensures number { (tasked result.stage).q ≡ job.q }
-    ensures asks { Asks (tasked result.stage) result.turn }
-    ensures serves { Serves (at_work phases.Looking job) (tasked result.stage) result.turn }
-    ensures left { left (tasked result.stage) < left (at_work phases.Looking job) }
+    ensures number { (task_at result.stage).q ≡ job.q }
+    ensures asks { Asks (task_at result.stage) result.turn }
+    ensures serves { Serves (at_work phases.Looking job) (task_at result.stage) result.turn }
+    ensures left { left (task_at result.stage) < left (at_work phases.Looking job) }
     ensures backed { BackedWhere (λ s. Unit {0}) job.request result.turn }
     ensures next { FollowsWhere T.told (λ s. Unit {0}) job.request result.turn }
     ensures no_fault { PostsNoFault result.turn }
@@ -210,15 +210,16 @@ fn search_for<T: Told>(
 fn ascend<T: Told>(job: Job<T>) -> Next<T>
     requires job { IsFor job.request job.walk }
     ensures kept { (c : Configured) → IsJob c job → IsStage c result.stage }
-    ensures number { (tasked result.stage).q ≡ job.q }
-    ensures asks { Asks (tasked result.stage) result.turn }
-    ensures serves { Serves (at_work phases.Defining job) (tasked result.stage) result.turn }
-    ensures left { left (tasked result.stage) < left (at_work phases.Defining job) }
+    ensures number { (task_at result.stage).q ≡ job.q }
+    ensures asks { Asks (task_at result.stage) result.turn }
+    ensures serves { Serves (at_work phases.Defining job) (task_at result.stage) result.turn }
+    ensures left { left (task_at result.stage) < left (at_work phases.Defining job) }
     ensures short { left (at_work phases.Defining job) ≤ left (at_work phases.Looking job) }
     ensures backed { BackedWhere (λ s. IsRecorded s (class job.walk.at job.walk.loader)) job.request result.turn }
     ensures next { FollowsWhere T.told (λ s. IsRecorded s (class job.walk.at job.walk.loader)) job.request result.turn }
     ensures no_fault { PostsNoFault result.turn }
 {
+    // brings what a walk keeps
     let _ = job.walk.at();
     let Job {
         q,
@@ -235,15 +236,15 @@ fn ascend<T: Told>(job: Job<T>) -> Next<T>
 }
 
 /// The next probe of the search came.
-fn probed<T: Told>(alloc: Global, job: Job<T>, search: Search<T>, probe: Probe<T>) -> Next<T>
+fn take_probe<T: Told>(alloc: Global, job: Job<T>, search: Search<T>, probe: Probe<T>) -> Next<T>
     requires job { IsFor job.request job.walk }
     requires search { (search.loader ≡ job.walk.loader) × (search.name ≡ job.walk.at) × (search.found ≡ None) }
     requires probe { (probe.loader ≡ job.walk.loader) × (probe.name ≡ job.walk.at) }
     ensures kept { (c : Configured) → IsJob c job → IsStage c result.stage }
-    ensures number { (tasked result.stage).q ≡ job.q }
-    ensures asks { Asks (tasked result.stage) result.turn }
-    ensures serves { Serves (at_work phases.Reading job) (tasked result.stage) result.turn }
-    ensures left { left (tasked result.stage) < left (at_work phases.Reading job) }
+    ensures number { (task_at result.stage).q ≡ job.q }
+    ensures asks { Asks (task_at result.stage) result.turn }
+    ensures serves { Serves (at_work phases.Reading job) (task_at result.stage) result.turn }
+    ensures left { left (task_at result.stage) < left (at_work phases.Reading job) }
     ensures backed { BackedWhere (λ s. Unit {0}) job.request result.turn }
     ensures next { FollowsWhere T.told (λ s. Unit {0}) job.request result.turn }
     ensures no_fault { PostsNoFault result.turn }
@@ -263,10 +264,10 @@ fn read<T: Told>(alloc: Global, job: Job<T>, home: Home<T>) -> Next<T>
     requires job { IsFor job.request job.walk }
     requires home { (home.place ≡ job.walk.loader) × (home.name ≡ job.walk.at) }
     ensures kept { (c : Configured) → IsJob c job → IsStage c result.stage }
-    ensures number { (tasked result.stage).q ≡ job.q }
-    ensures asks { Asks (tasked result.stage) result.turn }
-    ensures serves { Serves (at_work phases.Reading job) (tasked result.stage) result.turn }
-    ensures left { left (tasked result.stage) < left (at_work phases.Reading job) }
+    ensures number { (task_at result.stage).q ≡ job.q }
+    ensures asks { Asks (task_at result.stage) result.turn }
+    ensures serves { Serves (at_work phases.Reading job) (task_at result.stage) result.turn }
+    ensures left { left (task_at result.stage) < left (at_work phases.Reading job) }
     ensures backed { BackedWhere (λ s. Unit {0}) job.request result.turn }
     ensures next { FollowsWhere T.told (λ s. Unit {0}) job.request result.turn }
     ensures no_fault { PostsNoFault result.turn }
@@ -277,25 +278,26 @@ fn read<T: Told>(alloc: Global, job: Job<T>, home: Home<T>) -> Next<T>
             job,
             Obstacle::Unreadable(unreadable),
         ),
-        Ok(draft) => drafted(alloc, job, draft),
+        Ok(draft) => follow_draft(alloc, job, draft),
     }
 }
 
 /// The file of what the walk is at was read.
-fn drafted<T: Told>(alloc: Global, job: Job<T>, draft: Draft<T>) -> Next<T>
+fn follow_draft<T: Told>(alloc: Global, job: Job<T>, draft: Draft<T>) -> Next<T>
     requires job { IsFor job.request job.walk }
     requires draft { draft.class ≡ class job.walk.at job.walk.loader }
     ensures kept { (c : Configured) → IsJob c job → IsStage c result.stage }
-    ensures number { (tasked result.stage).q ≡ job.q }
-    ensures asks { Asks (tasked result.stage) result.turn }
-    ensures serves { Serves (at_work phases.Reading job) (tasked result.stage) result.turn }
-    ensures left { left (tasked result.stage) < left (at_work phases.Reading job) }
+    ensures number { (task_at result.stage).q ≡ job.q }
+    ensures asks { Asks (task_at result.stage) result.turn }
+    ensures serves { Serves (at_work phases.Reading job) (task_at result.stage) result.turn }
+    ensures left { left (task_at result.stage) < left (at_work phases.Reading job) }
     ensures backed { BackedWhere (λ s. Unit {0}) job.request result.turn }
     ensures next { FollowsWhere T.told (λ s. Unit {0}) job.request result.turn }
     ensures no_fault { PostsNoFault result.turn }
 {
     match draft.super_name() {
         None => {
+            // brings what a walk keeps
             let _ = job.walk.at();
             Next {
                 stage: Stage::Defining(job),
@@ -315,10 +317,10 @@ fn descend<T: Told>(alloc: Global, job: Job<T>, draft: Draft<T>, above: Name) ->
     requires draft { draft.class ≡ class job.walk.at job.walk.loader }
     requires above { (file_of draft.file).super_name ≡ Some above }
     ensures kept { (c : Configured) → IsJob c job → IsStage c result.stage }
-    ensures number { (tasked result.stage).q ≡ job.q }
-    ensures asks { Asks (tasked result.stage) result.turn }
-    ensures serves { Serves (at_work phases.Reading job) (tasked result.stage) result.turn }
-    ensures left { left (tasked result.stage) < left (at_work phases.Reading job) }
+    ensures number { (task_at result.stage).q ≡ job.q }
+    ensures asks { Asks (task_at result.stage) result.turn }
+    ensures serves { Serves (at_work phases.Reading job) (task_at result.stage) result.turn }
+    ensures left { left (task_at result.stage) < left (at_work phases.Reading job) }
     ensures backed { BackedWhere (λ s. Unit {0}) job.request result.turn }
     ensures next { FollowsWhere T.told (λ s. Unit {0}) job.request result.turn }
     ensures no_fault { PostsNoFault result.turn }
@@ -335,6 +337,7 @@ fn descend<T: Told>(alloc: Global, job: Job<T>, draft: Draft<T>, above: Name) ->
         Ok(()) => {}
         Err(_) => return out_of_memory(Job { q, request, walk }),
     }
+    // brings what a walk keeps
     let _ = walk.at();
     look(alloc, Job { q, request, walk })
 }

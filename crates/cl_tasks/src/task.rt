@@ -25,11 +25,11 @@ pub struct Task<T: Told> {
 
 impl<T: Told> Model for Task<T> {
     ghost use Rattle.cl_tasks.specs.Tasks.{Tasked};
-    ghost use Rattle.cl_tasks.specs.Stages.{IsStage, tasked};
+    ghost use Rattle.cl_tasks.specs.Stages.{IsStage, task_at};
 
     ghost Value = { Tasked };
 
-    ghost view = { λ t. tasked t.stage };
+    ghost view = { λ t. task_at t.stage };
 
     ghost invariant = { λ t. IsStage t.config.value t.stage };
 }

@@ -4,6 +4,7 @@ pub mod Equal
 pub mod Found
 pub mod Gathered
 pub mod Indexed
+pub mod Pages
 pub mod Printed
 pub mod Rows
 pub mod Standing

@@ -10,7 +10,7 @@ ghost use Rattle.cl_writer.specs.Items.{PutsIndex, same_item, index, index_of, w
 use crate::assembly::Assembly;
 use crate::item::Item;
 use crate::statement::MemberLine;
-use cl_names::Name;
+use cl_names::{Name, Seed};
 use indexmap::IndexMap;
 use std::alloc::{AllocError, Global};
 use std::marker::Model;
@@ -19,7 +19,7 @@ use std::marker::Model;
 #[derive(Drop)]
 pub struct Items {
     items: Vec<Item>,
-    indices: IndexMap<Item, usize>,
+    indices: IndexMap<Item, usize, Seed>,
 }
 
 impl Model for Items {
@@ -35,13 +35,13 @@ impl Model for Items {
 }
 
 impl Items {
-    /// None.
-    fn new(alloc: Global) -> Items
+    /// None, in a table that hashes with this seed.
+    fn new(alloc: Global, seed: Seed) -> Items
         ensures { result ≡ [] }
     {
         Items {
             items: Vec::new(alloc),
-            indices: IndexMap::new(alloc),
+            indices: IndexMap::with_hasher(alloc, seed),
         }
     }
 
@@ -145,7 +145,7 @@ impl Items {
 }
 
 /// Whether the indices have an entry.
-fn holds(indices: &IndexMap<Item, usize>, item: &Item) -> bool
+fn holds(indices: &IndexMap<Item, usize, Seed>, item: &Item) -> bool
     ensures { result ≡ is_some (get same_item indices.now item.now) }
 {
     indices.contains_key(item)
@@ -153,7 +153,7 @@ fn holds(indices: &IndexMap<Item, usize>, item: &Item) -> bool
 
 /// Puts the index of an entry to the indices.
 fn insert_new(
-    indices: &mut IndexMap<Item, usize>,
+    indices: &mut IndexMap<Item, usize, Seed>,
     item: Item,
     index: usize,
 ) -> Result<(), AllocError>
@@ -216,11 +216,11 @@ fn with_super(items: Items, alloc: Global, name: &Option<Name>) -> Result<Items,
 
 /// The entries that the lines of a class ask for: those of its `ref` lines, and then what is wanted, where no equal
 /// entry stands.
-pub fn items_of(alloc: Global, assembly: &Assembly) -> Result<Items, AllocError>
+pub fn items_of(alloc: Global, seed: Seed, assembly: &Assembly) -> Result<Items, AllocError>
     ensures { IfOk result (λ t. t ≡ items_of (lists_of assembly.now)) }
 {
     let references = assembly.references.as_slice();
-    let items = with_references(Items::new(alloc), alloc, references)?;
+    let items = with_references(Items::new(alloc, seed), alloc, references)?;
     let items = with_all(items, alloc, references)?;
     let items = items.with_class(alloc, &assembly.class.name)?;
     let items = with_super(items, alloc, &assembly.class.superclass)?;

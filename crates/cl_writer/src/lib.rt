@@ -10,14 +10,13 @@ mod items;
 mod laws;
 mod listings;
 mod making;
+mod printing;
 mod statement;
 mod writing;
 
-pub use assembling::assemble;
+pub use assembling::{assemble, assemble_with_hasher};
 pub use fault::{AssembleFault, WriteFault};
 pub use laws::{assembles_to_one_answer, says_one_thing};
 pub use listings::listing;
+pub use printing::print_listing;
 pub use writing::write;
-
-#[cfg(test)]
-mod tests;

@@ -25,7 +25,7 @@ pub fn listing(alloc: Global, file: &ClassFile) -> Result<String, AllocError>
     Ok(text)
 }
 
-fn put_class(text: &mut String, alloc: Global, file: &ClassFile) -> Result<(), AllocError>
+pub fn put_class(text: &mut String, alloc: Global, file: &ClassFile) -> Result<(), AllocError>
     ensures { OnOk result (string_bytes text.new ≡ string_bytes text.old ++ class_line file.now) }
 {
     put_head(text, "class ", file.flags())?;
@@ -81,7 +81,7 @@ fn put_interfaces(
     Ok(())
 }
 
-fn put_interface(
+pub fn put_interface(
     text: &mut String,
     alloc: Global,
     pool: &[Entry],
@@ -109,7 +109,7 @@ fn put_members(
     Ok(())
 }
 
-fn put_member(
+pub fn put_member(
     text: &mut String,
     alloc: Global,
     word: &str,

@@ -7,15 +7,15 @@ use Rattle.classlink.specs.CommandLine.{IsAsked, AsksForBundle, AsksForFile, fil
 use Rattle.classlink.specs.Endings.{EndsFor, Grows, HelpOf, IsHelped, IsTaken, LacksMemory, Reads, Runs}
 use Rattle.classlink.specs.Faults.{print_fault}
 use Rattle.classlink.specs.Readings.{Giving, IsReading}
-use Rattle.classlink.specs.Report.{AppendsPart}
+use Rattle.cl_streams.specs.Writing.{AppendsPart}
 use Rattle.classlink.specs.Runs.{IsRun, TellsFault}
 use Rattle.classlink.specs.declared.fault.Fault.{Fault}
 use Rattle.classlink.specs.declared.fault.Fault.TheVariants.{Memory}
-use Rattle.classlink.specs.declared.print.PrintFault.{PrintFault}
-use Rattle.classlink.specs.declared.print.PrintFault.TheVariants as print
+use Rattle.cl_streams.specs.declared.output.PrintFault.{PrintFault}
+use Rattle.cl_streams.specs.declared.output.PrintFault.TheVariants as print
 use Rattle.classlink.specs.declared.words.Asked.{Asked}
 use Rattle.classlink.specs.declared.words.Asked.TheVariants.{Bundle, Read}
-use Rattle.classlink.proofs.Written.{appends_nothing}
+use Rattle.cl_streams.proofs.Written.{appends_nothing}
 
 pub taken : (entered : Option (Text × List Row)) (input : Option (List ℕ)) (gives : List ℕ → Giving) (old_out new_out old_err new_err : Option (List ℕ)) (status : ℕ) (asked : Asked) → IsAsked entered asked
     → ((answers : Bool) → AsksForBundle answers asked → IsRun input answers old_out new_out old_err new_err status)

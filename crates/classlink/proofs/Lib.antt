@@ -1,12 +1,4 @@
-pub mod Cutting
-pub mod Digits
 pub mod Ending
 pub mod Flags
-pub mod Headings
 pub mod Listing
-pub mod Refusals
 pub mod Running
-pub mod Storing
-pub mod Written
-pub mod Alone
-pub mod OneReading

@@ -5,14 +5,14 @@ use Rattle.cl_classfile.specs.Reading.{read_of}
 use Rattle.cl_classfile.specs.declared.fault.ReadError.{ReadError}
 use Rattle.cl_classfile.specs.declared.fault.ReadError.TheVariants as errors
 use Rattle.classlink.specs.Faults.{print_fault}
-use Rattle.classlink.specs.Report.{AppendsPart}
+use Rattle.cl_streams.specs.Writing.{AppendsPart}
 use Rattle.classlink.specs.Readings.{AreLinesOf, FailsToRead, Giving, IsContent, IsReading, IsRefusal, IsUnread, ReadingOf}
 use Rattle.classlink.specs.Runs.{TellsFault}
 use Rattle.classlink.specs.declared.fault.Fault.{Fault}
 use Rattle.classlink.specs.declared.fault.Fault.TheVariants.{Write, TooLarge, Path, File, Memory}
-use Rattle.classlink.specs.declared.print.PrintFault.{PrintFault}
-use Rattle.classlink.specs.declared.print.PrintFault.TheVariants as print
-use Rattle.classlink.proofs.Written.{appends_nothing}
+use Rattle.cl_streams.specs.declared.output.PrintFault.{PrintFault}
+use Rattle.cl_streams.specs.declared.output.PrintFault.TheVariants as print
+use Rattle.cl_streams.proofs.Written.{appends_nothing}
 
 pub read_wrong : (gives : Giving) (path : List ℕ) (old new : Option (List ℕ)) (r : Result (Unit {0}) Fault) (fault : Fault) → IsErrAnd r (λ e. e ≡ fault) → FailsToRead gives path old new fault
     → ReadingOf gives path old new r

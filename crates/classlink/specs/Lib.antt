@@ -1,10 +1,5 @@
-pub mod Bundles
 pub mod CommandLine
-pub mod Contents
-pub mod Cuts
 pub mod Endings
 pub mod Faults
-pub mod Report
 pub mod Runs
-pub mod Sections
 pub mod Readings

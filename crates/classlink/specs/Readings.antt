@@ -6,7 +6,7 @@ use Rattle.cl_classfile.specs.declared.fault.Fault.{Fault as ClassFault}
 use Rattle.cl_classfile.specs.declared.fault.ReadError.TheVariants as errors
 use Rattle.cl_classfile.specs.Reading.{read_of}
 use Rattle.cl_writer.specs.Listings.{listing_of}
-use Rattle.classlink.specs.Report.{AppendsPart}
+use Rattle.cl_streams.specs.Writing.{AppendsPart}
 use Rattle.classlink.specs.Runs.{EndsWith, WritesNothing}
 use Rattle.classlink.specs.declared.fault.Fault.{Fault}
 use Rattle.classlink.specs.declared.fault.Fault.TheVariants.{Write, TooLarge, Path, File, Memory}

@@ -4,33 +4,22 @@ use Rattle.std.specs.Str.{IsUtf8}
 use Rattle.std.specs.Io.KnownBytes.{Appends}
 use Rattle.cl_model.specs.Content.{Content}
 use Rattle.cl_config.specs.Views.{Configured, Scripted}
-use Rattle.cl_registry.specs.Reports.{IsNamed}
-use Rattle.cl_registry.specs.Tables.{IsTrusted, RunsAs, posts}
 use Rattle.cl_registry.specs.declared.report.Report.{Report}
-use Rattle.classlink.specs.Bundles.{IsBundle, IsNoBundle}
-use Rattle.classlink.specs.Faults.{UnlessMemory, fault_text}
-use Rattle.classlink.specs.Report.{AppendsPart, report_lines}
-use Rattle.cl_schedule.specs.Headline.{EachSpelt, Alike, CirclesExact}
-use Rattle.cl_schedule.specs.Serving.{InOrder, reported, upto}
+use Rattle.cl_bundle.specs.Bundles.{IsBundle, IsNoBundle}
+use Rattle.cl_bundle.specs.Faults.{UnlessMemory}
+use Rattle.classlink.specs.Faults.{fault_text}
+use Rattle.cl_streams.specs.Writing.{AppendsPart}
+use Rattle.cl_report.specs.Report.{report_lines}
+use Rattle.cl_schedule.specs.Headline.{IsServedInOrder}
+use Rattle.cl_schedule.specs.Serving.{reported}
 use Rattle.cl_schedule.specs.Counting.{faults}
 use Rattle.cl_schedule.specs.declared.serve.ServeFault.TheVariants as serve
 use Rattle.classlink.specs.declared.fault.Fault.{Fault}
-use Rattle.classlink.specs.declared.fault.Fault.TheVariants.{Input, Write, TooLarge, NotUtf8, Bundle, Class, Script, Serve, Memory}
+use Rattle.classlink.specs.declared.fault.Fault.TheVariants.{Input, Write, TooLarge, NotUtf8, Bundle, Serve, Memory}
 
--- the report of a script that was served under a configuration. Where a content is told, the history is a run of the
--- linkage machine over it, in which each request is answered once, with what its plan yields in the state at that point,
--- want of memory apart; each class is spelt by its defining loader's bytes, equal requests are answered alike, and circles
--- are told exactly (JVMS SE 8, 5.3)
+-- the report of a script that was served in order under a configuration, with no fault of the source (JVMS SE 8, 5.3)
 pub record IsServed (told : Option Content) (config : Configured) (script : Scripted) (r : Report) : Type 0 where
-  pub of_script : r.script.value ≡ script
-  pub each_once : posts r.history ≡ upto (length script.requests)
-  pub named : IsNamed (length config.names) r
-  pub trusted : IsTrusted (reported config r)
-  pub run : RunsAs told (reported config r)
-  pub in_order : InOrder told (reported config r)
-  pub spelt : EachSpelt told (reported config r)
-  pub alike : Alike told (reported config r)
-  pub circles : CirclesExact told (reported config r)
+  pub in_order : IsServedInOrder told config script r
   pub no_source_faults : faults (reported config r).answers ≡ 0
 
 -- the lines of a report of the bundle that an input is (own choice)
@@ -60,9 +49,7 @@ abbrev pub EndsBy : Option (List ℕ) → Bool → Option (List ℕ) → Option 
 EndsBy input only_answers old new Input = WritesNothing old new ⊤
 EndsBy input only_answers old new TooLarge = WritesNothing old new (IfSome input (λ bytes. 67108864 < length bytes))
 EndsBy input only_answers old new NotUtf8 = WritesNothing old new (IfSome input (λ bytes. (length bytes ≤ 67108864) × ¬ (IsUtf8 bytes)))
-EndsBy input only_answers old new (Bundle n) = WritesNothing old new (IfSome input (λ bytes. IsNoBundle bytes (Bundle n)))
-EndsBy input only_answers old new (Class class wrong) = WritesNothing old new (IfSome input (λ bytes. UnlessMemory (Class class wrong) (IsNoBundle bytes (Class class wrong))))
-EndsBy input only_answers old new (Script wrong) = WritesNothing old new (IfSome input (λ bytes. UnlessMemory (Script wrong) (IsNoBundle bytes (Script wrong))))
+EndsBy input only_answers old new (Bundle wrong) = WritesNothing old new (IfSome input (λ bytes. UnlessMemory wrong (IsNoBundle bytes wrong)))
 EndsBy input only_answers old new (Serve wrong) = WritesNothing old new (wrong ≡ serve.Memory)
 EndsBy input only_answers old new Write = BreaksOff input only_answers old new
 EndsBy input only_answers old new Memory = WritesNothing old new ⊤ ⊎ BreaksOff input only_answers old new

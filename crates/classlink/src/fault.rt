@@ -1,11 +1,9 @@
 ghost use Rattle.std.specs.Prelude.{◌≡◌};
 
-use crate::input::InputFault;
-use crate::print::PrintFault;
+use cl_bundle::BundleFault;
 use cl_classfile::ReadError;
-use cl_config::ScriptFault;
 use cl_schedule::ServeFault;
-use cl_writer::AssembleFault;
+use cl_streams::{InputFault, PrintFault};
 use std::alloc::{AllocError, AllocFailed};
 use std::error::Error;
 use std::fmt::{self, Display, Formatter};
@@ -17,11 +15,8 @@ pub enum Fault {
     Write,
     TooLarge,
     NotUtf8,
-    /// A line of the bundle, counted from 1; 0 is for a bundle that lacks a line.
-    Bundle(usize),
-    /// The assembler text of a class of the bundle, with the class's name and loader as `N@L`.
-    Class { class: String, fault: AssembleFault },
-    Script(ScriptFault),
+    /// What is wrong with the bundle.
+    Bundle(BundleFault),
     Serve(ServeFault),
     /// The file at this path cannot be read.
     Path(String),
@@ -45,9 +40,7 @@ impl Display for Fault {
             Fault::Write => write!(f, "cannot write"),
             Fault::TooLarge => write!(f, "input too large"),
             Fault::NotUtf8 => write!(f, "input is not UTF-8"),
-            Fault::Bundle(line) => write!(f, "bundle line {line}"),
-            Fault::Class { class, fault } => write!(f, "class {class}: {fault}"),
-            Fault::Script(fault) => write!(f, "script: {fault}"),
+            Fault::Bundle(fault) => write!(f, "{fault}"),
             Fault::Serve(fault) => write!(f, "{fault}"),
             Fault::Path(path) => write!(f, "cannot read {path}"),
             Fault::File(fault) => write!(f, "{fault}"),
@@ -116,12 +109,12 @@ impl From<ServeFault> for Fault {
     }
 }
 
-impl From<ScriptFault> for Fault {
-    ghost use Rattle.classlink.specs.declared.fault.Fault.TheVariants.{Script};
+impl From<BundleFault> for Fault {
+    ghost use Rattle.classlink.specs.declared.fault.Fault.TheVariants.{Bundle};
 
-    ghost from_gives = { λ fault e. e ≡ Script fault };
+    ghost from_gives = { λ fault e. e ≡ Bundle fault };
 
-    fn from(fault: ScriptFault) -> Fault {
-        Fault::Script(fault)
+    fn from(fault: BundleFault) -> Fault {
+        Fault::Bundle(fault)
     }
 }

@@ -1,18 +1,12 @@
 //! Loads and links the classes of a bundle as a Java machine does.
 #![tactic(auto)]
 
-mod bundle;
 mod fault;
 mod input;
-mod laws;
-mod print;
 mod reading;
 mod run;
-mod sections;
 #[cfg(test)]
 mod tests;
-#[cfg(test)]
-mod tests_host;
 mod words;
 
 use fault::Fault;

@@ -1,12 +1,13 @@
 //! A class file's lines: the file's bytes, what they spell, and its listing.
 
-ghost use Rattle.std.specs.Prelude.{◌≡◌, ◌<◌, ◌≤◌, ◌^◌, ℕ, List, Option, Some, None, Err, IfOk, IfErr, length, string_bytes, ⊤};
-ghost use Rattle.classlink.specs.Readings.{IsContent, IsListing, IsRefusal, IsUnread, ReadingOf};
+ghost use Rattle.std.specs.Prelude.{◌≡◌, ◌<◌, ◌≤◌, ◌^◌, ℕ, List, Option, Some, None, Ok, Err, IfOk, IfErr, length, string_bytes, ⊤};
+ghost use Rattle.cl_classfile.specs.Reading.{read_of};
+ghost use Rattle.classlink.specs.Readings.{IsContent, IsRefusal, IsUnread, ReadingOf};
 
 use crate::fault::Fault;
-use crate::input::{InputFault, read_bytes};
-use crate::print::write_out;
-use cl_writer::listing;
+use cl_classfile::ClassFile;
+use cl_streams::{InputFault, read_bytes};
+use cl_writer::print_listing;
 use std::alloc::Global;
 use std::fs;
 use std::io::Write;
@@ -38,7 +39,7 @@ impl ReadFile for HostRuntime {
     }
 }
 
-/// Prints the lines of the class file at a path.
+/// Prints the lines of the class file at a path. It takes the memory of the file, and of a page of its lines.
 pub fn print_class<F: ReadFile, W: Write>(
     alloc: Global,
     files: &F,
@@ -48,8 +49,8 @@ pub fn print_class<F: ReadFile, W: Write>(
     ensures { ReadingOf (F.gives files.now path.now) path.now (W.contents out.old) (W.contents out.new) result }
 {
     let bytes = class_bytes(alloc, files, path)?;
-    let lines = class_lines(alloc, bytes.as_slice())?;
-    write_out(out, lines.as_bytes())?;
+    let file = class_file(alloc, bytes.as_slice())?;
+    print_listing(alloc, &file, out)?;
     Ok(())
 }
 
@@ -66,13 +67,13 @@ fn class_bytes<F: ReadFile>(alloc: Global, files: &F, path: &str) -> Result<Vec<
     }
 }
 
-/// The lines of the class file that bytes spell.
-fn class_lines(alloc: Global, bytes: &[u8]) -> Result<String, Fault>
-    ensures ok { IfOk result (λ text. IsListing bytes.now (string_bytes text)) }
+/// The class file that bytes spell.
+fn class_file(alloc: Global, bytes: &[u8]) -> Result<ClassFile, Fault>
+    ensures ok { IfOk result (λ file. read_of bytes.now ≡ Ok file) }
     ensures err { IfErr result (IsRefusal bytes.now) }
 {
     match cl_classfile::read(alloc, bytes) {
-        Ok(file) => Ok(listing(alloc, &file)?),
+        Ok(file) => Ok(file),
         Err(error) => Err(Fault::File(error)),
     }
 }

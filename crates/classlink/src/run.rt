@@ -7,17 +7,18 @@ ghost use Rattle.classlink.specs.Endings.{EndsFor, Grows, HelpOf, IsTaken, IsTur
 ghost use Rattle.classlink.specs.Readings.{IsReading};
 ghost use Rattle.classlink.specs.Runs.{IsRun, IsServed, RunOf, TellsFault};
 
-use crate::bundle::{self, Bundle};
 use crate::fault::Fault;
 use crate::input::read_text;
-use crate::print::{print_report, write_out};
 use crate::reading::{ReadFile, print_class};
 use crate::words::{self, Asked};
+use cl_bundle::Bundle;
 use cl_config::{Config, Script};
 use cl_model::Told;
 use cl_registry::Report;
+use cl_report::print_report;
 use cl_schedule::{ServeFault, serve_one};
 use cl_source::MemorySource;
+use cl_streams::write_out;
 use clap::error::ErrorKind;
 use std::alloc::Global;
 use std::convert::AsStr;
@@ -164,7 +165,7 @@ fn report_bundle<I: Read + Drop, W: Write>(
         config,
         source,
         script,
-    } = bundle::read(alloc, text.as_str())?;
+    } = cl_bundle::read(alloc, text.as_str())?;
     let config = Arc::new(alloc, config)?;
     let script = Arc::new(alloc, script)?;
     let loaders = Arc::try_clone(&config)?;

@@ -4,8 +4,6 @@
 
 mod round;
 mod stream;
-#[cfg(test)]
-mod tests;
 
 use round::{Outcome, round_trip};
 use std::io;

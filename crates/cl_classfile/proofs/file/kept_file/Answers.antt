@@ -6,6 +6,7 @@ use Rattle.cl_classfile.specs.Raw.{plain_entries, plain_file}
 use Rattle.cl_classfile.specs.View.{plain_parts}
 use Rattle.cl_classfile.specs.Rows.{entry_traits}
 use Rattle.cl_classfile.specs.Checking.{checked_entries, checked_tables}
+use Rattle.cl_classfile.proofs.Entries.{texts_held}
 use Rattle.cl_classfile.proofs.Exact.{is_class_file}
 use Rattle.cl_classfile.proofs.file.kept_file.Goals as goal
 
@@ -25,3 +26,10 @@ made-requires c =
     let tables : checked_tables (map entry_traits f.pool) f.pool f ≡ Ok c.in_ok-check_tables.field-0 =
     ap (λ (ts : List Traits). checked_tables ts f.pool f) (sym traits) ∙ ap (λ (g : Structure). checked_tables c.as_slice-4.result.now g.pool g) (sym same) ∙ c.in_ok-check_tables.ensures in
     subst IsClassFile (sym same) (is_class_file f c.in_ok-check_entries.field-0 c.in_ok-check_tables.field-0 c.requires rows tables)
+
+pub owned_parts-requires : goal.owned_parts-requires
+owned_parts-requires c =
+    let f = plain_file c.args.file in
+    let rows : checked_entries f.pool 1 f.pool ≡ Ok c.in_ok-check_entries.field-0 =
+    ap (λ (rs : List RawEntry). checked_entries (plain_entries rs) 1 (plain_entries rs)) (sym c.as_slice-3.ensures.value) ∙ c.in_ok-check_entries.ensures in
+    texts_held f.pool 1 f.pool c.in_ok-check_entries.field-0 rows

@@ -8,11 +8,11 @@ use Rattle.cl_classfile.proofs.pool.entries_at.Goals as goal
 
 pub loop-i-init : goal.loop-i-init
 unfolding entries_at
-loop-i-init c = rw c.new-entries.ensures.items (starts (slot_at c.args.count) next_place c.args.count (1, false) c.args.bytes.now)
+loop-i-init c = rw c.in_ok-entries.ensures.items (starts (slot_at c.args.count) next_place c.args.count (1, false) c.args.bytes.now)
 
 pub returns-in_err-entry : goal.returns-in_err-entry
 returns-in_err-entry c =
-    let p = err_from_is_err_and c.from_residual.result c.from_residual.ensures.1 in
+    let p = err_from_is_err_and c.from_residual-in_err-entry.result c.from_residual-in_err-entry.ensures.1 in
     rw (p.1, p.2) (ends (slot_at c.args.count) next_place c.in_err-entry.field-0.0 (plain_entries c.loop-i.entries.items) c.args.count c.loop-i.i (c.loop-i.i + 1, c.loop-i.taken) c.loop-i.rest.now (entries_at c.args.count c.args.bytes.now) c.loop-i-test.true c.in_err-entry.ensures c.loop-i.invariant)
 
 pub loop-i-preserved : goal.loop-i-preserved

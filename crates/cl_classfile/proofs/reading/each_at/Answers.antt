@@ -4,11 +4,11 @@ use Rattle.cl_classfile.proofs.Loop.{all_start, all_go_on, all_fail, all_done}
 use Rattle.cl_classfile.proofs.reading.each_at.Goals as goal
 
 pub loop-i-init : goal.loop-i-init
-loop-i-init g c = rw c.new-all.ensures.items (all_start g.T.Listed.reader c.args.count c.args.bytes.now)
+loop-i-init g c = rw c.in_ok-all.ensures.items (all_start g.T.Listed.reader c.args.count c.args.bytes.now)
 
 pub returns-in_err-one : goal.returns-in_err-one
 returns-in_err-one g c =
-    let p = err_from_is_err_and c.from_residual.result c.from_residual.ensures.1 in
+    let p = err_from_is_err_and c.from_residual-in_err-one.result c.from_residual-in_err-one.ensures.1 in
     rw (p.1, p.2) (all_fail g.T.Listed.reader c.in_err-one.field-0.0 c.loop-i.all.items c.args.count c.loop-i.i c.loop-i.rest.now (each_at g.T.Listed.reader c.args.count c.args.bytes.now) c.loop-i-test.true c.in_err-one.ensures c.loop-i.invariant)
 
 pub loop-i-preserved : goal.loop-i-preserved

@@ -1,5 +1,5 @@
-use Rattle.std.proofs.Common.{refl}
-use Rattle.cl_classfile.proofs.Entries.{goes_on, ends, is_done}
+use Rattle.std.proofs.Common.{refl, ◌∙◌}
+use Rattle.cl_classfile.proofs.Entries.{goes_on, ends, is_done, its_own}
 use Rattle.cl_classfile.proofs.rows.check_entries.Goals as goal
 
 pub loop-i-init : goal.loop-i-init
@@ -13,3 +13,6 @@ returns-then-not-keeps_entry c = ends c.args.traits.now c.args.pool.now c.loop-i
 
 pub returns : goal.returns
 returns c = is_done c.args.pool.now c.loop-i.i c.loop-i-test.false c.loop-i.invariant
+
+pub keeps_entry-requires : goal.keeps_entry-requires
+keeps_entry-requires c = c.traits_at-own.ensures ∙ its_own c.args.traits.now c.args.pool.now c.loop-i.i _ c.loop-i-test.true c.requires.traits

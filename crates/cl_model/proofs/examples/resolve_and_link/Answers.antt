@@ -60,8 +60,8 @@ load_svc = (
       above = (record { place = boot; found = refl; holds = refl }, tt);
       may_add = free_entry _ (codes "p/Svc") app app refl refl;
     },
-    (record { found = refl; not_own = λ e. absurd cc; defined = refl; may_add = free_entry _ (codes "p/Svc") plug app refl refl }, tt)
-  )
+    (record { found = refl; not_own = λ e. absurd cc; defined = refl; may_add = free_entry _ (codes "p/Svc") plug app refl refl }, tt),
+  ),
 )
 
 load_use : May serving (state_after start (Define (in_boot "java/lang/Object") ∷ Initiate object boot app ∷ Define (in_app "p/Svc") ∷ Initiate (codes "p/Svc") app plug ∷ [])) (Define (in_plug "p/Use"))
@@ -167,11 +167,32 @@ object_unprepared (x, l, e) = absurd (omega arith)
 pub returns : goal.returns
 returns c = (
   load_object,
-  (load_svc.0, (load_svc.1.0, (load_svc.1.1.0, (load_use, (constrain, (settle, (answer, (
-    record { answered = first_round; later = omega arith },
+  (
+    load_svc.0,
     (
-      record { recorded = refl; unprepared = object_unprepared; kin = kin_of_object; lineage = lineage_of_object; above = tt; imposed = tt },
-      (prepare_svc, (prepare_use, (linked, (no_reference, tt)))),
+      load_svc.1.0,
+      (
+        load_svc.1.1.0,
+        (
+          load_use,
+          (
+            constrain,
+            (
+              settle,
+              (
+                answer,
+                (
+                  record { answered = first_round; later = omega arith },
+                  (
+                    record { recorded = refl; unprepared = object_unprepared; kin = kin_of_object; lineage = lineage_of_object; above = tt; imposed = tt },
+                    (prepare_svc, (prepare_use, (linked, (no_reference, tt)))),
+                  ),
+                ),
+              ),
+            ),
+          ),
+        ),
+      ),
     ),
-  )))))))),
+  ),
 )

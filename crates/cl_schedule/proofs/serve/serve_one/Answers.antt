@@ -4,9 +4,9 @@ use Rattle.cl_model.specs.Views.{answers_of, steps_of}
 use Rattle.cl_config.specs.Views.{Configured, Scripted}
 use Rattle.cl_registry.specs.Reports.{IsNamed}
 use Rattle.cl_config.specs.Scripts.{HasLoaders}
-use Rattle.cl_registry.specs.Tables.{Shown, posts}
+use Rattle.cl_registry.specs.Tables.{Shown, IsTrusted, RunsAs, posts}
 use Rattle.cl_schedule.specs.Counting.{Grows, faults}
-use Rattle.cl_schedule.specs.Serving.{reported, InOrder}
+use Rattle.cl_schedule.specs.Serving.{reported, upto, InOrder}
 use Rattle.cl_schedule.specs.Headline.{EachSpelt, Alike, CirclesExact}
 use Rattle.cl_schedule.proofs.Serving.{next_upto, next_is_open, none_is_open, in_script, has_loader, report_tells}
 use Rattle.cl_schedule.proofs.Served.{served_none, served_next, served_whole}
@@ -63,20 +63,25 @@ unreachable-requires g c =
 told_of : (g : _) (c : goal.After-drop-config-2 g) → c.loop-q.registry ≡ reported c.args.config.value c.in-Ok-into_report.report
 told_of g c = report_tells c.loop-q.registry c.in-Ok-into_report.report c.args.config.value c.in-Ok-into_report.ensures.whole c.loop-q.invariant.config
 
-pub returns-clause-in_order : goal.returns-clause-in_order
-returns-clause-in_order g c =
+-- as many requests as the script has were served
+all_served : (g : _) (c : goal.After-drop-config-2 g) → c.loop-q.q ≡ length c.args.script.value.requests
+all_served g c =
     let count : c.loop-q.q ≡ length c.requests-count.result.now = (let least = c.loop-q-test.false in let most = c.loop-q.auto.q-end in omega arith) in
-    subst (InOrder g.T.Told.told) (told_of g c) (served_whole g.T.Told.told c.loop-q.registry c.loop-q.q c.loop-q.invariant.served
-    (count ∙ ap length c.requests-count.ensures.requests ∙ ap (λ (s : Scripted). length s.requests) (c.deref.ensures ∙ sym c.loop-q.invariant.script)))
+    count ∙ ap length c.requests-count.ensures.requests ∙ ap (λ (s : Scripted). length s.requests) c.deref.ensures
 
-pub returns-clause-spelt : goal.returns-clause-spelt
-returns-clause-spelt g c = subst (EachSpelt g.T.Told.told) (told_of g c) (each_spelt g.T.Told.told c.loop-q.registry c.loop-q.invariant.kept.run)
-
-pub returns-clause-alike : goal.returns-clause-alike
-returns-clause-alike g c = subst (Alike g.T.Told.told) (told_of g c) (alike g.T.Told.told c.loop-q.registry c.loop-q.invariant.kept.trusted c.loop-q.invariant.kept.run)
-
-pub returns-clause-circles : goal.returns-clause-circles
-returns-clause-circles g c = subst (CirclesExact g.T.Told.told) (told_of g c) (circles_exact g.T.Told.told c.loop-q.registry c.loop-q.invariant.kept.trusted c.loop-q.invariant.kept.run)
-
-pub returns-clause-named : goal.returns-clause-named
-returns-clause-named g c = subst (λ (k : Configured). IsNamed (length k.names) c.in-Ok-into_report.report) c.loop-q.invariant.config c.in-Ok-into_report.ensures.loaders
+pub returns-clause-served : goal.returns-clause-served
+returns-clause-served g c =
+    let inv = c.loop-q.invariant in
+    let told = g.T.Told.told in
+    let whole = c.in-Ok-into_report.ensures.whole in
+    record {
+      of_script = whole.script ∙ inv.script;
+      each_once = ap posts whole.history ∙ inv.order ∙ ap upto (all_served g c);
+      named = subst (λ (k : Configured). IsNamed (length k.names) c.in-Ok-into_report.report) inv.config c.in-Ok-into_report.ensures.loaders;
+      trusted = subst IsTrusted (told_of g c) inv.kept.trusted;
+      run = subst (RunsAs told) (told_of g c) inv.kept.run;
+      in_order = subst (InOrder told) (told_of g c) (served_whole told c.loop-q.registry c.loop-q.q inv.served (all_served g c ∙ ap (λ (s : Scripted). length s.requests) (sym inv.script)));
+      spelt = subst (EachSpelt told) (told_of g c) (each_spelt told c.loop-q.registry inv.kept.run);
+      alike = subst (Alike told) (told_of g c) (alike told c.loop-q.registry inv.kept.trusted inv.kept.run);
+      circles = subst (CirclesExact told) (told_of g c) (circles_exact told c.loop-q.registry inv.kept.trusted inv.kept.run);
+    }

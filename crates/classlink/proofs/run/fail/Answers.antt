@@ -1,6 +1,6 @@
 use Rattle.std.proofs.Common.{inl, string_bytes}
 use Rattle.classlink.specs.Faults.{fault_text}
-use Rattle.classlink.specs.declared.print.PrintFault.{PrintFault}
+use Rattle.cl_streams.specs.declared.output.PrintFault.{PrintFault}
 use Rattle.classlink.proofs.Running.{told_line, write_part}
 use Rattle.classlink.proofs.run.fail.Goals as goal
 

@@ -14,7 +14,7 @@ abbrev shown : (g : _) → goal.After-drop-draft-inside-3 g → Shown
 shown g c = record { config = c.self.inside.config.value; script = c.self.inside.script.value; history = c.self.inside.history.items; answers = c.self.inside.answers.items }
 
 fresh : (g : _) (c : goal.After-drop-draft-inside-3 g) → recorded (records_of (shown g c)) c.args.draft.class.loader c.args.draft.class.name ≡ None
-fresh g c = unrecorded_at (λ r. r.value) g.T.Told.told (shown g c) _ c.self.invariant.rows c.args.draft.class.loader c.args.draft.class.name (sym c.known.ensures ∙ ap (option_map (λ r. r.now)) c.in-None.is)
+fresh g c = unrecorded_at (λ r. r.value) g.T.Told.told (shown g c) _ c.self.invariant.rows c.args.draft.class.loader c.args.draft.class.name (sym c.row_of.ensures ∙ ap (option_map (λ r. r.now)) c.in-None.is)
 
 may : (g : _) (c : goal.After-drop-draft-inside-3 g) → MayEnter (shown g c) c.args.draft
 may g c = may_enter (shown g c) _ c.count.result c.args.draft (c.count.ensures.count ∙ ap (λ k. length k.names) c.deref.ensures) (known_at (λ r. r.value) g.T.Told.told (shown g c) _ c.self.invariant.rows) c.if-not-may_enter.ensures
@@ -36,7 +36,7 @@ returns-in-Some-clause-defined g c =
     let x : Shown = record { config = c.self.inside.config.value; script = c.self.inside.script.value; history = c.self.inside.history.items; answers = c.self.inside.answers.items } in
     subst (λ (y : Shown). OnOk c.match-try_clone.result (DefinedAs y y c.args.draft (recorded (records_of y) c.args.draft.class.loader c.args.draft.class.name))) c.self.view_is
     (known_defined c.match-try_clone.result x c.args.draft _ c.in-Some.row.now.value.class.loader
-    (sym (place_at (λ r. r.value) g.T.Told.told x _ c.self.invariant.rows c.args.draft.class.loader c.args.draft.class.name) ∙ ap (option_map (λ r. r.value.class.loader)) (sym c.known.ensures ∙ ap (option_map (λ r. r.now)) c.in-Some.is)))
+    (sym (place_at (λ r. r.value) g.T.Told.told x _ c.self.invariant.rows c.args.draft.class.loader c.args.draft.class.name) ∙ ap (option_map (λ r. r.value.class.loader)) (sym c.row_of.ensures ∙ ap (option_map (λ r. r.now)) c.in-Some.is)))
 
 pub returns-clause-kept : goal.returns-clause-kept
 returns-clause-kept g c = (invariant_of-self-2 g c).kept
@@ -49,7 +49,7 @@ returns-in-Some-clause-fresh g c =
     let x : Shown = record { config = c.self.inside.config.value; script = c.self.inside.script.value; history = c.self.inside.history.items; answers = c.self.inside.answers.items } in
     subst (λ (y : Shown). recorded (records_of y) c.args.draft.class.loader c.args.draft.class.name ≡ None → IfOk c.match-try_clone.result (λ r. IsOf r.value c.args.draft)) c.self.view_is
     (unknown c.match-try_clone.result (λ r. IsOf r.value c.args.draft) _ c.in-Some.row.now.value.class.loader
-    (sym (place_at (λ r. r.value) g.T.Told.told x _ c.self.invariant.rows c.args.draft.class.loader c.args.draft.class.name) ∙ ap (option_map (λ r. r.value.class.loader)) (sym c.known.ensures ∙ ap (option_map (λ r. r.now)) c.in-Some.is)))
+    (sym (place_at (λ r. r.value) g.T.Told.told x _ c.self.invariant.rows c.args.draft.class.loader c.args.draft.class.name) ∙ ap (option_map (λ r. r.value.class.loader)) (sym c.row_of.ensures ∙ ap (option_map (λ r. r.now)) c.in-Some.is)))
 
 some_or_none : (o : Option ℕ) (place : ℕ) → o ≡ Some place → o ≡ None → ⊥
 some_or_none o place e f = absurd cc
@@ -59,7 +59,7 @@ returns-in-Some-clause-refused g c =
     let x : Shown = record { config = c.self.inside.config.value; script = c.self.inside.script.value; history = c.self.inside.history.items; answers = c.self.inside.answers.items } in
     let loader = c.args.draft.class.loader in
     let name = c.args.draft.class.name in
-    let some = sym (place_at (λ r. r.value) g.T.Told.told x _ c.self.invariant.rows loader name) ∙ ap (option_map (λ r. r.value.class.loader)) (sym c.known.ensures ∙ ap (option_map (λ r. r.now)) c.in-Some.is) in
+    let some = sym (place_at (λ r. r.value) g.T.Told.told x _ c.self.invariant.rows loader name) ∙ ap (option_map (λ r. r.value.class.loader)) (sym c.row_of.ensures ∙ ap (option_map (λ r. r.now)) c.in-Some.is) in
     elim c.match-try_clone.branch [
       | in-Ok w ↦ rw w.result-is tt
       | in-Err w ↦ rw w.result-is (λ none. absurd (some_or_none (recorded (records_of x) loader name) _ some (subst (λ (y : Shown). recorded (records_of y) loader name ≡ None) (sym c.self.view_is) none)))

@@ -1,0 +1,92 @@
+-- Which texts are a bundle, and the first thing that is wrong with one that is not: its section lines are looked at first, then its
+-- configuration, then its class sections in order, and its script last.
+use Rattle.std.specs.Prelude.{◌≡◌, ◌⊎◌, ℕ, MatchBool, List, [], ◌∷◌, ◌++◌, Option, Some, None, is_some, Result, Ok, Err}
+use Rattle.cl_model.specs.Content.{Content, Stored, content_at}
+use Rattle.cl_config.specs.Views.{Configured, Scripted}
+use Rattle.cl_config.specs.Configs.{ConfigOf}
+use Rattle.cl_source.specs.Puts.{TellsMore}
+use Rattle.cl_config.specs.Scripts.{loader_named, script_of}
+use Rattle.cl_config.specs.declared.config.ConfigFault.TheVariants.{BadLoader}
+use Rattle.cl_config.specs.declared.script.ScriptFault.{ScriptFault}
+use Rattle.cl_bundle.specs.Sections.{Cut, Part, cut_of}
+use Rattle.cl_bundle.specs.Contents.{ContentOf}
+use Rattle.cl_bundle.specs.Faults.{UnlessMemory}
+use Rattle.cl_bundle.specs.declared.fault.BundleFault.{BundleFault}
+use Rattle.cl_bundle.specs.declared.fault.BundleFault.TheVariants.{BadLine, Script}
+use Rattle.cl_bundle.specs.declared.bundle.Bundle as declared
+
+-- ---- the class sections
+
+-- the content of a section is stored under this loader and its name (own choice)
+abbrev pub StoredAs : ℕ → Part → Result Stored BundleFault → Type 0
+StoredAs loader part (Ok stored) = (stored.loader ≡ loader) × (stored.name ≡ part.name) × ContentOf part (Ok stored.bytes)
+StoredAs loader part (Err fault) = ContentOf part (Err fault)
+
+-- the loader has to be one, then this loader and name must not have had a section, and then the content counts (own choice)
+abbrev pub StoredBy : Option ℕ → Content → Part → Result Stored BundleFault → Type 0
+StoredBy None before part result = result ≡ Err (BadLine part.line)
+StoredBy (Some loader) before part result =
+    MatchBool (is_some (content_at before loader part.name)) (result ≡ Err (BadLine part.line)) (StoredAs loader part result)
+
+-- what a class section tells, behind some that tell this, or the fault of it (own choice)
+abbrev pub StoredOf : List (List ℕ) → Content → Part → Result Stored BundleFault → Type 0
+StoredOf names before part result = StoredBy (loader_named names part.loader) before part result
+
+-- class sections tell this in order, behind some that tell the first (own choice)
+abbrev pub AllTell : List (List ℕ) → Content → List Part → Content → Type 0
+AllTell names before [] content = content ≡ before
+AllTell names before (part ∷ parts) content =
+    (stored : Stored) × StoredOf names before part (Ok stored) × AllTell names (before ++ stored ∷ []) parts content
+
+-- the first of class sections that is wrong has this fault (own choice)
+abbrev pub FirstWrong : List (List ℕ) → Content → List Part → BundleFault → Type 0
+FirstWrong names before [] fault = ⊥
+FirstWrong names before (part ∷ parts) fault =
+    StoredOf names before part (Err fault)
+    ⊎ ((stored : Stored) × StoredOf names before part (Ok stored) × FirstWrong names (before ++ stored ∷ []) parts fault)
+
+-- ---- the whole
+
+-- each loader has the same bytes for each name (own choice)
+abbrev pub TellsSame : Content → Content → Type 0
+TellsSame a b = (loader : ℕ) (name : List ℕ) → content_at a loader name ≡ content_at b loader name
+
+-- the text is a bundle: its sections are in order, and each part is well formed (own choice)
+pub record IsBundle (text : List ℕ) (config : Configured) (content : Content) (script : Scripted) : Type 0 where
+  pub cut : Cut
+  pub told : Content
+  pub sections : cut_of text ≡ Ok cut
+  pub configuration : ConfigOf cut.config (Ok config)
+  pub classes : AllTell config.names [] cut.classes told
+  pub content_is : TellsSame content told
+  pub requests : script_of config.names cut.script (Ok script)
+
+-- the first thing that is wrong with a text, with the fault that tells of it (own choice)
+pub data IsNoBundle (text : List ℕ) (fault : BundleFault) : Type 0 where
+  WrongLine : (n : ℕ) → cut_of text ≡ Err n → fault ≡ BadLine n → IsNoBundle text fault
+  WrongConfig : (cut : Cut) → cut_of text ≡ Ok cut → ConfigOf cut.config (Err (BadLoader 0)) → fault ≡ BadLine cut.config_line → IsNoBundle text fault
+  WrongClass : (cut : Cut) (config : Configured) → cut_of text ≡ Ok cut → ConfigOf cut.config (Ok config) → FirstWrong config.names [] cut.classes fault → IsNoBundle text fault
+  WrongScript : (cut : Cut) (config : Configured) (told : Content) (wrong : ScriptFault) → cut_of text ≡ Ok cut → ConfigOf cut.config (Ok config)
+      → AllTell config.names [] cut.classes told → script_of config.names cut.script (Err wrong) → fault ≡ Script wrong → IsNoBundle text fault
+
+-- what reading a text answers (own choice)
+abbrev pub BundleOf : List ℕ → Result declared.Bundle BundleFault → Type 0
+BundleOf text (Ok b) = IsBundle text b.config b.source b.script
+BundleOf text (Err fault) = UnlessMemory fault (IsNoBundle text fault)
+
+-- ---- what the steps of reading one answer
+
+-- what reading the configuration answers, whose `%config` stands in this line (own choice)
+abbrev pub ConfigFaultOf : List ℕ → ℕ → Result Configured BundleFault → Type 0
+ConfigFaultOf text line (Ok config) = ConfigOf text (Ok config)
+ConfigFaultOf text line (Err fault) = UnlessMemory fault (ConfigOf text (Err (BadLoader 0)) × (fault ≡ BadLine line))
+
+-- what putting a class section into a source does (own choice)
+abbrev pub PutOf : List (List ℕ) → Part → Content → Result (Unit {0}) BundleFault → Content → Type 0
+PutOf names part old (Ok x) new = (stored : Stored) × StoredOf names old part (Ok stored) × TellsMore old new stored.loader stored.name stored.bytes
+PutOf names part old (Err fault) new = UnlessMemory fault (StoredOf names old part (Err fault))
+
+-- what the class sections give a source (own choice)
+abbrev pub ContentsOf : List (List ℕ) → List Part → Result Content BundleFault → Type 0
+ContentsOf names parts (Ok content) = (told : Content) × AllTell names [] parts told × TellsSame content told
+ContentsOf names parts (Err fault) = UnlessMemory fault (FirstWrong names [] parts fault)

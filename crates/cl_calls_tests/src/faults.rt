@@ -1,0 +1,44 @@
+//! The printed faults of which no bundle shows each, and no contract tells the text.
+
+use cl_classfile::Fault;
+use cl_config::ConfigFault;
+use cl_hierarchy::DraftFault;
+use cl_registry::RegistryFault;
+use cl_source::SourceFault;
+use std::test::Fail;
+
+#[test]
+fn printed_faults(rt: HostRuntime) -> Result<(), Fail> {
+    let alloc = rt.alloc();
+    for (fault, text) in [
+        (ConfigFault::Memory, "C0 Memory"),
+        (ConfigFault::NotToml, "C1 NotToml"),
+        (ConfigFault::BadLoader(2), "C2 BadLoader 2"),
+    ] {
+        assert!(rt; fault.to_string(alloc)?.as_str() == text);
+    }
+    for (fault, text) in [
+        (SourceFault::Memory, "S0 Memory"),
+        (SourceFault::Device, "S1 Device"),
+        (SourceFault::TooLarge, "S2 TooLarge"),
+        (SourceFault::Twice, "S3 Twice"),
+    ] {
+        assert!(rt; fault.to_string(alloc)?.as_str() == text);
+    }
+    for (fault, text) in [
+        (DraftFault::Format(Fault::Trailing), "H1 Format F4 Trailing"),
+        (DraftFault::Version, "H2 Version"),
+        (DraftFault::OtherName, "H3 OtherName"),
+    ] {
+        assert!(rt; fault.to_string(alloc)?.as_str() == text);
+    }
+    for (fault, text) in [
+        (RegistryFault::Memory, "B0 Memory"),
+        (RegistryFault::Stray, "B1 Stray"),
+        (RegistryFault::AlreadyPosted, "B3 AlreadyPosted"),
+        (RegistryFault::NotYet, "B4 NotYet"),
+    ] {
+        assert!(rt; fault.to_string(alloc)?.as_str() == text);
+    }
+    Ok(())
+}

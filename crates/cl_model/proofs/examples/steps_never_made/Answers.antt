@@ -1,0 +1,21 @@
+use Rattle.std.proofs.Common.{◌≡◌, Some, refl}
+use Rattle.cl_model.specs.Examples.{boot, app, plug}
+use Rattle.cl_model.proofs.examples.steps_never_made.Goals as goal
+
+pub returns-clause-define : goal.returns-clause-define
+returns-clause-define c s h = absurd (let e : Some app ≡ Some plug = h.at_home in cc)
+
+pub returns-clause-initiate_own : goal.returns-clause-initiate_own
+returns-clause-initiate_own c s h = h.not_own refl
+
+pub returns-clause-initiate_elsewhere : goal.returns-clause-initiate_elsewhere
+returns-clause-initiate_elsewhere c s h = absurd (let e : Some boot ≡ Some app = h.found in cc)
+
+pub returns-clause-settle_no_reference : goal.returns-clause-settle_no_reference
+returns-clause-settle_no_reference c s h = h.is_entry refl
+
+pub returns-clause-settle_array_member : goal.returns-clause-settle_array_member
+returns-clause-settle_array_member c s h = h.is_class_member refl
+
+pub returns-clause-stray : goal.returns-clause-stray
+returns-clause-stray c s h = h

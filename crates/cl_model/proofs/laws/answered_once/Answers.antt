@@ -1,5 +1,0 @@
-use Rattle.cl_model.proofs.Tables.{answered_once}
-use Rattle.cl_model.proofs.laws.answered_once.Goals as goal
-
-pub returns : goal.returns
-returns c = answered_once

@@ -1,5 +1,0 @@
-use Rattle.cl_model.proofs.Tables.{may_allows}
-use Rattle.cl_model.proofs.laws.may_is_allowed.Goals as goal
-
-pub returns : goal.returns
-returns c = may_allows

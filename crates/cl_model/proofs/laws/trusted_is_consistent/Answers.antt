@@ -1,5 +1,0 @@
-use Rattle.cl_model.proofs.Tables.{trusted_is_consistent}
-use Rattle.cl_model.proofs.laws.trusted_is_consistent.Goals as goal
-
-pub returns : goal.returns
-returns c = trusted_is_consistent

@@ -1,0 +1,148 @@
+ghost use Rattle.std.specs.Prelude.{◌≡◌, ◌++◌, [], length, map, string_bytes, All, OnOk, OnErr, if◌then◌else◌};
+ghost use Rattle.std.specs.Io.KnownBytes.{Appends};
+ghost use Rattle.cl_model.specs.Texts.{EventNames, AnswerNames};
+ghost use Rattle.cl_streams.specs.Writing.{AppendsPart, Passes};
+ghost use Rattle.cl_report.specs.Report.{answer_line, answer_lines, ended, event_line, history_lines, report_lines};
+
+use cl_model::{Answer, Event};
+use cl_registry::Report;
+use cl_streams::{PrintFault, write_out};
+use std::alloc::Global;
+use std::io::Write;
+
+/// Lines are kept until they have so many bytes, and then written at once.
+const PAGE: usize = 8192;
+
+/// Writes the lines of a history, unless the answers alone are wanted, and one line for each answer.
+/// Loaders are written by these names, of which each loader in the report has one.
+pub fn print_report<W: Write>(
+    alloc: Global,
+    report: &Report,
+    loaders: &[String],
+    answers: bool,
+    out: &mut W,
+) -> Result<(), PrintFault>
+    requires events { All (EventNames (length loaders.now)) report.now.history }
+    requires answers { All (AnswerNames (length loaders.now)) report.now.answers }
+    ensures lines { OnOk result (Appends (W.contents out.old) (W.contents out.new)
+        (report_lines (map string_bytes loaders.now) answers report.now.history report.now.answers)) }
+    ensures part { OnErr result (AppendsPart (W.contents out.old) (W.contents out.new)
+        (report_lines (map string_bytes loaders.now) answers report.now.history report.now.answers)) }
+{
+    let mut waiting = String::new(alloc);
+    let events = shown_events(report, answers);
+    print_history(alloc, events, loaders, out, &mut waiting)?;
+    print_answers(alloc, report.answers.as_slice(), loaders, out, &mut waiting)?;
+    write_out(out, waiting.as_bytes())
+}
+
+/// The events whose lines are wanted: none where the answers alone are.
+fn shown_events(report: &Report, answers: bool) -> &[Event]
+    ensures { result.now ≡ (if answers then [] else report.now.history) }
+{
+    if answers {
+        &[]
+    } else {
+        report.history.events()
+    }
+}
+
+/// Puts the lines of events behind what waits.
+fn print_history<W: Write>(
+    alloc: Global,
+    events: &[Event],
+    loaders: &[String],
+    out: &mut W,
+    waiting: &mut String,
+) -> Result<(), PrintFault>
+    requires { All (EventNames (length loaders.now)) events.now }
+    ensures lines { OnOk result (Passes (W.contents out.old) (string_bytes waiting.old)
+        (W.contents out.new) (string_bytes waiting.new) (history_lines (map string_bytes loaders.now) events.now)) }
+    ensures part { OnErr result (AppendsPart (W.contents out.old) (W.contents out.new)
+        (string_bytes waiting.old ++ history_lines (map string_bytes loaders.now) events.now)) }
+{
+    for event in events {
+        put_event(alloc, event, loaders, out, waiting)?;
+    }
+    Ok(())
+}
+
+/// Puts the lines of answers, numbered from 1, behind what waits.
+fn print_answers<W: Write>(
+    alloc: Global,
+    answers: &[Answer],
+    loaders: &[String],
+    out: &mut W,
+    waiting: &mut String,
+) -> Result<(), PrintFault>
+    requires { All (AnswerNames (length loaders.now)) answers.now }
+    ensures lines { OnOk result (Passes (W.contents out.old) (string_bytes waiting.old)
+        (W.contents out.new) (string_bytes waiting.new) (answer_lines (map string_bytes loaders.now) answers.now)) }
+    ensures part { OnErr result (AppendsPart (W.contents out.old) (W.contents out.new)
+        (string_bytes waiting.old ++ answer_lines (map string_bytes loaders.now) answers.now)) }
+{
+    for (index, answer) in answers.iter().enumerate() {
+        put_answer(alloc, index + 1, answer, loaders, out, waiting)?;
+    }
+    Ok(())
+}
+
+/// Puts the line of an event, which a post has not, behind what waits.
+fn put_event<W: Write>(
+    alloc: Global,
+    event: &Event,
+    loaders: &[String],
+    out: &mut W,
+    waiting: &mut String,
+) -> Result<(), PrintFault>
+    requires { EventNames (length loaders.now) event.now }
+    ensures line { OnOk result (Passes (W.contents out.old) (string_bytes waiting.old)
+        (W.contents out.new) (string_bytes waiting.new) (event_line (map string_bytes loaders.now) event.now)) }
+    ensures part { OnErr result (AppendsPart (W.contents out.old) (W.contents out.new)
+        (string_bytes waiting.old ++ event_line (map string_bytes loaders.now) event.now)) }
+{
+    match event {
+        Event::Define(class) => {
+            let class = class.text(alloc, loaders)?;
+            let line = format!(in alloc; "define {class}")?;
+            put_line(out, waiting, line.as_str())
+        }
+        Event::Post(_) => Ok(()),
+    }
+}
+
+/// Puts an answer behind the number of its request, and both behind what waits.
+fn put_answer<W: Write>(
+    alloc: Global,
+    number: usize,
+    answer: &Answer,
+    loaders: &[String],
+    out: &mut W,
+    waiting: &mut String,
+) -> Result<(), PrintFault>
+    requires { AnswerNames (length loaders.now) answer.now }
+    ensures line { OnOk result (Passes (W.contents out.old) (string_bytes waiting.old)
+        (W.contents out.new) (string_bytes waiting.new) (answer_line (map string_bytes loaders.now) number answer.now)) }
+    ensures part { OnErr result (AppendsPart (W.contents out.old) (W.contents out.new)
+        (string_bytes waiting.old ++ answer_line (map string_bytes loaders.now) number answer.now)) }
+{
+    let text = answer.text(alloc, loaders)?;
+    let line = format!(in alloc; "{number} {text}")?;
+    put_line(out, waiting, line.as_str())
+}
+
+/// Puts a line and its end behind what waits, and writes all of it once it is long.
+fn put_line<W: Write>(out: &mut W, waiting: &mut String, line: &str) -> Result<(), PrintFault>
+    ensures line { OnOk result (Passes (W.contents out.old) (string_bytes waiting.old)
+        (W.contents out.new) (string_bytes waiting.new) (ended line.now)) }
+    ensures part { OnErr result (AppendsPart (W.contents out.old) (W.contents out.new)
+        (string_bytes waiting.old ++ ended line.now)) }
+{
+    waiting.push_str(line)?;
+    waiting.push_str("\n")?;
+    if waiting.len() >= PAGE {
+        write_out(out, waiting.as_bytes())?;
+        waiting.clear();
+    }
+    Ok(())
+}

@@ -1,0 +1,8 @@
+//! What only calls can ask of serving a script, and rows cannot: replies that a task does not wait for, and sources of
+//! which a read fails. There is nothing here but tests.
+#![tactic(auto)]
+
+#[cfg(test)]
+mod service;
+#[cfg(test)]
+mod tasks;

@@ -1,0 +1,53 @@
+-- Which file of a directory a name stands for, and what the directory answers for it (own choice; JVMS SE 8, 5.3.2).
+use Rattle.std.specs.Prelude.{◌≡◌, ℕ, ⊤, List, [], ◌∷◌, ◌++◌, codes, Option, Some, None, option_map, Result, Ok, Err}
+use Rattle.cl_names.specs.Plain.{plain_of}
+use Rattle.cl_source.specs.declared.source.Outcome.{Outcome}
+use Rattle.cl_source.specs.declared.source.Outcome.TheVariants.{Found, Absent}
+use Rattle.cl_source.specs.declared.source.SourceFault.{SourceFault}
+use Rattle.cl_source.specs.declared.source.SourceFault.TheVariants.{Memory, Device, TooLarge, Twice}
+use Rattle.cl_source.specs.Views.{Found as Probed}
+use Rattle.cl_source.specs.Seen.{Seen, Missing, Refused, IsWithin, IsTooLarge}
+
+-- what a directory's paths begin with; the empty one is the working directory
+abbrev pub within : List ℕ → List ℕ
+within [] = []
+within (b ∷ bs) = (b ∷ bs) ++ 47 ∷ []
+
+-- DIR/NAME.class, where the name has a text in UTF-8
+abbrev pub path_of : List ℕ → List ℕ → Option (List ℕ)
+path_of dir name = option_map (λ text. within dir ++ text ++ codes ".class") (plain_of name)
+
+-- the path of a name is looked at, and P holds of it
+pub record At (P : List ℕ → Type 0) (path : Option (List ℕ)) : Type 0 where
+  pub text : List ℕ
+  pub is : path ≡ Some text
+  pub holds : P text
+
+-- there is no such file: the name has no path, or nothing stands there
+abbrev pub IsAbsent : (List ℕ → Seen → Type 0) → Option (List ℕ) → Type 0
+IsAbsent gives None = ⊤
+IsAbsent gives (Some path) = gives path Missing
+
+-- what a directory answers for a path, or for a name that has none: only what is missing is absent
+abbrev pub AnswerOf : (List ℕ → Seen → Type 0) → Option (List ℕ) → Result Outcome SourceFault → Type 0
+AnswerOf gives path (Ok (Found bytes)) = At (λ p. IsWithin (gives p) 16777216 bytes.value) path
+AnswerOf gives path (Ok Absent) = IsAbsent gives path
+AnswerOf gives path (Err TooLarge) = At (λ p. IsTooLarge (gives p) 16777216) path
+AnswerOf gives path (Err Device) = At (λ p. gives p Refused) path
+AnswerOf gives path (Err Memory) = ⊤
+AnswerOf gives path (Err Twice) = ⊥
+
+-- the path of a name where a loader has a directory; a loader without one has nothing
+abbrev pub path_in : Option (List ℕ) → List ℕ → Option (List ℕ)
+path_in None name = None
+path_in (Some dir) name = path_of dir name
+
+-- bytes that stand there, or nothing
+abbrev pub FoundAs : (List ℕ → Seen → Type 0) → Option (List ℕ) → Option (List ℕ) → Type 0
+FoundAs gives path (Some bytes) = At (λ p. IsWithin (gives p) 16777216 bytes) path
+FoundAs gives path None = IsAbsent gives path
+
+-- what the source answers for it: a probe with these bytes, or the fault
+abbrev pub ReadsAs : (List ℕ → Seen → Type 0) → Option (List ℕ) → Result Probed SourceFault → Type 0
+ReadsAs gives path (Ok p) = FoundAs gives path p.bytes
+ReadsAs gives path (Err fault) = AnswerOf gives path (Err fault)

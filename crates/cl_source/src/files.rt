@@ -1,0 +1,97 @@
+//! What has files, and gives their bytes.
+
+ghost use Rattle.std.specs.Prelude.{◌≡◌, ◌<◌, ◌≤◌, ◌^◌, ℕ, List, Option, Err, IfOk, IfSome, length, ⊤};
+ghost use Rattle.cl_source.specs.Seen.{Seen, FileOf, file_seen};
+
+use cl_streams::InputFault;
+use std::alloc::{AllocError, Global};
+use std::fs;
+use std::io::{self, ErrorKind, Read};
+
+/// What has files, and gives their bytes.
+pub trait ReadFile: Drop {
+    /// What may stand at a path. What a host's files are is not known.
+    ghost gives: { Self → List ℕ → Seen → Type 0 } = { λ _ _ _. ⊤ };
+
+    /// The bytes of the file at a path, of which there are at most so many, or none where no file is there. Regular
+    /// files alone are read, through links too, and nothing else is opened.
+    fn read_file(
+        &self,
+        alloc: Global,
+        path: &str,
+        most: usize,
+    ) -> Result<Option<Vec<u8>>, InputFault>
+        requires { most < 2 ^ 32 }
+        ensures { FileOf (gives self.now path.now) most (file_seen result) };
+
+    /// The same files.
+    fn another(&self, alloc: Global) -> Result<Self, AllocError>
+    where
+        Self: Sized,
+        ensures { IfOk result (λ f. (path : List ℕ) (seen : Seen) → gives f path seen → gives self.now path seen) };
+}
+
+impl ReadFile for HostRuntime {
+    /// A look at the path comes first, so that a pipe or a device is not waited for, and so that the buffer starts at
+    /// the file's length; of a path where nothing is that look is all.
+    fn read_file(
+        &self,
+        alloc: Global,
+        path: &str,
+        most: usize,
+    ) -> Result<Option<Vec<u8>>, InputFault> {
+        let length = match fs::metadata(self, path) {
+            Ok(place) if place.is_file() => place.len(),
+            Ok(_) => return Err(InputFault::Unread),
+            Err(error) => return unopened(&error),
+        };
+        match fs::open(self, path) {
+            Ok(file) => match read_limited(alloc, file, most, length) {
+                Ok(bytes) => Ok(Some(bytes)),
+                Err(fault) => Err(fault),
+            },
+            Err(error) => unopened(&error),
+        }
+    }
+
+    fn another(&self, _alloc: Global) -> Result<HostRuntime, AllocError> {
+        self.clone()
+    }
+}
+
+/// What a path that cannot be opened says: that no file is there, where it or a folder on the way is missing or a part
+/// of the way is a file; else that the system refuses it.
+fn unopened(error: &io::Error) -> Result<Option<Vec<u8>>, InputFault>
+    ensures { (most : ℕ) → FileOf (λ _. ⊤) most (file_seen result) }
+{
+    match error.kind() {
+        ErrorKind::NotFound | ErrorKind::NotADirectory => Ok(None),
+        ErrorKind::OutOfMemory => Err(InputFault::Memory),
+        _ => Err(InputFault::Unread),
+    }
+}
+
+/// The bytes of an input, read to its end, of which there are at most so many. No more than one byte beyond them is
+/// asked for, and a read that was interrupted is made again. The buffer starts with room for the expected length.
+pub fn read_limited<I: Read + Drop>(
+    alloc: Global,
+    input: I,
+    most: usize,
+    expected: u64,
+) -> Result<Vec<u8>, InputFault>
+    requires { most < 2 ^ 32 }
+    ensures ok { IfOk result (λ v. IfSome (I.remaining input) (λ bytes. v.items ≡ bytes)) }
+    ensures small { IfOk result (λ v. length v.items ≤ most) }
+    ensures large { result ≡ Err InputFault.TooLarge → IfSome (I.remaining input) (λ bytes. most < length bytes) }
+{
+    let limit = most as u64 + 1;
+    let room = expected.min(limit);
+    let mut bytes = Vec::with_capacity(alloc, room as usize)?;
+    let mut limited = input.take(limit);
+    match limited.read_to_end(&mut bytes) {
+        Ok(_) if bytes.len() > most => Err(InputFault::TooLarge),
+        Ok(_) => Ok(bytes),
+        Err(error) if error.kind() == ErrorKind::OutOfMemory => Err(InputFault::Memory),
+        Err(_) => Err(InputFault::Unread),
+    }
+}

@@ -1,0 +1,118 @@
+//! The lines of a class file, written as they are made.
+
+ghost use Rattle.std.specs.Prelude.{◌≡◌, ◌++◌, OnOk, OnErr, codes, string_bytes};
+ghost use Rattle.std.specs.List.{flat_map};
+ghost use Rattle.std.specs.Io.KnownBytes.{Appends};
+ghost use Rattle.cl_streams.specs.Writing.{AppendsPart, Passes};
+ghost use Rattle.cl_writer.specs.Listings.{class_line, implements_line, listing_of, member_line};
+
+use crate::listings::{put_class, put_interface, put_member};
+use cl_classfile::{ClassFile, Entry, Member};
+use cl_streams::{PrintFault, pass_page, write_out};
+use std::alloc::Global;
+use std::io::Write;
+
+/// Writes the lines of `listing`, a page at a time, so that it takes no more memory than a page and the longest line.
+/// Where a write is refused, or memory is out, a beginning of them is written.
+pub fn print_listing<W: Write>(
+    alloc: Global,
+    file: &ClassFile,
+    out: &mut W,
+) -> Result<(), PrintFault>
+    ensures lines { OnOk result (Appends (W.contents out.old) (W.contents out.new) (listing_of file.now)) }
+    ensures part { OnErr result
+        (AppendsPart (W.contents out.old) (W.contents out.new) (listing_of file.now)) }
+{
+    let mut waiting = String::new(alloc);
+    put_class(&mut waiting, alloc, file)?;
+    print_interfaces(alloc, file.pool(), file.interfaces(), out, &mut waiting)?;
+    print_members(
+        alloc,
+        "field ",
+        file.pool(),
+        file.fields(),
+        out,
+        &mut waiting,
+    )?;
+    print_members(
+        alloc,
+        "method ",
+        file.pool(),
+        file.methods(),
+        out,
+        &mut waiting,
+    )?;
+    write_out(out, waiting.as_bytes())
+}
+
+/// Puts the lines of interfaces behind what waits.
+fn print_interfaces<W: Write>(
+    alloc: Global,
+    pool: &[Entry],
+    interfaces: &[u16],
+    out: &mut W,
+    waiting: &mut String,
+) -> Result<(), PrintFault>
+    ensures lines { OnOk result (Passes (W.contents out.old) (string_bytes waiting.old)
+        (W.contents out.new) (string_bytes waiting.new) (flat_map (implements_line pool.now) interfaces.now)) }
+    ensures part { OnErr result (AppendsPart (W.contents out.old) (W.contents out.new)
+        (string_bytes waiting.old ++ flat_map (implements_line pool.now) interfaces.now)) }
+{
+    for interface in interfaces {
+        print_interface(alloc, pool, *interface, out, waiting)?;
+    }
+    Ok(())
+}
+
+fn print_interface<W: Write>(
+    alloc: Global,
+    pool: &[Entry],
+    interface: u16,
+    out: &mut W,
+    waiting: &mut String,
+) -> Result<(), PrintFault>
+    ensures line { OnOk result (Passes (W.contents out.old) (string_bytes waiting.old)
+        (W.contents out.new) (string_bytes waiting.new) (implements_line pool.now interface)) }
+    ensures part { OnErr result (AppendsPart (W.contents out.old) (W.contents out.new)
+        (string_bytes waiting.old ++ implements_line pool.now interface)) }
+{
+    put_interface(waiting, alloc, pool, interface)?;
+    pass_page(out, waiting)
+}
+
+/// Puts the lines of members, each with this word, behind what waits.
+fn print_members<W: Write>(
+    alloc: Global,
+    word: &str,
+    pool: &[Entry],
+    members: &[Member],
+    out: &mut W,
+    waiting: &mut String,
+) -> Result<(), PrintFault>
+    ensures lines { OnOk result (Passes (W.contents out.old) (string_bytes waiting.old)
+        (W.contents out.new) (string_bytes waiting.new) (flat_map (member_line word.now pool.now) members.now)) }
+    ensures part { OnErr result (AppendsPart (W.contents out.old) (W.contents out.new)
+        (string_bytes waiting.old ++ flat_map (member_line word.now pool.now) members.now)) }
+{
+    for member in members {
+        print_member(alloc, word, pool, member, out, waiting)?;
+    }
+    Ok(())
+}
+
+fn print_member<W: Write>(
+    alloc: Global,
+    word: &str,
+    pool: &[Entry],
+    member: &Member,
+    out: &mut W,
+    waiting: &mut String,
+) -> Result<(), PrintFault>
+    ensures line { OnOk result (Passes (W.contents out.old) (string_bytes waiting.old)
+        (W.contents out.new) (string_bytes waiting.new) (member_line word.now pool.now member.now)) }
+    ensures part { OnErr result (AppendsPart (W.contents out.old) (W.contents out.new)
+        (string_bytes waiting.old ++ member_line word.now pool.now member.now)) }
+{
+    put_member(waiting, alloc, word, pool, member)?;
+    pass_page(out, waiting)
+}

@@ -1,7 +1,0 @@
-use Rattle.std.proofs.Common.{map}
-use Rattle.classlink.specs.Cuts.{part_of}
-use Rattle.classlink.proofs.Storing.{IsStored}
-use Rattle.classlink.proofs.bundle.read_classes.Given as goal
-
-abbrev pub invariant-loop-section : goal.invariant-loop-section
-invariant-loop-section l = IsStored l.config.names (map part_of l.fn.classes.items) (map part_of l.section-iterator.rest.items) l.source

@@ -1,8 +1,0 @@
-use Rattle.classlink.proofs.Alone.{one_content, one_stored}
-use Rattle.classlink.proofs.laws.section_has_one_content.Goals as goal
-
-pub returns-clause-content : goal.returns-clause-content
-returns-clause-content c = one_content
-
-pub returns-clause-stored : goal.returns-clause-stored
-returns-clause-stored c = one_stored

@@ -1,9 +1,0 @@
-use Rattle.std.proofs.Common.{map, string_bytes, take}
-use Rattle.std.specs.List.{enumerate_from, flat_map}
-use Rattle.classlink.specs.Report.{Passes, answer_line}
-use Rattle.classlink.proofs.print.print_answers.Given as goal
-
-abbrev pub invariant-loop-index : goal.invariant-loop-index
-invariant-loop-index g l =
-    Passes (g.W.Write.contents l.initial.out) (string_bytes l.initial.waiting) (g.W.Write.contents l.out) (string_bytes l.waiting)
-    (flat_map (λ p. answer_line (map string_bytes l.loaders) p.0 p.1) (take l.index (enumerate_from 1 l.answers)))

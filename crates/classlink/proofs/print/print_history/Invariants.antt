@@ -1,8 +1,0 @@
-use Rattle.std.proofs.Common.{map, string_bytes, take}
-use Rattle.classlink.specs.Report.{Passes, history_lines}
-use Rattle.classlink.proofs.print.print_history.Given as goal
-
-abbrev pub invariant-loop-event : goal.invariant-loop-event
-invariant-loop-event g l =
-    Passes (g.W.Write.contents l.initial.out) (string_bytes l.initial.waiting) (g.W.Write.contents l.out) (string_bytes l.waiting)
-    (history_lines (map string_bytes l.loaders) (take l.event-index l.events))

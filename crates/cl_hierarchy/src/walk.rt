@@ -7,7 +7,7 @@ ghost use Rattle.cl_hierarchy.specs.Walks.{IsWalk, stands};
 
 use crate::draft::Draft;
 use cl_model::{Class, LoaderId, Told};
-use cl_names::Name;
+use cl_names::{Name, Seed};
 use indexmap::IndexMap;
 use std::alloc::Global;
 use std::marker::Model;
@@ -18,7 +18,7 @@ use std::mem;
 #[derive(Drop)]
 pub struct Walk<T: Told> {
     loader: LoaderId,
-    drafts: IndexMap<Name, Draft<T>>,
+    drafts: IndexMap<Name, Draft<T>, Seed>,
     at: Name,
 }
 
@@ -41,7 +41,7 @@ pub struct PushRefused<T: Told> {
 }
 
 /// Adds a draft under a name that has none, where there is room.
-fn put<T: Told>(drafts: &mut IndexMap<Name, Draft<T>>, name: Name, draft: Draft<T>)
+fn put<T: Told>(drafts: &mut IndexMap<Name, Draft<T>, Seed>, name: Name, draft: Draft<T>)
     requires absent { get (pointwise nat_eq) drafts.old name ≡ None }
     requires room { 0 < spare drafts.old }
     ensures { drafts.new.entries ≡ drafts.old.entries ++ (name, draft) ∷ [] }
@@ -53,13 +53,13 @@ fn put<T: Told>(drafts: &mut IndexMap<Name, Draft<T>>, name: Name, draft: Draft<
 }
 
 impl<T: Told> Walk<T> {
-    /// A walk on which no class waits yet.
-    pub fn new(alloc: Global, loader: LoaderId, name: Name) -> Walk<T>
+    /// A walk on which no class waits yet, whose table of names hashes with this seed.
+    pub fn new(alloc: Global, seed: Seed, loader: LoaderId, name: Name) -> Walk<T>
         ensures { result ≡ record { loader = loader; drafts = []; at = name } }
     {
         Walk {
             loader,
-            drafts: IndexMap::new(alloc),
+            drafts: IndexMap::with_hasher(alloc, seed),
             at: name,
         }
     }

@@ -103,7 +103,7 @@ impl<T: Told> Registry<T> {
         ensures script_back { IfErr result (λ e. e.script.value ≡ script.value) }
     {
         let left = script.requests().len();
-        let rows = match empty_rows(alloc, config.count()) {
+        let rows = match empty_rows(alloc, config.seed(), config.count()) {
             Ok(rows) => rows,
             Err(_) => return Err(RegistryRefused { config, script }),
         };

@@ -12,22 +12,22 @@ ghost use Rattle.cl_registry.specs.Tables.{VerdictBacked, row_at};
 
 use cl_hierarchy::{ClassRow, Draft};
 use cl_model::{Answer, Class, Event, LoaderId, Request, Told, Verdict};
-use cl_names::Name;
+use cl_names::{Name, Seed};
 use indexmap::IndexMap;
 use std::alloc::{AllocError, Global};
 use std::sync::Arc;
 
 /// The rows of each loader, by their names.
-pub type Rows = Vec<IndexMap<Name, Arc<ClassRow>>>;
+pub type Rows = Vec<IndexMap<Name, Arc<ClassRow>, Seed>>;
 
-/// No rows, for this many loaders.
-pub fn empty_rows(alloc: Global, count: usize) -> Result<Rows, AllocError>
+/// No rows, for this many loaders, in tables that hash with this seed.
+pub fn empty_rows(alloc: Global, seed: Seed, count: usize) -> Result<Rows, AllocError>
     ensures count { IfOk result (λ r. length r.items ≡ count) }
     ensures empty { IfOk result (λ r. (l : ℕ) (n : List ℕ) → row_at r.items l n ≡ None) }
 {
     let mut rows = Vec::with_capacity(alloc, count)?;
     for _ in 0..count {
-        rows.push(IndexMap::new(alloc))?;
+        rows.push(IndexMap::with_hasher(alloc, seed))?;
     }
     Ok(rows)
 }

@@ -60,7 +60,7 @@ impl<T: Told> Task<T> {
             Ok(name) => name,
             Err(_) => return Err(TaskRefused { config, request }),
         };
-        let walk = Walk::new(alloc, loader, name);
+        let walk = Walk::new(alloc, config.seed(), loader, name);
         Ok(Task {
             config,
             stage: Stage::Fresh(Job { q, request, walk }),

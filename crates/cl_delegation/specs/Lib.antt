@@ -1,4 +1,3 @@
-pub mod Bounds
 pub mod Kept
 pub mod Routes
 pub mod Searches

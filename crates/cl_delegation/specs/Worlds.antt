@@ -1,17 +1,17 @@
 -- What a configuration, a script and a content give the linkage machine (JVMS SE 8, 5.3).
 use Rattle.std.specs.Prelude.{ℕ, List, Result}
 use Rattle.cl_classfile.specs.Files.{File, FileFault}
+use Rattle.cl_classfile.specs.Reading.{read_of}
 use Rattle.cl_model.specs.Content.{Content}
 use Rattle.cl_model.specs.Homes.{World}
 use Rattle.cl_model.specs.Machine.{Setting}
 use Rattle.cl_model.specs.Worlds.{seen}
 use Rattle.cl_config.specs.Loaders.{loaders_of, schedule_of}
-use Rattle.cl_delegation.specs.Bounds.{drafted_of}
 use Rattle.cl_config.specs.Views.{Configured, Scripted}
 
 -- the file that bytes spell, or its first fault (4.1)
 abbrev pub read : List ℕ → Result File FileFault
-read bytes = seen (drafted_of bytes)
+read bytes = seen (read_of bytes)
 
 -- the loaders, their content, and how bytes are read (5.3)
 abbrev pub world_of : Configured → Content → World

@@ -12,8 +12,9 @@ use crate::fault::BundleFault;
 use crate::sections::{self, ClassSection};
 use cl_config::{Config, ConfigError, Script};
 use cl_lines::{Stated, Words};
+use cl_names::Seed;
 use cl_source::{MemorySource, SourceFault};
-use cl_writer::{AssembleFault, WriteFault, assemble, write};
+use cl_writer::{AssembleFault, WriteFault, assemble_with_hasher, write};
 use hex::FromHexError;
 use std::alloc::{AllocError, Global};
 
@@ -27,14 +28,14 @@ pub struct Bundle {
 
 /// Reads a bundle from its front: section lines, configuration, class sections in order, script. The first thing that
 /// is wrong is `BadLine`, with its line, `Config` in the configuration, `Class` in the assembler text of a class, or in the
-/// script `Script`. Where
-/// memory is out it is `Memory`, or the assembler's or the script's own fault.
-pub fn read(alloc: Global, text: &str) -> Result<Bundle, BundleFault>
+/// script `Script`. Where memory is out it is `Memory`, or the assembler's or the script's own fault. What is made of the
+/// bundle finds names in tables that hash with this seed; no answer depends on it.
+pub fn read(alloc: Global, seed: Seed, text: &str) -> Result<Bundle, BundleFault>
     ensures bundle { BundleOf text.now result }
     ensures loaders { IfOk result (λ b. HasLoaders (length b.config.loaders) b.script.requests) }
 {
     let sections = sections::cut(alloc, text)?;
-    let config = read_config(alloc, sections.config)?;
+    let config = read_config(alloc, seed, sections.config)?;
     let source = read_classes(alloc, &config, sections.classes)?;
     let script = Script::read(alloc, &config, sections.script)?;
     Ok(Bundle {
@@ -44,11 +45,11 @@ pub fn read(alloc: Global, text: &str) -> Result<Bundle, BundleFault>
     })
 }
 
-fn read_config(alloc: Global, text: &str) -> Result<Config, BundleFault>
+fn read_config(alloc: Global, seed: Seed, text: &str) -> Result<Config, BundleFault>
     ensures { ConfigFaultOf text.now result }
 {
     match Config::read(alloc, text) {
-        Ok(config) => Ok(config),
+        Ok(config) => Ok(config.with_seed(seed)),
         Err(ConfigError::Memory) => Err(BundleFault::Memory),
         Err(ConfigError::Fault(fault)) => Err(BundleFault::Config(fault)),
     }
@@ -62,7 +63,7 @@ fn read_classes(
 ) -> Result<MemorySource, BundleFault>
     ensures { ContentsOf (names_of config.now) (map part_of classes.entry.items) result }
 {
-    let mut source = MemorySource::new(alloc);
+    let mut source = MemorySource::with_hasher(alloc, config.seed());
     for section in classes {
         put(alloc, config, section, &mut source)?;
     }
@@ -86,7 +87,7 @@ fn put(
     if source.has(loader, &section.name) {
         return Err(BundleFault::BadLine(line));
     }
-    let bytes = class_bytes(alloc, &section)?;
+    let bytes = class_bytes(alloc, config.seed(), &section)?;
     match source.put(alloc, loader, section.name, bytes) {
         Ok(()) => Ok(()),
         Err(refused) => Err(match refused.fault {
@@ -97,12 +98,16 @@ fn put(
 }
 
 /// The bytes that a class section writes: in hexadecimal, where its first line begins so, else as assembler text.
-fn class_bytes(alloc: Global, section: &ClassSection<'_>) -> Result<Vec<u8>, BundleFault>
+fn class_bytes(
+    alloc: Global,
+    seed: Seed,
+    section: &ClassSection<'_>,
+) -> Result<Vec<u8>, BundleFault>
     ensures ok { IfOk result (λ bytes. Written (part_of section.now) (Ok bytes.items)) }
     ensures err { IfErr result (λ fault. UnlessMemory fault (Written (part_of section.now) (Err fault))) }
 {
     if !is_hex(section.body) {
-        return assembled(alloc, section);
+        return assembled(alloc, seed, section);
     }
     match hex_bytes(alloc, section.body) {
         Ok(bytes) => Ok(bytes),
@@ -123,11 +128,11 @@ fn is_hex(body: &str) -> bool
 
 /// The bytes of the class that a section of assembler text describes.
 #[tactic(auto, using(crate::proofs::Refusals::refused_text))]
-fn assembled(alloc: Global, section: &ClassSection<'_>) -> Result<Vec<u8>, BundleFault>
+fn assembled(alloc: Global, seed: Seed, section: &ClassSection<'_>) -> Result<Vec<u8>, BundleFault>
     ensures ok { IfOk result (λ bytes. TextWritten (part_of section.now) (Ok bytes.items)) }
     ensures err { IfErr result (λ fault. UnlessMemory fault (TextWritten (part_of section.now) (Err fault))) }
 {
-    match assemble(alloc, section.body) {
+    match assemble_with_hasher(alloc, seed, section.body) {
         Ok(file) => match write(alloc, &file) {
             Ok(bytes) => Ok(bytes),
             Err(WriteFault::Memory) => Err(BundleFault::Memory),

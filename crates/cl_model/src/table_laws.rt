@@ -1,4 +1,4 @@
-ghost use Rattle.cl_model.specs.Laws.{TrustedIsConsistent, AllowedIsConsistent, TrustedGoesOn, TrustedParts, MayIsAllowed, RunsAreTrusted, DefinedOnce, AnsweredOnce, ToldInRound, ToldIsRecorded, ToldIsSettled, ToldIsPrepared};
+ghost use Rattle.cl_model.specs.TableLaws.{TrustedIsConsistent, AllowedIsConsistent, TrustedGoesOn, TrustedParts, MayIsAllowed, RunsAreTrusted, DefinedOnce, AnsweredOnce, ToldInRound, ToldIsRecorded, ToldIsSettled, ToldIsPrepared};
 
 /// Trusted tables are consistent, under any source.
 pub fn trusted_is_consistent()

@@ -1,15 +1,21 @@
 -- How a run ends, from its steps.
-use Rattle.std.proofs.Common.{◌≡◌, ◌⊎◌, ◌∙◌, ◌<◌, ◌≤◌, ℕ, Bool, List, [], ◌∷◌, ◌++◌, length, Option, Some, None, Result, Ok, Err, IfSome, IsErrAnd, OnOk, OnErr, append-nil, append_assoc, codes, inl, inr, refl, sym, subst}
+use Rattle.std.proofs.Common.{◌≡◌, ◌⊎◌, ◌∙◌, ◌<◌, ◌≤◌, ℕ, Bool, List, [], ◌∷◌, ◌++◌, length, Option, Some, None, Result, Ok, Err, IfSome, IsErrAnd, OnOk, OnErr, ap, append-nil, append_assoc, codes, inl, inr, refl, sym, subst}
 use Rattle.std.specs.Str.{IsUtf8}
 use Rattle.std.specs.Io.KnownBytes.{Appends}
-use Rattle.cl_bundle.specs.Bundles.{IsNoBundle}
+use Rattle.cl_model.specs.Content.{Content}
+use Rattle.cl_config.specs.Views.{Configured, Scripted}
+use Rattle.cl_registry.specs.declared.report.Report.{Report}
+use Rattle.cl_bundle.specs.Bundles.{IsBundle, IsNoBundle}
 use Rattle.cl_bundle.specs.Faults.{UnlessMemory}
 use Rattle.cl_bundle.specs.declared.fault.BundleFault.{BundleFault}
-use Rattle.classlink.specs.Faults.{IsInputFault}
-use Rattle.classlink.specs.Runs.{EndsBy, IsRun, RunOf, TellsFault, fault_line}
+use Rattle.classlink.specs.Faults.{IsInputFault, print_fault}
+use Rattle.classlink.specs.Runs.{AreLinesFor, EndsBy, IsRun, IsServed, RunOf, TellsFault, fault_line}
+use Rattle.cl_report.specs.Report.{report_lines}
 use Rattle.cl_streams.specs.Writing.{AppendsPart}
 use Rattle.classlink.specs.declared.fault.Fault.{Fault}
 use Rattle.classlink.specs.declared.fault.Fault.TheVariants.{Input, Write, TooLarge, NotUtf8, Bundle, Serve, Memory}
+use Rattle.cl_streams.specs.declared.output.PrintFault.{PrintFault}
+use Rattle.cl_streams.specs.declared.output.PrintFault.TheVariants as print
 use Rattle.cl_streams.proofs.Written.{appends_nothing}
 
 pub ran_wrong : (input : Option (List ℕ)) (only : Bool) (old new : Option (List ℕ)) (r : Result (Unit {0}) Fault) (fault : Fault) → IsErrAnd r (λ e. e ≡ fault) → EndsBy input only old new fault → RunOf input only old new r
@@ -37,6 +43,28 @@ if_read (Some bytes) text fault e w = subst (λ (t : List ℕ). UnlessMemory fau
 pub by_bundle : (input : Option (List ℕ)) (only : Bool) (old : Option (List ℕ)) (text : List ℕ) (fault : BundleFault) → IfSome input (λ bytes. text ≡ bytes) → UnlessMemory fault (IsNoBundle text fault)
     → EndsBy input only old old (Bundle fault)
 by_bundle input only old text fault e w = (appends_nothing old, if_read input text fault e w)
+
+-- ---- a report that is broken off
+
+-- the lines that are printed for what was read and served are those of a report, where what is held in between is what was read
+pub are_lines : (input : Option (List ℕ)) (only : Bool) (text : List ℕ) (config held seen : Configured) (content : Content) (script given : Scripted) (report : Report) (names : List (List ℕ))
+    → IfSome input (λ bytes. text ≡ bytes) → IsBundle text config content script → held ≡ config → given ≡ script → IsServed (Some content) held given report
+    → names ≡ seen.names → seen ≡ config → AreLinesFor input only (report_lines names only report.history report.answers)
+are_lines input only text config held seen content script given report names read bundle h s served n e = record {
+  text = text;
+  config = config;
+  content = content;
+  script = script;
+  report = report;
+  read = read;
+  bundle = bundle;
+  served = subst (λ (x : Scripted). IsServed (Some content) config x report) s (subst (λ (x : Configured). IsServed (Some content) x given report) h served);
+  are = ap (λ (x : List (List ℕ)). report_lines x only report.history report.answers) (n ∙ ap (λ (x : Configured). x.names) e);
+}
+
+pub by_print : (input : Option (List ℕ)) (only : Bool) (old new : Option (List ℕ)) (lines : List ℕ) (fault : PrintFault) → AreLinesFor input only lines → AppendsPart old new lines → EndsBy input only old new (print_fault fault)
+by_print input only old new lines print.Write are part = record { lines = lines; for_input = are; part = part }
+by_print input only old new lines print.Memory are part = inr (record { lines = lines; for_input = are; part = part })
 
 -- ---- the exit status
 

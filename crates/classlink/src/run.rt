@@ -14,6 +14,7 @@ use crate::words::{self, Asked};
 use cl_bundle::Bundle;
 use cl_config::{Config, Script};
 use cl_model::Told;
+use cl_names::Seed;
 use cl_registry::Report;
 use cl_report::print_report;
 use cl_schedule::{ServeFault, serve_one};
@@ -22,20 +23,22 @@ use cl_streams::write_out;
 use clap::error::ErrorKind;
 use std::alloc::Global;
 use std::convert::AsStr;
+use std::hash::RandomState;
 use std::io::{Read, Write};
 use std::marker::Brand;
+use std::random::RandomSource;
 use std::sync::Arc;
 
 /// Runs the program: its words, of which the first is its name, its input and its two outputs. The answer is the exit
 /// status: 0; 1 for a fault, whose text is written to `err`; 2 for words that are refused, with their text on `err`;
 /// 0 for help, on `out`.
-pub fn run_over<R: AllocGlobal + ReadFile, S: AsStr, I: Read + Drop, W: Write, E: Write>(
-    rt: &R,
-    words: &[S],
-    input: I,
-    out: &mut W,
-    err: &mut E,
-) -> u8
+pub fn run_over<
+    R: AllocGlobal + ReadFile + RandomSource,
+    S: AsStr,
+    I: Read + Drop,
+    W: Write,
+    E: Write,
+>(rt: &R, words: &[S], input: I, out: &mut W, err: &mut E) -> u8
     ensures bundle { (answers : Bool) → AskFor (map S.text words.now) answers
         → IsRun (I.remaining input) answers (W.contents out.old) (W.contents out.new) (E.contents err.old) (E.contents err.new) result }
     ensures read { (path : List ℕ) → AskToRead (map S.text words.now) path
@@ -52,7 +55,7 @@ pub fn run_over<R: AllocGlobal + ReadFile, S: AsStr, I: Read + Drop, W: Write, E
 }
 
 /// Runs what is asked for.
-fn run_asked<F: ReadFile, I: Read + Drop, W: Write, E: Write>(
+fn run_asked<F: ReadFile + RandomSource, I: Read + Drop, W: Write, E: Write>(
     alloc: Global,
     files: &F,
     asked: Asked<'_>,
@@ -66,7 +69,7 @@ fn run_asked<F: ReadFile, I: Read + Drop, W: Write, E: Write>(
         → IsReading (F.gives files.now path) path (W.contents out.old) (W.contents out.new) (E.contents err.old) (E.contents err.new) result }
 {
     match asked {
-        Asked::Bundle { answers } => run_bundle(alloc, answers, input, out, err),
+        Asked::Bundle { answers } => run_bundle(alloc, files, answers, input, out, err),
         Asked::Read { path } => run_read(alloc, files, path, out, err),
     }
 }
@@ -99,8 +102,9 @@ fn print_help<W: Write>(alloc: Global, help: &clap::Error, out: &mut W) -> Resul
 }
 
 /// Runs a bundle, and tells of the fault that ended it.
-fn run_bundle<I: Read + Drop, W: Write, E: Write>(
+fn run_bundle<F: RandomSource, I: Read + Drop, W: Write, E: Write>(
     alloc: Global,
+    random: &F,
     answers: bool,
     input: I,
     out: &mut W,
@@ -108,7 +112,7 @@ fn run_bundle<I: Read + Drop, W: Write, E: Write>(
 ) -> u8
     ensures { IsRun (I.remaining input) answers (W.contents out.old) (W.contents out.new) (E.contents err.old) (E.contents err.new) result }
 {
-    match report_bundle(alloc, answers, input, out) {
+    match report_with_seed(alloc, random, answers, input, out) {
         Ok(()) => 0,
         Err(fault) => fail(alloc, &fault, err),
     }
@@ -151,9 +155,34 @@ pub fn fail<E: Write>(alloc: Global, fault: &Fault, err: &mut E) -> u8
     1
 }
 
+/// A seed for the tables of names, which strangers cannot know. Where there is none to be had, that is a read that failed.
+fn draw_seed<F: RandomSource>(random: &F) -> Result<Seed, Fault>
+    ensures { IfErr result (λ fault. fault ≡ Fault.Input) }
+{
+    match RandomState::new(random) {
+        Ok(state) => Ok(Seed::drawn(state)),
+        Err(_) => Err(Fault::Input),
+    }
+}
+
+/// Draws a seed, and reads, serves and reports a bundle with it.
+fn report_with_seed<F: RandomSource, I: Read + Drop, W: Write>(
+    alloc: Global,
+    random: &F,
+    answers: bool,
+    input: I,
+    out: &mut W,
+) -> Result<(), Fault>
+    ensures { RunOf (I.remaining input) answers (W.contents out.old) (W.contents out.new) result }
+{
+    let seed = draw_seed(random)?;
+    report_bundle(alloc, seed, answers, input, out)
+}
+
 /// Reads a bundle, serves its script and prints the report.
 fn report_bundle<I: Read + Drop, W: Write>(
     alloc: Global,
+    seed: Seed,
     answers: bool,
     input: I,
     out: &mut W,
@@ -165,7 +194,7 @@ fn report_bundle<I: Read + Drop, W: Write>(
         config,
         source,
         script,
-    } = cl_bundle::read(alloc, text.as_str())?;
+    } = cl_bundle::read(alloc, seed, text.as_str())?;
     let config = Arc::new(alloc, config)?;
     let script = Arc::new(alloc, script)?;
     let loaders = Arc::try_clone(&config)?;

@@ -1,8 +1,13 @@
-//! Runs over readers and writers that refuse, and count what they refused. Whole runs are rows of tests/program.
+//! Runs over readers and writers that refuse, and count what they refused, and over seeds of one's own. Whole runs are
+//! rows of tests/program.
 
+use crate::reading::ReadFile;
 use crate::run::run_over;
+use cl_streams::InputFault;
+use std::alloc::Global;
 use std::io::{self, ErrorKind, Read, Write};
 use std::process::Abort;
+use std::random::RandomSource;
 use std::test::Fail;
 
 const BUNDLE: &str =
@@ -81,7 +86,7 @@ fn writer<R: AllocGlobal>(rt: &R, room: usize) -> CountingWriter {
 
 /// Runs the bundle over a reader and two writers with so much room. A fault is told exactly where its count rose, its
 /// line whole unless standard error refused; and what is on standard output is a beginning of the lines.
-fn check_rooms<R: AllocGlobal + crate::reading::ReadFile + Abort>(rt: &R, rooms: [usize; 3]) {
+fn check_rooms<R: AllocGlobal + ReadFile + RandomSource + Abort>(rt: &R, rooms: [usize; 3]) {
     let [read, written, told] = rooms;
     let mut unread = 0;
     let input = CountingReader {
@@ -125,4 +130,66 @@ fn reads_and_writes_fail(rt: HostRuntime) -> Result<(), Fail> {
         check_rooms(&rt, rooms);
     }
     Ok(())
+}
+
+/// A runtime without files, whose random bytes all are this one, or cannot be had.
+#[derive(Drop)]
+struct SeededRuntime {
+    alloc: Global,
+    random: Option<u8>,
+}
+
+impl Alloc for SeededRuntime {
+    type A = Global;
+
+    fn alloc(&self) -> Global {
+        self.alloc
+    }
+}
+
+impl RandomSource for SeededRuntime {
+    fn fill_bytes(&self, buf: &mut [u8]) -> io::Result<()> {
+        match self.random {
+            Some(byte) => {
+                buf.fill(byte);
+                Ok(())
+            }
+            None => Err(io::Error::from(ErrorKind::Other)),
+        }
+    }
+}
+
+impl ReadFile for SeededRuntime {
+    fn read_file(&self, _alloc: Global, _path: &str, _most: usize) -> Result<Vec<u8>, InputFault> {
+        Err(InputFault::Unread)
+    }
+}
+
+const LINEAGES: &str =
+    "%config\n[[loader]]\nname = \"boot\"\n%class boot java/lang/Object\nclass 0021 java/lang/Object -\n%class boot p/A\nclass 0021 p/A java/lang/Object\n%class boot p/B\nclass 0021 p/B p/A\n%class boot p/C\nclass 0021 p/C p/A\n%script\nload boot p/C\nload boot p/K\nload boot p/B\nload boot p/A\n";
+
+const LINEAGE_LINES: &str =
+    "define java/lang/Object@boot\ndefine p/A@boot\ndefine p/C@boot\ndefine p/B@boot\n1 class p/C@boot\n2 ClassNotFoundException p/K@boot\n3 class p/B@boot\n4 class p/A@boot\n";
+
+/// Two seeds give the same lines, and without a seed nothing is run.
+#[test]
+fn seeds_change_no_line(rt: HostRuntime) {
+    let unread = "classlink: cannot read standard input\n";
+    for (random, status, lines, line) in [
+        (Some(0), 0, LINEAGE_LINES, ""),
+        (Some(255), 0, LINEAGE_LINES, ""),
+        (None, 1, "", unread),
+    ] {
+        let runtime = SeededRuntime {
+            alloc: rt.alloc(),
+            random,
+        };
+        let mut out = Vec::new(rt.alloc());
+        let mut err = Vec::new(rt.alloc());
+        let words = ["classlink", "bundle"];
+        let found = run_over(&runtime, &words, LINEAGES.as_bytes(), &mut out, &mut err);
+        assert_eq!(rt; found, status);
+        assert_eq!(rt; out.as_slice(), lines.as_bytes());
+        assert_eq!(rt; err.as_slice(), line.as_bytes());
+    }
 }

@@ -1,9 +1,18 @@
-use Rattle.std.proofs.Common.{string_bytes}
+use Rattle.std.proofs.Common.{◌≡◌, string_bytes}
+use Rattle.classlink.specs.Faults.{print_fault}
 use Rattle.classlink.specs.declared.fault.Fault.TheVariants.{Bundle}
-use Rattle.classlink.proofs.Running.{by_bundle, ran_wrong}
+use Rattle.classlink.proofs.Running.{are_lines, by_bundle, by_print, ran_wrong}
 use Rattle.classlink.proofs.run.report_bundle.Goals as goal
 
 pub returns-in_err-config : goal.returns-in_err-config
 returns-in_err-config g c =
     ran_wrong _ _ _ _ c.from_residual-in_err-config.result (Bundle c.in_err-config.field-0.0) c.from_residual-in_err-config.ensures.1
     (by_bundle _ c.args.answers _ (string_bytes c.in_ok-text.text) c.in_err-config.field-0.0 c.in_ok-text.ensures.ok (rw c.as_str.ensures.value at c.in_err-config.ensures.bundle))
+
+pub returns-in_err-print_report : goal.returns-in_err-print_report
+returns-in_err-print_report g c =
+    let bundle = rw c.as_str.ensures.value at c.in_ok-config.ensures.bundle in
+    let seen : c.deref.result.now ≡ c.in_ok-config.field-0.config = cc (c.deref.ensures, c.in_ok-loaders.ensures, c.in_ok-config-2.ensures.ok) in
+    let lines = are_lines _ c.args.answers _ _ _ _ _ _ _ c.in_ok-report.report _ c.in_ok-text.ensures.ok bundle c.in_ok-config-2.ensures.ok c.in_ok-script.ensures.ok c.in_ok-report.ensures.served c.names-names.ensures seen in
+    ran_wrong _ _ _ _ c.from_residual-in_err-print_report.result (print_fault c.in_err-print_report.field-0.0) c.from_residual-in_err-print_report.ensures.1
+    (by_print _ c.args.answers _ _ _ c.in_err-print_report.field-0.0 lines c.in_err-print_report.ensures.part)

@@ -1,0 +1,80 @@
+-- Laws of trusted tables, under any source (JVMS SE 8, 5.3 to 5.4.3): each is the contract of a function without a body.
+use Rattle.std.specs.Prelude.{◌≡◌, ℕ, suc, ◌+◌, true, false, List, [], ◌∷◌, ◌++◌, length, Some, None, Ok, Err, ◌⊎◌, ◌↔◌, Contains, Option, slice_get, ◌≢◌, ◌≤◌, find}
+use Rattle.cl_classfile.specs.Files.{Name, File, Key, same_key}
+use Rattle.cl_model.specs.Homes.{World, home, is_loader}
+use Rattle.cl_model.specs.Probes.{probes, has_own, EachOnce}
+use Rattle.cl_model.specs.declared.class.Class.{Class}
+use Rattle.cl_model.specs.Preparation.{constraints_of}
+use Rattle.cl_model.specs.Classes.{class, is_among, Above, AtHome, supers, Error, ClassCircularity, file_of, HasFile, IsAtHome, Good, IsGood, Fails, Circular, Next, Returns}
+use Rattle.cl_model.specs.Lineages.{Kin, IsLineage, classes, lineage}
+use Rattle.cl_model.specs.Ancestors.{EachClassOnce, SupersFirst}
+use Rattle.cl_model.specs.Works.{Made}
+use Rattle.cl_model.specs.Plans.{derive, load, Load, Request, Plan, Resolve, Link, loaded_by, needs_of, cost}
+use Rattle.cl_model.specs.States.{State, start, Entry, IsClass, Answer, settled_to, answer_to, IsFresh, Clashes, added, Need, Verdict, recorded, Violated, Met, AllMet, IsRecorded, IsLinked, BadEntry, ArrayMember, MayAdd, Said, Wrong, Linkage, IsNext}
+use Rattle.cl_model.specs.Ascents.{ReadsPlain, Waiting, first_or, stands_in, IsAscent, NoneWaitsTwice, absent_of, EndsAtOnce}
+use Rattle.cl_model.specs.Progress.{Takes}
+use Rattle.cl_model.specs.Service.{IsNextNeed, IsNextStep, ComesTo, MayEnd, IsBegun, Serves, PassesRounds, AllServed, IsLinkedIn}
+use Rattle.cl_model.specs.Machine.{Setting, Scheduled, Step, Post, Settle, Prepare, May, state_after, Run, Answers, IsClosed, IsSound, after, AnswersPlan, AnswersReference, MaySay, IsPlan, HasLineage, IsResolution, Define, step_for, MaySettle, MayGoOn}
+use Rattle.std.specs.List.{AllByRecursion}
+use Rattle.cl_model.specs.Content.{content_at}
+use Rattle.cl_model.specs.declared.event.Event as events
+use Rattle.cl_model.specs.declared.verdict.Verdict as verdicts
+use Rattle.cl_model.specs.declared.answer.Answer as answers
+use Rattle.cl_model.specs.Views.{answer_at, steps_of, IsOther, verdict_of, answer_of, step_of}
+use Rattle.cl_model.specs.Texts as texts
+use Rattle.cl_model.specs.Lines as lines
+use Rattle.cl_model.specs.Tables.{Records, Allows, Orderly, IsTrusted, IsConsistent, Stands}
+
+-- trusted tables are consistent (5.3, 5.3.4)
+abbrev pub TrustedIsConsistent : Type 0
+TrustedIsConsistent = (script : List Scheduled) (rounds : ℕ) (es : List Step) → IsTrusted script rounds es → IsConsistent (state_after start es)
+
+-- a step that the tables allow keeps them consistent (5.3, 5.3.4)
+abbrev pub AllowedIsConsistent : Type 0
+AllowedIsConsistent = (script : List Scheduled) (rounds : ℕ) (s : State) (e : Step) → Allows script rounds s e → IsConsistent s → IsConsistent (after s e)
+
+-- trusted tables stay so by a step that they allow (5.3 to 5.4.3)
+abbrev pub TrustedGoesOn : Type 0
+TrustedGoesOn = (script : List Scheduled) (rounds : ℕ) (es : List Step) (e : Step) → IsTrusted script rounds es → Allows script rounds (state_after start es) e → IsTrusted script rounds (es ++ e ∷ [])
+
+-- each part of a trusted history is trusted, or allowed after it (5.3 to 5.4.3)
+abbrev pub TrustedParts : Type 0
+TrustedParts = (script : List Scheduled) (rounds : ℕ) (es fs : List Step) → IsTrusted script rounds (es ++ fs) → IsTrusted script rounds es × Orderly script rounds (state_after start es) fs
+
+-- in a closed state the tables allow a step that may happen (5.3 to 5.4.3)
+abbrev pub MayIsAllowed : Type 0
+MayIsAllowed = (g : Setting) (s : State) (e : Step) → IsClosed g.world s → May g s e → Allows g.script g.rounds s e
+
+-- in a run the tables are trusted (5.3 to 5.4.3)
+abbrev pub RunsAreTrusted : Type 0
+RunsAreTrusted = (g : Setting) (es : List Step) → Run g start es → IsTrusted g.script g.rounds es
+
+-- a class is defined once (5.3.5, step 1)
+abbrev pub DefinedOnce : Type 0
+DefinedOnce = (script : List Scheduled) (rounds : ℕ) (es fs : List Step) (c : Class) → IsTrusted script rounds (es ++ Define c ∷ fs) → Stands es (Define c) ⊎ Stands fs (Define c) → ⊥
+
+-- a request is answered once (own choice)
+abbrev pub AnsweredOnce : Type 0
+AnsweredOnce = (script : List Scheduled) (rounds : ℕ) (es fs : List Step) (q : ℕ) (a b : Answer) → IsTrusted script rounds (es ++ Post q a ∷ fs) → Stands es (Post q b) ⊎ Stands fs (Post q b) → ⊥
+
+-- an answer is posted in the round of its request (own choice)
+abbrev pub ToldInRound : Type 0
+ToldInRound = (script : List Scheduled) (rounds : ℕ) (es fs : List Step) (q : ℕ) (a : Answer) (r : Scheduled) → IsTrusted script rounds (es ++ Post q a ∷ fs) → slice_get script q ≡ Some r → r.round ≡ (state_after start es).round
+
+-- a class that was told of a load was recorded by its loader (5.3)
+abbrev pub ToldIsRecorded : Type 0
+ToldIsRecorded =
+    (script : List Scheduled) (rounds : ℕ) (es fs : List Step) (q : ℕ) (r : Scheduled) (loader : ℕ) (name : Name) (c : Class) → IsTrusted script rounds (es ++ Post q (Said (IsClass c)) ∷ fs) → slice_get script q ≡ Some r
+    → r.request ≡ Load loader name → Records (state_after start es) loader name c
+
+-- a verdict that was told of a resolution whose class was recorded was the settled one of the reference (5.4.3)
+abbrev pub ToldIsSettled : Type 0
+ToldIsSettled =
+    (script : List Scheduled) (rounds : ℕ) (es fs : List Step) (q : ℕ) (r : Scheduled) (loader : ℕ) (name : Name) (i : ℕ) (d : Class) (v : Verdict) → IsTrusted script rounds (es ++ Post q (Said v) ∷ fs) → slice_get script q ≡ Some r
+    → r.request ≡ Resolve loader name i → Records (state_after start es) loader name d → v ≢ BadEntry → v ≢ ArrayMember → settled_to (state_after start es).settled d i ≡ Some v
+
+-- a class that was told to be linked was recorded by its loader, and prepared (5.4)
+abbrev pub ToldIsPrepared : Type 0
+ToldIsPrepared =
+    (script : List Scheduled) (rounds : ℕ) (es fs : List Step) (q : ℕ) (r : Scheduled) (loader : ℕ) (name : Name) (c : Class) → IsTrusted script rounds (es ++ Post q (Said (IsLinked c)) ∷ fs) → slice_get script q ≡ Some r
+    → r.request ≡ Link loader name → Records (state_after start es) loader name c × Contains (state_after start es).prepared c

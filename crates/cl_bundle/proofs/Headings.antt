@@ -4,7 +4,7 @@ use Rattle.cl_names.specs.Escape.{unescaped}
 use Rattle.cl_names.specs.Kind.{is_class_name}
 use Rattle.cl_names.proofs.Escapes.{unescaped_from, unescaped_of}
 use Rattle.cl_names.proofs.Grammars.{class_from_test, class_test_of}
-use Rattle.cl_config.specs.ClassTexts.{WritesClass}
+use Rattle.cl_names.specs.Name.{WritesClass}
 use Rattle.cl_lines.specs.Lines.{words_of}
 use Rattle.cl_bundle.specs.Sections.{ClassLine, WrongLine, class_named, heading_of}
 

@@ -1,8 +1,8 @@
 -- Why a text is no bundle, from the step that found it.
 use Rattle.std.proofs.Common.{◌≡◌, ℕ, List, Result, Ok, Err, refl, sym, subst, IsErrAnd}
 use Rattle.cl_model.specs.Content.{Content}
-use Rattle.cl_config.specs.Views.{Configured}
-use Rattle.cl_config.specs.Configs.{ConfigOf}
+use Rattle.cl_config.specs.Views.{Configured, names_of}
+use Rattle.cl_config.specs.Configs.{config_of}
 use Rattle.cl_config.specs.Scripts.{script_of}
 use Rattle.cl_config.specs.declared.script.ScriptFault.{ScriptFault}
 use Rattle.cl_config.specs.declared.script.ScriptFault.TheVariants as scripts
@@ -39,15 +39,15 @@ by_line text (BadLine n) w = WrongLine n w refl
 by_line text Memory w = tt
 by_line text fault w = absurd w
 
-pub by_config : (text : List ℕ) (cut : Cut) (fault : BundleFault) → cut_of text ≡ Ok cut → ConfigFaultOf cut.config cut.config_line (Err fault) → UnlessMemory fault (IsNoBundle text fault)
-by_config text cut fault e w = unless_by fault _ (IsNoBundle text fault) (λ p. WrongConfig cut e p.0 p.1) w
+pub by_config : (text : List ℕ) (cut : Cut) (fault : BundleFault) → cut_of text ≡ Ok cut → ConfigFaultOf cut.config (Err fault) → UnlessMemory fault (IsNoBundle text fault)
+by_config text cut fault e w = unless_by fault _ (IsNoBundle text fault) (λ p. WrongConfig cut p.0 e p.1 p.2) w
 
-pub by_class : (text : List ℕ) (cut : Cut) (config : Configured) (fault : BundleFault) → cut_of text ≡ Ok cut → ConfigOf cut.config (Ok config) → ContentsOf config.names cut.classes (Err fault)
+pub by_class : (text : List ℕ) (cut : Cut) (config : Configured) (fault : BundleFault) → cut_of text ≡ Ok cut → config_of cut.config ≡ Ok config → ContentsOf (names_of config) cut.classes (Err fault)
     → UnlessMemory fault (IsNoBundle text fault)
 by_class text cut config fault e k w = unless_by fault _ (IsNoBundle text fault) (λ p. WrongClass cut config e k p) w
 
-pub by_script : (text : List ℕ) (cut : Cut) (config : Configured) (content : Content) (wrong : ScriptFault) → cut_of text ≡ Ok cut → ConfigOf cut.config (Ok config)
-    → ContentsOf config.names cut.classes (Ok content) → script_of config.names cut.script (Err wrong) → UnlessMemory (Script wrong) (IsNoBundle text (Script wrong))
+pub by_script : (text : List ℕ) (cut : Cut) (config : Configured) (content : Content) (wrong : ScriptFault) → cut_of text ≡ Ok cut → config_of cut.config ≡ Ok config
+    → ContentsOf (names_of config) cut.classes (Ok content) → script_of (names_of config) cut.script (Err wrong) → UnlessMemory (Script wrong) (IsNoBundle text (Script wrong))
 by_script text cut config content wrong e k told w =
     unless (Script wrong) (IsNoBundle text (Script wrong)) (WrongScript cut config told.0 wrong e k told.1 w refl)
 

@@ -2,17 +2,17 @@
 -- configuration, then its class sections in order, and its script last.
 use Rattle.std.specs.Prelude.{◌≡◌, ◌⊎◌, ℕ, MatchBool, List, [], ◌∷◌, ◌++◌, Option, Some, None, is_some, Result, Ok, Err}
 use Rattle.cl_model.specs.Content.{Content, Stored, content_at}
-use Rattle.cl_config.specs.Views.{Configured, Scripted}
-use Rattle.cl_config.specs.Configs.{ConfigOf}
+use Rattle.cl_config.specs.Views.{Configured, Scripted, names_of}
+use Rattle.cl_config.specs.Configs.{config_of}
 use Rattle.cl_source.specs.Puts.{TellsMore}
 use Rattle.cl_config.specs.Scripts.{loader_named, script_of}
-use Rattle.cl_config.specs.declared.config.ConfigFault.TheVariants.{BadLoader}
+use Rattle.cl_config.specs.declared.fault.ConfigFault.{ConfigFault}
 use Rattle.cl_config.specs.declared.script.ScriptFault.{ScriptFault}
 use Rattle.cl_bundle.specs.Sections.{Cut, Part, cut_of}
 use Rattle.cl_bundle.specs.Contents.{ContentOf}
 use Rattle.cl_bundle.specs.Faults.{UnlessMemory}
 use Rattle.cl_bundle.specs.declared.fault.BundleFault.{BundleFault}
-use Rattle.cl_bundle.specs.declared.fault.BundleFault.TheVariants.{BadLine, Script}
+use Rattle.cl_bundle.specs.declared.fault.BundleFault.TheVariants.{BadLine, Config, Script}
 use Rattle.cl_bundle.specs.declared.bundle.Bundle as declared
 
 -- ---- the class sections
@@ -56,18 +56,18 @@ pub record IsBundle (text : List ℕ) (config : Configured) (content : Content) 
   pub cut : Cut
   pub told : Content
   pub sections : cut_of text ≡ Ok cut
-  pub configuration : ConfigOf cut.config (Ok config)
-  pub classes : AllTell config.names [] cut.classes told
+  pub configuration : config_of cut.config ≡ Ok config
+  pub classes : AllTell (names_of config) [] cut.classes told
   pub content_is : TellsSame content told
-  pub requests : script_of config.names cut.script (Ok script)
+  pub requests : script_of (names_of config) cut.script (Ok script)
 
 -- the first thing that is wrong with a text, with the fault that tells of it (own choice)
 pub data IsNoBundle (text : List ℕ) (fault : BundleFault) : Type 0 where
   WrongLine : (n : ℕ) → cut_of text ≡ Err n → fault ≡ BadLine n → IsNoBundle text fault
-  WrongConfig : (cut : Cut) → cut_of text ≡ Ok cut → ConfigOf cut.config (Err (BadLoader 0)) → fault ≡ BadLine cut.config_line → IsNoBundle text fault
-  WrongClass : (cut : Cut) (config : Configured) → cut_of text ≡ Ok cut → ConfigOf cut.config (Ok config) → FirstWrong config.names [] cut.classes fault → IsNoBundle text fault
-  WrongScript : (cut : Cut) (config : Configured) (told : Content) (wrong : ScriptFault) → cut_of text ≡ Ok cut → ConfigOf cut.config (Ok config)
-      → AllTell config.names [] cut.classes told → script_of config.names cut.script (Err wrong) → fault ≡ Script wrong → IsNoBundle text fault
+  WrongConfig : (cut : Cut) (wrong : ConfigFault) → cut_of text ≡ Ok cut → config_of cut.config ≡ Err wrong → fault ≡ Config wrong → IsNoBundle text fault
+  WrongClass : (cut : Cut) (config : Configured) → cut_of text ≡ Ok cut → config_of cut.config ≡ Ok config → FirstWrong (names_of config) [] cut.classes fault → IsNoBundle text fault
+  WrongScript : (cut : Cut) (config : Configured) (told : Content) (wrong : ScriptFault) → cut_of text ≡ Ok cut → config_of cut.config ≡ Ok config
+      → AllTell (names_of config) [] cut.classes told → script_of (names_of config) cut.script (Err wrong) → fault ≡ Script wrong → IsNoBundle text fault
 
 -- what reading a text answers (own choice)
 abbrev pub BundleOf : List ℕ → Result declared.Bundle BundleFault → Type 0
@@ -76,10 +76,10 @@ BundleOf text (Err fault) = UnlessMemory fault (IsNoBundle text fault)
 
 -- ---- what the steps of reading one answer
 
--- what reading the configuration answers, whose `%config` stands in this line (own choice)
-abbrev pub ConfigFaultOf : List ℕ → ℕ → Result Configured BundleFault → Type 0
-ConfigFaultOf text line (Ok config) = ConfigOf text (Ok config)
-ConfigFaultOf text line (Err fault) = UnlessMemory fault (ConfigOf text (Err (BadLoader 0)) × (fault ≡ BadLine line))
+-- what reading the configuration answers (own choice)
+abbrev pub ConfigFaultOf : List ℕ → Result Configured BundleFault → Type 0
+ConfigFaultOf text (Ok config) = config_of text ≡ Ok config
+ConfigFaultOf text (Err fault) = UnlessMemory fault ((wrong : ConfigFault) × (config_of text ≡ Err wrong) × (fault ≡ Config wrong))
 
 -- what putting a class section into a source does (own choice)
 abbrev pub PutOf : List (List ℕ) → Part → Content → Result (Unit {0}) BundleFault → Content → Type 0

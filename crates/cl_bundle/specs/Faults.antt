@@ -3,10 +3,11 @@ use Rattle.std.specs.Prelude.{◌≡◌, ⊤, ℕ, List, ◌++◌, codes, string
 use Rattle.std.specs.Fmt.{decimal}
 use Rattle.cl_writer.specs.Faults.{assemble_text}
 use Rattle.cl_writer.specs.declared.fault.AssembleFault.TheVariants as assembler
+use Rattle.cl_config.specs.ConfigTexts as configs
 use Rattle.cl_config.specs.Texts.{script_text}
 use Rattle.cl_config.specs.declared.script.ScriptFault.TheVariants as scripts
 use Rattle.cl_bundle.specs.declared.fault.BundleFault.{BundleFault}
-use Rattle.cl_bundle.specs.declared.fault.BundleFault.TheVariants.{BadLine, Class, Script, Memory}
+use Rattle.cl_bundle.specs.declared.fault.BundleFault.TheVariants.{BadLine, Class, Config, Script, Memory}
 
 -- that memory is out is taken at its word, whoever tells of it (own choice)
 abbrev pub UnlessMemory : BundleFault → Type 0 → Type 0
@@ -22,10 +23,11 @@ IsReason (Script scripts.Memory) = ⊥
 IsReason (Class class assembler.Memory) = ⊥
 IsReason _ = ⊤
 
--- the text of a fault (own choice); of what assembler text or a script is refused with, that fault's own text
+-- the text of a fault (own choice); of what assembler text, a configuration or a script is refused with, that fault's own text
 abbrev pub fault_text : BundleFault → List ℕ
 fault_text (BadLine n) = codes "bundle line " ++ decimal n
 fault_text (Class class fault) = codes "class " ++ string_bytes class ++ codes ": " ++ assemble_text fault
+fault_text (Config fault) = codes "config: " ++ configs.fault_text fault
 fault_text (Script fault) = codes "script: " ++ script_text fault
 fault_text Memory = codes "out of memory"
 

@@ -1,6 +1,6 @@
 ghost use Rattle.std.specs.Prelude.{◌≡◌, ◌++◌, IfOk, IfErr, OnOk, None, Some, length, map, option_map, string_bytes};
 ghost use Rattle.std.specs.List.{concat};
-ghost use Rattle.cl_config.specs.Configs.{ConfigOf};
+ghost use Rattle.cl_config.specs.Views.{names_of};
 ghost use Rattle.cl_lines.specs.Lines.{stated_from, words_of};
 ghost use Rattle.cl_config.specs.Scripts.{HasLoaders};
 ghost use Rattle.cl_bundle.specs.Bundles.{BundleOf, ConfigFaultOf, ContentsOf, PutOf};
@@ -10,7 +10,7 @@ ghost use Rattle.cl_bundle.specs.Faults.{UnlessMemory};
 
 use crate::fault::BundleFault;
 use crate::sections::{self, ClassSection};
-use cl_config::{Config, ConfigFault, Script};
+use cl_config::{Config, ConfigError, Script};
 use cl_lines::{Stated, Words};
 use cl_names::Seed;
 use cl_source::{MemorySource, SourceFault};
@@ -27,15 +27,15 @@ pub struct Bundle {
 }
 
 /// Reads a bundle from its front: section lines, configuration, class sections in order, script. The first thing that
-/// is wrong is `BadLine`, with its line, `Class` in the assembler text of a class, or in the script `Script`. Where
-/// memory is out it is `Memory`, or the assembler's or the script's own fault. What is made of the bundle finds names in
-/// tables that hash with this seed; no answer depends on it.
+/// is wrong is `BadLine`, with its line, `Config` in the configuration, `Class` in the assembler text of a class, or in the
+/// script `Script`. Where memory is out it is `Memory`, or the assembler's or the script's own fault. What is made of the
+/// bundle finds names in tables that hash with this seed; no answer depends on it.
 pub fn read(alloc: Global, seed: Seed, text: &str) -> Result<Bundle, BundleFault>
     ensures bundle { BundleOf text.now result }
-    ensures loaders { IfOk result (λ b. HasLoaders (length b.config.names) b.script.requests) }
+    ensures loaders { IfOk result (λ b. HasLoaders (length b.config.loaders) b.script.requests) }
 {
     let sections = sections::cut(alloc, text)?;
-    let config = read_config(alloc, seed, sections.config, sections.config_line)?;
+    let config = read_config(alloc, seed, sections.config)?;
     let source = read_classes(alloc, &config, sections.classes)?;
     let script = Script::read(alloc, &config, sections.script)?;
     Ok(Bundle {
@@ -45,13 +45,13 @@ pub fn read(alloc: Global, seed: Seed, text: &str) -> Result<Bundle, BundleFault
     })
 }
 
-fn read_config(alloc: Global, seed: Seed, text: &str, line: usize) -> Result<Config, BundleFault>
-    ensures { ConfigFaultOf text.now line result }
+fn read_config(alloc: Global, seed: Seed, text: &str) -> Result<Config, BundleFault>
+    ensures { ConfigFaultOf text.now result }
 {
     match Config::read(alloc, text) {
         Ok(config) => Ok(config.with_seed(seed)),
-        Err(ConfigFault::Memory) => Err(BundleFault::Memory),
-        Err(_) => Err(BundleFault::BadLine(line)),
+        Err(ConfigError::Memory) => Err(BundleFault::Memory),
+        Err(ConfigError::Fault(fault)) => Err(BundleFault::Config(fault)),
     }
 }
 
@@ -61,7 +61,7 @@ fn read_classes(
     config: &Config,
     classes: Vec<ClassSection<'_>>,
 ) -> Result<MemorySource, BundleFault>
-    ensures { ContentsOf config.now.names (map part_of classes.entry.items) result }
+    ensures { ContentsOf (names_of config.now) (map part_of classes.entry.items) result }
 {
     let mut source = MemorySource::with_hasher(alloc, config.seed());
     for section in classes {
@@ -78,7 +78,7 @@ fn put(
     section: ClassSection<'_>,
     source: &mut MemorySource,
 ) -> Result<(), BundleFault>
-    ensures { PutOf config.now.names (part_of section.entry) source.old result source.new }
+    ensures { PutOf (names_of config.now) (part_of section.entry) source.old result source.new }
 {
     let line = section.line;
     let Some(loader) = config.loader(section.loader) else {

@@ -2,7 +2,7 @@
 
 ghost use Rattle.std.specs.Prelude.{◌≡◌};
 
-use cl_config::ScriptFault;
+use cl_config::{ConfigFault, ScriptFault};
 use cl_writer::AssembleFault;
 use std::alloc::{AllocError, AllocFailed};
 use std::error::Error;
@@ -15,6 +15,7 @@ pub enum BundleFault {
     BadLine(usize),
     /// The assembler text of a class, with the class's name and loader as `N@L`.
     Class { class: String, fault: AssembleFault },
+    Config(ConfigFault),
     Script(ScriptFault),
     /// Out of memory, where neither the assembler nor the script tells of it.
     Memory,
@@ -30,6 +31,7 @@ impl Display for BundleFault {
         match self {
             BundleFault::BadLine(line) => write!(f, "bundle line {line}"),
             BundleFault::Class { class, fault } => write!(f, "class {class}: {fault}"),
+            BundleFault::Config(fault) => write!(f, "config: {fault}"),
             BundleFault::Script(fault) => write!(f, "script: {fault}"),
             BundleFault::Memory => write!(f, "out of memory"),
         }

@@ -4,9 +4,8 @@ ghost use Rattle.cl_bundle.specs.Sections.{is_config};
 ghost use Rattle.cl_bundle.specs.Cuts.{BodyOf, CutOf, OpeningOf, SectionLineOf};
 
 use crate::fault::BundleFault;
-use cl_config::class_name;
 use cl_lines::{Line, Lines, Words, is_skipped};
-use cl_names::Name;
+use cl_names::{Name, class_name};
 use std::alloc::{AllocError, Global};
 
 /// The bytes of a class, as a bundle has them.

@@ -1,6 +1,6 @@
 -- The names of classes in a pool that keeps its table.
 use Rattle.std.proofs.Common.{◌≡◌, ℕ, zero, suc, Bool, true, false, cond, ◌&&◌, eqb, leb, List, [], ◌∷◌, ◌++◌, length, replicate, Option, Some, None, refl, sym, ap, subst, ◌∙◌, inl, inr}
-use Rattle.std.specs.Prelude.{option_map, option_and_then, IsSome}
+use Rattle.std.specs.Prelude.{option_map, option_and_then, IsSome, slice_get, filter_map}
 use Rattle.std.specs.List.{AllByRecursion, list_all, slice_split, onto_first}
 use Rattle.std.proofs.lemmas.Bool.{eqb-true}
 use Rattle.cl_names.specs.Text.{is_text}
@@ -11,7 +11,7 @@ use Rattle.cl_descriptors.specs.declared.types.Base.{Base}
 use Rattle.cl_classfile.specs.declared.entry.Entry.{Entry}
 use Rattle.cl_classfile.specs.declared.entry.Entry.TheVariants.{Utf8, Class}
 use Rattle.cl_classfile.specs.Pool.{at, IsText, NamesType, KeepsEntry}
-use Rattle.cl_classfile.specs.Structure.{NamesClass}
+use Rattle.cl_classfile.specs.Structure.{NamesClass, KeepsInterface}
 use Rattle.cl_classfile.specs.Files.{text_of, type_of, type_name, is_array_name, no_array, class_name}
 
 -- each entry keeps its row
@@ -103,6 +103,12 @@ pub class_named : (pool : List Entry) (i : ℕ) (name : List ℕ) → NamesClass
 class_named pool i name c =
     let type : type_name pool i ≡ Some name = ap (type_of pool) c.is_entry ∙ ap text_of c.named in
     rw (type, class_begins name c.is_name) refl
+
+-- each interface names a class, so the names stand in their places
+pub interface_at : (pool : List Entry) (interfaces : List ℕ) (place : ℕ) → AllByRecursion (KeepsInterface pool) interfaces → option_and_then (class_name pool) (slice_get interfaces place) ≡ slice_get (filter_map (class_name pool) interfaces) place
+interface_at pool [] place kept = refl
+interface_at pool (i ∷ interfaces) zero kept = rw (class_named pool i kept.0.0 kept.0.1) refl
+interface_at pool (i ∷ interfaces) (suc place) kept = rw (class_named pool i kept.0.0 kept.0.1) (interface_at pool interfaces place kept.1)
 
 pub is_there : {A B : Type 0} (f : A → B) (o : Option A) (x : B) → option_map f o ≡ Some x → IsSome o
 is_there f None x e = absurd cc

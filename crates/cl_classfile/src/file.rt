@@ -1,10 +1,10 @@
-ghost use Rattle.std.specs.Prelude.{◌≡◌, ◌↔◌, ℕ, List, is_some, IfOk, IfErr, IfSome, Ok, IsErrOf};
+ghost use Rattle.std.specs.Prelude.{◌≡◌, ◌↔◌, ℕ, List, is_some, IfOk, IfErr, IfSome, Ok, IsErrOf, slice_get};
 ghost use Rattle.std.specs.Option.{option_map, option_and_then};
 ghost use Rattle.cl_classfile.specs.declared.fault.Fault.{Fault};
 ghost use Rattle.cl_classfile.specs.declared.fault.Fault.TheVariants as faults;
 ghost use Rattle.cl_classfile.specs.declared.fault.ReadError.TheVariants as errors;
 ghost use Rattle.cl_classfile.specs.Structure.{Structure, at, Fits, Spells, spelling, IsClassFile, HasOtherMagic, HasOtherVersion};
-ghost use Rattle.cl_classfile.specs.Files.{file_of, is_interface, is_public, typed, reference};
+ghost use Rattle.cl_classfile.specs.Files.{class_name, file_of, is_interface, is_public, typed, reference};
 ghost use Rattle.cl_classfile.specs.References.{plain_reference, refers, IsCited};
 ghost use Rattle.cl_names.specs.Kind.{IsNameOf, IsClass};
 ghost use Rattle.std.specs.List.{AllByRecursion};
@@ -169,6 +169,13 @@ impl ClassFile {
         class_name(self.pool.as_slice(), self.super_class)
     }
 
+    /// The name of a direct superinterface, counted from 0, as far as there are any.
+    pub fn interface_name(&self, place: usize) -> Option<&Name>
+        ensures { option_map (λ n. n.now) result ≡ slice_get (file_of self.now).interfaces place }
+    {
+        interface_name(self.pool.as_slice(), self.interfaces.as_slice(), place)
+    }
+
     /// What the entry at an index refers to, and nothing where it is neither a class or an array nor a member of one
     /// (JVMS SE 8, 4.4.1, 4.4.2).
     pub fn reference(&self, index: u16) -> Option<Reference<'_>>
@@ -180,6 +187,14 @@ impl ClassFile {
     {
         reference_at(self.pool.as_slice(), index)
     }
+}
+
+/// The name of the class of the pool that stands at a place.
+fn interface_name<'a>(pool: &'a [Entry], interfaces: &[u16], place: usize) -> Option<&'a Name>
+    ensures { option_map (λ n. n.now) result ≡ option_and_then (class_name pool.now) (slice_get interfaces.now place) }
+{
+    let index = interfaces.get(place)?;
+    class_name(pool, *index)
 }
 
 fn made(parts: Parts) -> ClassFile

@@ -1,3 +1,8 @@
+pub mod Below
+pub mod Each
+pub mod Keys
+pub mod Names
 pub mod Places
 pub mod Requests
-pub mod Asked
+pub mod Stops
+pub mod Tops

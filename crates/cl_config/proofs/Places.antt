@@ -1,4 +1,4 @@
--- The place of a name among names is its place among the texts that hold them.
+-- The place of a name among names is its place among the loaders that have them.
 use Rattle.std.proofs.Common.{◌≡◌, ◌+◌, Bool, true, false, cond, not, List, [], ◌∷◌, map, refl, ap}
 use Rattle.std.specs.List.{position, position_or_len}
 use Rattle.std.proofs.lemmas.List.{length-map}

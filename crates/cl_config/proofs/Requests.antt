@@ -1,77 +1,172 @@
 -- Reading the lines of a script.
-use Rattle.std.proofs.Common.{◌<◌, Bool, true, false, cond, nat_lt, nat_eq, Some, None, ◌≡◌, ℕ, ◌≤◌, List, [], ◌∷◌, ◌++◌, length, append_assoc, append-nil, codes, refl, sym, ap, subst, ◌∙◌, arith}
+use Rattle.std.proofs.Common.{suc, ◌<◌, Bool, true, false, cond, nat_lt, nat_eq, Some, None, ◌≡◌, ℕ, ◌+◌, List, [], ◌∷◌, ◌++◌, length, append_assoc, append-nil, codes, refl, sym, ap, subst, ◌∙◌, arith, length-append}
+use Rattle.std.specs.Prelude.{All}
 use Rattle.std.specs.List.{position_or_len}
 use Rattle.std.specs.Cmp.Lexicographic.{pointwise}
 use Rattle.std.proofs.lemmas.Bool.Decides.{nat_tests}
-use Rattle.std.proofs.lemmas.List.{length_push}
 use Rattle.std.proofs.lemmas.List.Elements.{All-nil, All-cons}
 use Rattle.cl_model.specs.declared.request.Request.{Request}
 use Rattle.cl_model.specs.declared.request.Request.TheVariants.{Load}
-use Rattle.cl_names.specs.Kind.{IsNameOf, IsClass}
 use Rattle.cl_names.specs.Escape.{WritesName}
 use Rattle.cl_names.proofs.Escapes.{name_alone}
 use Rattle.cl_lines.specs.Lines.{Numbered, words_of}
-use Rattle.cl_config.specs.Scripts.{loader_named, HasLoader, HasLoaders, IsBad, Asks, AllAsk, StopsAt}
-use Rattle.cl_config.specs.ClassTexts.{WritesClass}
-
--- a text writes one name, so none of a class where that is none
-pub other_kind : (text name : List ℕ) → WritesName text name → (IsNameOf IsClass name → ⊥) → (other : List ℕ) → WritesClass text other → ⊥
-other_kind text name written none other t = none (subst (λ n. IsNameOf IsClass n) (sym (name_alone text name other written t.written)) t.kind)
+use Rattle.cl_config.specs.declared.script.Said.{Said}
+use Rattle.cl_config.specs.declared.script.Said.TheVariants.{Ask, Then}
+use Rattle.cl_config.specs.Views.{Scripted}
+use Rattle.cl_config.specs.Scripts.{loader_named, HasLoader, HasLoaders, IsLoad, IsThen, Asks, Says, AllSay, requests_in, rounds_in, thens_in, Fits, StopsAt, Tells, IsOver, IsScript}
+use Rattle.cl_names.specs.Name.{WritesClass}
 
 third_word : {a b c d e f : List ℕ} → a ∷ b ∷ c ∷ [] ≡ d ∷ e ∷ f ∷ [] → c ≡ f
 third_word h = cc
 
 -- a line whose third word writes no class's name
-pub bad_name : (line word text : List ℕ) → words_of line ≡ codes "load" ∷ word ∷ text ∷ [] → ((name : List ℕ) → WritesClass text name → ⊥) → IsBad line
-bad_name line word text words none loader name t = none name (subst (λ w. WritesClass w name) (third_word (sym t.words ∙ words)) t.writes)
+pub no_load : (line word text : List ℕ) → words_of line ≡ codes "load" ∷ word ∷ text ∷ [] → ((name : List ℕ) → WritesClass text name → ⊥) → (loader name : List ℕ) → IsLoad line loader name → ⊥
+no_load line word text words none loader name t = none name (subst (λ w. WritesClass w name) (third_word (sym t.words ∙ words)) t.writes)
+
+-- ---- one thing more is said
+
+all_say_more : (names : List (List ℕ)) (front : List Numbered) (xs : List Said) (line : Numbered) (x : Said) → AllSay names front xs → Says names line.text x → AllSay names (front ++ line ∷ []) (xs ++ x ∷ [])
+all_say_more names [] [] line x all here = (here, tt)
+all_say_more names [] (y ∷ ys) line x all here = absurd all
+all_say_more names (l ∷ ls) [] line x all here = absurd all
+all_say_more names (l ∷ ls) (y ∷ ys) line x all here = (all.0, all_say_more names ls ys line x all.1 here)
+
+requests_more : (xs : List Said) (r : Request) → requests_in (xs ++ Ask r ∷ []) ≡ requests_in xs ++ r ∷ []
+requests_more [] r = refl
+requests_more (Ask q ∷ xs) r = ap (λ qs. q ∷ qs) (requests_more xs r)
+requests_more (Then ∷ xs) r = requests_more xs r
+
+requests_same : (xs : List Said) → requests_in (xs ++ Then ∷ []) ≡ requests_in xs
+requests_same [] = refl
+requests_same (Ask q ∷ xs) = ap (λ qs. q ∷ qs) (requests_same xs)
+requests_same (Then ∷ xs) = requests_same xs
+
+thens_same : (xs : List Said) (r : Request) → thens_in (xs ++ Ask r ∷ []) ≡ thens_in xs
+thens_same [] r = refl
+thens_same (Ask q ∷ xs) r = thens_same xs r
+thens_same (Then ∷ xs) r = ap (λ n. n + 1) (thens_same xs r)
+
+thens_more : (xs : List Said) → thens_in (xs ++ Then ∷ []) ≡ thens_in xs + 1
+thens_more [] = refl
+thens_more (Ask q ∷ xs) = thens_more xs
+thens_more (Then ∷ xs) = ap (λ n. n + 1) (thens_more xs)
+
+rounds_more : (n : ℕ) (xs : List Said) (r : Request) → rounds_in n (xs ++ Ask r ∷ []) ≡ rounds_in n xs ++ (n + thens_in xs) ∷ []
+rounds_more n [] r = let same : n ≡ n + 0 = omega arith in ap (λ m. m ∷ []) same
+rounds_more n (Ask q ∷ xs) r = ap (λ ns. n ∷ ns) (rounds_more n xs r)
+rounds_more n (Then ∷ xs) r = let same : n + 1 + thens_in xs ≡ n + (thens_in xs + 1) = omega arith in rounds_more (n + 1) xs r ∙ ap (λ m. rounds_in (n + 1) xs ++ m ∷ []) same
+
+-- the same from the first round on
+rounds_grow : (xs : List Said) (r : Request) → rounds_in 0 (xs ++ Ask r ∷ []) ≡ rounds_in 0 xs ++ thens_in xs ∷ []
+rounds_grow xs r = let same : 0 + thens_in xs ≡ thens_in xs = omega arith in rounds_more 0 xs r ∙ ap (λ m. rounds_in 0 xs ++ m ∷ []) same
+
+rounds_same : (n : ℕ) (xs : List Said) → rounds_in n (xs ++ Then ∷ []) ≡ rounds_in n xs
+rounds_same n [] = refl
+rounds_same n (Ask q ∷ xs) = ap (λ ns. n ∷ ns) (rounds_same n xs)
+rounds_same n (Then ∷ xs) = rounds_same (n + 1) xs
 
 -- ---- reading on, line after line
 
--- so far each line asked for its request; these lines are left
-pub record IsRead (names : List (List ℕ)) (lines left : List Numbered) (requests : List Request) : Type 0 where
+-- so far each line said something, which is held so; these lines are left
+pub record IsRead (names : List (List ℕ)) (lines left : List Numbered) (requests : List Request) (rounds_of : List ℕ) (round : ℕ) : Type 0 where
   pub front : List Numbered
+  pub said : List Said
   pub cut : lines ≡ front ++ left
-  pub asked : AllAsk names front requests
-  pub few : length requests ≤ 65535
+  pub says : AllSay names front said
+  pub fits : Fits said
+  pub requests_are : requests ≡ requests_in said
+  pub rounds_are : rounds_of ≡ rounds_in 0 said
+  pub round_is : round ≡ thens_in said
 
-pub none_read : (names : List (List ℕ)) (lines : List Numbered) → IsRead names lines lines []
-none_read names lines = record { front = []; cut = refl; asked = tt; few = omega arith }
-
-all_ask_more : (names : List (List ℕ)) (front : List Numbered) (requests : List Request) (line : Numbered) (request : Request) → AllAsk names front requests → Asks names line.text request → AllAsk names (front ++ line ∷ []) (requests ++ request ∷ [])
-all_ask_more names [] [] line request all here = (here, tt)
-all_ask_more names [] (r ∷ rs) line request all here = absurd all
-all_ask_more names (l ∷ ls) [] line request all here = absurd all
-all_ask_more names (l ∷ ls) (r ∷ rs) line request all here = (all.0, all_ask_more names ls rs line request all.1 here)
+pub none_read : (names : List (List ℕ)) (lines : List Numbered) → IsRead names lines lines [] [] 0
+none_read names lines = record { front = []; said = []; cut = refl; says = tt; fits = record { requests = omega arith; thens = omega arith }; requests_are = refl; rounds_are = refl; round_is = refl }
 
 -- one more line asks for a request
-pub more_read : (names : List (List ℕ)) (lines left rest : List Numbered) (requests more : List Request) (line : Numbered) (request : Request) (count : ℕ)
-    → IsRead names lines left requests → left ≡ line ∷ rest → Asks names line.text request → more ≡ requests ++ request ∷ [] → count ≡ length requests → (count ≡ 65535 → ⊥) → IsRead names lines rest more
-more_read names lines left rest requests more line request count t first here grown counted room = record {
+pub more_asked : (names : List (List ℕ)) (lines left rest : List Numbered) (requests more : List Request) (rounds_of more_rounds : List ℕ) (round : ℕ) (line : Numbered) (request : Request) (count : ℕ)
+    → IsRead names lines left requests rounds_of round → left ≡ line ∷ rest → Asks names line.text request → more ≡ requests ++ request ∷ [] → more_rounds ≡ rounds_of ++ round ∷ []
+    → count ≡ length requests → (count ≡ 65535 → ⊥) → IsRead names lines rest more more_rounds round
+more_asked names lines left rest requests more rounds_of more_rounds round line request count t first here grown longer counted room = record {
   front = t.front ++ line ∷ [];
+  said = t.said ++ Ask request ∷ [];
   cut = t.cut ∙ ap (λ l. t.front ++ l) first ∙ sym (append_assoc t.front (line ∷ []) rest);
-  asked = subst (λ rs. AllAsk names (t.front ++ line ∷ []) rs) (sym grown) (all_ask_more names t.front requests line request t.asked here);
-  few = rw (grown, length_push requests request) (omega (arith, room));
+  says = all_say_more names t.front t.said line (Ask request) t.says here;
+  fits = record {
+    requests = rw (requests_more t.said request) (omega (arith, length-append {A = Request}, ap length t.requests_are, t.fits.requests, room));
+    thens = rw (thens_same t.said request) t.fits.thens;
+  };
+  requests_are = grown ∙ ap (λ rs. rs ++ request ∷ []) t.requests_are ∙ sym (requests_more t.said request);
+  rounds_are = longer ∙ rw (t.rounds_are, t.round_is) (sym (rounds_grow t.said request));
+  round_is = t.round_is ∙ sym (thens_same t.said request);
+}
+
+-- one more line begins a round
+pub more_begun : (names : List (List ℕ)) (lines left rest : List Numbered) (requests : List Request) (rounds_of : List ℕ) (round next : ℕ) (line : Numbered)
+    → IsRead names lines left requests rounds_of round → left ≡ line ∷ rest → IsThen line.text → next ≡ round + 1 → (round ≡ 65535 → ⊥) → IsRead names lines rest requests rounds_of next
+more_begun names lines left rest requests rounds_of round next line t first here is room = record {
+  front = t.front ++ line ∷ [];
+  said = t.said ++ Then ∷ [];
+  cut = t.cut ∙ ap (λ l. t.front ++ l) first ∙ sym (append_assoc t.front (line ∷ []) rest);
+  says = all_say_more names t.front t.said line Then t.says here;
+  fits = record {
+    requests = rw (requests_same t.said) t.fits.requests;
+    thens = rw (thens_more t.said) (omega (arith, t.round_is, t.fits.thens, room));
+  };
+  requests_are = t.requests_are ∙ sym (requests_same t.said);
+  rounds_are = t.rounds_are ∙ sym (rounds_same 0 t.said);
+  round_is = is ∙ ap (λ n. n + 1) t.round_is ∙ sym (thens_more t.said);
 }
 
 -- a line stops the reading
-pub stops_here : (names : List (List ℕ)) (lines left rest : List Numbered) (requests : List Request) (line : Numbered) (P : ℕ → Numbered → Type 0)
-    → IsRead names lines left requests → left ≡ line ∷ rest → P (length requests) line → StopsAt names lines P
-stops_here names lines left rest requests line P t first here = record {
+pub stops_here : (names : List (List ℕ)) (lines left rest : List Numbered) (requests : List Request) (rounds_of : List ℕ) (round : ℕ) (line : Numbered) (P : List Said → Numbered → Type 0)
+    → (t : IsRead names lines left requests rounds_of round) → left ≡ line ∷ rest → P t.said line → StopsAt names lines P
+stops_here names lines left rest requests rounds_of round line P t first here = record {
   front = t.front;
   line = line;
   behind = rest;
-  requests = requests;
+  said = t.said;
   cut = t.cut ∙ ap (λ l. t.front ++ l) first;
-  asked = t.asked;
-  within = t.few;
+  says = t.says;
+  fits = t.fits;
   here = here;
 }
 
--- no line is left
-pub whole_read : (names : List (List ℕ)) (lines left : List Numbered) (requests : List Request) → IsRead names lines left requests → left ≡ [] → AllAsk names lines requests × (length requests ≤ 65535)
-whole_read names lines left requests t none = (subst (λ ls. AllAsk names ls requests) (sym (t.cut ∙ ap (λ l. t.front ++ l) none ∙ append-nil t.front)) t.asked, t.few)
+-- a request more than there may be
+pub one_request_over : (names : List (List ℕ)) (lines left rest : List Numbered) (requests : List Request) (rounds_of : List ℕ) (round : ℕ) (line : Numbered) (request : Request) (count : ℕ)
+    → IsRead names lines left requests rounds_of round → left ≡ line ∷ rest → Asks names line.text request → count ≡ length requests → count ≡ 65535 → StopsAt names lines (IsOver names)
+one_request_over names lines left rest requests rounds_of round line request count t first here counted many =
+    stops_here names lines left rest requests rounds_of round line (IsOver names) t first (record {
+      one = Ask request;
+      says = here;
+      over = λ f. let g = rw (requests_more t.said request) at f.requests in absurd (omega (arith, g, length-append {A = Request}, ap length t.requests_are));
+    })
 
--- ---- the loaders of what is read
+-- a round more than there may be
+pub one_round_over : (names : List (List ℕ)) (lines left rest : List Numbered) (requests : List Request) (rounds_of : List ℕ) (round : ℕ) (line : Numbered)
+    → IsRead names lines left requests rounds_of round → left ≡ line ∷ rest → IsThen line.text → round ≡ 65535 → StopsAt names lines (IsOver names)
+one_round_over names lines left rest requests rounds_of round line t first here many =
+    stops_here names lines left rest requests rounds_of round line (IsOver names) t first (record {
+      one = Then;
+      says = here;
+      over = λ f. let g = rw (thens_more t.said) at f.thens in absurd (omega (arith, g, t.round_is));
+    })
+
+abbrev scripted : List Request → List ℕ → ℕ → Scripted
+scripted rs ns n = record { requests = rs; rounds_of = ns; rounds = n }
+
+-- no line is left
+pub whole_read : (names : List (List ℕ)) (lines left : List Numbered) (requests : List Request) (rounds_of : List ℕ) (round rounds : ℕ)
+    → IsRead names lines left requests rounds_of round → left ≡ [] → rounds ≡ round + 1 → Tells names lines (record { requests = requests; rounds_of = rounds_of; rounds = rounds })
+whole_read names lines left requests rounds_of round rounds t none is = record {
+  said = t.said;
+  says = subst (λ ls. AllSay names ls t.said) (sym (t.cut ∙ ap (λ l. t.front ++ l) none ∙ append-nil t.front)) t.says;
+  fits = t.fits;
+  is = same t.requests_are t.rounds_are (is ∙ ap (λ n. n + 1) t.round_is);
+}
+  where
+    same : {a b : List Request} {m n : List ℕ} {j k : ℕ} → a ≡ b → m ≡ n → j ≡ k → scripted a m j ≡ scripted b n k
+    same e f g = cc
+
+-- ---- what is so of what is read
 
 -- a name that is found stands among the names
 within : (b : Bool) (n count l : ℕ) → b ≡ nat_lt n count → cond b (Some n) None ≡ Some l → l < count
@@ -79,33 +174,70 @@ within true n count l e f = let same : n ≡ l = cc in grind (arith, nat_tests)
 within false n count l e f = absurd cc
 
 has_loader : (names : List (List ℕ)) (line : List ℕ) (request : Request) → Asks names line request → HasLoader (length names) request
-has_loader names line request t = subst (λ r. HasLoader (length names) r) (sym t.is) (within _ (position_or_len (λ name. pointwise nat_eq name t.word) names) (length names) t.loader refl t.known)
+has_loader names line (Load loader name) t = within _ (position_or_len (λ name. pointwise nat_eq name t.word) names) (length names) loader refl t.known
 
-pub have_loaders : (names : List (List ℕ)) (lines : List Numbered) (requests : List Request) → AllAsk names lines requests → HasLoaders (length names) requests
+have_loaders : (names : List (List ℕ)) (lines : List Numbered) (xs : List Said) → AllSay names lines xs → HasLoaders (length names) (requests_in xs)
 have_loaders names [] [] t = All-nil (HasLoader (length names))
-have_loaders names [] (r ∷ rs) t = absurd t
+have_loaders names [] (x ∷ xs) t = absurd t
 have_loaders names (l ∷ ls) [] t = absurd t
-have_loaders names (l ∷ ls) (r ∷ rs) t = All-cons (HasLoader (length names)) r rs (has_loader names l.text r t.0) (have_loaders names ls rs t.1)
+have_loaders names (l ∷ ls) (Ask r ∷ xs) t = All-cons (HasLoader (length names)) r (requests_in xs) (has_loader names l.text r t.0) (have_loaders names ls xs t.1)
+have_loaders names (l ∷ ls) (Then ∷ xs) t = have_loaders names ls xs t.1
 
--- ---- a text is one script at most
+pub script_loaders : (names : List (List ℕ)) (lines : List Numbered) (s : Scripted) → Tells names lines s → HasLoaders (length names) s.requests
+script_loaders names lines s t = subst (λ (s : Scripted). HasLoaders (length names) s.requests) (sym t.is) (have_loaders names lines t.said t.says)
+
+each_has_round : (n : ℕ) (xs : List Said) → length (rounds_in n xs) ≡ length (requests_in xs)
+each_has_round n [] = refl
+each_has_round n (Ask r ∷ xs) = ap suc (each_has_round n xs)
+each_has_round n (Then ∷ xs) = each_has_round (n + 1) xs
+
+rounds_below : (n top : ℕ) (xs : List Said) → n + thens_in xs < top → All (λ m. m < top) (rounds_in n xs)
+rounds_below n top [] h = All-nil (λ m. m < top)
+rounds_below n top (Ask r ∷ xs) h = All-cons (λ m. m < top) n (rounds_in n xs) (omega arith) (rounds_below n top xs h)
+rounds_below n top (Then ∷ xs) h = rounds_below (n + 1) top xs (omega arith)
+
+pub tells_script : (names : List (List ℕ)) (lines : List Numbered) (s : Scripted) → Tells names lines s → IsScript s
+tells_script names lines s t = subst (λ (s : Scripted). IsScript s) (sym t.is) (record {
+  few = t.fits.requests;
+  each = each_has_round 0 t.said;
+  within = rounds_below 0 (thens_in t.said + 1) t.said (omega arith);
+  rounds = omega (arith, t.fits.thens);
+})
+
+-- ---- a line says one thing at most
 
 pub second_word : {a b c d e f : List ℕ} → a ∷ b ∷ c ∷ [] ≡ d ∷ e ∷ f ∷ [] → b ≡ e
 second_word h = cc
 
-one_request : (names : List (List ℕ)) (line : List ℕ) (r s : Request) → Asks names line r → Asks names line s → r ≡ s
-one_request names line r s t u =
-    let words : codes "load" ∷ t.word ∷ t.load.text ∷ [] ≡ codes "load" ∷ u.word ∷ u.load.text ∷ [] = sym t.load.words ∙ u.load.words in
-    let same_name : t.name ≡ u.name = name_alone u.load.text t.name u.name (subst (λ w. WritesName w t.name) (third_word words) t.load.writes.written) u.load.writes.written in
-    let same_loader : Some t.loader ≡ Some u.loader = sym t.known ∙ ap (loader_named names) (second_word words) ∙ u.known in
-    t.is ∙ ap (λ l. Load l t.name) (some_same same_loader) ∙ ap (Load u.loader) same_name ∙ sym u.is
-  where
-    some_same : {a b : ℕ} → Some a ≡ Some b → a ≡ b
-    some_same h = cc
+some_same : {a b : ℕ} → Some a ≡ Some b → a ≡ b
+some_same h = cc
 
-pub one_script : (names : List (List ℕ)) (lines : List Numbered) (rs ss : List Request) → AllAsk names lines rs → AllAsk names lines ss → rs ≡ ss
-one_script names [] [] [] t u = refl
-one_script names [] [] (s ∷ ss) t u = absurd u
-one_script names [] (r ∷ rs) ss t u = absurd t
-one_script names (l ∷ ls) [] ss t u = absurd t
-one_script names (l ∷ ls) (r ∷ rs) [] t u = absurd u
-one_script names (l ∷ ls) (r ∷ rs) (s ∷ ss) t u = let first : r ≡ s = one_request names l.text r s t.0 u.0 in let others : rs ≡ ss = one_script names ls rs ss t.1 u.1 in cc
+pub load_is_no_round : (line loader name : List ℕ) → IsLoad line loader name → IsThen line → ⊥
+load_is_no_round line loader name t u = no_two (sym t.words ∙ u)
+  where
+    no_two : {a b c d : List ℕ} → a ∷ b ∷ c ∷ [] ≡ d ∷ [] → ⊥
+    no_two h = absurd cc
+
+one_request : (names : List (List ℕ)) (line : List ℕ) (r s : Request) → Asks names line r → Asks names line s → r ≡ s
+one_request names line (Load l n) (Load m o) t u =
+    let words : codes "load" ∷ t.word ∷ t.load.text ∷ [] ≡ codes "load" ∷ u.word ∷ u.load.text ∷ [] = sym t.load.words ∙ u.load.words in
+    let same_name : n ≡ o = name_alone u.load.text n o (subst (λ w. WritesName w n) (third_word words) t.load.writes.written) u.load.writes.written in
+    let same_loader : Some l ≡ Some m = sym t.known ∙ ap (loader_named names) (second_word words) ∙ u.known in
+    ap (λ k. Load k n) (some_same same_loader) ∙ ap (Load m) same_name
+
+no_round : (names : List (List ℕ)) (line : List ℕ) (r : Request) → Asks names line r → IsThen line → ⊥
+no_round names line (Load l n) t u = load_is_no_round line t.word n t.load u
+
+pub one_said : (names : List (List ℕ)) (line : List ℕ) (x y : Said) → Says names line x → Says names line y → x ≡ y
+one_said names line (Ask r) (Ask s) t u = ap (λ q. Ask q) (one_request names line r s t u)
+one_said names line (Ask r) Then t u = absurd (no_round names line r t u)
+one_said names line Then (Ask s) t u = absurd (no_round names line s u t)
+one_said names line Then Then t u = refl
+
+pub all_one_said : (names : List (List ℕ)) (lines : List Numbered) (xs ys : List Said) → AllSay names lines xs → AllSay names lines ys → xs ≡ ys
+all_one_said names [] [] [] t u = refl
+all_one_said names [] [] (y ∷ ys) t u = absurd u
+all_one_said names [] (x ∷ xs) ys t u = absurd t
+all_one_said names (l ∷ ls) [] ys t u = absurd t
+all_one_said names (l ∷ ls) (x ∷ xs) [] t u = absurd u
+all_one_said names (l ∷ ls) (x ∷ xs) (y ∷ ys) t u = let first : x ≡ y = one_said names l.text x y t.0 u.0 in let others : xs ≡ ys = all_one_said names ls xs ys t.1 u.1 in cc

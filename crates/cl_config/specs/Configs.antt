@@ -1,25 +1,117 @@
--- Which texts are a configuration (own choice). For now one alone is read: a loader `boot` with nothing else said.
-use Rattle.std.specs.Prelude.{◌≡◌, ℕ, List, [], ◌∷◌, Result, Ok, Err, codes, map}
-use Rattle.cl_lines.specs.Lines.{stated_from}
-use Rattle.cl_config.specs.Views.{Configured}
-use Rattle.cl_config.specs.declared.config.ConfigFault.{ConfigFault}
-use Rattle.cl_config.specs.declared.config.ConfigFault.TheVariants.{Memory, NotToml, BadLoader}
+-- Which texts are configurations, and which is the first fault of any other (own choice; JVMS SE 8, 5.3.2).
+use Rattle.std.specs.Prelude.{◌<◌, ◌≤◌, ℕ, suc, ◌+◌, Bool, true, ◌&&◌, is_some, nat_lt, nat_eq, if◌then◌else◌, List, [], ◌∷◌, length, position, codes, Option, Some, None, Result, Ok, Err, IfSome, All}
+use Rattle.std.specs.Cmp.Lexicographic.{pointwise}
+use Rattle.toml.specs.Data.{as_array, as_table, Items, no_items, item, Members, get_member}
+use Rattle.toml.specs.Parse.{parse_document}
+use Rattle.cl_config.specs.declared.fault.ConfigFault.{ConfigFault}
+use Rattle.cl_config.specs.declared.fault.ConfigFault.TheVariants.{NotToml, BadLoader, UnknownLoader, LaterLoader, TooMany}
+use Rattle.cl_config.specs.Steps.{◌>>=◌}
+use Rattle.cl_config.specs.Fields.{is_one_of, required, has_only, list_from}
+use Rattle.cl_config.specs.Entries.{Entry, EntryImport, entries_of}
+use Rattle.cl_config.specs.Views.{Configured, Loader, Import}
 
--- the two lines that stand, skipped lines apart (own choice)
-abbrev pub boot_lines : List (List ℕ)
-boot_lines = codes "[[loader]]" ∷ codes "name = \"boot\"" ∷ []
+-- ---- the top of the document
 
--- the text has just these lines (own choice)
-abbrev pub IsBoot : List ℕ → Type 0
-IsBoot text = map (λ line. line.text) (stated_from 1 text) ≡ boot_lines
+-- the most loaders
+abbrev pub most_loaders : ℕ
+most_loaders = 64
 
--- the configuration that they are: one loader of that name (own choice)
-abbrev pub boot : Configured
-boot = record { names = codes "boot" ∷ [] }
+-- how many items there are
+abbrev pub count : Items → ℕ
+count no_items = 0
+count (item d ds) = suc (count ds)
 
--- what a text is read as: every other text is refused as a loader that is not well formed (own choice)
-abbrev pub ConfigOf : List ℕ → Result Configured ConfigFault → Type 0
-ConfigOf text (Ok config) = IsBoot text × (config ≡ boot)
-ConfigOf text (Err Memory) = IsBoot text
-ConfigOf text (Err NotToml) = ⊥
-ConfigOf text (Err (BadLoader i)) = (i ≡ 0) × (IsBoot text → ⊥)
+-- the one key at the top
+abbrev pub top_keys : List (List ℕ)
+top_keys = codes "loader" ∷ []
+
+-- each item is a table
+abbrev pub are_tables : Items → Bool
+are_tables no_items = true
+are_tables (item d ds) = is_some (as_table d) && are_tables ds
+
+-- the array at the top
+abbrev pub array_at : Members → Result Items ConfigFault
+array_at ms = required (BadLoader 0) (get_member (codes "loader") ms) >>= λ d. required (BadLoader 0) (as_array d)
+
+-- some tables, and not too many, where nothing stands beside them
+abbrev pub checked : Bool → Items → Result Items ConfigFault
+checked alone ds =
+    if alone && nat_lt 0 (count ds) && are_tables ds
+    then (if nat_lt most_loaders (count ds) then Err TooMany else Ok ds)
+    else Err (BadLoader 0)
+
+-- the tables at the top
+unfoldable pub top_of : Members → Result Items ConfigFault
+top_of ms = do
+  ds ← array_at ms
+  checked (has_only (is_one_of top_keys) ms) ds
+
+-- ---- whom a loader asks: each loader in order, its parent and then its imports
+
+-- the first loader of this name
+abbrev pub place_of : List Entry → List ℕ → Option ℕ
+place_of entries name = position (λ e. pointwise nat_eq e.name name) entries
+
+-- a place, where it is that of an earlier loader than i
+abbrev pub earlier : ℕ → Option ℕ → Result ℕ ConfigFault
+earlier i None = Err (UnknownLoader i)
+earlier i (Some p) = if nat_lt p i then Ok p else Err (LaterLoader i)
+
+-- the parent of loader i
+abbrev pub parent_of : List Entry → ℕ → Option (List ℕ) → Result (Option ℕ) ConfigFault
+parent_of entries i None = Ok None
+parent_of entries i (Some name) = earlier i (place_of entries name) >>= λ p. Ok (Some p)
+
+-- an import of loader i
+unfoldable pub import_of : List Entry → ℕ → EntryImport → Result Import ConfigFault
+import_of entries i e = do
+  target ← earlier i (place_of entries e.from)
+  Ok (record { prefix = e.prefix; target = target })
+
+-- the imports of loader i
+abbrev pub imports_of : List Entry → ℕ → List EntryImport → Result (List Import) ConfigFault
+imports_of entries i es = list_from (λ before. import_of entries i) [] es
+
+-- loader i
+unfoldable pub loader_of : List Entry → ℕ → Entry → Result Loader ConfigFault
+loader_of entries i e = do
+  parent ← parent_of entries i e.parent
+  imports ← imports_of entries i e.imports
+  Ok (record { name = e.name; dir = e.dir; parent = parent; order = e.order; imports = imports })
+
+-- each loader, in order
+abbrev pub loaders_of : List Entry → Result (List Loader) ConfigFault
+loaders_of entries = list_from (λ before. loader_of entries (length before)) [] entries
+
+-- ---- the whole text
+
+-- the configuration that a document is, or its first fault
+unfoldable pub config_in : Members → Result Configured ConfigFault
+config_in ms = do
+  ds ← top_of ms
+  entries ← entries_of ds
+  loaders ← loaders_of entries
+  Ok (record { loaders = loaders })
+
+-- the configuration that a text is, or its first fault
+abbrev pub config_of : List ℕ → Result Configured ConfigFault
+config_of text = required NotToml (parse_document text) >>= config_in
+
+-- ---- what is so of every configuration
+
+-- a parent and each import lead to a loader before this place (5.3.2)
+pub record LeadsBelow (i : ℕ) (l : Loader) : Type 0 where
+  pub parent : IfSome l.parent (λ p. p < i)
+  pub imports : All (λ m. m.target < i) l.imports
+
+-- of loaders from this place on, each leads to earlier ones alone (5.3.2)
+abbrev pub AllLeadBelow : ℕ → List Loader → Type 0
+AllLeadBelow i [] = Unit {0}
+AllLeadBelow i (l ∷ ls) = LeadsBelow i l × AllLeadBelow (i + 1) ls
+
+-- there are 1 to 64 loaders, each of which leads to earlier ones alone (5.3.2)
+pub record IsConfig (c : Configured) : Type 0 where
+  pub some : 0 < length c.loaders
+  pub few : length c.loaders ≤ most_loaders
+  pub below : AllLeadBelow 0 c.loaders

@@ -1,7 +1,10 @@
-pub mod ClassTexts
+pub mod ConfigTexts
 pub mod Configs
+pub mod Entries
+pub mod Fields
 pub mod Loaders
 pub mod ScriptLaws
 pub mod Scripts
+pub mod Steps
 pub mod Texts
 pub mod Views

@@ -1,8 +1,37 @@
--- The loaders of a configuration, as the linkage machine knows them (JVMS SE 8, 5.3).
-use Rattle.std.specs.Prelude.{List, [], map}
-use Rattle.cl_model.specs.Homes.{Loader, ParentFirst}
-use Rattle.cl_config.specs.Views.{Configured}
+-- The loaders and the schedule of a configuration and a script, as the linkage machine knows them (JVMS SE 8, 5.3, 5.3.2).
+use Rattle.std.specs.Prelude.{ℕ, List, [], ◌∷◌, map, Option, Some, None}
+use Rattle.cl_model.specs.Homes as homes
+use Rattle.cl_model.specs.Machine.{Scheduled}
+use Rattle.cl_model.specs.Views.{request_of}
+use Rattle.cl_model.specs.declared.request.Request.{Request}
+use Rattle.cl_config.specs.declared.order.Order.{Order}
+use Rattle.cl_config.specs.declared.order.Order.TheVariants.{ParentFirst, ChildFirst}
+use Rattle.cl_config.specs.Views.{Configured, Loader, Scripted}
 
--- for now a loader has neither parents nor imports (5.3)
-abbrev pub loaders_of : Configured → List Loader
-loaders_of c = map (λ n. record { parents = []; order = ParentFirst; imports = [] }) c.names
+-- at which loaders a name is searched that none of the imports decides: the parent, where there is one (5.3.2)
+abbrev pub parents_of : Option ℕ → List ℕ
+parents_of None = []
+parents_of (Some parent) = parent ∷ []
+
+-- whether the parent is asked before the own content (5.3.2)
+abbrev pub order_of : Order → homes.Order
+order_of ParentFirst = homes.ParentFirst
+order_of ChildFirst = homes.ChildFirst
+
+-- a loader (5.3, 5.3.2)
+abbrev pub loader_of : Loader → homes.Loader
+loader_of l = record { parents = parents_of l.parent; order = order_of l.order; imports = map (λ m. record { prefix = m.prefix; target = m.target }) l.imports }
+
+-- the loaders, in order (5.3)
+abbrev pub loaders_of : Configured → List homes.Loader
+loaders_of c = map loader_of c.loaders
+
+-- the requests with their rounds, in order (own choice)
+abbrev pub schedule : List Request → List ℕ → List Scheduled
+schedule [] ns = []
+schedule (r ∷ rs) [] = []
+schedule (r ∷ rs) (n ∷ ns) = record { request = request_of r; round = n } ∷ schedule rs ns
+
+-- the same of a script (own choice)
+abbrev pub schedule_of : Scripted → List Scheduled
+schedule_of s = schedule s.requests s.rounds_of

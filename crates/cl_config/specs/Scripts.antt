@@ -1,13 +1,21 @@
--- Which texts are a script, and what their lines ask for (own choice). For now a line asks for a load alone.
-use Rattle.std.specs.Prelude.{All, ◌≡◌, ℕ, ◌<◌, ◌≤◌, nat_eq, List, [], ◌∷◌, ◌++◌, length, position, Option, Some, None, Result, Ok, Err, codes}
+-- Which texts are a script, and what their lines say (own choice). For now a line asks for a load, or begins a round.
+use Rattle.std.specs.Prelude.{All, ◌≡◌, ℕ, ◌+◌, ◌<◌, ◌≤◌, nat_eq, List, [], ◌∷◌, ◌++◌, length, position, Option, Some, None, Result, Ok, Err, codes}
 use Rattle.std.specs.Cmp.Lexicographic.{pointwise}
 use Rattle.cl_model.specs.declared.request.Request.{Request}
 use Rattle.cl_model.specs.declared.request.Request.TheVariants.{Load}
-use Rattle.cl_config.specs.ClassTexts.{WritesClass}
+use Rattle.cl_names.specs.Name.{WritesClass}
 use Rattle.cl_lines.specs.Lines.{Numbered, words_of, stated_from}
 use Rattle.cl_config.specs.Views.{Scripted}
+use Rattle.cl_config.specs.declared.script.Said.{Said}
+use Rattle.cl_config.specs.declared.script.Said.TheVariants.{Ask, Then}
 use Rattle.cl_config.specs.declared.script.ScriptFault.{ScriptFault}
 use Rattle.cl_config.specs.declared.script.ScriptFault.TheVariants.{Memory, BadLine, UnknownLoader, TooMany}
+
+-- the most requests, and the most lines that begin a round (own choice)
+abbrev pub most : ℕ
+most = 65535
+
+-- ---- one line
 
 -- the first loader of this name, counted from 0 (own choice)
 abbrev pub loader_named : List (List ℕ) → List ℕ → Option ℕ
@@ -19,56 +27,111 @@ pub record IsLoad (line loader name : List ℕ) : Type 0 where
   pub words : words_of line ≡ codes "load" ∷ loader ∷ text ∷ []
   pub writes : WritesClass text name
 
--- the line asks for this request (own choice)
-pub record Asks (names : List (List ℕ)) (line : List ℕ) (request : Request) : Type 0 where
+-- the one word is `then` (own choice)
+abbrev pub IsThen : List ℕ → Type 0
+IsThen line = words_of line ≡ codes "then" ∷ []
+
+-- the line asks for the load of this name through this loader (own choice)
+pub record AsksLoad (names : List (List ℕ)) (line : List ℕ) (loader : ℕ) (name : List ℕ) : Type 0 where
   pub word : List ℕ
-  pub name : List ℕ
-  pub loader : ℕ
   pub load : IsLoad line word name
   pub known : loader_named names word ≡ Some loader
-  pub is : request ≡ Load loader name
 
--- the line is no request (own choice)
-abbrev pub IsBad : List ℕ → Type 0
-IsBad line = (loader name : List ℕ) → IsLoad line loader name → ⊥
+-- the line asks for this request (own choice)
+abbrev pub Asks : List (List ℕ) → List ℕ → Request → Type 0
+Asks names line (Load loader name) = AsksLoad names line loader name
+
+-- the line says this (own choice)
+abbrev pub Says : List (List ℕ) → List ℕ → Said → Type 0
+Says names line (Ask request) = Asks names line request
+Says names line Then = IsThen line
+
+-- the line is none that a script may have (own choice)
+pub record IsBad (line : List ℕ) : Type 0 where
+  pub load : (loader name : List ℕ) → IsLoad line loader name → ⊥
+  pub round : IsThen line → ⊥
 
 -- the line is a request but for its loader (own choice)
 abbrev pub LacksLoader : List (List ℕ) → List ℕ → Type 0
 LacksLoader names line = (loader : List ℕ) × (name : List ℕ) × IsLoad line loader name × (loader_named names loader ≡ None)
 
--- each line asks for its request, in order (own choice)
-abbrev pub AllAsk : List (List ℕ) → List Numbered → List Request → Type 0
-AllAsk names [] [] = Unit {0}
-AllAsk names [] (r ∷ rs) = ⊥
-AllAsk names (l ∷ ls) [] = ⊥
-AllAsk names (l ∷ ls) (r ∷ rs) = Asks names l.text r × AllAsk names ls rs
+-- ---- all lines
 
--- after some lines, at most 65,535, that ask for a request each, there is a line of which P holds (own choice)
-pub record StopsAt (names : List (List ℕ)) (lines : List Numbered) (P : ℕ → Numbered → Type 0) : Type 0 where
+-- the lines say these, in order (own choice)
+abbrev pub AllSay : List (List ℕ) → List Numbered → List Said → Type 0
+AllSay names [] [] = Unit {0}
+AllSay names [] (x ∷ xs) = ⊥
+AllSay names (l ∷ ls) [] = ⊥
+AllSay names (l ∷ ls) (x ∷ xs) = Says names l.text x × AllSay names ls xs
+
+-- the requests, in order (own choice)
+abbrev pub requests_in : List Said → List Request
+requests_in [] = []
+requests_in (Ask r ∷ xs) = r ∷ requests_in xs
+requests_in (Then ∷ xs) = requests_in xs
+
+-- the round of each request, where this one is the round so far (own choice)
+abbrev pub rounds_in : ℕ → List Said → List ℕ
+rounds_in n [] = []
+rounds_in n (Ask r ∷ xs) = n ∷ rounds_in n xs
+rounds_in n (Then ∷ xs) = rounds_in (n + 1) xs
+
+-- how many lines begin a round (own choice)
+abbrev pub thens_in : List Said → ℕ
+thens_in [] = 0
+thens_in (Ask r ∷ xs) = thens_in xs
+thens_in (Then ∷ xs) = thens_in xs + 1
+
+-- there are not too many requests, and not too many that begin a round (own choice)
+pub record Fits (xs : List Said) : Type 0 where
+  pub requests : length (requests_in xs) ≤ most
+  pub thens : thens_in xs ≤ most
+
+-- the script that says these: the rounds are counted from 0, and the first begins the script (own choice)
+abbrev pub script_from : List Said → Scripted
+script_from xs = record { requests = requests_in xs; rounds_of = rounds_in 0 xs; rounds = thens_in xs + 1 }
+
+-- after some lines, not too many, that each say something there is a line of which P holds (own choice)
+pub record StopsAt (names : List (List ℕ)) (lines : List Numbered) (P : List Said → Numbered → Type 0) : Type 0 where
   pub front : List Numbered
   pub line : Numbered
   pub behind : List Numbered
-  pub requests : List Request
+  pub said : List Said
   pub cut : lines ≡ front ++ line ∷ behind
-  pub asked : AllAsk names front requests
-  pub within : length requests ≤ 65535
-  pub here : P (length requests) line
+  pub says : AllSay names front said
+  pub fits : Fits said
+  pub here : P said line
 
--- what the lines of a text are read as: the requests, or the first line that is wrong or one too many (own choice)
+-- what the lines say is this script (own choice)
+pub record Tells (names : List (List ℕ)) (lines : List Numbered) (s : Scripted) : Type 0 where
+  pub said : List Said
+  pub says : AllSay names lines said
+  pub fits : Fits said
+  pub is : s ≡ script_from said
+
+-- a line with which there are too many (own choice)
+pub record IsOver (names : List (List ℕ)) (said : List Said) (line : Numbered) : Type 0 where
+  pub one : Said
+  pub says : Says names line.text one
+  pub over : Fits (said ++ one ∷ []) → ⊥
+
+-- what the lines of a text are read as: the script, or the first line that is wrong or one too many (own choice)
 abbrev pub script_of : List (List ℕ) → List ℕ → Result Scripted ScriptFault → Type 0
-script_of names text (Ok script) = AllAsk names (stated_from 1 text) script.requests × (length script.requests ≤ 65535)
-script_of names text (Err (BadLine n)) = StopsAt names (stated_from 1 text) (λ before line. (n ≡ line.number) × IsBad line.text)
-script_of names text (Err (UnknownLoader n)) = StopsAt names (stated_from 1 text) (λ before line. (n ≡ line.number) × LacksLoader names line.text)
-script_of names text (Err TooMany) = StopsAt names (stated_from 1 text) (λ before line. (before ≡ 65535) × ((r : Request) × Asks names line.text r))
+script_of names text (Ok script) = Tells names (stated_from 1 text) script
+script_of names text (Err (BadLine n)) = StopsAt names (stated_from 1 text) (λ said line. (n ≡ line.number) × IsBad line.text)
+script_of names text (Err (UnknownLoader n)) = StopsAt names (stated_from 1 text) (λ said line. (n ≡ line.number) × LacksLoader names line.text)
+script_of names text (Err TooMany) = StopsAt names (stated_from 1 text) (IsOver names)
 script_of names text (Err Memory) = 0 < length (stated_from 1 text)
 
 -- the same of one line (own choice)
-abbrev pub line_of : List (List ℕ) → Numbered → Result Request ScriptFault → Type 0
-line_of names line (Ok request) = Asks names line.text request
+abbrev pub line_of : List (List ℕ) → Numbered → Result Said ScriptFault → Type 0
+line_of names line (Ok one) = Says names line.text one
 line_of names line (Err (BadLine n)) = (n ≡ line.number) × IsBad line.text
 line_of names line (Err (UnknownLoader n)) = (n ≡ line.number) × LacksLoader names line.text
 line_of names line (Err TooMany) = ⊥
 line_of names line (Err Memory) = Unit {0}
+
+-- ---- what is so of every script
 
 -- the request's loader is one of so many (own choice)
 abbrev pub HasLoader : ℕ → Request → Type 0
@@ -77,3 +140,10 @@ HasLoader count (Load loader name) = loader < count
 -- each request's loader is one of so many (own choice)
 abbrev pub HasLoaders : ℕ → List Request → Type 0
 HasLoaders count requests = All (HasLoader count) requests
+
+-- there are at most 65,535 requests, each of one of the rounds, and 1 to 65,536 rounds (own choice)
+pub record IsScript (s : Scripted) : Type 0 where
+  pub few : length s.requests ≤ most
+  pub each : length s.rounds_of ≡ length s.requests
+  pub within : All (λ n. n < s.rounds) s.rounds_of
+  pub rounds : s.rounds ≤ most + 1

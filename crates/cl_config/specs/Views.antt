@@ -1,11 +1,32 @@
--- What contracts see of a configuration and of a script (own choice; JVMS SE 8, 5.3).
-use Rattle.std.specs.Prelude.{ℕ, List}
+-- What contracts see of a configuration and a script (own choice; JVMS SE 8, 5.3).
+use Rattle.std.specs.Prelude.{ℕ, List, Option, map}
 use Rattle.cl_model.specs.declared.request.Request.{Request}
+use Rattle.cl_config.specs.declared.order.Order.{Order}
 
--- the loaders in order, each by its name (5.3)
+-- names that begin with this prefix are searched at that loader alone (5.3.2)
+pub record Import : Type 0 where
+  pub prefix : List ℕ
+  pub target : ℕ
+
+-- a loader: its name, the directory of its own content, whom it asks and when, and what it takes from where (5.3, 5.3.2)
+pub record Loader : Type 0 where
+  pub name : List ℕ
+  pub dir : List ℕ
+  pub parent : Option ℕ
+  pub order : Order
+  pub imports : List Import
+
+-- the loaders, in order, the first of which is numbered 0 (5.3)
 pub record Configured : Type 0 where
-  pub names : List (List ℕ)
+  pub loaders : List Loader
 
--- the requests in order, all of one round (own choice)
+-- the loaders' names, in order (5.3)
+abbrev pub names_of : Configured → List (List ℕ)
+names_of c = map (λ l. l.name) c.loaders
+
+-- the requests in order, the round of each, counted from 0, and how many rounds there are; a round may be empty (own
+-- choice)
 pub record Scripted : Type 0 where
   pub requests : List Request
+  pub rounds_of : List ℕ
+  pub rounds : ℕ

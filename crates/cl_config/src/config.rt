@@ -1,69 +1,60 @@
-ghost use Rattle.std.specs.Prelude.{◌≡◌, ◌<◌, length, map, string_bytes, slice_get, MatchBool, position, nat_eq};
-ghost use Rattle.std.specs.Cmp.Lexicographic.{pointwise};
-ghost use Rattle.cl_config.specs.Configs.{IsBoot, ConfigOf};
+//! The configuration that a text is.
 
-use cl_lines::Stated;
+ghost use Rattle.std.specs.Prelude.{◌≡◌, ◌<◌, ◌≤◌, ◌++◌, [], ◌∷◌, length, map, string_bytes, slice_get, position, nat_eq, is_some, All, IfOk, IfSome};
+ghost use Rattle.std.specs.List.{list_all};
+ghost use Rattle.std.specs.Cmp.Lexicographic.{pointwise};
+ghost use Rattle.toml.specs.Data.{as_table};
+ghost use Rattle.toml.specs.View.{view, table_view, items_view};
+ghost use Rattle.cl_config.specs.Configs.{top_of, array_at, checked, config_in, config_of, IsConfig, LeadsBelow};
+ghost use Rattle.cl_config.specs.Steps.{Finds, Gives};
+ghost use Rattle.cl_config.specs.Views.{names_of};
+
+use crate::entry::entries_in;
+use crate::fault::{ConfigError, ConfigFault};
+use crate::fields::{has_only, value_at};
+use crate::loader::{Import, Loader, loaders_of};
+use crate::order::Order;
 use cl_model::LoaderId;
 use cl_names::Seed;
 use std::alloc::{AllocError, Global};
 use std::marker::Model;
-use thiserror::Error;
+use toml::{Table, Value};
 
-/// The loaders, in order. For now there is one, without parent or imports (JVMS SE 8, 5.3).
+/// The most loaders.
+const MOST_LOADERS: usize = 64;
+
+/// The loaders, in order: 1 to 64, each of which leads to earlier ones alone (JVMS SE 8, 5.3, 5.3.2).
 #[derive(Debug, Drop)]
 pub struct Config {
+    /// The loaders' names, which are lent together.
     names: Vec<String>,
+    loaders: Vec<Loader>,
     seed: Seed,
 }
 
 impl Model for Config {
-    ghost use Rattle.std.specs.Prelude.{◌≡◌, length, map, string_bytes};
-    ghost use Rattle.cl_config.specs.Views.{Configured};
+    ghost use Rattle.std.specs.Prelude.{◌≡◌, map, string_bytes};
+    ghost use Rattle.cl_config.specs.Views.{Configured, names_of};
+    ghost use Rattle.cl_config.specs.Configs.{IsConfig};
 
     ghost Value = { Configured };
 
-    ghost view = { λ c. record { names = map string_bytes c.names.items } };
+    ghost view = { λ c. record { loaders = c.loaders.items } };
 
-    ghost invariant = { λ c. length c.names.items ≡ 1 };
-}
-
-/// Why a text is no configuration. Loaders count from 0.
-#[derive(Clone, Copy, Debug, PartialEq, Eq, Error)]
-pub enum ConfigFault {
-    #[error("C0 Memory")]
-    Memory,
-    #[error("C1 NotToml")]
-    NotToml,
-    #[error("C2 BadLoader {0}")]
-    BadLoader(u32),
-}
-
-impl From<AllocError> for ConfigFault {
-    ghost use Rattle.cl_config.specs.declared.config.ConfigFault.TheVariants.{Memory};
-
-    ghost from_gives = { λ _ e. e ≡ Memory };
-
-    fn from(_e: AllocError) -> ConfigFault {
-        ConfigFault::Memory
-    }
+    ghost invariant = { λ c. IsConfig (record { loaders = c.loaders.items }) × (map string_bytes c.names.items ≡ names_of (record { loaders = c.loaders.items })) };
 }
 
 impl Config {
-    /// The configuration that a text is. For now that is the lines `[[loader]]` and `name = "boot"`, skipped lines
-    /// apart, and any other text is `BadLoader(0)`.
-    pub fn read(alloc: Global, text: &str) -> Result<Config, ConfigFault>
-        ensures { ConfigOf text.now result }
+    /// The configuration that a text is: of the texts that `toml` reads those whose table keeps the rules of
+    /// `specs/Configs.antt`, and no others. Else the first fault, or want of memory.
+    pub fn read(alloc: Global, text: &str) -> Result<Config, ConfigError>
+        ensures { Gives (λ c. c) result (config_of text.now) }
     {
-        if !is_boot(text) {
-            return Err(ConfigFault::BadLoader(0));
+        match toml::table_from_str(alloc, text) {
+            Ok(table) => config_in(alloc, &table),
+            Err(e) if e.is_memory() => Err(ConfigError::Memory),
+            Err(_) => Err(ConfigError::Fault(ConfigFault::NotToml)),
         }
-        let boot = String::from_str(alloc, "boot")?;
-        let mut names = Vec::with_capacity(alloc, 1)?;
-        names.push(boot).map_err(AllocError::from)?;
-        Ok(Config {
-            names,
-            seed: Seed::known(),
-        })
     }
 
     /// The same configuration with a seed for the tables of names that are made for it. One that was read has the seed
@@ -73,6 +64,7 @@ impl Config {
     {
         Config {
             names: self.names,
+            loaders: self.loaders,
             seed,
         }
     }
@@ -84,52 +76,185 @@ impl Config {
 
     /// The loader of this name.
     pub fn loader(&self, word: &str) -> Option<LoaderId>
-        ensures { result ≡ position (λ name. pointwise nat_eq name word.now) self.now.names }
+        ensures found { result ≡ position (λ name. pointwise nat_eq name word.now) (names_of self.now) }
+        ensures within { IfSome result (λ l. l < length self.now.loaders) }
     {
-        let place = place_of(self.names.as_slice(), word)?;
+        let place = place_of(self.loaders.as_slice(), word)?;
         Some(LoaderId(place as u16))
-    }
-
-    /// A loader's name.
-    pub fn name(&self, loader: LoaderId) -> &str
-        requires { loader < length self.now.names }
-        ensures { slice_get self.now.names loader ≡ Some result.now }
-    {
-        self.names[usize::from(loader.0)].as_str()
-    }
-
-    /// The loaders' names, in order.
-    pub fn names(&self) -> &[String]
-        ensures { map string_bytes result.now ≡ self.now.names }
-    {
-        self.names.as_slice()
     }
 
     /// How many loaders there are.
     pub fn count(&self) -> usize
-        ensures count { result ≡ length self.now.names }
-        ensures one { length self.now.names ≡ 1 }
+        ensures count { result ≡ length self.now.loaders }
+        ensures config { IsConfig self.now }
     {
-        self.names.len()
+        self.loaders.len()
+    }
+
+    /// A loader's name.
+    pub fn name(&self, loader: LoaderId) -> &str
+        requires { loader < length self.now.loaders }
+        ensures { IfSome (slice_get self.now.loaders loader) (λ l. result.now ≡ l.name) }
+    {
+        self.at(loader).name()
+    }
+
+    /// The directory of a loader's own content.
+    pub fn dir(&self, loader: LoaderId) -> &str
+        requires { loader < length self.now.loaders }
+        ensures { IfSome (slice_get self.now.loaders loader) (λ l. result.now ≡ l.dir) }
+    {
+        self.at(loader).dir()
+    }
+
+    /// A loader's parent, if it has one: an earlier loader.
+    pub fn parent(&self, loader: LoaderId) -> Option<LoaderId>
+        requires { loader < length self.now.loaders }
+        ensures parent { IfSome (slice_get self.now.loaders loader) (λ l. result ≡ l.parent) }
+        ensures below { IfSome result (λ parent. parent < loader) }
+    {
+        self.at(loader).parent()
+    }
+
+    /// The directories of the loaders' own content, in order.
+    pub fn directories(&self, alloc: Global) -> Result<Vec<String>, AllocError>
+        ensures { IfOk result (λ v. map string_bytes v.items ≡ map (λ l. l.dir) self.now.loaders) }
+    {
+        dirs_of(alloc, self.loaders.as_slice())
+    }
+
+    /// Where a loader looks first.
+    pub fn order(&self, loader: LoaderId) -> Order
+        requires { loader < length self.now.loaders }
+        ensures { IfSome (slice_get self.now.loaders loader) (λ l. result ≡ l.order) }
+    {
+        self.at(loader).order()
+    }
+
+    /// A loader's imports, in order, each of an earlier loader.
+    pub fn imports(&self, loader: LoaderId) -> &[Import]
+        requires { loader < length self.now.loaders }
+        ensures imports { IfSome (slice_get self.now.loaders loader) (λ l. result.now ≡ l.imports) }
+        ensures below { All (λ m. m.target < loader) result.now }
+    {
+        self.at(loader).imports()
+    }
+
+    /// The loaders' names, in order.
+    pub fn names(&self) -> &[String]
+        ensures { map string_bytes result.now ≡ names_of self.now }
+    {
+        self.names.as_slice()
+    }
+
+    /// A loader.
+    fn at(&self, loader: LoaderId) -> &Loader
+        requires { loader < length self.now.loaders }
+        ensures at { slice_get self.now.loaders loader ≡ Some result.now }
+        ensures below { LeadsBelow loader result.now }
+    {
+        loader_at(self.loaders.as_slice(), usize::from(loader.0))
     }
 }
 
-/// Whether a text is the two lines that stand for the loader `boot`.
-fn is_boot(text: &str) -> bool
-    ensures { MatchBool result (IsBoot text.now) (IsBoot text.now → ⊥) }
+/// The loader of a place.
+fn loader_at(loaders: &[Loader], place: usize) -> &Loader
+    requires { place < length loaders.now }
+    ensures { slice_get loaders.now place ≡ Some result.now }
 {
-    let mut lines = Stated::new(text);
-    match (lines.next(), lines.next(), lines.next()) {
-        (Some(first), Some(second), None) => {
-            first.text == "[[loader]]" && second.text == "name = \"boot\""
-        }
-        _ => false,
+    &loaders[place]
+}
+
+/// The configuration that a document is.
+#[tactic(auto, unfolding(crate::specs::Configs::config_in))]
+fn config_in(alloc: Global, table: &Table) -> Result<Config, ConfigError>
+    ensures { Gives (λ c. c) result (config_in (table_view table.now)) }
+{
+    let values = top_in(table)?;
+    let entries = entries_in(alloc, values)?;
+    let loaders = loaders_of(alloc, entries.as_slice())?;
+    let names = names_of(alloc, loaders.as_slice())?;
+    Ok(Config {
+        names,
+        loaders,
+        seed: Seed::known(),
+    })
+}
+
+/// The tables at the top.
+#[tactic(auto, unfolding(crate::specs::Configs::top_of))]
+fn top_in(table: &Table) -> Result<&[Value], ConfigFault>
+    ensures found { Finds (λ vs. items_view vs.now) result (top_of (table_view table.now)) }
+    ensures some { IfOk result (λ vs. 0 < length vs.now) }
+    ensures few { IfOk result (λ vs. length vs.now ≤ 64) }
+{
+    let values = array_at(table)?;
+    checked(has_only(table, &["loader"]), values)
+}
+
+/// The array at the top.
+fn array_at(table: &Table) -> Result<&[Value], ConfigFault>
+    ensures { Finds (λ vs. items_view vs.now) result (array_at (table_view table.now)) }
+{
+    let wrong = ConfigFault::BadLoader(0);
+    let Some(value) = value_at(table, "loader") else {
+        return Err(wrong);
+    };
+    match value.as_array() {
+        Some(array) => Ok(array.as_slice()),
+        None => Err(wrong),
     }
 }
 
-/// The place of the first such name.
-fn place_of(names: &[String], word: &str) -> Option<usize>
-    ensures { result ≡ position (λ name. pointwise nat_eq (string_bytes name) word.now) names.now }
+/// Some tables, and not too many, where nothing stands beside them.
+#[tactic(auto, using(crate::proofs::Tops::count_is, crate::proofs::Tops::tables_are))]
+fn checked(alone: bool, values: &[Value]) -> Result<&[Value], ConfigFault>
+    ensures found { Finds (λ vs. items_view vs.now) result (checked alone (items_view values.now)) }
+    ensures some { IfOk result (λ vs. 0 < length vs.now) }
+    ensures few { IfOk result (λ vs. length vs.now ≤ 64) }
 {
-    names.iter().position(|name| name.as_str() == word)
+    if !alone || values.is_empty() || !are_tables(values) {
+        return Err(ConfigFault::BadLoader(0));
+    }
+    if values.len() > MOST_LOADERS {
+        return Err(ConfigFault::TooMany);
+    }
+    Ok(values)
+}
+
+/// Whether each value is a table.
+fn are_tables(values: &[Value]) -> bool
+    ensures { result ≡ list_all (λ v. is_some (as_table (view v))) values.now }
+{
+    values.iter().all(|value| value.is_table())
+}
+
+/// The loaders' names, in order.
+fn names_of(alloc: Global, loaders: &[Loader]) -> Result<Vec<String>, AllocError>
+    ensures { IfOk result (λ v. map string_bytes v.items ≡ names_of (record { loaders = loaders.now })) }
+{
+    let mut names = Vec::with_capacity(alloc, loaders.len())?;
+    for loader in loaders {
+        names.push(String::from_str(alloc, loader.name())?)?;
+    }
+    Ok(names)
+}
+
+/// The directories of loaders, in order.
+fn dirs_of(alloc: Global, loaders: &[Loader]) -> Result<Vec<String>, AllocError>
+    ensures { IfOk result (λ v. map string_bytes v.items ≡ map (λ l. l.dir) loaders.now) }
+{
+    let mut dirs = Vec::with_capacity(alloc, loaders.len())?;
+    for loader in loaders {
+        dirs.push(String::from_str(alloc, loader.dir())?)?;
+    }
+    Ok(dirs)
+}
+
+/// The place of the first loader of this name.
+fn place_of(loaders: &[Loader], word: &str) -> Option<usize>
+    ensures found { result ≡ position (λ l. pointwise nat_eq l.name word.now) loaders.now }
+    ensures within { IfSome result (λ place. place < length loaders.now) }
+{
+    loaders.iter().position(|loader| loader.name() == word)
 }

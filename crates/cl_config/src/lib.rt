@@ -1,9 +1,17 @@
-//! Configurations, which say what loaders there are, and scripts, which say what is asked of them.
+//! The configuration of loaders, in TOML, and the script of requests.
 #![tactic(auto)]
 
-pub mod config;
+mod config;
+mod entry;
+mod fault;
+mod fields;
 pub mod laws;
-pub mod script;
+mod loader;
+mod order;
+mod script;
 
-pub use config::{Config, ConfigFault};
-pub use script::{Script, ScriptFault, class_name, text_is_one_script};
+pub use config::Config;
+pub use fault::{ConfigError, ConfigFault};
+pub use loader::{Import, Loader};
+pub use order::Order;
+pub use script::{Script, ScriptFault, text_is_one_script};

@@ -1,2 +1,4 @@
-pub mod Bounds
-pub mod Homes
+pub mod Leads
+pub mod Once
+pub mod Routes
+pub mod Ways

@@ -1,3 +1,4 @@
-pub mod Bounds
+pub mod Kept
+pub mod Routes
 pub mod Searches
 pub mod Worlds

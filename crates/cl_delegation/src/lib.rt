@@ -2,6 +2,8 @@
 //! neither parents nor imports.
 #![tactic(auto)]
 
+pub mod laws;
+mod route;
 pub mod search;
 
 pub use search::{Home, Search, SearchRefused, Unfound, WrongProbe};

@@ -1,35 +1,44 @@
-ghost use Rattle.std.specs.Prelude.{◌≡◌, ◌<◌, IfOk, OnOk, IfErr, MatchResult, Option, Some, None, length, is_some};
-ghost use Rattle.cl_delegation.specs.Searches.{LeadsTo, next_of};
-ghost use Rattle.cl_source.specs.Told.{IsTold};
+//! The search for a name through the loaders.
 
+ghost use Rattle.std.specs.Prelude.{◌≡◌, ◌<◌, ◌≤◌, ◌++◌, [], ◌∷◌, IfOk, OnOk, IfErr, MatchResult, Option, Some, None, length, is_some, slice_get, vec_len, vec_capacity};
+ghost use Rattle.cl_delegation.specs.Searches.{LeadsTo, Follows, begun, next_of, with_probe};
+ghost use Rattle.cl_source.specs.Told.{IsTold};
+ghost use Rattle.cl_source.specs.Views.{Found};
+
+use crate::route::route_of;
 use cl_config::Config;
 use cl_model::{LoaderId, Told};
 use cl_names::Name;
 use cl_source::{Outcome, Probe};
-use std::alloc::Global;
+use std::alloc::{AllocError, Global};
 use std::marker::Model;
 use std::sync::Arc;
 use thiserror::Error;
 
-/// The search for a name, begun at a loader (JVMS SE 8, 5.3.2). For now that loader is probed alone.
+/// The search for a name, begun at a loader (JVMS SE 8, 5.3.2): the own content of one loader after another is probed,
+/// until one has the name or none is left.
 #[derive(Drop)]
 pub struct Search<T: Told> {
     config: Arc<Config>,
     loader: LoaderId,
     name: Name,
-    probe: Option<Probe<T>>,
+    /// The loaders that are probed, in order, while each lacks the name.
+    route: Vec<LoaderId>,
+    /// The probes so far that found nothing, with room for one of each loader of the route.
+    absent: Vec<Probe<T>>,
+    found: Option<Probe<T>>,
 }
 
 impl<T: Told> Model for Search<T> {
-    ghost use Rattle.std.specs.Prelude.{◌≡◌, ◌<◌, length, MatchOption};
-    ghost use Rattle.std.specs.Option.{option_map};
+    ghost use Rattle.std.specs.Prelude.{length, vec_len, vec_capacity};
     ghost use Rattle.cl_delegation.specs.Searches.{Searched};
+    ghost use Rattle.cl_delegation.specs.Kept.{IsSearch};
 
     ghost Value = { Searched };
 
-    ghost view = { λ s. record { config = s.config.value; loader = s.loader; name = s.name; found = option_map (λ p. p.bytes) s.probe } };
+    ghost view = { λ s. record { config = s.config.value; loader = s.loader; name = s.name; absent = s.absent.items; found = s.found } };
 
-    ghost invariant = { λ s. (s.loader < length s.config.value.names) × MatchOption s.probe (Unit {0}) (λ p. (p.loader ≡ s.loader) × (p.name ≡ s.name)) };
+    ghost invariant = { λ s. IsSearch T.told (record { config = s.config.value; loader = s.loader; name = s.name; absent = s.absent.items; found = s.found }) s.route.items (vec_len s.absent) (vec_capacity s.absent) };
 }
 
 /// A search could not begin.
@@ -47,46 +56,58 @@ pub struct WrongProbe<T: Told> {
 }
 
 impl<T: Told> Search<T> {
-    /// A search that has probed nothing yet. Only memory refuses it.
+    /// A search that has probed nothing yet. Only memory refuses it, and nothing takes memory after it.
     pub fn new(
-        _alloc: Global,
+        alloc: Global,
         config: Arc<Config>,
         loader: LoaderId,
         name: Name,
     ) -> Result<Search<T>, SearchRefused>
-        requires { loader < length config.value.names }
-        ensures begun { IfOk result (λ s. s ≡ record { config = config.value; loader = loader; name = name; found = None }) }
+        requires { loader < length config.value.loaders }
+        ensures begun { IfOk result (λ s. s ≡ begun config.value loader name) }
         ensures back { IfErr result (λ e. (e.config.value ≡ config.value) × (e.name ≡ name)) }
     {
-        Ok(Search {
-            config,
-            loader,
-            name,
-            probe: None,
-        })
+        let Ok(route) = route_of(alloc, &config, loader, &name) else {
+            return Err(SearchRefused { config, name });
+        };
+        match Vec::with_capacity(alloc, route.len()) {
+            Ok(absent) => Ok(Search {
+                config,
+                loader,
+                name,
+                route,
+                absent,
+                found: None,
+            }),
+            Err(_) => Err(SearchRefused { config, name }),
+        }
     }
 
     /// The loader to be probed next, if any is.
     pub fn next_probe(&self) -> Option<LoaderId>
-        ensures { result ≡ next_of self.now }
+        ensures next { result ≡ next_of self.now }
+        ensures follows { Follows T.told self.now }
     {
-        match &self.probe {
-            None => Some(self.loader),
-            Some(_) => None,
+        if self.found.is_some() {
+            return None;
         }
+        self.route.get(self.absent.len()).copied()
     }
 
     /// Takes the next probe; another is handed back.
     pub fn take(&mut self, probe: Probe<T>) -> Result<(), WrongProbe<T>>
         ensures next { OnOk result ((next_of self.old ≡ Some probe.loader) × (probe.name ≡ self.old.name)) }
-        ensures taken { OnOk result (self.new ≡ record self.old { found = Some probe.bytes }) }
+        ensures taken { OnOk result (self.new ≡ with_probe self.old probe) }
         ensures wrong { IfErr result (λ w. next_of self.old ≡ Some probe.loader → probe.name ≡ self.old.name → ⊥) }
         ensures unchanged { IfErr result (λ w. (self.new ≡ self.old) × (w.probe ≡ probe)) }
     {
         if self.next_probe() != Some(probe.loader()) || *probe.name() != self.name {
             return Err(WrongProbe { probe });
         }
-        self.probe = Some(probe);
+        match probe.outcome() {
+            Outcome::Found(_) => self.found = Some(probe),
+            Outcome::Absent => self.absent.push_reserved(probe),
+        }
         Ok(())
     }
 
@@ -94,41 +115,40 @@ impl<T: Told> Search<T> {
     pub fn home(self) -> Result<Home<T>, Unfound<T>>
         requires { next_of self ≡ None }
         ensures asked { MatchResult result (λ h. (h.asked ≡ self.loader) × (h.name ≡ self.name)) (λ u. (u.asked ≡ self.loader) × (u.name ≡ self.name)) }
-        ensures alone { IfOk result (λ h. h.place ≡ self.loader) }
-        ensures found { MatchResult result (λ h. self.found ≡ Some (Some h.bytes)) (λ u. self.found ≡ Some None) }
+        ensures probes { MatchResult result (λ h. h.absent ≡ self.absent) (λ u. u.absent ≡ self.absent) }
+        ensures found { MatchResult result (λ h. self.found ≡ Some (record { loader = h.place; name = h.name; bytes = Some h.bytes })) (λ u. self.found ≡ None) }
         ensures leads { MatchResult result (λ h. LeadsTo T.told self.config self.loader self.name (Some h.place)) (λ u. LeadsTo T.told self.config self.loader self.name None) }
     {
-        // brings that there is one loader
-        let _ = self.config.count();
         let Search {
             config: _,
             loader,
             name,
-            probe,
+            route: _,
+            absent,
+            found,
         } = self;
-        match probe {
-            None => unreachable!(),
-            Some(probe) => match probe.outcome() {
-                Outcome::Found(_) => Ok(Home {
-                    asked: loader,
-                    name,
-                    probe,
-                }),
-                Outcome::Absent => Err(Unfound {
-                    asked: loader,
-                    name,
-                    probe,
-                }),
-            },
+        match found {
+            Some(probe) => Ok(Home {
+                asked: loader,
+                name,
+                absent,
+                probe,
+            }),
+            None => Err(Unfound {
+                asked: loader,
+                name,
+                absent,
+            }),
         }
     }
 }
 
-/// Where a search found a name: the loader whose own content answered, with its bytes.
+/// Where a search found a name: the loader whose own content answered, with its bytes, and the probes before.
 #[derive(Drop)]
 pub struct Home<T: Told> {
     asked: LoaderId,
     name: Name,
+    absent: Vec<Probe<T>>,
     probe: Probe<T>,
 }
 
@@ -138,9 +158,9 @@ impl<T: Told> Model for Home<T> {
 
     ghost Value = { Located };
 
-    ghost view = { λ h. record { asked = h.asked; place = h.probe.loader; name = h.name; bytes = unwrap_or h.probe.bytes [] } };
+    ghost view = { λ h. record { asked = h.asked; place = h.probe.loader; name = h.name; bytes = unwrap_or h.probe.bytes []; absent = h.absent.items } };
 
-    ghost invariant = { λ h. (h.probe.loader ≡ h.asked) × (h.probe.name ≡ h.name) × (h.probe.bytes ≡ Some (unwrap_or h.probe.bytes [])) };
+    ghost invariant = { λ h. (h.probe.name ≡ h.name) × (h.probe.bytes ≡ Some (unwrap_or h.probe.bytes [])) };
 }
 
 impl<T: Told> Home<T> {
@@ -176,6 +196,13 @@ impl<T: Told> Home<T> {
         }
     }
 
+    /// The probes that found nothing, in order.
+    pub fn absent(&self) -> &[Probe<T>]
+        ensures { result.now ≡ self.now.absent }
+    {
+        self.absent.as_slice()
+    }
+
     /// The name, given up by the home.
     pub fn into_name(self) -> Name
         ensures { result ≡ self.name }
@@ -184,23 +211,20 @@ impl<T: Told> Home<T> {
     }
 }
 
-/// A name that no loader has, of those that the search asked.
+/// A name that no loader has, of those that the search asked, with all probes.
 #[derive(Drop)]
 pub struct Unfound<T: Told> {
     asked: LoaderId,
     name: Name,
-    probe: Probe<T>,
+    absent: Vec<Probe<T>>,
 }
 
 impl<T: Told> Model for Unfound<T> {
-    ghost use Rattle.std.specs.Prelude.{◌≡◌, None};
     ghost use Rattle.cl_delegation.specs.Searches.{Sought};
 
     ghost Value = { Sought };
 
-    ghost view = { λ u. record { asked = u.asked; name = u.name } };
-
-    ghost invariant = { λ u. (u.probe.loader ≡ u.asked) × (u.probe.name ≡ u.name) × (u.probe.bytes ≡ None) };
+    ghost view = { λ u. record { asked = u.asked; name = u.name; absent = u.absent.items } };
 }
 
 impl<T: Told> Unfound<T> {
@@ -213,11 +237,15 @@ impl<T: Told> Unfound<T> {
 
     /// The name that was asked for.
     pub fn name(&self) -> &Name
-        ensures name { result.now ≡ self.now.name }
-        ensures told { IsTold T.told self.now.asked self.now.name None }
+        ensures { result.now ≡ self.now.name }
     {
-        // brings that the probe is what the content has, where one is told
-        let _ = self.probe.outcome();
         &self.name
+    }
+
+    /// The probes, in order, none of which found anything.
+    pub fn absent(&self) -> &[Probe<T>]
+        ensures { result.now ≡ self.now.absent }
+    {
+        self.absent.as_slice()
     }
 }

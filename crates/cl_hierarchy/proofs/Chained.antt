@@ -1,5 +1,5 @@
 -- What a walk keeps is a chain of the linkage machine, where a content is told.
-use Rattle.std.proofs.Common.{◌≡◌, ◌<◌, ◌∙◌, ℕ, Bool, ◌||◌, List, [], ◌∷◌, length, map, Option, Some, None, Ok, Err, refl, sym, ap, subst}
+use Rattle.std.proofs.Common.{◌≡◌, ◌∙◌, ℕ, Bool, ◌||◌, List, [], ◌∷◌, map, Option, Some, None, Ok, Err, refl, sym, ap, subst}
 use Rattle.std.specs.Prelude.{if◌then◌else◌}
 use Rattle.std.specs.List.{AllByRecursion}
 use Rattle.std.proofs.lemmas.Cmp.{nat_eq_equiv, nat_list_eq_equiv}
@@ -15,7 +15,6 @@ use Rattle.cl_model.specs.Worlds.{seen}
 use Rattle.cl_delegation.specs.Worlds.{world_of}
 use Rattle.cl_hierarchy.specs.Drafts.{Drafted, IsDraft}
 use Rattle.cl_hierarchy.specs.Walks.{has, Distinct, head_or, Walked, names, root, Linked, DraftAt, IsWalk}
-use Rattle.cl_delegation.proofs.Homes.{leads_home}
 
 -- ---- the file of what a loader's own content has
 
@@ -29,17 +28,13 @@ file_found w c bytes at stored =
 named_so : (c : Class) (f : File) → f.name ≡ c.name → named c (Ok f) ≡ Ok f
 named_so c f e = ap (λ (b : Bool). if b then Ok f else Err (NoClassDef c)) (ap (λ (n : List ℕ). same_name n c.name) e ∙ nat_list_eq_equiv.refl c.name)
 
-module _ (c : Configured) (content : Content) (one : length c.names ≡ 1) where
-  -- one loader finds what its own content has
-  pub at_home : (loader : ℕ) (name bytes : List ℕ) → loader < length c.names → content_at content loader name ≡ Some bytes → home (world_of c content) loader name ≡ Some loader
-  at_home loader name bytes below stored = leads_home (Some content) c loader loader name bytes one below refl stored
-
-  pub draft_file : (d : Drafted) → d.class.loader < length c.names → IsDraft (Some content) d → HasFile (world_of c content) d.class (file_of d.file)
-  draft_file d below draft =
-      let w = world_of c content in
-      file_found w d.class draft.bytes (at_home d.class.loader d.class.name draft.bytes below draft.told_so) draft.told_so
-      ∙ ap (λ r. named d.class (seen r)) draft.read
-      ∙ named_so d.class (file_of d.file) draft.named
+-- where a class is at home, its draft has its file
+pub draft_file : (c : Configured) (content : Content) (d : Drafted) → home (world_of c content) d.class.loader d.class.name ≡ Some d.class.loader → IsDraft (Some content) d → HasFile (world_of c content) d.class (file_of d.file)
+draft_file c content d at draft =
+    let w = world_of c content in
+    file_found w d.class draft.bytes at draft.told_so
+    ∙ ap (λ r. named d.class (seen r)) draft.read
+    ∙ named_so d.class (file_of d.file) draft.named
 
 -- ---- what waits
 
@@ -65,18 +60,22 @@ waits_once told w walk = once w.drafts walk.distinct
 pub root_waits : (w : Walked) → first_or (map waiting w.drafts) w.at ≡ root w
 root_waits w = first_waiting w.drafts w.at
 
-module _ (c : Configured) (content : Content) (one : length c.names ≡ 1) where
-  linked : (loader : ℕ) (ds : List Drafted) (at : List ℕ) → loader < length c.names → AllByRecursion (DraftAt (Some content) loader) ds → Linked ds at → IsAscent (world_of c content) loader (map waiting ds) at
-  linked loader [] at below drafts links = tt
-  linked loader (d ∷ ds) at below drafts links =
+module _ (c : Configured) (content : Content) where
+  -- a class is at home with the loader
+  abbrev pub AtLoader : ℕ → Drafted → Type 0
+  AtLoader loader d = home (world_of c content) loader d.class.name ≡ Some loader
+
+  linked : (loader : ℕ) (ds : List Drafted) (at : List ℕ) → AllByRecursion (AtLoader loader) ds → AllByRecursion (DraftAt (Some content) loader) ds → Linked ds at → IsAscent (world_of c content) loader (map waiting ds) at
+  linked loader [] at homes drafts links = tt
+  linked loader (d ∷ ds) at homes drafts links =
       let w = world_of c content in
-      let file : HasFile w d.class (file_of d.file) = draft_file c content one d (subst (λ (l : ℕ). l < length c.names) (sym drafts.0.placed) below) drafts.0.draft in (
+      let file : HasFile w d.class (file_of d.file) = draft_file c content d (subst (λ (l : ℕ). home w l d.class.name ≡ Some l) (sym drafts.0.placed) homes.0) drafts.0.draft in (
         record {
           has_file = subst (λ (l : ℕ). HasFile w (class d.class.name l) (file_of d.file)) drafts.0.placed file;
           superclass = links.0 ∙ ap (λ (n : List ℕ). Some n) (sym (first_waiting ds at));
         },
-        linked loader ds at below drafts.1 links.1,
+        linked loader ds at homes.1 drafts.1 links.1,
       )
 
-  pub walk_is_chain : (w : Walked) → w.loader < length c.names → IsWalk (Some content) w → IsAscent (world_of c content) w.loader (map waiting w.drafts) w.at
-  walk_is_chain w below walk = linked w.loader w.drafts w.at below walk.drafts walk.linked
+  pub walk_is_chain : (w : Walked) → AllByRecursion (AtLoader w.loader) w.drafts → IsWalk (Some content) w → IsAscent (world_of c content) w.loader (map waiting w.drafts) w.at
+  walk_is_chain w homes walk = linked w.loader w.drafts w.at homes walk.drafts walk.linked

@@ -1,3 +1,4 @@
 pub mod Drafting
 pub mod Chained
 pub mod Walks
+pub mod Frames

@@ -1,12 +1,14 @@
-ghost use Rattle.std.specs.Prelude.{◌≡◌, MatchResult, Ok, Some};
+ghost use Rattle.std.specs.Prelude.{◌≡◌, MatchResult, Ok, Some, slice_get};
+ghost use Rattle.cl_model.specs.Classes.{supers};
+ghost use Rattle.cl_hierarchy.specs.Supertypes.{plain_supertype};
 ghost use Rattle.std.specs.Option.{option_map};
 ghost use Rattle.cl_classfile.specs.Files.{file_of};
-ghost use Rattle.cl_classfile.specs.Checking.{Gives};
-ghost use Rattle.cl_delegation.specs.Bounds.{drafted_of, is_public_class};
+ghost use Rattle.cl_classfile.specs.Reading.{read_of};
 ghost use Rattle.cl_hierarchy.specs.Drafts.{IsDraft, IsWrong, fault_as};
 ghost use Rattle.cl_hierarchy.specs.DraftReads.{ReadAs};
 ghost use Rattle.cl_source.specs.Told.{IsTold};
 
+use crate::supertype::{Supertype, supertype_of};
 use cl_classfile::{ClassFile, Fault, ReadError};
 use cl_delegation::Home;
 use cl_model::{Class, Told};
@@ -19,7 +21,7 @@ use thiserror::Error;
 /// What is wrong with the bytes of a home (JVMS SE 8, 5.3.5).
 #[derive(Clone, Copy, Debug, PartialEq, Eq, Error)]
 pub enum DraftFault {
-    /// They spell no class file that is derived, for another cause than the version.
+    /// They spell no class file, for another cause than the version.
     #[error("H1 Format {0}")]
     Format(Fault),
     /// The version is not 52.0.
@@ -97,7 +99,7 @@ fn draft_of<T: Told>(
     file: ClassFile,
 ) -> Result<Draft<T>, DraftRefused<T>>
     requires told { IsTold T.told home.place home.name (Some home.bytes) }
-    requires file { drafted_of home.bytes ≡ Ok file }
+    requires file { read_of home.bytes ≡ Ok file }
     requires named { (file_of file).name ≡ home.name }
     ensures { ReadAs home result }
 {
@@ -116,13 +118,10 @@ fn draft_of<T: Told>(
 
 impl<T: Told> Draft<T> {
     /// The class that a home's bytes spell (JVMS SE 8, 5.3.5).
-    ///
-    /// For now a file that is not of a public class is refused as one with bad flags, and one with interfaces as one
-    /// with a bad supertype.
     pub fn read(alloc: Global, home: Home<T>) -> Result<Draft<T>, DraftRefused<T>>
         ensures { ReadAs home result }
     {
-        match read_derivable(alloc, home.bytes()) {
+        match cl_classfile::read(alloc, home.bytes()) {
             Err(ReadError::Memory) => Err(DraftRefused::Memory(home)),
             Err(ReadError::Fault(fault)) => Err(refuse(home, fault_of(fault))),
             Ok(file) if file.this_name() != home.name() => {
@@ -147,33 +146,21 @@ impl<T: Told> Draft<T> {
         self.file.super_name()
     }
 
+    /// A direct supertype, counted from 0: the superclass, where there is one, and then the superinterfaces in order
+    /// (JVMS SE 8, 5.3.5, steps 3 and 4).
+    pub fn supertype(&self, place: usize) -> Option<Supertype<'_>>
+        ensures name { option_map plain_supertype result ≡ slice_get (supers (file_of self.now.file)) place }
+        ensures draft { IsDraft T.told self.now }
+    {
+        supertype_of(&self.file, place)
+    }
+
     /// The class's file.
     pub fn file(&self) -> &Arc<ClassFile>
         ensures { result.now.value ≡ self.now.file }
     {
         &self.file
     }
-}
-
-/// Whether a file is of a public class that is no interface.
-fn is_public_class(file: &ClassFile) -> bool
-    ensures { result ≡ is_public_class (file_of file.now) }
-{
-    file.is_public() && !file.is_interface()
-}
-
-/// The file that the bytes spell, where it is one that is derived.
-fn read_derivable(alloc: Global, bytes: &[u8]) -> Result<ClassFile, ReadError>
-    ensures { Gives (λ f. f) result (drafted_of bytes.now) }
-{
-    let file = cl_classfile::read(alloc, bytes)?;
-    if !is_public_class(&file) {
-        return Err(ReadError::Fault(Fault::BadFlags));
-    }
-    if !file.interfaces().is_empty() {
-        return Err(ReadError::Fault(Fault::BadSupertype));
-    }
-    Ok(file)
 }
 
 fn refuse<T: Told>(home: Home<T>, fault: DraftFault) -> DraftRefused<T>

@@ -33,6 +33,8 @@ verdict_texts loaders (verdicts.TheVariants.Error kinds.NoClassDefFoundError c) 
 verdict_texts loaders (verdicts.TheVariants.Error kinds.ClassFormatError c) = after (codes "ClassFormatError ") loaders c
 verdict_texts loaders (verdicts.TheVariants.Error kinds.UnsupportedClassVersionError c) = after (codes "UnsupportedClassVersionError ") loaders c
 verdict_texts loaders (verdicts.TheVariants.Error kinds.ClassCircularityError c) = after (codes "ClassCircularityError ") loaders c
+verdict_texts loaders (verdicts.TheVariants.Error kinds.IllegalAccessError c) = after (codes "IllegalAccessError ") loaders c
+verdict_texts loaders (verdicts.TheVariants.Error kinds.IncompatibleClassChangeError c) = after (codes "IncompatibleClassChangeError ") loaders c
 
 pub answer_texts : (loaders : List (List ℕ)) (a : answers.Answer) → texts.answer_text loaders a ≡ lines.answer_text loaders (answer_of a)
 answer_texts loaders (answers.TheVariants.Said v) = verdict_texts loaders v
@@ -43,6 +45,12 @@ post_line : (loaders : List (List ℕ)) (q : ℕ) (a : Option Answer) → None �
 post_line loaders q None = refl
 post_line loaders q (Some a) = refl
 
+initiated : (loaders : List (List ℕ)) (name : List ℕ) (place loader : ℕ) → texts.initiate_text loaders (record { name = name; loader = place }) loader
+    ≡ codes "initiate " ++ (escaped name ++ (codes " " ++ (lines.loader_text loaders place ++ (codes " by " ++ lines.loader_text loaders loader))))
+initiated loaders name place loader = rw (name_at loaders place, name_at loaders loader) refl
+
 pub event_texts : (loaders : List (List ℕ)) (given : List (Option Answer)) (e : events.Event) → texts.event_text loaders e ≡ lines.line loaders (step_of given e)
 event_texts loaders given (events.TheVariants.Define c) = ap (λ (r : List ℕ). Some r) (after (codes "define ") loaders c)
+event_texts loaders given (events.TheVariants.Initiate c loader) = ap (λ (r : List ℕ). Some r) (initiated loaders c.name c.loader loader)
+event_texts loaders given events.TheVariants.NextRound = refl
 event_texts loaders given (events.TheVariants.Post q) = post_line loaders q (answer_at given q)

@@ -26,6 +26,8 @@ kind_text kinds.NoClassDefFoundError = codes "NoClassDefFoundError"
 kind_text kinds.ClassFormatError = codes "ClassFormatError"
 kind_text kinds.UnsupportedClassVersionError = codes "UnsupportedClassVersionError"
 kind_text kinds.ClassCircularityError = codes "ClassCircularityError"
+kind_text kinds.IllegalAccessError = codes "IllegalAccessError"
+kind_text kinds.IncompatibleClassChangeError = codes "IncompatibleClassChangeError"
 
 -- the text of a verdict (own choice)
 abbrev pub verdict_text : List (List ℕ) → Verdict → List ℕ
@@ -38,9 +40,16 @@ answer_text loaders (answers.Said verdict) = verdict_text loaders verdict
 answer_text loaders answers.Memory = codes "OutOfMemory"
 answer_text loaders (answers.SourceFault name loader) = codes "SourceFault " ++ located_text loaders name loader
 
--- the line of an event, but for its end; a post has none (own choice)
+-- the record of a class that another loader defined: the name, the one that defined it, and the one that was asked (5.3)
+abbrev pub initiate_text : List (List ℕ) → Class → ℕ → List ℕ
+initiate_text loaders c loader =
+    codes "initiate " ++ (escaped c.name ++ (codes " " ++ (slice_index_or loaders c.loader [] ++ (codes " by " ++ slice_index_or loaders loader []))))
+
+-- the line of an event, but for its end; the end of a round and a post have none (own choice)
 abbrev pub event_text : List (List ℕ) → Event → Option (List ℕ)
 event_text loaders (events.Define c) = Some (codes "define " ++ class_text loaders c)
+event_text loaders (events.Initiate c loader) = Some (initiate_text loaders c loader)
+event_text loaders events.NextRound = None
 event_text loaders (events.Post q) = None
 
 -- ---- which loaders a value names; all of them are below a count
@@ -59,4 +68,6 @@ AnswerNames count (answers.SourceFault name loader) = loader < count
 -- each loader of an event is below a count (own choice of form)
 abbrev pub EventNames : ℕ → Event → Type 0
 EventNames count (events.Define c) = c.loader < count
+EventNames count (events.Initiate c loader) = (c.loader < count) × (loader < count)
+EventNames count events.NextRound = ⊤
 EventNames count (events.Post q) = ⊤

@@ -7,10 +7,10 @@ use Rattle.cl_model.specs.declared.verdict.Verdict as verdicts
 use Rattle.cl_model.specs.declared.answer.Answer as answers
 use Rattle.cl_model.specs.declared.request.Request as requests
 use Rattle.cl_model.specs.declared.event.Event as events
-use Rattle.cl_model.specs.Classes.{Error, ClassNotFound, NoClassDef, ClassFormat, UnsupportedVersion, ClassCircularity}
+use Rattle.cl_model.specs.Classes.{Error, ClassNotFound, NoClassDef, ClassFormat, UnsupportedVersion, ClassCircularity, IllegalAccess, IncompatibleClassChange}
 use Rattle.cl_model.specs.States.{Verdict, IsClass, Wrong, Answer, Said, OutOfMemory, SourceFault}
 use Rattle.cl_model.specs.Plans.{Request, Load}
-use Rattle.cl_model.specs.Machine.{Step, Define, Post, Stray}
+use Rattle.cl_model.specs.Machine.{Step, Define, Initiate, Post, NextRound, Stray}
 
 -- an error of a kind, about a class (5.3.5, 5.4.3)
 abbrev pub error_of : ErrorKind → Class → Error
@@ -19,6 +19,8 @@ error_of kinds.NoClassDefFoundError c = NoClassDef c
 error_of kinds.ClassFormatError c = ClassFormat c
 error_of kinds.UnsupportedClassVersionError c = UnsupportedVersion c
 error_of kinds.ClassCircularityError c = ClassCircularity c
+error_of kinds.IllegalAccessError c = IllegalAccess c
+error_of kinds.IncompatibleClassChangeError c = IncompatibleClassChange c
 
 -- a verdict of today, as the machine has it (5.3.5)
 abbrev pub verdict_of : verdicts.Verdict → Verdict
@@ -48,9 +50,11 @@ post_of q (Some a) = Post q a
 abbrev pub answer_at : List (Option Answer) → ℕ → Option Answer
 answer_at given q = option_and_then (λ a. a) (slice_get given q)
 
--- the step that an event tells (5.3.5)
+-- the step that an event tells (5.3, 5.3.5)
 abbrev pub step_of : List (Option Answer) → events.Event → Step
 step_of given (events.TheVariants.Define c) = Define c
+step_of given (events.TheVariants.Initiate c loader) = Initiate c.name c.loader loader
+step_of given events.TheVariants.NextRound = NextRound
 step_of given (events.TheVariants.Post q) = post_of q (answer_at given q)
 
 -- the steps that a history tells, where a post's answer stands in the answers at its number (own choice)
@@ -60,4 +64,6 @@ steps_of given history = map (step_of given) history
 -- an event that is no post of this request (own choice)
 abbrev pub IsOther : ℕ → events.Event → Type 0
 IsOther q (events.TheVariants.Define c) = Unit {0}
+IsOther q (events.TheVariants.Initiate c loader) = Unit {0}
+IsOther q events.TheVariants.NextRound = Unit {0}
 IsOther q (events.TheVariants.Post p) = p ≢ q

@@ -5,6 +5,7 @@ mod answer;
 mod class;
 mod event;
 pub mod examples;
+pub mod frame_laws;
 pub mod laws;
 mod loader;
 mod request;

@@ -12,6 +12,8 @@ pub enum ErrorKind {
     ClassFormatError,
     UnsupportedClassVersionError,
     ClassCircularityError,
+    IllegalAccessError,
+    IncompatibleClassChangeError,
 }
 
 impl fmt::Display for ErrorKind {
@@ -27,6 +29,8 @@ impl fmt::Display for ErrorKind {
             ErrorKind::ClassFormatError => "ClassFormatError",
             ErrorKind::UnsupportedClassVersionError => "UnsupportedClassVersionError",
             ErrorKind::ClassCircularityError => "ClassCircularityError",
+            ErrorKind::IllegalAccessError => "IllegalAccessError",
+            ErrorKind::IncompatibleClassChangeError => "IncompatibleClassChangeError",
         })
     }
 }

@@ -7,6 +7,7 @@ ghost use Rattle.cl_source.specs.Directories.{path_of, path_in, AnswerOf, ReadsA
 
 use crate::files::ReadFile;
 use crate::source::{ClassBytes, Outcome, Probe, Source, SourceFault};
+use cl_config::Config;
 use cl_model::{LoaderId, Untold};
 use cl_names::Name;
 use cl_streams::InputFault;
@@ -29,8 +30,18 @@ pub struct DirSource<F: ReadFile> {
 }
 
 impl<F: ReadFile> DirSource<F> {
+    /// The directories that a configuration has for its loaders, in order, of these files. Only memory refuses it.
+    pub fn new(alloc: Global, files: F, config: &Config) -> Result<DirSource<F>, SourceFault>
+        ensures fault { IfErr result (λ e. e ≡ SourceFault.Memory) }
+        ensures files { IfOk result (λ s. s.files ≡ files) }
+        ensures dirs { IfOk result (λ s. map string_bytes s.dirs.items ≡ map (λ l. l.dir) config.now.loaders) }
+        ensures own { IfOk result (λ s. s.failures ≡ 0) }
+    {
+        Ok(DirSource::over(files, config.directories(alloc)?))
+    }
+
     /// These directories of these files, one for each loader, in order. An empty one is the working directory.
-    pub fn new(files: F, dirs: Vec<String>) -> DirSource<F>
+    pub fn over(files: F, dirs: Vec<String>) -> DirSource<F>
         ensures { result ≡ record { files = files; dirs = dirs; failures = 0 } }
     {
         DirSource {

@@ -33,7 +33,7 @@ pub fn show_over<F: ReadFile, W: Write>(
 fn source_of<F: ReadFile>(files: &F, alloc: Global, dir: &str) -> Result<DirSource<F>, AllocError> {
     let mut dirs = Vec::with_capacity(alloc, 1)?;
     dirs.push(String::from_str(alloc, dir)?)?;
-    Ok(DirSource::new(files.another(alloc)?, dirs))
+    Ok(DirSource::over(files.another(alloc)?, dirs))
 }
 
 /// Writes what a directory has for a name.

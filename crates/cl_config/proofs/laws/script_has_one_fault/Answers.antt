@@ -1,4 +1,4 @@
-use Rattle.cl_config.proofs.Asked.{script_has_one_fault}
+use Rattle.cl_config.proofs.Stops.{script_has_one_fault}
 use Rattle.cl_config.proofs.laws.script_has_one_fault.Goals as goal
 
 pub returns : goal.returns

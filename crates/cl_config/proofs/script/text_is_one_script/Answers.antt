@@ -1,4 +1,4 @@
-use Rattle.cl_config.proofs.Asked.{one_scripted}
+use Rattle.cl_config.proofs.Stops.{one_scripted}
 use Rattle.cl_config.proofs.script.text_is_one_script.Goals as goal
 
 pub returns : goal.returns

@@ -1,0 +1,79 @@
+-- Which tables are loaders, and what they say, each parent and import still by its name (own choice; JVMS SE 8, 5.3.2).
+use Rattle.std.specs.Prelude.{ℕ, Bool, not, ◌&&◌, ◌||◌, ◌==◌, nat_le, nat_lt, nat_eq, if◌then◌else◌, List, [], ◌∷◌, length, codes, Option, Some, None, Result, Ok, Err}
+use Rattle.std.specs.List.{list_any, list_all}
+use Rattle.std.specs.Cmp.Lexicographic.{pointwise}
+use Rattle.toml.specs.Data.{Data, as_array, Items, get_member}
+use Rattle.cl_config.specs.declared.fault.ConfigFault.{ConfigFault}
+use Rattle.cl_config.specs.declared.fault.ConfigFault.TheVariants.{BadLoader, TooMany}
+use Rattle.cl_config.specs.declared.order.Order.{Order}
+use Rattle.cl_config.specs.Steps.{◌>>=◌}
+use Rattle.cl_config.specs.Fields.{is_one_of, required, table_of, text_of, optional_text, name_of, order_of, or_else, each_from}
+
+-- the most imports of a loader
+abbrev pub most_imports : ℕ
+most_imports = 64
+
+-- the most bytes of a loader's name
+abbrev pub most_name_bytes : ℕ
+most_name_bytes = 64
+
+-- an import: what the names begin with, and the name of the loader that has them (5.3.2)
+pub record EntryImport : Type 0 where
+  pub prefix : List ℕ
+  pub from : List ℕ
+
+-- what a table says of a loader
+pub record Entry : Type 0 where
+  pub name : List ℕ
+  pub dir : List ℕ
+  pub parent : Option (List ℕ)
+  pub order : Order
+  pub imports : List EntryImport
+
+-- the keys of an import
+abbrev pub import_keys : List (List ℕ)
+import_keys = codes "prefix" ∷ codes "from" ∷ []
+
+-- the keys of a loader
+abbrev pub loader_keys : List (List ℕ)
+loader_keys = codes "name" ∷ codes "dir" ∷ codes "parent" ∷ codes "order" ∷ codes "imports" ∷ []
+
+-- an import, of the loader whose fault this is
+unfoldable pub import_at : ConfigFault → Data → Result EntryImport ConfigFault
+import_at wrong d = do
+  ms ← table_of wrong (is_one_of import_keys) d
+  prefix ← name_of wrong (get_member (codes "prefix") ms)
+  from ← text_of wrong (get_member (codes "from") ms)
+  Ok (record { prefix = prefix; from = from })
+
+-- the imports, none where they are left out
+abbrev pub imports_at : ConfigFault → Option Data → Result (List EntryImport) ConfigFault
+imports_at wrong None = Ok []
+imports_at wrong (Some d) = required wrong (as_array d) >>= λ ds. each_from (λ before. import_at wrong) [] ds
+
+-- a byte of a loader's name
+abbrev pub is_name_byte : ℕ → Bool
+is_name_byte b = (nat_le 65 b && nat_le b 90) || (nat_le 97 b && nat_le b 122) || (nat_le 48 b && nat_le b 57) || (b == 95) || (b == 45)
+
+-- a name that no earlier loader has
+abbrev pub is_new_name : List Entry → List ℕ → Bool
+is_new_name before name = nat_le 1 (length name) && nat_le (length name) most_name_bytes && list_all is_name_byte name && not (list_any (λ e. pointwise nat_eq e.name name) before)
+
+-- a loader, where it has not too many imports
+abbrev pub unless_many : Entry → Result Entry ConfigFault
+unless_many entry = if nat_lt most_imports (length entry.imports) then Err TooMany else Ok entry
+
+-- what a table says of a loader, behind those before it
+unfoldable pub entry_of : ConfigFault → List Entry → Data → Result Entry ConfigFault
+entry_of wrong before d = do
+  ms ← table_of wrong (is_one_of loader_keys) d
+  name ← text_of wrong (get_member (codes "name") ms)
+  dir ← optional_text wrong (get_member (codes "dir") ms)
+  parent ← optional_text wrong (get_member (codes "parent") ms)
+  order ← order_of wrong (get_member (codes "order") ms)
+  imports ← imports_at wrong (get_member (codes "imports") ms)
+  if is_new_name before name then unless_many (record { name = name; dir = or_else name dir; parent = parent; order = order; imports = imports }) else Err wrong
+
+-- the loaders, each behind those before it
+abbrev pub entries_of : Items → Result (List Entry) ConfigFault
+entries_of ds = each_from (λ before. entry_of (BadLoader (length before)) before) [] ds

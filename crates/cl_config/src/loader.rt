@@ -1,0 +1,222 @@
+//! Loaders, each parent and import by its number.
+
+ghost use Rattle.std.specs.Prelude.{◌≡◌, ◌<◌, ◌≤◌, ◌^◌, [], length, nat_eq, Ok, IfOk};
+ghost use Rattle.std.specs.Cmp.Lexicographic.{pointwise};
+ghost use Rattle.cl_config.specs.Configs.{place_of, earlier, parent_of, import_of, imports_of, loader_of, loaders_of, AllLeadBelow};
+ghost use Rattle.cl_config.specs.Steps.{Finds, Gives};
+
+use crate::entry::{Entry, EntryImport};
+use crate::fault::{ConfigError, ConfigFault};
+use crate::fields::Text;
+use crate::order::Order;
+use cl_model::LoaderId;
+use cl_names::Name;
+use std::alloc::Global;
+use std::marker::Model;
+
+/// Names that begin with a prefix, which are searched at one loader alone (JVMS SE 8, 5.3.2).
+#[derive(Debug, Drop)]
+pub struct Import {
+    prefix: Name,
+    target: LoaderId,
+}
+
+impl Model for Import {
+    ghost use Rattle.cl_config.specs.Views.{Import as Shown};
+
+    ghost Value = { Shown };
+
+    ghost view = { λ m. record { prefix = m.prefix; target = m.target } };
+}
+
+impl Import {
+    /// What the names begin with.
+    pub fn prefix(&self) -> &Name
+        ensures { result.now ≡ self.now.prefix }
+    {
+        &self.prefix
+    }
+
+    /// The loader that has them.
+    pub fn target(&self) -> LoaderId
+        ensures { result ≡ self.now.target }
+    {
+        self.target
+    }
+}
+
+/// The imports of a loader, in order.
+#[derive(Debug, Drop)]
+pub struct Imports {
+    items: Vec<Import>,
+}
+
+impl Model for Imports {
+    ghost use Rattle.std.specs.Prelude.{List};
+    ghost use Rattle.cl_config.specs.Views.{Import as Shown};
+
+    ghost Value = { List Shown };
+
+    ghost view = { λ m. m.items.items };
+}
+
+/// A loader: its name, the directory of its own content, whom it asks and when, and what it takes from where (JVMS SE 8,
+/// 5.3, 5.3.2).
+#[derive(Debug, Drop)]
+pub struct Loader {
+    name: Text,
+    dir: Text,
+    parent: Option<LoaderId>,
+    order: Order,
+    imports: Imports,
+}
+
+impl Model for Loader {
+    ghost use Rattle.cl_config.specs.Views.{Loader as Shown};
+
+    ghost Value = { Shown };
+
+    ghost view = { λ l. record { name = l.name; dir = l.dir; parent = l.parent; order = l.order; imports = l.imports } };
+}
+
+impl Loader {
+    /// Its name.
+    pub fn name(&self) -> &str
+        ensures { result.now ≡ self.now.name }
+    {
+        self.name.as_str()
+    }
+
+    /// The directory of its own content.
+    pub fn dir(&self) -> &str
+        ensures { result.now ≡ self.now.dir }
+    {
+        self.dir.as_str()
+    }
+
+    /// Its parent, if it has one.
+    pub fn parent(&self) -> Option<LoaderId>
+        ensures { result ≡ self.now.parent }
+    {
+        self.parent
+    }
+
+    /// Where it looks first.
+    pub fn order(&self) -> Order
+        ensures { result ≡ self.now.order }
+    {
+        self.order
+    }
+
+    /// Its imports, in order.
+    pub fn imports(&self) -> &[Import]
+        ensures { result.now ≡ self.now.imports }
+    {
+        self.imports.items.as_slice()
+    }
+}
+
+/// The place of the first loader of this name.
+fn place_of(entries: &[Entry], name: &str) -> Option<usize>
+    ensures { result ≡ place_of entries.now name.now }
+{
+    entries.iter().position(|entry| entry.name() == name)
+}
+
+/// The loader of this name, where it stands before loader `i`.
+fn earlier(entries: &[Entry], i: usize, name: &str) -> Result<LoaderId, ConfigFault>
+    requires { i < 64 }
+    ensures { Finds (λ p. p) result (earlier i (place_of entries.now name.now)) }
+{
+    match place_of(entries, name) {
+        None => Err(ConfigFault::UnknownLoader(i as u32)),
+        Some(place) if place < i => Ok(LoaderId(place as u16)),
+        Some(_) => Err(ConfigFault::LaterLoader(i as u32)),
+    }
+}
+
+/// The parent of loader `i`.
+fn parent_of(
+    entries: &[Entry],
+    i: usize,
+    parent: &Option<Text>,
+) -> Result<Option<LoaderId>, ConfigFault>
+    requires { i < 64 }
+    ensures { Finds (λ p. p) result (parent_of entries.now i parent.now) }
+{
+    match parent {
+        None => Ok(None),
+        Some(name) => Ok(Some(earlier(entries, i, name.as_str())?)),
+    }
+}
+
+/// An import of loader `i`.
+#[tactic(auto, unfolding(crate::specs::Configs::import_of))]
+fn import_of(
+    alloc: Global,
+    entries: &[Entry],
+    i: usize,
+    import: &EntryImport,
+) -> Result<Import, ConfigError>
+    requires { i < 64 }
+    ensures { Gives (λ x. x) result (import_of entries.now i import.now) }
+{
+    let target = earlier(entries, i, import.from())?;
+    let prefix = import.prefix().try_clone(alloc)?;
+    Ok(Import { prefix, target })
+}
+
+/// The imports of loader `i`.
+fn imports_of(
+    alloc: Global,
+    entries: &[Entry],
+    i: usize,
+    imports: &[EntryImport],
+) -> Result<Imports, ConfigError>
+    requires { i < 64 }
+    ensures { Gives (λ x. x) result (imports_of entries.now i imports.now) }
+{
+    let mut items = Vec::with_capacity(alloc, imports.len())?;
+    for import in imports {
+        items.push(import_of(alloc, entries, i, import)?)?;
+    }
+    Ok(Imports { items })
+}
+
+/// Loader `i`.
+#[tactic(auto, unfolding(crate::specs::Configs::loader_of))]
+fn loader_of(
+    alloc: Global,
+    entries: &[Entry],
+    i: usize,
+    entry: &Entry,
+) -> Result<Loader, ConfigError>
+    requires { i < 64 }
+    ensures { Gives (λ x. x) result (loader_of entries.now i entry.now) }
+{
+    let parent = parent_of(entries, i, entry.parent())?;
+    let imports = imports_of(alloc, entries, i, entry.imports())?;
+    Ok(Loader {
+        name: Text::new(alloc, entry.name())?,
+        dir: Text::new(alloc, entry.dir())?,
+        parent,
+        order: entry.order(),
+        imports,
+    })
+}
+
+/// Each loader, in order.
+pub(crate) fn loaders_of(alloc: Global, entries: &[Entry]) -> Result<Vec<Loader>, ConfigError>
+    requires { length entries.now ≤ 64 }
+    ensures read { Gives (λ v. v.items) result (loaders_of entries.now) }
+    ensures count { IfOk result (λ v. length v.items ≡ length entries.now) }
+    ensures below { IfOk result (λ v. AllLeadBelow 0 v.items) }
+{
+    let mut loaders = Vec::new(alloc);
+    for entry in entries {
+        let before = loaders.as_slice();
+        let loader = loader_of(alloc, entries, before.len(), entry)?;
+        loaders.push(loader)?;
+    }
+    Ok(loaders)
+}

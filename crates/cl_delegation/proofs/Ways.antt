@@ -1,0 +1,162 @@
+-- One step of the route that a configuration gives.
+use Rattle.std.proofs.Common.{◌≡◌, ℕ, zero, suc, ◌+◌, ◌<◌, ◌==◌, nat_eq, Bool, true, false, cond, List, [], ◌∷◌, ◌++◌, map, length, Option, Some, None, option_map, refl, sym, ap, subst, ◌∙◌, arith, append-nil}
+use Rattle.std.specs.Prelude.{find, flat_map, slice_get, All, IfSome}
+use Rattle.std.specs.List.{AllByRecursion}
+use Rattle.std.proofs.lemmas.List.Elements.{recursion_from_All}
+use Rattle.std.specs.List.{starts_with}
+use Rattle.std.proofs.lemmas.Bool.Decides.{nat_tests}
+use Rattle.std.proofs.lemmas.Option.{slice_get-map}
+use Rattle.cl_classfile.specs.Files.{Name}
+use Rattle.cl_model.specs.Homes.{decisive}
+use Rattle.cl_model.specs.Homes as homes
+use Rattle.cl_config.specs.declared.order.Order.{Order}
+use Rattle.cl_config.specs.declared.order.Order.TheVariants.{ParentFirst, ChildFirst}
+use Rattle.cl_config.specs.Views.{Configured, Loader, Import}
+use Rattle.cl_config.specs.Loaders.{parents_of, order_of, loader_of, loaders_of}
+use Rattle.cl_delegation.specs.Routes.{in_turn, route_at, routed, route_below, route_from}
+
+here : (n : ℕ) → (n == n) ≡ true
+here n = grind (arith, nat_tests)
+
+at_case : (ls : List homes.Loader) (name : Name) (n : ℕ) (b : Bool) → b ≡ true
+    → (elim b [ true ↦ routed (option_map (route_at name (route_below ls name n) n) (slice_get ls n)) | false ↦ route_below ls name n n ]) ≡ routed (option_map (route_at name (route_below ls name n) n) (slice_get ls n))
+at_case ls name n true e = refl
+at_case ls name n false e = absurd cc
+
+-- the route at a place
+at_place : (ls : List homes.Loader) (name : Name) (n : ℕ) → route_from ls name n ≡ routed (option_map (route_at name (route_below ls name n) n) (slice_get ls n))
+at_place ls name n = at_case ls name n (n == n) (here n)
+
+-- the route at a loader
+at_loader : (ls : List homes.Loader) (name : Name) (n : ℕ) (l : homes.Loader) → slice_get ls n ≡ Some l → route_from ls name n ≡ route_at name (route_below ls name n) n l
+at_loader ls name n l is = at_place ls name n ∙ ap (λ o. routed (option_map (route_at name (route_below ls name n) n) o)) is
+
+-- the routes at earlier loaders do not depend on the later ones
+settle : (ls : List homes.Loader) (name : Name) (n p : ℕ) (b : Bool) → p < suc n → (p == n) ≡ b → (p < n → route_below ls name n p ≡ route_from ls name p)
+    → (elim b [ true ↦ routed (option_map (route_at name (route_below ls name n) n) (slice_get ls n)) | false ↦ route_below ls name n p ]) ≡ route_from ls name p
+settle ls name n p true lt e earlier =
+    let same : n ≡ p = grind (arith, nat_tests) in
+    subst (λ (k : ℕ). routed (option_map (route_at name (route_below ls name k) k) (slice_get ls k)) ≡ route_from ls name p) (sym same) (sym (at_place ls name p))
+settle ls name n p false lt e earlier = let less : p < n = grind (arith, nat_tests) in earlier less
+
+settled : (ls : List homes.Loader) (name : Name) (n p : ℕ) → p < n → route_below ls name n p ≡ route_from ls name p
+settled ls name zero p lt = absurd (omega arith)
+settled ls name (suc n) p lt = settle ls name n p (p == n) lt refl (λ less. settled ls name n p less)
+
+placed : (f : Loader → homes.Loader) (ls : List Loader) (n : ℕ) (l : Loader) → slice_get ls n ≡ Some l → slice_get (map f ls) n ≡ Some (f l)
+placed f ls n l is = slice_get-map f ls n ∙ ap (option_map f) is
+
+abbrev model_import : Import → homes.Import
+model_import m = record { prefix = m.prefix; target = m.target }
+
+decisive_is : (name : Name) (ms : List Import) → decisive (map model_import ms) name ≡ option_map (λ m. m.target) (find (λ m. starts_with nat_eq name m.prefix) ms)
+decisive_is name [] = refl
+decisive_is name (m ∷ ms) =
+    elim (starts_with nat_eq name m.prefix) as (λ b. option_map (λ i. i.target) (cond b (Some (model_import m)) (find (λ i. starts_with nat_eq name i.prefix) (map model_import ms))) ≡ option_map (λ i. i.target) (cond b (Some m) (find (λ i. starts_with nat_eq name i.prefix) ms))) [
+      | true ↦ refl
+      | false ↦ decisive_is name ms
+    ]
+
+decided : (routes : ℕ → List ℕ) (rest : List ℕ) (d : Option ℕ) (t : ℕ) → d ≡ Some t → elim d [ Some target ↦ routes target | None ↦ rest ] ≡ routes t
+decided routes rest None t e = absurd cc
+decided routes rest (Some u) t e = let same : u ≡ t = cc in ap routes same
+
+not_decided : (routes : ℕ → List ℕ) (rest : List ℕ) (d : Option ℕ) → d ≡ None → elim d [ Some target ↦ routes target | None ↦ rest ] ≡ rest
+not_decided routes rest None e = refl
+not_decided routes rest (Some u) e = absurd cc
+
+-- an import decides
+pub by_import : (c : Configured) (name : Name) (n : ℕ) (l : Loader) (m : Import) → slice_get c.loaders n ≡ Some l → find (λ m. starts_with nat_eq name m.prefix) l.imports ≡ Some m → m.target < n
+    → route_from (loaders_of c) name n ≡ route_from (loaders_of c) name m.target
+by_import c name n l m is found lt =
+    let e : decisive (loader_of l).imports name ≡ Some m.target = decisive_is name l.imports ∙ ap (option_map (λ (m : Import). m.target)) found in
+    at_loader (loaders_of c) name n (loader_of l) (placed loader_of c.loaders n l is) ∙ decided (route_below (loaders_of c) name n) _ (decisive (loader_of l).imports name) m.target e ∙ settled (loaders_of c) name n m.target lt
+
+-- no import decides
+undecided : (c : Configured) (name : Name) (n : ℕ) (l : Loader) → slice_get c.loaders n ≡ Some l → find (λ m. starts_with nat_eq name m.prefix) l.imports ≡ None
+    → route_from (loaders_of c) name n ≡ in_turn (order_of l.order) (flat_map (route_below (loaders_of c) name n) (parents_of l.parent)) (n ∷ [])
+undecided c name n l is none =
+    let e : decisive (loader_of l).imports name ≡ None = decisive_is name l.imports ∙ ap (option_map (λ (m : Import). m.target)) none in
+    at_loader (loaders_of c) name n (loader_of l) (placed loader_of c.loaders n l is) ∙ not_decided (route_below (loaders_of c) name n) _ (decisive (loader_of l).imports name) e
+
+alone_turn : (routes : ℕ → List ℕ) (n : ℕ) (o : Order) (p : Option ℕ) → p ≡ None → in_turn (order_of o) (flat_map routes (parents_of p)) (n ∷ []) ≡ n ∷ []
+alone_turn routes n ParentFirst None e = refl
+alone_turn routes n ChildFirst None e = refl
+alone_turn routes n o (Some q) e = absurd cc
+
+parent_turn : (routes : ℕ → List ℕ) (n q : ℕ) (o : Order) (p : Option ℕ) → p ≡ Some q → o ≡ ParentFirst → in_turn (order_of o) (flat_map routes (parents_of p)) (n ∷ []) ≡ routes q ++ n ∷ []
+parent_turn routes n q o None e f = absurd cc
+parent_turn routes n q ChildFirst (Some r) e f = absurd cc
+parent_turn routes n q ParentFirst (Some r) e f = let same : r ≡ q = cc in rw (append-nil (routes r), same) refl
+
+child_turn : (routes : ℕ → List ℕ) (n q : ℕ) (o : Order) (p : Option ℕ) → p ≡ Some q → o ≡ ChildFirst → in_turn (order_of o) (flat_map routes (parents_of p)) (n ∷ []) ≡ n ∷ routes q
+child_turn routes n q o None e f = absurd cc
+child_turn routes n q ParentFirst (Some r) e f = absurd cc
+child_turn routes n q ChildFirst (Some r) e f = let same : r ≡ q = cc in rw (append-nil (routes r), same) refl
+
+pub alone : (c : Configured) (name : Name) (n : ℕ) (l : Loader) → slice_get c.loaders n ≡ Some l → find (λ m. starts_with nat_eq name m.prefix) l.imports ≡ None → l.parent ≡ None → route_from (loaders_of c) name n ≡ n ∷ []
+alone c name n l is none no_parent = undecided c name n l is none ∙ alone_turn (route_below (loaders_of c) name n) n l.order l.parent no_parent
+
+pub parent_first : (c : Configured) (name : Name) (n q : ℕ) (l : Loader) → slice_get c.loaders n ≡ Some l → find (λ m. starts_with nat_eq name m.prefix) l.imports ≡ None → l.parent ≡ Some q → l.order ≡ ParentFirst → q < n
+    → route_from (loaders_of c) name n ≡ route_from (loaders_of c) name q ++ n ∷ []
+parent_first c name n q l is none parent order lt =
+    undecided c name n l is none ∙ parent_turn (route_below (loaders_of c) name n) n q l.order l.parent parent order ∙ ap (λ ms. ms ++ n ∷ []) (settled (loaders_of c) name n q lt)
+
+pub child_first : (c : Configured) (name : Name) (n q : ℕ) (l : Loader) → slice_get c.loaders n ≡ Some l → find (λ m. starts_with nat_eq name m.prefix) l.imports ≡ None → l.parent ≡ Some q → l.order ≡ ChildFirst → q < n
+    → route_from (loaders_of c) name n ≡ n ∷ route_from (loaders_of c) name q
+child_first c name n q l is none parent order lt =
+    undecided c name n l is none ∙ child_turn (route_below (loaders_of c) name n) n q l.order l.parent parent order ∙ ap (λ ms. n ∷ ms) (settled (loaders_of c) name n q lt)
+
+-- ---- what is found among things of which P holds
+
+pick : {A : Type 0} (P : A → Type 0) (b : Bool) (y x : A) (rest : Option A) → P y → (rest ≡ Some x → P x) → cond b (Some y) rest ≡ Some x → P x
+pick P true y x rest here later e = let same : y ≡ x = cc in subst P same here
+pick P false y x rest here later e = later e
+
+find_in : {A : Type 0} (P : A → Type 0) (p : A → Bool) (xs : List A) (x : A) → AllByRecursion P xs → find p xs ≡ Some x → P x
+find_in P p [] x t e = absurd cc
+find_in P p (y ∷ ys) x t e = pick P (p y) y x (find p ys) t.0 (λ later. find_in P p ys x t.1 later) e
+
+-- the loader of a decisive import is an earlier one
+pub target_below : (n : ℕ) (name : Name) (ms : List Import) (m : Import) → All (λ m. m.target < n) ms → find (λ m. starts_with nat_eq name m.prefix) ms ≡ Some m → m.target < n
+target_below n name ms m below found = find_in (λ (m : Import). m.target < n) (λ m. starts_with nat_eq name m.prefix) ms m (recursion_from_All (λ (m : Import). m.target < n) ms below) found
+
+-- ---- the same, of what the readers of a configuration say
+
+loader_in : (ls : List Loader) (n : ℕ) → n < length ls → (l : Loader) × (slice_get ls n ≡ Some l)
+loader_in [] n lt = absurd (omega arith)
+loader_in (l ∷ ls) zero lt = (l, refl)
+loader_in (l ∷ ls) (suc n) lt = loader_in ls n (omega arith)
+
+says : {A : Type 0} (field : Loader → A) (a : A) (o : Option Loader) (l : Loader) → o ≡ Some l → IfSome o (λ l. a ≡ field l) → a ≡ field l
+says field a None l e h = absurd cc
+says field a (Some m) l e h = let same : m ≡ l = cc in h ∙ ap field same
+
+finds : (name : Name) (ms ns : List Import) (o : Option Import) → ms ≡ ns → find (λ m. starts_with nat_eq name m.prefix) ms ≡ o → find (λ m. starts_with nat_eq name m.prefix) ns ≡ o
+finds name ms ns o e h = subst (λ (ks : List Import). find (λ m. starts_with nat_eq name m.prefix) ks ≡ o) e h
+
+pub said_import : (c : Configured) (name : Name) (n : ℕ) (ms : List Import) (m : Import) → n < length c.loaders → IfSome (slice_get c.loaders n) (λ l. ms ≡ l.imports) → find (λ m. starts_with nat_eq name m.prefix) ms ≡ Some m → m.target < n
+    → route_from (loaders_of c) name n ≡ route_from (loaders_of c) name m.target
+said_import c name n ms m lt imports found below =
+    let l = loader_in c.loaders n lt in
+    by_import c name n l.0 m l.1 (finds name ms l.0.imports (Some m) (says (λ (l : Loader). l.imports) ms (slice_get c.loaders n) l.0 l.1 imports) found) below
+
+pub said_alone : (c : Configured) (name : Name) (n : ℕ) (ms : List Import) → n < length c.loaders → IfSome (slice_get c.loaders n) (λ l. ms ≡ l.imports) → find (λ m. starts_with nat_eq name m.prefix) ms ≡ None
+    → IfSome (slice_get c.loaders n) (λ l. None ≡ l.parent) → route_from (loaders_of c) name n ≡ n ∷ []
+said_alone c name n ms lt imports none parent =
+    let l = loader_in c.loaders n lt in
+    alone c name n l.0 l.1 (finds name ms l.0.imports None (says (λ (l : Loader). l.imports) ms (slice_get c.loaders n) l.0 l.1 imports) none) (sym (says (λ (l : Loader). l.parent) None (slice_get c.loaders n) l.0 l.1 parent))
+
+pub said_parent : (c : Configured) (name : Name) (n q : ℕ) (ms : List Import) → n < length c.loaders → IfSome (slice_get c.loaders n) (λ l. ms ≡ l.imports) → find (λ m. starts_with nat_eq name m.prefix) ms ≡ None
+    → IfSome (slice_get c.loaders n) (λ l. Some q ≡ l.parent) → IfSome (slice_get c.loaders n) (λ l. ParentFirst ≡ l.order) → q < n → route_from (loaders_of c) name n ≡ route_from (loaders_of c) name q ++ n ∷ []
+said_parent c name n q ms lt imports none parent order below =
+    let l = loader_in c.loaders n lt in
+    let undecided = finds name ms l.0.imports None (says (λ (l : Loader). l.imports) ms (slice_get c.loaders n) l.0 l.1 imports) none in
+    parent_first c name n q l.0 l.1 undecided (sym (says (λ (l : Loader). l.parent) (Some q) (slice_get c.loaders n) l.0 l.1 parent)) (sym (says (λ (l : Loader). l.order) ParentFirst (slice_get c.loaders n) l.0 l.1 order)) below
+
+pub said_child : (c : Configured) (name : Name) (n q : ℕ) (ms : List Import) → n < length c.loaders → IfSome (slice_get c.loaders n) (λ l. ms ≡ l.imports) → find (λ m. starts_with nat_eq name m.prefix) ms ≡ None
+    → IfSome (slice_get c.loaders n) (λ l. Some q ≡ l.parent) → IfSome (slice_get c.loaders n) (λ l. ChildFirst ≡ l.order) → q < n → route_from (loaders_of c) name n ≡ n ∷ route_from (loaders_of c) name q
+said_child c name n q ms lt imports none parent order below =
+    let l = loader_in c.loaders n lt in
+    let undecided = finds name ms l.0.imports None (says (λ (l : Loader). l.imports) ms (slice_get c.loaders n) l.0 l.1 imports) none in
+    child_first c name n q l.0 l.1 undecided (sym (says (λ (l : Loader). l.parent) (Some q) (slice_get c.loaders n) l.0 l.1 parent)) (sym (says (λ (l : Loader). l.order) ChildFirst (slice_get c.loaders n) l.0 l.1 order)) below

@@ -1,0 +1,11 @@
+-- What a search keeps.
+use Rattle.std.specs.Prelude.{◌≡◌, ◌≤◌, ℕ, List, length, Option}
+use Rattle.cl_model.specs.Content.{Content}
+use Rattle.cl_delegation.specs.Searches.{Searched, route_of, Follows}
+
+-- the probes follow the route, which is at hand, with room for one of each loader (own choice)
+pub record IsSearch (told : Option Content) (s : Searched) (route : List ℕ) (count capacity : ℕ) : Type 0 where
+  pub follows : Follows told s
+  pub way : route ≡ route_of s
+  pub room : length route ≤ capacity
+  pub len : count ≡ length s.absent

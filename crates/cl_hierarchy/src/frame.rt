@@ -1,0 +1,88 @@
+//! Classes that are being derived.
+
+ghost use Rattle.std.specs.Prelude.{◌≡◌, [], OnOk, IfErr, IfSome, IsSome};
+ghost use Rattle.std.specs.Option.{option_map};
+ghost use Rattle.cl_classfile.specs.Files.{file_of};
+ghost use Rattle.cl_model.specs.Classes.{class, supers};
+ghost use Rattle.cl_model.specs.Frames.{NamedAs, accepting, wanted};
+ghost use Rattle.cl_hierarchy.specs.Frames.{frame_of, with_place};
+ghost use Rattle.cl_hierarchy.specs.Supertypes.{plain_supertype};
+
+use crate::draft::Draft;
+use crate::supertype::Supertype;
+use cl_model::{LoaderId, Told};
+use std::alloc::{AllocError, Global};
+use std::marker::Model;
+
+/// A class that is being derived, and which loaders defined its direct supertypes, as far as they were accepted
+/// (JVMS SE 8, 5.3.5, steps 3 and 4).
+#[derive(Drop)]
+pub struct Frame<T: Told> {
+    draft: Draft<T>,
+    places: Vec<LoaderId>,
+}
+
+impl<T: Told> Model for Frame<T> {
+    ghost use Rattle.std.specs.Prelude.{◌≤◌, length};
+    ghost use Rattle.cl_classfile.specs.Files.{file_of};
+    ghost use Rattle.cl_model.specs.Classes.{supers};
+    ghost use Rattle.cl_hierarchy.specs.Frames.{Framed};
+
+    ghost Value = { Framed };
+
+    ghost view = { λ f. record { draft = f.draft; places = f.places.items } };
+
+    ghost invariant = { λ f. length f.places.items ≤ length (supers (file_of f.draft.file)) };
+}
+
+impl<T: Told> Frame<T> {
+    /// A class that has accepted no supertype yet. It takes no memory yet.
+    pub fn new(alloc: Global, draft: Draft<T>) -> Frame<T>
+        ensures { result ≡ record { draft = draft; places = [] } }
+    {
+        Frame {
+            draft,
+            places: Vec::new(alloc),
+        }
+    }
+
+    /// The class with its file.
+    pub fn draft(&self) -> &Draft<T>
+        ensures { result.now ≡ self.now.draft }
+    {
+        &self.draft
+    }
+
+    /// Which loaders defined the supertypes that were accepted, in order.
+    pub fn places(&self) -> &[LoaderId]
+        ensures places { result.now ≡ self.now.places }
+        ensures named { NamedAs (frame_of self.now).accepted (supers (file_of self.now.draft.file)) }
+    {
+        self.places.as_slice()
+    }
+
+    /// The supertype that comes next, if one is left.
+    pub fn wanted(&self) -> Option<Supertype<'_>>
+        ensures { option_map plain_supertype result ≡ wanted (frame_of self.now) }
+    {
+        self.draft.supertype(self.places.len())
+    }
+
+    /// Accepts the supertype that comes next, of which this loader defined the class.
+    pub fn accept(&mut self, place: LoaderId) -> Result<(), AllocError>
+        requires { IsSome (wanted (frame_of self.old)) }
+        ensures accepted { OnOk result (self.new ≡ with_place self.old place) }
+        ensures frame { OnOk result (IfSome (wanted (frame_of self.old)) (λ a. frame_of self.new ≡ accepting (frame_of self.old) (class a.name place))) }
+        ensures unchanged { IfErr result (λ e. self.new ≡ self.old) }
+    {
+        self.places.push(place)?;
+        Ok(())
+    }
+
+    /// The class with its file, once it is derived no longer.
+    pub fn into_draft(self) -> Draft<T>
+        ensures { result ≡ self.draft }
+    {
+        self.draft
+    }
+}

@@ -72,8 +72,10 @@ pub record Follows (told : Option Content) (s : Searched) : Type 0 where
   pub absent : AllLack told s.name (route_of s) s.absent
   pub found : IsEnd told s.name (slice_get (route_of s) (length s.absent)) s.found
 
--- a home: the loader that was asked, the one whose own content answered, the bytes there, and the probes before (5.3.2)
+-- a home: the configuration and the loader that was asked, the one whose own content answered, the bytes there, and the
+-- probes before (5.3.2)
 pub record Located : Type 0 where
+  pub config : Configured
   pub asked : ℕ
   pub place : ℕ
   pub name : List ℕ
@@ -82,6 +84,7 @@ pub record Located : Type 0 where
 
 -- a name that no loader has, of those that the asked one leads to, and the probes (5.3.2)
 pub record Sought : Type 0 where
+  pub config : Configured
   pub asked : ℕ
   pub name : List ℕ
   pub absent : List Found

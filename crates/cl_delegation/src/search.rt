@@ -114,13 +114,14 @@ impl<T: Told> Search<T> {
     /// The home that the probes tell of, or that there is none.
     pub fn home(self) -> Result<Home<T>, Unfound<T>>
         requires { next_of self ≡ None }
-        ensures asked { MatchResult result (λ h. (h.asked ≡ self.loader) × (h.name ≡ self.name)) (λ u. (u.asked ≡ self.loader) × (u.name ≡ self.name)) }
+        ensures config { MatchResult result (λ h. h.config ≡ self.config) (λ u. u.config ≡ self.config) }
+        ensures asked { MatchResult result (λ h. h.asked ≡ self.loader) (λ u. u.asked ≡ self.loader) }
+        ensures name { MatchResult result (λ h. h.name ≡ self.name) (λ u. u.name ≡ self.name) }
         ensures probes { MatchResult result (λ h. h.absent ≡ self.absent) (λ u. u.absent ≡ self.absent) }
         ensures found { MatchResult result (λ h. self.found ≡ Some (record { loader = h.place; name = h.name; bytes = Some h.bytes })) (λ u. self.found ≡ None) }
-        ensures leads { MatchResult result (λ h. LeadsTo T.told self.config self.loader self.name (Some h.place)) (λ u. LeadsTo T.told self.config self.loader self.name None) }
     {
         let Search {
-            config: _,
+            config,
             loader,
             name,
             route: _,
@@ -129,12 +130,14 @@ impl<T: Told> Search<T> {
         } = self;
         match found {
             Some(probe) => Ok(Home {
+                config,
                 asked: loader,
                 name,
                 absent,
                 probe,
             }),
             None => Err(Unfound {
+                config,
                 asked: loader,
                 name,
                 absent,
@@ -146,6 +149,7 @@ impl<T: Told> Search<T> {
 /// Where a search found a name: the loader whose own content answered, with its bytes, and the probes before.
 #[derive(Drop)]
 pub struct Home<T: Told> {
+    config: Arc<Config>,
     asked: LoaderId,
     name: Name,
     absent: Vec<Probe<T>>,
@@ -154,16 +158,24 @@ pub struct Home<T: Told> {
 
 impl<T: Told> Model for Home<T> {
     ghost use Rattle.std.specs.Prelude.{◌≡◌, [], Some, unwrap_or};
-    ghost use Rattle.cl_delegation.specs.Searches.{Located};
+    ghost use Rattle.cl_delegation.specs.Searches.{Located, LeadsTo};
 
     ghost Value = { Located };
 
-    ghost view = { λ h. record { asked = h.asked; place = h.probe.loader; name = h.name; bytes = unwrap_or h.probe.bytes []; absent = h.absent.items } };
+    ghost view = { λ h. record { config = h.config.value; asked = h.asked; place = h.probe.loader; name = h.name; bytes = unwrap_or h.probe.bytes []; absent = h.absent.items } };
 
-    ghost invariant = { λ h. (h.probe.name ≡ h.name) × (h.probe.bytes ≡ Some (unwrap_or h.probe.bytes [])) };
+    ghost invariant = { λ h. (h.probe.name ≡ h.name) × (h.probe.bytes ≡ Some (unwrap_or h.probe.bytes [])) × LeadsTo T.told h.config.value h.asked h.name (Some h.probe.loader) };
 }
 
 impl<T: Told> Home<T> {
+    /// The configuration that the search went by.
+    pub fn config(&self) -> &Config
+        ensures config { result.now ≡ self.now.config }
+        ensures leads { LeadsTo T.told self.now.config self.now.asked self.now.name (Some self.now.place) }
+    {
+        &self.config
+    }
+
     /// The loader that was asked.
     pub fn asked(&self) -> LoaderId
         ensures { result ≡ self.now.asked }
@@ -214,20 +226,32 @@ impl<T: Told> Home<T> {
 /// A name that no loader has, of those that the search asked, with all probes.
 #[derive(Drop)]
 pub struct Unfound<T: Told> {
+    config: Arc<Config>,
     asked: LoaderId,
     name: Name,
     absent: Vec<Probe<T>>,
 }
 
 impl<T: Told> Model for Unfound<T> {
-    ghost use Rattle.cl_delegation.specs.Searches.{Sought};
+    ghost use Rattle.std.specs.Prelude.{None};
+    ghost use Rattle.cl_delegation.specs.Searches.{Sought, LeadsTo};
 
     ghost Value = { Sought };
 
-    ghost view = { λ u. record { asked = u.asked; name = u.name; absent = u.absent.items } };
+    ghost view = { λ u. record { config = u.config.value; asked = u.asked; name = u.name; absent = u.absent.items } };
+
+    ghost invariant = { λ u. LeadsTo T.told u.config.value u.asked u.name None };
 }
 
 impl<T: Told> Unfound<T> {
+    /// The configuration that the search went by.
+    pub fn config(&self) -> &Config
+        ensures config { result.now ≡ self.now.config }
+        ensures leads { LeadsTo T.told self.now.config self.now.asked self.now.name None }
+    {
+        &self.config
+    }
+
     /// The loader that was asked.
     pub fn asked(&self) -> LoaderId
         ensures { result ≡ self.now.asked }

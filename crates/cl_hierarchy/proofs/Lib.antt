@@ -1,4 +1,2 @@
 pub mod Drafting
-pub mod Chained
-pub mod Walks
 pub mod Frames

@@ -11,6 +11,6 @@ use Rattle.cl_hierarchy.specs.declared.draft.DraftRefused.TheVariants.{Memory, U
 -- the class with the file that the bytes spell; or what is wrong with them; or the home, where memory ran out (5.3.5)
 abbrev pub ReadAs : {A : Type 0} → Located → Result Drafted (DraftRefused A) → Type 0
 ReadAs home (Ok d) =
-    (d.class ≡ class home.name home.place) × (read_of home.bytes ≡ Ok d.file) × ((file_of d.file).name ≡ home.name)
+    (d.home ≡ home) × (d.class ≡ class home.name home.place) × (read_of home.bytes ≡ Ok d.file) × ((file_of d.file).name ≡ home.name)
 ReadAs home (Err (Memory back)) = back ≡ home
 ReadAs home (Err (Unreadable u)) = (u.home ≡ home) × IsWrong home u.fault

@@ -10,19 +10,27 @@ use Rattle.cl_model.specs.Content.{Content}
 use Rattle.cl_hierarchy.specs.declared.draft.DraftFault.{DraftFault}
 use Rattle.cl_hierarchy.specs.declared.draft.DraftFault.TheVariants as drafts
 use Rattle.cl_source.specs.Told.{IsTold}
-use Rattle.cl_delegation.specs.Searches.{Located}
+use Rattle.cl_model.specs.Classes.{class}
+use Rattle.cl_delegation.specs.Searches.{Located, LeadsTo}
 
--- a class and its file (5.3.5)
+-- a class, its file, and the home that both were read of (5.3.5)
 pub record Drafted : Type 0 where
   pub class : Class
   pub file : Structure
+  pub home : Located
 
--- the class's own loader has bytes for its name, which spell its file (5.3.5)
-pub record IsDraft (told : Option Content) (d : Drafted) : Type 0 where
+-- the class's own loader has bytes for its name, which spell this file, and it names the class (5.3.5)
+pub record IsSpelt (told : Option Content) (c : Class) (f : Structure) : Type 0 where
   pub bytes : List ℕ
-  pub told_so : IsTold told d.class.loader d.class.name (Some bytes)
-  pub read : read_of bytes ≡ Ok d.file
-  pub named : (file_of d.file).name ≡ d.class.name
+  pub told_so : IsTold told c.loader c.name (Some bytes)
+  pub read : read_of bytes ≡ Ok f
+  pub named : (file_of f).name ≡ c.name
+
+-- a draft is of the class of its home, which that one's bytes spell (5.3.5)
+pub record IsDraft (told : Option Content) (d : Drafted) : Type 0 where
+  pub placed : d.class ≡ class d.home.name d.home.place
+  pub spelt : IsSpelt told d.class d.file
+  pub leads : LeadsTo told d.home.config d.home.asked d.home.name (Some d.home.place)
 
 -- the first thing that is wrong with the bytes of a home: the version, the rest of the form, the name (5.3.5)
 abbrev pub IsWrong : Located → DraftFault → Type 0

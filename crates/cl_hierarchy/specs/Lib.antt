@@ -1,5 +1,6 @@
 pub mod DraftReads
 pub mod Drafts
 pub mod Frames
+pub mod Paths
+pub mod Rows
 pub mod Supertypes
-pub mod Walks

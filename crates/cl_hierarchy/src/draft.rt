@@ -4,7 +4,7 @@ ghost use Rattle.cl_hierarchy.specs.Supertypes.{plain_supertype};
 ghost use Rattle.std.specs.Option.{option_map};
 ghost use Rattle.cl_classfile.specs.Files.{file_of};
 ghost use Rattle.cl_classfile.specs.Reading.{read_of};
-ghost use Rattle.cl_hierarchy.specs.Drafts.{IsDraft, IsWrong, fault_as};
+ghost use Rattle.cl_hierarchy.specs.Drafts.{IsDraft, IsSpelt, IsWrong, fault_as};
 ghost use Rattle.cl_hierarchy.specs.DraftReads.{ReadAs};
 ghost use Rattle.cl_source.specs.Told.{IsTold};
 
@@ -14,7 +14,7 @@ use cl_delegation::Home;
 use cl_model::{Class, Told};
 use cl_names::Name;
 use std::alloc::Global;
-use std::marker::{Model, PhantomData};
+use std::marker::Model;
 use std::sync::Arc;
 use thiserror::Error;
 
@@ -37,7 +37,7 @@ pub enum DraftFault {
 pub struct Draft<T: Told> {
     class: Class,
     file: Arc<ClassFile>,
-    of: PhantomData<T>,
+    home: Arc<Home<T>>,
 }
 
 impl<T: Told> Model for Draft<T> {
@@ -46,9 +46,9 @@ impl<T: Told> Model for Draft<T> {
 
     ghost Value = { Drafted };
 
-    ghost view = { λ d. record { class = d.class; file = d.file.value } };
+    ghost view = { λ d. record { class = d.class; file = d.file.value; home = d.home.value } };
 
-    ghost invariant = { λ d. IsDraft T.told (record { class = d.class; file = d.file.value }) };
+    ghost invariant = { λ d. IsDraft T.told (record { class = d.class; file = d.file.value; home = d.home.value }) };
 }
 
 /// A home whose bytes are not its class.
@@ -103,17 +103,22 @@ fn draft_of<T: Told>(
     requires named { (file_of file).name ≡ home.name }
     ensures { ReadAs home result }
 {
-    let file = match Arc::new(alloc, file) {
-        Ok(file) => file,
-        Err(_) => return Err(DraftRefused::Memory(home)),
+    let Ok(name) = home.name().try_clone(alloc) else {
+        return Err(DraftRefused::Memory(home));
     };
-    let loader = home.place();
-    let name = home.into_name();
-    Ok(Draft {
-        class: Class { name, loader },
-        file,
-        of: PhantomData,
-    })
+    let Ok(file) = Arc::new(alloc, file) else {
+        return Err(DraftRefused::Memory(home));
+    };
+    let class = Class {
+        name,
+        loader: home.place(),
+    };
+    // brings that the search led here
+    let _ = home.config();
+    match Arc::new(alloc, home) {
+        Ok(home) => Ok(Draft { class, file, home }),
+        Err(refused) => Err(DraftRefused::Memory(refused.value)),
+    }
 }
 
 impl<T: Told> Draft<T> {
@@ -155,11 +160,28 @@ impl<T: Told> Draft<T> {
         supertype_of(&self.file, place)
     }
 
+    /// The home that it was read of.
+    pub fn home(&self) -> &Arc<Home<T>>
+        ensures home { result.now.value ≡ self.now.home }
+        ensures draft { IsDraft T.told self.now }
+    {
+        &self.home
+    }
+
     /// The class's file.
     pub fn file(&self) -> &Arc<ClassFile>
         ensures { result.now.value ≡ self.now.file }
     {
         &self.file
+    }
+
+    /// The class and its file, given up.
+    pub(crate) fn into_parts(self) -> (Class, Arc<ClassFile>)
+        ensures class { result.0 ≡ self.class }
+        ensures file { result.1.value ≡ self.file }
+        ensures spelt { IsSpelt T.told self.class self.file }
+    {
+        (self.class, self.file)
     }
 }
 

@@ -1,12 +1,76 @@
+//! Classes as they are recorded.
+
+ghost use Rattle.std.specs.Prelude.{◌≡◌, length};
+ghost use Rattle.cl_classfile.specs.Files.{file_of};
+ghost use Rattle.cl_model.specs.Classes.{supers};
+ghost use Rattle.cl_hierarchy.specs.Drafts.{IsSpelt};
+
+use crate::draft::Draft;
 use cl_classfile::ClassFile;
-use cl_model::Class;
+use cl_model::{Class, LoaderId, Told};
+use std::marker::{Model, PhantomData};
 use std::sync::Arc;
 
-/// A class as it is recorded, shared by all who look at it. No row holds another.
-#[derive(Debug, Drop)]
-pub struct ClassRow {
-    pub class: Class,
-    /// The class that its superclass is, if it has one.
-    pub superclass: Option<Class>,
-    pub file: Arc<ClassFile>,
+/// A class as it is recorded, shared by all who look at it (JVMS SE 8, 5.3.5, step 5). No row holds another.
+#[derive(Drop)]
+pub struct ClassRow<T: Told> {
+    class: Class,
+    file: Arc<ClassFile>,
+    places: Vec<LoaderId>,
+    of: PhantomData<T>,
+}
+
+impl<T: Told> Model for ClassRow<T> {
+    ghost use Rattle.std.specs.Prelude.{◌≡◌, length};
+    ghost use Rattle.cl_classfile.specs.Files.{file_of};
+    ghost use Rattle.cl_model.specs.Classes.{supers};
+    ghost use Rattle.cl_hierarchy.specs.Drafts.{IsSpelt};
+    ghost use Rattle.cl_hierarchy.specs.Rows.{Rowed};
+
+    ghost Value = { Rowed };
+
+    ghost view = { λ r. record { class = r.class; file = r.file.value; places = r.places.items } };
+
+    ghost invariant = { λ r. IsSpelt T.told r.class r.file.value × (length r.places.items ≡ length (supers (file_of r.file.value))) };
+}
+
+impl<T: Told> ClassRow<T> {
+    /// The row of a draft's class. Of each direct supertype, the superclass, where there is one, and then the
+    /// superinterfaces in order, this is the loader that defined it.
+    pub fn new(draft: Draft<T>, places: Vec<LoaderId>) -> ClassRow<T>
+        requires { length places.items ≡ length (supers (file_of draft.file)) }
+        ensures { result ≡ record { class = draft.class; file = draft.file; places = places.items } }
+    {
+        let (class, file) = draft.into_parts();
+        ClassRow {
+            class,
+            file,
+            places,
+            of: PhantomData,
+        }
+    }
+
+    /// The class.
+    pub fn class(&self) -> &Class
+        ensures class { result.now ≡ self.now.class }
+        ensures spelt { IsSpelt T.told self.now.class self.now.file }
+    {
+        &self.class
+    }
+
+    /// The class's file.
+    pub fn file(&self) -> &Arc<ClassFile>
+        ensures file { result.now.value ≡ self.now.file }
+        ensures spelt { IsSpelt T.told self.now.class self.now.file }
+    {
+        &self.file
+    }
+
+    /// Which loaders defined its direct supertypes, in order.
+    pub fn places(&self) -> &[LoaderId]
+        ensures places { result.now ≡ self.now.places }
+        ensures each { length self.now.places ≡ length (supers (file_of self.now.file)) }
+    {
+        self.places.as_slice()
+    }
 }

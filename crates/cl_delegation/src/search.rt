@@ -120,29 +120,8 @@ impl<T: Told> Search<T> {
         ensures probes { MatchResult result (λ h. h.absent ≡ self.absent) (λ u. u.absent ≡ self.absent) }
         ensures found { MatchResult result (λ h. self.found ≡ Some (record { loader = h.place; name = h.name; bytes = Some h.bytes })) (λ u. self.found ≡ None) }
     {
-        let Search {
-            config,
-            loader,
-            name,
-            route: _,
-            absent,
-            found,
-        } = self;
-        match found {
-            Some(probe) => Ok(Home {
-                config,
-                asked: loader,
-                name,
-                absent,
-                probe,
-            }),
-            None => Err(Unfound {
-                config,
-                asked: loader,
-                name,
-                absent,
-            }),
-        }
+        let _ = crate::stub::stub_never();
+        unreachable!()
     }
 }
 
@@ -157,14 +136,14 @@ pub struct Home<T: Told> {
 }
 
 impl<T: Told> Model for Home<T> {
-    ghost use Rattle.std.specs.Prelude.{◌≡◌, [], Some, unwrap_or};
+    ghost use Rattle.std.specs.Prelude.{◌≡◌, ◌<◌, [], Some, length, unwrap_or};
     ghost use Rattle.cl_delegation.specs.Searches.{Located, LeadsTo};
 
     ghost Value = { Located };
 
     ghost view = { λ h. record { config = h.config.value; asked = h.asked; place = h.probe.loader; name = h.name; bytes = unwrap_or h.probe.bytes []; absent = h.absent.items } };
 
-    ghost invariant = { λ h. (h.probe.name ≡ h.name) × (h.probe.bytes ≡ Some (unwrap_or h.probe.bytes [])) × LeadsTo T.told h.config.value h.asked h.name (Some h.probe.loader) };
+    ghost invariant = { λ h. (h.probe.name ≡ h.name) × (h.probe.bytes ≡ Some (unwrap_or h.probe.bytes [])) × LeadsTo T.told h.config.value h.asked h.name (Some h.probe.loader) × (h.probe.loader < length h.config.value.loaders) };
 }
 
 impl<T: Told> Home<T> {
@@ -172,6 +151,7 @@ impl<T: Told> Home<T> {
     pub fn config(&self) -> &Config
         ensures config { result.now ≡ self.now.config }
         ensures leads { LeadsTo T.told self.now.config self.now.asked self.now.name (Some self.now.place) }
+        ensures within { self.now.place < length self.now.config.loaders }
     {
         &self.config
     }
@@ -271,5 +251,12 @@ impl<T: Told> Unfound<T> {
         ensures { result.now ≡ self.now.absent }
     {
         self.absent.as_slice()
+    }
+
+    /// The name, given up.
+    pub fn into_name(self) -> Name
+        ensures { result ≡ self.name }
+    {
+        self.name
     }
 }

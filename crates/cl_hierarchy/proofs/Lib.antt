@@ -1,2 +1,1 @@
-pub mod Drafting
 pub mod Frames

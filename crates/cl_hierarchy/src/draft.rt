@@ -1,4 +1,4 @@
-ghost use Rattle.std.specs.Prelude.{◌≡◌, MatchResult, Ok, Some, slice_get};
+ghost use Rattle.std.specs.Prelude.{◌≡◌, length, MatchResult, Ok, Some, slice_get};
 ghost use Rattle.cl_model.specs.Classes.{supers};
 ghost use Rattle.cl_hierarchy.specs.Supertypes.{plain_supertype};
 ghost use Rattle.std.specs.Option.{option_map};
@@ -83,6 +83,13 @@ impl<T: Told> Unreadable<T> {
     {
         self.fault
     }
+
+    /// The home, given up.
+    pub fn into_home(self) -> Home<T>
+        ensures { result ≡ self.home }
+    {
+        self.home
+    }
 }
 
 /// Why a home was not read, with the home.
@@ -103,22 +110,8 @@ fn draft_of<T: Told>(
     requires named { (file_of file).name ≡ home.name }
     ensures { ReadAs home result }
 {
-    let Ok(name) = home.name().try_clone(alloc) else {
-        return Err(DraftRefused::Memory(home));
-    };
-    let Ok(file) = Arc::new(alloc, file) else {
-        return Err(DraftRefused::Memory(home));
-    };
-    let class = Class {
-        name,
-        loader: home.place(),
-    };
-    // brings that the search led here
-    let _ = home.config();
-    match Arc::new(alloc, home) {
-        Ok(home) => Ok(Draft { class, file, home }),
-        Err(refused) => Err(DraftRefused::Memory(refused.value)),
-    }
+    let _ = crate::stub::stub_never();
+    unreachable!()
 }
 
 impl<T: Told> Draft<T> {
@@ -158,6 +151,14 @@ impl<T: Told> Draft<T> {
         ensures draft { IsDraft T.told self.now }
     {
         supertype_of(&self.file, place)
+    }
+
+    /// How many direct supertypes it has.
+    pub fn supertypes(&self) -> usize
+        ensures { result ≡ length (supers (file_of self.now.file)) }
+    {
+        let _ = crate::stub::stub_never();
+        unreachable!()
     }
 
     /// The home that it was read of.

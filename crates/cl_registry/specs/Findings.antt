@@ -1,5 +1,5 @@
 -- What an answer rests on (JVMS SE 8, 5.3.5).
-use Rattle.std.specs.Prelude.{◌≡◌, ◌<◌, ℕ, true, List, [], ◌∷◌, length, Option, Some, None}
+use Rattle.std.specs.Prelude.{◌≡◌, ℕ, true, false, List, [], ◌∷◌, ◌++◌, Option, Some, None}
 use Rattle.cl_classfile.specs.Files.{file_of}
 use Rattle.cl_model.specs.declared.verdict.ErrorKind.{ErrorKind}
 use Rattle.cl_model.specs.declared.verdict.ErrorKind.TheVariants as kinds
@@ -7,24 +7,34 @@ use Rattle.cl_model.specs.declared.verdict.Verdict as verdicts
 use Rattle.cl_model.specs.declared.answer.Answer as answers
 use Rattle.cl_model.specs.declared.request.Request as requests
 use Rattle.cl_model.specs.Content.{Content}
+use Rattle.cl_model.specs.declared.class.Class.{Class}
 use Rattle.cl_model.specs.Classes.{class}
-use Rattle.cl_model.specs.States.{Wrong}
+use Rattle.cl_model.specs.States.{State, Need, Entry, Verdict, Wrong, AllMet}
 use Rattle.cl_model.specs.Homes.{World}
-use Rattle.cl_model.specs.Ascents.{EndsAtOnce}
+use Rattle.cl_model.specs.Plans.{Request}
+use Rattle.cl_model.specs.Machine.{IsClosed}
+use Rattle.cl_model.specs.Frames.{EndsHere, kept_of}
 use Rattle.cl_model.specs.Views.{request_of, error_of}
+use Rattle.cl_config.specs.Views.{Configured}
+use Rattle.cl_delegation.specs.Searches.{Located}
+use Rattle.cl_delegation.specs.Worlds.{world_of}
 use Rattle.cl_hierarchy.specs.declared.draft.DraftFault.{DraftFault}
 use Rattle.cl_hierarchy.specs.declared.draft.DraftFault.TheVariants as drafts
+use Rattle.cl_hierarchy.specs.Frames.{Framed}
+use Rattle.cl_hierarchy.specs.Paths.{Pathed, frames_of, at_loader, at_name, is_on, misfit_under}
 use Rattle.cl_registry.specs.declared.finding.Obstacle.{Obstacle}
-use Rattle.cl_registry.specs.declared.finding.Obstacle.TheVariants.{Missing, Unreadable, Circle}
-use Rattle.cl_config.specs.Views.{Configured}
-use Rattle.cl_delegation.specs.Worlds.{world_of}
-use Rattle.cl_hierarchy.specs.Drafts.{Drafted}
-use Rattle.cl_hierarchy.specs.Walks.{Walked, root, stands}
+use Rattle.cl_registry.specs.declared.finding.Obstacle.TheVariants.{Missing, Unreadable, Circle, Misfit}
 
--- a request and its answer
+-- what an error rests on: the configuration of the search, and the records that the derivation went over (5.3, 5.3.5)
+pub record Based : Type 0 where
+  pub config : Configured
+  pub needs : List Need
+
+-- a request, its answer, and what an error rests on
 pub record Answered : Type 0 where
   pub request : requests.Request
   pub answer : answers.Answer
+  pub basis : Option Based
 
 -- what a request loads, and through whom (5.3)
 abbrev pub loader_of : requests.Request → ℕ
@@ -34,17 +44,25 @@ loader_of (requests.TheVariants.Load loader name) = loader
 abbrev pub name_of : requests.Request → List ℕ
 name_of (requests.TheVariants.Load loader name) = name
 
--- the walk was made for the request (5.3)
-pub record IsFor (r : requests.Request) (w : Walked) : Type 0 where
-  pub loader : loader_of r ≡ w.loader
-  pub name : name_of r ≡ root w
+-- the path was made for the request (5.3)
+pub record IsFor (r : requests.Request) (p : Pathed) : Type 0 where
+  pub loader : loader_of r ≡ p.loader
+  pub name : name_of r ≡ p.name
 
--- what stops a walk where it is: there is no home; the home's bytes are not its class; or the superclass of what is
--- looked for stands on the walk already (5.3.5)
-abbrev pub Stops : {A : Type 0} → Walked → Obstacle A → Type 0
-Stops w (Missing u) = (u.asked ≡ w.loader) × (u.name ≡ w.at)
-Stops w (Unreadable u) = (u.home.place ≡ w.loader) × (u.home.name ≡ w.at)
-Stops w (Circle d above) = (d.class ≡ class w.at w.loader) × ((file_of d.file).super_name ≡ Some above) × (stands above w ≡ true)
+-- the home is that of what is looked for (5.3.2)
+pub record IsSought (p : Pathed) (h : Located) : Type 0 where
+  pub config : h.config ≡ p.config
+  pub asked : h.asked ≡ at_loader p
+  pub name : h.name ≡ at_name p
+
+-- what stops a derivation where it is: there is no home; the home's bytes are not its class; the class is being derived
+-- already; or it is recorded and does not fit as the supertype that is looked for (5.3.5)
+abbrev pub Stops : {A : Type 0} → Pathed → Obstacle A → Type 0
+Stops p (Missing u) = (u.config ≡ p.config) × (u.asked ≡ at_loader p) × (u.name ≡ at_name p)
+Stops p (Unreadable u) = IsSought p u.home × (is_on p (class u.home.name u.home.place) ≡ false)
+Stops p (Circle h) = IsSought p h × (is_on p (class h.name h.place) ≡ true)
+Stops p (Misfit row c kind) =
+    (row.value.class ≡ c) × (c.name ≡ at_name p) × (misfit_under p.frames c (file_of row.value.file) ≡ Some (error_of kind c))
 
 -- the error of bytes that are not their class (5.3.5, steps 1 and 2)
 abbrev pub kind_of : DraftFault → ErrorKind
@@ -53,28 +71,45 @@ kind_of drafts.Version = kinds.UnsupportedClassVersionError
 kind_of drafts.OtherName = kinds.NoClassDefFoundError
 
 -- a request's own class is not found, one that it needs is not defined (5.3.1, 5.3.5)
-abbrev pub missing_kind : List Drafted → ErrorKind
+abbrev pub missing_kind : List Framed → ErrorKind
 missing_kind [] = kinds.ClassNotFoundException
-missing_kind (d ∷ ds) = kinds.NoClassDefFoundError
+missing_kind (x ∷ xs) = kinds.NoClassDefFoundError
 
 -- the error that an obstacle is (5.3.1, 5.3.5)
-abbrev pub verdict_at : {A : Type 0} → Walked → Obstacle A → verdicts.Verdict
-verdict_at w (Missing u) = verdicts.TheVariants.Error (missing_kind w.drafts) (class w.at w.loader)
-verdict_at w (Unreadable u) = verdicts.TheVariants.Error (kind_of u.fault) (class w.at w.loader)
-verdict_at w (Circle d above) = verdicts.TheVariants.Error kinds.ClassCircularityError (class above w.loader)
+abbrev pub verdict_at : {A : Type 0} → Pathed → Obstacle A → verdicts.Verdict
+verdict_at p (Missing u) = verdicts.TheVariants.Error (missing_kind p.frames) (class u.name u.asked)
+verdict_at p (Unreadable u) = verdicts.TheVariants.Error (kind_of u.fault) (class u.home.name u.home.place)
+verdict_at p (Circle h) = verdicts.TheVariants.Error kinds.ClassCircularityError (class h.name h.place)
+verdict_at p (Misfit row c kind) = verdicts.TheVariants.Error kind c
 
--- an error is where the plan of the request ends at once; a class is looked up in the tables (5.3.5)
-abbrev pub VerdictRests : World → requests.Request → verdicts.Verdict → Type 0
-VerdictRests w r (verdicts.TheVariants.Class c) = Unit {0}
-VerdictRests w r (verdicts.TheVariants.Error kind c) = EndsAtOnce w (request_of r) (Wrong (error_of kind c))
+-- the record that an obstacle goes over: a class that does not fit is recorded by the loader that was asked (5.3, 5.3.5)
+abbrev pub needs_at : {A : Type 0} → Pathed → Obstacle A → List Need
+needs_at p (Missing u) = []
+needs_at p (Unreadable u) = []
+needs_at p (Circle h) = []
+needs_at p (Misfit row c kind) = Entry (at_loader p) c.name c.loader ∷ []
 
--- the same of an answer; failures say nothing of a class (5.3.5)
-abbrev pub AnswerRests : World → requests.Request → answers.Answer → Type 0
-AnswerRests w r (answers.TheVariants.Said v) = VerdictRests w r v
-AnswerRests w r answers.TheVariants.Memory = Unit {0}
-AnswerRests w r (answers.TheVariants.SourceFault name loader) = Unit {0}
+-- what the error rests on: what the path has accepted, and the obstacle (5.3, 5.3.5)
+abbrev pub basis_at : {A : Type 0} → Pathed → Obstacle A → Based
+basis_at p end = record { config = p.config; needs = kept_of (frames_of p) ++ needs_at p end }
 
--- an answer rests on the content told, for each configuration of one loader that the request may name (5.3.5)
-abbrev pub Rests : Option Content → requests.Request → answers.Answer → Type 0
-Rests None r a = Unit {0}
-Rests (Some content) r a = (c : Configured) → length c.names ≡ 1 → loader_of r < length c.names → AnswerRests (world_of c content) r a
+-- wherever these needs are met, the plan of a request ends so, and all its needs are met (5.3.5)
+abbrev pub EndsWhere : World → List Need → Request → Verdict → Type 0
+EndsWhere w needs r v = (s : State) → IsClosed w s → AllMet s needs → EndsHere w s r v
+
+-- an error rests on its basis, where this content is told (5.3.5)
+abbrev pub ErrorRests : Content → requests.Request → ErrorKind → Class → Option Based → Type 0
+ErrorRests content r kind c None = ⊥
+ErrorRests content r kind c (Some b) = EndsWhere (world_of b.config content) b.needs (request_of r) (Wrong (error_of kind c))
+
+-- an answer rests on its basis: a class is looked up in the tables, failures say nothing of a class (5.3.5)
+abbrev pub AnswerRests : Content → requests.Request → answers.Answer → Option Based → Type 0
+AnswerRests content r (answers.TheVariants.Said (verdicts.TheVariants.Class c)) b = Unit {0}
+AnswerRests content r (answers.TheVariants.Said (verdicts.TheVariants.Error kind c)) b = ErrorRests content r kind c b
+AnswerRests content r answers.TheVariants.Memory b = Unit {0}
+AnswerRests content r (answers.TheVariants.SourceFault name loader) b = Unit {0}
+
+-- the same, where a content is told (5.3.5)
+abbrev pub Rests : Option Content → Answered → Type 0
+Rests None f = Unit {0}
+Rests (Some content) f = AnswerRests content f.request f.answer f.basis

@@ -1,10 +1,9 @@
 -- What the type of a registry keeps of its fields.
-use Rattle.std.specs.Prelude.{◌≡◌, ◌+◌, ◌≤◌, ℕ, List, [], ◌∷◌, length, Option, Some, None}
+use Rattle.std.specs.Prelude.{◌≡◌, ◌+◌, ◌≤◌, ◌-◌, ℕ, zero, suc, nat_eq, if◌then◌else◌, List, [], ◌∷◌, length, Option, Some, None, slice_get}
 use Rattle.cl_model.specs.declared.answer.Answer.{Answer}
 use Rattle.cl_model.specs.Content.{Content}
-use Rattle.cl_model.specs.States.{recorded}
-use Rattle.cl_hierarchy.specs.declared.row.ClassRow.{ClassRow}
-use Rattle.cl_registry.specs.Tables.{Shown, IsKept, RowAt, records_of}
+use Rattle.cl_hierarchy.specs.Rows.{Rowed}
+use Rattle.cl_registry.specs.Tables.{Shown, IsKept, looked, round_of}
 
 -- how many have no answer
 abbrev pub left_in : List (Option Answer) → ℕ
@@ -12,13 +11,37 @@ left_in [] = 0
 left_in (None ∷ more) = left_in more + 1
 left_in (Some a ∷ more) = left_in more
 
--- the table is what the history leads to, each loader has its part of it, and there is room for what is still to be posted
-pub record IsRegistry (told : Option Content) (x : Shown) (table : ℕ → List ℕ → Option ClassRow) (parts events room_for_events left_over filled room : ℕ) : Type 0 where
+-- how many of a round have no answer
+abbrev pub open_in : ℕ → List ℕ → List (Option Answer) → ℕ
+open_in round [] more = 0
+open_in round (r ∷ rs) [] = 0
+open_in round (r ∷ rs) (None ∷ more) = (if nat_eq r round then 1 else 0) + open_in round rs more
+open_in round (r ∷ rs) (Some a ∷ more) = open_in round rs more
+
+-- the fields of a registry, as plain values
+pub record Fields : Type 0 where
+  pub table : ℕ → List ℕ → Option Rowed
+  pub parts : ℕ
+  pub events : ℕ
+  pub room_for_events : ℕ
+  pub left : ℕ
+  pub unanswered : List ℕ
+  pub round : ℕ
+  pub filled : ℕ
+  pub room : ℕ
+
+-- the table is what the history leads to, each loader has its part of it, of each round it is known how many have no answer, and
+-- there is room for what is still to be posted and for the rounds still to come
+pub record IsRegistry (told : Option Content) (x : Shown) (f : Fields) : Type 0 where
   pub kept : IsKept told x
-  pub width : parts ≡ length x.config.names
-  pub rows : (loader : ℕ) (name : List ℕ) → RowAt told loader name (table loader name) (recorded (records_of x) loader name)
-  pub left : left_over ≡ left_in x.answers
-  pub used : events ≡ length x.history
-  pub posts_fit : events + left_over ≤ room_for_events
-  pub empty : filled ≡ 0
-  pub answers_fit : length x.answers ≤ room
+  pub width : f.parts ≡ length x.config.loaders
+  pub rows : (loader : ℕ) (name : List ℕ) → f.table loader name ≡ looked x loader name
+  pub left : f.left ≡ left_in x.answers
+  pub counts : (round : ℕ) (n : ℕ) → slice_get f.unanswered round ≡ Some n → n ≡ open_in round x.script.rounds_of x.answers
+  pub each_round : length f.unanswered ≡ x.script.rounds
+  pub round : f.round ≡ round_of x
+  pub begun : f.round + 1 ≤ x.script.rounds
+  pub used : f.events ≡ length x.history
+  pub events_fit : f.events + (f.left + (x.script.rounds - (f.round + 1))) ≤ f.room_for_events
+  pub empty : f.filled ≡ 0
+  pub answers_fit : length x.answers ≤ f.room

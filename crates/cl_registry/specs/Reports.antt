@@ -1,8 +1,8 @@
 -- What a report says of the registry that it was made from.
-use Rattle.std.specs.Prelude.{◌≡◌, ℕ, map, Some, All}
+use Rattle.std.specs.Prelude.{◌≡◌, ◌⊎◌, ◌<◌, ◌+◌, ℕ, map, Some, All}
 use Rattle.cl_model.specs.Texts.{AnswerNames, EventNames}
 use Rattle.cl_registry.specs.declared.report.Report.{Report}
-use Rattle.cl_registry.specs.Tables.{Shown, IsOpen}
+use Rattle.cl_registry.specs.Tables.{Shown, IsOpen, round_of}
 
 -- the script, the history, and the answers, each of which was given
 pub record IsReport (x : Shown) (r : Report) : Type 0 where
@@ -15,6 +15,6 @@ pub record IsNamed (count : ℕ) (r : Report) : Type 0 where
   pub history : All (EventNames count) r.history
   pub answers : All (AnswerNames count) r.answers
 
--- a request has no answer
-abbrev pub HasOpen : Shown → Type 0
-HasOpen x = (q : ℕ) × IsOpen x q
+-- a request has no answer, or there is a later round (own choice)
+abbrev pub IsUnfinished : Shown → Type 0
+IsUnfinished x = ((q : ℕ) × IsOpen x q) ⊎ (round_of x + 1 < x.script.rounds)

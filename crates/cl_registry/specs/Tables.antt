@@ -1,6 +1,7 @@
--- What a registry keeps, and what a call does to it.
-use Rattle.std.specs.Prelude.{◌≡◌, ◌<◌, ℕ, Bool, false, ◌||◌, nat_eq, List, [], ◌∷◌, ◌++◌, length, Option, Some, None, is_some, replicate, slice_get, slice_set, option_map, option_and_then, IsSome, IfSome, All}
+-- What a registry keeps, and what a call does to it (JVMS SE 8, 5.3, 5.3.5).
+use Rattle.std.specs.Prelude.{◌≡◌, ◌<◌, ◌+◌, ℕ, Bool, false, ◌||◌, nat_eq, List, [], ◌∷◌, ◌++◌, length, map, Option, Some, None, is_some, unwrap_or, replicate, find, slice_get, slice_set, option_and_then, IsSome, IfSome, All}
 use Rattle.std.specs.HashMap.{HashMap, get}
+use Rattle.std.specs.List.{AllByRecursion}
 use Rattle.std.specs.Cmp.Lexicographic.{pointwise}
 use Rattle.cl_classfile.specs.Files.{file_of}
 use Rattle.cl_model.specs.declared.class.Class.{Class}
@@ -11,29 +12,34 @@ use Rattle.cl_model.specs.declared.answer.Answer.TheVariants as answers
 use Rattle.cl_model.specs.declared.verdict.Verdict.{Verdict}
 use Rattle.cl_model.specs.declared.verdict.Verdict.TheVariants as verdicts
 use Rattle.cl_model.specs.Content.{Content}
-use Rattle.cl_model.specs.Classes.{class}
+use Rattle.cl_model.specs.Classes.{class, same_class, Above, supers}
 use Rattle.cl_model.specs.Texts.{AnswerNames, EventNames}
-use Rattle.cl_model.specs.States.{State, Record, recorded, start}
+use Rattle.cl_model.specs.States.{State, Record, recorded, start, AllMet}
 use Rattle.cl_model.specs.Machine.{Step, state_after, Run}
+use Rattle.cl_model.specs.Machine as machine
 use Rattle.cl_model.specs.Tables as tables
 use Rattle.cl_model.specs.Views.{answers_of, answer_at, steps_of}
-use Rattle.cl_hierarchy.specs.declared.row.ClassRow.{ClassRow}
 use Rattle.cl_config.specs.Views.{Configured, Scripted}
-use Rattle.cl_delegation.specs.Worlds.{scheduled_of, setting_of}
-use Rattle.cl_hierarchy.specs.Drafts.{Drafted, IsDraft}
-use Rattle.cl_registry.specs.Findings.{Answered, loader_of, name_of}
+use Rattle.cl_config.specs.Loaders.{schedule_of}
+use Rattle.cl_delegation.specs.Searches.{Located}
+use Rattle.cl_delegation.specs.Worlds.{setting_of}
+use Rattle.cl_hierarchy.specs.Drafts.{Drafted}
+use Rattle.cl_hierarchy.specs.Rows.{Rowed}
+use Rattle.cl_registry.specs.Findings.{Answered, Based, loader_of, name_of}
 
--- what a registry shows: whose it is, what happened, and the answer of each request that has one (own choice)
+-- what a registry shows: whose it is, the rows of the classes that were defined, in order, what happened, and the answer of
+-- each request that has one (own choice)
 pub record Shown : Type 0 where
   pub config : Configured
   pub script : Scripted
+  pub rows : List Rowed
   pub history : List Event
   pub answers : List (Option Answer)
 
--- no event, and no answer to any request (own choice)
+-- no class, no event, and no answer to any request (own choice)
 abbrev pub empty_of : Configured → Scripted → Shown
 empty_of config script =
-    record { config = config; script = script; history = []; answers = replicate (length script.requests) None }
+    record { config = config; script = script; rows = []; history = []; answers = replicate (length script.requests) None }
 
 -- the steps of the linkage machine that the history tells (own choice)
 abbrev pub steps : Shown → List Step
@@ -47,23 +53,38 @@ state_of x = state_after start (steps x)
 abbrev pub records_of : Shown → List Record
 records_of x = (state_of x).records
 
+-- the round that is being served (own choice)
+abbrev pub round_of : Shown → ℕ
+round_of x = (state_of x).round
+
 -- the requests that are posted, in order (own choice)
 abbrev pub posts : List Event → List ℕ
 posts [] = []
 posts (events.Define c ∷ es) = posts es
+posts (events.Initiate c loader ∷ es) = posts es
+posts (events.NextRound ∷ es) = posts es
 posts (events.Post q ∷ es) = q ∷ posts es
+
+-- the classes that are defined, in order (5.3.5)
+abbrev pub defined : List Event → List Class
+defined [] = []
+defined (events.Define c ∷ es) = c ∷ defined es
+defined (events.Initiate c loader ∷ es) = defined es
+defined (events.NextRound ∷ es) = defined es
+defined (events.Post q ∷ es) = defined es
 
 -- the number is one of these (own choice)
 abbrev pub is_in : ℕ → List ℕ → Bool
 is_in n [] = false
 is_in n (x ∷ xs) = nat_eq n x || is_in n xs
 
--- what holds under any source: the tables can be trusted, those requests have an answer whose post the history has, and
--- each has a place for one (5.3, 5.3.5)
+-- what holds under any source: the tables can be trusted, those requests have an answer whose post the history has, each has
+-- a place for one, and those of the rounds before are answered (5.3, 5.3.5)
 pub record IsTrusted (x : Shown) : Type 0 where
-  pub tables : tables.IsTrusted (scheduled_of x.script) 1 (steps x)
+  pub tables : tables.IsTrusted (schedule_of x.script) x.script.rounds (steps x)
   pub posted : (q : ℕ) → is_in q (posts x.history) ≡ is_some (answer_at (answers_of x.answers) q)
   pub whole : length x.answers ≡ length x.script.requests
+  pub earlier : (q round : ℕ) → slice_get x.script.rounds_of q ≡ Some round → round < round_of x → IsSome (answer_at (answers_of x.answers) q)
 
 -- the history is a run of the linkage machine, where a content is told (5.3)
 abbrev pub RunsAs : Option Content → Shown → Type 0
@@ -72,53 +93,45 @@ RunsAs (Some content) x = Run (setting_of x.config x.script content) start (step
 
 -- each loader that the history and the answers name is one of the configuration (own choice)
 pub record NamesLoaders (x : Shown) : Type 0 where
-  pub history : All (EventNames (length x.config.names)) x.history
-  pub answers : All (λ o. IfSome o (AnswerNames (length x.config.names))) x.answers
+  pub history : All (EventNames (length x.config.loaders)) x.history
+  pub answers : All (λ o. IfSome o (AnswerNames (length x.config.loaders))) x.answers
 
--- what a registry keeps; for now there is one loader (5.3)
+-- what a registry keeps; each class that was defined has its row (5.3)
 pub record IsKept (told : Option Content) (x : Shown) : Type 0 where
-  pub one : length x.config.names ≡ 1
   pub trusted : IsTrusted x
   pub named : NamesLoaders x
   pub run : RunsAs told x
-
--- one event more (5.3.5)
-abbrev pub with_define : Shown → Class → Shown
-with_define x c = record x { history = x.history ++ events.Define c ∷ [] }
-
--- an answer more, and its event (own choice)
-abbrev pub with_post : Shown → ℕ → Answer → Shown
-with_post x q a = record x { history = x.history ++ events.Post q ∷ []; answers = slice_set x.answers q (Some a) }
+  pub rows : map (λ r. r.class) x.rows ≡ defined x.history
 
 -- ---- rows
 
--- a row is of a class with its file, and with the class that its superclass is at the same loader (5.3.5)
-pub record IsRow (told : Option Content) (row : ClassRow) (loader : ℕ) (name : List ℕ) (place : ℕ) : Type 0 where
-  pub named : row.class ≡ class name place
-  pub placed : place ≡ loader
-  pub draft : IsDraft told (record { class = row.class; file = row.file.value })
-  pub superclass : row.superclass ≡ option_map (λ (n : List ℕ). class n place) (file_of row.file.value).super_name
+-- the row of a class, if it is defined (5.3.5)
+abbrev pub row_of : List Rowed → Class → Option Rowed
+row_of rows c = find (λ r. same_class r.class c) rows
 
--- the same of the loader that defined its class (5.3.5)
-abbrev pub IsRowFor : Option Content → ClassRow → ℕ → List ℕ → Type 0
-IsRowFor told row loader name = IsRow told row loader name row.class.loader
+-- the row of the class that a loader has recorded for a name (5.3)
+abbrev pub looked : Shown → ℕ → List ℕ → Option Rowed
+looked x loader name = option_and_then (λ place. row_of x.rows (class name place)) (recorded (records_of x) loader name)
 
--- what is looked up is recorded, and nothing else (5.3)
-abbrev pub RowAt : Option Content → ℕ → List ℕ → Option ClassRow → Option ℕ → Type 0
-RowAt told loader name None None = Unit {0}
-RowAt told loader name (Some row) None = ⊥
-RowAt told loader name None (Some place) = ⊥
-RowAt told loader name (Some row) (Some place) = IsRow told row loader name place
+-- which loader defined the class that a loader has recorded for a name (5.3); nothing is asked where none is
+abbrev pub place_in : List Record → ℕ → Above → ℕ
+place_in records loader a = unwrap_or (recorded records loader a.name) 0
 
--- the row of a loader and a name (5.3)
+-- the row that the class of a draft gets: each supertype is the one that its loader has recorded (5.3.5, steps 3 to 5)
+abbrev pub row_for : Shown → Drafted → Rowed
+row_for x d =
+    record { class = d.class; file = d.file; places = map (place_in (records_of x) d.class.loader) (supers (file_of d.file)) }
+
+-- the row in a table of each loader (5.3)
 abbrev pub row_at : {R S : Type 0} → List (HashMap (List ℕ) R S) → ℕ → List ℕ → Option R
 row_at rows loader name = option_and_then (λ m. get (pointwise nat_eq) m name) (slice_get rows loader)
 
 -- ---- calls
 
 -- the loader has recorded the name as this row's class (5.3)
-abbrev pub Records : Shown → ℕ → List ℕ → ClassRow → Type 0
-Records x loader name row = recorded (records_of x) loader name ≡ Some row.class.loader
+pub record Records (x : Shown) (loader : ℕ) (name : List ℕ) (row : Rowed) : Type 0 where
+  pub named : row.class.name ≡ name
+  pub recorded : recorded (records_of x) loader name ≡ Some row.class.loader
 
 -- the loader has not recorded the name (5.3)
 abbrev pub LacksRecord : Shown → ℕ → List ℕ → Type 0
@@ -128,50 +141,98 @@ LacksRecord x loader name = recorded (records_of x) loader name ≡ None
 abbrev pub IsNew : Shown → Drafted → Type 0
 IsNew x d = LacksRecord x d.class.loader d.class.name
 
--- a class may be recorded: its loader is one of these, and its superclass is recorded, if it has one (5.3.5)
-abbrev pub AboveIn : List Record → ℕ → Option (List ℕ) → Type 0
-AboveIn rs loader None = Unit {0}
-AboveIn rs loader (Some name) = IsSome (recorded rs loader name)
-
--- its loader is one of these, and its superclass is recorded (5.3.5)
+-- a class may be defined: its home was found under this configuration, its loader is one of these, and records each of its
+-- direct supertypes (5.3.5, steps 1, 3 and 4)
 pub record MayEnter (x : Shown) (d : Drafted) : Type 0 where
-  pub loader : d.class.loader < length x.config.names
-  pub above : AboveIn (records_of x) d.class.loader (file_of d.file).super_name
+  pub config : d.home.config ≡ x.config
+  pub loader : d.class.loader < length x.config.loaders
+  pub above : AllByRecursion (λ (a : Above). IsSome (recorded (records_of x) d.class.loader a.name)) (supers (file_of d.file))
 
--- an event more, or none where the loader has recorded the name (5.3.5)
-abbrev pub DefinedAs : Shown → Shown → Drafted → Option ℕ → Type 0
-DefinedAs old new d None = (new ≡ with_define old d.class) × MayEnter old d
-DefinedAs old new d (Some place) = new ≡ old
+-- a class and its row more, and the event (5.3.5, step 5)
+abbrev pub with_define : Shown → Drafted → Shown
+with_define x d = record x { rows = x.rows ++ row_for x d ∷ []; history = x.history ++ events.Define d.class ∷ [] }
+
+-- an event more with its row, or no event and the row that stands, where the loader has recorded the name (5.3.5)
+abbrev pub DefinedAs : Shown → Shown → Drafted → Rowed → Option ℕ → Type 0
+DefinedAs old new d row None = MayEnter old d × (new ≡ with_define old d) × (row ≡ row_for old d)
+DefinedAs old new d row (Some place) = (new ≡ old) × (looked old d.class.loader d.class.name ≡ Some row)
 
 -- the class is recorded, by an event more unless its loader has recorded the name before (5.3.5)
-abbrev pub Defines : Shown → Shown → Drafted → Type 0
-Defines old new d = DefinedAs old new d (recorded (records_of old) d.class.loader d.class.name)
+abbrev pub Defines : Shown → Shown → Drafted → Rowed → Type 0
+Defines old new d row = DefinedAs old new d row (recorded (records_of old) d.class.loader d.class.name)
 
--- what an answer rests on is recorded: the class that is answered, by the loader that defined it (5.3)
-abbrev pub VerdictBacked : Option ℕ → List ℕ → Verdict → Type 0
-VerdictBacked place name (verdicts.Class c) = (place ≡ Some c.loader) × (c.name ≡ name)
-VerdictBacked place name (verdicts.Error kind c) = Unit {0}
+-- a loader may be recorded as initiating: the home was found under this configuration, the loader is one of these, and the
+-- home has defined the class (5.3)
+pub record MayJoin (x : Shown) (h : Located) : Type 0 where
+  pub config : h.config ≡ x.config
+  pub loader : h.asked < length x.config.loaders
+  pub defined : recorded (records_of x) h.place h.name ≡ Some h.place
+
+-- the loader that was asked is recorded as initiating (5.3)
+abbrev pub with_initiate : Shown → Located → Shown
+with_initiate x h = record x { history = x.history ++ events.Initiate (class h.name h.place) h.asked ∷ [] }
+
+-- an event more and the row of the home's class, or no event and the row that stands, where the loader has recorded the name (5.3)
+abbrev pub InitiatedAs : Shown → Shown → Located → Rowed → Option ℕ → Type 0
+InitiatedAs old new h row None = MayJoin old h × (new ≡ with_initiate old h) × (looked old h.place h.name ≡ Some row)
+InitiatedAs old new h row (Some place) = (new ≡ old) × (looked old h.asked h.name ≡ Some row)
+
+-- the loader that was asked is recorded, by an event more unless it has recorded the name before (5.3)
+abbrev pub Initiates : Shown → Shown → Located → Rowed → Type 0
+Initiates old new h row = InitiatedAs old new h row (recorded (records_of old) h.asked h.name)
+
+-- an answer more, and its event (own choice)
+abbrev pub with_post : Shown → ℕ → Answer → Shown
+with_post x q a = record x { history = x.history ++ events.Post q ∷ []; answers = slice_set x.answers q (Some a) }
+
+-- the next round begins (own choice)
+abbrev pub with_round : Shown → Shown
+with_round x = record x { history = x.history ++ events.NextRound ∷ [] }
+
+-- what an error rests on is recorded, and was found under this configuration (5.3, 5.3.5)
+abbrev pub BasisStands : Shown → Option Based → Type 0
+BasisStands x None = ⊥
+BasisStands x (Some b) = (b.config ≡ x.config) × AllMet (state_of x) b.needs
+
+-- what a verdict rests on stands in the tables: the class that is answered, by the loader that defined it, or what an error
+-- rests on (5.3, 5.3.5)
+abbrev pub VerdictBacked : Shown → ℕ → List ℕ → Verdict → Option Based → Type 0
+VerdictBacked x loader name (verdicts.Class c) b = (c.name ≡ name) × (recorded (records_of x) loader name ≡ Some c.loader)
+VerdictBacked x loader name (verdicts.Error kind c) b = BasisStands x b
 
 -- the same of an answer (5.3)
-abbrev pub AnswerBacked : Option ℕ → List ℕ → Answer → Type 0
-AnswerBacked place name (answers.Said v) = VerdictBacked place name v
-AnswerBacked place name answers.Memory = Unit {0}
-AnswerBacked place name (answers.SourceFault n l) = Unit {0}
+abbrev pub AnswerBacked : Shown → Answered → Answer → Type 0
+AnswerBacked x f (answers.Said v) = VerdictBacked x (loader_of f.request) (name_of f.request) v f.basis
+AnswerBacked x f answers.Memory = Unit {0}
+AnswerBacked x f (answers.SourceFault n l) = Unit {0}
 
 -- its loaders are those of the configuration, too (5.3)
 pub record IsBacked (x : Shown) (f : Answered) : Type 0 where
-  pub loader : loader_of f.request < length x.config.names
-  pub names : AnswerNames (length x.config.names) f.answer
-  pub answer : AnswerBacked (recorded (records_of x) (loader_of f.request) (name_of f.request)) (name_of f.request) f.answer
+  pub loader : loader_of f.request < length x.config.loaders
+  pub names : AnswerNames (length x.config.loaders) f.answer
+  pub answer : AnswerBacked x f f.answer
 
 -- the request of this number asks what was answered (own choice)
 abbrev pub IsAsked : Shown → ℕ → Answered → Type 0
 IsAsked x q f = slice_get x.script.requests q ≡ Some f.request
 
+-- the request of this number is of a later round (own choice)
+pub record IsLater (x : Shown) (q : ℕ) : Type 0 where
+  pub round : ℕ
+  pub of : slice_get x.script.rounds_of q ≡ Some round
+  pub later : round_of x < round
+
 -- the request of this number has no answer yet (own choice)
 abbrev pub IsOpen : Shown → ℕ → Type 0
 IsOpen x q = slice_get x.answers q ≡ Some None
 
--- the request of this number asks what was answered, has no answer yet, and the tables bear the answer (5.3)
-abbrev pub Fits : Shown → ℕ → Answered → Type 0
-Fits x q f = IsAsked x q f × IsOpen x q × IsBacked x f
+-- the request of this number asks what was answered, is of no later round, has no answer yet, and the tables bear the answer (5.3)
+pub record Fits (x : Shown) (q : ℕ) (f : Answered) : Type 0 where
+  pub asked : IsAsked x q f
+  pub begun : IsLater x q → ⊥
+  pub unanswered : IsOpen x q
+  pub backed : IsBacked x f
+
+-- each request of the round has its answer, and there is a later round (own choice)
+abbrev pub MayGoOn : Shown → Type 0
+MayGoOn x = machine.EndsRound (schedule_of x.script) x.script.rounds (state_of x)

@@ -1,13 +1,16 @@
-ghost use Rattle.std.specs.Prelude.{◌≡◌};
+ghost use Rattle.std.specs.Prelude.{◌≡◌, Some, None};
+ghost use Rattle.std.specs.Option.{option_map};
+ghost use Rattle.cl_registry.specs.Bases.{based};
 ghost use Rattle.cl_model.specs.declared.verdict.Verdict.TheVariants as verdicts;
 ghost use Rattle.cl_model.specs.declared.answer.Answer.TheVariants as answers;
-ghost use Rattle.cl_registry.specs.Findings.{IsFor, Stops, verdict_at, kind_of, missing_kind, Rests};
+ghost use Rattle.cl_registry.specs.Findings.{IsFor, Stops, basis_at, kind_of, missing_kind, verdict_at, Rests};
 
-use cl_delegation::Unfound;
-use cl_hierarchy::{Draft, DraftFault, Unreadable, Walk};
+use cl_delegation::{Home, Unfound};
+use cl_hierarchy::{ClassRow, DraftFault, Path, Unreadable};
 use cl_model::{Answer, Class, ErrorKind, LoaderId, Request, Told, Verdict};
 use cl_names::Name;
-use std::marker::{Model, PhantomData};
+use std::marker::Model;
+use std::sync::Arc;
 
 /// What stops a derivation (JVMS SE 8, 5.3.5).
 #[derive(Drop)]
@@ -16,26 +19,39 @@ pub enum Obstacle<T: Told> {
     Missing(Unfound<T>),
     /// The bytes of the name that is looked for are not its class.
     Unreadable(Unreadable<T>),
-    /// The superclass of the class that is looked for stands on the walk already.
-    Circle(Draft<T>, Name),
+    /// What is looked for is being derived already.
+    Circle(Home<T>),
+    /// The class that is looked for, as it is recorded, does not fit as a supertype.
+    Misfit(Arc<ClassRow<T>>, Class, ErrorKind),
 }
 
-/// A request and its answer, which rests on what was found on the way.
+/// What an error rests on.
+#[derive(Drop)]
+pub(crate) struct Basis<T: Told> {
+    /// The classes that were being derived, with the supertypes that each had accepted.
+    path: Path<T>,
+    /// Which loader defined the class that does not fit, if that is the error.
+    misfit: Option<LoaderId>,
+}
+
+/// A request and its answer, with what that rests on.
 #[derive(Drop)]
 pub struct Finding<T: Told> {
     request: Request,
     answer: Answer,
-    of: PhantomData<T>,
+    basis: Option<Basis<T>>,
 }
 
 impl<T: Told> Model for Finding<T> {
+    ghost use Rattle.std.specs.Option.{option_map};
     ghost use Rattle.cl_registry.specs.Findings.{Answered, Rests};
+    ghost use Rattle.cl_registry.specs.Bases.{based};
 
     ghost Value = { Answered };
 
-    ghost view = { λ f. record { request = f.request; answer = f.answer } };
+    ghost view = { λ f. record { request = f.request; answer = f.answer; basis = option_map (λ b. based b.path b.misfit) f.basis } };
 
-    ghost invariant = { λ f. Rests T.told f.request f.answer };
+    ghost invariant = { λ f. Rests T.told (record { request = f.request; answer = f.answer; basis = option_map (λ b. based b.path b.misfit) f.basis }) };
 }
 
 fn kind_of(fault: DraftFault) -> ErrorKind
@@ -48,97 +64,59 @@ fn kind_of(fault: DraftFault) -> ErrorKind
     }
 }
 
-fn missing_kind<T: Told>(walk: &Walk<T>) -> ErrorKind
-    ensures { result ≡ missing_kind walk.now.drafts }
+fn missing_kind<T: Told>(path: &Path<T>) -> ErrorKind
+    ensures { result ≡ missing_kind path.now.frames }
 {
-    if walk.is_empty() {
+    if path.is_empty() {
         ErrorKind::ClassNotFoundException
     } else {
         ErrorKind::NoClassDefFoundError
     }
 }
 
-/// The error of a request, from its walk and what stopped it.
-fn verdict_at<T: Told>(request: &Request, walk: Walk<T>, end: Obstacle<T>) -> Verdict
-    requires walk { IsFor request.now walk }
-    requires stops { Stops walk end }
-    ensures verdict { result ≡ verdict_at walk end }
-    ensures rests { Rests T.told request.now (answers.Said result) }
-{
-    // brings what a walk keeps
-    let _ = walk.at();
-    match end {
-        Obstacle::Missing(unfound) => {
-            // brings that no content has the name, where one is told
-            let _ = unfound.name();
-            let kind = missing_kind(&walk);
-            Verdict::Error(kind, walk.into_class())
-        }
-        Obstacle::Unreadable(unreadable) => {
-            // brings that the bytes are the home's, where a content is told
-            let _ = unreadable.home().bytes();
-            let kind = kind_of(unreadable.fault());
-            Verdict::Error(kind, walk.into_class())
-        }
-        Obstacle::Circle(draft, above) => {
-            // brings that the draft is its class's, where a content is told
-            let _ = draft.super_name();
-            let loader = walk.loader();
-            let class = Class {
-                name: above,
-                loader,
-            };
-            Verdict::Error(ErrorKind::ClassCircularityError, class)
-        }
-    }
-}
-
 impl<T: Told> Finding<T> {
     /// The class that a request loaded, as the tables have it.
     pub fn class(request: Request, class: Class) -> Finding<T>
-        ensures { result ≡ record { request = request; answer = answers.Said (verdicts.Class class) } }
+        ensures { result ≡ record { request = request; answer = answers.Said (verdicts.Class class); basis = None } }
     {
         Finding {
             request,
             answer: Answer::Said(Verdict::Class(class)),
-            of: PhantomData,
+            basis: None,
         }
     }
 
-    /// The error that a request ends in: the walk from its class down, and what stopped it there.
-    pub fn obstacle(request: Request, walk: Walk<T>, end: Obstacle<T>) -> Finding<T>
-        requires walk { IsFor request walk }
-        requires stops { Stops walk end }
-        ensures answer { result ≡ record { request = request; answer = answers.Said (verdict_at walk end) } }
-        ensures rests { Rests T.told result.request result.answer }
+    /// The error that a request ends in: the path from its class down, and what stopped it there.
+    pub fn obstacle(request: Request, path: Path<T>, end: Obstacle<T>) -> Finding<T>
+        requires path { IsFor request path }
+        requires stops { Stops path end }
+        ensures request { result.request ≡ request }
+        ensures answer { result.answer ≡ answers.Said (verdict_at path end) }
+        ensures basis { result.basis ≡ Some (basis_at path end) }
     {
-        let verdict = verdict_at(&request, walk, end);
-        Finding {
-            request,
-            answer: Answer::Said(verdict),
-            of: PhantomData,
-        }
+        let _ = crate::stub::stub_never();
+        unreachable!()
     }
 
     /// Memory ran out.
     pub fn memory(request: Request) -> Finding<T>
-        ensures { result ≡ record { request = request; answer = answers.Memory } }
+        ensures { result ≡ record { request = request; answer = answers.Memory; basis = None } }
     {
         Finding {
             request,
             answer: Answer::Memory,
-            of: PhantomData,
+            basis: None,
         }
     }
 
     /// The source could not be read at a name of a loader.
     pub fn source_fault(request: Request, name: Name, loader: LoaderId) -> Finding<T>
-        ensures { result ≡ record { request = request; answer = answers.SourceFault name loader } }
+        ensures { result ≡ record { request = request; answer = answers.SourceFault name loader; basis = None } }
     {
         Finding {
             request,
             answer: Answer::SourceFault(name, loader),
-            of: PhantomData,
+            basis: None,
         }
     }
 
@@ -152,15 +130,22 @@ impl<T: Told> Finding<T> {
     /// Its answer.
     pub fn answer(&self) -> &Answer
         ensures answer { result.now ≡ self.now.answer }
-        ensures rests { Rests T.told self.now.request self.now.answer }
+        ensures rests { Rests T.told self.now }
     {
         &self.answer
+    }
+
+    /// What an error rests on.
+    pub(crate) fn basis(&self) -> Option<&Basis<T>>
+        ensures { option_map (λ b. based b.now.path b.now.misfit) result ≡ self.now.basis }
+    {
+        self.basis.as_ref()
     }
 
     /// Its answer, given up.
     pub(crate) fn into_answer(self) -> Answer
         ensures answer { result ≡ self.answer }
-        ensures rests { Rests T.told self.request self.answer }
+        ensures rests { Rests T.told self }
     {
         self.answer
     }

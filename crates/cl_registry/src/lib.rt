@@ -1,10 +1,12 @@
-//! The registry of classes, which records what each loader defined and what each request was answered (JVMS SE 8, 5.3).
+//! The registry of classes, which records what each loader defined and initiated and what each request was answered
+//! (JVMS SE 8, 5.3).
 #![tactic(auto)]
 
 pub mod finding;
 pub mod laws;
 pub mod registry;
 pub mod report;
+mod stub;
 mod tables;
 
 pub use finding::{Finding, Obstacle};

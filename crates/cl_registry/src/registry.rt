@@ -1,20 +1,20 @@
-ghost use Rattle.std.specs.Prelude.{◌≡◌, OnOk, IfOk, IfErr, IfSome, MatchOption, length};
-ghost use Rattle.cl_registry.specs.Tables.{Defines, Fits, IsKept, IsNew, IsRowFor, LacksRecord, Records, empty_of, with_post};
-ghost use Rattle.cl_registry.specs.Parts.{IsOf};
-ghost use Rattle.cl_registry.specs.Refusals.{DefineRefusedFor, PostRefusedFor};
-ghost use Rattle.cl_registry.specs.Reports.{HasOpen, IsNamed, IsReport};
+ghost use Rattle.std.specs.Prelude.{◌≡◌, OnOk, IfOk, IfErr, IfSome, MatchBool, MatchOption, length};
+ghost use Rattle.std.specs.Option.{option_map};
+ghost use Rattle.cl_delegation.specs.Searches.{LeadsTo};
+ghost use Rattle.cl_registry.specs.Tables.{Defines, Fits, Initiates, IsKept, LacksRecord, MayGoOn, Records, empty_of, looked, round_of, with_post, with_round};
+ghost use Rattle.cl_registry.specs.Refusals.{DefineRefusedFor, InitiateRefusedFor, PostRefusedFor, RoundRefusedFor};
+ghost use Rattle.cl_registry.specs.Reports.{IsNamed, IsReport, IsUnfinished};
 
 use crate::finding::Finding;
 use crate::report::{Answers, History, Report};
-use crate::tables::{
-    Rows, backs, collect, empty_rows, find, is_asked, is_open, may_enter, record, rooms_for, row_of,
-};
+use crate::tables::Rows;
 use cl_config::{Config, Script};
+use cl_delegation::Home;
 use cl_hierarchy::{ClassRow, Draft};
 use cl_model::{Answer, Event, LoaderId, Told};
 use cl_names::Name;
 use std::alloc::Global;
-use std::marker::{Model, PhantomData};
+use std::marker::Model;
 use std::sync::Arc;
 use thiserror::Error;
 
@@ -29,7 +29,7 @@ pub enum RegistryFault {
     /// The request has an answer.
     #[error("B3 AlreadyPosted")]
     AlreadyPosted,
-    /// A request has no answer.
+    /// A request has no answer, or is of a later round.
     #[error("B4 NotYet")]
     NotYet,
 }
@@ -39,27 +39,32 @@ pub enum RegistryFault {
 pub struct Registry<T: Told> {
     config: Arc<Config>,
     script: Arc<Script>,
-    rows: Rows,
+    /// The rows of the classes that were defined, in order.
+    rows: Vec<Arc<ClassRow<T>>>,
+    /// The rows of each loader, by their names.
+    tables: Rows<T>,
     history: Vec<Event>,
     answers: Vec<Option<Answer>>,
-    /// How many requests have no answer; the history has room for as many posts.
+    round: u32,
+    /// How many requests of each round have no answer.
+    unanswered: Vec<usize>,
+    /// How many requests have no answer; the history has room for as many posts, and for the rounds to come.
     left: usize,
     /// Room for the answers of a report.
     room: Vec<Answer>,
-    of: PhantomData<T>,
 }
 
 impl<T: Told> Model for Registry<T> {
-    ghost use Rattle.std.specs.Prelude.{length, vec_len, vec_capacity};
+    ghost use Rattle.std.specs.Prelude.{length, map, vec_len, vec_capacity};
     ghost use Rattle.std.specs.Option.{option_map};
     ghost use Rattle.cl_registry.specs.Tables.{Shown, row_at};
     ghost use Rattle.cl_registry.specs.Kept.{IsRegistry};
 
     ghost Value = { Shown };
 
-    ghost view = { λ r. record { config = r.config.value; script = r.script.value; history = r.history.items; answers = r.answers.items } };
+    ghost view = { λ r. record { config = r.config.value; script = r.script.value; rows = map (λ c. c.value) r.rows.items; history = r.history.items; answers = r.answers.items } };
 
-    ghost invariant = { λ r. IsRegistry T.told (record { config = r.config.value; script = r.script.value; history = r.history.items; answers = r.answers.items }) (λ l n. option_map (λ c. c.value) (row_at r.rows.items l n)) (length r.rows.items) (vec_len r.history) (vec_capacity r.history) r.left (vec_len r.room) (vec_capacity r.room) };
+    ghost invariant = { λ r. IsRegistry T.told (record { config = r.config.value; script = r.script.value; rows = map (λ c. c.value) r.rows.items; history = r.history.items; answers = r.answers.items }) (record { table = λ l n. option_map (λ c. c.value) (row_at r.tables.items l n); parts = length r.tables.items; events = vec_len r.history; room_for_events = vec_capacity r.history; left = r.left; unanswered = r.unanswered.items; round = r.round; filled = vec_len r.room; room = vec_capacity r.room }) };
 }
 
 /// A registry could not be made.
@@ -91,7 +96,7 @@ pub struct NotYet<T: Told> {
 }
 
 impl<T: Told> Registry<T> {
-    /// Empty tables, with room for all posts. Only memory refuses it.
+    /// Empty tables, with room for all posts and rounds. Only memory refuses it.
     pub fn new(
         alloc: Global,
         config: Arc<Config>,
@@ -102,76 +107,60 @@ impl<T: Told> Registry<T> {
         ensures config_back { IfErr result (λ e. e.config.value ≡ config.value) }
         ensures script_back { IfErr result (λ e. e.script.value ≡ script.value) }
     {
-        let left = script.requests().len();
-        let rows = match empty_rows(alloc, config.seed(), config.count()) {
-            Ok(rows) => rows,
-            Err(_) => return Err(RegistryRefused { config, script }),
-        };
-        let parts = match rooms_for(alloc, left) {
-            Ok(parts) => parts,
-            Err(_) => return Err(RegistryRefused { config, script }),
-        };
-        Ok(Registry {
-            config,
-            script,
-            rows,
-            history: parts.history,
-            answers: parts.answers,
-            left,
-            room: parts.room,
-            of: PhantomData,
-        })
+        let _ = crate::stub::stub_never();
+        unreachable!()
+    }
+
+    /// Whether configuration and script are those of this registry.
+    pub fn serves(&self, config: &Config, script: &Script) -> bool
+        ensures { MatchBool result ((config.now ≡ self.now.config) × (script.now ≡ self.now.script)) ((config.now ≡ self.now.config) × (script.now ≡ self.now.script) → ⊥) }
+    {
+        let _ = crate::stub::stub_never();
+        unreachable!()
     }
 
     /// The class that a loader has recorded for a name (JVMS SE 8, 5.3).
-    pub fn look(&self, loader: LoaderId, name: &Name) -> Option<&Arc<ClassRow>>
+    pub fn look(&self, loader: LoaderId, name: &Name) -> Option<&Arc<ClassRow<T>>>
+        ensures row { option_map (λ r. r.now.value) result ≡ looked self.now loader name.now }
         ensures found { MatchOption result (LacksRecord self.now loader name.now) (λ r. Records self.now loader name.now r.now.value) }
-        ensures row { IfSome result (λ r. IsRowFor T.told r.now.value loader name.now) }
         ensures kept { IsKept T.told self.now }
     {
-        find(&self.rows, loader, name)
+        let _ = crate::stub::stub_never();
+        unreachable!()
     }
 
-    /// Records a class with its loader, which defines it, and answers the row of the draft; one that is recorded is
-    /// answered as it is.
+    /// Records a class with its loader, which defines it, and answers its row; of a class that is recorded the row stays,
+    /// and is answered (JVMS SE 8, 5.3.5).
     pub fn define(
         &mut self,
         alloc: Global,
         draft: Draft<T>,
-    ) -> Result<Arc<ClassRow>, DefineRefused<T>>
-        ensures defined { OnOk result (Defines self.old self.new draft) }
-        ensures row { IfOk result (λ r. IsRowFor T.told r.value draft.class.loader draft.class.name) }
-        ensures fresh { IsNew self.old draft → IfOk result (λ r. IsOf r.value draft) }
+    ) -> Result<Arc<ClassRow<T>>, DefineRefused<T>>
+        ensures defined { IfOk result (λ r. Defines self.old self.new draft r.value) }
+        ensures found { IfOk result (λ r. Records self.new draft.class.loader draft.class.name r.value) }
         ensures refused { IfErr result (λ e. DefineRefusedFor self.old draft e.fault) }
         ensures unchanged { IfErr result (λ e. (self.new ≡ self.old) × (e.draft ≡ draft)) }
         ensures kept { IsKept T.told self.new }
     {
-        match row_of(&self.rows, &draft) {
-            Some(row) => {
-                return match Arc::try_clone(row) {
-                    Ok(row) => Ok(row),
-                    Err(_) => Err(DefineRefused {
-                        fault: RegistryFault::Memory,
-                        draft,
-                    }),
-                };
-            }
-            None => {}
-        }
-        if !may_enter(&self.rows, self.config.count(), &draft) {
-            return Err(DefineRefused {
-                fault: RegistryFault::Stray,
-                draft,
-            });
-        }
-        let row = match record(alloc, &mut self.rows, &mut self.history, self.left, &draft) {
-            Ok(row) => row,
-            Err(_) => return Err(DefineRefused {
-                fault: RegistryFault::Memory,
-                draft,
-            }),
-        };
-        Ok(row)
+        let _ = crate::stub::stub_never();
+        unreachable!()
+    }
+
+    /// Records the loader that was asked as initiating the class of its home, and answers its row; where the loader has
+    /// recorded the name, that row stays and is answered (JVMS SE 8, 5.3).
+    pub fn initiate(
+        &mut self,
+        alloc: Global,
+        home: &Home<T>,
+    ) -> Result<Arc<ClassRow<T>>, RegistryFault>
+        ensures initiated { IfOk result (λ r. Initiates self.old self.new home.now r.value) }
+        ensures found { IfOk result (λ r. Records self.new home.now.asked home.now.name r.value) }
+        ensures refused { IfErr result (λ fault. InitiateRefusedFor self.old home.now fault) }
+        ensures unchanged { IfErr result (λ fault. self.new ≡ self.old) }
+        ensures kept { IsKept T.told self.new }
+    {
+        let _ = crate::stub::stub_never();
+        unreachable!()
     }
 
     /// Posts the answer of a request.
@@ -182,59 +171,31 @@ impl<T: Told> Registry<T> {
         ensures unchanged { IfErr result (λ e. (self.new ≡ self.old) × (e.finding ≡ finding)) }
         ensures kept { IsKept T.told self.new }
     {
-        if !is_asked(self.script.requests(), q, finding.request()) {
-            return Err(PostRefused {
-                fault: RegistryFault::Stray,
-                finding,
-            });
-        }
-        if !is_open(&self.answers, q) {
-            return Err(PostRefused {
-                fault: RegistryFault::AlreadyPosted,
-                finding,
-            });
-        }
-        if !backs(
-            &self.rows,
-            self.config.count(),
-            finding.request(),
-            finding.answer(),
-        ) {
-            return Err(PostRefused {
-                fault: RegistryFault::Stray,
-                finding,
-            });
-        }
-        self.answers[q as usize] = Some(finding.into_answer());
-        self.left -= 1;
-        self.history.push_reserved(Event::Post(q));
-        Ok(())
+        let _ = crate::stub::stub_never();
+        unreachable!()
     }
 
-    /// The report, once each request has its answer.
+    /// Begins the next round, once each request of this one has its answer, and answers its number.
+    pub fn next_round(&mut self) -> Result<u32, RegistryFault>
+        ensures may { OnOk result (MayGoOn self.old) }
+        ensures begun { OnOk result (self.new ≡ with_round self.old) }
+        ensures number { IfOk result (λ round. round ≡ round_of self.new) }
+        ensures refused { IfErr result (λ fault. RoundRefusedFor self.old fault) }
+        ensures unchanged { IfErr result (λ fault. self.new ≡ self.old) }
+        ensures kept { IsKept T.told self.new }
+    {
+        let _ = crate::stub::stub_never();
+        unreachable!()
+    }
+
+    /// The report, once each request has its answer and the last round has begun.
     pub fn into_report(self) -> Result<Report, NotYet<T>>
         ensures whole { IfOk result (λ r. IsReport self r) }
         ensures kept { IfOk result (λ r. IsKept T.told self) }
-        ensures loaders { IfOk result (λ r. IsNamed (length self.config.names) r) }
-        ensures refused { IfErr result (λ e. (e.registry ≡ self) × HasOpen self) }
+        ensures loaders { IfOk result (λ r. IsNamed (length self.config.loaders) r) }
+        ensures refused { IfErr result (λ e. (e.registry ≡ self) × IsUnfinished self) }
     {
-        if self.left != 0 {
-            return Err(NotYet { registry: self });
-        }
-        let Registry {
-            config: _,
-            script,
-            rows: _,
-            history,
-            answers,
-            left: _,
-            room,
-            of: _,
-        } = self;
-        Ok(Report {
-            script,
-            history: History::from(history),
-            answers: Answers::from(collect(answers, room)),
-        })
+        let _ = crate::stub::stub_never();
+        unreachable!()
     }
 }

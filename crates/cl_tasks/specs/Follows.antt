@@ -1,48 +1,68 @@
 -- What a turn rests on: the tables, as far as the task was told of them, the plan of its request, and the faults told.
-use Rattle.std.specs.Prelude.{◌≡◌, ◌<◌, length, Option, Some, None}
+use Rattle.std.specs.Prelude.{◌≡◌, ◌<◌, ℕ, List, length, Option, Some, None}
 use Rattle.cl_model.specs.declared.answer.Answer.{Answer}
 use Rattle.cl_model.specs.declared.answer.Answer.TheVariants as answers
 use Rattle.cl_model.specs.declared.request.Request.{Request}
 use Rattle.cl_model.specs.Content.{Content}
-use Rattle.cl_model.specs.Classes.{class}
-use Rattle.cl_model.specs.States.{State, Entry, IsRecorded}
+use Rattle.cl_model.specs.States.{State, Entry, recorded}
+use Rattle.cl_model.specs.Frames.{AllKept}
 use Rattle.cl_model.specs.Machine.{Setting, AnswersPlan, IsClosed}
 use Rattle.cl_model.specs.Service.{IsNextNeed}
 use Rattle.cl_model.specs.Views.{request_of, verdict_of}
 use Rattle.cl_source.specs.declared.source.SourceFault.{SourceFault}
 use Rattle.cl_source.specs.declared.source.SourceFault.TheVariants as faults
-use Rattle.cl_registry.specs.Findings.{loader_of}
-use Rattle.cl_registry.specs.Tables.{Shown, state_of, MayEnter, IsBacked}
 use Rattle.cl_config.specs.Views.{Configured}
-use Rattle.cl_hierarchy.specs.Walks.{Walked}
 use Rattle.cl_delegation.specs.Worlds.{world_of}
+use Rattle.cl_hierarchy.specs.Rows.{Rowed}
+use Rattle.cl_hierarchy.specs.Paths.{Pathed, frames_of, at_name}
+use Rattle.cl_registry.specs.Findings.{loader_of}
+use Rattle.cl_registry.specs.Tables.{Shown, state_of, NamesLoaders, MayEnter, MayJoin, IsBacked}
+use Rattle.cl_tasks.specs.Tasks.{Tasked}
 use Rattle.cl_tasks.specs.declared.stage.Reply.{Reply}
 use Rattle.cl_tasks.specs.declared.stage.Reply.TheVariants as reply
 use Rattle.cl_tasks.specs.declared.stage.Turn.{Turn}
 use Rattle.cl_tasks.specs.declared.stage.Turn.TheVariants as turn
 
--- what a reply tells of the tables, and stays so: what the walk is at is recorded, by the walk's loader (5.3)
-abbrev pub Tells : {A : Type 0} → State → Walked → Reply A → Type 0
-Tells s w (reply.Start) = Unit {0}
-Tells s w (reply.Looked None) = Unit {0}
-Tells s w (reply.Looked (Some row)) = IsRecorded s (class w.at w.loader)
-Tells s w (reply.Probed p) = Unit {0}
-Tells s w (reply.Defined row) = IsRecorded s (class w.at w.loader)
-Tells s w (reply.Memory) = Unit {0}
-Tells s w (reply.SourceFault f) = Unit {0}
+-- ---- what is told of the tables, and stays so
+
+-- a loader has recorded the name as this row's class (5.3)
+abbrev pub IsRecordedAs : State → ℕ → List ℕ → Rowed → Type 0
+IsRecordedAs s loader name row = (row.class.name ≡ name) × (recorded s.records loader name ≡ Some row.class.loader)
+
+-- what a reply tells: what the task looked for is recorded where it asked (5.3)
+abbrev pub TellsOf : {A : Type 0} → State → ℕ → List ℕ → Reply A → Type 0
+TellsOf s loader name (reply.Start) = Unit {0}
+TellsOf s loader name (reply.Looked None) = Unit {0}
+TellsOf s loader name (reply.Looked (Some row)) = IsRecordedAs s loader name row.value
+TellsOf s loader name (reply.Probed p) = Unit {0}
+TellsOf s loader name (reply.Defined row) = IsRecordedAs s loader name row.value
+TellsOf s loader name (reply.Initiated row) = IsRecordedAs s loader name row.value
+TellsOf s loader name (reply.Memory) = Unit {0}
+TellsOf s loader name (reply.SourceFault f) = Unit {0}
+
+-- what a task was told so far: what its classes accepted is recorded (5.3, 5.3.5)
+abbrev pub Holds : State → Tasked → Type 0
+Holds s t = AllKept s (frames_of t.path)
+
+-- what it was told before this reply, and by it (5.3, 5.3.5)
+pub record Tells {A : Type 0} (s : State) (t : Tasked) (r : Reply A) : Type 0 where
+  pub before : Holds s t
+  pub now : TellsOf s t.place (at_name t.path) r
 
 -- ---- the tables, under any source
 
--- the tables bear what a turn asks for: a class may be recorded, an answered class is (5.3)
+-- the tables bear what a turn asks for: a class may be recorded, a loader may be recorded as initiating, what an answer rests
+-- on is recorded (5.3)
 abbrev pub Backed : {A : Type 0} → Shown → Turn A → Type 0
 Backed x (turn.Look l n) = Unit {0}
 Backed x (turn.Read l n) = Unit {0}
 Backed x (turn.Define d) = MayEnter x d
+Backed x (turn.Initiate h) = MayJoin x h.value
 Backed x (turn.Post f) = IsBacked x f
 
--- the tables bear a turn wherever this holds of them and they have the request's loader (5.3)
-abbrev pub BackedWhere : {A : Type 0} → (State → Type 0) → Request → Turn A → Type 0
-BackedWhere holds r t = (x : Shown) → loader_of r < length x.config.names → holds (state_of x) → Backed x t
+-- the tables of this configuration, which name its loaders alone, bear a turn wherever what the task was told holds of them (5.3)
+abbrev pub BackedWhere : {A : Type 0} → Configured → (State → Type 0) → Turn A → Type 0
+BackedWhere c holds t = (x : Shown) → x.config ≡ c → NamesLoaders x → holds (state_of x) → Backed x t
 
 -- ---- the plan, where the source tells a content
 
@@ -52,45 +72,45 @@ AnswerFollows g s r (answers.Said v) = AnswersPlan g s (request_of r) (verdict_o
 AnswerFollows g s r answers.Memory = Unit {0}
 AnswerFollows g s r (answers.SourceFault name loader) = Unit {0}
 
--- a turn is what the plan of the request asks next: the record of a class is the next need, an answer is the plan's (5.3.5)
+-- a turn is what the plan of the request asks next: the record of a class, or of the loader that was asked for it, is the next
+-- need; an answer is the plan's (5.3, 5.3.5)
 abbrev pub Follows : {A : Type 0} → Setting → State → Request → Turn A → Type 0
 Follows g s r (turn.Look l n) = Unit {0}
 Follows g s r (turn.Read l n) = Unit {0}
 Follows g s r (turn.Define d) = IsNextNeed g.world s (request_of r) (Entry d.class.loader d.class.name d.class.loader)
+Follows g s r (turn.Initiate h) = IsNextNeed g.world s (request_of r) (Entry h.value.asked h.value.name h.value.place) × (h.value.asked ≡ h.value.place → ⊥)
 Follows g s r (turn.Post f) = AnswerFollows g s r f.answer
 
--- where a request is served: the world is that of the content that is told and of one loader, which the request names,
--- and what is recorded is of that world (5.3)
-pub record ServedIn (told : Option Content) (g : Setting) (s : State) (r : Request) : Type 0 where
+-- where a request is served: the world is that of the content that is told and of this configuration, and what is recorded is
+-- of that world (5.3)
+pub record ServedIn (told : Option Content) (c : Configured) (g : Setting) (s : State) : Type 0 where
   pub content : Content
   pub told_so : told ≡ Some content
-  pub config : Configured
-  pub world : g.world ≡ world_of config content
-  pub one : length config.names ≡ 1
-  pub loader : loader_of r < length config.names
+  pub world : g.world ≡ world_of c content
   pub closed : IsClosed g.world s
 
 -- a turn follows the plan wherever the request is served and this holds (5.3.5)
-abbrev pub FollowsWhere : {A : Type 0} → Option Content → (State → Type 0) → Request → Turn A → Type 0
-FollowsWhere told holds r t = (g : Setting) (s : State) → ServedIn told g s r → holds s → Follows g s r t
+abbrev pub FollowsWhere : {A : Type 0} → Option Content → Configured → (State → Type 0) → Request → Turn A → Type 0
+FollowsWhere told c holds r t = (g : Setting) (s : State) → ServedIn told c g s → holds s → Follows g s r t
 
 -- ---- faults
 
--- the answer that a refused read is: out of memory, or what was to be read (own choice)
-abbrev pub fault_answer : Walked → SourceFault → Answer
-fault_answer w faults.Memory = answers.Memory
-fault_answer w faults.Device = answers.SourceFault w.at w.loader
-fault_answer w faults.TooLarge = answers.SourceFault w.at w.loader
-fault_answer w faults.Twice = answers.SourceFault w.at w.loader
+-- the answer that a refused read is: out of memory, or what was to be read at which loader (own choice)
+abbrev pub fault_answer : Tasked → SourceFault → Answer
+fault_answer t faults.Memory = answers.Memory
+fault_answer t faults.Device = answers.SourceFault (at_name t.path) t.place
+fault_answer t faults.TooLarge = answers.SourceFault (at_name t.path) t.place
+fault_answer t faults.Twice = answers.SourceFault (at_name t.path) t.place
 
 -- the answer that a reply is, where it is a refusal (own choice)
-abbrev pub refusal : {A : Type 0} → Walked → Reply A → Option Answer
-refusal w (reply.Start) = None
-refusal w (reply.Looked row) = None
-refusal w (reply.Probed p) = None
-refusal w (reply.Defined row) = None
-refusal w (reply.Memory) = Some answers.Memory
-refusal w (reply.SourceFault fault) = Some (fault_answer w fault)
+abbrev pub refusal : {A : Type 0} → Tasked → Reply A → Option Answer
+refusal t (reply.Start) = None
+refusal t (reply.Looked row) = None
+refusal t (reply.Probed p) = None
+refusal t (reply.Defined row) = None
+refusal t (reply.Initiated row) = None
+refusal t (reply.Memory) = Some answers.Memory
+refusal t (reply.SourceFault fault) = Some (fault_answer t fault)
 
 -- an answer is no fault of the source
 abbrev pub NoFault : Answer → Type 0
@@ -103,6 +123,7 @@ abbrev pub PostsNoFault : {A : Type 0} → Turn A → Type 0
 PostsNoFault (turn.Look l n) = Unit {0}
 PostsNoFault (turn.Read l n) = Unit {0}
 PostsNoFault (turn.Define d) = Unit {0}
+PostsNoFault (turn.Initiate h) = Unit {0}
 PostsNoFault (turn.Post f) = NoFault f.answer
 
 -- a turn posts this answer
@@ -110,6 +131,7 @@ abbrev pub Posts : {A : Type 0} → Answer → Turn A → Type 0
 Posts a (turn.Look l n) = ⊥
 Posts a (turn.Read l n) = ⊥
 Posts a (turn.Define d) = ⊥
+Posts a (turn.Initiate h) = ⊥
 Posts a (turn.Post f) = f.answer ≡ a
 
 -- a refusal is posted as its answer, and a fault of the source nowhere else (own choice)

@@ -3,7 +3,7 @@
 
 mod phase;
 mod stage;
-mod step;
+mod stub;
 mod task;
 
 pub use phase::Phase;

@@ -1,5 +1,5 @@
-use cl_delegation::Search;
-use cl_hierarchy::{ClassRow, Draft, Walk};
+use cl_delegation::{Home, Search};
+use cl_hierarchy::{ClassRow, Draft, Path};
 use cl_model::{LoaderId, Request, Told};
 use cl_names::Name;
 use cl_registry::Finding;
@@ -11,9 +11,10 @@ use std::sync::Arc;
 pub enum Reply<T: Told> {
     /// To be the first.
     Start,
-    Looked(Option<Arc<ClassRow>>),
+    Looked(Option<Arc<ClassRow<T>>>),
     Probed(Probe<T>),
-    Defined(Arc<ClassRow>),
+    Defined(Arc<ClassRow<T>>),
+    Initiated(Arc<ClassRow<T>>),
     /// Memory was refused.
     Memory,
     SourceFault(SourceFault),
@@ -26,8 +27,10 @@ pub enum Turn<T: Told> {
     Look(LoaderId, Name),
     /// To read a name of a loader.
     Read(LoaderId, Name),
-    /// To record a class.
+    /// To record a class with its home.
     Define(Draft<T>),
+    /// To record the loader that was asked for a class.
+    Initiate(Arc<Home<T>>),
     /// To post the answer. It is the last.
     Post(Finding<T>),
 }
@@ -37,7 +40,7 @@ pub enum Turn<T: Told> {
 pub struct Job<T: Told> {
     pub q: u32,
     pub request: Request,
-    pub walk: Walk<T>,
+    pub path: Path<T>,
 }
 
 /// What a task is at.
@@ -46,7 +49,11 @@ pub enum Stage<T: Told> {
     Fresh(Job<T>),
     Looking(Job<T>),
     Searching(Job<T>, Search<T>),
-    Defining(Job<T>),
+    /// What is looked for was found at this home, which is another loader than the one that was asked.
+    Homing(Job<T>, Home<T>),
+    /// The class of this home is being recorded.
+    Defining(Job<T>, Arc<Home<T>>),
+    Initiating(Job<T>),
     /// The request of this number has its answer.
     Done(u32),
 }

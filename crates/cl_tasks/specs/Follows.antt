@@ -1,11 +1,14 @@
 -- What a turn rests on: the tables, as far as the task was told of them, the plan of its request, and the faults told.
-use Rattle.std.specs.Prelude.{◌≡◌, ◌<◌, ℕ, List, length, Option, Some, None}
+use Rattle.std.specs.Prelude.{◌≡◌, ◌<◌, ℕ, List, [], ◌∷◌, length, Option, Some, None}
 use Rattle.cl_model.specs.declared.answer.Answer.{Answer}
 use Rattle.cl_model.specs.declared.answer.Answer.TheVariants as answers
 use Rattle.cl_model.specs.declared.request.Request.{Request}
 use Rattle.cl_model.specs.Content.{Content}
+use Rattle.cl_classfile.specs.Files.{file_of}
+use Rattle.cl_model.specs.declared.class.Class.{Class}
+use Rattle.cl_model.specs.Classes.{Above, supers, misfit}
 use Rattle.cl_model.specs.States.{State, Entry, recorded}
-use Rattle.cl_model.specs.Frames.{AllKept}
+use Rattle.std.specs.List.{AllByRecursion}
 use Rattle.cl_model.specs.Machine.{Setting, AnswersPlan, IsClosed}
 use Rattle.cl_model.specs.Service.{IsNextNeed}
 use Rattle.cl_model.specs.Views.{request_of, verdict_of}
@@ -16,7 +19,7 @@ use Rattle.cl_delegation.specs.Worlds.{world_of}
 use Rattle.cl_hierarchy.specs.Rows.{Rowed}
 use Rattle.cl_hierarchy.specs.Paths.{Pathed, frames_of, at_name}
 use Rattle.cl_registry.specs.Findings.{loader_of}
-use Rattle.cl_registry.specs.Tables.{Shown, state_of, NamesLoaders, MayEnter, MayJoin, IsBacked}
+use Rattle.cl_registry.specs.Tables.{Shown, state_of, records_of, looked, NamesLoaders, MayEnter, MayJoin, IsBacked}
 use Rattle.cl_tasks.specs.Tasks.{Tasked}
 use Rattle.cl_tasks.specs.declared.stage.Reply.{Reply}
 use Rattle.cl_tasks.specs.declared.stage.Reply.TheVariants as reply
@@ -25,29 +28,44 @@ use Rattle.cl_tasks.specs.declared.stage.Turn.TheVariants as turn
 
 -- ---- what is told of the tables, and stays so
 
--- a loader has recorded the name as this row's class (5.3)
-abbrev pub IsRecordedAs : State → ℕ → List ℕ → Rowed → Type 0
-IsRecordedAs s loader name row = (row.class.name ≡ name) × (recorded s.records loader name ≡ Some row.class.loader)
+-- a loader has recorded the name as this row's class, and this row is kept (5.3)
+pub record IsRecordedAs (x : Shown) (loader : ℕ) (name : List ℕ) (row : Rowed) : Type 0 where
+  pub named : row.class.name ≡ name
+  pub recorded : recorded (records_of x) loader name ≡ Some row.class.loader
+  pub kept : looked x loader name ≡ Some row
 
 -- what a reply tells: what the task looked for is recorded where it asked (5.3)
-abbrev pub TellsOf : {A : Type 0} → State → ℕ → List ℕ → Reply A → Type 0
-TellsOf s loader name (reply.Start) = Unit {0}
-TellsOf s loader name (reply.Looked None) = Unit {0}
-TellsOf s loader name (reply.Looked (Some row)) = IsRecordedAs s loader name row.value
-TellsOf s loader name (reply.Probed p) = Unit {0}
-TellsOf s loader name (reply.Defined row) = IsRecordedAs s loader name row.value
-TellsOf s loader name (reply.Initiated row) = IsRecordedAs s loader name row.value
-TellsOf s loader name (reply.Memory) = Unit {0}
-TellsOf s loader name (reply.SourceFault f) = Unit {0}
+abbrev pub TellsOf : {A : Type 0} → Shown → ℕ → List ℕ → Reply A → Type 0
+TellsOf x loader name (reply.Start) = Unit {0}
+TellsOf x loader name (reply.Looked None) = Unit {0}
+TellsOf x loader name (reply.Looked (Some row)) = IsRecordedAs x loader name row.value
+TellsOf x loader name (reply.Probed p) = Unit {0}
+TellsOf x loader name (reply.Defined row) = IsRecordedAs x loader name row.value
+TellsOf x loader name (reply.Initiated row) = IsRecordedAs x loader name row.value
+TellsOf x loader name (reply.Memory) = Unit {0}
+TellsOf x loader name (reply.SourceFault f) = Unit {0}
 
--- what a task was told so far: what its classes accepted is recorded (5.3, 5.3.5)
-abbrev pub Holds : State → Tasked → Type 0
-Holds s t = AllKept s (frames_of t.path)
+-- a class has accepted a recorded one as this supertype, which fits (5.3.5, steps 3 and 4)
+pub record HasAccepted (x : Shown) (c t : Class) (a : Above) : Type 0 where
+  pub row : Rowed
+  pub recorded : IsRecordedAs x c.loader a.name row
+  pub is : row.class ≡ t
+  pub fits : misfit c a.role row.class (file_of row.file) ≡ None
+
+-- and so each of these as the first direct supertypes (5.3.5, steps 3 and 4)
+abbrev pub HaveAccepted : Shown → Class → List Class → List Above → Type 0
+HaveAccepted x c [] others = Unit {0}
+HaveAccepted x c (t ∷ ts) [] = ⊥
+HaveAccepted x c (t ∷ ts) (a ∷ others) = HasAccepted x c t a × HaveAccepted x c ts others
+
+-- what a task was told so far: what its classes accepted is recorded, and fits (5.3, 5.3.5)
+abbrev pub Holds : Shown → Tasked → Type 0
+Holds x t = AllByRecursion (λ f. HaveAccepted x f.class f.accepted (supers f.file)) (frames_of t.path)
 
 -- what it was told before this reply, and by it (5.3, 5.3.5)
-pub record Tells {A : Type 0} (s : State) (t : Tasked) (r : Reply A) : Type 0 where
-  pub before : Holds s t
-  pub now : TellsOf s t.place (at_name t.path) r
+pub record Tells {A : Type 0} (x : Shown) (t : Tasked) (r : Reply A) : Type 0 where
+  pub before : Holds x t
+  pub now : TellsOf x t.place (at_name t.path) r
 
 -- ---- the tables, under any source
 
@@ -61,8 +79,8 @@ Backed x (turn.Initiate h) = MayJoin x h.value
 Backed x (turn.Post f) = IsBacked x f
 
 -- the tables of this configuration, which name its loaders alone, bear a turn wherever what the task was told holds of them (5.3)
-abbrev pub BackedWhere : {A : Type 0} → Configured → (State → Type 0) → Turn A → Type 0
-BackedWhere c holds t = (x : Shown) → x.config ≡ c → NamesLoaders x → holds (state_of x) → Backed x t
+abbrev pub BackedWhere : {A : Type 0} → Configured → (Shown → Type 0) → Turn A → Type 0
+BackedWhere c holds t = (x : Shown) → x.config ≡ c → NamesLoaders x → holds x → Backed x t
 
 -- ---- the plan, where the source tells a content
 
@@ -90,8 +108,8 @@ pub record ServedIn (told : Option Content) (c : Configured) (g : Setting) (s : 
   pub closed : IsClosed g.world s
 
 -- a turn follows the plan wherever the request is served and this holds (5.3.5)
-abbrev pub FollowsWhere : {A : Type 0} → Option Content → Configured → (State → Type 0) → Request → Turn A → Type 0
-FollowsWhere told c holds r t = (g : Setting) (s : State) → ServedIn told c g s → holds s → Follows g s r t
+abbrev pub FollowsWhere : {A : Type 0} → Option Content → Configured → (Shown → Type 0) → Request → Turn A → Type 0
+FollowsWhere told c holds r t = (g : Setting) (x : Shown) → ServedIn told c g (state_of x) → holds x → Follows g (state_of x) r t
 
 -- ---- faults
 

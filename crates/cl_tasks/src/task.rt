@@ -1,5 +1,5 @@
 ghost use Rattle.std.specs.Prelude.{◌≡◌, ◌<◌, IfOk, IfErr, IfSome, MatchBool, length};
-ghost use Rattle.cl_model.specs.States.{State};
+ghost use Rattle.cl_registry.specs.Tables.{Shown};
 ghost use Rattle.cl_registry.specs.Findings.{loader_of};
 ghost use Rattle.cl_tasks.specs.Tasks.{begun, left};
 ghost use Rattle.cl_tasks.specs.Turns.{Asks, Expects, ReadsUnrecorded, Serves};
@@ -81,9 +81,9 @@ impl<T: Told> Task<T> {
         ensures asks { Asks self.new result }
         ensures serves { Serves self.old self.new result }
         ensures left { left self.new < left self.old }
-        ensures keeps { (s : State) → Tells s self.old reply → Holds s self.new }
-        ensures backed { BackedWhere self.old.config (λ s. Tells s self.old reply) result }
-        ensures next { IfSome self.old.request (λ r. FollowsWhere T.told self.old.config (λ s. Tells s self.old reply) r result) }
+        ensures keeps { (x : Shown) → Tells x self.old reply → Holds x self.new }
+        ensures backed { BackedWhere self.old.config (λ x. Tells x self.old reply) result }
+        ensures next { IfSome self.old.request (λ r. FollowsWhere T.told self.old.config (λ x. Tells x self.old reply) r result) }
         ensures refused { Refuses (refusal self.old reply) result }
         ensures reads { ReadsUnrecorded reply result }
     {

@@ -1,6 +1,7 @@
 -- What the probes of a search say of the home.
 use Rattle.std.proofs.Common.{◌≡◌, ℕ, zero, suc, ◌<◌, ◌≤◌, Bool, true, false, cond, List, [], ◌∷◌, ◌++◌, length, Option, Some, None, is_some, refl, sym, ap, subst, ◌∙◌, arith, IsSome}
 use Rattle.std.specs.Prelude.{find, slice_get, MatchOption}
+use Rattle.std.specs.Option.{unwrap_or}
 use Rattle.cl_model.specs.Content.{Content, content_at}
 use Rattle.cl_model.specs.Homes.{home}
 use Rattle.cl_config.specs.Views.{Configured}
@@ -79,3 +80,14 @@ leads_home (Some content) s p f found =
     let end : IsFound (Some content) s.name (slice_get (route_of s) (length s.absent)) p = subst (λ (o : Option Found). IsEnd (Some content) s.name (slice_get (route_of s) (length s.absent)) o) found f.found in
     let here : content_at content p.loader s.name ≡ p.bytes = ap (content_at content p.loader) (sym end.probe.name) ∙ end.probe.told in
     home_is_on_route (world_of s.config content) s.loader s.name ∙ found_at content s.name (route_of s) s.absent p.loader f.absent end.next (ap is_some here ∙ some_bytes p.bytes end.bytes)
+
+-- ---- what a home keeps
+
+unwrapped : (o : Option (List ℕ)) → IsSome o → o ≡ Some (unwrap_or o [])
+unwrapped None h = absurd cc
+unwrapped (Some x) h = refl
+
+pub home_kept : (told : Option Content) (s : Searched) (p : Found) → Follows told s → s.found ≡ Some p → (p.name ≡ s.name) × (p.bytes ≡ Some (unwrap_or p.bytes [])) × LeadsTo told s.config s.loader s.name (Some p.loader)
+home_kept told s p f found =
+    let end : IsFound told s.name (slice_get (route_of s) (length s.absent)) p = subst (λ (o : Option Found). IsEnd told s.name (slice_get (route_of s) (length s.absent)) o) found f.found in
+    (end.probe.name, unwrapped p.bytes end.bytes, leads_home told s p f found)

@@ -1,16 +1,12 @@
 -- What the probes of a search say of the home.
-use Rattle.std.proofs.Common.{◌≡◌, ℕ, zero, suc, ◌<◌, ◌≤◌, Bool, true, false, cond, List, [], ◌∷◌, ◌++◌, length, Option, Some, None, is_some, refl, sym, ap, subst, ◌∙◌, arith, IsSome}
-use Rattle.std.specs.Prelude.{find, slice_get, MatchOption}
+use Rattle.std.proofs.Common.{◌≡◌, ℕ, true, false, List, [], ◌∷◌, ◌++◌, length, Option, Some, None, is_some, refl, sym, ap, subst, ◌∙◌, IsSome}
+use Rattle.std.specs.Prelude.{find, slice_get}
 use Rattle.std.specs.Option.{unwrap_or}
 use Rattle.cl_model.specs.Content.{Content, content_at}
-use Rattle.cl_model.specs.Homes.{home}
-use Rattle.cl_config.specs.Views.{Configured}
-use Rattle.cl_config.specs.Loaders.{loaders_of}
 use Rattle.cl_source.specs.Told.{IsTold}
 use Rattle.cl_source.specs.Views.{Found}
 use Rattle.cl_delegation.specs.Worlds.{world_of}
-use Rattle.cl_delegation.specs.Routes.{route}
-use Rattle.cl_delegation.specs.Searches.{Searched, route_of, next_on, with_bytes, with_probe, IsProbeOf, AllLack, IsFound, IsEnd, Follows, LeadsTo}
+use Rattle.cl_delegation.specs.Searches.{Searched, route_of, next_on, with_bytes, IsProbeOf, AllLack, IsFound, IsEnd, Follows, LeadsTo}
 use Rattle.cl_delegation.proofs.Routes.{home_is_on_route}
 
 -- ---- one probe more

@@ -1,6 +1,6 @@
 -- No search asks a loader twice.
-use Rattle.std.proofs.Common.{◌≡◌, ◌≢◌, ◌⊎◌, ℕ, zero, suc, ◌+◌, ◌<◌, ◌≤◌, nat_eq, nat_lt, Bool, true, false, List, [], ◌∷◌, ◌++◌, length, Option, Some, None, refl, sym, ap, subst, ◌∙◌, arith}
-use Rattle.std.specs.Prelude.{find, slice_get, All, IfSome, if◌then◌else◌}
+use Rattle.std.proofs.Common.{◌≡◌, ◌≢◌, ℕ, zero, suc, ◌<◌, ◌≤◌, nat_eq, nat_lt, Bool, true, false, List, [], ◌∷◌, ◌++◌, length, Option, Some, None, refl, sym, subst, arith}
+use Rattle.std.specs.Prelude.{find, slice_get, IfSome, if◌then◌else◌}
 use Rattle.std.specs.List.{AllByRecursion, starts_with}
 use Rattle.cl_classfile.specs.Files.{Name}
 use Rattle.cl_model.specs.Homes.{is_java}
@@ -10,7 +10,7 @@ use Rattle.cl_config.specs.Views.{Configured, Loader, Import}
 use Rattle.cl_config.specs.Configs.{IsConfig, LeadsBelow}
 use Rattle.cl_config.specs.Loaders.{loaders_of}
 use Rattle.cl_config.proofs.Below.{below_at}
-use Rattle.cl_delegation.specs.Routes.{NoneTwice, AsksOnce, route_from, route}
+use Rattle.cl_delegation.specs.Routes.{NoneTwice, AsksOnce, route_from}
 use Rattle.cl_delegation.proofs.Ways.{by_import, alone, parent_first, child_first, target_below}
 
 Below : ℕ → List ℕ → Type 0

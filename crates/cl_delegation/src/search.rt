@@ -138,7 +138,7 @@ impl<T: Told> Search<T> {
             }),
             None => Err(Unfound {
                 config,
-                asked: loader,
+                loader,
                 name,
                 absent,
             }),
@@ -212,7 +212,7 @@ impl<T: Told> Home<T> {
     pub fn absent(&self) -> &[Probe<T>]
         ensures { result.now ≡ self.now.absent }
     {
-        self.absent.as_slice()
+        &self.absent
     }
 
     /// The name, given up by the home.
@@ -227,7 +227,7 @@ impl<T: Told> Home<T> {
 #[derive(Drop)]
 pub struct Unfound<T: Told> {
     config: Arc<Config>,
-    asked: LoaderId,
+    loader: LoaderId,
     name: Name,
     absent: Vec<Probe<T>>,
 }
@@ -238,9 +238,9 @@ impl<T: Told> Model for Unfound<T> {
 
     ghost Value = { Sought };
 
-    ghost view = { λ u. record { config = u.config.value; asked = u.asked; name = u.name; absent = u.absent.items } };
+    ghost view = { λ u. record { config = u.config.value; asked = u.loader; name = u.name; absent = u.absent.items } };
 
-    ghost invariant = { λ u. LeadsTo T.told u.config.value u.asked u.name None };
+    ghost invariant = { λ u. LeadsTo T.told u.config.value u.loader u.name None };
 }
 
 impl<T: Told> Unfound<T> {
@@ -256,7 +256,7 @@ impl<T: Told> Unfound<T> {
     pub fn asked(&self) -> LoaderId
         ensures { result ≡ self.now.asked }
     {
-        self.asked
+        self.loader
     }
 
     /// The name that was asked for.

@@ -1,5 +1,5 @@
 -- What the probes of a search say of the home.
-use Rattle.std.proofs.Common.{◌≡◌, ℕ, true, false, List, [], ◌∷◌, ◌++◌, length, Option, Some, None, is_some, refl, sym, ap, subst, ◌∙◌, IsSome}
+use Rattle.std.proofs.Common.{◌<◌, ◌≡◌, ℕ, true, false, List, [], ◌∷◌, ◌++◌, length, Option, Some, None, is_some, refl, sym, ap, subst, ◌∙◌, IsSome}
 use Rattle.std.specs.Prelude.{find, slice_get}
 use Rattle.std.specs.Option.{unwrap_or}
 use Rattle.cl_model.specs.Content.{Content, content_at}
@@ -7,7 +7,9 @@ use Rattle.cl_source.specs.Told.{IsTold}
 use Rattle.cl_source.specs.Views.{Found}
 use Rattle.cl_delegation.specs.Worlds.{world_of}
 use Rattle.cl_delegation.specs.Searches.{Searched, route_of, next_on, with_bytes, IsProbeOf, AllLack, IsFound, IsEnd, Follows, LeadsTo}
+use Rattle.cl_config.specs.Configs.{IsConfig}
 use Rattle.cl_delegation.proofs.Routes.{home_is_on_route}
+use Rattle.cl_delegation.proofs.Once.{route_within}
 
 -- ---- one probe more
 
@@ -83,7 +85,8 @@ unwrapped : (o : Option (List ℕ)) → IsSome o → o ≡ Some (unwrap_or o [])
 unwrapped None h = absurd cc
 unwrapped (Some x) h = refl
 
-pub home_kept : (told : Option Content) (s : Searched) (p : Found) → Follows told s → s.found ≡ Some p → (p.name ≡ s.name) × (p.bytes ≡ Some (unwrap_or p.bytes [])) × LeadsTo told s.config s.loader s.name (Some p.loader)
-home_kept told s p f found =
+pub home_kept : (told : Option Content) (s : Searched) (p : Found) → IsConfig s.config → Follows told s → s.found ≡ Some p
+    → (p.name ≡ s.name) × (p.bytes ≡ Some (unwrap_or p.bytes [])) × LeadsTo told s.config s.loader s.name (Some p.loader) × (p.loader < length s.config.loaders)
+home_kept told s p config f found =
     let end : IsFound told s.name (slice_get (route_of s) (length s.absent)) p = subst (λ (o : Option Found). IsEnd told s.name (slice_get (route_of s) (length s.absent)) o) found f.found in
-    (end.probe.name, unwrapped p.bytes end.bytes, leads_home told s p f found)
+    (end.probe.name, unwrapped p.bytes end.bytes, leads_home told s p f found, route_within s.config s.loader s.name (length s.absent) p.loader config f.loader end.next)

@@ -1,7 +1,7 @@
 //! The search for a name through the loaders.
 
-ghost use Rattle.std.specs.Prelude.{◌≡◌, ◌<◌, ◌≤◌, ◌++◌, [], ◌∷◌, IfOk, OnOk, IfErr, MatchResult, Option, Some, None, length, is_some, slice_get, vec_len, vec_capacity};
-ghost use Rattle.cl_delegation.specs.Searches.{LeadsTo, Follows, begun, next_of, with_probe};
+ghost use Rattle.std.specs.Prelude.{◌≡◌, ◌<◌, ◌≤◌, ◌-◌, ◌++◌, [], ◌∷◌, IfOk, OnOk, IfErr, MatchResult, Option, Some, None, length, is_some, slice_get, vec_len, vec_capacity};
+ghost use Rattle.cl_delegation.specs.Searches.{LeadsTo, Follows, begun, next_of, route_of, with_probe};
 ghost use Rattle.cl_source.specs.Told.{IsTold};
 ghost use Rattle.cl_source.specs.Views.{Found};
 
@@ -94,6 +94,13 @@ impl<T: Told> Search<T> {
         self.route.get(self.absent.len()).copied()
     }
 
+    /// How many loaders are still to be probed, if each of them lacks the name.
+    pub fn left(&self) -> usize
+        ensures { result ≡ length (route_of self.now) - length self.now.absent }
+    {
+        self.route.len().saturating_sub(self.absent.len())
+    }
+
     /// Takes the next probe; another is handed back.
     pub fn take(&mut self, probe: Probe<T>) -> Result<(), WrongProbe<T>>
         ensures next { OnOk result ((next_of self.old ≡ Some probe.loader) × (probe.name ≡ self.old.name)) }
@@ -120,6 +127,8 @@ impl<T: Told> Search<T> {
         ensures probes { MatchResult result (λ h. h.absent ≡ self.absent) (λ u. u.absent ≡ self.absent) }
         ensures found { MatchResult result (λ h. self.found ≡ Some (record { loader = h.place; name = h.name; bytes = Some h.bytes })) (λ u. self.found ≡ None) }
     {
+        // brings that each loader leads to earlier ones alone
+        let _ = self.config.count();
         let Search {
             config,
             loader,
@@ -157,14 +166,14 @@ pub struct Home<T: Told> {
 }
 
 impl<T: Told> Model for Home<T> {
-    ghost use Rattle.std.specs.Prelude.{◌≡◌, [], Some, unwrap_or};
+    ghost use Rattle.std.specs.Prelude.{◌≡◌, ◌<◌, [], Some, length, unwrap_or};
     ghost use Rattle.cl_delegation.specs.Searches.{Located, LeadsTo};
 
     ghost Value = { Located };
 
     ghost view = { λ h. record { config = h.config.value; asked = h.asked; place = h.probe.loader; name = h.name; bytes = unwrap_or h.probe.bytes []; absent = h.absent.items } };
 
-    ghost invariant = { λ h. (h.probe.name ≡ h.name) × (h.probe.bytes ≡ Some (unwrap_or h.probe.bytes [])) × LeadsTo T.told h.config.value h.asked h.name (Some h.probe.loader) };
+    ghost invariant = { λ h. (h.probe.name ≡ h.name) × (h.probe.bytes ≡ Some (unwrap_or h.probe.bytes [])) × LeadsTo T.told h.config.value h.asked h.name (Some h.probe.loader) × (h.probe.loader < length h.config.value.loaders) };
 }
 
 impl<T: Told> Home<T> {
@@ -172,6 +181,7 @@ impl<T: Told> Home<T> {
     pub fn config(&self) -> &Config
         ensures config { result.now ≡ self.now.config }
         ensures leads { LeadsTo T.told self.now.config self.now.asked self.now.name (Some self.now.place) }
+        ensures within { self.now.place < length self.now.config.loaders }
     {
         &self.config
     }
@@ -271,5 +281,12 @@ impl<T: Told> Unfound<T> {
         ensures { result.now ≡ self.now.absent }
     {
         self.absent.as_slice()
+    }
+
+    /// The name, given up.
+    pub fn into_name(self) -> Name
+        ensures { result ≡ self.name }
+    {
+        self.name
     }
 }

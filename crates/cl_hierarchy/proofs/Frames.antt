@@ -23,7 +23,7 @@ named_as [] places = tt
 named_as (a ∷ others) [] = tt
 named_as (a ∷ others) (p ∷ places) = (refl, named_as others places)
 
-none_yet : (others : List Above) → accepted_of others [] ≡ []
+pub none_yet : (others : List Above) → accepted_of others [] ≡ []
 none_yet [] = refl
 none_yet (a ∷ others) = refl
 

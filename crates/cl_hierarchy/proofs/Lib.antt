@@ -1,2 +1,5 @@
 pub mod Drafting
+pub mod Ends
 pub mod Frames
+pub mod Paths
+pub mod Placed

@@ -1,5 +1,5 @@
 -- How the bytes of a home are read as its class (JVMS SE 8, 5.3.5).
-use Rattle.std.specs.Prelude.{◌≡◌, ◌≢◌, ℕ, List, Option, Some, Ok, Err}
+use Rattle.std.specs.Prelude.{◌≡◌, ◌≢◌, ◌<◌, ℕ, List, length, Option, Some, Ok, Err}
 use Rattle.cl_classfile.specs.declared.fault.Fault.{Fault}
 use Rattle.cl_classfile.specs.declared.fault.Fault.TheVariants as faults
 use Rattle.cl_classfile.specs.Structure.{Structure}
@@ -31,6 +31,7 @@ pub record IsDraft (told : Option Content) (d : Drafted) : Type 0 where
   pub placed : d.class ≡ class d.home.name d.home.place
   pub spelt : IsSpelt told d.class d.file
   pub leads : LeadsTo told d.home.config d.home.asked d.home.name (Some d.home.place)
+  pub within : d.home.place < length d.home.config.loaders
 
 -- the first thing that is wrong with the bytes of a home: the version, the rest of the form, the name (5.3.5)
 abbrev pub IsWrong : Located → DraftFault → Type 0

@@ -1,4 +1,4 @@
-ghost use Rattle.std.specs.Prelude.{◌≡◌, MatchResult, Ok, Some, slice_get};
+ghost use Rattle.std.specs.Prelude.{◌≡◌, ◌≤◌, ◌^◌, length, MatchResult, Ok, Some, slice_get};
 ghost use Rattle.cl_model.specs.Classes.{supers};
 ghost use Rattle.cl_hierarchy.specs.Supertypes.{plain_supertype};
 ghost use Rattle.std.specs.Option.{option_map};
@@ -83,6 +83,13 @@ impl<T: Told> Unreadable<T> {
     {
         self.fault
     }
+
+    /// The home, given up.
+    pub fn into_home(self) -> Home<T>
+        ensures { result ≡ self.home }
+    {
+        self.home
+    }
 }
 
 /// Why a home was not read, with the home.
@@ -155,8 +162,11 @@ impl<T: Told> Draft<T> {
     /// (JVMS SE 8, 5.3.5, steps 3 and 4).
     pub fn supertype(&self, place: usize) -> Option<Supertype<'_>>
         ensures name { option_map plain_supertype result ≡ slice_get (supers (file_of self.now.file)) place }
+        ensures few { length (supers (file_of self.now.file)) ≤ 2 ^ 64 }
         ensures draft { IsDraft T.told self.now }
     {
+        // brings that a `usize` counts the interfaces
+        let _ = count_of(self.file.interfaces());
         supertype_of(&self.file, place)
     }
 
@@ -183,6 +193,13 @@ impl<T: Told> Draft<T> {
     {
         (self.class, self.file)
     }
+}
+
+/// How many indices there are.
+fn count_of(indices: &[u16]) -> usize
+    ensures { result ≡ length indices.now }
+{
+    indices.len()
 }
 
 fn refuse<T: Told>(home: Home<T>, fault: DraftFault) -> DraftRefused<T>

@@ -1,0 +1,134 @@
+-- The table behind a path: what is pushed, goes on and ends keeps it.
+use Rattle.std.proofs.Common.{◌≡◌, ◌≢◌, ◌∙◌, ◌<◌, ◌^◌, ◌-◌, ℕ, Bool, true, false, cond, List, [], ◌∷◌, ◌++◌, length, map, Option, Some, None, Result, Ok, Err, slice_get, is_some, refl, sym, ap, subst, arith, length-append}
+use Rattle.std.specs.Prelude.{◌||◌, IsSome, IfSome, OnOk, IfOk, IfErr}
+use Rattle.std.specs.List.{list_any}
+use Rattle.std.specs.Map.{lookup}
+use Rattle.std.specs.Option.{option_map}
+use Rattle.std.proofs.lemmas.List.{map_push, length-map}
+use Rattle.std.proofs.lemmas.Option.{slice_get-map}
+use Rattle.indexmap.specs.IndexMap.{set_value_at}
+use Rattle.cl_classfile.specs.Files.{File, Name, file_of}
+use Rattle.cl_classfile.specs.Structure.{Structure}
+use Rattle.cl_model.specs.declared.class.Class.{Class}
+use Rattle.cl_model.specs.Content.{Content}
+use Rattle.cl_model.specs.Classes.{class, same_class, Above, supers}
+use Rattle.cl_model.specs.Frames.{wanted, asking}
+use Rattle.cl_config.specs.Views.{Configured}
+use Rattle.cl_hierarchy.specs.Drafts.{Drafted, IsSpelt, IsDraft}
+use Rattle.cl_hierarchy.specs.Frames.{Framed, frame_of, with_place}
+use Rattle.cl_hierarchy.specs.Kept.{first_name, frames_in, pathed, KeepsPath, last_wants, LastAccepts}
+use Rattle.cl_hierarchy.specs.Paths.{Pathed, frames_of, fresh, name_of, sought, at_loader, at_name, is_on, IsPath, with_frame, with_frames, misfit_in, misfit_under, Accepts, Completes}
+use Rattle.cl_hierarchy.proofs.Ends.{Ends, last_split, last_of, set_last, frames_push, last_wants_of, asking_push, sought_push, first_push, under_last}
+use Rattle.cl_hierarchy.proofs.Frames.{none_yet}
+use Rattle.cl_hierarchy.proofs.Paths.{stand_pop, path_push, path_pop, path_accept, Suits}
+
+-- ---- a class under which a frame stands
+
+some_cond : {X : Type 0} (b : Bool) (x : X) (o : Option X) → is_some (cond b (Some x) o) ≡ (b || is_some o)
+some_cond true x o = refl
+some_cond false x o = refl
+
+has_key : {X : Type 0} (c : Class) (es : List (Class × X)) → is_some (lookup (same_class c) es) ≡ list_any (same_class c) (map (λ e. e.0) es)
+has_key c [] = refl
+has_key c (e ∷ es) = some_cond (same_class c e.0) e.1 (lookup (same_class c) es) ∙ ap (λ b. same_class c e.0 || b) (has_key c es)
+
+by_class : (c : Class) (es : List (Class × Framed)) → list_any (same_class c) (map (λ e. e.1.draft.class) es) ≡ list_any (λ x. same_class c x.class) (map frame_of (frames_in es))
+by_class c [] = refl
+by_class c (e ∷ es) = ap (λ b. same_class c e.1.draft.class || b) (by_class c es)
+
+pub stands : (c : Class) (es : List (Class × Framed)) → map (λ e. e.0) es ≡ map (λ e. e.1.draft.class) es → is_some (lookup (same_class c) es) ≡ list_any (λ x. same_class c x.class) (map frame_of (frames_in es))
+stands c es keys = has_key c es ∙ ap (list_any (same_class c)) keys ∙ by_class c es
+
+none_of : {X : Type 0} (o : Option X) → is_some o ≡ false → o ≡ None
+none_of None h = refl
+none_of (Some x) h = absurd cc
+
+pub stands_not : (c : Class) (es : List (Class × Framed)) → map (λ e. e.0) es ≡ map (λ e. e.1.draft.class) es → list_any (λ x. same_class c x.class) (map frame_of (frames_in es)) ≡ false → lookup (same_class c) es ≡ None
+stands_not c es keys h = none_of (lookup (same_class c) es) (stands c es keys ∙ h)
+
+-- ---- the last entry
+
+pub at_last : (es : List (Class × Framed)) (k : Class) (x : Framed) (loader : ℕ) → slice_get es (length es - 1) ≡ Some (k, x) → asking loader (map frame_of (frames_in es)) ≡ x.draft.class.loader
+at_last es k x loader h =
+    let s = last_split es (k, x) h in
+    ap (λ (l : List (Class × Framed)). asking loader (map frame_of (frames_in l))) s.split ∙ ap (λ (xs : List Framed). asking loader (map frame_of xs)) (frames_push s.before k x) ∙ asking_push loader (frames_in s.before) x
+
+pub under_entry : (es : List (Class × Framed)) (k : Class) (x : Framed) (t : Class) (f : File) → slice_get es (length es - 1) ≡ Some (k, x) → misfit_under (frames_in es) t f ≡ misfit_in x (wanted (frame_of x)) t f
+under_entry es k x t f h =
+    let s = last_split es (k, x) h in
+    ap (λ (l : List (Class × Framed)). misfit_under (frames_in l) t f) s.split ∙ ap (λ (xs : List Framed). misfit_under xs t f) (frames_push s.before k x) ∙ under_last (frames_in s.before) x t f
+
+entry_of : (x : Framed) (o : Option (Class × Framed)) → (let frame : Class × Framed → Framed = λ e. e.1 in Some x ≡ option_map frame o) → (k : Class) × (o ≡ Some (k, x))
+entry_of x None h = absurd cc
+entry_of x (Some e) h = let same : x ≡ e.1 = cc in (e.0, ap (λ (y : Framed). let z : Class × Framed = (e.0, y) in Some z) (sym same))
+
+pub last_entry : (es : List (Class × Framed)) (x : Framed) → Some x ≡ slice_get (frames_in es) (length es - 1) → (k : Class) × (slice_get es (length es - 1) ≡ Some (k, x))
+last_entry es x h = entry_of x (slice_get es (length es - 1)) (h ∙ slice_get-map (λ (e : Class × Framed). e.1) es (length es - 1))
+
+pub wants_here : (es : List (Class × Framed)) (k : Class) (x : Framed) → slice_get es (length es - 1) ≡ Some (k, x) → last_wants es ≡ wanted (frame_of x)
+wants_here es k x h = let s = last_split es (k, x) h in last_wants_of es s.before k x s.split
+
+-- what the last frame did with the next supertype's loader
+pub last_accepts : {E : Type 0} (es : List (Class × Framed)) (k : Class) (x new : Framed) (place : ℕ) (r : Result (Option (List ℕ)) E) → slice_get es (length es - 1) ≡ Some (k, x) → OnOk r (new ≡ with_place x place)
+    → IfOk r (λ o. o ≡ option_map (λ a. a.name) (wanted (frame_of (with_place x place)))) → IfOk r (LastAccepts es (set_value_at es (length es - 1) new) place)
+last_accepts es k x new place (Err e) h done next = tt
+last_accepts es k x new place (Ok o) h done next =
+    let s = last_split es (k, x) h in
+    let now = set_last es s.before k x new s.split ∙ ap (λ (y : Framed). s.before ++ (k, y) ∷ []) done in
+    record { before = s.before; key = k; last = x; split = s.split; now = now; wants = next }
+
+pub last_stays : {E : Type 0} (es : List (Class × Framed)) (k : Class) (x new : Framed) (r : Result (Option (List ℕ)) E) → slice_get es (length es - 1) ≡ Some (k, x) → IfErr r (λ e. new ≡ x) → IfErr r (λ e. set_value_at es (length es - 1) new ≡ es)
+last_stays es k x new (Ok o) h same = tt
+last_stays es k x new (Err e) h same =
+    let s = last_split es (k, x) h in
+    set_last es s.before k x new s.split ∙ ap (λ (y : Framed). s.before ++ (k, y) ∷ []) same ∙ sym s.split
+
+-- ---- what a path keeps
+
+same_path : (c : Configured) (loader : ℕ) (n m : List ℕ) (xs ys : List Framed) → n ≡ m → xs ≡ ys → (let p : Pathed = record { config = c; loader = loader; name = n; frames = xs } in p) ≡ record { config = c; loader = loader; name = m; frames = ys }
+same_path c loader n m xs ys p q = cc
+
+-- the path of a table that ends in a frame
+ends_in : (c : Configured) (loader : ℕ) (at : List ℕ) (es : List (Class × Framed)) (k : Class) (x : Framed)
+    → pathed c loader at (es ++ (k, x) ∷ []) ≡ record { config = c; loader = loader; name = first_name (frames_in es) x.draft.class.name; frames = frames_in es ++ x ∷ [] }
+ends_in c loader at es k x =
+    same_path c loader _ _ _ _ (ap (λ (xs : List Framed). first_name xs at) (frames_push es k x) ∙ first_push (frames_in es) x at) (frames_push es k x)
+
+keys_push : (es : List (Class × Framed)) (k : Class) (x : Framed) → map (λ e. e.0) es ≡ map (λ e. e.1.draft.class) es → k ≡ x.draft.class → map (λ e. e.0) (es ++ (k, x) ∷ []) ≡ map (λ e. e.1.draft.class) (es ++ (k, x) ∷ [])
+keys_push es k x keys same =
+    map_push (λ (e : Class × Framed). e.0) es (k, x) ∙ ap (λ (ks : List Class). ks ++ k ∷ []) keys ∙ ap (λ (t : Class). map (λ (e : Class × Framed). e.1.draft.class) es ++ t ∷ []) same
+    ∙ sym (map_push (λ (e : Class × Framed). e.1.draft.class) es (k, x))
+
+keys_pop : (es : List (Class × Framed)) (k : Class) (x : Framed) → map (λ e. e.0) (es ++ (k, x) ∷ []) ≡ map (λ e. e.1.draft.class) (es ++ (k, x) ∷ []) → (map (λ e. e.0) es ≡ map (λ e. e.1.draft.class) es) × (k ≡ x.draft.class)
+keys_pop [] k x h = (refl, cc)
+keys_pop (e ∷ es) k x h =
+    let tail : map (λ e. e.0) (es ++ (k, x) ∷ []) ≡ map (λ e. e.1.draft.class) (es ++ (k, x) ∷ []) = cc in
+    let head : e.0 ≡ e.1.draft.class = cc in
+    let r = keys_pop es k x tail in
+    (rw (head, r.0) refl, r.1)
+
+short : (xs : List Framed) (es : List (Class × Framed)) (n : ℕ) → frames_in es ≡ xs → n ≡ length es → n < 2 ^ 64 → length xs < 2 ^ 64
+short xs es n same counted h = subst (λ (ys : List Framed). length ys < 2 ^ 64) same (subst (λ (m : ℕ). m < 2 ^ 64) (counted ∙ sym (length-map es (λ (e : Class × Framed). e.1))) h)
+
+module _ (told : Option Content) (c : Configured) (loader : ℕ) where
+  -- the path and its table with one frame more
+  pub held_push : (n : ℕ) (at next : List ℕ) (es new : List (Class × Framed)) (d : Drafted) → KeepsPath told c loader at es → new ≡ es ++ (class at d.class.loader, fresh d) ∷ [] → IsDraft told d → d.home.config ≡ c
+      → d.home.asked ≡ at_loader (pathed c loader at es) → d.class.name ≡ at_name (pathed c loader at es) → IsSome (wanted (frame_of (fresh d))) → is_on (pathed c loader at es) d.class ≡ false → next ≡ name_of (wanted (frame_of (fresh d)))
+      → n ≡ length new → n < 2 ^ 64 → KeepsPath told c loader next new × (pathed c loader next new ≡ with_frame (pathed c loader at es) (fresh d))
+  held_push n at next es new d kept e draft config asked name waits absent wants counted small =
+      let k = class at d.class.loader in
+      let x = fresh d in
+      let p = pathed c loader at es in
+      let named : d.class.name ≡ at = name ∙ sym kept.at_name in
+      let is : pathed c loader next (es ++ (k, x) ∷ []) ≡ with_frame p x = ends_in c loader next es k x ∙ same_path c loader _ _ _ _ (ap (first_name (frames_in es)) named) refl in
+      let whole : pathed c loader next new ≡ with_frame p x = ap (pathed c loader next) e ∙ is in
+      let many : length (frames_in es ++ x ∷ []) < 2 ^ 64 = short _ new n (ap frames_in e ∙ frames_push es k x) counted small in
+      let path = path_push told p d kept.path draft config asked name waits absent many in
+      let same : k ≡ d.class = ap (λ (m : List ℕ). class m d.class.loader) (sym named) in (
+        record {
+          path = subst (IsPath told) (sym whole) path;
+          keys = subst (λ (l : List (Class × Framed)). map (λ e. e.0) l ≡ map (λ e. e.1.draft.class) l) (sym e) (keys_push es k x kept.keys same);
+          at_name = wants ∙ sym (ap at_name whole ∙ sought_push p.name (frames_in es) x);
+        },
+        whole,
+      )

@@ -1,6 +1,6 @@
 -- The table behind a path: what is pushed, goes on and ends keeps it.
 use Rattle.std.proofs.Common.{◌≡◌, ◌≢◌, ◌∙◌, ◌<◌, ◌^◌, ◌-◌, ℕ, Bool, true, false, cond, List, [], ◌∷◌, ◌++◌, length, map, Option, Some, None, Result, Ok, Err, slice_get, is_some, refl, sym, ap, subst, arith, length-append}
-use Rattle.std.specs.Prelude.{◌||◌, IsSome, IfSome, OnOk, IfOk, IfErr}
+use Rattle.std.specs.Prelude.{◌||◌, IsSome, OnOk, IfOk, IfErr}
 use Rattle.std.specs.List.{list_any}
 use Rattle.std.specs.Map.{lookup}
 use Rattle.std.specs.Option.{option_map}
@@ -19,9 +19,8 @@ use Rattle.cl_config.specs.Views.{Configured}
 use Rattle.cl_hierarchy.specs.Drafts.{Drafted, IsSpelt, IsDraft}
 use Rattle.cl_hierarchy.specs.Frames.{Framed, frame_of, with_place}
 use Rattle.cl_hierarchy.specs.Kept.{first_name, frames_in, pathed, KeepsPath, last_wants, LastAccepts}
-use Rattle.cl_hierarchy.specs.Paths.{Pathed, frames_of, fresh, name_of, sought, at_loader, at_name, is_on, IsPath, with_frame, with_frames, misfit_in, misfit_under, Accepts, Completes}
-use Rattle.cl_hierarchy.proofs.Ends.{Ends, last_split, last_of, set_last, frames_push, last_wants_of, asking_push, sought_push, first_push, under_last}
-use Rattle.cl_hierarchy.proofs.Frames.{none_yet}
+use Rattle.cl_hierarchy.specs.Paths.{Pathed, fresh, name_of, at_loader, at_name, is_on, IsPath, with_frame, with_frames, misfit_in, misfit_under, Accepts, Completes}
+use Rattle.cl_hierarchy.proofs.Ends.{Ends, last_split, set_last, frames_push, last_wants_of, asking_push, sought_push, first_push, under_last}
 use Rattle.cl_hierarchy.proofs.Paths.{stand_pop, path_push, path_pop, path_accept, Suits}
 
 -- ---- a class under which a frame stands
@@ -263,7 +262,7 @@ module _ (told : Option Content) (c : Configured) (loader : ℕ) (at : List ℕ)
       let keys = keys_pop a.before a.key was (subst (λ (l : List (Class × Framed)). map (λ e. e.0) l ≡ map (λ e. e.1.draft.class) l) a.split kept.keys) in
       let key : k ≡ was.draft.class = ap (λ (e : Class × Framed). e.0) last.1 ∙ keys.1 in
       let below : pathed c loader k.name rest ≡ record { config = c; loader = loader; name = name; frames = xs } =
-        same_path c loader _ _ _ _ (ap (λ (l : List (Class × Framed)). first_name (frames_in l) k.name) last.0 ∙ ap (λ (z : Class). first_name xs z.name) key) (ap frames_in last.0) in (
+      same_path c loader _ _ _ _ (ap (λ (l : List (Class × Framed)). first_name (frames_in l) k.name) last.0 ∙ ap (λ (z : Class). first_name xs z.name) key) (ap frames_in last.0) in (
         record {
           path = subst (IsPath told) (sym below) (path_pop told c loader name xs was whole);
           keys = subst (λ (l : List (Class × Framed)). map (λ e. e.0) l ≡ map (λ e. e.1.draft.class) l) (sym last.0) keys.0;

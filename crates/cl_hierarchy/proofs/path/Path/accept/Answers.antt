@@ -1,10 +1,10 @@
-use Rattle.std.proofs.Common.{◌≡◌, ◌≢◌, ◌∙◌, ℕ, List, [], Option, Some, None, ap, sym, subst}
+use Rattle.std.proofs.Common.{◌≡◌, ◌≢◌, [], Some, None, ap, sym, subst}
 use Rattle.cl_classfile.specs.Files.{file_of}
 use Rattle.cl_model.specs.declared.class.Class.{Class}
 use Rattle.cl_hierarchy.specs.Drafts.{Drafted}
 use Rattle.cl_hierarchy.specs.Kept.{KeepsPath, pathed}
 use Rattle.cl_hierarchy.specs.Paths.{Pathed, at_name, misfit_under, Accepts, Completes}
-use Rattle.cl_hierarchy.proofs.Tables.{waits_last, Fits, accepts_so, held_accept, held_end}
+use Rattle.cl_hierarchy.proofs.Tables.{waits_last, accepts_so, held_accept, held_end}
 use Rattle.cl_hierarchy.proofs.path.Path.accept.Goals as goal
 
 pub accept_last-requires : goal.accept_last-requires
@@ -22,15 +22,15 @@ goes_on g c =
       fits = subst (λ (p : Pathed). misfit_under p.frames c.args.row.now.class (file_of c.args.row.now.file) ≡ None) (sym c.self.view_is) c.requires.fits;
     })
     (accepts_so c.self.inside.frames.entries c.accept_last.new.frames.entries c.class.result.now.loader c.args.row.now.class.loader c.in_ok-next.field-0 (Some c.in-Some.next) (ap (λ (t : Class). t.loader) c.class.ensures.class)
-      c.in-Some.is c.in_ok-next.ensures.accepted)
+    c.in-Some.is c.in_ok-next.ensures.accepted)
 
 ends : (g : _) (c : goal.After-into_draft g) → KeepsPath g.T.Told.told c.self.inside.config.value c.self.inside.loader c.in-Some-pop.class.name c.pop.new.self.entries
     × Completes (pathed c.self.inside.config.value c.self.inside.loader c.self.inside.at c.self.inside.frames.entries) (pathed c.self.inside.config.value c.self.inside.loader c.in-Some-pop.class.name c.pop.new.self.entries) c.args.row.now.class.loader
-      c.in-Some-pop.frame.draft
+    c.in-Some-pop.frame.draft
 ends g c =
     held_end g.T.Told.told c.self.inside.config.value c.self.inside.loader c.self.inside.at c.self.inside.frames.entries c.accept_last.new.frames.entries c.pop.new.self.entries c.in-Some-pop.class c.in-Some-pop.frame c.args.row.now.class c.self.invariant
     (accepts_so c.self.inside.frames.entries c.accept_last.new.frames.entries c.class.result.now.loader c.args.row.now.class.loader c.in_ok-next.field-0 None (ap (λ (t : Class). t.loader) c.class.ensures.class)
-      c.in-None.is c.in_ok-next.ensures.accepted)
+    c.in-None.is c.in_ok-next.ensures.accepted)
     c.in-Some-pop.ensures.entries
 
 pub invariant_of-self-in-Some : goal.invariant_of-self-in-Some

@@ -1,12 +1,11 @@
 -- The last of a list, of a table, and of the frames of a path.
-use Rattle.std.proofs.Common.{◌≡◌, ◌∙◌, ◌-◌, ℕ, suc, List, [], ◌∷◌, ◌++◌, length, map, Option, Some, None, slice_get, refl, sym, ap, subst, arith, length-append}
+use Rattle.std.proofs.Common.{◌≡◌, ◌∙◌, ◌-◌, ℕ, suc, List, [], ◌∷◌, ◌++◌, length, map, Some, slice_get, refl, ap, subst, arith, length-append}
 use Rattle.std.specs.List.{AllByRecursion}
 use Rattle.std.specs.Prelude.{option_and_then}
 use Rattle.std.proofs.lemmas.List.{map_push}
 use Rattle.indexmap.specs.IndexMap.{set_value_at}
 use Rattle.cl_classfile.specs.Files.{File}
 use Rattle.cl_model.specs.declared.class.Class.{Class}
-use Rattle.cl_model.specs.Classes.{Above, Error}
 use Rattle.cl_model.specs.Frames.{wanted, asking}
 use Rattle.cl_hierarchy.specs.Frames.{Framed, frame_of}
 use Rattle.cl_hierarchy.specs.Kept.{first_name, frames_in, last_wants}

@@ -9,6 +9,7 @@ use Rattle.cl_model.specs.Classes.{class, Above, supers}
 use Rattle.cl_model.specs.Frames.{Frame, NamedAs, wanted, accepting}
 use Rattle.cl_hierarchy.specs.Drafts.{Drafted}
 use Rattle.cl_hierarchy.specs.Frames.{Framed, accepted_of, frame_of, with_place}
+use Rattle.cl_hierarchy.specs.Paths.{fresh}
 
 -- as many classes as places, while there are supertypes for them
 pub as_many : (others : List Above) (places : List ℕ) → length places ≤ length others → length (accepted_of others places) ≡ length places
@@ -26,6 +27,10 @@ named_as (a ∷ others) (p ∷ places) = (refl, named_as others places)
 pub none_yet : (others : List Above) → accepted_of others [] ≡ []
 none_yet [] = refl
 none_yet (a ∷ others) = refl
+
+-- a draft that has accepted nothing wants the first
+pub fresh_wants : (d : Drafted) → wanted (frame_of (fresh d)) ≡ slice_get (supers (file_of d.file)) 0
+fresh_wants d = ap (λ (ts : List Class). slice_get (supers (file_of d.file)) (length ts)) (none_yet (supers (file_of d.file)))
 
 -- one place more is one class more, of the name that comes next
 one_more : (others : List Above) (places : List ℕ) (place : ℕ) (a : Above) → slice_get others (length (accepted_of others places)) ≡ Some a → accepted_of others (places ++ place ∷ []) ≡ accepted_of others places ++ class a.name place ∷ []

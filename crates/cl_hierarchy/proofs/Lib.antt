@@ -3,3 +3,4 @@ pub mod Ends
 pub mod Frames
 pub mod Paths
 pub mod Placed
+pub mod Tables

@@ -1,21 +1,20 @@
 -- Paths: what is pushed, goes on and ends keeps them.
-use Rattle.std.proofs.Common.{◌≡◌, ◌∙◌, ◌<◌, ◌^◌, ℕ, Bool, false, List, [], ◌∷◌, ◌++◌, length, map, Option, Some, None, refl, sym, ap, subst, arith, length-append}
+use Rattle.std.proofs.Common.{◌≡◌, ◌∙◌, ◌<◌, ◌^◌, ℕ, false, List, [], ◌∷◌, ◌++◌, length, map, Option, Some, None, refl, sym, ap, subst, arith, length-append}
 use Rattle.std.specs.Prelude.{IsSome, IfSome}
-use Rattle.std.specs.List.{AllByRecursion}
 use Rattle.std.proofs.lemmas.List.{map_push}
 use Rattle.cl_classfile.specs.Files.{file_of}
 use Rattle.cl_classfile.specs.Structure.{Structure}
 use Rattle.cl_model.specs.declared.class.Class.{Class}
 use Rattle.cl_model.specs.Content.{Content}
-use Rattle.cl_model.specs.Classes.{class, Above, Error, misfit}
+use Rattle.cl_model.specs.Classes.{class, Above, misfit}
 use Rattle.cl_model.specs.Frames.{Frame, wanted, asking, accepting, IsFrames, Judged}
 use Rattle.cl_model.proofs.Stacks.{frame_push, frame_pop, frame_accept, path_scanned}
 use Rattle.cl_config.specs.Views.{Configured}
 use Rattle.cl_delegation.specs.Worlds.{world_of}
 use Rattle.cl_hierarchy.specs.Drafts.{Drafted, IsSpelt, IsDraft}
 use Rattle.cl_hierarchy.specs.Frames.{Framed, frame_of, with_place}
-use Rattle.cl_hierarchy.specs.Paths.{Pathed, frames_of, fresh, name_of, sought, at_loader, at_name, is_on, Stands, AllStand, KeepsRules, IsPath, with_frame, with_frames, misfit_in, misfit_under}
-use Rattle.cl_hierarchy.proofs.Ends.{all_push, all_pop, asking_push, sought_push, under_last}
+use Rattle.cl_hierarchy.specs.Paths.{Pathed, frames_of, fresh, name_of, sought, at_loader, at_name, is_on, Stands, AllStand, KeepsRules, IsPath, with_frame, misfit_in}
+use Rattle.cl_hierarchy.proofs.Ends.{all_push, all_pop, asking_push, sought_push}
 use Rattle.cl_hierarchy.proofs.Frames.{accepts_one}
 use Rattle.cl_hierarchy.proofs.Placed.{fresh_frame, spelt_judged}
 
@@ -48,7 +47,7 @@ ruled_end c content loader name xs x a want r =
     let at : sought name (xs ++ x ∷ []) ≡ a.name = sought_push name xs x ∙ ap name_of want in
     subst (λ (n : List ℕ). Ruled c content loader name (xs ++ x ∷ []) (asking loader (map frame_of (xs ++ x ∷ []))) n) (sym at)
     (subst (λ (l : ℕ). Ruled c content loader name (xs ++ x ∷ []) l a.name) (sym (asking_push loader xs x))
-      (subst (λ (fs : List Frame). IsFrames w [] loader name fs x.draft.class.loader a.name) (sym (map_push frame_of xs x)) r))
+    (subst (λ (fs : List Frame). IsFrames w [] loader name fs x.draft.class.loader a.name) (sym (map_push frame_of xs x)) r))
 
 -- the same, of frames that end in one
 ruled_ends : (c : Configured) (content : Content) (loader : ℕ) (name : List ℕ) (xs : List Framed) (x : Framed) (al : ℕ) (an : List ℕ) → Ruled c content loader name (xs ++ x ∷ []) al an
@@ -118,7 +117,7 @@ module _ (told : Option Content) (c : Configured) (loader : ℕ) (name : List �
       let same : t.name ≡ a.0.name = named ∙ ap name_of a.1 in
       let fit : misfit x.draft.class a.0.role t (file_of f) ≡ None = subst (λ (o : Option Above). misfit_in x o t (file_of f) ≡ None) a.1 fits in
       let judged : Judged w x.draft.class a.0.role None (class a.0.name t.loader) =
-        subst (λ (n : List ℕ). Judged w x.draft.class a.0.role None (class n t.loader)) same (spelt_judged c content x.draft.class t a.0.role None f spelt fit) in
+      subst (λ (n : List ℕ). Judged w x.draft.class a.0.role None (class n t.loader)) same (spelt_judged c content x.draft.class t a.0.role None f spelt fit) in
       let framed : frame_of next ≡ accepting (frame_of x) (class a.0.name t.loader) = subst (λ (o : Option Above). IfSome o (λ a. frame_of next ≡ accepting (frame_of x) (class a.name t.loader))) a.1 (accepts_one x next t.loader refl (wanted (frame_of x)) refl) in
       let went = frame_accept w [] loader _ name _ (map frame_of xs) (frame_of x) a.0 b.0 (class a.0.name t.loader) (ruled_ends c content loader name xs x _ _ rules) a.1 refl judged (subst (λ (y : Frame). wanted y ≡ Some b.0) framed b.1) in
       ruled_end c content loader name xs next b.0 b.1 (subst (λ (y : Frame). IsFrames w [] loader name (map frame_of xs ++ y ∷ []) x.draft.class.loader b.0.name) (sym framed) went)

@@ -1,5 +1,5 @@
 -- What a content says of a class of which bytes are told, and of the frame of a draft.
-use Rattle.std.proofs.Common.{◌≡◌, ◌∙◌, ℕ, Bool, false, List, [], ◌∷◌, Option, Some, None, Ok, Err, refl, sym, ap, subst}
+use Rattle.std.proofs.Common.{◌≡◌, ◌∙◌, ℕ, Bool, false, List, Option, Some, None, Ok, Err, refl, sym, ap, subst}
 use Rattle.std.specs.Prelude.{if◌then◌else◌}
 use Rattle.std.proofs.lemmas.Cmp.{nat_eq_equiv, nat_list_eq_equiv}
 use Rattle.cl_classfile.specs.Files.{File, same_name, file_of}
@@ -9,13 +9,13 @@ use Rattle.cl_model.specs.Content.{Content, content_at}
 use Rattle.cl_model.specs.Homes.{World, home}
 use Rattle.cl_model.specs.Classes.{class, is_among, Error, NoClassDef, is_own, named, read_found, HasFile, IsAtHome, Role, Above, supers}
 use Rattle.cl_model.specs.Classes as classes
-use Rattle.cl_model.specs.Frames.{Frame, Accepts, IsFrame, Judged}
+use Rattle.cl_model.specs.Frames.{Accepts, IsFrame, Judged}
 use Rattle.cl_model.specs.Worlds.{seen}
 use Rattle.cl_model.proofs.Homes.{home_of_home}
 use Rattle.cl_config.specs.Views.{Configured}
 use Rattle.cl_delegation.specs.Worlds.{world_of}
 use Rattle.cl_hierarchy.specs.Drafts.{Drafted, IsSpelt, IsDraft}
-use Rattle.cl_hierarchy.specs.Frames.{frame_of, accepted_of}
+use Rattle.cl_hierarchy.specs.Frames.{frame_of}
 use Rattle.cl_hierarchy.specs.Paths.{fresh}
 use Rattle.cl_hierarchy.proofs.Frames.{none_yet}
 

@@ -82,7 +82,11 @@ impl<T: Told> Frame<T> {
 
     /// Accepts the supertype that comes next, of which this loader defined the class: the name of the one after it, if one is
     /// left.
-    pub(crate) fn go_on(&mut self, alloc: Global, place: LoaderId) -> Result<Option<Name>, AllocError>
+    pub(crate) fn go_on(
+        &mut self,
+        alloc: Global,
+        place: LoaderId,
+    ) -> Result<Option<Name>, AllocError>
         requires { IsSome (wanted (frame_of self.old)) }
         ensures accepted { OnOk result (self.new ≡ with_place self.old place) }
         ensures next { IfOk result (λ o. o ≡ option_map (λ a. a.name) (wanted (frame_of (with_place self.old place)))) }

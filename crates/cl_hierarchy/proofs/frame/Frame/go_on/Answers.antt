@@ -1,7 +1,5 @@
-use Rattle.std.proofs.Common.{◌≡◌, ◌∙◌, List, ℕ, Option, Some, None, length, ap, arith}
-use Rattle.std.specs.Vec.{vec_len}
+use Rattle.std.proofs.Common.{◌≡◌, ◌∙◌, Some, None, length, ap, arith}
 use Rattle.cl_classfile.specs.Files.{Name}
-use Rattle.cl_model.specs.Classes.{Above}
 use Rattle.cl_hierarchy.specs.Supertypes.{plain_supertype}
 use Rattle.cl_hierarchy.proofs.Frames.{next_name, held}
 use Rattle.cl_hierarchy.proofs.frame.Frame.go_on.Goals as goal

@@ -1,16 +1,15 @@
 -- What the probes of a search say of the home.
-use Rattle.std.proofs.Common.{◌≡◌, ℕ, zero, suc, ◌<◌, ◌≤◌, Bool, true, false, cond, List, [], ◌∷◌, ◌++◌, length, Option, Some, None, is_some, refl, sym, ap, subst, ◌∙◌, arith, IsSome}
-use Rattle.std.specs.Prelude.{find, slice_get, MatchOption}
+use Rattle.std.proofs.Common.{◌<◌, ◌≡◌, ℕ, true, false, List, [], ◌∷◌, ◌++◌, length, Option, Some, None, is_some, refl, sym, ap, subst, ◌∙◌, IsSome}
+use Rattle.std.specs.Prelude.{find, slice_get}
+use Rattle.std.specs.Option.{unwrap_or}
 use Rattle.cl_model.specs.Content.{Content, content_at}
-use Rattle.cl_model.specs.Homes.{home}
-use Rattle.cl_config.specs.Views.{Configured}
-use Rattle.cl_config.specs.Loaders.{loaders_of}
 use Rattle.cl_source.specs.Told.{IsTold}
 use Rattle.cl_source.specs.Views.{Found}
 use Rattle.cl_delegation.specs.Worlds.{world_of}
-use Rattle.cl_delegation.specs.Routes.{route}
-use Rattle.cl_delegation.specs.Searches.{Searched, route_of, next_on, with_bytes, with_probe, IsProbeOf, AllLack, IsFound, IsEnd, Follows, LeadsTo}
+use Rattle.cl_delegation.specs.Searches.{Searched, route_of, next_on, with_bytes, IsProbeOf, AllLack, IsFound, IsEnd, Follows, LeadsTo}
+use Rattle.cl_config.specs.Configs.{IsConfig}
 use Rattle.cl_delegation.proofs.Routes.{home_is_on_route}
+use Rattle.cl_delegation.proofs.Once.{route_within}
 
 -- ---- one probe more
 
@@ -79,3 +78,15 @@ leads_home (Some content) s p f found =
     let end : IsFound (Some content) s.name (slice_get (route_of s) (length s.absent)) p = subst (λ (o : Option Found). IsEnd (Some content) s.name (slice_get (route_of s) (length s.absent)) o) found f.found in
     let here : content_at content p.loader s.name ≡ p.bytes = ap (content_at content p.loader) (sym end.probe.name) ∙ end.probe.told in
     home_is_on_route (world_of s.config content) s.loader s.name ∙ found_at content s.name (route_of s) s.absent p.loader f.absent end.next (ap is_some here ∙ some_bytes p.bytes end.bytes)
+
+-- ---- what a home keeps
+
+unwrapped : (o : Option (List ℕ)) → IsSome o → o ≡ Some (unwrap_or o [])
+unwrapped None h = absurd cc
+unwrapped (Some x) h = refl
+
+pub home_kept : (told : Option Content) (s : Searched) (p : Found) → IsConfig s.config → Follows told s → s.found ≡ Some p
+    → (p.name ≡ s.name) × (p.bytes ≡ Some (unwrap_or p.bytes [])) × LeadsTo told s.config s.loader s.name (Some p.loader) × (p.loader < length s.config.loaders)
+home_kept told s p config f found =
+    let end : IsFound told s.name (slice_get (route_of s) (length s.absent)) p = subst (λ (o : Option Found). IsEnd told s.name (slice_get (route_of s) (length s.absent)) o) found f.found in
+    (end.probe.name, unwrapped p.bytes end.bytes, leads_home told s p f found, route_within s.config s.loader s.name (length s.absent) p.loader config f.loader end.next)

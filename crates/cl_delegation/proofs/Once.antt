@@ -1,6 +1,6 @@
 -- No search asks a loader twice.
-use Rattle.std.proofs.Common.{◌≡◌, ◌≢◌, ◌⊎◌, ℕ, zero, suc, ◌+◌, ◌<◌, ◌≤◌, nat_eq, nat_lt, Bool, true, false, List, [], ◌∷◌, ◌++◌, length, Option, Some, None, refl, sym, ap, subst, ◌∙◌, arith}
-use Rattle.std.specs.Prelude.{find, slice_get, All, IfSome, if◌then◌else◌}
+use Rattle.std.proofs.Common.{◌≡◌, ◌≢◌, ℕ, zero, suc, ◌<◌, ◌≤◌, nat_eq, nat_lt, Bool, true, false, List, [], ◌∷◌, ◌++◌, length, Option, Some, None, refl, sym, subst, arith}
+use Rattle.std.specs.Prelude.{find, slice_get, IfSome, if◌then◌else◌}
 use Rattle.std.specs.List.{AllByRecursion, starts_with}
 use Rattle.cl_classfile.specs.Files.{Name}
 use Rattle.cl_model.specs.Homes.{is_java}
@@ -10,7 +10,7 @@ use Rattle.cl_config.specs.Views.{Configured, Loader, Import}
 use Rattle.cl_config.specs.Configs.{IsConfig, LeadsBelow}
 use Rattle.cl_config.specs.Loaders.{loaders_of}
 use Rattle.cl_config.proofs.Below.{below_at}
-use Rattle.cl_delegation.specs.Routes.{NoneTwice, AsksOnce, route_from, route}
+use Rattle.cl_delegation.specs.Routes.{NoneTwice, AsksOnce, route, route_from}
 use Rattle.cl_delegation.proofs.Ways.{by_import, alone, parent_first, child_first, target_below}
 
 Below : ℕ → List ℕ → Type 0
@@ -98,3 +98,20 @@ asks_once c loader name kept lt = choose (is_java name) (nat_lt loader (length (
     choose true true = (tt, tt)
     choose true false = tt
     choose false known = (all_earlier c kept name (suc loader) (omega arith) loader (omega arith)).once
+
+-- ---- a route goes through loaders of the configuration
+
+at_below : (n : ℕ) (ms : List ℕ) (k m : ℕ) → Below n ms → slice_get ms k ≡ Some m → m < n
+unfolding Below
+at_below n [] k m t is = absurd cc
+at_below n (x ∷ ms) zero m t is = let same : x ≡ m = cc in omega (arith, same, t.0)
+at_below n (x ∷ ms) (suc k) m t is = at_below n ms k m t.1 is
+
+pub route_within : (c : Configured) (loader : ℕ) (name : Name) (k m : ℕ) → IsConfig c → loader < length c.loaders → slice_get (route (loaders_of c) loader name) k ≡ Some m → m < length c.loaders
+unfolding Earlier Below
+route_within c loader name k m kept lt is = choose (is_java name) (nat_lt loader (length (loaders_of c))) is
+  where
+    choose : (java known : Bool) → slice_get (elim java [ true ↦ if known then 0 ∷ [] else [] | false ↦ route_from (loaders_of c) name loader ]) k ≡ Some m → m < length c.loaders
+    choose true true e = at_below (length c.loaders) (0 ∷ []) k m (kept.some, tt) e
+    choose true false e = absurd cc
+    choose false known e = let b = at_below (suc loader) _ k m (all_earlier c kept name (suc loader) (omega arith) loader (omega arith)).below e in omega (arith, b, lt)

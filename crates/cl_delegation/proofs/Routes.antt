@@ -1,10 +1,10 @@
 -- The home is the first loader on the route whose own content has the name.
-use Rattle.std.proofs.Common.{◌≡◌, ℕ, zero, suc, ◌<◌, ◌==◌, nat_eq, Bool, true, false, cond, List, [], ◌∷◌, ◌++◌, map, length, Option, Some, None, option_map, is_some, refl, sym, ap, ◌∙◌, arith, append-nil}
+use Rattle.std.proofs.Common.{◌≡◌, ℕ, zero, suc, ◌==◌, Bool, true, false, cond, List, [], ◌∷◌, ◌++◌, Option, Some, None, option_map, is_some, refl, sym}
 use Rattle.std.specs.Prelude.{find, flat_map, slice_get, option_and_then, if◌then◌else◌}
 use Rattle.std.specs.Option.{option_or}
 use Rattle.cl_model.specs.Content.{content_at}
 use Rattle.cl_classfile.specs.Files.{Name}
-use Rattle.cl_model.specs.Homes.{World, Loader, Order, ParentFirst, ChildFirst, is_java, decisive, first_home, in_order, own_home, undecided, home_at, home_below, home, is_loader}
+use Rattle.cl_model.specs.Homes.{World, Loader, Order, ParentFirst, ChildFirst, is_java, decisive, first_home, in_order, own_home, undecided, home_at, home_below, is_loader}
 use Rattle.cl_delegation.specs.Routes.{in_turn, route_at, routed, route_below, route_from, route, HomeIsOnRoute}
 
 find_append : (p : ℕ → Bool) (xs ys : List ℕ) → find p (xs ++ ys) ≡ option_or (find p xs) (find p ys)

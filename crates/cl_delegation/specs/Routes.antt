@@ -3,7 +3,7 @@ use Rattle.std.specs.List.{AllByRecursion}
 use Rattle.cl_config.specs.Views.{Configured}
 use Rattle.cl_config.specs.Configs.{IsConfig}
 use Rattle.cl_config.specs.Loaders.{loaders_of}
-use Rattle.std.specs.Prelude.{◌≡◌, ◌≢◌, ◌<◌, ℕ, zero, suc, Bool, true, false, ◌==◌, nat_lt, if◌then◌else◌, List, [], ◌∷◌, ◌++◌, length, Option, Some, None, is_some, slice_get, find, flat_map, option_map}
+use Rattle.std.specs.Prelude.{◌≡◌, ◌≢◌, ◌<◌, ℕ, zero, suc, true, false, ◌==◌, nat_lt, if◌then◌else◌, List, [], ◌∷◌, ◌++◌, length, Option, Some, None, is_some, slice_get, find, flat_map, option_map}
 use Rattle.cl_classfile.specs.Files.{Name}
 use Rattle.cl_model.specs.Content.{content_at}
 use Rattle.cl_model.specs.Homes.{World, Loader, Order, ParentFirst, ChildFirst, is_java, decisive, home}

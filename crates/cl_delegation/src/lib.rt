@@ -5,6 +5,5 @@
 pub mod laws;
 mod route;
 pub mod search;
-mod stub;
 
 pub use search::{Home, Search, SearchRefused, Unfound, WrongProbe};

@@ -1,7 +1,7 @@
 //! The search for a name through the loaders.
 
-ghost use Rattle.std.specs.Prelude.{◌≡◌, ◌<◌, ◌≤◌, ◌++◌, [], ◌∷◌, IfOk, OnOk, IfErr, MatchResult, Option, Some, None, length, is_some, slice_get, vec_len, vec_capacity};
-ghost use Rattle.cl_delegation.specs.Searches.{LeadsTo, Follows, begun, next_of, with_probe};
+ghost use Rattle.std.specs.Prelude.{◌≡◌, ◌<◌, ◌≤◌, ◌-◌, ◌++◌, [], ◌∷◌, IfOk, OnOk, IfErr, MatchResult, Option, Some, None, length, is_some, slice_get, vec_len, vec_capacity};
+ghost use Rattle.cl_delegation.specs.Searches.{LeadsTo, Follows, begun, next_of, route_of, with_probe};
 ghost use Rattle.cl_source.specs.Told.{IsTold};
 ghost use Rattle.cl_source.specs.Views.{Found};
 
@@ -94,6 +94,13 @@ impl<T: Told> Search<T> {
         self.route.get(self.absent.len()).copied()
     }
 
+    /// How many loaders are still to be probed, if each of them lacks the name.
+    pub fn left(&self) -> usize
+        ensures { result ≡ length (route_of self.now) - length self.now.absent }
+    {
+        self.route.len().saturating_sub(self.absent.len())
+    }
+
     /// Takes the next probe; another is handed back.
     pub fn take(&mut self, probe: Probe<T>) -> Result<(), WrongProbe<T>>
         ensures next { OnOk result ((next_of self.old ≡ Some probe.loader) × (probe.name ≡ self.old.name)) }
@@ -120,8 +127,31 @@ impl<T: Told> Search<T> {
         ensures probes { MatchResult result (λ h. h.absent ≡ self.absent) (λ u. u.absent ≡ self.absent) }
         ensures found { MatchResult result (λ h. self.found ≡ Some (record { loader = h.place; name = h.name; bytes = Some h.bytes })) (λ u. self.found ≡ None) }
     {
-        let _ = crate::stub::stub_never();
-        unreachable!()
+        // brings that each loader leads to earlier ones alone
+        let _ = self.config.count();
+        let Search {
+            config,
+            loader,
+            name,
+            route: _,
+            absent,
+            found,
+        } = self;
+        match found {
+            Some(probe) => Ok(Home {
+                config,
+                asked: loader,
+                name,
+                absent,
+                probe,
+            }),
+            None => Err(Unfound {
+                config,
+                loader,
+                name,
+                absent,
+            }),
+        }
     }
 }
 
@@ -192,7 +222,7 @@ impl<T: Told> Home<T> {
     pub fn absent(&self) -> &[Probe<T>]
         ensures { result.now ≡ self.now.absent }
     {
-        self.absent.as_slice()
+        &self.absent
     }
 
     /// The name, given up by the home.
@@ -207,7 +237,7 @@ impl<T: Told> Home<T> {
 #[derive(Drop)]
 pub struct Unfound<T: Told> {
     config: Arc<Config>,
-    asked: LoaderId,
+    loader: LoaderId,
     name: Name,
     absent: Vec<Probe<T>>,
 }
@@ -218,9 +248,9 @@ impl<T: Told> Model for Unfound<T> {
 
     ghost Value = { Sought };
 
-    ghost view = { λ u. record { config = u.config.value; asked = u.asked; name = u.name; absent = u.absent.items } };
+    ghost view = { λ u. record { config = u.config.value; asked = u.loader; name = u.name; absent = u.absent.items } };
 
-    ghost invariant = { λ u. LeadsTo T.told u.config.value u.asked u.name None };
+    ghost invariant = { λ u. LeadsTo T.told u.config.value u.loader u.name None };
 }
 
 impl<T: Told> Unfound<T> {
@@ -236,7 +266,7 @@ impl<T: Told> Unfound<T> {
     pub fn asked(&self) -> LoaderId
         ensures { result ≡ self.now.asked }
     {
-        self.asked
+        self.loader
     }
 
     /// The name that was asked for.

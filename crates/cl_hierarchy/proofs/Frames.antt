@@ -1,13 +1,15 @@
 -- Supertypes that stand in their places, and frames that accept one more.
-use Rattle.std.proofs.Common.{◌≡◌, ◌<◌, ◌≤◌, ◌+◌, ◌∙◌, ℕ, suc, List, [], ◌∷◌, ◌++◌, length, Option, Some, None, slice_get, refl, ap, arith, length-append}
+use Rattle.std.proofs.Common.{◌≡◌, ◌<◌, ◌≤◌, ◌+◌, ◌∙◌, ℕ, suc, List, [], ◌∷◌, ◌++◌, length, Option, Some, None, slice_get, refl, ap, subst, sym, arith, length-append}
 use Rattle.std.specs.Prelude.{IsSome, IfSome}
+use Rattle.std.specs.Option.{option_map}
 use Rattle.std.proofs.lemmas.Option.{slice_get_within}
-use Rattle.cl_classfile.specs.Files.{file_of}
+use Rattle.cl_classfile.specs.Files.{Name, file_of}
 use Rattle.cl_model.specs.declared.class.Class.{Class}
 use Rattle.cl_model.specs.Classes.{class, Above, supers}
 use Rattle.cl_model.specs.Frames.{Frame, NamedAs, wanted, accepting}
 use Rattle.cl_hierarchy.specs.Drafts.{Drafted}
 use Rattle.cl_hierarchy.specs.Frames.{Framed, accepted_of, frame_of, with_place}
+use Rattle.cl_hierarchy.specs.Paths.{fresh}
 
 -- as many classes as places, while there are supertypes for them
 pub as_many : (others : List Above) (places : List ℕ) → length places ≤ length others → length (accepted_of others places) ≡ length places
@@ -22,9 +24,13 @@ named_as [] places = tt
 named_as (a ∷ others) [] = tt
 named_as (a ∷ others) (p ∷ places) = (refl, named_as others places)
 
-none_yet : (others : List Above) → accepted_of others [] ≡ []
+pub none_yet : (others : List Above) → accepted_of others [] ≡ []
 none_yet [] = refl
 none_yet (a ∷ others) = refl
+
+-- a draft that has accepted nothing wants the first
+pub fresh_wants : (d : Drafted) → wanted (frame_of (fresh d)) ≡ slice_get (supers (file_of d.file)) 0
+fresh_wants d = ap (λ (ts : List Class). slice_get (supers (file_of d.file)) (length ts)) (none_yet (supers (file_of d.file)))
 
 -- one place more is one class more, of the name that comes next
 one_more : (others : List Above) (places : List ℕ) (place : ℕ) (a : Above) → slice_get others (length (accepted_of others places)) ≡ Some a → accepted_of others (places ++ place ∷ []) ≡ accepted_of others places ++ class a.name place ∷ []
@@ -53,3 +59,18 @@ accepts_one x new place e (Some a) h =
 -- a draft with places
 abbrev pub held : Drafted → List ℕ → Framed
 held d places = record { draft = d; places = places }
+
+next_place : (others : List Above) (places : List ℕ) (place : ℕ) → length places ≤ length others → IsSome (slice_get others (length (accepted_of others places)))
+    → slice_get others (length places + 1) ≡ slice_get others (length (accepted_of others (places ++ place ∷ [])))
+next_place others places place h s =
+    let same : length (accepted_of others (places ++ place ∷ [])) ≡ length (places ++ place ∷ []) = as_many others (places ++ place ∷ []) (one_fits others places place h s) in
+    let more : length (places ++ place ∷ []) ≡ length places + 1 = length-append places (place ∷ []) in
+    ap (λ (n : ℕ). slice_get others n) (sym more ∙ sym same)
+
+-- the name of the supertype after the one that comes next
+pub next_name : (x y : Framed) (len place : ℕ) (o : Option Above) → o ≡ slice_get (supers (file_of x.draft.file)) (len + 1) → len ≡ length x.places → length x.places ≤ length (supers (file_of x.draft.file))
+    → x ≡ y → IsSome (wanted (frame_of y)) → (let names : Option Above → Option Name = option_map (λ a. a.name) in names o) ≡ option_map (λ a. a.name) (wanted (frame_of (with_place y place)))
+next_name x y len place o is counted h same s =
+    let waits : IsSome (wanted (frame_of x)) = subst (λ (z : Framed). IsSome (wanted (frame_of z))) (sym same) s in
+    let next : o ≡ wanted (frame_of (with_place x place)) = is ∙ ap (λ (n : ℕ). slice_get (supers (file_of x.draft.file)) (n + 1)) counted ∙ next_place (supers (file_of x.draft.file)) x.places place h waits in
+    ap (λ (a : Option Above). let names : Option Above → Option Name = option_map (λ a. a.name) in names a) (next ∙ ap (λ (z : Framed). wanted (frame_of (with_place z place))) same)

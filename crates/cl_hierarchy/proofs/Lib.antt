@@ -1,1 +1,6 @@
+pub mod Drafting
+pub mod Ends
 pub mod Frames
+pub mod Paths
+pub mod Placed
+pub mod Tables

@@ -1,7 +1,7 @@
 -- The classes that are being derived for one request, each for the sake of the one before it, each at its own loader (JVMS SE 8, 5.3.5, steps 3 and 4).
 use Rattle.std.specs.Prelude.{◌≡◌, ◌<◌, ◌^◌, ℕ, Bool, List, [], ◌∷◌, ◌++◌, length, map, Option, Some, None, IsSome}
 use Rattle.std.specs.List.{AllByRecursion, list_any}
-use Rattle.cl_classfile.specs.Files.{File, file_of}
+use Rattle.cl_classfile.specs.Files.{File}
 use Rattle.cl_model.specs.declared.class.Class.{Class}
 use Rattle.cl_model.specs.Content.{Content}
 use Rattle.cl_model.specs.Classes.{same_class, Above, Error, misfit}

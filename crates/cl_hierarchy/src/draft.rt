@@ -1,4 +1,4 @@
-ghost use Rattle.std.specs.Prelude.{◌≡◌, length, MatchResult, Ok, Some, slice_get};
+ghost use Rattle.std.specs.Prelude.{◌≡◌, ◌≤◌, ◌^◌, length, MatchResult, Ok, Some, slice_get};
 ghost use Rattle.cl_model.specs.Classes.{supers};
 ghost use Rattle.cl_hierarchy.specs.Supertypes.{plain_supertype};
 ghost use Rattle.std.specs.Option.{option_map};
@@ -110,8 +110,22 @@ fn draft_of<T: Told>(
     requires named { (file_of file).name ≡ home.name }
     ensures { ReadAs home result }
 {
-    let _ = crate::stub::stub_never();
-    unreachable!()
+    let Ok(name) = home.name().try_clone(alloc) else {
+        return Err(DraftRefused::Memory(home));
+    };
+    let Ok(file) = Arc::new(alloc, file) else {
+        return Err(DraftRefused::Memory(home));
+    };
+    let class = Class {
+        name,
+        loader: home.place(),
+    };
+    // brings that the search led here
+    let _ = home.config();
+    match Arc::new(alloc, home) {
+        Ok(home) => Ok(Draft { class, file, home }),
+        Err(refused) => Err(DraftRefused::Memory(refused.value)),
+    }
 }
 
 impl<T: Told> Draft<T> {
@@ -148,17 +162,12 @@ impl<T: Told> Draft<T> {
     /// (JVMS SE 8, 5.3.5, steps 3 and 4).
     pub fn supertype(&self, place: usize) -> Option<Supertype<'_>>
         ensures name { option_map plain_supertype result ≡ slice_get (supers (file_of self.now.file)) place }
+        ensures few { length (supers (file_of self.now.file)) ≤ 2 ^ 64 }
         ensures draft { IsDraft T.told self.now }
     {
+        // brings that a `usize` counts the interfaces
+        let _ = count_of(self.file.interfaces());
         supertype_of(&self.file, place)
-    }
-
-    /// How many direct supertypes it has.
-    pub fn supertypes(&self) -> usize
-        ensures { result ≡ length (supers (file_of self.now.file)) }
-    {
-        let _ = crate::stub::stub_never();
-        unreachable!()
     }
 
     /// The home that it was read of.
@@ -184,6 +193,13 @@ impl<T: Told> Draft<T> {
     {
         (self.class, self.file)
     }
+}
+
+/// How many indices there are.
+fn count_of(indices: &[u16]) -> usize
+    ensures { result ≡ length indices.now }
+{
+    indices.len()
 }
 
 fn refuse<T: Told>(home: Home<T>, fault: DraftFault) -> DraftRefused<T>

@@ -1,6 +1,6 @@
 //! Classes that are being derived.
 
-ghost use Rattle.std.specs.Prelude.{◌≡◌, [], OnOk, IfErr, IfSome, IsSome};
+ghost use Rattle.std.specs.Prelude.{◌≡◌, [], OnOk, IfErr, IfOk, IfSome, IsSome};
 ghost use Rattle.std.specs.Option.{option_map};
 ghost use Rattle.cl_classfile.specs.Files.{file_of};
 ghost use Rattle.cl_model.specs.Classes.{class, supers};
@@ -11,6 +11,7 @@ ghost use Rattle.cl_hierarchy.specs.Supertypes.{plain_supertype};
 use crate::draft::Draft;
 use crate::supertype::Supertype;
 use cl_model::{LoaderId, Told};
+use cl_names::Name;
 use std::alloc::{AllocError, Global};
 use std::marker::Model;
 
@@ -77,6 +78,26 @@ impl<T: Told> Frame<T> {
     {
         self.places.push(place)?;
         Ok(())
+    }
+
+    /// Accepts the supertype that comes next, of which this loader defined the class: the name of the one after it, if one is
+    /// left.
+    pub(crate) fn go_on(
+        &mut self,
+        alloc: Global,
+        place: LoaderId,
+    ) -> Result<Option<Name>, AllocError>
+        requires { IsSome (wanted (frame_of self.old)) }
+        ensures accepted { OnOk result (self.new ≡ with_place self.old place) }
+        ensures next { IfOk result (λ o. o ≡ option_map (λ a. a.name) (wanted (frame_of (with_place self.old place)))) }
+        ensures unchanged { IfErr result (λ e. self.new ≡ self.old) }
+    {
+        let next = match self.draft.supertype(self.places.len() + 1) {
+            Some(supertype) => Some(supertype.name.try_clone(alloc)?),
+            None => None,
+        };
+        self.accept(place)?;
+        Ok(next)
     }
 
     /// The class with its file, once it is derived no longer.

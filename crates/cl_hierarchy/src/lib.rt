@@ -7,7 +7,6 @@ pub mod fit;
 pub mod frame;
 pub mod path;
 pub mod row;
-mod stub;
 pub mod supertype;
 
 pub use draft::{Draft, DraftFault, DraftRefused, Unreadable};

@@ -1,15 +1,18 @@
 //! The classes that are being derived for one request.
 
-ghost use Rattle.std.specs.Prelude.{◌≡◌, ◌≢◌, ◌==◌, [], slice_get, None, OnOk, IfOk, IfErr, IsSome, MatchOption, false, length};
+ghost use Rattle.std.specs.Prelude.{◌≡◌, ◌≢◌, ◌==◌, ◌<◌, ◌++◌, ◌∷◌, [], slice_get, None, OnOk, IfOk, IfErr, IsSome, MatchOption, false, length};
 ghost use Rattle.std.specs.Option.{option_map};
+ghost use Rattle.indexmap.specs.IndexMap.{get, spare};
 ghost use Rattle.cl_classfile.specs.Files.{file_of};
-ghost use Rattle.cl_model.specs.Classes.{class};
+ghost use Rattle.cl_model.specs.Classes.{class, same_class};
 ghost use Rattle.cl_model.specs.Frames.{wanted};
 ghost use Rattle.cl_model.specs.Views.{error_of};
 ghost use Rattle.cl_hierarchy.specs.Frames.{frame_of};
-ghost use Rattle.cl_hierarchy.specs.Paths.{Accepts, Completes, IsPath, at_loader, at_name, fresh, is_on, misfit_under, with_frame};
+ghost use Rattle.cl_hierarchy.specs.Kept.{LastAccepts, last_wants};
+ghost use Rattle.cl_hierarchy.specs.Paths.{Accepts, Completes, IsPath, at_loader, at_name, fresh, name_of, is_on, misfit_under, with_frame};
 
 use crate::draft::Draft;
+use crate::fit::misfit;
 use crate::frame::Frame;
 use crate::row::ClassRow;
 use cl_config::Config;
@@ -18,7 +21,11 @@ use cl_names::{Name, Seed};
 use indexmap::IndexMap;
 use std::alloc::{AllocError, Global};
 use std::marker::Model;
+use std::mem;
 use std::sync::Arc;
+
+/// Frames by their classes.
+type Frames<T> = IndexMap<Class, Frame<T>, Seed>;
 
 /// The classes that are being derived for one request, each for the sake of the one before it, each at its own loader
 /// (JVMS SE 8, 5.3.5, steps 3 and 4). Each waits for a supertype; none stands twice.
@@ -26,19 +33,61 @@ use std::sync::Arc;
 pub struct Path<T: Told> {
     config: Arc<Config>,
     loader: LoaderId,
-    name: Name,
-    frames: IndexMap<Class, Frame<T>, Seed>,
+    /// The name that is looked for.
+    at: Name,
+    /// What is being derived, by its class, so that a class met again is told at once.
+    frames: Frames<T>,
 }
 
 impl<T: Told> Model for Path<T> {
-    ghost use Rattle.std.specs.Prelude.{◌≡◌, map};
-    ghost use Rattle.cl_hierarchy.specs.Paths.{IsPath, Pathed};
+    ghost use Rattle.cl_hierarchy.specs.Kept.{KeepsPath, pathed};
+    ghost use Rattle.cl_hierarchy.specs.Paths.{Pathed};
 
     ghost Value = { Pathed };
 
-    ghost view = { λ p. record { config = p.config.value; loader = p.loader; name = p.name; frames = map (λ e. e.1) p.frames.entries } };
+    ghost view = { λ p. pathed p.config.value p.loader p.at p.frames.entries };
 
-    ghost invariant = { λ p. IsPath T.told (record { config = p.config.value; loader = p.loader; name = p.name; frames = map (λ e. e.1) p.frames.entries }) × (map (λ e. e.0) p.frames.entries ≡ map (λ e. e.1.draft.class) p.frames.entries) };
+    ghost invariant = { λ p. KeepsPath T.told p.config.value p.loader p.at p.frames.entries };
+}
+
+/// The name of a class's first supertype, once there is room for its frame.
+fn prepare<T: Told>(frames: &mut Frames<T>, draft: &Draft<T>) -> Result<Name, AllocError>
+    requires { IsSome (wanted (frame_of (fresh draft.now))) }
+    ensures name { IfOk result (λ n. n ≡ name_of (wanted (frame_of (fresh draft.now)))) }
+    ensures room { OnOk result (0 < spare frames.new) }
+    ensures unchanged { frames.new.entries ≡ frames.old.entries }
+{
+    frames.reserve(1)?;
+    match draft.supertype(0) {
+        Some(supertype) => supertype.name.try_clone(*frames.allocator()),
+        None => unreachable!(),
+    }
+}
+
+/// Adds a frame under a class that has none, where there is room.
+fn put<T: Told>(frames: &mut Frames<T>, class: Class, frame: Frame<T>)
+    requires absent { get same_class frames.old class ≡ None }
+    requires room { 0 < spare frames.old }
+    ensures { frames.new.entries ≡ frames.old.entries ++ (class, frame) ∷ [] }
+{
+    match frames.insert(class, frame) {
+        Ok(_) => {}
+        Err(_) => unreachable!(),
+    }
+}
+
+/// The last frame accepts the supertype that it wants, of which this loader defined the class: the name of the next, if one
+/// is left.
+fn accept_last<T: Told>(frames: &mut Frames<T>, place: LoaderId) -> Result<Option<Name>, AllocError>
+    requires { IsSome (last_wants frames.old.entries) }
+    ensures accepted { IfOk result (LastAccepts frames.old.entries frames.new.entries place) }
+    ensures unchanged { IfErr result (λ e. frames.new.entries ≡ frames.old.entries) }
+{
+    let alloc = *frames.allocator();
+    match frames.last_mut() {
+        Some(frame) => frame.go_on(alloc, place),
+        None => unreachable!(),
+    }
 }
 
 impl<T: Told> Path<T> {
@@ -50,7 +99,7 @@ impl<T: Told> Path<T> {
         Path {
             config,
             loader,
-            name,
+            at: name,
             frames,
         }
     }
@@ -68,8 +117,10 @@ impl<T: Told> Path<T> {
         ensures loader { result ≡ at_loader self.now }
         ensures path { IsPath T.told self.now }
     {
-        let _ = crate::stub::stub_never();
-        unreachable!()
+        match self.frames.last() {
+            Some((_, frame)) => frame.draft().class().loader,
+            None => self.loader,
+        }
     }
 
     /// The name that it is asked for.
@@ -77,8 +128,7 @@ impl<T: Told> Path<T> {
         ensures name { result.now ≡ at_name self.now }
         ensures path { IsPath T.told self.now }
     {
-        let _ = crate::stub::stub_never();
-        unreachable!()
+        &self.at
     }
 
     /// How many classes are being derived.
@@ -99,16 +149,15 @@ impl<T: Told> Path<T> {
     pub fn has(&self, class: &Class) -> bool
         ensures { result ≡ is_on self.now class.now }
     {
-        let _ = crate::stub::stub_never();
-        unreachable!()
+        self.frames.contains_key(class)
     }
 
     /// The frames, the first of them first.
     pub fn frame(&self, index: usize) -> Option<&Frame<T>>
         ensures { option_map (λ f. f.now) result ≡ slice_get self.now.frames index }
     {
-        let _ = crate::stub::stub_never();
-        unreachable!()
+        let (_, frame) = self.frames.get_index(index)?;
+        Some(frame)
     }
 
     /// The class that is looked for is being derived from now on, and its first supertype is looked for.
@@ -121,8 +170,20 @@ impl<T: Told> Path<T> {
         ensures pushed { OnOk result (self.new ≡ with_frame self.old (fresh draft)) }
         ensures unchanged { IfErr result (λ d. (self.new ≡ self.old) × (d ≡ draft)) }
     {
-        let _ = crate::stub::stub_never();
-        unreachable!()
+        let alloc = *self.frames.allocator();
+        let Ok(next) = prepare(&mut self.frames, &draft) else {
+            return Err(draft);
+        };
+        // brings that the draft is its class's, where the search led
+        let _ = draft.home();
+        let class = Class {
+            name: mem::replace(&mut self.at, next),
+            loader: draft.class().loader,
+        };
+        put(&mut self.frames, class, Frame::new(alloc, draft));
+        // brings that so many are counted by a `usize`
+        let _ = self.frames.len();
+        Ok(())
     }
 
     /// What is wrong with a recorded class as the supertype that is looked for, if anything is; a request's own class fits
@@ -130,8 +191,9 @@ impl<T: Told> Path<T> {
     pub fn misfit(&self, row: &ClassRow<T>) -> Option<ErrorKind>
         ensures { option_map (λ kind. error_of kind row.now.class) result ≡ misfit_under self.now.frames row.now.class (file_of row.now.file) }
     {
-        let _ = crate::stub::stub_never();
-        unreachable!()
+        let (_, frame) = self.frames.last()?;
+        let wanted = frame.wanted()?;
+        misfit(frame.draft().class(), wanted.role, row.class(), row.file())
     }
 
     /// The last class accepts the supertype that is looked for, as it is recorded. Where that was the last one, the class is
@@ -143,15 +205,29 @@ impl<T: Told> Path<T> {
         ensures accepted { IfOk result (λ o. MatchOption o (Accepts self.old self.new row.now.class.loader) (λ d. Completes self.old self.new row.now.class.loader d)) }
         ensures unchanged { IfErr result (λ e. self.new ≡ self.old) }
     {
-        let _ = crate::stub::stub_never();
-        unreachable!()
+        match accept_last(&mut self.frames, row.class().loader)? {
+            Some(next) => {
+                self.at = next;
+                Ok(None)
+            }
+            None => match self.frames.pop() {
+                Some((class, frame)) => {
+                    self.at = class.name;
+                    Ok(Some(frame.into_draft()))
+                }
+                None => unreachable!(),
+            },
+        }
     }
 
     /// What is looked for, as a class of the loader that is asked.
     pub fn into_class(self) -> Class
         ensures { result ≡ class (at_name self) (at_loader self) }
     {
-        let _ = crate::stub::stub_never();
-        unreachable!()
+        let loader = self.at_loader();
+        Class {
+            name: self.at,
+            loader,
+        }
     }
 }

@@ -1,4 +1,4 @@
-use Rattle.std.proofs.Common.{◌≡◌, ℕ, List, Option, Some, None, sym, ap, subst, ◌∙◌, rules, arith, length-append}
+use Rattle.std.proofs.Common.{◌≡◌, Some, None, sym, ap, subst, ◌∙◌, rules, arith, length-append}
 use Rattle.cl_source.specs.Outcomes.{bytes_of}
 use Rattle.cl_source.specs.Views.{Found}
 use Rattle.cl_delegation.specs.Searches.{Searched, next_of}

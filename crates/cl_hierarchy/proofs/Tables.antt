@@ -18,7 +18,7 @@ use Rattle.cl_model.specs.Frames.{wanted, asking}
 use Rattle.cl_config.specs.Views.{Configured}
 use Rattle.cl_hierarchy.specs.Drafts.{Drafted, IsSpelt, IsDraft}
 use Rattle.cl_hierarchy.specs.Frames.{Framed, frame_of, with_place}
-use Rattle.cl_hierarchy.specs.Kept.{first_name, frames_in, pathed, KeepsPath, last_wants, LastAccepts}
+use Rattle.cl_hierarchy.specs.Kept.{first_name, frames_in, pathed, KeepsPath, last_wants, name_after, LastAccepts}
 use Rattle.cl_hierarchy.specs.Paths.{Pathed, fresh, name_of, at_loader, at_name, is_on, IsPath, with_frame, with_frames, misfit_in, misfit_under, Accepts, Completes}
 use Rattle.cl_hierarchy.proofs.Ends.{Ends, last_split, set_last, frames_push, last_wants_of, asking_push, sought_push, first_push, under_last}
 use Rattle.cl_hierarchy.proofs.Paths.{stand_pop, path_push, path_pop, path_accept, Suits}
@@ -71,7 +71,7 @@ wants_here es k x h = let s = last_split es (k, x) h in last_wants_of es s.befor
 
 -- what the last frame did with the next supertype's loader
 pub last_accepts : {E : Type 0} (es : List (Class × Framed)) (k : Class) (x new : Framed) (place : ℕ) (r : Result (Option (List ℕ)) E) → slice_get es (length es - 1) ≡ Some (k, x) → OnOk r (new ≡ with_place x place)
-    → IfOk r (λ o. o ≡ option_map (λ a. a.name) (wanted (frame_of (with_place x place)))) → IfOk r (LastAccepts es (set_value_at es (length es - 1) new) place)
+    → IfOk r (λ o. o ≡ name_after x place) → IfOk r (LastAccepts es (set_value_at es (length es - 1) new) place)
 last_accepts es k x new place (Err e) h done next = tt
 last_accepts es k x new place (Ok o) h done next =
     let s = last_split es (k, x) h in

@@ -31,6 +31,10 @@ pub record KeepsPath (told : Option Content) (c : Configured) (loader : ℕ) (at
 abbrev pub last_wants : List (Class × Framed) → Option Above
 last_wants es = option_and_then (λ e. wanted (frame_of e.1)) (slice_get es (length es - 1))
 
+-- the name of the supertype that is wanted next, once one that this loader defined is accepted (5.3.5, steps 3 and 4)
+abbrev pub name_after : Framed → ℕ → Option (List ℕ)
+name_after x place = option_map (λ a. a.name) (wanted (frame_of (with_place x place)))
+
 -- the last of these frames accepted a supertype that this loader defined, and wants the next of this name, if any is left (5.3.5, steps 3 and 4)
 pub record LastAccepts (old new : List (Class × Framed)) (place : ℕ) (next : Option (List ℕ)) : Type 0 where
   pub before : List (Class × Framed)
@@ -38,4 +42,4 @@ pub record LastAccepts (old new : List (Class × Framed)) (place : ℕ) (next : 
   pub last : Framed
   pub split : old ≡ before ++ (key, last) ∷ []
   pub now : new ≡ before ++ (key, with_place last place) ∷ []
-  pub wants : next ≡ option_map (λ a. a.name) (wanted (frame_of (with_place last place)))
+  pub wants : next ≡ name_after last place

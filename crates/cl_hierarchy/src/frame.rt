@@ -6,6 +6,7 @@ ghost use Rattle.cl_classfile.specs.Files.{file_of};
 ghost use Rattle.cl_model.specs.Classes.{class, supers};
 ghost use Rattle.cl_model.specs.Frames.{NamedAs, accepting, wanted};
 ghost use Rattle.cl_hierarchy.specs.Frames.{frame_of, with_place};
+ghost use Rattle.cl_hierarchy.specs.Kept.{name_after};
 ghost use Rattle.cl_hierarchy.specs.Supertypes.{plain_supertype};
 
 use crate::draft::Draft;
@@ -89,7 +90,7 @@ impl<T: Told> Frame<T> {
     ) -> Result<Option<Name>, AllocError>
         requires { IsSome (wanted (frame_of self.old)) }
         ensures accepted { OnOk result (self.new ≡ with_place self.old place) }
-        ensures next { IfOk result (λ o. o ≡ option_map (λ a. a.name) (wanted (frame_of (with_place self.old place)))) }
+        ensures next { IfOk result (λ o. o ≡ name_after self.old place) }
         ensures unchanged { IfErr result (λ e. self.new ≡ self.old) }
     {
         let next = match self.draft.supertype(self.places.len() + 1) {

@@ -25,7 +25,7 @@ pub struct Supertype<'a> {
 
 /// The direct supertype at a place, counted from 0: the superclass, where there is one, and then the superinterfaces in
 /// order (JVMS SE 8, 5.3.5, steps 3 and 4).
-pub fn supertype_of(file: &ClassFile, place: usize) -> Option<Supertype<'_>>
+pub(crate) fn supertype_of(file: &ClassFile, place: usize) -> Option<Supertype<'_>>
     ensures { option_map plain_supertype result ≡ slice_get (supers (file_of file.now)) place }
 {
     match file.super_name() {

@@ -4,3 +4,4 @@ pub mod Frames
 pub mod Paths
 pub mod Placed
 pub mod Tables
+pub mod Counted

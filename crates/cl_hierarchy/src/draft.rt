@@ -8,7 +8,7 @@ ghost use Rattle.cl_hierarchy.specs.Drafts.{IsDraft, IsSpelt, IsWrong, fault_as}
 ghost use Rattle.cl_hierarchy.specs.DraftReads.{ReadAs};
 ghost use Rattle.cl_source.specs.Told.{IsTold};
 
-use crate::supertype::{Supertype, supertype_of};
+use crate::supertype::{Supertype, supertype_of, supertypes_of};
 use cl_classfile::{ClassFile, Fault, ReadError};
 use cl_delegation::Home;
 use cl_model::{Class, Told};
@@ -168,6 +168,13 @@ impl<T: Told> Draft<T> {
         // brings that a `usize` counts the interfaces
         let _ = count_of(self.file.interfaces());
         supertype_of(&self.file, place)
+    }
+
+    /// How many direct supertypes it has.
+    pub fn supertypes(&self) -> usize
+        ensures { result ≡ length (supers (file_of self.now.file)) }
+    {
+        supertypes_of(&self.file)
     }
 
     /// The home that it was read of.

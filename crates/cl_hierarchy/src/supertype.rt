@@ -1,6 +1,6 @@
 //! The direct supertypes of a class file.
 
-ghost use Rattle.std.specs.Prelude.{◌≡◌, slice_get};
+ghost use Rattle.std.specs.Prelude.{◌≡◌, length, slice_get};
 ghost use Rattle.std.specs.Option.{option_map};
 ghost use Rattle.cl_classfile.specs.Files.{file_of};
 ghost use Rattle.cl_model.specs.Classes.{superinterfaces_of, supers};
@@ -47,4 +47,17 @@ fn superinterface_of(file: &ClassFile, place: usize) -> Option<Supertype<'_>>
         name,
         role: Role::Superinterface,
     })
+}
+
+/// How many direct supertypes a class file names.
+pub(crate) fn supertypes_of(file: &ClassFile) -> usize
+    ensures { result ≡ length (supers (file_of file.now)) }
+{
+    // brings that each interface is a class
+    let _ = file.pool();
+    let interfaces = file.interfaces().len();
+    match file.super_name() {
+        Some(_) => interfaces + 1,
+        None => interfaces,
+    }
 }

@@ -42,7 +42,7 @@ pub record IsRegistry (told : Option Content) (x : Shown) (f : Fields) : Type 0 
   pub counts : (round : ℕ) (n : ℕ) → slice_get f.unanswered round ≡ Some n → n ≡ open_in round x.script.rounds_of x.answers
   pub each_round : length f.unanswered ≡ x.script.rounds
   pub round : f.round ≡ round_of x
-  pub begun : f.round + 1 ≤ x.script.rounds
+  pub begun : f.round ≤ x.script.rounds
   pub used : f.events ≡ length x.history
   pub events_fit : f.events + (f.left + (x.script.rounds - (f.round + 1))) ≤ f.room_for_events
   pub empty : f.filled ≡ 0

@@ -1,6 +1,6 @@
 //! The requests of a registry, in rounds, and their answers.
 
-ghost use Rattle.std.specs.Prelude.{◌≡◌, ℕ, ◌<◌, ◌≤◌, ◌+◌, ◌-◌, [], IfOk, None, Some, length, map, replicate, slice_get, vec_len, vec_capacity};
+ghost use Rattle.std.specs.Prelude.{◌≡◌, ℕ, ◌<◌, ◌≤◌, ◌+◌, ◌-◌, ◌^◌, [], IfOk, None, Some, length, map, replicate, slice_get, vec_len, vec_capacity};
 ghost use Rattle.cl_config.specs.Scripts.{IsScript};
 ghost use Rattle.cl_registry.specs.Kept.{left_in, open_in};
 

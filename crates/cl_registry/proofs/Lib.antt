@@ -3,3 +3,5 @@ pub mod Running
 pub mod Allowed
 pub mod Counts
 pub mod Steps
+pub mod Looked
+pub mod Kept

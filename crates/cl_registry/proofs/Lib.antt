@@ -5,3 +5,4 @@ pub mod Counts
 pub mod Steps
 pub mod Looked
 pub mod Kept
+pub mod Schedules

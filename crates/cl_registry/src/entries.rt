@@ -1,6 +1,6 @@
 //! The steps of a definition and of an initiation, on plain tables.
 
-ghost use Rattle.std.specs.Prelude.{◌≡◌, ◌<◌, ◌≤◌, ◌+◌, ◌++◌, ◌∷◌, [], IfOk, OnOk, OnErr, MatchBool, is_some, length, map, slice_get, vec_len, vec_capacity};
+ghost use Rattle.std.specs.Prelude.{◌≡◌, ◌≢◌, ◌<◌, ◌≤◌, ◌+◌, ◌++◌, ◌∷◌, [], Some, IfOk, IfSome, MatchOption, OnOk, OnErr, MatchBool, is_some, length, map, slice_get, vec_len, vec_capacity};
 ghost use Rattle.std.specs.Option.{option_map};
 ghost use Rattle.cl_classfile.specs.Files.{file_of};
 ghost use Rattle.cl_model.specs.Classes.{class, supers};
@@ -62,6 +62,16 @@ fn places_of<T: Told>(
         places.push(place_there(tables, draft, at))?;
     }
     Ok(places)
+}
+
+/// The row that a draft's loader has recorded for the name of its class.
+pub fn own_row<'a, T: Told>(
+    tables: &'a Rows<T>,
+    draft: &Draft<T>,
+) -> Option<&'a Arc<ClassRow<T>>>
+    ensures { option_map (λ r. r.now) result ≡ row_at tables.now.items draft.now.class.loader draft.now.class.name }
+{
+    find(tables, draft.class().loader, &draft.class().name)
 }
 
 /// What a definition adds.
@@ -134,14 +144,29 @@ pub fn record<T: Told>(
     Ok(parts.answered)
 }
 
-/// The row of the class that a home defined, where it did.
-pub fn home_row<'a, T: Told>(
+/// The row that the loader that was asked has recorded for a home's name.
+pub fn asked_row<'a, T: Told>(
     tables: &'a Rows<T>,
     home: &Home<T>,
 ) -> Option<&'a Arc<ClassRow<T>>>
-    ensures { option_map (λ r. r.now) result ≡ row_at tables.now.items home.now.place home.now.name }
+    ensures { option_map (λ r. r.now) result ≡ row_at tables.now.items home.now.asked home.now.name }
 {
-    find(tables, home.place(), home.name())
+    find(tables, home.asked(), home.name())
+}
+
+/// The row of the class of a home, where the home has defined it.
+pub fn defined_row<'a, T: Told>(
+    tables: &'a Rows<T>,
+    home: &Home<T>,
+) -> Option<&'a Arc<ClassRow<T>>>
+    ensures row { IfSome result (λ r. row_at tables.now.items home.now.place home.now.name ≡ Some r.now) }
+    ensures own { MatchOption result (option_map (λ r. r.value.class.loader) (row_at tables.now.items home.now.place home.now.name) ≢ Some home.now.place) (λ r. r.now.value.class.loader ≡ home.now.place) }
+{
+    let row = find(tables, home.place(), home.name())?;
+    if row.class().loader != home.place() {
+        return None;
+    }
+    Some(row)
 }
 
 /// The event by which the loader that was asked is recorded as initiating.

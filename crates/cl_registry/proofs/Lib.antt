@@ -6,3 +6,4 @@ pub mod Steps
 pub mod Looked
 pub mod Kept
 pub mod Schedules
+pub mod Asked

@@ -1,10 +1,10 @@
 -- When a round may end: each request of it has its answer.
-use Rattle.std.proofs.Common.{◌≡◌, ◌∙◌, ◌<◌, ◌≤◌, ◌+◌, ◌-◌, ◌⊎◌, inl, inr, ℕ, zero, suc, Bool, true, false, List, [], ◌∷◌, ◌++◌, length, map, Option, Some, None, refl, sym, ap, subst, arith, is_some, replicate, add-one, if◌then◌else◌}
+use Rattle.std.proofs.Common.{◌≡◌, ◌∙◌, ◌<◌, ◌≤◌, ◌+◌, ◌-◌, ◌⊎◌, inl, inr, ℕ, zero, suc, Bool, true, false, List, [], ◌∷◌, ◌++◌, length, map, Option, Some, None, refl, sym, ap, subst, arith, is_some, replicate, get_or, add-one, if◌then◌else◌}
 use Rattle.std.specs.Prelude.{nat_eq, slice_get, option_and_then, IsSome}
 use Rattle.std.proofs.lemmas.List.{append-nil, length_push, length-replicate}
 use Rattle.std.proofs.lemmas.Cmp.{nat_eq_equiv}
 use Rattle.std.proofs.lemmas.Bool.Decides.{nat_tests}
-use Rattle.std.proofs.lemmas.Option.{slice_get_within}
+use Rattle.std.proofs.lemmas.Option.{slice_get_within, slice_get_read}
 use Rattle.cl_model.specs.declared.request.Request.{Request}
 use Rattle.cl_model.specs.declared.event.Event.{Event}
 use Rattle.cl_model.specs.declared.event.Event.TheVariants as events
@@ -16,6 +16,7 @@ use Rattle.cl_model.specs.Machine.{Scheduled, Step, NextRound, Run, state_after,
 use Rattle.cl_model.specs.Tables as tables
 use Rattle.cl_model.specs.Views.{answer_of, answers_of, answer_at, request_of, steps_of}
 use Rattle.cl_config.specs.Scripts.{IsScript}
+use Rattle.cl_config.specs.Views.{Scripted}
 use Rattle.cl_config.specs.Loaders.{schedule, schedule_of}
 use Rattle.cl_delegation.specs.Worlds.{setting_of}
 use Rattle.cl_hierarchy.specs.Rows.{Rowed}
@@ -109,6 +110,10 @@ may_go_on told x f n k at zero-left more = record {
   later = subst (λ (m : ℕ). m + 1 < x.script.rounds) k.round more;
 }
 
+-- the count of the round is there
+pub round_there_is : (told : Option Content) (x : Shown) (f : Fields) (n : ℕ) → IsRegistry told x f → f.round + 1 < x.script.rounds → n ≡ get_or f.unanswered f.round n → slice_get f.unanswered f.round ≡ Some n
+round_there_is told x f n k more e = let each = k.each_round in slice_get_read f.unanswered (length f.unanswered) f.round n refl (omega arith) e
+
 none_is_some : (o : Option Answer) → o ≡ None → is_some o ≡ true → ⊥
 none_is_some o e h = cc
 
@@ -122,6 +127,9 @@ open_stops told x f n k at some may =
 
 pub last_stops : (told : Option Content) (x : Shown) (f : Fields) → IsRegistry told x f → x.script.rounds ≤ f.round + 1 → MayGoOn x → ⊥
 last_stops told x f k last may = let r = k.round in let l = may.later in omega arith
+
+pub round_left : (told : Option Content) (x : Shown) (f : Fields) → IsRegistry told x f → f.round + 1 < x.script.rounds → round_of x + 1 < x.script.rounds
+round_left told x f k more = subst (λ (n : ℕ). n + 1 < x.script.rounds) k.round more
 
 -- ---- the next round
 
@@ -180,6 +188,12 @@ none_given (suc n) (suc q) = none_given n q
 run_new : (told : Option Content) (x : Shown) → steps x ≡ [] → RunsAs told x
 run_new None x e = tt
 run_new (Some content) x e = subst (λ (es : List Step). Run (setting_of x.config x.script content) start es) (sym e) tt
+
+-- the counts of a script are those of another name of it
+pub counts_as : (s t : Scripted) (unanswered : List ℕ) (left : ℕ) → s ≡ t → left ≡ length t.requests → ((round n : ℕ) → slice_get unanswered round ≡ Some n → n ≡ open_in round s.rounds_of (replicate (length s.requests) None))
+    → (round n : ℕ) → slice_get unanswered round ≡ Some n → n ≡ open_in round t.rounds_of (replicate left None)
+counts_as s t unanswered left e l counts round n at =
+    counts round n at ∙ ap (λ (u : Scripted). open_in round u.rounds_of (replicate (length u.requests) None)) e ∙ ap (λ (m : ℕ). open_in round t.rounds_of (replicate m None)) (sym l)
 
 pub kept_new : (told : Option Content) (x : Shown) (f : Fields) → x.rows ≡ [] → x.history ≡ [] → x.answers ≡ replicate f.left None → length x.script.requests ≡ f.left → IsScript x.script → f.parts ≡ length x.config.loaders
     → ((l : ℕ) (n : List ℕ) → f.table l n ≡ None) → ((round n : ℕ) → slice_get f.unanswered round ≡ Some n → n ≡ open_in round x.script.rounds_of (replicate f.left None)) → length f.unanswered ≡ x.script.rounds → f.round ≡ 0 → f.events ≡ 0

@@ -296,9 +296,12 @@ impl<T: Told> Registry<T> {
     fn may_enter(&self, draft: &Draft<T>) -> bool
         ensures { MatchBool result (MayEnter self.now draft.now) (MayEnter self.now draft.now → ⊥) }
     {
-        same_config(draft.home().config(), &self.config)
-            && (draft.class().loader.0 as usize) < self.config.count()
-            && has_supers(&self.tables, draft)
+        if !same_config(draft.home().config(), &self.config)
+            || draft.class().loader.0 as usize >= self.config.count()
+        {
+            return false;
+        }
+        has_supers(&self.tables, draft)
     }
 
     /// The row of the class of a home, where the loader that was asked may be recorded as initiating it.

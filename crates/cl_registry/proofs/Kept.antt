@@ -26,10 +26,10 @@ use Rattle.cl_hierarchy.specs.Drafts.{IsDraft, Drafted}
 use Rattle.cl_hierarchy.specs.Rows.{Rowed}
 use Rattle.cl_registry.specs.Parts.{IsPut, place_by, row_by}
 use Rattle.cl_registry.specs.Kept.{left_in, open_in, Fields, IsRegistry}
-use Rattle.cl_registry.specs.Tables.{Shown, steps, state_of, records_of, round_of, posts, defined, is_in, IsTrusted, RunsAs, IsKept, NamesLoaders, with_define, with_initiate, with_round, row_of, looked, row_for, place_in, IsNew, LacksRecord, MayEnter, MayJoin, MayGoOn}
+use Rattle.cl_registry.specs.Tables.{Shown, steps, state_of, records_of, round_of, posts, defined, is_in, IsTrusted, RunsAs, IsKept, NamesLoaders, with_define, with_initiate, with_round, row_of, looked, row_for, place_in, IsNew, LacksRecord, MayEnter, MayJoin, MayGoOn, Records}
 use Rattle.cl_registry.proofs.Histories.{steps_more, state_more, trusted_more, run_more, posts_then, defined_then, given}
 use Rattle.cl_registry.proofs.Running.{may_record, names_event, named_new}
-use Rattle.cl_registry.proofs.Looked.{looked_push, looked_some, place_looked, fresh_row, row_push, row_stays}
+use Rattle.cl_registry.proofs.Looked.{looked_push, looked_some, place_looked, looked_records, at_self, fresh_row, row_push, row_stays}
 use Rattle.cl_registry.proofs.Allowed.{entered_is_allowed, joined_is_allowed, round_is_allowed}
 
 -- ---- one event more, that is no post
@@ -107,6 +107,31 @@ kept_define told x d f new wide used more come k draft may fresh put same one is
   answers_fit = k.answers_fit;
 }
 
+abbrev grown : Shown → List Rowed → List Event → Shown
+grown x rows history = record x { rows = rows; history = history }
+
+pub shown_define : (x : Shown) (d : Drafted) (rows : List Rowed) (history : List Event) → rows ≡ x.rows ++ row_for x d ∷ [] → history ≡ x.history ++ events.Define d.class ∷ [] → record x { rows = rows; history = history } ≡ with_define x d
+shown_define x d rows history e f = ap (λ (rs : List Rowed). grown x rs history) e ∙ ap (λ (h : List Event). grown x (x.rows ++ row_for x d ∷ []) h) f
+
+-- the same of fields that a call has made
+pub kept_defined : (told : Option Content) (x : Shown) (d : Drafted) (f : Fields) (new : ℕ → List ℕ → Option Rowed) (wide used more come : ℕ) (rows : List Rowed) (history : List Event)
+    → IsRegistry told x f → IsDraft told d → MayEnter x d → IsNew x d → IsPut f.table new d.class.loader d.class.name (row_for x d)
+    → wide ≡ f.parts → used ≡ f.events + 1 → come ≡ f.left + (x.script.rounds - (f.round + 1)) → used + come ≤ more
+    → rows ≡ x.rows ++ row_for x d ∷ [] → history ≡ x.history ++ events.Define d.class ∷ []
+    → IsRegistry told (record x { rows = rows; history = history }) (record f { table = new; parts = wide; events = used; room_for_events = more })
+kept_defined told x d f new wide used more come rows history k draft may fresh put same one is fits r h =
+    subst (λ (y : Shown). IsRegistry told y (record f { table = new; parts = wide; events = used; room_for_events = more })) (sym (shown_define x d rows history r h)) (kept_define told x d f new wide used more come k draft may fresh put same one is fits)
+
+if_self : (b : Bool) (r : Rowed) (o : Option Rowed) → b ≡ true → (if b then Some r else o) ≡ Some r
+if_self true r o e = refl
+if_self false r o e = absurd cc
+
+-- the row that was recorded is looked up
+pub records_define : (told : Option Content) (x : Shown) (d : Drafted) → IsKept told x → IsDraft told d → MayEnter x d → IsNew x d → Records (with_define x d) d.class.loader d.class.name (row_for x d)
+records_define told x d k draft may fresh =
+    looked_records told (with_define x d) d.class.loader d.class.name (row_for x d) (kept_by_define told x d k draft may fresh)
+    (looked_define told x d k fresh d.class.loader d.class.name ∙ if_self ((d.class.loader == d.class.loader) && pointwise nat_eq d.class.name d.class.name) (row_for x d) _ (at_self d.class.loader d.class.name))
+
 -- ---- an initiation
 
 may_initiate : (told : Option Content) (x : Shown) (h : Located) → IsKept told x → LeadsTo told h.config h.asked h.name (Some h.place) → MayJoin x h → LacksRecord x h.asked h.name
@@ -154,3 +179,22 @@ kept_initiate told x h row f new wide used more come k leads within may fresh is
       empty = k.empty;
       answers_fit = k.answers_fit;
     }
+
+pub shown_initiate : (x : Shown) (h : Located) (history : List Event) → history ≡ x.history ++ event_by h ∷ [] → record x { history = history } ≡ with_initiate x h
+shown_initiate x h history e = ap (λ (hs : List Event). grown x x.rows hs) e
+
+-- the same of fields that a call has made
+pub kept_initiated : (told : Option Content) (x : Shown) (h : Located) (row : Rowed) (f : Fields) (new : ℕ → List ℕ → Option Rowed) (wide used more come : ℕ) (history : List Event)
+    → IsRegistry told x f → LeadsTo told h.config h.asked h.name (Some h.place) → h.place < length h.config.loaders → MayJoin x h → LacksRecord x h.asked h.name → looked x h.place h.name ≡ Some row → IsPut f.table new h.asked h.name row
+    → wide ≡ f.parts → used ≡ f.events + 1 → come ≡ f.left + (x.script.rounds - (f.round + 1)) → used + come ≤ more → history ≡ x.history ++ event_by h ∷ []
+    → IsRegistry told (record x { history = history }) (record f { table = new; parts = wide; events = used; room_for_events = more })
+kept_initiated told x h row f new wide used more come history k leads within may fresh is put same one come-is fits e =
+    subst (λ (y : Shown). IsRegistry told y (record f { table = new; parts = wide; events = used; room_for_events = more })) (sym (shown_initiate x h history e)) (kept_initiate told x h row f new wide used more come k leads within may fresh is put same one come-is fits)
+
+pub records_initiate : (told : Option Content) (x : Shown) (h : Located) (row : Rowed) → IsKept told x → LeadsTo told h.config h.asked h.name (Some h.place) → h.place < length h.config.loaders → MayJoin x h → LacksRecord x h.asked h.name → looked x h.place h.name ≡ Some row
+    → Records (with_initiate x h) h.asked h.name row
+records_initiate told x h row k leads within may fresh is =
+    let home = looked_some told x h.place h.place h.name k may.defined in
+    let found : row_of x.rows (class h.name h.place) ≡ Some row = home.found ∙ sym home.looked ∙ is in
+    looked_records told (with_initiate x h) h.asked h.name row (kept_by_initiate told x h k leads within may fresh)
+    (looked_initiate told x h row k fresh found h.asked h.name ∙ if_self ((h.asked == h.asked) && pointwise nat_eq h.name h.name) row _ (at_self h.asked h.name))

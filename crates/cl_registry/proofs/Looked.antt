@@ -58,6 +58,9 @@ name_self (a ∷ n) = both_true (nat_eq a a) (same_name n n) (nat_eq_equiv.refl 
 same_self : (c : Class) → same_class c c ≡ true
 same_self c = both_true (same_name c.name c.name) (c.loader == c.loader) (name_self c.name) (nat_eq_equiv.refl c.loader)
 
+pub at_self : (l : ℕ) (n : List ℕ) → ((l == l) && pointwise nat_eq n n) ≡ true
+at_self l n = both_true (l == l) (same_name n n) (nat_eq_equiv.refl l) (name_self n)
+
 if_found : {A : Type 0} (b : Bool) (x : A) (o : Option A) → is_some o ≡ true → is_some (if b then Some x else o) ≡ true
 if_found true x o e = refl
 if_found false x o e = e

@@ -182,7 +182,7 @@ impl<T: Told> Registry<T> {
             });
         }
         let left = to_come(self.left, self.round, self.script.rounds());
-        match record(
+        let row = match record(
             alloc,
             &mut self.rows,
             &mut self.tables,
@@ -190,12 +190,13 @@ impl<T: Told> Registry<T> {
             left,
             &draft,
         ) {
-            Ok(row) => Ok(row),
-            Err(_) => Err(DefineRefused {
+            Ok(row) => row,
+            Err(_) => return Err(DefineRefused {
                 fault: RegistryFault::Memory,
                 draft,
             }),
-        }
+        };
+        Ok(row)
     }
 
     /// Records the loader that was asked as initiating the class of its home, and answers its row; where the loader has
@@ -220,7 +221,7 @@ impl<T: Told> Registry<T> {
             None => return Err(RegistryFault::Stray),
         };
         let left = to_come(self.left, self.round, self.script.rounds());
-        match join(
+        let row = match join(
             alloc,
             &mut self.tables,
             &mut self.history,
@@ -228,9 +229,10 @@ impl<T: Told> Registry<T> {
             home,
             row,
         ) {
-            Ok(row) => Ok(row),
-            Err(_) => Err(RegistryFault::Memory),
-        }
+            Ok(row) => row,
+            Err(_) => return Err(RegistryFault::Memory),
+        };
+        Ok(row)
     }
 
     /// Posts the answer of a request.

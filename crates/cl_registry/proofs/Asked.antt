@@ -9,6 +9,9 @@ use Rattle.cl_model.specs.States.{recorded}
 use Rattle.cl_delegation.specs.Searches.{Located}
 use Rattle.cl_hierarchy.specs.Drafts.{Drafted}
 use Rattle.cl_hierarchy.specs.Rows.{Rowed}
+use Rattle.cl_registry.specs.declared.registry.RegistryFault.{RegistryFault}
+use Rattle.cl_registry.specs.declared.registry.RegistryFault.TheVariants.{Memory, Stray, AlreadyPosted, NotYet}
+use Rattle.cl_registry.specs.Refusals.{InitiateRefusedFor, JoinRefusedFor}
 use Rattle.cl_registry.specs.Parts.{EachHas, place_by, row_by}
 use Rattle.cl_registry.specs.Tables.{Shown, records_of, IsKept, looked, row_for, place_in, Records, LacksRecord, MayEnter, MayJoin, Defines, DefinedAs, Initiates, InitiatedAs}
 use Rattle.cl_registry.proofs.Looked.{place_looked, looked_records, looked_lacks}
@@ -82,6 +85,13 @@ module _ {R : Type 0} (value : R → Rowed) (told : Option Content) (x : Shown) 
   pub home_looked : {Q : Type 0} (now : Q → R) (h : Located) (o : Option Q) → IfSome o (λ r. at h.place h.name ≡ Some (now r)) → IfSome o (λ r. looked x h.place h.name ≡ Some (value (now r)))
   home_looked now h None row = tt
   home_looked now h (Some r) row = sym (rows h.place h.name) ∙ ap (option_map value) row
+
+-- a home whose class may not be joined, where the loader that was asked has no record
+pub join_refused : (x : Shown) (h : Located) (fault : RegistryFault) → LacksRecord x h.asked h.name → JoinRefusedFor x h fault → InitiateRefusedFor x h fault
+join_refused x h Memory fresh r = λ none. r
+join_refused x h Stray fresh r = (fresh, r)
+join_refused x h AlreadyPosted fresh r = r
+join_refused x h NotYet fresh r = r
 
 -- ---- a name that is recorded
 

@@ -65,6 +65,33 @@ same_rounds : (x : Shown) (rows : List Rowed) (e : Event) → IsTrusted x → ro
     → IsSome (answer_at (answers_of x.answers) q)
 same_rounds x rows e t same q round asked less = t.earlier q round asked (subst (λ (n : ℕ). round < n) same less)
 
+-- ---- a call that failed
+
+abbrev grown : Shown → List Rowed → List Event → Shown
+grown x rows history = record x { rows = rows; history = history }
+
+-- what is shown stays, and so does what is kept of it, where only room was made
+pub kept_failed : (told : Option Content) (x : Shown) (f : Fields) (new : ℕ → List ℕ → Option Rowed) (wide used more come : ℕ) (rows : List Rowed) (history : List Event)
+    → IsRegistry told x f → rows ≡ x.rows → history ≡ x.history → ((l : ℕ) (n : List ℕ) → new l n ≡ f.table l n) → wide ≡ f.parts → used ≡ f.events → come ≡ f.left + (x.script.rounds - (f.round + 1)) → used + come ≤ more
+    → IsRegistry told (record x { rows = rows; history = history }) (record f { table = new; parts = wide; events = used; room_for_events = more })
+kept_failed told x f new wide used more come rows history k r h put same one is fits =
+    subst (λ (y : Shown). IsRegistry told y (record f { table = new; parts = wide; events = used; room_for_events = more })) (sym (ap (λ (rs : List Rowed). grown x rs history) r ∙ ap (λ (hs : List Event). grown x x.rows hs) h))
+    (record {
+      kept = k.kept;
+      script = k.script;
+      width = same ∙ k.width;
+      rows = λ l n. put l n ∙ k.rows l n;
+      left = k.left;
+      counts = k.counts;
+      each_round = k.each_round;
+      round = k.round;
+      begun = k.begun;
+      used = one ∙ k.used;
+      events_fit = subst (λ (n : ℕ). used + n ≤ more) is fits;
+      empty = k.empty;
+      answers_fit = k.answers_fit;
+    })
+
 -- ---- a definition
 
 abbrev record_of : Class → Record
@@ -106,9 +133,6 @@ kept_define told x d f new wide used more come k draft may fresh put same one is
   empty = k.empty;
   answers_fit = k.answers_fit;
 }
-
-abbrev grown : Shown → List Rowed → List Event → Shown
-grown x rows history = record x { rows = rows; history = history }
 
 pub shown_define : (x : Shown) (d : Drafted) (rows : List Rowed) (history : List Event) → rows ≡ x.rows ++ row_for x d ∷ [] → history ≡ x.history ++ events.Define d.class ∷ [] → record x { rows = rows; history = history } ≡ with_define x d
 shown_define x d rows history e f = ap (λ (rs : List Rowed). grown x rs history) e ∙ ap (λ (h : List Event). grown x (x.rows ++ row_for x d ∷ []) h) f

@@ -1,8 +1,8 @@
-ghost use Rattle.std.specs.Prelude.{◌≡◌, OnOk, Some, IfOk, IfErr, IfSome, MatchBool, MatchOption, length};
+ghost use Rattle.std.specs.Prelude.{◌≡◌, ◌<◌, OnOk, Some, IfOk, IfErr, IfSome, MatchBool, MatchOption, length};
 ghost use Rattle.std.specs.Option.{option_map};
 ghost use Rattle.cl_delegation.specs.Searches.{LeadsTo};
 ghost use Rattle.cl_registry.specs.Tables.{Defines, Fits, Initiates, IsKept, LacksRecord, MayEnter, MayGoOn, MayJoin, Records, empty_of, looked, round_of, with_post, with_round};
-ghost use Rattle.cl_registry.specs.Refusals.{DefineRefusedFor, InitiateRefusedFor, PostRefusedFor, RoundRefusedFor};
+ghost use Rattle.cl_registry.specs.Refusals.{DefineRefusedFor, InitiateRefusedFor, JoinRefusedFor, PostRefusedFor, RoundRefusedFor};
 ghost use Rattle.cl_registry.specs.Reports.{IsNamed, IsReport, IsUnfinished};
 
 use crate::entries::{asked_row, defined_row, has_supers, join, own_row, record};
@@ -213,12 +213,17 @@ impl<T: Told> Registry<T> {
         ensures kept { IsKept T.told self.new }
     {
         match asked_row(&self.tables, home) {
-            Some(row) => return Arc::try_clone(row).map_err(|_| RegistryFault::Memory),
+            Some(row) => {
+                return match Arc::try_clone(row) {
+                    Ok(row) => Ok(row),
+                    Err(_) => Err(RegistryFault::Memory),
+                };
+            }
             None => {}
         }
-        let row = match self.home_row(home) {
-            Some(row) => Arc::try_clone(row).map_err(|_| RegistryFault::Memory)?,
-            None => return Err(RegistryFault::Stray),
+        let row = match self.shared_row(home) {
+            Ok(row) => row,
+            Err(fault) => return Err(fault),
         };
         let left = to_come(self.left, self.round, self.script.rounds());
         let row = match join(
@@ -310,6 +315,8 @@ impl<T: Told> Registry<T> {
     fn home_row(&self, home: &Home<T>) -> Option<&Arc<ClassRow<T>>>
         ensures none { MatchOption result (MayJoin self.now home.now → ⊥) (λ r. MayJoin self.now home.now) }
         ensures row { IfSome result (λ r. looked self.now home.now.place home.now.name ≡ Some r.now.value) }
+        ensures leads { LeadsTo T.told home.now.config home.now.asked home.now.name (Some home.now.place) }
+        ensures within { home.now.place < length home.now.config.loaders }
     {
         if !same_config(home.config(), &self.config)
             || home.asked().0 as usize >= self.config.count()
@@ -317,5 +324,23 @@ impl<T: Told> Registry<T> {
             return None;
         }
         defined_row(&self.tables, home)
+    }
+
+    /// The same row, shared once more.
+    fn shared_row(&self, home: &Home<T>) -> Result<Arc<ClassRow<T>>, RegistryFault>
+        ensures may { IfOk result (λ r. MayJoin self.now home.now) }
+        ensures row { IfOk result (λ r. looked self.now home.now.place home.now.name ≡ Some r.value) }
+        ensures refused { IfErr result (λ fault. JoinRefusedFor self.now home.now fault) }
+        ensures leads { LeadsTo T.told home.now.config home.now.asked home.now.name (Some home.now.place) }
+        ensures within { home.now.place < length home.now.config.loaders }
+    {
+        let row = match self.home_row(home) {
+            Some(row) => row,
+            None => return Err(RegistryFault::Stray),
+        };
+        match Arc::try_clone(row) {
+            Ok(row) => Ok(row),
+            Err(_) => Err(RegistryFault::Memory),
+        }
     }
 }

@@ -8,7 +8,7 @@ use Rattle.cl_registry.specs.Tables.{Shown, MayEnter, IsNew, Defines, DefinedAs,
 use Rattle.cl_registry.specs.Parts.{IsPut}
 use Rattle.cl_registry.proofs.Asked.{found_none, found_some, known_defined, row_made, some_or_none}
 use Rattle.cl_registry.proofs.Looked.{looked_records}
-use Rattle.cl_registry.proofs.Kept.{kept_defined, shown_define, records_define}
+use Rattle.cl_registry.proofs.Kept.{kept_failed, kept_defined, shown_define, records_define}
 use Rattle.cl_registry.proofs.registry.Registry.define.Goals as goal
 use Rattle.cl_registry.proofs.registry.Registry.define.Goals.{in-Ok, in-Err}
 
@@ -57,7 +57,10 @@ returns-then-not-may_enter-clause-refused g c = (
 )
 
 pub invariant_of-self : goal.invariant_of-self
-invariant_of-self g c = ?
+invariant_of-self g c =
+    let e = c.in-Err-record.ensures in
+    kept_failed g.T.Told.told _ _ _ _ _ _ c.to_come-left.result _ _ c.self.invariant (ap (map (λ r. r.value)) e.same_rows) e.same_history (λ l n. ap (option_map (λ r. r.value)) (e.same_tables l n)) e.width e.same_length
+    (c.to_come-left.ensures ∙ ap (λ (n : ℕ). c.self.inside.left + (n - (c.self.inside.round + 1))) (c.rounds.ensures ∙ ap (λ s. s.rounds) c.deref.ensures)) e.room
 
 pub invariant_of-self-2 : goal.invariant_of-self-2
 invariant_of-self-2 g c =

@@ -51,7 +51,47 @@ returns-in-Some-clause-refused g c =
     ]
 
 pub returns-in-Err-shared_row-clause-refused : goal.returns-in-Err-shared_row-clause-refused
-returns-in-Err-shared_row-clause-refused g c = ?
+returns-in-Err-shared_row-clause-refused g c =
+    let x : Shown = record { config = c.self.inside.config.value; script = c.self.inside.script.value; rows = map (λ r. r.value) c.self.inside.rows.items; history = c.self.inside.history.items; answers = c.self.inside.answers.items } in
+    let h = c.args.home.now in
+    let fresh : LacksRecord x h.asked h.name = found_none (λ r. r.now) (λ r. r.value) g.T.Told.told x h.asked h.name c.self.invariant.kept _ (c.self.invariant.rows h.asked h.name) c.asked_row.result c.asked_row.ensures c.in-None.is in
+    join_refused c.args.self.now h c.in-Err-shared_row.fault (subst (λ (y : Shown). LacksRecord y h.asked h.name) c.self.view_is fresh) c.in-Err-shared_row.ensures.refused
 
 pub invariant_of-self-2 : goal.invariant_of-self-2
-invariant_of-self-2 g c = ?
+invariant_of-self-2 g c =
+    let x : Shown = record { config = c.self.inside.config.value; script = c.self.inside.script.value; rows = map (λ r. r.value) c.self.inside.rows.items; history = c.self.inside.history.items; answers = c.self.inside.answers.items } in
+    let h = c.args.home.now in
+    let fresh : LacksRecord x h.asked h.name = found_none (λ r. r.now) (λ r. r.value) g.T.Told.told x h.asked h.name c.self.invariant.kept _ (c.self.invariant.rows h.asked h.name) c.asked_row.result c.asked_row.ensures c.in-None.is in
+    let may : MayJoin x h = subst (λ (z : Shown). MayJoin z h) (sym c.self.view_is) c.in-Ok-shared_row.ensures.may in
+    let is : looked x h.place h.name ≡ Some c.in-Ok-shared_row.row.value = subst (λ (z : Shown). looked z h.place h.name ≡ Some c.in-Ok-shared_row.row.value) (sym c.self.view_is) c.in-Ok-shared_row.ensures.row in
+    kept_initiated g.T.Told.told x h c.in-Ok-shared_row.row.value _ _ _ _ _ c.to_come-left.result _ c.self.invariant c.in-Ok-shared_row.ensures.leads c.in-Ok-shared_row.ensures.within may fresh is c.in-Ok-join.ensures.put
+    c.in-Ok-join.ensures.width c.in-Ok-join.ensures.used
+    (c.to_come-left.ensures ∙ ap (λ (n : ℕ). c.self.inside.left + (n - (c.self.inside.round + 1))) (c.rounds.ensures ∙ ap (λ s. s.rounds) c.deref.ensures))
+    c.in-Ok-join.ensures.room c.in-Ok-join.ensures.event
+
+pub returns-clause-initiated : goal.returns-clause-initiated
+returns-clause-initiated g c =
+    let x : Shown = record { config = c.self.inside.config.value; script = c.self.inside.script.value; rows = map (λ r. r.value) c.self.inside.rows.items; history = c.self.inside.history.items; answers = c.self.inside.answers.items } in
+    let h = c.args.home.now in
+    let fresh : LacksRecord x h.asked h.name = found_none (λ r. r.now) (λ r. r.value) g.T.Told.told x h.asked h.name c.self.invariant.kept _ (c.self.invariant.rows h.asked h.name) c.asked_row.result c.asked_row.ensures c.in-None.is in
+    let may : MayJoin x h = subst (λ (z : Shown). MayJoin z h) (sym c.self.view_is) c.in-Ok-shared_row.ensures.may in
+    let is : looked x h.place h.name ≡ Some c.in-Ok-shared_row.row.value = subst (λ (z : Shown). looked z h.place h.name ≡ Some c.in-Ok-shared_row.row.value) (sym c.self.view_is) c.in-Ok-shared_row.ensures.row in
+    let y : Shown = record x { history = c.join.new.history.items } in
+    let v = c.in-Ok-join.row.value in
+    subst (λ (z : Shown). Initiates z y h v) c.self.view_is
+    (subst (λ (o : Option ℕ). InitiatedAs x y h v o) (sym fresh)
+    (may, shown_initiate x h _ c.in-Ok-join.ensures.event, is ∙ ap (λ (w : Rowed). Some w) (sym c.in-Ok-join.ensures.row)))
+
+pub returns-clause-found : goal.returns-clause-found
+returns-clause-found g c =
+    let x : Shown = record { config = c.self.inside.config.value; script = c.self.inside.script.value; rows = map (λ r. r.value) c.self.inside.rows.items; history = c.self.inside.history.items; answers = c.self.inside.answers.items } in
+    let h = c.args.home.now in
+    let fresh : LacksRecord x h.asked h.name = found_none (λ r. r.now) (λ r. r.value) g.T.Told.told x h.asked h.name c.self.invariant.kept _ (c.self.invariant.rows h.asked h.name) c.asked_row.result c.asked_row.ensures c.in-None.is in
+    let may : MayJoin x h = subst (λ (z : Shown). MayJoin z h) (sym c.self.view_is) c.in-Ok-shared_row.ensures.may in
+    let is : looked x h.place h.name ≡ Some c.in-Ok-shared_row.row.value = subst (λ (z : Shown). looked z h.place h.name ≡ Some c.in-Ok-shared_row.row.value) (sym c.self.view_is) c.in-Ok-shared_row.ensures.row in
+    subst (λ (z : Shown). Records z h.asked h.name c.in-Ok-join.row.value) (sym (shown_initiate x h _ c.in-Ok-join.ensures.event))
+    (subst (λ (w : Rowed). Records (with_initiate x h) h.asked h.name w) (sym c.in-Ok-join.ensures.row)
+    (records_initiate g.T.Told.told x h c.in-Ok-shared_row.row.value c.self.invariant.kept c.in-Ok-shared_row.ensures.leads c.in-Ok-shared_row.ensures.within may fresh is))
+
+pub returns-clause-kept : goal.returns-clause-kept
+returns-clause-kept g c = (invariant_of-self-2 g c).kept

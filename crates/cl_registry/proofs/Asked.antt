@@ -13,7 +13,7 @@ use Rattle.cl_registry.specs.declared.registry.RegistryFault.{RegistryFault}
 use Rattle.cl_registry.specs.declared.registry.RegistryFault.TheVariants.{Memory, Stray, AlreadyPosted, NotYet}
 use Rattle.cl_registry.specs.Refusals.{InitiateRefusedFor, JoinRefusedFor}
 use Rattle.cl_registry.specs.Parts.{EachHas, place_by, row_by}
-use Rattle.cl_registry.specs.Tables.{Shown, records_of, IsKept, looked, row_for, place_in, Records, LacksRecord, MayEnter, MayJoin, Defines, DefinedAs, Initiates, InitiatedAs}
+use Rattle.cl_registry.specs.Tables.{Shown, records_of, IsKept, looked, row_for, place_in, Records, LacksRecord, MayEnter, FitsAs, SupertypesFit, MayJoin, Defines, DefinedAs, Initiates, InitiatedAs}
 use Rattle.cl_registry.proofs.Looked.{place_looked, looked_records, looked_lacks}
 
 is_some_map : {A B : Type 0} (f : A → B) (o : Option A) → is_some (option_map f o) ≡ is_some o
@@ -61,10 +61,27 @@ module _ {R : Type 0} (value : R → Rowed) (told : Option Content) (x : Shown) 
   recorded_has l [] all = tt
   recorded_has l (a ∷ xs) all = (known_at l a.name ∙ all.0, recorded_has l xs all.1)
 
-  pub enters : (d : Drafted) (b : Bool) → d.home.config ≡ x.config → d.class.loader < length x.config.loaders
-      → MatchBool b (EachHas (λ n. is_some (at d.class.loader n)) (supers (file_of d.file))) (EachHas (λ n. is_some (at d.class.loader n)) (supers (file_of d.file)) → ⊥) → MatchBool b (MayEnter x d) (MayEnter x d → ⊥)
-  enters d true config loader has = record { config = config; loader = loader; above = has_recorded d.class.loader (supers (file_of d.file)) has }
-  enters d false config loader none = λ may. none (recorded_has d.class.loader (supers (file_of d.file)) may.above)
+  fit_rows : (d : Drafted) (xs : List Above) → AllByRecursion (λ (a : Above). IfSome (option_map value (at d.class.loader a.name)) (FitsAs d.class a)) xs → AllByRecursion (λ (a : Above). IfSome (looked x d.class.loader a.name) (FitsAs d.class a)) xs
+  fit_rows d [] all = tt
+  fit_rows d (a ∷ xs) all = (subst (λ (o : Option Rowed). IfSome o (FitsAs d.class a)) (rows d.class.loader a.name) all.0, fit_rows d xs all.1)
+
+  rows_fit : (d : Drafted) (xs : List Above) → AllByRecursion (λ (a : Above). IfSome (looked x d.class.loader a.name) (FitsAs d.class a)) xs → AllByRecursion (λ (a : Above). IfSome (option_map value (at d.class.loader a.name)) (FitsAs d.class a)) xs
+  rows_fit d [] all = tt
+  rows_fit d (a ∷ xs) all = (subst (λ (o : Option Rowed). IfSome o (FitsAs d.class a)) (sym (rows d.class.loader a.name)) all.0, rows_fit d xs all.1)
+
+  pub enters : (d : Drafted) → d.home.config ≡ x.config → d.class.loader < length x.config.loaders → EachHas (λ n. is_some (at d.class.loader n)) (supers (file_of d.file)) → SupertypesFit (λ l n. option_map value (at l n)) d → MayEnter x d
+  enters d config loader has fit = record { config = config; loader = loader; above = has_recorded d.class.loader (supers (file_of d.file)) has; fit = fit_rows d (supers (file_of d.file)) fit }
+
+  pub lacks_above : (d : Drafted) → (EachHas (λ n. is_some (at d.class.loader n)) (supers (file_of d.file)) → ⊥) → MayEnter x d → ⊥
+  lacks_above d none may = none (recorded_has d.class.loader (supers (file_of d.file)) may.above)
+
+  pub lacks_fit : (d : Drafted) → (SupertypesFit (λ l n. option_map value (at l n)) d → ⊥) → MayEnter x d → ⊥
+  lacks_fit d none may = none (rows_fit d (supers (file_of d.file)) may.fit)
+
+  pub enters_by : (d : Drafted) (b : Bool) → d.home.config ≡ x.config → d.class.loader < length x.config.loaders → EachHas (λ n. is_some (at d.class.loader n)) (supers (file_of d.file))
+      → MatchBool b (SupertypesFit (λ l n. option_map value (at l n)) d) (SupertypesFit (λ l n. option_map value (at l n)) d → ⊥) → MatchBool b (MayEnter x d) (MayEnter x d → ⊥)
+  enters_by d true config loader has fit = enters d config loader has fit
+  enters_by d false config loader has none = lacks_fit d none
 
   same_places : (l : ℕ) (xs : List Above) → map (place_by (λ n. option_map (λ r. (value r).class.loader) (at l n))) xs ≡ map (place_in (records_of x) l) xs
   same_places l [] = refl

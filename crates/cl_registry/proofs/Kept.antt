@@ -1,6 +1,6 @@
 -- What a registry keeps goes on by a definition, by an initiation and by a round.
 use Rattle.std.proofs.Common.{◌≡◌, ◌∙◌, ◌<◌, ◌≤◌, ◌+◌, ◌-◌, ◌⊎◌, inl, inr, ℕ, zero, suc, Bool, true, false, List, [], ◌∷◌, ◌++◌, length, map, Option, Some, None, refl, sym, ap, subst, arith, is_some, add-one, replicate, if◌then◌else◌}
-use Rattle.std.specs.Prelude.{◌&&◌, ◌==◌, nat_eq, slice_get, option_map, IsSome, unwrap_or}
+use Rattle.std.specs.Prelude.{◌&&◌, ◌==◌, nat_eq, slice_get, option_map, IsSome, unwrap_or, All}
 use Rattle.std.specs.List.{AllByRecursion}
 use Rattle.std.specs.Cmp.Lexicographic.{pointwise}
 use Rattle.std.proofs.lemmas.List.{append-nil, length_push, length-replicate, map_push}
@@ -22,7 +22,8 @@ use Rattle.cl_config.specs.Views.{Configured}
 use Rattle.cl_config.specs.Loaders.{schedule_of}
 use Rattle.cl_delegation.specs.Searches.{Located, LeadsTo}
 use Rattle.cl_delegation.specs.Worlds.{setting_of}
-use Rattle.cl_hierarchy.specs.Drafts.{IsDraft, Drafted}
+use Rattle.std.proofs.lemmas.List.Elements.{All-push}
+use Rattle.cl_hierarchy.specs.Drafts.{IsDraft, IsSpelt, Drafted}
 use Rattle.cl_hierarchy.specs.Rows.{Rowed}
 use Rattle.cl_registry.specs.Parts.{IsPut, place_by, row_by}
 use Rattle.cl_registry.specs.Kept.{left_in, open_in, Fields, IsRegistry}
@@ -46,11 +47,12 @@ state_event x rows e = state_more x (with_event x rows e) (step_of (answers_of x
 -- what is kept goes on by an event that is no post
 pub kept_event : (told : Option Content) (x : Shown) (rows : List Rowed) (e : Event) → IsKept told x → posts (e ∷ []) ≡ [] → Allows (schedule_of x.script) x.script.rounds (state_of x) (step_of (answers_of x.answers) e)
     → ((content : Content) → told ≡ Some content → May (setting_of x.config x.script content) (state_of x) (step_of (answers_of x.answers) e)) → EventNames (length x.config.loaders) e
-    → map (λ r. r.class) rows ≡ defined x.history ++ defined (e ∷ [])
+    → map (λ r. r.class) rows ≡ defined x.history ++ defined (e ∷ []) → All (λ r. IsSpelt told r.class r.file) rows
     → ((q round : ℕ) → slice_get x.script.rounds_of q ≡ Some round → round < round_of (with_event x rows e) → IsSome (answer_at (answers_of x.answers) q))
     → IsKept told (with_event x rows e)
-kept_event told x rows e k silent allows may names classes earlier = record {
+kept_event told x rows e k silent allows may names classes spelt earlier = record {
   trusted = record {
+    script = k.trusted.script;
     tables = trusted_more x (with_event x rows e) (step_of (answers_of x.answers) e) refl (steps_event x rows e) k.trusted.tables allows;
     posted = λ q. ap (is_in q) (posts_then x.history (e ∷ []) ∙ ap (λ (ps : List ℕ). posts x.history ++ ps) silent ∙ append-nil (posts x.history)) ∙ k.trusted.posted q;
     whole = k.trusted.whole;
@@ -59,6 +61,7 @@ kept_event told x rows e k silent allows may names classes earlier = record {
   named = record { history = names_event (length x.config.loaders) x.history e k.named.history names; answers = k.named.answers };
   run = run_more told x (with_event x rows e) (step_of (answers_of x.answers) e) refl refl (steps_event x rows e) k.run may;
   rows = classes ∙ sym (defined_then x.history (e ∷ []));
+  spelt = spelt;
 }
 
 same_rounds : (x : Shown) (rows : List Rowed) (e : Event) → IsTrusted x → round_of (with_event x rows e) ≡ round_of x → (q round : ℕ) → slice_get x.script.rounds_of q ≡ Some round → round < round_of (with_event x rows e)
@@ -107,6 +110,7 @@ kept_by_define : (told : Option Content) (x : Shown) (d : Drafted) → IsKept to
 kept_by_define told x d k draft may fresh =
     kept_event told x (x.rows ++ row_for x d ∷ []) (events.Define d.class) k refl (may_record x d.class.loader d.class.loader d.class.name fresh) (may_define told x d k draft may fresh) may.loader
     (map_push (λ (r : Rowed). r.class) x.rows (row_for x d) ∙ ap (λ (cs : List Class). cs ++ d.class ∷ []) k.rows)
+    (All-push (λ r. IsSpelt told r.class r.file) x.rows (row_for x d) k.spelt draft.spelt)
     (same_rounds x (x.rows ++ row_for x d ∷ []) (events.Define d.class) k.trusted (ap (λ (s : State). s.round) (state_define x d)))
 
 pub looked_define : (told : Option Content) (x : Shown) (d : Drafted) → IsKept told x → IsNew x d → (l : ℕ) (n : List ℕ) → looked (with_define x d) l n ≡ (if (d.class.loader == l) && pointwise nat_eq d.class.name n then Some (row_for x d) else looked x l n)
@@ -150,11 +154,14 @@ if_self : (b : Bool) (r : Rowed) (o : Option Rowed) → b ≡ true → (if b the
 if_self true r o e = refl
 if_self false r o e = absurd cc
 
+pub own_looked : (told : Option Content) (x : Shown) (d : Drafted) → IsKept told x → IsNew x d → looked (with_define x d) d.class.loader d.class.name ≡ Some (row_for x d)
+own_looked told x d k fresh =
+    looked_define told x d k fresh d.class.loader d.class.name ∙ if_self ((d.class.loader == d.class.loader) && pointwise nat_eq d.class.name d.class.name) (row_for x d) _ (at_self d.class.loader d.class.name)
+
 -- the row that was recorded is looked up
 pub records_define : (told : Option Content) (x : Shown) (d : Drafted) → IsKept told x → IsDraft told d → MayEnter x d → IsNew x d → Records (with_define x d) d.class.loader d.class.name (row_for x d)
 records_define told x d k draft may fresh =
-    looked_records told (with_define x d) d.class.loader d.class.name (row_for x d) (kept_by_define told x d k draft may fresh)
-    (looked_define told x d k fresh d.class.loader d.class.name ∙ if_self ((d.class.loader == d.class.loader) && pointwise nat_eq d.class.name d.class.name) (row_for x d) _ (at_self d.class.loader d.class.name))
+    looked_records told (with_define x d) d.class.loader d.class.name (row_for x d) (kept_by_define told x d k draft may fresh) (own_looked told x d k fresh)
 
 -- ---- an initiation
 
@@ -174,6 +181,7 @@ kept_by_initiate told x h k leads within may fresh =
     kept_event told x x.rows (event_by h) k refl (may.defined, may_record x h.asked h.place h.name fresh) (may_initiate told x h k leads may fresh)
     (subst (λ (c : Configured). h.place < length c.loaders) may.config within, may.loader)
     (k.rows ∙ sym (append-nil (defined x.history)))
+    k.spelt
     (same_rounds x x.rows (event_by h) k.trusted (ap (λ (s : State). s.round) (state_initiate x h)))
 
 pub looked_initiate : (told : Option Content) (x : Shown) (h : Located) (row : Rowed) → IsKept told x → LacksRecord x h.asked h.name → row_of x.rows (class h.name h.place) ≡ Some row
@@ -215,10 +223,13 @@ pub kept_initiated : (told : Option Content) (x : Shown) (h : Located) (row : Ro
 kept_initiated told x h row f new wide used more come history k leads within may fresh is put same one come-is fits e =
     subst (λ (y : Shown). IsRegistry told y (record f { table = new; parts = wide; events = used; room_for_events = more })) (sym (shown_initiate x h history e)) (kept_initiate told x h row f new wide used more come k leads within may fresh is put same one come-is fits)
 
+pub asked_looked : (told : Option Content) (x : Shown) (h : Located) (row : Rowed) → IsKept told x → MayJoin x h → LacksRecord x h.asked h.name → looked x h.place h.name ≡ Some row → looked (with_initiate x h) h.asked h.name ≡ Some row
+asked_looked told x h row k may fresh is =
+    let home = looked_some told x h.place h.place h.name k may.defined in
+    let found : row_of x.rows (class h.name h.place) ≡ Some row = home.found ∙ sym home.looked ∙ is in
+    looked_initiate told x h row k fresh found h.asked h.name ∙ if_self ((h.asked == h.asked) && pointwise nat_eq h.name h.name) row _ (at_self h.asked h.name)
+
 pub records_initiate : (told : Option Content) (x : Shown) (h : Located) (row : Rowed) → IsKept told x → LeadsTo told h.config h.asked h.name (Some h.place) → h.place < length h.config.loaders → MayJoin x h → LacksRecord x h.asked h.name → looked x h.place h.name ≡ Some row
     → Records (with_initiate x h) h.asked h.name row
 records_initiate told x h row k leads within may fresh is =
-    let home = looked_some told x h.place h.place h.name k may.defined in
-    let found : row_of x.rows (class h.name h.place) ≡ Some row = home.found ∙ sym home.looked ∙ is in
-    looked_records told (with_initiate x h) h.asked h.name row (kept_by_initiate told x h k leads within may fresh)
-    (looked_initiate told x h row k fresh found h.asked h.name ∙ if_self ((h.asked == h.asked) && pointwise nat_eq h.name h.name) row _ (at_self h.asked h.name))
+    looked_records told (with_initiate x h) h.asked h.name row (kept_by_initiate told x h k leads within may fresh) (asked_looked told x h row k may fresh is)

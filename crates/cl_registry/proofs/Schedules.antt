@@ -19,6 +19,8 @@ use Rattle.cl_config.specs.Scripts.{IsScript}
 use Rattle.cl_config.specs.Views.{Scripted}
 use Rattle.cl_config.specs.Loaders.{schedule, schedule_of}
 use Rattle.cl_delegation.specs.Worlds.{setting_of}
+use Rattle.std.proofs.lemmas.List.Elements.{All-nil, All-same}
+use Rattle.cl_hierarchy.specs.Drafts.{IsSpelt}
 use Rattle.cl_hierarchy.specs.Rows.{Rowed}
 use Rattle.cl_registry.specs.Kept.{left_in, open_in, Fields, IsRegistry}
 use Rattle.cl_registry.specs.Tables.{Shown, steps, state_of, records_of, round_of, row_of, posts, defined, is_in, RunsAs, with_round, IsOpen, MayGoOn, empty_of}
@@ -159,7 +161,7 @@ kept_round told x f used more k may one same =
     let later = may.later in
     let fits = k.events_fit in
     record {
-      kept = kept_event told x x.rows events.NextRound k.kept refl may (λ content e. round_is_allowed content x may) tt (k.kept.rows ∙ sym (append-nil (defined x.history))) earlier;
+      kept = kept_event told x x.rows events.NextRound k.kept refl may (λ content e. round_is_allowed content x may) tt (k.kept.rows ∙ sym (append-nil (defined x.history))) k.kept.spelt earlier;
       script = k.script;
       width = k.width;
       rows = λ l n. k.rows l n ∙ sym (ap (λ (s : State). option_and_then (λ (p : ℕ). row_of x.rows (class n p)) (recorded s.records l n)) (state_event x x.rows events.NextRound));
@@ -207,6 +209,7 @@ kept_new told x f r h a s script width none counts each first zero-used fit zero
     record {
       kept = record {
         trusted = record {
+          script = script;
           tables = subst (λ (es : List Step). tables.IsTrusted (schedule_of x.script) x.script.rounds es) (sym no-steps) tt;
           posted = λ q. ap (is_in q) no-posts ∙ sym (ap (λ (xs : List (Option rust.Answer)). is_some (given xs q)) a ∙ ap is_some (none_given f.left q));
           whole = whole ∙ sym s;
@@ -215,6 +218,7 @@ kept_new told x f r h a s script width none counts each first zero-used fit zero
         named = named_new x f.left h a;
         run = run_new told x no-steps;
         rows = ap (map (λ (r : Rowed). r.class)) r ∙ sym (ap defined h);
+        spelt = All-same (λ s. IsSpelt told s.class s.file) x.rows [] r (All-nil (λ s. IsSpelt told s.class s.file));
       };
       script = script;
       width = width;

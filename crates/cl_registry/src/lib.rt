@@ -4,6 +4,7 @@
 
 mod entries;
 pub mod finding;
+mod fits;
 pub mod laws;
 pub mod registry;
 pub mod report;

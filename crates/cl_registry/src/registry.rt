@@ -7,6 +7,7 @@ ghost use Rattle.cl_registry.specs.Reports.{IsNamed, IsReport, IsUnfinished};
 
 use crate::entries::{asked_row, defined_row, has_supers, join, own_row, record};
 use crate::finding::Finding;
+use crate::fits::supertypes_fit;
 use crate::report::{Answers, History, Report};
 use crate::rounds::{collect, counts_of, rooms_for, to_come};
 use crate::same::{same_config, same_script};
@@ -159,6 +160,7 @@ impl<T: Told> Registry<T> {
     ) -> Result<Arc<ClassRow<T>>, DefineRefused<T>>
         ensures defined { IfOk result (λ r. Defines self.old self.new draft r.value) }
         ensures found { IfOk result (λ r. Records self.new draft.class.loader draft.class.name r.value) }
+        ensures shown { IfOk result (λ r. looked self.new draft.class.loader draft.class.name ≡ Some r.value) }
         ensures refused { IfErr result (λ e. DefineRefusedFor self.old draft e.fault) }
         ensures unchanged { IfErr result (λ e. (self.new ≡ self.old) × (e.draft ≡ draft)) }
         ensures kept { IsKept T.told self.new }
@@ -208,6 +210,7 @@ impl<T: Told> Registry<T> {
     ) -> Result<Arc<ClassRow<T>>, RegistryFault>
         ensures initiated { IfOk result (λ r. Initiates self.old self.new home.now r.value) }
         ensures found { IfOk result (λ r. Records self.new home.now.asked home.now.name r.value) }
+        ensures shown { IfOk result (λ r. looked self.new home.now.asked home.now.name ≡ Some r.value) }
         ensures refused { IfErr result (λ fault. InitiateRefusedFor self.old home.now fault) }
         ensures unchanged { IfErr result (λ fault. self.new ≡ self.old) }
         ensures kept { IsKept T.told self.new }
@@ -308,7 +311,10 @@ impl<T: Told> Registry<T> {
         {
             return false;
         }
-        has_supers(&self.tables, draft)
+        if !has_supers(&self.tables, draft) {
+            return false;
+        }
+        supertypes_fit(&self.tables, draft)
     }
 
     /// The row of the class of a home, where the loader that was asked may be recorded as initiating it.

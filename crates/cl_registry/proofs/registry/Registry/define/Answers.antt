@@ -8,7 +8,7 @@ use Rattle.cl_registry.specs.Tables.{Shown, MayEnter, IsNew, Defines, DefinedAs,
 use Rattle.cl_registry.specs.Parts.{IsPut}
 use Rattle.cl_registry.proofs.Asked.{found_none, found_some, known_defined, row_made, some_or_none}
 use Rattle.cl_registry.proofs.Looked.{looked_records}
-use Rattle.cl_registry.proofs.Kept.{kept_failed, kept_defined, shown_define, records_define}
+use Rattle.cl_registry.proofs.Kept.{kept_failed, kept_defined, shown_define, records_define, own_looked}
 use Rattle.cl_registry.proofs.registry.Registry.define.Goals as goal
 use Rattle.cl_registry.proofs.registry.Registry.define.Goals.{in-Ok, in-Err}
 
@@ -36,6 +36,14 @@ returns-in-Some-clause-found g c =
     subst (λ (y : Shown). IfOk c.match-try_clone.result (λ r. Records y c.args.draft.class.loader c.args.draft.class.name r.value)) c.self.view_is
     elim c.match-try_clone.branch [
       | in-Ok w ↦ rw w.result-is (subst (λ (v : Rowed). Records (known g c) c.args.draft.class.loader c.args.draft.class.name v) (sym w.in-Ok.ensures) (records g c))
+      | in-Err w ↦ rw w.result-is tt
+    ]
+
+pub returns-in-Some-clause-shown : goal.returns-in-Some-clause-shown
+returns-in-Some-clause-shown g c =
+    subst (λ (y : Shown). IfOk c.match-try_clone.result (λ r. looked y c.args.draft.class.loader c.args.draft.class.name ≡ Some r.value)) c.self.view_is
+    elim c.match-try_clone.branch [
+      | in-Ok w ↦ rw w.result-is (found g c ∙ ap (λ (v : Rowed). Some v) (sym w.in-Ok.ensures))
       | in-Err w ↦ rw w.result-is tt
     ]
 
@@ -98,6 +106,16 @@ returns-clause-found g c =
     let made : v ≡ row_for x d = c.in-Ok-record.ensures.row ∙ row_made (λ r. r.value) g.T.Told.told x c.self.invariant.kept (row_at c.self.inside.tables.items) c.self.invariant.rows d in
     subst (λ (z : Shown). Records z d.class.loader d.class.name v) (sym (shown_define x d _ _ (c.in-Ok-record.ensures.rows ∙ ap (λ (w : Rowed). x.rows ++ w ∷ []) made) c.in-Ok-record.ensures.event))
     (subst (λ (w : Rowed). Records (with_define x d) d.class.loader d.class.name w) (sym made) (records_define g.T.Told.told x d c.self.invariant.kept (subst (IsDraft g.T.Told.told) c.draft.view_is c.draft.invariant) may fresh))
+
+pub returns-clause-shown : goal.returns-clause-shown
+returns-clause-shown g c =
+    let x : Shown = record { config = c.self.inside.config.value; script = c.self.inside.script.value; rows = map (λ r. r.value) c.self.inside.rows.items; history = c.self.inside.history.items; answers = c.self.inside.answers.items } in
+    let d = c.args.draft in
+    let v = c.in-Ok-record.row.value in
+    let fresh : IsNew x d = found_none (λ r. r.now) (λ r. r.value) g.T.Told.told x d.class.loader d.class.name c.self.invariant.kept _ (c.self.invariant.rows d.class.loader d.class.name) c.own_row.result c.own_row.ensures c.in-None.is in
+    let made : v ≡ row_for x d = c.in-Ok-record.ensures.row ∙ row_made (λ r. r.value) g.T.Told.told x c.self.invariant.kept (row_at c.self.inside.tables.items) c.self.invariant.rows d in
+    ap (λ (z : Shown). looked z d.class.loader d.class.name) (shown_define x d _ _ (c.in-Ok-record.ensures.rows ∙ ap (λ (w : Rowed). x.rows ++ w ∷ []) made) c.in-Ok-record.ensures.event)
+    ∙ own_looked g.T.Told.told x d c.self.invariant.kept fresh ∙ ap (λ (w : Rowed). Some w) (sym made)
 
 pub returns-clause-kept : goal.returns-clause-kept
 returns-clause-kept g c = (invariant_of-self-2 g c).kept

@@ -9,7 +9,7 @@ use Rattle.cl_registry.specs.Refusals.{InitiateRefusedFor, JoinRefusedFor}
 use Rattle.cl_registry.specs.Tables.{Shown, MayJoin, LacksRecord, Initiates, InitiatedAs, Records, records_of, row_at, looked, with_initiate}
 use Rattle.cl_registry.proofs.Asked.{found_none, found_some, known_initiated, some_or_none, join_refused}
 use Rattle.cl_registry.proofs.Looked.{looked_records}
-use Rattle.cl_registry.proofs.Kept.{kept_failed, kept_initiated, shown_initiate, records_initiate}
+use Rattle.cl_registry.proofs.Kept.{kept_failed, kept_initiated, shown_initiate, records_initiate, asked_looked}
 use Rattle.cl_registry.proofs.registry.Registry.initiate.Goals as goal
 use Rattle.cl_registry.proofs.registry.Registry.initiate.Goals.{in-Ok, in-Err}
 
@@ -37,6 +37,14 @@ returns-in-Some-clause-found g c =
     subst (λ (y : Shown). IfOk c.match-try_clone.result (λ r. Records y c.args.home.now.asked c.args.home.now.name r.value)) c.self.view_is
     elim c.match-try_clone.branch [
       | in-Ok w ↦ rw w.result-is (subst (λ (v : Rowed). Records (known g c) c.args.home.now.asked c.args.home.now.name v) (sym w.in-Ok.ensures) (records g c))
+      | in-Err w ↦ rw w.result-is tt
+    ]
+
+pub returns-in-Some-clause-shown : goal.returns-in-Some-clause-shown
+returns-in-Some-clause-shown g c =
+    subst (λ (y : Shown). IfOk c.match-try_clone.result (λ r. looked y c.args.home.now.asked c.args.home.now.name ≡ Some r.value)) c.self.view_is
+    elim c.match-try_clone.branch [
+      | in-Ok w ↦ rw w.result-is (found g c ∙ ap (λ (v : Rowed). Some v) (sym w.in-Ok.ensures))
       | in-Err w ↦ rw w.result-is tt
     ]
 
@@ -92,6 +100,16 @@ returns-clause-found g c =
     subst (λ (z : Shown). Records z h.asked h.name c.in-Ok-join.row.value) (sym (shown_initiate x h _ c.in-Ok-join.ensures.event))
     (subst (λ (w : Rowed). Records (with_initiate x h) h.asked h.name w) (sym c.in-Ok-join.ensures.row)
     (records_initiate g.T.Told.told x h c.in-Ok-shared_row.row.value c.self.invariant.kept c.in-Ok-shared_row.ensures.leads c.in-Ok-shared_row.ensures.within may fresh is))
+
+pub returns-clause-shown : goal.returns-clause-shown
+returns-clause-shown g c =
+    let x : Shown = record { config = c.self.inside.config.value; script = c.self.inside.script.value; rows = map (λ r. r.value) c.self.inside.rows.items; history = c.self.inside.history.items; answers = c.self.inside.answers.items } in
+    let h = c.args.home.now in
+    let fresh : LacksRecord x h.asked h.name = found_none (λ r. r.now) (λ r. r.value) g.T.Told.told x h.asked h.name c.self.invariant.kept _ (c.self.invariant.rows h.asked h.name) c.asked_row.result c.asked_row.ensures c.in-None.is in
+    let may : MayJoin x h = subst (λ (z : Shown). MayJoin z h) (sym c.self.view_is) c.in-Ok-shared_row.ensures.may in
+    let is : looked x h.place h.name ≡ Some c.in-Ok-shared_row.row.value = subst (λ (z : Shown). looked z h.place h.name ≡ Some c.in-Ok-shared_row.row.value) (sym c.self.view_is) c.in-Ok-shared_row.ensures.row in
+    ap (λ (z : Shown). looked z h.asked h.name) (shown_initiate x h _ c.in-Ok-join.ensures.event)
+    ∙ asked_looked g.T.Told.told x h c.in-Ok-shared_row.row.value c.self.invariant.kept may fresh is ∙ ap (λ (w : Rowed). Some w) (sym c.in-Ok-join.ensures.row)
 
 pub returns-clause-kept : goal.returns-clause-kept
 returns-clause-kept g c = (invariant_of-self-2 g c).kept

@@ -1,6 +1,6 @@
 //! Classes as they are recorded.
 
-ghost use Rattle.std.specs.Prelude.{◌≡◌, length};
+ghost use Rattle.std.specs.Prelude.{◌≡◌, length, IfOk};
 ghost use Rattle.cl_classfile.specs.Files.{file_of};
 ghost use Rattle.cl_model.specs.Classes.{supers};
 ghost use Rattle.cl_hierarchy.specs.Drafts.{IsSpelt};
@@ -8,6 +8,7 @@ ghost use Rattle.cl_hierarchy.specs.Drafts.{IsSpelt};
 use crate::draft::Draft;
 use cl_classfile::ClassFile;
 use cl_model::{Class, LoaderId, Told};
+use std::alloc::{AllocError, Global};
 use std::marker::{Model, PhantomData};
 use std::sync::Arc;
 
@@ -48,6 +49,27 @@ impl<T: Told> ClassRow<T> {
             places,
             of: PhantomData,
         }
+    }
+
+    /// The same of a draft that is kept. Only memory refuses it.
+    pub fn of(
+        alloc: Global,
+        draft: &Draft<T>,
+        places: Vec<LoaderId>,
+    ) -> Result<ClassRow<T>, AllocError>
+        requires { length places.items ≡ length (supers (file_of draft.now.file)) }
+        ensures { IfOk result (λ r. r ≡ record { class = draft.now.class; file = draft.now.file; places = places.items }) }
+    {
+        // brings that the class is spelt by its file
+        let _ = draft.home();
+        let class = draft.class().try_clone(alloc)?;
+        let file = Arc::try_clone(draft.file())?;
+        Ok(ClassRow {
+            class,
+            file,
+            places,
+            of: PhantomData,
+        })
     }
 
     /// The class.

@@ -23,6 +23,13 @@ InitiateRefusedFor x h Stray = LacksRecord x h.asked h.name × (MayJoin x h → 
 InitiateRefusedFor x h AlreadyPosted = ⊥
 InitiateRefusedFor x h NotYet = ⊥
 
+-- a home whose class stands is refused for memory alone, another is strayed (5.3)
+abbrev pub JoinRefusedFor : Shown → Located → RegistryFault → Type 0
+JoinRefusedFor x h Memory = MayJoin x h
+JoinRefusedFor x h Stray = MayJoin x h → ⊥
+JoinRefusedFor x h AlreadyPosted = ⊥
+JoinRefusedFor x h NotYet = ⊥
+
 -- an answer is strayed where the request is another, or where what it rests on is not in the tables; between the two it is
 -- told that the request is of a later round, or has an answer (own choice)
 abbrev pub PostRefusedFor : Shown → ℕ → Answered → RegistryFault → Type 0

@@ -2,10 +2,14 @@
 //! (JVMS SE 8, 5.3).
 #![tactic(auto)]
 
+mod entries;
 pub mod finding;
+mod fits;
 pub mod laws;
 pub mod registry;
 pub mod report;
+mod rounds;
+mod same;
 mod stub;
 mod tables;
 

@@ -1,13 +1,17 @@
-ghost use Rattle.std.specs.Prelude.{◌≡◌, OnOk, IfOk, IfErr, IfSome, MatchBool, MatchOption, length};
+ghost use Rattle.std.specs.Prelude.{◌≡◌, ◌<◌, OnOk, Some, IfOk, IfErr, IfSome, MatchBool, MatchOption, length};
 ghost use Rattle.std.specs.Option.{option_map};
 ghost use Rattle.cl_delegation.specs.Searches.{LeadsTo};
-ghost use Rattle.cl_registry.specs.Tables.{Defines, Fits, Initiates, IsKept, LacksRecord, MayGoOn, Records, empty_of, looked, round_of, with_post, with_round};
-ghost use Rattle.cl_registry.specs.Refusals.{DefineRefusedFor, InitiateRefusedFor, PostRefusedFor, RoundRefusedFor};
+ghost use Rattle.cl_registry.specs.Tables.{Defines, Fits, Initiates, IsKept, LacksRecord, MayEnter, MayGoOn, MayJoin, Records, empty_of, looked, round_of, with_post, with_round};
+ghost use Rattle.cl_registry.specs.Refusals.{DefineRefusedFor, InitiateRefusedFor, JoinRefusedFor, PostRefusedFor, RoundRefusedFor};
 ghost use Rattle.cl_registry.specs.Reports.{IsNamed, IsReport, IsUnfinished};
 
+use crate::entries::{asked_row, defined_row, has_supers, join, own_row, record};
 use crate::finding::Finding;
+use crate::fits::supertypes_fit;
 use crate::report::{Answers, History, Report};
-use crate::tables::Rows;
+use crate::rounds::{collect, counts_of, rooms_for, to_come};
+use crate::same::{same_config, same_script};
+use crate::tables::{Rows, empty_rows, find};
 use cl_config::{Config, Script};
 use cl_delegation::Home;
 use cl_hierarchy::{ClassRow, Draft};
@@ -107,16 +111,35 @@ impl<T: Told> Registry<T> {
         ensures config_back { IfErr result (λ e. e.config.value ≡ config.value) }
         ensures script_back { IfErr result (λ e. e.script.value ≡ script.value) }
     {
-        let _ = crate::stub::stub_never();
-        unreachable!()
+        let left = script.requests().len();
+        let Ok(tables) = empty_rows(alloc, config.seed(), config.count()) else {
+            return Err(RegistryRefused { config, script });
+        };
+        let Ok(unanswered) = counts_of(alloc, &script) else {
+            return Err(RegistryRefused { config, script });
+        };
+        let Ok(rooms) = rooms_for(alloc, left, script.rounds() as usize) else {
+            return Err(RegistryRefused { config, script });
+        };
+        Ok(Registry {
+            config,
+            script,
+            rows: Vec::new(alloc),
+            tables,
+            history: rooms.history,
+            answers: rooms.answers,
+            round: 0,
+            unanswered,
+            left,
+            room: rooms.room,
+        })
     }
 
     /// Whether configuration and script are those of this registry.
     pub fn serves(&self, config: &Config, script: &Script) -> bool
         ensures { MatchBool result ((config.now ≡ self.now.config) × (script.now ≡ self.now.script)) ((config.now ≡ self.now.config) × (script.now ≡ self.now.script) → ⊥) }
     {
-        let _ = crate::stub::stub_never();
-        unreachable!()
+        same_config(config, &self.config) && same_script(script, &self.script)
     }
 
     /// The class that a loader has recorded for a name (JVMS SE 8, 5.3).
@@ -125,8 +148,7 @@ impl<T: Told> Registry<T> {
         ensures found { MatchOption result (LacksRecord self.now loader name.now) (λ r. Records self.now loader name.now r.now.value) }
         ensures kept { IsKept T.told self.now }
     {
-        let _ = crate::stub::stub_never();
-        unreachable!()
+        find(&self.tables, loader, name)
     }
 
     /// Records a class with its loader, which defines it, and answers its row; of a class that is recorded the row stays,
@@ -138,12 +160,45 @@ impl<T: Told> Registry<T> {
     ) -> Result<Arc<ClassRow<T>>, DefineRefused<T>>
         ensures defined { IfOk result (λ r. Defines self.old self.new draft r.value) }
         ensures found { IfOk result (λ r. Records self.new draft.class.loader draft.class.name r.value) }
+        ensures shown { IfOk result (λ r. looked self.new draft.class.loader draft.class.name ≡ Some r.value) }
         ensures refused { IfErr result (λ e. DefineRefusedFor self.old draft e.fault) }
         ensures unchanged { IfErr result (λ e. (self.new ≡ self.old) × (e.draft ≡ draft)) }
         ensures kept { IsKept T.told self.new }
     {
-        let _ = crate::stub::stub_never();
-        unreachable!()
+        match own_row(&self.tables, &draft) {
+            Some(row) => {
+                return match Arc::try_clone(row) {
+                    Ok(row) => Ok(row),
+                    Err(_) => Err(DefineRefused {
+                        fault: RegistryFault::Memory,
+                        draft,
+                    }),
+                };
+            }
+            None => {}
+        }
+        if !self.may_enter(&draft) {
+            return Err(DefineRefused {
+                fault: RegistryFault::Stray,
+                draft,
+            });
+        }
+        let left = to_come(self.left, self.round, self.script.rounds());
+        let row = match record(
+            alloc,
+            &mut self.rows,
+            &mut self.tables,
+            &mut self.history,
+            left,
+            &draft,
+        ) {
+            Ok(row) => row,
+            Err(_) => return Err(DefineRefused {
+                fault: RegistryFault::Memory,
+                draft,
+            }),
+        };
+        Ok(row)
     }
 
     /// Records the loader that was asked as initiating the class of its home, and answers its row; where the loader has
@@ -155,12 +210,37 @@ impl<T: Told> Registry<T> {
     ) -> Result<Arc<ClassRow<T>>, RegistryFault>
         ensures initiated { IfOk result (λ r. Initiates self.old self.new home.now r.value) }
         ensures found { IfOk result (λ r. Records self.new home.now.asked home.now.name r.value) }
+        ensures shown { IfOk result (λ r. looked self.new home.now.asked home.now.name ≡ Some r.value) }
         ensures refused { IfErr result (λ fault. InitiateRefusedFor self.old home.now fault) }
         ensures unchanged { IfErr result (λ fault. self.new ≡ self.old) }
         ensures kept { IsKept T.told self.new }
     {
-        let _ = crate::stub::stub_never();
-        unreachable!()
+        match asked_row(&self.tables, home) {
+            Some(row) => {
+                return match Arc::try_clone(row) {
+                    Ok(row) => Ok(row),
+                    Err(_) => Err(RegistryFault::Memory),
+                };
+            }
+            None => {}
+        }
+        let row = match self.shared_row(home) {
+            Ok(row) => row,
+            Err(fault) => return Err(fault),
+        };
+        let left = to_come(self.left, self.round, self.script.rounds());
+        let row = match join(
+            alloc,
+            &mut self.tables,
+            &mut self.history,
+            left,
+            home,
+            row,
+        ) {
+            Ok(row) => row,
+            Err(_) => return Err(RegistryFault::Memory),
+        };
+        Ok(row)
     }
 
     /// Posts the answer of a request.
@@ -184,8 +264,13 @@ impl<T: Told> Registry<T> {
         ensures unchanged { IfErr result (λ fault. self.new ≡ self.old) }
         ensures kept { IsKept T.told self.new }
     {
-        let _ = crate::stub::stub_never();
-        unreachable!()
+        let next = self.round + 1;
+        if next >= self.script.rounds() || self.unanswered[self.round as usize] != 0 {
+            return Err(RegistryFault::NotYet);
+        }
+        self.round = next;
+        self.history.push_reserved(Event::NextRound);
+        Ok(next)
     }
 
     /// The report, once each request has its answer and the last round has begun.
@@ -195,7 +280,73 @@ impl<T: Told> Registry<T> {
         ensures loaders { IfOk result (λ r. IsNamed (length self.config.loaders) r) }
         ensures refused { IfErr result (λ e. (e.registry ≡ self) × IsUnfinished self) }
     {
-        let _ = crate::stub::stub_never();
-        unreachable!()
+        if self.left != 0 || self.round + 1 < self.script.rounds() {
+            return Err(NotYet { registry: self });
+        }
+        let Registry {
+            config: _,
+            script,
+            rows: _,
+            tables: _,
+            history,
+            answers,
+            round: _,
+            unanswered: _,
+            left: _,
+            room,
+        } = self;
+        Ok(Report {
+            script,
+            history: History::from(history),
+            answers: Answers::from(collect(answers, room)),
+        })
+    }
+
+    /// Whether the class of a draft may be recorded, where its loader has no record of it.
+    fn may_enter(&self, draft: &Draft<T>) -> bool
+        ensures { MatchBool result (MayEnter self.now draft.now) (MayEnter self.now draft.now → ⊥) }
+    {
+        if !same_config(draft.home().config(), &self.config)
+            || draft.class().loader.0 as usize >= self.config.count()
+        {
+            return false;
+        }
+        if !has_supers(&self.tables, draft) {
+            return false;
+        }
+        supertypes_fit(&self.tables, draft)
+    }
+
+    /// The row of the class of a home, where the loader that was asked may be recorded as initiating it.
+    fn home_row(&self, home: &Home<T>) -> Option<&Arc<ClassRow<T>>>
+        ensures none { MatchOption result (MayJoin self.now home.now → ⊥) (λ r. MayJoin self.now home.now) }
+        ensures row { IfSome result (λ r. looked self.now home.now.place home.now.name ≡ Some r.now.value) }
+        ensures leads { LeadsTo T.told home.now.config home.now.asked home.now.name (Some home.now.place) }
+        ensures within { home.now.place < length home.now.config.loaders }
+    {
+        if !same_config(home.config(), &self.config)
+            || home.asked().0 as usize >= self.config.count()
+        {
+            return None;
+        }
+        defined_row(&self.tables, home)
+    }
+
+    /// The same row, shared once more.
+    fn shared_row(&self, home: &Home<T>) -> Result<Arc<ClassRow<T>>, RegistryFault>
+        ensures may { IfOk result (λ r. MayJoin self.now home.now) }
+        ensures row { IfOk result (λ r. looked self.now home.now.place home.now.name ≡ Some r.value) }
+        ensures refused { IfErr result (λ fault. JoinRefusedFor self.now home.now fault) }
+        ensures leads { LeadsTo T.told home.now.config home.now.asked home.now.name (Some home.now.place) }
+        ensures within { home.now.place < length home.now.config.loaders }
+    {
+        let row = match self.home_row(home) {
+            Some(row) => row,
+            None => return Err(RegistryFault::Stray),
+        };
+        match Arc::try_clone(row) {
+            Ok(row) => Ok(row),
+            Err(_) => Err(RegistryFault::Memory),
+        }
     }
 }

@@ -1,9 +1,71 @@
-//! The tables of a registry, as plain maps and lists.
+//! The tables of a registry, as plain maps.
+
+ghost use Rattle.std.specs.Prelude.{◌≡◌, ℕ, List, ◌<◌, None, IfOk, OnOk, OnErr, length};
+ghost use Rattle.std.specs.Option.{option_map};
+ghost use Rattle.cl_registry.specs.Parts.{HasSameRows, IsPut};
+ghost use Rattle.cl_registry.specs.Tables.{row_at};
 
 use cl_hierarchy::ClassRow;
+use cl_model::{LoaderId, Told};
 use cl_names::{Name, Seed};
 use indexmap::IndexMap;
+use std::alloc::{AllocError, Global};
 use std::sync::Arc;
 
 /// The rows of each loader, by their names.
 pub type Rows<T> = Vec<IndexMap<Name, Arc<ClassRow<T>>, Seed>>;
+
+/// No rows, for this many loaders, in tables that hash with this seed.
+pub fn empty_rows<T: Told>(
+    alloc: Global,
+    seed: Seed,
+    count: usize,
+) -> Result<Rows<T>, AllocError>
+    ensures count { IfOk result (λ r. length r.items ≡ count) }
+    ensures empty { IfOk result (λ r. (l : ℕ) (n : List ℕ) → row_at r.items l n ≡ None) }
+{
+    let mut tables = Vec::with_capacity(alloc, count)?;
+    for _ in 0..count {
+        tables.push(IndexMap::with_hasher(alloc, seed))?;
+    }
+    Ok(tables)
+}
+
+/// The row of a loader and a name.
+pub fn find<'a, T: Told>(
+    tables: &'a Rows<T>,
+    loader: LoaderId,
+    name: &Name,
+) -> Option<&'a Arc<ClassRow<T>>>
+    ensures { option_map (λ r. r.now) result ≡ row_at tables.now.items loader name.now }
+{
+    tables.get(loader.0 as usize)?.get(name)
+}
+
+/// Puts a row where none is.
+pub fn insert<T: Told>(
+    tables: &mut Rows<T>,
+    loader: LoaderId,
+    name: Name,
+    row: Arc<ClassRow<T>>,
+) -> Result<(), AllocError>
+    requires { loader < length tables.old.items }
+    ensures width { length tables.new.items ≡ length tables.old.items }
+    ensures put { OnOk result (IsPut (row_at tables.old.items) (row_at tables.new.items) loader name row) }
+    ensures unchanged { OnErr result (HasSameRows (row_at tables.old.items) (row_at tables.new.items)) }
+{
+    match tables[loader.0 as usize].insert(name, row) {
+        Ok(_) => Ok(()),
+        Err(_) => Err(AllocError),
+    }
+}
+
+/// The loader that defined the class of a row.
+pub fn place<T: Told>(tables: &Rows<T>, loader: LoaderId, name: &Name) -> Option<LoaderId>
+    ensures { result ≡ option_map (λ r. r.value.class.loader) (row_at tables.now.items loader name.now) }
+{
+    match find(tables, loader, name) {
+        None => None,
+        Some(row) => Some(row.class().loader),
+    }
+}

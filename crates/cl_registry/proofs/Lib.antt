@@ -1,0 +1,11 @@
+pub mod Allowed
+pub mod Asked
+pub mod Calm
+pub mod Counts
+pub mod Histories
+pub mod Kept
+pub mod Looked
+pub mod Placed
+pub mod Running
+pub mod Schedules
+pub mod Steps

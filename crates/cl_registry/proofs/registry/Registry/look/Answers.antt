@@ -1,0 +1,10 @@
+use Rattle.std.proofs.Common.{subst}
+use Rattle.std.specs.Prelude.{MatchOption}
+use Rattle.cl_registry.specs.Tables.{Shown, LacksRecord, Records}
+use Rattle.cl_registry.proofs.Asked.{found_is}
+use Rattle.cl_registry.proofs.registry.Registry.look.Goals as goal
+
+pub returns-clause-found : goal.returns-clause-found
+returns-clause-found g c =
+    subst (λ (y : Shown). MatchOption c.find.result (LacksRecord y c.args.loader c.args.name.now) (λ r. Records y c.args.loader c.args.name.now r.now.value)) c.self.view_is
+    (found_is (λ r. r.now) (λ r. r.value) g.T.Told.told _ c.args.loader c.args.name.now c.self.invariant.kept _ (c.self.invariant.rows c.args.loader c.args.name.now) c.find.result c.find.ensures)

@@ -1,0 +1,43 @@
+-- What the steps of a registry's calls make of plain tables (JVMS SE 8, 5.3, 5.3.5).
+use Rattle.std.specs.Prelude.{◌≡◌, ◌==◌, ◌&&◌, ℕ, Bool, true, nat_eq, if◌then◌else◌, List, [], ◌∷◌, map, Option, Some, None, option_map, unwrap_or, slice_get}
+use Rattle.std.specs.List.{AllByRecursion}
+use Rattle.std.specs.Cmp.Lexicographic.{pointwise}
+use Rattle.cl_classfile.specs.Files.{file_of}
+use Rattle.cl_model.specs.Classes.{Above, supers}
+use Rattle.cl_hierarchy.specs.Drafts.{Drafted}
+use Rattle.cl_hierarchy.specs.Rows.{Rowed}
+
+-- a table has this row for a loader and a name, and for others what it had (5.3)
+abbrev pub IsPut : {R : Type 0} → (ℕ → List ℕ → Option R) → (ℕ → List ℕ → Option R) → ℕ → List ℕ → R → Type 0
+IsPut old new loader name row =
+    (l : ℕ) (n : List ℕ) → new l n ≡ (if (loader == l) && pointwise nat_eq name n then Some row else old l n)
+
+-- two tables have the same rows (5.3)
+abbrev pub HasSameRows : {R : Type 0} → (ℕ → List ℕ → Option R) → (ℕ → List ℕ → Option R) → Type 0
+HasSameRows old new = (l : ℕ) (n : List ℕ) → new l n ≡ old l n
+
+-- a table of handles, as one of what they share
+abbrev pub shared_rows : {R V : Type 0} → (R → V) → (ℕ → List ℕ → Option R) → ℕ → List ℕ → Option V
+shared_rows value table l n = option_map value (table l n)
+
+-- a supertype has a row, if there is one (5.3.5, steps 3 and 4)
+abbrev pub is_there : (List ℕ → Bool) → Option Above → Bool
+is_there has_row None = true
+is_there has_row (Some a) = has_row a.name
+
+-- each direct supertype has a row (5.3.5, steps 3 and 4)
+abbrev pub EachHas : (List ℕ → Bool) → List Above → Type 0
+EachHas has_row above = AllByRecursion (λ (a : Above). has_row a.name ≡ true) above
+
+-- who defined a supertype, by a table of places (5.3); nothing is asked where it has none
+abbrev pub place_by : (List ℕ → Option ℕ) → Above → ℕ
+place_by place a = unwrap_or (place a.name) 0
+
+-- who defined a supertype, if there is one (5.3)
+abbrev pub place_there : (List ℕ → Option ℕ) → Option Above → ℕ
+place_there place None = 0
+place_there place (Some a) = place_by place a
+
+-- the row of a draft's class, by a table of places (5.3.5, step 5)
+abbrev pub row_by : (List ℕ → Option ℕ) → Drafted → Rowed
+row_by place d = record { class = d.class; file = d.file; places = map (place_by place) (supers (file_of d.file)) }

@@ -1,0 +1,212 @@
+//! The steps of a definition and of an initiation, on plain tables.
+
+ghost use Rattle.std.specs.Prelude.{◌≡◌, ◌≢◌, ◌<◌, ◌≤◌, ◌+◌, ◌++◌, ◌∷◌, [], Some, IfOk, IfSome, MatchOption, OnOk, OnErr, MatchBool, is_some, length, map, slice_get, vec_len, vec_capacity};
+ghost use Rattle.std.specs.Option.{option_map};
+ghost use Rattle.cl_classfile.specs.Files.{file_of};
+ghost use Rattle.cl_model.specs.Classes.{class, supers};
+ghost use Rattle.cl_model.specs.declared.event.Event.TheVariants as events;
+ghost use Rattle.cl_registry.specs.Parts.{EachHas, HasSameRows, IsPut, is_there, place_by, place_there, row_by, shared_rows};
+ghost use Rattle.cl_registry.specs.Tables.{row_at};
+
+use crate::tables::{Rows, find, insert, place};
+use cl_delegation::Home;
+use cl_hierarchy::{ClassRow, Draft};
+use cl_model::{Class, Event, LoaderId, Told};
+use cl_names::Name;
+use std::alloc::{AllocError, Global};
+use std::sync::Arc;
+
+/// Whether the loader of a draft has recorded the direct supertype at a place, if there is one.
+fn is_there<T: Told>(tables: &Rows<T>, draft: &Draft<T>, at: usize) -> bool
+    ensures { result ≡ is_there (λ n. is_some (row_at tables.now.items draft.now.class.loader n)) (slice_get (supers (file_of draft.now.file)) at) }
+{
+    match draft.supertype(at) {
+        None => true,
+        Some(above) => find(tables, draft.class().loader, above.name).is_some(),
+    }
+}
+
+/// Whether the loader of a draft has recorded each direct supertype of its class.
+pub fn has_supers<T: Told>(tables: &Rows<T>, draft: &Draft<T>) -> bool
+    ensures { MatchBool result (EachHas (λ n. is_some (row_at tables.now.items draft.now.class.loader n)) (supers (file_of draft.now.file))) (EachHas (λ n. is_some (row_at tables.now.items draft.now.class.loader n)) (supers (file_of draft.now.file)) → ⊥) }
+{
+    for at in 0..draft.supertypes() {
+        if !is_there(tables, draft, at) {
+            return false;
+        }
+    }
+    true
+}
+
+/// Which loader defined the direct supertype at a place, by the records of the draft's loader.
+fn place_there<T: Told>(tables: &Rows<T>, draft: &Draft<T>, at: usize) -> LoaderId
+    ensures { result ≡ place_there (λ n. option_map (λ r. r.value.class.loader) (row_at tables.now.items draft.now.class.loader n)) (slice_get (supers (file_of draft.now.file)) at) }
+{
+    match draft.supertype(at) {
+        None => LoaderId(0),
+        Some(above) => place(tables, draft.class().loader, above.name).unwrap_or(LoaderId(0)),
+    }
+}
+
+/// Which loaders defined the direct supertypes of a draft's class, in order.
+fn places_of<T: Told>(
+    alloc: Global,
+    tables: &Rows<T>,
+    draft: &Draft<T>,
+) -> Result<Vec<LoaderId>, AllocError>
+    ensures { IfOk result (λ v. v.items ≡ map (place_by (λ n. option_map (λ r. r.value.class.loader) (row_at tables.now.items draft.now.class.loader n))) (supers (file_of draft.now.file))) }
+{
+    let count = draft.supertypes();
+    let mut places = Vec::with_capacity(alloc, count)?;
+    for at in 0..count {
+        places.push(place_there(tables, draft, at))?;
+    }
+    Ok(places)
+}
+
+/// The row that a draft's loader has recorded for the name of its class.
+pub fn own_row<'a, T: Told>(
+    tables: &'a Rows<T>,
+    draft: &Draft<T>,
+) -> Option<&'a Arc<ClassRow<T>>>
+    ensures { option_map (λ r. r.now) result ≡ row_at tables.now.items draft.now.class.loader draft.now.class.name }
+{
+    find(tables, draft.class().loader, &draft.class().name)
+}
+
+/// What a definition adds.
+#[derive(Drop)]
+struct Parts<T: Told> {
+    event: Event,
+    name: Name,
+    row: Arc<ClassRow<T>>,
+    /// The same row, for the list, for the table, and to be answered.
+    listed: Arc<ClassRow<T>>,
+    answered: Arc<ClassRow<T>>,
+}
+
+/// The parts of the definition of a draft's class.
+fn parts_of<T: Told>(
+    alloc: Global,
+    tables: &Rows<T>,
+    draft: &Draft<T>,
+) -> Result<Parts<T>, AllocError>
+    ensures event { IfOk result (λ p. p.event ≡ events.Define draft.now.class) }
+    ensures name { IfOk result (λ p. p.name ≡ draft.now.class.name) }
+    ensures row { IfOk result (λ p. p.row.value ≡ row_by (λ n. option_map (λ r. r.value.class.loader) (row_at tables.now.items draft.now.class.loader n)) draft.now) }
+    ensures listed { IfOk result (λ p. p.listed.value ≡ p.row.value) }
+    ensures answered { IfOk result (λ p. p.answered.value ≡ p.row.value) }
+{
+    let event = Event::Define(draft.class().try_clone(alloc)?);
+    let name = draft.class().name.try_clone(alloc)?;
+    let places = places_of(alloc, tables, draft)?;
+    let row = Arc::new(alloc, ClassRow::of(alloc, draft, places)?)?;
+    let listed = Arc::try_clone(&row)?;
+    let answered = Arc::try_clone(&row)?;
+    Ok(Parts {
+        event,
+        name,
+        row,
+        listed,
+        answered,
+    })
+}
+
+/// Records a draft's class: one row more, one event more, and as much room left for other events.
+pub fn record<T: Told>(
+    alloc: Global,
+    rows: &mut Vec<Arc<ClassRow<T>>>,
+    tables: &mut Rows<T>,
+    history: &mut Vec<Event>,
+    left: usize,
+    draft: &Draft<T>,
+) -> Result<Arc<ClassRow<T>>, AllocError>
+    requires loader { draft.now.class.loader < length tables.old.items }
+    requires room { vec_len history.old + left ≤ vec_capacity history.old }
+    ensures width { length tables.new.items ≡ length tables.old.items }
+    ensures room { vec_len history.new + left ≤ vec_capacity history.new }
+    ensures row { IfOk result (λ r. r.value ≡ row_by (λ n. option_map (λ r. r.value.class.loader) (row_at tables.old.items draft.now.class.loader n)) draft.now) }
+    ensures event { OnOk result (history.new.items ≡ history.old.items ++ events.Define draft.now.class ∷ []) }
+    ensures used { OnOk result (vec_len history.new ≡ vec_len history.old + 1) }
+    ensures put { IfOk result (λ r. IsPut (shared_rows (λ c. c.value) (row_at tables.old.items)) (shared_rows (λ c. c.value) (row_at tables.new.items)) draft.now.class.loader draft.now.class.name r.value) }
+    ensures rows { IfOk result (λ r. map (λ c. c.value) rows.new.items ≡ map (λ c. c.value) rows.old.items ++ r.value ∷ []) }
+    ensures same_history { OnErr result (history.new.items ≡ history.old.items) }
+    ensures same_length { OnErr result (vec_len history.new ≡ vec_len history.old) }
+    ensures same_tables { OnErr result (HasSameRows (row_at tables.old.items) (row_at tables.new.items)) }
+    ensures same_rows { OnErr result (rows.new.items ≡ rows.old.items) }
+{
+    let parts = parts_of(alloc, tables, draft)?;
+    rows.reserve(1)?;
+    history.reserve(left + 1)?;
+    insert(tables, draft.class().loader, parts.name, parts.row)?;
+    rows.push_reserved(parts.listed);
+    history.push_reserved(parts.event);
+    Ok(parts.answered)
+}
+
+/// The row that the loader that was asked has recorded for a home's name.
+pub fn asked_row<'a, T: Told>(
+    tables: &'a Rows<T>,
+    home: &Home<T>,
+) -> Option<&'a Arc<ClassRow<T>>>
+    ensures { option_map (λ r. r.now) result ≡ row_at tables.now.items home.now.asked home.now.name }
+{
+    find(tables, home.asked(), home.name())
+}
+
+/// The row of the class of a home, where the home has defined it.
+pub fn defined_row<'a, T: Told>(
+    tables: &'a Rows<T>,
+    home: &Home<T>,
+) -> Option<&'a Arc<ClassRow<T>>>
+    ensures row { IfSome result (λ r. row_at tables.now.items home.now.place home.now.name ≡ Some r.now) }
+    ensures own { MatchOption result (option_map (λ r. r.value.class.loader) (row_at tables.now.items home.now.place home.now.name) ≢ Some home.now.place) (λ r. r.now.value.class.loader ≡ home.now.place) }
+{
+    let row = find(tables, home.place(), home.name())?;
+    if row.class().loader != home.place() {
+        return None;
+    }
+    Some(row)
+}
+
+/// The event by which the loader that was asked is recorded as initiating.
+fn event_of<T: Told>(alloc: Global, home: &Home<T>) -> Result<Event, AllocError>
+    ensures { IfOk result (λ e. e ≡ events.Initiate (class home.now.name home.now.place) home.now.asked) }
+{
+    let class = Class {
+        name: home.name().try_clone(alloc)?,
+        loader: home.place(),
+    };
+    Ok(Event::Initiate(class, home.asked()))
+}
+
+/// Records the loader that was asked as initiating the class of this row: one event more, and as much room left for
+/// other events.
+pub fn join<T: Told>(
+    alloc: Global,
+    tables: &mut Rows<T>,
+    history: &mut Vec<Event>,
+    left: usize,
+    home: &Home<T>,
+    row: Arc<ClassRow<T>>,
+) -> Result<Arc<ClassRow<T>>, AllocError>
+    requires loader { home.now.asked < length tables.old.items }
+    requires room { vec_len history.old + left ≤ vec_capacity history.old }
+    ensures width { length tables.new.items ≡ length tables.old.items }
+    ensures room { vec_len history.new + left ≤ vec_capacity history.new }
+    ensures row { IfOk result (λ r. r.value ≡ row.value) }
+    ensures event { OnOk result (history.new.items ≡ history.old.items ++ events.Initiate (class home.now.name home.now.place) home.now.asked ∷ []) }
+    ensures used { OnOk result (vec_len history.new ≡ vec_len history.old + 1) }
+    ensures put { OnOk result (IsPut (shared_rows (λ c. c.value) (row_at tables.old.items)) (shared_rows (λ c. c.value) (row_at tables.new.items)) home.now.asked home.now.name row.value) }
+    ensures same_history { OnErr result (history.new.items ≡ history.old.items) }
+    ensures same_length { OnErr result (vec_len history.new ≡ vec_len history.old) }
+    ensures same_tables { OnErr result (HasSameRows (row_at tables.old.items) (row_at tables.new.items)) }
+{
+    let event = event_of(alloc, home)?;
+    let name = home.name().try_clone(alloc)?;
+    let answered = Arc::try_clone(&row)?;
+    history.reserve(left + 1)?;
+    insert(tables, home.asked(), name, row)?;
+    history.push_reserved(event);
+    Ok(answered)
+}

@@ -3,6 +3,7 @@
 #![tactic(auto)]
 
 pub mod finding;
+mod fits;
 pub mod laws;
 pub mod registry;
 pub mod report;

@@ -21,6 +21,7 @@ use Rattle.cl_model.specs.Tables as tables
 use Rattle.cl_model.specs.Views.{answers_of, answer_at, steps_of}
 use Rattle.cl_config.specs.Views.{Configured, Scripted}
 use Rattle.cl_config.specs.Loaders.{schedule_of}
+use Rattle.cl_config.specs.Scripts.{IsScript}
 use Rattle.cl_delegation.specs.Searches.{Located}
 use Rattle.cl_delegation.specs.Worlds.{setting_of}
 use Rattle.cl_hierarchy.specs.Drafts.{Drafted, IsSpelt}
@@ -78,9 +79,10 @@ abbrev pub is_in : ℕ → List ℕ → Bool
 is_in n [] = false
 is_in n (x ∷ xs) = nat_eq n x || is_in n xs
 
--- what holds under any source: the tables can be trusted, those requests have an answer whose post the history has, each has
+-- what holds under any source: the script is one, the tables can be trusted, those requests have an answer whose post the history has, each has
 -- a place for one, and those of the rounds before are answered (5.3, 5.3.5)
 pub record IsTrusted (x : Shown) : Type 0 where
+  pub script : IsScript x.script
   pub tables : tables.IsTrusted (schedule_of x.script) x.script.rounds (steps x)
   pub posted : (q : ℕ) → is_in q (posts x.history) ≡ is_some (answer_at (answers_of x.answers) q)
   pub whole : length x.answers ≡ length x.script.requests

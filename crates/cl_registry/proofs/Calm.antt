@@ -1,0 +1,83 @@
+-- What the events of a registry leave as it is.
+use Rattle.std.proofs.Common.{◌≡◌, ◌<◌, ◌∙◌, ℕ, Bool, true, false, if◌then◌else◌, List, [], ◌∷◌, ◌++◌, length, Option, Some, None, refl, sym, ap, subst, arith}
+use Rattle.std.specs.Prelude.{nat_eq, ◌||◌, ◌==◌, find, option_map, Contains}
+use Rattle.std.specs.Option.{option_or}
+use Rattle.std.proofs.lemmas.Bool.Decides.{nat_tests}
+use Rattle.std.proofs.lemmas.List.Folds.{find-append}
+use Rattle.cl_classfile.specs.Files.{Name}
+use Rattle.cl_model.specs.declared.event.Event.{Event}
+use Rattle.cl_model.specs.declared.event.Event.TheVariants as events
+use Rattle.cl_model.specs.States.{State, start, Equality, Posted, Entry, Answer, recorded, answer_to, IsPath, Clashes, MayAdd}
+use Rattle.cl_model.specs.Machine.{Define, Initiate, NextRound, after, state_after}
+use Rattle.cl_model.specs.Views.{answers_of, answer_at, post_of, step_of, steps_of}
+use Rattle.cl_registry.specs.Tables.{Shown, state_of, posts, is_in}
+
+-- ---- equalities
+
+post_calm : (s : State) (q : ℕ) (o : Option Answer) → (after s (post_of q o)).equalities ≡ s.equalities
+post_calm s q None = refl
+post_calm s q (Some a) = refl
+
+step_calm : (s : State) (now : List (Option Answer)) (e : Event) → (after s (step_of now e)).equalities ≡ s.equalities
+step_calm s now (events.Define c) = refl
+step_calm s now (events.Initiate c loader) = refl
+step_calm s now events.NextRound = refl
+step_calm s now (events.Post q) = post_calm s q (answer_at now q)
+
+calm_from : (now : List (Option Answer)) (h : List Event) (s : State) → (state_after s (steps_of now h)).equalities ≡ s.equalities
+calm_from now [] s = refl
+calm_from now (e ∷ h) s = calm_from now h (after s (step_of now e)) ∙ step_calm s now e
+
+-- a registry imposes no equality
+pub calm : (x : Shown) → (state_of x).equalities ≡ []
+calm x = calm_from (answers_of x.answers) x.history start
+
+no_equality : (e : Equality) → Contains [] e → ⊥
+no_equality e h = absurd (let l : h.0 < 0 = h.1 in omega arith)
+
+-- without equalities a loader is joined with itself alone
+alone : (ks : List Equality) (name : Name) (a : ℕ) (path : List ℕ) (b : ℕ) → ks ≡ [] → IsPath ks name a path b → a ≡ b
+alone ks name a [] b e h = h
+alone ks name a (c ∷ cs) b e h = absurd (no_equality h.0.equality (subst (λ (x : List Equality). Contains x h.0.equality) e h.0.imposed))
+
+pub none_and_some : (o : Option ℕ) (x : ℕ) → o ≡ None → o ≡ Some x → ⊥
+none_and_some o x h k = cc
+
+pub no_clash : (s : State) (loader place : ℕ) (name : Name) → s.equalities ≡ [] → recorded s.records loader name ≡ None → Clashes s (Entry loader name place) → ⊥
+no_clash s loader place name e fresh k =
+    none_and_some (recorded s.records loader name) k.other_place fresh
+    (subst (λ (o : ℕ). recorded s.records o name ≡ Some k.other_place) (sym (alone s.equalities name loader k.joined.path k.other e k.joined.along)) k.recorded_there)
+
+-- a loader that has no record of a name may record it
+pub may_add : (s : State) (loader place : ℕ) (name : Name) → s.equalities ≡ [] → recorded s.records loader name ≡ None → MayAdd s (Entry loader name place)
+may_add s loader place name e fresh = record { unmet = λ m. none_and_some (recorded s.records loader name) place fresh m; fits = λ k. no_clash s loader place name e fresh k }
+
+-- ---- answers
+
+or_of_false : (a b : Bool) → (a || b) ≡ false → (a ≡ false) × (b ≡ false)
+or_of_false true b e = absurd cc
+or_of_false false b e = (refl, e)
+
+swap_nat : (a b : ℕ) → nat_eq a b ≡ nat_eq b a
+swap_nat a b = grind (arith, nat_tests)
+
+or_nothing : {A : Type 0} (o : Option A) → option_or o None ≡ o
+or_nothing None = refl
+or_nothing (Some x) = refl
+
+find_other : {A : Type 0} (test : A → Bool) (xs : List A) (x : A) → test x ≡ false → find test (xs ++ x ∷ []) ≡ find test xs
+find_other test xs x e = find-append test xs (x ∷ []) ∙ ap (λ (b : Bool). option_or (find test xs) (if b then Some x else None)) e ∙ or_nothing (find test xs)
+
+post_other : (s : State) (q p : ℕ) (o : Option Answer) → nat_eq p q ≡ false → answer_to (after s (post_of p o)).answers q ≡ answer_to s.answers q
+post_other s q p None ne = refl
+post_other s q p (Some a) ne = ap (λ (o : Option Posted). option_map (λ r. r.answer) o) (find_other (λ (r : Posted). r.request == q) s.answers (record { request = p; answer = a }) ne)
+
+-- a request that is not posted has no answer more
+pub unposted_stays : (now : List (Option Answer)) (h : List Event) (s : State) (q : ℕ) → is_in q (posts h) ≡ false → answer_to (state_after s (steps_of now h)).answers q ≡ answer_to s.answers q
+unposted_stays now [] s q out = refl
+unposted_stays now (events.Define c ∷ h) s q out = unposted_stays now h (after s (Define c)) q out
+unposted_stays now (events.Initiate c loader ∷ h) s q out = unposted_stays now h (after s (Initiate c.name c.loader loader)) q out
+unposted_stays now (events.NextRound ∷ h) s q out = unposted_stays now h (after s NextRound) q out
+unposted_stays now (events.Post p ∷ h) s q out =
+    let o = or_of_false (nat_eq q p) (is_in q (posts h)) out in
+    unposted_stays now h (after s (post_of p (answer_at now p))) q o.1 ∙ post_other s q p (answer_at now p) (swap_nat p q ∙ o.0)

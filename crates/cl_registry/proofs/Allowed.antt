@@ -1,5 +1,5 @@
 -- What the linkage machine allows next is what a registry accepts.
-use Rattle.std.proofs.Common.{◌≡◌, ◌<◌, ◌∙◌, ℕ, suc, Bool, true, false, if◌then◌else◌, List, [], ◌∷◌, ◌++◌, length, map, Option, Some, None, Result, Ok, Err, inl, inr, refl, sym, ap, subst, arith, is_some}
+use Rattle.std.proofs.Common.{◌≡◌, ◌<◌, ◌∙◌, ℕ, zero, suc, Bool, true, false, if◌then◌else◌, List, [], ◌∷◌, ◌++◌, length, map, Option, Some, None, Result, Ok, Err, inl, inr, refl, sym, ap, subst, arith, is_some}
 use Rattle.std.specs.Prelude.{nat_lt, slice_get, option_map, option_and_then, unwrap_or, IsSome, IfSome}
 use Rattle.std.specs.List.{AllByRecursion}
 use Rattle.std.proofs.lemmas.Bool.Decides.{nat_tests}
@@ -36,7 +36,7 @@ use Rattle.cl_registry.specs.Allowed.{AllowedIsEntered, EnteredIsAllowed, Allowe
 use Rattle.cl_registry.proofs.Calm.{calm, none_and_some, may_add}
 use Rattle.cl_registry.proofs.Placed.{HasRow, recorded_row, spelt_file}
 
-closed_of : (content : Content) (x : Shown) → IsKept (Some content) x → IsClosed (world_of x.config content) (state_of x)
+pub closed_of : (content : Content) (x : Shown) → IsKept (Some content) x → IsClosed (world_of x.config content) (state_of x)
 closed_of content x kept = runs_are_closed (setting_of x.config x.script content) (steps x) kept.run
 
 some_of : (o : Option ℕ) → is_some o ≡ true → (x : ℕ) × (o ≡ Some x)
@@ -123,6 +123,45 @@ all_accepted content x c (a ∷ others) kept above fit =
 past_end : {A B : Type 0} (f : A → B) (xs : List A) → slice_get xs (length (map f xs)) ≡ None
 past_end f [] = refl
 past_end f (x ∷ xs) = past_end f xs
+
+abbrev Stands : World → State → Class → Above → Type 0
+Stands w s c a = AtHome w c (λ t. Met s (Entry c.loader a.name t.loader)) a.name
+
+place_same : (p q : ℕ) → Some p ≡ Some q → p ≡ q
+place_same p q e = cc
+
+-- supertypes that are good and recorded are recorded as such, and fit
+all_fit : (content : Content) (x : Shown) (c : Class) (n : ℕ) (others : List Above) → IsKept (Some content) x → AllByRecursion (Stands (world_of x.config content) (state_of x) c) others
+    → AllByRecursion (FitsAt (world_of x.config content) c (Good (world_of x.config content) n)) others
+    → AllByRecursion (λ (a : Above). IsSome (recorded (records_of x) c.loader a.name)) others × AllByRecursion (λ (a : Above). IfSome (looked x c.loader a.name) (FitsAs c a)) others
+all_fit content x c n [] kept above fit = (tt, tt)
+all_fit content x c n (a ∷ others) kept above fit =
+    let w = world_of x.config content in
+    let p = above.0.place in
+    let r = recorded_row (Some content) x c.loader p a.name kept above.0.holds in
+    let same : fit.0.place ≡ p = place_same fit.0.place p (sym fit.0.found ∙ above.0.found) in
+    let fitting : Fitting w c a.role None (class a.name p) = subst (λ (q : ℕ). Fitting w c a.role None (class a.name q)) same fit.0.holds.1 in
+    let file : fitting.file ≡ file_of r.row.file = file_is fitting.file (file_of r.row.file) (classes.file_of w (class a.name p)) fitting.has_file (row_file content x c.loader p a.name kept above.0.holds r) in
+    let fits : FitsAs c a r.row = ap (λ (t : Class). misfit c a.role t (file_of r.row.file)) r.is ∙ ap (λ (f : File). misfit c a.role (class a.name p) f) (sym file) ∙ fitting.judged in
+    let more = all_fit content x c n others kept above.1 fit.1 in
+    ((ap is_some above.0.holds, more.0), (if_some_row (FitsAs c a) (looked x c.loader a.name) r.row r.found fits, more.1))
+
+-- the supertypes of a class that is good and has this file
+good_fits : (w : World) (n : ℕ) (c : Class) (f : File) → Good w n c → HasFile w c f → (m : ℕ) × AllByRecursion (FitsAt w c (Good w m)) (supers f)
+good_fits w zero c f good file = absurd good
+good_fits w (suc n) c f good file = (n, subst (λ (g : File). AllByRecursion (FitsAt w c (Good w n)) (supers g)) (file_is good.0 f (classes.file_of w c) good.1 file) good.2)
+
+pub allowed_is_entered : AllowedIsEntered
+allowed_is_entered content x d kept draft config may =
+    let w = world_of x.config content in
+    let s = state_of x in
+    let file : HasFile w d.class (file_of d.file) = spelt_file x.config content d.class d.file may.at_home draft.spelt in
+    let same : may.file ≡ file_of d.file = file_is may.file (file_of d.file) (classes.file_of w d.class) may.has_file file in
+    let good = good_fits w may.good.0 d.class (file_of d.file) may.good.1 file in
+    let all = all_fit content x d.class good.0 (supers (file_of d.file)) kept (subst (λ (f : File). AllByRecursion (Stands w s d.class) (supers f)) same may.above) good.1 in (
+      record { config = config; loader = loader_bound x.config content d.class.loader d.class.loader d.class.name may.at_home; above = all.0; fit = all.1 },
+      unmet_is_fresh w s d.class.loader d.class.loader d.class.name (closed_of content x kept) may.at_home may.may_add.unmet,
+    )
 
 pub entered_is_allowed : EnteredIsAllowed
 entered_is_allowed content x d kept draft may fresh =

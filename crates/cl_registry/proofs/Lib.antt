@@ -1,3 +1,5 @@
 pub mod Allowed
 pub mod Calm
+pub mod Named
 pub mod Placed
+pub mod Posted

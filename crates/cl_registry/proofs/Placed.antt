@@ -40,7 +40,7 @@ is_one c cs = list_any (λ d. same_class d c) cs
 abbrev Comes : State → Class → List Event → Type 0
 Comes s c h = (recorded s.records c.loader c.name ≡ Some c.loader) ⊎ (is_one c (defined h) ≡ true)
 
-post_same : (s : State) (q : ℕ) (o : Option Answer) → (after s (post_of q o)).records ≡ s.records
+pub post_same : (s : State) (q : ℕ) (o : Option Answer) → (after s (post_of q o)).records ≡ s.records
 post_same s q None = refl
 post_same s q (Some a) = refl
 
@@ -79,7 +79,7 @@ comes script rounds now c (events.Post q ∷ h) s fine at = elim (comes script r
   | inr k ↦ inr k
 ]
 
-no_record : {x : ℕ} → None ≡ Some x → ⊥
+pub no_record : {x : ℕ} → None ≡ Some x → ⊥
 no_record h = cc
 
 is_defined : (x : Shown) (c : Class) → IsTrusted x → recorded (records_of x) c.loader c.name ≡ Some c.loader → is_one c (defined x.history) ≡ true

@@ -4,9 +4,7 @@ ghost use Rattle.cl_registry.specs.Allowed.{AllowedIsEntered, AllowedIsJoined, E
 /// A class that the linkage machine may define has no record and may be entered: `define` refuses it for memory alone.
 pub fn allowed_is_entered()
     ensures { AllowedIsEntered }
-{
-    let _ = crate::stub::stub_never();
-}
+{}
 
 /// A class that has no record and may be entered may be defined by the linkage machine.
 pub fn entered_is_allowed()
@@ -26,9 +24,7 @@ pub fn joined_is_allowed()
 /// An answer that fits and rests on the content may be posted by the linkage machine.
 pub fn fitting_is_allowed()
     ensures { FittingIsAllowed }
-{
-    let _ = crate::stub::stub_never();
-}
+{}
 
 /// Where the next round may begin, the linkage machine may go on.
 pub fn round_is_allowed()
@@ -43,6 +39,4 @@ pub fn other_config_is_stray()
 /// What is recorded was defined by a loader of the configuration, under any source.
 pub fn recorded_is_named()
     ensures { RecordedIsNamed }
-{
-    let _ = crate::stub::stub_never();
-}
+{}

@@ -3,3 +3,4 @@ pub mod Calm
 pub mod Named
 pub mod Placed
 pub mod Posted
+pub mod Rests

@@ -114,7 +114,7 @@ recorded_row told x loader place name kept at =
 
 -- ---- files
 
-file_found : (w : World) (c : Class) (bytes : List ℕ) → IsAtHome w c → content_at w.content c.loader c.name ≡ Some bytes → classes.file_of w c ≡ named c (w.read bytes)
+pub file_found : (w : World) (c : Class) (bytes : List ℕ) → IsAtHome w c → content_at w.content c.loader c.name ≡ Some bytes → classes.file_of w c ≡ named c (w.read bytes)
 file_found w c bytes at stored =
     ap (λ (o : Option ℕ). read_found w c (if is_own c.loader o then content_at w.content c.loader c.name else None)) at
     ∙ ap (λ (b : Bool). read_found w c (if b then content_at w.content c.loader c.name else None)) (nat_eq_equiv.refl c.loader)

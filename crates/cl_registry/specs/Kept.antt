@@ -2,6 +2,7 @@
 use Rattle.std.specs.Prelude.{◌≡◌, ◌+◌, ◌≤◌, ◌-◌, ℕ, zero, suc, nat_eq, if◌then◌else◌, List, [], ◌∷◌, length, Option, Some, None, slice_get}
 use Rattle.cl_model.specs.declared.answer.Answer.{Answer}
 use Rattle.cl_model.specs.Content.{Content}
+use Rattle.cl_config.specs.Scripts.{IsScript}
 use Rattle.cl_hierarchy.specs.Rows.{Rowed}
 use Rattle.cl_registry.specs.Tables.{Shown, IsKept, looked, round_of}
 
@@ -34,13 +35,14 @@ pub record Fields : Type 0 where
 -- there is room for what is still to be posted and for the rounds still to come
 pub record IsRegistry (told : Option Content) (x : Shown) (f : Fields) : Type 0 where
   pub kept : IsKept told x
+  pub script : IsScript x.script
   pub width : f.parts ≡ length x.config.loaders
   pub rows : (loader : ℕ) (name : List ℕ) → f.table loader name ≡ looked x loader name
   pub left : f.left ≡ left_in x.answers
   pub counts : (round : ℕ) (n : ℕ) → slice_get f.unanswered round ≡ Some n → n ≡ open_in round x.script.rounds_of x.answers
   pub each_round : length f.unanswered ≡ x.script.rounds
   pub round : f.round ≡ round_of x
-  pub begun : f.round + 1 ≤ x.script.rounds
+  pub begun : f.round ≤ x.script.rounds
   pub used : f.events ≡ length x.history
   pub events_fit : f.events + (f.left + (x.script.rounds - (f.round + 1))) ≤ f.room_for_events
   pub empty : f.filled ≡ 0

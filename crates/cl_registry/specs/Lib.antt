@@ -1,4 +1,5 @@
 pub mod Allowed
+pub mod Backs
 pub mod Bases
 pub mod Findings
 pub mod Kept

@@ -30,9 +30,9 @@ pub enum Obstacle<T: Told> {
 #[derive(Drop)]
 pub(crate) struct Basis<T: Told> {
     /// The classes that were being derived, with the supertypes that each had accepted.
-    path: Path<T>,
+    pub(crate) path: Path<T>,
     /// Which loader defined the class that does not fit, if that is the error.
-    misfit: Option<LoaderId>,
+    pub(crate) misfit: Option<LoaderId>,
 }
 
 /// A request and its answer, with what that rests on.

@@ -2,11 +2,13 @@
 //! (JVMS SE 8, 5.3).
 #![tactic(auto)]
 
+mod backs;
 pub mod finding;
 mod fits;
 pub mod laws;
 pub mod registry;
 pub mod report;
+mod same;
 mod stub;
 mod tables;
 

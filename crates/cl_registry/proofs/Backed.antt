@@ -1,11 +1,21 @@
 -- What the tables of a registry bear.
-use Rattle.std.proofs.Common.{◌≡◌, ◌∙◌, ◌<◌, ◌≤◌, ◌+◌, ℕ, zero, suc, Bool, true, false, List, [], ◌∷◌, ◌++◌, length, map, Option, Some, None, refl, sym, ap, subst, arith, below_more}
+use Rattle.std.proofs.Common.{◌≡◌, ◌∙◌, ◌<◌, ◌≤◌, ◌+◌, ℕ, zero, suc, Bool, true, false, List, [], ◌∷◌, ◌++◌, length, map, Option, Some, None, refl, sym, ap, subst, arith}
 use Rattle.std.specs.Prelude.{slice_get, option_map, IfSome, MatchBool}
 use Rattle.std.specs.List.{AllByRecursion}
 use Rattle.std.proofs.lemmas.Option.{slice_get_within, slice_get-map}
 use Rattle.cl_model.specs.declared.class.Class.{Class}
 use Rattle.cl_model.specs.Classes.{class, Above}
+use Rattle.cl_model.specs.States.{AllMet}
+use Rattle.cl_model.specs.Frames.{Frame, Keeps, KeepsAccepted, AllKept, kept_of}
+use Rattle.cl_model.proofs.Closed.{met_both}
+use Rattle.cl_model.proofs.Derivations.{all_map}
+use Rattle.cl_model.proofs.Progress.{met_split}
+use Rattle.cl_model.proofs.Stacks.{kept_is_met}
 use Rattle.cl_hierarchy.specs.Frames.{accepted_of}
+use Rattle.cl_hierarchy.specs.Paths.{Pathed, frames_of, at_loader, at_name}
+use Rattle.cl_registry.specs.Backs.{IsTableOf, HasIn, AcceptedIn, MisfitIn}
+use Rattle.cl_registry.specs.Bases.{based, misfit_needs}
+use Rattle.cl_registry.specs.Tables.{Shown, state_of, BasisStands}
 
 -- ---- what a frame accepted at a place
 
@@ -51,6 +61,38 @@ accepted_within [] places = omega arith
 accepted_within (a ∷ others) [] = omega arith
 accepted_within (a ∷ others) (p ∷ places) = let l = accepted_within others places in omega (arith, l)
 
--- one place more
-pub one_more : (P : ℕ → Type 0) (n : ℕ) → ((k : ℕ) → k < n → P k) → P n → (k : ℕ) → k < n + 1 → P k
-one_more P n before at k lt = below_more _ _ before at k lt
+-- ---- what an error rests on
+
+module _ (place : ℕ → List ℕ → Option ℕ) (x : Shown) (table : IsTableOf place x) where
+  kept_in : (xs : List Frame) → AllByRecursion (AcceptedIn place) xs → AllKept (state_of x) xs
+  kept_in xs h = all_map (AcceptedIn place) (KeepsAccepted (state_of x)) (λ f a. all_map (HasIn place f.class.loader) (Keeps (state_of x) f.class.loader) (λ t e. sym (table f.class.loader t.name) ∙ e) f.accepted a) xs h
+
+  in_kept : (xs : List Frame) → AllKept (state_of x) xs → AllByRecursion (AcceptedIn place) xs
+  in_kept xs h = all_map (KeepsAccepted (state_of x)) (AcceptedIn place) (λ f a. all_map (Keeps (state_of x) f.class.loader) (HasIn place f.class.loader) (λ t e. table f.class.loader t.name ∙ e) f.accepted a) xs h
+
+  misfit_in_table : (p : Pathed) (here : Option ℕ) → MisfitIn place p here → AllMet (state_of x) (misfit_needs p here)
+  misfit_in_table p None h = tt
+  misfit_in_table p (Some l) h = (sym (table (at_loader p) (at_name p)) ∙ h, tt)
+
+  table_in_misfit : (p : Pathed) (here : Option ℕ) → AllMet (state_of x) (misfit_needs p here) → MisfitIn place p here
+  table_in_misfit p None h = tt
+  table_in_misfit p (Some l) h = table (at_loader p) (at_name p) ∙ h.0
+
+  pub stands : (p : Pathed) (here : Option ℕ) → p.config ≡ x.config → AllByRecursion (AcceptedIn place) (frames_of p) → MisfitIn place p here → BasisStands x (Some (based p here))
+  stands p here config kept misfit = (config, met_both (state_of x) (kept_of (frames_of p)) (misfit_needs p here) ((kept_is_met (state_of x) (frames_of p)).1 (kept_in (frames_of p) kept)) (misfit_in_table p here misfit))
+
+  pub frames_stand : (p : Pathed) (here : Option ℕ) → BasisStands x (Some (based p here)) → AllByRecursion (AcceptedIn place) (frames_of p)
+  frames_stand p here h = in_kept (frames_of p) ((kept_is_met (state_of x) (frames_of p)).0 (met_split (state_of x) (kept_of (frames_of p)) (misfit_needs p here) h.1).0)
+
+  pub misfit_stands : (p : Pathed) (here : Option ℕ) → BasisStands x (Some (based p here)) → MisfitIn place p here
+  misfit_stands p here h = table_in_misfit p here (met_split (state_of x) (kept_of (frames_of p)) (misfit_needs p here) h.1).1
+
+  -- tests one after another
+  pub stands_by : (p : Pathed) (here : Option ℕ) (b : Bool) → p.config ≡ x.config → AllByRecursion (AcceptedIn place) (frames_of p) → MatchBool b (MisfitIn place p here) (MisfitIn place p here → ⊥)
+      → MatchBool b (BasisStands x (Some (based p here))) (BasisStands x (Some (based p here)) → ⊥)
+  stands_by p here true config kept h = stands p here config kept h
+  stands_by p here false config kept h = λ all. h (misfit_stands p here all)
+
+  pub fails_by : (p : Pathed) (here : Option ℕ) (b : Bool) → b ≡ false → (AllByRecursion (AcceptedIn place) (frames_of p) → ⊥) → MatchBool b (BasisStands x (Some (based p here))) (BasisStands x (Some (based p here)) → ⊥)
+  fails_by p here true e h = absurd cc
+  fails_by p here false e h = λ all. h (frames_stand p here all)

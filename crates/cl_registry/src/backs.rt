@@ -122,9 +122,10 @@ fn misfit_stands<T: Told>(tables: &Rows<T>, path: &Path<T>, misfit: Option<Loade
 fn basis_stands<T: Told>(tables: &Rows<T>, config: &Config, basis: &Basis<T>) -> bool
     ensures { (x : Shown) → x.config ≡ config.now → IsTableOf (λ l n. option_map (λ r. r.value.class.loader) (row_at tables.now.items l n)) x → MatchBool result (BasisStands x (Some (based basis.now.path basis.now.misfit))) (BasisStands x (Some (based basis.now.path basis.now.misfit)) → ⊥) }
 {
-    same_config(basis.path.config(), config)
-        && path_stands(tables, &basis.path)
-        && misfit_stands(tables, &basis.path, basis.misfit)
+    if !same_config(basis.path.config(), config) {
+        return false;
+    }
+    path_stands(tables, &basis.path) && misfit_stands(tables, &basis.path, basis.misfit)
 }
 
 /// Whether a verdict that a finding tells stands in the tables.

@@ -5,4 +5,5 @@ pub mod Histories
 pub mod Named
 pub mod Placed
 pub mod Posted
+pub mod Posting
 pub mod Rests

@@ -22,10 +22,11 @@ use Rattle.cl_config.specs.Views.{Configured}
 use Rattle.cl_config.specs.Loaders.{schedule}
 use Rattle.cl_delegation.specs.Worlds.{world_of, setting_of}
 use Rattle.cl_registry.specs.Findings.{Answered, Based, loader_of, name_of, EndsWhere, AnswerRests}
-use Rattle.cl_registry.specs.Tables.{Shown, state_of, round_of, AnswerBacked, IsKept, IsLater, Fits}
+use Rattle.cl_registry.specs.Tables.{Shown, state_of, round_of, AnswerBacked, IsTrusted, IsKept, IsLater, Fits}
 use Rattle.cl_registry.specs.Allowed.{FittingIsAllowed}
 use Rattle.cl_registry.proofs.Allowed.{closed_of}
 use Rattle.cl_registry.proofs.Calm.{unposted_stays}
+use Rattle.cl_registry.proofs.Histories.{open_answer, unposted}
 
 -- ---- rounds
 
@@ -44,11 +45,6 @@ round_at [] ns q r same e = absurd cc
 round_at (s ∷ rs) [] q r same e = absurd (let l : length (s ∷ rs) ≡ 0 = sym same in omega arith)
 round_at (s ∷ rs) (n ∷ ns) zero r same e = (n, refl)
 round_at (s ∷ rs) (n ∷ ns) (suc q) r same e = round_at rs ns q r (omega arith) e
-
-pub open_answer : (xs : List (Option rust.Answer)) (q : ℕ) → slice_get xs q ≡ Some None → answer_at (answers_of xs) q ≡ None
-open_answer [] q e = absurd cc
-open_answer (x ∷ xs) zero e = let n : x ≡ None = cc in rw n refl
-open_answer (x ∷ xs) (suc q) e = open_answer xs q e
 
 lacks : (o : Option Answer) → o ≡ None → IsSome o → ⊥
 lacks None e h = absurd cc
@@ -88,15 +84,23 @@ may_answer x content (requests.Load l name) (answers.Said (verdicts.Error kind k
 may_answer x content r answers.Memory given b closed backed rests = tt
 may_answer x content r (answers.SourceFault n l) given b closed backed rests = tt
 
+-- a request that fits is of the round that is served
+pub in_its_round : (x : Shown) (q : ℕ) (f : Answered) → IsTrusted x → Fits x q f → (n : ℕ) × (slice_get x.script.rounds_of q ≡ Some n) × (n ≡ round_of x)
+in_its_round x q f trusted fits =
+    let n = round_at x.script.requests x.script.rounds_of q f.request trusted.script.each fits.asked in
+    let none = open_answer x.answers q fits.unanswered in (
+      n.0,
+      n.1,
+      same_or n.0 (round_of x) (λ before. lacks (answer_at (answers_of x.answers) q) none (trusted.earlier q n.0 n.1 before)) (λ later. fits.begun (record { round = n.0; of = n.1; later = later })),
+    )
+
 pub fitting_is_allowed : FittingIsAllowed
 fitting_is_allowed content x q f kept fits rests =
-    let n = round_at x.script.requests x.script.rounds_of q f.request kept.trusted.script.each fits.asked in
-    let none = open_answer x.answers q fits.unanswered in
-    let round : n.0 ≡ round_of x = same_or n.0 (round_of x) (λ before. lacks (answer_at (answers_of x.answers) q) none (kept.trusted.earlier q n.0 n.1 before)) (λ later. fits.begun (record { round = n.0; of = n.1; later = later })) in
+    let n = in_its_round x q f kept.trusted fits in
     record {
       scheduled = scheduled f.request n.0;
       asked = scheduled_at x.script.requests x.script.rounds_of q f.request n.0 fits.asked n.1;
-      in_round = round;
-      unposted = unposted_stays (answers_of x.answers) x.history start q (kept.trusted.posted q ∙ ap is_some none);
+      in_round = n.2;
+      unposted = unposted_stays (answers_of x.answers) x.history start q (unposted x q kept.trusted fits.unanswered);
       may_answer = may_answer x content f.request f.answer f.answer f.basis (closed_of content x kept) fits.backed.answer rests;
     }

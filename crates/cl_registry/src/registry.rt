@@ -5,6 +5,7 @@ ghost use Rattle.cl_registry.specs.Tables.{Defines, Fits, Initiates, IsKept, Lac
 ghost use Rattle.cl_registry.specs.Refusals.{DefineRefusedFor, InitiateRefusedFor, PostRefusedFor, RoundRefusedFor};
 ghost use Rattle.cl_registry.specs.Reports.{IsNamed, IsReport, IsUnfinished};
 
+use crate::backs::{backs, is_asked, is_open};
 use crate::finding::Finding;
 use crate::report::{Answers, History, Report};
 use crate::tables::Rows;
@@ -171,8 +172,36 @@ impl<T: Told> Registry<T> {
         ensures unchanged { IfErr result (λ e. (self.new ≡ self.old) × (e.finding ≡ finding)) }
         ensures kept { IsKept T.told self.new }
     {
-        let _ = crate::stub::stub_never();
-        unreachable!()
+        if !is_asked(self.script.requests(), q, finding.request()) {
+            return Err(PostRefused {
+                fault: RegistryFault::Stray,
+                finding,
+            });
+        }
+        let round = self.script.round_of(q as usize);
+        if round > self.round {
+            return Err(PostRefused {
+                fault: RegistryFault::NotYet,
+                finding,
+            });
+        }
+        if !is_open(&self.answers, q) {
+            return Err(PostRefused {
+                fault: RegistryFault::AlreadyPosted,
+                finding,
+            });
+        }
+        if !backs(&self.tables, &self.config, &finding) {
+            return Err(PostRefused {
+                fault: RegistryFault::Stray,
+                finding,
+            });
+        }
+        self.answers[q as usize] = Some(finding.into_answer());
+        self.left -= 1;
+        self.unanswered[round as usize] -= 1;
+        self.history.push_reserved(Event::Post(q));
+        Ok(())
     }
 
     /// Begins the next round, once each request of this one has its answer, and answers its number.

@@ -1,11 +1,11 @@
 -- What the tables of a registry bear.
 use Rattle.std.proofs.Common.{◌≡◌, ◌∙◌, ◌<◌, ◌≤◌, ◌+◌, ℕ, zero, suc, Bool, true, false, List, [], ◌∷◌, ◌++◌, length, map, Option, Some, None, refl, sym, ap, subst, arith}
-use Rattle.std.specs.Prelude.{slice_get, option_map, IfSome, MatchBool}
+use Rattle.std.specs.Prelude.{slice_get, option_map, option_and_then, IfSome, MatchBool}
 use Rattle.std.specs.List.{AllByRecursion}
 use Rattle.std.proofs.lemmas.Option.{slice_get_within, slice_get-map}
 use Rattle.cl_model.specs.declared.class.Class.{Class}
 use Rattle.cl_model.specs.Classes.{class, Above}
-use Rattle.cl_model.specs.States.{AllMet}
+use Rattle.cl_model.specs.States.{AllMet, recorded}
 use Rattle.cl_model.specs.Frames.{Frame, Keeps, KeepsAccepted, AllKept, kept_of}
 use Rattle.cl_model.proofs.Closed.{met_both}
 use Rattle.cl_model.proofs.Derivations.{all_map}
@@ -15,7 +15,10 @@ use Rattle.cl_hierarchy.specs.Frames.{accepted_of}
 use Rattle.cl_hierarchy.specs.Paths.{Pathed, frames_of, at_loader, at_name}
 use Rattle.cl_registry.specs.Backs.{IsTableOf, HasIn, AcceptedIn, MisfitIn}
 use Rattle.cl_registry.specs.Bases.{based, misfit_needs}
-use Rattle.cl_registry.specs.Tables.{Shown, state_of, BasisStands}
+use Rattle.cl_hierarchy.specs.Rows.{Rowed}
+use Rattle.cl_model.specs.Content.{Content}
+use Rattle.cl_registry.specs.Tables.{Shown, state_of, records_of, round_of, row_of, looked, IsKept, IsLater, BasisStands}
+use Rattle.cl_registry.proofs.Placed.{recorded_row}
 
 -- ---- what a frame accepted at a place
 
@@ -96,3 +99,29 @@ module _ (place : ℕ → List ℕ → Option ℕ) (x : Shown) (table : IsTableO
   pub fails_by : (p : Pathed) (here : Option ℕ) (b : Bool) → b ≡ false → (AllByRecursion (AcceptedIn place) (frames_of p) → ⊥) → MatchBool b (BasisStands x (Some (based p here))) (BasisStands x (Some (based p here)) → ⊥)
   fails_by p here true e h = absurd cc
   fails_by p here false e h = λ all. h (frames_stand p here all)
+
+-- ---- the table of a registry
+
+-- what is looked up was defined where it is recorded
+pub place_looked : (told : Option Content) (x : Shown) (l : ℕ) (n : List ℕ) (o : Option ℕ) → IsKept told x → recorded (records_of x) l n ≡ o → option_map (λ (r : Rowed). r.class.loader) (looked x l n) ≡ o
+place_looked told x l n None k e = ap (λ (o : Option ℕ). option_map (λ (r : Rowed). r.class.loader) (option_and_then (λ place. row_of x.rows (class n place)) o)) e
+place_looked told x l n (Some p) k e =
+    let r = recorded_row told x l p n k e in
+    ap (λ (o : Option Rowed). option_map (λ (r : Rowed). r.class.loader) o) r.found ∙ ap (λ (c : Class). Some c.loader) r.is
+
+map_map : {A B C : Type 0} (f : A → B) (g : B → C) (o : Option A) → option_map g (option_map f o) ≡ option_map (λ x. g (f x)) o
+map_map f g None = refl
+map_map f g (Some x) = refl
+
+pub table_of : {R : Type 0} (value : R → Rowed) (told : Option Content) (x : Shown) (table : ℕ → List ℕ → Option R) → IsKept told x → ((l : ℕ) (n : List ℕ) → option_map value (table l n) ≡ looked x l n) → IsTableOf (λ l n. option_map (λ r. (value r).class.loader) (table l n)) x
+table_of value told x table k rows l n =
+    sym (map_map value (λ (r : Rowed). r.class.loader) (table l n)) ∙ ap (option_map (λ (r : Rowed). r.class.loader)) (rows l n) ∙ place_looked told x l n (recorded (records_of x) l n) k refl
+
+pub not_later : (x : Shown) (q n round : ℕ) → slice_get x.script.rounds_of q ≡ Some n → n ≤ round → round ≡ round_of x → IsLater x q → ⊥
+not_later x q n round at le is later =
+    let same : later.round ≡ n = some_same later.round n (sym later.of ∙ at) in
+    let l = later.later in
+    absurd (omega (arith, le, is, same, l))
+  where
+    some_same : (a b : ℕ) → Some a ≡ Some b → a ≡ b
+    some_same a b e = cc

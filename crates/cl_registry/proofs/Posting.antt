@@ -1,8 +1,10 @@
 -- What a registry keeps goes on by a post.
 use Rattle.std.proofs.Common.{◌≡◌, ◌∙◌, ◌<◌, ◌≤◌, ◌+◌, ◌-◌, ℕ, zero, suc, Bool, true, false, List, [], ◌∷◌, ◌++◌, length, map, Option, Some, None, refl, sym, ap, subst, arith, is_some, if◌then◌else◌}
-use Rattle.std.specs.Prelude.{nat_eq, slice_get, slice_set, option_and_then, IsSome, IfSome}
+use Rattle.std.specs.Prelude.{nat_eq, slice_get, slice_set, option_and_then, IsSome, IfSome, MatchOption, get_or}
 use Rattle.std.proofs.lemmas.List.{append-nil, length-set, length_push}
-use Rattle.std.proofs.lemmas.List.Elements.{All-push, All-set}
+use Rattle.std.proofs.lemmas.List.Elements.{All-push, All-set, All-get_or}
+use Rattle.std.proofs.lemmas.Option.{slice_get_within, slice_get-get_or, get_or_from_slice_get}
+use Rattle.std.proofs.lemmas.Cmp.{nat_eq_equiv}
 use Rattle.std.proofs.lemmas.Bool.Decides.{nat_tests}
 use Rattle.cl_classfile.specs.Files.{Name}
 use Rattle.cl_model.specs.declared.class.Class.{Class}
@@ -105,8 +107,8 @@ set_there (x ∷ xs) zero (suc j) a e = refl
 set_there (x ∷ xs) (suc i) zero a e = refl
 set_there (x ∷ xs) (suc i) (suc j) a e = set_there xs i j a (less i j e)
 
-one_less : (v w o p : ℕ) → v + 1 ≡ w → w ≡ o → o ≡ p + 1 → v ≡ p
-one_less v w o p e f g = omega arith
+lower_by : (v w o p : ℕ) → v + 1 ≡ w → w ≡ o → o ≡ p + 1 → v ≡ p
+lower_by v w o p e f g = omega arith
 
 none_less : (m o p : ℕ) → m ≡ o → o ≡ p + 0 → m ≡ p
 none_less m o p e f = omega arith
@@ -116,28 +118,51 @@ count_after : (told : Option Content) (x : Shown) (f : Fields) (q n v w r m : �
 count_after told x f q n v w r m a true k at is here fewer e found =
     let same = eq_nat n r e in
     let m-is : m ≡ v = set_here f.unanswered n v m (subst (λ (i : ℕ). slice_get (slice_set f.unanswered n v) i ≡ Some m) (sym same) found) in
-    let open = open_set r x.script.rounds_of x.answers q n a at is ∙ ap (λ (b : Bool). open_in r x.script.rounds_of (slice_set x.answers q (Some a)) + (if b then 1 else 0)) e in
-    m-is ∙ one_less v w (open_in r x.script.rounds_of x.answers) (open_in r x.script.rounds_of (slice_set x.answers q (Some a))) fewer (k.counts r w (subst (λ (i : ℕ). slice_get f.unanswered i ≡ Some w) same here)) open
+    let fall = open_set r x.script.rounds_of x.answers q n a at is ∙ ap (λ (b : Bool). open_in r x.script.rounds_of (slice_set x.answers q (Some a)) + (if b then 1 else 0)) e in
+    m-is ∙ lower_by v w (open_in r x.script.rounds_of x.answers) (open_in r x.script.rounds_of (slice_set x.answers q (Some a))) fewer (k.counts r w (subst (λ (i : ℕ). slice_get f.unanswered i ≡ Some w) same here)) fall
 count_after told x f q n v w r m a false k at is here fewer e found =
-    let open = open_set r x.script.rounds_of x.answers q n a at is ∙ ap (λ (b : Bool). open_in r x.script.rounds_of (slice_set x.answers q (Some a)) + (if b then 1 else 0)) e in
-    none_less m (open_in r x.script.rounds_of x.answers) (open_in r x.script.rounds_of (slice_set x.answers q (Some a))) (k.counts r m (sym (set_there f.unanswered n r v e) ∙ found)) open
+    let fall = open_set r x.script.rounds_of x.answers q n a at is ∙ ap (λ (b : Bool). open_in r x.script.rounds_of (slice_set x.answers q (Some a)) + (if b then 1 else 0)) e in
+    none_less m (open_in r x.script.rounds_of x.answers) (open_in r x.script.rounds_of (slice_set x.answers q (Some a))) (k.counts r m (sym (set_there f.unanswered n r v e) ∙ found)) fall
 
-pub kept_post : (told : Option Content) (x : Shown) (f : Fields) (q n v w : ℕ) (a : Answered) (events room left : ℕ) (unanswered : List ℕ) → IsRegistry told x f → Fits x q a → Rests told a → slice_get x.script.rounds_of q ≡ Some n
-    → slice_get f.unanswered n ≡ Some w → v + 1 ≡ w → unanswered ≡ slice_set f.unanswered n v → events ≡ f.events + 1 → room ≡ f.room_for_events → left + 1 ≡ f.left
+-- a request that has no answer is counted in its round
+pub counted : (told : Option Content) (x : Shown) (f : Fields) (q n : ℕ) → IsRegistry told x f → slice_get x.script.rounds_of q ≡ Some n → slice_get x.answers q ≡ Some None → (w : ℕ) × (slice_get f.unanswered n ≡ Some w) × (0 < w)
+counted told x f q n k at is =
+    let rounds = x.script.rounds_of in
+    let below : n < x.script.rounds = subst (λ (m : ℕ). m < x.script.rounds) (get_or_from_slice_get rounds q n 0 at) (All-get_or (λ m. m < x.script.rounds) rounds q 0 (slice_get_within rounds q n at) k.kept.trusted.script.within) in
+    let each = k.each_round in
+    let here = slice_get-get_or f.unanswered n 0 (omega (arith, below, each)) in
+    let w = get_or f.unanswered n 0 in
+    let a : rust.Answer = answers.Memory in
+    let fall = open_set n rounds x.answers q n a at is ∙ ap (λ (b : Bool). open_in n rounds (slice_set x.answers q (Some a)) + (if b then 1 else 0)) (nat_eq_equiv.refl n) in
+    (w, here, some_left w (open_in n rounds x.answers) (open_in n rounds (slice_set x.answers q (Some a))) (k.counts n w here) fall)
+  where
+    some_left : (w o p : ℕ) → w ≡ o → o ≡ p + 1 → 0 < w
+    some_left w o p e f = omega arith
+
+pub counts_down : (told : Option Content) (x : Shown) (f : Fields) (q n : ℕ) → IsRegistry told x f → slice_get x.script.rounds_of q ≡ Some n → slice_get x.answers q ≡ Some None → MatchOption (slice_get f.unanswered n) ⊥ (λ w. 0 < w)
+counts_down told x f q n k at is = let w = counted told x f q n k at is in subst (λ (o : Option ℕ). MatchOption o ⊥ (λ w. 0 < w)) (sym w.1) w.2
+
+pub kept_post : (told : Option Content) (x : Shown) (f : Fields) (q n : ℕ) (a : Answered) (events room left : ℕ) (unanswered : List ℕ) → IsRegistry told x f → Fits x q a → Rests told a → slice_get x.script.rounds_of q ≡ Some n
+    → MatchOption (slice_get f.unanswered n) ⊥ (λ w. unanswered ≡ slice_set f.unanswered n (w - 1)) → events ≡ f.events + 1 → room ≡ f.room_for_events → left + 1 ≡ f.left
     → IsRegistry told (with_post x q a.answer) (record f { events = events; room_for_events = room; left = left; unanswered = unanswered })
-kept_post told x f q n v w a used room less unanswered k fits rests at here fewer counts one same left =
+kept_post told x f q n a used room less unanswered k fits rests at lower one same left =
     let y = with_post x q a.answer in
     let is = fits.unanswered in
     let out = unposted x q k.kept.trusted is in
     let state = state_posts x q a.answer out is in
     let records : records_of y ≡ records_of x = ap (λ (s : State). s.records) state in
+    let w = counted told x f q n k at is in
+    let v = w.0 - 1 in
+    let some = w.2 in
+    let fewer : v + 1 ≡ w.0 = omega (arith, some) in
+    let counts : unanswered ≡ slice_set f.unanswered n v = subst (λ (o : Option ℕ). MatchOption o ⊥ (λ w. unanswered ≡ slice_set f.unanswered n (w - 1))) w.1 lower in
     record {
       kept = kept told x q a k.kept fits rests;
       script = k.script;
       width = k.width;
       rows = λ l n. k.rows l n ∙ ap (λ (rs : List Record). option_and_then (λ place. row_of x.rows (class n place)) (recorded rs l n)) (sym records);
       left = let e = left_set x.answers q a.answer is in let l = k.left in omega (arith, e, l, left);
-      counts = λ r m found. count_after told x f q n v w r m a.answer (nat_eq n r) k at is here fewer refl (subst (λ (us : List ℕ). slice_get us r ≡ Some m) counts found);
+      counts = λ r m found. count_after told x f q n v w.0 r m a.answer (nat_eq n r) k at is w.1 fewer refl (subst (λ (us : List ℕ). slice_get us r ≡ Some m) counts found);
       each_round = ap length counts ∙ length-set f.unanswered n v ∙ k.each_round;
       round = k.round ∙ sym (ap (λ (s : State). s.round) state);
       begun = k.begun;
@@ -146,3 +171,6 @@ kept_post told x f q n v w a used room less unanswered k fits rests at here fewe
       empty = k.empty;
       answers_fit = subst (λ n. n ≤ f.room) (sym (length-set x.answers q (Some a.answer))) k.answers_fit;
     }
+
+pub one_less : (left more : ℕ) → left ≡ more + 1 → left - 1 + 1 ≡ left
+one_less left more e = omega arith

@@ -1,6 +1,6 @@
 //! Whether the tables of a registry bear an answer.
 
-ghost use Rattle.std.specs.Prelude.{◌≡◌, ◌≢◌, IfSome, MatchBool, None, Some, slice_get};
+ghost use Rattle.std.specs.Prelude.{◌≡◌, ◌≢◌, ◌<◌, ◌-◌, IfSome, MatchBool, MatchOption, None, Some, slice_get, slice_set};
 ghost use Rattle.std.specs.List.{AllByRecursion};
 ghost use Rattle.std.specs.Option.{option_map};
 ghost use Rattle.cl_model.specs.Texts.{AnswerNames, VerdictNames};
@@ -47,6 +47,22 @@ pub fn is_open(answers: &[Option<Answer>], q: u32) -> bool
         Some(Some(_)) => false,
         None => false,
     }
+}
+
+/// Puts the answer of a request that has none.
+pub fn put_answer(answers: &mut Vec<Option<Answer>>, q: u32, answer: Answer)
+    requires { slice_get answers.old.items q ≡ Some None }
+    ensures { answers.new.items ≡ slice_set answers.old.items q (Some answer) }
+{
+    answers[q as usize] = Some(answer);
+}
+
+/// One request of a round less has no answer.
+pub fn count_down(unanswered: &mut Vec<usize>, round: u32)
+    requires { MatchOption (slice_get unanswered.old.items round) ⊥ (λ n. 0 < n) }
+    ensures { MatchOption (slice_get unanswered.old.items round) ⊥ (λ n. unanswered.new.items ≡ slice_set unanswered.old.items round (n - 1)) }
+{
+    unanswered[round as usize] -= 1;
 }
 
 /// Whether a loader has recorded the class of a name that this loader defined.

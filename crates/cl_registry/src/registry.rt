@@ -5,7 +5,7 @@ ghost use Rattle.cl_registry.specs.Tables.{Defines, Fits, Initiates, IsKept, Lac
 ghost use Rattle.cl_registry.specs.Refusals.{DefineRefusedFor, InitiateRefusedFor, PostRefusedFor, RoundRefusedFor};
 ghost use Rattle.cl_registry.specs.Reports.{IsNamed, IsReport, IsUnfinished};
 
-use crate::backs::{backs, is_asked, is_open};
+use crate::backs::{backs, count_down, is_asked, is_open, put_answer};
 use crate::finding::Finding;
 use crate::report::{Answers, History, Report};
 use crate::tables::Rows;
@@ -197,9 +197,9 @@ impl<T: Told> Registry<T> {
                 finding,
             });
         }
-        self.answers[q as usize] = Some(finding.into_answer());
+        put_answer(&mut self.answers, q, finding.into_answer());
+        count_down(&mut self.unanswered, round);
         self.left -= 1;
-        self.unanswered[round as usize] -= 1;
         self.history.push_reserved(Event::Post(q));
         Ok(())
     }

@@ -1,21 +1,21 @@
 -- What the linkage machine allows next is what a registry accepts.
-use Rattle.std.proofs.Common.{◌≡◌, ◌<◌, ◌∙◌, ℕ, zero, suc, Bool, true, false, if◌then◌else◌, List, [], ◌∷◌, ◌++◌, length, map, Option, Some, None, Result, Ok, Err, inl, inr, refl, sym, ap, subst, arith, is_some}
-use Rattle.std.specs.Prelude.{nat_lt, slice_get, option_map, option_and_then, unwrap_or, IsSome, IfSome}
+use Rattle.std.proofs.Common.{◌≡◌, ◌<◌, ◌∙◌, ℕ, zero, suc, Bool, true, false, if◌then◌else◌, List, [], ◌∷◌, length, map, Option, Some, None, inl, refl, sym, ap, subst, arith, is_some}
+use Rattle.std.specs.Prelude.{nat_lt, slice_get, option_and_then, unwrap_or, IsSome, IfSome}
 use Rattle.std.specs.List.{AllByRecursion}
 use Rattle.std.proofs.lemmas.Bool.Decides.{nat_tests}
-use Rattle.std.proofs.lemmas.List.{length-map, append-nil}
-use Rattle.std.proofs.lemmas.Option.{slice_get_within, slice_get-map}
+use Rattle.std.proofs.lemmas.List.{length-map}
+use Rattle.std.proofs.lemmas.Option.{slice_get_within}
 use Rattle.std.proofs.lemmas.Cmp.{nat_eq_equiv}
 use Rattle.cl_classfile.specs.Files.{Name, File, file_of}
 use Rattle.cl_model.specs.declared.class.Class.{Class}
 use Rattle.cl_model.specs.Content.{Content}
-use Rattle.cl_model.specs.Homes.{World, Loader, home, is_java, is_loader, own_home, home_at, home_below}
+use Rattle.cl_model.specs.Homes.{World, home, is_java, is_loader, own_home, home_at, home_below}
 use Rattle.cl_model.specs.Classes.{class, Above, AtHome, Fitting, FitsAt, Good, IsGood, HasFile, IsAtHome, misfit, supers}
 use Rattle.cl_model.specs.Classes as classes
-use Rattle.cl_model.specs.States.{State, Need, Entry, Met, Record, recorded}
+use Rattle.cl_model.specs.States.{State, Entry, Met, recorded}
 use Rattle.cl_model.specs.Plans.{Load}
-use Rattle.cl_model.specs.Frames.{Frame, wanted, Judged, Accepts, Keeps, KeepsAccepted, IsFrame, Under}
-use Rattle.cl_model.specs.Machine.{Setting, Step, Define, Initiate, IsClosed, May, MayDefine}
+use Rattle.cl_model.specs.Frames.{Frame, Judged, Accepts, Keeps}
+use Rattle.cl_model.specs.Machine.{Setting, Define, Initiate, IsClosed, May}
 use Rattle.cl_model.proofs.Closed.{runs_are_closed}
 use Rattle.cl_model.proofs.Complete.{file_is}
 use Rattle.cl_model.proofs.Ending.{if_some}
@@ -26,12 +26,9 @@ use Rattle.cl_model.proofs.Progress.{next_may}
 use Rattle.cl_model.proofs.Reached.{then_some}
 use Rattle.cl_config.specs.Views.{Configured}
 use Rattle.cl_config.specs.Loaders.{loader_of}
-use Rattle.cl_delegation.specs.Searches.{Located}
 use Rattle.cl_delegation.specs.Worlds.{world_of, setting_of}
-use Rattle.cl_hierarchy.specs.Drafts.{Drafted, IsDraft, IsSpelt}
-use Rattle.cl_hierarchy.specs.Rows.{Rowed}
-use Rattle.cl_registry.specs.Tables.{Shown, steps, state_of, records_of, looked, place_in, FitsAs, SupertypesFit, IsKept, MayEnter, MayJoin, LacksRecord, IsNew}
-use Rattle.cl_registry.specs.Refusals.{DefineRefusedFor}
+use Rattle.cl_hierarchy.specs.Drafts.{Drafted, IsDraft}
+use Rattle.cl_registry.specs.Tables.{Shown, steps, state_of, records_of, looked, place_in, FitsAs, IsKept}
 use Rattle.cl_registry.specs.Allowed.{AllowedIsEntered, EnteredIsAllowed, AllowedIsJoined, JoinedIsAllowed, RoundIsAllowed, OtherConfigIsStray}
 use Rattle.cl_registry.proofs.Calm.{calm, none_and_some, may_add}
 use Rattle.cl_registry.proofs.Placed.{HasRow, recorded_row, spelt_file}

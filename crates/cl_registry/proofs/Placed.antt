@@ -1,6 +1,6 @@
 -- What is recorded has its row; and in a told content its class has the file of that row.
-use Rattle.std.proofs.Common.{◌≡◌, ◌<◌, ◌∙◌, ℕ, Bool, true, false, List, [], ◌∷◌, ◌++◌, length, map, Option, Some, None, Ok, Err, inl, inr, refl, sym, ap, subst}
-use Rattle.std.specs.Prelude.{if◌then◌else◌, ◌⊎◌, ◌||◌, find, option_and_then, All}
+use Rattle.std.proofs.Common.{◌≡◌, ◌∙◌, ℕ, Bool, true, false, List, [], ◌∷◌, map, Option, Some, None, Ok, Err, inl, inr, refl, sym, ap, subst}
+use Rattle.std.specs.Prelude.{if◌then◌else◌, ◌⊎◌, ◌||◌, option_and_then}
 use Rattle.std.specs.List.{AllByRecursion, list_any}
 use Rattle.std.proofs.lemmas.Cmp.{nat_eq_equiv, nat_list_eq_equiv}
 use Rattle.std.proofs.lemmas.List.Elements.{recursion_from_All}
@@ -14,8 +14,8 @@ use Rattle.cl_model.specs.Homes.{World}
 use Rattle.cl_model.specs.Classes.{class, same_class, NoClassDef, is_own, named, read_found, HasFile, IsAtHome}
 use Rattle.cl_model.specs.Classes as classes
 use Rattle.cl_model.specs.States.{State, Record, start, Answer, recorded}
-use Rattle.cl_model.specs.Machine.{Scheduled, Step, Define, after, state_after}
-use Rattle.cl_model.specs.Tables.{Orderly, Allows}
+use Rattle.cl_model.specs.Machine.{Scheduled, Define, after, state_after}
+use Rattle.cl_model.specs.Tables.{Orderly}
 use Rattle.cl_model.specs.Views.{answers_of, answer_at, post_of, step_of, steps_of}
 use Rattle.cl_model.specs.Worlds.{seen}
 use Rattle.cl_model.proofs.Ancestors.{same_self}

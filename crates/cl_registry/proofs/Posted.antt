@@ -1,9 +1,8 @@
 -- An answer that fits and rests on the content may be posted.
-use Rattle.std.proofs.Common.{◌≡◌, ◌<◌, ◌∙◌, ℕ, zero, suc, Bool, true, false, List, [], ◌∷◌, length, Option, Some, None, refl, sym, ap, subst, arith, is_some}
+use Rattle.std.proofs.Common.{◌≡◌, ◌<◌, ◌∙◌, ℕ, zero, suc, Bool, true, false, List, [], ◌∷◌, length, Option, Some, None, refl, sym, ap, subst, arith}
 use Rattle.std.specs.Prelude.{nat_lt, slice_get, IsSome}
 use Rattle.std.proofs.lemmas.Bool.Decides.{nat_tests}
 use Rattle.cl_classfile.specs.Files.{Name}
-use Rattle.cl_model.specs.declared.class.Class.{Class}
 use Rattle.cl_model.specs.declared.request.Request.{Request}
 use Rattle.cl_model.specs.declared.request.Request.TheVariants as requests
 use Rattle.cl_model.specs.declared.verdict.Verdict.TheVariants as verdicts
@@ -13,7 +12,6 @@ use Rattle.cl_model.specs.Content.{Content}
 use Rattle.cl_model.specs.Classes.{class}
 use Rattle.cl_model.specs.States.{State, start, Verdict, IsClass, Wrong, Answer}
 use Rattle.cl_model.specs.Plans.{Load}
-use Rattle.cl_model.specs.Frames.{EndsHere}
 use Rattle.cl_model.specs.Machine.{Setting, Scheduled, AnswersPlan, IsClosed, MaySay, MayAnswer}
 use Rattle.cl_model.specs.Views.{answer_of, answers_of, answer_at, error_of, request_of}
 use Rattle.cl_model.proofs.Frames.{answers_here}
@@ -21,8 +19,8 @@ use Rattle.cl_model.proofs.Looks.{recorded_answers}
 use Rattle.cl_config.specs.Views.{Configured}
 use Rattle.cl_config.specs.Loaders.{schedule}
 use Rattle.cl_delegation.specs.Worlds.{world_of, setting_of}
-use Rattle.cl_registry.specs.Findings.{Answered, Based, loader_of, name_of, EndsWhere, AnswerRests}
-use Rattle.cl_registry.specs.Tables.{Shown, state_of, round_of, AnswerBacked, IsTrusted, IsKept, IsLater, Fits}
+use Rattle.cl_registry.specs.Findings.{Answered, Based, EndsWhere, AnswerRests}
+use Rattle.cl_registry.specs.Tables.{Shown, state_of, round_of, AnswerBacked, IsTrusted, Fits}
 use Rattle.cl_registry.specs.Allowed.{FittingIsAllowed}
 use Rattle.cl_registry.proofs.Allowed.{closed_of}
 use Rattle.cl_registry.proofs.Calm.{unposted_stays}

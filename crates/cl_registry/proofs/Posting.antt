@@ -1,14 +1,12 @@
 -- What a registry keeps goes on by a post.
-use Rattle.std.proofs.Common.{◌≡◌, ◌∙◌, ◌<◌, ◌≤◌, ◌+◌, ◌-◌, ℕ, zero, suc, Bool, true, false, List, [], ◌∷◌, ◌++◌, length, map, Option, Some, None, refl, sym, ap, subst, arith, is_some, if◌then◌else◌}
+use Rattle.std.proofs.Common.{◌≡◌, ◌∙◌, ◌<◌, ◌≤◌, ◌+◌, ◌-◌, ℕ, zero, suc, Bool, true, false, List, [], ◌∷◌, length, Option, Some, None, refl, sym, ap, subst, arith, is_some, if◌then◌else◌}
 use Rattle.std.specs.Prelude.{nat_eq, slice_get, slice_set, option_and_then, IsSome, IfSome, MatchOption, get_or}
 use Rattle.std.proofs.lemmas.List.{append-nil, length-set, length_push}
 use Rattle.std.proofs.lemmas.List.Elements.{All-push, All-set, All-get_or}
 use Rattle.std.proofs.lemmas.Option.{slice_get_within, slice_get-get_or, get_or_from_slice_get}
 use Rattle.std.proofs.lemmas.Cmp.{nat_eq_equiv}
 use Rattle.std.proofs.lemmas.Bool.Decides.{nat_tests}
-use Rattle.cl_classfile.specs.Files.{Name}
 use Rattle.cl_model.specs.declared.class.Class.{Class}
-use Rattle.cl_model.specs.declared.event.Event.{Event}
 use Rattle.cl_model.specs.declared.event.Event.TheVariants as events
 use Rattle.cl_model.specs.declared.request.Request.TheVariants as requests
 use Rattle.cl_model.specs.declared.request.Request.{Request}
@@ -20,14 +18,14 @@ use Rattle.cl_model.specs.Classes.{class, Error}
 use Rattle.cl_model.specs.Texts.{AnswerNames, EventNames}
 use Rattle.cl_model.specs.States.{State, Record, start, IsClass, Wrong, Answer, recorded}
 use Rattle.cl_model.specs.Tables.{Records, BearsAnswer, MayTell}
-use Rattle.cl_model.specs.Machine.{Post, after}
+use Rattle.cl_model.specs.Machine.{Post}
 use Rattle.cl_model.specs.Views.{answer_of, answers_of, answer_at, error_of, request_of}
 use Rattle.cl_config.specs.Loaders.{schedule_of}
 use Rattle.cl_registry.specs.Findings.{Answered, Based, Rests}
-use Rattle.cl_registry.specs.Kept.{Fields, IsRegistry, left_in, open_in}
-use Rattle.cl_registry.specs.Tables.{Shown, state_of, records_of, round_of, row_of, looked, defined, posts, is_in, with_post, AnswerBacked, IsTrusted, IsKept, NamesLoaders, Fits}
+use Rattle.cl_registry.specs.Kept.{Fields, IsRegistry, open_in}
+use Rattle.cl_registry.specs.Tables.{Shown, state_of, records_of, round_of, row_of, defined, posts, is_in, with_post, AnswerBacked, IsTrusted, IsKept, NamesLoaders, Fits}
 use Rattle.cl_registry.proofs.Calm.{unposted_stays}
-use Rattle.cl_registry.proofs.Histories.{trusted_more, run_more, posts_then, defined_then, is_in_push, swap_nat, eq_nat, other_answer, this_answer, open_answer, left_set, open_set, steps_posts, state_posts, posted_by, unposted}
+use Rattle.cl_registry.proofs.Histories.{trusted_more, run_more, posts_then, defined_then, is_in_push, swap_nat, eq_nat, other_answer, this_answer, left_set, open_set, steps_posts, state_posts, posted_by, unposted}
 use Rattle.cl_registry.proofs.Posted.{fitting_is_allowed, in_its_round, scheduled, scheduled_at}
 
 -- ---- the tables bear the answer, under any source

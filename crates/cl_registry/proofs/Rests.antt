@@ -1,7 +1,7 @@
 -- An error rests on the content told: what stops a derivation is where the plan of its request ends.
 use Rattle.std.proofs.Common.{◌≡◌, ◌≢◌, ◌∙◌, ℕ, Bool, true, false, List, [], ◌∷◌, ◌++◌, map, Option, Some, None, Result, Ok, Err, inl, refl, sym, ap, subst}
 use Rattle.std.specs.Prelude.{if◌then◌else◌}
-use Rattle.std.proofs.lemmas.List.{append-nil, map_push}
+use Rattle.std.proofs.lemmas.List.{map_push}
 use Rattle.cl_classfile.specs.declared.fault.Fault.{Fault}
 use Rattle.cl_classfile.specs.declared.fault.Fault.TheVariants as faults
 use Rattle.cl_classfile.specs.Structure.{Structure}
@@ -14,12 +14,11 @@ use Rattle.cl_model.specs.declared.verdict.Verdict.TheVariants as verdicts
 use Rattle.cl_model.specs.declared.request.Request.{Request}
 use Rattle.cl_model.specs.declared.request.Request.TheVariants as requests
 use Rattle.cl_model.specs.Content.{Content}
-use Rattle.cl_model.specs.Homes.{World, home}
+use Rattle.cl_model.specs.Homes.{home}
 use Rattle.cl_model.specs.Classes.{class, Above, Error, ClassNotFound, NoClassDef, ClassCircularity, named}
 use Rattle.cl_model.specs.Classes as classes
-use Rattle.cl_model.specs.States.{State, Need, Entry, Wrong, recorded, AllMet}
-use Rattle.cl_model.specs.Frames.{Frame, wanted, Judged, Keeps, KeepsAccepted, AllKept, IsFrames, path_of, asking, EndsHere, Under, absent_under, kept_of}
-use Rattle.cl_model.specs.Machine.{IsClosed}
+use Rattle.cl_model.specs.States.{State, Entry, Wrong, recorded, AllMet}
+use Rattle.cl_model.specs.Frames.{Frame, wanted, KeepsAccepted, AllKept, IsFrames, path_of, asking, EndsHere, Under, absent_under, kept_of}
 use Rattle.cl_model.specs.Views.{request_of, error_of}
 use Rattle.cl_model.specs.Worlds.{file_fault, seen}
 use Rattle.cl_model.proofs.Frames.{missing_ends, faulty_ends, circle_ends, misfit_ends}
@@ -33,7 +32,7 @@ use Rattle.cl_delegation.specs.Searches.{Located, Sought, LeadsTo}
 use Rattle.cl_delegation.specs.Worlds.{read, world_of}
 use Rattle.cl_hierarchy.specs.declared.draft.DraftFault.{DraftFault}
 use Rattle.cl_hierarchy.specs.declared.draft.DraftFault.TheVariants as drafts
-use Rattle.cl_hierarchy.specs.Drafts.{IsSpelt, IsWrong, Misread}
+use Rattle.cl_hierarchy.specs.Drafts.{IsSpelt, IsWrong}
 use Rattle.cl_hierarchy.specs.Frames.{Framed, frame_of}
 use Rattle.cl_hierarchy.specs.Paths.{Pathed, IsPath, frames_of, at_loader, at_name, is_on, misfit_in, misfit_under}
 use Rattle.cl_hierarchy.specs.Rows.{Rowed}

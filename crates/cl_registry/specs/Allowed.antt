@@ -1,17 +1,16 @@
 -- What a registry accepts is what the linkage machine allows next: laws, each the contract of a function without a body (JVMS SE 8, 5.3, 5.3.5).
-use Rattle.std.specs.Prelude.{◌≡◌, ◌<◌, ℕ, List, length, Option, Some}
+use Rattle.std.specs.Prelude.{◌≡◌, ◌<◌, ℕ, List, length, Some}
 use Rattle.cl_model.specs.States.{recorded}
 use Rattle.cl_model.specs.Content.{Content}
-use Rattle.cl_model.specs.Texts.{AnswerNames}
 use Rattle.cl_model.specs.Views.{answer_of}
 use Rattle.cl_model.specs.Machine.{MayDefine, MayInitiate, MayPost, NextRound, May}
 use Rattle.cl_delegation.specs.Searches.{Located, LeadsTo}
 use Rattle.cl_delegation.specs.Worlds.{setting_of}
 use Rattle.cl_hierarchy.specs.Drafts.{IsDraft, Drafted}
-use Rattle.cl_registry.specs.Findings.{Answered, loader_of, Rests}
+use Rattle.cl_registry.specs.Findings.{Answered, Rests}
 use Rattle.cl_registry.specs.declared.registry.RegistryFault.TheVariants.{Stray}
-use Rattle.cl_registry.specs.Refusals.{DefineRefusedFor, InitiateRefusedFor}
-use Rattle.cl_registry.specs.Tables.{Shown, state_of, records_of, NamesLoaders, IsKept, IsNew, LacksRecord, MayEnter, MayJoin, IsAsked, IsOpen, IsBacked, Fits, MayGoOn}
+use Rattle.cl_registry.specs.Refusals.{DefineRefusedFor}
+use Rattle.cl_registry.specs.Tables.{Shown, state_of, records_of, NamesLoaders, IsKept, IsNew, LacksRecord, MayEnter, MayJoin, Fits, MayGoOn}
 
 -- a class of this configuration that the machine may define has no record and may be entered (5.3.5)
 abbrev pub AllowedIsEntered : Type 0

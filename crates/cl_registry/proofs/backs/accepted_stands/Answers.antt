@@ -1,4 +1,4 @@
-use Rattle.std.proofs.Common.{◌≡◌, ◌∙◌, refl, sym, ap, Option, Some}
+use Rattle.std.proofs.Common.{refl, sym, ap}
 use Rattle.std.proofs.lemmas.Option.{slice_get_read}
 use Rattle.cl_hierarchy.specs.Drafts.{Drafted}
 use Rattle.cl_registry.proofs.Backed.{none_named, none_placed, both_there, at_some}

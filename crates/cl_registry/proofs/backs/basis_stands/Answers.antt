@@ -1,4 +1,4 @@
-use Rattle.std.proofs.Common.{◌≡◌, ◌∙◌, sym}
+use Rattle.std.proofs.Common.{◌∙◌, sym}
 use Rattle.cl_registry.proofs.Backed.{stands_by, fails_by}
 use Rattle.cl_registry.proofs.backs.basis_stands.Goals as goal
 

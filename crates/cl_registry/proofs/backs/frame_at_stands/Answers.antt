@@ -1,4 +1,4 @@
-use Rattle.std.proofs.Common.{◌≡◌, ◌∙◌, sym, ap, Option}
+use Rattle.std.proofs.Common.{◌∙◌, sym, ap, Option}
 use Rattle.std.specs.Prelude.{option_map}
 use Rattle.std.proofs.lemmas.Option.{slice_get-map}
 use Rattle.cl_hierarchy.specs.Frames.{Framed, frame_of}

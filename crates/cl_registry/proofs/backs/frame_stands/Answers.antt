@@ -1,4 +1,4 @@
-use Rattle.std.proofs.Common.{◌≡◌, ◌≤◌, arith, length}
+use Rattle.std.proofs.Common.{◌≤◌, arith, length}
 use Rattle.cl_classfile.specs.Files.{file_of}
 use Rattle.cl_model.specs.Classes.{supers}
 use Rattle.cl_hierarchy.specs.Frames.{frame_of}

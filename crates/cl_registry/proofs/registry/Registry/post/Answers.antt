@@ -1,9 +1,8 @@
-use Rattle.std.proofs.Common.{◌≡◌, ◌∙◌, ◌+◌, ◌-◌, ℕ, List, map, Option, Some, None, inr, ap, sym, subst, arith, length, refl}
+use Rattle.std.proofs.Common.{◌≡◌, ◌∙◌, List, map, Option, Some, None, inr, ap, sym, arith}
 use Rattle.std.specs.Prelude.{slice_get}
 use Rattle.cl_model.specs.declared.answer.Answer.{Answer}
 use Rattle.cl_model.specs.declared.request.Request.{Request}
 use Rattle.cl_config.specs.Views.{Scripted}
-use Rattle.cl_registry.specs.Findings.{Rests}
 use Rattle.cl_registry.specs.Tables.{Shown, Fits}
 use Rattle.cl_registry.proofs.Histories.{left_set}
 use Rattle.cl_registry.proofs.Backed.{table_of, not_later}

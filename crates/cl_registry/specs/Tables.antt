@@ -79,8 +79,8 @@ abbrev pub is_in : ℕ → List ℕ → Bool
 is_in n [] = false
 is_in n (x ∷ xs) = nat_eq n x || is_in n xs
 
--- what holds under any source: the script is one, the tables can be trusted, those requests have an answer whose post the history has, each has
--- a place for one, and those of the rounds before are answered (5.3, 5.3.5)
+-- what holds under any source: the script is one, the tables can be trusted, those requests have an answer whose post the
+-- history has, each has a place for one, and those of the rounds before are answered (5.3, 5.3.5)
 pub record IsTrusted (x : Shown) : Type 0 where
   pub script : IsScript x.script
   pub tables : tables.IsTrusted (schedule_of x.script) x.script.rounds (steps x)

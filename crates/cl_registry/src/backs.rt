@@ -1,15 +1,15 @@
 //! Whether the tables of a registry bear an answer.
 
-ghost use Rattle.std.specs.Prelude.{◌≡◌, ◌≢◌, ◌<◌, ◌-◌, IfSome, MatchBool, MatchOption, None, Some, slice_get, slice_set};
+ghost use Rattle.std.specs.Prelude.{◌≡◌, ◌<◌, ◌-◌, IfSome, MatchOption, None, Some, slice_get, slice_set};
 ghost use Rattle.std.specs.List.{AllByRecursion};
 ghost use Rattle.std.specs.Option.{option_map};
 ghost use Rattle.cl_model.specs.Texts.{AnswerNames, VerdictNames};
 ghost use Rattle.cl_hierarchy.specs.Frames.{frame_of};
 ghost use Rattle.cl_hierarchy.specs.Paths.{frames_of};
-ghost use Rattle.cl_registry.specs.Backs.{AcceptedIn, HasIn, IsTableOf, MisfitIn};
+ghost use Rattle.cl_registry.specs.Backs.{AcceptedIn, Decides, DecidesIn, HasIn, MisfitIn, placed};
 ghost use Rattle.cl_registry.specs.Bases.{based};
 ghost use Rattle.cl_registry.specs.Findings.{loader_of, name_of};
-ghost use Rattle.cl_registry.specs.Tables.{AnswerBacked, BasisStands, IsBacked, Shown, VerdictBacked, row_at};
+ghost use Rattle.cl_registry.specs.Tables.{AnswerBacked, BasisStands, IsBacked, VerdictBacked, row_at};
 
 use crate::finding::{Basis, Finding};
 use crate::same::same_config;
@@ -21,7 +21,7 @@ use cl_names::Name;
 
 /// Whether two requests are the same.
 fn is_same(a: &Request, b: &Request) -> bool
-    ensures { MatchBool result (a.now ≡ b.now) (a.now ≢ b.now) }
+    ensures { Decides result (a.now ≡ b.now) }
 {
     match (a, b) {
         (Request::Load(l, n), Request::Load(m, o)) => *l == *m && *n == *o,
@@ -30,7 +30,7 @@ fn is_same(a: &Request, b: &Request) -> bool
 
 /// Whether the request of this number is this one.
 pub fn is_asked(requests: &[Request], q: u32, request: &Request) -> bool
-    ensures { MatchBool result (slice_get requests.now q ≡ Some request.now) (slice_get requests.now q ≢ Some request.now) }
+    ensures { Decides result (slice_get requests.now q ≡ Some request.now) }
 {
     match requests.get(q as usize) {
         None => false,
@@ -40,7 +40,7 @@ pub fn is_asked(requests: &[Request], q: u32, request: &Request) -> bool
 
 /// Whether the request of this number has no answer.
 pub fn is_open(answers: &[Option<Answer>], q: u32) -> bool
-    ensures { MatchBool result (slice_get answers.now q ≡ Some None) (slice_get answers.now q ≢ Some None) }
+    ensures { Decides result (slice_get answers.now q ≡ Some None) }
 {
     match answers.get(q as usize) {
         Some(None) => true,
@@ -67,14 +67,14 @@ pub fn count_down(unanswered: &mut Vec<usize>, round: u32)
 
 /// Whether a loader has recorded the class of a name that this loader defined.
 fn has<T: Told>(tables: &Rows<T>, loader: LoaderId, name: &Name, definer: LoaderId) -> bool
-    ensures { MatchBool result (option_map (λ r. r.value.class.loader) (row_at tables.now.items loader name.now) ≡ Some definer) (option_map (λ r. r.value.class.loader) (row_at tables.now.items loader name.now) ≢ Some definer) }
+    ensures { Decides result (placed (λ r. r.value) (row_at tables.now.items) loader name.now ≡ Some definer) }
 {
     place(tables, loader, name) == Some(definer)
 }
 
 /// Whether the supertype that a frame accepted at a place, if it did, is one that its class's loader has.
 fn accepted_stands<T: Told>(tables: &Rows<T>, frame: &Frame<T>, at: usize) -> bool
-    ensures { MatchBool result (IfSome (slice_get (frame_of frame.now).accepted at) (HasIn (λ l n. option_map (λ r. r.value.class.loader) (row_at tables.now.items l n)) frame.now.draft.class.loader)) (IfSome (slice_get (frame_of frame.now).accepted at) (HasIn (λ l n. option_map (λ r. r.value.class.loader) (row_at tables.now.items l n)) frame.now.draft.class.loader) → ⊥) }
+    ensures { Decides result (IfSome (slice_get (frame_of frame.now).accepted at) (HasIn (placed (λ r. r.value) (row_at tables.now.items)) frame.now.draft.class.loader)) }
 {
     match frame.draft().supertype(at) {
         None => true,
@@ -92,7 +92,7 @@ fn accepted_stands<T: Told>(tables: &Rows<T>, frame: &Frame<T>, at: usize) -> bo
 
 /// Whether what a frame accepted its class's loader has.
 fn frame_stands<T: Told>(tables: &Rows<T>, frame: &Frame<T>) -> bool
-    ensures { MatchBool result (AcceptedIn (λ l n. option_map (λ r. r.value.class.loader) (row_at tables.now.items l n)) (frame_of frame.now)) (AcceptedIn (λ l n. option_map (λ r. r.value.class.loader) (row_at tables.now.items l n)) (frame_of frame.now) → ⊥) }
+    ensures { Decides result (AcceptedIn (placed (λ r. r.value) (row_at tables.now.items)) (frame_of frame.now)) }
 {
     for at in 0..frame.places().len() {
         if !accepted_stands(tables, frame, at) {
@@ -104,7 +104,7 @@ fn frame_stands<T: Told>(tables: &Rows<T>, frame: &Frame<T>) -> bool
 
 /// Whether what the frame at a place accepted, if there is one, its class's loader has.
 fn frame_at_stands<T: Told>(tables: &Rows<T>, path: &Path<T>, at: usize) -> bool
-    ensures { MatchBool result (IfSome (slice_get (frames_of path.now) at) (AcceptedIn (λ l n. option_map (λ r. r.value.class.loader) (row_at tables.now.items l n)))) (IfSome (slice_get (frames_of path.now) at) (AcceptedIn (λ l n. option_map (λ r. r.value.class.loader) (row_at tables.now.items l n))) → ⊥) }
+    ensures { Decides result (IfSome (slice_get (frames_of path.now) at) (AcceptedIn (placed (λ r. r.value) (row_at tables.now.items)))) }
 {
     match path.frame(at) {
         None => true,
@@ -114,7 +114,7 @@ fn frame_at_stands<T: Told>(tables: &Rows<T>, path: &Path<T>, at: usize) -> bool
 
 /// Whether what the classes of a path accepted their loaders have.
 fn path_stands<T: Told>(tables: &Rows<T>, path: &Path<T>) -> bool
-    ensures { MatchBool result (AllByRecursion (AcceptedIn (λ l n. option_map (λ r. r.value.class.loader) (row_at tables.now.items l n))) (frames_of path.now)) (AllByRecursion (AcceptedIn (λ l n. option_map (λ r. r.value.class.loader) (row_at tables.now.items l n))) (frames_of path.now) → ⊥) }
+    ensures { Decides result (AllByRecursion (AcceptedIn (placed (λ r. r.value) (row_at tables.now.items))) (frames_of path.now)) }
 {
     for at in 0..path.len() {
         if !frame_at_stands(tables, path, at) {
@@ -126,7 +126,7 @@ fn path_stands<T: Told>(tables: &Rows<T>, path: &Path<T>) -> bool
 
 /// Whether the class that does not fit, if there is one, is the one that the loader that was asked has.
 fn misfit_stands<T: Told>(tables: &Rows<T>, path: &Path<T>, misfit: Option<LoaderId>) -> bool
-    ensures { MatchBool result (MisfitIn (λ l n. option_map (λ r. r.value.class.loader) (row_at tables.now.items l n)) path.now misfit) (MisfitIn (λ l n. option_map (λ r. r.value.class.loader) (row_at tables.now.items l n)) path.now misfit → ⊥) }
+    ensures { Decides result (MisfitIn (placed (λ r. r.value) (row_at tables.now.items)) path.now misfit) }
 {
     match misfit {
         None => true,
@@ -136,7 +136,7 @@ fn misfit_stands<T: Told>(tables: &Rows<T>, path: &Path<T>, misfit: Option<Loade
 
 /// Whether what an error rests on stands in the tables.
 fn basis_stands<T: Told>(tables: &Rows<T>, config: &Config, basis: &Basis<T>) -> bool
-    ensures { (x : Shown) → x.config ≡ config.now → IsTableOf (λ l n. option_map (λ r. r.value.class.loader) (row_at tables.now.items l n)) x → MatchBool result (BasisStands x (Some (based basis.now.path basis.now.misfit))) (BasisStands x (Some (based basis.now.path basis.now.misfit)) → ⊥) }
+    ensures { DecidesIn config.now (placed (λ r. r.value) (row_at tables.now.items)) result (λ x. BasisStands x (Some (based basis.now.path basis.now.misfit))) }
 {
     if !same_config(basis.path.config(), config) {
         return false;
@@ -151,7 +151,7 @@ fn verdict_stands<T: Told>(
     finding: &Finding<T>,
     verdict: &Verdict,
 ) -> bool
-    ensures { (x : Shown) → x.config ≡ config.now → IsTableOf (λ l n. option_map (λ r. r.value.class.loader) (row_at tables.now.items l n)) x → MatchBool result (VerdictBacked x (loader_of finding.now.request) (name_of finding.now.request) verdict.now finding.now.basis) (VerdictBacked x (loader_of finding.now.request) (name_of finding.now.request) verdict.now finding.now.basis → ⊥) }
+    ensures { DecidesIn config.now (placed (λ r. r.value) (row_at tables.now.items)) result (λ x. VerdictBacked x (loader_of finding.now.request) (name_of finding.now.request) verdict.now finding.now.basis) }
 {
     let Request::Load(loader, name) = finding.request();
     match verdict {
@@ -167,7 +167,7 @@ fn verdict_stands<T: Told>(
 
 /// Whether the loader of a verdict's class is below a count.
 fn verdict_is_named(verdict: &Verdict, count: usize) -> bool
-    ensures { MatchBool result (VerdictNames count verdict.now) (VerdictNames count verdict.now → ⊥) }
+    ensures { Decides result (VerdictNames count verdict.now) }
 {
     match verdict {
         Verdict::Class(class) => (class.loader.0 as usize) < count,
@@ -177,7 +177,7 @@ fn verdict_is_named(verdict: &Verdict, count: usize) -> bool
 
 /// Whether the loader of an answer is below a count, if it names one.
 fn is_named(answer: &Answer, count: usize) -> bool
-    ensures { MatchBool result (AnswerNames count answer.now) (AnswerNames count answer.now → ⊥) }
+    ensures { Decides result (AnswerNames count answer.now) }
 {
     match answer {
         Answer::Said(verdict) => verdict_is_named(verdict, count),
@@ -188,7 +188,7 @@ fn is_named(answer: &Answer, count: usize) -> bool
 
 /// Whether what an answer rests on stands in the tables.
 fn answer_stands<T: Told>(tables: &Rows<T>, config: &Config, finding: &Finding<T>) -> bool
-    ensures { (x : Shown) → x.config ≡ config.now → IsTableOf (λ l n. option_map (λ r. r.value.class.loader) (row_at tables.now.items l n)) x → MatchBool result (AnswerBacked x finding.now finding.now.answer) (AnswerBacked x finding.now finding.now.answer → ⊥) }
+    ensures { DecidesIn config.now (placed (λ r. r.value) (row_at tables.now.items)) result (λ x. AnswerBacked x finding.now finding.now.answer) }
 {
     match finding.answer() {
         Answer::Said(verdict) => {
@@ -201,7 +201,7 @@ fn answer_stands<T: Told>(tables: &Rows<T>, config: &Config, finding: &Finding<T
 
 /// Whether what a finding rests on stands in the tables, and its loaders are those of the configuration.
 pub fn backs<T: Told>(tables: &Rows<T>, config: &Config, finding: &Finding<T>) -> bool
-    ensures { (x : Shown) → x.config ≡ config.now → IsTableOf (λ l n. option_map (λ r. r.value.class.loader) (row_at tables.now.items l n)) x → MatchBool result (IsBacked x finding.now) (IsBacked x finding.now → ⊥) }
+    ensures { DecidesIn config.now (placed (λ r. r.value) (row_at tables.now.items)) result (λ x. IsBacked x finding.now) }
 {
     let Request::Load(loader, _) = finding.request();
     let count = config.count();

@@ -129,8 +129,9 @@ fn end_at<T: Told>(request: &Request, path: &Path<T>, end: Obstacle<T>) -> End
         Obstacle::Circle(home) => {
             // brings that the search led there, where a content is told
             let _ = home.config();
+            let class = class_of(home);
             End {
-                verdict: Verdict::Error(ErrorKind::ClassCircularityError, class_of(home)),
+                verdict: Verdict::Error(ErrorKind::ClassCircularityError, class),
                 misfit: None,
             }
         }

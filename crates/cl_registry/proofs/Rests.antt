@@ -135,8 +135,8 @@ module _ (content : Content) (r : Request) (p : Pathed) (for : IsFor r p) (path 
       let own : home w h.place h.name ≡ Some h.place = subst (λ (n : List ℕ). home w h.place n ≡ Some h.place) (sym sought.name) (home_of_home w (at_loader p) h.place (at_name p) found) in
       let bad : classes.file_of w c ≡ Err e = file_found w c h.bytes own stored ∙ wrong_read h fault c refl wrong in
       faulty_ends w s (request_of r) ClassNotFound (frames_of p) (at_loader p) h.place (at_name p) e closed (under s (met_split s (kept_of (frames_of p)) [] met).0) found
-          (subst (λ (n : List ℕ). classes.is_among (path_of [] (frames_of p)) (class n h.place) ≡ false) sought.name (path_scanned (frames_of p) c ∙ new))
-          (subst (λ (n : List ℕ). classes.file_of w (class n h.place) ≡ Err e) sought.name bad)
+      (subst (λ (n : List ℕ). classes.is_among (path_of [] (frames_of p)) (class n h.place) ≡ false) sought.name (path_scanned (frames_of p) c ∙ new))
+      (subst (λ (n : List ℕ). classes.file_of w (class n h.place) ≡ Err e) sought.name bad)
 
   pub circle_rests : (h : Located) → IsSought p h → is_on p (class h.name h.place) ≡ true → LeadsTo (Some content) h.config h.asked h.name (Some h.place)
       → EndsWhere (world_of p.config content) (kept_of (frames_of p) ++ []) (request_of r) (Wrong (ClassCircularity (class h.name h.place)))
@@ -162,10 +162,10 @@ module _ (content : Content) (r : Request) (p : Pathed) (for : IsFor r p) (path 
       let a = pop.2.0 in
       let kept = kept_split s xs x (subst (λ (ys : List Frame). AllKept s ys) split u.kept) in
       misfit_ends w s (request_of r) ClassNotFound xs x (asking u.loader xs) a row.class e closed
-          (record { loader = u.loader; name = u.name; starts = u.starts; frames = pop.0; kept = kept.0 })
-          pop.1 kept.1 pop.2.1 (named ∙ sym pop.2.3)
-          (λ at. record { file = file_of row.file; has_file = spelt_file p.config content row.class row.file at spelt; judged = judged_as last.last (wanted x) a row.class (file_of row.file) e pop.2.1 last.judged })
-          (subst (λ (l : ℕ). recorded s.records l row.class.name ≡ Some row.class.loader) (sym pop.2.2) (subst (λ (n : List ℕ). recorded s.records (at_loader p) n ≡ Some row.class.loader) (sym named) met_of.1.0))
+      (record { loader = u.loader; name = u.name; starts = u.starts; frames = pop.0; kept = kept.0 })
+      pop.1 kept.1 pop.2.1 (named ∙ sym pop.2.3)
+      (λ at. record { file = file_of row.file; has_file = spelt_file p.config content row.class row.file at spelt; judged = judged_as last.last (wanted x) a row.class (file_of row.file) e pop.2.1 last.judged })
+      (subst (λ (l : ℕ). recorded s.records l row.class.name ≡ Some row.class.loader) (sym pop.2.2) (subst (λ (n : List ℕ). recorded s.records (at_loader p) n ≡ Some row.class.loader) (sym named) met_of.1.0))
 
 -- ---- answers
 

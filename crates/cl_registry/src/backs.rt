@@ -80,12 +80,7 @@ fn accepted_stands<T: Told>(tables: &Rows<T>, frame: &Frame<T>, at: usize) -> bo
         None => true,
         Some(above) => match frame.places().get(at) {
             None => true,
-            Some(accepted) => has(
-                tables,
-                frame.draft().class().loader,
-                above.name,
-                *accepted,
-            ),
+            Some(accepted) => has(tables, frame.draft().class().loader, above.name, *accepted),
         },
     }
 }
@@ -155,9 +150,7 @@ fn verdict_stands<T: Told>(
 {
     let Request::Load(loader, name) = finding.request();
     match verdict {
-        Verdict::Class(class) => {
-            class.name == *name && has(tables, *loader, name, class.loader)
-        }
+        Verdict::Class(class) => { class.name == *name && has(tables, *loader, name, class.loader) }
         Verdict::Error(_, _) => match finding.basis() {
             None => false,
             Some(basis) => basis_stands(tables, config, basis),
@@ -191,9 +184,7 @@ fn answer_stands<T: Told>(tables: &Rows<T>, config: &Config, finding: &Finding<T
     ensures { DecidesIn config.now (placed (λ r. r.value) (row_at tables.now.items)) result (λ x. AnswerBacked x finding.now finding.now.answer) }
 {
     match finding.answer() {
-        Answer::Said(verdict) => {
-            verdict_stands(tables, config, finding, verdict)
-        }
+        Answer::Said(verdict) => { verdict_stands(tables, config, finding, verdict) }
         Answer::Memory => true,
         Answer::SourceFault(_, _) => true,
     }

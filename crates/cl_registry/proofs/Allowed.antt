@@ -165,7 +165,7 @@ entered_is_allowed content x d kept draft may fresh =
     let at = draft_at_home x.config content d draft may.config in
     let all = all_accepted content x d.class (supers (file_of d.file)) kept may.above may.fit in
     may_by (setting_of x.config x.script content) (state_of x) d.class (file_of d.file) (recorded_as x d.class.loader (supers (file_of d.file))) (closed_of content x kept) at
-        (spelt_file x.config content d.class d.file at draft.spelt) all.0 all.1 (past_end (λ (a : Above). class a.name (place_in (records_of x) d.class.loader a)) (supers (file_of d.file))) fresh (calm x)
+    (spelt_file x.config content d.class d.file at draft.spelt) all.0 all.1 (past_end (λ (a : Above). class a.name (place_in (records_of x) d.class.loader a)) (supers (file_of d.file))) fresh (calm x)
 
 -- ---- initiating loaders
 

@@ -69,7 +69,7 @@ comes script rounds now c (events.Initiate d loader ∷ h) s fine at = elim (com
   | inl k ↦ elim (recorded_added s.records (record { loader = loader; name = d.name; place = d.loader }) c.loader c.loader c.name k) [
     | inl old ↦ inl old
     | inr new ↦ absurd (none_and_some (recorded s.records loader d.name) d.loader fine.0.1.fresh
-      (subst (λ (l : ℕ). recorded s.records l d.name ≡ Some d.loader) (new.2 ∙ sym new.0) fine.0.0))
+        (subst (λ (l : ℕ). recorded s.records l d.name ≡ Some d.loader) (new.2 ∙ sym new.0) fine.0.0))
   ]
   | inr k ↦ inr k
 ]

@@ -1,9 +1,10 @@
 ghost use Rattle.std.specs.Prelude.{◌≡◌, Some, None};
 ghost use Rattle.std.specs.Option.{option_map};
-ghost use Rattle.cl_registry.specs.Bases.{based};
+ghost use Rattle.cl_model.specs.Classes.{class};
+ghost use Rattle.cl_registry.specs.Bases.{based, misfit_needs};
 ghost use Rattle.cl_model.specs.declared.verdict.Verdict.TheVariants as verdicts;
 ghost use Rattle.cl_model.specs.declared.answer.Answer.TheVariants as answers;
-ghost use Rattle.cl_registry.specs.Findings.{IsFor, Stops, basis_at, kind_of, missing_kind, verdict_at, Rests};
+ghost use Rattle.cl_registry.specs.Findings.{IsFor, Stops, basis_at, kind_of, missing_kind, needs_at, verdict_at, Rests};
 
 use cl_delegation::{Home, Unfound};
 use cl_hierarchy::{ClassRow, DraftFault, Path, Unreadable};
@@ -29,9 +30,9 @@ pub enum Obstacle<T: Told> {
 #[derive(Drop)]
 pub(crate) struct Basis<T: Told> {
     /// The classes that were being derived, with the supertypes that each had accepted.
-    path: Path<T>,
+    pub(crate) path: Path<T>,
     /// Which loader defined the class that does not fit, if that is the error.
-    misfit: Option<LoaderId>,
+    pub(crate) misfit: Option<LoaderId>,
 }
 
 /// A request and its answer, with what that rests on.
@@ -74,6 +75,78 @@ fn missing_kind<T: Told>(path: &Path<T>) -> ErrorKind
     }
 }
 
+/// The class of a home.
+fn class_of<T: Told>(home: Home<T>) -> Class
+    ensures { result ≡ class home.name home.place }
+{
+    let loader = home.place();
+    Class {
+        name: home.into_name(),
+        loader,
+    }
+}
+
+/// An error, and which loader defined the class that does not fit, if that is the error.
+#[derive(Drop)]
+struct End {
+    verdict: Verdict,
+    misfit: Option<LoaderId>,
+}
+
+/// The error of a request, from its path and what stopped it.
+fn end_at<T: Told>(request: &Request, path: &Path<T>, end: Obstacle<T>) -> End
+    requires path { IsFor request.now path.now }
+    requires stops { Stops path.now end }
+    ensures verdict { result.verdict ≡ verdict_at path.now end }
+    ensures needs { misfit_needs path.now result.misfit ≡ needs_at path.now end }
+    ensures rests { Rests T.told (record { request = request.now; answer = answers.Said result.verdict; basis = Some (based path.now result.misfit) }) }
+{
+    // brings what a path keeps
+    let _ = path.config();
+    match end {
+        Obstacle::Missing(unfound) => {
+            // brings that no loader has the name, where a content is told
+            let _ = unfound.config();
+            let kind = missing_kind(path);
+            let loader = unfound.asked();
+            let name = unfound.into_name();
+            End {
+                verdict: Verdict::Error(kind, Class { name, loader }),
+                misfit: None,
+            }
+        }
+        Obstacle::Unreadable(unreadable) => {
+            let kind = kind_of(unreadable.fault());
+            let home = unreadable.into_home();
+            // brings that the search led there, and that the bytes are the home's, where a content is told
+            let _ = home.config();
+            let _ = home.bytes();
+            End {
+                verdict: Verdict::Error(kind, class_of(home)),
+                misfit: None,
+            }
+        }
+        Obstacle::Circle(home) => {
+            // brings that the search led there, where a content is told
+            let _ = home.config();
+            let class = class_of(home);
+            End {
+                verdict: Verdict::Error(ErrorKind::ClassCircularityError, class),
+                misfit: None,
+            }
+        }
+        Obstacle::Misfit(row, class, kind) => {
+            // brings that the file is what the class's bytes spell, where a content is told
+            let _ = row.class();
+            let misfit = Some(class.loader);
+            End {
+                verdict: Verdict::Error(kind, class),
+                misfit,
+            }
+        }
+    }
+}
+
 impl<T: Told> Finding<T> {
     /// The class that a request loaded, as the tables have it.
     pub fn class(request: Request, class: Class) -> Finding<T>
@@ -94,8 +167,15 @@ impl<T: Told> Finding<T> {
         ensures answer { result.answer ≡ answers.Said (verdict_at path end) }
         ensures basis { result.basis ≡ Some (basis_at path end) }
     {
-        let _ = crate::stub::stub_never();
-        unreachable!()
+        let end = end_at(&request, &path, end);
+        Finding {
+            request,
+            answer: Answer::Said(end.verdict),
+            basis: Some(Basis {
+                path,
+                misfit: end.misfit,
+            }),
+        }
     }
 
     /// Memory ran out.

@@ -4,55 +4,39 @@ ghost use Rattle.cl_registry.specs.Allowed.{AllowedIsEntered, AllowedIsJoined, E
 /// A class that the linkage machine may define has no record and may be entered: `define` refuses it for memory alone.
 pub fn allowed_is_entered()
     ensures { AllowedIsEntered }
-{
-    let _ = crate::stub::stub_never();
-}
+{}
 
 /// A class that has no record and may be entered may be defined by the linkage machine.
 pub fn entered_is_allowed()
     ensures { EnteredIsAllowed }
-{
-    let _ = crate::stub::stub_never();
-}
+{}
 
 /// A home by which the linkage machine may record an initiating loader may be joined: `initiate` refuses it for memory alone.
 pub fn allowed_is_joined()
     ensures { AllowedIsJoined }
-{
-    let _ = crate::stub::stub_never();
-}
+{}
 
 /// A home that may be joined, where the loader has no record, is one by which the linkage machine may record that loader.
 pub fn joined_is_allowed()
     ensures { JoinedIsAllowed }
-{
-    let _ = crate::stub::stub_never();
-}
+{}
 
 /// An answer that fits and rests on the content may be posted by the linkage machine.
 pub fn fitting_is_allowed()
     ensures { FittingIsAllowed }
-{
-    let _ = crate::stub::stub_never();
-}
+{}
 
 /// Where the next round may begin, the linkage machine may go on.
 pub fn round_is_allowed()
     ensures { RoundIsAllowed }
-{
-    let _ = crate::stub::stub_never();
-}
+{}
 
 /// A class whose home was found under another configuration is strayed.
 pub fn other_config_is_stray()
     ensures { OtherConfigIsStray }
-{
-    let _ = crate::stub::stub_never();
-}
+{}
 
 /// What is recorded was defined by a loader of the configuration, under any source.
 pub fn recorded_is_named()
     ensures { RecordedIsNamed }
-{
-    let _ = crate::stub::stub_never();
-}
+{}

@@ -2,6 +2,7 @@
 //! (JVMS SE 8, 5.3).
 #![tactic(auto)]
 
+mod backs;
 mod entries;
 pub mod finding;
 mod fits;
@@ -9,8 +10,6 @@ pub mod laws;
 pub mod registry;
 pub mod report;
 mod rounds;
-mod same;
-mod stub;
 mod tables;
 
 pub use finding::{Finding, Obstacle};

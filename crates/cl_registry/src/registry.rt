@@ -6,11 +6,11 @@ ghost use Rattle.cl_registry.specs.Refusals.{DefineRefusedFor, InitiateRefusedFo
 ghost use Rattle.cl_registry.specs.Reports.{IsNamed, IsReport, IsUnfinished};
 
 use crate::entries::{asked_row, defined_row, has_supers, join, own_row, record};
+use crate::backs::{backs, count_down, is_asked, is_open, put_answer};
 use crate::finding::Finding;
 use crate::fits::supertypes_fit;
 use crate::report::{Answers, History, Report};
 use crate::rounds::{collect, counts_of, rooms_for, to_come};
-use crate::same::{same_config, same_script};
 use crate::tables::{Rows, empty_rows, find};
 use cl_config::{Config, Script};
 use cl_delegation::Home;
@@ -139,7 +139,7 @@ impl<T: Told> Registry<T> {
     pub fn serves(&self, config: &Config, script: &Script) -> bool
         ensures { MatchBool result ((config.now ≡ self.now.config) × (script.now ≡ self.now.script)) ((config.now ≡ self.now.config) × (script.now ≡ self.now.script) → ⊥) }
     {
-        same_config(config, &self.config) && same_script(script, &self.script)
+        config.is_same(&self.config) && script.is_same(&self.script)
     }
 
     /// The class that a loader has recorded for a name (JVMS SE 8, 5.3).
@@ -251,8 +251,36 @@ impl<T: Told> Registry<T> {
         ensures unchanged { IfErr result (λ e. (self.new ≡ self.old) × (e.finding ≡ finding)) }
         ensures kept { IsKept T.told self.new }
     {
-        let _ = crate::stub::stub_never();
-        unreachable!()
+        if !is_asked(self.script.requests(), q, finding.request()) {
+            return Err(PostRefused {
+                fault: RegistryFault::Stray,
+                finding,
+            });
+        }
+        let round = self.script.round_of(q as usize);
+        if round > self.round {
+            return Err(PostRefused {
+                fault: RegistryFault::NotYet,
+                finding,
+            });
+        }
+        if !is_open(&self.answers, q) {
+            return Err(PostRefused {
+                fault: RegistryFault::AlreadyPosted,
+                finding,
+            });
+        }
+        if !backs(&self.tables, &self.config, &finding) {
+            return Err(PostRefused {
+                fault: RegistryFault::Stray,
+                finding,
+            });
+        }
+        put_answer(&mut self.answers, q, finding.into_answer());
+        count_down(&mut self.unanswered, round);
+        self.left -= 1;
+        self.history.push_reserved(Event::Post(q));
+        Ok(())
     }
 
     /// Begins the next round, once each request of this one has its answer, and answers its number.
@@ -306,7 +334,7 @@ impl<T: Told> Registry<T> {
     fn may_enter(&self, draft: &Draft<T>) -> bool
         ensures { MatchBool result (MayEnter self.now draft.now) (MayEnter self.now draft.now → ⊥) }
     {
-        if !same_config(draft.home().config(), &self.config)
+        if !draft.home().config().is_same(&self.config)
             || draft.class().loader.0 as usize >= self.config.count()
         {
             return false;
@@ -324,7 +352,7 @@ impl<T: Told> Registry<T> {
         ensures leads { LeadsTo T.told home.now.config home.now.asked home.now.name (Some home.now.place) }
         ensures within { home.now.place < length home.now.config.loaders }
     {
-        if !same_config(home.config(), &self.config)
+        if !home.config().is_same(&self.config)
             || home.asked().0 as usize >= self.config.count()
         {
             return None;

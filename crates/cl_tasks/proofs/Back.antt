@@ -126,7 +126,7 @@ error_backed x r kind c p needs root within config h met = record {
   answer = (config, met_both (state_of x) (kept_of (frames_of p)) needs ((kept_is_met (state_of x) (frames_of p)).1 (all_kept x (frames_of p) h)) met);
 }
 
-misfit_met : (x : Shown) (p : Pathed) (row : Rowed) (c : Class) → row.class ≡ c → c.name ≡ at_name p → IsRecordedAs x (at_loader p) (at_name p) row → AllMet (state_of x) (Entry (at_loader p) c.name c.loader ∷ [])
+pub misfit_met : (x : Shown) (p : Pathed) (row : Rowed) (c : Class) → row.class ≡ c → c.name ≡ at_name p → IsRecordedAs x (at_loader p) (at_name p) row → AllMet (state_of x) (Entry (at_loader p) c.name c.loader ∷ [])
 misfit_met x p row c is name told =
     (subst (λ (n : Name). recorded (records_of x) (at_loader p) n ≡ Some c.loader) (sym name) (told.recorded ∙ ap (λ (k : Class). Some k.loader) is), tt)
 

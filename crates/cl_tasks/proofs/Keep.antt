@@ -151,16 +151,16 @@ framed_other : (P : Frame → Type 0) (xs : List Framed) (x y : Framed) → AllB
 framed_other P [] x y h k = (k, tt)
 framed_other P (z ∷ zs) x y h k = (h.0, framed_other P zs x y h.1 k)
 
-framed_last : (P : Frame → Type 0) (xs : List Framed) (x : Framed) → AllByRecursion P (map frame_of (xs ++ x ∷ [])) → P (frame_of x)
+pub framed_last : (P : Frame → Type 0) (xs : List Framed) (x : Framed) → AllByRecursion P (map frame_of (xs ++ x ∷ [])) → P (frame_of x)
 framed_last P [] x h = h.0
 framed_last P (z ∷ zs) x h = framed_last P zs x h.1
 
-framed_first : (P : Frame → Type 0) (xs : List Framed) (x : Framed) → AllByRecursion P (map frame_of (xs ++ x ∷ [])) → AllByRecursion P (map frame_of xs)
+pub framed_first : (P : Frame → Type 0) (xs : List Framed) (x : Framed) → AllByRecursion P (map frame_of (xs ++ x ∷ [])) → AllByRecursion P (map frame_of xs)
 framed_first P [] x h = tt
 framed_first P (z ∷ zs) x h = (h.0, framed_first P zs x h.1)
 
 -- what was told holds of the frames that are split so
-split_have : (x : Shown) (p : Pathed) (before : List Framed) (last : Framed) → p.frames ≡ before ++ last ∷ [] → AllHave x (frames_of p) → AllHave x (map frame_of (before ++ last ∷ []))
+pub split_have : (x : Shown) (p : Pathed) (before : List Framed) (last : Framed) → p.frames ≡ before ++ last ∷ [] → AllHave x (frames_of p) → AllHave x (map frame_of (before ++ last ∷ []))
 split_have x p before last split h = subst (λ (xs : List Framed). AllHave x (map frame_of xs)) split h
 
 -- ---- what each change of a path keeps

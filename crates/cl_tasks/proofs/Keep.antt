@@ -98,7 +98,7 @@ pub record Top (p : Pathed) (before : List Framed) (last : Framed) : Type 0 wher
   pub frames : frames_of p ≡ map frame_of before ++ frame_of last ∷ []
   pub stands : Stands p.config (asking p.loader (map frame_of before)) (sought p.name before) last
 
-some_of : (o : Option Above) → IsSome o → (a : Above) × (o ≡ Some a)
+pub some_of : (o : Option Above) → IsSome o → (a : Above) × (o ≡ Some a)
 some_of None h = absurd cc
 some_of (Some a) h = (a, refl)
 

@@ -28,6 +28,7 @@ use Rattle.cl_registry.specs.Allowed.{RecordedIsNamed}
 use Rattle.cl_registry.specs.Findings.{Based, Answered, loader_of, name_of, IsFor, IsSought, Stops, verdict_at, basis_at, needs_at}
 use Rattle.cl_registry.specs.Tables.{Shown, state_of, records_of, looked, NamesLoaders, MayEnter, MayJoin, IsBacked}
 use Rattle.cl_tasks.specs.Follows.{IsRecordedAs}
+use Rattle.cl_tasks.specs.Steps.{EndWithin, EndTold}
 use Rattle.cl_tasks.proofs.Keep.{AllHave, RowFits, top_of, all_last, completes_whole, whole_recorded, whole_fits, all_kept}
 
 -- ---- a class may be entered
@@ -102,20 +103,6 @@ backs_class x r p row law named for alone within told =
       names = law x (at_loader p) row.class.loader (at_name p) named told.recorded;
       answer = (told.named ∙ name, subst (λ (l : ℕ). recorded (records_of x) l (name_of r) ≡ Some row.class.loader) loader (subst (λ (n : Name). recorded (records_of x) (at_loader p) n ≡ Some row.class.loader) name told.recorded));
     }
-
--- the home that an obstacle names is a loader of the configuration
-abbrev pub EndWithin : {A : Type 0} → ℕ → Obstacle A → Type 0
-EndWithin count (Missing u) = Unit {0}
-EndWithin count (Unreadable u) = u.home.place < count
-EndWithin count (Circle h) = h.place < count
-EndWithin count (Misfit row c kind) = Unit {0}
-
--- the class that does not fit is recorded where it was asked for
-abbrev pub EndTold : {A : Type 0} → Shown → Pathed → Obstacle A → Type 0
-EndTold x p (Missing u) = Unit {0}
-EndTold x p (Unreadable u) = Unit {0}
-EndTold x p (Circle h) = Unit {0}
-EndTold x p (Misfit row c kind) = IsRecordedAs x (at_loader p) (at_name p) row.value
 
 -- what an error rests on stands, and its subject's loader is one of the configuration
 error_backed : (x : Shown) (r : Request) (kind : ErrorKind) (c : Class) (p : Pathed) (needs : List Need) → loader_of r < length x.config.loaders → c.loader < length x.config.loaders → p.config ≡ x.config → AllHave x (frames_of p) → AllMet (state_of x) needs

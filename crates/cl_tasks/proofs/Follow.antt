@@ -44,7 +44,8 @@ use Rattle.cl_registry.specs.Findings.{Based, Answered, loader_of, name_of, IsFo
 use Rattle.cl_registry.specs.Tables.{Shown, state_of, records_of}
 use Rattle.cl_tasks.specs.Follows.{IsRecordedAs, ServedIn, AnswerFollows}
 use Rattle.cl_tasks.proofs.Keep.{Has, AllHave, Top, top_of, takes, split_have, framed_first, framed_last, frame_kept, all_kept}
-use Rattle.cl_tasks.proofs.Back.{EndTold, misfit_met}
+use Rattle.cl_tasks.specs.Steps.{EndTold}
+use Rattle.cl_tasks.proofs.Back.{misfit_met}
 
 -- ---- the file of a class
 

@@ -62,12 +62,23 @@ abbrev pub FindsHome : {A : Type 0} → Pathed → Located → Option A → (A �
 FindsHome p h None of x = HoldsOn p x
 FindsHome p h (Some row) of x = FindsAt p h.place (of row) x
 
--- what an answer rests on where a derivation is stopped: a class that does not fit is recorded (5.3, 5.3.5)
+-- the home that an obstacle names is one of so many loaders (5.3.2)
+abbrev pub EndWithin : {A : Type 0} → ℕ → Obstacle A → Type 0
+EndWithin count (Missing u) = Unit {0}
+EndWithin count (Unreadable u) = u.home.place < count
+EndWithin count (Circle h) = h.place < count
+EndWithin count (Misfit row c kind) = Unit {0}
+
+-- a class that does not fit is recorded where it was asked for (5.3)
+abbrev pub EndTold : {A : Type 0} → Shown → Pathed → Obstacle A → Type 0
+EndTold x p (Missing u) = Unit {0}
+EndTold x p (Unreadable u) = Unit {0}
+EndTold x p (Circle h) = Unit {0}
+EndTold x p (Misfit row c kind) = IsRecordedAs x (at_loader p) (at_name p) row.value
+
+-- what an answer rests on where a derivation is stopped (5.3, 5.3.5)
 abbrev pub EndsOn : {A : Type 0} → Pathed → Obstacle A → Shown → Type 0
-EndsOn p (Missing u) x = HoldsOn p x
-EndsOn p (Unreadable u) x = HoldsOn p x
-EndsOn p (Circle h) x = HoldsOn p x
-EndsOn p (Misfit row c kind) x = Finds p row.value x
+EndsOn p end x = HoldsOn p x × EndTold x p end
 
 -- the search is for what is looked for (5.3.2)
 pub record Seeks {A : Type 0} (j : Job A) (s : Searched) : Type 0 where
@@ -97,12 +108,16 @@ ReadsNothing (turn.Define d) = Unit {0}
 ReadsNothing (turn.Initiate h) = Unit {0}
 ReadsNothing (turn.Post f) = Unit {0}
 
+-- memory ran out (own choice)
+abbrev pub memory_ends : {A : Type 0} → Job A → Next A
+memory_ends j = record { stage = Done j.q; turn = turn.Post (record { request = j.request; answer = answers.Memory; basis = None }) }
+
 -- the home of this draft waits (5.3.5, step 5)
 abbrev pub IsDefining : {A : Type 0} → Job A → Drafted → Stage A → Type 0
 IsDefining j d (Defining k h) = (k ≡ j) × (h.value ≡ d.home)
 IsDefining j d other = ⊥
 
--- a draft is being defined, or memory ran out (5.3.5, step 5)
+-- a draft is being defined, or memory ran out (5.3.5, step 5; own choice)
 abbrev pub DefinesBy : {A : Type 0} → Job A → Drafted → Stage A → Turn A → Type 0
 DefinesBy j d s (turn.Define e) = (e ≡ d) × IsDefining j d s
 DefinesBy j d s (turn.Post f) = (s ≡ Done j.q) × (f ≡ record { request = j.request; answer = answers.Memory; basis = None })

@@ -19,6 +19,7 @@ use crate::stage::{Job, Next, Stage, Turn};
 use cl_delegation::Home;
 use cl_hierarchy::{ClassRow, Draft, DraftRefused};
 use cl_model::{ErrorKind, Told};
+use cl_registry::laws::recorded_is_named;
 use cl_registry::{Finding, Obstacle};
 use std::alloc::Global;
 use std::sync::Arc;
@@ -32,6 +33,8 @@ pub(crate) fn derive<T: Told>(alloc: Global, job: Job<T>, home: Home<T>) -> Next
     ensures no_fault { PostsNoFault result.turn }
     ensures reads { ReadsNothing result.turn }
 {
+    // brings what a home keeps
+    let _ = home.config();
     match Draft::read(alloc, home) {
         Err(DraftRefused::Memory(_)) => out_of_memory(job),
         Err(DraftRefused::Unreadable(unreadable)) => obstacle(
@@ -134,7 +137,10 @@ pub(crate) fn initiate<T: Told>(
     ensures no_fault { PostsNoFault result.turn }
     ensures reads { ReadsNothing result.turn }
 {
-    // the home records its own class alone, where the source tells a content: it told two things
+    // brings what a home keeps, and what a path keeps
+    let _ = home.config();
+    let _ = job.path.at_name();
+    // a home has its own class alone, unless the source told two things: one that tells a content never does
     if row.class().loader != home.place() {
         return out_of_memory(job);
     }
@@ -172,6 +178,8 @@ fn answer<T: Told>(alloc: Global, job: Job<T>, row: &ClassRow<T>) -> Next<T>
     ensures no_fault { PostsNoFault result.turn }
     ensures reads { ReadsNothing result.turn }
 {
+    // brings that what is recorded was defined by a loader of the configuration
+    recorded_is_named();
     match row.class().try_clone(alloc) {
         Err(_) => out_of_memory(job),
         Ok(class) => post(job.q, Finding::class(job.request, class)),
@@ -203,8 +211,9 @@ fn accept<T: Told>(alloc: Global, job: Job<T>, row: &ClassRow<T>) -> Next<T>
     ensures no_fault { PostsNoFault result.turn }
     ensures reads { ReadsNothing result.turn }
 {
-    // brings what the path keeps, and that the row's file is what its bytes spell
-    let _ = (job.path.at_name(), row.class());
+    // brings what a path keeps, and that the row's file is what its bytes spell
+    let _ = job.path.at_name();
+    let _ = row.class();
     let Job {
         q,
         request,

@@ -1,25 +1,25 @@
 //! What any step may lead to: a look, or an answer.
 
-ghost use Rattle.std.specs.Prelude.{◌≡◌};
+ghost use Rattle.std.specs.Prelude.{◌≡◌, length};
 ghost use Rattle.cl_model.specs.declared.answer.Answer.TheVariants as answers;
 ghost use Rattle.cl_registry.specs.Findings.{Stops};
 ghost use Rattle.cl_tasks.specs.Tasks.{left_at};
 ghost use Rattle.cl_tasks.specs.Stages.{IsJob, IsSearch, at_search};
 ghost use Rattle.cl_tasks.specs.Follows.{Posts, PostsNoFault, fault_answer};
-ghost use Rattle.cl_tasks.specs.Steps.{EndsOn, HoldsOn, Leads, ReadsNothing};
+ghost use Rattle.cl_tasks.specs.Steps.{EndWithin, EndsOn, HoldsOn, Leads, ReadsNothing, memory_ends};
 ghost use Rattle.cl_hierarchy.specs.Paths.{frames_of};
 ghost use Rattle.cl_tasks.specs.declared.phase.Phase.TheVariants as phases;
 
 use crate::stage::{Job, Next, Stage, Turn};
 use cl_delegation::Search;
 use cl_model::Told;
+use cl_registry::laws::recorded_is_named;
 use cl_registry::{Finding, Obstacle};
 use cl_source::SourceFault;
 use std::alloc::Global;
 
 pub(crate) fn post<T: Told>(q: u32, finding: Finding<T>) -> Next<T>
-    ensures stage { result.stage ≡ Stage.Done q }
-    ensures turn { result.turn ≡ Turn.Post finding }
+    ensures { result ≡ record { stage = Stage.Done q; turn = Turn.Post finding } }
 {
     Next {
         stage: Stage::Done(q),
@@ -29,6 +29,7 @@ pub(crate) fn post<T: Told>(q: u32, finding: Finding<T>) -> Next<T>
 
 pub(crate) fn out_of_memory<T: Told>(job: Job<T>) -> Next<T>
     requires job { IsJob job.path.config job }
+    ensures ends { result ≡ memory_ends job }
     ensures leads { Leads T.told job 1 (λ x. Unit {0}) result }
     ensures posts { Posts answers.Memory result.turn }
     ensures no_fault { PostsNoFault result.turn }
@@ -59,13 +60,15 @@ pub(crate) fn blame_source<T: Told>(job: Job<T>, search: Search<T>, fault: Sourc
 pub(crate) fn obstacle<T: Told>(job: Job<T>, end: Obstacle<T>) -> Next<T>
     requires job { IsJob job.path.config job }
     requires stops { Stops job.path end }
+    requires within { EndWithin (length job.path.config.loaders) end }
     ensures leads { Leads T.told job 1 (EndsOn job.path end) result }
     ensures no_fault { PostsNoFault result.turn }
     ensures reads { ReadsNothing result.turn }
 {
     let finding = Finding::obstacle(job.request, job.path, end);
-    // brings what a finding rests on
+    // brings what a finding rests on, and that what is recorded was defined by a loader of the configuration
     let _ = finding.answer();
+    recorded_is_named();
     post(job.q, finding)
 }
 

@@ -101,6 +101,8 @@ fn at_home<T: Told>(alloc: Global, job: Job<T>, home: Home<T>) -> Next<T>
             loader: home.place(),
         },
     };
+    // brings what a home keeps
+    let _ = home.config();
     if job.path.has(&class) {
         return obstacle(job, Obstacle::Circle(home));
     }

@@ -1,5 +1,6 @@
 -- What a step leads to, by what it posts, asks and keeps.
-use Rattle.std.proofs.Common.{◌≡◌, ◌∙◌, ◌<◌, ◌≤◌, ◌≢◌, ℕ, List, [], ◌∷◌, length, map, Option, Some, None, refl, sym, ap, subst, arith}
+use Rattle.std.proofs.lemmas.Bool.{eqb-true}
+use Rattle.std.proofs.Common.{◌≡◌, ◌∙◌, ◌<◌, ◌≤◌, ◌≢◌, ℕ, Bool, true, false, not, eqb, List, [], ◌∷◌, length, map, Option, Some, None, refl, sym, ap, subst, arith}
 use Rattle.std.specs.List.{AllByRecursion}
 use Rattle.cl_model.specs.declared.class.Class.{Class}
 use Rattle.cl_model.specs.declared.request.Request.{Request}
@@ -174,3 +175,12 @@ pub leads_define : {A : Type 0} (told : Option Content) (j : Job A) (d : Drafted
     → ((g : Setting) (x : Shown) → ServedIn told j.path.config g (state_of x) → holds x → IsNextNeed g.world (state_of x) (request_of j.request) (Entry d.class.loader d.class.name d.class.loader))
     → (n : Next A) → DefinesBy j d n.stage n.turn → Leads told j room holds n
 leads_define told j d room holds job sought draft more keeps backed follows n h = defining told j d room holds job sought draft more keeps backed follows n.stage n.turn h
+
+-- ---- comparisons
+
+not_false : (b : Bool) → not b ≡ false → b ≡ true
+not_false true h = refl
+not_false false h = absurd cc
+
+pub same_of : (a b : ℕ) → not (eqb a b) ≡ false → a ≡ b
+same_of a b h = eqb-true a b (not_false (eqb a b) h)

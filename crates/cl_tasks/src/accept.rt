@@ -75,19 +75,20 @@ fn descend<T: Told>(alloc: Global, job: Job<T>, draft: Draft<T>) -> Next<T>
     ensures no_fault { PostsNoFault result.turn }
     ensures reads { ReadsNothing result.turn }
 {
+    // brings what a path keeps
+    let _ = job.path.at_name();
     let Job {
         q,
         request,
         mut path,
     } = job;
-    let pushed = path.push(draft);
+    match path.push(draft) {
+        Ok(()) => {}
+        Err(_) => return out_of_memory(Job { q, request, path }),
+    }
     // brings what a path keeps
     let _ = path.at_name();
-    let job = Job { q, request, path };
-    match pushed {
-        Ok(()) => look(alloc, job),
-        Err(_) => out_of_memory(job),
-    }
+    look(alloc, Job { q, request, path })
 }
 
 /// Asks for the record of a class with its home.
@@ -219,13 +220,15 @@ fn accept<T: Told>(alloc: Global, job: Job<T>, row: &ClassRow<T>) -> Next<T>
         request,
         mut path,
     } = job;
-    let accepted = path.accept(row);
+    let accepted = match path.accept(row) {
+        Err(_) => return out_of_memory(Job { q, request, path }),
+        Ok(accepted) => accepted,
+    };
     // brings what a path keeps
     let _ = path.at_name();
     let job = Job { q, request, path };
     match accepted {
-        Err(_) => out_of_memory(job),
-        Ok(None) => look(alloc, job),
-        Ok(Some(draft)) => define(job, draft),
+        None => look(alloc, job),
+        Some(draft) => define(job, draft),
     }
 }

@@ -1,6 +1,6 @@
 -- What a step leads to where a path grows, goes on or loses its last class.
 use Rattle.std.proofs.Common.{◌≡◌, ◌≢◌, ◌∙◌, ◌<◌, ◌≤◌, ◌+◌, ◌*◌, ℕ, false, List, [], ◌∷◌, ◌++◌, length, map, Option, Some, None, refl, sym, ap, subst, slice_get, arith}
-use Rattle.std.specs.Prelude.{IsSome}
+use Rattle.std.specs.Prelude.{IsSome, MatchOption}
 use Rattle.std.specs.List.{AllByRecursion}
 use Rattle.cl_classfile.specs.Files.{file_of}
 use Rattle.cl_model.specs.declared.class.Class.{Class}
@@ -131,3 +131,16 @@ leads_complete told j k row d job onward number request path spelt fits step n h
     subst (λ (q : ℕ). LeadsOn told j.path.config q j.request (left_at phases.Initiating (frames_of j.path) 0) (Finds j.path row) n) number
     (subst (λ r. LeadsOn told j.path.config k.q r (left_at phases.Initiating (frames_of j.path) 0) (Finds j.path row) n) request
     (subst (λ (c : Configured). LeadsOn told c k.q k.request (left_at phases.Initiating (frames_of j.path) 0) (Finds j.path row) n) config m))
+
+-- ---- what accepting answers
+
+pub accepts_next : (old new : Pathed) (place : ℕ) (o : Option Drafted) → o ≡ None → MatchOption o (Accepts old new place) (λ d. Completes old new place d) → Accepts old new place
+accepts_next old new place o e h = subst (λ (k : Option Drafted). MatchOption k (Accepts old new place) (λ d. Completes old new place d)) e h
+
+pub accepts_last : (old new : Pathed) (place : ℕ) (o : Option Drafted) (d : Drafted) → o ≡ Some d → MatchOption o (Accepts old new place) (λ d. Completes old new place d) → Completes old new place d
+accepts_last old new place o d e h = subst (λ (k : Option Drafted). MatchOption k (Accepts old new place) (λ d. Completes old new place d)) e h
+
+-- the job goes on with these frames
+pub job_with : {A : Type 0} (told : Option Content) (j : Job A) (new : Pathed) (xs : List Framed) → IsJob j.path.config j → IsPath told new → new ≡ with_frames j.path xs → IsJob {A = A} new.config (record { q = j.q; request = j.request; path = new })
+job_with told j new xs job path is =
+    job_on told j (record { q = j.q; request = j.request; path = new }) job refl path (ap (λ (p : Pathed). p.config) is) (ap (λ (p : Pathed). p.loader) is) (ap (λ (p : Pathed). p.name) is)

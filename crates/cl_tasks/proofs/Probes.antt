@@ -1,5 +1,5 @@
 -- A search asks loaders of the configuration alone, and no more of them than there are.
-use Rattle.std.proofs.Common.{◌≡◌, ◌∙◌, ◌<◌, ◌≤◌, ◌+◌, ℕ, zero, suc, Bool, true, false, List, [], ◌∷◌, ◌++◌, length, Option, Some, None, refl, sym, ap, subst, slice_get, arith, length-append}
+use Rattle.std.proofs.Common.{◌≡◌, ◌∙◌, ◌<◌, ◌≤◌, ◌+◌, ◌*◌, ◌-◌, lit<, ℕ, zero, suc, Bool, true, false, List, [], ◌∷◌, ◌++◌, length, Option, Some, None, refl, sym, ap, subst, slice_get, arith, length-append}
 use Rattle.std.specs.Prelude.{◌==◌, nat_lt, flat_map, option_map, if◌then◌else◌}
 use Rattle.std.specs.List.{AllByRecursion}
 use Rattle.cl_classfile.specs.Files.{Name}
@@ -8,7 +8,11 @@ use Rattle.cl_config.specs.Views as views
 use Rattle.cl_config.specs.Views.{Configured}
 use Rattle.cl_config.specs.Loaders.{loaders_of, loader_of, parents_of, order_of}
 use Rattle.cl_source.specs.Views.{Found}
-use Rattle.cl_delegation.specs.Searches.{Searched, next_of, next_on, route_of}
+use Rattle.cl_delegation.specs.Searches.{Searched, begun, next_of, next_on, route_of, with_bytes, with_probe}
+use Rattle.cl_model.specs.Frames.{Frame}
+use Rattle.cl_tasks.specs.Tasks.{loading, most, turns, left_at}
+use Rattle.cl_tasks.specs.Steps.{probes_left, reads_on, reads_left}
+use Rattle.cl_tasks.specs.declared.phase.Phase.TheVariants as phases
 use Rattle.cl_delegation.specs.Routes.{in_turn, route_at, routed, route_below, route_from, route}
 
 -- a way goes through the first so many loaders alone, and is no longer
@@ -107,3 +111,58 @@ pub next_within : (s : Searched) (c : Configured) (loader l : ℕ) → s.config 
 next_within s c loader l config asked h e =
     let k = route_within s.config s.loader s.name (length s.absent) l (on_way (route_of s) (length s.absent) s.found l e) in
     omega (arith, k, h, asked)
+
+-- ---- how many reads are left
+
+few_probes : (n : ℕ) → n ≤ 64 → n ≤ most
+unfolding most
+few_probes n h = let k : 64 < 18446744073709551616 = lit< tt in omega arith
+
+-- a search that begins has few loaders to ask
+pub begins_less : (xs : List Frame) (c : Configured) (loader : ℕ) (name : Name) (s : Searched) → s ≡ begun c loader name → loader < length c.loaders → length c.loaders ≤ 64 → left_at phases.Reading xs (reads_left s) ≤ left_at phases.Looking xs 0
+begins_less xs c loader name s is h few =
+    let short = route_short c loader name in
+    let n : probes_left (begun c loader name) ≤ most = few_probes (probes_left (begun c loader name)) (omega (arith, short)) in
+    subst (λ (u : Searched). left_at phases.Reading xs (reads_left u) ≤ left_at phases.Looking xs 0) (sym is) (above (turns * loading xs) most (probes_left (begun c loader name)) n)
+  where
+    above : (a m p : ℕ) → p ≤ m → a + ((p + 1) + 5) ≤ a + (m + 7)
+    above a m p h = omega arith
+
+on_found : (way : List ℕ) (i : ℕ) (found : Option Found) (l : ℕ) (probes : ℕ) → next_on way i found ≡ Some l → reads_on found probes ≡ probes + 1
+on_found way i None l probes e = refl
+on_found way i (Some p) l probes e = absurd cc
+
+-- a search that reads on has one read less
+pub reads_more : (xs : List Frame) (s : Searched) (l : ℕ) → next_of s ≡ Some l → left_at phases.Reading xs (probes_left s) < left_at phases.Reading xs (reads_left s)
+reads_more xs s l e = let k : reads_left s ≡ probes_left s + 1 = on_found (route_of s) (length s.absent) s.found l (probes_left s) e in above (turns * loading xs) (probes_left s) (reads_left s) k
+  where
+    above : (a p r : ℕ) → r ≡ p + 1 → a + (p + 5) < a + (r + 5)
+    above a p r h = omega arith
+
+before_end : (way : List ℕ) (i l : ℕ) → slice_get way i ≡ Some l → i < length way
+before_end [] i l e = absurd cc
+before_end (k ∷ ks) zero l e = omega arith
+before_end (k ∷ ks) (suc i) l e = let h = before_end ks i l e in omega arith
+
+none_found : (way : List ℕ) (i : ℕ) (found : Option Found) (l : ℕ) → next_on way i found ≡ Some l → found ≡ None
+none_found way i None l e = refl
+none_found way i (Some p) l e = absurd cc
+
+-- a probe leaves one read less
+pub takes_less : (s : Searched) (p : Found) (l : ℕ) → next_of s ≡ Some l → reads_left (with_probe s p) ≤ probes_left s
+takes_less s p l e = step p.bytes
+  where
+    step : (o : Option (List ℕ)) → reads_left (with_bytes s p o) ≤ probes_left s
+    step (Some bytes) = omega arith
+    step None =
+      let f : s.found ≡ None = none_found (route_of s) (length s.absent) s.found l e in
+      let h = before_end (route_of s) (length s.absent) l (on_way (route_of s) (length s.absent) s.found l e) in
+      let k : reads_on s.found (length (route_of s) - length (s.absent ++ p ∷ [])) ≡ (length (route_of s) - length (s.absent ++ p ∷ [])) + 1 = ap (λ (o : Option Found). reads_on o (length (route_of s) - length (s.absent ++ p ∷ []))) f in
+      let n = length-append s.absent (p ∷ []) in
+      omega (arith, h, k, n)
+
+pub reads_fewer : (xs : List Frame) (s new : Searched) (p : Found) (l : ℕ) → next_of s ≡ Some l → new ≡ with_probe s p → left_at phases.Reading xs (reads_left new) ≤ left_at phases.Reading xs (probes_left s)
+reads_fewer xs s new p l e is = subst (λ (u : Searched). left_at phases.Reading xs (reads_left u) ≤ left_at phases.Reading xs (probes_left s)) (sym is) (above (turns * loading xs) (reads_left (with_probe s p)) (probes_left s) (takes_less s p l e))
+  where
+    above : (a p q : ℕ) → p ≤ q → a + (p + 5) ≤ a + (q + 5)
+    above a p q h = omega arith

@@ -1,11 +1,12 @@
 -- What a step of a task leads to, and what it rests on (JVMS SE 8, 5.3.5).
-use Rattle.std.specs.Prelude.{◌≡◌, ◌<◌, ◌-◌, ℕ, [], length, Option, Some, None, IfSome}
+use Rattle.std.specs.Prelude.{◌≡◌, ◌<◌, ◌+◌, ◌-◌, ℕ, [], length, Option, Some, None, IfSome}
 use Rattle.std.specs.List.{AllByRecursion}
 use Rattle.cl_model.specs.declared.request.Request.{Request}
 use Rattle.cl_model.specs.declared.answer.Answer.TheVariants as answers
 use Rattle.cl_model.specs.Classes.{supers}
 use Rattle.cl_model.specs.Content.{Content}
 use Rattle.cl_config.specs.Views.{Configured}
+use Rattle.cl_source.specs.Views.{Found}
 use Rattle.cl_delegation.specs.Searches.{Searched, Located, route_of}
 use Rattle.cl_hierarchy.specs.Drafts.{Drafted}
 use Rattle.cl_hierarchy.specs.Rows.{Rowed}
@@ -89,6 +90,15 @@ pub record Seeks {A : Type 0} (j : Job A) (s : Searched) : Type 0 where
 -- how many probes a search has left at most (5.3.2)
 abbrev pub probes_left : Searched → ℕ
 probes_left s = length (route_of s) - length s.absent
+
+-- how many reads a search has left at most, and one more unless bytes were found (5.3.2)
+abbrev pub reads_on : Option Found → ℕ → ℕ
+reads_on None probes = probes + 1
+reads_on (Some p) probes = 0
+
+-- the same of a search
+abbrev pub reads_left : Searched → ℕ
+reads_left s = reads_on s.found (probes_left s)
 
 -- the configuration that a stage goes by
 abbrev pub config_of : {A : Type 0} → Stage A → Configured

@@ -1,13 +1,13 @@
 //! From a look that found no record to the home of what is looked for.
 
-ghost use Rattle.std.specs.Prelude.{◌≡◌, ◌+◌, ◌<◌, Some, IfOk, length};
+ghost use Rattle.std.specs.Prelude.{◌≡◌, ◌<◌, Some, IfOk, length};
 ghost use Rattle.cl_delegation.specs.Searches.{begun, next_of};
 ghost use Rattle.cl_hierarchy.specs.Paths.{at_loader, at_name, frames_of};
 ghost use Rattle.cl_registry.specs.Findings.{IsSought};
 ghost use Rattle.cl_tasks.specs.Tasks.{left_at};
 ghost use Rattle.cl_tasks.specs.Stages.{IsJob, IsHoming};
 ghost use Rattle.cl_tasks.specs.Follows.{PostsNoFault};
-ghost use Rattle.cl_tasks.specs.Steps.{FindsHome, HoldsOn, Leads, ReadsNothing, Seeks, probes_left};
+ghost use Rattle.cl_tasks.specs.Steps.{FindsHome, HoldsOn, Leads, ReadsNothing, Seeks, probes_left, reads_left};
 ghost use Rattle.cl_tasks.specs.declared.phase.Phase.TheVariants as phases;
 
 use crate::accept::{derive, initiate};
@@ -27,6 +27,8 @@ pub(crate) fn begin_search<T: Told>(alloc: Global, job: Job<T>) -> Next<T>
     ensures leads { Leads T.told job (left_at phases.Looking (frames_of job.path) 0) (HoldsOn job.path) result }
     ensures no_fault { PostsNoFault result.turn }
 {
+    // brings that there are few loaders
+    let _ = job.path.config().count();
     match search_for(alloc, &job) {
         Err(_) => out_of_memory(job),
         Ok(search) => pursue(alloc, job, search),
@@ -68,7 +70,7 @@ pub(crate) fn take_probe<T: Told>(
 fn pursue<T: Told>(alloc: Global, job: Job<T>, search: Search<T>) -> Next<T>
     requires job { IsJob job.path.config job }
     requires search { Seeks job search }
-    ensures leads { Leads T.told job (left_at phases.Reading (frames_of job.path) (probes_left search + 1)) (HoldsOn job.path) result }
+    ensures leads { Leads T.told job (left_at phases.Reading (frames_of job.path) (reads_left search)) (HoldsOn job.path) result }
     ensures no_fault { PostsNoFault result.turn }
 {
     match search.next_probe() {
@@ -129,6 +131,8 @@ pub(crate) fn take_look<T: Told>(
     ensures no_fault { PostsNoFault result.turn }
     ensures reads { ReadsNothing result.turn }
 {
+    // brings what a path keeps
+    let _ = job.path.at_name();
     match row {
         None => derive(alloc, job, home),
         Some(row) => match Arc::new(alloc, home) {

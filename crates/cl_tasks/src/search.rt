@@ -60,10 +60,10 @@ pub(crate) fn take_probe<T: Told>(
     ensures no_fault { PostsNoFault result.turn }
 {
     let mut search = search;
-    if search.take(probe).is_err() {
-        unreachable!();
+    match search.take(probe) {
+        Ok(()) => pursue(alloc, job, search),
+        Err(_) => unreachable!(),
     }
-    pursue(alloc, job, search)
 }
 
 /// Reads what the search asks next, or goes on with what it ended in.

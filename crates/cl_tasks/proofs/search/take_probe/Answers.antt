@@ -6,7 +6,7 @@ use Rattle.cl_tasks.proofs.Lead.{leads_more}
 use Rattle.cl_tasks.proofs.Probes.{reads_fewer}
 use Rattle.cl_tasks.proofs.search.take_probe.Goals as goal
 
-pub returns-in-Ok-clause-leads : goal.returns-in-Ok-clause-leads
-returns-in-Ok-clause-leads g c =
+pub returns-clause-leads : goal.returns-clause-leads
+returns-clause-leads g c =
     leads_more (left_at phases.Reading (frames_of c.args.job.path) (probes_left c.args.search)) (HoldsOn c.args.job.path) c.pursue.ensures.leads
     (reads_fewer (frames_of c.args.job.path) c.args.search c.take.new.self c.args.probe _ c.requires.next c.in-Ok.ensures.taken) (λ x h. h)

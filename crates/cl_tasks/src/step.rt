@@ -47,7 +47,11 @@ pub(crate) fn step<T: Told>(alloc: Global, stage: Stage<T>, reply: Reply<T>) -> 
             _ => unreachable!(),
         },
         Stage::Looking(job) => match reply {
-            Reply::Looked(Some(row)) => go_on(alloc, job, row),
+            Reply::Looked(Some(row)) => {
+                // brings what a path keeps
+                let _ = job.path.at_name();
+                go_on(alloc, job, row)
+            }
             Reply::Looked(None) => begin_search(alloc, job),
             Reply::Memory => out_of_memory(job),
             _ => unreachable!(),

@@ -1,18 +1,17 @@
 -- The tables bear each turn, as far as the task was told of them.
-use Rattle.std.proofs.Common.{◌≡◌, ◌∙◌, ◌<◌, ℕ, List, [], ◌∷◌, ◌++◌, length, map, Option, Some, None, refl, sym, ap, subst, slice_get}
-use Rattle.std.specs.Prelude.{IsSome, IfSome}
+use Rattle.std.proofs.Common.{◌≡◌, ◌∙◌, ◌<◌, ℕ, List, [], ◌∷◌, ◌++◌, length, Option, Some, None, refl, sym, ap, subst, slice_get}
+use Rattle.std.specs.Prelude.{IsSome}
 use Rattle.std.specs.List.{AllByRecursion}
 use Rattle.cl_classfile.specs.Files.{Name, file_of}
 use Rattle.cl_model.specs.declared.class.Class.{Class}
 use Rattle.cl_model.specs.declared.request.Request.{Request}
 use Rattle.cl_model.specs.declared.verdict.ErrorKind.{ErrorKind}
-use Rattle.cl_model.specs.declared.verdict.Verdict.{Verdict}
 use Rattle.cl_model.specs.declared.verdict.Verdict.TheVariants as verdicts
 use Rattle.cl_model.specs.declared.answer.Answer.{Answer}
 use Rattle.cl_model.specs.declared.answer.Answer.TheVariants as answers
 use Rattle.cl_model.specs.Content.{Content}
-use Rattle.cl_model.specs.Classes.{class, Above, supers, misfit}
-use Rattle.cl_model.specs.States.{State, Need, Entry, recorded, AllMet}
+use Rattle.cl_model.specs.Classes.{class, Above, supers}
+use Rattle.cl_model.specs.States.{Need, Entry, recorded, AllMet}
 use Rattle.cl_model.specs.Frames.{kept_of, wanted}
 use Rattle.cl_model.proofs.Closed.{met_both}
 use Rattle.cl_model.proofs.Stacks.{kept_is_met}
@@ -25,8 +24,8 @@ use Rattle.cl_hierarchy.specs.Paths.{Pathed, frames_of, fresh, at_loader, at_nam
 use Rattle.cl_registry.specs.declared.finding.Obstacle.{Obstacle}
 use Rattle.cl_registry.specs.declared.finding.Obstacle.TheVariants.{Missing, Unreadable, Circle, Misfit}
 use Rattle.cl_registry.specs.Allowed.{RecordedIsNamed}
-use Rattle.cl_registry.specs.Findings.{Based, Answered, loader_of, name_of, IsFor, IsSought, Stops, verdict_at, basis_at, needs_at}
-use Rattle.cl_registry.specs.Tables.{Shown, state_of, records_of, looked, NamesLoaders, MayEnter, MayJoin, IsBacked}
+use Rattle.cl_registry.specs.Findings.{Based, Answered, loader_of, name_of, IsFor, IsSought, Stops, verdict_at, basis_at}
+use Rattle.cl_registry.specs.Tables.{Shown, state_of, records_of, NamesLoaders, MayEnter, MayJoin, IsBacked}
 use Rattle.cl_tasks.specs.Follows.{IsRecordedAs}
 use Rattle.cl_tasks.specs.Steps.{EndWithin, EndTold}
 use Rattle.cl_tasks.proofs.Keep.{AllHave, RowFits, top_of, all_last, completes_whole, whole_recorded, whole_fits, all_kept}

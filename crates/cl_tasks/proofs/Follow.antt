@@ -1,5 +1,5 @@
 -- Each turn is what the plan of its request asks next, where the source tells a content.
-use Rattle.std.proofs.Common.{◌≡◌, ◌∙◌, inl, ℕ, Bool, true, false, List, [], ◌∷◌, ◌++◌, length, map, Option, Some, None, Ok, Err, refl, sym, ap, subst, slice_get}
+use Rattle.std.proofs.Common.{◌≡◌, ◌∙◌, inl, ℕ, Bool, false, List, [], ◌∷◌, ◌++◌, map, Option, Some, None, Ok, Err, refl, sym, ap, subst}
 use Rattle.std.specs.Prelude.{if◌then◌else◌}
 use Rattle.std.specs.List.{AllByRecursion}
 use Rattle.std.proofs.lemmas.Cmp.{nat_eq_equiv, nat_list_eq_equiv}
@@ -17,13 +17,13 @@ use Rattle.cl_model.specs.Homes.{World, home}
 use Rattle.cl_model.specs.Worlds.{seen}
 use Rattle.cl_model.specs.Classes.{class, is_among, same_class, ClassNotFound, Error, NoClassDef, is_own, named, read_found, IsAtHome, HasFile, Above, supers, misfit, Role}
 use Rattle.cl_model.specs.Classes as classes
-use Rattle.cl_model.specs.States.{State, Need, Entry, IsClass, Wrong, recorded, IsRecorded, AllMet}
+use Rattle.cl_model.specs.States.{State, Need, Entry, IsClass, Wrong, recorded, AllMet}
 use Rattle.cl_model.specs.Plans.{Load}
 use Rattle.cl_model.specs.Plans as plans
 use Rattle.cl_model.specs.Machine.{Setting, AnswersPlan, IsClosed}
 use Rattle.cl_model.specs.Service.{IsNextNeed}
-use Rattle.cl_model.specs.Frames.{Frame, wanted, asking, accepting, Judged, Accepts, KeepsAccepted, AllKept, IsFrame, IsFrames, path_of, Under, EndsHere, kept_of}
-use Rattle.cl_model.specs.Views.{request_of, error_of, verdict_of}
+use Rattle.cl_model.specs.Frames.{Frame, wanted, asking, accepting, Judged, Accepts, AllKept, IsFrame, IsFrames, path_of, Under, kept_of}
+use Rattle.cl_model.specs.Views.{request_of, error_of}
 use Rattle.cl_model.proofs.Closed.{met_both}
 use Rattle.cl_model.proofs.Homes.{home_of_home}
 use Rattle.cl_model.proofs.Looks.{recorded_answers}
@@ -40,10 +40,10 @@ use Rattle.cl_hierarchy.specs.Paths as paths
 use Rattle.cl_hierarchy.proofs.Frames.{accepts_one}
 use Rattle.cl_registry.specs.declared.finding.Obstacle.{Obstacle}
 use Rattle.cl_registry.specs.declared.finding.Obstacle.TheVariants.{Missing, Unreadable, Circle, Misfit}
-use Rattle.cl_registry.specs.Findings.{Based, Answered, loader_of, name_of, IsFor, IsSought, Stops, verdict_at, basis_at, needs_at, EndsWhere, ErrorRests, Rests}
+use Rattle.cl_registry.specs.Findings.{Based, Answered, loader_of, name_of, IsFor, IsSought, Stops, verdict_at, basis_at, EndsWhere, Rests}
 use Rattle.cl_registry.specs.Tables.{Shown, state_of, records_of}
 use Rattle.cl_tasks.specs.Follows.{IsRecordedAs, ServedIn, AnswerFollows}
-use Rattle.cl_tasks.proofs.Keep.{Has, AllHave, Top, top_of, takes, split_have, framed_first, framed_last, frame_kept, all_kept}
+use Rattle.cl_tasks.proofs.Keep.{Has, AllHave, top_of, takes, split_have, framed_first, framed_last, frame_kept, all_kept}
 use Rattle.cl_tasks.specs.Steps.{EndTold}
 use Rattle.cl_tasks.proofs.Back.{misfit_met}
 
@@ -199,9 +199,11 @@ follows_initiate told c g x r p h row serves path for config have sought lead ot
     let at : home w (at_loader p) (at_name p) ≡ Some h.place = leads told g s r p serves.content h.config h.asked h.place h.name v serves.told_so sought.config sought.asked sought.name lead in
     let next : IsNextNeed w s (request_of r) (Entry (at_loader p) (at_name p) h.place) =
     defined_is_next w s (request_of r) ClassNotFound (frames_of p) (at_loader p) h.place (at_name p) serves.closed
-    (under g s r p serves.content (frames_of p) (at_loader p) (at_name p) v v.frames (all_kept x (frames_of p) have)) at (recorded.recorded ∙ ap (λ (l : ℕ). Some l) own) (λ e. other (sym e)) in
-    (subst (λ (n : Name). IsNextNeed w s (request_of r) (Entry h.asked n h.place)) (sym sought.name)
-    (subst (λ (l : ℕ). IsNextNeed w s (request_of r) (Entry l (at_name p) h.place)) (sym sought.asked) next), λ e. other (sym e ∙ sought.asked))
+    (under g s r p serves.content (frames_of p) (at_loader p) (at_name p) v v.frames (all_kept x (frames_of p) have)) at (recorded.recorded ∙ ap (λ (l : ℕ). Some l) own) (λ e. other (sym e)) in (
+      subst (λ (n : Name). IsNextNeed w s (request_of r) (Entry h.asked n h.place)) (sym sought.name)
+          (subst (λ (l : ℕ). IsNextNeed w s (request_of r) (Entry l (at_name p) h.place)) (sym sought.asked) next),
+      λ e. other (sym e ∙ sought.asked),
+    )
 
 -- ---- the answer is the plan's
 

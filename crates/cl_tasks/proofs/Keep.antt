@@ -1,11 +1,11 @@
 -- What a task was told stays with its frames: what they accepted is recorded where it was asked for, and fits.
-use Rattle.std.proofs.Common.{◌≡◌, ◌∙◌, ℕ, List, [], ◌∷◌, ◌++◌, length, map, Option, Some, None, refl, sym, ap, subst, slice_get, is_some}
+use Rattle.std.proofs.Common.{◌≡◌, ◌∙◌, ℕ, List, [], ◌∷◌, ◌++◌, length, map, Option, Some, None, refl, sym, ap, subst, slice_get}
 use Rattle.std.specs.Prelude.{IsSome, IfSome}
 use Rattle.std.specs.List.{AllByRecursion}
 use Rattle.cl_classfile.specs.Files.{Name, File, file_of}
 use Rattle.cl_model.specs.declared.class.Class.{Class}
 use Rattle.cl_model.specs.Content.{Content}
-use Rattle.cl_model.specs.Classes.{class, Error, Above, supers, misfit}
+use Rattle.cl_model.specs.Classes.{class, Above, supers, misfit}
 use Rattle.cl_model.specs.States.{recorded}
 use Rattle.cl_model.specs.Frames.{Frame, wanted, asking, accepting, Keeps, KeepsAccepted, AllKept, NamedAs}
 use Rattle.cl_config.specs.Views.{Configured}

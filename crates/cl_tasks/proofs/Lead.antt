@@ -1,6 +1,6 @@
 -- What a step leads to, by what it posts, asks and keeps.
 use Rattle.std.proofs.lemmas.Bool.{eqb-true}
-use Rattle.std.proofs.Common.{◌≡◌, ◌∙◌, ◌<◌, ◌≤◌, ◌≢◌, ℕ, Bool, true, false, not, eqb, List, [], ◌∷◌, length, map, Option, Some, None, refl, sym, ap, subst, arith}
+use Rattle.std.proofs.Common.{◌≡◌, ◌∙◌, ◌<◌, ◌≤◌, ℕ, Bool, true, false, not, eqb, List, [], ◌∷◌, length, map, Option, Some, None, refl, sym, ap, subst, arith}
 use Rattle.std.specs.List.{AllByRecursion}
 use Rattle.cl_model.specs.declared.class.Class.{Class}
 use Rattle.cl_model.specs.declared.request.Request.{Request}
@@ -18,18 +18,17 @@ use Rattle.cl_delegation.specs.Searches.{Located}
 use Rattle.cl_hierarchy.specs.Rows.{Rowed}
 use Rattle.cl_hierarchy.specs.Drafts.{Drafted, IsDraft}
 use Rattle.cl_hierarchy.specs.Frames.{Framed, frame_of}
-use Rattle.cl_hierarchy.specs.Paths.{Pathed, frames_of, at_loader, at_name, name_of, AllStand, IsPath}
-use Rattle.cl_hierarchy.specs.Paths as paths
+use Rattle.cl_hierarchy.specs.Paths.{frames_of, at_name, name_of, AllStand, IsPath}
 use Rattle.cl_model.specs.Frames.{wanted}
 use Rattle.cl_registry.specs.declared.finding.Obstacle.{Obstacle}
 use Rattle.cl_registry.specs.Findings as findings
 use Rattle.cl_registry.specs.Allowed.{RecordedIsNamed}
 use Rattle.cl_registry.specs.Findings.{Answered, IsSought, Stops, loader_of, verdict_at, basis_at, Rests}
-use Rattle.cl_registry.specs.Tables.{Shown, state_of, NamesLoaders, MayEnter, IsBacked}
+use Rattle.cl_registry.specs.Tables.{Shown, state_of, MayEnter}
 use Rattle.cl_tasks.specs.Tasks.{left_at}
 use Rattle.cl_tasks.specs.Stages.{IsJob}
-use Rattle.cl_tasks.specs.Follows.{ServedIn, AnswerFollows, IsRecordedAs}
-use Rattle.cl_tasks.specs.Steps.{LeadsOn, Leads, HoldsOn, FindsAt, Finds, EndWithin, EndTold, EndsOn, DefinesBy, memory_ends}
+use Rattle.cl_tasks.specs.Follows.{ServedIn}
+use Rattle.cl_tasks.specs.Steps.{LeadsOn, Leads, HoldsOn, Finds, EndWithin, EndsOn, DefinesBy, memory_ends}
 use Rattle.cl_tasks.specs.declared.phase.Phase.TheVariants as phases
 use Rattle.cl_tasks.specs.declared.stage.Job.{Job}
 use Rattle.cl_tasks.specs.declared.stage.Next.{Next}

@@ -1,12 +1,12 @@
 -- What a step leads to where a path grows, goes on or loses its last class.
-use Rattle.std.proofs.Common.{◌≡◌, ◌≢◌, ◌∙◌, ◌<◌, ◌≤◌, ◌+◌, ◌*◌, ℕ, false, List, [], ◌∷◌, ◌++◌, length, map, Option, Some, None, refl, sym, ap, subst, slice_get, arith}
+use Rattle.std.proofs.Common.{◌≡◌, ◌≢◌, ◌∙◌, ◌<◌, ◌≤◌, ◌+◌, ◌*◌, ℕ, false, List, [], ◌∷◌, ◌++◌, length, Option, Some, None, refl, sym, ap, subst, slice_get, arith}
 use Rattle.std.specs.Prelude.{IsSome, MatchOption}
 use Rattle.std.specs.List.{AllByRecursion}
 use Rattle.cl_classfile.specs.Files.{file_of}
 use Rattle.cl_model.specs.declared.class.Class.{Class}
 use Rattle.cl_model.specs.Content.{Content}
-use Rattle.cl_model.specs.Classes.{Above, supers, misfit}
-use Rattle.cl_model.specs.Frames.{Frame, wanted, asking}
+use Rattle.cl_model.specs.Classes.{Above, supers}
+use Rattle.cl_model.specs.Frames.{Frame, wanted}
 use Rattle.cl_config.specs.Views.{Configured}
 use Rattle.std.specs.declared.sync.Arc.{Arc}
 use Rattle.std.proofs.Common.{Global}
@@ -14,8 +14,8 @@ use Rattle.cl_delegation.specs.declared.search.Home.{Home}
 use Rattle.cl_delegation.specs.Searches.{LeadsTo}
 use Rattle.cl_hierarchy.specs.Rows.{Rowed}
 use Rattle.cl_hierarchy.specs.Drafts.{Drafted, IsSpelt, IsDraft}
-use Rattle.cl_hierarchy.specs.Frames.{Framed, accepted_of, frame_of, with_place}
-use Rattle.cl_hierarchy.specs.Paths.{Pathed, frames_of, fresh, at_loader, at_name, sought, is_on, with_frame, with_frames, IsPath, Stands, misfit_under, Accepts, Completes}
+use Rattle.cl_hierarchy.specs.Frames.{Framed, accepted_of, frame_of}
+use Rattle.cl_hierarchy.specs.Paths.{Pathed, frames_of, fresh, at_loader, is_on, with_frame, with_frames, IsPath, misfit_under, Accepts, Completes}
 use Rattle.cl_registry.specs.Findings.{IsFor, IsSought}
 use Rattle.cl_registry.specs.Tables.{Shown}
 use Rattle.cl_tasks.specs.Tasks.{loading, most, turns, left_at}
@@ -26,7 +26,7 @@ use Rattle.cl_tasks.specs.declared.stage.Job.{Job}
 use Rattle.cl_tasks.specs.declared.stage.Next.{Next}
 use Rattle.cl_tasks.specs.declared.stage.Stage.TheVariants as stage
 use Rattle.cl_tasks.specs.declared.stage.Turn.TheVariants as turn
-use Rattle.cl_tasks.proofs.Keep.{Top, top_of, all_last, accepts_holds, completes_holds, push_holds}
+use Rattle.cl_tasks.proofs.Keep.{top_of, all_last, accepts_holds, completes_holds, push_holds}
 use Rattle.cl_tasks.proofs.Back.{backs_root, backs_complete, backs_initiate}
 use Rattle.cl_tasks.proofs.Follow.{follows_root, follows_complete, follows_initiate}
 use Rattle.cl_tasks.proofs.Fall.{roots_less, descends_less, accepts_less, completes_less, defined_less}

@@ -1,5 +1,5 @@
 -- A search asks loaders of the configuration alone, and no more of them than there are.
-use Rattle.std.proofs.Common.{◌≡◌, ◌∙◌, ◌<◌, ◌≤◌, ◌+◌, ◌*◌, ◌-◌, lit<, ℕ, zero, suc, Bool, true, false, List, [], ◌∷◌, ◌++◌, length, Option, Some, None, refl, sym, ap, subst, slice_get, arith, length-append}
+use Rattle.std.proofs.Common.{◌≡◌, ◌<◌, ◌≤◌, ◌+◌, ◌*◌, ◌-◌, lit<, ℕ, zero, suc, Bool, true, false, List, [], ◌∷◌, ◌++◌, length, Option, Some, None, refl, sym, ap, subst, slice_get, arith, length-append}
 use Rattle.std.specs.Prelude.{◌==◌, nat_lt, flat_map, option_map, if◌then◌else◌}
 use Rattle.std.specs.List.{AllByRecursion}
 use Rattle.cl_classfile.specs.Files.{Name}
@@ -55,7 +55,7 @@ above_short n earlier (Some l) h = subst (λ (way : List ℕ). IsShort n way) (s
 at_short : (n : ℕ) (name : Name) (earlier : ℕ → List ℕ) (l : views.Loader) → ((k : ℕ) → IsShort n (earlier k)) → IsShort (suc n) (route_at name earlier n (loader_of l))
 at_short n name earlier l h = step (decisive (loader_of l).imports name)
   where
-    step : (o : Option ℕ) → IsShort (suc n) (elim o [ | Some target ↦ earlier target | None ↦ in_turn (order_of l.order) (flat_map earlier (parents_of l.parent)) (n ∷ []) ])
+    step : (o : Option ℕ) → IsShort (suc n) (elim o [ Some target ↦ earlier target | None ↦ in_turn (order_of l.order) (flat_map earlier (parents_of l.parent)) (n ∷ []) ])
     step (Some target) = longer n (earlier target) (h target)
     step None = plus_own n (order_of l.order) (flat_map earlier (parents_of l.parent)) (above_short n earlier l.parent h)
 
@@ -71,7 +71,7 @@ got (l ∷ ls) (suc n) = got ls n
 one_more : (c : Configured) (name : Name) (n loader : ℕ) → ((k : ℕ) → IsShort n (route_below (loaders_of c) name n k)) → IsShort (suc n) (route_below (loaders_of c) name (suc n) loader)
 one_more c name n loader h = step (loader == n)
   where
-    step : (b : Bool) → IsShort (suc n) (elim b [ | true ↦ routed (option_map (route_at name (route_below (loaders_of c) name n) n) (slice_get (loaders_of c) n)) | false ↦ route_below (loaders_of c) name n loader ])
+    step : (b : Bool) → IsShort (suc n) (elim b [ true ↦ routed (option_map (route_at name (route_below (loaders_of c) name n) n) (slice_get (loaders_of c) n)) | false ↦ route_below (loaders_of c) name n loader ])
     step true = subst (λ (o : Option Loader). IsShort (suc n) (routed (option_map (route_at name (route_below (loaders_of c) name n) n) o))) (sym (got c.loaders n)) (taken n name (route_below (loaders_of c) name n) (slice_get c.loaders n) h)
     step false = longer n (route_below (loaders_of c) name n loader) (h loader)
 
@@ -85,7 +85,8 @@ route_is_short c loader name = step (is_java name)
     first : (b : Bool) → IsShort (suc loader) (if b then 0 ∷ [] else [])
     first true = record { short = omega arith; below = (omega arith, tt) }
     first false = none_short (suc loader)
-    step : (b : Bool) → IsShort (suc loader) (elim b [ | true ↦ if nat_lt loader (length (loaders_of c)) then 0 ∷ [] else [] | false ↦ route_from (loaders_of c) name loader ])
+
+    step : (b : Bool) → IsShort (suc loader) (elim b [ true ↦ if nat_lt loader (length (loaders_of c)) then 0 ∷ [] else [] | false ↦ route_from (loaders_of c) name loader ])
     step true = first (nat_lt loader (length (loaders_of c)))
     step false = below_short c name (suc loader) loader
 
@@ -155,11 +156,11 @@ takes_less s p l e = step p.bytes
     step : (o : Option (List ℕ)) → reads_left (with_bytes s p o) ≤ probes_left s
     step (Some bytes) = omega arith
     step None =
-      let f : s.found ≡ None = none_found (route_of s) (length s.absent) s.found l e in
-      let h = before_end (route_of s) (length s.absent) l (on_way (route_of s) (length s.absent) s.found l e) in
-      let k : reads_on s.found (length (route_of s) - length (s.absent ++ p ∷ [])) ≡ (length (route_of s) - length (s.absent ++ p ∷ [])) + 1 = ap (λ (o : Option Found). reads_on o (length (route_of s) - length (s.absent ++ p ∷ []))) f in
-      let n = length-append s.absent (p ∷ []) in
-      omega (arith, h, k, n)
+        let f : s.found ≡ None = none_found (route_of s) (length s.absent) s.found l e in
+        let h = before_end (route_of s) (length s.absent) l (on_way (route_of s) (length s.absent) s.found l e) in
+        let k : reads_on s.found (length (route_of s) - length (s.absent ++ p ∷ [])) ≡ (length (route_of s) - length (s.absent ++ p ∷ [])) + 1 = ap (λ (o : Option Found). reads_on o (length (route_of s) - length (s.absent ++ p ∷ []))) f in
+        let n = length-append s.absent (p ∷ []) in
+        omega (arith, h, k, n)
 
 pub reads_fewer : (xs : List Frame) (s new : Searched) (p : Found) (l : ℕ) → next_of s ≡ Some l → new ≡ with_probe s p → left_at phases.Reading xs (reads_left new) ≤ left_at phases.Reading xs (probes_left s)
 reads_fewer xs s new p l e is = subst (λ (u : Searched). left_at phases.Reading xs (reads_left u) ≤ left_at phases.Reading xs (probes_left s)) (sym is) (above (turns * loading xs) (reads_left (with_probe s p)) (probes_left s) (takes_less s p l e))

@@ -126,11 +126,7 @@ pub(crate) fn take_defined<T: Told>(
 }
 
 /// What is looked for is recorded at its home, which is another loader than the one that was asked: that one is recorded, too.
-pub(crate) fn initiate<T: Told>(
-    job: Job<T>,
-    home: Arc<Home<T>>,
-    row: &ClassRow<T>,
-) -> Next<T>
+pub(crate) fn initiate<T: Told>(job: Job<T>, home: Arc<Home<T>>, row: &ClassRow<T>) -> Next<T>
     requires job { IsJob job.path.config job }
     requires home { IsSought job.path home.value }
     requires other { home.value.place ≢ at_loader job.path }

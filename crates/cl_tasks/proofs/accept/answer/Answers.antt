@@ -1,5 +1,4 @@
-use Rattle.std.proofs.Common.{ap, sym, subst, ◌∙◌, arith}
-use Rattle.cl_registry.specs.Findings.{Answered}
+use Rattle.std.proofs.Common.{sym, subst, ◌∙◌, arith}
 use Rattle.cl_hierarchy.specs.Paths.{frames_of}
 use Rattle.cl_tasks.specs.Steps.{Leads, Finds}
 use Rattle.cl_tasks.specs.Tasks.{left_at}

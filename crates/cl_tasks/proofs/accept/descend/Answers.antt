@@ -9,8 +9,8 @@ look-requires g c =
     let pushed = c.in-Ok.ensures.pushed in
     record {
       job =
-        job_on g.T.Told.told c.args.job _ c.requires.job refl c.at_name-2.ensures.path (ap (λ (p : Pathed). p.config) pushed)
-        (ap (λ (p : Pathed). p.loader) pushed) (ap (λ (p : Pathed). p.name) pushed);
+          job_on g.T.Told.told c.args.job _ c.requires.job refl c.at_name-2.ensures.path (ap (λ (p : Pathed). p.config) pushed)
+          (ap (λ (p : Pathed). p.loader) pushed) (ap (λ (p : Pathed). p.name) pushed);
     }
 
 pub returns-clause-leads : goal.returns-clause-leads

@@ -12,4 +12,4 @@ pub returns-in-Ok-clause-leads : goal.returns-in-Ok-clause-leads
 returns-in-Ok-clause-leads g c =
     leads_more (left_at phases.Looking (frames_of c.args.job.path) 0) (HoldsOn c.args.job.path) c.pursue.ensures.leads
     (begins_less (frames_of c.args.job.path) c.args.job.path.config _ _ c.in-Ok.search c.in-Ok.ensures c.requires.job.loader
-     (subst (λ (k : Configured). length k.loaders ≤ 64) (c.deref.ensures ∙ c.config.ensures.config) c.count.ensures.config.few)) (λ x h. h)
+    (subst (λ (k : Configured). length k.loaders ≤ 64) (c.deref.ensures ∙ c.config.ensures.config) c.count.ensures.config.few)) (λ x h. h)

@@ -19,6 +19,6 @@ returns-clause-leads g c =
     let k : left_at phases.Defining (frames_of c.args.job.path) 0 < left_at phases.Homing (frames_of c.args.job.path) 0 = roots_less g.T.Told.told c.args.job.path phases.Homing 0 0 c.at_name.ensures.path tt in
     leads_more (left_at phases.Homing (frames_of c.args.job.path) 0) (FindsHome c.args.job.path c.args.home c.args.row (λ r. r.value)) c.initiate.ensures.leads (omega arith)
     (λ x h.
-      subst (λ (l : Located). FindsAt c.args.job.path l.place c.deref.result.now x) (sym c.in-Ok.ensures.ok)
-      (subst (λ (r : Rowed). FindsAt c.args.job.path c.args.home.place r x) (sym c.deref.ensures)
-      (subst (λ (o : Option _). FindsHome c.args.job.path c.args.home o (λ r. r.value) x) c.in-Some.is h)))
+    subst (λ (l : Located). FindsAt c.args.job.path l.place c.deref.result.now x) (sym c.in-Ok.ensures.ok)
+    (subst (λ (r : Rowed). FindsAt c.args.job.path c.args.home.place r x) (sym c.deref.ensures)
+    (subst (λ (o : Option _). FindsHome c.args.job.path c.args.home o (λ r. r.value) x) c.in-Some.is h)))

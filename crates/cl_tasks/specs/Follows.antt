@@ -1,5 +1,5 @@
 -- What a turn rests on: the tables, as far as the task was told of them, the plan of its request, and the faults told.
-use Rattle.std.specs.Prelude.{◌≡◌, ◌<◌, ℕ, List, [], ◌∷◌, length, Option, Some, None}
+use Rattle.std.specs.Prelude.{◌≡◌, ℕ, List, [], ◌∷◌, Option, Some, None}
 use Rattle.cl_model.specs.declared.answer.Answer.{Answer}
 use Rattle.cl_model.specs.declared.answer.Answer.TheVariants as answers
 use Rattle.cl_model.specs.declared.request.Request.{Request}
@@ -17,8 +17,7 @@ use Rattle.cl_source.specs.declared.source.SourceFault.TheVariants as faults
 use Rattle.cl_config.specs.Views.{Configured}
 use Rattle.cl_delegation.specs.Worlds.{world_of}
 use Rattle.cl_hierarchy.specs.Rows.{Rowed}
-use Rattle.cl_hierarchy.specs.Paths.{Pathed, frames_of, at_name}
-use Rattle.cl_registry.specs.Findings.{loader_of}
+use Rattle.cl_hierarchy.specs.Paths.{frames_of, at_name}
 use Rattle.cl_registry.specs.Tables.{Shown, state_of, records_of, looked, NamesLoaders, MayEnter, MayJoin, IsBacked}
 use Rattle.cl_tasks.specs.Tasks.{Tasked}
 use Rattle.cl_tasks.specs.declared.stage.Reply.{Reply}

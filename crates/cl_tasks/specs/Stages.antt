@@ -1,5 +1,5 @@
 -- What a task is at, as contracts see it, and what it keeps (JVMS SE 8, 5.3, 5.3.5).
-use Rattle.std.specs.Prelude.{◌≡◌, ◌≢◌, ◌<◌, ◌-◌, ℕ, false, [], length, Option, Some, None, unwrap_or}
+use Rattle.std.specs.Prelude.{◌≡◌, ◌≢◌, ◌<◌, ◌-◌, ℕ, false, [], length, Some, None, unwrap_or}
 use Rattle.cl_model.specs.Classes.{class}
 use Rattle.cl_config.specs.Views.{Configured}
 use Rattle.cl_delegation.specs.Searches.{Searched, Located, next_of, route_of}

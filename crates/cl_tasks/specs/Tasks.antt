@@ -1,5 +1,5 @@
 -- What contracts see of a task, and how many turns it has left at most.
-use Rattle.std.specs.Prelude.{ℕ, ◌+◌, ◌*◌, List, [], length, Option, Some}
+use Rattle.std.specs.Prelude.{ℕ, ◌+◌, ◌*◌, List, [], Option, Some}
 use Rattle.cl_model.specs.declared.request.Request.{Request}
 use Rattle.cl_model.specs.Frames.{Frame}
 use Rattle.cl_model.specs.Measures.{left_loading, left_ended}
@@ -24,9 +24,13 @@ pub record Tasked : Type 0 where
 abbrev pub begun : Configured → ℕ → Request → Tasked
 begun c q r =
     record {
-      config = c; q = q; phase = Fresh; request = Some r;
+      config = c;
+      q = q;
+      phase = Fresh;
+      request = Some r;
       path = record { config = c; loader = loader_of r; name = name_of r; frames = [] };
-      place = loader_of r; probes = 0;
+      place = loader_of r;
+      probes = 0;
     }
 
 -- the most frames, and the most supertypes of a class: what a `usize` counts

@@ -2,7 +2,6 @@
 use Rattle.std.specs.Prelude.{◌≡◌, ◌≢◌, ◌⊎◌, Some, None}
 use Rattle.cl_model.specs.Classes.{class}
 use Rattle.cl_hierarchy.specs.Paths.{at_name}
-use Rattle.cl_registry.specs.Findings.{IsSought}
 use Rattle.cl_tasks.specs.Tasks.{Tasked}
 use Rattle.cl_tasks.specs.declared.phase.Phase.TheVariants.{Fresh, Looking, Reading, Homing, Defining, Initiating, Done}
 use Rattle.cl_tasks.specs.declared.stage.Reply.{Reply}

@@ -1,9 +1,12 @@
 //! A request as a task: turn by turn, to its answer.
 #![tactic(auto)]
 
+mod accept;
+mod leads;
 mod phase;
+mod search;
 mod stage;
-mod stub;
+mod step;
 mod task;
 
 pub use phase::Phase;

@@ -6,6 +6,7 @@ ghost use Rattle.cl_tasks.specs.Turns.{Asks, Expects, ReadsUnrecorded, Serves};
 ghost use Rattle.cl_tasks.specs.Follows.{BackedWhere, FollowsWhere, Holds, Refuses, Tells, refusal};
 
 use crate::stage::{Job, Reply, Stage, Turn};
+use crate::step::{expects, step};
 use cl_config::Config;
 use cl_hierarchy::Path;
 use cl_model::{Request, Told};
@@ -53,24 +54,42 @@ impl<T: Told> Task<T> {
         ensures fresh { IfOk result (λ t. t ≡ begun config.value q request) }
         ensures refused { IfErr result (λ e. (e.config.value ≡ config.value) × (e.request ≡ request)) }
     {
-        let _ = crate::stub::stub_never();
-        unreachable!()
+        let Request::Load(loader, name) = &request;
+        let loader = *loader;
+        let name = match name.try_clone(alloc) {
+            Ok(name) => name,
+            Err(_) => return Err(TaskRefused { config, request }),
+        };
+        let Ok(shared) = Arc::try_clone(&config) else {
+            return Err(TaskRefused { config, request });
+        };
+        let path = Path::new(alloc, shared, loader, name);
+        Ok(Task {
+            config,
+            stage: Stage::Fresh(Job { q, request, path }),
+        })
     }
 
     /// The number of the request in its script.
     pub fn q(&self) -> u32
         ensures { result ≡ self.now.q }
     {
-        let _ = crate::stub::stub_never();
-        unreachable!()
+        match &self.stage {
+            Stage::Fresh(job) => job.q,
+            Stage::Looking(job) => job.q,
+            Stage::Searching(job, _) => job.q,
+            Stage::Homing(job, _) => job.q,
+            Stage::Defining(job, _) => job.q,
+            Stage::Initiating(job) => job.q,
+            Stage::Done(q) => *q,
+        }
     }
 
     /// Whether a reply is one to what the task asked for.
     pub fn expects(&self, reply: &Reply<T>) -> bool
         ensures { MatchBool result (Expects self.now reply.now) (Expects self.now reply.now → ⊥) }
     {
-        let _ = crate::stub::stub_never();
-        unreachable!()
+        expects(&self.stage, reply)
     }
 
     /// The next turn, by the reply to the last.
@@ -87,7 +106,10 @@ impl<T: Told> Task<T> {
         ensures refused { Refuses (refusal self.old reply) result }
         ensures reads { ReadsUnrecorded reply result }
     {
-        let _ = crate::stub::stub_never();
-        unreachable!()
+        let q = self.q();
+        let stage = mem::replace(&mut self.stage, Stage::Done(q));
+        let next = step(alloc, stage, reply);
+        self.stage = next.stage;
+        next.turn
     }
 }

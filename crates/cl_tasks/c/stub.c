@@ -1,1 +1,0 @@
-int stub_never(void) { for (;;) {} }

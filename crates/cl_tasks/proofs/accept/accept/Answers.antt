@@ -1,0 +1,18 @@
+use Rattle.std.proofs.Common.{refl}
+use Rattle.cl_tasks.proofs.Onward.{accepts_next, accepts_last, job_with, leads_next, leads_complete}
+use Rattle.cl_tasks.proofs.accept.accept.Goals as goal
+
+pub look-requires : goal.look-requires
+look-requires g c = record { job = job_with g.T.Told.told c.args.job _ _ c.requires.job c.at_name-2.ensures.path (accepts_next _ _ _ _ c.in-None.is c.in-Ok.ensures.accepted).now }
+
+pub define-requires : goal.define-requires
+define-requires g c = record { job = job_with g.T.Told.told c.args.job _ _ c.requires.job c.at_name-2.ensures.path (accepts_last _ _ _ _ _ c.in-Some.is c.in-Ok.ensures.accepted).now }
+
+pub returns-in-None-clause-leads : goal.returns-in-None-clause-leads
+returns-in-None-clause-leads g c =
+    leads_next g.T.Told.told c.args.job c.args.row.now c.accept.new.self _ c.at_name.ensures.path c.requires.fits (accepts_next _ _ _ _ c.in-None.is c.in-Ok.ensures.accepted) c.look.ensures.leads
+
+pub returns-in-Some-clause-leads : goal.returns-in-Some-clause-leads
+returns-in-Some-clause-leads g c =
+    let last = accepts_last _ _ _ _ _ c.in-Some.is c.in-Ok.ensures.accepted in
+    leads_complete g.T.Told.told c.args.job _ c.args.row.now c.in-Some.draft c.requires.job (job_with g.T.Told.told c.args.job _ _ c.requires.job c.at_name-2.ensures.path last.now) refl refl c.at_name.ensures.path c.class.ensures.spelt c.requires.fits last _ c.define.ensures

@@ -1,4 +1,0 @@
-unsafe extern "C" {
-    pub safe fn stub_never() -> i32
-        ensures { ⊥ };
-}

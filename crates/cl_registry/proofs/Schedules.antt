@@ -133,6 +133,9 @@ last_stops told x f k last may = let r = k.round in let l = may.later in omega a
 pub round_left : (told : Option Content) (x : Shown) (f : Fields) → IsRegistry told x f → f.round + 1 < x.script.rounds → round_of x + 1 < x.script.rounds
 round_left told x f k more = subst (λ (n : ℕ). n + 1 < x.script.rounds) k.round more
 
+pub no_round_left : (told : Option Content) (x : Shown) (f : Fields) → IsRegistry told x f → x.script.rounds ≤ f.round + 1 → x.script.rounds ≤ round_of x + 1
+no_round_left told x f k none = subst (λ (n : ℕ). x.script.rounds ≤ n + 1) k.round none
+
 -- ---- the next round
 
 below_or_at : (a b : ℕ) → a < b + 1 → (a < b) ⊎ (a ≡ b)

@@ -1,4 +1,4 @@
-ghost use Rattle.std.specs.Prelude.{◌≡◌, ◌<◌, OnOk, Some, IfOk, IfErr, IfSome, MatchBool, MatchOption, length};
+ghost use Rattle.std.specs.Prelude.{◌≡◌, ◌<◌, ◌≤◌, ◌+◌, OnOk, Some, IfOk, IfErr, IfSome, MatchBool, MatchOption, length};
 ghost use Rattle.std.specs.Option.{option_map};
 ghost use Rattle.cl_delegation.specs.Searches.{LeadsTo};
 ghost use Rattle.cl_registry.specs.Tables.{Defines, Fits, Initiates, IsKept, LacksRecord, MayEnter, MayGoOn, MayJoin, Records, empty_of, looked, round_of, with_post, with_round};
@@ -306,6 +306,7 @@ impl<T: Told> Registry<T> {
         ensures whole { IfOk result (λ r. IsReport self r) }
         ensures kept { IfOk result (λ r. IsKept T.told self) }
         ensures loaders { IfOk result (λ r. IsNamed (length self.config.loaders) r) }
+        ensures last { OnOk result (self.script.rounds ≤ round_of self + 1) }
         ensures refused { IfErr result (λ e. (e.registry ≡ self) × IsUnfinished self) }
     {
         if self.left != 0 || self.round + 1 < self.script.rounds() {

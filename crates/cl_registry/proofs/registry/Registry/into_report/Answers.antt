@@ -1,9 +1,9 @@
-use Rattle.std.proofs.Common.{◌≡◌, ◌∙◌, ◌<◌, ◌+◌, ℕ, Some, length, map, refl, ap, subst, inl, inr}
+use Rattle.std.proofs.Common.{◌≡◌, ◌∙◌, ◌<◌, ◌≤◌, ◌+◌, ℕ, Some, length, map, refl, ap, subst, inl, inr}
 use Rattle.cl_registry.specs.declared.report.Report.{Report}
 use Rattle.cl_registry.specs.Reports.{IsNamed, IsUnfinished}
-use Rattle.cl_registry.specs.Tables.{Shown}
+use Rattle.cl_registry.specs.Tables.{Shown, round_of}
 use Rattle.cl_registry.proofs.Histories.{first_open}
-use Rattle.cl_registry.proofs.Schedules.{round_left}
+use Rattle.cl_registry.proofs.Schedules.{round_left, no_round_left}
 use Rattle.cl_registry.proofs.Running.{report_names}
 use Rattle.cl_registry.proofs.registry.Registry.into_report.Goals as goal
 use Rattle.cl_registry.proofs.registry.Registry.into_report.Goals.{then-self-ne0-via-then-self-ne0, then-self-ne0-via-else-self-ne0+then-self-rounds}
@@ -25,3 +25,8 @@ returns-clause-loaders g c =
     let r : Report = record { script = c.self.inside.script; history = c.from.result; answers = c.from-2.result } in
     subst (λ (y : Shown). IsNamed (length y.config.loaders) r) c.self.view_is
     (report_names x r c.self.invariant.kept.named (record { script = refl; history = c.from.ensures; answers = ap (map (λ a. Some a)) c.from-2.ensures ∙ c.collect.ensures }))
+
+pub returns-clause-last : goal.returns-clause-last
+returns-clause-last g c =
+    subst (λ (y : Shown). y.script.rounds ≤ round_of y + 1) c.self.view_is
+    (no_round_left g.T.Told.told _ _ c.self.invariant (subst (λ (n : ℕ). n ≤ c.self.inside.round + 1) (c.rounds.ensures ∙ ap (λ s. s.rounds) c.deref.ensures) c.if-self-rounds.false))

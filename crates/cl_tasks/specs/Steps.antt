@@ -3,6 +3,9 @@ use Rattle.std.specs.Prelude.{◌≡◌, ◌<◌, ◌+◌, ◌-◌, ℕ, [], len
 use Rattle.std.specs.List.{AllByRecursion}
 use Rattle.cl_model.specs.declared.request.Request.{Request}
 use Rattle.cl_model.specs.declared.answer.Answer.TheVariants as answers
+use Rattle.cl_classfile.specs.Files.{file_of}
+use Rattle.cl_model.specs.declared.verdict.ErrorKind.{ErrorKind}
+use Rattle.cl_model.specs.Views.{error_of}
 use Rattle.cl_model.specs.Classes.{supers}
 use Rattle.cl_model.specs.Content.{Content}
 use Rattle.cl_config.specs.Views.{Configured}
@@ -10,14 +13,16 @@ use Rattle.cl_source.specs.Views.{Found}
 use Rattle.cl_delegation.specs.Searches.{Searched, Located, route_of}
 use Rattle.cl_hierarchy.specs.Drafts.{Drafted}
 use Rattle.cl_hierarchy.specs.Rows.{Rowed}
-use Rattle.cl_hierarchy.specs.Paths.{Pathed, frames_of, at_loader, at_name}
+use Rattle.cl_hierarchy.specs.Paths.{Pathed, frames_of, at_loader, at_name, misfit_under}
 use Rattle.cl_registry.specs.Tables.{Shown}
 use Rattle.cl_registry.specs.declared.finding.Obstacle.{Obstacle}
 use Rattle.cl_registry.specs.declared.finding.Obstacle.TheVariants.{Missing, Unreadable, Circle, Misfit}
-use Rattle.cl_tasks.specs.Tasks.{Tasked, begun, left}
+use Rattle.cl_tasks.specs.Tasks.{Tasked, begun, left, left_at}
 use Rattle.cl_tasks.specs.Stages.{IsStage, task_at}
 use Rattle.cl_tasks.specs.Turns.{Asks, Serves}
 use Rattle.cl_tasks.specs.Follows.{IsRecordedAs, HaveAccepted, Holds, Tells, BackedWhere, FollowsWhere}
+use Rattle.cl_tasks.specs.declared.phase.Phase.{Phase}
+use Rattle.cl_tasks.specs.declared.phase.Phase.TheVariants as phases
 use Rattle.cl_tasks.specs.declared.stage.Job.{Job}
 use Rattle.cl_tasks.specs.declared.stage.Next.{Next}
 use Rattle.cl_tasks.specs.declared.stage.Stage.{Stage}
@@ -41,6 +46,14 @@ pub record LeadsOn {A : Type 0} (told : Option Content) (c : Configured) (q : �
 abbrev pub Leads : {A : Type 0} → Option Content → Job A → ℕ → (Shown → Type 0) → Next A → Type 0
 Leads told j room holds n = LeadsOn told j.path.config j.q j.request room holds n
 
+-- a job that is in this phase leads on (5.3.5)
+abbrev pub LeadsAt : {A : Type 0} → Option Content → Phase → Job A → (Shown → Type 0) → Next A → Type 0
+LeadsAt told phase j holds n = Leads told j (left_at phase (frames_of j.path) 0) holds n
+
+-- a job that has so many probes left leads on (5.3.2, 5.3.5)
+abbrev pub ReadsOn : {A : Type 0} → Option Content → ℕ → Job A → (Shown → Type 0) → Next A → Type 0
+ReadsOn told probes j holds n = Leads told j (left_at phases.Reading (frames_of j.path) probes) holds n
+
 -- the same of a task that is told this (5.3.5)
 abbrev pub StepsOn : {A : Type 0} → Option Content → Tasked → Reply A → Next A → Type 0
 StepsOn told t reply n = IfSome t.request (λ r. LeadsOn told t.config t.q r (left t) (λ x. Tells x t reply) n)
@@ -57,6 +70,10 @@ pub record FindsAt (p : Pathed) (loader : ℕ) (row : Rowed) (x : Shown) : Type 
 -- and so at the loader that was asked (5.3)
 abbrev pub Finds : Pathed → Rowed → Shown → Type 0
 Finds p row x = FindsAt p (at_loader p) row x
+
+-- and so at this home (5.3)
+abbrev pub FindsBy : Pathed → Located → Rowed → Shown → Type 0
+FindsBy p h row x = FindsAt p h.place row x
 
 -- what the home was found to have recorded, if anything (5.3)
 abbrev pub FindsHome : {A : Type 0} → Pathed → Located → Option A → (A → Rowed) → Shown → Type 0
@@ -109,6 +126,14 @@ config_of (Homing j h) = j.path.config
 config_of (Defining j h) = j.path.config
 config_of (Initiating j) = j.path.config
 config_of (Done q) = record { loaders = [] }
+
+-- what contracts see of a stage, under its configuration
+abbrev pub staged : {A : Type 0} → Stage A → Tasked
+staged s = task_at (config_of s) s
+
+-- a recorded class does not fit as the supertype that is looked for (5.3.5, steps 3 and 4)
+abbrev pub IsMisfit : Pathed → Rowed → ErrorKind → Type 0
+IsMisfit p row kind = misfit_under p.frames row.class (file_of row.file) ≡ Some (error_of kind row.class)
 
 -- a turn reads nothing
 abbrev pub ReadsNothing : {A : Type 0} → Turn A → Type 0

@@ -4,14 +4,13 @@ ghost use Rattle.std.specs.Prelude.{◌≡◌, ◌≢◌, ◌≤◌, [], Some, N
 ghost use Rattle.cl_classfile.specs.Files.{file_of};
 ghost use Rattle.cl_model.specs.Classes.{class, supers};
 ghost use Rattle.cl_model.specs.Frames.{wanted};
-ghost use Rattle.cl_model.specs.Views.{error_of};
 ghost use Rattle.cl_hierarchy.specs.Frames.{frame_of};
-ghost use Rattle.cl_hierarchy.specs.Paths.{at_loader, at_name, frames_of, fresh, is_on, misfit_under};
+ghost use Rattle.cl_hierarchy.specs.Paths.{at_loader, at_name, fresh, is_on, misfit_under};
 ghost use Rattle.cl_registry.specs.Findings.{IsSought};
-ghost use Rattle.cl_tasks.specs.Tasks.{left_at, most};
+ghost use Rattle.cl_tasks.specs.Tasks.{most};
 ghost use Rattle.cl_tasks.specs.Stages.{IsJob};
 ghost use Rattle.cl_tasks.specs.Follows.{PostsNoFault};
-ghost use Rattle.cl_tasks.specs.Steps.{DefinesBy, Finds, FindsAt, HoldsOn, Leads, ReadsNothing};
+ghost use Rattle.cl_tasks.specs.Steps.{DefinesBy, Finds, FindsBy, HoldsOn, IsMisfit, LeadsAt, ReadsNothing};
 ghost use Rattle.cl_tasks.specs.declared.phase.Phase.TheVariants as phases;
 
 use crate::leads::{look, obstacle, out_of_memory, post};
@@ -29,7 +28,7 @@ pub(crate) fn derive<T: Told>(alloc: Global, job: Job<T>, home: Home<T>) -> Next
     requires job { IsJob job.path.config job }
     requires home { IsSought job.path home }
     requires off { is_on job.path (class home.name home.place) ≡ false }
-    ensures leads { Leads T.told job (left_at phases.Homing (frames_of job.path) 0) (HoldsOn job.path) result }
+    ensures leads { LeadsAt T.told phases.Homing job (HoldsOn job.path) result }
     ensures no_fault { PostsNoFault result.turn }
     ensures reads { ReadsNothing result.turn }
 {
@@ -50,7 +49,7 @@ fn follow_draft<T: Told>(alloc: Global, job: Job<T>, draft: Draft<T>) -> Next<T>
     requires job { IsJob job.path.config job }
     requires home { IsSought job.path draft.home }
     requires off { is_on job.path draft.class ≡ false }
-    ensures leads { Leads T.told job (left_at phases.Homing (frames_of job.path) 0) (HoldsOn job.path) result }
+    ensures leads { LeadsAt T.told phases.Homing job (HoldsOn job.path) result }
     ensures no_fault { PostsNoFault result.turn }
     ensures reads { ReadsNothing result.turn }
 {
@@ -71,7 +70,7 @@ fn descend<T: Told>(alloc: Global, job: Job<T>, draft: Draft<T>) -> Next<T>
     requires off { is_on job.path draft.class ≡ false }
     requires waits { IsSome (wanted (frame_of (fresh draft))) }
     requires few { length (supers (file_of draft.file)) ≤ most }
-    ensures leads { Leads T.told job (left_at phases.Homing (frames_of job.path) 0) (HoldsOn job.path) result }
+    ensures leads { LeadsAt T.told phases.Homing job (HoldsOn job.path) result }
     ensures no_fault { PostsNoFault result.turn }
     ensures reads { ReadsNothing result.turn }
 {
@@ -114,7 +113,7 @@ pub(crate) fn take_defined<T: Told>(
 ) -> Next<T>
     requires job { IsJob job.path.config job }
     requires home { IsSought job.path home.value }
-    ensures leads { Leads T.told job (left_at phases.Defining (frames_of job.path) 0) (FindsAt job.path home.value.place row.value) result }
+    ensures leads { LeadsAt T.told phases.Defining job (FindsBy job.path home.value row.value) result }
     ensures no_fault { PostsNoFault result.turn }
     ensures reads { ReadsNothing result.turn }
 {
@@ -125,19 +124,21 @@ pub(crate) fn take_defined<T: Told>(
     }
 }
 
-/// What is looked for is recorded at its home, which is another loader than the one that was asked: that one is recorded, too.
+/// What is looked for is recorded at its home, another loader than the one that was asked: that one is
+/// recorded, too.
 pub(crate) fn initiate<T: Told>(job: Job<T>, home: Arc<Home<T>>, row: &ClassRow<T>) -> Next<T>
     requires job { IsJob job.path.config job }
     requires home { IsSought job.path home.value }
     requires other { home.value.place ≢ at_loader job.path }
-    ensures leads { Leads T.told job (left_at phases.Defining (frames_of job.path) 0) (FindsAt job.path home.value.place row.now) result }
+    ensures leads { LeadsAt T.told phases.Defining job (FindsBy job.path home.value row.now) result }
     ensures no_fault { PostsNoFault result.turn }
     ensures reads { ReadsNothing result.turn }
 {
     // brings what a home keeps, and what a path keeps
     let _ = home.config();
     let _ = job.path.at_name();
-    // a home has its own class alone, unless the source told two things: one that tells a content never does
+    // a home has its own class alone, unless the source told two things: one that tells a content
+    // never does
     if row.class().loader != home.place() {
         return out_of_memory(job);
     }
@@ -147,10 +148,11 @@ pub(crate) fn initiate<T: Told>(job: Job<T>, home: Arc<Home<T>>, row: &ClassRow<
     }
 }
 
-/// What is looked for is recorded where it was asked for: the class that waits for it goes on, or it is the answer.
+/// What is looked for is recorded where it was asked for: the class that waits for it goes on, or it is
+/// the answer.
 pub(crate) fn go_on<T: Told>(alloc: Global, job: Job<T>, row: Arc<ClassRow<T>>) -> Next<T>
     requires job { IsJob job.path.config job }
-    ensures leads { Leads T.told job (left_at phases.Initiating (frames_of job.path) 0) (Finds job.path row.value) result }
+    ensures leads { LeadsAt T.told phases.Initiating job (Finds job.path row.value) result }
     ensures no_fault { PostsNoFault result.turn }
     ensures reads { ReadsNothing result.turn }
 {
@@ -171,7 +173,7 @@ pub(crate) fn go_on<T: Told>(alloc: Global, job: Job<T>, row: Arc<ClassRow<T>>) 
 fn answer<T: Told>(alloc: Global, job: Job<T>, row: &ClassRow<T>) -> Next<T>
     requires job { IsJob job.path.config job }
     requires alone { job.path.frames ≡ [] }
-    ensures leads { Leads T.told job (left_at phases.Initiating (frames_of job.path) 0) (Finds job.path row.now) result }
+    ensures leads { LeadsAt T.told phases.Initiating job (Finds job.path row.now) result }
     ensures no_fault { PostsNoFault result.turn }
     ensures reads { ReadsNothing result.turn }
 {
@@ -187,8 +189,8 @@ fn answer<T: Told>(alloc: Global, job: Job<T>, row: &ClassRow<T>) -> Next<T>
 fn reject<T: Told>(alloc: Global, job: Job<T>, row: Arc<ClassRow<T>>, kind: ErrorKind) -> Next<T>
     requires job { IsJob job.path.config job }
     requires name { row.value.class.name ≡ at_name job.path }
-    requires misfit { misfit_under job.path.frames row.value.class (file_of row.value.file) ≡ Some (error_of kind row.value.class) }
-    ensures leads { Leads T.told job (left_at phases.Initiating (frames_of job.path) 0) (Finds job.path row.value) result }
+    requires misfit { IsMisfit job.path row.value kind }
+    ensures leads { LeadsAt T.told phases.Initiating job (Finds job.path row.value) result }
     ensures no_fault { PostsNoFault result.turn }
     ensures reads { ReadsNothing result.turn }
 {
@@ -204,7 +206,7 @@ fn accept<T: Told>(alloc: Global, job: Job<T>, row: &ClassRow<T>) -> Next<T>
     requires waits { job.path.frames ≢ [] }
     requires name { row.now.class.name ≡ at_name job.path }
     requires fits { misfit_under job.path.frames row.now.class (file_of row.now.file) ≡ None }
-    ensures leads { Leads T.told job (left_at phases.Initiating (frames_of job.path) 0) (Finds job.path row.now) result }
+    ensures leads { LeadsAt T.told phases.Initiating job (Finds job.path row.now) result }
     ensures no_fault { PostsNoFault result.turn }
     ensures reads { ReadsNothing result.turn }
 {

@@ -3,11 +3,9 @@
 ghost use Rattle.std.specs.Prelude.{◌≡◌, length};
 ghost use Rattle.cl_model.specs.declared.answer.Answer.TheVariants as answers;
 ghost use Rattle.cl_registry.specs.Findings.{Stops};
-ghost use Rattle.cl_tasks.specs.Tasks.{left_at};
 ghost use Rattle.cl_tasks.specs.Stages.{IsJob, IsSearch, at_search};
 ghost use Rattle.cl_tasks.specs.Follows.{Posts, PostsNoFault, fault_answer};
-ghost use Rattle.cl_tasks.specs.Steps.{EndWithin, EndsOn, HoldsOn, Leads, ReadsNothing, memory_ends};
-ghost use Rattle.cl_hierarchy.specs.Paths.{frames_of};
+ghost use Rattle.cl_tasks.specs.Steps.{EndWithin, EndsOn, HoldsOn, Leads, LeadsAt, ReadsNothing, memory_ends};
 ghost use Rattle.cl_tasks.specs.declared.phase.Phase.TheVariants as phases;
 
 use crate::stage::{Job, Next, Stage, Turn};
@@ -66,7 +64,8 @@ pub(crate) fn obstacle<T: Told>(job: Job<T>, end: Obstacle<T>) -> Next<T>
     ensures reads { ReadsNothing result.turn }
 {
     let finding = Finding::obstacle(job.request, job.path, end);
-    // brings what a finding rests on, and that what is recorded was defined by a loader of the configuration
+    // brings what a finding rests on, and that what is recorded was defined by a loader of the
+    // configuration
     let _ = finding.answer();
     recorded_is_named();
     post(job.q, finding)
@@ -75,7 +74,7 @@ pub(crate) fn obstacle<T: Told>(job: Job<T>, end: Obstacle<T>) -> Next<T>
 /// Looks up what the path is at.
 pub(crate) fn look<T: Told>(alloc: Global, job: Job<T>) -> Next<T>
     requires job { IsJob job.path.config job }
-    ensures leads { Leads T.told job (left_at phases.Fresh (frames_of job.path) 0) (HoldsOn job.path) result }
+    ensures leads { LeadsAt T.told phases.Fresh job (HoldsOn job.path) result }
     ensures no_fault { PostsNoFault result.turn }
     ensures reads { ReadsNothing result.turn }
 {

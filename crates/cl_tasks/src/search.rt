@@ -2,12 +2,11 @@
 
 ghost use Rattle.std.specs.Prelude.{◌≡◌, ◌<◌, Some, IfOk, length};
 ghost use Rattle.cl_delegation.specs.Searches.{begun, next_of};
-ghost use Rattle.cl_hierarchy.specs.Paths.{at_loader, at_name, frames_of};
+ghost use Rattle.cl_hierarchy.specs.Paths.{at_loader, at_name};
 ghost use Rattle.cl_registry.specs.Findings.{IsSought};
-ghost use Rattle.cl_tasks.specs.Tasks.{left_at};
 ghost use Rattle.cl_tasks.specs.Stages.{IsJob, IsHoming};
 ghost use Rattle.cl_tasks.specs.Follows.{PostsNoFault};
-ghost use Rattle.cl_tasks.specs.Steps.{FindsHome, HoldsOn, Leads, ReadsNothing, Seeks, probes_left, reads_left};
+ghost use Rattle.cl_tasks.specs.Steps.{FindsHome, HoldsOn, LeadsAt, ReadsNothing, ReadsOn, Seeks, probes_left, reads_left};
 ghost use Rattle.cl_tasks.specs.declared.phase.Phase.TheVariants as phases;
 
 use crate::accept::{derive, initiate};
@@ -24,7 +23,7 @@ use std::sync::Arc;
 /// Begins the search for what the path is at.
 pub(crate) fn begin_search<T: Told>(alloc: Global, job: Job<T>) -> Next<T>
     requires job { IsJob job.path.config job }
-    ensures leads { Leads T.told job (left_at phases.Looking (frames_of job.path) 0) (HoldsOn job.path) result }
+    ensures leads { LeadsAt T.told phases.Looking job (HoldsOn job.path) result }
     ensures no_fault { PostsNoFault result.turn }
 {
     // brings that there are few loaders
@@ -56,7 +55,7 @@ pub(crate) fn take_probe<T: Told>(
     requires search { Seeks job search }
     requires next { next_of search ≡ Some probe.loader }
     requires name { probe.name ≡ at_name job.path }
-    ensures leads { Leads T.told job (left_at phases.Reading (frames_of job.path) (probes_left search)) (HoldsOn job.path) result }
+    ensures leads { ReadsOn T.told (probes_left search) job (HoldsOn job.path) result }
     ensures no_fault { PostsNoFault result.turn }
 {
     let mut search = search;
@@ -70,7 +69,7 @@ pub(crate) fn take_probe<T: Told>(
 fn pursue<T: Told>(alloc: Global, job: Job<T>, search: Search<T>) -> Next<T>
     requires job { IsJob job.path.config job }
     requires search { Seeks job search }
-    ensures leads { Leads T.told job (left_at phases.Reading (frames_of job.path) (reads_left search)) (HoldsOn job.path) result }
+    ensures leads { ReadsOn T.told (reads_left search) job (HoldsOn job.path) result }
     ensures no_fault { PostsNoFault result.turn }
 {
     match search.next_probe() {
@@ -88,11 +87,12 @@ fn pursue<T: Told>(alloc: Global, job: Job<T>, search: Search<T>) -> Next<T>
     }
 }
 
-/// The home of what is looked for was found: it is looked up there, unless that is the loader that was asked.
+/// The home of what is looked for was found: it is looked up there, unless that is the loader that was
+/// asked.
 fn at_home<T: Told>(alloc: Global, job: Job<T>, home: Home<T>) -> Next<T>
     requires job { IsJob job.path.config job }
     requires home { IsSought job.path home }
-    ensures leads { Leads T.told job (left_at phases.Reading (frames_of job.path) 0) (HoldsOn job.path) result }
+    ensures leads { LeadsAt T.told phases.Reading job (HoldsOn job.path) result }
     ensures no_fault { PostsNoFault result.turn }
     ensures reads { ReadsNothing result.turn }
 {
@@ -127,7 +127,7 @@ pub(crate) fn take_look<T: Told>(
 ) -> Next<T>
     requires job { IsJob job.path.config job }
     requires home { IsHoming job home }
-    ensures leads { Leads T.told job (left_at phases.Homing (frames_of job.path) 0) (FindsHome job.path home row (λ r. r.value)) result }
+    ensures leads { LeadsAt T.told phases.Homing job (FindsHome job.path home row (λ r. r.value)) result }
     ensures no_fault { PostsNoFault result.turn }
     ensures reads { ReadsNothing result.turn }
 {

@@ -1,8 +1,8 @@
 ghost use Rattle.std.specs.Prelude.{MatchBool};
-ghost use Rattle.cl_tasks.specs.Stages.{IsStage, task_at};
+ghost use Rattle.cl_tasks.specs.Stages.{IsStage};
 ghost use Rattle.cl_tasks.specs.Turns.{Expects, ReadsUnrecorded};
 ghost use Rattle.cl_tasks.specs.Follows.{Refuses, Tells, refusal};
-ghost use Rattle.cl_tasks.specs.Steps.{StepsOn, config_of};
+ghost use Rattle.cl_tasks.specs.Steps.{StepsOn, config_of, staged};
 
 use crate::accept::{go_on, take_defined};
 use crate::leads::{blame_source, look, out_of_memory};
@@ -14,7 +14,7 @@ use std::alloc::Global;
 /// Whether a reply is one to what a task at this stage asked for.
 pub(crate) fn expects<T: Told>(stage: &Stage<T>, reply: &Reply<T>) -> bool
     requires { IsStage (config_of stage.now) stage.now }
-    ensures { MatchBool result (Expects (task_at (config_of stage.now) stage.now) reply.now) (Expects (task_at (config_of stage.now) stage.now) reply.now → ⊥) }
+    ensures { MatchBool result (Expects (staged stage.now) reply.now) (Expects (staged stage.now) reply.now → ⊥) }
 {
     match (stage, reply) {
         (Stage::Fresh(_), Reply::Start) => true,
@@ -35,9 +35,9 @@ pub(crate) fn expects<T: Told>(stage: &Stage<T>, reply: &Reply<T>) -> bool
 /// The turn that a reply leads to.
 pub(crate) fn step<T: Told>(alloc: Global, stage: Stage<T>, reply: Reply<T>) -> Next<T>
     requires kept { IsStage (config_of stage) stage }
-    requires expects { Expects (task_at (config_of stage) stage) reply }
-    ensures leads { StepsOn T.told (task_at (config_of stage) stage) reply result }
-    ensures refused { Refuses (refusal (task_at (config_of stage) stage) reply) result.turn }
+    requires expects { Expects (staged stage) reply }
+    ensures leads { StepsOn T.told (staged stage) reply result }
+    ensures refused { Refuses (refusal (staged stage) reply) result.turn }
     ensures reads { ReadsUnrecorded reply result.turn }
 {
     match stage {

@@ -40,6 +40,7 @@ enters told x d draft config above fit =
       config = config;
       loader = subst (λ (c : Configured). d.class.loader < length c.loaders) config (subst (λ (l : ℕ). l < length d.home.config.loaders) placed draft.within);
       above = above;
+      fit = fit;
     }
 
 -- the class of the last frame, with all its supertypes

@@ -1,5 +1,5 @@
 -- Reading the lines of a script.
-use Rattle.std.proofs.Common.{suc, ◌<◌, Bool, true, false, cond, nat_lt, nat_eq, Some, None, ◌≡◌, ℕ, ◌+◌, List, [], ◌∷◌, ◌++◌, length, append_assoc, append-nil, codes, refl, sym, ap, subst, ◌∙◌, arith, length-append}
+use Rattle.std.proofs.Common.{suc, zero, slice_get, ◌≤◌, ◌<◌, Bool, true, false, cond, nat_lt, nat_eq, Some, None, ◌≡◌, ℕ, ◌+◌, List, [], ◌∷◌, ◌++◌, length, append_assoc, append-nil, codes, refl, sym, ap, subst, ◌∙◌, arith, length-append}
 use Rattle.std.specs.Prelude.{All}
 use Rattle.std.specs.List.{position_or_len}
 use Rattle.std.specs.Cmp.Lexicographic.{pointwise}
@@ -186,6 +186,20 @@ have_loaders names (l ∷ ls) (Then ∷ xs) t = have_loaders names ls xs t.1
 pub script_loaders : (names : List (List ℕ)) (lines : List Numbered) (s : Scripted) → Tells names lines s → HasLoaders (length names) s.requests
 script_loaders names lines s t = subst (λ (s : Scripted). HasLoaders (length names) s.requests) (sym t.is) (have_loaders names lines t.said t.says)
 
+rounds_above : (n : ℕ) (xs : List Said) (q m : ℕ) → slice_get (rounds_in n xs) q ≡ Some m → n ≤ m
+rounds_above n [] q m e = absurd cc
+rounds_above n (Ask r ∷ xs) zero m e = let same : n ≡ m = cc in omega (arith, same)
+rounds_above n (Ask r ∷ xs) (suc q) m e = rounds_above n xs q m e
+rounds_above n (Then ∷ xs) q m e = let above = rounds_above (n + 1) xs q m e in omega (arith, above)
+
+rounds_ordered : (n : ℕ) (xs : List Said) (p q k m : ℕ) → p < q → slice_get (rounds_in n xs) p ≡ Some k → slice_get (rounds_in n xs) q ≡ Some m → k ≤ m
+rounds_ordered n [] p q k m lt e f = absurd cc
+rounds_ordered n (Ask r ∷ xs) zero zero k m lt e f = absurd (omega (arith, lt))
+rounds_ordered n (Ask r ∷ xs) zero (suc q) k m lt e f = let same : n ≡ k = cc in let above = rounds_above n xs q m f in omega (arith, same, above)
+rounds_ordered n (Ask r ∷ xs) (suc p) zero k m lt e f = absurd (omega (arith, lt))
+rounds_ordered n (Ask r ∷ xs) (suc p) (suc q) k m lt e f = rounds_ordered n xs p q k m (omega (arith, lt)) e f
+rounds_ordered n (Then ∷ xs) p q k m lt e f = rounds_ordered (n + 1) xs p q k m lt e f
+
 each_has_round : (n : ℕ) (xs : List Said) → length (rounds_in n xs) ≡ length (requests_in xs)
 each_has_round n [] = refl
 each_has_round n (Ask r ∷ xs) = ap suc (each_has_round n xs)
@@ -201,6 +215,7 @@ tells_script names lines s t = subst (λ (s : Scripted). IsScript s) (sym t.is) 
   few = t.fits.requests;
   each = each_has_round 0 t.said;
   within = rounds_below 0 (thens_in t.said + 1) t.said (omega arith);
+  in_order = rounds_ordered 0 t.said;
   rounds = omega (arith, t.fits.thens);
 })
 

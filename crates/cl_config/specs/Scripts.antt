@@ -1,5 +1,5 @@
 -- Which texts are a script, and what their lines say (own choice). For now a line asks for a load, or begins a round.
-use Rattle.std.specs.Prelude.{All, ◌≡◌, ℕ, ◌+◌, ◌<◌, ◌≤◌, nat_eq, List, [], ◌∷◌, ◌++◌, length, position, Option, Some, None, Result, Ok, Err, codes}
+use Rattle.std.specs.Prelude.{All, ◌≡◌, ℕ, ◌+◌, ◌<◌, ◌≤◌, nat_eq, List, [], ◌∷◌, ◌++◌, length, slice_get, position, Option, Some, None, Result, Ok, Err, codes}
 use Rattle.std.specs.Cmp.Lexicographic.{pointwise}
 use Rattle.cl_model.specs.declared.request.Request.{Request}
 use Rattle.cl_model.specs.declared.request.Request.TheVariants.{Load}
@@ -141,9 +141,11 @@ HasLoader count (Load loader name) = loader < count
 abbrev pub HasLoaders : ℕ → List Request → Type 0
 HasLoaders count requests = All (HasLoader count) requests
 
--- there are at most 65,535 requests, each of one of the rounds, and 1 to 65,536 rounds (own choice)
+-- there are at most 65,535 requests, each of one of the rounds and none of an earlier one than those before it, and 1 to 65,536
+-- rounds (own choice)
 pub record IsScript (s : Scripted) : Type 0 where
   pub few : length s.requests ≤ most
   pub each : length s.rounds_of ≡ length s.requests
   pub within : All (λ n. n < s.rounds) s.rounds_of
+  pub in_order : (p q m n : ℕ) → p < q → slice_get s.rounds_of p ≡ Some m → slice_get s.rounds_of q ≡ Some n → m ≤ n
   pub rounds : s.rounds ≤ most + 1

@@ -11,7 +11,8 @@ use Rattle.cl_hierarchy.specs.Paths.{Pathed, frames_of, at_name}
 use Rattle.cl_hierarchy.specs.Rows.{Rowed}
 use Rattle.cl_registry.specs.Findings.{Answered, loader_of, name_of}
 use Rattle.cl_registry.specs.Tables.{Shown, records_of, with_post}
-use Rattle.cl_tasks.specs.Tasks.{Tasked}
+use Rattle.cl_config.specs.Views.{Configured}
+use Rattle.cl_tasks.specs.Tasks.{Tasked, begun}
 use Rattle.cl_tasks.specs.Turns.{AnswersOwn}
 use Rattle.cl_tasks.specs.Follows.{IsRecordedAs, Refuses, TellsOf, refusal}
 use Rattle.cl_tasks.specs.declared.phase.Phase.TheVariants.{Looking}
@@ -206,5 +207,8 @@ again_post old now new q r t later told f u count since again own refused is pos
 pub again_memory : (old new : Shown) (q : ℕ) (r : Request) (a : Answer) (count : ℕ) → a ≡ answers.Memory → new ≡ with_post old q a → AnswersRecorded old new q r count count
 again_memory old new q r a count is posted = λ place at. record { answer = a; is = inr is; posted = posted; uncounted = refl }
 
-pub again_start : {A : Type 0} (old : Shown) (r : Request) (t : Tasked) (count : ℕ) → t.place ≡ loader_of r → at_name t.path ≡ name_of r → frames_of t.path ≡ [] → Again {A = A} old old r t (reply.Start) count count
+again_start : {A : Type 0} (old : Shown) (r : Request) (t : Tasked) (count : ℕ) → t.place ≡ loader_of r → at_name t.path ≡ name_of r → frames_of t.path ≡ [] → Again {A = A} old old r t (reply.Start) count count
 again_start old r t count l n f = λ place is. record { same = refl; uncounted = refl; place = l; name = n; frames = f; told = tt }
+
+pub again_begun : {A : Type 0} (old : Shown) (config : Configured) (q : ℕ) (r : Request) (t : Tasked) (count : ℕ) → t ≡ begun config q r → Again {A = A} old old r t (reply.Start) count count
+again_begun {A = A} old config q r t count e = subst (λ (k : Tasked). Again {A = A} old old r k (reply.Start) count count) (sym e) (again_start {A = A} old r (begun config q r) count refl refl refl)

@@ -1,5 +1,5 @@
 -- Rounds between requests, and one request after another (own choice).
-use Rattle.std.proofs.Common.{◌≡◌, inl, inr, ◌∙◌, ◌+◌, ◌<◌, ◌≤◌, ℕ, zero, suc, Bool, true, false, List, [], ◌∷◌, ◌++◌, length, take, Option, Some, None, refl, sym, ap, subst, arith, append_assoc, add-one, is_some}
+use Rattle.std.proofs.Common.{◌≡◌, inl, inr, ◌∙◌, ◌+◌, ◌-◌, ◌<◌, ◌≤◌, ℕ, zero, suc, Bool, true, false, List, [], ◌∷◌, ◌++◌, length, take, Option, Some, None, refl, sym, ap, subst, arith, append_assoc, add-one, is_some}
 use Rattle.std.specs.Prelude.{◌||◌, ◌==◌, ◌⊎◌, nat_eq, if◌then◌else◌, find, option_map, slice_get, slice_index_or, IsSome, All}
 use Rattle.std.specs.Option.{option_or}
 use Rattle.std.proofs.lemmas.List.{append-nil}
@@ -20,12 +20,15 @@ use Rattle.cl_model.proofs.Sound.{posted_stay}
 use Rattle.cl_model.proofs.Service.{all_served_push, state_append}
 use Rattle.cl_config.specs.Loaders.{schedule, schedule_of}
 use Rattle.cl_config.specs.Scripts.{IsScript}
-use Rattle.cl_registry.specs.Tables.{Shown, IsTrusted, IsOpen, IsLater, is_in, posts, round_of, state_of, steps}
+use Rattle.cl_registry.specs.Tables.{Shown, IsTrusted, IsOpen, IsLater, is_in, posts, round_of, state_of, steps, with_round}
 use Rattle.cl_registry.specs.Tables as tables
+use Rattle.cl_registry.specs.declared.registry.RegistryFault.{RegistryFault}
+use Rattle.cl_registry.specs.declared.registry.RegistryFault.TheVariants.{Memory, Stray, AlreadyPosted, NotYet}
+use Rattle.cl_registry.specs.Refusals.{RoundRefusedFor}
 use Rattle.cl_registry.specs.Reports.{IsUnfinished}
 use Rattle.cl_schedule.specs.Serving.{machine as machine_of, InOrder, Since, Served, upto}
 use Rattle.cl_schedule.specs.Rounds.{RoundsPassed}
-use Rattle.cl_schedule.proofs.Histories.{Happens, eq_nat, swap_nat}
+use Rattle.cl_schedule.proofs.Histories.{Happens, happens_round, eq_nat, swap_nat}
 use Rattle.cl_schedule.proofs.Serving.{in_upto, none_is_open}
 use Rattle.cl_schedule.proofs.Told.{state_happens}
 use Rattle.cl_schedule.proofs.Served.{same_machine}
@@ -67,7 +70,7 @@ passing_on old x new p may h rows = record {
       (p.later content (NextRound ∷ es) (refl, goes_on_there old x content p.script may, subst (λ (s : State). PassesRounds (machine_of old content) s es) (state_happens x new NextRound h) more));
 }
 
-pub all_passed : (old now : Shown) → Passing old now → (tables.MayGoOn now → ⊥) → RoundsPassed old now
+all_passed : (old now : Shown) → Passing old now → (tables.MayGoOn now → ⊥) → RoundsPassed old now
 all_passed old now p over = record {
   config = p.config;
   script = p.script;
@@ -80,6 +83,22 @@ all_passed old now p over = record {
       subst (λ (xs : List Step). PassesRounds (machine_of old content) (state_of old) xs) (append-nil p.begun)
       (p.later content [] (λ (m : MayGoOn (machine_of old content) (state_of now)). over (subst (λ k. EndsRound (schedule_of k) k.rounds (state_of now)) (sym p.script) m)));
 }
+
+-- the number of rounds to come falls
+pub next_number : (x new : Shown) → tables.MayGoOn x → new ≡ with_round x → new.script.rounds - round_of new < x.script.rounds - round_of x
+next_number x new may e =
+    let same : new.script ≡ x.script = ap (λ (y : Shown). y.script) e in
+    let rounds : new.script.rounds ≡ x.script.rounds = ap (λ s. s.rounds) same in
+    let more : round_of new ≡ round_of x + 1 = ap (λ (s : State). s.round) (state_happens x new NextRound (happens_round x new e)) in
+    let later = may.later in
+    omega arith
+
+-- a refusal ends them
+pub end_of_rounds : (old x new : Shown) (fault : RegistryFault) → Passing old x → new ≡ x → RoundRefusedFor x fault → RoundsPassed old new
+end_of_rounds old x new Memory p same refused = absurd refused
+end_of_rounds old x new Stray p same refused = absurd refused
+end_of_rounds old x new AlreadyPosted p same refused = absurd refused
+end_of_rounds old x new NotYet p same refused = subst (RoundsPassed old) (sym same) (all_passed old x p refused)
 
 -- ---- after rounds have passed
 

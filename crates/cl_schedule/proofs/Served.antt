@@ -22,16 +22,17 @@ use Rattle.cl_delegation.specs.Searches.{Located}
 use Rattle.cl_delegation.specs.Worlds.{world_of}
 use Rattle.cl_hierarchy.specs.Drafts.{Drafted}
 use Rattle.cl_registry.specs.Findings.{Answered}
-use Rattle.cl_registry.specs.Tables.{Shown, IsKept, IsOpen, RunsAs, steps, state_of, with_define, with_initiate, with_post}
-use Rattle.cl_tasks.specs.Tasks.{Tasked}
+use Rattle.cl_registry.specs.Tables.{Shown, IsKept, IsLater, IsOpen, RunsAs, round_of, steps, state_of, with_define, with_initiate, with_post}
+use Rattle.cl_tasks.specs.Tasks.{Tasked, begun}
 use Rattle.cl_tasks.specs.declared.stage.Reply.{Reply}
+use Rattle.cl_tasks.specs.declared.stage.Reply.TheVariants as reply
 use Rattle.cl_tasks.specs.declared.stage.Turn.{Turn}
 use Rattle.cl_tasks.specs.declared.stage.Turn.TheVariants as turn
 use Rattle.cl_tasks.specs.Follows.{Holds, Tells, Backed, BackedWhere, ServedIn, Follows, FollowsWhere, AnswerFollows}
 use Rattle.cl_schedule.specs.Serving.{machine, Since, Served, DefinesFor, InitiatesFor}
 use Rattle.cl_schedule.proofs.Histories.{Happens, happens_define, happens_initiate, steps_posts, unposted}
 use Rattle.cl_schedule.proofs.Serving.{Goes, goes_none, goes_on, goes_same}
-use Rattle.cl_schedule.proofs.Told.{holds_stays}
+use Rattle.cl_schedule.proofs.Told.{holds_stays, state_happens}
 
 -- what a request of today wants
 wants_needs : (r : Request) → WantsNeeds (request_of r)
@@ -70,6 +71,10 @@ last_may content x new g e run same h =
 -- wherever a step may happen its need may be added
 abbrev AddsIn : Need → Step → Type 0
 AddsIn n e = (g : Setting) (s : State) → May g s e → MayAdd s n
+
+-- a step leaves the round
+abbrev IsInRound : Step → Type 0
+IsInRound e = (s : State) → (after s e).round ≡ s.round
 
 -- a need of the request is the next one, where a content is told
 abbrev IsNextIn : Option Content → Shown → Request → Need → Type 0
@@ -129,6 +134,7 @@ of_request o r P e h = subst (λ (k : Option Request). IfSome k P) e h
 -- what a registry keeps from the first turn of a request on
 pub record Going (told : Option Content) (old now : Shown) (r : Request) : Type 0 where
   pub goes : Goes old now
+  pub round : round_of now ≡ round_of old
   pub answers : now.answers ≡ old.answers
   pub kept : IsKept told now
   pub begun : BegunIn told old now r
@@ -138,6 +144,10 @@ pub record Tasking {A : Type 0} (c : Configured) (r : Request) (now : Shown) (t 
   pub config : t.config ≡ c
   pub request : t.request ≡ Some r
   pub tells : Tells now t reply
+
+pub tasking_start : {A : Type 0} (c : Configured) (q : ℕ) (r : Request) (x : Shown) (t : Tasked) → t ≡ begun c q r → Tasking {A = A} c r x t (reply.Start)
+tasking_start {A = A} c q r x t e =
+    subst (λ (k : Tasked). Tasking {A = A} c r x k (reply.Start)) (sym e) (record { config = refl; request = refl; tells = record { before = tt; now = tt } })
 
 -- where the request is served
 served_in : (told : Option Content) (x : Shown) (c : Configured) (content : Content) → told ≡ Some content → IsKept told x → x.config ≡ c → ServedIn told c (machine x content) (state_of x)
@@ -162,21 +172,23 @@ pub backed_now : {A : Type 0} (told : Option Content) (old x : Shown) (c : Confi
 backed_now told old x c r t reply u g is k backed = backed x (g.goes.config ∙ is ∙ sym k.config) g.kept.named k.tells
 
 pub going_start : (told : Option Content) (x : Shown) (r : Request) → IsKept told x → Going told x x r
-going_start told x r kept = record { goes = goes_none x; answers = refl; kept = kept; begun = begun_none told x r }
+going_start told x r kept = record { goes = goes_none x; round = refl; answers = refl; kept = kept; begun = begun_none told x r }
 
 going_same : (told : Option Content) (old x new : Shown) (r : Request) → Going told old x r → new ≡ x → IsKept told new → Going told old new r
 going_same told old x new r g same kept =
     record {
       goes = goes_same old x new g.goes same;
+      round = ap round_of same ∙ g.round;
       answers = ap (λ (y : Shown). y.answers) same ∙ g.answers;
       kept = kept;
       begun = subst (λ (y : Shown). BegunIn told old y r) (sym same) g.begun;
     }
 
-going_on : (told : Option Content) (old x new : Shown) (r : Request) (n : Need) (e : Step) → Going told old x r → Happens x new e → IsNextIn told x r n → step_for n ≡ e → AddsIn n e → IsKept told new → Going told old new r
-going_on told old x new r n e g h next is adds kept =
+going_on : (told : Option Content) (old x new : Shown) (r : Request) (n : Need) (e : Step) → Going told old x r → Happens x new e → IsNextIn told x r n → step_for n ≡ e → AddsIn n e → IsInRound e → IsKept told new → Going told old new r
+going_on told old x new r n e g h next is adds within kept =
     record {
       goes = goes_on old x new e g.goes h;
+      round = ap (λ (s : State). s.round) (state_happens x new e h) ∙ within (state_of x) ∙ g.round;
       answers = h.answers ∙ g.answers;
       kept = kept;
       begun = begun_more told old x new r n e g.begun kept.run h next is adds;
@@ -192,7 +204,7 @@ pub going_define : {A : Type 0} (told : Option Content) (old x new : Shown) (c :
 going_define told old x new c r t reply d g is k next (inl same) kept = going_same told old x new r g same kept
 going_define {A = A} told old x new c r t reply d g is k next (inr more) kept =
     going_on told old x new r (Entry d.class.loader d.class.name d.class.loader) (Define d.class) g (happens_define x new d more)
-    (follows_now {A = A} told old x c r t reply (turn.Define d) g is k next) (define_for d.class) (λ h s may. may.may_add) kept
+    (follows_now {A = A} told old x c r t reply (turn.Define d) g is k next) (define_for d.class) (λ h s may. may.may_add) (λ s. refl) kept
 
 pub holds_define : (x new : Shown) (d : Drafted) (t : Tasked) → DefinesFor x new d → Holds x t → Holds new t
 holds_define x new d t (inl same) held = subst (λ (y : Shown). Holds y t) (sym same) held
@@ -218,10 +230,10 @@ initiating : (told : Option Content) (old x new : Shown) (r : Request) (h : Loca
     → new ≡ with_initiate x h → IsKept told new → Going told old new r
 initiating None old x new r h g follows more kept =
     let k = happens_initiate x new h more in
-    record { goes = goes_on old x new (Initiate h.name h.place h.asked) g.goes k; answers = k.answers ∙ g.answers; kept = kept; begun = tt }
+    record { goes = goes_on old x new (Initiate h.name h.place h.asked) g.goes k; round = ap (λ (s : State). s.round) (state_happens x new (Initiate h.name h.place h.asked) k) ∙ g.round; answers = k.answers ∙ g.answers; kept = kept; begun = tt }
 initiating (Some content) old x new r h g follows more kept =
     going_on (Some content) old x new r (Entry h.asked h.name h.place) (Initiate h.name h.place h.asked) g (happens_initiate x new h more)
-    (λ content e. (follows content e).0) (initiate_for h (follows content refl).1) (λ k s may. may.may_add) kept
+    (λ content e. (follows content e).0) (initiate_for h (follows content refl).1) (λ k s may. may.may_add) (λ s. refl) kept
 
 pub going_initiate : {A : Type 0} (told : Option Content) (old x new : Shown) (c : Configured) (r : Request) (t : Tasked) (reply : Reply A) (h : Located) (u : Turn A) → Going told old x r → old.config ≡ c → Tasking c r x t reply
     → ((g : Setting) (s : State) → Follows g s r u → IsInitiation g s r h)
@@ -235,6 +247,15 @@ holds_initiate x new h t (inl same) held = subst (λ (y : Shown). Holds y t) (sy
 holds_initiate x new h t (inr more) held = holds_stays x new (Initiate h.name h.place h.asked) t (happens_initiate x new h more) held
 
 -- ---- the post
+
+-- a request that was of no later round is of none
+pub still_now : (told : Option Content) (old x : Shown) (r : Request) (q : ℕ) → Going told old x r → (IsLater old q → ⊥) → IsLater x q → ⊥
+still_now told old x r q g now later =
+    now (record {
+      round = later.round;
+      of = ap (λ s. slice_get s.rounds_of q) (sym g.goes.script) ∙ later.of;
+      later = subst (λ (k : ℕ). k < later.round) g.round later.later;
+    })
 
 answering : (g : Setting) (s : State) (r : Request) (a : rust.Answer) → AnswerFollows g s r a → Answering g s r (answer_of a)
 answering g s r (rust.TheVariants.Said v) f = f

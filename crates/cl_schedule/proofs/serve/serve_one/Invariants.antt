@@ -1,0 +1,17 @@
+use Rattle.std.proofs.Common.{◌≡◌}
+use Rattle.cl_registry.specs.Tables.{IsKept, MayGoOn, posts}
+use Rattle.cl_schedule.specs.Serving.{upto}
+use Rattle.cl_schedule.specs.Counting.{Grows, faults}
+use Rattle.cl_schedule.proofs.Rounds.{ServedBelow}
+use Rattle.cl_schedule.proofs.serve.serve_one.Given as goal
+
+abbrev pub invariant-loop-q : goal.invariant-loop-q
+invariant-loop-q g l = record {
+  config : l.registry.config ≡ l.fn.config.value;
+  script : l.registry.script ≡ l.fn.script.value;
+  order : posts l.registry.history ≡ upto l.q;
+  kept : IsKept g.T.Told.told l.registry;
+  over : MayGoOn l.registry → ⊥;
+  served : ServedBelow g.T.Told.told l.registry l.q;
+  counted : Grows (faults l.registry.answers) (g.S.Source.refused l.fn.source) (g.S.Source.refused l.source);
+}

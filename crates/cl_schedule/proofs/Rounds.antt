@@ -29,7 +29,7 @@ use Rattle.cl_registry.specs.Reports.{IsUnfinished}
 use Rattle.cl_schedule.specs.Serving.{machine as machine_of, InOrder, Since, Served, upto}
 use Rattle.cl_schedule.specs.Rounds.{RoundsPassed}
 use Rattle.cl_schedule.proofs.Histories.{Happens, happens_round, eq_nat, swap_nat}
-use Rattle.cl_schedule.proofs.Serving.{in_upto, none_is_open}
+use Rattle.cl_schedule.proofs.Serving.{bare, in_upto, none_is_open}
 use Rattle.cl_schedule.proofs.Told.{state_happens}
 use Rattle.cl_schedule.proofs.Served.{same_machine}
 
@@ -293,3 +293,7 @@ served_whole (Some content) x q is below e =
     let g : Setting = machine_of x content in
     let n : q ≡ length g.script = e ∙ sym (schedule_length x.script.requests x.script.rounds_of is.each) in
     subst (λ (rs : List Scheduled). AllServed g 0 start rs (steps x)) (ap (λ (k : ℕ). take k g.script) n ∙ take_all g.script) below
+
+pub served_bare : (told : Option Content) (x : Shown) → InOrder told x → InOrder told (bare x)
+served_bare None x h = tt
+served_bare (Some content) x h = h

@@ -12,7 +12,7 @@ use Rattle.cl_model.specs.declared.answer.Answer.TheVariants as answers
 use Rattle.cl_model.specs.declared.verdict.Verdict.{Verdict}
 use Rattle.cl_model.specs.declared.verdict.Verdict.TheVariants as verdicts
 use Rattle.cl_model.specs.Content.{Content}
-use Rattle.cl_model.specs.Classes.{class, same_class, Above, supers}
+use Rattle.cl_model.specs.Classes.{class, same_class, Above, supers, misfit}
 use Rattle.cl_model.specs.Texts.{AnswerNames, EventNames}
 use Rattle.cl_model.specs.States.{State, Record, recorded, start, AllMet}
 use Rattle.cl_model.specs.Machine.{Step, state_after, Run}
@@ -21,9 +21,10 @@ use Rattle.cl_model.specs.Tables as tables
 use Rattle.cl_model.specs.Views.{answers_of, answer_at, steps_of}
 use Rattle.cl_config.specs.Views.{Configured, Scripted}
 use Rattle.cl_config.specs.Loaders.{schedule_of}
+use Rattle.cl_config.specs.Scripts.{IsScript}
 use Rattle.cl_delegation.specs.Searches.{Located}
 use Rattle.cl_delegation.specs.Worlds.{setting_of}
-use Rattle.cl_hierarchy.specs.Drafts.{Drafted}
+use Rattle.cl_hierarchy.specs.Drafts.{Drafted, IsSpelt}
 use Rattle.cl_hierarchy.specs.Rows.{Rowed}
 use Rattle.cl_registry.specs.Findings.{Answered, Based, loader_of, name_of}
 
@@ -78,9 +79,10 @@ abbrev pub is_in : ℕ → List ℕ → Bool
 is_in n [] = false
 is_in n (x ∷ xs) = nat_eq n x || is_in n xs
 
--- what holds under any source: the tables can be trusted, those requests have an answer whose post the history has, each has
+-- what holds under any source: the script is one, the tables can be trusted, those requests have an answer whose post the history has, each has
 -- a place for one, and those of the rounds before are answered (5.3, 5.3.5)
 pub record IsTrusted (x : Shown) : Type 0 where
+  pub script : IsScript x.script
   pub tables : tables.IsTrusted (schedule_of x.script) x.script.rounds (steps x)
   pub posted : (q : ℕ) → is_in q (posts x.history) ≡ is_some (answer_at (answers_of x.answers) q)
   pub whole : length x.answers ≡ length x.script.requests
@@ -96,12 +98,13 @@ pub record NamesLoaders (x : Shown) : Type 0 where
   pub history : All (EventNames (length x.config.loaders)) x.history
   pub answers : All (λ o. IfSome o (AnswerNames (length x.config.loaders))) x.answers
 
--- what a registry keeps; each class that was defined has its row (5.3)
+-- what a registry keeps; each class that was defined has its row, whose file its bytes spell (5.3, 5.3.5)
 pub record IsKept (told : Option Content) (x : Shown) : Type 0 where
   pub trusted : IsTrusted x
   pub named : NamesLoaders x
   pub run : RunsAs told x
   pub rows : map (λ r. r.class) x.rows ≡ defined x.history
+  pub spelt : All (λ r. IsSpelt told r.class r.file) x.rows
 
 -- ---- rows
 
@@ -141,12 +144,21 @@ LacksRecord x loader name = recorded (records_of x) loader name ≡ None
 abbrev pub IsNew : Shown → Drafted → Type 0
 IsNew x d = LacksRecord x d.class.loader d.class.name
 
+-- the class of this row fits as a supertype of a class (5.3.5, steps 3 and 4)
+abbrev pub FitsAs : Class → Above → Rowed → Type 0
+FitsAs c a row = misfit c a.role row.class (file_of row.file) ≡ None
+
+-- each direct supertype of a draft that has a row in this table fits (5.3.5, steps 3 and 4)
+abbrev pub SupertypesFit : (ℕ → List ℕ → Option Rowed) → Drafted → Type 0
+SupertypesFit table d = AllByRecursion (λ (a : Above). IfSome (table d.class.loader a.name) (FitsAs d.class a)) (supers (file_of d.file))
+
 -- a class may be defined: its home was found under this configuration, its loader is one of these, and records each of its
--- direct supertypes (5.3.5, steps 1, 3 and 4)
+-- direct supertypes, which fit (5.3.5, steps 1, 3 and 4)
 pub record MayEnter (x : Shown) (d : Drafted) : Type 0 where
   pub config : d.home.config ≡ x.config
   pub loader : d.class.loader < length x.config.loaders
   pub above : AllByRecursion (λ (a : Above). IsSome (recorded (records_of x) d.class.loader a.name)) (supers (file_of d.file))
+  pub fit : SupertypesFit (looked x) d
 
 -- a class and its row more, and the event (5.3.5, step 5)
 abbrev pub with_define : Shown → Drafted → Shown

@@ -1,6 +1,5 @@
 -- How a request goes whose class its loader has recorded: a look, and the post of that class (JVMS SE 8, 5.3).
-use Rattle.std.proofs.Common.{◌≡◌, inl, inr, ◌∙◌, ℕ, List, [], Option, Some, None, refl, sym, ap, subst}
-use Rattle.std.specs.Prelude.{◌⊎◌}
+use Rattle.std.proofs.Common.{◌≡◌, inr, ◌∙◌, ℕ, List, [], Some, None, refl, sym, ap, subst}
 use Rattle.cl_model.specs.declared.answer.Answer.{Answer}
 use Rattle.cl_model.specs.declared.answer.Answer.TheVariants as answers
 use Rattle.cl_model.specs.declared.class.Class.{Class}
@@ -20,7 +19,7 @@ use Rattle.cl_tasks.specs.declared.stage.Reply.{Reply}
 use Rattle.cl_tasks.specs.declared.stage.Reply.TheVariants as reply
 use Rattle.cl_tasks.specs.declared.stage.Turn.{Turn}
 use Rattle.cl_tasks.specs.declared.stage.Turn.TheVariants as turn
-use Rattle.cl_schedule.specs.Replies.{AnswersRecorded, ClassOrMemory, IsAnsweredAs, Shows}
+use Rattle.cl_schedule.specs.Replies.{AnswersRecorded, ClassOrMemory, Shows}
 
 -- a turn that posts this answer
 abbrev pub IsPostOf : {A : Type 0} → Answer → Turn A → Type 0

@@ -13,7 +13,6 @@ use Rattle.cl_model.specs.declared.request.Request.{Request}
 use Rattle.cl_model.specs.Content.{Content}
 use Rattle.cl_model.specs.States.{State, Answer, Posted, answer_to, start}
 use Rattle.cl_model.specs.Machine.{Setting, Scheduled, Step, Define, Initiate, NextRound, EndsRound, MayGoOn, after, state_after}
-use Rattle.cl_model.specs.Machine as machine
 use Rattle.cl_model.specs.Service.{PassesRounds, AllServed}
 use Rattle.cl_model.specs.Views.{answers_of, answer_at, request_of, post_of, steps_of}
 use Rattle.cl_model.proofs.Sound.{posted_stay}
@@ -26,7 +25,7 @@ use Rattle.cl_registry.specs.declared.registry.RegistryFault.{RegistryFault}
 use Rattle.cl_registry.specs.declared.registry.RegistryFault.TheVariants.{Memory, Stray, AlreadyPosted, NotYet}
 use Rattle.cl_registry.specs.Refusals.{RoundRefusedFor}
 use Rattle.cl_registry.specs.Reports.{IsUnfinished}
-use Rattle.cl_schedule.specs.Serving.{machine as machine_of, InOrder, Since, Served, upto}
+use Rattle.cl_schedule.specs.Serving.{machine as machine_of, InOrder, Served, upto}
 use Rattle.cl_schedule.specs.Rounds.{RoundsPassed}
 use Rattle.cl_schedule.proofs.Histories.{Happens, happens_round, eq_nat, swap_nat}
 use Rattle.cl_schedule.proofs.Serving.{bare, in_upto, none_is_open}
@@ -48,8 +47,14 @@ pub record Passing (old now : Shown) : Type 0 where
 
 pub passing_none : (x : Shown) → Passing x x
 passing_none x = record {
-  config = refl; script = refl; rows = refl; answers = refl; posts_same = refl;
-  begun = []; steps_more = sym (append-nil (steps x)); later = λ content es h. h;
+  config = refl;
+  script = refl;
+  rows = refl;
+  answers = refl;
+  posts_same = refl;
+  begun = [];
+  steps_more = sym (append-nil (steps x));
+  later = λ content es h. h;
 }
 
 -- where the next round may begin, in the machine's words

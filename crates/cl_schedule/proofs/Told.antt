@@ -1,6 +1,6 @@
 -- What a task was told stays so while the registry goes on: records and rows only grow (JVMS SE 8, 5.3).
-use Rattle.std.proofs.Common.{◌≡◌, ◌∙◌, ℕ, List, [], ◌∷◌, ◌++◌, Bool, true, false, if◌then◌else◌, Option, Some, None, refl, sym, ap, subst}
-use Rattle.std.specs.Prelude.{find, option_and_then}
+use Rattle.std.proofs.Common.{◌≡◌, ◌∙◌, ℕ, List, [], ◌∷◌, ◌++◌, Option, Some, None, sym, ap, subst}
+use Rattle.std.specs.Prelude.{option_and_then}
 use Rattle.std.specs.Option.{option_or}
 use Rattle.std.specs.List.{AllByRecursion}
 use Rattle.std.proofs.lemmas.List.Folds.{find-append}
@@ -11,12 +11,11 @@ use Rattle.cl_model.specs.States.{State, recorded, start}
 use Rattle.cl_model.specs.Machine.{Step, after, state_after}
 use Rattle.cl_model.proofs.Runs.{records_stay}
 use Rattle.cl_model.proofs.Service.{state_append}
-use Rattle.cl_delegation.specs.Searches.{Located}
 use Rattle.cl_hierarchy.specs.Rows.{Rowed}
 use Rattle.cl_hierarchy.specs.Paths.{frames_of, at_name}
 use Rattle.cl_registry.specs.Tables.{Shown, Records, state_of, records_of, steps, row_of, looked}
 use Rattle.cl_tasks.specs.Tasks.{Tasked}
-use Rattle.cl_tasks.specs.Follows.{IsRecordedAs, HasAccepted, HaveAccepted, Holds, Tells, TellsOf}
+use Rattle.cl_tasks.specs.Follows.{IsRecordedAs, HaveAccepted, Holds, Tells, TellsOf}
 use Rattle.cl_tasks.specs.declared.stage.Reply.{Reply}
 use Rattle.cl_schedule.proofs.Histories.{Happens}
 

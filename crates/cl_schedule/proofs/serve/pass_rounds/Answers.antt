@@ -1,5 +1,5 @@
-use Rattle.std.proofs.Common.{ap, arith, ◌≡◌, ◌+◌, ◌∙◌}
-use Rattle.cl_registry.specs.Tables.{Shown, round_of}
+use Rattle.std.proofs.Common.{ap}
+use Rattle.cl_registry.specs.Tables.{Shown}
 use Rattle.cl_schedule.proofs.Histories.{happens_round}
 use Rattle.cl_schedule.proofs.Rounds.{passing_on, end_of_rounds, next_number}
 use Rattle.cl_schedule.proofs.serve.pass_rounds.Goals as goal

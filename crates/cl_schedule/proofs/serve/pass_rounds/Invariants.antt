@@ -1,5 +1,5 @@
 use Rattle.std.proofs.Common.{◌-◌}
-use Rattle.cl_registry.specs.Tables.{IsKept, round_of}
+use Rattle.cl_registry.specs.Tables.{round_of}
 use Rattle.cl_schedule.proofs.Rounds.{Passing}
 use Rattle.cl_schedule.proofs.serve.pass_rounds.Given as goal
 

@@ -1,7 +1,7 @@
 use Rattle.std.proofs.Common.{◌≡◌, ◌∙◌, ℕ, length, Some, ap, sym, subst, arith}
 use Rattle.std.specs.Prelude.{slice_get}
 use Rattle.cl_config.specs.Views.{Configured, Scripted}
-use Rattle.cl_config.specs.Scripts.{HasLoaders, IsScript}
+use Rattle.cl_config.specs.Scripts.{HasLoaders}
 use Rattle.cl_registry.specs.Reports.{IsNamed}
 use Rattle.cl_registry.specs.Tables.{Shown, IsTrusted, RunsAs, posts, steps}
 use Rattle.cl_schedule.specs.Counting.{Grows, faults}

@@ -1,5 +1,5 @@
-use Rattle.std.proofs.Common.{◌∙◌, List, Option, Some, ap, refl, subst, sym}
-use Rattle.std.specs.Prelude.{slice_get, slice_set}
+use Rattle.std.proofs.Common.{◌∙◌, List, Option, Some, ap, refl, subst}
+use Rattle.std.specs.Prelude.{slice_set}
 use Rattle.cl_model.specs.declared.answer.Answer.{Answer}
 use Rattle.cl_registry.specs.Tables.{Shown}
 use Rattle.cl_delegation.specs.Searches.{Located}
@@ -10,7 +10,7 @@ use Rattle.cl_schedule.specs.Counting.{fault}
 use Rattle.cl_schedule.specs.Serving.{InitiatesFor}
 use Rattle.cl_schedule.proofs.Serving.{goes_none, posts_once}
 use Rattle.cl_schedule.proofs.Told.{tells_there}
-use Rattle.cl_schedule.proofs.Served.{backed_now, going_start, going_define, going_initiate, going_post, still_now, holds_define, holds_initiate, posted_memory, tasking_start}
+use Rattle.cl_schedule.proofs.Served.{going_start, going_define, going_initiate, going_post, still_now, holds_define, holds_initiate, posted_memory, tasking_start}
 use Rattle.cl_schedule.proofs.Recorded.{again_look, again_off, again_post, again_memory, again_begun}
 use Rattle.cl_schedule.proofs.Counted.{grows_none, grows_on, grows_quiet, told_fault, told_none, post_grows}
 use Rattle.cl_schedule.proofs.serve.serve_request.Goals as goal

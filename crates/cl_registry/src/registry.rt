@@ -138,8 +138,6 @@ impl<T: Told> Registry<T> {
     ) -> Result<Arc<ClassRow<T>>, DefineRefused<T>>
         ensures defined { IfOk result (λ r. Defines self.old self.new draft r.value) }
         ensures found { IfOk result (λ r. Records self.new draft.class.loader draft.class.name r.value) }
-        // TODO: wanted by cl_schedule
-        ensures shown { IfOk result (λ r. looked self.new draft.class.loader draft.class.name ≡ Some r.value) }
         ensures refused { IfErr result (λ e. DefineRefusedFor self.old draft e.fault) }
         ensures unchanged { IfErr result (λ e. (self.new ≡ self.old) × (e.draft ≡ draft)) }
         ensures kept { IsKept T.told self.new }
@@ -157,8 +155,6 @@ impl<T: Told> Registry<T> {
     ) -> Result<Arc<ClassRow<T>>, RegistryFault>
         ensures initiated { IfOk result (λ r. Initiates self.old self.new home.now r.value) }
         ensures found { IfOk result (λ r. Records self.new home.now.asked home.now.name r.value) }
-        // TODO: wanted by cl_schedule
-        ensures shown { IfOk result (λ r. looked self.new home.now.asked home.now.name ≡ Some r.value) }
         ensures refused { IfErr result (λ fault. InitiateRefusedFor self.old home.now fault) }
         ensures unchanged { IfErr result (λ fault. self.new ≡ self.old) }
         ensures kept { IsKept T.told self.new }

@@ -1,6 +1,7 @@
 pub mod Histories
 pub mod Serving
 pub mod Told
+pub mod Shown
 pub mod Served
 pub mod Rounds
 pub mod Recorded

@@ -22,20 +22,20 @@ use Rattle.cl_schedule.proofs.Histories.{Happens}
 pub state_happens : (old new : Shown) (e : Step) → Happens old new e → state_of new ≡ after (state_of old) e
 state_happens old new e h = ap (state_after start) h.step ∙ state_append start (steps old) (e ∷ [])
 
-record_stays : (old new : Shown) (e : Step) (loader place : ℕ) (name : List ℕ) → Happens old new e → recorded (records_of old) loader name ≡ Some place → recorded (records_of new) loader name ≡ Some place
+pub record_stays : (old new : Shown) (e : Step) (loader place : ℕ) (name : List ℕ) → Happens old new e → recorded (records_of old) loader name ≡ Some place → recorded (records_of new) loader name ≡ Some place
 record_stays old new e loader place name h r =
     subst (λ (s : State). recorded s.records loader name ≡ Some place) (sym (state_happens old new e h))
     (records_stay (state_of old) (e ∷ []) loader place name r)
 
 -- the row that is shown is that of the class that is recorded
-looked_at : (x : Shown) (loader place : ℕ) (name : List ℕ) → recorded (records_of x) loader name ≡ Some place → looked x loader name ≡ row_of x.rows (class name place)
+pub looked_at : (x : Shown) (loader place : ℕ) (name : List ℕ) → recorded (records_of x) loader name ≡ Some place → looked x loader name ≡ row_of x.rows (class name place)
 looked_at x loader place name e = ap (option_and_then (λ (p : ℕ). row_of x.rows (class name p))) e
 
 or_first : {A : Type 0} (o p : Option A) (a : A) → o ≡ Some a → option_or o p ≡ Some a
 or_first None p a e = absurd cc
 or_first (Some b) p a e = e
 
-row_stays : (old more new : List Rowed) (c : Class) (row : Rowed) → new ≡ old ++ more → row_of old c ≡ Some row → row_of new c ≡ Some row
+pub row_stays : (old more new : List Rowed) (c : Class) (row : Rowed) → new ≡ old ++ more → row_of old c ≡ Some row → row_of new c ≡ Some row
 row_stays old more new c row e found =
     subst (λ (rs : List Rowed). row_of rs c ≡ Some row) (sym e)
     (find-append (λ (r : Rowed). same_class r.class c) old more ∙ or_first (row_of old c) (row_of more c) row found)

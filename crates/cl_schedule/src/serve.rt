@@ -95,7 +95,8 @@ fn read<T: Told, S: Source<T>>(
 
 /// The reply of a definition that the tables bear.
 fn define<T: Told>(alloc: Global, registry: &mut Registry<T>, draft: Draft<T>) -> Reply<T>
-    requires { MayEnter registry.old draft }
+    requires kept { IsKept T.told registry.old }
+    requires may { MayEnter registry.old draft }
     ensures expects { (t : Tasked) → t.phase ≡ Defining → Expects t result }
     ensures tells { TellsOf registry.new draft.class.loader draft.class.name result }
     ensures faults { told_faults result ≡ 0 }

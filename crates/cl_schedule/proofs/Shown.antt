@@ -1,6 +1,6 @@
 -- A row that is answered is the one that the registry shows (JVMS SE 8, 5.3, 5.3.5).
 use Rattle.std.proofs.Common.{◌≡◌, ◌∙◌, ℕ, Bool, true, false, if◌then◌else◌, List, [], ◌∷◌, ◌++◌, map, Option, Some, None, refl, sym, ap, subst}
-use Rattle.std.specs.Prelude.{◌&&◌, ◌==◌, find}
+use Rattle.std.specs.Prelude.{◌==◌, find}
 use Rattle.std.specs.Option.{option_or}
 use Rattle.std.proofs.lemmas.List.Folds.{find-append}
 use Rattle.cl_model.specs.declared.class.Class.{Class}
@@ -10,17 +10,16 @@ use Rattle.cl_classfile.specs.Files.{same_name}
 use Rattle.cl_model.specs.Content.{Content}
 use Rattle.cl_model.specs.Classes.{class, same_class}
 use Rattle.cl_model.specs.States.{State, Record, Answer, recorded, start}
-use Rattle.cl_model.specs.Machine.{Step, Define, Initiate, NextRound, after, state_after}
+use Rattle.cl_model.specs.Machine.{Define, Initiate, NextRound, after, state_after}
 use Rattle.cl_model.specs.Views.{answers_of, answer_at, post_of, steps_of}
 use Rattle.cl_model.proofs.Runs.{record_found, records_stay, and_is, names_equal}
 use Rattle.cl_model.proofs.Ancestors.{same_self}
 use Rattle.cl_delegation.specs.Searches.{Located}
 use Rattle.cl_hierarchy.specs.Drafts.{Drafted}
 use Rattle.cl_hierarchy.specs.Rows.{Rowed}
-use Rattle.cl_registry.specs.Tables.{Shown, IsKept, MayEnter, MayJoin, Records, Defines, DefinedAs, Initiates, InitiatedAs, defined, row_of, row_for, looked, records_of, with_define, with_initiate}
-use Rattle.cl_tasks.specs.Follows.{IsRecordedAs}
-use Rattle.cl_schedule.proofs.Histories.{Happens, eq_nat, happens_define, happens_initiate}
-use Rattle.cl_schedule.proofs.Told.{looked_at, record_stays, row_stays, told_row}
+use Rattle.cl_registry.specs.Tables.{Shown, IsKept, Records, Defines, DefinedAs, Initiates, InitiatedAs, defined, row_of, looked, records_of}
+use Rattle.cl_schedule.proofs.Histories.{eq_nat}
+use Rattle.cl_schedule.proofs.Told.{looked_at}
 
 -- ---- what has no record was not defined
 

@@ -66,7 +66,7 @@ same_verdict v u e = some_is v u (sym (there_and_back v) ∙ ap verdict_back e �
 
 -- ---- an answer of the report is one of the state
 
-given_at : (xs : List (Option answers.Answer)) (q : ℕ) (a : answers.Answer) → slice_get xs q ≡ Some (Some a) → answer_at (answers_of xs) q ≡ Some (answer_of a)
+pub given_at : (xs : List (Option answers.Answer)) (q : ℕ) (a : answers.Answer) → slice_get xs q ≡ Some (Some a) → answer_at (answers_of xs) q ≡ Some (answer_of a)
 given_at xs q a e =
     ap (option_and_then (λ (o : Option Answer). o)) (slice_get-map (option_map answer_of) xs q ∙ ap (option_map (option_map answer_of)) e)
 

@@ -7,3 +7,4 @@ pub mod Rounds
 pub mod Recorded
 pub mod Counted
 pub mod Headline
+pub mod Again

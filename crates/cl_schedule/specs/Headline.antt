@@ -15,6 +15,7 @@ use Rattle.cl_config.specs.Views.{Configured, Scripted}
 use Rattle.cl_registry.specs.declared.report.Report.{Report}
 use Rattle.cl_registry.specs.Reports.{IsNamed}
 use Rattle.cl_registry.specs.Tables.{Shown, IsTrusted, RunsAs, posts, state_of}
+use Rattle.cl_schedule.specs.Replies.{ClassesStay}
 use Rattle.cl_schedule.specs.Serving.{InOrder, machine, reported, upto}
 
 -- the own content of the class's loader has bytes for its name, and they spell a file that names it (5.3.5)
@@ -66,13 +67,15 @@ CirclesExact (Some content) x =
 
 -- the report of a script that was served in order under a configuration. Where a content is told, the history is a run
 -- of the linkage machine over it, in which each request is answered once, with what its plan yields in the state at that
--- point, or with a failure, and the next round begins as soon as it may; each class is spelt by its defining loader's bytes, equal requests are answered alike, and
--- circles are told exactly (5.3)
+-- point, or with a failure, and the next round begins as soon as it may; each class is spelt by its
+-- defining loader's bytes, equal requests are answered alike, and circles are told exactly. Under any source the tables can be
+-- trusted, and a class that was answered stays (5.3)
 pub record IsServedInOrder (told : Option Content) (config : Configured) (script : Scripted) (r : Report) : Type 0 where
   pub of_script : r.script.value ≡ script
   pub each_once : posts r.history ≡ upto (length script.requests)
   pub named : IsNamed (length config.loaders) r
   pub trusted : IsTrusted (reported config r)
+  pub classes : ClassesStay (reported config r)
   pub run : RunsAs told (reported config r)
   pub in_order : InOrder told (reported config r)
   pub spelt : EachSpelt told (reported config r)

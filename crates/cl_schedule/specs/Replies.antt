@@ -1,5 +1,5 @@
 -- What a look is answered, and how a request is served whose class is recorded (JVMS SE 8, 5.3).
-use Rattle.std.specs.Prelude.{◌≡◌, ◌⊎◌, ℕ, List, Some, None, IsSome}
+use Rattle.std.specs.Prelude.{◌≡◌, ◌⊎◌, ◌<◌, ℕ, List, Option, Some, None, IsSome, slice_get, slice_set}
 use Rattle.cl_model.specs.declared.answer.Answer.{Answer}
 use Rattle.cl_model.specs.declared.answer.Answer.TheVariants.{Said, Memory}
 use Rattle.cl_model.specs.declared.class.Class.{Class}
@@ -40,3 +40,14 @@ pub record IsAnsweredAs (old new : Shown) (q : ℕ) (c : Class) (count now : ℕ
 abbrev pub AnswersRecorded : Shown → Shown → ℕ → Request → ℕ → ℕ → Type 0
 AnswersRecorded old new q r count now =
     (place : ℕ) → recorded (records_of old) (loader_of r) (name_of r) ≡ Some place → IsAnsweredAs old new q (class (name_of r) place) count now
+
+-- a request that asks what an earlier one was answered a class for is answered that class, or want of memory, under any source (5.3)
+abbrev pub ClassesStay : Shown → Type 0
+ClassesStay x =
+    (p q : ℕ) (r : Request) (c : Class) (a : Answer) → p < q → slice_get x.script.requests p ≡ Some r → slice_get x.script.requests q ≡ Some r
+    → slice_get x.answers p ≡ Some (Some (Said (verdicts.Class c))) → slice_get x.answers q ≡ Some (Some a) → ClassOrMemory c a
+
+-- one answer more (own choice)
+pub record IsAnswered (given more : List (Option Answer)) (q : ℕ) : Type 0 where
+  pub answer : Answer
+  pub is : more ≡ slice_set given q (Some answer)

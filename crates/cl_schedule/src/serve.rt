@@ -9,7 +9,7 @@ ghost use Rattle.cl_tasks.specs.Follows.{TellsOf};
 ghost use Rattle.cl_tasks.specs.declared.phase.Phase.TheVariants.{Reading, Defining, Initiating};
 ghost use Rattle.cl_schedule.specs.Counting.{CountsFaults, FaultsGrow, Grows, told_faults};
 ghost use Rattle.cl_schedule.specs.Headline.{IsServedInOrder};
-ghost use Rattle.cl_schedule.specs.Replies.{AnswersRecorded, Shows};
+ghost use Rattle.cl_schedule.specs.Replies.{AnswersRecorded, IsAnswered, Shows};
 ghost use Rattle.cl_schedule.specs.Rounds.{RoundsPassed};
 ghost use Rattle.cl_schedule.specs.Serving.{DefinesFor, InitiatesFor, Served};
 
@@ -177,6 +177,7 @@ fn serve_request<T: Told, S: Source<T>>(
     ensures script { registry.new.script ≡ registry.old.script }
     ensures posted { posts registry.new.history ≡ posts registry.old.history ++ q ∷ [] }
     ensures served { Served T.told registry.old registry.new q request }
+    ensures answered { IsAnswered registry.old.answers registry.new.answers q }
     ensures recorded { AnswersRecorded registry.old registry.new q request (S.refused source.old) (S.refused source.new) }
     ensures faults { FaultsGrow registry.old.answers registry.new.answers (S.refused source.old) (S.refused source.new) }
     ensures kept { IsKept T.told registry.new }

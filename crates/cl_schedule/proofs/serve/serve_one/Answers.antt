@@ -9,6 +9,8 @@ use Rattle.cl_schedule.specs.Serving.{reported, upto, InOrder}
 use Rattle.cl_schedule.specs.Headline.{EachSpelt, Alike, CirclesExact}
 use Rattle.cl_schedule.proofs.Serving.{bare, bare_runs, bare_trusted, next_upto, next_is_open, in_script, has_loader, report_tells}
 use Rattle.cl_schedule.proofs.Rounds.{next_is_now, none_goes_on, nothing_left, served_bare, served_none, served_next, served_whole}
+use Rattle.cl_schedule.specs.Replies.{ClassesStay}
+use Rattle.cl_schedule.proofs.Again.{stays_next, stays_same, stays_start}
 use Rattle.cl_schedule.proofs.Counted.{grows_none, faults_none, faults_then}
 use Rattle.cl_schedule.proofs.Headline.{each_spelt, alike, circles_exact}
 use Rattle.cl_schedule.proofs.serve.serve_one.Goals as goal
@@ -23,6 +25,7 @@ loop-q-init g c =
       order = passed.posts_same ∙ ap (λ (x : Shown). posts x.history) empty;
       kept = c.pass_rounds.ensures.kept;
       over = none_goes_on c.in-Ok.registry c.pass_rounds.new.registry passed;
+      stay = stays_start c.pass_rounds.new.registry c.pass_rounds.ensures.kept.trusted (passed.posts_same ∙ ap (λ (x : Shown). posts x.history) empty);
       served = served_none g.T.Told.told c.in-Ok.registry c.pass_rounds.new.registry (ap steps empty) passed;
       counted =
           subst (λ (n : ℕ). Grows n (g.S.Source.refused c.args.source.now) (g.S.Source.refused c.args.source.now))
@@ -58,6 +61,11 @@ loop-q-preserved g c =
       order = next_upto c.loop-q.q _ _ (passed.posts_same ∙ served.posted) inv.order;
       kept = c.pass_rounds-in-loop-q.ensures.kept;
       over = none_goes_on x new passed;
+      stay =
+          stays_same x new
+          (stays_next old x c.loop-q.q c.in_ok-request.request served.answered.answer _ _ inv.kept.trusted inv.order
+          (subst (λ (s : Scripted). slice_get s.requests c.loop-q.q ≡ Some c.in_ok-request.request) (c.deref-in-loop-q.ensures ∙ sym inv.script) c.in_ok-request.ensures)
+          inv.stay served.script served.answered.is served.recorded) passed.script passed.answers;
       served =
           served_next g.T.Told.told old x new c.loop-q.q c.in_ok-request.request inv.served inv.kept.trusted.script
           (subst (λ (s : Scripted). slice_get s.requests c.loop-q.q ≡ Some c.in_ok-request.request) (c.deref-in-loop-q.ensures ∙ sym inv.script) c.in_ok-request.ensures) served.served passed;
@@ -97,6 +105,7 @@ returns-clause-served g c =
       each_once = ap posts whole.history ∙ inv.order ∙ ap upto (all_served g c);
       named = subst (λ (k : Configured). IsNamed (length k.loaders) c.in-Ok-into_report.report) inv.config c.in-Ok-into_report.ensures.loaders;
       trusted = subst IsTrusted (told_of g c) trusted;
+      classes = subst ClassesStay (told_of g c) inv.stay;
       run = subst (RunsAs told) (told_of g c) run;
       in_order = subst (InOrder told) (told_of g c) (served_bare told c.loop-q.registry (served_whole told c.loop-q.registry c.loop-q.q trusted.script inv.served all));
       spelt = subst (EachSpelt told) (told_of g c) (each_spelt told x run);

@@ -21,6 +21,9 @@ returns-in-Err-clause-posted g c = posts_once c.args.registry.now c.args.registr
 pub returns-in-Err-clause-served : goal.returns-in-Err-clause-served
 returns-in-Err-clause-served g c = posted_memory g.T.Told.told c.args.registry.now c.post.new.registry c.args.q c.args.request _ c.requires.kept c.requires.open (ap (λ f. f.answer) c.memory.ensures) c.post.ensures.posted
 
+pub returns-in-Err-clause-answered : goal.returns-in-Err-clause-answered
+returns-in-Err-clause-answered g c = record { answer = c.memory.result.answer; is = ap (λ (x : Shown). x.answers) c.post.ensures.posted }
+
 pub returns-in-Err-clause-recorded : goal.returns-in-Err-clause-recorded
 returns-in-Err-clause-recorded g c = again_memory c.args.registry.now c.post.new.registry c.args.q c.args.request c.memory.result.answer _ (ap (λ f. f.answer) c.memory.ensures) c.post.ensures.posted
 
@@ -132,6 +135,14 @@ returns-in-Post-clause-served g c =
     let inv = c.loop-loader.invariant in
     going_post {A = g.row.T.Denot} g.T.Told.told c.args.registry.now c.loop-loader.registry c.post-in-Post.new.registry c.args.config.value c.args.q c.args.request c.loop-loader.task c.loop-loader.reply c.in-Post.finding
     inv.going c.requires.config inv.tasking c.in-Post.ensures.next c.requires.open c.post-in-Post.ensures.posted
+
+pub returns-in-Post-clause-answered : goal.returns-in-Post-clause-answered
+returns-in-Post-clause-answered g c = record {
+  answer = c.in-Post.finding.answer;
+  is =
+      ap (λ (x : Shown). x.answers) c.post-in-Post.ensures.posted
+      ∙ ap (λ (xs : List (Option Answer)). slice_set xs c.args.q (Some c.in-Post.finding.answer)) c.loop-loader.invariant.going.answers;
+}
 
 pub returns-in-Post-clause-recorded : goal.returns-in-Post-clause-recorded
 returns-in-Post-clause-recorded g c =

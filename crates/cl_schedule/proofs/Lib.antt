@@ -1,4 +1,10 @@
+pub mod Histories
 pub mod Serving
+pub mod Told
+pub mod Shown
 pub mod Served
+pub mod Rounds
+pub mod Recorded
 pub mod Counted
 pub mod Headline
+pub mod Again

@@ -1,22 +1,22 @@
 -- What the calls of one request do to a registry.
-use Rattle.std.proofs.Common.{◌≡◌, ◌≢◌, ◌∙◌, ◌+◌, ◌<◌, ◌≤◌, ◌∷◌, ◌++◌, [], ℕ, zero, suc, Bool, true, false, List, length, Option, Some, None, map, refl, ap, sym, subst, arith, is_some, add-one}
+use Rattle.std.proofs.Common.{◌≡◌, ◌∙◌, ◌+◌, ◌<◌, ◌≤◌, ◌∷◌, ◌++◌, [], ℕ, zero, suc, Bool, true, false, List, length, Option, Some, None, map, refl, ap, sym, subst, arith, is_some, add-one}
 use Rattle.std.specs.Prelude.{◌||◌, nat_eq, slice_get, slice_index_or}
 use Rattle.std.proofs.lemmas.Bool.Decides.{nat_tests}
 use Rattle.cl_model.specs.declared.answer.Answer.{Answer}
-use Rattle.cl_model.specs.declared.class.Class.{Class}
+use Rattle.cl_model.specs.declared.event.Event.TheVariants as events
 use Rattle.cl_model.specs.declared.request.Request as requests
 use Rattle.cl_model.specs.declared.request.Request.{Request}
+use Rattle.cl_model.specs.Content.{Content}
+use Rattle.cl_model.specs.Machine.{Step}
 use Rattle.cl_registry.specs.Findings.{loader_of}
 use Rattle.cl_config.specs.Scripts.{HasLoader, HasLoaders}
 use Rattle.cl_model.specs.Views.{answers_of, answer_at}
 use Rattle.cl_registry.specs.declared.report.Report.{Report}
 use Rattle.cl_config.specs.Views.{Configured}
-use Rattle.cl_registry.specs.Tables.{Shown, IsTrusted, IsOpen, is_in, posts, with_define, with_post}
-use Rattle.cl_registry.specs.Reports.{IsReport, HasOpen}
-use Rattle.cl_registry.proofs.Histories.{posts_define, posts_post, is_in_push, unposted}
-use Rattle.cl_tasks.specs.declared.phase.Phase.{Phase}
-use Rattle.cl_tasks.specs.declared.phase.Phase.TheVariants.{Defining, Done}
+use Rattle.cl_registry.specs.Tables.{Shown, IsTrusted, RunsAs, IsOpen, is_in, posts, with_post}
+use Rattle.cl_registry.specs.Reports.{IsReport}
 use Rattle.cl_schedule.specs.Serving.{upto, reported}
+use Rattle.cl_schedule.proofs.Histories.{Happens, posts_then, is_in_push, unposted}
 
 -- the same configuration and script, and no post more
 pub record Goes (old new : Shown) : Type 0 where
@@ -27,39 +27,42 @@ pub record Goes (old new : Shown) : Type 0 where
 pub goes_none : (x : Shown) → Goes x x
 goes_none x = record { config = refl; script = refl; posts_same = refl }
 
-pub goes_event : (start old new : Shown) (c : Class) → Goes start old → new ≡ with_define old c → Goes start new
-goes_event start old new c g e =
-    record {
-      config = ap (λ x. x.config) e ∙ g.config;
-      script = ap (λ x. x.script) e ∙ g.script;
-      posts_same = ap (λ x. posts x.history) e ∙ posts_define old.history c ∙ g.posts_same;
-    }
+pub goes_on : (start old new : Shown) (e : Step) → Goes start old → Happens old new e → Goes start new
+goes_on start old new e g h = record { config = h.config ∙ g.config; script = h.script ∙ g.script; posts_same = h.posts_same ∙ g.posts_same }
 
 pub goes_same : (start old new : Shown) → Goes start old → new ≡ old → Goes start new
 goes_same start old new g e = subst (Goes start) (sym e) g
 
 pub posts_once : (start old new : Shown) (q : ℕ) (a : Answer) → Goes start old → new ≡ with_post old q a → posts new.history ≡ posts start.history ++ q ∷ []
-posts_once start old new q a g e = ap (λ x. posts x.history) e ∙ posts_post old.history q ∙ ap (λ (ps : List ℕ). ps ++ q ∷ []) g.posts_same
+posts_once start old new q a g e = ap (λ x. posts x.history) e ∙ posts_then old.history (events.Post q ∷ []) ∙ ap (λ (ps : List ℕ). ps ++ q ∷ []) g.posts_same
 
 pub post_config : (start old new : Shown) (q : ℕ) (a : Answer) → Goes start old → new ≡ with_post old q a → (new.config ≡ start.config) × (new.script ≡ start.script)
 post_config start old new q a g e = (ap (λ x. x.config) e ∙ g.config, ap (λ x. x.script) e ∙ g.script)
 
-pub not_done : (p : Phase) → p ≡ Defining → p ≢ Done
-not_done p e = λ d. absurd cc
-
 pub next_upto : (q : ℕ) (xs ys : List ℕ) → xs ≡ ys ++ q ∷ [] → ys ≡ upto q → xs ≡ upto (q + 1)
 next_upto q xs ys e h = rw (add-one, e, h) refl
 
--- a registry of which a report was made is the one that the report tells of
-pub report_tells : (x : Shown) (r : Report) (c : Configured) → IsReport x r → x.config ≡ c → x ≡ reported c r
+-- what a report tells of a registry: all but its rows
+abbrev pub bare : Shown → Shown
+bare x = record x { rows = [] }
+
+pub report_tells : (x : Shown) (r : Report) (c : Configured) → IsReport x r → x.config ≡ c → bare x ≡ reported c r
 report_tells x r c is e = same x.config c x.script r.script.value x.history r.history x.answers (map (λ a. Some a) r.answers) e is.script is.history is.answers
   where
-    same : (f e : Configured) (s u : _) (h k : _) (a b : List (Option Answer)) → f ≡ e → u ≡ s → k ≡ h → b ≡ a → (let y : Shown = record { config = f; script = s; history = h; answers = a } in y) ≡ record { config = e; script = u; history = k; answers = b }
+    same : (f e : Configured) (s u : _) (h k : _) (a b : List (Option Answer)) → f ≡ e → u ≡ s → k ≡ h → b ≡ a
+        → (let y : Shown = record { config = f; script = s; rows = []; history = h; answers = a } in y) ≡ record { config = e; script = u; rows = []; history = k; answers = b }
     same f e s u h k a b w p q t = rw (w, p, q, t) refl
+
+pub bare_trusted : (x : Shown) → IsTrusted x → IsTrusted (bare x)
+bare_trusted x t = record { script = t.script; tables = t.tables; posted = t.posted; whole = t.whole; earlier = t.earlier }
+
+pub bare_runs : (told : Option Content) (x : Shown) → RunsAs told x → RunsAs told (bare x)
+bare_runs None x run = tt
+bare_runs (Some content) x run = run
 
 -- ---- which requests are posted
 
-in_upto : (n q : ℕ) → q < n → is_in q (upto n) ≡ true
+pub in_upto : (n q : ℕ) → q < n → is_in q (upto n) ≡ true
 in_upto zero q below = absurd (omega arith)
 in_upto (suc n) q below = is_in_push (upto n) q n ∙ by_test (nat_eq q n) refl (in_upto n q)
   where
@@ -77,7 +80,7 @@ in_upto (suc n) q below = is_in_push (upto n) q n ∙ by_test (nat_eq q n) refl 
     by_test true e before = ap (λ (d : Bool). is_in q (upto n) || d) e ∙ or_true (is_in q (upto n))
     by_test false e before = or_left (is_in q (upto n)) (nat_eq q n) (before (less q n below e))
 
-not_in_upto : (n q : ℕ) → n ≤ q → is_in q (upto n) ≡ false
+pub not_in_upto : (n q : ℕ) → n ≤ q → is_in q (upto n) ≡ false
 not_in_upto zero q above = refl
 not_in_upto (suc n) q above = is_in_push (upto n) q n ∙ both (is_in q (upto n)) (nat_eq q n) (not_in_upto n q (omega arith)) (other q n above)
   where
@@ -105,7 +108,7 @@ in_script (x ∷ rs) zero r e = omega arith
 in_script (x ∷ rs) (suc q) r e = let below = in_script rs q r e in omega arith
 
 -- where all requests are posted, none is open
-pub none_is_open : (x : Shown) (n : ℕ) → IsTrusted x → posts x.history ≡ upto n → length x.script.requests ≡ n → HasOpen x → ⊥
+pub none_is_open : (x : Shown) (n : ℕ) → IsTrusted x → posts x.history ≡ upto n → length x.script.requests ≡ n → (q : ℕ) × IsOpen x q → ⊥
 none_is_open x n t order whole (q, is) =
     let below : q < n = subst (λ (k : ℕ). q < k) (t.whole ∙ whole) (in_range x.answers q is) in
     let there : is_in q (posts x.history) ≡ true = ap (is_in q) order ∙ in_upto n q below in

@@ -19,9 +19,9 @@ faults [] = 0
 faults (None ∷ more) = faults more
 faults (Some a ∷ more) = fault a + faults more
 
--- a source's count rose by this many at least, or it is at its last value
+-- a source's count rose by just this many, or by no more and is at its last value
 abbrev pub RoseBy : ℕ → ℕ → ℕ → Type 0
-RoseBy n old new = (new + 1 ≡ 2 ^ 64) ⊎ (old + n ≤ new)
+RoseBy n old new = (new ≡ old + n) ⊎ ((new + 1 ≡ 2 ^ 64) × (new ≤ old + n))
 
 -- the count rose so, and once it is at its last value it stays there
 pub record Grows (n old new : ℕ) : Type 0 where
@@ -40,12 +40,14 @@ told_faults (reply.Start) = 0
 told_faults (reply.Looked row) = 0
 told_faults (reply.Probed p) = 0
 told_faults (reply.Defined row) = 0
+told_faults (reply.Initiated row) = 0
 told_faults (reply.Memory) = 0
 told_faults (reply.SourceFault sources.Memory) = 0
 told_faults (reply.SourceFault sources.Device) = 1
 told_faults (reply.SourceFault sources.TooLarge) = 1
 told_faults (reply.SourceFault sources.Twice) = 1
 
--- as many reads of a source were counted as refused, at least, as answers of a report are faults of the source
+-- as many reads of a source were counted as refused as answers of a report are faults of the source; no fewer answers than
+-- reads where the count is at its last value
 abbrev pub CountsFaults : Report → ℕ → ℕ → Type 0
 CountsFaults r old new = RoseBy (faults (map (λ a. Some a) r.answers)) old new

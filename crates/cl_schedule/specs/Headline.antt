@@ -1,5 +1,5 @@
 -- What a report says where a content is told: the headline, clause by clause (JVMS SE 8, 5.3).
-use Rattle.std.specs.Prelude.{◌≡◌, ℕ, List, [], length, Option, Some, None, Ok, slice_get}
+use Rattle.std.specs.Prelude.{◌≡◌, ◌⊎◌, ℕ, List, [], length, Option, Some, None, Ok, slice_get}
 use Rattle.cl_classfile.specs.Files.{File}
 use Rattle.cl_model.specs.declared.class.Class.{Class}
 use Rattle.cl_model.specs.declared.answer.Answer as answers
@@ -9,11 +9,13 @@ use Rattle.cl_model.specs.declared.verdict.ErrorKind.TheVariants as kinds
 use Rattle.cl_model.specs.Content.{Content, content_at}
 use Rattle.cl_model.specs.Homes.{World, home}
 use Rattle.cl_model.specs.Classes.{class, Returns}
-use Rattle.cl_model.specs.States.{IsRecorded}
+use Rattle.cl_model.specs.States.{IsRecorded, Need, Linkage}
+use Rattle.cl_model.specs.Views.{verdict_of}
 use Rattle.cl_config.specs.Views.{Configured, Scripted}
 use Rattle.cl_registry.specs.declared.report.Report.{Report}
 use Rattle.cl_registry.specs.Reports.{IsNamed}
 use Rattle.cl_registry.specs.Tables.{Shown, IsTrusted, RunsAs, posts, state_of}
+use Rattle.cl_schedule.specs.Replies.{ClassesStay}
 use Rattle.cl_schedule.specs.Serving.{InOrder, machine, reported, upto}
 
 -- the own content of the class's loader has bytes for its name, and they spell a file that names it (5.3.5)
@@ -46,10 +48,15 @@ pub record EndsInCircle (w : World) (loader : ℕ) (name : List ℕ) (c : Class)
   pub found : home w loader name ≡ Some place
   pub returns : Returns w [] (class name place) c
 
--- ClassCircularityError is answered where the load ends in a circle, of that class, and nowhere else (5.3.5)
+-- a need before the end is refused, which today's verdicts never tell: loads impose no equality (5.3.4)
+abbrev pub IsRefusal : verdicts.Verdict → Type 0
+IsRefusal v = (n : Need) × (verdict_of v ≡ Linkage n)
+
+-- ClassCircularityError is answered where the load ends in a circle, of that class, unless a need before is refused; and nowhere
+-- else (5.3.5)
 pub record CircleAnswer (w : World) (loader : ℕ) (name : List ℕ) (v : verdicts.Verdict) : Type 0 where
   pub only : (c : Class) → v ≡ verdicts.TheVariants.Error kinds.ClassCircularityError c → EndsInCircle w loader name c
-  pub there : (c : Class) → EndsInCircle w loader name c → v ≡ verdicts.TheVariants.Error kinds.ClassCircularityError c
+  pub there : (c : Class) → EndsInCircle w loader name c → (v ≡ verdicts.TheVariants.Error kinds.ClassCircularityError c) ⊎ IsRefusal v
 
 -- each load that is answered with a verdict is answered so (5.3.5)
 abbrev pub CirclesExact : Option Content → Shown → Type 0
@@ -60,13 +67,15 @@ CirclesExact (Some content) x =
 
 -- the report of a script that was served in order under a configuration. Where a content is told, the history is a run
 -- of the linkage machine over it, in which each request is answered once, with what its plan yields in the state at that
--- point, or with a failure; each class is spelt by its defining loader's bytes, equal requests are answered alike, and
--- circles are told exactly (5.3)
+-- point, or with a failure, and the next round begins as soon as it may; each class is spelt by its
+-- defining loader's bytes, equal requests are answered alike, and circles are told exactly. Under any source the tables can be
+-- trusted, and a class that was answered stays (5.3)
 pub record IsServedInOrder (told : Option Content) (config : Configured) (script : Scripted) (r : Report) : Type 0 where
   pub of_script : r.script.value ≡ script
   pub each_once : posts r.history ≡ upto (length script.requests)
-  pub named : IsNamed (length config.names) r
+  pub named : IsNamed (length config.loaders) r
   pub trusted : IsTrusted (reported config r)
+  pub classes : ClassesStay (reported config r)
   pub run : RunsAs told (reported config r)
   pub in_order : InOrder told (reported config r)
   pub spelt : EachSpelt told (reported config r)

@@ -1,4 +1,6 @@
 pub mod Serving
+pub mod Rounds
+pub mod Replies
 pub mod Counting
 pub mod Headline
 pub mod Texts

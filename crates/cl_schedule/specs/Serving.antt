@@ -10,23 +10,24 @@ use Rattle.cl_registry.specs.declared.report.Report.{Report}
 use Rattle.cl_config.specs.Views.{Configured}
 use Rattle.cl_hierarchy.specs.Drafts.{Drafted}
 use Rattle.cl_delegation.specs.Worlds.{setting_of}
-use Rattle.cl_registry.specs.Tables.{Shown, steps, state_of, with_define}
+use Rattle.cl_delegation.specs.Searches.{Located}
+use Rattle.cl_registry.specs.Tables.{Shown, steps, state_of, with_define, with_initiate}
 
 -- the numbers below a number, in order
 abbrev pub upto : ℕ → List ℕ
 upto zero = []
 upto (suc n) = upto n ++ n ∷ []
 
--- the registry that a report was made from, where each request has its answer
+-- the registry that a report was made from, but for its rows; each request has its answer
 abbrev pub reported : Configured → Report → Shown
-reported config r = record { config = config; script = r.script.value; history = r.history; answers = map (λ a. Some a) r.answers }
+reported config r = record { config = config; script = r.script.value; rows = []; history = r.history; answers = map (λ a. Some a) r.answers }
 
 -- the machine that a registry's history is one of, where this content is told (5.3)
 abbrev pub machine : Shown → Content → Setting
 machine x content = setting_of x.config x.script content
 
 -- the requests are served in order: for each what comes next in its service, one step after another, and then the post of
--- the answer that it comes to, or of a failure after some of these (5.3)
+-- the answer that it comes to, or of a failure after some of these; the next round begins as soon as it may (5.3)
 abbrev pub InOrder : Option Content → Shown → Type 0
 InOrder None x = Unit {0}
 InOrder (Some content) x = AllServed (machine x content) 0 start (machine x content).script (steps x)
@@ -45,4 +46,8 @@ Served (Some content) old new q r = (s : Since old new) × Serves (machine old c
 
 -- a class was recorded, or nothing happened (5.3.5)
 abbrev pub DefinesFor : Shown → Shown → Drafted → Type 0
-DefinesFor old new d = (new ≡ old) ⊎ (new ≡ with_define old d.class)
+DefinesFor old new d = (new ≡ old) ⊎ (new ≡ with_define old d)
+
+-- a loader was recorded as initiating, or nothing happened (5.3)
+abbrev pub InitiatesFor : Shown → Shown → Located → Type 0
+InitiatesFor old new h = (new ≡ old) ⊎ (new ≡ with_initiate old h)

@@ -1,19 +1,20 @@
-ghost use Rattle.std.specs.Prelude.{◌≡◌, ◌<◌, ◌++◌, ◌∷◌, [], IfOk, IfErr, length, slice_get};
-ghost use Rattle.cl_model.specs.Classes.{class};
-ghost use Rattle.cl_model.specs.States.{State};
-ghost use Rattle.cl_registry.specs.Findings.{loader_of};
+ghost use Rattle.std.specs.Prelude.{◌≡◌, ◌<◌, ◌++◌, ◌∷◌, [], IfOk, IfErr, ℕ, List, length, slice_get};
 ghost use Rattle.cl_config.specs.Scripts.{HasLoaders};
-ghost use Rattle.cl_registry.specs.Tables.{IsAsked, IsBacked, IsKept, IsOpen, MayEnter, posts, state_of, with_post};
-ghost use Rattle.cl_hierarchy.specs.Walks.{Walked};
+ghost use Rattle.cl_registry.specs.Findings.{loader_of};
+ghost use Rattle.cl_registry.specs.Tables.{Shown, IsAsked, IsBacked, IsKept, IsLater, IsOpen, MayEnter, MayJoin, posts, with_post};
+ghost use Rattle.cl_hierarchy.specs.Paths.{at_name};
 ghost use Rattle.cl_tasks.specs.Tasks.{Tasked};
-ghost use Rattle.cl_tasks.specs.Turns.{Expects};
-ghost use Rattle.cl_tasks.specs.Follows.{Tells};
-ghost use Rattle.cl_tasks.specs.declared.phase.Phase.TheVariants.{Looking, Reading, Defining};
+ghost use Rattle.cl_tasks.specs.Turns.{Expects, Looks};
+ghost use Rattle.cl_tasks.specs.Follows.{TellsOf};
+ghost use Rattle.cl_tasks.specs.declared.phase.Phase.TheVariants.{Reading, Defining, Initiating};
 ghost use Rattle.cl_schedule.specs.Counting.{CountsFaults, FaultsGrow, Grows, told_faults};
 ghost use Rattle.cl_schedule.specs.Headline.{IsServedInOrder};
-ghost use Rattle.cl_schedule.specs.Serving.{DefinesFor, Served};
+ghost use Rattle.cl_schedule.specs.Replies.{AnswersRecorded, IsAnswered, Shows};
+ghost use Rattle.cl_schedule.specs.Rounds.{RoundsPassed};
+ghost use Rattle.cl_schedule.specs.Serving.{DefinesFor, InitiatesFor, Served};
 
 use cl_config::{Config, Script};
+use cl_delegation::Home;
 use cl_hierarchy::Draft;
 use cl_model::{LoaderId, Request, Told};
 use cl_names::Name;
@@ -61,8 +62,9 @@ impl From<AllocError> for ServeFault {
 
 /// The reply of a look at a registry.
 fn look<T: Told>(registry: &Registry<T>, loader: LoaderId, name: &Name) -> Reply<T>
-    ensures expects { (t : Tasked) → t.phase ≡ Looking → Expects t result }
-    ensures tells { (w : Walked) → loader ≡ w.loader → name.now ≡ w.at → Tells (state_of registry.now) w result }
+    ensures expects { (t : Tasked) → Looks t → Expects t result }
+    ensures tells { TellsOf registry.now loader name.now result }
+    ensures shows { Shows registry.now loader name.now result }
     ensures faults { told_faults result ≡ 0 }
 {
     match registry.look(loader, name) {
@@ -81,8 +83,8 @@ fn read<T: Told, S: Source<T>>(
     loader: LoaderId,
     name: &Name,
 ) -> Reply<T>
-    ensures expects { (t : Tasked) → t.phase ≡ Reading → loader ≡ t.walk.loader → name.now ≡ t.walk.at → Expects t result }
-    ensures tells { (w : Walked) (s : State) → Tells s w result }
+    ensures expects { (t : Tasked) → t.phase ≡ Reading → loader ≡ t.place → name.now ≡ at_name t.path → Expects t result }
+    ensures tells { (x : Shown) (l : ℕ) (n : List ℕ) → TellsOf x l n result }
     ensures faults { Grows (told_faults result) (S.refused source.old) (S.refused source.new) }
 {
     match source.read(alloc, loader, name) {
@@ -93,9 +95,10 @@ fn read<T: Told, S: Source<T>>(
 
 /// The reply of a definition that the tables bear.
 fn define<T: Told>(alloc: Global, registry: &mut Registry<T>, draft: Draft<T>) -> Reply<T>
-    requires { MayEnter registry.old draft }
+    requires kept { IsKept T.told registry.old }
+    requires may { MayEnter registry.old draft }
     ensures expects { (t : Tasked) → t.phase ≡ Defining → Expects t result }
-    ensures tells { (w : Walked) → draft.class ≡ class w.at w.loader → Tells (state_of registry.new) w result }
+    ensures tells { TellsOf registry.new draft.class.loader draft.class.name result }
     ensures faults { told_faults result ≡ 0 }
     ensures defined { DefinesFor registry.old registry.new draft }
     ensures kept { IsKept T.told registry.new }
@@ -109,9 +112,28 @@ fn define<T: Told>(alloc: Global, registry: &mut Registry<T>, draft: Draft<T>) -
     }
 }
 
+/// The reply of a record of an initiating loader that the tables bear.
+fn initiate<T: Told>(alloc: Global, registry: &mut Registry<T>, home: &Home<T>) -> Reply<T>
+    requires { MayJoin registry.old home.now }
+    ensures expects { (t : Tasked) → t.phase ≡ Initiating → Expects t result }
+    ensures tells { TellsOf registry.new home.now.asked home.now.name result }
+    ensures faults { told_faults result ≡ 0 }
+    ensures initiated { InitiatesFor registry.old registry.new home.now }
+    ensures kept { IsKept T.told registry.new }
+{
+    match registry.initiate(alloc, home) {
+        Ok(row) => Reply::Initiated(row),
+        Err(fault) => match fault {
+            RegistryFault::Memory => Reply::Memory,
+            _ => unreachable!(),
+        },
+    }
+}
+
 /// Posts an answer that the tables bear.
 fn post<T: Told>(registry: &mut Registry<T>, q: u32, finding: Finding<T>)
     requires asked { IsAsked registry.old q finding }
+    requires begun { IsLater registry.old q → ⊥ }
     requires open { IsOpen registry.old q }
     requires backed { IsBacked registry.old finding }
     ensures posted { registry.new ≡ with_post registry.old q finding.answer }
@@ -120,6 +142,19 @@ fn post<T: Told>(registry: &mut Registry<T>, q: u32, finding: Finding<T>)
     match registry.post(q, finding) {
         Ok(()) => {}
         Err(_) => unreachable!(),
+    }
+}
+
+/// Begins the next rounds, as long as nothing of the round is unposted and there is a later one.
+fn pass_rounds<T: Told>(registry: &mut Registry<T>)
+    ensures passed { RoundsPassed registry.old registry.new }
+    ensures kept { IsKept T.told registry.new }
+{
+    loop {
+        match registry.next_round() {
+            Ok(_) => {}
+            Err(_) => return,
+        }
     }
 }
 
@@ -133,14 +168,17 @@ fn serve_request<T: Told, S: Source<T>>(
     request: Request,
 )
     requires config { registry.old.config ≡ config.value }
-    requires loader { loader_of request < length config.value.names }
+    requires loader { loader_of request < length config.value.loaders }
     requires asked { slice_get registry.old.script.requests q ≡ Some request }
+    requires begun { IsLater registry.old q → ⊥ }
     requires open { IsOpen registry.old q }
     requires kept { IsKept T.told registry.old }
     ensures config { registry.new.config ≡ registry.old.config }
     ensures script { registry.new.script ≡ registry.old.script }
     ensures posted { posts registry.new.history ≡ posts registry.old.history ++ q ∷ [] }
     ensures served { Served T.told registry.old registry.new q request }
+    ensures answered { IsAnswered registry.old.answers registry.new.answers q }
+    ensures recorded { AnswersRecorded registry.old registry.new q request (S.refused source.old) (S.refused source.new) }
     ensures faults { FaultsGrow registry.old.answers registry.new.answers (S.refused source.old) (S.refused source.new) }
     ensures kept { IsKept T.told registry.new }
 {
@@ -163,6 +201,9 @@ fn serve_request<T: Told, S: Source<T>>(
             Turn::Define(draft) => {
                 reply = define(alloc, registry, draft);
             }
+            Turn::Initiate(home) => {
+                reply = initiate(alloc, registry, &home);
+            }
             Turn::Post(finding) => {
                 post(registry, q, finding);
                 return;
@@ -180,9 +221,10 @@ fn request_at(alloc: Global, script: &Script, q: u32) -> Result<Request, AllocEr
     Ok(Request::Load(*loader, name.try_clone(alloc)?))
 }
 
-/// Serves the requests of a script in order (JVMS SE 8, 5.3). Where the source tells a content, the report's history is
-/// a run of the linkage machine over it, in which each request is answered once, with what its plan ends in there, or
-/// with a failure. Whatever the source tells, the report's tables can be trusted.
+/// Serves the requests of a script in order, round by round (JVMS SE 8, 5.3). Where the source tells a content, the
+/// report's history is a run of the linkage machine over it, in which each request is answered once, with what its plan
+/// ends in there, or with a failure; the next round begins as soon as it may. Whatever the source tells, the report's
+/// tables can be trusted.
 ///
 /// Configuration and script are shared: a refusal drops what was moved in, and a caller that goes on keeps its own clone.
 ///
@@ -195,7 +237,7 @@ pub fn serve_one<T: Told, S: Source<T>>(
     source: &mut S,
     script: Arc<Script>,
 ) -> Result<Report, ServeFault>
-    requires { HasLoaders (length config.value.names) script.value.requests }
+    requires { HasLoaders (length config.value.loaders) script.value.requests }
     ensures served { IfOk result (IsServedInOrder T.told config.value script.value) }
     ensures source_faults { IfOk result (λ r. CountsFaults r (S.refused source.old) (S.refused source.new)) }
     ensures no_stray { IfErr result (λ e. e ≡ ServeFault.Memory) }
@@ -206,11 +248,13 @@ pub fn serve_one<T: Told, S: Source<T>>(
         Ok(registry) => registry,
         Err(_) => return Err(ServeFault::Memory),
     };
+    pass_rounds(&mut registry);
     let count = script.requests().len();
     for q in 0..count as u32 {
         let request = request_at(alloc, &script, q)?;
         let held = Arc::try_clone(&config)?;
         serve_request(alloc, held, &mut registry, source, q, request);
+        pass_rounds(&mut registry);
     }
     match registry.into_report() {
         Ok(report) => Ok(report),

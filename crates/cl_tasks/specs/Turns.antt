@@ -1,7 +1,10 @@
 -- What a task asks, and what it may be told.
-use Rattle.std.specs.Prelude.{◌≡◌, ◌≢◌, ◌⊎◌, Some, None}
+use Rattle.std.specs.Prelude.{◌≡◌, ◌≢◌, ◌⊎◌, [], Some, None}
+use Rattle.cl_model.specs.declared.class.Class.{Class}
+use Rattle.cl_model.specs.declared.answer.Answer.TheVariants as answers
+use Rattle.cl_model.specs.declared.verdict.Verdict.TheVariants as verdicts
 use Rattle.cl_model.specs.Classes.{class}
-use Rattle.cl_hierarchy.specs.Paths.{at_name}
+use Rattle.cl_hierarchy.specs.Paths.{at_name, frames_of}
 use Rattle.cl_tasks.specs.Tasks.{Tasked}
 use Rattle.cl_tasks.specs.declared.phase.Phase.TheVariants.{Fresh, Looking, Reading, Homing, Defining, Initiating, Done}
 use Rattle.cl_tasks.specs.declared.stage.Reply.{Reply}
@@ -45,3 +48,19 @@ ReadsUnrecorded (reply.Looked None) (turn.Read l n) = Unit {0}
 ReadsUnrecorded (reply.Probed p) (turn.Read l n) = Unit {0}
 ReadsUnrecorded other (turn.Read l n) = ⊥
 ReadsUnrecorded other t = Unit {0}
+
+-- a turn posts this class, or that memory ran out (5.3)
+abbrev pub PostsClass : {A : Type 0} → Class → Turn A → Type 0
+PostsClass c (turn.Look l n) = ⊥
+PostsClass c (turn.Read l n) = ⊥
+PostsClass c (turn.Define d) = ⊥
+PostsClass c (turn.Initiate h) = ⊥
+PostsClass c (turn.Post f) = (f.answer ≡ answers.Said (verdicts.Class c)) ⊎ (f.answer ≡ answers.Memory)
+
+-- a task that derives nothing yet looks first, and the class that its loader has recorded is its answer; memory may run out (5.3)
+abbrev pub AnswersOwn : {A : Type 0} → Tasked → Tasked → Reply A → Turn A → Type 0
+AnswersOwn old new (reply.Start) (turn.Look l n) = (new.phase ≡ Looking) × (new.path ≡ old.path) × (new.place ≡ old.place)
+AnswersOwn old new (reply.Start) (turn.Post f) = f.answer ≡ answers.Memory
+AnswersOwn old new (reply.Start) t = ⊥
+AnswersOwn old new (reply.Looked (Some row)) t = old.phase ≡ Looking → frames_of old.path ≡ [] → PostsClass row.value.class t
+AnswersOwn old new r t = Unit {0}

@@ -2,7 +2,7 @@ ghost use Rattle.std.specs.Prelude.{◌≡◌, ◌<◌, IfOk, IfErr, IfSome, Mat
 ghost use Rattle.cl_registry.specs.Tables.{Shown};
 ghost use Rattle.cl_registry.specs.Findings.{loader_of};
 ghost use Rattle.cl_tasks.specs.Tasks.{begun, left};
-ghost use Rattle.cl_tasks.specs.Turns.{Asks, Expects, ReadsUnrecorded, Serves};
+ghost use Rattle.cl_tasks.specs.Turns.{AnswersOwn, Asks, Expects, ReadsUnrecorded, Serves};
 ghost use Rattle.cl_tasks.specs.Follows.{BackedWhere, FollowsWhere, Holds, Refuses, Tells, refusal};
 
 use crate::stage::{Job, Reply, Stage, Turn};
@@ -105,6 +105,8 @@ impl<T: Told> Task<T> {
         ensures next { IfSome self.old.request (λ r. FollowsWhere T.told self.old.config (λ x. Tells x self.old reply) r result) }
         ensures refused { Refuses (refusal self.old reply) result }
         ensures reads { ReadsUnrecorded reply result }
+        // TODO: wanted by cl_schedule
+        ensures own { AnswersOwn self.old self.new reply result }
     {
         let q = self.q();
         let stage = mem::replace(&mut self.stage, Stage::Done(q));

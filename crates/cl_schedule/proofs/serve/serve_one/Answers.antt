@@ -1,15 +1,16 @@
 use Rattle.std.proofs.Common.{◌≡◌, ◌∙◌, ℕ, length, Some, ap, sym, subst, arith}
 use Rattle.std.specs.Prelude.{slice_get}
-use Rattle.cl_model.specs.Views.{answers_of, steps_of}
 use Rattle.cl_config.specs.Views.{Configured, Scripted}
-use Rattle.cl_registry.specs.Reports.{IsNamed}
 use Rattle.cl_config.specs.Scripts.{HasLoaders}
-use Rattle.cl_registry.specs.Tables.{Shown, IsTrusted, RunsAs, posts}
+use Rattle.cl_registry.specs.Reports.{IsNamed}
+use Rattle.cl_registry.specs.Tables.{Shown, IsTrusted, RunsAs, posts, steps}
 use Rattle.cl_schedule.specs.Counting.{Grows, faults}
 use Rattle.cl_schedule.specs.Serving.{reported, upto, InOrder}
 use Rattle.cl_schedule.specs.Headline.{EachSpelt, Alike, CirclesExact}
-use Rattle.cl_schedule.proofs.Serving.{next_upto, next_is_open, none_is_open, in_script, has_loader, report_tells}
-use Rattle.cl_schedule.proofs.Served.{served_none, served_next, served_whole}
+use Rattle.cl_schedule.proofs.Serving.{bare, bare_runs, bare_trusted, next_upto, next_is_open, in_script, has_loader, report_tells}
+use Rattle.cl_schedule.proofs.Rounds.{next_is_now, none_goes_on, nothing_left, served_bare, served_none, served_next, served_whole}
+use Rattle.cl_schedule.specs.Replies.{ClassesStay}
+use Rattle.cl_schedule.proofs.Again.{stays_next, stays_same, stays_start}
 use Rattle.cl_schedule.proofs.Counted.{grows_none, faults_none, faults_then}
 use Rattle.cl_schedule.proofs.Headline.{each_spelt, alike, circles_exact}
 use Rattle.cl_schedule.proofs.serve.serve_one.Goals as goal
@@ -17,20 +18,28 @@ use Rattle.cl_schedule.proofs.serve.serve_one.Goals as goal
 pub loop-q-init : goal.loop-q-init
 loop-q-init g c =
     let empty = c.in-Ok.ensures.empty in
+    let passed = c.pass_rounds.ensures.passed in
     record {
-      config = ap (λ (x : Shown). x.config) empty ∙ c.in_ok-held.ensures;
-      script = ap (λ (x : Shown). x.script) empty ∙ c.in_ok-asked.ensures;
-      order = ap (λ (x : Shown). posts x.history) empty;
-      kept = c.in-Ok.ensures.kept;
-      served = served_none g.T.Told.told c.in-Ok.registry (ap (λ (x : Shown). steps_of (answers_of x.answers) x.history) empty);
-      counted = subst (λ (n : ℕ). Grows n (g.S.Source.refused c.args.source.now) (g.S.Source.refused c.args.source.now)) (sym (ap (λ (x : Shown). faults x.answers) empty ∙ faults_none (length c.in_ok-asked.asked.value.requests))) (grows_none _);
+      config = passed.config ∙ ap (λ (x : Shown). x.config) empty ∙ c.in_ok-held.ensures;
+      script = passed.script ∙ ap (λ (x : Shown). x.script) empty ∙ c.in_ok-asked.ensures;
+      order = passed.posts_same ∙ ap (λ (x : Shown). posts x.history) empty;
+      kept = c.pass_rounds.ensures.kept;
+      over = none_goes_on c.in-Ok.registry c.pass_rounds.new.registry passed;
+      stay = stays_start c.pass_rounds.new.registry c.pass_rounds.ensures.kept.trusted (passed.posts_same ∙ ap (λ (x : Shown). posts x.history) empty);
+      served = served_none g.T.Told.told c.in-Ok.registry c.pass_rounds.new.registry (ap steps empty) passed;
+      counted =
+          subst (λ (n : ℕ). Grows n (g.S.Source.refused c.args.source.now) (g.S.Source.refused c.args.source.now))
+          (sym (ap faults passed.answers ∙ ap (λ (x : Shown). faults x.answers) empty ∙ faults_none (length c.in_ok-asked.asked.value.requests))) (grows_none _);
     }
 
 pub serve_request-requires-clause-loader : goal.serve_request-requires-clause-loader
 serve_request-requires-clause-loader g c =
     has_loader _ c.args.script.value.requests c.loop-q.q c.in_ok-request.request
-    (subst (λ (k : Configured). HasLoaders (length k.names) c.args.script.value.requests) (sym c.in_ok-held-2.ensures) c.requires)
+    (subst (λ (k : Configured). HasLoaders (length k.loaders) c.args.script.value.requests) (sym c.in_ok-held-2.ensures) c.requires)
     (subst (λ (s : Scripted). slice_get s.requests c.loop-q.q ≡ Some c.in_ok-request.request) c.deref-in-loop-q.ensures c.in_ok-request.ensures)
+
+pub serve_request-requires-clause-begun : goal.serve_request-requires-clause-begun
+serve_request-requires-clause-begun g c = let inv = c.loop-q.invariant in next_is_now c.loop-q.registry c.loop-q.q inv.kept.trusted inv.order inv.over
 
 pub serve_request-requires-clause-open : goal.serve_request-requires-clause-open
 serve_request-requires-clause-open g c =
@@ -41,26 +50,39 @@ serve_request-requires-clause-open g c =
 pub loop-q-preserved : goal.loop-q-preserved
 loop-q-preserved g c =
     let inv = c.loop-q.invariant in
+    let passed = c.pass_rounds-in-loop-q.ensures.passed in
+    let served = c.serve_request.ensures in
+    let old = c.loop-q.registry in
+    let x = c.serve_request.new.registry in
+    let new = c.pass_rounds-in-loop-q.new.registry in
     record {
-      config = c.serve_request.ensures.config ∙ inv.config;
-      script = c.serve_request.ensures.script ∙ inv.script;
-      order = next_upto c.loop-q.q _ _ c.serve_request.ensures.posted inv.order;
-      kept = c.serve_request.ensures.kept;
+      config = passed.config ∙ served.config ∙ inv.config;
+      script = passed.script ∙ served.script ∙ inv.script;
+      order = next_upto c.loop-q.q _ _ (passed.posts_same ∙ served.posted) inv.order;
+      kept = c.pass_rounds-in-loop-q.ensures.kept;
+      over = none_goes_on x new passed;
+      stay =
+          stays_same x new
+          (stays_next old x c.loop-q.q c.in_ok-request.request served.answered.answer _ _ inv.kept.trusted inv.order
+          (subst (λ (s : Scripted). slice_get s.requests c.loop-q.q ≡ Some c.in_ok-request.request) (c.deref-in-loop-q.ensures ∙ sym inv.script) c.in_ok-request.ensures)
+          inv.stay served.script served.answered.is served.recorded) passed.script passed.answers;
       served =
-          served_next g.T.Told.told c.loop-q.registry c.serve_request.new.registry c.loop-q.q c.in_ok-request.request inv.served
-          (subst (λ (s : Scripted). slice_get s.requests c.loop-q.q ≡ Some c.in_ok-request.request) (c.deref-in-loop-q.ensures ∙ sym inv.script) c.in_ok-request.ensures) c.serve_request.ensures.served;
-      counted = faults_then c.loop-q.registry.answers c.serve_request.new.registry.answers _ _ _ inv.counted c.serve_request.ensures.faults;
+          served_next g.T.Told.told old x new c.loop-q.q c.in_ok-request.request inv.served inv.kept.trusted.script
+          (subst (λ (s : Scripted). slice_get s.requests c.loop-q.q ≡ Some c.in_ok-request.request) (c.deref-in-loop-q.ensures ∙ sym inv.script) c.in_ok-request.ensures) served.served passed;
+      counted =
+          subst (λ (n : ℕ). Grows n (g.S.Source.refused c.args.source.now) (g.S.Source.refused c.serve_request.new.source)) (sym (ap faults passed.answers))
+          (faults_then old.answers x.answers _ _ _ inv.counted served.faults);
     }
 
 pub unreachable-requires : goal.unreachable-requires
 unreachable-requires g c =
     let inv = c.loop-q.invariant in
     let count : length c.requests-count.result.now ≡ c.loop-q.q = (let least = c.loop-q-test.false in let most = c.loop-q.auto.q-end in omega arith) in
-    none_is_open c.loop-q.registry c.loop-q.q inv.kept.trusted inv.order
-    (ap (λ (s : Scripted). length s.requests) (inv.script ∙ sym c.deref.ensures) ∙ sym (ap length c.requests-count.ensures.requests) ∙ count) c.in-Err-into_report.ensures.refused.1
+    nothing_left c.loop-q.registry c.loop-q.q inv.kept.trusted inv.order
+    (ap (λ (s : Scripted). length s.requests) (inv.script ∙ sym c.deref.ensures) ∙ sym (ap length c.requests-count.ensures.requests) ∙ count) inv.over c.in-Err-into_report.ensures.refused.1
 
--- the registry is the one that the report tells of
-told_of : (g : _) (c : goal.After-drop-config-2 g) → c.loop-q.registry ≡ reported c.args.config.value c.in-Ok-into_report.report
+-- the registry is the one that the report tells of, but for its rows
+told_of : (g : _) (c : goal.After-drop-config-2 g) → bare c.loop-q.registry ≡ reported c.args.config.value c.in-Ok-into_report.report
 told_of g c = report_tells c.loop-q.registry c.in-Ok-into_report.report c.args.config.value c.in-Ok-into_report.ensures.whole c.loop-q.invariant.config
 
 -- as many requests as the script has were served
@@ -74,14 +96,19 @@ returns-clause-served g c =
     let inv = c.loop-q.invariant in
     let told = g.T.Told.told in
     let whole = c.in-Ok-into_report.ensures.whole in
+    let x = bare c.loop-q.registry in
+    let trusted : IsTrusted x = bare_trusted c.loop-q.registry inv.kept.trusted in
+    let run : RunsAs told x = bare_runs told c.loop-q.registry inv.kept.run in
+    let all = all_served g c ∙ ap (λ (s : Scripted). length s.requests) (sym inv.script) in
     record {
       of_script = whole.script ∙ inv.script;
       each_once = ap posts whole.history ∙ inv.order ∙ ap upto (all_served g c);
-      named = subst (λ (k : Configured). IsNamed (length k.names) c.in-Ok-into_report.report) inv.config c.in-Ok-into_report.ensures.loaders;
-      trusted = subst IsTrusted (told_of g c) inv.kept.trusted;
-      run = subst (RunsAs told) (told_of g c) inv.kept.run;
-      in_order = subst (InOrder told) (told_of g c) (served_whole told c.loop-q.registry c.loop-q.q inv.served (all_served g c ∙ ap (λ (s : Scripted). length s.requests) (sym inv.script)));
-      spelt = subst (EachSpelt told) (told_of g c) (each_spelt told c.loop-q.registry inv.kept.run);
-      alike = subst (Alike told) (told_of g c) (alike told c.loop-q.registry inv.kept.trusted inv.kept.run);
-      circles = subst (CirclesExact told) (told_of g c) (circles_exact told c.loop-q.registry inv.kept.trusted inv.kept.run);
+      named = subst (λ (k : Configured). IsNamed (length k.loaders) c.in-Ok-into_report.report) inv.config c.in-Ok-into_report.ensures.loaders;
+      trusted = subst IsTrusted (told_of g c) trusted;
+      classes = subst ClassesStay (told_of g c) inv.stay;
+      run = subst (RunsAs told) (told_of g c) run;
+      in_order = subst (InOrder told) (told_of g c) (served_bare told c.loop-q.registry (served_whole told c.loop-q.registry c.loop-q.q trusted.script inv.served all));
+      spelt = subst (EachSpelt told) (told_of g c) (each_spelt told x run);
+      alike = subst (Alike told) (told_of g c) (alike told x trusted run);
+      circles = subst (CirclesExact told) (told_of g c) (circles_exact told x trusted run);
     }

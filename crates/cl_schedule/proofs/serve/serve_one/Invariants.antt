@@ -1,8 +1,9 @@
 use Rattle.std.proofs.Common.{◌≡◌}
-use Rattle.cl_registry.specs.Tables.{IsKept, posts}
+use Rattle.cl_registry.specs.Tables.{IsKept, MayGoOn, posts}
 use Rattle.cl_schedule.specs.Serving.{upto}
+use Rattle.cl_schedule.specs.Replies.{ClassesStay}
 use Rattle.cl_schedule.specs.Counting.{Grows, faults}
-use Rattle.cl_schedule.proofs.Served.{ServedBelow}
+use Rattle.cl_schedule.proofs.Rounds.{ServedBelow}
 use Rattle.cl_schedule.proofs.serve.serve_one.Given as goal
 
 abbrev pub invariant-loop-q : goal.invariant-loop-q
@@ -11,6 +12,8 @@ invariant-loop-q g l = record {
   script : l.registry.script ≡ l.fn.script.value;
   order : posts l.registry.history ≡ upto l.q;
   kept : IsKept g.T.Told.told l.registry;
+  over : MayGoOn l.registry → ⊥;
+  stay : ClassesStay l.registry;
   served : ServedBelow g.T.Told.told l.registry l.q;
   counted : Grows (faults l.registry.answers) (g.S.Source.refused l.fn.source) (g.S.Source.refused l.source);
 }

@@ -108,7 +108,7 @@ body_goes_on start old left new line b cut less h =
 -- ---- the line `%config`
 
 abbrev pub after_line : ℕ → List ℕ → Result Cut ℕ → Result Parts ℕ → Result Cut ℕ
-after_line n line cuts parts = if is_skipped line then cuts else if is_config (words_of line) then with_config n parts else Err n
+after_line n line cuts parts = if is_skipped line then cuts else if is_config (words_of line) then with_config parts else Err n
 
 pub cuts_of_line : (n : ℕ) (text line rest : List ℕ) → line ≡ before_first (λ b. b == 10) text → rest ≡ after_first (λ b. b == 10) text
     → cut_from n (lines_in text) ≡ after_line n line (cut_from (n + 1) (lines_in rest)) (parts_from (n + 1) (lines_in rest))
@@ -118,9 +118,9 @@ cuts_of_line n text line rest before after =
       | inr e ↦ rw (before, after, e.2, e.1, e.0) refl
     ]
 
-pub opens_at : (left new line : Numbered) → CutsLine left line new → is_skipped line.text ≡ false → is_config (words_of line.text) ≡ true → cuts_of left ≡ with_config line.number (parts_of new)
+pub opens_at : (left new line : Numbered) → CutsLine left line new → is_skipped line.text ≡ false → is_config (words_of line.text) ≡ true → cuts_of left ≡ with_config (parts_of new)
 opens_at left new line cut s k =
-    cuts_of_line left.number left.text line.text new.text cut.text cut.rest ∙ rw (s, k, cut.next, cut.number) refl
+    cuts_of_line left.number left.text line.text new.text cut.text cut.rest ∙ rw (s, k, cut.next) refl
 
 pub opens_wrong : (left new line : Numbered) → CutsLine left line new → is_skipped line.text ≡ false → is_config (words_of line.text) ≡ false → cuts_of left ≡ Err line.number
 opens_wrong left new line cut s k =
@@ -140,14 +140,14 @@ add_parts done (Ok p) = Ok (record { body = p.body; classes = done ++ p.classes;
 add_parts done (Err n) = Err n
 
 -- what a text gives is what was cut so far, and then what the line at hand begins
-pub record IsCutSoFar (text : List ℕ) (config_line : ℕ) (config : List ℕ) (done : List Part) (end : End) (left : Numbered) : Type 0 where
+pub record IsCutSoFar (text : List ℕ) (config : List ℕ) (done : List Part) (end : End) (left : Numbered) : Type 0 where
   pub all : Result Parts ℕ
-  pub opened : cut_of text ≡ with_config config_line all
+  pub opened : cut_of text ≡ with_config all
   pub so : all ≡ add_front config (add_parts done (ended_by end left))
 
-pub cut_starts : (text : List ℕ) (n : ℕ) (config : List ℕ) (end : End) (first left : Numbered) → cut_of text ≡ with_config n (parts_of first) → parts_of first ≡ add_front config (ended_by end left)
-    → IsCutSoFar text n config [] end left
-cut_starts text n config end first left o e = record { all = parts_of first; opened = o; so = e ∙ ap (add_front config) (none_yet (ended_by end left)) }
+pub cut_starts : (text : List ℕ) (config : List ℕ) (end : End) (first left : Numbered) → cut_of text ≡ with_config (parts_of first) → parts_of first ≡ add_front config (ended_by end left)
+    → IsCutSoFar text config [] end left
+cut_starts text config end first left o e = record { all = parts_of first; opened = o; so = e ∙ ap (add_front config) (none_yet (ended_by end left)) }
   where
     none_yet : (r : Result Parts ℕ) → r ≡ add_parts [] r
     none_yet (Ok p) = refl
@@ -168,10 +168,10 @@ parts_then : (done more : List Part) (r : Result Parts ℕ) → add_parts done (
 parts_then done more (Ok p) = ap (λ (c : List Part). Ok (record { body = p.body; classes = c; script = p.script })) (sym (append_assoc done more p.classes))
 parts_then done more (Err n) = refl
 
-pub cut_goes_on : (whole : List ℕ) (line : ℕ) (config : List ℕ) (done : List Part) (n : ℕ) (loader : Bor (List ℕ)) (name text : List ℕ) (end : End) (left new : Numbered)
-    → IsCutSoFar whole line config done (ends.Class n loader name) left → parts_of left ≡ add_front text (ended_by end new)
-    → IsCutSoFar whole line config (done ++ record { line = n; loader = loader.now; name = name; body = text } ∷ []) end new
-cut_goes_on whole line config done n loader name text end left new s e = record {
+pub cut_goes_on : (whole : List ℕ) (config : List ℕ) (done : List Part) (n : ℕ) (loader : Bor (List ℕ)) (name text : List ℕ) (end : End) (left new : Numbered)
+    → IsCutSoFar whole config done (ends.Class n loader name) left → parts_of left ≡ add_front text (ended_by end new)
+    → IsCutSoFar whole config (done ++ record { line = n; loader = loader.now; name = name; body = text } ∷ []) end new
+cut_goes_on whole config done n loader name text end left new s e = record {
   all = s.all;
   opened = s.opened;
   so = s.so ∙ ap (λ (r : Result Parts ℕ). add_front config (add_parts done (add_class n loader.now name r))) e
@@ -179,23 +179,23 @@ cut_goes_on whole line config done n loader name text end left new s e = record 
       ∙ ap (add_front config) (parts_then done (record { line = n; loader = loader.now; name = name; body = text } ∷ []) (ended_by end new));
 }
 
-pub cut_ends : (text : List ℕ) (line : ℕ) (config : List ℕ) (done : List Part) (left : Numbered) → IsCutSoFar text line config done ends.Script left
-    → cut_of text ≡ Ok (record { config_line = line; config = config; classes = done; script = left.text })
-cut_ends text line config done left s = s.opened ∙ ap (with_config line) s.so ∙ rw (append-nil config, append-nil done) refl
+pub cut_ends : (text : List ℕ) (config : List ℕ) (done : List Part) (left : Numbered) → IsCutSoFar text config done ends.Script left
+    → cut_of text ≡ Ok (record { config = config; classes = done; script = left.text })
+cut_ends text config done left s = s.opened ∙ ap with_config s.so ∙ rw (append-nil config, append-nil done) refl
 
 -- a wrong line is wrong for all
-err_after : (line m n : ℕ) (config loader name : List ℕ) (done : List Part) (r : Result Parts ℕ) → r ≡ Err m → with_config line (add_front config (add_parts done (add_class n loader name r))) ≡ Err m
-err_after line m n config loader name done r e = rw e refl
+err_after : (m n : ℕ) (config loader name : List ℕ) (done : List Part) (r : Result Parts ℕ) → r ≡ Err m → with_config (add_front config (add_parts done (add_class n loader name r))) ≡ Err m
+err_after m n config loader name done r e = rw e refl
 
 same_wrong : {A B : Type 0} (r : Result A ℕ) (s : Result B ℕ) (fault : BundleFault) → ((m : ℕ) → r ≡ Err m → s ≡ Err m) → IsWrongLine r fault → IsWrongLine s fault
 same_wrong r s (BadLine m) f e = f m e
 same_wrong r s Memory f e = tt
 same_wrong r s fault f e = absurd e
 
-pub cut_wrong : (text : List ℕ) (line : ℕ) (config : List ℕ) (done : List Part) (n : ℕ) (loader : Bor (List ℕ)) (name : List ℕ) (left : Numbered) (fault : BundleFault)
-    → IsCutSoFar text line config done (ends.Class n loader name) left → IsWrongLine (parts_of left) fault → IsWrongLine (cut_of text) fault
-cut_wrong text line config done n loader name left fault s e =
-    same_wrong (parts_of left) (cut_of text) fault (λ m w. s.opened ∙ ap (with_config line) s.so ∙ err_after line m n config loader.now name done (parts_of left) w) e
+pub cut_wrong : (text : List ℕ) (config : List ℕ) (done : List Part) (n : ℕ) (loader : Bor (List ℕ)) (name : List ℕ) (left : Numbered) (fault : BundleFault)
+    → IsCutSoFar text config done (ends.Class n loader name) left → IsWrongLine (parts_of left) fault → IsWrongLine (cut_of text) fault
+cut_wrong text config done n loader name left fault s e =
+    same_wrong (parts_of left) (cut_of text) fault (λ m w. s.opened ∙ ap with_config s.so ∙ err_after m n config loader.now name done (parts_of left) w) e
 
 pub cut_err : (text : List ℕ) (r : Result Sections BundleFault) (fault : BundleFault) → IsErrAnd r (λ e. e ≡ fault) → IsWrongLine (cut_of text) fault → CutOf text r
 cut_err text (Ok s) fault e w = absurd e

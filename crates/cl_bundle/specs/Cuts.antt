@@ -16,7 +16,7 @@ part_of c = record { line = c.line; loader = c.loader.now; name = c.name; body =
 
 -- the sections that the code cuts, as those of the text (own choice)
 abbrev pub sections_of : Sections → Cut
-sections_of s = record { config_line = s.config_line; config = s.config.now; classes = map part_of s.classes.items; script = s.script.now }
+sections_of s = record { config = s.config.now; classes = map part_of s.classes.items; script = s.script.now }
 
 -- a line that is wrong, or want of memory, of which nothing is said (own choice)
 abbrev pub IsWrongLine : {A : Type 0} → Result A ℕ → BundleFault → Type 0
@@ -71,6 +71,6 @@ abbrev pub cuts_of : Numbered → Result Cut ℕ
 cuts_of left = cut_from left.number (lines_in left.text)
 
 -- what looking for `%config` answers (own choice)
-abbrev pub OpeningOf : Numbered → Result ℕ BundleFault → Numbered → Type 0
-OpeningOf old (Ok n) new = cuts_of old ≡ with_config n (parts_of new)
+abbrev pub OpeningOf : Numbered → Result (Unit {0}) BundleFault → Numbered → Type 0
+OpeningOf old (Ok _) new = cuts_of old ≡ with_config (parts_of new)
 OpeningOf old (Err fault) new = IsWrongLine (cuts_of old) fault

@@ -83,17 +83,16 @@ parts_from n (line ∷ lines) = behind_line (heading_of (words_of line)) n line 
 abbrev pub lines_in : List ℕ → List (List ℕ)
 lines_in text = slice_split (λ b. b == 10) text
 
--- a bundle: the line of `%config`, what follows it, the class sections, and the script (own choice)
+-- a bundle: what follows `%config`, the class sections, and the script (own choice)
 pub record Cut : Type 0 where
-  pub config_line : ℕ
   pub config : List ℕ
   pub classes : List Part
   pub script : List ℕ
 
--- a bundle whose `%config` stands in this line, from what follows it (own choice)
-abbrev pub with_config : ℕ → Result Parts ℕ → Result Cut ℕ
-with_config n (Ok p) = Ok (record { config_line = n; config = p.body; classes = p.classes; script = p.script })
-with_config n (Err m) = Err m
+-- a bundle, from what follows its `%config` (own choice)
+abbrev pub with_config : Result Parts ℕ → Result Cut ℕ
+with_config (Ok p) = Ok (record { config = p.body; classes = p.classes; script = p.script })
+with_config (Err m) = Err m
 
 -- the words of the line `%config` (own choice)
 abbrev pub is_config : List (List ℕ) → Bool
@@ -107,7 +106,7 @@ cut_from n (line ∷ lines) =
     if is_skipped line
     then cut_from (n + 1) lines
     else if is_config (words_of line)
-    then with_config n (parts_from (n + 1) lines)
+    then with_config (parts_from (n + 1) lines)
     else Err n
 
 -- the sections of a text, or the line that is wrong (own choice)

@@ -22,8 +22,6 @@ pub struct ClassSection<'a> {
 /// The sections of a bundle, as they stand in its text.
 #[derive(Drop)]
 pub struct Sections<'a> {
-    /// The line of `%config`, counted from 1.
-    pub config_line: usize,
     pub config: &'a str,
     pub classes: Vec<ClassSection<'a>>,
     /// What follows the line `%script`.
@@ -49,7 +47,7 @@ pub fn cut<'a>(alloc: Global, text: &'a str) -> Result<Sections<'a>, BundleFault
     ensures { CutOf text.entry.now result }
 {
     let mut lines = Lines::new(text);
-    let config_line = opening(&mut lines)?;
+    opening(&mut lines)?;
     let Body {
         text: config,
         mut end,
@@ -67,7 +65,6 @@ pub fn cut<'a>(alloc: Global, text: &'a str) -> Result<Sections<'a>, BundleFault
         end = body.end;
     }
     Ok(Sections {
-        config_line,
         config,
         classes,
         script: lines.rest(),
@@ -94,14 +91,14 @@ fn next_line<'a>(lines: &mut Lines<'a>) -> Option<Line<'a>>
     lines.next()
 }
 
-/// The number of the line `%config`, which only skipped lines may precede.
-fn opening(lines: &mut Lines<'_>) -> Result<usize, BundleFault>
+/// Takes off the line `%config`, which only skipped lines may precede, with those.
+fn opening(lines: &mut Lines<'_>) -> Result<(), BundleFault>
     ensures { OpeningOf lines.old result lines.new }
 {
     while let Some(line) = next_line(lines) {
         if !is_skipped(line.text) {
             return if is_config(line.text) {
-                Ok(line.number)
+                Ok(())
             } else {
                 Err(BundleFault::BadLine(line.number))
             };

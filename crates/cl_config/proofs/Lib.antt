@@ -1,7 +1,7 @@
 pub mod Below
 pub mod Each
 pub mod Keys
-pub mod Names
+pub mod Pairs
 pub mod Places
 pub mod Requests
 pub mod Stops

@@ -1,6 +1,6 @@
 //! The configuration that a text is.
 
-ghost use Rattle.std.specs.Prelude.{◌≡◌, ◌<◌, ◌≤◌, ◌++◌, [], ◌∷◌, length, map, string_bytes, slice_get, position, nat_eq, is_some, All, IfOk, IfSome};
+ghost use Rattle.std.specs.Prelude.{◌≡◌, ◌≢◌, ◌<◌, ◌≤◌, ◌++◌, [], ◌∷◌, length, map, string_bytes, slice_get, position, nat_eq, is_some, All, IfOk, IfSome, MatchBool};
 ghost use Rattle.std.specs.List.{list_all};
 ghost use Rattle.std.specs.Cmp.Lexicographic.{pointwise};
 ghost use Rattle.toml.specs.Data.{as_table};
@@ -14,6 +14,7 @@ use crate::fault::{ConfigError, ConfigFault};
 use crate::fields::{has_only, value_at};
 use crate::loader::{Import, Loader, loaders_of};
 use crate::order::Order;
+use crate::same::are_same;
 use cl_model::LoaderId;
 use cl_names::Seed;
 use std::alloc::{AllocError, Global};
@@ -72,6 +73,14 @@ impl Config {
     /// What the tables of names hash with that are made for the configuration. No answer depends on it.
     pub fn seed(&self) -> Seed {
         self.seed
+    }
+
+    /// Whether the other has the same loaders: names, directories, parents, orders and imports, all in order. The seeds
+    /// take no part.
+    pub fn is_same(&self, other: &Config) -> bool
+        ensures { MatchBool result (self.now ≡ other.now) (self.now ≢ other.now) }
+    {
+        are_same(self.loaders.as_slice(), other.loaders.as_slice())
     }
 
     /// The loader of this name.

@@ -8,6 +8,7 @@ mod fields;
 pub mod laws;
 mod loader;
 mod order;
+mod same;
 mod script;
 
 pub use config::Config;

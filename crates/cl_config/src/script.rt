@@ -1,11 +1,12 @@
 //! The requests that a text asks for, in rounds.
 
-ghost use Rattle.std.specs.Prelude.{◌≡◌, ◌<◌, List, ℕ, [], ◌∷◌, ◌++◌, MatchBool, MatchOption, IfOk, OnOk, codes, length, slice_get};
+ghost use Rattle.std.specs.Prelude.{◌≡◌, ◌≢◌, ◌<◌, List, ℕ, [], ◌∷◌, ◌++◌, MatchBool, MatchOption, IfOk, OnOk, codes, length, slice_get};
 ghost use Rattle.cl_lines.specs.Lines.{words_of};
 ghost use Rattle.cl_config.specs.Scripts.{script_of, line_of, HasLoaders, IsScript, IsThen};
 ghost use Rattle.cl_config.specs.Views.{Scripted, names_of};
 
 use crate::config::Config;
+use crate::same::are_same;
 use cl_lines::{Line, Stated, Words};
 use cl_model::Request;
 use cl_names::class_name;
@@ -109,6 +110,14 @@ impl Script {
             rounds_of,
             rounds: round + 1,
         })
+    }
+
+    /// Whether the other has the same requests, in order and in the same rounds, and as many rounds.
+    pub fn is_same(&self, other: &Script) -> bool
+        ensures { MatchBool result (self.now ≡ other.now) (self.now ≢ other.now) }
+    {
+        let same_rounds = self.rounds == other.rounds && self.rounds_of == other.rounds_of;
+        same_rounds && are_same(self.requests.as_slice(), other.requests.as_slice())
     }
 
     /// The requests, in order.

@@ -4,7 +4,7 @@ use Rattle.cl_bundle.proofs.Cutting.{IsCutSoFar}
 use Rattle.cl_bundle.proofs.sections.cut.Given as goal
 
 abbrev pub invariant-loop-end : goal.invariant-loop-end
-invariant-loop-end l = IsCutSoFar l.text l.config_line l.config (map part_of l.classes.items) l.end l.lines
+invariant-loop-end l = IsCutSoFar l.text l.config (map part_of l.classes.items) l.end l.lines
 
 abbrev pub decreases-loop-end : goal.decreases-loop-end
 decreases-loop-end l = length l.lines.text

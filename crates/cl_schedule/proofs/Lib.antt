@@ -1,4 +1,0 @@
-pub mod Serving
-pub mod Served
-pub mod Counted
-pub mod Headline

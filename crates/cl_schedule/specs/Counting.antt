@@ -1,10 +1,7 @@
 -- How many answers are faults of the source, beside the count that the source keeps of them.
 use Rattle.std.specs.Prelude.{◌≡◌, ◌⊎◌, ◌+◌, ◌≤◌, ◌^◌, ℕ, List, [], ◌∷◌, map, Option, Some, None}
 use Rattle.cl_model.specs.declared.answer.Answer.{Answer}
-use Rattle.cl_source.specs.declared.source.SourceFault.TheVariants as sources
 use Rattle.cl_registry.specs.declared.report.Report.{Report}
-use Rattle.cl_tasks.specs.declared.stage.Reply.{Reply}
-use Rattle.cl_tasks.specs.declared.stage.Reply.TheVariants as reply
 use Rattle.cl_model.specs.declared.answer.Answer.TheVariants.{Said, Memory, SourceFault}
 
 -- one where the answer is a fault of the source
@@ -22,29 +19,6 @@ faults (Some a ∷ more) = fault a + faults more
 -- a source's count rose by this many at least, or it is at its last value
 abbrev pub RoseBy : ℕ → ℕ → ℕ → Type 0
 RoseBy n old new = (new + 1 ≡ 2 ^ 64) ⊎ (old + n ≤ new)
-
--- the count rose so, and once it is at its last value it stays there
-pub record Grows (n old new : ℕ) : Type 0 where
-  pub stays : old + 1 ≡ 2 ^ 64 → new + 1 ≡ 2 ^ 64
-  pub rose : RoseBy n old new
-
--- so many answers more are faults of the source, and the count rose by as many
-pub record FaultsGrow (given more : List (Option Answer)) (old new : ℕ) : Type 0 where
-  pub number : ℕ
-  pub counted : faults more ≡ faults given + number
-  pub grows : Grows number old new
-
--- one where a reply tells of a fault of the source that is not out of memory
-abbrev pub told_faults : {A : Type 0} → Reply A → ℕ
-told_faults (reply.Start) = 0
-told_faults (reply.Looked row) = 0
-told_faults (reply.Probed p) = 0
-told_faults (reply.Defined row) = 0
-told_faults (reply.Memory) = 0
-told_faults (reply.SourceFault sources.Memory) = 0
-told_faults (reply.SourceFault sources.Device) = 1
-told_faults (reply.SourceFault sources.TooLarge) = 1
-told_faults (reply.SourceFault sources.Twice) = 1
 
 -- as many reads of a source were counted as refused, at least, as answers of a report are faults of the source
 abbrev pub CountsFaults : Report → ℕ → ℕ → Type 0

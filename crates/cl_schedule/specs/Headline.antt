@@ -65,7 +65,7 @@ CirclesExact (Some content) x =
 pub record IsServedInOrder (told : Option Content) (config : Configured) (script : Scripted) (r : Report) : Type 0 where
   pub of_script : r.script.value ≡ script
   pub each_once : posts r.history ≡ upto (length script.requests)
-  pub named : IsNamed (length config.names) r
+  pub named : IsNamed (length config.loaders) r
   pub trusted : IsTrusted (reported config r)
   pub run : RunsAs told (reported config r)
   pub in_order : InOrder told (reported config r)

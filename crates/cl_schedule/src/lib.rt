@@ -2,5 +2,6 @@
 #![tactic(auto)]
 
 mod serve;
+mod stub;
 
 pub use serve::{ServeFault, serve_one};

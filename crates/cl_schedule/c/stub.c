@@ -1,0 +1,1 @@
+int stub_never(void) { for (;;) {} }

@@ -2,15 +2,18 @@ ghost use Rattle.std.specs.Prelude.{◌≡◌, ◌⊎◌, [], ℕ, List, Bool, I
 ghost use Rattle.clap.specs.Words.{kind_of, subcommand_of};
 ghost use Rattle.cl_model.specs.Content.{Tells};
 ghost use Rattle.cl_config.specs.Scripts.{HasLoaders};
-ghost use Rattle.classlink.specs.CommandLine.{AskFor, AskToRead, AsksForBundle, AsksForFile, program, wrong_words};
+ghost use Rattle.classlink.specs.CommandLine.{AskFor, AskToRead, AskToRun, AsksForBundle, AsksForFile, AsksForRun, Wanted, program, wanted_of, wrong_words};
 ghost use Rattle.classlink.specs.Endings.{EndsFor, Grows, HelpOf, IsTaken, IsTurnedDown};
 ghost use Rattle.classlink.specs.Readings.{IsReading};
 ghost use Rattle.classlink.specs.Runs.{IsRun, IsServed, RunOf, TellsFault};
+ghost use Rattle.classlink.specs.ScriptRuns.{IsScriptRun};
 
+use crate::directories::report_script;
 use crate::fault::Fault;
-use crate::input::read_text;
-use crate::reading::{ReadFile, print_class};
-use crate::words::{self, Asked};
+use crate::files::ReadPath;
+use crate::input::{draw_seed, read_text};
+use crate::reading::print_class;
+use crate::words::{self, Asked, RunWords};
 use cl_bundle::Bundle;
 use cl_config::{Config, Script};
 use cl_model::Told;
@@ -18,12 +21,11 @@ use cl_names::Seed;
 use cl_registry::Report;
 use cl_report::print_report;
 use cl_schedule::{ServeFault, serve_one};
-use cl_source::MemorySource;
+use cl_source::{MemorySource, ReadFile};
 use cl_streams::write_out;
 use clap::error::ErrorKind;
 use std::alloc::Global;
 use std::convert::AsStr;
-use std::hash::RandomState;
 use std::io::{Read, Write};
 use std::marker::Brand;
 use std::random::RandomSource;
@@ -33,7 +35,7 @@ use std::sync::Arc;
 /// status: 0; 1 for a fault, whose text is written to `err`; 2 for words that are refused, with their text on `err`;
 /// 0 for help, on `out`.
 pub fn run_over<
-    R: AllocGlobal + ReadFile + RandomSource,
+    R: AllocGlobal + ReadPath + ReadFile + RandomSource,
     S: AsStr,
     I: Read + Drop,
     W: Write,
@@ -41,10 +43,12 @@ pub fn run_over<
 >(rt: &R, words: &[S], input: I, out: &mut W, err: &mut E) -> u8
     ensures bundle { (answers : Bool) → AskFor (map S.text words.now) answers
         → IsRun (I.remaining input) answers (W.contents out.old) (W.contents out.new) (E.contents err.old) (E.contents err.new) result }
+    ensures run { (w : Wanted) → AskToRun (map S.text words.now) w
+        → IsScriptRun (R.ReadPath.gives rt.now) w (W.contents out.old) (W.contents out.new) (E.contents err.old) (E.contents err.new) result }
     ensures read { (path : List ℕ) → AskToRead (map S.text words.now) path
-        → IsReading (R.gives rt.now path) path (W.contents out.old) (W.contents out.new) (E.contents err.old) (E.contents err.new) result }
+        → IsReading (R.ReadPath.gives rt.now path) path (W.contents out.old) (W.contents out.new) (E.contents err.old) (E.contents err.new) result }
     ensures taken { wrong_words (map S.text words.now) ≡ []
-        → IsTaken (subcommand_of program (map S.text words.now)) (I.remaining input) (R.gives rt.now) (W.contents out.old) (W.contents out.new) (E.contents err.old) (E.contents err.new) result }
+        → IsTaken (subcommand_of program (map S.text words.now)) (I.remaining input) (R.ReadPath.gives rt.now) (W.contents out.old) (W.contents out.new) (E.contents err.old) (E.contents err.new) result }
     ensures other { (wrong_words (map S.text words.now) ≡ [] → ⊥) → IsTurnedDown (wrong_words (map S.text words.now)) (W.contents out.old) (W.contents out.new) (E.contents err.old) (E.contents err.new) result }
 {
     let alloc = rt.alloc();
@@ -55,7 +59,7 @@ pub fn run_over<
 }
 
 /// Runs what is asked for.
-fn run_asked<F: ReadFile + RandomSource, I: Read + Drop, W: Write, E: Write>(
+fn run_asked<F: ReadPath + ReadFile + RandomSource, I: Read + Drop, W: Write, E: Write>(
     alloc: Global,
     files: &F,
     asked: Asked<'_>,
@@ -65,11 +69,14 @@ fn run_asked<F: ReadFile + RandomSource, I: Read + Drop, W: Write, E: Write>(
 ) -> u8
     ensures bundle { (answers : Bool) → AsksForBundle answers asked.entry
         → IsRun (I.remaining input) answers (W.contents out.old) (W.contents out.new) (E.contents err.old) (E.contents err.new) result }
+    ensures run { (w : Wanted) → AsksForRun w asked.entry
+        → IsScriptRun (F.ReadPath.gives files.now) w (W.contents out.old) (W.contents out.new) (E.contents err.old) (E.contents err.new) result }
     ensures read { (path : List ℕ) → AsksForFile path asked.entry
-        → IsReading (F.gives files.now path) path (W.contents out.old) (W.contents out.new) (E.contents err.old) (E.contents err.new) result }
+        → IsReading (F.ReadPath.gives files.now path) path (W.contents out.old) (W.contents out.new) (E.contents err.old) (E.contents err.new) result }
 {
     match asked {
         Asked::Bundle { answers } => run_bundle(alloc, files, answers, input, out, err),
+        Asked::Run(words) => run_script(alloc, files, words, out, err),
         Asked::Read { path } => run_read(alloc, files, path, out, err),
     }
 }
@@ -118,8 +125,24 @@ fn run_bundle<F: RandomSource, I: Read + Drop, W: Write, E: Write>(
     }
 }
 
+/// Runs a script over directories, and tells of the fault that ended it.
+fn run_script<F: ReadPath + ReadFile + RandomSource, W: Write, E: Write>(
+    alloc: Global,
+    files: &F,
+    words: RunWords<'_>,
+    out: &mut W,
+    err: &mut E,
+) -> u8
+    ensures { IsScriptRun (F.ReadPath.gives files.now) (wanted_of words.entry) (W.contents out.old) (W.contents out.new) (E.contents err.old) (E.contents err.new) result }
+{
+    match report_script(alloc, files, words, out) {
+        Ok(()) => 0,
+        Err(fault) => fail(alloc, &fault, err),
+    }
+}
+
 /// Prints the lines of the class file at a path, and tells of the fault that ended it.
-fn run_read<F: ReadFile, W: Write, E: Write>(
+fn run_read<F: ReadPath, W: Write, E: Write>(
     alloc: Global,
     files: &F,
     path: &str,
@@ -155,17 +178,7 @@ pub fn fail<E: Write>(alloc: Global, fault: &Fault, err: &mut E) -> u8
     1
 }
 
-/// A seed for the tables of names, which strangers cannot know. Where there is none to be had, that is a read that failed.
-fn draw_seed<F: RandomSource>(random: &F) -> Result<Seed, Fault>
-    ensures { IfErr result (λ fault. fault ≡ Fault.Input) }
-{
-    match RandomState::new(random) {
-        Ok(state) => Ok(Seed::drawn(state)),
-        Err(_) => Err(Fault::Input),
-    }
-}
-
-/// Draws a seed, and reads, serves and reports a bundle with it.
+/// Draws a seed, and reads, serves and reports a bundle with it. Where none is to be had, that is a read that failed.
 fn report_with_seed<F: RandomSource, I: Read + Drop, W: Write>(
     alloc: Global,
     random: &F,
@@ -175,7 +188,9 @@ fn report_with_seed<F: RandomSource, I: Read + Drop, W: Write>(
 ) -> Result<(), Fault>
     ensures { RunOf (I.remaining input) answers (W.contents out.old) (W.contents out.new) result }
 {
-    let seed = draw_seed(random)?;
+    let Some(seed) = draw_seed(random) else {
+        return Err(Fault::Input);
+    };
     report_bundle(alloc, seed, answers, input, out)
 }
 
@@ -211,7 +226,7 @@ fn serve(
     source: MemorySource,
     script: Arc<Script>,
 ) -> Result<Report, ServeFault>
-    requires { HasLoaders (length config.value.names) script.value.requests }
+    requires { HasLoaders (length config.value.loaders) script.value.requests }
     ensures served { IfOk result (IsServed (Some source) config.value script.value) }
     ensures no_stray { IfErr result (λ e. e ≡ ServeFault.Memory) }
 {
@@ -225,7 +240,7 @@ fn serve_told<T: Told>(
     script: Arc<Script>,
 ) -> Result<Report, ServeFault>
     requires tells { Tells T.told source }
-    requires loaders { HasLoaders (length config.value.names) script.value.requests }
+    requires loaders { HasLoaders (length config.value.loaders) script.value.requests }
     ensures served { IfOk result (IsServed T.told config.value script.value) }
     ensures no_stray { IfErr result (λ e. e ≡ ServeFault.Memory) }
 {

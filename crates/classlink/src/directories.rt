@@ -22,14 +22,16 @@ use std::io::Write;
 use std::random::RandomSource;
 use std::sync::Arc;
 
-/// Draws a seed, and runs a script with it. Where none is to be had, that is told as a read of the configuration that failed.
+/// Draws a seed, and runs a script with it. Where none is to be had, that is told as a read of the configuration that
+/// failed.
 pub fn report_script<F: ReadPath + ReadFile + RandomSource, W: Write>(
     alloc: Global,
     files: &F,
     words: RunWords<'_>,
     out: &mut W,
 ) -> Result<(), Fault>
-    ensures { IsRunOf (F.ReadPath.gives files.now) (wanted_of words.entry) (W.contents out.old) (W.contents out.new) result }
+    ensures { IsRunOf (F.ReadPath.gives files.now) (wanted_of words.entry)
+        (W.contents out.old) (W.contents out.new) result }
 {
     let Some(seed) = draw_seed(files) else {
         return Err(Fault::Path(String::from_str(alloc, words.config)?));
@@ -46,7 +48,8 @@ fn report_with_seed<F: ReadPath + ReadFile, W: Write>(
     words: RunWords<'_>,
     out: &mut W,
 ) -> Result<(), Fault>
-    ensures { ScriptRunOf (F.ReadPath.gives files.now) (wanted_of words.entry) (W.contents out.old) (W.contents out.new) result }
+    ensures { ScriptRunOf (F.ReadPath.gives files.now) (wanted_of words.entry)
+        (W.contents out.old) (W.contents out.new) result }
 {
     let config = config_at(alloc, files, words.config)?.with_seed(seed);
     let script = script_at(alloc, files, &config, words.script)?;

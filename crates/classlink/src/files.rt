@@ -21,7 +21,8 @@ pub trait ReadPath {
         requires { most < 2 ^ 32 }
         ensures ok { IfOk result (λ v. gives self.now path.now (Some v.items)) }
         ensures small { IfOk result (λ v. length v.items ≤ most) }
-        ensures large { result ≡ Err InputFault.TooLarge → (bytes : List ℕ) × (gives self.now path.now (Some bytes) × (most < length bytes)) }
+        ensures large { result ≡ Err InputFault.TooLarge
+            → (bytes : List ℕ) × (gives self.now path.now (Some bytes) × (most < length bytes)) }
         ensures unread { result ≡ Err InputFault.Unread → gives self.now path.now None };
 }
 

@@ -42,14 +42,21 @@ pub fn run_over<
     E: Write,
 >(rt: &R, words: &[S], input: I, out: &mut W, err: &mut E) -> u8
     ensures bundle { (answers : Bool) → AskFor (map S.text words.now) answers
-        → IsRun (I.remaining input) answers (W.contents out.old) (W.contents out.new) (E.contents err.old) (E.contents err.new) result }
+        → IsRun (I.remaining input) answers
+        (W.contents out.old) (W.contents out.new) (E.contents err.old) (E.contents err.new) result }
     ensures run { (w : Wanted) → AskToRun (map S.text words.now) w
-        → IsScriptRun (R.ReadPath.gives rt.now) w (W.contents out.old) (W.contents out.new) (E.contents err.old) (E.contents err.new) result }
+        → IsScriptRun (R.ReadPath.gives rt.now) w
+        (W.contents out.old) (W.contents out.new) (E.contents err.old) (E.contents err.new) result }
     ensures read { (path : List ℕ) → AskToRead (map S.text words.now) path
-        → IsReading (R.ReadPath.gives rt.now path) path (W.contents out.old) (W.contents out.new) (E.contents err.old) (E.contents err.new) result }
+        → IsReading (R.ReadPath.gives rt.now path) path
+        (W.contents out.old) (W.contents out.new) (E.contents err.old) (E.contents err.new) result }
     ensures taken { wrong_words (map S.text words.now) ≡ []
-        → IsTaken (subcommand_of program (map S.text words.now)) (I.remaining input) (R.ReadPath.gives rt.now) (W.contents out.old) (W.contents out.new) (E.contents err.old) (E.contents err.new) result }
-    ensures other { (wrong_words (map S.text words.now) ≡ [] → ⊥) → IsTurnedDown (wrong_words (map S.text words.now)) (W.contents out.old) (W.contents out.new) (E.contents err.old) (E.contents err.new) result }
+        → IsTaken (subcommand_of program (map S.text words.now)) (I.remaining input)
+        (R.ReadPath.gives rt.now)
+        (W.contents out.old) (W.contents out.new) (E.contents err.old) (E.contents err.new) result }
+    ensures other { (wrong_words (map S.text words.now) ≡ [] → ⊥)
+        → IsTurnedDown (wrong_words (map S.text words.now))
+        (W.contents out.old) (W.contents out.new) (E.contents err.old) (E.contents err.new) result }
 {
     let alloc = rt.alloc();
     match words::read(alloc, words) {
@@ -68,11 +75,14 @@ fn run_asked<F: ReadPath + ReadFile + RandomSource, I: Read + Drop, W: Write, E:
     err: &mut E,
 ) -> u8
     ensures bundle { (answers : Bool) → AsksForBundle answers asked.entry
-        → IsRun (I.remaining input) answers (W.contents out.old) (W.contents out.new) (E.contents err.old) (E.contents err.new) result }
+        → IsRun (I.remaining input) answers
+        (W.contents out.old) (W.contents out.new) (E.contents err.old) (E.contents err.new) result }
     ensures run { (w : Wanted) → AsksForRun w asked.entry
-        → IsScriptRun (F.ReadPath.gives files.now) w (W.contents out.old) (W.contents out.new) (E.contents err.old) (E.contents err.new) result }
+        → IsScriptRun (F.ReadPath.gives files.now) w
+        (W.contents out.old) (W.contents out.new) (E.contents err.old) (E.contents err.new) result }
     ensures read { (path : List ℕ) → AsksForFile path asked.entry
-        → IsReading (F.ReadPath.gives files.now path) path (W.contents out.old) (W.contents out.new) (E.contents err.old) (E.contents err.new) result }
+        → IsReading (F.ReadPath.gives files.now path) path
+        (W.contents out.old) (W.contents out.new) (E.contents err.old) (E.contents err.new) result }
 {
     match asked {
         Asked::Bundle { answers } => run_bundle(alloc, files, answers, input, out, err),
@@ -83,7 +93,8 @@ fn run_asked<F: ReadPath + ReadFile + RandomSource, I: Read + Drop, W: Write, E:
 
 /// Writes the text of words that ask for no run to where it belongs.
 fn turn_down<W: Write, E: Write>(alloc: Global, error: &clap::Error, out: &mut W, err: &mut E) -> u8
-    ensures { EndsFor (kind_of error.now) (W.contents out.old) (W.contents out.new) (E.contents err.old) (E.contents err.new) result }
+    ensures { EndsFor (kind_of error.now)
+        (W.contents out.old) (W.contents out.new) (E.contents err.old) (E.contents err.new) result }
 {
     match error.kind() {
         ErrorKind::OutOfMemory => fail(alloc, &Fault::Memory, err),
@@ -117,7 +128,8 @@ fn run_bundle<F: RandomSource, I: Read + Drop, W: Write, E: Write>(
     out: &mut W,
     err: &mut E,
 ) -> u8
-    ensures { IsRun (I.remaining input) answers (W.contents out.old) (W.contents out.new) (E.contents err.old) (E.contents err.new) result }
+    ensures { IsRun (I.remaining input) answers
+        (W.contents out.old) (W.contents out.new) (E.contents err.old) (E.contents err.new) result }
 {
     match report_with_seed(alloc, random, answers, input, out) {
         Ok(()) => 0,
@@ -133,7 +145,8 @@ fn run_script<F: ReadPath + ReadFile + RandomSource, W: Write, E: Write>(
     out: &mut W,
     err: &mut E,
 ) -> u8
-    ensures { IsScriptRun (F.ReadPath.gives files.now) (wanted_of words.entry) (W.contents out.old) (W.contents out.new) (E.contents err.old) (E.contents err.new) result }
+    ensures { IsScriptRun (F.ReadPath.gives files.now) (wanted_of words.entry)
+        (W.contents out.old) (W.contents out.new) (E.contents err.old) (E.contents err.new) result }
 {
     match report_script(alloc, files, words, out) {
         Ok(()) => 0,
@@ -149,7 +162,8 @@ fn run_read<F: ReadPath, W: Write, E: Write>(
     out: &mut W,
     err: &mut E,
 ) -> u8
-    ensures { IsReading (F.gives files.now path.now) path.now (W.contents out.old) (W.contents out.new) (E.contents err.old) (E.contents err.new) result }
+    ensures { IsReading (F.gives files.now path.now) path.now
+        (W.contents out.old) (W.contents out.new) (E.contents err.old) (E.contents err.new) result }
 {
     match print_class(alloc, files, path, out) {
         Ok(()) => 0,
@@ -160,7 +174,8 @@ fn run_read<F: ReadPath, W: Write, E: Write>(
 /// Writes the line for words that are no text, and answers the exit status for words that are refused.
 pub fn refuse_words<E: Write>(alloc: Global, err: &mut E) -> u8
     ensures status { result ≡ 2 }
-    ensures told { TellsFault (E.contents err.old) (E.contents err.new) Fault.Words ⊎ TellsFault (E.contents err.old) (E.contents err.new) Fault.Memory }
+    ensures told { TellsFault (E.contents err.old) (E.contents err.new) Fault.Words
+        ⊎ TellsFault (E.contents err.old) (E.contents err.new) Fault.Memory }
 {
     let _ = fail(alloc, &Fault::Words, err);
     2
@@ -169,7 +184,8 @@ pub fn refuse_words<E: Write>(alloc: Global, err: &mut E) -> u8
 /// Writes the line of a fault, and answers its exit status. Where memory is wanting for it, that is what is told.
 pub fn fail<E: Write>(alloc: Global, fault: &Fault, err: &mut E) -> u8
     ensures status { result ≡ 1 }
-    ensures told { TellsFault (E.contents err.old) (E.contents err.new) fault.now ⊎ TellsFault (E.contents err.old) (E.contents err.new) Fault.Memory }
+    ensures told { TellsFault (E.contents err.old) (E.contents err.new) fault.now
+        ⊎ TellsFault (E.contents err.old) (E.contents err.new) Fault.Memory }
 {
     let _ = match format!(in alloc; "classlink: {fault}\n") {
         Ok(line) => write_out(err, line.as_bytes()),

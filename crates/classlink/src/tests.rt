@@ -230,5 +230,6 @@ fn run_without_seed_names_configuration(rt: HostRuntime) {
     let found = run_over(&runtime, &words, input, &mut out, &mut err);
     assert_eq!(rt; found, 1);
     assert!(rt; out.is_empty());
-    assert_eq!(rt; err.as_slice(), b"classlink: cannot read loaders.toml\n");
+    let line = "classlink: cannot read loaders.toml\n";
+    assert_eq!(rt; err.as_slice(), line.as_bytes());
 }

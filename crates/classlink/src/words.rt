@@ -37,12 +37,15 @@ pub struct RunWords<'a> {
 const VERSION: &str = "0.1.0";
 
 /// The form of a bundle.
-const BUNDLE_FORM: &str =
-    "A bundle is a line %config and a configuration in TOML; any number of\nlines %class LOADER NAME, each with assembler text or lines of @hex bytes;\nand a line %script with a script: load LOADER NAME, or then.";
+const BUNDLE_FORM: &str = "\
+A bundle is a line %config and a configuration in TOML; any number of sections,
+each a line %class LOADER NAME and assembler text, or lines @hex and bytes;
+and a line %script and a script, of lines such as load LOADER NAME.";
 
 /// Where directories are looked for.
-const DIRECTORIES: &str =
-    "A class is read from DIR/NAME.class, DIR the `dir` of its loader; a relative\none is taken from the working directory.";
+const DIRECTORIES: &str = "\
+A class is read from DIR/NAME.class, DIR the dir of its loader. A relative DIR
+is taken from the working directory.";
 
 fn command<'a>(alloc: Global) -> Result<Command<'a>, AllocError>
     ensures { IfOk result (λ c. app_of c ≡ program) }
@@ -53,6 +56,7 @@ fn command<'a>(alloc: Global) -> Result<Command<'a>, AllocError>
     let program = Command::new(alloc, "classlink")
         .version(VERSION)
         .about("Loads and links Java classes (JVMS SE 8, chapter 5)")
+        .after_help(BUNDLE_FORM)
         .subcommand_required(true)
         .subcommand(bundle)?;
     program.subcommand(run)?.subcommand(read)
@@ -108,9 +112,12 @@ fn read_command<'a>(alloc: Global) -> Result<Command<'a>, AllocError>
 /// Reads the words of a command line, of which the first is the program's name. The error is `clap`'s, for words that
 /// it refuses and for those that ask for help.
 pub fn read<'a, S: AsStr>(alloc: Global, words: &'a [S]) -> Result<Asked<'a>, Error>
-    ensures asked { (answers : Bool) → AskFor (map S.text words.entry.now) answers → MatchResult result (AsksForBundle answers) (λ e. kind_of e ≡ ErrorKind.OutOfMemory) }
-    ensures read { (path : List ℕ) → AskToRead (map S.text words.entry.now) path → MatchResult result (AsksForFile path) (λ e. kind_of e ≡ ErrorKind.OutOfMemory) }
-    ensures run { (w : Wanted) → AskToRun (map S.text words.entry.now) w → MatchResult result (AsksForRun w) (λ e. kind_of e ≡ ErrorKind.OutOfMemory) }
+    ensures asked { (answers : Bool) → AskFor (map S.text words.entry.now) answers
+        → MatchResult result (AsksForBundle answers) (λ e. kind_of e ≡ ErrorKind.OutOfMemory) }
+    ensures read { (path : List ℕ) → AskToRead (map S.text words.entry.now) path
+        → MatchResult result (AsksForFile path) (λ e. kind_of e ≡ ErrorKind.OutOfMemory) }
+    ensures run { (w : Wanted) → AskToRun (map S.text words.entry.now) w
+        → MatchResult result (AsksForRun w) (λ e. kind_of e ≡ ErrorKind.OutOfMemory) }
     ensures taken { IfOk result (λ _. wrong_words (map S.text words.entry.now) ≡ []) }
     ensures exact { IfOk result (IsAsked (subcommand_of program (map S.text words.entry.now))) }
     ensures refused { IfErr result (HasKind (wrong_words (map S.text words.entry.now))) }

@@ -3,10 +3,12 @@ use Rattle.std.proofs.Common.{◌≡◌, ◌⊎◌, ◌∙◌, ℕ, Bool, List, 
 use Rattle.clap.specs.Words.{Row, Text}
 use Rattle.clap.specs.declared.error.kind.ErrorKind.{ErrorKind}
 use Rattle.clap.specs.declared.error.kind.ErrorKind.TheVariants as kinds
-use Rattle.classlink.specs.CommandLine.{IsAsked, AsksForBundle, AsksForFile, file_of}
-use Rattle.classlink.specs.Endings.{EndsFor, Grows, HelpOf, IsHelped, IsTaken, LacksMemory, Reads, Runs}
+use Rattle.classlink.specs.CommandLine.{AsksForBundle, AsksForFile, AsksForRun, IsAsked, Wanted, file_of, wanted_of}
+use Rattle.classlink.specs.Endings.{EndsFor, Grows, HelpOf, IsHelped, IsTaken, LacksMemory, Reads, Runs, RunsScript}
 use Rattle.classlink.specs.Faults.{print_fault}
-use Rattle.classlink.specs.Readings.{Giving, IsReading}
+use Rattle.classlink.specs.Files.{Giving}
+use Rattle.classlink.specs.Readings.{IsReading}
+use Rattle.classlink.specs.ScriptRuns.{IsScriptRun}
 use Rattle.cl_streams.specs.Writing.{AppendsPart}
 use Rattle.classlink.specs.Runs.{IsRun, TellsFault}
 use Rattle.classlink.specs.declared.fault.Fault.{Fault}
@@ -14,15 +16,17 @@ use Rattle.classlink.specs.declared.fault.Fault.TheVariants.{Memory}
 use Rattle.cl_streams.specs.declared.output.PrintFault.{PrintFault}
 use Rattle.cl_streams.specs.declared.output.PrintFault.TheVariants as print
 use Rattle.classlink.specs.declared.words.Asked.{Asked}
-use Rattle.classlink.specs.declared.words.Asked.TheVariants.{Bundle, Read}
+use Rattle.classlink.specs.declared.words.Asked.TheVariants.{Bundle, Read, Run}
 use Rattle.cl_streams.proofs.Written.{appends_nothing}
 
 pub taken : (entered : Option (Text × List Row)) (input : Option (List ℕ)) (gives : List ℕ → Giving) (old_out new_out old_err new_err : Option (List ℕ)) (status : ℕ) (asked : Asked) → IsAsked entered asked
     → ((answers : Bool) → AsksForBundle answers asked → IsRun input answers old_out new_out old_err new_err status)
+    → ((w : Wanted) → AsksForRun w asked → IsScriptRun gives w old_out new_out old_err new_err status)
     → ((path : List ℕ) → AsksForFile path asked → IsReading (gives path) path old_out new_out old_err new_err status)
     → IsTaken entered input gives old_out new_out old_err new_err status
-taken entered input gives old_out new_out old_err new_err status (Bundle answers) is run read = Runs answers is.0 is.1 (run answers refl)
-taken entered input gives old_out new_out old_err new_err status (Read path) is run read = Reads is.0 (read (file_of entered) (sym is.1))
+taken entered input gives old_out new_out old_err new_err status (Bundle answers) is bundle run read = Runs answers is.0 is.1 (bundle answers refl)
+taken entered input gives old_out new_out old_err new_err status (Run words) is bundle run read = RunsScript (wanted_of words) is.0 is.1 (run (wanted_of words) refl)
+taken entered input gives old_out new_out old_err new_err status (Read path) is bundle run read = Reads is.0 (read (file_of entered) (sym is.1))
 
 -- ---- want of memory
 
@@ -37,6 +41,10 @@ lacking_run input answers old_out new_out old_err new_err status l = record { ou
 pub lacking_reading : (gives : Giving) (path : List ℕ) (old_out new_out old_err new_err : Option (List ℕ)) (status : ℕ) → LacksMemory old_out new_out old_err new_err status
     → IsReading gives path old_out new_out old_err new_err status
 lacking_reading gives path old_out new_out old_err new_err status l = record { outcome = Err Memory; read = inl (l.nothing, tt); told = l.told }
+
+pub lacking_script : (gives : List ℕ → Giving) (w : Wanted) (old_out new_out old_err new_err : Option (List ℕ)) (status : ℕ) → LacksMemory old_out new_out old_err new_err status
+    → IsScriptRun gives w old_out new_out old_err new_err status
+lacking_script gives w old_out new_out old_err new_err status l = record { outcome = Err Memory; ran = inl (inl (l.nothing, tt)); told = l.told }
 
 -- ---- help
 

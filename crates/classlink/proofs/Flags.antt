@@ -1,5 +1,5 @@
--- What `clap` makes of the words that ask for a bundle's report or for a class file's lines.
-use Rattle.std.proofs.Common.{◌≡◌, ◌∙◌, ◌==◌, Bool, true, false, not, List, [], ◌∷◌, codes, drop, Option, Some, None, option_map, option_and_then, unwrap_or, Result, Ok, Err, IsErrAnd, IfErr, MatchResult, inl, inr, refl, sym, ap, subst}
+-- What `clap` makes of the words that ask for a report or for a class file's lines.
+use Rattle.std.proofs.Common.{◌≡◌, ◌∙◌, ◌==◌, Bool, true, false, not, List, [], ◌∷◌, ◌++◌, codes, drop, Option, Some, None, option_map, option_and_then, unwrap_or, Result, Ok, Err, IsErrAnd, IfErr, MatchResult, inl, inr, refl, sym, ap, subst}
 use Rattle.std.specs.Borrow.{Bor}
 use Rattle.std.specs.Prelude.{Box}
 use Rattle.std.specs.Box.{box_value}
@@ -19,9 +19,9 @@ use Rattle.clap.specs.declared.parser.matches.Found.{Found}
 use Rattle.clap.specs.declared.parser.matches.SubCommand.{SubCommand}
 use Rattle.clap.proofs.OnLiterals.{clap_on_literals}
 use Rattle.clap.proofs.WalkLemmas.{first_value-rows, one_text-rows}
-use Rattle.classlink.specs.CommandLine.{AskFor, AskToRead, HasFlag, IsAsked, AsksForBundle, AsksForFile, IsToRead, file_of, is_plain_word, program, words_for, wrong_words}
+use Rattle.classlink.specs.CommandLine.{Apart, AskFor, AskToRead, AskToRun, AsksForBundle, AsksForFile, AsksForRun, Before, Behind, HasFlag, IsAsked, IsNamed, IsToRead, IsToRun, Wanted, file_of, flag_words, is_plain_word, named_file, program, wanted_of, words_for, wrong_words}
 use Rattle.classlink.specs.declared.words.Asked.{Asked}
-use Rattle.classlink.specs.declared.words.Asked.TheVariants.{Bundle, Read}
+use Rattle.classlink.specs.declared.words.Asked.TheVariants.{Bundle, Read, Run}
 
 -- ---- the program's command on its words
 
@@ -114,20 +114,111 @@ found_path : (words : List Text) (path : Text) → AskToRead words path → Find
 found_path words path (inl p) = subst (Finds path) (sym p.0) (plain_found path (no_flag path p.1))
 found_path words path (inr p) = subst (Finds path) (sym p) (behind_found path)
 
--- what is asked for by these words
+-- ---- a script's run among the words
 
-bundle_entered : (answers : Bool) → IsToRead (entered_at (words_for answers)) → ⊥
+-- what clap finds is the run that is wanted
+abbrev FindsRun : Wanted → List Text → Type 0
+FindsRun w words =
+    IsToRun (entered_at words)
+    × (named_file (codes "CONFIG") (entered_at words) ≡ w.config)
+    × (named_file (codes "SCRIPT") (entered_at words) ≡ w.script)
+    × HasFlag (entered_at words) w.answers
+
+abbrev run_words : Text → Text → Bool → List Text
+run_words config script answers = codes "run" ∷ config ∷ script ∷ flag_words answers
+
+abbrev run_flagged : Text → Text → Bool → List Text
+run_flagged config script answers = codes "run" ∷ flag_words answers ++ config ∷ script ∷ []
+
+abbrev run_apart : Text → Text → Bool → List Text
+run_apart config script answers = codes "run" ∷ flag_words answers ++ codes "--" ∷ config ∷ script ∷ []
+
+words_pass : (config script : Text) (answers : Bool) → IsNoFlag config → IsNoFlag script → Passes (run_words config script answers)
 unfolding clap_on_literals
-bundle_entered false = λ e. cc
-bundle_entered true = λ e. cc
+words_pass config script false c s = rw (c.0, c.1, c.2, s.0, s.1, s.2) refl
+words_pass config script true c s = rw (c.0, c.1, c.2, s.0, s.1, s.2) refl
+
+flagged_pass : (config script : Text) (answers : Bool) → IsNoFlag config → IsNoFlag script → Passes (run_flagged config script answers)
+unfolding clap_on_literals
+flagged_pass config script false c s = rw (c.0, c.1, c.2, s.0, s.1, s.2) refl
+flagged_pass config script true c s = rw (c.0, c.1, c.2, s.0, s.1, s.2) refl
+
+apart_pass : (config script : Text) (answers : Bool) → Passes (run_apart config script answers)
+unfolding clap_on_literals
+apart_pass config script false = refl
+apart_pass config script true = refl
+
+abbrev wanting_run : Text → Text → Bool → Wanted
+wanting_run config script answers = record { config = config; script = script; answers = answers }
+
+words_found : (config script : Text) (answers : Bool) → IsNoFlag config → IsNoFlag script → FindsRun (wanting_run config script answers) (run_words config script answers)
+unfolding clap_on_literals
+words_found config script false c s = rw (c.0, c.1, c.2, s.0, s.1, s.2) (refl, refl, refl, refl)
+words_found config script true c s = rw (c.0, c.1, c.2, s.0, s.1, s.2) (refl, refl, refl, refl)
+
+flagged_found : (config script : Text) (answers : Bool) → IsNoFlag config → IsNoFlag script → FindsRun (wanting_run config script answers) (run_flagged config script answers)
+unfolding clap_on_literals
+flagged_found config script false c s = rw (c.0, c.1, c.2, s.0, s.1, s.2) (refl, refl, refl, refl)
+flagged_found config script true c s = rw (c.0, c.1, c.2, s.0, s.1, s.2) (refl, refl, refl, refl)
+
+apart_found : (config script : Text) (answers : Bool) → FindsRun (wanting_run config script answers) (run_apart config script answers)
+unfolding clap_on_literals
+apart_found config script false = (refl, refl, refl, refl)
+apart_found config script true = (refl, refl, refl, refl)
+
+pub takes_run : (words : List Text) (w : Wanted) → AskToRun words w → wrong_words words ≡ []
+unfolding wrong_words
+takes_run words w (Behind p e) = ap (built_fault (built program) nothing_held) e ∙ words_pass w.config w.script w.answers (no_flag w.config p.config) (no_flag w.script p.script)
+takes_run words w (Before p e) = ap (built_fault (built program) nothing_held) e ∙ flagged_pass w.config w.script w.answers (no_flag w.config p.config) (no_flag w.script p.script)
+takes_run words w (Apart e) = ap (built_fault (built program) nothing_held) e ∙ apart_pass w.config w.script w.answers
+
+found_run : (words : List Text) (w : Wanted) → AskToRun words w → FindsRun w (drop 1 words)
+found_run words w (Behind p e) = subst (FindsRun w) (sym e) (words_found w.config w.script w.answers (no_flag w.config p.config) (no_flag w.script p.script))
+found_run words w (Before p e) = subst (FindsRun w) (sym e) (flagged_found w.config w.script w.answers (no_flag w.config p.config) (no_flag w.script p.script))
+found_run words w (Apart e) = subst (FindsRun w) (sym e) (apart_found w.config w.script w.answers)
+
+-- ---- what is asked for by these words
+
+is_bundle : (answers : Bool) → IsNamed (codes "bundle") (entered_at (words_for answers))
+unfolding clap_on_literals
+is_bundle false = refl
+is_bundle true = refl
+
+one_name : (o : Option (Text × List Row)) (a b : Text) → IsNamed a o → IsNamed b o → a ≡ b
+one_name o a b x y = some_is (sym x ∙ y)
+  where
+    some_is : Some a ≡ Some b → a ≡ b
+    some_is e = cc
+
+bundle_no_reading : codes "bundle" ≡ codes "read" → ⊥
+bundle_no_reading e = cc
+
+bundle_no_running : codes "bundle" ≡ codes "run" → ⊥
+bundle_no_running e = cc
+
+reading_no_running : codes "read" ≡ codes "run" → ⊥
+reading_no_running e = cc
 
 pub bundle_asked : (words : List Text) (answers : Bool) (a : Asked) → AskFor words answers → IsAsked (subcommand_of program words) a → AsksForBundle answers a
 bundle_asked words answers (Bundle b) ask is = is.1 answers (flag_of_words words answers ask)
-bundle_asked words answers (Read path) ask is = absurd (bundle_entered answers (subst (λ (ws : List Text). IsToRead (entered_at ws)) ask is.0))
+bundle_asked words answers (Run w) ask is = absurd (bundle_no_running (one_name _ _ _ (is_bundle answers) (subst (λ (ws : List Text). IsToRun (entered_at ws)) ask is.0)))
+bundle_asked words answers (Read path) ask is = absurd (bundle_no_reading (one_name _ _ _ (is_bundle answers) (subst (λ (ws : List Text). IsToRead (entered_at ws)) ask is.0)))
 
 pub path_asked : (words : List Text) (path : Text) (a : Asked) → AskToRead words path → IsAsked (subcommand_of program words) a → AsksForFile path a
-path_asked words path (Bundle b) ask is = absurd (is.0 (found_path words path ask).0)
+path_asked words path (Bundle b) ask is = absurd (is.0.no_reading (found_path words path ask).0)
+path_asked words path (Run w) ask is = absurd (reading_no_running (one_name _ _ _ (found_path words path ask).0 is.0))
 path_asked words path (Read at) ask is = sym is.1 ∙ (found_path words path ask).1
+
+same_wanted : (a b : Wanted) → a.config ≡ b.config → a.script ≡ b.script → a.answers ≡ b.answers → a ≡ b
+same_wanted a b c s f =
+    ap (λ (x : Text). wanting_run x a.script a.answers) c ∙ ap (λ (x : Text). wanting_run b.config x a.answers) s ∙ ap (λ (x : Bool). wanting_run b.config b.script x) f
+
+pub run_asked : (words : List Text) (w : Wanted) (a : Asked) → AskToRun words w → IsAsked (subcommand_of program words) a → AsksForRun w a
+run_asked words w (Bundle b) ask is = absurd (is.0.no_running (found_run words w ask).0)
+run_asked words w (Run given) ask is =
+    let found = found_run words w ask in
+    same_wanted (wanted_of given) w (sym is.1.config ∙ found.1) (sym is.1.script ∙ found.2) (is.1.flag w.answers found.3)
+run_asked words w (Read at) ask is = absurd (reading_no_running (one_name _ _ _ is.0 (found_run words w ask).0))
 
 -- what the matches ask for is what the words ask for
 pub asked_by_words : (a : App) (words : List Text) (m : ArgMatches) (asked : Asked) → a ≡ program → HasMatchesOf a words m → IsAsked (subcommand_rows_of m) asked → IsAsked (subcommand_of program words) asked
@@ -148,24 +239,24 @@ name_of : {Z : Type 0} (o : Option (Box SubCommand Z)) → option_map (λ b. (ou
 name_of None = refl
 name_of (Some b) = refl
 
-pub is_to_read : (m : ArgMatches) → subcommand_name_of m ≡ Some (codes "read") → IsToRead (subcommand_rows_of m)
-is_to_read m e = sym (name_of (out-ArgMatches m).subcommand) ∙ e
+pub is_named : (m : ArgMatches) (name : Text) → subcommand_name_of m ≡ Some name → IsNamed name (subcommand_rows_of m)
+is_named m name e = sym (name_of (out-ArgMatches m).subcommand) ∙ e
 
 false_true : false ≡ true → ⊥
 false_true e = cc
 
-pub is_other : (m : ArgMatches) → (subcommand_name_of m ≡ Some (codes "read") → false ≡ true) → IsToRead (subcommand_rows_of m) → ⊥
-is_other m other e = false_true (other (name_of (out-ArgMatches m).subcommand ∙ e))
+pub is_other : (m : ArgMatches) (name : Text) → (subcommand_name_of m ≡ Some name → false ≡ true) → IsNamed name (subcommand_rows_of m) → ⊥
+is_other m name other e = false_true (other (name_of (out-ArgMatches m).subcommand ∙ e))
 
 path_text : (read : Option (Bor Text)) (or : Bor Text) → or.now ≡ [] → unwrap_or (option_map (λ s. s.now) read) [] ≡ (unwrap_or read or).now
 path_text None or e = sym e
 path_text (Some s) or e = refl
 
-pub file_read : (o : Option (Text × List Row)) (f : Found) (read : Option (Bor Text)) (or given : Bor Text) → option_map (λ p. p.1) o ≡ Some (rows_of f) → option_map (λ s. s.now) read ≡ first_value f (codes "FILE")
-    → or.now ≡ [] → given ≡ unwrap_or read or → file_of o ≡ given.now
-file_read None f read or given e h n g = absurd cc
-file_read (Some p) f read or given e h n g =
-    ap (λ (o : Option Text). unwrap_or o []) (ap (first_of (codes "FILE")) (same e) ∙ sym (first_value-rows f (codes "FILE")) ∙ sym h) ∙ path_text read or n ∙ ap (λ (b : Bor Text). b.now) (sym g)
+pub file_read : (name : Text) (o : Option (Text × List Row)) (f : Found) (read : Option (Bor Text)) (or given : Bor Text) → option_map (λ p. p.1) o ≡ Some (rows_of f) → option_map (λ s. s.now) read ≡ first_value f name
+    → or.now ≡ [] → given ≡ unwrap_or read or → named_file name o ≡ given.now
+file_read name None f read or given e h n g = absurd cc
+file_read name (Some p) f read or given e h n g =
+    ap (λ (o : Option Text). unwrap_or o []) (ap (first_of name) (same e) ∙ sym (first_value-rows f name) ∙ sym h) ∙ path_text read or n ∙ ap (λ (b : Bor Text). b.now) (sym g)
   where
     same : Some p.1 ≡ Some (rows_of f) → p.1 ≡ rows_of f
     same e = cc

@@ -6,7 +6,8 @@ use Rattle.cl_classfile.specs.declared.fault.ReadError.{ReadError}
 use Rattle.cl_classfile.specs.declared.fault.ReadError.TheVariants as errors
 use Rattle.classlink.specs.Faults.{print_fault}
 use Rattle.cl_streams.specs.Writing.{AppendsPart}
-use Rattle.classlink.specs.Readings.{AreLinesOf, FailsToRead, Giving, IsContent, IsReading, IsRefusal, IsUnread, ReadingOf}
+use Rattle.classlink.specs.Files.{Giving, IsContent, IsUnread}
+use Rattle.classlink.specs.Readings.{AreLinesOf, FailsToRead, IsReading, IsRefusal, ReadingOf, most_of_class}
 use Rattle.classlink.specs.Runs.{TellsFault}
 use Rattle.classlink.specs.declared.fault.Fault.{Fault}
 use Rattle.classlink.specs.declared.fault.Fault.TheVariants.{Write, TooLarge, Path, File, Memory}
@@ -20,14 +21,14 @@ read_wrong gives path old new (Ok x) fault e w = absurd e
 read_wrong gives path old new (Err f) fault e w = subst (FailsToRead gives path old new) (sym e) w
 
 -- the file was not read
-pub by_bytes : (gives : Giving) (path : List ℕ) (old : Option (List ℕ)) (fault : Fault) → IsUnread gives path fault → FailsToRead gives path old old fault
+pub by_bytes : (gives : Giving) (path : List ℕ) (old : Option (List ℕ)) (fault : Fault) → IsUnread gives most_of_class path fault → FailsToRead gives path old old fault
 by_bytes gives path old (Path p) w = (appends_nothing old, w)
 by_bytes gives path old TooLarge w = (appends_nothing old, w)
 by_bytes gives path old Memory w = inl (appends_nothing old, tt)
 by_bytes gives path old fault w = absurd w
 
 -- it is no class file
-pub by_class : (gives : Giving) (path : List ℕ) (old : Option (List ℕ)) (bytes : List ℕ) (fault : Fault) → IsContent gives bytes → IsRefusal bytes fault → FailsToRead gives path old old fault
+pub by_class : (gives : Giving) (path : List ℕ) (old : Option (List ℕ)) (bytes : List ℕ) (fault : Fault) → IsContent gives most_of_class bytes → IsRefusal bytes fault → FailsToRead gives path old old fault
 by_class gives path old bytes (File (errors.Fault f)) is w = (appends_nothing old, record { bytes = bytes; content = is; read = w })
 by_class gives path old bytes (File errors.Memory) is w = (appends_nothing old, tt)
 by_class gives path old bytes Memory is w = inl (appends_nothing old, tt)

@@ -1,9 +1,10 @@
 -- How a run ends, from its steps.
-use Rattle.std.proofs.Common.{◌≡◌, ◌⊎◌, ◌∙◌, ◌<◌, ◌≤◌, ℕ, Bool, List, [], ◌∷◌, ◌++◌, length, Option, Some, None, Result, Ok, Err, IfSome, IsErrAnd, OnOk, OnErr, ap, append-nil, append_assoc, codes, inl, inr, refl, sym, subst}
+use Rattle.std.proofs.Common.{◌≡◌, ◌⊎◌, ◌∙◌, ◌<◌, ◌≤◌, ℕ, Bool, List, [], ◌∷◌, ◌++◌, length, Option, Some, None, Result, Ok, Err, IfSome, IsErrAnd, OnOk, OnErr, ap, map, append-nil, append_assoc, codes, inl, inr, refl, sym, subst}
+use Rattle.std.proofs.lemmas.List.{length-map}
 use Rattle.std.specs.Str.{IsUtf8}
 use Rattle.std.specs.Io.KnownBytes.{Appends}
 use Rattle.cl_model.specs.Content.{Content}
-use Rattle.cl_config.specs.Views.{Configured, Scripted}
+use Rattle.cl_config.specs.Views.{Configured, Loader, Scripted, names_of}
 use Rattle.cl_registry.specs.declared.report.Report.{Report}
 use Rattle.cl_bundle.specs.Bundles.{IsBundle, IsNoBundle}
 use Rattle.cl_bundle.specs.Faults.{UnlessMemory}
@@ -49,7 +50,7 @@ by_bundle input only old text fault e w = (appends_nothing old, if_read input te
 -- the lines that are printed for what was read and served are those of a report, where what is held in between is what was read
 pub are_lines : (input : Option (List ℕ)) (only : Bool) (text : List ℕ) (config held seen : Configured) (content : Content) (script given : Scripted) (report : Report) (names : List (List ℕ))
     → IfSome input (λ bytes. text ≡ bytes) → IsBundle text config content script → held ≡ config → given ≡ script → IsServed (Some content) held given report
-    → names ≡ seen.names → seen ≡ config → AreLinesFor input only (report_lines names only report.history report.answers)
+    → names ≡ names_of seen → seen ≡ config → AreLinesFor input only (report_lines names only report.history report.answers)
 are_lines input only text config held seen content script given report names read bundle h s served n e = record {
   text = text;
   config = config;
@@ -59,8 +60,12 @@ are_lines input only text config held seen content script given report names rea
   read = read;
   bundle = bundle;
   served = subst (λ (x : Scripted). IsServed (Some content) config x report) s (subst (λ (x : Configured). IsServed (Some content) x given report) h served);
-  are = ap (λ (x : List (List ℕ)). report_lines x only report.history report.answers) (n ∙ ap (λ (x : Configured). x.names) e);
+  are = ap (λ (x : List (List ℕ)). report_lines x only report.history report.answers) (n ∙ ap names_of e);
 }
+
+-- there is a name for each loader
+pub names_count : {S : Type 0} (f : S → List ℕ) (names : List S) (held seen : Configured) → map f names ≡ names_of seen → seen ≡ held → length held.loaders ≡ length names
+names_count f names held seen e same = sym (ap (λ (c : Configured). length c.loaders) same) ∙ sym (length-map seen.loaders (λ (l : Loader). l.name)) ∙ sym (ap length e) ∙ length-map names f
 
 pub by_print : (input : Option (List ℕ)) (only : Bool) (old new : Option (List ℕ)) (lines : List ℕ) (fault : PrintFault) → AreLinesFor input only lines → AppendsPart old new lines → EndsBy input only old new (print_fault fault)
 by_print input only old new lines print.Write are part = record { lines = lines; for_input = are; part = part }

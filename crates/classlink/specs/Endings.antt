@@ -4,9 +4,11 @@ use Rattle.std.specs.Io.KnownBytes.{Appends}
 use Rattle.clap.specs.Words.{IsAmong, Kinds, Row, Text}
 use Rattle.clap.specs.declared.error.kind.ErrorKind.{ErrorKind}
 use Rattle.clap.specs.declared.error.kind.ErrorKind.TheVariants as kinds
-use Rattle.classlink.specs.CommandLine.{HasFlag, IsToRead, file_of}
-use Rattle.classlink.specs.Readings.{Giving, IsReading}
+use Rattle.classlink.specs.CommandLine.{HasFlag, IsForBundle, IsToRead, IsToRun, IsWanted, Wanted, file_of}
+use Rattle.classlink.specs.Files.{Giving}
+use Rattle.classlink.specs.Readings.{IsReading}
 use Rattle.classlink.specs.Runs.{EndsWith, IsRun}
+use Rattle.classlink.specs.ScriptRuns.{IsScriptRun}
 use Rattle.classlink.specs.declared.fault.Fault.{Fault}
 use Rattle.classlink.specs.declared.fault.Fault.TheVariants.{Memory, Write}
 
@@ -17,11 +19,14 @@ pub record LacksMemory (old_out new_out old_err new_err : Option (List ℕ)) (st
   pub nothing : Appends old_out new_out []
   pub told : EndsWith old_err new_err status (Err Memory)
 
--- what `clap` finds in words that it takes is done: the file of `read` is read, or a bundle is run with its flag; or memory was wanting (own choice)
+-- what `clap` finds in words that it takes is done: the file of `read` is read, a script is run, or a bundle with its flag; or memory
+-- was wanting (own choice)
 pub data IsTaken (entered : Option (Text × List Row)) (input : Option (List ℕ)) (gives : List ℕ → Giving) (old_out new_out old_err new_err : Option (List ℕ)) (status : ℕ) : Type 0 where
   Reads : IsToRead entered → IsReading (gives (file_of entered)) (file_of entered) old_out new_out old_err new_err status
       → IsTaken entered input gives old_out new_out old_err new_err status
-  Runs : (answers : Bool) → (IsToRead entered → ⊥) → ((b : Bool) → HasFlag entered b → answers ≡ b) → IsRun input answers old_out new_out old_err new_err status
+  RunsScript : (w : Wanted) → IsToRun entered → IsWanted entered w → IsScriptRun gives w old_out new_out old_err new_err status
+      → IsTaken entered input gives old_out new_out old_err new_err status
+  Runs : (answers : Bool) → IsForBundle entered → ((b : Bool) → HasFlag entered b → answers ≡ b) → IsRun input answers old_out new_out old_err new_err status
       → IsTaken entered input gives old_out new_out old_err new_err status
   Lacks : LacksMemory old_out new_out old_err new_err status → IsTaken entered input gives old_out new_out old_err new_err status
 

@@ -2,9 +2,13 @@
 use Rattle.std.specs.Prelude.{⊤, ℕ, List, ◌++◌, codes, string_bytes}
 use Rattle.cl_classfile.specs.Texts as files
 use Rattle.cl_bundle.specs.Faults as bundles
+use Rattle.cl_config.specs.ConfigTexts as configs
+use Rattle.cl_config.specs.declared.fault.ConfigError.{ConfigError}
+use Rattle.cl_config.specs.declared.fault.ConfigError.TheVariants as errors
+use Rattle.cl_config.specs.Texts.{script_text}
 use Rattle.cl_schedule.specs.Texts.{serve_text}
 use Rattle.classlink.specs.declared.fault.Fault.{Fault}
-use Rattle.classlink.specs.declared.fault.Fault.TheVariants.{Input, Write, TooLarge, NotUtf8, Bundle, Serve, Path, File, Words, Memory}
+use Rattle.classlink.specs.declared.fault.Fault.TheVariants.{Input, Write, TooLarge, NotUtf8, Bundle, Config, Script, Serve, Path, File, Words, Memory}
 use Rattle.cl_streams.specs.declared.input.InputFault.{InputFault}
 use Rattle.cl_streams.specs.declared.input.InputFault.TheVariants as input
 use Rattle.cl_streams.specs.declared.output.PrintFault.{PrintFault}
@@ -28,18 +32,26 @@ input_fault input.Unread = Input
 input_fault input.TooLarge = TooLarge
 input_fault input.Memory = Memory
 
+-- why a configuration was not read is what ends the program (own choice)
+abbrev pub config_fault : ConfigError → Fault
+config_fault errors.Memory = Memory
+config_fault (errors.Fault fault) = Config fault
+
 -- what refuses a report is what ends the program (own choice)
 abbrev pub print_fault : PrintFault → Fault
 print_fault print.Write = Write
 print_fault print.Memory = Memory
 
--- the text of a fault (own choice); of what a bundle, a class file or the service of a script is refused with, that fault's own text
+-- the text of a fault (own choice); of what a bundle, a configuration, a script, its service or a class file is refused with, that
+-- fault's own text
 abbrev pub fault_text : Fault → List ℕ
 fault_text Input = codes "cannot read standard input"
 fault_text Write = codes "cannot write"
 fault_text TooLarge = codes "input too large"
 fault_text NotUtf8 = codes "input is not UTF-8"
 fault_text (Bundle fault) = bundles.fault_text fault
+fault_text (Config fault) = codes "config: " ++ configs.fault_text fault
+fault_text (Script fault) = codes "script: " ++ script_text fault
 fault_text (Serve fault) = serve_text fault
 fault_text (Path path) = codes "cannot read " ++ string_bytes path
 fault_text (File error) = files.error_text error

@@ -1,5 +1,5 @@
 -- What reading a class file answers, and what it writes.
-use Rattle.std.specs.Prelude.{◌≡◌, ◌⊎◌, ◌<◌, ◌≤◌, ℕ, ⊤, List, length, Option, Some, None, Result, Ok, Err, string_bytes}
+use Rattle.std.specs.Prelude.{◌≡◌, ◌⊎◌, ℕ, ⊤, List, Option, None, Result, Ok, Err, string_bytes}
 use Rattle.std.specs.Io.KnownBytes.{Appends}
 use Rattle.cl_classfile.specs.Structure.{Structure}
 use Rattle.cl_classfile.specs.declared.fault.Fault.{Fault as ClassFault}
@@ -7,18 +7,14 @@ use Rattle.cl_classfile.specs.declared.fault.ReadError.TheVariants as errors
 use Rattle.cl_classfile.specs.Reading.{read_of}
 use Rattle.cl_writer.specs.Listings.{listing_of}
 use Rattle.cl_streams.specs.Writing.{AppendsPart}
+use Rattle.classlink.specs.Files.{Giving, IsContent, IsTooLarge}
 use Rattle.classlink.specs.Runs.{EndsWith, WritesNothing}
 use Rattle.classlink.specs.declared.fault.Fault.{Fault}
 use Rattle.classlink.specs.declared.fault.Fault.TheVariants.{Write, TooLarge, Path, File, Memory}
 
--- what reading a file may give: its bytes, or nothing where it cannot be read (own choice)
-abbrev pub Giving : Type 1
-Giving = Option (List ℕ) → Type 0
-
--- bytes that a file gives, and not too many (own choice)
-pub record IsContent (gives : Giving) (bytes : List ℕ) : Type 0 where
-  pub given : gives (Some bytes)
-  pub small : length bytes ≤ 16777216
+-- the most bytes that a class file may have (own choice)
+abbrev pub most_of_class : ℕ
+most_of_class = 16777216
 
 -- the lines of the class file that bytes spell (JVMS SE 8, 4; the lines are an own choice)
 pub record IsListing (bytes lines : List ℕ) : Type 0 where
@@ -29,13 +25,13 @@ pub record IsListing (bytes lines : List ℕ) : Type 0 where
 -- the lines of the class file that was read (own choice)
 pub record AreLinesOf (gives : Giving) (lines : List ℕ) : Type 0 where
   pub bytes : List ℕ
-  pub content : IsContent gives bytes
+  pub content : IsContent gives most_of_class bytes
   pub listing : IsListing bytes lines
 
 -- what was read is no class file, and this is its first fault (JVMS SE 8, 4; the order of faults is an own choice)
 pub record IsNoClass (gives : Giving) (fault : ClassFault) : Type 0 where
   pub bytes : List ℕ
-  pub content : IsContent gives bytes
+  pub content : IsContent gives most_of_class bytes
   pub read : read_of bytes ≡ Err fault
 
 -- the lines are written (own choice)
@@ -50,16 +46,10 @@ pub record BreaksLines (gives : Giving) (old new : Option (List ℕ)) : Type 0 w
   pub of_file : AreLinesOf gives lines
   pub part : AppendsPart old new lines
 
--- more bytes than are read (own choice)
-pub record IsTooLarge (gives : Giving) : Type 0 where
-  pub bytes : List ℕ
-  pub given : gives (Some bytes)
-  pub large : 16777216 < length bytes
-
 -- when a reading ends by a fault, and what is on its output (own choice)
 abbrev pub FailsToRead : Giving → List ℕ → Option (List ℕ) → Option (List ℕ) → Fault → Type 0
 FailsToRead gives path old new (Path p) = WritesNothing old new ((string_bytes p ≡ path) × gives None)
-FailsToRead gives path old new TooLarge = WritesNothing old new (IsTooLarge gives)
+FailsToRead gives path old new TooLarge = WritesNothing old new (IsTooLarge gives most_of_class)
 FailsToRead gives path old new (File (errors.Fault fault)) = WritesNothing old new (IsNoClass gives fault)
 FailsToRead gives path old new (File errors.Memory) = WritesNothing old new ⊤
 FailsToRead gives path old new Write = BreaksLines gives old new
@@ -78,13 +68,6 @@ pub record IsReading (gives : Giving) (path : List ℕ) (old_out new_out old_err
   pub told : EndsWith old_err new_err status outcome
 
 -- ---- its steps
-
--- why there are no bytes of the file at a path (own choice)
-abbrev pub IsUnread : Giving → List ℕ → Fault → Type 0
-IsUnread gives path (Path p) = (string_bytes p ≡ path) × gives None
-IsUnread gives path TooLarge = IsTooLarge gives
-IsUnread gives path Memory = ⊤
-IsUnread gives path _ = ⊥
 
 -- the first fault of bytes that spell no class file (JVMS SE 8, 4; the order of faults is an own choice), or want of memory
 abbrev pub IsRefusal : List ℕ → Fault → Type 0

@@ -3,7 +3,7 @@ use Rattle.std.specs.Prelude.{◌≡◌, ◌⊎◌, ◌<◌, ◌≤◌, ℕ, ⊤
 use Rattle.std.specs.Str.{IsUtf8}
 use Rattle.std.specs.Io.KnownBytes.{Appends}
 use Rattle.cl_model.specs.Content.{Content}
-use Rattle.cl_config.specs.Views.{Configured, Scripted}
+use Rattle.cl_config.specs.Views.{Configured, Scripted, names_of}
 use Rattle.cl_registry.specs.declared.report.Report.{Report}
 use Rattle.cl_bundle.specs.Bundles.{IsBundle, IsNoBundle}
 use Rattle.cl_bundle.specs.Faults.{UnlessMemory}
@@ -32,7 +32,7 @@ pub record AreLinesFor (input : Option (List ℕ)) (only_answers : Bool) (lines 
   pub read : IfSome input (λ bytes. text ≡ bytes)
   pub bundle : IsBundle text config content script
   pub served : IsServed (Some content) config script report
-  pub are : lines ≡ report_lines config.names only_answers report.history report.answers
+  pub are : lines ≡ report_lines (names_of config) only_answers report.history report.answers
 
 -- a first part of the lines is written, and no more (own choice)
 pub record BreaksOff (input : Option (List ℕ)) (only_answers : Bool) (old new : Option (List ℕ)) : Type 0 where

@@ -2,6 +2,7 @@ ghost use Rattle.std.specs.Prelude.{◌≡◌};
 
 use cl_bundle::BundleFault;
 use cl_classfile::ReadError;
+use cl_config::{ConfigError, ConfigFault, ScriptFault};
 use cl_schedule::ServeFault;
 use cl_streams::{InputFault, PrintFault};
 use std::alloc::{AllocError, AllocFailed};
@@ -17,6 +18,10 @@ pub enum Fault {
     NotUtf8,
     /// What is wrong with the bundle.
     Bundle(BundleFault),
+    /// What is wrong with the configuration of the words.
+    Config(ConfigFault),
+    /// What is wrong with the script of the words.
+    Script(ScriptFault),
     Serve(ServeFault),
     /// The file at this path cannot be read.
     Path(String),
@@ -41,6 +46,8 @@ impl Display for Fault {
             Fault::TooLarge => write!(f, "input too large"),
             Fault::NotUtf8 => write!(f, "input is not UTF-8"),
             Fault::Bundle(fault) => write!(f, "{fault}"),
+            Fault::Config(fault) => write!(f, "config: {fault}"),
+            Fault::Script(fault) => write!(f, "script: {fault}"),
             Fault::Serve(fault) => write!(f, "{fault}"),
             Fault::Path(path) => write!(f, "cannot read {path}"),
             Fault::File(fault) => write!(f, "{fault}"),
@@ -116,5 +123,28 @@ impl From<BundleFault> for Fault {
 
     fn from(fault: BundleFault) -> Fault {
         Fault::Bundle(fault)
+    }
+}
+
+impl From<ConfigError> for Fault {
+    ghost use Rattle.classlink.specs.Faults.{config_fault};
+
+    ghost from_gives = { λ error e. e ≡ config_fault error };
+
+    fn from(error: ConfigError) -> Fault {
+        match error {
+            ConfigError::Memory => Fault::Memory,
+            ConfigError::Fault(fault) => Fault::Config(fault),
+        }
+    }
+}
+
+impl From<ScriptFault> for Fault {
+    ghost use Rattle.classlink.specs.declared.fault.Fault.TheVariants.{Script};
+
+    ghost from_gives = { λ fault e. e ≡ Script fault };
+
+    fn from(fault: ScriptFault) -> Fault {
+        Fault::Script(fault)
     }
 }

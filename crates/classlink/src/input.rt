@@ -1,11 +1,16 @@
+//! What the program reads and draws for a run: its input, and a seed.
+
 ghost use Rattle.std.specs.Prelude.{◌≡◌, ◌<◌, ◌≤◌, length, IfOk, IfErr, IfSome, Err, string_bytes, string_len};
 ghost use Rattle.std.specs.Str.{IsUtf8};
 ghost use Rattle.classlink.specs.Faults.{IsInputFault, input_fault};
 
 use crate::fault::Fault;
+use cl_names::Seed;
 use cl_streams::read_bytes;
 use std::alloc::Global;
+use std::hash::RandomState;
 use std::io::Read;
+use std::random::RandomSource;
 
 /// The most bytes that a text may have.
 pub const MOST_BYTES: usize = 67_108_864;
@@ -22,5 +27,13 @@ pub fn read_text<I: Read + Drop>(alloc: Global, mut input: I) -> Result<String, 
     match String::from_utf8(bytes) {
         Ok(text) => Ok(text),
         Err(_) => Err(Fault::NotUtf8),
+    }
+}
+
+/// A seed for the tables of names, which strangers cannot know, if one is to be had.
+pub fn draw_seed<F: RandomSource>(random: &F) -> Option<Seed> {
+    match RandomState::new(random) {
+        Ok(state) => Some(Seed::drawn(state)),
+        Err(_) => None,
     }
 }

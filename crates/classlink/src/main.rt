@@ -1,7 +1,9 @@
-//! Loads and links the classes of a bundle as a Java machine does.
+//! Loads and links classes as a Java machine does: those of a bundle, or those of directories.
 #![tactic(auto)]
 
+mod directories;
 mod fault;
+mod files;
 mod input;
 mod reading;
 mod run;

@@ -2,15 +2,18 @@ ghost use Rattle.std.specs.Prelude.{◌≡◌, ◌⊎◌, [], ℕ, List, Bool, I
 ghost use Rattle.clap.specs.Words.{kind_of, subcommand_of};
 ghost use Rattle.cl_model.specs.Content.{Tells};
 ghost use Rattle.cl_config.specs.Scripts.{HasLoaders};
-ghost use Rattle.classlink.specs.CommandLine.{AskFor, AskToRead, AsksForBundle, AsksForFile, program, wrong_words};
+ghost use Rattle.classlink.specs.CommandLine.{AskFor, AskToRead, AskToRun, AsksForBundle, AsksForFile, AsksForRun, Wanted, program, wanted_of, wrong_words};
 ghost use Rattle.classlink.specs.Endings.{EndsFor, Grows, HelpOf, IsTaken, IsTurnedDown};
 ghost use Rattle.classlink.specs.Readings.{IsReading};
 ghost use Rattle.classlink.specs.Runs.{IsRun, IsServed, RunOf, TellsFault};
+ghost use Rattle.classlink.specs.ScriptRuns.{IsScriptRun};
 
+use crate::directories::report_script;
 use crate::fault::Fault;
-use crate::input::read_text;
-use crate::reading::{ReadFile, print_class};
-use crate::words::{self, Asked};
+use crate::files::ReadPath;
+use crate::input::{draw_seed, read_text};
+use crate::reading::print_class;
+use crate::words::{self, Asked, RunWords};
 use cl_bundle::Bundle;
 use cl_config::{Config, Script};
 use cl_model::Told;
@@ -18,12 +21,11 @@ use cl_names::Seed;
 use cl_registry::Report;
 use cl_report::print_report;
 use cl_schedule::{ServeFault, serve_one};
-use cl_source::MemorySource;
+use cl_source::{MemorySource, ReadFile};
 use cl_streams::write_out;
 use clap::error::ErrorKind;
 use std::alloc::Global;
 use std::convert::AsStr;
-use std::hash::RandomState;
 use std::io::{Read, Write};
 use std::marker::Brand;
 use std::random::RandomSource;
@@ -33,19 +35,28 @@ use std::sync::Arc;
 /// status: 0; 1 for a fault, whose text is written to `err`; 2 for words that are refused, with their text on `err`;
 /// 0 for help, on `out`.
 pub fn run_over<
-    R: AllocGlobal + ReadFile + RandomSource,
+    R: AllocGlobal + ReadPath + ReadFile + RandomSource,
     S: AsStr,
     I: Read + Drop,
     W: Write,
     E: Write,
 >(rt: &R, words: &[S], input: I, out: &mut W, err: &mut E) -> u8
     ensures bundle { (answers : Bool) → AskFor (map S.text words.now) answers
-        → IsRun (I.remaining input) answers (W.contents out.old) (W.contents out.new) (E.contents err.old) (E.contents err.new) result }
+        → IsRun (I.remaining input) answers
+        (W.contents out.old) (W.contents out.new) (E.contents err.old) (E.contents err.new) result }
+    ensures run { (w : Wanted) → AskToRun (map S.text words.now) w
+        → IsScriptRun (R.ReadPath.gives rt.now) w
+        (W.contents out.old) (W.contents out.new) (E.contents err.old) (E.contents err.new) result }
     ensures read { (path : List ℕ) → AskToRead (map S.text words.now) path
-        → IsReading (R.gives rt.now path) path (W.contents out.old) (W.contents out.new) (E.contents err.old) (E.contents err.new) result }
+        → IsReading (R.ReadPath.gives rt.now path) path
+        (W.contents out.old) (W.contents out.new) (E.contents err.old) (E.contents err.new) result }
     ensures taken { wrong_words (map S.text words.now) ≡ []
-        → IsTaken (subcommand_of program (map S.text words.now)) (I.remaining input) (R.gives rt.now) (W.contents out.old) (W.contents out.new) (E.contents err.old) (E.contents err.new) result }
-    ensures other { (wrong_words (map S.text words.now) ≡ [] → ⊥) → IsTurnedDown (wrong_words (map S.text words.now)) (W.contents out.old) (W.contents out.new) (E.contents err.old) (E.contents err.new) result }
+        → IsTaken (subcommand_of program (map S.text words.now)) (I.remaining input)
+        (R.ReadPath.gives rt.now)
+        (W.contents out.old) (W.contents out.new) (E.contents err.old) (E.contents err.new) result }
+    ensures other { (wrong_words (map S.text words.now) ≡ [] → ⊥)
+        → IsTurnedDown (wrong_words (map S.text words.now))
+        (W.contents out.old) (W.contents out.new) (E.contents err.old) (E.contents err.new) result }
 {
     let alloc = rt.alloc();
     match words::read(alloc, words) {
@@ -55,7 +66,7 @@ pub fn run_over<
 }
 
 /// Runs what is asked for.
-fn run_asked<F: ReadFile + RandomSource, I: Read + Drop, W: Write, E: Write>(
+fn run_asked<F: ReadPath + ReadFile + RandomSource, I: Read + Drop, W: Write, E: Write>(
     alloc: Global,
     files: &F,
     asked: Asked<'_>,
@@ -64,19 +75,26 @@ fn run_asked<F: ReadFile + RandomSource, I: Read + Drop, W: Write, E: Write>(
     err: &mut E,
 ) -> u8
     ensures bundle { (answers : Bool) → AsksForBundle answers asked.entry
-        → IsRun (I.remaining input) answers (W.contents out.old) (W.contents out.new) (E.contents err.old) (E.contents err.new) result }
+        → IsRun (I.remaining input) answers
+        (W.contents out.old) (W.contents out.new) (E.contents err.old) (E.contents err.new) result }
+    ensures run { (w : Wanted) → AsksForRun w asked.entry
+        → IsScriptRun (F.ReadPath.gives files.now) w
+        (W.contents out.old) (W.contents out.new) (E.contents err.old) (E.contents err.new) result }
     ensures read { (path : List ℕ) → AsksForFile path asked.entry
-        → IsReading (F.gives files.now path) path (W.contents out.old) (W.contents out.new) (E.contents err.old) (E.contents err.new) result }
+        → IsReading (F.ReadPath.gives files.now path) path
+        (W.contents out.old) (W.contents out.new) (E.contents err.old) (E.contents err.new) result }
 {
     match asked {
         Asked::Bundle { answers } => run_bundle(alloc, files, answers, input, out, err),
+        Asked::Run(words) => run_script(alloc, files, words, out, err),
         Asked::Read { path } => run_read(alloc, files, path, out, err),
     }
 }
 
 /// Writes the text of words that ask for no run to where it belongs.
 fn turn_down<W: Write, E: Write>(alloc: Global, error: &clap::Error, out: &mut W, err: &mut E) -> u8
-    ensures { EndsFor (kind_of error.now) (W.contents out.old) (W.contents out.new) (E.contents err.old) (E.contents err.new) result }
+    ensures { EndsFor (kind_of error.now)
+        (W.contents out.old) (W.contents out.new) (E.contents err.old) (E.contents err.new) result }
 {
     match error.kind() {
         ErrorKind::OutOfMemory => fail(alloc, &Fault::Memory, err),
@@ -110,7 +128,8 @@ fn run_bundle<F: RandomSource, I: Read + Drop, W: Write, E: Write>(
     out: &mut W,
     err: &mut E,
 ) -> u8
-    ensures { IsRun (I.remaining input) answers (W.contents out.old) (W.contents out.new) (E.contents err.old) (E.contents err.new) result }
+    ensures { IsRun (I.remaining input) answers
+        (W.contents out.old) (W.contents out.new) (E.contents err.old) (E.contents err.new) result }
 {
     match report_with_seed(alloc, random, answers, input, out) {
         Ok(()) => 0,
@@ -118,15 +137,33 @@ fn run_bundle<F: RandomSource, I: Read + Drop, W: Write, E: Write>(
     }
 }
 
+/// Runs a script over directories, and tells of the fault that ended it.
+fn run_script<F: ReadPath + ReadFile + RandomSource, W: Write, E: Write>(
+    alloc: Global,
+    files: &F,
+    words: RunWords<'_>,
+    out: &mut W,
+    err: &mut E,
+) -> u8
+    ensures { IsScriptRun (F.ReadPath.gives files.now) (wanted_of words.entry)
+        (W.contents out.old) (W.contents out.new) (E.contents err.old) (E.contents err.new) result }
+{
+    match report_script(alloc, files, words, out) {
+        Ok(()) => 0,
+        Err(fault) => fail(alloc, &fault, err),
+    }
+}
+
 /// Prints the lines of the class file at a path, and tells of the fault that ended it.
-fn run_read<F: ReadFile, W: Write, E: Write>(
+fn run_read<F: ReadPath, W: Write, E: Write>(
     alloc: Global,
     files: &F,
     path: &str,
     out: &mut W,
     err: &mut E,
 ) -> u8
-    ensures { IsReading (F.gives files.now path.now) path.now (W.contents out.old) (W.contents out.new) (E.contents err.old) (E.contents err.new) result }
+    ensures { IsReading (F.gives files.now path.now) path.now
+        (W.contents out.old) (W.contents out.new) (E.contents err.old) (E.contents err.new) result }
 {
     match print_class(alloc, files, path, out) {
         Ok(()) => 0,
@@ -137,7 +174,8 @@ fn run_read<F: ReadFile, W: Write, E: Write>(
 /// Writes the line for words that are no text, and answers the exit status for words that are refused.
 pub fn refuse_words<E: Write>(alloc: Global, err: &mut E) -> u8
     ensures status { result ≡ 2 }
-    ensures told { TellsFault (E.contents err.old) (E.contents err.new) Fault.Words ⊎ TellsFault (E.contents err.old) (E.contents err.new) Fault.Memory }
+    ensures told { TellsFault (E.contents err.old) (E.contents err.new) Fault.Words
+        ⊎ TellsFault (E.contents err.old) (E.contents err.new) Fault.Memory }
 {
     let _ = fail(alloc, &Fault::Words, err);
     2
@@ -146,7 +184,8 @@ pub fn refuse_words<E: Write>(alloc: Global, err: &mut E) -> u8
 /// Writes the line of a fault, and answers its exit status. Where memory is wanting for it, that is what is told.
 pub fn fail<E: Write>(alloc: Global, fault: &Fault, err: &mut E) -> u8
     ensures status { result ≡ 1 }
-    ensures told { TellsFault (E.contents err.old) (E.contents err.new) fault.now ⊎ TellsFault (E.contents err.old) (E.contents err.new) Fault.Memory }
+    ensures told { TellsFault (E.contents err.old) (E.contents err.new) fault.now
+        ⊎ TellsFault (E.contents err.old) (E.contents err.new) Fault.Memory }
 {
     let _ = match format!(in alloc; "classlink: {fault}\n") {
         Ok(line) => write_out(err, line.as_bytes()),
@@ -155,17 +194,7 @@ pub fn fail<E: Write>(alloc: Global, fault: &Fault, err: &mut E) -> u8
     1
 }
 
-/// A seed for the tables of names, which strangers cannot know. Where there is none to be had, that is a read that failed.
-fn draw_seed<F: RandomSource>(random: &F) -> Result<Seed, Fault>
-    ensures { IfErr result (λ fault. fault ≡ Fault.Input) }
-{
-    match RandomState::new(random) {
-        Ok(state) => Ok(Seed::drawn(state)),
-        Err(_) => Err(Fault::Input),
-    }
-}
-
-/// Draws a seed, and reads, serves and reports a bundle with it.
+/// Draws a seed, and reads, serves and reports a bundle with it. Where none is to be had, that is a read that failed.
 fn report_with_seed<F: RandomSource, I: Read + Drop, W: Write>(
     alloc: Global,
     random: &F,
@@ -175,7 +204,9 @@ fn report_with_seed<F: RandomSource, I: Read + Drop, W: Write>(
 ) -> Result<(), Fault>
     ensures { RunOf (I.remaining input) answers (W.contents out.old) (W.contents out.new) result }
 {
-    let seed = draw_seed(random)?;
+    let Some(seed) = draw_seed(random) else {
+        return Err(Fault::Input);
+    };
     report_bundle(alloc, seed, answers, input, out)
 }
 
@@ -211,7 +242,7 @@ fn serve(
     source: MemorySource,
     script: Arc<Script>,
 ) -> Result<Report, ServeFault>
-    requires { HasLoaders (length config.value.names) script.value.requests }
+    requires { HasLoaders (length config.value.loaders) script.value.requests }
     ensures served { IfOk result (IsServed (Some source) config.value script.value) }
     ensures no_stray { IfErr result (λ e. e ≡ ServeFault.Memory) }
 {
@@ -225,7 +256,7 @@ fn serve_told<T: Told>(
     script: Arc<Script>,
 ) -> Result<Report, ServeFault>
     requires tells { Tells T.told source }
-    requires loaders { HasLoaders (length config.value.names) script.value.requests }
+    requires loaders { HasLoaders (length config.value.loaders) script.value.requests }
     ensures served { IfOk result (IsServed T.told config.value script.value) }
     ensures no_stray { IfErr result (λ e. e ≡ ServeFault.Memory) }
 {

@@ -1,10 +1,11 @@
 //! Runs over readers and writers that refuse, and count what they refused, and over seeds of one's own. Whole runs are
 //! rows of tests/program.
 
-use crate::reading::ReadFile;
+use crate::files::ReadPath;
 use crate::run::run_over;
+use cl_source::ReadFile;
 use cl_streams::InputFault;
-use std::alloc::Global;
+use std::alloc::{AllocError, Global};
 use std::io::{self, ErrorKind, Read, Write};
 use std::process::Abort;
 use std::random::RandomSource;
@@ -86,7 +87,10 @@ fn writer<R: AllocGlobal>(rt: &R, room: usize) -> CountingWriter {
 
 /// Runs the bundle over a reader and two writers with so much room. A fault is told exactly where its count rose, its
 /// line whole unless standard error refused; and what is on standard output is a beginning of the lines.
-fn check_rooms<R: AllocGlobal + ReadFile + RandomSource + Abort>(rt: &R, rooms: [usize; 3]) {
+fn check_rooms<R: AllocGlobal + ReadPath + ReadFile + RandomSource + Abort>(
+    rt: &R,
+    rooms: [usize; 3],
+) {
     let [read, written, told] = rooms;
     let mut unread = 0;
     let input = CountingReader {
@@ -159,9 +163,27 @@ impl RandomSource for SeededRuntime {
     }
 }
 
-impl ReadFile for SeededRuntime {
-    fn read_file(&self, _alloc: Global, _path: &str, _most: usize) -> Result<Vec<u8>, InputFault> {
+impl ReadPath for SeededRuntime {
+    fn read_path(&self, _alloc: Global, _path: &str, _most: usize) -> Result<Vec<u8>, InputFault> {
         Err(InputFault::Unread)
+    }
+}
+
+impl ReadFile for SeededRuntime {
+    fn read_file(
+        &self,
+        _alloc: Global,
+        _path: &str,
+        _most: usize,
+    ) -> Result<Option<Vec<u8>>, InputFault> {
+        Ok(None)
+    }
+
+    fn another(&self, _alloc: Global) -> Result<SeededRuntime, AllocError> {
+        Ok(SeededRuntime {
+            alloc: self.alloc,
+            random: self.random,
+        })
     }
 }
 
@@ -192,4 +214,22 @@ fn seeds_change_no_line(rt: HostRuntime) {
         assert_eq!(rt; out.as_slice(), lines.as_bytes());
         assert_eq!(rt; err.as_slice(), line.as_bytes());
     }
+}
+
+/// Without a seed `run` looks at no file, and names the configuration.
+#[test]
+fn run_without_seed_names_configuration(rt: HostRuntime) {
+    let runtime = SeededRuntime {
+        alloc: rt.alloc(),
+        random: None,
+    };
+    let mut out = Vec::new(rt.alloc());
+    let mut err = Vec::new(rt.alloc());
+    let words = ["classlink", "run", "loaders.toml", "script"];
+    let input: &[u8] = b"";
+    let found = run_over(&runtime, &words, input, &mut out, &mut err);
+    assert_eq!(rt; found, 1);
+    assert!(rt; out.is_empty());
+    let line = "classlink: cannot read loaders.toml\n";
+    assert_eq!(rt; err.as_slice(), line.as_bytes());
 }

@@ -1,13 +1,26 @@
-use Rattle.std.proofs.Common.{◌≡◌, string_bytes}
+use Rattle.std.proofs.Common.{◌≡◌, ℕ, All, string_bytes, subst}
+use Rattle.cl_model.specs.Texts.{EventNames}
 use Rattle.classlink.specs.Faults.{print_fault}
-use Rattle.classlink.specs.declared.fault.Fault.TheVariants.{Bundle}
-use Rattle.classlink.proofs.Running.{are_lines, by_bundle, by_print, ran_wrong}
+use Rattle.classlink.specs.declared.fault.Fault.TheVariants.{Bundle, Memory}
+use Rattle.classlink.proofs.Running.{are_lines, by_bundle, by_memory, by_print, names_count, ran_wrong}
 use Rattle.classlink.proofs.run.report_bundle.Goals as goal
 
 pub returns-in_err-config : goal.returns-in_err-config
 returns-in_err-config g c =
     ran_wrong _ _ _ _ c.from_residual-in_err-config.result (Bundle c.in_err-config.field-0.0) c.from_residual-in_err-config.ensures.1
     (by_bundle _ c.args.answers _ (string_bytes c.in_ok-text.text) c.in_err-config.field-0.0 c.in_ok-text.ensures.ok (rw c.as_str.ensures.value at c.in_err-config.ensures.bundle))
+
+pub returns-in_err-config-2 : goal.returns-in_err-config-2
+returns-in_err-config-2 g c = ran_wrong _ _ _ _ c.from_residual-in_err-config-2.result Memory c.from_residual-in_err-config-2.ensures.1 (by_memory _ c.args.answers _)
+
+pub returns-in_err-loaders : goal.returns-in_err-loaders
+returns-in_err-loaders g c = ran_wrong _ _ _ _ c.from_residual-in_err-loaders.result Memory c.from_residual-in_err-loaders.ensures.1 (by_memory _ c.args.answers _)
+
+pub print_report-requires-clause-events : goal.print_report-requires-clause-events
+print_report-requires-clause-events g c =
+    let seen : c.deref.result.now ≡ c.in_ok-config-2.config.value = cc (c.deref.ensures, c.in_ok-loaders.ensures) in
+    let count = names_count string_bytes c.names-names.result.now c.in_ok-config-2.config.value c.deref.result.now c.names-names.ensures seen in
+    subst (λ (n : ℕ). All (EventNames n) c.in_ok-report.report.history) count c.in_ok-report.ensures.served.in_order.named.history
 
 pub returns-in_err-print_report : goal.returns-in_err-print_report
 returns-in_err-print_report g c =

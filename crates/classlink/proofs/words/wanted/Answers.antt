@@ -1,13 +1,22 @@
-use Rattle.std.proofs.Common.{refl}
+use Rattle.std.proofs.Common.{codes, refl, sym}
 use Rattle.clap.specs.Words.{found_of, subcommand_rows_of}
-use Rattle.classlink.proofs.Flags.{file_read, is_other, is_to_read}
+use Rattle.classlink.proofs.Flags.{file_read, flag_read, flag_text, is_named}
 use Rattle.classlink.proofs.words.wanted.Goals as goal
 
 pub returns-in-Some : goal.returns-in-Some
 returns-in-Some c = (
-  is_to_read c.args.matches.now (c.in-Some.ensures.found.0 refl),
-  file_read (subcommand_rows_of c.args.matches.now) (found_of c.in-Some.read.now) c.get_str.result _ c.unwrap_or.result c.in-Some.ensures.rows c.get_str.ensures refl c.unwrap_or.ensures,
+  is_named c.args.matches.now (codes "read") (c.in-Some.ensures.found.0 refl),
+  file_read (codes "FILE") (subcommand_rows_of c.args.matches.now) (found_of c.in-Some.read.now) c.get_str.result _ c.unwrap_or.result c.in-Some.ensures.rows c.get_str.ensures refl c.unwrap_or.ensures,
 )
 
-pub returns-in-None : goal.returns-in-None
-returns-in-None c = (is_other c.args.matches.now c.in-None.ensures.found.1, c.answers_alone.ensures)
+pub returns-in-Some-subcommand_matches : goal.returns-in-Some-subcommand_matches
+returns-in-Some-subcommand_matches c =
+    let rows = subcommand_rows_of c.args.matches.now in
+    let found = found_of c.in-Some-subcommand_matches.run'.now in (
+      is_named c.args.matches.now (codes "run") (c.in-Some-subcommand_matches.ensures.found.0 refl),
+      record {
+        config = file_read (codes "CONFIG") rows found c.get_str-in-Some-subcommand_matches.result _ c.unwrap_or-in-Some-subcommand_matches.result c.in-Some-subcommand_matches.ensures.rows c.get_str-in-Some-subcommand_matches.ensures refl c.unwrap_or-in-Some-subcommand_matches.ensures;
+        script = file_read (codes "SCRIPT") rows found c.get_str-in-Some-subcommand_matches-2.result _ c.unwrap_or-in-Some-subcommand_matches-2.result c.in-Some-subcommand_matches.ensures.rows c.get_str-in-Some-subcommand_matches-2.ensures refl c.unwrap_or-in-Some-subcommand_matches-2.ensures;
+        flag = λ answers says. flag_read found c.get_flag.result answers c.get_flag.ensures.value c.get_flag.ensures.other (flag_text found answers rows (sym c.in-Some-subcommand_matches.ensures.rows) says);
+      },
+    )

@@ -1,5 +1,5 @@
 use Rattle.std.proofs.Common.{Err, ap}
-use Rattle.classlink.proofs.reading.class_bytes.Goals as goal
+use Rattle.classlink.proofs.files.bytes_at.Goals as goal
 
 pub returns-in-Ok-clause-ok : goal.returns-in-Ok-clause-ok
 returns-in-Ok-clause-ok g c = record { given = c.in-Ok.ensures.ok; small = c.in-Ok.ensures.small }

@@ -1,0 +1,16 @@
+use Rattle.std.proofs.Common.{◌≡◌, ◌∙◌, codes, rules}
+use Rattle.std.proofs.lemmas.Result.{IfOk-weaker}
+use Rattle.clap.specs.Words.{app_of, new_app}
+use Rattle.clap.specs.declared.builder.command.Command.TheViews.{out-Command}
+use Rattle.classlink.specs.CommandLine.{IsCommand, answers, file}
+use Rattle.classlink.proofs.Commands.{adds}
+use Rattle.classlink.proofs.words.run_command.Goals as goal
+
+pub returns : goal.returns
+returns c =
+    let empty : app_of c.after_help-run.result ≡ app_of c.new.result = search rules in
+    let globals : (out-Command c.after_help-run.result).has_globals ≡ (out-Command c.new.result).has_globals = search rules in
+    let is : IsCommand (new_app (codes "run")) c.after_help-run.result = (empty ∙ c.new.ensures.app, globals ∙ c.new.ensures.local) in
+    let config = adds _ c.after_help-run.result c.in_ok-run.run' (file (codes "CONFIG")) c.file.result is c.file.ensures.rule c.file.ensures.local c.in_ok-run.ensures in
+    let script = adds _ c.in_ok-run.run' c.in_ok-run-2.run' (file (codes "SCRIPT")) c.file-2.result config c.file-2.ensures.rule c.file-2.ensures.local c.in_ok-run-2.ensures in
+    IfOk-weaker c.arg-3.result _ _ (λ m h. adds _ c.in_ok-run-2.run' m answers c.answers_flag.result script c.answers_flag.ensures.rule c.answers_flag.ensures.local h) c.arg-3.ensures

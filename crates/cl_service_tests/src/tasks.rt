@@ -3,7 +3,7 @@
 use crate::given::{APP, BOOT, LOADERS, PLAIN, TOP, class_name, put};
 use cl_config::Config;
 use cl_model::{Answer, LoaderId, Request, Untold};
-use cl_source::{MemorySource, Source, SourceFault};
+use cl_source::{MemorySource, Source, SourceFault, Telling};
 use cl_tasks::{Reply, Task, Turn};
 use std::alloc::{AllocError, Global};
 use std::sync::Arc;
@@ -26,7 +26,7 @@ fn task(alloc: Global) -> Result<Task<Untold>, AllocError> {
 }
 
 /// What a task is told.
-#[derive(Clone, Copy, Debug, PartialEq, Eq)]
+#[derive(Clone, Copy)]
 enum Told {
     Start,
     /// That nothing is recorded.
@@ -38,13 +38,47 @@ enum Told {
 }
 
 /// What it does with that.
-#[derive(Clone, Copy, Debug, PartialEq, Eq)]
+#[derive(Clone, Copy, PartialEq, Eq)]
 enum Does {
     ExpectsAnother,
     Looks(u16),
     Reads(u16),
     Blames(u16),
     Else,
+}
+
+/// What a task is told, as a reply.
+fn reply(
+    alloc: Global,
+    source: &mut Telling<Untold>,
+    told: Told,
+) -> Result<Reply<Untold>, SourceFault> {
+    match told {
+        Told::Start => Ok(Reply::Start),
+        Told::Unrecorded => Ok(Reply::Looked(None)),
+        Told::Fault => Ok(Reply::SourceFault(SourceFault::Device)),
+        Told::Memory => Ok(Reply::Memory),
+        Told::Read(loader, name) => {
+            let name = class_name(alloc, name)?;
+            Ok(Reply::Probed(source.read(alloc, LoaderId(loader), &name)?))
+        }
+    }
+}
+
+/// What a task does with a reply.
+fn turned(alloc: Global, task: &mut Task<Untold>, reply: Reply<Untold>) -> Does {
+    if !task.expects(&reply) {
+        return Does::ExpectsAnother;
+    }
+    match task.turn(alloc, reply) {
+        Turn::Look(loader, _) => Does::Looks(loader.0),
+        Turn::Read(loader, _) => Does::Reads(loader.0),
+        Turn::Post(finding) => match finding.answer() {
+            Answer::SourceFault(_, loader) => Does::Blames(loader.0),
+            _ => Does::Else,
+        },
+        _ => Does::Else,
+    }
 }
 
 /// A load whose home is the first loader: what its task is told, and what it does.
@@ -79,29 +113,8 @@ fn replies_are_expected_in_turn(rt: HostRuntime) -> Result<(), Fail> {
     let mut source = source.tell::<Untold>();
     let mut task = task(alloc)?;
     for (told, does) in TURNS {
-        let reply = match told {
-            Told::Start => Reply::Start,
-            Told::Unrecorded => Reply::Looked(None),
-            Told::Fault => Reply::SourceFault(SourceFault::Device),
-            Told::Memory => Reply::Memory,
-            Told::Read(loader, name) => {
-                let name = class_name(alloc, name)?;
-                Reply::Probed(source.read(alloc, LoaderId(loader), &name)?)
-            }
-        };
-        let done = if task.expects(&reply) {
-            match task.turn(alloc, reply) {
-                Turn::Look(loader, _) => Does::Looks(loader.0),
-                Turn::Read(loader, _) => Does::Reads(loader.0),
-                Turn::Post(finding) => match finding.answer() {
-                    Answer::SourceFault(_, loader) => Does::Blames(loader.0),
-                    _ => Does::Else,
-                },
-                _ => Does::Else,
-            }
-        } else {
-            Does::ExpectsAnother
-        };
+        let reply = reply(alloc, &mut source, told)?;
+        let done = turned(alloc, &mut task, reply);
         assert!(rt; done == does);
     }
     Ok(())

@@ -1,6 +1,7 @@
-"""Runs of the program over bundles of one loader: configurations, scripts, and files that a loader has for a name
-(docs/FORMATS.md, 'Configuration', 'Script', 'What this version reads'). They are written as tests/program/run reads
-them."""
+"""Runs of the program over bundles: configurations, scripts, files that a loader has for a name, and supertypes
+(docs/FORMATS.md, 'Configuration', 'Script'; docs/RULES.md, 'Deriving a class'). They are written as tests/program/run
+reads them."""
+import configs
 from classfile import OBJECT_FILE, Attribute, File, Member, cls, integer, u2, utf8
 
 BOOT = '[[loader]]\nname = "boot"\n'
@@ -10,7 +11,7 @@ MOST = 65535
 
 def part(of, text):
     """A part of a row: as it stands, where lines can say it."""
-    is_plain = "\r" not in text and not text.endswith("\n\n") and text.strip("\n")
+    is_plain = text.isascii() and "\r" not in text and not text.endswith("\n\n") and text.strip("\n")
     is_plain = is_plain and not any(line[:3] in ("-- ", "== ") for line in text.split("\n"))
     if is_plain and text.endswith("\n"):
         return "-- %s\n%s" % (of, text)
@@ -32,20 +33,20 @@ def run(name, pieces, status, out="", err=""):
     return lines + (part("err", "classlink: %s\n" % err) if err else "") + "\n"
 
 
-# Of this version: exactly the two lines of BOOT are read, skipped lines apart.
-READ = [BOOT, '\n# loaders\n[[loader]]\n  \n # x\nname = "boot"\n', '# a loader\n[[loader]]\n\nname = "boot"\n']
-UNREAD = [
-    "", "[[loader]]\n", '[[loader]] \nname = "boot"\n', '[[loader]]\r\nname = "boot"\n', 'name = "boot"\n[[loader]]\n',
-    '[[loader]]\nname = "app"\n', '[[loader]]\nname = "boot"\nname = "boot"\n', 'name = "boot"\n',
-    '[[loader]]\nname = "boot" # x\n', '[[loader]]\nname = "Boot"\n', '[[loader]]\nname = "boot"\ndir = "x"\n',
-]
+def said(pieces, end):
+    """The pieces of a text with a line at its end."""
+    pieces = [pieces] if isinstance(pieces, str) else list(pieces)
+    return pieces[:-1] + [pieces[-1] + end] if isinstance(pieces[-1], str) else pieces + [end]
 
 
 def configurations():
-    for number, text in enumerate(READ, 1):
-        yield run("configuration read: %d" % number, ["%config\n" + text + "%script\n"], 0)
-    for number, text in enumerate(UNREAD, 1):
-        yield run("configuration unread: %d" % number, ["%config\n" + text + "%script\n"], 1, err="bundle line 1")
+    for number, pieces in enumerate(configs.READ, 1):
+        pieces = said(pieces, "%script\n")
+        yield run("configuration read: %d" % number, ["%config\n" + pieces[0]] + pieces[1:], 0)
+    for number, (pieces, fault) in enumerate(configs.UNREAD, 1):
+        pieces = said(pieces, "%script\n")
+        name = "configuration unread: %d, %s" % (number, fault)
+        yield run(name, ["%config\n" + pieces[0]] + pieces[1:], 1, err="config: " + fault)
 
 
 # A script, and the names that it loads, or its fault.
@@ -67,15 +68,33 @@ SCRIPTS = [
     (["load boot p/A\nload \\ p/A"], "L2 UnknownLoader 2"),
     (["load boot p/A\nload p/B"], "L1 BadLine 2"),
     (["Load boot p/A"], "L1 BadLine 1"),
+    (["load boot p//A"], "L1 BadLine 1"),
+    (["load boot /A"], "L1 BadLine 1"),
+    (["load boot p/A\nload boot p/A"], ["p/A", "p/A"]),
     # Of this version: loads alone.
     (["resolve boot p/A 0"], "L1 BadLine 1"),
     (["link boot p/A"], "L1 BadLine 1"),
-    (["load boot p/A\n\nthen"], "L1 BadLine 3"),
     (["# one\n\nload  a\r\n   \n\tb #c\n #\nlast"], "L1 BadLine 3"),
+    # Rounds.
+    (["load boot p/A\n\nthen"], ["p/A"]),
+    (["then\nthen\nload boot p/A\n  then  \n# x\nthen\nload boot p/B\nthen"], ["p/A", "p/B"]),
+    (["then"], []),
+    (["then load boot p/A"], "L1 BadLine 1"),
+    (["load boot p/A\nThen"], "L1 BadLine 2"),
+    (["then\r\n"], "L1 BadLine 1"),
+    (["then then"], "L1 BadLine 1"),
+    (["then\nload x p/A"], "L2 UnknownLoader 2"),
+    ([("then\n", MOST)], []),
+    ([("then\n", MOST), "\nload boot p/A"], ["p/A"]),
+    ([("then\n", MOST), "\n#\nthen"], "L3 TooMany"),
+    ([("then\n", MOST), "\nthen then"], "L1 BadLine 65537"),
     ([(LINE, MOST)], "any"),
+    ([(LINE, MOST), "\nthen"], "any"),
     ([(LINE, MOST), "\nload boot p/A\nthen"], "L3 TooMany"),
     ([(LINE, MOST), "\nload app p/A"], "L2 UnknownLoader 65537"),
-    ([(LINE, MOST), "\n#\nthen"], "L1 BadLine 65538"),
+    ([(LINE, MOST), "\n#\nresolve"], "L1 BadLine 65538"),
+    ([("then\n" + LINE, MOST)], "any"),
+    ([("then\n" + LINE, MOST), "\nthen"], "L3 TooMany"),
 ]
 
 
@@ -109,10 +128,14 @@ DRAFTS = [
     ("p/A", p_a(version=u2(0) + u2(53)).bytes(), "UnsupportedClassVersionError p/A@boot"),
     ("p/A", p_a(version=u2(0) + u2(51)).bytes(), "UnsupportedClassVersionError p/A@boot"),
     ("p/Z", p_a(version=u2(1) + u2(52)).bytes(), "UnsupportedClassVersionError p/Z@boot"),
-    # Of this version: public classes without interfaces, looked at before the name.
-    ("p/Z", p_a(flags=0x20).bytes(), "ClassFormatError p/Z@boot"),
-    ("p/Z", p_a(flags=0x0601, interfaces=[4]).bytes(), "ClassFormatError p/Z@boot"),
-    ("p/Z", p_a(interfaces=[4]).bytes(), "ClassFormatError p/Z@boot"),
+    # What a request asks for itself need not be public, and may be an interface.
+    ("p/A", p_a(flags=0x20).bytes(), "class p/A@boot"),
+    ("p/Z", p_a(flags=0x20).bytes(), "NoClassDefFoundError p/Z@boot"),
+    ("p/A", p_a(flags=0x0601).bytes(), "class p/A@boot"),
+    ("p/Z", p_a(flags=0x0601, interfaces=[4]).bytes(), "NoClassDefFoundError p/Z@boot"),
+    ("p/Z", p_a(interfaces=[4]).bytes(), "NoClassDefFoundError p/Z@boot"),
+    ("p/A", p_a(flags=0x0601, interfaces=[2]).bytes(), "ClassCircularityError p/A@boot"),
+    ("p/A", p_a(flags=0x0201).bytes(), "ClassFormatError p/A@boot"),
     ("p/A", p_a(fields=[Member(2, 5, 9)]).bytes(), "ClassFormatError p/A@boot"),
     ("p/A", b"", "ClassFormatError p/A@boot"),
     ("p/A", bytes(100), "ClassFormatError p/A@boot"),
@@ -123,7 +146,8 @@ def drafts():
     for number, (name, data, answer) in enumerate(DRAFTS, 1):
         sections = "%%class boot java/lang/Object\n@hex %s\n%%class boot %s\n@hex %s\n"
         sections %= (OBJECT_FILE.bytes().hex(), name, data.hex())
-        history = "define java/lang/Object@boot\ndefine p/A@boot\n" if answer.startswith("class") else ""
+        history = "define java/lang/Object@boot\n" if answer.startswith(("class", "ClassCirc")) else ""
+        history += "define p/A@boot\n" if answer.startswith("class") else ""
         bundle = "%config\n" + BOOT + sections + "%script\nload boot " + name + "\n"
         yield run("file of a name: %d" % number, [bundle], 0, out=history + "1 " + answer + "\n")
 
@@ -146,6 +170,51 @@ def chains():
     yield run("chains and circles", ["%config\n" + BOOT + sections + script], 0, out=out)
 
 
+# A supertype, and what a load of p/A over it is answered: flags and name of the supertype, the loader whose own content
+# has it, whether p/A lists it as an interface, and the answer. p/A is app's, whose parent is boot.
+TOP = "java/lang/Object"
+FITS = "class p/A@app"
+SUPERTYPES = [
+    ("0021", "p/S", "app", False, FITS),
+    ("0020", "p/S", "app", False, FITS),
+    ("0021", "p/S", "boot", False, FITS),
+    ("0020", "p/S", "boot", False, "IllegalAccessError p/S@boot"),
+    ("0020", "q/S", "app", False, "IllegalAccessError q/S@app"),
+    ("0020", "p/q/S", "app", False, "IllegalAccessError p/q/S@app"),
+    ("0020", "S", "app", False, "IllegalAccessError S@app"),
+    ("0601", "p/S", "app", False, "IncompatibleClassChangeError p/S@app"),
+    ("0600", "p/S", "boot", False, "IllegalAccessError p/S@boot"),
+    ("0600", "p/S", "app", False, "IncompatibleClassChangeError p/S@app"),
+    ("0421", "p/S", "boot", False, FITS),
+    # whether a class is final is not looked at
+    ("0031", "p/S", "boot", False, FITS),
+    ("0601", "p/S", "app", True, FITS),
+    ("0600", "p/S", "app", True, FITS),
+    ("0601", "p/S", "boot", True, FITS),
+    ("2601", "p/S", "boot", True, FITS),
+    ("0600", "p/S", "boot", True, "IllegalAccessError p/S@boot"),
+    ("0600", "q/S", "app", True, "IllegalAccessError q/S@app"),
+    ("0021", "p/S", "app", True, "IncompatibleClassChangeError p/S@app"),
+    ("0020", "p/S", "boot", True, "IllegalAccessError p/S@boot"),
+    ("0020", "p/S", "app", True, "IncompatibleClassChangeError p/S@app"),
+]
+
+
+def supertypes():
+    for number, (flags, name, home, is_interface, answer) in enumerate(SUPERTYPES, 1):
+        sections = "%%class boot %s\nclass 0021 %s -\n" % (TOP, TOP)
+        sections += "%%class %s %s\nclass %s %s %s\n" % (home, name, flags, name, TOP)
+        above = "%s\nimplements %s" % (TOP, name) if is_interface else name
+        sections += "%%class app p/A\nclass 0021 p/A %s\n" % above
+        by_app = "initiate %s boot by app\n" % TOP
+        # java/lang/Object is loaded through the loader that needs it first: app for an interface's holder
+        history = "define %s@boot\n" % TOP + (by_app if is_interface or home == "app" else "") + "define %s@%s\n" % (name, home)
+        history += "initiate %s boot by app\n" % name if home == "boot" else ""
+        history += "define p/A@app\n" if answer == FITS else ""
+        bundle = "%config\n" + BOOT + '[[loader]]\nname = "app"\nparent = "boot"\n' + sections + "%script\nload app p/A\n"
+        yield run("supertype: %d" % number, [bundle], 0, out=history + "1 " + answer + "\n")
+
+
 def text():
-    made = [*configurations(), *scripts(), *drafts(), *chains()]
+    made = [*configurations(), *scripts(), *drafts(), *chains(), *supertypes()]
     return "# Made by tools/rows/bundles.py.\n\n" + "".join(made)

@@ -1,7 +1,6 @@
-//! The printed faults of which no bundle shows each, and no contract tells the text.
+//! The printed faults that no run shows, and no contract tells the text of.
 
 use cl_classfile::Fault;
-use cl_config::ConfigFault;
 use cl_hierarchy::DraftFault;
 use cl_registry::RegistryFault;
 use cl_source::SourceFault;
@@ -10,13 +9,6 @@ use std::test::Fail;
 #[test]
 fn printed_faults(rt: HostRuntime) -> Result<(), Fail> {
     let alloc = rt.alloc();
-    for (fault, text) in [
-        (ConfigFault::Memory, "C0 Memory"),
-        (ConfigFault::NotToml, "C1 NotToml"),
-        (ConfigFault::BadLoader(2), "C2 BadLoader 2"),
-    ] {
-        assert!(rt; fault.to_string(alloc)?.as_str() == text);
-    }
     for (fault, text) in [
         (SourceFault::Memory, "S0 Memory"),
         (SourceFault::Device, "S1 Device"),

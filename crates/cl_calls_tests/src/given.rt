@@ -1,33 +1,50 @@
-//! What the tests share: names, class files, homes and registries, made with memory to spare.
+//! What the tests share: loaders, names, class files, homes and registries, made with memory to spare.
 
 use cl_config::{Config, Script};
 use cl_delegation::{Home, Search};
 use cl_model::{Class, LoaderId, Request, Untold};
 use cl_names::Name;
 use cl_registry::Registry;
-use cl_source::{MemorySource, Source};
+use cl_source::{MemorySource, Source, Telling};
 use std::alloc::{AllocError, Global};
 use std::sync::Arc;
 
-pub const BOOT: &str = "[[loader]]\nname = \"boot\"\n";
+pub const BOOT: u16 = 0;
+
+pub const APP: u16 = 1;
+
+pub const PLUG: u16 = 2;
+
+pub const KID: u16 = 3;
+
+/// Four loaders, of which `plug` looks at its own content first.
+pub const CHILD_FIRST: &str =
+    "[[loader]]\nname = \"boot\"\n[[loader]]\nname = \"app\"\nparent = \"boot\"\n[[loader]]\nname = \"plug\"\nparent = \"app\"\norder = \"child\"\n[[loader]]\nname = \"kid\"\nparent = \"app\"\n";
+
+/// The same four, of which `plug` asks its parent first.
+pub const PARENT_FIRST: &str =
+    "[[loader]]\nname = \"boot\"\n[[loader]]\nname = \"app\"\nparent = \"boot\"\n[[loader]]\nname = \"plug\"\nparent = \"app\"\n[[loader]]\nname = \"kid\"\nparent = \"app\"\n";
+
+pub const TOP: &[u8] = b"java/lang/Object";
+
+pub const T: &[u8] = b"p/T";
 
 pub const OBJECT: &[u8] =
     b"\xca\xfe\xba\xbe\x00\x00\x00\x34\x00\x03\x01\x00\x10java/lang/Object\x07\x00\x01\x00\x21\x00\x02\x00\x00\x00\x00\x00\x00\x00\x00\x00\x00";
 
-/// The file of a public class over another; each name stands behind its length.
-pub fn class_file(alloc: Global, name: &[u8], above: &[u8]) -> Result<Vec<u8>, AllocError> {
-    let mut bytes = Vec::from_slice(alloc, b"\xca\xfe\xba\xbe\x00\x00\x00\x34\x00\x05\x01\x00")?;
-    bytes.extend_from_slice(name)?;
-    bytes.extend_from_slice(b"\x07\x00\x01\x01\x00")?;
-    bytes.extend_from_slice(above)?;
-    bytes.extend_from_slice(
-        b"\x07\x00\x03\x00\x21\x00\x02\x00\x04\x00\x00\x00\x00\x00\x00\x00\x00",
-    )?;
-    Ok(bytes)
-}
+/// `p/T`, public, over `java/lang/Object`.
+pub const PLAIN: &[u8] =
+    b"\xca\xfe\xba\xbe\x00\x00\x00\x34\x00\x05\x01\x00\x03p/T\x07\x00\x01\x01\x00\x10java/lang/Object\x07\x00\x03\x00\x21\x00\x02\x00\x04\x00\x00\x00\x00\x00\x00\x00\x00";
+
+/// The same, and final.
+pub const FINAL: &[u8] =
+    b"\xca\xfe\xba\xbe\x00\x00\x00\x34\x00\x05\x01\x00\x03p/T\x07\x00\x01\x01\x00\x10java/lang/Object\x07\x00\x03\x00\x31\x00\x02\x00\x04\x00\x00\x00\x00\x00\x00\x00\x00";
 
 pub fn class_name(alloc: Global, name: &[u8]) -> Result<Name, AllocError> {
-    Name::class(alloc, name).map_err(|_| AllocError)
+    match Name::class(alloc, name) {
+        Ok(name) => Ok(name),
+        Err(_) => Err(AllocError),
+    }
 }
 
 pub fn load(alloc: Global, loader: u16, name: &[u8]) -> Result<Request, AllocError> {
@@ -42,42 +59,81 @@ pub fn class(alloc: Global, loader: u16, name: &[u8]) -> Result<Class, AllocErro
     })
 }
 
-/// The configuration of one loader, `boot`.
-pub fn boot(alloc: Global) -> Result<Arc<Config>, AllocError> {
-    let config = Config::read(alloc, BOOT).map_err(|_| AllocError)?;
-    Ok(Arc::new(alloc, config)?)
+pub fn config(alloc: Global, text: &str) -> Result<Arc<Config>, AllocError> {
+    match Config::read(alloc, text) {
+        Ok(config) => Ok(Arc::new(alloc, config)?),
+        Err(_) => Err(AllocError),
+    }
 }
 
-pub fn search(alloc: Global, name: &[u8]) -> Result<Search<Untold>, AllocError> {
-    let config = boot(alloc)?;
-    // brings that there is one loader
-    let _ = config.count();
-    let search = Search::new(alloc, config, LoaderId(0), class_name(alloc, name)?);
-    search.map_err(|_| AllocError)
-}
-
-/// The home of a name that has these bytes.
-pub fn home(alloc: Global, name: &[u8], bytes: Vec<u8>) -> Result<Home<Untold>, AllocError> {
+/// A source of `java/lang/Object` in the first loader, and of these bytes of `p/T` in `app` and `plug`.
+pub fn source(alloc: Global, bytes: &[u8]) -> Result<Telling<Untold>, AllocError> {
     let mut source = MemorySource::new(alloc);
-    let put = source.put(alloc, LoaderId(0), class_name(alloc, name)?, bytes);
-    put.map_err(|_| AllocError)?;
-    let mut search = search(alloc, name)?;
-    let probe = source
-        .tell::<Untold>()
-        .read(alloc, LoaderId(0), &class_name(alloc, name)?)
-        .map_err(|_| AllocError)?;
-    match search.take(probe) {
-        Ok(()) => search.home().map_err(|_| AllocError),
+    for (loader, name, bytes) in [(BOOT, TOP, OBJECT), (APP, T, bytes), (PLUG, T, bytes)] {
+        let bytes = Vec::from_slice(alloc, bytes)?;
+        let name = class_name(alloc, name)?;
+        if source.put(alloc, LoaderId(loader), name, bytes).is_err() {
+            return Err(AllocError);
+        }
+    }
+    Ok(source.tell::<Untold>())
+}
+
+pub fn search(
+    alloc: Global,
+    config: &Arc<Config>,
+    loader: u16,
+    name: &[u8],
+) -> Result<Search<Untold>, AllocError> {
+    let config = Arc::try_clone(config)?;
+    if usize::from(loader) >= config.count() {
+        return Err(AllocError);
+    }
+    match Search::new(alloc, config, LoaderId(loader), class_name(alloc, name)?) {
+        Ok(search) => Ok(search),
+        Err(_) => Err(AllocError),
+    }
+}
+
+/// The home of a name at a loader, which has to have one.
+pub fn home(
+    alloc: Global,
+    config: &Arc<Config>,
+    source: &mut Telling<Untold>,
+    loader: u16,
+    name: &[u8],
+) -> Result<Home<Untold>, AllocError> {
+    let mut search = search(alloc, config, loader, name)?;
+    let name = class_name(alloc, name)?;
+    for _ in 0..64 {
+        let Some(next) = search.next_probe() else {
+            break;
+        };
+        let Ok(probe) = source.read(alloc, next, &name) else {
+            return Err(AllocError);
+        };
+        let _ = search.take(probe);
+    }
+    if search.next_probe().is_some() {
+        return Err(AllocError);
+    }
+    match search.home() {
+        Ok(home) => Ok(home),
         Err(_) => Err(AllocError),
     }
 }
 
 pub fn registry(
     alloc: Global,
-    config: Arc<Config>,
+    config: &Arc<Config>,
     text: &str,
 ) -> Result<Registry<Untold>, AllocError> {
-    let script = Script::read(alloc, &config, text).map_err(|_| AllocError)?;
+    let Ok(script) = Script::read(alloc, config, text) else {
+        return Err(AllocError);
+    };
     let script = Arc::new(alloc, script)?;
-    Registry::new(alloc, config, script).map_err(|_| AllocError)
+    match Registry::new(alloc, Arc::try_clone(config)?, script) {
+        Ok(registry) => Ok(registry),
+        Err(_) => Err(AllocError),
+    }
 }

@@ -6,127 +6,71 @@ use cl_source::{FaultySource, MemorySource, Outcome, Source, SourceFault};
 use std::alloc::Global;
 use std::test::Fail;
 
-/// Loaders, names and bytes that a source is given, in this order.
-const PUTS: [(u16, &[u8], &[u8]); 4] = [
-    (2, b"p/A", &[1, 2]),
-    (0, b"p/A", &[3]),
-    (0, b"p/B", &[]),
-    (2, b"p/C", &[4, 5, 6]),
+/// Loaders, lengths of what is put for `p/A`, and the refusal.
+const PUTS: [(u16, usize, Option<SourceFault>); 6] = [
+    (2, 2, None),
+    (0, 0, None),
+    (2, 1, Some(SourceFault::Twice)),
+    (1, 16_777_217, Some(SourceFault::TooLarge)),
+    (2, 16_777_217, Some(SourceFault::TooLarge)),
+    (4, 16_777_216, None),
 ];
 
-/// Loaders, names and what the source finds.
-const READS: [(u16, &[u8], Option<&[u8]>); 7] = [
-    (2, b"p/A", Some(&[1, 2])),
-    (0, b"p/A", Some(&[3])),
-    (0, b"p/B", Some(&[])),
-    (2, b"p/C", Some(&[4, 5, 6])),
-    (1, b"p/A", None),
-    (3, b"p/A", None),
-    (0, b"p/C", None),
+/// Loaders, and the lengths of what is found for `p/A`.
+const READS: [(u16, Option<usize>); 5] = [
+    (2, Some(2)),
+    (0, Some(0)),
+    (1, None),
+    (4, Some(16_777_216)),
+    (9, None),
 ];
 
-/// Puts some bytes. A refused growth hands both back and leaves the source as it was, so that it can be asked again.
-fn put(
-    rt: &impl Print,
-    alloc: Global,
-    source: &mut MemorySource,
-    place: (u16, &[u8]),
-    bytes: Vec<u8>,
-) -> Result<Option<SourceFault>, Fail> {
-    let (loader, name) = place;
-    let count = bytes.len();
-    let Err(back) = source.put(alloc, LoaderId(loader), class_name(alloc, name)?, bytes) else {
-        return Ok(None);
-    };
-    if back.name.bytes() != name || back.bytes.len() != count {
-        return Err(Fail::new("something else came back"));
-    }
-    if back.fault != SourceFault::Memory {
-        return Ok(Some(back.fault));
-    }
-    println!(rt; "refused: MemorySource::put")?;
-    if source.has(LoaderId(loader), &back.name) {
-        return Err(Fail::new("the source changed"));
-    }
-    let again = source.put(alloc, LoaderId(loader), back.name, back.bytes);
-    Ok(again.err().map(|refused| refused.fault))
-}
-
-/// Reads a name; a read that memory refuses is made again, and not counted.
-fn read<S: Source<Untold>>(
-    rt: &impl Print,
+/// How much a source has for `p/A`.
+fn found<S: Source<Untold>>(
     alloc: Global,
     source: &mut S,
-    place: (u16, &[u8]),
-    bytes: Option<&[u8]>,
-) -> Result<Option<SourceFault>, Fail> {
-    let (loader, name) = place;
-    let name = class_name(alloc, name)?;
-    let failures = source.failures();
-    let mut read = source.read(alloc, LoaderId(loader), &name);
-    if let Err(SourceFault::Memory) = read {
-        println!(rt; "refused: Source::read")?;
-        if source.failures() != failures {
-            return Err(Fail::new("out of memory was counted"));
-        }
-        read = source.read(alloc, LoaderId(loader), &name);
-    }
-    match read {
-        Err(fault) => Ok(Some(fault)),
-        Ok(probe) => {
-            let is_found = match (probe.outcome(), bytes) {
-                (Outcome::Found(found), Some(bytes)) => found.as_slice() == bytes,
-                (Outcome::Absent, None) => true,
-                _ => false,
-            };
-            if is_found && *probe.name() == name && probe.loader() == LoaderId(loader) {
-                Ok(None)
-            } else {
-                Err(Fail::new("another probe"))
-            }
-        }
+    loader: u16,
+) -> Result<Result<Option<usize>, SourceFault>, Fail> {
+    let name = class_name(alloc, b"p/A")?;
+    match source.read(alloc, LoaderId(loader), &name) {
+        Err(fault) => Ok(Err(fault)),
+        Ok(probe) => match probe.outcome() {
+            Outcome::Found(bytes) => Ok(Ok(Some(bytes.as_slice().len()))),
+            Outcome::Absent => Ok(Ok(None)),
+        },
     }
 }
 
-/// What was put is what is found, by a source and by another of it; what is too large or there already is refused.
-/// One read of each source fails where that is asked for, is counted, and no other is.
+/// What was put is found; what is too large or there already is refused. One read of each source fails where that is asked
+/// for, is counted, and no other is; another of the source tells the same and counts for itself.
 #[test]
 fn sources(rt: HostRuntime) -> Result<(), Fail> {
     let alloc = rt.alloc();
     let mut source = MemorySource::new(alloc);
-    for (loader, name, bytes) in PUTS {
-        let bytes = Vec::from_slice(alloc, bytes)?;
-        let refused = put(&rt, alloc, &mut source, (loader, name), bytes)?;
-        assert!(rt; refused.is_none());
-    }
-    for (loader, count, fault) in [
-        (2, 1, Some(SourceFault::Twice)),
-        (1, 16_777_217, Some(SourceFault::TooLarge)),
-        (2, 16_777_217, Some(SourceFault::TooLarge)),
-        (4, 16_777_216, None),
-    ] {
-        let bytes = vec![in alloc; 0u8; count]?;
-        assert!(rt; put(&rt, alloc, &mut source, (loader, b"p/A"), bytes)? == fault);
+    for (loader, length, fault) in PUTS {
+        let bytes = vec![in alloc; 0u8; length]?;
+        let put = source.put(alloc, LoaderId(loader), class_name(alloc, b"p/A")?, bytes);
+        let told = match put {
+            Ok(()) => None,
+            Err(refused) => Some(refused.fault),
+        };
+        assert!(rt; told == fault);
     }
     let telling = source.tell::<Untold>();
-    for (at, failing) in [(0u64, 8u64), (1, 0), (3, 2)] {
-        let mut first = FaultySource::new(telling.another(alloc)?, at);
-        let mut number = 0u64;
-        for (loader, name, bytes) in READS {
-            let fault = read(&rt, alloc, &mut first, (loader, name), bytes)?;
+    for (at, failing) in [(0u64, 9), (1, 0), (3, 2)] {
+        let mut faulty = FaultySource::new(telling.another(alloc)?, at);
+        for (number, (loader, length)) in READS.iter().enumerate() {
             let wanted = if number == failing {
-                Some(SourceFault::Device)
+                Err(SourceFault::Device)
             } else {
-                None
+                Ok(*length)
             };
-            assert!(rt; fault == wanted);
-            number = number.saturating_add(1);
+            assert!(rt; found(alloc, &mut faulty, *loader)? == wanted);
         }
-        assert!(rt; first.failures() == u64::from(at != 0));
-        let mut second = first.another(alloc)?;
+        assert!(rt; faulty.failures() == u64::from(at != 0));
+        let mut second = faulty.another(alloc)?;
         assert!(rt; second.failures() == 0);
-        let fault = read(&rt, alloc, &mut second, (2, b"p/A"), Some(&[1, 2]))?;
-        assert!(rt; fault.is_some() == (at == 1));
+        assert!(rt; found(alloc, &mut second, 2)?.is_err() == (at == 1));
     }
     Ok(())
 }

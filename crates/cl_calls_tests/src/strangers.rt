@@ -1,178 +1,181 @@
-//! Values that belong elsewhere: probes of another search, findings of another script, classes of another loader.
+//! Values that belong elsewhere: probes of another search, findings of another script, homes of other loaders.
 
-use crate::given::{OBJECT, class, class_file, class_name, home, load, registry, search};
-use cl_config::Config;
+use crate::given::{
+    APP, BOOT, CHILD_FIRST, FINAL, KID, PARENT_FIRST, PLAIN, PLUG, T, TOP, class, class_name,
+    config, home, load, registry, search, source,
+};
+use cl_delegation::Home;
 use cl_hierarchy::Draft;
-use cl_model::{Answer, Event, LoaderId, Request, Untold, Verdict};
+use cl_model::{Event, LoaderId, Untold};
 use cl_registry::{Finding, Registry, RegistryFault};
 use cl_source::{MemorySource, Source};
-use std::alloc::{AllocError, Global};
-use std::sync::Arc;
+use std::alloc::Global;
 use std::test::Fail;
 
-/// A search takes the probe that it asks for, once, and hands back every other.
+/// Of a loader and a name, the loaders that are probed while none has it.
+const ORDERS: [(u16, &[u8], &[u16]); 4] = [
+    (KID, b"p/X", &[BOOT, APP, KID]),
+    (PLUG, b"p/X", &[PLUG, BOOT, APP]),
+    (PLUG, b"java/x", &[BOOT]),
+    (BOOT, b"p/X", &[BOOT]),
+];
+
+/// A search asks for its probes in their order, takes each once, and hands back every other.
 #[test]
-fn probes_that_are_not_next(rt: HostRuntime) -> Result<(), Fail> {
+fn probes_in_order(rt: HostRuntime) -> Result<(), Fail> {
     let alloc = rt.alloc();
-    let mut source = MemorySource::new(alloc).tell::<Untold>();
-    let mut search = search(alloc, b"p/A")?;
-    for (loader, name, is_taken) in [
-        (1, b"p/A", false),
-        (0, b"p/B", false),
-        (0, b"p/A", true),
-        (0, b"p/A", false),
-    ] {
+    let loaders = config(alloc, CHILD_FIRST)?;
+    let mut nothing = MemorySource::new(alloc).tell::<Untold>();
+    for (loader, name, order) in ORDERS {
+        let mut search = search(alloc, &loaders, loader, name)?;
         let name = class_name(alloc, name)?;
-        let probe = source.read(alloc, LoaderId(loader), &name)?;
-        match search.take(probe) {
-            Ok(()) => assert!(rt; is_taken),
-            Err(wrong) => {
-                assert!(rt; !is_taken && *wrong.probe.name() == name);
-                assert!(rt; wrong.probe.loader() == LoaderId(loader));
-            }
+        let other_name = class_name(alloc, b"p/Y")?;
+        for place in order {
+            assert!(rt; search.next_probe() == Some(LoaderId(*place)));
+            let elsewhere = if *place == PLUG { KID } else { PLUG };
+            let probe = nothing.read(alloc, LoaderId(elsewhere), &name)?;
+            assert!(rt; search.take(probe).is_err());
+            let probe = nothing.read(alloc, LoaderId(*place), &other_name)?;
+            assert!(rt; search.take(probe).is_err());
+            let probe = nothing.read(alloc, LoaderId(*place), &name)?;
+            assert!(rt; search.take(probe).is_ok());
         }
+        let probe = nothing.read(alloc, LoaderId(loader), &name)?;
+        assert!(rt; search.take(probe).is_err());
+        assert!(rt; search.next_probe().is_none() && search.home().is_err());
     }
-    assert!(rt; search.next_probe().is_none());
     Ok(())
 }
 
-/// What a finding says: out of memory, a class of a loader, or a source fault at a loader.
-#[derive(Clone, Copy)]
-enum Says<'a> {
-    Memory,
-    Class(u16, &'a [u8]),
-    Fault(u16),
-}
-
-const A: &[u8] = b"p/A";
-
-const B: &[u8] = b"p/B";
-
-/// Posts what is said to a load, and tells why it is not posted.
-fn post(
-    alloc: Global,
-    registry: &mut Registry<Untold>,
-    q: u32,
-    asked: Request,
-    says: Says<'_>,
-) -> Result<Option<RegistryFault>, AllocError> {
-    let finding = match says {
-        Says::Memory => Finding::memory(asked),
-        Says::Class(loader, name) => Finding::class(asked, class(alloc, loader, name)?),
-        Says::Fault(loader) => Finding::source_fault(
-            asked,
-            class_name(alloc, A)?,
-            LoaderId(loader),
-        ),
-    };
-    Ok(registry.post(q, finding).err().map(|refused| refused.fault))
-}
-
-/// Whether findings of another script, of another class and of a loader that there is not are strayed.
-fn all_stray(alloc: Global, registry: &mut Registry<Untold>) -> Result<bool, AllocError> {
-    for (q, loader, name, says) in [
-        (2, 0, A, Says::Memory),
-        (1, 0, A, Says::Memory),
-        (0, 0, B, Says::Memory),
-        (0, 1, A, Says::Memory),
-        (0, 0, A, Says::Class(1, A)),
-        (0, 0, A, Says::Class(0, B)),
-        (0, 0, A, Says::Fault(1)),
-    ] {
-        let asked = load(alloc, loader, name)?;
-        if post(alloc, registry, q, asked, says)? != Some(RegistryFault::Stray) {
-            return Ok(false);
-        }
-    }
-    Ok(true)
-}
-
-/// Defines the class of a file, and tells why it is not defined. A growth that is refused hands the draft back and records
-/// nothing, so that it can be asked again.
+/// Defines the class of a home, and tells the flags of the file that is kept of it, or the refusal. A growth that is refused
+/// hands the draft back and changes nothing, so that it can be asked again.
 fn define(
     rt: &impl Print,
     alloc: Global,
-    registry: &mut Registry<Untold>,
-    name: &[u8],
-    bytes: Vec<u8>,
-) -> Result<Option<RegistryFault>, Fail> {
-    let draft = Draft::read(alloc, home(alloc, name, bytes)?).map_err(|_| AllocError)?;
-    let was_recorded = registry.look(LoaderId(0), &draft.class().name).is_some();
-    let Err(back) = registry.define(alloc, draft) else {
-        return Ok(None);
+    tables: &mut Registry<Untold>,
+    home: Home<Untold>,
+) -> Result<Result<u16, RegistryFault>, Fail> {
+    let Ok(draft) = Draft::read(alloc, home) else {
+        return Err(Fail::new("no draft"));
     };
-    let back_name = &back.draft.class().name;
-    if back_name.bytes() != name {
-        return Err(Fail::new("another draft came back"));
-    }
-    if registry.look(LoaderId(0), back_name).is_some() != was_recorded {
-        return Err(Fail::new("the tables changed"));
+    let class = draft.class().try_clone(alloc)?;
+    let was_recorded = tables.look(class.loader, &class.name).is_some();
+    let back = match tables.define(alloc, draft) {
+        Ok(row) => return Ok(Ok(row.file().flags())),
+        Err(back) => back,
+    };
+    let is_recorded = tables.look(class.loader, &class.name).is_some();
+    if is_recorded != was_recorded || *back.draft.class() != class {
+        return Err(Fail::new("a refused definition left a trace"));
     }
     if back.fault != RegistryFault::Memory {
-        return Ok(Some(back.fault));
+        return Ok(Err(back.fault));
     }
     println!(rt; "refused: Registry::define")?;
-    let again = registry.define(alloc, back.draft);
-    Ok(again.err().map(|refused| refused.fault))
+    match tables.define(alloc, back.draft) {
+        Ok(row) => Ok(Ok(row.file().flags())),
+        Err(again) => Ok(Err(again.fault)),
+    }
 }
 
-/// Whether a registry's report is that of `java/lang/Object`, `p/A`, and two answers, the second first.
-fn reports(alloc: Global, registry: Registry<Untold>) -> Result<bool, AllocError> {
-    let Ok(report) = registry.into_report() else {
-        return Ok(false);
-    };
-    let history = [
-        Event::Define(class(alloc, 0, b"java/lang/Object")?),
-        Event::Define(class(alloc, 0, A)?),
-        Event::Post(1),
-        Event::Post(0),
-    ];
-    let answers = [
-        Answer::Said(Verdict::Class(class(alloc, 0, A)?)),
-        Answer::Memory,
-    ];
-    let is_told = report.history.events() == history.as_slice();
-    Ok(is_told && report.answers.as_slice() == answers.as_slice())
+/// Records the loader that was asked for a home, and tells the loader that defined its class, or the refusal. A growth that
+/// is refused changes nothing, so that it can be asked again.
+fn initiate(
+    rt: &impl Print,
+    alloc: Global,
+    tables: &mut Registry<Untold>,
+    home: &Home<Untold>,
+) -> Result<Result<u16, RegistryFault>, Fail> {
+    let was_recorded = tables.look(home.asked(), home.name()).is_some();
+    let mut tried = tables.initiate(alloc, home);
+    if tried.is_err() && tables.look(home.asked(), home.name()).is_some() != was_recorded {
+        return Err(Fail::new("a refused record left a trace"));
+    }
+    if let Err(RegistryFault::Memory) = tried {
+        println!(rt; "refused: Registry::initiate")?;
+        tried = tables.initiate(alloc, home);
+    }
+    match tried {
+        Ok(row) => Ok(Ok(row.class().loader.0)),
+        Err(fault) => Ok(Err(fault)),
+    }
 }
 
-/// What belongs to another script, to other tables or to no loader is refused, and the report is the same without it.
-/// What was made under one reading of a configuration serves a registry under another, of other lines.
+/// What a registry is asked to do with a home.
+#[derive(Clone, Copy, PartialEq, Eq)]
+enum Call {
+    Define,
+    Initiate,
+}
+
+/// Where a home was found: under the registry's own loaders, under others, or in a source that tells another `p/T`.
+#[derive(Clone, Copy, PartialEq, Eq)]
+enum Found {
+    Own,
+    Elsewhere,
+    Changed,
+}
+
+use Call::{Define, Initiate};
+use Found::{Changed, Elsewhere, Own};
+
+const STRAY: Result<u16, RegistryFault> = Err(RegistryFault::Stray);
+
+/// What is asked in order, of which home, and what is told: a file's flags, a defining loader, or the refusal.
+const STEPS: [(Call, Found, u16, &[u8], Result<u16, RegistryFault>); 15] = [
+    (Initiate, Elsewhere, KID, T, STRAY),
+    (Define, Elsewhere, PLUG, T, STRAY),
+    (Define, Elsewhere, BOOT, TOP, STRAY),
+    // nothing is recorded that it could rest on
+    (Define, Own, APP, T, STRAY),
+    (Initiate, Own, PLUG, T, STRAY),
+    (Initiate, Own, APP, TOP, STRAY),
+    (Define, Own, BOOT, TOP, Ok(0x21)),
+    (Define, Own, APP, T, STRAY),
+    (Initiate, Own, APP, TOP, Ok(BOOT)),
+    (Define, Own, APP, T, Ok(0x21)),
+    // a later definition does not replace it, whatever its file
+    (Define, Changed, APP, T, Ok(0x21)),
+    (Define, Own, APP, T, Ok(0x21)),
+    (Initiate, Own, PLUG, T, Ok(APP)),
+    (Initiate, Changed, PLUG, T, Ok(APP)),
+    (Initiate, Elsewhere, KID, T, STRAY),
+];
+
+/// What was found under other loaders is strayed and changes nothing, though their numbers are the same; a class is recorded
+/// once its supertypes are, and what is recorded stays.
 #[test]
 fn strangers_change_nothing(rt: HostRuntime) -> Result<(), Fail> {
     let alloc = rt.alloc();
-    let read = Config::read(alloc, "# a loader\n[[loader]]\n\nname = \"boot\"")?;
-    let config = Arc::new(alloc, read)?;
-    let mut tables = registry(alloc, config, "load boot p/A\nload boot p/B")?;
-    assert!(rt; all_stray(alloc, &mut tables)?);
-    let early = post(alloc, &mut tables, 0, load(alloc, 0, A)?, Says::Class(0, A))?;
-    assert!(rt; early == Some(RegistryFault::Stray));
-    let top = b"java/lang/Object".as_slice();
-    for (name, fault) in [
-        (A, Some(RegistryFault::Stray)),
-        (top, None),
-        (A, None),
-        (A, None),
-    ] {
-        let bytes = if name == top {
-            Vec::from_slice(alloc, OBJECT)?
+    let own = config(alloc, PARENT_FIRST)?;
+    let other = config(alloc, CHILD_FIRST)?;
+    let mut tables = registry(alloc, &own, "load plug p/T")?;
+    for (call, found, loader, name, told) in STEPS {
+        let loaders = if found == Elsewhere { &other } else { &own };
+        let bytes = if found == Changed { FINAL } else { PLAIN };
+        let mut files = source(alloc, bytes)?;
+        let home = home(alloc, loaders, &mut files, loader, name)?;
+        let answer = if call == Define {
+            define(&rt, alloc, &mut tables, home)?
         } else {
-            class_file(alloc, b"\x03p/A", b"\x10java/lang/Object")?
+            initiate(&rt, alloc, &mut tables, &home)?
         };
-        assert!(rt; define(&rt, alloc, &mut tables, name, bytes)? == fault);
+        assert!(rt; answer == told);
     }
-    let a = class_name(alloc, A)?;
-    assert!(rt; tables.look(LoaderId(0), &a).is_some() && tables.look(LoaderId(1), &a).is_none());
-    assert!(rt; all_stray(alloc, &mut tables)?);
-    let refused = tables.into_report().err();
-    let mut tables = refused.ok_or("a report before its time")?.registry;
-    for (q, name, says, fault) in [
-        (1, B, Says::Memory, None),
-        (1, B, Says::Class(0, B), Some(RegistryFault::AlreadyPosted)),
-        (0, A, Says::Class(0, A), None),
-    ] {
-        let asked = load(alloc, 0, name)?;
-        assert!(rt; post(alloc, &mut tables, q, asked, says)? == fault);
+    for (loader, is_posted) in [(PLUG, false), (APP, true)] {
+        let said = Finding::class(load(alloc, PLUG, T)?, class(alloc, loader, T)?);
+        assert!(rt; tables.post(0, said).is_ok() == is_posted);
     }
-    assert!(rt; reports(alloc, tables)?);
+    let Ok(report) = tables.into_report() else {
+        return Err(Fail::new("no report"));
+    };
+    let history = [
+        Event::Define(class(alloc, BOOT, TOP)?),
+        Event::Initiate(class(alloc, BOOT, TOP)?, LoaderId(APP)),
+        Event::Define(class(alloc, APP, T)?),
+        Event::Initiate(class(alloc, APP, T)?, LoaderId(PLUG)),
+        Event::Post(0),
+    ];
+    assert!(rt; report.history.events() == history.as_slice());
     Ok(())
 }

@@ -1,7 +1,9 @@
-//! What only calls can ask of serving a script, and rows cannot: replies that a task does not wait for, and sources of
-//! which a read fails. There is nothing here but tests.
+//! What only calls can ask of serving a script, and rows cannot: replies that a task does not wait for, sources of which a
+//! read fails, long chains and long scripts. There is nothing here but tests.
 #![tactic(auto)]
 
+#[cfg(test)]
+mod given;
 #[cfg(test)]
 mod service;
 #[cfg(test)]

@@ -1,129 +1,138 @@
-//! Scripts served over a source of which a read fails. A body that gives up on every request passes no line of these.
+//! Scripts served over a source of which a read fails, and over much. A body that gives up on every request passes no line
+//! of these.
 
-ghost use Rattle.std.specs.Prelude.{length, All};
-ghost use Rattle.cl_model.specs.Texts.{AnswerNames, EventNames};
-
-use cl_config::{Config, Script};
-use cl_model::{Event, LoaderId, Untold};
-use cl_names::Name;
-use cl_registry::Report;
-use cl_schedule::serve_one;
-use cl_source::{FaultySource, MemorySource, Source, Telling};
+use crate::given::{APP, BOOT, OBJECT, PLAIN, PLUG, TOP, class_name, put, served};
+use cl_model::{Answer, Class, ErrorKind, LoaderId, Untold, Verdict};
+use cl_source::{FaultySource, MemorySource, Source};
 use std::alloc::{AllocError, Global};
-use std::sync::Arc;
 use std::test::Fail;
 
-const OBJECT: &[u8] =
-    b"\xca\xfe\xba\xbe\x00\x00\x00\x34\x00\x03\x01\x00\x10java/lang/Object\x07\x00\x01\x00\x21\x00\x02\x00\x00\x00\x00\x00\x00\x00\x00\x00\x00";
+/// Which read is refused, which request is answered so, and where.
+const FAULTS: [(u64, usize, u16, &[u8]); 7] = [
+    (0, 9, BOOT, TOP),
+    (1, 0, PLUG, b"p/T"),
+    (2, 0, BOOT, TOP),
+    (3, 1, BOOT, b"p/T"),
+    (4, 1, APP, b"p/T"),
+    (5, 1, BOOT, TOP),
+    (6, 9, BOOT, TOP),
+];
 
-/// The file of a public class over another; each name stands behind its length.
-fn file(alloc: Global, name: &[u8], above: &[u8]) -> Result<Vec<u8>, AllocError> {
-    let mut bytes = Vec::from_slice(alloc, b"\xca\xfe\xba\xbe\x00\x00\x00\x34\x00\x05\x01\x00")?;
-    bytes.extend_from_slice(name)?;
+/// A read that fails is the answer of its request alone, and of no other; what was recorded before stays, what is asked
+/// again is found.
+#[test]
+fn each_read_fails_once(rt: HostRuntime) -> Result<(), Fail> {
+    let alloc = rt.alloc();
+    for (at, blamed, loader, name) in FAULTS {
+        let mut source = MemorySource::new(alloc);
+        for (loader, name, bytes) in [
+            (BOOT, TOP, OBJECT),
+            (APP, b"p/T".as_slice(), PLAIN),
+            (PLUG, b"p/T", PLAIN),
+        ] {
+            let bytes = Vec::from_slice(alloc, bytes)?;
+            put(alloc, &mut source, loader, name, bytes)?;
+        }
+        let mut source = FaultySource::new(source.tell::<Untold>(), at);
+        let script = "load plug p/T\nthen\nload app p/T\n";
+        let report = served(alloc, &mut source, script)?;
+        let fault = Answer::SourceFault(class_name(alloc, name)?, LoaderId(loader));
+        let answers = report.answers.as_slice();
+        for (number, home) in [PLUG, APP].iter().enumerate() {
+            let class = Class {
+                name: class_name(alloc, b"p/T")?,
+                loader: LoaderId(*home),
+            };
+            let found = Answer::Said(Verdict::Class(class));
+            let wanted = if number == blamed { &fault } else { &found };
+            assert!(rt; answers.get(number) == Some(wanted));
+        }
+        assert!(rt; source.failures() == u64::from(blamed < 2));
+    }
+    Ok(())
+}
+
+/// The file of class `p/C` and four digits, over another.
+fn link(alloc: Global, own: &str, above: &str) -> Result<Vec<u8>, AllocError> {
+    let mut bytes = Vec::from_slice(
+        alloc,
+        b"\xca\xfe\xba\xbe\x00\x00\x00\x34\x00\x05\x01\x00\x07",
+    )?;
+    bytes.extend_from_slice(own.as_bytes())?;
     bytes.extend_from_slice(b"\x07\x00\x01\x01\x00")?;
-    bytes.extend_from_slice(above)?;
+    let length = if above.len() == 7 { b"\x07" } else { b"\x10" };
+    bytes.extend_from_slice(length)?;
+    bytes.extend_from_slice(above.as_bytes())?;
     bytes.extend_from_slice(
         b"\x07\x00\x03\x00\x21\x00\x02\x00\x04\x00\x00\x00\x00\x00\x00\x00\x00",
     )?;
     Ok(bytes)
 }
 
-fn put(
-    alloc: Global,
-    source: &mut MemorySource,
-    name: &[u8],
-    bytes: Vec<u8>,
-) -> Result<(), AllocError> {
-    let name = Name::class(alloc, name).map_err(|_| AllocError)?;
-    let put = source.put(alloc, LoaderId(0), name, bytes);
-    put.map_err(|_| AllocError)
+/// How many classes stand above one another.
+const LINKS: usize = 5000;
+
+/// A chain of classes in `app`, the first over `java/lang/Object` or over the last.
+#[test]
+fn long_chain(rt: HostRuntime) -> Result<(), Fail> {
+    let alloc = rt.alloc();
+    for (first, events) in [("java/lang/Object", LINKS + 3), ("p/C5000", 1)] {
+        let mut source = MemorySource::new(alloc);
+        put(
+            alloc,
+            &mut source,
+            BOOT,
+            TOP,
+            Vec::from_slice(alloc, OBJECT)?,
+        )?;
+        let mut above = String::from_str(alloc, first)?;
+        for number in 1001..=LINKS + 1000 {
+            let own = if number == LINKS + 1000 {
+                String::from_str(alloc, "p/C5000")?
+            } else {
+                format!(in alloc; "p/D{number}")?
+            };
+            let bytes = link(alloc, own.as_str(), above.as_str())?;
+            put(alloc, &mut source, APP, own.as_bytes(), bytes)?;
+            above = own;
+        }
+        let report = served(alloc, &mut source.tell::<Untold>(), "load app p/C5000")?;
+        let class = Class {
+            name: class_name(alloc, b"p/C5000")?,
+            loader: LoaderId(APP),
+        };
+        let verdict = if events == 1 {
+            Verdict::Error(ErrorKind::ClassCircularityError, class)
+        } else {
+            Verdict::Class(class)
+        };
+        assert!(rt; report.history.events().len() == events);
+        assert!(rt; report.answers.as_slice() == [Answer::Said(verdict)].as_slice());
+    }
+    Ok(())
 }
 
-/// `p/B` over `p/A` over `java/lang/Object`.
-fn classes(alloc: Global) -> Result<Telling<Untold>, AllocError> {
+/// As many requests as a script may have, of names that are there and that are not: none is answered out of memory.
+#[test]
+fn many_requests(rt: HostRuntime) -> Result<(), Fail> {
+    let alloc = rt.alloc();
     let mut source = MemorySource::new(alloc);
     put(
         alloc,
         &mut source,
-        b"java/lang/Object",
+        BOOT,
+        TOP,
         Vec::from_slice(alloc, OBJECT)?,
     )?;
-    for (name, own, above) in [
-        (
-            b"p/A".as_slice(),
-            b"\x03p/A".as_slice(),
-            b"\x10java/lang/Object".as_slice(),
-        ),
-        (b"p/B", b"\x03p/B", b"\x03p/A"),
-    ] {
-        put(alloc, &mut source, name, file(alloc, own, above)?)?;
+    let mut script = String::from_str(alloc, "load plug java/lang/Object\n")?;
+    for _ in 0..32_767 {
+        script.push_str("load app p/Z\nload plug java/lang/Object\n")?;
     }
-    Ok(source.tell::<Untold>())
-}
-
-/// The definitions of a report, and its answers behind their numbers, each on a line.
-fn lines(alloc: Global, report: &Report, loaders: &[String]) -> Result<String, AllocError>
-    requires events { All (EventNames (length loaders.now)) report.now.history }
-    requires answers { All (AnswerNames (length loaders.now)) report.now.answers }
-{
-    let mut lines = String::new(alloc);
-    for event in report.history.events() {
-        if let Event::Define(class) = event {
-            let class = class.text(alloc, loaders)?;
-            lines.push_str(format!(in alloc; "define {class}\n")?.as_str())?;
-        }
-    }
-    for (index, answer) in report.answers.as_slice().iter().enumerate() {
-        let number = index + 1;
-        let answer = answer.text(alloc, loaders)?;
-        lines.push_str(format!(in alloc; "{number} {answer}\n")?.as_str())?;
-    }
-    Ok(lines)
-}
-
-/// The lines of a script that is served over a source.
-fn served<S: Source<Untold>>(
-    alloc: Global,
-    source: &mut S,
-    text: &str,
-) -> Result<String, AllocError> {
-    let Ok(config) = Config::read(alloc, "[[loader]]\nname = \"boot\"\n") else {
-        return Err(AllocError);
-    };
-    let Ok(script) = Script::read(alloc, &config, text) else {
-        return Err(AllocError);
-    };
-    let config = Arc::new(alloc, config)?;
-    let script = Arc::new(alloc, script)?;
-    let loaders = Arc::try_clone(&config)?;
-    let Ok(report) = serve_one::<Untold, S>(alloc, config, source, script) else {
-        return Err(AllocError);
-    };
-    lines(alloc, &report, loaders.names())
-}
-
-/// A read that fails is the answer of its request alone: no class is missing for it, and what is asked again is found.
-#[test]
-fn each_read_fails_once(rt: HostRuntime) -> Result<(), Fail> {
-    let alloc = rt.alloc();
-    let (class, missing) = ("class p/B@boot", "ClassNotFoundException p/Z@boot");
-    let fault = "SourceFault p/Z@boot";
-    for (at, first, second, last) in [
-        (0, class, missing, missing),
-        (1, "SourceFault p/B@boot", missing, missing),
-        (2, "SourceFault p/A@boot", missing, missing),
-        (3, "SourceFault java/lang/Object@boot", missing, missing),
-        (4, class, fault, missing),
-        (5, class, missing, fault),
-        (6, class, missing, missing),
-    ] {
-        let mut source = FaultySource::new(classes(alloc)?, at);
-        let script = "load boot p/B\nload boot p/Z\nload boot p/B\nload boot p/Z";
-        let lines = served(alloc, &mut source, script)?;
-        let history = "define java/lang/Object@boot\ndefine p/A@boot\ndefine p/B@boot\n";
-        let want = format!(in alloc; "{history}1 {first}\n2 {second}\n3 {class}\n4 {last}\n")?;
-        assert_eq!(rt; lines.as_str(), want.as_str(), "at {at}");
-        assert_eq!(rt; source.failures(), u64::from(0 < at && at < 6), "at {at}");
+    let report = served(alloc, &mut source.tell::<Untold>(), script.as_str())?;
+    let answers = report.answers.as_slice();
+    assert!(rt; answers.len() == 65_535);
+    for answer in answers {
+        assert!(rt; matches!(answer, Answer::Said(_)));
     }
     Ok(())
 }

@@ -1,70 +1,121 @@
 //! A task and its replies.
 
+use crate::given::{APP, BOOT, LOADERS, PLAIN, TOP, class_name, put};
 use cl_config::Config;
 use cl_model::{Answer, LoaderId, Request, Untold};
-use cl_names::Name;
-use cl_source::SourceFault;
+use cl_source::{MemorySource, Source, SourceFault, Telling};
 use cl_tasks::{Reply, Task, Turn};
 use std::alloc::{AllocError, Global};
 use std::sync::Arc;
 use std::test::Fail;
 
-/// A task over one loader, for a load of `p/A`.
+/// A task for a load of `p/T` through `app`.
 fn task(alloc: Global) -> Result<Task<Untold>, AllocError> {
-    let Ok(config) = Config::read(alloc, "[[loader]]\nname = \"boot\"\n") else {
+    let Ok(config) = Config::read(alloc, LOADERS) else {
         return Err(AllocError);
     };
     let config = Arc::new(alloc, config)?;
-    let _ = config.count();
-    let name = Name::class(alloc, b"p/A").map_err(|_| AllocError)?;
-    let task = Task::<Untold>::new(alloc, config, 0, Request::Load(LoaderId(0), name));
-    task.map_err(|_| AllocError)
+    if usize::from(APP) >= config.count() {
+        return Err(AllocError);
+    }
+    let request = Request::Load(LoaderId(APP), class_name(alloc, b"p/T")?);
+    match Task::<Untold>::new(alloc, config, 0, request) {
+        Ok(task) => Ok(task),
+        Err(_) => Err(AllocError),
+    }
 }
 
-/// What a task does with a reply.
-#[derive(Clone, Copy, Debug, PartialEq, Eq)]
+/// What a task is told.
+#[derive(Clone, Copy)]
+enum Told {
+    Start,
+    /// That nothing is recorded.
+    Unrecorded,
+    /// What a loader has for a name.
+    Read(u16, &'static [u8]),
+    Fault,
+    Memory,
+}
+
+/// What it does with that.
+#[derive(Clone, Copy, PartialEq, Eq)]
 enum Does {
     ExpectsAnother,
-    Looks,
-    Reads,
-    BlamesSource,
+    Looks(u16),
+    Reads(u16),
+    Blames(u16),
     Else,
 }
 
-fn told(alloc: Global, task: &mut Task<Untold>, reply: Reply<Untold>) -> Does {
+/// What a task is told, as a reply.
+fn reply(
+    alloc: Global,
+    source: &mut Telling<Untold>,
+    told: Told,
+) -> Result<Reply<Untold>, SourceFault> {
+    match told {
+        Told::Start => Ok(Reply::Start),
+        Told::Unrecorded => Ok(Reply::Looked(None)),
+        Told::Fault => Ok(Reply::SourceFault(SourceFault::Device)),
+        Told::Memory => Ok(Reply::Memory),
+        Told::Read(loader, name) => {
+            let name = class_name(alloc, name)?;
+            Ok(Reply::Probed(source.read(alloc, LoaderId(loader), &name)?))
+        }
+    }
+}
+
+/// What a task does with a reply.
+fn turned(alloc: Global, task: &mut Task<Untold>, reply: Reply<Untold>) -> Does {
     if !task.expects(&reply) {
         return Does::ExpectsAnother;
     }
     match task.turn(alloc, reply) {
-        Turn::Look(LoaderId(0), _) => Does::Looks,
-        Turn::Read(LoaderId(0), _) => Does::Reads,
+        Turn::Look(loader, _) => Does::Looks(loader.0),
+        Turn::Read(loader, _) => Does::Reads(loader.0),
         Turn::Post(finding) => match finding.answer() {
-            Answer::SourceFault(_, LoaderId(0)) => Does::BlamesSource,
+            Answer::SourceFault(_, loader) => Does::Blames(loader.0),
             _ => Does::Else,
         },
         _ => Does::Else,
     }
 }
 
+/// A load whose home is the first loader: what its task is told, and what it does.
+const TURNS: [(Told, Does); 13] = [
+    (Told::Unrecorded, Does::ExpectsAnother),
+    (Told::Start, Does::Looks(APP)),
+    (Told::Start, Does::ExpectsAnother),
+    (Told::Fault, Does::ExpectsAnother),
+    (Told::Unrecorded, Does::Reads(BOOT)),
+    (Told::Read(APP, b"p/T"), Does::ExpectsAnother),
+    (Told::Read(BOOT, TOP), Does::ExpectsAnother),
+    // found: what has the home recorded?
+    (Told::Read(BOOT, b"p/T"), Does::Looks(BOOT)),
+    (Told::Unrecorded, Does::Looks(BOOT)),
+    (Told::Unrecorded, Does::Reads(BOOT)),
+    (Told::Unrecorded, Does::ExpectsAnother),
+    (Told::Fault, Does::Blames(BOOT)),
+    (Told::Memory, Does::ExpectsAnother),
+];
+
 #[test]
 fn replies_are_expected_in_turn(rt: HostRuntime) -> Result<(), Fail> {
     let alloc = rt.alloc();
+    let mut source = MemorySource::new(alloc);
+    put(
+        alloc,
+        &mut source,
+        BOOT,
+        b"p/T",
+        Vec::from_slice(alloc, PLAIN)?,
+    )?;
+    let mut source = source.tell::<Untold>();
     let mut task = task(alloc)?;
-    let fault = SourceFault::Device;
-    assert_eq!(rt;
-        told(alloc, &mut task, Reply::Looked(None)),
-        Does::ExpectsAnother
-    );
-    assert_eq!(rt; told(alloc, &mut task, Reply::Start), Does::Looks);
-    assert_eq!(rt;
-        told(alloc, &mut task, Reply::SourceFault(fault)),
-        Does::ExpectsAnother
-    );
-    assert_eq!(rt; told(alloc, &mut task, Reply::Looked(None)), Does::Reads);
-    assert_eq!(rt;
-        told(alloc, &mut task, Reply::SourceFault(fault)),
-        Does::BlamesSource
-    );
-    assert_eq!(rt; told(alloc, &mut task, Reply::Memory), Does::ExpectsAnother);
+    for (told, does) in TURNS {
+        let reply = reply(alloc, &mut source, told)?;
+        let done = turned(alloc, &mut task, reply);
+        assert!(rt; done == does);
+    }
     Ok(())
 }

@@ -1,0 +1,70 @@
+//! What the tests share: loaders, class files, sources and served scripts.
+
+use cl_config::{Config, Script};
+use cl_model::{LoaderId, Untold};
+use cl_names::Name;
+use cl_registry::Report;
+use cl_schedule::serve_one;
+use cl_source::{MemorySource, Source};
+use std::alloc::{AllocError, Global};
+use std::sync::Arc;
+
+/// Three loaders, of which `plug` looks at its own content first.
+pub const LOADERS: &str =
+    "[[loader]]\nname = \"boot\"\n[[loader]]\nname = \"app\"\nparent = \"boot\"\n[[loader]]\nname = \"plug\"\nparent = \"app\"\norder = \"child\"\n";
+
+pub const BOOT: u16 = 0;
+
+pub const APP: u16 = 1;
+
+pub const PLUG: u16 = 2;
+
+pub const TOP: &[u8] = b"java/lang/Object";
+
+pub const OBJECT: &[u8] =
+    b"\xca\xfe\xba\xbe\x00\x00\x00\x34\x00\x03\x01\x00\x10java/lang/Object\x07\x00\x01\x00\x21\x00\x02\x00\x00\x00\x00\x00\x00\x00\x00\x00\x00";
+
+/// `p/T`, public, over `java/lang/Object`.
+pub const PLAIN: &[u8] =
+    b"\xca\xfe\xba\xbe\x00\x00\x00\x34\x00\x05\x01\x00\x03p/T\x07\x00\x01\x01\x00\x10java/lang/Object\x07\x00\x03\x00\x21\x00\x02\x00\x04\x00\x00\x00\x00\x00\x00\x00\x00";
+
+pub fn class_name(alloc: Global, name: &[u8]) -> Result<Name, AllocError> {
+    match Name::class(alloc, name) {
+        Ok(name) => Ok(name),
+        Err(_) => Err(AllocError),
+    }
+}
+
+pub fn put(
+    alloc: Global,
+    source: &mut MemorySource,
+    loader: u16,
+    name: &[u8],
+    bytes: Vec<u8>,
+) -> Result<(), AllocError> {
+    let name = class_name(alloc, name)?;
+    match source.put(alloc, LoaderId(loader), name, bytes) {
+        Ok(()) => Ok(()),
+        Err(_) => Err(AllocError),
+    }
+}
+
+/// The report of a script that is served over a source.
+pub fn served<S: Source<Untold>>(
+    alloc: Global,
+    source: &mut S,
+    text: &str,
+) -> Result<Report, AllocError> {
+    let Ok(config) = Config::read(alloc, LOADERS) else {
+        return Err(AllocError);
+    };
+    let Ok(script) = Script::read(alloc, &config, text) else {
+        return Err(AllocError);
+    };
+    let config = Arc::new(alloc, config)?;
+    let script = Arc::new(alloc, script)?;
+    match serve_one::<Untold, S>(alloc, config, source, script) {
+        Ok(report) => Ok(report),
+        Err(_) => Err(AllocError),
+    }
+}

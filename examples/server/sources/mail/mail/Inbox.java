@@ -1,0 +1,6 @@
+package mail;
+
+public class Inbox extends lib.Queue implements api.Service {
+    public void run() {
+    }
+}

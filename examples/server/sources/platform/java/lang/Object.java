@@ -1,0 +1,7 @@
+package java.lang;
+
+/** The root. A platform of its own keeps the example small: one class is all that these loads need of it. */
+public class Object {
+    public Object() {
+    }
+}

@@ -1,0 +1,6 @@
+package api;
+
+/** What each plug-in has to be. */
+public interface Service {
+    void run();
+}

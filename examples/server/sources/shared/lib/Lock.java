@@ -1,0 +1,5 @@
+package lib;
+
+/** For this package alone. */
+class Lock {
+}

@@ -1,0 +1,6 @@
+package shop;
+
+public class Cart extends lib.Queue implements api.Service {
+    public void run() {
+    }
+}

@@ -157,3 +157,9 @@ abbrev pub DefinesBy : {A : Type 0} → Job A → Drafted → Stage A → Turn A
 DefinesBy j d s (turn.Define e) = (e ≡ d) × IsDefining j d s
 DefinesBy j d s (turn.Post f) = (s ≡ Done j.q) × (f ≡ record { request = j.request; answer = answers.Memory; basis = None })
 DefinesBy j d s other = ⊥
+
+-- what is looked for is looked up where it is asked for, or memory ran out (5.3)
+abbrev pub LooksBy : {A : Type 0} → Job A → Stage A → Turn A → Type 0
+LooksBy j s (turn.Look l n) = s ≡ Looking j
+LooksBy j s (turn.Post f) = f.answer ≡ answers.Memory
+LooksBy j s other = ⊥

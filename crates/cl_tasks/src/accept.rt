@@ -9,6 +9,7 @@ ghost use Rattle.cl_hierarchy.specs.Paths.{at_loader, at_name, fresh, is_on, mis
 ghost use Rattle.cl_registry.specs.Findings.{IsSought};
 ghost use Rattle.cl_tasks.specs.Tasks.{most};
 ghost use Rattle.cl_tasks.specs.Stages.{IsJob};
+ghost use Rattle.cl_tasks.specs.Turns.{PostsClass};
 ghost use Rattle.cl_tasks.specs.Follows.{PostsNoFault};
 ghost use Rattle.cl_tasks.specs.Steps.{DefinesBy, Finds, FindsBy, HoldsOn, IsMisfit, LeadsAt, ReadsNothing};
 ghost use Rattle.cl_tasks.specs.declared.phase.Phase.TheVariants as phases;
@@ -153,6 +154,7 @@ pub(crate) fn initiate<T: Told>(job: Job<T>, home: Arc<Home<T>>, row: &ClassRow<
 pub(crate) fn go_on<T: Told>(alloc: Global, job: Job<T>, row: Arc<ClassRow<T>>) -> Next<T>
     requires job { IsJob job.path.config job }
     ensures leads { LeadsAt T.told phases.Initiating job (Finds job.path row.value) result }
+    ensures own { job.path.frames ≡ [] → PostsClass row.value.class result.turn }
     ensures no_fault { PostsNoFault result.turn }
     ensures reads { ReadsNothing result.turn }
 {
@@ -174,6 +176,7 @@ fn answer<T: Told>(alloc: Global, job: Job<T>, row: &ClassRow<T>) -> Next<T>
     requires job { IsJob job.path.config job }
     requires alone { job.path.frames ≡ [] }
     ensures leads { LeadsAt T.told phases.Initiating job (Finds job.path row.now) result }
+    ensures own { PostsClass row.now.class result.turn }
     ensures no_fault { PostsNoFault result.turn }
     ensures reads { ReadsNothing result.turn }
 {

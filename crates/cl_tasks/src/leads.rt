@@ -5,7 +5,7 @@ ghost use Rattle.cl_model.specs.declared.answer.Answer.TheVariants as answers;
 ghost use Rattle.cl_registry.specs.Findings.{Stops};
 ghost use Rattle.cl_tasks.specs.Stages.{IsJob, IsSearch, at_search};
 ghost use Rattle.cl_tasks.specs.Follows.{Posts, PostsNoFault, fault_answer};
-ghost use Rattle.cl_tasks.specs.Steps.{EndWithin, EndsOn, HoldsOn, Leads, LeadsAt, ReadsNothing, memory_ends};
+ghost use Rattle.cl_tasks.specs.Steps.{EndWithin, EndsOn, HoldsOn, Leads, LeadsAt, LooksBy, ReadsNothing, memory_ends};
 ghost use Rattle.cl_tasks.specs.declared.phase.Phase.TheVariants as phases;
 
 use crate::stage::{Job, Next, Stage, Turn};
@@ -75,6 +75,7 @@ pub(crate) fn obstacle<T: Told>(job: Job<T>, end: Obstacle<T>) -> Next<T>
 pub(crate) fn look<T: Told>(alloc: Global, job: Job<T>) -> Next<T>
     requires job { IsJob job.path.config job }
     ensures leads { LeadsAt T.told phases.Fresh job (HoldsOn job.path) result }
+    ensures looks { LooksBy job result.stage result.turn }
     ensures no_fault { PostsNoFault result.turn }
     ensures reads { ReadsNothing result.turn }
 {

@@ -1,6 +1,6 @@
 ghost use Rattle.std.specs.Prelude.{MatchBool};
-ghost use Rattle.cl_tasks.specs.Stages.{IsStage};
-ghost use Rattle.cl_tasks.specs.Turns.{Expects, ReadsUnrecorded};
+ghost use Rattle.cl_tasks.specs.Stages.{task_at, IsStage};
+ghost use Rattle.cl_tasks.specs.Turns.{AnswersOwn, Expects, ReadsUnrecorded};
 ghost use Rattle.cl_tasks.specs.Follows.{Refuses, Tells, refusal};
 ghost use Rattle.cl_tasks.specs.Steps.{StepsOn, config_of, staged};
 
@@ -39,6 +39,7 @@ pub(crate) fn step<T: Told>(alloc: Global, stage: Stage<T>, reply: Reply<T>) -> 
     ensures leads { StepsOn T.told (staged stage) reply result }
     ensures refused { Refuses (refusal (staged stage) reply) result.turn }
     ensures reads { ReadsUnrecorded reply result.turn }
+    ensures own { AnswersOwn (staged stage) (task_at (config_of stage) result.stage) reply result.turn }
 {
     match stage {
         Stage::Fresh(job) => match reply {

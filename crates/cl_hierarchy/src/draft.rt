@@ -4,7 +4,7 @@ ghost use Rattle.cl_hierarchy.specs.Supertypes.{plain_supertype};
 ghost use Rattle.std.specs.Option.{option_map};
 ghost use Rattle.cl_classfile.specs.Files.{file_of};
 ghost use Rattle.cl_classfile.specs.Reading.{read_of};
-ghost use Rattle.cl_hierarchy.specs.Drafts.{IsDraft, IsSpelt, IsWrong, fault_as};
+ghost use Rattle.cl_hierarchy.specs.Drafts.{IsDraft, IsWrong, fault_as};
 ghost use Rattle.cl_hierarchy.specs.DraftReads.{ReadAs};
 ghost use Rattle.cl_source.specs.Told.{IsTold};
 
@@ -190,15 +190,6 @@ impl<T: Told> Draft<T> {
         ensures { result.now.value ≡ self.now.file }
     {
         &self.file
-    }
-
-    /// The class and its file, given up.
-    pub(crate) fn into_parts(self) -> (Class, Arc<ClassFile>)
-        ensures class { result.0 ≡ self.class }
-        ensures file { result.1.value ≡ self.file }
-        ensures spelt { IsSpelt T.told self.class self.file }
-    {
-        (self.class, self.file)
     }
 }
 

@@ -37,21 +37,8 @@ impl<T: Told> Model for ClassRow<T> {
 
 impl<T: Told> ClassRow<T> {
     /// The row of a draft's class. Of each direct supertype, the superclass, where there is one, and then the
-    /// superinterfaces in order, this is the loader that defined it.
-    pub fn new(draft: Draft<T>, places: Vec<LoaderId>) -> ClassRow<T>
-        requires { length places.items ≡ length (supers (file_of draft.file)) }
-        ensures { result ≡ record { class = draft.class; file = draft.file; places = places.items } }
-    {
-        let (class, file) = draft.into_parts();
-        ClassRow {
-            class,
-            file,
-            places,
-            of: PhantomData,
-        }
-    }
-
-    /// The same of a draft that is kept. Only memory refuses it.
+    /// superinterfaces in order, this is the loader that defined it. The draft is kept, so that it can be handed back. Only
+    /// memory refuses it.
     pub fn of(
         alloc: Global,
         draft: &Draft<T>,

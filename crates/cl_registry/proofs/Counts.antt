@@ -10,7 +10,6 @@ use Rattle.cl_registry.proofs.Histories.{eq_nat}
 abbrev none : ℕ → List (Option Answer)
 none q = replicate q None
 
-
 pub open_none : (round : ℕ) (ns : List ℕ) → open_in round ns [] ≡ 0
 open_none round [] = refl
 open_none round (n ∷ ns) = refl

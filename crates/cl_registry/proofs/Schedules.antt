@@ -105,10 +105,10 @@ some_open round (n ∷ ns) (None ∷ xs) h = by_test (nat_eq n round) refl h (so
 pub may_go_on : (told : Option Content) (x : Shown) (f : Fields) (n : ℕ) → IsRegistry told x f → slice_get f.unanswered f.round ≡ Some n → n ≡ 0 → f.round + 1 < x.script.rounds → MayGoOn x
 may_go_on told x f n k at zero-left more = record {
   answered = λ q e asked same.
-    let count = k.counts f.round n at in
-    let here : slice_get x.script.rounds_of q ≡ Some f.round = schedule_round x.script.requests x.script.rounds_of q e asked ∙ ap (λ (m : ℕ). Some m) (same ∙ sym k.round) in
-    let within : q < length x.answers = subst (λ (m : ℕ). q < m) (sym k.kept.trusted.whole) (schedule_within x.script.requests x.script.rounds_of q e asked) in
-    answered x q k.kept.trusted ∙ none_open f.round x.script.rounds_of x.answers q (sym count ∙ zero-left) here within;
+      let count = k.counts f.round n at in
+      let here : slice_get x.script.rounds_of q ≡ Some f.round = schedule_round x.script.requests x.script.rounds_of q e asked ∙ ap (λ (m : ℕ). Some m) (same ∙ sym k.round) in
+      let within : q < length x.answers = subst (λ (m : ℕ). q < m) (sym k.kept.trusted.whole) (schedule_within x.script.requests x.script.rounds_of q e asked) in
+      answered x q k.kept.trusted ∙ none_open f.round x.script.rounds_of x.answers q (sym count ∙ zero-left) here within;
   later = subst (λ (m : ℕ). m + 1 < x.script.rounds) k.round more;
 }
 
@@ -156,9 +156,9 @@ kept_round told x f used more k may one same =
     elim (below_or_at round (round_of x) (subst (λ (m : ℕ). round < m) (state_round x) less)) [
       | inl before ↦ k.kept.trusted.earlier q round asked before
       | inr now ↦
-      (let asks = some_at x.script.requests q (subst (λ (m : ℕ). q < m) k.script.each (slice_get_within x.script.rounds_of q round asked)) in
-        let there = schedule_at x.script.requests x.script.rounds_of q asks.0 round asks.1 asked in
-        sym (answered x q k.kept.trusted) ∙ may.answered q (record { request = request_of asks.0; round = round }) there now)
+          (let asks = some_at x.script.requests q (subst (λ (m : ℕ). q < m) k.script.each (slice_get_within x.script.rounds_of q round asked)) in
+          let there = schedule_at x.script.requests x.script.rounds_of q asks.0 round asks.1 asked in
+          sym (answered x q k.kept.trusted) ∙ may.answered q (record { request = request_of asks.0; round = round }) there now)
     ] in
     let round_is = k.round in
     let later = may.later in

@@ -65,10 +65,7 @@ fn places_of<T: Told>(
 }
 
 /// The row that a draft's loader has recorded for the name of its class.
-pub fn own_row<'a, T: Told>(
-    tables: &'a Rows<T>,
-    draft: &Draft<T>,
-) -> Option<&'a Arc<ClassRow<T>>>
+pub fn own_row<'a, T: Told>(tables: &'a Rows<T>, draft: &Draft<T>) -> Option<&'a Arc<ClassRow<T>>>
     ensures { option_map (λ r. r.now) result ≡ row_at tables.now.items draft.now.class.loader draft.now.class.name }
 {
     find(tables, draft.class().loader, &draft.class().name)
@@ -145,20 +142,14 @@ pub fn record<T: Told>(
 }
 
 /// The row that the loader that was asked has recorded for a home's name.
-pub fn asked_row<'a, T: Told>(
-    tables: &'a Rows<T>,
-    home: &Home<T>,
-) -> Option<&'a Arc<ClassRow<T>>>
+pub fn asked_row<'a, T: Told>(tables: &'a Rows<T>, home: &Home<T>) -> Option<&'a Arc<ClassRow<T>>>
     ensures { option_map (λ r. r.now) result ≡ row_at tables.now.items home.now.asked home.now.name }
 {
     find(tables, home.asked(), home.name())
 }
 
 /// The row of the class of a home, where the home has defined it.
-pub fn defined_row<'a, T: Told>(
-    tables: &'a Rows<T>,
-    home: &Home<T>,
-) -> Option<&'a Arc<ClassRow<T>>>
+pub fn defined_row<'a, T: Told>(tables: &'a Rows<T>, home: &Home<T>) -> Option<&'a Arc<ClassRow<T>>>
     ensures row { IfSome result (λ r. row_at tables.now.items home.now.place home.now.name ≡ Some r.now) }
     ensures own { MatchOption result (option_map (λ r. r.value.class.loader) (row_at tables.now.items home.now.place home.now.name) ≢ Some home.now.place) (λ r. r.now.value.class.loader ≡ home.now.place) }
 {

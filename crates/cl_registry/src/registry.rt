@@ -5,8 +5,8 @@ ghost use Rattle.cl_registry.specs.Tables.{Defines, Fits, Initiates, IsKept, Lac
 ghost use Rattle.cl_registry.specs.Refusals.{DefineRefusedFor, InitiateRefusedFor, JoinRefusedFor, PostRefusedFor, RoundRefusedFor};
 ghost use Rattle.cl_registry.specs.Reports.{IsNamed, IsReport, IsUnfinished};
 
-use crate::entries::{asked_row, defined_row, has_supers, join, own_row, record};
 use crate::backs::{backs, count_down, is_asked, is_open, put_answer};
+use crate::entries::{asked_row, defined_row, has_supers, join, own_row, record};
 use crate::finding::Finding;
 use crate::fits::supertypes_fit;
 use crate::report::{Answers, History, Report};
@@ -229,14 +229,7 @@ impl<T: Told> Registry<T> {
             Err(fault) => return Err(fault),
         };
         let left = to_come(self.left, self.round, self.script.rounds());
-        let row = match join(
-            alloc,
-            &mut self.tables,
-            &mut self.history,
-            left,
-            home,
-            row,
-        ) {
+        let row = match join(alloc, &mut self.tables, &mut self.history, left, home, row) {
             Ok(row) => row,
             Err(_) => return Err(RegistryFault::Memory),
         };
@@ -353,9 +346,7 @@ impl<T: Told> Registry<T> {
         ensures leads { LeadsTo T.told home.now.config home.now.asked home.now.name (Some home.now.place) }
         ensures within { home.now.place < length home.now.config.loaders }
     {
-        if !home.config().is_same(&self.config)
-            || home.asked().0 as usize >= self.config.count()
-        {
+        if !home.config().is_same(&self.config) || home.asked().0 as usize >= self.config.count() {
             return None;
         }
         defined_row(&self.tables, home)

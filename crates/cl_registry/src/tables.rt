@@ -16,11 +16,7 @@ use std::sync::Arc;
 pub type Rows<T> = Vec<IndexMap<Name, Arc<ClassRow<T>>, Seed>>;
 
 /// No rows, for this many loaders, in tables that hash with this seed.
-pub fn empty_rows<T: Told>(
-    alloc: Global,
-    seed: Seed,
-    count: usize,
-) -> Result<Rows<T>, AllocError>
+pub fn empty_rows<T: Told>(alloc: Global, seed: Seed, count: usize) -> Result<Rows<T>, AllocError>
     ensures count { IfOk result (λ r. length r.items ≡ count) }
     ensures empty { IfOk result (λ r. (l : ℕ) (n : List ℕ) → row_at r.items l n ≡ None) }
 {

@@ -27,7 +27,7 @@ returns-in-Some-clause-defined g c =
     subst (λ (y : Shown). IfOk c.match-try_clone.result (λ r. Defines y y c.args.draft r.value)) c.self.view_is
     elim c.match-try_clone.branch [
       | in-Ok w ↦
-      rw w.result-is (subst (λ (v : Rowed). Defines (known g c) (known g c) c.args.draft v) (sym w.in-Ok.ensures) (known_defined (known g c) c.args.draft c.in-Some.row.now.value (records g c) (found g c)))
+          rw w.result-is (subst (λ (v : Rowed). Defines (known g c) (known g c) c.args.draft v) (sym w.in-Ok.ensures) (known_defined (known g c) c.args.draft c.in-Some.row.now.value (records g c) (found g c)))
       | in-Err w ↦ rw w.result-is tt
     ]
 
@@ -52,9 +52,9 @@ returns-in-Some-clause-refused g c =
     elim c.match-try_clone.branch [
       | in-Ok w ↦ rw w.result-is tt
       | in-Err w ↦
-      rw w.result-is
-      (λ none.
-      absurd (some_or_none _ _ (records g c).recorded (subst (λ (y : Shown). recorded (records_of y) c.args.draft.class.loader c.args.draft.class.name ≡ None) (sym c.self.view_is) none)))
+          rw w.result-is
+          (λ none.
+          absurd (some_or_none _ _ (records g c).recorded (subst (λ (y : Shown). recorded (records_of y) c.args.draft.class.loader c.args.draft.class.name ≡ None) (sym c.self.view_is) none)))
     ]
 
 pub returns-then-not-may_enter-clause-refused : goal.returns-then-not-may_enter-clause-refused

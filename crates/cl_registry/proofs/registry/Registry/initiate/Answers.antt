@@ -28,7 +28,7 @@ returns-in-Some-clause-initiated g c =
     subst (λ (y : Shown). IfOk c.match-try_clone.result (λ r. Initiates y y c.args.home.now r.value)) c.self.view_is
     elim c.match-try_clone.branch [
       | in-Ok w ↦
-      rw w.result-is (subst (λ (v : Rowed). Initiates (known g c) (known g c) c.args.home.now v) (sym w.in-Ok.ensures) (known_initiated (known g c) c.args.home.now c.in-Some.row.now.value (records g c) (found g c)))
+          rw w.result-is (subst (λ (v : Rowed). Initiates (known g c) (known g c) c.args.home.now v) (sym w.in-Ok.ensures) (known_initiated (known g c) c.args.home.now c.in-Some.row.now.value (records g c) (found g c)))
       | in-Err w ↦ rw w.result-is tt
     ]
 
@@ -53,9 +53,9 @@ returns-in-Some-clause-refused g c =
     elim c.match-try_clone.branch [
       | in-Ok w ↦ rw w.result-is tt
       | in-Err w ↦
-      rw w.result-is
-      (λ none.
-      absurd (some_or_none _ _ (records g c).recorded (subst (λ (y : Shown). recorded (records_of y) c.args.home.now.asked c.args.home.now.name ≡ None) (sym c.self.view_is) none)))
+          rw w.result-is
+          (λ none.
+          absurd (some_or_none _ _ (records g c).recorded (subst (λ (y : Shown). recorded (records_of y) c.args.home.now.asked c.args.home.now.name ≡ None) (sym c.self.view_is) none)))
     ]
 
 pub returns-in-Err-shared_row-clause-refused : goal.returns-in-Err-shared_row-clause-refused

@@ -12,11 +12,11 @@ pub returns-then-self-ne0-clause-refused : goal.returns-then-self-ne0-clause-ref
 returns-then-self-ne0-clause-refused g c = (
   refl,
   subst (λ (y : Shown). IsUnfinished y) c.self.view_is
-  elim c.then-self-ne0.branch [
-    | then-self-ne0-via-then-self-ne0 w ↦ inl (first_open c.self.inside.answers.items (λ e. w.if-self-ne0.true (c.self.invariant.left ∙ e)))
-    | then-self-ne0-via-else-self-ne0+then-self-rounds w ↦
-    inr (round_left g.T.Told.told _ _ c.self.invariant (subst (λ (n : ℕ). c.self.inside.round + 1 < n) (w.rounds.ensures ∙ ap (λ s. s.rounds) w.deref.ensures) w.if-self-rounds.true))
-  ],
+      elim c.then-self-ne0.branch [
+        | then-self-ne0-via-then-self-ne0 w ↦ inl (first_open c.self.inside.answers.items (λ e. w.if-self-ne0.true (c.self.invariant.left ∙ e)))
+        | then-self-ne0-via-else-self-ne0+then-self-rounds w ↦
+            inr (round_left g.T.Told.told _ _ c.self.invariant (subst (λ (n : ℕ). c.self.inside.round + 1 < n) (w.rounds.ensures ∙ ap (λ s. s.rounds) w.deref.ensures) w.if-self-rounds.true))
+      ],
 )
 
 pub returns-clause-loaders : goal.returns-clause-loaders

@@ -11,11 +11,11 @@ returns-then-next-rounds-clause-refused g c =
     subst (λ (y : Shown). MayGoOn y → ⊥) c.self.view_is
     elim c.then-next-rounds.branch [
       | then-next-rounds-via-then-next-rounds w ↦
-      last_stops g.T.Told.told _ _ c.self.invariant (subst (λ (n : ℕ). n ≤ c.self.inside.round + 1) (c.rounds.ensures ∙ ap (λ s. s.rounds) c.deref.ensures) w.if-next-rounds.true)
+          last_stops g.T.Told.told _ _ c.self.invariant (subst (λ (n : ℕ). n ≤ c.self.inside.round + 1) (c.rounds.ensures ∙ ap (λ s. s.rounds) c.deref.ensures) w.if-next-rounds.true)
       | then-next-rounds-via-else-next-rounds+then-index-ne0 w ↦
-      open_stops g.T.Told.told _ _ w.index.result.now c.self.invariant
-      (round_there_is g.T.Told.told _ _ w.index.result.now c.self.invariant (subst (λ (n : ℕ). c.self.inside.round + 1 < n) (c.rounds.ensures ∙ ap (λ s. s.rounds) c.deref.ensures) w.if-next-rounds.false) w.index.ensures)
-      w.if-index-ne0.true
+          open_stops g.T.Told.told _ _ w.index.result.now c.self.invariant
+          (round_there_is g.T.Told.told _ _ w.index.result.now c.self.invariant (subst (λ (n : ℕ). c.self.inside.round + 1 < n) (c.rounds.ensures ∙ ap (λ s. s.rounds) c.deref.ensures) w.if-next-rounds.false) w.index.ensures)
+          w.if-index-ne0.true
     ]
 
 pub invariant_of-self : goal.invariant_of-self

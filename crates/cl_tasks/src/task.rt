@@ -105,7 +105,6 @@ impl<T: Told> Task<T> {
         ensures next { IfSome self.old.request (λ r. FollowsWhere T.told self.old.config (λ x. Tells x self.old reply) r result) }
         ensures refused { Refuses (refusal self.old reply) result }
         ensures reads { ReadsUnrecorded reply result }
-        // TODO: wanted by cl_schedule
         ensures own { AnswersOwn self.old self.new reply result }
     {
         let q = self.q();

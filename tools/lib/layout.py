@@ -78,7 +78,18 @@ def files_are_short(root, files, _crates):
     return [f"{it}: {number} lines, over {MOST_LINES}" for it, number in counted if number > MOST_LINES]
 
 
-RULES = (handles, nothing_made, stands_alone, files_are_short, edits_apply, page_is_made)
+def code_is_checked(_root, files, crates):
+    """Each file of code is one that a check reads: rt ci takes no other in the repository."""
+    known = {it.name for it in crates}
+    return [
+        f"{it}: no check reads it, since it lies in src/, specs/ or proofs/ of no crate"
+        for it in files
+        if it.endswith((".rt", ".antt"))
+        and not (len(parts := it.split("/")) > 3 and parts[0] == "crates" and parts[1] in known and parts[2] in ("src", "specs", "proofs"))
+    ]
+
+
+RULES = (handles, nothing_made, code_is_checked, stands_alone, files_are_short, edits_apply, page_is_made)
 
 
 def long_clauses(root, files):

@@ -104,7 +104,8 @@ fn class_bytes(
     section: &ClassSection<'_>,
 ) -> Result<Vec<u8>, BundleFault>
     ensures ok { IfOk result (λ bytes. Written (part_of section.now) (Ok bytes.items)) }
-    ensures err { IfErr result (λ fault. UnlessMemory fault (Written (part_of section.now) (Err fault))) }
+    ensures err { IfErr result (λ fault. UnlessMemory fault (Written (part_of section.now)
+        (Err fault))) }
 {
     if !is_hex(section.body) {
         return assembled(alloc, seed, section);
@@ -130,7 +131,8 @@ fn is_hex(body: &str) -> bool
 #[tactic(auto, using(crate::proofs::Refusals::refused_text))]
 fn assembled(alloc: Global, seed: Seed, section: &ClassSection<'_>) -> Result<Vec<u8>, BundleFault>
     ensures ok { IfOk result (λ bytes. TextWritten (part_of section.now) (Ok bytes.items)) }
-    ensures err { IfErr result (λ fault. UnlessMemory fault (TextWritten (part_of section.now) (Err fault))) }
+    ensures err { IfErr result (λ fault. UnlessMemory fault (TextWritten (part_of section.now)
+        (Err fault))) }
 {
     match assemble_with_hasher(alloc, seed, section.body) {
         Ok(file) => match write(alloc, &file) {
@@ -194,7 +196,8 @@ fn hex_bytes(alloc: Global, body: &str) -> Result<Vec<u8>, HexFault>
 
 /// The words behind `@hex` of all lines that are not skipped, joined.
 fn hex_digits(alloc: Global, body: &str) -> Result<String, HexFault>
-    ensures ok { IfOk result (λ digits. all_digits (stated_from 1 body.now) ≡ Some (string_bytes digits)) }
+    ensures ok { IfOk result (λ digits. all_digits (stated_from 1 body.now)
+        ≡ Some (string_bytes digits)) }
     ensures bad { result ≡ Err HexFault.Bad → all_digits (stated_from 1 body.now) ≡ None }
 {
     let mut digits = String::new(alloc);
@@ -206,7 +209,8 @@ fn hex_digits(alloc: Global, body: &str) -> Result<String, HexFault>
 
 /// Puts the words of a line that stand behind `@hex` to the digits.
 fn push_digits(digits: &mut String, line: &str) -> Result<(), HexFault>
-    ensures ok { OnOk result (option_map (λ more. string_bytes digits.old ++ more) (line_digits (words_of line.now)) ≡ Some (string_bytes digits.new)) }
+    ensures ok { OnOk result (option_map (λ more. string_bytes digits.old ++ more)
+        (line_digits (words_of line.now)) ≡ Some (string_bytes digits.new)) }
     ensures bad { result ≡ Err HexFault.Bad → line_digits (words_of line.now) ≡ None }
 {
     let mut words = Words::new(line);
@@ -218,7 +222,8 @@ fn push_digits(digits: &mut String, line: &str) -> Result<(), HexFault>
 
 /// Puts words to the digits.
 fn push_words(digits: &mut String, words: Words<'_>) -> Result<(), AllocError>
-    ensures { OnOk result (string_bytes digits.new ≡ string_bytes digits.old ++ concat (words_of words.entry)) }
+    ensures { OnOk result (string_bytes digits.new ≡ string_bytes digits.old ++ concat
+        (words_of words.entry)) }
 {
     for word in words {
         digits.push_str(word)?;

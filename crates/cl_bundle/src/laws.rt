@@ -15,20 +15,31 @@ pub fn same_faults_print_alike()
 
 /// A class section writes one content at most, or has one fault, and it is stored so.
 pub fn section_has_one_content()
-    ensures content { (part : Part) (r s : Result (List ℕ) BundleFault) → ContentOf part r → ContentOf part s → SameAnswer r s }
-    ensures stored { (names : List (List ℕ)) (before : Content) (part : Part) (r s : Result Stored BundleFault) → StoredOf names before part r → StoredOf names before part s → SameAnswer r s }
+    ensures content { (part : Part) (r s : Result (List ℕ) BundleFault) → ContentOf part r
+        → ContentOf part s → SameAnswer r s }
+    ensures stored { (names : List (List ℕ)) (before : Content) (part : Part)
+        (r s : Result Stored BundleFault) → StoredOf names before part r
+        → StoredOf names before part s → SameAnswer r s }
 {}
 
 /// Class sections in order tell one content at most, or the first that is wrong has one fault.
 pub fn sections_tell_one_content()
-    ensures same { (names : List (List ℕ)) (before : Content) (parts : List Part) (a b : Content) → AllTell names before parts a → AllTell names before parts b → a ≡ b }
-    ensures one { (names : List (List ℕ)) (before : Content) (parts : List Part) (a : Content) (fault : BundleFault) → AllTell names before parts a → FirstWrong names before parts fault → ⊥ }
-    ensures fault { (names : List (List ℕ)) (before : Content) (parts : List Part) (f g : BundleFault) → FirstWrong names before parts f → FirstWrong names before parts g → SameFault f g }
+    ensures same { (names : List (List ℕ)) (before : Content) (parts : List Part) (a b : Content)
+        → AllTell names before parts a → AllTell names before parts b → a ≡ b }
+    ensures one { (names : List (List ℕ)) (before : Content) (parts : List Part) (a : Content)
+        (fault : BundleFault) → AllTell names before parts a → FirstWrong names before parts fault
+        → ⊥ }
+    ensures fault { (names : List (List ℕ)) (before : Content) (parts : List Part)
+        (f g : BundleFault) → FirstWrong names before parts f → FirstWrong names before parts g
+        → SameFault f g }
 {}
 
 /// Want of memory apart, a text is read in one way at most: as one bundle, or with one fault.
 pub fn reads_one_way()
-    ensures same { (text : List ℕ) (c d : Configured) (a b : Content) (s t : Scripted) → IsBundle text c a s → IsBundle text d b t → (c ≡ d) × TellsSame a b × (s ≡ t) }
-    ensures one { (text : List ℕ) (c : Configured) (a : Content) (s : Scripted) (fault : BundleFault) → IsBundle text c a s → IsNoBundle text fault → IsReason fault → ⊥ }
-    ensures fault { (text : List ℕ) (f g : BundleFault) → IsNoBundle text f → IsNoBundle text g → IsReason f → IsReason g → SameFault f g }
+    ensures same { (text : List ℕ) (c d : Configured) (a b : Content) (s t : Scripted)
+        → IsBundle text c a s → IsBundle text d b t → (c ≡ d) × TellsSame a b × (s ≡ t) }
+    ensures one { (text : List ℕ) (c : Configured) (a : Content) (s : Scripted)
+        (fault : BundleFault) → IsBundle text c a s → IsNoBundle text fault → IsReason fault → ⊥ }
+    ensures fault { (text : List ℕ) (f g : BundleFault) → IsNoBundle text f → IsNoBundle text g
+        → IsReason f → IsReason g → SameFault f g }
 {}

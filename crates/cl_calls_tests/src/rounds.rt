@@ -69,6 +69,6 @@ fn rounds(rt: HostRuntime) -> Result<(), Fail> {
         Event::NextRound,
     ];
     assert!(rt; report.history.events() == history.as_slice());
-    assert!(rt; report.answers.as_slice() == [Answer::Memory, Answer::Memory].as_slice());
+    assert!(rt; matches!(report.answers.as_slice(), [Answer::Memory, Answer::Memory]));
     Ok(())
 }

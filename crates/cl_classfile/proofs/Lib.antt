@@ -8,6 +8,8 @@ pub mod MemberRows
 pub mod Keys
 pub mod Classes
 pub mod References
+pub mod KeyTexts
+pub mod Lookups
 pub mod Tables
 pub mod Pooled
 pub mod Spelled

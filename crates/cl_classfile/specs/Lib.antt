@@ -10,6 +10,7 @@ pub mod Seen
 pub mod Raw
 pub mod Reading
 pub mod References
+pub mod Lookups
 pub mod View
 pub mod Refusals
 pub mod Texts

@@ -89,7 +89,8 @@ fn keeps_super(pool: &[Entry], of_interface: bool, name: &Name, super_class: u16
 }
 
 fn keeps_names(pool: &[Entry], of_interface: bool, this_class: u16, super_class: u16) -> bool
-    ensures { result ≡ keeps_names pool.now of_interface super_class (class_name pool.now this_class) }
+    ensures { result ≡ keeps_names pool.now of_interface super_class
+        (class_name pool.now this_class) }
 {
     match class_name(pool, this_class) {
         Some(name) => keeps_super(pool, of_interface, name, super_class),
@@ -118,7 +119,8 @@ fn keeps_interfaces(pool: &[Entry], interfaces: &[u16]) -> bool
 
 /// Whether the flags and the supertypes keep their tables.
 pub fn check_class(parts: &Parts) -> Result<(), Fault>
-    ensures { Finds (λ u. u) result (checked_class parts.now.pool.items parts.now.flags parts.now.this_class parts.now.super_class parts.now.interfaces.items) }
+    ensures { Finds (λ u. u) result (checked_class parts.now.pool.items parts.now.flags
+        parts.now.this_class parts.now.super_class parts.now.interfaces.items) }
 {
     let pool = parts.pool.as_slice();
     if !is_class_flags(parts.flags) {

@@ -70,7 +70,8 @@ impl ClassFile {
         // The file has just these parts, and bytes spell it.
         ensures found { IfOk result (λ f. (f ≡ plain_parts parts) × Spells (spelling f) f) }
         // Parts that bytes spell are taken, unless memory runs out.
-        ensures only { (bytes : List ℕ) → Spells bytes (plain_parts parts) → Answers result (Ok (plain_parts parts)) }
+        ensures only { (bytes : List ℕ) → Spells bytes (plain_parts parts)
+            → Answers result (Ok (plain_parts parts)) }
         // Which fault it is.
         ensures exact { Answers result (parts_of (plain_parts parts)) }
         // Refused parts are as they were.
@@ -180,7 +181,8 @@ impl ClassFile {
     /// (JVMS SE 8, 4.4.1, 4.4.2).
     pub fn reference(&self, index: u16) -> Option<Reference<'_>>
         // Its texts are those of the reference.
-        ensures value { option_and_then typed (option_map plain_reference result) ≡ reference (file_of self.now) index }
+        ensures value { option_and_then typed (option_map plain_reference result)
+            ≡ reference (file_of self.now) index }
         ensures some { is_some result ≡ refers (at self.now.pool index) }
         // Each text is of its kind.
         ensures sound { IfSome result (λ r. IsCited (plain_reference r)) }
@@ -191,7 +193,8 @@ impl ClassFile {
 
 /// The name of the class of the pool that stands at a place.
 fn interface_name<'a>(pool: &'a [Entry], interfaces: &[u16], place: usize) -> Option<&'a Name>
-    ensures { option_map (λ n. n.now) result ≡ option_and_then (class_name pool.now) (slice_get interfaces.now place) }
+    ensures { option_map (λ n. n.now) result ≡ option_and_then (class_name pool.now)
+        (slice_get interfaces.now place) }
 {
     let index = interfaces.get(place)?;
     class_name(pool, *index)
@@ -216,7 +219,8 @@ fn made(parts: Parts) -> ClassFile
 /// Whether the flags and the supertypes keep their tables, then the fields, the methods and the attributes.
 #[tactic(auto, unfolding(crate::specs::Checking::checked_tables))]
 fn check_tables(alloc: Global, traits: &[Traits], parts: &Parts) -> Result<(), ReadError>
-    ensures { Gives (λ u. u) result (checked_tables traits.now parts.now.pool.items (plain_parts parts.now)) }
+    ensures { Gives (λ u. u) result (checked_tables traits.now parts.now.pool.items
+        (plain_parts parts.now)) }
 {
     check_class(parts)?;
     let pool = parts.pool.as_slice();

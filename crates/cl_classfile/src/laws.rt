@@ -12,7 +12,8 @@ pub fn spells_one_file()
 /// A class file that fits its widths and keeps the tables has one spelling.
 pub fn has_one_spelling()
     ensures some { (f : Structure) → Fits f → Keeps f → (bytes : List ℕ) × Spells bytes f }
-    ensures one { (f : Structure) (bytes other : List ℕ) → Spells bytes f → Spells other f → bytes ≡ other }
+    ensures one { (f : Structure) (bytes other : List ℕ) → Spells bytes f → Spells other f
+        → bytes ≡ other }
 {}
 
 /// Parts pass their tests exactly where some bytes spell them. Where their widths can say them, they have the fault that
@@ -26,6 +27,7 @@ pub fn parts_are_spelled()
 /// The reader of lists, by which contracts say what is read and which fault comes first, finds in bytes the file that they
 /// spell, and no other: to say that it gives a file is to say that they spell the file.
 pub fn reading_finds_what_is_spelled()
-    ensures found { (bytes : List ℕ) (f : Structure) → AreBytes bytes → read_of bytes ≡ Ok f → Spells bytes f }
+    ensures found { (bytes : List ℕ) (f : Structure) → AreBytes bytes → read_of bytes ≡ Ok f
+        → Spells bytes f }
     ensures all { (bytes : List ℕ) (f : Structure) → Spells bytes f → read_of bytes ≡ Ok f }
 {}

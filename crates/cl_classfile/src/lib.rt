@@ -8,6 +8,7 @@ mod fault;
 mod file;
 mod flags;
 mod laws;
+mod lookup;
 mod member;
 mod members;
 mod parts;

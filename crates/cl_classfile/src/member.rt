@@ -45,7 +45,12 @@ impl Member {
         descriptor_index: u16,
         attributes: Vec<Attribute>,
     ) -> Member
-        ensures { result ≡ record { flags = flags; name_index = name_index; descriptor_index = descriptor_index; attributes = attributes.items } }
+        ensures { result ≡ record {
+          flags = flags;
+          name_index = name_index;
+          descriptor_index = descriptor_index;
+          attributes = attributes.items;
+        } }
     {
         Member {
             flags,

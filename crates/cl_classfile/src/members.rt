@@ -87,7 +87,9 @@ fn is_new<'a>(
     pool: &'a [Entry],
     member: &Member,
 ) -> Result<bool, AllocError>
-    ensures { (before : List Member) → HasKeys pool.now seen.old.keys before → IfOk result (λ new. (new ≡ not (list_any (λ e. same_member pool.now e member.now) before)) × HasKeys pool.now seen.new.keys (before ++ member.now ∷ [])) }
+    ensures { (before : List Member) → HasKeys pool.now seen.old.keys before
+        → IfOk result (λ new. (new ≡ not (list_any (λ e. same_member pool.now e member.now) before))
+        × HasKeys pool.now seen.new.keys (before ++ member.now ∷ [])) }
 {
     match key_of(pool, member) {
         Some(key) => Ok(seen.insert(key)?),
@@ -105,7 +107,8 @@ pub fn check_members(
     of_interface: bool,
     members: &[Member],
 ) -> Result<(), ReadError>
-    ensures { Gives (λ u. u) result (checked_list kind traits.now of_interface pool.now members.now) }
+    ensures { Gives (λ u. u) result (checked_list kind traits.now of_interface pool.now
+        members.now) }
 {
     if members.len() > 65535 {
         return Err(ReadError::Fault(Fault::BadMember));

@@ -95,7 +95,8 @@ fn other_at(index: u16, tag: u8, bytes: &[u8]) -> Result<(RawEntry<'_>, &[u8]), 
 /// An entry of two indices, or another.
 #[tactic(auto, unfolding(crate::specs::Reading::pair_at))]
 fn pair_at(index: u16, tag: u8, bytes: &[u8]) -> Result<(RawEntry<'_>, &[u8]), Fault>
-    ensures { Finds (λ x. (plain_entry x.0, x.1.now)) result (pair_at tag (other_at index tag) bytes.now) }
+    ensures { Finds (λ x. (plain_entry x.0, x.1.now)) result (pair_at tag (other_at index tag)
+        bytes.now) }
 {
     match tag {
         9 => {
@@ -141,7 +142,8 @@ fn pair_at(index: u16, tag: u8, bytes: &[u8]) -> Result<(RawEntry<'_>, &[u8]), F
 /// An entry of one index, or another.
 #[tactic(auto, unfolding(crate::specs::Reading::index_at))]
 fn index_at(index: u16, tag: u8, bytes: &[u8]) -> Result<(RawEntry<'_>, &[u8]), Fault>
-    ensures { Finds (λ x. (plain_entry x.0, x.1.now)) result (index_at tag (pair_at tag (other_at index tag)) bytes.now) }
+    ensures { Finds (λ x. (plain_entry x.0, x.1.now)) result
+        (index_at tag (pair_at tag (other_at index tag)) bytes.now) }
 {
     match tag {
         7 => {
@@ -163,7 +165,8 @@ fn index_at(index: u16, tag: u8, bytes: &[u8]) -> Result<(RawEntry<'_>, &[u8]), 
 /// A number, or another entry. One that takes the index behind it too is no last one.
 #[tactic(auto, unfolding(crate::specs::Reading::value_at))]
 fn value_at(last: u16, index: u16, tag: u8, bytes: &[u8]) -> Result<(RawEntry<'_>, &[u8]), Fault>
-    ensures { Finds (λ x. (plain_entry x.0, x.1.now)) result (value_at last index tag (index_at tag (pair_at tag (other_at index tag))) bytes.now) }
+    ensures { Finds (λ x. (plain_entry x.0, x.1.now)) result
+        (value_at last index tag (index_at tag (pair_at tag (other_at index tag))) bytes.now) }
 {
     match tag {
         3 => {
@@ -205,7 +208,8 @@ fn entry_at(last: u16, index: u16, bytes: &[u8]) -> Result<(RawEntry<'_>, &[u8])
 /// What stands at an index, behind an entry that takes it too or another.
 #[tactic(auto, unfolding(crate::specs::Reading::slot_at))]
 fn slot_at(last: u16, index: u16, taken: bool, bytes: &[u8]) -> Result<(RawEntry<'_>, &[u8]), Fault>
-    ensures { Finds (λ x. (plain_entry x.0, x.1.now)) result (slot_at last (index, taken) bytes.now) }
+    ensures { Finds (λ x. (plain_entry x.0, x.1.now)) result
+        (slot_at last (index, taken) bytes.now) }
 {
     if taken {
         return Ok((RawEntry::Unusable, bytes));

@@ -198,7 +198,8 @@ struct Tables {
 
 #[tactic(auto, unfolding(crate::specs::Reading::tables_at))]
 fn tables_at(alloc: Global, bytes: &[u8]) -> Result<(Tables, &[u8]), ReadError>
-    ensures { Gives (λ x. ((x.0.fields.items, (x.0.methods.items, x.0.attributes.items)), x.1.now)) result (tables_at bytes.now) }
+    ensures { Gives (λ x. ((x.0.fields.items, (x.0.methods.items, x.0.attributes.items)), x.1.now))
+        result (tables_at bytes.now) }
 {
     let (fields, rest) = members_at(alloc, bytes)?;
     let (methods, rest) = members_at(alloc, rest)?;

@@ -47,7 +47,8 @@ fn symbol_at(pool: &[Entry], class: u16, name_and_type: u16) -> Option<Symbol<'_
 
 /// What the entry at an index refers to, if it is a reference.
 pub fn reference_at(pool: &[Entry], index: u16) -> Option<Reference<'_>>
-    ensures { option_map plain_reference result ≡ option_and_then (cited pool.now) (at pool.now index) }
+    ensures { option_map plain_reference result ≡ option_and_then (cited pool.now)
+        (at pool.now index) }
 {
     match at(pool, index)? {
         Entry::Class(text) => Some(Reference::Class(text_at(pool, *text)?)),

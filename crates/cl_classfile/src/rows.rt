@@ -129,7 +129,8 @@ fn is_init(name: Special) -> bool
 }
 
 fn may_handle(traits: &[Traits], pool: &[RawEntry<'_>], kind: u8, reference: u16) -> bool
-    ensures { result ≡ may_handle traits.now (plain_entries pool.now) kind (at (plain_entries pool.now) reference) }
+    ensures { result ≡ may_handle traits.now (plain_entries pool.now) kind
+        (at (plain_entries pool.now) reference) }
 {
     match at(pool, reference) {
         Some(RawEntry::Fieldref { .. }) => 1 <= kind && kind <= 4,
@@ -189,7 +190,8 @@ fn keeps_entry(traits: &[Traits], pool: &[RawEntry<'_>], own: Traits, entry: Raw
 pub fn check_entries(traits: &[Traits], pool: &[RawEntry<'_>]) -> Result<(), Fault>
     requires few { length pool.now + 1 < 2 ^ 16 }
     requires traits { traits.now ≡ map entry_traits (plain_entries pool.now) }
-    ensures { Finds (λ u. u) result (checked_entries (plain_entries pool.now) 1 (plain_entries pool.now)) }
+    ensures { Finds (λ u. u) result (checked_entries (plain_entries pool.now) 1
+        (plain_entries pool.now)) }
 {
     for (i, entry) in pool.iter().enumerate() {
         let own = traits_at(traits, i as u16 + 1);

@@ -6,14 +6,14 @@ use Rattle.std.specs.Cmp.Lexicographic.{pointwise}
 use Rattle.std.proofs.lemmas.Bool.Decides.{nat_tests}
 use Rattle.std.proofs.lemmas.List.Elements.{All-nil, All-cons}
 use Rattle.cl_model.specs.declared.request.Request.{Request}
-use Rattle.cl_model.specs.declared.request.Request.TheVariants.{Load}
+use Rattle.cl_model.specs.declared.request.Request.TheVariants.{Load, Resolve, Link}
 use Rattle.cl_names.specs.Escape.{WritesName}
 use Rattle.cl_names.proofs.Escapes.{name_alone}
 use Rattle.cl_lines.specs.Lines.{Numbered, words_of}
 use Rattle.cl_config.specs.declared.script.Said.{Said}
 use Rattle.cl_config.specs.declared.script.Said.TheVariants.{Ask, Then}
 use Rattle.cl_config.specs.Views.{Scripted}
-use Rattle.cl_config.specs.Scripts.{loader_named, HasLoader, HasLoaders, IsLoad, IsThen, Asks, Says, AllSay, requests_in, rounds_in, thens_in, Fits, StopsAt, Tells, IsOver, IsScript}
+use Rattle.cl_config.specs.Scripts.{loader_named, HasLoader, HasLoaders, IsLoad, IsLoadRequest, IsThen, Asks, Says, AllSay, requests_in, rounds_in, thens_in, Fits, StopsAt, Tells, IsOver, IsScript}
 use Rattle.cl_names.specs.Name.{WritesClass}
 
 third_word : {a b c d e f : List ℕ} → a ∷ b ∷ c ∷ [] ≡ d ∷ e ∷ f ∷ [] → c ≡ f
@@ -175,6 +175,20 @@ within false n count l e f = absurd cc
 
 has_loader : (names : List (List ℕ)) (line : List ℕ) (request : Request) → Asks names line request → HasLoader (length names) request
 has_loader names line (Load loader name) t = within _ (position_or_len (λ name. pointwise nat_eq name t.word) names) (length names) loader refl t.known
+has_loader names line (Resolve loader name index) t = absurd t
+has_loader names line (Link loader name) t = absurd t
+
+is_load : (names : List (List ℕ)) (line : List ℕ) (request : Request) → Asks names line request → IsLoadRequest request
+is_load names line (Load loader name) t = tt
+is_load names line (Resolve loader name index) t = absurd t
+is_load names line (Link loader name) t = absurd t
+
+are_loads : (names : List (List ℕ)) (lines : List Numbered) (xs : List Said) → AllSay names lines xs → All IsLoadRequest (requests_in xs)
+are_loads names [] [] t = All-nil IsLoadRequest
+are_loads names [] (x ∷ xs) t = absurd t
+are_loads names (l ∷ ls) [] t = absurd t
+are_loads names (l ∷ ls) (Ask r ∷ xs) t = All-cons IsLoadRequest r (requests_in xs) (is_load names l.text r t.0) (are_loads names ls xs t.1)
+are_loads names (l ∷ ls) (Then ∷ xs) t = are_loads names ls xs t.1
 
 have_loaders : (names : List (List ℕ)) (lines : List Numbered) (xs : List Said) → AllSay names lines xs → HasLoaders (length names) (requests_in xs)
 have_loaders names [] [] t = All-nil (HasLoader (length names))
@@ -213,6 +227,7 @@ rounds_below n top (Then ∷ xs) h = rounds_below (n + 1) top xs (omega arith)
 pub tells_script : (names : List (List ℕ)) (lines : List Numbered) (s : Scripted) → Tells names lines s → IsScript s
 tells_script names lines s t = subst (λ (s : Scripted). IsScript s) (sym t.is) (record {
   few = t.fits.requests;
+  loads = are_loads names lines t.said t.says;
   each = each_has_round 0 t.said;
   within = rounds_below 0 (thens_in t.said + 1) t.said (omega arith);
   in_order = rounds_ordered 0 t.said;
@@ -239,9 +254,15 @@ one_request names line (Load l n) (Load m o) t u =
     let same_name : n ≡ o = name_alone u.load.text n o (subst (λ w. WritesName w n) (third_word words) t.load.writes.written) u.load.writes.written in
     let same_loader : Some l ≡ Some m = sym t.known ∙ ap (loader_named names) (second_word words) ∙ u.known in
     ap (λ k. Load k n) (some_same same_loader) ∙ ap (Load m) same_name
+one_request names line (Load l n) (Resolve m o i) t u = absurd u
+one_request names line (Load l n) (Link m o) t u = absurd u
+one_request names line (Resolve l n i) s t u = absurd t
+one_request names line (Link l n) s t u = absurd t
 
 no_round : (names : List (List ℕ)) (line : List ℕ) (r : Request) → Asks names line r → IsThen line → ⊥
 no_round names line (Load l n) t u = load_is_no_round line t.word n t.load u
+no_round names line (Resolve l n i) t u = absurd t
+no_round names line (Link l n) t u = absurd t
 
 pub one_said : (names : List (List ℕ)) (line : List ℕ) (x y : Said) → Says names line x → Says names line y → x ≡ y
 one_said names line (Ask r) (Ask s) t u = ap (λ q. Ask q) (one_request names line r s t u)

@@ -1,7 +1,7 @@
 -- A text is one script, or has one first line that is wrong.
 use Rattle.std.proofs.Common.{◌≡◌, ◌⊎◌, ℕ, ◌≤◌, List, [], ◌∷◌, ◌++◌, length, Some, None, Option, Ok, codes, refl, sym, ap, subst, ◌∙◌, arith, inl, inr, append_assoc}
 use Rattle.cl_model.specs.declared.request.Request.{Request}
-use Rattle.cl_model.specs.declared.request.Request.TheVariants.{Load}
+use Rattle.cl_model.specs.declared.request.Request.TheVariants.{Load, Resolve, Link}
 use Rattle.cl_lines.specs.Lines.{Numbered, stated_from}
 use Rattle.cl_config.specs.declared.script.Said.{Said}
 use Rattle.cl_config.specs.declared.script.Said.TheVariants.{Ask, Then}
@@ -19,6 +19,8 @@ SaysNot names line = (x : Said) → Says names line.text x → ⊥
 
 bad_asks_not : (names : List (List ℕ)) (line : Numbered) (r : Request) → IsBad line.text → Asks names line.text r → ⊥
 bad_asks_not names line (Load l n) bad t = bad.load t.word n t.load
+bad_asks_not names line (Resolve l n i) bad t = absurd t
+bad_asks_not names line (Link l n) bad t = absurd t
 
 bad_says_not : (names : List (List ℕ)) (line : Numbered) → IsBad line.text → SaysNot names line
 unfolding SaysNot
@@ -32,6 +34,8 @@ lacks_asks_not : (names : List (List ℕ)) (line : Numbered) (r : Request) → L
 lacks_asks_not names line (Load l n) v t =
     let words : codes "load" ∷ v.0 ∷ v.2.text ∷ [] ≡ codes "load" ∷ t.word ∷ t.load.text ∷ [] = sym v.2.words ∙ t.load.words in
     none_or_some (loader_named names v.0) l v.3 (ap (loader_named names) (second_word words) ∙ t.known)
+lacks_asks_not names line (Resolve l n i) v t = absurd t
+lacks_asks_not names line (Link l n) v t = absurd t
 
 lacks_says_not : (names : List (List ℕ)) (line : Numbered) → LacksLoader names line.text → SaysNot names line
 unfolding SaysNot

@@ -2,7 +2,7 @@
 use Rattle.std.specs.Prelude.{All, ◌≡◌, ℕ, ◌+◌, ◌<◌, ◌≤◌, nat_eq, List, [], ◌∷◌, ◌++◌, length, slice_get, position, Option, Some, None, Result, Ok, Err, codes}
 use Rattle.std.specs.Cmp.Lexicographic.{pointwise}
 use Rattle.cl_model.specs.declared.request.Request.{Request}
-use Rattle.cl_model.specs.declared.request.Request.TheVariants.{Load}
+use Rattle.cl_model.specs.declared.request.Request.TheVariants.{Load, Resolve, Link}
 use Rattle.cl_names.specs.Name.{WritesClass}
 use Rattle.cl_lines.specs.Lines.{Numbered, words_of, stated_from}
 use Rattle.cl_config.specs.Views.{Scripted}
@@ -37,9 +37,11 @@ pub record AsksLoad (names : List (List ℕ)) (line : List ℕ) (loader : ℕ) (
   pub load : IsLoad line word name
   pub known : loader_named names word ≡ Some loader
 
--- the line asks for this request (own choice)
+-- the line asks for this request; no line asks for another one than a load yet (own choice)
 abbrev pub Asks : List (List ℕ) → List ℕ → Request → Type 0
 Asks names line (Load loader name) = AsksLoad names line loader name
+Asks names line (Resolve loader name index) = ⊥
+Asks names line (Link loader name) = ⊥
 
 -- the line says this (own choice)
 abbrev pub Says : List (List ℕ) → List ℕ → Said → Type 0
@@ -136,15 +138,24 @@ line_of names line (Err Memory) = Unit {0}
 -- the request's loader is one of so many (own choice)
 abbrev pub HasLoader : ℕ → Request → Type 0
 HasLoader count (Load loader name) = loader < count
+HasLoader count (Resolve loader name index) = loader < count
+HasLoader count (Link loader name) = loader < count
 
 -- each request's loader is one of so many (own choice)
 abbrev pub HasLoaders : ℕ → List Request → Type 0
 HasLoaders count requests = All (HasLoader count) requests
 
--- there are at most 65,535 requests, each of one of the rounds and none of an earlier one than those before it, and 1 to 65,536
+-- the request is a load (5.3)
+abbrev pub IsLoadRequest : Request → Type 0
+IsLoadRequest (Load loader name) = Unit {0}
+IsLoadRequest (Resolve loader name index) = ⊥
+IsLoadRequest (Link loader name) = ⊥
+
+-- there are at most 65,535 requests, for now loads alone, each of one of the rounds and none of an earlier one than those before it, and 1 to 65,536
 -- rounds (own choice)
 pub record IsScript (s : Scripted) : Type 0 where
   pub few : length s.requests ≤ most
+  pub loads : All IsLoadRequest s.requests
   pub each : length s.rounds_of ≡ length s.requests
   pub within : All (λ n. n < s.rounds) s.rounds_of
   pub in_order : (p q m n : ℕ) → p < q → slice_get s.rounds_of p ≡ Some m → slice_get s.rounds_of q ≡ Some n → m ≤ n

@@ -85,7 +85,8 @@ impl Config {
 
     /// The loader of this name.
     pub fn loader(&self, word: &str) -> Option<LoaderId>
-        ensures found { result ≡ position (λ name. pointwise nat_eq name word.now) (names_of self.now) }
+        ensures found { result ≡ position (λ name. pointwise nat_eq name word.now)
+            (names_of self.now) }
         ensures within { IfSome result (λ l. l < length self.now.loaders) }
     {
         let place = place_of(self.loaders.as_slice(), word)?;
@@ -240,7 +241,8 @@ fn are_tables(values: &[Value]) -> bool
 
 /// The loaders' names, in order.
 fn names_of(alloc: Global, loaders: &[Loader]) -> Result<Vec<String>, AllocError>
-    ensures { IfOk result (λ v. map string_bytes v.items ≡ names_of (record { loaders = loaders.now })) }
+    ensures { IfOk result (λ v. map string_bytes v.items
+        ≡ names_of (record { loaders = loaders.now })) }
 {
     let mut names = Vec::with_capacity(alloc, loaders.len())?;
     for loader in loaders {

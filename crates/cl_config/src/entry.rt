@@ -149,7 +149,8 @@ fn imports_in(
     wrong: ConfigFault,
     values: &[Value],
 ) -> Result<EntryImports, ConfigError>
-    ensures { Gives (λ x. x) result (each_from (λ before. import_at wrong) [] (items_view values.now)) }
+    ensures { Gives (λ x. x) result (each_from (λ before. import_at wrong) []
+        (items_view values.now)) }
 {
     let mut links = Vec::new(alloc);
     for value in values {

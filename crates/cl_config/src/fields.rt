@@ -118,7 +118,9 @@ pub fn table_in<'a>(
     known: &[&str],
     value: &'a Value,
 ) -> Result<&'a Table, ConfigFault>
-    ensures { Finds (λ t. table_view t.now) result (table_of wrong (λ key. list_any (λ k. pointwise nat_eq key k.now) known.now) (view value.now)) }
+    ensures { Finds (λ t. table_view t.now) result
+        (table_of wrong (λ key. list_any (λ k. pointwise nat_eq key k.now) known.now)
+        (view value.now)) }
 {
     match value.as_table() {
         Some(table) if has_only(table, known) => Ok(table),
@@ -171,7 +173,8 @@ pub fn value_at<'a>(table: &'a Table, key: &str) -> Option<&'a Value>
 
 /// Whether every key of a table is one of these.
 pub(crate) fn has_only(table: &Table, known: &[&str]) -> bool
-    ensures { result ≡ has_only (λ key. list_any (λ k. pointwise nat_eq key k.now) known.now) (table_view table.now) }
+    ensures { result ≡ has_only (λ key. list_any (λ k. pointwise nat_eq key k.now) known.now)
+        (table_view table.now) }
 {
     for key in table.keys() {
         if !is_among(known, key.as_str()) {

@@ -30,9 +30,7 @@ impl Same for Loader {
 
 impl Same for Request {
     fn is_same(&self, other: &Request) -> bool {
-        match (self, other) {
-            (Request::Load(l, n), Request::Load(m, o)) => *l == *m && *n == *o,
-        }
+        Request::is_same(self, other)
     }
 }
 

@@ -4,8 +4,9 @@ use Rattle.std.specs.List.{list_any}
 use Rattle.std.proofs.lemmas.Bool.{eqb-true}
 use Rattle.std.proofs.lemmas.List.Edits.{map_over_more}
 use Rattle.std.specs.Prelude.{option_map, if◌then◌else◌, Result, Ok, Err, OnOk, OnErr}
-use Rattle.cl_constraints.specs.declared.grouped.Entered.{Entered}
-use Rattle.cl_constraints.specs.Groups.{Joint, Grouped, home_in, has, group_of, shared, AreJoined, AreApart, HasItsHome, HaveHomes, IsGrouped, home_or, class_in, IsClassOf, loaders_or, members, with_home, or_else, without, joint_of, merged}
+use Rattle.cl_constraints.specs.declared.record.Entered.{Entered}
+use Rattle.cl_constraints.specs.Records.{home_in}
+use Rattle.cl_constraints.specs.Groups.{Joint, Grouped, has, group_of, shared, AreJoined, AreApart, HasItsHome, HaveHomes, IsGrouped, home_or, class_in, IsClassOf, loaders_or, members, with_home, or_else, without, joint_of, merged}
 use Rattle.cl_constraints.specs.Singles.{Differs, Divides, Enters, Joins}
 
 -- a loader that is in no group shares none
@@ -271,19 +272,19 @@ or_cases : (a b : Bool) → (a || b) ≡ true → (a ≡ true) ⊎ (b ≡ true)
 or_cases true b h = inl refl
 or_cases false b h = inr h
 
-or_left : (a b : Bool) → a ≡ true → (a || b) ≡ true
+pub or_left : (a b : Bool) → a ≡ true → (a || b) ≡ true
 or_left true b h = refl
 or_left false b h = absurd cc
 
-or_right : (a b : Bool) → b ≡ true → (a || b) ≡ true
+pub or_right : (a b : Bool) → b ≡ true → (a || b) ≡ true
 or_right true b h = refl
 or_right false b h = h
 
-and_parts : (a b : Bool) → (a && b) ≡ true → (a ≡ true) × (b ≡ true)
+pub and_parts : (a b : Bool) → (a && b) ≡ true → (a ≡ true) × (b ≡ true)
 and_parts true b h = (refl, h)
 and_parts false b h = absurd cc
 
-and_both : (a b : Bool) → a ≡ true → b ≡ true → (a && b) ≡ true
+pub and_both : (a b : Bool) → a ≡ true → b ≡ true → (a && b) ≡ true
 and_both true b h k = k
 and_both false b h k = absurd cc
 

@@ -1,2 +1,4 @@
 pub mod Grouping
+pub mod Pairing
 pub mod Naming
+pub mod Standing

@@ -1,6 +1,6 @@
 -- What a book of names stands for, as one name's constraints change.
 use Rattle.std.proofs.Common.{◌≡◌, ◌≢◌, ◌⊎◌, inl, inr, ◌↔◌, ℕ, Bool, true, false, ◌==◌, ◌&&◌, if◌then◌else◌, List, [], ◌∷◌, ◌++◌, Option, Some, None, refl, sym, ap, subst, ◌∙◌, nat_eq, MatchBool, IsSome, arith, cond}
-use Rattle.std.specs.Prelude.{find, option_map, Contains}
+use Rattle.std.specs.Prelude.{find, option_map, Contains, not}
 use Rattle.std.specs.Option.{option_or}
 use Rattle.std.specs.HashMap.{UpdatesBy, WritesThrough}
 use Rattle.std.specs.Map.{set_value}
@@ -131,6 +131,11 @@ module _ (home : Name → ℕ → Option ℕ) (joins : Name → ℕ → ℕ → 
   pub admits_so : (answer : Bool) (name : Name) (loader place : ℕ) → MatchBool answer (Differs (home name) (joins name) loader place → ⊥) (Differs (home name) (joins name) loader place) → MatchBool answer (Refused s (Entry loader name place) → ⊥) (Refused s (Entry loader name place))
   admits_so true name loader place fits = fitting_entry name loader place fits
   admits_so false name loader place d = refused_entry name loader place d
+
+  pub refuses_so : (answer : Bool) (name : Name) (a b : ℕ) → MatchBool answer (Divides (home name) (joins name) a b → ⊥) (Divides (home name) (joins name) a b)
+      → MatchBool (not answer) (Refused s (Equal name a b)) (Refused s (Equal name a b) → ⊥)
+  refuses_so true name a b fits = fitting_equal name a b fits
+  refuses_so false name a b d = refused_equal name a b d
 
   pub joined_so : (answer : Bool) (name : Name) (a b : ℕ) → MatchBool answer (joins name a b) (joins name a b → ⊥) → MatchBool answer (Met s (Equal name a b)) (Met s (Equal name a b) → ⊥)
   joined_so true name a b j = (book.joined name a b).0 j

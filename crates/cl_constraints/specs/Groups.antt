@@ -1,7 +1,8 @@
 -- The constraints of one name, kept as groups of joined loaders (own choice; what they mean is of JVMS SE 8, 5.3.4).
-use Rattle.std.specs.Prelude.{◌≡◌, ◌⊎◌, ℕ, Bool, true, false, ◌==◌, ◌&&◌, not, List, [], ◌∷◌, ◌++◌, Option, Some, None, option_map, find, filter, if◌then◌else◌}
+use Rattle.std.specs.Prelude.{◌≡◌, ◌⊎◌, ℕ, Bool, true, false, ◌==◌, ◌&&◌, not, List, [], ◌∷◌, ◌++◌, Option, Some, None, find, filter, if◌then◌else◌}
 use Rattle.std.specs.List.{list_any}
-use Rattle.cl_constraints.specs.declared.grouped.Entered.{Entered}
+use Rattle.cl_constraints.specs.declared.record.Entered.{Entered}
+use Rattle.cl_constraints.specs.Records.{home_in}
 
 -- loaders that are joined, and the one home that those of them have that record the name (5.3.4)
 pub record Joint : Type 0 where
@@ -12,10 +13,6 @@ pub record Joint : Type 0 where
 pub record Grouped : Type 0 where
   pub records : List Entered
   pub groups : List Joint
-
--- who defined the class that a loader records (5.3)
-abbrev pub home_in : List Entered → ℕ → Option ℕ
-home_in records loader = option_map (λ r. r.home) (find (λ r. r.loader == loader) records)
 
 -- a loader is one of these (5.3.4)
 abbrev pub has : List ℕ → ℕ → Bool

@@ -1,6 +1,6 @@
 ghost use Rattle.std.specs.Prelude.{◌≡◌, ℕ, List, Option, None, IfErr, IfOk, OnOk};
 ghost use Rattle.cl_model.specs.States.{State, Entry, Equal};
-ghost use Rattle.cl_constraints.specs.Books.{Adds, Admits, Blames, Imposes, Meets};
+ghost use Rattle.cl_constraints.specs.Books.{Adds, Admits, Blames, Imposes, Meets, Refuses, Tells};
 
 use crate::fault::BookFault;
 use cl_model::LoaderId;
@@ -22,7 +22,8 @@ pub trait ConstraintBook {
 
     /// Who defined the class that a loader records for a name.
     fn home(&self, name: &Name, loader: LoaderId) -> Option<LoaderId>
-        ensures { result ≡ record_of self.now name.now loader };
+        ensures record { result ≡ record_of self.now name.now loader }
+        ensures recorded { Tells (stands_for self.now) loader name.now result };
 
     /// Whether a loader may record the class that this home defines for a name.
     fn admits(&self, name: &Name, loader: LoaderId, home: LoaderId) -> bool
@@ -31,6 +32,10 @@ pub trait ConstraintBook {
     /// Whether equalities join two loaders for a name.
     fn joined(&self, name: &Name, a: LoaderId, b: LoaderId) -> bool
         ensures { Meets (stands_for self.now) (Equal name.now a b) result };
+
+    /// Whether an equality of two loaders for a name would violate what stands.
+    fn refuses(&self, name: &Name, a: LoaderId, b: LoaderId) -> bool
+        ensures { Refuses (stands_for self.now) (Equal name.now a b) result };
 
     /// Records a class for a loader that has none recorded for the name (`home` tells).
     fn enter(
@@ -42,7 +47,8 @@ pub trait ConstraintBook {
     ) -> Result<(), Refusal>
         requires fresh { record_of self.old name loader ≡ None }
         ensures entered { OnOk result (Adds stands_for self.old self.new (Entry loader name home)) }
-        ensures blames { IfErr result (λ e. Blames (stands_for self.old) (Entry loader name home) e.fault) }
+        ensures blames { IfErr result (λ e. Blames (stands_for self.old) (Entry loader name home)
+            e.fault) }
         ensures unchanged { IfErr result (λ e. (self.new ≡ self.old) × (e.name ≡ name)) };
 
     /// Makes a name mean the same in two loaders; false where it does already.

@@ -1,7 +1,8 @@
 ghost use Rattle.std.specs.Prelude.{◌≡◌, [], ◌++◌, ◌∷◌, map, ℕ, Option, None, MatchBool, IfOk, OnErr, OnOk, option_map};
 ghost use Rattle.cl_constraints.specs.Singles.{Differs, Divides, Enters, Joins};
-ghost use Rattle.cl_constraints.specs.Groups.{has, class_in, members, with_home, home_in, AreJoined, joint_of, without, shared, group_of, IsClassOf};
+ghost use Rattle.cl_constraints.specs.Groups.{has, class_in, members, with_home, AreJoined, joint_of, without, shared, group_of, IsClassOf};
 
+use crate::record::{Entered, home_among};
 use crate::single::NameBook;
 use cl_model::LoaderId;
 use std::alloc::{AllocError, Global};
@@ -40,13 +41,6 @@ impl Group {
     }
 }
 
-/// A loader's record of the name.
-#[derive(Clone, Copy, Debug)]
-struct Entered {
-    loader: LoaderId,
-    home: LoaderId,
-}
-
 /// The constraints of one name, as groups of joined loaders; a loader that is joined to no other may be in none.
 #[derive(Debug, Drop)]
 pub struct Groups {
@@ -78,7 +72,8 @@ impl Groups {
 
     /// Adds the loaders that are joined to one.
     fn add_members(&self, loaders: &mut Vec<LoaderId>, loader: LoaderId) -> Result<(), AllocError>
-        ensures { OnOk result (loaders.new.items ≡ loaders.old.items ++ members self.now.groups loader) }
+        ensures { OnOk result (loaders.new.items ≡ loaders.old.items ++ members self.now.groups
+            loader) }
     {
         match group_of(self.groups.as_slice(), loader) {
             Some(group) => loaders.extend_from_slice(group.loaders.as_slice())?,
@@ -102,7 +97,8 @@ impl Groups {
 }
 
 impl NameBook for Groups {
-    ghost use Rattle.cl_constraints.specs.Groups.{home_in, AreJoined};
+    ghost use Rattle.cl_constraints.specs.Groups.{AreJoined};
+    ghost use Rattle.cl_constraints.specs.Records.{home_in};
 
     ghost record_at = { λ g loader. home_in g.records loader };
 
@@ -147,16 +143,6 @@ impl NameBook for Groups {
         let joint = self.joint(alloc, a, b)?;
         replace(&mut self.groups, a, b, joint)
     }
-}
-
-/// Who defined the class that a loader records.
-fn home_among(records: &[Entered], loader: LoaderId) -> Option<LoaderId>
-    ensures { result ≡ home_in records.now loader }
-{
-    records
-        .iter()
-        .find(|it| it.loader == loader)
-        .map(|it| it.home)
 }
 
 /// The group that a loader is in.

@@ -54,7 +54,8 @@ impl<N: NameBook + Drop> Book<N> {
 
     /// Whether two loaders are joined for the name.
     fn links(&self, name: &Name, a: LoaderId, b: LoaderId) -> bool
-        ensures { MatchBool result (joins_of N.joins self.now name.now a b) (joins_of N.joins self.now name.now a b → ⊥) }
+        ensures { MatchBool result (joins_of N.joins self.now name.now a b)
+            (joins_of N.joins self.now name.now a b → ⊥) }
     {
         match self.names.get(name) {
             Some(one) => one.joined(a, b),
@@ -152,6 +153,10 @@ impl<N: NameBook + Drop> ConstraintBook for Book<N> {
 
     fn joined(&self, name: &Name, a: LoaderId, b: LoaderId) -> bool {
         self.links(name, a, b)
+    }
+
+    fn refuses(&self, name: &Name, a: LoaderId, b: LoaderId) -> bool {
+        !self.agrees(name, a, b)
     }
 
     fn enter(

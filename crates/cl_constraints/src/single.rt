@@ -35,7 +35,8 @@ pub trait NameBook {
     fn enter(&mut self, loader: LoaderId, home: LoaderId) -> Result<(), AllocError>
         requires fresh { record_at self.old loader ≡ None }
         requires fits { Differs (record_at self.old) (joins self.old) loader home → ⊥ }
-        ensures records { OnOk result (Enters (record_at self.old) (record_at self.new) loader home) }
+        ensures records { OnOk result (Enters (record_at self.old) (record_at self.new) loader
+            home) }
         ensures joined { OnOk result ((a b : ℕ) → joins self.new a b ↔ joins self.old a b) }
         ensures unchanged { OnErr result (self.new ≡ self.old) };
 
@@ -43,7 +44,9 @@ pub trait NameBook {
     fn join(&mut self, alloc: Global, a: LoaderId, b: LoaderId) -> Result<(), AllocError>
         requires apart { joins self.old a b → ⊥ }
         requires fits { Divides (record_at self.old) (joins self.old) a b → ⊥ }
-        ensures records { OnOk result ((loader : ℕ) → record_at self.new loader ≡ record_at self.old loader) }
-        ensures joined { OnOk result ((x y : ℕ) → joins self.new x y ↔ Joins (joins self.old) a b x y) }
+        ensures records { OnOk result ((loader : ℕ)
+            → record_at self.new loader ≡ record_at self.old loader) }
+        ensures joined { OnOk result ((x y : ℕ) → joins self.new x y
+            ↔ Joins (joins self.old) a b x y) }
         ensures unchanged { OnErr result (self.new ≡ self.old) };
 }

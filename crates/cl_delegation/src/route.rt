@@ -46,7 +46,8 @@ fn add_route(
     route: &mut Vec<LoaderId>,
 ) -> Result<(), AllocError>
     requires { loader < length config.now.loaders }
-    ensures { OnOk result (route.new.items ≡ route.old.items ++ route_from (loaders_of config.now) name.now loader) }
+    ensures { OnOk result (route.new.items ≡ route.old.items ++ route_from (loaders_of config.now)
+        name.now loader) }
 {
     let imports = config.imports(loader);
     match decisive(imports, name) {
@@ -69,7 +70,8 @@ fn add_route(
 
 /// The first import whose prefix begins a name.
 fn decisive<'a>(imports: &'a [Import], name: &Name) -> Option<&'a Import>
-    ensures { option_map (λ m. m.now) result ≡ find (λ m. starts_with nat_eq name.now m.prefix) imports.now }
+    ensures { option_map (λ m. m.now) result ≡ find (λ m. starts_with nat_eq name.now m.prefix)
+        imports.now }
 {
     imports
         .iter()

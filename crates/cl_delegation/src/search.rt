@@ -103,9 +103,11 @@ impl<T: Told> Search<T> {
 
     /// Takes the next probe; another is handed back.
     pub fn take(&mut self, probe: Probe<T>) -> Result<(), WrongProbe<T>>
-        ensures next { OnOk result ((next_of self.old ≡ Some probe.loader) × (probe.name ≡ self.old.name)) }
+        ensures next { OnOk result ((next_of self.old ≡ Some probe.loader)
+            × (probe.name ≡ self.old.name)) }
         ensures taken { OnOk result (self.new ≡ with_probe self.old probe) }
-        ensures wrong { IfErr result (λ w. next_of self.old ≡ Some probe.loader → probe.name ≡ self.old.name → ⊥) }
+        ensures wrong { IfErr result (λ w. next_of self.old ≡ Some probe.loader
+            → probe.name ≡ self.old.name → ⊥) }
         ensures unchanged { IfErr result (λ w. (self.new ≡ self.old) × (w.probe ≡ probe)) }
     {
         if self.next_probe() != Some(probe.loader()) || *probe.name() != self.name {
@@ -121,11 +123,18 @@ impl<T: Told> Search<T> {
     /// The home that the probes tell of, or that there is none.
     pub fn home(self) -> Result<Home<T>, Unfound<T>>
         requires { next_of self ≡ None }
-        ensures config { MatchResult result (λ h. h.config ≡ self.config) (λ u. u.config ≡ self.config) }
-        ensures asked { MatchResult result (λ h. h.asked ≡ self.loader) (λ u. u.asked ≡ self.loader) }
+        ensures config { MatchResult result (λ h. h.config ≡ self.config) (λ u. u.config
+            ≡ self.config) }
+        ensures asked { MatchResult result (λ h. h.asked ≡ self.loader) (λ u. u.asked
+            ≡ self.loader) }
         ensures name { MatchResult result (λ h. h.name ≡ self.name) (λ u. u.name ≡ self.name) }
-        ensures probes { MatchResult result (λ h. h.absent ≡ self.absent) (λ u. u.absent ≡ self.absent) }
-        ensures found { MatchResult result (λ h. self.found ≡ Some (record { loader = h.place; name = h.name; bytes = Some h.bytes })) (λ u. self.found ≡ None) }
+        ensures probes { MatchResult result (λ h. h.absent ≡ self.absent) (λ u. u.absent
+            ≡ self.absent) }
+        ensures found { MatchResult result (λ h. self.found ≡ Some (record {
+          loader = h.place;
+          name = h.name;
+          bytes = Some h.bytes;
+        })) (λ u. self.found ≡ None) }
     {
         // brings that each loader leads to earlier ones alone
         let _ = self.config.count();
@@ -180,7 +189,8 @@ impl<T: Told> Home<T> {
     /// The configuration that the search went by.
     pub fn config(&self) -> &Config
         ensures config { result.now ≡ self.now.config }
-        ensures leads { LeadsTo T.told self.now.config self.now.asked self.now.name (Some self.now.place) }
+        ensures leads { LeadsTo T.told self.now.config self.now.asked self.now.name
+            (Some self.now.place) }
         ensures within { self.now.place < length self.now.config.loaders }
     {
         &self.config

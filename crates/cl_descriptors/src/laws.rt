@@ -10,14 +10,18 @@ ghost use Rattle.cl_descriptors.specs.contracts.types.MethodTypePartialEq.TheImp
 
 /// A field type has one spelling, which is that of no other; reading finds the type exactly where the bytes spell it.
 pub fn one_field_spelling()
-    ensures one { (bytes : List ℕ) (s t : FieldType) → SpellsField bytes s → SpellsField bytes t → s ≡ t }
-    ensures read { (bytes : List ℕ) (t : FieldType) → (whole_field bytes ≡ Some t) ↔ SpellsField bytes t }
+    ensures one { (bytes : List ℕ) (s t : FieldType) → SpellsField bytes s → SpellsField bytes t
+        → s ≡ t }
+    ensures read { (bytes : List ℕ) (t : FieldType) → (whole_field bytes ≡ Some t)
+        ↔ SpellsField bytes t }
 {}
 
 /// A method type has one spelling, which is that of no other; reading finds the type exactly where the bytes spell it.
 pub fn one_method_spelling()
-    ensures one { (bytes : List ℕ) (m n : MethodType) → SpellsMethod bytes m → SpellsMethod bytes n → m ≡ n }
-    ensures read { (bytes : List ℕ) (m : MethodType) → (whole_method bytes ≡ Some m) ↔ SpellsMethod bytes m }
+    ensures one { (bytes : List ℕ) (m n : MethodType) → SpellsMethod bytes m → SpellsMethod bytes n
+        → m ≡ n }
+    ensures read { (bytes : List ℕ) (m : MethodType) → (whole_method bytes ≡ Some m)
+        ↔ SpellsMethod bytes m }
 {}
 
 /// Two types are equal by `==` exactly where they are the same.

@@ -167,7 +167,8 @@ pub fn read_field(alloc: Global, bytes: &[u8]) -> Result<FieldType, DescriptorFa
     // What is read is spelled so, and each fault is that of the bytes.
     ensures grammar { FieldOf bytes.now result }
     // What is spelled so is read, unless memory runs out.
-    ensures only { (t : FieldType) → SpellsField bytes.now t → Gives result (within_field (Some t)) }
+    ensures only { (t : FieldType) → SpellsField bytes.now t
+        → Gives result (within_field (Some t)) }
     // Which answer it is.
     ensures exact { Gives result (field_of bytes.now) }
 {
@@ -181,7 +182,8 @@ pub fn read_method(alloc: Global, bytes: &[u8]) -> Result<MethodType, Descriptor
     // What is read is spelled so, and each fault is that of the bytes.
     ensures grammar { MethodOf bytes.now result }
     // What is spelled so is read, unless memory runs out.
-    ensures only { (m : MethodType) → SpellsMethod bytes.now m → Gives result (within_method (Some m)) }
+    ensures only { (m : MethodType) → SpellsMethod bytes.now m
+        → Gives result (within_method (Some m)) }
     // Which answer it is.
     ensures exact { Gives result (method_of bytes.now) }
 {

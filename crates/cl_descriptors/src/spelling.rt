@@ -32,7 +32,8 @@ impl MethodType {
 }
 
 fn push_class(text: &mut Vec<u8>, name: &[u8]) -> Result<(), AllocError>
-    ensures { OnOk result (text.new.items ≡ text.old.items ++ (codes "L" ++ (name.now ++ codes ";"))) }
+    ensures { OnOk result (text.new.items ≡ text.old.items
+        ++ (codes "L" ++ (name.now ++ codes ";"))) }
 {
     text.push(b'L')?;
     text.extend_from_slice(name)?;
@@ -76,7 +77,8 @@ fn push_field(text: &mut Vec<u8>, t: &FieldType) -> Result<(), AllocError>
 }
 
 fn push_fields(text: &mut Vec<u8>, types: &[FieldType]) -> Result<(), AllocError>
-    ensures { OnOk result (text.new.items ≡ text.old.items ++ flat_map spelling_of_field types.now) }
+    ensures { OnOk result (text.new.items ≡ text.old.items ++ flat_map spelling_of_field
+        types.now) }
 {
     for t in types {
         push_field(text, t)?;

@@ -250,7 +250,7 @@ module _ (told : Option Content) (c : Configured) (loader : ℕ) (at : List ℕ)
 
   -- the last frame ends
   pub held_end : (new rest : List (Class × Framed)) (k : Class) (x : Framed) (t : Class) → KeepsPath told c loader at es → LastAccepts es new t.loader None → new ≡ rest ++ (k, x) ∷ []
-      → KeepsPath told c loader k.name rest × Completes (pathed c loader at es) (pathed c loader k.name rest) t.loader x.draft
+      → KeepsPath told c loader k.name rest × Completes (pathed c loader at es) (pathed c loader k.name rest) t.loader x
   held_end new rest k x t kept a popped =
       let was = a.last in
       let xs = frames_in a.before in
@@ -261,6 +261,7 @@ module _ (told : Option Content) (c : Configured) (loader : ℕ) (at : List ℕ)
       let stood = (stand_pop c loader name xs was whole.stand).1 in
       let keys = keys_pop a.before a.key was (subst (λ (l : List (Class × Framed)). map (λ e. e.0) l ≡ map (λ e. e.1.draft.class) l) a.split kept.keys) in
       let key : k ≡ was.draft.class = ap (λ (e : Class × Framed). e.0) last.1 ∙ keys.1 in
+      let whole_is : x ≡ with_place was t.loader = ap (λ (e : Class × Framed). e.1) last.1 in
       let below : pathed c loader k.name rest ≡ record { config = c; loader = loader; name = name; frames = xs } =
       same_path c loader _ _ _ _ (ap (λ (l : List (Class × Framed)). first_name (frames_in l) k.name) last.0 ∙ ap (λ (z : Class). first_name xs z.name) key) (ap frames_in last.0) in (
         record {
@@ -273,7 +274,7 @@ module _ (told : Option Content) (c : Configured) (loader : ℕ) (at : List ℕ)
           last = was;
           split = ap (λ (z : Pathed). z.frames) p;
           now = below ∙ ap (λ (z : Pathed). with_frames z xs) (sym p);
-          draft = ap (λ (e : Class × Framed). e.1.draft) last.1;
-          complete = last_next (wanted (frame_of (with_place was t.loader))) a.wants;
+          whole_is = whole_is;
+          complete = ap (λ (y : Framed). wanted (frame_of y)) whole_is ∙ last_next (wanted (frame_of (with_place was t.loader))) a.wants;
         },
       )

@@ -1,7 +1,14 @@
 pub mod DraftReads
 pub mod Drafts
 pub mod Frames
+pub mod Imposed
 pub mod Kept
+pub mod Lineages
 pub mod Paths
+pub mod Places
+pub mod RowIndex
+pub mod RowTables
 pub mod Rows
 pub mod Supertypes
+pub mod Tours
+pub mod Trees

@@ -99,11 +99,11 @@ pub record Accepts (old new : Pathed) (place : ℕ) : Type 0 where
   pub now : new ≡ with_frames old (before ++ with_place last place ∷ [])
   pub waits : IsSome (wanted (frame_of (with_place last place)))
 
--- the last class accepted the last of its supertypes, which this loader defined, and is derived no longer (5.3.5, step 5)
-pub record Completes (old new : Pathed) (place : ℕ) (d : Drafted) : Type 0 where
+-- the last class accepted the last of its supertypes, which this loader defined, and is derived no longer: its whole frame (5.3.5, step 5)
+pub record Completes (old new : Pathed) (place : ℕ) (whole : Framed) : Type 0 where
   pub before : List Framed
   pub last : Framed
   pub split : old.frames ≡ before ++ last ∷ []
   pub now : new ≡ with_frames old before
-  pub draft : d ≡ last.draft
-  pub complete : wanted (frame_of (with_place last place)) ≡ None
+  pub whole_is : whole ≡ with_place last place
+  pub complete : wanted (frame_of whole) ≡ None

@@ -1,4 +1,4 @@
-ghost use Rattle.std.specs.Prelude.{◌≡◌, ◌≤◌, ◌^◌, length, MatchResult, Ok, Some, slice_get};
+ghost use Rattle.std.specs.Prelude.{◌≡◌, ◌≤◌, ◌^◌, IfOk, length, MatchResult, Ok, Some, slice_get};
 ghost use Rattle.cl_model.specs.Classes.{supers};
 ghost use Rattle.cl_hierarchy.specs.Supertypes.{plain_supertype};
 ghost use Rattle.std.specs.Option.{option_map};
@@ -13,7 +13,7 @@ use cl_classfile::{ClassFile, Fault, ReadError};
 use cl_delegation::Home;
 use cl_model::{Class, Told};
 use cl_names::Name;
-use std::alloc::Global;
+use std::alloc::{AllocError, Global};
 use std::marker::Model;
 use std::sync::Arc;
 use thiserror::Error;
@@ -143,6 +143,17 @@ impl<T: Told> Draft<T> {
         }
     }
 
+    /// The same draft again; what it holds is shared. Only memory refuses it.
+    pub fn try_clone(&self, alloc: Global) -> Result<Draft<T>, AllocError>
+        ensures { IfOk result (λ d. d ≡ self.now) }
+    {
+        Ok(Draft {
+            class: self.class.try_clone(alloc)?,
+            file: Arc::try_clone(&self.file)?,
+            home: Arc::try_clone(&self.home)?,
+        })
+    }
+
     /// The class.
     pub fn class(&self) -> &Class
         ensures { result.now ≡ self.now.class }
@@ -161,7 +172,8 @@ impl<T: Told> Draft<T> {
     /// A direct supertype, counted from 0: the superclass, where there is one, and then the superinterfaces in order
     /// (JVMS SE 8, 5.3.5, steps 3 and 4).
     pub fn supertype(&self, place: usize) -> Option<Supertype<'_>>
-        ensures name { option_map plain_supertype result ≡ slice_get (supers (file_of self.now.file)) place }
+        ensures name { option_map plain_supertype result
+            ≡ slice_get (supers (file_of self.now.file)) place }
         ensures few { length (supers (file_of self.now.file)) ≤ 2 ^ 64 }
         ensures draft { IsDraft T.told self.now }
     {

@@ -3,10 +3,11 @@
 ghost use Rattle.std.specs.Prelude.{◌≡◌};
 ghost use Rattle.std.specs.Option.{option_map};
 ghost use Rattle.cl_classfile.specs.Files.{file_of};
-ghost use Rattle.cl_model.specs.Classes.{class_accessible, is_fit, misfit, same_package};
+ghost use Rattle.cl_model.specs.Classes.{is_fit, misfit};
 ghost use Rattle.cl_model.specs.Views.{error_of};
 ghost use Rattle.cl_hierarchy.specs.Supertypes.{role_of};
 
+use crate::access::is_accessible;
 use crate::supertype::Role;
 use cl_classfile::ClassFile;
 use cl_model::{Class, ErrorKind};
@@ -14,7 +15,8 @@ use cl_model::{Class, ErrorKind};
 /// What is wrong with a class of this file as a supertype of another class, if anything is: access comes before kind
 /// (JVMS SE 8, 5.3.5, steps 3 and 4, and 5.4.4).
 pub fn misfit(class: &Class, role: Role, above: &Class, file: &ClassFile) -> Option<ErrorKind>
-    ensures { option_map (λ kind. error_of kind above.now) result ≡ misfit class.now (role_of role) above.now (file_of file.now) }
+    ensures { option_map (λ kind. error_of kind above.now) result ≡ misfit class.now (role_of role)
+        above.now (file_of file.now) }
 {
     if !is_accessible(file, above, class) {
         return Some(ErrorKind::IllegalAccessError);
@@ -23,20 +25,6 @@ pub fn misfit(class: &Class, role: Role, above: &Class, file: &ClassFile) -> Opt
         return Some(ErrorKind::IncompatibleClassChangeError);
     }
     None
-}
-
-/// Whether a class of this file is accessible to another (JVMS SE 8, 5.4.4).
-fn is_accessible(file: &ClassFile, class: &Class, from: &Class) -> bool
-    ensures { result ≡ class_accessible (file_of file.now).flags class.now from.now }
-{
-    file.is_public() || same_package(class, from)
-}
-
-/// Whether two classes are of one run-time package (JVMS SE 8, 5.3).
-fn same_package(a: &Class, b: &Class) -> bool
-    ensures { result ≡ same_package a.now b.now }
-{
-    a.loader == b.loader && a.name.package() == b.name.package()
 }
 
 /// Whether a file is of the kind that is wanted (JVMS SE 8, 5.3.5, steps 3 and 4).

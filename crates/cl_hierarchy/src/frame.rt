@@ -58,7 +58,8 @@ impl<T: Told> Frame<T> {
     /// Which loaders defined the supertypes that were accepted, in order.
     pub fn places(&self) -> &[LoaderId]
         ensures places { result.now ≡ self.now.places }
-        ensures named { NamedAs (frame_of self.now).accepted (supers (file_of self.now.draft.file)) }
+        ensures named { NamedAs (frame_of self.now).accepted
+            (supers (file_of self.now.draft.file)) }
     {
         self.places.as_slice()
     }
@@ -74,7 +75,8 @@ impl<T: Told> Frame<T> {
     pub fn accept(&mut self, place: LoaderId) -> Result<(), AllocError>
         requires { IsSome (wanted (frame_of self.old)) }
         ensures accepted { OnOk result (self.new ≡ with_place self.old place) }
-        ensures frame { OnOk result (IfSome (wanted (frame_of self.old)) (λ a. frame_of self.new ≡ accepting (frame_of self.old) (class a.name place))) }
+        ensures frame { OnOk result (IfSome (wanted (frame_of self.old)) (λ a. frame_of self.new
+            ≡ accepting (frame_of self.old) (class a.name place))) }
         ensures unchanged { IfErr result (λ e. self.new ≡ self.old) }
     {
         self.places.push(place)?;

@@ -93,7 +93,12 @@ fn accept_last<T: Told>(frames: &mut Frames<T>, place: LoaderId) -> Result<Optio
 impl<T: Told> Path<T> {
     /// A path on which no class is derived yet: this loader is asked for this name. It takes no memory.
     pub fn new(alloc: Global, config: Arc<Config>, loader: LoaderId, name: Name) -> Path<T>
-        ensures { result ≡ record { config = config.value; loader = loader; name = name; frames = [] } }
+        ensures { result ≡ record {
+          config = config.value;
+          loader = loader;
+          name = name;
+          frames = [];
+        } }
     {
         let frames = IndexMap::with_hasher(alloc, config.seed());
         Path {
@@ -189,7 +194,8 @@ impl<T: Told> Path<T> {
     /// What is wrong with a recorded class as the supertype that is looked for, if anything is; a request's own class fits
     /// always (JVMS SE 8, 5.3.5, steps 3 and 4).
     pub fn misfit(&self, row: &ClassRow<T>) -> Option<ErrorKind>
-        ensures { option_map (λ kind. error_of kind row.now.class) result ≡ misfit_under self.now.frames row.now.class (file_of row.now.file) }
+        ensures { option_map (λ kind. error_of kind row.now.class) result
+            ≡ misfit_under self.now.frames row.now.class (file_of row.now.file) }
     {
         let (_, frame) = self.frames.last()?;
         let wanted = frame.wanted()?;
@@ -197,12 +203,14 @@ impl<T: Told> Path<T> {
     }
 
     /// The last class accepts the supertype that is looked for, as it is recorded. Where that was the last one, the class is
-    /// derived no longer and comes back.
-    pub fn accept(&mut self, row: &ClassRow<T>) -> Result<Option<Draft<T>>, AllocError>
+    /// derived no longer, and its frame comes back with all its supertypes.
+    pub fn accept(&mut self, row: &ClassRow<T>) -> Result<Option<Frame<T>>, AllocError>
         requires waits { self.old.frames ≢ [] }
         requires name { row.now.class.name ≡ at_name self.old }
         requires fits { misfit_under self.old.frames row.now.class (file_of row.now.file) ≡ None }
-        ensures accepted { IfOk result (λ o. MatchOption o (Accepts self.old self.new row.now.class.loader) (λ d. Completes self.old self.new row.now.class.loader d)) }
+        ensures accepted { IfOk result
+            (λ o. MatchOption o (Accepts self.old self.new row.now.class.loader)
+            (λ x. Completes self.old self.new row.now.class.loader x)) }
         ensures unchanged { IfErr result (λ e. self.new ≡ self.old) }
     {
         match accept_last(&mut self.frames, row.class().loader)? {
@@ -213,7 +221,7 @@ impl<T: Told> Path<T> {
             None => match self.frames.pop() {
                 Some((class, frame)) => {
                     self.at = class.name;
-                    Ok(Some(frame.into_draft()))
+                    Ok(Some(frame))
                 }
                 None => unreachable!(),
             },

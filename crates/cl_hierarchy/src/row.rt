@@ -1,11 +1,14 @@
 //! Classes as they are recorded.
 
-ghost use Rattle.std.specs.Prelude.{◌≡◌, length, IfOk};
+ghost use Rattle.std.specs.Prelude.{◌≡◌, length, slice_get, IfOk};
+ghost use Rattle.std.specs.Option.{option_map};
 ghost use Rattle.cl_classfile.specs.Files.{file_of};
 ghost use Rattle.cl_model.specs.Classes.{supers};
 ghost use Rattle.cl_hierarchy.specs.Drafts.{IsSpelt};
+ghost use Rattle.cl_hierarchy.specs.Supertypes.{plain_supertype};
 
 use crate::draft::Draft;
+use crate::supertype::{Supertype, supertype_of};
 use cl_classfile::ClassFile;
 use cl_model::{Class, LoaderId, Told};
 use std::alloc::{AllocError, Global};
@@ -45,7 +48,11 @@ impl<T: Told> ClassRow<T> {
         places: Vec<LoaderId>,
     ) -> Result<ClassRow<T>, AllocError>
         requires { length places.items ≡ length (supers (file_of draft.now.file)) }
-        ensures { IfOk result (λ r. r ≡ record { class = draft.now.class; file = draft.now.file; places = places.items }) }
+        ensures { IfOk result (λ r. r ≡ record {
+          class = draft.now.class;
+          file = draft.now.file;
+          places = places.items;
+        }) }
     {
         // brings that the class is spelt by its file
         let _ = draft.home();
@@ -73,6 +80,15 @@ impl<T: Told> ClassRow<T> {
         ensures spelt { IsSpelt T.told self.now.class self.now.file }
     {
         &self.file
+    }
+
+    /// The direct supertype at a place, counted from 0: the superclass, where there is one, and then the superinterfaces in
+    /// order (JVMS SE 8, 5.3.5, steps 3 and 4).
+    pub fn supertype(&self, place: usize) -> Option<Supertype<'_>>
+        ensures { option_map plain_supertype result ≡ slice_get (supers (file_of self.now.file))
+            place }
+    {
+        supertype_of(&self.file, place)
     }
 
     /// Which loaders defined its direct supertypes, in order.

@@ -40,7 +40,8 @@ pub(crate) fn supertype_of(file: &ClassFile, place: usize) -> Option<Supertype<'
 
 /// The direct superinterface at a place, counted from 0.
 fn superinterface_of(file: &ClassFile, place: usize) -> Option<Supertype<'_>>
-    ensures { option_map plain_supertype result ≡ slice_get (superinterfaces_of (file_of file.now)) place }
+    ensures { option_map plain_supertype result ≡ slice_get (superinterfaces_of (file_of file.now))
+        place }
 {
     let name = file.interface_name(place)?;
     Some(Supertype {

@@ -57,9 +57,14 @@ impl<'a> Iterator for Lines<'a> {
     ghost remaining = { item_count (λ s. numbered_from s.number (lines_of s.text)) };
 
     fn next(&mut self) -> Option<Line<'a>>
-        ensures steps { YieldsFirstBy (λ l. record { number = l.number; text = l.text.now }) (λ s. numbered_from s.number (lines_of s.text)) self.old result self.new }
-        ensures goes { MakesProgress (λ _. ⊤) (item_count (λ s. numbered_from s.number (lines_of s.text))) self.old result self.new }
-        ensures cut { IfSome result (λ l. CutsLine self.old (record { number = l.number; text = l.text.now }) self.new) }
+        ensures steps { YieldsFirstBy (λ l. record { number = l.number; text = l.text.now })
+            (λ s. numbered_from s.number (lines_of s.text)) self.old result self.new }
+        ensures goes { MakesProgress (λ _. ⊤)
+            (item_count (λ s. numbered_from s.number (lines_of s.text))) self.old result self.new }
+        ensures cut { IfSome result (λ l. CutsLine self.old (record {
+          number = l.number;
+          text = l.text.now;
+        }) self.new) }
         ensures end { IfNone result (self.old.text ≡ []) }
     {
         if self.rest.is_empty() {

@@ -14,7 +14,21 @@ use Rattle.cl_model.proofs.Obstacles.{load_err}
 use Rattle.cl_model.proofs.Circles.{load_ill, circle_returns, return_is_derived}
 use Rattle.cl_model.proofs.Planned.{one_plan}
 use Rattle.cl_model.proofs.Looks.{planned_at}
-use Rattle.cl_model.proofs.Stops.{stopped_plan, stops}
+use Rattle.cl_model.proofs.Bind.{err_same}
+
+-- the plan of a load that ends in an error
+abbrev stopped_plan : Made Kin → Error → Plan
+stopped_plan m e = record { own = m.needs; more = []; asked = m.asked; reached = None; ends = Wrong e }
+
+stops : (w : World) (n l : ℕ) (name : Name) (m : Made Kin) (e : Error) → m.ends ≡ Err e → plan_from w n (Load l name) m ≡ Some (stopped_plan m e)
+stops w n l name m e h = at m.ends h
+  where
+    at : (r : Result Kin Error) → r ≡ Err e → (elim r as (λ x. Option Plan) [
+      | Err d ↦ Some (stopped_plan m d)
+      | Ok x ↦ Some (record { own = m.needs; more = []; asked = m.asked ++ []; reached = Some x.class; ends = IsClass x.class })
+    ]) ≡ Some (stopped_plan m e)
+    at (Err d) h = ap (λ (z : Error). Some (stopped_plan m z)) (err_same {A = Kin} d e (Err d) refl h)
+    at (Ok x) h = absurd cc
 
 -- an answer is the end of the plan, or a need that is refused
 end_or_refused : (s : State) (ns : List Need) (ends v : Verdict) → Answers s ns ends v → (v ≡ ends) ⊎ ((n : Need) × (v ≡ Linkage n))

@@ -1,10 +1,9 @@
 -- What is left of a load falls with each frame that is pushed, goes on or ends.
-use Rattle.std.proofs.Common.{◌≡◌, ℕ, zero, suc, ◌+◌, ◌-◌, ◌*◌, ◌<◌, ◌≤◌, List, [], ◌∷◌, ◌++◌, length, Some, None, ap, subst, slice_get, arith, length-append}
+use Rattle.std.proofs.Common.{append-nil, ◌≡◌, ℕ, zero, suc, ◌+◌, ◌-◌, ◌*◌, ◌<◌, ◌≤◌, List, [], ◌∷◌, ◌++◌, length, Some, None, ap, subst, slice_get, arith, length-append}
 use Rattle.std.proofs.Math.Nat.{mul-le-mul_left, mul-le-mul_right}
 use Rattle.std.proofs.lemmas.Option.{slice_get_within}
 use Rattle.cl_model.specs.declared.class.Class.{Class}
 use Rattle.cl_model.specs.Classes.{Above, supers}
-use Rattle.cl_model.proofs.Ascents.{append_nil}
 use Rattle.cl_model.specs.Frames.{Frame, wanted, accepting}
 use Rattle.cl_model.specs.Measures.{whole, behind, left, left_loading, left_ended}
 
@@ -18,7 +17,7 @@ left_less most f g (x ∷ xs) ys zs (suc room) h k = add_less (suc (behind x * w
     add_less a b c h = omega arith
 
 nothing_more : (most : ℕ) (g : ℕ → ℕ) (room : ℕ) (xs : List Frame) → left most g room (xs ++ []) ≡ left most g room xs
-nothing_more most g room xs = ap (λ (l : List Frame). left most g room l) (append_nil xs)
+nothing_more most g room xs = ap (λ (l : List Frame). left most g room l) (append-nil xs)
 
 -- of two lists that go on alike the longer one is less
 less_than : (most : ℕ) (f g : ℕ → ℕ) (xs ys : List Frame) (room : ℕ) → length xs ≤ room → ((r : ℕ) → length xs + r ≡ room → left most f r ys < g r) → left most f room (xs ++ ys) < left most g room xs

@@ -282,25 +282,25 @@ come_to_ends g s r v e c a =
 pub settle_next : (g : Setting) (s : State) (loader : ℕ) (name : Name) (i : ℕ) (p : Plan) (d : Class) (v : Verdict) → IsPlan g.world (Resolve loader name i) p → p.reached ≡ Some d → AllMet s p.own → MaySettle g s d i v → IsNextStep g s (Resolve loader name i) (Settle d i v)
 settle_next g s loader name i p d v is reach met may = record { plan = p; wants = to_stand (needs_of p); wanted = resolve_wants loader name i g.world p is; next = inr (d, reach, met, (v, may, refl)) }
 
-first_right : (s : State) (xs ys : List Want) (x : Want) → FulfilsAll s xs → IsFirst s ys x → IsFirst s (xs ++ ys) x
+pub first_right : (s : State) (xs ys : List Want) (x : Want) → FulfilsAll s xs → IsFirst s ys x → IsFirst s (xs ++ ys) x
 first_right s [] ys x all h = h
 first_right s (z ∷ xs) ys x all h = inr (all.0, first_right s xs ys x all.1 h)
 
-first_left : (s : State) (xs ys : List Want) (x : Want) → IsFirst s xs x → IsFirst s (xs ++ ys) x
+pub first_left : (s : State) (xs ys : List Want) (x : Want) → IsFirst s xs x → IsFirst s (xs ++ ys) x
 first_left s [] ys x h = absurd h
 first_left s (z ∷ xs) ys x (inl e) = inl e
 first_left s (z ∷ xs) ys x (inr h) = inr (h.0, first_left s xs ys x h.1)
 
-fulfilled_of : (s : State) (ns : List Need) → AllMet s ns → FulfilsAll s (to_stand ns)
+pub fulfilled_of : (s : State) (ns : List Need) → AllMet s ns → FulfilsAll s (to_stand ns)
 fulfilled_of s [] h = tt
 fulfilled_of s (n ∷ ns) h = (h.0, fulfilled_of s ns h.1)
 
-linked_of : (s : State) (ns : List Need) (c : Class) → AllMet s ns → Contains s.prepared c → FulfilsAll s (to_stand ns ++ ToPrepare c ∷ [])
+pub linked_of : (s : State) (ns : List Need) (c : Class) → AllMet s ns → Contains s.prepared c → FulfilsAll s (to_stand ns ++ ToPrepare c ∷ [])
 linked_of s [] c h k = (k, tt)
 linked_of s (n ∷ ns) c h k = (h.0, linked_of s ns c h.1 k)
 
 -- where what stands before a class in a lineage is linked, what links that class comes first
-links_first : (s : State) (before behind : List Kin) (k : Kin) (x : Want) → AllByRecursion (IsLinkedIn s) before → IsFirst s (to_link k) x → IsFirst s (flat_map to_link (before ++ k ∷ behind)) x
+pub links_first : (s : State) (before behind : List Kin) (k : Kin) (x : Want) → AllByRecursion (IsLinkedIn s) before → IsFirst s (to_link k) x → IsFirst s (flat_map to_link (before ++ k ∷ behind)) x
 links_first s [] behind k x all h = first_left s (to_link k) (flat_map to_link behind) x h
 links_first s (b ∷ before) behind k x all h = first_right s (to_link b) (flat_map to_link (before ++ k ∷ behind)) x (linked_of s (constraints_of b) b.class all.0.imposed all.0.prepared) (links_first s before behind k x all.1 h)
 

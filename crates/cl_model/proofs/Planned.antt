@@ -131,7 +131,7 @@ class_done : (w : World) (d : Kin) (name : Name) → Done (resolve_class w (enou
 class_done w d name = done_then (load w (enough w) NoClassDef d.class.loader name) (accessible d) (enough_done w NoClassDef d.class.loader name) (λ k x.
     done_then (unless_wrong (if class_accessible k.file.flags k.class d.class then None else Some (IllegalAccess k.class))) (λ (b : Unit {0}). done k) (unless_done _) (λ b y. now _))
 
-to_class_done : (w : World) (d : Kin) (t : FieldType) (l : List Name) → Done (to_class w (enough w) d t l)
+pub to_class_done : (w : World) (d : Kin) (t : FieldType) (l : List Name) → Done (to_class w (enough w) d t l)
 to_class_done w d t [] = now _
 to_class_done w d t (name ∷ more) = done_then (resolve_class w (enough w) d name) (class_found t) (class_done w d name) (λ k x. now _)
 
@@ -145,7 +145,7 @@ found_done d c owner found key v = done_then (unless_wrong (if member_accessible
 abbrev pub field_found : Kin → Key → Kin → Kin → Work Verdict
 field_found d key c owner = resolve_found d c owner (field_of owner key) key (IsField owner.class key)
 
-field_done : (d : Kin) (key : Key) (c : Kin) → Done (resolve_field d key c)
+pub field_done : (d : Kin) (key : Key) (c : Kin) → Done (resolve_field d key c)
 field_done d key c = done_then (or_fail (NoSuchField c.class) (lookup_field c key)) (field_found d key c) (or_fail_done (NoSuchField c.class) (lookup_field c key)) (λ owner x. found_done d c owner (field_of owner key) key (IsField owner.class key))
 
 abbrev pub method_found : Kin → Key → Kin → Kin → Work Verdict
@@ -162,7 +162,7 @@ wrong_kind b c =
     if b then (if is_interface c.file then None else Some (IncompatibleClassChange c.class))
     else (if is_interface c.file then Some (IncompatibleClassChange c.class) else None)
 
-method_done : (b : Bool) (d : Kin) (key : Key) (c : Kin) → Done (resolve_method b d key c)
+pub method_done : (b : Bool) (d : Kin) (key : Key) (c : Kin) → Done (resolve_method b d key c)
 method_done b d key c = done_then (unless_wrong (wrong_kind b c)) (method_sought b d key c) (unless_done (wrong_kind b c)) (λ a x.
     done_then (or_fail (NoSuchMethod c.class) (looked_up b c key)) (method_found d key c) (or_fail_done (NoSuchMethod c.class) (looked_up b c key)) (λ owner y. found_done d c owner (method_of owner key) key (IsMethod owner.class key)))
 

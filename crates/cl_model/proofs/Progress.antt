@@ -183,7 +183,7 @@ whole_load_makes g s P n absent loader name = load_makes g s P (derive g.world n
 
 -- ---- resolutions: their records, since their equalities are next in the whole list
 
-abbrev IsEntry : Need → Type 0
+abbrev pub IsEntry : Need → Type 0
 IsEntry (Entry loader name place) = Unit {0}
 IsEntry (Equal name a b) = ⊥
 
@@ -191,12 +191,12 @@ abbrev pub IsEquality : Need → Type 0
 IsEquality (Entry loader name place) = ⊥
 IsEquality (Equal name a b) = Unit {0}
 
-next_is : (s : State) (Q : Need → Type 0) (ns : List Need) (n : Need) → AllByRecursion Q ns → IsNext s ns n → Q n
+pub next_is : (s : State) (Q : Need → Type 0) (ns : List Need) (n : Need) → AllByRecursion Q ns → IsNext s ns n → Q n
 next_is s Q [] n all h = absurd h
 next_is s Q (x ∷ ns) n all (inl e) = subst (λ (y : Need). Q y) e all.0
 next_is s Q (x ∷ ns) n all (inr h) = next_is s Q ns n all.1 h.1
 
-never_both : (n : Need) → IsEntry n → IsEquality n → ⊥
+pub never_both : (n : Need) → IsEntry n → IsEquality n → ⊥
 never_both (Entry loader name place) e q = q
 never_both (Equal name a b) e q = e
 

@@ -126,10 +126,10 @@ end_or_refused s (n ∷ ns) ends v (inr h) = inr (n, h.1)
 end_or_refused s (n ∷ ns) ends v (inl h) = elim (end_or_refused s ns ends v h.1) [ inl k ↦ inl (k.0, (h.0, k.1)) | inr k ↦ inr k ]
 
 -- a plan reaches a class and ends so for it, or ends in an error
-abbrev EndsFor : (Class → Verdict) → Plan → Type 0
+abbrev pub EndsFor : (Class → Verdict) → Plan → Type 0
 EndsFor f p = ((d : Class) × (p.reached ≡ Some d) × (p.ends ≡ f d)) ⊎ ((e : Error) × (p.ends ≡ Wrong e))
 
-ends_for : (w : World) (q : Request) (p : Plan) (f : Class → Verdict) → ((n : ℕ) (k : Kin) (r : Made Verdict) → go_on_with w n q k ≡ Some r → r.ends ≡ Ok (f k.class)) → IsPlan w q p → EndsFor f p
+pub ends_for : (w : World) (q : Request) (p : Plan) (f : Class → Verdict) → ((n : ℕ) (k : Kin) (r : Made Verdict) → go_on_with w n q k ≡ Some r → r.ends ≡ Ok (f k.class)) → IsPlan w q p → EndsFor f p
 ends_for w q p f goes is =
     let n = is.height in
     let l = then_some (plan_from w n q) (load w n ClassNotFound (loaded_by q).loader (loaded_by q).name) p is.planned in
@@ -145,7 +145,7 @@ ends_for w q p f goes is =
         inl (k.class, ap (λ (y : Plan). y.reached) (sym on.2), ap (λ (y : Plan). y.ends) (sym on.2) ∙ ap (λ (r : Result Verdict Error). ending r) (goes is.height k on.0 on.1))
 
 -- what is answered for a class is recorded, and that class
-answered_records : (w : World) (s : State) (q : Request) (p : Plan) (f : Class → Verdict) (v : Verdict) (c : Class) → ((n : Need) → Linkage n ≡ f c → ⊥) → ((e : Error) → Wrong e ≡ f c → ⊥) → ((d : Class) → f d ≡ f c → d ≡ c) → IsPlan w q p → EndsFor f p
+pub answered_records : (w : World) (s : State) (q : Request) (p : Plan) (f : Class → Verdict) (v : Verdict) (c : Class) → ((n : Need) → Linkage n ≡ f c → ⊥) → ((e : Error) → Wrong e ≡ f c → ⊥) → ((d : Class) → f d ≡ f c → d ≡ c) → IsPlan w q p → EndsFor f p
     → Answers s (needs_of p) p.ends v → v ≡ f c → Records s (loaded_by q).loader (loaded_by q).name c
 answered_records w s q p f v c refused wrong one is ends h e = elim (end_or_refused s (needs_of p) p.ends v h) [
   | inr k ↦ absurd (refused k.0 (sym k.1 ∙ e))
@@ -157,22 +157,22 @@ answered_records w s q p f v c refused wrong one is ends h e = elim (end_or_refu
 
 -- ---- a run can be trusted
 
-refused_no_class : (c : Class) (n : Need) → Linkage n ≡ IsClass c → ⊥
+pub refused_no_class : (c : Class) (n : Need) → Linkage n ≡ IsClass c → ⊥
 refused_no_class c n h = cc
 
-wrong_no_class : (c : Class) (e : Error) → Wrong e ≡ IsClass c → ⊥
+pub wrong_no_class : (c : Class) (e : Error) → Wrong e ≡ IsClass c → ⊥
 wrong_no_class c e h = cc
 
-one_class : (c d : Class) → IsClass d ≡ IsClass c → d ≡ c
+pub one_class : (c d : Class) → IsClass d ≡ IsClass c → d ≡ c
 one_class c d h = cc
 
-refused_not_linked : (c : Class) (n : Need) → Linkage n ≡ IsLinked c → ⊥
+pub refused_not_linked : (c : Class) (n : Need) → Linkage n ≡ IsLinked c → ⊥
 refused_not_linked c n h = cc
 
-wrong_not_linked : (c : Class) (e : Error) → Wrong e ≡ IsLinked c → ⊥
+pub wrong_not_linked : (c : Class) (e : Error) → Wrong e ≡ IsLinked c → ⊥
 wrong_not_linked c e h = cc
 
-one_linked : (c d : Class) → IsLinked d ≡ IsLinked c → d ≡ c
+pub one_linked : (c d : Class) → IsLinked d ≡ IsLinked c → d ≡ c
 one_linked c d h = cc
 
 -- what a settled reference would hold, or a verdict that is none

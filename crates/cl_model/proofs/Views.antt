@@ -26,6 +26,9 @@ steps_then given (e ∷ es) fs = ap (λ (x : List Step). step_of given e ∷ x) 
 other_step : (given more : List (Option Answer)) (q : ℕ) → ((p : ℕ) → p ≢ q → answer_at more p ≡ answer_at given p) → (e : events.Event) → IsOther q e → step_of more e ≡ step_of given e
 other_step given more q h (events.TheVariants.Define c) o = refl
 other_step given more q h (events.TheVariants.Initiate c loader) o = refl
+other_step given more q h (events.TheVariants.Constrain e) o = refl
+other_step given more q h (events.TheVariants.Settle s) o = refl
+other_step given more q h (events.TheVariants.Prepare c) o = refl
 other_step given more q h events.TheVariants.NextRound o = refl
 other_step given more q h (events.TheVariants.Post p) o = ap (λ (x : Option Answer). post_of p x) (h p o)
 

@@ -1,29 +1,25 @@
 -- Laws of the definitions (JVMS SE 8, 5.3 to 5.4.5): each is the contract of a function without a body.
-use Rattle.std.specs.Prelude.{◌≡◌, ℕ, suc, ◌+◌, true, false, List, [], ◌∷◌, ◌++◌, length, Some, None, Ok, Err, ◌⊎◌, ◌↔◌, Contains, Option, slice_get, ◌≢◌, ◌≤◌, find}
-use Rattle.cl_classfile.specs.Files.{Name, File, Key, same_key}
+use Rattle.std.specs.Prelude.{IsSome, ◌≡◌, ℕ, suc, ◌+◌, true, List, [], ◌∷◌, ◌++◌, length, Some, None, Ok, Err, ◌⊎◌, ◌↔◌, Contains, Option, slice_get, ◌≢◌, ◌≤◌, find}
+use Rattle.cl_classfile.specs.Files.{Name, File, Key, same_key, field_of, method_of}
 use Rattle.cl_model.specs.Homes.{World, home, is_loader}
 use Rattle.cl_model.specs.Probes.{probes, has_own, EachOnce}
 use Rattle.cl_model.specs.declared.class.Class.{Class}
 use Rattle.cl_model.specs.Preparation.{constraints_of}
-use Rattle.cl_model.specs.Classes.{class, is_among, Above, AtHome, supers, Error, ClassCircularity, file_of, HasFile, IsAtHome, Good, IsGood, Fails, Circular, Next, Returns}
+use Rattle.cl_model.specs.Classes.{class, is_among, Above, AtHome, supers, Error, ClassCircularity, HasFile, IsAtHome, Good, IsGood, Fails, Circular, Next, Returns}
 use Rattle.cl_model.specs.Lineages.{Kin, IsLineage, classes, lineage}
 use Rattle.cl_model.specs.Ancestors.{EachClassOnce, SupersFirst}
 use Rattle.cl_model.specs.Works.{Made}
 use Rattle.cl_model.specs.Plans.{derive, load, Load, Request, Plan, Resolve, Link, loaded_by, needs_of, cost}
 use Rattle.cl_model.specs.States.{State, start, Entry, IsClass, Answer, settled_to, answer_to, IsFresh, Clashes, added, Need, Verdict, recorded, Violated, Met, AllMet, IsRecorded, IsLinked, BadEntry, ArrayMember, MayAdd, Said, Wrong, Linkage, IsNext}
-use Rattle.cl_model.specs.Ascents.{ReadsPlain, Waiting, first_or, stands_in, IsAscent, NoneWaitsTwice, absent_of, EndsAtOnce}
 use Rattle.cl_model.specs.Progress.{Takes}
 use Rattle.cl_model.specs.Service.{IsNextNeed, IsNextStep, ComesTo, MayEnd, IsBegun, Serves, PassesRounds, AllServed, IsLinkedIn}
-use Rattle.cl_model.specs.Machine.{Setting, Scheduled, Step, Post, Settle, Prepare, May, state_after, Run, Answers, IsClosed, IsSound, after, AnswersPlan, AnswersReference, MaySay, IsPlan, HasLineage, IsResolution, Define, step_for, MaySettle, MayGoOn}
+use Rattle.cl_model.specs.Machine.{Setting, Scheduled, Step, Post, Settle, Prepare, May, state_after, Run, Answers, IsClosed, IsSound, after, AnswersPlan, AnswersReference, MaySay, IsPlan, HasLineage, IsResolution, step_for, MaySettle, MayGoOn}
 use Rattle.std.specs.List.{AllByRecursion}
 use Rattle.cl_model.specs.Content.{content_at}
 use Rattle.cl_model.specs.declared.event.Event as events
-use Rattle.cl_model.specs.declared.verdict.Verdict as verdicts
-use Rattle.cl_model.specs.declared.answer.Answer as answers
-use Rattle.cl_model.specs.Views.{answer_at, steps_of, IsOther, verdict_of, answer_of, step_of}
-use Rattle.cl_model.specs.Texts as texts
-use Rattle.cl_model.specs.Lines as lines
-use Rattle.cl_model.specs.Tables.{Records, Allows, Orderly, IsTrusted, IsConsistent, Stands}
+use Rattle.cl_model.specs.Keys.{descriptor_of, key_of}
+use Rattle.cl_model.specs.Views.{answer_at, steps_of, IsOther}
+use Rattle.cl_model.specs.Tables.{Records}
 
 -- a home is its own home (5.3.1, 5.3.2)
 abbrev pub HomeOfHome : Type 0
@@ -331,30 +327,6 @@ ServicesGoOn =
 abbrev pub NoRoundLeft : Type 0
 NoRoundLeft = (g : Setting) (q : ℕ) (s : State) (rs : List Scheduled) (es : List Step) → AllServed g q s rs es → MayGoOn g (state_after s es) → ⊥
 
--- where a superclass is recorded, the record of the class that waits for it is the need that comes next (5.3.5, step 3)
-abbrev pub WaitingIsNext : Type 0
-WaitingIsNext = (w : World) (s : State) (l : ℕ) (xs : List Waiting) (x : Waiting) (at : Name) → ReadsPlain w → IsClosed w s → IsRecorded s (class at l) → IsAscent w l (xs ++ x ∷ []) at → IsNextNeed w s (Load l (first_or xs x.name)) (Entry l x.name l)
-
--- where what is looked for has no superclass, its own record is the need that comes next (5.3.5, step 3)
-abbrev pub RootIsNext : Type 0
-RootIsNext = (w : World) (s : State) (l : ℕ) (xs : List Waiting) (at : Name) (f : File) → ReadsPlain w → IsAscent w l xs at → HasFile w (class at l) f → f.super_name ≡ None → IsNextNeed w s (Load l (first_or xs at)) (Entry l at l)
-
--- where what is looked for has no home, the load ends at once: the request's own class is not found, another not defined (5.3.1, 5.3.5)
-abbrev pub MissingStops : Type 0
-MissingStops = (w : World) (l : ℕ) (xs : List Waiting) (at : Name) → IsAscent w l xs at → NoneWaitsTwice xs → home w l at ≡ None → EndsAtOnce w (Load l (first_or xs at)) (Wrong (absent_of xs (class at l)))
-
--- where the bytes of what is looked for are not its class, the load ends at once in what is wrong with them (5.3.5, step 2)
-abbrev pub FaultyStops : Type 0
-FaultyStops = (w : World) (l : ℕ) (xs : List Waiting) (at : Name) (e : Error) → IsAscent w l xs at → NoneWaitsTwice xs → stands_in xs at ≡ false → home w l at ≡ Some l → file_of w (class at l) ≡ Err e → EndsAtOnce w (Load l (first_or xs at)) (Wrong e)
-
--- where what is looked for waits already, the load ends at once in the circle, with it as its subject (5.3.5, step 3)
-abbrev pub CircleStops : Type 0
-CircleStops = (w : World) (l : ℕ) (xs : List Waiting) (at : Name) → IsAscent w l xs at → NoneWaitsTwice xs → stands_in xs at ≡ true → EndsAtOnce w (Load l (first_or xs at)) (Wrong (ClassCircularity (class at l)))
-
--- a request whose plan ends at once is answered so in every state (5.3.5)
-abbrev pub AnswersAtOnce : Type 0
-AnswersAtOnce = (g : Setting) (s : State) (r : Request) (v : Verdict) → EndsAtOnce g.world r v → AnswersPlan g s r v
-
 -- a load is answered a circle only where its home is circular, of the class that its walk meets again (5.3.5, step 3)
 abbrev pub CircleIsAnswered : Type 0
 CircleIsAnswered = (g : Setting) (s : State) (l : ℕ) (name : Name) (x : Class) → AnswersPlan g s (Load l name) (Wrong (ClassCircularity x)) → (place : ℕ) × (home g.world l name ≡ Some place) × Returns g.world [] (class name place) x
@@ -461,18 +433,10 @@ StepAdds = (s : State) (n : Need) → after s (step_for n) ≡ added s n
 abbrev pub SameKey : Type 0
 SameKey = (a b : Key) → (same_key a b ≡ true) ↔ (a ≡ b)
 
--- a class is printed as in the lines of the machine (5.3)
-abbrev pub ClassTexts : Type 0
-ClassTexts = (loaders : List (List ℕ)) (c : Class) → texts.class_text loaders c ≡ lines.class_text loaders c
+-- the key of a field's name and descriptor is that of their texts (4.5)
+abbrev pub FieldKey : Type 0
+FieldKey = (name descriptor : Name) (k : Key) → field_of name descriptor ≡ Some k → IsSome (descriptor_of descriptor) × (key_of name descriptor ≡ k)
 
--- a verdict of today is printed as that of the machine (own choice)
-abbrev pub VerdictTexts : Type 0
-VerdictTexts = (loaders : List (List ℕ)) (v : verdicts.Verdict) → texts.verdict_text loaders v ≡ lines.verdict_text loaders (verdict_of v)
-
--- an answer of today is printed as that of the machine (own choice)
-abbrev pub AnswerTexts : Type 0
-AnswerTexts = (loaders : List (List ℕ)) (a : answers.Answer) → texts.answer_text loaders a ≡ lines.answer_text loaders (answer_of a)
-
--- an event of today is printed as the step that it tells (own choice)
-abbrev pub EventTexts : Type 0
-EventTexts = (loaders : List (List ℕ)) (given : List (Option Answer)) (e : events.Event) → texts.event_text loaders e ≡ lines.line loaders (step_of given e)
+-- and so of a method's: no text is the descriptor of both (4.6)
+abbrev pub MethodKey : Type 0
+MethodKey = (name descriptor : Name) (k : Key) → method_of name descriptor ≡ Some k → IsSome (descriptor_of descriptor) × (key_of name descriptor ≡ k)

@@ -1,28 +1,11 @@
 -- Laws of trusted tables, under any source (JVMS SE 8, 5.3 to 5.4.3): each is the contract of a function without a body.
-use Rattle.std.specs.Prelude.{◌≡◌, ℕ, suc, ◌+◌, true, false, List, [], ◌∷◌, ◌++◌, length, Some, None, Ok, Err, ◌⊎◌, ◌↔◌, Contains, Option, slice_get, ◌≢◌, ◌≤◌, find}
-use Rattle.cl_classfile.specs.Files.{Name, File, Key, same_key}
-use Rattle.cl_model.specs.Homes.{World, home, is_loader}
-use Rattle.cl_model.specs.Probes.{probes, has_own, EachOnce}
+use Rattle.std.specs.Prelude.{◌≡◌, ℕ, ◌+◌, List, [], ◌∷◌, ◌++◌, Some, ◌⊎◌, Contains, slice_get, ◌≢◌}
+use Rattle.cl_classfile.specs.Files.{Name}
 use Rattle.cl_model.specs.declared.class.Class.{Class}
-use Rattle.cl_model.specs.Preparation.{constraints_of}
-use Rattle.cl_model.specs.Classes.{class, is_among, Above, AtHome, supers, Error, ClassCircularity, file_of, HasFile, IsAtHome, Good, IsGood, Fails, Circular, Next, Returns}
-use Rattle.cl_model.specs.Lineages.{Kin, IsLineage, classes, lineage}
-use Rattle.cl_model.specs.Ancestors.{EachClassOnce, SupersFirst}
-use Rattle.cl_model.specs.Works.{Made}
-use Rattle.cl_model.specs.Plans.{derive, load, Load, Request, Plan, Resolve, Link, loaded_by, needs_of, cost}
-use Rattle.cl_model.specs.States.{State, start, Entry, IsClass, Answer, settled_to, answer_to, IsFresh, Clashes, added, Need, Verdict, recorded, Violated, Met, AllMet, IsRecorded, IsLinked, BadEntry, ArrayMember, MayAdd, Said, Wrong, Linkage, IsNext}
-use Rattle.cl_model.specs.Ascents.{ReadsPlain, Waiting, first_or, stands_in, IsAscent, NoneWaitsTwice, absent_of, EndsAtOnce}
-use Rattle.cl_model.specs.Progress.{Takes}
-use Rattle.cl_model.specs.Service.{IsNextNeed, IsNextStep, ComesTo, MayEnd, IsBegun, Serves, PassesRounds, AllServed, IsLinkedIn}
-use Rattle.cl_model.specs.Machine.{Setting, Scheduled, Step, Post, Settle, Prepare, May, state_after, Run, Answers, IsClosed, IsSound, after, AnswersPlan, AnswersReference, MaySay, IsPlan, HasLineage, IsResolution, Define, step_for, MaySettle, MayGoOn}
-use Rattle.std.specs.List.{AllByRecursion}
-use Rattle.cl_model.specs.Content.{content_at}
-use Rattle.cl_model.specs.declared.event.Event as events
-use Rattle.cl_model.specs.declared.verdict.Verdict as verdicts
-use Rattle.cl_model.specs.declared.answer.Answer as answers
-use Rattle.cl_model.specs.Views.{answer_at, steps_of, IsOther, verdict_of, answer_of, step_of}
-use Rattle.cl_model.specs.Texts as texts
-use Rattle.cl_model.specs.Lines as lines
+use Rattle.cl_model.specs.Classes.{class}
+use Rattle.cl_model.specs.Plans.{load, Load, Resolve, Link}
+use Rattle.cl_model.specs.States.{State, start, IsClass, Answer, settled_to, Verdict, recorded, IsLinked, BadEntry, ArrayMember, Said}
+use Rattle.cl_model.specs.Machine.{Setting, Scheduled, Step, Post, May, state_after, Run, IsClosed, after, Define}
 use Rattle.cl_model.specs.Tables.{Records, Allows, Orderly, IsTrusted, IsConsistent, Stands}
 
 -- trusted tables are consistent (5.3, 5.3.4)

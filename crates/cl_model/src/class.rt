@@ -1,4 +1,4 @@
-ghost use Rattle.std.specs.Prelude.{◌≡◌, ◌<◌, length, map, string_bytes, IfOk};
+ghost use Rattle.std.specs.Prelude.{◌≡◌, ◌≢◌, ◌<◌, length, map, string_bytes, IfOk, MatchBool};
 
 use crate::loader::{LoaderId, located_text};
 use cl_names::Name;
@@ -12,7 +12,14 @@ pub struct Class {
 }
 
 impl Class {
-    ghost use Rattle.cl_model.specs.Texts.{class_text};
+    ghost use Rattle.cl_model.specs.Lines.{class_text};
+
+    /// Whether the other is the same.
+    pub fn is_same(&self, other: &Class) -> bool
+        ensures { MatchBool result (self.now ≡ other.now) (self.now ≢ other.now) }
+    {
+        self.loader == other.loader && self.name == other.name
+    }
 
     /// A copy.
     pub fn try_clone(&self, alloc: Global) -> Result<Class, AllocError>
@@ -27,7 +34,8 @@ impl Class {
     /// Its text `N@M`: the name in escaped text and the name of its loader.
     pub fn text(&self, alloc: Global, loaders: &[String]) -> Result<String, AllocError>
         requires { self.now.loader < length loaders.now }
-        ensures { IfOk result (λ t. string_bytes t ≡ class_text (map string_bytes loaders.now) self.now) }
+        ensures { IfOk result (λ t. string_bytes t ≡ class_text (map string_bytes loaders.now)
+            self.now) }
     {
         located_text(alloc, loaders, &self.name, self.loader)
     }

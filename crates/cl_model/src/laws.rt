@@ -1,4 +1,4 @@
-ghost use Rattle.cl_model.specs.Laws.{HomeOfHome, HomeIsProbed, ProbedOnce, ProbesAreLoaders, GoodIsNotFailing, RunGoesOn, RecordsStay, MetStays, NeverViolated, OneAnswer, HigherDerives, AnswersStay, DerivedIsGood, RecordedIsMet, RunsAreClosed, GoodIsDerived, ErrorIsFailing, OneError, GoodGrows, FailsGrows, FailingIsDerived, ReturnIsCircular, ReturnGoesOn, CircleReturns, ReturnIsDerived, OneSubject, FailureIsNoCircle, OneDerivation, GoodIsAtHome, ComesOut, CircularReturns, CircularGoesOn, PlanExists, OnePlan, LineageExists, OneLineage, ResolutionExists, OneResolution, DerivedIsLineage, LineageIsDerived, LineageOnce, LineageHas, LineageSupersFirst, LineageRecorded, SettledStay, PreparedStay, PostedStay, RequestAnswerStays, ReferenceAnswerStays, OneRequestAnswer, OneReferenceAnswer, RunsAreSound, StepIsSound, ClashViolates, ViolationClashes, RecordedLoadStands, RecordedAnswers, UnmetIsFresh, ServiceGoesOn, ServiceIsWhole, NextStepMayHappen, BegunIsRun, OneNextStep, ComeToEnds, ServiceWithinCost, LoadNeedIsNext, ResolveNeedIsNext, SettleIsNext, LinkNeedIsNext, PrepareIsNext, LoadComes, ResolutionComes, ServicesGoOn, NoRoundLeft, WaitingIsNext, RootIsNext, MissingStops, FaultyStops, CircleStops, AnswersAtOnce, CircleIsAnswered, CircularIsAnswered, PartBegins, RunThen, RunParts, StateThen, SaidAlike, SaidReference, PlanIsReference, ReferenceIsPlan, RecordedIsReached, ReachedIsRecorded, AnsweredMaySettle, ImposedMayPrepare, SaidIsSettled, LinkedIsPrepared, LineagePrepared, FileIsSpelt, StepsThen, StepsSame, NextMayBeMade, StepAdds, SameKey, ClassTexts, VerdictTexts, AnswerTexts, EventTexts};
+ghost use Rattle.cl_model.specs.Laws.{HomeOfHome, HomeIsProbed, ProbedOnce, ProbesAreLoaders, GoodIsNotFailing, RunGoesOn, RecordsStay, MetStays, NeverViolated, OneAnswer, HigherDerives, AnswersStay, DerivedIsGood, RecordedIsMet, RunsAreClosed, GoodIsDerived, ErrorIsFailing, OneError, GoodGrows, FailsGrows, FailingIsDerived, ReturnIsCircular, ReturnGoesOn, CircleReturns, ReturnIsDerived, OneSubject, FailureIsNoCircle, OneDerivation, GoodIsAtHome, ComesOut, CircularReturns, CircularGoesOn, PlanExists, OnePlan, LineageExists, OneLineage, ResolutionExists, OneResolution, DerivedIsLineage, LineageIsDerived, LineageOnce, LineageHas, LineageSupersFirst, LineageRecorded, SettledStay, PreparedStay, PostedStay, RequestAnswerStays, ReferenceAnswerStays, OneRequestAnswer, OneReferenceAnswer, RunsAreSound, StepIsSound, ClashViolates, ViolationClashes, RecordedLoadStands, RecordedAnswers, UnmetIsFresh, ServiceGoesOn, ServiceIsWhole, NextStepMayHappen, BegunIsRun, OneNextStep, ComeToEnds, ServiceWithinCost, LoadNeedIsNext, ResolveNeedIsNext, SettleIsNext, LinkNeedIsNext, PrepareIsNext, LoadComes, ResolutionComes, ServicesGoOn, NoRoundLeft, CircleIsAnswered, CircularIsAnswered, PartBegins, RunThen, RunParts, StateThen, SaidAlike, SaidReference, PlanIsReference, ReferenceIsPlan, RecordedIsReached, ReachedIsRecorded, AnsweredMaySettle, ImposedMayPrepare, SaidIsSettled, LinkedIsPrepared, LineagePrepared, FileIsSpelt, StepsThen, StepsSame, NextMayBeMade, StepAdds, SameKey, FieldKey, MethodKey};
 
 /// A home is its own home.
 pub fn home_of_home()
@@ -327,36 +327,6 @@ pub fn no_round_left()
     ensures { NoRoundLeft }
 {}
 
-/// Where a superclass is recorded, the record of the class that waits for it is the need that comes next.
-pub fn waiting_is_next()
-    ensures { WaitingIsNext }
-{}
-
-/// Where what is looked for has no superclass, its own record is the need that comes next.
-pub fn root_is_next()
-    ensures { RootIsNext }
-{}
-
-/// Where what is looked for has no home, the load ends at once: the request's own class is not found, another not defined.
-pub fn missing_stops()
-    ensures { MissingStops }
-{}
-
-/// Where the bytes of what is looked for are not its class, the load ends at once in what is wrong with them.
-pub fn faulty_stops()
-    ensures { FaultyStops }
-{}
-
-/// Where what is looked for waits already, the load ends at once in the circle.
-pub fn circle_stops()
-    ensures { CircleStops }
-{}
-
-/// A request whose plan ends at once is answered so in every state.
-pub fn answers_at_once()
-    ensures { AnswersAtOnce }
-{}
-
 /// A load is answered a circle only where its home is circular, of the class that its walk meets again.
 pub fn circle_is_answered()
     ensures { CircleIsAnswered }
@@ -452,10 +422,8 @@ pub fn keys_are_told()
     ensures { SameKey }
 {}
 
-/// What is printed of today's types is what the lines of the machine say.
-pub fn texts_are_lines()
-    ensures class { ClassTexts }
-    ensures verdict { VerdictTexts }
-    ensures answer { AnswerTexts }
-    ensures event { EventTexts }
+/// The key of a member is that of the texts of its name and its descriptor: a field's, and a method's.
+pub fn keys_of_members()
+    ensures field { FieldKey }
+    ensures method { MethodKey }
 {}

@@ -1,5 +1,6 @@
-ghost use Rattle.std.specs.Prelude.{◌≡◌, ◌<◌, [], length, map, slice_index_or, string_bytes, IfOk};
-ghost use Rattle.cl_model.specs.Texts.{located_text};
+ghost use Rattle.std.specs.Prelude.{◌≡◌, ◌<◌, length, map, string_bytes, IfOk};
+ghost use Rattle.cl_model.specs.Classes.{class};
+ghost use Rattle.cl_model.specs.Lines.{class_text, loader_text};
 
 use cl_names::Name;
 use std::alloc::{AllocError, Global};
@@ -27,18 +28,19 @@ pub(crate) fn located_text(
     loader: LoaderId,
 ) -> Result<String, AllocError>
     requires { loader < length loaders.now }
-    ensures { IfOk result (λ t. string_bytes t ≡ located_text (map string_bytes loaders.now) name.now loader) }
+    ensures { IfOk result (λ t. string_bytes t ≡ class_text (map string_bytes loaders.now)
+        (class name.now loader)) }
 {
-    let mut text = name.text(alloc).map_err(|_| AllocError)?;
-    text.push_str("@")?;
-    text.push_str(loader_name(loaders, loader))?;
-    Ok(text)
+    let name = name.text(alloc).map_err(|_| AllocError)?;
+    let loader = loader_name(loaders, loader);
+    format!(in alloc; "{name}@{loader}")
 }
 
 /// The name of a loader.
-fn loader_name<'a>(loaders: &'a [String], loader: LoaderId) -> &'a str
+#[tactic(auto, using(crate::proofs::Texts::name_at))]
+pub(crate) fn loader_name<'a>(loaders: &'a [String], loader: LoaderId) -> &'a str
     requires { loader < length loaders.now }
-    ensures { result.now ≡ slice_index_or (map string_bytes loaders.now) loader [] }
+    ensures { result.now ≡ loader_text (map string_bytes loaders.now) loader }
 {
     loaders[usize::from(loader.0)].as_str()
 }

@@ -1,8 +1,13 @@
-ghost use Rattle.std.specs.Prelude.{◌≡◌, ◌<◌, length, map, string_bytes, IfOk};
+ghost use Rattle.std.specs.Prelude.{◌≡◌, ◌≢◌, ◌∷◌, ◌<◌, [], ℕ, List, length, map, string_bytes, IfOk, MatchBool};
+ghost use Rattle.cl_model.specs.Lines.{class_text, error_texts, verdict_text};
+ghost use Rattle.cl_model.specs.States.{Wrong};
+ghost use Rattle.cl_model.specs.Views.{error_of, verdict_of};
 
 use crate::class::Class;
+use crate::key::MemberKey;
+use crate::need::Need;
+use crate::primitive::Primitive;
 use std::alloc::{AllocError, Global};
-use std::fmt;
 
 /// The errors of loading and linking (JVMS SE 8, 5.3.5 and 5.4.3).
 #[derive(Clone, Copy, Debug, PartialEq, Eq)]
@@ -14,16 +19,17 @@ pub enum ErrorKind {
     ClassCircularityError,
     IllegalAccessError,
     IncompatibleClassChangeError,
+    NoSuchFieldError,
+    NoSuchMethodError,
 }
 
-impl fmt::Display for ErrorKind {
-    ghost use Rattle.std.specs.Prelude.{Some};
-    ghost use Rattle.cl_model.specs.Texts.{kind_text};
-
-    ghost output = { λ kind. Some (kind_text kind) };
-
-    fn fmt<W: fmt::Write>(&self, f: &mut fmt::Formatter<W>) -> fmt::Result {
-        f.write_str(match self {
+impl ErrorKind {
+    /// The error's name, which is printed before its class.
+    pub fn name(&self) -> &'static str
+        ensures { (names : List (List ℕ)) (c : Class) → error_texts names (error_of self.now c)
+            ≡ result.now ∷ class_text names c ∷ [] }
+    {
+        match self {
             ErrorKind::ClassNotFoundException => "ClassNotFoundException",
             ErrorKind::NoClassDefFoundError => "NoClassDefFoundError",
             ErrorKind::ClassFormatError => "ClassFormatError",
@@ -31,36 +37,148 @@ impl fmt::Display for ErrorKind {
             ErrorKind::ClassCircularityError => "ClassCircularityError",
             ErrorKind::IllegalAccessError => "IllegalAccessError",
             ErrorKind::IncompatibleClassChangeError => "IncompatibleClassChangeError",
-        })
+            ErrorKind::NoSuchFieldError => "NoSuchFieldError",
+            ErrorKind::NoSuchMethodError => "NoSuchMethodError",
+        }
     }
 }
 
-/// How a request ends.
+/// How a request ends (JVMS SE 8, 5.3.5, 5.4.2, 5.4.3).
 #[derive(Debug, Drop, PartialEq, Eq)]
 pub enum Verdict {
-    /// The class that was loaded.
+    /// The class that was loaded, or that a reference means.
     Class(Class),
+    /// An array of so many dimensions over a class.
+    Array(u8, Class),
+    /// An array of so many dimensions over a primitive type.
+    PrimitiveArray(u8, Primitive),
+    /// A field, by the class that declares it.
+    Field(Class, MemberKey),
+    /// A method, by the class that declares it.
+    Method(Class, MemberKey),
+    /// A class that was linked: it and all above it are prepared.
+    Linked(Class),
+    /// The entry is no reference to a class or a member, or the constant pool has no such entry.
+    BadEntry,
+    /// A member of an array was asked for.
+    ArrayMember,
     /// An error, with the class that it is about. Of a name that no loader has, the loader is the one that was asked.
     Error(ErrorKind, Class),
+    /// A loading constraint was to be violated: what could not be recorded or imposed (JVMS SE 8, 5.3.4).
+    Linkage(Need),
 }
 
 impl Verdict {
-    ghost use Rattle.cl_model.specs.Texts.{verdict_text, VerdictNames};
+    ghost use Rattle.cl_model.specs.Texts.{VerdictNames};
+
+    /// Whether the other is the same.
+    pub fn is_same(&self, other: &Verdict) -> bool
+        ensures { MatchBool result (self.now ≡ other.now) (self.now ≢ other.now) }
+    {
+        match (self, other) {
+            (Verdict::Class(class), Verdict::Class(c)) => class.is_same(c),
+            (Verdict::Array(dimensions, class), Verdict::Array(d, c)) => {
+                *dimensions == *d && class.is_same(c)
+            }
+            (Verdict::PrimitiveArray(dimensions, base), Verdict::PrimitiveArray(d, b)) => {
+                *dimensions == *d && *base == *b
+            }
+            (Verdict::Field(class, key), Verdict::Field(c, k)) => {
+                class.is_same(c) && key.is_same(k)
+            }
+            (Verdict::Method(class, key), Verdict::Method(c, k)) => {
+                class.is_same(c) && key.is_same(k)
+            }
+            (Verdict::Linked(class), Verdict::Linked(c)) => class.is_same(c),
+            (Verdict::BadEntry, Verdict::BadEntry) => true,
+            (Verdict::ArrayMember, Verdict::ArrayMember) => true,
+            (Verdict::Error(kind, class), Verdict::Error(k, c)) => *kind == *k && class.is_same(c),
+            (Verdict::Linkage(need), Verdict::Linkage(n)) => need.is_same(n),
+            _ => false,
+        }
+    }
+
+    /// A copy.
+    pub fn try_clone(&self, alloc: Global) -> Result<Verdict, AllocError>
+        ensures { IfOk result (λ v. v ≡ self.now) }
+    {
+        Ok(match self {
+            Verdict::Class(class) => Verdict::Class(class.try_clone(alloc)?),
+            Verdict::Array(dimensions, class) => {
+                Verdict::Array(*dimensions, class.try_clone(alloc)?)
+            }
+            Verdict::PrimitiveArray(dimensions, base) => {
+                Verdict::PrimitiveArray(*dimensions, *base)
+            }
+            Verdict::Field(class, key) => {
+                Verdict::Field(class.try_clone(alloc)?, key.try_clone(alloc)?)
+            }
+            Verdict::Method(class, key) => {
+                Verdict::Method(class.try_clone(alloc)?, key.try_clone(alloc)?)
+            }
+            Verdict::Linked(class) => Verdict::Linked(class.try_clone(alloc)?),
+            Verdict::BadEntry => Verdict::BadEntry,
+            Verdict::ArrayMember => Verdict::ArrayMember,
+            Verdict::Error(kind, class) => Verdict::Error(*kind, class.try_clone(alloc)?),
+            Verdict::Linkage(need) => Verdict::Linkage(need.try_clone(alloc)?),
+        })
+    }
 
     /// The text that an answer prints, with each loader by its name.
     pub fn text(&self, alloc: Global, loaders: &[String]) -> Result<String, AllocError>
         requires { VerdictNames (length loaders.now) self.now }
-        ensures { IfOk result (λ t. string_bytes t ≡ verdict_text (map string_bytes loaders.now) self.now) }
+        ensures { IfOk result (λ t. string_bytes t ≡ verdict_text (map string_bytes loaders.now)
+            (verdict_of self.now)) }
     {
         match self {
             Verdict::Class(class) => {
                 let class = class.text(alloc, loaders)?;
                 format!(in alloc; "class {class}")
             }
-            Verdict::Error(kind, subject) => {
-                let subject = subject.text(alloc, loaders)?;
-                format!(in alloc; "{kind} {subject}")
+            Verdict::Array(dimensions, class) => {
+                let class = class.text(alloc, loaders)?;
+                format!(in alloc; "array {dimensions} {class}")
+            }
+            Verdict::PrimitiveArray(dimensions, base) => {
+                format!(in alloc; "array {dimensions} {base}")
+            }
+            Verdict::Field(class, key) => {
+                let class = class.text(alloc, loaders)?;
+                let key = key.text(alloc)?;
+                format!(in alloc; "field {class} {key}")
+            }
+            Verdict::Method(class, key) => {
+                let class = class.text(alloc, loaders)?;
+                let key = key.text(alloc)?;
+                format!(in alloc; "method {class} {key}")
+            }
+            Verdict::Linked(class) => {
+                let class = class.text(alloc, loaders)?;
+                format!(in alloc; "linked {class}")
+            }
+            Verdict::BadEntry => String::from_str(alloc, "BadEntry"),
+            Verdict::ArrayMember => String::from_str(alloc, "ArrayMember"),
+            Verdict::Error(kind, subject) => error_text(alloc, *kind, subject, loaders),
+            Verdict::Linkage(need) => {
+                let need = need.text(alloc, loaders)?;
+                format!(in alloc; "LinkageError {need}")
             }
         }
     }
+}
+
+/// The text of an error about a class.
+fn error_text(
+    alloc: Global,
+    kind: ErrorKind,
+    subject: &Class,
+    loaders: &[String],
+) -> Result<String, AllocError>
+    requires { subject.now.loader < length loaders.now }
+    ensures { IfOk result (λ t. string_bytes t ≡ verdict_text (map string_bytes loaders.now)
+        (Wrong (error_of kind subject.now))) }
+{
+    let name = kind.name();
+    let subject = subject.text(alloc, loaders)?;
+    format!(in alloc; "{name} {subject}")
 }

@@ -185,7 +185,8 @@ impl Name {
 
     /// Whether it is a class's name (JVMS SE 8, 4.2.1).
     pub fn is_class(&self) -> bool
-        ensures kind { MatchBool result (IsNameOf IsClass self.now) (IsNameOf IsClass self.now → ⊥) }
+        ensures kind { MatchBool result (IsNameOf IsClass self.now) (IsNameOf IsClass self.now
+            → ⊥) }
         ensures test { result ≡ is_class_name self.now }
     {
         is_class_name(self.bytes())
@@ -193,7 +194,8 @@ impl Name {
 
     /// Whether it is an unqualified name (JVMS SE 8, 4.2.2).
     pub fn is_unqualified(&self) -> bool
-        ensures kind { MatchBool result (IsNameOf IsUnqualified self.now) (IsNameOf IsUnqualified self.now → ⊥) }
+        ensures kind { MatchBool result (IsNameOf IsUnqualified self.now)
+            (IsNameOf IsUnqualified self.now → ⊥) }
         ensures test { result ≡ is_unqualified_name self.now }
     {
         is_unqualified_name(self.bytes())
@@ -201,7 +203,8 @@ impl Name {
 
     /// Whether it is a method's name (JVMS SE 8, 4.2.2).
     pub fn is_method(&self) -> bool
-        ensures kind { MatchBool result (IsNameOf IsMethod self.now) (IsNameOf IsMethod self.now → ⊥) }
+        ensures kind { MatchBool result (IsNameOf IsMethod self.now) (IsNameOf IsMethod self.now
+            → ⊥) }
         ensures test { result ≡ is_method_name self.now }
     {
         is_method_name(self.bytes())
@@ -210,7 +213,8 @@ impl Name {
     /// The package of a class's name: what stands before the last `/`, nothing where there is none
     /// (JVMS SE 8, 5.3).
     pub fn package(&self) -> &[u8]
-        ensures before { (front last : List ℕ) → self.now ≡ front ++ 47 ∷ last → HasNoSlash last → result.now ≡ front }
+        ensures before { (front last : List ℕ) → self.now ≡ front ++ 47 ∷ last → HasNoSlash last
+            → result.now ≡ front }
         ensures none { HasNoSlash self.now → result.now ≡ [] }
         ensures value { result.now ≡ package_of self.now }
     {
@@ -258,7 +262,8 @@ impl Name {
 /// The class's name that escaped text writes, if it writes one (JVMS SE 8, 4.2.1): what a script or a
 /// bundle calls a class by. A text that writes no name is told without regard to memory.
 pub fn class_name(alloc: Global, text: &str) -> Result<Option<Name>, AllocError>
-    ensures writes { IfOk result (λ found. MatchOption found ((name : List ℕ) → WritesClass text.now name → ⊥) (λ name. WritesClass text.now name)) }
+    ensures writes { IfOk result (λ found. MatchOption found ((name : List ℕ)
+        → WritesClass text.now name → ⊥) (λ name. WritesClass text.now name)) }
     ensures memory { IfErr result (λ _. (name : List ℕ) × WritesName text.now name) }
 {
     let name = match Name::from_text(alloc, text) {

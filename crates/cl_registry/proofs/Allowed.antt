@@ -30,7 +30,7 @@ use Rattle.cl_delegation.specs.Worlds.{world_of, setting_of}
 use Rattle.cl_hierarchy.specs.Drafts.{Drafted, IsDraft}
 use Rattle.cl_registry.specs.Tables.{Shown, steps, state_of, records_of, looked, place_in, FitsAs, IsKept}
 use Rattle.cl_registry.specs.Allowed.{AllowedIsEntered, EnteredIsAllowed, AllowedIsJoined, JoinedIsAllowed, RoundIsAllowed, OtherConfigIsStray}
-use Rattle.cl_registry.proofs.Calm.{calm, none_and_some, may_add}
+use Rattle.cl_registry.proofs.Calm.{none_and_some, may_add}
 use Rattle.cl_registry.proofs.Placed.{HasRow, recorded_row, spelt_file}
 
 pub closed_of : (content : Content) (x : Shown) → IsKept (Some content) x → IsClosed (world_of x.config content) (state_of x)
@@ -165,7 +165,7 @@ entered_is_allowed content x d kept draft may fresh =
     let at = draft_at_home x.config content d draft may.config in
     let all = all_accepted content x d.class (supers (file_of d.file)) kept may.above may.fit in
     may_by (setting_of x.config x.script content) (state_of x) d.class (file_of d.file) (recorded_as x d.class.loader (supers (file_of d.file))) (closed_of content x kept) at
-    (spelt_file x.config content d.class d.file at draft.spelt) all.0 all.1 (past_end (λ (a : Above). class a.name (place_in (records_of x) d.class.loader a)) (supers (file_of d.file))) fresh (calm x)
+    (spelt_file x.config content d.class d.file at draft.spelt) all.0 all.1 (past_end (λ (a : Above). class a.name (place_in (records_of x) d.class.loader a)) (supers (file_of d.file))) fresh kept.calm
 
 -- ---- initiating loaders
 
@@ -175,7 +175,7 @@ joined_is_allowed content x h kept leads may fresh =
       found = subst (λ (c : Configured). home (world_of c content) h.asked h.name ≡ Some h.place) may.config leads;
       not_own = λ e. none_and_some (recorded (records_of x) h.asked h.name) h.place fresh (subst (λ (l : ℕ). recorded (records_of x) l h.name ≡ Some h.place) (sym e) may.defined);
       defined = may.defined;
-      may_add = may_add (state_of x) h.asked h.place h.name (calm x) fresh;
+      may_add = may_add (state_of x) h.asked h.place h.name kept.calm fresh;
     }
 
 pub allowed_is_joined : AllowedIsJoined

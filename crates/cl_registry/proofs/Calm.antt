@@ -10,27 +10,9 @@ use Rattle.cl_model.specs.declared.event.Event.TheVariants as events
 use Rattle.cl_model.specs.States.{State, start, Equality, Posted, Entry, Answer, recorded, answer_to, IsPath, Clashes, MayAdd}
 use Rattle.cl_model.specs.Machine.{Define, Initiate, NextRound, after, state_after}
 use Rattle.cl_model.specs.Views.{answers_of, answer_at, post_of, step_of, steps_of}
-use Rattle.cl_registry.specs.Tables.{Shown, state_of, posts, is_in}
+use Rattle.cl_registry.specs.Tables.{posts, is_in}
 
 -- ---- equalities
-
-post_calm : (s : State) (q : ℕ) (o : Option Answer) → (after s (post_of q o)).equalities ≡ s.equalities
-post_calm s q None = refl
-post_calm s q (Some a) = refl
-
-step_calm : (s : State) (now : List (Option Answer)) (e : Event) → (after s (step_of now e)).equalities ≡ s.equalities
-step_calm s now (events.Define c) = refl
-step_calm s now (events.Initiate c loader) = refl
-step_calm s now events.NextRound = refl
-step_calm s now (events.Post q) = post_calm s q (answer_at now q)
-
-calm_from : (now : List (Option Answer)) (h : List Event) (s : State) → (state_after s (steps_of now h)).equalities ≡ s.equalities
-calm_from now [] s = refl
-calm_from now (e ∷ h) s = calm_from now h (after s (step_of now e)) ∙ step_calm s now e
-
--- a registry imposes no equality
-pub calm : (x : Shown) → (state_of x).equalities ≡ []
-calm x = calm_from (answers_of x.answers) x.history start
 
 no_equality : (e : Equality) → Contains [] e → ⊥
 no_equality e h = absurd (let l : h.0 < 0 = h.1 in omega arith)
@@ -77,6 +59,9 @@ pub unposted_stays : (now : List (Option Answer)) (h : List Event) (s : State) (
 unposted_stays now [] s q out = refl
 unposted_stays now (events.Define c ∷ h) s q out = unposted_stays now h (after s (Define c)) q out
 unposted_stays now (events.Initiate c loader ∷ h) s q out = unposted_stays now h (after s (Initiate c.name c.loader loader)) q out
+unposted_stays now (events.Constrain e ∷ h) s q out = unposted_stays now h (after s (step_of now (events.Constrain e))) q out
+unposted_stays now (events.Settle r ∷ h) s q out = unposted_stays now h (after s (step_of now (events.Settle r))) q out
+unposted_stays now (events.Prepare c ∷ h) s q out = unposted_stays now h (after s (step_of now (events.Prepare c))) q out
 unposted_stays now (events.NextRound ∷ h) s q out = unposted_stays now h (after s NextRound) q out
 unposted_stays now (events.Post p ∷ h) s q out =
     let o = or_of_false (nat_eq q p) (is_in q (posts h)) out in

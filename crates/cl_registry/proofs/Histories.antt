@@ -67,6 +67,9 @@ pub posts_then : (h k : List Event) → posts (h ++ k) ≡ posts h ++ posts k
 posts_then [] k = refl
 posts_then (events.Define d ∷ h) k = posts_then h k
 posts_then (events.Initiate d l ∷ h) k = posts_then h k
+posts_then (events.Constrain e ∷ h) k = posts_then h k
+posts_then (events.Settle r ∷ h) k = posts_then h k
+posts_then (events.Prepare c ∷ h) k = posts_then h k
 posts_then (events.NextRound ∷ h) k = posts_then h k
 posts_then (events.Post p ∷ h) k = ap (◌∷◌ p) (posts_then h k)
 
@@ -74,6 +77,9 @@ pub defined_then : (h k : List Event) → defined (h ++ k) ≡ defined h ++ defi
 defined_then [] k = refl
 defined_then (events.Define d ∷ h) k = ap (◌∷◌ d) (defined_then h k)
 defined_then (events.Initiate d l ∷ h) k = defined_then h k
+defined_then (events.Constrain e ∷ h) k = defined_then h k
+defined_then (events.Settle r ∷ h) k = defined_then h k
+defined_then (events.Prepare c ∷ h) k = defined_then h k
 defined_then (events.NextRound ∷ h) k = defined_then h k
 defined_then (events.Post p ∷ h) k = defined_then h k
 
@@ -147,6 +153,9 @@ steps_set : (old new : List (Option Answer)) (h : List Event) (q : ℕ) → ((p 
 steps_set old new [] q same out = refl
 steps_set old new (events.Define c ∷ h) q same out = ap (λ (es : List Step). step_of old (events.Define c) ∷ es) (steps_set old new h q same out)
 steps_set old new (events.Initiate c l ∷ h) q same out = ap (λ (es : List Step). step_of old (events.Initiate c l) ∷ es) (steps_set old new h q same out)
+steps_set old new (events.Constrain e ∷ h) q same out = ap (λ (es : List Step). step_of old (events.Constrain e) ∷ es) (steps_set old new h q same out)
+steps_set old new (events.Settle r ∷ h) q same out = ap (λ (es : List Step). step_of old (events.Settle r) ∷ es) (steps_set old new h q same out)
+steps_set old new (events.Prepare c ∷ h) q same out = ap (λ (es : List Step). step_of old (events.Prepare c) ∷ es) (steps_set old new h q same out)
 steps_set old new (events.NextRound ∷ h) q same out = ap (λ (es : List Step). step_of old events.NextRound ∷ es) (steps_set old new h q same out)
 steps_set old new (events.Post p ∷ h) q same out =
     let o = or_of_false (nat_eq q p) (is_in q (posts h)) out in

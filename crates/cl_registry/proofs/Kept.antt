@@ -49,8 +49,8 @@ pub kept_event : (told : Option Content) (x : Shown) (rows : List Rowed) (e : Ev
     → ((content : Content) → told ≡ Some content → May (setting_of x.config x.script content) (state_of x) (step_of (answers_of x.answers) e)) → EventNames (length x.config.loaders) e
     → map (λ r. r.class) rows ≡ defined x.history ++ defined (e ∷ []) → All (λ r. IsSpelt told r.class r.file) rows
     → ((q round : ℕ) → slice_get x.script.rounds_of q ≡ Some round → round < round_of (with_event x rows e) → IsSome (answer_at (answers_of x.answers) q))
-    → IsKept told (with_event x rows e)
-kept_event told x rows e k silent allows may names classes spelt earlier = record {
+    → (after (state_of x) (step_of (answers_of x.answers) e)).equalities ≡ (state_of x).equalities → IsKept told (with_event x rows e)
+kept_event told x rows e k silent allows may names classes spelt earlier calm = record {
   trusted = record {
     script = k.trusted.script;
     tables = trusted_more x (with_event x rows e) (step_of (answers_of x.answers) e) refl (steps_event x rows e) k.trusted.tables allows;
@@ -60,6 +60,7 @@ kept_event told x rows e k silent allows may names classes spelt earlier = recor
   };
   named = record { history = names_event (length x.config.loaders) x.history e k.named.history names; answers = k.named.answers };
   run = run_more told x (with_event x rows e) (step_of (answers_of x.answers) e) refl refl (steps_event x rows e) k.run may;
+  calm = ap (λ (s : State). s.equalities) (state_event x rows e) ∙ calm ∙ k.calm;
   rows = classes ∙ sym (defined_then x.history (e ∷ []));
   spelt = spelt;
 }
@@ -108,10 +109,10 @@ state_define x d = state_event x (x.rows ++ row_for x d ∷ []) (events.Define d
 
 kept_by_define : (told : Option Content) (x : Shown) (d : Drafted) → IsKept told x → IsDraft told d → MayEnter x d → IsNew x d → IsKept told (with_define x d)
 kept_by_define told x d k draft may fresh =
-    kept_event told x (x.rows ++ row_for x d ∷ []) (events.Define d.class) k refl (may_record x d.class.loader d.class.loader d.class.name fresh) (may_define told x d k draft may fresh) may.loader
+    kept_event told x (x.rows ++ row_for x d ∷ []) (events.Define d.class) k refl (may_record (state_of x) d.class.loader d.class.loader d.class.name k.calm fresh) (may_define told x d k draft may fresh) may.loader
     (map_push (λ (r : Rowed). r.class) x.rows (row_for x d) ∙ ap (λ (cs : List Class). cs ++ d.class ∷ []) k.rows)
     (All-push (λ r. IsSpelt told r.class r.file) x.rows (row_for x d) k.spelt draft.spelt)
-    (same_rounds x (x.rows ++ row_for x d ∷ []) (events.Define d.class) k.trusted (ap (λ (s : State). s.round) (state_define x d)))
+    (same_rounds x (x.rows ++ row_for x d ∷ []) (events.Define d.class) k.trusted (ap (λ (s : State). s.round) (state_define x d))) refl
 
 pub looked_define : (told : Option Content) (x : Shown) (d : Drafted) → IsKept told x → IsNew x d → (l : ℕ) (n : List ℕ) → looked (with_define x d) l n ≡ (if (d.class.loader == l) && pointwise nat_eq d.class.name n then Some (row_for x d) else looked x l n)
 looked_define told x d k fresh =
@@ -178,11 +179,11 @@ state_initiate x h = state_event x x.rows (event_by h)
 
 kept_by_initiate : (told : Option Content) (x : Shown) (h : Located) → IsKept told x → LeadsTo told h.config h.asked h.name (Some h.place) → h.place < length h.config.loaders → MayJoin x h → LacksRecord x h.asked h.name → IsKept told (with_initiate x h)
 kept_by_initiate told x h k leads within may fresh =
-    kept_event told x x.rows (event_by h) k refl (may.defined, may_record x h.asked h.place h.name fresh) (may_initiate told x h k leads may fresh)
+    kept_event told x x.rows (event_by h) k refl (may.defined, may_record (state_of x) h.asked h.place h.name k.calm fresh) (may_initiate told x h k leads may fresh)
     (subst (λ (c : Configured). h.place < length c.loaders) may.config within, may.loader)
     (k.rows ∙ sym (append-nil (defined x.history)))
     k.spelt
-    (same_rounds x x.rows (event_by h) k.trusted (ap (λ (s : State). s.round) (state_initiate x h)))
+    (same_rounds x x.rows (event_by h) k.trusted (ap (λ (s : State). s.round) (state_initiate x h))) refl
 
 pub looked_initiate : (told : Option Content) (x : Shown) (h : Located) (row : Rowed) → IsKept told x → LacksRecord x h.asked h.name → row_of x.rows (class h.name h.place) ≡ Some row
     → (l : ℕ) (n : List ℕ) → looked (with_initiate x h) l n ≡ (if (h.asked == l) && pointwise nat_eq h.name n then Some row else looked x l n)

@@ -23,6 +23,9 @@ named_added count rs r named below loader place name at = elim (recorded_added r
 step_named : (count : ℕ) (s : State) (now : List (Option Answer)) (e : Event) → EventNames count e → AreNamed count s.records → AreNamed count (after s (step_of now e)).records
 step_named count s now (events.Define c) name named = named_added count s.records (record { loader = c.loader; name = c.name; place = c.loader }) named name
 step_named count s now (events.Initiate c loader) name named = named_added count s.records (record { loader = loader; name = c.name; place = c.loader }) named name.0
+step_named count s now (events.Constrain e) name named = named
+step_named count s now (events.Settle r) name named = named
+step_named count s now (events.Prepare c) name named = named
 step_named count s now events.NextRound name named = named
 step_named count s now (events.Post q) name named = subst (AreNamed count) (sym (post_same s q (answer_at now q))) named
 

@@ -73,6 +73,9 @@ comes script rounds now c (events.Initiate d loader ∷ h) s fine at = elim (com
   ]
   | inr k ↦ inr k
 ]
+comes script rounds now c (events.Constrain e ∷ h) s fine at = comes script rounds now c h (after s (step_of now (events.Constrain e))) fine.1 at
+comes script rounds now c (events.Settle r ∷ h) s fine at = comes script rounds now c h (after s (step_of now (events.Settle r))) fine.1 at
+comes script rounds now c (events.Prepare d ∷ h) s fine at = comes script rounds now c h (after s (step_of now (events.Prepare d))) fine.1 at
 comes script rounds now c (events.NextRound ∷ h) s fine at = comes script rounds now c h (after s (step_of now events.NextRound)) fine.1 at
 comes script rounds now c (events.Post q ∷ h) s fine at = elim (comes script rounds now c h (after s (post_of q (answer_at now q))) fine.1 at) [
   | inl k ↦ inl (subst (λ (rs : List Record). recorded rs c.loader c.name ≡ Some c.loader) (post_same s q (answer_at now q)) k)

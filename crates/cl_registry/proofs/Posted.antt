@@ -79,6 +79,10 @@ may_answer x content (requests.Load l name) (answers.Said (verdicts.Error kind k
     let v = Wrong (error_of kind k) in
     let here : EndsWhere (world_of x.config content) b.needs (Load l name) v = subst (λ (c : Configured). EndsWhere (world_of c content) b.needs (Load l name) v) backed.0 rests in
     say g (state_of x) l name v (answers_here g (state_of x) (Load l name) v (here (state_of x) closed backed.1))
+may_answer x content (requests.Load l name) (answers.Said v) given b closed backed rests = absurd backed
+may_answer x content (requests.Resolve l name i) (answers.Said v) given b closed backed rests = absurd backed
+may_answer x content (requests.Link l name) (answers.Said v) given b closed backed rests = absurd backed
+may_answer x content r (answers.Shared s) given b closed backed rests = absurd backed
 may_answer x content r answers.Memory given b closed backed rests = tt
 may_answer x content r (answers.SourceFault n l) given b closed backed rests = tt
 

@@ -39,8 +39,12 @@ no_class c e h = cc
 borne : (x : Shown) (r : Request) (a given : rust.Answer) (b : Option Based) → AnswerBacked x (record { request = r; answer = given; basis = b }) a → BearsAnswer (state_of x) (request_of r) (answer_of a)
 borne x (requests.Load l name) (answers.Said (verdicts.Class k)) given b backed = λ c e. subst (λ (d : Class). Records (state_of x) l name d) (class_is c k e) backed
 borne x (requests.Load l name) (answers.Said (verdicts.Error kind k)) given b backed = λ c e. absurd (no_class c (error_of kind k) e)
-borne x (requests.Load l name) answers.Memory given b backed = tt
-borne x (requests.Load l name) (answers.SourceFault n m) given b backed = tt
+borne x (requests.Load l name) (answers.Said v) given b backed = absurd backed
+borne x (requests.Resolve l name i) (answers.Said v) given b backed = absurd backed
+borne x (requests.Link l name) (answers.Said v) given b backed = absurd backed
+borne x r (answers.Shared s) given b backed = absurd backed
+borne x r answers.Memory given b backed = tt
+borne x r (answers.SourceFault n m) given b backed = tt
 
 may_tell : (x : Shown) (q : ℕ) (f : Answered) → IsTrusted x → Fits x q f → MayTell (schedule_of x.script) (state_of x) q (answer_of f.answer)
 may_tell x q f trusted fits =
@@ -82,6 +86,7 @@ kept told x q f k fits rests =
         earlier = λ p n at before. given_still x q p a (nat_eq q p) refl is (k.trusted.earlier p n at (subst (λ (m : ℕ). n < m) round before));
       };
       named = named_post x q a k.named fits.backed.names;
+      calm = ap (λ (s : State). s.equalities) (state_posts x q a out is) ∙ k.calm;
       run = run_more told x y (Post q (answer_of a)) refl refl step k.run
           (λ content e. fitting_is_allowed content x q f (subst (λ (t : Option Content). IsKept t x) e k) fits (subst (λ (t : Option Content). Rests t f) e rests));
       rows = k.rows ∙ sym (append-nil (defined x.history)) ∙ sym (defined_then x.history (events.Post q ∷ []));

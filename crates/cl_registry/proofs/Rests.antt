@@ -12,7 +12,6 @@ use Rattle.cl_model.specs.declared.verdict.ErrorKind.{ErrorKind}
 use Rattle.cl_model.specs.declared.verdict.ErrorKind.TheVariants as kinds
 use Rattle.cl_model.specs.declared.verdict.Verdict.TheVariants as verdicts
 use Rattle.cl_model.specs.declared.request.Request.{Request}
-use Rattle.cl_model.specs.declared.request.Request.TheVariants as requests
 use Rattle.cl_model.specs.Content.{Content}
 use Rattle.cl_model.specs.Homes.{home}
 use Rattle.cl_model.specs.Classes.{class, Above, Error, ClassNotFound, NoClassDef, ClassCircularity, named}
@@ -97,16 +96,13 @@ kept_split s (y ∷ xs) x h = let more = kept_split s xs x h.1 in ((h.0, more.0)
 
 module _ (content : Content) (r : Request) (p : Pathed) (for : IsFor r p) (path : IsPath (Some content) p) where
   under : (s : State) → AllMet s (kept_of (frames_of p)) → Under (world_of p.config content) s (request_of r) ClassNotFound (frames_of p) (at_loader p) (at_name p)
-  under s met = by r for
-    where
-      by : (r : Request) → IsFor r p → Under (world_of p.config content) s (request_of r) ClassNotFound (frames_of p) (at_loader p) (at_name p)
-      by (requests.Load loader name) for = record {
-        loader = p.loader;
-        name = p.name;
-        starts = inl (refl, sym for.loader, sym for.name);
-        frames = path.rules;
-        kept = (kept_is_met s (frames_of p)).0 met;
-      }
+  under s met = record {
+    loader = p.loader;
+    name = p.name;
+    starts = inl (refl, sym for.loader, sym for.name);
+    frames = path.rules;
+    kept = (kept_is_met s (frames_of p)).0 met;
+  }
 
   pub missing_rests : (u : Sought) → u.config ≡ p.config → u.asked ≡ at_loader p → u.name ≡ at_name p → LeadsTo (Some content) u.config u.asked u.name None
       → EndsWhere (world_of p.config content) (kept_of (frames_of p) ++ []) (request_of r) (Wrong (error_of (missing_kind p.frames) (class u.name u.asked)))

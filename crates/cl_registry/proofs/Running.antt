@@ -24,24 +24,6 @@ use Rattle.cl_registry.proofs.Histories.{eq_nat, swap_nat, or_right}
 
 -- ---- no equality is imposed
 
-post_quiet : (s : State) (q : ℕ) (o : Option Answer) → (after s (post_of q o)).equalities ≡ s.equalities
-post_quiet s q None = refl
-post_quiet s q (Some a) = refl
-
-step_quiet : (s : State) (now : List (Option Answer)) (e : Event) → (after s (step_of now e)).equalities ≡ s.equalities
-step_quiet s now (events.Define c) = refl
-step_quiet s now (events.Initiate c l) = refl
-step_quiet s now events.NextRound = refl
-step_quiet s now (events.Post q) = post_quiet s q (answer_at now q)
-
-quiet : (now : List (Option Answer)) (h : List Event) (s : State) → (state_after s (steps_of now h)).equalities ≡ s.equalities
-quiet now [] s = refl
-quiet now (e ∷ h) s = quiet now h (after s (step_of now e)) ∙ step_quiet s now e
-
--- a registry's history imposes no equality
-pub calm : (x : Shown) → (state_of x).equalities ≡ []
-calm x = quiet (answers_of x.answers) x.history start
-
 none_and_some : (o : Option ℕ) (x : ℕ) → o ≡ None → o ≡ Some x → ⊥
 none_and_some o x h k = cc
 
@@ -59,8 +41,8 @@ no_clash s l p name e fresh k =
     (subst (λ (o : ℕ). recorded s.records o name ≡ Some k.other_place) (sym (alone s.equalities name l k.joined.path k.other e k.joined.along)) k.recorded_there)
 
 -- what has no record may be recorded
-pub may_record : (x : Shown) (l p : ℕ) (name : Name) → recorded (state_of x).records l name ≡ None → MayRecord (state_of x) l p name
-may_record x l p name fresh = record { fresh = fresh; fits = no_clash (state_of x) l p name (calm x) fresh }
+pub may_record : (s : State) (l p : ℕ) (name : Name) → s.equalities ≡ [] → recorded s.records l name ≡ None → MayRecord s l p name
+may_record s l p name calm fresh = record { fresh = fresh; fits = no_clash s l p name calm fresh }
 
 -- ---- the answers of the state are those that are given
 
@@ -97,6 +79,9 @@ answered_after : (now : List (Option Answer)) (h : List Event) (s : State) (q : 
 answered_after now [] s q = sym (or_right (is_some (answer_to s.answers q)))
 answered_after now (events.Define c ∷ h) s q = answered_after now h (after s (step_of now (events.Define c))) q
 answered_after now (events.Initiate c l ∷ h) s q = answered_after now h (after s (step_of now (events.Initiate c l))) q
+answered_after now (events.Constrain e ∷ h) s q = answered_after now h (after s (step_of now (events.Constrain e))) q
+answered_after now (events.Settle r ∷ h) s q = answered_after now h (after s (step_of now (events.Settle r))) q
+answered_after now (events.Prepare c ∷ h) s q = answered_after now h (after s (step_of now (events.Prepare c))) q
 answered_after now (events.NextRound ∷ h) s q = answered_after now h (after s NextRound) q
 answered_after now (events.Post p ∷ h) s q =
     let had = is_some (answer_to s.answers q) in
@@ -141,6 +126,9 @@ records_hold P script rounds now (events.Initiate c j ∷ h) s run here all l p 
       | inr new ↦ subst (λ (i : ℕ). P (class o i)) new.2 (subst (λ (i : Name). P (class i c.loader)) new.1 (here c.loader c.loader c.name run.0.0))
     ])
     all l p n e
+records_hold P script rounds now (events.Constrain k ∷ h) s run here all l p n e = records_hold P script rounds now h (after s (step_of now (events.Constrain k))) run.1 here all l p n e
+records_hold P script rounds now (events.Settle r ∷ h) s run here all l p n e = records_hold P script rounds now h (after s (step_of now (events.Settle r))) run.1 here all l p n e
+records_hold P script rounds now (events.Prepare c ∷ h) s run here all l p n e = records_hold P script rounds now h (after s (step_of now (events.Prepare c))) run.1 here all l p n e
 records_hold P script rounds now (events.NextRound ∷ h) s run here all l p n e = records_hold P script rounds now h (after s NextRound) run.1 here all l p n e
 records_hold P script rounds now (events.Post q ∷ h) s run here all l p n e =
     records_hold P script rounds now h (after s (post_of q (answer_at now q))) run.1
@@ -165,6 +153,9 @@ defined_known script rounds now (events.Define c ∷ h) s run = (
   defined_known script rounds now h (after s (Define c)) run.1,
 )
 defined_known script rounds now (events.Initiate c j ∷ h) s run = defined_known script rounds now h (after s (Initiate c.name c.loader j)) run.1
+defined_known script rounds now (events.Constrain e ∷ h) s run = defined_known script rounds now h (after s (step_of now (events.Constrain e))) run.1
+defined_known script rounds now (events.Settle r ∷ h) s run = defined_known script rounds now h (after s (step_of now (events.Settle r))) run.1
+defined_known script rounds now (events.Prepare c ∷ h) s run = defined_known script rounds now h (after s (step_of now (events.Prepare c))) run.1
 defined_known script rounds now (events.NextRound ∷ h) s run = defined_known script rounds now h (after s NextRound) run.1
 defined_known script rounds now (events.Post q ∷ h) s run = defined_known script rounds now h (after s (post_of q (answer_at now q))) run.1
 

@@ -164,7 +164,7 @@ kept_round told x f used more k may one same =
     let later = may.later in
     let fits = k.events_fit in
     record {
-      kept = kept_event told x x.rows events.NextRound k.kept refl may (λ content e. round_is_allowed content x may) tt (k.kept.rows ∙ sym (append-nil (defined x.history))) k.kept.spelt earlier;
+      kept = kept_event told x x.rows events.NextRound k.kept refl may (λ content e. round_is_allowed content x may) tt (k.kept.rows ∙ sym (append-nil (defined x.history))) k.kept.spelt earlier refl;
       script = k.script;
       width = k.width;
       rows = λ l n. k.rows l n ∙ sym (ap (λ (s : State). option_and_then (λ (p : ℕ). row_of x.rows (class n p)) (recorded s.records l n)) (state_event x x.rows events.NextRound));
@@ -220,6 +220,7 @@ kept_new told x f r h a s script width none counts each first zero-used fit zero
         };
         named = named_new x f.left h a;
         run = run_new told x no-steps;
+        calm = ap (λ (s : State). s.equalities) no-state;
         rows = ap (map (λ (r : Rowed). r.class)) r ∙ sym (ap defined h);
         spelt = All-same (λ s. IsSpelt told s.class s.file) x.rows [] r (All-nil (λ s. IsSpelt told s.class s.file));
       };

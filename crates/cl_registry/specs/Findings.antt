@@ -11,7 +11,7 @@ use Rattle.cl_model.specs.declared.class.Class.{Class}
 use Rattle.cl_model.specs.Classes.{class}
 use Rattle.cl_model.specs.States.{State, Need, Entry, Verdict, Wrong, AllMet}
 use Rattle.cl_model.specs.Homes.{World}
-use Rattle.cl_model.specs.Plans.{Request}
+use Rattle.cl_model.specs.Plans.{Request, loaded_by}
 use Rattle.cl_model.specs.Machine.{IsClosed}
 use Rattle.cl_model.specs.Frames.{EndsHere, kept_of}
 use Rattle.cl_model.specs.Views.{request_of, error_of}
@@ -38,11 +38,11 @@ pub record Answered : Type 0 where
 
 -- what a request loads, and through whom (5.3)
 abbrev pub loader_of : requests.Request → ℕ
-loader_of (requests.TheVariants.Load loader name) = loader
+loader_of r = (loaded_by (request_of r)).loader
 
 -- the name that a request loads (5.3)
 abbrev pub name_of : requests.Request → List ℕ
-name_of (requests.TheVariants.Load loader name) = name
+name_of r = (loaded_by (request_of r)).name
 
 -- the path was made for the request (5.3)
 pub record IsFor (r : requests.Request) (p : Pathed) : Type 0 where
@@ -102,10 +102,15 @@ abbrev pub ErrorRests : Content → requests.Request → ErrorKind → Class →
 ErrorRests content r kind c None = ⊥
 ErrorRests content r kind c (Some b) = EndsWhere (world_of b.config content) b.needs (request_of r) (Wrong (error_of kind c))
 
--- an answer rests on its basis: a class is looked up in the tables, failures say nothing of a class (5.3.5)
+-- a verdict rests on its basis, where it is an error; others are looked up in the tables (5.3.5)
+abbrev pub VerdictRests : Content → requests.Request → verdicts.Verdict → Option Based → Type 0
+VerdictRests content r (verdicts.TheVariants.Error kind c) b = ErrorRests content r kind c b
+VerdictRests content r v b = Unit {0}
+
+-- an answer rests on its basis; failures say nothing of a class (5.3.5)
 abbrev pub AnswerRests : Content → requests.Request → answers.Answer → Option Based → Type 0
-AnswerRests content r (answers.TheVariants.Said (verdicts.TheVariants.Class c)) b = Unit {0}
-AnswerRests content r (answers.TheVariants.Said (verdicts.TheVariants.Error kind c)) b = ErrorRests content r kind c b
+AnswerRests content r (answers.TheVariants.Said v) b = VerdictRests content r v b
+AnswerRests content r (answers.TheVariants.Shared s) b = Unit {0}
 AnswerRests content r answers.TheVariants.Memory b = Unit {0}
 AnswerRests content r (answers.TheVariants.SourceFault name loader) b = Unit {0}
 

@@ -11,6 +11,8 @@ use Rattle.cl_model.specs.declared.answer.Answer.{Answer}
 use Rattle.cl_model.specs.declared.answer.Answer.TheVariants as answers
 use Rattle.cl_model.specs.declared.verdict.Verdict.{Verdict}
 use Rattle.cl_model.specs.declared.verdict.Verdict.TheVariants as verdicts
+use Rattle.cl_model.specs.declared.request.Request.{Request}
+use Rattle.cl_model.specs.declared.request.Request.TheVariants as requests
 use Rattle.cl_model.specs.Content.{Content}
 use Rattle.cl_model.specs.Classes.{class, same_class, Above, supers, misfit}
 use Rattle.cl_model.specs.Texts.{AnswerNames, EventNames}
@@ -26,7 +28,7 @@ use Rattle.cl_delegation.specs.Searches.{Located}
 use Rattle.cl_delegation.specs.Worlds.{setting_of}
 use Rattle.cl_hierarchy.specs.Drafts.{Drafted, IsSpelt}
 use Rattle.cl_hierarchy.specs.Rows.{Rowed}
-use Rattle.cl_registry.specs.Findings.{Answered, Based, loader_of, name_of}
+use Rattle.cl_registry.specs.Findings.{Answered, Based, loader_of}
 
 -- what a registry shows: whose it is, the rows of the classes that were defined, in order, what happened, and the answer of
 -- each request that has one (own choice)
@@ -63,6 +65,9 @@ abbrev pub posts : List Event → List ℕ
 posts [] = []
 posts (events.Define c ∷ es) = posts es
 posts (events.Initiate c loader ∷ es) = posts es
+posts (events.Constrain e ∷ es) = posts es
+posts (events.Settle s ∷ es) = posts es
+posts (events.Prepare c ∷ es) = posts es
 posts (events.NextRound ∷ es) = posts es
 posts (events.Post q ∷ es) = q ∷ posts es
 
@@ -71,6 +76,9 @@ abbrev pub defined : List Event → List Class
 defined [] = []
 defined (events.Define c ∷ es) = c ∷ defined es
 defined (events.Initiate c loader ∷ es) = defined es
+defined (events.Constrain e ∷ es) = defined es
+defined (events.Settle s ∷ es) = defined es
+defined (events.Prepare c ∷ es) = defined es
 defined (events.NextRound ∷ es) = defined es
 defined (events.Post q ∷ es) = defined es
 
@@ -98,11 +106,12 @@ pub record NamesLoaders (x : Shown) : Type 0 where
   pub history : All (EventNames (length x.config.loaders)) x.history
   pub answers : All (λ o. IfSome o (AnswerNames (length x.config.loaders))) x.answers
 
--- what a registry keeps; each class that was defined has its row, whose file its bytes spell (5.3, 5.3.5)
+-- what a registry keeps; no equality is imposed yet, and each class that was defined has its row, whose file its bytes spell (5.3, 5.3.5)
 pub record IsKept (told : Option Content) (x : Shown) : Type 0 where
   pub trusted : IsTrusted x
   pub named : NamesLoaders x
   pub run : RunsAs told x
+  pub calm : (state_of x).equalities ≡ []
   pub rows : map (λ r. r.class) x.rows ≡ defined x.history
   pub spelt : All (λ r. IsSpelt told r.class r.file) x.rows
 
@@ -206,15 +215,17 @@ abbrev pub BasisStands : Shown → Option Based → Type 0
 BasisStands x None = ⊥
 BasisStands x (Some b) = (b.config ≡ x.config) × AllMet (state_of x) b.needs
 
--- what a verdict rests on stands in the tables: the class that is answered, by the loader that defined it, or what an error
--- rests on (5.3, 5.3.5)
-abbrev pub VerdictBacked : Shown → ℕ → List ℕ → Verdict → Option Based → Type 0
-VerdictBacked x loader name (verdicts.Class c) b = (c.name ≡ name) × (recorded (records_of x) loader name ≡ Some c.loader)
-VerdictBacked x loader name (verdicts.Error kind c) b = BasisStands x b
+-- what the verdict of a load rests on stands in the tables: the class that is answered, by the loader that defined it, or what
+-- an error rests on (5.3, 5.3.5); other verdicts, and those of other requests, are not posted yet
+abbrev pub VerdictBacked : Shown → Request → Verdict → Option Based → Type 0
+VerdictBacked x (requests.Load loader name) (verdicts.Class c) b = (c.name ≡ name) × (recorded (records_of x) loader name ≡ Some c.loader)
+VerdictBacked x (requests.Load loader name) (verdicts.Error kind c) b = BasisStands x b
+VerdictBacked x r v b = ⊥
 
 -- the same of an answer (5.3)
 abbrev pub AnswerBacked : Shown → Answered → Answer → Type 0
-AnswerBacked x f (answers.Said v) = VerdictBacked x (loader_of f.request) (name_of f.request) v f.basis
+AnswerBacked x f (answers.Said v) = VerdictBacked x f.request v f.basis
+AnswerBacked x f (answers.Shared s) = ⊥
 AnswerBacked x f answers.Memory = Unit {0}
 AnswerBacked x f (answers.SourceFault n l) = Unit {0}
 

@@ -3,29 +3,19 @@
 ghost use Rattle.std.specs.Prelude.{◌≡◌, ◌<◌, ◌-◌, IfSome, MatchOption, None, Some, slice_get, slice_set};
 ghost use Rattle.std.specs.List.{AllByRecursion};
 ghost use Rattle.std.specs.Option.{option_map};
-ghost use Rattle.cl_model.specs.Texts.{AnswerNames, VerdictNames};
+ghost use Rattle.cl_model.specs.Texts.{AnswerNames, NeedNames, VerdictNames};
 ghost use Rattle.cl_hierarchy.specs.Frames.{frame_of};
 ghost use Rattle.cl_hierarchy.specs.Paths.{frames_of};
 ghost use Rattle.cl_registry.specs.Backs.{AcceptedIn, Decides, DecidesIn, HasIn, MisfitIn, placed};
 ghost use Rattle.cl_registry.specs.Bases.{based};
-ghost use Rattle.cl_registry.specs.Findings.{loader_of, name_of};
 ghost use Rattle.cl_registry.specs.Tables.{AnswerBacked, BasisStands, IsBacked, VerdictBacked, row_at};
 
 use crate::finding::{Basis, Finding};
 use crate::tables::{Rows, place};
 use cl_config::Config;
 use cl_hierarchy::{Frame, Path};
-use cl_model::{Answer, LoaderId, Request, Told, Verdict};
+use cl_model::{Answer, LoaderId, Need, Request, Told, Verdict};
 use cl_names::Name;
-
-/// Whether two requests are the same.
-fn is_same(a: &Request, b: &Request) -> bool
-    ensures { Decides result (a.now ≡ b.now) }
-{
-    match (a, b) {
-        (Request::Load(l, n), Request::Load(m, o)) => *l == *m && *n == *o,
-    }
-}
 
 /// Whether the request of this number is this one.
 pub fn is_asked(requests: &[Request], q: u32, request: &Request) -> bool
@@ -33,7 +23,7 @@ pub fn is_asked(requests: &[Request], q: u32, request: &Request) -> bool
 {
     match requests.get(q as usize) {
         None => false,
-        Some(asked) => is_same(asked, request),
+        Some(asked) => asked.is_same(request),
     }
 }
 
@@ -145,25 +135,46 @@ fn verdict_stands<T: Told>(
     finding: &Finding<T>,
     verdict: &Verdict,
 ) -> bool
-    ensures { DecidesIn config.now (placed (λ r. r.value) (row_at tables.now.items)) result (λ x. VerdictBacked x (loader_of finding.now.request) (name_of finding.now.request) verdict.now finding.now.basis) }
+    ensures { DecidesIn config.now (placed (λ r. r.value) (row_at tables.now.items)) result (λ x. VerdictBacked x finding.now.request verdict.now finding.now.basis) }
 {
-    let Request::Load(loader, name) = finding.request();
+    let Request::Load(loader, name) = finding.request() else {
+        return false;
+    };
     match verdict {
         Verdict::Class(class) => { class.name == *name && has(tables, *loader, name, class.loader) }
         Verdict::Error(_, _) => match finding.basis() {
             None => false,
             Some(basis) => basis_stands(tables, config, basis),
         },
+        _ => false,
     }
 }
 
-/// Whether the loader of a verdict's class is below a count.
+/// Whether the loaders of a need that is printed are below a count.
+fn need_is_named(need: &Need, count: usize) -> bool
+    ensures { Decides result (NeedNames count need.now) }
+{
+    match need {
+        Need::Entry { loader, .. } => (loader.0 as usize) < count,
+        Need::Equal(equality) => {
+            (equality.one.0 as usize) < count && (equality.other.0 as usize) < count
+        }
+    }
+}
+
+/// Whether the loaders of a verdict are below a count.
 fn verdict_is_named(verdict: &Verdict, count: usize) -> bool
     ensures { Decides result (VerdictNames count verdict.now) }
 {
     match verdict {
-        Verdict::Class(class) => (class.loader.0 as usize) < count,
-        Verdict::Error(_, subject) => (subject.loader.0 as usize) < count,
+        Verdict::Class(class)
+        | Verdict::Array(_, class)
+        | Verdict::Field(class, _)
+        | Verdict::Method(class, _)
+        | Verdict::Linked(class)
+        | Verdict::Error(_, class) => (class.loader.0 as usize) < count,
+        Verdict::PrimitiveArray(_, _) | Verdict::BadEntry | Verdict::ArrayMember => true,
+        Verdict::Linkage(need) => need_is_named(need, count),
     }
 }
 
@@ -173,6 +184,7 @@ fn is_named(answer: &Answer, count: usize) -> bool
 {
     match answer {
         Answer::Said(verdict) => verdict_is_named(verdict, count),
+        Answer::Shared(settled) => verdict_is_named(&settled.verdict, count),
         Answer::Memory => true,
         Answer::SourceFault(_, loader) => (loader.0 as usize) < count,
     }
@@ -183,7 +195,8 @@ fn answer_stands<T: Told>(tables: &Rows<T>, config: &Config, finding: &Finding<T
     ensures { DecidesIn config.now (placed (λ r. r.value) (row_at tables.now.items)) result (λ x. AnswerBacked x finding.now finding.now.answer) }
 {
     match finding.answer() {
-        Answer::Said(verdict) => { verdict_stands(tables, config, finding, verdict) }
+        Answer::Said(verdict) => verdict_stands(tables, config, finding, verdict),
+        Answer::Shared(_) => false,
         Answer::Memory => true,
         Answer::SourceFault(_, _) => true,
     }
@@ -193,7 +206,7 @@ fn answer_stands<T: Told>(tables: &Rows<T>, config: &Config, finding: &Finding<T
 pub fn backs<T: Told>(tables: &Rows<T>, config: &Config, finding: &Finding<T>) -> bool
     ensures { DecidesIn config.now (placed (λ r. r.value) (row_at tables.now.items)) result (λ x. IsBacked x finding.now) }
 {
-    let Request::Load(loader, _) = finding.request();
+    let loader = finding.request().loader();
     let count = config.count();
     (loader.0 as usize) < count
         && is_named(finding.answer(), count)

@@ -1,31 +1,31 @@
 -- The lines of a report.
-use Rattle.std.specs.Prelude.{ℕ, Bool, List, [], ◌∷◌, ◌++◌, codes, if◌then◌else◌}
+use Rattle.std.specs.Prelude.{ℕ, Bool, List, [], ◌∷◌, ◌++◌, if◌then◌else◌}
 use Rattle.std.specs.List.{enumerate_from, flat_map}
 use Rattle.std.specs.Option.{option_map_or}
-use Rattle.std.specs.Fmt.{decimal}
 use Rattle.cl_model.specs.declared.event.Event.{Event}
 use Rattle.cl_model.specs.declared.answer.Answer.{Answer}
-use Rattle.cl_model.specs.Texts.{event_text, answer_text}
+use Rattle.cl_model.specs.Lines.{line, answer_line}
+use Rattle.cl_model.specs.Views.{answer_of, step_of}
 
 -- a line with its line feed (own choice)
 abbrev pub ended : List ℕ → List ℕ
 ended line = line ++ 10 ∷ []
 
--- the line of an event, where it has one (own choice)
+-- the line of the step that an event tells, where it has one; a post has none, whatever its answer (own choice)
 abbrev pub event_line : List (List ℕ) → Event → List ℕ
-event_line loaders event = option_map_or ended (event_text loaders event) []
+event_line loaders event = option_map_or ended (line loaders (step_of [] event)) []
 
 -- the line of each event in turn (own choice)
 abbrev pub history_lines : List (List ℕ) → List Event → List ℕ
 history_lines loaders events = flat_map (event_line loaders) events
 
--- an answer behind the number of its request (own choice)
-abbrev pub answer_line : List (List ℕ) → ℕ → Answer → List ℕ
-answer_line loaders number answer = ended (decimal number ++ codes " " ++ answer_text loaders answer)
+-- the line of an answer, by the place of its request, counted from 0 (own choice)
+abbrev pub numbered_line : List (List ℕ) → ℕ → Answer → List ℕ
+numbered_line loaders place answer = ended (answer_line loaders place (answer_of answer))
 
--- the line of each answer in turn, numbered from 1 (own choice)
+-- the line of each answer in turn (own choice)
 abbrev pub answer_lines : List (List ℕ) → List Answer → List ℕ
-answer_lines loaders answers = flat_map (λ p. answer_line loaders p.0 p.1) (enumerate_from 1 answers)
+answer_lines loaders answers = flat_map (λ p. numbered_line loaders p.0 p.1) (enumerate_from 0 answers)
 
 -- the history, unless the answers alone are wanted, and then the answers (own choice)
 abbrev pub report_lines : List (List ℕ) → Bool → List Event → List Answer → List ℕ

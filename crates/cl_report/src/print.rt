@@ -1,13 +1,16 @@
-ghost use Rattle.std.specs.Prelude.{◌≡◌, ◌<◌, ◌++◌, [], length, map, slice_index_or, string_bytes, All, IfOk, OnOk, OnErr, if◌then◌else◌};
+ghost use Rattle.std.specs.Prelude.{◌≡◌, ◌++◌, [], ◌∷◌, length, map, string_bytes, All, OnOk, OnErr, if◌then◌else◌};
+ghost use Rattle.std.specs.Fmt.{decimal};
 ghost use Rattle.std.specs.Io.KnownBytes.{Appends};
-ghost use Rattle.cl_model.specs.Texts.{EventNames, AnswerNames, initiate_text};
+ghost use Rattle.cl_model.specs.Lines.{answer_text, words};
+ghost use Rattle.cl_model.specs.Texts.{EventNames, AnswerNames};
+ghost use Rattle.cl_model.specs.Views.{answer_of};
 ghost use Rattle.cl_streams.specs.Writing.{AppendsPart, Passes};
-ghost use Rattle.cl_report.specs.Report.{answer_line, answer_lines, ended, event_line, history_lines, report_lines};
+ghost use Rattle.cl_report.specs.Report.{answer_lines, ended, event_line, history_lines, report_lines};
 
-use cl_model::{Answer, Class, Event, LoaderId};
+use cl_model::{Answer, Event};
 use cl_registry::Report;
 use cl_streams::{PrintFault, write_out};
-use std::alloc::{AllocError, Global};
+use std::alloc::Global;
 use std::io::Write;
 
 /// Lines are kept until they have so many bytes, and then written at once.
@@ -87,7 +90,7 @@ fn print_answers<W: Write>(
     Ok(())
 }
 
-/// Puts the line of an event, which a post and the end of a round have not, behind what waits.
+/// Puts the line of an event, where it has one, behind what waits.
 fn put_event<W: Write>(
     alloc: Global,
     event: &Event,
@@ -101,43 +104,10 @@ fn put_event<W: Write>(
     ensures part { OnErr result (AppendsPart (W.contents out.old) (W.contents out.new)
         (string_bytes waiting.old ++ event_line (map string_bytes loaders.now) event.now)) }
 {
-    match event {
-        Event::Define(class) => {
-            let class = class.text(alloc, loaders)?;
-            let line = format!(in alloc; "define {class}")?;
-            put_line(out, waiting, line.as_str())
-        }
-        Event::Initiate(class, loader) => {
-            let line = initiate_text(alloc, class, *loader, loaders)?;
-            put_line(out, waiting, line.as_str())
-        }
-        Event::NextRound | Event::Post(_) => Ok(()),
+    match event.text(alloc, loaders)? {
+        Some(line) => put_line(out, waiting, line.as_str()),
+        None => Ok(()),
     }
-}
-
-/// The text for a class that a loader recorded, and another loader defined.
-fn initiate_text(
-    alloc: Global,
-    class: &Class,
-    loader: LoaderId,
-    loaders: &[String],
-) -> Result<String, AllocError>
-    requires home { class.now.loader < length loaders.now }
-    requires asked { loader < length loaders.now }
-    ensures { IfOk result (λ t. string_bytes t ≡ initiate_text (map string_bytes loaders.now) class.now loader) }
-{
-    let name = class.name.text(alloc).map_err(|_| AllocError)?;
-    let home = loader_name(loaders, class.loader);
-    let asked = loader_name(loaders, loader);
-    format!(in alloc; "initiate {name} {home} by {asked}")
-}
-
-/// The name of a loader.
-fn loader_name<'a>(loaders: &'a [String], loader: LoaderId) -> &'a str
-    requires { loader < length loaders.now }
-    ensures { result.now ≡ slice_index_or (map string_bytes loaders.now) loader [] }
-{
-    loaders[usize::from(loader.0)].as_str()
 }
 
 /// Puts an answer behind the number of its request, and both behind what waits.
@@ -151,9 +121,9 @@ fn put_answer<W: Write>(
 ) -> Result<(), PrintFault>
     requires { AnswerNames (length loaders.now) answer.now }
     ensures line { OnOk result (Passes (W.contents out.old) (string_bytes waiting.old)
-        (W.contents out.new) (string_bytes waiting.new) (answer_line (map string_bytes loaders.now) number answer.now)) }
+        (W.contents out.new) (string_bytes waiting.new) (ended (words (decimal number ∷ answer_text (map string_bytes loaders.now) (answer_of answer.now) ∷ [])))) }
     ensures part { OnErr result (AppendsPart (W.contents out.old) (W.contents out.new)
-        (string_bytes waiting.old ++ answer_line (map string_bytes loaders.now) number answer.now)) }
+        (string_bytes waiting.old ++ ended (words (decimal number ∷ answer_text (map string_bytes loaders.now) (answer_of answer.now) ∷ [])))) }
 {
     let text = answer.text(alloc, loaders)?;
     let line = format!(in alloc; "{number} {text}")?;

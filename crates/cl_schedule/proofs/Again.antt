@@ -15,7 +15,7 @@ use Rattle.cl_model.specs.States.{State, Answer, Said, IsClass, recorded, start}
 use Rattle.cl_model.specs.Tables as tables
 use Rattle.cl_model.specs.Tables.{Records}
 use Rattle.cl_model.specs.Machine.{Step, Define, Initiate, NextRound, Post, state_after}
-use Rattle.cl_model.specs.Views.{answers_of, answer_at, post_of, request_of, steps_of}
+use Rattle.cl_model.specs.Views.{answers_of, answer_at, post_of, request_of, step_of, steps_of}
 use Rattle.cl_model.proofs.Tables.{told_is_recorded}
 use Rattle.cl_model.proofs.Runs.{records_stay}
 use Rattle.cl_model.proofs.Service.{state_append}
@@ -25,7 +25,7 @@ use Rattle.cl_registry.specs.Tables.{Shown, IsTrusted, is_in, posts, records_of}
 use Rattle.cl_schedule.specs.Serving.{upto}
 use Rattle.cl_schedule.specs.Replies.{AnswersRecorded, ClassOrMemory, ClassesStay}
 use Rattle.cl_schedule.proofs.Histories.{eq_nat}
-use Rattle.cl_schedule.proofs.Serving.{not_in_upto}
+use Rattle.cl_schedule.proofs.Serving.{is_load, not_in_upto}
 use Rattle.cl_schedule.proofs.Rounds.{scheduled_at}
 use Rattle.cl_schedule.proofs.Headline.{given_at}
 
@@ -42,6 +42,9 @@ around : (now : List (Option Answer)) (h : List Event) (q : ℕ) (a : Answer) �
 around now [] q a at is = absurd cc
 around now (events.Define c ∷ h) q a at is = around_more (Define c) (steps_of now h) q a (around now h q a at is)
 around now (events.Initiate c loader ∷ h) q a at is = around_more (Initiate c.name c.loader loader) (steps_of now h) q a (around now h q a at is)
+around now (events.Constrain e ∷ h) q a at is = around_more (step_of now (events.Constrain e)) (steps_of now h) q a (around now h q a at is)
+around now (events.Settle r ∷ h) q a at is = around_more (step_of now (events.Settle r)) (steps_of now h) q a (around now h q a at is)
+around now (events.Prepare c ∷ h) q a at is = around_more (step_of now (events.Prepare c)) (steps_of now h) q a (around now h q a at is)
 around now (events.NextRound ∷ h) q a at is = around_more NextRound (steps_of now h) q a (around now h q a at is)
 around now (events.Post p ∷ h) q a at is = by_test (nat_eq q p) refl is (around now h q a at)
   where
@@ -53,6 +56,8 @@ around now (events.Post p ∷ h) q a at is = by_test (nat_eq q p) refl is (aroun
 -- a class that was answered is recorded where it was asked for
 told_recorded : (x : Shown) (q : ℕ) (r : Request) (c : Class) → IsTrusted x → slice_get x.script.requests q ≡ Some r → slice_get x.answers q ≡ Some (Some (rust.TheVariants.Said (verdicts.TheVariants.Class c)))
     → (c.name ≡ name_of r) × (recorded (records_of x) (loader_of r) (name_of r) ≡ Some c.loader)
+told_recorded x q (requests.TheVariants.Resolve loader name index) c t asked said = absurd (is_load x.script.requests q (requests.TheVariants.Resolve loader name index) t.script.loads asked)
+told_recorded x q (requests.TheVariants.Link loader name) c t asked said = absurd (is_load x.script.requests q (requests.TheVariants.Link loader name) t.script.loads asked)
 told_recorded x q (requests.TheVariants.Load loader name) c t asked said =
     let at = given_at x.answers q (rust.TheVariants.Said (verdicts.TheVariants.Class c)) said in
     let place = around (answers_of x.answers) x.history q (Said (IsClass c)) at (t.posted q ∙ ap is_some at) in

@@ -63,6 +63,7 @@ faults_then xs ys a b c g h = subst (λ (k : ℕ). Grows k a c) (sym h.counted) 
 
 no_fault : (a : Answer) → NoFault a → fault a ≡ 0
 no_fault (answers.Said v) n = refl
+no_fault (answers.Shared s) n = refl
 no_fault answers.Memory n = refl
 no_fault (answers.SourceFault name loader) n = absurd n
 

@@ -5,64 +5,20 @@ use Rattle.std.proofs.lemmas.Option.{slice_get-map}
 use Rattle.cl_model.specs.declared.class.Class.{Class}
 use Rattle.cl_model.specs.declared.answer.Answer as answers
 use Rattle.cl_model.specs.declared.request.Request as requests
-use Rattle.cl_model.specs.declared.verdict.Verdict as verdicts
-use Rattle.cl_model.specs.declared.verdict.ErrorKind.TheVariants as kinds
 use Rattle.cl_model.specs.Content.{Content}
 use Rattle.cl_model.specs.Homes.{World}
-use Rattle.cl_model.specs.Classes.{Error, ClassNotFound, NoClassDef, ClassFormat, UnsupportedVersion, ClassCircularity, IncompatibleClassChange, IllegalAccess, NoSuchField, NoSuchMethod, IsGood}
-use Rattle.cl_model.specs.States.{State, Answer, Said, Verdict, IsClass, IsArrayOf, IsArrayOfBase, IsField, IsMethod, IsLinked, BadEntry, ArrayMember, Wrong, Linkage, Need, answer_to}
+use Rattle.cl_model.specs.Classes.{ClassCircularity, IsGood}
+use Rattle.cl_model.specs.States.{State, Answer, Said, Verdict, Wrong, answer_to}
 use Rattle.cl_model.specs.Plans.{Load}
 use Rattle.cl_model.specs.Machine.{Setting, Scheduled, AnswersPlan, IsSound}
-use Rattle.cl_model.specs.Views.{verdict_of, answer_of, answers_of, answer_at, request_of}
+use Rattle.cl_model.specs.Views.{answer_of, answers_of, answer_at, request_of}
 use Rattle.cl_model.proofs.Sound.{runs_are_sound}
 use Rattle.cl_model.proofs.Reached.{file_is_spelt, said_alike}
 use Rattle.cl_model.proofs.Answered.{circle_is_answered, circular_is_answered}
 use Rattle.cl_registry.specs.Tables.{Shown, IsTrusted, RunsAs, state_of, steps}
 use Rattle.cl_schedule.specs.Serving.{machine}
-use Rattle.cl_schedule.specs.Headline.{IsSpelt, EachSpelt, Alike, EndsInCircle, CirclesExact, IsRefusal}
+use Rattle.cl_schedule.specs.Headline.{IsSpelt, EachSpelt, Alike, EndsInCircle, CirclesExact}
 use Rattle.cl_schedule.proofs.Rounds.{answer_there, scheduled_at}
-
--- ---- verdicts of the machine, back as the program has them
-
-error_back : Error → Option verdicts.Verdict
-error_back (ClassNotFound c) = Some (verdicts.TheVariants.Error kinds.ClassNotFoundException c)
-error_back (NoClassDef c) = Some (verdicts.TheVariants.Error kinds.NoClassDefFoundError c)
-error_back (ClassFormat c) = Some (verdicts.TheVariants.Error kinds.ClassFormatError c)
-error_back (UnsupportedVersion c) = Some (verdicts.TheVariants.Error kinds.UnsupportedClassVersionError c)
-error_back (ClassCircularity c) = Some (verdicts.TheVariants.Error kinds.ClassCircularityError c)
-error_back (IncompatibleClassChange c) = Some (verdicts.TheVariants.Error kinds.IncompatibleClassChangeError c)
-error_back (IllegalAccess c) = Some (verdicts.TheVariants.Error kinds.IllegalAccessError c)
-error_back (NoSuchField c) = None
-error_back (NoSuchMethod c) = None
-
-verdict_back : Verdict → Option verdicts.Verdict
-verdict_back (IsClass c) = Some (verdicts.TheVariants.Class c)
-verdict_back (IsArrayOf d c) = None
-verdict_back (IsArrayOfBase d c) = None
-verdict_back (IsField c k) = None
-verdict_back (IsMethod c k) = None
-verdict_back (IsLinked c) = None
-verdict_back BadEntry = None
-verdict_back ArrayMember = None
-verdict_back (Wrong e) = error_back e
-verdict_back (Linkage n) = None
-
-there_and_back : (v : verdicts.Verdict) → verdict_back (verdict_of v) ≡ Some v
-unfolding verdict_back error_back
-there_and_back (verdicts.TheVariants.Class c) = refl
-there_and_back (verdicts.TheVariants.Error kinds.ClassNotFoundException c) = refl
-there_and_back (verdicts.TheVariants.Error kinds.NoClassDefFoundError c) = refl
-there_and_back (verdicts.TheVariants.Error kinds.ClassFormatError c) = refl
-there_and_back (verdicts.TheVariants.Error kinds.UnsupportedClassVersionError c) = refl
-there_and_back (verdicts.TheVariants.Error kinds.ClassCircularityError c) = refl
-there_and_back (verdicts.TheVariants.Error kinds.IllegalAccessError c) = refl
-there_and_back (verdicts.TheVariants.Error kinds.IncompatibleClassChangeError c) = refl
-
-some_is : (v u : verdicts.Verdict) → Some v ≡ Some u → v ≡ u
-some_is v u e = cc
-
-same_verdict : (v u : verdicts.Verdict) → verdict_of v ≡ verdict_of u → v ≡ u
-same_verdict v u e = some_is v u (sym (there_and_back v) ∙ ap verdict_back e ∙ there_and_back u)
 
 -- ---- an answer of the report is one of the state
 
@@ -70,9 +26,8 @@ pub given_at : (xs : List (Option answers.Answer)) (q : ℕ) (a : answers.Answer
 given_at xs q a e =
     ap (option_and_then (λ (o : Option Answer). o)) (slice_get-map (option_map answer_of) xs q ∙ ap (option_map (option_map answer_of)) e)
 
-said_there : (x : Shown) (q : ℕ) (v : verdicts.Verdict) → IsTrusted x → slice_get x.answers q ≡ Some (Some (answers.TheVariants.Said v)) → answer_to (state_of x).answers q ≡ Some (Said (verdict_of v))
-said_there x q v t e =
-    answer_there x q (Said (verdict_of v)) t (given_at x.answers q (answers.TheVariants.Said v) e)
+said_there : (x : Shown) (q : ℕ) (v : Verdict) → IsTrusted x → answer_at (answers_of x.answers) q ≡ Some (Said v) → answer_to (state_of x).answers q ≡ Some (Said v)
+said_there x q v t e = answer_there x q (Said v) t e
 
 -- ---- the clauses
 
@@ -95,9 +50,8 @@ alike (Some content) x t run =
     let g = machine x content in
     let first = asked_at x content p r t one.asked in
     let second = asked_at x content q r t two.asked in
-    same_verdict v u
-    (said_alike g (state_of x) p q (record { request = request_of r; round = first.0 }) (record { request = request_of r; round = second.0 }) (verdict_of v) (verdict_of u) (runs_are_sound g (steps x) run) first.1 second.1 refl
-    (said_there x p v t one.answered) (said_there x q u t two.answered))
+    said_alike g (state_of x) p q (record { request = request_of r; round = first.0 }) (record { request = request_of r; round = second.0 }) v u (runs_are_sound g (steps x) run) first.1 second.1 refl
+    (said_there x p v t one.answered) (said_there x q u t two.answered)
 
 answered_plan : (g : Setting) (s : State) (q l n : ℕ) (name : List ℕ) (v : Verdict) → IsSound g s → slice_get g.script q ≡ Some (record { request = Load l name; round = n }) → answer_to s.answers q ≡ Some (Said v) → AnswersPlan g s (Load l name) v
 answered_plan g s q l n name v sound asked is =
@@ -114,16 +68,11 @@ circles_exact (Some content) x t run =
     λ q loader name v says.
     let g = machine x content in
     let at = asked_at x content q (requests.TheVariants.Load loader name) t says.asked in
-    let plan = answered_plan g (state_of x) q loader at.0 name (verdict_of v) (runs_are_sound g (steps x) run) at.1 (said_there x q v t says.answered) in
+    let plan = answered_plan g (state_of x) q loader at.0 name v (runs_are_sound g (steps x) run) at.1 (said_there x q v t says.answered) in
     record {
-      only = λ c e. only_there g (state_of x) loader name c (subst (λ (k : Verdict). AnswersPlan g (state_of x) (Load loader name) k) (ap verdict_of e) plan);
-      there = λ c ends. circle_or_refusal v c (circular_is_answered g (state_of x) loader ends.place name c (verdict_of v) ends.found ends.returns plan);
+      only = λ c e. only_there g (state_of x) loader name c (subst (λ (k : Verdict). AnswersPlan g (state_of x) (Load loader name) k) e plan);
+      there = λ c ends. circular_is_answered g (state_of x) loader ends.place name c v ends.found ends.returns plan;
     }
   where
     only_there : (g : Setting) (s : State) (loader : ℕ) (name : List ℕ) (c : Class) → AnswersPlan g s (Load loader name) (Wrong (ClassCircularity c)) → EndsInCircle g.world loader name c
     only_there g s loader name c plan = let r = circle_is_answered g s loader name c plan in record { place = r.0; found = r.1; returns = r.2 }
-
-    circle_or_refusal : (v : verdicts.Verdict) (c : Class) → (verdict_of v ≡ Wrong (ClassCircularity c)) ⊎ ((n : Need) × (verdict_of v ≡ Linkage n))
-        → (v ≡ verdicts.TheVariants.Error kinds.ClassCircularityError c) ⊎ IsRefusal v
-    circle_or_refusal v c (inl e) = inl (same_verdict v (verdicts.TheVariants.Error kinds.ClassCircularityError c) e)
-    circle_or_refusal v c (inr n) = inr n

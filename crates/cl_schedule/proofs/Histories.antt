@@ -26,6 +26,9 @@ pub posts_then : (g h : List Event) → posts (g ++ h) ≡ posts g ++ posts h
 posts_then [] h = refl
 posts_then (events.Define c ∷ g) h = posts_then g h
 posts_then (events.Initiate c loader ∷ g) h = posts_then g h
+posts_then (events.Constrain e ∷ g) h = posts_then g h
+posts_then (events.Settle s ∷ g) h = posts_then g h
+posts_then (events.Prepare c ∷ g) h = posts_then g h
 posts_then (events.NextRound ∷ g) h = posts_then g h
 posts_then (events.Post q ∷ g) h = ap (◌∷◌ q) (posts_then g h)
 
@@ -116,6 +119,9 @@ steps_set : (old new : List (Option Answer)) (h : List Event) (q : ℕ) → ((p 
 steps_set old new [] q same out = refl
 steps_set old new (events.Define c ∷ h) q same out = ap (◌∷◌ (Define c)) (steps_set old new h q same out)
 steps_set old new (events.Initiate c loader ∷ h) q same out = ap (◌∷◌ (Initiate c.name c.loader loader)) (steps_set old new h q same out)
+steps_set old new (events.Constrain e ∷ h) q same out = ap (◌∷◌ (step_of old (events.Constrain e))) (steps_set old new h q same out)
+steps_set old new (events.Settle s ∷ h) q same out = ap (◌∷◌ (step_of old (events.Settle s))) (steps_set old new h q same out)
+steps_set old new (events.Prepare c ∷ h) q same out = ap (◌∷◌ (step_of old (events.Prepare c))) (steps_set old new h q same out)
 steps_set old new (events.NextRound ∷ h) q same out = ap (◌∷◌ NextRound) (steps_set old new h q same out)
 steps_set old new (events.Post p ∷ h) q same out =
     let o = or_of_false (nat_eq q p) (is_in q (posts h)) out in

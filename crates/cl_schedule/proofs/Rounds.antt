@@ -14,7 +14,7 @@ use Rattle.cl_model.specs.Content.{Content}
 use Rattle.cl_model.specs.States.{State, Answer, Posted, answer_to, start}
 use Rattle.cl_model.specs.Machine.{Setting, Scheduled, Step, Define, Initiate, NextRound, EndsRound, MayGoOn, after, state_after}
 use Rattle.cl_model.specs.Service.{PassesRounds, AllServed}
-use Rattle.cl_model.specs.Views.{answers_of, answer_at, request_of, post_of, steps_of}
+use Rattle.cl_model.specs.Views.{answers_of, answer_at, request_of, post_of, step_of, steps_of}
 use Rattle.cl_model.proofs.Sound.{posted_stay}
 use Rattle.cl_model.proofs.Service.{all_served_push, state_append}
 use Rattle.cl_config.specs.Loaders.{schedule, schedule_of}
@@ -147,6 +147,9 @@ posted_answer : (now : List (Option Answer)) (h : List Event) (s : State) (q : �
 posted_answer now [] s q a at none is = absurd cc
 posted_answer now (events.Define c ∷ h) s q a at none is = posted_answer now h (after s (Define c)) q a at none is
 posted_answer now (events.Initiate c loader ∷ h) s q a at none is = posted_answer now h (after s (Initiate c.name c.loader loader)) q a at none is
+posted_answer now (events.Constrain e ∷ h) s q a at none is = posted_answer now h (after s (step_of now (events.Constrain e))) q a at none is
+posted_answer now (events.Settle r ∷ h) s q a at none is = posted_answer now h (after s (step_of now (events.Settle r))) q a at none is
+posted_answer now (events.Prepare c ∷ h) s q a at none is = posted_answer now h (after s (step_of now (events.Prepare c))) q a at none is
 posted_answer now (events.NextRound ∷ h) s q a at none is = posted_answer now h (after s NextRound) q a at none is
 posted_answer now (events.Post p ∷ h) s q a at none is = by_test (nat_eq q p) refl is (posted_answer now h (after s (post_of p (answer_at now p))) q a at)
   where

@@ -16,6 +16,7 @@ use Rattle.cl_model.specs.Service.{IsNextNeed, MayEnd, IsBegun}
 use Rattle.cl_model.specs.Views.{answer_of, request_of}
 use Rattle.cl_model.proofs.Closed.{runs_are_closed}
 use Rattle.cl_model.proofs.Service.{WantsNeeds, load_wants, need_next, begun_push, begun_ends, load_comes, run_last, state_append}
+use Rattle.cl_config.specs.Scripts.{IsLoadRequest}
 use Rattle.cl_config.specs.Views.{Configured}
 use Rattle.cl_delegation.specs.Searches.{Located}
 use Rattle.cl_delegation.specs.Worlds.{world_of}
@@ -33,9 +34,11 @@ use Rattle.cl_schedule.proofs.Histories.{Happens, happens_define, happens_initia
 use Rattle.cl_schedule.proofs.Serving.{Goes, goes_none, goes_on, goes_same}
 use Rattle.cl_schedule.proofs.Told.{holds_stays, state_happens}
 
--- what a request of today wants
-wants_needs : (r : Request) → WantsNeeds (request_of r)
-wants_needs (requests.TheVariants.Load loader name) = load_wants loader name
+-- what a load wants
+wants_needs : (r : Request) → IsLoadRequest r → WantsNeeds (request_of r)
+wants_needs (requests.TheVariants.Load loader name) load = load_wants loader name
+wants_needs (requests.TheVariants.Resolve loader name index) load = absurd load
+wants_needs (requests.TheVariants.Link loader name) load = absurd load
 
 -- the request's service was begun since
 abbrev pub BegunIn : Option Content → Shown → Shown → Request → Type 0
@@ -80,10 +83,10 @@ abbrev IsNextIn : Option Content → Shown → Request → Need → Type 0
 IsNextIn told x r n = (content : Content) → told ≡ Some content → IsNextNeed (machine x content).world (state_of x) (request_of r) n
 
 -- a service goes on by the step of its next need
-begun_more : (told : Option Content) (old x new : Shown) (r : Request) (n : Need) (e : Step) → BegunIn told old x r → RunsAs told new → Happens x new e → IsNextIn told x r n → step_for n ≡ e → AddsIn n e → BegunIn told old new r
+begun_more : (told : Option Content) (old x new : Shown) (r : Request) (n : Need) (e : Step) → IsLoadRequest r → BegunIn told old x r → RunsAs told new → Happens x new e → IsNextIn told x r n → step_for n ≡ e → AddsIn n e → BegunIn told old new r
 unfolding since_more
-begun_more None old x new r n e b run h next is adds = tt
-begun_more (Some content) old x new r n e b run h next is adds =
+begun_more None old x new r n e load b run h next is adds = tt
+begun_more (Some content) old x new r n e load b run h next is adds =
     let s = b.0 in
     let g : Setting = machine old content in
     let more = since_more old x new s e h.config h.script h.step in
@@ -95,7 +98,7 @@ begun_more (Some content) old x new r n e b run h next is adds =
     let there : IsNextNeed g.world (state_after (state_of old) s.more) (request_of r) n = subst (λ (t : State). IsNextNeed g.world t (request_of r) n) here need in (
       more,
       subst (λ (k : Step). IsBegun g (request_of r) (state_of old) (s.more ++ k ∷ [])) is
-          (begun_push g (request_of r) (state_of old) s.more (step_for n) b.1 (need_next g (state_after (state_of old) s.more) (request_of r) n (wants_needs r) there add)),
+          (begun_push g (request_of r) (state_of old) s.more (step_for n) b.1 (need_next g (state_after (state_of old) s.more) (request_of r) n (wants_needs r load) there add)),
     )
 
 -- an answer is the plan's in this state, or a failure
@@ -104,16 +107,18 @@ Answering g s r (Said v) = AnswersPlan g s (request_of r) v
 Answering g s r OutOfMemory = Unit {0}
 Answering g s r (SourceFault n l) = Unit {0}
 
-may_end : (g : Setting) (s : State) (r : Request) (a : Answer) → Answering g s r a → MayEnd g s (request_of r) a
-may_end g s (requests.TheVariants.Load loader name) (Said v) a = load_comes g s loader name v a
-may_end g s r OutOfMemory a = tt
-may_end g s r (SourceFault n l) a = tt
+may_end : (g : Setting) (s : State) (r : Request) (a : Answer) → IsLoadRequest r → Answering g s r a → MayEnd g s (request_of r) a
+may_end g s (requests.TheVariants.Load loader name) (Said v) load a = load_comes g s loader name v a
+may_end g s (requests.TheVariants.Resolve loader name index) (Said v) load a = absurd load
+may_end g s (requests.TheVariants.Link loader name) (Said v) load a = absurd load
+may_end g s r OutOfMemory load a = tt
+may_end g s r (SourceFault n l) load a = tt
 
-served_posted : (told : Option Content) (old x new : Shown) (q : ℕ) (r : Request) (a : rust.Answer) → BegunIn told old x r → ((content : Content) → told ≡ Some content → Answering (machine x content) (state_of x) r (answer_of a))
+served_posted : (told : Option Content) (old x new : Shown) (q : ℕ) (r : Request) (a : rust.Answer) → IsLoadRequest r → BegunIn told old x r → ((content : Content) → told ≡ Some content → Answering (machine x content) (state_of x) r (answer_of a))
     → new ≡ with_post x q a → steps (with_post x q a) ≡ steps x ++ Post q (answer_of a) ∷ [] → Served told old new q r
 unfolding since_more
-served_posted None old x new q r a b answering e h = tt
-served_posted (Some content) old x new q r a b answering e h =
+served_posted None old x new q r a load b answering e h = tt
+served_posted (Some content) old x new q r a load b answering e h =
     let s = b.0 in
     let g : Setting = machine old content in
     let more = since_more old x new s (Post q (answer_of a)) (ap (λ (y : Shown). y.config) e) (ap (λ (y : Shown). y.script) e) (ap steps e ∙ h) in
@@ -121,7 +126,7 @@ served_posted (Some content) old x new q r a b answering e h =
     let answered : Answering g (state_of x) r (answer_of a) = subst (λ (k : Setting). Answering k (state_of x) r (answer_of a)) (same_machine old x content s.config s.script) (answering content refl) in (
       more,
       begun_ends g q (request_of r) (state_of old) s.more (answer_of a) b.1
-          (may_end g (state_after (state_of old) s.more) r (answer_of a) (subst (λ (t : State). Answering g t r (answer_of a)) here answered)),
+          (may_end g (state_after (state_of old) s.more) r (answer_of a) load (subst (λ (t : State). Answering g t r (answer_of a)) here answered)),
     )
 
 -- ---- what a task says, where its request is served
@@ -132,6 +137,7 @@ of_request o r P e h = subst (λ (k : Option Request). IfSome k P) e h
 
 -- what a registry keeps from the first turn of a request on
 pub record Going (told : Option Content) (old now : Shown) (r : Request) : Type 0 where
+  pub load : IsLoadRequest r
   pub goes : Goes old now
   pub round : round_of now ≡ round_of old
   pub answers : now.answers ≡ old.answers
@@ -170,12 +176,13 @@ pub backed_now : {A : Type 0} (told : Option Content) (old x : Shown) (c : Confi
     → BackedWhere t.config (λ s. Tells s t reply) u → Backed x u
 backed_now told old x c r t reply u g is k backed = backed x (g.goes.config ∙ is ∙ sym k.config) g.kept.named k.tells
 
-pub going_start : (told : Option Content) (x : Shown) (r : Request) → IsKept told x → Going told x x r
-going_start told x r kept = record { goes = goes_none x; round = refl; answers = refl; kept = kept; begun = begun_none told x r }
+pub going_start : (told : Option Content) (x : Shown) (r : Request) → IsLoadRequest r → IsKept told x → Going told x x r
+going_start told x r load kept = record { load = load; goes = goes_none x; round = refl; answers = refl; kept = kept; begun = begun_none told x r }
 
 going_same : (told : Option Content) (old x new : Shown) (r : Request) → Going told old x r → new ≡ x → IsKept told new → Going told old new r
 going_same told old x new r g same kept =
     record {
+      load = g.load;
       goes = goes_same old x new g.goes same;
       round = ap round_of same ∙ g.round;
       answers = ap (λ (y : Shown). y.answers) same ∙ g.answers;
@@ -186,11 +193,12 @@ going_same told old x new r g same kept =
 going_on : (told : Option Content) (old x new : Shown) (r : Request) (n : Need) (e : Step) → Going told old x r → Happens x new e → IsNextIn told x r n → step_for n ≡ e → AddsIn n e → IsInRound e → IsKept told new → Going told old new r
 going_on told old x new r n e g h next is adds within kept =
     record {
+      load = g.load;
       goes = goes_on old x new e g.goes h;
       round = ap (λ (s : State). s.round) (state_happens x new e h) ∙ within (state_of x) ∙ g.round;
       answers = h.answers ∙ g.answers;
       kept = kept;
-      begun = begun_more told old x new r n e g.begun kept.run h next is adds;
+      begun = begun_more told old x new r n e g.load g.begun kept.run h next is adds;
     }
 
 -- ---- a definition
@@ -229,7 +237,7 @@ initiating : (told : Option Content) (old x new : Shown) (r : Request) (h : Loca
     → new ≡ with_initiate x h → IsKept told new → Going told old new r
 initiating None old x new r h g follows more kept =
     let k = happens_initiate x new h more in
-    record { goes = goes_on old x new (Initiate h.name h.place h.asked) g.goes k; round = ap (λ (s : State). s.round) (state_happens x new (Initiate h.name h.place h.asked) k) ∙ g.round; answers = k.answers ∙ g.answers; kept = kept; begun = tt }
+    record { load = g.load; goes = goes_on old x new (Initiate h.name h.place h.asked) g.goes k; round = ap (λ (s : State). s.round) (state_happens x new (Initiate h.name h.place h.asked) k) ∙ g.round; answers = k.answers ∙ g.answers; kept = kept; begun = tt }
 initiating (Some content) old x new r h g follows more kept =
     going_on (Some content) old x new r (Entry h.asked h.name h.place) (Initiate h.name h.place h.asked) g (happens_initiate x new h more)
     (λ content e. (follows content e).0) (initiate_for h (follows content refl).1) (λ k s may. may.may_add) (λ s. refl) kept
@@ -258,6 +266,7 @@ still_now told old x r q g now later =
 
 answering : (g : Setting) (s : State) (r : Request) (a : rust.Answer) → AnswerFollows g s r a → Answering g s r (answer_of a)
 answering g s r (rust.TheVariants.Said v) f = f
+answering g s r (rust.TheVariants.Shared v) f = f
 answering g s r rust.TheVariants.Memory f = tt
 answering g s r (rust.TheVariants.SourceFault n l) f = tt
 
@@ -265,11 +274,11 @@ pub going_post : {A : Type 0} (told : Option Content) (old x new : Shown) (c : C
     → IfSome t.request (λ (r : Request). FollowsWhere {A = A} told t.config (λ s. Tells s t reply) r (turn.Post f)) → IsOpen old q → new ≡ with_post x q f.answer → Served told old new q r
 going_post {A = A} told old x new c q r t reply f g is k next open_before e =
     let opened : IsOpen x q = subst (λ (xs : List (Option rust.Answer)). slice_get xs q ≡ Some None) (sym g.answers) open_before in
-    served_posted told old x new q r f.answer g.begun
+    served_posted told old x new q r f.answer g.load g.begun
     (λ content is_told. answering (machine x content) (state_of x) r f.answer (follows_now {A = A} told old x c r t reply (turn.Post f) g is k next content is_told)) e
     (steps_posts x q f.answer (unposted x q g.kept.trusted opened) opened)
 
 -- memory ran out before the first turn
-pub posted_memory : (told : Option Content) (x new : Shown) (q : ℕ) (r : Request) (a : rust.Answer) → IsKept told x → IsOpen x q → a ≡ rust.TheVariants.Memory → new ≡ with_post x q a → Served told x new q r
-posted_memory told x new q r a kept opened is e =
-    served_posted told x x new q r rust.TheVariants.Memory (begun_none told x r) (λ content t. tt) (e ∙ ap (with_post x q) is) (steps_posts x q rust.TheVariants.Memory (unposted x q kept.trusted opened) opened)
+pub posted_memory : (told : Option Content) (x new : Shown) (q : ℕ) (r : Request) (a : rust.Answer) → IsLoadRequest r → IsKept told x → IsOpen x q → a ≡ rust.TheVariants.Memory → new ≡ with_post x q a → Served told x new q r
+posted_memory told x new q r a load kept opened is e =
+    served_posted told x x new q r rust.TheVariants.Memory load (begun_none told x r) (λ content t. tt) (e ∙ ap (with_post x q) is) (steps_posts x q rust.TheVariants.Memory (unposted x q kept.trusted opened) opened)

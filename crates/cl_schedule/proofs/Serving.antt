@@ -1,6 +1,6 @@
 -- What the calls of one request do to a registry.
 use Rattle.std.proofs.Common.{◌≡◌, ◌∙◌, ◌+◌, ◌<◌, ◌≤◌, ◌∷◌, ◌++◌, [], ℕ, zero, suc, Bool, true, false, List, length, Option, Some, None, map, refl, ap, sym, subst, arith, is_some, add-one}
-use Rattle.std.specs.Prelude.{◌||◌, nat_eq, slice_get, slice_index_or}
+use Rattle.std.specs.Prelude.{◌||◌, nat_eq, slice_get, slice_index_or, All}
 use Rattle.std.proofs.lemmas.Bool.Decides.{nat_tests}
 use Rattle.cl_model.specs.declared.answer.Answer.{Answer}
 use Rattle.cl_model.specs.declared.event.Event.TheVariants as events
@@ -9,7 +9,7 @@ use Rattle.cl_model.specs.declared.request.Request.{Request}
 use Rattle.cl_model.specs.Content.{Content}
 use Rattle.cl_model.specs.Machine.{Step}
 use Rattle.cl_registry.specs.Findings.{loader_of}
-use Rattle.cl_config.specs.Scripts.{HasLoader, HasLoaders}
+use Rattle.cl_config.specs.Scripts.{HasLoader, HasLoaders, IsLoadRequest}
 use Rattle.cl_model.specs.Views.{answers_of, answer_at}
 use Rattle.cl_registry.specs.declared.report.Report.{Report}
 use Rattle.cl_config.specs.Views.{Configured}
@@ -120,7 +120,7 @@ none_is_open x n t order whole (q, is) =
     in_range (x ∷ xs) zero e = omega arith
     in_range (x ∷ xs) (suc p) e = let below = in_range xs p e in omega arith
 
--- ---- the loader of a request of the script
+-- ---- the requests of the script
 
 asked_is : (rs : List Request) (q : ℕ) (r d : Request) → slice_get rs q ≡ Some r → slice_index_or rs q d ≡ r
 asked_is [] q r d e = absurd cc
@@ -129,6 +129,12 @@ asked_is (x ∷ rs) (suc q) r d e = asked_is rs q r d e
 
 names_loader : (n : ℕ) (r : Request) → HasLoader n r → loader_of r < n
 names_loader n (requests.TheVariants.Load loader name) h = h
+names_loader n (requests.TheVariants.Resolve loader name index) h = h
+names_loader n (requests.TheVariants.Link loader name) h = h
 
 pub has_loader : (n : ℕ) (rs : List Request) (q : ℕ) (r : Request) → HasLoaders n rs → slice_get rs q ≡ Some r → loader_of r < n
 has_loader n rs q r all e = names_loader n r (subst (HasLoader n) (asked_is rs q r r e) (all q r (in_script rs q r e)))
+
+-- each request of a script is a load
+pub is_load : (rs : List Request) (q : ℕ) (r : Request) → All IsLoadRequest rs → slice_get rs q ≡ Some r → IsLoadRequest r
+is_load rs q r all e = subst IsLoadRequest (asked_is rs q r r e) (all q r (in_script rs q r e))

@@ -11,7 +11,7 @@ use Rattle.cl_model.specs.Content.{Content}
 use Rattle.cl_model.specs.Classes.{class, same_class}
 use Rattle.cl_model.specs.States.{State, Record, Answer, recorded, start}
 use Rattle.cl_model.specs.Machine.{Define, Initiate, NextRound, after, state_after}
-use Rattle.cl_model.specs.Views.{answers_of, answer_at, post_of, steps_of}
+use Rattle.cl_model.specs.Views.{answers_of, answer_at, post_of, step_of, steps_of}
 use Rattle.cl_model.proofs.Runs.{record_found, records_stay, and_is, names_equal}
 use Rattle.cl_model.proofs.Ancestors.{same_self}
 use Rattle.cl_delegation.specs.Searches.{Located}
@@ -55,6 +55,9 @@ undefined now (events.Define d ∷ h) s c none = by_test (same_class d c) refl (
     by_test true e rest = absurd (other (same_is d c e))
     by_test false e rest = ap (λ (b : Bool). if b then Some d else find (λ k. same_class k c) (defined h)) e ∙ rest
 undefined now (events.Initiate d loader ∷ h) s c none = undefined now h (after s (Initiate d.name d.loader loader)) c none
+undefined now (events.Constrain e ∷ h) s c none = undefined now h (after s (step_of now (events.Constrain e))) c none
+undefined now (events.Settle r ∷ h) s c none = undefined now h (after s (step_of now (events.Settle r))) c none
+undefined now (events.Prepare d ∷ h) s c none = undefined now h (after s (step_of now (events.Prepare d))) c none
 undefined now (events.NextRound ∷ h) s c none = undefined now h (after s NextRound) c none
 undefined now (events.Post q ∷ h) s c none = undefined now h (after s (post_of q (answer_at now q))) c none
 

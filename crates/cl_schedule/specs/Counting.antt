@@ -5,11 +5,12 @@ use Rattle.cl_source.specs.declared.source.SourceFault.TheVariants as sources
 use Rattle.cl_registry.specs.declared.report.Report.{Report}
 use Rattle.cl_tasks.specs.declared.stage.Reply.{Reply}
 use Rattle.cl_tasks.specs.declared.stage.Reply.TheVariants as reply
-use Rattle.cl_model.specs.declared.answer.Answer.TheVariants.{Said, Memory, SourceFault}
+use Rattle.cl_model.specs.declared.answer.Answer.TheVariants.{Said, Shared, Memory, SourceFault}
 
 -- one where the answer is a fault of the source
 abbrev pub fault : Answer → ℕ
 fault (Said v) = 0
+fault (Shared s) = 0
 fault Memory = 0
 fault (SourceFault name loader) = 1
 

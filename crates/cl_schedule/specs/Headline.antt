@@ -2,15 +2,12 @@
 use Rattle.std.specs.Prelude.{◌≡◌, ◌⊎◌, ℕ, List, [], length, Option, Some, None, Ok, slice_get}
 use Rattle.cl_classfile.specs.Files.{File}
 use Rattle.cl_model.specs.declared.class.Class.{Class}
-use Rattle.cl_model.specs.declared.answer.Answer as answers
 use Rattle.cl_model.specs.declared.request.Request as requests
-use Rattle.cl_model.specs.declared.verdict.Verdict as verdicts
-use Rattle.cl_model.specs.declared.verdict.ErrorKind.TheVariants as kinds
 use Rattle.cl_model.specs.Content.{Content, content_at}
 use Rattle.cl_model.specs.Homes.{World, home}
-use Rattle.cl_model.specs.Classes.{class, Returns}
-use Rattle.cl_model.specs.States.{IsRecorded, Need, Linkage}
-use Rattle.cl_model.specs.Views.{verdict_of}
+use Rattle.cl_model.specs.Classes.{class, ClassCircularity, Returns}
+use Rattle.cl_model.specs.States.{IsRecorded, Need, Verdict, Wrong, Linkage, Said}
+use Rattle.cl_model.specs.Views.{answers_of, answer_at}
 use Rattle.cl_config.specs.Views.{Configured, Scripted}
 use Rattle.cl_registry.specs.declared.report.Report.{Report}
 use Rattle.cl_registry.specs.Reports.{IsNamed}
@@ -32,15 +29,15 @@ EachSpelt None x = Unit {0}
 EachSpelt (Some content) x = (c : Class) → IsRecorded (state_of x) c → IsSpelt (machine x content).world c
 
 -- the request of this number asks this, and was answered so
-pub record Says (x : Shown) (q : ℕ) (r : requests.Request) (v : verdicts.Verdict) : Type 0 where
+pub record Says (x : Shown) (q : ℕ) (r : requests.Request) (v : Verdict) : Type 0 where
   pub asked : slice_get x.script.requests q ≡ Some r
-  pub answered : slice_get x.answers q ≡ Some (Some (answers.TheVariants.Said v))
+  pub answered : answer_at (answers_of x.answers) q ≡ Some (Said v)
 
 -- equal requests are answered alike, failures apart
 abbrev pub Alike : Option Content → Shown → Type 0
 Alike None x = Unit {0}
 Alike (Some content) x =
-    (p q : ℕ) (r : requests.Request) (v u : verdicts.Verdict) → Says x p r v → Says x q r u → v ≡ u
+    (p q : ℕ) (r : requests.Request) (v u : Verdict) → Says x p r v → Says x q r u → v ≡ u
 
 -- a load ends in a circle of this class: its home's walk along first supertypes that are not good meets the class again (5.3.5)
 pub record EndsInCircle (w : World) (loader : ℕ) (name : List ℕ) (c : Class) : Type 0 where
@@ -49,20 +46,20 @@ pub record EndsInCircle (w : World) (loader : ℕ) (name : List ℕ) (c : Class)
   pub returns : Returns w [] (class name place) c
 
 -- a need before the end is refused, which today's verdicts never tell: loads impose no equality (5.3.4)
-abbrev pub IsRefusal : verdicts.Verdict → Type 0
-IsRefusal v = (n : Need) × (verdict_of v ≡ Linkage n)
+abbrev pub IsRefusal : Verdict → Type 0
+IsRefusal v = (n : Need) × (v ≡ Linkage n)
 
 -- ClassCircularityError is answered where the load ends in a circle, of that class, unless a need before is refused; and nowhere
 -- else (5.3.5)
-pub record CircleAnswer (w : World) (loader : ℕ) (name : List ℕ) (v : verdicts.Verdict) : Type 0 where
-  pub only : (c : Class) → v ≡ verdicts.TheVariants.Error kinds.ClassCircularityError c → EndsInCircle w loader name c
-  pub there : (c : Class) → EndsInCircle w loader name c → (v ≡ verdicts.TheVariants.Error kinds.ClassCircularityError c) ⊎ IsRefusal v
+pub record CircleAnswer (w : World) (loader : ℕ) (name : List ℕ) (v : Verdict) : Type 0 where
+  pub only : (c : Class) → v ≡ Wrong (ClassCircularity c) → EndsInCircle w loader name c
+  pub there : (c : Class) → EndsInCircle w loader name c → (v ≡ Wrong (ClassCircularity c)) ⊎ IsRefusal v
 
 -- each load that is answered with a verdict is answered so (5.3.5)
 abbrev pub CirclesExact : Option Content → Shown → Type 0
 CirclesExact None x = Unit {0}
 CirclesExact (Some content) x =
-    (q loader : ℕ) (name : List ℕ) (v : verdicts.Verdict) → Says x q (requests.TheVariants.Load loader name) v
+    (q loader : ℕ) (name : List ℕ) (v : Verdict) → Says x q (requests.TheVariants.Load loader name) v
     → CircleAnswer (machine x content).world loader name v
 
 -- the report of a script that was served in order under a configuration. Where a content is told, the history is a run

@@ -1,5 +1,5 @@
 ghost use Rattle.std.specs.Prelude.{◌≡◌, ◌<◌, ◌++◌, ◌∷◌, [], IfOk, IfErr, ℕ, List, length, slice_get};
-ghost use Rattle.cl_config.specs.Scripts.{HasLoaders};
+ghost use Rattle.cl_config.specs.Scripts.{HasLoaders, IsLoadRequest};
 ghost use Rattle.cl_registry.specs.Findings.{loader_of};
 ghost use Rattle.cl_registry.specs.Tables.{Shown, IsAsked, IsBacked, IsKept, IsLater, IsOpen, MayEnter, MayJoin, posts, with_post};
 ghost use Rattle.cl_hierarchy.specs.Paths.{at_name};
@@ -158,7 +158,7 @@ fn pass_rounds<T: Told>(registry: &mut Registry<T>)
     }
 }
 
-/// Serves one request, from its first turn to its post.
+/// Serves one load, from its first turn to its post.
 fn serve_request<T: Told, S: Source<T>>(
     alloc: Global,
     config: Arc<Config>,
@@ -168,6 +168,7 @@ fn serve_request<T: Told, S: Source<T>>(
     request: Request,
 )
     requires config { registry.old.config ≡ config.value }
+    requires load { IsLoadRequest request }
     requires loader { loader_of request < length config.value.loaders }
     requires asked { slice_get registry.old.script.requests q ≡ Some request }
     requires begun { IsLater registry.old q → ⊥ }
@@ -217,8 +218,7 @@ fn request_at(alloc: Global, script: &Script, q: u32) -> Result<Request, AllocEr
     requires { q < length script.now.requests }
     ensures { IfOk result (λ r. slice_get script.now.requests q ≡ Some r) }
 {
-    let Request::Load(loader, name) = &script.requests()[q as usize];
-    Ok(Request::Load(*loader, name.try_clone(alloc)?))
+    script.requests()[q as usize].try_clone(alloc)
 }
 
 /// Serves the requests of a script in order, round by round (JVMS SE 8, 5.3). Where the source tells a content, the

@@ -36,16 +36,22 @@ fn each_read_fails_once(rt: HostRuntime) -> Result<(), Fail> {
         let mut source = FaultySource::new(source.tell::<Untold>(), at);
         let script = "load plug p/T\nthen\nload app p/T\n";
         let report = served(alloc, &mut source, script)?;
-        let fault = Answer::SourceFault(class_name(alloc, name)?, LoaderId(loader));
+        let name = class_name(alloc, name)?;
         let answers = report.answers.as_slice();
         for (number, home) in [PLUG, APP].iter().enumerate() {
             let class = Class {
                 name: class_name(alloc, b"p/T")?,
                 loader: LoaderId(*home),
             };
-            let found = Answer::Said(Verdict::Class(class));
-            let wanted = if number == blamed { &fault } else { &found };
-            assert!(rt; answers.get(number) == Some(wanted));
+            let found = Verdict::Class(class);
+            let as_wanted = match answers.get(number) {
+                Some(Answer::Said(verdict)) => number != blamed && *verdict == found,
+                Some(Answer::SourceFault(at, by)) => {
+                    number == blamed && *at == name && *by == LoaderId(loader)
+                }
+                _ => false,
+            };
+            assert!(rt; as_wanted);
         }
         assert!(rt; source.failures() == u64::from(blamed < 2));
     }
@@ -107,7 +113,7 @@ fn long_chain(rt: HostRuntime) -> Result<(), Fail> {
             Verdict::Class(class)
         };
         assert!(rt; report.history.events().len() == events);
-        assert!(rt; report.answers.as_slice() == [Answer::Said(verdict)].as_slice());
+        assert!(rt; matches!(report.answers.as_slice(), [Answer::Said(said)] if *said == verdict));
     }
     Ok(())
 }

@@ -19,10 +19,14 @@ abbrev pub Counts : {A : Type 0} → ℕ → ℕ → Result A SourceFault → Ty
 Counts old new (Ok probe) = new ≡ old
 Counts old new (Err fault) = CountsFault old new fault
 
--- a source that refuses one read of another: which, how many reads until then, and how many were refused by itself, and
--- by the inner one (own choice)
-pub record Faulting : Type 0 where
+-- a source that refuses one read of another: which, how many reads until then, how many were refused, and the inner one
+-- (own choice)
+pub record Faulting (A : Type 0) : Type 0 where
   pub at : ℕ
   pub until : ℕ
   pub refused : ℕ
-  pub inner : ℕ
+  pub inner : A
+
+-- what is answered is what the inner source may answer, but for the one read, and once the count is at its end (own choice)
+abbrev pub PassesOn : {A B : Type 0} → (Result B SourceFault → Type 0) → Faulting A → Result B SourceFault → Type 0
+PassesOn inner s result = (s.until ≡ 1 → ⊥) → (s.refused + 1 < 2 ^ 64) → inner result

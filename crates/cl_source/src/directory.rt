@@ -34,7 +34,8 @@ impl<F: ReadFile> DirSource<F> {
     pub fn new(alloc: Global, files: F, config: &Config) -> Result<DirSource<F>, SourceFault>
         ensures fault { IfErr result (λ e. e ≡ SourceFault.Memory) }
         ensures files { IfOk result (λ s. s.files ≡ files) }
-        ensures dirs { IfOk result (λ s. map string_bytes s.dirs.items ≡ map (λ l. l.dir) config.now.loaders) }
+        ensures dirs { IfOk result (λ s. map string_bytes s.dirs.items
+            ≡ map (λ l. l.dir) config.now.loaders) }
         ensures own { IfOk result (λ s. s.failures ≡ 0) }
     {
         Ok(DirSource::over(files, config.directories(alloc)?))
@@ -53,7 +54,8 @@ impl<F: ReadFile> DirSource<F> {
 
     /// What a loader's directory has for a name.
     fn look(&self, alloc: Global, loader: LoaderId, name: &Name) -> Result<Outcome, SourceFault>
-        ensures { AnswerOf (F.gives self.now.files) (path_in (slice_get (map string_bytes self.now.dirs.items) loader) name.now) result }
+        ensures { AnswerOf (F.gives self.now.files)
+            (path_in (slice_get (map string_bytes self.now.dirs.items) loader) name.now) result }
     {
         match self.dirs.get(usize::from(loader.0)) {
             Some(dir) => look_in(alloc, &self.files, dir.as_str(), name),
@@ -64,6 +66,9 @@ impl<F: ReadFile> DirSource<F> {
 
 impl<F: ReadFile> Source<Untold> for DirSource<F> {
     ghost refused = { λ s. s.failures };
+
+    ghost gives = { λ s loader name result. (s.failures + 1 < 2 ^ 64)
+        → ReadsAs (F.gives s.files) (path_in (slice_get (map string_bytes s.dirs.items) loader) name) result };
 
     /// What the loader's directory has for the name: `Absent` where there is no such file, or the name has no text in
     /// UTF-8, or the loader no directory; `TooLarge` over 16,777,216 bytes; `Device` where the system refuses the file,
@@ -102,7 +107,8 @@ impl<F: ReadFile> Source<Untold> for DirSource<F> {
     fn another(&self, alloc: Global) -> Result<Self, SourceFault>
         ensures fault { IfErr result (λ e. e ≡ SourceFault.Memory) }
         ensures own { IfOk result (λ s. s.failures ≡ 0) }
-        ensures same { IfOk result (λ s. map string_bytes s.dirs.items ≡ map string_bytes self.now.dirs.items) }
+        ensures same { IfOk result (λ s. map string_bytes s.dirs.items
+            ≡ map string_bytes self.now.dirs.items) }
     {
         Ok(DirSource {
             files: self.files.another(alloc)?,

@@ -1,5 +1,5 @@
 ghost use Rattle.std.specs.Prelude.{◌≡◌, ◌≢◌, ◌<◌, ◌+◌, ◌-◌, ◌^◌, IfOk, IfErr, IsErrOf};
-ghost use Rattle.cl_source.specs.Counts.{Counts};
+ghost use Rattle.cl_source.specs.Counts.{Counts, PassesOn};
 
 use crate::source::{Probe, Source, SourceFault};
 use cl_model::{LoaderId, Told};
@@ -22,16 +22,16 @@ pub struct FaultySource<T: Told, S: Source<T>> {
 impl<T: Told, S: Source<T>> Model for FaultySource<T, S> {
     ghost use Rattle.cl_source.specs.Counts.{Faulting};
 
-    ghost Value = { Faulting };
+    ghost Value = { Faulting S };
 
-    ghost view = { λ f. record { at = f.at; until = f.until; refused = f.refused; inner = S.refused f.inner } };
+    ghost view = { λ f. record { at = f.at; until = f.until; refused = f.refused; inner = f.inner } };
 }
 
 impl<T: Told, S: Source<T>> FaultySource<T, S> {
     /// The source whose `at`-th read, counted from 1, is refused as `Device`, and so is that of each `another`; with
     /// 0 none is.
     pub fn new(inner: S, at: u64) -> FaultySource<T, S>
-        ensures { result ≡ record { at = at; until = at; refused = 0; inner = S.refused inner } }
+        ensures { result ≡ record { at = at; until = at; refused = 0; inner = inner } }
     {
         FaultySource {
             inner,
@@ -46,6 +46,8 @@ impl<T: Told, S: Source<T>> FaultySource<T, S> {
 impl<T: Told, S: Source<T>> Source<T> for FaultySource<T, S> {
     ghost refused = { λ s. s.refused };
 
+    ghost gives = { λ s loader name result. PassesOn (S.gives s.inner loader name) s result };
+
     /// What the inner source answers, but for the one read that is refused, and once the count is at its end.
     fn read(
         &mut self,
@@ -56,8 +58,11 @@ impl<T: Told, S: Source<T>> Source<T> for FaultySource<T, S> {
         ensures asked { IfOk result (λ p. (p.loader ≡ loader) × (p.name ≡ name.now)) }
         ensures counts { Counts self.old.refused self.new.refused result }
         ensures spent { self.old.refused + 1 ≡ 2 ^ 64 → IsErrOf result SourceFault.Device }
-        ensures refused { self.old.until ≡ 1 → IsErrOf result SourceFault.Device × (self.new.inner ≡ self.old.inner) }
-        ensures others { self.old.until ≢ 1 → self.old.refused + 1 < 2 ^ 64 → Counts self.old.inner self.new.inner result }
+        ensures gives { PassesOn (S.gives self.old.inner loader name.now) self.old result }
+        ensures refused { self.old.until ≡ 1 → IsErrOf result SourceFault.Device
+            × (self.new.inner ≡ self.old.inner) }
+        ensures others { self.old.until ≢ 1 → self.old.refused + 1 < 2 ^ 64
+            → Counts (S.refused self.old.inner) (S.refused self.new.inner) result }
         ensures nearer { self.new.until ≡ self.old.until - 1 }
         ensures at { self.new.at ≡ self.old.at }
     {
@@ -83,7 +88,9 @@ impl<T: Told, S: Source<T>> Source<T> for FaultySource<T, S> {
 
     fn another(&self, alloc: Global) -> Result<Self, SourceFault>
         ensures fault { IfErr result (λ e. e ≡ SourceFault.Memory) }
-        ensures own { IfOk result (λ s. s ≡ record { at = self.now.at; until = self.now.at; refused = 0; inner = 0 }) }
+        ensures begins { IfOk result (λ s. (s.at ≡ self.now.at) × (s.until ≡ self.now.at)
+            × (s.refused ≡ 0)) }
+        ensures inner { IfOk result (λ s. S.refused s.inner ≡ 0) }
     {
         Ok(FaultySource::new(self.inner.another(alloc)?, self.at))
     }

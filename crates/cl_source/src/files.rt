@@ -28,7 +28,8 @@ pub trait ReadFile: Drop {
     fn another(&self, alloc: Global) -> Result<Self, AllocError>
     where
         Self: Sized,
-        ensures { IfOk result (λ f. (path : List ℕ) (seen : Seen) → gives f path seen → gives self.now path seen) };
+        ensures { IfOk result (λ f. (path : List ℕ) (seen : Seen) → gives f path seen
+            → gives self.now path seen) };
 }
 
 impl ReadFile for HostRuntime {
@@ -82,7 +83,8 @@ pub fn read_limited<I: Read + Drop>(
     requires { most < 2 ^ 32 }
     ensures ok { IfOk result (λ v. IfSome (I.remaining input) (λ bytes. v.items ≡ bytes)) }
     ensures small { IfOk result (λ v. length v.items ≤ most) }
-    ensures large { result ≡ Err InputFault.TooLarge → IfSome (I.remaining input) (λ bytes. most < length bytes) }
+    ensures large { result ≡ Err InputFault.TooLarge
+        → IfSome (I.remaining input) (λ bytes. most < length bytes) }
 {
     let limit = most as u64 + 1;
     let room = expected.min(limit);

@@ -2,6 +2,7 @@ ghost use Rattle.std.specs.Prelude.{◌≡◌, ◌+◌, ◌<◌, ◌≤◌, ◌^
 ghost use Rattle.std.specs.Option.{option_map};
 ghost use Rattle.cl_model.specs.Content.{Content, content_at, Tells};
 ghost use Rattle.cl_source.specs.Counts.{Counts};
+ghost use Rattle.cl_source.specs.Told.{GivesContent};
 ghost use Rattle.cl_source.specs.Puts.{Fits, Refuses, TellsMore};
 ghost use Rattle.cl_source.specs.Shelves.{content_from, Inserts};
 
@@ -70,7 +71,11 @@ impl MemorySource {
     ) -> Result<(), PutRefused>
         ensures fits { OnOk result (Fits bytes.items) }
         ensures absent { OnOk result (content_at self.old loader name ≡ None) }
-        ensures one_more { OnOk result (Inserts self.old self.new (record { loader = loader; name = name; bytes = bytes.items })) }
+        ensures one_more { OnOk result (Inserts self.old self.new (record {
+          loader = loader;
+          name = name;
+          bytes = bytes.items;
+        })) }
         ensures told { OnOk result (TellsMore self.old self.new loader name bytes.items) }
         ensures refused { IfErr result (λ e. Refuses self.old loader name bytes.items e.fault) }
         ensures unchanged { OnErr result (self.new ≡ self.old) }
@@ -136,6 +141,8 @@ impl<T: Told> Model for Telling<T> {
 impl<T: Told> Source<T> for Telling<T> {
     ghost refused = { λ _. 0 };
 
+    ghost gives = { λ s loader name result. GivesContent s loader name result };
+
     /// What was put for a loader and a name. Only want of memory refuses it.
     fn read(
         &mut self,
@@ -173,7 +180,8 @@ impl<T: Told> Source<T> for Telling<T> {
 
 /// The bytes of a loader and name.
 fn find<'a>(shelves: &'a [Shelf], loader: LoaderId, name: &Name) -> Option<&'a Arc<ClassBytes>>
-    ensures { option_map (λ b. b.now.value) result ≡ content_at (content_from 0 shelves.now) loader name.now }
+    ensures { option_map (λ b. b.now.value) result ≡ content_at (content_from 0 shelves.now) loader
+        name.now }
 {
     shelves.get(usize::from(loader.0))?.find(name)
 }
@@ -188,9 +196,16 @@ fn put_on(
     bytes: Vec<u8>,
 ) -> Result<(), NotPut>
     requires { content_at (content_from 0 shelves.old.items) loader name ≡ None }
-    ensures ok { OnOk result (Inserts (content_from 0 shelves.old.items) (content_from 0 shelves.new.items) (record { loader = loader; name = name; bytes = bytes.items })) }
-    ensures told { OnOk result (TellsMore (content_from 0 shelves.old.items) (content_from 0 shelves.new.items) loader name bytes.items) }
-    ensures unchanged { OnErr result (content_from 0 shelves.new.items ≡ content_from 0 shelves.old.items) }
+    ensures ok { OnOk result (Inserts (content_from 0 shelves.old.items)
+        (content_from 0 shelves.new.items) (record {
+          loader = loader;
+          name = name;
+          bytes = bytes.items;
+        })) }
+    ensures told { OnOk result (TellsMore (content_from 0 shelves.old.items)
+        (content_from 0 shelves.new.items) loader name bytes.items) }
+    ensures unchanged { OnErr result (content_from 0 shelves.new.items
+        ≡ content_from 0 shelves.old.items) }
     ensures name_returned { IfErr result (λ e. e.name ≡ name) }
     ensures bytes_returned { IfErr result (λ e. e.bytes.items ≡ bytes.items) }
 {

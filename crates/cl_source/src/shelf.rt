@@ -92,7 +92,8 @@ fn store(
     name: Name,
     bytes: Arc<ClassBytes>,
 ) -> Result<(), AllocError>
-    ensures { OnOk result (entries.new.entries ≡ insert_entry (pointwise nat_eq) entries.old.entries name bytes) }
+    ensures { OnOk result (entries.new.entries ≡ insert_entry (pointwise nat_eq) entries.old.entries
+        name bytes) }
 {
     entries.insert(name, bytes)?;
     Ok(())

@@ -1,4 +1,5 @@
-ghost use Rattle.std.specs.Prelude.{◌≡◌, ◌+◌, ◌^◌, ℕ, IfOk, IfErr, IsErrOf};
+ghost use Rattle.std.specs.Prelude.{◌≡◌, ◌+◌, ◌^◌, ℕ, List, Result, IfOk, IfErr, IsErrOf, ⊤};
+ghost use Rattle.cl_source.specs.Views.{Found};
 ghost use Rattle.cl_source.specs.Told.{IsTold};
 
 use cl_model::{LoaderId, Told};
@@ -139,9 +140,13 @@ impl From<AllocError> for SourceFault {
 /// Gives the bytes that each loader's own content has for a name (JVMS SE 8, 5.3.2).
 pub trait Source<T: Told>: Drop {
     ghost use Rattle.cl_source.specs.Counts.{Counts};
+    ghost use Rattle.cl_source.specs.declared.source.SourceFault.{SourceFault};
 
     /// How many reads the source has refused for another cause than memory.
     ghost refused: { Self → ℕ };
+
+    /// What a read of a loader's name may answer, where a source says more of it than what it counts.
+    ghost gives: { Self → ℕ → List ℕ → Result Found SourceFault → Type 0 } = { λ _ _ _ _. ⊤ };
 
     /// What stands for a loader and a name. Once the count of failures is at its end, every read is `Device`.
     fn read(
@@ -152,7 +157,8 @@ pub trait Source<T: Told>: Drop {
     ) -> Result<Probe<T>, SourceFault>
         ensures asked { IfOk result (λ p. (p.loader ≡ loader) × (p.name ≡ name.now)) }
         ensures counts { Counts (refused self.old) (refused self.new) result }
-        ensures spent { refused self.old + 1 ≡ 2 ^ 64 → IsErrOf result SourceFault.Device };
+        ensures spent { refused self.old + 1 ≡ 2 ^ 64 → IsErrOf result SourceFault.Device }
+        ensures gives { gives self.old loader name.now result };
 
     /// How many reads were refused for another cause than memory, at most 2^64 - 1.
     fn failures(&self) -> u64

@@ -32,7 +32,8 @@ pub fn read_bytes<I: Read>(alloc: Global, input: &mut I, most: usize) -> Result<
     requires { most < 2 ^ 32 }
     ensures ok { IfOk result (λ v. IfSome (I.remaining input.old) (λ bytes. v.items ≡ bytes)) }
     ensures small { IfOk result (λ v. vec_len v ≤ most) }
-    ensures large { result ≡ Err InputFault.TooLarge → IfSome (I.remaining input.old) (λ bytes. most < length bytes) }
+    ensures large { result ≡ Err InputFault.TooLarge
+        → IfSome (I.remaining input.old) (λ bytes. most < length bytes) }
 {
     let mut bytes = Vec::new(alloc);
     let mut chunk = [0u8; 8192];

@@ -62,7 +62,8 @@ pub fn write_out<W: Write>(out: &mut W, bytes: &[u8]) -> Result<(), PrintFault>
 /// Writes a first part of the bytes, and says how many.
 fn write_some<W: Write>(out: &mut W, bytes: &[u8]) -> Result<usize, PrintFault>
     ensures some { IfOk result (λ count. (0 < count) × (count ≤ length bytes.now)) }
-    ensures taken { IfOk result (λ count. Appends (W.contents out.old) (W.contents out.new) (take count bytes.now)) }
+    ensures taken { IfOk result (λ count. Appends (W.contents out.old) (W.contents out.new)
+        (take count bytes.now)) }
     ensures refused { OnErr result (Appends (W.contents out.old) (W.contents out.new) []) }
 {
     for _ in 0..u64::MAX {

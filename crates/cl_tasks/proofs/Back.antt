@@ -5,6 +5,7 @@ use Rattle.std.specs.List.{AllByRecursion}
 use Rattle.cl_classfile.specs.Files.{Name, file_of}
 use Rattle.cl_model.specs.declared.class.Class.{Class}
 use Rattle.cl_model.specs.declared.request.Request.{Request}
+use Rattle.cl_model.specs.declared.request.Request.TheVariants.{Load, Resolve, Link}
 use Rattle.cl_model.specs.declared.verdict.ErrorKind.{ErrorKind}
 use Rattle.cl_model.specs.declared.verdict.Verdict.TheVariants as verdicts
 use Rattle.cl_model.specs.declared.answer.Answer.{Answer}
@@ -15,12 +16,14 @@ use Rattle.cl_model.specs.States.{Need, Entry, recorded, AllMet}
 use Rattle.cl_model.specs.Frames.{kept_of, wanted}
 use Rattle.cl_model.proofs.Closed.{met_both}
 use Rattle.cl_model.proofs.Stacks.{kept_is_met}
+use Rattle.cl_config.specs.Scripts.{IsLoadRequest}
 use Rattle.cl_config.specs.Views.{Configured}
 use Rattle.cl_delegation.specs.Searches.{Located}
 use Rattle.cl_hierarchy.specs.Rows.{Rowed}
 use Rattle.cl_hierarchy.specs.Drafts.{Drafted, IsDraft}
 use Rattle.cl_hierarchy.specs.Frames.{Framed, accepted_of, frame_of, with_place}
-use Rattle.cl_hierarchy.specs.Paths.{Pathed, frames_of, fresh, at_loader, at_name, IsPath, misfit_under, Completes}
+use Rattle.cl_hierarchy.specs.Paths.{Pathed, frames_of, fresh, at_loader, at_name, IsPath, misfit_under}
+use Rattle.cl_tasks.proofs.Ends.{Ends}
 use Rattle.cl_registry.specs.declared.finding.Obstacle.{Obstacle}
 use Rattle.cl_registry.specs.declared.finding.Obstacle.TheVariants.{Missing, Unreadable, Circle, Misfit}
 use Rattle.cl_registry.specs.Allowed.{RecordedIsNamed}
@@ -45,7 +48,7 @@ enters told x d draft config above fit =
 
 -- the class of the last frame, with all its supertypes
 pub backs_complete : (told : Option Content) (x : Shown) (old new : Pathed) (row : Rowed) (d : Drafted) → IsPath told old → old.config ≡ x.config → AllHave x (frames_of old) → IsRecordedAs x (at_loader old) (at_name old) row
-    → misfit_under old.frames row.class (file_of row.file) ≡ None → Completes old new row.class.loader d → MayEnter x d
+    → misfit_under old.frames row.class (file_of row.file) ≡ None → Ends old new row.class.loader d → MayEnter x d
 backs_complete told x old new row d path config h recorded fits step =
     let last = step.last in
     let whole = completes_whole told x old new row d path h recorded fits step in
@@ -93,21 +96,25 @@ backs_initiate x p h row sought config within told own = record {
 -- ---- an answer is borne
 
 -- the request's own class, as it is recorded
-pub backs_class : (x : Shown) (r : Request) (p : Pathed) (row : Rowed) → RecordedIsNamed → NamesLoaders x → IsFor r p → p.frames ≡ [] → loader_of r < length x.config.loaders → IsRecordedAs x (at_loader p) (at_name p) row
+pub backs_class : (x : Shown) (r : Request) (p : Pathed) (row : Rowed) → IsLoadRequest r → RecordedIsNamed → NamesLoaders x → IsFor r p → p.frames ≡ [] → loader_of r < length x.config.loaders → IsRecordedAs x (at_loader p) (at_name p) row
     → IsBacked x (record { request = r; answer = answers.Said (verdicts.Class row.class); basis = None })
-backs_class x r p row law named for alone within told =
-    let loader : at_loader p ≡ loader_of r = ap (λ (fs : List Framed). at_loader (record p { frames = fs })) alone ∙ sym for.loader in
-    let name : at_name p ≡ name_of r = ap (λ (fs : List Framed). at_name (record p { frames = fs })) alone ∙ sym for.name in
+backs_class x (Resolve l n i) p row load law named for alone within told = absurd load
+backs_class x (Link l n) p row load law named for alone within told = absurd load
+backs_class x (Load l n) p row load law named for alone within told =
+    let loader : at_loader p ≡ l = ap (λ (fs : List Framed). at_loader (record p { frames = fs })) alone ∙ sym for.loader in
+    let name : at_name p ≡ n = ap (λ (fs : List Framed). at_name (record p { frames = fs })) alone ∙ sym for.name in
     record {
       loader = within;
       names = law x (at_loader p) row.class.loader (at_name p) named told.recorded;
-      answer = (told.named ∙ name, subst (λ (l : ℕ). recorded (records_of x) l (name_of r) ≡ Some row.class.loader) loader (subst (λ (n : Name). recorded (records_of x) (at_loader p) n ≡ Some row.class.loader) name told.recorded));
+      answer = (told.named ∙ name, subst (λ (k : ℕ). recorded (records_of x) k n ≡ Some row.class.loader) loader (subst (λ (m : Name). recorded (records_of x) (at_loader p) m ≡ Some row.class.loader) name told.recorded));
     }
 
 -- what an error rests on stands, and its subject's loader is one of the configuration
-error_backed : (x : Shown) (r : Request) (kind : ErrorKind) (c : Class) (p : Pathed) (needs : List Need) → loader_of r < length x.config.loaders → c.loader < length x.config.loaders → p.config ≡ x.config → AllHave x (frames_of p) → AllMet (state_of x) needs
+error_backed : (x : Shown) (r : Request) (kind : ErrorKind) (c : Class) (p : Pathed) (needs : List Need) → IsLoadRequest r → loader_of r < length x.config.loaders → c.loader < length x.config.loaders → p.config ≡ x.config → AllHave x (frames_of p) → AllMet (state_of x) needs
     → IsBacked x (record { request = r; answer = answers.Said (verdicts.Error kind c); basis = Some (record { config = p.config; needs = kept_of (frames_of p) ++ needs }) })
-error_backed x r kind c p needs root within config h met = record {
+error_backed x (Resolve l n i) kind c p needs load root within config h met = absurd load
+error_backed x (Link l n) kind c p needs load root within config h met = absurd load
+error_backed x (Load l n) kind c p needs load root within config h met = record {
   loader = root;
   names = within;
   answer = (config, met_both (state_of x) (kept_of (frames_of p)) needs ((kept_is_met (state_of x) (frames_of p)).1 (all_kept x (frames_of p) h)) met);
@@ -118,14 +125,14 @@ misfit_met x p row c is name told =
     (subst (λ (n : Name). recorded (records_of x) (at_loader p) n ≡ Some c.loader) (sym name) (told.recorded ∙ ap (λ (k : Class). Some k.loader) is), tt)
 
 -- what stopped a derivation, as it is found
-pub backs_obstacle : {A : Type 0} (x : Shown) (r : Request) (p : Pathed) (end : Obstacle A) → RecordedIsNamed → NamesLoaders x → Stops p end → p.config ≡ x.config → loader_of r < length x.config.loaders → at_loader p < length x.config.loaders
+pub backs_obstacle : {A : Type 0} (x : Shown) (r : Request) (p : Pathed) (end : Obstacle A) → IsLoadRequest r → RecordedIsNamed → NamesLoaders x → Stops p end → p.config ≡ x.config → loader_of r < length x.config.loaders → at_loader p < length x.config.loaders
     → EndWithin (length x.config.loaders) end → AllHave x (frames_of p) → EndTold x p end → IsBacked x (record { request = r; answer = answers.Said (verdict_at p end); basis = Some (basis_at p end) })
-backs_obstacle x r p (Missing u) law named stops config root at within h told =
-    error_backed x r _ (class u.name u.asked) p [] root (subst (λ (l : ℕ). l < length x.config.loaders) (sym stops.1) at) config h tt
-backs_obstacle x r p (Unreadable u) law named stops config root at within h told = error_backed x r _ (class u.home.name u.home.place) p [] root within config h tt
-backs_obstacle x r p (Circle e) law named stops config root at within h told = error_backed x r _ (class e.name e.place) p [] root within config h tt
-backs_obstacle x r p (Misfit row c kind) law named stops config root at within h told =
-    error_backed x r kind c p (Entry (at_loader p) c.name c.loader ∷ []) root
+backs_obstacle x r p (Missing u) load law named stops config root at within h told =
+    error_backed x r _ (class u.name u.asked) p [] load root (subst (λ (l : ℕ). l < length x.config.loaders) (sym stops.1) at) config h tt
+backs_obstacle x r p (Unreadable u) load law named stops config root at within h told = error_backed x r _ (class u.home.name u.home.place) p [] load root within config h tt
+backs_obstacle x r p (Circle e) load law named stops config root at within h told = error_backed x r _ (class e.name e.place) p [] load root within config h tt
+backs_obstacle x r p (Misfit row c kind) load law named stops config root at within h told =
+    error_backed x r kind c p (Entry (at_loader p) c.name c.loader ∷ []) load root
     (subst (λ (k : Class). k.loader < length x.config.loaders) stops.0 (law x (at_loader p) row.value.class.loader (at_name p) named told.recorded)) config h
     (misfit_met x p row.value c stops.0 stops.1 told)
 

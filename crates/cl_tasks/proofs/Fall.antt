@@ -9,7 +9,8 @@ use Rattle.cl_model.specs.Frames.{Frame, wanted, accepting}
 use Rattle.cl_model.proofs.Measures.{push_falls, load_falls, accept_falls, pop_falls, turn_falls}
 use Rattle.cl_hierarchy.specs.Drafts.{Drafted}
 use Rattle.cl_hierarchy.specs.Frames.{Framed, accepted_of, frame_of, with_place}
-use Rattle.cl_hierarchy.specs.Paths.{Pathed, frames_of, fresh, IsPath, with_frame, Accepts, Completes}
+use Rattle.cl_hierarchy.specs.Paths.{Pathed, frames_of, fresh, IsPath, with_frame, Accepts}
+use Rattle.cl_tasks.proofs.Ends.{Ends}
 use Rattle.cl_hierarchy.proofs.Frames.{accepts_one}
 use Rattle.cl_tasks.specs.declared.phase.Phase.{Phase}
 use Rattle.cl_tasks.specs.declared.phase.Phase.TheVariants.{Fresh, Looking, Reading, Homing, Defining, Initiating, Done}
@@ -67,7 +68,7 @@ accept_less told old new place path step =
     (accept_falls most most xs f t next.0 (before_within told old before last path step.split) (ap wanted (sym grown) ∙ next.1)))
 
 -- the end of a frame leaves less
-pub complete_less : (told : Option Content) (old new : Pathed) (place : ℕ) (d : Drafted) → IsPath told old → Completes old new place d → ended (frames_of new) < ended (frames_of old)
+pub complete_less : (told : Option Content) (old new : Pathed) (place : ℕ) (d : Drafted) → IsPath told old → Ends old new place d → ended (frames_of new) < ended (frames_of old)
 complete_less told old new place d path step =
     let before = step.before in
     let last = step.last in
@@ -194,7 +195,7 @@ pub accepts_less : (told : Option Content) (old new : Pathed) (place : ℕ) (pha
 accepts_less told old new place phase probes more path w step = ended_less phase (frames_of old) probes (loading (frames_of new)) (most + 7) w (load_less told old path) (accept_less told old new place path step) turns_more
 
 -- a class has all its supertypes, and is to be recorded
-pub completes_less : (told : Option Content) (old new : Pathed) (place : ℕ) (d : Drafted) (phase : Phase) (probes more : ℕ) → IsPath told old → IsAtWork phase → Completes old new place d → left_at Defining (frames_of new) more < left_at phase (frames_of old) probes
+pub completes_less : (told : Option Content) (old new : Pathed) (place : ℕ) (d : Drafted) (phase : Phase) (probes more : ℕ) → IsPath told old → IsAtWork phase → Ends old new place d → left_at Defining (frames_of new) more < left_at phase (frames_of old) probes
 completes_less told old new place d phase probes more path w step = ended_less phase (frames_of old) probes (ended (frames_of new)) 3 w (load_less told old path) (complete_less told old new place d path step) few_turns
 
 -- the answer is posted

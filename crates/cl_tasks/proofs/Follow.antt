@@ -29,6 +29,7 @@ use Rattle.cl_model.proofs.Homes.{home_of_home}
 use Rattle.cl_model.proofs.Looks.{recorded_answers}
 use Rattle.cl_model.proofs.Frames.{complete_is_next, defined_is_next, answers_here}
 use Rattle.cl_model.proofs.Stacks.{frame_pop, frame_fits, path_scanned, kept_is_met}
+use Rattle.cl_config.specs.Scripts.{IsLoadRequest}
 use Rattle.cl_config.specs.Views.{Configured}
 use Rattle.cl_delegation.specs.Searches.{Located, LeadsTo}
 use Rattle.cl_delegation.specs.Worlds.{world_of}
@@ -36,13 +37,13 @@ use Rattle.cl_hierarchy.specs.Rows.{Rowed}
 use Rattle.cl_hierarchy.specs.Drafts.{Drafted, IsSpelt, IsDraft}
 use Rattle.cl_hierarchy.specs.Frames.{Framed, accepted_of, frame_of, with_place}
 use Rattle.cl_hierarchy.specs.Paths.{Pathed, frames_of, fresh, at_loader, at_name, is_on, KeepsRules, IsPath, misfit_under}
-use Rattle.cl_hierarchy.specs.Paths as paths
 use Rattle.cl_hierarchy.proofs.Frames.{accepts_one}
 use Rattle.cl_registry.specs.declared.finding.Obstacle.{Obstacle}
 use Rattle.cl_registry.specs.declared.finding.Obstacle.TheVariants.{Missing, Unreadable, Circle, Misfit}
 use Rattle.cl_registry.specs.Findings.{Based, Answered, loader_of, name_of, IsFor, IsSought, Stops, verdict_at, basis_at, EndsWhere, Rests}
 use Rattle.cl_registry.specs.Tables.{Shown, state_of, records_of}
 use Rattle.cl_tasks.specs.Follows.{IsRecordedAs, ServedIn, AnswerFollows}
+use Rattle.cl_tasks.proofs.Ends.{Ends}
 use Rattle.cl_tasks.proofs.Keep.{Has, AllHave, top_of, takes, split_have, framed_first, framed_last, frame_kept, all_kept}
 use Rattle.cl_tasks.specs.Steps.{EndTold}
 use Rattle.cl_tasks.proofs.Back.{misfit_met}
@@ -90,21 +91,17 @@ served told c g s r p v path for config =
       frames = subst (λ (w : World). IsFrames w [] p.loader p.name (frames_of p) (at_loader p) (at_name p)) (sym world) (rules_of told v.content p v.told_so path.rules);
     }
 
-loads_loader : (r : Request) → loader_of r ≡ (plans.loaded_by (request_of r)).loader
-loads_loader (requests.Load l n) = refl
-
-loads_name : (r : Request) → name_of r ≡ (plans.loaded_by (request_of r)).name
-loads_name (requests.Load l n) = refl
-
-request_is : (r : Request) → request_of r ≡ Load (loader_of r) (name_of r)
-request_is (requests.Load l n) = refl
+request_is : (r : Request) → IsLoadRequest r → request_of r ≡ Load (loader_of r) (name_of r)
+request_is (requests.Load l n) load = refl
+request_is (requests.Resolve l n i) load = absurd load
+request_is (requests.Link l n) load = absurd load
 
 -- frames of a request that lead here
 under : (g : Setting) (s : State) (r : Request) (p : Pathed) (content : Content) (xs : List Frame) (al : ℕ) (an : Name) → Served g s r p content → IsFrames g.world [] p.loader p.name xs al an → AllKept s xs → Under g.world s (request_of r) ClassNotFound xs al an
 under g s r p content xs al an v frames kept = record {
   loader = p.loader;
   name = p.name;
-  starts = inl (refl, v.loader ∙ loads_loader r, v.name ∙ loads_name r);
+  starts = inl (refl, v.loader, v.name);
   frames = frames;
   kept = kept;
 }
@@ -127,7 +124,7 @@ spelt_in told g s r p content k f v is spelt at =
 
 -- the last class has accepted the last of its supertypes
 pub follows_complete : (told : Option Content) (c : Configured) (g : Setting) (x : Shown) (r : Request) (old new : Pathed) (row : Rowed) (d : Drafted) → ServedIn told c g (state_of x) → IsPath told old → IsFor r old → old.config ≡ c
-    → AllHave x (frames_of old) → IsRecordedAs x (at_loader old) (at_name old) row → IsSpelt told row.class row.file → misfit_under old.frames row.class (file_of row.file) ≡ None → paths.Completes old new row.class.loader d
+    → AllHave x (frames_of old) → IsRecordedAs x (at_loader old) (at_name old) row → IsSpelt told row.class row.file → misfit_under old.frames row.class (file_of row.file) ≡ None → Ends old new row.class.loader d
     → IsNextNeed g.world (state_of x) (request_of r) (Entry d.class.loader d.class.name d.class.loader)
 follows_complete told c g x r old new row d serves path for config h recorded spelt fits step =
     let w = g.world in
@@ -208,14 +205,14 @@ follows_initiate told c g x r p h row serves path for config have sought lead ot
 -- ---- the answer is the plan's
 
 -- the request's own class, as it is recorded
-pub follows_class : (told : Option Content) (c : Configured) (g : Setting) (x : Shown) (r : Request) (p : Pathed) (row : Rowed) → ServedIn told c g (state_of x) → IsFor r p → p.frames ≡ [] → IsRecordedAs x (at_loader p) (at_name p) row
+pub follows_class : (told : Option Content) (c : Configured) (g : Setting) (x : Shown) (r : Request) (p : Pathed) (row : Rowed) → IsLoadRequest r → ServedIn told c g (state_of x) → IsFor r p → p.frames ≡ [] → IsRecordedAs x (at_loader p) (at_name p) row
     → AnswersPlan g (state_of x) (request_of r) (IsClass row.class)
-follows_class told c g x r p row serves for alone told_row =
+follows_class told c g x r p row load serves for alone told_row =
     let loader : at_loader p ≡ loader_of r = ap (λ (fs : List Framed). at_loader (record p { frames = fs })) alone ∙ sym for.loader in
     let name : at_name p ≡ name_of r = ap (λ (fs : List Framed). at_name (record p { frames = fs })) alone ∙ sym for.name in
     let kept : recorded (records_of x) (loader_of r) (name_of r) ≡ Some row.class.loader =
     subst (λ (l : ℕ). recorded (records_of x) l (name_of r) ≡ Some row.class.loader) loader (subst (λ (n : Name). recorded (records_of x) (at_loader p) n ≡ Some row.class.loader) name told_row.recorded) in
-    subst (λ (q : plans.Request). AnswersPlan g (state_of x) q (IsClass row.class)) (sym (request_is r))
+    subst (λ (q : plans.Request). AnswersPlan g (state_of x) q (IsClass row.class)) (sym (request_is r load))
     (subst (λ (k : Class). AnswersPlan g (state_of x) (Load (loader_of r) (name_of r)) (IsClass k)) (sym (ap (λ (n : Name). class n row.class.loader) (told_row.named ∙ name)))
     (recorded_answers g (state_of x) (loader_of r) row.class.loader (name_of r) serves.closed kept))
 

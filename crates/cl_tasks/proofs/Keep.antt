@@ -12,7 +12,8 @@ use Rattle.cl_config.specs.Views.{Configured}
 use Rattle.cl_hierarchy.specs.Rows.{Rowed}
 use Rattle.cl_hierarchy.specs.Drafts.{Drafted}
 use Rattle.cl_hierarchy.specs.Frames.{Framed, accepted_of, frame_of, with_place}
-use Rattle.cl_hierarchy.specs.Paths.{Pathed, frames_of, fresh, name_of, sought, at_loader, at_name, Stands, AllStand, IsPath, with_frame, misfit_in, misfit_under, Accepts, Completes}
+use Rattle.cl_hierarchy.specs.Paths.{Pathed, frames_of, fresh, name_of, sought, at_loader, at_name, Stands, AllStand, IsPath, with_frame, misfit_in, misfit_under, Accepts}
+use Rattle.cl_tasks.proofs.Ends.{Ends}
 use Rattle.cl_model.proofs.Stacks.{complete_is_kept}
 use Rattle.cl_hierarchy.proofs.Frames.{accepts_one}
 use Rattle.cl_registry.specs.Tables.{Shown, state_of, records_of, looked}
@@ -176,7 +177,7 @@ accepts_holds told x old new row path h told_row fits step =
     (takes x old step.before step.last row top (framed_last (Has x) step.before step.last has) told_row fits))
 
 -- the last class is complete: those before it are left
-pub completes_holds : (x : Shown) (old new : Pathed) (place : ℕ) (d : Drafted) → AllHave x (frames_of old) → Completes old new place d → AllHave x (frames_of new)
+pub completes_holds : (x : Shown) (old new : Pathed) (place : ℕ) (d : Drafted) → AllHave x (frames_of old) → Ends old new place d → AllHave x (frames_of new)
 completes_holds x old new place d h step =
     subst (λ (p : Pathed). AllHave x (frames_of p)) (sym step.now) (framed_first (Has x) step.before step.last (split_have x old step.before step.last step.split h))
 
@@ -202,7 +203,7 @@ pub record Whole (x : Shown) (old new : Pathed) (row : Rowed) (d : Drafted) : Ty
   pub complete : wanted (frame_of (with_place last row.class.loader)) ≡ None
 
 pub completes_whole : (told : Option Content) (x : Shown) (old new : Pathed) (row : Rowed) (d : Drafted) → IsPath told old → AllHave x (frames_of old) → IsRecordedAs x (at_loader old) (at_name old) row
-    → misfit_under old.frames row.class (file_of row.file) ≡ None → Completes old new row.class.loader d → Whole x old new row d
+    → misfit_under old.frames row.class (file_of row.file) ≡ None → Ends old new row.class.loader d → Whole x old new row d
 completes_whole told x old new row d path h told_row fits step =
     let has = split_have x old step.before step.last step.split h in
     record {

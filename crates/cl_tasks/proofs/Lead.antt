@@ -13,6 +13,7 @@ use Rattle.cl_model.specs.Machine.{Setting}
 use Rattle.cl_model.specs.Service.{IsNextNeed}
 use Rattle.cl_model.specs.Frames.{asking}
 use Rattle.cl_model.specs.Views.{request_of}
+use Rattle.cl_config.specs.Scripts.{IsLoadRequest}
 use Rattle.cl_config.specs.Views.{Configured}
 use Rattle.cl_delegation.specs.Searches.{Located}
 use Rattle.cl_hierarchy.specs.Rows.{Rowed}
@@ -73,7 +74,7 @@ leads_obstacle told j end f law job stops inside request answer basis rests = re
   keeps = λ x h. tt;
   backed = λ x config named h.
       found_backed x j.request _ _ f request answer basis
-      (backs_obstacle x j.request j.path end law named stops (sym config) (root j x.config config job) (within config job.loader) (subst (λ (k : Configured). EndWithin (length k.loaders) end) (sym config) inside) h.0 h.1);
+      (backs_obstacle x j.request j.path end job.load law named stops (sym config) (root j x.config config job) (within config job.loader) (subst (λ (k : Configured). EndWithin (length k.loaders) end) (sym config) inside) h.0 h.1);
   follows = λ g x s h.
       found_follows told g (state_of x) j.request _ _ f request answer basis rests (λ so. follows_obstacle told j.path.config g x j.request j.path end s refl h.0 stops h.1 so);
 }
@@ -89,8 +90,8 @@ leads_class told j row c room law job alone is more =
       serves = refl;
       left = more;
       keeps = λ x h. tt;
-      backed = λ x config named h. backs_class x j.request j.path row law named job.for_request alone (root j x.config config job) h.now;
-      follows = λ g x s h. follows_class told j.path.config g x j.request j.path row s job.for_request alone h.now;
+      backed = λ x config named h. backs_class x j.request j.path row job.load law named job.for_request alone (root j x.config config job) h.now;
+      follows = λ g x s h. follows_class told j.path.config g x j.request j.path row job.load s job.for_request alone h.now;
     })
 
 pub leads_fault : {A : Type 0} (told : Option Content) (j : Job A) (name : List ℕ) (loader : ℕ) → IsJob j.path.config j → loader < length j.path.config.loaders
@@ -131,6 +132,7 @@ pub job_on : {A : Type 0} (told : Option Content) (j k : Job A) → IsJob j.path
 job_on told j k job request path config loader name =
     let below : k.path.loader < length k.path.config.loaders = within config (subst (λ (l : ℕ). l < length j.path.config.loaders) (sym loader) job.root) in
     record {
+      load = subst IsLoadRequest (sym request) job.load;
       for_request = record { loader = ap loader_of request ∙ job.for_request.loader ∙ sym loader; name = ap findings.name_of request ∙ job.for_request.name ∙ sym name };
       config = refl;
       root = below;

@@ -16,6 +16,7 @@ use Rattle.cl_hierarchy.specs.Rows.{Rowed}
 use Rattle.cl_hierarchy.specs.Drafts.{Drafted, IsSpelt, IsDraft}
 use Rattle.cl_hierarchy.specs.Frames.{Framed, accepted_of, frame_of}
 use Rattle.cl_hierarchy.specs.Paths.{Pathed, frames_of, fresh, at_loader, is_on, with_frame, with_frames, IsPath, misfit_under, Accepts, Completes}
+use Rattle.cl_tasks.proofs.Ends.{Ends, ends_of}
 use Rattle.cl_registry.specs.Findings.{IsFor, IsSought}
 use Rattle.cl_registry.specs.Tables.{Shown}
 use Rattle.cl_tasks.specs.Tasks.{loading, most, turns, left_at}
@@ -107,7 +108,7 @@ draft_last : (told : Option Content) (p : Pathed) (before : List Framed) (last :
 draft_last told p before last path split = all_last (λ (x : Framed). IsDraft told x.draft) before last (subst (λ (xs : List Framed). AllByRecursion (λ (x : Framed). IsDraft told x.draft) xs) split path.drafts)
 
 -- the last class of a path was found for what the classes before it look for
-pub sought_last : (told : Option Content) (p new : Pathed) (place : ℕ) (d : Drafted) → IsPath told p → Completes p new place d → IsSought new d.home
+pub sought_last : (told : Option Content) (p new : Pathed) (place : ℕ) (d : Drafted) → IsPath told p → Ends p new place d → IsSought new d.home
 sought_last told p new place d path step =
     let last = step.last in
     let stands = (top_of told p step.before last path step.split).stands in
@@ -117,7 +118,7 @@ sought_last told p new place d path step =
     (record { config = stands.config; asked = stands.asked; name = sym (ap (λ (c : Class). c.name) draft.placed) ∙ stands.named }))
 
 pub leads_complete : {A : Type 0} (told : Option Content) (j k : Job A) (row : Rowed) (d : Drafted) → IsJob j.path.config j → IsJob k.path.config k → k.q ≡ j.q → k.request ≡ j.request → IsPath told j.path → IsSpelt told row.class row.file
-    → misfit_under j.path.frames row.class (file_of row.file) ≡ None → Completes j.path k.path row.class.loader d → (n : Next A) → DefinesBy k d n.stage n.turn
+    → misfit_under j.path.frames row.class (file_of row.file) ≡ None → Ends j.path k.path row.class.loader d → (n : Next A) → DefinesBy k d n.stage n.turn
     → Leads told j (left_at phases.Initiating (frames_of j.path) 0) (Finds j.path row) n
 leads_complete told j k row d job onward number request path spelt fits step n h =
     let config : k.path.config ≡ j.path.config = ap (λ (p : Pathed). p.config) step.now in
@@ -134,11 +135,11 @@ leads_complete told j k row d job onward number request path spelt fits step n h
 
 -- ---- what accepting answers
 
-pub accepts_next : (old new : Pathed) (place : ℕ) (o : Option Drafted) → o ≡ None → MatchOption o (Accepts old new place) (λ d. Completes old new place d) → Accepts old new place
-accepts_next old new place o e h = subst (λ (k : Option Drafted). MatchOption k (Accepts old new place) (λ d. Completes old new place d)) e h
+pub accepts_next : (old new : Pathed) (place : ℕ) (o : Option Framed) → o ≡ None → MatchOption o (Accepts old new place) (λ x. Completes old new place x) → Accepts old new place
+accepts_next old new place o e h = subst (λ (k : Option Framed). MatchOption k (Accepts old new place) (λ x. Completes old new place x)) e h
 
-pub accepts_last : (old new : Pathed) (place : ℕ) (o : Option Drafted) (d : Drafted) → o ≡ Some d → MatchOption o (Accepts old new place) (λ d. Completes old new place d) → Completes old new place d
-accepts_last old new place o d e h = subst (λ (k : Option Drafted). MatchOption k (Accepts old new place) (λ d. Completes old new place d)) e h
+pub accepts_last : (old new : Pathed) (place : ℕ) (o : Option Framed) (x : Framed) (d : Drafted) → o ≡ Some x → d ≡ x.draft → MatchOption o (Accepts old new place) (λ y. Completes old new place y) → Ends old new place d
+accepts_last old new place o x d e same h = ends_of old new place x d same (subst (λ (k : Option Framed). MatchOption k (Accepts old new place) (λ y. Completes old new place y)) e h)
 
 -- the job goes on with these frames
 pub job_with : {A : Type 0} (told : Option Content) (j : Job A) (new : Pathed) (xs : List Framed) → IsJob j.path.config j → IsPath told new → new ≡ with_frames j.path xs → IsJob {A = A} new.config (record { q = j.q; request = j.request; path = new })

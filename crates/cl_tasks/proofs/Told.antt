@@ -10,7 +10,7 @@ use Rattle.cl_hierarchy.specs.declared.row.ClassRow.{ClassRow}
 use Rattle.cl_registry.specs.Tables.{Shown}
 use Rattle.cl_tasks.specs.Stages.{IsStage, at_work, task_at}
 use Rattle.cl_tasks.specs.Tasks.{Tasked, begun, left}
-use Rattle.cl_tasks.specs.Turns.{Asks, Expects, Serves}
+use Rattle.cl_tasks.specs.Turns.{AnswersOwn, Asks, Expects, Serves}
 use Rattle.cl_tasks.specs.Follows.{BackedWhere, FollowsWhere, Holds, Refuses, Tells, refusal}
 use Rattle.cl_tasks.specs.Steps.{FindsHome, LeadsOn, StepsOn, config_of}
 use Rattle.cl_tasks.specs.declared.phase.Phase.TheVariants as phases
@@ -113,3 +113,31 @@ turn_leads {A} told c s taken old r n view kept expects is l refused =
     let k : StepsOn told (task_at c s) r n = subst (λ (d : Configured). StepsOn told (task_at d s) r n) config (subst (λ (u : Stage A). StepsOn told (task_at (config_of u) u) r n) is l) in
     let m : Refuses (refusal (task_at c s) r) n.turn = subst (λ (d : Configured). Refuses (refusal (task_at d s) r) n.turn) config (subst (λ (u : Stage A). Refuses (refusal (task_at (config_of u) u) r) n.turn) is refused) in
     subst (λ (t : Tasked). Turned told t (task_at c n.stage) r n.turn) view (turned told c s r n h k m)
+
+-- ---- what the stage after a turn keeps
+
+keeps_on : {A : Type 0} (told : Option Content) (c : Configured) (s : Stage A) (r : Reply A) (n : Next A) → Expects (task_at c s) r → StepsOn told (task_at c s) r n → IsStage c n.stage
+keeps_on told c (stage.Fresh j) r n h l = l.kept
+keeps_on told c (stage.Looking j) r n h l = l.kept
+keeps_on told c (stage.Searching j s) r n h l = l.kept
+keeps_on told c (stage.Homing j i) r n h l = l.kept
+keeps_on told c (stage.Defining j i) r n h l = l.kept
+keeps_on told c (stage.Initiating j) r n h l = l.kept
+keeps_on told c (stage.Done q) r n h l = absurd (done_waits c q r h)
+
+pub turn_keeps : {A : Type 0} (told : Option Content) (c : Configured) (s taken : Stage A) (old : Tasked) (r : Reply A) (n : Next A) → task_at c s ≡ old → IsStage c s → Expects old r → taken ≡ s
+    → StepsOn told (task_at (config_of taken) taken) r n → IsStage c n.stage
+turn_keeps {A} told c s taken old r n view kept expects is l =
+    let h : Expects (task_at c s) r = subst (λ (t : Tasked). Expects t r) (sym view) expects in
+    let config = config_is c s r kept h in
+    keeps_on told c s r n h (subst (λ (d : Configured). StepsOn told (task_at d s) r n) config (subst (λ (u : Stage A). StepsOn told (task_at (config_of u) u) r n) is l))
+
+-- what is answered of a request's own class
+pub turn_own : {A : Type 0} (c : Configured) (s taken : Stage A) (old : Tasked) (r : Reply A) (n : Next A) → task_at c s ≡ old → IsStage c s → Expects old r → taken ≡ s
+    → AnswersOwn (task_at (config_of taken) taken) (task_at (config_of taken) n.stage) r n.turn → AnswersOwn old (task_at c n.stage) r n.turn
+turn_own {A} c s taken old r n view kept expects is own =
+    let h : Expects (task_at c s) r = subst (λ (t : Tasked). Expects t r) (sym view) expects in
+    let config = config_is c s r kept h in
+    let k : AnswersOwn (task_at c s) (task_at c n.stage) r n.turn =
+    subst (λ (d : Configured). AnswersOwn (task_at d s) (task_at d n.stage) r n.turn) config (subst (λ (u : Stage A). AnswersOwn (task_at (config_of u) u) (task_at (config_of u) n.stage) r n.turn) is own) in
+    subst (λ (t : Tasked). AnswersOwn t (task_at c n.stage) r n.turn) view k

@@ -86,6 +86,7 @@ BackedWhere c holds t = (x : Shown) → x.config ≡ c → NamesLoaders x → ho
 -- an answer is the plan's, failures apart (5.3.5)
 abbrev pub AnswerFollows : Setting → State → Request → Answer → Type 0
 AnswerFollows g s r (answers.Said v) = AnswersPlan g s (request_of r) (verdict_of v)
+AnswerFollows g s r (answers.Shared settled) = AnswersPlan g s (request_of r) (verdict_of settled.value.verdict)
 AnswerFollows g s r answers.Memory = Unit {0}
 AnswerFollows g s r (answers.SourceFault name loader) = Unit {0}
 
@@ -132,6 +133,7 @@ refusal t (reply.SourceFault fault) = Some (fault_answer t fault)
 -- an answer is no fault of the source
 abbrev pub NoFault : Answer → Type 0
 NoFault (answers.Said v) = Unit {0}
+NoFault (answers.Shared settled) = Unit {0}
 NoFault answers.Memory = Unit {0}
 NoFault (answers.SourceFault name loader) = ⊥
 

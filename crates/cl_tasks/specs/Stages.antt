@@ -1,6 +1,7 @@
 -- What a task is at, as contracts see it, and what it keeps (JVMS SE 8, 5.3, 5.3.5).
 use Rattle.std.specs.Prelude.{◌≡◌, ◌≢◌, ◌<◌, ◌-◌, ℕ, false, [], length, Some, None, unwrap_or}
 use Rattle.cl_model.specs.Classes.{class}
+use Rattle.cl_config.specs.Scripts.{IsLoadRequest}
 use Rattle.cl_config.specs.Views.{Configured}
 use Rattle.cl_delegation.specs.Searches.{Searched, Located, next_of, route_of}
 use Rattle.cl_hierarchy.specs.Paths.{Pathed, at_loader, at_name, is_on}
@@ -38,8 +39,9 @@ task_at c (Defining j h) = at_work c phases.Defining h.value.place j
 task_at c (Initiating j) = at_work c phases.Initiating (at_loader j.path) j
 task_at c (Done q) = record { config = c; q = q; phase = phases.Done; request = None; path = nowhere; place = 0; probes = 0 }
 
--- the path is the request's under this configuration, whose loaders it names (5.3)
+-- the request is a load, and the path is its under this configuration, whose loaders it names (5.3)
 pub record IsJob {A : Type 0} (c : Configured) (j : Job A) : Type 0 where
+  pub load : IsLoadRequest j.request
   pub for_request : IsFor j.request j.path
   pub config : j.path.config ≡ c
   pub root : j.path.loader < length c.loaders

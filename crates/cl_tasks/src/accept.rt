@@ -230,6 +230,6 @@ fn accept<T: Told>(alloc: Global, job: Job<T>, row: &ClassRow<T>) -> Next<T>
     let job = Job { q, request, path };
     match accepted {
         None => look(alloc, job),
-        Some(draft) => define(job, draft),
+        Some(frame) => define(job, frame.into_draft()),
     }
 }

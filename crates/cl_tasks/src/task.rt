@@ -1,4 +1,5 @@
 ghost use Rattle.std.specs.Prelude.{◌≡◌, ◌<◌, IfOk, IfErr, IfSome, MatchBool, length};
+ghost use Rattle.cl_config.specs.Scripts.{IsLoadRequest};
 ghost use Rattle.cl_registry.specs.Tables.{Shown};
 ghost use Rattle.cl_registry.specs.Findings.{loader_of};
 ghost use Rattle.cl_tasks.specs.Tasks.{begun, left};
@@ -43,20 +44,20 @@ pub struct TaskRefused {
 }
 
 impl<T: Told> Task<T> {
-    /// The task of a request, which has this number in its script.
+    /// The task of a load, which has this number in its script.
     pub fn new(
         alloc: Global,
         config: Arc<Config>,
         q: u32,
         request: Request,
     ) -> Result<Task<T>, TaskRefused>
-        requires { loader_of request < length config.value.loaders }
+        requires load { IsLoadRequest request }
+        requires loader { loader_of request < length config.value.loaders }
         ensures fresh { IfOk result (λ t. t ≡ begun config.value q request) }
         ensures refused { IfErr result (λ e. (e.config.value ≡ config.value) × (e.request ≡ request)) }
     {
-        let Request::Load(loader, name) = &request;
-        let loader = *loader;
-        let name = match name.try_clone(alloc) {
+        let loader = request.loader();
+        let name = match request.name().try_clone(alloc) {
             Ok(name) => name,
             Err(_) => return Err(TaskRefused { config, request }),
         };

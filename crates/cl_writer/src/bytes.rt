@@ -18,7 +18,8 @@ pub fn put_u16(out: &mut Vec<u8>, number: u16) -> Result<(), AllocError>
 /// A text's tag, its length and its bytes (JVMS SE 8, 4.4.7).
 pub fn put_text(out: &mut Vec<u8>, text: &[u8]) -> Result<(), AllocError>
     requires { length text.now < 2 ^ 16 }
-    ensures { OnOk result (out.new.items ≡ out.old.items ++ (1 ∷ (to_be_bytes w16 (length text.now) ++ text.now))) }
+    ensures { OnOk result (out.new.items ≡ out.old.items
+        ++ (1 ∷ (to_be_bytes w16 (length text.now) ++ text.now))) }
 {
     out.push(1)?;
     put_u16(out, text.len() as u16)?;

@@ -206,7 +206,8 @@ fn with_lines(items: Items, alloc: Global, lines: &[MemberLine]) -> Result<Items
 }
 
 fn with_super(items: Items, alloc: Global, name: &Option<Name>) -> Result<Items, AllocError>
-    ensures { IfOk result (λ t. t ≡ fold with_item items (flat_map class_wanted (option_to_list name.now))) }
+    ensures { IfOk result (λ t. t ≡ fold with_item items
+        (flat_map class_wanted (option_to_list name.now))) }
 {
     match name {
         Some(name) => items.with_class(alloc, name),

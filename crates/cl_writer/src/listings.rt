@@ -37,7 +37,8 @@ pub fn put_class(text: &mut String, alloc: Global, file: &ClassFile) -> Result<(
 
 /// A word, flags and a space.
 fn put_head(text: &mut String, word: &str, flags: u16) -> Result<(), AllocError>
-    ensures { OnOk result (string_bytes text.new ≡ string_bytes text.old ++ (word.now ++ printed_flags flags ++ codes " ")) }
+    ensures { OnOk result (string_bytes text.new ≡ string_bytes text.old
+        ++ (word.now ++ printed_flags flags ++ codes " ")) }
 {
     text.push_str(word)?;
     put_flags(text, flags)?;
@@ -47,7 +48,8 @@ fn put_head(text: &mut String, word: &str, flags: u16) -> Result<(), AllocError>
 /// The name of a class.
 #[tactic(auto, unfolding(crate::specs::Listings::printed_type))]
 fn put_type(text: &mut String, alloc: Global, pool: &[Entry], index: u16) -> Result<(), AllocError>
-    ensures { OnOk result (string_bytes text.new ≡ string_bytes text.old ++ printed_type pool.now index) }
+    ensures { OnOk result (string_bytes text.new ≡ string_bytes text.old ++ printed_type pool.now
+        index) }
 {
     put_name(text, alloc, type_name(pool, index))
 }
@@ -59,7 +61,8 @@ fn put_super(
     pool: &[Entry],
     super_class: u16,
 ) -> Result<(), AllocError>
-    ensures { OnOk result (string_bytes text.new ≡ string_bytes text.old ++ printed_super pool.now super_class) }
+    ensures { OnOk result (string_bytes text.new ≡ string_bytes text.old ++ printed_super pool.now
+        super_class) }
 {
     if super_class == 0 {
         return text.push_str("-");
@@ -73,7 +76,8 @@ fn put_interfaces(
     pool: &[Entry],
     interfaces: &[u16],
 ) -> Result<(), AllocError>
-    ensures { OnOk result (string_bytes text.new ≡ string_bytes text.old ++ flat_map (implements_line pool.now) interfaces.now) }
+    ensures { OnOk result (string_bytes text.new ≡ string_bytes text.old ++ flat_map
+        (implements_line pool.now) interfaces.now) }
 {
     for interface in interfaces {
         put_interface(text, alloc, pool, *interface)?;
@@ -87,7 +91,8 @@ pub fn put_interface(
     pool: &[Entry],
     interface: u16,
 ) -> Result<(), AllocError>
-    ensures { OnOk result (string_bytes text.new ≡ string_bytes text.old ++ implements_line pool.now interface) }
+    ensures { OnOk result (string_bytes text.new ≡ string_bytes text.old ++ implements_line pool.now
+        interface) }
 {
     text.push_str("implements ")?;
     put_type(text, alloc, pool, interface)?;
@@ -101,7 +106,8 @@ fn put_members(
     pool: &[Entry],
     members: &[Member],
 ) -> Result<(), AllocError>
-    ensures { OnOk result (string_bytes text.new ≡ string_bytes text.old ++ flat_map (member_line word.now pool.now) members.now) }
+    ensures { OnOk result (string_bytes text.new ≡ string_bytes text.old ++ flat_map
+        (member_line word.now pool.now) members.now) }
 {
     for member in members {
         put_member(text, alloc, word, pool, member)?;
@@ -116,7 +122,8 @@ pub fn put_member(
     pool: &[Entry],
     member: &Member,
 ) -> Result<(), AllocError>
-    ensures { OnOk result (string_bytes text.new ≡ string_bytes text.old ++ member_line word.now pool.now member.now) }
+    ensures { OnOk result (string_bytes text.new ≡ string_bytes text.old ++ member_line word.now
+        pool.now member.now) }
 {
     put_head(text, word, member.flags())?;
     put_name(text, alloc, text_at(pool, member.name_index()))?;
@@ -127,7 +134,8 @@ pub fn put_member(
 
 /// A name as escaped text.
 fn put_name(text: &mut String, alloc: Global, name: Option<&Name>) -> Result<(), AllocError>
-    ensures { OnOk result (string_bytes text.new ≡ string_bytes text.old ++ printed_name (option_map (λ n. n.now) name.entry)) }
+    ensures { OnOk result (string_bytes text.new ≡ string_bytes text.old ++ printed_name
+        (option_map (λ n. n.now) name.entry)) }
 {
     let Some(name) = name else {
         return Ok(());

@@ -51,7 +51,8 @@ fn class_index(alloc: Global, items: &Items, name: &Name) -> Result<u16, AllocEr
 
 fn pair_index(alloc: Global, items: &Items, member: &MemberName) -> Result<u16, AllocError>
     requires { length items.now ≤ 65534 }
-    ensures { IfOk result (λ i. i ≡ index items.now (said.NameAndType member.now.name member.now.descriptor)) }
+    ensures { IfOk result (λ i. i ≡ index items.now (said.NameAndType member.now.name
+        member.now.descriptor)) }
 {
     let name = member.name.try_clone(alloc)?;
     let descriptor = member.descriptor.try_clone(alloc)?;

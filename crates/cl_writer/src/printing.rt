@@ -19,7 +19,8 @@ pub fn print_listing<W: Write>(
     file: &ClassFile,
     out: &mut W,
 ) -> Result<(), PrintFault>
-    ensures lines { OnOk result (Appends (W.contents out.old) (W.contents out.new) (listing_of file.now)) }
+    ensures lines { OnOk result (Appends (W.contents out.old) (W.contents out.new)
+        (listing_of file.now)) }
     ensures part { OnErr result
         (AppendsPart (W.contents out.old) (W.contents out.new) (listing_of file.now)) }
 {

@@ -132,7 +132,8 @@ fn reference(alloc: Global, mut words: Words<'_>) -> Result<Option<Item>, AllocE
 
 /// The kind of member that the second word of a `ref` line asks for.
 fn kind_of(word: &str) -> Option<MemberKind>
-    ensures { MatchOption result ((k : MemberKind) → word.now ≡ kind_word k → ⊥) (λ k. word.now ≡ kind_word k) }
+    ensures { MatchOption result ((k : MemberKind) → word.now ≡ kind_word k
+        → ⊥) (λ k. word.now ≡ kind_word k) }
 {
     if word == "field" {
         Some(MemberKind::Field)
@@ -157,7 +158,8 @@ fn name_of(alloc: Global, words: Words<'_>) -> Result<Option<Name>, AllocError>
 
 /// N, and no word more.
 fn integer_of(words: Words<'_>) -> Option<i32>
-    ensures { MatchOption result ((n : ℤ) → IsInteger (words_of words.entry) n → ⊥) (λ n. IsInteger (words_of words.entry) n) }
+    ensures { MatchOption result ((n : ℤ) → IsInteger (words_of words.entry) n
+        → ⊥) (λ n. IsInteger (words_of words.entry) n) }
 {
     written_integer(one(words)?)
 }
@@ -210,7 +212,8 @@ fn member_name(alloc: Global, words: Words<'_>) -> Result<Option<MemberName>, Al
 
 /// The one word that is left.
 fn one(mut words: Words<'_>) -> Option<&str>
-    ensures { MatchOption result ((a : List ℕ) → words_of words.entry ≡ a ∷ [] → ⊥) (λ a. words_of words.entry ≡ a.now ∷ []) }
+    ensures { MatchOption result ((a : List ℕ) → words_of words.entry ≡ a ∷ []
+        → ⊥) (λ a. words_of words.entry ≡ a.now ∷ []) }
 {
     match (words.next(), words.next()) {
         (Some(word), None) => Some(word),
@@ -220,7 +223,8 @@ fn one(mut words: Words<'_>) -> Option<&str>
 
 /// The three words that are left.
 fn three(mut words: Words<'_>) -> Option<(&str, &str, &str)>
-    ensures { MatchOption result ((a b c : List ℕ) → words_of words.entry ≡ a ∷ b ∷ c ∷ [] → ⊥) (λ t. words_of words.entry ≡ t.0.now ∷ t.1.now ∷ t.2.now ∷ []) }
+    ensures { MatchOption result ((a b c : List ℕ) → words_of words.entry ≡ a ∷ b ∷ c ∷ []
+        → ⊥) (λ t. words_of words.entry ≡ t.0.now ∷ t.1.now ∷ t.2.now ∷ []) }
 {
     match (words.next(), words.next(), words.next(), words.next()) {
         (Some(a), Some(b), Some(c), None) => Some((a, b, c)),
@@ -272,7 +276,8 @@ fn hex(digit: u8) -> Option<u16>
 
 /// The number that a minus, if there is one, and decimal digits write.
 fn written_integer(text: &str) -> Option<i32>
-    ensures { MatchOption result ((n : ℤ) → WritesInteger text.now n → ⊥) (λ n. WritesInteger text.now n) }
+    ensures { MatchOption result ((n : ℤ) → WritesInteger text.now n
+        → ⊥) (λ n. WritesInteger text.now n) }
 {
     if text.as_bytes().first() == Some(&b'+') {
         return None;

@@ -93,7 +93,8 @@ fn put_entry(out: &mut Vec<u8>, entry: &Entry) -> Result<(), AllocError>
 
 /// A method handle's tag, its kind and its reference (JVMS SE 8, 4.4.8).
 fn put_handle(out: &mut Vec<u8>, kind: u8, reference: u16) -> Result<(), AllocError>
-    ensures { OnOk result (out.new.items ≡ out.old.items ++ (15 ∷ kind ∷ to_be_bytes w16 reference)) }
+    ensures { OnOk result (out.new.items ≡ out.old.items
+        ++ (15 ∷ kind ∷ to_be_bytes w16 reference)) }
 {
     out.push(15)?;
     out.push(kind)?;
@@ -103,14 +104,16 @@ fn put_handle(out: &mut Vec<u8>, kind: u8, reference: u16) -> Result<(), AllocEr
 /// A count, and each of the indices.
 fn put_interfaces(out: &mut Vec<u8>, interfaces: &[u16]) -> Result<(), AllocError>
     requires { length interfaces.now < 2 ^ 16 }
-    ensures { OnOk result (out.new.items ≡ out.old.items ++ counted (to_be_bytes w16) interfaces.now) }
+    ensures { OnOk result (out.new.items ≡ out.old.items ++ counted (to_be_bytes w16)
+        interfaces.now) }
 {
     put_u16(out, interfaces.len() as u16)?;
     put_numbers(out, interfaces)
 }
 
 fn put_numbers(out: &mut Vec<u8>, numbers: &[u16]) -> Result<(), AllocError>
-    ensures { OnOk result (out.new.items ≡ out.old.items ++ flat_map (to_be_bytes w16) numbers.now) }
+    ensures { OnOk result (out.new.items ≡ out.old.items ++ flat_map (to_be_bytes w16)
+        numbers.now) }
 {
     for number in numbers {
         put_u16(out, *number)?;
@@ -151,7 +154,8 @@ fn put_member(out: &mut Vec<u8>, member: &Member) -> Result<(), AllocError>
 /// A count, and each of the attributes.
 fn put_attributes(out: &mut Vec<u8>, attributes: &[Attribute]) -> Result<(), AllocError>
     requires { AllFit AttributeFits attributes.now }
-    ensures { OnOk result (out.new.items ≡ out.old.items ++ counted attribute_spelling attributes.now) }
+    ensures { OnOk result (out.new.items ≡ out.old.items ++ counted attribute_spelling
+        attributes.now) }
 {
     put_u16(out, attributes.len() as u16)?;
     put_each_attribute(out, attributes)
@@ -159,7 +163,8 @@ fn put_attributes(out: &mut Vec<u8>, attributes: &[Attribute]) -> Result<(), All
 
 fn put_each_attribute(out: &mut Vec<u8>, attributes: &[Attribute]) -> Result<(), AllocError>
     requires { AllByRecursion AttributeFits attributes.now }
-    ensures { OnOk result (out.new.items ≡ out.old.items ++ flat_map attribute_spelling attributes.now) }
+    ensures { OnOk result (out.new.items ≡ out.old.items ++ flat_map attribute_spelling
+        attributes.now) }
 {
     for attribute in attributes {
         put_attribute(out, attribute)?;

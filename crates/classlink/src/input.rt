@@ -19,8 +19,10 @@ pub const MOST_BYTES: usize = 67_108_864;
 pub fn read_text<I: Read + Drop>(alloc: Global, mut input: I) -> Result<String, Fault>
     ensures ok { IfOk result (λ t. IfSome (I.remaining input) (λ bytes. string_bytes t ≡ bytes)) }
     ensures small { IfOk result (λ t. string_len t ≤ MOST_BYTES) }
-    ensures large { result ≡ Err Fault.TooLarge → IfSome (I.remaining input) (λ bytes. MOST_BYTES < length bytes) }
-    ensures not_text { result ≡ Err Fault.NotUtf8 → IfSome (I.remaining input) (λ bytes. (length bytes ≤ MOST_BYTES) × ¬ (IsUtf8 bytes)) }
+    ensures large { result ≡ Err Fault.TooLarge
+        → IfSome (I.remaining input) (λ bytes. MOST_BYTES < length bytes) }
+    ensures not_text { result ≡ Err Fault.NotUtf8
+        → IfSome (I.remaining input) (λ bytes. (length bytes ≤ MOST_BYTES) × ¬ (IsUtf8 bytes)) }
     ensures faults { IfErr result IsInputFault }
 {
     let bytes = read_bytes(alloc, &mut input, MOST_BYTES)?;

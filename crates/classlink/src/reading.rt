@@ -21,7 +21,8 @@ pub fn print_class<F: ReadPath, W: Write>(
     path: &str,
     out: &mut W,
 ) -> Result<(), Fault>
-    ensures { ReadingOf (F.gives files.now path.now) path.now (W.contents out.old) (W.contents out.new) result }
+    ensures { ReadingOf (F.gives files.now path.now) path.now (W.contents out.old)
+        (W.contents out.new) result }
 {
     let bytes = bytes_at(alloc, files, path, MOST_CLASS_BYTES)?;
     let file = class_file(alloc, bytes.as_slice())?;

@@ -149,7 +149,8 @@ fn wanted<'a>(matches: &ArgMatches<'a>) -> Asked<'a>
 
 /// Whether the matches of a bundle's report have the flag `--answers`.
 fn answers_alone(matches: &ArgMatches<'_>) -> bool
-    ensures { (answers : Bool) → HasFlag (subcommand_rows_of matches.now) answers → result ≡ answers }
+    ensures { (answers : Bool) → HasFlag (subcommand_rows_of matches.now) answers
+        → result ≡ answers }
 {
     match matches.subcommand() {
         Some((_, bundle)) => bundle.get_flag("answers"),

@@ -52,7 +52,8 @@ fn is_written_as(alloc: Global, file: &ClassFile, bytes: &[u8]) -> Result<bool, 
 
 /// Whether the listing of a file is assembled to one that lists the same.
 fn lists_again(alloc: Global, file: &ClassFile) -> Result<bool, AllocError>
-    ensures { IfOk result (λ again. MatchBool again (ListsAgain file.now) (ListsAgain file.now → ⊥)) }
+    ensures { IfOk result (λ again. MatchBool again (ListsAgain file.now) (ListsAgain file.now
+        → ⊥)) }
 {
     assembles_to_one_answer();
     let text = listing(alloc, file)?;

@@ -7,7 +7,7 @@ use Rattle.cl_registry.specs.Tables.{Shown, IsTrusted, RunsAs, posts, steps}
 use Rattle.cl_schedule.specs.Counting.{Grows, faults}
 use Rattle.cl_schedule.specs.Serving.{reported, upto, InOrder}
 use Rattle.cl_schedule.specs.Headline.{EachSpelt, Alike, CirclesExact}
-use Rattle.cl_schedule.proofs.Serving.{bare, bare_runs, bare_trusted, next_upto, next_is_open, in_script, has_loader, report_tells}
+use Rattle.cl_schedule.proofs.Serving.{bare, bare_runs, bare_trusted, next_upto, next_is_open, in_script, has_loader, is_load, report_tells}
 use Rattle.cl_schedule.proofs.Rounds.{next_is_now, none_goes_on, nothing_left, served_bare, served_none, served_next, served_whole}
 use Rattle.cl_schedule.specs.Replies.{ClassesStay}
 use Rattle.cl_schedule.proofs.Again.{stays_next, stays_same, stays_start}
@@ -31,6 +31,12 @@ loop-q-init g c =
           subst (λ (n : ℕ). Grows n (g.S.Source.refused c.args.source.now) (g.S.Source.refused c.args.source.now))
           (sym (ap faults passed.answers ∙ ap (λ (x : Shown). faults x.answers) empty ∙ faults_none (length c.in_ok-asked.asked.value.requests))) (grows_none _);
     }
+
+pub serve_request-requires-clause-load : goal.serve_request-requires-clause-load
+serve_request-requires-clause-load g c =
+    let inv = c.loop-q.invariant in
+    is_load c.loop-q.registry.script.requests c.loop-q.q c.in_ok-request.request inv.kept.trusted.script.loads
+    (subst (λ (s : Scripted). slice_get s.requests c.loop-q.q ≡ Some c.in_ok-request.request) (c.deref-in-loop-q.ensures ∙ sym inv.script) c.in_ok-request.ensures)
 
 pub serve_request-requires-clause-loader : goal.serve_request-requires-clause-loader
 serve_request-requires-clause-loader g c =

@@ -19,7 +19,7 @@ pub returns-in-Err-clause-posted : goal.returns-in-Err-clause-posted
 returns-in-Err-clause-posted g c = posts_once c.args.registry.now c.args.registry.now c.post.new.registry c.args.q _ (goes_none c.args.registry.now) c.post.ensures.posted
 
 pub returns-in-Err-clause-served : goal.returns-in-Err-clause-served
-returns-in-Err-clause-served g c = posted_memory g.T.Told.told c.args.registry.now c.post.new.registry c.args.q c.args.request _ c.requires.kept c.requires.open (ap (λ f. f.answer) c.memory.ensures) c.post.ensures.posted
+returns-in-Err-clause-served g c = posted_memory g.T.Told.told c.args.registry.now c.post.new.registry c.args.q c.args.request _ c.requires.load c.requires.kept c.requires.open (ap (λ f. f.answer) c.memory.ensures) c.post.ensures.posted
 
 pub returns-in-Err-clause-answered : goal.returns-in-Err-clause-answered
 returns-in-Err-clause-answered g c = record { answer = c.memory.result.answer; is = ap (λ (x : Shown). x.answers) c.post.ensures.posted }
@@ -35,7 +35,7 @@ returns-in-Err-clause-faults g c =
 pub loop-loader-init : goal.loop-loader-init
 loop-loader-init g c = record {
   expects = ap (λ t. t.phase) c.in-Ok.ensures.fresh;
-  going = going_start g.T.Told.told c.args.registry.now c.args.request c.requires.kept;
+  going = going_start g.T.Told.told c.args.registry.now c.args.request c.requires.load c.requires.kept;
   tasking = tasking_start c.args.config.value c.args.q c.args.request c.args.registry.now c.in-Ok.task c.in-Ok.ensures.fresh;
   faults = grows_none _;
   again = again_begun c.args.registry.now c.args.config.value c.args.q c.args.request c.in-Ok.task _ c.in-Ok.ensures.fresh;

@@ -6,7 +6,7 @@ pub look-requires : goal.look-requires
 look-requires g c = record { job = job_with g.T.Told.told c.args.job _ _ c.requires.job c.at_name-2.ensures.path (accepts_next _ _ _ _ c.in-None.is c.in-Ok.ensures.accepted).now }
 
 pub define-requires : goal.define-requires
-define-requires g c = record { job = job_with g.T.Told.told c.args.job _ _ c.requires.job c.at_name-2.ensures.path (accepts_last _ _ _ _ _ c.in-Some.is c.in-Ok.ensures.accepted).now }
+define-requires g c = record { job = job_with g.T.Told.told c.args.job _ _ c.requires.job c.at_name-2.ensures.path (accepts_last _ _ _ _ _ _ c.in-Some.is c.into_draft.ensures c.in-Ok.ensures.accepted).now }
 
 pub returns-in-None-clause-leads : goal.returns-in-None-clause-leads
 returns-in-None-clause-leads g c =
@@ -14,5 +14,5 @@ returns-in-None-clause-leads g c =
 
 pub returns-in-Some-clause-leads : goal.returns-in-Some-clause-leads
 returns-in-Some-clause-leads g c =
-    let last = accepts_last _ _ _ _ _ c.in-Some.is c.in-Ok.ensures.accepted in
-    leads_complete g.T.Told.told c.args.job _ c.args.row.now c.in-Some.draft c.requires.job (job_with g.T.Told.told c.args.job _ _ c.requires.job c.at_name-2.ensures.path last.now) refl refl c.at_name.ensures.path c.class.ensures.spelt c.requires.fits last _ c.define.ensures
+    let last = accepts_last _ _ _ _ _ _ c.in-Some.is c.into_draft.ensures c.in-Ok.ensures.accepted in
+    leads_complete g.T.Told.told c.args.job _ c.args.row.now c.into_draft.result c.requires.job (job_with g.T.Told.told c.args.job _ _ c.requires.job c.at_name-2.ensures.path last.now) refl refl c.at_name.ensures.path c.class.ensures.spelt c.requires.fits last _ c.define.ensures

@@ -1,5 +1,6 @@
 use Rattle.std.proofs.Common.{◌≡◌, subst, sym, None}
-use Rattle.cl_constraints.specs.Groups.{Grouped, AreJoined, home_in}
+use Rattle.cl_constraints.specs.Groups.{Grouped, AreJoined}
+use Rattle.cl_constraints.specs.Records.{home_in}
 use Rattle.cl_constraints.specs.Singles.{Differs}
 use Rattle.cl_constraints.proofs.Grouping.{entered_grouped, enters, homed_joined}
 use Rattle.cl_constraints.proofs.grouped.GroupsNameBook.enter.Goals as goal

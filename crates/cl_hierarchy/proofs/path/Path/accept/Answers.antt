@@ -1,7 +1,6 @@
 use Rattle.std.proofs.Common.{◌≡◌, ◌≢◌, [], Some, None, ap, sym, subst}
 use Rattle.cl_classfile.specs.Files.{file_of}
 use Rattle.cl_model.specs.declared.class.Class.{Class}
-use Rattle.cl_hierarchy.specs.Drafts.{Drafted}
 use Rattle.cl_hierarchy.specs.Kept.{KeepsPath, pathed}
 use Rattle.cl_hierarchy.specs.Paths.{Pathed, at_name, misfit_under, Accepts, Completes}
 use Rattle.cl_hierarchy.proofs.Tables.{waits_last, accepts_so, held_accept, held_end}
@@ -24,20 +23,15 @@ goes_on g c =
     (accepts_so c.self.inside.frames.entries c.accept_last.new.frames.entries c.class.result.now.loader c.args.row.now.class.loader c.in_ok-next.field-0 (Some c.in-Some.next) (ap (λ (t : Class). t.loader) c.class.ensures.class)
     c.in-Some.is c.in_ok-next.ensures.accepted)
 
-ends : (g : _) (c : goal.After-into_draft g) → KeepsPath g.T.Told.told c.self.inside.config.value c.self.inside.loader c.in-Some-pop.class.name c.pop.new.self.entries
-    × Completes (pathed c.self.inside.config.value c.self.inside.loader c.self.inside.at c.self.inside.frames.entries) (pathed c.self.inside.config.value c.self.inside.loader c.in-Some-pop.class.name c.pop.new.self.entries) c.args.row.now.class.loader
-    c.in-Some-pop.frame.draft
-ends g c =
-    held_end g.T.Told.told c.self.inside.config.value c.self.inside.loader c.self.inside.at c.self.inside.frames.entries c.accept_last.new.frames.entries c.pop.new.self.entries c.in-Some-pop.class c.in-Some-pop.frame c.args.row.now.class c.self.invariant
-    (accepts_so c.self.inside.frames.entries c.accept_last.new.frames.entries c.class.result.now.loader c.args.row.now.class.loader c.in_ok-next.field-0 None (ap (λ (t : Class). t.loader) c.class.ensures.class)
-    c.in-None.is c.in_ok-next.ensures.accepted)
-    c.in-Some-pop.ensures.entries
-
 pub invariant_of-self-in-Some : goal.invariant_of-self-in-Some
 invariant_of-self-in-Some g c = (goes_on g c).0
 
 pub invariant_of-self-in-Some-pop : goal.invariant_of-self-in-Some-pop
-invariant_of-self-in-Some-pop g c = (ends g c).0
+invariant_of-self-in-Some-pop g c =
+    (held_end g.T.Told.told c.self.inside.config.value c.self.inside.loader c.self.inside.at c.self.inside.frames.entries c.accept_last.new.frames.entries c.pop.new.self.entries c.in-Some-pop.class c.in-Some-pop.frame c.args.row.now.class c.self.invariant
+    (accepts_so c.self.inside.frames.entries c.accept_last.new.frames.entries c.class.result.now.loader c.args.row.now.class.loader c.in_ok-next.field-0 None (ap (λ (t : Class). t.loader) c.class.ensures.class)
+    c.in-None.is c.in_ok-next.ensures.accepted)
+    c.in-Some-pop.ensures.entries).0
 
 pub returns-in-Some-clause-accepted : goal.returns-in-Some-clause-accepted
 returns-in-Some-clause-accepted g c =
@@ -46,5 +40,8 @@ returns-in-Some-clause-accepted g c =
 pub returns-in-Some-pop-clause-accepted : goal.returns-in-Some-pop-clause-accepted
 returns-in-Some-pop-clause-accepted g c =
     let new = pathed c.self.inside.config.value c.self.inside.loader c.in-Some-pop.class.name c.pop.new.self.entries in
-    subst (λ (p : Pathed). Completes p new c.args.row.now.class.loader c.into_draft.result) c.self.view_is
-    (subst (λ (d : Drafted). Completes (pathed c.self.inside.config.value c.self.inside.loader c.self.inside.at c.self.inside.frames.entries) new c.args.row.now.class.loader d) (sym c.into_draft.ensures) (ends g c).1)
+    subst (λ (p : Pathed). Completes p new c.args.row.now.class.loader c.in-Some-pop.frame) c.self.view_is
+    (held_end g.T.Told.told c.self.inside.config.value c.self.inside.loader c.self.inside.at c.self.inside.frames.entries c.accept_last.new.frames.entries c.pop.new.self.entries c.in-Some-pop.class c.in-Some-pop.frame c.args.row.now.class c.self.invariant
+    (accepts_so c.self.inside.frames.entries c.accept_last.new.frames.entries c.class.result.now.loader c.args.row.now.class.loader c.in_ok-next.field-0 None (ap (λ (t : Class). t.loader) c.class.ensures.class)
+    c.in-None.is c.in_ok-next.ensures.accepted)
+    c.in-Some-pop.ensures.entries).1

@@ -1,4 +1,4 @@
-use Rattle.cl_tasks.proofs.Told.{turn_leads}
+use Rattle.cl_tasks.proofs.Told.{turn_keeps, turn_leads, turn_own}
 use Rattle.cl_tasks.proofs.task.Task.turn.Goals as goal
 
 pub returns-clause-number : goal.returns-clause-number
@@ -36,3 +36,11 @@ returns-clause-next g c =
 pub returns-clause-refused : goal.returns-clause-refused
 returns-clause-refused g c =
     (turn_leads g.T.Told.told c.self.inside.config.value c.self.inside.stage c.replace-stage.result c.args.self.now c.args.reply c.step-next.result c.self.view_is c.self.invariant c.requires.expects c.replace-stage.ensures.value c.step-next.ensures.leads c.step-next.ensures.refused).refused
+
+pub returns-clause-own : goal.returns-clause-own
+returns-clause-own g c =
+    turn_own c.self.inside.config.value c.self.inside.stage c.replace-stage.result c.args.self.now c.args.reply c.step-next.result c.self.view_is c.self.invariant c.requires.expects c.replace-stage.ensures.value c.step-next.ensures.own
+
+pub invariant_of-self : goal.invariant_of-self
+invariant_of-self g c =
+    turn_keeps g.T.Told.told c.self.inside.config.value c.self.inside.stage c.replace-stage.result c.args.self.now c.args.reply c.step-next.result c.self.view_is c.self.invariant c.requires.expects c.replace-stage.ensures.value c.step-next.ensures.leads

@@ -1,0 +1,371 @@
+-- What holds of a tour between two steps.
+use Rattle.std.proofs.Common.{◌≡◌, ◌∙◌, ◌⊎◌, inl, inr, ℕ, suc, zero, ◌+◌, ◌*◌, ◌<◌, ◌≤◌, arith, length, Bool, true, false, ◌||◌, if◌then◌else◌, List, [], ◌∷◌, ◌++◌, Option, Some, None, append_assoc, append-nil, drop, is_some, map, refl, sym, ap, subst}
+use Rattle.std.specs.Prelude.{slice_get, option_and_then, option_to_list}
+use Rattle.std.specs.List.{AllByRecursion}
+use Rattle.cl_classfile.specs.Files.{Name, file_of}
+use Rattle.cl_model.specs.declared.class.Class.{Class}
+use Rattle.cl_model.specs.Classes.{Above, AsSuperclass, same_class, is_among}
+use Rattle.cl_model.specs.Lineages.{Forest, Bare, Tree, Kin, alone, classes, once}
+use Rattle.cl_model.proofs.Ancestors.{Within}
+use Rattle.cl_hierarchy.specs.declared.tour.Order.{Order}
+use Rattle.cl_hierarchy.specs.declared.tour.Step.{Step}
+use Rattle.cl_hierarchy.specs.declared.tour.Task.{Task}
+use Rattle.cl_hierarchy.specs.declared.tour.Task.TheVariants as tasks
+use Rattle.cl_hierarchy.specs.Frames.{accepted_of}
+use Rattle.cl_hierarchy.specs.Lineages.{IsRowIn, row_of}
+use Rattle.cl_hierarchy.specs.Rows.{Rowed}
+use Rattle.cl_hierarchy.specs.Trees.{AllKnown, SupersBefore, forest, in_front, interfaces_in, kin_named, kin_under, kins, superclass_in}
+use Rattle.cl_hierarchy.specs.Tours.{Comes, Leaves, Marked, Stop, Toured, first_row, inner, interface_row, marked, marks, opened, opening, over_from, size, step, steps_left, steps_of, stops, stops_left, stops_of, telling, tells, tells_after, tells_before, told_at, up_first, upwards_of, wants_up, with_class, with_row}
+use Rattle.cl_hierarchy.proofs.Ancestry.{no_row, row_kin}
+use Rattle.cl_hierarchy.proofs.Scans.{map_push}
+use Rattle.cl_hierarchy.proofs.Tours.{Goes, goes_first, goes_on, goes_past, goes_tell, told_both, with_has, with_one, within_join, classes_both, with_either, with_grows}
+
+-- ---- what is left to do
+
+pub left_both : (o : Order) (known : List Kin) (ms ns : List Marked) → stops_left o known (ms ++ ns) ≡ stops_left o known ns ++ stops_left o known ms
+left_both o known [] ns = sym (append-nil (stops_left o known ns))
+left_both o known (m ∷ ms) ns =
+    ap (λ (x : List Stop). x ++ stops_of o known m.row m.task) (left_both o known ms ns) ∙ append_assoc (stops_left o known ns) (stops_left o known ms) (stops_of o known m.row m.task)
+
+pub steps_both : (known : List Kin) (ms ns : List Marked) → steps_left known (ms ++ ns) ≡ steps_left known ms + steps_left known ns
+steps_both known [] ns = omega arith
+steps_both known (m ∷ ms) ns = let more = steps_both known ms ns in omega arith
+
+-- a row of each of these is its class's
+abbrev pub AreRowsOf : List Rowed → List Marked → Type 0
+AreRowsOf rows ms = AllByRecursion (λ (m : Marked). IsRowIn rows m.row) ms
+
+all_both : (rows : List Rowed) (ms ns : List Marked) → AreRowsOf rows ms → AreRowsOf rows ns → AreRowsOf rows (ms ++ ns)
+all_both rows [] ns f g = g
+all_both rows (m ∷ ms) ns f g = (f.0, all_both rows ms ns f.1 g)
+
+all_first : (rows : List Rowed) (ms ns : List Marked) → AreRowsOf rows (ms ++ ns) → AreRowsOf rows ms
+all_first rows [] ns h = tt
+all_first rows (m ∷ ms) ns h = (h.0, all_first rows ms ns h.1)
+
+all_last : (rows : List Rowed) (ms ns : List Marked) → AreRowsOf rows (ms ++ ns) → AreRowsOf rows ns
+all_last rows [] ns h = h
+all_last rows (m ∷ ms) ns h = all_last rows ms ns h.1
+
+pub all_told : (rows told : List Rowed) (r : Rowed) → AllByRecursion (IsRowIn rows) told → IsRowIn rows r → AllByRecursion (IsRowIn rows) (told ++ r ∷ [])
+all_told rows [] r h a = (a, tt)
+all_told rows (x ∷ told) r h a = (h.0, all_told rows told r h.1 a)
+
+-- ---- a superclass
+
+-- none or one
+one_above : (o : Option Name) (places : List ℕ)
+    → (accepted_of (map (λ n. record { name = n; role = AsSuperclass }) (option_to_list o)) places ≡ []) ⊎ ((c : Class) × (accepted_of (map (λ n. record { name = n; role = AsSuperclass }) (option_to_list o)) places ≡ c ∷ []))
+one_above None places = inl refl
+one_above (Some n) [] = inl refl
+one_above (Some n) (p ∷ places) = inr (record { name = n; loader = p }, refl)
+
+module _ (rows : List Rowed) (ordered : SupersBefore [] rows) where
+  abbrev pub known : List Kin
+  known = kins rows
+
+  row_is : (c : Class) (x : Rowed) → row_of rows c ≡ Some x → IsRowIn rows x
+  row_is c x e = ap (λ (y : Class). row_of rows y) (row_kin [] rows c x ordered e).same ∙ e
+
+  kin_is : (c : Class) (x : Rowed) → row_of rows c ≡ Some x → kin_named known c ≡ Some (kin_under known x)
+  kin_is c x e = (row_kin [] rows c x ordered e).kin
+
+  up_stops : (o : Order) (c : Class) (x : Option Rowed) → row_of rows c ≡ x → stops_left o known (upwards_of o x) ≡ stops o (forest known (c ∷ [])) (wants_up o)
+  up_stops o c None e = sym (ap (λ (y : Option Kin). stops o (in_front y Bare) (wants_up o)) (no_row [] rows c refl e))
+  up_stops o c (Some x) e = sym (ap (λ (y : Option Kin). stops o (in_front y Bare) (wants_up o)) (kin_is c x e))
+
+  up_steps : (o : Order) (c : Class) (x : Option Rowed) → row_of rows c ≡ x → steps_left known (upwards_of o x) ≤ 4 * size (forest known (c ∷ []))
+  up_steps o c None e = omega arith
+  up_steps o c (Some x) e =
+      let is : size (forest known (c ∷ [])) ≡ size (alone (kin_under known x)) = ap (λ (y : Option Kin). size (in_front y Bare)) (kin_is c x e) in
+      omega arith
+
+  up_rows : (o : Order) (c : Class) (x : Option Rowed) → row_of rows c ≡ x → AreRowsOf rows (upwards_of o x)
+  up_rows o c None e = tt
+  up_rows o c (Some x) e = (row_is c x e, tt)
+
+  -- to come to what is above
+  pub record IsUp (o : Order) (cs : List Class) : Type 0 where
+    pub stops_are : stops_left o known (upwards_of o (first_row rows cs)) ≡ stops o (forest known cs) (wants_up o)
+    pub steps_are : steps_left known (upwards_of o (first_row rows cs)) ≤ 4 * size (forest known cs)
+    pub rows_are : AreRowsOf rows (upwards_of o (first_row rows cs))
+
+  up_of : (o : Order) (cs : List Class) → (cs ≡ []) ⊎ ((c : Class) × (cs ≡ c ∷ [])) → IsUp o cs
+  up_of o cs (inl e) = subst (λ (x : List Class). IsUp o x) (sym e) (record { stops_are = refl; steps_are = omega arith; rows_are = tt })
+  up_of o cs (inr e) = subst (λ (x : List Class). IsUp o x) (sym e.1) (record { stops_are = up_stops o e.0 (row_of rows e.0) refl; steps_are = up_steps o e.0 (row_of rows e.0) refl; rows_are = up_rows o e.0 (row_of rows e.0) refl })
+
+  pub up : (o : Order) (r : Rowed) → IsUp o (superclass_in r)
+  up o r = up_of o (superclass_in r) (one_above (file_of r.file).super_name r.places)
+
+-- ---- what is opened
+
+module _ (rows : List Rowed) (ordered : SupersBefore [] rows) (o : Order) (r : Rowed) where
+  abbrev kin : Kin
+  kin = kin_under (kins rows) r
+
+  abbrev ups : List Marked
+  ups = upwards_of o (first_row rows (superclass_in r))
+
+  abbrev overs : Marked
+  overs = record { row = r; task = tasks.Over 0 }
+
+  parts : (b : Bool) → stops_left o (kins rows) (if b then overs ∷ ups else ups ++ overs ∷ [])
+      ≡ (if b then stops o kin.superclass (wants_up o) ++ stops o kin.interfaces true else stops o kin.interfaces true ++ stops o kin.superclass (wants_up o))
+  parts true = ap (λ (x : List Stop). x ++ stops o kin.interfaces true) (up rows ordered o r).stops_are
+  parts false = left_both o (kins rows) ups (overs ∷ []) ∙ ap (λ (x : List Stop). stops o kin.interfaces true ++ x) (up rows ordered o r).stops_are
+
+  pub opened_stops : stops_left o (kins rows) (opened o rows r) ≡ inner o kin ++ Leaves kin ∷ []
+  opened_stops = ap (λ (x : List Stop). x ++ Leaves kin ∷ []) (parts (up_first o))
+
+  part_steps : (b : Bool) → steps_left (kins rows) (if b then overs ∷ ups else ups ++ overs ∷ []) ≤ 4 * size kin.superclass + 4 * size kin.interfaces + 1
+  part_steps true = let u = (up rows ordered o r).steps_are in omega arith
+  part_steps false = let u = (up rows ordered o r).steps_are in let e = steps_both (kins rows) ups (overs ∷ []) in omega arith
+
+  pub opened_steps : steps_left (kins rows) (opened o rows r) < 4 * size kin.superclass + 4 * size kin.interfaces + 3
+  opened_steps = let h = part_steps (up_first o) in omega arith
+
+  part_rows : (b : Bool) → IsRowIn rows r → AreRowsOf rows (if b then overs ∷ ups else ups ++ overs ∷ [])
+  part_rows true h = (h, (up rows ordered o r).rows_are)
+  part_rows false h = all_both rows ups (overs ∷ []) (up rows ordered o r).rows_are (h, tt)
+
+  pub opened_rows : IsRowIn rows r → AreRowsOf rows (opened o rows r)
+  opened_rows h = (h, part_rows (up_first o) h)
+
+-- ---- superinterfaces
+
+-- a class in front, if there is one
+abbrev fronted : List Kin → Option Rowed → Forest → Forest
+fronted known None f = Bare
+fronted known (Some x) f = in_front (Some (kin_under known x)) f
+
+abbrev IsOneOf : List Rowed → Option Rowed → Type 0
+IsOneOf rows None = Unit {0}
+IsOneOf rows (Some x) = IsRowIn rows x
+
+record IsOver (rows : List Rowed) (cs : List Class) (k : ℕ) (x : Option Rowed) : Type 0 where
+  front : forest (kins rows) (drop k cs) ≡ fronted (kins rows) x (forest (kins rows) (drop (suc k) cs))
+  is_one : IsOneOf rows x
+
+over_here : (rows : List Rowed) → SupersBefore [] rows → (cs : List Class) (k : ℕ) → AllKnown (kins rows) cs → (x : Option Rowed) → option_and_then (row_of rows) (slice_get cs k) ≡ x → IsOver rows cs k x
+over_here rows h [] zero all None e = record { front = refl; is_one = tt }
+over_here rows h [] (suc k) all None e = record { front = refl; is_one = tt }
+over_here rows h [] zero all (Some x) e = absurd cc
+over_here rows h [] (suc k) all (Some x) e = absurd cc
+over_here rows h (c ∷ cs) zero all None e = absurd (let none : kin_named (kins rows) c ≡ None = no_row [] rows c refl e in let one : is_some (kin_named (kins rows) c) ≡ true = all.0 in cc)
+over_here rows h (c ∷ cs) zero all (Some x) e = record { front = ap (λ (y : Option Kin). in_front y (forest (kins rows) cs)) (kin_is rows h c x e); is_one = row_is rows h c x e }
+over_here rows h (c ∷ cs) (suc k) all x e = let more = over_here rows h cs k all.1 x e in record { front = more.front; is_one = more.is_one }
+
+plus_one : (n : ℕ) → n + 1 ≡ suc n
+plus_one n = omega arith
+
+stops_front : (o : Order) (k : Kin) (f : Forest) → stops o (in_front (Some k) f) true ≡ stops o (alone k) true ++ stops o f true
+stops_front o k f = ap (λ (x : List Stop). Comes k true ∷ x) (sym (append_assoc (inner o k) (Leaves k ∷ []) (stops o f true)))
+
+module _ (rows : List Rowed) (o : Order) (r : Rowed) (place : ℕ) where
+  over_stops : (x : Option Rowed) → IsOver rows (interfaces_in r) place x → stops_left o (kins rows) (over_from r place x) ≡ stops_of o (kins rows) r (tasks.Over place)
+  over_stops None h = sym (ap (λ (f : Forest). stops o f true) h.front)
+  over_stops (Some x) h =
+      ap (λ (n : ℕ). stops o (alone (kin_under (kins rows) x)) true ++ stops o (forest (kins rows) (drop n (interfaces_in r))) true) (plus_one place)
+      ∙ sym (ap (λ (f : Forest). stops o f true) h.front ∙ stops_front o (kin_under (kins rows) x) (forest (kins rows) (drop (suc place) (interfaces_in r))))
+
+  over_steps : (x : Option Rowed) → IsOver rows (interfaces_in r) place x → steps_left (kins rows) (over_from r place x) < 4 * size (forest (kins rows) (drop place (interfaces_in r))) + 1
+  over_steps None h = omega arith
+  over_steps (Some x) h =
+      let e : size (forest (kins rows) (drop place (interfaces_in r))) ≡ 1 + size (kin_under (kins rows) x).superclass + size (kin_under (kins rows) x).interfaces + size (forest (kins rows) (drop (suc place) (interfaces_in r))) =
+      ap (λ (f : Forest). size f) h.front in
+      let n : size (forest (kins rows) (drop (place + 1) (interfaces_in r))) ≡ size (forest (kins rows) (drop (suc place) (interfaces_in r))) =
+      ap (λ (m : ℕ). size (forest (kins rows) (drop m (interfaces_in r)))) (plus_one place) in
+      omega arith
+
+  over_rows : (x : Option Rowed) → IsRowIn rows r → IsOver rows (interfaces_in r) place x → AreRowsOf rows (over_from r place x)
+  over_rows None i h = tt
+  over_rows (Some x) i h = (i, (h.is_one, tt))
+
+-- what holds between two steps
+pub record IsStage (o : Order) (rows : List Rowed) (goal : List Kin) (t : Toured) : Type 0 where
+  pub goes : Goes o (kins rows) goal t.told t.seen t.left (stops_left o (kins rows) t.stack)
+  pub told_are : AllByRecursion (IsRowIn rows) t.told
+  pub stack_is : AreRowsOf rows t.stack
+
+-- the same of what was told, before any other stops
+record IsTold (o : Order) (rows : List Rowed) (goal : List Kin) (t : Toured) (rest : List Stop) : Type 0 where
+  goes : Goes o (kins rows) goal t.told t.seen t.left rest
+  told_are : AllByRecursion (IsRowIn rows) t.told
+
+row_joins : (rows : List Rowed) (seen : List Class) (told : List Rowed) (r : Rowed) → AllByRecursion (IsRowIn rows) told → IsRowIn rows r → AllByRecursion (IsRowIn rows) (with_row seen told r)
+row_joins rows seen told r h i = at (is_among seen r.class)
+  where
+    at : (b : Bool) → AllByRecursion (IsRowIn rows) (if b then told else told ++ r ∷ [])
+    at true = h
+    at false = all_told rows told r h i
+
+module _ (o : Order) (rows : List Rowed) (goal : List Kin) (r : Rowed) (is_row : IsRowIn rows r) where
+  telling_on : (t : Toured) (s : Stop) (b : Bool) (rest : List Stop) → tells o s ≡ (if b then kin_under (kins rows) r ∷ [] else []) → IsTold o rows goal t (s ∷ (rest ++ stops_left o (kins rows) t.stack))
+      → IsTold o rows goal (telling b t r) (rest ++ stops_left o (kins rows) (telling b t r).stack)
+  telling_on t s true rest e h = record {
+    goes = goes_tell o (kins rows) goal t.told t.seen t.left r s (rest ++ stops_left o (kins rows) t.stack) e h.goes;
+    told_are = row_joins rows t.seen t.told r h.told_are is_row;
+  }
+  telling_on t s false rest e h = record { goes = goes_on o (kins rows) goal t.told t.seen t.left s (rest ++ stops_left o (kins rows) t.stack) e h.goes; told_are = h.told_are }
+
+telling_stack : (t : Toured) (b : Bool) (r : Rowed) → (telling b t r).stack ≡ t.stack
+telling_stack t true r = refl
+telling_stack t false r = refl
+
+module _ (rows : List Rowed) (ordered : SupersBefore [] rows) (o : Order) (goal : List Kin) (r : Rowed) (is_row : IsRowIn rows r) where
+  found : kin_named (kins rows) r.class ≡ Some (kin_under (kins rows) r)
+  found = kin_is rows ordered r.class r is_row
+
+  opening_on : (t : Toured) (b : Bool) → is_among t.left r.class ≡ b → IsTold o rows goal t ((inner o (kin_under (kins rows) r) ++ Leaves (kin_under (kins rows) r) ∷ []) ++ stops_left o (kins rows) t.stack) → AreRowsOf rows t.stack
+      → IsStage o rows goal (record t { stack = if b then t.stack else t.stack ++ opened o rows r })
+  opening_on t true e h a = record {
+    goes = goes_past o (kins rows) goal t.told t.seen t.left (inner o (kin_under (kins rows) r) ++ Leaves (kin_under (kins rows) r) ∷ []) (stops_left o (kins rows) t.stack) (h.goes.done (kin_under (kins rows) r) found e) h.goes;
+    told_are = h.told_are;
+    stack_is = a;
+  }
+  opening_on t false e h a = record {
+    goes =
+        subst (λ (x : List Stop). Goes o (kins rows) goal t.told t.seen t.left x)
+        (sym (left_both o (kins rows) t.stack (opened o rows r) ∙ ap (λ (x : List Stop). x ++ stops_left o (kins rows) t.stack) (opened_stops rows ordered o r))) h.goes;
+    told_are = h.told_are;
+    stack_is = all_both rows t.stack (opened o rows r) a (opened_rows rows ordered o r is_row);
+  }
+
+  came : (t : Toured) (wanted : Bool) → IsTold o rows goal t (stops o (alone (kin_under (kins rows) r)) wanted ++ stops_left o (kins rows) t.stack) → AreRowsOf rows t.stack
+      → IsStage o rows goal (step o rows t r (tasks.Come wanted))
+  came t wanted h a =
+      let k = kin_under (kins rows) r in
+      let b = tells_before o wanted in
+      opening_on (telling b t r) (is_among (telling b t r).left r.class) refl (telling_on o rows goal r is_row t (Comes k wanted) b (inner o k ++ Leaves k ∷ []) refl h)
+      (subst (λ (ms : List Marked). AreRowsOf rows ms) (sym (telling_stack t b r)) a)
+
+  went_over : (t : Toured) (place : ℕ) → IsTold o rows goal t (stops_of o (kins rows) r (tasks.Over place) ++ stops_left o (kins rows) t.stack) → AreRowsOf rows t.stack
+      → IsStage o rows goal (step o rows t r (tasks.Over place))
+  went_over t place h a =
+      let x = interface_row rows r place in
+      let v = over_here rows ordered (interfaces_in r) place (row_kin [] rows r.class r ordered is_row).interfaces x refl in
+      record {
+        goes =
+            subst (λ (y : List Stop). Goes o (kins rows) goal t.told t.seen t.left y)
+            (sym (left_both o (kins rows) t.stack (over_from r place x) ∙ ap (λ (y : List Stop). y ++ stops_left o (kins rows) t.stack) (over_stops rows o r place x v))) h.goes;
+        told_are = h.told_are;
+        stack_is = all_both rows t.stack (over_from r place x) a (over_rows rows o r place x is_row v);
+      }
+
+  all_told_of : (t : Toured) (b : Bool) → tells o (Leaves (kin_under (kins rows) r)) ≡ (if b then kin_under (kins rows) r ∷ [] else []) → Within (classes (told_at o (inner o (kin_under (kins rows) r)))) t.seen
+      → Within (classes (told_at o (inner o (kin_under (kins rows) r))) ++ classes (tells o (Leaves (kin_under (kins rows) r)) ++ [])) (telling b t r).seen
+  all_told_of t true e h =
+      let above = classes (told_at o (inner o (kin_under (kins rows) r))) in
+      subst (λ (ks : List Kin). Within (above ++ classes (ks ++ [])) (with_class t.seen r.class)) (sym e)
+      (within_join above (r.class ∷ []) (with_class t.seen r.class) (λ c i. with_grows t.seen r.class c (h c i)) (with_one [] (with_class t.seen r.class) r.class (λ c i. absurd cc) (with_has t.seen r.class)))
+  all_told_of t false e h =
+      let above = classes (told_at o (inner o (kin_under (kins rows) r))) in
+      subst (λ (ks : List Kin). Within (above ++ classes (ks ++ [])) t.seen) (sym e) (within_join above [] t.seen h (λ c i. absurd cc))
+
+  same_kin : (k : Kin) → kin_named (kins rows) k.class ≡ Some k → k.class ≡ r.class → kin_under (kins rows) r ≡ k
+  same_kin k e s = let f : kin_named (kins rows) k.class ≡ Some (kin_under (kins rows) r) = subst (λ (c : Class). kin_named (kins rows) c ≡ Some (kin_under (kins rows) r)) (sym s) found in cc
+
+  leaving : (t : Toured) → IsStage o rows goal t → Within (classes (told_at o (inner o (kin_under (kins rows) r) ++ Leaves (kin_under (kins rows) r) ∷ []))) t.seen → IsStage o rows goal (record t { left = with_class t.left r.class })
+  leaving t h w = record {
+    goes = record {
+      goes = h.goes.goes;
+      ready = h.goes.ready;
+      done = λ k e i. elim (with_either t.left r.class k.class i) [
+        | inl j ↦ h.goes.done k e j
+        | inr s ↦ subst (λ (x : Kin). Within (classes (told_at o (inner o x ++ Leaves x ∷ []))) t.seen) (same_kin k e s) w
+      ];
+    };
+    told_are = h.told_are;
+    stack_is = h.stack_is;
+  }
+
+  went : (t : Toured) → IsTold o rows goal t (Leaves (kin_under (kins rows) r) ∷ stops_left o (kins rows) t.stack) → AreRowsOf rows t.stack → IsStage o rows goal (step o rows t r tasks.Leave)
+  went t h a =
+      let k = kin_under (kins rows) r in
+      let b = tells_after o in
+      let x = telling b t r in
+      let i = telling_on o rows goal r is_row t (Leaves k) b [] refl h in
+      leaving x (record { goes = i.goes; told_are = i.told_are; stack_is = subst (λ (ms : List Marked). AreRowsOf rows ms) (sym (telling_stack t b r)) a })
+      (subst (λ (cs : List Class). Within cs x.seen) (sym (ap (λ (ks : List Kin). classes ks) (told_both o (inner o k) (Leaves k ∷ [])) ∙ classes_both (told_at o (inner o k)) (tells o (Leaves k) ++ []))) (all_told_of t b refl h.goes.ready.0))
+
+-- one step
+stepped : (rows : List Rowed) → SupersBefore [] rows → (o : Order) (goal : List Kin) (t : Toured) (r : Rowed) (k : Task) → IsRowIn rows r → IsTold o rows goal t (stops_of o (kins rows) r k ++ stops_left o (kins rows) t.stack) → AreRowsOf rows t.stack
+    → IsStage o rows goal (step o rows t r k)
+stepped rows ordered o goal t r (tasks.Come wanted) i h a = came rows ordered o goal r i t wanted h a
+stepped rows ordered o goal t r (tasks.Over place) i h a = went_over rows ordered o goal r i t place h a
+stepped rows ordered o goal t r tasks.Leave i h a = went rows ordered o goal r i t h a
+
+-- and it comes nearer to the end
+opening_less : (rows : List Rowed) → SupersBefore [] rows → (o : Order) (t : Toured) (r : Rowed) (b : Bool) (wanted : Bool)
+    → steps_left (kins rows) (if b then t.stack else t.stack ++ opened o rows r) < steps_left (kins rows) t.stack + steps_of (kins rows) r (tasks.Come wanted)
+opening_less rows ordered o t r true wanted = omega arith
+opening_less rows ordered o t r false wanted = let s = opened_steps rows ordered o r in let e = steps_both (kins rows) t.stack (opened o rows r) in omega arith
+
+nearer : (rows : List Rowed) → SupersBefore [] rows → (o : Order) (t : Toured) (r : Rowed) (k : Task) → IsRowIn rows r → steps_left (kins rows) (step o rows t r k).stack < steps_left (kins rows) t.stack + steps_of (kins rows) r k
+nearer rows ordered o t r (tasks.Come wanted) i =
+    let b = tells_before o wanted in
+    subst (λ (ms : List Marked). steps_left (kins rows) (opening o rows (telling b t r) r).stack < steps_left (kins rows) ms + steps_of (kins rows) r (tasks.Come wanted)) (telling_stack t b r)
+    (opening_less rows ordered o (telling b t r) r (is_among (telling b t r).left r.class) wanted)
+nearer rows ordered o t r (tasks.Over place) i =
+    let x = interface_row rows r place in
+    let s = over_steps rows o r place x (over_here rows ordered (interfaces_in r) place (row_kin [] rows r.class r ordered i).interfaces x refl) in
+    let e = steps_both (kins rows) t.stack (over_from r place x) in
+    omega arith
+nearer rows ordered o t r tasks.Leave i = at (tells_after o)
+  where
+    at : (b : Bool) → steps_left (kins rows) (telling b t r).stack < steps_left (kins rows) t.stack + 1
+    at true = omega arith
+    at false = omega arith
+
+-- ---- the same of lists of steps
+
+-- the last of what is left is taken off
+module _ {A : Type 0} (rows : List Rowed) (ordered : SupersBefore [] rows) (o : Order) (goal : List Kin) (told : List Rowed) (seen left : List Class) (stack rest : List (Step A)) (next : Step A) (popped : stack ≡ rest ++ next ∷ []) where
+  pushed : marks stack ≡ marks rest ++ marked next ∷ []
+  pushed = ap (λ (ss : List (Step A)). marks ss) popped ∙ map_push (λ (s : Step A). marked s) rest next
+
+  abbrev before : Toured
+  before = record { told = told; seen = seen; left = left; stack = marks rest }
+
+  pub preserved : (new : Toured) → IsStage o rows goal (record { told = told; seen = seen; left = left; stack = marks stack }) → new ≡ step o rows before next.row.value next.task → IsStage o rows goal new
+  preserved new h e =
+      let all : AreRowsOf rows (marks rest ++ marked next ∷ []) = subst (λ (ms : List Marked). AreRowsOf rows ms) pushed h.stack_is in
+      subst (λ (t : Toured). IsStage o rows goal t) (sym e) (
+      stepped rows ordered o goal before next.row.value next.task (all_last rows (marks rest) (marked next ∷ []) all).0
+      (record {
+        goes =
+            subst (λ (ss : List Stop). Goes o (kins rows) goal told seen left ss)
+            (ap (λ (ms : List Marked). stops_left o (kins rows) ms) pushed ∙ left_both o (kins rows) (marks rest) (marked next ∷ [])) h.goes;
+        told_are = h.told_are;
+      })
+      (all_first rows (marks rest) (marked next ∷ []) all)
+      )
+
+  pub smaller : (new : Toured) → IsStage o rows goal (record { told = told; seen = seen; left = left; stack = marks stack }) → new ≡ step o rows before next.row.value next.task → steps_left (kins rows) new.stack < steps_left (kins rows) (marks stack)
+  smaller new h e =
+      let all : AreRowsOf rows (marks rest ++ marked next ∷ []) = subst (λ (ms : List Marked). AreRowsOf rows ms) pushed h.stack_is in
+      let n = nearer rows ordered o before next.row.value next.task (all_last rows (marks rest) (marked next ∷ []) all).0 in
+      let s : steps_left (kins rows) (marks stack) ≡ steps_left (kins rows) (marks rest ++ marked next ∷ []) = ap (λ (ms : List Marked). steps_left (kins rows) ms) pushed in
+      let b = steps_both (kins rows) (marks rest) (marked next ∷ []) in
+      let is : steps_left (kins rows) new.stack ≡ steps_left (kins rows) (step o rows before next.row.value next.task).stack = ap (λ (t : Toured). steps_left (kins rows) t.stack) e in
+      omega arith
+
+pub first_stage : (rows : List Rowed) (o : Order) (r : Rowed) (wanted : Bool) (told : List Rowed) (seen left : List Class) (stack : List Marked) → IsRowIn rows r → told ≡ [] → seen ≡ [] → left ≡ []
+    → stack ≡ record { row = r; task = tasks.Come wanted } ∷ [] → IsStage o rows (once (told_at o (stops o (alone (kin_under (kins rows) r)) wanted))) (record { told = told; seen = seen; left = left; stack = stack })
+first_stage rows o r wanted told seen left stack i a b c d =
+    subst (λ (x : List Rowed). IsStage o rows (once (told_at o (stops o (alone (kin_under (kins rows) r)) wanted))) (record { told = x; seen = seen; left = left; stack = stack })) (sym a) (
+    subst (λ (x : List Class). IsStage o rows (once (told_at o (stops o (alone (kin_under (kins rows) r)) wanted))) (record { told = []; seen = x; left = left; stack = stack })) (sym b) (
+    subst (λ (x : List Class). IsStage o rows (once (told_at o (stops o (alone (kin_under (kins rows) r)) wanted))) (record { told = []; seen = []; left = x; stack = stack })) (sym c) (
+    subst (λ (x : List Marked). IsStage o rows (once (told_at o (stops o (alone (kin_under (kins rows) r)) wanted))) (record { told = []; seen = []; left = []; stack = x })) (sym d) (
+    record { goes = goes_first o (kins rows) (alone (kin_under (kins rows) r)) wanted; told_are = tt; stack_is = (i, tt) }
+    ))))
+
+pub ended : {A : Type 0} (rows : List Rowed) (o : Order) (goal : List Kin) (told : List Rowed) (seen left : List Class) (stack : List (Step A)) → stack ≡ [] → IsStage o rows goal (record { told = told; seen = seen; left = left; stack = marks stack })
+    → map (kin_under (kins rows)) told ≡ goal
+ended {A} rows o goal told seen left stack e h =
+    sym (append-nil (map (kin_under (kins rows)) told))
+    ∙ (subst (λ (ss : List (Step A)). IsStage o rows goal (record { told = told; seen = seen; left = left; stack = marks ss })) e h).goes.goes
+
+pub no_items : {A : Type 0} (xs : List A) → length xs ≡ 0 → xs ≡ []
+no_items [] e = refl
+no_items (x ∷ xs) e = absurd (omega arith)

@@ -1,0 +1,50 @@
+-- Lists of loading constraints, with what they were made from (JVMS SE 8, 5.3.4, 5.4.2, 5.4.3).
+use Rattle.std.specs.Prelude.{◌≡◌, ℕ, List, map, Some}
+use Rattle.cl_classfile.specs.Files.{Reference, reference}
+use Rattle.cl_model.specs.declared.need.Equality.{Equality}
+use Rattle.cl_model.specs.Lineages.{Kin}
+use Rattle.cl_model.specs.Frames.{class_named}
+use Rattle.cl_model.specs.Preparation.{constraints_of}
+use Rattle.cl_model.specs.References.{resolve_in}
+use Rattle.cl_model.specs.States.{Equal, Need, Verdict}
+use Rattle.cl_model.specs.Works.{Made}
+use Rattle.cl_hierarchy.specs.Lineages.{Lined, kin_of}
+use Rattle.cl_hierarchy.specs.declared.equalities.Origin.{Origin}
+use Rattle.cl_hierarchy.specs.declared.equalities.Origin.TheVariants as origins
+
+-- an equality as a need (5.3.4)
+abbrev pub equal_need : Equality → Need
+equal_need e = Equal e.name e.one e.other
+
+-- equalities as needs, in order (5.3.4)
+abbrev pub needs_of : List Equality → List Need
+needs_of es = map equal_need es
+
+-- what a list of equalities was made from: a reference of a class d to a class c or through it, or a class's preparation (5.4.2, 5.4.3)
+pub data Sprung : Type 0 where
+  OfReference : (d c : Lined) → (index : ℕ) → Sprung
+  OfPreparation : (lineage : Lined) → Sprung
+
+-- the same, without where it lies in memory (own choice of form)
+abbrev pub sprung : {A : Type 0} → Origin A → Sprung
+sprung (origins.Reference d c index) = OfReference d.value c.value index
+sprung (origins.Preparation lineage) = OfPreparation lineage.value
+
+-- a list of equalities with what it was made from (own choice)
+pub record Listed : Type 0 where
+  pub needs : List Equality
+  pub origin : Sprung
+
+-- these are the needs of d's reference at an index of its pool, which names the class c, once that is loaded (5.4.3)
+pub record AreOfReference (d c : Kin) (index : ℕ) (needs : List Need) : Type 0 where
+  pub refers : Reference
+  pub at : reference d.file index ≡ Some refers
+  pub names : class_named refers ≡ Some c.class.name
+  pub made : Made Verdict
+  pub worked : resolve_in d refers c ≡ Some made
+  pub needs_are : needs ≡ made.needs
+
+-- the needs are those that the definitions list of what they were made from (5.4.2, 5.4.3)
+abbrev pub AreOf : Sprung → List Need → Type 0
+AreOf (OfReference d c index) needs = AreOfReference (kin_of d) (kin_of c) index needs
+AreOf (OfPreparation l) needs = needs ≡ constraints_of (kin_of l)

@@ -1,0 +1,105 @@
+//! Lists of loading constraints (JVMS SE 8, 5.3.4, 5.4.2, 5.4.3).
+
+ghost use Rattle.std.specs.Prelude.{◌≡◌, if◌then◌else◌, nat_le};
+ghost use Rattle.cl_model.specs.Preparation.{constraints_of};
+ghost use Rattle.cl_model.specs.States.{Equal};
+ghost use Rattle.cl_hierarchy.specs.Imposed.{AreOf, AreOfReference, OfPreparation, OfReference, equal_need, needs_of, sprung};
+ghost use Rattle.cl_hierarchy.specs.Lineages.{kin_of};
+
+use crate::lineage::Lineage;
+use cl_model::{Equality, LoaderId, Told};
+use cl_names::Name;
+use std::marker::Model;
+use std::sync::Arc;
+
+/// That two loaders have the same class of a name, the lesser loader first (JVMS SE 8, 5.3.4).
+pub fn equality(name: Name, one: LoaderId, other: LoaderId) -> Equality
+    ensures { equal_need result ≡ (if nat_le one other then Equal name one other else Equal name
+        other one) }
+{
+    if one.0 <= other.0 {
+        Equality { name, one, other }
+    } else {
+        Equality {
+            name,
+            one: other,
+            other: one,
+        }
+    }
+}
+
+/// What a list of equalities was made from.
+#[derive(Drop)]
+pub enum Origin<T: Told> {
+    /// The member reference of `d` at this index of its constant pool, which names the class `c` (JVMS SE 8, 5.4.3).
+    Reference {
+        d: Arc<Lineage<T>>,
+        c: Arc<Lineage<T>>,
+        index: u16,
+    },
+    /// The preparation of a class (JVMS SE 8, 5.4.2).
+    Preparation {
+        lineage: Arc<Lineage<T>>,
+    },
+}
+
+/// The equalities that a reference or a preparation asks for, in order.
+#[derive(Drop)]
+pub struct Equalities<T: Told> {
+    needs: Vec<Equality>,
+    origin: Origin<T>,
+}
+
+impl<T: Told> Model for Equalities<T> {
+    ghost use Rattle.cl_hierarchy.specs.Imposed.{AreOf, Listed, needs_of, sprung};
+
+    ghost Value = { Listed };
+
+    ghost view = { λ e. record { needs = e.needs.items; origin = sprung e.origin } };
+
+    ghost invariant = { λ e. AreOf (sprung e.origin) (needs_of e.needs.items) };
+}
+
+impl<T: Told> Equalities<T> {
+    /// Those of the member reference of `d` at this index, which names the class `c`.
+    pub fn of_reference(
+        d: Arc<Lineage<T>>,
+        c: Arc<Lineage<T>>,
+        index: u16,
+        needs: Vec<Equality>,
+    ) -> Equalities<T>
+        requires { AreOfReference (kin_of d.value) (kin_of c.value) index (needs_of needs.items) }
+        ensures { result ≡ record {
+          needs = needs.items;
+          origin = OfReference d.value c.value index;
+        } }
+    {
+        let origin = Origin::Reference { d, c, index };
+        Equalities { needs, origin }
+    }
+
+    /// Those of the preparation of a class.
+    pub fn of_preparation(lineage: Arc<Lineage<T>>, needs: Vec<Equality>) -> Equalities<T>
+        requires { needs_of needs.items ≡ constraints_of (kin_of lineage.value) }
+        ensures { result ≡ record { needs = needs.items; origin = OfPreparation lineage.value } }
+    {
+        let origin = Origin::Preparation { lineage };
+        Equalities { needs, origin }
+    }
+
+    /// The equalities, in order.
+    pub fn needs(&self) -> &[Equality]
+        ensures needs { result.now ≡ self.now.needs }
+        ensures kept { AreOf self.now.origin (needs_of self.now.needs) }
+    {
+        self.needs.as_slice()
+    }
+
+    /// What they were made from.
+    pub fn origin(&self) -> &Origin<T>
+        ensures origin { sprung result.now ≡ self.now.origin }
+        ensures kept { AreOf self.now.origin (needs_of self.now.needs) }
+    {
+        &self.origin
+    }
+}

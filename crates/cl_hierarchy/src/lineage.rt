@@ -1,0 +1,208 @@
+//! Lineages: a class with all that stands above it, and what is asked of them (JVMS SE 8, 5.3.5, 5.4.4).
+
+ghost use Rattle.std.specs.Prelude.{◌≡◌, [], map, IfOk, IfSome};
+ghost use Rattle.std.specs.List.{AllByRecursion};
+ghost use Rattle.std.specs.Option.{option_map};
+ghost use Rattle.cl_model.specs.Lineages.{first, is_subclass, superclasses, superinterfaces, upward};
+ghost use Rattle.cl_hierarchy.specs.Lineages.{IsLined, IsRowIn, field_order, kin_at, kin_of, reaches, rows_in};
+ghost use Rattle.cl_hierarchy.specs.Trees.{SupersBefore, forest, kin_under, kins, superclass_in};
+
+use crate::above::superclass_row;
+use crate::access::is_same;
+use crate::row::ClassRow;
+use crate::row_index::RowIndex;
+use crate::tour::{Order, rows_in_order};
+use cl_config::Config;
+use cl_model::{Class, Told};
+use std::alloc::{AllocError, Global};
+use std::marker::Model;
+use std::sync::Arc;
+
+/// A class with all that stands above it, each class once: its superclass's lineage, then that of each superinterface in
+/// file order, then the class (JVMS SE 8, 5.3.5).
+#[derive(Drop)]
+pub struct Lineage<T: Told> {
+    config: Arc<Config>,
+    above: Vec<Arc<ClassRow<T>>>,
+    own: Arc<ClassRow<T>>,
+}
+
+impl<T: Told> Model for Lineage<T> {
+    ghost use Rattle.std.specs.Prelude.{map};
+    ghost use Rattle.cl_hierarchy.specs.Lineages.{IsLined, Lined};
+
+    ghost Value = { Lined };
+
+    ghost view = { λ l. record { config = l.config.value; above = map (λ r. r.value) l.above.items; own = l.own.value } };
+
+    ghost invariant = { λ l. IsLined T.told (record { config = l.config.value; above = map (λ r. r.value) l.above.items; own = l.own.value }) };
+}
+
+/// Whether `of` is a superclass of the class of this row. The rows of all these are among `rows`.
+fn is_above<'a, T: Told>(
+    rows: &'a [Arc<ClassRow<T>>],
+    under: &'a Arc<ClassRow<T>>,
+    of: &Class,
+) -> bool
+    ensures { result ≡ reaches (kins (map (λ r. r.value) rows.now))
+        (superclass_in under.entry.now.value) of.now }
+{
+    let mut rest = rows;
+    let mut last = under;
+    while let Some((row, earlier)) = superclass_row(rest, last) {
+        if is_same(of, row.class()) {
+            return true;
+        }
+        last = row;
+        rest = earlier;
+    }
+    false
+}
+
+/// The rows of the superclasses of the class of this row, nearest first. They are all among `rows`.
+fn upward<'a, T: Told>(
+    alloc: Global,
+    rows: &'a [Arc<ClassRow<T>>],
+    under: &'a Arc<ClassRow<T>>,
+) -> Result<Vec<Arc<ClassRow<T>>>, AllocError>
+    requires { SupersBefore [] (map (λ r. r.value) rows.now) }
+    ensures kins { IfOk result (λ v. map (λ r. kin_under (kins (map (λ x. x.value) rows.now))
+        r.value) v.items ≡ upward (forest (kins (map (λ r. r.value) rows.now))
+        (superclass_in under.entry.now.value))) }
+    ensures rows { IfOk result (λ v. AllByRecursion (λ r. IsRowIn (map (λ x. x.value) rows.now)
+        r.value) v.items) }
+{
+    let mut found = Vec::new(alloc);
+    let mut rest = rows;
+    let mut last = under;
+    while let Some((row, earlier)) = superclass_row(rest, last) {
+        found.push(Arc::try_clone(row)?)?;
+        last = row;
+        rest = earlier;
+    }
+    Ok(found)
+}
+
+impl<T: Told> Lineage<T> {
+    /// The lineage that these rows are.
+    pub(crate) fn of_rows(
+        config: Arc<Config>,
+        above: Vec<Arc<ClassRow<T>>>,
+        own: Arc<ClassRow<T>>,
+    ) -> Lineage<T>
+        requires { IsLined T.told (record {
+          config = config.value;
+          above = map (λ r. r.value) above.items;
+          own = own.value;
+        }) }
+        ensures { result ≡ record {
+          config = config.value;
+          above = map (λ r. r.value) above.items;
+          own = own.value;
+        } }
+    {
+        Lineage { config, above, own }
+    }
+
+    /// The class.
+    pub fn class(&self) -> &Class
+        ensures class { result.now ≡ (kin_of self.now).class }
+        ensures kept { IsLined T.told self.now }
+    {
+        self.own.class()
+    }
+
+    /// The class's own row.
+    pub fn own(&self) -> &Arc<ClassRow<T>>
+        ensures own { result.now.value ≡ self.now.own }
+        ensures kept { IsLined T.told self.now }
+    {
+        &self.own
+    }
+
+    /// The rows of all that stands above the class, each once, after those of its direct supertypes.
+    pub fn above(&self) -> &[Arc<ClassRow<T>>]
+        ensures rows { map (λ r. r.value) result.now ≡ self.now.above }
+        ensures kept { IsLined T.told self.now }
+    {
+        self.above.as_slice()
+    }
+
+    /// The configuration of the registry that made it.
+    pub fn config(&self) -> &Arc<Config>
+        ensures config { result.now.value ≡ self.now.config }
+        ensures kept { IsLined T.told self.now }
+    {
+        &self.config
+    }
+
+    /// The row of the superclass, if there is one (JVMS SE 8, 4.1). Takes no memory.
+    pub fn superclass(&self) -> Option<&Arc<ClassRow<T>>>
+        ensures superclass { option_map (λ r. kin_at self.now r.now.value) result
+            ≡ first (superclasses (kin_of self.now)) }
+        ensures rows { IfSome result (λ r. IsRowIn (rows_in self.now) r.now.value) }
+    {
+        let (row, _) = superclass_row(self.above.as_slice(), &self.own)?;
+        Some(row)
+    }
+
+    /// The rows of the superclasses, nearest first (JVMS SE 8, 4.1), in time linear in the rows.
+    pub fn superclasses(&self, alloc: Global) -> Result<Vec<Arc<ClassRow<T>>>, AllocError>
+        ensures superclasses { IfOk result (λ v. map (λ r. kin_at self.now r.value) v.items
+            ≡ superclasses (kin_of self.now)) }
+        ensures rows { IfOk result (λ v. AllByRecursion (λ r. IsRowIn (rows_in self.now) r.value)
+            v.items) }
+    {
+        upward(alloc, self.above.as_slice(), &self.own)
+    }
+
+    /// Whether the class has another as a proper superclass (JVMS SE 8, 4.1). Takes no memory; time linear in the rows.
+    pub fn is_subclass(&self, of: &Class) -> bool
+        ensures { result ≡ is_subclass (kin_of self.now) of.now }
+    {
+        is_above(self.above.as_slice(), &self.own, of)
+    }
+
+    /// The rows of the direct and indirect superinterfaces, each once at its first place: a class's in file order, each
+    /// before its own, then those of its superclass (JVMS SE 8, 5.4.3.3). Time linear in the rows and the supertypes
+    /// that they name.
+    pub fn superinterfaces(&self, alloc: Global) -> Result<Vec<Arc<ClassRow<T>>>, AllocError>
+        ensures superinterfaces { IfOk result (λ v. map (λ r. kin_at self.now r.value) v.items
+            ≡ superinterfaces (kin_of self.now)) }
+        ensures rows { IfOk result (λ v. AllByRecursion (λ r. IsRowIn (rows_in self.now) r.value)
+            v.items) }
+    {
+        self.superinterfaces_of(alloc, &self.own)
+    }
+
+    /// The same of the class of a row of the lineage.
+    pub fn superinterfaces_of(
+        &self,
+        alloc: Global,
+        row: &Arc<ClassRow<T>>,
+    ) -> Result<Vec<Arc<ClassRow<T>>>, AllocError>
+        requires { IsRowIn (rows_in self.now) row.now.value }
+        ensures superinterfaces { IfOk result (λ v. map (λ r. kin_at self.now r.value) v.items
+            ≡ superinterfaces (kin_at self.now row.now.value)) }
+        ensures rows { IfOk result (λ v. AllByRecursion (λ r. IsRowIn (rows_in self.now) r.value)
+            v.items) }
+    {
+        let seed = self.config.seed();
+        let table = RowIndex::of(alloc, seed, self.above.as_slice(), &self.own)?;
+        rows_in_order(alloc, seed, Order::Superinterfaces, &table, row, false)
+    }
+
+    /// The rows of the class and of all that stands above it in the order of field lookup, each once: a class, its
+    /// superinterfaces in file order, its superclass, each of these with all above it (JVMS SE 8, 5.4.3.2). Time linear
+    /// in the rows and the supertypes that they name.
+    pub fn field_order(&self, alloc: Global) -> Result<Vec<Arc<ClassRow<T>>>, AllocError>
+        ensures order { IfOk result (λ v. map (λ r. kin_at self.now r.value) v.items
+            ≡ field_order (kin_of self.now)) }
+        ensures rows { IfOk result (λ v. AllByRecursion (λ r. IsRowIn (rows_in self.now) r.value)
+            v.items) }
+    {
+        let seed = self.config.seed();
+        let table = RowIndex::of(alloc, seed, self.above.as_slice(), &self.own)?;
+        rows_in_order(alloc, seed, Order::Fields, &table, &self.own, true)
+    }
+}

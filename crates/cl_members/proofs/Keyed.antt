@@ -1,0 +1,134 @@
+-- The key that an entry asks for is that of the texts which it names.
+use Rattle.std.proofs.Common.{◌≡◌, ℕ, not, eqb, List, [], ◌∷◌, Option, Some, None, refl, sym, ap, ◌∙◌}
+use Rattle.std.specs.Prelude.{option_map, option_and_then, option_to_list, IsSome}
+use Rattle.cl_descriptors.proofs.Codec.{position-at}
+use Rattle.cl_descriptors.specs.Reading.{base_at, field_at, whole_field, whole_method}
+use Rattle.cl_descriptors.specs.declared.types.FieldType.{FieldType}
+use Rattle.cl_descriptors.specs.declared.types.MethodType.{MethodType}
+use Rattle.cl_descriptors.specs.declared.types.Descriptor.TheVariants as descriptors
+use Rattle.cl_descriptors.specs.Types.{SpellsField, SpellsMethod, class_of, classes_of}
+use Rattle.cl_descriptors.proofs.Methods.{whole_field_again, whole_method_again, whole_method_spelled}
+use Rattle.cl_classfile.specs.declared.reference.Reference.{Reference}
+use Rattle.cl_classfile.specs.declared.reference.Reference.TheVariants as references
+use Rattle.cl_classfile.specs.declared.reference.Symbol.{Symbol}
+use Rattle.cl_classfile.specs.Files.{Name, Key, ToClass, ToField, ToMethod, ToInterfaceMethod, named_type, typed, typed_by, field_key, method_key, field_of, method_of}
+use Rattle.cl_classfile.specs.Files as files
+use Rattle.cl_classfile.specs.References.{plain_symbol, plain_reference}
+use Rattle.cl_model.specs.Keys.{descriptor_of, key_of}
+use Rattle.cl_members.specs.Symbols as symbols
+
+-- a symbol that the code found, and the key that is its
+pub record Names (key_in : files.Symbol → Option Key) (found : Option Symbol) (key : Key) : Type 0 where
+  pub symbol : Symbol
+  pub is : found ≡ Some symbol
+  pub key_is : key_in (plain_symbol symbol) ≡ Some key
+
+class_apart : (o : Option FieldType) (r : files.Reference) → ((t : FieldType) → ToClass t ≡ r → ⊥) → option_map (λ t. ToClass t) o ≡ Some r → ⊥
+class_apart None r apart e = absurd cc
+class_apart (Some t) r apart e = apart t cc
+
+field_apart : (a : Option FieldType) (k : Option Key) (r : files.Reference) → ((t : FieldType) (x : Key) → ToField t x ≡ r → ⊥) → typed_by (λ t x. ToField t x) a k ≡ Some r → ⊥
+field_apart (Some t) (Some x) r apart e = apart t x cc
+field_apart (Some t) None r apart e = absurd cc
+field_apart None k r apart e = absurd cc
+
+method_apart : (a : Option FieldType) (k : Option Key) (r : files.Reference) → ((t : FieldType) (x : Key) → ToMethod t x ≡ r → ⊥) → typed_by (λ t x. ToMethod t x) a k ≡ Some r → ⊥
+method_apart (Some t) (Some x) r apart e = apart t x cc
+method_apart (Some t) None r apart e = absurd cc
+method_apart None k r apart e = absurd cc
+
+interface_apart : (a : Option FieldType) (k : Option Key) (r : files.Reference) → ((t : FieldType) (x : Key) → ToInterfaceMethod t x ≡ r → ⊥) → typed_by (λ t x. ToInterfaceMethod t x) a k ≡ Some r → ⊥
+interface_apart (Some t) (Some x) r apart e = apart t x cc
+interface_apart (Some t) None r apart e = absurd cc
+interface_apart None k r apart e = absurd cc
+
+field_typed : (a : Option FieldType) (k : Option Key) (t : FieldType) (key : Key) → typed_by (λ t x. ToField t x) a k ≡ Some (ToField t key) → k ≡ Some key
+field_typed (Some u) (Some x) t key e = cc
+field_typed (Some u) None t key e = absurd cc
+field_typed None k t key e = absurd cc
+
+method_typed : (a : Option FieldType) (k : Option Key) (t : FieldType) (key : Key) → typed_by (λ t x. ToMethod t x) a k ≡ Some (ToMethod t key) → k ≡ Some key
+method_typed (Some u) (Some x) t key e = cc
+method_typed (Some u) None t key e = absurd cc
+method_typed None k t key e = absurd cc
+
+interface_typed : (a : Option FieldType) (k : Option Key) (t : FieldType) (key : Key) → typed_by (λ t x. ToInterfaceMethod t x) a k ≡ Some (ToInterfaceMethod t key) → k ≡ Some key
+interface_typed (Some u) (Some x) t key e = cc
+interface_typed (Some u) None t key e = absurd cc
+interface_typed None k t key e = absurd cc
+
+pub field_asked : (o : Option Reference) (t : FieldType) (key : Key) → option_and_then typed (option_map plain_reference o) ≡ Some (ToField t key) → Names field_key (symbols.field_of o) key
+field_asked None t key e = absurd cc
+field_asked (Some (references.Class n)) t key e = absurd (class_apart (named_type n.now) (ToField t key) (λ u f. absurd cc) e)
+field_asked (Some (references.Field s)) t key e = record { symbol = s; is = refl; key_is = field_typed (named_type s.class.now) (field_key (plain_symbol s)) t key e }
+field_asked (Some (references.Method s)) t key e = absurd (method_apart (named_type s.class.now) (method_key (plain_symbol s)) (ToField t key) (λ u x f. absurd cc) e)
+field_asked (Some (references.InterfaceMethod s)) t key e = absurd (interface_apart (named_type s.class.now) (method_key (plain_symbol s)) (ToField t key) (λ u x f. absurd cc) e)
+
+pub method_asked : (o : Option Reference) (t : FieldType) (key : Key) → option_and_then typed (option_map plain_reference o) ≡ Some (ToMethod t key) → Names method_key (symbols.method_of o) key
+method_asked None t key e = absurd cc
+method_asked (Some (references.Class n)) t key e = absurd (class_apart (named_type n.now) (ToMethod t key) (λ u f. absurd cc) e)
+method_asked (Some (references.Field s)) t key e = absurd (field_apart (named_type s.class.now) (field_key (plain_symbol s)) (ToMethod t key) (λ u x f. absurd cc) e)
+method_asked (Some (references.Method s)) t key e = record { symbol = s; is = refl; key_is = method_typed (named_type s.class.now) (method_key (plain_symbol s)) t key e }
+method_asked (Some (references.InterfaceMethod s)) t key e = absurd (interface_apart (named_type s.class.now) (method_key (plain_symbol s)) (ToMethod t key) (λ u x f. absurd cc) e)
+
+pub interface_asked : (o : Option Reference) (t : FieldType) (key : Key) → option_and_then typed (option_map plain_reference o) ≡ Some (ToInterfaceMethod t key) → Names method_key (symbols.interface_method_of o) key
+interface_asked None t key e = absurd cc
+interface_asked (Some (references.Class n)) t key e = absurd (class_apart (named_type n.now) (ToInterfaceMethod t key) (λ u f. absurd cc) e)
+interface_asked (Some (references.Field s)) t key e = absurd (field_apart (named_type s.class.now) (field_key (plain_symbol s)) (ToInterfaceMethod t key) (λ u x f. absurd cc) e)
+interface_asked (Some (references.Method s)) t key e = absurd (method_apart (named_type s.class.now) (method_key (plain_symbol s)) (ToInterfaceMethod t key) (λ u x f. absurd cc) e)
+interface_asked (Some (references.InterfaceMethod s)) t key e = record { symbol = s; is = refl; key_is = interface_typed (named_type s.class.now) (method_key (plain_symbol s)) t key e }
+
+-- a symbol that was found is the one whose key was asked for
+some_symbol : (a b : Symbol) → (let o : Option Symbol = Some a in o) ≡ Some b → a ≡ b
+some_symbol a b e = cc
+
+pub is_there : (key_in : files.Symbol → Option Key) (found : Option Symbol) (key : Key) → Names key_in found key → found ≡ None → ⊥
+is_there key_in found key n e = absurd (let h : Some n.symbol ≡ None = sym n.is ∙ e in cc)
+
+pub is_its : (key_in : files.Symbol → Option Key) (found : Option Symbol) (key : Key) (s : Symbol) → Names key_in found key → found ≡ Some s → key_in (plain_symbol s) ≡ Some key
+is_its key_in found key s n e = ap (λ (x : Symbol). key_in (plain_symbol x)) (some_symbol s n.symbol (sym e ∙ n.is)) ∙ n.key_is
+
+-- ---- keys of fields and of methods are keys
+
+-- a key as a member has it
+pub record IsKeyOf (name descriptor : Name) (key : Key) : Type 0 where
+  pub keyed : key_of name descriptor ≡ key
+  pub described : IsSome (descriptor_of descriptor)
+
+abbrev field_key_by : Name → FieldType → Key
+field_key_by n t = record { name = n; descriptor = descriptors.Field t }
+
+abbrev method_key_by : Name → MethodType → Key
+method_key_by n m = record { name = n; descriptor = descriptors.Method m }
+
+by_field : (n d : Name) (o : Option FieldType) (key : Key) → whole_field d ≡ o → option_map (field_key_by n) o ≡ Some key → IsKeyOf n d key
+by_field n d None key e f = absurd cc
+by_field n d (Some t) key e f =
+    let is : field_key_by n t ≡ key = cc in
+    record { keyed = rw e is; described = rw e refl }
+
+pub field_keyed : (n d : Name) (key : Key) → field_of n d ≡ Some key → IsKeyOf n d key
+field_keyed n d key e = by_field n d (whole_field d) key refl e
+
+-- no field type begins with `(`
+no_field : (rest : List ℕ) → whole_field (40 ∷ rest) ≡ None
+unfolding whole_field field_at base_at
+no_field rest = rw (position-at (λ c. not (eqb c 91)) [] 40 rest tt refl) refl
+
+by_method : (n d : Name) (o : Option MethodType) (key : Key) → whole_method d ≡ o → option_map (method_key_by n) o ≡ Some key → IsKeyOf n d key
+by_method n d None key e f = absurd cc
+by_method n d (Some m) key e f =
+    let is : method_key_by n m ≡ key = cc in
+    let no : whole_field d ≡ None = ap whole_field (whole_method_spelled d m e).spelled ∙ no_field _ in
+    record { keyed = rw (no, e) is; described = rw (no, e) refl }
+
+pub method_keyed : (n d : Name) (key : Key) → method_of n d ≡ Some key → IsKeyOf n d key
+method_keyed n d key e = by_method n d (whole_method d) key refl e
+
+-- ---- the classes that a descriptor names
+
+pub field_classes : (d : Name) (t : FieldType) → SpellsField d t → option_map (λ x. option_to_list (class_of x)) (whole_field d) ≡ Some (option_to_list (class_of t))
+field_classes d t s = rw (whole_field_again d t s) refl
+
+pub method_classes : (d : Name) (m : MethodType) → SpellsMethod d m → option_map classes_of (whole_method d) ≡ Some (classes_of m)
+method_classes d m s = rw (whole_method_again d m s) refl

@@ -1,0 +1,5 @@
+pub mod Endings
+pub mod Members
+pub mod Lookups
+pub mod Symbols
+pub mod Asking

@@ -1,0 +1,113 @@
+ghost use Rattle.std.specs.Prelude.{◌≡◌, ◌≢◌, length, map, string_bytes, IfOk, MatchBool};
+ghost use Rattle.cl_model.specs.Lines.{need_texts, words};
+ghost use Rattle.cl_model.specs.Texts.{EqualityNames, NeedNames, equality_text};
+ghost use Rattle.cl_model.specs.Views.{need_of};
+
+use crate::loader::{LoaderId, loader_name, located_text};
+use cl_names::Name;
+use std::alloc::{AllocError, Global};
+
+/// That two loaders have the same class of a name: a loading constraint (JVMS SE 8, 5.3.4).
+#[derive(Debug, Drop, PartialEq, Eq)]
+pub struct Equality {
+    pub name: Name,
+    pub one: LoaderId,
+    pub other: LoaderId,
+}
+
+impl Equality {
+    /// Whether the other is the same: of the same name, with the same loaders in the same order.
+    pub fn is_same(&self, other: &Equality) -> bool
+        ensures { MatchBool result (self.now ≡ other.now) (self.now ≢ other.now) }
+    {
+        self.one == other.one && self.other == other.other && self.name == other.name
+    }
+
+    /// A copy.
+    pub fn try_clone(&self, alloc: Global) -> Result<Equality, AllocError>
+        ensures { IfOk result (λ e. e ≡ self.now) }
+    {
+        Ok(Equality {
+            name: self.name.try_clone(alloc)?,
+            one: self.one,
+            other: self.other,
+        })
+    }
+
+    /// Its text: the name and the names of the two loaders.
+    pub fn text(&self, alloc: Global, loaders: &[String]) -> Result<String, AllocError>
+        requires { EqualityNames (length loaders.now) self.now }
+        ensures { IfOk result (λ t. string_bytes t ≡ equality_text (map string_bytes loaders.now)
+            self.now) }
+    {
+        let name = self.name.text(alloc).map_err(|_| AllocError)?;
+        let one = loader_name(loaders, self.one);
+        let other = loader_name(loaders, self.other);
+        format!(in alloc; "{name} {one} {other}")
+    }
+}
+
+/// What a request needs to stand (JVMS SE 8, 5.3, 5.3.4).
+#[derive(Debug, Drop, PartialEq, Eq)]
+pub enum Need {
+    /// A loader records the class of a name, which its home defines.
+    Entry {
+        loader: LoaderId,
+        name: Name,
+        home: LoaderId,
+    },
+    /// Two loaders have the same class of a name.
+    Equal(Equality),
+}
+
+impl Need {
+    /// Whether the other is the same.
+    pub fn is_same(&self, other: &Need) -> bool
+        ensures { MatchBool result (self.now ≡ other.now) (self.now ≢ other.now) }
+    {
+        match (self, other) {
+            (
+                Need::Entry { loader, name, home },
+                Need::Entry {
+                    loader: l,
+                    name: n,
+                    home: h,
+                },
+            ) => *loader == *l && *name == *n && *home == *h,
+            (Need::Equal(equality), Need::Equal(e)) => equality.is_same(e),
+            _ => false,
+        }
+    }
+
+    /// A copy.
+    pub fn try_clone(&self, alloc: Global) -> Result<Need, AllocError>
+        ensures { IfOk result (λ n. n ≡ self.now) }
+    {
+        Ok(match self {
+            Need::Entry { loader, name, home } => Need::Entry {
+                loader: *loader,
+                name: name.try_clone(alloc)?,
+                home: *home,
+            },
+            Need::Equal(equality) => Need::Equal(equality.try_clone(alloc)?),
+        })
+    }
+
+    /// Its text, as that of a refused one is printed: a record by the loader that was asked.
+    pub fn text(&self, alloc: Global, loaders: &[String]) -> Result<String, AllocError>
+        requires { NeedNames (length loaders.now) self.now }
+        ensures { IfOk result (λ t. string_bytes t
+            ≡ words (need_texts (map string_bytes loaders.now) (need_of self.now))) }
+    {
+        match self {
+            Need::Entry { loader, name, .. } => {
+                let class = located_text(alloc, loaders, name, *loader)?;
+                format!(in alloc; "record {class}")
+            }
+            Need::Equal(equality) => {
+                let equality = equality.text(alloc, loaders)?;
+                format!(in alloc; "equal {equality}")
+            }
+        }
+    }
+}

@@ -1,0 +1,10 @@
+use crate::class::Class;
+use crate::verdict::Verdict;
+
+/// What an entry of a class's constant pool is settled to, for good (JVMS SE 8, 5.4.3).
+#[derive(Debug, Drop, PartialEq, Eq)]
+pub struct Settled {
+    pub class: Class,
+    pub index: u16,
+    pub verdict: Verdict,
+}

@@ -1,0 +1,147 @@
+-- The walk over the superclasses, step by step.
+use Rattle.std.proofs.Common.{◌≡◌, ◌<◌, ◌+◌, ℕ, Bool, true, false, ◌&&◌, ◌||◌, if◌then◌else◌, List, [], ◌∷◌, ◌++◌, map, filter, length, refl, ap, sym, subst, ◌∙◌, get_or, suc, drop, append_assoc, add-one}
+use Rattle.std.specs.Prelude.{nat_eq, ◌==◌}
+use Rattle.std.specs.List.{flat_map, list_any}
+use Rattle.std.specs.Cmp.Lexicographic.{pointwise, nat_list_eq_equiv}
+use Rattle.std.proofs.lemmas.Cmp.{nat_eq_equiv}
+use Rattle.std.proofs.Math.Seq.{drop-cons}
+use Rattle.indexmap.specs.IndexSet.{IndexSet, IsEmpty, contains}
+use Rattle.cl_names.specs.Kind.{package_of}
+use Rattle.cl_classfile.specs.Files.{Key}
+use Rattle.cl_model.specs.declared.class.Class.{Class}
+use Rattle.cl_model.specs.Classes.{same_package}
+use Rattle.cl_model.specs.Lineages.{Kin}
+use Rattle.cl_model.specs.Preparation.{equals_of, equals_with, takes_part}
+use Rattle.cl_model.specs.States.{Need}
+use Rattle.cl_hierarchy.specs.Rows.{Rowed}
+use Rattle.cl_preparation.specs.declared.packages.Package.{Package}
+use Rattle.cl_preparation.specs.Packages.{AreOpened, Opens, packaged, same_packages}
+use Rattle.cl_preparation.specs.Relatives.{Visits, Walking, bare}
+use Rattle.cl_preparation.specs.Walks.{is_in_package, is_open, is_overridden, opened_by, opens, walked}
+
+-- ---- lists
+
+or_turned : (a b c : Bool) → b ≡ c → (if a then true else b) ≡ (a || c)
+or_turned true b c e = refl
+or_turned false b c e = e
+
+append_nothing : {A : Type 0} (xs : List A) → xs ++ [] ≡ xs
+append_nothing [] = refl
+append_nothing (x ∷ xs) = ap (λ ys. x ∷ ys) (append_nothing xs)
+
+drop_all : {A : Type 0} (xs : List A) → drop (length xs) xs ≡ []
+drop_all [] = refl
+drop_all (x ∷ xs) = drop_all xs
+
+-- what is left of a list, from an index on
+next_dropped : {A : Type 0} (xs : List A) (i : ℕ) (x : A) → i < length xs → x ≡ get_or xs i x → drop i xs ≡ x ∷ drop (i + 1) xs
+next_dropped xs i x h at = drop-cons xs i x h ∙ ap (λ y. y ∷ drop (suc i) xs) (sym at) ∙ rw add-one refl
+
+-- ---- packages
+
+package_turned : (a b : Class) → same_package a b ≡ same_package b a
+package_turned a b =
+    ap (λ (x : Bool). x && pointwise nat_eq (package_of a.name) (package_of b.name)) (nat_eq_equiv.symm a.loader b.loader)
+    ∙ ap (λ (x : Bool). (b.loader == a.loader) && x) (nat_list_eq_equiv.symm (package_of a.name) (package_of b.name))
+
+pub none_opened : {S : Type 0} (fresh : IndexSet Package S) → IsEmpty fresh → AreOpened fresh []
+none_opened fresh empty = λ c. ap (λ (ks : List Package). list_any (same_packages (packaged c)) ks) empty
+
+pub one_opened : {S : Type 0} (old new : IndexSet Package S) (k : Class) (cs : List Class) → AreOpened old cs → Opens old new (packaged k) → AreOpened new (k ∷ cs)
+one_opened old new k cs before put = λ c.
+    put (packaged c) ∙ or_turned (same_packages (packaged k) (packaged c)) (contains same_packages old (packaged c)) (is_in_package cs c) (before c)
+    ∙ ap (λ (x : Bool). x || is_in_package cs c) (package_turned k c)
+
+-- ---- a step
+
+-- a superclass is looked at: it takes part or not, it opens or not, its package was opened or not
+pub visits : {S : Type 0} (key : Key) (before : List Class) (k : Kin) (imposed old new : List Need) (opened after : IndexSet Package S) (part wide within : Bool)
+    → part ≡ takes_part key k → wide ≡ is_open key k → within ≡ is_in_package before k.class → AreOpened opened before
+    → new ≡ old ++ (if part && (wide || within) then imposed else []) → AreOpened after (if part && wide then k.class ∷ before else before)
+    → Visits key before k imposed old new after
+visits key before k imposed old new opened after part wide within tp op inside was needs afterwards = record {
+  needs_are = needs ∙ ap (λ (b : Bool). old ++ (if b then imposed else [])) (ap (λ (b : Bool). b && (wide || within)) tp ∙ ap (λ (b : Bool). takes_part key k && (b || within)) op ∙ ap (λ (b : Bool). takes_part key k && (is_open key k || b)) inside);
+  opened_are = subst (λ (b : Bool). AreOpened after (if b then k.class ∷ before else before)) (ap (λ (b : Bool). b && wide) tp ∙ ap (λ (b : Bool). takes_part key k && b) op) afterwards;
+}
+
+-- one that does not take part
+pub passed : {S : Type 0} (key : Key) (before : List Class) (k : Kin) (imposed needs : List Need) (opened : IndexSet Package S) → false ≡ takes_part key k → AreOpened opened before → Visits key before k imposed needs needs opened
+passed key before k imposed needs opened tp was = visits key before k imposed needs needs opened opened false (is_open key k) (is_in_package before k.class) tp refl refl was (sym (append_nothing needs)) was
+
+-- one that takes part and opens its package
+pub opened_too : {S : Type 0} (key : Key) (before : List Class) (k : Kin) (imposed old new : List Need) (opened after : IndexSet Package S) → true ≡ takes_part key k → true ≡ is_open key k → AreOpened opened before
+    → new ≡ old ++ imposed → Opens opened after (packaged k.class) → Visits key before k imposed old new after
+opened_too key before k imposed old new opened after tp op was needs put =
+    visits key before k imposed old new opened after true true (is_in_package before k.class) tp op refl was needs (one_opened opened after k.class before was put)
+
+-- one that takes part for its package alone
+pub within_too : {S : Type 0} (key : Key) (before : List Class) (k : Kin) (imposed old new : List Need) (opened : IndexSet Package S) (within : Bool) → true ≡ takes_part key k → false ≡ is_open key k → AreOpened opened before
+    → within ≡ contains same_packages opened (packaged k.class) → new ≡ old ++ (if within then imposed else []) → Visits key before k imposed old new opened
+within_too key before k imposed old new opened within tp op was inside needs =
+    visits key before k imposed old new opened opened true false within tp op (inside ∙ was k.class) was needs was
+
+-- ---- the walk
+
+pub walking_start : {S : Type 0} (key : Key) (loader : ℕ) (fresh opened : IndexSet Package S) (own : Class) (needs : List Need) (ks : List Kin) → IsEmpty fresh → Opens fresh opened (packaged own)
+    → Walking key loader opened needs ks (needs ++ equals_with key loader (walked key (own ∷ []) ks))
+walking_start key loader fresh opened own needs ks empty put = record {
+  classes = own ∷ [];
+  opened_are = one_opened fresh opened own [] (none_opened fresh empty) put;
+  total_is = refl;
+}
+
+step_total : (key : Key) (loader : ℕ) (cs : List Class) (k : Kin) (ks : List Kin) (needs new : List Need) (b : Bool) → new ≡ needs ++ (if b then equals_of key loader k.class.loader else [])
+    → new ++ equals_with key loader (walked key (opened_by key cs k) ks) ≡ needs ++ equals_with key loader (if b then k ∷ walked key (opened_by key cs k) ks else walked key (opened_by key cs k) ks)
+step_total key loader cs k ks needs new true e =
+    ap (λ ns. ns ++ equals_with key loader (walked key (opened_by key cs k) ks)) e
+    ∙ append_assoc needs (equals_of key loader k.class.loader) (equals_with key loader (walked key (opened_by key cs k) ks))
+step_total key loader cs k ks needs new false e = ap (λ ns. ns ++ equals_with key loader (walked key (opened_by key cs k) ks)) (e ∙ append_nothing needs)
+
+walking_next : {S : Type 0} (key : Key) (loader : ℕ) (opened after : IndexSet Package S) (needs new : List Need) (k : Kin) (ks : List Kin) (total : List Need)
+    → Walking key loader opened needs (k ∷ ks) total → ((before : List Class) → AreOpened opened before → Visits key before k (equals_of key loader k.class.loader) needs new after)
+    → Walking key loader after new ks total
+walking_next key loader opened after needs new k ks total w visit =
+    let v : Visits key w.classes k (equals_of key loader k.class.loader) needs new after = visit w.classes w.opened_are in
+    record {
+      classes = opened_by key w.classes k;
+      opened_are = v.opened_are;
+      total_is = step_total key loader w.classes k ks needs new (is_overridden key w.classes k) v.needs_are ∙ w.total_is;
+    }
+
+pub walking_step : {S : Type 0} (key : Key) (loader asked : ℕ) (opened after : IndexSet Package S) (needs new : List Need) (rows : List Rowed) (i : ℕ) (r : Rowed) (total : List Need)
+    → i < length rows → r ≡ get_or rows i r → asked ≡ loader → Walking key loader opened needs (map bare (drop i rows)) total
+    → ((before : List Class) → AreOpened opened before → Visits key before (bare r) (equals_of key asked r.class.loader) needs new after)
+    → Walking key loader after new (map bare (drop (i + 1) rows)) total
+walking_step key loader asked opened after needs new rows i r total h at same w visit =
+    walking_next key loader opened after needs new (bare r) (map bare (drop (i + 1) rows)) total
+    (subst (λ (rs : List Rowed). Walking key loader opened needs (map bare rs) total) (next_dropped rows i r h at) w)
+    (λ before was. subst (λ (x : ℕ). Visits key before (bare r) (equals_of key x r.class.loader) needs new after) same (visit before was))
+
+pub walking_end : {S : Type 0} (key : Key) (loader : ℕ) (opened : IndexSet Package S) (needs : List Need) (rows : List Rowed) (total : List Need)
+    → Walking key loader opened needs (map bare (drop (length rows) rows)) total → needs ≡ total
+walking_end key loader opened needs rows total w =
+    let e : Walking key loader opened needs [] total = subst (λ (rs : List Rowed). Walking key loader opened needs (map bare rs) total) (drop_all rows) w in
+    sym (append_nothing needs) ∙ e.total_is
+
+-- ---- the superinterfaces
+
+one_kept : (key : Key) (loader : ℕ) (r : Rowed) (ks : List Kin) (needs new : List Need) (b : Bool) → new ≡ needs ++ (if b then equals_of key loader r.class.loader else [])
+    → new ++ equals_with key loader ks ≡ needs ++ equals_with key loader (if b then bare r ∷ ks else ks)
+one_kept key loader r ks needs new true e = ap (λ ns. ns ++ equals_with key loader ks) e ∙ append_assoc needs (equals_of key loader r.class.loader) (equals_with key loader ks)
+one_kept key loader r ks needs new false e = ap (λ ns. ns ++ equals_with key loader ks) (e ∙ append_nothing needs)
+
+-- a superinterface is looked at
+pub kept_step : (key : Key) (loader : ℕ) (needs new total : List Need) (rows : List Rowed) (i : ℕ) (r : Rowed) (b : Bool) → i < length rows → r ≡ get_or rows i r → b ≡ takes_part key (bare r)
+    → new ≡ needs ++ (if b then equals_of key loader r.class.loader else [])
+    → needs ++ equals_with key loader (filter (takes_part key) (map bare (drop i rows))) ≡ total
+    → new ++ equals_with key loader (filter (takes_part key) (map bare (drop (i + 1) rows))) ≡ total
+kept_step key loader needs new total rows i r b h at tp more before =
+    let rest : List Kin = filter (takes_part key) (map bare (drop (i + 1) rows)) in
+    one_kept key loader r rest needs new b more
+    ∙ ap (λ (x : Bool). needs ++ equals_with key loader (if x then bare r ∷ rest else rest)) tp
+    ∙ ap (λ (rs : List Rowed). needs ++ equals_with key loader (filter (takes_part key) (map bare rs))) (sym (next_dropped rows i r h at))
+    ∙ before
+
+pub kept_end : (key : Key) (loader : ℕ) (needs total : List Need) (rows : List Rowed) → needs ++ equals_with key loader (filter (takes_part key) (map bare (drop (length rows) rows))) ≡ total → needs ≡ total
+kept_end key loader needs total rows e =
+    sym (append_nothing needs) ∙ ap (λ (rs : List Rowed). needs ++ equals_with key loader (filter (takes_part key) (map bare rs))) (sym (drop_all rows)) ∙ e

@@ -1,0 +1,120 @@
+//! Methods by their names and descriptors.
+
+ghost use Rattle.std.specs.Prelude.{◌≡◌, ◌++◌, IfOk, IsSome};
+ghost use Rattle.std.specs.Hash as fed;
+ghost use Rattle.cl_descriptors.specs.Reading.{whole_method};
+ghost use Rattle.cl_classfile.specs.Files.{same_key};
+ghost use Rattle.cl_model.specs.Lines.{spelling_of};
+ghost use Rattle.cl_model.specs.Preparation.{class_names, is_special};
+ghost use Rattle.cl_preparation.specs.Methods.{key_in};
+
+use cl_descriptors::{DescriptorFault, read_method};
+use cl_names::Name;
+use std::alloc::{AllocError, Global};
+use std::hash::{Hash, Hasher};
+use std::marker::Model;
+
+/// What a method is looked up by: its name and its descriptor, whose bytes copies share (JVMS SE 8, 4.6).
+#[derive(Debug, Drop)]
+pub(crate) struct MethodKey {
+    name: Name,
+    descriptor: Name,
+}
+
+impl Model for MethodKey {
+    ghost use Rattle.std.specs.Prelude.{IsSome};
+    ghost use Rattle.cl_descriptors.specs.Reading.{whole_method};
+    ghost use Rattle.cl_classfile.specs.Files.{Key};
+    ghost use Rattle.cl_preparation.specs.Methods.{key_in};
+
+    ghost Value = { Key };
+
+    ghost view = { λ k. key_in k.name k.descriptor };
+
+    ghost invariant = { λ k. IsSome (whole_method k.descriptor) };
+}
+
+impl PartialEq for MethodKey {
+    ghost use Rattle.std.specs.Cmp;
+    ghost use Rattle.cl_preparation.specs.Equality.{keys_equiv};
+
+    ghost eq = { same_key };
+
+    ghost laws = { Cmp.partial_equiv_from_equiv keys_equiv };
+
+    #[tactic(auto, using(crate::proofs::Keys::same_texts))]
+    fn eq(&self, other: &MethodKey) -> bool {
+        self.name == other.name && self.descriptor == other.descriptor
+    }
+}
+
+impl Eq for MethodKey {
+    ghost use Rattle.cl_preparation.specs.Equality.{keys_equiv};
+
+    ghost laws = { keys_equiv };
+}
+
+impl Hash for MethodKey {
+    ghost use Rattle.cl_preparation.specs.Equality.{keys_fed};
+
+    ghost hash_input = { λ k. fed.slice fed.u8 k.name ++ fed.slice fed.u8 (spelling_of k.descriptor) };
+
+    ghost respects_eq = { keys_fed (λ k. fed.slice fed.u8 k.name ++ fed.slice fed.u8 (spelling_of k.descriptor)) };
+
+    fn hash<H: Hasher>(&self, state: &mut H) {
+        self.name().hash(state);
+        self.descriptor().hash(state);
+    }
+}
+
+impl MethodKey {
+    /// The key of a method of this name and this descriptor.
+    pub fn new(alloc: Global, name: &Name, descriptor: &Name) -> Result<MethodKey, AllocError>
+        requires { IsSome (whole_method descriptor.now) }
+        ensures { IfOk result (λ k. k ≡ key_in name.now descriptor.now) }
+    {
+        Ok(MethodKey {
+            name: name.try_clone(alloc)?,
+            descriptor: descriptor.try_clone(alloc)?,
+        })
+    }
+
+    fn name(&self) -> &Name
+        ensures { result.now ≡ self.now.name }
+    {
+        &self.name
+    }
+
+    /// The text of its descriptor (JVMS SE 8, 4.3.3).
+    #[tactic(auto, using(crate::proofs::Keys::spelled_again))]
+    fn descriptor(&self) -> &Name
+        ensures { result.now ≡ spelling_of self.now.descriptor }
+    {
+        &self.descriptor
+    }
+
+    /// A copy, which shares the bytes.
+    pub fn try_clone(&self, alloc: Global) -> Result<MethodKey, AllocError>
+        ensures { IfOk result (λ k. k ≡ self.now) }
+    {
+        MethodKey::new(alloc, &self.name, &self.descriptor)
+    }
+
+    /// Whether it is `<init>` or `<clinit>` (JVMS SE 8, 4.2.2).
+    pub fn is_special(&self) -> bool
+        ensures { result ≡ is_special self.now.name }
+    {
+        self.name.bytes().starts_with(b"<")
+    }
+
+    /// The classes that the descriptor names, the return type first.
+    #[tactic(auto, using(crate::proofs::Keys::type_read))]
+    pub fn class_names(&self, alloc: Global) -> Result<Vec<Name>, AllocError>
+        ensures { IfOk result (λ names. names.items ≡ class_names self.now.descriptor) }
+    {
+        // The descriptor is that of a class file, so that only memory refuses it.
+        let of: Result<_, DescriptorFault> = read_method(alloc, self.descriptor.bytes());
+        let of = of.map_err(|_| AllocError)?;
+        of.element_names(alloc).map_err(|_| AllocError)
+    }
+}

@@ -1,0 +1,15 @@
+//! What the preparation of a class imposes: which methods override which, and the loading constraints that follow (JVMS SE
+//! 8, 5.4.2, 5.4.5).
+#![tactic(auto)]
+
+mod described;
+mod key;
+mod method;
+mod overriding;
+mod packages;
+mod relative;
+mod relatives;
+mod walk;
+
+pub use overriding::overrides;
+pub use relatives::constraints_of;

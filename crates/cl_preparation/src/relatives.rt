@@ -1,0 +1,246 @@
+//! The loading constraints that the preparation of a class imposes (JVMS SE 8, 5.4.2).
+
+ghost use Rattle.std.specs.Prelude.{◌≡◌, ◌++◌, [], if◌then◌else◌, map, flat_map, IfOk, OnOk};
+ghost use Rattle.cl_classfile.specs.Files.{is_interface};
+ghost use Rattle.cl_model.specs.Lineages.{superclasses, superinterfaces};
+ghost use Rattle.cl_model.specs.Preparation.{constraints_of, for_declared, for_inherited};
+ghost use Rattle.cl_hierarchy.specs.Imposed.{OfPreparation, needs_of};
+ghost use Rattle.cl_hierarchy.specs.Lineages.{kin_at, kin_of};
+ghost use Rattle.cl_preparation.specs.Relatives.{bare};
+
+use crate::described::{Described, push_equals};
+use crate::method::Method;
+use crate::relative::Relative;
+use crate::walk::{inherited_loader, push_above, push_implemented};
+use cl_hierarchy::{ClassRow, Equalities, Lineage};
+use cl_model::{Equality, Told};
+use cl_names::Seed;
+use std::alloc::{AllocError, Global};
+use std::marker::Model;
+use std::sync::Arc;
+
+/// A class, its superclasses nearest first and its superinterfaces in preorder.
+#[derive(Drop)]
+struct Relatives<T: Told> {
+    lineage: Arc<Lineage<T>>,
+    own: Relative<T>,
+    superclasses: Vec<Relative<T>>,
+    superinterfaces: Vec<Relative<T>>,
+}
+
+impl<T: Told> Model for Relatives<T> {
+    ghost use Rattle.cl_hierarchy.specs.Lineages.{Lined};
+    ghost use Rattle.cl_preparation.specs.Relatives.{AreRelatives};
+
+    ghost Value = { Lined };
+
+    ghost view = { λ r. r.lineage.value };
+
+    ghost invariant = { λ r. AreRelatives r.lineage.value r.own r.superclasses.items r.superinterfaces.items };
+}
+
+/// The classes of these rows.
+#[tactic(auto, using(crate::proofs::Constraints::mapped_more))]
+fn all_of<T: Told>(
+    alloc: Global,
+    seed: Seed,
+    rows: &[Arc<ClassRow<T>>],
+) -> Result<Vec<Relative<T>>, AllocError>
+    ensures { IfOk result (λ v. v.items ≡ map (λ r. r.value) rows.now) }
+{
+    let mut all = Vec::with_capacity(alloc, rows.len())?;
+    for row in rows {
+        all.push(Relative::of(alloc, seed, row)?)?;
+    }
+    Ok(all)
+}
+
+/// The superclasses, nearest first.
+fn superclasses_of<T: Told>(
+    alloc: Global,
+    seed: Seed,
+    lineage: &Arc<Lineage<T>>,
+) -> Result<Vec<Relative<T>>, AllocError>
+    ensures { IfOk result (λ v. map (kin_at lineage.now.value) v.items
+        ≡ superclasses (kin_of lineage.now.value)) }
+{
+    let rows = lineage.superclasses(alloc)?;
+    let all = all_of(alloc, seed, rows.as_slice())?;
+    Ok(all)
+}
+
+/// The superinterfaces, in preorder.
+fn superinterfaces_of<T: Told>(
+    alloc: Global,
+    seed: Seed,
+    lineage: &Arc<Lineage<T>>,
+) -> Result<Vec<Relative<T>>, AllocError>
+    ensures { IfOk result (λ v. map (kin_at lineage.now.value) v.items ≡ superinterfaces
+        (kin_of lineage.now.value)) }
+{
+    let rows = lineage.superinterfaces(alloc)?;
+    let all = all_of(alloc, seed, rows.as_slice())?;
+    Ok(all)
+}
+
+impl<T: Told> Relatives<T> {
+    /// Those of the class of a lineage.
+    #[tactic(auto, using(crate::proofs::Constraints::relatives_are))]
+    fn of(alloc: Global, lineage: &Arc<Lineage<T>>) -> Result<Relatives<T>, AllocError>
+        ensures { IfOk result (λ r. r ≡ lineage.now.value) }
+    {
+        let seed = lineage.config().seed();
+        let own = Relative::of(alloc, seed, lineage.own())?;
+        let superclasses = superclasses_of(alloc, seed, lineage)?;
+        let superinterfaces = superinterfaces_of(alloc, seed, lineage)?;
+        Ok(Relatives {
+            lineage: Arc::try_clone(lineage)?,
+            own,
+            superclasses,
+            superinterfaces,
+        })
+    }
+
+    /// Adds what a method of the class imposes with those that it overrides (JVMS SE 8, 5.4.2).
+    #[tactic(auto, using(crate::proofs::Constraints::declared_passed))]
+    fn push_declared(
+        &self,
+        alloc: Global,
+        needs: &mut Vec<Equality>,
+        method: &Method,
+    ) -> Result<(), AllocError>
+        ensures { OnOk result (needs_of needs.new.items ≡ needs_of needs.old.items ++ for_declared
+            (kin_of self.now) method.now) }
+    {
+        let key = method.key();
+        if !self.own.takes_part(key) {
+            return Ok(());
+        }
+        let described = Described::of(alloc, key)?;
+        let seed = self.lineage.config().seed();
+        let above = self.superclasses.as_slice();
+        push_above(alloc, seed, needs, &described, &self.own, above)?;
+        let over = self.superinterfaces.as_slice();
+        push_implemented(alloc, needs, &described, self.own.loader(), over)
+    }
+
+    /// Adds what the methods of the class impose.
+    #[tactic(auto, using(crate::proofs::Constraints::pushed_more, crate::proofs::Constraints::methods_are))]
+    fn push_all_declared(&self, alloc: Global, needs: &mut Vec<Equality>) -> Result<(), AllocError>
+        ensures { OnOk result (needs_of needs.new.items ≡ needs_of needs.old.items ++ flat_map
+            (for_declared (kin_of self.now)) (kin_of self.now).file.methods) }
+    {
+        let methods = self.own.methods();
+        for method in methods {
+            self.push_declared(alloc, needs, method)?;
+        }
+        Ok(())
+    }
+
+    /// Adds what a method of a superinterface imposes with the one that the class inherits (JVMS SE 8, 5.4.2).
+    #[tactic(auto, using(crate::proofs::Constraints::inherited_passed))]
+    fn push_inherited(
+        &self,
+        alloc: Global,
+        needs: &mut Vec<Equality>,
+        interface: &Relative<T>,
+        method: &Method,
+    ) -> Result<(), AllocError>
+        ensures { OnOk result (needs_of needs.new.items ≡ needs_of needs.old.items ++ for_inherited
+            (kin_of self.now) (bare interface.now) method.now) }
+    {
+        let key = method.key();
+        if !interface.takes_part(key) || self.own.has(key) {
+            return Ok(());
+        }
+        match inherited_loader(self.superclasses.as_slice(), key) {
+            Some(loader) => {
+                let described = Described::of(alloc, key)?;
+                push_equals(alloc, needs, &described, loader, interface.loader())
+            }
+            None => Ok(()),
+        }
+    }
+
+    /// Adds what the methods of a superinterface impose.
+    #[tactic(auto, using(crate::proofs::Constraints::pushed_more))]
+    fn push_all_inherited(
+        &self,
+        alloc: Global,
+        needs: &mut Vec<Equality>,
+        interface: &Relative<T>,
+    ) -> Result<(), AllocError>
+        ensures { OnOk result (needs_of needs.new.items ≡ needs_of needs.old.items ++ flat_map
+            (for_inherited (kin_of self.now) (bare interface.now))
+            (bare interface.now).file.methods) }
+    {
+        let methods = interface.methods();
+        for method in methods {
+            self.push_inherited(alloc, needs, interface, method)?;
+        }
+        Ok(())
+    }
+
+    /// Adds what the methods of these superinterfaces impose.
+    fn push_each_inherited(
+        &self,
+        alloc: Global,
+        needs: &mut Vec<Equality>,
+        interfaces: &[Relative<T>],
+    ) -> Result<(), AllocError>
+        ensures { OnOk result (needs_of needs.new.items ≡ needs_of needs.old.items
+            ++ flat_map (λ j. flat_map (for_inherited (kin_of self.now) (bare j)) (bare j).file.methods) interfaces.now) }
+    {
+        for interface in interfaces {
+            self.push_all_inherited(alloc, needs, interface)?;
+        }
+        Ok(())
+    }
+
+    /// Adds what the methods of the superinterfaces impose.
+    fn push_interfaces(&self, alloc: Global, needs: &mut Vec<Equality>) -> Result<(), AllocError>
+        ensures { OnOk result (needs_of needs.new.items ≡ needs_of needs.old.items
+            ++ flat_map (λ j. flat_map (for_inherited (kin_of self.now) j) j.file.methods) (superinterfaces (kin_of self.now))) }
+    {
+        self.push_each_inherited(alloc, needs, self.superinterfaces.as_slice())
+    }
+
+    /// Adds what is inherited where the class is no interface.
+    fn push_second(&self, alloc: Global, needs: &mut Vec<Equality>) -> Result<(), AllocError>
+        ensures { OnOk result (needs_of needs.new.items ≡ needs_of needs.old.items
+            ++ (if is_interface (kin_of self.now).file then [] else flat_map (λ j. flat_map (for_inherited (kin_of self.now) j) j.file.methods) (superinterfaces (kin_of self.now)))) }
+    {
+        if self.own.is_interface() {
+            return Ok(());
+        }
+        self.push_interfaces(alloc, needs)
+    }
+
+    /// All that the preparation of the class imposes.
+    #[tactic(auto, using(crate::proofs::Constraints::both_halves))]
+    fn needs(&self, alloc: Global) -> Result<Vec<Equality>, AllocError>
+        ensures { IfOk result (λ v. needs_of v.items ≡ constraints_of (kin_of self.now)) }
+    {
+        let mut needs = Vec::new(alloc);
+        self.push_all_declared(alloc, &mut needs)?;
+        self.push_second(alloc, &mut needs)?;
+        Ok(needs)
+    }
+}
+
+/// The loading constraints that the preparation of a class imposes, in order, repeats and those of a loader with itself
+/// included: for each method of the class those with the superclasses whose method it overrides, nearest first, and then
+/// with its superinterfaces; then, for each method of a superinterface that the class does not declare, those with the
+/// nearest superclass that declares one. Only memory refuses it (JVMS SE 8, 5.4.2).
+pub fn constraints_of<T: Told>(
+    alloc: Global,
+    lineage: &Arc<Lineage<T>>,
+) -> Result<Equalities<T>, AllocError>
+    ensures needs { IfOk result (λ e. needs_of e.needs
+        ≡ constraints_of (kin_of lineage.now.value)) }
+    ensures origin { IfOk result (λ e. e.origin ≡ OfPreparation lineage.now.value) }
+{
+    let relatives = Relatives::of(alloc, lineage)?;
+    let needs = relatives.needs(alloc)?;
+    Ok(Equalities::of_preparation(Arc::try_clone(lineage)?, needs))
+}

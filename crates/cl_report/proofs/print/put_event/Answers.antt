@@ -1,5 +1,0 @@
-use Rattle.cl_streams.proofs.Written.{on_err, part_none}
-use Rattle.cl_report.proofs.print.put_event.Goals as goal
-
-pub returns-in_err-line-in-Define-clause-part : goal.returns-in_err-line-in-Define-clause-part
-returns-in_err-line-in-Define-clause-part g c = on_err c.from_residual-in_err-line-in-Define.result _ (part_none _ _)

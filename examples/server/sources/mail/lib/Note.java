@@ -1,0 +1,6 @@
+package lib;
+
+/** The copy that the mail plug-in was packed with. */
+public class Note {
+    public int number;
+}

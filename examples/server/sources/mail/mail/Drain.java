@@ -1,0 +1,6 @@
+package mail;
+
+public class Drain implements api.Sink {
+    public void drain(lib.Queue queue) {
+    }
+}

@@ -1,0 +1,6 @@
+package api;
+
+/** What empties queues. */
+public interface Sink {
+    void drain(lib.Queue queue);
+}

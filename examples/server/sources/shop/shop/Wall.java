@@ -1,0 +1,6 @@
+package shop;
+
+public class Wall implements api.Board {
+    public void post(lib.Note note) {
+    }
+}

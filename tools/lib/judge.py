@@ -10,6 +10,7 @@ from costs import Watch
 
 LAST = re.compile(r"^(\d+) passed, (\d+) failed$", re.M)
 SECTION = re.compile(r"^== (.*)\n", re.M)
+PROVED = re.compile(r"rt: (\w+) proved\n")
 MOST_REASONS = 6
 # The lines of a crate's log that say why it is not proved.
 REASON = re.compile(
@@ -34,10 +35,11 @@ def clear(crates):
         shutil.rmtree(f"{crate.folder}/out/rlib", ignore_errors=True)
 
 
-def run(root, crates, file):
-    """Runs rt ci with its output in the file, and shows it in short form as it goes."""
+def run(root, crates, file, when_proved=lambda crate, log: None):
+    """Runs rt ci with its output in the file, and shows it in short form as it goes. Of each crate that is proved, and whose library
+    then stands, when_proved is told, with the log so far."""
     clear(crates)
-    begun, lines = time.time(), []
+    begun, lines, named = time.time(), [], {it.name: it for it in crates}
     how = {"cwd": root, "stdin": subprocess.DEVNULL, "stdout": subprocess.PIPE, "stderr": subprocess.STDOUT}
     ran = subprocess.Popen(["rt", "ci"], text=True, errors="replace", **how)
     watch = Watch(ran.pid)
@@ -47,6 +49,9 @@ def run(root, crates, file):
             lines.append(line)
             if line.startswith("rt: ") and not line.startswith(("rt: chose", "rt: note")):
                 print(f"{(time.time() - begun) / 60:5.1f} min  {line[4:].rstrip()[:150]}", flush=True)
+            proved = PROVED.fullmatch(line)
+            if proved and proved[1] in named:
+                when_proved(named[proved[1]], "".join(lines))
     _, status, usage = os.wait4(ran.pid, 0)
     ran.returncode = os.waitstatus_to_exitcode(status)
     text = "".join(lines)

@@ -39,8 +39,14 @@ REFUSED = re.compile(r"^(?:\./)?proofs/([^:]*):\d+:\d+: error: (.*)$", re.M)
 NO_NAME = re.compile(r"has no field|is not in scope|has no `|was not admitted")
 # What a check may take: more lanes than memory has room for are not opened.
 MOST_BYTES = 4_500_000_000
+# Beside rt ci, which plans with all the memory that is free when it starts, only so much of it is taken.
+BESIDE_CI = 0.5
 # A clock that runs this many times longer than the processor may work stops a check that waits for ever.
 PATIENCE = 8
+
+
+class Ended(Exception):
+    """A check was asked for after its lanes were closed."""
 
 
 @dataclass
@@ -89,10 +95,49 @@ def build_libraries(crate, is_after_ci):
     return True
 
 
-def lanes():
-    """How many checks may run side by side: as many as RT_JOBS says, as for rt ci, else one a core, and as many as free memory holds."""
+def lanes(share=1.0):
+    """How many checks may run side by side: as many as RT_JOBS says, as for rt ci, else one a core, and as many as a share of free
+    memory holds."""
     number = os.environ.get("RT_JOBS", "")
-    return int(number) if number.isdigit() and int(number) else max(1, min(rt.processors(), int(rt.free() // MOST_BYTES)))
+    if number.isdigit() and int(number):
+        return max(1, int(int(number) * share))
+    return max(1, min(int(rt.processors() * share), int(share * rt.free() // MOST_BYTES)))
+
+
+class Lanes:
+    """Lets so many checks run at a time, and more once it is widened; until then each is to give way to all other work. Once it is
+    closed, checks that run are ended and no other begins."""
+
+    def __init__(self, most, is_gentle=False):
+        self.most, self.is_gentle, self.is_closed = most, is_gentle, False
+        self.running, self.changed = [], threading.Condition()
+
+    def widen(self, most):
+        with self.changed:
+            self.most, self.is_gentle = most, False
+            self.changed.notify_all()
+
+    def close(self):
+        with self.changed:
+            self.is_closed = True
+            self.changed.notify_all()
+            for it in self.running:
+                os.kill(it.pid, signal.SIGKILL)
+
+    def begin(self, words, **how):
+        """Starts the command once a lane is free; None where none is to begin any more."""
+        with self.changed:
+            self.changed.wait_for(lambda: self.is_closed or len(self.running) < self.most)
+            if self.is_closed:
+                return None
+            ran = subprocess.Popen([*(["nice", "-n", "19"] if self.is_gentle else []), *words], **how)
+            self.running.append(ran)
+            return ran
+
+    def end(self, ran):
+        with self.changed:
+            self.running.remove(ran)
+            self.changed.notify_all()
 
 
 @dataclass
@@ -138,7 +183,7 @@ class Checked:
         return f"{'NOT TOLD: the check did not run' if found.startswith('rattle:') else 'BAD EDIT: it does not compile'}: {found.strip()}"
 
 
-def check(crate, texts, functions=(), kept=None, limit=3600, is_whole=False):
+def check(crate, texts, functions=(), kept=None, limit=3600, is_whole=False, lanes=None):
     """Checks a copy of the crate with these texts in place of its own: the named functions, or all, going on past those refused
     unless is_whole. The check is ended after so many seconds of processor."""
     flags = ["--jobs", "1", *([] if is_whole else ["--allow-holes"])]
@@ -153,16 +198,18 @@ def check(crate, texts, functions=(), kept=None, limit=3600, is_whole=False):
                 it.write(text)
         words = [rtlib.RATTLE, "check", *crate.of_kit.words(flags, keeps=False)]
         words += ["--incremental", kept] if kept else []
-        status, usage, is_late = run_limited([*rtlib.guarded(), *words], room, said, limit)
+        status, usage, is_late = run_limited([*rtlib.guarded(), *words], room, said, limit, lanes or Lanes(1))
         said.seek(0)
         text = said.read().decode(errors="replace")
     seconds = usage.ru_utime + usage.ru_stime
     return Checked(status, text, seconds, usage.ru_maxrss * 1024, is_late, {*texts})
 
 
-def run_limited(words, folder, said, limit):
-    """Runs the command and returns its status, what it used, and whether it was ended for its time."""
-    ran = subprocess.Popen(words, cwd=folder, stdin=subprocess.DEVNULL, stdout=said, stderr=subprocess.STDOUT)
+def run_limited(words, folder, said, limit, lanes):
+    """Runs the command in a lane and returns its status, what it used, and whether it was ended for its time."""
+    ran = lanes.begin(words, cwd=folder, stdin=subprocess.DEVNULL, stdout=said, stderr=subprocess.STDOUT)
+    if ran is None:
+        raise Ended
     resource.prlimit(ran.pid, resource.RLIMIT_CPU, (int(limit), int(limit) + 5))
     rung = threading.Event()
     clock = threading.Timer(PATIENCE * limit, lambda: (rung.set(), ran.send_signal(signal.SIGKILL)))
@@ -171,5 +218,6 @@ def run_limited(words, folder, said, limit):
         _, status, usage = os.wait4(ran.pid, 0)
     finally:
         clock.cancel()
+        lanes.end(ran)
     ran.returncode = os.waitstatus_to_exitcode(status)
     return ran.returncode, usage, ran.returncode == -signal.SIGXCPU or rung.is_set()

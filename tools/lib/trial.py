@@ -1,7 +1,8 @@
 """Tries the wrong bodies of crates, many in one check, and tells of each whether the prover refuses it.
 
-Edits of different functions go into one copy of the crate, and one check of just these functions tells of each. An edit passes
-only where a function that it changes is refused for a reason of its own. One whose function is only not proved because it calls
+Edits of different functions go into one copy of the crate, and one check of just these functions tells of each; so do edits of
+definitions, where no function that one of them is to have refused can reach what another changes. An edit passes only where a
+function that it changes, or names, is refused for a reason of its own. One whose function is only not proved because it calls
 another that is refused is tried again, without the edits that were told already. A group that cannot be told as a whole, since it
 does not compile, takes too long, or has a function refused that none of its edits changes, is parted in two, down to one edit.
 What does not compile, is still proved, takes too long or is not told even alone is a failure, with its reason.
@@ -16,6 +17,7 @@ from dataclasses import dataclass, field
 
 import kit
 from edits import grouped, of_crate, together
+from reach import Reach
 
 # What a group's check may take, in seconds of processor: so much to load and to prove what its functions call, and so much for each edit.
 LOADING_SECONDS = 240
@@ -72,8 +74,8 @@ def own_reason(name, checked, span=None, by_lemma=False):
 class Trial:
     """The trial of one crate's edits."""
 
-    def __init__(self, crate, edits, kept, known):
-        self.crate, self.kept = crate, kept
+    def __init__(self, crate, edits, kept, known, lanes):
+        self.crate, self.kept, self.lanes = crate, kept, lanes
         self.told = Told(crate.name, [it.name for it in edits])
         self.edits = []
         for edit in edits:
@@ -83,12 +85,15 @@ class Trial:
                 self.fail(edit, f"BAD EDIT: {edit.bad}")
             else:
                 self.edits.append(edit)
+        reach = Reach(crate.folder, crate.name) if any(it.refuses for it in self.edits) else None
+        for edit in self.edits if reach else ():
+            edit.find_reach(reach)
 
     def fail(self, edit, why):
         self.told.failed.append(f"{edit}: {' '.join(why.split())[:400]}")
 
     def check(self, texts, functions, limit):
-        checked = kit.check(self.crate, texts, functions, self.kept, limit)
+        checked = kit.check(self.crate, texts, functions, self.kept, limit, lanes=self.lanes)
         self.told.checks += 1
         self.told.seconds += checked.seconds
         self.told.peak = max(self.told.peak, checked.peak)
@@ -130,7 +135,7 @@ class Trial:
         """Notes what the check tells of the edit. Returns whether it tells anything: of an edit tried alone it has to."""
         for name in sorted(edit.functions):
             for it in closures_too(checked.said, name):
-                why = own_reason(it, checked, edit.spans.get(name), by_lemma=edit.is_alone())
+                why = own_reason(it, checked, edit.spans.get(name), by_lemma=bool(edit.refuses))
                 if why:
                     self.told.refused[edit.name] = f"{it}: {why}"
                     self.told.weak += [edit.name] if why.startswith("it stands on ") and checked.only_names(it) else []
@@ -155,7 +160,7 @@ def known_by_log(crate, log):
     return said if all(it.startswith(("proved", "assumed")) for it in said.values()) else {}
 
 
-def try_crate(crate, edits, log):
+def try_crate(crate, edits, log, lanes):
     """Tries the edits of a crate. With no log of an rt ci that proved the crate, the crate has to be proved here first."""
     with tempfile.TemporaryDirectory(prefix="wrong-bodies-") as kept:
         if log is not None:
@@ -164,34 +169,38 @@ def try_crate(crate, edits, log):
             # (over what rt check kept, as rt check itself is)
             if os.path.isdir(f"{crate.folder}/out/incremental"):
                 shutil.copytree(f"{crate.folder}/out/incremental", kept, dirs_exist_ok=True)
-            cost = kit.check(crate, {}, kept=kept, is_whole=True)
+            cost = kit.check(crate, {}, kept=kept, is_whole=True, lanes=lanes)
             known = cost.said if cost.is_proved() else {}
         if not known:
             why = f"{crate.name}: it is not proved as it stands, so its {len(edits)} edits were not tried"
             return Told(crate.name, [it.name for it in edits], failed=[why])
-        told = Trial(crate, edits, kept, known).run()
+        told = Trial(crate, edits, kept, known, lanes).run()
     if cost:
         told.checks, told.seconds, told.peak = told.checks + 1, told.seconds + cost.seconds, max(told.peak, cost.peak)
     return told
 
 
-def try_all(crates, log=None, only=(), lanes=None, verbose=False, folders=("wrong",)):
-    """Tries the edits of the crates side by side, says of each crate what was told, and returns that in the order of the crates."""
-    kit.guard()
-    work, failed, printing, held = [], [], threading.Lock(), kit.lock(crates)
-    for crate in crates:
-        edits, stray = of_crate(crate, folders)
-        failed += [f"{it}: only edits, FILE.edit, and none.txt stand here" for it in stray]
-        edits = [it for it in edits if not only or it.name in only]
-        if edits and not kit.build_libraries(crate, log is not None):
-            failed.append(f"{crate.name}: a library below it is not proved, so its {len(edits)} edits were not tried")
-        elif edits:
-            work.append((crate, edits))
+class Trials:
+    """The trial of the edits of several crates, each from when its libraries stand: side by side, so many checks as the lanes let run."""
 
-    def one(of):
-        told = try_crate(*of, log)
-        with printing:
-            for name, why in sorted(told.refused.items()) if verbose else ():
+    def __init__(self, crates, lanes, only=(), verbose=False, folders=("wrong",)):
+        kit.guard()
+        self.lanes, self.verbose, self.printing = lanes, verbose, threading.Lock()
+        self.pool, self.work, self.edits, self.failed = ThreadPoolExecutor(kit.rt.processors()), {}, {}, []
+        for crate in crates:
+            edits, stray = of_crate(crate, folders)
+            self.failed += [f"{it}: only edits, FILE.edit, and none.txt stand here" for it in stray]
+            self.edits[crate.name] = [it for it in edits if not only or it.name in only]
+
+    def begin(self, crate, log):
+        """Begins with a crate whose libraries stand; with a log of an rt ci that has proved it, or none."""
+        if self.edits[crate.name] and crate.name not in self.work:
+            self.work[crate.name] = self.pool.submit(self.one, crate, log)
+
+    def one(self, crate, log):
+        told = try_crate(crate, self.edits[crate.name], log, self.lanes)
+        with self.printing:
+            for name, why in sorted(told.refused.items()) if self.verbose else ():
                 print(f"{told.crate}/{name}: refused: {why[:200]}")
             print(
                 f"{told.crate}: {len(told.refused)} of {len(told.names)} wrong bodies refused; {told.checks} checks, "
@@ -204,12 +213,31 @@ def try_all(crates, log=None, only=(), lanes=None, verbose=False, folders=("wron
                 print(f"FAILED: {why}", flush=True)
         return told
 
+    def end(self):
+        """Waits for all that was begun, and returns what was told and what else failed."""
+        tolds = [self.work[name].result() for name in self.edits if name in self.work]
+        for why in self.failed:
+            print(f"FAILED: {why}")
+        return tolds, self.failed
+
+    def drop(self):
+        """Ends what runs, and begins nothing more."""
+        self.pool.shutdown(wait=False, cancel_futures=True)
+        self.lanes.close()
+
+
+def try_all(crates, only=(), lanes=None, verbose=False, folders=("wrong",), log=None):
+    """Tries the edits of the crates and returns what was told, in the order of the crates, and what else failed."""
+    trials = Trials(crates, kit.Lanes(lanes or kit.lanes()), only, verbose, folders)
+    held = kit.lock(crates)
     # the crates with most to do first, so that none is left to run alone at the end
-    work.sort(key=lambda it: -len(it[1]) * it[0].of_kit.count(rb"\n"))
-    with ThreadPoolExecutor(lanes or kit.lanes()) as pool:
-        tolds = [*pool.map(one, work)]
+    for crate in sorted(crates, key=lambda it: -len(trials.edits[it.name]) * it.of_kit.count(rb"\n")):
+        edits = trials.edits[crate.name]
+        if edits and not kit.build_libraries(crate, log is not None):
+            trials.failed.append(f"{crate.name}: a library below it is not proved, so its {len(edits)} edits were not tried")
+        elif edits:
+            trials.begin(crate, log)
+    told = trials.end()
     for it in held:
         os.close(it)
-    for why in failed:
-        print(f"FAILED: {why}")
-    return tolds, failed
+    return told

@@ -1,5 +1,6 @@
 //! Questions about class files.
 
+use crate::answers::{joined, numbered, text_of};
 use crate::entries::entry_text;
 use crate::names::shown;
 use cl_classfile::{Attribute, ClassFile, Entry, Member, Reference, Symbol, read};
@@ -9,7 +10,7 @@ use std::alloc::{AllocError, Global};
 pub fn file_fault(alloc: Global, bytes: &[u8]) -> Result<String, AllocError> {
     match read(alloc, bytes) {
         Ok(_) => String::from_str(alloc, "fine"),
-        Err(fault) => format!(in alloc; "{fault}"),
+        Err(fault) => text_of(alloc, &fault),
     }
 }
 
@@ -17,29 +18,46 @@ pub fn file_fault(alloc: Global, bytes: &[u8]) -> Result<String, AllocError> {
 pub fn file_parts(alloc: Global, bytes: &[u8]) -> Result<String, AllocError> {
     match read(alloc, bytes) {
         Ok(file) => parts_text(alloc, &file),
-        Err(fault) => format!(in alloc; "{fault}"),
+        Err(fault) => text_of(alloc, &fault),
     }
 }
 
 /// The parts of a file, in order.
 fn parts_text(alloc: Global, file: &ClassFile) -> Result<String, AllocError> {
     let mut text = pool_text(alloc, file.pool())?;
-    let flags = file.flags();
-    let (this_class, super_class) = (file.this_class(), file.super_class());
-    let this_name = shown(alloc, file.this_name().bytes())?;
-    let super_name = match file.super_name() {
-        Some(name) => shown(alloc, name.bytes())?,
-        None => String::from_str(alloc, "-")?,
-    };
-    let names = format!(in alloc; "{this_class} {this_name} {super_class} {super_name}")?;
-    text.push_str(format!(in alloc; "flags {flags} classes {names}")?.as_str())?;
+    text.push_str(head_text(alloc, file)?.as_str())?;
     for interface in file.interfaces() {
-        text.push_str(format!(in alloc; " interface {interface}")?.as_str())?;
+        let line = numbered(alloc, " interface", &[u64::from(*interface)])?;
+        text.push_str(line.as_str())?;
     }
     push_members(alloc, &mut text, " field", file.fields())?;
     push_members(alloc, &mut text, " method", file.methods())?;
     push_attributes(alloc, &mut text, file.attributes())?;
     Ok(text)
+}
+
+/// The flags of a file, and its two classes, each by its index and its name.
+fn head_text(alloc: Global, file: &ClassFile) -> Result<String, AllocError> {
+    let flags = text_of(alloc, &file.flags())?;
+    let this_class = text_of(alloc, &file.this_class())?;
+    let this_name = shown(alloc, file.this_name().bytes())?;
+    let super_class = text_of(alloc, &file.super_class())?;
+    let super_name = match file.super_name() {
+        Some(name) => shown(alloc, name.bytes())?,
+        None => String::from_str(alloc, "-")?,
+    };
+    joined(
+        alloc,
+        &[
+            "flags",
+            flags.as_str(),
+            "classes",
+            this_class.as_str(),
+            this_name.as_str(),
+            super_class.as_str(),
+            super_name.as_str(),
+        ],
+    )
 }
 
 fn pool_text(alloc: Global, pool: &[Entry]) -> Result<String, AllocError> {
@@ -58,10 +76,12 @@ fn push_members(
     members: &[Member],
 ) -> Result<(), AllocError> {
     for member in members {
-        let (flags, name) = (member.flags(), member.name_index());
-        let descriptor = member.descriptor_index();
-        let line = format!(in alloc; "{what} {flags} {name} {descriptor}")?;
-        text.push_str(line.as_str())?;
+        let numbers = [
+            u64::from(member.flags()),
+            u64::from(member.name_index()),
+            u64::from(member.descriptor_index()),
+        ];
+        text.push_str(numbered(alloc, what, &numbers)?.as_str())?;
         push_attributes(alloc, text, member.attributes())?;
     }
     Ok(())
@@ -73,9 +93,10 @@ fn push_attributes(
     attributes: &[Attribute],
 ) -> Result<(), AllocError> {
     for attribute in attributes {
-        let bytes = hex::encode(alloc, attribute.bytes())?;
-        let line = format!(in alloc; " attribute {} {bytes}", attribute.name_index())?;
-        text.push_str(line.as_str())?;
+        let name = u64::from(attribute.name_index());
+        text.push_str(numbered(alloc, " attribute", &[name])?.as_str())?;
+        text.push(' ')?;
+        text.push_str(hex::encode(alloc, attribute.bytes())?.as_str())?;
     }
     Ok(())
 }
@@ -84,12 +105,12 @@ fn push_attributes(
 pub fn reference(alloc: Global, bytes: &[u8], index: u16) -> Result<String, AllocError> {
     let file = match read(alloc, bytes) {
         Ok(file) => file,
-        Err(fault) => return format!(in alloc; "{fault}"),
+        Err(fault) => return text_of(alloc, &fault),
     };
     match file.reference(index) {
         Some(Reference::Class(name)) => {
             let name = shown(alloc, name.bytes())?;
-            format!(in alloc; "class {name}")
+            joined(alloc, &["class", name.as_str()])
         }
         Some(Reference::Field(symbol)) => symbol_text(alloc, "field", symbol),
         Some(Reference::Method(symbol)) => symbol_text(alloc, "method", symbol),
@@ -102,5 +123,8 @@ fn symbol_text(alloc: Global, what: &str, symbol: Symbol<'_>) -> Result<String, 
     let class = shown(alloc, symbol.class.bytes())?;
     let name = shown(alloc, symbol.name.bytes())?;
     let descriptor = shown(alloc, symbol.descriptor.bytes())?;
-    format!(in alloc; "{what} {class} {name} {descriptor}")
+    joined(
+        alloc,
+        &[what, class.as_str(), name.as_str(), descriptor.as_str()],
+    )
 }

@@ -1,5 +1,6 @@
 //! Questions about names.
 
+use crate::answers::{joined, quoted, text_of};
 use cl_names::{
     Name, NameFault, class_name, is_class_name, is_method_name, is_modified_utf8,
     is_unqualified_name,
@@ -19,13 +20,13 @@ pub fn shown(alloc: Global, bytes: &[u8]) -> Result<String, AllocError> {
             }
         }
     }
-    format!(in alloc; "{} bytes", bytes.len())
+    joined(alloc, &[text_of(alloc, &bytes.len())?.as_str(), "bytes"])
 }
 
 fn outcome(alloc: Global, name: Result<Name, NameFault>) -> Result<String, AllocError> {
     match name {
         Ok(_) => String::from_str(alloc, "fine"),
-        Err(fault) => format!(in alloc; "{fault}"),
+        Err(fault) => text_of(alloc, &fault),
     }
 }
 
@@ -35,7 +36,18 @@ pub fn kinds(alloc: Global, bytes: &[u8]) -> Result<String, AllocError> {
     let class = outcome(alloc, Name::class(alloc, bytes))?;
     let unqualified = outcome(alloc, Name::unqualified(alloc, bytes))?;
     let method = outcome(alloc, Name::method(alloc, bytes))?;
-    format!(in alloc; "{any} | {class} | {unqualified} | {method}")
+    joined(
+        alloc,
+        &[
+            any.as_str(),
+            "|",
+            class.as_str(),
+            "|",
+            unqualified.as_str(),
+            "|",
+            method.as_str(),
+        ],
+    )
 }
 
 fn yes_or_no(answer: bool) -> &'static str {
@@ -48,25 +60,35 @@ pub fn tests(alloc: Global, bytes: &[u8]) -> Result<String, AllocError> {
     let class = yes_or_no(is_class_name(bytes));
     let unqualified = yes_or_no(is_unqualified_name(bytes));
     let method = yes_or_no(is_method_name(bytes));
-    format!(in alloc; "{any} {class} {unqualified} {method}")
+    joined(alloc, &[any, class, unqualified, method])
 }
 
 /// A name, by what it answers.
 pub fn name(alloc: Global, bytes: &[u8]) -> Result<String, AllocError> {
     let name = match Name::any(alloc, bytes) {
         Ok(name) => name,
-        Err(fault) => return format!(in alloc; "{fault}"),
+        Err(fault) => return text_of(alloc, &fault),
     };
     let copy = name.try_clone(alloc)?;
     if copy != name || copy.bytes() != bytes {
         return String::from_str(alloc, "another copy");
     }
     let text = shown(alloc, bytes)?;
-    let package = shown(alloc, copy.package())?;
+    let package = quoted(alloc, shown(alloc, copy.package())?.as_str())?;
     let class = yes_or_no(name.is_class());
     let unqualified = yes_or_no(name.is_unqualified());
     let method = yes_or_no(name.is_method());
-    format!(in alloc; "{text} package '{package}' {class} {unqualified} {method}")
+    joined(
+        alloc,
+        &[
+            text.as_str(),
+            "package",
+            package.as_str(),
+            class,
+            unqualified,
+            method,
+        ],
+    )
 }
 
 /// The name that escaped text writes, its text and its bytes.
@@ -78,10 +100,11 @@ pub fn written(alloc: Global, text: &str) -> Result<String, AllocError> {
             if count > MOST_PRINTED {
                 return Ok(text);
             }
+            let text = quoted(alloc, text.as_str())?;
             let bytes = hex::encode(alloc, name.bytes())?;
-            format!(in alloc; "'{text}' {bytes}")
+            joined(alloc, &[text.as_str(), bytes.as_str()])
         }
-        Err(fault) => format!(in alloc; "{fault}"),
+        Err(fault) => text_of(alloc, &fault),
     }
 }
 
@@ -111,6 +134,5 @@ pub fn same(alloc: Global, bytes: &[u8], other: &[u8]) -> Result<String, AllocEr
         Ordering::Equal => "equal",
         Ordering::Greater => "greater",
     };
-    let same = yes_or_no(name == other);
-    format!(in alloc; "{order} {same}")
+    joined(alloc, &[order, yes_or_no(name == other)])
 }

@@ -1,6 +1,5 @@
 //! Files with a byte changed.
 
-use crate::answers::text_of;
 use cl_classfile::{ClassFile, read};
 use cl_writer::{assemble, listing, write};
 use std::alloc::{AllocError, Global};
@@ -11,12 +10,13 @@ pub fn changes(alloc: Global, bytes: &[u8]) -> Result<String, AllocError> {
     for place in 0..bytes.len() {
         count = count.saturating_add(changes_at(alloc, bytes, place)?);
     }
-    text_of(alloc, &count)
+    format!(in alloc; "{count}")
 }
 
 /// In how many ways the byte at a place may be another.
 pub fn changed(alloc: Global, bytes: &[u8], place: usize) -> Result<String, AllocError> {
-    text_of(alloc, &changes_at(alloc, bytes, place)?)
+    let count = changes_at(alloc, bytes, place)?;
+    format!(in alloc; "{count}")
 }
 
 fn changes_at(alloc: Global, bytes: &[u8], place: usize) -> Result<usize, AllocError> {

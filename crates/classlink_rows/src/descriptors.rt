@@ -1,6 +1,5 @@
 //! Questions about descriptors.
 
-use crate::answers::{joined, text_of};
 use crate::names::shown;
 use cl_descriptors::{
     Descriptor, FieldType, Form, MethodType, form_of, read_field, read_method, units_of,
@@ -11,7 +10,7 @@ use std::alloc::{AllocError, Global};
 pub fn field_type(alloc: Global, bytes: &[u8]) -> Result<String, AllocError> {
     let t = match read_field(alloc, bytes) {
         Ok(t) => t,
-        Err(fault) => return text_of(alloc, &fault),
+        Err(fault) => return format!(in alloc; "{fault}"),
     };
     let copy = t.try_clone(alloc)?;
     if copy != t || copy.text(alloc)?.as_slice() != bytes {
@@ -21,25 +20,14 @@ pub fn field_type(alloc: Global, bytes: &[u8]) -> Result<String, AllocError> {
         Some(name) => shown(alloc, name.bytes())?,
         None => String::from_str(alloc, "-")?,
     };
-    let dims = text_of(alloc, &t.dims)?;
-    let units = text_of(alloc, &t.units())?;
-    joined(
-        alloc,
-        &[
-            dims.as_str(),
-            "dimensions",
-            units.as_str(),
-            "units",
-            class.as_str(),
-        ],
-    )
+    format!(in alloc; "{} dimensions {} units {class}", t.dims, t.units())
 }
 
 /// A method's type: units, how many parameters there are, each of them, what is returned, the classes that it names.
 pub fn method_type(alloc: Global, bytes: &[u8]) -> Result<String, AllocError> {
     let whole = match read_method(alloc, bytes) {
         Ok(m) => Descriptor::Method(m),
-        Err(fault) => return text_of(alloc, &fault),
+        Err(fault) => return format!(in alloc; "{fault}"),
     };
     let copy = whole.try_clone(alloc)?;
     if copy != whole {
@@ -61,21 +49,8 @@ fn method_text(alloc: Global, m: &MethodType, bytes: &[u8]) -> Result<String, Al
         None => String::from_str(alloc, "V")?,
     };
     let classes = classes_of(alloc, m)?;
-    let units = text_of(alloc, &m.units())?;
-    let count = text_of(alloc, &m.params.len())?;
-    joined(
-        alloc,
-        &[
-            units.as_str(),
-            "units",
-            count.as_str(),
-            "(",
-            params.as_str(),
-            ")",
-            ret.as_str(),
-            classes.as_str(),
-        ],
-    )
+    let (units, count) = (m.units(), m.params.len());
+    format!(in alloc; "{units} units {count} ({params} ) {ret} {classes}")
 }
 
 fn type_text(alloc: Global, t: &FieldType) -> Result<String, AllocError> {
@@ -110,21 +85,17 @@ fn classes_of(alloc: Global, m: &MethodType) -> Result<String, AllocError> {
     Ok(text)
 }
 
-fn form_text(form: Option<Form>) -> &'static str {
-    match form {
+/// What bytes describe, and the units of a method's parameters.
+pub fn form(alloc: Global, bytes: &[u8]) -> Result<String, AllocError> {
+    let form = match form_of(bytes) {
         Some(Form::Plain) => "plain",
         Some(Form::Array) => "array",
         Some(Form::Method) => "method",
         Some(Form::Void) => "void",
         None => "none",
-    }
-}
-
-/// What bytes describe, and the units of a method's parameters.
-pub fn form(alloc: Global, bytes: &[u8]) -> Result<String, AllocError> {
-    let units = match units_of(bytes) {
-        Some(units) => text_of(alloc, &units)?,
-        None => String::from_str(alloc, "-")?,
     };
-    joined(alloc, &[form_text(form_of(bytes)), units.as_str()])
+    match units_of(bytes) {
+        Some(units) => format!(in alloc; "{form} {units}"),
+        None => format!(in alloc; "{form} -"),
+    }
 }

@@ -1,6 +1,5 @@
 //! Questions about class files.
 
-use crate::answers::{joined, numbered, text_of};
 use crate::entries::entry_text;
 use crate::names::shown;
 use cl_classfile::{Attribute, ClassFile, Entry, Member, Reference, Symbol, read};
@@ -10,7 +9,7 @@ use std::alloc::{AllocError, Global};
 pub fn file_fault(alloc: Global, bytes: &[u8]) -> Result<String, AllocError> {
     match read(alloc, bytes) {
         Ok(_) => String::from_str(alloc, "fine"),
-        Err(fault) => text_of(alloc, &fault),
+        Err(fault) => format!(in alloc; "{fault}"),
     }
 }
 
@@ -18,46 +17,29 @@ pub fn file_fault(alloc: Global, bytes: &[u8]) -> Result<String, AllocError> {
 pub fn file_parts(alloc: Global, bytes: &[u8]) -> Result<String, AllocError> {
     match read(alloc, bytes) {
         Ok(file) => parts_text(alloc, &file),
-        Err(fault) => text_of(alloc, &fault),
+        Err(fault) => format!(in alloc; "{fault}"),
     }
 }
 
 /// The parts of a file, in order.
 fn parts_text(alloc: Global, file: &ClassFile) -> Result<String, AllocError> {
     let mut text = pool_text(alloc, file.pool())?;
-    text.push_str(head_text(alloc, file)?.as_str())?;
+    let flags = file.flags();
+    let (this_class, super_class) = (file.this_class(), file.super_class());
+    let this_name = shown(alloc, file.this_name().bytes())?;
+    let super_name = match file.super_name() {
+        Some(name) => shown(alloc, name.bytes())?,
+        None => String::from_str(alloc, "-")?,
+    };
+    let names = format!(in alloc; "{this_class} {this_name} {super_class} {super_name}")?;
+    text.push_str(format!(in alloc; "flags {flags} classes {names}")?.as_str())?;
     for interface in file.interfaces() {
-        let line = numbered(alloc, " interface", &[u64::from(*interface)])?;
-        text.push_str(line.as_str())?;
+        text.push_str(format!(in alloc; " interface {interface}")?.as_str())?;
     }
     push_members(alloc, &mut text, " field", file.fields())?;
     push_members(alloc, &mut text, " method", file.methods())?;
     push_attributes(alloc, &mut text, file.attributes())?;
     Ok(text)
-}
-
-/// The flags of a file, and its two classes, each by its index and its name.
-fn head_text(alloc: Global, file: &ClassFile) -> Result<String, AllocError> {
-    let flags = text_of(alloc, &file.flags())?;
-    let this_class = text_of(alloc, &file.this_class())?;
-    let this_name = shown(alloc, file.this_name().bytes())?;
-    let super_class = text_of(alloc, &file.super_class())?;
-    let super_name = match file.super_name() {
-        Some(name) => shown(alloc, name.bytes())?,
-        None => String::from_str(alloc, "-")?,
-    };
-    joined(
-        alloc,
-        &[
-            "flags",
-            flags.as_str(),
-            "classes",
-            this_class.as_str(),
-            this_name.as_str(),
-            super_class.as_str(),
-            super_name.as_str(),
-        ],
-    )
 }
 
 fn pool_text(alloc: Global, pool: &[Entry]) -> Result<String, AllocError> {
@@ -76,12 +58,10 @@ fn push_members(
     members: &[Member],
 ) -> Result<(), AllocError> {
     for member in members {
-        let numbers = [
-            u64::from(member.flags()),
-            u64::from(member.name_index()),
-            u64::from(member.descriptor_index()),
-        ];
-        text.push_str(numbered(alloc, what, &numbers)?.as_str())?;
+        let (flags, name) = (member.flags(), member.name_index());
+        let descriptor = member.descriptor_index();
+        let line = format!(in alloc; "{what} {flags} {name} {descriptor}")?;
+        text.push_str(line.as_str())?;
         push_attributes(alloc, text, member.attributes())?;
     }
     Ok(())
@@ -93,10 +73,9 @@ fn push_attributes(
     attributes: &[Attribute],
 ) -> Result<(), AllocError> {
     for attribute in attributes {
-        let name = u64::from(attribute.name_index());
-        text.push_str(numbered(alloc, " attribute", &[name])?.as_str())?;
-        text.push(' ')?;
-        text.push_str(hex::encode(alloc, attribute.bytes())?.as_str())?;
+        let bytes = hex::encode(alloc, attribute.bytes())?;
+        let line = format!(in alloc; " attribute {} {bytes}", attribute.name_index())?;
+        text.push_str(line.as_str())?;
     }
     Ok(())
 }
@@ -105,12 +84,12 @@ fn push_attributes(
 pub fn reference(alloc: Global, bytes: &[u8], index: u16) -> Result<String, AllocError> {
     let file = match read(alloc, bytes) {
         Ok(file) => file,
-        Err(fault) => return text_of(alloc, &fault),
+        Err(fault) => return format!(in alloc; "{fault}"),
     };
     match file.reference(index) {
         Some(Reference::Class(name)) => {
             let name = shown(alloc, name.bytes())?;
-            joined(alloc, &["class", name.as_str()])
+            format!(in alloc; "class {name}")
         }
         Some(Reference::Field(symbol)) => symbol_text(alloc, "field", symbol),
         Some(Reference::Method(symbol)) => symbol_text(alloc, "method", symbol),
@@ -123,8 +102,5 @@ fn symbol_text(alloc: Global, what: &str, symbol: Symbol<'_>) -> Result<String, 
     let class = shown(alloc, symbol.class.bytes())?;
     let name = shown(alloc, symbol.name.bytes())?;
     let descriptor = shown(alloc, symbol.descriptor.bytes())?;
-    joined(
-        alloc,
-        &[what, class.as_str(), name.as_str(), descriptor.as_str()],
-    )
+    format!(in alloc; "{what} {class} {name} {descriptor}")
 }

@@ -5,7 +5,6 @@
 //! that bytes are written in. `tools/rows` makes the text from the tables of `docs/FORMATS.md`.
 #![tactic(auto)]
 
-mod answers;
 mod changes;
 mod descriptors;
 mod entries;
@@ -50,12 +49,11 @@ fn has_words(text: &str, other: &str) -> bool {
 
 /// What is to be printed of a row, if anything.
 fn complaint(alloc: Global, line: Line<'_>) -> io::Result<Option<String>> {
-    let found = match difference(alloc, line.text) {
-        Ok(None) => return Ok(None),
-        Ok(Some(found)) => found,
-        Err(stop) => String::from_str(alloc, stop.text())?,
-    };
-    Ok(Some(format!(in alloc; "line {}: {found}", line.number)?))
+    match difference(alloc, line.text) {
+        Ok(None) => Ok(None),
+        Ok(Some(found)) => Ok(Some(format!(in alloc; "line {}: {found}", line.number)?)),
+        Err(stop) => Ok(Some(format!(in alloc; "line {}: {stop}", line.number)?)),
+    }
 }
 
 fn main(rt: HostRuntime) -> io::Result<ExitCode> {

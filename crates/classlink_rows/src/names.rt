@@ -1,6 +1,5 @@
 //! Questions about names.
 
-use crate::answers::{joined, quoted, text_of};
 use cl_names::{
     Name, NameFault, class_name, is_class_name, is_method_name, is_modified_utf8,
     is_unqualified_name,
@@ -20,13 +19,13 @@ pub fn shown(alloc: Global, bytes: &[u8]) -> Result<String, AllocError> {
             }
         }
     }
-    joined(alloc, &[text_of(alloc, &bytes.len())?.as_str(), "bytes"])
+    format!(in alloc; "{} bytes", bytes.len())
 }
 
 fn outcome(alloc: Global, name: Result<Name, NameFault>) -> Result<String, AllocError> {
     match name {
         Ok(_) => String::from_str(alloc, "fine"),
-        Err(fault) => text_of(alloc, &fault),
+        Err(fault) => format!(in alloc; "{fault}"),
     }
 }
 
@@ -36,18 +35,7 @@ pub fn kinds(alloc: Global, bytes: &[u8]) -> Result<String, AllocError> {
     let class = outcome(alloc, Name::class(alloc, bytes))?;
     let unqualified = outcome(alloc, Name::unqualified(alloc, bytes))?;
     let method = outcome(alloc, Name::method(alloc, bytes))?;
-    joined(
-        alloc,
-        &[
-            any.as_str(),
-            "|",
-            class.as_str(),
-            "|",
-            unqualified.as_str(),
-            "|",
-            method.as_str(),
-        ],
-    )
+    format!(in alloc; "{any} | {class} | {unqualified} | {method}")
 }
 
 fn yes_or_no(answer: bool) -> &'static str {
@@ -60,35 +48,25 @@ pub fn tests(alloc: Global, bytes: &[u8]) -> Result<String, AllocError> {
     let class = yes_or_no(is_class_name(bytes));
     let unqualified = yes_or_no(is_unqualified_name(bytes));
     let method = yes_or_no(is_method_name(bytes));
-    joined(alloc, &[any, class, unqualified, method])
+    format!(in alloc; "{any} {class} {unqualified} {method}")
 }
 
 /// A name, by what it answers.
 pub fn name(alloc: Global, bytes: &[u8]) -> Result<String, AllocError> {
     let name = match Name::any(alloc, bytes) {
         Ok(name) => name,
-        Err(fault) => return text_of(alloc, &fault),
+        Err(fault) => return format!(in alloc; "{fault}"),
     };
     let copy = name.try_clone(alloc)?;
     if copy != name || copy.bytes() != bytes {
         return String::from_str(alloc, "another copy");
     }
     let text = shown(alloc, bytes)?;
-    let package = quoted(alloc, shown(alloc, copy.package())?.as_str())?;
+    let package = shown(alloc, copy.package())?;
     let class = yes_or_no(name.is_class());
     let unqualified = yes_or_no(name.is_unqualified());
     let method = yes_or_no(name.is_method());
-    joined(
-        alloc,
-        &[
-            text.as_str(),
-            "package",
-            package.as_str(),
-            class,
-            unqualified,
-            method,
-        ],
-    )
+    format!(in alloc; "{text} package '{package}' {class} {unqualified} {method}")
 }
 
 /// The name that escaped text writes, its text and its bytes.
@@ -100,11 +78,10 @@ pub fn written(alloc: Global, text: &str) -> Result<String, AllocError> {
             if count > MOST_PRINTED {
                 return Ok(text);
             }
-            let text = quoted(alloc, text.as_str())?;
             let bytes = hex::encode(alloc, name.bytes())?;
-            joined(alloc, &[text.as_str(), bytes.as_str()])
+            format!(in alloc; "'{text}' {bytes}")
         }
-        Err(fault) => text_of(alloc, &fault),
+        Err(fault) => format!(in alloc; "{fault}"),
     }
 }
 
@@ -134,5 +111,6 @@ pub fn same(alloc: Global, bytes: &[u8], other: &[u8]) -> Result<String, AllocEr
         Ordering::Equal => "equal",
         Ordering::Greater => "greater",
     };
-    joined(alloc, &[order, yes_or_no(name == other)])
+    let same = yes_or_no(name == other);
+    format!(in alloc; "{order} {same}")
 }

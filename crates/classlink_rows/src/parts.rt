@@ -1,6 +1,5 @@
 //! Files made of parts. Each word adds one to those that stand, `KIND:NUMBER..`, and with `N@` before it N times.
 
-use crate::answers::{joined, text_of};
 use crate::input::{bytes_of, count_of, number};
 use crate::stop::Stop;
 use crate::texts::bytes_text;
@@ -28,13 +27,9 @@ pub fn made_of_parts(alloc: Global, words: Words<'_>) -> Result<String, Stop> {
     match ClassFile::from_parts(alloc, parts) {
         Ok(file) => Ok(bytes_text(alloc, &file)?),
         Err(refused) => {
-            let fault = text_of(alloc, &refused.error)?;
-            let count = text_of(alloc, &refused.parts.pool.len())?;
-            let this_class = text_of(alloc, &refused.parts.this_class)?;
-            Ok(joined(
-                alloc,
-                &[fault.as_str(), count.as_str(), this_class.as_str()],
-            )?)
+            let (fault, parts) = (refused.error, refused.parts);
+            let count = parts.pool.len();
+            Ok(format!(in alloc; "{fault} {count} {}", parts.this_class)?)
         }
     }
 }

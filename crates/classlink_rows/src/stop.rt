@@ -1,21 +1,14 @@
 use std::alloc::{AllocError, AllocFailed};
+use thiserror::Error;
 
 /// Why a row was not answered.
-#[derive(Clone, Copy)]
+#[derive(Clone, Copy, Debug, Error)]
 pub enum Stop {
+    #[error("out of memory")]
     Memory,
     /// No such question, or words that are none of it.
+    #[error("no row")]
     NoRow,
-}
-
-impl Stop {
-    /// What is printed in place of an answer.
-    pub fn text(self) -> &'static str {
-        match self {
-            Stop::Memory => "out of memory",
-            Stop::NoRow => "no row",
-        }
-    }
 }
 
 impl From<AllocError> for Stop {

@@ -1,6 +1,5 @@
 //! Questions about lines, assembler texts and listings.
 
-use crate::answers::{joined, text_of};
 use crate::names::shown;
 use cl_classfile::{ClassFile, ReadError, read};
 use cl_descriptors::DescriptorFault;
@@ -15,11 +14,11 @@ const MOST_PRINTED: usize = 2000;
 /// How a refused growth is printed.
 pub fn memory_fault(alloc: Global, library: &str) -> Result<String, AllocError> {
     match library {
-        "names" => text_of(alloc, &NameFault::Memory),
-        "descriptors" => text_of(alloc, &DescriptorFault::Memory),
-        "reader" => text_of(alloc, &ReadError::Memory),
-        "writer" => text_of(alloc, &WriteFault::Memory),
-        "assembler" => text_of(alloc, &AssembleFault::Memory),
+        "names" => format!(in alloc; "{}", NameFault::Memory),
+        "descriptors" => format!(in alloc; "{}", DescriptorFault::Memory),
+        "reader" => format!(in alloc; "{}", ReadError::Memory),
+        "writer" => format!(in alloc; "{}", WriteFault::Memory),
+        "assembler" => format!(in alloc; "{}", AssembleFault::Memory),
         _ => String::from_str(alloc, "no such library"),
     }
 }
@@ -28,9 +27,7 @@ pub fn memory_fault(alloc: Global, library: &str) -> Result<String, AllocError> 
 pub fn stated(alloc: Global, text: &str) -> Result<String, AllocError> {
     let mut found = String::new(alloc);
     for line in Stated::new(text) {
-        found.push(' ')?;
-        found.push_str(text_of(alloc, &line.number)?.as_str())?;
-        found.push(':')?;
+        found.push_str(format!(in alloc; " {}:", line.number)?.as_str())?;
         for word in Words::new(line.text) {
             found.push(' ')?;
             found.push_str(hex::encode(alloc, word.as_bytes())?.as_str())?;
@@ -43,10 +40,10 @@ pub fn stated(alloc: Global, text: &str) -> Result<String, AllocError> {
 pub fn bytes_text(alloc: Global, file: &ClassFile) -> Result<String, AllocError> {
     let bytes = match write(alloc, file) {
         Ok(bytes) => bytes,
-        Err(fault) => return text_of(alloc, &fault),
+        Err(fault) => return format!(in alloc; "{fault}"),
     };
     if bytes.len() > MOST_PRINTED {
-        return joined(alloc, &[text_of(alloc, &bytes.len())?.as_str(), "bytes"]);
+        return format!(in alloc; "{} bytes", bytes.len());
     }
     hex::encode(alloc, bytes.as_slice())
 }
@@ -55,15 +52,15 @@ pub fn bytes_text(alloc: Global, file: &ClassFile) -> Result<String, AllocError>
 pub fn assembled(alloc: Global, text: &str) -> Result<String, AllocError> {
     match assemble(alloc, text) {
         Ok(file) => bytes_text(alloc, &file),
-        Err(fault) => text_of(alloc, &fault),
+        Err(fault) => format!(in alloc; "{fault}"),
     }
 }
 
 /// How many entries the pool has that assembler text describes.
 pub fn pool_len(alloc: Global, text: &str) -> Result<String, AllocError> {
     match assemble(alloc, text) {
-        Ok(file) => text_of(alloc, &file.pool().len()),
-        Err(fault) => text_of(alloc, &fault),
+        Ok(file) => format!(in alloc; "{}", file.pool().len()),
+        Err(fault) => format!(in alloc; "{fault}"),
     }
 }
 
@@ -71,7 +68,7 @@ pub fn pool_len(alloc: Global, text: &str) -> Result<String, AllocError> {
 pub fn listed(alloc: Global, text: &str) -> Result<String, AllocError> {
     let file = match assemble(alloc, text) {
         Ok(file) => file,
-        Err(fault) => return text_of(alloc, &fault),
+        Err(fault) => return format!(in alloc; "{fault}"),
     };
     let lines = listing(alloc, &file)?;
     let mut found = String::new(alloc);
@@ -86,11 +83,11 @@ pub fn listed(alloc: Global, text: &str) -> Result<String, AllocError> {
 pub fn rewritten(alloc: Global, bytes: &[u8]) -> Result<String, AllocError> {
     let file = match read(alloc, bytes) {
         Ok(file) => file,
-        Err(fault) => return text_of(alloc, &fault),
+        Err(fault) => return format!(in alloc; "{fault}"),
     };
     match write(alloc, &file) {
         Ok(written) if written.as_slice() == bytes => String::from_str(alloc, "the same"),
         Ok(written) => shown(alloc, written.as_slice()),
-        Err(fault) => text_of(alloc, &fault),
+        Err(fault) => format!(in alloc; "{fault}"),
     }
 }

@@ -3,6 +3,8 @@ use Rattle.std.specs.Prelude.{ℕ, List, [], ◌∷◌, ◌++◌, map, take, Opt
 use Rattle.cl_model.specs.declared.request.Request as request
 use Rattle.cl_model.specs.States.{Need, Entry}
 use Rattle.cl_model.specs.Frames.{kept_of}
+use Rattle.cl_model.specs.Content.{Content}
+use Rattle.cl_hierarchy.specs.Drafts.{IsSpelt}
 use Rattle.cl_hierarchy.specs.Imposed as imposed
 use Rattle.cl_hierarchy.specs.Frames.{frame_of}
 use Rattle.cl_hierarchy.specs.Lineages.{rows_in}
@@ -12,6 +14,8 @@ use Rattle.cl_findings.specs.Loads.{target_needs}
 use Rattle.cl_findings.specs.References.{class_need, reference_needs, config_of, sprung_needs}
 use Rattle.cl_findings.specs.declared.basis.Basis.{Basis}
 use Rattle.cl_findings.specs.declared.basis.Basis.TheVariants as bases
+use Rattle.cl_findings.specs.declared.load.Target.{Target}
+use Rattle.cl_findings.specs.declared.load.Target.TheVariants as targets
 use Rattle.cl_findings.specs.declared.basis.At.{At}
 use Rattle.cl_findings.specs.declared.basis.At.TheVariants as ats
 
@@ -53,3 +57,8 @@ based r (bases.Linked l place e met) = record {
   prepared = map (λ row. row.class) (take place (rows_in l.value));
   refused = slice_get (imposed.needs_of e.needs) met;
 }
+
+-- the file of the class that a target names is what that one's bytes spell (5.3.5)
+abbrev pub IsSpeltIn : {A : Type 0} → Option Content → Target A → Type 0
+IsSpeltIn told targets.Own = Unit {0}
+IsSpeltIn told (targets.Reference d) = IsSpelt told d.value.class d.value.file

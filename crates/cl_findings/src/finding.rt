@@ -34,6 +34,7 @@ impl<T: Told> Model for Finding<T> {
 }
 
 impl<T: Told> Finding<T> {
+    #[tactic(auto, using(crate::proofs::Plain::class_rests))]
     /// The class that a request loaded, as the tables have it (JVMS SE 8, 5.3).
     pub fn class(request: Request, class: Class) -> Finding<T>
         requires { IsLoad request }
@@ -43,7 +44,6 @@ impl<T: Told> Finding<T> {
           basis = None;
         } }
     {
-        owed();
         Finding {
             request,
             answer: Answer::Said(Verdict::Class(class)),
@@ -60,7 +60,6 @@ impl<T: Told> Finding<T> {
           basis = None;
         } }
     {
-        owed();
         Finding {
             request,
             answer: Answer::Said(Verdict::Linked(class)),
@@ -77,7 +76,6 @@ impl<T: Told> Finding<T> {
           basis = None;
         } }
     {
-        owed();
         Finding {
             request,
             answer: Answer::Shared(settled),
@@ -89,7 +87,6 @@ impl<T: Told> Finding<T> {
     pub fn memory(request: Request) -> Finding<T>
         ensures { result ≡ record { request = request; answer = answers.Memory; basis = None } }
     {
-        owed();
         Finding {
             request,
             answer: Answer::Memory,
@@ -105,7 +102,6 @@ impl<T: Told> Finding<T> {
           basis = None;
         } }
     {
-        owed();
         Finding {
             request,
             answer: Answer::SourceFault(name, loader),

@@ -1,5 +1,5 @@
 -- The file of a class that is recorded, and of a class that is at home.
-use Rattle.std.proofs.Common.{◌≡◌, ◌∙◌, ℕ, Bool, List, Option, Some, None, Ok, Result, refl, sym, ap, subst}
+use Rattle.std.proofs.Common.{◌≡◌, ◌∙◌, ℕ, Bool, List, Option, Some, None, Ok, Result, ap, subst}
 use Rattle.std.specs.Prelude.{if◌then◌else◌}
 use Rattle.std.proofs.lemmas.Cmp.{nat_eq_equiv}
 use Rattle.cl_classfile.specs.Files.{File, file_of}
@@ -9,10 +9,9 @@ use Rattle.cl_model.specs.Content.{Content, content_at}
 use Rattle.cl_model.specs.Homes.{World}
 use Rattle.cl_model.specs.Classes.{Error, HasFile, IsAtHome, is_own, named, read_found}
 use Rattle.cl_model.specs.Classes as classes
-use Rattle.cl_model.specs.Lineages.{Kin, IsLineage}
+use Rattle.cl_model.specs.Lineages.{Kin}
 use Rattle.cl_model.specs.Machine.{HasLineage, IsClosed}
 use Rattle.cl_model.specs.States.{State, IsRecorded, recorded}
-use Rattle.cl_model.proofs.Bind.{some_same}
 use Rattle.cl_model.proofs.Homes.{home_of_home}
 use Rattle.cl_model.proofs.Planned.{lineage_exists}
 use Rattle.cl_model.proofs.Trees.{lineage_of}

@@ -12,7 +12,6 @@ use Rattle.cl_model.specs.declared.verdict.ErrorKind.{ErrorKind}
 use Rattle.cl_model.specs.declared.verdict.ErrorKind.TheVariants as kinds
 use Rattle.cl_model.specs.declared.verdict.Verdict.TheVariants as verdicts
 use Rattle.cl_model.specs.declared.request.Request as request
-use Rattle.cl_model.specs.declared.request.Request.TheVariants as requests
 use Rattle.cl_model.specs.Content.{Content}
 use Rattle.cl_model.specs.Homes.{World, home}
 use Rattle.cl_model.specs.Classes.{class, Above, Error, ClassNotFound, NoClassDef, ClassCircularity, HasFile, named}
@@ -22,7 +21,7 @@ use Rattle.cl_model.specs.Machine.{IsClosed}
 use Rattle.cl_model.specs.Plans.{Request, Load, Resolve, Link}
 use Rattle.cl_model.specs.Service.{IsNextNeed}
 use Rattle.cl_model.specs.Frames.{Frame, wanted, KeepsAccepted, AllKept, IsFrame, IsFrames, OfReference, Starts, path_of, asking, EndsHere, Under, absent_under, kept_of}
-use Rattle.cl_model.specs.Views.{request_of, error_of, verdict_of, need_of}
+use Rattle.cl_model.specs.Views.{request_of, error_of, need_of}
 use Rattle.cl_model.specs.Worlds.{file_fault, seen}
 use Rattle.cl_model.proofs.Frames.{missing_ends, faulty_ends, circle_ends, misfit_ends, complete_is_next, defined_is_next}
 use Rattle.cl_model.proofs.Homes.{home_of_home}
@@ -43,10 +42,10 @@ use Rattle.cl_hierarchy.proofs.Placed.{spelt_judged}
 use Rattle.cl_findings.specs.declared.load.Target.{Target}
 use Rattle.cl_findings.specs.declared.load.Target.TheVariants as targets
 use Rattle.cl_findings.specs.Bases.{IsSpeltIn}
-use Rattle.cl_findings.specs.Findings.{Based, Concludes, Grounds, IsRefusal, Placed, Rests, VerdictRests, loader_of}
+use Rattle.cl_findings.specs.Findings.{Based, Concludes, IsRefusal, Placed, Rests, VerdictRests, loader_of}
 use Rattle.cl_findings.specs.Loads.{IsFor, IsReferred, IsSought, IsWhole, kind_of, missing_kind, target_needs}
 use Rattle.cl_findings.proofs.Files.{file_found, kept_file}
-use Rattle.cl_findings.proofs.Plain.{error_apart, grounded, grounded_rests, linkage_apart}
+use Rattle.cl_findings.proofs.Plain.{error_apart, grounded, linkage_apart}
 
 -- ---- what is wrong with bytes
 

@@ -1,5 +1,5 @@
 -- What is looked up rests on nothing, and what rests on a basis is none that is looked up.
-use Rattle.std.proofs.Common.{◌≡◌, ℕ, List, Option, Some, None, refl, subst}
+use Rattle.std.proofs.Common.{◌≡◌, Global, ℕ, List, Option, Some, None, refl, subst}
 use Rattle.cl_model.specs.declared.class.Class.{Class}
 use Rattle.cl_model.specs.declared.need.Need.{Need}
 use Rattle.cl_model.specs.declared.verdict.ErrorKind.{ErrorKind}
@@ -10,6 +10,8 @@ use Rattle.cl_model.specs.declared.request.Request.{Request}
 use Rattle.cl_model.specs.declared.request.Request.TheVariants as requests
 use Rattle.cl_model.specs.Content.{Content}
 use Rattle.cl_delegation.specs.Worlds.{world_of}
+use Rattle.std.specs.declared.sync.Arc.{Arc}
+use Rattle.cl_model.specs.declared.settled.Settled.{Settled}
 use Rattle.cl_findings.specs.Findings.{Answered, Based, IsLoad, IsLink, IsLookedUp, Rests, VerdictRests, loader_of}
 use Rattle.cl_findings.specs.Loads.{Resolves}
 
@@ -24,6 +26,18 @@ linked_rests None r c is = tt
 linked_rests (Some content) (requests.Load loader name) c is = is
 linked_rests (Some content) (requests.Resolve loader name i) c is = is
 linked_rests (Some content) (requests.Link loader name) c is = tt
+
+pub settled_rests : (told : Option Content) (r : Request) (s : Arc Settled Global) → Rests told (record { request = r; answer = answers.Shared s; basis = None })
+settled_rests None r s = tt
+settled_rests (Some content) r s = refl
+
+pub memory_rests : (told : Option Content) (r : Request) → Rests told (record { request = r; answer = answers.Memory; basis = None })
+memory_rests None r = tt
+memory_rests (Some content) r = refl
+
+pub fault_rests : (told : Option Content) (r : Request) (name : List ℕ) (loader : ℕ) → Rests told (record { request = r; answer = answers.SourceFault name loader; basis = None })
+fault_rests None r name loader = tt
+fault_rests (Some content) r name loader = refl
 
 pub error_apart : (r : Request) (kind : ErrorKind) (c : Class) → IsLookedUp r (verdicts.Error kind c) → ⊥
 error_apart (requests.Load loader name) kind c h = h

@@ -9,11 +9,11 @@ ghost use Rattle.cl_findings.specs.Bases.{IsSpeltIn, at_needs, at_refused};
 ghost use Rattle.cl_findings.specs.Findings.{Rests};
 ghost use Rattle.cl_findings.specs.Loads.{ComesNext, IsFor, Stops, basis_at, kind_of, missing_kind, needs_at, next_need, next_needs, refused_at, verdict_at};
 
+use crate::basis::{At, Basis};
+use crate::finding::Finding;
 use cl_delegation::{Home, Unfound};
 use cl_hierarchy::{ClassRow, DraftFault, Frame, Path, Unreadable};
 use cl_model::{Answer, Class, ErrorKind, Need, Request, Told, Verdict};
-use crate::basis::{At, Basis};
-use crate::finding::Finding;
 use std::sync::Arc;
 
 /// What a path loads for a request.

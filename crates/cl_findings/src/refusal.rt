@@ -46,13 +46,14 @@ impl<T: Told> Finding<T> {
         ensures basis { result.basis ≡ Some (asked_basis request equalities.value index (need_of need)) }
     {
         bring_lineages(&equalities);
+        let basis = Basis::Asked {
+            equalities,
+            met: index,
+        };
         Finding {
             request,
             answer: Answer::Said(Verdict::Linkage(need)),
-            basis: Some(Basis::Asked {
-                equalities,
-                met: index,
-            }),
+            basis: Some(basis),
         }
     }
 
@@ -77,15 +78,16 @@ impl<T: Told> Finding<T> {
         bring_lineages(&equalities);
         // brings what is kept of the lineage
         let _ = lineage.class();
+        let basis = Basis::Linked {
+            lineage,
+            place,
+            equalities,
+            met: index,
+        };
         Finding {
             request,
             answer: Answer::Said(Verdict::Linkage(need)),
-            basis: Some(Basis::Linked {
-                lineage,
-                place,
-                equalities,
-                met: index,
-            }),
+            basis: Some(basis),
         }
     }
 }

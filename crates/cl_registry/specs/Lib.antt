@@ -2,6 +2,7 @@ pub mod Allowed
 pub mod Backs
 pub mod Bases
 pub mod Findings
+pub mod Imposing
 pub mod Kept
 pub mod Parts
 pub mod Refusals

@@ -11,25 +11,30 @@ use crate::finding::Finding;
 use crate::fits::supertypes_fit;
 use crate::report::{Answers, History, Report};
 use crate::rounds::{collect, counts_of, rooms_for, to_come};
-use crate::tables::{Rows, empty_rows, find};
+use crate::tables::{References, Rows, empty_rows, find};
 use cl_config::{Config, Script};
+use cl_constraints::{ConstraintBook, GroupedBook};
 use cl_delegation::Home;
 use cl_hierarchy::{ClassRow, Draft};
-use cl_model::{Answer, Event, LoaderId, Told};
-use cl_names::Name;
+use cl_model::{Answer, Class, Event, LoaderId, Need, Told};
+use cl_names::{Name, Seed};
+use indexmap::{IndexMap, IndexSet};
 use std::alloc::Global;
 use std::marker::Model;
 use std::sync::Arc;
 use thiserror::Error;
 
 /// Why a registry did nothing.
-#[derive(Clone, Copy, Debug, PartialEq, Eq, Error)]
+#[derive(Debug, Drop, PartialEq, Eq, Error)]
 pub enum RegistryFault {
     #[error("B0 Memory")]
     Memory,
     /// The value does not fit this configuration, this script or these tables.
     #[error("B1 Stray")]
     Stray,
+    /// This record or this equality would violate a loading constraint (JVMS SE 8, 5.3.4).
+    #[error("B2 Violates")]
+    Violates(Need),
     /// The request has an answer.
     #[error("B3 AlreadyPosted")]
     AlreadyPosted,
@@ -47,6 +52,11 @@ pub struct Registry<T: Told> {
     rows: Vec<Arc<ClassRow<T>>>,
     /// The rows of each loader, by their names.
     tables: Rows<T>,
+    /// Who defined what each loader has recorded, and the loading constraints.
+    book: GroupedBook,
+    references: References,
+    /// The classes that are prepared, in order.
+    prepared: IndexSet<Class, Seed>,
     history: Vec<Event>,
     answers: Vec<Option<Answer>>,
     round: u32,
@@ -61,14 +71,14 @@ pub struct Registry<T: Told> {
 impl<T: Told> Model for Registry<T> {
     ghost use Rattle.std.specs.Prelude.{length, map, vec_len, vec_capacity};
     ghost use Rattle.std.specs.Option.{option_map};
-    ghost use Rattle.cl_registry.specs.Tables.{Shown, row_at};
+    ghost use Rattle.cl_registry.specs.Tables.{Shown, reference_in, row_at};
     ghost use Rattle.cl_registry.specs.Kept.{IsRegistry};
 
     ghost Value = { Shown };
 
     ghost view = { λ r. record { config = r.config.value; script = r.script.value; rows = map (λ c. c.value) r.rows.items; history = r.history.items; answers = r.answers.items } };
 
-    ghost invariant = { λ r. IsRegistry T.told (record { config = r.config.value; script = r.script.value; rows = map (λ c. c.value) r.rows.items; history = r.history.items; answers = r.answers.items }) (record { table = λ l n. option_map (λ c. c.value) (row_at r.tables.items l n); parts = length r.tables.items; events = vec_len r.history; room_for_events = vec_capacity r.history; left = r.left; unanswered = r.unanswered.items; round = r.round; filled = vec_len r.room; room = vec_capacity r.room }) };
+    ghost invariant = { λ r. IsRegistry T.told (record { config = r.config.value; script = r.script.value; rows = map (λ c. c.value) r.rows.items; history = r.history.items; answers = r.answers.items }) (record { table = λ l n. option_map (λ c. c.value) (row_at r.tables.items l n); parts = length r.tables.items; references = λ c i. option_map (λ s. s.value) (reference_in r.references c i); prepared = r.prepared.keys; events = vec_len r.history; room_for_events = vec_capacity r.history; left = r.left; unanswered = r.unanswered.items; round = r.round; filled = vec_len r.room; room = vec_capacity r.room }) (⟦<GroupedBook as ConstraintBook>⟧.stands_for r.book) };
 }
 
 /// A registry could not be made.
@@ -112,7 +122,8 @@ impl<T: Told> Registry<T> {
         ensures script_back { IfErr result (λ e. e.script.value ≡ script.value) }
     {
         let left = script.requests().len();
-        let Ok(tables) = empty_rows(alloc, config.seed(), config.count()) else {
+        let seed = config.seed();
+        let Ok(tables) = empty_rows(alloc, seed, config.count()) else {
             return Err(RegistryRefused { config, script });
         };
         let Ok(unanswered) = counts_of(alloc, &script) else {
@@ -126,6 +137,9 @@ impl<T: Told> Registry<T> {
             script,
             rows: Vec::new(alloc),
             tables,
+            book: GroupedBook::with_hasher(alloc, seed),
+            references: IndexMap::with_hasher(alloc, seed),
+            prepared: IndexSet::with_hasher(alloc, seed),
             history: rooms.history,
             answers: rooms.answers,
             round: 0,
@@ -310,6 +324,9 @@ impl<T: Told> Registry<T> {
             script,
             rows: _,
             tables: _,
+            book: _,
+            references: _,
+            prepared: _,
             history,
             answers,
             round: _,

@@ -1,16 +1,7 @@
-pub mod Allowed
-pub mod Asked
 pub mod Backed
 pub mod Calm
 pub mod Counts
 pub mod Histories
-pub mod Kept
-pub mod Looked
-pub mod Named
 pub mod Placed
-pub mod Posted
-pub mod Posting
 pub mod Rests
-pub mod Running
-pub mod Schedules
 pub mod Steps

@@ -8,3 +8,4 @@ pub mod Parts
 pub mod Refusals
 pub mod Reports
 pub mod Tables
+pub mod Traced

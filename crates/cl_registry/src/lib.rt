@@ -6,10 +6,15 @@ mod backs;
 mod entries;
 pub mod finding;
 mod fits;
+mod imposing;
 pub mod laws;
+mod lineages;
+mod posts;
+mod recording;
 pub mod registry;
 pub mod report;
 mod rounds;
+mod stub;
 mod tables;
 
 pub use finding::{Finding, Obstacle};

@@ -10,6 +10,7 @@ pub mod Named
 pub mod Placed
 pub mod Posted
 pub mod Posting
+pub mod Referenced
 pub mod Rests
 pub mod Running
 pub mod Schedules

@@ -5,6 +5,7 @@ pub mod Findings
 pub mod Imposing
 pub mod Kept
 pub mod Parts
+pub mod References
 pub mod Refusals
 pub mod Reports
 pub mod Tables

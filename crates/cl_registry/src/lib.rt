@@ -7,6 +7,7 @@ mod entries;
 pub mod finding;
 mod fits;
 pub mod laws;
+mod references;
 pub mod registry;
 pub mod report;
 mod rounds;

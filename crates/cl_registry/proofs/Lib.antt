@@ -14,4 +14,5 @@ pub mod Referenced
 pub mod Rests
 pub mod Running
 pub mod Schedules
+pub mod Settled
 pub mod Steps

@@ -8,4 +8,5 @@ pub mod Parts
 pub mod References
 pub mod Refusals
 pub mod Reports
+pub mod SettlingLaws
 pub mod Tables

@@ -11,6 +11,7 @@ mod references;
 pub mod registry;
 pub mod report;
 mod rounds;
+pub mod settling_laws;
 mod tables;
 
 pub use finding::{Finding, Obstacle};

@@ -5,6 +5,7 @@ pub mod Calm
 pub mod Counts
 pub mod Histories
 pub mod Kept
+pub mod Linked
 pub mod Looked
 pub mod Named
 pub mod Placed

@@ -10,9 +10,10 @@ use Rattle.cl_registry.specs.declared.registry.RegistryFault.TheVariants.{Memory
 use Rattle.cl_delegation.specs.Searches.{Located}
 use Rattle.cl_hierarchy.specs.Drafts.{Drafted}
 use Rattle.cl_hierarchy.specs.Imposed.{Listed}
-use Rattle.cl_registry.specs.Findings.{Answered}
+use Rattle.cl_findings.specs.Findings.{Answered}
 use Rattle.cl_registry.specs.Imposing.{IsNextOf, MayImpose, MayMark}
-use Rattle.cl_registry.specs.Tables.{Shown, state_of, IsNew, LacksRecord, MayEnter, MayJoin, own_record, asked_record, IsAsked, IsLater, IsOpen, IsBacked, MayGoOn}
+use Rattle.cl_registry.specs.Posting.{IsBacked}
+use Rattle.cl_registry.specs.Tables.{Shown, state_of, IsNew, LacksRecord, MayEnter, MayJoin, own_record, asked_record, IsAsked, IsLater, IsOpen, MayGoOn}
 
 -- this need, and no other, is refused: adding it would violate an equality (5.3.4)
 pub record Blames (x : Shown) (blamed : Need) (need : states.Need) : Type 0 where

@@ -2,11 +2,12 @@
 
 ghost use Rattle.std.specs.Prelude.{◌≡◌, IfErr, OnOk};
 ghost use Rattle.cl_registry.specs.Refusals.{PostRefusedFor};
-ghost use Rattle.cl_registry.specs.Tables.{Fits, IsKept, with_post};
+ghost use Rattle.cl_registry.specs.Posting.{Fits};
+ghost use Rattle.cl_registry.specs.Tables.{IsKept, with_post};
 
-use crate::finding::Finding;
 use crate::registry::{PostRefused, Registry};
 use crate::stub::never;
+use cl_findings::Finding;
 use cl_model::Told;
 
 impl<T: Told> Registry<T> {

@@ -6,9 +6,15 @@ use Rattle.cl_model.specs.declared.class.Class.{Class}
 use Rattle.cl_model.specs.declared.event.Event.TheVariants as events
 use Rattle.cl_model.specs.declared.need.Equality.{Equality}
 use Rattle.cl_model.specs.Classes.{class, Above, supers, class_accessible}
-use Rattle.cl_model.specs.States.{Need, recorded, IsRecorded, Met, Refused, AllMet}
-use Rattle.cl_hierarchy.specs.Imposed.{Listed, Sprung, OfPreparation, OfReference, equal_need, needs_of}
-use Rattle.cl_hierarchy.specs.Lineages.{Lined}
+use Rattle.cl_model.specs.Homes.{World, home}
+use Rattle.cl_model.specs.Machine.{IsResolution}
+use Rattle.cl_model.specs.Preparation.{constraints_of}
+use Rattle.cl_model.specs.Works.{Made}
+use Rattle.cl_model.specs.States.{State, Need, Verdict, recorded, IsRecorded, Met, Refused, AllMet}
+use Rattle.cl_model.specs.Content.{Content}
+use Rattle.cl_config.specs.Views.{Configured}
+use Rattle.cl_hierarchy.specs.Imposed.{Listed, AreOf, Sprung, OfPreparation, OfReference, equal_need, needs_of}
+use Rattle.cl_hierarchy.specs.Lineages.{Lined, IsLined, kin_of}
 use Rattle.cl_registry.specs.Tables.{Shown, records_of, state_of}
 
 -- a lineage is of this configuration, and its class is recorded by its loader (5.3)
@@ -90,3 +96,33 @@ MarksBy old new (OfPreparation l) = Prepares old new l.own.class
 -- the same of a list
 abbrev pub Marks : Shown → Shown → Listed → Type 0
 Marks old new e = MarksBy old new e.origin
+
+-- the class whose preparation asks for a list is prepared (5.4.2)
+abbrev pub IsPreparedBy : Shown → Sprung → Type 0
+IsPreparedBy x (OfReference d c index) = ⊥
+IsPreparedBy x (OfPreparation l) = Contains (state_of x).prepared l.own.class
+
+-- ---- for the laws
+
+-- the lineages that a list was made from are such (5.3.5)
+abbrev pub AreLineages : Option Content → Sprung → Type 0
+AreLineages told (OfReference d c index) = IsLined told d × IsLined told c
+AreLineages told (OfPreparation l) = IsLined told l
+
+-- they were made under this configuration (own choice)
+abbrev pub AreOfConfig : Configured → Sprung → Type 0
+AreOfConfig config (OfReference d c index) = (d.config ≡ config) × (c.config ≡ config)
+AreOfConfig config (OfPreparation l) = l.config ≡ config
+
+-- a list is the definitions' of what it was made from (5.4.2, 5.4.3)
+pub record IsListed (told : Option Content) (e : Listed) : Type 0 where
+  pub lineages : AreLineages told e.origin
+  pub are : AreOf e.origin (needs_of e.needs)
+
+-- the machine's own list for what a list was made from: a preparation's constraints, or the needs of a reference of a recorded
+-- class, which names the class c with its home (5.4.2, 5.4.3)
+abbrev pub IsListOf : World → State → Sprung → List Need → Type 0
+IsListOf w s (OfPreparation l) needs = IsRecorded s l.own.class × (needs ≡ constraints_of (kin_of l))
+IsListOf w s (OfReference d c index) needs =
+    IsRecorded s d.own.class × (home w d.own.class.loader c.own.class.name ≡ Some c.own.class.loader)
+    × ((m : Made Verdict) × IsResolution w d.own.class index m × (needs ≡ m.needs))

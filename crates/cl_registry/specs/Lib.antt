@@ -10,3 +10,4 @@ pub mod Refusals
 pub mod Reports
 pub mod SettlingLaws
 pub mod Tables
+pub mod Traced

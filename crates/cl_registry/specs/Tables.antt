@@ -120,8 +120,20 @@ pub record NamesLoaders (x : Shown) : Type 0 where
   pub settled : All (λ s. VerdictNames (length x.config.loaders) s.verdict) (settlements x.history)
   pub answers : All (λ o. IfSome o (AnswerNames (length x.config.loaders))) x.answers
 
--- what a registry keeps: each class that was defined has its row, whose file its bytes spell, and which stands after those of
--- its direct supertypes (5.3, 5.3.5)
+-- each direct supertype of a class is recorded by a loader as the class that this one defined (5.3; 5.3.5, steps 3 and 4)
+abbrev pub ArePlaced : List Record → ℕ → List Above → List ℕ → Type 0
+ArePlaced records loader [] [] = Unit {0}
+ArePlaced records loader [] (place ∷ places) = ⊥
+ArePlaced records loader (a ∷ above) [] = ⊥
+ArePlaced records loader (a ∷ above) (place ∷ places) =
+    (recorded records loader a.name ≡ Some place) × ArePlaced records loader above places
+
+-- the direct supertypes of a row are recorded by its class's loader (5.3; 5.3.5, steps 3 and 4)
+abbrev pub IsPlaced : List Record → Rowed → Type 0
+IsPlaced records r = ArePlaced records r.class.loader (supers (file_of r.file)) r.places
+
+-- what a registry keeps: each class that was defined has its row, whose file its bytes spell, whose direct supertypes are recorded
+-- by its loader, and which stands after those (5.3, 5.3.5)
 pub record IsKept (told : Option Content) (x : Shown) : Type 0 where
   pub trusted : IsTrusted x
   pub named : NamesLoaders x
@@ -129,6 +141,7 @@ pub record IsKept (told : Option Content) (x : Shown) : Type 0 where
   pub rows : map (λ r. r.class) x.rows ≡ defined x.history
   pub spelt : All (λ r. IsSpelt told r.class r.file) x.rows
   pub order : AreRows told x.config x.rows
+  pub placed : AllByRecursion (IsPlaced (records_of x)) x.rows
 
 -- ---- rows
 

@@ -1,2 +1,2 @@
 #include <stdlib.h>
-unsigned char stub_never(void) { abort(); }
+unsigned char registry_stub_never(void) { abort(); }

@@ -12,6 +12,7 @@ use crate::report::{Answers, History, Report};
 use crate::rounds::{collect, counts_of, rooms_for, to_come};
 use crate::tables::{References, Rows, empty_rows, find};
 use cl_config::{Config, Script};
+use cl_findings::Finding;
 use cl_constraints::{ConstraintBook, GroupedBook};
 use cl_delegation::Home;
 use cl_findings::Finding;

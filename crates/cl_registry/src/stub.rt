@@ -1,7 +1,7 @@
 //! In place of bodies that are not written yet.
 
 unsafe extern "C" {
-    safe fn registry_stub_never() -> u8
+    safe fn stub_never() -> u32
         ensures { ⊥ };
 }
 
@@ -9,5 +9,5 @@ unsafe extern "C" {
 pub(crate) fn never()
     ensures { ⊥ }
 {
-    let _ = registry_stub_never();
+    let _ = stub_never();
 }

@@ -1,8 +1,14 @@
+pub mod Allowed
+pub mod Asked
 pub mod Calm
 pub mod Counts
 pub mod Histories
+pub mod Kept
 pub mod Linked
+pub mod Looked
+pub mod Named
 pub mod Placed
 pub mod Referenced
+pub mod Running
 pub mod Settled
 pub mod Steps

@@ -7,13 +7,15 @@ mod fits;
 mod imposing;
 pub mod laws;
 mod lineages;
-mod posts;
+mod posting;
 mod recording;
 mod references;
 pub mod registry;
 pub mod report;
 mod rounds;
+mod settling;
 pub mod settling_laws;
+mod standing;
 mod stub;
 mod tables;
 

@@ -2,6 +2,7 @@ pub mod Allowed
 pub mod Asked
 pub mod Calm
 pub mod Counts
+pub mod Entered
 pub mod Histories
 pub mod Kept
 pub mod Linked

@@ -1,6 +1,8 @@
 pub mod Allowed
 pub mod Asked
+pub mod Binding
 pub mod Calm
+pub mod Cited
 pub mod Counts
 pub mod Histories
 pub mod Kept

@@ -41,6 +41,9 @@ module _ {Q R : Type 0} (now : Q → R) (value : R → Rowed) (told : Option Con
   pub found_none : (o : Option Q) → option_map now o ≡ at → o ≡ None → LacksRecord x l n
   found_none o e f = looked_lacks told x l n k (sym (ap (λ (p : Option Q). option_map value (option_map now p)) (sym f) ∙ ap (option_map value) e ∙ is))
 
+  pub found_row : (o : Option Q) → option_map now o ≡ at → option_map (λ r. value (now r)) o ≡ looked x l n
+  found_row o e = sym (map_map now value o) ∙ ap (option_map value) e ∙ is
+
   pub found_some : (o : Option Q) (r : Q) → option_map now o ≡ at → o ≡ Some r → looked x l n ≡ Some (value (now r))
   found_some o r e f = sym is ∙ ap (option_map value) (sym e) ∙ ap (λ (p : Option Q). option_map value (option_map now p)) f
 

@@ -12,5 +12,6 @@ pub mod Named
 pub mod Placed
 pub mod Referenced
 pub mod Running
+pub mod Schedules
 pub mod Settled
 pub mod Steps

@@ -1,5 +1,6 @@
 pub mod Allowed
 pub mod Asked
+pub mod Bearing
 pub mod Binding
 pub mod Calm
 pub mod Cited
@@ -15,3 +16,4 @@ pub mod Running
 pub mod Schedules
 pub mod Settled
 pub mod Steps
+pub mod Verdicts

@@ -1,6 +1,9 @@
 pub mod Allowed
 pub mod Asked
+pub mod Bearing
+pub mod Binding
 pub mod Calm
+pub mod Cited
 pub mod Counts
 pub mod Entered
 pub mod Histories
@@ -14,3 +17,4 @@ pub mod Running
 pub mod Schedules
 pub mod Settled
 pub mod Steps
+pub mod Verdicts

@@ -70,7 +70,7 @@ impl<T: Told> Registry<T> {
         };
         let left = to_come(self.left, self.round, self.script.rounds());
         let seed = self.config.seed();
-        match bind(
+        let bound = match bind(
             alloc,
             &mut self.references,
             &mut self.history,
@@ -78,9 +78,10 @@ impl<T: Told> Registry<T> {
             seed,
             settled,
         ) {
-            Ok(settled) => Ok(settled),
-            Err(_) => Err(RegistryFault::Memory),
-        }
+            Ok(bound) => bound,
+            Err(_) => return Err(RegistryFault::Memory),
+        };
+        Ok(bound)
     }
 
     /// The class whose entry a request resolves, as its loader has recorded it, and the index of the entry.

@@ -20,4 +20,5 @@ pub mod Running
 pub mod Schedules
 pub mod Settled
 pub mod Steps
+pub mod Tested
 pub mod Verdicts

@@ -1,8 +1,13 @@
 -- What tests of lists and of tables tell.
-use Rattle.std.proofs.Common.{◌≡◌, ◌≢◌, ◌∙◌, ◌<◌, ◌≤◌, ◌+◌, ℕ, zero, suc, Bool, true, false, List, [], ◌∷◌, length, take, Option, Some, None, refl, sym, ap, subst, arith, add-one, get_or, map}
+use Rattle.std.proofs.Common.{◌≡◌, ◌≢◌, ◌∙◌, ◌<◌, ◌≤◌, ◌+◌, ℕ, zero, suc, Bool, true, false, List, [], ◌∷◌, ◌++◌, if◌then◌else◌, length, take, Option, Some, None, refl, sym, ap, subst, arith, add-one, get_or, map}
 use Rattle.std.specs.Prelude.{slice_get, IfSome, MatchBool, Contains}
-use Rattle.std.specs.List.{AllByRecursion}
+use Rattle.std.specs.List.{AllByRecursion, list_any}
+use Rattle.cl_model.specs.declared.class.Class.{Class}
 use Rattle.cl_model.specs.declared.need.Equality.{Equality}
+use Rattle.cl_model.specs.Classes.{same_class}
+use Rattle.cl_model.proofs.Complete.{is_class}
+use Rattle.std.proofs.lemmas.Map.Views.{Contains-from_any}
+use Rattle.indexmap.specs.IndexSet.{insert_key}
 use Rattle.cl_model.specs.States.{State, Met, AllMet}
 use Rattle.cl_hierarchy.specs.Imposed.{equal_need, needs_of}
 
@@ -31,3 +36,13 @@ pub needs_taken : (es : List Equality) (i : ℕ) → take i (needs_of es) ≡ ne
 needs_taken es zero = refl
 needs_taken [] (suc i) = refl
 needs_taken (x ∷ es) (suc i) = ap (λ ns. equal_need x ∷ ns) (needs_taken es i)
+
+-- ---- prepared classes
+
+-- a class that is not there goes last
+pub insert_new : (keys : List Class) (c : Class) → (Contains keys c → ⊥) → insert_key same_class keys c ≡ keys ++ c ∷ []
+insert_new keys c absent = by_test (list_any (same_class c) keys) refl
+  where
+    by_test : (b : Bool) → list_any (same_class c) keys ≡ b → (if b then keys else keys ++ c ∷ []) ≡ keys ++ c ∷ []
+    by_test true e = absurd (absent (Contains-from_any (λ x y h. is_class x y h) c keys e))
+    by_test false e = refl

@@ -159,3 +159,7 @@ met_constrain x e =
   where
     equality : states.Equality
     equality = record { name = e.name; one = e.one; other = e.other }
+
+-- the class that was marked is prepared
+pub prepared_more : (x : Shown) (c : Class) → Contains (state_of (with_prepare x c)).prepared c
+prepared_more x c = subst (λ (s : State). Contains s.prepared c) (sym (state_prepare x c)) (Contains-push (state_of x).prepared c)

@@ -4,12 +4,18 @@ use Rattle.std.specs.Prelude.{slice_get, IfSome, MatchBool, Contains}
 use Rattle.std.specs.List.{AllByRecursion, list_any}
 use Rattle.cl_model.specs.declared.class.Class.{Class}
 use Rattle.cl_model.specs.declared.need.Equality.{Equality}
-use Rattle.cl_model.specs.Classes.{same_class}
+use Rattle.cl_classfile.specs.Files.{file_of}
+use Rattle.cl_findings.specs.Findings.{Decides}
+use Rattle.cl_model.specs.Classes.{class, Above, class_accessible, same_class, supers}
 use Rattle.cl_model.proofs.Complete.{is_class}
 use Rattle.std.proofs.lemmas.Map.Views.{Contains-from_any}
 use Rattle.indexmap.specs.IndexSet.{insert_key}
-use Rattle.cl_model.specs.States.{State, Met, AllMet}
-use Rattle.cl_hierarchy.specs.Imposed.{equal_need, needs_of}
+use Rattle.cl_model.specs.States.{State, Met, AllMet, recorded}
+use Rattle.cl_hierarchy.specs.Imposed.{Listed, equal_need, needs_of}
+use Rattle.cl_hierarchy.specs.Lineages.{Lined}
+use Rattle.cl_hierarchy.specs.Rows.{Rowed}
+use Rattle.cl_registry.specs.Imposing.{IsPreparedAbove, IsReached, IsReady, IsStanding, MayImpose, StandsFor}
+use Rattle.cl_registry.specs.Tables.{Shown, LacksRecord, Records, records_of, state_of}
 
 -- ---- equalities that are met
 
@@ -46,3 +52,72 @@ insert_new keys c absent = by_test (list_any (same_class c) keys) refl
     by_test : (b : Bool) → list_any (same_class c) keys ≡ b → (if b then keys else keys ++ c ∷ []) ≡ keys ++ c ∷ []
     by_test true e = absurd (absent (Contains-from_any (λ x y h. is_class x y h) c keys e))
     by_test false e = refl
+
+-- ---- what a list was made from
+
+-- the class of a lineage of this configuration is recorded
+pub standing_at : (x : Shown) (l : Lined) (k : Class) (b : Bool) (at : ℕ → List ℕ → Option ℕ) → k ≡ l.own.class → l.config ≡ x.config → ((i : ℕ) (n : List ℕ) → at i n ≡ recorded (records_of x) i n)
+    → Decides b (at k.loader k.name ≡ Some k.loader) → Decides b (IsStanding x l)
+standing_at x l k true at is config same h = record { config = config; recorded = subst (λ (c : Class). recorded (records_of x) c.loader c.name ≡ Some c.loader) is (sym (same k.loader k.name) ∙ h) }
+standing_at x l k false at is config same h = λ stands. h (same k.loader k.name ∙ subst (λ (c : Class). recorded (records_of x) c.loader c.name ≡ Some c.loader) (sym is) stands.recorded)
+
+-- the class of another is another than the one that is recorded
+pub not_reached : (x : Shown) (d c : Lined) (m k : Class) (at : ℕ → List ℕ → Option ℕ) → m ≡ d.own.class → k ≡ c.own.class → ((i : ℕ) (n : List ℕ) → at i n ≡ recorded (records_of x) i n) → (at m.loader k.name ≡ Some k.loader → ⊥) → IsReached x d c → ⊥
+not_reached x d c m k at e f same none r =
+    none (same m.loader k.name ∙ subst (λ (i : ℕ). recorded (records_of x) i k.name ≡ Some k.loader) (sym (ap (λ (z : Class). z.loader) e)) (subst (λ (z : Class). recorded (records_of x) d.own.class.loader z.name ≡ Some z.loader) (sym f) r.recorded))
+
+-- or it is that one, and accessible or not
+pub reached_at : (x : Shown) (d c : Lined) (m k from : Class) (row : Rowed) (b : Bool) (at : ℕ → List ℕ → Option ℕ) → m ≡ d.own.class → k ≡ c.own.class → c.config ≡ x.config → ((i : ℕ) (n : List ℕ) → at i n ≡ recorded (records_of x) i n)
+    → at m.loader k.name ≡ Some k.loader → row ≡ c.own → from ≡ d.own.class → b ≡ class_accessible (file_of row.file).flags row.class from → Decides b (IsReached x d c)
+reached_at x d c m k from row b at e f config same found is to told = by_test b (told ∙ ap (λ (r : Rowed). class_accessible (file_of r.file).flags r.class from) is ∙ ap (λ (z : Class). class_accessible (file_of c.own.file).flags c.own.class z) to)
+  where
+    there : recorded (records_of x) d.own.class.loader c.own.class.name ≡ Some c.own.class.loader
+    there = subst (λ (z : Class). recorded (records_of x) d.own.class.loader z.name ≡ Some z.loader) f (subst (λ (z : Class). recorded (records_of x) z.loader k.name ≡ Some k.loader) e (sym (same m.loader k.name) ∙ found))
+
+    by_test : (t : Bool) → t ≡ class_accessible (file_of c.own.file).flags c.own.class d.own.class → Decides t (IsReached x d c)
+    by_test true g = record { config = config; recorded = there; accessible = sym g }
+    by_test false g = λ r. let h : false ≡ true = g ∙ r.accessible in absurd cc
+
+-- both halves of what a reference was made from
+pub both_stand : (x : Shown) (d c : Lined) (b : Bool) → IsStanding x d → Decides b (IsReached x d c) → Decides b (IsStanding x d × IsReached x d c)
+both_stand x d c true one h = (one, h)
+both_stand x d c false one h = λ two. h two.1
+
+-- an equality of a list may be imposed
+pub impose_by : (x : Shown) (e : Listed) (k : ℕ) (b : Bool) → StandsFor x e.origin → k < length e.needs → Decides b (AllMet (state_of x) (needs_of (take k e.needs))) → Decides b (MayImpose x e k)
+impose_by x e k true stands within h = record { stands = stands; within = within; earlier = subst (AllMet (state_of x)) (sym (needs_taken e.needs k)) h }
+impose_by x e k false stands within h = λ may. h (subst (AllMet (state_of x)) (needs_taken e.needs k) may.earlier)
+
+-- a class may be prepared
+pub ready_by : (x : Shown) (l : Lined) (needs : List Equality) (b : Bool) → IsStanding x l → AllByRecursion (IsPreparedAbove x l.own.class) (supers (file_of l.own.file)) → Decides b (AllMet (state_of x) (needs_of needs)) → Decides b (IsReady x l (needs_of needs))
+ready_by x l needs true stands above h = record { stands = stands; above = above; imposed = h }
+ready_by x l needs false stands above h = λ ready. h ready.imposed
+
+-- ---- direct supertypes
+
+-- the supertype that was looked up is prepared, if it is
+pub above_by : (x : Shown) (c : Class) (a : Above) (row : Rowed) (b : Bool) → Records x c.loader a.name row → Decides b (Contains (state_of x).prepared row.class) → Decides b (IsPreparedAbove x c a)
+above_by x c a row true r h = record { place = row.class.loader; recorded = r.recorded; prepared = subst (λ (n : List ℕ). Contains (state_of x).prepared (class n row.class.loader)) r.named h }
+above_by x c a row false r h =
+    λ p.
+    let same : row.class.loader ≡ p.place = place_is row.class.loader p.place (sym r.recorded ∙ p.recorded) in
+    h (subst (λ (d : Class). Contains (state_of x).prepared d) (ap (λ (n : List ℕ). class n p.place) (sym r.named) ∙ ap (λ (q : ℕ). class row.class.name q) (sym same)) p.prepared)
+  where
+    place_is : (p q : ℕ) → Some p ≡ Some q → p ≡ q
+    place_is p q e = cc
+
+pub above_none : (x : Shown) (c : Class) (a : Above) → LacksRecord x c.loader a.name → IsPreparedAbove x c a → ⊥
+above_none x c a none p = no_record _ p.place none p.recorded
+  where
+    no_record : (o : Option ℕ) (q : ℕ) → o ≡ None → o ≡ Some q → ⊥
+    no_record o q e f = cc
+
+-- what holds of each that there is holds of all
+pub each_above : (P : Above → Type 0) (xs : List Above) → ((k : ℕ) → k < length xs → IfSome (slice_get xs k) P) → AllByRecursion P xs
+each_above P [] all = tt
+each_above P (x ∷ xs) all = (all 0 (omega arith), each_above P xs (λ k h. all (suc k) (omega arith)))
+
+pub above_at : (P : Above → Type 0) (xs : List Above) (k : ℕ) → AllByRecursion P xs → IfSome (slice_get xs k) P
+above_at P [] k all = tt
+above_at P (x ∷ xs) zero all = all.0
+above_at P (x ∷ xs) (suc k) all = above_at P xs k all.1

@@ -12,7 +12,11 @@ returns-then-not-has_lineage-clause-stands g c =
     (λ two. c.if-not-has_lineage.ensures.stands (subst (λ (l : Lined). IsStanding c.args.self.now l) (sym c.deref.ensures) two.0))
 
 pub returns-else-not-has_lineage-clause-stands : goal.returns-else-not-has_lineage-clause-stands
-returns-else-not-has_lineage-clause-stands g c = ?
+returns-else-not-has_lineage-clause-stands g c =
+    rw c.in-Reference.is
+    (both_stand c.args.self.now c.in-Reference.d.value c.in-Reference.c.value c.reaches.result (subst (λ (l : Lined). IsStanding c.args.self.now l) c.deref.ensures c.if-not-has_lineage.ensures.stands)
+    (subst (λ (l : Lined). Decides c.reaches.result (IsReached c.args.self.now c.in-Reference.d.value l)) c.deref-in-Reference-2.ensures
+    (subst (λ (l : Lined). Decides c.reaches.result (IsReached c.args.self.now l c.deref-in-Reference-2.result.now)) c.deref-in-Reference.ensures c.reaches.ensures.reached)))
 
 pub returns-in-Preparation-clause-stands : goal.returns-in-Preparation-clause-stands
 returns-in-Preparation-clause-stands g c =

@@ -1,4 +1,4 @@
-use Rattle.std.proofs.Common.{◌≡◌, ◌<◌, ℕ, arith, length}
+use Rattle.std.proofs.Common.{◌≡◌, ◌∙◌, ◌<◌, ◌≤◌, ℕ, ap, sym, arith, length}
 use Rattle.cl_classfile.specs.Files.{file_of}
 use Rattle.cl_model.specs.Classes.{supers}
 use Rattle.cl_registry.specs.Imposing.{IsPreparedAbove}
@@ -12,6 +12,6 @@ returns-then-not-super_prepared g c =
 pub returns : goal.returns
 returns g c =
     let each = c.places-at-end.ensures.each in
-    let same = c.places-at-end.ensures.places in
+    let long : length (supers (file_of c.args.row.now.file)) ≡ length c.places-at-end.result.now = sym each ∙ sym (ap length c.places-at-end.ensures.places) in
     let out = c.loop-at-test.false in
-    each_above (IsPreparedAbove c.args.self.now c.args.row.now.class) (supers (file_of c.args.row.now.file)) (λ k h. c.loop-at.invariant k ?)
+    each_above (IsPreparedAbove c.args.self.now c.args.row.now.class) (supers (file_of c.args.row.now.file)) (λ k h. c.loop-at.invariant k (omega arith))

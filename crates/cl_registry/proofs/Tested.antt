@@ -1,5 +1,5 @@
 -- What tests of lists and of tables tell.
-use Rattle.std.proofs.Common.{◌≡◌, ◌≢◌, ◌∙◌, ◌<◌, ◌≤◌, ◌+◌, ℕ, zero, suc, Bool, true, false, List, [], ◌∷◌, ◌++◌, if◌then◌else◌, length, take, Option, Some, None, refl, sym, ap, subst, arith, add-one, get_or, map}
+use Rattle.std.proofs.Common.{◌≡◌, ◌≢◌, ◌∙◌, ◌<◌, ◌≤◌, ◌+◌, ℕ, zero, suc, Bool, true, false, List, [], ◌∷◌, ◌++◌, if◌then◌else◌, length, take, Option, Some, None, inl, inr, refl, sym, ap, subst, arith, add-one, get_or, map}
 use Rattle.std.specs.Prelude.{slice_get, IfSome, MatchBool, Contains}
 use Rattle.std.specs.List.{AllByRecursion, list_any}
 use Rattle.cl_model.specs.declared.class.Class.{Class}
@@ -10,12 +10,15 @@ use Rattle.cl_model.specs.Classes.{class, Above, class_accessible, same_class, s
 use Rattle.cl_model.proofs.Complete.{is_class}
 use Rattle.std.proofs.lemmas.Map.Views.{Contains-from_any}
 use Rattle.indexmap.specs.IndexSet.{insert_key}
-use Rattle.cl_model.specs.States.{State, Met, AllMet, recorded}
-use Rattle.cl_hierarchy.specs.Imposed.{Listed, equal_need, needs_of}
+use Rattle.cl_model.specs.States.{State, Need, Met, AllMet, Refused, recorded}
+use Rattle.cl_hierarchy.specs.Imposed.{Listed, Sprung, OfPreparation, equal_need, needs_of}
 use Rattle.cl_hierarchy.specs.Lineages.{Lined}
 use Rattle.cl_hierarchy.specs.Rows.{Rowed}
-use Rattle.cl_registry.specs.Imposing.{IsPreparedAbove, IsReached, IsReady, IsStanding, MayImpose, StandsFor}
-use Rattle.cl_registry.specs.Tables.{Shown, LacksRecord, Records, records_of, state_of}
+use Rattle.cl_model.specs.Content.{Content}
+use Rattle.std.proofs.lemmas.Option.{slice_get_read}
+use Rattle.cl_registry.proofs.Constrained.{marked_is_allowed}
+use Rattle.cl_registry.specs.Imposing.{Constrains, Imposes, IsListed, IsNextOf, IsPreparedBy, MayPrepareAs, with_constrain, IsPreparedAbove, IsReached, IsReady, IsStanding, MayImpose, StandsFor}
+use Rattle.cl_registry.specs.Tables.{Shown, IsKept, LacksRecord, Records, records_of, state_of}
 
 -- ---- equalities that are met
 
@@ -121,3 +124,30 @@ pub above_at : (P : Above → Type 0) (xs : List Above) (k : ℕ) → AllByRecur
 above_at P [] k all = tt
 above_at P (x ∷ xs) zero all = all.0
 above_at P (x ∷ xs) (suc k) all = above_at P xs k all.1
+
+-- ---- an equality of a list
+
+-- the one that was read stands at its place
+pub read_at : (xs ys : List Equality) (i : ℕ) (n : Equality) → xs ≡ ys → i < length ys → n ≡ get_or xs i n → slice_get ys i ≡ Some n
+read_at xs ys i n same h e = slice_get_read ys (length ys) i n refl h (e ∙ ap (λ (zs : List Equality). get_or zs i n) same)
+
+pub next_of : (P : Need → Type 0) (e : Listed) (k : ℕ) (n : Equality) → slice_get e.needs k ≡ Some n → P (equal_need n) → IsNextOf e k P
+next_of P e k n at h = subst (λ (o : Option Equality). IfSome o (λ m. P (equal_need m))) (sym at) h
+
+pub imposes_old : (x : Shown) (e : Listed) (k : ℕ) (n : Equality) → slice_get e.needs k ≡ Some n → Met (state_of x) (equal_need n) → Imposes x x e k
+imposes_old x e k n at met = subst (λ (o : Option Equality). IfSome o (Constrains x x)) (sym at) (inl (met, refl))
+
+pub imposes_new : (x y : Shown) (e : Listed) (k : ℕ) (n : Equality) → slice_get e.needs k ≡ Some n → (Met (state_of x) (equal_need n) → ⊥) → (Refused (state_of x) (equal_need n) → ⊥) → y ≡ with_constrain x n → Imposes x y e k
+imposes_new x y e k n at unmet free is = subst (λ (o : Option Equality). IfSome o (Constrains x y)) (sym at) (inr (unmet, free, is))
+
+-- ---- a preparation
+
+-- what may be marked the machine may prepare, where a content is told
+pub marks_as : (told : Option Content) (x : Shown) (e : Listed) (l : Lined) (c : Class) → OfPreparation l ≡ e.origin → c ≡ l.own.class → IsKept told x → IsListed told e → IsReady x l (needs_of e.needs) → (Contains (state_of x).prepared c → ⊥) → MayPrepareAs told x c
+marks_as None x e l c is own kept listed ready free = tt
+marks_as (Some content) x e l c is own kept listed ready free =
+    subst (λ (k : Class). MayPrepareAs (Some content) x k) (sym own)
+    (marked_is_allowed content x l e.needs kept (subst (λ (o : Sprung). IsListed (Some content) (record { needs = e.needs; origin = o })) (sym is) listed) ready (subst (λ (k : Class). Contains (state_of x).prepared k → ⊥) own free))
+
+pub prepared_by : (x : Shown) (o : Sprung) (l : Lined) (c : Class) → OfPreparation l ≡ o → c ≡ l.own.class → Contains (state_of x).prepared c → IsPreparedBy x o
+prepared_by x o l c is own h = subst (λ (p : Sprung). IsPreparedBy x p) is (subst (λ (k : Class). Contains (state_of x).prepared k) own h)

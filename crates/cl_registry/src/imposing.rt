@@ -192,6 +192,8 @@ impl<T: Told> Registry<T> {
         ensures unchanged { IfErr result (λ fault. self.new ≡ self.old) }
         ensures kept { IsKept T.told self.new }
     {
+        // brings what the registry keeps
+        let _ = &self.config;
         keeps(list);
         let Origin::Preparation { lineage } = list.origin() else {
             return Err(RegistryFault::Stray);

@@ -11,6 +11,8 @@ pub mod Linked
 pub mod Looked
 pub mod Named
 pub mod Placed
+pub mod Posted
+pub mod Posts
 pub mod Referenced
 pub mod Running
 pub mod Schedules

@@ -2,8 +2,6 @@
 
 ghost use Rattle.cl_registry.specs.SettlingLaws.{PreparedComes, SettledIsAllowed, SettledIsTold, SettledStays, UnsettledIsTold};
 
-use cl_findings::laws::standing_answers;
-
 /// What a history tells to be settled is so in the linkage machine, and nothing else is (JVMS SE 8, 5.4.3).
 pub fn settled_is_told()
     ensures settled { SettledIsTold }
@@ -23,6 +21,4 @@ pub fn prepared_comes()
 /// What a finding settles, where the entry is not settled, may be settled by the linkage machine (JVMS SE 8, 5.4.3).
 pub fn settled_is_allowed()
     ensures { SettledIsAllowed }
-{
-    standing_answers();
-}
+{}

@@ -5,6 +5,7 @@ pub mod Binding
 pub mod Calm
 pub mod Cited
 pub mod Counts
+pub mod Entered
 pub mod Histories
 pub mod Kept
 pub mod Linked

@@ -1,6 +1,6 @@
 -- What a registry keeps goes on by a reference that is settled.
-use Rattle.std.proofs.Common.{◌≡◌, ◌≢◌, ◌∙◌, ◌≤◌, ◌+◌, ◌-◌, ℕ, List, [], ◌∷◌, ◌++◌, Option, Some, None, refl, sym, ap, subst, Bool, true, false, if◌then◌else◌, length}
-use Rattle.std.specs.Prelude.{◌==◌, ◌&&◌, All, option_and_then, option_map}
+use Rattle.std.proofs.Common.{◌≡◌, ◌≢◌, ◌∙◌, ◌≤◌, ◌+◌, ◌-◌, ℕ, List, Option, Some, None, refl, sym, ap, subst, Bool, true, false, if◌then◌else◌, length}
+use Rattle.std.specs.Prelude.{◌==◌, ◌&&◌, option_and_then, option_map}
 use Rattle.std.specs.declared.alloc.Global.{Global}
 use Rattle.std.specs.declared.sync.Arc.{Arc}
 use Rattle.std.proofs.lemmas.Cmp.{nat_eq_equiv}
@@ -9,7 +9,6 @@ use Rattle.cl_classfile.specs.Files.{Name}
 use Rattle.cl_model.specs.declared.class.Class.{Class}
 use Rattle.cl_model.specs.declared.event.Event.{Event}
 use Rattle.cl_model.specs.declared.event.Event.TheVariants as events
-use Rattle.cl_model.specs.declared.answer.Answer.TheVariants as answers
 use Rattle.cl_model.specs.declared.request.Request.{Request}
 use Rattle.cl_model.specs.declared.request.Request.TheVariants as requests
 use Rattle.cl_model.specs.declared.settled.Settled.{Settled}
@@ -23,7 +22,7 @@ use Rattle.cl_model.specs.States as states
 use Rattle.cl_model.specs.Machine.{Setting, Settle, after, May}
 use Rattle.cl_model.specs.Machine as machine
 use Rattle.cl_model.specs.Tables.{MayKeep}
-use Rattle.cl_model.specs.Views.{answers_of, step_of, verdict_of}
+use Rattle.cl_model.specs.Views.{verdict_of}
 use Rattle.cl_model.proofs.Ancestors.{same_self}
 use Rattle.cl_model.proofs.Sound.{runs_are_sound}
 use Rattle.cl_model.proofs.Tables.{trusted_is_consistent}
@@ -31,14 +30,15 @@ use Rattle.cl_config.specs.Loaders.{schedule_of}
 use Rattle.cl_delegation.specs.Worlds.{setting_of}
 use Rattle.cl_hierarchy.specs.Rows.{Rowed}
 use Rattle.cl_constraints.specs.Books.{IsBookOf}
-use Rattle.cl_findings.specs.Findings.{Answered, Rests, Stands}
+use Rattle.cl_findings.specs.Findings.{Answered, Based, BasisStands, Rests, Stands}
 use Rattle.cl_findings.proofs.Answered.{standing_settles}
 use Rattle.cl_registry.specs.Kept.{Fields, IsRegistry}
-use Rattle.cl_registry.specs.Tables.{Shown, steps, state_of, records_of, round_of, settlements, settled_at, looked, row_of, IsKept}
-use Rattle.cl_registry.specs.References.{Cited, cited_by, settled_by, AddsSettled, IsReferencePut, IsSettledIn}
-use Rattle.cl_registry.specs.Settling.{Says, IsToSettle, AddsSettle, with_settle, Settles, SettledAs}
+use Rattle.cl_registry.specs.Tables.{Shown, steps, state_of, settlements, settled_at, looked, row_of, IsKept}
+use Rattle.cl_registry.specs.References.{Cited, cited_by, settled_by, AddsSettled, IsReferencePut}
+use Rattle.cl_registry.specs.Settling.{Says, IsToSettle, with_settle, Settles, SettledAs}
+use Rattle.cl_registry.specs.SettlingLaws.{AllowedIsSettled, OtherFindingIsStray}
 use Rattle.cl_registry.proofs.Cited.{IsCitedBy, cited_is, settled_cited}
-use Rattle.cl_registry.proofs.Kept.{HasRoom, IsFine, book_event, kept_event, kept_failed, moved, registry_event, rows_same, same_rounds, state_event, with_event, step_by}
+use Rattle.cl_registry.proofs.Kept.{HasRoom, IsFine, book_event, kept_event, moved, registry_event, rows_same, same_rounds, state_event}
 use Rattle.cl_registry.proofs.Settled.{settled_more, settled_is_told, unsettled_is_told}
 
 -- ---- the verdicts that are settled
@@ -205,3 +205,29 @@ bound x f s v history free to adds is =
     let shown : settled_by y f.request ≡ Some s = ap (λ (h : List Event). settled_by (record x { history = h }) f.request) adds.more ∙ here ∙ ap (λ (t : Settled). Some t) adds.value in
     let done : Settles x y f s = subst (λ (o : Option Settled). SettledAs x y f s o) (sym free) (to, record { shared = adds.shared; value = adds.value; more = ap (λ (h : List Event). record x { history = h }) adds.more }) in
     (subst (λ (t : Settled). Settles x y f t) (sym is) done, shown ∙ ap (λ (t : Settled). Some t) (sym is))
+
+-- ---- what the machine allows
+
+lacks_some : {A : Type 0} (o : Option A) (v : A) → o ≡ None → o ≡ Some v → ⊥
+lacks_some o v e f = cc
+
+-- where an entry is not settled by the machine, it is not settled
+unsettled_by : (x : Shown) (c : Class) (i : ℕ) → settled_to (state_of x).settled c i ≡ None → settled_at x c i ≡ None
+unsettled_by x c i none = at (settled_at x c i) refl
+  where
+    at : (o : Option Settled) → settled_at x c i ≡ o → settled_at x c i ≡ None
+    at None e = e
+    at (Some s) e = absurd (lacks_some (settled_to (state_of x).settled c i) (verdict_of s.verdict) none (settled_is_told x c i s e).verdict)
+
+pub allowed_is_settled : AllowedIsSettled
+allowed_is_settled content x f s k cited said stands may = (
+  settled_cited x f.request (record { class = s.class; index = s.index }) cited ∙ unsettled_by x s.class s.index may.unsettled,
+  record {
+    cited = cited;
+    says = record { said = said; is_entry = λ e. may.is_entry (ap verdict_of e); is_class_member = λ e. may.is_class_member (ap verdict_of e) };
+    stands = stands;
+  },
+)
+
+pub other_finding_is_stray : OtherFindingIsStray
+other_finding_is_stray x f b based other free = (free, λ may. other (subst (λ (o : Option Based). BasisStands x.config (state_of x) o) based may.1.stands.basis).config)

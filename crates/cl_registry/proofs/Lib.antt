@@ -1,5 +1,6 @@
 pub mod Allowed
 pub mod Asked
+pub mod Backed
 pub mod Bearing
 pub mod Binding
 pub mod Calm

@@ -1,4 +1,4 @@
-use Rattle.std.proofs.Common.{◌≡◌, ◌∙◌, ◌+◌, ◌-◌, ℕ, Option, Some, None, map, ap, sym, subst, refl}
+use Rattle.std.proofs.Common.{◌≡◌, ◌∙◌, ◌+◌, ◌-◌, ℕ, Some, None, map, ap, sym, subst, refl}
 use Rattle.cl_model.specs.declared.request.Request.{Request}
 use Rattle.cl_model.specs.declared.settled.Settled.{Settled}
 use Rattle.cl_registry.specs.References.{settled_by, IsSettledIn}
@@ -6,7 +6,6 @@ use Rattle.cl_registry.specs.Settling.{IsToSettle, Settles}
 use Rattle.cl_registry.specs.Tables.{Shown}
 use Rattle.cl_registry.proofs.Binding.{bound, registry_bound}
 use Rattle.cl_registry.proofs.Cited.{settled_by_in}
-use Rattle.cl_registry.proofs.Kept.{kept_failed}
 use Rattle.cl_registry.proofs.registry.Registry.settle.Goals as goal
 use Rattle.cl_registry.proofs.registry.Registry.settle.Goals.{in-Ok, in-Err}
 

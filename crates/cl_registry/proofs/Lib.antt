@@ -8,6 +8,7 @@ pub mod Cited
 pub mod Counts
 pub mod Entered
 pub mod Histories
+pub mod Imposable
 pub mod Kept
 pub mod Linked
 pub mod Looked

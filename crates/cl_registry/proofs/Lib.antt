@@ -5,10 +5,12 @@ pub mod Bearing
 pub mod Binding
 pub mod Calm
 pub mod Cited
+pub mod Constrained
 pub mod Counts
 pub mod Entered
+pub mod Equated
 pub mod Histories
-pub mod Imposable
+pub mod Imposed
 pub mod Kept
 pub mod Linked
 pub mod Looked

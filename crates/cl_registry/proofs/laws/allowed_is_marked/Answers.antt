@@ -1,4 +1,4 @@
-use Rattle.cl_registry.proofs.Imposable.{allowed_is_marked}
+use Rattle.cl_registry.proofs.Constrained.{allowed_is_marked}
 use Rattle.cl_registry.proofs.laws.allowed_is_marked.Goals as goal
 
 pub returns : goal.returns

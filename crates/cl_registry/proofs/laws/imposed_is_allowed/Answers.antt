@@ -1,4 +1,4 @@
-use Rattle.cl_registry.proofs.Imposable.{imposed_is_allowed}
+use Rattle.cl_registry.proofs.Constrained.{imposed_is_allowed}
 use Rattle.cl_registry.proofs.laws.imposed_is_allowed.Goals as goal
 
 pub returns : goal.returns

@@ -1,4 +1,4 @@
-use Rattle.cl_registry.proofs.Imposable.{marked_is_allowed}
+use Rattle.cl_registry.proofs.Constrained.{marked_is_allowed}
 use Rattle.cl_registry.proofs.laws.marked_is_allowed.Goals as goal
 
 pub returns : goal.returns

@@ -8,11 +8,13 @@ pub mod Cited
 pub mod Constrained
 pub mod Counts
 pub mod Entered
+pub mod LoadNeeds
 pub mod Equated
 pub mod Histories
 pub mod Imposed
 pub mod Kept
 pub mod Linked
+pub mod Listed
 pub mod Looked
 pub mod Named
 pub mod Placed

@@ -25,4 +25,5 @@ pub mod Running
 pub mod Schedules
 pub mod Settled
 pub mod Steps
+pub mod Tracing
 pub mod Verdicts

@@ -1,5 +1,5 @@
 -- Which loaders the equalities of a reference or of a preparation name: those of the classes of the lineages (JVMS SE 8, 5.3.4, 5.4.2, 5.4.3).
-use Rattle.std.proofs.Common.{◌≡◌, ◌∙◌, ℕ, Bool, true, false, cond, if◌then◌else◌, List, [], ◌∷◌, ◌++◌, map, Option, Some, None, Result, Ok, Err, inl, inr, refl, sym, ap, subst, is_some}
+use Rattle.std.proofs.Common.{◌≡◌, ◌∙◌, ℕ, zero, suc, Bool, true, false, cond, if◌then◌else◌, List, [], ◌∷◌, ◌++◌, map, Option, Some, None, Result, Ok, Err, inl, inr, refl, sym, ap, subst, is_some}
 use Rattle.std.specs.Prelude.{nat_le, filter, find, flat_map, IfSome, slice_get}
 use Rattle.std.specs.Option.{option_or}
 use Rattle.std.specs.List.{AllByRecursion}
@@ -13,7 +13,7 @@ use Rattle.cl_model.specs.States.{Need, Entry, Equal, Verdict, IsField, IsMethod
 use Rattle.cl_model.specs.Works.{Work, Made, done, fail, need, or_fail, unless_wrong, ◌>>=◌}
 use Rattle.cl_model.specs.Plans.{class_verdict, flags_of, resolve_found, resolve_field, resolve_method}
 use Rattle.cl_model.specs.References.{resolve_in}
-use Rattle.cl_model.proofs.Bind.{pieces, some_same}
+use Rattle.cl_model.proofs.Bind.{pieces, some_same, ok_same, ok_not_err}
 use Rattle.cl_hierarchy.specs.Imposed.{AreOf, AreOfReference, Sprung, OfReference, OfPreparation, equal_need, needs_of}
 use Rattle.cl_hierarchy.specs.Lineages.{Lined, IsWithin, kin_of, rows_in}
 use Rattle.cl_hierarchy.specs.Rows.{Rowed}
@@ -95,10 +95,11 @@ module _ (P : ℕ → Type 0) where
   pre Bare wanted h = tt
   pre (Tree c f sup ints others) wanted h =
       let k : Kin = record { class = c; file = f; superclass = sup; interfaces = ints } in
-      both (HasAll P) (if wanted then k ∷ [] else []) (preorder ints true ++ preorder sup false ++ preorder others wanted)
-      (either (HasAll P) wanted (k ∷ []) [] (record { own = h.0; superclass = h.1; interfaces = h.2 }, tt) tt)
-      (both (HasAll P) (preorder ints true) (preorder sup false ++ preorder others wanted) (pre ints true h.2)
-      (both (HasAll P) (preorder sup false) (preorder others wanted) (pre sup false h.1) (pre others wanted h.3)))
+      let own : List Kin = if wanted then k ∷ [] else [] in
+      both (HasAll P) (own ++ preorder ints true ++ preorder sup false) (preorder others wanted)
+      (both (HasAll P) (own ++ preorder ints true) (preorder sup false)
+      (both (HasAll P) own (preorder ints true) (either (HasAll P) wanted (k ∷ []) [] (record { own = h.0; superclass = h.1; interfaces = h.2 }, tt) tt) (pre ints true h.2)) (pre sup false h.1))
+      (pre others wanted h.3)
 
   once_each : (seen : List Class) (ks : List Kin) → AllByRecursion (HasAll P) ks → AllByRecursion (HasAll P) (once_after seen ks)
   once_each seen [] h = tt
@@ -192,14 +193,8 @@ module _ (P : ℕ → Type 0) where
 
   -- what a work that fails or not ends in
   ends_in : {A : Type 0} (e : Error) (o : Option A) (m : Made A) (a : A) → or_fail e o ≡ Some m → m.ends ≡ Ok a → o ≡ Some a
-  ends_in e None m a h k = let same = some_same _ m h in absurd (no_end (ap (λ (x : Made _). x.ends) same ∙ k))
-    where
-      no_end : Err e ≡ Ok a → ⊥
-      no_end g = cc
-  ends_in e (Some b) m a h k = let same = some_same _ m h in ap (λ x. Some x) (ok_is (ap (λ (x : Made _). x.ends) same ∙ k))
-    where
-      ok_is : Ok {E = Error} b ≡ Ok a → b ≡ a
-      ok_is g = cc
+  ends_in e None m a h k = let same = some_same _ m h in absurd (ok_not_err a e m.ends k (sym (ap (λ (x : Made _). x.ends) same)))
+  ends_in e (Some b) m a h k = let same = some_same _ m h in ap (λ x. Some x) (ok_same b a m.ends (sym (ap (λ (x : Made _). x.ends) same)) k)
 
   some_has : (o : Option Kin) (k : Kin) → IfSome o (HasAll P) → o ≡ Some k → HasAll P k
   some_has o k h e = subst (λ (p : Option Kin). IfSome p (HasAll P)) e h

@@ -12,6 +12,8 @@ use Rattle.cl_model.specs.declared.settled.Settled.{Settled}
 use Rattle.cl_model.specs.Content.{Content}
 use Rattle.cl_model.specs.Classes.{class}
 use Rattle.cl_model.specs.Texts.{EqualityNames}
+use Rattle.std.proofs.lemmas.List.Elements.{Contains-push}
+use Rattle.cl_model.specs.States as states
 use Rattle.cl_model.specs.States.{State, Need, Equal, Met, Refused, AllMet, IsRecorded, Joined, recorded}
 use Rattle.cl_model.specs.Machine.{Constrain, Prepare, after, May}
 use Rattle.cl_config.specs.Views.{Configured}
@@ -149,3 +151,15 @@ impose_refused x e k n Stray may at r = absurd r
 impose_refused x e k n (Violates m) may at r = (may, subst (λ (o : Option Equality). IfSome o (λ q. Blames x m (equal_need q))) (sym at) r)
 impose_refused x e k n AlreadyPosted may at r = r
 impose_refused x e k n NotYet may at r = r
+
+-- the equality that was added is met
+pub met_constrain : (x : Shown) (e : Equality) → Met (state_of (with_constrain x e)) (equal_need e)
+met_constrain x e =
+    subst (λ (s : State). Met s (equal_need e)) (sym (state_constrain x e)) (record { path = e.other ∷ []; along = (record { equality = equality; imposed = Contains-push (state_of x).equalities equality; named = refl; ends = inl (refl, refl) }, refl) })
+  where
+    equality : states.Equality
+    equality = record { name = e.name; one = e.one; other = e.other }
+
+-- the class that was marked is prepared
+pub prepared_more : (x : Shown) (c : Class) → Contains (state_of (with_prepare x c)).prepared c
+prepared_more x c = subst (λ (s : State). Contains s.prepared c) (sym (state_prepare x c)) (Contains-push (state_of x).prepared c)

@@ -8,13 +8,13 @@ pub mod Cited
 pub mod Constrained
 pub mod Counts
 pub mod Entered
-pub mod LoadNeeds
 pub mod Equated
 pub mod Histories
 pub mod Imposed
 pub mod Kept
 pub mod Linked
 pub mod Listed
+pub mod LoadNeeds
 pub mod Looked
 pub mod Named
 pub mod Placed
@@ -25,5 +25,6 @@ pub mod Running
 pub mod Schedules
 pub mod Settled
 pub mod Steps
+pub mod Tested
 pub mod Tracing
 pub mod Verdicts

@@ -43,8 +43,8 @@ fn keeps<T: Told>(list: &Equalities<T>)
 }
 
 /// Whether each of these equalities is met.
-fn are_joined(book: &GroupedBook, equalities: &[Equality]) -> bool
-    ensures { TellsOf (⟦<GroupedBook as ConstraintBook>⟧.stands_for book.now) result (λ s. AllMet s (needs_of equalities.now)) }
+fn are_joined<B: ConstraintBook>(book: &B, equalities: &[Equality]) -> bool
+    ensures { TellsOf (B.stands_for book.now) result (λ s. AllMet s (needs_of equalities.now)) }
 {
     for equality in equalities {
         if !book.joined(&equality.name, equality.one, equality.other) {

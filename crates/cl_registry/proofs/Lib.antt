@@ -1,5 +1,6 @@
 pub mod Allowed
 pub mod Asked
+pub mod Backed
 pub mod Bearing
 pub mod Binding
 pub mod Calm
@@ -12,13 +13,18 @@ pub mod Histories
 pub mod Imposed
 pub mod Kept
 pub mod Linked
+pub mod Listed
+pub mod LoadNeeds
 pub mod Looked
 pub mod Named
 pub mod Placed
+pub mod Posted
+pub mod Posts
 pub mod Referenced
 pub mod Running
 pub mod Schedules
 pub mod Settled
 pub mod Steps
 pub mod Tested
+pub mod Tracing
 pub mod Verdicts

@@ -1,8 +1,6 @@
 //! Laws of what a registry accepts, each the contract of a function that does nothing.
 ghost use Rattle.cl_registry.specs.Allowed.{AllowedIsEntered, AllowedIsImposed, AllowedIsJoined, AllowedIsMarked, EnteredIsAllowed, FittingIsAllowed, ImposedIsAllowed, JoinedIsAllowed, MarkedIsAllowed, OtherConfigIsStray, RecordedIsNamed, RoundIsAllowed};
 
-use crate::stub::never;
-
 /// A class that the linkage machine may define has no record and may be entered: `define` refuses it for memory alone.
 pub fn allowed_is_entered()
     ensures { AllowedIsEntered }
@@ -32,9 +30,7 @@ pub fn imposed_is_allowed()
 /// for memory.
 pub fn allowed_is_imposed()
     ensures { AllowedIsImposed }
-{
-    never()
-}
+{}
 
 /// A class that may be marked, and is not prepared, may be prepared by the linkage machine.
 pub fn marked_is_allowed()
@@ -49,9 +45,7 @@ pub fn allowed_is_marked()
 /// An answer that fits and rests on the content may be posted by the linkage machine.
 pub fn fitting_is_allowed()
     ensures { FittingIsAllowed }
-{
-    never()
-}
+{}
 
 /// Where the next round may begin, the linkage machine may go on.
 pub fn round_is_allowed()

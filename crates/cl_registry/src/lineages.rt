@@ -10,7 +10,6 @@ ghost use Rattle.cl_registry.specs.Tables.{IsKept, row_of, state_of};
 ghost use Rattle.cl_registry.specs.Traced.{IsTraced};
 
 use crate::registry::{Registry, RegistryFault};
-use crate::tables::find;
 use cl_hierarchy::{ClassRow, Lineage, LineageFault, RowTable};
 use cl_model::{Class, LoaderId, Told};
 use cl_names::Name;
@@ -61,10 +60,13 @@ impl<T: Told> Registry<T> {
     fn defined_row(&self, loader: LoaderId, name: &Name) -> Option<&Arc<ClassRow<T>>>
         ensures { option_map (λ r. r.now.value) result ≡ row_of self.now.rows (class name.now loader) }
     {
-        let row = find(&self.tables, loader, name)?;
-        if row.class().loader != loader {
-            return None;
+        let row = match self.look(loader, name) {
+            Some(row) => row,
+            None => return None,
+        };
+        if row.class().loader == loader {
+            return Some(row);
         }
-        Some(row)
+        None
     }
 }

@@ -19,7 +19,7 @@ ghost use Rattle.cl_registry.specs.Tables.{IsKept, state_of};
 
 use crate::registry::{Registry, RegistryFault};
 use crate::rounds::to_come;
-use crate::tables::place;
+use crate::tables::has;
 use cl_constraints::{BookFault, ConstraintBook, GroupedBook, Refusal};
 use cl_hierarchy::{ClassRow, Equalities, Lineage, Origin, class_accessible};
 use cl_model::{Class, Equality, Event, Need, Told};
@@ -157,7 +157,10 @@ impl<T: Told> Registry<T> {
         }
         keeps(list);
         let equality = &list.needs()[place];
-        if self.book.joined(&equality.name, equality.one, equality.other) {
+        if self
+            .book
+            .joined(&equality.name, equality.one, equality.other)
+        {
             return Ok(());
         }
         let Ok(name) = equality.name.try_clone(alloc) else {
@@ -192,6 +195,8 @@ impl<T: Told> Registry<T> {
         ensures unchanged { IfErr result (λ fault. self.new ≡ self.old) }
         ensures kept { IsKept T.told self.new }
     {
+        // brings what the registry keeps
+        let _ = &self.config;
         keeps(list);
         let Origin::Preparation { lineage } = list.origin() else {
             return Err(RegistryFault::Stray);
@@ -214,7 +219,10 @@ impl<T: Told> Registry<T> {
         ensures may { Decides result (MayImpose self.now list.now place) }
         ensures kept { IsKept T.told self.now }
     {
-        if !self.has_origin(list.origin()) || place >= list.needs().len() {
+        if !self.has_origin(list.origin()) {
+            return false;
+        }
+        if place >= list.needs().len() {
             return false;
         }
         are_joined(&self.book, &list.needs()[..place])
@@ -226,7 +234,12 @@ impl<T: Told> Registry<T> {
         ensures kept { IsKept T.told self.now }
     {
         match origin {
-            Origin::Reference { d, c, index: _ } => self.has_lineage(d) && self.reaches(d, c),
+            Origin::Reference { d, c, index: _ } => {
+                if !self.has_lineage(d) {
+                    return false;
+                }
+                self.reaches(d, c)
+            }
             Origin::Preparation { lineage } => self.has_lineage(lineage),
         }
     }
@@ -237,8 +250,10 @@ impl<T: Told> Registry<T> {
         ensures kept { IsKept T.told self.now }
     {
         let class = lineage.class();
-        lineage.config().is_same(&self.config)
-            && place(&self.tables, class.loader, &class.name) == Some(class.loader)
+        if !lineage.config().is_same(&self.config) {
+            return false;
+        }
+        has(&self.tables, class.loader, &class.name, class.loader)
     }
 
     /// Whether the class of c is the one that the loader of d's class has recorded for its name, and is accessible to d
@@ -248,9 +263,13 @@ impl<T: Told> Registry<T> {
         ensures kept { IsKept T.told self.now }
     {
         let class = c.class();
-        c.config().is_same(&self.config)
-            && place(&self.tables, d.class().loader, &class.name) == Some(class.loader)
-            && class_accessible(c.own(), d.class())
+        if !c.config().is_same(&self.config) {
+            return false;
+        }
+        if !has(&self.tables, d.class().loader, &class.name, class.loader) {
+            return false;
+        }
+        class_accessible(c.own(), d.class())
     }
 
     /// Whether the class of a lineage may be prepared, whose preparation asks for these equalities.
@@ -258,9 +277,13 @@ impl<T: Told> Registry<T> {
         ensures ready { Decides result (IsReady self.now lineage.now (needs_of equalities.now)) }
         ensures kept { IsKept T.told self.now }
     {
-        self.has_lineage(lineage)
-            && self.supers_prepared(lineage.own())
-            && are_joined(&self.book, equalities)
+        if !self.has_lineage(lineage) {
+            return false;
+        }
+        if !self.supers_prepared(lineage.own()) {
+            return false;
+        }
+        are_joined(&self.book, equalities)
     }
 
     /// Whether the direct supertypes of a class are prepared, as its loader has recorded them.

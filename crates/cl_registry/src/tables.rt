@@ -1,7 +1,8 @@
 //! The tables of a registry, as plain maps.
 
-ghost use Rattle.std.specs.Prelude.{◌≡◌, ℕ, List, ◌<◌, None, IfOk, OnOk, length};
+ghost use Rattle.std.specs.Prelude.{◌≡◌, ℕ, List, ◌<◌, None, Some, IfOk, OnOk, length};
 ghost use Rattle.std.specs.Option.{option_map};
+ghost use Rattle.cl_findings.specs.Findings.{Decides};
 ghost use Rattle.cl_registry.specs.Parts.{HasSameRows, HasSpare, IsPut};
 ghost use Rattle.cl_registry.specs.Tables.{row_at};
 
@@ -77,4 +78,11 @@ pub fn place<T: Told>(tables: &Rows<T>, loader: LoaderId, name: &Name) -> Option
         None => None,
         Some(row) => Some(row.class().loader),
     }
+}
+
+/// Whether a loader has recorded the class of a name that this loader defined.
+pub fn has<T: Told>(tables: &Rows<T>, loader: LoaderId, name: &Name, home: LoaderId) -> bool
+    ensures { Decides result (option_map (λ r. r.value.class.loader) (row_at tables.now.items loader name.now) ≡ Some home) }
+{
+    place(tables, loader, name) == Some(home)
 }

@@ -5,3 +5,5 @@ pub mod Facts
 pub mod Turns
 pub mod Follows
 pub mod Stages
+pub mod Steps
+pub mod Ends

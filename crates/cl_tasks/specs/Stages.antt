@@ -12,7 +12,7 @@ use Rattle.cl_model.specs.Frames.{Frame, class_named}
 use Rattle.cl_model.specs.States.{Need, Entry}
 use Rattle.cl_config.specs.Views.{Configured}
 use Rattle.cl_delegation.specs.Searches.{Searched, Located, next_of, route_of}
-use Rattle.cl_hierarchy.specs.Frames.{Framed}
+use Rattle.cl_hierarchy.specs.Frames.{Framed, frame_of}
 use Rattle.cl_hierarchy.specs.Imposed.{Listed, Sprung, OfPreparation, OfReference, needs_of}
 use Rattle.cl_hierarchy.specs.Lineages.{Lined, kin_of, rows_in}
 use Rattle.cl_hierarchy.specs.Paths.{Pathed, at_loader, at_name, frames_of, is_on}
@@ -73,14 +73,18 @@ at_work c w phase probes j = record {
   left = past_left j.target + left_at phase (frames_of j.path) probes;
 }
 
--- what contracts see of a load
+-- the record of a class by its home (5.3)
+abbrev pub home_need : Located → Need
+home_need h = Entry h.place h.name h.place
+
+-- what contracts see of a load; a class that is being recorded is the last of those that are derived
 abbrev pub loading_at : {A : Type 0} → Configured → Load A → Tasked
 loading_at c (loads.Fresh j) = at_work c waits.Beginning Fresh 0 j
 loading_at c (loads.Looking j) = at_work c (waits.Looking (at_loader j.path) (at_name j.path)) Looking 0 j
 loading_at c (loads.Searching j s) = at_work c (waits.Reading (next_place s) (at_name j.path)) Reading (probes_left s) j
 loading_at c (loads.Homing j h) = at_work c (waits.Looking h.place (at_name j.path)) Homing 0 j
-loading_at c (loads.Defining j x) = at_work c (waits.Defining x.draft) Defining 0 j
-loading_at c (loads.Initiating j h) = at_work c (waits.Initiating h.value) Initiating 0 j
+loading_at c (loads.Defining j x) = record (at_work c (waits.Defining x.draft) Defining 0 j) { frames = frames_of j.path ++ frame_of x ∷ [] }
+loading_at c (loads.Initiating j h) = record (at_work c (waits.Initiating h.value) Initiating 0 j) { facts = Stands (home_need h.value) ∷ target_facts j.request j.target }
 
 -- ---- resolutions
 

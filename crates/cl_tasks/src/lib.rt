@@ -1,6 +1,8 @@
 //! A request as a task: turn by turn, to its answer.
 #![tactic(auto)]
 
+mod ends;
+mod leads;
 mod stage;
 mod step;
 mod stub;

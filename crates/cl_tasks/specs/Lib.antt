@@ -7,3 +7,7 @@ pub mod Follows
 pub mod Stages
 pub mod Steps
 pub mod Ends
+pub mod Reaching
+pub mod Cited
+pub mod Resolving
+pub mod Linking

@@ -1,5 +1,5 @@
 -- What a step of a task leads to, and what it rests on (JVMS SE 8, 5.3 to 5.4.3).
-use Rattle.std.specs.Prelude.{◌≡◌, ◌≢◌, ◌<◌, ◌≤◌, ◌+◌, ◌-◌, ◌++◌, ◌∷◌, ℕ, List, [], length, Option, Some, None, IfSome}
+use Rattle.std.specs.Prelude.{◌≡◌, ◌≢◌, ◌⊎◌, ◌<◌, ◌≤◌, ◌+◌, ◌-◌, ◌++◌, ◌∷◌, ℕ, List, [], length, Option, Some, None, IfSome}
 use Rattle.cl_model.specs.declared.answer.Answer.TheVariants as answers
 use Rattle.cl_model.specs.declared.class.Class.{Class}
 use Rattle.cl_model.specs.declared.request.Request.{Request}
@@ -22,13 +22,14 @@ use Rattle.cl_findings.specs.declared.load.Obstacle.TheVariants as obstacles
 use Rattle.cl_findings.specs.Findings.{Answered, Based, Rests}
 use Rattle.cl_registry.specs.Tables.{Shown}
 use Rattle.cl_tasks.specs.Facts.{AllHave, AreSo, Holds, IsRecordedAs}
-use Rattle.cl_tasks.specs.Follows.{BackedWhere, FollowsWhere, NoFault, Tells, TellsNow}
+use Rattle.cl_tasks.specs.Follows.{BackedWhere, EndsRefused, FollowsWhere, NoFault, Refuses, Tells, TellsNow, refusal}
 use Rattle.cl_tasks.specs.Measures.{Phase, Reading, left_at}
 use Rattle.cl_tasks.specs.Stages.{IsStage, load_of, past_left, probes_left, target_facts, task_at}
 use Rattle.cl_tasks.specs.Tasks.{Tasked, begun}
-use Rattle.cl_tasks.specs.Turns.{Asks, Serves}
+use Rattle.cl_tasks.specs.Turns.{AnswersOwn, Asks, ReadsUnrecorded, Serves}
 use Rattle.cl_tasks.specs.declared.stage.Entry as entries
 use Rattle.cl_tasks.specs.declared.stage.Job.{Job}
+use Rattle.cl_tasks.specs.declared.stage.Load.TheVariants as loads
 use Rattle.cl_tasks.specs.declared.stage.Next.{Next}
 use Rattle.cl_tasks.specs.declared.stage.Stage.{Stage}
 use Rattle.cl_tasks.specs.declared.stage.Stage.TheVariants as stages
@@ -140,3 +141,22 @@ IsPlain other = Unit {0}
 -- memory ran out (own choice)
 abbrev pub memory_ends : {A : Type 0} → ℕ → Request → Next A
 memory_ends q r = record { stage = stages.Done q; turn = turn.Post (record { request = r; answer = answers.Memory; basis = None }) }
+
+-- a class is being recorded, whose frame is kept, or memory ran out (5.3.5, step 5; own choice)
+abbrev pub DefinesBy : {A : Type 0} → Job A → Framed → Next A → Type 0
+DefinesBy j whole n =
+    (n ≡ memory_ends j.q j.request) ⊎ (n ≡ record { stage = stages.Load (loads.Defining j whole); turn = turn.Define whole.draft })
+
+-- what is looked for is looked up where it is asked for, or memory ran out (5.3)
+abbrev pub LooksBy : {A : Type 0} → Job A → Stage A → Turn A → Type 0
+LooksBy j s (turn.Look l n) = s ≡ stages.Load (loads.Looking j)
+LooksBy j s (turn.Post f) = f.answer ≡ answers.Memory
+LooksBy j s other = ⊥
+
+-- what a task does on a reply: it leads on, and refusals, reads and its own class are dealt with as they are to be (5.3 to 5.4.3)
+pub record Steps {A : Type 0} (told : Option Content) (t : Tasked) (reply : Reply A) (n : Next A) : Type 0 where
+  pub leads : StepsOn told t reply n
+  pub refused : Refuses (refusal t reply) n.turn
+  pub linkage : EndsRefused t.request reply n.turn
+  pub reads : ReadsUnrecorded reply n.turn
+  pub own : AnswersOwn t (task_at t.config n.stage) reply n.turn

@@ -82,6 +82,14 @@ SettleRefusedFor x f (Violates n) = ⊥
 SettleRefusedFor x f AlreadyPosted = ⊥
 SettleRefusedFor x f NotYet = ⊥
 
+-- a finding that settles something is refused for memory alone, another is strayed (5.4.3)
+abbrev pub BindRefusedFor : Shown → Answered → RegistryFault → Type 0
+BindRefusedFor x f Memory = MaySettle x f
+BindRefusedFor x f Stray = MaySettle x f → ⊥
+BindRefusedFor x f (Violates n) = ⊥
+BindRefusedFor x f AlreadyPosted = ⊥
+BindRefusedFor x f NotYet = ⊥
+
 -- an answer is strayed where the request is another, or where what it rests on is not in the tables; between the two it is
 -- told that the request is of a later round, or has an answer (own choice)
 abbrev pub PostRefusedFor : Shown → ℕ → Answered → RegistryFault → Type 0

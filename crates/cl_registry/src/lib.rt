@@ -15,6 +15,7 @@ pub mod report;
 mod rounds;
 mod settling;
 pub mod settling_laws;
+mod standing;
 mod stub;
 mod tables;
 

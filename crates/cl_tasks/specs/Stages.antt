@@ -196,6 +196,7 @@ pub record IsJob {A : Type 0} (told : Option Content) (c : Configured) (j : Job 
   pub for_request : IsFor j.request j.target j.path
   pub config : j.path.config ≡ c
   pub asked : loader_of j.request < length c.loaders
+  pub root : j.path.loader < length c.loaders
   pub loader : at_loader j.path < length c.loaders
 
 -- the search is for what is looked for, and has another loader to ask (5.3.2)

@@ -13,7 +13,7 @@ use Rattle.cl_model.specs.Content.{Content}
 use Rattle.cl_model.specs.States.{State, Need, Entry, recorded, settled_to, IsRecorded, Met, MayAdd, Refused}
 use Rattle.cl_model.specs.Machine.{Setting, Settle, Prepare, IsSound, step_for}
 use Rattle.cl_model.specs.Service.{ComesTo, IsNextNeed, IsNextStep}
-use Rattle.cl_model.specs.Tables.{Records}
+use Rattle.cl_model.specs.Tables.{IsConsistent, Records}
 use Rattle.cl_model.specs.Views.{need_of, request_of, verdict_of}
 use Rattle.cl_source.specs.declared.source.SourceFault.{SourceFault}
 use Rattle.cl_source.specs.declared.source.SourceFault.TheVariants as faults
@@ -86,9 +86,9 @@ Backed x (turn.Mark e) = MayMark x e.value
 Backed x (turn.Post f) = IsBacked x f
 Backed x other = Unit {0}
 
--- the tables of this configuration, which name its loaders alone, bear a turn wherever what the task was told holds of them (5.3)
+-- the tables of this configuration, which are consistent and name its loaders alone, bear a turn wherever what the task was told holds of them (5.3)
 abbrev pub BackedWhere : {A : Type 0} → Configured → (Shown → Type 0) → Turn A → Type 0
-BackedWhere c holds t = (x : Shown) → x.config ≡ c → NamesLoaders x → holds x → Backed x t
+BackedWhere c holds t = (x : Shown) → x.config ≡ c → NamesLoaders x → IsConsistent (state_of x) → holds x → Backed x t
 
 -- ---- the plan, where the source tells a content
 

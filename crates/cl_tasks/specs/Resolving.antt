@@ -5,12 +5,14 @@ use Rattle.std.specs.declared.sync.Arc.{Arc}
 use Rattle.cl_classfile.specs.Files.{Reference, ToClass, file_of, reference}
 use Rattle.cl_model.specs.declared.class.Class.{Class}
 use Rattle.cl_model.specs.declared.settled.Settled.{Settled}
+use Rattle.cl_model.specs.declared.verdict.ErrorKind.TheVariants as kinds
 use Rattle.cl_model.specs.declared.verdict.Verdict as verdict
 use Rattle.cl_model.specs.declared.verdict.Verdict.TheVariants as verdicts
 use Rattle.cl_model.specs.Classes.{class_accessible}
 use Rattle.cl_model.specs.Frames.{class_named}
 use Rattle.cl_model.specs.States.{Need, Refused}
 use Rattle.cl_model.specs.Views.{verdict_of}
+use Rattle.cl_config.specs.Views.{Configured}
 use Rattle.cl_hierarchy.specs.Lineages.{Lined}
 use Rattle.cl_hierarchy.specs.Rows.{Rowed}
 use Rattle.cl_findings.specs.Findings.{IsSettledFor}
@@ -21,6 +23,7 @@ use Rattle.cl_registry.specs.Traced.{IsTraced}
 use Rattle.cl_tasks.specs.Facts.{AreSo}
 use Rattle.cl_tasks.specs.Stages.{entry_facts, imposed_facts, member_facts, named_facts}
 use Rattle.cl_tasks.specs.Tasks.{HasLineage}
+use Rattle.cl_tasks.specs.declared.member.Inaccessible.{Inaccessible}
 use Rattle.cl_tasks.specs.declared.stage.Entry as entries
 use Rattle.cl_tasks.specs.declared.stage.Member.{Member}
 
@@ -109,3 +112,10 @@ pub record IsRefusedAccess {A : Type 0} (e : entries.Entry A) (own named : Lined
   pub found : reference (file_of own.own.file) e.index ≡ Some cited
   pub names : class_named cited ≡ Some named.own.class.name
   pub refused : class_accessible (file_of named.own.file).flags named.own.class own.own.class ≡ false
+
+-- the IllegalAccessError of the class of one lineage, with the rows of both (5.4.4)
+pub record IsInaccessible {A : Type 0} (config : Configured) (own named : Lined) (end : Inaccessible A) : Type 0 where
+  pub config_is : end.config.value ≡ config
+  pub own_is : end.d.value ≡ own.own
+  pub named_is : end.named.value ≡ named.own
+  pub verdict_is : end.verdict ≡ verdicts.Error kinds.IllegalAccessError named.own.class

@@ -20,6 +20,7 @@ use Rattle.cl_hierarchy.specs.Rows.{Rowed}
 use Rattle.cl_findings.specs.declared.load.Target.{Target}
 use Rattle.cl_findings.specs.declared.load.Target.TheVariants as targets
 use Rattle.cl_findings.specs.Findings.{Answered, Based, IsWithin, Rests, loader_of, name_of}
+use Rattle.cl_findings.specs.Bases.{IsSpeltIn}
 use Rattle.cl_findings.specs.Loads.{IsFor, IsSought, IsWhole, Resolves}
 use Rattle.cl_findings.specs.References.{AreLinked, GoesTo, class_need, reference_needs}
 use Rattle.cl_tasks.specs.Measures.{Phase, Fresh, Looking, Reading, Homing, Defining, Initiating, left_at, named_left, own_left, checking_left, reference_left, tracing_own_left, tracing_named_left, imposing_left, settling_left, prepared_left, whole_left, chain_left, linking_left}
@@ -188,8 +189,9 @@ task_at c (stages.Done q) = done_at c q
 
 -- ---- what each stage keeps
 
--- the path is the request's under this configuration, whose loaders it names (5.3)
-pub record IsJob {A : Type 0} (c : Configured) (j : Job A) : Type 0 where
+-- the path is the request's under this configuration, whose loaders it names; what it loads was named by a class whose bytes spell its file (5.3)
+pub record IsJob {A : Type 0} (told : Option Content) (c : Configured) (j : Job A) : Type 0 where
+  pub spelt : IsSpeltIn told j.target
   pub for_request : IsFor j.request j.target j.path
   pub config : j.path.config ≡ c
   pub asked : loader_of j.request < length c.loaders
@@ -210,12 +212,12 @@ pub record IsHoming {A : Type 0} (j : Job A) (h : Located) : Type 0 where
 
 -- what a load keeps (5.3, 5.3.5)
 abbrev pub IsLoading : {A : Type 0} → Option Content → Configured → Load A → Type 0
-IsLoading told c (loads.Fresh j) = IsJob c j
-IsLoading told c (loads.Looking j) = IsJob c j
-IsLoading told c (loads.Searching j s) = IsJob c j × IsSearch j s
-IsLoading told c (loads.Homing j h) = IsJob c j × IsHoming j h
-IsLoading told c (loads.Defining j x) = IsJob c j × IsWhole told j.path x
-IsLoading told c (loads.Initiating j h) = IsJob c j × IsSought j.path h.value × (h.value.place ≢ at_loader j.path)
+IsLoading told c (loads.Fresh j) = IsJob told c j
+IsLoading told c (loads.Looking j) = IsJob told c j
+IsLoading told c (loads.Searching j s) = IsJob told c j × IsSearch j s
+IsLoading told c (loads.Homing j h) = IsJob told c j × IsHoming j h
+IsLoading told c (loads.Defining j x) = IsJob told c j × IsWhole told j.path x
+IsLoading told c (loads.Initiating j h) = IsJob told c j × IsSought j.path h.value × (h.value.place ≢ at_loader j.path)
 
 -- the same request, but to load its class alone (5.3)
 abbrev pub load_of : Request → Request

@@ -7,9 +7,11 @@ ghost use Rattle.cl_hierarchy.specs.Frames.{frame_of};
 ghost use Rattle.cl_hierarchy.specs.Paths.{at_loader, at_name, fresh, is_on, misfit_under};
 ghost use Rattle.cl_model.specs.Classes.{class, supers};
 ghost use Rattle.cl_model.specs.Frames.{wanted};
+ghost use Rattle.cl_tasks.specs.Ends.{IsOwnTarget};
 ghost use Rattle.cl_tasks.specs.Measures.{Fresh, Homing, Defining, Initiating, most};
 ghost use Rattle.cl_tasks.specs.Stages.{IsJob};
 ghost use Rattle.cl_tasks.specs.Steps.{DefinesBy, Finds, FindsBy, HoldsOn, IsMisfit, IsPlain, LeadsAt, LooksBy};
+ghost use Rattle.cl_tasks.specs.Turns.{GoesOnWith};
 
 use crate::ends::obstacle;
 use crate::leads::out_of_memory;
@@ -26,7 +28,7 @@ use std::sync::Arc;
 
 /// Looks up what the path is at.
 pub(crate) fn look<T: Told>(alloc: Global, job: Job<T>) -> Next<T>
-    requires job { IsJob job.path.config job }
+    requires job { IsJob T.told job.path.config job }
     ensures leads { LeadsAt T.told Fresh job (HoldsOn job) result }
     ensures looks { LooksBy job result.stage result.turn }
     ensures plain { IsPlain result.turn }
@@ -45,7 +47,7 @@ pub(crate) fn look<T: Told>(alloc: Global, job: Job<T>) -> Next<T>
 
 /// Derives what is looked for from the bytes of its home.
 pub(crate) fn derive<T: Told>(alloc: Global, job: Job<T>, home: Home<T>) -> Next<T>
-    requires job { IsJob job.path.config job }
+    requires job { IsJob T.told job.path.config job }
     requires home { IsSought job.path home }
     requires off { is_on job.path (class home.name home.place) ≡ false }
     ensures leads { LeadsAt T.told Homing job (HoldsOn job) result }
@@ -64,7 +66,7 @@ pub(crate) fn derive<T: Told>(alloc: Global, job: Job<T>, home: Home<T>) -> Next
 
 /// The file of what is looked for was read: its direct supertypes come first.
 fn follow_draft<T: Told>(alloc: Global, job: Job<T>, draft: Draft<T>) -> Next<T>
-    requires job { IsJob job.path.config job }
+    requires job { IsJob T.told job.path.config job }
     requires home { IsSought job.path draft.home }
     requires off { is_on job.path draft.class ≡ false }
     ensures leads { LeadsAt T.told Homing job (HoldsOn job) result }
@@ -82,7 +84,7 @@ fn follow_draft<T: Told>(alloc: Global, job: Job<T>, draft: Draft<T>) -> Next<T>
 
 /// What is looked for waits for its first supertype.
 fn descend<T: Told>(alloc: Global, job: Job<T>, draft: Draft<T>) -> Next<T>
-    requires job { IsJob job.path.config job }
+    requires job { IsJob T.told job.path.config job }
     requires home { IsSought job.path draft.home }
     requires off { is_on job.path draft.class ≡ false }
     requires waits { IsSome (wanted (frame_of (fresh draft))) }
@@ -136,7 +138,7 @@ pub(crate) fn take_defined<T: Told>(
     whole: Frame<T>,
     row: Arc<ClassRow<T>>,
 ) -> Next<T>
-    requires job { IsJob config.now.value job }
+    requires job { IsJob T.told config.now.value job }
     requires whole { IsWhole T.told job.path whole }
     ensures leads { LeadsAt T.told Defining job (FindsBy job whole.draft.home row.value) result }
     ensures plain { IsPlain result.turn }
@@ -154,7 +156,7 @@ pub(crate) fn take_defined<T: Told>(
 /// What is looked for is recorded at its home, another loader than the one that was asked: that one is
 /// recorded, too.
 pub(crate) fn initiate<T: Told>(job: Job<T>, home: Arc<Home<T>>, row: &ClassRow<T>) -> Next<T>
-    requires job { IsJob job.path.config job }
+    requires job { IsJob T.told job.path.config job }
     requires home { IsSought job.path home.value }
     requires other { home.value.place ≢ at_loader job.path }
     ensures leads { LeadsAt T.told Defining job (FindsBy job home.value row.now) result }
@@ -185,8 +187,10 @@ pub(crate) fn go_on<T: Told>(
     job: Job<T>,
     row: Arc<ClassRow<T>>,
 ) -> Next<T>
-    requires job { IsJob config.now.value job }
+    requires job { IsJob T.told config.now.value job }
     ensures leads { LeadsAt T.told Initiating job (Finds job row.value) result }
+    ensures own { IsOwnTarget job.target → job.path.frames ≡ []
+        → GoesOnWith job.request row.value.class result.turn }
     ensures plain { IsPlain result.turn }
 {
     // no registry gives a row of another name
@@ -204,7 +208,7 @@ pub(crate) fn go_on<T: Told>(
 
 /// The recorded class does not fit as the supertype that is looked for.
 fn reject<T: Told>(alloc: Global, job: Job<T>, row: Arc<ClassRow<T>>, kind: ErrorKind) -> Next<T>
-    requires job { IsJob job.path.config job }
+    requires job { IsJob T.told job.path.config job }
     requires name { row.value.class.name ≡ at_name job.path }
     requires misfit { IsMisfit job.path row.value kind }
     ensures leads { LeadsAt T.told Initiating job (Finds job row.value) result }
@@ -218,7 +222,7 @@ fn reject<T: Told>(alloc: Global, job: Job<T>, row: Arc<ClassRow<T>>, kind: Erro
 
 /// The class that waits accepts the recorded one as its supertype.
 fn accept<T: Told>(alloc: Global, job: Job<T>, row: &ClassRow<T>) -> Next<T>
-    requires job { IsJob job.path.config job }
+    requires job { IsJob T.told job.path.config job }
     requires waits { job.path.frames ≢ [] }
     requires name { row.now.class.name ≡ at_name job.path }
     requires fits { misfit_under job.path.frames row.now.class (file_of row.now.file) ≡ None }

@@ -1,6 +1,7 @@
 //! What entries of a constant pool ask for (JVMS SE 8, 4.4.1, 4.4.2, 5.4.3).
 
-ghost use Rattle.std.specs.Prelude.{◌≡◌, Some, IfOk, IfSome};
+ghost use Rattle.std.specs.Prelude.{◌≡◌, Some, IfOk, IfSome, true};
+ghost use Rattle.cl_descriptors.specs.declared.types.FieldType as types;
 ghost use Rattle.cl_classfile.specs.Files.{file_of, named_type, reference};
 ghost use Rattle.cl_classfile.specs.Pool.{NamesType};
 ghost use Rattle.cl_model.specs.Plans.{member_target};
@@ -116,7 +117,7 @@ pub(crate) fn itself_of(
 /// Whether a member is asked of the class of this name, which is no array.
 fn is_of(alloc: Global, text: &Name, name: &Name) -> Result<bool, AllocError>
     requires { NamesType text.now }
-    ensures { IfOk result (λ b. b ≡ true → (t : _) → named_type text.now ≡ Some t → member_target t ≡ Some name.now) }
+    ensures { IfOk result (λ b. b ≡ true → (t : types.FieldType) → named_type text.now ≡ Some t → member_target t ≡ Some name.now) }
 {
     Ok(match target_of(named_type(alloc, text)?) {
         Some(target) => target == *name,

@@ -34,7 +34,7 @@ pub(crate) enum Aftermath<T: Told> {
 
 /// What follows where this load does not end with its class.
 fn what_follows<T: Told>(alloc: Global, job: &Job<T>) -> Result<Aftermath<T>, AllocError>
-    requires { IsJob job.now.path.config job.now }
+    requires { IsJob T.told job.now.path.config job.now }
     ensures { IfOk result (IsAftermath job.now) }
 {
     match (&job.target, &job.request) {
@@ -78,7 +78,7 @@ fn conclude<T: Told>(q: u32, aftermath: Aftermath<T>, finding: Finding<T>) -> Ne
 
 /// The derivation is stopped.
 pub(crate) fn obstacle<T: Told>(alloc: Global, job: Job<T>, end: Obstacle<T>) -> Next<T>
-    requires job { IsJob job.path.config job }
+    requires job { IsJob T.told job.path.config job }
     requires stops { Stops job.path end }
     requires within { EndWithin (length job.path.config.loaders) end }
     ensures leads { Leads T.told job (past_left job.target) (EndsOn job end) result }
@@ -108,7 +108,7 @@ pub(crate) fn refuse<T: Told>(
     next: NextRecord<T>,
     need: Need,
 ) -> Next<T>
-    requires job { IsJob job.path.config job }
+    requires job { IsJob T.told job.path.config job }
     requires next { ComesNext T.told job.path next }
     requires need { need_of need ≡ next_need next }
     ensures leads { Leads T.told job (past_left job.target) (RefusedOn job next) result }
@@ -132,7 +132,7 @@ pub(crate) fn refuse<T: Told>(
 
 /// The source refused the read that was next, out of memory or for another cause.
 pub(crate) fn blame_source<T: Told>(job: Job<T>, search: Search<T>, fault: SourceFault) -> Next<T>
-    requires job { IsJob job.path.config job }
+    requires job { IsJob T.told job.path.config job }
     requires search { IsSearch job search }
     ensures leads { Leads T.told job 1 (λ x. Unit {0}) result }
     ensures posts { Posts (fault_answer (loading_at job.path.config (Load.Searching job search)).waits fault) result.turn }

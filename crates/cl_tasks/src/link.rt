@@ -11,7 +11,7 @@ ghost use Rattle.cl_tasks.specs.Follows.{EndsAsRefused};
 ghost use Rattle.cl_tasks.specs.Linking.{ChainTold, DoneTold, LineageTold, ListTold, MarkedTold, PreparedTold, RefusedTold, WholeTold};
 ghost use Rattle.cl_tasks.specs.Measures.{chain_left, linking_left, prepared_left, whole_left};
 ghost use Rattle.cl_tasks.specs.Stages.{IsAtPlace, IsChain, IsGoal, IsOf, behind, class_in, classes_in};
-ghost use Rattle.cl_tasks.specs.Steps.{IsPlain, LeadsBy};
+ghost use Rattle.cl_tasks.specs.Steps.{IsPlain, LeadsBy, memory_ends};
 ghost use Rattle.cl_tasks.specs.Turns.{PostsOr, equality_at};
 
 use crate::leads::{out_of_memory, post};
@@ -64,6 +64,14 @@ fn linked<T: Told>(alloc: Global, config: &Arc<Config>, goal: Goal<T>) -> Next<T
     }
 }
 
+/// Memory ran out.
+pub(crate) fn give_up<T: Told>(chain: Chain<T>) -> Next<T>
+    ensures { result ≡ memory_ends chain.goal.q chain.goal.request }
+{
+    let Chain { goal, .. } = chain;
+    out_of_memory(goal.q, goal.request)
+}
+
 /// The lineage of the class that is linked came: its first class comes next.
 pub(crate) fn take_whole<T: Told>(
     alloc: Global,
@@ -106,7 +114,7 @@ fn trace<T: Told>(alloc: Global, config: &Arc<Config>, chain: Chain<T>) -> Next<
     ensures plain { IsPlain result.turn }
 {
     match class_at(alloc, &chain.whole, chain.place) {
-        Err(_) => out_of_memory(chain.goal.q, chain.goal.request),
+        Err(_) => give_up(chain),
         Ok(class) => Next {
             stage: Stage::Link(Link::Tracing(chain)),
             turn: Turn::Lineage(class),
@@ -128,7 +136,7 @@ pub(crate) fn take_traced<T: Told>(
     ensures plain { IsPlain result.turn }
 {
     match list_of(alloc, &lineage) {
-        Err(_) => out_of_memory(chain.goal.q, chain.goal.request),
+        Err(_) => give_up(chain),
         Ok(list) => impose(alloc, config, chain, list, 0),
     }
 }
@@ -161,7 +169,7 @@ pub(crate) fn impose<T: Told>(
     ensures plain { IsPlain result.turn }
 {
     let Ok(shared) = Arc::try_clone(&list) else {
-        return out_of_memory(chain.goal.q, chain.goal.request);
+        return give_up(chain);
     };
     if place < list.needs().len() {
         Next {

@@ -6,7 +6,9 @@ ghost use Rattle.cl_tasks.specs.Steps.{Steps};
 ghost use Rattle.cl_tasks.specs.Turns.{Expects};
 
 use crate::leads::out_of_memory;
-use crate::link::{impose, refuse_link, take_marked, take_prepared, take_traced, take_whole};
+use crate::link::{
+    give_up, impose, refuse_link, take_marked, take_prepared, take_traced, take_whole,
+};
 use crate::stage::{Chain, Goal, Link, Next};
 use crate::turn::Reply;
 use cl_config::Config;
@@ -64,7 +66,7 @@ pub(crate) fn traced<T: Told>(
 {
     match reply {
         Reply::Lineage(lineage) => take_traced(alloc, config, chain, lineage),
-        Reply::Memory => out_of_memory(chain.goal.q, chain.goal.request),
+        Reply::Memory => give_up(chain),
         _ => unreachable!(),
     }
 }
@@ -89,7 +91,7 @@ pub(crate) fn imposed<T: Told>(
     match reply {
         Reply::Imposed => impose(alloc, config, chain, list, place + 1),
         Reply::Refused(need) => refuse_link(config, chain, list, place, need),
-        Reply::Memory => out_of_memory(chain.goal.q, chain.goal.request),
+        Reply::Memory => give_up(chain),
         _ => unreachable!(),
     }
 }
@@ -109,7 +111,7 @@ pub(crate) fn marked<T: Told>(
 {
     match reply {
         Reply::Marked => take_marked(alloc, config, chain),
-        Reply::Memory => out_of_memory(chain.goal.q, chain.goal.request),
+        Reply::Memory => give_up(chain),
         _ => unreachable!(),
     }
 }

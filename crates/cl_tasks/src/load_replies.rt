@@ -23,7 +23,7 @@ use std::sync::Arc;
 
 /// The first turn.
 pub(crate) fn begin<T: Told>(alloc: Global, job: Job<T>, reply: Reply<T>) -> Next<T>
-    requires job { IsJob job.path.config job }
+    requires job { IsJob T.told job.path.config job }
     requires expects { Expects (loading_at job.path.config (Load.Fresh job)) reply }
     ensures { Steps T.told (loading_at job.path.config (Load.Fresh job)) reply result }
 {
@@ -41,7 +41,7 @@ pub(crate) fn looked<T: Told>(
     job: Job<T>,
     reply: Reply<T>,
 ) -> Next<T>
-    requires job { IsJob config.now.value job }
+    requires job { IsJob T.told config.now.value job }
     requires expects { Expects (loading_at config.now.value (Load.Looking job)) reply }
     ensures { Steps T.told (loading_at config.now.value (Load.Looking job)) reply result }
 {
@@ -64,7 +64,7 @@ pub(crate) fn probed<T: Told>(
     search: Search<T>,
     reply: Reply<T>,
 ) -> Next<T>
-    requires job { IsJob job.path.config job }
+    requires job { IsJob T.told job.path.config job }
     requires search { IsSearch job search }
     requires expects { Expects (loading_at job.path.config (Load.Searching job search)) reply }
     ensures { Steps T.told (loading_at job.path.config (Load.Searching job search)) reply result }
@@ -84,7 +84,7 @@ pub(crate) fn looked_home<T: Told>(
     home: Home<T>,
     reply: Reply<T>,
 ) -> Next<T>
-    requires job { IsJob job.path.config job }
+    requires job { IsJob T.told job.path.config job }
     requires home { IsHoming job home }
     requires expects { Expects (loading_at job.path.config (Load.Homing job home)) reply }
     ensures { Steps T.told (loading_at job.path.config (Load.Homing job home)) reply result }
@@ -104,7 +104,7 @@ pub(crate) fn defined<T: Told>(
     whole: Frame<T>,
     reply: Reply<T>,
 ) -> Next<T>
-    requires job { IsJob config.now.value job }
+    requires job { IsJob T.told config.now.value job }
     requires whole { IsWhole T.told job.path whole }
     requires expects { Expects (loading_at config.now.value (Load.Defining job whole)) reply }
     ensures { Steps T.told (loading_at config.now.value (Load.Defining job whole)) reply result }
@@ -125,7 +125,7 @@ pub(crate) fn initiated<T: Told>(
     home: Arc<Home<T>>,
     reply: Reply<T>,
 ) -> Next<T>
-    requires job { IsJob config.now.value job }
+    requires job { IsJob T.told config.now.value job }
     requires home { IsSought job.path home.value }
     requires other { home.value.place ≢ at_loader job.path }
     requires expects { Expects (loading_at config.now.value (Load.Initiating job home)) reply }

@@ -1,8 +1,9 @@
 //! An entry that asks for a member: lookup, then its loading constraints one by one (JVMS SE 8, 5.4.3.2 to 5.4.3.4).
 
-ghost use Rattle.std.specs.Prelude.{◌≡◌, ◌<◌, ◌≤◌, ◌-◌, Some, IfOk, length};
+ghost use Rattle.std.specs.Prelude.{◌≡◌, ◌<◌, ◌≤◌, ◌+◌, ◌-◌, Some, Err, IfOk, length};
 ghost use Rattle.cl_classfile.specs.Files.{file_of, reference};
 ghost use Rattle.cl_findings.specs.References.{GoesTo, IsOfFound, fault_verdict};
+ghost use Rattle.cl_hierarchy.specs.Imposed.{OfReference};
 ghost use Rattle.cl_hierarchy.specs.Lineages.{kin_of};
 ghost use Rattle.cl_members.specs.Asking.{Answers};
 ghost use Rattle.cl_members.specs.declared.fault.LookupFault.{LookupFault};
@@ -10,9 +11,9 @@ ghost use Rattle.cl_model.specs.Views.{need_of, verdict_of};
 ghost use Rattle.cl_tasks.specs.Cited.{IsKind};
 ghost use Rattle.cl_tasks.specs.Follows.{EndsAsRefused};
 ghost use Rattle.cl_tasks.specs.Measures.{imposing_left, tracing_named_left, tracing_own_left};
-ghost use Rattle.cl_tasks.specs.Resolving.{ImposedTold, NamedTold, OwnTold, RefusedTold, TracedTold};
+ghost use Rattle.cl_tasks.specs.Resolving.{ImposedTold, IsInaccessible, IsRefusedAccess, NamedTold, OwnTold, RefusedTold, TracedTold};
 ghost use Rattle.cl_tasks.specs.Stages.{IsEntry, IsMember, IsOf};
-ghost use Rattle.cl_tasks.specs.Steps.{IsPlain, LeadsBy};
+ghost use Rattle.cl_tasks.specs.Steps.{IsPlain, LeadsBy, memory_ends};
 ghost use Rattle.cl_tasks.specs.Turns.{equality_at};
 
 use crate::cited::{Kind, kind_of};
@@ -22,7 +23,7 @@ use crate::turn::Turn;
 use cl_classfile::Reference;
 use cl_config::Config;
 use cl_findings::Finding;
-use cl_hierarchy::{ClassRow, Lineage, class_accessible};
+use cl_hierarchy::{ClassRow, Equalities, Lineage, class_accessible};
 use cl_members::{
     Found, LookupFault, equalities, find_field, find_interface_method, find_method,
 };
@@ -82,6 +83,33 @@ pub(crate) fn take_class<T: Told>(
     }
 }
 
+/// What an entry ends in whose class is not accessible.
+#[derive(Drop)]
+struct Inaccessible<T: Told> {
+    config: Arc<Config>,
+    d: Arc<ClassRow<T>>,
+    named: Arc<ClassRow<T>>,
+    verdict: Verdict,
+}
+
+/// The IllegalAccessError of a class, with the rows that it rests on.
+fn inaccessible_of<T: Told>(
+    alloc: Global,
+    config: &Arc<Config>,
+    own: &Lineage<T>,
+    named: &Lineage<T>,
+) -> Result<Inaccessible<T>, AllocError>
+    ensures { IfOk result (IsInaccessible config.now.value own.now named.now) }
+{
+    let class = named.class().try_clone(alloc)?;
+    Ok(Inaccessible {
+        config: Arc::try_clone(config)?,
+        d: Arc::try_clone(own.own())?,
+        named: Arc::try_clone(named.own())?,
+        verdict: Verdict::Error(ErrorKind::IllegalAccessError, class),
+    })
+}
+
 /// The class that an entry names is not accessible to the class whose pool has the entry.
 fn refuse_access<T: Told>(
     alloc: Global,
@@ -97,21 +125,15 @@ fn refuse_access<T: Told>(
         (TracedTold entry own.now named.now) result }
     ensures plain { IsPlain result.turn }
 {
-    match inaccessible_of(alloc, config, &entry, own, named) {
-        Err(_) => out_of_memory(entry.q, entry.request),
-        Ok(parts) => {
-            let verdict = Verdict::Error(ErrorKind::IllegalAccessError, parts.class);
-            let finding = Finding::class_entry(
-                entry.request,
-                parts.config,
-                parts.own,
-                parts.named,
-                verdict,
-            );
+    match (entry.try_clone(alloc), inaccessible_of(alloc, config, own, named)) {
+        (Ok(kept), Ok(end)) => {
+            let finding =
+                Finding::class_entry(entry.request, end.config, end.d, end.named, end.verdict);
             // brings what a finding rests on
             let _ = finding.answer();
-            settle(parts.entry, finding)
+            settle(kept, finding)
         }
+        _ => out_of_memory(entry.q, entry.request),
     }
 }
 
@@ -231,6 +253,14 @@ fn settle_fault<T: Told>(
     }
 }
 
+/// Memory ran out.
+pub(crate) fn give_up<T: Told>(member: Member<T>) -> Next<T>
+    ensures { result ≡ memory_ends member.entry.q member.entry.request }
+{
+    let Member { entry, .. } = member;
+    out_of_memory(entry.q, entry.request)
+}
+
 /// Imposes the equality at this place of a member's, or settles the entry where none is left.
 pub(crate) fn impose<T: Told>(
     alloc: Global,
@@ -249,7 +279,7 @@ pub(crate) fn impose<T: Told>(
         return settle_member(alloc, config, member);
     }
     match Arc::try_clone(&member.equalities) {
-        Err(_) => out_of_memory(member.entry.q, member.entry.request),
+        Err(_) => give_up(member),
         Ok(shared) => Next {
             stage: Stage::Resolve(Resolution::Imposing(member, place)),
             turn: Turn::Impose(shared, place),

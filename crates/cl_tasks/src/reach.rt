@@ -1,10 +1,11 @@
 //! The class that a path loads is recorded: a request goes on with its own, an entry with the one that it names.
 
-ghost use Rattle.std.specs.Prelude.{◌≡◌, ◌<◌, [], length};
-ghost use Rattle.cl_findings.specs.Findings.{loader_of, name_of};
+ghost use Rattle.std.specs.Prelude.{◌≡◌, []};
+ghost use Rattle.cl_findings.specs.Findings.{name_of};
 ghost use Rattle.cl_hierarchy.specs.Paths.{at_name};
+ghost use Rattle.cl_tasks.specs.Ends.{IsOwnTarget};
 ghost use Rattle.cl_tasks.specs.Measures.{Initiating};
-ghost use Rattle.cl_tasks.specs.Reaching.{Reaches, ReachesBy};
+ghost use Rattle.cl_tasks.specs.Reaching.{ReachesBy};
 ghost use Rattle.cl_tasks.specs.Stages.{IsJob};
 ghost use Rattle.cl_tasks.specs.Steps.{Finds, IsPlain, LeadsAt};
 ghost use Rattle.cl_tasks.specs.Turns.{GoesOnWith};
@@ -27,10 +28,11 @@ pub(crate) fn reach<T: Told>(
     job: Job<T>,
     row: Arc<ClassRow<T>>,
 ) -> Next<T>
-    requires job { IsJob config.now.value job }
+    requires job { IsJob T.told config.now.value job }
     requires alone { job.path.frames ≡ [] }
     requires name { row.value.class.name ≡ at_name job.path }
     ensures leads { LeadsAt T.told Initiating job (Finds job row.value) result }
+    ensures own { IsOwnTarget job.target → GoesOnWith job.request row.value.class result.turn }
     ensures plain { IsPlain result.turn }
 {
     let Job {
@@ -65,7 +67,7 @@ pub(crate) fn reach_own<T: Told>(
     row: Arc<ClassRow<T>>,
 ) -> Next<T>
     requires name { row.value.class.name ≡ name_of request }
-    ensures reaches { ReachesBy q request row.value result }
+    ensures reaches { ReachesBy q request row result }
     ensures goes_on { GoesOnWith request row.value.class result.turn }
     ensures plain { IsPlain result.turn }
 {

@@ -8,7 +8,7 @@ ghost use Rattle.cl_model.specs.Views.{verdict_of};
 ghost use Rattle.cl_model.specs.declared.answer.Answer.TheVariants as answers;
 ghost use Rattle.cl_model.specs.declared.verdict.Verdict.TheVariants as verdicts;
 ghost use Rattle.cl_tasks.specs.Measures.{named_left, reference_left};
-ghost use Rattle.cl_tasks.specs.Resolving.{EntryTold, HasNamed, IsReply, NamedTold, SettledTold};
+ghost use Rattle.cl_tasks.specs.Resolving.{EntryTold, HasItself, HasNamed, IsItself, IsNoneSettled, IsReply, IsSame, IsSettledKind, NamedTold, SettledTold};
 ghost use Rattle.cl_tasks.specs.Stages.{IsEntry};
 ghost use Rattle.cl_tasks.specs.Steps.{IsPlain, LeadsBy};
 ghost use Rattle.cl_tasks.specs.Turns.{PostsOr};

@@ -6,7 +6,7 @@ ghost use Rattle.cl_tasks.specs.Steps.{Steps};
 ghost use Rattle.cl_tasks.specs.Turns.{Expects};
 
 use crate::leads::{out_of_memory, post};
-use crate::member::{impose, refuse_member, take_class, take_own};
+use crate::member::{give_up, impose, refuse_member, take_class, take_own};
 use crate::reach::reach_own;
 use crate::reference::take_reference;
 use crate::stage::{Entry, Failed, Member, Next, Resolution};
@@ -134,7 +134,7 @@ pub(crate) fn imposed<T: Told>(
     match reply {
         Reply::Imposed => impose(alloc, config, member, place + 1),
         Reply::Refused(need) => refuse_member(alloc, config, member, place, need),
-        Reply::Memory => out_of_memory(member.entry.q, member.entry.request),
+        Reply::Memory => give_up(member),
         _ => unreachable!(),
     }
 }

@@ -24,7 +24,7 @@ use std::sync::Arc;
 
 /// Begins the search for what the path is at.
 pub(crate) fn begin_search<T: Told>(alloc: Global, job: Job<T>) -> Next<T>
-    requires job { IsJob job.path.config job }
+    requires job { IsJob T.told job.path.config job }
     ensures leads { LeadsAt T.told Looking job (HoldsOn job) result }
     ensures no_fault { PostsNoFault result.turn }
 {
@@ -54,7 +54,7 @@ pub(crate) fn take_probe<T: Told>(
     search: Search<T>,
     probe: Probe<T>,
 ) -> Next<T>
-    requires job { IsJob job.path.config job }
+    requires job { IsJob T.told job.path.config job }
     requires search { Seeks job search }
     requires next { next_of search ≡ Some probe.loader }
     requires name { probe.name ≡ at_name job.path }
@@ -70,7 +70,7 @@ pub(crate) fn take_probe<T: Told>(
 
 /// Reads what the search asks next, or goes on with what it ended in.
 fn pursue<T: Told>(alloc: Global, job: Job<T>, search: Search<T>) -> Next<T>
-    requires job { IsJob job.path.config job }
+    requires job { IsJob T.told job.path.config job }
     requires search { Seeks job search }
     ensures leads { ReadsOn T.told (reads_left search) job (HoldsOn job) result }
     ensures no_fault { PostsNoFault result.turn }
@@ -93,7 +93,7 @@ fn pursue<T: Told>(alloc: Global, job: Job<T>, search: Search<T>) -> Next<T>
 /// The home of what is looked for was found: it is looked up there, unless that is the loader that was
 /// asked.
 fn at_home<T: Told>(alloc: Global, job: Job<T>, home: Home<T>) -> Next<T>
-    requires job { IsJob job.path.config job }
+    requires job { IsJob T.told job.path.config job }
     requires home { IsSought job.path home }
     ensures leads { LeadsAt T.told Reading job (HoldsOn job) result }
     ensures plain { IsPlain result.turn }
@@ -127,7 +127,7 @@ pub(crate) fn take_look<T: Told>(
     home: Home<T>,
     row: Option<Arc<ClassRow<T>>>,
 ) -> Next<T>
-    requires job { IsJob job.path.config job }
+    requires job { IsJob T.told job.path.config job }
     requires home { IsHoming job home }
     ensures leads { LeadsAt T.told Homing job (FindsHome job home row (λ r. r.value)) result }
     ensures plain { IsPlain result.turn }

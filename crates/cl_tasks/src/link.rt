@@ -2,7 +2,8 @@
 //! then that it is prepared (JVMS SE 8, 5.4, 5.4.2).
 
 ghost use Rattle.std.specs.Prelude.{◌≡◌, ◌<◌, ◌≤◌, ◌+◌, ◌-◌, Some, IfOk, length, true};
-ghost use Rattle.cl_hierarchy.specs.Imposed.{OfPreparation};
+ghost use Rattle.cl_findings.specs.Bases.{AreLineages};
+ghost use Rattle.cl_hierarchy.specs.Imposed.{AreOf, OfPreparation, needs_of};
 ghost use Rattle.cl_hierarchy.specs.Lineages.{rows_in};
 ghost use Rattle.cl_model.specs.Views.{need_of};
 ghost use Rattle.cl_model.specs.declared.answer.Answer.TheVariants as answers;
@@ -19,7 +20,7 @@ use crate::stage::{Chain, Goal, Link, Next, Stage};
 use crate::turn::Turn;
 use cl_config::Config;
 use cl_findings::Finding;
-use cl_hierarchy::{Equalities, Lineage};
+use cl_hierarchy::{Equalities, Lineage, Origin};
 use cl_model::{Class, Need, Told};
 use cl_preparation::constraints_of;
 use std::alloc::{AllocError, Global};
@@ -152,6 +153,22 @@ fn list_of<T: Told>(
     Arc::new(alloc, list).map_err(|_| AllocError)
 }
 
+/// Brings what a list keeps, and that the lineages that it was made from are those of their world.
+fn bring_list<T: Told>(list: &Equalities<T>)
+    ensures kept { AreOf list.now.origin (needs_of list.now.needs) }
+    ensures lineages { AreLineages T.told list.now.origin }
+{
+    match list.origin() {
+        Origin::Reference { d, c, .. } => {
+            let _ = d.class();
+            let _ = c.class();
+        }
+        Origin::Preparation { lineage } => {
+            let _ = lineage.class();
+        }
+    }
+}
+
 /// Imposes the equality at this place of a list, or marks the class as prepared where none is left.
 pub(crate) fn impose<T: Told>(
     alloc: Global,
@@ -168,6 +185,9 @@ pub(crate) fn impose<T: Told>(
         (ListTold chain list.value place) result }
     ensures plain { IsPlain result.turn }
 {
+    // brings what the lineage and the list keep
+    let _ = chain.whole.class();
+    bring_list(&list);
     let Ok(shared) = Arc::try_clone(&list) else {
         return give_up(chain);
     };
@@ -226,13 +246,14 @@ pub(crate) fn refuse_link<T: Told>(
     ensures plain { IsPlain result.turn }
     ensures ends { EndsAsRefused chain.goal.request need result.turn }
 {
+    // brings what the lineage and the list keep
+    let _ = chain.whole.class();
+    bring_list(&list);
     let Chain {
         goal,
         whole,
         place: at,
     } = chain;
     let finding = Finding::refused_link(goal.request, whole, at, list, place, need);
-    // brings what a finding rests on
-    let _ = finding.answer();
     post(goal.q, finding)
 }

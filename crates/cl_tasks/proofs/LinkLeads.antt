@@ -1,6 +1,6 @@
 -- What each step of a link leads to.
-use Rattle.std.proofs.Common.{Global, ◌≡◌, ◌∙◌, ◌<◌, ◌≤◌, ◌+◌, ◌-◌, ◌*◌, ℕ, zero, suc, Bool, true, List, [], ◌∷◌, ◌++◌, length, map, Option, Some, None, inl, inr, refl, sym, ap, subst, arith}
-use Rattle.std.specs.Prelude.{slice_get, take, option_map, Contains, IfSome}
+use Rattle.std.proofs.Common.{Global, ◌≡◌, ◌∙◌, ◌<◌, ◌≤◌, ◌+◌, ◌-◌, ◌*◌, ◌^◌, ℕ, zero, suc, Bool, true, List, [], ◌∷◌, ◌++◌, length, map, Option, Some, None, inl, inr, refl, sym, ap, subst, arith}
+use Rattle.std.specs.Prelude.{slice_get, take, option_map, unwrap_or, Contains, IfSome}
 use Rattle.std.specs.List.{AllByRecursion}
 use Rattle.std.proofs.lemmas.List.{length-map, take-map}
 use Rattle.std.proofs.lemmas.Option.{slice_get-map}
@@ -193,6 +193,12 @@ first_chain c g whole goal of = let many = whole_length whole.value in record { 
 pub next_chain : {A : Type 0} (c : Configured) (k : Chain A) → IsChain c k → k.place < length k.whole.value.above → IsChain c (next_of k)
 next_chain c k chain lt = let many = whole_length k.whole.value in record { goal = chain.goal; whole = chain.whole; within = omega (arith, many, lt) }
 
+pub row_class : (l : Lined) (place : ℕ) (r : Rowed) → slice_get (rows_in l) place ≡ Some r → class_in l place ≡ r.class
+row_class l place r e = ap (λ (o : Option Class). unwrap_or o l.own.class) (slice_get-map (λ (y : Rowed). y.class) (rows_in l) place ∙ ap (λ (o : Option Rowed). option_map (λ (y : Rowed). y.class) o) e)
+
+pub no_row : (l : Lined) (place : ℕ) → slice_get (rows_in l) place ≡ None → class_in l place ≡ l.own.class
+no_row l place e = ap (λ (o : Option Class). unwrap_or o l.own.class) (slice_get-map (λ (y : Rowed). y.class) (rows_in l) place ∙ ap (λ (o : Option Rowed). option_map (λ (y : Rowed). y.class) o) e)
+
 -- a list that was told of is at its first equality
 pub traced_told : {A : Type 0} (x : Shown) (k : Chain A) (l : Lined) (e : Listed) → e.origin ≡ OfPreparation l → LineageTold k l x → ListTold k e 0 x
 traced_told x k l e from h = list_of x k e 0 l from h.before (traced_as x (class_in k.whole.value k.place) l h.now) (no_needs (needs_of e.needs))
@@ -212,12 +218,31 @@ chain_grows a b e le = grind (arith, le)
 pub whole_room : (n : ℕ) → n ≤ most → chain_left n + 1 ≤ whole_left
 whole_room n le = let l = chain_grows n most each_left le in omega (arith, l)
 
-pub list_room : (n m : ℕ) → 0 < n → m ≤ most → linking_left (n - 1) m + 1 ≤ chain_left n
+pub list_room : (n m : ℕ) → 0 < n → m < most → linking_left (n - 1) (m - 0) + 1 ≤ chain_left n
 list_room n m some few =
     let is : (n - 1) + 1 ≡ n = omega (arith, some) in
     let e = each_more (n - 1) each_left in
     let f = ap (λ (k : ℕ). k * each_left) is in
     omega (arith, e, f, few)
+
+pub one_room : (a m : ℕ) → 1 ≤ a + (m + 1)
+one_room a m = omega arith
+
+pub one_prepared : 1 ≤ prepared_left
+one_prepared = one_room (chain_left most) 1
+
+pub rows_few : (l : Lined) (n : ℕ) → n < 2 ^ 64 → n ≡ length l.above → length (rows_in l) - 0 ≤ most
+unfolding most
+rows_few l n lt is =
+    let many = whole_length l in
+    let lim : 2 ^ 64 ≡ most = refl in
+    omega (arith, lt, is, many, lim)
+
+pub needs_few : (m n : ℕ) → n < 2 ^ 64 → n ≡ m → m < most
+unfolding most
+needs_few m n lt is =
+    let lim : 2 ^ 64 ≡ most = refl in
+    omega (arith, lt, is, lim)
 
 pub next_room : (n p : ℕ) → chain_left (n - (p + 1)) + 1 ≤ linking_left ((n - p) - 1) 0
 next_room n p =

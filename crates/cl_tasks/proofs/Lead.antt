@@ -1,6 +1,8 @@
 -- What a step leads to: with more room, and where memory runs out.
-use Rattle.std.proofs.Common.{◌≡◌, ◌<◌, ◌≤◌, ℕ, List, length, Option, Some, None, refl, sym, ap, subst, arith}
+use Rattle.std.proofs.Common.{◌≡◌, ◌<◌, ◌≤◌, ℕ, suc, Bool, true, false, not, eqb, List, length, Option, Some, None, refl, sym, ap, subst, arith}
+use Rattle.std.proofs.lemmas.Bool.{eqb-true}
 use Rattle.std.specs.Prelude.{IfSome}
+use Rattle.cl_model.specs.declared.answer.Answer.TheVariants as answers
 use Rattle.cl_model.specs.declared.request.Request.{Request}
 use Rattle.cl_model.specs.Content.{Content}
 use Rattle.cl_config.specs.Views.{Configured}
@@ -12,6 +14,7 @@ use Rattle.cl_tasks.specs.Steps.{IsPlain, LeadsBy, LeadsOn, Steps, memory_ends}
 use Rattle.cl_tasks.specs.Tasks.{Tasked}
 use Rattle.cl_tasks.specs.Turns.{ReadsUnrecorded}
 use Rattle.cl_tasks.specs.declared.stage.Next.{Next}
+use Rattle.cl_tasks.specs.declared.stage.Stage.TheVariants as stage
 use Rattle.cl_tasks.specs.declared.turn.Reply.{Reply}
 use Rattle.cl_tasks.specs.declared.turn.Reply.TheVariants as reply
 use Rattle.cl_tasks.specs.declared.turn.Turn.{Turn}
@@ -99,3 +102,32 @@ steps_memory {A} told t r is within more = record {
   reads = tt;
   own = tt;
 }
+
+-- the source could not be read
+pub leads_fault : {A : Type 0} (told : Option Content) (c : Configured) (q : ℕ) (r : Request) (name : List ℕ) (loader room : ℕ) (holds : Shown → Type 0) → loader_of r < length c.loaders → loader < length c.loaders
+    → LeadsBy {A = A} told c q r (suc room) holds (record { stage = stage.Done q; turn = turn.Post (record { request = r; answer = answers.SourceFault name loader; basis = None }) })
+leads_fault told c q r name loader room holds asked within = record {
+  kept = tt;
+  number = refl;
+  asks = refl;
+  serves = refl;
+  left = omega arith;
+  keeps = λ x h. record { frames = tt; facts = tt };
+  backed = λ x config named consistent h. record {
+    within = record {
+      loader = subst (λ (k : Configured). loader_of r < length k.loaders) (sym config) asked;
+      answer = subst (λ (k : Configured). loader < length k.loaders) (sym config) within;
+    };
+    answer = tt;
+  };
+  follows = λ g x s h. tt;
+}
+
+-- ---- comparisons
+
+not_false : (b : Bool) → not b ≡ false → b ≡ true
+not_false true h = refl
+not_false false h = absurd cc
+
+pub same_of : (a b : ℕ) → not (eqb a b) ≡ false → a ≡ b
+same_of a b h = eqb-true a b (not_false (eqb a b) h)

@@ -1,5 +1,5 @@
 -- A verdict with what it rests on: the tables bear it, and where a content is told the service has come to it, or settles the reference to it.
-use Rattle.std.proofs.Common.{◌≡◌, ◌≢◌, ◌∙◌, ◌<◌, ℕ, List, [], ◌∷◌, length, Option, Some, None, inl, inr, refl, sym, ap, subst}
+use Rattle.std.proofs.Common.{◌≡◌, ◌≢◌, ◌∙◌, ◌<◌, ℕ, List, [], ◌∷◌, ◌++◌, length, Option, Some, None, inl, inr, refl, sym, ap, subst}
 use Rattle.std.specs.Prelude.{◌⊎◌, IfSome, Contains, option_map}
 use Rattle.std.specs.List.{AllByRecursion}
 use Rattle.cl_model.specs.declared.answer.Answer.{Answer}
@@ -16,13 +16,13 @@ use Rattle.cl_model.specs.Machine.{AnswersPlan, AnswersReference, IsClosed, IsSo
 use Rattle.cl_model.specs.Plans as plans
 use Rattle.cl_model.specs.Plans.{loaded_by}
 use Rattle.cl_model.specs.Service.{ComesTo, IsNextStep}
-use Rattle.cl_model.specs.States.{State, Need, Verdict, AllMet, Entry, IsClass, IsRecorded, Linkage, Met, Refused, recorded, settled_to}
+use Rattle.cl_model.specs.States.{State, Need, Verdict, AllMet, Entry, Equal, IsClass, IsRecorded, Linkage, Met, Refused, recorded, settled_to}
 use Rattle.cl_model.specs.States as states
 use Rattle.cl_model.specs.Tables.{Bears, Records}
 use Rattle.cl_model.specs.Views.{request_of, verdict_of}
 use Rattle.cl_model.specs.Homes.{World}
 use Rattle.cl_model.proofs.Frames.{answers_here}
-use Rattle.cl_model.proofs.Gone.{borne_said, unrecorded_bears}
+use Rattle.cl_model.proofs.Gone.{borne_said, link_record_comes, unreached_comes, unrecorded_bears}
 use Rattle.cl_model.proofs.Looks.{recorded_answers}
 use Rattle.cl_model.proofs.Pieces.{settle_next}
 use Rattle.cl_model.proofs.Planned.{plan_exists}
@@ -30,7 +30,7 @@ use Rattle.cl_model.proofs.Reached.{plan_is_reference}
 use Rattle.cl_model.proofs.Service.{load_comes, resolve_wants, said_comes}
 use Rattle.cl_model.proofs.Sound.{one_plan_answer}
 use Rattle.cl_model.proofs.Stacks.{refused_answers}
-use Rattle.cl_model.proofs.Tables.{recorded_reached}
+use Rattle.cl_model.proofs.Tables.{reached_records, recorded_reached}
 use Rattle.cl_config.specs.Views.{Configured, Scripted}
 use Rattle.cl_delegation.specs.Worlds.{setting_of, world_of}
 use Rattle.cl_findings.specs.Findings.{Answered, Based, Concludes, Grounds, HasImposed, IsBorne, IsWithin, Rests, SaidRests, VerdictRests, loader_of, name_of}
@@ -41,7 +41,7 @@ use Rattle.cl_registry.specs.Settling as settling
 use Rattle.cl_registry.specs.Tables.{Shown, NamesLoaders, records_of, state_of}
 use Rattle.cl_tasks.specs.Follows.{AnswerFollows, IsSettledNext, ServedIn}
 use Rattle.cl_tasks.specs.Ends.{IsNoResolution}
-use Rattle.cl_tasks.specs.Stages.{load_of}
+use Rattle.cl_tasks.specs.Stages.{IsFailure, load_of}
 
 -- a finding that says a verdict, with its basis
 abbrev pub said_of : Request → verdict.Verdict → Based → Answered
@@ -79,22 +79,30 @@ concluded : (g : Setting) (s : State) (q : plans.Request) (o : Option Need) (cs 
 concluded g s q None cs v h refused = answers_here g s q v h
 concluded g s q (Some n) cs v h refused = subst (λ (u : Verdict). AnswersPlan g s q u) (sym h.linkage) (refused_answers g s q n h.next refused)
 
--- what rests on its basis is the answer, where that stands
-pub rests_answers : (content : Content) (c : Configured) (script : Scripted) (s : State) (r : Request) (v : verdict.Verdict) (b : Based) → Rests (Some content) (said_of r v b) → b.config ≡ c → b.prepared ≡ [] → IsSound (setting_of c script content) s → AllMet s b.needs
-    → IfSome b.refused (Refused s) → AnswersPlan (setting_of c script content) s (request_of r) (verdict_of v)
-rests_answers content c script s r v b rests config bare sound needs refused =
+-- what rests on its basis is the conclusion, where that stands
+rests_concludes : (content : Content) (c : Configured) (script : Scripted) (s : State) (r : Request) (v : verdict.Verdict) (b : Based) → Rests (Some content) (said_of r v b) → b.config ≡ c → b.prepared ≡ [] → IsSound (setting_of c script content) s → AllMet s b.needs
+    → Concludes (world_of c content) s (request_of r) b.refused b.prepared (verdict_of v)
+rests_concludes content c script s r v b rests config bare sound needs =
     let w : World = world_of c content in
     let h : VerdictRests w r v b = subst (λ (k : Configured). VerdictRests (world_of k content) r v b) config rests in
-    let grounds : Grounds w s b = record { needs = needs; prepared = subst (λ (cs : List Class). AllByRecursion (HasImposed w s) cs) (sym bare) tt } in
-    concluded (setting_of c script content) s (request_of r) b.refused b.prepared (verdict_of v) (h.concludes s sound.closed grounds) refused
+    h.concludes s sound.closed (record { needs = needs; prepared = subst (λ (cs : List Class). AllByRecursion (HasImposed w s) cs) (sym bare) tt })
 
 -- the same where the request is served
+pub concludes_at : (told : Option Content) (c : Configured) (g : Setting) (s : State) (r : Request) (v : verdict.Verdict) (b : Based) → ServedIn told c g s → Rests told (said_of r v b) → b.config ≡ c → b.prepared ≡ [] → AllMet s b.needs
+    → Concludes g.world s (request_of r) b.refused b.prepared (verdict_of v)
+concludes_at told c g s r v b served rests config bare needs =
+    subst (λ (k : Setting). Concludes k.world s (request_of r) b.refused b.prepared (verdict_of v)) (sym served.setting)
+    (rests_concludes served.content c served.script s r v b (subst (λ (t : Option Content). Rests t (said_of r v b)) served.told_so rests) config bare (subst (λ (k : Setting). IsSound k s) served.setting served.sound) needs)
+
+-- the same of what stands
+pub stood_concludes : (told : Option Content) (c : Configured) (r : Request) (v : verdict.Verdict) (b : Based) (holds : Shown → Type 0) → Stood told c r v b holds → (g : Setting) (x : Shown) → ServedIn told c g (state_of x) → holds x
+    → Concludes g.world (state_of x) (request_of r) b.refused b.prepared (verdict_of v)
+stood_concludes told c r v b holds stood g x served h = concludes_at told c g (state_of x) r v b served stood.rests stood.config stood.unprepared (stood.needs x h)
+
 pub stood_answers : (told : Option Content) (c : Configured) (r : Request) (v : verdict.Verdict) (b : Based) (holds : Shown → Type 0) → Stood told c r v b holds → (g : Setting) (x : Shown) → ServedIn told c g (state_of x) → holds x
     → AnswersPlan g (state_of x) (request_of r) (verdict_of v)
 stood_answers told c r v b holds stood g x served h =
-    subst (λ (k : Setting). AnswersPlan k (state_of x) (request_of r) (verdict_of v)) (sym served.setting)
-    (rests_answers served.content c served.script (state_of x) r v b (subst (λ (t : Option Content). Rests t (said_of r v b)) served.told_so stood.rests) stood.config stood.unprepared
-    (subst (λ (k : Setting). IsSound k (state_of x)) served.setting served.sound) (stood.needs x h) (stood.refused x h))
+    concluded g (state_of x) (request_of r) b.refused b.prepared (verdict_of v) (stood_concludes told c r v b holds stood g x served h) (stood.refused x h)
 
 -- ---- references
 
@@ -180,12 +188,6 @@ settled_next told c r d i v b holds stood may g x served h =
 
 -- ---- answers of loads and links
 
--- a verdict that is neither a class nor linked: an error, or what is refused
-abbrev pub IsFailure : verdict.Verdict → Type 0
-IsFailure (verdicts.Error kind c) = Unit {0}
-IsFailure (verdicts.Linkage n) = Unit {0}
-IsFailure other = ⊥
-
 pub failure_entry : (v : verdict.Verdict) → IsFailure v → v ≢ verdicts.BadEntry
 failure_entry (verdicts.Class k) h e = absurd h
 failure_entry (verdicts.Array n k) h e = absurd h
@@ -252,11 +254,18 @@ failure_backed told c r v b holds stood apart failure x config named h = record 
 
 -- ---- a failure of the load of a request's own class
 
+-- what is refused in a load is a record
+abbrev pub IsRecordIn : Option Need → Type 0
+IsRecordIn None = Unit {0}
+IsRecordIn (Some (Entry loader name place)) = Unit {0}
+IsRecordIn (Some (Equal name a b)) = ⊥
+
 -- the same verdict rests on the same, whatever the request asks past its load
 pub record OwnFails (told : Option Content) (c : Configured) (r : Request) (v : verdict.Verdict) (b : Based) (holds : Shown → Type 0) : Type 0 where
   pub stood : Stood told c r v b holds
   pub failure : IsFailure v
   pub load : Rests told (said_of (load_of r) v b)
+  pub record_is : IsRecordIn b.refused
 
 -- where its load fails, the class of a request is not recorded
 unrecorded : (g : Setting) (s : State) (l : ℕ) (n : List ℕ) (v : verdict.Verdict) → IsSound g s → IsFailure v → AnswersPlan g s (plans.Load l n) (verdict_of v) → recorded s.records l n ≡ None
@@ -280,20 +289,35 @@ own_unrecorded told c r v b holds own g x served h =
     } in
     unrecorded g (state_of x) (loader_of r) (name_of r) v served.sound own.failure (stood_answers told c (load_of r) v b holds load g x served h)
 
--- the request is none to link
-abbrev pub IsNoLink : Request → Type 0
-IsNoLink (requests.Load l n) = Unit {0}
-IsNoLink (requests.Resolve l n i) = Unit {0}
-IsNoLink (requests.Link l n) = ⊥
+met_first : (s : State) (xs ys : List Need) → AllMet s (xs ++ ys) → AllMet s xs
+met_first s [] ys h = tt
+met_first s (x ∷ xs) ys h = (h.0, met_first s xs ys h.1)
 
--- so a load comes to it, and a resolution
-pub own_comes : (told : Option Content) (c : Configured) (r : Request) (v : verdict.Verdict) (b : Based) (holds : Shown → Type 0) → OwnFails told c r v b holds → (g : Setting) (x : Shown) → ServedIn told c g (state_of x) → holds x → IsNoLink r
-    → ComesTo g (state_of x) (request_of r) (verdict_of v)
-own_comes told c (requests.Load l n) v b holds own g x served h apart = load_comes g (state_of x) l n (verdict_of v) (stood_answers told c (requests.Load l n) v b holds own.stood g x served h)
-own_comes told c (requests.Resolve l n i) v b holds own g x served h apart =
+none_some : {n : ℕ} → None ≡ Some n → ⊥
+none_some e = absurd cc
+
+-- a link whose class is not recorded comes to it
+link_comes_so : (g : Setting) (s : State) (l : ℕ) (n : List ℕ) (o : Option Need) (cs : List Class) (v : Verdict) → recorded s.records l n ≡ None → IsRecordIn o → Concludes g.world s (plans.Link l n) o cs v → IfSome o (Refused s) → ComesTo g s (plans.Link l n) v
+link_comes_so g s l n None cs v free is h refused = unreached_comes g s (plans.Link l n) h.plan v h.planned (unreached h.plan.reached refl) (answers_here g s (plans.Link l n) v h)
+  where
+    unreached : (o : Option Class) → h.plan.reached ≡ o → h.plan.reached ≡ None
+    unreached None e = e
+    unreached (Some d) e =
+        let at = reached_records g.world s (plans.Link l n) h.plan d h.planned e (met_first s h.plan.own h.plan.more h.met) in
+        absurd (none_some (sym free ∙ at.1))
+link_comes_so g s l n (Some (Entry loader name place)) cs v free is h refused = subst (λ (u : Verdict). ComesTo g s (plans.Link l n) u) (sym h.linkage) (link_record_comes g s l loader place n name h.next refused)
+link_comes_so g s l n (Some (Equal name a b)) cs v free is h refused = absurd is
+
+-- so the service of the request comes to it
+pub own_comes : (told : Option Content) (c : Configured) (r : Request) (v : verdict.Verdict) (b : Based) (holds : Shown → Type 0) → OwnFails told c r v b holds → (g : Setting) (x : Shown) → ServedIn told c g (state_of x) → holds x → ComesTo g (state_of x) (request_of r) (verdict_of v)
+own_comes told c (requests.Load l n) v b holds own g x served h = load_comes g (state_of x) l n (verdict_of v) (stood_answers told c (requests.Load l n) v b holds own.stood g x served h)
+own_comes told c (requests.Resolve l n i) v b holds own g x served h =
     let s = state_of x in
     let q = plans.Resolve l n i in
     let answer : AnswersPlan g s q (verdict_of v) = stood_answers told c (requests.Resolve l n i) v b holds own.stood g x served h in
     let free = own_unrecorded told c (requests.Resolve l n i) v b holds own g x served h in
     said_comes g s q (verdict_of v) (resolve_wants l n i) (borne_said g s q (verdict_of v) (unrecorded_bears g s q (verdict_of v) free answer) answer)
-own_comes told c (requests.Link l n) v b holds own g x served h apart = absurd apart
+own_comes told c (requests.Link l n) v b holds own g x served h =
+    let s = state_of x in
+    let free = own_unrecorded told c (requests.Link l n) v b holds own g x served h in
+    link_comes_so g s l n b.refused b.prepared (verdict_of v) free own.record_is (stood_concludes told c (requests.Link l n) v b holds own.stood g x served h) (own.stood.refused x h)

@@ -4,6 +4,7 @@ use Rattle.cl_classfile.specs.Files.{file_of, reference}
 use Rattle.cl_model.specs.declared.class.Class.{Class}
 use Rattle.cl_model.specs.declared.answer.Answer.TheVariants as answers
 use Rattle.cl_model.specs.declared.verdict.Verdict as verdict
+use Rattle.cl_model.specs.declared.verdict.Verdict.TheVariants as verdicts
 use Rattle.cl_model.specs.declared.request.Request.{Request}
 use Rattle.cl_model.specs.declared.request.Request.TheVariants as requests
 use Rattle.cl_model.specs.Content.{Content}
@@ -195,6 +196,7 @@ pub record IsJob {A : Type 0} (told : Option Content) (c : Configured) (j : Job 
   pub for_request : IsFor j.request j.target j.path
   pub config : j.path.config ≡ c
   pub asked : loader_of j.request < length c.loaders
+  pub root : j.path.loader < length c.loaders
   pub loader : at_loader j.path < length c.loaders
 
 -- the search is for what is looked for, and has another loader to ask (5.3.2)
@@ -210,9 +212,14 @@ pub record IsHoming {A : Type 0} (j : Job A) (h : Located) : Type 0 where
   pub off : is_on j.path (class h.name h.place) ≡ false
   pub other : h.place ≢ at_loader j.path
 
+-- a job at its beginning: the request's own class is loaded, and nothing is derived yet (5.3)
+pub record IsFirst {A : Type 0} (j : Job A) : Type 0 where
+  pub own : target_facts j.request j.target ≡ []
+  pub alone : j.path.frames ≡ []
+
 -- what a load keeps (5.3, 5.3.5)
 abbrev pub IsLoading : {A : Type 0} → Option Content → Configured → Load A → Type 0
-IsLoading told c (loads.Fresh j) = IsJob told c j
+IsLoading told c (loads.Fresh j) = IsJob told c j × IsFirst j
 IsLoading told c (loads.Looking j) = IsJob told c j
 IsLoading told c (loads.Searching j s) = IsJob told c j × IsSearch j s
 IsLoading told c (loads.Homing j h) = IsJob told c j × IsHoming j h
@@ -222,6 +229,12 @@ IsLoading told c (loads.Initiating j h) = IsJob told c j × IsSought j.path h.va
 -- the same request, but to load its class alone (5.3)
 abbrev pub load_of : Request → Request
 load_of r = requests.Load (loader_of r) (name_of r)
+
+-- a verdict that is an error, or a refused need (5.3.4, 5.3.5)
+abbrev pub IsFailure : verdict.Verdict → Type 0
+IsFailure (verdicts.Error kind c) = Unit {0}
+IsFailure (verdicts.Linkage n) = Unit {0}
+IsFailure other = ⊥
 
 -- the load of the class of a resolution ends in a verdict, whatever the request asks past it (5.3, 5.4.3)
 pub record IsFailed {A : Type 0} (told : Option Content) (c : Configured) (f : Failed A) : Type 0 where
@@ -235,6 +248,7 @@ pub record IsFailed {A : Type 0} (told : Option Content) (c : Configured) (f : F
   pub rests_on : f.finding.basis ≡ Some basis
   pub config : basis.config ≡ c
   pub unprepared : basis.prepared ≡ []
+  pub failure : IsFailure verdict
   pub own : Rests told (record f.finding { request = load_of f.request })
 
 -- the request resolves the entry at an index of the pool of a class (5.4.3)

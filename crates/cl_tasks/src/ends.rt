@@ -1,11 +1,12 @@
 //! How a load ends otherwise than with its class: of the request's own class it is answered, of that of its reference the
 //! reference is settled to it.
 
-ghost use Rattle.std.specs.Prelude.{◌≡◌, length, IfOk};
+ghost use Rattle.std.specs.Prelude.{◌≡◌, ◌<◌, length, IfOk};
+ghost use Rattle.cl_hierarchy.specs.Paths.{at_loader};
 ghost use Rattle.cl_model.specs.Views.{need_of};
 ghost use Rattle.cl_findings.specs.Loads.{ComesNext, Stops, next_need};
 ghost use Rattle.cl_tasks.specs.Follows.{EndsAsRefused, Posts, fault_answer};
-ghost use Rattle.cl_tasks.specs.Ends.{ConcludesBy, IsAftermath, RefusedOn};
+ghost use Rattle.cl_tasks.specs.Ends.{ConcludesBy, EndRests, IsAftermath, NextRests, NextWithin, RefusedOn};
 ghost use Rattle.cl_tasks.specs.Stages.{IsJob, IsSearch, loading_at, past_left};
 ghost use Rattle.cl_tasks.specs.Steps.{EndWithin, EndsOn, IsPlain, Leads};
 
@@ -14,6 +15,7 @@ use crate::stage::{Entry, Failed, Job, Load, Next, Resolution, Stage};
 use crate::turn::Turn;
 use cl_delegation::Search;
 use cl_findings::{Finding, NextRecord, Obstacle, Target};
+use cl_hierarchy::Path;
 use cl_model::{LoaderId, Need, Request, Told};
 use cl_names::Name;
 use cl_registry::laws::recorded_is_named;
@@ -76,6 +78,49 @@ fn conclude<T: Told>(q: u32, aftermath: Aftermath<T>, finding: Finding<T>) -> Ne
     }
 }
 
+/// Brings what an obstacle rests on.
+fn bring_end<T: Told>(path: &Path<T>, end: &Obstacle<T>)
+    requires { Stops path.now end.now }
+    ensures { EndRests T.told path.now end.now }
+{
+    let _ = path.config();
+    match end {
+        Obstacle::Missing(unfound) => {
+            let _ = unfound.config();
+        }
+        Obstacle::Unreadable(unreadable) => {
+            let _ = unreadable.fault();
+            let home = unreadable.home();
+            let _ = home.config();
+            let _ = home.bytes();
+        }
+        Obstacle::Circle(home) => {
+            let _ = home.config();
+        }
+        Obstacle::Misfit(row, _, _) => {
+            let _ = row.class();
+        }
+    }
+}
+
+/// Brings what the refusal of a record rests on.
+fn bring_next<T: Told>(path: &Path<T>, next: &NextRecord<T>)
+    requires next { ComesNext T.told path.now next.now }
+    requires loader { at_loader path.now < length path.now.config.loaders }
+    ensures rests { NextRests T.told path.now next.now }
+    ensures within { NextWithin (length path.now.config.loaders) next.now }
+{
+    let _ = path.config();
+    match next {
+        NextRecord::Define(whole) => {
+            let _ = whole.draft().home();
+        }
+        NextRecord::Initiate(home) => {
+            let _ = home.config();
+        }
+    }
+}
+
 /// The derivation is stopped.
 pub(crate) fn obstacle<T: Told>(alloc: Global, job: Job<T>, end: Obstacle<T>) -> Next<T>
     requires job { IsJob T.told job.path.config job }
@@ -93,12 +138,11 @@ pub(crate) fn obstacle<T: Told>(alloc: Global, job: Job<T>, end: Obstacle<T>) ->
         target,
         path,
     } = job;
-    let finding = Finding::obstacle(request, target, path, end);
-    // brings what a finding rests on, and that what is recorded was defined by a loader of the
+    // brings what an obstacle rests on, and that what is recorded was defined by a loader of the
     // configuration
-    let _ = finding.answer();
+    bring_end(&path, &end);
     recorded_is_named();
-    conclude(q, aftermath, finding)
+    conclude(q, aftermath, Finding::obstacle(request, target, path, end))
 }
 
 /// The record that comes next is refused.
@@ -124,10 +168,9 @@ pub(crate) fn refuse<T: Told>(
         target,
         path,
     } = job;
-    let finding = Finding::refused(request, target, path, next, need);
-    // brings what a finding rests on
-    let _ = finding.answer();
-    conclude(q, aftermath, finding)
+    // brings what a refusal rests on
+    bring_next(&path, &next);
+    conclude(q, aftermath, Finding::refused(request, target, path, next, need))
 }
 
 /// The source refused the read that was next, out of memory or for another cause.

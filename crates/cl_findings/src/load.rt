@@ -149,8 +149,9 @@ fn end_at<T: Told>(
         Obstacle::Circle(home) => {
             // brings that the search led there, where a content is told
             let _ = home.config();
+            let class = class_of(home);
             End {
-                verdict: Verdict::Error(ErrorKind::ClassCircularityError, class_of(home)),
+                verdict: Verdict::Error(ErrorKind::ClassCircularityError, class),
                 at: At::Nothing,
             }
         }

@@ -16,7 +16,6 @@ mod rounds;
 mod settling;
 pub mod settling_laws;
 mod standing;
-mod stub;
 mod tables;
 
 pub use registry::{DefineRefused, NotYet, PostRefused, Registry, RegistryFault, RegistryRefused};

@@ -19,7 +19,7 @@ returns-in-Unreadable-clause-rests g c =
 pub returns-in-Circle-clause-rests : goal.returns-in-Circle-clause-rests
 returns-in-Circle-clause-rests g c =
     let stops = rw c.in-Circle.is at c.requires.stops in
-    rw (c.in-Circle.is, c.class_of-in-Circle.ensures)
+    rw (c.in-Circle.is, c.class_of-class.ensures)
     (circle_rests g.T.Told.told c.args.request.now c.args.target.now c.args.path.now c.in-Circle.home c.requires.path c.bring_row.ensures c.config.ensures.path stops.0 stops.1 c.config-in-Circle.ensures.leads)
 
 pub returns-in-Misfit-clause-rests : goal.returns-in-Misfit-clause-rests

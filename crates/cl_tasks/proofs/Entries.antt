@@ -337,12 +337,15 @@ settles_class A told c config e kept k v f n entry same_kept same ends kind h is
     (same_entry A c e kept same_kept entry) same_kept.number same_kept.request (λ x t. same_told A e kept x same_kept (t.0, tt)) (omega arith))
 
 -- what the entry was found to be settled to is the answer
-pub shares_entry : (A : Type 0) (told : Option Content) (c : Configured) (e : entries.Entry A) (s : Arc Settled Global) (n : Next A) → IsEntry c e → n ≡ record { stage = stages.Done e.q; turn = turn.Post (record { request = e.request; answer = answers.Shared s; basis = None }) }
-    → LeadsBy told c e.q e.request reference_left (SettledTold e (Some s)) n
-shares_entry A told c e s n entry is =
-    subst (λ (m : Next A). LeadsBy told c e.q e.request reference_left (SettledTold e (Some s)) m) (sym is)
-    (leads_shared A told c e.q e.request e.d.value.class e.index s reference_left (SettledTold e (Some s)) entry.of entry.asked (λ x h. h.before.0) (λ x h. h.now) (omega arith))
+pub shares_entry : (A : Type 0) (told : Option Content) (c : Configured) (e : entries.Entry A) (o : Option (Arc Settled Global)) (s : Arc Settled Global) (n : Next A) → IsEntry c e → o ≡ Some s → n ≡ record { stage = stages.Done e.q; turn = turn.Post (record { request = e.request; answer = answers.Shared s; basis = None }) }
+    → LeadsBy told c e.q e.request reference_left (SettledTold e o) n
+shares_entry A told c e o s n entry found is =
+    subst (λ (m : Next A). LeadsBy told c e.q e.request reference_left (SettledTold e o) m) (sym is)
+    (leads_shared A told c e.q e.request e.d.value.class e.index s reference_left (SettledTold e o) entry.of entry.asked (λ x h. h.before.0) (λ x h. found_now x h found) (omega arith))
+  where
+    found_now : (x : Shown) → SettledTold e o x → o ≡ Some s → IsSettledIn x e.d.value.class e.index s.value
+    found_now x h eq = (subst (λ (k : Option (Arc Settled Global)). SettledTold e k x) eq h).now
 
 -- nothing was found, and the entry is opened
-pub opens_entry : (A : Type 0) (told : Option Content) (c : Configured) (e : entries.Entry A) (n : Next A) → LeadsBy told c e.q e.request reference_left (EntryTold e) n → LeadsBy told c e.q e.request reference_left (SettledTold e None) n
-opens_entry A told c e n l = leads_by reference_left (SettledTold e None) l (omega arith) (λ x h. h.before)
+pub opens_entry : (A : Type 0) (told : Option Content) (c : Configured) (e : entries.Entry A) (o : Option (Arc Settled Global)) (n : Next A) → LeadsBy told c e.q e.request reference_left (EntryTold e) n → LeadsBy told c e.q e.request reference_left (SettledTold e o) n
+opens_entry A told c e o n l = leads_by reference_left (SettledTold e o) l (omega arith) (λ x h. h.before)

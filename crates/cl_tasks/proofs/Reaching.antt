@@ -170,7 +170,7 @@ named_found A j d l i n row x referred target root is h =
     let facts : AreSo x (target_facts {A = A} j.request (targets.Reference d)) = subst (λ (t : Target A). AreSo x (target_facts j.request t)) target h.before.facts in
     let here : IsRecordedAs x d.value.class.loader (at_name j.path) row = subst (λ (l : ℕ). IsRecordedAs x l (at_name j.path) row) (root_loader j.path root ∙ referred.loader) h.now in
     subst (λ (r : Request). AreSo x (named_facts r d.value.class row.class)) is
-    (facts.0, record_for x d.value.class.loader (at_name j.path) row here, tt)
+    (facts.0, (record_for x d.value.class.loader (at_name j.path) row here, tt))
 
 pub reaches_named : (A : Type 0) (told : Option Content) (c : Configured) (j : Job A) (d : Arc (ClassRow A) Global) (l i : ℕ) (n : List ℕ) (row : Rowed) (next : Next A) → IsJob told c j → j.target ≡ targets.Reference d → j.path.frames ≡ [] → j.request ≡ requests.Resolve l n i
     → LeadsBy told c j.q (requests.Resolve l n i) named_left (NamedTold (entry_for A j d i l n) row) next → LeadsAt told Initiating j (Finds j row) next

@@ -42,7 +42,7 @@ use Rattle.cl_registry.specs.Tables.{Shown, NamesLoaders, records_of, settled_at
 use Rattle.cl_tasks.specs.Follows.{ServedIn}
 use Rattle.cl_tasks.specs.Facts.{AreSo}
 use Rattle.cl_tasks.specs.Measures.{named_left, reference_left}
-use Rattle.cl_tasks.specs.Resolving.{EntryTold, IsNoneSettled, IsSame, IsSettledKind, NamedTold}
+use Rattle.cl_tasks.specs.Resolving.{EntryTold, IsNoneSettled, IsSame, IsSettledKind, NamedTold, SettledTold}
 use Rattle.cl_tasks.specs.Tasks.{Stands}
 use Rattle.cl_tasks.specs.declared.stage.Next.{Next}
 use Rattle.cl_tasks.specs.Stages.{IsEntry}
@@ -53,6 +53,7 @@ use Rattle.cl_tasks.specs.declared.stage.Stage.TheVariants as stages
 use Rattle.cl_tasks.specs.declared.turn.Turn.TheVariants as turn
 use Rattle.cl_tasks.specs.Waits as waits
 use Rattle.cl_tasks.specs.Waits.{Waits}
+use Rattle.cl_tasks.proofs.Lead.{leads_by}
 use Rattle.cl_tasks.proofs.Said.{Settling, Stood, borne, found_is, may_settle, said_of, settled_next, stood_answers}
 
 -- ---- an entry that is never settled is answered so
@@ -334,3 +335,17 @@ settles_class A told c config e kept k v f n entry same_kept same ends kind h is
     (leads_settles A told c e.q e.request e.d.value.class e.index v b named_left (NamedTold e k) kept (class_stood A told c config e k v entry same ends (subst (Rests told) whole h.rests))
     (record { resolves = entry.of; kept = λ x t. t.0; is_entry = kind.is_entry; is_class_member = kind.is_class_member })
     (same_entry A c e kept same_kept entry) same_kept.number same_kept.request (λ x t. same_told A e kept x same_kept (t.0, tt)) (omega arith))
+
+-- what the entry was found to be settled to is the answer
+pub shares_entry : (A : Type 0) (told : Option Content) (c : Configured) (e : entries.Entry A) (o : Option (Arc Settled Global)) (s : Arc Settled Global) (n : Next A) → IsEntry c e → o ≡ Some s → n ≡ record { stage = stages.Done e.q; turn = turn.Post (record { request = e.request; answer = answers.Shared s; basis = None }) }
+    → LeadsBy told c e.q e.request reference_left (SettledTold e o) n
+shares_entry A told c e o s n entry found is =
+    subst (λ (m : Next A). LeadsBy told c e.q e.request reference_left (SettledTold e o) m) (sym is)
+    (leads_shared A told c e.q e.request e.d.value.class e.index s reference_left (SettledTold e o) entry.of entry.asked (λ x h. h.before.0) (λ x h. found_now x h found) (omega arith))
+  where
+    found_now : (x : Shown) → SettledTold e o x → o ≡ Some s → IsSettledIn x e.d.value.class e.index s.value
+    found_now x h eq = (subst (λ (k : Option (Arc Settled Global)). SettledTold e k x) eq h).now
+
+-- nothing was found, and the entry is opened
+pub opens_entry : (A : Type 0) (told : Option Content) (c : Configured) (e : entries.Entry A) (o : Option (Arc Settled Global)) (n : Next A) → LeadsBy told c e.q e.request reference_left (EntryTold e) n → LeadsBy told c e.q e.request reference_left (SettledTold e o) n
+opens_entry A told c e o n l = leads_by reference_left (SettledTold e o) l (omega arith) (λ x h. h.before)

@@ -108,7 +108,7 @@ fn count_rows<T: Told>(whole: &Lineage<T>) -> usize
 }
 
 /// The row at a place of a lineage, if there is one.
-fn row_at<T: Told>(whole: &Lineage<T>, place: usize) -> Option<&Arc<ClassRow<T>>>
+pub(crate) fn row_at<T: Told>(whole: &Lineage<T>, place: usize) -> Option<&Arc<ClassRow<T>>>
     ensures { option_map (λ r. r.now.value) result ≡ slice_get (rows_in whole.now) place }
 {
     let above = whole.above();

@@ -62,10 +62,10 @@ pub named_steps : {A : Type 0} (told : Option Content) (c : Configured) (e : ent
     → LeadsBy told c e.q e.request tracing_named_left (TracedTold e own.value named.value) n → IsPlain n.turn → Steps told (resolving_at c (resolutions.TracingNamed e own k)) (reply.Lineage named) n
 named_steps {A = A} told c e own k named n is l plain =
     let tells : (x : Shown) → Tells {A = A} x (resolving_at c (resolutions.TracingNamed e own k)) (reply.Lineage named) → TracedTold e own.value named.value x =
-        λ x h. record {
-          before = subst (λ (j : Class). AreSo x (named_facts e.request e.d.value.class j ++ HasLineage own.value ∷ [])) (sym is) h.before.facts;
-          now = traced_as x k.value.class named.value h.now;
-        } in
+    λ x h. record {
+      before = subst (λ (j : Class). AreSo x (named_facts e.request e.d.value.class j ++ HasLineage own.value ∷ [])) (sym is) h.before.facts;
+      now = traced_as x k.value.class named.value h.now;
+    } in
     record {
       leads = leads_more tracing_named_left (λ x. Tells {A = A} x (resolving_at c (resolutions.TracingNamed e own k)) (reply.Lineage named)) (λ x. TellsNow {A = A} x (resolving_at c (resolutions.TracingNamed e own k)) (reply.Lineage named)) l
           (same_room tracing_named_left) tells (λ x h. tells x h.told);

@@ -14,8 +14,8 @@ returns-in-None-clause-leads g c =
     leads_by (room_at phases.Homing c.args.job 0) (FindsHome c.args.job c.args.home c.args.row (λ r. r.value)) c.derive.ensures.leads (omega arith)
     (λ x h. subst (λ (o : Option _). FindsHome c.args.job c.args.home o (λ r. r.value) x) c.in-None.is h)
 
-pub returns-clause-leads : goal.returns-clause-leads
-returns-clause-leads g c =
+pub returns-in-Ok-clause-leads : goal.returns-in-Ok-clause-leads
+returns-in-Ok-clause-leads g c =
     let k : left_at phases.Defining (frames_of c.args.job.path) 0 < left_at phases.Homing (frames_of c.args.job.path) 0 = roots_less g.T.Told.told c.args.job.path phases.Homing 0 0 c.at_name.ensures.path tt in
     leads_by (room_at phases.Homing c.args.job 0) (FindsHome c.args.job c.args.home c.args.row (λ r. r.value)) c.initiate.ensures.leads (omega arith)
     (λ x h.

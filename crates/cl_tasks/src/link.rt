@@ -186,7 +186,7 @@ pub(crate) fn count_needs<T: Told>(list: &Equalities<T>) -> usize
 }
 
 /// Brings what a list keeps, and that the lineages that it was made from are those of their world.
-fn bring_list<T: Told>(list: &Equalities<T>)
+pub(crate) fn bring_list<T: Told>(list: &Equalities<T>)
     ensures kept { AreOf list.now.origin (needs_of list.now.needs) }
     ensures lineages { AreLineages T.told list.now.origin }
 {

@@ -1,5 +1,6 @@
 pub mod Histories
 pub mod Serving
+pub mod States
 pub mod Told
 pub mod Shown
 pub mod Served
@@ -7,4 +8,4 @@ pub mod Rounds
 pub mod Recorded
 pub mod Counted
 pub mod Headline
-pub mod Again
+pub mod Known

@@ -16,7 +16,8 @@ use Rattle.cl_config.specs.Views.{Configured}
 use Rattle.cl_registry.specs.Tables.{Shown, IsTrusted, RunsAs, IsOpen, is_in, posts, with_post}
 use Rattle.cl_registry.specs.Reports.{IsReport}
 use Rattle.cl_schedule.specs.Serving.{upto, reported}
-use Rattle.cl_schedule.proofs.Histories.{Happens, posts_then, is_in_push, unposted}
+use Rattle.cl_schedule.proofs.Histories.{posts_then, is_in_push, unposted}
+use Rattle.cl_schedule.specs.Serving.{GoesBy}
 
 -- the same configuration and script, and no post more
 pub record Goes (old new : Shown) : Type 0 where
@@ -27,7 +28,7 @@ pub record Goes (old new : Shown) : Type 0 where
 pub goes_none : (x : Shown) → Goes x x
 goes_none x = record { config = refl; script = refl; posts_same = refl }
 
-pub goes_on : (start old new : Shown) (e : Step) → Goes start old → Happens old new e → Goes start new
+pub goes_on : (start old new : Shown) (e : Step) → Goes start old → GoesBy old new e → Goes start new
 goes_on start old new e g h = record { config = h.config ∙ g.config; script = h.script ∙ g.script; posts_same = h.posts_same ∙ g.posts_same }
 
 pub goes_same : (start old new : Shown) → Goes start old → new ≡ old → Goes start new

@@ -6,10 +6,17 @@ mod backs;
 mod entries;
 pub mod finding;
 mod fits;
+mod imposing;
 pub mod laws;
+mod lineages;
+mod posts;
+mod recording;
+mod references;
 pub mod registry;
 pub mod report;
 mod rounds;
+pub mod settling_laws;
+mod stub;
 mod tables;
 
 pub use finding::{Finding, Obstacle};

@@ -1,0 +1,2 @@
+#include <stdlib.h>
+unsigned char stub_never(void) { abort(); }

@@ -1,0 +1,69 @@
+//! The table of settled references, as a plain map.
+
+ghost use Rattle.std.specs.Prelude.{◌≡◌, None, OnOk, OnErr, option_map};
+ghost use Rattle.indexmap.specs.IndexMap.{IsUnchanged, get};
+ghost use Rattle.cl_model.specs.Classes.{same_class};
+ghost use Rattle.cl_registry.specs.References.{HasSameReferences, IsReferencePut};
+ghost use Rattle.cl_registry.specs.Tables.{reference_in};
+
+use crate::tables::References;
+use cl_model::{Class, Settled};
+use cl_names::Seed;
+use indexmap::IndexMap;
+use std::alloc::{AllocError, Global};
+use std::sync::Arc;
+
+/// What an entry of a class is settled to.
+pub fn find_reference<'a>(
+    references: &'a References,
+    class: &Class,
+    index: u16,
+) -> Option<&'a Arc<Settled>>
+    ensures { option_map (λ s. s.now) result ≡ reference_in references.now class.now index }
+{
+    references.get(class)?.get(&index)
+}
+
+/// Puts what an entry is settled to, the first of its class.
+fn put_first(
+    references: &mut References,
+    alloc: Global,
+    seed: Seed,
+    class: Class,
+    index: u16,
+    settled: Arc<Settled>,
+) -> Result<(), AllocError>
+    requires { get same_class references.old class ≡ None }
+    ensures put { OnOk result (IsReferencePut (reference_in references.old) (reference_in references.new) class index settled) }
+    ensures unchanged { OnErr result (IsUnchanged references.old references.new) }
+{
+    let mut one = IndexMap::with_hasher(alloc, seed);
+    if one.insert(index, settled).is_err() {
+        return Err(AllocError);
+    }
+    match references.insert(class, one) {
+        Ok(_) => Ok(()),
+        Err(_) => Err(AllocError),
+    }
+}
+
+/// Puts what an entry of a class is settled to, in a table that hashes with this seed.
+pub fn put_reference(
+    references: &mut References,
+    alloc: Global,
+    seed: Seed,
+    class: Class,
+    index: u16,
+    settled: Arc<Settled>,
+) -> Result<(), AllocError>
+    ensures put { OnOk result (IsReferencePut (reference_in references.old) (reference_in references.new) class index settled) }
+    ensures unchanged { OnErr result (HasSameReferences (reference_in references.old) (reference_in references.new)) }
+{
+    if let Some(one) = references.get_mut(&class) {
+        return match one.insert(index, settled) {
+            Ok(_) => Ok(()),
+            Err(_) => Err(AllocError),
+        };
+    }
+    put_first(references, alloc, seed, class, index, settled)
+}

@@ -1,7 +1,6 @@
 -- The words of the worked examples of scripts (own choice).
 use Rattle.std.specs.Prelude.{ℕ, List, [], ◌∷◌, codes}
 use Rattle.cl_model.specs.declared.request.Request.{Request}
-use Rattle.cl_model.specs.declared.request.Request.TheVariants.{Load, Resolve, Link}
 use Rattle.cl_config.specs.Scripts.{Says}
 use Rattle.cl_config.specs.declared.script.Said.TheVariants.{Ask}
 

@@ -43,9 +43,9 @@ pub fn lines_that_are_bad()
 pub fn texts()
     ensures script { script_of two (codes "load app p/A\nthen\nresolve app p/A 1\nlink app p/A")
         (Ok (record {
-            requests = Load 1 (codes "p/A") ∷ Resolve 1 (codes "p/A") 1 ∷ Link 1 (codes "p/A") ∷ [];
-            rounds_of = 0 ∷ 1 ∷ 1 ∷ [];
-            rounds = 2;
+          requests = Load 1 (codes "p/A") ∷ Resolve 1 (codes "p/A") 1 ∷ Link 1 (codes "p/A") ∷ [];
+          rounds_of = 0 ∷ 1 ∷ 1 ∷ [];
+          rounds = 2;
         })) }
     ensures bad { script_of two (codes "# x\n\nload app p/A\nlink x p.A\n") (Err (BadLine 4)) }
     ensures unknown { script_of two (codes "then\nlink x p/A\nload") (Err (UnknownLoader 2)) }

@@ -1,2 +1,1 @@
-#include <stdlib.h>
-unsigned char stub_never(void) { abort(); }
+unsigned stub_never(void) { for (;;) {} }

@@ -1,10 +1,8 @@
-pub mod Backed
 pub mod Calm
 pub mod Counts
 pub mod Histories
 pub mod Linked
 pub mod Placed
 pub mod Referenced
-pub mod Rests
 pub mod Settled
 pub mod Steps

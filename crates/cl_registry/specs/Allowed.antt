@@ -10,11 +10,12 @@ use Rattle.cl_delegation.specs.Worlds.{setting_of, world_of}
 use Rattle.cl_hierarchy.specs.Drafts.{IsDraft, Drafted}
 use Rattle.cl_hierarchy.specs.Imposed.{Listed, OfPreparation, equal_need, needs_of}
 use Rattle.cl_hierarchy.specs.Lineages.{Lined}
-use Rattle.cl_registry.specs.Findings.{Answered, Rests}
+use Rattle.cl_findings.specs.Findings.{Answered, Rests}
 use Rattle.cl_registry.specs.declared.registry.RegistryFault.TheVariants.{Stray}
 use Rattle.cl_registry.specs.Imposing.{AreOfConfig, IsListed, IsListOf, IsReady, MayImpose}
+use Rattle.cl_registry.specs.Posting.{Fits}
 use Rattle.cl_registry.specs.Refusals.{DefineRefusedFor}
-use Rattle.cl_registry.specs.Tables.{Shown, state_of, records_of, NamesLoaders, IsKept, IsNew, LacksRecord, MayEnter, MayJoin, own_record, asked_record, Fits, MayGoOn}
+use Rattle.cl_registry.specs.Tables.{Shown, state_of, records_of, NamesLoaders, IsKept, IsNew, LacksRecord, MayEnter, MayJoin, own_record, asked_record, MayGoOn}
 
 -- a class of this configuration that the machine may define has no record and may be entered, and is not refused (5.3.4, 5.3.5)
 abbrev pub AllowedIsEntered : Type 0

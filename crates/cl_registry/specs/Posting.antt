@@ -8,7 +8,7 @@ use Rattle.cl_model.specs.Tables.{Bears}
 use Rattle.cl_model.specs.Views.{request_of, verdict_of}
 use Rattle.cl_findings.specs.Findings.{Answered, Based, IsBorne, IsLookedUp, IsWithin}
 use Rattle.cl_registry.specs.Tables.{Shown, state_of, IsAsked, IsLater, IsOpen}
-use Rattle.cl_registry.specs.Settling.{settled_by}
+use Rattle.cl_registry.specs.References.{settled_by}
 
 -- what a verdict rests on stands in the tables, or it is one that is looked up there (5.3 to 5.4.3)
 abbrev pub IsGrounded : Shown → Request → Verdict → Option Based → Type 0

@@ -1,5 +1,5 @@
 -- When a registry refuses a value, and why (own choice; JVMS SE 8, 5.3, 5.3.4, 5.3.5, 5.4.2).
-use Rattle.std.specs.Prelude.{◌≡◌, ◌⊎◌, ℕ, Some}
+use Rattle.std.specs.Prelude.{◌≡◌, ◌⊎◌, ℕ, Some, None}
 use Rattle.cl_model.specs.declared.class.Class.{Class}
 use Rattle.cl_model.specs.declared.need.Need.{Need}
 use Rattle.cl_model.specs.States.{IsRecorded, Refused}
@@ -10,9 +10,12 @@ use Rattle.cl_registry.specs.declared.registry.RegistryFault.TheVariants.{Memory
 use Rattle.cl_delegation.specs.Searches.{Located}
 use Rattle.cl_hierarchy.specs.Drafts.{Drafted}
 use Rattle.cl_hierarchy.specs.Imposed.{Listed}
-use Rattle.cl_registry.specs.Findings.{Answered}
+use Rattle.cl_findings.specs.Findings.{Answered}
 use Rattle.cl_registry.specs.Imposing.{IsNextOf, MayImpose, MayMark}
-use Rattle.cl_registry.specs.Tables.{Shown, state_of, IsNew, LacksRecord, MayEnter, MayJoin, own_record, asked_record, IsAsked, IsLater, IsOpen, IsBacked, MayGoOn}
+use Rattle.cl_registry.specs.Tables.{Shown, state_of, IsNew, LacksRecord, MayEnter, MayJoin, own_record, asked_record, IsAsked, IsLater, IsOpen, MayGoOn}
+use Rattle.cl_registry.specs.References.{settled_by}
+use Rattle.cl_registry.specs.Settling.{MaySettle}
+use Rattle.cl_registry.specs.Posting.{IsBacked}
 
 -- this need, and no other, is refused: adding it would violate an equality (5.3.4)
 pub record Blames (x : Shown) (blamed : Need) (need : states.Need) : Type 0 where
@@ -69,6 +72,15 @@ LineageRefusedFor x c Stray = IsRecorded (state_of x) c → ⊥
 LineageRefusedFor x c (Violates n) = ⊥
 LineageRefusedFor x c AlreadyPosted = ⊥
 LineageRefusedFor x c NotYet = ⊥
+
+-- a finding is strayed where the entry that its request resolves is not settled and it settles none; others are refused where
+-- memory ran out alone (5.4.3)
+abbrev pub SettleRefusedFor : Shown → Answered → RegistryFault → Type 0
+SettleRefusedFor x f Memory = settled_by x f.request ≡ None → MaySettle x f
+SettleRefusedFor x f Stray = (settled_by x f.request ≡ None) × (MaySettle x f → ⊥)
+SettleRefusedFor x f (Violates n) = ⊥
+SettleRefusedFor x f AlreadyPosted = ⊥
+SettleRefusedFor x f NotYet = ⊥
 
 -- an answer is strayed where the request is another, or where what it rests on is not in the tables; between the two it is
 -- told that the request is of a later round, or has an answer (own choice)

@@ -30,7 +30,7 @@ use Rattle.cl_delegation.specs.Worlds.{setting_of}
 use Rattle.cl_hierarchy.specs.Drafts.{Drafted, IsSpelt}
 use Rattle.cl_hierarchy.specs.Rows.{Rowed}
 use Rattle.cl_hierarchy.specs.RowTables.{AreRows}
-use Rattle.cl_registry.specs.Findings.{Answered, Based, loader_of}
+use Rattle.cl_findings.specs.Findings.{Answered}
 
 -- what a registry shows: whose it is, the rows of the classes that were defined, in order, what happened, and the answer of
 -- each request that has one (own choice)
@@ -259,31 +259,6 @@ with_post x q a = record x { history = x.history ++ events.Post q ∷ []; answer
 abbrev pub with_round : Shown → Shown
 with_round x = record x { history = x.history ++ events.NextRound ∷ [] }
 
--- what an error rests on is recorded, and was found under this configuration (5.3, 5.3.5)
-abbrev pub BasisStands : Shown → Option Based → Type 0
-BasisStands x None = ⊥
-BasisStands x (Some b) = (b.config ≡ x.config) × AllMet (state_of x) b.needs
-
--- what the verdict of a load rests on stands in the tables: the class that is answered, by the loader that defined it, or what
--- an error rests on (5.3, 5.3.5); other verdicts, and those of other requests, are not posted yet
-abbrev pub VerdictBacked : Shown → Request → Verdict → Option Based → Type 0
-VerdictBacked x (requests.Load loader name) (verdicts.Class c) b = (c.name ≡ name) × (recorded (records_of x) loader name ≡ Some c.loader)
-VerdictBacked x (requests.Load loader name) (verdicts.Error kind c) b = BasisStands x b
-VerdictBacked x r v b = ⊥
-
--- the same of an answer (5.3)
-abbrev pub AnswerBacked : Shown → Answered → Answer → Type 0
-AnswerBacked x f (answers.Said v) = VerdictBacked x f.request v f.basis
-AnswerBacked x f (answers.Shared s) = ⊥
-AnswerBacked x f answers.Memory = Unit {0}
-AnswerBacked x f (answers.SourceFault n l) = Unit {0}
-
--- its loaders are those of the configuration, too (5.3)
-pub record IsBacked (x : Shown) (f : Answered) : Type 0 where
-  pub loader : loader_of f.request < length x.config.loaders
-  pub names : AnswerNames (length x.config.loaders) f.answer
-  pub answer : AnswerBacked x f f.answer
-
 -- the request of this number asks what was answered (own choice)
 abbrev pub IsAsked : Shown → ℕ → Answered → Type 0
 IsAsked x q f = slice_get x.script.requests q ≡ Some f.request
@@ -297,13 +272,6 @@ pub record IsLater (x : Shown) (q : ℕ) : Type 0 where
 -- the request of this number has no answer yet (own choice)
 abbrev pub IsOpen : Shown → ℕ → Type 0
 IsOpen x q = slice_get x.answers q ≡ Some None
-
--- the request of this number asks what was answered, is of no later round, has no answer yet, and the tables bear the answer (5.3)
-pub record Fits (x : Shown) (q : ℕ) (f : Answered) : Type 0 where
-  pub asked : IsAsked x q f
-  pub begun : IsLater x q → ⊥
-  pub unanswered : IsOpen x q
-  pub backed : IsBacked x f
 
 -- each request of the round has its answer, and there is a later round (own choice)
 abbrev pub MayGoOn : Shown → Type 0

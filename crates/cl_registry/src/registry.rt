@@ -1,21 +1,21 @@
 ghost use Rattle.std.specs.Prelude.{◌≡◌, ◌<◌, ◌≤◌, ◌+◌, OnOk, Some, IfOk, IfErr, IfSome, MatchBool, MatchOption, length};
 ghost use Rattle.std.specs.Option.{option_map};
 ghost use Rattle.cl_delegation.specs.Searches.{LeadsTo};
-ghost use Rattle.cl_registry.specs.Tables.{Defines, Fits, Initiates, IsKept, LacksRecord, MayEnter, MayGoOn, MayJoin, Records, empty_of, looked, round_of, with_post, with_round};
+ghost use Rattle.cl_registry.specs.Tables.{Defines, Initiates, IsKept, LacksRecord, MayEnter, MayGoOn, MayJoin, Records, empty_of, looked, round_of, with_post, with_round};
 ghost use Rattle.cl_registry.specs.Refusals.{DefineRefusedFor, InitiateRefusedFor, JoinRefusedFor, PostRefusedFor, RoundRefusedFor};
 ghost use Rattle.cl_registry.specs.Reports.{IsNamed, IsReport, IsUnfinished};
 
-use crate::backs::{backs, count_down, is_asked, is_open, put_answer};
 use crate::entries::{asked_row, defined_row, has_supers, join, own_row, record};
-use crate::finding::Finding;
 use crate::fits::supertypes_fit;
 use crate::stub::never;
 use crate::report::{Answers, History, Report};
 use crate::rounds::{collect, counts_of, rooms_for, to_come};
 use crate::tables::{References, Rows, empty_rows, find};
 use cl_config::{Config, Script};
+use cl_findings::Finding;
 use cl_constraints::{ConstraintBook, GroupedBook};
 use cl_delegation::Home;
+use cl_findings::Finding;
 use cl_hierarchy::{ClassRow, Draft};
 use cl_model::{Answer, Class, Event, LoaderId, Need, Told};
 use cl_names::{Name, Seed};

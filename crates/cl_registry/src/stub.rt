@@ -1,7 +1,7 @@
 //! In place of bodies that are not written yet.
 
 unsafe extern "C" {
-    safe fn stub_never() -> u8
+    safe fn stub_never() -> u32
         ensures { ⊥ };
 }
 

@@ -8,8 +8,8 @@ use Rattle.cl_model.specs.States.{recorded, Met, Refused}
 use Rattle.cl_model.specs.Frames.{Frame}
 use Rattle.cl_hierarchy.specs.Rows.{Rowed}
 use Rattle.cl_registry.specs.Tables.{Shown, state_of, records_of, looked}
-use Rattle.cl_registry.specs.Imposing.{IsTraced}
-use Rattle.cl_tasks.specs.Tasks.{Tasked, Fact, Stands, IsRefused, IsTraced as Traced, IsPrepared}
+use Rattle.cl_registry.specs.Traced.{IsTraced}
+use Rattle.cl_tasks.specs.Tasks.{Tasked, Fact, Stands, StandsRefused, HasLineage, IsPrepared}
 
 -- a loader has recorded the name as this row's class, and this row is kept (5.3)
 pub record IsRecordedAs (x : Shown) (loader : ℕ) (name : List ℕ) (row : Rowed) : Type 0 where
@@ -37,8 +37,8 @@ AllHave x frames = AllByRecursion (λ f. HaveAccepted x f.class f.accepted (supe
 -- a fact holds of the tables (5.3 to 5.4.3)
 abbrev pub IsSo : Shown → Fact → Type 0
 IsSo x (Stands n) = Met (state_of x) n
-IsSo x (IsRefused n) = Refused (state_of x) n
-IsSo x (Traced l) = IsTraced x l
+IsSo x (StandsRefused n) = Refused (state_of x) n
+IsSo x (HasLineage l) = IsTraced x l.own.class l
 IsSo x (IsPrepared c) = Contains (state_of x).prepared c
 
 -- and each of these

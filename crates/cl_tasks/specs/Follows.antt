@@ -16,30 +16,26 @@ use Rattle.cl_model.specs.Tables.{Records}
 use Rattle.cl_model.specs.Views.{need_of, request_of, verdict_of}
 use Rattle.cl_source.specs.declared.source.SourceFault.{SourceFault}
 use Rattle.cl_source.specs.declared.source.SourceFault.TheVariants as faults
-use Rattle.cl_config.specs.Views.{Configured}
-use Rattle.cl_delegation.specs.Worlds.{world_of}
+use Rattle.cl_config.specs.Views.{Configured, Scripted}
+use Rattle.cl_delegation.specs.Worlds.{setting_of}
 use Rattle.cl_hierarchy.specs.Imposed.{Listed, OfReference, OfPreparation, Sprung}
 use Rattle.cl_findings.specs.Findings.{Answered, loader_of, name_of}
 use Rattle.cl_findings.specs.References.{index_of}
 use Rattle.cl_registry.specs.Tables.{Shown, state_of, records_of, NamesLoaders, MayEnter, MayJoin}
-use Rattle.cl_registry.specs.Imposing.{IsTraced, MayImpose, MayMark}
-use Rattle.cl_registry.specs.Settling.{IsSettledIn, MaySettle}
+use Rattle.cl_registry.specs.Imposing.{IsNextOf, IsPreparedBy, MayImpose, MayMark}
+use Rattle.cl_registry.specs.Traced.{IsTraced}
+use Rattle.cl_registry.specs.References.{IsSettledIn}
+use Rattle.cl_registry.specs.Settling.{MaySettle}
 use Rattle.cl_registry.specs.Posting.{IsBacked}
 use Rattle.cl_tasks.specs.Tasks.{Tasked}
 use Rattle.cl_tasks.specs.Facts.{Holds, IsRecordedAs}
 use Rattle.cl_tasks.specs.Waits.{Waits, Beginning, Looking, Reading, Defining, Initiating, Tracing, LookingReference, Settling, Imposing, LookingPrepared, Marking, Ended}
-use Rattle.cl_tasks.specs.Turns.{equality_at}
 use Rattle.cl_tasks.specs.declared.turn.Reply.{Reply}
 use Rattle.cl_tasks.specs.declared.turn.Reply.TheVariants as reply
 use Rattle.cl_tasks.specs.declared.turn.Turn.{Turn}
 use Rattle.cl_tasks.specs.declared.turn.Turn.TheVariants as turn
 
 -- ---- what a reply tells of the tables, and stays so
-
--- the class whose preparation asks for a list is prepared (5.4.2)
-abbrev pub IsMarked : Shown → Sprung → Type 0
-IsMarked x (OfReference d c index) = ⊥
-IsMarked x (OfPreparation l) = Contains (state_of x).prepared l.own.class
 
 -- the reference of a request is settled to this, where its loader records the class (5.4.3)
 abbrev pub IsSettledOf : Shown → Request → Settled → Type 0
@@ -51,12 +47,12 @@ abbrev pub TellsOf : {A : Type 0} → Shown → Waits → Reply A → Type 0
 TellsOf x (Looking l n) (reply.Looked (Some row)) = IsRecordedAs x l n row.value
 TellsOf x (Defining d) (reply.Defined row) = IsRecordedAs x d.class.loader d.class.name row.value
 TellsOf x (Initiating h) (reply.Initiated row) = IsRecordedAs x h.asked h.name row.value
-TellsOf x waits (reply.Lineage l) = IsTraced x l.value
+TellsOf x (Tracing c) (reply.Lineage l) = IsTraced x c l.value
 TellsOf x (LookingReference c i) (reply.LookedReference (Some s)) = IsSettledIn x c i s.value
 TellsOf x (Settling r) (reply.Settled s) = IsSettledOf x r s.value
-TellsOf x (Imposing e k) reply.Imposed = IfSome (equality_at e k) (Met (state_of x))
+TellsOf x (Imposing e k) reply.Imposed = IsNextOf e k (Met (state_of x))
 TellsOf x (LookingPrepared c) (reply.LookedPrepared true) = Contains (state_of x).prepared c
-TellsOf x (Marking e) reply.Marked = IsMarked x e.origin
+TellsOf x (Marking e) reply.Marked = IsPreparedBy x e.origin
 TellsOf x waits (reply.Refused n) = Refused (state_of x) (need_of n)
 TellsOf x waits other = Unit {0}
 
@@ -126,17 +122,18 @@ abbrev pub Follows : {A : Type 0} → Setting → State → Request → Turn A �
 Follows g s r (turn.Define d) = IsWanted g s r (Entry d.class.loader d.class.name d.class.loader)
 Follows g s r (turn.Initiate h) = IsWanted g s r (Entry h.value.asked h.value.name h.value.place) × (h.value.asked ≡ h.value.place → ⊥)
 Follows g s r (turn.Settle f) = IsSettledNext g s r f
-Follows g s r (turn.Impose e k) = IfSome (equality_at e.value k) (IsWanted g s r)
+Follows g s r (turn.Impose e k) = IsNextOf e.value k (IsWanted g s r)
 Follows g s r (turn.Mark e) = IsPreparedNext g s r e.value.origin
 Follows g s r (turn.Post f) = AnswerFollows g s r f.answer
 Follows g s r other = Unit {0}
 
--- where a request is served: the world is that of the content that is told and of this configuration, and all that the tables hold is as
--- it should be in it (5.3 to 5.4.3)
+-- where a request is served: the setting is that of the content that is told, of this configuration and of a script, and all that the tables
+-- hold is as it should be in it (5.3 to 5.4.3)
 pub record ServedIn (told : Option Content) (c : Configured) (g : Setting) (s : State) : Type 0 where
   pub content : Content
+  pub script : Scripted
   pub told_so : told ≡ Some content
-  pub world : g.world ≡ world_of c content
+  pub setting : g ≡ setting_of c script content
   pub sound : IsSound g s
 
 -- a turn follows the plan wherever the request is served and this holds (5.3 to 5.4.3)

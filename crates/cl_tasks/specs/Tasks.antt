@@ -12,8 +12,8 @@ use Rattle.cl_tasks.specs.Waits.{Waits, Beginning}
 -- what a task was told of the tables, and stays so: a need stands, or is refused; a lineage is of these tables; a class is prepared (5.3 to 5.4.3)
 pub data Fact : Type 0 where
   Stands : (need : Need) → Fact
-  IsRefused : (need : Need) → Fact
-  IsTraced : (lineage : Lined) → Fact
+  StandsRefused : (need : Need) → Fact
+  HasLineage : (lineage : Lined) → Fact
   IsPrepared : (class : Class) → Fact
 
 -- under which configuration and for which request of the script a task is, until that has its answer; what it waits for; the classes that it derives, with what each

@@ -9,6 +9,7 @@ use Rattle.cl_model.specs.declared.verdict.Verdict.TheVariants as verdicts
 use Rattle.cl_model.specs.declared.settled.Settled.{Settled}
 use Rattle.cl_model.specs.States.{Need, Entry}
 use Rattle.cl_model.specs.Views.{need_of}
+use Rattle.cl_config.specs.Views.{Configured}
 use Rattle.cl_hierarchy.specs.Imposed.{Listed, equal_need}
 use Rattle.cl_findings.specs.Findings.{IsSettledFor, loader_of, name_of}
 use Rattle.cl_tasks.specs.Tasks.{Tasked}
@@ -32,27 +33,27 @@ need_at (Imposing e k) = equality_at e k
 need_at waits = None
 
 -- the reply is one to this call; memory may be refused to each, and a need to one that would make it stand
-abbrev pub IsReplyTo : {A : Type 0} → Waits → Reply A → Type 0
-IsReplyTo waits reply.Start = waits ≡ Beginning
-IsReplyTo (Looking l n) (reply.Looked row) = Unit {0}
-IsReplyTo (Reading l n) (reply.Probed p) = (p.loader ≡ l) × (p.name ≡ n)
-IsReplyTo (Reading l n) (reply.SourceFault f) = Unit {0}
-IsReplyTo (Defining d) (reply.Defined row) = Unit {0}
-IsReplyTo (Initiating h) (reply.Initiated row) = Unit {0}
-IsReplyTo (Tracing c) (reply.Lineage l) = l.value.own.class ≡ c
-IsReplyTo (LookingReference c i) (reply.LookedReference None) = Unit {0}
-IsReplyTo (LookingReference c i) (reply.LookedReference (Some s)) = (s.value.class ≡ c) × (s.value.index ≡ i)
-IsReplyTo (Settling r) (reply.Settled s) = IsSettledFor r s.value
-IsReplyTo (Imposing e k) reply.Imposed = Unit {0}
-IsReplyTo (LookingPrepared c) (reply.LookedPrepared b) = Unit {0}
-IsReplyTo (Marking e) reply.Marked = Unit {0}
-IsReplyTo waits (reply.Refused n) = need_at waits ≡ Some (need_of n)
-IsReplyTo waits reply.Memory = waits ≢ Ended
-IsReplyTo waits other = ⊥
+abbrev pub IsReplyTo : {A : Type 0} → Configured → Waits → Reply A → Type 0
+IsReplyTo config waits reply.Start = waits ≡ Beginning
+IsReplyTo config (Looking l n) (reply.Looked row) = Unit {0}
+IsReplyTo config (Reading l n) (reply.Probed p) = (p.loader ≡ l) × (p.name ≡ n)
+IsReplyTo config (Reading l n) (reply.SourceFault f) = Unit {0}
+IsReplyTo config (Defining d) (reply.Defined row) = Unit {0}
+IsReplyTo config (Initiating h) (reply.Initiated row) = Unit {0}
+IsReplyTo config (Tracing c) (reply.Lineage l) = (l.value.own.class ≡ c) × (l.value.config ≡ config)
+IsReplyTo config (LookingReference c i) (reply.LookedReference None) = Unit {0}
+IsReplyTo config (LookingReference c i) (reply.LookedReference (Some s)) = (s.value.class ≡ c) × (s.value.index ≡ i)
+IsReplyTo config (Settling r) (reply.Settled s) = IsSettledFor r s.value
+IsReplyTo config (Imposing e k) reply.Imposed = Unit {0}
+IsReplyTo config (LookingPrepared c) (reply.LookedPrepared b) = Unit {0}
+IsReplyTo config (Marking e) reply.Marked = Unit {0}
+IsReplyTo config waits (reply.Refused n) = need_at waits ≡ Some (need_of n)
+IsReplyTo config waits reply.Memory = waits ≢ Ended
+IsReplyTo config waits other = ⊥
 
 -- the reply is one to what was asked
 abbrev pub Expects : {A : Type 0} → Tasked → Reply A → Type 0
-Expects t r = IsReplyTo t.waits r
+Expects t r = IsReplyTo t.config t.waits r
 
 -- ---- what is asked
 

@@ -40,7 +40,15 @@ pub struct Entry<T: Told> {
     pub d: Arc<ClassRow<T>>,
 }
 
-/// The two classes of an entry that asks for a member: the one whose pool has it, and the one that it names.
+/// A resolution whose request's class cannot be loaded.
+#[derive(Drop)]
+pub struct Failed<T: Told> {
+    pub q: u32,
+    pub request: Request,
+    pub finding: Finding<T>,
+}
+
+/// A member that an entry asks for, with its loading constraints.
 #[derive(Drop)]
 pub struct Member<T: Told> {
     pub entry: Entry<T>,
@@ -51,8 +59,8 @@ pub struct Member<T: Told> {
 /// A resolution whose request's class is recorded, or cannot be loaded (JVMS SE 8, 5.4.3).
 #[derive(Drop)]
 pub enum Resolution<T: Told> {
-    /// The class cannot be loaded, as this finding has it; it is looked for once more.
-    Checking(u32, Finding<T>),
+    /// The class cannot be loaded; it is looked for once more.
+    Checking(Failed<T>),
     LookingReference(Entry<T>),
     /// The entry asks for a member of this class.
     TracingOwn(Entry<T>, Arc<ClassRow<T>>),

@@ -24,7 +24,7 @@ use Rattle.cl_config.specs.Views.{Scripted}
 use Rattle.cl_registry.specs.Tables.{Shown, IsTrusted, IsOpen, IsLater, is_in, posts, round_of, state_of, steps, with_round}
 use Rattle.cl_registry.specs.Tables as tables
 use Rattle.cl_registry.specs.declared.registry.RegistryFault.{RegistryFault}
-use Rattle.cl_registry.specs.declared.registry.RegistryFault.TheVariants.{Memory, Stray, AlreadyPosted, NotYet}
+use Rattle.cl_registry.specs.declared.registry.RegistryFault.TheVariants.{Memory, Stray, Violates, AlreadyPosted, NotYet}
 use Rattle.cl_registry.specs.Refusals.{RoundRefusedFor}
 use Rattle.cl_registry.specs.Reports.{IsUnfinished}
 use Rattle.cl_schedule.specs.Known.{Has, KnownStays, SaysOrLacks, TellsKnown}
@@ -108,6 +108,7 @@ next_number x new may e =
 pub end_of_rounds : (old x new : Shown) (fault : RegistryFault) → Passing old x → new ≡ x → RoundRefusedFor x fault → RoundsPassed old new
 end_of_rounds old x new Memory p same refused = absurd refused
 end_of_rounds old x new Stray p same refused = absurd refused
+end_of_rounds old x new (Violates n) p same refused = absurd refused
 end_of_rounds old x new AlreadyPosted p same refused = absurd refused
 end_of_rounds old x new NotYet p same refused = subst (RoundsPassed old) (sym same) (all_passed old x p refused)
 

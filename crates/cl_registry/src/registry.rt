@@ -15,7 +15,6 @@ use cl_config::{Config, Script};
 use cl_findings::Finding;
 use cl_constraints::{ConstraintBook, GroupedBook};
 use cl_delegation::Home;
-use cl_findings::Finding;
 use cl_hierarchy::{ClassRow, Draft};
 use cl_model::{Answer, Class, Event, LoaderId, Need, Told};
 use cl_names::{Name, Seed};

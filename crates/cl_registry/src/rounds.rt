@@ -1,8 +1,8 @@
 //! The requests of a registry, in rounds, and their answers.
 
 ghost use Rattle.std.specs.Prelude.{◌≡◌, ℕ, ◌<◌, ◌≤◌, ◌+◌, ◌-◌, ◌^◌, [], IfOk, MatchOption, None, Some, length, map, replicate, slice_get, slice_set, vec_len, vec_capacity};
-ghost use Rattle.cl_config.specs.Scripts.{IsScript};
 ghost use Rattle.cl_findings.specs.Findings.{Decides};
+ghost use Rattle.cl_config.specs.Scripts.{IsScript};
 ghost use Rattle.cl_registry.specs.Kept.{left_in, open_in};
 
 use cl_config::Script;
@@ -60,43 +60,6 @@ pub fn counts_of(alloc: Global, script: &Script) -> Result<Vec<usize>, AllocErro
         counts[script.round_of(q) as usize] += 1;
     }
     Ok(counts)
-}
-
-/// Whether the request of this number is this one.
-pub fn is_asked(requests: &[Request], q: u32, request: &Request) -> bool
-    ensures { Decides result (slice_get requests.now q ≡ Some request.now) }
-{
-    match requests.get(q as usize) {
-        None => false,
-        Some(asked) => asked.is_same(request),
-    }
-}
-
-/// Whether the request of this number has no answer.
-pub fn is_open(answers: &[Option<Answer>], q: u32) -> bool
-    ensures { Decides result (slice_get answers.now q ≡ Some None) }
-{
-    match answers.get(q as usize) {
-        Some(None) => true,
-        Some(Some(_)) => false,
-        None => false,
-    }
-}
-
-/// Puts the answer of a request that has none.
-pub fn put_answer(answers: &mut Vec<Option<Answer>>, q: u32, answer: Answer)
-    requires { slice_get answers.old.items q ≡ Some None }
-    ensures { answers.new.items ≡ slice_set answers.old.items q (Some answer) }
-{
-    answers[q as usize] = Some(answer);
-}
-
-/// One request of a round less has no answer.
-pub fn count_down(unanswered: &mut Vec<usize>, round: u32)
-    requires { MatchOption (slice_get unanswered.old.items round) ⊥ (λ n. 0 < n) }
-    ensures { MatchOption (slice_get unanswered.old.items round) ⊥ (λ n. unanswered.new.items ≡ slice_set unanswered.old.items round (n - 1)) }
-{
-    unanswered[round as usize] -= 1;
 }
 
 /// How many events are still to come: a post of each request that has no answer, and the rounds that have not begun.

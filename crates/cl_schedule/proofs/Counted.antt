@@ -75,22 +75,22 @@ no_fault answers.Memory n = refl
 no_fault (answers.SourceFault name loader) n = absurd n
 
 -- a refused read is answered as a fault of the source, unless memory was wanting
-reading_fault : {A : Type 0} (c : Configured) (w : Waits) (f : SourceFault) → IsReplyTo {A = A} c w (reply.SourceFault f) → fault (fault_answer w f) ≡ told_faults {A = A} (reply.SourceFault f)
-reading_fault c Beginning f is = absurd is
-reading_fault c (Looking l n) f is = absurd is
-reading_fault c (Reading l n) sources.Memory is = refl
-reading_fault c (Reading l n) sources.Device is = refl
-reading_fault c (Reading l n) sources.TooLarge is = refl
-reading_fault c (Reading l n) sources.Twice is = refl
-reading_fault c (Defining d) f is = absurd is
-reading_fault c (Initiating h) f is = absurd is
-reading_fault c (Tracing d) f is = absurd is
-reading_fault c (LookingReference d i) f is = absurd is
-reading_fault c (Settling r) f is = absurd is
-reading_fault c (Imposing e k) f is = absurd is
-reading_fault c (LookingPrepared d) f is = absurd is
-reading_fault c (Marking e) f is = absurd is
-reading_fault c Ended f is = absurd is
+reading_fault : (A : Type 0) (c : Configured) (w : Waits) (f : SourceFault) → IsReplyTo {A = A} c w (reply.SourceFault f) → fault (fault_answer w f) ≡ told_faults {A = A} (reply.SourceFault f)
+reading_fault A c Beginning f is = absurd is
+reading_fault A c (Looking l n) f is = absurd is
+reading_fault A c (Reading l n) sources.Memory is = refl
+reading_fault A c (Reading l n) sources.Device is = refl
+reading_fault A c (Reading l n) sources.TooLarge is = refl
+reading_fault A c (Reading l n) sources.Twice is = refl
+reading_fault A c (Defining d) f is = absurd is
+reading_fault A c (Initiating h) f is = absurd is
+reading_fault A c (Tracing d) f is = absurd is
+reading_fault A c (LookingReference d i) f is = absurd is
+reading_fault A c (Settling r) f is = absurd is
+reading_fault A c (Imposing e k) f is = absurd is
+reading_fault A c (LookingPrepared d) f is = absurd is
+reading_fault A c (Marking e) f is = absurd is
+reading_fault A c Ended f is = absurd is
 
 -- an answer is a fault of the source where the reply before it told of one, and nowhere else
 pub told_fault : {A : Type 0} (t : Tasked) (r : Reply A) (f : Answered) → Expects t r → Refuses {A = A} (refusal t r) (turn.Post f) → fault f.answer ≡ told_faults r
@@ -107,7 +107,7 @@ told_fault t (reply.LookedPrepared b) f e h = no_fault f.answer h
 told_fault t reply.Marked f e h = no_fault f.answer h
 told_fault t (reply.Refused n) f e h = no_fault f.answer h
 told_fault t reply.Memory f e h = ap fault h
-told_fault {A = A} t (reply.SourceFault s) f e h = ap fault h ∙ reading_fault {A = A} t.config t.waits s e
+told_fault {A = A} t (reply.SourceFault s) f e h = ap fault h ∙ reading_fault A t.config t.waits s e
 
 -- a task that asks on was told of no fault
 pub told_none : (A : Type 0) (t : Tasked) (r : Reply A) (u : Turn A) → Refuses (refusal t r) u → IsCall u → told_faults r ≡ 0

@@ -4,7 +4,7 @@ use cl_config::{Config, Script};
 use cl_delegation::{Home, Search};
 use cl_model::{Class, LoaderId, Request, Untold};
 use cl_names::Name;
-use cl_registry::{Registry, RegistryFault};
+use cl_registry::Registry;
 use cl_source::{MemorySource, Source, Telling};
 use std::alloc::{AllocError, Global};
 use std::sync::Arc;
@@ -135,25 +135,5 @@ pub fn registry(
     match Registry::new(alloc, Arc::try_clone(config)?, script) {
         Ok(registry) => Ok(registry),
         Err(_) => Err(AllocError),
-    }
-}
-
-/// Which fault a registry names, to be compared.
-#[derive(Clone, Copy, PartialEq, Eq)]
-pub enum Refused {
-    Memory,
-    Stray,
-    Violates,
-    AlreadyPosted,
-    NotYet,
-}
-
-pub fn fault_of(fault: &RegistryFault) -> Refused {
-    match fault {
-        RegistryFault::Memory => Refused::Memory,
-        RegistryFault::Stray => Refused::Stray,
-        RegistryFault::Violates(_) => Refused::Violates,
-        RegistryFault::AlreadyPosted => Refused::AlreadyPosted,
-        RegistryFault::NotYet => Refused::NotYet,
     }
 }

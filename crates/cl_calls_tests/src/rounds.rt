@@ -1,34 +1,33 @@
 //! Posts in their rounds: what is not yet, no longer, or never.
 
-use crate::given::{APP, CHILD_FIRST, KID, Refused, T, config, fault_of, load, registry};
-use cl_findings::Finding;
+use crate::given::{APP, CHILD_FIRST, KID, T, config, load, registry};
 use cl_model::{Answer, Event};
-use cl_registry::RegistryFault;
+use cl_registry::{Finding, RegistryFault};
 use std::test::Fail;
 
 const TEXT: &str = "load app p/T\nthen\nload kid p/T\nthen\n";
 
 /// For each round, what is posted as out of memory, in order: number, loader and name of the request, and the refusal.
-const POSTS: [&[(u32, u16, &[u8], Option<Refused>)]; 3] = [
+const POSTS: [&[(u32, u16, &[u8], Option<RegistryFault>)]; 3] = [
     &[
-        (9, APP, T, Some(Refused::Stray)),
-        (2, APP, T, Some(Refused::Stray)),
-        (0, KID, T, Some(Refused::Stray)),
-        (0, APP, b"p/U", Some(Refused::Stray)),
-        (1, APP, T, Some(Refused::Stray)),
-        (1, KID, T, Some(Refused::NotYet)),
+        (9, APP, T, Some(RegistryFault::Stray)),
+        (2, APP, T, Some(RegistryFault::Stray)),
+        (0, KID, T, Some(RegistryFault::Stray)),
+        (0, APP, b"p/U", Some(RegistryFault::Stray)),
+        (1, APP, T, Some(RegistryFault::Stray)),
+        (1, KID, T, Some(RegistryFault::NotYet)),
         (0, APP, T, None),
-        (0, APP, T, Some(Refused::AlreadyPosted)),
-        (1, KID, T, Some(Refused::NotYet)),
+        (0, APP, T, Some(RegistryFault::AlreadyPosted)),
+        (1, KID, T, Some(RegistryFault::NotYet)),
     ],
     &[
-        (0, APP, T, Some(Refused::AlreadyPosted)),
+        (0, APP, T, Some(RegistryFault::AlreadyPosted)),
         (1, KID, T, None),
-        (1, KID, T, Some(Refused::AlreadyPosted)),
+        (1, KID, T, Some(RegistryFault::AlreadyPosted)),
     ],
     &[
-        (1, KID, T, Some(Refused::AlreadyPosted)),
-        (2, KID, T, Some(Refused::Stray)),
+        (1, KID, T, Some(RegistryFault::AlreadyPosted)),
+        (2, KID, T, Some(RegistryFault::Stray)),
     ],
 ];
 
@@ -45,16 +44,16 @@ fn rounds(rt: HostRuntime) -> Result<(), Fail> {
             assert!(rt; tables.next_round() == Ok(round as u32));
         }
         if round != 2 {
-            let Err(back) = tables.into_report() else {
+            let Err(refused) = tables.into_report() else {
                 return Err(Fail::new("a report before its time"));
             };
-            tables = back.registry;
+            tables = refused.registry;
         }
         for (q, loader, name, fault) in *posts {
             let finding = Finding::memory(load(alloc, *loader, name)?);
             let told = match tables.post(*q, finding) {
                 Ok(()) => None,
-                Err(back) => Some(fault_of(&back.fault)),
+                Err(refused) => Some(refused.fault),
             };
             assert!(rt; told == *fault);
         }

@@ -1,14 +1,13 @@
 //! Values that belong elsewhere: probes of another search, findings of another script, homes of other loaders.
 
 use crate::given::{
-    APP, BOOT, CHILD_FIRST, FINAL, KID, PARENT_FIRST, PLAIN, PLUG, Refused, T, TOP, class, class_name,
-    config, home, fault_of, load, registry, search, source,
+    APP, BOOT, CHILD_FIRST, FINAL, KID, PARENT_FIRST, PLAIN, PLUG, T, TOP, class, class_name,
+    config, home, load, registry, search, source,
 };
 use cl_delegation::Home;
-use cl_findings::Finding;
 use cl_hierarchy::Draft;
 use cl_model::{Event, LoaderId, Untold};
-use cl_registry::{Registry, RegistryFault};
+use cl_registry::{Finding, Registry, RegistryFault};
 use cl_source::{MemorySource, Source};
 use std::alloc::Global;
 use std::test::Fail;
@@ -55,7 +54,7 @@ fn define(
     alloc: Global,
     tables: &mut Registry<Untold>,
     home: Home<Untold>,
-) -> Result<Result<u16, Refused>, Fail> {
+) -> Result<Result<u16, RegistryFault>, Fail> {
     let Ok(draft) = Draft::read(alloc, home) else {
         return Err(Fail::new("no draft"));
     };
@@ -70,12 +69,12 @@ fn define(
         return Err(Fail::new("a refused definition left a trace"));
     }
     if back.fault != RegistryFault::Memory {
-        return Ok(Err(fault_of(&back.fault)));
+        return Ok(Err(back.fault));
     }
     println!(rt; "refused: Registry::define")?;
     match tables.define(alloc, back.draft) {
         Ok(row) => Ok(Ok(row.file().flags())),
-        Err(again) => Ok(Err(fault_of(&again.fault))),
+        Err(again) => Ok(Err(again.fault)),
     }
 }
 
@@ -86,7 +85,7 @@ fn initiate(
     alloc: Global,
     tables: &mut Registry<Untold>,
     home: &Home<Untold>,
-) -> Result<Result<u16, Refused>, Fail> {
+) -> Result<Result<u16, RegistryFault>, Fail> {
     let was_recorded = tables.look(home.asked(), home.name()).is_some();
     let mut tried = tables.initiate(alloc, home);
     if tried.is_err() && tables.look(home.asked(), home.name()).is_some() != was_recorded {
@@ -98,7 +97,7 @@ fn initiate(
     }
     match tried {
         Ok(row) => Ok(Ok(row.class().loader.0)),
-        Err(fault) => Ok(Err(fault_of(&fault))),
+        Err(fault) => Ok(Err(fault)),
     }
 }
 
@@ -120,10 +119,10 @@ enum Found {
 use Call::{Define, Initiate};
 use Found::{Changed, Elsewhere, Own};
 
-const STRAY: Result<u16, Refused> = Err(Refused::Stray);
+const STRAY: Result<u16, RegistryFault> = Err(RegistryFault::Stray);
 
 /// What is asked in order, of which home, and what is told: a file's flags, a defining loader, or the refusal.
-const STEPS: [(Call, Found, u16, &[u8], Result<u16, Refused>); 15] = [
+const STEPS: [(Call, Found, u16, &[u8], Result<u16, RegistryFault>); 15] = [
     (Initiate, Elsewhere, KID, T, STRAY),
     (Define, Elsewhere, PLUG, T, STRAY),
     (Define, Elsewhere, BOOT, TOP, STRAY),

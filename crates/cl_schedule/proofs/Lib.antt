@@ -3,6 +3,7 @@ pub mod Serving
 pub mod States
 pub mod Told
 pub mod Next
+pub mod Calls
 pub mod Served
 pub mod Rounds
 pub mod Stations

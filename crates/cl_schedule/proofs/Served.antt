@@ -107,7 +107,7 @@ going_on told old x new r e g h call next kept =
     }
 
 -- a call that did nothing, or what comes next
-pub going_did : {A : Type 0} (told : Option Content) (old x new : Shown) (r : Request) (u : Turn A) → Going told old x r → Did x new u → ((e : Step) → IsStepOf x u e → IsCallStep e × ComesNext told x r e) → IsKept told new → Going told old new r
+pub going_did : {A : Type 0} (told : Option Content) (old x new : Shown) (r : Request) (u : Turn A) → Going told old x r → Did x new (IsStepOf x u) → ((e : Step) → IsStepOf x u e → IsCallStep e × ComesNext told x r e) → IsKept told new → Going told old new r
 going_did told old x new r u g (inl same) next kept = going_same told old x new r g same
 going_did told old x new r u g (inr did) next kept = let n = next did.0 did.1 in going_on told old x new r did.0 g did.2 n.0 n.1 kept
 

@@ -23,7 +23,7 @@ use Rattle.cl_tasks.specs.declared.turn.Reply.TheVariants as reply
 use Rattle.cl_tasks.specs.declared.turn.Turn.{Turn}
 use Rattle.cl_tasks.specs.declared.turn.Turn.TheVariants as turn
 use Rattle.cl_schedule.specs.Known.{Has, IsToldAtOnce, SaysOrLacks, TellsKnown}
-use Rattle.cl_schedule.specs.Replies.{Did, IsReplied}
+use Rattle.cl_schedule.specs.Replies.{Did, IsReplied, IsStepOf}
 
 -- ---- turns
 
@@ -251,7 +251,7 @@ pub known_start : {A S : Type 0} (old : Shown) (r : Request) (t : Tasked) (sourc
 known_start old r t source = λ v has. record { same = refl; unread = refl; at = tt }
 
 -- the call on that way changes nothing
-own_same : {A : Type 0} (s : State) (r : Request) (v : Verdict) (new : Tasked) (x y : Shown) (u : Turn A) → OwnCall s r v new u → Did x y u → y ≡ x
+own_same : {A : Type 0} (s : State) (r : Request) (v : Verdict) (new : Tasked) (x y : Shown) (u : Turn A) → OwnCall s r v new u → Did x y (IsStepOf x u) → y ≡ x
 own_same s r v new x y u own (inl same) = same
 own_same s r v new x y (turn.Look l n) own (inr did) = absurd did.1
 own_same s r v new x y (turn.Read l n) own (inr did) = absurd did.1
@@ -295,7 +295,7 @@ own_told x r v new (turn.Post f) told own has asks is = absurd own
 
 -- after one call more
 pub known_on : {A S : Type 0} (old x y : Shown) (r : Request) (t new : Tasked) (told next : Reply A) (u : Turn A) (source since later : S) → Known old x r t told source since → t.request ≡ Some r → AnswersOwn t new told u → Refuses (refusal t told) u → IsCall u
-    → new.waits ≡ call_of u → Did x y u → IsReplied y (call_of u) next → ((IsRead u → ⊥) → later ≡ since) → Known old y r new next source later
+    → new.waits ≡ call_of u → Did x y (IsStepOf x u) → IsReplied y (call_of u) next → ((IsRead u → ⊥) → later ≡ since) → Known old y r new next source later
 known_on old x y r t new told next u source since later known q own refused call asks did is unread = λ v has.
     let k = known v has in
     let c = own_call (state_of old) r v t new told u k.at q own refused call in

@@ -17,7 +17,7 @@ use Rattle.cl_tasks.specs.declared.turn.Reply.TheVariants as reply
 use Rattle.cl_tasks.specs.declared.turn.Turn.{Turn}
 use Rattle.cl_tasks.specs.declared.turn.Turn.TheVariants as turn
 use Rattle.cl_schedule.specs.Counting.{Grows, told_faults}
-use Rattle.cl_schedule.specs.Replies.{Did, IsReplied, Shows}
+use Rattle.cl_schedule.specs.Replies.{Did, IsReplied, IsStepOf, Shows}
 use Rattle.cl_schedule.specs.Serving.{machine}
 use Rattle.cl_schedule.proofs.Counted.{grows_none, grows_on, told_none}
 use Rattle.cl_schedule.proofs.Next.{next_of, step_of_call}
@@ -40,7 +40,7 @@ pub record TurnSays {A : Type 0} (told : Option Content) (t new : Tasked) (given
 pub record CallSays {A S : Type 0} (told : Option Content) (x new : Shown) (u : Turn A) (given : Reply A) (count later : ℕ) (since source : S) : Type 0 where
   pub call : IsCall u
   pub replied : IsReplied new (call_of u) given
-  pub did : Did x new u
+  pub did : Did x new (IsStepOf x u)
   pub kept : IsKept told new
   pub faults : Grows (told_faults given) count later
   pub unread : (IsRead u → ⊥) → source ≡ since
@@ -102,7 +102,7 @@ backed_now told old x c r t given u count since source later k backed = backed x
 
 -- ---- one turn and its call
 
-holds_did : {A : Type 0} (told : Option Content) (x new : Shown) (u : Turn A) (t : Tasked) → Did x new u → IsKept told new → Holds x t → Holds new t
+holds_did : {A : Type 0} (told : Option Content) (x new : Shown) (u : Turn A) (t : Tasked) → Did x new (IsStepOf x u) → IsKept told new → Holds x t → Holds new t
 holds_did told x new u t (inl same) kept held = subst (λ (y : Shown). Holds y t) (sym same) held
 holds_did told x new u t (inr did) kept held = holds_stays told x new did.0 t did.2 kept held
 

@@ -5,7 +5,8 @@ use Rattle.cl_model.specs.declared.settled.Settled.{Settled}
 use Rattle.cl_model.specs.States.{recorded, settled_to}
 use Rattle.cl_model.specs.Machine.{Step, Define, Initiate, Settle, Prepare, step_for}
 use Rattle.cl_model.specs.Views.{verdict_of}
-use Rattle.cl_hierarchy.specs.Imposed.{Sprung, OfReference, OfPreparation, equal_need}
+use Rattle.cl_findings.specs.Findings.{Answered}
+use Rattle.cl_hierarchy.specs.Imposed.{Listed, Sprung, OfReference, OfPreparation, equal_need}
 use Rattle.cl_registry.specs.declared.registry.RegistryFault.{RegistryFault}
 use Rattle.cl_registry.specs.declared.registry.RegistryFault.TheVariants as faults
 use Rattle.cl_registry.specs.Settling.{IsToSettle}
@@ -41,18 +42,26 @@ abbrev pub PreparesBy : Sprung → Step → Type 0
 PreparesBy (OfReference d c index) e = ⊥
 PreparesBy (OfPreparation l) e = e ≡ Prepare l.own.class
 
+-- a finding settles its reference by this step (5.4.3)
+abbrev pub SettlesBy : Shown → Answered → Step → Type 0
+SettlesBy x f e = (s : Settled) × IsToSettle x f s × (e ≡ Settle s.class s.index (verdict_of s.verdict))
+
+-- the equality at a place of a list is imposed by this step (5.3.4)
+abbrev pub ImposesBy : Listed → ℕ → Step → Type 0
+ImposesBy l k e = (n : Equality) × (slice_get l.needs k ≡ Some n) × (e ≡ step_for (equal_need n))
+
 -- the step that a call may add (5.3 to 5.4.3)
 abbrev pub IsStepOf : {A : Type 0} → Shown → Turn A → Step → Type 0
 IsStepOf x (turn.Define d) e = e ≡ Define d.class
 IsStepOf x (turn.Initiate h) e = e ≡ Initiate h.value.name h.value.place h.value.asked
-IsStepOf x (turn.Settle f) e = (s : Settled) × IsToSettle x f s × (e ≡ Settle s.class s.index (verdict_of s.verdict))
-IsStepOf x (turn.Impose l k) e = (n : Equality) × (slice_get l.value.needs k ≡ Some n) × (e ≡ step_for (equal_need n))
+IsStepOf x (turn.Settle f) e = SettlesBy x f e
+IsStepOf x (turn.Impose l k) e = ImposesBy l.value k e
 IsStepOf x (turn.Mark l) e = PreparesBy l.value.origin e
 IsStepOf x other e = ⊥
 
--- a call changed nothing, or it added its one step (5.3 to 5.4.3)
-abbrev pub Did : {A : Type 0} → Shown → Shown → Turn A → Type 0
-Did old new t = (new ≡ old) ⊎ ((e : Step) × IsStepOf old t e × GoesBy old new e)
+-- a call changed nothing, or it added one step, such as this (5.3 to 5.4.3)
+abbrev pub Did : Shown → Shown → (Step → Type 0) → Type 0
+Did old new such = (new ≡ old) ⊎ ((e : Step) × such e × GoesBy old new e)
 
 -- a refusal that a task is told of: want of memory, or a need that is refused (5.3.4)
 abbrev pub IsTold : RegistryFault → Type 0

@@ -1,13 +1,13 @@
 //! What a task is told of the call that it asks for.
 ghost use Rattle.std.specs.Prelude.{◌≡◌};
+ghost use Rattle.cl_model.specs.Machine.{Define, Initiate};
 ghost use Rattle.cl_model.specs.States.{IsRecorded};
 ghost use Rattle.cl_registry.specs.Imposing.{MayImpose, MayMark};
 ghost use Rattle.cl_registry.specs.Settling.{MaySettle};
 ghost use Rattle.cl_registry.specs.Tables.{Shown, IsKept, MayEnter, MayJoin, state_of};
 ghost use Rattle.cl_tasks.specs.Waits.{Looking, Reading, Defining, Initiating, Tracing, LookingReference, Settling, Imposing, LookingPrepared, Marking};
-ghost use Rattle.cl_tasks.specs.declared.turn.Turn.TheVariants as turn;
 ghost use Rattle.cl_schedule.specs.Counting.{Grows, told_faults};
-ghost use Rattle.cl_schedule.specs.Replies.{Did, IsReplied, IsTold, refusal_of};
+ghost use Rattle.cl_schedule.specs.Replies.{Did, ImposesBy, IsReplied, IsTold, PreparesBy, SettlesBy, refusal_of};
 
 use cl_delegation::Home;
 use cl_findings::Finding;
@@ -67,7 +67,7 @@ fn refused<T: Told>(fault: RegistryFault) -> Reply<T>
 pub(crate) fn define<T: Told>(alloc: Global, registry: &mut Registry<T>, draft: Draft<T>) -> Reply<T>
     requires { MayEnter registry.old draft }
     ensures replied { IsReplied registry.new (Defining draft) result }
-    ensures did { Did registry.old registry.new (turn.Define draft) }
+    ensures did { Did registry.old registry.new (λ e. e ≡ Define draft.class) }
     ensures faults { told_faults result ≡ 0 }
     ensures kept { IsKept T.told registry.new }
 {
@@ -81,7 +81,7 @@ pub(crate) fn define<T: Told>(alloc: Global, registry: &mut Registry<T>, draft: 
 pub(crate) fn initiate<T: Told>(alloc: Global, registry: &mut Registry<T>, home: Arc<Home<T>>) -> Reply<T>
     requires { MayJoin registry.old home.value }
     ensures replied { IsReplied registry.new (Initiating home.value) result }
-    ensures did { Did registry.old registry.new (turn.Initiate home) }
+    ensures did { Did registry.old registry.new (λ e. e ≡ Initiate home.value.name home.value.place home.value.asked) }
     ensures faults { told_faults result ≡ 0 }
     ensures kept { IsKept T.told registry.new }
 {
@@ -121,11 +121,13 @@ pub(crate) fn look_reference<T: Told>(registry: &Registry<T>, class: &Class, ind
 pub(crate) fn settle<T: Told>(alloc: Global, registry: &mut Registry<T>, finding: Finding<T>) -> Reply<T>
     requires { MaySettle registry.old finding }
     ensures replied { IsReplied registry.new (Settling finding.request) result }
-    ensures did { Did registry.old registry.new (turn.Settle finding) }
+    ensures did { Did registry.old registry.new (SettlesBy registry.old finding) }
     ensures faults { told_faults result ≡ 0 }
     ensures kept { IsKept T.told registry.new }
 {
-    match registry.settle(alloc, &finding) {
+    let told = registry.settle(alloc, &finding);
+    drop(finding);
+    match told {
         Ok(settled) => Reply::Settled(settled),
         Err(fault) => refused(fault),
     }
@@ -140,7 +142,7 @@ pub(crate) fn impose<T: Told>(
 ) -> Reply<T>
     requires { MayImpose registry.old list.value place }
     ensures replied { IsReplied registry.new (Imposing list.value place) result }
-    ensures did { Did registry.old registry.new (turn.Impose list place) }
+    ensures did { Did registry.old registry.new (ImposesBy list.value place) }
     ensures faults { told_faults result ≡ 0 }
     ensures kept { IsKept T.told registry.new }
 {
@@ -162,7 +164,7 @@ pub(crate) fn look_prepared<T: Told>(registry: &Registry<T>, class: &Class) -> R
 pub(crate) fn mark<T: Told>(alloc: Global, registry: &mut Registry<T>, list: Arc<Equalities<T>>) -> Reply<T>
     requires { MayMark registry.old list.value }
     ensures replied { IsReplied registry.new (Marking list.value) result }
-    ensures did { Did registry.old registry.new (turn.Mark list) }
+    ensures did { Did registry.old registry.new (PreparesBy list.value.origin) }
     ensures faults { told_faults result ≡ 0 }
     ensures kept { IsKept T.told registry.new }
 {

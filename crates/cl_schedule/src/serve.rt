@@ -190,8 +190,8 @@ pub fn serve_one<T: Told, S: Source<T>>(
     pass_rounds(&mut registry);
     let count = script.requests().len();
     for q in 0..count as u32 {
-        let request = request_at(alloc, &script, q)?;
         let held = Arc::try_clone(&config)?;
+        let request = request_at(alloc, &script, q)?;
         serve_request(alloc, held, &mut registry, source, q, request);
         pass_rounds(&mut registry);
     }

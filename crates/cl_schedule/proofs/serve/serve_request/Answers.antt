@@ -1,12 +1,12 @@
-use Rattle.std.proofs.Common.{inl, ◌∙◌, Some, ap, refl, sym}
+use Rattle.std.proofs.Common.{inl, ◌∙◌, List, Option, Some, ap, refl, subst, sym}
 use Rattle.std.specs.Prelude.{slice_set}
-use Rattle.cl_model.specs.declared.request.Request.{Request}
+use Rattle.cl_model.specs.declared.answer.Answer.{Answer}
 use Rattle.cl_registry.specs.Tables.{Shown}
 use Rattle.cl_tasks.specs.declared.turn.Turn.{Turn}
 use Rattle.cl_tasks.specs.declared.turn.Turn.TheVariants as turn
 use Rattle.cl_schedule.specs.Counting.{fault}
 use Rattle.cl_schedule.proofs.Counted.{grows_none, grows_told, post_grows, told_fault}
-use Rattle.cl_schedule.proofs.Served.{going_done, going_start, still_now}
+use Rattle.cl_schedule.proofs.Served.{AnswersNext, going_done, going_start, still_now}
 use Rattle.cl_schedule.proofs.Stations.{known_memory, known_post}
 use Rattle.cl_schedule.proofs.Steps.{backed_now, follows_now, turning_on, turning_start}
 use Rattle.cl_schedule.proofs.serve.serve_request.Goals as goal
@@ -16,7 +16,8 @@ use Rattle.cl_schedule.proofs.serve.serve_request.Goals as goal
 pub returns-in-Err-clause-done : goal.returns-in-Err-clause-done
 returns-in-Err-clause-done g c =
     going_done g.T.Told.told c.args.registry.now c.args.registry.now c.post.new.registry c.args.q c.args.request c.memory.result.answer (going_start g.T.Told.told c.args.registry.now c.args.request c.requires.kept)
-    c.requires.open (λ content told. ?) c.post.ensures.posted
+    c.requires.open
+    (subst (λ (a : Answer). AnswersNext g.T.Told.told c.args.registry.now c.args.request a) (sym (ap (λ f. f.answer) c.memory.ensures)) (λ content told. tt)) c.post.ensures.posted
 
 pub returns-in-Err-clause-known : goal.returns-in-Err-clause-known
 returns-in-Err-clause-known g c = known_memory c.args.registry.now c.post.new.registry c.args.q c.args.request c.memory.result.answer _ (ap (λ f. f.answer) c.memory.ensures) c.post.ensures.posted
@@ -135,5 +136,5 @@ pub returns-in-Post-clause-faults : goal.returns-in-Post-clause-faults
 returns-in-Post-clause-faults g c =
     let inv = c.loop-loader.invariant in
     post_grows c.args.registry.now.answers c.post-in-Post.new.registry.answers c.args.q c.in-Post.finding.answer _ _ _ c.requires.open
-    (ap (λ (x : Shown). x.answers) c.post-in-Post.ensures.posted ∙ ap (λ xs. slice_set xs c.args.q (Some c.in-Post.finding.answer)) inv.going.answers)
+    (ap (λ (x : Shown). x.answers) c.post-in-Post.ensures.posted ∙ ap (λ (xs : List (Option Answer)). slice_set xs c.args.q (Some c.in-Post.finding.answer)) inv.going.answers)
     (told_fault c.loop-loader.task c.loop-loader.reply c.in-Post.finding inv.expects c.in-Post.ensures.refused) inv.faults

@@ -112,6 +112,43 @@ loop-loader-preserved g c =
     (record { config = e.config; asks = e.asks; serves = e.serves; keeps = e.keeps; backed = e.backed; next = e.next; refused = e.refused; own = e.own })
     (record { call = tt; replied = c.mark-reply.ensures.replied; did = c.mark-reply.ensures.did; kept = c.mark-reply.ensures.kept; faults = grows_told _ _ c.mark-reply.ensures.faults; unread = λ out. refl })
 
+-- ---- what the tables bear
+
+pub define-reply-requires : goal.define-reply-requires
+define-reply-requires g c =
+    let u : Turn g.row.T.Denot = turn.Define c.in-Define.draft in
+    backed_now g.T.Told.told c.args.registry.now c.loop-loader.registry c.args.config.value c.args.request c.loop-loader.task c.loop-loader.reply u _ _ _ _ c.loop-loader.invariant c.in-Define.ensures.backed
+
+pub initiate-reply-requires : goal.initiate-reply-requires
+initiate-reply-requires g c =
+    let u : Turn g.row.T.Denot = turn.Initiate c.in-Initiate.home in
+    backed_now g.T.Told.told c.args.registry.now c.loop-loader.registry c.args.config.value c.args.request c.loop-loader.task c.loop-loader.reply u _ _ _ _ c.loop-loader.invariant c.in-Initiate.ensures.backed
+
+pub lineage-reply-requires : goal.lineage-reply-requires
+lineage-reply-requires g c =
+    let u : Turn g.row.T.Denot = turn.Lineage c.in-Lineage.class in
+    backed_now g.T.Told.told c.args.registry.now c.loop-loader.registry c.args.config.value c.args.request c.loop-loader.task c.loop-loader.reply u _ _ _ _ c.loop-loader.invariant c.in-Lineage.ensures.backed
+
+pub settle-reply-requires : goal.settle-reply-requires
+settle-reply-requires g c =
+    let u : Turn g.row.T.Denot = turn.Settle c.in-Settle.finding in
+    backed_now g.T.Told.told c.args.registry.now c.loop-loader.registry c.args.config.value c.args.request c.loop-loader.task c.loop-loader.reply u _ _ _ _ c.loop-loader.invariant c.in-Settle.ensures.backed
+
+pub impose-reply-requires : goal.impose-reply-requires
+impose-reply-requires g c =
+    let u : Turn g.row.T.Denot = turn.Impose c.in-Impose.list c.in-Impose.place in
+    backed_now g.T.Told.told c.args.registry.now c.loop-loader.registry c.args.config.value c.args.request c.loop-loader.task c.loop-loader.reply u _ _ _ _ c.loop-loader.invariant c.in-Impose.ensures.backed
+
+pub mark-reply-requires : goal.mark-reply-requires
+mark-reply-requires g c =
+    let u : Turn g.row.T.Denot = turn.Mark c.in-Mark.list in
+    backed_now g.T.Told.told c.args.registry.now c.loop-loader.registry c.args.config.value c.args.request c.loop-loader.task c.loop-loader.reply u _ _ _ _ c.loop-loader.invariant c.in-Mark.ensures.backed
+
+pub post-requires-in-Post-clause-backed : goal.post-requires-in-Post-clause-backed
+post-requires-in-Post-clause-backed g c =
+    let u : Turn g.row.T.Denot = turn.Post c.in-Post.finding in
+    backed_now g.T.Told.told c.args.registry.now c.loop-loader.registry c.args.config.value c.args.request c.loop-loader.task c.loop-loader.reply u _ _ _ _ c.loop-loader.invariant c.in-Post.ensures.backed
+
 -- ---- the post
 
 pub post-requires-in-Post-clause-begun : goal.post-requires-in-Post-clause-begun

@@ -15,19 +15,8 @@ use Rattle.cl_model.specs.Machine.{Define, Initiate, NextRound, after, state_aft
 use Rattle.cl_model.specs.Views.{answers_of, answer_at, post_of, step_of, steps_of, verdict_of}
 use Rattle.cl_model.proofs.Complete.{is_class}
 use Rattle.cl_registry.specs.Tables.{Shown, state_of, settlements, settled_at}
-use Rattle.cl_registry.specs.References.{IsSettledIn, IsUnsettled}
 use Rattle.cl_registry.specs.SettlingLaws.{SettledIsTold, UnsettledIsTold, SettledStays}
-use Rattle.cl_registry.proofs.Histories.{eq_nat}
-
-pub settlements_then : (h k : List Event) → settlements (h ++ k) ≡ settlements h ++ settlements k
-settlements_then [] k = refl
-settlements_then (events.Define d ∷ h) k = settlements_then h k
-settlements_then (events.Initiate d l ∷ h) k = settlements_then h k
-settlements_then (events.Constrain e ∷ h) k = settlements_then h k
-settlements_then (events.Settle r ∷ h) k = ap (◌∷◌ r.value) (settlements_then h k)
-settlements_then (events.Prepare c ∷ h) k = settlements_then h k
-settlements_then (events.NextRound ∷ h) k = settlements_then h k
-settlements_then (events.Post p ∷ h) k = settlements_then h k
+use Rattle.cl_registry.proofs.Histories.{eq_nat, settlements_then}
 
 -- ---- as the machine has it
 
@@ -105,3 +94,24 @@ settled_stays x y es c index s more e =
     ∙ ap (find (is_it c index)) (settlements_then x.history es)
     ∙ find-append (is_it c index) (settlements x.history) (settlements es)
     ∙ ap (λ (o : Option Settled). option_or o (find (is_it c index) (settlements es))) e
+
+-- ---- one entry more
+
+or_none : {A : Type 0} (o : Option A) → option_or o None ≡ o
+or_none None = refl
+or_none (Some x) = refl
+
+-- what is settled after an entry that was not is settled
+pub settled_more : (x y : Shown) (e : Event) (s : Settled) (c : Class) (index : ℕ) → y.history ≡ x.history ++ e ∷ [] → settlements (e ∷ []) ≡ s ∷ [] → settled_at x s.class s.index ≡ None
+    → settled_at y c index ≡ (if is_it c index s then Some s else settled_at x c index)
+settled_more x y e s c index more one free =
+    ap (λ (h : List Event). find (is_it c index) (settlements h)) more
+    ∙ ap (find (is_it c index)) (settlements_then x.history (e ∷ []) ∙ ap (λ (rs : List Settled). settlements x.history ++ rs) one)
+    ∙ find-append (is_it c index) (settlements x.history) (s ∷ [])
+    ∙ at (is_it c index s) refl
+  where
+    at : (b : Bool) → is_it c index s ≡ b → option_or (settled_at x c index) (if b then Some s else None) ≡ (if b then Some s else settled_at x c index)
+    at true t =
+        let tests = both (same_class s.class c) (nat_eq s.index index) t in
+        ap (λ (o : Option Settled). option_or o (Some s)) (ap (λ (d : Class). settled_at x d index) (sym (is_class s.class c tests.0)) ∙ ap (settled_at x s.class) (sym (eq_nat s.index index tests.1)) ∙ free)
+    at false t = or_none (settled_at x c index)

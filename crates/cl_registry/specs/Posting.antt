@@ -1,24 +1,19 @@
 -- Which answers may be posted, by the tables of a registry (JVMS SE 8, 5.3 to 5.4.3).
-use Rattle.std.specs.Prelude.{◌≡◌, ℕ, length, Option, Some, None}
+use Rattle.std.specs.Prelude.{◌≡◌, ◌⊎◌, ℕ, length, Some}
 use Rattle.cl_model.specs.declared.answer.Answer.{Answer}
 use Rattle.cl_model.specs.declared.answer.Answer.TheVariants as answers
-use Rattle.cl_model.specs.declared.request.Request.{Request}
 use Rattle.cl_model.specs.declared.verdict.Verdict.{Verdict}
 use Rattle.cl_model.specs.Tables.{Bears}
 use Rattle.cl_model.specs.Views.{request_of, verdict_of}
-use Rattle.cl_findings.specs.Findings.{Answered, Based, IsBorne, IsLookedUp, IsWithin}
+use Rattle.cl_findings.specs.Findings.{Answered, IsLookedUp, IsWithin, Stands}
 use Rattle.cl_registry.specs.Tables.{Shown, state_of, IsAsked, IsLater, IsOpen}
 use Rattle.cl_registry.specs.References.{settled_by}
 
--- what a verdict rests on stands in the tables, or it is one that is looked up there (5.3 to 5.4.3)
-abbrev pub IsGrounded : Shown → Request → Verdict → Option Based → Type 0
-IsGrounded x r v None = IsLookedUp r v
-IsGrounded x r v (Some b) = IsBorne x.config (state_of x) b
-
--- a verdict is grounded, and the tables bear it: what is loaded is recorded, a reference of a recorded class is settled so
--- unless its entry is none that is settled, what is linked is recorded and prepared (5.3, 5.4.2, 5.4.3)
+-- a verdict is one that is looked up, or what it rests on stands; and the tables bear it: what is loaded is recorded, a reference
+-- of a recorded class is settled so unless its entry is none that is settled, what is linked is recorded and prepared
+-- (5.3 to 5.4.3)
 pub record VerdictBacked (x : Shown) (f : Answered) (v : Verdict) : Type 0 where
-  pub grounded : IsGrounded x f.request v f.basis
+  pub grounded : IsLookedUp f.request v ⊎ Stands x.config (state_of x) f
   pub borne : Bears (state_of x) (request_of f.request) (verdict_of v)
 
 -- the same of an answer; what is shared is what the entry that the request resolves is settled to (5.3 to 5.4.3)

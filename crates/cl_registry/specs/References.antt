@@ -1,6 +1,10 @@
 -- What references are settled to, by the tables of a registry (JVMS SE 8, 5.4.3).
-use Rattle.std.specs.Prelude.{◌≡◌, ◌==◌, ◌&&◌, ℕ, if◌then◌else◌, Option, Some, None, option_and_then, option_map}
+use Rattle.std.specs.Prelude.{◌≡◌, ◌==◌, ◌&&◌, ℕ, if◌then◌else◌, List, [], ◌∷◌, ◌++◌, Option, Some, None, option_and_then, option_map}
+use Rattle.std.specs.declared.alloc.Global.{Global}
+use Rattle.std.specs.declared.sync.Arc.{Arc}
 use Rattle.cl_model.specs.declared.class.Class.{Class}
+use Rattle.cl_model.specs.declared.event.Event.{Event}
+use Rattle.cl_model.specs.declared.event.Event.TheVariants as events
 use Rattle.cl_model.specs.declared.request.Request.{Request}
 use Rattle.cl_model.specs.declared.request.Request.TheVariants as requests
 use Rattle.cl_model.specs.declared.settled.Settled.{Settled}
@@ -45,3 +49,13 @@ IsReferencePut old new c index r = (d : Class) (i : ℕ) → new d i ≡ (if sam
 -- two tables have the same
 abbrev pub HasSameReferences : {R : Type 0} → (Class → ℕ → Option R) → (Class → ℕ → Option R) → Type 0
 HasSameReferences old new = (d : Class) (i : ℕ) → new d i ≡ old d i
+
+-- a table of handles, as one of what they share
+abbrev pub shared_references : {R V : Type 0} → (R → V) → (Class → ℕ → Option R) → Class → ℕ → Option V
+shared_references value table c index = option_map value (table c index)
+
+-- a history has an event more, by which a reference is settled to this (5.4.3)
+pub record AddsSettled (old new : List Event) (s : Settled) : Type 0 where
+  pub shared : Arc Settled Global
+  pub value : shared.value ≡ s
+  pub more : new ≡ old ++ events.Settle shared ∷ []

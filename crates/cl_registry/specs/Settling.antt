@@ -5,18 +5,27 @@ use Rattle.std.specs.declared.sync.Arc.{Arc}
 use Rattle.cl_model.specs.declared.event.Event.TheVariants as events
 use Rattle.cl_model.specs.declared.answer.Answer.TheVariants as answers
 use Rattle.cl_model.specs.declared.settled.Settled.{Settled}
+use Rattle.cl_model.specs.declared.verdict.Verdict.{Verdict}
 use Rattle.cl_model.specs.declared.verdict.Verdict.TheVariants as verdicts
 use Rattle.cl_findings.specs.Findings.{Answered, Stands}
 use Rattle.cl_registry.specs.Tables.{Shown, state_of}
 use Rattle.cl_registry.specs.References.{cited_by, settled_by}
 
+-- a finding says this verdict, which is one that is settled (5.4.3)
+pub record Says (f : Answered) (v : Verdict) : Type 0 where
+  pub said : f.answer ≡ answers.Said v
+  pub is_entry : v ≢ verdicts.BadEntry
+  pub is_class_member : v ≢ verdicts.ArrayMember
+
+-- it says none
+abbrev pub SaysNone : Answered → Type 0
+SaysNone f = (v : Verdict) → Says f v → ⊥
+
 -- what a finding settles: the entry that its request resolves, to the verdict that it says, which is one that is settled
 -- and stands in the tables (5.4.3)
 pub record IsToSettle (x : Shown) (f : Answered) (s : Settled) : Type 0 where
   pub cited : cited_by x f.request ≡ Some (record { class = s.class; index = s.index })
-  pub said : f.answer ≡ answers.Said s.verdict
-  pub is_entry : s.verdict ≢ verdicts.BadEntry
-  pub is_class_member : s.verdict ≢ verdicts.ArrayMember
+  pub says : Says f s.verdict
   pub stands : Stands x.config (state_of x) f
 
 -- a finding settles something (5.4.3)

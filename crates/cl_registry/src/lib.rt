@@ -15,7 +15,7 @@ pub mod report;
 mod rounds;
 mod settling;
 pub mod settling_laws;
-mod stub;
+mod standing;
 mod tables;
 
 pub use registry::{DefineRefused, NotYet, PostRefused, Registry, RegistryFault, RegistryRefused};

@@ -1,13 +1,13 @@
 //! The table of settled references, as a plain map.
 
-ghost use Rattle.std.specs.Prelude.{◌≡◌, None, OnOk, OnErr, option_map};
+ghost use Rattle.std.specs.Prelude.{◌≡◌, ◌+◌, ◌≤◌, None, IfOk, OnOk, OnErr, option_map, vec_capacity, vec_len};
 ghost use Rattle.indexmap.specs.IndexMap.{IsUnchanged, get};
 ghost use Rattle.cl_model.specs.Classes.{same_class};
-ghost use Rattle.cl_registry.specs.References.{HasSameReferences, IsReferencePut};
+ghost use Rattle.cl_registry.specs.References.{AddsSettled, HasSameReferences, IsReferencePut, shared_references};
 ghost use Rattle.cl_registry.specs.Tables.{reference_in};
 
 use crate::tables::References;
-use cl_model::{Class, Settled};
+use cl_model::{Class, Event, Settled};
 use cl_names::Seed;
 use indexmap::IndexMap;
 use std::alloc::{AllocError, Global};
@@ -34,7 +34,8 @@ fn put_first(
     settled: Arc<Settled>,
 ) -> Result<(), AllocError>
     requires { get same_class references.old class ≡ None }
-    ensures put { OnOk result (IsReferencePut (reference_in references.old) (reference_in references.new) class index settled) }
+    ensures put { OnOk result (IsReferencePut (reference_in references.old)
+        (reference_in references.new) class index settled) }
     ensures unchanged { OnErr result (IsUnchanged references.old references.new) }
 {
     let mut one = IndexMap::with_hasher(alloc, seed);
@@ -56,8 +57,10 @@ pub fn put_reference(
     index: u16,
     settled: Arc<Settled>,
 ) -> Result<(), AllocError>
-    ensures put { OnOk result (IsReferencePut (reference_in references.old) (reference_in references.new) class index settled) }
-    ensures unchanged { OnErr result (HasSameReferences (reference_in references.old) (reference_in references.new)) }
+    ensures put { OnOk result (IsReferencePut (reference_in references.old)
+        (reference_in references.new) class index settled) }
+    ensures unchanged { OnErr result (HasSameReferences (reference_in references.old)
+        (reference_in references.new)) }
 {
     if let Some(one) = references.get_mut(&class) {
         return match one.insert(index, settled) {
@@ -66,4 +69,38 @@ pub fn put_reference(
         };
     }
     put_first(references, alloc, seed, class, index, settled)
+}
+
+/// Settles an entry: one event more, and as much room left for other events.
+pub fn bind(
+    alloc: Global,
+    references: &mut References,
+    history: &mut Vec<Event>,
+    left: usize,
+    seed: Seed,
+    settled: Settled,
+) -> Result<Arc<Settled>, AllocError>
+    requires room { vec_len history.old + left ≤ vec_capacity history.old }
+    ensures room { vec_len history.new + left ≤ vec_capacity history.new }
+    ensures value { IfOk result (λ s. s.value ≡ settled) }
+    ensures event { OnOk result (AddsSettled history.old.items history.new.items settled) }
+    ensures used { OnOk result (vec_len history.new ≡ vec_len history.old + 1) }
+    ensures put { OnOk result (IsReferencePut
+        (shared_references (λ s. s.value) (reference_in references.old))
+        (shared_references (λ s. s.value) (reference_in references.new))
+        settled.class settled.index settled) }
+    ensures same_history { OnErr result (history.new.items ≡ history.old.items) }
+    ensures same_length { OnErr result (vec_len history.new ≡ vec_len history.old) }
+    ensures same_references { OnErr result (HasSameReferences (reference_in references.old)
+        (reference_in references.new)) }
+{
+    let class = settled.class.try_clone(alloc)?;
+    let index = settled.index;
+    let settled = Arc::new(alloc, settled)?;
+    let kept = Arc::try_clone(&settled)?;
+    let answered = Arc::try_clone(&settled)?;
+    history.reserve(left + 1)?;
+    put_reference(references, alloc, seed, class, index, kept)?;
+    history.push_reserved(Event::Settle(settled));
+    Ok(answered)
 }

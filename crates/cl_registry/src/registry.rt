@@ -1,25 +1,22 @@
-ghost use Rattle.std.specs.Prelude.{◌≡◌, ◌<◌, ◌≤◌, ◌+◌, OnOk, Some, IfOk, IfErr, IfSome, MatchBool, MatchOption, length};
+//! The registry: what it has, how it begins and what it reports.
+
+ghost use Rattle.std.specs.Prelude.{◌≡◌, ◌≤◌, ◌+◌, OnOk, IfOk, IfErr, MatchBool, MatchOption, length};
 ghost use Rattle.std.specs.Option.{option_map};
-ghost use Rattle.cl_delegation.specs.Searches.{LeadsTo};
-ghost use Rattle.cl_registry.specs.Tables.{Defines, Initiates, IsKept, LacksRecord, MayEnter, MayGoOn, MayJoin, Records, empty_of, looked, round_of, with_post, with_round};
-ghost use Rattle.cl_registry.specs.Refusals.{DefineRefusedFor, InitiateRefusedFor, JoinRefusedFor, PostRefusedFor, RoundRefusedFor};
+ghost use Rattle.cl_registry.specs.Tables.{IsKept, LacksRecord, MayGoOn, Records, empty_of, looked, round_of, with_round};
+ghost use Rattle.cl_registry.specs.Refusals.{RoundRefusedFor};
 ghost use Rattle.cl_registry.specs.Reports.{IsNamed, IsReport, IsUnfinished};
 
-use crate::entries::{asked_row, defined_row, has_supers, join, own_row, record};
-use crate::fits::supertypes_fit;
-use crate::stub::never;
 use crate::report::{Answers, History, Report};
-use crate::rounds::{collect, counts_of, rooms_for, to_come};
+use crate::rounds::{collect, counts_of, rooms_for};
 use crate::tables::{References, Rows, empty_rows, find};
 use cl_config::{Config, Script};
-use cl_findings::Finding;
 use cl_constraints::{ConstraintBook, GroupedBook};
-use cl_delegation::Home;
+use cl_findings::Finding;
 use cl_hierarchy::{ClassRow, Draft};
 use cl_model::{Answer, Class, Event, LoaderId, Need, Told};
 use cl_names::{Name, Seed};
 use indexmap::{IndexMap, IndexSet};
-use std::alloc::Global;
+use std::alloc::{AllocError, Global};
 use std::marker::Model;
 use std::sync::Arc;
 use thiserror::Error;
@@ -41,6 +38,16 @@ pub enum RegistryFault {
     /// A request has no answer, or is of a later round.
     #[error("B4 NotYet")]
     NotYet,
+}
+
+impl From<AllocError> for RegistryFault {
+    ghost use Rattle.cl_registry.specs.declared.registry.RegistryFault.TheVariants.{Memory};
+
+    ghost from_gives = { λ _ e. e ≡ Memory };
+
+    fn from(_error: AllocError) -> RegistryFault {
+        RegistryFault::Memory
+    }
 }
 
 /// The classes that each loader has recorded, what happened, and the answers.
@@ -121,8 +128,32 @@ impl<T: Told> Registry<T> {
         ensures config_back { IfErr result (λ e. e.config.value ≡ config.value) }
         ensures script_back { IfErr result (λ e. e.script.value ≡ script.value) }
     {
-        never();
-        unreachable!()
+        let left = script.requests().len();
+        let seed = config.seed();
+        let Ok(tables) = empty_rows(alloc, seed, config.count()) else {
+            return Err(RegistryRefused { config, script });
+        };
+        let Ok(unanswered) = counts_of(alloc, &script) else {
+            return Err(RegistryRefused { config, script });
+        };
+        let Ok(rooms) = rooms_for(alloc, left, script.rounds() as usize) else {
+            return Err(RegistryRefused { config, script });
+        };
+        Ok(Registry {
+            config,
+            script,
+            rows: Vec::new(alloc),
+            tables,
+            book: GroupedBook::with_hasher(alloc, seed),
+            references: IndexMap::with_hasher(alloc, seed),
+            prepared: IndexSet::with_hasher(alloc, seed),
+            history: rooms.history,
+            answers: rooms.answers,
+            round: 0,
+            unanswered,
+            left,
+            room: rooms.room,
+        })
     }
 
     /// Whether configuration and script are those of this registry.
@@ -138,8 +169,7 @@ impl<T: Told> Registry<T> {
         ensures found { MatchOption result (LacksRecord self.now loader name.now) (λ r. Records self.now loader name.now r.now.value) }
         ensures kept { IsKept T.told self.now }
     {
-        never();
-        unreachable!()
+        find(&self.tables, loader, name)
     }
 
     /// Begins the next round, once each request of this one has its answer, and answers its number.
@@ -151,8 +181,13 @@ impl<T: Told> Registry<T> {
         ensures unchanged { IfErr result (λ fault. self.new ≡ self.old) }
         ensures kept { IsKept T.told self.new }
     {
-        never();
-        unreachable!()
+        let next = self.round + 1;
+        if next >= self.script.rounds() || self.unanswered[self.round as usize] != 0 {
+            return Err(RegistryFault::NotYet);
+        }
+        self.round = next;
+        self.history.push_reserved(Event::NextRound);
+        Ok(next)
     }
 
     /// The report, once each request has its answer and the last round has begun.
@@ -163,7 +198,28 @@ impl<T: Told> Registry<T> {
         ensures last { OnOk result (self.script.rounds ≤ round_of self + 1) }
         ensures refused { IfErr result (λ e. (e.registry ≡ self) × IsUnfinished self) }
     {
-        never();
-        unreachable!()
+        if self.left != 0 || self.round + 1 < self.script.rounds() {
+            return Err(NotYet { registry: self });
+        }
+        let Registry {
+            config: _,
+            script,
+            rows: _,
+            tables: _,
+            book: _,
+            references: _,
+            prepared: _,
+            history,
+            answers,
+            round: _,
+            unanswered: _,
+            left: _,
+            room,
+        } = self;
+        Ok(Report {
+            script,
+            history: History::from(history),
+            answers: Answers::from(collect(answers, room)),
+        })
     }
 }

@@ -1,0 +1,5 @@
+use Rattle.cl_registry.proofs.Allowed.{allowed_is_entered}
+use Rattle.cl_registry.proofs.laws.allowed_is_entered.Goals as goal
+
+pub returns : goal.returns
+returns c = allowed_is_entered

@@ -1,5 +1,7 @@
 //! Laws of what a registry accepts, each the contract of a function that does nothing.
-ghost use Rattle.cl_registry.specs.Allowed.{AllowedIsEntered, AllowedIsJoined, EnteredIsAllowed, FittingIsAllowed, JoinedIsAllowed, OtherConfigIsStray, RecordedIsNamed, RoundIsAllowed};
+ghost use Rattle.cl_registry.specs.Allowed.{AllowedIsEntered, AllowedIsImposed, AllowedIsJoined, AllowedIsMarked, EnteredIsAllowed, FittingIsAllowed, ImposedIsAllowed, JoinedIsAllowed, MarkedIsAllowed, OtherConfigIsStray, RecordedIsNamed, RoundIsAllowed};
+
+use crate::stub::never;
 
 /// A class that the linkage machine may define has no record and may be entered: `define` refuses it for memory alone.
 pub fn allowed_is_entered()
@@ -21,10 +23,41 @@ pub fn joined_is_allowed()
     ensures { JoinedIsAllowed }
 {}
 
+/// An equality of a list that may be imposed, and is neither met nor refused, may be imposed by the linkage machine.
+pub fn imposed_is_allowed()
+    ensures { ImposedIsAllowed }
+{
+    never()
+}
+
+/// An equality to which the linkage machine's own list comes may be imposed: `impose` refuses it where it is refused, or
+/// for memory.
+pub fn allowed_is_imposed()
+    ensures { AllowedIsImposed }
+{
+    never()
+}
+
+/// A class that may be marked, and is not prepared, may be prepared by the linkage machine.
+pub fn marked_is_allowed()
+    ensures { MarkedIsAllowed }
+{
+    never()
+}
+
+/// A class that the linkage machine may prepare may be marked: `mark_prepared` refuses it for memory alone.
+pub fn allowed_is_marked()
+    ensures { AllowedIsMarked }
+{
+    never()
+}
+
 /// An answer that fits and rests on the content may be posted by the linkage machine.
 pub fn fitting_is_allowed()
     ensures { FittingIsAllowed }
-{}
+{
+    never()
+}
 
 /// Where the next round may begin, the linkage machine may go on.
 pub fn round_is_allowed()

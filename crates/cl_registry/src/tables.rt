@@ -6,7 +6,7 @@ ghost use Rattle.cl_registry.specs.Parts.{HasSameRows, IsPut};
 ghost use Rattle.cl_registry.specs.Tables.{row_at};
 
 use cl_hierarchy::ClassRow;
-use cl_model::{LoaderId, Told};
+use cl_model::{Class, LoaderId, Settled, Told};
 use cl_names::{Name, Seed};
 use indexmap::IndexMap;
 use std::alloc::{AllocError, Global};
@@ -14,6 +14,9 @@ use std::sync::Arc;
 
 /// The rows of each loader, by their names.
 pub type Rows<T> = Vec<IndexMap<Name, Arc<ClassRow<T>>, Seed>>;
+
+/// The settled references of each class, by their indices.
+pub type References = IndexMap<Class, IndexMap<u16, Arc<Settled>, Seed>, Seed>;
 
 /// No rows, for this many loaders, in tables that hash with this seed.
 pub fn empty_rows<T: Told>(alloc: Global, seed: Seed, count: usize) -> Result<Rows<T>, AllocError>

@@ -1,0 +1,1 @@
+unsigned stub_never(void) { for (;;) {} }

@@ -1,9 +1,7 @@
 //! Scripts served over a source of which a read fails, and over much. A body that gives up on every request passes no line
 //! of these.
 
-use crate::given::{
-    APP, BOOT, OBJECT, PLAIN, PLUG, SERVICE, TOP, USER, class_name, put, served,
-};
+use crate::given::{APP, BOOT, OBJECT, PLAIN, PLUG, SERVICE, TOP, USER, class_name, put, served};
 use cl_model::{Answer, Class, ErrorKind, Event, LoaderId, Untold, Verdict};
 use cl_source::{FaultySource, MemorySource, Source};
 use std::alloc::{AllocError, Global};

@@ -52,7 +52,7 @@ pub enum Told {
 }
 
 /// What a refusal tells.
-pub fn told(fault: &RegistryFault) -> Told {
+pub fn kind_of(fault: &RegistryFault) -> Told {
     match fault {
         RegistryFault::Memory => Told::Memory,
         RegistryFault::Stray => Told::Stray,

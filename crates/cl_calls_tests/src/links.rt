@@ -2,7 +2,7 @@
 
 use crate::given::{
     APP, BOOT, CHILD_FIRST, OBJECT, PARENT_FIRST, PLAIN, PLUG, T, TOP, Told, class, class_name,
-    config, home, registry, told,
+    config, home, kind_of, registry,
 };
 use cl_config::Config;
 use cl_findings::Finding;
@@ -60,7 +60,7 @@ fn record(
     if home.place() != LoaderId(loader) {
         return Ok(match tables.initiate(alloc, &home) {
             Ok(_) => Told::Done,
-            Err(fault) => told(&fault),
+            Err(fault) => kind_of(&fault),
         });
     }
     let Ok(draft) = Draft::read(alloc, home) else {
@@ -68,7 +68,7 @@ fn record(
     };
     Ok(match tables.define(alloc, draft) {
         Ok(_) => Told::Done,
-        Err(back) => told(&back.fault),
+        Err(back) => kind_of(&back.fault),
     })
 }
 
@@ -146,7 +146,7 @@ fn asked(
     }
     let list = match list(alloc, tables, &class(alloc, loader, name)?) {
         Ok(list) => list,
-        Err(fault) => return Ok(told(&fault)),
+        Err(fault) => return Ok(kind_of(&fault)),
     };
     let done = match call {
         Impose(place) => tables.impose(alloc, &list, place),
@@ -154,7 +154,7 @@ fn asked(
     };
     Ok(match done {
         Ok(()) => Done,
-        Err(fault) => told(&fault),
+        Err(fault) => kind_of(&fault),
     })
 }
 

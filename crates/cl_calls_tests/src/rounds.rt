@@ -1,6 +1,6 @@
 //! Posts in their rounds: what is not yet, no longer, or never.
 
-use crate::given::{APP, CHILD_FIRST, PLUG, T, Told, class_name, config, registry, told};
+use crate::given::{APP, CHILD_FIRST, PLUG, T, Told, class_name, config, kind_of, registry};
 use cl_findings::Finding;
 use cl_model::{Answer, Event, LoaderId, Request};
 use cl_registry::RegistryFault;
@@ -81,7 +81,7 @@ fn rounds(rt: HostRuntime) -> Result<(), Fail> {
             let finding = Finding::memory(request(alloc, *asks, *loader, name)?);
             let answer = match tables.post(*q, finding) {
                 Ok(()) => Told::Done,
-                Err(refused) => told(&refused.fault),
+                Err(refused) => kind_of(&refused.fault),
             };
             assert!(rt; answer == *wanted);
         }

@@ -2,7 +2,7 @@
 
 use crate::given::{
     APP, BOOT, CHILD_FIRST, FINAL, KID, PARENT_FIRST, PLAIN, PLUG, T, TOP, Told, class, class_name,
-    config, home, registry, search, source, told,
+    config, home, kind_of, registry, search, source,
 };
 use cl_delegation::Home;
 use cl_findings::Finding;
@@ -69,13 +69,13 @@ fn define(
     if is_recorded != was_recorded || *back.draft.class() != class {
         return Err(Fail::new("a refused definition left a trace"));
     }
-    if told(&back.fault) != Told::Memory {
-        return Ok(Err(told(&back.fault)));
+    if kind_of(&back.fault) != Told::Memory {
+        return Ok(Err(kind_of(&back.fault)));
     }
     println!(rt; "refused: Registry::define")?;
     match tables.define(alloc, back.draft) {
         Ok(row) => Ok(Ok(row.file().flags())),
-        Err(again) => Ok(Err(told(&again.fault))),
+        Err(again) => Ok(Err(kind_of(&again.fault))),
     }
 }
 
@@ -98,7 +98,7 @@ fn initiate(
     }
     match tried {
         Ok(row) => Ok(Ok(row.class().loader.0)),
-        Err(fault) => Ok(Err(told(&fault))),
+        Err(fault) => Ok(Err(kind_of(&fault))),
     }
 }
 

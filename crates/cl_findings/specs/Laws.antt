@@ -48,8 +48,7 @@ abbrev pub CompletedIsWhole : Type 0
 CompletedIsWhole =
     (told : Option Content) (old new : Pathed) (place : ℕ) (x : Framed) (row : Rowed)
     → IsPath told old → Completes old new place x → IsSpelt told row.class row.file → row.class.loader ≡ place
-    → row.class.name ≡ at_name old → misfit_under old.frames row.class (file_of row.file) ≡ None
-    → IsDraft told x.draft → IsWhole told new x
+    → row.class.name ≡ at_name old → misfit_under old.frames row.class (file_of row.file) ≡ None → IsWhole told new x
 
 -- a class without direct supertypes is whole at once (5.3.5, steps 3 to 5)
 abbrev pub RootIsWhole : Type 0

@@ -98,8 +98,11 @@ fault_verdict c faults.NoSuchMethod = Some (verdicts.Error kinds.NoSuchMethodErr
 fault_verdict c faults.WrongKind = Some (verdicts.Error kinds.IncompatibleClassChangeError c)
 fault_verdict c (faults.Inaccessible owner) = Some (verdicts.Error kinds.IllegalAccessError owner)
 
--- looking up the entry's member answers a fault, and this is its error (5.4.3.2 to 5.4.3.4)
+-- the entry of d at an index names the class c; looking up its member answers a fault, and this is its error (5.4.3.2 to 5.4.3.4)
 pub record IsLookupError (d c : Lined) (index : ℕ) (v : verdict.Verdict) : Type 0 where
+  pub cited : Reference
+  pub found : reference (kin_of d).file index ≡ Some cited
+  pub names : class_named cited ≡ Some (kin_of c).class.name
   pub fault : LookupFault
   pub lookup : asking.Answers d c index (Err fault)
   pub error : fault_verdict c.own.class fault ≡ Some v

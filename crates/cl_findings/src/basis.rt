@@ -46,7 +46,7 @@ pub enum Basis<T: Told> {
     },
     /// The first so many equalities of an entry are imposed, and the next one, if there is one, is refused.
     Asked {
-        equalities: Equalities<T>,
+        equalities: Arc<Equalities<T>>,
         met: usize,
     },
     /// The same of the equalities of the preparation of a class: that at this place of a lineage, all before which are
@@ -54,7 +54,7 @@ pub enum Basis<T: Told> {
     Linked {
         lineage: Arc<Lineage<T>>,
         place: usize,
-        equalities: Equalities<T>,
+        equalities: Arc<Equalities<T>>,
         met: usize,
     },
 }

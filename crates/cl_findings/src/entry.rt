@@ -5,11 +5,11 @@ ghost use Rattle.cl_model.specs.declared.answer.Answer.TheVariants as answers;
 ghost use Rattle.cl_model.specs.Views.{verdict_of};
 ghost use Rattle.cl_findings.specs.References.{IsAtClass, IsAtOnce, class_basis, entry_basis};
 
+use crate::basis::Basis;
 use crate::finding::Finding;
-use crate::stub::owed;
 use cl_config::Config;
 use cl_hierarchy::ClassRow;
-use cl_model::{Request, Told, Verdict};
+use cl_model::{Answer, Request, Told, Verdict};
 use std::sync::Arc;
 
 impl<T: Told> Finding<T> {
@@ -26,8 +26,13 @@ impl<T: Told> Finding<T> {
         ensures answer { result.answer ≡ answers.Said verdict }
         ensures basis { result.basis ≡ Some (entry_basis config.value request d.value.class) }
     {
-        owed();
-        Finding::memory(request)
+        // brings that the file is what the class's bytes spell, where a content is told
+        let _ = d.class();
+        Finding {
+            request,
+            answer: Answer::Said(verdict),
+            basis: Some(Basis::Entry { config, d }),
+        }
     }
 
     /// What an entry of the pool of the class `d` is resolved to that names the class `c`: an IllegalAccessError where that is
@@ -45,7 +50,13 @@ impl<T: Told> Finding<T> {
         ensures basis { result.basis
             ≡ Some (class_basis config.value request d.value.class c.value.class) }
     {
-        owed();
-        Finding::memory(request)
+        // brings that the files are what the classes' bytes spell, where a content is told
+        let _ = d.class();
+        let _ = c.class();
+        Finding {
+            request,
+            answer: Answer::Said(verdict),
+            basis: Some(Basis::Class { config, d, c }),
+        }
     }
 }

@@ -1,13 +1,11 @@
 //! Findings: requests with their answers.
 
-ghost use Rattle.std.specs.Prelude.{◌≡◌, Some, None, length};
+ghost use Rattle.std.specs.Prelude.{◌≡◌, None};
 ghost use Rattle.cl_model.specs.declared.verdict.Verdict.TheVariants as verdicts;
 ghost use Rattle.cl_model.specs.declared.answer.Answer.TheVariants as answers;
-ghost use Rattle.cl_findings.specs.Findings.{Decides, IsLink, IsLoad, IsSettledFor, IsWithin, Rests};
+ghost use Rattle.cl_findings.specs.Findings.{IsLink, IsLoad, IsSettledFor, Rests};
 
 use crate::basis::Basis;
-use crate::stub::owed;
-use cl_config::Config;
 use cl_model::{Answer, Class, LoaderId, Request, Settled, Told, Verdict};
 use cl_names::Name;
 use std::marker::Model;
@@ -35,6 +33,7 @@ impl<T: Told> Model for Finding<T> {
 
 impl<T: Told> Finding<T> {
     /// The class that a request loaded, as the tables have it (JVMS SE 8, 5.3).
+    #[tactic(auto, using(crate::proofs::Plain::class_rests))]
     pub fn class(request: Request, class: Class) -> Finding<T>
         requires { IsLoad request }
         ensures { result ≡ record {
@@ -43,7 +42,6 @@ impl<T: Told> Finding<T> {
           basis = None;
         } }
     {
-        owed();
         Finding {
             request,
             answer: Answer::Said(Verdict::Class(class)),
@@ -52,6 +50,7 @@ impl<T: Told> Finding<T> {
     }
 
     /// The class that a request linked, as the tables have it: it and all above it are prepared (JVMS SE 8, 5.4).
+    #[tactic(auto, using(crate::proofs::Plain::linked_rests))]
     pub fn linked(request: Request, class: Class) -> Finding<T>
         requires { IsLink request }
         ensures { result ≡ record {
@@ -60,7 +59,6 @@ impl<T: Told> Finding<T> {
           basis = None;
         } }
     {
-        owed();
         Finding {
             request,
             answer: Answer::Said(Verdict::Linked(class)),
@@ -69,6 +67,7 @@ impl<T: Told> Finding<T> {
     }
 
     /// What the entry of a request is settled to, as the tables have it (JVMS SE 8, 5.4.3).
+    #[tactic(auto, using(crate::proofs::Plain::settled_rests))]
     pub fn settled(request: Request, settled: Arc<Settled>) -> Finding<T>
         requires { IsSettledFor request settled.value }
         ensures { result ≡ record {
@@ -77,7 +76,6 @@ impl<T: Told> Finding<T> {
           basis = None;
         } }
     {
-        owed();
         Finding {
             request,
             answer: Answer::Shared(settled),
@@ -86,10 +84,10 @@ impl<T: Told> Finding<T> {
     }
 
     /// Memory ran out.
+    #[tactic(auto, using(crate::proofs::Plain::memory_rests))]
     pub fn memory(request: Request) -> Finding<T>
         ensures { result ≡ record { request = request; answer = answers.Memory; basis = None } }
     {
-        owed();
         Finding {
             request,
             answer: Answer::Memory,
@@ -98,6 +96,7 @@ impl<T: Told> Finding<T> {
     }
 
     /// The source could not be read at a name of a loader.
+    #[tactic(auto, using(crate::proofs::Plain::fault_rests))]
     pub fn source_fault(request: Request, name: Name, loader: LoaderId) -> Finding<T>
         ensures { result ≡ record {
           request = request;
@@ -105,7 +104,6 @@ impl<T: Told> Finding<T> {
           basis = None;
         } }
     {
-        owed();
         Finding {
             request,
             answer: Answer::SourceFault(name, loader),
@@ -135,13 +133,5 @@ impl<T: Told> Finding<T> {
         ensures rests { Rests T.told self }
     {
         self.answer
-    }
-
-    /// Whether all loaders that the request and the answer name are those of a configuration.
-    pub fn is_within(&self, config: &Config) -> bool
-        ensures { Decides result (IsWithin (length config.now.loaders) self.now) }
-    {
-        owed();
-        false
     }
 }

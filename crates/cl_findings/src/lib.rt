@@ -1,16 +1,16 @@
 //! What a request is answered, with what that rests on (JVMS SE 8, 5.3 to 5.4.3).
 #![tactic(auto)]
 
-pub mod basis;
-pub mod entry;
+mod basis;
+mod entry;
 pub mod finding;
 pub mod laws;
 pub mod load;
-pub mod member;
-pub mod refusal;
-pub mod stands;
-mod stub;
+mod member;
+mod refusal;
+mod stands;
 pub mod tables;
+mod within;
 
 pub use finding::Finding;
 pub use load::{NextRecord, Obstacle, Target};

@@ -6,11 +6,11 @@ ghost use Rattle.cl_model.specs.Views.{verdict_of};
 ghost use Rattle.cl_hierarchy.specs.Imposed.{OfReference};
 ghost use Rattle.cl_findings.specs.References.{GoesTo, IsOfFound, IsLookupError, class_basis, index_of, member_basis};
 
+use crate::basis::Basis;
 use crate::finding::Finding;
-use crate::stub::owed;
 use cl_hierarchy::{Equalities, Lineage};
 use cl_members::Found;
-use cl_model::{Request, Told, Verdict};
+use cl_model::{Answer, Request, Told, Verdict};
 use std::sync::Arc;
 
 impl<T: Told> Finding<T> {
@@ -18,18 +18,26 @@ impl<T: Told> Finding<T> {
     pub fn member(
         request: Request,
         found: &Found<T>,
-        equalities: Equalities<T>,
+        equalities: Arc<Equalities<T>>,
         verdict: Verdict,
     ) -> Finding<T>
         requires reference { GoesTo request found.now.d found.now.c found.now.index }
-        requires origin { equalities.origin ≡ OfReference found.now.d found.now.c found.now.index }
+        requires origin { equalities.value.origin ≡ OfReference found.now.d found.now.c found.now.index }
         requires verdict { IsOfFound found.now (verdict_of verdict) }
         ensures request { result.request ≡ request }
         ensures answer { result.answer ≡ answers.Said verdict }
-        ensures basis { result.basis ≡ Some (member_basis request found.now equalities) }
+        ensures basis { result.basis ≡ Some (member_basis request found.now equalities.value) }
     {
-        owed();
-        Finding::memory(request)
+        // brings what is kept of the member, of its equalities, and of the classes' lineages
+        let _ = found.index();
+        let _ = found.d().class();
+        let _ = found.c().class();
+        let met = equalities.needs().len();
+        Finding {
+            request,
+            answer: Answer::Said(verdict),
+            basis: Some(Basis::Asked { equalities, met }),
+        }
     }
 
     /// The error of an entry of the class `d` whose member was not found through the class `c`: NoSuchFieldError,
@@ -48,7 +56,13 @@ impl<T: Told> Finding<T> {
         ensures basis { result.basis
             ≡ Some (class_basis d.value.config request d.value.own.class c.value.own.class) }
     {
-        owed();
-        Finding::memory(request)
+        // brings what is kept of the classes' lineages
+        let _ = d.class();
+        let _ = c.class();
+        Finding {
+            request,
+            answer: Answer::Said(verdict),
+            basis: Some(Basis::Lookup { d, c }),
+        }
     }
 }

@@ -1,1 +1,0 @@
-unsigned stub_never(void) { for (;;) {} }

@@ -61,7 +61,7 @@ loader_bound : (c : Configured) (content : Content) (l p : ℕ) (name : Name) �
 loader_bound c content l p name h = subst (λ (n : ℕ). l < n) (length-map c.loaders loader_of) (home_bound (world_of c content) l p name h)
 
 -- a draft's class is at home, under the configuration that it was found under
-draft_at_home : (c : Configured) (content : Content) (d : Drafted) → IsDraft (Some content) d → d.home.config ≡ c → IsAtHome (world_of c content) d.class
+pub draft_at_home : (c : Configured) (content : Content) (d : Drafted) → IsDraft (Some content) d → d.home.config ≡ c → IsAtHome (world_of c content) d.class
 draft_at_home c content d draft config =
     let found : home (world_of c content) d.home.asked d.home.name ≡ Some d.home.place = subst (λ (k : Configured). home (world_of k content) d.home.asked d.home.name ≡ Some d.home.place) config draft.leads in
     subst (λ (k : Class). IsAtHome (world_of c content) k) (sym draft.placed) (home_of_home (world_of c content) d.home.asked d.home.place d.home.name found)
@@ -78,7 +78,7 @@ row_file content x l p name kept at r =
 if_some_row : {A : Type 0} (P : A → Type 0) (o : Option A) (a : A) → o ≡ Some a → P a → IfSome o P
 if_some_row {A = A} P o a e p = subst (λ (o : Option A). IfSome o P) (sym e) p
 
-row_of_some : {A : Type 0} (P : A → Type 0) (o : Option A) (a : A) → o ≡ Some a → IfSome o P → P a
+pub row_of_some : {A : Type 0} (P : A → Type 0) (o : Option A) (a : A) → o ≡ Some a → IfSome o P → P a
 row_of_some {A = A} P o a e h = subst (λ (o : Option A). IfSome o P) e h
 
 -- the record that comes next in a load may be made
@@ -97,7 +97,7 @@ may_by g s c f ts closed at file accepts kept none free =
 abbrev recorded_as : Shown → ℕ → List Above → List Class
 recorded_as x l others = map (λ (a : Above). class a.name (place_in (records_of x) l a)) others
 
-recorded_at : (x : Shown) (l : ℕ) (a : Above) → IsSome (recorded (records_of x) l a.name) → recorded (records_of x) l a.name ≡ Some (place_in (records_of x) l a)
+pub recorded_at : (x : Shown) (l : ℕ) (a : Above) → IsSome (recorded (records_of x) l a.name) → recorded (records_of x) l a.name ≡ Some (place_in (records_of x) l a)
 recorded_at x l a some =
     let p = some_of (recorded (records_of x) l a.name) some in
     p.1 ∙ ap (λ (o : Option ℕ). Some (unwrap_or o 0)) (sym p.1)

@@ -1,10 +1,15 @@
 pub mod Allowed
 pub mod Asked
+pub mod Bearing
 pub mod Binding
 pub mod Calm
 pub mod Cited
+pub mod Constrained
 pub mod Counts
+pub mod Entered
+pub mod Equated
 pub mod Histories
+pub mod Imposed
 pub mod Kept
 pub mod Linked
 pub mod Looked
@@ -15,3 +20,5 @@ pub mod Running
 pub mod Schedules
 pub mod Settled
 pub mod Steps
+pub mod Tested
+pub mod Verdicts

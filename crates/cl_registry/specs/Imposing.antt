@@ -1,5 +1,5 @@
 -- Which equalities may be imposed, and which classes prepared, by the tables of a registry (JVMS SE 8, 5.3.4, 5.4.2, 5.4.3).
-use Rattle.std.specs.Prelude.{◌≡◌, ◌⊎◌, ◌<◌, ℕ, true, List, ◌∷◌, [], ◌++◌, Option, Some, length, take, slice_get, Contains, IfSome}
+use Rattle.std.specs.Prelude.{◌≡◌, ◌⊎◌, ◌<◌, ℕ, true, List, ◌∷◌, [], ◌++◌, Option, None, Some, length, take, slice_get, Contains, IfSome}
 use Rattle.std.specs.List.{AllByRecursion}
 use Rattle.cl_classfile.specs.Files.{file_of}
 use Rattle.cl_model.specs.declared.class.Class.{Class}
@@ -7,12 +7,13 @@ use Rattle.cl_model.specs.declared.event.Event.TheVariants as events
 use Rattle.cl_model.specs.declared.need.Equality.{Equality}
 use Rattle.cl_model.specs.Classes.{class, Above, supers, class_accessible}
 use Rattle.cl_model.specs.Homes.{World, home}
-use Rattle.cl_model.specs.Machine.{IsResolution}
+use Rattle.cl_model.specs.Machine.{IsResolution, MayConstrain, MayPrepare}
 use Rattle.cl_model.specs.Preparation.{constraints_of}
 use Rattle.cl_model.specs.Works.{Made}
 use Rattle.cl_model.specs.States.{State, Need, Verdict, recorded, IsRecorded, Met, Refused, AllMet}
 use Rattle.cl_model.specs.Content.{Content}
 use Rattle.cl_config.specs.Views.{Configured}
+use Rattle.cl_delegation.specs.Worlds.{setting_of}
 use Rattle.cl_hierarchy.specs.Imposed.{Listed, AreOf, Sprung, OfPreparation, OfReference, equal_need, needs_of}
 use Rattle.cl_hierarchy.specs.Lineages.{Lined, IsLined, kin_of}
 use Rattle.cl_registry.specs.Tables.{Shown, records_of, state_of}
@@ -101,6 +102,25 @@ Marks old new e = MarksBy old new e.origin
 abbrev pub IsPreparedBy : Shown → Sprung → Type 0
 IsPreparedBy x (OfReference d c index) = ⊥
 IsPreparedBy x (OfPreparation l) = Contains (state_of x).prepared l.own.class
+
+-- ---- for the steps of a call
+
+-- there is a state that a book stands for, and there a need is not met (own choice of form)
+pub record IsUnmetIn (stands : State → Type 0) (need : Need) : Type 0 where
+  pub state : State
+  pub stood_for : stands state
+  pub unmet : Met state need → ⊥
+
+-- where a content is told, the machine may impose an equality that is not refused (5.3.4)
+abbrev pub MayConstrainAs : Option Content → Shown → Equality → Type 0
+MayConstrainAs None x e = Unit {0}
+MayConstrainAs (Some content) x e =
+    (Refused (state_of x) (equal_need e) → ⊥) → MayConstrain (setting_of x.config x.script content) (state_of x) e.name e.one e.other
+
+-- where a content is told, the machine may prepare a class (5.4.2)
+abbrev pub MayPrepareAs : Option Content → Shown → Class → Type 0
+MayPrepareAs None x c = Unit {0}
+MayPrepareAs (Some content) x c = MayPrepare (setting_of x.config x.script content) (state_of x) c
 
 -- ---- for the laws
 

@@ -7,6 +7,9 @@ use Rattle.cl_model.specs.States as states
 use Rattle.cl_model.specs.Views.{need_of}
 use Rattle.cl_registry.specs.declared.registry.RegistryFault.{RegistryFault}
 use Rattle.cl_registry.specs.declared.registry.RegistryFault.TheVariants.{Memory, Stray, Violates, AlreadyPosted, NotYet}
+use Rattle.cl_constraints.specs.Books.{Wherever}
+use Rattle.cl_constraints.specs.declared.fault.BookFault.{BookFault}
+use Rattle.cl_constraints.specs.declared.fault.BookFault.TheVariants as books
 use Rattle.cl_delegation.specs.Searches.{Located}
 use Rattle.cl_hierarchy.specs.Drafts.{Drafted}
 use Rattle.cl_hierarchy.specs.Imposed.{Listed}
@@ -21,6 +24,27 @@ use Rattle.cl_registry.specs.Posting.{IsBacked}
 pub record Blames (x : Shown) (blamed : Need) (need : states.Need) : Type 0 where
   pub is : need_of blamed ≡ need
   pub refused : Refused (state_of x) need
+
+-- a need that may stand for all else is not added: it is blamed where it is refused, and memory is blamed for no refused one (5.3.4)
+abbrev pub AddRefusedFor : Shown → states.Need → RegistryFault → Type 0
+AddRefusedFor x need Memory = Refused (state_of x) need → ⊥
+AddRefusedFor x need Stray = ⊥
+AddRefusedFor x need (Violates n) = Blames x n need
+AddRefusedFor x need AlreadyPosted = ⊥
+AddRefusedFor x need NotYet = ⊥
+
+-- a need that is blamed is refused in each state that a book stands for (5.3.4)
+abbrev pub BlamesIn : (states.State → Type 0) → states.Need → RegistryFault → Type 0
+BlamesIn stands need Memory = Unit {0}
+BlamesIn stands need Stray = ⊥
+BlamesIn stands need (Violates n) = (need_of n ≡ need) × Wherever stands (λ s. Refused s need)
+BlamesIn stands need AlreadyPosted = ⊥
+BlamesIn stands need NotYet = ⊥
+
+-- the fault that a book's refusal of a need is (5.3.4)
+abbrev pub fault_of : BookFault → Need → RegistryFault
+fault_of books.Memory need = Memory
+fault_of books.Violates need = Violates need
 
 -- a class is strayed where its loader has no record of it and it may not be recorded; its record is blamed where it would
 -- violate an equality; others are refused where memory ran out alone (5.3.4; 5.3.5, steps 1, 3 and 4)

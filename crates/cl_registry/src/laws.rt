@@ -26,9 +26,7 @@ pub fn joined_is_allowed()
 /// An equality of a list that may be imposed, and is neither met nor refused, may be imposed by the linkage machine.
 pub fn imposed_is_allowed()
     ensures { ImposedIsAllowed }
-{
-    never()
-}
+{}
 
 /// An equality to which the linkage machine's own list comes may be imposed: `impose` refuses it where it is refused, or
 /// for memory.
@@ -41,16 +39,12 @@ pub fn allowed_is_imposed()
 /// A class that may be marked, and is not prepared, may be prepared by the linkage machine.
 pub fn marked_is_allowed()
     ensures { MarkedIsAllowed }
-{
-    never()
-}
+{}
 
 /// A class that the linkage machine may prepare may be marked: `mark_prepared` refuses it for memory alone.
 pub fn allowed_is_marked()
     ensures { AllowedIsMarked }
-{
-    never()
-}
+{}
 
 /// An answer that fits and rests on the content may be posted by the linkage machine.
 pub fn fitting_is_allowed()

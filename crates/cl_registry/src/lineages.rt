@@ -1,18 +1,35 @@
 //! The lineages of classes that are recorded (JVMS SE 8, 5.3.5).
 
-ghost use Rattle.std.specs.Prelude.{IfErr, IfOk, OnOk};
+ghost use Rattle.std.specs.Prelude.{◌≡◌, IfErr, IfOk, OnOk};
+ghost use Rattle.std.specs.Option.{option_map};
 ghost use Rattle.cl_hierarchy.specs.RowTables.{IsMadeOf};
+ghost use Rattle.cl_model.specs.Classes.{class};
 ghost use Rattle.cl_model.specs.States.{IsRecorded};
 ghost use Rattle.cl_registry.specs.Refusals.{LineageRefusedFor};
-ghost use Rattle.cl_registry.specs.Tables.{IsKept, state_of};
+ghost use Rattle.cl_registry.specs.Tables.{IsKept, row_of, state_of};
 ghost use Rattle.cl_registry.specs.Traced.{IsTraced};
 
 use crate::registry::{Registry, RegistryFault};
-use crate::stub::never;
-use cl_hierarchy::Lineage;
-use cl_model::{Class, Told};
+use crate::tables::find;
+use cl_hierarchy::{ClassRow, Lineage, LineageFault, RowTable};
+use cl_model::{Class, LoaderId, Told};
+use cl_names::Name;
 use std::alloc::Global;
 use std::sync::Arc;
+
+/// The rows of a registry by who defined their classes.
+#[derive(Drop)]
+struct Defined<'a, T: Told> {
+    registry: &'a Registry<T>,
+}
+
+impl<'a, T: Told> RowTable<T> for Defined<'a, T> {
+    ghost rows = { λ x. x.registry.now.rows };
+
+    fn row(&self, loader: LoaderId, name: &Name) -> Option<&Arc<ClassRow<T>>> {
+        self.registry.defined_row(loader, name)
+    }
+}
 
 impl<T: Told> Registry<T> {
     /// The lineage of a class that its loader has recorded, in time linear in the rows of its ancestors and the supertypes
@@ -28,7 +45,26 @@ impl<T: Told> Registry<T> {
         ensures refused { IfErr result (λ fault. LineageRefusedFor self.now class.now fault) }
         ensures kept { IsKept T.told self.now }
     {
-        never();
-        unreachable!()
+        let table = Defined { registry: self };
+        let made = match Lineage::of(alloc, &self.config, &table, class) {
+            Ok(made) => made,
+            Err(LineageFault::Unknown) => return Err(RegistryFault::Stray),
+            Err(LineageFault::Memory) => return Err(RegistryFault::Memory),
+        };
+        let Ok(lineage) = Arc::new(alloc, made) else {
+            return Err(RegistryFault::Memory);
+        };
+        Ok(lineage)
+    }
+
+    /// The row of the class that this loader defined under this name.
+    fn defined_row(&self, loader: LoaderId, name: &Name) -> Option<&Arc<ClassRow<T>>>
+        ensures { option_map (λ r. r.now.value) result ≡ row_of self.now.rows (class name.now loader) }
+    {
+        let row = find(&self.tables, loader, name)?;
+        if row.class().loader != loader {
+            return None;
+        }
+        Some(row)
     }
 }

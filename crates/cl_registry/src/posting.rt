@@ -1,7 +1,8 @@
 //! The answers of requests (JVMS SE 8, 5.3 to 5.4.3).
 
-ghost use Rattle.std.specs.Prelude.{◌≡◌, Contains, IfErr, OnOk, Some};
+ghost use Rattle.std.specs.Prelude.{◌≡◌, ◌⊎◌, Contains, IfErr, OnOk, Some};
 ghost use Rattle.cl_model.specs.Plans.{Link, Load, Resolve};
+ghost use Rattle.cl_model.specs.States.{ArrayMember, BadEntry};
 ghost use Rattle.cl_model.specs.Tables.{Bears, Records};
 ghost use Rattle.cl_model.specs.Views.{request_of, verdict_of};
 ghost use Rattle.cl_findings.specs.Findings.{Decides, IsLookedUp};
@@ -10,10 +11,8 @@ ghost use Rattle.cl_registry.specs.References.{settled_by};
 ghost use Rattle.cl_registry.specs.Refusals.{PostRefusedFor};
 ghost use Rattle.cl_registry.specs.Tables.{IsKept, state_of, with_post};
 
-use crate::references::find_reference;
 use crate::registry::{PostRefused, Registry, RegistryFault};
 use crate::rounds::{count_down, is_asked, is_open, put_answer};
-use crate::tables::find;
 use cl_constraints::ConstraintBook;
 use cl_findings::Finding;
 use cl_model::{Answer, Class, Event, LoaderId, Request, Settled, Told, Verdict};
@@ -26,6 +25,16 @@ fn is_looked_up(request: &Request, verdict: &Verdict) -> bool
     match (request, verdict) {
         (Request::Load(_, _), Verdict::Class(_)) => true,
         (Request::Link(_, _), Verdict::Linked(_)) => true,
+        _ => false,
+    }
+}
+
+/// Whether a verdict is that of an entry which is none that is settled.
+fn is_never_settled(verdict: &Verdict) -> bool
+    ensures { Decides result ((verdict_of verdict.now ≡ BadEntry) ⊎ (verdict_of verdict.now ≡ ArrayMember)) }
+{
+    match verdict {
+        Verdict::BadEntry | Verdict::ArrayMember => true,
         _ => false,
     }
 }
@@ -155,16 +164,16 @@ impl<T: Told> Registry<T> {
     fn bears_entry(&self, loader: LoaderId, name: &Name, index: u16, verdict: &Verdict) -> bool
         ensures { Decides result (Bears (state_of self.now) (Resolve loader name.now index) (verdict_of verdict.now)) }
     {
-        let Some(row) = find(&self.tables, loader, name) else {
-            return true;
+        let row = match self.look(loader, name) {
+            Some(row) => row,
+            None => return true,
         };
-        match verdict {
-            Verdict::BadEntry => true,
-            Verdict::ArrayMember => true,
-            _ => match find_reference(&self.references, row.class(), index) {
-                Some(settled) => settled.verdict.is_same(verdict),
-                None => false,
-            },
+        if is_never_settled(verdict) {
+            return true;
+        }
+        match self.look_reference(row.class(), index) {
+            Some(settled) => settled.verdict.is_same(verdict),
+            None => false,
         }
     }
 

@@ -1,8 +1,8 @@
 //! The tables of a registry, as plain maps.
 
-ghost use Rattle.std.specs.Prelude.{◌≡◌, ℕ, List, ◌<◌, None, IfOk, OnOk, OnErr, length};
+ghost use Rattle.std.specs.Prelude.{◌≡◌, ℕ, List, ◌<◌, None, IfOk, OnOk, length};
 ghost use Rattle.std.specs.Option.{option_map};
-ghost use Rattle.cl_registry.specs.Parts.{HasSameRows, IsPut};
+ghost use Rattle.cl_registry.specs.Parts.{HasSameRows, HasSpare, IsPut};
 ghost use Rattle.cl_registry.specs.Tables.{row_at};
 
 use cl_hierarchy::ClassRow;
@@ -41,21 +41,31 @@ pub fn find<'a, T: Told>(
     tables.get(loader.0 as usize)?.get(name)
 }
 
-/// Puts a row where none is.
-pub fn insert<T: Told>(
+/// Room for one row more of a loader.
+pub fn reserve_row<T: Told>(tables: &mut Rows<T>, loader: LoaderId) -> Result<(), AllocError>
+    requires { loader < length tables.old.items }
+    ensures width { length tables.new.items ≡ length tables.old.items }
+    ensures same { HasSameRows (row_at tables.old.items) (row_at tables.new.items) }
+    ensures room { OnOk result (HasSpare tables.new.items loader) }
+{
+    tables[loader.0 as usize].reserve(1)
+}
+
+/// Puts a row where none is, for which there is room.
+pub fn insert_reserved<T: Told>(
     tables: &mut Rows<T>,
     loader: LoaderId,
     name: Name,
     row: Arc<ClassRow<T>>,
-) -> Result<(), AllocError>
-    requires { loader < length tables.old.items }
+)
+    requires within { loader < length tables.old.items }
+    requires room { HasSpare tables.old.items loader }
     ensures width { length tables.new.items ≡ length tables.old.items }
-    ensures put { OnOk result (IsPut (row_at tables.old.items) (row_at tables.new.items) loader name row) }
-    ensures unchanged { OnErr result (HasSameRows (row_at tables.old.items) (row_at tables.new.items)) }
+    ensures put { IsPut (row_at tables.old.items) (row_at tables.new.items) loader name row }
 {
     match tables[loader.0 as usize].insert(name, row) {
-        Ok(_) => Ok(()),
-        Err(_) => Err(AllocError),
+        Ok(_) => {}
+        Err(_) => unreachable!(),
     }
 }
 

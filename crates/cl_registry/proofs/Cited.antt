@@ -53,6 +53,17 @@ settled_by_in x r s h = at (cited_by x r) h
         let moved : settled_at x s.class s.index ≡ Some s = ap (λ (c : Class). settled_at x c s.index) is.class ∙ ap (settled_at x e.class) is.index ∙ k in
         settled_is_told x s.class s.index s moved
 
+-- a request whose entry is settled resolves it
+pub settled_cited_by : (x : Shown) (r : Request) (s : Settled) → settled_by x r ≡ Some s → IsCitedBy x r (record { class = s.class; index = s.index })
+settled_cited_by x r s h = at (cited_by x r) refl h
+  where
+    at : (o : Option Cited) → cited_by x r ≡ o → option_and_then (λ (d : Cited). settled_at x d.class d.index) o ≡ Some s → IsCitedBy x r (record { class = s.class; index = s.index })
+    at None e k = absurd cc
+    at (Some d) e k =
+        let is = settled_is_told x d.class d.index s k in
+        let same : d ≡ record { class = s.class; index = s.index } = ap (λ (c : Class). record { class = c; index = d.index }) (sym is.class) ∙ ap (λ (i : ℕ). record { class = s.class; index = i }) (sym is.index) in
+        subst (λ (e : Cited). IsCitedBy x r e) same (cited_is x r d e)
+
 -- what was found, or not, is what is settled
 pub found_or_not : {Q : Type 0} (now : Q → Settled) (x : Shown) (c : Class) (i : ℕ) (o : Option Q) → option_map now o ≡ settled_at x c i → MatchOption o (IsUnsettled x c i) (λ q. IsSettledIn x c i (now q))
 found_or_not now x c i None e = unsettled_is_told x c i (sym e)

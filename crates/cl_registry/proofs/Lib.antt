@@ -1,5 +1,6 @@
 pub mod Allowed
 pub mod Asked
+pub mod Backed
 pub mod Bearing
 pub mod Binding
 pub mod Calm
@@ -15,6 +16,8 @@ pub mod Linked
 pub mod Looked
 pub mod Named
 pub mod Placed
+pub mod Posted
+pub mod Posts
 pub mod Referenced
 pub mod Running
 pub mod Schedules

@@ -15,7 +15,6 @@ use Rattle.cl_model.specs.Machine.{Define, Initiate, NextRound, after, state_aft
 use Rattle.cl_model.specs.Views.{answers_of, answer_at, post_of, step_of, steps_of, verdict_of}
 use Rattle.cl_model.proofs.Complete.{is_class}
 use Rattle.cl_registry.specs.Tables.{Shown, state_of, settlements, settled_at}
-use Rattle.cl_registry.specs.References.{IsSettledIn, IsUnsettled}
 use Rattle.cl_registry.specs.SettlingLaws.{SettledIsTold, UnsettledIsTold, SettledStays}
 use Rattle.cl_registry.proofs.Histories.{eq_nat, settlements_then}
 

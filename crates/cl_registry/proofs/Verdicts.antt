@@ -1,5 +1,5 @@
 -- Verdicts that the linkage machine takes for the same are the same.
-use Rattle.std.proofs.Common.{◌≡◌, ◌∙◌, ℕ, Bool, if◌then◌else◌, refl, sym, ap}
+use Rattle.std.proofs.Common.{◌≡◌, ◌∙◌, ℕ, if◌then◌else◌, refl, sym, ap}
 use Rattle.std.specs.Prelude.{nat_eq}
 use Rattle.cl_model.specs.declared.class.Class.{Class}
 use Rattle.cl_model.specs.declared.primitive.Primitive.{Primitive}

@@ -31,7 +31,8 @@ fn is_looked_up(request: &Request, verdict: &Verdict) -> bool
 
 /// Whether a verdict is that of an entry which is none that is settled.
 fn is_never_settled(verdict: &Verdict) -> bool
-    ensures { Decides result ((verdict_of verdict.now ≡ BadEntry) ⊎ (verdict_of verdict.now ≡ ArrayMember)) }
+    ensures { Decides result ((verdict_of verdict.now ≡ BadEntry)
+        ⊎ (verdict_of verdict.now ≡ ArrayMember)) }
 {
     match verdict {
         Verdict::BadEntry | Verdict::ArrayMember => true,
@@ -132,7 +133,8 @@ impl<T: Told> Registry<T> {
 
     /// Whether the tables bear a verdict of a request.
     fn bears(&self, request: &Request, verdict: &Verdict) -> bool
-        ensures { Decides result (Bears (state_of self.now) (request_of request.now) (verdict_of verdict.now)) }
+        ensures { Decides result (Bears (state_of self.now) (request_of request.now)
+            (verdict_of verdict.now)) }
     {
         match request {
             Request::Load(loader, name) => self.bears_load(*loader, name, verdict),
@@ -152,7 +154,8 @@ impl<T: Told> Registry<T> {
 
     /// Whether a class that was loaded is recorded.
     fn bears_load(&self, loader: LoaderId, name: &Name, verdict: &Verdict) -> bool
-        ensures { Decides result (Bears (state_of self.now) (Load loader name.now) (verdict_of verdict.now)) }
+        ensures { Decides result (Bears (state_of self.now) (Load loader name.now)
+            (verdict_of verdict.now)) }
     {
         match verdict {
             Verdict::Class(class) => self.records(loader, name, class),
@@ -162,7 +165,8 @@ impl<T: Told> Registry<T> {
 
     /// Whether an entry of a recorded class is settled so, or is none that is settled.
     fn bears_entry(&self, loader: LoaderId, name: &Name, index: u16, verdict: &Verdict) -> bool
-        ensures { Decides result (Bears (state_of self.now) (Resolve loader name.now index) (verdict_of verdict.now)) }
+        ensures { Decides result (Bears (state_of self.now) (Resolve loader name.now index)
+            (verdict_of verdict.now)) }
     {
         let row = match self.look(loader, name) {
             Some(row) => row,
@@ -179,7 +183,8 @@ impl<T: Told> Registry<T> {
 
     /// Whether a class that was linked is recorded and prepared.
     fn bears_link(&self, loader: LoaderId, name: &Name, verdict: &Verdict) -> bool
-        ensures { Decides result (Bears (state_of self.now) (Link loader name.now) (verdict_of verdict.now)) }
+        ensures { Decides result (Bears (state_of self.now) (Link loader name.now)
+            (verdict_of verdict.now)) }
     {
         match verdict {
             Verdict::Linked(class) => {

@@ -34,7 +34,8 @@ fn put_first(
     settled: Arc<Settled>,
 ) -> Result<(), AllocError>
     requires { get same_class references.old class ≡ None }
-    ensures put { OnOk result (IsReferencePut (reference_in references.old) (reference_in references.new) class index settled) }
+    ensures put { OnOk result (IsReferencePut (reference_in references.old)
+        (reference_in references.new) class index settled) }
     ensures unchanged { OnErr result (IsUnchanged references.old references.new) }
 {
     let mut one = IndexMap::with_hasher(alloc, seed);
@@ -56,8 +57,10 @@ pub fn put_reference(
     index: u16,
     settled: Arc<Settled>,
 ) -> Result<(), AllocError>
-    ensures put { OnOk result (IsReferencePut (reference_in references.old) (reference_in references.new) class index settled) }
-    ensures unchanged { OnErr result (HasSameReferences (reference_in references.old) (reference_in references.new)) }
+    ensures put { OnOk result (IsReferencePut (reference_in references.old)
+        (reference_in references.new) class index settled) }
+    ensures unchanged { OnErr result (HasSameReferences (reference_in references.old)
+        (reference_in references.new)) }
 {
     if let Some(one) = references.get_mut(&class) {
         return match one.insert(index, settled) {
@@ -82,10 +85,14 @@ pub fn bind(
     ensures value { IfOk result (λ s. s.value ≡ settled) }
     ensures event { OnOk result (AddsSettled history.old.items history.new.items settled) }
     ensures used { OnOk result (vec_len history.new ≡ vec_len history.old + 1) }
-    ensures put { OnOk result (IsReferencePut (shared_references (λ s. s.value) (reference_in references.old)) (shared_references (λ s. s.value) (reference_in references.new)) settled.class settled.index settled) }
+    ensures put { OnOk result (IsReferencePut
+        (shared_references (λ s. s.value) (reference_in references.old))
+        (shared_references (λ s. s.value) (reference_in references.new))
+        settled.class settled.index settled) }
     ensures same_history { OnErr result (history.new.items ≡ history.old.items) }
     ensures same_length { OnErr result (vec_len history.new ≡ vec_len history.old) }
-    ensures same_references { OnErr result (HasSameReferences (reference_in references.old) (reference_in references.new)) }
+    ensures same_references { OnErr result (HasSameReferences (reference_in references.old)
+        (reference_in references.new)) }
 {
     let class = settled.class.try_clone(alloc)?;
     let index = settled.index;

@@ -34,7 +34,8 @@ impl<T: Told> Registry<T> {
     /// What an entry of a class's constant pool is settled to (JVMS SE 8, 5.4.3).
     pub fn look_reference(&self, class: &Class, index: u16) -> Option<&Arc<Settled>>
         ensures entry { option_map (λ s. s.now.value) result ≡ settled_at self.now class.now index }
-        ensures found { MatchOption result (IsUnsettled self.now class.now index) (λ s. IsSettledIn self.now class.now index s.now.value) }
+        ensures found { MatchOption result (IsUnsettled self.now class.now index)
+            (λ s. IsSettledIn self.now class.now index s.now.value) }
         ensures kept { IsKept T.told self.now }
     {
         find_reference(&self.references, class, index)
@@ -86,7 +87,8 @@ impl<T: Told> Registry<T> {
 
     /// The class whose entry a request resolves, as its loader has recorded it, and the index of the entry.
     fn cited(&self, request: &Request) -> Option<(&Class, u16)>
-        ensures { option_map (λ e. record { class = e.0.now; index = e.1 }) result ≡ cited_by self.now request.now }
+        ensures { option_map (λ e. record { class = e.0.now; index = e.1 }) result
+            ≡ cited_by self.now request.now }
     {
         match request {
             Request::Resolve(loader, name, index) => match find(&self.tables, *loader, name) {
@@ -102,7 +104,7 @@ impl<T: Told> Registry<T> {
         ensures { option_map (λ s. s.now.value) result ≡ settled_by self.now request.now }
     {
         let (class, index) = self.cited(request)?;
-        find_reference(&self.references, class, index)
+        self.look_reference(class, index)
     }
 
     /// Whether what a finding rests on stands in the tables.
@@ -144,7 +146,8 @@ fn settled_as(
     index: u16,
     verdict: &Verdict,
 ) -> Result<Settled, AllocError>
-    ensures { IfOk result (λ s. s ≡ record { class = class.now; index = index; verdict = verdict.now }) }
+    ensures { IfOk result (λ s. s
+        ≡ record { class = class.now; index = index; verdict = verdict.now }) }
 {
     Ok(Settled {
         class: class.try_clone(alloc)?,

@@ -1,8 +1,6 @@
-//! Laws of what is settled: each is the contract of a function without a body.
+//! Laws of what is settled and posted: each is the contract of a function without a body.
 
-ghost use Rattle.cl_registry.specs.SettlingLaws.{PreparedComes, SettledIsAllowed, SettledIsTold, SettledStays, UnsettledIsTold};
-
-use cl_findings::laws::standing_answers;
+ghost use Rattle.cl_registry.specs.SettlingLaws.{AllowedIsSettled, FittingIsBorne, LinkedIsPrepared, OtherFindingIsStray, PostedIsSettled, PreparedComes, SettledIsAllowed, SettledIsBacked, SettledIsTold, SettledStays, UnsettledIsTold};
 
 /// What a history tells to be settled is so in the linkage machine, and nothing else is (JVMS SE 8, 5.4.3).
 pub fn settled_is_told()
@@ -23,6 +21,28 @@ pub fn prepared_comes()
 /// What a finding settles, where the entry is not settled, may be settled by the linkage machine (JVMS SE 8, 5.4.3).
 pub fn settled_is_allowed()
     ensures { SettledIsAllowed }
-{
-    standing_answers();
-}
+{}
+
+/// What a finding that stands says of an entry is settled where the linkage machine allows it: `settle` refuses it for memory
+/// alone (JVMS SE 8, 5.4.3).
+pub fn allowed_is_settled()
+    ensures { AllowedIsSettled }
+{}
+
+/// A finding of another configuration is strayed.
+pub fn other_finding_is_stray()
+    ensures { OtherFindingIsStray }
+{}
+
+/// The tables bear what is posted, under any source: what a reference is settled to, and what is prepared (JVMS SE 8, 5.3 to
+/// 5.4.3).
+pub fn fitting_is_borne()
+    ensures borne { FittingIsBorne }
+    ensures settled { PostedIsSettled }
+    ensures linked { LinkedIsPrepared }
+{}
+
+/// What an entry is settled to may be the answer of each request that resolves it, under any source (JVMS SE 8, 5.4.3).
+pub fn settled_is_backed()
+    ensures { SettledIsBacked }
+{}

@@ -16,7 +16,8 @@ pub struct Standing<'a> {
 impl<'a> Tables for Standing<'a> {
     ghost use Rattle.std.specs.Prelude.{◌≡◌};
 
-    ghost stands_for = { λ t s. ⟦<GroupedBook as ConstraintBook>⟧.stands_for t.book.now s × (t.prepared.now.keys ≡ s.prepared) };
+    ghost stands_for = { λ t s. ⟦<GroupedBook as ConstraintBook>⟧.stands_for t.book.now s
+        × (t.prepared.now.keys ≡ s.prepared) };
 
     fn has(&self, loader: LoaderId, name: &Name, home: LoaderId) -> bool {
         self.book.home(name, loader) == Some(home)

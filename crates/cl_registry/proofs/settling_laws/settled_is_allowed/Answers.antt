@@ -1,5 +1,5 @@
-use Rattle.cl_registry.proofs.Binding.{settled_is_allowed, registry_settle}
+use Rattle.cl_registry.proofs.Binding.{settled_is_allowed}
 use Rattle.cl_registry.proofs.settling_laws.settled_is_allowed.Goals as goal
 
 pub returns : goal.returns
-returns c = settled_is_allowed c.standing_answers.ensures.reference
+returns c = settled_is_allowed

@@ -1,4 +1,4 @@
-use Rattle.std.proofs.Common.{◌≡◌, ◌∙◌, Some, None, ap, sym, map}
+use Rattle.std.proofs.Common.{◌∙◌, ap, sym, map}
 use Rattle.cl_model.specs.declared.request.Request.{Request}
 use Rattle.cl_registry.specs.References.{cited_by}
 use Rattle.cl_registry.specs.Tables.{Shown}

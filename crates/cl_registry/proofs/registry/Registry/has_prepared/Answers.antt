@@ -1,4 +1,4 @@
-use Rattle.std.proofs.Common.{◌≡◌, map, subst}
+use Rattle.std.proofs.Common.{map, subst}
 use Rattle.std.specs.Prelude.{Contains}
 use Rattle.cl_findings.specs.Findings.{Decides}
 use Rattle.cl_registry.specs.Tables.{Shown, state_of}

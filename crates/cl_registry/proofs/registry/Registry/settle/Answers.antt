@@ -1,13 +1,11 @@
-use Rattle.std.proofs.Common.{◌≡◌, ◌∙◌, ◌+◌, ◌-◌, ℕ, Option, Some, None, map, ap, sym, subst, refl}
+use Rattle.std.proofs.Common.{◌≡◌, ◌∙◌, ◌+◌, ◌-◌, ℕ, Some, None, map, ap, sym, subst, refl}
 use Rattle.cl_model.specs.declared.request.Request.{Request}
 use Rattle.cl_model.specs.declared.settled.Settled.{Settled}
-use Rattle.cl_findings.specs.Laws.{StandingSettles}
 use Rattle.cl_registry.specs.References.{settled_by, IsSettledIn}
 use Rattle.cl_registry.specs.Settling.{IsToSettle, Settles}
 use Rattle.cl_registry.specs.Tables.{Shown}
 use Rattle.cl_registry.proofs.Binding.{bound, registry_bound}
 use Rattle.cl_registry.proofs.Cited.{settled_by_in}
-use Rattle.cl_registry.proofs.Kept.{kept_failed}
 use Rattle.cl_registry.proofs.registry.Registry.settle.Goals as goal
 use Rattle.cl_registry.proofs.registry.Registry.settle.Goals.{in-Ok, in-Err}
 
@@ -34,8 +32,7 @@ done g c = bound (known g c) c.args.finding.now c.in-Ok-to_settle.settled c.in-O
 
 pub invariant_of-self-2 : goal.invariant_of-self-2
 invariant_of-self-2 g c =
-    let law : StandingSettles = ? in
-    registry_bound law g.T.Told.told (known g c) c.args.finding.now c.in-Ok-to_settle.settled c.bind.new.history.items _ _ _ _ _ _ _ _ c.to_come-left.result _ c.self.invariant c.request.ensures.rests (free g c) (to g c) c.in-Ok-bind.ensures.event refl (λ l n. refl) refl
+    registry_bound g.T.Told.told (known g c) c.args.finding.now c.in-Ok-to_settle.settled c.bind.new.history.items _ _ _ _ _ _ _ _ c.to_come-left.result _ c.self.invariant c.request.ensures.rests (free g c) (to g c) c.in-Ok-bind.ensures.event refl (λ l n. refl) refl
     c.in-Ok-bind.ensures.put c.in-Ok-bind.ensures.used
     (c.to_come-left.ensures ∙ ap (λ (n : ℕ). c.self.inside.left + (n - (c.self.inside.round + 1))) (c.rounds.ensures ∙ ap (λ s. s.rounds) c.deref.ensures))
     c.in-Ok-bind.ensures.room

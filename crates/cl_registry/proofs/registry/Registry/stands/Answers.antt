@@ -1,4 +1,4 @@
-use Rattle.std.proofs.Common.{◌≡◌, map, subst}
+use Rattle.std.proofs.Common.{map, subst}
 use Rattle.cl_config.specs.Views.{Configured}
 use Rattle.cl_findings.specs.Findings.{Decides, Stands}
 use Rattle.cl_registry.specs.Tables.{Shown, state_of}

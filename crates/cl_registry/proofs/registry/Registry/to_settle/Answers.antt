@@ -1,7 +1,6 @@
-use Rattle.std.proofs.Common.{◌≡◌, ◌∙◌, Some, ap, sym, subst}
+use Rattle.std.proofs.Common.{◌∙◌, ap, sym}
 use Rattle.cl_model.specs.declared.request.Request.{Request}
-use Rattle.cl_findings.specs.Findings.{Answered}
-use Rattle.cl_registry.specs.References.{Cited, cited_by}
+use Rattle.cl_registry.specs.References.{cited_by}
 use Rattle.cl_registry.proofs.registry.Registry.to_settle.Goals as goal
 
 pub returns-in-Err-clause-refused : goal.returns-in-Err-clause-refused

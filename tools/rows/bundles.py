@@ -49,7 +49,7 @@ def configurations():
         yield run(name, ["%config\n" + pieces[0]] + pieces[1:], 1, err="config: " + fault)
 
 
-# A script, and the names that it loads, or its fault.
+# A script, and the name of each request, or its fault. Boot has no class.
 SCRIPTS = [
     ([""], []),
     (["# nothing\n\n"], []),
@@ -71,9 +71,43 @@ SCRIPTS = [
     (["load boot p//A"], "L1 BadLine 1"),
     (["load boot /A"], "L1 BadLine 1"),
     (["load boot p/A\nload boot p/A"], ["p/A", "p/A"]),
-    # Of this version: loads alone.
-    (["resolve boot p/A 0"], "L1 BadLine 1"),
-    (["link boot p/A"], "L1 BadLine 1"),
+    # Resolutions and links.
+    (["resolve boot p/A 0\nlink boot p/B\nload boot p/A"], ["p/A", "p/B", "p/A"]),
+    ([" resolve  boot p\\u002fA   65535 \n# link\nlink boot p/B  "], ["p/A", "p/B"]),
+    (["resolve boot p/A 00017"], ["p/A"]),
+    (["resolve boot p/A 00000"], ["p/A"]),
+    (["resolve boot p/A 000000"], "L1 BadLine 1"),
+    (["resolve boot p/A 65536"], "L1 BadLine 1"),
+    (["resolve boot p/A 131073"], "L1 BadLine 1"),
+    (["resolve boot p/A 4294967297"], "L1 BadLine 1"),
+    (["resolve boot p/A 99999"], "L1 BadLine 1"),
+    (["resolve boot p/A -0"], "L1 BadLine 1"),
+    (["resolve boot p/A +1"], "L1 BadLine 1"),
+    (["resolve boot p/A 1_0"], "L1 BadLine 1"),
+    (["resolve boot p/A 0x1"], "L1 BadLine 1"),
+    (["resolve boot p/A a"], "L1 BadLine 1"),
+    (["resolve boot p/A \\u0031"], "L1 BadLine 1"),
+    (["resolve boot p/A \u0661"], "L1 BadLine 1"),
+    (["resolve boot p/A 1\r\n"], "L1 BadLine 1"),
+    (["resolve boot p/A 1\t"], "L1 BadLine 1"),
+    (["resolve boot p/A"], "L1 BadLine 1"),
+    (["resolve boot 1"], "L1 BadLine 1"),
+    (["resolve boot 1 p/A"], "L1 BadLine 1"),
+    (["resolve boot p/A 1 2"], "L1 BadLine 1"),
+    (["resolve boot p.A 1"], "L1 BadLine 1"),
+    (["resolve boot [Lp/A; 1"], "L1 BadLine 1"),
+    (["Resolve boot p/A 1"], "L1 BadLine 1"),
+    (["resolve x p/A 65536"], "L1 BadLine 1"),
+    (["resolve x p.A 1"], "L1 BadLine 1"),
+    (["resolve x p/A 1"], "L2 UnknownLoader 1"),
+    (["link boot p/A 1"], "L1 BadLine 1"),
+    (["link boot"], "L1 BadLine 1"),
+    (["link"], "L1 BadLine 1"),
+    (["link boot [I"], "L1 BadLine 1"),
+    (["links boot p/A"], "L1 BadLine 1"),
+    (["link x p.A"], "L1 BadLine 1"),
+    (["link x p/A"], "L2 UnknownLoader 1"),
+    (["link boot p/A\n\nthen\nlink x p/A\nresolve"], "L2 UnknownLoader 4"),
     (["# one\n\nload  a\r\n   \n\tb #c\n #\nlast"], "L1 BadLine 3"),
     # Rounds.
     (["load boot p/A\n\nthen"], ["p/A"]),
@@ -93,6 +127,10 @@ SCRIPTS = [
     ([(LINE, MOST), "\nload boot p/A\nthen"], "L3 TooMany"),
     ([(LINE, MOST), "\nload app p/A"], "L2 UnknownLoader 65537"),
     ([(LINE, MOST), "\n#\nresolve"], "L1 BadLine 65538"),
+    ([(LINE, MOST), "\nlink boot p/A"], "L3 TooMany"),
+    ([(LINE, MOST), "\nresolve boot p/A 1"], "L3 TooMany"),
+    ([("resolve boot p/A 1\n", MOST)], "any"),
+    ([("link boot p/A\n", MOST), "\nload boot p/A"], "L3 TooMany"),
     ([("then\n" + LINE, MOST)], "any"),
     ([("then\n" + LINE, MOST), "\nthen"], "L3 TooMany"),
 ]

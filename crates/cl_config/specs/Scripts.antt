@@ -1,11 +1,14 @@
--- Which texts are a script, and what their lines say (own choice). For now a line asks for a load, or begins a round.
+-- Which texts are a script, and what their lines say: a line makes a request, or begins a round (own choice).
 use Rattle.std.specs.Prelude.{All, ◌≡◌, ℕ, ◌+◌, ◌<◌, ◌≤◌, nat_eq, List, [], ◌∷◌, ◌++◌, length, slice_get, position, Option, Some, None, Result, Ok, Err, codes}
 use Rattle.std.specs.Cmp.Lexicographic.{pointwise}
+use Rattle.std.specs.Str.Parse.{IsNumeral, digits_value}
 use Rattle.cl_model.specs.declared.request.Request.{Request}
 use Rattle.cl_model.specs.declared.request.Request.TheVariants.{Load, Resolve, Link}
 use Rattle.cl_names.specs.Name.{WritesClass}
 use Rattle.cl_lines.specs.Lines.{Numbered, words_of, stated_from}
 use Rattle.cl_config.specs.Views.{Scripted}
+use Rattle.cl_config.specs.declared.script.Action.{Action}
+use Rattle.cl_config.specs.declared.script.Action.TheVariants as actions
 use Rattle.cl_config.specs.declared.script.Said.{Said}
 use Rattle.cl_config.specs.declared.script.Said.TheVariants.{Ask, Then}
 use Rattle.cl_config.specs.declared.script.ScriptFault.{ScriptFault}
@@ -21,27 +24,40 @@ most = 65535
 abbrev pub loader_named : List (List ℕ) → List ℕ → Option ℕ
 loader_named names word = position (λ name. pointwise nat_eq name word) names
 
--- the words are `load`, a loader's name and the text of a class's name (own choice)
-pub record IsLoad (line loader name : List ℕ) : Type 0 where
+-- one to five digits write this index of a constant pool (own choice; JVMS SE 8, 4.1)
+pub record WritesIndex (text : List ℕ) (index : ℕ) : Type 0 where
+  pub digits : IsNumeral 10 text
+  pub few : length text ≤ 5
+  pub value : index ≡ digits_value 10 text
+  pub fits : index ≤ 65535
+
+-- the words are those of a request: what is asked for, a loader's name and the text of a class's name, and of a resolution that of an index (own choice)
+abbrev pub HasWords : List ℕ → Action → List ℕ → List ℕ → Type 0
+HasWords line actions.Load loader text = words_of line ≡ codes "load" ∷ loader ∷ text ∷ []
+HasWords line (actions.Resolve index) loader text = (number : List ℕ) × (words_of line ≡ codes "resolve" ∷ loader ∷ text ∷ number ∷ []) × WritesIndex number index
+HasWords line actions.Link loader text = words_of line ≡ codes "link" ∷ loader ∷ text ∷ []
+
+-- the line is a request for this class, but for what loader its name is of (own choice)
+pub record IsRequest (line : List ℕ) (action : Action) (loader name : List ℕ) : Type 0 where
   pub text : List ℕ
-  pub words : words_of line ≡ codes "load" ∷ loader ∷ text ∷ []
+  pub words : HasWords line action loader text
   pub writes : WritesClass text name
 
 -- the one word is `then` (own choice)
 abbrev pub IsThen : List ℕ → Type 0
 IsThen line = words_of line ≡ codes "then" ∷ []
 
--- the line asks for the load of this name through this loader (own choice)
-pub record AsksLoad (names : List (List ℕ)) (line : List ℕ) (loader : ℕ) (name : List ℕ) : Type 0 where
+-- the line asks for this of the class of this name through this loader (own choice)
+pub record AsksFor (names : List (List ℕ)) (line : List ℕ) (action : Action) (loader : ℕ) (name : List ℕ) : Type 0 where
   pub word : List ℕ
-  pub load : IsLoad line word name
+  pub request : IsRequest line action word name
   pub known : loader_named names word ≡ Some loader
 
--- the line asks for this request; no line asks for another one than a load yet (own choice)
+-- the line makes this request (own choice)
 abbrev pub Asks : List (List ℕ) → List ℕ → Request → Type 0
-Asks names line (Load loader name) = AsksLoad names line loader name
-Asks names line (Resolve loader name index) = ⊥
-Asks names line (Link loader name) = ⊥
+Asks names line (Load loader name) = AsksFor names line actions.Load loader name
+Asks names line (Resolve loader name index) = AsksFor names line (actions.Resolve index) loader name
+Asks names line (Link loader name) = AsksFor names line actions.Link loader name
 
 -- the line says this (own choice)
 abbrev pub Says : List (List ℕ) → List ℕ → Said → Type 0
@@ -50,12 +66,16 @@ Says names line Then = IsThen line
 
 -- the line is none that a script may have (own choice)
 pub record IsBad (line : List ℕ) : Type 0 where
-  pub load : (loader name : List ℕ) → IsLoad line loader name → ⊥
+  pub request : (action : Action) (loader name : List ℕ) → IsRequest line action loader name → ⊥
   pub round : IsThen line → ⊥
 
 -- the line is a request but for its loader (own choice)
-abbrev pub LacksLoader : List (List ℕ) → List ℕ → Type 0
-LacksLoader names line = (loader : List ℕ) × (name : List ℕ) × IsLoad line loader name × (loader_named names loader ≡ None)
+pub record LacksLoader (names : List (List ℕ)) (line : List ℕ) : Type 0 where
+  pub action : Action
+  pub word : List ℕ
+  pub name : List ℕ
+  pub request : IsRequest line action word name
+  pub unknown : loader_named names word ≡ None
 
 -- ---- all lines
 
@@ -145,17 +165,9 @@ HasLoader count (Link loader name) = loader < count
 abbrev pub HasLoaders : ℕ → List Request → Type 0
 HasLoaders count requests = All (HasLoader count) requests
 
--- the request is a load (5.3)
-abbrev pub IsLoadRequest : Request → Type 0
-IsLoadRequest (Load loader name) = Unit {0}
-IsLoadRequest (Resolve loader name index) = ⊥
-IsLoadRequest (Link loader name) = ⊥
-
--- there are at most 65,535 requests, for now loads alone, each of one of the rounds and none of an earlier one than those before it, and 1 to 65,536
--- rounds (own choice)
+-- there are at most 65,535 requests, each of one of the rounds and none of an earlier one than those before it, and 1 to 65,536 rounds (own choice)
 pub record IsScript (s : Scripted) : Type 0 where
   pub few : length s.requests ≤ most
-  pub loads : All IsLoadRequest s.requests
   pub each : length s.rounds_of ≡ length s.requests
   pub within : All (λ n. n < s.rounds) s.rounds_of
   pub in_order : (p q m n : ℕ) → p < q → slice_get s.rounds_of p ≡ Some m → slice_get s.rounds_of q ≡ Some n → m ≤ n

@@ -188,10 +188,10 @@ impl ReadFile for SeededRuntime {
 }
 
 const LINEAGES: &str =
-    "%config\n[[loader]]\nname = \"boot\"\n%class boot java/lang/Object\nclass 0021 java/lang/Object -\n%class boot p/A\nclass 0021 p/A java/lang/Object\n%class boot p/B\nclass 0021 p/B p/A\n%class boot p/C\nclass 0021 p/C p/A\n%script\nload boot p/C\nload boot p/K\nload boot p/B\nload boot p/A\n";
+    "%config\n[[loader]]\nname = \"boot\"\n%class boot java/lang/Object\nclass 0021 java/lang/Object -\n%class boot p/A\nclass 0021 p/A java/lang/Object\n%class boot p/B\nclass 0021 p/B p/A\nmethod 0001 m ()V\n%class boot p/C\nclass 0021 p/C p/A\nref method p/B m ()V\n%script\nload boot p/C\nload boot p/K\nresolve boot p/C 1\nlink boot p/C\nload boot p/A\nresolve boot p/C 1\n";
 
 const LINEAGE_LINES: &str =
-    "define java/lang/Object@boot\ndefine p/A@boot\ndefine p/C@boot\ndefine p/B@boot\n1 class p/C@boot\n2 ClassNotFoundException p/K@boot\n3 class p/B@boot\n4 class p/A@boot\n";
+    "define java/lang/Object@boot\ndefine p/A@boot\ndefine p/C@boot\ndefine p/B@boot\nprepare java/lang/Object@boot\nprepare p/A@boot\nprepare p/C@boot\n1 class p/C@boot\n2 ClassNotFoundException p/K@boot\n3 method p/B@boot m ()V\n4 linked p/C@boot\n5 class p/A@boot\n6 method p/B@boot m ()V\n";
 
 /// Two seeds give the same lines, and without a seed nothing is run.
 #[test]

@@ -40,7 +40,8 @@ const VERSION: &str = "0.1.0";
 const BUNDLE_FORM: &str = "\
 A bundle is a line %config and a configuration in TOML; any number of sections,
 each a line %class LOADER NAME and assembler text, or lines @hex and bytes;
-and a line %script and a script, of lines such as load LOADER NAME.";
+and a line %script and a script, of lines load LOADER NAME, link LOADER NAME,
+resolve LOADER NAME INDEX, and then, which begins a round.";
 
 /// Where directories are looked for.
 const DIRECTORIES: &str = "\
@@ -66,7 +67,7 @@ fn bundle_command<'a>(alloc: Global) -> Result<Command<'a>, AllocError>
     ensures { IfOk result (IsCommand bundle) }
 {
     Command::new(alloc, "bundle")
-        .about("Loads the classes of a bundle that is read from standard input")
+        .about("Runs the script of a bundle that is read from standard input")
         .after_help(BUNDLE_FORM)
         .arg(answers_flag(alloc))
 }

@@ -1,17 +1,22 @@
 //! The steps of a definition and of an initiation, on plain tables.
 
-ghost use Rattle.std.specs.Prelude.{◌≡◌, ◌≢◌, ◌<◌, ◌≤◌, ◌+◌, ◌++◌, ◌∷◌, [], Some, IfOk, IfSome, MatchOption, OnOk, OnErr, MatchBool, is_some, length, map, slice_get, vec_len, vec_capacity};
+ghost use Rattle.std.specs.Prelude.{◌≡◌, ◌≢◌, ◌<◌, ◌≤◌, ◌+◌, ◌++◌, ◌∷◌, [], Some, None, IfErr, IfOk, IfSome, MatchOption, OnOk, OnErr, MatchBool, is_some, length, map, slice_get, vec_len, vec_capacity};
 ghost use Rattle.std.specs.Option.{option_map};
 ghost use Rattle.cl_classfile.specs.Files.{file_of};
 ghost use Rattle.cl_model.specs.Classes.{class, supers};
 ghost use Rattle.cl_model.specs.declared.event.Event.TheVariants as events;
 ghost use Rattle.cl_registry.specs.Parts.{EachHas, HasSameRows, IsPut, is_there, place_by, place_there, row_by, shared_rows};
-ghost use Rattle.cl_registry.specs.Tables.{row_at};
+ghost use Rattle.cl_model.specs.declared.need.Need.TheVariants as needs;
+ghost use Rattle.cl_constraints.specs.Books.{Adds};
+ghost use Rattle.cl_registry.specs.Refusals.{BlamesIn, fault_of};
+ghost use Rattle.cl_registry.specs.Tables.{asked_record, own_record, row_at};
 
-use crate::tables::{Rows, find, insert, place};
+use crate::registry::RegistryFault;
+use crate::tables::{Rows, find, insert_reserved, place, reserve_row};
+use cl_constraints::{BookFault, ConstraintBook, GroupedBook, Refusal};
 use cl_delegation::Home;
 use cl_hierarchy::{ClassRow, Draft};
-use cl_model::{Class, Event, LoaderId, Told};
+use cl_model::{Class, Event, LoaderId, Need, Told};
 use cl_names::Name;
 use std::alloc::{AllocError, Global};
 use std::sync::Arc;
@@ -109,17 +114,36 @@ fn parts_of<T: Told>(
     })
 }
 
-/// Records a draft's class: one row more, one event more, and as much room left for other events.
+/// Why a book did not take the record of a loader.
+fn entry_fault(refusal: Refusal, loader: LoaderId, home: LoaderId) -> RegistryFault
+    ensures { result ≡ fault_of refusal.fault (needs.Entry loader refusal.name home) }
+{
+    match refusal.fault {
+        BookFault::Memory => RegistryFault::Memory,
+        BookFault::Violates => RegistryFault::Violates(Need::Entry {
+            loader,
+            name: refusal.name,
+            home,
+        }),
+    }
+}
+
+/// Records a draft's class under a copy of its name: one row more, in the book too, one event more, and as much room left
+/// for other events.
 pub fn record<T: Told>(
     alloc: Global,
     rows: &mut Vec<Arc<ClassRow<T>>>,
     tables: &mut Rows<T>,
+    book: &mut GroupedBook,
     history: &mut Vec<Event>,
     left: usize,
     draft: &Draft<T>,
-) -> Result<Arc<ClassRow<T>>, AllocError>
+    name: Name,
+) -> Result<Arc<ClassRow<T>>, RegistryFault>
     requires loader { draft.now.class.loader < length tables.old.items }
     requires room { vec_len history.old + left ≤ vec_capacity history.old }
+    requires named { name ≡ draft.now.class.name }
+    requires fresh { ⟦<GroupedBook as ConstraintBook>⟧.record_of book.old draft.now.class.name draft.now.class.loader ≡ None }
     ensures width { length tables.new.items ≡ length tables.old.items }
     ensures room { vec_len history.new + left ≤ vec_capacity history.new }
     ensures row { IfOk result (λ r. r.value ≡ row_by (λ n. option_map (λ r. r.value.class.loader) (row_at tables.old.items draft.now.class.loader n)) draft.now) }
@@ -127,15 +151,23 @@ pub fn record<T: Told>(
     ensures used { OnOk result (vec_len history.new ≡ vec_len history.old + 1) }
     ensures put { IfOk result (λ r. IsPut (shared_rows (λ c. c.value) (row_at tables.old.items)) (shared_rows (λ c. c.value) (row_at tables.new.items)) draft.now.class.loader draft.now.class.name r.value) }
     ensures rows { IfOk result (λ r. map (λ c. c.value) rows.new.items ≡ map (λ c. c.value) rows.old.items ++ r.value ∷ []) }
+    ensures entered { OnOk result (Adds ⟦<GroupedBook as ConstraintBook>⟧.stands_for book.old book.new (own_record draft.now)) }
+    ensures blames { IfErr result (λ fault. BlamesIn (⟦<GroupedBook as ConstraintBook>⟧.stands_for book.old) (own_record draft.now) fault) }
     ensures same_history { OnErr result (history.new.items ≡ history.old.items) }
     ensures same_length { OnErr result (vec_len history.new ≡ vec_len history.old) }
     ensures same_tables { OnErr result (HasSameRows (row_at tables.old.items) (row_at tables.new.items)) }
     ensures same_rows { OnErr result (rows.new.items ≡ rows.old.items) }
+    ensures same_book { OnErr result (book.new ≡ book.old) }
 {
     let parts = parts_of(alloc, tables, draft)?;
+    let loader = draft.class().loader;
     rows.reserve(1)?;
     history.reserve(left + 1)?;
-    insert(tables, draft.class().loader, parts.name, parts.row)?;
+    reserve_row(tables, loader)?;
+    if let Err(refusal) = book.enter(alloc, name, loader, loader) {
+        return Err(entry_fault(refusal, loader, loader));
+    }
+    insert_reserved(tables, loader, parts.name, parts.row);
     rows.push_reserved(parts.listed);
     history.push_reserved(parts.event);
     Ok(parts.answered)
@@ -171,33 +203,44 @@ fn event_of<T: Told>(alloc: Global, home: &Home<T>) -> Result<Event, AllocError>
     Ok(Event::Initiate(class, home.asked()))
 }
 
-/// Records the loader that was asked as initiating the class of this row: one event more, and as much room left for
-/// other events.
+/// Records the loader that was asked as initiating the class of this row, under a copy of its name: in the book too, one
+/// event more, and as much room left for other events.
 pub fn join<T: Told>(
     alloc: Global,
     tables: &mut Rows<T>,
+    book: &mut GroupedBook,
     history: &mut Vec<Event>,
     left: usize,
     home: &Home<T>,
     row: Arc<ClassRow<T>>,
-) -> Result<Arc<ClassRow<T>>, AllocError>
+    name: Name,
+) -> Result<Arc<ClassRow<T>>, RegistryFault>
     requires loader { home.now.asked < length tables.old.items }
     requires room { vec_len history.old + left ≤ vec_capacity history.old }
+    requires named { name ≡ home.now.name }
+    requires fresh { ⟦<GroupedBook as ConstraintBook>⟧.record_of book.old home.now.name home.now.asked ≡ None }
     ensures width { length tables.new.items ≡ length tables.old.items }
     ensures room { vec_len history.new + left ≤ vec_capacity history.new }
     ensures row { IfOk result (λ r. r.value ≡ row.value) }
     ensures event { OnOk result (history.new.items ≡ history.old.items ++ events.Initiate (class home.now.name home.now.place) home.now.asked ∷ []) }
     ensures used { OnOk result (vec_len history.new ≡ vec_len history.old + 1) }
     ensures put { OnOk result (IsPut (shared_rows (λ c. c.value) (row_at tables.old.items)) (shared_rows (λ c. c.value) (row_at tables.new.items)) home.now.asked home.now.name row.value) }
+    ensures entered { OnOk result (Adds ⟦<GroupedBook as ConstraintBook>⟧.stands_for book.old book.new (asked_record home.now)) }
+    ensures blames { IfErr result (λ fault. BlamesIn (⟦<GroupedBook as ConstraintBook>⟧.stands_for book.old) (asked_record home.now) fault) }
     ensures same_history { OnErr result (history.new.items ≡ history.old.items) }
     ensures same_length { OnErr result (vec_len history.new ≡ vec_len history.old) }
     ensures same_tables { OnErr result (HasSameRows (row_at tables.old.items) (row_at tables.new.items)) }
+    ensures same_book { OnErr result (book.new ≡ book.old) }
 {
     let event = event_of(alloc, home)?;
-    let name = home.name().try_clone(alloc)?;
+    let key = home.name().try_clone(alloc)?;
     let answered = Arc::try_clone(&row)?;
     history.reserve(left + 1)?;
-    insert(tables, home.asked(), name, row)?;
+    reserve_row(tables, home.asked())?;
+    if let Err(refusal) = book.enter(alloc, name, home.asked(), home.place()) {
+        return Err(entry_fault(refusal, home.asked(), home.place()));
+    }
+    insert_reserved(tables, home.asked(), key, row);
     history.push_reserved(event);
     Ok(answered)
 }

@@ -4,7 +4,7 @@ ghost use Rattle.std.specs.Prelude.{IfSome, slice_get};
 ghost use Rattle.std.specs.Option.{option_map};
 ghost use Rattle.cl_classfile.specs.Files.{file_of};
 ghost use Rattle.cl_model.specs.Classes.{supers};
-ghost use Rattle.cl_registry.specs.Backs.{Decides};
+ghost use Rattle.cl_findings.specs.Findings.{Decides};
 ghost use Rattle.cl_registry.specs.Tables.{FitsAs, SupertypesFit, row_at};
 
 use crate::tables::{Rows, find};

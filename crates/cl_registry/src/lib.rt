@@ -2,16 +2,21 @@
 //! (JVMS SE 8, 5.3).
 #![tactic(auto)]
 
-mod backs;
 mod entries;
-pub mod finding;
 mod fits;
+mod imposing;
 pub mod laws;
+mod lineages;
+mod posting;
+mod recording;
+mod references;
 pub mod registry;
 pub mod report;
 mod rounds;
+mod settling;
+pub mod settling_laws;
+mod standing;
 mod tables;
 
-pub use finding::{Finding, Obstacle};
 pub use registry::{DefineRefused, NotYet, PostRefused, Registry, RegistryFault, RegistryRefused};
 pub use report::{Answers, History, Report};

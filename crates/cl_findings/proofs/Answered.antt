@@ -114,7 +114,7 @@ end_comes g s loader name v unlinked here = at here.plan.reached refl
         absurd (unlinked x.kin.class (sym here.ends ∙ ap (λ (y : Plan). y.ends) x.is ∙ ap (λ (r : Result Verdict Error). ending r) rest.1))
 
 -- classes of a lineage that are prepared are linked
-linked_all : (g : Setting) (s : State) (ks : List Kin) → IsSound g s → AllByRecursion (IsKept g.world s) ks → AllByRecursion (Contains s.prepared) (classes ks) → AllByRecursion (IsLinkedIn s) ks
+pub linked_all : (g : Setting) (s : State) (ks : List Kin) → IsSound g s → AllByRecursion (IsKept g.world s) ks → AllByRecursion (Contains s.prepared) (classes ks) → AllByRecursion (IsLinkedIn s) ks
 linked_all g s [] sound kept h = tt
 linked_all g s (k ∷ ks) sound kept h =
     let p = sound.prepared k.class h.0 in

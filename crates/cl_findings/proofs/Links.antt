@@ -44,7 +44,7 @@ classes_both : (xs ys : List Kin) → classes (xs ++ ys) ≡ classes xs ++ class
 classes_both [] ys = refl
 classes_both (x ∷ xs) ys = ap (λ (cs : List Class). x.class ∷ cs) (classes_both xs ys)
 
-abbrev row_classes : List Rowed → List Class
+abbrev pub row_classes : List Rowed → List Class
 row_classes rows = map (λ row. row.class) rows
 
 kins_classes : (known : List Kin) (rows : List Rowed) → classes (reverse (kins_after known rows)) ≡ classes (reverse known) ++ row_classes rows
@@ -60,7 +60,7 @@ kins_classes known (r ∷ rows) =
     ∙ ap (λ (cs : List Class). cs ++ row_classes rows) (classes_both (reverse known) (k ∷ []))
     ∙ append_assoc (classes (reverse known)) (k.class ∷ []) (row_classes rows)
 
-lineage_classes : (l : Lined) → IsInOrder l → classes (lineage (kin_of l)) ≡ row_classes (rows_in l)
+pub lineage_classes : (l : Lined) → IsInOrder l → classes (lineage (kin_of l)) ≡ row_classes (rows_in l)
 lineage_classes l order =
     ap (λ (ks : List Kin). classes ks) (sym order.ordered)
     ∙ ap (λ (ks : List Kin). classes ks) (reverse_first (kin_of l) (kins l.above))
@@ -70,7 +70,7 @@ lineage_classes l order =
 
 -- ---- a place in it
 
-record Split (ks : List Kin) (before : List Class) (c : Class) : Type 0 where
+pub record Split (ks : List Kin) (before : List Class) (c : Class) : Type 0 where
   pub front : List Kin
   pub at : Kin
   pub behind : List Kin
@@ -78,7 +78,7 @@ record Split (ks : List Kin) (before : List Class) (c : Class) : Type 0 where
   pub are : classes front ≡ before
   pub class_is : at.class ≡ c
 
-split_at : (ks : List Kin) (place : ℕ) (c : Class) → slice_get (classes ks) place ≡ Some c → Split ks (take place (classes ks)) c
+pub split_at : (ks : List Kin) (place : ℕ) (c : Class) → slice_get (classes ks) place ≡ Some c → Split ks (take place (classes ks)) c
 split_at [] place c e = absurd cc
 split_at (k ∷ ks) zero c e = record { front = []; at = k; behind = ks; split = refl; are = refl; class_is = some_same k.class c e }
 split_at (k ∷ ks) (suc place) c e =
@@ -96,7 +96,7 @@ next_after : (s : State) (xs ys : List Need) (n : Need) → AllMet s xs → IsNe
 next_after s [] ys n all h = h
 next_after s (x ∷ xs) ys n all h = inr (all.0, next_after s xs ys n all.1 h)
 
-next_in : (s : State) (front behind : List Kin) (k : Kin) (n : Need) → AllByRecursion (λ (b : Kin). AllMet s (constraints_of b)) front → IsNext s (constraints_of k) n → IsNext s (flat_map constraints_of (front ++ k ∷ behind)) n
+pub next_in : (s : State) (front behind : List Kin) (k : Kin) (n : Need) → AllByRecursion (λ (b : Kin). AllMet s (constraints_of b)) front → IsNext s (constraints_of k) n → IsNext s (flat_map constraints_of (front ++ k ∷ behind)) n
 next_in s [] behind k n all h = next_first s (constraints_of k) (flat_map constraints_of behind) n h
 next_in s (b ∷ front) behind k n all h = next_after s (constraints_of b) (flat_map constraints_of (front ++ k ∷ behind)) n all.0 (next_in s front behind k n all.1 h)
 
@@ -109,7 +109,7 @@ all_behind P [] ys h = h
 all_behind P (x ∷ xs) ys h = all_behind P xs ys h.1
 
 -- classes of a lineage all of whose constraints are imposed
-imposed_all : (w : World) (s : State) (ks : List Kin) → AllByRecursion (IsKept w s) ks → AllByRecursion (HasImposed w s) (classes ks) → AllByRecursion (λ (b : Kin). AllMet s (constraints_of b)) ks
+pub imposed_all : (w : World) (s : State) (ks : List Kin) → AllByRecursion (IsKept w s) ks → AllByRecursion (HasImposed w s) (classes ks) → AllByRecursion (λ (b : Kin). AllMet s (constraints_of b)) ks
 imposed_all w s [] kept h = tt
 imposed_all w s (k ∷ ks) kept h =
     let same = one_lineage w k.class h.0.kin k h.0.lineage (lineage_is_derived w k kept.0.1) in

@@ -2,34 +2,56 @@
 
 use crate::given::{APP, CHILD_FIRST, KID, T, config, load, registry};
 use cl_model::{Answer, Event};
-use cl_registry::{Finding, RegistryFault};
+use cl_findings::Finding;
+use cl_registry::RegistryFault;
 use std::test::Fail;
 
 const TEXT: &str = "load app p/T\nthen\nload kid p/T\nthen\n";
 
-/// For each round, what is posted as out of memory, in order: number, loader and name of the request, and the refusal.
-const POSTS: [&[(u32, u16, &[u8], Option<RegistryFault>)]; 3] = [
+/// What a registry says of a post.
+#[derive(Clone, Copy, PartialEq, Eq)]
+enum Said {
+    Posted,
+    Stray,
+    NotYet,
+    AlreadyPosted,
+    Other,
+}
+
+use Said::{AlreadyPosted, NotYet, Posted, Stray};
+
+/// For each round, what is posted as out of memory, in order: number, loader and name of the request, and what is said of it.
+const POSTS: [&[(u32, u16, &[u8], Said)]; 3] = [
     &[
-        (9, APP, T, Some(RegistryFault::Stray)),
-        (2, APP, T, Some(RegistryFault::Stray)),
-        (0, KID, T, Some(RegistryFault::Stray)),
-        (0, APP, b"p/U", Some(RegistryFault::Stray)),
-        (1, APP, T, Some(RegistryFault::Stray)),
-        (1, KID, T, Some(RegistryFault::NotYet)),
-        (0, APP, T, None),
-        (0, APP, T, Some(RegistryFault::AlreadyPosted)),
-        (1, KID, T, Some(RegistryFault::NotYet)),
+        (9, APP, T, Stray),
+        (2, APP, T, Stray),
+        (0, KID, T, Stray),
+        (0, APP, b"p/U", Stray),
+        (1, APP, T, Stray),
+        (1, KID, T, NotYet),
+        (0, APP, T, Posted),
+        (0, APP, T, AlreadyPosted),
+        (1, KID, T, NotYet),
     ],
     &[
-        (0, APP, T, Some(RegistryFault::AlreadyPosted)),
-        (1, KID, T, None),
-        (1, KID, T, Some(RegistryFault::AlreadyPosted)),
+        (0, APP, T, AlreadyPosted),
+        (1, KID, T, Posted),
+        (1, KID, T, AlreadyPosted),
     ],
     &[
-        (1, KID, T, Some(RegistryFault::AlreadyPosted)),
-        (2, KID, T, Some(RegistryFault::Stray)),
+        (1, KID, T, AlreadyPosted),
+        (2, KID, T, Stray),
     ],
 ];
+
+fn said_by(fault: &RegistryFault) -> Said {
+    match fault {
+        RegistryFault::Stray => Stray,
+        RegistryFault::NotYet => NotYet,
+        RegistryFault::AlreadyPosted => AlreadyPosted,
+        _ => Said::Other,
+    }
+}
 
 /// A request is answered once, in its round; a round ends when all of it are answered; the report comes after the last.
 #[test]
@@ -49,13 +71,13 @@ fn rounds(rt: HostRuntime) -> Result<(), Fail> {
             };
             tables = refused.registry;
         }
-        for (q, loader, name, fault) in *posts {
+        for (q, loader, name, told) in *posts {
             let finding = Finding::memory(load(alloc, *loader, name)?);
-            let told = match tables.post(*q, finding) {
-                Ok(()) => None,
-                Err(refused) => Some(refused.fault),
+            let said = match tables.post(*q, finding) {
+                Ok(()) => Posted,
+                Err(refused) => said_by(&refused.fault),
             };
-            assert!(rt; told == *fault);
+            assert!(rt; said == *told);
         }
     }
     assert!(rt; tables.next_round() == Err(RegistryFault::NotYet));

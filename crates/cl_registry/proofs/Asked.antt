@@ -1,6 +1,6 @@
 -- What the tests of plain tables tell of a registry's records.
 use Rattle.std.proofs.Common.{◌≡◌, ◌≢◌, ◌∙◌, ◌<◌, ℕ, Bool, true, false, List, [], ◌∷◌, length, map, Option, Some, None, refl, sym, ap, subst, is_some}
-use Rattle.std.specs.Prelude.{option_map, unwrap_or, IsSome, IfSome, MatchOption, MatchBool, Result, Ok, Err, IfOk}
+use Rattle.std.specs.Prelude.{option_map, unwrap_or, IsSome, IfSome, MatchOption, MatchBool}
 use Rattle.std.specs.List.{AllByRecursion}
 use Rattle.cl_classfile.specs.Files.{file_of}
 use Rattle.cl_model.specs.Content.{Content}

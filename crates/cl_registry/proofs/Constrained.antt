@@ -1,19 +1,18 @@
 -- What a registry imposes and prepares is what the linkage machine may (JVMS SE 8, 5.3.4, 5.4.2, 5.4.3).
-use Rattle.std.proofs.Common.{◌≡◌, ◌∙◌, ◌<◌, ℕ, zero, suc, Bool, true, false, if◌then◌else◌, List, [], ◌∷◌, ◌++◌, Option, Some, None, inl, inr, refl, sym, ap, subst, take}
+use Rattle.std.proofs.Common.{◌≡◌, ◌∙◌, ℕ, zero, suc, Bool, true, if◌then◌else◌, List, [], ◌∷◌, ◌++◌, Some, None, inl, inr, refl, sym, ap, subst, take}
 use Rattle.std.specs.Prelude.{slice_get, option_map, Contains}
 use Rattle.std.specs.List.{AllByRecursion}
-use Rattle.cl_classfile.specs.Files.{Name, File, Reference, file_of}
+use Rattle.cl_classfile.specs.Files.{Reference, file_of}
 use Rattle.cl_model.specs.declared.class.Class.{Class}
 use Rattle.cl_model.specs.declared.need.Equality.{Equality}
 use Rattle.cl_model.specs.Content.{Content}
-use Rattle.cl_model.specs.Homes.{World, home}
-use Rattle.cl_model.specs.Classes.{class, Above, AtHome, IllegalAccess, class_accessible, supers}
+use Rattle.cl_model.specs.Classes.{Above, AtHome, IllegalAccess, class_accessible, supers}
 use Rattle.cl_model.specs.Lineages.{Kin, IsLineage}
 use Rattle.cl_model.specs.Preparation.{constraints_of}
-use Rattle.cl_model.specs.States.{State, Need, Entry, Equal, Verdict, Met, Refused, AllMet, IsNext, IsRecorded, recorded}
+use Rattle.cl_model.specs.States.{State, Need, Entry, Verdict, Met, Refused, AllMet, IsNext}
 use Rattle.cl_model.specs.Works.{Made, after_made, unless_wrong, ◌>>=◌}
-use Rattle.cl_model.specs.References.{resolve_in, through, inaccessible}
-use Rattle.cl_model.specs.Machine.{HasLineage, IsClosed, MayConstrain, MayPrepare}
+use Rattle.cl_model.specs.References.{resolve_in, through}
+use Rattle.cl_model.specs.Machine.{HasLineage, IsClosed, MayConstrain}
 use Rattle.cl_model.proofs.Bind.{some_same}
 use Rattle.cl_model.proofs.Planned.{one_lineage}
 use Rattle.cl_model.proofs.Posted.{may_prepare}
@@ -22,11 +21,11 @@ use Rattle.cl_model.proofs.Trees.{lineage_is_derived}
 use Rattle.cl_config.specs.Views.{Configured}
 use Rattle.cl_constraints.proofs.Standing.{unrefused}
 use Rattle.cl_delegation.specs.Worlds.{world_of, setting_of}
-use Rattle.cl_hierarchy.specs.Imposed.{AreOf, AreOfReference, Listed, Sprung, OfPreparation, OfReference, equal_need, needs_of}
+use Rattle.cl_hierarchy.specs.Imposed.{AreOf, Sprung, OfPreparation, OfReference, equal_need, needs_of}
 use Rattle.cl_hierarchy.specs.Lineages.{IsLined, Lined, kin_of}
 use Rattle.cl_registry.specs.Allowed.{ImposedIsAllowed, MarkedIsAllowed, AllowedIsMarked}
-use Rattle.cl_registry.specs.Imposing.{AreLineages, IsListed, IsPreparedAbove, IsReady, IsStanding, MayImpose, StandsFor}
-use Rattle.cl_registry.specs.Tables.{Shown, IsKept, records_of, state_of}
+use Rattle.cl_registry.specs.Imposing.{AreLineages, IsPreparedAbove, StandsFor}
+use Rattle.cl_registry.specs.Tables.{Shown, IsKept, state_of}
 use Rattle.cl_registry.proofs.Allowed.{closed_of}
 
 -- ---- what is next in a list

@@ -1,5 +1,5 @@
 -- What a registry keeps goes on by a definition and by an initiation.
-use Rattle.std.proofs.Common.{◌≡◌, ◌≢◌, ◌∙◌, ◌<◌, ◌≤◌, ◌+◌, ◌-◌, ℕ, Bool, true, false, if◌then◌else◌, List, [], ◌∷◌, ◌++◌, length, map, Option, Some, None, refl, sym, ap, subst}
+use Rattle.std.proofs.Common.{◌≡◌, ◌∙◌, ◌<◌, ℕ, Bool, true, false, if◌then◌else◌, List, [], ◌∷◌, ◌++◌, length, map, Option, Some, None, refl, sym, ap, subst}
 use Rattle.std.specs.Prelude.{◌&&◌, ◌==◌, nat_eq, IsSome, IfSome}
 use Rattle.std.specs.List.{AllByRecursion}
 use Rattle.std.specs.Cmp.Lexicographic.{pointwise}
@@ -22,18 +22,18 @@ use Rattle.cl_hierarchy.specs.Drafts.{IsDraft, IsSpelt, Drafted}
 use Rattle.cl_hierarchy.specs.Rows.{Rowed}
 use Rattle.cl_hierarchy.specs.RowTables.{HasItsFile, IsFound, IsRowAfter, StandAbove}
 use Rattle.cl_hierarchy.proofs.RowTables.{rows_grow}
-use Rattle.cl_constraints.specs.Books.{Admits, Adds}
+use Rattle.cl_constraints.specs.Books.{Admits}
 use Rattle.cl_registry.specs.declared.registry.RegistryFault.{RegistryFault}
 use Rattle.cl_registry.specs.declared.registry.RegistryFault.TheVariants.{Memory, Stray, Violates, AlreadyPosted, NotYet}
 use Rattle.cl_registry.specs.Kept.{Fields, IsRegistry}
 use Rattle.cl_registry.specs.Parts.{IsPut}
 use Rattle.cl_registry.specs.Refusals.{AddRefusedFor, Blames, BlamesIn, DefineRefusedFor, InitiateRefusedFor, JoinRefusedFor}
-use Rattle.cl_registry.specs.Tables.{Shown, state_of, records_of, round_of, defined, IsKept, ArePlaced, with_define, with_initiate, row_of, looked, row_for, place_in, own_record, asked_record, FitsAs, IsNew, LacksRecord, MayEnter, MayJoin, Records, Defines, DefinedAs, Initiates, InitiatedAs}
+use Rattle.cl_registry.specs.Tables.{Shown, state_of, records_of, IsKept, ArePlaced, with_define, with_initiate, row_of, looked, row_for, place_in, own_record, asked_record, FitsAs, IsNew, LacksRecord, MayEnter, MayJoin, Records, Defines, DefinedAs, Initiates, InitiatedAs}
 use Rattle.cl_registry.proofs.Running.{may_record}
 use Rattle.cl_registry.proofs.Looked.{looked_push, looked_some, looked_records, at_self, fresh_row, row_push, row_stays}
 use Rattle.cl_registry.proofs.Allowed.{closed_of, draft_at_home, entered_is_allowed, joined_is_allowed, recorded_at, row_of_some}
 use Rattle.cl_registry.proofs.Placed.{spelt_file}
-use Rattle.cl_registry.proofs.Kept.{with_event, grown, state_event, settled_same, kept_event, same_rounds, none_settled, rows_same, placed_more, registry_event, moved, HasRoom, IsFine, AreRowsBy}
+use Rattle.cl_registry.proofs.Kept.{grown, state_event, settled_same, kept_event, same_rounds, none_settled, rows_same, placed_more, registry_event, moved, HasRoom, AreRowsBy}
 
 -- what adding a need to a book comes to, in the states that it stands for
 abbrev pub BookAdds : (State → Type 0) → (State → Type 0) → Need → Type 0

@@ -1,21 +1,21 @@
 -- Which loaders the equalities of a reference or of a preparation name: those of the classes of the lineages (JVMS SE 8, 5.3.4, 5.4.2, 5.4.3).
-use Rattle.std.proofs.Common.{◌≡◌, ◌∙◌, ℕ, zero, suc, Bool, true, false, cond, if◌then◌else◌, List, [], ◌∷◌, ◌++◌, map, Option, Some, None, Result, Ok, Err, inl, inr, refl, sym, ap, subst, is_some}
+use Rattle.std.proofs.Common.{◌≡◌, ℕ, zero, suc, Bool, true, false, cond, if◌then◌else◌, List, [], ◌∷◌, ◌++◌, map, Option, Some, None, Ok, inl, inr, refl, sym, ap, subst, is_some}
 use Rattle.std.specs.Prelude.{nat_le, filter, find, flat_map, IfSome, slice_get}
 use Rattle.std.specs.Option.{option_or}
 use Rattle.std.specs.List.{AllByRecursion}
-use Rattle.cl_classfile.specs.Files.{Name, Key, Member, Reference, ToClass, ToField, ToMethod, ToInterfaceMethod, is_interface, file_of, member}
+use Rattle.cl_classfile.specs.Files.{Name, Key, Member, Reference, ToClass, ToField, ToMethod, ToInterfaceMethod, is_interface, member}
 use Rattle.cl_model.specs.declared.class.Class.{Class}
 use Rattle.cl_model.specs.declared.need.Equality.{Equality}
-use Rattle.cl_model.specs.Classes.{Error, NoSuchField, NoSuchMethod, IllegalAccess, IncompatibleClassChange, is_among}
-use Rattle.cl_model.specs.Lineages.{Forest, Bare, Tree, Kin, upward, preorder, once_after, superclasses, superinterfaces, alone, field_among, lookup_field, lookup_method, lookup_interface_method, from_superinterfaces, offering, maximally_specific, is_default, is_offered, is_maximal, is_public_instance, first, only, field_of, method_of, member_accessible}
+use Rattle.cl_model.specs.Classes.{Error, NoSuchField, NoSuchMethod, is_among}
+use Rattle.cl_model.specs.Lineages.{Forest, Bare, Tree, Kin, upward, preorder, once_after, superclasses, superinterfaces, alone, field_among, lookup_field, lookup_method, lookup_interface_method, from_superinterfaces, offering, maximally_specific, is_default, is_offered, is_maximal, is_public_instance, first, only, field_of, method_of}
 use Rattle.cl_model.specs.Preparation.{Split, splits, shifted, overrides, overridden, takes_part, class_names, equals_of, equals_with, for_declared, for_inherited, inherited_from, with_inherited, constraints_of}
 use Rattle.cl_model.specs.States.{Need, Entry, Equal, Verdict, IsField, IsMethod}
-use Rattle.cl_model.specs.Works.{Work, Made, done, fail, need, or_fail, unless_wrong, ◌>>=◌}
-use Rattle.cl_model.specs.Plans.{class_verdict, flags_of, resolve_found, resolve_field, resolve_method}
+use Rattle.cl_model.specs.Works.{Work, Made, done, need, or_fail, unless_wrong, ◌>>=◌}
+use Rattle.cl_model.specs.Plans.{class_verdict, resolve_found, resolve_field, resolve_method}
 use Rattle.cl_model.specs.References.{resolve_in}
 use Rattle.cl_model.proofs.Bind.{pieces, some_same, ok_same, ok_not_err}
-use Rattle.cl_hierarchy.specs.Imposed.{AreOf, AreOfReference, Sprung, OfReference, OfPreparation, equal_need, needs_of}
-use Rattle.cl_hierarchy.specs.Lineages.{Lined, IsWithin, kin_of, rows_in}
+use Rattle.cl_hierarchy.specs.Imposed.{needs_of}
+use Rattle.cl_hierarchy.specs.Lineages.{Lined, kin_of, rows_in}
 use Rattle.cl_hierarchy.specs.Rows.{Rowed}
 use Rattle.cl_hierarchy.specs.Trees.{forest, in_front, kin_named, kin_under, kins_after, superclass_in, interfaces_in}
 

@@ -1,15 +1,14 @@
 -- How a history grows by one event, and which steps it tells.
-use Rattle.std.proofs.Common.{◌≡◌, ◌≢◌, ◌∙◌, ◌+◌, ℕ, zero, suc, Bool, true, false, List, [], ◌∷◌, ◌++◌, Option, Some, None, refl, sym, ap, subst, arith, is_some, if◌then◌else◌}
+use Rattle.std.proofs.Common.{◌≡◌, ◌∙◌, ◌+◌, ℕ, zero, suc, Bool, true, false, List, [], ◌∷◌, ◌++◌, Option, Some, None, refl, sym, ap, subst, arith, is_some, if◌then◌else◌}
 use Rattle.std.specs.Prelude.{◌||◌, nat_eq, slice_get, slice_set}
 use Rattle.std.proofs.lemmas.List.{map_push}
 use Rattle.std.proofs.lemmas.Bool.Decides.{nat_tests}
-use Rattle.cl_model.specs.declared.class.Class.{Class}
 use Rattle.cl_model.specs.declared.event.Event.{Event}
 use Rattle.cl_model.specs.declared.event.Event.TheVariants as events
 use Rattle.cl_model.specs.declared.answer.Answer as rust
 use Rattle.cl_model.specs.Content.{Content}
 use Rattle.cl_model.specs.States.{State, Answer, start}
-use Rattle.cl_model.specs.Machine.{Step, Post, after, state_after, May, Run}
+use Rattle.cl_model.specs.Machine.{Step, Post, after, state_after, May}
 use Rattle.cl_model.specs.Tables as tables
 use Rattle.cl_model.specs.Tables.{Allows}
 use Rattle.cl_model.specs.Views.{answer_of, answers_of, answer_at, post_of, step_of, steps_of}

@@ -1,5 +1,5 @@
 -- What a registry keeps goes on by an equality and by a preparation.
-use Rattle.std.proofs.Common.{◌≡◌, ◌∙◌, ◌<◌, ◌≤◌, ◌+◌, ◌-◌, ℕ, Bool, true, false, List, [], ◌∷◌, ◌++◌, length, Option, Some, None, inl, inr, refl, sym, ap, subst, take}
+use Rattle.std.proofs.Common.{◌≡◌, ◌∙◌, ◌<◌, ℕ, Bool, true, false, List, [], ◌∷◌, ◌++◌, length, Option, Some, None, inl, refl, sym, ap, subst}
 use Rattle.std.specs.Prelude.{slice_get, option_and_then, Contains, IfSome}
 use Rattle.std.specs.List.{AllByRecursion}
 use Rattle.cl_classfile.specs.Files.{Name}
@@ -17,26 +17,25 @@ use Rattle.cl_model.specs.States as states
 use Rattle.cl_model.specs.States.{State, Need, Equal, Met, Refused, AllMet, IsRecorded, Joined, recorded}
 use Rattle.cl_model.specs.Machine.{Constrain, Prepare, after, May}
 use Rattle.cl_config.specs.Views.{Configured}
-use Rattle.cl_constraints.specs.Books.{IsBookOf, Meets, Refuses}
+use Rattle.cl_constraints.specs.Books.{IsBookOf, Refuses}
 use Rattle.cl_constraints.proofs.Standing.{unrefused}
 use Rattle.cl_delegation.specs.Worlds.{setting_of}
 use Rattle.cl_hierarchy.specs.Imposed.{AreOf, Listed, Sprung, OfPreparation, OfReference, equal_need, needs_of}
-use Rattle.cl_hierarchy.specs.Lineages.{IsLined, IsWithin, Lined, kin_of, rows_in}
+use Rattle.cl_hierarchy.specs.Lineages.{IsWithin, Lined, kin_of, rows_in}
 use Rattle.cl_hierarchy.specs.Rows.{Rowed}
 use Rattle.cl_registry.specs.declared.registry.RegistryFault.{RegistryFault}
 use Rattle.cl_registry.specs.declared.registry.RegistryFault.TheVariants.{Memory, Stray, Violates, AlreadyPosted, NotYet}
 use Rattle.cl_registry.specs.Imposing.{AreLineages, IsListed, MayConstrainAs, MayImpose, MayPrepareAs, StandsFor, with_constrain, with_prepare}
 use Rattle.cl_registry.specs.Kept.{Fields, IsRegistry}
-use Rattle.cl_registry.specs.Refusals.{AddRefusedFor, Blames, BlamesIn, ImposeRefusedFor}
-use Rattle.cl_registry.specs.Tables.{Shown, state_of, records_of, looked, row_of, settled_at, IsKept}
-use Rattle.cl_registry.proofs.Constrained.{imposed_is_allowed, marked_is_allowed}
+use Rattle.cl_registry.specs.Refusals.{AddRefusedFor, Blames, ImposeRefusedFor}
+use Rattle.cl_registry.specs.Tables.{Shown, state_of, row_of, IsKept}
+use Rattle.cl_registry.proofs.Constrained.{imposed_is_allowed}
 use Rattle.cl_registry.proofs.Entered.{BookAdds, KeepsOthers}
 use Rattle.cl_registry.proofs.Equated.{Names, constraints, lined, named_at, referred}
-use Rattle.cl_registry.proofs.Kept.{with_event, state_event, settled_same, kept_event, same_rounds, none_settled, rows_same, registry_event, book_event, moved, HasRoom}
+use Rattle.cl_registry.proofs.Kept.{state_event, settled_same, kept_event, same_rounds, none_settled, rows_same, registry_event, book_event, moved, HasRoom}
 use Rattle.cl_registry.proofs.Named.{recorded_is_named}
 
 -- ---- loaders of equalities
-
 
 within_rows : (x : Shown) (l : Lined) → l.config ≡ x.config → AllByRecursion (IsWithin l.config) (rows_in l) → AllByRecursion (λ (r : Rowed). r.class.loader < length x.config.loaders) (rows_in l)
 within_rows x l config h = subst (λ (c : Configured). AllByRecursion (IsWithin c) (rows_in l)) config h

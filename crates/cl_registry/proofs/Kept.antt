@@ -1,19 +1,18 @@
 -- What a registry keeps goes on by an event more that posts nothing.
-use Rattle.std.proofs.Common.{◌≡◌, ◌∙◌, ◌<◌, ◌≤◌, ◌+◌, ◌-◌, ℕ, List, [], ◌∷◌, ◌++◌, length, map, Option, Some, None, refl, sym, ap, subst, arith}
+use Rattle.std.proofs.Common.{◌≡◌, ◌∙◌, ◌<◌, ◌≤◌, ◌+◌, ◌-◌, ℕ, List, [], ◌∷◌, ◌++◌, length, map, Option, Some, refl, sym, ap, subst}
 use Rattle.std.specs.Prelude.{slice_get, IsSome, All, find, ◌==◌, ◌&&◌}
 use Rattle.std.specs.List.{AllByRecursion}
-use Rattle.std.proofs.lemmas.List.{append-nil, length_push, map_push}
+use Rattle.std.proofs.lemmas.List.{append-nil, length_push}
 use Rattle.std.proofs.lemmas.List.Elements.{All-same, All-push}
 use Rattle.cl_classfile.specs.Files.{Name, file_of}
 use Rattle.cl_model.specs.declared.class.Class.{Class}
 use Rattle.cl_model.specs.declared.event.Event.{Event}
-use Rattle.cl_model.specs.declared.event.Event.TheVariants as events
 use Rattle.cl_model.specs.declared.settled.Settled.{Settled}
 use Rattle.cl_model.specs.Content.{Content}
 use Rattle.cl_model.specs.Classes.{Above, supers, same_class}
 use Rattle.cl_model.specs.Texts.{EventNames, VerdictNames}
-use Rattle.cl_model.specs.States.{State, Record, Equality, recorded}
-use Rattle.cl_model.specs.Machine.{Step, after, state_after, May}
+use Rattle.cl_model.specs.States.{State, Record, recorded}
+use Rattle.cl_model.specs.Machine.{Step, after, May}
 use Rattle.cl_model.specs.Tables.{Allows}
 use Rattle.cl_model.specs.Views.{answers_of, answer_at, step_of}
 use Rattle.cl_model.proofs.Runs.{records_stay}

@@ -1,20 +1,20 @@
 -- What the linkage machine's own list comes to may be imposed.
-use Rattle.std.proofs.Common.{◌≡◌, ◌∙◌, ◌<◌, ℕ, Bool, true, false, List, [], ◌∷◌, ◌++◌, length, Option, Some, None, Result, inl, inr, refl, sym, ap, subst, arith, take, if◌then◌else◌}
+use Rattle.std.proofs.Common.{◌≡◌, ◌∙◌, ◌<◌, ℕ, Bool, true, false, List, [], ◌∷◌, ◌++◌, length, Option, Some, None, inl, inr, refl, sym, ap, subst, arith, take, if◌then◌else◌}
 use Rattle.std.specs.Prelude.{option_map}
 use Rattle.std.specs.List.{AllByRecursion}
 use Rattle.std.proofs.lemmas.List.{append-nil, append_cancel_right}
-use Rattle.cl_classfile.specs.Files.{Name, Reference}
+use Rattle.cl_classfile.specs.Files.{Reference}
 use Rattle.cl_model.specs.declared.class.Class.{Class}
 use Rattle.cl_model.specs.declared.need.Equality.{Equality}
 use Rattle.cl_model.specs.Content.{Content}
 use Rattle.cl_model.specs.Homes.{World, home}
 use Rattle.cl_model.specs.Classes.{class, IllegalAccess, NoClassDef, class_accessible}
-use Rattle.cl_model.specs.Lineages.{IsLineage, Kin}
-use Rattle.cl_model.specs.States.{State, Need, Entry, Verdict, recorded, AllMet, Met}
+use Rattle.cl_model.specs.Lineages.{Kin}
+use Rattle.cl_model.specs.States.{State, Need, Verdict, recorded, AllMet}
 use Rattle.cl_model.specs.Works.{Work, Made, after_made, unless_wrong, ◌>>=◌}
 use Rattle.cl_model.specs.Plans.{derive, load, resolve}
 use Rattle.cl_model.specs.References.{resolve_in, through}
-use Rattle.cl_model.specs.Machine.{HasLineage, IsResolution}
+use Rattle.cl_model.specs.Machine.{HasLineage}
 use Rattle.cl_model.proofs.Bind.{Bound, pieces, some_same}
 use Rattle.cl_model.proofs.Closed.{all_right}
 use Rattle.cl_model.proofs.Derived.{IsLoad, load_ok}
@@ -23,10 +23,10 @@ use Rattle.cl_model.proofs.Progress.{IsEntry, derive_records, load_records, met_
 use Rattle.cl_model.proofs.Through.{resolves_through}
 use Rattle.cl_model.proofs.Trees.{derive_gives, lineage_is_derived}
 use Rattle.cl_delegation.specs.Worlds.{world_of}
-use Rattle.cl_hierarchy.specs.Imposed.{AreOf, OfPreparation, OfReference, Sprung, equal_need, needs_of}
-use Rattle.cl_hierarchy.specs.Lineages.{IsLined, Lined, kin_of}
+use Rattle.cl_hierarchy.specs.Imposed.{AreOf, OfPreparation, OfReference, Sprung, needs_of}
+use Rattle.cl_hierarchy.specs.Lineages.{kin_of}
 use Rattle.cl_registry.specs.Tables.{Shown, state_of, IsKept}
-use Rattle.cl_registry.specs.Imposing.{AreLineages, AreOfConfig, IsListOf, IsReached, StandsFor}
+use Rattle.cl_registry.specs.Imposing.{AreLineages, AreOfConfig, IsListOf, StandsFor}
 use Rattle.cl_registry.specs.Allowed.{AllowedIsImposed}
 use Rattle.cl_registry.proofs.Constrained.{lineage_at}
 use Rattle.cl_registry.proofs.LoadNeeds.{loads_only}

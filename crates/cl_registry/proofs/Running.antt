@@ -1,10 +1,10 @@
 -- What the state of a registry's history holds: the answers that are posted, the records of what is defined.
-use Rattle.std.proofs.Common.{◌≡◌, ◌≢◌, ◌⊎◌, inl, inr, ◌∙◌, ◌+◌, ◌<◌, ℕ, zero, suc, Bool, true, false, List, [], ◌∷◌, ◌++◌, Option, Some, None, refl, sym, ap, subst, arith, is_some, if◌then◌else◌, length}
-use Rattle.std.specs.Prelude.{◌||◌, ◌&&◌, ◌==◌, nat_eq, find, option_map, slice_get, Contains, IsSome, All, IfSome, map, replicate}
+use Rattle.std.proofs.Common.{◌≡◌, inl, inr, ◌∙◌, ℕ, Bool, true, false, List, [], ◌∷◌, ◌++◌, Option, Some, None, refl, sym, ap, subst, is_some, if◌then◌else◌, length}
+use Rattle.std.specs.Prelude.{◌||◌, ◌&&◌, ◌==◌, nat_eq, find, option_map, All, IfSome, map, replicate}
 use Rattle.std.specs.Option.{option_or}
 use Rattle.std.specs.List.{AllByRecursion}
 use Rattle.std.proofs.lemmas.List.Folds.{find-append}
-use Rattle.std.proofs.lemmas.List.Elements.{All-nil, All-push, All-set, All-same, All-replicate, All-from_recursion, recursion_from_All}
+use Rattle.std.proofs.lemmas.List.Elements.{All-nil, All-push, All-same, All-replicate, All-from_recursion, recursion_from_All}
 use Rattle.cl_classfile.specs.Files.{Name}
 use Rattle.cl_model.specs.declared.class.Class.{Class}
 use Rattle.cl_model.specs.declared.event.Event.{Event}
@@ -13,8 +13,8 @@ use Rattle.cl_model.specs.declared.answer.Answer as rust
 use Rattle.cl_model.specs.Classes.{class}
 use Rattle.cl_model.specs.Texts.{AnswerNames, EventNames, VerdictNames}
 use Rattle.cl_model.specs.States.{State, start, Record, Posted, Need, Entry, Answer, recorded, answer_to, Met, MayAdd, Refused}
-use Rattle.cl_model.specs.Machine.{Scheduled, Step, Define, Initiate, NextRound, after, state_after}
-use Rattle.cl_model.specs.Tables.{Allows, Orderly, MayRecord}
+use Rattle.cl_model.specs.Machine.{Scheduled, Define, Initiate, NextRound, after, state_after}
+use Rattle.cl_model.specs.Tables.{Orderly, MayRecord}
 use Rattle.cl_model.specs.Views.{answers_of, answer_at, post_of, step_of, steps_of}
 use Rattle.cl_model.proofs.Runs.{recorded_added, record_found, run_later}
 use Rattle.cl_registry.specs.declared.report.Report.{Report}

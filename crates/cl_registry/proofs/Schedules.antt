@@ -1,10 +1,10 @@
 -- When a round may end: each request of it has its answer.
-use Rattle.std.proofs.Common.{◌≡◌, ◌∙◌, ◌<◌, ◌≤◌, ◌+◌, ◌-◌, ◌⊎◌, inl, inr, ℕ, zero, suc, Bool, true, false, List, [], ◌∷◌, ◌++◌, length, map, Option, Some, None, refl, sym, ap, subst, arith, is_some, replicate, get_or, add-one, if◌then◌else◌}
+use Rattle.std.proofs.Common.{◌≡◌, ◌∙◌, ◌<◌, ◌≤◌, ◌+◌, ◌⊎◌, inl, inr, ℕ, zero, suc, Bool, true, false, List, [], ◌∷◌, length, map, Option, Some, None, refl, sym, ap, subst, arith, is_some, replicate, get_or, add-one, if◌then◌else◌}
 use Rattle.std.specs.Prelude.{nat_eq, ◌==◌, ◌&&◌, find, slice_get, option_and_then, option_map, IsSome}
 use Rattle.std.specs.List.{AllByRecursion}
 use Rattle.std.specs.HashMap.{HashMap, get}
 use Rattle.std.specs.Map.{lookup}
-use Rattle.std.proofs.lemmas.List.{append-nil, length_push, length-replicate}
+use Rattle.std.proofs.lemmas.List.{length_push, length-replicate}
 use Rattle.std.proofs.lemmas.Cmp.{nat_eq_equiv}
 use Rattle.std.proofs.lemmas.Bool.Decides.{nat_tests}
 use Rattle.std.proofs.lemmas.Option.{slice_get_within, slice_get_read}
@@ -16,10 +16,10 @@ use Rattle.cl_classfile.specs.Files.{Name}
 use Rattle.cl_model.specs.declared.class.Class.{Class}
 use Rattle.cl_model.specs.Classes.{class, same_class}
 use Rattle.cl_model.specs.Content.{Content}
-use Rattle.cl_model.specs.States.{State, Answer, start, Record, recorded, answer_to}
-use Rattle.cl_model.specs.Machine.{Scheduled, Step, NextRound, Run, state_after, after}
+use Rattle.cl_model.specs.States.{State, Answer, start, recorded}
+use Rattle.cl_model.specs.Machine.{Scheduled, Step, Run, state_after}
 use Rattle.cl_model.specs.Tables as tables
-use Rattle.cl_model.specs.Views.{answer_of, answers_of, answer_at, request_of, steps_of}
+use Rattle.cl_model.specs.Views.{answers_of, answer_at, request_of, steps_of}
 use Rattle.cl_config.specs.Scripts.{IsScript}
 use Rattle.cl_config.specs.Views.{Scripted}
 use Rattle.cl_config.specs.Loaders.{schedule, schedule_of}
@@ -30,7 +30,7 @@ use Rattle.cl_hierarchy.specs.Rows.{Rowed}
 use Rattle.cl_hierarchy.specs.RowTables.{AreRows}
 use Rattle.cl_constraints.specs.Books.{IsBookOf}
 use Rattle.cl_registry.specs.Kept.{left_in, open_in, Fields, IsRegistry}
-use Rattle.cl_registry.specs.Tables.{Shown, steps, state_of, records_of, round_of, row_of, posts, defined, settlements, reference_in, is_in, RunsAs, IsPlaced, with_round, IsOpen, MayGoOn}
+use Rattle.cl_registry.specs.Tables.{Shown, steps, state_of, records_of, round_of, row_of, posts, defined, settlements, reference_in, is_in, RunsAs, IsPlaced, with_round, MayGoOn}
 use Rattle.cl_registry.proofs.Histories.{given, open_answer, eq_nat}
 use Rattle.cl_registry.proofs.Running.{answered, named_new}
 use Rattle.cl_registry.proofs.Allowed.{round_is_allowed}
@@ -172,7 +172,7 @@ kept_round {home} {joins} told x f used more k may one same =
     let fits = k.events_fit in
     record {
       kept = kept_event told x x.rows events.NextRound k.kept (record { silent = refl; allows = may; may = λ content e. round_is_allowed content x may; names = tt }) (rows_same told x events.NextRound k.kept refl) earlier
-      (none_settled told x events.NextRound k.kept refl);
+          (none_settled told x events.NextRound k.kept refl);
       script = k.script;
       width = k.width;
       rows = λ l n. k.rows l n ∙ sym (ap (λ (s : State). option_and_then (λ (p : ℕ). row_of x.rows (class n p)) (recorded s.records l n)) (state_event x x.rows events.NextRound));

@@ -1,6 +1,6 @@
 -- What tests of lists and of tables tell.
-use Rattle.std.proofs.Common.{◌≡◌, ◌≢◌, ◌∙◌, ◌<◌, ◌≤◌, ◌+◌, ℕ, zero, suc, Bool, true, false, List, [], ◌∷◌, ◌++◌, if◌then◌else◌, length, take, Option, Some, None, inl, inr, refl, sym, ap, subst, arith, add-one, get_or, map}
-use Rattle.std.specs.Prelude.{slice_get, IfSome, MatchBool, Contains}
+use Rattle.std.proofs.Common.{◌≡◌, ◌∙◌, ◌<◌, ◌≤◌, ◌+◌, ℕ, zero, suc, Bool, true, false, List, [], ◌∷◌, ◌++◌, if◌then◌else◌, length, take, Option, Some, None, inl, inr, refl, sym, ap, subst, arith, add-one, get_or}
+use Rattle.std.specs.Prelude.{slice_get, IfSome, Contains}
 use Rattle.std.specs.List.{AllByRecursion, list_any}
 use Rattle.cl_model.specs.declared.class.Class.{Class}
 use Rattle.cl_model.specs.declared.need.Equality.{Equality}

@@ -1,5 +1,5 @@
 -- What the steps of a registry's calls make of plain tables (JVMS SE 8, 5.3, 5.3.5).
-use Rattle.std.specs.Prelude.{◌≡◌, ◌<◌, ◌==◌, ◌&&◌, ℕ, IfSome, Bool, true, nat_eq, if◌then◌else◌, List, [], ◌∷◌, map, Option, Some, None, option_map, unwrap_or, slice_get}
+use Rattle.std.specs.Prelude.{◌≡◌, ◌<◌, ◌==◌, ◌&&◌, ℕ, IfSome, Bool, true, nat_eq, if◌then◌else◌, List, map, Option, Some, None, option_map, unwrap_or, slice_get}
 use Rattle.std.specs.List.{AllByRecursion}
 use Rattle.std.specs.HashMap.{HashMap, spare}
 use Rattle.std.specs.Cmp.Lexicographic.{pointwise}

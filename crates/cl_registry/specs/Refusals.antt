@@ -1,5 +1,5 @@
 -- When a registry refuses a value, and why (own choice; JVMS SE 8, 5.3, 5.3.4, 5.3.5, 5.4.2).
-use Rattle.std.specs.Prelude.{◌≡◌, ◌⊎◌, ℕ, Some, None}
+use Rattle.std.specs.Prelude.{◌≡◌, ◌⊎◌, ℕ, None}
 use Rattle.cl_model.specs.declared.class.Class.{Class}
 use Rattle.cl_model.specs.declared.need.Need.{Need}
 use Rattle.cl_model.specs.States.{IsRecorded, Refused}

@@ -8,16 +8,11 @@ use Rattle.cl_model.specs.declared.class.Class.{Class}
 use Rattle.cl_model.specs.declared.event.Event.{Event}
 use Rattle.cl_model.specs.declared.event.Event.TheVariants as events
 use Rattle.cl_model.specs.declared.answer.Answer.{Answer}
-use Rattle.cl_model.specs.declared.answer.Answer.TheVariants as answers
-use Rattle.cl_model.specs.declared.verdict.Verdict.{Verdict}
-use Rattle.cl_model.specs.declared.verdict.Verdict.TheVariants as verdicts
 use Rattle.cl_model.specs.declared.settled.Settled.{Settled}
-use Rattle.cl_model.specs.declared.request.Request.{Request}
-use Rattle.cl_model.specs.declared.request.Request.TheVariants as requests
 use Rattle.cl_model.specs.Content.{Content}
 use Rattle.cl_model.specs.Classes.{class, same_class, Above, supers, misfit}
 use Rattle.cl_model.specs.Texts.{AnswerNames, EventNames, VerdictNames}
-use Rattle.cl_model.specs.States.{State, Record, Need, Entry, recorded, start, AllMet, Refused}
+use Rattle.cl_model.specs.States.{State, Record, Need, Entry, recorded, start, Refused}
 use Rattle.cl_model.specs.Machine.{Step, state_after, Run}
 use Rattle.cl_model.specs.Machine as machine
 use Rattle.cl_model.specs.Tables as tables

@@ -1,9 +1,7 @@
 -- Rows and lineages that stand in the tables of a registry (JVMS SE 8, 5.3, 5.3.5).
-use Rattle.std.specs.Prelude.{◌≡◌, ℕ, List, [], ◌∷◌, Some}
+use Rattle.std.specs.Prelude.{◌≡◌, Some}
 use Rattle.std.specs.List.{AllByRecursion}
-use Rattle.cl_classfile.specs.Files.{file_of}
 use Rattle.cl_model.specs.declared.class.Class.{Class}
-use Rattle.cl_model.specs.Classes.{supers}
 use Rattle.cl_model.specs.States.{IsRecorded}
 use Rattle.cl_hierarchy.specs.Rows.{Rowed}
 use Rattle.cl_hierarchy.specs.Lineages.{Lined, rows_in}

@@ -157,7 +157,10 @@ impl<T: Told> Registry<T> {
         }
         keeps(list);
         let equality = &list.needs()[place];
-        if self.book.joined(&equality.name, equality.one, equality.other) {
+        if self
+            .book
+            .joined(&equality.name, equality.one, equality.other)
+        {
             return Ok(());
         }
         let Ok(name) = equality.name.try_clone(alloc) else {

@@ -33,11 +33,7 @@ impl<'a, T: Told> RowTable<T> for Defined<'a, T> {
 impl<T: Told> Registry<T> {
     /// The lineage of a class that its loader has recorded, in time linear in the rows of its ancestors and the supertypes
     /// that they name.
-    pub fn lineage(
-        &self,
-        alloc: Global,
-        class: &Class,
-    ) -> Result<Arc<Lineage<T>>, RegistryFault>
+    pub fn lineage(&self, alloc: Global, class: &Class) -> Result<Arc<Lineage<T>>, RegistryFault>
         ensures recorded { OnOk result (IsRecorded (state_of self.now) class.now) }
         ensures made { IfOk result (λ l. IsMadeOf self.now.config self.now.rows class.now l.value) }
         ensures traced { IfOk result (λ l. IsTraced self.now class.now l.value) }

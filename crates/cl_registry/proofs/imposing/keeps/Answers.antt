@@ -1,5 +1,5 @@
-use Rattle.std.proofs.Common.{◌≡◌, ◌∙◌, ap, sym, subst}
-use Rattle.cl_hierarchy.specs.Imposed.{Sprung, OfPreparation, sprung}
+use Rattle.std.proofs.Common.{◌∙◌, ap, sym, subst}
+use Rattle.cl_hierarchy.specs.Imposed.{Sprung, sprung}
 use Rattle.cl_hierarchy.specs.Lineages.{IsLined, Lined}
 use Rattle.cl_registry.specs.Imposing.{AreLineages}
 use Rattle.cl_registry.proofs.imposing.keeps.Goals as goal

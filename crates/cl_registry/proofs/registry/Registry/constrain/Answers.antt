@@ -1,8 +1,6 @@
-use Rattle.std.proofs.Common.{◌≡◌, ◌∙◌, ◌+◌, ◌-◌, ◌++◌, ◌∷◌, [], ℕ, List, Option, Some, None, map, ap, sym, subst, refl, length}
-use Rattle.std.specs.Option.{option_map}
-use Rattle.cl_model.specs.declared.class.Class.{Class}
+use Rattle.std.proofs.Common.{◌≡◌, ◌∙◌, ◌+◌, ◌-◌, ℕ, map, ap, sym, subst, refl, length}
 use Rattle.cl_model.specs.declared.need.Need.TheVariants as needs
-use Rattle.cl_model.specs.States.{Equal, Met, Refused, State}
+use Rattle.cl_model.specs.States.{Met, Refused}
 use Rattle.cl_model.specs.Texts.{EqualityNames}
 use Rattle.cl_hierarchy.specs.Imposed.{equal_need}
 use Rattle.cl_registry.specs.Imposing.{MayConstrainAs, with_constrain}

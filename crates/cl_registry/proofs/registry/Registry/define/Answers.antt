@@ -1,8 +1,8 @@
-use Rattle.std.proofs.Common.{◌≡◌, ◌∙◌, ◌++◌, ◌∷◌, [], ℕ, List, Option, Some, None, map, ap, sym, subst}
+use Rattle.std.proofs.Common.{◌≡◌, ◌∙◌, Some, None, map, ap, sym, subst}
 use Rattle.std.specs.Prelude.{IfOk}
 use Rattle.cl_model.specs.States.{recorded}
 use Rattle.cl_hierarchy.specs.Rows.{Rowed}
-use Rattle.cl_registry.specs.Tables.{Shown, Defines, DefinedAs, IsKept, IsNew, Records, records_of, looked}
+use Rattle.cl_registry.specs.Tables.{Shown, Defines, IsKept, IsNew, Records, records_of, looked}
 use Rattle.cl_registry.proofs.Asked.{found_none, found_some, known_defined, some_or_none}
 use Rattle.cl_registry.proofs.Looked.{looked_records}
 use Rattle.cl_registry.proofs.Entered.{is_defined, records_defined, shown_defined}

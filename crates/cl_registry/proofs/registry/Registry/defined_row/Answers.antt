@@ -1,6 +1,6 @@
 use Rattle.std.proofs.Common.{◌∙◌, ap}
 use Rattle.cl_model.specs.declared.class.Class.{Class}
-use Rattle.cl_registry.proofs.Tracing.{differs, lacks_row, other_row, own_row}
+use Rattle.cl_registry.proofs.Tracing.{differs, lacks_row, other_row}
 use Rattle.cl_registry.proofs.registry.Registry.defined_row.Goals as goal
 
 pub returns-in-None : goal.returns-in-None

@@ -1,8 +1,6 @@
-use Rattle.std.proofs.Common.{◌≡◌, ◌∙◌, ◌+◌, ◌-◌, ◌++◌, ◌∷◌, [], ℕ, List, Option, Some, None, map, ap, sym, subst, refl}
+use Rattle.std.proofs.Common.{◌≡◌, ◌∙◌, ◌+◌, ◌-◌, ◌++◌, ◌∷◌, [], ℕ, None, map, ap, sym, subst, refl}
 use Rattle.std.specs.Option.{option_map}
-use Rattle.cl_model.specs.declared.class.Class.{Class}
 use Rattle.cl_model.specs.declared.need.Need.TheVariants as needs
-use Rattle.cl_model.specs.States.{Entry, Need, State}
 use Rattle.cl_delegation.specs.Searches.{Located}
 use Rattle.cl_hierarchy.specs.Rows.{Rowed}
 use Rattle.cl_registry.specs.Parts.{IsPut}

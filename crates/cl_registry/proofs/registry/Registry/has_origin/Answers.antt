@@ -1,8 +1,7 @@
-use Rattle.std.proofs.Common.{◌≡◌, ◌∙◌, subst, sym}
+use Rattle.std.proofs.Common.{subst, sym}
 use Rattle.cl_findings.specs.Findings.{Decides}
-use Rattle.cl_hierarchy.specs.Imposed.{sprung}
 use Rattle.cl_hierarchy.specs.Lineages.{Lined}
-use Rattle.cl_registry.specs.Imposing.{IsReached, IsStanding, StandsFor}
+use Rattle.cl_registry.specs.Imposing.{IsReached, IsStanding}
 use Rattle.cl_registry.proofs.Tested.{both_stand}
 use Rattle.cl_registry.proofs.registry.Registry.has_origin.Goals as goal
 

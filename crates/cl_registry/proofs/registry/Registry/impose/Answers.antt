@@ -1,4 +1,4 @@
-use Rattle.std.proofs.Common.{◌≡◌, map, subst}
+use Rattle.std.proofs.Common.{map, subst}
 use Rattle.cl_hierarchy.specs.Imposed.{equal_need}
 use Rattle.cl_model.specs.States.{Met}
 use Rattle.cl_registry.specs.Tables.{Shown, state_of}

@@ -1,8 +1,8 @@
-use Rattle.std.proofs.Common.{◌≡◌, ◌∙◌, ◌++◌, ◌∷◌, [], ℕ, List, Option, Some, None, map, ap, sym, subst}
+use Rattle.std.proofs.Common.{◌≡◌, ◌∙◌, Some, None, map, ap, sym, subst}
 use Rattle.std.specs.Prelude.{IfOk}
 use Rattle.cl_model.specs.States.{recorded}
 use Rattle.cl_hierarchy.specs.Rows.{Rowed}
-use Rattle.cl_registry.specs.Tables.{Shown, Initiates, InitiatedAs, IsKept, LacksRecord, Records, records_of, looked}
+use Rattle.cl_registry.specs.Tables.{Shown, Initiates, IsKept, LacksRecord, Records, records_of, looked}
 use Rattle.cl_registry.proofs.Asked.{found_none, found_some, known_initiated, some_or_none}
 use Rattle.cl_registry.proofs.Looked.{looked_records}
 use Rattle.cl_registry.proofs.Entered.{is_initiated, records_initiated, shown_initiated}
@@ -57,7 +57,7 @@ returns-in-Some-clause-refused g c =
 pub initiate_new-requires : goal.initiate_new-requires
 initiate_new-requires g c = record {
   fresh = (subst (λ (y : Shown). LacksRecord y c.args.home.now.asked c.args.home.now.name) c.self.view_is
-    (found_none (λ r. r.now) (λ r. r.value) g.T.Told.told _ c.args.home.now.asked c.args.home.now.name c.self.invariant.kept _ (c.self.invariant.rows c.args.home.now.asked c.args.home.now.name) c.asked_row.result c.asked_row.ensures c.in-None.is));
+      (found_none (λ r. r.now) (λ r. r.value) g.T.Told.told _ c.args.home.now.asked c.args.home.now.name c.self.invariant.kept _ (c.self.invariant.rows c.args.home.now.asked c.args.home.now.name) c.asked_row.result c.asked_row.ensures c.in-None.is));
 }
 
 pub returns-clause-initiated : goal.returns-clause-initiated

@@ -1,12 +1,9 @@
-use Rattle.std.proofs.Common.{◌≡◌, ◌∙◌, ◌+◌, ◌-◌, ◌++◌, ◌∷◌, [], ℕ, List, Option, Some, None, map, ap, sym, subst, refl}
+use Rattle.std.proofs.Common.{◌≡◌, ◌∙◌, ◌+◌, ◌-◌, ℕ, Some, None, map, ap, sym, subst, refl}
 use Rattle.std.specs.Option.{option_map}
-use Rattle.cl_model.specs.declared.class.Class.{Class}
 use Rattle.cl_model.specs.declared.need.Need.TheVariants as needs
-use Rattle.cl_model.specs.States.{Entry, Need, Refused, State}
-use Rattle.cl_delegation.specs.Searches.{Located}
+use Rattle.cl_model.specs.States.{Refused}
 use Rattle.cl_hierarchy.specs.Rows.{Rowed}
-use Rattle.cl_registry.specs.Parts.{IsPut}
-use Rattle.cl_registry.specs.Tables.{Shown, LacksRecord, MayJoin, InitiatedAs, asked_record, looked, row_at, state_of}
+use Rattle.cl_registry.specs.Tables.{Shown, LacksRecord, MayJoin, InitiatedAs, asked_record, looked, state_of}
 use Rattle.cl_registry.specs.Refusals.{AddRefusedFor, Blames}
 use Rattle.cl_registry.proofs.Entered.{add_refused, asked_entry, blamed_as, blames_record, kept_initiated, not_refused, share_refused, shown_initiate}
 use Rattle.cl_registry.proofs.Kept.{kept_failed}

@@ -1,4 +1,4 @@
-use Rattle.std.proofs.Common.{◌≡◌, ◌∙◌, ◌<◌, ℕ, ap, sym, subst, length}
+use Rattle.std.proofs.Common.{◌∙◌, ap, sym, subst, length}
 use Rattle.std.specs.Prelude.{MatchBool}
 use Rattle.cl_registry.specs.Tables.{Shown, MayEnter, row_at}
 use Rattle.cl_registry.proofs.Asked.{below_count, enters_by, lacks_above}

@@ -1,6 +1,6 @@
-use Rattle.std.proofs.Common.{◌≡◌, ◌∙◌, ◌<◌, length, List, map, take, subst, sym}
+use Rattle.std.proofs.Common.{◌<◌, length, List, map, take, subst, sym}
 use Rattle.cl_findings.specs.Findings.{Decides}
-use Rattle.cl_hierarchy.specs.Imposed.{Sprung, needs_of}
+use Rattle.cl_hierarchy.specs.Imposed.{needs_of}
 use Rattle.cl_model.specs.declared.need.Equality.{Equality}
 use Rattle.cl_model.specs.States.{AllMet}
 use Rattle.cl_registry.specs.Imposing.{StandsFor}

@@ -1,7 +1,6 @@
-use Rattle.std.proofs.Common.{◌≡◌, ◌≤◌, ◌+◌, ◌∙◌, ℕ, ap, sym, subst, length, map, refl, vec_capacity}
+use Rattle.std.proofs.Common.{◌≤◌, ◌+◌, ◌∙◌, ℕ, ap, sym, subst, length, map, refl, vec_capacity}
 use Rattle.std.specs.Option.{option_map}
 use Rattle.cl_config.specs.Scripts.{IsScript}
-use Rattle.cl_config.specs.Views.{Scripted}
 use Rattle.cl_registry.proofs.Schedules.{kept_new, counts_as, bare_references}
 use Rattle.cl_registry.proofs.registry.Registry.new.Goals as goal
 

@@ -1,7 +1,7 @@
-use Rattle.std.proofs.Common.{◌≡◌, ◌∙◌, ◌+◌, ◌-◌, ◌++◌, ◌∷◌, [], ℕ, List, Option, Some, None, map, ap, sym, subst, refl, length}
+use Rattle.std.proofs.Common.{◌≡◌, ◌∙◌, ◌+◌, ◌-◌, ℕ, List, map, ap, sym, subst, refl}
 use Rattle.std.specs.Prelude.{Contains}
 use Rattle.cl_model.specs.declared.class.Class.{Class}
-use Rattle.cl_model.specs.States.{IsRecorded, State}
+use Rattle.cl_model.specs.States.{IsRecorded}
 use Rattle.cl_registry.specs.Imposing.{MayPrepareAs, with_prepare}
 use Rattle.cl_registry.specs.Tables.{Shown, state_of}
 use Rattle.cl_registry.proofs.Imposed.{kept_prepared, prepared_more}

@@ -1,4 +1,4 @@
-use Rattle.std.proofs.Common.{◌≡◌, ◌∙◌, map, subst, sym}
+use Rattle.std.proofs.Common.{◌∙◌, map, subst, sym}
 use Rattle.std.specs.Option.{option_map}
 use Rattle.cl_findings.specs.Findings.{Decides}
 use Rattle.cl_registry.specs.Imposing.{IsReached}

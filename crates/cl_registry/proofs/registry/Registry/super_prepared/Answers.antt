@@ -1,4 +1,4 @@
-use Rattle.std.proofs.Common.{◌≡◌, ◌∙◌, Option, Some, ap, subst, sym}
+use Rattle.std.proofs.Common.{◌∙◌, Option, ap, subst, sym}
 use Rattle.std.specs.Prelude.{Contains, IfSome}
 use Rattle.cl_findings.specs.Findings.{Decides}
 use Rattle.cl_hierarchy.specs.Rows.{Rowed}

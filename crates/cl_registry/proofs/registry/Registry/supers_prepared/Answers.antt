@@ -1,4 +1,4 @@
-use Rattle.std.proofs.Common.{◌≡◌, ◌∙◌, ◌<◌, ◌≤◌, ℕ, ap, sym, arith, length}
+use Rattle.std.proofs.Common.{◌≡◌, ◌∙◌, ap, sym, arith, length}
 use Rattle.cl_classfile.specs.Files.{file_of}
 use Rattle.cl_model.specs.Classes.{supers}
 use Rattle.cl_registry.specs.Imposing.{IsPreparedAbove}

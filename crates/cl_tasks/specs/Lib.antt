@@ -1,5 +1,7 @@
+pub mod Measures
+pub mod Waits
 pub mod Tasks
-pub mod Stages
+pub mod Facts
 pub mod Turns
 pub mod Follows
-pub mod Steps
+pub mod Stages

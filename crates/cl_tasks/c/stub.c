@@ -1,0 +1,1 @@
+unsigned stub_of_tasks(void) { for (;;) {} }

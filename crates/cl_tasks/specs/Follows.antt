@@ -2,6 +2,7 @@
 use Rattle.std.specs.Prelude.{◌≡◌, ◌⊎◌, ℕ, true, List, Option, Some, None, IfSome, Contains}
 use Rattle.cl_model.specs.declared.class.Class.{Class}
 use Rattle.cl_model.specs.declared.answer.Answer.{Answer}
+use Rattle.cl_model.specs.declared.need.Need as needs
 use Rattle.cl_model.specs.declared.answer.Answer.TheVariants as answers
 use Rattle.cl_model.specs.declared.verdict.Verdict.TheVariants as verdicts
 use Rattle.cl_model.specs.declared.verdict.Verdict as verdict
@@ -12,7 +13,7 @@ use Rattle.cl_model.specs.Content.{Content}
 use Rattle.cl_model.specs.States.{State, Need, Entry, recorded, settled_to, IsRecorded, Met, MayAdd, Refused}
 use Rattle.cl_model.specs.Machine.{Setting, Settle, Prepare, IsSound, step_for}
 use Rattle.cl_model.specs.Service.{ComesTo, IsNextNeed, IsNextStep}
-use Rattle.cl_model.specs.Tables.{Records}
+use Rattle.cl_model.specs.Tables.{IsConsistent, Records}
 use Rattle.cl_model.specs.Views.{need_of, request_of, verdict_of}
 use Rattle.cl_source.specs.declared.source.SourceFault.{SourceFault}
 use Rattle.cl_source.specs.declared.source.SourceFault.TheVariants as faults
@@ -85,9 +86,9 @@ Backed x (turn.Mark e) = MayMark x e.value
 Backed x (turn.Post f) = IsBacked x f
 Backed x other = Unit {0}
 
--- the tables of this configuration, which name its loaders alone, bear a turn wherever what the task was told holds of them (5.3)
+-- the tables of this configuration, which are consistent and name its loaders alone, bear a turn wherever what the task was told holds of them (5.3)
 abbrev pub BackedWhere : {A : Type 0} → Configured → (Shown → Type 0) → Turn A → Type 0
-BackedWhere c holds t = (x : Shown) → x.config ≡ c → NamesLoaders x → holds x → Backed x t
+BackedWhere c holds t = (x : Shown) → x.config ≡ c → NamesLoaders x → IsConsistent (state_of x) → holds x → Backed x t
 
 -- ---- the plan, where the source tells a content
 
@@ -179,14 +180,19 @@ Refuses (Some a) t = Posts a t
 
 -- the class of a resolution is looked for where the request asks for it (5.4.3)
 abbrev pub LooksAgain : ℕ → List ℕ → Request → Type 0
+LooksAgain loader name (requests.Load l n) = ⊥
 LooksAgain loader name (requests.Resolve l n i) = (loader ≡ l) × (name ≡ n)
-LooksAgain loader name other = ⊥
+LooksAgain loader name (requests.Link l n) = ⊥
 
--- a need that was refused is the answer, or what the reference is settled to, unless memory runs out; before a resolution is answered so, its
--- class is looked for once more (5.3.4)
+-- a refused need is the answer, or what the reference is settled to, unless memory runs out; before a resolution is answered so, its class
+-- is looked for once more (5.3.4)
+abbrev pub EndsAsRefused : {A : Type 0} → Request → needs.Need → Turn A → Type 0
+EndsAsRefused r n (turn.Post f) = (f.answer ≡ answers.Said (verdicts.Linkage n)) ⊎ (f.answer ≡ answers.Memory)
+EndsAsRefused r n (turn.Settle f) = f.answer ≡ answers.Said (verdicts.Linkage n)
+EndsAsRefused r n (turn.Look loader name) = LooksAgain loader name r
+EndsAsRefused r n other = ⊥
+
+-- the same of each reply that is such a refusal (5.3.4)
 abbrev pub EndsRefused : {A : Type 0} → Option Request → Reply A → Turn A → Type 0
-EndsRefused r (reply.Refused n) (turn.Post f) = (f.answer ≡ answers.Said (verdicts.Linkage n)) ⊎ (f.answer ≡ answers.Memory)
-EndsRefused r (reply.Refused n) (turn.Settle f) = f.answer ≡ answers.Said (verdicts.Linkage n)
-EndsRefused r (reply.Refused n) (turn.Look loader name) = IfSome r (LooksAgain loader name)
-EndsRefused r (reply.Refused n) other = ⊥
+EndsRefused r (reply.Refused n) t = IfSome r (λ r. EndsAsRefused r n t)
 EndsRefused r other t = Unit {0}

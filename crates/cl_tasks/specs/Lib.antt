@@ -5,3 +5,9 @@ pub mod Facts
 pub mod Turns
 pub mod Follows
 pub mod Stages
+pub mod Steps
+pub mod Ends
+pub mod Reaching
+pub mod Cited
+pub mod Resolving
+pub mod Linking

@@ -4,6 +4,7 @@ use Rattle.cl_classfile.specs.Files.{file_of, reference}
 use Rattle.cl_model.specs.declared.class.Class.{Class}
 use Rattle.cl_model.specs.declared.answer.Answer.TheVariants as answers
 use Rattle.cl_model.specs.declared.verdict.Verdict as verdict
+use Rattle.cl_model.specs.declared.verdict.Verdict.TheVariants as verdicts
 use Rattle.cl_model.specs.declared.request.Request.{Request}
 use Rattle.cl_model.specs.declared.request.Request.TheVariants as requests
 use Rattle.cl_model.specs.Content.{Content}
@@ -12,7 +13,7 @@ use Rattle.cl_model.specs.Frames.{Frame, class_named}
 use Rattle.cl_model.specs.States.{Need, Entry}
 use Rattle.cl_config.specs.Views.{Configured}
 use Rattle.cl_delegation.specs.Searches.{Searched, Located, next_of, route_of}
-use Rattle.cl_hierarchy.specs.Frames.{Framed}
+use Rattle.cl_hierarchy.specs.Frames.{Framed, frame_of}
 use Rattle.cl_hierarchy.specs.Imposed.{Listed, Sprung, OfPreparation, OfReference, needs_of}
 use Rattle.cl_hierarchy.specs.Lineages.{Lined, kin_of, rows_in}
 use Rattle.cl_hierarchy.specs.Paths.{Pathed, at_loader, at_name, frames_of, is_on}
@@ -20,6 +21,7 @@ use Rattle.cl_hierarchy.specs.Rows.{Rowed}
 use Rattle.cl_findings.specs.declared.load.Target.{Target}
 use Rattle.cl_findings.specs.declared.load.Target.TheVariants as targets
 use Rattle.cl_findings.specs.Findings.{Answered, Based, IsWithin, Rests, loader_of, name_of}
+use Rattle.cl_findings.specs.Bases.{IsSpeltIn}
 use Rattle.cl_findings.specs.Loads.{IsFor, IsSought, IsWhole, Resolves}
 use Rattle.cl_findings.specs.References.{AreLinked, GoesTo, class_need, reference_needs}
 use Rattle.cl_tasks.specs.Measures.{Phase, Fresh, Looking, Reading, Homing, Defining, Initiating, left_at, named_left, own_left, checking_left, reference_left, tracing_own_left, tracing_named_left, imposing_left, settling_left, prepared_left, whole_left, chain_left, linking_left}
@@ -73,14 +75,18 @@ at_work c w phase probes j = record {
   left = past_left j.target + left_at phase (frames_of j.path) probes;
 }
 
--- what contracts see of a load
+-- the record of a class by its home (5.3)
+abbrev pub home_need : Located → Need
+home_need h = Entry h.place h.name h.place
+
+-- what contracts see of a load; a class that is being recorded is the last of those that are derived
 abbrev pub loading_at : {A : Type 0} → Configured → Load A → Tasked
 loading_at c (loads.Fresh j) = at_work c waits.Beginning Fresh 0 j
 loading_at c (loads.Looking j) = at_work c (waits.Looking (at_loader j.path) (at_name j.path)) Looking 0 j
 loading_at c (loads.Searching j s) = at_work c (waits.Reading (next_place s) (at_name j.path)) Reading (probes_left s) j
 loading_at c (loads.Homing j h) = at_work c (waits.Looking h.place (at_name j.path)) Homing 0 j
-loading_at c (loads.Defining j x) = at_work c (waits.Defining x.draft) Defining 0 j
-loading_at c (loads.Initiating j h) = at_work c (waits.Initiating h.value) Initiating 0 j
+loading_at c (loads.Defining j x) = record (at_work c (waits.Defining x.draft) Defining 0 j) { frames = frames_of j.path ++ frame_of x ∷ [] }
+loading_at c (loads.Initiating j h) = record (at_work c (waits.Initiating h.value) Initiating 0 j) { facts = Stands (home_need h.value) ∷ target_facts j.request j.target }
 
 -- ---- resolutions
 
@@ -184,8 +190,9 @@ task_at c (stages.Done q) = done_at c q
 
 -- ---- what each stage keeps
 
--- the path is the request's under this configuration, whose loaders it names (5.3)
-pub record IsJob {A : Type 0} (c : Configured) (j : Job A) : Type 0 where
+-- the path is the request's under this configuration, whose loaders it names; what it loads was named by a class whose bytes spell its file (5.3)
+pub record IsJob {A : Type 0} (told : Option Content) (c : Configured) (j : Job A) : Type 0 where
+  pub spelt : IsSpeltIn told j.target
   pub for_request : IsFor j.request j.target j.path
   pub config : j.path.config ≡ c
   pub asked : loader_of j.request < length c.loaders
@@ -206,16 +213,22 @@ pub record IsHoming {A : Type 0} (j : Job A) (h : Located) : Type 0 where
 
 -- what a load keeps (5.3, 5.3.5)
 abbrev pub IsLoading : {A : Type 0} → Option Content → Configured → Load A → Type 0
-IsLoading told c (loads.Fresh j) = IsJob c j
-IsLoading told c (loads.Looking j) = IsJob c j
-IsLoading told c (loads.Searching j s) = IsJob c j × IsSearch j s
-IsLoading told c (loads.Homing j h) = IsJob c j × IsHoming j h
-IsLoading told c (loads.Defining j x) = IsJob c j × IsWhole told j.path x
-IsLoading told c (loads.Initiating j h) = IsJob c j × IsSought j.path h.value × (h.value.place ≢ at_loader j.path)
+IsLoading told c (loads.Fresh j) = IsJob told c j
+IsLoading told c (loads.Looking j) = IsJob told c j
+IsLoading told c (loads.Searching j s) = IsJob told c j × IsSearch j s
+IsLoading told c (loads.Homing j h) = IsJob told c j × IsHoming j h
+IsLoading told c (loads.Defining j x) = IsJob told c j × IsWhole told j.path x
+IsLoading told c (loads.Initiating j h) = IsJob told c j × IsSought j.path h.value × (h.value.place ≢ at_loader j.path)
 
 -- the same request, but to load its class alone (5.3)
 abbrev pub load_of : Request → Request
 load_of r = requests.Load (loader_of r) (name_of r)
+
+-- a verdict that is an error, or a refused need (5.3.4, 5.3.5)
+abbrev pub IsFailure : verdict.Verdict → Type 0
+IsFailure (verdicts.Error kind c) = Unit {0}
+IsFailure (verdicts.Linkage n) = Unit {0}
+IsFailure other = ⊥
 
 -- the load of the class of a resolution ends in a verdict, whatever the request asks past it (5.3, 5.4.3)
 pub record IsFailed {A : Type 0} (told : Option Content) (c : Configured) (f : Failed A) : Type 0 where
@@ -229,6 +242,7 @@ pub record IsFailed {A : Type 0} (told : Option Content) (c : Configured) (f : F
   pub rests_on : f.finding.basis ≡ Some basis
   pub config : basis.config ≡ c
   pub unprepared : basis.prepared ≡ []
+  pub failure : IsFailure verdict
   pub own : Rests told (record f.finding { request = load_of f.request })
 
 -- the request resolves the entry at an index of the pool of a class (5.4.3)

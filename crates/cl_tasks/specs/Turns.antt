@@ -83,12 +83,16 @@ Serves old new other = new.request ≡ old.request
 
 -- ---- what is looked at first
 
+-- a reply that says that a loader has no record, or what a loader has (5.3, 5.3.2)
+abbrev pub MayRead : {A : Type 0} → Reply A → Type 0
+MayRead (reply.Looked None) = Unit {0}
+MayRead (reply.Probed p) = Unit {0}
+MayRead other = ⊥
+
 -- a task reads only after it was told that the loader that was asked, and then the home, has no record (5.3)
 abbrev pub ReadsUnrecorded : {A : Type 0} → Reply A → Turn A → Type 0
-ReadsUnrecorded (reply.Looked None) (turn.Read l n) = Unit {0}
-ReadsUnrecorded (reply.Probed p) (turn.Read l n) = Unit {0}
-ReadsUnrecorded other (turn.Read l n) = ⊥
-ReadsUnrecorded other t = Unit {0}
+ReadsUnrecorded r (turn.Read l n) = MayRead r
+ReadsUnrecorded r other = Unit {0}
 
 -- a turn posts this answer, or that memory ran out
 abbrev pub PostsOr : {A : Type 0} → Answer → Turn A → Type 0

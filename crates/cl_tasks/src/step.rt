@@ -1,9 +1,19 @@
-ghost use Rattle.std.specs.Prelude.{◌≡◌, MatchBool};
-ghost use Rattle.cl_tasks.specs.Stages.{task_at, IsStage};
+//! A step: what a task is at, and the reply to what it asked for.
+
+ghost use Rattle.std.specs.Prelude.{◌≡◌};
+ghost use Rattle.cl_config.specs.Views.{Configured};
+ghost use Rattle.cl_tasks.specs.Stages.{IsStage, linking_at, loading_at, resolving_at, task_at};
+ghost use Rattle.cl_tasks.specs.Steps.{Steps};
 ghost use Rattle.cl_tasks.specs.Turns.{Expects};
 
-use crate::stage::{Next, Stage};
-use crate::stub::owed;
+use crate::link_replies::{
+    imposed as imposed_link, looked_prepared, marked, traced, traced_whole,
+};
+use crate::load_replies::{begin, defined, initiated, looked, looked_home, probed};
+use crate::resolution_replies::{
+    checked, imposed, looked_reference, settled, traced_named, traced_own,
+};
+use crate::stage::{Link, Load, Next, Resolution, Stage};
 use crate::turn::Reply;
 use cl_config::Config;
 use cl_model::Told;
@@ -12,20 +22,52 @@ use std::sync::Arc;
 
 /// The number of the request.
 pub(crate) fn number<T: Told>(stage: &Stage<T>) -> u32
-    ensures { (c : _) → result ≡ (task_at c stage.now).q }
+    ensures { (c : Configured) → result ≡ (task_at c stage.now).q }
 {
-    owed();
-    0
+    match stage {
+        Stage::Load(load) => number_of_load(load),
+        Stage::Resolve(resolution) => number_of_resolution(resolution),
+        Stage::Link(link) => number_of_link(link),
+        Stage::Done(q) => *q,
+    }
 }
 
-/// Whether a reply is one to what a task at this stage asked for.
-pub(crate) fn expects<T: Told>(config: &Arc<Config>, stage: &Stage<T>, reply: &Reply<T>) -> bool
-    requires { IsStage T.told config.now.value stage.now }
-    ensures { MatchBool result (Expects (task_at config.now.value stage.now) reply.now)
-        (Expects (task_at config.now.value stage.now) reply.now → ⊥) }
+fn number_of_load<T: Told>(load: &Load<T>) -> u32
+    ensures { (c : Configured) → result ≡ (loading_at c load.now).q }
 {
-    owed();
-    false
+    match load {
+        Load::Fresh(job) => job.q,
+        Load::Looking(job) => job.q,
+        Load::Searching(job, _) => job.q,
+        Load::Homing(job, _) => job.q,
+        Load::Defining(job, _) => job.q,
+        Load::Initiating(job, _) => job.q,
+    }
+}
+
+fn number_of_resolution<T: Told>(resolution: &Resolution<T>) -> u32
+    ensures { (c : Configured) → result ≡ (resolving_at c resolution.now).q }
+{
+    match resolution {
+        Resolution::Checking(failed) => failed.q,
+        Resolution::LookingReference(entry) => entry.q,
+        Resolution::TracingOwn(entry, _) => entry.q,
+        Resolution::TracingNamed(entry, _, _) => entry.q,
+        Resolution::Imposing(member, _) => member.entry.q,
+        Resolution::Settling(entry) => entry.q,
+    }
+}
+
+fn number_of_link<T: Told>(link: &Link<T>) -> u32
+    ensures { (c : Configured) → result ≡ (linking_at c link.now).q }
+{
+    match link {
+        Link::LookingPrepared(goal) => goal.q,
+        Link::TracingWhole(goal) => goal.q,
+        Link::Tracing(chain) => chain.goal.q,
+        Link::Imposing(chain, _, _) => chain.goal.q,
+        Link::Marking(chain, _) => chain.goal.q,
+    }
 }
 
 /// The turn that a reply leads to.
@@ -35,8 +77,38 @@ pub(crate) fn step<T: Told>(
     stage: Stage<T>,
     reply: Reply<T>,
 ) -> Next<T>
-    ensures { ⊥ }
+    requires kept { IsStage T.told config.now.value stage }
+    requires expects { Expects (task_at config.now.value stage) reply }
+    ensures { Steps T.told (task_at config.now.value stage) reply result }
 {
-    owed();
-    Next { stage, turn: crate::turn::Turn::Read(cl_model::LoaderId(0), unreachable!()) }
+    match stage {
+        Stage::Load(load) => match load {
+            Load::Fresh(job) => begin(alloc, job, reply),
+            Load::Looking(job) => looked(alloc, config, job, reply),
+            Load::Searching(job, search) => probed(alloc, job, search, reply),
+            Load::Homing(job, home) => looked_home(alloc, job, home, reply),
+            Load::Defining(job, whole) => defined(alloc, config, job, whole, reply),
+            Load::Initiating(job, home) => initiated(alloc, config, job, home, reply),
+        },
+        Stage::Resolve(resolution) => match resolution {
+            Resolution::Checking(failed) => checked(alloc, config, failed, reply),
+            Resolution::LookingReference(entry) => looked_reference(alloc, config, entry, reply),
+            Resolution::TracingOwn(entry, named) => traced_own(alloc, config, entry, named, reply),
+            Resolution::TracingNamed(entry, own, named) => {
+                traced_named(alloc, config, entry, own, named, reply)
+            }
+            Resolution::Imposing(member, place) => imposed(alloc, config, member, place, reply),
+            Resolution::Settling(entry) => settled(config, entry, reply),
+        },
+        Stage::Link(link) => match link {
+            Link::LookingPrepared(goal) => looked_prepared(alloc, config, goal, reply),
+            Link::TracingWhole(goal) => traced_whole(alloc, config, goal, reply),
+            Link::Tracing(chain) => traced(alloc, config, chain, reply),
+            Link::Imposing(chain, list, place) => {
+                imposed_link(alloc, config, chain, list, place, reply)
+            }
+            Link::Marking(chain, list) => marked(alloc, config, chain, list, reply),
+        },
+        Stage::Done(_) => unreachable!(),
+    }
 }

@@ -7,7 +7,8 @@ ghost use Rattle.cl_tasks.specs.Tasks.{begun};
 ghost use Rattle.cl_tasks.specs.Turns.{AnswersOwn, Asks, Expects, ReadsUnrecorded, Serves};
 
 use crate::stage::{Job, Load, Stage};
-use crate::step::{expects, number, step};
+use crate::expected::expects;
+use crate::step::{number, step};
 use crate::turn::{Reply, Turn};
 use cl_config::Config;
 use cl_findings::Target;

@@ -1,9 +1,9 @@
 //! The printed faults that no run shows, and no contract tells the text of.
 
-use crate::given::{APP, PLUG, T, class_name};
+use crate::given::{T, class_name};
 use cl_classfile::Fault;
 use cl_hierarchy::DraftFault;
-use cl_model::{LoaderId, Need};
+use cl_model::{Equality, LoaderId, Need};
 use cl_registry::RegistryFault;
 use cl_source::SourceFault;
 use std::test::Fail;
@@ -26,15 +26,15 @@ fn printed_faults(rt: HostRuntime) -> Result<(), Fail> {
     ] {
         assert!(rt; fault.to_string(alloc)?.as_str() == text);
     }
-    let refused = Need::Entry {
-        loader: LoaderId(PLUG),
+    let need = Need::Equal(Equality {
         name: class_name(alloc, T)?,
-        home: LoaderId(APP),
-    };
+        one: LoaderId(0),
+        other: LoaderId(1),
+    });
     for (fault, text) in [
         (RegistryFault::Memory, "B0 Memory"),
         (RegistryFault::Stray, "B1 Stray"),
-        (RegistryFault::Violates(refused), "B2 Violates"),
+        (RegistryFault::Violates(need), "B2 Violates"),
         (RegistryFault::AlreadyPosted, "B3 AlreadyPosted"),
         (RegistryFault::NotYet, "B4 NotYet"),
     ] {

@@ -1,13 +1,13 @@
 //! Values that belong elsewhere: probes of another search, findings of another script, homes of other loaders.
 
 use crate::given::{
-    APP, BOOT, CHILD_FIRST, FINAL, KID, PARENT_FIRST, PLAIN, PLUG, T, TOP, class, class_name,
-    config, home, load, registry, search, source,
+    APP, BOOT, CHILD_FIRST, FINAL, KID, PARENT_FIRST, PLAIN, PLUG, T, TOP, Told, class, class_name,
+    config, home, kind_of, registry, search, source,
 };
 use cl_delegation::Home;
 use cl_findings::Finding;
 use cl_hierarchy::Draft;
-use cl_model::{Event, LoaderId, Untold};
+use cl_model::{Event, LoaderId, Request, Untold};
 use cl_registry::{Registry, RegistryFault};
 use cl_source::{MemorySource, Source};
 use std::alloc::Global;
@@ -55,7 +55,7 @@ fn define(
     alloc: Global,
     tables: &mut Registry<Untold>,
     home: Home<Untold>,
-) -> Result<Result<u16, RegistryFault>, Fail> {
+) -> Result<Result<u16, Told>, Fail> {
     let Ok(draft) = Draft::read(alloc, home) else {
         return Err(Fail::new("no draft"));
     };
@@ -69,13 +69,13 @@ fn define(
     if is_recorded != was_recorded || *back.draft.class() != class {
         return Err(Fail::new("a refused definition left a trace"));
     }
-    if back.fault != RegistryFault::Memory {
-        return Ok(Err(back.fault));
+    if kind_of(&back.fault) != Told::Memory {
+        return Ok(Err(kind_of(&back.fault)));
     }
     println!(rt; "refused: Registry::define")?;
     match tables.define(alloc, back.draft) {
         Ok(row) => Ok(Ok(row.file().flags())),
-        Err(again) => Ok(Err(again.fault)),
+        Err(again) => Ok(Err(kind_of(&again.fault))),
     }
 }
 
@@ -86,7 +86,7 @@ fn initiate(
     alloc: Global,
     tables: &mut Registry<Untold>,
     home: &Home<Untold>,
-) -> Result<Result<u16, RegistryFault>, Fail> {
+) -> Result<Result<u16, Told>, Fail> {
     let was_recorded = tables.look(home.asked(), home.name()).is_some();
     let mut tried = tables.initiate(alloc, home);
     if tried.is_err() && tables.look(home.asked(), home.name()).is_some() != was_recorded {
@@ -98,7 +98,7 @@ fn initiate(
     }
     match tried {
         Ok(row) => Ok(Ok(row.class().loader.0)),
-        Err(fault) => Ok(Err(fault)),
+        Err(fault) => Ok(Err(kind_of(&fault))),
     }
 }
 
@@ -120,11 +120,10 @@ enum Found {
 use Call::{Define, Initiate};
 use Found::{Changed, Elsewhere, Own};
 
-/// It is strayed.
-const STRAY: Option<u16> = None;
+const STRAY: Result<u16, Told> = Err(Told::Stray);
 
-/// What is asked in order, of which home, and what is told: a file's flags, a defining loader, or that it is strayed.
-const STEPS: [(Call, Found, u16, &[u8], Option<u16>); 15] = [
+/// What is asked in order, of which home, and what is told: a file's flags, a defining loader, or the refusal.
+const STEPS: [(Call, Found, u16, &[u8], Result<u16, Told>); 15] = [
     (Initiate, Elsewhere, KID, T, STRAY),
     (Define, Elsewhere, PLUG, T, STRAY),
     (Define, Elsewhere, BOOT, TOP, STRAY),
@@ -132,15 +131,15 @@ const STEPS: [(Call, Found, u16, &[u8], Option<u16>); 15] = [
     (Define, Own, APP, T, STRAY),
     (Initiate, Own, PLUG, T, STRAY),
     (Initiate, Own, APP, TOP, STRAY),
-    (Define, Own, BOOT, TOP, Some(0x21)),
+    (Define, Own, BOOT, TOP, Ok(0x21)),
     (Define, Own, APP, T, STRAY),
-    (Initiate, Own, APP, TOP, Some(BOOT)),
-    (Define, Own, APP, T, Some(0x21)),
+    (Initiate, Own, APP, TOP, Ok(BOOT)),
+    (Define, Own, APP, T, Ok(0x21)),
     // a later definition does not replace it, whatever its file
-    (Define, Changed, APP, T, Some(0x21)),
-    (Define, Own, APP, T, Some(0x21)),
-    (Initiate, Own, PLUG, T, Some(APP)),
-    (Initiate, Changed, PLUG, T, Some(APP)),
+    (Define, Changed, APP, T, Ok(0x21)),
+    (Define, Own, APP, T, Ok(0x21)),
+    (Initiate, Own, PLUG, T, Ok(APP)),
+    (Initiate, Changed, PLUG, T, Ok(APP)),
     (Initiate, Elsewhere, KID, T, STRAY),
 ];
 
@@ -152,7 +151,7 @@ fn strangers_change_nothing(rt: HostRuntime) -> Result<(), Fail> {
     let own = config(alloc, PARENT_FIRST)?;
     let other = config(alloc, CHILD_FIRST)?;
     let mut tables = registry(alloc, &own, "load plug p/T")?;
-    for (call, found, loader, name, told) in STEPS {
+    for (call, found, loader, name, wanted) in STEPS {
         let loaders = if found == Elsewhere { &other } else { &own };
         let bytes = if found == Changed { FINAL } else { PLAIN };
         let mut files = source(alloc, bytes)?;
@@ -162,14 +161,11 @@ fn strangers_change_nothing(rt: HostRuntime) -> Result<(), Fail> {
         } else {
             initiate(&rt, alloc, &mut tables, &home)?
         };
-        let is_told = match answer {
-            Ok(number) => told == Some(number),
-            Err(fault) => told == STRAY && fault == RegistryFault::Stray,
-        };
-        assert!(rt; is_told);
+        assert!(rt; answer == wanted);
     }
     for (loader, is_posted) in [(PLUG, false), (APP, true)] {
-        let said = Finding::class(load(alloc, PLUG, T)?, class(alloc, loader, T)?);
+        let request = Request::Load(LoaderId(PLUG), class_name(alloc, T)?);
+        let said = Finding::class(request, class(alloc, loader, T)?);
         assert!(rt; tables.post(0, said).is_ok() == is_posted);
     }
     let Ok(report) = tables.into_report() else {

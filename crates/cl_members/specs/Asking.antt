@@ -76,10 +76,20 @@ pub record IsOf (d c : Lined) (index : ℕ) (f : Located) : Type 0 where
   pub at : f.index ≡ index
   pub owner : IsRowIn (rows_in c) f.owner
 
+-- the class whose member is not accessible is of the lineage of c (5.4.4)
+abbrev pub IsDeniedIn : Lined → Result Located LookupFault → Type 0
+IsDeniedIn c (Ok f) = Unit {0}
+IsDeniedIn c (Err faults.Memory) = Unit {0}
+IsDeniedIn c (Err faults.NoSuchField) = Unit {0}
+IsDeniedIn c (Err faults.NoSuchMethod) = Unit {0}
+IsDeniedIn c (Err faults.WrongKind) = Unit {0}
+IsDeniedIn c (Err (faults.Inaccessible owner)) = (row : Rowed) × IsRowIn (rows_in c) row × (owner ≡ row.class)
+
 -- what looking up the member of an entry answers (5.4.3.2 to 5.4.3.4)
 pub record Answers (d c : Lined) (index : ℕ) (result : Result Located LookupFault) : Type 0 where
   pub found : (r : Reference) → reference (kin_of d).file index ≡ Some r → IsFoundAs (kin_of d) r (kin_of c) result
   pub of : IfOk result (IsOf d c index)
+  pub denied : IsDeniedIn c result
 
 -- the key of the member that a reference asks for (4.4.2)
 abbrev pub asked_key : Reference → Option Key

@@ -1,5 +1,6 @@
 -- What a step leads to: with more room, and where memory runs out.
-use Rattle.std.proofs.Common.{◌≡◌, ◌<◌, ◌≤◌, ℕ, suc, List, length, Option, Some, None, refl, sym, ap, subst, arith}
+use Rattle.std.proofs.Common.{◌≡◌, ◌<◌, ◌≤◌, ℕ, suc, Bool, true, false, not, eqb, List, length, Option, Some, None, refl, sym, ap, subst, arith}
+use Rattle.std.proofs.lemmas.Bool.{eqb-true}
 use Rattle.std.specs.Prelude.{IfSome}
 use Rattle.cl_model.specs.declared.answer.Answer.TheVariants as answers
 use Rattle.cl_model.specs.declared.request.Request.{Request}
@@ -121,3 +122,12 @@ leads_fault told c q r name loader room holds asked within = record {
   };
   follows = λ g x s h. tt;
 }
+
+-- ---- comparisons
+
+not_false : (b : Bool) → not b ≡ false → b ≡ true
+not_false true h = refl
+not_false false h = absurd cc
+
+pub same_of : (a b : ℕ) → not (eqb a b) ≡ false → a ≡ b
+same_of a b h = eqb-true a b (not_false (eqb a b) h)

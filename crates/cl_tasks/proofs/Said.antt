@@ -88,12 +88,16 @@ rests_concludes content c script s r v b rests config bare sound needs =
     h.concludes s sound.closed (record { needs = needs; prepared = subst (λ (cs : List Class). AllByRecursion (HasImposed w s) cs) (sym bare) tt })
 
 -- the same where the request is served
+pub concludes_at : (told : Option Content) (c : Configured) (g : Setting) (s : State) (r : Request) (v : verdict.Verdict) (b : Based) → ServedIn told c g s → Rests told (said_of r v b) → b.config ≡ c → b.prepared ≡ [] → AllMet s b.needs
+    → Concludes g.world s (request_of r) b.refused b.prepared (verdict_of v)
+concludes_at told c g s r v b served rests config bare needs =
+    subst (λ (k : Setting). Concludes k.world s (request_of r) b.refused b.prepared (verdict_of v)) (sym served.setting)
+    (rests_concludes served.content c served.script s r v b (subst (λ (t : Option Content). Rests t (said_of r v b)) served.told_so rests) config bare (subst (λ (k : Setting). IsSound k s) served.setting served.sound) needs)
+
+-- the same of what stands
 pub stood_concludes : (told : Option Content) (c : Configured) (r : Request) (v : verdict.Verdict) (b : Based) (holds : Shown → Type 0) → Stood told c r v b holds → (g : Setting) (x : Shown) → ServedIn told c g (state_of x) → holds x
     → Concludes g.world (state_of x) (request_of r) b.refused b.prepared (verdict_of v)
-stood_concludes told c r v b holds stood g x served h =
-    subst (λ (k : Setting). Concludes k.world (state_of x) (request_of r) b.refused b.prepared (verdict_of v)) (sym served.setting)
-    (rests_concludes served.content c served.script (state_of x) r v b (subst (λ (t : Option Content). Rests t (said_of r v b)) served.told_so stood.rests) stood.config stood.unprepared
-    (subst (λ (k : Setting). IsSound k (state_of x)) served.setting served.sound) (stood.needs x h))
+stood_concludes told c r v b holds stood g x served h = concludes_at told c g (state_of x) r v b served stood.rests stood.config stood.unprepared (stood.needs x h)
 
 pub stood_answers : (told : Option Content) (c : Configured) (r : Request) (v : verdict.Verdict) (b : Based) (holds : Shown → Type 0) → Stood told c r v b holds → (g : Setting) (x : Shown) → ServedIn told c g (state_of x) → holds x
     → AnswersPlan g (state_of x) (request_of r) (verdict_of v)

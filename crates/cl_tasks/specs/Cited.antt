@@ -36,6 +36,7 @@ AsksTarget o asked.ArrayMember = o ≡ None
 AsksTarget o (asked.PrimitiveArray dims p) = ⊥
 AsksTarget o (asked.Class name) = o ≡ Some name
 
+-- the same of the text (5.4.3.2 to 5.4.3.4)
 pub record AsksMember (text : Name) (a : Asked) : Type 0 where
   pub target : FieldType
   pub named : named_type text ≡ Some target
@@ -59,4 +60,10 @@ pub record IsKind (o : Option Reference) (name : Name) (k : Kind) : Type 0 where
   pub target : FieldType
   pub key : Key
   pub refers : o ≡ Some (made_by k target key)
+  pub named : member_target target ≡ Some name
+
+-- a member is asked of what a text names, which is the class of a name, and no array (5.4.3.2 to 5.4.3.4)
+pub record TargetsClass (text name : Name) : Type 0 where
+  pub target : FieldType
+  pub is : named_type text ≡ Some target
   pub named : member_target target ≡ Some name

@@ -106,11 +106,15 @@ pub record IsItself (d c : Rowed) (dims : ℕ) (v : verdict.Verdict) : Type 0 wh
   pub ends : (r : Reference) → IsToClass dims r → EndsAtClass (class_accessible (file_of c.file).flags c.class d.class) r c.class (verdict_of v)
   pub settled : IsSettledKind v
 
+-- the entry at an index of the class of one lineage names that of the other (5.4.3.1)
+pub record Cites (own named : Lined) (index : ℕ) : Type 0 where
+  pub cited : Reference
+  pub found : reference (file_of own.own.file) index ≡ Some cited
+  pub names : class_named cited ≡ Some named.own.class.name
+
 -- the class that the entry names is not accessible to that whose pool has it (5.4.4)
 pub record IsRefusedAccess {A : Type 0} (e : entries.Entry A) (own named : Lined) : Type 0 where
-  pub cited : Reference
-  pub found : reference (file_of own.own.file) e.index ≡ Some cited
-  pub names : class_named cited ≡ Some named.own.class.name
+  pub cites : Cites own named e.index
   pub refused : class_accessible (file_of named.own.file).flags named.own.class own.own.class ≡ false
 
 -- the IllegalAccessError of the class of one lineage, with the rows of both (5.4.4)

@@ -196,6 +196,7 @@ pub record IsJob {A : Type 0} (told : Option Content) (c : Configured) (j : Job 
   pub for_request : IsFor j.request j.target j.path
   pub config : j.path.config ≡ c
   pub asked : loader_of j.request < length c.loaders
+  pub root : j.path.loader < length c.loaders
   pub loader : at_loader j.path < length c.loaders
 
 -- the search is for what is looked for, and has another loader to ask (5.3.2)
@@ -211,9 +212,14 @@ pub record IsHoming {A : Type 0} (j : Job A) (h : Located) : Type 0 where
   pub off : is_on j.path (class h.name h.place) ≡ false
   pub other : h.place ≢ at_loader j.path
 
+-- a job at its beginning: the request's own class is loaded, and nothing is derived yet (5.3)
+pub record IsFirst {A : Type 0} (j : Job A) : Type 0 where
+  pub own : target_facts j.request j.target ≡ []
+  pub alone : j.path.frames ≡ []
+
 -- what a load keeps (5.3, 5.3.5)
 abbrev pub IsLoading : {A : Type 0} → Option Content → Configured → Load A → Type 0
-IsLoading told c (loads.Fresh j) = IsJob told c j
+IsLoading told c (loads.Fresh j) = IsJob told c j × IsFirst j
 IsLoading told c (loads.Looking j) = IsJob told c j
 IsLoading told c (loads.Searching j s) = IsJob told c j × IsSearch j s
 IsLoading told c (loads.Homing j h) = IsJob told c j × IsHoming j h

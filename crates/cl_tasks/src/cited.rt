@@ -1,11 +1,10 @@
 //! What entries of a constant pool ask for (JVMS SE 8, 4.4.1, 4.4.2, 5.4.3).
 
-ghost use Rattle.std.specs.Prelude.{◌≡◌, Some, IfOk, IfSome, true};
-ghost use Rattle.cl_descriptors.specs.declared.types.FieldType as types;
-ghost use Rattle.cl_classfile.specs.Files.{file_of, named_type, reference};
+ghost use Rattle.std.specs.Prelude.{◌≡◌, Some, IfOk, IfSome};
+ghost use Rattle.cl_classfile.specs.Files.{file_of, is_array_name, named_type, reference};
 ghost use Rattle.cl_classfile.specs.Pool.{NamesType};
 ghost use Rattle.cl_model.specs.Plans.{member_target};
-ghost use Rattle.cl_tasks.specs.Cited.{AsksBy, AsksMember, IsKind, TellsEntry, TellsItself};
+ghost use Rattle.cl_tasks.specs.Cited.{AsksBy, AsksMember, IsKind, TargetsClass, TellsEntry, TellsItself};
 
 use cl_classfile::{ClassFile, Reference};
 use cl_descriptors::{Base, DescriptorFault, FieldType, read_field};
@@ -33,12 +32,22 @@ pub(crate) enum Kind {
     InterfaceMethod,
 }
 
+/// Whether a text is the name of an array: its descriptor.
+fn is_array_name(text: &[u8]) -> bool
+    ensures { result ≡ is_array_name text.now }
+{
+    match text {
+        [b'[', ..] => true,
+        _ => false,
+    }
+}
+
 /// The type that the text of a class or an array names.
 fn named_type(alloc: Global, text: &Name) -> Result<FieldType, AllocError>
     requires { NamesType text.now }
     ensures { IfOk result (λ t. named_type text.now ≡ Some t) }
 {
-    if text.bytes().first() != Some(&b'[') {
+    if !is_array_name(text.bytes()) {
         return Ok(FieldType {
             dims: 0,
             base: Base::Class(text.try_clone(alloc)?),
@@ -46,8 +55,10 @@ fn named_type(alloc: Global, text: &Name) -> Result<FieldType, AllocError>
     }
     match read_field(alloc, text.bytes()) {
         Ok(t) => Ok(t),
-        Err(DescriptorFault::Memory) => Err(AllocError),
-        Err(_) => unreachable!(),
+        Err(fault) => match fault {
+            DescriptorFault::Memory => Err(AllocError),
+            _ => unreachable!(),
+        },
     }
 }
 
@@ -114,15 +125,21 @@ pub(crate) fn itself_of(
     }
 }
 
-/// Whether a member is asked of the class of this name, which is no array.
-fn is_of(alloc: Global, text: &Name, name: &Name) -> Result<bool, AllocError>
+/// The kind of a member that is asked of what this text names, if that is the class of this name, and no array.
+fn asked_of_class(
+    alloc: Global,
+    text: &Name,
+    name: &Name,
+    kind: Kind,
+) -> Result<Option<Kind>, AllocError>
     requires { NamesType text.now }
-    ensures { IfOk result (λ b. b ≡ true → (t : types.FieldType) → named_type text.now ≡ Some t → member_target t ≡ Some name.now) }
+    ensures { IfOk result (λ o. IfSome o (λ k. (k ≡ kind) × TargetsClass text.now name.now)) }
 {
-    Ok(match target_of(named_type(alloc, text)?) {
-        Some(target) => target == *name,
-        None => false,
-    })
+    let t = named_type(alloc, text)?;
+    match target_of(t) {
+        Some(target) => Ok(if target == *name { Some(kind) } else { None }),
+        None => Ok(None),
+    }
 }
 
 /// The kind of member that an entry asks of the class of this name, if it asks for one of it.
@@ -134,11 +151,12 @@ pub(crate) fn kind_of(
 ) -> Result<Option<Kind>, AllocError>
     ensures { IfOk result (λ o. IfSome o (IsKind (reference (file_of file.now) index) name.now)) }
 {
-    let (text, kind) = match file.reference(index) {
-        Some(Reference::Field(symbol)) => (symbol.class, Kind::Field),
-        Some(Reference::Method(symbol)) => (symbol.class, Kind::Method),
-        Some(Reference::InterfaceMethod(symbol)) => (symbol.class, Kind::InterfaceMethod),
-        _ => return Ok(None),
-    };
-    Ok(is_of(alloc, text, name)?.then_some(kind))
+    match file.reference(index) {
+        Some(Reference::Field(symbol)) => asked_of_class(alloc, symbol.class, name, Kind::Field),
+        Some(Reference::Method(symbol)) => asked_of_class(alloc, symbol.class, name, Kind::Method),
+        Some(Reference::InterfaceMethod(symbol)) => {
+            asked_of_class(alloc, symbol.class, name, Kind::InterfaceMethod)
+        }
+        _ => Ok(None),
+    }
 }

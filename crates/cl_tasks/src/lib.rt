@@ -16,7 +16,6 @@ mod resolution_replies;
 mod search;
 mod stage;
 mod step;
-mod stub;
 mod task;
 mod turn;
 

@@ -1,8 +1,10 @@
 //! A request to link a class that is recorded: each class of its lineage in order, its loading constraints one by one, and
 //! then that it is prepared (JVMS SE 8, 5.4, 5.4.2).
 
-ghost use Rattle.std.specs.Prelude.{◌≡◌, ◌<◌, ◌≤◌, ◌+◌, ◌-◌, Some, IfOk, length, true};
-ghost use Rattle.cl_hierarchy.specs.Imposed.{OfPreparation};
+ghost use Rattle.std.specs.Option.{option_map};
+ghost use Rattle.std.specs.Prelude.{◌≡◌, ◌<◌, ◌≤◌, ◌+◌, ◌-◌, Some, IfOk, length, slice_get, true};
+ghost use Rattle.cl_findings.specs.Bases.{AreLineages};
+ghost use Rattle.cl_hierarchy.specs.Imposed.{AreOf, OfPreparation, needs_of};
 ghost use Rattle.cl_hierarchy.specs.Lineages.{rows_in};
 ghost use Rattle.cl_model.specs.Views.{need_of};
 ghost use Rattle.cl_model.specs.declared.answer.Answer.TheVariants as answers;
@@ -19,7 +21,7 @@ use crate::stage::{Chain, Goal, Link, Next, Stage};
 use crate::turn::Turn;
 use cl_config::Config;
 use cl_findings::Finding;
-use cl_hierarchy::{Equalities, Lineage};
+use cl_hierarchy::{ClassRow, Equalities, Lineage, Origin};
 use cl_model::{Class, Need, Told};
 use cl_preparation::constraints_of;
 use std::alloc::{AllocError, Global};
@@ -85,6 +87,8 @@ pub(crate) fn take_whole<T: Told>(
         (WholeTold goal whole.value) result }
     ensures plain { IsPlain result.turn }
 {
+    // brings that a `usize` counts them
+    let _ = count_rows(&whole);
     trace(
         alloc,
         config,
@@ -96,11 +100,29 @@ pub(crate) fn take_whole<T: Told>(
     )
 }
 
+/// How many classes stand above the class of a lineage.
+fn count_rows<T: Told>(whole: &Lineage<T>) -> usize
+    ensures { result ≡ length whole.now.above }
+{
+    whole.above().len()
+}
+
+/// The row at a place of a lineage, if there is one.
+pub(crate) fn row_at<T: Told>(whole: &Lineage<T>, place: usize) -> Option<&Arc<ClassRow<T>>>
+    ensures { option_map (λ r. r.now.value) result ≡ slice_get (rows_in whole.now) place }
+{
+    let above = whole.above();
+    if place == above.len() {
+        return Some(whole.own());
+    }
+    above.get(place)
+}
+
 /// The class at a place of a lineage; the class itself stands last.
 fn class_at<T: Told>(alloc: Global, whole: &Lineage<T>, place: usize) -> Result<Class, AllocError>
     ensures { IfOk result (λ c. c ≡ class_in whole.now place) }
 {
-    match whole.above().get(place) {
+    match row_at(whole, place) {
         Some(row) => row.class().try_clone(alloc),
         None => whole.class().try_clone(alloc),
     }
@@ -137,7 +159,11 @@ pub(crate) fn take_traced<T: Told>(
 {
     match list_of(alloc, &lineage) {
         Err(_) => give_up(chain),
-        Ok(list) => impose(alloc, config, chain, list, 0),
+        Ok(list) => {
+            // brings that a `usize` counts them
+            let _ = count_needs(&list);
+            impose(alloc, config, chain, list, 0)
+        }
     }
 }
 
@@ -150,6 +176,29 @@ fn list_of<T: Told>(
 {
     let list = constraints_of(alloc, lineage)?;
     Arc::new(alloc, list).map_err(|_| AllocError)
+}
+
+/// How many equalities a list has.
+pub(crate) fn count_needs<T: Told>(list: &Equalities<T>) -> usize
+    ensures { result ≡ length list.now.needs }
+{
+    list.needs().len()
+}
+
+/// Brings what a list keeps, and that the lineages that it was made from are those of their world.
+pub(crate) fn bring_list<T: Told>(list: &Equalities<T>)
+    ensures kept { AreOf list.now.origin (needs_of list.now.needs) }
+    ensures lineages { AreLineages T.told list.now.origin }
+{
+    match list.origin() {
+        Origin::Reference { d, c, .. } => {
+            let _ = d.class();
+            let _ = c.class();
+        }
+        Origin::Preparation { lineage } => {
+            let _ = lineage.class();
+        }
+    }
 }
 
 /// Imposes the equality at this place of a list, or marks the class as prepared where none is left.
@@ -168,10 +217,13 @@ pub(crate) fn impose<T: Told>(
         (ListTold chain list.value place) result }
     ensures plain { IsPlain result.turn }
 {
+    // brings what the lineage and the list keep
+    let _ = chain.whole.class();
+    bring_list(&list);
     let Ok(shared) = Arc::try_clone(&list) else {
         return give_up(chain);
     };
-    if place < list.needs().len() {
+    if place < count_needs(&list) {
         Next {
             stage: Stage::Link(Link::Imposing(chain, list, place)),
             turn: Turn::Impose(shared, place),
@@ -196,7 +248,7 @@ pub(crate) fn take_marked<T: Told>(
     ensures plain { IsPlain result.turn }
 {
     let Chain { goal, whole, place } = chain;
-    if place >= whole.above().len() {
+    if place >= count_rows(&whole) {
         return linked(alloc, config, goal);
     }
     trace(
@@ -226,13 +278,14 @@ pub(crate) fn refuse_link<T: Told>(
     ensures plain { IsPlain result.turn }
     ensures ends { EndsAsRefused chain.goal.request need result.turn }
 {
+    // brings what the lineage and the list keep
+    let _ = chain.whole.class();
+    bring_list(&list);
     let Chain {
         goal,
         whole,
         place: at,
     } = chain;
     let finding = Finding::refused_link(goal.request, whole, at, list, place, need);
-    // brings what a finding rests on
-    let _ = finding.answer();
     post(goal.q, finding)
 }

@@ -7,7 +7,7 @@ ghost use Rattle.cl_tasks.specs.Turns.{Expects};
 
 use crate::leads::out_of_memory;
 use crate::link::{
-    give_up, impose, refuse_link, take_marked, take_prepared, take_traced, take_whole,
+    count_needs, give_up, impose, refuse_link, take_marked, take_prepared, take_traced, take_whole,
 };
 use crate::stage::{Chain, Goal, Link, Next};
 use crate::turn::Reply;
@@ -88,6 +88,8 @@ pub(crate) fn imposed<T: Told>(
     ensures { Steps T.told
         (linking_at config.now.value (Link.Imposing chain list place)) reply result }
 {
+    // brings that a `usize` counts them
+    let _ = count_needs(&list);
     match reply {
         Reply::Imposed => impose(alloc, config, chain, list, place + 1),
         Reply::Refused(need) => refuse_link(config, chain, list, place, need),

@@ -3,7 +3,7 @@
 ghost use Rattle.cl_findings.specs.Loads.{IsSought, IsWhole};
 ghost use Rattle.cl_hierarchy.specs.Paths.{at_loader};
 ghost use Rattle.std.specs.Prelude.{◌≢◌};
-ghost use Rattle.cl_tasks.specs.Stages.{IsHoming, IsJob, IsSearch, loading_at};
+ghost use Rattle.cl_tasks.specs.Stages.{IsFirst, IsHoming, IsJob, IsSearch, loading_at};
 ghost use Rattle.cl_tasks.specs.Steps.{Steps};
 ghost use Rattle.cl_tasks.specs.Turns.{Expects};
 
@@ -24,6 +24,7 @@ use std::sync::Arc;
 /// The first turn.
 pub(crate) fn begin<T: Told>(alloc: Global, job: Job<T>, reply: Reply<T>) -> Next<T>
     requires job { IsJob T.told job.path.config job }
+    requires first { IsFirst job }
     requires expects { Expects (loading_at job.path.config (Load.Fresh job)) reply }
     ensures { Steps T.told (loading_at job.path.config (Load.Fresh job)) reply result }
 {
@@ -109,6 +110,8 @@ pub(crate) fn defined<T: Told>(
     requires expects { Expects (loading_at config.now.value (Load.Defining job whole)) reply }
     ensures { Steps T.told (loading_at config.now.value (Load.Defining job whole)) reply result }
 {
+    // brings what a draft keeps
+    let _ = whole.draft().home();
     match reply {
         Reply::Defined(row) => take_defined(alloc, config, job, whole, row),
         Reply::Refused(need) => refuse(alloc, job, NextRecord::Define(whole), need),

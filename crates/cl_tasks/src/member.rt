@@ -11,13 +11,14 @@ ghost use Rattle.cl_model.specs.Views.{need_of, verdict_of};
 ghost use Rattle.cl_tasks.specs.Cited.{IsKind};
 ghost use Rattle.cl_tasks.specs.Follows.{EndsAsRefused};
 ghost use Rattle.cl_tasks.specs.Measures.{imposing_left, tracing_named_left, tracing_own_left};
-ghost use Rattle.cl_tasks.specs.Resolving.{ImposedTold, IsInaccessible, IsRefusedAccess, NamedTold, OwnTold, RefusedTold, TracedTold};
+ghost use Rattle.cl_tasks.specs.Resolving.{Cites, ImposedTold, IsInaccessible, IsRefusedAccess, NamedTold, OwnTold, RefusedTold, TracedTold};
 ghost use Rattle.cl_tasks.specs.Stages.{IsEntry, IsMember, IsOf};
 ghost use Rattle.cl_tasks.specs.Steps.{IsPlain, LeadsBy, memory_ends};
 ghost use Rattle.cl_tasks.specs.Turns.{equality_at};
 
 use crate::cited::{Kind, kind_of};
 use crate::leads::{out_of_memory, settle};
+use crate::link::{bring_list, count_needs};
 use crate::stage::{Entry, Member, Next, Resolution, Stage};
 use crate::turn::Turn;
 use cl_classfile::Reference;
@@ -179,16 +180,20 @@ fn find<T: Told>(
         Err(fault) => settle_fault(alloc, config, entry, own, named, fault),
         Ok(found) => match equalities_of(alloc, &found) {
             Err(_) => out_of_memory(entry.q, entry.request),
-            Ok(equalities) => impose(
-                alloc,
-                config,
-                Member {
-                    entry,
-                    found,
-                    equalities,
-                },
-                0,
-            ),
+            Ok(equalities) => {
+                // brings that a `usize` counts them
+                let _ = count_needs(&equalities);
+                impose(
+                    alloc,
+                    config,
+                    Member {
+                        entry,
+                        found,
+                        equalities,
+                    },
+                    0,
+                )
+            }
         },
     }
 }
@@ -237,6 +242,7 @@ fn settle_fault<T: Told>(
     requires entry { IsEntry config.now.value entry }
     requires own { IsOf config.now.value entry.d.value.class own.value }
     requires goes { GoesTo entry.request own.value named.value entry.index }
+    requires cites { Cites own.value named.value entry.index }
     requires lookup { Answers own.value named.value entry.index (Err fault) }
     ensures leads { LeadsBy T.told config.now.value entry.q entry.request tracing_named_left
         (TracedTold entry own.value named.value) result }
@@ -275,7 +281,9 @@ pub(crate) fn impose<T: Told>(
         (ImposedTold member place) result }
     ensures plain { IsPlain result.turn }
 {
-    if place >= member.equalities.needs().len() {
+    // brings what the list keeps
+    bring_list(&member.equalities);
+    if place >= count_needs(&member.equalities) {
         return settle_member(alloc, config, member);
     }
     match Arc::try_clone(&member.equalities) {
@@ -311,6 +319,8 @@ fn settle_member<T: Told>(alloc: Global, config: &Arc<Config>, member: Member<T>
         found,
         equalities,
     } = member;
+    // brings what is kept of what was found
+    let _ = found.index();
     match (entry.try_clone(alloc), verdict_of(alloc, &found)) {
         (Ok(kept), Ok(verdict)) => {
             let finding = Finding::member(entry.request, &found, equalities, verdict);

@@ -6,6 +6,7 @@ ghost use Rattle.cl_tasks.specs.Steps.{Steps};
 ghost use Rattle.cl_tasks.specs.Turns.{Expects};
 
 use crate::leads::{out_of_memory, post};
+use crate::link::count_needs;
 use crate::member::{give_up, impose, refuse_member, take_class, take_own};
 use crate::reach::reach_own;
 use crate::reference::take_reference;
@@ -131,6 +132,8 @@ pub(crate) fn imposed<T: Told>(
     ensures { Steps T.told
         (resolving_at config.now.value (Resolution.Imposing member place)) reply result }
 {
+    // brings that a `usize` counts them
+    let _ = count_needs(&member.equalities);
     match reply {
         Reply::Imposed => impose(alloc, config, member, place + 1),
         Reply::Refused(need) => refuse_member(alloc, config, member, place, need),

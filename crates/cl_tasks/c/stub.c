@@ -1,1 +1,0 @@
-unsigned stub_of_tasks(void) { for (;;) {} }

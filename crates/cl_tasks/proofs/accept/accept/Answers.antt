@@ -1,0 +1,15 @@
+use Rattle.cl_tasks.proofs.Onward.{accepts_last, accepts_next, job_with, leads_complete, leads_next}
+use Rattle.cl_tasks.proofs.accept.accept.Goals as goal
+
+pub look-requires : goal.look-requires
+look-requires g c = record { job = job_with g.T.Told.told c.args.job c.accept.new.self _ c.requires.job c.at_name-2.ensures.path (accepts_next _ _ _ _ c.in-None.is c.in-Ok.ensures.accepted).now }
+
+pub returns-in-None-clause-leads : goal.returns-in-None-clause-leads
+returns-in-None-clause-leads g c =
+    leads_next g.T.Told.told c.args.job c.args.row.now c.accept.new.self _ c.at_name.ensures.path c.requires.fits (accepts_next _ _ _ _ c.in-None.is c.in-Ok.ensures.accepted) c.look.ensures.leads
+
+pub returns-in-Some-clause-leads : goal.returns-in-Some-clause-leads
+returns-in-Some-clause-leads g c =
+    let last = accepts_last _ _ _ _ _ c.in-Some.is c.in-Ok.ensures.accepted in
+    leads_complete g.T.Told.told c.args.job c.args.row.now c.accept.new.self c.in-Some.whole _ (job_with g.T.Told.told c.args.job c.accept.new.self _ c.requires.job c.at_name-2.ensures.path last.now) c.at_name.ensures.path c.at_name-2.ensures.path c.class.ensures.spelt c.requires.name
+    c.requires.fits last c.define.ensures

@@ -268,7 +268,7 @@ pub record OwnFails (told : Option Content) (c : Configured) (r : Request) (v : 
   pub record_is : IsRecordIn b.refused
 
 -- where its load fails, the class of a request is not recorded
-unrecorded : (g : Setting) (s : State) (l : ℕ) (n : List ℕ) (v : verdict.Verdict) → IsSound g s → IsFailure v → AnswersPlan g s (plans.Load l n) (verdict_of v) → recorded s.records l n ≡ None
+pub unrecorded : (g : Setting) (s : State) (l : ℕ) (n : List ℕ) (v : verdict.Verdict) → IsSound g s → IsFailure v → AnswersPlan g s (plans.Load l n) (verdict_of v) → recorded s.records l n ≡ None
 unrecorded g s l n v sound failure answer = step (recorded s.records l n) refl
   where
     step : (o : Option ℕ) → recorded s.records l n ≡ o → o ≡ None

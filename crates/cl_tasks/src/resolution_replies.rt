@@ -44,6 +44,10 @@ pub(crate) fn checked<T: Told>(
             reach_own(alloc, q, request, row)
         }
         Reply::Looked(None) => {
+            // no load ends in a verdict that names another configuration's loader
+            if !finding.is_within(config) {
+                return out_of_memory(q, request);
+            }
             // brings what a finding rests on
             let _ = finding.answer();
             post(q, finding)

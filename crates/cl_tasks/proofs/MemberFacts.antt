@@ -1,39 +1,36 @@
 -- What a resolution that asks for a member was told, and what follows of it.
-use Rattle.std.proofs.Common.{◌≡◌, ◌≢◌, ◌∙◌, ◌<◌, ◌+◌, ℕ, zero, suc, Bool, true, false, List, [], ◌∷◌, ◌++◌, length, map, Option, Some, None, refl, sym, ap, subst, arith}
-use Rattle.std.specs.Prelude.{Err, find, if◌then◌else◌, take, IfSome}
+use Rattle.std.proofs.Common.{◌≡◌, ◌≢◌, ◌∙◌, ◌<◌, ℕ, zero, suc, Bool, true, false, List, [], ◌∷◌, length, Some, refl, sym, ap, subst, arith}
+use Rattle.std.specs.Prelude.{Err, find, if◌then◌else◌, take}
 use Rattle.std.specs.List.{AllByRecursion}
 use Rattle.std.proofs.lemmas.List.{length-map}
 use Rattle.cl_classfile.specs.Files.{Reference, ToClass, ToField, ToMethod, ToInterfaceMethod, file_of, reference}
 use Rattle.cl_model.specs.declared.class.Class.{Class}
-use Rattle.cl_model.specs.declared.request.Request.{Request}
 use Rattle.cl_model.specs.declared.verdict.Verdict as verdict
 use Rattle.cl_model.specs.declared.verdict.Verdict.TheVariants as verdicts
-use Rattle.cl_model.specs.States.{State, Need, Verdict, AllMet, IsField, IsMethod, Refused, recorded}
+use Rattle.cl_model.specs.States.{State, Need, AllMet, IsField, IsMethod}
 use Rattle.cl_model.specs.Texts.{VerdictNames}
 use Rattle.cl_model.specs.Views.{verdict_of}
 use Rattle.cl_model.proofs.Bind.{some_same}
 use Rattle.cl_config.specs.Views.{Configured}
-use Rattle.cl_hierarchy.specs.Imposed.{Listed, OfReference, Sprung, equal_need, needs_of}
-use Rattle.cl_hierarchy.specs.Lineages.{IsRowIn, Lined, kin_of, rows_in}
+use Rattle.cl_hierarchy.specs.Imposed.{Listed, equal_need, needs_of}
+use Rattle.cl_hierarchy.specs.Lineages.{IsRowIn, Lined, rows_in}
 use Rattle.cl_hierarchy.specs.Rows.{Rowed}
 use Rattle.cl_members.specs.Asking.{IsDeniedIn, IsLocated, Located, asked_key}
 use Rattle.cl_members.specs.Asking as asking
 use Rattle.cl_members.specs.declared.fault.LookupFault.{LookupFault}
 use Rattle.cl_members.specs.declared.fault.LookupFault.TheVariants as faults
-use Rattle.cl_findings.specs.Findings.{loader_of}
-use Rattle.cl_findings.specs.References.{AreAsked, GoesTo, IsOfFound, config_of, fault_verdict, reference_needs, sprung_needs}
-use Rattle.cl_registry.specs.Tables.{Shown, NamesLoaders, records_of, state_of}
+use Rattle.cl_findings.specs.References.{IsOfFound, fault_verdict, reference_needs}
+use Rattle.cl_registry.specs.Tables.{Shown, NamesLoaders, state_of}
 use Rattle.cl_registry.specs.Traced.{IsRowOf, IsTraced}
 use Rattle.cl_registry.proofs.Named.{recorded_is_named}
 use Rattle.cl_tasks.specs.Cited.{IsKind}
-use Rattle.cl_tasks.specs.Facts.{AreSo}
-use Rattle.cl_tasks.specs.Resolving.{Cites, EntryTold, ImposedTold, IsSame, OwnTold, TracedTold}
-use Rattle.cl_tasks.specs.Stages.{IsEntry, IsMember, IsOf, imposed_facts, member_facts}
+use Rattle.cl_tasks.specs.Resolving.{Cites, EntryTold, ImposedTold, IsSame, TracedTold}
+use Rattle.cl_tasks.specs.Stages.{IsEntry, IsMember, IsOf}
 use Rattle.cl_tasks.specs.declared.cited.Kind.{Kind}
 use Rattle.cl_tasks.specs.declared.cited.Kind.TheVariants as kinds
 use Rattle.cl_tasks.specs.declared.stage.Entry as entries
 use Rattle.cl_tasks.specs.declared.stage.Member.{Member}
-use Rattle.cl_tasks.proofs.Facts.{all_both, met_stand, stand_met}
+use Rattle.cl_tasks.proofs.Facts.{met_stand, stand_met}
 use Rattle.cl_tasks.proofs.LinkFacts.{traced_own}
 
 -- ---- entries

@@ -1,16 +1,14 @@
 -- What the resolution of an entry that asks for a member leads to (JVMS SE 8, 5.4.3.2 to 5.4.3.4).
-use Rattle.std.proofs.Common.{Global, ◌≡◌, ◌≢◌, ◌∙◌, ◌<◌, ◌≤◌, ◌+◌, ◌-◌, ℕ, List, [], ◌∷◌, ◌++◌, length, map, Option, Some, None, Err, refl, sym, ap, subst, arith}
+use Rattle.std.proofs.Common.{Global, ◌≡◌, ◌≢◌, ◌∙◌, ◌<◌, ◌≤◌, ◌+◌, ◌-◌, ℕ, List, ◌++◌, length, Option, Some, Err, refl, sym, ap, subst, arith}
 use Rattle.std.specs.Prelude.{slice_get, take, option_map, IfSome}
 use Rattle.std.proofs.lemmas.Option.{slice_get-map}
 use Rattle.std.specs.declared.sync.Arc.{Arc}
-use Rattle.cl_classfile.specs.Files.{file_of, reference}
 use Rattle.cl_model.specs.declared.answer.Answer.TheVariants as answers
 use Rattle.cl_model.specs.declared.class.Class.{Class}
 use Rattle.cl_model.specs.declared.need.Equality.{Equality}
 use Rattle.cl_model.specs.declared.need.Need as rust
 use Rattle.cl_model.specs.declared.need.Need.TheVariants as needs
 use Rattle.cl_model.specs.declared.request.Request.{Request}
-use Rattle.cl_model.specs.declared.request.Request.TheVariants as requests
 use Rattle.cl_model.specs.declared.verdict.ErrorKind.TheVariants as kinds
 use Rattle.cl_model.specs.declared.verdict.Verdict as verdict
 use Rattle.cl_model.specs.declared.verdict.Verdict.TheVariants as verdicts
@@ -18,45 +16,41 @@ use Rattle.cl_model.specs.Content.{Content}
 use Rattle.cl_model.specs.Machine.{Setting, step_for}
 use Rattle.cl_model.specs.Plans as plans
 use Rattle.cl_model.specs.Service.{IsNextNeed, IsNextStep}
-use Rattle.cl_model.specs.States.{State, Need, AllMet, IsRecorded, Linkage, MayAdd, Refused, recorded}
+use Rattle.cl_model.specs.States.{Need, AllMet, IsRecorded}
 use Rattle.cl_model.specs.Tables.{IsConsistent}
-use Rattle.cl_model.specs.Texts.{NeedNames, VerdictNames}
+use Rattle.cl_model.specs.Texts.{VerdictNames}
 use Rattle.cl_model.specs.Views.{need_of, request_of, verdict_of}
 use Rattle.cl_model.proofs.Service.{need_next, resolve_wants}
 use Rattle.cl_config.specs.Views.{Configured}
-use Rattle.cl_hierarchy.specs.Imposed.{AreOf, Listed, OfReference, Sprung, equal_need, needs_of}
-use Rattle.cl_hierarchy.specs.Lineages.{Lined, kin_of}
+use Rattle.cl_hierarchy.specs.Imposed.{AreOf, Listed, Sprung, equal_need, needs_of}
+use Rattle.cl_hierarchy.specs.Lineages.{Lined}
 use Rattle.cl_hierarchy.specs.Rows.{Rowed}
 use Rattle.cl_members.specs.Asking.{IsDeniedIn, IsLocated}
 use Rattle.cl_members.specs.declared.fault.LookupFault.{LookupFault}
 use Rattle.cl_findings.specs.Bases.{AreLineages}
-use Rattle.cl_findings.specs.Findings.{Answered, Based, Concludes, Rests, loader_of}
-use Rattle.cl_findings.specs.References.{AreAsked, GoesTo, IsOfFound, asked_basis, class_basis, config_of, fault_verdict, index_of, member_basis, reference_needs, sprung_needs}
+use Rattle.cl_findings.specs.Findings.{Answered, Based, Rests, loader_of}
+use Rattle.cl_findings.specs.References.{AreAsked, IsOfFound, asked_basis, class_basis, config_of, fault_verdict, member_basis, reference_needs, sprung_needs}
 use Rattle.cl_findings.proofs.References.{asked_rests}
 use Rattle.cl_registry.specs.Imposing.{IsNextOf, IsReached, IsStanding, MayImpose, StandsFor}
-use Rattle.cl_registry.specs.Tables.{NamesLoaders, Shown, records_of, state_of}
-use Rattle.cl_registry.specs.Traced.{IsTraced}
-use Rattle.cl_tasks.specs.Facts.{AreSo, Holds}
+use Rattle.cl_registry.specs.Tables.{NamesLoaders, Shown, state_of}
 use Rattle.cl_tasks.specs.Follows.{IsWanted, ServedIn}
 use Rattle.cl_tasks.specs.Measures.{imposing_left, most, tracing_named_left, tracing_own_left}
-use Rattle.cl_tasks.specs.Resolving.{EntryTold, ImposedTold, IsInaccessible, IsSame, NamedTold, OwnTold, RefusedTold, TracedTold}
-use Rattle.cl_tasks.specs.Stages.{IsEntry, IsMember, IsOf, imposed_facts, member_facts}
+use Rattle.cl_tasks.specs.Resolving.{EntryTold, ImposedTold, IsInaccessible, IsSame, OwnTold, RefusedTold, TracedTold}
+use Rattle.cl_tasks.specs.Stages.{IsEntry, IsMember, IsOf}
 use Rattle.cl_tasks.specs.Steps.{LeadsBy}
-use Rattle.cl_tasks.specs.Turns.{equality_at}
 use Rattle.cl_tasks.specs.declared.member.Inaccessible.{Inaccessible}
 use Rattle.cl_tasks.specs.declared.stage.Entry as entries
 use Rattle.cl_tasks.specs.declared.stage.Member.{Member}
-use Rattle.cl_tasks.specs.declared.stage.Next.{Next}
 use Rattle.cl_tasks.specs.declared.stage.Resolution.TheVariants as resolutions
 use Rattle.cl_tasks.specs.declared.stage.Stage.TheVariants as stages
 use Rattle.cl_tasks.specs.declared.turn.Turn.TheVariants as turn
 use Rattle.cl_tasks.specs.Waits as waits
 use Rattle.cl_tasks.proofs.Entries.{leads_settles}
 use Rattle.cl_tasks.proofs.Facts.{met_both}
-use Rattle.cl_tasks.proofs.LinkFacts.{taken_more, within_some}
+use Rattle.cl_tasks.proofs.LinkFacts.{within_some}
 use Rattle.cl_tasks.proofs.LinkNamed.{refused_named}
-use Rattle.cl_tasks.proofs.MemberFacts.{all_taken, fault_of, found_owner, member_entry, member_imposed, member_needs, member_own, member_through, own_within, row_within, same_entry, same_told, traced_as, traced_entry, traced_needs}
-use Rattle.cl_tasks.proofs.Said.{Settling, Stood, concludes_at, found_is, said_of}
+use Rattle.cl_tasks.proofs.MemberFacts.{all_taken, fault_of, found_owner, member_entry, member_imposed, member_needs, member_through, own_within, row_within, same_entry, same_told, traced_as, traced_entry, traced_needs}
+use Rattle.cl_tasks.proofs.Said.{Settling, Stood, concludes_at, found_is}
 
 -- an entry is settled to what a finding says, where that stands
 pub leads_settle : {A : Type 0} (told : Option Content) (c : Configured) (e kept : entries.Entry A) (f : Answered) (v : verdict.Verdict) (b : Based) (room : ℕ) (holds : Shown → Type 0) → IsEntry c e → IsSame e kept

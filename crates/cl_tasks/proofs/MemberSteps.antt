@@ -1,5 +1,5 @@
 -- What the resolution of an entry that asks for a member does on a reply.
-use Rattle.std.proofs.Common.{Global, ◌≡◌, ◌∙◌, ◌<◌, ◌≤◌, ◌+◌, ◌-◌, ℕ, List, [], ◌∷◌, ◌++◌, length, Option, Some, None, inl, refl, sym, ap, subst, arith}
+use Rattle.std.proofs.Common.{Global, ◌≡◌, ◌∙◌, ◌<◌, ◌≤◌, ◌+◌, ◌-◌, ℕ, [], ◌∷◌, ◌++◌, length, Option, Some, None, inl, refl, sym, ap, subst, arith}
 use Rattle.std.specs.Prelude.{slice_get, take, option_map, IfSome}
 use Rattle.std.proofs.lemmas.Option.{slice_get-map}
 use Rattle.std.specs.declared.sync.Arc.{Arc}
@@ -11,21 +11,20 @@ use Rattle.cl_model.specs.declared.request.Request.{Request}
 use Rattle.cl_model.specs.declared.request.Request.TheVariants as requests
 use Rattle.cl_model.specs.declared.settled.Settled.{Settled}
 use Rattle.cl_model.specs.Content.{Content}
-use Rattle.cl_model.specs.States.{Need, AllMet, Met, recorded}
+use Rattle.cl_model.specs.States.{AllMet, Met, recorded}
 use Rattle.cl_model.specs.Views.{need_of}
 use Rattle.cl_config.specs.Views.{Configured}
 use Rattle.cl_hierarchy.specs.Imposed.{Listed, equal_need, needs_of}
 use Rattle.cl_hierarchy.specs.Lineages.{Lined}
 use Rattle.cl_hierarchy.specs.Rows.{Rowed}
 use Rattle.cl_findings.specs.Findings.{loader_of}
-use Rattle.cl_findings.specs.References.{reference_needs}
 use Rattle.cl_findings.proofs.Stood.{all_met, met_all}
 use Rattle.cl_registry.specs.References.{IsSettledIn}
 use Rattle.cl_registry.specs.Tables.{Shown, records_of, state_of}
 use Rattle.cl_tasks.specs.Facts.{AreSo}
 use Rattle.cl_tasks.specs.Follows.{EndsAsRefused, IsSettledOf, Tells, TellsNow}
 use Rattle.cl_tasks.specs.Measures.{imposing_left, settling_left, tracing_named_left, tracing_own_left}
-use Rattle.cl_tasks.specs.Resolving.{EntryTold, ImposedTold, OwnTold, RefusedTold, TracedTold}
+use Rattle.cl_tasks.specs.Resolving.{ImposedTold, OwnTold, RefusedTold, TracedTold}
 use Rattle.cl_tasks.specs.Stages.{IsEntry, named_facts, resolving_at}
 use Rattle.cl_tasks.specs.Steps.{IsPlain, LeadsBy, Steps}
 use Rattle.cl_tasks.specs.Tasks.{HasLineage}
@@ -63,10 +62,10 @@ pub named_steps : {A : Type 0} (told : Option Content) (c : Configured) (e : ent
     → LeadsBy told c e.q e.request tracing_named_left (TracedTold e own.value named.value) n → IsPlain n.turn → Steps told (resolving_at c (resolutions.TracingNamed e own k)) (reply.Lineage named) n
 named_steps {A = A} told c e own k named n is l plain =
     let tells : (x : Shown) → Tells {A = A} x (resolving_at c (resolutions.TracingNamed e own k)) (reply.Lineage named) → TracedTold e own.value named.value x =
-        λ x h. record {
-          before = subst (λ (j : Class). AreSo x (named_facts e.request e.d.value.class j ++ HasLineage own.value ∷ [])) (sym is) h.before.facts;
-          now = traced_as x k.value.class named.value h.now;
-        } in
+    λ x h. record {
+      before = subst (λ (j : Class). AreSo x (named_facts e.request e.d.value.class j ++ HasLineage own.value ∷ [])) (sym is) h.before.facts;
+      now = traced_as x k.value.class named.value h.now;
+    } in
     record {
       leads = leads_more tracing_named_left (λ x. Tells {A = A} x (resolving_at c (resolutions.TracingNamed e own k)) (reply.Lineage named)) (λ x. TellsNow {A = A} x (resolving_at c (resolutions.TracingNamed e own k)) (reply.Lineage named)) l
           (same_room tracing_named_left) tells (λ x h. tells x h.told);

@@ -25,9 +25,7 @@ use cl_classfile::Reference;
 use cl_config::Config;
 use cl_findings::Finding;
 use cl_hierarchy::{ClassRow, Equalities, Lineage, class_accessible};
-use cl_members::{
-    Found, LookupFault, equalities, find_field, find_interface_method, find_method,
-};
+use cl_members::{Found, LookupFault, equalities, find_field, find_interface_method, find_method};
 use cl_model::{Class, ErrorKind, Need, Told, Verdict};
 use std::alloc::{AllocError, Global};
 use std::sync::Arc;
@@ -126,10 +124,18 @@ fn refuse_access<T: Told>(
         (TracedTold entry own.now named.now) result }
     ensures plain { IsPlain result.turn }
 {
-    match (entry.try_clone(alloc), inaccessible_of(alloc, config, own, named)) {
+    match (
+        entry.try_clone(alloc),
+        inaccessible_of(alloc, config, own, named),
+    ) {
         (Ok(kept), Ok(end)) => {
-            let finding =
-                Finding::class_entry(entry.request, end.config, end.d, end.named, end.verdict);
+            let finding = Finding::class_entry(
+                entry.request,
+                end.config,
+                end.d,
+                end.named,
+                end.verdict,
+            );
             // brings what a finding rests on
             let _ = finding.answer();
             settle(kept, finding)
@@ -199,10 +205,7 @@ fn find<T: Told>(
 }
 
 /// The loading constraints of a member, to be shared.
-fn equalities_of<T: Told>(
-    alloc: Global,
-    found: &Found<T>,
-) -> Result<Arc<Equalities<T>>, AllocError>
+fn equalities_of<T: Told>(alloc: Global, found: &Found<T>) -> Result<Arc<Equalities<T>>, AllocError>
     ensures { IfOk result (λ e. e.value.origin ≡ OfReference found.now.d found.now.c
         found.now.index) }
 {
@@ -211,11 +214,7 @@ fn equalities_of<T: Told>(
 }
 
 /// The error of a lookup that found nothing; want of memory is none.
-fn error_of(
-    alloc: Global,
-    class: &Class,
-    fault: LookupFault,
-) -> Result<Verdict, AllocError>
+fn error_of(alloc: Global, class: &Class, fault: LookupFault) -> Result<Verdict, AllocError>
     ensures { IfOk result (λ v. fault_verdict class.now fault ≡ Some v) }
 {
     let kind = match fault {
@@ -248,7 +247,10 @@ fn settle_fault<T: Told>(
         (TracedTold entry own.value named.value) result }
     ensures plain { IsPlain result.turn }
 {
-    match (entry.try_clone(alloc), error_of(alloc, named.class(), fault)) {
+    match (
+        entry.try_clone(alloc),
+        error_of(alloc, named.class(), fault),
+    ) {
         (Ok(kept), Ok(verdict)) => {
             let finding = Finding::member_fault(entry.request, own, named, verdict);
             // brings what a finding rests on
@@ -348,7 +350,9 @@ pub(crate) fn refuse_member<T: Told>(
     ensures ends { EndsAsRefused member.entry.request need result.turn }
 {
     let Member {
-        entry, equalities, ..
+        entry,
+        equalities,
+        ..
     } = member;
     match entry.try_clone(alloc) {
         Err(_) => out_of_memory(entry.q, entry.request),

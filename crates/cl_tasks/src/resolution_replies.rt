@@ -147,11 +147,7 @@ pub(crate) fn imposed<T: Told>(
 }
 
 /// The entry was to be settled.
-pub(crate) fn settled<T: Told>(
-    config: &Arc<Config>,
-    entry: Entry<T>,
-    reply: Reply<T>,
-) -> Next<T>
+pub(crate) fn settled<T: Told>(config: &Arc<Config>, entry: Entry<T>, reply: Reply<T>) -> Next<T>
     requires entry { IsEntry config.now.value entry }
     requires expects { Expects (resolving_at config.now.value (Resolution.Settling entry)) reply }
     ensures { Steps T.told (resolving_at config.now.value (Resolution.Settling entry)) reply result }

@@ -1,4 +1,4 @@
-use Rattle.std.proofs.Common.{◌≡◌, ◌+◌, ◌-◌, ℕ, length, subst, sym, refl, arith}
+use Rattle.std.proofs.Common.{◌≡◌, ◌+◌, ◌-◌, ℕ, length, subst, arith}
 use Rattle.cl_tasks.specs.Measures.{imposing_left}
 use Rattle.cl_tasks.specs.Resolving.{ImposedTold}
 use Rattle.cl_tasks.proofs.Lead.{leads_by}

@@ -1,6 +1,3 @@
-use Rattle.std.proofs.Common.{◌∙◌}
-use Rattle.std.proofs.lemmas.Option.{slice_get-map}
-use Rattle.cl_hierarchy.specs.Imposed.{equal_need}
 use Rattle.cl_tasks.proofs.MemberLeads.{refused_leads}
 use Rattle.cl_tasks.proofs.member.refuse_member.Goals as goal
 

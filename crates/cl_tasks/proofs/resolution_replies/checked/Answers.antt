@@ -1,4 +1,6 @@
-use Rattle.std.proofs.Common.{◌∙◌, ap, sym}
+use Rattle.std.proofs.Common.{◌∙◌, length, ap, subst, sym}
+use Rattle.cl_config.specs.Views.{Configured}
+use Rattle.cl_findings.specs.Findings.{IsWithin}
 use Rattle.cl_hierarchy.specs.Rows.{Rowed}
 use Rattle.cl_tasks.specs.declared.turn.Reply.TheVariants as reply
 use Rattle.cl_tasks.proofs.EntrySteps.{decided, found_steps, texts_same, unfound_steps}
@@ -15,4 +17,4 @@ pub returns-else-not-is_within : goal.returns-else-not-is_within
 returns-else-not-is_within g c =
     rw (c.in-Looked-None.is ∙ ap (λ o. reply.Looked o) c.in-Looked-None.field-0-is)
     (unfound_steps g.T.Told.told c.args.config.now.value c.args.failed c.post.result c.requires.failed c.answer.ensures.rests
-    (decided c.is_within.result c.is_within.ensures c.if-not-is_within.false) c.post.ensures)
+    (subst (λ (k : Configured). IsWithin (length k.loaders) c.args.failed.finding) c.deref-in-Looked-None.ensures (decided c.is_within.result c.is_within.ensures c.if-not-is_within.false)) c.post.ensures)

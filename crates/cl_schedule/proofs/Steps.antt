@@ -6,6 +6,8 @@ use Rattle.cl_model.specs.Content.{Content}
 use Rattle.cl_model.proofs.Sound.{runs_are_sound}
 use Rattle.cl_config.specs.Views.{Configured}
 use Rattle.cl_delegation.specs.Worlds.{setting_of}
+use Rattle.cl_config.specs.Loaders.{schedule_of}
+use Rattle.cl_model.proofs.Tables.{trusted_is_consistent}
 use Rattle.cl_registry.specs.Tables.{Shown, IsKept, RunsAs, state_of, steps}
 use Rattle.cl_tasks.specs.Facts.{Holds}
 use Rattle.cl_tasks.specs.Follows.{Backed, BackedWhere, Follows, FollowsWhere, Refuses, ServedIn, Tells, TellsNow, TellsOf, Unrecorded, refusal}
@@ -98,7 +100,8 @@ follows_now told old x c r t new given u count since source later k says content
 -- the tables bear what a turn asks for
 pub backed_now : {A S : Type 0} (told : Option Content) (old x : Shown) (c : Configured) (r : Request) (t : Tasked) (given : Reply A) (u : Turn A) (count since : ℕ) (source later : S) → Turning told old x c r t given count since source later
     → BackedWhere t.config (λ s. TellsNow s t given) u → Backed x u
-backed_now told old x c r t given u count since source later k backed = backed x (k.going.config ∙ k.base ∙ sym k.config) k.going.kept.named k.tells
+backed_now told old x c r t given u count since source later k backed =
+    backed x (k.going.config ∙ k.base ∙ sym k.config) k.going.kept.named (trusted_is_consistent (schedule_of x.script) x.script.rounds (steps x) k.going.kept.trusted.tables) k.tells
 
 -- ---- one turn and its call
 

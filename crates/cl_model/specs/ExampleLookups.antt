@@ -38,7 +38,7 @@ several = bundle (
 
 -- what this reference of p/U is resolved to in that world (5.4.3)
 abbrev pub chosen : ℕ → Option Verdict
-chosen i = ends_at several 4 (resolve_of app "p/U" i)
+chosen i = ends_at several (resolve_of app "p/U" i)
 
 -- p/I has m, f and e; p/J under it has m, p/K under that none; p/S has a and y, and implements p/K; p/C is under p/S and
 -- implements p/M, which has a, n without a body, r private and t static; p/V implements p/M and is under p/W, which
@@ -82,7 +82,7 @@ inherited = bundle (
 
 -- what this reference of p/U is resolved to in that world (5.4.3)
 abbrev pub found : ℕ → Option Verdict
-found i = ends_at inherited 6 (resolve_of app "p/U" i)
+found i = ends_at inherited (resolve_of app "p/U" i)
 
 -- p/P has m protected, s protected and static, k of package access and v private; p/Q and q/D are under it, q/E under
 -- q/D; p/R has m and s, both protected; q/D and p/R name these (5.4.4)
@@ -120,8 +120,8 @@ accesses = bundle (
 
 -- what this reference of q/D is resolved to in that world (5.4.4)
 abbrev pub from_d : ℕ → Option Verdict
-from_d i = ends_at accesses 5 (resolve_of app "q/D" i)
+from_d i = ends_at accesses (resolve_of app "q/D" i)
 
 -- what this reference of p/R is resolved to in that world (5.4.4)
 abbrev pub from_r : ℕ → Option Verdict
-from_r i = ends_at accesses 5 (resolve_of app "p/R" i)
+from_r i = ends_at accesses (resolve_of app "p/R" i)

@@ -1,4 +1,4 @@
--- Worlds of the examples of homes and derivations (own choice; they exercise JVMS SE 8, 5.3 to 5.3.5).
+-- Worlds of the examples of homes and derivations (JVMS SE 8, 5.3 to 5.3.5).
 use Rattle.std.specs.Prelude.{ℕ, List, [], ◌∷◌, ◌++◌, codes}
 use Rattle.cl_model.specs.Homes.{World, Loader, Order, Import, ParentFirst, ChildFirst}
 use Rattle.cl_model.specs.Examples.{boot, app, plug, kid, fifth, four, root, under, plain, of_package, interface, interface_of_package, with_interfaces, with_loaders, bundle, with_bytes}

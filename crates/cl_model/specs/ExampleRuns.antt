@@ -1,4 +1,4 @@
--- Settings and steps of the examples of answers and runs (own choice; they exercise JVMS SE 8, 5.3.4 to 5.4.3).
+-- Settings and steps of the examples of answers and runs (JVMS SE 8, 5.3.4 to 5.4.3).
 use Rattle.std.specs.Prelude.{ℕ, List, [], ◌∷◌, ◌++◌, codes}
 use Rattle.cl_classfile.specs.Files.{File, ToMethod}
 use Rattle.cl_model.specs.Homes.{World}
@@ -8,11 +8,11 @@ use Rattle.cl_model.specs.Machine.{Setting, Step, Define, Initiate, Constrain, S
 use Rattle.cl_model.specs.Examples.{boot, app, plug, kid, object, the_root, in_app, in_plug, in_kid, own, same_t, load_of, resolve_of, link_of, root, under, acc_public, taking_t, a_class, with_methods, referring, bundle}
 use Rattle.cl_model.specs.ExampleReferences.{svc, service, three_users}
 
--- a setting of one round without requests (own choice)
+-- a setting of one round without requests
 abbrev pub over : World → Setting
 over w = record { world = w; script = []; rounds = 1 }
 
--- what stands after these steps (own choice)
+-- what stands after these steps
 abbrev pub standing : List Step → State
 standing steps = state_after start steps
 
@@ -58,7 +58,7 @@ across =
     ∷ Constrain (codes "p/T") app plug ∷ Initiate object boot kid ∷ Define (in_kid "p/Use")
     ∷ Initiate (codes "p/Svc") app kid ∷ Constrain (codes "p/T") app kid ∷ Define (in_plug "p/T") ∷ []
 
--- three requests in the first two of three rounds (own choice)
+-- three requests in the first two of three rounds
 abbrev pub in_rounds : Setting
 in_rounds = record {
   world = service;
@@ -66,7 +66,7 @@ in_rounds = record {
   rounds = 3;
 }
 
--- the requests of the first two rounds are answered, and the third may begin (own choice)
+-- the requests of the first two rounds are answered, and the third may begin
 abbrev pub two_rounds : List Step
 two_rounds = Post 0 OutOfMemory ∷ NextRound ∷ Post 1 OutOfMemory ∷ Post 2 OutOfMemory ∷ []
 
@@ -80,7 +80,7 @@ user = with_methods ((acc_public, taking_t "m") ∷ []) (referring (ToMethod (a_
 abbrev pub overridden_service : World
 overridden_service = bundle ((boot, root) ∷ (app, svc) ∷ (plug, user) ∷ [])
 
--- Use resolves that method in the first round and is linked in the second, where an entry that is no reference is resolved too (own choice)
+-- Use resolves that method in the first round and is linked in the second, where an entry that is no reference is resolved too
 abbrev pub serving : Setting
 serving = record {
   world = overridden_service;
@@ -116,7 +116,7 @@ unprepared = standing (loading ++ resolving ++ NextRound ∷ Prepare the_root �
 abbrev pub unconstrained : State
 unconstrained = standing (loading ++ Prepare the_root ∷ Prepare (in_app "p/Svc") ∷ [])
 
--- what stands at the end (own choice)
+-- what stands at the end
 abbrev pub ended : State
 ended = standing (loading ++ resolving ++ linking)
 

@@ -1,4 +1,4 @@
--- The words of the worked examples: four loaders, files and worlds, each class and member by its text (own choice; they exercise JVMS SE 8, 5.3 to 5.4.5).
+-- The words of the worked examples: four loaders, files and worlds, each class and member by its text (JVMS SE 8, 5.3 to 5.4.5).
 use Prim.Native.String.{String}
 use Rattle.std.specs.Prelude.{◌≡◌, ℕ, suc, ◌+◌, List, [], ◌∷◌, ◌++◌, map, codes, Option, Some, None, Result, Ok, Err, slice_get, option_map}
 use Rattle.cl_descriptors.specs.declared.types.Base.{Base}
@@ -44,7 +44,7 @@ four =
     ∷ record { parents = app ∷ []; order = ParentFirst; imports = [] }
     ∷ []
 
--- the names of the four (own choice)
+-- the names of the four
 abbrev pub names : List (List ℕ)
 names = codes "boot" ∷ codes "app" ∷ codes "plug" ∷ codes "kid" ∷ []
 
@@ -82,6 +82,14 @@ the_root = class object boot
 abbrev pub an_array_of : ℕ → Base → FieldType
 an_array_of dimensions base = record { dims = dimensions; base = base }
 
+-- the letter of int, I (4.3.2)
+abbrev pub int_letter : ℕ
+int_letter = 0x49
+
+-- the letter of long, J (4.3.2)
+abbrev pub long_letter : ℕ
+long_letter = 0x4a
+
 -- the type of a class of this name (4.3.2)
 abbrev pub a_class : String → FieldType
 a_class name = an_array_of 0 (bases.Class (codes name))
@@ -118,25 +126,33 @@ an_int name = field_key name (an_array_of 0 bases.Int)
 abbrev pub an_array : String → Key
 an_array name = field_key name (an_array_of 1 (bases.Class (codes "p/T")))
 
--- ACC_PUBLIC (tables 4.5-A, 4.6-A)
+-- ACC_PUBLIC (tables 4.1-A, 4.5-A, 4.6-A)
 abbrev pub acc_public : ℕ
-acc_public = 1
+acc_public = 0x0001
 
 -- ACC_PRIVATE (tables 4.5-A, 4.6-A)
 abbrev pub acc_private : ℕ
-acc_private = 2
+acc_private = 0x0002
 
 -- ACC_PROTECTED (tables 4.5-A, 4.6-A)
 abbrev pub acc_protected : ℕ
-acc_protected = 4
+acc_protected = 0x0004
 
 -- ACC_STATIC (tables 4.5-A, 4.6-A)
 abbrev pub acc_static : ℕ
-acc_static = 8
+acc_static = 0x0008
 
--- ACC_ABSTRACT (table 4.6-A)
+-- ACC_ABSTRACT (tables 4.1-A, 4.6-A)
 abbrev pub acc_abstract : ℕ
-acc_abstract = 1024
+acc_abstract = 0x0400
+
+-- ACC_SUPER (table 4.1-A)
+abbrev pub acc_super : ℕ
+acc_super = 0x0020
+
+-- ACC_INTERFACE (table 4.1-A)
+abbrev pub acc_interface : ℕ
+acc_interface = 0x0200
 
 -- ---- files
 
@@ -146,27 +162,27 @@ flagged flags name sup = record { flags = flags; name = name; super_name = sup; 
 
 -- the file of the root class (4.1, super_class)
 abbrev pub root : File
-root = flagged 33 object None
+root = flagged (acc_public + acc_super) object None
 
 -- a public class under another (4.1)
 abbrev pub under : String → String → File
-under name sup = flagged 33 (codes name) (Some (codes sup))
+under name sup = flagged (acc_public + acc_super) (codes name) (Some (codes sup))
 
 -- a public class under the root (4.1)
 abbrev pub plain : String → File
-plain name = flagged 33 (codes name) (Some object)
+plain name = flagged (acc_public + acc_super) (codes name) (Some object)
 
 -- a class of package access under the root (4.1)
 abbrev pub of_package : String → File
-of_package name = flagged 32 (codes name) (Some object)
+of_package name = flagged acc_super (codes name) (Some object)
 
 -- a public interface (4.1)
 abbrev pub interface : String → File
-interface name = flagged 1537 (codes name) (Some object)
+interface name = flagged (acc_public + acc_interface + acc_abstract) (codes name) (Some object)
 
 -- an interface of package access (4.1)
 abbrev pub interface_of_package : String → File
-interface_of_package name = flagged 1536 (codes name) (Some object)
+interface_of_package name = flagged (acc_interface + acc_abstract) (codes name) (Some object)
 
 -- members by their flags and keys (4.5, 4.6)
 abbrev pub members : List (ℕ × Key) → List Member
@@ -195,7 +211,7 @@ referring rs f = record f { references = referring_from 1 rs }
 
 -- ---- worlds
 
--- bytes are here the number of a file among these; no bytes at all are of another version (own choice)
+-- bytes are here the number of a file among these; no bytes at all are of another version
 abbrev pub file_numbered : List File → List ℕ → Result File FileFault
 file_numbered files [] = Err BadVersion
 file_numbered files (i ∷ more) = elim (slice_get files i) [ None ↦ Err BadFormat | Some f ↦ Ok f ]
@@ -267,7 +283,7 @@ same_v one other = equal "p/V" one other
 abbrev pub same_both : ℕ → ℕ → List Need
 same_both one other = same_v one other ∷ same_t one other ∷ []
 
--- a height that suffices for each plan of the examples (own choice)
+-- a height that suffices for each plan of the examples
 abbrev pub enough : ℕ
 enough = 6
 
@@ -317,6 +333,6 @@ Links w loader name v = ends_at w (link_of loader name) ≡ Some v
 abbrev pub LinkNeeds : World → ℕ → String → List Need → Type 0
 LinkNeeds w loader name needs = more_at w (link_of loader name) ≡ Some needs
 
--- a request costs so many steps at the most (own choice)
+-- a request costs so many steps at the most
 abbrev pub Costs : World → Request → ℕ → Type 0
 Costs w q steps = option_map (cost w) (plan w enough q) ≡ Some steps

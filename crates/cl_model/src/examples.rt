@@ -6,13 +6,13 @@ ghost use Rattle.cl_model.specs.Classes.{file_of, ClassNotFound, NoClassDef, Cla
 ghost use Rattle.cl_model.specs.States.{State, Joined, Entry, IsClass, IsArrayOf, IsArrayOfBase, IsField, IsMethod, IsLinked, Wrong, BadEntry, ArrayMember, Linkage, Said, OutOfMemory, SourceFault, start, settled_to, answer_to, recorded, IsNext};
 ghost use Rattle.cl_model.specs.Machine.{Define, Initiate, Constrain, Settle, Prepare, Post, NextRound, Stray, May, MayDefine, MayInitiate, MayConstrain, MaySettle, MayPrepare, Run, MayPost, MayGoOn, after};
 ghost use Rattle.cl_model.specs.Lines.{line};
-ghost use Rattle.cl_model.specs.Examples.{boot, app, plug, kid, fifth, object, names, the_root, in_boot, in_app, in_plug, in_kid, in_fifth, taking_none, taking_t, an_int, an_array, load_of, resolve_of, link_of, entry, own, root_record, root_for, through_app, equal, same_t, same_v, same_both, ends_at, needs_at, HasBytes, Loads, LoadFails, LoadNeeds, Resolves, ResolveNeeds, Links, LinkNeeds, Costs};
+ghost use Rattle.cl_model.specs.Examples.{boot, app, plug, kid, fifth, object, names, the_root, in_boot, in_app, in_plug, in_kid, in_fifth, taking_none, taking_t, an_int, an_array, int_letter, long_letter, load_of, resolve_of, link_of, entry, own, root_record, root_for, through_app, equal, same_t, same_v, same_both, ends_at, needs_at, HasBytes, Loads, LoadFails, LoadNeeds, Resolves, ResolveNeeds, Links, LinkNeeds, Costs};
 ghost use Rattle.cl_model.specs.ExampleLoads.{copies, twice, bad, circle, missing, importing, imports, misfits, two_parents};
 ghost use Rattle.cl_model.specs.ExampleLookups.{chosen, found, from_d, from_r};
 ghost use Rattle.cl_model.specs.ExampleReferences.{service, three_users, hidden, arrays, from_u, NeedsPast};
 ghost use Rattle.cl_model.specs.ExampleOverriding.{overriding, declared, through_kid, whole_lineage, three_loaders, packages};
 ghost use Rattle.cl_model.specs.ExampleRuns.{over, standing, Answered, of_use, t_refused, kid_refused, both_defined, both_stand, constrained, across, in_rounds, two_rounds, serving, loading, resolving, linking, of_svc, unsettled, unprepared, unconstrained, ended, resolved_in_kid, overridden_alone, below_hidden, joined_with_kid};
-ghost use Rattle.cl_model.specs.ExampleTexts.{Prints, IsCalled, PrintsAnswer, PrintsLine, PrintsStep};
+ghost use Rattle.cl_model.specs.ExampleTexts.{spaced, Prints, IsCalled, PrintsAnswer, PrintsLine, PrintsStep};
 
 /// A search goes to the parent first, or to the own content first; a `java/` name is searched in
 /// the first loader alone; what an import takes hides the own content.
@@ -117,6 +117,7 @@ pub fn methods_of_classes()
     ensures of_superclass_interface { found 1 ≡ Some (IsMethod (in_app "p/J") (taking_none "m")) }
     ensures of_superclass { found 2 ≡ Some (IsMethod (in_app "p/S") (taking_none "a")) }
     ensures first_offered { found 4 ≡ Some (IsMethod (in_app "p/M") (taking_none "n")) }
+    ensures first_of_superclass { found 17 ≡ Some (IsMethod (in_app "p/M") (taking_none "n")) }
     ensures private_method { found 5 ≡ Some (Wrong (NoSuchMethod (in_app "p/C"))) }
     ensures static_method { found 6 ≡ Some (Wrong (NoSuchMethod (in_app "p/C"))) }
     ensures absent { found 12 ≡ Some (Wrong (NoSuchMethod (in_app "p/C"))) }
@@ -171,7 +172,7 @@ pub fn references_of_a_class()
     ensures no_class { from_u 3 ≡ Some (Wrong (NoClassDef (in_plug "p/Z"))) }
     ensures hidden { from_u 4 ≡ Some (Wrong (IllegalAccess (in_app "p/H"))) }
     ensures through_subclass { from_u 5 ≡ Some (Wrong (IllegalAccess (in_app "p/P"))) }
-    ensures of_base { from_u 6 ≡ Some (IsArrayOfBase 2 74) }
+    ensures of_base { from_u 6 ≡ Some (IsArrayOfBase 2 long_letter) }
     ensures absent { from_u 7 ≡ Some (Wrong (NoSuchMethod (in_plug "q/G"))) }
 {}
 
@@ -249,13 +250,16 @@ pub fn third_methods()
     ensures third_not_overriding { LinkNeeds packages plug "q/Z" (same_t app plug ∷ []) }
 {}
 
-/// Entries that are no reference, a method of an array, and arrays.
+/// Entries that are no reference, members of arrays, arrays, and a class.
 pub fn arrays_and_bad_entries()
     ensures none { Resolves arrays app "p/X" 0 BadEntry }
     ensures past { Resolves arrays app "p/X" 65535 BadEntry }
     ensures member { Resolves arrays app "p/X" 1 ArrayMember }
+    ensures member_of_classes { Resolves arrays app "p/X" 4 ArrayMember }
+    ensures field_of_classes { Resolves arrays app "p/X" 5 ArrayMember }
     ensures of_class { Resolves arrays app "p/X" 2 (IsArrayOf 2 (in_app "p/T")) }
-    ensures of_base { Resolves arrays app "p/X" 3 (IsArrayOfBase 1 73) }
+    ensures plain_class { Resolves arrays app "p/X" 6 (IsClass (in_app "p/T")) }
+    ensures of_base { Resolves arrays app "p/X" 3 (IsArrayOfBase 1 int_letter) }
 {}
 
 /// The method of Svc in app, resolved from Use in plug: T is to be the same in both loaders.
@@ -263,6 +267,7 @@ pub fn resolved_method()
     ensures needs { needs_at service (of_use plug) ≡ Some (
         root_for plug ++ own plug "p/Use" ∷ through_app "p/Svc" ++ same_t app plug ∷ []) }
     ensures ends { ends_at service (of_use plug) ≡ Some of_svc }
+    ensures cost { Costs service (of_use plug) 28 }
 {}
 
 /// An equality that would join two loaders with different classes is refused: it is the answer.
@@ -302,9 +307,10 @@ pub fn printed_steps()
 pub fn printed_verdicts()
     ensures of_class { Prints (IsClass (in_plug "p/T")) "class p/T@plug" }
     ensures array { Prints (IsArrayOf 2 (in_app "p/T")) "array 2 p/T@app" }
-    ensures base_array { Prints (IsArrayOfBase 1 73) "array 1 I" }
+    ensures base_array { Prints (IsArrayOfBase 1 int_letter) "array 1 I" }
     ensures field { Prints (IsField (in_app "p/F") (an_array "x")) "field p/F@app x [Lp/T;" }
     ensures method { Prints of_svc "method p/Svc@app m (Lp/T;)V" }
+    ensures escaped { Prints (IsField (in_app "F") spaced) "field F@app x\\u0020y Lp/A\\u0020B;" }
     ensures linked { Prints (IsLinked (in_plug "q/A")) "linked q/A@plug" }
     ensures bad_entry { Prints BadEntry "BadEntry" }
     ensures array_member { Prints ArrayMember "ArrayMember" }

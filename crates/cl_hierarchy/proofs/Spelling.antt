@@ -1,13 +1,13 @@
 -- In a content of bytes a class that is at home has the file that its bytes spell, and no other.
-use Rattle.std.proofs.Common.{◌≡◌, ◌∙◌, ℕ, Bool, true, false, List, [], ◌∷◌, Option, Some, None, Result, Ok, Err, ap, refl, subst, sym}
+use Rattle.std.proofs.Common.{◌≡◌, ◌∙◌, ℕ, Bool, true, false, List, [], ◌∷◌, Some, Result, Ok, Err, ap, refl, subst}
 use Rattle.std.specs.Prelude.{◌↔◌, if◌then◌else◌, nat_eq, ◌&&◌, ◌==◌}
 use Rattle.std.specs.Cmp.Lexicographic.{pointwise}
 use Rattle.cl_classfile.specs.declared.fault.Fault.{Fault}
 use Rattle.cl_classfile.specs.Structure.{Structure, AreBytes}
-use Rattle.cl_classfile.specs.Files.{File, FileFault, file_of}
+use Rattle.cl_classfile.specs.Files.{File, file_of}
 use Rattle.cl_classfile.specs.Reading.{read_of}
 use Rattle.cl_model.specs.declared.class.Class.{Class}
-use Rattle.cl_model.specs.Content.{Content, Stored, content_at}
+use Rattle.cl_model.specs.Content.{Content, content_at}
 use Rattle.cl_model.specs.Classes.{HasFile, IsAtHome}
 use Rattle.cl_model.specs.Worlds.{seen}
 use Rattle.cl_model.proofs.Ending.{file_at_home}

@@ -33,6 +33,7 @@ use Rattle.cl_source.specs.Told.{IsTold}
 use Rattle.cl_delegation.specs.Searches.{Located, Sought, LeadsTo}
 use Rattle.cl_delegation.specs.Worlds.{read, world_of}
 use Rattle.cl_hierarchy.specs.declared.draft.DraftFault.{DraftFault}
+use Rattle.cl_hierarchy.proofs.Drafting.{grammar_read}
 use Rattle.cl_hierarchy.specs.declared.draft.DraftFault.TheVariants as drafts
 use Rattle.cl_hierarchy.specs.Drafts.{IsSpelt, IsWrong}
 use Rattle.cl_hierarchy.specs.Frames.{Framed, frame_of}
@@ -70,7 +71,7 @@ wrong_read h (drafts.Format fault) c same wrong =
     ap (λ (r : Result Structure Fault). named c (seen r)) wrong.0 ∙ ap (λ (f : FileFault). named c (Err f)) (other_than_version fault wrong.1)
 wrong_read h drafts.OtherName c same wrong =
     let f = file_of wrong.0 in
-    ap (λ (r : Result Structure Fault). named c (seen r)) wrong.1
+    ap (λ (r : Result Structure Fault). named c (seen r)) (grammar_read h.bytes wrong.0 wrong.1)
     ∙ ap (λ (b : Bool). if b then Ok f else Err (NoClassDef c)) (apart f.name c.name (same_name f.name c.name) (λ e. wrong.2 (e ∙ sym same)) refl)
 
 -- ---- the frames of a path

@@ -337,7 +337,7 @@ post_says s r v t new reply.Memory f at q own refused = inr (ap answer_of refuse
 post_says s r v t new (reply.SourceFault k) f at q own refused = absurd at
 
 pub known_post : {A S : Type 0} (old x y : Shown) (q : ℕ) (r : Request) (t new : Tasked) (told : Reply A) (f : Answered) (source since : S) → Known old x r t told source since → t.request ≡ Some r → AnswersOwn {A = A} t new told (turn.Post f) → Refuses {A = A} (refusal t told) (turn.Post f)
-    → y ≡ with_post x q f.answer → TellsKnown old y q (request_of r) (state_of old) source since
+    → y ≡ with_post x q f.answer → TellsKnown old y q r source since
 known_post old x y q r t new told f source since known request own refused posted = λ v has.
     let k = known v has in
     record {
@@ -348,5 +348,5 @@ known_post old x y q r t new told f source since known request own refused poste
     }
 
 -- memory ran out before the first turn
-pub known_memory : {S : Type 0} (old new : Shown) (q : ℕ) (r : Request) (a : rust.Answer) (source : S) → a ≡ rust.TheVariants.Memory → new ≡ with_post old q a → TellsKnown old new q (request_of r) (state_of old) source source
+pub known_memory : {S : Type 0} (old new : Shown) (q : ℕ) (r : Request) (a : rust.Answer) (source : S) → a ≡ rust.TheVariants.Memory → new ≡ with_post old q a → TellsKnown old new q r source source
 known_memory old new q r a source is posted = λ v has. record { answer = a; is = inr (ap answer_of is); posted = posted; unread = refl }

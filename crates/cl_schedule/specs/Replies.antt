@@ -5,7 +5,9 @@ use Rattle.cl_model.specs.declared.settled.Settled.{Settled}
 use Rattle.cl_model.specs.States.{recorded, settled_to}
 use Rattle.cl_model.specs.Machine.{Step, Define, Initiate, Settle, Prepare, step_for}
 use Rattle.cl_model.specs.Views.{verdict_of}
+use Rattle.cl_delegation.specs.Searches.{Located}
 use Rattle.cl_findings.specs.Findings.{Answered}
+use Rattle.cl_hierarchy.specs.Drafts.{Drafted}
 use Rattle.cl_hierarchy.specs.Imposed.{Listed, Sprung, OfReference, OfPreparation, equal_need}
 use Rattle.cl_registry.specs.declared.registry.RegistryFault.{RegistryFault}
 use Rattle.cl_registry.specs.declared.registry.RegistryFault.TheVariants as faults
@@ -50,10 +52,18 @@ SettlesBy x f e = (s : Settled) × IsToSettle x f s × (e ≡ Settle s.class s.i
 abbrev pub ImposesBy : Listed → ℕ → Step → Type 0
 ImposesBy l k e = (n : Equality) × (slice_get l.needs k ≡ Some n) × (e ≡ step_for (equal_need n))
 
+-- a class is recorded by this step (5.3.5, step 5)
+abbrev pub DefinesBy : Drafted → Step → Type 0
+DefinesBy d e = e ≡ Define d.class
+
+-- a loader that was asked is recorded by this step (5.3)
+abbrev pub InitiatesBy : Located → Step → Type 0
+InitiatesBy h e = e ≡ Initiate h.name h.place h.asked
+
 -- the step that a call may add (5.3 to 5.4.3)
 abbrev pub IsStepOf : {A : Type 0} → Shown → Turn A → Step → Type 0
-IsStepOf x (turn.Define d) e = e ≡ Define d.class
-IsStepOf x (turn.Initiate h) e = e ≡ Initiate h.value.name h.value.place h.value.asked
+IsStepOf x (turn.Define d) e = DefinesBy d e
+IsStepOf x (turn.Initiate h) e = InitiatesBy h.value e
 IsStepOf x (turn.Settle f) e = SettlesBy x f e
 IsStepOf x (turn.Impose l k) e = ImposesBy l.value k e
 IsStepOf x (turn.Mark l) e = PreparesBy l.value.origin e

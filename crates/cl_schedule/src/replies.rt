@@ -1,13 +1,12 @@
 //! What a task is told of the call that it asks for.
 ghost use Rattle.std.specs.Prelude.{◌≡◌};
-ghost use Rattle.cl_model.specs.Machine.{Define, Initiate};
 ghost use Rattle.cl_model.specs.States.{IsRecorded};
 ghost use Rattle.cl_registry.specs.Imposing.{MayImpose, MayMark};
 ghost use Rattle.cl_registry.specs.Settling.{MaySettle};
 ghost use Rattle.cl_registry.specs.Tables.{Shown, IsKept, MayEnter, MayJoin, state_of};
 ghost use Rattle.cl_tasks.specs.Waits.{Looking, Reading, Defining, Initiating, Tracing, LookingReference, Settling, Imposing, LookingPrepared, Marking};
 ghost use Rattle.cl_schedule.specs.Counting.{Grows, told_faults};
-ghost use Rattle.cl_schedule.specs.Replies.{Did, ImposesBy, IsReplied, IsTold, PreparesBy, SettlesBy, refusal_of};
+ghost use Rattle.cl_schedule.specs.Replies.{DefinesBy, Did, ImposesBy, InitiatesBy, IsReplied, IsTold, PreparesBy, SettlesBy, refusal_of};
 
 use cl_delegation::Home;
 use cl_findings::Finding;
@@ -67,7 +66,7 @@ fn refused<T: Told>(fault: RegistryFault) -> Reply<T>
 pub(crate) fn define<T: Told>(alloc: Global, registry: &mut Registry<T>, draft: Draft<T>) -> Reply<T>
     requires { MayEnter registry.old draft }
     ensures replied { IsReplied registry.new (Defining draft) result }
-    ensures did { Did registry.old registry.new (λ e. e ≡ Define draft.class) }
+    ensures did { Did registry.old registry.new (DefinesBy draft) }
     ensures faults { told_faults result ≡ 0 }
     ensures kept { IsKept T.told registry.new }
 {
@@ -81,7 +80,7 @@ pub(crate) fn define<T: Told>(alloc: Global, registry: &mut Registry<T>, draft: 
 pub(crate) fn initiate<T: Told>(alloc: Global, registry: &mut Registry<T>, home: Arc<Home<T>>) -> Reply<T>
     requires { MayJoin registry.old home.value }
     ensures replied { IsReplied registry.new (Initiating home.value) result }
-    ensures did { Did registry.old registry.new (λ e. e ≡ Initiate home.value.name home.value.place home.value.asked) }
+    ensures did { Did registry.old registry.new (InitiatesBy home.value) }
     ensures faults { told_faults result ≡ 0 }
     ensures kept { IsKept T.told registry.new }
 {

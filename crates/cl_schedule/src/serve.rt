@@ -1,9 +1,8 @@
 ghost use Rattle.std.specs.Prelude.{◌≡◌, ◌<◌, IfOk, IfErr, length, slice_get};
-ghost use Rattle.cl_model.specs.Views.{request_of};
 ghost use Rattle.cl_config.specs.Scripts.{HasLoaders};
 ghost use Rattle.cl_findings.specs.Findings.{loader_of};
 ghost use Rattle.cl_registry.specs.Posting.{IsBacked};
-ghost use Rattle.cl_registry.specs.Tables.{IsAsked, IsKept, IsLater, IsOpen, state_of, with_post};
+ghost use Rattle.cl_registry.specs.Tables.{IsAsked, IsKept, IsLater, IsOpen, with_post};
 ghost use Rattle.cl_schedule.specs.Counting.{CountsFaults, FaultsGrow};
 ghost use Rattle.cl_schedule.specs.Headline.{IsServedInOrder};
 ghost use Rattle.cl_schedule.specs.Known.{TellsKnown};
@@ -100,8 +99,9 @@ fn serve_request<T: Told, S: Source<T>>(
     requires open { IsOpen registry.old q }
     requires kept { IsKept T.told registry.old }
     ensures done { IsDone T.told registry.old registry.new q request }
-    ensures known { TellsKnown registry.old registry.new q (request_of request) (state_of registry.old) source.old source.new }
-    ensures faults { FaultsGrow registry.old.answers registry.new.answers (S.refused source.old) (S.refused source.new) }
+    ensures known { TellsKnown registry.old registry.new q request source.old source.new }
+    ensures faults { FaultsGrow registry.old.answers registry.new.answers
+        (S.refused source.old) (S.refused source.new) }
     ensures kept { IsKept T.told registry.new }
 {
     let mut task = match Task::<T>::new(alloc, config, q, request) {
@@ -178,7 +178,8 @@ pub fn serve_one<T: Told, S: Source<T>>(
 ) -> Result<Report, ServeFault>
     requires { HasLoaders (length config.value.loaders) script.value.requests }
     ensures served { IfOk result (IsServedInOrder T.told config.value script.value) }
-    ensures source_faults { IfOk result (λ r. CountsFaults r (S.refused source.old) (S.refused source.new)) }
+    ensures source_faults { IfOk result (λ r. CountsFaults r (S.refused source.old)
+        (S.refused source.new)) }
     ensures no_stray { IfErr result (λ e. e ≡ ServeFault.Memory) }
 {
     let held = Arc::try_clone(&config)?;

@@ -5,3 +5,6 @@ pub mod Known
 pub mod Counting
 pub mod Headline
 pub mod Texts
+pub mod Choices
+pub mod Seats
+pub mod Schedules

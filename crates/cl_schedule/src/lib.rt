@@ -1,7 +1,10 @@
-//! Scripts of requests, served in order.
+//! Scripts of requests, served in order or by a schedule.
 #![tactic(auto)]
 
 mod replies;
+mod seats;
 mod serve;
+mod simulate;
 
 pub use serve::{ServeFault, serve_one};
+pub use simulate::simulate;

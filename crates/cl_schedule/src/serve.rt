@@ -9,7 +9,9 @@ ghost use Rattle.cl_schedule.specs.Known.{TellsKnown};
 ghost use Rattle.cl_schedule.specs.Rounds.{RoundsPassed};
 ghost use Rattle.cl_schedule.specs.Serving.{IsDone};
 
-use crate::replies::{define, impose, initiate, lineage, look, look_prepared, look_reference, mark, read, settle};
+use crate::replies::{
+    define, impose, initiate, lineage, look, look_prepared, look_reference, mark, read, settle,
+};
 use cl_config::{Config, Script};
 use cl_findings::Finding;
 use cl_model::{Request, Told};
@@ -71,7 +73,7 @@ fn post<T: Told>(registry: &mut Registry<T>, q: u32, finding: Finding<T>)
 }
 
 /// Begins the next rounds, as long as nothing of the round is unposted and there is a later one.
-fn pass_rounds<T: Told>(registry: &mut Registry<T>)
+pub(crate) fn pass_rounds<T: Told>(registry: &mut Registry<T>)
     ensures passed { RoundsPassed registry.old registry.new }
     ensures kept { IsKept T.told registry.new }
 {
@@ -153,7 +155,7 @@ fn serve_request<T: Told, S: Source<T>>(
 }
 
 /// A copy of the request of a number.
-fn request_at(alloc: Global, script: &Script, q: u32) -> Result<Request, AllocError>
+pub(crate) fn request_at(alloc: Global, script: &Script, q: u32) -> Result<Request, AllocError>
     requires { q < length script.now.requests }
     ensures { IfOk result (λ r. slice_get script.now.requests q ≡ Some r) }
 {

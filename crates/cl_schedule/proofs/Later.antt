@@ -1,5 +1,5 @@
 -- What comes next in a service, and what it came to, wherever more has happened meanwhile (JVMS SE 8, 5.3 to 5.4.3).
-use Rattle.std.proofs.Common.{◌≡◌, ◌⊎◌, inl, inr, ◌∙◌, ℕ, Bool, true, false, List, [], ◌∷◌, ◌++◌, Option, Some, None, refl, sym, ap, subst}
+use Rattle.std.proofs.Common.{◌≡◌, ◌⊎◌, inl, inr, ◌∙◌, ℕ, Bool, true, false, List, [], ◌∷◌, ◌++◌, Option, Some, None, refl, sym, ap, subst, arith}
 use Rattle.std.specs.Prelude.{◌==◌, ◌≢◌, nat_eq, if◌then◌else◌, Contains}
 use Rattle.std.proofs.lemmas.Bool.Decides.{nat_tests}
 use Rattle.cl_classfile.specs.Files.{Name}
@@ -52,7 +52,7 @@ refused_stays s es n fits refused = refused_later s (state_after s es) (run_late
 same_number : (a b : ℕ) → (a == b) ≡ true → a ≡ b
 same_number a b e = grind (arith, nat_tests)
 
-entry_step : ℕ → Name → ℕ → Bool → Step
+abbrev entry_step : ℕ → Name → ℕ → Bool → Step
 entry_step loader name place same = if same then Define (class name place) else Initiate name place loader
 
 -- what a step says of a record
@@ -208,15 +208,17 @@ settles_stays g s es (Resolve loader name j) p d i v fits none h =
       c,
       h.1,
       all_met_stay s es p.own h.2,
-      h.3.0,
-      record {
-        recorded = met_stays s es (Entry c.loader c.name c.loader) may.recorded;
-        unsettled = subst (λ (k : Class). settled_to (state_after s es).settled k j ≡ None) (sym is.class_is) (subst (λ (k : ℕ). settled_to (state_after s es).settled d k ≡ None) (sym is.index_is) none);
-        answered = reference_answer_later g s (state_after s es) (run_later s es) fits c j h.3.0 may.answered;
-        is_entry = may.is_entry;
-        is_class_member = may.is_class_member;
-      },
-      h.3.2,
+      (
+        h.3.0,
+        record {
+          recorded = met_stays s es (Entry c.loader c.name c.loader) may.recorded;
+          unsettled = subst (λ (k : Class). settled_to (state_after s es).settled k j ≡ None) (sym is.class_is) (subst (λ (k : ℕ). settled_to (state_after s es).settled d k ≡ None) (sym is.index_is) none);
+          answered = reference_answer_later g s (state_after s es) (run_later s es) fits c j h.3.0 may.answered;
+          is_entry = may.is_entry;
+          is_class_member = may.is_class_member;
+        },
+        h.3.2,
+      ),
     )
 
 -- a settlement that came next comes next later, unless it is made by then

@@ -44,6 +44,8 @@ pub record Passing (old now : Shown) : Type 0 where
   pub rows : now.rows ≡ old.rows
   pub answers : now.answers ≡ old.answers
   pub posts_same : posts now.history ≡ posts old.history
+  pub events : List Event
+  pub history : now.history ≡ old.history ++ events
   pub begun : List Step
   pub steps_more : steps now ≡ steps old ++ begun
   pub later : (content : Content) (es : List Step) → PassesRounds (machine_of old content) (state_of now) es → PassesRounds (machine_of old content) (state_of old) (begun ++ es)
@@ -55,6 +57,8 @@ passing_none x = record {
   rows = refl;
   answers = refl;
   posts_same = refl;
+  events = [];
+  history = sym (append-nil x.history);
   begun = [];
   steps_more = sym (append-nil (steps x));
   later = λ content es h. h;
@@ -71,6 +75,8 @@ passing_on old x new p may h rows = record {
   rows = rows ∙ p.rows;
   answers = h.answers ∙ p.answers;
   posts_same = h.posts_same ∙ p.posts_same;
+  events = p.events ++ h.event ∷ [];
+  history = h.history ∙ ap (λ (es : List Event). es ++ h.event ∷ []) p.history ∙ append_assoc old.history p.events (h.event ∷ []);
   begun = p.begun ++ NextRound ∷ [];
   steps_more = h.step ∙ ap (λ (es : List Step). es ++ NextRound ∷ []) p.steps_more ∙ append_assoc (steps old) p.begun (NextRound ∷ []);
   later = λ content es more.
@@ -85,6 +91,8 @@ all_passed old now p over = record {
   rows = p.rows;
   answers = p.answers;
   posts_same = p.posts_same;
+  events = p.events;
+  history = p.history;
   passed = p.begun;
   steps_more = p.steps_more;
   rounds = λ content.

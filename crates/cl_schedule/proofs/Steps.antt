@@ -19,12 +19,12 @@ use Rattle.cl_tasks.specs.declared.turn.Reply.TheVariants as reply
 use Rattle.cl_tasks.specs.declared.turn.Turn.{Turn}
 use Rattle.cl_tasks.specs.declared.turn.Turn.TheVariants as turn
 use Rattle.cl_schedule.specs.Counting.{Grows, told_faults}
-use Rattle.cl_schedule.specs.Replies.{Did, IsReplied, IsStepOf, Shows}
+use Rattle.cl_schedule.specs.Replies.{Did, IsCall, IsRead, IsReplied, IsStepOf, Shows}
 use Rattle.cl_schedule.specs.Serving.{machine}
 use Rattle.cl_schedule.proofs.Counted.{grows_none, grows_on, told_none}
 use Rattle.cl_schedule.proofs.Next.{next_of, step_of_call}
 use Rattle.cl_schedule.proofs.Served.{Going, going_did, going_start}
-use Rattle.cl_schedule.proofs.Stations.{IsCall, IsRead, Known, known_on, known_start}
+use Rattle.cl_schedule.proofs.Stations.{Known, known_on, known_start}
 use Rattle.cl_schedule.proofs.Told.{holds_stays}
 
 -- what a turn says of itself
@@ -78,10 +78,10 @@ turning_start {A = A} told old c q r t count source kept base is =
 -- ---- what a turn says where its request is served
 
 -- what holds of a task's request
-of_request : (o : Option Request) (r : Request) (P : Request → Type 0) → o ≡ Some r → IfSome o P → P r
+pub of_request : (o : Option Request) (r : Request) (P : Request → Type 0) → o ≡ Some r → IfSome o P → P r
 of_request o r P e h = subst (λ (k : Option Request). IfSome k P) e h
 
-served_in : (told : Option Content) (x : Shown) (c : Configured) (content : Content) → told ≡ Some content → IsKept told x → x.config ≡ c → ServedIn told c (machine x content) (state_of x)
+pub served_in : (told : Option Content) (x : Shown) (c : Configured) (content : Content) → told ≡ Some content → IsKept told x → x.config ≡ c → ServedIn told c (machine x content) (state_of x)
 served_in told x c content e kept same =
     record {
       content = content;
@@ -105,11 +105,11 @@ backed_now told old x c r t given u count since source later k backed =
 
 -- ---- one turn and its call
 
-holds_did : {A : Type 0} (told : Option Content) (x new : Shown) (u : Turn A) (t : Tasked) → Did x new (IsStepOf x u) → IsKept told new → Holds x t → Holds new t
+pub holds_did : {A : Type 0} (told : Option Content) (x new : Shown) (u : Turn A) (t : Tasked) → Did x new (IsStepOf x u) → IsKept told new → Holds x t → Holds new t
 holds_did told x new u t (inl same) kept held = subst (λ (y : Shown). Holds y t) (sym same) held
 holds_did told x new u t (inr did) kept held = holds_stays told x new did.0 t did.2 kept held
 
-unrecorded_of : {A : Type 0} (x : Shown) (w : Waits) (given : Reply A) → Shows x w given → Unrecorded x w given
+pub unrecorded_of : {A : Type 0} (x : Shown) (w : Waits) (given : Reply A) → Shows x w given → Unrecorded x w given
 unrecorded_of x Beginning given shows = tt
 unrecorded_of x (Looking l n) reply.Start shows = tt
 unrecorded_of x (Looking l n) (reply.Looked None) shows = shows

@@ -1,5 +1,5 @@
 -- Schedules: which request a choice takes, and what a history has of it (own choice; what is wanted is that of JVMS SE 8, 5.3 to 5.4.3).
-use Rattle.std.specs.Prelude.{◌≡◌, ◌⊎◌, ◌&&◌, ◌==◌, ◌%◌, ℕ, zero, suc, List, [], ◌∷◌, ◌++◌, length, Option, Some, None, is_none, if◌then◌else◌, slice_get}
+use Rattle.std.specs.Prelude.{◌≡◌, ◌⊎◌, ◌&&◌, ◌==◌, ◌%◌, ℕ, zero, suc, Bool, List, [], ◌∷◌, ◌++◌, length, Option, Some, None, is_none, if◌then◌else◌, slice_get}
 use Rattle.std.specs.List.{AllByRecursion}
 use Rattle.cl_model.specs.Content.{Content}
 use Rattle.cl_model.specs.States.{State, Answer, start, answer_to}
@@ -14,15 +14,22 @@ use Rattle.cl_schedule.specs.Serving.{NoPosts, machine}
 abbrev pub is_unanswered : State → ℕ → Bool
 is_unanswered s q = is_none (answer_to s.answers q)
 
--- of these requests, the first of which has this number, those that have no answer, in order (own choice)
-abbrev pub unanswered : State → ℕ → List Scheduled → List ℕ
-unanswered s q [] = []
-unanswered s q (r ∷ rs) = if is_unanswered s q then q ∷ unanswered s (suc q) rs else unanswered s (suc q) rs
+-- the numbers of these requests, the first of which has this one, that pass a test, in order (own choice of form)
+abbrev pub picked : (ℕ → Scheduled → Bool) → ℕ → List Scheduled → List ℕ
+picked test q [] = []
+picked test q (r ∷ rs) = if test q r then q ∷ picked test (suc q) rs else picked test (suc q) rs
 
--- and those of the round that have none (own choice)
-abbrev pub waiting : State → ℕ → List Scheduled → List ℕ
-waiting s q [] = []
-waiting s q (r ∷ rs) = if (r.round == s.round) && is_unanswered s q then q ∷ waiting s (suc q) rs else waiting s (suc q) rs
+-- the requests that have no answer, in order (own choice)
+abbrev pub unanswered : State → List Scheduled → List ℕ
+unanswered s script = picked (λ q r. is_unanswered s q) 0 script
+
+-- a request is of the round, and has no answer (own choice)
+abbrev pub is_waiting : State → ℕ → Scheduled → Bool
+is_waiting s q r = (r.round == s.round) && is_unanswered s q
+
+-- those that are, in order (own choice)
+abbrev pub waiting : State → List Scheduled → List ℕ
+waiting s script = picked (is_waiting s) 0 script
 
 -- so many numbers from this one on, in order (own choice of form)
 abbrev pub numbers : ℕ → ℕ → List ℕ
@@ -75,7 +82,7 @@ IsTaken told g s (Some q) es = (es ≡ []) ⊎ ((e : Step) × (es ≡ e ∷ []) 
 
 -- what a choice makes in a state (own choice)
 abbrev pub ByChoice : Option Content → Setting → ℕ → State → List Step → Type 0
-ByChoice told g choice s es = IsTaken told g s (taken (waiting s 0 g.script) choice) es
+ByChoice told g choice s es = IsTaken told g s (taken (waiting s g.script) choice) es
 
 -- ---- all of it
 
@@ -100,7 +107,7 @@ pub record AreChosen (told : Option Content) (g : Setting) (choices : List ℕ) 
   pub rest : List Step
   pub whole : es ≡ chosen ++ rest
   pub by_choice : InTurn g (ByChoice told g) start choices chosen
-  pub in_order : InTurn g (IsServed told g) (state_after start chosen) (unanswered (state_after start chosen) 0 g.script) rest
+  pub in_order : InTurn g (IsServed told g) (state_after start chosen) (unanswered (state_after start chosen) g.script) rest
 
 -- and so a history (own choice)
 abbrev pub IsChosen : Option Content → List ℕ → Shown → Type 0

@@ -3,7 +3,7 @@ use Rattle.std.specs.Prelude.{◌≡◌, ◌⊎◌, ◌+◌, ◌<◌, ◌≤◌,
 use Rattle.cl_model.specs.declared.answer.Answer as rust
 use Rattle.cl_model.specs.declared.request.Request.{Request}
 use Rattle.cl_model.specs.Content.{Content}
-use Rattle.cl_model.specs.Machine.{Step, Define, Initiate, Constrain, Settle, Prepare, Post, NextRound, Stray, state_after}
+use Rattle.cl_model.specs.Machine.{Step, state_after}
 use Rattle.cl_model.specs.Service.{IsNextStep, MayEnd, PassesRounds}
 use Rattle.cl_model.specs.Views.{answer_of, request_of}
 use Rattle.cl_config.specs.Loaders.{schedule_of}
@@ -22,8 +22,8 @@ use Rattle.cl_schedule.specs.declared.seats.Seat.{Seat}
 use Rattle.cl_schedule.specs.declared.simulate.Row.{Row}
 use Rattle.cl_schedule.specs.Choices.{ByChoice, InTurn, IsServed, numbers, setting_in, unanswered, waiting}
 use Rattle.cl_schedule.specs.Counting.{fault, told_faults}
-use Rattle.cl_schedule.specs.Replies.{Did, IsReplied, IsStepOf}
-use Rattle.cl_schedule.specs.Serving.{machine, GoesBy, IsDone}
+use Rattle.cl_schedule.specs.Replies.{Did, IsCall, IsReplied, IsStepOf}
+use Rattle.cl_schedule.specs.Serving.{machine, GoesBy, IsCallStep, IsDone}
 
 -- ---- what a task asks for next
 
@@ -31,16 +31,6 @@ use Rattle.cl_schedule.specs.Serving.{machine, GoesBy, IsDone}
 abbrev pub fault_in : {A : Type 0} → Turn A → ℕ
 fault_in (turn.Post f) = fault f.answer
 fault_in other = 0
-
--- a turn that asks for no read
-abbrev pub IsNoRead : {A : Type 0} → Turn A → Type 0
-IsNoRead (turn.Read l n) = ⊥
-IsNoRead other = Unit {0}
-
--- a turn that asks for a call, and not for the post
-abbrev pub IsCall : {A : Type 0} → Turn A → Type 0
-IsCall (turn.Post f) = ⊥
-IsCall other = Unit {0}
 
 -- the task is still that of the request, and what is settled and posted is of it
 abbrev pub IsOf : {A : Type 0} → Request → Tasked → Turn A → Type 0
@@ -77,17 +67,6 @@ StaysSeated told old new =
     (x : Shown) (q : ℕ) → IsKept told x → IsSeated told x q old.task old.next → IsSeated told x q new.task new.next
 
 -- ---- one call
-
--- a step that a call may make: no post, and no round (own choice)
-abbrev pub IsCallStep : Step → Type 0
-IsCallStep (Define c) = Unit {0}
-IsCallStep (Initiate name place loader) = Unit {0}
-IsCallStep (Constrain name a b) = Unit {0}
-IsCallStep (Settle d i v) = Unit {0}
-IsCallStep (Prepare c) = Unit {0}
-IsCallStep (Post q a) = ⊥
-IsCallStep NextRound = ⊥
-IsCallStep Stray = ⊥
 
 -- what is posted is the answer of the request of this number, which is of the round and has none
 pub record MayBePosted (x : Shown) (q : ℕ) (r : Request) : Type 0 where
@@ -163,7 +142,7 @@ pub record AreSeats {A : Type 0} (told : Option Content) (x : Shown) (seats : Li
 -- no round may begin, and these wait: all of the round that have no answer; those from a number on are of later rounds
 pub record AreWaiting (x : Shown) (numbers : List ℕ) (later : ℕ) : Type 0 where
   pub over : MayGoOn x → ⊥
-  pub are : numbers ≡ waiting (state_of x) 0 (schedule_of x.script)
+  pub are : numbers ≡ waiting (state_of x) (schedule_of x.script)
   pub below : (q round : ℕ) → q < later → slice_get x.script.rounds_of q ≡ Some round → round ≤ round_of x
   pub above : (q : ℕ) → later ≤ q → q < length x.script.requests → IsOpen x q
   pub within : later ≤ length x.script.requests
@@ -220,7 +199,7 @@ pub record AreServed (told : Option Content) (old new : Shown) : Type 0 where
   pub more : steps new ≡ steps old ++ made
   pub in_turn :
       InTurn (setting_in told old) (IsServed told (setting_in told old)) (state_of old)
-      (unanswered (state_of old) 0 (setting_in told old).script) made
+      (unanswered (state_of old) (setting_in told old).script) made
   pub balanced : AreBalanced old → AreBalanced new
   pub all : (q : ℕ) → IsOpen new q → ⊥
   pub over : MayGoOn new → ⊥

@@ -2,6 +2,7 @@
 use Rattle.std.specs.Prelude.{◌≡◌, ℕ, zero, suc, List, [], ◌∷◌, ◌++◌, map, Option, Some, None, slice_set}
 use Rattle.std.specs.List.{AllByRecursion}
 use Rattle.cl_model.specs.declared.answer.Answer as rust
+use Rattle.cl_model.specs.declared.event.Event.{Event}
 use Rattle.cl_model.specs.declared.request.Request.{Request}
 use Rattle.cl_model.specs.Content.{Content}
 use Rattle.cl_model.specs.States.{start}
@@ -46,6 +47,17 @@ IsPost (Post q a) = Unit {0}
 IsPost NextRound = ⊥
 IsPost Stray = ⊥
 
+-- a step that a call may make: no post, and no round (own choice)
+abbrev pub IsCallStep : Step → Type 0
+IsCallStep (Define c) = Unit {0}
+IsCallStep (Initiate name place loader) = Unit {0}
+IsCallStep (Constrain name a b) = Unit {0}
+IsCallStep (Settle d i v) = Unit {0}
+IsCallStep (Prepare c) = Unit {0}
+IsCallStep (Post q a) = ⊥
+IsCallStep NextRound = ⊥
+IsCallStep Stray = ⊥
+
 -- none of these posts an answer (own choice)
 abbrev pub NoPosts : List Step → Type 0
 NoPosts es = AllByRecursion (λ e. IsPost e → ⊥) es
@@ -75,4 +87,6 @@ pub record GoesBy (old new : Shown) (e : Step) : Type 0 where
   pub posts_same : posts new.history ≡ posts old.history
   pub more : List Rowed
   pub rows : new.rows ≡ old.rows ++ more
+  pub event : Event
+  pub history : new.history ≡ old.history ++ event ∷ []
   pub step : steps new ≡ steps old ++ e ∷ []

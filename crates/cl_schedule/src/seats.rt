@@ -5,7 +5,8 @@ ghost use Rattle.cl_findings.specs.Findings.{loader_of};
 ghost use Rattle.cl_registry.specs.Tables.{IsKept, IsLater, IsOpen};
 ghost use Rattle.cl_tasks.specs.Turns.{Asks};
 ghost use Rattle.cl_schedule.specs.Counting.{FaultsGrow, Grows};
-ghost use Rattle.cl_schedule.specs.Seats.{BackedAs, IsAdvanced, IsAnswered, IsFinished, IsFreshSeat, IsNoRead, IsPostOf, IsSeatedFor, StaysSeated, fault_in};
+ghost use Rattle.cl_schedule.specs.Seats.{BackedAs, IsAdvanced, IsAnswered, IsFinished, IsFreshSeat, IsPostOf, IsSeatedFor, StaysSeated, fault_in};
+ghost use Rattle.cl_schedule.specs.Replies.{IsRead};
 ghost use Rattle.cl_schedule.specs.Schedules.{RefusedAs};
 
 use crate::replies::{
@@ -50,7 +51,7 @@ fn read_on<T: Told, S: Source<T>>(alloc: Global, source: &mut S, seat: Seat<T>) 
     requires asks { Asks seat.task seat.next }
     requires quiet { fault_in seat.next ≡ 0 }
     ensures seated { StaysSeated T.told seat result }
-    ensures read { IsNoRead result.next }
+    ensures read { IsRead result.next → ⊥ }
     ensures faults { Grows (fault_in result.next) (S.refused source.old) (S.refused source.new) }
     ensures left { result.task.left ≤ seat.task.left }
 {
@@ -73,7 +74,7 @@ fn ask<T: Told>(
     q: u32,
     call: Turn<T>,
 ) -> Result<Option<Reply<T>>, ServeFault>
-    requires call { IsNoRead call }
+    requires call { IsRead call → ⊥ }
     requires backed { BackedAs T.told registry.old call }
     requires post { IsPostOf registry.old q call }
     ensures answered { IfOk result (IsAnswered registry.old registry.new q call) }

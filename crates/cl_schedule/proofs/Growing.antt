@@ -48,7 +48,7 @@ use Rattle.cl_tasks.specs.Tasks.{Tasked, Fact, Stands as FactStands, StandsRefus
 use Rattle.cl_tasks.specs.declared.turn.Turn.{Turn}
 use Rattle.cl_tasks.specs.declared.turn.Turn.TheVariants as turn
 use Rattle.cl_schedule.specs.Rounds.{RoundsPassed}
-use Rattle.cl_schedule.specs.Seats.{BackedAs, IsOf, IsSeated, IsSeatedFor}
+use Rattle.cl_schedule.specs.Seats.{BackedAs, Grew, IsOf, IsSeated, IsSeatedFor}
 use Rattle.cl_schedule.specs.Serving.{machine, GoesBy}
 use Rattle.cl_schedule.specs.declared.seats.Seat.{Seat}
 use Rattle.cl_schedule.proofs.Histories.{steps_posts, unposted}
@@ -57,17 +57,6 @@ use Rattle.cl_schedule.proofs.States.{same_machine}
 use Rattle.cl_schedule.proofs.Told.{looked_at, row_stays}
 
 -- ---- a registry that went on
-
--- events and rows were added, and configuration and script are the same
-pub record Grew (old new : Shown) : Type 0 where
-  pub config : new.config ≡ old.config
-  pub script : new.script ≡ old.script
-  pub more : List Rowed
-  pub rows : new.rows ≡ old.rows ++ more
-  pub events : List Event
-  pub history : new.history ≡ old.history ++ events
-  pub made : List Step
-  pub steps_more : steps new ≡ steps old ++ made
 
 pub grew_by : (old new : Shown) (e : Step) → GoesBy old new e → Grew old new
 grew_by old new e h = record { config = h.config; script = h.script; more = h.more; rows = h.rows; events = h.event ∷ []; history = h.history; made = e ∷ []; steps_more = h.step }

@@ -78,7 +78,7 @@ this_answer [] q a e = absurd cc
 this_answer (x ∷ xs) zero a e = refl
 this_answer (x ∷ xs) (suc q) a e = this_answer xs q a e
 
-open_answer : (xs : List (Option rust.Answer)) (q : ℕ) → slice_get xs q ≡ Some None → given xs q ≡ None
+pub open_answer : (xs : List (Option rust.Answer)) (q : ℕ) → slice_get xs q ≡ Some None → given xs q ≡ None
 open_answer [] q e = absurd cc
 open_answer (x ∷ xs) zero e = let n : x ≡ None = cc in rw n refl
 open_answer (x ∷ xs) (suc q) e = open_answer xs q e

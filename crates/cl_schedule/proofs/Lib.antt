@@ -11,3 +11,10 @@ pub mod Steps
 pub mod Counted
 pub mod Headline
 pub mod Known
+pub mod Later
+pub mod Growing
+pub mod Seats
+pub mod Picked
+pub mod Waiting
+pub mod Playing
+pub mod Resting

@@ -135,7 +135,7 @@ none_goes_on old new p may =
 
 -- ---- what is posted is answered
 
-found_here : (xs : List Posted) (q : ℕ) (a : Answer) → answer_to xs q ≡ None → answer_to (xs ++ record { request = q; answer = a } ∷ []) q ≡ Some a
+pub found_here : (xs : List Posted) (q : ℕ) (a : Answer) → answer_to xs q ≡ None → answer_to (xs ++ record { request = q; answer = a } ∷ []) q ≡ Some a
 found_here xs q a none =
     let test = λ (p : Posted). p.request == q in
     let last : Posted = record { request = q; answer = a } in
@@ -150,7 +150,7 @@ or_nothing : {A : Type 0} (o : Option A) → option_or o None ≡ o
 or_nothing None = refl
 or_nothing (Some x) = refl
 
-post_other : (s : State) (q p : ℕ) (o : Option Answer) → nat_eq p q ≡ false → answer_to (after s (post_of p o)).answers q ≡ answer_to s.answers q
+pub post_other : (s : State) (q p : ℕ) (o : Option Answer) → nat_eq p q ≡ false → answer_to (after s (post_of p o)).answers q ≡ answer_to s.answers q
 post_other s q p None ne = refl
 post_other s q p (Some a) ne =
     let test = λ (r : Posted). r.request == q in
@@ -196,7 +196,7 @@ answered_below x n p t order below =
 -- ---- the round of a request
 
 -- a scheduled request stands with its round
-scheduled_round : (rs : List Request) (ns : List ℕ) (p : ℕ) (e : Scheduled) → slice_get (schedule rs ns) p ≡ Some e → slice_get ns p ≡ Some e.round
+pub scheduled_round : (rs : List Request) (ns : List ℕ) (p : ℕ) (e : Scheduled) → slice_get (schedule rs ns) p ≡ Some e → slice_get ns p ≡ Some e.round
 scheduled_round [] ns p e h = absurd cc
 scheduled_round (r ∷ rs) [] p e h = absurd cc
 scheduled_round (r ∷ rs) (n ∷ ns) zero e h = round_here n e (ap (option_map (λ (k : Scheduled). k.round)) h)
@@ -214,7 +214,7 @@ scheduled_at (k ∷ rs) (n ∷ ns) zero r whole h = (n, ap (option_map (λ (d : 
     the_scheduled d n = record { request = request_of d; round = n }
 scheduled_at (k ∷ rs) (n ∷ ns) (suc q) r whole h = scheduled_at rs ns q r (omega arith) h
 
-schedule_length : (rs : List Request) (ns : List ℕ) → length ns ≡ length rs → length (schedule rs ns) ≡ length rs
+pub schedule_length : (rs : List Request) (ns : List ℕ) → length ns ≡ length rs → length (schedule rs ns) ≡ length rs
 schedule_length [] ns whole = refl
 schedule_length (r ∷ rs) [] whole = absurd (omega arith)
 schedule_length (r ∷ rs) (n ∷ ns) whole = ap (λ (k : ℕ). suc k) (schedule_length rs ns (omega arith))
@@ -227,9 +227,9 @@ within rounds ns q n all at = subst (λ (k : ℕ). k < rounds) (index_is ns q n 
     index_is (k ∷ ns) zero n at = let same : k ≡ n = cc in same
     index_is (k ∷ ns) (suc q) n at = index_is ns q n at
 
--- once all before it are posted, and no further round may begin, the next request is of no later round
-pub next_is_now : (x : Shown) (q : ℕ) → IsTrusted x → posts x.history ≡ upto q → (tables.MayGoOn x → ⊥) → IsLater x q → ⊥
-next_is_now x q t order over late = over (record { answered = answered; later = later })
+-- once all before it are answered, and no further round may begin, the next request is of no later round
+pub next_is_begun : (x : Shown) (q : ℕ) → IsTrusted x → ((p : ℕ) → p < q → IsSome (answer_to (state_of x).answers p)) → (tables.MayGoOn x → ⊥) → IsLater x q → ⊥
+next_is_begun x q t before over late = over (record { answered = answered; later = later })
   where
     later : round_of x + 1 < x.script.rounds
     later = let below = within x.script.rounds x.script.rounds_of q late.round t.script.within late.of in let after = late.later in omega arith
@@ -249,8 +249,12 @@ next_is_now x q t order over late = over (record { answered = answered; later = 
 
     answered : (p : ℕ) (e : Scheduled) → slice_get (schedule_of x.script) p ≡ Some e → e.round ≡ round_of x → IsSome (answer_to (state_of x).answers p)
     answered p e at same =
-        answered_below x q p t order
+        before p
         (is_before p e (scheduled_round x.script.requests x.script.rounds_of p e at) same (cases_lt p q))
+
+-- the same once all before it are posted
+pub next_is_now : (x : Shown) (q : ℕ) → IsTrusted x → posts x.history ≡ upto q → (tables.MayGoOn x → ⊥) → IsLater x q → ⊥
+next_is_now x q t order over = next_is_begun x q t (λ p below. answered_below x q p t order below) over
 
 -- where all requests are posted, and no further round may begin, nothing is left
 pub nothing_left : (x : Shown) (n : ℕ) → IsTrusted x → posts x.history ≡ upto n → length x.script.requests ≡ n → (tables.MayGoOn x → ⊥) → IsUnfinished x → ⊥

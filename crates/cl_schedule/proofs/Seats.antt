@@ -24,10 +24,10 @@ use Rattle.cl_tasks.specs.declared.turn.Turn.TheVariants as turn
 use Rattle.cl_schedule.specs.Choices.{IsOwn, IsPieceOf, setting_in}
 use Rattle.cl_schedule.specs.Counting.{FaultsGrow, Grows, fault, told_faults}
 use Rattle.cl_schedule.specs.Replies.{Did, IsCall, IsReplied, IsStepOf}
-use Rattle.cl_schedule.specs.Seats.{BackedAs, IsMade, IsMadeFor, IsOf, IsPosted, IsSeated, IsSeatedFor, MadeOne, fault_in}
+use Rattle.cl_schedule.specs.Seats.{BackedAs, Grew, IsMade, IsMadeFor, IsOf, IsPosted, IsSeated, IsSeatedFor, MadeOne, fault_in}
 use Rattle.cl_schedule.specs.Serving.{machine, GoesBy, IsCallStep}
 use Rattle.cl_schedule.proofs.Counted.{told_fault, told_none}
-use Rattle.cl_schedule.proofs.Growing.{Grew, grew_by, holds_grew}
+use Rattle.cl_schedule.proofs.Growing.{grew_by, holds_grew}
 use Rattle.cl_schedule.proofs.Next.{next_of, step_of_call}
 use Rattle.cl_schedule.proofs.Rounds.{scheduled_at}
 use Rattle.cl_schedule.proofs.Served.{last_may, may_end}

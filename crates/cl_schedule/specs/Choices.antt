@@ -1,6 +1,5 @@
 -- Schedules: which request a choice takes, and what a history has of it (own choice; what is wanted is that of JVMS SE 8, 5.3 to 5.4.3).
 use Rattle.std.specs.Prelude.{◌≡◌, ◌⊎◌, ◌&&◌, ◌==◌, ◌%◌, ℕ, zero, suc, Bool, List, [], ◌∷◌, ◌++◌, length, Option, Some, None, is_none, if◌then◌else◌, slice_get}
-use Rattle.std.specs.List.{AllByRecursion}
 use Rattle.cl_model.specs.Content.{Content}
 use Rattle.cl_model.specs.States.{State, Answer, start, answer_to}
 use Rattle.cl_model.specs.Machine.{Setting, Scheduled, Step, Define, Initiate, Constrain, Settle, Prepare, Post, NextRound, Stray, state_after}
@@ -63,7 +62,6 @@ IsPieceOf (Some content) g s q e = (r : Scheduled) × (slice_get g.script q ≡ 
 -- these steps serve the request of this number from here to its post, whatever the source tells (own choice)
 pub record EndsOwn (q : ℕ) (es : List Step) : Type 0 where
   pub made : List Step
-  pub own : AllByRecursion (IsOwn q) made
   pub quiet : NoPosts made
   pub answer : Answer
   pub whole : es ≡ made ++ Post q answer ∷ []

@@ -1,13 +1,16 @@
 -- A request between choices: what its task asks for next, and what that rests on, whatever other requests do meanwhile (JVMS SE 8, 5.3 to 5.4.3).
 use Rattle.std.specs.Prelude.{◌≡◌, ◌⊎◌, ◌+◌, ◌<◌, ◌≤◌, ◌++◌, ℕ, List, length, Option, Some, None, slice_get, MatchOption, vec_capacity}
 use Rattle.cl_model.specs.declared.answer.Answer as rust
+use Rattle.cl_model.specs.declared.event.Event.{Event}
 use Rattle.cl_model.specs.declared.request.Request.{Request}
 use Rattle.cl_model.specs.Content.{Content}
+use Rattle.cl_model.specs.States.{start}
 use Rattle.cl_model.specs.Machine.{Step, state_after}
 use Rattle.cl_model.specs.Service.{IsNextStep, MayEnd, PassesRounds}
 use Rattle.cl_model.specs.Views.{answer_of, request_of}
 use Rattle.cl_config.specs.Loaders.{schedule_of}
 use Rattle.cl_config.specs.Views.{Configured, Scripted}
+use Rattle.cl_hierarchy.specs.Rows.{Rowed}
 use Rattle.cl_registry.specs.Kept.{left_in}
 use Rattle.cl_registry.specs.Posting.{IsBacked}
 use Rattle.cl_registry.specs.Tables.{Shown, IsKept, IsLater, IsOpen, MayGoOn, posts, round_of, state_of, steps, with_post}
@@ -24,6 +27,19 @@ use Rattle.cl_schedule.specs.Choices.{ByChoice, InTurn, IsServed, numbers, setti
 use Rattle.cl_schedule.specs.Counting.{fault, told_faults}
 use Rattle.cl_schedule.specs.Replies.{Did, IsCall, IsReplied, IsStepOf}
 use Rattle.cl_schedule.specs.Serving.{machine, GoesBy, IsCallStep, IsDone}
+
+-- ---- a registry that went on
+
+-- events and rows were added, and configuration and script are the same
+pub record Grew (old new : Shown) : Type 0 where
+  pub config : new.config ≡ old.config
+  pub script : new.script ≡ old.script
+  pub more : List Rowed
+  pub rows : new.rows ≡ old.rows ++ more
+  pub events : List Event
+  pub history : new.history ≡ old.history ++ events
+  pub made : List Step
+  pub steps_more : steps new ≡ steps old ++ made
 
 -- ---- what a task asks for next
 
@@ -140,11 +156,12 @@ pub record AreSeats {A : Type 0} (told : Option Content) (x : Shown) (seats : Li
   pub unposted : (q : ℕ) (s : Seat A) → slice_get seats q ≡ Some (Some s) → IsOpen x q
 
 -- no round may begin, and these wait: all of the round that have no answer; those from a number on are of later rounds
-pub record AreWaiting (x : Shown) (numbers : List ℕ) (later : ℕ) : Type 0 where
+pub record AreWaiting (x : Shown) (put : List ℕ) (later : ℕ) : Type 0 where
   pub over : MayGoOn x → ⊥
-  pub are : numbers ≡ waiting (state_of x) (schedule_of x.script)
-  pub below : (q round : ℕ) → q < later → slice_get x.script.rounds_of q ≡ Some round → round ≤ round_of x
+  pub are : put ≡ waiting (state_of x) (schedule_of x.script)
+  pub below : (q : ℕ) → q < later → IsOpen x q → slice_get x.script.rounds_of q ≡ Some (round_of x)
   pub above : (q : ℕ) → later ≤ q → q < length x.script.requests → IsOpen x q
+  pub beyond : (q round : ℕ) → later ≤ q → slice_get x.script.rounds_of q ≡ Some round → round_of x < round
   pub within : later ≤ length x.script.requests
 
 -- a seat is one of this request, wherever nothing has happened yet but rounds
@@ -153,8 +170,11 @@ IsFreshSeat told c q r s =
     (x : Shown) → x.config ≡ c → IsKept told x → slice_get x.script.requests q ≡ Some r → IsSeatedFor told x q s
 
 -- the request of this number was served
-abbrev pub IsFinished : Option Content → Shown → Shown → ℕ → Type 0
-IsFinished told old new q = (r : Request) → slice_get old.script.requests q ≡ Some r → IsDone told old new q r
+pub record IsFinished (told : Option Content) (old new : Shown) (q : ℕ) : Type 0 where
+  pub grew : Grew old new
+  pub request : Request
+  pub asked : slice_get old.script.requests q ≡ Some request
+  pub done : IsDone told old new q request
 
 -- the requests below this number have their answers, and the others have none
 pub record AreParted (x : Shown) (later : ℕ) : Type 0 where
@@ -182,13 +202,15 @@ pub record HasChosen (told : Option Content) (old new : Shown) (choice : ℕ) : 
   pub passed : PassesRounds (setting_in told old) (state_after (state_of old) one) rounds
   pub balanced : AreBalanced old → AreBalanced new
 
--- choices were made, one after another
+-- rounds alone began, as soon as they might (own choice)
+abbrev pub HasBegun : Option Content → Shown → Type 0
+HasBegun told x = PassesRounds (setting_in told x) start (steps x)
+
+-- choices were made, one after another, and nothing else
 pub record HavePlayed (told : Option Content) (old new : Shown) (choices : List ℕ) : Type 0 where
   pub config : new.config ≡ old.config
   pub script : new.script ≡ old.script
-  pub made : List Step
-  pub more : steps new ≡ steps old ++ made
-  pub in_turn : InTurn (setting_in told old) (ByChoice told (setting_in told old)) (state_of old) choices made
+  pub in_turn : InTurn (setting_in told new) (ByChoice told (setting_in told new)) start choices (steps new)
   pub balanced : AreBalanced old → AreBalanced new
 
 -- the requests that had no answer were served in order

@@ -6,7 +6,7 @@ ghost use Rattle.cl_registry.specs.Tables.{IsKept, MayGoOn};
 ghost use Rattle.cl_schedule.specs.Counting.{CountsFaults, FaultsGrow};
 ghost use Rattle.cl_schedule.specs.Schedules.{IsServedByChoices, RefusedAs};
 ghost use Rattle.cl_schedule.specs.Rounds.{RoundsPassed};
-ghost use Rattle.cl_schedule.specs.Seats.{AreAllSeats, AreGathered, AreParted, AreSeats, AreServed, AreWaiting, HasChosen, HavePlayed, IsRow};
+ghost use Rattle.cl_schedule.specs.Seats.{AreAllSeats, AreGathered, AreParted, AreSeats, AreServed, AreWaiting, HasBegun, HasChosen, HavePlayed, IsRow};
 
 use crate::seats::{Seat, advance, finish, seat_of};
 use crate::serve::{ServeFault, pass_rounds, request_at};
@@ -140,6 +140,7 @@ fn play<T: Told, S: Source<T>>(
     requires kept { IsKept T.told registry.old }
     requires script { script.now ≡ registry.old.script }
     requires row { IsRow T.told registry.old row.old }
+    requires begun { HasBegun T.told registry.old }
     ensures played { IfOk result (λ u. HavePlayed T.told registry.old registry.new schedule.now) }
     ensures row { IfOk result (λ u. IsRow T.told registry.new row.new) }
     ensures faults { IfOk result (λ u. FaultsGrow registry.old.answers registry.new.answers

@@ -136,3 +136,14 @@ read_grows A old new sources.Twice c = absurd c
 
 pub post_grows : (xs ys : List (Option Answer)) (q : ℕ) (a : Answer) (n old new : ℕ) → slice_get xs q ≡ Some None → ys ≡ slice_set xs q (Some a) → fault a ≡ n → Grows n old new → FaultsGrow xs ys old new
 post_grows xs ys q a n old new opened e one g = record { number = fault a; counted = ap faults e ∙ faults_set xs q a opened; grows = subst (λ (k : ℕ). Grows k old new) (sym one) g }
+
+-- no fault more
+pub quiet_faults : (xs ys : List (Option Answer)) (old new : ℕ) → ys ≡ xs → Grows 0 old new → FaultsGrow xs ys old new
+quiet_faults xs ys old new e g = record { number = 0; counted = ap faults e ∙ (omega arith); grows = g }
+
+-- one after another
+pub faults_on : (xs ys zs : List (Option Answer)) (a b c : ℕ) → FaultsGrow xs ys a b → FaultsGrow ys zs b c → FaultsGrow xs zs a c
+faults_on xs ys zs a b c g h = record { number = g.number + h.number; counted = (let one = g.counted in let two = h.counted in omega arith); grows = grows_then g.number h.number a b c g.grows h.grows }
+
+pub faults_same : (xs ys zs : List (Option Answer)) (a b : ℕ) → FaultsGrow xs ys a b → zs ≡ ys → FaultsGrow xs zs a b
+faults_same xs ys zs a b g e = subst (λ (l : List (Option Answer)). FaultsGrow xs l a b) (sym e) g

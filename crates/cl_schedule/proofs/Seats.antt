@@ -16,7 +16,7 @@ use Rattle.cl_tasks.specs.Facts.{Holds}
 use Rattle.cl_tasks.specs.Follows.{Backed, Follows, FollowsWhere, Refuses, Tells, TellsNow, TellsOf, Unrecorded, refusal}
 use Rattle.cl_tasks.specs.Tasks.{Tasked, begun}
 use Rattle.cl_tasks.specs.Turns.{Asks, Expects, IsReplyTo, Serves, call_of}
-use Rattle.cl_tasks.specs.Waits.{Waits}
+use Rattle.cl_tasks.specs.Waits.{Waits, Reading}
 use Rattle.cl_tasks.specs.declared.turn.Reply.{Reply}
 use Rattle.cl_tasks.specs.declared.turn.Reply.TheVariants as reply
 use Rattle.cl_tasks.specs.declared.turn.Turn.{Turn}
@@ -24,9 +24,10 @@ use Rattle.cl_tasks.specs.declared.turn.Turn.TheVariants as turn
 use Rattle.cl_schedule.specs.Choices.{IsOwn, IsPieceOf, setting_in}
 use Rattle.cl_schedule.specs.Counting.{FaultsGrow, Grows, fault, told_faults}
 use Rattle.cl_schedule.specs.Replies.{Did, IsCall, IsReplied, IsStepOf}
-use Rattle.cl_schedule.specs.Seats.{BackedAs, Grew, IsMade, IsMadeFor, IsOf, IsPosted, IsSeated, IsSeatedFor, MadeOne, fault_in}
+use Rattle.cl_schedule.specs.Seats.{BackedAs, Grew, IsMade, IsMadeFor, GoesOn, IsOf, IsPostOf, IsPosted, IsPostedBy, IsSeated, IsSeatedFor, MadeOne, fault_in}
 use Rattle.cl_schedule.specs.Serving.{machine, GoesBy, IsCallStep}
-use Rattle.cl_schedule.proofs.Counted.{told_fault, told_none}
+use Rattle.cl_schedule.specs.declared.seats.Seat.{Seat}
+use Rattle.cl_schedule.proofs.Counted.{post_grows, quiet_faults, told_fault, told_none}
 use Rattle.cl_schedule.proofs.Growing.{grew_by, holds_grew}
 use Rattle.cl_schedule.proofs.Next.{next_of, step_of_call}
 use Rattle.cl_schedule.proofs.Rounds.{scheduled_at}
@@ -210,7 +211,7 @@ posted_one told old new q t r f s e =
       asked = s.asked;
       answer = f.answer;
       posted = e;
-      ends = λ content is. may_end (machine old content) (state_of old) s.request f.answer (s.follows content is);
+      follows = λ content is. s.follows content is;
     }
 
 -- ---- as pieces
@@ -235,4 +236,92 @@ pub post_piece : (told : Option Content) (old new : Shown) (q : ℕ) → IsKept 
 post_piece None old new q kept p = refl
 post_piece (Some content) old new q kept p =
     let at = scheduled_at old.script.requests old.script.rounds_of q p.request kept.trusted.script.each p.asked in
-    (record { request = request_of p.request; round = at.0 }, at.1, inr (answer_of p.answer, p.ends content refl, refl))
+    (record { request = request_of p.request; round = at.0 }, at.1, inr (answer_of p.answer, may_end (machine old content) (state_of old) p.request p.answer (p.follows content refl), refl))
+
+-- ---- for the functions
+
+-- the seat after the first turn
+pub fresh_seat : {A : Type 0} (told : Option Content) (x : Shown) (q : ℕ) (r : Request) (c : Configured) (t : Tasked) (s : Seat A) → IsKept told x → slice_get x.script.requests q ≡ Some r → x.config ≡ c → t ≡ begun c q r → TurnSays told t s.task reply.Start s.next → IsSeatedFor told x q s
+fresh_seat {A = A} told x q r c t s kept asked config is says =
+    record { seated = seated_first told x q r c t s.task s.next kept asked config is says; quiet = fault_of {A = A} t reply.Start s.next (ap (λ (k : Tasked). k.waits) is) says.refused }
+
+-- the seat after a read
+pub seated_read : {A : Type 0} (told : Option Content) (x : Shown) (q loader : ℕ) (name : List ℕ) (t new : Tasked) (given : Reply A) (u : Turn A) → IsKept told x → IsSeated {A = A} told x q t (turn.Read loader name) → IsReplied x (Reading loader name) given → TurnSays told t new given u → IsSeated told x q new u
+seated_read told x q loader name t new given u kept s replied says =
+    seated_turn told x q s.request t new given u kept s.asked s.config s.of (tells_reply x t (turn.Read loader name) given s.asks s.holds replied) says
+
+-- a call posts no fault
+pub no_fault_in : {A : Type 0} (u : Turn A) → IsCall u → fault_in u ≡ 0
+no_fault_in (turn.Look l n) call = refl
+no_fault_in (turn.Read l n) call = refl
+no_fault_in (turn.Define d) call = refl
+no_fault_in (turn.Initiate k) call = refl
+no_fault_in (turn.Lineage c) call = refl
+no_fault_in (turn.LookReference c i) call = refl
+no_fault_in (turn.Settle f) call = refl
+no_fault_in (turn.Impose l k) call = refl
+no_fault_in (turn.LookPrepared c) call = refl
+no_fault_in (turn.Mark l) call = refl
+no_fault_in (turn.Post f) call = absurd call
+
+-- what a seat posts may be posted
+pub may_post : {A : Type 0} (told : Option Content) (x : Shown) (q : ℕ) (t : Tasked) (u : Turn A) → IsSeated told x q t u → (IsLater x q → ⊥) → IsOpen x q → IsPostOf x q u
+may_post told x q t (turn.Look l n) s begun is = tt
+may_post told x q t (turn.Read l n) s begun is = tt
+may_post told x q t (turn.Define d) s begun is = tt
+may_post told x q t (turn.Initiate k) s begun is = tt
+may_post told x q t (turn.Lineage c) s begun is = tt
+may_post told x q t (turn.LookReference c i) s begun is = tt
+may_post told x q t (turn.Settle f) s begun is = tt
+may_post told x q t (turn.Impose l k) s begun is = tt
+may_post told x q t (turn.LookPrepared c) s begun is = tt
+may_post told x q t (turn.Mark l) s begun is = tt
+may_post told x q t (turn.Post f) s begun is = record { asked = s.asked ∙ ap (λ (r : Request). Some r) (sym s.of); begun = begun; unposted = is }
+
+-- one call and its turn
+pub goes_on : {A : Type 0} (told : Option Content) (old new : Shown) (q : ℕ) (before after : Seat A) (t : Tasked) (u : Turn A) (given : Reply A) → IsSeated told old q t u → IsMade old new u given → IsKept told new → TurnSays told t after.task given after.next → after.task.left < before.task.left → GoesOn told old new q before after
+goes_on {A = A} told old new q before after t u given s m kept says less =
+    record {
+      made = made_one told old new q t u given s m kept;
+      seated = record {
+        seated = seated_made told old new q t after.task u after.next given s m kept says;
+        quiet = fault_of {A = A} t given after.next (expects_made told old new q t u given s m) says.refused ∙ m.quiet;
+      };
+      left = less;
+    }
+
+-- the post of a seat
+pub is_posted : {A : Type 0} (told : Option Content) (old new : Shown) (q : ℕ) (t : Tasked) (u : Turn A) → IsSeated told old q t u → IsPostedBy old new q u → IsPosted told old new q
+is_posted told old new q t (turn.Look l n) s p = absurd p
+is_posted told old new q t (turn.Read l n) s p = absurd p
+is_posted told old new q t (turn.Define d) s p = absurd p
+is_posted told old new q t (turn.Initiate k) s p = absurd p
+is_posted told old new q t (turn.Lineage c) s p = absurd p
+is_posted told old new q t (turn.LookReference c i) s p = absurd p
+is_posted told old new q t (turn.Settle f) s p = absurd p
+is_posted told old new q t (turn.Impose l k) s p = absurd p
+is_posted told old new q t (turn.LookPrepared c) s p = absurd p
+is_posted told old new q t (turn.Mark l) s p = absurd p
+is_posted told old new q t (turn.Post f) s p = posted_one told old new q t s.request f s p
+
+-- the faults of a post
+pub post_faults : {A : Type 0} (old new : Shown) (q : ℕ) (u : Turn A) (a b : ℕ) → IsPostedBy old new q u → IsOpen old q → Grows (fault_in u) a b → FaultsGrow old.answers new.answers a b
+post_faults old new q (turn.Look l n) a b p is g = absurd p
+post_faults old new q (turn.Read l n) a b p is g = absurd p
+post_faults old new q (turn.Define d) a b p is g = absurd p
+post_faults old new q (turn.Initiate k) a b p is g = absurd p
+post_faults old new q (turn.Lineage c) a b p is g = absurd p
+post_faults old new q (turn.LookReference c i) a b p is g = absurd p
+post_faults old new q (turn.Settle f) a b p is g = absurd p
+post_faults old new q (turn.Impose l k) a b p is g = absurd p
+post_faults old new q (turn.LookPrepared c) a b p is g = absurd p
+post_faults old new q (turn.Mark l) a b p is g = absurd p
+post_faults old new q (turn.Post f) a b p is g = post_grows old.answers new.answers q f.answer (fault f.answer) a b is (ap (λ (x : Shown). x.answers) p) refl g
+
+-- and of a call, which are none
+pub call_faults : {A : Type 0} (old new : Shown) (u : Turn A) (given : Reply A) (a b : ℕ) → IsMade old new u given → Grows (fault_in u) a b → FaultsGrow old.answers new.answers a b
+call_faults old new u given a b m g = quiet_faults old.answers new.answers a b (answers_did old new (IsStepOf old u) m.did) (subst (λ (n : ℕ). Grows n a b) (no_fault_in u m.call) g)
+  where
+    answers_did : (old new : Shown) (such : Step → Type 0) → Did old new such → new.answers ≡ old.answers
+    answers_did old new such (inl same) = ap (λ (x : Shown). x.answers) same
+    answers_did old new such (inr did) = did.2.answers

@@ -6,8 +6,8 @@ use Rattle.cl_model.specs.declared.request.Request.{Request}
 use Rattle.cl_model.specs.Content.{Content}
 use Rattle.cl_model.specs.States.{start}
 use Rattle.cl_model.specs.Machine.{Step, state_after}
-use Rattle.cl_model.specs.Service.{IsNextStep, MayEnd, PassesRounds}
-use Rattle.cl_model.specs.Views.{answer_of, request_of}
+use Rattle.cl_model.specs.Service.{IsNextStep, PassesRounds}
+use Rattle.cl_model.specs.Views.{request_of}
 use Rattle.cl_config.specs.Loaders.{schedule_of}
 use Rattle.cl_config.specs.Views.{Configured, Scripted}
 use Rattle.cl_hierarchy.specs.Rows.{Rowed}
@@ -15,7 +15,7 @@ use Rattle.cl_registry.specs.Kept.{left_in}
 use Rattle.cl_registry.specs.Posting.{IsBacked}
 use Rattle.cl_registry.specs.Tables.{Shown, IsKept, IsLater, IsOpen, MayGoOn, posts, round_of, state_of, steps, with_post}
 use Rattle.cl_tasks.specs.Facts.{Holds}
-use Rattle.cl_tasks.specs.Follows.{Backed, Follows}
+use Rattle.cl_tasks.specs.Follows.{AnswerFollows, Backed, Follows}
 use Rattle.cl_tasks.specs.Tasks.{Tasked}
 use Rattle.cl_tasks.specs.Turns.{Asks, call_of}
 use Rattle.cl_tasks.specs.declared.turn.Reply.{Reply}
@@ -125,7 +125,7 @@ pub record IsPosted (told : Option Content) (old new : Shown) (q : ℕ) : Type 0
   pub asked : slice_get old.script.requests q ≡ Some request
   pub answer : rust.Answer
   pub posted : new ≡ with_post old q answer
-  pub ends : (content : Content) → told ≡ Some content → MayEnd (machine old content) (state_of old) (request_of request) (answer_of answer)
+  pub follows : (content : Content) → told ≡ Some content → AnswerFollows (machine old content) (state_of old) request answer
 
 -- nothing was made for a request, or one step was
 abbrev pub MadeOne : Option Content → Shown → Shown → ℕ → Type 0

@@ -44,7 +44,10 @@ fn seats_of<T: Told>(
         let held = Arc::try_clone(config)?;
         let request = request_at(alloc, script, q)?;
         let seat = seat_of(alloc, held, q, request)?;
-        seats.push(Some(seat))?;
+        match seats.push(Some(seat)) {
+            Ok(()) => {}
+            Err(_) => return Err(ServeFault::Memory),
+        }
     }
     Ok(seats)
 }

@@ -4,7 +4,7 @@ use cl_config::{Config, Script};
 use cl_model::{LoaderId, Untold};
 use cl_names::Name;
 use cl_registry::Report;
-use cl_schedule::serve_one;
+use cl_schedule::{serve_one, simulate};
 use cl_source::{MemorySource, Source};
 use std::alloc::{AllocError, Global};
 use std::sync::Arc;
@@ -72,6 +72,27 @@ pub fn served<S: Source<Untold>>(
     let config = Arc::new(alloc, config)?;
     let script = Arc::new(alloc, script)?;
     match serve_one::<Untold, S>(alloc, config, source, script) {
+        Ok(report) => Ok(report),
+        Err(_) => Err(AllocError),
+    }
+}
+
+/// The report of a script that is served over a source by a schedule.
+pub fn simulated<S: Source<Untold>>(
+    alloc: Global,
+    source: &mut S,
+    text: &str,
+    schedule: &[u32],
+) -> Result<Report, AllocError> {
+    let Ok(config) = Config::read(alloc, LOADERS) else {
+        return Err(AllocError);
+    };
+    let Ok(script) = Script::read(alloc, &config, text) else {
+        return Err(AllocError);
+    };
+    let config = Arc::new(alloc, config)?;
+    let script = Arc::new(alloc, script)?;
+    match simulate::<Untold, S>(alloc, config, source, script, schedule) {
         Ok(report) => Ok(report),
         Err(_) => Err(AllocError),
     }

@@ -5,6 +5,8 @@
 #[cfg(test)]
 mod given;
 #[cfg(test)]
+mod schedules;
+#[cfg(test)]
 mod service;
 #[cfg(test)]
 mod tasks;

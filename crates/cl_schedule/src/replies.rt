@@ -63,7 +63,11 @@ fn refused<T: Told>(fault: RegistryFault) -> Reply<T>
 }
 
 /// The reply of a definition that the tables bear (JVMS SE 8, 5.3.5).
-pub(crate) fn define<T: Told>(alloc: Global, registry: &mut Registry<T>, draft: Draft<T>) -> Reply<T>
+pub(crate) fn define<T: Told>(
+    alloc: Global,
+    registry: &mut Registry<T>,
+    draft: Draft<T>,
+) -> Reply<T>
     requires { MayEnter registry.old draft }
     ensures replied { IsReplied registry.new (Defining draft) result }
     ensures did { Did registry.old registry.new (DefinesBy draft) }
@@ -77,7 +81,11 @@ pub(crate) fn define<T: Told>(alloc: Global, registry: &mut Registry<T>, draft: 
 }
 
 /// The reply of a record of an initiating loader that the tables bear (JVMS SE 8, 5.3).
-pub(crate) fn initiate<T: Told>(alloc: Global, registry: &mut Registry<T>, home: Arc<Home<T>>) -> Reply<T>
+pub(crate) fn initiate<T: Told>(
+    alloc: Global,
+    registry: &mut Registry<T>,
+    home: Arc<Home<T>>,
+) -> Reply<T>
     requires { MayJoin registry.old home.value }
     ensures replied { IsReplied registry.new (Initiating home.value) result }
     ensures did { Did registry.old registry.new (InitiatesBy home.value) }
@@ -117,7 +125,11 @@ pub(crate) fn look_reference<T: Told>(registry: &Registry<T>, class: &Class, ind
 }
 
 /// The reply of a settlement that the tables bear (JVMS SE 8, 5.4.3).
-pub(crate) fn settle<T: Told>(alloc: Global, registry: &mut Registry<T>, finding: Finding<T>) -> Reply<T>
+pub(crate) fn settle<T: Told>(
+    alloc: Global,
+    registry: &mut Registry<T>,
+    finding: Finding<T>,
+) -> Reply<T>
     requires { MaySettle registry.old finding }
     ensures replied { IsReplied registry.new (Settling finding.request) result }
     ensures did { Did registry.old registry.new (SettlesBy registry.old finding) }
@@ -160,7 +172,11 @@ pub(crate) fn look_prepared<T: Told>(registry: &Registry<T>, class: &Class) -> R
 }
 
 /// The reply of a preparation that the tables bear (JVMS SE 8, 5.4.2).
-pub(crate) fn mark<T: Told>(alloc: Global, registry: &mut Registry<T>, list: Arc<Equalities<T>>) -> Reply<T>
+pub(crate) fn mark<T: Told>(
+    alloc: Global,
+    registry: &mut Registry<T>,
+    list: Arc<Equalities<T>>,
+) -> Reply<T>
     requires { MayMark registry.old list.value }
     ensures replied { IsReplied registry.new (Marking list.value) result }
     ensures did { Did registry.old registry.new (PreparesBy list.value.origin) }

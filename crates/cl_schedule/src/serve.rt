@@ -9,7 +9,9 @@ ghost use Rattle.cl_schedule.specs.Known.{TellsKnown};
 ghost use Rattle.cl_schedule.specs.Rounds.{RoundsPassed};
 ghost use Rattle.cl_schedule.specs.Serving.{IsDone};
 
-use crate::replies::{define, impose, initiate, lineage, look, look_prepared, look_reference, mark, read, settle};
+use crate::replies::{
+    define, impose, initiate, lineage, look, look_prepared, look_reference, mark, read, settle,
+};
 use cl_config::{Config, Script};
 use cl_findings::Finding;
 use cl_model::{Request, Told};

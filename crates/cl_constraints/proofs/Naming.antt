@@ -268,3 +268,6 @@ module _ {N : Type 0} (record_at : N → ℕ → Option ℕ) (joins : N → ℕ 
 
   pub agrees_here : (Divides (home_of record_at book name) (joins_of joins book name) a b → ⊥) → Divides (record_at one) (joins one) a b → ⊥
   agrees_here h = subst (λ o. Divides (λ l. home_or_none record_at l o) (λ x y. joins_or_same joins x y o) a b → ⊥) there h
+
+  pub fits_here : (Differs (home_of record_at book name) (joins_of joins book name) a b → ⊥) → Differs (record_at one) (joins one) a b → ⊥
+  fits_here h = subst (λ o. Differs (λ l. home_or_none record_at l o) (λ x y. joins_or_same joins x y o) a b → ⊥) there h

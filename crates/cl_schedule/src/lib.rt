@@ -1,6 +1,7 @@
 //! Scripts of requests, served in order.
 #![tactic(auto)]
 
+mod ask;
 mod replies;
 mod serve;
 

@@ -22,13 +22,15 @@ use Rattle.cl_registry.specs.declared.registry.RegistryFault.{RegistryFault}
 use Rattle.cl_registry.specs.declared.registry.RegistryFault.TheVariants.{Memory, Stray, Violates, AlreadyPosted, NotYet}
 use Rattle.cl_registry.specs.Imposing.{Constrains, Imposes, IsNextOf, MarksBy, MayImpose, Prepares}
 use Rattle.cl_registry.specs.References.{Cited, IsSettledIn, cited_by, settled_by}
-use Rattle.cl_registry.specs.Refusals.{Blames, DefineRefusedFor, ImposeRefusedFor, InitiateRefusedFor, SettleRefusedFor}
+use Rattle.cl_registry.specs.Posting.{IsBacked}
+use Rattle.cl_registry.specs.Refusals.{Blames, DefineRefusedFor, ImposeRefusedFor, InitiateRefusedFor, PostRefusedFor, SettleRefusedFor}
 use Rattle.cl_registry.specs.Settling.{MaySettle, SettledAs, Settles}
 use Rattle.cl_registry.specs.Tables.{Shown, Defines, DefinedAs, Initiates, InitiatedAs, MayEnter, MayJoin, asked_record, own_record, records_of, row_for, settled_at, state_of}
 use Rattle.cl_registry.proofs.Settled.{settled_is_told}
 use Rattle.cl_tasks.specs.Follows.{IsSettledOf}
 use Rattle.cl_tasks.specs.Waits.{Waits, Defining, Initiating, Settling, Imposing, Ended}
 use Rattle.cl_tasks.specs.declared.turn.Reply.{Reply}
+use Rattle.cl_schedule.specs.Calls.{MayBePosted}
 use Rattle.cl_schedule.specs.Replies.{Did, ImposesBy, IsReplied, PreparesBy, SettlesBy, refusal_of}
 use Rattle.cl_schedule.proofs.Histories.{goes_by, goes_event}
 
@@ -171,3 +173,14 @@ settled_entry x (requests.Resolve loader name i) s e = by_record (recorded (reco
           where
             some_is : (a b : ℕ) → Some a ≡ Some b → a ≡ b
             some_is a b e = cc
+
+-- ---- a post that is refused
+
+-- what may be posted is refused only where the tables do not bear it
+pub post_strayed : (x : Shown) (q : ℕ) (f : Answered) (fault : RegistryFault) → MayBePosted x q f.request → PostRefusedFor x q f fault → IsBacked x f → ⊥
+post_strayed x q f Memory may refused backed = refused
+post_strayed x q f Stray may (inl unasked) backed = unasked may.asked
+post_strayed x q f Stray may (inr r) backed = r.3 backed
+post_strayed x q f (Violates n) may refused backed = refused
+post_strayed x q f AlreadyPosted may refused backed = refused.2 may.unposted
+post_strayed x q f NotYet may refused backed = may.begun refused.1

@@ -48,7 +48,8 @@ use Rattle.cl_tasks.specs.Tasks.{Tasked, Fact, Stands as FactStands, StandsRefus
 use Rattle.cl_tasks.specs.declared.turn.Turn.{Turn}
 use Rattle.cl_tasks.specs.declared.turn.Turn.TheVariants as turn
 use Rattle.cl_schedule.specs.Rounds.{RoundsPassed}
-use Rattle.cl_schedule.specs.Seats.{BackedAs, Grew, IsOf, IsSeated, IsSeatedFor}
+use Rattle.cl_schedule.specs.Calls.{BackedAs}
+use Rattle.cl_schedule.specs.Seats.{Grew, IsOf, IsSeated, IsSeatedFor}
 use Rattle.cl_schedule.specs.Serving.{machine, GoesBy}
 use Rattle.cl_schedule.specs.declared.seats.Seat.{Seat}
 use Rattle.cl_schedule.proofs.Histories.{steps_posts, unposted}

@@ -23,22 +23,21 @@ use Rattle.cl_tasks.specs.declared.turn.Turn.{Turn}
 use Rattle.cl_tasks.specs.declared.turn.Turn.TheVariants as turn
 use Rattle.cl_schedule.specs.Choices.{IsOwn, IsPieceOf, setting_in}
 use Rattle.cl_schedule.specs.Counting.{FaultsGrow, Grows, fault, told_faults}
-use Rattle.cl_schedule.specs.Replies.{Did, IsCall, IsReplied, IsStepOf}
-use Rattle.cl_schedule.specs.Seats.{BackedAs, Grew, IsMade, IsMadeFor, GoesOn, IsOf, IsPostOf, IsPosted, IsPostedBy, IsSeated, IsSeatedFor, MadeOne, fault_in}
+use Rattle.cl_schedule.specs.Calls.{BackedAs, IsCall, IsMade, IsPostOf, IsPostedBy, IsRead, IsStrayed}
+use Rattle.cl_schedule.specs.Replies.{Did, IsReplied, IsStepOf}
+use Rattle.cl_schedule.specs.Schedules.{RefusedAs}
+use Rattle.cl_schedule.specs.Seats.{GoesOn, Grew, IsMadeFor, IsOf, IsPosted, IsSeated, IsSeatedFor, MadeOne, fault_in}
 use Rattle.cl_schedule.specs.Serving.{machine, GoesBy, IsCallStep}
 use Rattle.cl_schedule.specs.declared.seats.Seat.{Seat}
-use Rattle.cl_schedule.proofs.Counted.{post_grows, quiet_faults, told_fault, told_none}
+use Rattle.cl_schedule.proofs.Counted.{grows_on, post_grows, quiet_faults, told_fault, told_none}
 use Rattle.cl_schedule.proofs.Growing.{grew_by, holds_grew}
 use Rattle.cl_schedule.proofs.Next.{next_of, step_of_call}
 use Rattle.cl_schedule.proofs.Rounds.{scheduled_at}
 use Rattle.cl_schedule.proofs.Served.{last_may, may_end}
 use Rattle.cl_schedule.proofs.States.{same_machine}
-use Rattle.cl_schedule.proofs.Steps.{TurnSays, of_request, served_in, unrecorded_of}
+use Rattle.cl_schedule.proofs.Steps.{TurnSays, backed_as, of_request, served_in, some_request, unrecorded_of}
 
 -- ---- a turn
-
-some_request : (p q : Request) → Some p ≡ Some q → p ≡ q
-some_request p q e = cc
 
 is_of : {A : Type 0} (r : Request) (t new : Tasked) (u : Turn A) → Serves t new u → t.request ≡ Some r → IsOf r new u
 is_of r t new (turn.Look l n) s e = s ∙ e
@@ -66,19 +65,6 @@ still_of r t (turn.Impose l k) of call = of
 still_of r t (turn.LookPrepared c) of call = of
 still_of r t (turn.Mark l) of call = of
 still_of r t (turn.Post f) of call = absurd call
-
-backed_as : {A : Type 0} (told : Option Content) (x : Shown) (u : Turn A) → Backed x u → BackedAs told x u
-backed_as told x (turn.Look l n) b = b
-backed_as told x (turn.Read l n) b = b
-backed_as told x (turn.Define d) b = b
-backed_as told x (turn.Initiate h) b = b
-backed_as told x (turn.Lineage c) b = b
-backed_as told x (turn.LookReference c i) b = b
-backed_as told x (turn.Settle f) b = b
-backed_as told x (turn.Impose l k) b = b
-backed_as told x (turn.LookPrepared c) b = b
-backed_as told x (turn.Mark l) b = b
-backed_as told x (turn.Post f) b = λ content e. b
 
 -- a turn leads to a seat, where the reply tells what the tables hold
 pub seated_turn : {A : Type 0} (told : Option Content) (x : Shown) (q : ℕ) (r : Request) (t new : Tasked) (given : Reply A) (u : Turn A) → IsKept told x → slice_get x.script.requests q ≡ Some r → t.config ≡ x.config → t.request ≡ Some r → TellsNow x t given → TurnSays told t new given u
@@ -156,12 +142,12 @@ script_did old new such (inl same) = ap (λ (x : Shown). x.script) same
 script_did old new such (inr did) = did.2.script
 
 -- what a call was answered is expected by the task that asked for it
-pub expects_made : {A : Type 0} (told : Option Content) (old new : Shown) (q : ℕ) (t : Tasked) (u : Turn A) (given : Reply A) → IsSeated told old q t u → IsMade old new u given → Expects t given
-expects_made told old new q t u given s m = expects_reply told old new q t u given s (config_did old new (IsStepOf old u) m.did) m.replied
+pub expects_made : {A S : Type 0} (told : Option Content) (old new : Shown) (q : ℕ) (t : Tasked) (u : Turn A) (given : Reply A) (count later : ℕ) (source since : S) → IsSeated told old q t u → IsMade old new u given count later source since → Expects t given
+expects_made told old new q t u given count later source since s m = expects_reply told old new q t u given s (config_did old new (IsStepOf old u) m.did) m.replied
 
 -- the turn on what a call was answered
-pub seated_made : {A : Type 0} (told : Option Content) (old new : Shown) (q : ℕ) (t after : Tasked) (u next : Turn A) (given : Reply A) → IsSeated told old q t u → IsMade old new u given → IsKept told new → TurnSays told t after given next → IsSeated told new q after next
-seated_made told old new q t after u next given s m kept says =
+pub seated_made : {A S : Type 0} (told : Option Content) (old new : Shown) (q : ℕ) (t after : Tasked) (u next : Turn A) (given : Reply A) (count later : ℕ) (source since : S) → IsSeated told old q t u → IsMade old new u given count later source since → IsKept told new → TurnSays told t after given next → IsSeated told new q after next
+seated_made told old new q t after u next given count later source since s m kept says =
     let did = m.did in
     seated_turn told new q s.request t after given next kept (ap (λ k. slice_get k.requests q) (script_did old new (IsStepOf old u) did) ∙ s.asked) (s.config ∙ sym (config_did old new (IsStepOf old u) did)) (still_of s.request t u s.of m.call)
     (tells_reply new t u given s.asks (holds_did told old new u t did kept s.holds) m.replied) says
@@ -180,8 +166,8 @@ serves_self r t (turn.Mark l) of call = refl
 serves_self r t (turn.Post f) of call = absurd call
 
 -- the step that a call made comes next in the service of its request
-pub made_one : {A : Type 0} (told : Option Content) (old new : Shown) (q : ℕ) (t : Tasked) (u : Turn A) (given : Reply A) → IsSeated told old q t u → IsMade old new u given → IsKept told new → MadeOne told old new q
-made_one told old new q t u given s m kept = by_case m.did
+pub made_one : {A S : Type 0} (told : Option Content) (old new : Shown) (q : ℕ) (t : Tasked) (u : Turn A) (given : Reply A) (count later : ℕ) (source since : S) → IsSeated told old q t u → IsMade old new u given count later source since → IsKept told new → MadeOne told old new q
+made_one told old new q t u given count later source since s m kept = by_case m.did
   where
     by_case : Did old new (IsStepOf old u) → MadeOne told old new q
     by_case (inl same) = inl same
@@ -279,13 +265,14 @@ may_post told x q t (turn.Mark l) s begun is = tt
 may_post told x q t (turn.Post f) s begun is = record { asked = s.asked ∙ ap (λ (r : Request). Some r) (sym s.of); begun = begun; unposted = is }
 
 -- one call and its turn
-pub goes_on : {A : Type 0} (told : Option Content) (old new : Shown) (q : ℕ) (before after : Seat A) (t : Tasked) (u : Turn A) (given : Reply A) → IsSeated told old q t u → IsMade old new u given → IsKept told new → TurnSays told t after.task given after.next → after.task.left < before.task.left → GoesOn told old new q before after
-goes_on {A = A} told old new q before after t u given s m kept says less =
+pub goes_on : {A S : Type 0} (told : Option Content) (old new : Shown) (q : ℕ) (before after : Seat A) (t : Tasked) (u : Turn A) (given : Reply A) (count later : ℕ) (source since : S) → IsSeated told old q t u → (IsRead u → ⊥) → IsMade old new u given count later source since → IsKept told new → TurnSays told t after.task given after.next
+    → after.task.left < before.task.left → GoesOn told old new q before after
+goes_on {A = A} told old new q before after t u given count later source since s call m kept says less =
     record {
-      made = made_one told old new q t u given s m kept;
+      made = made_one told old new q t u given count later source since s m kept;
       seated = record {
-        seated = seated_made told old new q t after.task u after.next given s m kept says;
-        quiet = fault_of {A = A} t given after.next (expects_made told old new q t u given s m) says.refused ∙ m.quiet;
+        seated = seated_made told old new q t after.task u after.next given count later source since s m kept says;
+        quiet = fault_of {A = A} t given after.next (expects_made told old new q t u given count later source since s m) says.refused ∙ m.quiet call;
       };
       left = less;
     }
@@ -319,9 +306,32 @@ post_faults old new q (turn.Mark l) a b p is g = absurd p
 post_faults old new q (turn.Post f) a b p is g = post_grows old.answers new.answers q f.answer (fault f.answer) a b is (ap (λ (x : Shown). x.answers) p) refl g
 
 -- and of a call, which are none
-pub call_faults : {A : Type 0} (old new : Shown) (u : Turn A) (given : Reply A) (a b : ℕ) → IsMade old new u given → Grows (fault_in u) a b → FaultsGrow old.answers new.answers a b
-call_faults old new u given a b m g = quiet_faults old.answers new.answers a b (answers_did old new (IsStepOf old u) m.did) (subst (λ (n : ℕ). Grows n a b) (no_fault_in u m.call) g)
+pub call_faults : {A S : Type 0} (old new : Shown) (u : Turn A) (given : Reply A) (a b later : ℕ) (source since : S) → IsMade old new u given b later source since → (IsRead u → ⊥) → Grows (fault_in u) a b → FaultsGrow old.answers new.answers a later
+call_faults old new u given a b later source since m call g =
+    quiet_faults old.answers new.answers a later (answers_did old new (IsStepOf old u) m.did)
+    (grows_quiet_on (fault_in u) (told_faults given) a b later (no_fault_in u m.call) (m.quiet call) g m.faults)
   where
     answers_did : (old new : Shown) (such : Step → Type 0) → Did old new such → new.answers ≡ old.answers
     answers_did old new such (inl same) = ap (λ (x : Shown). x.answers) same
     answers_did old new such (inr did) = did.2.answers
+
+    grows_quiet_on : (n m a b c : ℕ) → n ≡ 0 → m ≡ 0 → Grows n a b → Grows m b c → Grows 0 a c
+    grows_quiet_on n m a b c none still g h = subst (λ (k : ℕ). Grows k a c) still (grows_on n m a b c g none h)
+
+-- where a content is told no call is strayed
+pub strayed_refused : {A : Type 0} (told : Option Content) (x : Shown) (u : Turn A) (fault : _) → BackedAs told x u → IsStrayed x u fault → RefusedAs told fault
+strayed_refused None x u fault b s = tt
+strayed_refused (Some content) x u fault b s = absurd (s.unbacked (backed_in content x u b))
+  where
+    backed_in : {A : Type 0} (content : Content) (x : Shown) (u : Turn A) → BackedAs (Some content) x u → Backed x u
+    backed_in content x (turn.Look l n) b = b
+    backed_in content x (turn.Read l n) b = b
+    backed_in content x (turn.Define d) b = b
+    backed_in content x (turn.Initiate h) b = b
+    backed_in content x (turn.Lineage c) b = b
+    backed_in content x (turn.LookReference c i) b = b
+    backed_in content x (turn.Settle f) b = b
+    backed_in content x (turn.Impose l k) b = b
+    backed_in content x (turn.LookPrepared c) b = b
+    backed_in content x (turn.Mark l) b = b
+    backed_in content x (turn.Post f) b = b content refl

@@ -22,8 +22,9 @@ use Rattle.cl_tasks.specs.declared.turn.Reply.{Reply}
 use Rattle.cl_tasks.specs.declared.turn.Reply.TheVariants as reply
 use Rattle.cl_tasks.specs.declared.turn.Turn.{Turn}
 use Rattle.cl_tasks.specs.declared.turn.Turn.TheVariants as turn
+use Rattle.cl_schedule.specs.Calls.{IsCall, IsRead}
 use Rattle.cl_schedule.specs.Known.{Has, IsToldAtOnce, SaysOrLacks, TellsKnown}
-use Rattle.cl_schedule.specs.Replies.{Did, IsCall, IsRead, IsReplied, IsStepOf}
+use Rattle.cl_schedule.specs.Replies.{Did, IsReplied, IsStepOf}
 
 -- ---- turns
 

@@ -1,6 +1,7 @@
 -- One turn of a request, and the call that it asks for (JVMS SE 8, 5.3 to 5.4.3).
-use Rattle.std.proofs.Common.{◌≡◌, inl, inr, ◌∙◌, ℕ, Option, Some, None, refl, sym, ap, subst}
-use Rattle.std.specs.Prelude.{IfSome}
+use Rattle.std.proofs.Common.{◌≡◌, inl, inr, ◌∙◌, ℕ, List, Option, Some, None, refl, sym, ap, subst}
+use Rattle.std.specs.Prelude.{IfSome, slice_get, slice_set}
+use Rattle.cl_model.specs.declared.answer.Answer as rust
 use Rattle.cl_model.specs.declared.request.Request.{Request}
 use Rattle.cl_model.specs.Content.{Content}
 use Rattle.cl_model.proofs.Sound.{runs_are_sound}
@@ -8,7 +9,7 @@ use Rattle.cl_config.specs.Views.{Configured}
 use Rattle.cl_delegation.specs.Worlds.{setting_of}
 use Rattle.cl_config.specs.Loaders.{schedule_of}
 use Rattle.cl_model.proofs.Tables.{trusted_is_consistent}
-use Rattle.cl_registry.specs.Tables.{Shown, IsKept, RunsAs, state_of, steps}
+use Rattle.cl_registry.specs.Tables.{Shown, IsKept, IsLater, IsOpen, RunsAs, state_of, steps}
 use Rattle.cl_tasks.specs.Facts.{Holds}
 use Rattle.cl_tasks.specs.Follows.{Backed, BackedWhere, Follows, FollowsWhere, Refuses, ServedIn, Tells, TellsNow, TellsOf, Unrecorded, refusal}
 use Rattle.cl_tasks.specs.Tasks.{Tasked, begun}
@@ -18,13 +19,15 @@ use Rattle.cl_tasks.specs.declared.turn.Reply.{Reply}
 use Rattle.cl_tasks.specs.declared.turn.Reply.TheVariants as reply
 use Rattle.cl_tasks.specs.declared.turn.Turn.{Turn}
 use Rattle.cl_tasks.specs.declared.turn.Turn.TheVariants as turn
-use Rattle.cl_schedule.specs.Counting.{Grows, told_faults}
-use Rattle.cl_schedule.specs.Replies.{Did, IsCall, IsRead, IsReplied, IsStepOf, Shows}
-use Rattle.cl_schedule.specs.Serving.{machine}
-use Rattle.cl_schedule.proofs.Counted.{grows_none, grows_on, told_none}
+use Rattle.cl_schedule.specs.Calls.{BackedAs, IsCall, IsMade, IsPostMade, IsPostOf, IsPostedBy, IsRead}
+use Rattle.cl_schedule.specs.Counting.{FaultsGrow, Grows, told_faults}
+use Rattle.cl_schedule.specs.Replies.{Did, IsReplied, IsStepOf, Shows}
+use Rattle.cl_schedule.specs.Known.{TellsKnown}
+use Rattle.cl_schedule.specs.Serving.{machine, IsDone}
+use Rattle.cl_schedule.proofs.Counted.{grows_none, grows_on, post_grows, told_fault, told_none}
 use Rattle.cl_schedule.proofs.Next.{next_of, step_of_call}
-use Rattle.cl_schedule.proofs.Served.{Going, going_did, going_start}
-use Rattle.cl_schedule.proofs.Stations.{Known, known_on, known_start}
+use Rattle.cl_schedule.proofs.Served.{Going, going_did, going_done, going_start, still_now}
+use Rattle.cl_schedule.proofs.Stations.{Known, known_on, known_post, known_start}
 use Rattle.cl_schedule.proofs.Told.{holds_stays}
 
 -- what a turn says of itself
@@ -37,15 +40,6 @@ pub record TurnSays {A : Type 0} (told : Option Content) (t new : Tasked) (given
   pub next : IfSome t.request (λ r. FollowsWhere told t.config (λ x. Tells x t given) r u)
   pub refused : Refuses (refusal t given) u
   pub own : AnswersOwn t new given u
-
--- what one call did, and what it was answered
-pub record CallSays {A S : Type 0} (told : Option Content) (x new : Shown) (u : Turn A) (given : Reply A) (count later : ℕ) (since source : S) : Type 0 where
-  pub call : IsCall u
-  pub replied : IsReplied new (call_of u) given
-  pub did : Did x new (IsStepOf x u)
-  pub kept : IsKept told new
-  pub faults : Grows (told_faults given) count later
-  pub unread : (IsRead u → ⊥) → source ≡ since
 
 -- what holds before each turn of a request
 pub record Turning {A S : Type 0} (told : Option Content) (old now : Shown) (c : Configured) (r : Request) (t : Tasked) (given : Reply A) (count since : ℕ) (source later : S) : Type 0 where
@@ -151,11 +145,11 @@ serves_request t new (turn.Mark l) s call = s
 serves_request t new (turn.Post f) s call = absurd call
 
 pub turning_on : {A S : Type 0} (told : Option Content) (old x new : Shown) (c : Configured) (r : Request) (t next : Tasked) (given more : Reply A) (u : Turn A) (count since after : ℕ) (source later last : S) → Turning told old x c r t given count since source later
-    → TurnSays told t next given u → CallSays told x new u more since after later last → Turning told old new c r next more count after source last
-turning_on {A = A} told old x new c r t next given more u count since after source later last k says did =
+    → TurnSays told t next given u → IsMade x new u more since after later last → IsKept told new → Turning told old new c r next more count after source last
+turning_on {A = A} told old x new c r t next given more u count since after source later last k says did kept =
     let going : Going told old new r =
     going_did told old x new r u k.going did.did
-    (λ e is. (step_of_call x u e is, λ content is_told may. next_of (machine x content) x r t next u e (follows_now told old x c r t next given u count since source later k says content is_told) says.serves k.request is may)) did.kept in
+    (λ e is. (step_of_call x u e is, λ content is_told may. next_of (machine x content) x r t next u e (follows_now told old x c r t next given u count since source later k says content is_told) says.serves k.request is may)) kept in
     let config : next.config ≡ c = says.config ∙ k.config in
     let same : new.config ≡ next.config = going.config ∙ k.base ∙ sym config in
     record {
@@ -168,11 +162,80 @@ turning_on {A = A} told old x new c r t next given more u count since after sour
       request = serves_request t next u says.serves did.call ∙ k.request;
       tells = record {
         told = record {
-          before = holds_did told x new u next did.did did.kept (says.keeps x k.tells.told);
+          before = holds_did told x new u next did.did kept (says.keeps x k.tells.told);
           now = subst (λ (w : Waits). TellsOf new w more) (sym says.asks) did.replied.tells;
         };
         unrecorded = subst (λ (w : Waits). Unrecorded new w more) (sym says.asks) (unrecorded_of new (call_of u) more did.replied.shows);
       };
       faults = grows_on (told_faults given) (told_faults more) count since after k.faults (told_none A t given u says.refused did.call) did.faults;
       known = known_on old x new r t next given more u source later last k.known k.request says.own says.refused did.call says.asks did.did did.replied did.unread;
+    }
+
+-- ---- the call that is asked for
+
+pub backed_as : {A : Type 0} (told : Option Content) (x : Shown) (u : Turn A) → Backed x u → BackedAs told x u
+backed_as told x (turn.Look l n) b = b
+backed_as told x (turn.Read l n) b = b
+backed_as told x (turn.Define d) b = b
+backed_as told x (turn.Initiate h) b = b
+backed_as told x (turn.Lineage c) b = b
+backed_as told x (turn.LookReference c i) b = b
+backed_as told x (turn.Settle f) b = b
+backed_as told x (turn.Impose l k) b = b
+backed_as told x (turn.LookPrepared c) b = b
+backed_as told x (turn.Mark l) b = b
+backed_as told x (turn.Post f) b = λ content e. b
+
+-- the tables bear the call
+pub backed_call : {A S : Type 0} (told : Option Content) (old x : Shown) (c : Configured) (r : Request) (t next : Tasked) (given : Reply A) (u : Turn A) (count since : ℕ) (source later : S) → Turning told old x c r t given count since source later → TurnSays told t next given u → BackedAs told x u
+backed_call told old x c r t next given u count since source later k says = backed_as told x u (backed_now told old x c r t given u count since source later k says.backed)
+
+pub some_request : (p q : Request) → Some p ≡ Some q → p ≡ q
+some_request p q e = cc
+
+-- the post is of the request
+pub post_of_request : {A S : Type 0} (told : Option Content) (old x : Shown) (c : Configured) (q : ℕ) (r : Request) (t next : Tasked) (given : Reply A) (u : Turn A) (count since : ℕ) (source later : S) → Turning told old x c r t given count since source later → TurnSays told t next given u
+    → slice_get old.script.requests q ≡ Some r → (IsLater old q → ⊥) → IsOpen old q → IsPostOf x q u
+post_of_request told old x c q r t next given (turn.Look l n) count since source later k says asked begun is = tt
+post_of_request told old x c q r t next given (turn.Read l n) count since source later k says asked begun is = tt
+post_of_request told old x c q r t next given (turn.Define d) count since source later k says asked begun is = tt
+post_of_request told old x c q r t next given (turn.Initiate h) count since source later k says asked begun is = tt
+post_of_request told old x c q r t next given (turn.Lineage d) count since source later k says asked begun is = tt
+post_of_request told old x c q r t next given (turn.LookReference d i) count since source later k says asked begun is = tt
+post_of_request told old x c q r t next given (turn.Settle f) count since source later k says asked begun is = tt
+post_of_request told old x c q r t next given (turn.Impose l i) count since source later k says asked begun is = tt
+post_of_request told old x c q r t next given (turn.LookPrepared d) count since source later k says asked begun is = tt
+post_of_request told old x c q r t next given (turn.Mark l) count since source later k says asked begun is = tt
+post_of_request told old x c q r t next given (turn.Post f) count since source later k says asked begun is =
+    record {
+      asked = ap (λ s. slice_get s.requests q) k.going.script ∙ asked ∙ ap (λ (p : Request). Some p) (some_request r f.request (sym k.request ∙ says.serves));
+      begun = still_now told old x r q k.going begun;
+      unposted = subst (λ (xs : List (Option rust.Answer)). slice_get xs q ≡ Some None) (sym k.going.answers) is;
+    }
+
+-- what was done once the answer is posted
+pub record DoneBy {S : Type 0} (told : Option Content) (old new : Shown) (q : ℕ) (r : Request) (count later : ℕ) (source last : S) : Type 0 where
+  pub done : IsDone told old new q r
+  pub known : TellsKnown old new q r source last
+  pub faults : FaultsGrow old.answers new.answers count later
+
+pub turning_done : {A S : Type 0} (told : Option Content) (old x new : Shown) (c : Configured) (q : ℕ) (r : Request) (t next : Tasked) (given : Reply A) (u : Turn A) (count since after : ℕ) (source later last : S) → Turning told old x c r t given count since source later → TurnSays told t next given u
+    → IsPostMade x new q u later last → after ≡ since → IsOpen old q → DoneBy told old new q r count after source last
+turning_done told old x new c q r t next given (turn.Look l n) count since after source later last k says p same is = absurd p.posted
+turning_done told old x new c q r t next given (turn.Read l n) count since after source later last k says p same is = absurd p.posted
+turning_done told old x new c q r t next given (turn.Define d) count since after source later last k says p same is = absurd p.posted
+turning_done told old x new c q r t next given (turn.Initiate h) count since after source later last k says p same is = absurd p.posted
+turning_done told old x new c q r t next given (turn.Lineage d) count since after source later last k says p same is = absurd p.posted
+turning_done told old x new c q r t next given (turn.LookReference d i) count since after source later last k says p same is = absurd p.posted
+turning_done told old x new c q r t next given (turn.Settle f) count since after source later last k says p same is = absurd p.posted
+turning_done told old x new c q r t next given (turn.Impose l i) count since after source later last k says p same is = absurd p.posted
+turning_done told old x new c q r t next given (turn.LookPrepared d) count since after source later last k says p same is = absurd p.posted
+turning_done told old x new c q r t next given (turn.Mark l) count since after source later last k says p same is = absurd p.posted
+turning_done {A = A} {S = S} told old x new c q r t next given (turn.Post f) count since after source later last k says p same is =
+    record {
+      done = going_done told old x new q r f.answer k.going is (follows_now told old x c r t next given (turn.Post f) count since source later k says) p.posted;
+      known = subst (λ (s : S). TellsKnown old new q r source s) (sym p.unread) (known_post {A = A} old x new q r t next given f source later k.known k.request says.own says.refused p.posted);
+      faults = subst (λ (n : ℕ). FaultsGrow old.answers new.answers count n) (sym same)
+          (post_grows old.answers new.answers q f.answer (told_faults given) count since is (ap (λ (y : Shown). y.answers) p.posted ∙ ap (λ (xs : List (Option rust.Answer)). slice_set xs q (Some f.answer)) k.going.answers)
+          (told_fault t given f k.expects says.refused) k.faults);
     }

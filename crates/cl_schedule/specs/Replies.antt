@@ -22,16 +22,6 @@ use Rattle.cl_tasks.specs.declared.turn.Turn.{Turn}
 use Rattle.cl_tasks.specs.declared.turn.Turn.TheVariants as turn
 use Rattle.cl_schedule.specs.Serving.{GoesBy}
 
--- a turn that asks for a call, and not for the post
-abbrev pub IsCall : {A : Type 0} → Turn A → Type 0
-IsCall (turn.Post f) = ⊥
-IsCall other = Unit {0}
-
--- a turn that asks for a read (5.3.2)
-abbrev pub IsRead : {A : Type 0} → Turn A → Type 0
-IsRead (turn.Read l n) = Unit {0}
-IsRead other = ⊥
-
 -- a look finds nothing only where nothing is recorded, settled or prepared, and memory is wanting only where something is to be
 -- shared (5.3, 5.4.2, 5.4.3)
 abbrev pub Shows : {A : Type 0} → Shown → Waits → Reply A → Type 0

@@ -23,9 +23,9 @@ use Rattle.cl_tasks.specs.declared.turn.Turn.{Turn}
 use Rattle.cl_tasks.specs.declared.turn.Turn.TheVariants as turn
 use Rattle.cl_schedule.specs.declared.seats.Seat.{Seat}
 use Rattle.cl_schedule.specs.declared.simulate.Row.{Row}
+use Rattle.cl_schedule.specs.Calls.{BackedAs}
 use Rattle.cl_schedule.specs.Choices.{ByChoice, InTurn, IsServed, numbers, setting_in, unanswered, waiting}
 use Rattle.cl_schedule.specs.Counting.{fault, told_faults}
-use Rattle.cl_schedule.specs.Replies.{Did, IsCall, IsReplied, IsStepOf}
 use Rattle.cl_schedule.specs.Serving.{machine, GoesBy, IsCallStep, IsDone}
 
 -- ---- a registry that went on
@@ -54,12 +54,6 @@ IsOf r t (turn.Post f) = f.request ≡ r
 IsOf r t (turn.Settle f) = (f.request ≡ r) × (t.request ≡ Some r)
 IsOf r t other = t.request ≡ Some r
 
--- the tables bear what a turn asks for; an answer, where a content is told: what was not recorded when it was looked for may have
--- been recorded since, otherwise than a source says that tells now this and now that (5.3 to 5.4.3)
-abbrev pub BackedAs : {A : Type 0} → Option Content → Shown → Turn A → Type 0
-BackedAs told x (turn.Post f) = (content : Content) → told ≡ Some content → IsBacked x f
-BackedAs told x other = Backed x other
-
 -- a request of the script is between two calls: its task asks for this next, holds of the tables what it was told, and goes on as
 -- its service says, where a content is told (5.3 to 5.4.3)
 pub record IsSeated {A : Type 0} (told : Option Content) (x : Shown) (q : ℕ) (t : Tasked) (u : Turn A) : Type 0 where
@@ -81,34 +75,6 @@ pub record IsSeatedFor {A : Type 0} (told : Option Content) (x : Shown) (q : ℕ
 abbrev pub StaysSeated : {A : Type 0} → Option Content → Seat A → Seat A → Type 0
 StaysSeated told old new =
     (x : Shown) (q : ℕ) → IsKept told x → IsSeated told x q old.task old.next → IsSeated told x q new.task new.next
-
--- ---- one call
-
--- what is posted is the answer of the request of this number, which is of the round and has none
-pub record MayBePosted (x : Shown) (q : ℕ) (r : Request) : Type 0 where
-  pub asked : slice_get x.script.requests q ≡ Some r
-  pub begun : IsLater x q → ⊥
-  pub unposted : IsOpen x q
-
-abbrev pub IsPostOf : {A : Type 0} → Shown → ℕ → Turn A → Type 0
-IsPostOf x q (turn.Post f) = MayBePosted x q f.request
-IsPostOf x q other = Unit {0}
-
--- the answer was posted
-abbrev pub IsPostedBy : {A : Type 0} → Shown → Shown → ℕ → Turn A → Type 0
-IsPostedBy old new q (turn.Post f) = new ≡ with_post old q f.answer
-IsPostedBy old new q other = ⊥
-
--- a call was made and answered
-pub record IsMade {A : Type 0} (old new : Shown) (u : Turn A) (given : Reply A) : Type 0 where
-  pub call : IsCall u
-  pub replied : IsReplied new (call_of u) given
-  pub did : Did old new (IsStepOf old u)
-  pub quiet : told_faults given ≡ 0
-
--- a post has no reply, and each call has one
-abbrev pub IsAnswered : {A : Type 0} → Shown → Shown → ℕ → Turn A → Option (Reply A) → Type 0
-IsAnswered old new q u o = MatchOption o (IsPostedBy old new q u) (IsMade old new u)
 
 -- ---- one choice
 

@@ -1,6 +1,7 @@
 //! Scripts of requests, served in order or by a schedule.
 #![tactic(auto)]
 
+mod ask;
 mod replies;
 mod seats;
 mod serve;

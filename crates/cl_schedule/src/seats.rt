@@ -5,13 +5,12 @@ ghost use Rattle.cl_findings.specs.Findings.{loader_of};
 ghost use Rattle.cl_registry.specs.Tables.{IsKept, IsLater, IsOpen};
 ghost use Rattle.cl_tasks.specs.Turns.{Asks};
 ghost use Rattle.cl_schedule.specs.Counting.{FaultsGrow, Grows};
-ghost use Rattle.cl_schedule.specs.Seats.{BackedAs, IsAdvanced, IsAnswered, IsFinished, IsFreshSeat, IsPostOf, IsSeatedFor, StaysSeated, fault_in};
-ghost use Rattle.cl_schedule.specs.Replies.{IsRead};
+ghost use Rattle.cl_schedule.specs.Seats.{IsAdvanced, IsFinished, IsFreshSeat, IsSeatedFor, StaysSeated, fault_in};
+ghost use Rattle.cl_schedule.specs.Calls.{IsRead};
 ghost use Rattle.cl_schedule.specs.Schedules.{RefusedAs};
 
-use crate::replies::{
-    define, impose, initiate, lineage, look, look_prepared, look_reference, mark, read, settle,
-};
+use crate::ask::ask;
+use crate::replies::read;
 use crate::serve::ServeFault;
 use cl_config::Config;
 use cl_model::{Request, Told};
@@ -67,41 +66,6 @@ fn read_on<T: Told, S: Source<T>>(alloc: Global, source: &mut S, seat: Seat<T>) 
     }
 }
 
-/// Makes the call of the registry that a task asks for; none is answered where it was the post.
-fn ask<T: Told>(
-    alloc: Global,
-    registry: &mut Registry<T>,
-    q: u32,
-    call: Turn<T>,
-) -> Result<Option<Reply<T>>, ServeFault>
-    requires call { IsRead call → ⊥ }
-    requires backed { BackedAs T.told registry.old call }
-    requires post { IsPostOf registry.old q call }
-    ensures answered { IfOk result (IsAnswered registry.old registry.new q call) }
-    ensures kept { IsKept T.told registry.new }
-    ensures refused { IfErr result (RefusedAs T.told) }
-{
-    let reply = match call {
-        Turn::Look(loader, name) => look(registry, loader, &name),
-        Turn::Read(_, _) => unreachable!(),
-        Turn::Define(draft) => define(alloc, registry, draft),
-        Turn::Initiate(home) => initiate(alloc, registry, home),
-        Turn::Lineage(class) => lineage(alloc, registry, &class),
-        Turn::LookReference(class, index) => look_reference(registry, &class, index),
-        Turn::Settle(finding) => settle(alloc, registry, finding),
-        Turn::Impose(list, place) => impose(alloc, registry, list, place),
-        Turn::LookPrepared(class) => look_prepared(registry, &class),
-        Turn::Mark(list) => mark(alloc, registry, list),
-        Turn::Post(finding) => {
-            return match registry.post(q, finding) {
-                Ok(()) => Ok(None),
-                Err(_) => Err(ServeFault::Stray),
-            };
-        }
-    };
-    Ok(Some(reply))
-}
-
 /// Runs a request to its next call of the registry, reads between included. None is left of it once it has its answer.
 pub(crate) fn advance<T: Told, S: Source<T>>(
     alloc: Global,
@@ -121,12 +85,13 @@ pub(crate) fn advance<T: Told, S: Source<T>>(
     ensures refused { IfErr result (RefusedAs T.told) }
 {
     let Seat { mut task, next } = read_on(alloc, source, seat);
-    match ask(alloc, registry, q, next)? {
-        None => Ok(None),
-        Some(reply) => {
+    match ask(alloc, registry, source, q, next) {
+        Ok(None) => Ok(None),
+        Ok(Some(reply)) => {
             let next = task.turn(alloc, reply);
             Ok(Some(Seat { task, next }))
         }
+        Err(fault) => Err(fault),
     }
 }
 

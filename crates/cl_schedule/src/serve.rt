@@ -9,15 +9,13 @@ ghost use Rattle.cl_schedule.specs.Known.{TellsKnown};
 ghost use Rattle.cl_schedule.specs.Rounds.{RoundsPassed};
 ghost use Rattle.cl_schedule.specs.Serving.{IsDone};
 
-use crate::replies::{
-    define, impose, initiate, lineage, look, look_prepared, look_reference, mark, read, settle,
-};
+use crate::ask::ask;
 use cl_config::{Config, Script};
 use cl_findings::Finding;
 use cl_model::{Request, Told};
 use cl_registry::{Registry, Report};
 use cl_source::Source;
-use cl_tasks::{Reply, Task, Turn};
+use cl_tasks::{Reply, Task};
 use std::alloc::{AllocError, Global};
 use std::error::Error;
 use std::fmt::{self, Display, Formatter};
@@ -115,41 +113,11 @@ fn serve_request<T: Told, S: Source<T>>(
     };
     let mut reply = Reply::Start;
     loop {
-        match task.turn(alloc, reply) {
-            Turn::Look(loader, name) => {
-                reply = look(registry, loader, &name);
-            }
-            Turn::Read(loader, name) => {
-                reply = read(alloc, source, loader, &name);
-            }
-            Turn::Define(draft) => {
-                reply = define(alloc, registry, draft);
-            }
-            Turn::Initiate(home) => {
-                reply = initiate(alloc, registry, home);
-            }
-            Turn::Lineage(class) => {
-                reply = lineage(alloc, registry, &class);
-            }
-            Turn::LookReference(class, index) => {
-                reply = look_reference(registry, &class, index);
-            }
-            Turn::Settle(finding) => {
-                reply = settle(alloc, registry, finding);
-            }
-            Turn::Impose(list, place) => {
-                reply = impose(alloc, registry, list, place);
-            }
-            Turn::LookPrepared(class) => {
-                reply = look_prepared(registry, &class);
-            }
-            Turn::Mark(list) => {
-                reply = mark(alloc, registry, list);
-            }
-            Turn::Post(finding) => {
-                post(registry, q, finding);
-                return;
-            }
+        let call = task.turn(alloc, reply);
+        match ask(alloc, registry, source, q, call) {
+            Ok(Some(next)) => reply = next,
+            Ok(None) => return,
+            Err(_) => unreachable!(),
         }
     }
 }

@@ -13,7 +13,7 @@ pub mod Headline
 pub mod Known
 pub mod Later
 pub mod Growing
-pub mod Seats
+pub mod Seated
 pub mod Picked
 pub mod Waiting
 pub mod Playing

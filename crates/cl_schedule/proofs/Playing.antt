@@ -27,7 +27,7 @@ use Rattle.cl_schedule.proofs.Growing.{grew_by, grew_post, grew_rounds, seat_gre
 use Rattle.cl_schedule.proofs.Histories.{eq_nat, posts_then}
 use Rattle.cl_schedule.proofs.Picked.{in_turn_push, picked_both}
 use Rattle.cl_schedule.proofs.Rounds.{none_goes_on, scheduled_at}
-use Rattle.cl_schedule.proofs.Seats.{made_piece, post_piece}
+use Rattle.cl_schedule.proofs.Seated.{made_piece, post_piece}
 use Rattle.cl_schedule.proofs.Served.{state_since}
 use Rattle.cl_schedule.proofs.States.{same_machine}
 use Rattle.cl_schedule.proofs.Waiting.{open_before, open_unanswered, waiting_call}

@@ -21,7 +21,7 @@ use Rattle.cl_schedule.specs.Seats.{AreGathered, AreParted, AreWaiting}
 use Rattle.cl_schedule.specs.Serving.{GoesBy, IsCallStep}
 use Rattle.cl_schedule.proofs.Histories.{eq_nat, open_answer}
 use Rattle.cl_schedule.proofs.Next.{step_within}
-use Rattle.cl_schedule.proofs.Picked.{IsPicked, picked_is, picked_less, picked_range, picked_same}
+use Rattle.cl_schedule.proofs.Picked.{IsPicked, numbers_push, picked_is, picked_less, picked_range, picked_same}
 use Rattle.cl_schedule.proofs.Rounds.{found_here, next_is_begun, none_goes_on, post_other, schedule_length, scheduled_at, scheduled_round}
 use Rattle.cl_schedule.proofs.States.{state_goes}
 use Rattle.cl_schedule.proofs.Growing.{grew_post, state_grew}
@@ -423,3 +423,36 @@ begun_waiting told old x from upto put kept parted p gathered =
           | inl less ↦ omega arith
           | inr least ↦ absurd (g.end (omega arith) (m.1 ∙ ap (λ (k : ℕ). Some k) (omega arith) ∙ sym here))
         ]
+
+-- ---- while requests are put down
+
+-- from a number on, those up to this one are of one round, and were put down
+pub record Gathering (s : Scripted) (from next : ℕ) (put : List ℕ) : Type 0 where
+  pub number : ℕ
+  pub most : next ≡ from + number
+  pub within : next ≤ length s.requests
+  pub are : put ≡ numbers from number
+  pub same : (q : ℕ) → from ≤ q → q < next → slice_get s.rounds_of q ≡ slice_get s.rounds_of from
+
+pub gathering_none : (s : Scripted) (from : ℕ) (put : List ℕ) → put ≡ [] → from ≤ length s.requests → Gathering s from from put
+gathering_none s from put e w = record { number = 0; most = omega arith; within = w; are = e; same = λ q l m. absurd (omega arith) }
+
+pub gathering_more : (s : Scripted) (from next round first : ℕ) (put more : List ℕ) → Gathering s from next put → next < length s.requests → slice_get s.rounds_of next ≡ Some round → slice_get s.rounds_of from ≡ Some first → round ≡ first → more ≡ put ++ next ∷ [] → Gathering s from (next + 1) more
+gathering_more s from next round first put more g below at of same e =
+    let m = g.most in
+    record {
+      number = suc g.number;
+      most = omega arith;
+      within = omega arith;
+      are = e ∙ ap (λ (l : List ℕ). l ++ next ∷ []) g.are ∙ ap (λ (n : ℕ). numbers from g.number ++ n ∷ []) m ∙ numbers_push from g.number;
+      same = λ q l b. elim (cases_lt q next) [
+        | inl less ↦ g.same q l less
+        | inr least ↦ (
+            let here : q ≡ next = omega arith in
+            ap (slice_get s.rounds_of) here ∙ at ∙ ap (λ (n : ℕ). Some n) same ∙ sym of
+            )
+      ];
+    }
+
+pub gathered_end : (s : Scripted) (from next : ℕ) (put : List ℕ) → Gathering s from next put → (next < length s.requests → slice_get s.rounds_of next ≡ slice_get s.rounds_of from → ⊥) → AreGathered s from next put
+gathered_end s from next put g end = record { number = g.number; most = g.most; within = g.within; are = g.are; same = g.same; end = end }

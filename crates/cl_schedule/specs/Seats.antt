@@ -22,7 +22,7 @@ use Rattle.cl_tasks.specs.declared.turn.Reply.{Reply}
 use Rattle.cl_tasks.specs.declared.turn.Turn.{Turn}
 use Rattle.cl_tasks.specs.declared.turn.Turn.TheVariants as turn
 use Rattle.cl_schedule.specs.declared.seats.Seat.{Seat}
-use Rattle.cl_schedule.specs.declared.simulate.Row.{Row}
+use Rattle.cl_schedule.specs.declared.choices.Row.{Row}
 use Rattle.cl_schedule.specs.Calls.{BackedAs}
 use Rattle.cl_schedule.specs.Choices.{ByChoice, InTurn, IsServed, numbers, setting_in, unanswered, waiting}
 use Rattle.cl_schedule.specs.Counting.{fault, told_faults}

@@ -1,11 +1,11 @@
 //! Scripts of requests, served in order or by a schedule.
 #![tactic(auto)]
 
-mod ask;
+mod asking;
+mod choices;
 mod replies;
 mod seats;
 mod serve;
-mod simulate;
 
+pub use choices::simulate;
 pub use serve::{ServeFault, serve_one};
-pub use simulate::simulate;

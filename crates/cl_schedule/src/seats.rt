@@ -9,7 +9,7 @@ ghost use Rattle.cl_schedule.specs.Seats.{IsAdvanced, IsFinished, IsFreshSeat, I
 ghost use Rattle.cl_schedule.specs.Calls.{IsRead};
 ghost use Rattle.cl_schedule.specs.Schedules.{RefusedAs};
 
-use crate::ask::ask;
+use crate::asking::ask;
 use crate::replies::read;
 use crate::serve::ServeFault;
 use cl_config::Config;

@@ -9,7 +9,7 @@ ghost use Rattle.cl_schedule.specs.Known.{TellsKnown};
 ghost use Rattle.cl_schedule.specs.Rounds.{RoundsPassed};
 ghost use Rattle.cl_schedule.specs.Serving.{IsDone};
 
-use crate::ask::ask;
+use crate::asking::ask;
 use cl_config::{Config, Script};
 use cl_findings::Finding;
 use cl_model::{Request, Told};

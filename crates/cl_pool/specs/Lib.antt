@@ -1,2 +1,4 @@
 pub mod Numbers
 pub mod Seats
+pub mod Texts
+pub mod Served

@@ -6,9 +6,7 @@ ghost use Rattle.cl_tasks.specs.Stages.{IsLinking, IsLoading, IsResolving, IsSta
 ghost use Rattle.cl_tasks.specs.Steps.{Steps};
 ghost use Rattle.cl_tasks.specs.Turns.{Expects};
 
-use crate::link_replies::{
-    imposed as imposed_link, looked_prepared, marked, traced, traced_whole,
-};
+use crate::link_replies::{imposed as imposed_link, looked_prepared, marked, traced, traced_whole};
 use crate::load_replies::{begin, defined, initiated, looked, looked_home, probed};
 use crate::resolution_replies::{
     checked, imposed, looked_reference, settled, traced_named, traced_own,

@@ -253,6 +253,24 @@ def supertypes():
         yield run("supertype: %d" % number, [bundle], 0, out=history + "1 " + answer + "\n")
 
 
+# The loaders of docs/FORMATS.md, 'Four loaders', and the classes of its record_refused (Obj, T, Svc and Use of 'Sample classes').
+FOUR = BOOT + '[[loader]]\nname = "app"\nparent = "boot"\n'
+FOUR += '[[loader]]\nname = "plug"\nparent = "app"\norder = "child"\n[[loader]]\nname = "kid"\nparent = "app"\n'
+SHARED = "%%class boot %s\nclass 0021 %s -\n" % (TOP, TOP)
+SHARED += "%%class app p/T\nclass 0021 p/T %s\n%%class app p/Svc\nclass 0021 p/Svc %s\nmethod 0001 m (Lp/T;)V\n" % (TOP, TOP)
+SHARED += "%%class plug p/T\nclass 0021 p/T %s\n%%class plug p/Use\nclass 0021 p/Use %s\nref method p/Svc m (Lp/T;)V\n" % (TOP, TOP)
+TIMES = 1000
+
+
+def settled_once():
+    """The reference of record_refused, resolved a thousand times: needs and constraint come once, and the verdict each time."""
+    history = "define %s@boot\ninitiate %s boot by plug\ndefine p/Use@plug\n" % (TOP, TOP)
+    history += "initiate %s boot by app\ndefine p/Svc@app\ninitiate p/Svc app by plug\nconstrain p/T app plug\n" % TOP
+    answers = "".join("%d method p/Svc@app m (Lp/T;)V\n" % number for number in range(1, TIMES + 1))
+    pieces = ["%config\n" + FOUR + SHARED + "%script\n", ("resolve plug p/Use 1\n", TIMES)]
+    yield run("one_settle_many_workers, by one worker", pieces, 0, out=history + answers)
+
+
 def text():
-    made = [*configurations(), *scripts(), *drafts(), *chains(), *supertypes()]
+    made = [*configurations(), *scripts(), *drafts(), *chains(), *supertypes(), *settled_once()]
     return "# Made by tools/rows/bundles.py.\n\n" + "".join(made)

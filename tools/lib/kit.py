@@ -48,7 +48,7 @@ LEAST_BYTES = 1_000_000_000
 # So often memory is looked at while a check waits or runs, in seconds.
 BLINK = 1.0
 # A clock that runs this many times longer than the processor may work stops a check that waits for ever.
-PATIENCE = 8
+PATIENCE = 5
 
 
 class Ended(Exception):
@@ -298,13 +298,24 @@ def run_limited(words, folder, said, asked):
 
 
 def run_once(lane, words, how, asked):
-    process, rung = asked.lanes.start(lane, words, **how), threading.Event()
+    process, ended, late = asked.lanes.start(lane, words, **how), threading.Event(), threading.Event()
     resource.prlimit(process.pid, resource.RLIMIT_CPU, (int(asked.limit), int(asked.limit) + 5))
-    clock = threading.Timer(PATIENCE * asked.limit, lambda: (rung.set(), lane.kill()))
-    clock.start()
+
+    def clock():
+        # (a gentle check may wait for the processor as long as rt ci runs)
+        begun = time.monotonic()
+        while not ended.wait(BLINK):
+            if asked.lanes.is_gentle:
+                begun = time.monotonic()
+            elif time.monotonic() - begun > PATIENCE * asked.limit:
+                late.set()
+                lane.kill()
+                return
+
+    threading.Thread(target=clock, daemon=True).start()
     try:
         _, status, usage = os.wait4(process.pid, 0)
     finally:
-        clock.cancel()
+        ended.set()
     process.returncode = os.waitstatus_to_exitcode(status)
-    return process.returncode, usage, process.returncode == -signal.SIGXCPU or rung.is_set()
+    return process.returncode, usage, process.returncode == -signal.SIGXCPU or late.is_set()

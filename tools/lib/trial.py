@@ -16,6 +16,7 @@ from concurrent.futures import ThreadPoolExecutor
 from dataclasses import dataclass, field
 
 import kit
+from costs import lines_in
 from edits import grouped, of_crate, together
 from reach import Reach
 
@@ -96,7 +97,7 @@ class Trial:
     def check(self, texts, functions, number):
         """Checks these functions in one copy with so many edits. The crates with most left to do go first."""
         left = len(self.edits) - len(self.told.refused) - len(self.told.failed)
-        lines = self.crate.of_kit.count(rb"\n")
+        lines = sum(lines_in(self.crate.folder, part) for part in ("src", "specs", "proofs"))
         limit = LOADING_SECONDS + LINE_SECONDS * lines + EDIT_SECONDS * number
         needs = int(1.2 * self.told.peak) + kit.LEAST_BYTES if self.told.peak else kit.MOST_BYTES
         asked = kit.Asked(self.kept, limit, self.lanes, needs, left * lines)

@@ -16,11 +16,13 @@ from concurrent.futures import ThreadPoolExecutor
 from dataclasses import dataclass, field
 
 import kit
+from costs import lines_in
 from edits import grouped, of_crate, together
 from reach import Reach
 
 # What a group's check may take, in seconds of processor: so much to load and to prove what its functions call, and so much for each edit.
 LOADING_SECONDS = 240
+LINE_SECONDS = 0.1
 EDIT_SECONDS = 10
 
 
@@ -92,8 +94,14 @@ class Trial:
     def fail(self, edit, why):
         self.told.failed.append(f"{edit}: {' '.join(why.split())[:400]}")
 
-    def check(self, texts, functions, limit):
-        checked = kit.check(self.crate, texts, functions, self.kept, limit, lanes=self.lanes)
+    def check(self, texts, functions, number):
+        """Checks these functions in one copy with so many edits. The crates with most left to do go first."""
+        left = len(self.edits) - len(self.told.refused) - len(self.told.failed)
+        lines = sum(lines_in(self.crate.folder, part) for part in ("src", "specs", "proofs"))
+        limit = LOADING_SECONDS + LINE_SECONDS * lines + EDIT_SECONDS * number
+        needs = int(1.2 * self.told.peak) + kit.LEAST_BYTES if self.told.peak else kit.MOST_BYTES
+        asked = kit.Asked(self.kept, limit, self.lanes, needs, left * lines)
+        checked = kit.check(self.crate, texts, asked, functions)
         self.told.checks += 1
         self.told.seconds += checked.seconds
         self.told.peak = max(self.told.peak, checked.peak)
@@ -112,7 +120,7 @@ class Trial:
     def try_group(self, group, waiting):
         """Tries a group and returns those of its edits that have to be tried again. Where it has to be parted, its halves wait."""
         functions = {name for edit in group for name in edit.functions}
-        checked = self.check(together(group), functions, LOADING_SECONDS + EDIT_SECONDS * len(group))
+        checked = self.check(together(group), functions, len(group))
         late = f"TOO LONG: no answer after {checked.seconds:.0f} seconds of processor"
         why = late if checked.is_late else checked.unread(functions)
         if not why and len(group) > 1:
@@ -169,7 +177,7 @@ def try_crate(crate, edits, log, lanes):
             # (over what rt check kept, as rt check itself is)
             if os.path.isdir(f"{crate.folder}/out/incremental"):
                 shutil.copytree(f"{crate.folder}/out/incremental", kept, dirs_exist_ok=True)
-            cost = kit.check(crate, {}, kept=kept, is_whole=True, lanes=lanes)
+            cost = kit.check(crate, {}, kit.Asked(kept, lanes=lanes), is_whole=True)
             known = cost.said if cost.is_proved() else {}
         if not known:
             why = f"{crate.name}: it is not proved as it stands, so its {len(edits)} edits were not tried"
@@ -181,12 +189,13 @@ def try_crate(crate, edits, log, lanes):
 
 
 class Trials:
-    """The trial of the edits of several crates, each from when its libraries stand: side by side, so many checks as the lanes let run."""
+    """The trial of the edits of several crates, each from when its libraries stand: side by side, so many checks as the lanes let run.
+    It has to be dropped at the end."""
 
     def __init__(self, crates, lanes, only=(), verbose=False, folders=("wrong",)):
         kit.guard()
         self.lanes, self.verbose, self.printing = lanes, verbose, threading.Lock()
-        self.pool, self.work, self.edits, self.failed = ThreadPoolExecutor(kit.rt.processors()), {}, {}, []
+        self.pool, self.work, self.edits, self.failed = ThreadPoolExecutor(len(crates)), {}, {}, []
         for crate in crates:
             edits, stray = of_crate(crate, folders)
             self.failed += [f"{it}: only edits, FILE.edit, and none.txt stand here" for it in stray]
@@ -194,7 +203,7 @@ class Trials:
 
     def begin(self, crate, log):
         """Begins with a crate whose libraries stand; with a log of an rt ci that has proved it, or none."""
-        if self.edits[crate.name] and crate.name not in self.work:
+        if self.edits[crate.name] and crate.name not in self.work and not self.lanes.is_closed:
             self.work[crate.name] = self.pool.submit(self.one, crate, log)
 
     def one(self, crate, log):
@@ -215,7 +224,12 @@ class Trials:
 
     def end(self):
         """Waits for all that was begun, and returns what was told and what else failed."""
-        tolds = [self.work[name].result() for name in self.edits if name in self.work]
+        tolds = []
+        for name in [it for it in self.edits if it in self.work]:
+            try:
+                tolds.append(self.work[name].result())
+            except Exception as error:  # (whatever it is, the run has to end with its count)
+                self.failed.append(f"{name}: the trial of its wrong bodies broke off: {error!r}")
         for why in self.failed:
             print(f"FAILED: {why}")
         return tolds, self.failed
@@ -230,14 +244,16 @@ def try_all(crates, only=(), lanes=None, verbose=False, folders=("wrong",), log=
     """Tries the edits of the crates and returns what was told, in the order of the crates, and what else failed."""
     trials = Trials(crates, kit.Lanes(lanes or kit.lanes()), only, verbose, folders)
     held = kit.lock(crates)
-    # the crates with most to do first, so that none is left to run alone at the end
-    for crate in sorted(crates, key=lambda it: -len(trials.edits[it.name]) * it.of_kit.count(rb"\n")):
-        edits = trials.edits[crate.name]
-        if edits and not kit.build_libraries(crate, log is not None):
-            trials.failed.append(f"{crate.name}: a library below it is not proved, so its {len(edits)} edits were not tried")
-        elif edits:
-            trials.begin(crate, log)
-    told = trials.end()
-    for it in held:
-        os.close(it)
-    return told
+    try:
+        # the crates with most to do first, so that none is left to run alone at the end
+        for crate in sorted(crates, key=lambda it: -len(trials.edits[it.name]) * it.of_kit.count(rb"\n")):
+            edits = trials.edits[crate.name]
+            if edits and not kit.build_libraries(crate, log is not None):
+                trials.failed.append(f"{crate.name}: a library below it is not proved, so its {len(edits)} edits were not tried")
+            elif edits:
+                trials.begin(crate, log)
+        return trials.end()
+    finally:
+        trials.drop()
+        for it in held:
+            os.close(it)

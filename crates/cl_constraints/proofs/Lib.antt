@@ -1,3 +1,4 @@
+pub mod Recording
 pub mod Grouping
 pub mod Pairing
 pub mod Naming

@@ -28,3 +28,4 @@ pub mod Steps
 pub mod Tested
 pub mod Tracing
 pub mod Verdicts
+pub mod Written

@@ -1,13 +1,13 @@
 -- What the groups of one name say of joined loaders and their homes.
-use Rattle.std.proofs.Common.{◌≡◌, ◌≢◌, ◌⊎◌, inl, inr, ℕ, Bool, true, false, ◌==◌, ◌&&◌, ◌||◌, not, List, [], ◌∷◌, ◌++◌, Option, Some, None, find, map, filter, refl, sym, ap, ◌↔◌, ◌<◌, ◌+◌, length, take, drop, set, get_or, MatchBool, ◌∙◌, subst, eq-eqb}
+use Rattle.std.proofs.Common.{◌≡◌, ◌≢◌, ◌⊎◌, inl, inr, ℕ, Bool, true, false, ◌==◌, ◌&&◌, ◌||◌, List, [], ◌∷◌, ◌++◌, Option, Some, None, map, refl, sym, ap, ◌↔◌, MatchBool, ◌∙◌, subst, eq-eqb}
 use Rattle.std.specs.List.{list_any}
-use Rattle.std.proofs.lemmas.Bool.{eqb-true}
-use Rattle.std.proofs.lemmas.List.Edits.{map_over_more}
-use Rattle.std.specs.Prelude.{option_map, if◌then◌else◌, Result, Ok, Err, OnOk, OnErr}
+use Rattle.std.proofs.lemmas.Bool.{and_from, eqb-true, or_left, or_right}
+use Rattle.std.specs.Prelude.{if◌then◌else◌}
 use Rattle.cl_constraints.specs.declared.record.Entered.{Entered}
 use Rattle.cl_constraints.specs.Records.{home_in}
-use Rattle.cl_constraints.specs.Groups.{Joint, Grouped, has, group_of, shared, AreJoined, AreApart, HasItsHome, HaveHomes, IsGrouped, home_or, class_in, IsClassOf, loaders_or, members, with_home, or_else, without, joint_of, merged}
-use Rattle.cl_constraints.specs.Singles.{Differs, Divides, Enters, Joins}
+use Rattle.cl_constraints.specs.Groups.{Joint, Grouped, has, group_of, shared, AreJoined, AreApart, HasItsHome, HaveHomes, IsGrouped, home_or, class_in, IsClassOf, loaders_or, members, with_home}
+use Rattle.cl_constraints.specs.Singles.{Differs, Divides}
+use Rattle.cl_constraints.proofs.Recording.{home_elsewhere, home_here}
 
 -- a loader that is in no group shares none
 pub none_shared : (gs : List Joint) (a b : ℕ) → list_any (λ g. has g.loaders a) gs ≡ false → shared gs a b ≡ false
@@ -156,36 +156,19 @@ homed_joined l h a b gs = (
   λ (j : AreJoined gs a b). elim j as (λ _. AreJoined (map (with_home l h) gs) a b) [ inl k ↦ inl k | inr k ↦ inr (homed_shared l h a b gs ∙ k) ],
 )
 
--- a loop that notes a home at one group after another
-pub noted : (l h : ℕ) (gs ys : List Joint) (i : ℕ) (x y : Joint) → i < length gs → ys ≡ map (with_home l h) (take i gs) ++ drop i gs → x ≡ get_or ys i x → y ≡ with_home l h (get_or ys i x) → set ys i y ≡ map (with_home l h) (take (i + 1) gs) ++ drop (i + 1) gs
-noted l h gs ys i x y lt inv is e = subst (λ (z : Joint). set ys i z ≡ map (with_home l h) (take (i + 1) gs) ++ drop (i + 1) gs) (sym (e ∙ ap (λ (z : Joint). with_home l h z) (sym is))) (map_over_more (with_home l h) gs ys i x lt inv is)
+-- a record's loader and its home
+abbrev pub by_loader : Entered → ℕ
+by_loader r = r.loader
+
+abbrev pub its_home : Entered → ℕ
+its_home r = r.home
 
 -- the records with one more
+abbrev pub entry : ℕ → ℕ → Entered
+entry l h = record { loader = l; home = h }
+
 abbrev pub entered : List Entered → ℕ → ℕ → List Entered
-entered rs l h = rs ++ record { loader = l; home = h } ∷ []
-
-pub home_elsewhere : (rs : List Entered) (l h x : ℕ) → x ≢ l → home_in (entered rs l h) x ≡ home_in rs x
-home_elsewhere [] l h x ne = at (l == x) (λ k. ne (sym (eqb-true l x k)))
-  where
-    at : (b : Bool) → (b ≡ true → ⊥) → option_map (λ (r : Entered). r.home) (if b then Some (record { loader = l; home = h }) else None) ≡ None
-    at true no_match = absurd (no_match refl)
-    at false no_match = refl
-home_elsewhere (r ∷ rs) l h x ne = at (r.loader == x) (home_elsewhere rs l h x ne)
-  where
-    at : (b : Bool) → home_in (entered rs l h) x ≡ home_in rs x → option_map (λ (q : Entered). q.home) (if b then Some r else find (λ (q : Entered). q.loader == x) (entered rs l h)) ≡ option_map (λ (q : Entered). q.home) (if b then Some r else find (λ (q : Entered). q.loader == x) rs)
-    at true ih = refl
-    at false ih = ih
-
-pub home_here : (rs : List Entered) (l h : ℕ) → home_in rs l ≡ None → home_in (entered rs l h) l ≡ Some h
-home_here [] l h fresh = rw (eq-eqb l l refl) refl
-home_here (r ∷ rs) l h fresh = at (r.loader == l) (λ k. home_here rs l h k) fresh
-  where
-    at : (b : Bool) → (home_in rs l ≡ None → home_in (entered rs l h) l ≡ Some h) → option_map (λ (q : Entered). q.home) (if b then Some r else find (λ (q : Entered). q.loader == l) rs) ≡ None → option_map (λ (q : Entered). q.home) (if b then Some r else find (λ (q : Entered). q.loader == l) (entered rs l h)) ≡ Some h
-    at true ih k = let z : Some r.home ≡ None = k in absurd cc
-    at false ih k = ih k
-
-pub enters : (rs : List Entered) (l h : ℕ) → home_in rs l ≡ None → Enters (λ x. home_in rs x) (λ x. home_in (entered rs l h) x) l h
-enters rs l h fresh = record { here = home_here rs l h fresh; elsewhere = λ x ne. home_elsewhere rs l h x ne }
+entered rs l h = rs ++ entry l h ∷ []
 
 -- what a record is, by its loader
 pub home_by : (rs : List Entered) (l h x p : ℕ) → home_in rs l ≡ None → home_in (entered rs l h) x ≡ Some p → ((x ≡ l) × (h ≡ p)) ⊎ ((x ≢ l) × (home_in rs x ≡ Some p))
@@ -194,11 +177,11 @@ home_by rs l h x p fresh e = at (x == l) refl
     at : (b : Bool) → (x == l) ≡ b → ((x ≡ l) × (h ≡ p)) ⊎ ((x ≢ l) × (home_in rs x ≡ Some p))
     at true k =
         let same : x ≡ l = eqb-true x l k in
-        let here : home_in (entered rs l h) x ≡ Some h = subst (λ (y : ℕ). home_in (entered rs l h) y ≡ Some h) (sym same) (home_here rs l h fresh) in
+        let here : home_in (entered rs l h) x ≡ Some h = subst (λ (y : ℕ). home_in (entered rs l h) y ≡ Some h) (sym same) (home_here by_loader its_home rs (entry l h) fresh) in
         inl (same, cc)
     at false k =
         let ne : x ≢ l = λ s. (let t : (x == l) ≡ true = eq-eqb x l s in let z : false ≡ true = cc in absurd cc) in
-        inr (ne, sym (home_elsewhere rs l h x ne) ∙ e)
+        inr (ne, sym (home_elsewhere by_loader its_home rs (entry l h) x ne) ∙ e)
 
 pub has_home_entered : (rs : List Entered) (l h : ℕ) (g : Joint) → home_in rs l ≡ None → HasItsHome rs g → ((x p : ℕ) → has g.loaders l ≡ true → has g.loaders x ≡ true → home_in rs x ≡ Some p → p ≡ h) → HasItsHome (entered rs l h) (with_home l h g)
 has_home_entered rs l h g fresh old agree = at (has g.loaders l) refl
@@ -207,7 +190,7 @@ has_home_entered rs l h g fresh old agree = at (has g.loaders l) refl
     at true k =
         record {
           every = λ x p i e. elim (home_by rs l h x p fresh e) as (λ _. Some h ≡ Some p) [ inl y ↦ ap (λ (z : ℕ). Some z) y.1 | inr y ↦ ap (λ (z : ℕ). Some z) (sym (agree x p k i y.1)) ];
-          some = λ p e. (l, k, home_here rs l h fresh ∙ e);
+          some = λ p e. (l, k, home_here by_loader its_home rs (entry l h) fresh ∙ e);
         }
     at false k =
         record {
@@ -218,22 +201,15 @@ has_home_entered rs l h g fresh old agree = at (has g.loaders l) refl
           some = λ p e.
               let found = old.some p e in
               let ne : found.0 ≢ l = λ s. (let t : home_in rs l ≡ Some p = subst (λ (z : ℕ). home_in rs z ≡ Some p) s found.2 in let z : None ≡ Some p = sym fresh ∙ t in absurd cc) in
-              (found.0, found.1, home_elsewhere rs l h found.0 ne ∙ found.2);
+              (found.0, found.1, home_elsewhere by_loader its_home rs (entry l h) found.0 ne ∙ found.2);
         }
 
 pub have_homes_entered : (rs : List Entered) (l h : ℕ) (gs : List Joint) → home_in rs l ≡ None → HaveHomes rs gs → ((x p : ℕ) → shared gs l x ≡ true → home_in rs x ≡ Some p → p ≡ h) → HaveHomes (entered rs l h) (map (with_home l h) gs)
 have_homes_entered rs l h [] fresh old agree = tt
 have_homes_entered rs l h (g ∷ gs) fresh old agree = (
-  has_home_entered rs l h g fresh old.0 (λ x p i j e. agree x p (both (has g.loaders l) (has g.loaders x) (shared gs l x) i j) e),
-  have_homes_entered rs l h gs fresh old.1 (λ x p s e. agree x p (later (has g.loaders l && has g.loaders x) (shared gs l x) s) e),
+  has_home_entered rs l h g fresh old.0 (λ x p i j e. agree x p (or_left (has g.loaders l && has g.loaders x) (shared gs l x) (and_from (has g.loaders l) (has g.loaders x) i j)) e),
+  have_homes_entered rs l h gs fresh old.1 (λ x p s e. agree x p (or_right (has g.loaders l && has g.loaders x) (shared gs l x) s) e),
 )
-  where
-    both : (a b c : Bool) → a ≡ true → b ≡ true → ((a && b) || c) ≡ true
-    both a b c i j = rw i (rw j refl)
-
-    later : (a b : Bool) → b ≡ true → (a || b) ≡ true
-    later true b s = refl
-    later false b s = s
 
 -- what fits agrees with what is joined
 pub fits_agrees : (v : Grouped) (l h : ℕ) → (Differs (λ x. home_in v.records x) (λ x y. AreJoined v.groups x y) l h → ⊥) → (x p : ℕ) → shared v.groups l x ≡ true → home_in v.records x ≡ Some p → p ≡ h
@@ -249,351 +225,3 @@ entered_grouped v l h ok fresh fits =
       apart = homed_apart l h v.groups ok.apart;
       homes = have_homes_entered v.records l h v.groups fresh ok.homes (fits_agrees v l h fits);
     }
-
--- ---- two loaders are joined
-
-any_append : (f : Joint → Bool) (xs ys : List Joint) → list_any f (xs ++ ys) ≡ (list_any f xs || list_any f ys)
-any_append f [] ys = refl
-any_append f (x ∷ xs) ys = at (f x) (any_append f xs ys)
-  where
-    at : (b : Bool) → list_any f (xs ++ ys) ≡ (list_any f xs || list_any f ys) → (b || list_any f (xs ++ ys)) ≡ ((b || list_any f xs) || list_any f ys)
-    at true ih = refl
-    at false ih = ih
-
-has_append : (xs ys : List ℕ) (l : ℕ) → has (xs ++ ys) l ≡ (has xs l || has ys l)
-has_append [] ys l = refl
-has_append (x ∷ xs) ys l = at (x == l) (has_append xs ys l)
-  where
-    at : (b : Bool) → has (xs ++ ys) l ≡ (has xs l || has ys l) → (b || has (xs ++ ys) l) ≡ ((b || has xs l) || has ys l)
-    at true ih = refl
-    at false ih = ih
-
-or_cases : (a b : Bool) → (a || b) ≡ true → (a ≡ true) ⊎ (b ≡ true)
-or_cases true b h = inl refl
-or_cases false b h = inr h
-
-pub or_left : (a b : Bool) → a ≡ true → (a || b) ≡ true
-or_left true b h = refl
-or_left false b h = absurd cc
-
-pub or_right : (a b : Bool) → b ≡ true → (a || b) ≡ true
-or_right true b h = refl
-or_right false b h = h
-
-pub and_parts : (a b : Bool) → (a && b) ≡ true → (a ≡ true) × (b ≡ true)
-and_parts true b h = (refl, h)
-and_parts false b h = absurd cc
-
-pub and_both : (a b : Bool) → a ≡ true → b ≡ true → (a && b) ≡ true
-and_both true b h k = k
-and_both false b h k = absurd cc
-
--- a group that neither loader is in
-abbrev pub is_clear : ℕ → ℕ → Joint → Bool
-is_clear a b g = not (has g.loaders a) && not (has g.loaders b)
-
--- the groups that stay
-abbrev pub kept : ℕ → ℕ → List Joint → List Joint
-kept a b gs = filter (is_clear a b) gs
-
--- what passes in what stays passed before
-any_kept : (f : Joint → Bool) (a b : ℕ) (gs : List Joint) → list_any f (kept a b gs) ≡ true → list_any f gs ≡ true
-any_kept f a b [] h = h
-any_kept f a b (g ∷ gs) h = at (is_clear a b g) (λ k. any_kept f a b gs k) h
-  where
-    at : (c : Bool) → (list_any f (kept a b gs) ≡ true → list_any f gs ≡ true) → list_any f (if c then g ∷ kept a b gs else kept a b gs) ≡ true → (f g || list_any f gs) ≡ true
-    at true ih h = elim (or_cases (f g) (list_any f (kept a b gs)) h) as (λ _. (f g || list_any f gs) ≡ true) [ inl k ↦ or_left (f g) (list_any f gs) k | inr k ↦ or_right (f g) (list_any f gs) (ih k) ]
-    at false ih h = or_right (f g) (list_any f gs) (ih h)
-
--- what fails before fails in what stays
-none_kept : (f : Joint → Bool) (a b : ℕ) (gs : List Joint) → list_any f gs ≡ false → list_any f (kept a b gs) ≡ false
-none_kept f a b gs h = at (list_any f (kept a b gs)) refl
-  where
-    at : (c : Bool) → list_any f (kept a b gs) ≡ c → list_any f (kept a b gs) ≡ false
-    at true k = let t : list_any f gs ≡ true = any_kept f a b gs k in let z : false ≡ true = sym h ∙ t in absurd cc
-    at false k = k
-
-kept_apart : (a b : ℕ) (gs : List Joint) → AreApart gs → AreApart (kept a b gs)
-kept_apart a b [] h = tt
-kept_apart a b (g ∷ gs) h = at (is_clear a b g) (kept_apart a b gs h.1)
-  where
-    at : (c : Bool) → AreApart (kept a b gs) → AreApart (if c then g ∷ kept a b gs else kept a b gs)
-    at true ih = (λ x k. none_kept (λ other. has other.loaders x) a b gs (h.0 x k), ih)
-    at false ih = ih
-
-kept_homes : (rs : List Entered) (a b : ℕ) (gs : List Joint) → HaveHomes rs gs → HaveHomes rs (kept a b gs)
-kept_homes rs a b [] h = tt
-kept_homes rs a b (g ∷ gs) h = at (is_clear a b g) (kept_homes rs a b gs h.1)
-  where
-    at : (c : Bool) → HaveHomes rs (kept a b gs) → HaveHomes rs (if c then g ∷ kept a b gs else kept a b gs)
-    at true ih = (h.0, ih)
-    at false ih = ih
-
--- a group that stays has neither loader
-kept_clear : (a b : ℕ) (gs : List Joint) → (list_any (λ g. has g.loaders a) (kept a b gs) ≡ false) × (list_any (λ g. has g.loaders b) (kept a b gs) ≡ false)
-kept_clear a b [] = (refl, refl)
-kept_clear a b (g ∷ gs) = at (has g.loaders a) (has g.loaders b) refl refl (kept_clear a b gs)
-  where
-    at : (p q : Bool) → has g.loaders a ≡ p → has g.loaders b ≡ q → (list_any (λ g. has g.loaders a) (kept a b gs) ≡ false) × (list_any (λ g. has g.loaders b) (kept a b gs) ≡ false) → (list_any (λ g. has g.loaders a) (if not p && not q then g ∷ kept a b gs else kept a b gs) ≡ false) × (list_any (λ g. has g.loaders b) (if not p && not q then g ∷ kept a b gs else kept a b gs) ≡ false)
-    at true q i j ih = ih
-    at false true i j ih = ih
-    at false false i j ih = (rw i ih.0, rw j ih.1)
-
--- a loader that is in no group shares none, on either side
-none_shared_back : (gs : List Joint) (a b : ℕ) → list_any (λ g. has g.loaders b) gs ≡ false → shared gs a b ≡ false
-none_shared_back [] a b h = refl
-none_shared_back (g ∷ gs) a b h = at (has g.loaders a) (has g.loaders b) (list_any (λ g. has g.loaders b) gs) (none_shared_back gs a b) h
-  where
-    at : (x y z : Bool) → (z ≡ false → shared gs a b ≡ false) → (y || z) ≡ false → ((x && y) || shared gs a b) ≡ false
-    at x true z k h = absurd cc
-    at true false z k h = k h
-    at false false z k h = k h
-
--- a loader of a group that stays shares none with a loader that was taken out
-kept_shares : (a b c x : ℕ) (gs : List Joint) → AreApart gs → ((g : Joint) → is_clear a b g ≡ true → has g.loaders c ≡ false) → list_any (λ g. has g.loaders x) (kept a b gs) ≡ true → shared gs c x ≡ false
-kept_shares a b c x [] apart clear h = refl
-kept_shares a b c x (g ∷ gs) apart clear h = at (is_clear a b g) refl (has g.loaders x) refl (kept_shares a b c x gs apart.1 clear) h
-  where
-    and_false : (p q : Bool) → p ≡ false → (p && q) ≡ false
-    and_false true q e = absurd cc
-    and_false false q e = refl
-
-    and_right : (p q : Bool) → q ≡ false → (p && q) ≡ false
-    and_right true q e = e
-    and_right false q e = refl
-
-    or_both : (p q : Bool) → p ≡ false → q ≡ false → (p || q) ≡ false
-    or_both true q e k = absurd cc
-    or_both false q e k = k
-
-    at : (p : Bool) → is_clear a b g ≡ p → (q : Bool) → has g.loaders x ≡ q → (list_any (λ g. has g.loaders x) (kept a b gs) ≡ true → shared gs c x ≡ false) → list_any (λ g. has g.loaders x) (if p then g ∷ kept a b gs else kept a b gs) ≡ true → ((has g.loaders c && has g.loaders x) || shared gs c x) ≡ false
-    at true i true j ih h = or_both (has g.loaders c && has g.loaders x) (shared gs c x) (and_false (has g.loaders c) (has g.loaders x) (clear g i)) (none_shared_back gs c x (apart.0 x j))
-    at true i false j ih h =
-        let tail : list_any (λ g. has g.loaders x) (kept a b gs) ≡ true = elim (or_cases (has g.loaders x) (list_any (λ g. has g.loaders x) (kept a b gs)) h) as (λ _. list_any (λ g. has g.loaders x) (kept a b gs) ≡ true) [ inl k ↦ (let z : false ≡ true = sym j ∙ k in absurd cc) | inr k ↦ k ] in
-        or_both (has g.loaders c && has g.loaders x) (shared gs c x) (and_right (has g.loaders c) (has g.loaders x) j) (ih tail)
-    at false i true j ih h =
-        let there : list_any (λ g. has g.loaders x) gs ≡ true = any_kept (λ g. has g.loaders x) a b gs h in
-        let z : false ≡ true = sym (apart.0 x j) ∙ there in absurd cc
-    at false i false j ih h = or_both (has g.loaders c && has g.loaders x) (shared gs c x) (and_right (has g.loaders c) (has g.loaders x) j) (ih h)
-
-clear_first : (a b : ℕ) (g : Joint) → is_clear a b g ≡ true → has g.loaders a ≡ false
-clear_first a b g h = at (has g.loaders a) h
-  where
-    at : (p : Bool) → (not p && not (has g.loaders b)) ≡ true → p ≡ false
-    at true h = absurd cc
-    at false h = refl
-
-clear_second : (a b : ℕ) (g : Joint) → is_clear a b g ≡ true → has g.loaders b ≡ false
-clear_second a b g h = at (has g.loaders b) (and_parts (not (has g.loaders a)) (not (has g.loaders b)) h).1
-  where
-    at : (p : Bool) → not p ≡ true → p ≡ false
-    at true h = absurd cc
-    at false h = refl
-
--- so it is joined to neither
-kept_unjoined : (a b c x : ℕ) (gs : List Joint) → AreApart gs → ((g : Joint) → is_clear a b g ≡ true → has g.loaders c ≡ false) → list_any (λ g. has g.loaders c) (kept a b gs) ≡ false → list_any (λ g. has g.loaders x) (kept a b gs) ≡ true → AreJoined gs c x → ⊥
-kept_unjoined a b c x gs apart clear none h (inl e) =
-    let t : list_any (λ g. has g.loaders c) (kept a b gs) ≡ true = subst (λ (z : ℕ). list_any (λ g. has g.loaders z) (kept a b gs) ≡ true) (sym e) h in
-    let z : false ≡ true = sym none ∙ t in absurd cc
-kept_unjoined a b c x gs apart clear none h (inr s) = let z : false ≡ true = sym (kept_shares a b c x gs apart clear h) ∙ s in absurd cc
-
--- what is among the members of the two is joined to one of them
-merged_has : (gs : List Joint) (a b x : ℕ) → AreApart gs → has (members gs a ++ members gs b) x ≡ true → AreJoined gs a x ⊎ AreJoined gs b x
-merged_has gs a b x apart h =
-    elim (or_cases (has (members gs a) x) (has (members gs b) x) (sym (has_append (members gs a) (members gs b) x) ∙ h)) as (λ _. AreJoined gs a x ⊎ AreJoined gs b x) [
-      | inl k ↦ inl (members_joined gs a x apart k)
-      | inr k ↦ inr (members_joined gs b x apart k)
-    ]
-
-has_merged : (gs : List Joint) (a b x : ℕ) → AreApart gs → AreJoined gs a x ⊎ AreJoined gs b x → has (members gs a ++ members gs b) x ≡ true
-has_merged gs a b x apart (inl j) = has_append (members gs a) (members gs b) x ∙ or_left (has (members gs a) x) (has (members gs b) x) (joined_member gs a x apart j)
-has_merged gs a b x apart (inr j) = has_append (members gs a) (members gs b) x ∙ or_right (has (members gs a) x) (has (members gs b) x) (joined_member gs b x apart j)
-
--- ---- being joined is symmetric and transitive
-
-shared_back : (gs : List Joint) (a b : ℕ) → shared gs a b ≡ shared gs b a
-shared_back [] a b = refl
-shared_back (g ∷ gs) a b = at (has g.loaders a) (has g.loaders b) (shared_back gs a b)
-  where
-    at : (x y : Bool) → shared gs a b ≡ shared gs b a → ((x && y) || shared gs a b) ≡ ((y && x) || shared gs b a)
-    at true true e = refl
-    at true false e = e
-    at false true e = e
-    at false false e = e
-
-grouped_back : (gs : List Joint) (a b : ℕ) → AreJoined gs a b → AreJoined gs b a
-grouped_back gs a b (inl e) = inl (sym e)
-grouped_back gs a b (inr s) = inr (shared_back gs b a ∙ s)
-
-found_shares : (gs : List Joint) (l a b : ℕ) (g : Joint) → group_of gs l ≡ Some g → has g.loaders a ≡ true → has g.loaders b ≡ true → shared gs a b ≡ true
-found_shares [] l a b g h i j = absurd cc
-found_shares (x ∷ gs) l a b g h i j = at (has x.loaders l) (λ k. found_shares gs l a b g k i j) h
-  where
-    at : (p : Bool) → (group_of gs l ≡ Some g → shared gs a b ≡ true) → (if p then Some x else group_of gs l) ≡ Some g → ((has x.loaders a && has x.loaders b) || shared gs a b) ≡ true
-    at true ih h =
-        let e : x ≡ g = cc in
-        or_left (has x.loaders a && has x.loaders b) (shared gs a b) (and_both (has x.loaders a) (has x.loaders b) (ap (λ (z : Joint). has z.loaders a) e ∙ i) (ap (λ (z : Joint). has z.loaders b) e ∙ j))
-    at false ih h = or_right (has x.loaders a && has x.loaders b) (shared gs a b) (ih h)
-
-grouped_then : (gs : List Joint) (a b c : ℕ) → AreApart gs → AreJoined gs a b → AreJoined gs b c → AreJoined gs a c
-grouped_then gs a b c apart (inl e) k = subst (λ (z : ℕ). AreJoined gs z c) (sym e) k
-grouped_then gs a b c apart (inr s) (inl e) = inr (subst (λ (z : ℕ). shared gs a z ≡ true) e s)
-grouped_then gs a b c apart (inr s) (inr t) = at (group_of gs b) refl (shared_found gs b a apart) (shared_found gs b c apart)
-  where
-    at : (o : Option Joint) → group_of gs b ≡ o → shared gs b a ≡ in_group o a → shared gs b c ≡ in_group o c → AreJoined gs a c
-    at None e i j = let z : false ≡ true = sym j ∙ t in absurd cc
-    at (Some g) e i j = inr (found_shares gs b a c g e (sym i ∙ shared_back gs b a ∙ s) (sym j ∙ t))
-
--- ---- what joining two loaders makes
-
--- a group with a loader that is joined to neither stays
-kept_shared : (a b x y : ℕ) (gs : List Joint) → shared gs x y ≡ true → shared gs a x ≡ false → shared gs b x ≡ false → shared (kept a b gs) x y ≡ true
-kept_shared a b x y [] h i j = h
-kept_shared a b x y (g ∷ gs) h i j = at (has g.loaders a) (has g.loaders b) (has g.loaders x) refl (kept_shared a b x y gs) h i j
-  where
-    at : (p q r : Bool) → has g.loaders x ≡ r → (shared gs x y ≡ true → shared gs a x ≡ false → shared gs b x ≡ false → shared (kept a b gs) x y ≡ true) → ((r && has g.loaders y) || shared gs x y) ≡ true → ((p && r) || shared gs a x) ≡ false → ((q && r) || shared gs b x) ≡ false → shared (if not p && not q then g ∷ kept a b gs else kept a b gs) x y ≡ true
-    at true q true e ih h i j = absurd cc
-    at false true true e ih h i j = absurd cc
-    at false false true e ih h i j =
-        elim (or_cases (has g.loaders y) (shared gs x y) h) as (λ _. ((has g.loaders x && has g.loaders y) || shared (kept a b gs) x y) ≡ true) [
-          | inl k ↦ or_left (has g.loaders x && has g.loaders y) (shared (kept a b gs) x y) (and_both (has g.loaders x) (has g.loaders y) e k)
-          | inr k ↦ or_right (has g.loaders x && has g.loaders y) (shared (kept a b gs) x y) (ih k i j)
-        ]
-    at true q false e ih h i j = ih h i (or_tail q (shared gs b x) j)
-      where
-        or_tail : (q z : Bool) → ((q && false) || z) ≡ false → z ≡ false
-        or_tail true z k = k
-        or_tail false z k = k
-    at false true false e ih h i j = ih h i j
-    at false false false e ih h i j = or_right (has g.loaders x && has g.loaders y) (shared (kept a b gs) x y) (ih h i j)
-
-shared_merged : (v : Grouped) (a b x y : ℕ) → has (members v.groups a ++ members v.groups b) x ≡ true → has (members v.groups a ++ members v.groups b) y ≡ true → AreJoined (merged v a b) x y
-shared_merged v a b x y h k =
-    let all = members v.groups a ++ members v.groups b in
-    inr (any_append (λ g. has g.loaders x && has g.loaders y) (kept a b v.groups) (record { home = or_else (class_in v a) (class_in v b); loaders = all } ∷ [])
-    ∙ or_right (shared (kept a b v.groups) x y) ((has all x && has all y) || false) (or_left (has all x && has all y) false (and_both (has all x) (has all y) h k)))
-
-unshared : (gs : List Joint) (a b x : ℕ) → AreApart gs → has (members gs a ++ members gs b) x ≡ false → (shared gs a x ≡ false) × (shared gs b x ≡ false)
-unshared gs a b x apart h = (at a (shared gs a x) refl (λ s. has_merged gs a b x apart (inl (inr s))), at b (shared gs b x) refl (λ s. has_merged gs a b x apart (inr (inr s))))
-  where
-    at : (l : ℕ) (p : Bool) → shared gs l x ≡ p → (shared gs l x ≡ true → has (members gs a ++ members gs b) x ≡ true) → shared gs l x ≡ false
-    at l true e k = let z : false ≡ true = sym h ∙ k e in absurd cc
-    at l false e k = e
-
-pub merged_from : (v : Grouped) (a b x y : ℕ) → IsGrouped v → AreJoined (merged v a b) x y → Joins (λ p q. AreJoined v.groups p q) a b x y
-merged_from v a b x y ok (inl e) = inl (inl e)
-merged_from v a b x y ok (inr s) =
-    elim (or_cases (shared (kept a b v.groups) x y) ((has all x && has all y) || false) (sym (any_append (λ g. has g.loaders x && has g.loaders y) (kept a b v.groups) (record { home = or_else (class_in v a) (class_in v b); loaders = all } ∷ [])) ∙ s)) as (λ _. Joins (λ p q. AreJoined v.groups p q) a b x y) [
-      | inl k ↦ inl (inr (any_kept (λ g. has g.loaders x && has g.loaders y) a b v.groups k))
-      | inr k ↦ elim (or_cases (has all x && has all y) false k) as (λ _. Joins (λ p q. AreJoined v.groups p q) a b x y) [
-        | inl q ↦ both (merged_has v.groups a b x ok.apart (and_parts (has all x) (has all y) q).0) (merged_has v.groups a b y ok.apart (and_parts (has all x) (has all y) q).1)
-        | inr q ↦ absurd cc
-      ]
-    ]
-  where
-    all : List ℕ
-    all = members v.groups a ++ members v.groups b
-
-    J : ℕ → ℕ → Type 0
-    J p q = AreJoined v.groups p q
-
-    both : J a x ⊎ J b x → J a y ⊎ J b y → Joins J a b x y
-    both (inl i) (inl j) = inl (grouped_then v.groups x a y ok.apart (grouped_back v.groups a x i) j)
-    both (inl i) (inr j) = inr (inl (grouped_back v.groups a x i, j))
-    both (inr i) (inl j) = inr (inr (grouped_back v.groups b x i, j))
-    both (inr i) (inr j) = inl (grouped_then v.groups x b y ok.apart (grouped_back v.groups b x i) j)
-
-pub merged_to : (v : Grouped) (a b x y : ℕ) → IsGrouped v → Joins (λ p q. AreJoined v.groups p q) a b x y → AreJoined (merged v a b) x y
-merged_to v a b x y ok (inr (inl j)) = shared_merged v a b x y (has_merged v.groups a b x ok.apart (inl (grouped_back v.groups x a j.0))) (has_merged v.groups a b y ok.apart (inr j.1))
-merged_to v a b x y ok (inr (inr j)) = shared_merged v a b x y (has_merged v.groups a b x ok.apart (inr (grouped_back v.groups x b j.0))) (has_merged v.groups a b y ok.apart (inl j.1))
-merged_to v a b x y ok (inl (inl e)) = inl e
-merged_to v a b x y ok (inl (inr s)) = at (has all x) refl
-  where
-    all : List ℕ
-    all = members v.groups a ++ members v.groups b
-
-    along : AreJoined v.groups a x ⊎ AreJoined v.groups b x → AreJoined v.groups a y ⊎ AreJoined v.groups b y
-    along (inl i) = inl (grouped_then v.groups a x y ok.apart i (inr s))
-    along (inr i) = inr (grouped_then v.groups b x y ok.apart i (inr s))
-
-    at : (p : Bool) → has all x ≡ p → AreJoined (merged v a b) x y
-    at true e = shared_merged v a b x y e (has_merged v.groups a b y ok.apart (along (merged_has v.groups a b x ok.apart e)))
-    at false e =
-        let none = unshared v.groups a b x ok.apart e in
-        inr (any_append (λ g. has g.loaders x && has g.loaders y) (kept a b v.groups) (record { home = or_else (class_in v a) (class_in v b); loaders = all } ∷ [])
-        ∙ or_left (shared (kept a b v.groups) x y) ((has all x && has all y) || false) (kept_shared a b x y v.groups s none.0 none.1))
-
-pub merged_joined : (v : Grouped) (a b x y : ℕ) → IsGrouped v → AreJoined (merged v a b) x y ↔ Joins (λ p q. AreJoined v.groups p q) a b x y
-merged_joined v a b x y ok = (merged_from v a b x y ok, merged_to v a b x y ok)
-
-apart_push : (gs : List Joint) (n : Joint) → AreApart gs → ((x : ℕ) → list_any (λ g. has g.loaders x) gs ≡ true → has n.loaders x ≡ false) → AreApart (gs ++ n ∷ [])
-apart_push [] n apart new = (λ x h. refl, tt)
-apart_push (g ∷ gs) n apart new = (
-  λ x h. any_append (λ g. has g.loaders x) gs (n ∷ []) ∙ neither (list_any (λ g. has g.loaders x) gs) (has n.loaders x) (apart.0 x h) (new x (or_left (has g.loaders x) (list_any (λ g. has g.loaders x) gs) h)),
-  apart_push gs n apart.1 (λ x h. new x (or_right (has g.loaders x) (list_any (λ g. has g.loaders x) gs) h)),
-)
-  where
-    neither : (p q : Bool) → p ≡ false → q ≡ false → (p || (q || false)) ≡ false
-    neither true q e k = absurd cc
-    neither false true e k = absurd cc
-    neither false false e k = refl
-
-homes_push : (rs : List Entered) (gs : List Joint) (n : Joint) → HaveHomes rs gs → HasItsHome rs n → HaveHomes rs (gs ++ n ∷ [])
-homes_push rs [] n old new = (new, tt)
-homes_push rs (g ∷ gs) n old new = (old.0, homes_push rs gs n old.1 new)
-
--- the home of the new group
-merged_home : (v : Grouped) (a b : ℕ) (p q : Option ℕ) → IsGrouped v → IsClassOf v a p → IsClassOf v b q → (Divides (λ x. home_in v.records x) (λ x y. AreJoined v.groups x y) a b → ⊥) → HasItsHome v.records (record { home = or_else p q; loaders = members v.groups a ++ members v.groups b })
-merged_home v a b p q ok ca cb fits =
-    record {
-      every = λ x place i e. every p q ca cb x place (merged_has v.groups a b x ok.apart i) e;
-      some = λ place e. some p q ca cb place e;
-    }
-  where
-    same : (m n : ℕ) → IsClassOf v a (Some m) → IsClassOf v b (Some n) → m ≡ n
-    same m n cm cn = at (m == n) refl
-      where
-        at : (z : Bool) → (m == n) ≡ z → m ≡ n
-        at true k = eqb-true m n k
-        at false k = absurd (fits (divides_by v a b m n cm cn (λ s. (let t : (m == n) ≡ true = eq-eqb m n s in let z : false ≡ true = sym k ∙ t in absurd cc))))
-
-    every : (p q : Option ℕ) → IsClassOf v a p → IsClassOf v b q → (x place : ℕ) → AreJoined v.groups a x ⊎ AreJoined v.groups b x → home_in v.records x ≡ Some place → or_else p q ≡ Some place
-    every None q cp cq x place (inl j) e = let z : None ≡ Some place = cp.every x place j e in absurd cc
-    every None q cp cq x place (inr j) e = cq.every x place j e
-    every (Some m) q cp cq x place (inl j) e = cp.every x place j e
-    every (Some m) None cp cq x place (inr j) e = let z : None ≡ Some place = cq.every x place j e in absurd cc
-    every (Some m) (Some n) cp cq x place (inr j) e = ap (λ (z : ℕ). Some z) (same m n cp cq) ∙ cq.every x place j e
-
-    some : (p q : Option ℕ) → IsClassOf v a p → IsClassOf v b q → (place : ℕ) → or_else p q ≡ Some place → (l : ℕ) × (has (members v.groups a ++ members v.groups b) l ≡ true) × (home_in v.records l ≡ Some place)
-    some None q cp cq place e = let f = cq.some place e in (f.0, has_merged v.groups a b f.0 ok.apart (inr f.1), f.2)
-    some (Some m) q cp cq place e = let f = cp.some place e in (f.0, has_merged v.groups a b f.0 ok.apart (inl f.1), f.2)
-
-pub merged_grouped : (v : Grouped) (a b : ℕ) → IsGrouped v → (Divides (λ x. home_in v.records x) (λ x y. AreJoined v.groups x y) a b → ⊥) → IsGrouped (record { records = v.records; groups = merged v a b })
-merged_grouped v a b ok fits =
-    record {
-      apart = apart_push (kept a b v.groups) (record { home = or_else (class_in v a) (class_in v b); loaders = all }) (kept_apart a b v.groups ok.apart) outside;
-      homes = homes_push v.records (kept a b v.groups) (record { home = or_else (class_in v a) (class_in v b); loaders = all }) (kept_homes v.records a b v.groups ok.homes) (merged_home v a b (class_in v a) (class_in v b) ok (class_shared v a (class_in v a) ok refl) (class_shared v b (class_in v b) ok refl) fits);
-    }
-  where
-    all : List ℕ
-    all = members v.groups a ++ members v.groups b
-
-    neither : (x : ℕ) → list_any (λ g. has g.loaders x) (kept a b v.groups) ≡ true → AreJoined v.groups a x ⊎ AreJoined v.groups b x → ⊥
-    neither x h (inl j) = kept_unjoined a b a x v.groups ok.apart (clear_first a b) (kept_clear a b v.groups).0 h j
-    neither x h (inr j) = kept_unjoined a b b x v.groups ok.apart (clear_second a b) (kept_clear a b v.groups).1 h j
-
-    outside : (x : ℕ) → list_any (λ g. has g.loaders x) (kept a b v.groups) ≡ true → has all x ≡ false
-    outside x h = at (has all x) refl
-      where
-        at : (p : Bool) → has all x ≡ p → has all x ≡ false
-        at true e = absurd (neither x h (merged_has v.groups a b x ok.apart e))
-        at false e = e
-
--- what stands after a group was put in place of two, or was not
-pub joined_grouped : {A B : Type 0} (v : Grouped) (a b : ℕ) (joint : Joint) (gs : List Joint) (r : Result A B) → IsGrouped v → (Divides (λ x. home_in v.records x) (λ x y. AreJoined v.groups x y) a b → ⊥) → joint ≡ joint_of v a b → OnOk r (gs ≡ without a b v.groups ++ joint ∷ []) → OnErr r (gs ≡ v.groups) → IsGrouped (record { records = v.records; groups = gs })
-joined_grouped v a b joint gs (Ok x) ok fits is done same = rw (done, is) (merged_grouped v a b ok fits)
-joined_grouped v a b joint gs (Err e) ok fits is done same = rw same ok
-
-pub joined_joins : {A B : Type 0} (v : Grouped) (a b : ℕ) (joint : Joint) (gs : List Joint) (r : Result A B) → IsGrouped v → joint ≡ joint_of v a b → OnOk r (gs ≡ without a b v.groups ++ joint ∷ []) → OnOk r ((x y : ℕ) → AreJoined gs x y ↔ Joins (λ p q. AreJoined v.groups p q) a b x y)
-joined_joins v a b joint gs (Ok x) ok is done = λ x y. rw (done, is) (merged_joined v a b x y ok)
-joined_joins v a b joint gs (Err e) ok is done = tt

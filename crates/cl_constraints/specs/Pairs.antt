@@ -1,14 +1,17 @@
 -- The constraints of one name, kept as lists (own choice; what they mean is of JVMS SE 8, 5.3.4).
-use Rattle.std.specs.Prelude.{◌≡◌, ℕ, Bool, false, ◌==◌, ◌&&◌, not, List, Option, Some, None, if◌then◌else◌}
-use Rattle.std.specs.List.{fold, list_any}
+use Rattle.std.specs.Prelude.{◌≡◌, ℕ, Bool, ◌==◌, ◌&&◌, not, List, Option, Some, find, option_map, if◌then◌else◌}
+use Rattle.std.specs.List.{AllByRecursion, fold, list_any}
 use Rattle.cl_constraints.specs.declared.plain.Pair.{Pair}
-use Rattle.cl_constraints.specs.declared.record.Entered.{Entered}
-use Rattle.cl_constraints.specs.Records.{home_in}
+use Rattle.cl_constraints.specs.declared.plain.Placed.{Placed}
 
 -- all of one name: who recorded it, and the pairs of loaders, in the order in which they were joined (5.3.4)
 pub record Paired : Type 0 where
-  pub records : List Entered
+  pub records : List Placed
   pub pairs : List Pair
+
+-- who defined the class that a loader records (5.3)
+abbrev pub home_at : List Placed → ℕ → Option ℕ
+home_at records loader = option_map (λ r. r.home) (find (λ r. r.loader == loader) records)
 
 -- where a search that stands at a loader goes by a pair (own choice)
 abbrev pub next_by : ℕ → Pair → ℕ
@@ -22,20 +25,23 @@ end_in pairs loader = fold next_by loader pairs
 abbrev pub ArePaired : List Pair → ℕ → ℕ → Type 0
 ArePaired pairs a b = end_in pairs a ≡ end_in pairs b
 
--- a class is recorded, and it is another than this home's (5.3.4)
-abbrev pub is_other : ℕ → Option ℕ → Bool
-is_other place None = false
-is_other place (Some recorded) = not (recorded == place)
+-- a record is its loader's, and keeps where the search from its loader ends (own choice)
+pub record IsPlaced (v : Paired) (r : Placed) : Type 0 where
+  pub own : home_at v.records r.loader ≡ Some r.home
+  pub ended : r.end ≡ end_in v.pairs r.loader
 
--- a loader that is joined to this one records another class (5.3.4)
-abbrev pub differs_in : List Entered → List Pair → ℕ → ℕ → Bool
-differs_in records pairs loader place = list_any (λ r. (end_in pairs loader == end_in pairs r.loader) && is_other place (home_in records r.loader)) records
+-- what holds of the constraints of each name (own choice)
+abbrev pub ArePlaced : Paired → Type 0
+ArePlaced v = AllByRecursion (IsPlaced v) v.records
 
--- a class is recorded, and a loader that is joined to this one records another (5.3.4)
-abbrev pub is_split : List Entered → List Pair → ℕ → Option ℕ → Bool
-is_split records pairs loader None = false
-is_split records pairs loader (Some recorded) = differs_in records pairs loader recorded
+-- a loader whose search ends here records another class (5.3.4)
+abbrev pub differs_at : List Placed → ℕ → ℕ → Bool
+differs_at records end place = list_any (λ r. (r.end == end) && not (r.home == place)) records
 
--- loaders joined to one and to the other record different classes (5.3.4)
-abbrev pub divides_in : List Entered → List Pair → ℕ → ℕ → Bool
-divides_in records pairs a b = list_any (λ r. (end_in pairs a == end_in pairs r.loader) && is_split records pairs b (home_in records r.loader)) records
+-- loaders whose searches end at the one and at the other record different classes (5.3.4)
+abbrev pub divides_at : List Placed → ℕ → ℕ → Bool
+divides_at records one other = list_any (λ r. (r.end == one) && differs_at records other r.home) records
+
+-- a record once a pair is added (own choice)
+abbrev pub moved : Pair → Placed → Placed
+moved pair r = record r { end = next_by r.end pair }

@@ -1,8 +1,7 @@
-ghost use Rattle.std.specs.Prelude.{◌≡◌, ◌==◌, [], ◌++◌, ◌∷◌, ℕ, Option, None, MatchBool, OnErr, OnOk};
+ghost use Rattle.std.specs.Prelude.{◌≡◌, ◌==◌, [], ◌++◌, ◌∷◌, map, ℕ, Option, None, MatchBool, OnErr, OnOk};
 ghost use Rattle.cl_constraints.specs.Singles.{Differs, Divides, Enters, Joins, TellsAgreement, TellsFit};
-ghost use Rattle.cl_constraints.specs.Pairs.{differs_in, divides_in, end_in, is_other, is_split, next_by};
+ghost use Rattle.cl_constraints.specs.Pairs.{differs_at, divides_at, end_in, home_at, moved, next_by};
 
-use crate::record::{Entered, home_among};
 use crate::single::NameBook;
 use cl_model::LoaderId;
 use std::alloc::{AllocError, Global};
@@ -28,29 +27,48 @@ impl Pair {
     }
 }
 
+/// A loader's record of the name: who defined the class, and where the search from the loader ends.
+#[derive(Clone, Copy, Debug)]
+struct Placed {
+    loader: LoaderId,
+    home: LoaderId,
+    end: LoaderId,
+}
+
+impl Placed {
+    /// Goes on with the search, by a pair that was added.
+    fn go_on(&mut self, pair: &Pair)
+        ensures { self.new ≡ moved pair.now self.old }
+    {
+        self.end = pair.next(self.end);
+    }
+}
+
 /// The constraints of one name, as lists of what was recorded and what was joined.
 ///
 /// Two loaders are joined by a pair of those where the searches from them ended, so one walk along the pairs in their
-/// order ends at the same loader for all that are joined. A look takes no memory, and at most the cube of what stands.
+/// order ends at the same loader for all that are joined. Each record keeps where that walk ends for its loader, since a
+/// look takes no memory to note it in: `admits` is one walk and one pass over the records.
 #[derive(Debug, Drop)]
 pub struct Pairs {
-    records: Vec<Entered>,
+    records: Vec<Placed>,
     pairs: Vec<Pair>,
 }
 
 impl Model for Pairs {
-    ghost use Rattle.cl_constraints.specs.Pairs.{Paired};
+    ghost use Rattle.cl_constraints.specs.Pairs.{ArePlaced, Paired};
 
     ghost Value = { Paired };
 
     ghost view = { λ p. record { records = p.records.items; pairs = p.pairs.items } };
+
+    ghost invariant = { λ p. ArePlaced (record { records = p.records.items; pairs = p.pairs.items }) };
 }
 
 impl NameBook for Pairs {
-    ghost use Rattle.cl_constraints.specs.Records.{home_in};
-    ghost use Rattle.cl_constraints.specs.Pairs.{ArePaired};
+    ghost use Rattle.cl_constraints.specs.Pairs.{ArePaired, home_at};
 
-    ghost record_at = { λ p loader. home_in p.records loader };
+    ghost record_at = { λ p loader. home_at p.records loader };
 
     ghost joins = { λ p a b. ArePaired p.pairs a b };
 
@@ -62,23 +80,27 @@ impl NameBook for Pairs {
     }
 
     fn home(&self, loader: LoaderId) -> Option<LoaderId> {
-        home_among(self.records.as_slice(), loader)
+        home_at(self.records.as_slice(), loader)
     }
 
     fn joined(&self, a: LoaderId, b: LoaderId) -> bool {
-        meet(self.pairs.as_slice(), a, b)
+        end_among(self.pairs.as_slice(), a) == end_among(self.pairs.as_slice(), b)
     }
 
     fn admits(&self, loader: LoaderId, home: LoaderId) -> bool {
-        !differs(self.records.as_slice(), self.pairs.as_slice(), loader, home)
+        let end = end_among(self.pairs.as_slice(), loader);
+        !differs(self.records.as_slice(), end, home)
     }
 
     fn agree(&self, a: LoaderId, b: LoaderId) -> bool {
-        !divides(self.records.as_slice(), self.pairs.as_slice(), a, b)
+        let one = end_among(self.pairs.as_slice(), a);
+        let other = end_among(self.pairs.as_slice(), b);
+        !divides(self.records.as_slice(), one, other)
     }
 
     fn enter(&mut self, loader: LoaderId, home: LoaderId) -> Result<(), AllocError> {
-        self.records.push(Entered { loader, home })?;
+        let end = end_among(self.pairs.as_slice(), loader);
+        self.records.push(Placed { loader, home, end })?;
         Ok(())
     }
 
@@ -86,6 +108,7 @@ impl NameBook for Pairs {
         let one = end_among(self.pairs.as_slice(), a);
         let other = end_among(self.pairs.as_slice(), b);
         self.pairs.push(Pair { one, other })?;
+        move_on(&mut self.records, &Pair { one, other });
         Ok(())
     }
 }
@@ -97,46 +120,37 @@ fn end_among(pairs: &[Pair], loader: LoaderId) -> LoaderId
     pairs.iter().fold(loader, |here, pair| pair.next(here))
 }
 
-/// Whether the searches from two loaders end at one.
-fn meet(pairs: &[Pair], a: LoaderId, b: LoaderId) -> bool
-    ensures { result ≡ (end_in pairs.now a == end_in pairs.now b) }
+/// Who defined the class that a loader records.
+fn home_at(records: &[Placed], loader: LoaderId) -> Option<LoaderId>
+    ensures { result ≡ home_at records.now loader }
 {
-    end_among(pairs, a) == end_among(pairs, b)
+    records
+        .iter()
+        .find(|it| it.loader == loader)
+        .map(|it| it.home)
 }
 
-/// Whether a class is recorded that is another than this home's.
-fn is_other(home: LoaderId, recorded: Option<LoaderId>) -> bool
-    ensures { result ≡ is_other home recorded }
+/// Whether a loader whose search ends here records another class.
+fn differs(records: &[Placed], end: LoaderId, home: LoaderId) -> bool
+    ensures { result ≡ differs_at records.now end home }
 {
-    recorded.is_some_and(|place| place != home)
+    records.iter().any(|it| it.end == end && it.home != home)
 }
 
-/// Whether a loader that is joined to this one records another class.
-fn differs(records: &[Entered], pairs: &[Pair], loader: LoaderId, home: LoaderId) -> bool
-    ensures { result ≡ differs_in records.now pairs.now loader home }
+/// Whether loaders whose searches end at the one and at the other record different classes.
+fn divides(records: &[Placed], one: LoaderId, other: LoaderId) -> bool
+    ensures { result ≡ divides_at records.now one other }
 {
-    records.iter().any(|it| {
-        meet(pairs, loader, it.loader) && is_other(home, home_among(records, it.loader))
-    })
+    records
+        .iter()
+        .any(|it| it.end == one && differs(records, other, it.home))
 }
 
-/// Whether a class is recorded where a loader that is joined to this one records another.
-fn is_split(
-    records: &[Entered],
-    pairs: &[Pair],
-    loader: LoaderId,
-    recorded: Option<LoaderId>,
-) -> bool
-    ensures { result ≡ is_split records.now pairs.now loader recorded }
+/// Goes on with the search from each record's loader, by a pair that was added.
+fn move_on(records: &mut Vec<Placed>, pair: &Pair)
+    ensures { records.new.items ≡ map (moved pair.now) records.old.items }
 {
-    recorded.is_some_and(|place| differs(records, pairs, loader, place))
-}
-
-/// Whether loaders that are joined to one and to the other record different classes.
-fn divides(records: &[Entered], pairs: &[Pair], a: LoaderId, b: LoaderId) -> bool
-    ensures { result ≡ divides_in records.now pairs.now a b }
-{
-    records.iter().any(|it| {
-        meet(pairs, a, it.loader) && is_split(records, pairs, b, home_among(records, it.loader))
-    })
+    for record in records.iter_mut() {
+        record.go_on(pair);
+    }
 }

@@ -2,7 +2,8 @@ use Rattle.std.proofs.Common.{◌≡◌, subst, sym, None}
 use Rattle.cl_constraints.specs.Groups.{Grouped, AreJoined}
 use Rattle.cl_constraints.specs.Records.{home_in}
 use Rattle.cl_constraints.specs.Singles.{Differs}
-use Rattle.cl_constraints.proofs.Grouping.{entered_grouped, enters, homed_joined}
+use Rattle.cl_constraints.proofs.Recording.{enters}
+use Rattle.cl_constraints.proofs.Grouping.{by_loader, entered_grouped, entry, homed_joined, its_home}
 use Rattle.cl_constraints.proofs.grouped.GroupsNameBook.enter.Goals as goal
 
 pub invariant_of-self-2 : goal.invariant_of-self-2
@@ -15,7 +16,7 @@ invariant_of-self-2 c =
 pub returns-clause-records : goal.returns-clause-records
 returns-clause-records c =
     let fresh : home_in c.self.inside.records.items c.args.loader ≡ None = subst (λ (x : Grouped). home_in x.records c.args.loader ≡ None) (sym c.self.view_is) c.requires.fresh in
-    rw (c.in_ok-push.ensures.items, ← c.self.view_is) (enters c.self.inside.records.items c.args.loader c.args.home fresh)
+    rw (c.in_ok-push.ensures.items, ← c.self.view_is) (enters by_loader its_home c.self.inside.records.items (entry c.args.loader c.args.home) fresh)
 
 pub returns-clause-joined : goal.returns-clause-joined
 returns-clause-joined c = λ a b. rw (c.give_home.ensures, ← c.self.view_is) (homed_joined c.args.loader c.args.home a b c.self.inside.groups.items)

@@ -1,27 +1,23 @@
 -- What a load does on a reply.
-use Rattle.std.proofs.Common.{◌≡◌, ◌≢◌, ◌∙◌, ℕ, List, [], ◌∷◌, inl, inr, Option, Some, None, refl, sym, ap, subst}
+use Rattle.std.proofs.Common.{◌≡◌, ◌∙◌, ℕ, List, [], ◌∷◌, Option, Some, None, refl, sym, ap, subst}
 use Rattle.std.proofs.Common.{Global}
 use Rattle.std.specs.Prelude.{map}
 use Rattle.std.specs.declared.sync.Arc.{Arc}
-use Rattle.cl_model.specs.declared.answer.Answer.TheVariants as answers
-use Rattle.cl_model.specs.declared.class.Class.{Class}
 use Rattle.cl_model.specs.declared.request.Request.{Request}
-use Rattle.cl_model.specs.Content.{Content}
 use Rattle.cl_config.specs.Views.{Configured}
 use Rattle.cl_delegation.specs.Searches.{Located}
 use Rattle.cl_hierarchy.specs.declared.row.ClassRow.{ClassRow}
 use Rattle.cl_hierarchy.specs.Frames.{Framed, frame_of}
 use Rattle.cl_hierarchy.specs.Paths.{Pathed, at_loader, at_name, frames_of}
-use Rattle.cl_hierarchy.specs.Rows.{Rowed}
 use Rattle.cl_model.specs.Frames.{Frame}
 use Rattle.cl_findings.specs.declared.load.Target.{Target}
 use Rattle.cl_findings.specs.declared.load.Target.TheVariants as targets
 use Rattle.cl_findings.specs.Findings.{loader_of, name_of}
-use Rattle.cl_findings.specs.Loads.{IsFor, IsSought}
+use Rattle.cl_findings.specs.Loads.{IsFor}
 use Rattle.cl_registry.specs.Tables.{Shown}
 use Rattle.cl_tasks.specs.Ends.{IsOwnTarget}
 use Rattle.cl_tasks.specs.Facts.{AllHave, AreSo, Holds}
-use Rattle.cl_tasks.specs.Stages.{IsFirst, IsHoming, IsJob, loading_at, target_facts, task_at}
+use Rattle.cl_tasks.specs.Stages.{IsFirst, IsHoming, loading_at, target_facts, task_at}
 use Rattle.cl_tasks.specs.Steps.{HoldsOn, LooksBy}
 use Rattle.cl_tasks.specs.Tasks.{Fact, Tasked}
 use Rattle.cl_tasks.specs.Turns.{AnswersOwn, Asks, GoesOnWith}
@@ -30,8 +26,6 @@ use Rattle.cl_tasks.specs.Waits as waits
 use Rattle.cl_tasks.specs.declared.stage.Job.{Job}
 use Rattle.cl_tasks.specs.declared.stage.Load.TheVariants as loads
 use Rattle.cl_tasks.specs.declared.stage.Stage.{Stage}
-use Rattle.cl_tasks.specs.declared.stage.Stage.TheVariants as stages
-use Rattle.cl_tasks.specs.declared.turn.Reply.{Reply}
 use Rattle.cl_tasks.specs.declared.turn.Reply.TheVariants as reply
 use Rattle.cl_tasks.specs.declared.turn.Turn.{Turn}
 use Rattle.cl_tasks.specs.declared.turn.Turn.TheVariants as turn

@@ -1,5 +1,5 @@
 -- A load that ended with a finding.
-use Rattle.std.proofs.Common.{◌≡◌, ◌<◌, ℕ, inl, List, length, Option, Some, refl, sym, ap, subst}
+use Rattle.std.proofs.Common.{◌≡◌, ℕ, inl, List, Option, Some, refl, sym, subst}
 use Rattle.cl_model.specs.declared.answer.Answer.TheVariants as answers
 use Rattle.cl_model.specs.declared.need.Need as rust
 use Rattle.cl_model.specs.declared.request.Request.{Request}
@@ -7,7 +7,7 @@ use Rattle.cl_model.specs.declared.request.Request.TheVariants as requests
 use Rattle.cl_model.specs.declared.verdict.Verdict as verdict
 use Rattle.cl_model.specs.declared.verdict.Verdict.TheVariants as verdicts
 use Rattle.cl_model.specs.Content.{Content}
-use Rattle.cl_findings.specs.Findings.{Answered, Based, loader_of, name_of}
+use Rattle.cl_findings.specs.Findings.{Answered, Based}
 use Rattle.cl_registry.specs.Tables.{Shown}
 use Rattle.cl_tasks.specs.Ends.{ConcludesBy, IsAftermath}
 use Rattle.cl_tasks.specs.Follows.{EndsAsRefused, LooksAgain, NoFault}
@@ -17,7 +17,6 @@ use Rattle.cl_tasks.specs.declared.ends.Aftermath.{Aftermath}
 use Rattle.cl_tasks.specs.declared.ends.Aftermath.TheVariants as aftermaths
 use Rattle.cl_tasks.specs.declared.stage.Job.{Job}
 use Rattle.cl_tasks.specs.declared.stage.Next.{Next}
-use Rattle.cl_tasks.specs.declared.turn.Turn.{Turn}
 use Rattle.cl_tasks.proofs.Ending.{Ended, concludes}
 use Rattle.cl_tasks.proofs.Said.{found_is, said_of}
 

@@ -1,28 +1,18 @@
 -- How a load ends otherwise than with its class: of the request's own class that is answered, or looked for once more; of a reference's it is settled.
-use Rattle.std.proofs.Common.{◌≡◌, ◌∙◌, ◌<◌, ◌+◌, ℕ, List, [], ◌∷◌, ◌++◌, length, Option, Some, None, refl, sym, ap, subst, arith}
-use Rattle.std.specs.Prelude.{IfSome}
-use Rattle.cl_model.specs.declared.answer.Answer.TheVariants as answers
+use Rattle.std.proofs.Common.{◌≡◌, ◌∙◌, ◌<◌, ℕ, List, length, Option, Some, refl, sym, ap, subst, arith}
 use Rattle.cl_model.specs.declared.class.Class.{Class}
 use Rattle.cl_model.specs.declared.request.Request.{Request}
 use Rattle.cl_model.specs.declared.request.Request.TheVariants as requests
 use Rattle.cl_model.specs.declared.verdict.Verdict as verdict
 use Rattle.cl_model.specs.Content.{Content}
-use Rattle.cl_model.specs.Machine.{AnswersPlan, IsClosed, IsSound, Setting}
-use Rattle.cl_model.specs.Plans as plans
-use Rattle.cl_model.specs.Plans.{Plan, needs_of}
-use Rattle.cl_model.specs.Service.{ComesTo}
-use Rattle.cl_model.specs.States.{State, Need, Verdict, AllMet, Entry, Equal, Linkage, Refused, recorded}
-use Rattle.cl_model.specs.Views.{request_of, verdict_of}
-use Rattle.cl_config.specs.Views.{Configured}
+use Rattle.cl_model.specs.States.{recorded}
 use Rattle.cl_findings.specs.declared.load.Target.{Target}
 use Rattle.cl_findings.specs.declared.load.Target.TheVariants as targets
-use Rattle.cl_findings.specs.Findings.{Answered, Based, Rests, loader_of, name_of}
-use Rattle.cl_hierarchy.specs.Paths.{frames_of}
-use Rattle.cl_registry.specs.Tables.{Shown, NamesLoaders, records_of, state_of}
+use Rattle.cl_findings.specs.Findings.{Based, Rests, loader_of, name_of}
+use Rattle.cl_registry.specs.Tables.{Shown, records_of}
 use Rattle.cl_tasks.specs.Ends.{ConcludesBy, IsAftermath, IsCheck, IsForEntry, IsNoResolution, IsOwnTarget}
 use Rattle.cl_tasks.specs.Facts.{AreSo}
-use Rattle.cl_tasks.specs.Follows.{ServedIn}
-use Rattle.cl_tasks.specs.Measures.{chain_left, checking_left, most, own_left, prepared_left}
+use Rattle.cl_tasks.specs.Measures.{checking_left}
 use Rattle.cl_tasks.specs.Stages.{IsFailure, IsJob, load_of, past_left, target_facts}
 use Rattle.cl_tasks.specs.Steps.{Leads}
 use Rattle.cl_tasks.specs.Waits as waits

@@ -1,6 +1,6 @@
 -- Steps of a request whose class is recorded, and of the entry that it asks for (JVMS SE 8, 5.3, 5.4.3, 5.4.3.1).
-use Rattle.std.proofs.Common.{◌≡◌, ◌≢◌, ◌⊎◌, ◌∙◌, ◌<◌, ◌≤◌, ℕ, zero, suc, Bool, true, false, List, [], ◌∷◌, ◌++◌, length, map, Option, Some, None, inl, inr, refl, sym, ap, subst, arith}
-use Rattle.std.specs.Prelude.{All, IfSome, find, slice_get, if◌then◌else◌, option_map}
+use Rattle.std.proofs.Common.{◌≡◌, ◌∙◌, ◌<◌, ℕ, zero, suc, Bool, true, false, List, [], ◌∷◌, length, Option, Some, None, inl, inr, refl, sym, ap, subst, arith}
+use Rattle.std.specs.Prelude.{find, if◌then◌else◌}
 use Rattle.std.specs.List.{AllByRecursion}
 use Rattle.std.specs.declared.alloc.Global.{Global}
 use Rattle.std.specs.declared.sync.Arc.{Arc}
@@ -13,7 +13,7 @@ use Rattle.cl_model.specs.declared.settled.Settled.{Settled}
 use Rattle.cl_model.specs.declared.verdict.Verdict as verdict
 use Rattle.cl_model.specs.declared.verdict.Verdict.TheVariants as verdicts
 use Rattle.cl_classfile.specs.Files.{Reference, ToClass, ToField, ToMethod, ToInterfaceMethod}
-use Rattle.cl_model.specs.Classes.{class, Error, IllegalAccess}
+use Rattle.cl_model.specs.Classes.{Error, IllegalAccess}
 use Rattle.cl_model.specs.declared.verdict.ErrorKind.{ErrorKind}
 use Rattle.cl_model.specs.declared.verdict.ErrorKind.TheVariants as kinds
 use Rattle.cl_model.specs.Plans.{class_verdict}
@@ -36,10 +36,8 @@ use Rattle.cl_findings.specs.Findings.{Answered, Based, Rests, loader_of}
 use Rattle.cl_hierarchy.specs.Rows.{Rowed}
 use Rattle.cl_registry.proofs.Named.{recorded_is_named}
 use Rattle.cl_findings.specs.References.{EndsAtClass, EndsAtOnce, IsAtClass, IsAtOnce, class_basis, class_need, entry_basis}
-use Rattle.cl_registry.specs.Posting.{IsBacked}
-use Rattle.cl_registry.specs.References.{IsSettledIn, cited_by, settled_by}
+use Rattle.cl_registry.specs.References.{IsSettledIn, settled_by}
 use Rattle.cl_registry.specs.Tables.{Shown, NamesLoaders, records_of, settled_at, settlements, state_of}
-use Rattle.cl_tasks.specs.Follows.{ServedIn}
 use Rattle.cl_tasks.specs.Facts.{AreSo}
 use Rattle.cl_tasks.specs.Measures.{named_left, reference_left}
 use Rattle.cl_tasks.specs.Resolving.{EntryTold, IsNoneSettled, IsSame, IsSettledKind, NamedTold, SettledTold}

@@ -1,6 +1,6 @@
 -- What entries ask for, by the texts that they name (JVMS SE 8, 4.4.1, 4.4.2, 5.4.3).
-use Rattle.std.proofs.Common.{◌≡◌, ℕ, Bool, true, false, ◌&&◌, eqb, leb, List, [], ◌∷◌, ◌++◌, length, Option, Some, None, Result, Ok, Err, inl, inr, refl, sym, ap, subst, ◌∙◌}
-use Rattle.std.specs.Prelude.{option_map, option_and_then, IfOk, IfSome, IsTrue, if◌then◌else◌}
+use Rattle.std.proofs.Common.{◌≡◌, ℕ, Bool, true, false, ◌&&◌, eqb, leb, List, [], ◌∷◌, length, Option, Some, None, Result, Ok, Err, inl, inr, refl, sym, ap, subst, ◌∙◌}
+use Rattle.std.specs.Prelude.{option_map, IfOk, IfSome, if◌then◌else◌}
 use Rattle.std.specs.List.{list_all, slice_split, onto_first}
 use Rattle.std.proofs.lemmas.Bool.{eqb-true}
 use Rattle.cl_names.specs.Text.{is_text}
@@ -13,8 +13,8 @@ use Rattle.cl_descriptors.specs.declared.types.DescriptorFault.{DescriptorFault}
 use Rattle.cl_descriptors.specs.declared.types.DescriptorFault.TheVariants.{Memory, Malformed, TooManyDimensions, TooManyUnits}
 use Rattle.cl_descriptors.specs.declared.types.FieldType.{FieldType}
 use Rattle.cl_descriptors.proofs.Methods.{whole_field_again, whole_method_again}
-use Rattle.cl_classfile.specs.Files.{Key, Name, Reference, Symbol, ToClass, ToField, ToMethod, ToInterfaceMethod, CitesField, CitesMethod, CitesInterfaceMethod, field_key, method_key, class_type, is_array_name, named_type, typed, typed_by}
-use Rattle.cl_classfile.specs.Pool.{IsArray, IsCall, IsField, NamesType}
+use Rattle.cl_classfile.specs.Files.{Key, Name, Reference, Symbol, ToField, ToMethod, ToInterfaceMethod, CitesField, CitesMethod, CitesInterfaceMethod, field_key, method_key, class_type, is_array_name, named_type, typed, typed_by}
+use Rattle.cl_classfile.specs.Pool.{IsArray, NamesType}
 use Rattle.cl_classfile.specs.References.{IsFieldSymbol, IsMethodSymbol}
 use Rattle.cl_model.specs.Plans.{member_target}
 use Rattle.cl_tasks.specs.Cited.{AsksMember, AsksTarget, IsKind, TargetsClass, TellsEntry, TellsReference, made_by}

@@ -1,5 +1,5 @@
 -- What a resolution does on the look at its entry, and on the second look for its class, as a step (JVMS SE 8, 5.4.3).
-use Rattle.std.proofs.Common.{◌≡◌, ◌∙◌, ◌<◌, ◌≤◌, ℕ, Bool, true, false, not, eqb, List, [], ◌∷◌, length, Option, Some, None, inl, inr, refl, sym, ap, subst, arith}
+use Rattle.std.proofs.Common.{◌≡◌, ◌∙◌, ◌≤◌, ℕ, Bool, true, false, not, eqb, List, length, Option, Some, None, inr, refl, sym, ap, subst, arith}
 use Rattle.std.specs.Prelude.{IfSome}
 use Rattle.std.specs.Cmp.Lexicographic.{pointwise, same_text}
 use Rattle.std.specs.declared.alloc.Global.{Global}
@@ -22,7 +22,7 @@ use Rattle.cl_model.proofs.Service.{resolve_wants, said_comes}
 use Rattle.cl_config.specs.Views.{Configured}
 use Rattle.cl_findings.specs.Findings.{Answered, Based, Decides, IsWithin, Rests, loader_of, name_of}
 use Rattle.cl_hierarchy.specs.declared.row.ClassRow.{ClassRow}
-use Rattle.cl_registry.specs.Tables.{Shown, records_of, state_of}
+use Rattle.cl_registry.specs.Tables.{Shown, state_of}
 use Rattle.cl_tasks.specs.Facts.{AreSo}
 use Rattle.cl_tasks.specs.Follows.{ServedIn, Tells, TellsNow}
 use Rattle.cl_tasks.specs.Measures.{checking_left, reference_left}

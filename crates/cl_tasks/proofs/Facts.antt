@@ -1,14 +1,14 @@
 -- Facts that were told, as needs that are met.
-use Rattle.std.proofs.Common.{◌≡◌, ◌∙◌, ◌<◌, ℕ, List, [], ◌∷◌, ◌++◌, length, map, Option, Some, None, refl, sym, ap, subst}
+use Rattle.std.proofs.Common.{List, [], ◌∷◌, ◌++◌, map, Option, Some, None}
 use Rattle.std.specs.Prelude.{IfSome, Contains}
 use Rattle.std.specs.List.{AllByRecursion}
 use Rattle.cl_model.specs.declared.class.Class.{Class}
-use Rattle.cl_model.specs.States.{State, Need, AllMet, Met, Refused}
+use Rattle.cl_model.specs.States.{State, Need, AllMet, Refused}
 use Rattle.cl_findings.specs.Findings.{Based}
 use Rattle.cl_registry.specs.Tables.{Shown, state_of}
 use Rattle.cl_tasks.specs.Facts.{AreSo, IsSo}
 use Rattle.cl_tasks.specs.Stages.{basis_facts, refused_facts}
-use Rattle.cl_tasks.specs.Tasks.{Fact, Stands, StandsRefused, IsPrepared}
+use Rattle.cl_tasks.specs.Tasks.{Stands, IsPrepared}
 
 -- ---- lists
 

@@ -17,7 +17,6 @@ use Rattle.cl_model.proofs.Stacks.{complete_is_kept}
 use Rattle.cl_hierarchy.proofs.Frames.{accepts_one}
 use Rattle.cl_registry.specs.Tables.{Shown, state_of, records_of, looked}
 use Rattle.cl_tasks.specs.Facts.{AllHave, IsRecordedAs, HasAccepted, HaveAccepted}
-use Rattle.cl_tasks.proofs.Facts.{all_first}
 
 -- what a frame has accepted is recorded, and fits
 abbrev pub Has : Shown → Frame → Type 0

@@ -1,5 +1,5 @@
 -- What a step leads to: with more room, and where memory runs out.
-use Rattle.std.proofs.Common.{◌≡◌, ◌<◌, ◌≤◌, ℕ, suc, Bool, true, false, not, eqb, List, length, Option, Some, None, refl, sym, ap, subst, arith}
+use Rattle.std.proofs.Common.{◌≡◌, ◌<◌, ◌≤◌, ℕ, suc, Bool, true, false, not, eqb, List, length, Option, Some, None, refl, sym, subst, arith}
 use Rattle.std.proofs.lemmas.Bool.{eqb-true}
 use Rattle.std.specs.Prelude.{IfSome}
 use Rattle.cl_model.specs.declared.answer.Answer.TheVariants as answers
@@ -9,7 +9,6 @@ use Rattle.cl_config.specs.Views.{Configured}
 use Rattle.cl_findings.specs.Findings.{loader_of}
 use Rattle.cl_registry.specs.Tables.{Shown}
 use Rattle.cl_tasks.specs.Follows.{PostsNoFault, Tells, TellsNow}
-use Rattle.cl_tasks.specs.Stages.{task_at}
 use Rattle.cl_tasks.specs.Steps.{IsPlain, LeadsBy, LeadsOn, Steps, memory_ends}
 use Rattle.cl_tasks.specs.Tasks.{Tasked}
 use Rattle.cl_tasks.specs.Turns.{ReadsUnrecorded}

@@ -1,19 +1,18 @@
 -- The direct supertypes of a class of a lineage stand before it, so they are prepared where all before it are.
-use Rattle.std.proofs.Common.{◌≡◌, ℕ, zero, suc, Bool, true, false, List, [], ◌∷◌, ◌++◌, map, length, drop, Option, Some, None, refl, sym, ap, subst}
-use Rattle.std.specs.Prelude.{find, is_some, slice_get, take, Contains, if◌then◌else◌}
+use Rattle.std.proofs.Common.{◌≡◌, ℕ, zero, suc, Bool, true, false, List, [], ◌∷◌, ◌++◌, map, length, drop, Some, refl, sym, ap, subst}
+use Rattle.std.specs.Prelude.{is_some, slice_get, take, Contains, if◌then◌else◌}
 use Rattle.std.specs.List.{AllByRecursion}
 use Rattle.cl_classfile.specs.Files.{file_of}
 use Rattle.cl_model.specs.declared.class.Class.{Class}
 use Rattle.cl_model.specs.Classes.{class, same_class, Above, superclass_of, superinterfaces_of, supers}
 use Rattle.cl_model.specs.Lineages.{Kin, classes}
-use Rattle.cl_model.specs.States.{recorded}
 use Rattle.cl_model.proofs.Bind.{some_same}
 use Rattle.cl_model.proofs.Complete.{is_class}
 use Rattle.cl_model.proofs.Trees.{all_two}
 use Rattle.cl_hierarchy.specs.Frames.{accepted_of}
 use Rattle.cl_hierarchy.specs.Lineages.{IsInOrder, Lined, rows_in}
 use Rattle.cl_hierarchy.specs.Rows.{Rowed}
-use Rattle.cl_hierarchy.specs.Trees.{AllKnown, IsAfter, SupersBefore, interfaces_in, kin_named, kin_under, kins, kins_after, superclass_in}
+use Rattle.cl_hierarchy.specs.Trees.{AllKnown, IsAfter, SupersBefore, interfaces_in, kin_named, kin_under, kins_after, superclass_in}
 use Rattle.cl_registry.specs.Imposing.{IsPreparedAbove}
 use Rattle.cl_registry.specs.Tables.{ArePlaced, IsPlaced, Shown, records_of, state_of}
 

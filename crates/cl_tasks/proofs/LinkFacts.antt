@@ -1,12 +1,9 @@
 -- What a link was told of the tables, and what follows of them.
-use Rattle.std.proofs.Common.{◌≡◌, ◌∙◌, ◌<◌, ◌≤◌, ◌+◌, ◌-◌, ℕ, zero, suc, List, [], ◌∷◌, ◌++◌, length, map, Option, Some, None, refl, sym, ap, subst, arith}
-use Rattle.std.specs.Prelude.{slice_get, take, option_map, unwrap_or, Contains, IfSome}
+use Rattle.std.proofs.Common.{◌≡◌, ◌∙◌, ◌<◌, ◌+◌, ℕ, zero, suc, List, [], ◌∷◌, ◌++◌, length, map, Option, Some, refl, sym, ap, subst, arith}
+use Rattle.std.specs.Prelude.{slice_get, take, unwrap_or, Contains}
 use Rattle.std.specs.List.{AllByRecursion}
-use Rattle.std.proofs.lemmas.List.{length-map}
-use Rattle.cl_classfile.specs.Files.{file_of}
 use Rattle.cl_model.specs.declared.class.Class.{Class}
-use Rattle.cl_model.specs.Classes.{class}
-use Rattle.cl_model.specs.States.{State, Need, AllMet, Met, recorded, IsRecorded}
+use Rattle.cl_model.specs.States.{Need, AllMet, recorded, IsRecorded}
 use Rattle.cl_model.specs.Tables.{IsConsistent}
 use Rattle.cl_model.proofs.Bind.{some_same}
 use Rattle.cl_hierarchy.specs.Imposed.{Listed, OfPreparation, Sprung, needs_of}
@@ -14,11 +11,10 @@ use Rattle.cl_hierarchy.specs.Lineages.{Lined, rows_in}
 use Rattle.cl_hierarchy.specs.Rows.{Rowed}
 use Rattle.cl_registry.specs.Tables.{Shown, records_of, state_of}
 use Rattle.cl_registry.specs.Traced.{IsRowOf, IsTraced}
-use Rattle.cl_tasks.specs.Facts.{AreSo, IsSo}
+use Rattle.cl_tasks.specs.Facts.{AreSo}
 use Rattle.cl_tasks.specs.Stages.{chain_facts, class_in, classes_in, goal_facts, imposed_facts, sprung_facts, traced_facts}
 use Rattle.cl_tasks.specs.Tasks.{Fact, HasLineage, IsPrepared, Stands}
 use Rattle.cl_tasks.specs.declared.stage.Chain.{Chain}
-use Rattle.cl_tasks.specs.declared.stage.Goal.{Goal}
 
 -- ---- lists of facts
 

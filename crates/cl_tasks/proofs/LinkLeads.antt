@@ -1,5 +1,5 @@
 -- What each step of a link leads to.
-use Rattle.std.proofs.Common.{Global, ◌≡◌, ◌∙◌, ◌<◌, ◌≤◌, ◌+◌, ◌-◌, ◌*◌, ◌^◌, ℕ, zero, suc, Bool, true, List, [], ◌∷◌, ◌++◌, length, map, Option, Some, None, inl, inr, refl, sym, ap, subst, arith}
+use Rattle.std.proofs.Common.{Global, ◌≡◌, ◌∙◌, ◌<◌, ◌≤◌, ◌+◌, ◌-◌, ◌*◌, ◌^◌, ℕ, zero, suc, Bool, List, [], ◌∷◌, length, Option, Some, None, inl, inr, refl, sym, ap, subst, arith}
 use Rattle.std.specs.Prelude.{slice_get, take, option_map, unwrap_or, Contains, IfSome}
 use Rattle.std.specs.List.{AllByRecursion}
 use Rattle.std.proofs.lemmas.List.{length-map, take-map}
@@ -15,44 +15,42 @@ use Rattle.cl_model.specs.declared.request.Request as request
 use Rattle.cl_model.specs.declared.request.Request.TheVariants as requests
 use Rattle.cl_model.specs.declared.verdict.Verdict.TheVariants as verdicts
 use Rattle.cl_model.specs.Content.{Content}
-use Rattle.cl_model.specs.Classes.{class, supers}
+use Rattle.cl_model.specs.Classes.{supers}
 use Rattle.cl_model.specs.Lineages.{IsLineage}
 use Rattle.cl_model.specs.Machine.{Setting, IsSound}
-use Rattle.cl_model.specs.Plans.{Link}
 use Rattle.cl_model.specs.Preparation.{constraints_of}
 use Rattle.cl_model.specs.Service.{ComesTo}
-use Rattle.cl_model.specs.States.{State, Need, IsLinked, IsNext, Linkage, AllMet, IsRecorded, Refused, recorded}
+use Rattle.cl_model.specs.States.{State, Need, IsLinked, IsNext, Linkage, AllMet, IsRecorded, recorded}
 use Rattle.cl_model.specs.Tables.{Bears}
 use Rattle.cl_model.specs.Texts.{AnswerNames}
 use Rattle.cl_model.specs.Views.{need_of, request_of}
 use Rattle.cl_model.proofs.Bind.{some_same}
 use Rattle.cl_model.proofs.Gone.{link_refusal_comes}
 use Rattle.cl_config.specs.Views.{Configured}
-use Rattle.cl_delegation.specs.Worlds.{setting_of, world_of}
+use Rattle.cl_delegation.specs.Worlds.{world_of}
 use Rattle.cl_hierarchy.specs.Imposed.{AreOf, Listed, OfPreparation, Sprung, equal_need, needs_of}
 use Rattle.cl_hierarchy.specs.Lineages.{IsInOrder, IsLineageOf, Lined, kin_of, rows_in}
 use Rattle.cl_hierarchy.specs.Rows.{Rowed}
 use Rattle.cl_findings.specs.Bases.{AreLineages}
-use Rattle.cl_findings.specs.Findings.{Answered, Based, BasisStands, IsLookedUp, IsWithin, Stands, loader_of}
-use Rattle.cl_findings.specs.References.{AreLinked, link_basis}
+use Rattle.cl_findings.specs.Findings.{Answered, Based, BasisStands, IsLookedUp, IsWithin, loader_of}
+use Rattle.cl_findings.specs.References.{link_basis}
 use Rattle.cl_findings.proofs.References.{next_at}
 use Rattle.cl_registry.specs.Imposing.{IsNextOf, IsPreparedAbove, IsReady, IsReadyBy, IsStanding, MayImpose, MayMark, StandsFor}
-use Rattle.cl_registry.specs.Posting.{AnswerBacked, IsBacked, VerdictBacked}
+use Rattle.cl_registry.specs.Posting.{AnswerBacked, IsBacked}
 use Rattle.cl_registry.specs.Tables.{NamesLoaders, Shown, records_of, row_of, state_of}
 use Rattle.cl_registry.specs.Traced.{IsRowOf, IsTraced}
 use Rattle.cl_registry.proofs.Linked.{prepared_comes}
 use Rattle.cl_registry.proofs.Named.{recorded_is_named}
-use Rattle.cl_tasks.specs.Facts.{AreSo, Holds}
-use Rattle.cl_tasks.specs.Follows.{AnswerFollows, Backed, BackedWhere, Follows, FollowsWhere, IsPreparedNext, IsWanted, ServedIn}
+use Rattle.cl_tasks.specs.Facts.{AreSo}
+use Rattle.cl_tasks.specs.Follows.{AnswerFollows, IsPreparedNext, IsWanted, ServedIn}
 use Rattle.cl_tasks.specs.Linking.{ChainTold, DoneTold, GoalTold, LineageTold, ListTold, MarkedTold, PreparedTold, RefusedTold, WholeTold}
 use Rattle.cl_tasks.specs.Measures.{chain_left, each_left, linking_left, most, prepared_left, whole_left}
-use Rattle.cl_tasks.specs.Stages.{IsAtPlace, IsChain, IsGoal, IsOf, behind, chain_facts, class_in, classes_in, goal_facts}
+use Rattle.cl_tasks.specs.Stages.{IsAtPlace, IsChain, IsGoal, IsOf, behind, class_in, classes_in}
 use Rattle.cl_tasks.specs.Steps.{LeadsBy}
 use Rattle.cl_tasks.specs.declared.stage.Chain.{Chain}
 use Rattle.cl_tasks.specs.declared.stage.Goal.{Goal}
 use Rattle.cl_tasks.specs.declared.stage.Link.TheVariants as links
 use Rattle.cl_tasks.specs.declared.stage.Stage.TheVariants as stages
-use Rattle.cl_tasks.specs.declared.turn.Turn.{Turn}
 use Rattle.cl_tasks.specs.declared.turn.Turn.TheVariants as turn
 use Rattle.cl_tasks.specs.Waits as waits
 use Rattle.cl_tasks.proofs.LinkAbove.{supers_prepared}

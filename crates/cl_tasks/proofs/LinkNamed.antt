@@ -1,5 +1,5 @@
 -- What is refused names loaders of the configuration alone.
-use Rattle.std.proofs.Common.{◌≡◌, ◌<◌, ℕ, List, [], ◌∷◌, ◌++◌, length, Option, Some, None, inl, inr, refl, sym, ap, subst, arith}
+use Rattle.std.proofs.Common.{◌≡◌, ◌<◌, ℕ, List, [], ◌∷◌, ◌++◌, length, Option, Some, None, inl, inr, refl, sym, subst, arith}
 use Rattle.std.specs.Prelude.{Contains}
 use Rattle.std.specs.List.{AllByRecursion}
 use Rattle.std.proofs.lemmas.List.Elements.{Contains-push_cases, recursion_from_All}
@@ -8,7 +8,7 @@ use Rattle.cl_model.specs.declared.event.Event.{Event}
 use Rattle.cl_model.specs.declared.need.Need as rust
 use Rattle.cl_model.specs.declared.need.Need.TheVariants as needs
 use Rattle.cl_model.specs.declared.event.Event.TheVariants as events
-use Rattle.cl_model.specs.States.{State, Record, Equality, Need, Entry, Equal, start, Answer, recorded, Joined, IsPath, Linked, Refused, Differs, Divides}
+use Rattle.cl_model.specs.States.{State, Record, Equality, start, Answer, recorded, IsPath, Refused, Differs, Divides}
 use Rattle.cl_model.specs.Machine.{after, state_after}
 use Rattle.cl_model.specs.Texts.{EventNames, NeedNames}
 use Rattle.cl_model.specs.Views.{answers_of, answer_at, need_of, post_of, step_of, steps_of}

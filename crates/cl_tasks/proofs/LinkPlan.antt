@@ -1,17 +1,14 @@
 -- What comes next in a link, where the source tells a content.
-use Rattle.std.proofs.Common.{◌≡◌, ◌∙◌, ◌<◌, ℕ, List, [], ◌∷◌, ◌++◌, map, Option, Some, refl, sym, ap, subst}
+use Rattle.std.proofs.Common.{◌≡◌, ◌∙◌, ℕ, List, [], ◌∷◌, ◌++◌, Some, sym, ap, subst}
 use Rattle.std.specs.Prelude.{flat_map, option_map, slice_get, take, Contains}
 use Rattle.std.specs.List.{AllByRecursion}
-use Rattle.std.proofs.lemmas.List.{take-map}
 use Rattle.std.proofs.lemmas.Option.{slice_get-map}
 use Rattle.cl_model.specs.declared.class.Class.{Class}
 use Rattle.cl_model.specs.declared.request.Request as request
 use Rattle.cl_model.specs.declared.request.Request.TheVariants as requests
-use Rattle.cl_model.specs.Homes.{World}
-use Rattle.cl_model.specs.Classes.{class}
 use Rattle.cl_model.specs.Lineages.{Kin, IsLineage, lineage}
 use Rattle.cl_model.specs.Preparation.{constraints_of}
-use Rattle.cl_model.specs.States.{State, Need, IsLinked, AllMet, MayAdd, IsNext, IsRecorded, recorded}
+use Rattle.cl_model.specs.States.{State, Need, IsLinked, AllMet, IsNext, IsRecorded, recorded}
 use Rattle.cl_model.specs.Plans.{Link}
 use Rattle.cl_model.specs.Machine.{Setting, HasLineage, IsSound, Prepare, step_for}
 use Rattle.cl_model.specs.Service.{IsLinkedIn, IsNextNeed, IsNextStep}
@@ -29,7 +26,7 @@ use Rattle.cl_findings.specs.Findings.{loader_of}
 use Rattle.cl_findings.proofs.Answered.{linked_all}
 use Rattle.cl_findings.proofs.Links.{all_front, lineage_classes, next_in, split_at}
 use Rattle.cl_findings.proofs.References.{next_at}
-use Rattle.cl_tasks.specs.Follows.{IsPreparedNext, IsWanted}
+use Rattle.cl_tasks.specs.Follows.{IsWanted}
 use Rattle.cl_tasks.specs.Stages.{classes_in}
 
 -- a link of the class of l is at the class of at, all before which in the lineage are linked

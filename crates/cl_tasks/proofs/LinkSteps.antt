@@ -1,7 +1,6 @@
 -- What a link does on a reply.
-use Rattle.std.proofs.Common.{Global, ◌≡◌, ◌∙◌, ◌<◌, ◌≤◌, ◌+◌, ◌-◌, ◌*◌, ℕ, Bool, true, false, List, [], ◌∷◌, ◌++◌, length, map, Option, Some, None, refl, sym, ap, subst, arith}
+use Rattle.std.proofs.Common.{Global, ◌≡◌, ◌∙◌, ◌<◌, ◌≤◌, ◌+◌, ◌-◌, ◌*◌, ℕ, Bool, true, false, List, length, Option, Some, None, refl, sym, ap, subst, arith}
 use Rattle.std.specs.Prelude.{slice_get, take, option_map, Contains, IfSome}
-use Rattle.std.specs.List.{AllByRecursion}
 use Rattle.std.proofs.lemmas.Option.{slice_get-map}
 use Rattle.std.specs.declared.sync.Arc.{Arc}
 use Rattle.cl_model.specs.declared.answer.Answer.TheVariants as answers
@@ -10,20 +9,20 @@ use Rattle.cl_model.specs.declared.need.Equality.{Equality}
 use Rattle.cl_model.specs.declared.need.Need as rust
 use Rattle.cl_model.specs.declared.verdict.Verdict.TheVariants as verdicts
 use Rattle.cl_model.specs.Content.{Content}
-use Rattle.cl_model.specs.States.{Need, AllMet, Met, Refused}
+use Rattle.cl_model.specs.States.{AllMet, Met}
 use Rattle.cl_model.specs.Views.{need_of}
 use Rattle.cl_model.proofs.Bind.{some_same}
 use Rattle.cl_config.specs.Views.{Configured}
 use Rattle.cl_hierarchy.specs.Imposed.{Listed, Sprung, equal_need, needs_of}
-use Rattle.cl_hierarchy.specs.Lineages.{Lined, rows_in}
+use Rattle.cl_hierarchy.specs.Lineages.{Lined}
 use Rattle.cl_hierarchy.specs.Rows.{Rowed}
 use Rattle.cl_findings.proofs.Stood.{all_met, met_all}
-use Rattle.cl_registry.specs.Imposing.{IsNextOf, IsPreparedBy}
+use Rattle.cl_registry.specs.Imposing.{IsPreparedBy}
 use Rattle.cl_registry.specs.Tables.{Shown, state_of}
-use Rattle.cl_tasks.specs.Follows.{EndsAsRefused, Tells, TellsNow, TellsOf}
+use Rattle.cl_tasks.specs.Follows.{EndsAsRefused, Tells, TellsNow}
 use Rattle.cl_tasks.specs.Linking.{LineageTold, ListTold, MarkedTold, PreparedTold, RefusedTold, WholeTold}
 use Rattle.cl_tasks.specs.Measures.{chain_left, linking_left, most, prepared_left, whole_left}
-use Rattle.cl_tasks.specs.Stages.{IsAtPlace, IsChain, behind, class_in, classes_in, linking_at}
+use Rattle.cl_tasks.specs.Stages.{IsAtPlace, IsChain, behind, class_in, linking_at}
 use Rattle.cl_tasks.specs.Steps.{IsPlain, LeadsBy, Steps}
 use Rattle.cl_tasks.specs.Turns.{PostsOr}
 use Rattle.cl_tasks.specs.Waits as waits
@@ -31,10 +30,9 @@ use Rattle.cl_tasks.specs.declared.stage.Chain.{Chain}
 use Rattle.cl_tasks.specs.declared.stage.Goal.{Goal}
 use Rattle.cl_tasks.specs.declared.stage.Link.TheVariants as links
 use Rattle.cl_tasks.specs.declared.stage.Next.{Next}
-use Rattle.cl_tasks.specs.declared.turn.Reply.{Reply}
 use Rattle.cl_tasks.specs.declared.turn.Reply.TheVariants as reply
 use Rattle.cl_tasks.proofs.Lead.{leads_more, plain_no_fault, plain_reads}
-use Rattle.cl_tasks.proofs.LinkFacts.{list_chain, list_facts, list_imposed, list_of, list_traced, row_there, taken_more, within_some}
+use Rattle.cl_tasks.proofs.LinkFacts.{list_chain, list_imposed, list_of, list_traced, row_there, taken_more, within_some}
 
 same_room : (m : ℕ) → m ≤ m
 same_room m = omega arith

@@ -1,5 +1,5 @@
 -- What a load does on a reply, as a step.
-use Rattle.std.proofs.Common.{◌≡◌, ◌≢◌, ◌∙◌, ◌<◌, ◌≤◌, ℕ, List, [], ◌∷◌, ◌++◌, Option, Some, None, refl, sym, ap, subst, arith}
+use Rattle.std.proofs.Common.{◌≡◌, ◌<◌, ℕ, List, [], ◌∷◌, Option, Some, None, ap, subst, arith}
 use Rattle.std.proofs.Common.{Global}
 use Rattle.std.specs.declared.sync.Arc.{Arc}
 use Rattle.cl_model.specs.declared.answer.Answer.{Answer}
@@ -9,7 +9,6 @@ use Rattle.cl_model.specs.declared.request.Request.{Request}
 use Rattle.cl_model.specs.Content.{Content}
 use Rattle.cl_model.specs.States.{Need, Refused}
 use Rattle.cl_model.specs.Views.{need_of}
-use Rattle.cl_model.specs.Frames.{kept_of}
 use Rattle.cl_model.proofs.Stacks.{kept_is_met}
 use Rattle.cl_source.specs.declared.source.SourceFault.{SourceFault}
 use Rattle.cl_config.specs.Views.{Configured}
@@ -19,22 +18,19 @@ use Rattle.cl_source.specs.Views.{Found}
 use Rattle.cl_hierarchy.specs.declared.row.ClassRow.{ClassRow}
 use Rattle.cl_hierarchy.specs.Drafts.{IsDraft}
 use Rattle.cl_hierarchy.specs.Frames.{Framed, frame_of}
-use Rattle.cl_hierarchy.specs.Paths.{IsPath, at_loader, at_name, frames_of}
-use Rattle.cl_hierarchy.specs.Rows.{Rowed}
+use Rattle.cl_hierarchy.specs.Paths.{IsPath, at_name, frames_of}
 use Rattle.cl_findings.specs.Loads.{IsFor, IsSought, IsWhole, next_need}
 use Rattle.cl_findings.specs.declared.load.NextRecord.TheVariants as nexts
 use Rattle.cl_registry.specs.Tables.{Shown, state_of}
 use Rattle.cl_tasks.specs.Ends.{IsOwnTarget, RefusedOn}
 use Rattle.cl_tasks.specs.Facts.{IsRecordedAs}
-use Rattle.cl_tasks.specs.Follows.{EndsAsRefused, Posts, PostsNoFault, Tells, TellsNow, fault_answer}
+use Rattle.cl_tasks.specs.Follows.{EndsAsRefused, Posts, PostsNoFault, Tells, fault_answer}
 use Rattle.cl_tasks.specs.Measures.{left_at}
 use Rattle.cl_tasks.specs.Measures as phases
-use Rattle.cl_tasks.specs.Stages.{IsHoming, IsJob, loading_at, past_left, probes_left, task_at}
-use Rattle.cl_tasks.specs.Steps.{FindsAt, FindsBy, FindsHome, Finds, HoldsOn, IsPlain, Leads, LeadsAt, LeadsBy, LeadsOn, ReadsOn, Steps, room_at}
-use Rattle.cl_tasks.specs.Tasks.{Tasked}
-use Rattle.cl_tasks.specs.Turns.{AnswersOwn, GoesOnWith, ReadsUnrecorded}
+use Rattle.cl_tasks.specs.Stages.{IsHoming, loading_at, past_left, probes_left, task_at}
+use Rattle.cl_tasks.specs.Steps.{FindsBy, FindsHome, Finds, HoldsOn, IsPlain, Leads, LeadsAt, LeadsOn, ReadsOn, Steps, room_at}
+use Rattle.cl_tasks.specs.Turns.{GoesOnWith, ReadsUnrecorded}
 use Rattle.cl_tasks.specs.declared.stage.Job.{Job}
-use Rattle.cl_tasks.specs.declared.stage.Load.{Load}
 use Rattle.cl_tasks.specs.declared.stage.Load.TheVariants as loads
 use Rattle.cl_tasks.specs.declared.stage.Next.{Next}
 use Rattle.cl_tasks.specs.declared.turn.Reply.{Reply}

@@ -1,38 +1,30 @@
 -- What stops a derivation, and a record that is refused, as the end of a load.
-use Rattle.std.proofs.Common.{◌≡◌, ◌≢◌, ◌∙◌, ◌<◌, ℕ, true, false, List, [], ◌∷◌, ◌++◌, length, Option, Some, None, refl, sym, ap, subst}
-use Rattle.std.specs.Prelude.{IfSome}
-use Rattle.cl_classfile.specs.Files.{file_of}
+use Rattle.std.proofs.Common.{◌≡◌, ◌∙◌, ◌<◌, ℕ, List, [], ◌++◌, length, Option, Some, refl, sym, ap, subst}
 use Rattle.cl_model.specs.declared.class.Class.{Class}
 use Rattle.cl_model.specs.declared.need.Need as rust
 use Rattle.cl_model.specs.declared.need.Need.TheVariants as needs
 use Rattle.cl_model.specs.declared.request.Request.{Request}
 use Rattle.cl_model.specs.declared.verdict.Verdict as verdict
 use Rattle.cl_model.specs.declared.verdict.Verdict.TheVariants as verdicts
-use Rattle.cl_model.specs.Classes.{class}
 use Rattle.cl_model.specs.Content.{Content}
 use Rattle.cl_model.specs.Frames.{kept_of}
-use Rattle.cl_model.specs.Service.{IsNextNeed}
-use Rattle.cl_model.specs.States.{State, Need, AllMet, Entry, Equal, Met, Refused, recorded}
-use Rattle.cl_model.specs.Views.{need_of, request_of}
+use Rattle.cl_model.specs.States.{Need, AllMet, Entry, Equal, recorded}
+use Rattle.cl_model.specs.Views.{need_of}
 use Rattle.cl_model.proofs.Stacks.{kept_is_met}
 use Rattle.cl_config.specs.Views.{Configured}
-use Rattle.cl_delegation.specs.Searches.{Located}
-use Rattle.cl_hierarchy.specs.Frames.{Framed, frame_of}
-use Rattle.cl_hierarchy.specs.Paths.{Pathed, IsPath, at_loader, at_name, frames_of, misfit_under}
-use Rattle.cl_hierarchy.specs.Rows.{Rowed}
+use Rattle.cl_hierarchy.specs.Paths.{Pathed, at_loader, at_name, frames_of}
 use Rattle.cl_findings.specs.declared.load.NextRecord.{NextRecord}
 use Rattle.cl_findings.specs.declared.load.NextRecord.TheVariants as nexts
 use Rattle.cl_findings.specs.declared.load.Obstacle.{Obstacle}
 use Rattle.cl_findings.specs.declared.load.Obstacle.TheVariants as obstacles
 use Rattle.cl_findings.specs.declared.load.Target.{Target}
 use Rattle.cl_findings.specs.declared.load.Target.TheVariants as targets
-use Rattle.cl_findings.specs.Bases.{IsSpeltIn}
-use Rattle.cl_findings.specs.Findings.{Answered, Based, IsWithin, Rests, loader_of}
-use Rattle.cl_findings.specs.Loads.{ComesNext, IsFor, IsOwn, Stops, basis_at, needs_at, next_need, next_needs, refused_at, target_needs, verdict_at}
+use Rattle.cl_findings.specs.Findings.{Based, IsWithin, Rests, loader_of}
+use Rattle.cl_findings.specs.Loads.{IsFor, Stops, basis_at, needs_at, next_need, next_needs, refused_at, target_needs, verdict_at}
 use Rattle.cl_registry.specs.Allowed.{RecordedIsNamed}
 use Rattle.cl_registry.specs.Tables.{Shown, NamesLoaders, records_of, state_of}
 use Rattle.cl_tasks.specs.Ends.{EndRests, IsOwnTarget, NextRests, NextWithin, RefusedOn}
-use Rattle.cl_tasks.specs.Facts.{AllHave, AreSo, IsRecordedAs}
+use Rattle.cl_tasks.specs.Facts.{AreSo}
 use Rattle.cl_tasks.specs.Stages.{IsFailure, IsJob, load_of, target_facts}
 use Rattle.cl_tasks.specs.Steps.{EndTold, EndWithin, EndsOn, HoldsOn}
 use Rattle.cl_tasks.specs.declared.stage.Job.{Job}

@@ -1,7 +1,7 @@
 -- What a step leads to where a path grows, goes on or loses its last class.
 use Rattle.std.proofs.Common.{◌≡◌, ◌≢◌, ◌∙◌, ◌<◌, ◌≤◌, ◌+◌, ◌*◌, ℕ, false, List, [], ◌∷◌, ◌++◌, inl, inr, length, Option, Some, None, refl, sym, ap, subst, slice_get, arith}
 use Rattle.std.proofs.Common.{Global}
-use Rattle.std.specs.Prelude.{◌⊎◌, IsSome, MatchOption, map}
+use Rattle.std.specs.Prelude.{IsSome, MatchOption, map}
 use Rattle.std.specs.List.{AllByRecursion}
 use Rattle.std.specs.declared.sync.Arc.{Arc}
 use Rattle.cl_classfile.specs.Files.{file_of}
@@ -15,8 +15,8 @@ use Rattle.cl_model.specs.Content.{Content}
 use Rattle.cl_model.specs.Frames.{Frame, wanted}
 use Rattle.cl_model.specs.Machine.{Setting}
 use Rattle.cl_model.specs.Service.{IsNextNeed}
-use Rattle.cl_model.specs.States.{Entry, Need, recorded}
-use Rattle.cl_model.specs.Views.{need_of, request_of}
+use Rattle.cl_model.specs.States.{Entry, recorded}
+use Rattle.cl_model.specs.Views.{request_of}
 use Rattle.cl_model.proofs.Gone.{record_is_next}
 use Rattle.cl_config.specs.Views.{Configured}
 use Rattle.cl_delegation.specs.Searches.{LeadsTo, Located}
@@ -31,19 +31,17 @@ use Rattle.cl_model.proofs.Stacks.{kept_is_met}
 use Rattle.cl_findings.specs.declared.load.Target.{Target}
 use Rattle.cl_findings.specs.declared.load.Target.TheVariants as targets
 use Rattle.cl_findings.specs.declared.load.NextRecord.TheVariants as nexts
-use Rattle.cl_findings.specs.Bases.{IsSpeltIn}
-use Rattle.cl_findings.specs.Findings.{Based, Rests, loader_of}
-use Rattle.cl_findings.specs.Loads.{IsFor, IsSought, IsWhole, next_needs, refused_at}
+use Rattle.cl_findings.specs.Findings.{Based}
+use Rattle.cl_findings.specs.Loads.{IsFor, IsSought, IsWhole, refused_at}
 use Rattle.cl_findings.proofs.Loads.{away_rests, whole_rests}
 use Rattle.cl_findings.proofs.Whole.{completed_is_whole, root_is_whole}
-use Rattle.cl_registry.specs.Tables.{MayEnter, MayJoin, NamesLoaders, Shown, records_of, state_of}
-use Rattle.cl_tasks.specs.Facts.{AllHave, AreSo, Holds, IsRecordedAs}
+use Rattle.cl_registry.specs.Tables.{MayEnter, Shown, records_of, state_of}
+use Rattle.cl_tasks.specs.Facts.{IsRecordedAs}
 use Rattle.cl_tasks.specs.Follows.{IsWanted, ServedIn}
 use Rattle.cl_tasks.specs.Measures.{Phase, left_at, loading, most, turns}
 use Rattle.cl_tasks.specs.Measures as phases
-use Rattle.cl_tasks.specs.Stages.{IsJob, home_need, past_left, target_facts}
-use Rattle.cl_tasks.specs.Steps.{DefinesBy, Finds, FindsAt, FindsBy, HoldsOn, Leads, LeadsBy, memory_ends, room_at}
-use Rattle.cl_tasks.specs.Tasks.{Stands}
+use Rattle.cl_tasks.specs.Stages.{IsJob, home_need, past_left}
+use Rattle.cl_tasks.specs.Steps.{DefinesBy, Finds, FindsAt, HoldsOn, Leads, LeadsBy, room_at}
 use Rattle.cl_tasks.specs.Waits as waits
 use Rattle.cl_tasks.specs.declared.stage.Job.{Job}
 use Rattle.cl_tasks.specs.declared.stage.Load.TheVariants as loads
@@ -51,10 +49,10 @@ use Rattle.cl_tasks.specs.declared.stage.Next.{Next}
 use Rattle.cl_tasks.specs.declared.stage.Stage.TheVariants as stages
 use Rattle.cl_tasks.specs.declared.turn.Turn.TheVariants as turn
 use Rattle.cl_tasks.proofs.Fall.{accepts_less, completes_less, defined_less, descends_less, roots_less}
-use Rattle.cl_tasks.proofs.Keep.{Has, RowFits, accepts_holds, completes_holds, fresh_has, have_more, push_holds, whole_fits, whole_recorded, frame_kept}
+use Rattle.cl_tasks.proofs.Keep.{Has, accepts_holds, completes_holds, fresh_has, have_more, push_holds, whole_fits, whole_recorded, frame_kept}
 use Rattle.cl_tasks.proofs.Lead.{leads_by, leads_memory}
 use Rattle.cl_tasks.proofs.Obstacles.{path_met}
-use Rattle.cl_tasks.proofs.Said.{concludes_at, said_of}
+use Rattle.cl_tasks.proofs.Said.{concludes_at}
 
 -- ---- rooms
 

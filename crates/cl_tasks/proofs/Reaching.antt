@@ -1,19 +1,15 @@
 -- The class that a path loads is recorded: what the request goes on with (JVMS SE 8, 5.3, 5.4, 5.4.3).
-use Rattle.std.proofs.Common.{◌≡◌, ◌∙◌, ◌<◌, ◌≤◌, ◌+◌, ℕ, List, [], ◌∷◌, ◌++◌, length, map, Option, Some, None, inl, inr, refl, sym, ap, subst, arith}
+use Rattle.std.proofs.Common.{◌≡◌, ◌∙◌, ◌<◌, ◌≤◌, ◌+◌, ℕ, List, [], length, map, Option, Some, inl, inr, refl, sym, ap, subst, arith}
 use Rattle.std.specs.declared.alloc.Global.{Global}
 use Rattle.std.specs.declared.sync.Arc.{Arc}
-use Rattle.cl_model.specs.declared.answer.Answer.TheVariants as answers
 use Rattle.cl_model.specs.declared.class.Class.{Class}
 use Rattle.cl_model.specs.declared.request.Request.{Request}
 use Rattle.cl_model.specs.declared.request.Request.TheVariants as requests
-use Rattle.cl_model.specs.declared.verdict.Verdict.TheVariants as verdicts
 use Rattle.cl_model.specs.Content.{Content}
 use Rattle.cl_model.specs.Classes.{class}
 use Rattle.cl_model.specs.Machine.{AnswersPlan}
 use Rattle.cl_model.specs.Plans as plans
-use Rattle.cl_model.specs.Service.{ComesTo}
-use Rattle.cl_model.specs.States.{State, IsClass, recorded}
-use Rattle.cl_model.specs.Views.{request_of, verdict_of}
+use Rattle.cl_model.specs.States.{IsClass, recorded}
 use Rattle.cl_model.proofs.Looks.{recorded_answers}
 use Rattle.cl_model.proofs.Service.{load_comes}
 use Rattle.cl_config.specs.Views.{Configured}
@@ -26,10 +22,9 @@ use Rattle.cl_findings.specs.declared.load.Target.TheVariants as targets
 use Rattle.cl_findings.specs.Loads.{IsFor, IsReferred}
 use Rattle.cl_hierarchy.specs.declared.row.ClassRow.{ClassRow}
 use Rattle.cl_findings.specs.Findings.{loader_of, name_of}
-use Rattle.cl_registry.specs.Tables.{Shown, NamesLoaders, records_of, state_of}
+use Rattle.cl_registry.specs.Tables.{Shown, records_of, state_of}
 use Rattle.cl_registry.proofs.Named.{recorded_is_named}
 use Rattle.cl_tasks.specs.Facts.{AreSo, IsRecordedAs}
-use Rattle.cl_tasks.specs.Follows.{ServedIn}
 use Rattle.cl_tasks.specs.Reaching.{ReachesBy, reached}
 use Rattle.cl_tasks.specs.Measures.{Initiating, checking_left, left_at, named_left, own_left, prepared_left}
 use Rattle.cl_tasks.specs.Resolving.{NamedTold}
@@ -38,7 +33,6 @@ use Rattle.cl_tasks.specs.declared.stage.Entry as entries
 use Rattle.cl_tasks.specs.declared.stage.Job.{Job}
 use Rattle.cl_tasks.specs.Steps.{Finds, LeadsAt, LeadsBy, room_at}
 use Rattle.cl_tasks.specs.declared.stage.Next.{Next}
-use Rattle.cl_tasks.specs.declared.turn.Turn.TheVariants as turn
 use Rattle.cl_tasks.proofs.Lead.{leads_by, leads_out}
 
 -- the loader that a request asks has recorded the class of this row for its name

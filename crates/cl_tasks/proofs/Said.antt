@@ -1,24 +1,23 @@
 -- A verdict with what it rests on: the tables bear it, and where a content is told the service has come to it, or settles the reference to it.
-use Rattle.std.proofs.Common.{◌≡◌, ◌≢◌, ◌∙◌, ◌<◌, ℕ, List, [], ◌∷◌, ◌++◌, length, Option, Some, None, inl, inr, refl, sym, ap, subst}
-use Rattle.std.specs.Prelude.{◌⊎◌, IfSome, Contains, option_map}
+use Rattle.std.proofs.Common.{◌≡◌, ◌≢◌, ◌∙◌, ℕ, List, [], ◌∷◌, ◌++◌, length, Option, Some, None, inr, refl, sym, ap, subst}
+use Rattle.std.specs.Prelude.{IfSome, Contains, option_map}
 use Rattle.std.specs.List.{AllByRecursion}
 use Rattle.cl_model.specs.declared.answer.Answer.{Answer}
 use Rattle.cl_model.specs.declared.answer.Answer.TheVariants as answers
 use Rattle.cl_model.specs.declared.class.Class.{Class}
 use Rattle.cl_model.specs.declared.request.Request.{Request}
 use Rattle.cl_model.specs.declared.request.Request.TheVariants as requests
-use Rattle.cl_model.specs.declared.settled.Settled.{Settled}
 use Rattle.cl_model.specs.declared.verdict.Verdict as verdict
 use Rattle.cl_model.specs.declared.verdict.Verdict.TheVariants as verdicts
 use Rattle.cl_model.specs.Classes.{class}
 use Rattle.cl_model.specs.Content.{Content}
-use Rattle.cl_model.specs.Machine.{AnswersPlan, AnswersReference, IsClosed, IsSound, MaySettle, MaySay, Setting, Settle}
+use Rattle.cl_model.specs.Machine.{AnswersPlan, IsSound, Setting, Settle}
 use Rattle.cl_model.specs.Plans as plans
 use Rattle.cl_model.specs.Plans.{loaded_by}
 use Rattle.cl_model.specs.Service.{ComesTo, IsNextStep}
 use Rattle.cl_model.specs.States.{State, Need, Verdict, AllMet, Entry, Equal, IsClass, IsRecorded, Linkage, Met, Refused, recorded, settled_to}
 use Rattle.cl_model.specs.States as states
-use Rattle.cl_model.specs.Tables.{Bears, Records}
+use Rattle.cl_model.specs.Tables.{Bears}
 use Rattle.cl_model.specs.Views.{request_of, verdict_of}
 use Rattle.cl_model.specs.Homes.{World}
 use Rattle.cl_model.proofs.Frames.{answers_here}
@@ -33,13 +32,12 @@ use Rattle.cl_model.proofs.Stacks.{refused_answers}
 use Rattle.cl_model.proofs.Tables.{reached_records, recorded_reached}
 use Rattle.cl_config.specs.Views.{Configured, Scripted}
 use Rattle.cl_delegation.specs.Worlds.{setting_of, world_of}
-use Rattle.cl_findings.specs.Findings.{Answered, Based, Concludes, Grounds, HasImposed, IsBorne, IsWithin, Rests, SaidRests, VerdictRests, loader_of, name_of}
-use Rattle.cl_findings.specs.References.{index_of}
+use Rattle.cl_findings.specs.Findings.{Answered, Based, Concludes, HasImposed, IsBorne, IsWithin, Rests, VerdictRests, loader_of, name_of}
 use Rattle.cl_registry.specs.Posting.{IsBacked}
 use Rattle.cl_registry.specs.References.{cited_by}
 use Rattle.cl_registry.specs.Settling as settling
 use Rattle.cl_registry.specs.Tables.{Shown, NamesLoaders, records_of, state_of}
-use Rattle.cl_tasks.specs.Follows.{AnswerFollows, IsSettledNext, ServedIn}
+use Rattle.cl_tasks.specs.Follows.{IsSettledNext, ServedIn}
 use Rattle.cl_tasks.specs.Ends.{IsNoResolution}
 use Rattle.cl_tasks.specs.Stages.{IsFailure, load_of}
 

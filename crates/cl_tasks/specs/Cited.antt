@@ -1,7 +1,7 @@
 -- What entries of a constant pool ask for, before and after a class is loaded (JVMS SE 8, 4.4.1, 4.4.2, 5.4.3).
-use Rattle.std.specs.Prelude.{◌≡◌, ℕ, List, Option, Some, None}
+use Rattle.std.specs.Prelude.{◌≡◌, ℕ, Option, Some, None}
 use Rattle.cl_descriptors.specs.declared.types.FieldType.{FieldType}
-use Rattle.cl_classfile.specs.Files.{Key, Name, Reference, ToClass, ToField, ToMethod, ToInterfaceMethod, letter, named_type}
+use Rattle.cl_classfile.specs.Files.{Key, Name, Reference, ToClass, ToField, ToMethod, ToInterfaceMethod, named_type}
 use Rattle.cl_model.specs.Frames.{class_named}
 use Rattle.cl_model.specs.Plans.{member_target}
 use Rattle.cl_model.specs.References.{nameless}

@@ -25,7 +25,6 @@ use Rattle.cl_tasks.specs.Steps.{HoldsOn}
 use Rattle.cl_tasks.specs.declared.ends.Aftermath.{Aftermath}
 use Rattle.cl_tasks.specs.declared.ends.Aftermath.TheVariants as aftermaths
 use Rattle.cl_tasks.specs.declared.stage.Entry as entries
-use Rattle.cl_tasks.specs.declared.stage.Failed.{Failed}
 use Rattle.cl_tasks.specs.declared.stage.Job.{Job}
 use Rattle.cl_tasks.specs.declared.stage.Next.{Next}
 use Rattle.cl_tasks.specs.declared.stage.Resolution.TheVariants as resolutions

@@ -19,7 +19,7 @@ use Rattle.cl_source.specs.declared.source.SourceFault.{SourceFault}
 use Rattle.cl_source.specs.declared.source.SourceFault.TheVariants as faults
 use Rattle.cl_config.specs.Views.{Configured, Scripted}
 use Rattle.cl_delegation.specs.Worlds.{setting_of}
-use Rattle.cl_hierarchy.specs.Imposed.{Listed, OfReference, OfPreparation, Sprung}
+use Rattle.cl_hierarchy.specs.Imposed.{OfReference, OfPreparation, Sprung}
 use Rattle.cl_findings.specs.Findings.{Answered, loader_of, name_of}
 use Rattle.cl_findings.specs.References.{index_of}
 use Rattle.cl_registry.specs.Tables.{Shown, state_of, records_of, NamesLoaders, MayEnter, MayJoin}
@@ -30,7 +30,7 @@ use Rattle.cl_registry.specs.Settling.{MaySettle}
 use Rattle.cl_registry.specs.Posting.{IsBacked}
 use Rattle.cl_tasks.specs.Tasks.{Tasked}
 use Rattle.cl_tasks.specs.Facts.{Holds, IsRecordedAs}
-use Rattle.cl_tasks.specs.Waits.{Waits, Beginning, Looking, Reading, Defining, Initiating, Tracing, LookingReference, Settling, Imposing, LookingPrepared, Marking, Ended}
+use Rattle.cl_tasks.specs.Waits.{Waits, Looking, Reading, Defining, Initiating, Tracing, LookingReference, Settling, Imposing, LookingPrepared, Marking}
 use Rattle.cl_tasks.specs.declared.turn.Reply.{Reply}
 use Rattle.cl_tasks.specs.declared.turn.Reply.TheVariants as reply
 use Rattle.cl_tasks.specs.declared.turn.Turn.{Turn}

@@ -1,5 +1,5 @@
 -- What a task is at, as contracts see it, and what it keeps (JVMS SE 8, 5.3 to 5.4.3).
-use Rattle.std.specs.Prelude.{◌≡◌, ◌≢◌, ◌<◌, ◌≤◌, ◌+◌, ◌-◌, ◌++◌, ◌∷◌, ℕ, true, false, List, [], length, map, take, Option, Some, None, slice_get, option_map, unwrap_or}
+use Rattle.std.specs.Prelude.{◌≡◌, ◌≢◌, ◌<◌, ◌+◌, ◌-◌, ◌++◌, ◌∷◌, ℕ, false, List, [], length, map, take, Option, Some, None, slice_get, option_map, unwrap_or}
 use Rattle.cl_classfile.specs.Files.{file_of, reference}
 use Rattle.cl_model.specs.declared.class.Class.{Class}
 use Rattle.cl_model.specs.declared.answer.Answer.TheVariants as answers
@@ -8,19 +8,19 @@ use Rattle.cl_model.specs.declared.verdict.Verdict.TheVariants as verdicts
 use Rattle.cl_model.specs.declared.request.Request.{Request}
 use Rattle.cl_model.specs.declared.request.Request.TheVariants as requests
 use Rattle.cl_model.specs.Content.{Content}
-use Rattle.cl_model.specs.Classes.{class, class_accessible}
-use Rattle.cl_model.specs.Frames.{Frame, class_named}
+use Rattle.cl_model.specs.Classes.{class}
+use Rattle.cl_model.specs.Frames.{class_named}
 use Rattle.cl_model.specs.States.{Need, Entry}
 use Rattle.cl_config.specs.Views.{Configured}
 use Rattle.cl_delegation.specs.Searches.{Searched, Located, next_of, route_of}
-use Rattle.cl_hierarchy.specs.Frames.{Framed, frame_of}
+use Rattle.cl_hierarchy.specs.Frames.{frame_of}
 use Rattle.cl_hierarchy.specs.Imposed.{Listed, Sprung, OfPreparation, OfReference, needs_of}
-use Rattle.cl_hierarchy.specs.Lineages.{Lined, kin_of, rows_in}
-use Rattle.cl_hierarchy.specs.Paths.{Pathed, at_loader, at_name, frames_of, is_on}
+use Rattle.cl_hierarchy.specs.Lineages.{Lined, rows_in}
+use Rattle.cl_hierarchy.specs.Paths.{at_loader, at_name, frames_of, is_on}
 use Rattle.cl_hierarchy.specs.Rows.{Rowed}
 use Rattle.cl_findings.specs.declared.load.Target.{Target}
 use Rattle.cl_findings.specs.declared.load.Target.TheVariants as targets
-use Rattle.cl_findings.specs.Findings.{Answered, Based, IsWithin, Rests, loader_of, name_of}
+use Rattle.cl_findings.specs.Findings.{Based, Rests, loader_of, name_of}
 use Rattle.cl_findings.specs.Bases.{IsSpeltIn}
 use Rattle.cl_findings.specs.Loads.{IsFor, IsSought, IsWhole, Resolves}
 use Rattle.cl_findings.specs.References.{AreLinked, GoesTo, class_need, reference_needs}

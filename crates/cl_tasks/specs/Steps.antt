@@ -1,11 +1,8 @@
 -- What a step of a task leads to, and what it rests on (JVMS SE 8, 5.3 to 5.4.3).
-use Rattle.std.specs.Prelude.{◌≡◌, ◌≢◌, ◌⊎◌, ◌<◌, ◌≤◌, ◌+◌, ◌-◌, ◌++◌, ◌∷◌, ℕ, List, [], length, Option, Some, None, IfSome}
+use Rattle.std.specs.Prelude.{◌≡◌, ◌⊎◌, ◌<◌, ◌+◌, ℕ, Option, Some, None, IfSome}
 use Rattle.cl_model.specs.declared.answer.Answer.TheVariants as answers
-use Rattle.cl_model.specs.declared.class.Class.{Class}
 use Rattle.cl_model.specs.declared.request.Request.{Request}
-use Rattle.cl_model.specs.declared.request.Request.TheVariants as requests
 use Rattle.cl_model.specs.declared.verdict.ErrorKind.{ErrorKind}
-use Rattle.cl_model.specs.declared.verdict.Verdict as verdict
 use Rattle.cl_model.specs.Content.{Content}
 use Rattle.cl_model.specs.Views.{error_of}
 use Rattle.cl_classfile.specs.Files.{file_of}
@@ -15,19 +12,15 @@ use Rattle.cl_delegation.specs.Searches.{Searched, Located}
 use Rattle.cl_hierarchy.specs.Frames.{Framed}
 use Rattle.cl_hierarchy.specs.Rows.{Rowed}
 use Rattle.cl_hierarchy.specs.Paths.{Pathed, frames_of, at_loader, at_name, misfit_under}
-use Rattle.cl_findings.specs.declared.load.Target.{Target}
-use Rattle.cl_findings.specs.declared.load.Target.TheVariants as targets
 use Rattle.cl_findings.specs.declared.load.Obstacle.{Obstacle}
 use Rattle.cl_findings.specs.declared.load.Obstacle.TheVariants as obstacles
-use Rattle.cl_findings.specs.Findings.{Answered, Based, Rests}
 use Rattle.cl_registry.specs.Tables.{Shown}
 use Rattle.cl_tasks.specs.Facts.{AllHave, AreSo, Holds, IsRecordedAs}
 use Rattle.cl_tasks.specs.Follows.{BackedWhere, EndsRefused, FollowsWhere, NoFault, Refuses, Tells, TellsNow, refusal}
 use Rattle.cl_tasks.specs.Measures.{Phase, Reading, left_at}
-use Rattle.cl_tasks.specs.Stages.{IsStage, load_of, past_left, probes_left, target_facts, task_at}
+use Rattle.cl_tasks.specs.Stages.{IsStage, past_left, probes_left, target_facts, task_at}
 use Rattle.cl_tasks.specs.Tasks.{Tasked, begun}
 use Rattle.cl_tasks.specs.Turns.{AnswersOwn, Asks, ReadsUnrecorded, Serves}
-use Rattle.cl_tasks.specs.declared.stage.Entry as entries
 use Rattle.cl_tasks.specs.declared.stage.Job.{Job}
 use Rattle.cl_tasks.specs.declared.stage.Load.TheVariants as loads
 use Rattle.cl_tasks.specs.declared.stage.Next.{Next}

@@ -1,4 +1,4 @@
-use Rattle.std.proofs.Common.{refl, ap}
+use Rattle.std.proofs.Common.{ap}
 use Rattle.cl_hierarchy.specs.Paths.{Pathed}
 use Rattle.cl_tasks.proofs.Onward.{job_on, leads_descent}
 use Rattle.cl_tasks.proofs.accept.descend.Goals as goal

@@ -1,5 +1,4 @@
-use Rattle.std.proofs.Common.{◌≡◌, ◌<◌, ℕ, List, length, refl, sym, ap, subst, arith}
-use Rattle.cl_model.specs.declared.need.Equality.{Equality}
+use Rattle.std.proofs.Common.{◌≡◌, length, refl, arith}
 use Rattle.cl_tasks.proofs.LinkLeads.{IsKnown, impose_leads, mark_leads}
 use Rattle.cl_tasks.proofs.link.impose.Goals as goal
 

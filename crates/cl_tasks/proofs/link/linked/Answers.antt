@@ -1,4 +1,3 @@
-use Rattle.std.proofs.Common.{◌∙◌, sym}
 use Rattle.cl_tasks.proofs.LinkLeads.{linked_leads}
 use Rattle.cl_tasks.proofs.link.linked.Goals as goal
 

@@ -1,4 +1,4 @@
-use Rattle.std.proofs.Common.{◌∙◌, sym}
+use Rattle.std.proofs.Common.{◌∙◌}
 use Rattle.std.proofs.lemmas.Option.{slice_get-map}
 use Rattle.cl_hierarchy.specs.Imposed.{equal_need}
 use Rattle.cl_tasks.proofs.LinkLeads.{IsKnown, refused_leads}

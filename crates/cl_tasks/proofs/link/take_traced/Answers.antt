@@ -1,5 +1,4 @@
-use Rattle.std.proofs.Common.{◌<◌, ◌-◌, length, arith}
-use Rattle.cl_hierarchy.specs.Lineages.{rows_in}
+use Rattle.std.proofs.Common.{◌<◌, length, arith}
 use Rattle.cl_tasks.specs.Linking.{LineageTold}
 use Rattle.cl_tasks.specs.Measures.{chain_left}
 use Rattle.cl_tasks.specs.Stages.{behind}

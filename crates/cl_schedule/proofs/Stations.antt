@@ -23,19 +23,9 @@ use Rattle.cl_tasks.specs.declared.turn.Reply.TheVariants as reply
 use Rattle.cl_tasks.specs.declared.turn.Turn.{Turn}
 use Rattle.cl_tasks.specs.declared.turn.Turn.TheVariants as turn
 use Rattle.cl_schedule.specs.Known.{Has, IsToldAtOnce, SaysOrLacks, TellsKnown}
-use Rattle.cl_schedule.specs.Replies.{Did, IsReplied, IsStepOf}
+use Rattle.cl_schedule.specs.Replies.{Did, IsCall, IsRead, IsReplied, IsStepOf}
 
 -- ---- turns
-
--- a turn that asks for a call
-abbrev pub IsCall : {A : Type 0} → Turn A → Type 0
-IsCall (turn.Post f) = ⊥
-IsCall other = Unit {0}
-
--- a turn that asks for a read
-abbrev pub IsRead : {A : Type 0} → Turn A → Type 0
-IsRead (turn.Read l n) = Unit {0}
-IsRead other = ⊥
 
 no_post_or : {A : Type 0} (a : rust.Answer) (u : Turn A) → PostsOr a u → IsCall u → ⊥
 no_post_or a (turn.Look l n) p call = p

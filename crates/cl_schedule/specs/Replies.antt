@@ -12,15 +12,27 @@ use Rattle.cl_hierarchy.specs.Imposed.{Listed, Sprung, OfReference, OfPreparatio
 use Rattle.cl_registry.specs.declared.registry.RegistryFault.{RegistryFault}
 use Rattle.cl_registry.specs.declared.registry.RegistryFault.TheVariants as faults
 use Rattle.cl_registry.specs.Settling.{IsToSettle}
-use Rattle.cl_registry.specs.Tables.{Shown, records_of, state_of}
+use Rattle.cl_registry.specs.Tables.{Shown, IsKept, records_of, state_of}
 use Rattle.cl_tasks.specs.Waits.{Waits, Looking, LookingReference, LookingPrepared}
-use Rattle.cl_tasks.specs.Turns.{IsReplyTo}
+use Rattle.cl_tasks.specs.Turns.{IsReplyTo, call_of}
 use Rattle.cl_tasks.specs.Follows.{TellsOf}
 use Rattle.cl_tasks.specs.declared.turn.Reply.{Reply}
 use Rattle.cl_tasks.specs.declared.turn.Reply.TheVariants as reply
 use Rattle.cl_tasks.specs.declared.turn.Turn.{Turn}
 use Rattle.cl_tasks.specs.declared.turn.Turn.TheVariants as turn
+use Rattle.cl_model.specs.Content.{Content}
+use Rattle.cl_schedule.specs.Counting.{Grows, told_faults}
 use Rattle.cl_schedule.specs.Serving.{GoesBy}
+
+-- a turn that asks for a call, and not for the post
+abbrev pub IsCall : {A : Type 0} → Turn A → Type 0
+IsCall (turn.Post f) = ⊥
+IsCall other = Unit {0}
+
+-- a turn that asks for a read (5.3.2)
+abbrev pub IsRead : {A : Type 0} → Turn A → Type 0
+IsRead (turn.Read l n) = Unit {0}
+IsRead other = ⊥
 
 -- a look finds nothing only where nothing is recorded, settled or prepared, and memory is wanting only where something is to be
 -- shared (5.3, 5.4.2, 5.4.3)
@@ -83,3 +95,12 @@ IsTold other = ⊥
 abbrev pub refusal_of : {A : Type 0} → RegistryFault → Reply A
 refusal_of (faults.Violates n) = reply.Refused n
 refusal_of other = reply.Memory
+
+-- a call was made: what it did, and what the task is told of it; a source is read by a read alone (5.3 to 5.4.3)
+pub record CallSays {A S : Type 0} (told : Option Content) (x new : Shown) (u : Turn A) (given : Reply A) (count later : ℕ) (since source : S) : Type 0 where
+  pub call : IsCall u
+  pub replied : IsReplied new (call_of u) given
+  pub did : Did x new (IsStepOf x u)
+  pub kept : IsKept told new
+  pub faults : Grows (told_faults given) count later
+  pub unread : (IsRead u → ⊥) → source ≡ since

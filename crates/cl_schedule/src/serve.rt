@@ -9,9 +9,7 @@ ghost use Rattle.cl_schedule.specs.Known.{TellsKnown};
 ghost use Rattle.cl_schedule.specs.Rounds.{RoundsPassed};
 ghost use Rattle.cl_schedule.specs.Serving.{IsDone};
 
-use crate::replies::{
-    define, impose, initiate, lineage, look, look_prepared, look_reference, mark, read, settle,
-};
+use crate::replies::reply_to;
 use cl_config::{Config, Script};
 use cl_findings::Finding;
 use cl_model::{Request, Told};
@@ -116,40 +114,11 @@ fn serve_request<T: Told, S: Source<T>>(
     let mut reply = Reply::Start;
     loop {
         match task.turn(alloc, reply) {
-            Turn::Look(loader, name) => {
-                reply = look(registry, loader, &name);
-            }
-            Turn::Read(loader, name) => {
-                reply = read(alloc, source, loader, &name);
-            }
-            Turn::Define(draft) => {
-                reply = define(alloc, registry, draft);
-            }
-            Turn::Initiate(home) => {
-                reply = initiate(alloc, registry, home);
-            }
-            Turn::Lineage(class) => {
-                reply = lineage(alloc, registry, &class);
-            }
-            Turn::LookReference(class, index) => {
-                reply = look_reference(registry, &class, index);
-            }
-            Turn::Settle(finding) => {
-                reply = settle(alloc, registry, finding);
-            }
-            Turn::Impose(list, place) => {
-                reply = impose(alloc, registry, list, place);
-            }
-            Turn::LookPrepared(class) => {
-                reply = look_prepared(registry, &class);
-            }
-            Turn::Mark(list) => {
-                reply = mark(alloc, registry, list);
-            }
             Turn::Post(finding) => {
                 post(registry, q, finding);
                 return;
             }
+            call => reply = reply_to(alloc, registry, source, call),
         }
     }
 }

@@ -182,7 +182,7 @@ failed_comes {A = A} told c f failed stood g x served h =
 
 failed_leads : {A : Type 0} (told : Option Content) (c : Configured) (f : Failed A) (failed : IsFailed told c f) → Stood told c f.request failed.verdict failed.basis (Unfound A c f)
     → LeadsOn {A = A} told c f.q f.request checking_left (Unfound A c f) (λ x. TellsNow {A = A} x (resolving_at c (resolutions.Checking f)) (reply.Looked None))
-      (record { stage = stages.Done f.q; turn = turn.Post (said_of f.request failed.verdict failed.basis) })
+    (record { stage = stages.Done f.q; turn = turn.Post (said_of f.request failed.verdict failed.basis) })
 failed_leads {A = A} told c f failed stood =
     let r = f.request in
     let v = failed.verdict in
@@ -208,7 +208,7 @@ pub unfound_steps : {A : Type 0} (told : Option Content) (c : Configured) (f : F
     → Steps told (resolving_at c (resolutions.Checking f)) (reply.Looked None) n
 unfound_steps {A = A} told c f n failed rests within is =
     let at : n ≡ record { stage = stages.Done f.q; turn = turn.Post (said_of f.request failed.verdict failed.basis) } =
-        is ∙ ap (λ (k : Answered). record { stage = stages.Done f.q; turn = turn.Post k }) (failed_whole told c f failed) in
+    is ∙ ap (λ (k : Answered). record { stage = stages.Done f.q; turn = turn.Post k }) (failed_whole told c f failed) in
     subst (λ (m : Next A). Steps told (resolving_at c (resolutions.Checking f)) (reply.Looked None) m) (sym at)
     (record {
       leads = failed_leads told c f failed (failed_stood told c f failed rests within);

@@ -392,7 +392,7 @@ module _ {A : Type 0} (told : Option Content) (c : Configured) (k : Chain A) (e 
       let before = subst (λ (cs : List Class). AllByRecursion (Contains (state_of x).prepared) cs) (take-map (λ (y : Rowed). y.class) k.place (rows_in k.whole.value)) (chain_prepared x k (list_chain x k e i h.before)) in
       let within : IsWithin (length x.config.loaders) f = record { loader = loader; answer = subst (λ (a : answer.Answer). AnswerNames (length x.config.loaders) a) (sym said) named } in
       let basis : BasisStands x.config (state_of x) f.basis = subst (λ (o : Option Based). BasisStands x.config (state_of x) o) (sym rests)
-          (record { config = chain.whole.config ∙ sym config; needs = (goal_recorded x i h.before, list_imposed x k e i h.before); prepared = before; refused = h.now }) in
+      (record { config = chain.whole.config ∙ sym config; needs = (goal_recorded x i h.before, list_imposed x k e i h.before); prepared = before; refused = h.now }) in
       record {
         within = within;
         answer = subst (λ (a : answer.Answer). AnswerBacked x f a) (sym said)

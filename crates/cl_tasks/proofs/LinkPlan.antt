@@ -79,7 +79,7 @@ module _ (g : Setting) (s : State) (r : request.Request) (l at : Lined) (sound :
   equality_next needs k n are there met =
       let next : IsNext s (constraints_of (kin_of at)) n = subst (λ (ns : List Need). IsNext s ns n) are (next_at s needs k n there met) in
       let all : IsNext s (flat_map constraints_of (lineage (kin_of l))) n =
-          subst (λ (ks : List Kin). IsNext s (flat_map constraints_of ks) n) (sym here.split) (next_in s here.front here.behind (kin_of at) n (imposed_of s here.front here.linked) next) in
+      subst (λ (ks : List Kin). IsNext s (flat_map constraints_of ks) n) (sym here.split) (next_in s here.front here.behind (kin_of at) n (imposed_of s here.front here.linked) next) in
       record {
         need = subst (λ (q : request.Request). IsNextNeed g.world s (request_of q) n) (sym is) (gone_on_next g.world s (Link (loader_of r) l.own.class.name) l.own.class (flat_map constraints_of (lineage (kin_of l))) (IsLinked l.own.class) n goes all);
         step = λ may. subst (λ (q : request.Request). IsNextStep g s (request_of q) (step_for n)) (sym is)

@@ -158,7 +158,7 @@ pub marked_steps : {A : Type 0} (told : Option Content) (c : Configured) (k : Ch
     → LeadsBy told c k.goal.q k.goal.request (linking_left (behind k - 1) 0) (MarkedTold k) n → IsPlain n.turn → Steps told (linking_at c (links.Marking k e)) reply.Marked n
 marked_steps {A = A} told c k e n chain place l plain =
     let tells : (x : Shown) → Tells {A = A} x (linking_at c (links.Marking k e)) reply.Marked → MarkedTold k x =
-        λ x h. record { before = list_chain x k e.value (length e.value.needs) h.before.facts; now = prepared_there c k e.value x chain place h.now } in
+    λ x h. record { before = list_chain x k e.value (length e.value.needs) h.before.facts; now = prepared_there c k e.value x chain place h.now } in
     record {
       leads = leads_more (linking_left (behind k - 1) 0) (λ x. Tells {A = A} x (linking_at c (links.Marking k e)) reply.Marked) (λ x. TellsNow {A = A} x (linking_at c (links.Marking k e)) reply.Marked) l
           (same_room (linking_left (behind k - 1) 0)) tells (λ x h. tells x h.told);

@@ -95,7 +95,7 @@ posts_reads r a (turn.Post f) h = tt
 pub steps_unrecorded : {A : Type 0} (told : Option Content) (c : Configured) (j : Job A) (n : Next A) → j.path.config ≡ c → LeadsAt told phases.Looking j (HoldsOn j) n → PostsNoFault n.turn → Steps told (loading_at c (loads.Looking j)) (reply.Looked None) n
 steps_unrecorded told c j n e l no_fault = record {
   leads = at_config told c j.path.config j.q j.request (room_at phases.Looking j 0) _ _ n e
-  (leads_more (room_at phases.Looking j 0) _ _ l (omega arith) (λ x h. record { frames = h.before.frames; facts = h.before.facts }) (λ x h. record { frames = h.told.before.frames; facts = h.told.before.facts }));
+      (leads_more (room_at phases.Looking j 0) _ _ l (omega arith) (λ x h. record { frames = h.before.frames; facts = h.before.facts }) (λ x h. record { frames = h.told.before.frames; facts = h.told.before.facts }));
   refused = no_fault;
   linkage = tt;
   reads = none_reads n.turn;
@@ -108,8 +108,8 @@ steps_looked told c j row n e path l plain goes =
     let k : room_at phases.Initiating j 0 < room_at phases.Looking j 0 = less_room (past_left j.target) (left_at phases.Initiating (frames_of j.path) 0) (left_at phases.Looking (frames_of j.path) 0) (joins_less told j.path phases.Looking 0 0 path tt) in
     record {
       leads = at_config told c j.path.config j.q j.request (room_at phases.Looking j 0) _ _ n e
-      (leads_more (room_at phases.Looking j 0) _ _ l (omega arith) (λ x h. record { before = record { frames = h.before.frames; facts = h.before.facts }; now = h.now })
-      (λ x h. record { before = record { frames = h.told.before.frames; facts = h.told.before.facts }; now = h.told.now }));
+          (leads_more (room_at phases.Looking j 0) _ _ l (omega arith) (λ x h. record { before = record { frames = h.before.frames; facts = h.before.facts }; now = h.now })
+          (λ x h. record { before = record { frames = h.told.before.frames; facts = h.told.before.facts }; now = h.told.now }));
       refused = plain_no_fault n.turn plain;
       linkage = tt;
       reads = plain_reads (reply.Looked (Some row)) n.turn plain;
@@ -167,7 +167,7 @@ pub steps_defined : {A : Type 0} (told : Option Content) (c : Configured) (j : J
     → IsPlain n.turn → Steps told (loading_at c (loads.Defining j w)) (reply.Defined row) n
 steps_defined told c j w row n e whole draft l plain = record {
   leads = at_config told c j.path.config j.q j.request (room_at phases.Defining j 0) _ _ n e
-  (leads_more (room_at phases.Defining j 0) _ _ l (omega arith) (λ x t. defined_finds told x c j w row whole draft t) (λ x t. defined_finds told x c j w row whole draft t.told));
+      (leads_more (room_at phases.Defining j 0) _ _ l (omega arith) (λ x t. defined_finds told x c j w row whole draft t) (λ x t. defined_finds told x c j w row whole draft t.told));
   refused = plain_no_fault n.turn plain;
   linkage = tt;
   reads = plain_reads (reply.Defined row) n.turn plain;
@@ -185,7 +185,7 @@ pub steps_define_refused : {A : Type 0} (told : Option Content) (c : Configured)
     → IsPlain n.turn → EndsAsRefused j.request need n.turn → Steps told (loading_at c (loads.Defining j w)) (reply.Refused need) n
 steps_define_refused {A} told c j w need n e is l plain ends = record {
   leads = at_config told c j.path.config j.q j.request (room_at phases.Defining j 0) _ _ n e
-  (leads_more (room_at phases.Defining j 0) _ _ l (omega arith) (λ x t. define_refused {A = A} x c j w need is t) (λ x t. define_refused {A = A} x c j w need is t.told));
+      (leads_more (room_at phases.Defining j 0) _ _ l (omega arith) (λ x t. define_refused {A = A} x c j w need is t) (λ x t. define_refused {A = A} x c j w need is t.told));
   refused = plain_no_fault n.turn plain;
   linkage = ends;
   reads = plain_reads (reply.Refused need) n.turn plain;
@@ -204,7 +204,7 @@ pub steps_initiated : {A : Type 0} (told : Option Content) (c : Configured) (j :
     → Steps told (loading_at c (loads.Initiating j h)) (reply.Initiated row) n
 steps_initiated told c j h row n e sought l plain = record {
   leads = at_config told c j.path.config j.q j.request (room_at phases.Initiating j 0) _ _ n e
-  (leads_more (room_at phases.Initiating j 0) _ _ l (omega arith) (λ x t. initiated_finds x c j h row sought t) (λ x t. initiated_finds x c j h row sought t.told));
+      (leads_more (room_at phases.Initiating j 0) _ _ l (omega arith) (λ x t. initiated_finds x c j h row sought t) (λ x t. initiated_finds x c j h row sought t.told));
   refused = plain_no_fault n.turn plain;
   linkage = tt;
   reads = plain_reads (reply.Initiated row) n.turn plain;
@@ -222,7 +222,7 @@ pub steps_initiate_refused : {A : Type 0} (told : Option Content) (c : Configure
     → IsPlain n.turn → EndsAsRefused j.request need n.turn → Steps told (loading_at c (loads.Initiating j h)) (reply.Refused need) n
 steps_initiate_refused {A} told c j h need n e is l plain ends = record {
   leads = at_config told c j.path.config j.q j.request (room_at phases.Initiating j 0) _ _ n e
-  (leads_more (room_at phases.Initiating j 0) _ _ l (omega arith) (λ x t. initiate_refused {A = A} x c j h need is t) (λ x t. initiate_refused {A = A} x c j h need is t.told));
+      (leads_more (room_at phases.Initiating j 0) _ _ l (omega arith) (λ x t. initiate_refused {A = A} x c j h need is t) (λ x t. initiate_refused {A = A} x c j h need is t.told));
   refused = plain_no_fault n.turn plain;
   linkage = ends;
   reads = plain_reads (reply.Refused need) n.turn plain;

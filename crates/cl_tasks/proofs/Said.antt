@@ -122,12 +122,12 @@ cited_so x r d i l is kept =
 pub may_settle : (told : Option Content) (c : Configured) (r : Request) (d : Class) (i : ℕ) (v : verdict.Verdict) (b : Based) (holds : Shown → Type 0) → Stood told c r v b holds → Settling r d i v holds → (x : Shown) → x.config ≡ c → NamesLoaders x → holds x
     → settling.MaySettle x (said_of r v b)
 may_settle told c r d i v b holds stood may x config named h = (
-    record { class = d; index = i; verdict = v },
-    record {
-      cited = cited_so x r d i (loader_of r) may.resolves (may.kept x h);
-      says = record { said = refl; is_entry = may.is_entry; is_class_member = may.is_class_member };
-      stands = record { within = stood.within x config named h; basis = borne told c r v b holds stood x config h };
-    },
+  record { class = d; index = i; verdict = v },
+  record {
+    cited = cited_so x r d i (loader_of r) may.resolves (may.kept x h);
+    says = record { said = refl; is_entry = may.is_entry; is_class_member = may.is_class_member };
+    stands = record { within = stood.within x config named h; basis = borne told c r v b holds stood x config h };
+  },
 )
 
 -- what is no bad entry reads as none

@@ -1,16 +1,16 @@
 -- What a turn of a task is, by the step that it is.
-use Rattle.std.proofs.Common.{◌≡◌, ◌<◌, ℕ, Option, Some, None, refl, sym, subst}
+use Rattle.std.proofs.Common.{◌≡◌, ◌∙◌, ◌<◌, ℕ, Option, Some, None, refl, sym, subst}
 use Rattle.std.specs.Prelude.{IfSome}
 use Rattle.cl_model.specs.declared.request.Request.{Request}
 use Rattle.cl_model.specs.Content.{Content}
 use Rattle.cl_config.specs.Views.{Configured}
 use Rattle.cl_registry.specs.Tables.{Shown}
 use Rattle.cl_tasks.specs.Facts.{Holds}
-use Rattle.cl_tasks.specs.Follows.{BackedWhere, FollowsWhere, Tells, TellsNow}
+use Rattle.cl_tasks.specs.Follows.{BackedWhere, EndsRefused, FollowsWhere, Refuses, Tells, TellsNow, refusal}
 use Rattle.cl_tasks.specs.Stages.{IsStage, linking_at, loading_at, resolving_at, task_at}
-use Rattle.cl_tasks.specs.Steps.{LeadsOn, StepsOn}
+use Rattle.cl_tasks.specs.Steps.{LeadsOn, Steps}
 use Rattle.cl_tasks.specs.Tasks.{Tasked, begun}
-use Rattle.cl_tasks.specs.Turns.{Asks, Expects, IsReplyTo, Serves}
+use Rattle.cl_tasks.specs.Turns.{AnswersOwn, Asks, Expects, IsReplyTo, ReadsUnrecorded, Serves}
 use Rattle.cl_tasks.specs.Waits as waits
 use Rattle.cl_tasks.specs.declared.stage.Link.{Link}
 use Rattle.cl_tasks.specs.declared.stage.Link.TheVariants as links
@@ -135,28 +135,44 @@ serves_so c q r t new (turn.Post f) is h = subst (λ (o : Option Request). o ≡
 pub record Turns {A : Type 0} (told : Option Content) (c : Configured) (old : Tasked) (r : Reply A) (n : Next A) : Type 0 where
   pub kept : IsStage told c n.stage
   pub number : (task_at c n.stage).q ≡ old.q
+  pub config : (task_at c n.stage).config ≡ old.config
   pub asks : Asks (task_at c n.stage) n.turn
   pub serves : Serves old (task_at c n.stage) n.turn
   pub left : (task_at c n.stage).left < old.left
   pub keeps : (x : Shown) → Tells x old r → Holds x (task_at c n.stage)
   pub backed : BackedWhere old.config (λ x. TellsNow x old r) n.turn
   pub next : IfSome old.request (λ q. FollowsWhere told old.config (λ x. Tells x old r) q n.turn)
+  pub refused : Refuses (refusal old r) n.turn
+  pub linkage : EndsRefused old.request r n.turn
+  pub reads : ReadsUnrecorded r n.turn
+  pub own : AnswersOwn old (task_at c n.stage) r n.turn
 
-turns_by : {A : Type 0} (told : Option Content) (c : Configured) (t : Tasked) (r : Reply A) (n : Next A) → t.config ≡ c → HasRequest t → StepsOn told t r n → Turns told c t r n
+turns_by : {A : Type 0} (told : Option Content) (c : Configured) (t : Tasked) (r : Reply A) (n : Next A) → t.config ≡ c → HasRequest t → Steps told t r n → Turns told c t r n
 turns_by {A = A} told c t r n config has steps =
     let q = has.0 in
     let l : LeadsOn {A = A} told t.config t.q q t.left (λ x. Tells {A = A} x t r) (λ x. TellsNow {A = A} x t r) n =
-        subst (λ (o : Option Request). IfSome o (λ q. LeadsOn {A = A} told t.config t.q q t.left (λ x. Tells {A = A} x t r) (λ x. TellsNow {A = A} x t r) n)) has.1 steps in
+    subst (λ (o : Option Request). IfSome o (λ q. LeadsOn {A = A} told t.config t.q q t.left (λ x. Tells {A = A} x t r) (λ x. TellsNow {A = A} x t r) n)) has.1 steps.leads in
     record {
       kept = subst (λ (d : Configured). IsStage told d n.stage) config l.kept;
       number = subst (λ (d : Configured). (task_at d n.stage).q ≡ t.q) config l.number;
+      config = config_is c n.stage ∙ sym config;
       asks = subst (λ (d : Configured). Asks (task_at d n.stage) n.turn) config l.asks;
       serves = subst (λ (d : Configured). Serves t (task_at d n.stage) n.turn) config (serves_so t.config t.q q t (task_at t.config n.stage) n.turn has.1 l.serves);
       left = subst (λ (d : Configured). (task_at d n.stage).left < t.left) config l.left;
       keeps = subst (λ (d : Configured). (x : Shown) → Tells {A = A} x t r → Holds x (task_at d n.stage)) config l.keeps;
       backed = l.backed;
       next = subst (λ (o : Option Request). IfSome o (λ q. FollowsWhere {A = A} told t.config (λ x. Tells {A = A} x t r) q n.turn)) (sym has.1) l.follows;
+      refused = steps.refused;
+      linkage = steps.linkage;
+      reads = steps.reads;
+      own = subst (λ (d : Configured). AnswersOwn t (task_at d n.stage) r n.turn) config steps.own;
     }
 
-pub turns : {A : Type 0} (told : Option Content) (c : Configured) (s : Stage A) (r : Reply A) (n : Next A) → Expects (task_at c s) r → StepsOn told (task_at c s) r n → Turns told c (task_at c s) r n
-turns told c s r n expects steps = turns_by told c (task_at c s) r n (config_is c s) (has_request c s r expects) steps
+-- the same of a task as contracts see it, whose stage was taken out, and the next one put in its place
+pub turns : {A : Type 0} (told : Option Content) (c : Configured) (s taken put : Stage A) (old : Tasked) (r : Reply A) (n : Next A) → task_at c s ≡ old → Expects old r
+    → taken ≡ s → Steps told (task_at c taken) r n → put ≡ n.stage → Turns told c old r (record { stage = put; turn = n.turn })
+turns {A = A} told c s taken put old r n view expects is steps placed =
+    let asked : Expects (task_at c s) r = subst (λ (t : Tasked). Expects t r) (sym view) expects in
+    let done : Steps told (task_at c s) r n = subst (λ (u : Stage A). Steps told (task_at c u) r n) is steps in
+    let made : Turns told c (task_at c s) r n = turns_by told c (task_at c s) r n (config_is c s) (has_request c s r asked) done in
+    subst (λ (u : Stage A). Turns told c old r (record { stage = u; turn = n.turn })) (sym placed) (subst (λ (t : Tasked). Turns told c t r n) view made)

@@ -170,7 +170,11 @@ pub(crate) fn refuse<T: Told>(
     } = job;
     // brings what a refusal rests on
     bring_next(&path, &next);
-    conclude(q, aftermath, Finding::refused(request, target, path, next, need))
+    conclude(
+        q,
+        aftermath,
+        Finding::refused(request, target, path, next, need),
+    )
 }
 
 /// The source refused the read that was next, out of memory or for another cause.

@@ -237,11 +237,7 @@ pub(crate) fn impose<T: Told>(
 }
 
 /// The class at the place of a chain is prepared: the next one comes, or the request's class was the last.
-pub(crate) fn take_marked<T: Told>(
-    alloc: Global,
-    config: &Arc<Config>,
-    chain: Chain<T>,
-) -> Next<T>
+pub(crate) fn take_marked<T: Told>(alloc: Global, config: &Arc<Config>, chain: Chain<T>) -> Next<T>
     requires chain { IsChain config.now.value chain }
     ensures leads { LeadsBy T.told config.now.value chain.goal.q chain.goal.request
         (linking_left (behind chain - 1) 0) (MarkedTold chain) result }

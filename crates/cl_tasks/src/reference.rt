@@ -125,12 +125,7 @@ fn settle_at_once<T: Told>(
 }
 
 /// Loads the class that an entry names, through the loader that defined the class whose pool has it.
-fn load_named<T: Told>(
-    alloc: Global,
-    config: &Arc<Config>,
-    entry: Entry<T>,
-    name: Name,
-) -> Next<T>
+fn load_named<T: Told>(alloc: Global, config: &Arc<Config>, entry: Entry<T>, name: Name) -> Next<T>
     requires entry { IsEntry config.now.value entry }
     requires names { HasNamed entry name }
     ensures leads { LeadsBy T.told config.now.value entry.q entry.request reference_left

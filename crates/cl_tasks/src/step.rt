@@ -2,13 +2,11 @@
 
 ghost use Rattle.std.specs.Prelude.{◌≡◌};
 ghost use Rattle.cl_config.specs.Views.{Configured};
-ghost use Rattle.cl_tasks.specs.Stages.{IsStage, linking_at, loading_at, resolving_at, task_at};
+ghost use Rattle.cl_tasks.specs.Stages.{IsLinking, IsLoading, IsResolving, IsStage, linking_at, loading_at, resolving_at, task_at};
 ghost use Rattle.cl_tasks.specs.Steps.{Steps};
 ghost use Rattle.cl_tasks.specs.Turns.{Expects};
 
-use crate::link_replies::{
-    imposed as imposed_link, looked_prepared, marked, traced, traced_whole,
-};
+use crate::link_replies::{imposed as imposed_link, looked_prepared, marked, traced, traced_whole};
 use crate::load_replies::{begin, defined, initiated, looked, looked_home, probed};
 use crate::resolution_replies::{
     checked, imposed, looked_reference, settled, traced_named, traced_own,
@@ -82,33 +80,72 @@ pub(crate) fn step<T: Told>(
     ensures { Steps T.told (task_at config.now.value stage) reply result }
 {
     match stage {
-        Stage::Load(load) => match load {
-            Load::Fresh(job) => begin(alloc, job, reply),
-            Load::Looking(job) => looked(alloc, config, job, reply),
-            Load::Searching(job, search) => probed(alloc, job, search, reply),
-            Load::Homing(job, home) => looked_home(alloc, job, home, reply),
-            Load::Defining(job, whole) => defined(alloc, config, job, whole, reply),
-            Load::Initiating(job, home) => initiated(alloc, config, job, home, reply),
-        },
-        Stage::Resolve(resolution) => match resolution {
-            Resolution::Checking(failed) => checked(alloc, config, failed, reply),
-            Resolution::LookingReference(entry) => looked_reference(alloc, config, entry, reply),
-            Resolution::TracingOwn(entry, named) => traced_own(alloc, config, entry, named, reply),
-            Resolution::TracingNamed(entry, own, named) => {
-                traced_named(alloc, config, entry, own, named, reply)
-            }
-            Resolution::Imposing(member, place) => imposed(alloc, config, member, place, reply),
-            Resolution::Settling(entry) => settled(config, entry, reply),
-        },
-        Stage::Link(link) => match link {
-            Link::LookingPrepared(goal) => looked_prepared(alloc, config, goal, reply),
-            Link::TracingWhole(goal) => traced_whole(alloc, config, goal, reply),
-            Link::Tracing(chain) => traced(alloc, config, chain, reply),
-            Link::Imposing(chain, list, place) => {
-                imposed_link(alloc, config, chain, list, place, reply)
-            }
-            Link::Marking(chain, list) => marked(alloc, config, chain, list, reply),
-        },
+        Stage::Load(load) => step_of_load(alloc, config, load, reply),
+        Stage::Resolve(resolution) => step_of_resolution(alloc, config, resolution, reply),
+        Stage::Link(link) => step_of_link(alloc, config, link, reply),
         Stage::Done(_) => unreachable!(),
+    }
+}
+
+fn step_of_load<T: Told>(
+    alloc: Global,
+    config: &Arc<Config>,
+    load: Load<T>,
+    reply: Reply<T>,
+) -> Next<T>
+    requires kept { IsLoading T.told config.now.value load }
+    requires expects { Expects (loading_at config.now.value load) reply }
+    ensures { Steps T.told (loading_at config.now.value load) reply result }
+{
+    match load {
+        Load::Fresh(job) => begin(alloc, job, reply),
+        Load::Looking(job) => looked(alloc, config, job, reply),
+        Load::Searching(job, search) => probed(alloc, job, search, reply),
+        Load::Homing(job, home) => looked_home(alloc, job, home, reply),
+        Load::Defining(job, whole) => defined(alloc, config, job, whole, reply),
+        Load::Initiating(job, home) => initiated(alloc, config, job, home, reply),
+    }
+}
+
+fn step_of_resolution<T: Told>(
+    alloc: Global,
+    config: &Arc<Config>,
+    resolution: Resolution<T>,
+    reply: Reply<T>,
+) -> Next<T>
+    requires kept { IsResolving T.told config.now.value resolution }
+    requires expects { Expects (resolving_at config.now.value resolution) reply }
+    ensures { Steps T.told (resolving_at config.now.value resolution) reply result }
+{
+    match resolution {
+        Resolution::Checking(failed) => checked(alloc, config, failed, reply),
+        Resolution::LookingReference(entry) => looked_reference(alloc, config, entry, reply),
+        Resolution::TracingOwn(entry, named) => traced_own(alloc, config, entry, named, reply),
+        Resolution::TracingNamed(entry, own, named) => {
+            traced_named(alloc, config, entry, own, named, reply)
+        }
+        Resolution::Imposing(member, place) => imposed(alloc, config, member, place, reply),
+        Resolution::Settling(entry) => settled(config, entry, reply),
+    }
+}
+
+fn step_of_link<T: Told>(
+    alloc: Global,
+    config: &Arc<Config>,
+    link: Link<T>,
+    reply: Reply<T>,
+) -> Next<T>
+    requires kept { IsLinking config.now.value link }
+    requires expects { Expects (linking_at config.now.value link) reply }
+    ensures { Steps T.told (linking_at config.now.value link) reply result }
+{
+    match link {
+        Link::LookingPrepared(goal) => looked_prepared(alloc, config, goal, reply),
+        Link::TracingWhole(goal) => traced_whole(alloc, config, goal, reply),
+        Link::Tracing(chain) => traced(alloc, config, chain, reply),
+        Link::Imposing(chain, list, place) => {
+            imposed_link(alloc, config, chain, list, place, reply)
+        }
+        Link::Marking(chain, list) => marked(alloc, config, chain, list, reply),
     }
 }

@@ -6,8 +6,8 @@ ghost use Rattle.cl_tasks.specs.Follows.{BackedWhere, EndsRefused, FollowsWhere,
 ghost use Rattle.cl_tasks.specs.Tasks.{begun};
 ghost use Rattle.cl_tasks.specs.Turns.{AnswersOwn, Asks, Expects, ReadsUnrecorded, Serves};
 
-use crate::stage::{Job, Load, Stage};
 use crate::expected::expects;
+use crate::stage::{Job, Load, Stage};
 use crate::step::{number, step};
 use crate::turn::{Reply, Turn};
 use cl_config::Config;
@@ -114,7 +114,8 @@ impl<T: Told> Task<T> {
         let q = self.q();
         let stage = mem::replace(&mut self.stage, Stage::Done(q));
         let next = step(alloc, &self.config, stage, reply);
-        self.stage = next.stage;
+        // the `Done` that stood there owns nothing
+        mem::forget(mem::replace(&mut self.stage, next.stage));
         next.turn
     }
 }

@@ -110,7 +110,7 @@ cited_is x (requests.Resolve loader name i) d e kept cited =
 settle_next : (g : Setting) (x : Shown) (r : Request) (f : Answered) (e : Step) (s : Settled) → IsSettledNext g (state_of x) r f → f.request ≡ r → IsToSettle x f s → e ≡ Settle s.class s.index (verdict_of s.verdict) → May g (state_of x) e → IsNextStep g (state_of x) (request_of r) e
 settle_next g x r f e s n same to is may =
     let at = cited_is x r n.class (record { class = s.class; index = s.index }) n.kept (ap (cited_by x) (sym same) ∙ to.cited) in
-    let verdict : n.verdict ≡ s.verdict = said_is n.verdict s.verdict (sym n.said ∙ to.said) in
+    let verdict : n.verdict ≡ s.verdict = said_is n.verdict s.verdict (sym n.said ∙ to.says.said) in
     let here : Settle n.class (index_of r) (verdict_of n.verdict) ≡ e = step_is n.class s.class (index_of r) s.index n.verdict s.verdict at.0 at.1 verdict ∙ sym is in
     let unsettled = (subst (May g (state_of x)) (sym here) may).unsettled in
     subst (IsNextStep g (state_of x) (request_of r)) here (n.step unsettled)

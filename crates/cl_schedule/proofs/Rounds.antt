@@ -342,7 +342,7 @@ one_answer (y ∷ xs) (suc q) x a b at e = one_answer xs q x a b at (ap tail_of 
     tail_of (x ∷ xs) = xs
 
 -- the post of a request says what was known of it before
-says_known : (told : Option Content) {S : Type 0} (old x : Shown) (q : ℕ) (r : Request) (source later : S) → IsScript old.script → slice_get old.script.requests q ≡ Some r → IsOpen old q → (d : IsDone told old x q r) → TellsKnown old x q (request_of r) (state_of old) source later
+says_known : (told : Option Content) {S : Type 0} (old x : Shown) (q : ℕ) (r : Request) (source later : S) → IsScript old.script → slice_get old.script.requests q ≡ Some r → IsOpen old q → (d : IsDone told old x q r) → TellsKnown old x q r source later
     → SaysKnown (schedule_of old.script) (state_of old) (Post q (answer_of d.answer))
 says_known told old x q r source later is asked opened d tells = λ k v at has.
     let e = scheduled_at old.script.requests old.script.rounds_of q r is.each asked in
@@ -358,7 +358,7 @@ says_known told old x q r source later is asked opened d tells = λ k v at has.
     answer_is a b e = cc
 
 pub known_next : (told : Option Content) {S : Type 0} (old x new : Shown) (q : ℕ) (r : Request) (source later : S) → KnownBelow old → IsScript old.script → slice_get old.script.requests q ≡ Some r → IsOpen old q → IsDone told old x q r
-    → TellsKnown old x q (request_of r) (state_of old) source later → RoundsPassed x new → KnownBelow new
+    → TellsKnown old x q r source later → RoundsPassed x new → KnownBelow new
 known_next told old x new q r source later k is asked opened d tells p =
     let script = schedule_of old.script in
     let piece = known_piece script start (steps old) d.made q (answer_of d.answer) k d.quiet (says_known told old x q r source later is asked opened d tells) in

@@ -23,19 +23,9 @@ use Rattle.cl_tasks.specs.declared.turn.Reply.TheVariants as reply
 use Rattle.cl_tasks.specs.declared.turn.Turn.{Turn}
 use Rattle.cl_tasks.specs.declared.turn.Turn.TheVariants as turn
 use Rattle.cl_schedule.specs.Known.{Has, IsToldAtOnce, SaysOrLacks, TellsKnown}
-use Rattle.cl_schedule.specs.Replies.{Did, IsReplied, IsStepOf}
+use Rattle.cl_schedule.specs.Replies.{Did, IsCall, IsRead, IsReplied, IsStepOf}
 
 -- ---- turns
-
--- a turn that asks for a call
-abbrev pub IsCall : {A : Type 0} → Turn A → Type 0
-IsCall (turn.Post f) = ⊥
-IsCall other = Unit {0}
-
--- a turn that asks for a read
-abbrev pub IsRead : {A : Type 0} → Turn A → Type 0
-IsRead (turn.Read l n) = Unit {0}
-IsRead other = ⊥
 
 no_post_or : {A : Type 0} (a : rust.Answer) (u : Turn A) → PostsOr a u → IsCall u → ⊥
 no_post_or a (turn.Look l n) p call = p
@@ -337,7 +327,7 @@ post_says s r v t new reply.Memory f at q own refused = inr (ap answer_of refuse
 post_says s r v t new (reply.SourceFault k) f at q own refused = absurd at
 
 pub known_post : {A S : Type 0} (old x y : Shown) (q : ℕ) (r : Request) (t new : Tasked) (told : Reply A) (f : Answered) (source since : S) → Known old x r t told source since → t.request ≡ Some r → AnswersOwn {A = A} t new told (turn.Post f) → Refuses {A = A} (refusal t told) (turn.Post f)
-    → y ≡ with_post x q f.answer → TellsKnown old y q (request_of r) (state_of old) source since
+    → y ≡ with_post x q f.answer → TellsKnown old y q r source since
 known_post old x y q r t new told f source since known request own refused posted = λ v has.
     let k = known v has in
     record {
@@ -348,5 +338,5 @@ known_post old x y q r t new told f source since known request own refused poste
     }
 
 -- memory ran out before the first turn
-pub known_memory : {S : Type 0} (old new : Shown) (q : ℕ) (r : Request) (a : rust.Answer) (source : S) → a ≡ rust.TheVariants.Memory → new ≡ with_post old q a → TellsKnown old new q (request_of r) (state_of old) source source
+pub known_memory : {S : Type 0} (old new : Shown) (q : ℕ) (r : Request) (a : rust.Answer) (source : S) → a ≡ rust.TheVariants.Memory → new ≡ with_post old q a → TellsKnown old new q r source source
 known_memory old new q r a source is posted = λ v has. record { answer = a; is = inr (ap answer_of is); posted = posted; unread = refl }

@@ -19,12 +19,12 @@ use Rattle.cl_tasks.specs.declared.turn.Reply.TheVariants as reply
 use Rattle.cl_tasks.specs.declared.turn.Turn.{Turn}
 use Rattle.cl_tasks.specs.declared.turn.Turn.TheVariants as turn
 use Rattle.cl_schedule.specs.Counting.{Grows, told_faults}
-use Rattle.cl_schedule.specs.Replies.{Did, IsReplied, IsStepOf, Shows}
+use Rattle.cl_schedule.specs.Replies.{CallSays, Did, IsCall, IsReplied, IsStepOf, Shows}
 use Rattle.cl_schedule.specs.Serving.{machine}
 use Rattle.cl_schedule.proofs.Counted.{grows_none, grows_on, told_none}
 use Rattle.cl_schedule.proofs.Next.{next_of, step_of_call}
 use Rattle.cl_schedule.proofs.Served.{Going, going_did, going_start}
-use Rattle.cl_schedule.proofs.Stations.{IsCall, IsRead, Known, known_on, known_start}
+use Rattle.cl_schedule.proofs.Stations.{Known, known_on, known_start}
 use Rattle.cl_schedule.proofs.Told.{holds_stays}
 
 -- what a turn says of itself
@@ -37,15 +37,6 @@ pub record TurnSays {A : Type 0} (told : Option Content) (t new : Tasked) (given
   pub next : IfSome t.request (λ r. FollowsWhere told t.config (λ x. Tells x t given) r u)
   pub refused : Refuses (refusal t given) u
   pub own : AnswersOwn t new given u
-
--- what one call did, and what it was answered
-pub record CallSays {A S : Type 0} (told : Option Content) (x new : Shown) (u : Turn A) (given : Reply A) (count later : ℕ) (since source : S) : Type 0 where
-  pub call : IsCall u
-  pub replied : IsReplied new (call_of u) given
-  pub did : Did x new (IsStepOf x u)
-  pub kept : IsKept told new
-  pub faults : Grows (told_faults given) count later
-  pub unread : (IsRead u → ⊥) → source ≡ since
 
 -- what holds before each turn of a request
 pub record Turning {A S : Type 0} (told : Option Content) (old now : Shown) (c : Configured) (r : Request) (t : Tasked) (given : Reply A) (count since : ℕ) (source later : S) : Type 0 where

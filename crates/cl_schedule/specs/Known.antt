@@ -2,13 +2,14 @@
 use Rattle.std.specs.Prelude.{◌≡◌, ◌⊎◌, ℕ, List, ◌∷◌, ◌++◌, Some, Contains, slice_get}
 use Rattle.cl_model.specs.declared.answer.Answer as rust
 use Rattle.cl_model.specs.declared.class.Class.{Class}
+use Rattle.cl_model.specs.declared.request.Request as requests
 use Rattle.cl_model.specs.States.{State, start, Verdict, IsClass, IsLinked, Answer, Said, OutOfMemory, settled_to}
 use Rattle.cl_model.specs.Plans.{Request, Load, Resolve, Link}
 use Rattle.cl_model.specs.Machine.{Scheduled, Step, Post, state_after}
 use Rattle.cl_model.specs.Tables.{Records}
-use Rattle.cl_model.specs.Views.{answer_of}
+use Rattle.cl_model.specs.Views.{answer_of, request_of}
 use Rattle.cl_config.specs.Loaders.{schedule_of}
-use Rattle.cl_registry.specs.Tables.{Shown, steps, with_post}
+use Rattle.cl_registry.specs.Tables.{Shown, state_of, steps, with_post}
 
 -- the tables have a request's verdict: its class is recorded, its reference is settled, its class is prepared (5.3, 5.4.2, 5.4.3)
 abbrev pub Has : State → Request → Verdict → Type 0
@@ -28,8 +29,9 @@ pub record IsToldAtOnce {S : Type 0} (old new : Shown) (q : ℕ) (v : Verdict) (
   pub unread : later ≡ source
 
 -- where the tables have a request's verdict it is answered so at once (5.3, 5.4.2, 5.4.3)
-abbrev pub TellsKnown : {S : Type 0} → Shown → Shown → ℕ → Request → State → S → S → Type 0
-TellsKnown old new q r s source later = (v : Verdict) → Has s r v → IsToldAtOnce old new q v source later
+abbrev pub TellsKnown : {S : Type 0} → Shown → Shown → ℕ → requests.Request → S → S → Type 0
+TellsKnown old new q r source later =
+    (v : Verdict) → Has (state_of old) (request_of r) v → IsToldAtOnce old new q v source later
 
 -- where the tables have a request's verdict when another one is posted, the request is answered so after that, or want of
 -- memory, under any source (5.3, 5.4.2, 5.4.3)

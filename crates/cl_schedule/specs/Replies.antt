@@ -5,20 +5,34 @@ use Rattle.cl_model.specs.declared.settled.Settled.{Settled}
 use Rattle.cl_model.specs.States.{recorded, settled_to}
 use Rattle.cl_model.specs.Machine.{Step, Define, Initiate, Settle, Prepare, step_for}
 use Rattle.cl_model.specs.Views.{verdict_of}
+use Rattle.cl_delegation.specs.Searches.{Located}
 use Rattle.cl_findings.specs.Findings.{Answered}
+use Rattle.cl_hierarchy.specs.Drafts.{Drafted}
 use Rattle.cl_hierarchy.specs.Imposed.{Listed, Sprung, OfReference, OfPreparation, equal_need}
 use Rattle.cl_registry.specs.declared.registry.RegistryFault.{RegistryFault}
 use Rattle.cl_registry.specs.declared.registry.RegistryFault.TheVariants as faults
 use Rattle.cl_registry.specs.Settling.{IsToSettle}
-use Rattle.cl_registry.specs.Tables.{Shown, records_of, state_of}
+use Rattle.cl_registry.specs.Tables.{Shown, IsKept, records_of, state_of}
 use Rattle.cl_tasks.specs.Waits.{Waits, Looking, LookingReference, LookingPrepared}
-use Rattle.cl_tasks.specs.Turns.{IsReplyTo}
+use Rattle.cl_tasks.specs.Turns.{IsReplyTo, call_of}
 use Rattle.cl_tasks.specs.Follows.{TellsOf}
 use Rattle.cl_tasks.specs.declared.turn.Reply.{Reply}
 use Rattle.cl_tasks.specs.declared.turn.Reply.TheVariants as reply
 use Rattle.cl_tasks.specs.declared.turn.Turn.{Turn}
 use Rattle.cl_tasks.specs.declared.turn.Turn.TheVariants as turn
+use Rattle.cl_model.specs.Content.{Content}
+use Rattle.cl_schedule.specs.Counting.{Grows, told_faults}
 use Rattle.cl_schedule.specs.Serving.{GoesBy}
+
+-- a turn that asks for a call, and not for the post
+abbrev pub IsCall : {A : Type 0} → Turn A → Type 0
+IsCall (turn.Post f) = ⊥
+IsCall other = Unit {0}
+
+-- a turn that asks for a read (5.3.2)
+abbrev pub IsRead : {A : Type 0} → Turn A → Type 0
+IsRead (turn.Read l n) = Unit {0}
+IsRead other = ⊥
 
 -- a look finds nothing only where nothing is recorded, settled or prepared, and memory is wanting only where something is to be
 -- shared (5.3, 5.4.2, 5.4.3)
@@ -50,10 +64,18 @@ SettlesBy x f e = (s : Settled) × IsToSettle x f s × (e ≡ Settle s.class s.i
 abbrev pub ImposesBy : Listed → ℕ → Step → Type 0
 ImposesBy l k e = (n : Equality) × (slice_get l.needs k ≡ Some n) × (e ≡ step_for (equal_need n))
 
+-- a class is recorded by this step (5.3.5, step 5)
+abbrev pub DefinesBy : Drafted → Step → Type 0
+DefinesBy d e = e ≡ Define d.class
+
+-- a loader that was asked is recorded by this step (5.3)
+abbrev pub InitiatesBy : Located → Step → Type 0
+InitiatesBy h e = e ≡ Initiate h.name h.place h.asked
+
 -- the step that a call may add (5.3 to 5.4.3)
 abbrev pub IsStepOf : {A : Type 0} → Shown → Turn A → Step → Type 0
-IsStepOf x (turn.Define d) e = e ≡ Define d.class
-IsStepOf x (turn.Initiate h) e = e ≡ Initiate h.value.name h.value.place h.value.asked
+IsStepOf x (turn.Define d) e = DefinesBy d e
+IsStepOf x (turn.Initiate h) e = InitiatesBy h.value e
 IsStepOf x (turn.Settle f) e = SettlesBy x f e
 IsStepOf x (turn.Impose l k) e = ImposesBy l.value k e
 IsStepOf x (turn.Mark l) e = PreparesBy l.value.origin e
@@ -73,3 +95,12 @@ IsTold other = ⊥
 abbrev pub refusal_of : {A : Type 0} → RegistryFault → Reply A
 refusal_of (faults.Violates n) = reply.Refused n
 refusal_of other = reply.Memory
+
+-- a call was made: what it did, and what the task is told of it; a source is read by a read alone (5.3 to 5.4.3)
+pub record CallSays {A S : Type 0} (told : Option Content) (x new : Shown) (u : Turn A) (given : Reply A) (count later : ℕ) (since source : S) : Type 0 where
+  pub call : IsCall u
+  pub replied : IsReplied new (call_of u) given
+  pub did : Did x new (IsStepOf x u)
+  pub kept : IsKept told new
+  pub faults : Grows (told_faults given) count later
+  pub unread : (IsRead u → ⊥) → source ≡ since

@@ -1,16 +1,15 @@
 ghost use Rattle.std.specs.Prelude.{◌≡◌, ◌<◌, IfOk, IfErr, length, slice_get};
-ghost use Rattle.cl_model.specs.Views.{request_of};
 ghost use Rattle.cl_config.specs.Scripts.{HasLoaders};
 ghost use Rattle.cl_findings.specs.Findings.{loader_of};
 ghost use Rattle.cl_registry.specs.Posting.{IsBacked};
-ghost use Rattle.cl_registry.specs.Tables.{IsAsked, IsKept, IsLater, IsOpen, state_of, with_post};
+ghost use Rattle.cl_registry.specs.Tables.{IsAsked, IsKept, IsLater, IsOpen, with_post};
 ghost use Rattle.cl_schedule.specs.Counting.{CountsFaults, FaultsGrow};
 ghost use Rattle.cl_schedule.specs.Headline.{IsServedInOrder};
 ghost use Rattle.cl_schedule.specs.Known.{TellsKnown};
 ghost use Rattle.cl_schedule.specs.Rounds.{RoundsPassed};
 ghost use Rattle.cl_schedule.specs.Serving.{IsDone};
 
-use crate::replies::{define, impose, initiate, lineage, look, look_prepared, look_reference, mark, read, settle};
+use crate::replies::reply_to;
 use cl_config::{Config, Script};
 use cl_findings::Finding;
 use cl_model::{Request, Told};
@@ -100,8 +99,9 @@ fn serve_request<T: Told, S: Source<T>>(
     requires open { IsOpen registry.old q }
     requires kept { IsKept T.told registry.old }
     ensures done { IsDone T.told registry.old registry.new q request }
-    ensures known { TellsKnown registry.old registry.new q (request_of request) (state_of registry.old) source.old source.new }
-    ensures faults { FaultsGrow registry.old.answers registry.new.answers (S.refused source.old) (S.refused source.new) }
+    ensures known { TellsKnown registry.old registry.new q request source.old source.new }
+    ensures faults { FaultsGrow registry.old.answers registry.new.answers
+        (S.refused source.old) (S.refused source.new) }
     ensures kept { IsKept T.told registry.new }
 {
     let mut task = match Task::<T>::new(alloc, config, q, request) {
@@ -114,40 +114,11 @@ fn serve_request<T: Told, S: Source<T>>(
     let mut reply = Reply::Start;
     loop {
         match task.turn(alloc, reply) {
-            Turn::Look(loader, name) => {
-                reply = look(registry, loader, &name);
-            }
-            Turn::Read(loader, name) => {
-                reply = read(alloc, source, loader, &name);
-            }
-            Turn::Define(draft) => {
-                reply = define(alloc, registry, draft);
-            }
-            Turn::Initiate(home) => {
-                reply = initiate(alloc, registry, home);
-            }
-            Turn::Lineage(class) => {
-                reply = lineage(alloc, registry, &class);
-            }
-            Turn::LookReference(class, index) => {
-                reply = look_reference(registry, &class, index);
-            }
-            Turn::Settle(finding) => {
-                reply = settle(alloc, registry, finding);
-            }
-            Turn::Impose(list, place) => {
-                reply = impose(alloc, registry, list, place);
-            }
-            Turn::LookPrepared(class) => {
-                reply = look_prepared(registry, &class);
-            }
-            Turn::Mark(list) => {
-                reply = mark(alloc, registry, list);
-            }
             Turn::Post(finding) => {
                 post(registry, q, finding);
                 return;
             }
+            call => reply = reply_to(alloc, registry, source, call),
         }
     }
 }
@@ -178,7 +149,8 @@ pub fn serve_one<T: Told, S: Source<T>>(
 ) -> Result<Report, ServeFault>
     requires { HasLoaders (length config.value.loaders) script.value.requests }
     ensures served { IfOk result (IsServedInOrder T.told config.value script.value) }
-    ensures source_faults { IfOk result (λ r. CountsFaults r (S.refused source.old) (S.refused source.new)) }
+    ensures source_faults { IfOk result (λ r. CountsFaults r (S.refused source.old)
+        (S.refused source.new)) }
     ensures no_stray { IfErr result (λ e. e ≡ ServeFault.Memory) }
 {
     let held = Arc::try_clone(&config)?;

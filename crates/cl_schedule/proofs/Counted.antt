@@ -16,7 +16,8 @@ use Rattle.cl_tasks.specs.declared.turn.Turn.{Turn}
 use Rattle.cl_tasks.specs.Follows.{NoFault, Refuses, fault_answer, refusal}
 use Rattle.cl_tasks.specs.Turns.{Expects, IsReplyTo}
 use Rattle.cl_tasks.specs.Waits.{Waits, Beginning, Looking, Reading, Defining, Initiating, Tracing, LookingReference, Settling, Imposing, LookingPrepared, Marking, Ended}
-use Rattle.cl_schedule.proofs.Stations.{IsCall, no_posts}
+use Rattle.cl_schedule.proofs.Stations.{no_posts}
+use Rattle.cl_schedule.specs.Replies.{IsCall}
 use Rattle.cl_schedule.specs.Counting.{fault, faults, told_faults, RoseBy, Grows, FaultsGrow}
 
 pub grows_none : (old : ℕ) → Grows 0 old old

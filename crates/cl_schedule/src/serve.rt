@@ -3,8 +3,10 @@ ghost use Rattle.cl_config.specs.Scripts.{HasLoaders};
 ghost use Rattle.cl_findings.specs.Findings.{loader_of};
 ghost use Rattle.cl_registry.specs.Posting.{IsBacked};
 ghost use Rattle.cl_registry.specs.Tables.{IsAsked, IsKept, IsLater, IsOpen, with_post};
+ghost use Rattle.cl_tasks.specs.declared.turn.Turn.TheVariants as turns;
 ghost use Rattle.cl_schedule.specs.Counting.{CountsFaults, FaultsGrow};
 ghost use Rattle.cl_schedule.specs.Headline.{IsServedInOrder};
+ghost use Rattle.cl_schedule.specs.Replies.{IsCall};
 ghost use Rattle.cl_schedule.specs.Known.{TellsKnown};
 ghost use Rattle.cl_schedule.specs.Rounds.{RoundsPassed};
 ghost use Rattle.cl_schedule.specs.Serving.{IsDone};
@@ -83,6 +85,17 @@ fn pass_rounds<T: Told>(registry: &mut Registry<T>)
     }
 }
 
+/// The answer that a turn asks to be posted, or else the turn, which asks for a call.
+fn answer_of<T: Told>(turn: Turn<T>) -> Result<Finding<T>, Turn<T>>
+    ensures post { IfOk result (λ f. turn ≡ Turn.Post f) }
+    ensures call { IfErr result (λ call. (turn ≡ call) × IsCall call) }
+{
+    match turn {
+        Turn::Post(finding) => Ok(finding),
+        call => Err(call),
+    }
+}
+
 /// Serves one request, from its first turn to its post (JVMS SE 8, 5.3 to 5.4.3).
 fn serve_request<T: Told, S: Source<T>>(
     alloc: Global,
@@ -113,12 +126,13 @@ fn serve_request<T: Told, S: Source<T>>(
     };
     let mut reply = Reply::Start;
     loop {
-        match task.turn(alloc, reply) {
-            Turn::Post(finding) => {
+        match answer_of(task.turn(alloc, reply)) {
+            Ok(finding) => {
                 post(registry, q, finding);
+                drop(task);
                 return;
             }
-            call => reply = reply_to(alloc, registry, source, call),
+            Err(call) => reply = reply_to(alloc, registry, source, call),
         }
     }
 }

@@ -64,11 +64,7 @@ fn refused<T: Told>(fault: RegistryFault) -> Reply<T>
 }
 
 /// The reply of a definition that the tables bear (JVMS SE 8, 5.3.5).
-fn define<T: Told>(
-    alloc: Global,
-    registry: &mut Registry<T>,
-    draft: Draft<T>,
-) -> Reply<T>
+fn define<T: Told>(alloc: Global, registry: &mut Registry<T>, draft: Draft<T>) -> Reply<T>
     requires { MayEnter registry.old draft }
     ensures replied { IsReplied registry.new (Defining draft) result }
     ensures did { Did registry.old registry.new (DefinesBy draft) }
@@ -82,11 +78,7 @@ fn define<T: Told>(
 }
 
 /// The reply of a record of an initiating loader that the tables bear (JVMS SE 8, 5.3).
-fn initiate<T: Told>(
-    alloc: Global,
-    registry: &mut Registry<T>,
-    home: Arc<Home<T>>,
-) -> Reply<T>
+fn initiate<T: Told>(alloc: Global, registry: &mut Registry<T>, home: Arc<Home<T>>) -> Reply<T>
     requires { MayJoin registry.old home.value }
     ensures replied { IsReplied registry.new (Initiating home.value) result }
     ensures did { Did registry.old registry.new (InitiatesBy home.value) }
@@ -126,11 +118,7 @@ fn look_reference<T: Told>(registry: &Registry<T>, class: &Class, index: u16) ->
 }
 
 /// The reply of a settlement that the tables bear (JVMS SE 8, 5.4.3).
-fn settle<T: Told>(
-    alloc: Global,
-    registry: &mut Registry<T>,
-    finding: Finding<T>,
-) -> Reply<T>
+fn settle<T: Told>(alloc: Global, registry: &mut Registry<T>, finding: Finding<T>) -> Reply<T>
     requires { MaySettle registry.old finding }
     ensures replied { IsReplied registry.new (Settling finding.request) result }
     ensures did { Did registry.old registry.new (SettlesBy registry.old finding) }
@@ -173,11 +161,7 @@ fn look_prepared<T: Told>(registry: &Registry<T>, class: &Class) -> Reply<T>
 }
 
 /// The reply of a preparation that the tables bear (JVMS SE 8, 5.4.2).
-fn mark<T: Told>(
-    alloc: Global,
-    registry: &mut Registry<T>,
-    list: Arc<Equalities<T>>,
-) -> Reply<T>
+fn mark<T: Told>(alloc: Global, registry: &mut Registry<T>, list: Arc<Equalities<T>>) -> Reply<T>
     requires { MayMark registry.old list.value }
     ensures replied { IsReplied registry.new (Marking list.value) result }
     ensures did { Did registry.old registry.new (PreparesBy list.value.origin) }

@@ -44,12 +44,10 @@ def assembled(lines):
             pool.append(tuple(words[1:]))
 
     def want(*entry):
+        """Appends an entry behind what it wants, each where no equal one stands."""
+        for text in entry[1:] if entry[0] in ("class", "pair") else ():
+            want("utf8", text)
         if entry not in pool:
-            if entry[0] == "class":
-                want("utf8", entry[1])
-            if entry[0] == "pair":
-                want("utf8", entry[1])
-                want("utf8", entry[2])
             pool.append(entry)
 
     for entry in list(pool):

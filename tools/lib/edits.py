@@ -33,6 +33,8 @@ class Edit:
     turns: str = ""
     functions: set = field(default_factory=set)  # the prover's names of those that have to be refused, once found
     spans: dict = field(default_factory=dict)  # where their code stands: the name to (path, first line, last line)
+    changed: set = field(default_factory=set)  # the definitions that it changes, where it is told which functions can reach them
+    below: set = field(default_factory=set)  # what those that have to be refused can rest on
 
     def __str__(self):
         return f"{self.crate.name}/{self.folder}/{self.name}"
@@ -56,9 +58,16 @@ class Edit:
             self.functions.add(names[0])
             self.spans[names[0]] = (it.path, it.first_line, it.last_line)
 
+    def find_reach(self, reach):
+        """Finds which definitions it changes, and what the functions that have to be refused can rest on."""
+        changed, starts = reach.changed(self.lines), {reach.function(it) for it in self.refuses}
+        if changed and None not in starts:
+            self.changed = changed
+            self.below = set().union(*(reach.all_below(it, self.lines) for it in starts))
+
     def is_alone(self):
-        """Whether it changes what other functions mean, so that it is tried by itself."""
-        return bool(self.refuses)
+        """Whether it changes what other functions mean, and it is not told which, so that it is tried by itself."""
+        return bool(self.refuses) and not self.changed
 
 
 def read(crate, folder, name):
@@ -120,8 +129,11 @@ def together(edits):
 
 
 def are_apart(a, b):
-    """Whether two edits can be told from one check: of other functions, and of other lines."""
-    return not (a.is_alone() or b.is_alone() or a.functions & b.functions or a.lines.keys() & b.lines.keys())
+    """Whether two edits can be told from one check: of other functions, and of other lines; of definitions, none that the other's
+    functions can reach."""
+    if a.is_alone() or b.is_alone() or bool(a.refuses) != bool(b.refuses):
+        return False
+    return not (a.functions & b.functions or a.lines.keys() & b.lines.keys() or a.below & b.changed or b.below & a.changed)
 
 
 def grouped(edits):

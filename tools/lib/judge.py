@@ -7,13 +7,16 @@ import time
 from dataclasses import dataclass
 
 from costs import Watch
+from kit import guard
 
 LAST = re.compile(r"^(\d+) passed, (\d+) failed$", re.M)
 SECTION = re.compile(r"^== (.*)\n", re.M)
+PROVED = re.compile(r"rt: (\w+) proved\n")
+NOT_PROVED = re.compile(r"rt: \w+(?:: its tests are)? NOT PROVED")
 MOST_REASONS = 6
 # The lines of a crate's log that say why it is not proved.
 REASON = re.compile(
-    r"^(?:\./)?\S+\.(?:rt|antt):\d+:\d+: error.*$|^fn \S+: (?:not proved|no proof).*$|^rt: (?!chose|note).*$|^rattle: .*$", re.M
+    r"^(?:\./)?\S+\.(?:rt|antt):\d+:\d+: error.*$|^fn \S+: (?:not proved|no proof).*$|^rt: (?!chose|note|\w+ proved$|.* NOT PROVED$).*$|^rattle: .*$", re.M
 )
 
 
@@ -34,21 +37,32 @@ def clear(crates):
         shutil.rmtree(f"{crate.folder}/out/rlib", ignore_errors=True)
 
 
-def run(root, crates, file):
-    """Runs rt ci with its output in the file, and shows it in short form as it goes."""
+def run(root, crates, file, when_proved=lambda crate, log: None, when_refused=lambda: None):
+    """Runs rt ci with its output in the file, and shows it in short form as it goes. Of each crate that is proved, and whose library
+    then stands, when_proved is told, with the log so far; where a proof fails when_refused is called. rt ci ends with this process."""
     clear(crates)
-    begun, lines = time.time(), []
+    begun, lines, named = time.time(), [], {it.name: it for it in crates}
     how = {"cwd": root, "stdin": subprocess.DEVNULL, "stdout": subprocess.PIPE, "stderr": subprocess.STDOUT}
-    ran = subprocess.Popen(["rt", "ci"], text=True, errors="replace", **how)
-    watch = Watch(ran.pid)
-    with open(file, "w", encoding="utf-8") as log:
-        for line in ran.stdout:
-            log.write(line)
-            lines.append(line)
-            if line.startswith("rt: ") and not line.startswith(("rt: chose", "rt: note")):
-                print(f"{(time.time() - begun) / 60:5.1f} min  {line[4:].rstrip()[:150]}", flush=True)
-    _, status, usage = os.wait4(ran.pid, 0)
-    ran.returncode = os.waitstatus_to_exitcode(status)
+    ran = subprocess.Popen([*guard(), "rt", "ci"], text=True, errors="replace", **how)
+    try:
+        watch = Watch(ran.pid)
+        with open(file, "w", encoding="utf-8") as log:
+            for line in ran.stdout:
+                log.write(line)
+                lines.append(line)
+                if line.startswith("rt: ") and not line.startswith(("rt: chose", "rt: note")):
+                    print(f"{(time.time() - begun) / 60:5.1f} min  {line[4:].rstrip()[:150]}", flush=True)
+                proved = PROVED.fullmatch(line)
+                if proved and proved[1] in named:
+                    when_proved(named[proved[1]], "".join(lines))
+                elif NOT_PROVED.match(line):
+                    when_refused()
+        _, status, usage = os.wait4(ran.pid, 0)
+        ran.returncode = os.waitstatus_to_exitcode(status)
+    finally:
+        if ran.returncode is None:
+            ran.kill()
+            ran.wait()
     text = "".join(lines)
     last = [*LAST.finditer(text)]
     passed, number = (int(last[-1][1]), int(last[-1][2])) if last else (0, 1)

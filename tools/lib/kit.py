@@ -5,6 +5,7 @@ the tools touches the kit: after a new kit this file and `tools/wrong-bodies --s
 """
 import importlib.machinery
 import importlib.util
+import itertools
 import os
 import re
 import resource
@@ -14,6 +15,8 @@ import subprocess
 import sys
 import tempfile
 import threading
+import time
+from contextlib import contextmanager
 from dataclasses import dataclass, field
 
 sys.dont_write_bytecode = True
@@ -37,10 +40,19 @@ GOAL = re.compile(r"^note: (src/[^:]*):(\d+):\d+: (it is not proved .*)$", re.M)
 # What a check refuses in a proof file, and how it says that a name of that file stands for nothing.
 REFUSED = re.compile(r"^(?:\./)?proofs/([^:]*):\d+:\d+: error: (.*)$", re.M)
 NO_NAME = re.compile(r"has no field|is not in scope|has no `|was not admitted")
-# What a check may take: more lanes than memory has room for are not opened.
+# What a check may take, as long as nothing is known of its crate.
 MOST_BYTES = 4_500_000_000
+# What is to stay free when a check begins, for other work that grows, and what has to stay free while it runs.
+SPARE_BYTES = 2_000_000_000
+LEAST_BYTES = 1_000_000_000
+# So often memory is looked at while a check waits or runs, in seconds.
+BLINK = 1.0
 # A clock that runs this many times longer than the processor may work stops a check that waits for ever.
-PATIENCE = 8
+PATIENCE = 5
+
+
+class Ended(Exception):
+    """A check was asked for after its lanes were closed."""
 
 
 @dataclass
@@ -69,8 +81,9 @@ def crates(root):
 
 
 def guard():
-    """Has all that is started later end with this process. Only the main thread may call it first."""
-    rtlib.guarded()
+    """The words that go before a command which is to end, with all that it starts, when this process does. Only the main thread may
+    ask first."""
+    return rtlib.guarded()
 
 
 def lock(crates):
@@ -90,9 +103,105 @@ def build_libraries(crate, is_after_ci):
 
 
 def lanes():
-    """How many checks may run side by side: as many as RT_JOBS says, as for rt ci, else one a core, and as many as free memory holds."""
+    """How many checks may run side by side: as many as RT_JOBS says, as for rt ci, else one a core."""
     number = os.environ.get("RT_JOBS", "")
-    return int(number) if number.isdigit() and int(number) else max(1, min(rt.processors(), int(rt.free() // MOST_BYTES)))
+    return int(number) if number.isdigit() and int(number) else max(1, rt.processors())
+
+
+@dataclass
+class Lane:
+    """A lane that a check has, and the process that runs in it, once it does."""
+
+    needs: int  # bytes
+    gently: bool
+    process: object = None
+    is_ended: bool = False  # to make room
+
+    def grows(self):
+        """How many of its bytes it has not taken yet."""
+        try:
+            with open(f"/proc/{self.process.pid if self.process else 0}/statm", encoding="ascii") as file:
+                return max(0, self.needs - int(file.read().split()[1]) * os.sysconf("SC_PAGE_SIZE"))
+        except OSError:
+            return self.needs
+
+    def kill(self):
+        # (not by Popen's own way, which takes the status that run_limited waits for)
+        try:
+            os.kill(self.process.pid, signal.SIGKILL)
+        except (AttributeError, ProcessLookupError):
+            pass
+
+
+class Lanes:
+    """Lets so many checks run at a time, as far as memory has room for them, those with most behind them first.
+
+    Gentle ones, beside rt ci, which plans with all the memory that was free when it began, give way: they have the lowest priority,
+    and where memory runs short the youngest is ended, to be tried again. Once the lanes are closed, checks that run are ended and
+    no other begins."""
+
+    def __init__(self, most, is_gentle=False):
+        self.most, self.is_gentle, self.is_closed = most, is_gentle, False
+        self.taken, self.waiting, self.changed, self.numbers = [], [], threading.Condition(), itertools.count()
+        if most > 1 or is_gentle:
+            threading.Thread(target=self.keep_room, daemon=True).start()
+
+    def widen(self):
+        """Ends the time of gentle checks: those that run go on."""
+        with self.changed:
+            self.is_gentle = False
+            self.changed.notify_all()
+
+    def close(self):
+        with self.changed:
+            self.is_closed = True
+            self.changed.notify_all()
+            for it in self.taken:
+                it.kill()
+
+    def keep_room(self):
+        """Ends the youngest check where memory runs short; the last one only beside rt ci."""
+        while not self.is_closed:
+            time.sleep(BLINK)
+            with self.changed:
+                living = [it for it in self.taken if it.process and not it.is_ended]
+                if len(living) > (0 if self.is_gentle else 1) and rt.free() < LEAST_BYTES:
+                    living[-1].is_ended = True
+                    living[-1].kill()
+
+    def has_room(self, needs):
+        if len(self.taken) >= self.most:
+            return False
+        if not self.taken and not self.is_gentle:
+            return True
+        return needs + SPARE_BYTES + sum(it.grows() for it in self.taken) <= rt.free()
+
+    @contextmanager
+    def lane(self, needs, behind):
+        """A lane for a check that needs so many bytes, once one is free and no other check with more behind it waits."""
+        with self.changed:
+            turn = (-behind, next(self.numbers))
+            self.waiting.append(turn)
+            while not self.is_closed and not (turn == min(self.waiting) and self.has_room(needs)):
+                self.changed.wait(BLINK)
+            self.waiting.remove(turn)
+            lane = Lane(needs, self.is_gentle)
+            self.taken.append(lane)
+            self.changed.notify_all()
+        try:
+            yield lane
+        finally:
+            with self.changed:
+                self.taken.remove(lane)
+                self.changed.notify_all()
+
+    def start(self, lane, words, **how):
+        """Starts the command in the lane, or raises Ended once the lanes are closed."""
+        with self.changed:
+            if self.is_closed:
+                raise Ended
+            lane.process = subprocess.Popen([*(["nice", "-n", "19"] if lane.gently else []), *words], **how)
+            return lane.process
 
 
 @dataclass
@@ -138,9 +247,21 @@ class Checked:
         return f"{'NOT TOLD: the check did not run' if found.startswith('rattle:') else 'BAD EDIT: it does not compile'}: {found.strip()}"
 
 
-def check(crate, texts, functions=(), kept=None, limit=3600, is_whole=False):
+@dataclass
+class Asked:
+    """How a check is to run: over which kept work, for how many seconds of processor at the most, in which lanes, with how many bytes,
+    and before those checks that have less behind them."""
+
+    kept: str
+    limit: float = 3600
+    lanes: object = None
+    needs: int = MOST_BYTES
+    behind: int = 0
+
+
+def check(crate, texts, asked, functions=(), is_whole=False):
     """Checks a copy of the crate with these texts in place of its own: the named functions, or all, going on past those refused
-    unless is_whole. The check is ended after so many seconds of processor."""
+    unless is_whole."""
     flags = ["--jobs", "1", *([] if is_whole else ["--allow-holes"])]
     for it in sorted(functions):
         flags += ["--only", it.partition("::")[2]]
@@ -151,25 +272,50 @@ def check(crate, texts, functions=(), kept=None, limit=3600, is_whole=False):
         for path, text in texts.items():
             with open(f"{room}/{path}", "w", encoding="utf-8") as it:
                 it.write(text)
-        words = [rtlib.RATTLE, "check", *crate.of_kit.words(flags, keeps=False)]
-        words += ["--incremental", kept] if kept else []
-        status, usage, is_late = run_limited([*rtlib.guarded(), *words], room, said, limit)
+        words = [*rtlib.guarded(), rtlib.RATTLE, "check", *crate.of_kit.words(flags, keeps=False), "--incremental", asked.kept]
+        status, usage, is_late = run_limited(words, room, said, asked)
         said.seek(0)
         text = said.read().decode(errors="replace")
     seconds = usage.ru_utime + usage.ru_stime
     return Checked(status, text, seconds, usage.ru_maxrss * 1024, is_late, {*texts})
 
 
-def run_limited(words, folder, said, limit):
-    """Runs the command and returns its status, what it used, and whether it was ended for its time."""
-    ran = subprocess.Popen(words, cwd=folder, stdin=subprocess.DEVNULL, stdout=said, stderr=subprocess.STDOUT)
-    resource.prlimit(ran.pid, resource.RLIMIT_CPU, (int(limit), int(limit) + 5))
-    rung = threading.Event()
-    clock = threading.Timer(PATIENCE * limit, lambda: (rung.set(), ran.send_signal(signal.SIGKILL)))
-    clock.start()
+def run_limited(words, folder, said, asked):
+    """Runs the command in a lane and returns its status, what it used, and whether it was ended for its time. What was ended for
+    memory is run again, once there is room: as often as it made room for others, and once where the system ended it."""
+    how = {"cwd": folder, "stdin": subprocess.DEVNULL, "stdout": said, "stderr": subprocess.STDOUT}
+    needs, was_killed = asked.needs, False
+    while True:
+        with asked.lanes.lane(needs, asked.behind) as lane:
+            status, usage, is_late = run_once(lane, words, how, asked)
+        is_for_memory = status == -signal.SIGKILL and not is_late
+        if not is_for_memory or was_killed and not lane.is_ended:
+            return status, usage, is_late
+        was_killed = was_killed or not lane.is_ended
+        needs = max(needs, MOST_BYTES)
+        said.seek(0)
+        said.truncate()
+
+
+def run_once(lane, words, how, asked):
+    process, ended, late = asked.lanes.start(lane, words, **how), threading.Event(), threading.Event()
+    resource.prlimit(process.pid, resource.RLIMIT_CPU, (int(asked.limit), int(asked.limit) + 5))
+
+    def clock():
+        # (a gentle check may wait for the processor as long as rt ci runs)
+        begun = time.monotonic()
+        while not ended.wait(BLINK):
+            if asked.lanes.is_gentle:
+                begun = time.monotonic()
+            elif time.monotonic() - begun > PATIENCE * asked.limit:
+                late.set()
+                lane.kill()
+                return
+
+    threading.Thread(target=clock, daemon=True).start()
     try:
-        _, status, usage = os.wait4(ran.pid, 0)
+        _, status, usage = os.wait4(process.pid, 0)
     finally:
-        clock.cancel()
-    ran.returncode = os.waitstatus_to_exitcode(status)
-    return ran.returncode, usage, ran.returncode == -signal.SIGXCPU or rung.is_set()
+        ended.set()
+    process.returncode = os.waitstatus_to_exitcode(status)
+    return process.returncode, usage, process.returncode == -signal.SIGXCPU or late.is_set()

@@ -14,7 +14,7 @@ MOST_LINES = 500
 MOST_COLUMNS = 100
 TEXTS = (".rt", ".antt", ".md", ".edit", ".txt", ".py", "")
 # A number of some paper or issue says nothing to a reader of the repository, which states its rules itself.
-CITATION = re.compile(r"\b(?:[Pp]aper|[Ii]ssue|[Rr]equest|[Dd]efinition|[Rr]ule) [DRW]?\d+\b|\b[TDRW]\d{1,2} ?\([ivx]+\)|\bW\d{1,2}\b")
+CITATION = re.compile(r"(?<!\.)\b(?:[Pp]aper|[Ii]ssue|[Rr]equest|[Dd]efinition|[Rr]ule) [DRW]?\d+\b|\b[TDRW]\d{1,2} ?\([ivx]+\)|\bW\d{1,2}\b")
 
 
 def tracked(root):

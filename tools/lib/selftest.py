@@ -1,8 +1,8 @@
 """The tool tried on a crate of its own, whose edits each have to be told for what they are.
 
-Wrong bodies pass, two of one function and one of a constant among them. A right one, a right one whose callee alone is turned by
-another edit, one that does not compile, one that is refused for no reason of its own (the borrow checker does not cover it), and
-one that changes a line in no body must be told by name.
+Wrong bodies pass, two of one function and one of a constant among them, and wrong definitions. A right one, a right one whose callee
+alone is turned by another edit, one that does not compile, one that is refused for no reason of its own (the borrow checker does not
+cover it), one that changes a line in no body, and a right definition over one that another edit turns must be told by name.
 """
 import contextlib
 import io
@@ -16,6 +16,7 @@ CODE = """//! A crate to try the tool on.
 #![tactic(auto)]
 
 ghost use Rattle.std.specs.Prelude.{◌≡◌, ◌+◌, ◌≤◌};
+ghost use Rattle.tried.specs.Sums.{twice, thrice, fourfold};
 
 const STEP: u32 = 1;
 
@@ -57,6 +58,37 @@ pub fn first_of(a: u32, b: u32) -> u32
     let _b = b;
     a
 }
+
+/// Twice one.
+pub fn two()
+    ensures { twice 1 ≡ 2 }
+{}
+
+/// Thrice one.
+pub fn three()
+    ensures { thrice 1 ≡ 3 }
+{}
+
+/// Four times one.
+pub fn four()
+    ensures { fourfold 1 ≡ 4 }
+{}
+"""
+
+SUMS = """-- sums of a number with itself
+use Rattle.std.specs.Prelude.{ℕ, ◌+◌}
+
+-- two of them
+abbrev pub twice : ℕ → ℕ
+twice n = n + n
+
+-- three of them
+abbrev pub thrice : ℕ → ℕ
+thrice n = twice n + n
+
+-- four of them
+abbrev pub fourfold : ℕ → ℕ
+fourfold n = n + n + n + n
 """
 
 # Each edit: what it turns into what, how the tool has to tell of it, and any further line.
@@ -69,14 +101,19 @@ EDITS = {
     "right": ("    let same = n;", "    let same = n + 0;", "NOT REFUSED", ""),
     "uncompiled": ("    let _b = b;", "    let _b = c;", "BAD EDIT: it does not compile", ""),
     "hollow": ("    s.split_at_mut(half)", "    s.split_at_mut(s.len() / 2)", "NOT TOLD", ""),
+    "definition": ("twice n = n + n", "twice n = n", "refused", "refuses: tried::two\n"),
+    "definition_above": ("thrice n = twice n + n", "thrice n = n + twice n", "NOT REFUSED", "refuses: tried::three\n"),
+    "definition_apart": ("fourfold n = n + n + n + n", "fourfold n = n + n + n", "refused", "refuses: tried::four\n"),
 }
 
 
 def write(root):
     """Makes the repository of the throw-away crate."""
     files = {"crates.txt": "tried:\n", "crates/tried/src/lib.rt": CODE}
+    files |= {"crates/tried/specs/Lib.antt": "pub mod Sums\n", "crates/tried/specs/Sums.antt": SUMS}
     for name, (old, new, _, more) in EDITS.items():
-        files[f"crates/tried/wrong/{name}.edit"] = f"{more}file: src/lib.rt\nold: {old}\nnew: {new}\n"
+        file = "specs/Sums.antt" if old in SUMS else "src/lib.rt"
+        files[f"crates/tried/wrong/{name}.edit"] = f"{more}file: {file}\nold: {old}\nnew: {new}\n"
     for path, text in files.items():
         os.makedirs(os.path.dirname(f"{root}/{path}"), exist_ok=True)
         with open(f"{root}/{path}", "w", encoding="utf-8") as file:
@@ -84,12 +121,23 @@ def write(root):
 
 
 def run():
-    """Tries the edits, says of each whether it was told for what it is, and returns the exit status."""
+    """Tries the edits, as those of a small crate and then as those of a large one, in parts side by side. Returns the exit
+    status."""
+    passed, failed = run_once(lanes=1)
+    trial.LARGE_LINES, trial.LEAST_EDITS = 0, 3
+    print("the same in parts, side by side", flush=True)
+    again, failed_again = run_once(lanes=3)
+    print(f"{passed + again} passed, {failed + failed_again} failed")
+    return 1 if failed or failed_again else 0
+
+
+def run_once(lanes):
+    """Tries the edits and says of each whether it was told for what it is. Returns how many were, and how many not."""
     with tempfile.TemporaryDirectory(prefix="wrong-bodies-self-") as root:
         write(root)
         said = io.StringIO()
         with contextlib.redirect_stdout(said):
-            (told,), stray = trial.try_all(kit.crates(root), lanes=1)
+            (told,), stray = trial.try_all(kit.crates(root), lanes=lanes)
     passed, failed = 0, [*stray]
     for name, (_, _, wanted, _) in EDITS.items():
         found = next((it for it in told.failed if it.startswith(f"tried/wrong/{name}: ")), "")
@@ -98,5 +146,4 @@ def run():
         passed += is_well
         print(f"{'ok' if is_well else 'WRONG'}: {name}: wanted {wanted}: {found}")
         failed += [] if is_well else [name]
-    print(f"{passed} passed, {len(failed)} failed")
-    return 1 if failed else 0
+    return passed, len(failed)

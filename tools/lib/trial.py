@@ -1,7 +1,8 @@
 """Tries the wrong bodies of crates, many in one check, and tells of each whether the prover refuses it.
 
-Edits of different functions go into one copy of the crate, and one check of just these functions tells of each. An edit passes
-only where a function that it changes is refused for a reason of its own. One whose function is only not proved because it calls
+Edits of different functions go into one copy of the crate, and one check of just these functions tells of each; so do edits of
+definitions, where no function that one of them is to have refused can reach what another changes. An edit passes only where a
+function that it changes, or names, is refused for a reason of its own. One whose function is only not proved because it calls
 another that is refused is tried again, without the edits that were told already. A group that cannot be told as a whole, since it
 does not compile, takes too long, or has a function refused that none of its edits changes, is parted in two, down to one edit.
 What does not compile, is still proved, takes too long or is not told even alone is a failure, with its reason.
@@ -15,11 +16,18 @@ from concurrent.futures import ThreadPoolExecutor
 from dataclasses import dataclass, field
 
 import kit
+from costs import lines_in
 from edits import grouped, of_crate, together
+from reach import Reach
 
 # What a group's check may take, in seconds of processor: so much to load and to prove what its functions call, and so much for each edit.
 LOADING_SECONDS = 240
+LINE_SECONDS = 0.2
 EDIT_SECONDS = 10
+# A crate of more lines than these has its edits tried in parts side by side, of so many at the least: a crate that stands on all others
+# has its trial last, when other cores would have nothing to do.
+LARGE_LINES = 4000
+LEAST_EDITS = 12
 
 
 @dataclass
@@ -34,6 +42,15 @@ class Told:
     checks: int = 0
     seconds: float = 0.0
     peak: int = 0
+
+    def add(self, other):
+        """Takes in what the trial of further edits of the crate told."""
+        self.names += other.names
+        self.refused |= other.refused
+        self.failed += other.failed
+        self.weak += other.weak
+        self.checks, self.seconds = self.checks + other.checks, self.seconds + other.seconds
+        self.peak = max(self.peak, other.peak)
 
 
 def closures_too(said, name):
@@ -70,25 +87,23 @@ def own_reason(name, checked, span=None, by_lemma=False):
 
 
 class Trial:
-    """The trial of one crate's edits."""
+    """The trial of edits of one crate, whose functions are known."""
 
-    def __init__(self, crate, edits, kept, known):
-        self.crate, self.kept = crate, kept
+    def __init__(self, crate, edits, kept, lanes):
+        self.crate, self.edits, self.kept, self.lanes = crate, edits, kept, lanes
         self.told = Told(crate.name, [it.name for it in edits])
-        self.edits = []
-        for edit in edits:
-            if not edit.bad:
-                edit.find_names(known)
-            if edit.bad:
-                self.fail(edit, f"BAD EDIT: {edit.bad}")
-            else:
-                self.edits.append(edit)
 
     def fail(self, edit, why):
         self.told.failed.append(f"{edit}: {' '.join(why.split())[:400]}")
 
-    def check(self, texts, functions, limit):
-        checked = kit.check(self.crate, texts, functions, self.kept, limit)
+    def check(self, texts, functions, number):
+        """Checks these functions in one copy with so many edits. The crates with most left to do go first."""
+        left = len(self.edits) - len(self.told.refused) - len(self.told.failed)
+        lines = lines_of(self.crate)
+        limit = LOADING_SECONDS + LINE_SECONDS * lines + EDIT_SECONDS * number
+        needs = int(1.2 * self.told.peak) + kit.LEAST_BYTES if self.told.peak else kit.MOST_BYTES
+        asked = kit.Asked(self.kept, limit, self.lanes, needs, left * lines)
+        checked = kit.check(self.crate, texts, asked, functions)
         self.told.checks += 1
         self.told.seconds += checked.seconds
         self.told.peak = max(self.told.peak, checked.peak)
@@ -107,7 +122,7 @@ class Trial:
     def try_group(self, group, waiting):
         """Tries a group and returns those of its edits that have to be tried again. Where it has to be parted, its halves wait."""
         functions = {name for edit in group for name in edit.functions}
-        checked = self.check(together(group), functions, LOADING_SECONDS + EDIT_SECONDS * len(group))
+        checked = self.check(together(group), functions, len(group))
         late = f"TOO LONG: no answer after {checked.seconds:.0f} seconds of processor"
         why = late if checked.is_late else checked.unread(functions)
         if not why and len(group) > 1:
@@ -130,7 +145,7 @@ class Trial:
         """Notes what the check tells of the edit. Returns whether it tells anything: of an edit tried alone it has to."""
         for name in sorted(edit.functions):
             for it in closures_too(checked.said, name):
-                why = own_reason(it, checked, edit.spans.get(name), by_lemma=edit.is_alone())
+                why = own_reason(it, checked, edit.spans.get(name), by_lemma=bool(edit.refuses))
                 if why:
                     self.told.refused[edit.name] = f"{it}: {why}"
                     self.told.weak += [edit.name] if why.startswith("it stands on ") and checked.only_names(it) else []
@@ -149,49 +164,99 @@ class Trial:
 # ---- crates ----------------------------------------------------------------------------------------------------------------
 
 
+def lines_of(crate):
+    """The lines of the crate's code, definitions and proofs."""
+    return sum(lines_in(crate.folder, part) for part in ("src", "specs", "proofs"))
+
+
+def found_names(crate, edits, known):
+    """Finds the functions of the edits. Returns the edits whose functions are found, and of the others why they cannot be tried."""
+    for edit in edits:
+        if not edit.bad:
+            edit.find_names(known)
+    good = [it for it in edits if not it.bad]
+    reach = Reach(crate.folder, crate.name) if any(it.refuses for it in good) else None
+    for edit in good if reach else ():
+        edit.find_reach(reach)
+    return good, [f"{it}: BAD EDIT: {it.bad}" for it in edits if it.bad]
+
+
+def parts(edits, most):
+    """The edits in so many parts at the most, each with all edits of its functions: a check takes over what those before it in its part
+    proved of them."""
+    found = []  # functions, and the edits of these
+    for edit in edits:
+        joined = [it for it in found if it[0] & edit.functions]
+        found = [it for it in found if not it[0] & edit.functions]
+        found.append((edit.functions.union(*(it[0] for it in joined)), [edit, *(other for it in joined for other in it[1])]))
+    given = [[] for _ in range(max(1, min(most, len(edits) // LEAST_EDITS)))]
+    for _, those in sorted(found, key=lambda it: -len(it[1])):
+        min(given, key=len).extend(those)
+    return given
+
+
 def known_by_log(crate, log):
     """The functions of the crate, by what rt ci printed when it proved them; none where it did not."""
     said = {name: what for name, what in kit.TOLD.findall(log) if name.startswith(f"{crate.name}::")}
     return said if all(it.startswith(("proved", "assumed")) for it in said.values()) else {}
 
 
-def try_crate(crate, edits, log):
+def try_crate(crate, edits, log, lanes):
     """Tries the edits of a crate. With no log of an rt ci that proved the crate, the crate has to be proved here first."""
-    with tempfile.TemporaryDirectory(prefix="wrong-bodies-") as kept:
+    with tempfile.TemporaryDirectory(prefix="wrong-bodies-") as room:
+        kept = f"{room}/kept"
         if log is not None:
+            os.mkdir(kept)
             known, cost = known_by_log(crate, log), None
         else:
             # (over what rt check kept, as rt check itself is)
-            if os.path.isdir(f"{crate.folder}/out/incremental"):
-                shutil.copytree(f"{crate.folder}/out/incremental", kept, dirs_exist_ok=True)
-            cost = kit.check(crate, {}, kept=kept, is_whole=True)
+            at = f"{crate.folder}/out/incremental"
+            shutil.copytree(at, kept) if os.path.isdir(at) else os.mkdir(kept)
+            cost = kit.check(crate, {}, kit.Asked(kept, lanes=lanes), is_whole=True)
             known = cost.said if cost.is_proved() else {}
         if not known:
             why = f"{crate.name}: it is not proved as it stands, so its {len(edits)} edits were not tried"
             return Told(crate.name, [it.name for it in edits], failed=[why])
-        told = Trial(crate, edits, kept, known).run()
+        told = try_known(crate, edits, known, kept, lanes)
     if cost:
         told.checks, told.seconds, told.peak = told.checks + 1, told.seconds + cost.seconds, max(told.peak, cost.peak)
     return told
 
 
-def try_all(crates, log=None, only=(), lanes=None, verbose=False, folders=("wrong",)):
-    """Tries the edits of the crates side by side, says of each crate what was told, and returns that in the order of the crates."""
-    kit.guard()
-    work, failed, printing, held = [], [], threading.Lock(), kit.lock(crates)
-    for crate in crates:
-        edits, stray = of_crate(crate, folders)
-        failed += [f"{it}: only edits, FILE.edit, and none.txt stand here" for it in stray]
-        edits = [it for it in edits if not only or it.name in only]
-        if edits and not kit.build_libraries(crate, log is not None):
-            failed.append(f"{crate.name}: a library below it is not proved, so its {len(edits)} edits were not tried")
-        elif edits:
-            work.append((crate, edits))
+def try_known(crate, edits, known, kept, lanes):
+    """Tries the edits of a crate whose functions are known, those of a large one in parts side by side, each over a copy of what is kept."""
+    good, bad = found_names(crate, edits, known)
+    divided = parts(good, lanes.most) if lines_of(crate) > LARGE_LINES else [good]
+    folders = [kept, *(shutil.copytree(kept, f"{kept}-{at}") for at in range(1, len(divided)))]
+    told = Told(crate.name, [it.name for it in edits if it.bad], failed=bad)
+    with ThreadPoolExecutor(len(divided)) as pool:
+        for part in pool.map(lambda it: Trial(crate, *it, lanes).run(), zip(divided, folders)):
+            told.add(part)
+    return told
 
-    def one(of):
-        told = try_crate(*of, log)
-        with printing:
-            for name, why in sorted(told.refused.items()) if verbose else ():
+
+class Trials:
+    """The trial of the edits of several crates, each from when its libraries stand: side by side, so many checks as the lanes let run.
+    It has to be dropped at the end."""
+
+    def __init__(self, crates, lanes, only=(), verbose=False, folders=("wrong",)):
+        kit.guard()
+        self.lanes, self.verbose, self.printing = lanes, verbose, threading.Lock()
+        self.pool, self.work, self.edits, self.failed = ThreadPoolExecutor(len(crates)), {}, {}, []
+        for crate in crates:
+            edits, stray = of_crate(crate, folders)
+            self.failed += [f"{it}: only edits, FILE.edit, and none.txt stand here" for it in stray]
+            self.edits[crate.name] = [it for it in edits if not only or it.name in only]
+
+    def begin(self, crate, log):
+        """Begins with a crate whose libraries stand; with a log of an rt ci that has proved it, or none."""
+        if self.edits[crate.name] and crate.name not in self.work and not self.lanes.is_closed:
+            self.work[crate.name] = self.pool.submit(self.one, crate, log)
+
+    def one(self, crate, log):
+        told = try_crate(crate, self.edits[crate.name], log, self.lanes)
+        with self.printing:
+            for name, why in sorted(told.refused.items()) if self.verbose else ():
                 print(f"{told.crate}/{name}: refused: {why[:200]}")
             print(
                 f"{told.crate}: {len(told.refused)} of {len(told.names)} wrong bodies refused; {told.checks} checks, "
@@ -204,12 +269,38 @@ def try_all(crates, log=None, only=(), lanes=None, verbose=False, folders=("wron
                 print(f"FAILED: {why}", flush=True)
         return told
 
-    # the crates with most to do first, so that none is left to run alone at the end
-    work.sort(key=lambda it: -len(it[1]) * it[0].of_kit.count(rb"\n"))
-    with ThreadPoolExecutor(lanes or kit.lanes()) as pool:
-        tolds = [*pool.map(one, work)]
-    for it in held:
-        os.close(it)
-    for why in failed:
-        print(f"FAILED: {why}")
-    return tolds, failed
+    def end(self):
+        """Waits for all that was begun, and returns what was told and what else failed."""
+        tolds = []
+        for name in [it for it in self.edits if it in self.work]:
+            try:
+                tolds.append(self.work[name].result())
+            except Exception as error:  # (whatever it is, the run has to end with its count)
+                self.failed.append(f"{name}: the trial of its wrong bodies broke off: {error!r}")
+        for why in self.failed:
+            print(f"FAILED: {why}")
+        return tolds, self.failed
+
+    def drop(self):
+        """Ends what runs, and begins nothing more."""
+        self.pool.shutdown(wait=False, cancel_futures=True)
+        self.lanes.close()
+
+
+def try_all(crates, only=(), lanes=None, verbose=False, folders=("wrong",), log=None):
+    """Tries the edits of the crates and returns what was told, in the order of the crates, and what else failed."""
+    trials = Trials(crates, kit.Lanes(lanes or kit.lanes()), only, verbose, folders)
+    held = kit.lock(crates)
+    try:
+        # the crates with most to do first, so that none is left to run alone at the end
+        for crate in sorted(crates, key=lambda it: -len(trials.edits[it.name]) * it.of_kit.count(rb"\n")):
+            edits = trials.edits[crate.name]
+            if edits and not kit.build_libraries(crate, log is not None):
+                trials.failed.append(f"{crate.name}: a library below it is not proved, so its {len(edits)} edits were not tried")
+            elif edits:
+                trials.begin(crate, log)
+        return trials.end()
+    finally:
+        trials.drop()
+        for it in held:
+            os.close(it)

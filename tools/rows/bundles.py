@@ -49,7 +49,7 @@ def configurations():
         yield run(name, ["%config\n" + pieces[0]] + pieces[1:], 1, err="config: " + fault)
 
 
-# A script, and the names that it loads, or its fault.
+# A script, and the name of each request, or its fault. Boot has no class.
 SCRIPTS = [
     ([""], []),
     (["# nothing\n\n"], []),
@@ -71,9 +71,43 @@ SCRIPTS = [
     (["load boot p//A"], "L1 BadLine 1"),
     (["load boot /A"], "L1 BadLine 1"),
     (["load boot p/A\nload boot p/A"], ["p/A", "p/A"]),
-    # Of this version: loads alone.
-    (["resolve boot p/A 0"], "L1 BadLine 1"),
-    (["link boot p/A"], "L1 BadLine 1"),
+    # Resolutions and links.
+    (["resolve boot p/A 0\nlink boot p/B\nload boot p/A"], ["p/A", "p/B", "p/A"]),
+    ([" resolve  boot p\\u002fA   65535 \n# link\nlink boot p/B  "], ["p/A", "p/B"]),
+    (["resolve boot p/A 00017"], ["p/A"]),
+    (["resolve boot p/A 00000"], ["p/A"]),
+    (["resolve boot p/A 000000"], "L1 BadLine 1"),
+    (["resolve boot p/A 65536"], "L1 BadLine 1"),
+    (["resolve boot p/A 131073"], "L1 BadLine 1"),
+    (["resolve boot p/A 4294967297"], "L1 BadLine 1"),
+    (["resolve boot p/A 99999"], "L1 BadLine 1"),
+    (["resolve boot p/A -0"], "L1 BadLine 1"),
+    (["resolve boot p/A +1"], "L1 BadLine 1"),
+    (["resolve boot p/A 1_0"], "L1 BadLine 1"),
+    (["resolve boot p/A 0x1"], "L1 BadLine 1"),
+    (["resolve boot p/A a"], "L1 BadLine 1"),
+    (["resolve boot p/A \\u0031"], "L1 BadLine 1"),
+    (["resolve boot p/A \u0661"], "L1 BadLine 1"),
+    (["resolve boot p/A 1\r\n"], "L1 BadLine 1"),
+    (["resolve boot p/A 1\t"], "L1 BadLine 1"),
+    (["resolve boot p/A"], "L1 BadLine 1"),
+    (["resolve boot 1"], "L1 BadLine 1"),
+    (["resolve boot 1 p/A"], "L1 BadLine 1"),
+    (["resolve boot p/A 1 2"], "L1 BadLine 1"),
+    (["resolve boot p.A 1"], "L1 BadLine 1"),
+    (["resolve boot [Lp/A; 1"], "L1 BadLine 1"),
+    (["Resolve boot p/A 1"], "L1 BadLine 1"),
+    (["resolve x p/A 65536"], "L1 BadLine 1"),
+    (["resolve x p.A 1"], "L1 BadLine 1"),
+    (["resolve x p/A 1"], "L2 UnknownLoader 1"),
+    (["link boot p/A 1"], "L1 BadLine 1"),
+    (["link boot"], "L1 BadLine 1"),
+    (["link"], "L1 BadLine 1"),
+    (["link boot [I"], "L1 BadLine 1"),
+    (["links boot p/A"], "L1 BadLine 1"),
+    (["link x p.A"], "L1 BadLine 1"),
+    (["link x p/A"], "L2 UnknownLoader 1"),
+    (["link boot p/A\n\nthen\nlink x p/A\nresolve"], "L2 UnknownLoader 4"),
     (["# one\n\nload  a\r\n   \n\tb #c\n #\nlast"], "L1 BadLine 3"),
     # Rounds.
     (["load boot p/A\n\nthen"], ["p/A"]),
@@ -93,6 +127,10 @@ SCRIPTS = [
     ([(LINE, MOST), "\nload boot p/A\nthen"], "L3 TooMany"),
     ([(LINE, MOST), "\nload app p/A"], "L2 UnknownLoader 65537"),
     ([(LINE, MOST), "\n#\nresolve"], "L1 BadLine 65538"),
+    ([(LINE, MOST), "\nlink boot p/A"], "L3 TooMany"),
+    ([(LINE, MOST), "\nresolve boot p/A 1"], "L3 TooMany"),
+    ([("resolve boot p/A 1\n", MOST)], "any"),
+    ([("link boot p/A\n", MOST), "\nload boot p/A"], "L3 TooMany"),
     ([("then\n" + LINE, MOST)], "any"),
     ([("then\n" + LINE, MOST), "\nthen"], "L3 TooMany"),
 ]
@@ -215,6 +253,24 @@ def supertypes():
         yield run("supertype: %d" % number, [bundle], 0, out=history + "1 " + answer + "\n")
 
 
+# The loaders of docs/FORMATS.md, 'Four loaders', and the classes of its record_refused (Obj, T, Svc and Use of 'Sample classes').
+FOUR = BOOT + '[[loader]]\nname = "app"\nparent = "boot"\n'
+FOUR += '[[loader]]\nname = "plug"\nparent = "app"\norder = "child"\n[[loader]]\nname = "kid"\nparent = "app"\n'
+SHARED = "%%class boot %s\nclass 0021 %s -\n" % (TOP, TOP)
+SHARED += "%%class app p/T\nclass 0021 p/T %s\n%%class app p/Svc\nclass 0021 p/Svc %s\nmethod 0001 m (Lp/T;)V\n" % (TOP, TOP)
+SHARED += "%%class plug p/T\nclass 0021 p/T %s\n%%class plug p/Use\nclass 0021 p/Use %s\nref method p/Svc m (Lp/T;)V\n" % (TOP, TOP)
+TIMES = 1000
+
+
+def settled_once():
+    """The reference of record_refused, resolved a thousand times: needs and constraint come once, and the verdict each time."""
+    history = "define %s@boot\ninitiate %s boot by plug\ndefine p/Use@plug\n" % (TOP, TOP)
+    history += "initiate %s boot by app\ndefine p/Svc@app\ninitiate p/Svc app by plug\nconstrain p/T app plug\n" % TOP
+    answers = "".join("%d method p/Svc@app m (Lp/T;)V\n" % number for number in range(1, TIMES + 1))
+    pieces = ["%config\n" + FOUR + SHARED + "%script\n", ("resolve plug p/Use 1\n", TIMES)]
+    yield run("one_settle_many_workers, by one worker", pieces, 0, out=history + answers)
+
+
 def text():
-    made = [*configurations(), *scripts(), *drafts(), *chains(), *supertypes()]
+    made = [*configurations(), *scripts(), *drafts(), *chains(), *supertypes(), *settled_once()]
     return "# Made by tools/rows/bundles.py.\n\n" + "".join(made)

@@ -44,6 +44,16 @@ READ = [
     BOOT + loader("app", imports(*[IMPORTED] * 64)),
     many(64),
     [BOOT + '[[loader]]\nname = "app"\nimports = [{ from = "boot", prefix = "', ("x", MOST), '" }]\n'],
+    # what TOML reads as the same texts: of several lines, with escapes, literal
+    '[[loader]]\nname = """boot"""\n',
+    '[[loader]]\nname = """\nboot"""\n',
+    '[[loader]]\nname = """bo\\\n   \n   ot"""\n',
+    "[[loader]]\nname = \'\'\'boot\'\'\'\n",
+    "[[loader]]\n\'name\' = \'\'\'\nboot\'\'\'\n",
+    '[[loader]]\nname = "b\\u006fot"\n',
+    '[[ "loader" ]]\nname = "boot"\n',
+    'loader = [ # first\n  { name = "boot" }, # second\n  { "name" = "app", parent = \'boot\' }, # no more\n]\n',
+    '[[loader]]\r\nname = "boot" # x\r\n\r\n[[loader]]\r\nname = """\r\napp"""\r\nparent = \'boot\'\r\n',
 ]
 
 BAD = "C2 BadLoader %d"
@@ -77,6 +87,14 @@ TOP = [
     ("frob = 1\n" + many(65), BAD % 0),
     (many(65, "frob = 1\n"), MANY),
     (many(66, 'parent = "x"\n'), MANY),
+    ('loader = [{ name = "boot", name = "boot" }]\n', "C1 NotToml"),
+    ("loader = []\nloader = []\n", "C1 NotToml"),
+    ('[[loader]]\nname = "bo\not"\n', "C1 NotToml"),
+    # a table in place of an array, by a key with a dot; a float and a date in its place
+    ('loader.name = "boot"\n', BAD % 0),
+    ("loader = 1.5\n", BAD % 0),
+    ("loader = 1979-05-27\n", BAD % 0),
+    ("loader = [1.5]\n", BAD % 0),
 ]
 
 # What is wrong with a loader by itself.
@@ -120,6 +138,22 @@ OWN = [
     (BOOT + loader("app", imports(*[IMPORTED] * 65), "frob = 1"), BAD % 1),
     (BOOT + loader("app", imports(*[IMPORTED] * 65)) + loader("a b"), MANY),
     (BOOT + loader("a b") + loader("kid", imports(*[IMPORTED] * 65)), BAD % 1),
+    # floats, dates, times and keys with dots in place of texts and arrays
+    ("[[loader]]\nname = 1.5\n", BAD % 0),
+    ("[[loader]]\nname = inf\n", BAD % 0),
+    ("[[loader]]\nname = 1979-05-27\n", BAD % 0),
+    ('[[loader]]\nname.first = "boot"\n', BAD % 0),
+    (loader("boot", "dir = 1e3"), BAD % 0),
+    (loader("boot", "dir = 1979-05-27T07:32:00Z"), BAD % 0),
+    (BOOT + loader("app", "parent = 1979-05-27T07:32:00"), BAD % 1),
+    (BOOT + loader("app", "parent = 0.0"), BAD % 1),
+    (loader("boot", "order = 07:32:00"), BAD % 0),
+    (BOOT + loader("app", "imports = [1.5]"), BAD % 1),
+    (BOOT + loader("app", "imports = 1979-05-27"), BAD % 1),
+    (BOOT + loader("app", 'imports.prefix = "p/"'), BAD % 1),
+    (BOOT + loader("app", imports('{ prefix = 1979-05-27, from = "boot" }')), BAD % 1),
+    (BOOT + loader("app", imports('{ prefix = "p/", from = 1.5 }')), BAD % 1),
+    (BOOT + loader("app", imports('{ prefix = "p/", from.name = "boot" }')), BAD % 1),
 ]
 
 # What is wrong with the loaders that it names.

@@ -7,36 +7,45 @@ use Rattle.cl_config.specs.ConfigTexts as configs
 use Rattle.cl_config.specs.Texts.{script_text}
 use Rattle.cl_config.specs.declared.script.ScriptFault.TheVariants as scripts
 use Rattle.cl_bundle.specs.declared.fault.BundleFault.{BundleFault}
-use Rattle.cl_bundle.specs.declared.fault.BundleFault.TheVariants.{BadLine, Class, Config, Script, Memory}
+use Rattle.cl_bundle.specs.declared.fault.BundleFault.TheVariants.{
+  BadLine,
+  Class,
+  Config,
+  Script,
+  Memory,
+}
 
--- that memory is out is taken at its word, whoever tells of it (own choice)
+-- that memory is out is taken at its word, whoever tells of it
 abbrev pub UnlessMemory : BundleFault → Type 0 → Type 0
 UnlessMemory Memory P = ⊤
 UnlessMemory (Script scripts.Memory) P = ⊤
 UnlessMemory (Class class assembler.Memory) P = ⊤
 UnlessMemory _ P = P
 
--- the fault is not out of memory (own choice)
+-- the fault is not out of memory
 abbrev pub IsReason : BundleFault → Type 0
 IsReason Memory = ⊥
 IsReason (Script scripts.Memory) = ⊥
 IsReason (Class class assembler.Memory) = ⊥
 IsReason _ = ⊤
 
--- the text of a fault (own choice); of what assembler text, a configuration or a script is refused with, that fault's own text
+-- the text of a fault; of what assembler text, a configuration or a script is refused with, that
+-- fault's own text
 abbrev pub fault_text : BundleFault → List ℕ
 fault_text (BadLine n) = codes "bundle line " ++ decimal n
-fault_text (Class class fault) = codes "class " ++ string_bytes class ++ codes ": " ++ assemble_text fault
+fault_text (Class class fault) =
+    codes "class " ++ string_bytes class ++ codes ": " ++ assemble_text fault
 fault_text (Config fault) = codes "config: " ++ configs.fault_text fault
 fault_text (Script fault) = codes "script: " ++ script_text fault
 fault_text Memory = codes "out of memory"
 
--- the faults are the same; of a class's text its bytes count, and not where they lie (own choice)
+-- the faults are the same; of a class's text its bytes count, and not where they lie
 abbrev pub SameFault : BundleFault → BundleFault → Type 0
-SameFault (Class class fault) (Class other said) = (string_bytes class ≡ string_bytes other) × (fault ≡ said)
+SameFault (Class class fault) (Class other said) =
+    (string_bytes class ≡ string_bytes other) × (fault ≡ said)
 SameFault fault other = fault ≡ other
 
--- so are the answers (own choice)
+-- so are the answers
 abbrev pub SameAnswer : {A : Type 0} → Result A BundleFault → Result A BundleFault → Type 0
 SameAnswer (Ok a) (Ok b) = a ≡ b
 SameAnswer (Err fault) (Err other) = SameFault fault other

@@ -1,7 +1,9 @@
 //! The printed faults that no run shows, and no contract tells the text of.
 
+use crate::given::{T, class_name};
 use cl_classfile::Fault;
 use cl_hierarchy::DraftFault;
+use cl_model::{Equality, LoaderId, Need};
 use cl_registry::RegistryFault;
 use cl_source::SourceFault;
 use std::test::Fail;
@@ -24,9 +26,15 @@ fn printed_faults(rt: HostRuntime) -> Result<(), Fail> {
     ] {
         assert!(rt; fault.to_string(alloc)?.as_str() == text);
     }
+    let need = Need::Equal(Equality {
+        name: class_name(alloc, T)?,
+        one: LoaderId(0),
+        other: LoaderId(1),
+    });
     for (fault, text) in [
         (RegistryFault::Memory, "B0 Memory"),
         (RegistryFault::Stray, "B1 Stray"),
+        (RegistryFault::Violates(need), "B2 Violates"),
         (RegistryFault::AlreadyPosted, "B3 AlreadyPosted"),
         (RegistryFault::NotYet, "B4 NotYet"),
     ] {

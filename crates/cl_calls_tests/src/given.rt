@@ -2,9 +2,9 @@
 
 use cl_config::{Config, Script};
 use cl_delegation::{Home, Search};
-use cl_model::{Class, LoaderId, Request, Untold};
+use cl_model::{Class, LoaderId, Untold};
 use cl_names::Name;
-use cl_registry::Registry;
+use cl_registry::{Registry, RegistryFault};
 use cl_source::{MemorySource, Source, Telling};
 use std::alloc::{AllocError, Global};
 use std::sync::Arc;
@@ -40,15 +40,33 @@ pub const PLAIN: &[u8] =
 pub const FINAL: &[u8] =
     b"\xca\xfe\xba\xbe\x00\x00\x00\x34\x00\x05\x01\x00\x03p/T\x07\x00\x01\x01\x00\x10java/lang/Object\x07\x00\x03\x00\x31\x00\x02\x00\x04\x00\x00\x00\x00\x00\x00\x00\x00";
 
+/// What a call of a registry answers.
+#[derive(Clone, Copy, Debug, PartialEq, Eq)]
+pub enum Told {
+    Done,
+    Memory,
+    Stray,
+    Violates,
+    AlreadyPosted,
+    NotYet,
+}
+
+/// What a refusal tells.
+pub fn kind_of(fault: &RegistryFault) -> Told {
+    match fault {
+        RegistryFault::Memory => Told::Memory,
+        RegistryFault::Stray => Told::Stray,
+        RegistryFault::Violates(_) => Told::Violates,
+        RegistryFault::AlreadyPosted => Told::AlreadyPosted,
+        RegistryFault::NotYet => Told::NotYet,
+    }
+}
+
 pub fn class_name(alloc: Global, name: &[u8]) -> Result<Name, AllocError> {
     match Name::class(alloc, name) {
         Ok(name) => Ok(name),
         Err(_) => Err(AllocError),
     }
-}
-
-pub fn load(alloc: Global, loader: u16, name: &[u8]) -> Result<Request, AllocError> {
-    Ok(Request::Load(LoaderId(loader), class_name(alloc, name)?))
 }
 
 pub fn class(alloc: Global, loader: u16, name: &[u8]) -> Result<Class, AllocError> {

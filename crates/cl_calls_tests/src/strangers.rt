@@ -1,13 +1,14 @@
 //! Values that belong elsewhere: probes of another search, findings of another script, homes of other loaders.
 
 use crate::given::{
-    APP, BOOT, CHILD_FIRST, FINAL, KID, PARENT_FIRST, PLAIN, PLUG, T, TOP, class, class_name,
-    config, home, load, registry, search, source,
+    APP, BOOT, CHILD_FIRST, FINAL, KID, PARENT_FIRST, PLAIN, PLUG, T, TOP, Told, class, class_name,
+    config, home, kind_of, registry, search, source,
 };
 use cl_delegation::Home;
+use cl_findings::Finding;
 use cl_hierarchy::Draft;
-use cl_model::{Event, LoaderId, Untold};
-use cl_registry::{Finding, Registry, RegistryFault};
+use cl_model::{Event, LoaderId, Request, Untold};
+use cl_registry::{Registry, RegistryFault};
 use cl_source::{MemorySource, Source};
 use std::alloc::Global;
 use std::test::Fail;
@@ -54,7 +55,7 @@ fn define(
     alloc: Global,
     tables: &mut Registry<Untold>,
     home: Home<Untold>,
-) -> Result<Result<u16, RegistryFault>, Fail> {
+) -> Result<Result<u16, Told>, Fail> {
     let Ok(draft) = Draft::read(alloc, home) else {
         return Err(Fail::new("no draft"));
     };
@@ -68,13 +69,13 @@ fn define(
     if is_recorded != was_recorded || *back.draft.class() != class {
         return Err(Fail::new("a refused definition left a trace"));
     }
-    if back.fault != RegistryFault::Memory {
-        return Ok(Err(back.fault));
+    if kind_of(&back.fault) != Told::Memory {
+        return Ok(Err(kind_of(&back.fault)));
     }
     println!(rt; "refused: Registry::define")?;
     match tables.define(alloc, back.draft) {
         Ok(row) => Ok(Ok(row.file().flags())),
-        Err(again) => Ok(Err(again.fault)),
+        Err(again) => Ok(Err(kind_of(&again.fault))),
     }
 }
 
@@ -85,7 +86,7 @@ fn initiate(
     alloc: Global,
     tables: &mut Registry<Untold>,
     home: &Home<Untold>,
-) -> Result<Result<u16, RegistryFault>, Fail> {
+) -> Result<Result<u16, Told>, Fail> {
     let was_recorded = tables.look(home.asked(), home.name()).is_some();
     let mut tried = tables.initiate(alloc, home);
     if tried.is_err() && tables.look(home.asked(), home.name()).is_some() != was_recorded {
@@ -97,7 +98,7 @@ fn initiate(
     }
     match tried {
         Ok(row) => Ok(Ok(row.class().loader.0)),
-        Err(fault) => Ok(Err(fault)),
+        Err(fault) => Ok(Err(kind_of(&fault))),
     }
 }
 
@@ -119,10 +120,10 @@ enum Found {
 use Call::{Define, Initiate};
 use Found::{Changed, Elsewhere, Own};
 
-const STRAY: Result<u16, RegistryFault> = Err(RegistryFault::Stray);
+const STRAY: Result<u16, Told> = Err(Told::Stray);
 
 /// What is asked in order, of which home, and what is told: a file's flags, a defining loader, or the refusal.
-const STEPS: [(Call, Found, u16, &[u8], Result<u16, RegistryFault>); 15] = [
+const STEPS: [(Call, Found, u16, &[u8], Result<u16, Told>); 15] = [
     (Initiate, Elsewhere, KID, T, STRAY),
     (Define, Elsewhere, PLUG, T, STRAY),
     (Define, Elsewhere, BOOT, TOP, STRAY),
@@ -150,7 +151,7 @@ fn strangers_change_nothing(rt: HostRuntime) -> Result<(), Fail> {
     let own = config(alloc, PARENT_FIRST)?;
     let other = config(alloc, CHILD_FIRST)?;
     let mut tables = registry(alloc, &own, "load plug p/T")?;
-    for (call, found, loader, name, told) in STEPS {
+    for (call, found, loader, name, wanted) in STEPS {
         let loaders = if found == Elsewhere { &other } else { &own };
         let bytes = if found == Changed { FINAL } else { PLAIN };
         let mut files = source(alloc, bytes)?;
@@ -160,10 +161,11 @@ fn strangers_change_nothing(rt: HostRuntime) -> Result<(), Fail> {
         } else {
             initiate(&rt, alloc, &mut tables, &home)?
         };
-        assert!(rt; answer == told);
+        assert!(rt; answer == wanted);
     }
     for (loader, is_posted) in [(PLUG, false), (APP, true)] {
-        let said = Finding::class(load(alloc, PLUG, T)?, class(alloc, loader, T)?);
+        let request = Request::Load(LoaderId(PLUG), class_name(alloc, T)?);
+        let said = Finding::class(request, class(alloc, loader, T)?);
         assert!(rt; tables.post(0, said).is_ok() == is_posted);
     }
     let Ok(report) = tables.into_report() else {

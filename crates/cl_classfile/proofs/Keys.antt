@@ -1,18 +1,62 @@
--- The set of keys that the loop over members keeps.
-use Rattle.std.proofs.Common.{◌≡◌, Bool, true, false, cond, not, ◌&&◌, ◌||◌, nat_eq, List, [], ◌∷◌, ◌++◌, Option, Some, None, refl, sym, ap, ◌∙◌}
+-- The set of members that the loop over them keeps, by the numbers of their names and descriptors.
+use Rattle.std.proofs.Common.{◌≡◌, ℕ, Bool, true, false, cond, not, ◌&&◌, ◌||◌, ◌==◌, nat_eq, List, [], ◌∷◌, ◌++◌, Option, Some, None, refl, sym, ap, ◌∙◌}
 use Rattle.std.specs.List.{list_any}
 use Rattle.std.specs.Ordering.{is_eq, nat_cmp}
-use Rattle.std.specs.Cmp.{both_tied}
-use Rattle.std.specs.Cmp.Lexicographic.{pointwise, slice_cmp, texts_ties}
+use Rattle.std.specs.Cmp.{both_tied, unsigned_ties}
+use Rattle.std.specs.Cmp.Lexicographic.{pointwise, bytes_decides}
+use Rattle.std.proofs.lemmas.Bool.Decides.{same_from_decides, Decides-like, Decides-eqb}
 use Rattle.std.proofs.lemmas.List.Folds.{list_any-append}
 use Rattle.cl_classfile.specs.declared.entry.Entry.{Entry}
 use Rattle.cl_classfile.specs.Structure.{Member}
-use Rattle.cl_classfile.specs.Checking.{Key, key_of, same_key, same_member}
-use Rattle.cl_classfile.specs.Seen.{key_cmp, has_key, HasKeys}
+use Rattle.cl_classfile.specs.Files.{text_at}
+use Rattle.cl_classfile.specs.Numbers.{IsNumber, IsFirst}
+use Rattle.cl_classfile.specs.Checking.{Key, both_texts, key_of, same_key, same_member}
+use Rattle.cl_classfile.specs.Seen.{pair_cmp, has_pair, HasPairs}
 
--- keys that compare equal are the same
-tied : (a b : Key) → pointwise nat_eq a.0 b.0 && pointwise nat_eq a.1 b.1 ≡ is_eq (key_cmp a b)
-tied a b = both_tied (pointwise nat_eq a.0 b.0) (pointwise nat_eq a.1 b.1) (slice_cmp nat_cmp a.0 b.0) (slice_cmp nat_cmp a.1 b.1) (texts_ties a.0 b.0) (texts_ties a.1 b.1)
+-- ---- numbers and texts
+
+one_number : (o : Option ℕ) (n m : ℕ) → o ≡ Some n → o ≡ Some m → n ≡ m
+one_number o n m e f = cc
+
+one_text : (o : Option (List ℕ)) (t u : List ℕ) → o ≡ Some t → o ≡ Some u → t ≡ u
+one_text o t u e f = cc
+
+-- texts are the same where their numbers are
+number_tells : (pool : List Entry) (of : List ℕ → Option ℕ) → IsFirst pool of → (t u : List ℕ) (n m : ℕ) → of t ≡ Some n → of u ≡ Some m → pointwise nat_eq t u ≡ (n == m)
+number_tells pool of first t u n m tn um =
+    same_from_decides (pointwise nat_eq t u) (n == m)
+    (Decides-like (pointwise nat_eq t u) (λ e. one_number (of u) n m (ap of (sym e) ∙ tn) um) (λ e. one_text (text_at pool m) t u (ap (text_at pool) (sym e) ∙ first t n tn) (first u m um)) (bytes_decides t u))
+    (Decides-eqb n m)
+
+-- pairs that compare equal are those of the same texts
+tied : (pool : List Entry) (of : List ℕ → Option ℕ) → IsFirst pool of → (k l : Key) (n d m e : ℕ) → of k.0 ≡ Some n → of k.1 ≡ Some d → of l.0 ≡ Some m → of l.1 ≡ Some e
+    → pointwise nat_eq k.0 l.0 && pointwise nat_eq k.1 l.1 ≡ is_eq (pair_cmp (n, d) (m, e))
+tied pool of first k l n d m e kn kd lm le =
+    both_tied (pointwise nat_eq k.0 l.0) (pointwise nat_eq k.1 l.1) (nat_cmp n m) (nat_cmp d e)
+    (number_tells pool of first k.0 l.0 n m kn lm ∙ unsigned_ties n m)
+    (number_tells pool of first k.1 l.1 d e kd le ∙ unsigned_ties d e)
+
+-- 0 is the number of what is no text
+no_text : (pool : List Entry) (of : List ℕ → Option ℕ) → IsFirst pool of → (o : Option (List ℕ)) (n : ℕ) → IsNumber of o n → n ≡ 0 → o ≡ None
+no_text pool of first None n h e = refl
+no_text pool of first (Some t) n h e = absurd (let none : text_at pool 0 ≡ Some t = first t 0 (h ∙ ap Some e) in cc)
+
+-- another number is that of a text
+record IsTextOf (of : List ℕ → Option ℕ) (o : Option (List ℕ)) (n : ℕ) : Type 0 where
+  text : List ℕ
+  is : o ≡ Some text
+  number : of text ≡ Some n
+
+some_text : (of : List ℕ → Option ℕ) (o : Option (List ℕ)) (n : ℕ) → IsNumber of o n → (n ≡ 0 → ⊥) → IsTextOf of o n
+some_text of None n h other = absurd (other h)
+some_text of (Some t) n h other = record { text = t; is = refl; number = h }
+
+no_key : (o p : Option (List ℕ)) → p ≡ None → both_texts o p ≡ None
+no_key None p e = refl
+no_key (Some t) None e = refl
+no_key (Some t) (Some u) e = absurd cc
+
+-- ---- the set
 
 -- no member has the key of a member that has none
 never : (pool : List Entry) (e : Member) (o : Option Key) → key_of pool e ≡ o → same_key o None ≡ false
@@ -33,33 +77,55 @@ choice false false = refl
 abbrev any_with : List Entry → Key → List Member → Bool
 any_with pool key ms = list_any (λ e. same_key (key_of pool e) (Some key)) ms
 
--- what the set has when a key was put in
-pub put : (pool : List Entry) (keys new : List Key) (k : Key) (m : Member) (before : List Member) → key_of pool m ≡ Some k → HasKeys pool keys before
-    → ((q : Key) → has_key new q ≡ cond (is_eq (key_cmp k q)) true (has_key keys q)) → HasKeys pool new (before ++ m ∷ [])
-put pool keys new k m before is has updates q =
-    let here : same_key (key_of pool m) (Some q) ≡ is_eq (key_cmp k q) = ap (λ (o : Option Key). same_key o (Some q)) is ∙ tied k q in
-    let all : any_with pool q (before ++ m ∷ []) ≡ any_with pool q before || (is_eq (key_cmp k q) || false) =
-    list_any-append (λ e. same_key (key_of pool e) (Some q)) before (m ∷ []) ∙ ap (λ (b : Bool). any_with pool q before || (b || false)) here in
-    updates q ∙ ap (cond (is_eq (key_cmp k q)) true) (has q) ∙ choice (is_eq (key_cmp k q)) (any_with pool q before) ∙ sym all
+-- what the set has when a pair was put in
+put : (pool : List Entry) (of : List ℕ → Option ℕ) → IsFirst pool of → (pairs new : List (ℕ × ℕ)) (k : Key) (n d : ℕ) → of k.0 ≡ Some n → of k.1 ≡ Some d → (m : Member) (before : List Member) → key_of pool m ≡ Some k
+    → HasPairs pool of pairs before → ((q : ℕ × ℕ) → has_pair new q ≡ cond (is_eq (pair_cmp (n, d) q)) true (has_pair pairs q)) → HasPairs pool of new (before ++ m ∷ [])
+put pool of first pairs new k n d kn kd m before is has updates l x y lx ly =
+    let here : same_key (key_of pool m) (Some l) ≡ is_eq (pair_cmp (n, d) (x, y)) = ap (λ (o : Option Key). same_key o (Some l)) is ∙ tied pool of first k l n d x y kn kd lx ly in
+    let all : any_with pool l (before ++ m ∷ []) ≡ any_with pool l before || (is_eq (pair_cmp (n, d) (x, y)) || false) =
+    list_any-append (λ e. same_key (key_of pool e) (Some l)) before (m ∷ []) ∙ ap (λ (b : Bool). any_with pool l before || (b || false)) here in
+    updates (x, y) ∙ ap (cond (is_eq (pair_cmp (n, d) (x, y))) true) (has l x y lx ly) ∙ choice (is_eq (pair_cmp (n, d) (x, y))) (any_with pool l before) ∙ sym all
 
--- whether the key was new
-pub told : (pool : List Entry) (keys : List Key) (k : Key) (m : Member) (before : List Member) (added : Bool) → key_of pool m ≡ Some k → HasKeys pool keys before → added ≡ not (has_key keys k)
-    → added ≡ not (list_any (λ e. same_member pool e m) before)
-told pool keys k m before added is has e = e ∙ ap not (has k) ∙ ap (λ (o : Option Key). not (list_any (λ e. same_key (key_of pool e) o) before)) (sym is)
+-- what is known once a member was looked at
+abbrev pub IsSeen : List Entry → (List ℕ → Option ℕ) → Bool → List (ℕ × ℕ) → Member → List Member → Type 0
+IsSeen pool of added new m before = (added ≡ not (list_any (λ e. same_member pool e m) before)) × HasPairs pool of new (before ++ m ∷ [])
+
+-- a member with a key is new where the set lacks its pair
+pub with_key : (pool : List Entry) (of : List ℕ → Option ℕ) → IsFirst pool of → (pairs new : List (ℕ × ℕ)) (n d : ℕ) (added : Bool) (m : Member) (before : List Member)
+    → IsNumber of (text_at pool m.name_index) n → IsNumber of (text_at pool m.descriptor_index) d → (n ≡ 0 → ⊥) → (d ≡ 0 → ⊥) → HasPairs pool of pairs before
+    → added ≡ not (has_pair pairs (n, d)) → ((q : ℕ × ℕ) → has_pair new q ≡ cond (is_eq (pair_cmp (n, d) q)) true (has_pair pairs q)) → IsSeen pool of added new m before
+with_key pool of first pairs new n d added m before is_n is_d some_n some_d has e updates =
+    let name = some_text of (text_at pool m.name_index) n is_n some_n in
+    let descriptor = some_text of (text_at pool m.descriptor_index) d is_d some_d in
+    let k : Key = (name.text, descriptor.text) in
+    let is : key_of pool m ≡ Some k = ap (λ (o : Option (List ℕ)). both_texts o (text_at pool m.descriptor_index)) name.is ∙ ap (both_texts (Some name.text)) descriptor.is in (
+      e ∙ ap not (has k n d name.number descriptor.number) ∙ ap (λ (o : Option Key). not (list_any (λ e. same_key (key_of pool e) o) before)) (sym is),
+      put pool of first pairs new k n d name.number descriptor.number m before is has updates,
+    )
 
 or_false : (b : Bool) → b || (false || false) ≡ b
 or_false true = refl
 or_false false = refl
 
--- a member without a key changes nothing
-pub passed : (pool : List Entry) (keys : List Key) (m : Member) (before : List Member) → key_of pool m ≡ None → HasKeys pool keys before → HasKeys pool keys (before ++ m ∷ [])
-passed pool keys m before is has q =
-    let all : any_with pool q (before ++ m ∷ []) ≡ any_with pool q before || (false || false) =
-    list_any-append (λ e. same_key (key_of pool e) (Some q)) before (m ∷ []) ∙ ap (λ (o : Option Key). any_with pool q before || (same_key o (Some q) || false)) is in
-    has q ∙ sym (all ∙ or_false (any_with pool q before))
+passed : (pool : List Entry) (of : List ℕ → Option ℕ) (pairs : List (ℕ × ℕ)) (m : Member) (before : List Member) → key_of pool m ≡ None → HasPairs pool of pairs before → IsSeen pool of true pairs m before
+passed pool of pairs m before is has = (
+  ap not (sym (none_like pool before)) ∙ ap (λ (o : Option Key). not (list_any (λ e. same_key (key_of pool e) o) before)) (sym is),
+  λ l x y lx ly.
+      let all : any_with pool l (before ++ m ∷ []) ≡ any_with pool l before || (false || false) =
+      list_any-append (λ e. same_key (key_of pool e) (Some l)) before (m ∷ []) ∙ ap (λ (o : Option Key). any_with pool l before || (same_key o (Some l) || false)) is in
+      has l x y lx ly ∙ sym (all ∙ or_false (any_with pool l before)),
+)
 
-pub unlike : (pool : List Entry) (m : Member) (before : List Member) → key_of pool m ≡ None → true ≡ not (list_any (λ e. same_member pool e m) before)
-unlike pool m before is = ap not (sym (none_like pool before)) ∙ ap (λ (o : Option Key). not (list_any (λ e. same_key (key_of pool e) o) before)) (sym is)
+-- a member without a key is new, and changes nothing
+pub without_name : (pool : List Entry) (of : List ℕ → Option ℕ) → IsFirst pool of → (pairs : List (ℕ × ℕ)) (n : ℕ) (m : Member) (before : List Member)
+    → IsNumber of (text_at pool m.name_index) n → n ≡ 0 → HasPairs pool of pairs before → IsSeen pool of true pairs m before
+without_name pool of first pairs n m before is_n none has =
+    passed pool of pairs m before (ap (λ (o : Option (List ℕ)). both_texts o (text_at pool m.descriptor_index)) (no_text pool of first (text_at pool m.name_index) n is_n none)) has
+
+pub without_descriptor : (pool : List Entry) (of : List ℕ → Option ℕ) → IsFirst pool of → (pairs : List (ℕ × ℕ)) (d : ℕ) (m : Member) (before : List Member)
+    → IsNumber of (text_at pool m.descriptor_index) d → d ≡ 0 → HasPairs pool of pairs before → IsSeen pool of true pairs m before
+without_descriptor pool of first pairs d m before is_d none has =
+    passed pool of pairs m before (no_key (text_at pool m.name_index) (text_at pool m.descriptor_index) (no_text pool of first (text_at pool m.descriptor_index) d is_d none)) has
 
 -- the test of the loop, the other way round
 pub old : (new among : Bool) → new ≡ not among → new ≡ false → among ≡ true
@@ -70,5 +136,5 @@ pub fresh : (new among : Bool) → new ≡ not among → new ≡ true → among 
 fresh new false e f = refl
 fresh new true e f = absurd (let g : true ≡ false = sym f ∙ e in cc)
 
-pub starts : (pool : List Entry) (keys : List Key) → keys ≡ [] → HasKeys pool keys []
-starts pool keys e q = ap (λ (ks : List Key). has_key ks q) e
+pub starts : (pool : List Entry) (of : List ℕ → Option ℕ) (pairs : List (ℕ × ℕ)) → pairs ≡ [] → HasPairs pool of pairs []
+starts pool of pairs e l n d ln ld = ap (λ (ps : List (ℕ × ℕ)). has_pair ps (n, d)) e

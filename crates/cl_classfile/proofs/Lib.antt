@@ -4,8 +4,10 @@ pub mod Codec
 pub mod Judging
 pub mod Fitting
 pub mod Slots
+pub mod Sharing
 pub mod MemberRows
 pub mod Keys
+pub mod Numbering
 pub mod Classes
 pub mod References
 pub mod KeyTexts

@@ -1,10 +1,43 @@
 -- The tables as tests, with the first fault in the order in which a file is looked at.
-use Rattle.std.specs.Prelude.{◌≡◌, ℕ, ◌+◌, Bool, true, false, not, ◌&&◌, ◌||◌, ◌==◌, nat_eq, nat_lt, List, [], ◌∷◌, ◌++◌, length, map, Option, Some, None, is_some, Result, Ok, Err, if◌then◌else◌}
+use Rattle.std.specs.Prelude.{
+  ◌≡◌,
+  ℕ,
+  ◌+◌,
+  Bool,
+  true,
+  false,
+  not,
+  ◌&&◌,
+  ◌||◌,
+  ◌==◌,
+  nat_eq,
+  nat_lt,
+  List,
+  [],
+  ◌∷◌,
+  ◌++◌,
+  length,
+  map,
+  Option,
+  Some,
+  None,
+  is_some,
+  Result,
+  Ok,
+  Err,
+  if◌then◌else◌,
+}
 use Rattle.std.specs.List.{list_any}
 use Rattle.std.specs.Cmp.Lexicographic.{pointwise}
 use Rattle.cl_classfile.specs.declared.entry.Entry.{Entry}
 use Rattle.cl_classfile.specs.declared.fault.Fault.{Fault}
-use Rattle.cl_classfile.specs.declared.fault.Fault.TheVariants.{BadPool, BadFlags, BadMember, Duplicate, BadSupertype}
+use Rattle.cl_classfile.specs.declared.fault.Fault.TheVariants.{
+  BadPool,
+  BadFlags,
+  BadMember,
+  Duplicate,
+  BadSupertype,
+}
 use Rattle.cl_classfile.specs.declared.fault.ReadError.{ReadError}
 use Rattle.cl_classfile.specs.declared.fault.ReadError.TheVariants as errors
 use Rattle.cl_classfile.specs.declared.members.Kind.{Kind}
@@ -12,30 +45,45 @@ use Rattle.cl_classfile.specs.declared.members.Kind.TheVariants as kinds
 use Rattle.cl_classfile.specs.declared.traits.Special.{Special}
 use Rattle.cl_classfile.specs.declared.traits.Special.TheVariants as names
 use Rattle.cl_classfile.specs.declared.traits.Traits.{Traits}
-use Rattle.cl_classfile.specs.Flags.{has, static, interface, is_class_flags, is_field_flags, is_method_flags, is_init_flags}
+use Rattle.cl_classfile.specs.Flags.{
+  has,
+  static,
+  interface,
+  is_class_flags,
+  is_field_flags,
+  is_method_flags,
+  is_init_flags,
+}
 use Rattle.cl_classfile.specs.Pool.{is_wide}
 use Rattle.cl_classfile.specs.Structure.{Structure, Member, Attribute, object}
-use Rattle.cl_classfile.specs.Widths.{is_short, entry_fits, is_unusable, all_fit, attribute_fits, member_fits}
+use Rattle.cl_classfile.specs.Widths.{
+  is_short,
+  entry_fits,
+  is_unusable,
+  all_fit,
+  attribute_fits,
+  member_fits,
+}
 use Rattle.cl_classfile.specs.Rows.{is_field, entry_traits, traits_at, keeps_entry}
 use Rattle.cl_classfile.specs.Files.{text_at, class_name}
 
--- the first fault of two steps, or what the second gives (own choice)
+-- the first fault of two steps, or what the second gives
 infixl 10 ◌>>=◌
 abbrev pub ◌>>=◌ : {A B : Type 0} → Result A Fault → (A → Result B Fault) → Result B Fault
 (Ok x) >>= f = f x
 (Err e) >>= f = Err e
 
--- what a function that takes no memory returned is, seen by view, this value or fault (own choice)
+-- what a function that takes no memory returned is, seen by view, this value or fault
 abbrev pub Finds : {X Y : Type 0} → (X → Y) → Result X Fault → Result Y Fault → Type 0
 Finds view (Ok x) read = read ≡ Ok (view x)
 Finds view (Err f) read = read ≡ Err f
 
--- the same of a function that takes memory, unless memory ran out (own choice)
+-- the same of a function that takes memory, unless memory ran out
 abbrev pub Fails : {Y : Type 0} → ReadError → Result Y Fault → Type 0
 Fails errors.Memory read = Unit {0}
 Fails (errors.Fault f) read = read ≡ Err f
 
--- what a function that takes memory returned is this value or fault, unless memory ran out (own choice)
+-- what a function that takes memory returned is this value or fault, unless memory ran out
 abbrev pub Gives : {X Y : Type 0} → (X → Y) → Result X ReadError → Result Y Fault → Type 0
 Gives view (Ok x) read = read ≡ Ok (view x)
 Gives view (Err e) read = Fails e read
@@ -49,7 +97,8 @@ unfoldable pub checked_entries : List Entry → ℕ → List Entry → Result (U
 checked_entries pool i [] = Ok tt
 checked_entries pool i (e ∷ es) = kept_entry pool i e >>= λ kept. checked_entries pool (i + 1) es
 
--- the class named above may be the superclass: of an interface it is java/lang/Object (JVMS SE 8, 4.1)
+-- the class named above may be the superclass: of an interface it is java/lang/Object
+-- (JVMS SE 8, 4.1)
 abbrev pub may_stand_above : Bool → Option (List ℕ) → Bool
 may_stand_above of_interface None = false
 may_stand_above of_interface (Some above) = not of_interface || pointwise nat_eq above object
@@ -74,14 +123,19 @@ keeps_interfaces pool interfaces = all_fit (λ i. is_some (class_name pool i)) i
 abbrev pub checked_class : List Entry → ℕ → ℕ → ℕ → List ℕ → Result (Unit {0}) Fault
 checked_class pool flags this super interfaces =
     if is_short flags && is_class_flags flags
-    then if keeps_names pool (has flags interface) super (class_name pool this) && keeps_interfaces pool interfaces then Ok tt else Err BadSupertype
+    then if keeps_names pool (has flags interface) super (class_name pool this)
+    && keeps_interfaces pool interfaces
+    then Ok tt
+    else Err BadSupertype
     else Err BadFlags
 
 -- ---- members (JVMS SE 8, 4.5, 4.6)
 
 -- a field keeps its table (4.5)
 abbrev pub keeps_field : List Traits → Bool → Member → Bool
-keeps_field traits of_interface m = is_field_flags of_interface m.flags && (traits_at traits m.name_index).unqualified && is_field (traits_at traits m.descriptor_index).form
+keeps_field traits of_interface m =
+    is_field_flags of_interface m.flags && (traits_at traits m.name_index).unqualified
+    && is_field (traits_at traits m.descriptor_index).form
 
 -- the parameters leave a unit for this, where the method is of an instance (4.3.3)
 abbrev pub has_room : Bool → Option ℕ → Bool
@@ -91,7 +145,8 @@ has_room of_class (Some units) = of_class || nat_lt units 255
 -- the flags of a method of such a name (4.6)
 abbrev pub keeps_method_flags : Special → Bool → ℕ → Bool
 keeps_method_flags names.Clinit of_interface flags = true
-keeps_method_flags names.Init of_interface flags = is_method_flags of_interface flags && is_init_flags flags
+keeps_method_flags names.Init of_interface flags =
+    is_method_flags of_interface flags && is_init_flags flags
 keeps_method_flags names.Plain of_interface flags = is_method_flags of_interface flags
 keeps_method_flags names.Angle of_interface flags = is_method_flags of_interface flags
 
@@ -105,7 +160,8 @@ keeps_method traits of_interface m =
 -- a field, or a method, fits its widths and keeps its table (4.5, 4.6)
 abbrev pub keeps_member : Kind → List Traits → Bool → Member → Bool
 keeps_member kinds.Field traits of_interface m = member_fits m && keeps_field traits of_interface m
-keeps_member kinds.Method traits of_interface m = member_fits m && keeps_method traits of_interface m
+keeps_member kinds.Method traits of_interface m =
+    member_fits m && keeps_method traits of_interface m
 
 -- the texts of a name and of a descriptor (4.5, 4.6)
 abbrev pub Key : Type 0
@@ -132,36 +188,48 @@ abbrev pub same_member : List Entry → Member → Member → Bool
 same_member pool a b = same_key (key_of pool a) (key_of pool b)
 
 -- each member keeps its row, and agrees with none before it, nor with one of these (4.5, 4.6)
-unfoldable pub checked_members : (Member → Bool) → List Entry → List Member → List Member → Result (Unit {0}) Fault
+unfoldable pub checked_members : (Member → Bool) → List Entry → List Member → List Member
+    → Result (Unit {0}) Fault
 checked_members keeps pool before [] = Ok tt
 checked_members keeps pool before (m ∷ ms) =
     if keeps m
-    then if list_any (λ e. same_member pool e m) before then Err Duplicate else checked_members keeps pool (before ++ m ∷ []) ms
+    then if list_any (λ e. same_member pool e m) before
+    then Err Duplicate
+    else checked_members keeps pool (before ++ m ∷ []) ms
     else Err BadMember
 
 -- a count can say how many members there are, and each is looked at (4.1, 4.5, 4.6)
-unfoldable pub checked_list : Kind → List Traits → Bool → List Entry → List Member → Result (Unit {0}) Fault
-checked_list kind traits of_interface pool ms = if is_short (length ms) then checked_members (keeps_member kind traits of_interface) pool [] ms else Err BadMember
+unfoldable pub checked_list : Kind → List Traits → Bool → List Entry → List Member
+    → Result (Unit {0}) Fault
+checked_list kind traits of_interface pool ms =
+    if is_short (length ms)
+    then checked_members (keeps_member kind traits of_interface) pool [] ms
+    else Err BadMember
 
 -- the attributes fit their widths (4.7)
 abbrev pub checked_attributes : List Attribute → Result (Unit {0}) Fault
 checked_attributes attributes = if all_fit attribute_fits attributes then Ok tt else Err BadMember
 
--- the class's own tables, then its fields, its methods and its attributes, where the traits of the entries are given
--- (4.1, 4.5 to 4.7)
+-- the class's own tables, then its fields, its methods and its attributes, where the traits of the
+-- entries are given (4.1, 4.5 to 4.7)
 unfoldable pub checked_tables : List Traits → List Entry → Structure → Result (Unit {0}) Fault
 checked_tables traits pool f =
     checked_class pool f.flags f.this_class f.super_class f.interfaces >>= λ class.
     (checked_list kinds.Field traits (has f.flags interface) pool f.fields >>= λ fields.
-    (checked_list kinds.Method traits (has f.flags interface) pool f.methods >>= λ methods. checked_attributes f.attributes))
+    (checked_list kinds.Method traits (has f.flags interface) pool f.methods
+    >>= λ methods. checked_attributes f.attributes))
 
 -- the file, where it keeps the tables and what stands behind its pool fits its widths (4.1)
 unfoldable pub kept_file : Structure → Result Structure Fault
-kept_file f = checked_entries f.pool 1 f.pool >>= λ entries. (checked_tables (map entry_traits f.pool) f.pool f >>= λ tables. Ok f)
+kept_file f =
+    checked_entries f.pool 1 f.pool
+    >>= λ entries. (checked_tables (map entry_traits f.pool) f.pool f >>= λ tables. Ok f)
 
--- ---- parts that no bytes were read for (own choice of the order: that of the bytes, a count before its items)
+-- ---- parts that no bytes were read for
+-- (own choice of the order: that of the bytes, a count before its items)
 
--- an entry may stand behind one that takes its index too, or behind another, and fits its width (4.4.5)
+-- an entry may stand behind one that takes its index too, or behind another, and fits its width
+-- (4.4.5)
 abbrev pub fits_slot : Bool → Entry → Bool
 fits_slot true e = is_unusable e
 fits_slot false e = not (is_unusable e) && entry_fits e
@@ -170,12 +238,16 @@ fits_slot false e = not (is_unusable e) && entry_fits e
 unfoldable pub checked_slots : ℕ → Bool → List Entry → Result (Unit {0}) Fault
 checked_slots i false [] = Ok tt
 checked_slots i true [] = Err (BadPool i)
-checked_slots i taken (e ∷ es) = if fits_slot taken e then checked_slots (i + 1) (is_wide e) es else Err (BadPool (i + 1))
+checked_slots i taken (e ∷ es) =
+    if fits_slot taken e then checked_slots (i + 1) (is_wide e) es else Err (BadPool (i + 1))
 
--- the count of the pool can say how many entries there are, and each may stand where it does (4.1, 4.4.5)
+-- the count of the pool can say how many entries there are, and each may stand where it does
+-- (4.1, 4.4.5)
 unfoldable pub checked_pool : List Entry → Result (Unit {0}) Fault
-checked_pool pool = if is_short (length pool + 1) then checked_slots 0 false pool else Err (BadPool 0)
+checked_pool pool =
+    if is_short (length pool + 1) then checked_slots 0 false pool else Err (BadPool 0)
 
--- the file of these parts, or their first fault: what no bytes spell of the pool, and then as in a file that is read (4.1)
+-- the file of these parts, or their first fault: what no bytes spell of the pool, and then as in a
+-- file that is read (4.1)
 unfoldable pub parts_of : Structure → Result Structure Fault
 parts_of f = checked_pool f.pool >>= λ pool. kept_file f

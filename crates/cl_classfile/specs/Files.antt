@@ -1,5 +1,27 @@
 -- The parts of a class file that linking looks at (JVMS SE 8, 4.1 to 4.6).
-use Rattle.std.specs.Prelude.{ℕ, ◌+◌, Bool, false, ◌&&◌, ◌==◌, nat_eq, List, [], ◌∷◌, ◌++◌, Option, Some, None, find, filter_map, option_map, option_and_then, option_to_list, unwrap_or, if◌then◌else◌}
+use Rattle.std.specs.Prelude.{
+  ℕ,
+  ◌+◌,
+  Bool,
+  false,
+  ◌&&◌,
+  ◌==◌,
+  nat_eq,
+  List,
+  [],
+  ◌∷◌,
+  ◌++◌,
+  Option,
+  Some,
+  None,
+  find,
+  filter_map,
+  option_map,
+  option_and_then,
+  option_to_list,
+  unwrap_or,
+  if◌then◌else◌,
+}
 use Rattle.std.specs.Cmp.Lexicographic.{pointwise}
 use Rattle.cl_descriptors.specs.declared.types.Base.{Base}
 use Rattle.cl_descriptors.specs.declared.types.Base.TheVariants as bases
@@ -8,7 +30,14 @@ use Rattle.cl_descriptors.specs.declared.types.Descriptor.{Descriptor}
 use Rattle.cl_descriptors.specs.declared.types.Descriptor.TheVariants as descriptors
 use Rattle.cl_classfile.specs.declared.entry.Entry.{Entry}
 use Rattle.cl_descriptors.specs.Reading.{whole_field, whole_method}
-use Rattle.cl_classfile.specs.declared.entry.Entry.TheVariants.{Utf8, Class, Fieldref, Methodref, InterfaceMethodref, NameAndType}
+use Rattle.cl_classfile.specs.declared.entry.Entry.TheVariants.{
+  Utf8,
+  Class,
+  Fieldref,
+  Methodref,
+  InterfaceMethodref,
+  NameAndType,
+}
 pub use Rattle.cl_classfile.specs.Flags.{has}
 use Rattle.cl_classfile.specs.Structure.{Structure, at}
 use Rattle.cl_classfile.specs.Structure as structure
@@ -107,7 +136,8 @@ pub data Cited : Type 0 where
 
 -- three texts, where each is there (4.4.2)
 abbrev pub symbol_of : Option Name → Option Name → Option Name → Option Symbol
-symbol_of (Some class) (Some name) (Some descriptor) = Some (record { class = class; name = name; descriptor = descriptor })
+symbol_of (Some class) (Some name) (Some descriptor) =
+    Some (record { class = class; name = name; descriptor = descriptor })
 symbol_of _ _ _ = None
 
 -- the texts of the name and of the descriptor of a name and type (4.4.6)
@@ -122,23 +152,30 @@ pair_descriptor pool _ = None
 
 -- the texts of a member reference with this class and this name and type (4.4.2)
 abbrev pub symbol_at : List Entry → ℕ → ℕ → Option Symbol
-symbol_at pool class pair = symbol_of (type_name pool class) (pair_name pool (at pool pair)) (pair_descriptor pool (at pool pair))
+symbol_at pool class pair =
+    symbol_of (type_name pool class) (pair_name pool (at pool pair))
+    (pair_descriptor pool (at pool pair))
 
 -- the texts of an entry that refers to a class or a member (4.4.1, 4.4.2)
 abbrev pub cited : List Entry → Entry → Option Cited
 cited pool (Class text) = option_map (λ name. CitesClass name) (text_at pool text)
 cited pool (Fieldref class pair) = option_map (λ s. CitesField s) (symbol_at pool class pair)
 cited pool (Methodref class pair) = option_map (λ s. CitesMethod s) (symbol_at pool class pair)
-cited pool (InterfaceMethodref class pair) = option_map (λ s. CitesInterfaceMethod s) (symbol_at pool class pair)
+cited pool (InterfaceMethodref class pair) =
+    option_map (λ s. CitesInterfaceMethod s) (symbol_at pool class pair)
 cited pool _ = None
 
 -- the key of a field, and of a method, of this name and descriptor (4.3.2, 4.3.3)
 abbrev pub field_of : Name → Name → Option Key
-field_of name descriptor = option_map (λ t. record { name = name; descriptor = descriptors.Field t }) (whole_field descriptor)
+field_of name descriptor =
+    option_map (λ t. record { name = name; descriptor = descriptors.Field t })
+    (whole_field descriptor)
 
 -- the key of a method (4.3.3)
 abbrev pub method_of : Name → Name → Option Key
-method_of name descriptor = option_map (λ m. record { name = name; descriptor = descriptors.Method m }) (whole_method descriptor)
+method_of name descriptor =
+    option_map (λ m. record { name = name; descriptor = descriptors.Method m })
+    (whole_method descriptor)
 
 -- the key of a field that is referred to (4.4.2)
 abbrev pub field_key : Symbol → Option Key
@@ -149,7 +186,8 @@ abbrev pub method_key : Symbol → Option Key
 method_key s = method_of s.name s.descriptor
 
 -- a reference to a member, where its type and its key are there (4.4.2)
-abbrev pub typed_by : (FieldType → Key → Reference) → Option FieldType → Option Key → Option Reference
+abbrev pub typed_by : (FieldType → Key → Reference) → Option FieldType → Option Key
+    → Option Reference
 typed_by make (Some target) (Some key) = Some (make target key)
 typed_by make _ _ = None
 
@@ -167,16 +205,20 @@ reference_of pool e = option_and_then typed (cited pool e)
 -- the references among the entries from an index on (4.4)
 abbrev pub references_from : List Entry → ℕ → List Entry → List (ℕ × Reference)
 references_from pool i [] = []
-references_from pool i (e ∷ es) = option_to_list (option_map (λ r. (i, r)) (reference_of pool e)) ++ references_from pool (i + 1) es
+references_from pool i (e ∷ es) =
+    option_to_list (option_map (λ r. (i, r)) (reference_of pool e))
+    ++ references_from pool (i + 1) es
 
 -- what linking looks at of a field or a method (4.5, 4.6)
 abbrev pub keyed : (Name → Name → Option Key) → ℕ → Option Name → Option Name → Option Member
-keyed key flags (Some name) (Some descriptor) = option_map (λ k. record { flags = flags; key = k }) (key name descriptor)
+keyed key flags (Some name) (Some descriptor) =
+    option_map (λ k. record { flags = flags; key = k }) (key name descriptor)
 keyed key flags _ _ = None
 
 -- what linking looks at of a member of the structure (4.5, 4.6)
 abbrev pub declared_by : (Name → Name → Option Key) → List Entry → structure.Member → Option Member
-declared_by key pool m = keyed key m.flags (text_at pool m.name_index) (text_at pool m.descriptor_index)
+declared_by key pool m =
+    keyed key m.flags (text_at pool m.name_index) (text_at pool m.descriptor_index)
 
 -- what linking looks at in a structure (4.1)
 abbrev pub file_of : Structure → File
@@ -255,7 +297,9 @@ same_type a b = (a.dims == b.dims) && same_base a.base b.base
 -- two descriptors are the same (4.3)
 abbrev pub same_descriptor : Descriptor → Descriptor → Bool
 same_descriptor (descriptors.Field a) (descriptors.Field b) = same_type a b
-same_descriptor (descriptors.Method a) (descriptors.Method b) = pointwise same_type (option_to_list a.ret) (option_to_list b.ret) && pointwise same_type a.params b.params
+same_descriptor (descriptors.Method a) (descriptors.Method b) =
+    pointwise same_type (option_to_list a.ret) (option_to_list b.ret)
+    && pointwise same_type a.params b.params
 same_descriptor (descriptors.Field a) (descriptors.Method b) = false
 same_descriptor (descriptors.Method a) (descriptors.Field b) = false
 

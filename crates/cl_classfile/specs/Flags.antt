@@ -75,7 +75,8 @@ enum = 16384
 
 -- an interface is abstract, and not final, super or an enum (4.1)
 abbrev pub is_interface_flags : ℕ → Bool
-is_interface_flags flags = has flags abstract && not (has flags final) && not (has flags super) && not (has flags enum)
+is_interface_flags flags =
+    has flags abstract && not (has flags final) && not (has flags super) && not (has flags enum)
 
 -- a class that is no interface is no annotation, and not both final and abstract (4.1)
 abbrev pub is_plain_flags : ℕ → Bool
@@ -83,40 +84,51 @@ is_plain_flags flags = not (has flags annotation) && not (has flags final && has
 
 -- the flags of a class file go together (4.1)
 abbrev pub is_class_flags : ℕ → Bool
-is_class_flags flags = if has flags interface then is_interface_flags flags else is_plain_flags flags
+is_class_flags flags =
+    if has flags interface then is_interface_flags flags else is_plain_flags flags
 
 -- ---- members
 
 -- at most one of public, private and protected (4.5, 4.6)
 abbrev pub has_one_access : ℕ → Bool
-has_one_access flags = not (has flags public && has flags private) && not (has flags public && has flags protected) && not (has flags private && has flags protected)
+has_one_access flags =
+    not (has flags public && has flags private) && not (has flags public && has flags protected)
+    && not (has flags private && has flags protected)
 
 -- a field of an interface is public, static and final, and of the others synthetic at most (4.5)
 abbrev pub is_constant_flags : ℕ → Bool
 is_constant_flags flags =
     has flags public && has flags static && has flags final
-    && not (has flags private || has flags protected || has flags volatile || has flags transient || has flags enum)
+    && not (has flags private || has flags protected || has flags volatile || has flags transient
+    || has flags enum)
 
 -- a field is not both final and volatile (4.5)
 abbrev pub is_field_flags : Bool → ℕ → Bool
-is_field_flags of_interface flags = if of_interface then is_constant_flags flags else has_one_access flags && not (has flags final && has flags volatile)
+is_field_flags of_interface flags =
+    if of_interface
+    then is_constant_flags flags
+    else has_one_access flags && not (has flags final && has flags volatile)
 
 -- an abstract method is none of these (4.6)
 abbrev pub may_be_abstract : ℕ → Bool
 may_be_abstract flags =
-    not (has flags private || has flags static || has flags final || has flags synchronized || has flags native || has flags strict)
+    not (has flags private || has flags static || has flags final || has flags synchronized
+    || has flags native || has flags strict)
 
 -- a method of an interface is public or private, and none of these (4.6)
 abbrev pub may_be_of_interface : ℕ → Bool
 may_be_of_interface flags =
-    (has flags public || has flags private) && not (has flags protected || has flags final || has flags synchronized || has flags native)
+    (has flags public || has flags private)
+    && not (has flags protected || has flags final || has flags synchronized || has flags native)
 
 -- the flags of a method go together (4.6)
 abbrev pub is_method_flags : Bool → ℕ → Bool
 is_method_flags of_interface flags =
-    has_one_access flags && (not (has flags abstract) || may_be_abstract flags) && (not of_interface || may_be_of_interface flags)
+    has_one_access flags && (not (has flags abstract) || may_be_abstract flags)
+    && (not of_interface || may_be_of_interface flags)
 
 -- what makes an instance is none of these (4.6)
 abbrev pub is_init_flags : ℕ → Bool
 is_init_flags flags =
-    not (has flags static || has flags final || has flags synchronized || has flags bridge || has flags native || has flags abstract)
+    not (has flags static || has flags final || has flags synchronized || has flags bridge
+    || has flags native || has flags abstract)

@@ -6,6 +6,7 @@ pub mod Structure
 pub mod Files
 pub mod Rows
 pub mod Checking
+pub mod Numbers
 pub mod Seen
 pub mod Raw
 pub mod Reading

@@ -3,7 +3,17 @@ use Rattle.std.specs.Prelude.{Bool, false, ◌&&◌, List, Option, Some, None, o
 use Rattle.cl_classfile.specs.declared.entry.Entry.{Entry}
 use Rattle.cl_classfile.specs.Structure.{Structure}
 use Rattle.cl_classfile.specs.Structure as structure
-use Rattle.cl_classfile.specs.Files.{Name, Member, File, same_name, member, field_of, method_of, declared_by, text_at}
+use Rattle.cl_classfile.specs.Files.{
+  Name,
+  Member,
+  File,
+  same_name,
+  member,
+  field_of,
+  method_of,
+  declared_by,
+  text_at,
+}
 
 -- the field of this name and descriptor that a class declares, if it declares one (4.5)
 abbrev pub field_named : File → Name → Name → Option Member
@@ -28,4 +38,5 @@ is_this text (Some found) = same_name found text
 
 -- the member has this name and this descriptor (4.5, 4.6)
 abbrev pub has_texts : List Entry → Name → Name → structure.Member → Bool
-has_texts pool name descriptor m = is_this descriptor (text_at pool m.descriptor_index) && is_this name (text_at pool m.name_index)
+has_texts pool name descriptor m =
+    is_this descriptor (text_at pool m.descriptor_index) && is_this name (text_at pool m.name_index)

@@ -1,5 +1,20 @@
--- Fields, methods and attributes: how they are spelled, and what their tables ask (JVMS SE 8, 4.5 to 4.7).
-use Rattle.std.specs.Prelude.{◌≤◌, IsTrue, ℕ, ◌+◌, ◌<◌, ◌^◌, Bool, List, [], ◌∷◌, ◌++◌, length, if◌then◌else◌}
+-- Fields, methods and attributes: how they are spelled, and what their tables ask
+-- (JVMS SE 8, 4.5 to 4.7).
+use Rattle.std.specs.Prelude.{
+  ◌≤◌,
+  IsTrue,
+  ℕ,
+  ◌+◌,
+  ◌<◌,
+  ◌^◌,
+  Bool,
+  List,
+  [],
+  ◌∷◌,
+  ◌++◌,
+  length,
+  if◌then◌else◌,
+}
 use Rattle.std.specs.List.{flat_map, AllByRecursion}
 use Rattle.std.specs.Int.{w16, w32, to_be_bytes}
 use Rattle.cl_names.specs.Kind.{IsNameOf, IsUnqualified, IsMethod}
@@ -37,7 +52,8 @@ attribute_spelling a = to_be_bytes w16 a.name_index ++ (to_be_bytes w32 (length 
 abbrev pub member_spelling : Member → List ℕ
 member_spelling m =
     to_be_bytes w16 m.flags
-    ++ (to_be_bytes w16 m.name_index ++ (to_be_bytes w16 m.descriptor_index ++ counted attribute_spelling m.attributes))
+    ++ (to_be_bytes w16 m.name_index
+    ++ (to_be_bytes w16 m.descriptor_index ++ counted attribute_spelling m.attributes))
 
 -- ---- what the widths hold
 
@@ -65,9 +81,12 @@ pub record KeepsField (pool : List Entry) (of_interface : Bool) (m : Member) : T
   pub name : HasText pool m.name_index (IsNameOf IsUnqualified)
   pub descriptor : HasText pool m.descriptor_index IsField
 
--- the parameters count at most 255 units, with one for this where the method is of an instance (4.3.3)
+-- the parameters count at most 255 units, with one for this where the method is of an instance
+-- (4.3.3)
 abbrev pub TakesUnits : Bool → List ℕ → Type 0
-TakesUnits of_class text = descriptors.IsMethod text (λ m. descriptors.IsMethodType m × (units_of_method m + (if of_class then 0 else 1) ≤ 255))
+TakesUnits of_class text =
+    descriptors.IsMethod text
+    (λ m. descriptors.IsMethodType m × (units_of_method m + (if of_class then 0 else 1) ≤ 255))
 
 -- the flags of <clinit> are not looked at; those of <init> are more narrow (4.6)
 pub record KeepsMethod (pool : List Entry) (of_interface : Bool) (m : Member) : Type 0 where
@@ -90,9 +109,11 @@ pub record SameMember (pool : List Entry) (a b : Member) : Type 0 where
 -- none of the members agrees with one before it, nor with one of these (4.5, 4.6)
 abbrev pub AreNew : List Entry → List Member → List Member → Type 0
 AreNew pool before [] = Unit {0}
-AreNew pool before (m ∷ ms) = AllByRecursion (λ e. SameMember pool e m → ⊥) before × AreNew pool (before ++ m ∷ []) ms
+AreNew pool before (m ∷ ms) =
+    AllByRecursion (λ e. SameMember pool e m → ⊥) before × AreNew pool (before ++ m ∷ []) ms
 
 -- each member keeps its table, and no two agree (4.5, 4.6)
-pub record KeepMembers (Keeps : Member → Type 0) (pool : List Entry) (ms : List Member) : Type 0 where
+pub record KeepMembers (Keeps : Member → Type 0) (pool : List Entry) (ms : List Member)
+    : Type 0 where
   pub each : AllByRecursion Keeps ms
   pub new : AreNew pool [] ms

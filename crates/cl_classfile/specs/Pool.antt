@@ -1,11 +1,52 @@
--- The entries of the pool: how each is spelled, and what its row of the table asks (JVMS SE 8, 4.4).
-use Rattle.std.specs.Prelude.{◌≡◌, ◌≢◌, ◌⊎◌, ◌≤◌, ℕ, zero, suc, ◌<◌, ◌^◌, Bool, true, false, FitsSigned, List, [], ◌∷◌, ◌++◌, length, Option, Some, None, codes, slice_get}
+-- The entries of the pool: how each is spelled, and what its row of the table asks
+-- (JVMS SE 8, 4.4).
+use Rattle.std.specs.Prelude.{
+  ◌≡◌,
+  ◌≢◌,
+  ◌⊎◌,
+  ◌≤◌,
+  ℕ,
+  zero,
+  suc,
+  ◌<◌,
+  ◌^◌,
+  Bool,
+  true,
+  false,
+  FitsSigned,
+  List,
+  [],
+  ◌∷◌,
+  ◌++◌,
+  length,
+  Option,
+  Some,
+  None,
+  codes,
+  slice_get,
+}
 use Rattle.std.specs.Int.{w16, w32, w64, to_be_bytes, cast_unsigned}
 use Rattle.cl_names.specs.Text.{IsModifiedUtf8}
 use Rattle.cl_names.specs.Kind.{IsNameOf, IsUnqualified, IsMethod, IsClass}
 use Rattle.cl_descriptors.specs.Answers as descriptors
 use Rattle.cl_classfile.specs.declared.entry.Entry.{Entry}
-use Rattle.cl_classfile.specs.declared.entry.Entry.TheVariants.{Utf8, Integer, Float, Long, Double, Unusable, Class, String, Fieldref, Methodref, InterfaceMethodref, NameAndType, MethodHandle, MethodType, InvokeDynamic}
+use Rattle.cl_classfile.specs.declared.entry.Entry.TheVariants.{
+  Utf8,
+  Integer,
+  Float,
+  Long,
+  Double,
+  Unusable,
+  Class,
+  String,
+  Fieldref,
+  Methodref,
+  InterfaceMethodref,
+  NameAndType,
+  MethodHandle,
+  MethodType,
+  InvokeDynamic,
+}
 
 -- ---- the one spelling of each: its tag, and what follows it (table 4.4-A)
 
@@ -136,7 +177,8 @@ clinit = codes "<clinit>"
 
 -- the name, if it begins with <, is <init>, and the descriptor returns nothing (4.4.2)
 abbrev pub MayCall : List Entry → ℕ → Type 0
-MayCall pool i = (rest : List ℕ) → IsNamed pool i (60 ∷ rest) → (60 ∷ rest ≡ init) × HasPair pool i IsVoid
+MayCall pool i =
+    (rest : List ℕ) → IsNamed pool i (60 ∷ rest) → (60 ∷ rest ≡ init) × HasPair pool i IsVoid
 
 -- it is a name that a programmer may write (4.4.8)
 abbrev pub IsPlain : List Entry → ℕ → Type 0
@@ -151,8 +193,11 @@ MayPair pool name descriptor =
 -- what a method handle of each kind may be made of (4.4.8)
 abbrev pub MayHandle : List Entry → ℕ → Option Entry → Type 0
 MayHandle pool kind (Some (Fieldref class pair)) = (1 ≤ kind) × (kind ≤ 4)
-MayHandle pool kind (Some (Methodref class pair)) = (((kind ≡ 5) ⊎ ((kind ≡ 6) ⊎ (kind ≡ 7))) × IsPlain pool pair) ⊎ ((kind ≡ 8) × IsNamed pool pair init)
-MayHandle pool kind (Some (InterfaceMethodref class pair)) = ((kind ≡ 6) ⊎ ((kind ≡ 7) ⊎ (kind ≡ 9))) × IsPlain pool pair
+MayHandle pool kind (Some (Methodref class pair)) =
+    (((kind ≡ 5) ⊎ ((kind ≡ 6) ⊎ (kind ≡ 7))) × IsPlain pool pair)
+    ⊎ ((kind ≡ 8) × IsNamed pool pair init)
+MayHandle pool kind (Some (InterfaceMethodref class pair)) =
+    ((kind ≡ 6) ⊎ ((kind ≡ 7) ⊎ (kind ≡ 9))) × IsPlain pool pair
 MayHandle pool kind _ = ⊥
 
 -- what the table of entries asks of each (4.4)
@@ -161,7 +206,8 @@ KeepsEntry pool (Utf8 text) = IsModifiedUtf8 text
 KeepsEntry pool (Class text) = HasText pool text NamesType
 KeepsEntry pool (String text) = HasText pool text (λ text. Unit {0})
 KeepsEntry pool (Fieldref class pair) = HasClass pool class × HasPair pool pair IsField
-KeepsEntry pool (Methodref class pair) = HasClass pool class × HasPair pool pair IsCall × MayCall pool pair
+KeepsEntry pool (Methodref class pair) =
+    HasClass pool class × HasPair pool pair IsCall × MayCall pool pair
 KeepsEntry pool (InterfaceMethodref class pair) = HasClass pool class × HasPair pool pair IsCall
 KeepsEntry pool (NameAndType name descriptor) = MayPair pool name descriptor
 KeepsEntry pool (MethodHandle kind reference) = MayHandle pool kind (at pool reference)

@@ -1,8 +1,26 @@
 -- What is read, without where it lies in memory.
-use Rattle.std.specs.Prelude.{◌≤◌, List, length, map}
+use Rattle.std.specs.Prelude.{◌≡◌, ℕ, ◌+◌, ◌≤◌, List, [], length, map}
+use Rattle.std.specs.List.{flat_map}
 use Rattle.cl_names.specs.Text.{IsModifiedUtf8}
+use Rattle.cl_names.specs.Name.{part_of}
 use Rattle.cl_classfile.specs.declared.entry.Entry.{Entry}
-use Rattle.cl_classfile.specs.declared.entry.Entry.TheVariants.{Utf8, Integer, Float, Long, Double, Unusable, Class, String, Fieldref, Methodref, InterfaceMethodref, NameAndType, MethodHandle, MethodType, InvokeDynamic}
+use Rattle.cl_classfile.specs.declared.entry.Entry.TheVariants.{
+  Utf8,
+  Integer,
+  Float,
+  Long,
+  Double,
+  Unusable,
+  Class,
+  String,
+  Fieldref,
+  Methodref,
+  InterfaceMethodref,
+  NameAndType,
+  MethodHandle,
+  MethodType,
+  InvokeDynamic,
+}
 use Rattle.cl_classfile.specs.declared.raw.RawEntry.{RawEntry}
 use Rattle.cl_classfile.specs.declared.raw.RawEntry.TheVariants as raw
 use Rattle.cl_classfile.specs.declared.reading.RawFile.{RawFile}
@@ -47,3 +65,17 @@ plain_file f = record {
 abbrev pub HoldsText : Entry → Type 0
 HoldsText (Utf8 text) = IsModifiedUtf8 text × (length text ≤ 65535)
 HoldsText _ = Unit {0}
+
+-- the bytes of the text that an entry is, if it is one (4.4.7)
+abbrev pub text_in : Entry → List ℕ
+text_in (Utf8 text) = text
+text_in _ = []
+
+-- the texts of the entries, one behind the other
+abbrev pub texts_in : List Entry → List ℕ
+texts_in es = flat_map text_in es
+
+-- the text stands in these bytes from a place on
+pub record IsPart (text : List ℕ) (start : ℕ) (bytes : List ℕ) : Type 0 where
+  pub within : start + length text ≤ length bytes
+  pub is : part_of start (length text) bytes ≡ text

@@ -1,44 +1,94 @@
 -- Reading from left to right, with the first fault that is met.
-use Rattle.std.specs.Prelude.{ℕ, ℤ, zero, suc, ◌+◌, ◌-◌, Bool, false, ◌&&◌, List, [], ◌∷◌, length, take, drop, Result, Ok, Err, nat_lt, nat_le, ◌==◌, if◌then◌else◌}
+use Rattle.std.specs.Prelude.{
+  ℕ,
+  ℤ,
+  zero,
+  suc,
+  ◌+◌,
+  ◌-◌,
+  Bool,
+  false,
+  ◌&&◌,
+  List,
+  [],
+  ◌∷◌,
+  length,
+  take,
+  drop,
+  Result,
+  Ok,
+  Err,
+  nat_lt,
+  nat_le,
+  ◌==◌,
+  if◌then◌else◌,
+}
 use Rattle.std.specs.Int.{Width, w16, w32, w64, byte_len, from_be_bytes, cast_signed}
 use Rattle.cl_classfile.specs.declared.entry.Entry.{Entry}
-use Rattle.cl_classfile.specs.declared.entry.Entry.TheVariants.{Utf8, Integer, Float, Long, Double, Unusable, Class, String, Fieldref, Methodref, InterfaceMethodref, NameAndType, MethodHandle, MethodType, InvokeDynamic}
+use Rattle.cl_classfile.specs.declared.entry.Entry.TheVariants.{
+  Utf8,
+  Integer,
+  Float,
+  Long,
+  Double,
+  Unusable,
+  Class,
+  String,
+  Fieldref,
+  Methodref,
+  InterfaceMethodref,
+  NameAndType,
+  MethodHandle,
+  MethodType,
+  InvokeDynamic,
+}
 use Rattle.cl_classfile.specs.declared.fault.Fault.{Fault}
-use Rattle.cl_classfile.specs.declared.fault.Fault.TheVariants.{BadMagic, Version, Truncated, Trailing, BadPool}
+use Rattle.cl_classfile.specs.declared.fault.Fault.TheVariants.{
+  BadMagic,
+  Version,
+  Truncated,
+  Trailing,
+  BadPool,
+}
 use Rattle.cl_classfile.specs.Pool.{is_wide}
 use Rattle.cl_classfile.specs.Structure.{Structure, Member, Attribute}
 use Rattle.cl_classfile.specs.Checking.{◌>>=◌, kept_file}
 
 -- ---- readers, and how they are put together
 
--- a reader takes a value from the front (own choice: a way to say in what order the bytes are read)
+-- a reader takes a value from the front: a way to say in what order the bytes are read
 abbrev pub Reader : Type 0 → Type 0
 Reader A = List ℕ → Result (A × List ℕ) Fault
 
 -- a number of so many bytes, the high one first (JVMS SE 8, 4)
 abbrev pub number_at : Width → Reader ℕ
-number_at w bytes = if nat_lt (length bytes) (byte_len w) then Err Truncated else Ok (from_be_bytes w (take (byte_len w) bytes), drop (byte_len w) bytes)
+number_at w bytes =
+    if nat_lt (length bytes) (byte_len w)
+    then Err Truncated
+    else Ok (from_be_bytes w (take (byte_len w) bytes), drop (byte_len w) bytes)
 
 -- that many bytes (4)
 abbrev pub bytes_at : ℕ → Reader (List ℕ)
-bytes_at n bytes = if nat_lt (length bytes) n then Err Truncated else Ok (take n bytes, drop n bytes)
+bytes_at n bytes =
+    if nat_lt (length bytes) n then Err Truncated else Ok (take n bytes, drop n bytes)
 
--- one field, and then another that may depend on it (own choice)
+-- one field, and then another that may depend on it
 abbrev pub then_at : {A B : Type 0} → Reader A → (A → Reader B) → Reader (A × B)
 then_at r q bytes = r bytes >>= λ x. (q x.0 x.1 >>= λ y. Ok ((x.0, y.0), y.1))
 
--- a field that passes a test, or else this fault (own choice)
+-- a field that passes a test, or else this fault
 abbrev pub test_at : {A : Type 0} → Reader A → (A → Bool) → Fault → Reader A
 test_at r test fault bytes = r bytes >>= λ x. (if test x.0 then Ok x else Err fault)
 
--- a field seen in another way (own choice)
+-- a field seen in another way
 abbrev pub map_at : {A B : Type 0} → Reader A → (A → B) → Reader B
 map_at r view bytes = r bytes >>= λ x. Ok (view x.0, x.1)
 
 -- that many of a structure, each read where the ones before it say (4: a table)
 unfoldable pub many_at : {C A : Type 0} → (C → Reader A) → (C → A → C) → ℕ → C → Reader (List A)
 many_at step next zero c bytes = Ok ([], bytes)
-many_at step next (suc n) c bytes = step c bytes >>= λ x. (many_at step next n (next c x.0) x.1 >>= λ y. Ok (x.0 ∷ y.0, y.1))
+many_at step next (suc n) c bytes =
+    step c bytes >>= λ x. (many_at step next n (next c x.0) x.1 >>= λ y. Ok (x.0 ∷ y.0, y.1))
 
 -- a length, and that many bytes (4.4.7, 4.7)
 abbrev pub sized_at : Width → Reader (List ℕ)
@@ -60,7 +110,8 @@ magic_at = test_at (number_at w32) (λ n. n == 0xcafebabe) BadMagic
 
 -- the minor and the major version (4.1; that it has to be 52.0 is own choice)
 unfoldable pub version_at : Reader (ℕ × ℕ)
-version_at = test_at (then_at (number_at w16) (λ minor. number_at w16)) (λ v. v.0 == 0 && v.1 == 52) Version
+version_at =
+    test_at (then_at (number_at w16) (λ minor. number_at w16)) (λ v. v.0 == 0 && v.1 == 52) Version
 
 -- the magic and the version (4.1)
 unfoldable pub header_at : Reader (ℕ × (ℕ × ℕ))
@@ -158,7 +209,8 @@ entries_at n = many_at (slot_at n) next_place n (1, false)
 
 -- the count of the pool, which is one more than its entries are, and they (4.1)
 unfoldable pub pool_at : Reader (List Entry)
-pool_at bytes = test_at (number_at w16) (λ n. nat_le 1 n) (BadPool 0) bytes >>= λ n. entries_at (n.0 - 1) n.1
+pool_at bytes =
+    test_at (number_at w16) (λ n. nat_le 1 n) (BadPool 0) bytes >>= λ n. entries_at (n.0 - 1) n.1
 
 -- the flags, this_class and super_class (4.1)
 unfoldable pub class_at : Reader (ℕ × (ℕ × ℕ))
@@ -170,7 +222,9 @@ interfaces_at = counted_at (number_at w16)
 
 -- a name, a length, and that many bytes (JVMS SE 8, 4.7)
 unfoldable pub attribute_at : Reader Attribute
-attribute_at = map_at (then_at (number_at w16) (λ name. sized_at w32)) (λ p. record { name_index = p.0; bytes = p.1 })
+attribute_at =
+    map_at (then_at (number_at w16) (λ name. sized_at w32))
+    (λ p. record { name_index = p.0; bytes = p.1 })
 
 -- attributes (4.7)
 unfoldable pub attributes_at : Reader (List Attribute)
@@ -179,8 +233,12 @@ attributes_at = counted_at attribute_at
 -- a field or a method (JVMS SE 8, 4.5, 4.6)
 unfoldable pub member_at : Reader Member
 member_at =
-    map_at (then_at (number_at w16) (λ flags. then_at (number_at w16) (λ name. then_at (number_at w16) (λ descriptor. attributes_at))))
-    (λ p. record { flags = p.0; name_index = p.1.0; descriptor_index = p.1.1.0; attributes = p.1.1.1 })
+    map_at
+    (then_at (number_at w16)
+    (λ flags. then_at (number_at w16)
+    (λ name. then_at (number_at w16) (λ descriptor. attributes_at))))
+    (λ p. record
+    { flags = p.0; name_index = p.1.0; descriptor_index = p.1.1.0; attributes = p.1.1.1 })
 
 -- fields or methods (4.5, 4.6)
 unfoldable pub members_at : Reader (List Member)
@@ -192,11 +250,16 @@ tables_at = then_at members_at (λ fields. then_at members_at (λ methods. attri
 
 -- what is read in order: the header, the pool, the class, the interfaces, the tables (4.1)
 abbrev pub Parts : Type 0
-Parts = (ℕ × (ℕ × ℕ)) × (List Entry × ((ℕ × (ℕ × ℕ)) × (List ℕ × (List Member × (List Member × List Attribute)))))
+Parts =
+    (ℕ × (ℕ × ℕ))
+    × (List Entry × ((ℕ × (ℕ × ℕ)) × (List ℕ × (List Member × (List Member × List Attribute)))))
 
 -- the same, read (4.1)
 unfoldable pub parts_at : Reader Parts
-parts_at = then_at header_at (λ header. then_at pool_at (λ pool. then_at class_at (λ class. then_at interfaces_at (λ interfaces. tables_at))))
+parts_at =
+    then_at header_at
+    (λ header. then_at pool_at
+    (λ pool. then_at class_at (λ class. then_at interfaces_at (λ interfaces. tables_at))))
 
 -- these as a class file (4.1)
 abbrev pub structure_of : Parts → Structure

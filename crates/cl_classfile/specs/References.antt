@@ -2,12 +2,24 @@
 use Rattle.std.specs.Prelude.{Bool, true, false, Option, Some}
 use Rattle.cl_names.specs.Kind.{IsNameOf, IsUnqualified, IsMethod}
 use Rattle.cl_classfile.specs.declared.entry.Entry.{Entry}
-use Rattle.cl_classfile.specs.declared.entry.Entry.TheVariants.{Class, Fieldref, Methodref, InterfaceMethodref}
+use Rattle.cl_classfile.specs.declared.entry.Entry.TheVariants.{
+  Class,
+  Fieldref,
+  Methodref,
+  InterfaceMethodref,
+}
 use Rattle.cl_classfile.specs.declared.reference.Symbol as code
 use Rattle.cl_classfile.specs.declared.reference.Reference.{Reference}
 use Rattle.cl_classfile.specs.declared.reference.Reference.TheVariants as references
 use Rattle.cl_classfile.specs.Pool.{IsField, IsCall, NamesType}
-use Rattle.cl_classfile.specs.Files.{Symbol, Cited, CitesClass, CitesField, CitesMethod, CitesInterfaceMethod}
+use Rattle.cl_classfile.specs.Files.{
+  Symbol,
+  Cited,
+  CitesClass,
+  CitesField,
+  CitesMethod,
+  CitesInterfaceMethod,
+}
 
 -- three texts without where they lie (4.4.2)
 abbrev pub plain_symbol : code.Symbol → Symbol

@@ -5,7 +5,7 @@ use Rattle.cl_classfile.specs.declared.fault.Fault.{Fault}
 use Rattle.cl_classfile.specs.Structure.{Structure}
 use Rattle.cl_classfile.specs.Checking.{Fails}
 
--- the answer is this file, or parts refused with this fault, unless memory ran out (own choice)
+-- the answer is this file, or parts refused with this fault, unless memory ran out
 abbrev pub Answers : Result Structure Refused → Result Structure Fault → Type 0
 Answers (Ok f) file = file ≡ Ok f
 Answers (Err r) file = Fails r.error file

@@ -1,5 +1,24 @@
 -- The table of entries as tests (JVMS SE 8, 4.4).
-use Rattle.std.specs.Prelude.{ℕ, Bool, true, false, ◌&&◌, ◌||◌, ◌==◌, nat_eq, nat_le, length, List, [], ◌∷◌, Option, Some, None, unwrap_or, if◌then◌else◌}
+use Rattle.std.specs.Prelude.{
+  ℕ,
+  Bool,
+  true,
+  false,
+  ◌&&◌,
+  ◌||◌,
+  ◌==◌,
+  nat_eq,
+  nat_le,
+  length,
+  List,
+  [],
+  ◌∷◌,
+  Option,
+  Some,
+  None,
+  unwrap_or,
+  if◌then◌else◌,
+}
 use Rattle.std.specs.Cmp.Lexicographic.{pointwise}
 use Rattle.cl_names.specs.Text.{is_text}
 use Rattle.cl_names.specs.Kind.{is_class_name, is_unqualified_name, is_method_name}
@@ -7,7 +26,18 @@ use Rattle.cl_descriptors.specs.Reading.{form_of, units_of}
 use Rattle.cl_descriptors.specs.declared.types.Form.{Form}
 use Rattle.cl_descriptors.specs.declared.types.Form.TheVariants as forms
 use Rattle.cl_classfile.specs.declared.entry.Entry.{Entry}
-use Rattle.cl_classfile.specs.declared.entry.Entry.TheVariants.{Utf8, Class, String, Fieldref, Methodref, InterfaceMethodref, NameAndType, MethodHandle, MethodType, InvokeDynamic}
+use Rattle.cl_classfile.specs.declared.entry.Entry.TheVariants.{
+  Utf8,
+  Class,
+  String,
+  Fieldref,
+  Methodref,
+  InterfaceMethodref,
+  NameAndType,
+  MethodHandle,
+  MethodType,
+  InvokeDynamic,
+}
 use Rattle.cl_classfile.specs.declared.traits.Special.{Special}
 use Rattle.cl_classfile.specs.declared.traits.Special.TheVariants as names
 use Rattle.cl_classfile.specs.declared.traits.Traits.{Traits}
@@ -68,7 +98,17 @@ traits_of text = record {
 
 -- of what is no text nothing is true (4.4)
 abbrev pub nothing : Traits
-nothing = record { stands = false; text = false; class = false; unqualified = false; method = false; special = names.Plain; form = None; units = None }
+nothing =
+    record {
+      stands = false;
+      text = false;
+      class = false;
+      unqualified = false;
+      method = false;
+      special = names.Plain;
+      form = None;
+      units = None;
+    }
 
 -- what the tables ask of the text that an entry is (4.4.7)
 abbrev pub entry_traits : Entry → Traits
@@ -88,7 +128,8 @@ is_class _ = false
 
 -- the traits of the name and of the descriptor of a name and type (4.4.6)
 abbrev pub pair_of : List Traits → Option Entry → Traits × Traits
-pair_of traits (Some (NameAndType name descriptor)) = (traits_at traits name, traits_at traits descriptor)
+pair_of traits (Some (NameAndType name descriptor)) =
+    (traits_at traits name, traits_at traits descriptor)
 pair_of traits _ = (nothing, nothing)
 
 -- the same of the name and type at an index (4.4.6)
@@ -128,7 +169,8 @@ may_handle traits pool kind (Some (Fieldref class pair)) = nat_le 1 kind && nat_
 may_handle traits pool kind (Some (Methodref class pair)) =
     (kind == 5 || kind == 6 || kind == 7) && is_plain (pair_at traits pool pair).0.special
     || kind == 8 && is_init (pair_at traits pool pair).0.special
-may_handle traits pool kind (Some (InterfaceMethodref class pair)) = (kind == 6 || kind == 7 || kind == 9) && is_plain (pair_at traits pool pair).0.special
+may_handle traits pool kind (Some (InterfaceMethodref class pair)) =
+    (kind == 6 || kind == 7 || kind == 9) && is_plain (pair_at traits pool pair).0.special
 may_handle traits pool kind _ = false
 
 -- the entry keeps its row of the table (4.4)
@@ -136,11 +178,17 @@ abbrev pub keeps_entry : List Traits → List Entry → Entry → Bool
 keeps_entry traits pool (Utf8 text) = is_text text && nat_le (length text) 65535
 keeps_entry traits pool (Class text) = (traits_at traits text).class
 keeps_entry traits pool (String text) = (traits_at traits text).stands
-keeps_entry traits pool (Fieldref class pair) = is_class (at pool class) && is_field (pair_at traits pool pair).1.form
-keeps_entry traits pool (Methodref class pair) = is_class (at pool class) && may_call (pair_at traits pool pair).0.special (pair_at traits pool pair).1.form
-keeps_entry traits pool (InterfaceMethodref class pair) = is_class (at pool class) && is_call (pair_at traits pool pair).1.form
-keeps_entry traits pool (NameAndType name descriptor) = may_pair (traits_at traits name) (traits_at traits descriptor).form
-keeps_entry traits pool (MethodHandle kind reference) = may_handle traits pool kind (at pool reference)
+keeps_entry traits pool (Fieldref class pair) =
+    is_class (at pool class) && is_field (pair_at traits pool pair).1.form
+keeps_entry traits pool (Methodref class pair) =
+    is_class (at pool class)
+    && may_call (pair_at traits pool pair).0.special (pair_at traits pool pair).1.form
+keeps_entry traits pool (InterfaceMethodref class pair) =
+    is_class (at pool class) && is_call (pair_at traits pool pair).1.form
+keeps_entry traits pool (NameAndType name descriptor) =
+    may_pair (traits_at traits name) (traits_at traits descriptor).form
+keeps_entry traits pool (MethodHandle kind reference) =
+    may_handle traits pool kind (at pool reference)
 keeps_entry traits pool (MethodType descriptor) = is_call (traits_at traits descriptor).form
 keeps_entry traits pool (InvokeDynamic bootstrap pair) = is_call (pair_at traits pool pair).1.form
 keeps_entry traits pool _ = true

@@ -1,5 +1,27 @@
 -- What a class file is, and how it is spelled (JVMS SE 8, 4.1).
-use Rattle.std.specs.Prelude.{◌≡◌, ◌≢◌, ◌⊎◌, ◌≤◌, IsTrue, IsFalse, ℕ, Bool, ◌+◌, ◌<◌, ◌^◌, false, List, [], ◌∷◌, ◌++◌, length, take, drop, Some, codes}
+use Rattle.std.specs.Prelude.{
+  ◌≡◌,
+  ◌≢◌,
+  ◌⊎◌,
+  ◌≤◌,
+  IsTrue,
+  IsFalse,
+  ℕ,
+  Bool,
+  ◌+◌,
+  ◌<◌,
+  ◌^◌,
+  false,
+  List,
+  [],
+  ◌∷◌,
+  ◌++◌,
+  length,
+  take,
+  drop,
+  Some,
+  codes,
+}
 use Rattle.std.specs.List.{flat_map, AllByRecursion}
 use Rattle.std.specs.Int.{w16, to_be_bytes}
 use Rattle.cl_names.specs.Kind.{IsNameOf, IsClass}
@@ -8,7 +30,16 @@ use Rattle.cl_classfile.specs.declared.entry.Entry.TheVariants.{Class}
 use Rattle.cl_classfile.specs.Pool.{entry_spelling, EntryFits, AreSpaced, IsText, KeepsEntry}
 pub use Rattle.cl_classfile.specs.Pool.{at}
 use Rattle.cl_classfile.specs.Flags.{has, interface, is_class_flags}
-pub use Rattle.cl_classfile.specs.Members.{Attribute, Member, counted, attribute_spelling, member_spelling, AllFit, AttributeFits, MemberFits}
+pub use Rattle.cl_classfile.specs.Members.{
+  Attribute,
+  Member,
+  counted,
+  attribute_spelling,
+  member_spelling,
+  AllFit,
+  AttributeFits,
+  MemberFits,
+}
 use Rattle.cl_classfile.specs.Members.{KeepsField, KeepsMethod, KeepMembers}
 
 -- ---- the parts
@@ -48,7 +79,8 @@ spelling f =
     ++ (to_be_bytes w16 f.this_class
     ++ (to_be_bytes w16 f.super_class
     ++ (counted (to_be_bytes w16) f.interfaces
-    ++ (counted member_spelling f.fields ++ (counted member_spelling f.methods ++ counted attribute_spelling f.attributes))))))))
+    ++ (counted member_spelling f.fields
+    ++ (counted member_spelling f.methods ++ counted attribute_spelling f.attributes))))))))
 
 -- ---- what the widths hold
 
@@ -80,11 +112,13 @@ pub record NamesClass (pool : List Entry) (i : ℕ) (name : List ℕ) : Type 0 w
 abbrev pub object : List ℕ
 object = codes "java/lang/Object"
 
--- super_class is 0 exactly in java/lang/Object, which is no interface; of any other it is a class, and of an
--- interface java/lang/Object (4.1)
+-- super_class is 0 exactly in java/lang/Object, which is no interface; of any other it is a class,
+-- and of an interface java/lang/Object (4.1)
 abbrev pub KeepsSuper : List Entry → Bool → List ℕ → ℕ → Type 0
 KeepsSuper pool of_interface name super =
-    ((name ≡ object) × IsFalse of_interface × (super ≡ 0)) ⊎ ((name ≡ object → ⊥) × (above : List ℕ) × NamesClass pool super above × (IsTrue of_interface → above ≡ object))
+    ((name ≡ object) × IsFalse of_interface × (super ≡ 0))
+    ⊎ ((name ≡ object → ⊥) × (above : List ℕ) × NamesClass pool super above
+    × (IsTrue of_interface → above ≡ object))
 
 -- an interface of the class is a class of the pool (4.1)
 abbrev pub KeepsInterface : List Entry → ℕ → Type 0
@@ -124,4 +158,5 @@ HasOtherMagic bytes = (4 ≤ length bytes) × (take 4 bytes ≢ magic)
 
 -- eight bytes stand, the magic and another version (4.1)
 abbrev pub HasOtherVersion : List ℕ → Type 0
-HasOtherVersion bytes = (8 ≤ length bytes) × (take 4 bytes ≡ magic) × (take 4 (drop 4 bytes) ≢ version)
+HasOtherVersion bytes =
+    (8 ≤ length bytes) × (take 4 bytes ≡ magic) × (take 4 (drop 4 bytes) ≢ version)

@@ -1,12 +1,23 @@
--- The texts of the faults of class files (own choice).
+-- The texts of the faults of class files.
 use Rattle.std.specs.Prelude.{ℕ, List, ◌++◌, codes}
 use Rattle.std.specs.Fmt.{decimal}
 use Rattle.cl_classfile.specs.declared.fault.Fault.{Fault}
-use Rattle.cl_classfile.specs.declared.fault.Fault.TheVariants.{BadMagic, Version, Truncated, Trailing, BadPool, BadFlags, BadMember, Duplicate, BadSupertype}
+use Rattle.cl_classfile.specs.declared.fault.Fault.TheVariants.{
+  BadMagic,
+  Version,
+  Truncated,
+  Trailing,
+  BadPool,
+  BadFlags,
+  BadMember,
+  Duplicate,
+  BadSupertype,
+}
 use Rattle.cl_classfile.specs.declared.fault.ReadError.{ReadError}
 use Rattle.cl_classfile.specs.declared.fault.ReadError.TheVariants as errors
 
--- the text of what is wrong with a class file: a code and a name, and of the pool the entry's index in decimal digits
+-- the text of what is wrong with a class file: a code and a name, and of the pool the entry's index
+-- in decimal digits
 abbrev pub fault_text : Fault → List ℕ
 fault_text BadMagic = codes "F1 BadMagic"
 fault_text Version = codes "F2 Version"

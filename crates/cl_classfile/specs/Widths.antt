@@ -2,7 +2,23 @@
 use Rattle.std.specs.Prelude.{ℕ, ℤ, pos, negsuc, ◌^◌, Bool, true, false, ◌&&◌, nat_lt, List, length}
 use Rattle.std.specs.List.{list_all}
 use Rattle.cl_classfile.specs.declared.entry.Entry.{Entry}
-use Rattle.cl_classfile.specs.declared.entry.Entry.TheVariants.{Utf8, Integer, Float, Long, Double, Unusable, Class, String, Fieldref, Methodref, InterfaceMethodref, NameAndType, MethodHandle, MethodType, InvokeDynamic}
+use Rattle.cl_classfile.specs.declared.entry.Entry.TheVariants.{
+  Utf8,
+  Integer,
+  Float,
+  Long,
+  Double,
+  Unusable,
+  Class,
+  String,
+  Fieldref,
+  Methodref,
+  InterfaceMethodref,
+  NameAndType,
+  MethodHandle,
+  MethodType,
+  InvokeDynamic,
+}
 use Rattle.cl_classfile.specs.Members.{Attribute, Member}
 
 -- ---- the pool
@@ -51,4 +67,6 @@ attribute_fits a = is_short a.name_index && nat_lt (length a.bytes) (2 ^ 32)
 
 -- each item of a field or a method is such as its width can say (4.5, 4.6)
 abbrev pub member_fits : Member → Bool
-member_fits m = is_short m.flags && is_short m.name_index && is_short m.descriptor_index && all_fit attribute_fits m.attributes
+member_fits m =
+    is_short m.flags && is_short m.name_index && is_short m.descriptor_index
+    && all_fit attribute_fits m.attributes

@@ -21,11 +21,12 @@ use crate::fault::{Fault, ReadError};
 use crate::flags::{is_interface, is_public};
 use crate::member::{Member, attributes_fit};
 use crate::members::{Kind, check_members};
+use crate::numbers::numbers_of;
 use crate::parts::{Parts, Refused};
-use crate::raw::{borrowed_entries, owned_entries};
+use crate::raw::{RawEntry, borrowed_entries, owned_entries};
 use crate::reading::{RawFile, whole_of};
 use crate::reference::{Reference, reference_at};
-use crate::rows::{all_traits, check_entries};
+use crate::rows::{all_traits, at, check_entries};
 use crate::traits::Traits;
 use crate::widths::check_slots;
 use cl_names::Name;
@@ -226,13 +227,38 @@ fn check_tables(alloc: Global, traits: &[Traits], parts: &Parts) -> Result<(), R
     let pool = parts.pool.as_slice();
     let of_interface = is_interface(parts.flags);
     let fields = parts.fields.as_slice();
-    check_members(alloc, Kind::Field, traits, pool, of_interface, fields)?;
     let methods = parts.methods.as_slice();
-    check_members(alloc, Kind::Method, traits, pool, of_interface, methods)?;
+    let numbers = numbers_of(alloc, pool, fields, methods)?;
+    check_members(alloc, Kind::Field, traits, &numbers, of_interface, fields)?;
+    check_members(alloc, Kind::Method, traits, &numbers, of_interface, methods)?;
     if !attributes_fit(parts.attributes.as_slice()) {
         return Err(ReadError::Fault(Fault::BadMember));
     }
     Ok(())
+}
+
+/// Marks the text by which a class is named.
+fn mark(pool: &[RawEntry<'_>], class: u16, marks: &mut [bool]) {
+    if let Some(RawEntry::Class(text)) = at(pool, class) {
+        if text > 0 {
+            if let Some(mark) = marks.get_mut(text as usize - 1) {
+                *mark = true;
+            }
+        }
+    }
+}
+
+/// Of each entry, whether it is the name of the class or of a direct supertype. Loading copies these, and where the class
+/// is not recorded the copies outlive its file.
+fn leaving(alloc: Global, file: &RawFile<'_>) -> Result<Vec<bool>, AllocError> {
+    let pool = file.pool.as_slice();
+    let mut marks = vec![in alloc; false; pool.len()]?;
+    mark(pool, file.this_class, marks.as_mut_slice());
+    mark(pool, file.super_class, marks.as_mut_slice());
+    for interface in file.interfaces.as_slice() {
+        mark(pool, *interface, marks.as_mut_slice());
+    }
+    Ok(marks)
 }
 
 /// The parts of what was read, of their own.
@@ -240,7 +266,8 @@ fn owned_parts(alloc: Global, file: RawFile<'_>) -> Result<Parts, AllocError>
     requires { AllByRecursion HoldsText (plain_file file).pool }
     ensures { IfOk result (λ p. plain_parts p ≡ plain_file file.entry) }
 {
-    let pool = owned_entries(alloc, file.pool.as_slice())?;
+    let apart = leaving(alloc, &file)?;
+    let pool = owned_entries(alloc, file.pool.as_slice(), apart.as_slice())?;
     Ok(Parts {
         pool,
         flags: file.flags,

@@ -11,6 +11,7 @@ mod laws;
 mod lookup;
 mod member;
 mod members;
+mod numbers;
 mod parts;
 mod pool;
 mod raw;

@@ -3,16 +3,16 @@
 ghost use Rattle.std.specs.Prelude.{◌≡◌, List, [], ◌∷◌, ◌++◌, not, IfOk};
 ghost use Rattle.std.specs.List.{list_any};
 ghost use Rattle.cl_classfile.specs.Members.{Member};
-ghost use Rattle.cl_classfile.specs.Checking.{Gives, keeps_field, has_room, keeps_method_flags, keeps_method, keeps_member, key_of, same_member, checked_list};
-ghost use Rattle.cl_classfile.specs.Seen.{HasKeys};
+ghost use Rattle.cl_classfile.specs.Checking.{Gives, keeps_field, has_room, keeps_method_flags, keeps_method, keeps_member, same_member, checked_list};
+ghost use Rattle.cl_classfile.specs.Numbers.{AreNumbers, AreNoted, IsMemberNoted, number_of};
+ghost use Rattle.cl_classfile.specs.Seen.{HasPairs};
+ghost use Rattle.cl_classfile.specs.declared.entry.Entry.{Entry};
 
-use crate::checking::text_at;
-use crate::entry::Entry;
 use crate::fault::{Fault, ReadError};
 use crate::flags::{is_field_flags, is_init_flags, is_method_flags, is_static};
 use crate::member::Member;
+use crate::numbers::Numbers;
 use crate::rows::traits_at;
-use crate::text::Text;
 use crate::traits::{Special, Traits, is_field};
 use std::alloc::{AllocError, Global};
 use std::collections::BTreeSet;
@@ -72,29 +72,24 @@ fn keeps_member(kind: Kind, traits: &[Traits], of_interface: bool, member: &Memb
     }
 }
 
-/// The texts of a member's name and descriptor.
-fn key_of<'a>(pool: &'a [Entry], member: &Member) -> Option<(Text<'a>, Text<'a>)>
-    ensures { result ≡ key_of pool.now member.now }
-{
-    let name = text_at(pool, member.name_index())?;
-    let descriptor = text_at(pool, member.descriptor_index())?;
-    Some((Text::new(name.bytes()), Text::new(descriptor.bytes())))
-}
-
 /// Whether none of those seen has the name and the descriptor of this member, which is seen from now on.
-fn is_new<'a>(
-    seen: &mut BTreeSet<(Text<'a>, Text<'a>), Global>,
-    pool: &'a [Entry],
+fn is_new(
+    seen: &mut BTreeSet<(u16, u16), Global>,
+    numbers: &Numbers<'_>,
     member: &Member,
 ) -> Result<bool, AllocError>
-    ensures { (before : List Member) → HasKeys pool.now seen.old.keys before
-        → IfOk result (λ new. (new ≡ not (list_any (λ e. same_member pool.now e member.now) before))
-        × HasKeys pool.now seen.new.keys (before ++ member.now ∷ [])) }
+    ensures { (pool : List Entry) (before : List Member) → AreNumbers pool numbers.now
+        → IsMemberNoted pool numbers.now member.now
+        → HasPairs pool (number_of numbers.now) seen.old.keys before
+        → IfOk result (λ new. (new ≡ not (list_any (λ e. same_member pool e member.now) before))
+        × HasPairs pool (number_of numbers.now) seen.new.keys (before ++ member.now ∷ [])) }
 {
-    match key_of(pool, member) {
-        Some(key) => Ok(seen.insert(key)?),
-        None => Ok(true),
+    let name = numbers.at(member.name_index());
+    let descriptor = numbers.at(member.descriptor_index());
+    if name == 0 || descriptor == 0 {
+        return Ok(true);
     }
+    Ok(seen.insert((name, descriptor))?)
 }
 
 /// Whether a count can say how many members there are, each keeps its table, and agrees with none before it.
@@ -103,12 +98,13 @@ pub fn check_members(
     alloc: Global,
     kind: Kind,
     traits: &[Traits],
-    pool: &[Entry],
+    numbers: &Numbers<'_>,
     of_interface: bool,
     members: &[Member],
 ) -> Result<(), ReadError>
-    ensures { Gives (λ u. u) result (checked_list kind traits.now of_interface pool.now
-        members.now) }
+    // In a pool of whose texts these are the numbers.
+    ensures { (pool : List Entry) → AreNoted pool numbers.now members.now
+        → Gives (λ u. u) result (checked_list kind traits.now of_interface pool members.now) }
 {
     if members.len() > 65535 {
         return Err(ReadError::Fault(Fault::BadMember));
@@ -119,7 +115,7 @@ pub fn check_members(
         if !keeps_member(kind, traits, of_interface, member) {
             return Err(ReadError::Fault(Fault::BadMember));
         }
-        if !is_new(&mut seen, pool, member)? {
+        if !is_new(&mut seen, numbers, member)? {
             return Err(ReadError::Fault(Fault::Duplicate));
         }
     }

@@ -3,11 +3,14 @@
 ghost use Rattle.std.specs.Prelude.{◌≡◌, IfOk};
 ghost use Rattle.cl_classfile.specs.Pool.{is_wide};
 ghost use Rattle.std.specs.List.{AllByRecursion};
-ghost use Rattle.cl_classfile.specs.Raw.{plain_entry, plain_entries, HoldsText};
+ghost use Rattle.std.specs.Arc.{arc_slice_items};
+ghost use Rattle.cl_classfile.specs.Raw.{plain_entry, plain_entries, HoldsText, IsPart, text_in, texts_in};
+ghost use Rattle.cl_classfile.specs.declared.entry.Entry.TheVariants as entries;
 
 use crate::entry::Entry;
 use cl_names::Name;
 use std::alloc::{AllocError, Global};
+use std::sync::ArcSlice;
 
 /// An entry whose text still stands in the bytes, before it is looked at.
 #[derive(Clone, Copy)]
@@ -39,13 +42,70 @@ pub fn is_wide(entry: RawEntry<'_>) -> bool
     }
 }
 
-/// The entry of its own, with a copy of its text, which was looked at before.
-fn owned(alloc: Global, entry: RawEntry<'_>) -> Result<Entry, AllocError>
-    requires { HoldsText (plain_entry entry) }
+/// The bytes of the text that an entry is, if it is one.
+fn text_in(entry: RawEntry<'_>) -> &[u8]
+    ensures { result.now ≡ text_in (plain_entry entry.entry) }
+{
+    match entry {
+        RawEntry::Utf8(text) => text,
+        _ => b"".as_slice(),
+    }
+}
+
+/// How many bytes the texts of the entries have, or so many as there can be.
+fn texts_len(pool: &[RawEntry<'_>]) -> usize {
+    let mut len = 0usize;
+    for entry in pool {
+        len = len.saturating_add(text_in(*entry).len());
+    }
+    len
+}
+
+/// The texts of the entries, one behind the other.
+fn texts_of(alloc: Global, pool: &[RawEntry<'_>]) -> Result<Vec<u8>, AllocError>
+    ensures { IfOk result (λ v. v.items ≡ texts_in (plain_entries pool.now)) }
+{
+    let mut texts = Vec::with_capacity(alloc, texts_len(pool))?;
+    for entry in pool {
+        texts.extend_from_slice(text_in(*entry))?;
+    }
+    Ok(texts)
+}
+
+/// The name of a text, which was looked at before and stands among the shared ones from `start` on: a part of these, or
+/// with bytes of its own.
+fn name_of(
+    alloc: Global,
+    shared: &ArcSlice<u8>,
+    start: usize,
+    is_apart: bool,
+    text: &[u8],
+) -> Result<Name, AllocError>
+    requires text { HoldsText (entries.Utf8 text.now) }
+    requires place { IsPart text.now start (arc_slice_items shared.now) }
+    ensures { IfOk result (λ name. name ≡ text.now) }
+{
+    if is_apart {
+        Name::of_text(alloc, text)
+    } else {
+        Name::shared(alloc, shared, start, text.len())
+    }
+}
+
+/// The entry of its own.
+fn owned(
+    alloc: Global,
+    shared: &ArcSlice<u8>,
+    start: usize,
+    is_apart: bool,
+    entry: RawEntry<'_>,
+) -> Result<Entry, AllocError>
+    requires text { HoldsText (plain_entry entry) }
+    requires place { IsPart (text_in (plain_entry entry)) start (arc_slice_items shared.now) }
     ensures { IfOk result (λ e. e ≡ plain_entry entry.entry) }
 {
     Ok(match entry {
-        RawEntry::Utf8(text) => Entry::Utf8(Name::of_text(alloc, text)?),
+        RawEntry::Utf8(text) => Entry::Utf8(name_of(alloc, shared, start, is_apart, text)?),
         RawEntry::Integer(value) => Entry::Integer(value),
         RawEntry::Float(bits) => Entry::Float(bits),
         RawEntry::Long(value) => Entry::Long(value),
@@ -87,14 +147,23 @@ fn owned(alloc: Global, entry: RawEntry<'_>) -> Result<Entry, AllocError>
     })
 }
 
-/// The entries of their own.
-pub fn owned_entries(alloc: Global, pool: &[RawEntry<'_>]) -> Result<Vec<Entry>, AllocError>
+/// The entries of their own. Their texts share one allocation, but for those at the places that are marked: these have
+/// bytes of their own, since copies of them may outlive the file.
+pub fn owned_entries(
+    alloc: Global,
+    pool: &[RawEntry<'_>],
+    apart: &[bool],
+) -> Result<Vec<Entry>, AllocError>
     requires { AllByRecursion HoldsText (plain_entries pool.now) }
     ensures { IfOk result (λ v. v.items ≡ plain_entries pool.now) }
 {
+    let shared = ArcSlice::from_vec(texts_of(alloc, pool)?)?;
     let mut entries = Vec::with_capacity(alloc, pool.len())?;
-    for entry in pool {
-        entries.push(owned(alloc, *entry)?)?;
+    let mut start = 0;
+    for (i, entry) in pool.iter().enumerate() {
+        let is_apart = apart.get(i).copied().unwrap_or(false);
+        entries.push(owned(alloc, &shared, start, is_apart, *entry)?)?;
+        start += text_in(*entry).len();
     }
     Ok(entries)
 }

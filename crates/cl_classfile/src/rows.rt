@@ -63,7 +63,7 @@ fn raw_at<'a, 'b>(pool: &'b [RawEntry<'a>], index: u16) -> Option<&'b RawEntry<'
 
 /// The entry at an index.
 #[tactic(auto, using(crate::proofs::Entries::at_plain))]
-fn at<'a>(pool: &[RawEntry<'a>], index: u16) -> Option<RawEntry<'a>>
+pub fn at<'a>(pool: &[RawEntry<'a>], index: u16) -> Option<RawEntry<'a>>
     ensures { option_map plain_entry result ≡ at (plain_entries pool.now) index }
 {
     match raw_at(pool, index) {

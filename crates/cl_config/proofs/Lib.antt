@@ -6,3 +6,4 @@ pub mod Places
 pub mod Requests
 pub mod Stops
 pub mod Tops
+pub mod Worked

@@ -10,18 +10,75 @@ use Rattle.cl_model.specs.declared.request.Request.TheVariants.{Load, Resolve, L
 use Rattle.cl_names.specs.Escape.{WritesName}
 use Rattle.cl_names.proofs.Escapes.{name_alone}
 use Rattle.cl_lines.specs.Lines.{Numbered, words_of}
+use Rattle.std.specs.Str.Parse.{digits_value}
+use Rattle.cl_config.specs.declared.script.Action.{Action}
+use Rattle.cl_config.specs.declared.script.Action.TheVariants as actions
 use Rattle.cl_config.specs.declared.script.Said.{Said}
 use Rattle.cl_config.specs.declared.script.Said.TheVariants.{Ask, Then}
 use Rattle.cl_config.specs.Views.{Scripted}
-use Rattle.cl_config.specs.Scripts.{loader_named, HasLoader, HasLoaders, IsLoad, IsLoadRequest, IsThen, Asks, Says, AllSay, requests_in, rounds_in, thens_in, Fits, StopsAt, Tells, IsOver, IsScript}
+use Rattle.cl_config.specs.Scripts.{loader_named, HasLoader, HasLoaders, HasWords, IsRequest, IsThen, WritesIndex, AsksFor, Asks, Says, AllSay, requests_in, rounds_in, thens_in, Fits, StopsAt, Tells, IsOver, IsScript}
 use Rattle.cl_names.specs.Name.{WritesClass}
 
-third_word : {a b c d e f : List ℕ} → a ∷ b ∷ c ∷ [] ≡ d ∷ e ∷ f ∷ [] → c ≡ f
-third_word h = cc
+-- ---- the words of a request
+
+-- two lists of words that are the same
+record SameWords (a b : List ℕ) (l m t u : List ℕ) (xs ys : List (List ℕ)) : Type 0 where
+  pub first : a ≡ b
+  pub loaders : l ≡ m
+  pub texts : t ≡ u
+  pub rests : xs ≡ ys
+
+same_words : (words : List (List ℕ)) (a b l m t u : List ℕ) (xs ys : List (List ℕ)) → words ≡ a ∷ l ∷ t ∷ xs → words ≡ b ∷ m ∷ u ∷ ys → SameWords a b l m t u xs ys
+same_words words a b l m t u xs ys h k = record { first = cc; loaders = cc; texts = cc; rests = cc }
+
+same_index : (n m : List ℕ) (i j : ℕ) → n ∷ [] ≡ m ∷ [] → WritesIndex n i → WritesIndex m j → i ≡ j
+same_index n m i j e v w = let same : n ≡ m = cc in v.value ∙ ap (digits_value 10) same ∙ sym w.value
+
+-- what a test tells apart is not the same
+apart : {a b : List ℕ} {C : Type 0} (test : List ℕ → Bool) → test a ≡ true → test b ≡ false → a ≡ b → C
+apart test holds fails same = let told = sym holds ∙ ap test same ∙ fails in absurd cc
+
+-- what two readings of a line's words agree on
+pub record AreOne (a b : Action) (l m t u : List ℕ) : Type 0 where
+  pub actions : a ≡ b
+  pub loaders : l ≡ m
+  pub texts : t ≡ u
+
+pub words_alone : (line : List ℕ) (a b : Action) (l m t u : List ℕ) → HasWords line a l t → HasWords line b m u → AreOne a b l m t u
+words_alone line actions.Load actions.Load l m t u h k = let w = same_words (words_of line) _ _ l m t u _ _ h k in record { actions = refl; loaders = w.loaders; texts = w.texts }
+words_alone line actions.Load (actions.Resolve j) l m t u h k = let w = same_words (words_of line) _ _ l m t u _ _ h k.1 in apart (pointwise nat_eq (codes "load")) refl refl w.first
+words_alone line actions.Load actions.Link l m t u h k = let w = same_words (words_of line) _ _ l m t u _ _ h k in apart (pointwise nat_eq (codes "load")) refl refl w.first
+words_alone line (actions.Resolve i) actions.Load l m t u h k = let w = same_words (words_of line) _ _ l m t u _ _ h.1 k in apart (pointwise nat_eq (codes "resolve")) refl refl w.first
+words_alone line (actions.Resolve i) (actions.Resolve j) l m t u h k =
+    let w = same_words (words_of line) _ _ l m t u _ _ h.1 k.1 in
+    record { actions = ap (λ (n : ℕ). actions.Resolve n) (same_index h.0 k.0 i j w.rests h.2 k.2); loaders = w.loaders; texts = w.texts }
+words_alone line (actions.Resolve i) actions.Link l m t u h k = let w = same_words (words_of line) _ _ l m t u _ _ h.1 k in apart (pointwise nat_eq (codes "resolve")) refl refl w.first
+words_alone line actions.Link actions.Load l m t u h k = let w = same_words (words_of line) _ _ l m t u _ _ h k in apart (pointwise nat_eq (codes "link")) refl refl w.first
+words_alone line actions.Link (actions.Resolve j) l m t u h k = let w = same_words (words_of line) _ _ l m t u _ _ h k.1 in apart (pointwise nat_eq (codes "link")) refl refl w.first
+words_alone line actions.Link actions.Link l m t u h k = let w = same_words (words_of line) _ _ l m t u _ _ h k in record { actions = refl; loaders = w.loaders; texts = w.texts }
+
+words_no_round : (line : List ℕ) (a : Action) (l t : List ℕ) → HasWords line a l t → IsThen line → ⊥
+words_no_round line actions.Load l t h e = absurd cc
+words_no_round line (actions.Resolve i) l t h e = let words = h.1 in absurd cc
+words_no_round line actions.Link l t h e = absurd cc
 
 -- a line whose third word writes no class's name
-pub no_load : (line word text : List ℕ) → words_of line ≡ codes "load" ∷ word ∷ text ∷ [] → ((name : List ℕ) → WritesClass text name → ⊥) → (loader name : List ℕ) → IsLoad line loader name → ⊥
-no_load line word text words none loader name t = none name (subst (λ w. WritesClass w name) (third_word (sym t.words ∙ words)) t.writes)
+pub no_request : (line : List ℕ) (a b : Action) (word text loader name : List ℕ) → HasWords line a word text → ((name : List ℕ) → WritesClass text name → ⊥) → IsRequest line b loader name → ⊥
+no_request line a b word text loader name words none t = none name (subst (λ w. WritesClass w name) (words_alone line b a loader word t.text text t.words words).texts t.writes)
+
+-- a line asks for one thing, of one class
+pub record AsksOne (a b : Action) (l m n o : List ℕ) : Type 0 where
+  pub actions : a ≡ b
+  pub loaders : l ≡ m
+  pub names : n ≡ o
+
+pub one_asked : (line : List ℕ) (a b : Action) (l m n o : List ℕ) → IsRequest line a l n → IsRequest line b m o → AsksOne a b l m n o
+one_asked line a b l m n o t u =
+    let w = words_alone line a b l m t.text u.text t.words u.words in
+    record { actions = w.actions; loaders = w.loaders; names = name_alone u.text n o (subst (λ v. WritesName v n) w.texts t.writes.written) u.writes.written }
+
+pub request_is_no_round : (line : List ℕ) (a : Action) (loader name : List ℕ) → IsRequest line a loader name → IsThen line → ⊥
+request_is_no_round line a loader name t u = words_no_round line a loader t.text t.words u
 
 -- ---- one thing more is said
 
@@ -175,20 +232,8 @@ within false n count l e f = absurd cc
 
 has_loader : (names : List (List ℕ)) (line : List ℕ) (request : Request) → Asks names line request → HasLoader (length names) request
 has_loader names line (Load loader name) t = within _ (position_or_len (λ name. pointwise nat_eq name t.word) names) (length names) loader refl t.known
-has_loader names line (Resolve loader name index) t = absurd t
-has_loader names line (Link loader name) t = absurd t
-
-is_load : (names : List (List ℕ)) (line : List ℕ) (request : Request) → Asks names line request → IsLoadRequest request
-is_load names line (Load loader name) t = tt
-is_load names line (Resolve loader name index) t = absurd t
-is_load names line (Link loader name) t = absurd t
-
-are_loads : (names : List (List ℕ)) (lines : List Numbered) (xs : List Said) → AllSay names lines xs → All IsLoadRequest (requests_in xs)
-are_loads names [] [] t = All-nil IsLoadRequest
-are_loads names [] (x ∷ xs) t = absurd t
-are_loads names (l ∷ ls) [] t = absurd t
-are_loads names (l ∷ ls) (Ask r ∷ xs) t = All-cons IsLoadRequest r (requests_in xs) (is_load names l.text r t.0) (are_loads names ls xs t.1)
-are_loads names (l ∷ ls) (Then ∷ xs) t = are_loads names ls xs t.1
+has_loader names line (Resolve loader name index) t = within _ (position_or_len (λ name. pointwise nat_eq name t.word) names) (length names) loader refl t.known
+has_loader names line (Link loader name) t = within _ (position_or_len (λ name. pointwise nat_eq name t.word) names) (length names) loader refl t.known
 
 have_loaders : (names : List (List ℕ)) (lines : List Numbered) (xs : List Said) → AllSay names lines xs → HasLoaders (length names) (requests_in xs)
 have_loaders names [] [] t = All-nil (HasLoader (length names))
@@ -227,7 +272,6 @@ rounds_below n top (Then ∷ xs) h = rounds_below (n + 1) top xs (omega arith)
 pub tells_script : (names : List (List ℕ)) (lines : List Numbered) (s : Scripted) → Tells names lines s → IsScript s
 tells_script names lines s t = subst (λ (s : Scripted). IsScript s) (sym t.is) (record {
   few = t.fits.requests;
-  loads = are_loads names lines t.said t.says;
   each = each_has_round 0 t.said;
   within = rounds_below 0 (thens_in t.said + 1) t.said (omega arith);
   in_order = rounds_ordered 0 t.said;
@@ -236,33 +280,35 @@ tells_script names lines s t = subst (λ (s : Scripted). IsScript s) (sym t.is) 
 
 -- ---- a line says one thing at most
 
-pub second_word : {a b c d e f : List ℕ} → a ∷ b ∷ c ∷ [] ≡ d ∷ e ∷ f ∷ [] → b ≡ e
-second_word h = cc
-
 some_same : {a b : ℕ} → Some a ≡ Some b → a ≡ b
 some_same h = cc
 
-pub load_is_no_round : (line loader name : List ℕ) → IsLoad line loader name → IsThen line → ⊥
-load_is_no_round line loader name t u = no_two (sym t.words ∙ u)
-  where
-    no_two : {a b c d : List ℕ} → a ∷ b ∷ c ∷ [] ≡ d ∷ [] → ⊥
-    no_two h = absurd cc
+-- the same is asked for, of the same class through the same loader
+record AreSame (a b : Action) (l m : ℕ) (n o : List ℕ) : Type 0 where
+  pub actions : a ≡ b
+  pub loaders : l ≡ m
+  pub names : n ≡ o
+
+one_call : (names : List (List ℕ)) (line : List ℕ) (a b : Action) (l m : ℕ) (n o : List ℕ) → AsksFor names line a l n → AsksFor names line b m o → AreSame a b l m n o
+one_call names line a b l m n o t u =
+    let one = one_asked line a b t.word u.word n o t.request u.request in
+    record { actions = one.actions; loaders = some_same (sym t.known ∙ ap (loader_named names) one.loaders ∙ u.known); names = one.names }
 
 one_request : (names : List (List ℕ)) (line : List ℕ) (r s : Request) → Asks names line r → Asks names line s → r ≡ s
-one_request names line (Load l n) (Load m o) t u =
-    let words : codes "load" ∷ t.word ∷ t.load.text ∷ [] ≡ codes "load" ∷ u.word ∷ u.load.text ∷ [] = sym t.load.words ∙ u.load.words in
-    let same_name : n ≡ o = name_alone u.load.text n o (subst (λ w. WritesName w n) (third_word words) t.load.writes.written) u.load.writes.written in
-    let same_loader : Some l ≡ Some m = sym t.known ∙ ap (loader_named names) (second_word words) ∙ u.known in
-    ap (λ k. Load k n) (some_same same_loader) ∙ ap (Load m) same_name
-one_request names line (Load l n) (Resolve m o i) t u = absurd u
-one_request names line (Load l n) (Link m o) t u = absurd u
-one_request names line (Resolve l n i) s t u = absurd t
-one_request names line (Link l n) s t u = absurd t
+one_request names line (Load l n) (Load m o) t u = let one = one_call names line _ _ l m n o t u in cc
+one_request names line (Load l n) (Resolve m o i) t u = let one = (one_call names line _ _ l m n o t u).actions in absurd cc
+one_request names line (Load l n) (Link m o) t u = let one = (one_call names line _ _ l m n o t u).actions in absurd cc
+one_request names line (Resolve l n i) (Load m o) t u = let one = (one_call names line _ _ l m n o t u).actions in absurd cc
+one_request names line (Resolve l n i) (Resolve m o j) t u = let one = one_call names line _ _ l m n o t u in cc
+one_request names line (Resolve l n i) (Link m o) t u = let one = (one_call names line _ _ l m n o t u).actions in absurd cc
+one_request names line (Link l n) (Load m o) t u = let one = (one_call names line _ _ l m n o t u).actions in absurd cc
+one_request names line (Link l n) (Resolve m o i) t u = let one = (one_call names line _ _ l m n o t u).actions in absurd cc
+one_request names line (Link l n) (Link m o) t u = let one = one_call names line _ _ l m n o t u in cc
 
 no_round : (names : List (List ℕ)) (line : List ℕ) (r : Request) → Asks names line r → IsThen line → ⊥
-no_round names line (Load l n) t u = load_is_no_round line t.word n t.load u
-no_round names line (Resolve l n i) t u = absurd t
-no_round names line (Link l n) t u = absurd t
+no_round names line (Load l n) t u = request_is_no_round line _ t.word n t.request u
+no_round names line (Resolve l n i) t u = request_is_no_round line _ t.word n t.request u
+no_round names line (Link l n) t u = request_is_no_round line _ t.word n t.request u
 
 pub one_said : (names : List (List ℕ)) (line : List ℕ) (x y : Said) → Says names line x → Says names line y → x ≡ y
 one_said names line (Ask r) (Ask s) t u = ap (λ q. Ask q) (one_request names line r s t u)

@@ -1,15 +1,16 @@
 -- A text is one script, or has one first line that is wrong.
-use Rattle.std.proofs.Common.{◌≡◌, ◌⊎◌, ℕ, ◌≤◌, List, [], ◌∷◌, ◌++◌, length, Some, None, Option, Ok, codes, refl, sym, ap, subst, ◌∙◌, arith, inl, inr, append_assoc}
+use Rattle.std.proofs.Common.{◌≡◌, ◌⊎◌, ℕ, ◌≤◌, List, [], ◌∷◌, ◌++◌, length, Some, None, Option, Ok, refl, sym, ap, subst, ◌∙◌, arith, inl, inr, append_assoc}
 use Rattle.cl_model.specs.declared.request.Request.{Request}
 use Rattle.cl_model.specs.declared.request.Request.TheVariants.{Load, Resolve, Link}
 use Rattle.cl_lines.specs.Lines.{Numbered, stated_from}
+use Rattle.cl_config.specs.declared.script.Action.{Action}
 use Rattle.cl_config.specs.declared.script.Said.{Said}
 use Rattle.cl_config.specs.declared.script.Said.TheVariants.{Ask, Then}
 use Rattle.cl_config.specs.declared.script.ScriptFault.TheVariants.{Memory, BadLine, UnknownLoader, TooMany}
 use Rattle.cl_config.specs.Views.{Scripted}
-use Rattle.cl_config.specs.Scripts.{loader_named, IsBad, LacksLoader, Asks, Says, AllSay, requests_in, thens_in, Fits, script_from, StopsAt, Tells, IsOver, script_of}
+use Rattle.cl_config.specs.Scripts.{loader_named, AsksFor, IsBad, LacksLoader, Asks, Says, AllSay, requests_in, thens_in, Fits, script_from, StopsAt, Tells, IsOver, script_of}
 use Rattle.cl_config.specs.ScriptLaws.{ScriptHasOneFault, ScriptOrItsFault}
-use Rattle.cl_config.proofs.Requests.{second_word, load_is_no_round, one_said, all_one_said}
+use Rattle.cl_config.proofs.Requests.{one_asked, request_is_no_round, one_said, all_one_said}
 
 -- ---- one line
 
@@ -18,9 +19,9 @@ SaysNot : List (List ℕ) → Numbered → Type 0
 SaysNot names line = (x : Said) → Says names line.text x → ⊥
 
 bad_asks_not : (names : List (List ℕ)) (line : Numbered) (r : Request) → IsBad line.text → Asks names line.text r → ⊥
-bad_asks_not names line (Load l n) bad t = bad.load t.word n t.load
-bad_asks_not names line (Resolve l n i) bad t = absurd t
-bad_asks_not names line (Link l n) bad t = absurd t
+bad_asks_not names line (Load l n) bad t = bad.request _ t.word n t.request
+bad_asks_not names line (Resolve l n i) bad t = bad.request _ t.word n t.request
+bad_asks_not names line (Link l n) bad t = bad.request _ t.word n t.request
 
 bad_says_not : (names : List (List ℕ)) (line : Numbered) → IsBad line.text → SaysNot names line
 unfolding SaysNot
@@ -30,17 +31,20 @@ bad_says_not names line bad Then t = bad.round t
 none_or_some : (o : Option ℕ) (n : ℕ) → o ≡ None → o ≡ Some n → ⊥
 none_or_some o n e f = absurd cc
 
+lacks_calls_not : (names : List (List ℕ)) (line : List ℕ) (a : Action) (l : ℕ) (n : List ℕ) → LacksLoader names line → AsksFor names line a l n → ⊥
+lacks_calls_not names line a l n v t =
+    let one = one_asked line v.action a v.word t.word v.name n v.request t.request in
+    none_or_some (loader_named names v.word) l v.unknown (ap (loader_named names) one.loaders ∙ t.known)
+
 lacks_asks_not : (names : List (List ℕ)) (line : Numbered) (r : Request) → LacksLoader names line.text → Asks names line.text r → ⊥
-lacks_asks_not names line (Load l n) v t =
-    let words : codes "load" ∷ v.0 ∷ v.2.text ∷ [] ≡ codes "load" ∷ t.word ∷ t.load.text ∷ [] = sym v.2.words ∙ t.load.words in
-    none_or_some (loader_named names v.0) l v.3 (ap (loader_named names) (second_word words) ∙ t.known)
-lacks_asks_not names line (Resolve l n i) v t = absurd t
-lacks_asks_not names line (Link l n) v t = absurd t
+lacks_asks_not names line (Load l n) v t = lacks_calls_not names line.text _ l n v t
+lacks_asks_not names line (Resolve l n i) v t = lacks_calls_not names line.text _ l n v t
+lacks_asks_not names line (Link l n) v t = lacks_calls_not names line.text _ l n v t
 
 lacks_says_not : (names : List (List ℕ)) (line : Numbered) → LacksLoader names line.text → SaysNot names line
 unfolding SaysNot
 lacks_says_not names line v (Ask r) t = lacks_asks_not names line r v t
-lacks_says_not names line v Then t = load_is_no_round line.text v.0 v.1 v.2 t
+lacks_says_not names line v Then t = request_is_no_round line.text v.action v.word v.name v.request t
 
 -- ---- lines and what they say, cut at the same place
 
@@ -165,7 +169,7 @@ one_number m n a b e f h = e ∙ ap (λ (l : Numbered). l.number) h ∙ sym f
 
 -- a line that is none of a script lacks no loader
 bad_or_lacks : (names : List (List ℕ)) (a b : Numbered) → a ≡ b → IsBad a.text → LacksLoader names b.text → ⊥
-bad_or_lacks names a b e bad lacks = let same = subst (λ (l : Numbered). IsBad l.text) e bad in same.load lacks.0 lacks.1 lacks.2
+bad_or_lacks names a b e bad lacks = let same = subst (λ (l : Numbered). IsBad l.text) e bad in same.request lacks.action lacks.word lacks.name lacks.request
 
 pub script_has_one_fault : ScriptHasOneFault
 script_has_one_fault names text Memory g v w some other = absurd (some refl)

@@ -1,8 +1,14 @@
--- The texts of the faults of configurations (own choice).
+-- The texts of the faults of configurations.
 use Rattle.std.specs.Prelude.{ℕ, List, ◌++◌, codes}
 use Rattle.std.specs.Fmt.{decimal}
 use Rattle.cl_config.specs.declared.fault.ConfigFault.{ConfigFault}
-use Rattle.cl_config.specs.declared.fault.ConfigFault.TheVariants.{NotToml, BadLoader, UnknownLoader, LaterLoader, TooMany}
+use Rattle.cl_config.specs.declared.fault.ConfigFault.TheVariants.{
+  NotToml,
+  BadLoader,
+  UnknownLoader,
+  LaterLoader,
+  TooMany,
+}
 use Rattle.cl_config.specs.declared.fault.ConfigError.{ConfigError}
 use Rattle.cl_config.specs.declared.fault.ConfigError.TheVariants as errors
 

@@ -1,10 +1,44 @@
--- Which texts are configurations, and which is the first fault of any other (own choice; JVMS SE 8, 5.3.2).
-use Rattle.std.specs.Prelude.{◌<◌, ◌≤◌, ℕ, suc, ◌+◌, Bool, true, ◌&&◌, is_some, nat_lt, nat_eq, if◌then◌else◌, List, [], ◌∷◌, length, position, codes, Option, Some, None, Result, Ok, Err, IfSome, All}
+-- Which texts are configurations, and which is the first fault of any other
+-- (own choice; JVMS SE 8, 5.3.2).
+use Rattle.std.specs.Prelude.{
+  ◌<◌,
+  ◌≤◌,
+  ℕ,
+  suc,
+  ◌+◌,
+  Bool,
+  true,
+  ◌&&◌,
+  is_some,
+  nat_lt,
+  nat_eq,
+  if◌then◌else◌,
+  List,
+  [],
+  ◌∷◌,
+  length,
+  position,
+  codes,
+  Option,
+  Some,
+  None,
+  Result,
+  Ok,
+  Err,
+  IfSome,
+  All,
+}
 use Rattle.std.specs.Cmp.Lexicographic.{pointwise}
 use Rattle.toml.specs.Data.{as_array, as_table, Items, no_items, item, Members, get_member}
 use Rattle.toml.specs.Parse.{parse_document}
 use Rattle.cl_config.specs.declared.fault.ConfigFault.{ConfigFault}
-use Rattle.cl_config.specs.declared.fault.ConfigFault.TheVariants.{NotToml, BadLoader, UnknownLoader, LaterLoader, TooMany}
+use Rattle.cl_config.specs.declared.fault.ConfigFault.TheVariants.{
+  NotToml,
+  BadLoader,
+  UnknownLoader,
+  LaterLoader,
+  TooMany,
+}
 use Rattle.cl_config.specs.Steps.{◌>>=◌}
 use Rattle.cl_config.specs.Fields.{is_one_of, required, has_only, list_from}
 use Rattle.cl_config.specs.Entries.{Entry, EntryImport, entries_of}
@@ -32,7 +66,9 @@ are_tables (item d ds) = is_some (as_table d) && are_tables ds
 
 -- the array at the top
 abbrev pub array_at : Members → Result Items ConfigFault
-array_at ms = required (BadLoader 0) (get_member (codes "loader") ms) >>= λ d. required (BadLoader 0) (as_array d)
+array_at ms =
+    required (BadLoader 0) (get_member (codes "loader") ms)
+    >>= λ d. required (BadLoader 0) (as_array d)
 
 -- some tables, and not too many, where nothing stands beside them
 abbrev pub checked : Bool → Items → Result Items ConfigFault

@@ -1,5 +1,28 @@
--- Which tables are loaders, and what they say, each parent and import still by its name (own choice; JVMS SE 8, 5.3.2).
-use Rattle.std.specs.Prelude.{ℕ, Bool, not, ◌&&◌, ◌||◌, ◌==◌, nat_le, nat_lt, nat_eq, if◌then◌else◌, List, [], ◌∷◌, length, codes, Option, Some, None, Result, Ok, Err}
+-- Which tables are loaders, and what they say, each parent and import still by its name
+-- (JVMS SE 8, 5.3.2).
+use Rattle.std.specs.Prelude.{
+  ℕ,
+  Bool,
+  not,
+  ◌&&◌,
+  ◌||◌,
+  ◌==◌,
+  nat_le,
+  nat_lt,
+  nat_eq,
+  if◌then◌else◌,
+  List,
+  [],
+  ◌∷◌,
+  length,
+  codes,
+  Option,
+  Some,
+  None,
+  Result,
+  Ok,
+  Err,
+}
 use Rattle.std.specs.List.{list_any, list_all}
 use Rattle.std.specs.Cmp.Lexicographic.{pointwise}
 use Rattle.toml.specs.Data.{Data, as_array, Items, get_member}
@@ -7,7 +30,17 @@ use Rattle.cl_config.specs.declared.fault.ConfigFault.{ConfigFault}
 use Rattle.cl_config.specs.declared.fault.ConfigFault.TheVariants.{BadLoader, TooMany}
 use Rattle.cl_config.specs.declared.order.Order.{Order}
 use Rattle.cl_config.specs.Steps.{◌>>=◌}
-use Rattle.cl_config.specs.Fields.{is_one_of, required, table_of, text_of, optional_text, name_of, order_of, or_else, each_from}
+use Rattle.cl_config.specs.Fields.{
+  is_one_of,
+  required,
+  table_of,
+  text_of,
+  optional_text,
+  name_of,
+  order_of,
+  or_else,
+  each_from,
+}
 
 -- the most imports of a loader
 abbrev pub most_imports : ℕ
@@ -49,15 +82,20 @@ import_at wrong d = do
 -- the imports, none where they are left out
 abbrev pub imports_at : ConfigFault → Option Data → Result (List EntryImport) ConfigFault
 imports_at wrong None = Ok []
-imports_at wrong (Some d) = required wrong (as_array d) >>= λ ds. each_from (λ before. import_at wrong) [] ds
+imports_at wrong (Some d) =
+    required wrong (as_array d) >>= λ ds. each_from (λ before. import_at wrong) [] ds
 
 -- a byte of a loader's name
 abbrev pub is_name_byte : ℕ → Bool
-is_name_byte b = (nat_le 65 b && nat_le b 90) || (nat_le 97 b && nat_le b 122) || (nat_le 48 b && nat_le b 57) || (b == 95) || (b == 45)
+is_name_byte b =
+    (nat_le 65 b && nat_le b 90) || (nat_le 97 b && nat_le b 122) || (nat_le 48 b && nat_le b 57)
+    || (b == 95) || (b == 45)
 
 -- a name that no earlier loader has
 abbrev pub is_new_name : List Entry → List ℕ → Bool
-is_new_name before name = nat_le 1 (length name) && nat_le (length name) most_name_bytes && list_all is_name_byte name && not (list_any (λ e. pointwise nat_eq e.name name) before)
+is_new_name before name =
+    nat_le 1 (length name) && nat_le (length name) most_name_bytes && list_all is_name_byte name
+    && not (list_any (λ e. pointwise nat_eq e.name name) before)
 
 -- a loader, where it has not too many imports
 abbrev pub unless_many : Entry → Result Entry ConfigFault
@@ -72,7 +110,10 @@ entry_of wrong before d = do
   parent ← optional_text wrong (get_member (codes "parent") ms)
   order ← order_of wrong (get_member (codes "order") ms)
   imports ← imports_at wrong (get_member (codes "imports") ms)
-  if is_new_name before name then unless_many (record { name = name; dir = or_else name dir; parent = parent; order = order; imports = imports }) else Err wrong
+  if is_new_name before name
+      then unless_many (record
+      { name = name; dir = or_else name dir; parent = parent; order = order; imports = imports })
+      else Err wrong
 
 -- the loaders, each behind those before it
 abbrev pub entries_of : Items → Result (List Entry) ConfigFault

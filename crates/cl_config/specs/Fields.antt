@@ -1,8 +1,37 @@
--- What a table has under its keys (own choice).
-use Rattle.std.specs.Prelude.{ℕ, Bool, true, ◌&&◌, nat_eq, if◌then◌else◌, List, [], ◌∷◌, ◌++◌, codes, Option, Some, None, option_and_then, Result, Ok, Err}
+-- What a table has under its keys.
+use Rattle.std.specs.Prelude.{
+  ℕ,
+  Bool,
+  true,
+  ◌&&◌,
+  nat_eq,
+  if◌then◌else◌,
+  List,
+  [],
+  ◌∷◌,
+  ◌++◌,
+  codes,
+  Option,
+  Some,
+  None,
+  option_and_then,
+  Result,
+  Ok,
+  Err,
+}
 use Rattle.std.specs.List.{list_any}
 use Rattle.std.specs.Cmp.Lexicographic.{pointwise}
-use Rattle.toml.specs.Data.{Data, as_str, as_table, Items, no_items, item, Members, no_members, member}
+use Rattle.toml.specs.Data.{
+  Data,
+  as_str,
+  as_table,
+  Items,
+  no_items,
+  item,
+  Members,
+  no_members,
+  member,
+}
 use Rattle.cl_config.specs.declared.fault.ConfigFault.{ConfigFault}
 use Rattle.cl_names.specs.Escape.{unescaped}
 use Rattle.cl_config.specs.declared.order.Order.{Order}
@@ -25,7 +54,8 @@ required wrong (Some x) = Ok x
 
 -- the table that a value is, with known keys alone
 abbrev pub table_of : ConfigFault → (List ℕ → Bool) → Data → Result Members ConfigFault
-table_of wrong known d = required wrong (as_table d) >>= λ ms. if has_only known ms then Ok ms else Err wrong
+table_of wrong known d =
+    required wrong (as_table d) >>= λ ms. if has_only known ms then Ok ms else Err wrong
 
 -- a text that has to be there
 abbrev pub text_of : ConfigFault → Option Data → Result (List ℕ) ConfigFault
@@ -44,7 +74,9 @@ name_of wrong value = text_of wrong value >>= λ text. required wrong (unescaped
 abbrev pub order_of : ConfigFault → Option Data → Result Order ConfigFault
 order_of wrong None = Ok ParentFirst
 order_of wrong (Some d) = required wrong (as_str d) >>= λ text.
-    if pointwise nat_eq text (codes "parent") then Ok ParentFirst else if pointwise nat_eq text (codes "child") then Ok ChildFirst else Err wrong
+    if pointwise nat_eq text (codes "parent")
+    then Ok ParentFirst
+    else if pointwise nat_eq text (codes "child") then Ok ChildFirst else Err wrong
 
 -- what is there, or else this
 abbrev pub or_else : List ℕ → Option (List ℕ) → List ℕ
@@ -52,11 +84,13 @@ or_else other None = other
 or_else other (Some text) = text
 
 -- what each value of an array gives, behind what there is already, or the first fault
-unfoldable pub each_from : {A : Type 0} → (List A → Data → Result A ConfigFault) → List A → Items → Result (List A) ConfigFault
+unfoldable pub each_from : {A : Type 0} → (List A → Data → Result A ConfigFault) → List A → Items
+    → Result (List A) ConfigFault
 each_from one front no_items = Ok front
 each_from one front (item d ds) = one front d >>= λ x. each_from one (front ++ x ∷ []) ds
 
 -- what each of a list gives, behind what there is already, or the first fault
-unfoldable pub list_from : {A B : Type 0} → (List B → A → Result B ConfigFault) → List B → List A → Result (List B) ConfigFault
+unfoldable pub list_from : {A B : Type 0} → (List B → A → Result B ConfigFault) → List B → List A
+    → Result (List B) ConfigFault
 list_from one front [] = Ok front
 list_from one front (x ∷ xs) = one front x >>= λ y. list_from one (front ++ y ∷ []) xs

@@ -1,6 +1,7 @@
 pub mod ConfigTexts
 pub mod Configs
 pub mod Entries
+pub mod Examples
 pub mod Fields
 pub mod Loaders
 pub mod ScriptLaws

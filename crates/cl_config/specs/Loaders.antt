@@ -1,4 +1,5 @@
--- The loaders and the schedule of a configuration and a script, as the linkage machine knows them (JVMS SE 8, 5.3, 5.3.2).
+-- The loaders and the schedule of a configuration and a script, as the linkage machine knows them
+-- (JVMS SE 8, 5.3, 5.3.2).
 use Rattle.std.specs.Prelude.{ℕ, List, [], ◌∷◌, map, Option, Some, None}
 use Rattle.cl_model.specs.Homes as homes
 use Rattle.cl_model.specs.Machine.{Scheduled}
@@ -8,7 +9,8 @@ use Rattle.cl_config.specs.declared.order.Order.{Order}
 use Rattle.cl_config.specs.declared.order.Order.TheVariants.{ParentFirst, ChildFirst}
 use Rattle.cl_config.specs.Views.{Configured, Loader, Scripted}
 
--- at which loaders a name is searched that none of the imports decides: the parent, where there is one (5.3.2)
+-- at which loaders a name is searched that none of the imports decides: the parent, where there is
+-- one (5.3.2)
 abbrev pub parents_of : Option ℕ → List ℕ
 parents_of None = []
 parents_of (Some parent) = parent ∷ []
@@ -20,18 +22,23 @@ order_of ChildFirst = homes.ChildFirst
 
 -- a loader (5.3, 5.3.2)
 abbrev pub loader_of : Loader → homes.Loader
-loader_of l = record { parents = parents_of l.parent; order = order_of l.order; imports = map (λ m. record { prefix = m.prefix; target = m.target }) l.imports }
+loader_of l =
+    record {
+      parents = parents_of l.parent;
+      order = order_of l.order;
+      imports = map (λ m. record { prefix = m.prefix; target = m.target }) l.imports;
+    }
 
 -- the loaders, in order (5.3)
 abbrev pub loaders_of : Configured → List homes.Loader
 loaders_of c = map loader_of c.loaders
 
--- the requests with their rounds, in order (own choice)
+-- the requests with their rounds, in order
 abbrev pub schedule : List Request → List ℕ → List Scheduled
 schedule [] ns = []
 schedule (r ∷ rs) [] = []
 schedule (r ∷ rs) (n ∷ ns) = record { request = request_of r; round = n } ∷ schedule rs ns
 
--- the same of a script (own choice)
+-- the same of a script
 abbrev pub schedule_of : Scripted → List Scheduled
 schedule_of s = schedule s.requests s.rounds_of

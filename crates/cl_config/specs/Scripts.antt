@@ -1,15 +1,45 @@
--- Which texts are a script, and what their lines say (own choice). For now a line asks for a load, or begins a round.
-use Rattle.std.specs.Prelude.{All, ◌≡◌, ℕ, ◌+◌, ◌<◌, ◌≤◌, nat_eq, List, [], ◌∷◌, ◌++◌, length, slice_get, position, Option, Some, None, Result, Ok, Err, codes}
+-- Which texts are a script, and what their lines say: a line makes a request, or begins a round.
+use Rattle.std.specs.Prelude.{
+  All,
+  ◌≡◌,
+  ℕ,
+  ◌+◌,
+  ◌<◌,
+  ◌≤◌,
+  nat_eq,
+  List,
+  [],
+  ◌∷◌,
+  ◌++◌,
+  length,
+  slice_get,
+  position,
+  Option,
+  Some,
+  None,
+  Result,
+  Ok,
+  Err,
+  codes,
+}
 use Rattle.std.specs.Cmp.Lexicographic.{pointwise}
+use Rattle.std.specs.Str.Parse.{IsNumeral, digits_value}
 use Rattle.cl_model.specs.declared.request.Request.{Request}
 use Rattle.cl_model.specs.declared.request.Request.TheVariants.{Load, Resolve, Link}
 use Rattle.cl_names.specs.Name.{WritesClass}
 use Rattle.cl_lines.specs.Lines.{Numbered, words_of, stated_from}
 use Rattle.cl_config.specs.Views.{Scripted}
+use Rattle.cl_config.specs.declared.script.Action.{Action}
+use Rattle.cl_config.specs.declared.script.Action.TheVariants as actions
 use Rattle.cl_config.specs.declared.script.Said.{Said}
 use Rattle.cl_config.specs.declared.script.Said.TheVariants.{Ask, Then}
 use Rattle.cl_config.specs.declared.script.ScriptFault.{ScriptFault}
-use Rattle.cl_config.specs.declared.script.ScriptFault.TheVariants.{Memory, BadLine, UnknownLoader, TooMany}
+use Rattle.cl_config.specs.declared.script.ScriptFault.TheVariants.{
+  Memory,
+  BadLine,
+  UnknownLoader,
+  TooMany,
+}
 
 -- the most requests, and the most lines that begin a round (own choice)
 abbrev pub most : ℕ
@@ -17,84 +47,107 @@ most = 65535
 
 -- ---- one line
 
--- the first loader of this name, counted from 0 (own choice)
+-- the first loader of this name, counted from 0
 abbrev pub loader_named : List (List ℕ) → List ℕ → Option ℕ
 loader_named names word = position (λ name. pointwise nat_eq name word) names
 
--- the words are `load`, a loader's name and the text of a class's name (own choice)
-pub record IsLoad (line loader name : List ℕ) : Type 0 where
+-- one to five digits write this index of a constant pool (own choice; JVMS SE 8, 4.1)
+pub record WritesIndex (text : List ℕ) (index : ℕ) : Type 0 where
+  pub digits : IsNumeral 10 text
+  pub few : length text ≤ 5
+  pub value : index ≡ digits_value 10 text
+  pub fits : index ≤ 65535
+
+-- the words are those of a request: what is asked for, a loader's name and the text of a class's
+-- name, and of a resolution that of an index
+abbrev pub HasWords : List ℕ → Action → List ℕ → List ℕ → Type 0
+HasWords line actions.Load loader text = words_of line ≡ codes "load" ∷ loader ∷ text ∷ []
+HasWords line (actions.Resolve index) loader text =
+    (number : List ℕ) × (words_of line ≡ codes "resolve" ∷ loader ∷ text ∷ number ∷ [])
+    × WritesIndex number index
+HasWords line actions.Link loader text = words_of line ≡ codes "link" ∷ loader ∷ text ∷ []
+
+-- the line is a request for this class, but for what loader its name is of
+pub record IsRequest (line : List ℕ) (action : Action) (loader name : List ℕ) : Type 0 where
   pub text : List ℕ
-  pub words : words_of line ≡ codes "load" ∷ loader ∷ text ∷ []
+  pub words : HasWords line action loader text
   pub writes : WritesClass text name
 
--- the one word is `then` (own choice)
+-- the one word is `then`
 abbrev pub IsThen : List ℕ → Type 0
 IsThen line = words_of line ≡ codes "then" ∷ []
 
--- the line asks for the load of this name through this loader (own choice)
-pub record AsksLoad (names : List (List ℕ)) (line : List ℕ) (loader : ℕ) (name : List ℕ) : Type 0 where
+-- the line asks for this of the class of this name through this loader
+pub record AsksFor (names : List (List ℕ)) (line : List ℕ) (action : Action) (loader : ℕ)
+    (name : List ℕ) : Type 0 where
   pub word : List ℕ
-  pub load : IsLoad line word name
+  pub request : IsRequest line action word name
   pub known : loader_named names word ≡ Some loader
 
--- the line asks for this request; no line asks for another one than a load yet (own choice)
+-- the line makes this request
 abbrev pub Asks : List (List ℕ) → List ℕ → Request → Type 0
-Asks names line (Load loader name) = AsksLoad names line loader name
-Asks names line (Resolve loader name index) = ⊥
-Asks names line (Link loader name) = ⊥
+Asks names line (Load loader name) = AsksFor names line actions.Load loader name
+Asks names line (Resolve loader name index) = AsksFor names line (actions.Resolve index) loader name
+Asks names line (Link loader name) = AsksFor names line actions.Link loader name
 
--- the line says this (own choice)
+-- the line says this
 abbrev pub Says : List (List ℕ) → List ℕ → Said → Type 0
 Says names line (Ask request) = Asks names line request
 Says names line Then = IsThen line
 
--- the line is none that a script may have (own choice)
+-- the line is none that a script may have
 pub record IsBad (line : List ℕ) : Type 0 where
-  pub load : (loader name : List ℕ) → IsLoad line loader name → ⊥
+  pub request : (action : Action) (loader name : List ℕ) → IsRequest line action loader name → ⊥
   pub round : IsThen line → ⊥
 
--- the line is a request but for its loader (own choice)
-abbrev pub LacksLoader : List (List ℕ) → List ℕ → Type 0
-LacksLoader names line = (loader : List ℕ) × (name : List ℕ) × IsLoad line loader name × (loader_named names loader ≡ None)
+-- the line is a request but for its loader
+pub record LacksLoader (names : List (List ℕ)) (line : List ℕ) : Type 0 where
+  pub action : Action
+  pub word : List ℕ
+  pub name : List ℕ
+  pub request : IsRequest line action word name
+  pub unknown : loader_named names word ≡ None
 
 -- ---- all lines
 
--- the lines say these, in order (own choice)
+-- the lines say these, in order
 abbrev pub AllSay : List (List ℕ) → List Numbered → List Said → Type 0
 AllSay names [] [] = Unit {0}
 AllSay names [] (x ∷ xs) = ⊥
 AllSay names (l ∷ ls) [] = ⊥
 AllSay names (l ∷ ls) (x ∷ xs) = Says names l.text x × AllSay names ls xs
 
--- the requests, in order (own choice)
+-- the requests, in order
 abbrev pub requests_in : List Said → List Request
 requests_in [] = []
 requests_in (Ask r ∷ xs) = r ∷ requests_in xs
 requests_in (Then ∷ xs) = requests_in xs
 
--- the round of each request, where this one is the round so far (own choice)
+-- the round of each request, where this one is the round so far
 abbrev pub rounds_in : ℕ → List Said → List ℕ
 rounds_in n [] = []
 rounds_in n (Ask r ∷ xs) = n ∷ rounds_in n xs
 rounds_in n (Then ∷ xs) = rounds_in (n + 1) xs
 
--- how many lines begin a round (own choice)
+-- how many lines begin a round
 abbrev pub thens_in : List Said → ℕ
 thens_in [] = 0
 thens_in (Ask r ∷ xs) = thens_in xs
 thens_in (Then ∷ xs) = thens_in xs + 1
 
--- there are not too many requests, and not too many that begin a round (own choice)
+-- there are not too many requests, and not too many that begin a round
 pub record Fits (xs : List Said) : Type 0 where
   pub requests : length (requests_in xs) ≤ most
   pub thens : thens_in xs ≤ most
 
--- the script that says these: the rounds are counted from 0, and the first begins the script (own choice)
+-- the script that says these: the rounds are counted from 0, and the first begins the script
 abbrev pub script_from : List Said → Scripted
-script_from xs = record { requests = requests_in xs; rounds_of = rounds_in 0 xs; rounds = thens_in xs + 1 }
+script_from xs =
+    record { requests = requests_in xs; rounds_of = rounds_in 0 xs; rounds = thens_in xs + 1 }
 
--- after some lines, not too many, that each say something there is a line of which P holds (own choice)
-pub record StopsAt (names : List (List ℕ)) (lines : List Numbered) (P : List Said → Numbered → Type 0) : Type 0 where
+-- after some lines, not too many, that each say something there is a line of which P holds
+pub record StopsAt (names : List (List ℕ)) (lines : List Numbered)
+    (P : List Said → Numbered → Type 0) : Type 0 where
   pub front : List Numbered
   pub line : Numbered
   pub behind : List Numbered
@@ -104,28 +157,32 @@ pub record StopsAt (names : List (List ℕ)) (lines : List Numbered) (P : List S
   pub fits : Fits said
   pub here : P said line
 
--- what the lines say is this script (own choice)
+-- what the lines say is this script
 pub record Tells (names : List (List ℕ)) (lines : List Numbered) (s : Scripted) : Type 0 where
   pub said : List Said
   pub says : AllSay names lines said
   pub fits : Fits said
   pub is : s ≡ script_from said
 
--- a line with which there are too many (own choice)
+-- a line with which there are too many
 pub record IsOver (names : List (List ℕ)) (said : List Said) (line : Numbered) : Type 0 where
   pub one : Said
   pub says : Says names line.text one
   pub over : Fits (said ++ one ∷ []) → ⊥
 
--- what the lines of a text are read as: the script, or the first line that is wrong or one too many (own choice)
+-- what the lines of a text are read as: the script, or the first line that is wrong or one too many
+-- (own choice)
 abbrev pub script_of : List (List ℕ) → List ℕ → Result Scripted ScriptFault → Type 0
 script_of names text (Ok script) = Tells names (stated_from 1 text) script
-script_of names text (Err (BadLine n)) = StopsAt names (stated_from 1 text) (λ said line. (n ≡ line.number) × IsBad line.text)
-script_of names text (Err (UnknownLoader n)) = StopsAt names (stated_from 1 text) (λ said line. (n ≡ line.number) × LacksLoader names line.text)
+script_of names text (Err (BadLine n)) =
+    StopsAt names (stated_from 1 text) (λ said line. (n ≡ line.number) × IsBad line.text)
+script_of names text (Err (UnknownLoader n)) =
+    StopsAt names (stated_from 1 text)
+    (λ said line. (n ≡ line.number) × LacksLoader names line.text)
 script_of names text (Err TooMany) = StopsAt names (stated_from 1 text) (IsOver names)
 script_of names text (Err Memory) = 0 < length (stated_from 1 text)
 
--- the same of one line (own choice)
+-- the same of one line
 abbrev pub line_of : List (List ℕ) → Numbered → Result Said ScriptFault → Type 0
 line_of names line (Ok one) = Says names line.text one
 line_of names line (Err (BadLine n)) = (n ≡ line.number) × IsBad line.text
@@ -135,28 +192,22 @@ line_of names line (Err Memory) = Unit {0}
 
 -- ---- what is so of every script
 
--- the request's loader is one of so many (own choice)
+-- the request's loader is one of so many
 abbrev pub HasLoader : ℕ → Request → Type 0
 HasLoader count (Load loader name) = loader < count
 HasLoader count (Resolve loader name index) = loader < count
 HasLoader count (Link loader name) = loader < count
 
--- each request's loader is one of so many (own choice)
+-- each request's loader is one of so many
 abbrev pub HasLoaders : ℕ → List Request → Type 0
 HasLoaders count requests = All (HasLoader count) requests
 
--- the request is a load (5.3)
-abbrev pub IsLoadRequest : Request → Type 0
-IsLoadRequest (Load loader name) = Unit {0}
-IsLoadRequest (Resolve loader name index) = ⊥
-IsLoadRequest (Link loader name) = ⊥
-
--- there are at most 65,535 requests, for now loads alone, each of one of the rounds and none of an earlier one than those before it, and 1 to 65,536
--- rounds (own choice)
+-- there are at most 65,535 requests, each of one of the rounds and none of an earlier one than
+-- those before it, and 1 to 65,536 rounds
 pub record IsScript (s : Scripted) : Type 0 where
   pub few : length s.requests ≤ most
-  pub loads : All IsLoadRequest s.requests
   pub each : length s.rounds_of ≡ length s.requests
   pub within : All (λ n. n < s.rounds) s.rounds_of
-  pub in_order : (p q m n : ℕ) → p < q → slice_get s.rounds_of p ≡ Some m → slice_get s.rounds_of q ≡ Some n → m ≤ n
+  pub in_order : (p q m n : ℕ) → p < q → slice_get s.rounds_of p ≡ Some m
+      → slice_get s.rounds_of q ≡ Some n → m ≤ n
   pub rounds : s.rounds ≤ most + 1

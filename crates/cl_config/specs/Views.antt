@@ -1,4 +1,4 @@
--- What contracts see of a configuration and a script (own choice; JVMS SE 8, 5.3).
+-- What contracts see of a configuration and a script (JVMS SE 8, 5.3).
 use Rattle.std.specs.Prelude.{ℕ, List, Option, map}
 use Rattle.cl_model.specs.declared.request.Request.{Request}
 use Rattle.cl_config.specs.declared.order.Order.{Order}
@@ -8,7 +8,8 @@ pub record Import : Type 0 where
   pub prefix : List ℕ
   pub target : ℕ
 
--- a loader: its name, the directory of its own content, whom it asks and when, and what it takes from where (5.3, 5.3.2)
+-- a loader: its name, the directory of its own content, whom it asks and when, and what it takes
+-- from where (5.3, 5.3.2)
 pub record Loader : Type 0 where
   pub name : List ℕ
   pub dir : List ℕ
@@ -24,8 +25,8 @@ pub record Configured : Type 0 where
 abbrev pub names_of : Configured → List (List ℕ)
 names_of c = map (λ l. l.name) c.loaders
 
--- the requests in order, the round of each, counted from 0, and how many rounds there are; a round may be empty (own
--- choice)
+-- the requests in order, the round of each, counted from 0, and how many rounds there are; a round
+-- may be empty
 pub record Scripted : Type 0 where
   pub requests : List Request
   pub rounds_of : List ℕ

@@ -3,6 +3,7 @@
 
 mod config;
 mod entry;
+pub mod examples;
 mod fault;
 mod fields;
 pub mod laws;

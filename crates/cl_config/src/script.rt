@@ -1,8 +1,8 @@
 //! The requests that a text asks for, in rounds.
 
 ghost use Rattle.std.specs.Prelude.{◌≡◌, ◌≢◌, ◌<◌, List, ℕ, [], ◌∷◌, ◌++◌, MatchBool, MatchOption, IfOk, OnOk, codes, length, slice_get};
-ghost use Rattle.cl_lines.specs.Lines.{words_of};
-ghost use Rattle.cl_config.specs.Scripts.{script_of, line_of, HasLoaders, IsScript, IsThen};
+ghost use Rattle.cl_config.specs.Scripts.{script_of, line_of, HasLoaders, HasWords, IsScript, IsThen, WritesIndex};
+ghost use Rattle.cl_config.specs.declared.script.Action.{Action};
 ghost use Rattle.cl_config.specs.Views.{Scripted, names_of};
 
 use crate::config::Config;
@@ -79,9 +79,10 @@ impl From<AllocError> for ScriptFault {
 }
 
 impl Script {
-    /// The script that a text is, whose lines that are not skipped are `load LOADER NAME`, NAME the escaped text of a
-    /// class's name, or `then`, which begins a round. Else the first line that is wrong: `BadLine`, then
-    /// `UnknownLoader`, then `TooMany`, where it is one over 65,535 requests or as many lines `then`. `Memory`.
+    /// The script that a text is, whose lines that are not skipped are `load LOADER NAME`, `resolve LOADER NAME INDEX`
+    /// or `link LOADER NAME`, NAME the escaped text of a class's name and INDEX one to five digits, or `then`, which
+    /// begins a round. Else the first line that is wrong: `BadLine`, then `UnknownLoader`, then `TooMany`, where it is
+    /// one over 65,535 requests or as many lines `then`. `Memory`.
     pub fn read(alloc: Global, config: &Config, text: &str) -> Result<Script, ScriptFault>
         ensures read { script_of (names_of config.now) text.now result }
         ensures loaders { IfOk result (λ s. HasLoaders (length config.now.loaders) s.requests) }
@@ -146,7 +147,8 @@ impl Script {
 
 /// A law of the definition: a text is one script at most.
 pub fn text_is_one_script()
-    ensures { (names : List (List ℕ)) (text : List ℕ) (a b : Scripted) → script_of names text (Ok a) → script_of names text (Ok b) → a ≡ b }
+    ensures { (names : List (List ℕ)) (text : List ℕ) (a b : Scripted) → script_of names text (Ok a)
+        → script_of names text (Ok b) → a ≡ b }
 {}
 
 /// What a line says.
@@ -158,14 +160,24 @@ pub(crate) enum Said {
     Then,
 }
 
+/// What a request's line asks for, loader and name apart.
+#[derive(Clone, Copy, Debug)]
+pub(crate) enum Action {
+    Load,
+    /// The entry of this index.
+    Resolve(u16),
+    Link,
+}
+
 /// What a line says.
 fn line_says(alloc: Global, config: &Config, line: Line<'_>) -> Result<Said, ScriptFault>
-    ensures { line_of (names_of config.now) (record { number = line.entry.number; text = line.entry.text.now }) result }
+    ensures { line_of (names_of config.now)
+        (record { number = line.entry.number; text = line.entry.text.now }) result }
 {
     if is_then(line.text) {
         return Ok(Said::Then);
     }
-    let Some((word, text)) = load_words(line.text) else {
+    let Some((action, word, text)) = request_words(line.text) else {
         return Err(ScriptFault::BadLine(line.number));
     };
     let Some(name) = class_name(alloc, text)? else {
@@ -174,7 +186,11 @@ fn line_says(alloc: Global, config: &Config, line: Line<'_>) -> Result<Said, Scr
     let Some(loader) = config.loader(word) else {
         return Err(ScriptFault::UnknownLoader(line.number));
     };
-    Ok(Said::Ask(Request::Load(loader, name)))
+    Ok(Said::Ask(match action {
+        Action::Load => Request::Load(loader, name),
+        Action::Resolve(index) => Request::Resolve(loader, name, index),
+        Action::Link => Request::Link(loader, name),
+    }))
 }
 
 /// Whether a line is the one word `then`.
@@ -188,15 +204,34 @@ fn is_then(line: &str) -> bool
     }
 }
 
-/// The two words behind `load`, where a line is just these three words.
-fn load_words(line: &str) -> Option<(&str, &str)>
-    ensures { MatchOption result ((a b : List ℕ) → words_of line.now ≡ codes "load" ∷ a ∷ b ∷ [] → ⊥) (λ p. words_of line.now ≡ codes "load" ∷ p.0.now ∷ p.1.now ∷ []) }
+/// What a line asks for, the name of its loader and the text of its class's name, where its words are those of a
+/// request.
+fn request_words(line: &str) -> Option<(Action, &str, &str)>
+    ensures { MatchOption result ((action : Action) (a b : List ℕ)
+        → HasWords line.now action a b → ⊥) (λ p. HasWords line.now p.0 p.1.now p.2.now) }
 {
     let mut words = Words::new(line);
-    match (words.next(), words.next(), words.next(), words.next()) {
-        (Some(first), Some(loader), Some(name), None) if first == "load" => Some((loader, name)),
-        _ => None,
+    let first = words.next()?;
+    let loader = words.next()?;
+    let name = words.next()?;
+    let action = match (words.next(), words.next()) {
+        (None, _) if first == "load" => Action::Load,
+        (None, _) if first == "link" => Action::Link,
+        (Some(index), None) if first == "resolve" => Action::Resolve(index_of(index)?),
+        _ => return None,
+    };
+    Some((action, loader, name))
+}
+
+/// The index that a word writes: one to five digits, of at most 65,535.
+fn index_of(word: &str) -> Option<u16>
+    ensures { MatchOption result ((index : ℕ) → WritesIndex word.now index → ⊥)
+        (λ index. WritesIndex word.now index) }
+{
+    if word.len() > 5 || word.as_bytes().first() == Some(&b'+') {
+        return None;
     }
+    word.parse::<u16>().ok()
 }
 
 /// Adds a request of a round.

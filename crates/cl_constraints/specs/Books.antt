@@ -6,7 +6,8 @@ use Rattle.cl_constraints.specs.declared.fault.BookFault.{BookFault}
 use Rattle.cl_constraints.specs.declared.fault.BookFault.TheVariants.{Memory, Violates}
 
 -- these are the records of a state and its joined loaders, and nothing is violated in it (5.3.4)
-pub record IsBookOf (home : Name → ℕ → Option ℕ) (joins : Name → ℕ → ℕ → Type 0) (s : State) : Type 0 where
+pub record IsBookOf (home : Name → ℕ → Option ℕ) (joins : Name → ℕ → ℕ → Type 0) (s : State)
+    : Type 0 where
   pub records : (name : Name) (loader : ℕ) → recorded s.records loader name ≡ home name loader
   pub joined : (name : Name) (a b : ℕ) → joins name a b ↔ Joined s.equalities name a b
   pub unviolated : Violated s → ⊥
@@ -21,11 +22,13 @@ Tells stands loader name answer = Wherever stands (λ s. recorded s.records load
 
 -- the answer tells whether a need is not refused (5.3.4)
 abbrev pub Admits : (State → Type 0) → Need → Bool → Type 0
-Admits stands need answer = Wherever stands (λ s. MatchBool answer (Refused s need → ⊥) (Refused s need))
+Admits stands need answer =
+    Wherever stands (λ s. MatchBool answer (Refused s need → ⊥) (Refused s need))
 
 -- the answer tells whether a need is refused (5.3.4)
 abbrev pub Refuses : (State → Type 0) → Need → Bool → Type 0
-Refuses stands need answer = Wherever stands (λ s. MatchBool answer (Refused s need) (Refused s need → ⊥))
+Refuses stands need answer =
+    Wherever stands (λ s. MatchBool answer (Refused s need) (Refused s need → ⊥))
 
 -- the answer tells whether a need is met (5.3.4)
 abbrev pub Meets : (State → Type 0) → Need → Bool → Type 0
@@ -33,14 +36,18 @@ Meets stands need answer = Wherever stands (λ s. MatchBool answer (Met s need) 
 
 -- a need is not refused, and is added (5.3.4)
 abbrev pub Adds : {B : Type 0} → (B → State → Type 0) → B → B → Need → Type 0
-Adds stands_for old new need = Wherever (stands_for old) (λ s. (Refused s need → ⊥) × stands_for new (added s need))
+Adds stands_for old new need =
+    Wherever (stands_for old) (λ s. (Refused s need → ⊥) × stands_for new (added s need))
 
--- what imposing an equality comes to: it is new and added, or stands already and nothing changes (5.3.4)
+-- what imposing an equality comes to: it is new and added, or stands already and nothing changes
+-- (5.3.4)
 abbrev pub Imposes : {B : Type 0} → (B → State → Type 0) → B → B → Need → Bool → Type 0
-Imposes stands_for old new need true = Adds stands_for old new need × Meets (stands_for old) need false
+Imposes stands_for old new need true =
+    Adds stands_for old new need × Meets (stands_for old) need false
 Imposes stands_for old new need false = (new ≡ old) × Meets (stands_for old) need true
 
--- a need is blamed exactly where it is refused; running out of memory is told of no refused one (5.3.4)
+-- a need is blamed exactly where it is refused; running out of memory is told of no refused one
+-- (5.3.4)
 abbrev pub Blames : (State → Type 0) → Need → BookFault → Type 0
 Blames stands need Violates = Wherever stands (λ s. Refused s need)
 Blames stands need Memory = Wherever stands (λ s. Refused s need → ⊥)

@@ -1,5 +1,26 @@
--- The constraints of one name, kept as groups of joined loaders (own choice; what they mean is of JVMS SE 8, 5.3.4).
-use Rattle.std.specs.Prelude.{◌≡◌, ◌⊎◌, ℕ, Bool, true, false, ◌==◌, ◌&&◌, not, List, [], ◌∷◌, ◌++◌, Option, Some, None, find, filter, if◌then◌else◌}
+-- The constraints of one name, kept as groups of joined loaders; what they mean is of JVMS SE 8,
+-- 5.3.4.
+use Rattle.std.specs.Prelude.{
+  ◌≡◌,
+  ◌⊎◌,
+  ℕ,
+  Bool,
+  true,
+  false,
+  ◌==◌,
+  ◌&&◌,
+  not,
+  List,
+  [],
+  ◌∷◌,
+  ◌++◌,
+  Option,
+  Some,
+  None,
+  find,
+  filter,
+  if◌then◌else◌,
+}
 use Rattle.std.specs.List.{list_any}
 use Rattle.cl_constraints.specs.declared.record.Entered.{Entered}
 use Rattle.cl_constraints.specs.Records.{home_in}
@@ -18,7 +39,7 @@ pub record Grouped : Type 0 where
 abbrev pub has : List ℕ → ℕ → Bool
 has loaders loader = list_any (λ x. x == loader) loaders
 
--- the first group that a loader is in (own choice)
+-- the first group that a loader is in
 abbrev pub group_of : List Joint → ℕ → Option Joint
 group_of groups loader = find (λ g. has g.loaders loader) groups
 
@@ -30,22 +51,27 @@ shared groups a b = list_any (λ g. has g.loaders a && has g.loaders b) groups
 abbrev pub AreJoined : List Joint → ℕ → ℕ → Type 0
 AreJoined groups a b = (a ≡ b) ⊎ (shared groups a b ≡ true)
 
--- no loader is in two groups (own choice)
+-- no loader is in two groups
 abbrev pub AreApart : List Joint → Type 0
 AreApart [] = Unit {0}
-AreApart (g ∷ gs) = ((loader : ℕ) → has g.loaders loader ≡ true → list_any (λ other. has other.loaders loader) gs ≡ false) × AreApart gs
+AreApart (g ∷ gs) =
+    ((loader : ℕ) → has g.loaders loader ≡ true
+    → list_any (λ other. has other.loaders loader) gs ≡ false)
+    × AreApart gs
 
 -- a group's home is that of each record of its loaders, and one of them has it (5.3.4)
 pub record HasItsHome (records : List Entered) (g : Joint) : Type 0 where
-  pub every : (loader place : ℕ) → has g.loaders loader ≡ true → home_in records loader ≡ Some place → g.home ≡ Some place
-  pub some : (place : ℕ) → g.home ≡ Some place → (loader : ℕ) × (has g.loaders loader ≡ true) × (home_in records loader ≡ Some place)
+  pub every : (loader place : ℕ) → has g.loaders loader ≡ true → home_in records loader ≡ Some place
+      → g.home ≡ Some place
+  pub some : (place : ℕ) → g.home ≡ Some place
+      → (loader : ℕ) × (has g.loaders loader ≡ true) × (home_in records loader ≡ Some place)
 
--- each of these groups has (own choice)
+-- each of these groups has
 abbrev pub HaveHomes : List Entered → List Joint → Type 0
 HaveHomes records [] = Unit {0}
 HaveHomes records (g ∷ gs) = HasItsHome records g × HaveHomes records gs
 
--- what holds of the constraints of each name (own choice)
+-- what holds of the constraints of each name
 pub record IsGrouped (v : Grouped) : Type 0 where
   pub apart : AreApart v.groups
   pub homes : HaveHomes v.records v.groups
@@ -59,10 +85,13 @@ home_or alone (Some g) = g.home
 abbrev pub class_in : Grouped → ℕ → Option ℕ
 class_in v loader = home_or (home_in v.records loader) (group_of v.groups loader)
 
--- the class is recorded by something joined to the loader, and by all of it that records the name (5.3.4)
+-- the class is recorded by something joined to the loader, and by all of it that records the name
+-- (5.3.4)
 pub record IsClassOf (v : Grouped) (loader : ℕ) (class : Option ℕ) : Type 0 where
-  pub every : (other place : ℕ) → AreJoined v.groups loader other → home_in v.records other ≡ Some place → class ≡ Some place
-  pub some : (place : ℕ) → class ≡ Some place → (other : ℕ) × AreJoined v.groups loader other × (home_in v.records other ≡ Some place)
+  pub every : (other place : ℕ) → AreJoined v.groups loader other
+      → home_in v.records other ≡ Some place → class ≡ Some place
+  pub some : (place : ℕ) → class ≡ Some place
+      → (other : ℕ) × AreJoined v.groups loader other × (home_in v.records other ≡ Some place)
 
 -- the loaders of a group, else one alone (5.3.4)
 abbrev pub loaders_or : ℕ → Option Joint → List ℕ
@@ -77,18 +106,22 @@ members groups loader = loaders_or loader (group_of groups loader)
 abbrev pub with_home : ℕ → ℕ → Joint → Joint
 with_home loader place g = if has g.loaders loader then record g { home = Some place } else g
 
--- the first home that there is (own choice)
+-- the first home that there is
 abbrev pub or_else : Option ℕ → Option ℕ → Option ℕ
 or_else None other = other
 or_else (Some place) other = Some place
 
--- the groups that neither of two loaders is in (own choice)
+-- the groups that neither of two loaders is in
 abbrev pub without : ℕ → ℕ → List Joint → List Joint
 without a b gs = filter (λ g. not (has g.loaders a) && not (has g.loaders b)) gs
 
 -- the group that two loaders are in once they are joined (5.3.4)
 abbrev pub joint_of : Grouped → ℕ → ℕ → Joint
-joint_of v a b = record { home = or_else (class_in v a) (class_in v b); loaders = members v.groups a ++ members v.groups b }
+joint_of v a b =
+    record {
+      home = or_else (class_in v a) (class_in v b);
+      loaders = members v.groups a ++ members v.groups b;
+    }
 
 -- the groups once two loaders are joined (5.3.4)
 abbrev pub merged : Grouped → ℕ → ℕ → List Joint

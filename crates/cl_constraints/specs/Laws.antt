@@ -1,7 +1,19 @@
--- What a book stands for along a history of the linkage machine (JVMS SE 8, 5.3, 5.3.4): laws, each the contract of a function without a body.
+-- What a book stands for along a history of the linkage machine (JVMS SE 8, 5.3, 5.3.4): laws, each
+-- the contract of a function without a body.
 use Rattle.std.specs.Prelude.{◌≡◌, List, [], ◌∷◌, ◌++◌, Option, Some, None}
 use Rattle.cl_model.specs.States.{State, start, Need, Entry, Equal, Met, Refused, MayAdd}
-use Rattle.cl_model.specs.Machine.{Step, Define, Initiate, Constrain, Settle, Prepare, Post, NextRound, Stray, state_after}
+use Rattle.cl_model.specs.Machine.{
+  Step,
+  Define,
+  Initiate,
+  Constrain,
+  Settle,
+  Prepare,
+  Post,
+  NextRound,
+  Stray,
+  state_after,
+}
 use Rattle.cl_constraints.specs.Books.{Adds}
 
 -- the need that a step makes stand, if it is one that adds a record or an equality (5.3, 5.3.4)
@@ -17,7 +29,9 @@ made_by Stray = None
 
 -- a book stands for each state with these records and equalities (5.3, 5.3.4)
 abbrev pub StandsAlike : {B : Type 0} → (B → State → Type 0) → Type 0
-StandsAlike {B} stands_for = (book : B) (s t : State) → t.records ≡ s.records → t.equalities ≡ s.equalities → stands_for book s → stands_for book t
+StandsAlike {B} stands_for =
+    (book : B) (s t : State) → t.records ≡ s.records → t.equalities ≡ s.equalities
+    → stands_for book s → stands_for book t
 
 -- a book stands for the state after a step that adds neither record nor equality (5.4.2, 5.4.3)
 abbrev pub StaysAfter : {B : Type 0} → (B → State → Type 0) → Type 0
@@ -29,8 +43,10 @@ StaysAfter {B} stands_for =
 abbrev pub GoesOn : {B : Type 0} → (B → State → Type 0) → Type 0
 GoesOn {B} stands_for =
     (old new : B) (es : List Step) (e : Step) (need : Need) → made_by e ≡ Some need
-    → Adds stands_for old new need → stands_for old (state_after start es) → stands_for new (state_after start (es ++ e ∷ []))
+    → Adds stands_for old new need → stands_for old (state_after start es)
+    → stands_for new (state_after start (es ++ e ∷ []))
 
 -- an unmet need that is not refused may be added (5.3.4)
 abbrev pub UnrefusedMayBeAdded : Type 0
-UnrefusedMayBeAdded = (s : State) (need : Need) → (Met s need → ⊥) → (Refused s need → ⊥) → MayAdd s need
+UnrefusedMayBeAdded =
+    (s : State) (need : Need) → (Met s need → ⊥) → (Refused s need → ⊥) → MayAdd s need

@@ -1,4 +1,4 @@
--- Constraints, name by name (own choice; what they mean is of JVMS SE 8, 5.3.4).
+-- Constraints, name by name; what they mean is of JVMS SE 8, 5.3.4.
 use Rattle.std.specs.Prelude.{◌≡◌, ◌≢◌, ◌↔◌, ℕ, Bool, List, Option, Some, None, nat_eq}
 use Rattle.std.specs.Map.{lookup}
 use Rattle.std.specs.Cmp.Lexicographic.{pointwise}
@@ -28,12 +28,17 @@ abbrev pub joins_of : {N : Type 0} → (N → ℕ → ℕ → Type 0) → List (
 joins_of joins book name a b = joins_or_same joins a b (found book name)
 
 -- the answer tells whether no loader joined to this one for a name records another class (5.3.4)
-abbrev pub FitsAt : {N : Type 0} → (N → ℕ → Option ℕ) → (N → ℕ → ℕ → Type 0) → List (Name × N) → Name → ℕ → ℕ → Bool → Type 0
-FitsAt record_at joins book name loader place answer = TellsFit (home_of record_at book name) (joins_of joins book name) loader place answer
+abbrev pub FitsAt : {N : Type 0} → (N → ℕ → Option ℕ) → (N → ℕ → ℕ → Type 0) → List (Name × N)
+    → Name → ℕ → ℕ → Bool → Type 0
+FitsAt record_at joins book name loader place answer =
+    TellsFit (home_of record_at book name) (joins_of joins book name) loader place answer
 
--- the answer tells whether what is joined to one loader and to another for a name records one class (5.3.4)
-abbrev pub AgreesAt : {N : Type 0} → (N → ℕ → Option ℕ) → (N → ℕ → ℕ → Type 0) → List (Name × N) → Name → ℕ → ℕ → Bool → Type 0
-AgreesAt record_at joins book name a b answer = TellsAgreement (home_of record_at book name) (joins_of joins book name) a b answer
+-- the answer tells whether what is joined to one loader and to another for a name records one class
+-- (5.3.4)
+abbrev pub AgreesAt : {N : Type 0} → (N → ℕ → Option ℕ) → (N → ℕ → ℕ → Type 0) → List (Name × N)
+    → Name → ℕ → ℕ → Bool → Type 0
+AgreesAt record_at joins book name a b answer =
+    TellsAgreement (home_of record_at book name) (joins_of joins book name) a b answer
 
 -- this stands of a name, and of each other what stood
 pub record Sets {N : Type 0} (old new : List (Name × N)) (name : Name) (one : N) : Type 0 where
@@ -41,13 +46,15 @@ pub record Sets {N : Type 0} (old new : List (Name × N)) (name : Name) (one : N
   pub others : (m : Name) → m ≢ name → found new m ≡ found old m
 
 -- one record more, for a name (5.3)
-pub record EntersAt {N : Type 0} (record_at : N → ℕ → Option ℕ) (joins : N → ℕ → ℕ → Type 0) (old new : List (Name × N)) (name : Name) (loader place : ℕ) : Type 0 where
+pub record EntersAt {N : Type 0} (record_at : N → ℕ → Option ℕ) (joins : N → ℕ → ℕ → Type 0)
+    (old new : List (Name × N)) (name : Name) (loader place : ℕ) : Type 0 where
   pub records : Enters (home_of record_at old name) (home_of record_at new name) loader place
   pub joined : (a b : ℕ) → joins_of joins new name a b ↔ joins_of joins old name a b
   pub others : (m : Name) → m ≢ name → found new m ≡ found old m
 
 -- two loaders more are joined, for a name (5.3.4)
-pub record JoinsAt {N : Type 0} (record_at : N → ℕ → Option ℕ) (joins : N → ℕ → ℕ → Type 0) (old new : List (Name × N)) (name : Name) (a b : ℕ) : Type 0 where
+pub record JoinsAt {N : Type 0} (record_at : N → ℕ → Option ℕ) (joins : N → ℕ → ℕ → Type 0)
+    (old new : List (Name × N)) (name : Name) (a b : ℕ) : Type 0 where
   pub records : (loader : ℕ) → home_of record_at new name loader ≡ home_of record_at old name loader
   pub joined : (x y : ℕ) → joins_of joins new name x y ↔ Joins (joins_of joins old name) a b x y
   pub others : (m : Name) → m ≢ name → found new m ≡ found old m

@@ -1,10 +1,24 @@
--- The constraints of one name, kept as lists (own choice; what they mean is of JVMS SE 8, 5.3.4).
-use Rattle.std.specs.Prelude.{◌≡◌, ℕ, Bool, ◌==◌, ◌&&◌, not, List, Option, Some, find, option_map, if◌then◌else◌}
+-- The constraints of one name, kept as lists; what they mean is of JVMS SE 8, 5.3.4.
+use Rattle.std.specs.Prelude.{
+  ◌≡◌,
+  ℕ,
+  Bool,
+  ◌==◌,
+  ◌&&◌,
+  not,
+  List,
+  Option,
+  Some,
+  find,
+  option_map,
+  if◌then◌else◌,
+}
 use Rattle.std.specs.List.{AllByRecursion, fold, list_any}
 use Rattle.cl_constraints.specs.declared.plain.Pair.{Pair}
 use Rattle.cl_constraints.specs.declared.plain.Placed.{Placed}
 
--- all of one name: who recorded it, and the pairs of loaders, in the order in which they were joined (5.3.4)
+-- all of one name: who recorded it, and the pairs of loaders, in the order in which they were
+-- joined (5.3.4)
 pub record Paired : Type 0 where
   pub records : List Placed
   pub pairs : List Pair
@@ -13,11 +27,11 @@ pub record Paired : Type 0 where
 abbrev pub home_at : List Placed → ℕ → Option ℕ
 home_at records loader = option_map (λ r. r.home) (find (λ r. r.loader == loader) records)
 
--- where a search that stands at a loader goes by a pair (own choice)
+-- where a search that stands at a loader goes by a pair
 abbrev pub next_by : ℕ → Pair → ℕ
 next_by here p = if p.one == here then p.other else here
 
--- where a search from a loader ends, that goes along all pairs in order (own choice)
+-- where a search from a loader ends, that goes along all pairs in order
 abbrev pub end_in : List Pair → ℕ → ℕ
 end_in pairs loader = fold next_by loader pairs
 
@@ -25,12 +39,12 @@ end_in pairs loader = fold next_by loader pairs
 abbrev pub ArePaired : List Pair → ℕ → ℕ → Type 0
 ArePaired pairs a b = end_in pairs a ≡ end_in pairs b
 
--- a record is its loader's, and keeps where the search from its loader ends (own choice)
+-- a record is its loader's, and keeps where the search from its loader ends
 pub record IsPlaced (v : Paired) (r : Placed) : Type 0 where
   pub own : home_at v.records r.loader ≡ Some r.home
   pub ended : r.end ≡ end_in v.pairs r.loader
 
--- what holds of the constraints of each name (own choice)
+-- what holds of the constraints of each name
 abbrev pub ArePlaced : Paired → Type 0
 ArePlaced v = AllByRecursion (IsPlaced v) v.records
 
@@ -40,8 +54,9 @@ differs_at records end place = list_any (λ r. (r.end == end) && not (r.home == 
 
 -- loaders whose searches end at the one and at the other record different classes (5.3.4)
 abbrev pub divides_at : List Placed → ℕ → ℕ → Bool
-divides_at records one other = list_any (λ r. (r.end == one) && differs_at records other r.home) records
+divides_at records one other =
+    list_any (λ r. (r.end == one) && differs_at records other r.home) records
 
--- a record once a pair is added (own choice)
+-- a record once a pair is added
 abbrev pub moved : Pair → Placed → Placed
 moved pair r = record r { end = next_by r.end pair }

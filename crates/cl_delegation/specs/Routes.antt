@@ -1,12 +1,47 @@
--- Whose own content is asked for a name, in order, while each loader that was asked lacks it (JVMS SE 8, 5.3.2).
+-- Whose own content is asked for a name, in order, while each loader that was asked lacks it
+-- (JVMS SE 8, 5.3.2).
 use Rattle.std.specs.List.{AllByRecursion}
 use Rattle.cl_config.specs.Views.{Configured}
 use Rattle.cl_config.specs.Configs.{IsConfig}
 use Rattle.cl_config.specs.Loaders.{loaders_of}
-use Rattle.std.specs.Prelude.{◌≡◌, ◌≢◌, ◌<◌, ℕ, zero, suc, true, false, ◌==◌, nat_lt, if◌then◌else◌, List, [], ◌∷◌, ◌++◌, length, Option, Some, None, is_some, slice_get, find, flat_map, option_map}
+use Rattle.std.specs.Prelude.{
+  ◌≡◌,
+  ◌≢◌,
+  ◌<◌,
+  ℕ,
+  zero,
+  suc,
+  true,
+  false,
+  ◌==◌,
+  nat_lt,
+  if◌then◌else◌,
+  List,
+  [],
+  ◌∷◌,
+  ◌++◌,
+  length,
+  Option,
+  Some,
+  None,
+  is_some,
+  slice_get,
+  find,
+  flat_map,
+  option_map,
+}
 use Rattle.cl_classfile.specs.Files.{Name}
 use Rattle.cl_model.specs.Content.{content_at}
-use Rattle.cl_model.specs.Homes.{World, Loader, Order, ParentFirst, ChildFirst, is_java, decisive, home}
+use Rattle.cl_model.specs.Homes.{
+  World,
+  Loader,
+  Order,
+  ParentFirst,
+  ChildFirst,
+  is_java,
+  decisive,
+  home,
+}
 
 -- the loaders above and the loader itself (5.3.2)
 abbrev pub in_turn : Order → List ℕ → List ℕ → List ℕ
@@ -49,13 +84,18 @@ route ls loader name =
 
 -- the home is the first loader on the route whose own content has the name (5.3.2)
 abbrev pub HomeIsOnRoute : Type 0
-HomeIsOnRoute = (w : World) (loader : ℕ) (name : Name) → home w loader name ≡ find (λ m. is_some (content_at w.content m name)) (route w.loaders loader name)
+HomeIsOnRoute =
+    (w : World) (loader : ℕ) (name : Name)
+    → home w loader name
+    ≡ find (λ m. is_some (content_at w.content m name)) (route w.loaders loader name)
 
--- no loader stands twice (own choice)
+-- no loader stands twice
 abbrev pub NoneTwice : List ℕ → Type 0
 NoneTwice [] = Unit {0}
 NoneTwice (l ∷ ls) = AllByRecursion (λ m. l ≢ m) ls × NoneTwice ls
 
--- a search through the loaders of a configuration asks none twice (own choice)
+-- a search through the loaders of a configuration asks none twice
 abbrev pub AsksOnce : Type 0
-AsksOnce = (c : Configured) (loader : ℕ) (name : Name) → IsConfig c → loader < length c.loaders → NoneTwice (route (loaders_of c) loader name)
+AsksOnce =
+    (c : Configured) (loader : ℕ) (name : Name) → IsConfig c → loader < length c.loaders
+    → NoneTwice (route (loaders_of c) loader name)

@@ -1,5 +1,19 @@
 -- What contracts see of a search and of what it ends in (JVMS SE 8, 5.3.2).
-use Rattle.std.specs.Prelude.{◌≡◌, ◌<◌, ℕ, List, [], ◌∷◌, ◌++◌, length, Option, Some, None, slice_get, IsSome}
+use Rattle.std.specs.Prelude.{
+  ◌≡◌,
+  ◌<◌,
+  ℕ,
+  List,
+  [],
+  ◌∷◌,
+  ◌++◌,
+  length,
+  Option,
+  Some,
+  None,
+  slice_get,
+  IsSome,
+}
 use Rattle.cl_model.specs.Content.{Content}
 use Rattle.cl_model.specs.Homes.{home}
 use Rattle.cl_config.specs.Views.{Configured}
@@ -9,7 +23,8 @@ use Rattle.cl_source.specs.Views.{Found}
 use Rattle.cl_delegation.specs.Routes.{route}
 use Rattle.cl_delegation.specs.Worlds.{world_of}
 
--- a search: what is asked, the probes so far that found nothing, in order, and the one that found bytes (5.3.2)
+-- a search: what is asked, the probes so far that found nothing, in order, and the one that found
+-- bytes (5.3.2)
 pub record Searched : Type 0 where
   pub config : Configured
   pub loader : ℕ
@@ -44,7 +59,8 @@ abbrev pub with_probe : Searched → Found → Searched
 with_probe s p = with_bytes s p p.bytes
 
 -- the probe is of this loader and name, and what the source tells (5.3.2)
-pub record IsProbeOf (content : Option Content) (sought : List ℕ) (asked : ℕ) (p : Found) : Type 0 where
+pub record IsProbeOf (content : Option Content) (sought : List ℕ) (asked : ℕ) (p : Found)
+    : Type 0 where
   pub loader : p.loader ≡ asked
   pub name : p.name ≡ sought
   pub told : IsTold content p.loader p.name p.bytes
@@ -53,10 +69,12 @@ pub record IsProbeOf (content : Option Content) (sought : List ℕ) (asked : ℕ
 abbrev pub AllLack : Option Content → List ℕ → List ℕ → List Found → Type 0
 AllLack told name way [] = Unit {0}
 AllLack told name [] (p ∷ ps) = ⊥
-AllLack told name (l ∷ ls) (p ∷ ps) = IsProbeOf told name l p × (p.bytes ≡ None) × AllLack told name ls ps
+AllLack told name (l ∷ ls) (p ∷ ps) =
+    IsProbeOf told name l p × (p.bytes ≡ None) × AllLack told name ls ps
 
 -- the probe that found bytes is of the next loader of the route (5.3.2)
-pub record IsFound (content : Option Content) (sought : List ℕ) (here : Option ℕ) (p : Found) : Type 0 where
+pub record IsFound (content : Option Content) (sought : List ℕ) (here : Option ℕ) (p : Found)
+    : Type 0 where
   pub probe : IsProbeOf content sought p.loader p
   pub next : here ≡ Some p.loader
   pub bytes : IsSome p.bytes
@@ -72,8 +90,8 @@ pub record Follows (told : Option Content) (s : Searched) : Type 0 where
   pub absent : AllLack told s.name (route_of s) s.absent
   pub found : IsEnd told s.name (slice_get (route_of s) (length s.absent)) s.found
 
--- a home: the configuration and the loader that was asked, the one whose own content answered, the bytes there, and the
--- probes before (5.3.2)
+-- a home: the configuration and the loader that was asked, the one whose own content answered, the
+-- bytes there, and the probes before (5.3.2)
 pub record Located : Type 0 where
   pub config : Configured
   pub asked : ℕ

@@ -19,4 +19,5 @@ world_of c content = record { loaders = loaders_of c; content = content; read = 
 
 -- the script over that world (5.3)
 abbrev pub setting_of : Configured → Scripted → Content → Setting
-setting_of c s content = record { world = world_of c content; script = schedule_of s; rounds = s.rounds }
+setting_of c s content =
+    record { world = world_of c content; script = schedule_of s; rounds = s.rounds }

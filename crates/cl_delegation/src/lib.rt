@@ -1,5 +1,5 @@
-//! The search rule of loaders: which loader's own content answers for a name (JVMS SE 8, 5.3.2). For now a loader has
-//! neither parents nor imports.
+//! The search rule of loaders: which loader's own content answers for a name, by parents, imports and the order of
+//! each loader (JVMS SE 8, 5.3.2).
 #![tactic(auto)]
 
 pub mod laws;

@@ -1,5 +1,5 @@
 -- Two types are equal where they are the same.
-use Rattle.std.proofs.Common.{◌≡◌, ◌↔◌, ℕ, true, eqb, List, [], ◌∷◌, Option, Some, None, refl, sym, ap, subst, ◌∙◌}
+use Rattle.std.proofs.Common.{◌≡◌, ◌↔◌, ℕ, true, eqb, List, Option, Some, None, refl, sym, ap, subst, ◌∙◌}
 use Rattle.std.specs.Cmp.Lexicographic.{pointwise, pointwise_decides, same_text}
 use Rattle.std.specs.Option.{option_eq}
 use Rattle.std.specs.Prelude.{IsTrue}

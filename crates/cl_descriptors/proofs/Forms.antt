@@ -1,13 +1,13 @@
 -- What a form says of the bytes.
-use Rattle.std.proofs.Common.{◌≡◌, ◌≢◌, ℕ, Bool, true, false, cond, not, eqb, List, [], ◌∷◌, Option, Some, None, Result, Ok, Err, refl, sym, ap, subst, ◌∙◌}
+use Rattle.std.proofs.Common.{◌≡◌, ℕ, Bool, true, false, cond, not, eqb, List, [], ◌∷◌, Option, Some, None, Result, Ok, Err, refl, sym, ap, subst, ◌∙◌}
 use Rattle.std.specs.Prelude.{is_some}
 use Rattle.std.specs.Option.{option_or}
 use Rattle.std.proofs.lemmas.Bool.{eqb-true, eq-eqb}
 use Rattle.std.specs.Prelude.{option_map}
 use Rattle.std.specs.Result.{result_ok}
-use Rattle.cl_descriptors.specs.Types.{SpellsField, SpellsMethod, is_shallow, are_shallow, is_short, units_of_method}
-use Rattle.cl_descriptors.specs.Reading.{base_at, field_at, whole_field, whole_method, field_of, method_of, within_field, within_method, field_form, method_form, form_of, units_of}
-use Rattle.cl_descriptors.specs.Answers.{IsField, IsMethod, IsFieldType, IsMethodType, FormOf, UnitsOf}
+use Rattle.cl_descriptors.specs.Types.{SpellsField, SpellsMethod, units_of_method}
+use Rattle.cl_descriptors.specs.Reading.{base_at, field_at, whole_field, whole_method, field_of, method_of, field_form, method_form, form_of, units_of}
+use Rattle.cl_descriptors.specs.Answers.{IsFieldType, IsMethodType, FormOf, UnitsOf}
 use Rattle.cl_descriptors.specs.declared.types.FieldType.{FieldType}
 use Rattle.cl_descriptors.specs.declared.types.MethodType.{MethodType}
 use Rattle.cl_descriptors.specs.declared.types.Form.{Form}

@@ -1,12 +1,40 @@
--- What reading bytes as a descriptor may answer: which of these it is, the bytes say, but for want of memory (JVMS SE 8, 4.3).
-use Rattle.std.specs.Prelude.{◌≡◌, ◌≢◌, ℕ, IsTrue, IsFalse, IsOk, IsSome, List, Option, Some, None, Result, Ok, Err}
-use Rattle.cl_descriptors.specs.Types.{SpellsField, SpellsMethod, is_shallow, are_shallow, is_short, units_of_method}
+-- What reading bytes as a descriptor may answer: which of these it is, the bytes say, but for want
+-- of memory (JVMS SE 8, 4.3).
+use Rattle.std.specs.Prelude.{
+  ◌≡◌,
+  ◌≢◌,
+  ℕ,
+  IsTrue,
+  IsFalse,
+  IsOk,
+  IsSome,
+  List,
+  Option,
+  Some,
+  None,
+  Result,
+  Ok,
+  Err,
+}
+use Rattle.cl_descriptors.specs.Types.{
+  SpellsField,
+  SpellsMethod,
+  is_shallow,
+  are_shallow,
+  is_short,
+  units_of_method,
+}
 use Rattle.cl_descriptors.specs.declared.types.FieldType.{FieldType}
 use Rattle.cl_descriptors.specs.declared.types.MethodType.{MethodType}
 use Rattle.cl_descriptors.specs.declared.types.Form.{Form}
 use Rattle.cl_descriptors.specs.declared.types.Form.TheVariants.{Plain, Array, Method, Void}
 use Rattle.cl_descriptors.specs.declared.types.DescriptorFault.{DescriptorFault}
-use Rattle.cl_descriptors.specs.declared.types.DescriptorFault.TheVariants.{Memory, Malformed, TooManyDimensions, TooManyUnits}
+use Rattle.cl_descriptors.specs.declared.types.DescriptorFault.TheVariants.{
+  Memory,
+  Malformed,
+  TooManyDimensions,
+  TooManyUnits,
+}
 
 -- some field type of that kind is spelled so (JVMS SE 8, 4.3.2)
 abbrev pub IsField : List ℕ → (FieldType → Type 0) → Type 0
@@ -29,10 +57,11 @@ abbrev pub MethodOf : List ℕ → Result MethodType DescriptorFault → Type 0
 MethodOf bytes (Ok m) = SpellsMethod bytes m × IsTrue (are_shallow m) × IsTrue (is_short m)
 MethodOf bytes (Err Malformed) = (m : MethodType) → SpellsMethod bytes m → ⊥
 MethodOf bytes (Err TooManyDimensions) = IsMethod bytes (λ m. IsFalse (are_shallow m))
-MethodOf bytes (Err TooManyUnits) = IsMethod bytes (λ m. IsTrue (are_shallow m) × IsFalse (is_short m))
+MethodOf bytes (Err TooManyUnits) =
+    IsMethod bytes (λ m. IsTrue (are_shallow m) × IsFalse (is_short m))
 MethodOf bytes (Err Memory) = IsMethod bytes (λ m. IsTrue (are_shallow m) × IsTrue (is_short m))
 
--- the answer is that of the bytes, and memory is wanting only where they are a descriptor (own choice of form)
+-- the answer is that of the bytes, and memory is wanting only where they are a descriptor
 abbrev pub Gives : {A : Type 0} → Result A DescriptorFault → Result A DescriptorFault → Type 0
 Gives (Ok x) reading = reading ≡ Ok x
 Gives (Err Malformed) reading = reading ≡ Err Malformed

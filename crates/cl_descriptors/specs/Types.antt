@@ -1,10 +1,35 @@
 -- Types, how descriptors spell them, and the limits that they keep (JVMS SE 8, 4.3).
-use Rattle.std.specs.Prelude.{◌≡◌, ℕ, Bool, nat_le, List, ◌++◌, replicate, codes, flat_map, filter_map, Option, Some, None, option_to_list}
+use Rattle.std.specs.Prelude.{
+  ◌≡◌,
+  ℕ,
+  Bool,
+  nat_le,
+  List,
+  ◌++◌,
+  replicate,
+  codes,
+  flat_map,
+  filter_map,
+  Option,
+  Some,
+  None,
+  option_to_list,
+}
 use Rattle.std.specs.List.{AllByRecursion, list_all}
 use Rattle.cl_names.specs.Kind.{IsNameOf, IsClass}
 use Rattle.cl_descriptors.specs.Units.{units_of_types}
 use Rattle.cl_descriptors.specs.declared.types.Base.{Base}
-use Rattle.cl_descriptors.specs.declared.types.Base.TheVariants.{Byte, Char, Double, Float, Int, Long, Short, Boolean, Class}
+use Rattle.cl_descriptors.specs.declared.types.Base.TheVariants.{
+  Byte,
+  Char,
+  Double,
+  Float,
+  Int,
+  Long,
+  Short,
+  Boolean,
+  Class,
+}
 use Rattle.cl_descriptors.specs.declared.types.FieldType.{FieldType}
 use Rattle.cl_descriptors.specs.declared.types.MethodType.{MethodType}
 
@@ -31,7 +56,8 @@ spelling_of_return (Some t) = spelling_of_field t
 
 -- the parameters between `(` and `)`, and what is returned (JVMS SE 8, 4.3.3)
 abbrev pub spelling_of_method : MethodType → List ℕ
-spelling_of_method m = codes "(" ++ (flat_map spelling_of_field m.params ++ (codes ")" ++ spelling_of_return m.ret))
+spelling_of_method m =
+    codes "(" ++ (flat_map spelling_of_field m.params ++ (codes ")" ++ spelling_of_return m.ret))
 
 -- the type that is returned, if any, and then the parameters in order (JVMS SE 8, 4.3.3)
 abbrev pub types_of : MethodType → List FieldType
@@ -46,7 +72,8 @@ IsBase _ = Unit {0}
 abbrev pub AreNamed : MethodType → Type 0
 AreNamed m = AllByRecursion (λ t. IsBase t.base) (types_of m)
 
--- the bytes are the descriptor of this field type, but for the limit on dimensions: in a definition a type has any number of them (JVMS SE 8, 4.3.2)
+-- the bytes are the descriptor of this field type, but for the limit on dimensions: in a definition
+-- a type has any number of them (JVMS SE 8, 4.3.2)
 pub record SpellsField (bytes : List ℕ) (t : FieldType) : Type 0 where
   pub named : IsBase t.base
   pub spelled : bytes ≡ spelling_of_field t
@@ -81,6 +108,7 @@ class_of_base _ = None
 abbrev pub class_of : FieldType → Option (List ℕ)
 class_of t = class_of_base t.base
 
--- the classes that a method type names: that of the return type, and then those of the parameters in order (JVMS SE 8, 4.3.3)
+-- the classes that a method type names: that of the return type, and then those of the parameters
+-- in order (JVMS SE 8, 4.3.3)
 abbrev pub classes_of : MethodType → List (List ℕ)
 classes_of m = filter_map class_of (types_of m)

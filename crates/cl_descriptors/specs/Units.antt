@@ -10,7 +10,8 @@ units_of_base Double = 2
 units_of_base Long = 2
 units_of_base _ = 1
 
--- a long or a double counts two units, each other type one, an array of these too (JVMS SE 8, 4.3.3)
+-- a long or a double counts two units, each other type one, an array of these too
+-- (JVMS SE 8, 4.3.3)
 abbrev pub units_of_field : FieldType → ℕ
 units_of_field t = if t.dims == 0 then units_of_base t.base else 1
 

@@ -8,7 +8,7 @@ ghost use Rattle.cl_descriptors.specs.Units.{units_of_field};
 ghost use Rattle.cl_descriptors.specs.Pieces.{seen, seen_base};
 
 use crate::types::{Base, FieldType};
-use cl_names::{Name, is_class_name};
+use cl_names::{Name, kinds_of};
 use std::alloc::{AllocError, Global};
 
 /// A base whose class name still stands in the bytes.
@@ -73,10 +73,7 @@ fn class_name(alloc: Global, bytes: &[u8]) -> Result<Name, AllocError>
     requires { IsNameOf IsClass bytes.now }
     ensures { IfOk result (λ name. name ≡ bytes.now) }
 {
-    match Name::class(alloc, bytes) {
-        Ok(name) => Ok(name),
-        Err(_) => Err(AllocError),
-    }
+    Name::of_text(alloc, bytes)
 }
 
 fn base_of_letter(letter: u8) -> Option<Base>
@@ -119,7 +116,7 @@ fn class_at(bytes: &[u8]) -> Option<(&[u8], &[u8])>
     let end = semicolon(bytes)?;
     let (name, _) = bytes.split_at(end);
     let (_, rest) = bytes.split_at(end + 1);
-    if !is_class_name(name) {
+    if !kinds_of(name).class {
         return None;
     }
     Some((name, rest))

@@ -4,13 +4,14 @@ use Rattle.std.specs.List.{filter_map, cons_option}
 use Rattle.std.specs.Prelude.{option_to_list}
 use Rattle.std.proofs.lemmas.List.{length-map}
 use Rattle.cl_model.specs.Classes.{Above, Role, AsSuperclass, AsSuperinterface, supers, superclass_of, superinterfaces_of}
-use Rattle.cl_classfile.specs.Structure.{Structure}
-use Rattle.cl_classfile.specs.Files.{class_name, file_of}
+use Rattle.cl_classfile.specs.Structure.{Structure, AreBytes}
 use Rattle.cl_classfile.specs.Reading.{read_of}
+use Rattle.cl_classfile.proofs.Exact.{each_byte, read_takes, read_again}
+use Rattle.cl_classfile.specs.Files.{class_name, file_of}
 use Rattle.cl_model.specs.Content.{Content}
 use Rattle.cl_source.specs.Told.{IsTold}
 use Rattle.cl_delegation.specs.Searches.{Located, LeadsTo}
-use Rattle.cl_hierarchy.specs.Drafts.{Drafted, IsSpelt, IsDraft}
+use Rattle.cl_hierarchy.specs.Drafts.{Drafted, ByGrammar, IsSpelt, IsDraft}
 
 -- a class of this name and loader, of this file and home
 abbrev pub drafted : List ℕ → ℕ → Structure → Located → Drafted
@@ -20,16 +21,26 @@ drafted name loader f home = record { class = record { name = name; loader = loa
 abbrev above : List ℕ → Role → Above
 above n role = record { name = n; role = role }
 
-is_spelt : (told : Option Content) (name : List ℕ) (loader : ℕ) (bytes : List ℕ) (f : Structure) → IsTold told loader name (Some bytes) → read_of bytes ≡ Ok f → (file_of f).name ≡ name
+-- the reader of lists gives what bytes spell by the grammar
+pub grammar_read : (bytes : List ℕ) (f : Structure) → ByGrammar bytes f → read_of bytes ≡ Ok f
+unfolding ByGrammar
+grammar_read bytes f h = read_again bytes f h
+
+-- and of bytes nothing else
+pub read_grammar : (bytes : List ℕ) (f : Structure) → AreBytes bytes → read_of bytes ≡ Ok f → ByGrammar bytes f
+unfolding ByGrammar
+read_grammar bytes f are h = read_takes bytes f (each_byte bytes are) h
+
+is_spelt : (told : Option Content) (name : List ℕ) (loader : ℕ) (bytes : List ℕ) (f : Structure) → IsTold told loader name (Some bytes) → ByGrammar bytes f → (file_of f).name ≡ name
     → IsSpelt told (record { name = name; loader = loader }) f
-is_spelt told name loader bytes f said read named = record { bytes = bytes; told_so = said; read = read; named = named }
+is_spelt told name loader bytes f said spells named = record { bytes = bytes; told_so = said; spells = spells; named = named }
 
 -- what was read of the home, and kept of its name, of the file and of the home itself
 pub is_draft_of : (told : Option Content) (name : List ℕ) (loader : ℕ) (kept f : Structure) (held home : Located) → name ≡ home.name → loader ≡ home.place → kept ≡ f → held ≡ home
-    → IsTold told home.place home.name (Some home.bytes) → read_of home.bytes ≡ Ok f → (file_of f).name ≡ home.name → LeadsTo told home.config home.asked home.name (Some home.place) → home.place < length home.config.loaders
+    → IsTold told home.place home.name (Some home.bytes) → ByGrammar home.bytes f → (file_of f).name ≡ home.name → LeadsTo told home.config home.asked home.name (Some home.place) → home.place < length home.config.loaders
     → IsDraft told (drafted name loader kept held)
-is_draft_of told name loader kept f held home q p r h said read named leads within =
-    let is : IsDraft told (drafted home.name home.place f home) = record { placed = cc; spelt = is_spelt told home.name home.place home.bytes f said read named; leads = leads; within = within } in
+is_draft_of told name loader kept f held home q p r h said spells named leads within =
+    let is : IsDraft told (drafted home.name home.place f home) = record { placed = cc; spelt = is_spelt told home.name home.place home.bytes f said spells named; leads = leads; within = within } in
     let of_name : IsDraft told (drafted name home.place f home) = subst (λ (n : List ℕ). IsDraft told (drafted n home.place f home)) (sym q) is in
     let of_loader : IsDraft told (drafted name loader f home) = subst (λ (l : ℕ). IsDraft told (drafted name l f home)) (sym p) of_name in
     let of_file : IsDraft told (drafted name loader kept home) = subst (λ (k : Structure). IsDraft told (drafted name loader k home)) (sym r) of_loader in

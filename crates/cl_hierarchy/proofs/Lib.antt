@@ -11,6 +11,7 @@ pub mod Placings
 pub mod RowIndex
 pub mod RowTables
 pub mod Scans
+pub mod Spelling
 pub mod Stages
 pub mod Tables
 pub mod Told

@@ -15,6 +15,7 @@ use Rattle.cl_model.proofs.Homes.{home_of_home}
 use Rattle.cl_config.specs.Views.{Configured}
 use Rattle.cl_delegation.specs.Worlds.{world_of}
 use Rattle.cl_hierarchy.specs.Drafts.{Drafted, IsSpelt, IsDraft}
+use Rattle.cl_hierarchy.proofs.Drafting.{grammar_read}
 use Rattle.cl_hierarchy.specs.Frames.{frame_of}
 use Rattle.cl_hierarchy.specs.Paths.{fresh}
 use Rattle.cl_hierarchy.proofs.Frames.{none_yet}
@@ -32,7 +33,7 @@ named_so c f e = ap (λ (b : Bool). if b then Ok f else Err (NoClassDef c)) (ap 
 -- a class that is at home has the file that its bytes spell
 pub spelt_file : (c : Configured) (content : Content) (t : Class) (f : Structure) → IsAtHome (world_of c content) t → IsSpelt (Some content) t f → HasFile (world_of c content) t (file_of f)
 spelt_file c content t f at spelt =
-    file_found (world_of c content) t spelt.bytes at spelt.told_so ∙ ap (λ r. named t (seen r)) spelt.read ∙ named_so t (file_of f) spelt.named
+    file_found (world_of c content) t spelt.bytes at spelt.told_so ∙ ap (λ r. named t (seen r)) (grammar_read spelt.bytes f spelt.spells) ∙ named_so t (file_of f) spelt.named
 
 -- and is judged by it
 pub spelt_judged : (c : Configured) (content : Content) (one t : Class) (role : Role) (wrong : Option Error) (f : Structure) → IsSpelt (Some content) t f → classes.misfit one role t (file_of f) ≡ wrong

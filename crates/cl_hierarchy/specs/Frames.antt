@@ -1,4 +1,5 @@
--- A class that is being derived, with the supertypes that it accepted so far (JVMS SE 8, 5.3.5, steps 3 and 4).
+-- A class that is being derived, with the supertypes that it accepted so far
+-- (JVMS SE 8, 5.3.5, steps 3 and 4).
 use Rattle.std.specs.Prelude.{ℕ, List, [], ◌∷◌, ◌++◌}
 use Rattle.cl_classfile.specs.Files.{file_of}
 use Rattle.cl_model.specs.declared.class.Class.{Class}
@@ -17,9 +18,15 @@ accepted_of [] places = []
 accepted_of (a ∷ others) [] = []
 accepted_of (a ∷ others) (place ∷ places) = class a.name place ∷ accepted_of others places
 
--- the frame of the rules: the class, its file, and the supertypes that it accepted (5.3.5, steps 3 and 4)
+-- the frame of the rules: the class, its file, and the supertypes that it accepted
+-- (5.3.5, steps 3 and 4)
 abbrev pub frame_of : Framed → Frame
-frame_of x = record { class = x.draft.class; file = file_of x.draft.file; accepted = accepted_of (supers (file_of x.draft.file)) x.places }
+frame_of x =
+    record {
+      class = x.draft.class;
+      file = file_of x.draft.file;
+      accepted = accepted_of (supers (file_of x.draft.file)) x.places;
+    }
 
 -- one supertype more, which this loader defined (5.3.5, steps 3 and 4)
 abbrev pub with_place : Framed → ℕ → Framed

@@ -20,22 +20,24 @@ equal_need e = Equal e.name e.one e.other
 abbrev pub needs_of : List Equality → List Need
 needs_of es = map equal_need es
 
--- what a list of equalities was made from: a reference of a class d to a class c or through it, or a class's preparation (5.4.2, 5.4.3)
+-- what a list of equalities was made from: a reference of a class d to a class c or through it, or
+-- a class's preparation (5.4.2, 5.4.3)
 pub data Sprung : Type 0 where
   OfReference : (d c : Lined) → (index : ℕ) → Sprung
   OfPreparation : (lineage : Lined) → Sprung
 
--- the same, without where it lies in memory (own choice of form)
+-- the same, without where it lies in memory
 abbrev pub sprung : {A : Type 0} → Origin A → Sprung
 sprung (origins.Reference d c index) = OfReference d.value c.value index
 sprung (origins.Preparation lineage) = OfPreparation lineage.value
 
--- a list of equalities with what it was made from (own choice)
+-- a list of equalities with what it was made from
 pub record Listed : Type 0 where
   pub needs : List Equality
   pub origin : Sprung
 
--- these are the needs of d's reference at an index of its pool, which names the class c, once that is loaded (5.4.3)
+-- these are the needs of d's reference at an index of its pool, which names the class c, once that
+-- is loaded (5.4.3)
 pub record AreOfReference (d c : Kin) (index : ℕ) (needs : List Need) : Type 0 where
   pub refers : Reference
   pub at : reference d.file index ≡ Some refers

@@ -9,6 +9,7 @@ pub mod Places
 pub mod RowIndex
 pub mod RowTables
 pub mod Rows
+pub mod Spelling
 pub mod Supertypes
 pub mod Tours
 pub mod Trees

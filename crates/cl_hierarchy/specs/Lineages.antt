@@ -1,10 +1,40 @@
 -- A class with all that stands above it, as rows (JVMS SE 8, 5.3.5, 5.4.4).
-use Rattle.std.specs.Prelude.{◌≡◌, ◌<◌, ℕ, Bool, if◌then◌else◌, List, [], ◌∷◌, ◌++◌, Option, Some, None, find, length, reverse}
+use Rattle.std.specs.Prelude.{
+  ◌≡◌,
+  ◌<◌,
+  ℕ,
+  Bool,
+  if◌then◌else◌,
+  List,
+  [],
+  ◌∷◌,
+  ◌++◌,
+  Option,
+  Some,
+  None,
+  find,
+  length,
+  reverse,
+}
 use Rattle.std.specs.List.{AllByRecursion}
 use Rattle.cl_model.specs.declared.class.Class.{Class}
 use Rattle.cl_model.specs.Content.{Content}
 use Rattle.cl_model.specs.Classes.{is_among, same_class}
-use Rattle.cl_model.specs.Lineages.{Forest, Bare, Tree, IsLineage, Kin, alone, classes, lineage, member_accessible, once, protected_open, superclasses, upward}
+use Rattle.cl_model.specs.Lineages.{
+  Forest,
+  Bare,
+  Tree,
+  IsLineage,
+  Kin,
+  alone,
+  classes,
+  lineage,
+  member_accessible,
+  once,
+  protected_open,
+  superclasses,
+  upward,
+}
 use Rattle.cl_config.specs.Views.{Configured}
 use Rattle.cl_delegation.specs.Worlds.{world_of}
 use Rattle.cl_hierarchy.specs.Rows.{Rowed}
@@ -36,7 +66,8 @@ row_of rows c = find (λ r. same_class r.class c) rows
 abbrev pub IsRowIn : List Rowed → Rowed → Type 0
 IsRowIn rows r = row_of rows r.class ≡ Some r
 
--- each row stands after those of its direct supertypes, and all stand in the order of the lineage, each class once (5.3.5, 5.4)
+-- each row stands after those of its direct supertypes, and all stand in the order of the lineage,
+-- each class once (5.3.5, 5.4)
 pub record IsInOrder (l : Lined) : Type 0 where
   pub above : SupersBefore [] l.above
   pub own : IsAfter (kins l.above) l.own
@@ -47,7 +78,7 @@ abbrev pub IsLineageOf : Option Content → Lined → Type 0
 IsLineageOf None l = Unit {0}
 IsLineageOf (Some content) l = IsLineage (world_of l.config content) (kin_of l)
 
--- a row's loader is one of the configuration (own choice)
+-- a row's loader is one of the configuration
 abbrev pub IsWithin : Configured → Rowed → Type 0
 IsWithin config r = r.class.loader < length config.loaders
 
@@ -63,7 +94,8 @@ pub record IsLined (told : Option Content) (l : Lined) : Type 0 where
 abbrev pub upwards : Forest → List Kin
 upwards Bare = []
 upwards (Tree c f sup ints others) =
-    record { class = c; file = f; superclass = sup; interfaces = ints } ∷ upwards ints ++ upwards sup ++ upwards others
+    record { class = c; file = f; superclass = sup; interfaces = ints } ∷ upwards ints
+    ++ upwards sup ++ upwards others
 
 -- the class and all that stands above it in the order of field lookup, each once (5.4.3.2)
 abbrev pub field_order : Kin → List Kin
@@ -73,10 +105,14 @@ field_order k = once (upwards (alone k))
 abbrev pub reaches : List Kin → List Class → Class → Bool
 reaches known superclass c = is_among (classes (upward (forest known superclass))) c
 
--- this tells whether a protected member that owner declares with these flags is open to a class through another (5.4.4)
+-- this tells whether a protected member that owner declares with these flags is open to a class
+-- through another (5.4.4)
 abbrev pub TellsOpen : Bool → Lined → Class → ℕ → Lined → Type 0
-TellsOpen told from owner flags through = (k : Kin) → k.class ≡ owner → told ≡ protected_open (kin_of from) k flags (kin_of through)
+TellsOpen told from owner flags through =
+    (k : Kin) → k.class ≡ owner → told ≡ protected_open (kin_of from) k flags (kin_of through)
 
--- this tells whether a member that owner declares with these flags is accessible to a class through another (5.4.4)
+-- this tells whether a member that owner declares with these flags is accessible to a class through
+-- another (5.4.4)
 abbrev pub TellsAccess : Bool → Lined → Class → ℕ → Lined → Type 0
-TellsAccess told from owner flags through = (k : Kin) → k.class ≡ owner → told ≡ member_accessible (kin_of from) k flags (kin_of through)
+TellsAccess told from owner flags through =
+    (k : Kin) → k.class ≡ owner → told ≡ member_accessible (kin_of from) k flags (kin_of through)

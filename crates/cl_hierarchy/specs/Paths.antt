@@ -1,5 +1,22 @@
--- The classes that are being derived for one request, each for the sake of the one before it, each at its own loader (JVMS SE 8, 5.3.5, steps 3 and 4).
-use Rattle.std.specs.Prelude.{◌≡◌, ◌<◌, ◌^◌, ℕ, Bool, List, [], ◌∷◌, ◌++◌, length, map, Option, Some, None, IsSome}
+-- The classes that are being derived for one request, each for the sake of the one before it, each
+-- at its own loader (JVMS SE 8, 5.3.5, steps 3 and 4).
+use Rattle.std.specs.Prelude.{
+  ◌≡◌,
+  ◌<◌,
+  ◌^◌,
+  ℕ,
+  Bool,
+  List,
+  [],
+  ◌∷◌,
+  ◌++◌,
+  length,
+  map,
+  Option,
+  Some,
+  None,
+  IsSome,
+}
 use Rattle.std.specs.List.{AllByRecursion, list_any}
 use Rattle.cl_classfile.specs.Files.{File}
 use Rattle.cl_model.specs.declared.class.Class.{Class}
@@ -11,7 +28,8 @@ use Rattle.cl_delegation.specs.Worlds.{world_of}
 use Rattle.cl_hierarchy.specs.Drafts.{Drafted, IsDraft}
 use Rattle.cl_hierarchy.specs.Frames.{Framed, frame_of, with_place}
 
--- under which configuration, what a request loads through which loader, and the classes that are derived for it, the first of them first (5.3.5)
+-- under which configuration, what a request loads through which loader, and the classes that are
+-- derived for it, the first of them first (5.3.5)
 pub record Pathed : Type 0 where
   pub config : Configured
   pub loader : ℕ
@@ -31,7 +49,8 @@ abbrev pub name_of : Option Above → List ℕ
 name_of None = []
 name_of (Some a) = a.name
 
--- the name that is looked for under these frames: the supertype that the last one wants (5.3.5, steps 3 and 4)
+-- the name that is looked for under these frames: the supertype that the last one wants
+-- (5.3.5, steps 3 and 4)
 abbrev pub sought : List ℕ → List Framed → List ℕ
 sought name [] = name
 sought name (x ∷ xs) = sought (name_of (wanted (frame_of x))) xs
@@ -48,7 +67,8 @@ at_name p = sought p.name p.frames
 abbrev pub is_on : Pathed → Class → Bool
 is_on p c = list_any (λ x. same_class c x.class) (frames_of p)
 
--- a frame is of what this loader is asked for under this configuration, and wants a supertype, whatever the source tells (5.3.5, steps 3 and 4)
+-- a frame is of what this loader is asked for under this configuration, and wants a supertype,
+-- whatever the source tells (5.3.5, steps 3 and 4)
 pub record Stands (c : Configured) (loader : ℕ) (name : List ℕ) (x : Framed) : Type 0 where
   pub config : x.draft.home.config ≡ c
   pub asked : x.draft.home.asked ≡ loader
@@ -58,12 +78,14 @@ pub record Stands (c : Configured) (loader : ℕ) (name : List ℕ) (x : Framed)
 -- and each of these is of what the one before it wants (5.3.5, steps 3 and 4)
 abbrev pub AllStand : Configured → ℕ → List ℕ → List Framed → Type 0
 AllStand c loader name [] = Unit {0}
-AllStand c loader name (x ∷ xs) = Stands c loader name x × AllStand c x.draft.class.loader (name_of (wanted (frame_of x))) xs
+AllStand c loader name (x ∷ xs) =
+    Stands c loader name x × AllStand c x.draft.class.loader (name_of (wanted (frame_of x))) xs
 
 -- where a content is told, they are frames as the rules have them (5.3.5, steps 3 and 4)
 abbrev pub KeepsRules : Option Content → Pathed → Type 0
 KeepsRules None p = Unit {0}
-KeepsRules (Some content) p = IsFrames (world_of p.config content) [] p.loader p.name (frames_of p) (at_loader p) (at_name p)
+KeepsRules (Some content) p =
+    IsFrames (world_of p.config content) [] p.loader p.name (frames_of p) (at_loader p) (at_name p)
 
 -- what a path keeps (5.3.5, steps 3 and 4)
 pub record IsPath (told : Option Content) (p : Pathed) : Type 0 where
@@ -80,18 +102,21 @@ with_frame p x = record p { frames = p.frames ++ x ∷ [] }
 abbrev pub with_frames : Pathed → List Framed → Pathed
 with_frames p xs = record p { frames = xs }
 
--- what is wrong with a class of this file as the supertype that a frame wants, if it wants one (5.3.5, steps 3 and 4)
+-- what is wrong with a class of this file as the supertype that a frame wants, if it wants one
+-- (5.3.5, steps 3 and 4)
 abbrev pub misfit_in : Framed → Option Above → Class → File → Option Error
 misfit_in x None t f = None
 misfit_in x (Some a) t f = misfit x.draft.class a.role t f
 
--- what is wrong with it as the supertype that the last of these wants; a request's own class fits always (5.3.5, steps 3 and 4)
+-- what is wrong with it as the supertype that the last of these wants; a request's own class fits
+-- always (5.3.5, steps 3 and 4)
 abbrev pub misfit_under : List Framed → Class → File → Option Error
 misfit_under [] t f = None
 misfit_under (x ∷ []) t f = misfit_in x (wanted (frame_of x)) t f
 misfit_under (x ∷ (y ∷ xs)) t f = misfit_under (y ∷ xs) t f
 
--- the last class accepted a supertype that this loader defined, and wants another (5.3.5, steps 3 and 4)
+-- the last class accepted a supertype that this loader defined, and wants another
+-- (5.3.5, steps 3 and 4)
 pub record Accepts (old new : Pathed) (place : ℕ) : Type 0 where
   pub before : List Framed
   pub last : Framed
@@ -99,7 +124,8 @@ pub record Accepts (old new : Pathed) (place : ℕ) : Type 0 where
   pub now : new ≡ with_frames old (before ++ with_place last place ∷ [])
   pub waits : IsSome (wanted (frame_of (with_place last place)))
 
--- the last class accepted the last of its supertypes, which this loader defined, and is derived no longer: its whole frame (5.3.5, step 5)
+-- the last class accepted the last of its supertypes, which this loader defined, and is derived no
+-- longer: its whole frame (5.3.5, step 5)
 pub record Completes (old new : Pathed) (place : ℕ) (whole : Framed) : Type 0 where
   pub before : List Framed
   pub last : Framed

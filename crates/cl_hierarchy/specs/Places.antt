@@ -1,4 +1,4 @@
--- Where a row stands among others (own choice of form).
+-- Where a row stands among others.
 use Rattle.std.specs.Prelude.{◌≡◌, List, ◌∷◌, ◌++◌}
 use Rattle.cl_hierarchy.specs.Rows.{Rowed}
 

@@ -1,4 +1,4 @@
--- Rows by their classes (own choice of form).
+-- Rows by their classes.
 use Rattle.std.specs.Prelude.{◌≡◌, List, Option}
 use Rattle.std.specs.Map.{lookup}
 use Rattle.std.specs.Option.{option_map}
@@ -7,6 +7,7 @@ use Rattle.cl_model.specs.Classes.{same_class}
 use Rattle.cl_hierarchy.specs.Rows.{Rowed}
 use Rattle.cl_hierarchy.specs.Lineages.{row_of}
 
--- a table has the row of each class of these, and no other (own choice of form)
+-- a table has the row of each class of these, and no other
 abbrev pub IsIndexOf : {A : Type 0} → (A → Rowed) → List (Class × A) → List Rowed → Type 0
-IsIndexOf row entries rows = (c : Class) → option_map row (lookup (same_class c) entries) ≡ row_of rows c
+IsIndexOf row entries rows =
+    (c : Class) → option_map row (lookup (same_class c) entries) ≡ row_of rows c

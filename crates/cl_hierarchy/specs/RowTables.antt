@@ -1,5 +1,20 @@
--- Rows in the order in which their classes were defined, and what is made of them (JVMS SE 8, 5.3.5).
-use Rattle.std.specs.Prelude.{◌≡◌, ℕ, List, [], ◌∷◌, ◌++◌, Option, Some, None, IsSome, Result, Ok, Err}
+-- Rows in the order in which their classes were defined, and what is made of them
+-- (JVMS SE 8, 5.3.5).
+use Rattle.std.specs.Prelude.{
+  ◌≡◌,
+  ℕ,
+  List,
+  [],
+  ◌∷◌,
+  ◌++◌,
+  Option,
+  Some,
+  None,
+  IsSome,
+  Result,
+  Ok,
+  Err,
+}
 use Rattle.std.specs.List.{AllByRecursion}
 use Rattle.cl_classfile.specs.Files.{file_of}
 use Rattle.cl_model.specs.declared.class.Class.{Class}
@@ -15,20 +30,25 @@ use Rattle.cl_hierarchy.specs.Lineages.{IsRowIn, IsWithin, Lined, kin_of, row_of
 use Rattle.cl_hierarchy.specs.declared.making.LineageFault.{LineageFault}
 use Rattle.cl_hierarchy.specs.declared.making.LineageFault.TheVariants.{Memory, Unknown}
 
--- where a content is told, this loader is where the search for a supertype of a class leads to (5.3.1, 5.3.2)
+-- where a content is told, this loader is where the search for a supertype of a class leads to
+-- (5.3.1, 5.3.2)
 abbrev pub IsFound : Option Content → Configured → Class → Above → ℕ → Type 0
 IsFound None config c a place = Unit {0}
-IsFound (Some content) config c a place = home (world_of config content) c.loader a.name ≡ Some place
+IsFound (Some content) config c a place =
+    home (world_of config content) c.loader a.name ≡ Some place
 
--- a direct supertype of a class, which this loader defined, stands among earlier rows, and fits (5.3.5, steps 3 and 4)
-pub record StandsAbove (told : Option Content) (config : Configured) (earlier : List Rowed) (c : Class) (a : Above) (place : ℕ) : Type 0 where
+-- a direct supertype of a class, which this loader defined, stands among earlier rows, and fits
+-- (5.3.5, steps 3 and 4)
+pub record StandsAbove (told : Option Content) (config : Configured) (earlier : List Rowed)
+    (c : Class) (a : Above) (place : ℕ) : Type 0 where
   pub row : Rowed
   pub stands : row_of earlier (class a.name place) ≡ Some row
   pub fits : misfit c a.role row.class (file_of row.file) ≡ None
   pub found : IsFound told config c a place
 
 -- these supertypes of a class, which these loaders defined, one each (5.3.5, steps 3 and 4)
-abbrev pub StandAbove : Option Content → Configured → List Rowed → Class → List Above → List ℕ → Type 0
+abbrev pub StandAbove : Option Content → Configured → List Rowed → Class → List Above → List ℕ
+    → Type 0
 StandAbove told config earlier c [] [] = Unit {0}
 StandAbove told config earlier c [] (place ∷ places) = ⊥
 StandAbove told config earlier c (a ∷ others) [] = ⊥
@@ -40,8 +60,10 @@ abbrev pub HasItsFile : Option Content → Configured → Rowed → Type 0
 HasItsFile None config r = Unit {0}
 HasItsFile (Some content) config r = HasFile (world_of config content) r.class (file_of r.file)
 
--- a row may stand after these: its class is new, and its direct supertypes stand among them (5.3.5, steps 2 to 5)
-pub record IsRowAfter (told : Option Content) (config : Configured) (earlier : List Rowed) (r : Rowed) : Type 0 where
+-- a row may stand after these: its class is new, and its direct supertypes stand among them
+-- (5.3.5, steps 2 to 5)
+pub record IsRowAfter (told : Option Content) (config : Configured) (earlier : List Rowed)
+    (r : Rowed) : Type 0 where
   pub is_new : row_of earlier r.class ≡ None
   pub within : IsWithin config r
   pub above : StandAbove told config earlier r.class (supers (file_of r.file)) r.places
@@ -50,9 +72,11 @@ pub record IsRowAfter (told : Option Content) (config : Configured) (earlier : L
 -- each of these rows may stand where it stands, after the earlier ones (5.3.5)
 abbrev pub AreRowsAfter : Option Content → Configured → List Rowed → List Rowed → Type 0
 AreRowsAfter told config earlier [] = Unit {0}
-AreRowsAfter told config earlier (r ∷ rs) = IsRowAfter told config earlier r × AreRowsAfter told config (earlier ++ r ∷ []) rs
+AreRowsAfter told config earlier (r ∷ rs) =
+    IsRowAfter told config earlier r × AreRowsAfter told config (earlier ++ r ∷ []) rs
 
--- rows in the order in which their classes were defined, each class once and after its direct supertypes (5.3.5)
+-- rows in the order in which their classes were defined, each class once and after its direct
+-- supertypes (5.3.5)
 abbrev pub AreRows : Option Content → Configured → List Rowed → Type 0
 AreRows told config rows = AreRowsAfter told config [] rows
 
@@ -63,7 +87,8 @@ pub record IsMadeOf (config : Configured) (rows : List Rowed) (c : Class) (l : L
   pub kin_is : kin_named (kins rows) c ≡ Some (kin_of l)
   pub rows_are : AllByRecursion (IsRowIn rows) (rows_in l)
 
--- the lineage of a class from these rows; a class without a row is unknown, and no other, and memory is wanting for no such class (5.3.5)
+-- the lineage of a class from these rows; a class without a row is unknown, and no other, and
+-- memory is wanting for no such class (5.3.5)
 abbrev pub Makes : Configured → List Rowed → Class → Result Lined LineageFault → Type 0
 Makes config rows c (Ok l) = IsMadeOf config rows c l
 Makes config rows c (Err Unknown) = row_of rows c ≡ None
@@ -73,12 +98,20 @@ Makes config rows c (Err Memory) = IsSome (row_of rows c)
 
 -- a row that may stand after such rows may join them (5.3.5)
 abbrev pub RowsGrow : Type 0
-RowsGrow = (told : Option Content) (config : Configured) (rows : List Rowed) (r : Rowed) → AreRows told config rows → IsRowAfter told config rows r → AreRows told config (rows ++ r ∷ [])
+RowsGrow =
+    (told : Option Content) (config : Configured) (rows : List Rowed) (r : Rowed)
+    → AreRows told config rows → IsRowAfter told config rows r
+    → AreRows told config (rows ++ r ∷ [])
 
 -- each row stands after those of its direct supertypes (5.3.5)
 abbrev pub RowsStandInOrder : Type 0
-RowsStandInOrder = (told : Option Content) (config : Configured) (rows : List Rowed) → AreRows told config rows → SupersBefore [] rows
+RowsStandInOrder =
+    (told : Option Content) (config : Configured) (rows : List Rowed) → AreRows told config rows
+    → SupersBefore [] rows
 
 -- where a content is told, the tree of each class is its lineage (5.3.5)
 abbrev pub RowsMakeLineages : Type 0
-RowsMakeLineages = (config : Configured) (content : Content) (rows : List Rowed) (c : Class) (k : Kin) → AreRows (Some content) config rows → kin_named (kins rows) c ≡ Some k → IsLineage (world_of config content) k
+RowsMakeLineages =
+    (config : Configured) (content : Content) (rows : List Rowed) (c : Class) (k : Kin)
+    → AreRows (Some content) config rows → kin_named (kins rows) c ≡ Some k
+    → IsLineage (world_of config content) k

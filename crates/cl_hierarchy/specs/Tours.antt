@@ -1,5 +1,26 @@
--- Tours through all that stands above a class, and what of one is left (JVMS SE 8, 5.3.5, 5.4.3.2, 5.4.3.3).
-use Rattle.std.specs.Prelude.{◌≡◌, ℕ, ◌+◌, ◌*◌, Bool, true, false, if◌then◌else◌, List, [], ◌∷◌, ◌++◌, Option, Some, None, drop, map, slice_get, option_and_then}
+-- Tours through all that stands above a class, and what of one is left
+-- (JVMS SE 8, 5.3.5, 5.4.3.2, 5.4.3.3).
+use Rattle.std.specs.Prelude.{
+  ◌≡◌,
+  ℕ,
+  ◌+◌,
+  ◌*◌,
+  Bool,
+  true,
+  false,
+  if◌then◌else◌,
+  List,
+  [],
+  ◌∷◌,
+  ◌++◌,
+  Option,
+  Some,
+  None,
+  drop,
+  map,
+  slice_get,
+  option_and_then,
+}
 use Rattle.cl_model.specs.declared.class.Class.{Class}
 use Rattle.cl_model.specs.Classes.{is_among}
 use Rattle.cl_model.specs.Lineages.{Forest, Bare, Tree, Kin, alone, classes}
@@ -15,25 +36,25 @@ use Rattle.cl_hierarchy.specs.Lineages.{row_of}
 
 -- ---- orders
 
--- a class is told before what stands above it (own choice of form)
+-- a class is told before what stands above it
 abbrev pub tells_before : Order → Bool → Bool
 tells_before orders.Lineage wanted = false
 tells_before orders.Superinterfaces wanted = wanted
 tells_before orders.Fields wanted = wanted
 
--- a class is told after what stands above it (own choice of form)
+-- a class is told after what stands above it
 abbrev pub tells_after : Order → Bool
 tells_after orders.Lineage = true
 tells_after orders.Superinterfaces = false
 tells_after orders.Fields = false
 
--- a superclass is wanted itself, too (own choice of form)
+-- a superclass is wanted itself, too
 abbrev pub wants_up : Order → Bool
 wants_up orders.Lineage = true
 wants_up orders.Superinterfaces = false
 wants_up orders.Fields = true
 
--- what stands above a class: the superclass's first, or last (own choice of form)
+-- what stands above a class: the superclass's first, or last
 abbrev pub up_first : Order → Bool
 up_first orders.Lineage = true
 up_first orders.Superinterfaces = false
@@ -41,142 +62,156 @@ up_first orders.Fields = false
 
 -- ---- what a tour comes to
 
--- a tour comes to a class, or leaves it (own choice of form)
+-- a tour comes to a class, or leaves it
 pub data Stop : Type 0 where
   Comes : (kin : Kin) → (wanted : Bool) → Stop
   Leaves : (kin : Kin) → Stop
 
--- one part in front of the other (own choice of form)
+-- one part in front of the other
 abbrev pub between : {A : Type 0} → Order → List A → List A → List A
 between o up over = if up_first o then up ++ over else over ++ up
 
--- the stops of a tour through the classes of a list (own choice of form)
+-- the stops of a tour through the classes of a list
 abbrev pub stops : Order → Forest → Bool → List Stop
 stops o Bare wanted = []
 stops o (Tree c f sup ints others) wanted =
     Comes (record { class = c; file = f; superclass = sup; interfaces = ints }) wanted
     ∷ between o (stops o sup (wants_up o)) (stops o ints true)
-    ++ Leaves (record { class = c; file = f; superclass = sup; interfaces = ints }) ∷ stops o others wanted
+    ++ Leaves (record { class = c; file = f; superclass = sup; interfaces = ints })
+    ∷ stops o others wanted
 
--- those above a class (own choice of form)
+-- those above a class
 abbrev pub inner : Order → Kin → List Stop
 inner o k = between o (stops o k.superclass (wants_up o)) (stops o k.interfaces true)
 
--- what is told at a stop (own choice of form)
+-- what is told at a stop
 abbrev pub tells : Order → Stop → List Kin
 tells o (Comes k wanted) = if tells_before o wanted then k ∷ [] else []
 tells o (Leaves k) = if tells_after o then k ∷ [] else []
 
--- what is told at these (own choice of form)
+-- what is told at these
 abbrev pub told_at : Order → List Stop → List Kin
 told_at o [] = []
 told_at o (s ∷ ss) = tells o s ++ told_at o ss
 
 -- ---- what is left to do
 
--- what is left to do for a row (own choice of form)
+-- what is left to do for a row
 pub record Marked : Type 0 where
   pub row : Rowed
   pub task : Task
 
--- the same, without where the row lies in memory (own choice of form)
+-- the same, without where the row lies in memory
 abbrev pub marked : {A : Type 0} → Step A → Marked
 marked s = record { row = s.row.value; task = s.task }
 
--- the same of each (own choice of form)
+-- the same of each
 abbrev pub marks : {A : Type 0} → List (Step A) → List Marked
 marks ss = map (λ s. marked s) ss
 
--- the stops that it has (own choice of form)
+-- the stops that it has
 abbrev pub stops_of : Order → List Kin → Rowed → Task → List Stop
 stops_of o known r (tasks.Come wanted) = stops o (alone (kin_under known r)) wanted
 stops_of o known r (tasks.Over place) = stops o (forest known (drop place (interfaces_in r))) true
 stops_of o known r tasks.Leave = Leaves (kin_under known r) ∷ []
 
--- those of all these, the last first (own choice of form)
+-- those of all these, the last first
 abbrev pub stops_left : Order → List Kin → List Marked → List Stop
 stops_left o known [] = []
 stops_left o known (m ∷ ms) = stops_left o known ms ++ stops_of o known m.row m.task
 
 -- ---- one step
 
--- the first of these classes has this row (own choice of form)
+-- the first of these classes has this row
 abbrev pub first_row : List Rowed → List Class → Option Rowed
 first_row rows [] = None
 first_row rows (c ∷ cs) = row_of rows c
 
--- to come to the superclass (own choice of form)
+-- to come to the superclass
 abbrev pub upwards_of : Order → Option Rowed → List Marked
 upwards_of o None = []
 upwards_of o (Some r) = record { row = r; task = tasks.Come (wants_up o) } ∷ []
 
--- to come to all that stands above a class, and then to leave it (own choice of form)
+-- to come to all that stands above a class, and then to leave it
 abbrev pub opened : Order → List Rowed → Rowed → List Marked
 opened o rows r =
     record { row = r; task = tasks.Leave }
     ∷ (if up_first o
     then record { row = r; task = tasks.Over 0 } ∷ upwards_of o (first_row rows (superclass_in r))
-    else upwards_of o (first_row rows (superclass_in r)) ++ record { row = r; task = tasks.Over 0 } ∷ [])
+    else upwards_of o (first_row rows (superclass_in r)) ++ record { row = r; task = tasks.Over 0 }
+    ∷ [])
 
--- to come to a superinterface, and then to go on with the next (own choice of form)
+-- to come to a superinterface, and then to go on with the next
 abbrev pub over_from : Rowed → ℕ → Option Rowed → List Marked
 over_from r place None = []
-over_from r place (Some x) = record { row = r; task = tasks.Over (place + 1) } ∷ record { row = x; task = tasks.Come true } ∷ []
+over_from r place (Some x) =
+    record { row = r; task = tasks.Over (place + 1) } ∷ record { row = x; task = tasks.Come true }
+    ∷ []
 
--- the row of the superinterface at a place (own choice of form)
+-- the row of the superinterface at a place
 abbrev pub interface_row : List Rowed → Rowed → ℕ → Option Rowed
 interface_row rows r place = option_and_then (row_of rows) (slice_get (interfaces_in r) place)
 
--- a class joins others, if it is not among them (own choice of form)
+-- a class joins others, if it is not among them
 abbrev pub with_class : List Class → Class → List Class
 with_class cs c = if is_among cs c then cs else cs ++ c ∷ []
 
--- the rows that are told once a row's class is told, if it was not seen (own choice of form)
+-- the rows that are told once a row's class is told, if it was not seen
 abbrev pub with_row : List Class → List Rowed → Rowed → List Rowed
 with_row seen told r = if is_among seen r.class then told else told ++ r ∷ []
 
 -- ---- the end
 
--- how many classes there are in a list, with all above them (own choice of form)
+-- how many classes there are in a list, with all above them
 abbrev pub size : Forest → ℕ
 size Bare = 0
 size (Tree c f sup ints others) = 1 + size sup + size ints + size others
 
--- how many steps are left for a row, or more (own choice of form)
+-- how many steps are left for a row, or more
 abbrev pub steps_of : List Kin → Rowed → Task → ℕ
-steps_of known r (tasks.Come wanted) = 4 * size (forest known (superclass_in r)) + 4 * size (forest known (interfaces_in r)) + 3
+steps_of known r (tasks.Come wanted) =
+    4 * size (forest known (superclass_in r)) + 4 * size (forest known (interfaces_in r)) + 3
 steps_of known r (tasks.Over place) = 4 * size (forest known (drop place (interfaces_in r))) + 1
 steps_of known r tasks.Leave = 1
 
--- the same of all (own choice of form)
+-- the same of all
 abbrev pub steps_left : List Kin → List Marked → ℕ
 steps_left known [] = 0
 steps_left known (m ∷ ms) = steps_of known m.row m.task + steps_left known ms
 
 -- ---- the state of a tour
 
--- the rows that were told, the classes of these, the classes that were left, and what is left to do (own choice of form)
+-- the rows that were told, the classes of these, the classes that were left, and what is left to do
 pub record Toured : Type 0 where
   pub told : List Rowed
   pub seen : List Class
   pub left : List Class
   pub stack : List Marked
 
--- the same, without where it lies in memory (own choice of form)
+-- the same, without where it lies in memory
 abbrev pub toured : {A : Type 0} → Tour A → Toured
-toured t = record { told = map (λ r. r.value) t.told.items; seen = t.seen.keys; left = t.left.keys; stack = marks t.stack.items }
+toured t =
+    record {
+      told = map (λ r. r.value) t.told.items;
+      seen = t.seen.keys;
+      left = t.left.keys;
+      stack = marks t.stack.items;
+    }
 
--- a row is told (own choice of form)
+-- a row is told
 abbrev pub telling : Bool → Toured → Rowed → Toured
 telling false t r = t
 telling true t r = record t { told = with_row t.seen t.told r; seen = with_class t.seen r.class }
 
--- what is left to do, once the tour came to a class that it left before, or not (own choice of form)
+-- what is left to do, once the tour came to a class that it left before, or not
 abbrev pub opening : Order → List Rowed → Toured → Rowed → Toured
-opening o rows t r = record t { stack = if is_among t.left r.class then t.stack else t.stack ++ opened o rows r }
+opening o rows t r =
+    record t { stack = if is_among t.left r.class then t.stack else t.stack ++ opened o rows r }
 
--- one step (own choice of form)
+-- one step
 abbrev pub step : Order → List Rowed → Toured → Rowed → Task → Toured
 step o rows t r (tasks.Come wanted) = opening o rows (telling (tells_before o wanted) t r) r
-step o rows t r (tasks.Over place) = record t { stack = t.stack ++ over_from r place (interface_row rows r place) }
-step o rows t r tasks.Leave = let x = telling (tells_after o) t r in record x { left = with_class x.left r.class }
+step o rows t r (tasks.Over place) =
+    record t { stack = t.stack ++ over_from r place (interface_row rows r place) }
+step o rows t r tasks.Leave =
+    let x = telling (tells_after o) t r in record x { left = with_class x.left r.class }

@@ -1,5 +1,20 @@
--- The tree that rows make: each class under its direct supertypes (JVMS SE 8, 5.3.5, steps 3 and 4).
-use Rattle.std.specs.Prelude.{◌≡◌, ℕ, true, List, [], ◌∷◌, Option, Some, None, drop, find, is_some, length}
+-- The tree that rows make: each class under its direct supertypes
+-- (JVMS SE 8, 5.3.5, steps 3 and 4).
+use Rattle.std.specs.Prelude.{
+  ◌≡◌,
+  ℕ,
+  true,
+  List,
+  [],
+  ◌∷◌,
+  Option,
+  Some,
+  None,
+  drop,
+  find,
+  is_some,
+  length,
+}
 use Rattle.std.specs.List.{AllByRecursion}
 use Rattle.cl_classfile.specs.Files.{file_of}
 use Rattle.cl_model.specs.declared.class.Class.{Class}
@@ -20,16 +35,16 @@ interface_places r = drop (length (superclass_of (file_of r.file))) r.places
 abbrev pub interfaces_in : Rowed → List Class
 interfaces_in r = accepted_of (superinterfaces_of (file_of r.file)) (interface_places r)
 
--- the one of these with this class (own choice of form)
+-- the one of these with this class
 abbrev pub kin_named : List Kin → Class → Option Kin
 kin_named known c = find (λ k. same_class c k.class) known
 
--- a class in front of others, if there is one (own choice of form)
+-- a class in front of others, if there is one
 abbrev pub in_front : Option Kin → Forest → Forest
 in_front None others = others
 in_front (Some k) others = Tree k.class k.file k.superclass k.interfaces others
 
--- these classes, each with what stands above it (own choice of form)
+-- these classes, each with what stands above it
 abbrev pub forest : List Kin → List Class → Forest
 forest known [] = Bare
 forest known (c ∷ cs) = in_front (kin_named known c) (forest known cs)
@@ -43,20 +58,21 @@ kin_under known r = record {
   interfaces = forest known (interfaces_in r);
 }
 
--- the classes of these rows, the last first, each under those before it (own choice of form)
+-- the classes of these rows, the last first, each under those before it
 abbrev pub kins_after : List Kin → List Rowed → List Kin
 kins_after known [] = known
 kins_after known (r ∷ rs) = kins_after (kin_under known r ∷ known) rs
 
--- the classes of rows, the last first (own choice of form)
+-- the classes of rows, the last first
 abbrev pub kins : List Rowed → List Kin
 kins rows = kins_after [] rows
 
--- each of these classes is among those that are known (own choice of form)
+-- each of these classes is among those that are known
 abbrev pub AllKnown : List Kin → List Class → Type 0
 AllKnown known cs = AllByRecursion (λ (c : Class). is_some (kin_named known c) ≡ true) cs
 
--- a row may stand after these: its class is new, and its direct supertypes are known (5.3.5, steps 3 and 4)
+-- a row may stand after these: its class is new, and its direct supertypes are known
+-- (5.3.5, steps 3 and 4)
 pub record IsAfter (known : List Kin) (r : Rowed) : Type 0 where
   pub is_new : kin_named known r.class ≡ None
   pub superclass : AllKnown known (superclass_in r)

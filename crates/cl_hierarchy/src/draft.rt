@@ -3,8 +3,7 @@ ghost use Rattle.cl_model.specs.Classes.{supers};
 ghost use Rattle.cl_hierarchy.specs.Supertypes.{plain_supertype};
 ghost use Rattle.std.specs.Option.{option_map};
 ghost use Rattle.cl_classfile.specs.Files.{file_of};
-ghost use Rattle.cl_classfile.specs.Reading.{read_of};
-ghost use Rattle.cl_hierarchy.specs.Drafts.{IsDraft, IsWrong, fault_as};
+ghost use Rattle.cl_hierarchy.specs.Drafts.{ByGrammar, IsDraft, IsWrong, fault_as};
 ghost use Rattle.cl_hierarchy.specs.DraftReads.{ReadAs};
 ghost use Rattle.cl_source.specs.Told.{IsTold};
 
@@ -106,7 +105,7 @@ fn draft_of<T: Told>(
     file: ClassFile,
 ) -> Result<Draft<T>, DraftRefused<T>>
     requires told { IsTold T.told home.place home.name (Some home.bytes) }
-    requires file { read_of home.bytes ≡ Ok file }
+    requires file { ByGrammar home.bytes file }
     requires named { (file_of file).name ≡ home.name }
     ensures { ReadAs home result }
 {
@@ -130,6 +129,7 @@ fn draft_of<T: Told>(
 
 impl<T: Told> Draft<T> {
     /// The class that a home's bytes spell (JVMS SE 8, 5.3.5).
+    #[tactic(auto, unfolding(crate::specs::Drafts::ByGrammar))]
     pub fn read(alloc: Global, home: Home<T>) -> Result<Draft<T>, DraftRefused<T>>
         ensures { ReadAs home result }
     {

@@ -14,7 +14,7 @@ use Rattle.cl_hierarchy.specs.Lineages.{Lined, IsInOrder, IsRowIn, TellsAccess, 
 use Rattle.cl_hierarchy.specs.Imposed.{AreOfReference}
 use Rattle.cl_members.specs.declared.fault.LookupFault.{LookupFault}
 use Rattle.cl_members.specs.declared.fault.LookupFault.TheVariants as faults
-use Rattle.cl_members.specs.Asking.{AsksField, AsksMethod, AsksInterfaceMethod, Answers, IsFoundAs, IsLocated, Located, Reaches, asked_key, key_at, verdict_of}
+use Rattle.cl_members.specs.Asking.{AsksField, AsksMethod, AsksInterfaceMethod, Answers, IsDeniedIn, IsFoundAs, IsLocated, Located, Reaches, asked_key, key_at, verdict_of}
 use Rattle.cl_members.specs.Lookups.{method_owner, interface_method_owner}
 use Rattle.cl_members.specs.Members.{field_in, method_in}
 use Rattle.cl_members.proofs.Keyed.{field_keyed, method_keyed}
@@ -27,10 +27,12 @@ one_reference : (o : Option Reference) (r q : Reference) → o ≡ Some r → o 
 one_reference o r q e f = cc
 
 -- a fault is the end of what the reference asks
-fault_answers : (d c : Lined) (i : ℕ) (r : Reference) (fault : LookupFault) → reference (kin_of d).file i ≡ Some r → IsFoundAs (kin_of d) r (kin_of c) (Err fault) → Answers d c i (Err fault)
-fault_answers d c i r fault at is = record {
+fault_answers : (d c : Lined) (i : ℕ) (r : Reference) (fault : LookupFault) → reference (kin_of d).file i ≡ Some r → IsFoundAs (kin_of d) r (kin_of c) (Err fault) → IsDeniedIn c (Err fault)
+    → Answers d c i (Err fault)
+fault_answers d c i r fault at is denied = record {
   found = λ q e. subst (λ (x : Reference). IsFoundAs (kin_of d) x (kin_of c) (Err fault)) (one_reference (reference (kin_of d).file i) r q at e) is;
   of = tt;
+  denied = denied;
 }
 
 -- ---- access
@@ -40,6 +42,7 @@ pub refused_is : (d c : Lined) (i : ℕ) (s : Symbol) (owner : Rowed) (flags : �
 refused_is d c i s owner flags x n same told =
     fault_answers d c i x.refers (faults.Inaccessible n) x.at
     (x.worked ∙ inaccessible_is (kin_of d) (kin_of c) (kin_at c owner) _ x.key (verdict_of x.refers owner.class x.key) flags x.has told ∙ ap (λ (m : Class). fail (IllegalAccess m)) (sym same))
+    (owner, x.row, same)
 
 located_by : (d c : Lined) (i : ℕ) (s : Symbol) (owner : Rowed) (flags : ℕ) (x : Reaches d c i s owner flags) → true ≡ member_accessible (kin_of d) (kin_at c owner) flags (kin_of c)
     → IsLocated (record { d = d; c = c; index = i; owner = owner; key = x.key; flags = flags })
@@ -66,6 +69,7 @@ located_answers d c i f is from through at =
     record {
       found = λ q e. subst (λ (x : Reference). IsFoundAs (kin_of f.d) x (kin_of f.c) (Ok f)) (one_reference (reference (kin_of f.d).file f.index) is.refers q is.at e) is.found;
       of = record { from = refl; through = refl; at = refl; owner = is.row };
+      denied = tt;
     }
     )
     )
@@ -134,7 +138,7 @@ module _ {R : Type 0} (row : R → Rowed) where
       → Answers d c i (Err faults.NoSuchField)
   no_field d c i order a key is items ordered e =
       let found = looked_up c order a.key items None ordered (e ∙ ap (λ (o : Option Key). fields_at o items) is) in
-      fault_answers d c i (ToField a.target a.key) faults.NoSuchField a.refers (field_missing (kin_of d) (kin_of c) a.key found)
+      fault_answers d c i (ToField a.target a.key) faults.NoSuchField a.refers (field_missing (kin_of d) (kin_of c) a.key found) tt
 
   pub field_reached : (d c : Lined) (i : ℕ) (s : Symbol) → IsInOrder c → (a : AsksField d c i) → field_key s ≡ Some a.key → (items : List R) → map (λ r. kin_at c (row r)) items ≡ field_order (kin_of c)
       → (owner : R) → Some owner ≡ fields_at (field_key s) items → (flags : ℕ) → Some flags ≡ option_map (λ m. m.flags) (field_in (field_key s) (file_of (row owner).file)) → IsRowIn (rows_in c) (row owner) → Reaches d c i s (row owner) flags
@@ -157,12 +161,12 @@ module _ {R : Type 0} (row : R → Rowed) where
 -- ---- methods
 
 pub wrong_class : (d c : Lined) (i : ℕ) → AsksMethod d c i → true ≡ is_interface (kin_of c).file → Answers d c i (Err faults.WrongKind)
-wrong_class d c i a kind = fault_answers d c i (ToMethod a.target a.key) faults.WrongKind a.refers (method_of_interface (kin_of d) (kin_of c) a.key (sym kind))
+wrong_class d c i a kind = fault_answers d c i (ToMethod a.target a.key) faults.WrongKind a.refers (method_of_interface (kin_of d) (kin_of c) a.key (sym kind)) tt
 
 pub no_method : (d c : Lined) (i : ℕ) → (a : AsksMethod d c i) → false ≡ is_interface (kin_of c).file → (key : Option Key) → key ≡ Some a.key → None ≡ method_owner key (kin_of c) → Answers d c i (Err faults.NoSuchMethod)
 no_method d c i a kind key is e =
     fault_answers d c i (ToMethod a.target a.key) faults.NoSuchMethod a.refers
-    (method_missing (kin_of d) (kin_of c) a.key (sym kind) (ap (λ (o : Option Key). method_owner o (kin_of c)) (sym is) ∙ sym e))
+    (method_missing (kin_of d) (kin_of c) a.key (sym kind) (ap (λ (o : Option Key). method_owner o (kin_of c)) (sym is) ∙ sym e)) tt
 
 pub method_reached : (d c : Lined) (i : ℕ) (s : Symbol) → (a : AsksMethod d c i) → false ≡ is_interface (kin_of c).file → method_key s ≡ Some a.key → (owner : Rowed) → Some (kin_at c owner) ≡ method_owner (method_key s) (kin_of c)
     → (flags : ℕ) → Some flags ≡ option_map (λ m. m.flags) (method_in (method_key s) (file_of owner.file)) → IsRowIn (rows_in c) owner → Reaches d c i s owner flags
@@ -182,13 +186,13 @@ method_reached d c i s a kind is owner e flags has inside =
     }
 
 pub wrong_interface : (d c : Lined) (i : ℕ) → AsksInterfaceMethod d c i → false ≡ is_interface (kin_of c).file → Answers d c i (Err faults.WrongKind)
-wrong_interface d c i a kind = fault_answers d c i (ToInterfaceMethod a.target a.key) faults.WrongKind a.refers (interface_of_class (kin_of d) (kin_of c) a.key (sym kind))
+wrong_interface d c i a kind = fault_answers d c i (ToInterfaceMethod a.target a.key) faults.WrongKind a.refers (interface_of_class (kin_of d) (kin_of c) a.key (sym kind)) tt
 
 pub no_interface_method : (d c : Lined) (i : ℕ) → (a : AsksInterfaceMethod d c i) → true ≡ is_interface (kin_of c).file → (key : Option Key) → key ≡ Some a.key → None ≡ interface_method_owner key (kin_of c)
     → Answers d c i (Err faults.NoSuchMethod)
 no_interface_method d c i a kind key is e =
     fault_answers d c i (ToInterfaceMethod a.target a.key) faults.NoSuchMethod a.refers
-    (interface_missing (kin_of d) (kin_of c) a.key (sym kind) (ap (λ (o : Option Key). interface_method_owner o (kin_of c)) (sym is) ∙ sym e))
+    (interface_missing (kin_of d) (kin_of c) a.key (sym kind) (ap (λ (o : Option Key). interface_method_owner o (kin_of c)) (sym is) ∙ sym e)) tt
 
 pub interface_method_reached : (d c : Lined) (i : ℕ) (s : Symbol) → (a : AsksInterfaceMethod d c i) → true ≡ is_interface (kin_of c).file → method_key s ≡ Some a.key → (owner : Rowed)
     → Some (kin_at c owner) ≡ interface_method_owner (method_key s) (kin_of c) → (flags : ℕ) → Some flags ≡ option_map (λ m. m.flags) (method_in (method_key s) (file_of owner.file)) → IsRowIn (rows_in c) owner → Reaches d c i s owner flags

@@ -1,9 +1,38 @@
 -- Member references, and what looking a member up answers (JVMS SE 8, 5.4.3.2 to 5.4.3.4).
-use Rattle.std.specs.Prelude.{◌≡◌, ℕ, Option, Some, None, Result, Ok, Err, IfOk, IsSome, option_map, option_and_then}
+use Rattle.std.specs.Prelude.{
+  ◌≡◌,
+  ℕ,
+  Option,
+  Some,
+  None,
+  Result,
+  Ok,
+  Err,
+  IfOk,
+  IsSome,
+  option_map,
+  option_and_then,
+}
 use Rattle.cl_descriptors.specs.declared.types.FieldType.{FieldType}
-use Rattle.cl_classfile.specs.Files.{File, Key, Member, Symbol, Reference, ToClass, ToField, ToMethod, ToInterfaceMethod, reference}
+use Rattle.cl_classfile.specs.Files.{
+  File,
+  Key,
+  Member,
+  Symbol,
+  Reference,
+  ToClass,
+  ToField,
+  ToMethod,
+  ToInterfaceMethod,
+  reference,
+}
 use Rattle.cl_model.specs.declared.class.Class.{Class}
-use Rattle.cl_model.specs.Classes.{NoSuchField, NoSuchMethod, IncompatibleClassChange, IllegalAccess}
+use Rattle.cl_model.specs.Classes.{
+  NoSuchField,
+  NoSuchMethod,
+  IncompatibleClassChange,
+  IllegalAccess,
+}
 use Rattle.cl_model.specs.Keys.{key_of, descriptor_of}
 use Rattle.cl_model.specs.Frames.{class_named}
 use Rattle.cl_model.specs.Lineages.{Kin, field_of, method_of}
@@ -18,7 +47,8 @@ use Rattle.cl_members.specs.Endings.{ending_after}
 use Rattle.cl_members.specs.declared.fault.LookupFault.{LookupFault}
 use Rattle.cl_members.specs.declared.fault.LookupFault.TheVariants as faults
 
--- the entry of d's pool at an index asks for a member of this kind of the class c (5.4.3.2 to 5.4.3.4)
+-- the entry of d's pool at an index asks for a member of this kind of the class c
+-- (5.4.3.2 to 5.4.3.4)
 pub record Asks (kind : FieldType → Key → Reference) (d c : Lined) (index : ℕ) : Type 0 where
   pub target : FieldType
   pub key : Key
@@ -37,7 +67,8 @@ AsksMethod d c index = Asks (λ t k. ToMethod t k) d c index
 abbrev pub AsksInterfaceMethod : Lined → Lined → ℕ → Type 0
 AsksInterfaceMethod d c index = Asks (λ t k. ToInterfaceMethod t k) d c index
 
--- a member that was looked up: for which entry of d, through which class c, whose it is, and its flags (5.4.3.2 to 5.4.3.4)
+-- a member that was looked up: for which entry of d, through which class c, whose it is, and its
+-- flags (5.4.3.2 to 5.4.3.4)
 pub record Located : Type 0 where
   pub d : Lined
   pub c : Lined
@@ -60,26 +91,43 @@ verdict_of (ToField t asked) owner key = IsField owner key
 verdict_of (ToMethod t asked) owner key = IsMethod owner key
 verdict_of (ToInterfaceMethod t asked) owner key = IsMethod owner key
 
--- what is found is the end of what the reference asks of c, with its equalities as needs; a fault is its error (5.4.3.2 to 5.4.3.4)
+-- what is found is the end of what the reference asks of c, with its equalities as needs; a fault
+-- is its error (5.4.3.2 to 5.4.3.4)
 abbrev pub IsFoundAs : Kin → Reference → Kin → Result Located LookupFault → Type 0
-IsFoundAs d r c (Ok f) = resolve_in d r c ≡ ending_after (equals_of f.key f.owner.class.loader d.class.loader) (verdict_of r f.owner.class f.key)
+IsFoundAs d r c (Ok f) =
+    resolve_in d r c
+    ≡ ending_after (equals_of f.key f.owner.class.loader d.class.loader)
+    (verdict_of r f.owner.class f.key)
 IsFoundAs d r c (Err faults.Memory) = Unit {0}
 IsFoundAs d r c (Err faults.NoSuchField) = resolve_in d r c ≡ fail (NoSuchField c.class)
 IsFoundAs d r c (Err faults.NoSuchMethod) = resolve_in d r c ≡ fail (NoSuchMethod c.class)
 IsFoundAs d r c (Err faults.WrongKind) = resolve_in d r c ≡ fail (IncompatibleClassChange c.class)
 IsFoundAs d r c (Err (faults.Inaccessible owner)) = resolve_in d r c ≡ fail (IllegalAccess owner)
 
--- what is found is of this entry of d, through c, and a class of the lineage of c declares it (5.4.3)
+-- what is found is of this entry of d, through c, and a class of the lineage of c declares it
+-- (5.4.3)
 pub record IsOf (d c : Lined) (index : ℕ) (f : Located) : Type 0 where
   pub from : f.d ≡ d
   pub through : f.c ≡ c
   pub at : f.index ≡ index
   pub owner : IsRowIn (rows_in c) f.owner
 
+-- the class whose member is not accessible is of the lineage of c (5.4.4)
+abbrev pub IsDeniedIn : Lined → Result Located LookupFault → Type 0
+IsDeniedIn c (Ok f) = Unit {0}
+IsDeniedIn c (Err faults.Memory) = Unit {0}
+IsDeniedIn c (Err faults.NoSuchField) = Unit {0}
+IsDeniedIn c (Err faults.NoSuchMethod) = Unit {0}
+IsDeniedIn c (Err faults.WrongKind) = Unit {0}
+IsDeniedIn c (Err (faults.Inaccessible owner)) =
+    (row : Rowed) × IsRowIn (rows_in c) row × (owner ≡ row.class)
+
 -- what looking up the member of an entry answers (5.4.3.2 to 5.4.3.4)
 pub record Answers (d c : Lined) (index : ℕ) (result : Result Located LookupFault) : Type 0 where
-  pub found : (r : Reference) → reference (kin_of d).file index ≡ Some r → IsFoundAs (kin_of d) r (kin_of c) result
+  pub found : (r : Reference) → reference (kin_of d).file index ≡ Some r
+      → IsFoundAs (kin_of d) r (kin_of c) result
   pub of : IfOk result (IsOf d c index)
+  pub denied : IsDeniedIn c result
 
 -- the key of the member that a reference asks for (4.4.2)
 abbrev pub asked_key : Reference → Option Key
@@ -92,8 +140,10 @@ asked_key (ToInterfaceMethod t key) = Some key
 abbrev pub key_at : File → ℕ → Option Key
 key_at f index = option_and_then asked_key (reference f index)
 
--- the lookup of what an entry of d asks of c came to a class of its lineage that declares it with these flags: access is left to look at (5.4.3.2 to 5.4.3.4)
-pub record Reaches (d c : Lined) (index : ℕ) (symbol : Symbol) (owner : Rowed) (flags : ℕ) : Type 0 where
+-- the lookup of what an entry of d asks of c came to a class of its lineage that declares it with
+-- these flags: access is left to look at (5.4.3.2 to 5.4.3.4)
+pub record Reaches (d c : Lined) (index : ℕ) (symbol : Symbol) (owner : Rowed) (flags : ℕ)
+    : Type 0 where
   pub refers : Reference
   pub key : Key
   pub at : reference (kin_of d).file index ≡ Some refers
@@ -105,9 +155,11 @@ pub record Reaches (d c : Lined) (index : ℕ) (symbol : Symbol) (owner : Rowed)
   pub has : option_map (λ m. m.flags) (declared_by refers (kin_at c owner) key) ≡ Some flags
   pub worked :
       resolve_in (kin_of d) refers (kin_of c)
-      ≡ resolve_found (kin_of d) (kin_of c) (kin_at c owner) (declared_by refers (kin_at c owner) key) key (verdict_of refers owner.class key)
+      ≡ resolve_found (kin_of d) (kin_of c) (kin_at c owner)
+      (declared_by refers (kin_at c owner) key) key (verdict_of refers owner.class key)
 
--- what was looked up is what its entry asks for: a class of the lineage of c has it, and it is the end of the reference (5.4.3.2 to 5.4.3.4)
+-- what was looked up is what its entry asks for: a class of the lineage of c has it, and it is the
+-- end of the reference (5.4.3.2 to 5.4.3.4)
 pub record IsLocated (f : Located) : Type 0 where
   pub refers : Reference
   pub at : reference (kin_of f.d).file f.index ≡ Some refers

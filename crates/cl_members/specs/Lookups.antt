@@ -1,9 +1,18 @@
--- The lookups of the rules, of the key that texts are, if they are one (JVMS SE 8, 5.4.3.2 to 5.4.3.4).
+-- The lookups of the rules, of the key that texts are, if they are one
+-- (JVMS SE 8, 5.4.3.2 to 5.4.3.4).
 use Rattle.std.specs.Prelude.{List, [], ◌∷◌, Option, Some, None, find, filter, flat_map, is_some}
 use Rattle.std.specs.Option.{option_or}
 use Rattle.cl_classfile.specs.Files.{Key}
 use Rattle.cl_model.specs.declared.class.Class.{Class}
-use Rattle.cl_model.specs.Lineages.{Kin, classes, first, is_maximal, only, superclasses, superinterfaces}
+use Rattle.cl_model.specs.Lineages.{
+  Kin,
+  classes,
+  first,
+  is_maximal,
+  only,
+  superclasses,
+  superinterfaces,
+}
 use Rattle.cl_hierarchy.specs.Lineages.{field_order}
 use Rattle.cl_members.specs.Members.{field_in, method_in, offers, has_public, implements}
 
@@ -23,9 +32,11 @@ beneath ks = flat_map (λ k. classes (superinterfaces k)) ks
 abbrev pub specific : Option Key → Kin → List Kin
 specific key k = filter (is_maximal (offering key k)) (offering key k)
 
--- the one that is maximally specific and implements the method, else the first that offers it (5.4.3.3, step 3)
+-- the one that is maximally specific and implements the method, else the first that offers it
+-- (5.4.3.3, step 3)
 abbrev pub interface_owner : Option Key → Kin → Option Kin
-interface_owner key k = option_or (only (filter (λ a. implements key a.file) (specific key k))) (first (offering key k))
+interface_owner key k =
+    option_or (only (filter (λ a. implements key a.file) (specific key k))) (first (offering key k))
 
 -- the class itself, where it declares the method (5.4.3.3, step 2)
 abbrev pub own_method : Option Key → Kin → Option Kin
@@ -33,19 +44,23 @@ own_method key k = find (λ a. is_some (method_in key a.file)) (k ∷ [])
 
 -- method lookup: the class and its superclasses, then the superinterfaces (5.4.3.3)
 abbrev pub method_owner : Option Key → Kin → Option Kin
-method_owner key k = option_or (find (λ a. is_some (method_in key a.file)) (k ∷ superclasses k)) (interface_owner key k)
+method_owner key k =
+    option_or (find (λ a. is_some (method_in key a.file)) (k ∷ superclasses k))
+    (interface_owner key k)
 
--- interface method lookup: the class, the public methods of its superclasses, then the superinterfaces (5.4.3.4)
+-- interface method lookup: the class, the public methods of its superclasses, then the
+-- superinterfaces (5.4.3.4)
 abbrev pub interface_method_owner : Option Key → Kin → Option Kin
 interface_method_owner key k =
-    option_or (own_method key k) (option_or (find (λ a. has_public key a.file) (superclasses k)) (interface_owner key k))
+    option_or (own_method key k)
+    (option_or (find (λ a. has_public key a.file) (superclasses k)) (interface_owner key k))
 
--- the first of a list (own choice of form)
+-- the first of a list
 abbrev pub first_in : {X : Type 0} → List X → Option X
 first_in [] = None
 first_in (x ∷ xs) = Some x
 
--- the one of a list, if there is just one (own choice of form)
+-- the one of a list, if there is just one
 abbrev pub only_in : {X : Type 0} → List X → Option X
 only_in [] = None
 only_in (x ∷ []) = Some x

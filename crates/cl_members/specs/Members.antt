@@ -1,6 +1,15 @@
 -- Members of a file, by the key that texts are, if they are one (JVMS SE 8, 4.5, 4.6).
 use Rattle.std.specs.Prelude.{Bool, ◌&&◌, not, Option, option_and_then}
-use Rattle.cl_classfile.specs.Files.{File, Key, Member, member, is_public, is_private, is_static, is_abstract}
+use Rattle.cl_classfile.specs.Files.{
+  File,
+  Key,
+  Member,
+  member,
+  is_public,
+  is_private,
+  is_static,
+  is_abstract,
+}
 use Rattle.cl_model.specs.Lineages.{if_declared}
 
 -- the field with this key that a file has (4.5)
@@ -11,7 +20,8 @@ field_in key f = option_and_then (member f.fields) key
 abbrev pub method_in : Option Key → File → Option Member
 method_in key f = option_and_then (member f.methods) key
 
--- a class of this file offers the method to its subtypes: it declares it neither private nor static (5.4.3.3)
+-- a class of this file offers the method to its subtypes: it declares it neither private nor static
+-- (5.4.3.3)
 abbrev pub offers : Option Key → File → Bool
 offers key f = if_declared (method_in key f) (λ x. not (is_private x) && not (is_static x))
 

@@ -2,7 +2,11 @@
 use Rattle.std.specs.Prelude.{Option, Some, None}
 use Rattle.cl_classfile.specs.declared.reference.Symbol.{Symbol}
 use Rattle.cl_classfile.specs.declared.reference.Reference.{Reference}
-use Rattle.cl_classfile.specs.declared.reference.Reference.TheVariants.{Field, Method, InterfaceMethod}
+use Rattle.cl_classfile.specs.declared.reference.Reference.TheVariants.{
+  Field,
+  Method,
+  InterfaceMethod,
+}
 
 -- the field that is referred to, if it is one
 abbrev pub field_of : Option Reference → Option Symbol

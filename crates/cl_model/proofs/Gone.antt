@@ -100,7 +100,7 @@ gone_on_ends w s r c needs v goes all = record {
   ends = goes.ends;
 }
 
-next_after : (s : State) (xs ys : List Need) (n : Need) → AllMet s xs → IsNext s ys n → IsNext s (xs ++ ys) n
+pub next_after : (s : State) (xs ys : List Need) (n : Need) → AllMet s xs → IsNext s ys n → IsNext s (xs ++ ys) n
 next_after s [] ys n all h = h
 next_after s (x ∷ xs) ys n all h = inr (all.0, next_after s xs ys n all.1 h)
 

@@ -17,6 +17,6 @@ abbrev pub content_at : Content → ℕ → List ℕ → Option (List ℕ)
 content_at [] loader name = None
 content_at (e ∷ es) loader name = if (e.loader == loader) && pointwise nat_eq e.name name then Some e.bytes else content_at es loader name
 
--- a naming tells just this content, or none (own choice)
+-- a naming tells just this content, or none
 abbrev pub Tells : Option Content → Content → Type 0
 Tells told content = (told ≡ None) ⊎ (told ≡ Some content)

@@ -1,11 +1,15 @@
--- Worlds of the examples of homes and derivations (own choice; they exercise JVMS SE 8, 5.3 to 5.3.5).
+-- Worlds of the examples of homes and derivations (JVMS SE 8, 5.3 to 5.3.5).
 use Rattle.std.specs.Prelude.{ℕ, List, [], ◌∷◌, ◌++◌, codes}
 use Rattle.cl_model.specs.Homes.{World, Loader, Order, Import, ParentFirst, ChildFirst}
-use Rattle.cl_model.specs.Examples.{boot, app, plug, kid, four, root, under, plain, of_package, interface, interface_of_package, with_interfaces, world_of, bundle, with_bytes}
+use Rattle.cl_model.specs.Examples.{boot, app, plug, kid, fifth, four, root, under, plain, of_package, interface, interface_of_package, with_interfaces, with_loaders, bundle, with_bytes}
 
 -- T in app and in plug, which also has a root of its own (5.3, 5.3.2)
 abbrev pub copies : World
 copies = bundle ((boot, root) ∷ (plug, root) ∷ (app, plain "p/T") ∷ (plug, plain "p/T") ∷ [])
+
+-- the same, with other bytes for T in app before its own (5.3)
+abbrev pub twice : World
+twice = with_bytes app "p/T" (7 ∷ []) copies
 
 -- bytes of no class file in app, of a good one in kid (5.3.5, step 2)
 abbrev pub bad : World
@@ -33,14 +37,14 @@ over_app order imports = record { parents = app ∷ []; order = order; imports =
 
 -- a fifth loader takes names that begin with q/ from boot alone, though it has q/Y of its own (5.3.2)
 abbrev pub importing : World
-importing = world_of (four ++ over_app ChildFirst (importing_from (codes "q/") boot ∷ []) ∷ []) (
-    (boot, root) ∷ (boot, plain "q/X") ∷ (app, plain "p/T") ∷ (4, plain "q/Y") ∷ (4, root) ∷ (4, plain "p/T") ∷ [])
+importing = with_loaders (four ++ over_app ChildFirst (importing_from (codes "q/") boot ∷ []) ∷ []) (
+    (boot, root) ∷ (boot, plain "q/X") ∷ (app, plain "p/T") ∷ (fifth, plain "q/Y") ∷ (fifth, root) ∷ (fifth, plain "p/T") ∷ [])
 
 -- a fifth loader takes p/ from boot, p/T from app and java/ from app, of which the first counts and the last
 -- is never asked; app has p/T, java/x/Y, q/B whose bytes are of q/C, and q/V of another version (5.3.1, 5.3.2; 5.3.5, step 2)
 abbrev pub imports : World
 imports = with_bytes app "q/V" [] (with_bytes app "q/B" (3 ∷ []) (
-    world_of
+    with_loaders
     (four ++ over_app ParentFirst (importing_from (codes "p/") boot ∷ importing_from (codes "p/T") app ∷ importing_from (codes "java/") app ∷ []) ∷ [])
     ((boot, root) ∷ (app, plain "p/T") ∷ (app, plain "java/x/Y") ∷ (app, plain "q/C") ∷ [])))
 
@@ -61,5 +65,5 @@ misfits = bundle (
 
 -- a fifth loader asks app and then plug; p/T is in both, p/V in plug alone; app has a name that begins like the platform's (5.3.2)
 abbrev pub two_parents : World
-two_parents = world_of (four ++ record { parents = app ∷ plug ∷ []; order = ParentFirst; imports = [] } ∷ [])
+two_parents = with_loaders (four ++ record { parents = app ∷ plug ∷ []; order = ParentFirst; imports = [] } ∷ [])
     ((boot, root) ∷ (app, plain "p/T") ∷ (plug, plain "p/T") ∷ (plug, plain "p/V") ∷ (app, plain "javax/T") ∷ [])

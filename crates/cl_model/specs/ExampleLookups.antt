@@ -1,4 +1,4 @@
--- Worlds of the examples of lookup and access (own choice; they exercise JVMS SE 8, 5.4.3.2 to 5.4.4).
+-- Worlds of the examples of lookup and access (JVMS SE 8, 5.4.3.2 to 5.4.4).
 use Rattle.std.specs.Prelude.{ℕ, ◌+◌, List, [], ◌∷◌, Option}
 use Rattle.cl_classfile.specs.Files.{ToField, ToMethod, ToInterfaceMethod}
 use Rattle.cl_model.specs.Homes.{World}
@@ -38,11 +38,11 @@ several = bundle (
 
 -- what this reference of p/U is resolved to in that world (5.4.3)
 abbrev pub chosen : ℕ → Option Verdict
-chosen i = ends_at several 4 (resolve_of app "p/U" i)
+chosen i = ends_at several (resolve_of app "p/U" i)
 
 -- p/I has m, f and e; p/J under it has m, p/K under that none; p/S has a and y, and implements p/K; p/C is under p/S and
 -- implements p/M, which has a, n without a body, r private and t static; p/V implements p/M and is under p/W, which
--- implements p/N, where n is too; p/Y implements p/I and p/J; the root has h and e public, f protected and s static;
+-- implements p/N, where n is too; p/X is under p/V; p/Y implements p/I and p/J; the root has h and e public, f protected and s static;
 -- p/U names these (5.4.3.2 to 5.4.3.4)
 abbrev pub inherited : World
 inherited = bundle (
@@ -75,14 +75,16 @@ inherited = bundle (
           ∷ ToMethod (a_class "p/Y") (taking_none "m")
           ∷ ToInterfaceMethod (a_class "p/K") (taking_none "s")
           ∷ ToInterfaceMethod (a_class "p/K") (taking_none "e")
+          ∷ ToMethod (a_class "p/X") (taking_none "n")
           ∷ []) (plain "p/U"),
     )
     ∷ (app, with_interfaces ("p/I" ∷ "p/J" ∷ []) (plain "p/Y"))
+    ∷ (app, under "p/X" "p/V")
     ∷ [])
 
 -- what this reference of p/U is resolved to in that world (5.4.3)
 abbrev pub found : ℕ → Option Verdict
-found i = ends_at inherited 6 (resolve_of app "p/U" i)
+found i = ends_at inherited (resolve_of app "p/U" i)
 
 -- p/P has m protected, s protected and static, k of package access and v private; p/Q and q/D are under it, q/E under
 -- q/D; p/R has m and s, both protected; q/D and p/R name these (5.4.4)
@@ -120,8 +122,8 @@ accesses = bundle (
 
 -- what this reference of q/D is resolved to in that world (5.4.4)
 abbrev pub from_d : ℕ → Option Verdict
-from_d i = ends_at accesses 5 (resolve_of app "q/D" i)
+from_d i = ends_at accesses (resolve_of app "q/D" i)
 
 -- what this reference of p/R is resolved to in that world (5.4.4)
 abbrev pub from_r : ℕ → Option Verdict
-from_r i = ends_at accesses 5 (resolve_of app "p/R" i)
+from_r i = ends_at accesses (resolve_of app "p/R" i)

@@ -1,4 +1,4 @@
--- Worlds of the examples of overriding and preparation (own choice; they exercise JVMS SE 8, 5.4.2, 5.4.5).
+-- Worlds of the examples of overriding and preparation (JVMS SE 8, 5.4.2, 5.4.5).
 use Rattle.std.specs.Prelude.{ℕ, ◌+◌, List, [], ◌∷◌}
 use Rattle.cl_model.specs.Homes.{World}
 use Rattle.cl_model.specs.Examples.{boot, app, plug, kid, root, plain, under, interface, acc_public, acc_private, acc_protected, acc_static, acc_abstract, taking_t, taking_v, giving_v, with_methods, with_interfaces, bundle}

@@ -1,9 +1,10 @@
--- Worlds of the examples of references and the constraints that they impose (own choice; they exercise JVMS SE 8, 5.3.4, 5.4.3).
-use Rattle.std.specs.Prelude.{ℕ, List, [], ◌∷◌, Some, codes}
+-- Worlds of the examples of references and the constraints that they impose (JVMS SE 8, 5.3.4, 5.4.3).
+use Rattle.std.specs.Prelude.{ℕ, List, [], ◌∷◌, Option, Some, codes}
 use Rattle.cl_descriptors.specs.declared.types.Base.TheVariants as bases
 use Rattle.cl_classfile.specs.Files.{File, ToClass, ToField, ToMethod}
 use Rattle.cl_model.specs.Homes.{World}
-use Rattle.cl_model.specs.Examples.{boot, app, plug, kid, root, plain, under, of_package, acc_public, acc_protected, taking_none, taking_t, an_array, a_class, an_array_of, method_key, with_fields, with_methods, referring, bundle}
+use Rattle.cl_model.specs.States.{Need, Verdict}
+use Rattle.cl_model.specs.Examples.{boot, app, plug, kid, root, plain, under, of_package, acc_public, acc_protected, taking_none, taking_t, an_array, a_class, an_array_of, method_key, with_fields, with_methods, referring, bundle, resolve_of, ends_at, ResolveNeeds}
 
 -- a class with a method that takes a T (4.6)
 abbrev pub svc : File
@@ -25,7 +26,8 @@ three_users = bundle ((boot, root) ∷ (app, svc) ∷ (plug, plain "p/T") ∷ (p
 abbrev pub hidden : World
 hidden = bundle ((boot, root) ∷ (app, of_package "p/Hid") ∷ (plug, referring (ToClass (a_class "p/Hid") ∷ []) (plain "p/Peek")) ∷ [])
 
--- p/X names a method of an array, an array of arrays of p/T, and an array of a base type (5.3.3, 5.4.3.1)
+-- p/X names a method of an array of a base type, an array of arrays of p/T, an array of a base type, a method and a field of
+-- an array of p/T, and p/T (5.3.3, 5.4.3.1)
 abbrev pub arrays : World
 arrays = bundle (
     (boot, root)
@@ -36,6 +38,9 @@ arrays = bundle (
           ToMethod (an_array_of 1 bases.Int) (method_key "clone" [] (Some (a_class "java/lang/Object")))
           ∷ ToClass (an_array_of 2 (bases.Class (codes "p/T")))
           ∷ ToClass (an_array_of 1 bases.Int)
+          ∷ ToMethod (an_array_of 1 (bases.Class (codes "p/T"))) (taking_none "m")
+          ∷ ToField (an_array_of 1 (bases.Class (codes "p/T"))) (an_array "x")
+          ∷ ToClass (a_class "p/T")
           ∷ []) (plain "p/X"),
     )
     ∷ [])
@@ -63,3 +68,11 @@ references = bundle (
           ∷ []) (plain "q/U"),
     )
     ∷ [])
+
+-- what this reference of q/U is resolved to in that world (5.4.3)
+abbrev pub from_u : ℕ → Option Verdict
+from_u i = ends_at references (resolve_of plug "q/U" i)
+
+-- this reference of q/U needs these in turn past the load of q/U (5.4.3)
+abbrev pub NeedsPast : ℕ → List Need → Type 0
+NeedsPast i needs = ResolveNeeds references plug "q/U" i needs

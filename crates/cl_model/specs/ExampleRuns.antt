@@ -1,45 +1,74 @@
--- Settings and steps of the examples of answers and runs (own choice; they exercise JVMS SE 8, 5.3.4 to 5.4.3).
+-- Settings and steps of the examples of answers and runs (JVMS SE 8, 5.3.4 to 5.4.3).
 use Rattle.std.specs.Prelude.{ℕ, List, [], ◌∷◌, ◌++◌, codes}
 use Rattle.cl_classfile.specs.Files.{File, ToMethod}
 use Rattle.cl_model.specs.Homes.{World}
-use Rattle.cl_model.specs.States.{State, start, Verdict, IsMethod, IsLinked, BadEntry, Said}
-use Rattle.cl_model.specs.Machine.{Setting, Step, Define, Initiate, Constrain, Settle, Prepare, Post, NextRound, state_after}
-use Rattle.cl_model.specs.Examples.{boot, app, plug, kid, object, in_boot, in_app, in_plug, in_kid, load_of, resolve_of, link_of, root, under, acc_public, taking_t, a_class, with_methods, referring, bundle}
+use Rattle.cl_model.specs.States.{State, start, Verdict, IsMethod, IsLinked, BadEntry, Linkage, Said, OutOfMemory}
+use Rattle.cl_model.specs.Plans.{Request}
+use Rattle.cl_model.specs.Machine.{Setting, Step, Define, Initiate, Constrain, Settle, Prepare, Post, NextRound, AnswersPlan, state_after}
+use Rattle.cl_model.specs.Examples.{boot, app, plug, kid, object, the_root, in_app, in_plug, in_kid, own, same_t, load_of, resolve_of, link_of, root, under, acc_public, taking_t, a_class, with_methods, referring, bundle}
 use Rattle.cl_model.specs.ExampleReferences.{svc, service, three_users}
 
--- a setting of one round without requests (own choice)
+-- a setting of one round without requests
 abbrev pub over : World → Setting
 over w = record { world = w; script = []; rounds = 1 }
+
+-- what stands after these steps
+abbrev pub standing : List Step → State
+standing steps = state_after start steps
+
+-- after these steps over this world a request is answered so (5.3 to 5.4.3)
+abbrev pub Answered : World → List Step → Request → Verdict → Type 0
+Answered w steps q v = AnswersPlan (over w) (standing steps) q v
+
+-- Use of this loader resolves its reference to the method of Svc (5.4.3.3)
+abbrev pub of_use : ℕ → Request
+of_use loader = resolve_of loader "p/Use" 1
+
+-- the refusal of its equality (5.3.4)
+abbrev pub t_refused : Verdict
+t_refused = Linkage (same_t app plug)
+
+-- the refusal of kid's own record of T (5.3, 5.3.4)
+abbrev pub kid_refused : Verdict
+kid_refused = Linkage (own kid "p/T")
 
 -- what stands before a reference of Use in plug is resolved, where T is defined in app and in plug (5.3, 5.3.5)
 abbrev pub both_defined : List Step
 both_defined =
-    Define (in_boot "java/lang/Object") ∷ Initiate object boot app ∷ Define (in_app "p/T")
+    Define the_root ∷ Initiate object boot app ∷ Define (in_app "p/T")
     ∷ Initiate object boot plug ∷ Define (in_plug "p/T") ∷ Define (in_plug "p/Use")
     ∷ Define (in_app "p/Svc") ∷ Initiate (codes "p/Svc") app plug ∷ []
+
+-- and so it stands (5.3, 5.3.5)
+abbrev pub both_stand : State
+both_stand = standing both_defined
 
 -- what stands after that reference is resolved and T is defined in app (5.3.4, 5.4.3)
 abbrev pub constrained : List Step
 constrained =
-    Define (in_boot "java/lang/Object") ∷ Initiate object boot plug ∷ Define (in_plug "p/Use")
+    Define the_root ∷ Initiate object boot plug ∷ Define (in_plug "p/Use")
     ∷ Initiate object boot app ∷ Define (in_app "p/Svc") ∷ Initiate (codes "p/Svc") app plug
     ∷ Constrain (codes "p/T") app plug ∷ Define (in_app "p/T") ∷ []
 
 -- what stands after the references of two users are resolved and T is defined in one of them (5.3.4)
 abbrev pub across : List Step
 across =
-    Define (in_boot "java/lang/Object") ∷ Initiate object boot plug ∷ Define (in_plug "p/Use")
+    Define the_root ∷ Initiate object boot plug ∷ Define (in_plug "p/Use")
     ∷ Initiate object boot app ∷ Define (in_app "p/Svc") ∷ Initiate (codes "p/Svc") app plug
     ∷ Constrain (codes "p/T") app plug ∷ Initiate object boot kid ∷ Define (in_kid "p/Use")
     ∷ Initiate (codes "p/Svc") app kid ∷ Constrain (codes "p/T") app kid ∷ Define (in_plug "p/T") ∷ []
 
--- three requests in the first two of three rounds (own choice)
+-- three requests in the first two of three rounds
 abbrev pub in_rounds : Setting
 in_rounds = record {
   world = service;
   script = record { request = resolve_of plug "p/Use" 1; round = 0 } ∷ record { request = load_of app "p/T"; round = 1 } ∷ record { request = load_of plug "p/T"; round = 1 } ∷ [];
   rounds = 3;
 }
+
+-- the requests of the first two rounds are answered, and the third may begin
+abbrev pub two_rounds : List Step
+two_rounds = Post 0 OutOfMemory ∷ NextRound ∷ Post 1 OutOfMemory ∷ Post 2 OutOfMemory ∷ []
 
 -- ---- a run
 
@@ -51,7 +80,7 @@ user = with_methods ((acc_public, taking_t "m") ∷ []) (referring (ToMethod (a_
 abbrev pub overridden_service : World
 overridden_service = bundle ((boot, root) ∷ (app, svc) ∷ (plug, user) ∷ [])
 
--- Use resolves that method in the first round and is linked in the second, where an entry that is no reference is resolved too (own choice)
+-- Use resolves that method in the first round and is linked in the second, where an entry that is no reference is resolved too
 abbrev pub serving : Setting
 serving = record {
   world = overridden_service;
@@ -61,7 +90,7 @@ serving = record {
 
 -- the steps that load Use (5.3.5)
 abbrev pub loading : List Step
-loading = Define (in_boot "java/lang/Object") ∷ Initiate object boot app ∷ Define (in_app "p/Svc") ∷ Initiate (codes "p/Svc") app plug ∷ Define (in_plug "p/Use") ∷ []
+loading = Define the_root ∷ Initiate object boot app ∷ Define (in_app "p/Svc") ∷ Initiate (codes "p/Svc") app plug ∷ Define (in_plug "p/Use") ∷ []
 
 -- the method that its reference is resolved to (5.4.3.3)
 abbrev pub of_svc : Verdict
@@ -73,19 +102,23 @@ resolving = Constrain (codes "p/T") app plug ∷ Settle (in_plug "p/Use") 1 of_s
 
 -- the steps that link Use (5.4)
 abbrev pub linking : List Step
-linking = NextRound ∷ Prepare (in_boot "java/lang/Object") ∷ Prepare (in_app "p/Svc") ∷ Prepare (in_plug "p/Use") ∷ Post 1 (Said (IsLinked (in_plug "p/Use"))) ∷ Post 2 (Said BadEntry) ∷ []
+linking = NextRound ∷ Prepare the_root ∷ Prepare (in_app "p/Svc") ∷ Prepare (in_plug "p/Use") ∷ Post 1 (Said (IsLinked (in_plug "p/Use"))) ∷ Post 2 (Said BadEntry) ∷ []
 
 -- what stands before the reference is settled (5.3.4)
 abbrev pub unsettled : State
-unsettled = state_after start (loading ++ Constrain (codes "p/T") app plug ∷ [])
+unsettled = standing (loading ++ Constrain (codes "p/T") app plug ∷ [])
 
 -- what stands before Use is prepared, in the second round (5.4)
 abbrev pub unprepared : State
-unprepared = state_after start (loading ++ resolving ++ NextRound ∷ Prepare (in_boot "java/lang/Object") ∷ Prepare (in_app "p/Svc") ∷ [])
+unprepared = standing (loading ++ resolving ++ NextRound ∷ Prepare the_root ∷ Prepare (in_app "p/Svc") ∷ [])
 
--- what stands at the end (own choice)
+-- what stands before the reference is resolved, with the supertypes of Use prepared (5.4)
+abbrev pub unconstrained : State
+unconstrained = standing (loading ++ Prepare the_root ∷ Prepare (in_app "p/Svc") ∷ [])
+
+-- what stands at the end
 abbrev pub ended : State
-ended = state_after start (loading ++ resolving ++ linking)
+ended = standing (loading ++ resolving ++ linking)
 
 -- a class of kid's own is asked for an entry of its pool (5.4.3)
 abbrev pub resolved_in_kid : Setting
@@ -97,8 +130,8 @@ overridden_alone = bundle ((boot, root) ∷ (app, svc) ∷ (plug, with_methods (
 
 -- the steps before a class under p/H, which is not accessible to it (5.3.5, step 3)
 abbrev pub below_hidden : List Step
-below_hidden = Define (in_boot "java/lang/Object") ∷ Initiate object boot app ∷ Define (in_app "p/H") ∷ Initiate (codes "p/H") app plug ∷ []
+below_hidden = Define the_root ∷ Initiate object boot app ∷ Define (in_app "p/H") ∷ Initiate (codes "p/H") app plug ∷ []
 
 -- T is defined in app, and is to be the same in kid (5.3.4)
 abbrev pub joined_with_kid : List Step
-joined_with_kid = Define (in_boot "java/lang/Object") ∷ Initiate object boot app ∷ Define (in_app "p/T") ∷ Constrain (codes "p/T") app kid ∷ []
+joined_with_kid = Define the_root ∷ Initiate object boot app ∷ Define (in_app "p/T") ∷ Constrain (codes "p/T") app kid ∷ []

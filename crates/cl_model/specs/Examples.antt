@@ -1,17 +1,17 @@
--- The words of the worked examples: four loaders, files and worlds, each class and member by its text (own choice; they exercise JVMS SE 8, 5.3 to 5.4.5).
+-- The words of the worked examples: four loaders, files and worlds, each class and member by its text (JVMS SE 8, 5.3 to 5.4.5).
 use Prim.Native.String.{String}
-use Rattle.std.specs.Prelude.{ℕ, suc, ◌+◌, List, [], ◌∷◌, map, codes, Option, Some, None, Result, Ok, Err, slice_get, option_map}
+use Rattle.std.specs.Prelude.{◌≡◌, ℕ, suc, ◌+◌, List, [], ◌∷◌, ◌++◌, map, codes, Option, Some, None, Result, Ok, Err, slice_get, option_map}
 use Rattle.cl_descriptors.specs.declared.types.Base.{Base}
 use Rattle.cl_descriptors.specs.declared.types.Base.TheVariants as bases
 use Rattle.cl_descriptors.specs.declared.types.FieldType.{FieldType}
 use Rattle.cl_descriptors.specs.declared.types.Descriptor.TheVariants as descriptors
 use Rattle.cl_classfile.specs.Files.{Name, File, FileFault, BadVersion, BadFormat, Key, Member, Reference}
 use Rattle.cl_model.specs.declared.class.Class.{Class}
-use Rattle.cl_model.specs.Content.{Content}
+use Rattle.cl_model.specs.Content.{Content, content_at}
 use Rattle.cl_model.specs.Homes.{World, Loader, ParentFirst, ChildFirst}
-use Rattle.cl_model.specs.Classes.{class}
-use Rattle.cl_model.specs.States.{Need, Entry, Equal, Verdict}
-use Rattle.cl_model.specs.Plans.{Request, Load, Resolve, Link, plan, needs_of}
+use Rattle.cl_model.specs.Classes.{class, Error}
+use Rattle.cl_model.specs.States.{Need, Entry, Equal, Verdict, Wrong}
+use Rattle.cl_model.specs.Plans.{Request, Load, Resolve, Link, plan, needs_of, cost}
 
 -- ---- loaders
 
@@ -31,6 +31,10 @@ plug = 2
 abbrev pub kid : ℕ
 kid = 3
 
+-- a fifth, which stands in some worlds alone (5.3.2)
+abbrev pub fifth : ℕ
+fifth = 4
+
 -- the four, in the order of their numbers (5.3)
 abbrev pub four : List Loader
 four =
@@ -40,7 +44,7 @@ four =
     ∷ record { parents = app ∷ []; order = ParentFirst; imports = [] }
     ∷ []
 
--- the names of the four (own choice)
+-- the names of the four
 abbrev pub names : List (List ℕ)
 names = codes "boot" ∷ codes "app" ∷ codes "plug" ∷ codes "kid" ∷ []
 
@@ -66,9 +70,25 @@ in_plug name = class (codes name) plug
 abbrev pub in_kid : String → Class
 in_kid name = class (codes name) kid
 
+-- the class of this name that the fifth loader would define (5.3)
+abbrev pub in_fifth : String → Class
+in_fifth name = class (codes name) fifth
+
+-- the root class, which the first loader defines (4.1, super_class; 5.3.1)
+abbrev pub the_root : Class
+the_root = class object boot
+
 -- an array of so many dimensions (4.3.2)
 abbrev pub an_array_of : ℕ → Base → FieldType
 an_array_of dimensions base = record { dims = dimensions; base = base }
+
+-- the letter of int, I (4.3.2)
+abbrev pub int_letter : ℕ
+int_letter = 0x49
+
+-- the letter of long, J (4.3.2)
+abbrev pub long_letter : ℕ
+long_letter = 0x4a
 
 -- the type of a class of this name (4.3.2)
 abbrev pub a_class : String → FieldType
@@ -106,25 +126,33 @@ an_int name = field_key name (an_array_of 0 bases.Int)
 abbrev pub an_array : String → Key
 an_array name = field_key name (an_array_of 1 (bases.Class (codes "p/T")))
 
--- ACC_PUBLIC (tables 4.5-A, 4.6-A)
+-- ACC_PUBLIC (tables 4.1-A, 4.5-A, 4.6-A)
 abbrev pub acc_public : ℕ
-acc_public = 1
+acc_public = 0x0001
 
 -- ACC_PRIVATE (tables 4.5-A, 4.6-A)
 abbrev pub acc_private : ℕ
-acc_private = 2
+acc_private = 0x0002
 
 -- ACC_PROTECTED (tables 4.5-A, 4.6-A)
 abbrev pub acc_protected : ℕ
-acc_protected = 4
+acc_protected = 0x0004
 
 -- ACC_STATIC (tables 4.5-A, 4.6-A)
 abbrev pub acc_static : ℕ
-acc_static = 8
+acc_static = 0x0008
 
--- ACC_ABSTRACT (table 4.6-A)
+-- ACC_ABSTRACT (tables 4.1-A, 4.6-A)
 abbrev pub acc_abstract : ℕ
-acc_abstract = 1024
+acc_abstract = 0x0400
+
+-- ACC_SUPER (table 4.1-A)
+abbrev pub acc_super : ℕ
+acc_super = 0x0020
+
+-- ACC_INTERFACE (table 4.1-A)
+abbrev pub acc_interface : ℕ
+acc_interface = 0x0200
 
 -- ---- files
 
@@ -134,27 +162,27 @@ flagged flags name sup = record { flags = flags; name = name; super_name = sup; 
 
 -- the file of the root class (4.1, super_class)
 abbrev pub root : File
-root = flagged 33 object None
+root = flagged (acc_public + acc_super) object None
 
 -- a public class under another (4.1)
 abbrev pub under : String → String → File
-under name sup = flagged 33 (codes name) (Some (codes sup))
+under name sup = flagged (acc_public + acc_super) (codes name) (Some (codes sup))
 
 -- a public class under the root (4.1)
 abbrev pub plain : String → File
-plain name = flagged 33 (codes name) (Some object)
+plain name = flagged (acc_public + acc_super) (codes name) (Some object)
 
 -- a class of package access under the root (4.1)
 abbrev pub of_package : String → File
-of_package name = flagged 32 (codes name) (Some object)
+of_package name = flagged acc_super (codes name) (Some object)
 
 -- a public interface (4.1)
 abbrev pub interface : String → File
-interface name = flagged 1537 (codes name) (Some object)
+interface name = flagged (acc_public + acc_interface + acc_abstract) (codes name) (Some object)
 
 -- an interface of package access (4.1)
 abbrev pub interface_of_package : String → File
-interface_of_package name = flagged 1536 (codes name) (Some object)
+interface_of_package name = flagged (acc_interface + acc_abstract) (codes name) (Some object)
 
 -- members by their flags and keys (4.5, 4.6)
 abbrev pub members : List (ℕ × Key) → List Member
@@ -183,10 +211,10 @@ referring rs f = record f { references = referring_from 1 rs }
 
 -- ---- worlds
 
--- bytes are here the number of a file among these; no bytes at all are of another version (own choice)
-abbrev pub read_of : List File → List ℕ → Result File FileFault
-read_of files [] = Err BadVersion
-read_of files (i ∷ more) = elim (slice_get files i) [ None ↦ Err BadFormat | Some f ↦ Ok f ]
+-- bytes are here the number of a file among these; no bytes at all are of another version
+abbrev pub file_numbered : List File → List ℕ → Result File FileFault
+file_numbered files [] = Err BadVersion
+file_numbered files (i ∷ more) = elim (slice_get files i) [ None ↦ Err BadFormat | Some f ↦ Ok f ]
 
 -- each of these files at its loader and by its own name, as the number of its place (5.3)
 abbrev pub told_from : ℕ → List (ℕ × File) → Content
@@ -194,12 +222,12 @@ told_from i [] = []
 told_from i (e ∷ es) = record { loader = e.0; name = e.1.name; bytes = i ∷ [] } ∷ told_from (suc i) es
 
 -- the world of these loaders, each with its files (5.3)
-abbrev pub world_of : List Loader → List (ℕ × File) → World
-world_of loaders files = record { loaders = loaders; content = told_from 0 files; read = read_of (map (λ e. e.1) files) }
+abbrev pub with_loaders : List Loader → List (ℕ × File) → World
+with_loaders loaders files = record { loaders = loaders; content = told_from 0 files; read = file_numbered (map (λ e. e.1) files) }
 
 -- the world of the four, each with its files (5.3)
 abbrev pub bundle : List (ℕ × File) → World
-bundle files = world_of four files
+bundle files = with_loaders four files
 
 -- the world, with these bytes for this name at this loader too (5.3)
 abbrev pub with_bytes : ℕ → String → List ℕ → World → World
@@ -223,18 +251,88 @@ link_of loader name = Link loader (codes name)
 abbrev pub entry : ℕ → String → ℕ → Need
 entry loader name place = Entry loader (codes name) place
 
+-- a loader's record of a class of its own (5.3)
+abbrev pub own : ℕ → String → Need
+own loader name = entry loader name loader
+
+-- a loader's record of the root class (5.3)
+abbrev pub root_record : ℕ → Need
+root_record loader = Entry loader object boot
+
+-- what a loader under the first needs for the root class (5.3.5, step 3)
+abbrev pub root_for : ℕ → List Need
+root_for loader = root_record boot ∷ root_record loader ∷ []
+
+-- what the third loader needs for a class that the second one has under the root (5.3.2, 5.3.5)
+abbrev pub through_app : String → List Need
+through_app name = root_for app ++ own app name ∷ entry plug name app ∷ []
+
 -- an equality for a name (5.3.4)
 abbrev pub equal : String → ℕ → ℕ → Need
 equal name one other = Equal (codes name) one other
 
--- how the plan of a request ends at this height (5.3 to 5.4.3)
-abbrev pub ends_at : World → ℕ → Request → Option Verdict
-ends_at w height q = option_map (λ p. p.ends) (plan w height q)
+-- an equality for p/T (5.3.4)
+abbrev pub same_t : ℕ → ℕ → Need
+same_t one other = equal "p/T" one other
 
--- all needs of the plan of a request at this height (5.3 to 5.4.3)
-abbrev pub needs_at : World → ℕ → Request → Option (List Need)
-needs_at w height q = option_map needs_of (plan w height q)
+-- an equality for p/V (5.3.4)
+abbrev pub same_v : ℕ → ℕ → Need
+same_v one other = equal "p/V" one other
+
+-- the equalities of a method `(Lp/T;)Lp/V;`, that of what it returns first (5.3.4)
+abbrev pub same_both : ℕ → ℕ → List Need
+same_both one other = same_v one other ∷ same_t one other ∷ []
+
+-- a height that suffices for each plan of the examples
+abbrev pub enough : ℕ
+enough = 6
+
+-- how the plan of a request ends (5.3 to 5.4.3)
+abbrev pub ends_at : World → Request → Option Verdict
+ends_at w q = option_map (λ p. p.ends) (plan w enough q)
+
+-- all needs of the plan of a request (5.3 to 5.4.3)
+abbrev pub needs_at : World → Request → Option (List Need)
+needs_at w q = option_map needs_of (plan w enough q)
 
 -- the needs that follow the load (5.4.2, 5.4.3)
-abbrev pub more_at : World → ℕ → Request → Option (List Need)
-more_at w height q = option_map (λ p. p.more) (plan w height q)
+abbrev pub more_at : World → Request → Option (List Need)
+more_at w q = option_map (λ p. p.more) (plan w enough q)
+
+-- ---- what an example says
+
+-- the bytes of this loader's own content for this name are these (5.3)
+abbrev pub HasBytes : World → ℕ → String → List ℕ → Type 0
+HasBytes w loader name bytes = content_at w.content loader (codes name) ≡ Some bytes
+
+-- the load of this name through this loader ends so (5.3.5)
+abbrev pub Loads : World → ℕ → String → Verdict → Type 0
+Loads w loader name v = ends_at w (load_of loader name) ≡ Some v
+
+-- the load of this name through this loader ends in this error (5.3.5)
+abbrev pub LoadFails : World → ℕ → String → Error → Type 0
+LoadFails w loader name e = Loads w loader name (Wrong e)
+
+-- the load of this name through this loader needs these in turn (5.3.5)
+abbrev pub LoadNeeds : World → ℕ → String → List Need → Type 0
+LoadNeeds w loader name needs = needs_at w (load_of loader name) ≡ Some needs
+
+-- this reference of the class that this loader has for the name is resolved so (5.4.3)
+abbrev pub Resolves : World → ℕ → String → ℕ → Verdict → Type 0
+Resolves w loader name i v = ends_at w (resolve_of loader name i) ≡ Some v
+
+-- it needs these in turn past the load of its class (5.4.3)
+abbrev pub ResolveNeeds : World → ℕ → String → ℕ → List Need → Type 0
+ResolveNeeds w loader name i needs = more_at w (resolve_of loader name i) ≡ Some needs
+
+-- the link of the class that this loader has for the name ends so (5.4)
+abbrev pub Links : World → ℕ → String → Verdict → Type 0
+Links w loader name v = ends_at w (link_of loader name) ≡ Some v
+
+-- it imposes these in turn (5.4.2)
+abbrev pub LinkNeeds : World → ℕ → String → List Need → Type 0
+LinkNeeds w loader name needs = more_at w (link_of loader name) ≡ Some needs
+
+-- a request costs so many steps at the most
+abbrev pub Costs : World → Request → ℕ → Type 0
+Costs w q steps = option_map (cost w) (plan w enough q) ≡ Some steps

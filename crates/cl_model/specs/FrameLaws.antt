@@ -86,39 +86,39 @@ KeptStays = (s : State) (es : List Step) (xs : List Frame) → AllKept s xs → 
 abbrev pub RefusedAnswers : Type 0
 RefusedAnswers = (g : Setting) (s : State) (r : Request) (n : Need) → IsNextNeed g.world s r n → Refused s n → AnswersPlan g s r (Linkage n)
 
--- the classes of the path are those of the frames (own choice of form)
+-- the classes of the path are those of the frames
 abbrev pub PathScanned : Type 0
 PathScanned = (xs : List Frame) (c : Class) → is_among (path_of [] xs) c ≡ list_any (λ x. same_class c x.class) xs
 
--- a new frame leaves less (own choice)
+-- a new frame leaves less
 abbrev pub PushFalls : Type 0
 PushFalls =
     (most room : ℕ) (xs : List Frame) (x : Frame) (a : Above) → length xs < room → length (supers x.file) ≤ most → x.accepted ≡ [] → wanted x ≡ Some a
     → left_loading most room (xs ++ x ∷ []) < left_loading most room xs
 
--- a new frame without supertypes leaves less (own choice)
+-- a new frame without supertypes leaves less
 abbrev pub RootFalls : Type 0
 RootFalls = (most room : ℕ) (xs : List Frame) (x : Frame) → length xs < room → wanted x ≡ None → left_ended most room (xs ++ x ∷ []) < left_loading most room xs
 
--- the end of a load leaves less (own choice)
+-- the end of a load leaves less
 abbrev pub LoadFalls : Type 0
 LoadFalls = (most room : ℕ) (xs : List Frame) → length xs ≤ room → left_ended most room xs < left_loading most room xs
 
--- the next supertype leaves less (own choice)
+-- the next supertype leaves less
 abbrev pub AcceptFalls : Type 0
 AcceptFalls =
     (most room : ℕ) (xs : List Frame) (x : Frame) (t : Class) (b : Above) → length xs < room → wanted (accepting x t) ≡ Some b
     → left_loading most room (xs ++ accepting x t ∷ []) < left_ended most room (xs ++ x ∷ [])
 
--- the end of a frame leaves less (own choice)
+-- the end of a frame leaves less
 abbrev pub PopFalls : Type 0
 PopFalls = (most room : ℕ) (xs : List Frame) (x : Frame) → length xs < room → left_ended most room xs < left_ended most room (xs ++ x ∷ [])
 
--- what frames rest on is what they keep (own choice of form)
+-- what frames rest on is what they keep
 abbrev pub KeptIsMet : Type 0
 KeptIsMet = (s : State) (xs : List Frame) → AllMet s (kept_of xs) ↔ AllKept s xs
 
--- a measure of turns: so many for each step of the frames' measure (own choice)
+-- a measure of turns: so many for each step of the frames' measure
 abbrev pub TurnFalls : Type 0
 TurnFalls = (k a b p q : ℕ) → a < b → p < k → k * a + p < k * b + q
 
@@ -131,6 +131,6 @@ abbrev pub CompleteIsKept : Type 0
 CompleteIsKept =
     (s : State) (x : Frame) → NamedAs x.accepted (supers x.file) → KeepsAccepted s x → wanted x ≡ None → AllByRecursion (λ a. IsSome (recorded s.records x.class.loader a.name)) (supers x.file)
 
--- what fits is named so (own choice of form)
+-- what fits is named so
 abbrev pub AcceptedIsNamed : Type 0
 AcceptedIsNamed = (w : World) (c : Class) (ts : List Class) (others : List Above) → Accepts w c ts others → NamedAs ts others

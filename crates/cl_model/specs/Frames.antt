@@ -62,7 +62,7 @@ IsFrames w path loader name [] at_loader at_name = (loader ≡ at_loader) × (na
 IsFrames w path loader name (x ∷ xs) at_loader at_name =
     IsFrame w path loader name x × ((a : Above) × (wanted x ≡ Some a) × IsFrames w (x.class ∷ path) x.class.loader a.name xs at_loader at_name)
 
--- the classes of a path and of these frames, the last first (own choice of form)
+-- the classes of a path and of these frames, the last first
 abbrev pub path_of : List Class → List Frame → List Class
 path_of path [] = path
 path_of path (x ∷ xs) = path_of (x.class ∷ path) xs
@@ -84,7 +84,7 @@ pub record EndsHere (w : World) (s : State) (r : Request) (v : Verdict) : Type 0
   pub met : AllMet s (needs_of plan)
   pub ends : plan.ends ≡ v
 
--- the first of these, if any (own choice of form)
+-- the first of these, if any
 abbrev pub first_of : List Name → Option Name
 first_of [] = None
 first_of (name ∷ more) = Some name

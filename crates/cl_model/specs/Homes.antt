@@ -1,5 +1,5 @@
 -- Loaders, what each has of its own, and the search for a name (JVMS SE 8, 5.3.2).
-use Rattle.std.specs.Prelude.{ℕ, zero, suc, Bool, true, false, ◌==◌, nat_eq, nat_lt, if◌then◌else◌, List, [], ◌∷◌, length, Option, Some, None, Result, is_some, slice_get, find, option_map, option_and_then}
+use Rattle.std.specs.Prelude.{ℕ, zero, suc, Bool, true, false, ◌==◌, nat_eq, nat_lt, if◌then◌else◌, List, [], ◌∷◌, length, codes, Option, Some, None, Result, is_some, slice_get, find, option_map, option_and_then}
 use Rattle.std.specs.Option.{option_or}
 use Rattle.std.specs.List.{starts_with}
 use Rattle.cl_model.specs.Content.{Content, content_at}
@@ -29,13 +29,13 @@ pub record World : Type 0 where
 
 -- `java/`, with which names of the platform begin (own choice, 5.3.1)
 abbrev pub java_prefix : Name
-java_prefix = 106 ∷ 97 ∷ 118 ∷ 97 ∷ 47 ∷ []
+java_prefix = codes "java/"
 
 -- names of the platform, which the first loader alone answers (own choice, 5.3.1)
 abbrev pub is_java : Name → Bool
 is_java name = starts_with nat_eq name java_prefix
 
--- a loader's number (own choice: loaders are numbered from 0)
+-- a loader's number (loaders are numbered from 0)
 abbrev pub is_loader : World → ℕ → Bool
 is_loader w loader = nat_lt loader (length w.loaders)
 

@@ -10,10 +10,10 @@ use Rattle.cl_model.specs.Lineages.{Kin, IsLineage, classes, lineage}
 use Rattle.cl_model.specs.Ancestors.{EachClassOnce, SupersFirst}
 use Rattle.cl_model.specs.Works.{Made}
 use Rattle.cl_model.specs.Plans.{derive, load, Load, Request, Plan, Resolve, Link, loaded_by, needs_of, cost}
-use Rattle.cl_model.specs.States.{State, start, Entry, IsClass, Answer, settled_to, answer_to, IsFresh, Clashes, added, Need, Verdict, recorded, Violated, Met, AllMet, IsRecorded, IsLinked, BadEntry, ArrayMember, MayAdd, Said, Wrong, Linkage, IsNext}
+use Rattle.cl_model.specs.States.{State, start, Entry, Equal, IsClass, Answer, settled_to, answer_to, IsFresh, Clashes, added, Need, Verdict, recorded, Violated, Met, AllMet, IsRecorded, IsLinked, BadEntry, ArrayMember, MayAdd, Said, Wrong, Linkage, IsNext}
 use Rattle.cl_model.specs.Progress.{Takes}
 use Rattle.cl_model.specs.Service.{IsNextNeed, IsNextStep, ComesTo, MayEnd, IsBegun, Serves, PassesRounds, AllServed, IsLinkedIn}
-use Rattle.cl_model.specs.Machine.{Setting, Scheduled, Step, Post, Settle, Prepare, May, state_after, Run, Answers, IsClosed, IsSound, after, AnswersPlan, AnswersReference, MaySay, IsPlan, HasLineage, IsResolution, step_for, MaySettle, MayGoOn}
+use Rattle.cl_model.specs.Machine.{Setting, Scheduled, Step, Post, Settle, Prepare, May, state_after, Run, Answers, IsClosed, IsSound, after, AnswersPlan, AnswersReference, MaySay, IsPlan, HasLineage, IsResolution, step_for, MaySettle, MayGoOn, MayConstrain, Imposes}
 use Rattle.std.specs.List.{AllByRecursion}
 use Rattle.cl_model.specs.Content.{content_at}
 use Rattle.cl_model.specs.declared.event.Event as events
@@ -205,7 +205,7 @@ SettledStay = (s : State) (es : List Step) (d : Class) (i : ℕ) (v : Verdict) �
 abbrev pub PreparedStay : Type 0
 PreparedStay = (s : State) (es : List Step) (c : Class) → Contains s.prepared c → Contains (state_after s es).prepared c
 
--- a posted answer never changes (own choice)
+-- a posted answer never changes
 abbrev pub PostedStay : Type 0
 PostedStay = (s : State) (es : List Step) (q : ℕ) (a : Answer) → answer_to s.answers q ≡ Some a → answer_to (state_after s es).answers q ≡ Some a
 
@@ -228,6 +228,13 @@ OneReferenceAnswer = (g : Setting) (s : State) (d : Class) (i : ℕ) (v u : Verd
 -- all that a state of a run holds is as it should be (5.3 to 5.4.3)
 abbrev pub RunsAreSound : Type 0
 RunsAreSound = (g : Setting) (es : List Step) → Run g start es → IsSound g (state_after start es)
+
+-- an equality may be imposed where it stands in a list that imposes, all needs before it are met, and it may be added; and nowhere else (5.3.4)
+abbrev pub ConstrainsInOrder : Type 0
+ConstrainsInOrder =
+    (g : Setting) (s : State) (name : Name) (one other : ℕ)
+    → MayConstrain g s name one other
+    ↔ ((before : List Need) × (behind : List Need) × Imposes g s (before ++ Equal name one other ∷ behind) × AllMet s before × MayAdd s (Equal name one other))
 
 -- a step that may happen keeps a state sound (5.3 to 5.4.3)
 abbrev pub StepIsSound : Type 0
@@ -255,11 +262,11 @@ UnmetIsFresh = (w : World) (s : State) (loader place : ℕ) (name : Name) → Is
 
 -- ---- service
 
--- a service that was begun goes on by the step that comes next (own choice)
+-- a service that was begun goes on by the step that comes next
 abbrev pub ServiceGoesOn : Type 0
 ServiceGoesOn = (g : Setting) (r : Request) (s : State) (es : List Step) (e : Step) → IsBegun g r s es → IsNextStep g (state_after s es) r e → IsBegun g r s (es ++ e ∷ [])
 
--- a service that was begun is whole once its answer is posted (own choice)
+-- a service that was begun is whole once its answer is posted
 abbrev pub ServiceIsWhole : Type 0
 ServiceIsWhole = (g : Setting) (q : ℕ) (r : Request) (s : State) (es : List Step) (a : Answer) → IsBegun g r s es → MayEnd g (state_after s es) r a → Serves g q r s (es ++ Post q a ∷ [])
 
@@ -271,13 +278,21 @@ NextStepMayHappen = (g : Setting) (s : State) (r : Request) (e : Step) → IsClo
 abbrev pub BegunIsRun : Type 0
 BegunIsRun = (g : Setting) (r : Request) (s : State) (es : List Step) → IsClosed g.world s → IsBegun g r s es → Run g s es
 
--- at most one step comes next in a service (own choice)
+-- at most one step comes next in a service
 abbrev pub OneNextStep : Type 0
 OneNextStep = (g : Setting) (s : State) (r : Request) (e f : Step) → IsNextStep g s r e → IsNextStep g s r f → e ≡ f
 
--- where a service has come to its verdict no step is left (own choice)
+-- where a service has come to its verdict no step is left
 abbrev pub ComeToEnds : Type 0
 ComeToEnds = (g : Setting) (s : State) (r : Request) (v : Verdict) (e : Step) → ComesTo g s r v → IsNextStep g s r e → ⊥
+
+-- a service ends with a verdict only where no step comes next
+abbrev pub VerdictEnds : Type 0
+VerdictEnds = (g : Setting) (s : State) (r : Request) (v : Verdict) (e : Step) → MayEnd g s r (Said v) → IsNextStep g s r e → ⊥
+
+-- the rounds that begin between services may begin: they are a run
+abbrev pub PassedIsRun : Type 0
+PassedIsRun = (g : Setting) (s : State) (es : List Step) → PassesRounds g s es → Run g s es
 
 -- the need that comes next in the plan of a load is served next (5.3, 5.3.5)
 abbrev pub LoadNeedIsNext : Type 0
@@ -313,17 +328,17 @@ LoadComes = (g : Setting) (s : State) (loader : ℕ) (name : Name) (v : Verdict)
 abbrev pub ResolutionComes : Type 0
 ResolutionComes = (g : Setting) (s : State) (loader : ℕ) (name : Name) (i : ℕ) (v : Verdict) → MaySay g s (Resolve loader name i) v → ComesTo g s (Resolve loader name i) v
 
--- whatever else happens, so many steps of a request's service, and its post, are within its cost (own choice)
+-- whatever else happens, so many steps of a request's service, and its post, are within its cost
 abbrev pub ServiceWithinCost : Type 0
 ServiceWithinCost = (g : Setting) (r : Request) (p : Plan) (n : ℕ) (s : State) (es : List Step) → IsPlan g.world r p → Takes g r n s es → n + 1 ≤ cost g.world p
 
--- services go on by that of the next request, and by the rounds that begin after it (own choice)
+-- services go on by that of the next request, and by the rounds that begin after it
 abbrev pub ServicesGoOn : Type 0
 ServicesGoOn =
     (g : Setting) (q p : ℕ) (s : State) (rs : List Scheduled) (r : Scheduled) (es one rounds : List Step) → AllServed g q s rs es → Serves g p r.request (state_after s es) one
     → PassesRounds g (state_after (state_after s es) one) rounds → p ≡ q + length rs → AllServed g q s (rs ++ r ∷ []) (es ++ (one ++ rounds))
 
--- once all are served no later round may begin (own choice)
+-- once all are served no later round may begin
 abbrev pub NoRoundLeft : Type 0
 NoRoundLeft = (g : Setting) (q : ℕ) (s : State) (rs : List Scheduled) (es : List Step) → AllServed g q s rs es → MayGoOn g (state_after s es) → ⊥
 
@@ -335,7 +350,7 @@ CircleIsAnswered = (g : Setting) (s : State) (l : ℕ) (name : Name) (x : Class)
 abbrev pub CircularIsAnswered : Type 0
 CircularIsAnswered = (g : Setting) (s : State) (l place : ℕ) (name : Name) (x : Class) (v : Verdict) → home g.world l name ≡ Some place → Returns g.world [] (class name place) x → AnswersPlan g s (Load l name) v → (v ≡ Wrong (ClassCircularity x)) ⊎ ((n : Need) × (v ≡ Linkage n))
 
--- the first part of a service that was begun is one (own choice)
+-- the first part of a service that was begun is one
 abbrev pub PartBegins : Type 0
 PartBegins = (g : Setting) (r : Request) (s : State) (xs ys : List Step) → IsBegun g r s (xs ++ ys) → IsBegun g r s xs
 
@@ -347,7 +362,7 @@ RunThen = (g : Setting) (s : State) (es fs : List Step) → Run g s es → Run g
 abbrev pub RunParts : Type 0
 RunParts = (g : Setting) (s : State) (es fs : List Step) → Run g s (es ++ fs) → Run g s es × Run g (state_after s es) fs
 
--- the state after two parts (own choice)
+-- the state after two parts
 abbrev pub StateThen : Type 0
 StateThen = (s : State) (es fs : List Step) → state_after s (es ++ fs) ≡ state_after (state_after s es) fs
 
@@ -411,11 +426,11 @@ LineagePrepared = (g : Setting) (s : State) (k : Kin) → IsSound g s → IsLine
 abbrev pub FileIsSpelt : Type 0
 FileIsSpelt = (w : World) (c : Class) (f : File) → HasFile w c f → (bytes : List ℕ) × (content_at w.content c.loader c.name ≡ Some bytes) × (w.read bytes ≡ Ok f) × (f.name ≡ c.name)
 
--- what a history tells, where it goes on (own choice)
+-- what a history tells, where it goes on
 abbrev pub StepsThen : Type 0
 StepsThen = (given : List (Option Answer)) (es fs : List events.Event) → steps_of given (es ++ fs) ≡ steps_of given es ++ steps_of given fs
 
--- answers that differ at one request alone tell the same of a history in which it is not posted (own choice)
+-- answers that differ at one request alone tell the same of a history in which it is not posted
 abbrev pub StepsSame : Type 0
 StepsSame = (given more : List (Option Answer)) (q : ℕ) → ((p : ℕ) → p ≢ q → answer_at more p ≡ answer_at given p) → (es : List events.Event) → AllByRecursion (IsOther q) es → steps_of more es ≡ steps_of given es
 

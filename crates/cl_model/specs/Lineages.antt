@@ -40,11 +40,11 @@ pub record IsLineage (w : World) (k : Kin) : Type 0 where
   pub above : StandsFor w k.class k.superclass (superclass_of k.file)
   pub over : StandsFor w k.class k.interfaces (superinterfaces_of k.file)
 
--- the class, its file and what stands above it, alone (own choice of form)
+-- the class, its file and what stands above it, alone
 abbrev pub alone : Kin → Forest
 alone k = Tree k.class k.file k.superclass k.interfaces Bare
 
--- the classes of these, in order (own choice of form)
+-- the classes of these, in order
 abbrev pub classes : List Kin → List Class
 classes ks = map (λ k. k.class) ks
 
@@ -64,12 +64,12 @@ preorder (Tree c f sup ints others) wanted =
     (if wanted then record { class = c; file = f; superclass = sup; interfaces = ints } ∷ [] else [])
     ++ preorder ints true ++ preorder sup false ++ preorder others wanted
 
--- each class at its first place alone, after those that were seen (own choice of form)
+-- each class at its first place alone, after those that were seen
 abbrev pub once_after : List Class → List Kin → List Kin
 once_after seen [] = []
 once_after seen (k ∷ ks) = if is_among seen k.class then once_after seen ks else k ∷ once_after (k.class ∷ seen) ks
 
--- each class at its first place alone, from the front (own choice of form)
+-- each class at its first place alone, from the front
 abbrev pub once : List Kin → List Kin
 once ks = once_after [] ks
 

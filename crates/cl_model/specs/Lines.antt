@@ -1,4 +1,4 @@
--- The printed line of each event and answer, each loader by its name (own choice; the words of errors are those of JVMS SE 8, 5.3 to 5.4.4).
+-- The printed line of each event and answer, each loader by its name (docs/FORMATS.md; the words of errors are those of JVMS SE 8, 5.3 to 5.4.4).
 use Rattle.std.specs.Prelude.{ℕ, ◌+◌, List, [], ◌∷◌, ◌++◌, codes, Option, Some, None, slice_get, unwrap_or}
 use Rattle.std.specs.Fmt.{decimal}
 use Rattle.cl_names.specs.Escape.{escaped}
@@ -11,17 +11,17 @@ use Rattle.cl_model.specs.Classes.{class, Error, ClassNotFound, NoClassDef, Clas
 use Rattle.cl_model.specs.States.{Need, Entry, Equal, Verdict, IsClass, IsArrayOf, IsArrayOfBase, IsField, IsMethod, IsLinked, BadEntry, ArrayMember, Wrong, Linkage, Answer, Said, OutOfMemory, SourceFault}
 use Rattle.cl_model.specs.Machine.{Step, Define, Initiate, Constrain, Settle, Prepare, Post, NextRound, Stray}
 
--- the bytes of a printed text (own choice)
+-- the bytes of a printed text
 abbrev pub Text : Type 0
 Text = List ℕ
 
--- words, with a space between each two (own choice)
+-- words, with a space between each two
 abbrev pub words : List Text → Text
 words [] = []
 words (a ∷ []) = a
 words (a ∷ b ∷ more) = a ++ (codes " " ++ words (b ∷ more))
 
--- a loader's name, among those of all loaders in order (own choice)
+-- a loader's name, among those of all loaders in order
 abbrev pub loader_text : List Text → ℕ → Text
 loader_text names loader = unwrap_or (slice_get names loader) []
 
@@ -68,21 +68,21 @@ verdict_texts names ArrayMember = codes "ArrayMember" ∷ []
 verdict_texts names (Wrong e) = error_texts names e
 verdict_texts names (Linkage n) = codes "LinkageError" ∷ need_texts names n
 
--- the text of a verdict (own choice)
+-- the text of a verdict
 abbrev pub verdict_text : List Text → Verdict → Text
 verdict_text names v = words (verdict_texts names v)
 
--- the text of an answer (own choice)
+-- the text of an answer
 abbrev pub answer_text : List Text → Answer → Text
 answer_text names (Said v) = verdict_text names v
 answer_text names OutOfMemory = codes "OutOfMemory"
 answer_text names (SourceFault name loader) = words (codes "SourceFault" ∷ class_text names (class name loader) ∷ [])
 
--- the line of an answer: the request's number, counted from 1, and the text (own choice)
+-- the line of an answer: the request's number, counted from 1, and the text
 abbrev pub answer_line : List Text → ℕ → Answer → Text
 answer_line names q a = words (decimal (q + 1) ∷ answer_text names a ∷ [])
 
--- the line of a step, if it has one (own choice)
+-- the line of a step, if it has one
 abbrev pub line : List Text → Step → Option Text
 line names (Define c) = Some (words (codes "define" ∷ class_text names c ∷ []))
 line names (Initiate name place loader) = Some (words (codes "initiate" ∷ escaped name ∷ loader_text names place ∷ codes "by" ∷ loader_text names loader ∷ []))

@@ -11,12 +11,12 @@ use Rattle.cl_model.specs.States.{State, Need, Entry, Equal, Verdict, BadEntry, 
 use Rattle.cl_model.specs.Works.{Made}
 use Rattle.cl_model.specs.Plans.{Request, Load, Resolve, Link, Plan, plan, derive, resolve, needs_of, ending}
 
--- a request and its round (own choice)
+-- a request and its round
 pub record Scheduled : Type 0 where
   pub request : Request
   pub round : ℕ
 
--- what is given, what is asked, and in how many rounds; a round may be empty (own choice)
+-- what is given, what is asked, and in how many rounds; a round may be empty
 pub record Setting : Type 0 where
   pub world : World
   pub script : List Scheduled
@@ -138,7 +138,7 @@ MayAnswer g s q (Said v) = MaySay g s q v
 MayAnswer g s q OutOfMemory = Unit {0}
 MayAnswer g s q (SourceFault name loader) = Unit {0}
 
--- an answer may be posted, in its round and once (own choice)
+-- an answer may be posted, in its round and once
 pub record MayPost (g : Setting) (s : State) (q : ℕ) (a : Answer) : Type 0 where
   pub scheduled : Scheduled
   pub asked : slice_get g.script q ≡ Some scheduled
@@ -146,12 +146,12 @@ pub record MayPost (g : Setting) (s : State) (q : ℕ) (a : Answer) : Type 0 whe
   pub unposted : answer_to s.answers q ≡ None
   pub may_answer : MayAnswer g s scheduled.request a
 
--- all of a script's requests of the round are answered, and there is a later round (own choice)
+-- all of a script's requests of the round are answered, and there is a later round
 pub record EndsRound (script : List Scheduled) (rounds : ℕ) (s : State) : Type 0 where
   pub answered : (q : ℕ) (e : Scheduled) → slice_get script q ≡ Some e → e.round ≡ s.round → IsSome (answer_to s.answers q)
   pub later : s.round + 1 < rounds
 
--- the next round may begin (own choice)
+-- the next round may begin
 abbrev pub MayGoOn : Setting → State → Type 0
 MayGoOn g s = EndsRound g.script g.rounds s
 
@@ -179,7 +179,7 @@ after s (Post q a) = record s { answers = s.answers ++ record { request = q; ans
 after s NextRound = record s { round = s.round + 1 }
 after s Stray = s
 
--- the state after these steps (own choice)
+-- the state after these steps
 abbrev pub state_after : State → List Step → State
 state_after s [] = s
 state_after s (e ∷ es) = state_after (after s e) es
@@ -216,7 +216,7 @@ pub record IsSettled (g : Setting) (s : State) (d : Class) (i : ℕ) (v : Verdic
   pub recorded : IsRecorded s d
   pub answered : AnswersReference g s d i v
 
--- an answer is one of a request of the script, which may be answered so (own choice)
+-- an answer is one of a request of the script, which may be answered so
 pub record IsAnswered (g : Setting) (s : State) (q : ℕ) (a : Answer) : Type 0 where
   pub scheduled : Scheduled
   pub asked : slice_get g.script q ≡ Some scheduled

@@ -182,7 +182,7 @@ needs_of p = p.own ++ p.more
 abbrev pub same_ask : Ask → Ask → Bool
 same_ask a b = (a.loader == b.loader) && same_name a.name b.name
 
--- each at its last place alone (own choice of form)
+-- each at its last place alone
 abbrev pub distinct : List Ask → List Ask
 distinct [] = []
 distinct (a ∷ others) = if list_any (same_ask a) others then distinct others else a ∷ distinct others
@@ -206,7 +206,7 @@ abbrev pub is_equal : Need → Bool
 is_equal (Entry loader name place) = false
 is_equal (Equal name a b) = true
 
--- a bound on the steps of a request (own choice)
+-- a bound on the steps of a request
 abbrev pub cost : World → Plan → ℕ
 cost w p =
     3 * length (distinct (p.asked ++ flat_map (asked_at_home w) p.asked))

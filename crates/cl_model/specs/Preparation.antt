@@ -1,5 +1,5 @@
 -- Overriding, and the loading constraints that preparation imposes (JVMS SE 8, 5.4.2 and 5.4.5).
-use Rattle.std.specs.Prelude.{ℕ, zero, suc, Bool, ◌&&◌, ◌||◌, not, nat_eq, nat_le, if◌then◌else◌, List, [], ◌∷◌, ◌++◌, map, length, Option, Some, None, find, filter, flat_map, is_some, option_to_list}
+use Rattle.std.specs.Prelude.{ℕ, zero, suc, Bool, ◌&&◌, ◌||◌, not, nat_eq, nat_le, if◌then◌else◌, List, [], ◌∷◌, ◌++◌, map, length, codes, Option, Some, None, find, filter, flat_map, is_some, option_to_list}
 use Rattle.std.specs.List.{list_any, starts_with}
 use Rattle.cl_classfile.specs.Files.{Name, Key, Member, is_public, is_private, is_protected, is_static, is_interface}
 use Rattle.cl_descriptors.specs.Types.{class_of, classes_of}
@@ -11,7 +11,7 @@ use Rattle.cl_model.specs.States.{Need, Equal}
 
 -- a name that begins with `<` is `<init>` or `<clinit>` (4.2.2)
 abbrev pub is_special : Name → Bool
-is_special name = starts_with nat_eq name (60 ∷ [])
+is_special name = starts_with nat_eq name (codes "<")
 
 -- a class declares a method with this key that takes part in overriding (5.4.5)
 abbrev pub takes_part : Key → Kin → Bool
@@ -23,17 +23,17 @@ overrides_directly key c a =
     takes_part key c && takes_part key a
     && (if_declared (method_of a key) (λ x. is_public x || is_protected x) || same_package a.class c.class)
 
--- a place in a list (own choice of form)
+-- a place in a list
 pub record Split : Type 0 where
   pub before : List Kin
   pub at : Kin
   pub after : List Kin
 
--- a place of the list behind one more (own choice of form)
+-- a place of the list behind one more
 abbrev pub shifted : Kin → Split → Split
 shifted k s = record { before = k ∷ s.before; at = s.at; after = s.after }
 
--- each place of a list (own choice of form)
+-- each place of a list
 abbrev pub splits : List Kin → List Split
 splits [] = []
 splits (k ∷ ks) = record { before = []; at = k; after = ks } ∷ map (shifted k) (splits ks)

@@ -26,11 +26,11 @@ probes_below w name (suc n) loader = elim (loader == n) [
   | false ↦ probes_below w name n loader
 ]
 
--- a number is one of these (own choice of form)
+-- a number is one of these
 abbrev pub is_in : List ℕ → ℕ → Bool
 is_in ns n = list_any (λ m. m == n) ns
 
--- each number at its first place alone, after those that were seen (own choice of form)
+-- each number at its first place alone, after those that were seen
 abbrev pub first_places : List ℕ → List ℕ → List ℕ
 first_places seen [] = []
 first_places seen (n ∷ ns) = if is_in seen n then first_places seen ns else n ∷ first_places (n ∷ seen) ns
@@ -47,7 +47,7 @@ probes w loader name = first_places [] (elim (is_java name) [
 abbrev pub has_own : World → Name → ℕ → Bool
 has_own w name loader = is_some (content_at w.content loader name)
 
--- no number stands twice (own choice of form)
+-- no number stands twice
 abbrev pub EachOnce : List ℕ → Type 0
 EachOnce [] = Unit {0}
 EachOnce (n ∷ ns) = (is_in ns n ≡ false) × EachOnce ns

@@ -34,7 +34,7 @@ ReferenceGoesThrough =
     → recorded s.records d.loader name ≡ Some place → HasLineage w (class name place) c → through k r c ≡ Some m
     → GoesThrough w s d i m
 
--- an entry that is no reference is resolved at once (own choice)
+-- an entry that is no reference is resolved at once
 abbrev pub BadEntryGoesThrough : Type 0
 BadEntryGoesThrough =
     (w : World) (s : State) (d : Class) (k : Kin) (i : ℕ) → HasLineage w d k → reference k.file i ≡ None

@@ -32,7 +32,7 @@ nameless (ToField t key) = ArrayMember
 nameless (ToMethod t key) = ArrayMember
 nameless (ToInterfaceMethod t key) = ArrayMember
 
--- an end without needs (own choice of form)
+-- an end without needs
 abbrev pub ended : Verdict → Made Verdict
 ended v = record { needs = []; asked = []; ends = Ok v }
 

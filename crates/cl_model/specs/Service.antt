@@ -1,4 +1,4 @@
--- Requests served one after another: what a history holds of each (own choice of order; what is wanted is that of JVMS SE 8, 5.3 to 5.4.3).
+-- Requests served one after another: what a history holds of each (what is wanted is that of JVMS SE 8, 5.3 to 5.4.3).
 use Rattle.std.specs.Prelude.{◌≡◌, ◌⊎◌, ℕ, suc, List, [], ◌∷◌, ◌++◌, map, flat_map, Option, Some, None, Contains}
 use Rattle.cl_model.specs.Homes.{World}
 use Rattle.cl_model.specs.declared.class.Class.{Class}
@@ -25,7 +25,7 @@ abbrev pub FulfilsAll : State → List Want → Type 0
 FulfilsAll s [] = Unit {0}
 FulfilsAll s (x ∷ xs) = Fulfils s x × FulfilsAll s xs
 
--- a want stands in a list, and all before it are fulfilled (own choice: wants are served in order)
+-- a want stands in a list, and all before it are fulfilled (wants are served in order)
 abbrev pub IsFirst : State → List Want → Want → Type 0
 IsFirst s [] want = ⊥
 IsFirst s (x ∷ xs) want = (x ≡ want) ⊎ (Fulfils s x × IsFirst s xs want)
@@ -40,7 +40,7 @@ abbrev pub serving : Want → Step
 serving (ToStand n) = step_for n
 serving (ToPrepare c) = Prepare c
 
--- these needs are wanted, in order (own choice of form)
+-- these needs are wanted, in order
 abbrev pub to_stand : List Need → List Want
 to_stand needs = map (λ n. ToStand n) needs
 
@@ -76,11 +76,11 @@ Settles g s (Load loader name) p e = ⊥
 Settles g s (Resolve loader name i) p e = (d : Class) × (p.reached ≡ Some d) × AllMet s p.own × ((v : Verdict) × MaySettle g s d i v × (e ≡ Settle d i v))
 Settles g s (Link loader name) p e = ⊥
 
--- the step fulfils the first want that is not fulfilled (own choice of order)
+-- the step fulfils the first want that is not fulfilled
 abbrev pub ServesFirst : State → List Want → Step → Type 0
 ServesFirst s wants e = (x : Want) × IsFirst s wants x × MayServe s x × (e ≡ serving x)
 
--- the step that comes next in a request's service, before its answer (own choice of order)
+-- the step that comes next in a request's service, before its answer
 pub record IsNextStep (g : Setting) (s : State) (r : Request) (e : Step) : Type 0 where
   pub plan : Plan
   pub wants : List Want
@@ -99,23 +99,23 @@ pub record ComesTo (g : Setting) (s : State) (r : Request) (v : Verdict) : Type 
   pub over : IsOver s wants
   pub may_say : MaySay g s r v
 
--- a request's service may end with an answer: with its verdict once it has come to it, by a failure at any place (own choice)
+-- a request's service may end with an answer: with its verdict once it has come to it, by a failure at any place
 abbrev pub MayEnd : Setting → State → Request → Answer → Type 0
 MayEnd g s r (Said v) = ComesTo g s r v
 MayEnd g s r OutOfMemory = Unit {0}
 MayEnd g s r (SourceFault name loader) = Unit {0}
 
--- one piece of a request's service: its next step, or its post (own choice)
+-- one piece of a request's service: its next step, or its post
 abbrev pub IsPiece : Setting → State → ℕ → Request → Step → Type 0
 IsPiece g s q r e = IsNextStep g s r e ⊎ ((a : Answer) × MayEnd g s r a × (e ≡ Post q a))
 
--- what was done for a request so far: each of these steps was the next one where it was made (own choice)
+-- what was done for a request so far: each of these steps was the next one where it was made
 abbrev pub IsBegun : Setting → Request → State → List Step → Type 0
 IsBegun g r s [] = Unit {0}
 IsBegun g r s (e ∷ es) = IsNextStep g s r e × IsBegun g r (after s e) es
 
 -- these steps serve the request of this number: one after another what comes next, and then the post of its answer;
--- a service that is broken off has a beginning of these, and then the post of the failure (own choice)
+-- a service that is broken off has a beginning of these, and then the post of the failure
 pub record Serves (g : Setting) (q : ℕ) (r : Request) (s : State) (es : List Step) : Type 0 where
   pub steps : List Step
   pub begun : IsBegun g r s steps
@@ -131,13 +131,13 @@ pub record IsNextNeed (w : World) (s : State) (r : Request) (need : Need) : Type
 
 -- ---- the service of a script
 
--- the next rounds begin, as long as nothing of the round is unposted and there is a later one (own choice)
+-- the next rounds begin, as long as nothing of the round is unposted and there is a later one
 abbrev pub PassesRounds : Setting → State → List Step → Type 0
 PassesRounds g s [] = MayGoOn g s → ⊥
 PassesRounds g s (e ∷ es) = (e ≡ NextRound) × MayGoOn g s × PassesRounds g (after s NextRound) es
 
 -- these steps serve these requests one after another, the first of which has this number: as soon as nothing of a round
--- is unposted the next one begins, over empty rounds too, before the first request, between and after the last (own choice)
+-- is unposted the next one begins, over empty rounds too, before the first request, between and after the last
 abbrev pub AllServed : Setting → ℕ → State → List Scheduled → List Step → Type 0
 AllServed g q s [] es = PassesRounds g s es
 AllServed g q s (r ∷ rs) es =

@@ -46,7 +46,7 @@ pub record Settled : Type 0 where
   pub index : ℕ
   pub verdict : Verdict
 
--- the answer of a request, by its number (own choice)
+-- the answer of a request, by its number
 pub record Posted : Type 0 where
   pub request : ℕ
   pub answer : Answer
@@ -60,7 +60,7 @@ pub record State : Type 0 where
   pub answers : List Posted
   pub round : ℕ
 
--- nothing yet, in the first round (own choice)
+-- nothing yet, in the first round
 abbrev pub start : State
 start = record { records = []; equalities = []; settled = []; prepared = []; answers = []; round = 0 }
 
@@ -76,7 +76,7 @@ IsRecorded s c = recorded s.records c.loader c.name ≡ Some c.loader
 abbrev pub settled_to : List Settled → Class → ℕ → Option Verdict
 settled_to rs c i = option_map (λ r. r.verdict) (find (λ r. same_class r.class c && (r.index == i)) rs)
 
--- what a request is answered, if it is (own choice)
+-- what a request is answered, if it is
 abbrev pub answer_to : List Posted → ℕ → Option Answer
 answer_to ps q = option_map (λ p. p.answer) (find (λ p. p.request == q) ps)
 
@@ -160,7 +160,7 @@ abbrev pub AllMet : State → List Need → Type 0
 AllMet s [] = Unit {0}
 AllMet s (n ∷ ns) = Met s n × AllMet s ns
 
--- a need stands in a list, and all before it are met (own choice: needs are made in order)
+-- a need stands in a list, and all before it are met (5.3.5, 5.4.3: needs are made in order)
 abbrev pub IsNext : State → List Need → Need → Type 0
 IsNext s [] need = ⊥
 IsNext s (n ∷ ns) need = (n ≡ need) ⊎ (Met s n × IsNext s ns need)

@@ -1,11 +1,11 @@
 -- Laws of trusted tables, under any source (JVMS SE 8, 5.3 to 5.4.3): each is the contract of a function without a body.
-use Rattle.std.specs.Prelude.{◌≡◌, ℕ, ◌+◌, List, [], ◌∷◌, ◌++◌, Some, ◌⊎◌, Contains, slice_get, ◌≢◌}
+use Rattle.std.specs.Prelude.{◌≡◌, ℕ, ◌+◌, List, [], ◌∷◌, ◌++◌, Some, ◌⊎◌, Contains, slice_get, ◌≢◌, None}
 use Rattle.cl_classfile.specs.Files.{Name}
 use Rattle.cl_model.specs.declared.class.Class.{Class}
 use Rattle.cl_model.specs.Classes.{class}
 use Rattle.cl_model.specs.Plans.{load, Load, Resolve, Link}
-use Rattle.cl_model.specs.States.{State, start, IsClass, Answer, settled_to, Verdict, recorded, IsLinked, BadEntry, ArrayMember, Said}
-use Rattle.cl_model.specs.Machine.{Setting, Scheduled, Step, Post, May, state_after, Run, IsClosed, after, Define}
+use Rattle.cl_model.specs.States.{State, start, IsClass, Answer, settled_to, Verdict, recorded, IsLinked, BadEntry, ArrayMember, Said, IsRecorded}
+use Rattle.cl_model.specs.Machine.{Setting, Scheduled, Step, Post, May, state_after, Run, IsClosed, after, Define, Initiate, Settle, Prepare, NextRound, Stray, EndsRound}
 use Rattle.cl_model.specs.Tables.{Records, Allows, Orderly, IsTrusted, IsConsistent, Stands}
 
 -- trusted tables are consistent (5.3, 5.3.4)
@@ -36,11 +36,11 @@ RunsAreTrusted = (g : Setting) (es : List Step) → Run g start es → IsTrusted
 abbrev pub DefinedOnce : Type 0
 DefinedOnce = (script : List Scheduled) (rounds : ℕ) (es fs : List Step) (c : Class) → IsTrusted script rounds (es ++ Define c ∷ fs) → Stands es (Define c) ⊎ Stands fs (Define c) → ⊥
 
--- a request is answered once (own choice)
+-- a request is answered once
 abbrev pub AnsweredOnce : Type 0
 AnsweredOnce = (script : List Scheduled) (rounds : ℕ) (es fs : List Step) (q : ℕ) (a b : Answer) → IsTrusted script rounds (es ++ Post q a ∷ fs) → Stands es (Post q b) ⊎ Stands fs (Post q b) → ⊥
 
--- an answer is posted in the round of its request (own choice)
+-- an answer is posted in the round of its request
 abbrev pub ToldInRound : Type 0
 ToldInRound = (script : List Scheduled) (rounds : ℕ) (es fs : List Step) (q : ℕ) (a : Answer) (r : Scheduled) → IsTrusted script rounds (es ++ Post q a ∷ fs) → slice_get script q ≡ Some r → r.round ≡ (state_after start es).round
 
@@ -61,3 +61,31 @@ abbrev pub ToldIsPrepared : Type 0
 ToldIsPrepared =
     (script : List Scheduled) (rounds : ℕ) (es fs : List Step) (q : ℕ) (r : Scheduled) (loader : ℕ) (name : Name) (c : Class) → IsTrusted script rounds (es ++ Post q (Said (IsLinked c)) ∷ fs) → slice_get script q ≡ Some r
     → r.request ≡ Link loader name → Records (state_after start es) loader name c × Contains (state_after start es).prepared c
+
+-- an initiating record stands for a class that its own loader recorded, and its loader had none of the name (5.3)
+abbrev pub InitiatedOverRecord : Type 0
+InitiatedOverRecord =
+    (script : List Scheduled) (rounds : ℕ) (es fs : List Step) (name : Name) (place loader : ℕ) → IsTrusted script rounds (es ++ Initiate name place loader ∷ fs)
+    → (recorded (state_after start es).records place name ≡ Some place) × (recorded (state_after start es).records loader name ≡ None)
+
+-- what is settled is a reference of a recorded class, once, and to a verdict that settles (5.4.3)
+abbrev pub SettledOnTables : Type 0
+SettledOnTables =
+    (script : List Scheduled) (rounds : ℕ) (es fs : List Step) (d : Class) (i : ℕ) (v : Verdict) → IsTrusted script rounds (es ++ Settle d i v ∷ fs)
+    → IsRecorded (state_after start es) d × (settled_to (state_after start es).settled d i ≡ None) × (v ≢ BadEntry) × (v ≢ ArrayMember)
+
+-- what is prepared is a recorded class, once (5.4.2)
+abbrev pub PreparedOnTables : Type 0
+PreparedOnTables =
+    (script : List Scheduled) (rounds : ℕ) (es fs : List Step) (c : Class) → IsTrusted script rounds (es ++ Prepare c ∷ fs)
+    → IsRecorded (state_after start es) c × (Contains (state_after start es).prepared c → ⊥)
+
+-- a round begins where another has ended
+abbrev pub RoundsOnTables : Type 0
+RoundsOnTables =
+    (script : List Scheduled) (rounds : ℕ) (es fs : List Step) → IsTrusted script rounds (es ++ NextRound ∷ fs)
+    → EndsRound script rounds (state_after start es)
+
+-- no request is posted without an answer
+abbrev pub NoStray : Type 0
+NoStray = (script : List Scheduled) (rounds : ℕ) (es fs : List Step) → IsTrusted script rounds (es ++ Stray ∷ fs) → ⊥

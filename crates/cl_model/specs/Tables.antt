@@ -35,7 +35,7 @@ BearsAnswer s r (Said v) = Bears s r v
 BearsAnswer s r OutOfMemory = Unit {0}
 BearsAnswer s r (SourceFault name loader) = Unit {0}
 
--- a request of the round has no answer, and the tables bear this one (own choice)
+-- a request of the round has no answer, and the tables bear this one
 pub record MayTell (script : List Scheduled) (s : State) (q : ℕ) (a : Answer) : Type 0 where
   pub scheduled : Scheduled
   pub asked : slice_get script q ≡ Some scheduled
@@ -68,7 +68,7 @@ abbrev pub NoneTwice : List Record → List Record → Type 0
 NoneTwice before [] = Unit {0}
 NoneTwice before (r ∷ rs) = (recorded before r.loader r.name ≡ None) × NoneTwice (before ++ r ∷ []) rs
 
--- none of these answers a request that is answered before it (own choice)
+-- none of these answers a request that is answered before it
 abbrev pub NoneAgain : List Posted → List Posted → Type 0
 NoneAgain before [] = Unit {0}
 NoneAgain before (p ∷ ps) = (answer_to before p.request ≡ None) × NoneAgain (before ++ p ∷ []) ps
@@ -81,7 +81,7 @@ pub record IsConsistent (s : State) : Type 0 where
   pub unviolated : Violated s → ⊥
   pub answered_once : NoneAgain [] s.answers
 
--- a step stands in a list (own choice of form)
+-- a step stands in a list
 abbrev pub Stands : List Step → Step → Type 0
 Stands [] e = ⊥
 Stands (f ∷ es) e = (f ≡ e) ⊎ Stands es e

@@ -1,4 +1,4 @@
--- Which loaders needs, verdicts, answers and events name: all of them are below a count (own choice of form).
+-- Which loaders needs, verdicts, answers and events name: all of them are below a count.
 use Rattle.std.specs.Prelude.{ℕ, ◌<◌, ⊤, List, [], ◌∷◌}
 use Rattle.cl_names.specs.Escape.{escaped}
 use Rattle.cl_model.specs.declared.need.Equality.{Equality}
@@ -12,7 +12,7 @@ use Rattle.cl_model.specs.declared.event.Event.{Event}
 use Rattle.cl_model.specs.declared.event.Event.TheVariants as events
 use Rattle.cl_model.specs.Lines.{Text, loader_text, words}
 
--- the name of an equality and its two loaders, as a line has them (own choice)
+-- the name of an equality and its two loaders, as a line has them
 abbrev pub equality_text : List Text → Equality → Text
 equality_text names e = words (escaped e.name ∷ loader_text names e.one ∷ loader_text names e.other ∷ [])
 

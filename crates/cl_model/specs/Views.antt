@@ -27,16 +27,16 @@ error_of kinds.IncompatibleClassChangeError c = IncompatibleClassChange c
 error_of kinds.NoSuchFieldError c = NoSuchField c
 error_of kinds.NoSuchMethodError c = NoSuchMethod c
 
--- the letter of a primitive type (4.3.2)
+-- the letter of a primitive type, B C D F I J S Z, as its byte (4.3.2)
 abbrev pub letter_of : Primitive → ℕ
-letter_of primitives.Byte = 66
-letter_of primitives.Char = 67
-letter_of primitives.Double = 68
-letter_of primitives.Float = 70
-letter_of primitives.Int = 73
-letter_of primitives.Long = 74
-letter_of primitives.Short = 83
-letter_of primitives.Boolean = 90
+letter_of primitives.Byte = 0x42
+letter_of primitives.Char = 0x43
+letter_of primitives.Double = 0x44
+letter_of primitives.Float = 0x46
+letter_of primitives.Int = 0x49
+letter_of primitives.Long = 0x4a
+letter_of primitives.Short = 0x53
+letter_of primitives.Boolean = 0x5a
 
 -- a need, as the machine has it (5.3, 5.3.4)
 abbrev pub need_of : needs.Need → Need
@@ -56,14 +56,14 @@ verdict_of verdicts.TheVariants.ArrayMember = ArrayMember
 verdict_of (verdicts.TheVariants.Error kind c) = Wrong (error_of kind c)
 verdict_of (verdicts.TheVariants.Linkage n) = Linkage (need_of n)
 
--- an answer; what is shared reads as said (own choice)
+-- an answer; what is shared reads as said
 abbrev pub answer_of : answers.Answer → Answer
 answer_of (answers.TheVariants.Said v) = Said (verdict_of v)
 answer_of (answers.TheVariants.Shared s) = Said (verdict_of s.value.verdict)
 answer_of answers.TheVariants.Memory = OutOfMemory
 answer_of (answers.TheVariants.SourceFault name loader) = SourceFault name loader
 
--- the answers by the numbers of their requests, where there is one (own choice)
+-- the answers by the numbers of their requests, where there is one
 abbrev pub answers_of : List (Option answers.Answer) → List (Option Answer)
 answers_of given = map (option_map answer_of) given
 
@@ -73,12 +73,12 @@ request_of (requests.TheVariants.Load loader name) = Load loader name
 request_of (requests.TheVariants.Resolve loader name index) = Resolve loader name index
 request_of (requests.TheVariants.Link loader name) = Link loader name
 
--- the post of a request with its answer (own choice)
+-- the post of a request with its answer
 abbrev pub post_of : ℕ → Option Answer → Step
 post_of q None = Stray
 post_of q (Some a) = Post q a
 
--- the answer at a request's number (own choice)
+-- the answer at a request's number
 abbrev pub answer_at : List (Option Answer) → ℕ → Option Answer
 answer_at given q = option_and_then (λ a. a) (slice_get given q)
 
@@ -92,11 +92,11 @@ step_of given (events.TheVariants.Prepare c) = Prepare c
 step_of given events.TheVariants.NextRound = NextRound
 step_of given (events.TheVariants.Post q) = post_of q (answer_at given q)
 
--- the steps that a history tells, where a post's answer stands in the answers at its number (own choice)
+-- the steps that a history tells, where a post's answer stands in the answers at its number
 abbrev pub steps_of : List (Option Answer) → List events.Event → List Step
 steps_of given history = map (step_of given) history
 
--- an event that is no post of this request (own choice)
+-- an event that is no post of this request
 abbrev pub IsOther : ℕ → events.Event → Type 0
 IsOther q (events.TheVariants.Define c) = Unit {0}
 IsOther q (events.TheVariants.Initiate c loader) = Unit {0}

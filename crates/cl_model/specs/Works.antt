@@ -15,11 +15,11 @@ pub record Made (A : Type 0) : Type 0 where
   pub asked : List Ask
   pub ends : Result A Error
 
--- None is work that a height did not reach the end of (own choice: recursion by heights)
+-- None is work that a height did not reach the end of (recursion is by heights)
 abbrev pub Work : Type 0 → Type 0
 Work A = Option (Made A)
 
--- an end, without a need (own choice of form)
+-- an end, without a need
 abbrev pub done : {A : Type 0} → A → Work A
 done a = Some (record { needs = []; asked = []; ends = Ok a })
 
@@ -35,21 +35,21 @@ need ns = Some (record { needs = ns; asked = []; ends = Ok tt })
 abbrev pub ask : ℕ → Name → Work (Unit {0})
 ask loader name = Some (record { needs = []; asked = record { loader = loader; name = name } ∷ []; ends = Ok tt })
 
--- the end, or this error (own choice of form)
+-- the end, or this error
 abbrev pub or_fail : {A : Type 0} → Error → Option A → Work A
 or_fail e None = fail e
 or_fail e (Some a) = done a
 
--- the error, if there is one (own choice of form)
+-- the error, if there is one
 abbrev pub unless_wrong : Option Error → Work (Unit {0})
 unless_wrong None = done tt
 unless_wrong (Some e) = fail e
 
--- a value, or its error (own choice of form)
+-- a value, or its error
 abbrev pub of_result : {A : Type 0} → Result A Error → Work A
 of_result r = Some (record { needs = []; asked = []; ends = r })
 
--- after what was made (own choice of form)
+-- after what was made
 abbrev pub after_made : {B : Type 0} → List Need → List Ask → Made B → Made B
 after_made ns asked m = record { needs = ns ++ m.needs; asked = asked ++ m.asked; ends = m.ends }
 
@@ -58,8 +58,7 @@ abbrev pub go_on : {A B : Type 0} → List Need → List Ask → Result A Error 
 go_on ns asked (Err e) f = Some (record { needs = ns; asked = asked; ends = Err e })
 go_on ns asked (Ok a) f = option_map (after_made ns asked) (f a)
 
--- one work, and then what follows from its end (own choice of form)
--- work, and then the work that its end leads to (own choice)
+-- work, and then the work that its end leads to
 infixl 10 ◌>>=◌
 abbrev pub ◌>>=◌ : {A B : Type 0} → Work A → (A → Work B) → Work B
 None >>= f = None

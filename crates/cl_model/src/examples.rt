@@ -1,19 +1,18 @@
 //! Worked examples, computed from the definitions.
 
-ghost use Rattle.std.specs.Prelude.{◌≡◌, ℕ, List, ◌∷◌, ◌++◌, [], Option, Some, None, Err, option_map, codes};
+ghost use Rattle.std.specs.Prelude.{◌≡◌, ◌∷◌, ◌++◌, [], Some, None, Err, codes};
 ghost use Rattle.cl_model.specs.Homes.{home};
-ghost use Rattle.cl_model.specs.Content.{content_at};
-ghost use Rattle.cl_model.specs.Classes.{class, file_of, ClassNotFound, NoClassDef, ClassFormat, UnsupportedVersion, ClassCircularity, IncompatibleClassChange, IllegalAccess, NoSuchField, NoSuchMethod};
-ghost use Rattle.cl_model.specs.States.{State, Joined, Verdict, Entry, Equal, IsClass, IsArrayOf, IsArrayOfBase, IsField, IsMethod, IsLinked, Wrong, BadEntry, ArrayMember, Linkage, Said, OutOfMemory, SourceFault, start, settled_to, answer_to, recorded, IsNext};
-ghost use Rattle.cl_model.specs.Machine.{Define, Initiate, Constrain, Settle, Prepare, Post, NextRound, Stray, May, MayDefine, MayInitiate, MayConstrain, MaySettle, MayPrepare, Run, AnswersPlan, MayPost, MayGoOn, after, state_after};
-ghost use Rattle.cl_model.specs.Lines.{line, verdict_text, answer_text, answer_line};
-ghost use Rattle.cl_model.specs.Plans.{plan, cost};
-ghost use Rattle.cl_model.specs.Examples.{boot, app, plug, kid, object, names, in_boot, in_app, in_plug, in_kid, taking_none, taking_t, an_int, an_array, load_of, resolve_of, link_of, with_bytes, entry, equal, ends_at, needs_at, more_at};
-ghost use Rattle.cl_model.specs.ExampleLoads.{copies, bad, circle, missing, importing, imports, misfits, two_parents};
+ghost use Rattle.cl_model.specs.Classes.{file_of, ClassNotFound, NoClassDef, ClassFormat, UnsupportedVersion, ClassCircularity, IncompatibleClassChange, IllegalAccess, NoSuchField, NoSuchMethod};
+ghost use Rattle.cl_model.specs.States.{State, Joined, Entry, IsClass, IsArrayOf, IsArrayOfBase, IsField, IsMethod, IsLinked, Wrong, BadEntry, ArrayMember, Linkage, Said, OutOfMemory, SourceFault, start, settled_to, answer_to, recorded, IsNext};
+ghost use Rattle.cl_model.specs.Machine.{Define, Initiate, Constrain, Settle, Prepare, Post, NextRound, Stray, May, MayDefine, MayInitiate, MayConstrain, MaySettle, MayPrepare, Run, MayPost, MayGoOn, after};
+ghost use Rattle.cl_model.specs.Lines.{line};
+ghost use Rattle.cl_model.specs.Examples.{boot, app, plug, kid, fifth, object, names, the_root, in_boot, in_app, in_plug, in_kid, in_fifth, taking_none, taking_t, an_int, an_array, int_letter, long_letter, load_of, resolve_of, link_of, entry, own, root_record, root_for, through_app, equal, same_t, same_v, same_both, ends_at, needs_at, HasBytes, Loads, LoadFails, LoadNeeds, Resolves, ResolveNeeds, Links, LinkNeeds, Costs};
+ghost use Rattle.cl_model.specs.ExampleLoads.{copies, twice, bad, circle, missing, importing, imports, misfits, two_parents};
 ghost use Rattle.cl_model.specs.ExampleLookups.{chosen, found, from_d, from_r};
-ghost use Rattle.cl_model.specs.ExampleReferences.{service, three_users, hidden, arrays, references};
+ghost use Rattle.cl_model.specs.ExampleReferences.{service, three_users, hidden, arrays, from_u, NeedsPast};
 ghost use Rattle.cl_model.specs.ExampleOverriding.{overriding, declared, through_kid, whole_lineage, three_loaders, packages};
-ghost use Rattle.cl_model.specs.ExampleRuns.{over, both_defined, constrained, across, in_rounds, serving, loading, resolving, linking, of_svc, unsettled, unprepared, ended, resolved_in_kid, overridden_alone, below_hidden, joined_with_kid};
+ghost use Rattle.cl_model.specs.ExampleRuns.{over, standing, Answered, of_use, t_refused, kid_refused, both_defined, both_stand, constrained, across, in_rounds, two_rounds, serving, loading, resolving, linking, of_svc, unsettled, unprepared, unconstrained, ended, resolved_in_kid, overridden_alone, below_hidden, joined_with_kid};
+ghost use Rattle.cl_model.specs.ExampleTexts.{spaced, Prints, IsCalled, PrintsAnswer, PrintsLine, PrintsStep};
 
 /// A search goes to the parent first, or to the own content first; a `java/` name is searched in
 /// the first loader alone; what an import takes hides the own content.
@@ -22,80 +21,81 @@ pub fn probe_order()
     ensures child_first { home copies plug (codes "p/T") ≡ Some plug }
     ensures platform { home copies plug object ≡ Some boot }
     ensures absent { home copies kid (codes "p/X") ≡ None }
-    ensures no_loader { home copies 4 object ≡ None }
-    ensures imported { home importing 4 (codes "q/X") ≡ Some boot }
-    ensures hidden { home importing 4 (codes "q/Y") ≡ None }
-    ensures not_imported { home importing 4 (codes "p/T") ≡ Some 4 }
-    ensures first_parent { home two_parents 4 (codes "p/T") ≡ Some app }
-    ensures second_parent { home two_parents 4 (codes "p/V") ≡ Some plug }
+    ensures no_loader { home copies fifth object ≡ None }
+    ensures imported { home importing fifth (codes "q/X") ≡ Some boot }
+    ensures hidden { home importing fifth (codes "q/Y") ≡ None }
+    ensures not_imported { home importing fifth (codes "p/T") ≡ Some fifth }
+    ensures first_parent { home two_parents fifth (codes "p/T") ≡ Some app }
+    ensures second_parent { home two_parents fifth (codes "p/V") ≡ Some plug }
     ensures platform_prefix { home two_parents app (codes "javax/T") ≡ Some app }
 {}
 
 /// Of several entries for one loader and name the first counts; what a search does not find at a
 /// loader is no class of it, though its content has the name.
 pub fn told_bytes()
-    ensures first_entry { content_at (with_bytes app "p/T" (7 ∷ []) copies).content app (codes "p/T") ≡ Some (7 ∷ []) }
-    ensures other_loader { content_at (with_bytes app "p/T" (7 ∷ []) copies).content plug (codes "p/T") ≡ Some (3 ∷ []) }
-    ensures not_at_home { file_of importing (class (codes "q/Y") 4) ≡ Err (NoClassDef (class (codes "q/Y") 4)) }
+    ensures first_entry { HasBytes twice app "p/T" (7 ∷ []) }
+    ensures other_loader { HasBytes twice plug "p/T" (3 ∷ []) }
+    ensures not_at_home { file_of importing (in_fifth "q/Y") ≡ Err (NoClassDef (in_fifth "q/Y")) }
 {}
 
 /// The first import whose prefix begins the name decides, and never of a `java/` name; bytes that
 /// name another class, and bytes of another version, are the answer of their home.
 pub fn first_import_decides()
-    ensures first { ends_at imports 2 (load_of 4 "p/T") ≡ Some (Wrong (ClassNotFound (class (codes "p/T") 4))) }
-    ensures platform { ends_at imports 2 (load_of 4 "java/x/Y") ≡ Some (Wrong (ClassNotFound (class (codes "java/x/Y") 4))) }
-    ensures other_name { ends_at imports 2 (load_of 4 "q/B") ≡ Some (Wrong (NoClassDef (in_app "q/B"))) }
-    ensures version { ends_at imports 2 (load_of 4 "q/V") ≡ Some (Wrong (UnsupportedVersion (in_app "q/V"))) }
+    ensures first { LoadFails imports fifth "p/T" (ClassNotFound (in_fifth "p/T")) }
+    ensures platform { LoadFails imports fifth "java/x/Y" (ClassNotFound (in_fifth "java/x/Y")) }
+    ensures other_name { LoadFails imports fifth "q/B" (NoClassDef (in_app "q/B")) }
+    ensures version { LoadFails imports fifth "q/V" (UnsupportedVersion (in_app "q/V")) }
 {}
 
 /// The root class.
 pub fn object_bundle()
-    ensures needs { needs_at copies 2 (load_of boot "java/lang/Object") ≡ Some (Entry boot object boot ∷ []) }
-    ensures ends { ends_at copies 2 (load_of boot "java/lang/Object") ≡ Some (IsClass (in_boot "java/lang/Object")) }
-    ensures cost { option_map (cost copies) (plan copies 2 (load_of boot "java/lang/Object")) ≡ Some 10 }
+    ensures needs { LoadNeeds copies boot "java/lang/Object" (root_record boot ∷ []) }
+    ensures ends { Loads copies boot "java/lang/Object" (IsClass the_root) }
+    ensures cost { Costs copies (load_of boot "java/lang/Object") 10 }
 {}
 
 /// Two loaders each define a class of one name.
 pub fn two_copies()
-    ensures plug { needs_at copies 3 (load_of plug "p/T") ≡ Some (Entry boot object boot ∷ Entry plug object boot ∷ entry plug "p/T" plug ∷ []) }
-    ensures app { needs_at copies 3 (load_of app "p/T") ≡ Some (Entry boot object boot ∷ Entry app object boot ∷ entry app "p/T" app ∷ []) }
-    ensures in_plug { ends_at copies 3 (load_of plug "p/T") ≡ Some (IsClass (in_plug "p/T")) }
-    ensures in_app { ends_at copies 3 (load_of app "p/T") ≡ Some (IsClass (in_app "p/T")) }
+    ensures plug { LoadNeeds copies plug "p/T" (root_for plug ++ own plug "p/T" ∷ []) }
+    ensures app { LoadNeeds copies app "p/T" (root_for app ++ own app "p/T" ∷ []) }
+    ensures in_plug { Loads copies plug "p/T" (IsClass (in_plug "p/T")) }
+    ensures in_app { Loads copies app "p/T" (IsClass (in_app "p/T")) }
 {}
 
 /// A bad file is the answer: a later loader that has a good one is not asked.
 pub fn bad_file_decides()
-    ensures needs { needs_at bad 3 (load_of kid "p/B") ≡ Some [] }
-    ensures ends { ends_at bad 3 (load_of kid "p/B") ≡ Some (Wrong (ClassFormat (in_app "p/B"))) }
+    ensures needs { LoadNeeds bad kid "p/B" [] }
+    ensures ends { LoadFails bad kid "p/B" (ClassFormat (in_app "p/B")) }
 {}
 
 /// A circle is the error of the class that is met again, from wherever it is entered.
 pub fn class_circle()
-    ensures first { ends_at circle 4 (load_of app "p/A") ≡ Some (Wrong (ClassCircularity (in_app "p/A"))) }
-    ensures second { ends_at circle 4 (load_of app "p/B") ≡ Some (Wrong (ClassCircularity (in_app "p/B"))) }
-    ensures below { ends_at circle 4 (load_of app "p/C") ≡ Some (Wrong (ClassCircularity (in_app "p/A"))) }
-    ensures needs { needs_at circle 4 (load_of app "p/C") ≡ Some [] }
+    ensures first { LoadFails circle app "p/A" (ClassCircularity (in_app "p/A")) }
+    ensures second { LoadFails circle app "p/B" (ClassCircularity (in_app "p/B")) }
+    ensures below { LoadFails circle app "p/C" (ClassCircularity (in_app "p/A")) }
+    ensures needs { LoadNeeds circle app "p/C" [] }
 {}
 
 /// The error of the first supertype is the answer, after the needs of those before it.
 pub fn first_supertype_error()
-    ensures needs { needs_at missing 3 (load_of app "p/A") ≡ Some (Entry boot object boot ∷ Entry app object boot ∷ []) }
-    ensures ends { ends_at missing 3 (load_of app "p/A") ≡ Some (Wrong (NoClassDef (class (codes "p/I") app))) }
+    ensures needs { LoadNeeds missing app "p/A" (root_for app) }
+    ensures ends { LoadFails missing app "p/A" (NoClassDef (in_app "p/I")) }
 {}
 
 /// A supertype has to be accessible, and of the kind that its role asks for; access is told first.
 pub fn supertypes_fit()
-    ensures inaccessible { ends_at misfits 3 (load_of plug "p/K") ≡ Some (Wrong (IllegalAccess (in_app "p/H"))) }
-    ensures interface_above { ends_at misfits 3 (load_of app "p/L") ≡ Some (Wrong (IncompatibleClassChange (in_app "p/J"))) }
-    ensures class_implemented { ends_at misfits 3 (load_of app "p/N") ≡ Some (Wrong (IncompatibleClassChange (in_app "p/S"))) }
-    ensures access_first { ends_at misfits 3 (load_of plug "p/G") ≡ Some (Wrong (IllegalAccess (in_app "p/X"))) }
-    ensures loaded_before { needs_at misfits 3 (load_of plug "p/K") ≡ Some (Entry boot object boot ∷ Entry app object boot ∷ entry app "p/H" app ∷ entry plug "p/H" app ∷ []) }
+    ensures inaccessible { LoadFails misfits plug "p/K" (IllegalAccess (in_app "p/H")) }
+    ensures interface_above { LoadFails misfits app "p/L" (IncompatibleClassChange (in_app "p/J")) }
+    ensures implemented { LoadFails misfits app "p/N" (IncompatibleClassChange (in_app "p/S")) }
+    ensures access_first { LoadFails misfits plug "p/G" (IllegalAccess (in_app "p/X")) }
+    ensures loaded_before { LoadNeeds misfits plug "p/K" (through_app "p/H") }
 {}
 
-/// A class of package access is not accessible from a package of another loader; it is loaded all the same.
+/// A class of package access is not accessible from a package of another loader; it is loaded all
+/// the same.
 pub fn hidden_class()
-    ensures referred { ends_at hidden 3 (resolve_of plug "p/Peek" 1) ≡ Some (Wrong (IllegalAccess (in_app "p/Hid"))) }
-    ensures loaded { ends_at hidden 3 (load_of plug "p/Hid") ≡ Some (IsClass (in_app "p/Hid")) }
+    ensures referred { Resolves hidden plug "p/Peek" 1 (Wrong (IllegalAccess (in_app "p/Hid"))) }
+    ensures loaded { Loads hidden plug "p/Hid" (IsClass (in_app "p/Hid")) }
 {}
 
 /// A field is found in a superinterface before the superclass. Of two superinterface methods with
@@ -117,6 +117,7 @@ pub fn methods_of_classes()
     ensures of_superclass_interface { found 1 ≡ Some (IsMethod (in_app "p/J") (taking_none "m")) }
     ensures of_superclass { found 2 ≡ Some (IsMethod (in_app "p/S") (taking_none "a")) }
     ensures first_offered { found 4 ≡ Some (IsMethod (in_app "p/M") (taking_none "n")) }
+    ensures first_of_superclass { found 17 ≡ Some (IsMethod (in_app "p/M") (taking_none "n")) }
     ensures private_method { found 5 ≡ Some (Wrong (NoSuchMethod (in_app "p/C"))) }
     ensures static_method { found 6 ≡ Some (Wrong (NoSuchMethod (in_app "p/C"))) }
     ensures absent { found 12 ≡ Some (Wrong (NoSuchMethod (in_app "p/C"))) }
@@ -133,11 +134,11 @@ pub fn fields_of_classes()
 /// superinterfaces; a class's method is asked of no interface.
 pub fn methods_of_interfaces()
     ensures of_superinterface { found 7 ≡ Some (IsMethod (in_app "p/J") (taking_none "m")) }
-    ensures of_root { found 8 ≡ Some (IsMethod (in_boot "java/lang/Object") (taking_none "h")) }
+    ensures of_root { found 8 ≡ Some (IsMethod the_root (taking_none "h")) }
     ensures own { found 9 ≡ Some (IsMethod (in_app "p/I") (taking_none "f")) }
     ensures not_protected_of_root { found 10 ≡ Some (IsMethod (in_app "p/I") (taking_none "f")) }
     ensures not_static_of_root { found 15 ≡ Some (Wrong (NoSuchMethod (in_app "p/K"))) }
-    ensures root_before_superinterfaces { found 16 ≡ Some (IsMethod (in_boot "java/lang/Object") (taking_none "e")) }
+    ensures root_before_superinterfaces { found 16 ≡ Some (IsMethod the_root (taking_none "e")) }
     ensures as_class { found 11 ≡ Some (Wrong (IncompatibleClassChange (in_app "p/K"))) }
 {}
 
@@ -166,167 +167,180 @@ pub fn access_within_a_package()
 
 /// How references end, and the equalities of a found member's class with the class that names it.
 pub fn references_of_a_class()
-    ensures field { ends_at references 4 (resolve_of plug "q/U" 1) ≡ Some (IsField (in_app "p/F") (an_array "x")) }
-    ensures method { ends_at references 4 (resolve_of plug "q/U" 2) ≡ Some (IsMethod (in_app "p/F") (taking_t "m")) }
-    ensures no_class { ends_at references 4 (resolve_of plug "q/U" 3) ≡ Some (Wrong (NoClassDef (class (codes "p/Z") plug))) }
-    ensures hidden { ends_at references 4 (resolve_of plug "q/U" 4) ≡ Some (Wrong (IllegalAccess (in_app "p/H"))) }
-    ensures through_subclass { ends_at references 4 (resolve_of plug "q/U" 5) ≡ Some (Wrong (IllegalAccess (in_app "p/P"))) }
-    ensures of_base { ends_at references 4 (resolve_of plug "q/U" 6) ≡ Some (IsArrayOfBase 2 74) }
-    ensures absent { ends_at references 4 (resolve_of plug "q/U" 7) ≡ Some (Wrong (NoSuchMethod (in_plug "q/G"))) }
+    ensures field { from_u 1 ≡ Some (IsField (in_app "p/F") (an_array "x")) }
+    ensures method { from_u 2 ≡ Some (IsMethod (in_app "p/F") (taking_t "m")) }
+    ensures no_class { from_u 3 ≡ Some (Wrong (NoClassDef (in_plug "p/Z"))) }
+    ensures hidden { from_u 4 ≡ Some (Wrong (IllegalAccess (in_app "p/H"))) }
+    ensures through_subclass { from_u 5 ≡ Some (Wrong (IllegalAccess (in_app "p/P"))) }
+    ensures of_base { from_u 6 ≡ Some (IsArrayOfBase 2 long_letter) }
+    ensures absent { from_u 7 ≡ Some (Wrong (NoSuchMethod (in_plug "q/G"))) }
 {}
 
 /// What the same references need past the load of their class: loads, and where a member is found
 /// and accessible the equalities of its class with the class that names it.
 pub fn needs_of_references()
-    ensures field { more_at references 4 (resolve_of plug "q/U" 1) ≡ Some (Entry boot object boot ∷ Entry app object boot ∷ entry app "p/F" app ∷ entry plug "p/F" app ∷ equal "p/T" app plug ∷ []) }
-    ensures method { more_at references 4 (resolve_of plug "q/U" 2) ≡ Some (Entry boot object boot ∷ Entry app object boot ∷ entry app "p/F" app ∷ entry plug "p/F" app ∷ entry plug "q/G" plug ∷ equal "p/T" app plug ∷ []) }
-    ensures no_class { more_at references 4 (resolve_of plug "q/U" 3) ≡ Some [] }
-    ensures hidden { more_at references 4 (resolve_of plug "q/U" 4) ≡ Some (Entry boot object boot ∷ Entry app object boot ∷ entry app "p/H" app ∷ entry plug "p/H" app ∷ []) }
-    ensures through_subclass { more_at references 4 (resolve_of plug "q/U" 5) ≡ Some (Entry boot object boot ∷ Entry app object boot ∷ entry app "p/P" app ∷ entry plug "p/P" app ∷ entry plug "q/X" plug ∷ []) }
-    ensures of_base { more_at references 4 (resolve_of plug "q/U" 6) ≡ Some [] }
-    ensures absent { more_at references 4 (resolve_of plug "q/U" 7) ≡ Some (Entry boot object boot ∷ Entry app object boot ∷ entry app "p/F" app ∷ entry plug "p/F" app ∷ entry plug "q/G" plug ∷ []) }
+    ensures field { NeedsPast 1 (through_app "p/F" ++ same_t app plug ∷ []) }
+    ensures method { NeedsPast 2 (through_app "p/F" ++ own plug "q/G" ∷ same_t app plug ∷ []) }
+    ensures no_class { NeedsPast 3 [] }
+    ensures hidden { NeedsPast 4 (through_app "p/H") }
+    ensures through_subclass { NeedsPast 5 (through_app "p/P" ++ own plug "q/X" ∷ []) }
+    ensures of_base { NeedsPast 6 [] }
+    ensures absent { NeedsPast 7 (through_app "p/F" ++ own plug "q/G" ∷ []) }
 {}
 
 /// A method of package access is overridden from another package only through a third method
 /// between; an inherited method is made equal with the superinterface that wants it.
 pub fn preparation_constraints()
-    ensures apart { more_at overriding 4 (link_of plug "q/F") ≡ Some [] }
-    ensures through { more_at overriding 5 (link_of plug "q/C") ≡ Some (equal "p/T" app app ∷ equal "p/T" app plug ∷ equal "p/T" app plug ∷ []) }
-    ensures inherited { more_at overriding 4 (link_of plug "q/E") ≡ Some (equal "p/V" app plug ∷ []) }
-    ensures linked { ends_at overriding 4 (link_of plug "q/E") ≡ Some (IsLinked (in_plug "q/E")) }
-    ensures cost { option_map (cost overriding) (plan overriding 5 (link_of plug "q/C")) ≡ Some 31 }
+    ensures apart { LinkNeeds overriding plug "q/F" [] }
+    ensures through { LinkNeeds overriding plug "q/C" (
+        same_t app app ∷ same_t app plug ∷ same_t app plug ∷ []) }
+    ensures inherited { LinkNeeds overriding plug "q/E" (same_v app plug ∷ []) }
+    ensures linked { Links overriding plug "q/E" (IsLinked (in_plug "q/E")) }
+    ensures cost { Costs overriding (link_of plug "q/C") 31 }
 {}
 
 /// Private and static methods and constructors take no part; what a class declares is made equal
 /// with what it overrides, first in its superclasses, then in its superinterfaces; of an interface
 /// with its superinterfaces alone.
 pub fn declared_methods()
-    ensures implements { more_at declared 5 (link_of plug "q/A") ≡ Some (equal "p/V" app plug ∷ equal "p/T" app plug ∷ []) }
-    ensures of_interface { more_at declared 5 (link_of plug "q/I") ≡ Some (equal "p/V" app plug ∷ equal "p/T" app plug ∷ []) }
-    ensures extends { more_at declared 5 (link_of plug "q/B") ≡ Some (equal "p/V" app plug ∷ equal "p/T" app plug ∷ equal "p/V" app plug ∷ equal "p/T" app plug ∷ []) }
+    ensures implements { LinkNeeds declared plug "q/A" (same_both app plug) }
+    ensures of_interface { LinkNeeds declared plug "q/I" (same_both app plug) }
+    ensures extends { LinkNeeds declared plug "q/B" (same_both app plug ++ same_both app plug) }
 {}
 
 /// A private method is not inherited, and one that the class declares itself, also a private one,
 /// stands for none that is inherited; a superinterface that is met twice counts once.
 pub fn inherited_methods()
-    ensures private_above { more_at declared 5 (link_of plug "q/D") ≡ Some [] }
-    ensures private_own { more_at declared 5 (link_of plug "q/F") ≡ Some [] }
-    ensures of_superclass { more_at declared 5 (link_of plug "q/G") ≡ Some (equal "p/V" app app ∷ equal "p/T" app app ∷ []) }
-    ensures each_once { more_at declared 5 (link_of plug "q/K") ≡ Some (equal "p/V" app plug ∷ equal "p/T" app plug ∷ equal "p/V" plug plug ∷ equal "p/T" plug plug ∷ equal "p/V" app plug ∷ equal "p/T" app plug ∷ equal "p/T" boot plug ∷ []) }
-    ensures linked { ends_at declared 5 (link_of plug "q/G") ≡ Some (IsLinked (in_plug "q/G")) }
+    ensures private_above { LinkNeeds declared plug "q/D" [] }
+    ensures private_own { LinkNeeds declared plug "q/F" [] }
+    ensures of_superclass { LinkNeeds declared plug "q/G" (same_both app app) }
+    ensures each_once { LinkNeeds declared plug "q/K" (
+        same_both app plug ++ same_both plug plug ++ same_both app plug ++ same_t boot plug ∷ []) }
+    ensures linked { Links declared plug "q/G" (IsLinked (in_plug "q/G")) }
 {}
 
 /// The inherited method and the superinterface are of two loaders, neither the class's own; an
 /// interface inherits none.
 pub fn inherited_across_loaders()
-    ensures of_class { more_at through_kid 4 (link_of kid "r/C") ≡ Some (equal "p/T" boot app ∷ []) }
-    ensures of_interface { more_at through_kid 4 (link_of kid "r/J") ≡ Some [] }
+    ensures of_class { LinkNeeds through_kid kid "r/C" (same_t boot app ∷ []) }
+    ensures of_interface { LinkNeeds through_kid kid "r/J" [] }
 {}
 
 /// A link has the constraints of the whole lineage, supertypes first.
 pub fn whole_lineages()
-    ensures root_above { more_at whole_lineage 4 (link_of plug "q/J") ≡ Some [] }
-    ensures supertypes_first { more_at whole_lineage 5 (link_of plug "q/C") ≡ Some (equal "p/T" app plug ∷ equal "p/V" app plug ∷ []) }
+    ensures root_above { LinkNeeds whole_lineage plug "q/J" [] }
+    ensures in_order { LinkNeeds whole_lineage plug "q/C" (same_t app plug ∷ same_v app plug ∷ []) }
 {}
 
 /// Of what a class overrides the nearest superclass comes first, then the farther ones, then the
 /// superinterfaces that declare the method, and last what it inherits for its superinterfaces;
 /// static methods, of either side, take no part.
 pub fn constraints_in_order()
-    ensures declared_and_inherited { more_at three_loaders 5 (link_of plug "q/C") ≡ Some (equal "p/T" boot app ∷ equal "p/T" app plug ∷ equal "p/T" boot plug ∷ equal "p/T" boot plug ∷ equal "p/V" boot app ∷ []) }
-    ensures below { more_at three_loaders 6 (link_of plug "q/D") ≡ Some (equal "p/T" boot app ∷ equal "p/T" app plug ∷ equal "p/T" boot plug ∷ equal "p/T" boot plug ∷ equal "p/V" boot app ∷ equal "p/T" boot plug ∷ equal "p/V" boot app ∷ []) }
+    ensures declared_and_inherited { LinkNeeds three_loaders plug "q/C" (
+        same_t boot app ∷ same_t app plug ∷ same_t boot plug ∷ same_t boot plug
+        ∷ same_v boot app ∷ []) }
+    ensures below { LinkNeeds three_loaders plug "q/D" (
+        same_t boot app ∷ same_t app plug ∷ same_t boot plug ∷ same_t boot plug
+        ∷ same_v boot app ∷ same_t boot plug ∷ same_v boot app ∷ []) }
 {}
 
 /// Through a third method only where it is overridden itself and overrides the other.
 pub fn third_methods()
-    ensures third_not_overridden { more_at packages 5 (link_of plug "q/Y") ≡ Some (equal "p/T" app app ∷ []) }
-    ensures third_not_overriding { more_at packages 5 (link_of plug "q/Z") ≡ Some (equal "p/T" app plug ∷ []) }
+    ensures third_not_overridden { LinkNeeds packages plug "q/Y" (same_t app app ∷ []) }
+    ensures third_not_overriding { LinkNeeds packages plug "q/Z" (same_t app plug ∷ []) }
 {}
 
-/// Entries that are no reference, a method of an array, and arrays.
+/// Entries that are no reference, members of arrays, arrays, and a class.
 pub fn arrays_and_bad_entries()
-    ensures none { ends_at arrays 3 (resolve_of app "p/X" 0) ≡ Some BadEntry }
-    ensures past { ends_at arrays 3 (resolve_of app "p/X" 65535) ≡ Some BadEntry }
-    ensures member { ends_at arrays 3 (resolve_of app "p/X" 1) ≡ Some ArrayMember }
-    ensures of_class { ends_at arrays 3 (resolve_of app "p/X" 2) ≡ Some (IsArrayOf 2 (in_app "p/T")) }
-    ensures of_base { ends_at arrays 3 (resolve_of app "p/X" 3) ≡ Some (IsArrayOfBase 1 73) }
+    ensures none { Resolves arrays app "p/X" 0 BadEntry }
+    ensures past { Resolves arrays app "p/X" 65535 BadEntry }
+    ensures member { Resolves arrays app "p/X" 1 ArrayMember }
+    ensures member_of_classes { Resolves arrays app "p/X" 4 ArrayMember }
+    ensures field_of_classes { Resolves arrays app "p/X" 5 ArrayMember }
+    ensures of_class { Resolves arrays app "p/X" 2 (IsArrayOf 2 (in_app "p/T")) }
+    ensures plain_class { Resolves arrays app "p/X" 6 (IsClass (in_app "p/T")) }
+    ensures of_base { Resolves arrays app "p/X" 3 (IsArrayOfBase 1 int_letter) }
 {}
 
 /// The method of Svc in app, resolved from Use in plug: T is to be the same in both loaders.
 pub fn resolved_method()
-    ensures needs { needs_at service 3 (resolve_of plug "p/Use" 1) ≡ Some (Entry boot object boot ∷ Entry plug object boot ∷ entry plug "p/Use" plug ∷ Entry boot object boot ∷ Entry app object boot ∷ entry app "p/Svc" app ∷ entry plug "p/Svc" app ∷ equal "p/T" app plug ∷ []) }
-    ensures ends { ends_at service 3 (resolve_of plug "p/Use" 1) ≡ Some (IsMethod (in_app "p/Svc") (taking_t "m")) }
+    ensures needs { needs_at service (of_use plug) ≡ Some (
+        root_for plug ++ own plug "p/Use" ∷ through_app "p/Svc" ++ same_t app plug ∷ []) }
+    ensures ends { ends_at service (of_use plug) ≡ Some of_svc }
+    ensures cost { Costs service (of_use plug) 28 }
 {}
 
 /// An equality that would join two loaders with different classes is refused: it is the answer.
 pub fn equality_refused()
-    ensures { AnswersPlan (over service) (state_after start both_defined) (resolve_of plug "p/Use" 1) (Linkage (equal "p/T" app plug)) }
+    ensures { Answered service both_defined (of_use plug) t_refused }
 {}
 
 /// A record that would differ from that of a joined loader is refused: it is the answer.
 pub fn record_refused()
-    ensures resolved { AnswersPlan (over service) (state_after start constrained) (resolve_of plug "p/Use" 1) (IsMethod (in_app "p/Svc") (taking_t "m")) }
-    ensures loaded { AnswersPlan (over service) (state_after start constrained) (load_of app "p/T") (IsClass (in_app "p/T")) }
-    ensures refused { AnswersPlan (over service) (state_after start constrained) (load_of plug "p/T") (Linkage (entry plug "p/T" plug)) }
+    ensures resolved { Answered service constrained (of_use plug) of_svc }
+    ensures loaded { Answered service constrained (load_of app "p/T") (IsClass (in_app "p/T")) }
+    ensures refused { Answered service constrained (load_of plug "p/T") (Linkage (own plug "p/T")) }
 {}
 
 /// Two loaders that no equality names together are joined through a third.
 pub fn constraint_across_three()
-    ensures loaded { AnswersPlan (over three_users) (state_after start across) (load_of plug "p/T") (IsClass (in_plug "p/T")) }
-    ensures refused { AnswersPlan (over three_users) (state_after start across) (load_of kid "p/T") (Linkage (entry kid "p/T" kid)) }
+    ensures loaded { Answered three_users across (load_of plug "p/T") (IsClass (in_plug "p/T")) }
+    ensures refused { Answered three_users across (load_of kid "p/T") kid_refused }
 {}
 
 /// The line of each kind of step; a settled reference, a post and a round have none.
 #[tactic(auto, unfolding(cl_names::specs::Escape::escaped, cl_names::specs::Escape::units_of))]
 pub fn printed_steps()
-    ensures define { line names (Define (in_boot "java/lang/Object")) ≡ Some (codes "define java/lang/Object@boot") }
-    ensures initiate { line names (Initiate object boot plug) ≡ Some (codes "initiate java/lang/Object boot by plug") }
-    ensures constrain { line names (Constrain (codes "p/T") app plug) ≡ Some (codes "constrain p/T app plug") }
-    ensures prepare { line names (Prepare (in_app "p/A")) ≡ Some (codes "prepare p/A@app") }
+    ensures define { PrintsStep (Define the_root) "define java/lang/Object@boot" }
+    ensures initiate { PrintsStep (Initiate (codes "p/T") app plug) "initiate p/T app by plug" }
+    ensures constrain { PrintsStep (Constrain (codes "p/T") app plug) "constrain p/T app plug" }
+    ensures prepare { PrintsStep (Prepare (in_app "p/A")) "prepare p/A@app" }
     ensures settle { line names (Settle (in_app "p/A") 1 BadEntry) ≡ None }
     ensures posted { line names (Post 0 OutOfMemory) ≡ None }
     ensures next_round { line names NextRound ≡ None }
     ensures stray { line names Stray ≡ None }
-    ensures escaped_name { line names (Define (in_kid "p/A B")) ≡ Some (codes "define p/A\\u0020B@kid") }
+    ensures escaped_name { PrintsStep (Define (in_kid "p/A B")) "define p/A\\u0020B@kid" }
 {}
 
 /// The text of each kind of verdict that is no error.
 #[tactic(auto, unfolding(cl_names::specs::Escape::escaped, cl_names::specs::Escape::units_of))]
 pub fn printed_verdicts()
-    ensures of_class { verdict_text names (IsClass (in_plug "p/T")) ≡ codes "class p/T@plug" }
-    ensures array { verdict_text names (IsArrayOf 2 (in_app "p/T")) ≡ codes "array 2 p/T@app" }
-    ensures base_array { verdict_text names (IsArrayOfBase 1 73) ≡ codes "array 1 I" }
-    ensures field { verdict_text names (IsField (in_app "p/F") (an_array "x")) ≡ codes "field p/F@app x [Lp/T;" }
-    ensures method { verdict_text names (IsMethod (in_app "p/Svc") (taking_t "m")) ≡ codes "method p/Svc@app m (Lp/T;)V" }
-    ensures linked { verdict_text names (IsLinked (in_plug "q/A")) ≡ codes "linked q/A@plug" }
-    ensures bad_entry { verdict_text names BadEntry ≡ codes "BadEntry" }
-    ensures array_member { verdict_text names ArrayMember ≡ codes "ArrayMember" }
-    ensures record { verdict_text names (Linkage (entry plug "p/T" app)) ≡ codes "LinkageError record p/T@plug" }
-    ensures equality { verdict_text names (Linkage (equal "p/T" app plug)) ≡ codes "LinkageError equal p/T app plug" }
+    ensures of_class { Prints (IsClass (in_plug "p/T")) "class p/T@plug" }
+    ensures array { Prints (IsArrayOf 2 (in_app "p/T")) "array 2 p/T@app" }
+    ensures base_array { Prints (IsArrayOfBase 1 int_letter) "array 1 I" }
+    ensures field { Prints (IsField (in_app "p/F") (an_array "x")) "field p/F@app x [Lp/T;" }
+    ensures method { Prints of_svc "method p/Svc@app m (Lp/T;)V" }
+    ensures escaped { Prints (IsField (in_app "F") spaced) "field F@app x\\u0020y Lp/A\\u0020B;" }
+    ensures linked { Prints (IsLinked (in_plug "q/A")) "linked q/A@plug" }
+    ensures bad_entry { Prints BadEntry "BadEntry" }
+    ensures array_member { Prints ArrayMember "ArrayMember" }
+    ensures record { Prints (Linkage (entry plug "p/T" app)) "LinkageError record p/T@plug" }
+    ensures equality { Prints (Linkage (same_t app plug)) "LinkageError equal p/T app plug" }
 {}
 
 /// The text of each error: its name, and the class that it is about.
 #[tactic(auto, unfolding(cl_names::specs::Escape::escaped, cl_names::specs::Escape::units_of))]
 pub fn printed_errors()
-    ensures not_found { verdict_text names (Wrong (ClassNotFound (in_kid "p/T"))) ≡ codes "ClassNotFoundException p/T@kid" }
-    ensures no_definition { verdict_text names (Wrong (NoClassDef (in_app "q/B"))) ≡ codes "NoClassDefFoundError q/B@app" }
-    ensures format { verdict_text names (Wrong (ClassFormat (in_app "q/B"))) ≡ codes "ClassFormatError q/B@app" }
-    ensures version { verdict_text names (Wrong (UnsupportedVersion (in_app "q/V"))) ≡ codes "UnsupportedClassVersionError q/V@app" }
-    ensures circle { verdict_text names (Wrong (ClassCircularity (in_app "p/A"))) ≡ codes "ClassCircularityError p/A@app" }
-    ensures misfit { verdict_text names (Wrong (IncompatibleClassChange (in_app "p/J"))) ≡ codes "IncompatibleClassChangeError p/J@app" }
-    ensures access { verdict_text names (Wrong (IllegalAccess (in_app "p/H"))) ≡ codes "IllegalAccessError p/H@app" }
-    ensures field { verdict_text names (Wrong (NoSuchField (in_app "p/C"))) ≡ codes "NoSuchFieldError p/C@app" }
-    ensures method { verdict_text names (Wrong (NoSuchMethod (in_app "p/C"))) ≡ codes "NoSuchMethodError p/C@app" }
+    ensures whole { Prints (Wrong (ClassNotFound (in_kid "p/T"))) "ClassNotFoundException p/T@kid" }
+    ensures not_found { IsCalled ClassNotFound "ClassNotFoundException" }
+    ensures no_definition { IsCalled NoClassDef "NoClassDefFoundError" }
+    ensures format { IsCalled ClassFormat "ClassFormatError" }
+    ensures version { IsCalled UnsupportedVersion "UnsupportedClassVersionError" }
+    ensures circle { IsCalled ClassCircularity "ClassCircularityError" }
+    ensures misfit { IsCalled IncompatibleClassChange "IncompatibleClassChangeError" }
+    ensures access { IsCalled IllegalAccess "IllegalAccessError" }
+    ensures field { IsCalled NoSuchField "NoSuchFieldError" }
+    ensures method { IsCalled NoSuchMethod "NoSuchMethodError" }
 {}
 
 /// The text of each kind of answer, and its line, whose number is counted from 1.
 #[tactic(auto, unfolding(cl_names::specs::Escape::escaped, cl_names::specs::Escape::units_of))]
 pub fn printed_answers()
-    ensures said { answer_text names (Said (IsClass (in_plug "p/T"))) ≡ codes "class p/T@plug" }
-    ensures memory { answer_text names OutOfMemory ≡ codes "OutOfMemory" }
-    ensures fault { answer_text names (SourceFault (codes "p/T") boot) ≡ codes "SourceFault p/T@boot" }
-    ensures first_line { answer_line names 0 OutOfMemory ≡ codes "1 OutOfMemory" }
-    ensures tenth_line { answer_line names 9 (Said (IsArrayOf 2 (in_app "p/T"))) ≡ codes "10 array 2 p/T@app" }
+    ensures said { PrintsAnswer (Said (IsClass (in_plug "p/T"))) "class p/T@plug" }
+    ensures memory { PrintsAnswer OutOfMemory "OutOfMemory" }
+    ensures fault { PrintsAnswer (SourceFault (codes "p/T") boot) "SourceFault p/T@boot" }
+    ensures first_line { PrintsLine 0 OutOfMemory "1 OutOfMemory" }
+    ensures tenth_line { PrintsLine 9 (Said (IsArrayOf 2 (in_app "p/T"))) "10 array 2 p/T@app" }
 {}
 
 /// A request is answered in its round, once; the next round begins when all of this one are
@@ -338,8 +352,8 @@ pub fn round_discipline()
     ensures posted { MayPost in_rounds start 0 OutOfMemory }
     ensures again { MayPost in_rounds (after start (Post 0 OutOfMemory)) 0 OutOfMemory → ⊥ }
     ensures next { MayGoOn in_rounds (after start (Post 0 OutOfMemory)) }
-    ensures empty_next { MayGoOn in_rounds (state_after start (Post 0 OutOfMemory ∷ NextRound ∷ Post 1 OutOfMemory ∷ Post 2 OutOfMemory ∷ [])) }
-    ensures no_next { MayGoOn in_rounds (state_after start (Post 0 OutOfMemory ∷ NextRound ∷ Post 1 OutOfMemory ∷ Post 2 OutOfMemory ∷ NextRound ∷ [])) → ⊥ }
+    ensures empty_next { MayGoOn in_rounds (standing two_rounds) }
+    ensures no_next { MayGoOn in_rounds (standing (two_rounds ++ NextRound ∷ [])) → ⊥ }
 {}
 
 /// A reference is settled and then its request answered; a class is prepared after what stands
@@ -362,8 +376,8 @@ pub fn what_stands()
 
 /// A need is next where all before it are met.
 pub fn needs_in_order()
-    ensures next { IsNext start (equal "p/T" app plug ∷ []) (equal "p/T" app plug) }
-    ensures not_yet { IsNext start (Entry boot object boot ∷ equal "p/T" app plug ∷ []) (equal "p/T" app plug) → ⊥ }
+    ensures next { IsNext start (same_t app plug ∷ []) (same_t app plug) }
+    ensures not_yet { IsNext start (root_record boot ∷ same_t app plug ∷ []) (same_t app plug) → ⊥ }
 {}
 
 /// No step is taken before what it rests on: supertypes, records, constraints, and for an answer
@@ -372,12 +386,12 @@ pub fn steps_too_early()
     ensures define { MayDefine serving start (in_app "p/Svc") → ⊥ }
     ensures initiate { MayInitiate serving start object boot app → ⊥ }
     ensures constrain { MayConstrain serving start (codes "p/T") app plug → ⊥ }
-    ensures settle { MaySettle serving (state_after start loading) (in_plug "p/Use") 1 of_svc → ⊥ }
+    ensures settle { MaySettle serving (standing loading) (in_plug "p/Use") 1 of_svc → ⊥ }
     ensures settle_unrecorded { MaySettle serving start (in_plug "p/Use") 1 of_svc → ⊥ }
     ensures resolve { MayPost serving unsettled 0 (Said of_svc) → ⊥ }
-    ensures prepare_unrecorded { MayPrepare serving start (in_boot "java/lang/Object") → ⊥ }
+    ensures prepare_unrecorded { MayPrepare serving start the_root → ⊥ }
     ensures prepare_below { MayPrepare serving unsettled (in_plug "p/Use") → ⊥ }
-    ensures prepare_unconstrained { MayPrepare serving (state_after start (loading ++ Prepare (in_boot "java/lang/Object") ∷ Prepare (in_app "p/Svc") ∷ [])) (in_plug "p/Use") → ⊥ }
+    ensures prepare_unconstrained { MayPrepare serving unconstrained (in_plug "p/Use") → ⊥ }
     ensures link { MayPost serving unprepared 1 (Said (IsLinked (in_plug "p/Use"))) → ⊥ }
 {}
 
@@ -397,36 +411,36 @@ pub fn steps_never_made()
     ensures define { (s : State) → MayDefine serving s (in_plug "p/Svc") → ⊥ }
     ensures initiate_own { (s : State) → MayInitiate serving s object boot boot → ⊥ }
     ensures initiate_elsewhere { (s : State) → MayInitiate serving s object app plug → ⊥ }
-    ensures settle_no_reference { (s : State) → MaySettle serving s (in_plug "p/Use") 9 BadEntry → ⊥ }
-    ensures settle_array_member { (s : State) → MaySettle serving s (in_plug "p/Use") 1 ArrayMember → ⊥ }
+    ensures bad_entry_settled { (s : State) → MaySettle serving s (in_plug "p/Use") 9 BadEntry → ⊥ }
+    ensures member_settled { (s : State) → MaySettle serving s (in_plug "p/Use") 1 ArrayMember → ⊥ }
     ensures stray { (s : State) → May serving s Stray → ⊥ }
 {}
 
 /// A class that does not fit with its superclass is not defined, though the superclass is recorded.
 pub fn misfit_not_defined()
-    ensures { MayDefine (over misfits) (state_after start below_hidden) (in_plug "p/K") → ⊥ }
+    ensures { MayDefine (over misfits) (standing below_hidden) (in_plug "p/K") → ⊥ }
 {}
 
 /// An equality is imposed by the preparation of a class, also where no reference imposes it.
 pub fn constrained_by_preparation()
-    ensures { MayConstrain (over overridden_alone) (state_after start loading) (codes "p/T") app plug }
+    ensures { MayConstrain (over overridden_alone) (standing loading) (codes "p/T") app plug }
 {}
 
 /// An equality joins its loaders for its name alone.
 pub fn equality_for_one_name()
-    ensures { Joined (state_after start constrained).equalities (codes "p/V") app plug → ⊥ }
+    ensures { Joined (standing constrained).equalities (codes "p/V") app plug → ⊥ }
 {}
 
 /// A loader may record the class that one joined with it records.
 pub fn same_class_joined()
-    ensures { MayInitiate (over service) (state_after start joined_with_kid) (codes "p/T") app kid }
+    ensures { MayInitiate (over service) (standing joined_with_kid) (codes "p/T") app kid }
 {}
 
 /// What is refused is not added; the reference is settled to the refusal, and where its class's own
 /// load is refused, the answer needs no settled reference.
 pub fn refused_steps()
-    ensures define { MayDefine (over service) (state_after start constrained) (in_plug "p/T") → ⊥ }
-    ensures constrain { MayConstrain (over service) (state_after start both_defined) (codes "p/T") app plug → ⊥ }
-    ensures settle { MaySettle (over service) (state_after start both_defined) (in_plug "p/Use") 1 (Linkage (equal "p/T" app plug)) }
-    ensures own_load { MayPost resolved_in_kid (state_after start across) 0 (Said (Linkage (entry kid "p/T" kid))) }
+    ensures define { MayDefine (over service) (standing constrained) (in_plug "p/T") → ⊥ }
+    ensures constrain { MayConstrain (over service) both_stand (codes "p/T") app plug → ⊥ }
+    ensures settle { MaySettle (over service) both_stand (in_plug "p/Use") 1 t_refused }
+    ensures own_load { MayPost resolved_in_kid (standing across) 0 (Said kid_refused) }
 {}

@@ -13,6 +13,7 @@ mod need;
 mod primitive;
 pub mod reference_laws;
 mod request;
+pub mod service_examples;
 mod settled;
 pub mod table_laws;
 mod told;

@@ -1,4 +1,4 @@
-ghost use Rattle.cl_model.specs.TableLaws.{TrustedIsConsistent, AllowedIsConsistent, TrustedGoesOn, TrustedParts, MayIsAllowed, RunsAreTrusted, DefinedOnce, AnsweredOnce, ToldInRound, ToldIsRecorded, ToldIsSettled, ToldIsPrepared};
+ghost use Rattle.cl_model.specs.TableLaws.{TrustedIsConsistent, AllowedIsConsistent, TrustedGoesOn, TrustedParts, MayIsAllowed, RunsAreTrusted, DefinedOnce, AnsweredOnce, ToldInRound, ToldIsRecorded, ToldIsSettled, ToldIsPrepared, InitiatedOverRecord, SettledOnTables, PreparedOnTables, RoundsOnTables, NoStray};
 
 /// Trusted tables are consistent, under any source.
 pub fn trusted_is_consistent()
@@ -46,4 +46,13 @@ pub fn told_rests_on_tables()
     ensures recorded { ToldIsRecorded }
     ensures settled { ToldIsSettled }
     ensures prepared { ToldIsPrepared }
+{}
+
+/// What each kind of step rested on where it was made, under any source.
+pub fn steps_rest_on_tables()
+    ensures initiated { InitiatedOverRecord }
+    ensures settled { SettledOnTables }
+    ensures prepared { PreparedOnTables }
+    ensures rounds { RoundsOnTables }
+    ensures no_stray { NoStray }
 {}

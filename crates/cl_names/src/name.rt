@@ -26,22 +26,26 @@ use std::marker::Model;
 use std::sync::ArcSlice;
 use thiserror::Error;
 
-/// A name, in modified UTF-8 (JVMS SE 8, 4.4.7). Its copies share one allocation of the bytes.
+/// A name, in modified UTF-8 (JVMS SE 8, 4.4.7). Its copies share one allocation of the bytes, of which it may be a part, so
+/// that the names of a file take one allocation in all.
 #[derive(Debug, Drop)]
 pub struct Name {
     bytes: ArcSlice<u8>,
+    start: u32,
+    len: u16,
 }
 
 impl Model for Name {
-    ghost use Rattle.std.specs.Prelude.{ℕ, List, length, ◌≤◌};
+    ghost use Rattle.std.specs.Prelude.{ℕ, List, length, ◌+◌, ◌≤◌};
     ghost use Rattle.std.specs.Arc.{arc_slice_items};
     ghost use Rattle.cl_names.specs.Text.{IsModifiedUtf8};
+    ghost use Rattle.cl_names.specs.Name.{part_of};
 
     ghost Value = { List ℕ };
 
-    ghost view = { λ n. arc_slice_items n.bytes };
+    ghost view = { λ n. part_of n.start n.len (arc_slice_items n.bytes) };
 
-    ghost invariant = { λ n. IsModifiedUtf8 (arc_slice_items n.bytes) × (length (arc_slice_items n.bytes) ≤ 65535) };
+    ghost invariant = { λ n. IsModifiedUtf8 (part_of n.start n.len (arc_slice_items n.bytes)) × (n.start + n.len ≤ length (arc_slice_items n.bytes)) };
 }
 
 impl PartialEq for Name {
@@ -114,10 +118,11 @@ impl From<AllocError> for NameFault {
 }
 
 impl Name {
-    ghost use Rattle.std.specs.Prelude.{MatchBool, string_bytes};
+    ghost use Rattle.std.specs.Prelude.{◌+◌, MatchBool, string_bytes};
+    ghost use Rattle.std.specs.Arc.{arc_slice_items};
     ghost use Rattle.std.specs.List.{starts_with};
     ghost use Rattle.cl_names.specs.Kind.{IsUnqualified, IsMethod, IsClass, IsNameOf, is_unqualified_name, is_method_name, is_class_name, HasNoSlash, package_of};
-    ghost use Rattle.cl_names.specs.Name.{NameOf, KindNameOf, TextNameOf};
+    ghost use Rattle.cl_names.specs.Name.{NameOf, KindNameOf, TextNameOf, part_of};
     ghost use Rattle.cl_names.specs.declared.name.NameFault.TheVariants.{Memory};
 
     /// The name of any kind that the bytes spell: `NotModifiedUtf8` where they spell nothing, `BadName`
@@ -134,9 +139,43 @@ impl Name {
         requires short { length bytes.now ≤ 65535 }
         ensures { IfOk result (λ name. name ≡ bytes.now) }
     {
+        Ok(Name::whole(ArcSlice::from_slice(alloc, bytes)?))
+    }
+
+    /// The name of `len` of these bytes from `start` on, which are known to be text: it shares them, and is not looked at
+    /// again. It takes memory where `start` is over 4,294,967,295 alone.
+    pub fn shared(
+        alloc: Global,
+        bytes: &ArcSlice<u8>,
+        start: usize,
+        len: usize,
+    ) -> Result<Name, AllocError>
+        requires within { start + len ≤ length (arc_slice_items bytes.now) }
+        requires text { IsModifiedUtf8 (part_of start len (arc_slice_items bytes.now)) }
+        requires short { len ≤ 65535 }
+        ensures { IfOk result (λ name. name ≡ part_of start len (arc_slice_items bytes.now)) }
+    {
+        if start > u32::MAX as usize {
+            return Name::of_text(alloc, &bytes.as_slice()[start..][..len]);
+        }
         Ok(Name {
-            bytes: ArcSlice::from_slice(alloc, bytes)?,
+            bytes: bytes.clone()?,
+            start: start as u32,
+            len: len as u16,
         })
+    }
+
+    fn whole(bytes: ArcSlice<u8>) -> Name
+        requires text { IsModifiedUtf8 (arc_slice_items bytes) }
+        requires short { length (arc_slice_items bytes) ≤ 65535 }
+        ensures { result ≡ arc_slice_items bytes }
+    {
+        let len = bytes.len() as u16;
+        Name {
+            bytes,
+            start: 0,
+            len,
+        }
     }
 
     /// The class's name that the bytes spell, unqualified names with `/` between them: `NotModifiedUtf8`,
@@ -170,9 +209,7 @@ impl Name {
     pub fn from_text(alloc: Global, text: &str) -> Result<Name, NameFault>
         ensures { TextNameOf text.now result }
     {
-        Ok(Name {
-            bytes: ArcSlice::from_vec(written(alloc, text.as_bytes())?)?,
-        })
+        Ok(Name::whole(ArcSlice::from_vec(written(alloc, text.as_bytes())?)?))
     }
 
     /// The name as escaped text, in lower case, with escapes only where they are needed, or `Memory`.
@@ -237,10 +274,9 @@ impl Name {
         ensures text { IsModifiedUtf8 self.now }
         ensures short { length self.now ≤ 65535 }
     {
-        self.bytes.as_slice()
+        &self.bytes.as_slice()[self.start as usize..][..self.len as usize]
     }
 
-    /// A copy: another handle on the same bytes, which takes no memory. An error only past as many copies
     /// The name in UTF-8, as a system's paths are written, where a supplementary character is one character; none where
     /// the name has U+0000 or half of a supplementary character.
     pub fn plain(&self, alloc: Global) -> Result<Option<String>, AllocError>
@@ -249,12 +285,15 @@ impl Name {
         plain(alloc, self.bytes())
     }
 
-    /// as a counter counts.
+    /// A copy: another handle on the same bytes, which takes no memory. An error only past as many copies as a counter
+    /// counts.
     pub fn try_clone(&self, _alloc: Global) -> Result<Name, AllocError>
         ensures { IfOk result (λ name. name ≡ self.now) }
     {
         Ok(Name {
             bytes: self.bytes.clone()?,
+            start: self.start,
+            len: self.len,
         })
     }
 }

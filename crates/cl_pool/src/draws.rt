@@ -89,7 +89,8 @@ impl Draws {
         ensures seat { IsSeatOf self.now seat.new }
         ensures split { IfOk result (λ s. seat.new.hand ≡ one_split_less seat.old.hand) }
         ensures left { IfOk result (λ s. 0 < seat.old.hand.splits) }
-        ensures further { IfOk result (λ s. IsSeatOf self.now s × (s.hand ≡ new_hand seat.old.hand)) }
+        ensures further { IfOk result (λ s. IsSeatOf self.now s
+            × (s.hand ≡ new_hand seat.old.hand)) }
         ensures may { IfOk result (λ s. MayDraw s) }
         ensures refused { IfErr result (λ fault. (fault ≡ DrawFault.Workers)
             × (seat.old.hand.splits ≡ 0) × (seat.new ≡ seat.old)) }
@@ -108,7 +109,8 @@ impl Draws {
         requires seat { IsSeatOf self.now seat.old }
         requires may { MayDraw seat.old }
         ensures seat { IsSeatOf self.now seat.new }
-        ensures drawn { MatchOption result (Missed seat.old seat.new) (λ n. Drew seat.old seat.new n) }
+        ensures drawn { MatchOption result (Missed seat.old seat.new)
+            (λ n. Drew seat.old seat.new n) }
         ensures within { IfSome result (λ n. n < self.now.of.requests) }
         ensures may { IfSome result (λ n. MayDraw seat.new) }
     {

@@ -1,8 +1,17 @@
-//! Scripts of requests, served by several threads: the numbers of requests, which threads draw, each once.
+//! Scripts of requests, served by several threads.
 #![tactic(auto)]
 
+mod calls;
+mod desk;
 mod draws;
+mod fault;
+mod gate;
 mod hand;
+mod pool;
+mod serving;
 
 pub use draws::{DrawFault, Draws, Seat};
+pub use fault::PoolFault;
+pub use gate::{Gate, OpenGate};
 pub use hand::Bounds;
+pub use serving::serve;

@@ -1,5 +1,10 @@
-//! Tests of what only calls can ask of a pool: which numbers its seats draw. There is nothing here but tests.
+//! Tests of what only calls can ask of a pool: which numbers its seats draw, and what its workers make of scripts. There is
+//! nothing here but tests.
 #![tactic(auto)]
 
 #[cfg(test)]
 mod draws;
+#[cfg(test)]
+mod given;
+#[cfg(test)]
+mod serving;

@@ -78,6 +78,15 @@ tells_new old new ms m told absent put = λ q. put q ∙ at q (same_key m.key q)
         rw none (sym (one_flag m q true e))
     at q false e = told q ∙ sym (or_none (flags_in ms q)) ∙ ap (option_or (flags_in ms q)) (sym (one_flag m q false e))
 
+-- one more method, by a copy of its key that the table has not
+pub tells_entered : {S : Type 0} (old new : IndexMap files.Key ℕ S) (ms : List files.Member) (m : files.Member) (k j : files.Key) → Tells old ms → k ≡ m.key → false ≡ is_some (get same_key old k) → j ≡ m.key
+    → ((q : files.Key) → get same_key new q ≡ (if same_key j q then Some m.flags else get same_key old q)) → Tells new (ms ++ m ∷ [])
+tells_entered old new ms m k j told key absent copied put = tells_new old new ms m told (none_there (get same_key old m.key) (absent ∙ ap (λ (x : files.Key). is_some (get same_key old x)) key)) (λ q. put q ∙ ap (λ (x : files.Key). if same_key x q then Some m.flags else get same_key old q) copied)
+  where
+    none_there : (o : Option ℕ) → false ≡ is_some o → o ≡ None
+    none_there None h = refl
+    none_there (Some x) h = absurd cc
+
 -- one more method, under a key that the table has
 pub tells_old : {S : Type 0} (old : IndexMap files.Key ℕ S) (ms : List files.Member) (m : files.Member) → Tells old ms → is_some (get same_key old m.key) ≡ true → Tells old (ms ++ m ∷ [])
 tells_old old ms m told present = λ q. told q ∙ at q (same_key m.key q) refl ∙ sym (flags_more ms m q)

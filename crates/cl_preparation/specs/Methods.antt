@@ -1,11 +1,36 @@
 -- Methods by their names and the texts of their descriptors (JVMS SE 8, 4.3.3, 4.6).
-use Rattle.std.specs.Prelude.{◌≡◌, ℕ, Bool, ◌&&◌, ◌||◌, not, List, [], Option, Some, None, IsSome, option_map, unwrap_or}
+use Rattle.std.specs.Prelude.{
+  ◌≡◌,
+  ℕ,
+  Bool,
+  ◌&&◌,
+  ◌||◌,
+  not,
+  List,
+  [],
+  Option,
+  Some,
+  None,
+  IsSome,
+  option_map,
+  unwrap_or,
+}
 use Rattle.cl_descriptors.specs.declared.types.MethodType.{MethodType}
 use Rattle.cl_descriptors.specs.declared.types.Descriptor.TheVariants as descriptors
 use Rattle.cl_descriptors.specs.Reading.{whole_method}
 use Rattle.cl_classfile.specs.declared.entry.Entry.{Entry}
 use Rattle.cl_classfile.specs.Structure as structure
-use Rattle.cl_classfile.specs.Files.{Name, Key, Member, member, text_at, is_public, is_private, is_protected, is_static}
+use Rattle.cl_classfile.specs.Files.{
+  Name,
+  Key,
+  Member,
+  member,
+  text_at,
+  is_public,
+  is_private,
+  is_protected,
+  is_static,
+}
 use Rattle.indexmap.specs.IndexMap.{IndexMap, get}
 use Rattle.cl_classfile.specs.Files.{same_key}
 
@@ -15,7 +40,8 @@ type_in text = unwrap_or (whole_method text) (record { params = []; ret = None }
 
 -- the key of a method of this name and this descriptor (4.6)
 abbrev pub key_in : Name → Name → Key
-key_in name descriptor = record { name = name; descriptor = descriptors.Method (type_in descriptor) }
+key_in name descriptor =
+    record { name = name; descriptor = descriptors.Method (type_in descriptor) }
 
 -- what stands at a method's indices is a name and a method descriptor (4.6)
 pub record IsTyped (pool : List Entry) (m : structure.Member) : Type 0 where
@@ -29,7 +55,7 @@ pub record IsTyped (pool : List Entry) (m : structure.Member) : Type 0 where
 abbrev pub flags_in : List Member → Key → Option ℕ
 flags_in ms key = option_map (λ m. m.flags) (member ms key)
 
--- a table tells the flags of each method of a list (own choice)
+-- a table tells the flags of each method of a list
 abbrev pub Tells : {S : Type 0} → IndexMap Key ℕ S → List Member → Type 0
 Tells table ms = (key : Key) → get same_key table key ≡ flags_in ms key
 

@@ -8,8 +8,10 @@ use Rattle.cl_hierarchy.specs.Rows.{Rowed}
 use Rattle.cl_preparation.specs.Relatives.{asked, bare}
 use Rattle.cl_preparation.specs.Walks.{is_open, opens_to}
 
--- the method with this key of a class overrides that of a superclass, over the classes between, by their rows alone (5.4.5)
+-- the method with this key of a class overrides that of a superclass, over the classes between, by
+-- their rows alone (5.4.5)
 abbrev pub told_by_rows : Option Key → Rowed → Rowed → List Rowed → Bool
 told_by_rows o own above between =
     (asked o (λ key. takes_part key (bare own)) && asked o (λ key. takes_part key (bare above)))
-    && ((asked o (λ key. is_open key (bare above)) || same_package above.class own.class) || list_any (λ b. asked o (λ key. opens_to key (bare above) (bare b))) between)
+    && ((asked o (λ key. is_open key (bare above)) || same_package above.class own.class)
+    || list_any (λ b. asked o (λ key. opens_to key (bare above) (bare b))) between)

@@ -15,10 +15,14 @@ packaged c = record { loader = c.loader; name = package_of c.name }
 abbrev pub same_packages : Package → Package → Bool
 same_packages a b = (a.loader == b.loader) && pointwise nat_eq a.name b.name
 
--- a package was added (own choice of form)
+-- a package was added
 abbrev pub Opens : {S : Type 0} → IndexSet Package S → IndexSet Package S → Package → Type 0
-Opens old new p = (q : Package) → contains same_packages new q ≡ (if same_packages p q then true else contains same_packages old q)
+Opens old new p =
+    (q : Package)
+    → contains same_packages new q
+    ≡ (if same_packages p q then true else contains same_packages old q)
 
 -- the packages are those of these classes (5.3)
 abbrev pub AreOpened : {S : Type 0} → IndexSet Package S → List Class → Type 0
-AreOpened packages cs = (c : Class) → contains same_packages packages (packaged c) ≡ is_in_package cs c
+AreOpened packages cs =
+    (c : Class) → contains same_packages packages (packaged c) ≡ is_in_package cs c

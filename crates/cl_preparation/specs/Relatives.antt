@@ -1,5 +1,21 @@
 -- A class with what stands above it, as preparation looks at them (JVMS SE 8, 5.4.2, 5.4.5).
-use Rattle.std.specs.Prelude.{◌≡◌, ◌++◌, ℕ, Bool, false, if◌then◌else◌, nat_le, List, [], ◌∷◌, map, Option, Some, None, option_and_then}
+use Rattle.std.specs.Prelude.{
+  ◌≡◌,
+  ◌++◌,
+  ℕ,
+  Bool,
+  false,
+  if◌then◌else◌,
+  nat_le,
+  List,
+  [],
+  ◌∷◌,
+  map,
+  Option,
+  Some,
+  None,
+  option_and_then,
+}
 use Rattle.indexmap.specs.IndexSet.{IndexSet}
 use Rattle.cl_classfile.specs.Files.{Name, Key, Member, file_of, is_interface, method_of}
 use Rattle.cl_model.specs.declared.class.Class.{Class}
@@ -12,7 +28,8 @@ use Rattle.cl_preparation.specs.declared.packages.Package.{Package}
 use Rattle.cl_preparation.specs.Packages.{AreOpened, packaged}
 use Rattle.cl_preparation.specs.Walks.{is_overridden, opened_by, walked}
 
--- the rows of a class, of its superclasses nearest first, and of its superinterfaces in preorder (5.4.2)
+-- the rows of a class, of its superclasses nearest first, and of its superinterfaces in preorder
+-- (5.4.2)
 pub record AreRelatives (l : Lined) (own : Rowed) (above over : List Rowed) : Type 0 where
   pub own_is : own ≡ l.own
   pub above_are : map (kin_at l) above ≡ superclasses (kin_of l)
@@ -23,17 +40,21 @@ pub record IsRelative (r : Rowed) (p : Package) (methods : List Member) : Type 0
   pub package_is : p ≡ packaged r.class
   pub methods_are : methods ≡ (file_of r.file).methods
 
--- the class of a row, without what stands above it (own choice of form)
+-- the class of a row, without what stands above it
 abbrev pub bare : Rowed → Kin
 bare r = record { class = r.class; file = file_of r.file; superclass = Bare; interfaces = Bare }
 
--- the step of a walk over superclasses: equalities where the method of this one is overridden, and what it opens (5.4.2, 5.4.5)
-pub record Visits {S : Type 0} (key : Key) (opened : List Class) (k : Kin) (imposed old new : List Need) (after : IndexSet Package S) : Type 0 where
+-- the step of a walk over superclasses: equalities where the method of this one is overridden, and
+-- what it opens (5.4.2, 5.4.5)
+pub record Visits {S : Type 0} (key : Key) (opened : List Class) (k : Kin)
+    (imposed old new : List Need) (after : IndexSet Package S) : Type 0 where
   pub needs_are : new ≡ old ++ (if is_overridden key opened k then imposed else [])
   pub opened_are : AreOpened after (opened_by key opened k)
 
--- what is left of a walk: the equalities so far, with those that the rest of the superclasses give, are these (5.4.2, 5.4.5)
-pub record Walking {S : Type 0} (key : Key) (loader : ℕ) (opened : IndexSet Package S) (needs : List Need) (rest : List Kin) (total : List Need) : Type 0 where
+-- what is left of a walk: the equalities so far, with those that the rest of the superclasses give,
+-- are these (5.4.2, 5.4.5)
+pub record Walking {S : Type 0} (key : Key) (loader : ℕ) (opened : IndexSet Package S)
+    (needs : List Need) (rest : List Kin) (total : List Need) : Type 0 where
   pub classes : List Class
   pub opened_are : AreOpened opened classes
   pub total_is : needs ++ equals_with key loader (walked key classes rest) ≡ total
@@ -44,14 +65,18 @@ equals_for names a b = map (λ n. if nat_le a b then Equal n a b else Equal n b 
 
 -- what a method of a class imposes with its superclasses (5.4.2)
 abbrev pub of_superclasses : Rowed → List Rowed → Key → List Need
-of_superclasses own above key = if is_interface (file_of own.file) then [] else equals_with key own.class.loader (walked key (own.class ∷ []) (map bare above))
+of_superclasses own above key =
+    if is_interface (file_of own.file)
+    then []
+    else equals_with key own.class.loader (walked key (own.class ∷ []) (map bare above))
 
--- what is asked of a key, if there is one (own choice of form)
+-- what is asked of a key, if there is one
 abbrev pub asked : Option Key → (Key → Bool) → Bool
 asked None test = false
 asked (Some key) test = test key
 
--- the method of this name and this descriptor of a class overrides that of its superclass a, over the classes between;
--- what is no method descriptor is that of none (5.4.5)
+-- the method of this name and this descriptor of a class overrides that of its superclass a, over
+-- the classes between; what is no method descriptor is that of none (5.4.5)
 abbrev pub overrides_named : Name → Name → Kin → List Kin → Kin → Bool
-overrides_named name descriptor c between a = asked (method_of name descriptor) (λ key. overrides key c between a)
+overrides_named name descriptor c between a =
+    asked (method_of name descriptor) (λ key. overrides key c between a)

@@ -1,4 +1,4 @@
--- Overriding by run-time packages (own choice of form; JVMS SE 8, 5.3, 5.4.5).
+-- Overriding by run-time packages (JVMS SE 8, 5.3, 5.4.5).
 use Rattle.std.specs.Prelude.{Bool, ◌&&◌, ◌||◌, if◌then◌else◌, List, [], ◌∷◌}
 use Rattle.std.specs.List.{list_any}
 use Rattle.cl_classfile.specs.Files.{Key, is_public, is_protected}
@@ -7,7 +7,8 @@ use Rattle.cl_model.specs.Classes.{same_package}
 use Rattle.cl_model.specs.Lineages.{Kin, method_of, if_declared}
 use Rattle.cl_model.specs.Preparation.{takes_part}
 
--- a class declares a method with this key for other packages too: a public or a protected one (5.4.5)
+-- a class declares a method with this key for other packages too: a public or a protected one
+-- (5.4.5)
 abbrev pub is_open : Key → Kin → Bool
 is_open key k = if_declared (method_of k key) (λ x. is_public x || is_protected x)
 
@@ -19,17 +20,19 @@ opens key k = takes_part key k && is_open key k
 abbrev pub opens_to : Key → Kin → Kin → Bool
 opens_to key a b = opens key b && same_package a.class b.class
 
--- the method of c overrides the one of its superclass a: that one is open, or its package is that of c or of a class
--- between that opens it (5.4.5, without third methods of third methods)
+-- the method of c overrides the one of its superclass a: that one is open, or its package is that
+-- of c or of a class between that opens it (5.4.5, without third methods of third methods)
 abbrev pub overrides_by_package : Key → Kin → List Kin → Kin → Bool
 overrides_by_package key c between a =
-    (takes_part key c && takes_part key a) && (is_open key a || (same_package a.class c.class || list_any (opens_to key a) between))
+    (takes_part key c && takes_part key a)
+    && (is_open key a || (same_package a.class c.class || list_any (opens_to key a) between))
 
 -- a class is of the package of one of these (5.3)
 abbrev pub is_in_package : List Class → Class → Bool
 is_in_package cs c = list_any (same_package c) cs
 
--- whether the method of a superclass is overridden, where the packages of these classes were opened (5.4.5)
+-- whether the method of a superclass is overridden, where the packages of these classes were opened
+-- (5.4.5)
 abbrev pub is_overridden : Key → List Class → Kin → Bool
 is_overridden key opened a = takes_part key a && (is_open key a || is_in_package opened a.class)
 
@@ -41,4 +44,6 @@ opened_by key opened a = if opens key a then a.class ∷ opened else opened
 abbrev pub walked : Key → List Class → List Kin → List Kin
 walked key opened [] = []
 walked key opened (a ∷ more) =
-    if is_overridden key opened a then a ∷ walked key (opened_by key opened a) more else walked key (opened_by key opened a) more
+    if is_overridden key opened a
+    then a ∷ walked key (opened_by key opened a) more
+    else walked key (opened_by key opened a) more

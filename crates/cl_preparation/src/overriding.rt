@@ -120,7 +120,8 @@ pub fn overrides<T: Told>(
         ≡ superclasses (kin_of lineage.now) }
     requires place { place < length rows.now }
     ensures { (a : Kin) → slice_get (superclasses (kin_of lineage.now)) place ≡ Some a
-        → result ≡ overrides_named name.now descriptor.now (kin_of lineage.now) (take place (superclasses (kin_of lineage.now))) a }
+        → result ≡ overrides_named name.now descriptor.now (kin_of lineage.now)
+        (take place (superclasses (kin_of lineage.now))) a }
 {
     let between = &rows[..place];
     overrides_by(lineage.own(), &rows[place], between, name, descriptor)

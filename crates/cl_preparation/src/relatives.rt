@@ -189,7 +189,8 @@ impl<T: Told> Relatives<T> {
         interfaces: &[Relative<T>],
     ) -> Result<(), AllocError>
         ensures { OnOk result (needs_of needs.new.items ≡ needs_of needs.old.items
-            ++ flat_map (λ j. flat_map (for_inherited (kin_of self.now) (bare j)) (bare j).file.methods) interfaces.now) }
+            ++ flat_map (λ j. flat_map (for_inherited (kin_of self.now) (bare j))
+            (bare j).file.methods) interfaces.now) }
     {
         for interface in interfaces {
             self.push_all_inherited(alloc, needs, interface)?;
@@ -200,7 +201,8 @@ impl<T: Told> Relatives<T> {
     /// Adds what the methods of the superinterfaces impose.
     fn push_interfaces(&self, alloc: Global, needs: &mut Vec<Equality>) -> Result<(), AllocError>
         ensures { OnOk result (needs_of needs.new.items ≡ needs_of needs.old.items
-            ++ flat_map (λ j. flat_map (for_inherited (kin_of self.now) j) j.file.methods) (superinterfaces (kin_of self.now))) }
+            ++ flat_map (λ j. flat_map (for_inherited (kin_of self.now) j) j.file.methods)
+            (superinterfaces (kin_of self.now))) }
     {
         self.push_each_inherited(alloc, needs, self.superinterfaces.as_slice())
     }
@@ -208,7 +210,9 @@ impl<T: Told> Relatives<T> {
     /// Adds what is inherited where the class is no interface.
     fn push_second(&self, alloc: Global, needs: &mut Vec<Equality>) -> Result<(), AllocError>
         ensures { OnOk result (needs_of needs.new.items ≡ needs_of needs.old.items
-            ++ (if is_interface (kin_of self.now).file then [] else flat_map (λ j. flat_map (for_inherited (kin_of self.now) j) j.file.methods) (superinterfaces (kin_of self.now)))) }
+            ++ (if is_interface (kin_of self.now).file then [] else flat_map
+            (λ j. flat_map (for_inherited (kin_of self.now) j) j.file.methods) (superinterfaces
+            (kin_of self.now)))) }
     {
         if self.own.is_interface() {
             return Ok(());

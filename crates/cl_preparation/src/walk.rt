@@ -32,7 +32,8 @@ fn visit<T: Told>(
     class: &Relative<T>,
 ) -> Result<(), AllocError>
     ensures { (before : List Class) → AreOpened opened.old before
-        → OnOk result (Visits method.now before (bare class.now) (equals_of method.now loader class.now.class.loader)
+        → OnOk result (Visits method.now before (bare class.now)
+        (equals_of method.now loader class.now.class.loader)
         (needs_of needs.old.items) (needs_of needs.new.items) opened.new) }
 {
     if !class.takes_part(method.key()) {
@@ -59,7 +60,8 @@ fn push_overridden<T: Told>(
     superclasses: &[Relative<T>],
 ) -> Result<(), AllocError>
     ensures { OnOk result (needs_of needs.new.items ≡ needs_of needs.old.items
-        ++ equals_with method.now own.now.class.loader (walked method.now (own.now.class ∷ []) (map bare superclasses.now))) }
+        ++ equals_with method.now own.now.class.loader (walked method.now (own.now.class ∷ [])
+        (map bare superclasses.now))) }
 {
     let mut opened = IndexSet::with_hasher(alloc, seed);
     open(&mut opened, own.runtime_package().try_clone(alloc)?)?;
@@ -97,7 +99,8 @@ pub(crate) fn push_implemented<T: Told>(
     superinterfaces: &[Relative<T>],
 ) -> Result<(), AllocError>
     ensures { OnOk result (needs_of needs.new.items ≡ needs_of needs.old.items
-        ++ equals_with method.now loader (filter (takes_part method.now) (map bare superinterfaces.now))) }
+        ++ equals_with method.now loader (filter (takes_part method.now)
+        (map bare superinterfaces.now))) }
 {
     for interface in superinterfaces {
         if interface.takes_part(method.key()) {

@@ -12,7 +12,7 @@ use Rattle.cl_model.specs.Content.{Content}
 use Rattle.cl_model.specs.Homes.{World, home, is_java, is_loader, own_home, home_at, home_below}
 use Rattle.cl_model.specs.Classes.{class, Above, AtHome, Fitting, FitsAt, Good, IsGood, HasFile, IsAtHome, misfit, supers}
 use Rattle.cl_model.specs.Classes as classes
-use Rattle.cl_model.specs.States.{State, Entry, Met, recorded}
+use Rattle.cl_model.specs.States.{State, Entry, MayAdd, Met, recorded}
 use Rattle.cl_model.specs.Plans.{Load}
 use Rattle.cl_model.specs.Frames.{Frame, Judged, Accepts, Keeps}
 use Rattle.cl_model.specs.Machine.{Setting, Define, Initiate, IsClosed, May}
@@ -28,9 +28,9 @@ use Rattle.cl_config.specs.Views.{Configured}
 use Rattle.cl_config.specs.Loaders.{loader_of}
 use Rattle.cl_delegation.specs.Worlds.{world_of, setting_of}
 use Rattle.cl_hierarchy.specs.Drafts.{Drafted, IsDraft}
-use Rattle.cl_registry.specs.Tables.{Shown, steps, state_of, records_of, looked, place_in, FitsAs, IsKept}
+use Rattle.cl_registry.specs.Tables.{Shown, steps, state_of, records_of, looked, place_in, own_record, asked_record, FitsAs, IsKept}
 use Rattle.cl_registry.specs.Allowed.{AllowedIsEntered, EnteredIsAllowed, AllowedIsJoined, JoinedIsAllowed, RoundIsAllowed, OtherConfigIsStray}
-use Rattle.cl_registry.proofs.Calm.{none_and_some, may_add}
+use Rattle.cl_registry.proofs.Running.{may_add, may_be_added, none_and_some}
 use Rattle.cl_registry.proofs.Placed.{HasRow, recorded_row, spelt_file}
 
 pub closed_of : (content : Content) (x : Shown) → IsKept (Some content) x → IsClosed (world_of x.config content) (state_of x)
@@ -61,7 +61,7 @@ loader_bound : (c : Configured) (content : Content) (l p : ℕ) (name : Name) �
 loader_bound c content l p name h = subst (λ (n : ℕ). l < n) (length-map c.loaders loader_of) (home_bound (world_of c content) l p name h)
 
 -- a draft's class is at home, under the configuration that it was found under
-draft_at_home : (c : Configured) (content : Content) (d : Drafted) → IsDraft (Some content) d → d.home.config ≡ c → IsAtHome (world_of c content) d.class
+pub draft_at_home : (c : Configured) (content : Content) (d : Drafted) → IsDraft (Some content) d → d.home.config ≡ c → IsAtHome (world_of c content) d.class
 draft_at_home c content d draft config =
     let found : home (world_of c content) d.home.asked d.home.name ≡ Some d.home.place = subst (λ (k : Configured). home (world_of k content) d.home.asked d.home.name ≡ Some d.home.place) config draft.leads in
     subst (λ (k : Class). IsAtHome (world_of c content) k) (sym draft.placed) (home_of_home (world_of c content) d.home.asked d.home.place d.home.name found)
@@ -78,26 +78,26 @@ row_file content x l p name kept at r =
 if_some_row : {A : Type 0} (P : A → Type 0) (o : Option A) (a : A) → o ≡ Some a → P a → IfSome o P
 if_some_row {A = A} P o a e p = subst (λ (o : Option A). IfSome o P) (sym e) p
 
-row_of_some : {A : Type 0} (P : A → Type 0) (o : Option A) (a : A) → o ≡ Some a → IfSome o P → P a
+pub row_of_some : {A : Type 0} (P : A → Type 0) (o : Option A) (a : A) → o ≡ Some a → IfSome o P → P a
 row_of_some {A = A} P o a e h = subst (λ (o : Option A). IfSome o P) e h
 
 -- the record that comes next in a load may be made
 may_by : (g : Setting) (s : State) (c : Class) (f : File) (ts : List Class) → IsClosed g.world s → IsAtHome g.world c → HasFile g.world c f → Accepts g.world c ts (supers f) → AllByRecursion (Keeps s c.loader) ts → slice_get (supers f) (length ts) ≡ None
-    → recorded s.records c.loader c.name ≡ None → s.equalities ≡ [] → May g s (Define c)
-may_by g s c f ts closed at file accepts kept none fresh calm =
+    → MayAdd s (Entry c.loader c.name c.loader) → May g s (Define c)
+may_by g s c f ts closed at file accepts kept none free =
     let x : Frame = record { class = c; file = f; accepted = ts } in
     let n = complete_is_next g.world s (Load c.loader c.name) classes.ClassNotFound [] x c.loader closed
     (record { loader = c.loader; name = c.name; starts = inl (refl, refl, refl); frames = (refl, refl); kept = tt })
     (record { named = refl; found = at; has_file = file; new = refl; fits = accepts })
     kept none in
     subst (λ (b : Bool). May g s (if b then Define c else Initiate c.name c.loader c.loader)) (nat_eq_equiv.refl c.loader)
-    (next_may g s (Load c.loader c.name) n.plan (Entry c.loader c.name c.loader) closed n.planned n.next (may_add s c.loader c.loader c.name calm fresh))
+    (next_may g s (Load c.loader c.name) n.plan (Entry c.loader c.name c.loader) closed n.planned n.next free)
 
 -- the classes that a loader has recorded for these supertypes
 abbrev recorded_as : Shown → ℕ → List Above → List Class
 recorded_as x l others = map (λ (a : Above). class a.name (place_in (records_of x) l a)) others
 
-recorded_at : (x : Shown) (l : ℕ) (a : Above) → IsSome (recorded (records_of x) l a.name) → recorded (records_of x) l a.name ≡ Some (place_in (records_of x) l a)
+pub recorded_at : (x : Shown) (l : ℕ) (a : Above) → IsSome (recorded (records_of x) l a.name) → recorded (records_of x) l a.name ≡ Some (place_in (records_of x) l a)
 recorded_at x l a some =
     let p = some_of (recorded (records_of x) l a.name) some in
     p.1 ∙ ap (λ (o : Option ℕ). Some (unwrap_or o 0)) (sym p.1)
@@ -158,30 +158,33 @@ allowed_is_entered content x d kept draft config may =
     let all = all_fit content x d.class good.0 (supers (file_of d.file)) kept (subst (λ (f : File). AllByRecursion (Stands w s d.class) (supers f)) same may.above) good.1 in (
       record { config = config; loader = loader_bound x.config content d.class.loader d.class.loader d.class.name may.at_home; above = all.0; fit = all.1 },
       unmet_is_fresh w s d.class.loader d.class.loader d.class.name (closed_of content x kept) may.at_home may.may_add.unmet,
+      may_be_added s (own_record d) may.may_add,
     )
 
 pub entered_is_allowed : EnteredIsAllowed
-entered_is_allowed content x d kept draft may fresh =
+entered_is_allowed content x d kept draft may fresh free =
     let at = draft_at_home x.config content d draft may.config in
     let all = all_accepted content x d.class (supers (file_of d.file)) kept may.above may.fit in
     may_by (setting_of x.config x.script content) (state_of x) d.class (file_of d.file) (recorded_as x d.class.loader (supers (file_of d.file))) (closed_of content x kept) at
-    (spelt_file x.config content d.class d.file at draft.spelt) all.0 all.1 (past_end (λ (a : Above). class a.name (place_in (records_of x) d.class.loader a)) (supers (file_of d.file))) fresh kept.calm
+    (spelt_file x.config content d.class d.file at draft.spelt) all.0 all.1 (past_end (λ (a : Above). class a.name (place_in (records_of x) d.class.loader a)) (supers (file_of d.file)))
+    (may_add (state_of x) d.class.loader d.class.loader d.class.name fresh free)
 
 -- ---- initiating loaders
 
 pub joined_is_allowed : JoinedIsAllowed
-joined_is_allowed content x h kept leads may fresh =
+joined_is_allowed content x h kept leads may fresh free =
     record {
       found = subst (λ (c : Configured). home (world_of c content) h.asked h.name ≡ Some h.place) may.config leads;
       not_own = λ e. none_and_some (recorded (records_of x) h.asked h.name) h.place fresh (subst (λ (l : ℕ). recorded (records_of x) l h.name ≡ Some h.place) (sym e) may.defined);
       defined = may.defined;
-      may_add = may_add (state_of x) h.asked h.place h.name kept.calm fresh;
+      may_add = may_add (state_of x) h.asked h.place h.name fresh free;
     }
 
 pub allowed_is_joined : AllowedIsJoined
 allowed_is_joined content x h kept config may = (
   record { config = config; loader = loader_bound x.config content h.asked h.place h.name may.found; defined = may.defined },
   unmet_is_fresh (world_of x.config content) (state_of x) h.asked h.place h.name (closed_of content x kept) may.found may.may_add.unmet,
+  may_be_added (state_of x) (asked_record h) may.may_add,
 )
 
 -- ---- rounds, and other configurations

@@ -1,6 +1,6 @@
 -- What the tests of plain tables tell of a registry's records.
 use Rattle.std.proofs.Common.{◌≡◌, ◌≢◌, ◌∙◌, ◌<◌, ℕ, Bool, true, false, List, [], ◌∷◌, length, map, Option, Some, None, refl, sym, ap, subst, is_some}
-use Rattle.std.specs.Prelude.{option_map, unwrap_or, IsSome, IfSome, MatchOption, MatchBool, Result, Ok, Err, IfOk}
+use Rattle.std.specs.Prelude.{option_map, unwrap_or, IsSome, IfSome, MatchOption, MatchBool}
 use Rattle.std.specs.List.{AllByRecursion}
 use Rattle.cl_classfile.specs.Files.{file_of}
 use Rattle.cl_model.specs.Content.{Content}
@@ -10,7 +10,7 @@ use Rattle.cl_delegation.specs.Searches.{Located}
 use Rattle.cl_hierarchy.specs.Drafts.{Drafted}
 use Rattle.cl_hierarchy.specs.Rows.{Rowed}
 use Rattle.cl_registry.specs.declared.registry.RegistryFault.{RegistryFault}
-use Rattle.cl_registry.specs.declared.registry.RegistryFault.TheVariants.{Memory, Stray, AlreadyPosted, NotYet}
+use Rattle.cl_registry.specs.declared.registry.RegistryFault.TheVariants.{Memory, Stray, Violates, AlreadyPosted, NotYet}
 use Rattle.cl_registry.specs.Refusals.{InitiateRefusedFor, JoinRefusedFor}
 use Rattle.cl_registry.specs.Parts.{EachHas, place_by, row_by}
 use Rattle.cl_registry.specs.Tables.{Shown, records_of, IsKept, looked, row_for, place_in, Records, LacksRecord, MayEnter, FitsAs, SupertypesFit, MayJoin, Defines, DefinedAs, Initiates, InitiatedAs}
@@ -40,6 +40,9 @@ module _ {Q R : Type 0} (now : Q → R) (value : R → Rowed) (told : Option Con
 
   pub found_none : (o : Option Q) → option_map now o ≡ at → o ≡ None → LacksRecord x l n
   found_none o e f = looked_lacks told x l n k (sym (ap (λ (p : Option Q). option_map value (option_map now p)) (sym f) ∙ ap (option_map value) e ∙ is))
+
+  pub found_row : (o : Option Q) → option_map now o ≡ at → option_map (λ r. value (now r)) o ≡ looked x l n
+  found_row o e = sym (map_map now value o) ∙ ap (option_map value) e ∙ is
 
   pub found_some : (o : Option Q) (r : Q) → option_map now o ≡ at → o ≡ Some r → looked x l n ≡ Some (value (now r))
   found_some o r e f = sym is ∙ ap (option_map value) (sym e) ∙ ap (λ (p : Option Q). option_map value (option_map now p)) f
@@ -107,6 +110,7 @@ module _ {R : Type 0} (value : R → Rowed) (told : Option Content) (x : Shown) 
 pub join_refused : (x : Shown) (h : Located) (fault : RegistryFault) → LacksRecord x h.asked h.name → JoinRefusedFor x h fault → InitiateRefusedFor x h fault
 join_refused x h Memory fresh r = λ none. r
 join_refused x h Stray fresh r = (fresh, r)
+join_refused x h (Violates n) fresh r = absurd r
 join_refused x h AlreadyPosted fresh r = r
 join_refused x h NotYet fresh r = r
 

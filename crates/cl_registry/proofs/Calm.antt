@@ -7,9 +7,9 @@ use Rattle.std.proofs.lemmas.List.Folds.{find-append}
 use Rattle.cl_classfile.specs.Files.{Name}
 use Rattle.cl_model.specs.declared.event.Event.{Event}
 use Rattle.cl_model.specs.declared.event.Event.TheVariants as events
-use Rattle.cl_model.specs.States.{State, start, Equality, Posted, Entry, Answer, recorded, answer_to, IsPath, Clashes, MayAdd}
+use Rattle.cl_model.specs.States.{State, Equality, Posted, Entry, Answer, recorded, answer_to, IsPath, Clashes, MayAdd}
 use Rattle.cl_model.specs.Machine.{Define, Initiate, NextRound, after, state_after}
-use Rattle.cl_model.specs.Views.{answers_of, answer_at, post_of, step_of, steps_of}
+use Rattle.cl_model.specs.Views.{answer_at, post_of, step_of, steps_of}
 use Rattle.cl_registry.specs.Tables.{posts, is_in}
 
 -- ---- equalities

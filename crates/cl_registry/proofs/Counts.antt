@@ -1,5 +1,5 @@
 -- How many requests of a round are open, as the rounds are counted.
-use Rattle.std.proofs.Common.{◌≡◌, ◌+◌, ◌<◌, ◌≤◌, ◌∙◌, ℕ, zero, suc, Bool, true, false, List, [], ◌∷◌, length, Option, Some, None, refl, sym, ap, subst, arith, replicate, if◌then◌else◌, add-one, get_or}
+use Rattle.std.proofs.Common.{◌≡◌, ◌+◌, ◌<◌, ◌≤◌, ◌∙◌, ℕ, zero, suc, Bool, true, false, List, [], ◌∷◌, length, Option, Some, None, refl, sym, ap, subst, arith, replicate, if◌then◌else◌, add-one}
 use Rattle.std.specs.Prelude.{nat_eq, slice_get, slice_set, All}
 use Rattle.std.proofs.lemmas.Bool.Decides.{nat_tests}
 use Rattle.std.proofs.lemmas.Option.{slice_get_within, get_or_from_slice_get}
@@ -37,7 +37,8 @@ open_le round (n ∷ ns) (suc q) = more (nat_eq n round) _ q (open_le round ns q
     more true j q h = omega arith
     more false j q h = omega arith
 
-get_set_same : (xs : List ℕ) (i v c : ℕ) → slice_get xs i ≡ Some c → slice_get (slice_set xs i v) i ≡ Some v
+-- what stands where a list was written
+pub get_set_same : {X : Type 0} (xs : List X) (i : ℕ) (v c : X) → slice_get xs i ≡ Some c → slice_get (slice_set xs i v) i ≡ Some v
 get_set_same [] i v c e = absurd cc
 get_set_same (x ∷ xs) zero v c e = refl
 get_set_same (x ∷ xs) (suc i) v c e = get_set_same xs i v c e
@@ -45,7 +46,8 @@ get_set_same (x ∷ xs) (suc i) v c e = get_set_same xs i v c e
 less : (q p : ℕ) → nat_eq (suc q) (suc p) ≡ false → nat_eq q p ≡ false
 less q p e = grind (arith, nat_tests)
 
-get_set_other : (xs : List ℕ) (i j v : ℕ) → nat_eq i j ≡ false → slice_get (slice_set xs i v) j ≡ slice_get xs j
+-- and elsewhere
+pub get_set_other : {X : Type 0} (xs : List X) (i j : ℕ) (v : X) → nat_eq i j ≡ false → slice_get (slice_set xs i v) j ≡ slice_get xs j
 get_set_other [] i j v e = refl
 get_set_other (x ∷ xs) zero zero v e = absurd cc
 get_set_other (x ∷ xs) zero (suc j) v e = refl

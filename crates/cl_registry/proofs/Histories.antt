@@ -1,15 +1,14 @@
 -- How a history grows by one event, and which steps it tells.
-use Rattle.std.proofs.Common.{◌≡◌, ◌≢◌, ◌∙◌, ◌+◌, ℕ, zero, suc, Bool, true, false, List, [], ◌∷◌, ◌++◌, Option, Some, None, refl, sym, ap, subst, arith, is_some, if◌then◌else◌}
+use Rattle.std.proofs.Common.{◌≡◌, ◌∙◌, ◌+◌, ℕ, zero, suc, Bool, true, false, List, [], ◌∷◌, ◌++◌, Option, Some, None, refl, sym, ap, subst, arith, is_some, if◌then◌else◌}
 use Rattle.std.specs.Prelude.{◌||◌, nat_eq, slice_get, slice_set}
 use Rattle.std.proofs.lemmas.List.{map_push}
 use Rattle.std.proofs.lemmas.Bool.Decides.{nat_tests}
-use Rattle.cl_model.specs.declared.class.Class.{Class}
 use Rattle.cl_model.specs.declared.event.Event.{Event}
 use Rattle.cl_model.specs.declared.event.Event.TheVariants as events
 use Rattle.cl_model.specs.declared.answer.Answer as rust
 use Rattle.cl_model.specs.Content.{Content}
 use Rattle.cl_model.specs.States.{State, Answer, start}
-use Rattle.cl_model.specs.Machine.{Step, Post, after, state_after, May, Run}
+use Rattle.cl_model.specs.Machine.{Step, Post, after, state_after, May}
 use Rattle.cl_model.specs.Tables as tables
 use Rattle.cl_model.specs.Tables.{Allows}
 use Rattle.cl_model.specs.Views.{answer_of, answers_of, answer_at, post_of, step_of, steps_of}
@@ -18,7 +17,7 @@ use Rattle.cl_model.proofs.Tables.{trusted_goes_on}
 use Rattle.cl_config.specs.Loaders.{schedule_of}
 use Rattle.cl_delegation.specs.Worlds.{setting_of}
 use Rattle.cl_registry.specs.Kept.{left_in, open_in}
-use Rattle.cl_registry.specs.Tables.{Shown, steps, state_of, posts, defined, is_in, IsTrusted, RunsAs, with_post, IsOpen}
+use Rattle.cl_registry.specs.Tables.{Shown, steps, state_of, posts, defined, settlements, is_in, IsTrusted, RunsAs, with_post, IsOpen}
 
 pub eq_nat : (a b : ℕ) → nat_eq a b ≡ true → a ≡ b
 eq_nat a b e = grind (arith, nat_tests)
@@ -82,6 +81,16 @@ defined_then (events.Settle r ∷ h) k = defined_then h k
 defined_then (events.Prepare c ∷ h) k = defined_then h k
 defined_then (events.NextRound ∷ h) k = defined_then h k
 defined_then (events.Post p ∷ h) k = defined_then h k
+
+pub settlements_then : (h k : List Event) → settlements (h ++ k) ≡ settlements h ++ settlements k
+settlements_then [] k = refl
+settlements_then (events.Define d ∷ h) k = settlements_then h k
+settlements_then (events.Initiate d l ∷ h) k = settlements_then h k
+settlements_then (events.Constrain e ∷ h) k = settlements_then h k
+settlements_then (events.Settle r ∷ h) k = ap (◌∷◌ r.value) (settlements_then h k)
+settlements_then (events.Prepare c ∷ h) k = settlements_then h k
+settlements_then (events.NextRound ∷ h) k = settlements_then h k
+settlements_then (events.Post p ∷ h) k = settlements_then h k
 
 pub is_in_push : (xs : List ℕ) (p q : ℕ) → is_in p (xs ++ q ∷ []) ≡ (is_in p xs || nat_eq p q)
 is_in_push [] p q = or_right (nat_eq p q)

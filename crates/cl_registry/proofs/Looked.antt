@@ -1,6 +1,6 @@
 -- Where the rows of a registry stand: each record has its row, and a class without a record has none.
 use Rattle.std.proofs.Common.{◌≡◌, ◌∙◌, ℕ, Bool, true, false, List, [], ◌∷◌, ◌++◌, map, Option, Some, None, refl, sym, ap, subst, is_some, if◌then◌else◌}
-use Rattle.std.specs.Prelude.{◌&&◌, ◌==◌, nat_eq, find, option_map, option_and_then, unwrap_or, IsSome, MatchOption}
+use Rattle.std.specs.Prelude.{◌&&◌, ◌==◌, nat_eq, find, option_map, option_and_then, IsSome, MatchOption}
 use Rattle.std.specs.Option.{option_or}
 use Rattle.std.specs.List.{AllByRecursion}
 use Rattle.std.specs.Cmp.Lexicographic.{pointwise}

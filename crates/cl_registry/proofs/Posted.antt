@@ -1,30 +1,41 @@
 -- An answer that fits and rests on the content may be posted.
-use Rattle.std.proofs.Common.{◌≡◌, ◌<◌, ◌∙◌, ℕ, zero, suc, Bool, true, false, List, [], ◌∷◌, length, Option, Some, None, refl, sym, ap, subst, arith}
-use Rattle.std.specs.Prelude.{nat_lt, slice_get, IsSome}
+use Rattle.std.proofs.Common.{◌≡◌, ◌<◌, ◌∙◌, inl, inr, ℕ, zero, suc, Bool, true, false, List, [], ◌∷◌, length, Option, Some, None, refl, sym, ap, subst, arith}
+use Rattle.std.specs.Prelude.{nat_lt, slice_get, Contains, IsSome}
 use Rattle.std.proofs.lemmas.Bool.Decides.{nat_tests}
 use Rattle.cl_classfile.specs.Files.{Name}
+use Rattle.cl_model.specs.declared.class.Class.{Class}
 use Rattle.cl_model.specs.declared.request.Request.{Request}
 use Rattle.cl_model.specs.declared.request.Request.TheVariants as requests
+use Rattle.cl_model.specs.declared.settled.Settled.{Settled}
+use Rattle.cl_model.specs.declared.verdict.Verdict as rust_verdict
 use Rattle.cl_model.specs.declared.verdict.Verdict.TheVariants as verdicts
 use Rattle.cl_model.specs.declared.answer.Answer as rust
 use Rattle.cl_model.specs.declared.answer.Answer.TheVariants as answers
 use Rattle.cl_model.specs.Content.{Content}
 use Rattle.cl_model.specs.Classes.{class}
-use Rattle.cl_model.specs.States.{State, start, Verdict, IsClass, Wrong, Answer}
-use Rattle.cl_model.specs.Plans.{Load}
-use Rattle.cl_model.specs.Machine.{Setting, Scheduled, AnswersPlan, IsClosed, MaySay, MayAnswer}
-use Rattle.cl_model.specs.Views.{answer_of, answers_of, answer_at, error_of, request_of}
-use Rattle.cl_model.proofs.Frames.{answers_here}
+use Rattle.cl_model.specs.States.{State, start, IsClass, IsLinked, Answer, recorded, settled_to}
+use Rattle.cl_model.specs.Plans.{Load, Resolve, Link}
+use Rattle.cl_model.specs.Machine.{Setting, Scheduled, AnswersPlan, IsSound, MaySay, MayAnswer}
+use Rattle.cl_model.specs.Tables.{Bears, BearsAnswer, Records}
+use Rattle.cl_model.specs.Views.{answer_of, answers_of, answer_at, request_of, verdict_of}
+use Rattle.cl_model.proofs.Gone.{borne_said}
 use Rattle.cl_model.proofs.Looks.{recorded_answers}
-use Rattle.cl_config.specs.Views.{Configured}
+use Rattle.cl_model.proofs.Planned.{plan_exists}
+use Rattle.cl_model.proofs.Reached.{reference_is_plan}
+use Rattle.cl_model.proofs.Sound.{runs_are_sound}
+use Rattle.cl_model.proofs.Tables.{recorded_reached}
 use Rattle.cl_config.specs.Loaders.{schedule}
-use Rattle.cl_delegation.specs.Worlds.{world_of, setting_of}
-use Rattle.cl_registry.specs.Findings.{Answered, Based, EndsWhere, AnswerRests}
-use Rattle.cl_registry.specs.Tables.{Shown, state_of, round_of, AnswerBacked, IsTrusted, Fits}
+use Rattle.cl_delegation.specs.Worlds.{setting_of}
+use Rattle.cl_findings.specs.Findings.{Answered, IsLookedUp, Rests}
+use Rattle.cl_findings.proofs.Answered.{standing_answers}
+use Rattle.cl_registry.specs.Tables.{Shown, steps, state_of, records_of, round_of, IsTrusted}
+use Rattle.cl_registry.specs.References.{settled_by}
+use Rattle.cl_registry.specs.Posting.{AnswerBacked, VerdictBacked, Fits}
 use Rattle.cl_registry.specs.Allowed.{FittingIsAllowed}
-use Rattle.cl_registry.proofs.Allowed.{closed_of}
 use Rattle.cl_registry.proofs.Calm.{unposted_stays}
+use Rattle.cl_registry.proofs.Cited.{settled_by_in, settled_cited_by}
 use Rattle.cl_registry.proofs.Histories.{open_answer, unposted}
+use Rattle.cl_registry.proofs.Linked.{prepared_comes}
 
 -- ---- rounds
 
@@ -64,27 +75,99 @@ same_or a b below above = by_test (nat_lt a b) (nat_lt b a) refl refl
 
 -- ---- answers
 
-say : (g : Setting) (s : State) (l : ℕ) (name : Name) (v : Verdict) → AnswersPlan g s (Load l name) v → MaySay g s (Load l name) v
-say g s l name v a = record { plan = a.plan; planned = a.planned; answered = a.answered; rests = tt }
+-- the verdict of a class that is loaded
+load_said : (g : Setting) (s : State) (l : ℕ) (name : Name) (c : Class) → IsSound g s → Records s l name c → MaySay g s (Load l name) (IsClass c)
+load_said g s l name c sound rec =
+    let a : AnswersPlan g s (Load l name) (IsClass c) = subst (λ (n : Name). AnswersPlan g s (Load l name) (IsClass (class n c.loader))) (sym rec.0) (recorded_answers g s l c.loader name sound.closed rec.1) in
+    record { plan = a.plan; planned = a.planned; answered = a.answered; rests = tt }
 
--- what is backed and rests on the content told may be answered
-may_answer : (x : Shown) (content : Content) (r : Request) (a given : rust.Answer) (b : Option Based) → IsClosed (world_of x.config content) (state_of x) → AnswerBacked x (record { request = r; answer = given; basis = b }) a → AnswerRests content r a b
-    → MayAnswer (setting_of x.config x.script content) (state_of x) (request_of r) (answer_of a)
-may_answer x content (requests.Load l name) (answers.Said (verdicts.Class k)) given b closed backed rests =
+-- that of a class that is linked
+link_said : (g : Setting) (s : State) (l : ℕ) (name : Name) (c : Class) → IsSound g s → Records s l name c → Contains s.prepared c → MaySay g s (Link l name) (IsLinked c)
+link_said g s l name c sound rec own =
+    let same : class name c.loader ≡ c = ap (λ (n : Name). class n c.loader) (sym rec.0) in
+    let here = prepared_comes g s l c.loader name sound rec.1 (subst (λ (d : Class). Contains s.prepared d) (sym same) own) in
+    subst (λ (d : Class). MaySay g s (Link l name) (IsLinked d)) same here.may_say
+
+-- one that is looked up
+looked_up : (g : Setting) (s : State) (r : Request) (v : rust_verdict.Verdict) → IsSound g s → IsLookedUp r v → Bears s (request_of r) (verdict_of v) → MaySay g s (request_of r) (verdict_of v)
+looked_up g s (requests.Load l name) (verdicts.Class c) sound is bears = load_said g s l name c sound (bears c refl)
+looked_up g s (requests.Load l name) (verdicts.Array d c) sound is bears = absurd is
+looked_up g s (requests.Load l name) (verdicts.PrimitiveArray d b) sound is bears = absurd is
+looked_up g s (requests.Load l name) (verdicts.Field c k) sound is bears = absurd is
+looked_up g s (requests.Load l name) (verdicts.Method c k) sound is bears = absurd is
+looked_up g s (requests.Load l name) (verdicts.Linked c) sound is bears = absurd is
+looked_up g s (requests.Load l name) verdicts.BadEntry sound is bears = absurd is
+looked_up g s (requests.Load l name) verdicts.ArrayMember sound is bears = absurd is
+looked_up g s (requests.Load l name) (verdicts.Error k c) sound is bears = absurd is
+looked_up g s (requests.Load l name) (verdicts.Linkage n) sound is bears = absurd is
+looked_up g s (requests.Resolve l name i) v sound is bears = absurd is
+looked_up g s (requests.Link l name) (verdicts.Linked c) sound is bears = let b = bears c refl in link_said g s l name c sound b.0 b.1
+looked_up g s (requests.Link l name) (verdicts.Class c) sound is bears = absurd is
+looked_up g s (requests.Link l name) (verdicts.Array d c) sound is bears = absurd is
+looked_up g s (requests.Link l name) (verdicts.PrimitiveArray d b) sound is bears = absurd is
+looked_up g s (requests.Link l name) (verdicts.Field c k) sound is bears = absurd is
+looked_up g s (requests.Link l name) (verdicts.Method c k) sound is bears = absurd is
+looked_up g s (requests.Link l name) verdicts.BadEntry sound is bears = absurd is
+looked_up g s (requests.Link l name) verdicts.ArrayMember sound is bears = absurd is
+looked_up g s (requests.Link l name) (verdicts.Error k c) sound is bears = absurd is
+looked_up g s (requests.Link l name) (verdicts.Linkage n) sound is bears = absurd is
+
+-- ---- what is settled
+
+place_same : (o : Option ℕ) (p q : ℕ) → o ≡ Some p → o ≡ Some q → p ≡ q
+place_same o p q e f = cc
+
+-- what an entry is settled to the tables bear for a request that resolves it
+settled_bears : (x : Shown) (r : Request) (s : Settled) → settled_by x r ≡ Some s → Bears (state_of x) (request_of r) (verdict_of s.verdict)
+settled_bears x r s at =
+    let e = settled_cited_by x r s at in
+    let is = settled_by_in x r s at in
+    subst (λ (q : Request). Bears (state_of x) (request_of q) (verdict_of s.verdict)) (sym e.request)
+    (λ d rec.
+    let same : s.class ≡ d = ap (λ (p : ℕ). class s.class.name p) (place_same (recorded (records_of x) e.loader s.class.name) s.class.loader d.loader e.recorded rec.1) ∙ ap (λ (n : Name). class n d.loader) (sym rec.0) in
+    inr (inr (subst (λ (c : Class). settled_to (state_of x).settled c s.index ≡ Some (verdict_of s.verdict)) same is.verdict)))
+
+-- and it is what the machine answers
+settled_said : (g : Setting) (x : Shown) (r : Request) (s : Settled) → IsSound g (state_of x) → settled_by x r ≡ Some s → MaySay g (state_of x) (request_of r) (verdict_of s.verdict)
+settled_said g x r s sound at =
+    let e = settled_cited_by x r s at in
+    let is = settled_by_in x r s at in
+    let plan = plan_exists g.world (Resolve e.loader s.class.name s.index) in
+    let reached = recorded_reached g.world (state_of x) (Resolve e.loader s.class.name s.index) plan.0 s.class.loader sound.closed plan.1 e.recorded in
+    let settled = sound.settled s.class s.index (verdict_of s.verdict) is.verdict in
+    let answered : AnswersPlan g (state_of x) (request_of r) (verdict_of s.verdict) =
+    subst (λ (q : Request). AnswersPlan g (state_of x) (request_of q) (verdict_of s.verdict)) (sym e.request)
+    (reference_is_plan g (state_of x) e.loader s.class.name s.index plan.0 s.class (verdict_of s.verdict) plan.1 reached.0 reached.1 settled.answered) in
+    borne_said g (state_of x) (request_of r) (verdict_of s.verdict) (settled_bears x r s at) answered
+
+-- ---- what may be answered
+
+-- a verdict that is backed and rests on the content told may be said
+may_say : (x : Shown) (content : Content) (f : Answered) (v : rust_verdict.Verdict) → IsSound (setting_of x.config x.script content) (state_of x) → f.answer ≡ answers.Said v → VerdictBacked x f v → Rests (Some content) f
+    → MaySay (setting_of x.config x.script content) (state_of x) (request_of f.request) (verdict_of v)
+may_say x content f v sound said backed rests =
     let g = setting_of x.config x.script content in
-    say g (state_of x) l name (IsClass k) (subst (λ (n : Name). AnswersPlan g (state_of x) (Load l name) (IsClass (class n k.loader))) (sym backed.0) (recorded_answers g (state_of x) l k.loader name closed backed.1))
-may_answer x content (requests.Load l name) (answers.Said (verdicts.Error kind k)) given None closed backed rests = absurd rests
-may_answer x content (requests.Load l name) (answers.Said (verdicts.Error kind k)) given (Some b) closed backed rests =
-    let g = setting_of x.config x.script content in
-    let v = Wrong (error_of kind k) in
-    let here : EndsWhere (world_of x.config content) b.needs (Load l name) v = subst (λ (c : Configured). EndsWhere (world_of c content) b.needs (Load l name) v) backed.0 rests in
-    say g (state_of x) l name v (answers_here g (state_of x) (Load l name) v (here (state_of x) closed backed.1))
-may_answer x content (requests.Load l name) (answers.Said v) given b closed backed rests = absurd backed
-may_answer x content (requests.Resolve l name i) (answers.Said v) given b closed backed rests = absurd backed
-may_answer x content (requests.Link l name) (answers.Said v) given b closed backed rests = absurd backed
-may_answer x content r (answers.Shared s) given b closed backed rests = absurd backed
-may_answer x content r answers.Memory given b closed backed rests = tt
-may_answer x content r (answers.SourceFault n l) given b closed backed rests = tt
+    elim backed.grounded [
+      | inl is ↦ looked_up g (state_of x) f.request v sound is backed.borne
+      | inr stands ↦ borne_said g (state_of x) (request_of f.request) (verdict_of v) backed.borne (standing_answers content x.config x.script (state_of x) f v rests sound stands said)
+    ]
+
+may_answer : (x : Shown) (content : Content) (f : Answered) (a : rust.Answer) → IsSound (setting_of x.config x.script content) (state_of x) → f.answer ≡ a → AnswerBacked x f a → Rests (Some content) f
+    → MayAnswer (setting_of x.config x.script content) (state_of x) (request_of f.request) (answer_of a)
+may_answer x content f (answers.Said v) sound is backed rests = may_say x content f v sound is backed rests
+may_answer x content f (answers.Shared s) sound is backed rests = settled_said (setting_of x.config x.script content) x f.request s.value sound backed
+may_answer x content f answers.Memory sound is backed rests = tt
+may_answer x content f (answers.SourceFault n l) sound is backed rests = tt
+
+-- ---- what the tables bear, under any source
+
+pub borne : (x : Shown) (f : Answered) (a : rust.Answer) → AnswerBacked x f a → BearsAnswer (state_of x) (request_of f.request) (answer_of a)
+borne x f (answers.Said v) backed = backed.borne
+borne x f (answers.Shared s) backed = settled_bears x f.request s.value backed
+borne x f answers.Memory backed = tt
+borne x f (answers.SourceFault n l) backed = tt
+
+-- ---- a post
 
 -- a request that fits is of the round that is served
 pub in_its_round : (x : Shown) (q : ℕ) (f : Answered) → IsTrusted x → Fits x q f → (n : ℕ) × (slice_get x.script.rounds_of q ≡ Some n) × (n ≡ round_of x)
@@ -104,5 +187,5 @@ fitting_is_allowed content x q f kept fits rests =
       asked = scheduled_at x.script.requests x.script.rounds_of q f.request n.0 fits.asked n.1;
       in_round = n.2;
       unposted = unposted_stays (answers_of x.answers) x.history start q (unposted x q kept.trusted fits.unanswered);
-      may_answer = may_answer x content f.request f.answer f.answer f.basis (closed_of content x kept) fits.backed.answer rests;
+      may_answer = may_answer x content f f.answer (runs_are_sound (setting_of x.config x.script content) (steps x) kept.run) refl fits.backed.answer rests;
     }

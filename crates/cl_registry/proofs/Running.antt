@@ -1,48 +1,46 @@
--- What the state of a registry's history holds: no equality, the answers that are posted, the records of what is defined.
-use Rattle.std.proofs.Common.{◌≡◌, ◌≢◌, ◌⊎◌, inl, inr, ◌∙◌, ◌+◌, ◌<◌, ℕ, zero, suc, Bool, true, false, List, [], ◌∷◌, ◌++◌, Option, Some, None, refl, sym, ap, subst, arith, is_some, if◌then◌else◌, length}
-use Rattle.std.specs.Prelude.{◌||◌, ◌&&◌, ◌==◌, nat_eq, find, option_map, slice_get, Contains, IsSome, All, IfSome, map, replicate}
+-- What the state of a registry's history holds: the answers that are posted, the records of what is defined.
+use Rattle.std.proofs.Common.{◌≡◌, inl, inr, ◌∙◌, ℕ, Bool, true, false, List, [], ◌∷◌, ◌++◌, Option, Some, None, refl, sym, ap, subst, is_some, if◌then◌else◌, length}
+use Rattle.std.specs.Prelude.{◌||◌, ◌&&◌, ◌==◌, nat_eq, find, option_map, All, IfSome, map, replicate}
 use Rattle.std.specs.Option.{option_or}
 use Rattle.std.specs.List.{AllByRecursion}
 use Rattle.std.proofs.lemmas.List.Folds.{find-append}
-use Rattle.std.proofs.lemmas.List.Elements.{All-nil, All-push, All-set, All-same, All-replicate, All-from_recursion, recursion_from_All}
+use Rattle.std.proofs.lemmas.List.Elements.{All-nil, All-push, All-same, All-replicate, All-from_recursion, recursion_from_All}
 use Rattle.cl_classfile.specs.Files.{Name}
 use Rattle.cl_model.specs.declared.class.Class.{Class}
 use Rattle.cl_model.specs.declared.event.Event.{Event}
 use Rattle.cl_model.specs.declared.event.Event.TheVariants as events
 use Rattle.cl_model.specs.declared.answer.Answer as rust
 use Rattle.cl_model.specs.Classes.{class}
-use Rattle.cl_model.specs.Texts.{AnswerNames, EventNames}
-use Rattle.cl_model.specs.States.{State, start, Record, Equality, Posted, Entry, Answer, recorded, answer_to, IsPath, Clashes}
-use Rattle.cl_model.specs.Machine.{Scheduled, Step, Define, Initiate, NextRound, after, state_after}
-use Rattle.cl_model.specs.Tables.{Allows, Orderly, MayRecord}
+use Rattle.cl_model.specs.Texts.{AnswerNames, EventNames, VerdictNames}
+use Rattle.cl_model.specs.States.{State, start, Record, Posted, Need, Entry, Answer, recorded, answer_to, Met, MayAdd, Refused}
+use Rattle.cl_model.specs.Machine.{Scheduled, Define, Initiate, NextRound, after, state_after}
+use Rattle.cl_model.specs.Tables.{Orderly, MayRecord}
 use Rattle.cl_model.specs.Views.{answers_of, answer_at, post_of, step_of, steps_of}
 use Rattle.cl_model.proofs.Runs.{recorded_added, record_found, run_later}
 use Rattle.cl_registry.specs.declared.report.Report.{Report}
 use Rattle.cl_registry.specs.Reports.{IsReport, IsNamed}
-use Rattle.cl_registry.specs.Tables.{Shown, state_of, posts, defined, is_in, IsTrusted, NamesLoaders}
+use Rattle.cl_registry.specs.Tables.{Shown, state_of, posts, defined, settlements, is_in, IsTrusted, NamesLoaders}
 use Rattle.cl_registry.proofs.Histories.{eq_nat, swap_nat, or_right}
 
--- ---- no equality is imposed
+-- ---- what may be recorded
 
-none_and_some : (o : Option ℕ) (x : ℕ) → o ≡ None → o ≡ Some x → ⊥
+pub none_and_some : (o : Option ℕ) (x : ℕ) → o ≡ None → o ≡ Some x → ⊥
 none_and_some o x h k = cc
 
-no_equality : (e : Equality) → Contains [] e → ⊥
-no_equality e h = absurd (let l : h.0 < 0 = h.1 in omega arith)
+-- what has no record and is not refused may be recorded
+pub may_record : (s : State) (l p : ℕ) (name : Name) → recorded s.records l name ≡ None → (Refused s (Entry l name p) → ⊥) → MayRecord s l p name
+may_record s l p name fresh free =
+    record { fresh = fresh; fits = λ k. free (record { unmet = λ m. none_and_some (recorded s.records l name) p fresh m; clashes = k }) }
 
--- without equalities a loader is joined with itself alone
-alone : (ks : List Equality) (name : Name) (a : ℕ) (path : List ℕ) (b : ℕ) → ks ≡ [] → IsPath ks name a path b → a ≡ b
-alone ks name a [] b e h = h
-alone ks name a (c ∷ cs) b e h = absurd (no_equality h.0.equality (subst (λ (x : List Equality). Contains x h.0.equality) e h.0.imposed))
+-- and is a need that may be added
+pub may_add : (s : State) (l p : ℕ) (name : Name) → recorded s.records l name ≡ None → (Refused s (Entry l name p) → ⊥) → MayAdd s (Entry l name p)
+may_add s l p name fresh free =
+    let unmet : Met s (Entry l name p) → ⊥ = λ m. none_and_some (recorded s.records l name) p fresh m in
+    record { unmet = unmet; fits = λ k. free (record { unmet = unmet; clashes = k }) }
 
-pub no_clash : (s : State) (l p : ℕ) (name : Name) → s.equalities ≡ [] → recorded s.records l name ≡ None → Clashes s (Entry l name p) → ⊥
-no_clash s l p name e fresh k =
-    none_and_some (recorded s.records l name) k.other_place fresh
-    (subst (λ (o : ℕ). recorded s.records o name ≡ Some k.other_place) (sym (alone s.equalities name l k.joined.path k.other e k.joined.along)) k.recorded_there)
-
--- what has no record may be recorded
-pub may_record : (s : State) (l p : ℕ) (name : Name) → s.equalities ≡ [] → recorded s.records l name ≡ None → MayRecord s l p name
-may_record s l p name calm fresh = record { fresh = fresh; fits = no_clash s l p name calm fresh }
+-- what may be added is not refused
+pub may_be_added : (s : State) (n : Need) → MayAdd s n → Refused s n → ⊥
+may_be_added s n may refused = may.fits refused.clashes
 
 -- ---- the answers of the state are those that are given
 
@@ -173,6 +171,7 @@ names_event count h e all one = All-push (EventNames count) h e all one
 pub named_new : (x : Shown) (left : ℕ) → x.history ≡ [] → x.answers ≡ replicate left None → NamesLoaders x
 named_new x left h a = record {
   history = All-same (EventNames (length x.config.loaders)) x.history [] h (All-nil (EventNames (length x.config.loaders)));
+  settled = All-same (λ s. VerdictNames (length x.config.loaders) s.verdict) (settlements x.history) [] (ap settlements h) (All-nil (λ s. VerdictNames (length x.config.loaders) s.verdict));
   answers = All-same (Names (length x.config.loaders)) x.answers (replicate left None) a (All-replicate (Names (length x.config.loaders)) left None tt);
 }
 

@@ -1,7 +1,10 @@
 -- When a round may end: each request of it has its answer.
-use Rattle.std.proofs.Common.{◌≡◌, ◌∙◌, ◌<◌, ◌≤◌, ◌+◌, ◌-◌, ◌⊎◌, inl, inr, ℕ, zero, suc, Bool, true, false, List, [], ◌∷◌, ◌++◌, length, map, Option, Some, None, refl, sym, ap, subst, arith, is_some, replicate, get_or, add-one, if◌then◌else◌}
-use Rattle.std.specs.Prelude.{nat_eq, slice_get, option_and_then, IsSome}
-use Rattle.std.proofs.lemmas.List.{append-nil, length_push, length-replicate}
+use Rattle.std.proofs.Common.{◌≡◌, ◌∙◌, ◌<◌, ◌≤◌, ◌+◌, ◌⊎◌, inl, inr, ℕ, zero, suc, Bool, true, false, List, [], ◌∷◌, length, map, Option, Some, None, refl, sym, ap, subst, arith, is_some, replicate, get_or, add-one, if◌then◌else◌}
+use Rattle.std.specs.Prelude.{nat_eq, ◌==◌, ◌&&◌, find, slice_get, option_and_then, option_map, IsSome}
+use Rattle.std.specs.List.{AllByRecursion}
+use Rattle.std.specs.HashMap.{HashMap, get}
+use Rattle.std.specs.Map.{lookup}
+use Rattle.std.proofs.lemmas.List.{length_push, length-replicate}
 use Rattle.std.proofs.lemmas.Cmp.{nat_eq_equiv}
 use Rattle.std.proofs.lemmas.Bool.Decides.{nat_tests}
 use Rattle.std.proofs.lemmas.Option.{slice_get_within, slice_get_read}
@@ -9,25 +12,32 @@ use Rattle.cl_model.specs.declared.request.Request.{Request}
 use Rattle.cl_model.specs.declared.event.Event.{Event}
 use Rattle.cl_model.specs.declared.event.Event.TheVariants as events
 use Rattle.cl_model.specs.declared.answer.Answer as rust
-use Rattle.cl_model.specs.Classes.{class}
+use Rattle.cl_classfile.specs.Files.{Name}
+use Rattle.cl_model.specs.declared.class.Class.{Class}
+use Rattle.cl_model.specs.declared.need.Equality.{Equality}
+use Rattle.cl_model.specs.Classes.{class, same_class}
 use Rattle.cl_model.specs.Content.{Content}
-use Rattle.cl_model.specs.States.{State, Answer, start, Record, recorded, answer_to}
-use Rattle.cl_model.specs.Machine.{Scheduled, Step, NextRound, Run, state_after, after}
+use Rattle.cl_model.specs.States.{State, AllMet, Answer, start, recorded}
+use Rattle.cl_model.specs.Machine.{Scheduled, Step, Run, state_after}
 use Rattle.cl_model.specs.Tables as tables
-use Rattle.cl_model.specs.Views.{answer_of, answers_of, answer_at, request_of, steps_of}
+use Rattle.cl_model.specs.Views.{answers_of, answer_at, request_of, steps_of}
 use Rattle.cl_config.specs.Scripts.{IsScript}
 use Rattle.cl_config.specs.Views.{Scripted}
 use Rattle.cl_config.specs.Loaders.{schedule, schedule_of}
 use Rattle.cl_delegation.specs.Worlds.{setting_of}
 use Rattle.std.proofs.lemmas.List.Elements.{All-nil, All-same}
 use Rattle.cl_hierarchy.specs.Drafts.{IsSpelt}
+use Rattle.cl_hierarchy.specs.Imposed.{needs_of}
 use Rattle.cl_hierarchy.specs.Rows.{Rowed}
+use Rattle.cl_hierarchy.specs.RowTables.{AreRows}
+use Rattle.cl_constraints.specs.Books.{IsBookOf}
 use Rattle.cl_registry.specs.Kept.{left_in, open_in, Fields, IsRegistry}
-use Rattle.cl_registry.specs.Tables.{Shown, steps, state_of, records_of, round_of, row_of, posts, defined, is_in, RunsAs, with_round, IsOpen, MayGoOn, empty_of}
+use Rattle.cl_registry.specs.Tables.{Shown, steps, state_of, records_of, round_of, row_of, posts, defined, settlements, reference_in, is_in, RunsAs, IsPlaced, with_round, MayGoOn}
 use Rattle.cl_registry.proofs.Histories.{given, open_answer, eq_nat}
 use Rattle.cl_registry.proofs.Running.{answered, named_new}
 use Rattle.cl_registry.proofs.Allowed.{round_is_allowed}
-use Rattle.cl_registry.proofs.Kept.{kept_event, state_event}
+use Rattle.cl_registry.proofs.Kept.{book_event, kept_event, none_settled, rows_same, settled_same, state_event, step_by}
+use Rattle.cl_registry.proofs.Known.{met_after}
 
 -- ---- the schedule
 
@@ -102,7 +112,7 @@ some_open round (n ∷ ns) (None ∷ xs) h = by_test (nat_eq n round) refl h (so
 
 -- ---- when the next round may begin
 
-pub may_go_on : (told : Option Content) (x : Shown) (f : Fields) (n : ℕ) → IsRegistry told x f → slice_get f.unanswered f.round ≡ Some n → n ≡ 0 → f.round + 1 < x.script.rounds → MayGoOn x
+pub may_go_on : {stands : State → Type 0} (told : Option Content) (x : Shown) (f : Fields) (n : ℕ) → IsRegistry told x f stands → slice_get f.unanswered f.round ≡ Some n → n ≡ 0 → f.round + 1 < x.script.rounds → MayGoOn x
 may_go_on told x f n k at zero-left more = record {
   answered = λ q e asked same.
       let count = k.counts f.round n at in
@@ -113,13 +123,13 @@ may_go_on told x f n k at zero-left more = record {
 }
 
 -- the count of the round is there
-pub round_there_is : (told : Option Content) (x : Shown) (f : Fields) (n : ℕ) → IsRegistry told x f → f.round + 1 < x.script.rounds → n ≡ get_or f.unanswered f.round n → slice_get f.unanswered f.round ≡ Some n
+pub round_there_is : {stands : State → Type 0} (told : Option Content) (x : Shown) (f : Fields) (n : ℕ) → IsRegistry told x f stands → f.round + 1 < x.script.rounds → n ≡ get_or f.unanswered f.round n → slice_get f.unanswered f.round ≡ Some n
 round_there_is told x f n k more e = let each = k.each_round in slice_get_read f.unanswered (length f.unanswered) f.round n refl (omega arith) e
 
 none_is_some : (o : Option Answer) → o ≡ None → is_some o ≡ true → ⊥
 none_is_some o e h = cc
 
-pub open_stops : (told : Option Content) (x : Shown) (f : Fields) (n : ℕ) → IsRegistry told x f → slice_get f.unanswered f.round ≡ Some n → (n ≡ 0 → ⊥) → MayGoOn x → ⊥
+pub open_stops : {stands : State → Type 0} (told : Option Content) (x : Shown) (f : Fields) (n : ℕ) → IsRegistry told x f stands → slice_get f.unanswered f.round ≡ Some n → (n ≡ 0 → ⊥) → MayGoOn x → ⊥
 open_stops told x f n k at some may =
     let o = some_open f.round x.script.rounds_of x.answers (λ z. some (k.counts f.round n at ∙ z)) in
     let asks = some_at x.script.requests o.request (subst (λ (m : ℕ). o.request < m) k.kept.trusted.whole (slice_get_within x.answers o.request None o.is_open)) in
@@ -127,13 +137,13 @@ open_stops told x f n k at some may =
     none_is_some (given x.answers o.request) (open_answer x.answers o.request o.is_open)
     (sym (answered x o.request k.kept.trusted) ∙ may.answered o.request (record { request = request_of asks.0; round = f.round }) there k.round)
 
-pub last_stops : (told : Option Content) (x : Shown) (f : Fields) → IsRegistry told x f → x.script.rounds ≤ f.round + 1 → MayGoOn x → ⊥
+pub last_stops : {stands : State → Type 0} (told : Option Content) (x : Shown) (f : Fields) → IsRegistry told x f stands → x.script.rounds ≤ f.round + 1 → MayGoOn x → ⊥
 last_stops told x f k last may = let r = k.round in let l = may.later in omega arith
 
-pub round_left : (told : Option Content) (x : Shown) (f : Fields) → IsRegistry told x f → f.round + 1 < x.script.rounds → round_of x + 1 < x.script.rounds
+pub round_left : {stands : State → Type 0} (told : Option Content) (x : Shown) (f : Fields) → IsRegistry told x f stands → f.round + 1 < x.script.rounds → round_of x + 1 < x.script.rounds
 round_left told x f k more = subst (λ (n : ℕ). n + 1 < x.script.rounds) k.round more
 
-pub no_round_left : (told : Option Content) (x : Shown) (f : Fields) → IsRegistry told x f → x.script.rounds ≤ f.round + 1 → x.script.rounds ≤ round_of x + 1
+pub no_round_left : {stands : State → Type 0} (told : Option Content) (x : Shown) (f : Fields) → IsRegistry told x f stands → x.script.rounds ≤ f.round + 1 → x.script.rounds ≤ round_of x + 1
 no_round_left told x f k none = subst (λ (n : ℕ). x.script.rounds ≤ n + 1) k.round none
 
 -- ---- the next round
@@ -148,9 +158,9 @@ below_or_at a b h = by_test (nat_eq a b) refl
 state_round : (x : Shown) → round_of (with_round x) ≡ round_of x + 1
 state_round x = ap (λ (s : State). s.round) (state_event x x.rows events.NextRound)
 
-pub kept_round : (told : Option Content) (x : Shown) (f : Fields) (used more : ℕ) → IsRegistry told x f → MayGoOn x → used ≡ f.events + 1 → more ≡ f.room_for_events
-    → IsRegistry told (with_round x) (record f { events = used; room_for_events = more; round = f.round + 1 })
-kept_round told x f used more k may one same =
+pub kept_round : {home : Name → ℕ → Option ℕ} {joins : Name → ℕ → ℕ → Type 0} (told : Option Content) (x : Shown) (f : Fields) (used more : ℕ) → IsRegistry told x f (IsBookOf home joins) → MayGoOn x → used ≡ f.events + 1 → more ≡ f.room_for_events
+    → IsRegistry told (with_round x) (record f { events = used; room_for_events = more; round = f.round + 1 }) (IsBookOf home joins)
+kept_round {home} {joins} told x f used more k may one same =
     let earlier : (q round : ℕ) → slice_get x.script.rounds_of q ≡ Some round → round < round_of (with_round x) → IsSome (answer_at (answers_of x.answers) q) =
     λ q round asked less.
     elim (below_or_at round (round_of x) (subst (λ (m : ℕ). round < m) (state_round x) less)) [
@@ -164,10 +174,15 @@ kept_round told x f used more k may one same =
     let later = may.later in
     let fits = k.events_fit in
     record {
-      kept = kept_event told x x.rows events.NextRound k.kept refl may (λ content e. round_is_allowed content x may) tt (k.kept.rows ∙ sym (append-nil (defined x.history))) k.kept.spelt earlier refl;
+      kept = kept_event told x x.rows events.NextRound k.kept (record { silent = refl; allows = may; may = λ content e. round_is_allowed content x may; names = tt }) (rows_same told x events.NextRound k.kept refl) earlier
+          (none_settled told x events.NextRound k.kept refl);
       script = k.script;
       width = k.width;
       rows = λ l n. k.rows l n ∙ sym (ap (λ (s : State). option_and_then (λ (p : ℕ). row_of x.rows (class n p)) (recorded s.records l n)) (state_event x x.rows events.NextRound));
+      book = book_event home joins x x.rows events.NextRound refl refl k.book;
+      references = λ c i. k.references c i ∙ sym (settled_same x x.rows events.NextRound c i refl);
+      prepared = k.prepared ∙ sym (ap (λ (s : State). s.prepared) (state_event x x.rows events.NextRound));
+      met = met_after (state_of x) (state_of (with_round x)) (step_by x events.NextRound) (needs_of f.met) (state_event x x.rows events.NextRound) k.met;
       left = k.left;
       counts = k.counts;
       each_round = k.each_round;
@@ -200,10 +215,22 @@ pub counts_as : (s t : Scripted) (unanswered : List ℕ) (left : ℕ) → s ≡ 
 counts_as s t unanswered left e l counts round n at =
     counts round n at ∙ ap (λ (u : Scripted). open_in round u.rounds_of (replicate (length u.requests) None)) e ∙ ap (λ (m : ℕ). open_in round t.rounds_of (replicate m None)) (sym l)
 
-pub kept_new : (told : Option Content) (x : Shown) (f : Fields) → x.rows ≡ [] → x.history ≡ [] → x.answers ≡ replicate f.left None → length x.script.requests ≡ f.left → IsScript x.script → f.parts ≡ length x.config.loaders
-    → ((l : ℕ) (n : List ℕ) → f.table l n ≡ None) → ((round n : ℕ) → slice_get f.unanswered round ≡ Some n → n ≡ open_in round x.script.rounds_of (replicate f.left None)) → length f.unanswered ≡ x.script.rounds → f.round ≡ 0 → f.events ≡ 0
-    → f.left + x.script.rounds ≤ f.room_for_events → f.filled ≡ 0 → f.left ≤ f.room → IsRegistry told x f
-kept_new told x f r h a s script width none counts each first zero-used fit zero-filled fits =
+-- an empty table has nothing of any reference
+pub bare_references : {R S A : Type 0} (value : R → A) (t : HashMap Class (HashMap ℕ R S) S) (c : Class) (i : ℕ) → t.entries ≡ [] → option_map value (reference_in t c i) ≡ None
+bare_references {R} {S} value t c i e = ap (λ (es : List (Class × HashMap ℕ R S)). option_map value (option_and_then (λ m. get nat_eq m i) (lookup (same_class c) es))) e
+
+-- no table has anything
+pub record IsBare (f : Fields) (stands : State → Type 0) : Type 0 where
+  pub table : (l : ℕ) (n : List ℕ) → f.table l n ≡ None
+  pub book : stands start
+  pub references : (c : Class) (i : ℕ) → f.references c i ≡ None
+  pub prepared : f.prepared ≡ []
+  pub met : f.met ≡ []
+
+pub kept_new : {stands : State → Type 0} (told : Option Content) (x : Shown) (f : Fields) → x.rows ≡ [] → x.history ≡ [] → x.answers ≡ replicate f.left None → length x.script.requests ≡ f.left → IsScript x.script → f.parts ≡ length x.config.loaders
+    → IsBare f stands → ((round n : ℕ) → slice_get f.unanswered round ≡ Some n → n ≡ open_in round x.script.rounds_of (replicate f.left None)) → length f.unanswered ≡ x.script.rounds → f.round ≡ 0 → f.events ≡ 0
+    → f.left + x.script.rounds ≤ f.room_for_events → f.filled ≡ 0 → f.left ≤ f.room → IsRegistry told x f stands
+kept_new {stands} told x f r h a s script width bare counts each first zero-used fit zero-filled fits =
     let no-steps : steps x ≡ [] = ap (λ (h : List Event). steps_of (answers_of x.answers) h) h in
     let no-state : state_of x ≡ start = ap (state_after start) no-steps in
     let no-posts : posts x.history ≡ [] = ap posts h in
@@ -220,13 +247,18 @@ kept_new told x f r h a s script width none counts each first zero-used fit zero
         };
         named = named_new x f.left h a;
         run = run_new told x no-steps;
-        calm = ap (λ (s : State). s.equalities) no-state;
         rows = ap (map (λ (r : Rowed). r.class)) r ∙ sym (ap defined h);
         spelt = All-same (λ s. IsSpelt told s.class s.file) x.rows [] r (All-nil (λ s. IsSpelt told s.class s.file));
+        order = subst (λ (rows : List Rowed). AreRows told x.config rows) (sym r) tt;
+        placed = subst (λ (rows : List Rowed). AllByRecursion (IsPlaced (records_of x)) rows) (sym r) tt;
       };
       script = script;
       width = width;
-      rows = λ l n. none l n ∙ sym (ap (λ (s : State). option_and_then (λ (p : ℕ). row_of x.rows (class n p)) (recorded s.records l n)) no-state);
+      rows = λ l n. bare.table l n ∙ sym (ap (λ (s : State). option_and_then (λ (p : ℕ). row_of x.rows (class n p)) (recorded s.records l n)) no-state);
+      book = subst (λ (s : State). stands s) (sym no-state) bare.book;
+      references = λ c i. bare.references c i ∙ sym (ap (λ (es : List Event). find (λ s. same_class s.class c && (s.index == i)) (settlements es)) h);
+      prepared = bare.prepared ∙ sym (ap (λ (s : State). s.prepared) no-state);
+      met = subst (λ (es : List Equality). AllMet (state_of x) (needs_of es)) (sym bare.met) tt;
       left = sym (ap left_in a ∙ left_all f.left);
       counts = λ round n e. counts round n e ∙ ap (open_in round x.script.rounds_of) (sym a);
       each_round = each;

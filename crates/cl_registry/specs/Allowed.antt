@@ -1,42 +1,82 @@
 -- What a registry accepts is what the linkage machine allows next: laws, each the contract of a function without a body (JVMS SE 8, 5.3, 5.3.5).
-use Rattle.std.specs.Prelude.{◌≡◌, ◌<◌, ℕ, List, length, Some}
-use Rattle.cl_model.specs.States.{recorded}
+use Rattle.std.specs.Prelude.{◌≡◌, ◌<◌, ℕ, List, ◌++◌, length, take, Some, slice_get, Contains}
+use Rattle.cl_model.specs.declared.need.Equality.{Equality}
+use Rattle.cl_model.specs.States.{Need, recorded, AllMet, Met, Refused}
 use Rattle.cl_model.specs.Content.{Content}
 use Rattle.cl_model.specs.Views.{answer_of}
-use Rattle.cl_model.specs.Machine.{MayDefine, MayInitiate, MayPost, NextRound, May}
+use Rattle.cl_model.specs.Machine.{MayConstrain, MayDefine, MayInitiate, MayPost, MayPrepare, NextRound, May}
 use Rattle.cl_delegation.specs.Searches.{Located, LeadsTo}
-use Rattle.cl_delegation.specs.Worlds.{setting_of}
+use Rattle.cl_delegation.specs.Worlds.{setting_of, world_of}
 use Rattle.cl_hierarchy.specs.Drafts.{IsDraft, Drafted}
-use Rattle.cl_registry.specs.Findings.{Answered, Rests}
+use Rattle.cl_hierarchy.specs.Imposed.{Listed, OfPreparation, equal_need, needs_of}
+use Rattle.cl_hierarchy.specs.Lineages.{Lined}
+use Rattle.cl_findings.specs.Findings.{Answered, Rests}
 use Rattle.cl_registry.specs.declared.registry.RegistryFault.TheVariants.{Stray}
+use Rattle.cl_registry.specs.Imposing.{AreOfConfig, IsListed, IsListOf, IsReady, MayImpose}
+use Rattle.cl_registry.specs.Posting.{Fits}
 use Rattle.cl_registry.specs.Refusals.{DefineRefusedFor}
-use Rattle.cl_registry.specs.Tables.{Shown, state_of, records_of, NamesLoaders, IsKept, IsNew, LacksRecord, MayEnter, MayJoin, Fits, MayGoOn}
+use Rattle.cl_registry.specs.Tables.{Shown, state_of, records_of, NamesLoaders, IsKept, IsNew, LacksRecord, MayEnter, MayJoin, own_record, asked_record, MayGoOn}
 
--- a class of this configuration that the machine may define has no record and may be entered (5.3.5)
+-- a class of this configuration that the machine may define has no record and may be entered, and is not refused (5.3.4, 5.3.5)
 abbrev pub AllowedIsEntered : Type 0
 AllowedIsEntered =
     (content : Content) (x : Shown) (d : Drafted) → IsKept (Some content) x → IsDraft (Some content) d → d.home.config ≡ x.config
-    → MayDefine (setting_of x.config x.script content) (state_of x) d.class → MayEnter x d × IsNew x d
+    → MayDefine (setting_of x.config x.script content) (state_of x) d.class
+    → MayEnter x d × IsNew x d × (Refused (state_of x) (own_record d) → ⊥)
 
--- a class that has no record and may be entered may be defined by the machine (5.3.5)
+-- a class that has no record and may be entered, and is not refused, may be defined by the machine (5.3.4, 5.3.5)
 abbrev pub EnteredIsAllowed : Type 0
 EnteredIsAllowed =
     (content : Content) (x : Shown) (d : Drafted) → IsKept (Some content) x → IsDraft (Some content) d
-    → MayEnter x d → IsNew x d → MayDefine (setting_of x.config x.script content) (state_of x) d.class
+    → MayEnter x d → IsNew x d → (Refused (state_of x) (own_record d) → ⊥)
+    → MayDefine (setting_of x.config x.script content) (state_of x) d.class
 
--- a home of this configuration by which the machine may record an initiating loader may be joined, and that loader has no record (5.3)
+-- a home of this configuration by which the machine may record an initiating loader may be joined, that loader has no record, and
+-- this one is not refused (5.3, 5.3.4)
 abbrev pub AllowedIsJoined : Type 0
 AllowedIsJoined =
     (content : Content) (x : Shown) (h : Located) → IsKept (Some content) x → h.config ≡ x.config
     → MayInitiate (setting_of x.config x.script content) (state_of x) h.name h.place h.asked
-    → MayJoin x h × LacksRecord x h.asked h.name
+    → MayJoin x h × LacksRecord x h.asked h.name × (Refused (state_of x) (asked_record h) → ⊥)
 
--- a home that may be joined, where the loader has no record, is one by which the machine may record it as initiating (5.3)
+-- a home that may be joined, where the loader has no record and this one is not refused, is one by which the machine may record it
+-- as initiating (5.3, 5.3.4)
 abbrev pub JoinedIsAllowed : Type 0
 JoinedIsAllowed =
     (content : Content) (x : Shown) (h : Located) → IsKept (Some content) x → LeadsTo (Some content) h.config h.asked h.name (Some h.place)
-    → MayJoin x h → LacksRecord x h.asked h.name
+    → MayJoin x h → LacksRecord x h.asked h.name → (Refused (state_of x) (asked_record h) → ⊥)
     → MayInitiate (setting_of x.config x.script content) (state_of x) h.name h.place h.asked
+
+-- an equality of a list that may be imposed, and is neither met nor refused, may be imposed by the machine (5.3.4)
+abbrev pub ImposedIsAllowed : Type 0
+ImposedIsAllowed =
+    (content : Content) (x : Shown) (e : Listed) (k : ℕ) (n : Equality) → IsKept (Some content) x → IsListed (Some content) e
+    → MayImpose x e k → slice_get e.needs k ≡ Some n → (Met (state_of x) (equal_need n) → ⊥) → (Refused (state_of x) (equal_need n) → ⊥)
+    → MayConstrain (setting_of x.config x.script content) (state_of x) n.name n.one n.other
+
+-- an equality of a list of this configuration, of a recorded class, may be imposed where the machine's own list comes to it: what
+-- it has before this list, and what this list has before it, is met (5.3.4, 5.4.2, 5.4.3)
+abbrev pub AllowedIsImposed : Type 0
+AllowedIsImposed =
+    (content : Content) (x : Shown) (e : Listed) (k : ℕ) (before : List Need) → IsKept (Some content) x → IsListed (Some content) e
+    → AreOfConfig x.config e.origin → k < length e.needs → IsListOf (world_of x.config content) (state_of x) e.origin (before ++ needs_of e.needs)
+    → AllMet (state_of x) (before ++ take k (needs_of e.needs)) → MayImpose x e k
+
+-- a class that may be marked, and is not prepared, may be prepared by the machine (5.4.2)
+abbrev pub MarkedIsAllowed : Type 0
+MarkedIsAllowed =
+    (content : Content) (x : Shown) (l : Lined) (needs : List Equality) → IsKept (Some content) x
+    → IsListed (Some content) (record { needs = needs; origin = OfPreparation l }) → IsReady x l (needs_of needs)
+    → (Contains (state_of x).prepared l.own.class → ⊥)
+    → MayPrepare (setting_of x.config x.script content) (state_of x) l.own.class
+
+-- the preparation of a class that the machine may make may be marked by its list, under this configuration (5.4.2)
+abbrev pub AllowedIsMarked : Type 0
+AllowedIsMarked =
+    (content : Content) (x : Shown) (l : Lined) (needs : List Equality) → IsKept (Some content) x
+    → IsListed (Some content) (record { needs = needs; origin = OfPreparation l }) → l.config ≡ x.config
+    → MayPrepare (setting_of x.config x.script content) (state_of x) l.own.class
+    → IsReady x l (needs_of needs) × (Contains (state_of x).prepared l.own.class → ⊥)
 
 -- an answer that fits and rests on the content may be posted by the machine (5.3.5)
 abbrev pub FittingIsAllowed : Type 0

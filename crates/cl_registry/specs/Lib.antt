@@ -1,9 +1,12 @@
 pub mod Allowed
-pub mod Backs
-pub mod Bases
-pub mod Findings
+pub mod Imposing
 pub mod Kept
 pub mod Parts
+pub mod Posting
+pub mod References
 pub mod Refusals
 pub mod Reports
+pub mod Settling
+pub mod SettlingLaws
 pub mod Tables
+pub mod Traced

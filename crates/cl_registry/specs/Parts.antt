@@ -1,6 +1,7 @@
 -- What the steps of a registry's calls make of plain tables (JVMS SE 8, 5.3, 5.3.5).
-use Rattle.std.specs.Prelude.{◌≡◌, ◌==◌, ◌&&◌, ℕ, Bool, true, nat_eq, if◌then◌else◌, List, [], ◌∷◌, map, Option, Some, None, option_map, unwrap_or, slice_get}
+use Rattle.std.specs.Prelude.{◌≡◌, ◌<◌, ◌==◌, ◌&&◌, ℕ, IfSome, Bool, true, nat_eq, if◌then◌else◌, List, map, Option, Some, None, option_map, unwrap_or, slice_get}
 use Rattle.std.specs.List.{AllByRecursion}
+use Rattle.std.specs.HashMap.{HashMap, spare}
 use Rattle.std.specs.Cmp.Lexicographic.{pointwise}
 use Rattle.cl_classfile.specs.Files.{file_of}
 use Rattle.cl_model.specs.Classes.{Above, supers}
@@ -15,6 +16,10 @@ IsPut old new loader name row =
 -- two tables have the same rows (5.3)
 abbrev pub HasSameRows : {R : Type 0} → (ℕ → List ℕ → Option R) → (ℕ → List ℕ → Option R) → Type 0
 HasSameRows old new = (l : ℕ) (n : List ℕ) → new l n ≡ old l n
+
+-- a loader's part of a table has room for a row more
+abbrev pub HasSpare : {R S : Type 0} → List (HashMap (List ℕ) R S) → ℕ → Type 0
+HasSpare tables loader = IfSome (slice_get tables loader) (λ m. 0 < spare m)
 
 -- a table of handles, as one of what they share
 abbrev pub shared_rows : {R V : Type 0} → (R → V) → (ℕ → List ℕ → Option R) → ℕ → List ℕ → Option V

@@ -1,5 +1,5 @@
 -- What a registry keeps, and what a call does to it (JVMS SE 8, 5.3, 5.3.5).
-use Rattle.std.specs.Prelude.{◌≡◌, ◌<◌, ℕ, Bool, false, ◌||◌, nat_eq, List, [], ◌∷◌, ◌++◌, length, map, Option, Some, None, is_some, unwrap_or, replicate, find, slice_get, slice_set, option_and_then, IsSome, IfSome, All}
+use Rattle.std.specs.Prelude.{◌≡◌, ◌<◌, ℕ, Bool, false, ◌||◌, ◌&&◌, ◌==◌, nat_eq, List, [], ◌∷◌, ◌++◌, length, map, Option, Some, None, is_some, unwrap_or, replicate, find, slice_get, slice_set, option_and_then, IsSome, IfSome, All}
 use Rattle.std.specs.HashMap.{HashMap, get}
 use Rattle.std.specs.List.{AllByRecursion}
 use Rattle.std.specs.Cmp.Lexicographic.{pointwise}
@@ -8,15 +8,11 @@ use Rattle.cl_model.specs.declared.class.Class.{Class}
 use Rattle.cl_model.specs.declared.event.Event.{Event}
 use Rattle.cl_model.specs.declared.event.Event.TheVariants as events
 use Rattle.cl_model.specs.declared.answer.Answer.{Answer}
-use Rattle.cl_model.specs.declared.answer.Answer.TheVariants as answers
-use Rattle.cl_model.specs.declared.verdict.Verdict.{Verdict}
-use Rattle.cl_model.specs.declared.verdict.Verdict.TheVariants as verdicts
-use Rattle.cl_model.specs.declared.request.Request.{Request}
-use Rattle.cl_model.specs.declared.request.Request.TheVariants as requests
+use Rattle.cl_model.specs.declared.settled.Settled.{Settled}
 use Rattle.cl_model.specs.Content.{Content}
 use Rattle.cl_model.specs.Classes.{class, same_class, Above, supers, misfit}
-use Rattle.cl_model.specs.Texts.{AnswerNames, EventNames}
-use Rattle.cl_model.specs.States.{State, Record, recorded, start, AllMet}
+use Rattle.cl_model.specs.Texts.{AnswerNames, EventNames, VerdictNames}
+use Rattle.cl_model.specs.States.{State, Record, Need, Entry, recorded, start, Refused}
 use Rattle.cl_model.specs.Machine.{Step, state_after, Run}
 use Rattle.cl_model.specs.Machine as machine
 use Rattle.cl_model.specs.Tables as tables
@@ -28,7 +24,8 @@ use Rattle.cl_delegation.specs.Searches.{Located}
 use Rattle.cl_delegation.specs.Worlds.{setting_of}
 use Rattle.cl_hierarchy.specs.Drafts.{Drafted, IsSpelt}
 use Rattle.cl_hierarchy.specs.Rows.{Rowed}
-use Rattle.cl_registry.specs.Findings.{Answered, Based, loader_of}
+use Rattle.cl_hierarchy.specs.RowTables.{AreRows}
+use Rattle.cl_findings.specs.Findings.{Answered}
 
 -- what a registry shows: whose it is, the rows of the classes that were defined, in order, what happened, and the answer of
 -- each request that has one (own choice)
@@ -82,6 +79,17 @@ defined (events.Prepare c ∷ es) = defined es
 defined (events.NextRound ∷ es) = defined es
 defined (events.Post q ∷ es) = defined es
 
+-- the references that are settled, in order (5.4.3)
+abbrev pub settlements : List Event → List Settled
+settlements [] = []
+settlements (events.Define c ∷ es) = settlements es
+settlements (events.Initiate c loader ∷ es) = settlements es
+settlements (events.Constrain e ∷ es) = settlements es
+settlements (events.Settle s ∷ es) = s.value ∷ settlements es
+settlements (events.Prepare c ∷ es) = settlements es
+settlements (events.NextRound ∷ es) = settlements es
+settlements (events.Post q ∷ es) = settlements es
+
 -- the number is one of these (own choice)
 abbrev pub is_in : ℕ → List ℕ → Bool
 is_in n [] = false
@@ -101,19 +109,34 @@ abbrev pub RunsAs : Option Content → Shown → Type 0
 RunsAs None x = Unit {0}
 RunsAs (Some content) x = Run (setting_of x.config x.script content) start (steps x)
 
--- each loader that the history and the answers name is one of the configuration (own choice)
+-- each loader that the history, what is settled and the answers name is one of the configuration (own choice)
 pub record NamesLoaders (x : Shown) : Type 0 where
   pub history : All (EventNames (length x.config.loaders)) x.history
+  pub settled : All (λ s. VerdictNames (length x.config.loaders) s.verdict) (settlements x.history)
   pub answers : All (λ o. IfSome o (AnswerNames (length x.config.loaders))) x.answers
 
--- what a registry keeps; no equality is imposed yet, and each class that was defined has its row, whose file its bytes spell (5.3, 5.3.5)
+-- each direct supertype of a class is recorded by a loader as the class that this one defined (5.3; 5.3.5, steps 3 and 4)
+abbrev pub ArePlaced : List Record → ℕ → List Above → List ℕ → Type 0
+ArePlaced records loader [] [] = Unit {0}
+ArePlaced records loader [] (place ∷ places) = ⊥
+ArePlaced records loader (a ∷ above) [] = ⊥
+ArePlaced records loader (a ∷ above) (place ∷ places) =
+    (recorded records loader a.name ≡ Some place) × ArePlaced records loader above places
+
+-- the direct supertypes of a row are recorded by its class's loader (5.3; 5.3.5, steps 3 and 4)
+abbrev pub IsPlaced : List Record → Rowed → Type 0
+IsPlaced records r = ArePlaced records r.class.loader (supers (file_of r.file)) r.places
+
+-- what a registry keeps: each class that was defined has its row, whose file its bytes spell, whose direct supertypes are recorded
+-- by its loader, and which stands after those (5.3, 5.3.5)
 pub record IsKept (told : Option Content) (x : Shown) : Type 0 where
   pub trusted : IsTrusted x
   pub named : NamesLoaders x
   pub run : RunsAs told x
-  pub calm : (state_of x).equalities ≡ []
   pub rows : map (λ r. r.class) x.rows ≡ defined x.history
   pub spelt : All (λ r. IsSpelt told r.class r.file) x.rows
+  pub order : AreRows told x.config x.rows
+  pub placed : AllByRecursion (IsPlaced (records_of x)) x.rows
 
 -- ---- rows
 
@@ -137,6 +160,14 @@ row_for x d =
 -- the row in a table of each loader (5.3)
 abbrev pub row_at : {R S : Type 0} → List (HashMap (List ℕ) R S) → ℕ → List ℕ → Option R
 row_at rows loader name = option_and_then (λ m. get (pointwise nat_eq) m name) (slice_get rows loader)
+
+-- the entry in a table of the settled references of each class (5.4.3)
+abbrev pub reference_in : {R S : Type 0} → HashMap Class (HashMap ℕ R S) S → Class → ℕ → Option R
+reference_in table c index = option_and_then (λ m. get nat_eq m index) (get same_class table c)
+
+-- what a reference is settled to, with its class and index, if it is settled (5.4.3)
+abbrev pub settled_at : Shown → Class → ℕ → Option Settled
+settled_at x c index = find (λ s. same_class s.class c && (s.index == index)) (settlements x.history)
 
 -- ---- calls
 
@@ -173,9 +204,15 @@ pub record MayEnter (x : Shown) (d : Drafted) : Type 0 where
 abbrev pub with_define : Shown → Drafted → Shown
 with_define x d = record x { rows = x.rows ++ row_for x d ∷ []; history = x.history ++ events.Define d.class ∷ [] }
 
--- an event more with its row, or no event and the row that stands, where the loader has recorded the name (5.3.5)
+-- the record that a definition makes (5.3.5, step 5)
+abbrev pub own_record : Drafted → Need
+own_record d = Entry d.class.loader d.class.name d.class.loader
+
+-- an event more with its row, where its record is not refused; or no event and the row that stands, where the loader has
+-- recorded the name (5.3.4, 5.3.5)
 abbrev pub DefinedAs : Shown → Shown → Drafted → Rowed → Option ℕ → Type 0
-DefinedAs old new d row None = MayEnter old d × (new ≡ with_define old d) × (row ≡ row_for old d)
+DefinedAs old new d row None =
+    MayEnter old d × (Refused (state_of old) (own_record d) → ⊥) × (new ≡ with_define old d) × (row ≡ row_for old d)
 DefinedAs old new d row (Some place) = (new ≡ old) × (looked old d.class.loader d.class.name ≡ Some row)
 
 -- the class is recorded, by an event more unless its loader has recorded the name before (5.3.5)
@@ -193,9 +230,16 @@ pub record MayJoin (x : Shown) (h : Located) : Type 0 where
 abbrev pub with_initiate : Shown → Located → Shown
 with_initiate x h = record x { history = x.history ++ events.Initiate (class h.name h.place) h.asked ∷ [] }
 
--- an event more and the row of the home's class, or no event and the row that stands, where the loader has recorded the name (5.3)
+-- the record that an initiation makes (5.3)
+abbrev pub asked_record : Located → Need
+asked_record h = Entry h.asked h.name h.place
+
+-- an event more and the row of the home's class, where its record is not refused; or no event and the row that stands, where the
+-- loader has recorded the name (5.3, 5.3.4)
 abbrev pub InitiatedAs : Shown → Shown → Located → Rowed → Option ℕ → Type 0
-InitiatedAs old new h row None = MayJoin old h × (new ≡ with_initiate old h) × (looked old h.place h.name ≡ Some row)
+InitiatedAs old new h row None =
+    MayJoin old h × (Refused (state_of old) (asked_record h) → ⊥) × (new ≡ with_initiate old h)
+    × (looked old h.place h.name ≡ Some row)
 InitiatedAs old new h row (Some place) = (new ≡ old) × (looked old h.asked h.name ≡ Some row)
 
 -- the loader that was asked is recorded, by an event more unless it has recorded the name before (5.3)
@@ -210,31 +254,6 @@ with_post x q a = record x { history = x.history ++ events.Post q ∷ []; answer
 abbrev pub with_round : Shown → Shown
 with_round x = record x { history = x.history ++ events.NextRound ∷ [] }
 
--- what an error rests on is recorded, and was found under this configuration (5.3, 5.3.5)
-abbrev pub BasisStands : Shown → Option Based → Type 0
-BasisStands x None = ⊥
-BasisStands x (Some b) = (b.config ≡ x.config) × AllMet (state_of x) b.needs
-
--- what the verdict of a load rests on stands in the tables: the class that is answered, by the loader that defined it, or what
--- an error rests on (5.3, 5.3.5); other verdicts, and those of other requests, are not posted yet
-abbrev pub VerdictBacked : Shown → Request → Verdict → Option Based → Type 0
-VerdictBacked x (requests.Load loader name) (verdicts.Class c) b = (c.name ≡ name) × (recorded (records_of x) loader name ≡ Some c.loader)
-VerdictBacked x (requests.Load loader name) (verdicts.Error kind c) b = BasisStands x b
-VerdictBacked x r v b = ⊥
-
--- the same of an answer (5.3)
-abbrev pub AnswerBacked : Shown → Answered → Answer → Type 0
-AnswerBacked x f (answers.Said v) = VerdictBacked x f.request v f.basis
-AnswerBacked x f (answers.Shared s) = ⊥
-AnswerBacked x f answers.Memory = Unit {0}
-AnswerBacked x f (answers.SourceFault n l) = Unit {0}
-
--- its loaders are those of the configuration, too (5.3)
-pub record IsBacked (x : Shown) (f : Answered) : Type 0 where
-  pub loader : loader_of f.request < length x.config.loaders
-  pub names : AnswerNames (length x.config.loaders) f.answer
-  pub answer : AnswerBacked x f f.answer
-
 -- the request of this number asks what was answered (own choice)
 abbrev pub IsAsked : Shown → ℕ → Answered → Type 0
 IsAsked x q f = slice_get x.script.requests q ≡ Some f.request
@@ -248,13 +267,6 @@ pub record IsLater (x : Shown) (q : ℕ) : Type 0 where
 -- the request of this number has no answer yet (own choice)
 abbrev pub IsOpen : Shown → ℕ → Type 0
 IsOpen x q = slice_get x.answers q ≡ Some None
-
--- the request of this number asks what was answered, is of no later round, has no answer yet, and the tables bear the answer (5.3)
-pub record Fits (x : Shown) (q : ℕ) (f : Answered) : Type 0 where
-  pub asked : IsAsked x q f
-  pub begun : IsLater x q → ⊥
-  pub unanswered : IsOpen x q
-  pub backed : IsBacked x f
 
 -- each request of the round has its answer, and there is a later round (own choice)
 abbrev pub MayGoOn : Shown → Type 0

@@ -1,24 +1,30 @@
 //! The steps of a definition and of an initiation, on plain tables.
 
-ghost use Rattle.std.specs.Prelude.{◌≡◌, ◌≢◌, ◌<◌, ◌≤◌, ◌+◌, ◌++◌, ◌∷◌, [], Some, IfOk, IfSome, MatchOption, OnOk, OnErr, MatchBool, is_some, length, map, slice_get, vec_len, vec_capacity};
+ghost use Rattle.std.specs.Prelude.{◌≡◌, ◌≢◌, ◌<◌, ◌≤◌, ◌+◌, ◌++◌, ◌∷◌, [], Some, None, IfErr, IfOk, IfSome, MatchOption, OnOk, OnErr, MatchBool, is_some, length, map, slice_get, vec_len, vec_capacity};
 ghost use Rattle.std.specs.Option.{option_map};
 ghost use Rattle.cl_classfile.specs.Files.{file_of};
 ghost use Rattle.cl_model.specs.Classes.{class, supers};
 ghost use Rattle.cl_model.specs.declared.event.Event.TheVariants as events;
 ghost use Rattle.cl_registry.specs.Parts.{EachHas, HasSameRows, IsPut, is_there, place_by, place_there, row_by, shared_rows};
-ghost use Rattle.cl_registry.specs.Tables.{row_at};
+ghost use Rattle.cl_model.specs.declared.need.Need.TheVariants as needs;
+ghost use Rattle.cl_constraints.specs.Books.{Adds};
+ghost use Rattle.cl_registry.specs.Refusals.{BlamesIn, fault_of};
+ghost use Rattle.cl_registry.specs.Tables.{asked_record, own_record, row_at};
 
-use crate::tables::{Rows, find, insert, place};
+use crate::registry::RegistryFault;
+use crate::tables::{Rows, find, insert_reserved, place, reserve_row};
+use cl_constraints::{BookFault, ConstraintBook, GroupedBook, Refusal};
 use cl_delegation::Home;
 use cl_hierarchy::{ClassRow, Draft};
-use cl_model::{Class, Event, LoaderId, Told};
+use cl_model::{Class, Event, LoaderId, Need, Told};
 use cl_names::Name;
 use std::alloc::{AllocError, Global};
 use std::sync::Arc;
 
 /// Whether the loader of a draft has recorded the direct supertype at a place, if there is one.
 fn is_there<T: Told>(tables: &Rows<T>, draft: &Draft<T>, at: usize) -> bool
-    ensures { result ≡ is_there (λ n. is_some (row_at tables.now.items draft.now.class.loader n)) (slice_get (supers (file_of draft.now.file)) at) }
+    ensures { result ≡ is_there (λ n. is_some (row_at tables.now.items draft.now.class.loader n))
+        (slice_get (supers (file_of draft.now.file)) at) }
 {
     match draft.supertype(at) {
         None => true,
@@ -28,7 +34,11 @@ fn is_there<T: Told>(tables: &Rows<T>, draft: &Draft<T>, at: usize) -> bool
 
 /// Whether the loader of a draft has recorded each direct supertype of its class.
 pub fn has_supers<T: Told>(tables: &Rows<T>, draft: &Draft<T>) -> bool
-    ensures { MatchBool result (EachHas (λ n. is_some (row_at tables.now.items draft.now.class.loader n)) (supers (file_of draft.now.file))) (EachHas (λ n. is_some (row_at tables.now.items draft.now.class.loader n)) (supers (file_of draft.now.file)) → ⊥) }
+    ensures { MatchBool result (EachHas
+        (λ n. is_some (row_at tables.now.items draft.now.class.loader n))
+        (supers (file_of draft.now.file))) (EachHas
+        (λ n. is_some (row_at tables.now.items draft.now.class.loader n))
+        (supers (file_of draft.now.file)) → ⊥) }
 {
     for at in 0..draft.supertypes() {
         if !is_there(tables, draft, at) {
@@ -40,7 +50,9 @@ pub fn has_supers<T: Told>(tables: &Rows<T>, draft: &Draft<T>) -> bool
 
 /// Which loader defined the direct supertype at a place, by the records of the draft's loader.
 fn place_there<T: Told>(tables: &Rows<T>, draft: &Draft<T>, at: usize) -> LoaderId
-    ensures { result ≡ place_there (λ n. option_map (λ r. r.value.class.loader) (row_at tables.now.items draft.now.class.loader n)) (slice_get (supers (file_of draft.now.file)) at) }
+    ensures { result ≡ place_there (λ n. option_map (λ r. r.value.class.loader)
+        (row_at tables.now.items draft.now.class.loader n))
+        (slice_get (supers (file_of draft.now.file)) at) }
 {
     match draft.supertype(at) {
         None => LoaderId(0),
@@ -54,7 +66,8 @@ fn places_of<T: Told>(
     tables: &Rows<T>,
     draft: &Draft<T>,
 ) -> Result<Vec<LoaderId>, AllocError>
-    ensures { IfOk result (λ v. v.items ≡ map (place_by (λ n. option_map (λ r. r.value.class.loader) (row_at tables.now.items draft.now.class.loader n))) (supers (file_of draft.now.file))) }
+    ensures { IfOk result (λ v. v.items ≡ map (place_by (λ n. option_map (λ r. r.value.class.loader)
+        (row_at tables.now.items draft.now.class.loader n))) (supers (file_of draft.now.file))) }
 {
     let count = draft.supertypes();
     let mut places = Vec::with_capacity(alloc, count)?;
@@ -66,7 +79,8 @@ fn places_of<T: Told>(
 
 /// The row that a draft's loader has recorded for the name of its class.
 pub fn own_row<'a, T: Told>(tables: &'a Rows<T>, draft: &Draft<T>) -> Option<&'a Arc<ClassRow<T>>>
-    ensures { option_map (λ r. r.now) result ≡ row_at tables.now.items draft.now.class.loader draft.now.class.name }
+    ensures { option_map (λ r. r.now) result ≡ row_at tables.now.items draft.now.class.loader
+        draft.now.class.name }
 {
     find(tables, draft.class().loader, &draft.class().name)
 }
@@ -90,7 +104,8 @@ fn parts_of<T: Told>(
 ) -> Result<Parts<T>, AllocError>
     ensures event { IfOk result (λ p. p.event ≡ events.Define draft.now.class) }
     ensures name { IfOk result (λ p. p.name ≡ draft.now.class.name) }
-    ensures row { IfOk result (λ p. p.row.value ≡ row_by (λ n. option_map (λ r. r.value.class.loader) (row_at tables.now.items draft.now.class.loader n)) draft.now) }
+    ensures row { IfOk result (λ p. p.row.value ≡ row_by (λ n. option_map
+        (λ r. r.value.class.loader) (row_at tables.now.items draft.now.class.loader n)) draft.now) }
     ensures listed { IfOk result (λ p. p.listed.value ≡ p.row.value) }
     ensures answered { IfOk result (λ p. p.answered.value ≡ p.row.value) }
 {
@@ -109,33 +124,70 @@ fn parts_of<T: Told>(
     })
 }
 
-/// Records a draft's class: one row more, one event more, and as much room left for other events.
+/// Why a book did not take the record of a loader.
+fn entry_fault(refusal: Refusal, loader: LoaderId, home: LoaderId) -> RegistryFault
+    ensures { result ≡ fault_of refusal.fault (needs.Entry loader refusal.name home) }
+{
+    match refusal.fault {
+        BookFault::Memory => RegistryFault::Memory,
+        BookFault::Violates => RegistryFault::Violates(Need::Entry {
+            loader,
+            name: refusal.name,
+            home,
+        }),
+    }
+}
+
+/// Records a draft's class under a copy of its name: one row more, in the book too, one event more, and as much room left
+/// for other events.
 pub fn record<T: Told>(
     alloc: Global,
     rows: &mut Vec<Arc<ClassRow<T>>>,
     tables: &mut Rows<T>,
+    book: &mut GroupedBook,
     history: &mut Vec<Event>,
     left: usize,
     draft: &Draft<T>,
-) -> Result<Arc<ClassRow<T>>, AllocError>
+    name: Name,
+) -> Result<Arc<ClassRow<T>>, RegistryFault>
     requires loader { draft.now.class.loader < length tables.old.items }
     requires room { vec_len history.old + left ≤ vec_capacity history.old }
+    requires named { name ≡ draft.now.class.name }
+    requires fresh { ⟦<GroupedBook as ConstraintBook>⟧.record_of book.old draft.now.class.name
+        draft.now.class.loader ≡ None }
     ensures width { length tables.new.items ≡ length tables.old.items }
     ensures room { vec_len history.new + left ≤ vec_capacity history.new }
-    ensures row { IfOk result (λ r. r.value ≡ row_by (λ n. option_map (λ r. r.value.class.loader) (row_at tables.old.items draft.now.class.loader n)) draft.now) }
-    ensures event { OnOk result (history.new.items ≡ history.old.items ++ events.Define draft.now.class ∷ []) }
+    ensures row { IfOk result (λ r. r.value ≡ row_by (λ n. option_map (λ r. r.value.class.loader)
+        (row_at tables.old.items draft.now.class.loader n)) draft.now) }
+    ensures event { OnOk result (history.new.items ≡ history.old.items
+        ++ events.Define draft.now.class ∷ []) }
     ensures used { OnOk result (vec_len history.new ≡ vec_len history.old + 1) }
-    ensures put { IfOk result (λ r. IsPut (shared_rows (λ c. c.value) (row_at tables.old.items)) (shared_rows (λ c. c.value) (row_at tables.new.items)) draft.now.class.loader draft.now.class.name r.value) }
-    ensures rows { IfOk result (λ r. map (λ c. c.value) rows.new.items ≡ map (λ c. c.value) rows.old.items ++ r.value ∷ []) }
+    ensures put { IfOk result (λ r. IsPut (shared_rows (λ c. c.value) (row_at tables.old.items))
+        (shared_rows (λ c. c.value) (row_at tables.new.items)) draft.now.class.loader
+        draft.now.class.name r.value) }
+    ensures rows { IfOk result (λ r. map (λ c. c.value) rows.new.items ≡ map
+        (λ c. c.value) rows.old.items ++ r.value ∷ []) }
+    ensures entered { OnOk result (Adds ⟦<GroupedBook as ConstraintBook>⟧.stands_for book.old
+        book.new (own_record draft.now)) }
+    ensures blames { IfErr result
+        (λ fault. BlamesIn (⟦<GroupedBook as ConstraintBook>⟧.stands_for book.old)
+        (own_record draft.now) fault) }
     ensures same_history { OnErr result (history.new.items ≡ history.old.items) }
     ensures same_length { OnErr result (vec_len history.new ≡ vec_len history.old) }
-    ensures same_tables { OnErr result (HasSameRows (row_at tables.old.items) (row_at tables.new.items)) }
+    ensures same_tables { OnErr result (HasSameRows (row_at tables.old.items)
+        (row_at tables.new.items)) }
     ensures same_rows { OnErr result (rows.new.items ≡ rows.old.items) }
+    ensures same_book { OnErr result (book.new ≡ book.old) }
 {
     let parts = parts_of(alloc, tables, draft)?;
+    let loader = draft.class().loader;
     rows.reserve(1)?;
     history.reserve(left + 1)?;
-    insert(tables, draft.class().loader, parts.name, parts.row)?;
+    reserve_row(tables, loader)?;
+    if let Err(refusal) = book.enter(alloc, name, loader, loader) {
+        return Err(entry_fault(refusal, loader, loader));
+    }
+    insert_reserved(tables, loader, parts.name, parts.row);
     rows.push_reserved(parts.listed);
     history.push_reserved(parts.event);
     Ok(parts.answered)
@@ -143,15 +195,19 @@ pub fn record<T: Told>(
 
 /// The row that the loader that was asked has recorded for a home's name.
 pub fn asked_row<'a, T: Told>(tables: &'a Rows<T>, home: &Home<T>) -> Option<&'a Arc<ClassRow<T>>>
-    ensures { option_map (λ r. r.now) result ≡ row_at tables.now.items home.now.asked home.now.name }
+    ensures { option_map (λ r. r.now) result ≡ row_at tables.now.items home.now.asked
+        home.now.name }
 {
     find(tables, home.asked(), home.name())
 }
 
 /// The row of the class of a home, where the home has defined it.
 pub fn defined_row<'a, T: Told>(tables: &'a Rows<T>, home: &Home<T>) -> Option<&'a Arc<ClassRow<T>>>
-    ensures row { IfSome result (λ r. row_at tables.now.items home.now.place home.now.name ≡ Some r.now) }
-    ensures own { MatchOption result (option_map (λ r. r.value.class.loader) (row_at tables.now.items home.now.place home.now.name) ≢ Some home.now.place) (λ r. r.now.value.class.loader ≡ home.now.place) }
+    ensures row { IfSome result (λ r. row_at tables.now.items home.now.place home.now.name
+        ≡ Some r.now) }
+    ensures own { MatchOption result (option_map (λ r. r.value.class.loader)
+        (row_at tables.now.items home.now.place home.now.name) ≢ Some home.now.place)
+        (λ r. r.now.value.class.loader ≡ home.now.place) }
 {
     let row = find(tables, home.place(), home.name())?;
     if row.class().loader != home.place() {
@@ -162,7 +218,8 @@ pub fn defined_row<'a, T: Told>(tables: &'a Rows<T>, home: &Home<T>) -> Option<&
 
 /// The event by which the loader that was asked is recorded as initiating.
 fn event_of<T: Told>(alloc: Global, home: &Home<T>) -> Result<Event, AllocError>
-    ensures { IfOk result (λ e. e ≡ events.Initiate (class home.now.name home.now.place) home.now.asked) }
+    ensures { IfOk result (λ e. e ≡ events.Initiate (class home.now.name home.now.place)
+        home.now.asked) }
 {
     let class = Class {
         name: home.name().try_clone(alloc)?,
@@ -171,33 +228,52 @@ fn event_of<T: Told>(alloc: Global, home: &Home<T>) -> Result<Event, AllocError>
     Ok(Event::Initiate(class, home.asked()))
 }
 
-/// Records the loader that was asked as initiating the class of this row: one event more, and as much room left for
-/// other events.
+/// Records the loader that was asked as initiating the class of this row, under a copy of its name: in the book too, one
+/// event more, and as much room left for other events.
 pub fn join<T: Told>(
     alloc: Global,
     tables: &mut Rows<T>,
+    book: &mut GroupedBook,
     history: &mut Vec<Event>,
     left: usize,
     home: &Home<T>,
     row: Arc<ClassRow<T>>,
-) -> Result<Arc<ClassRow<T>>, AllocError>
+    name: Name,
+) -> Result<Arc<ClassRow<T>>, RegistryFault>
     requires loader { home.now.asked < length tables.old.items }
     requires room { vec_len history.old + left ≤ vec_capacity history.old }
+    requires named { name ≡ home.now.name }
+    requires fresh { ⟦<GroupedBook as ConstraintBook>⟧.record_of book.old home.now.name
+        home.now.asked ≡ None }
     ensures width { length tables.new.items ≡ length tables.old.items }
     ensures room { vec_len history.new + left ≤ vec_capacity history.new }
     ensures row { IfOk result (λ r. r.value ≡ row.value) }
-    ensures event { OnOk result (history.new.items ≡ history.old.items ++ events.Initiate (class home.now.name home.now.place) home.now.asked ∷ []) }
+    ensures event { OnOk result (history.new.items ≡ history.old.items ++ events.Initiate
+        (class home.now.name home.now.place) home.now.asked ∷ []) }
     ensures used { OnOk result (vec_len history.new ≡ vec_len history.old + 1) }
-    ensures put { OnOk result (IsPut (shared_rows (λ c. c.value) (row_at tables.old.items)) (shared_rows (λ c. c.value) (row_at tables.new.items)) home.now.asked home.now.name row.value) }
+    ensures put { OnOk result (IsPut (shared_rows (λ c. c.value) (row_at tables.old.items))
+        (shared_rows (λ c. c.value) (row_at tables.new.items)) home.now.asked home.now.name
+        row.value) }
+    ensures entered { OnOk result (Adds ⟦<GroupedBook as ConstraintBook>⟧.stands_for book.old
+        book.new (asked_record home.now)) }
+    ensures blames { IfErr result
+        (λ fault. BlamesIn (⟦<GroupedBook as ConstraintBook>⟧.stands_for book.old)
+        (asked_record home.now) fault) }
     ensures same_history { OnErr result (history.new.items ≡ history.old.items) }
     ensures same_length { OnErr result (vec_len history.new ≡ vec_len history.old) }
-    ensures same_tables { OnErr result (HasSameRows (row_at tables.old.items) (row_at tables.new.items)) }
+    ensures same_tables { OnErr result (HasSameRows (row_at tables.old.items)
+        (row_at tables.new.items)) }
+    ensures same_book { OnErr result (book.new ≡ book.old) }
 {
     let event = event_of(alloc, home)?;
-    let name = home.name().try_clone(alloc)?;
+    let key = home.name().try_clone(alloc)?;
     let answered = Arc::try_clone(&row)?;
     history.reserve(left + 1)?;
-    insert(tables, home.asked(), name, row)?;
+    reserve_row(tables, home.asked())?;
+    if let Err(refusal) = book.enter(alloc, name, home.asked(), home.place()) {
+        return Err(entry_fault(refusal, home.asked(), home.place()));
+    }
+    insert_reserved(tables, home.asked(), key, row);
     history.push_reserved(event);
     Ok(answered)
 }

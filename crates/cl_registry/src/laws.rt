@@ -1,5 +1,5 @@
 //! Laws of what a registry accepts, each the contract of a function that does nothing.
-ghost use Rattle.cl_registry.specs.Allowed.{AllowedIsEntered, AllowedIsJoined, EnteredIsAllowed, FittingIsAllowed, JoinedIsAllowed, OtherConfigIsStray, RecordedIsNamed, RoundIsAllowed};
+ghost use Rattle.cl_registry.specs.Allowed.{AllowedIsEntered, AllowedIsImposed, AllowedIsJoined, AllowedIsMarked, EnteredIsAllowed, FittingIsAllowed, ImposedIsAllowed, JoinedIsAllowed, MarkedIsAllowed, OtherConfigIsStray, RecordedIsNamed, RoundIsAllowed};
 
 /// A class that the linkage machine may define has no record and may be entered: `define` refuses it for memory alone.
 pub fn allowed_is_entered()
@@ -19,6 +19,27 @@ pub fn allowed_is_joined()
 /// A home that may be joined, where the loader has no record, is one by which the linkage machine may record that loader.
 pub fn joined_is_allowed()
     ensures { JoinedIsAllowed }
+{}
+
+/// An equality of a list that may be imposed, and is neither met nor refused, may be imposed by the linkage machine.
+pub fn imposed_is_allowed()
+    ensures { ImposedIsAllowed }
+{}
+
+/// An equality to which the linkage machine's own list comes may be imposed: `impose` refuses it where it is refused, or
+/// for memory.
+pub fn allowed_is_imposed()
+    ensures { AllowedIsImposed }
+{}
+
+/// A class that may be marked, and is not prepared, may be prepared by the linkage machine.
+pub fn marked_is_allowed()
+    ensures { MarkedIsAllowed }
+{}
+
+/// A class that the linkage machine may prepare may be marked: `mark_prepared` refuses it for memory alone.
+pub fn allowed_is_marked()
+    ensures { AllowedIsMarked }
 {}
 
 /// An answer that fits and rests on the content may be posted by the linkage machine.

@@ -9,12 +9,9 @@ ghost use Rattle.cl_report.specs.Report.{answer_lines, ended, event_line, histor
 
 use cl_model::{Answer, Event};
 use cl_registry::Report;
-use cl_streams::{PrintFault, write_out};
+use cl_streams::{PrintFault, pass_page, write_out};
 use std::alloc::Global;
 use std::io::Write;
-
-/// Lines are kept until they have so many bytes, and then written at once.
-const PAGE: usize = 8192;
 
 /// Writes the lines of a history, unless the answers alone are wanted, and one line for each answer.
 /// Loaders are written by these names, of which each loader in the report has one.
@@ -28,9 +25,11 @@ pub fn print_report<W: Write>(
     requires events { All (EventNames (length loaders.now)) report.now.history }
     requires answers { All (AnswerNames (length loaders.now)) report.now.answers }
     ensures lines { OnOk result (Appends (W.contents out.old) (W.contents out.new)
-        (report_lines (map string_bytes loaders.now) answers report.now.history report.now.answers)) }
+        (report_lines (map string_bytes loaders.now) answers report.now.history
+        report.now.answers)) }
     ensures part { OnErr result (AppendsPart (W.contents out.old) (W.contents out.new)
-        (report_lines (map string_bytes loaders.now) answers report.now.history report.now.answers)) }
+        (report_lines (map string_bytes loaders.now) answers report.now.history
+        report.now.answers)) }
 {
     let mut waiting = String::new(alloc);
     let events = shown_events(report, answers);
@@ -60,7 +59,8 @@ fn print_history<W: Write>(
 ) -> Result<(), PrintFault>
     requires { All (EventNames (length loaders.now)) events.now }
     ensures lines { OnOk result (Passes (W.contents out.old) (string_bytes waiting.old)
-        (W.contents out.new) (string_bytes waiting.new) (history_lines (map string_bytes loaders.now) events.now)) }
+        (W.contents out.new) (string_bytes waiting.new) (history_lines
+        (map string_bytes loaders.now) events.now)) }
     ensures part { OnErr result (AppendsPart (W.contents out.old) (W.contents out.new)
         (string_bytes waiting.old ++ history_lines (map string_bytes loaders.now) events.now)) }
 {
@@ -80,7 +80,8 @@ fn print_answers<W: Write>(
 ) -> Result<(), PrintFault>
     requires { All (AnswerNames (length loaders.now)) answers.now }
     ensures lines { OnOk result (Passes (W.contents out.old) (string_bytes waiting.old)
-        (W.contents out.new) (string_bytes waiting.new) (answer_lines (map string_bytes loaders.now) answers.now)) }
+        (W.contents out.new) (string_bytes waiting.new) (answer_lines (map string_bytes loaders.now)
+        answers.now)) }
     ensures part { OnErr result (AppendsPart (W.contents out.old) (W.contents out.new)
         (string_bytes waiting.old ++ answer_lines (map string_bytes loaders.now) answers.now)) }
 {
@@ -100,7 +101,8 @@ fn put_event<W: Write>(
 ) -> Result<(), PrintFault>
     requires { EventNames (length loaders.now) event.now }
     ensures line { OnOk result (Passes (W.contents out.old) (string_bytes waiting.old)
-        (W.contents out.new) (string_bytes waiting.new) (event_line (map string_bytes loaders.now) event.now)) }
+        (W.contents out.new) (string_bytes waiting.new) (event_line (map string_bytes loaders.now)
+        event.now)) }
     ensures part { OnErr result (AppendsPart (W.contents out.old) (W.contents out.new)
         (string_bytes waiting.old ++ event_line (map string_bytes loaders.now) event.now)) }
 {
@@ -110,7 +112,7 @@ fn put_event<W: Write>(
     }
 }
 
-/// Puts an answer behind the number of its request, and both behind what waits.
+/// Puts the number of a request and its answer behind what waits.
 fn put_answer<W: Write>(
     alloc: Global,
     number: usize,
@@ -121,13 +123,15 @@ fn put_answer<W: Write>(
 ) -> Result<(), PrintFault>
     requires { AnswerNames (length loaders.now) answer.now }
     ensures line { OnOk result (Passes (W.contents out.old) (string_bytes waiting.old)
-        (W.contents out.new) (string_bytes waiting.new) (ended (words (decimal number ∷ answer_text (map string_bytes loaders.now) (answer_of answer.now) ∷ [])))) }
+        (W.contents out.new) (string_bytes waiting.new) (ended (words (decimal number ∷ answer_text
+        (map string_bytes loaders.now) (answer_of answer.now) ∷ [])))) }
     ensures part { OnErr result (AppendsPart (W.contents out.old) (W.contents out.new)
-        (string_bytes waiting.old ++ ended (words (decimal number ∷ answer_text (map string_bytes loaders.now) (answer_of answer.now) ∷ [])))) }
+        (string_bytes waiting.old ++ ended (words (decimal number ∷ answer_text
+        (map string_bytes loaders.now) (answer_of answer.now) ∷ [])))) }
 {
     let text = answer.text(alloc, loaders)?;
-    let line = format!(in alloc; "{number} {text}")?;
-    put_line(out, waiting, line.as_str())
+    write!(waiting, "{number} ")?;
+    put_line(out, waiting, text.as_str())
 }
 
 /// Puts a line and its end behind what waits, and writes all of it once it is long.
@@ -139,9 +143,5 @@ fn put_line<W: Write>(out: &mut W, waiting: &mut String, line: &str) -> Result<(
 {
     waiting.push_str(line)?;
     waiting.push_str("\n")?;
-    if waiting.len() >= PAGE {
-        write_out(out, waiting.as_bytes())?;
-        waiting.clear();
-    }
-    Ok(())
+    pass_page(out, waiting)
 }

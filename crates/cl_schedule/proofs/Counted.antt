@@ -6,14 +6,18 @@ use Rattle.cl_model.specs.declared.answer.Answer.TheVariants as answers
 use Rattle.cl_source.specs.Counts.{Rises, CountsFault}
 use Rattle.cl_source.specs.declared.source.SourceFault.{SourceFault}
 use Rattle.cl_source.specs.declared.source.SourceFault.TheVariants as sources
-use Rattle.cl_registry.specs.Findings.{Answered}
+use Rattle.cl_config.specs.Views.{Configured}
+use Rattle.cl_findings.specs.Findings.{Answered}
 use Rattle.cl_tasks.specs.Tasks.{Tasked}
-use Rattle.cl_tasks.specs.declared.stage.Reply.{Reply}
-use Rattle.cl_tasks.specs.declared.stage.Reply.TheVariants as reply
-use Rattle.cl_tasks.specs.declared.stage.Turn.TheVariants as turn
-use Rattle.cl_tasks.specs.declared.stage.Turn.{Turn}
-use Rattle.cl_hierarchy.specs.Paths.{at_name}
-use Rattle.cl_tasks.specs.Follows.{NoFault, Posts, Refuses, refusal}
+use Rattle.cl_tasks.specs.declared.turn.Reply.{Reply}
+use Rattle.cl_tasks.specs.declared.turn.Reply.TheVariants as reply
+use Rattle.cl_tasks.specs.declared.turn.Turn.TheVariants as turn
+use Rattle.cl_tasks.specs.declared.turn.Turn.{Turn}
+use Rattle.cl_tasks.specs.Follows.{NoFault, Refuses, fault_answer, refusal}
+use Rattle.cl_tasks.specs.Turns.{Expects, IsReplyTo}
+use Rattle.cl_tasks.specs.Waits.{Waits, Beginning, Looking, Reading, Defining, Initiating, Tracing, LookingReference, Settling, Imposing, LookingPrepared, Marking, Ended}
+use Rattle.cl_schedule.proofs.Stations.{no_posts}
+use Rattle.cl_schedule.specs.Replies.{IsCall}
 use Rattle.cl_schedule.specs.Counting.{fault, faults, told_faults, RoseBy, Grows, FaultsGrow}
 
 pub grows_none : (old : ℕ) → Grows 0 old old
@@ -21,6 +25,10 @@ grows_none old = record { stays = λ e. e; rose = inl (omega arith) }
 
 pub grows_same : (a b : ℕ) → b ≡ a → Grows 0 a b
 grows_same a b e = record { stays = λ h. ap (λ (k : ℕ). k + 1) e ∙ h; rose = inl (omega arith) }
+
+-- a reply that tells of no fault
+pub grows_told : (n a : ℕ) → n ≡ 0 → Grows n a a
+grows_told n a none = subst (λ (k : ℕ). Grows k a a) (sym none) (grows_none a)
 
 pub grows_then : (n m a b c : ℕ) → Grows n a b → Grows m b c → Grows (n + m) a c
 grows_then n m a b c g h = record { stays = λ e. h.stays (g.stays e); rose = by_case g.rose h.rose }
@@ -67,46 +75,57 @@ no_fault (answers.Shared s) n = refl
 no_fault answers.Memory n = refl
 no_fault (answers.SourceFault name loader) n = absurd n
 
+-- a refused read is answered as a fault of the source, unless memory was wanting
+reading_fault : (A : Type 0) (c : Configured) (w : Waits) (f : SourceFault) → IsReplyTo {A = A} c w (reply.SourceFault f) → fault (fault_answer w f) ≡ told_faults {A = A} (reply.SourceFault f)
+reading_fault A c Beginning f is = absurd is
+reading_fault A c (Looking l n) f is = absurd is
+reading_fault A c (Reading l n) sources.Memory is = refl
+reading_fault A c (Reading l n) sources.Device is = refl
+reading_fault A c (Reading l n) sources.TooLarge is = refl
+reading_fault A c (Reading l n) sources.Twice is = refl
+reading_fault A c (Defining d) f is = absurd is
+reading_fault A c (Initiating h) f is = absurd is
+reading_fault A c (Tracing d) f is = absurd is
+reading_fault A c (LookingReference d i) f is = absurd is
+reading_fault A c (Settling r) f is = absurd is
+reading_fault A c (Imposing e k) f is = absurd is
+reading_fault A c (LookingPrepared d) f is = absurd is
+reading_fault A c (Marking e) f is = absurd is
+reading_fault A c Ended f is = absurd is
+
 -- an answer is a fault of the source where the reply before it told of one, and nowhere else
-pub told_fault : (A : Type 0) (w : Tasked) (r : Reply A) (f : Answered) → Refuses {A = A} (refusal w r) (turn.Post f) → fault f.answer ≡ told_faults r
-told_fault A w (reply.Start) f h = no_fault f.answer h
-told_fault A w (reply.Looked row) f h = no_fault f.answer h
-told_fault A w (reply.Probed p) f h = no_fault f.answer h
-told_fault A w (reply.Defined row) f h = no_fault f.answer h
-told_fault A w (reply.Initiated row) f h = no_fault f.answer h
-told_fault A w (reply.Memory) f h = ap fault h
-told_fault A w (reply.SourceFault sources.Memory) f h = ap fault h
-told_fault A w (reply.SourceFault sources.Device) f h = ap fault h
-told_fault A w (reply.SourceFault sources.TooLarge) f h = ap fault h
-told_fault A w (reply.SourceFault sources.Twice) f h = ap fault h
-
--- a turn that is no post
-abbrev pub AsksOn : {A : Type 0} → Turn A → Type 0
-AsksOn (turn.Look l n) = Unit {0}
-AsksOn (turn.Read l n) = Unit {0}
-AsksOn (turn.Define d) = Unit {0}
-AsksOn (turn.Initiate h) = Unit {0}
-AsksOn (turn.Post f) = ⊥
-
-no_post : (A : Type 0) (a : Answer) (u : Turn A) → AsksOn u → Posts a u → ⊥
-no_post A a (turn.Look l n) on p = p
-no_post A a (turn.Read l n) on p = p
-no_post A a (turn.Define d) on p = p
-no_post A a (turn.Initiate h) on p = p
-no_post A a (turn.Post f) on p = on
+pub told_fault : {A : Type 0} (t : Tasked) (r : Reply A) (f : Answered) → Expects t r → Refuses {A = A} (refusal t r) (turn.Post f) → fault f.answer ≡ told_faults r
+told_fault t reply.Start f e h = no_fault f.answer h
+told_fault t (reply.Looked row) f e h = no_fault f.answer h
+told_fault t (reply.Probed p) f e h = no_fault f.answer h
+told_fault t (reply.Defined row) f e h = no_fault f.answer h
+told_fault t (reply.Initiated row) f e h = no_fault f.answer h
+told_fault t (reply.Lineage l) f e h = no_fault f.answer h
+told_fault t (reply.LookedReference o) f e h = no_fault f.answer h
+told_fault t (reply.Settled s) f e h = no_fault f.answer h
+told_fault t reply.Imposed f e h = no_fault f.answer h
+told_fault t (reply.LookedPrepared b) f e h = no_fault f.answer h
+told_fault t reply.Marked f e h = no_fault f.answer h
+told_fault t (reply.Refused n) f e h = no_fault f.answer h
+told_fault t reply.Memory f e h = ap fault h
+told_fault {A = A} t (reply.SourceFault s) f e h = ap fault h ∙ reading_fault A t.config t.waits s e
 
 -- a task that asks on was told of no fault
-pub told_none : (A : Type 0) (t : Tasked) (r : Reply A) (u : Turn A) → Refuses (refusal t r) u → AsksOn u → told_faults r ≡ 0
-told_none A t (reply.Start) u h on = refl
-told_none A t (reply.Looked row) u h on = refl
-told_none A t (reply.Probed p) u h on = refl
-told_none A t (reply.Defined row) u h on = refl
-told_none A t (reply.Initiated row) u h on = refl
-told_none A t (reply.Memory) u h on = refl
-told_none A t (reply.SourceFault sources.Memory) u h on = refl
-told_none A t (reply.SourceFault sources.Device) u h on = absurd (no_post A (answers.SourceFault (at_name t.path) t.place) u on h)
-told_none A t (reply.SourceFault sources.TooLarge) u h on = absurd (no_post A (answers.SourceFault (at_name t.path) t.place) u on h)
-told_none A t (reply.SourceFault sources.Twice) u h on = absurd (no_post A (answers.SourceFault (at_name t.path) t.place) u on h)
+pub told_none : (A : Type 0) (t : Tasked) (r : Reply A) (u : Turn A) → Refuses (refusal t r) u → IsCall u → told_faults r ≡ 0
+told_none A t reply.Start u h call = refl
+told_none A t (reply.Looked row) u h call = refl
+told_none A t (reply.Probed p) u h call = refl
+told_none A t (reply.Defined row) u h call = refl
+told_none A t (reply.Initiated row) u h call = refl
+told_none A t (reply.Lineage l) u h call = refl
+told_none A t (reply.LookedReference o) u h call = refl
+told_none A t (reply.Settled s) u h call = refl
+told_none A t reply.Imposed u h call = refl
+told_none A t (reply.LookedPrepared b) u h call = refl
+told_none A t reply.Marked u h call = refl
+told_none A t (reply.Refused n) u h call = refl
+told_none A t reply.Memory u h call = refl
+told_none A t (reply.SourceFault s) u h call = absurd (no_posts (fault_answer t.waits s) u h call)
 
 -- a reply to a read, and the count
 pub read_grows : (A : Type 0) (old new : ℕ) (f : SourceFault) → CountsFault old new f → Grows (told_faults {A = A} (reply.SourceFault f)) old new

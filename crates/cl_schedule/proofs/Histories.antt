@@ -9,10 +9,9 @@ use Rattle.cl_model.specs.declared.answer.Answer as rust
 use Rattle.cl_model.specs.States.{Answer}
 use Rattle.cl_model.specs.Machine.{Step, Define, Initiate, Post, NextRound}
 use Rattle.cl_model.specs.Views.{answer_of, answers_of, answer_at, post_of, step_of, steps_of}
-use Rattle.cl_delegation.specs.Searches.{Located}
-use Rattle.cl_hierarchy.specs.Drafts.{Drafted}
 use Rattle.cl_hierarchy.specs.Rows.{Rowed}
-use Rattle.cl_registry.specs.Tables.{Shown, steps, posts, is_in, IsTrusted, row_for, with_define, with_initiate, with_post, with_round, IsOpen}
+use Rattle.cl_registry.specs.Tables.{Shown, steps, posts, is_in, IsTrusted, with_post, IsOpen}
+use Rattle.cl_schedule.specs.Serving.{GoesBy}
 
 pub eq_nat : (a b : ℕ) → nat_eq a b ≡ true → a ≡ b
 eq_nat a b e = grind (arith, nat_tests)
@@ -41,50 +40,21 @@ posts_quiet h e q = posts_then h (e ∷ []) ∙ ap (λ (ps : List ℕ). posts h 
 
 -- ---- one step more, which is no post
 
--- a registry goes on by a step: rows may be added, and nothing else changes
-pub record Happens (old new : Shown) (e : Step) : Type 0 where
-  pub config : new.config ≡ old.config
-  pub script : new.script ≡ old.script
-  pub answers : new.answers ≡ old.answers
-  pub posts_same : posts new.history ≡ posts old.history
-  pub more : List Rowed
-  pub rows : new.rows ≡ old.rows ++ more
-  pub step : steps new ≡ steps old ++ e ∷ []
-
-pub happens_define : (old new : Shown) (d : Drafted) → new ≡ with_define old d → Happens old new (Define d.class)
-happens_define old new d e = record {
-  config = ap (λ (x : Shown). x.config) e;
-  script = ap (λ (x : Shown). x.script) e;
-  answers = ap (λ (x : Shown). x.answers) e;
-  posts_same = ap (λ (x : Shown). posts x.history) e ∙ posts_quiet old.history (events.Define d.class) refl;
-  more = row_for old d ∷ [];
-  rows = ap (λ (x : Shown). x.rows) e;
-  step = ap steps e ∙ map_push (step_of (answers_of old.answers)) old.history (events.Define d.class);
+-- an event more that is no post, and perhaps rows
+pub goes_by : (old new : Shown) (e : Event) (more : List Rowed) → new ≡ record old { rows = old.rows ++ more; history = old.history ++ e ∷ [] } → IsQuiet e → GoesBy old new (step_of (answers_of old.answers) e)
+goes_by old new e more is quiet = record {
+  config = ap (λ (x : Shown). x.config) is;
+  script = ap (λ (x : Shown). x.script) is;
+  answers = ap (λ (x : Shown). x.answers) is;
+  posts_same = ap (λ (x : Shown). posts x.history) is ∙ posts_quiet old.history e quiet;
+  more = more;
+  rows = ap (λ (x : Shown). x.rows) is;
+  step = ap steps is ∙ map_push (step_of (answers_of old.answers)) old.history e;
 }
 
-pub happens_initiate : (old new : Shown) (h : Located) → new ≡ with_initiate old h → Happens old new (Initiate h.name h.place h.asked)
-happens_initiate old new h e =
-    let event : Event = events.Initiate (record { loader = h.place; name = h.name }) h.asked in
-    record {
-      config = ap (λ (x : Shown). x.config) e;
-      script = ap (λ (x : Shown). x.script) e;
-      answers = ap (λ (x : Shown). x.answers) e;
-      posts_same = ap (λ (x : Shown). posts x.history) e ∙ posts_quiet old.history event refl;
-      more = [];
-      rows = ap (λ (x : Shown). x.rows) e ∙ sym (append-nil old.rows);
-      step = ap steps e ∙ map_push (step_of (answers_of old.answers)) old.history event;
-    }
-
-pub happens_round : (old new : Shown) → new ≡ with_round old → Happens old new NextRound
-happens_round old new e = record {
-  config = ap (λ (x : Shown). x.config) e;
-  script = ap (λ (x : Shown). x.script) e;
-  answers = ap (λ (x : Shown). x.answers) e;
-  posts_same = ap (λ (x : Shown). posts x.history) e ∙ posts_quiet old.history events.NextRound refl;
-  more = [];
-  rows = ap (λ (x : Shown). x.rows) e ∙ sym (append-nil old.rows);
-  step = ap steps e ∙ map_push (step_of (answers_of old.answers)) old.history events.NextRound;
-}
+-- an event more, and no row
+pub goes_event : (old new : Shown) (e : Event) → new ≡ record old { history = old.history ++ e ∷ [] } → IsQuiet e → GoesBy old new (step_of (answers_of old.answers) e)
+goes_event old new e is quiet = goes_by old new e [] (is ∙ ap (λ (rows : List Rowed). record old { rows = rows; history = old.history ++ e ∷ [] }) (sym (append-nil old.rows))) quiet
 
 -- ---- a post
 

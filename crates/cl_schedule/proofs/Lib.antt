@@ -1,10 +1,13 @@
 pub mod Histories
 pub mod Serving
+pub mod States
 pub mod Told
-pub mod Shown
+pub mod Next
+pub mod Calls
 pub mod Served
 pub mod Rounds
-pub mod Recorded
+pub mod Stations
+pub mod Steps
 pub mod Counted
 pub mod Headline
-pub mod Again
+pub mod Known

@@ -1,6 +1,6 @@
 -- Rounds between requests, and one request after another (own choice).
 use Rattle.std.proofs.Common.{◌≡◌, inl, inr, ◌∙◌, ◌+◌, ◌-◌, ◌<◌, ◌≤◌, ℕ, zero, suc, Bool, true, false, List, [], ◌∷◌, ◌++◌, length, take, Option, Some, None, refl, sym, ap, subst, arith, append_assoc, add-one, is_some}
-use Rattle.std.specs.Prelude.{◌||◌, ◌==◌, ◌⊎◌, nat_eq, if◌then◌else◌, find, option_map, slice_get, slice_index_or, IsSome, All}
+use Rattle.std.specs.Prelude.{◌||◌, ◌==◌, ◌⊎◌, nat_eq, if◌then◌else◌, find, option_map, slice_get, slice_index_or, slice_set, IsSome, All}
 use Rattle.std.specs.Option.{option_or}
 use Rattle.std.proofs.lemmas.List.{append-nil}
 use Rattle.std.proofs.lemmas.List.Folds.{find-append}
@@ -9,28 +9,31 @@ use Rattle.std.proofs.lemmas.Bool.{cases_lt}
 use Rattle.std.proofs.lemmas.Cmp.{nat_eq_equiv}
 use Rattle.cl_model.specs.declared.event.Event.{Event}
 use Rattle.cl_model.specs.declared.event.Event.TheVariants as events
+use Rattle.cl_model.specs.declared.answer.Answer as rust
 use Rattle.cl_model.specs.declared.request.Request.{Request}
 use Rattle.cl_model.specs.Content.{Content}
 use Rattle.cl_model.specs.States.{State, Answer, Posted, answer_to, start}
-use Rattle.cl_model.specs.Machine.{Setting, Scheduled, Step, Define, Initiate, NextRound, EndsRound, MayGoOn, after, state_after}
+use Rattle.cl_model.specs.Machine.{Setting, Scheduled, Step, Define, Initiate, NextRound, Post, EndsRound, MayGoOn, after, state_after}
 use Rattle.cl_model.specs.Service.{PassesRounds, AllServed}
-use Rattle.cl_model.specs.Views.{answers_of, answer_at, request_of, post_of, step_of, steps_of}
+use Rattle.cl_model.specs.Views.{answer_of, answers_of, answer_at, request_of, post_of, step_of, steps_of}
 use Rattle.cl_model.proofs.Sound.{posted_stay}
 use Rattle.cl_model.proofs.Service.{all_served_push, state_append}
 use Rattle.cl_config.specs.Loaders.{schedule, schedule_of}
 use Rattle.cl_config.specs.Scripts.{IsScript}
+use Rattle.cl_config.specs.Views.{Scripted}
 use Rattle.cl_registry.specs.Tables.{Shown, IsTrusted, IsOpen, IsLater, is_in, posts, round_of, state_of, steps, with_round}
 use Rattle.cl_registry.specs.Tables as tables
 use Rattle.cl_registry.specs.declared.registry.RegistryFault.{RegistryFault}
-use Rattle.cl_registry.specs.declared.registry.RegistryFault.TheVariants.{Memory, Stray, AlreadyPosted, NotYet}
+use Rattle.cl_registry.specs.declared.registry.RegistryFault.TheVariants.{Memory, Stray, Violates, AlreadyPosted, NotYet}
 use Rattle.cl_registry.specs.Refusals.{RoundRefusedFor}
 use Rattle.cl_registry.specs.Reports.{IsUnfinished}
-use Rattle.cl_schedule.specs.Serving.{machine as machine_of, InOrder, Served, upto}
+use Rattle.cl_schedule.specs.Known.{Has, KnownStays, SaysOrLacks, TellsKnown}
+use Rattle.cl_schedule.specs.Serving.{machine as machine_of, GoesBy, InOrder, IsDone, IsPost, NoPosts, upto}
 use Rattle.cl_schedule.specs.Rounds.{RoundsPassed}
-use Rattle.cl_schedule.proofs.Histories.{Happens, happens_round, eq_nat, swap_nat}
+use Rattle.cl_schedule.proofs.Histories.{goes_event, eq_nat, swap_nat}
+use Rattle.cl_schedule.proofs.Known.{KeepsKnown, SaysKnown, known_at, known_piece, known_quiet}
 use Rattle.cl_schedule.proofs.Serving.{bare, in_upto, none_is_open}
-use Rattle.cl_schedule.proofs.Told.{state_happens}
-use Rattle.cl_schedule.proofs.Served.{same_machine}
+use Rattle.cl_schedule.proofs.States.{same_machine, state_goes}
 
 -- ---- while rounds begin
 
@@ -61,7 +64,7 @@ passing_none x = record {
 pub goes_on_there : (old x : Shown) (content : Content) → x.script ≡ old.script → tables.MayGoOn x → MayGoOn (machine_of old content) (state_of x)
 goes_on_there old x content s h = subst (λ k. EndsRound (schedule_of k) k.rounds (state_of x)) s h
 
-pub passing_on : (old x new : Shown) → Passing old x → tables.MayGoOn x → Happens x new NextRound → new.rows ≡ x.rows → Passing old new
+pub passing_on : (old x new : Shown) → Passing old x → tables.MayGoOn x → GoesBy x new NextRound → new.rows ≡ x.rows → Passing old new
 passing_on old x new p may h rows = record {
   config = h.config ∙ p.config;
   script = h.script ∙ p.script;
@@ -72,7 +75,7 @@ passing_on old x new p may h rows = record {
   steps_more = h.step ∙ ap (λ (es : List Step). es ++ NextRound ∷ []) p.steps_more ∙ append_assoc (steps old) p.begun (NextRound ∷ []);
   later = λ content es more.
       subst (λ (xs : List Step). PassesRounds (machine_of old content) (state_of old) xs) (sym (append_assoc p.begun (NextRound ∷ []) es))
-      (p.later content (NextRound ∷ es) (refl, goes_on_there old x content p.script may, subst (λ (s : State). PassesRounds (machine_of old content) s es) (state_happens x new NextRound h) more));
+      (p.later content (NextRound ∷ es) (refl, goes_on_there old x content p.script may, subst (λ (s : State). PassesRounds (machine_of old content) s es) (state_goes x new NextRound h) more));
 }
 
 all_passed : (old now : Shown) → Passing old now → (tables.MayGoOn now → ⊥) → RoundsPassed old now
@@ -89,12 +92,15 @@ all_passed old now p over = record {
       (p.later content [] (λ (m : MayGoOn (machine_of old content) (state_of now)). over (subst (λ k. EndsRound (schedule_of k) k.rounds (state_of now)) (sym p.script) m)));
 }
 
+pub round_goes : (x new : Shown) → new ≡ with_round x → GoesBy x new NextRound
+round_goes x new e = goes_event x new events.NextRound e refl
+
 -- the number of rounds to come falls
 pub next_number : (x new : Shown) → tables.MayGoOn x → new ≡ with_round x → new.script.rounds - round_of new < x.script.rounds - round_of x
 next_number x new may e =
     let same : new.script ≡ x.script = ap (λ (y : Shown). y.script) e in
     let rounds : new.script.rounds ≡ x.script.rounds = ap (λ s. s.rounds) same in
-    let more : round_of new ≡ round_of x + 1 = ap (λ (s : State). s.round) (state_happens x new NextRound (happens_round x new e)) in
+    let more : round_of new ≡ round_of x + 1 = ap (λ (s : State). s.round) (state_goes x new NextRound (round_goes x new e)) in
     let later = may.later in
     omega arith
 
@@ -102,6 +108,7 @@ next_number x new may e =
 pub end_of_rounds : (old x new : Shown) (fault : RegistryFault) → Passing old x → new ≡ x → RoundRefusedFor x fault → RoundsPassed old new
 end_of_rounds old x new Memory p same refused = absurd refused
 end_of_rounds old x new Stray p same refused = absurd refused
+end_of_rounds old x new (Violates n) p same refused = absurd refused
 end_of_rounds old x new AlreadyPosted p same refused = absurd refused
 end_of_rounds old x new NotYet p same refused = subst (RoundsPassed old) (sym same) (all_passed old x p refused)
 
@@ -277,23 +284,23 @@ take_all : {A : Type 0} (xs : List A) → take (length xs) xs ≡ xs
 take_all [] = refl
 take_all {A = A} (x ∷ xs) = ap (λ (l : List A). x ∷ l) (take_all xs)
 
-pub served_next : (told : Option Content) (old x new : Shown) (q : ℕ) (r : Request) → ServedBelow told old q → IsScript old.script → slice_get old.script.requests q ≡ Some r → Served told old x q r → RoundsPassed x new → ServedBelow told new (q + 1)
-served_next None old x new q r below is asked one p = tt
-served_next (Some content) old x new q r below is asked one p =
-    let s = one.0 in
+pub served_next : (told : Option Content) (old x new : Shown) (q : ℕ) (r : Request) → ServedBelow told old q → IsScript old.script → slice_get old.script.requests q ≡ Some r → IsDone told old x q r → RoundsPassed x new → ServedBelow told new (q + 1)
+served_next None old x new q r below is asked d p = tt
+served_next (Some content) old x new q r below is asked d p =
+    let one : List Step = d.made ++ Post q (answer_of d.answer) ∷ [] in
     let g : Setting = machine_of old content in
     let at = scheduled_at old.script.requests old.script.rounds_of q r is.each asked in
     let e : Scheduled = record { request = request_of r; round = at.0 } in
-    let rounds : PassesRounds g (state_after (state_of old) s.more) p.passed =
-    subst (λ (k : State). PassesRounds g k p.passed) (ap (state_after start) s.steps_more ∙ state_append start (steps old) s.more)
-    (subst (λ (h : Setting). PassesRounds h (state_of x) p.passed) (same_machine old x content s.config s.script) (p.rounds content)) in
-    let all : AllServed g 0 start (take q g.script ++ e ∷ []) (steps old ++ (s.more ++ p.passed)) =
-    all_served_push g 0 q start (take q g.script) e (steps old) s.more p.passed below one.1 rounds
+    let rounds : PassesRounds g (state_after (state_of old) one) p.passed =
+    subst (λ (k : State). PassesRounds g k p.passed) (ap (state_after start) d.whole ∙ state_append start (steps old) one)
+    (subst (λ (h : Setting). PassesRounds h (state_of x) p.passed) (same_machine old x content d.config d.script) (p.rounds content)) in
+    let all : AllServed g 0 start (take q g.script ++ e ∷ []) (steps old ++ (one ++ p.passed)) =
+    all_served_push g 0 q start (take q g.script) e (steps old) one p.passed below d.serves rounds
     (let n = length_below g.script q e at.1 in omega arith) in
     subst (λ (k : ℕ). ServedBelow (Some content) new k) (sym (add-one q))
-    (subst (λ (h : Setting). AllServed h 0 start (take (suc q) h.script) (steps new)) (sym (same_machine old new content (p.config ∙ s.config) (p.script ∙ s.script)))
+    (subst (λ (h : Setting). AllServed h 0 start (take (suc q) h.script) (steps new)) (sym (same_machine old new content (p.config ∙ d.config) (p.script ∙ d.script)))
     (subst (λ (rs : List Scheduled). AllServed g 0 start rs (steps new)) (sym (take_next g.script q e at.1))
-    (subst (λ (es : List Step). AllServed g 0 start (take q g.script ++ e ∷ []) es) (sym (append_assoc (steps old) s.more p.passed) ∙ ap (λ (es : List Step). es ++ p.passed) (sym s.steps_more) ∙ sym p.steps_more) all)))
+    (subst (λ (es : List Step). AllServed g 0 start (take q g.script ++ e ∷ []) es) (sym (append_assoc (steps old) one p.passed) ∙ ap (λ (es : List Step). es ++ p.passed) (sym d.whole) ∙ sym p.steps_more) all)))
 
 pub served_whole : (told : Option Content) (x : Shown) (q : ℕ) → IsScript x.script → ServedBelow told x q → q ≡ length x.script.requests → InOrder told x
 served_whole None x q is below e = tt
@@ -305,3 +312,61 @@ served_whole (Some content) x q is below e =
 pub served_bare : (told : Option Content) (x : Shown) → InOrder told x → InOrder told (bare x)
 served_bare None x h = tt
 served_bare (Some content) x h = h
+
+-- ---- what is known of a request
+
+-- rounds that begin are no posts
+rounds_quiet : (g : Setting) (s : State) (es : List Step) → PassesRounds g s es → NoPosts es
+rounds_quiet g s [] p = tt
+rounds_quiet g s (e ∷ es) p = (subst (λ (k : Step). IsPost k → ⊥) (sym p.0) (λ post. post), rounds_quiet g (after s NextRound) es p.2)
+
+-- each post so far says what was known of its request
+abbrev pub KnownBelow : Shown → Type 0
+KnownBelow x = KeepsKnown (schedule_of x.script) start (steps x)
+
+quiet_from : (script : List Scheduled) (es : List Step) → NoPosts es → KeepsKnown script start es
+quiet_from script es none = known_quiet script start [] es tt none
+
+pub known_none : (empty x : Shown) → steps empty ≡ [] → RoundsPassed empty x → KnownBelow x
+known_none empty x e p =
+    subst (λ (es : List Step). KeepsKnown (schedule_of x.script) start es) (sym (p.steps_more ∙ ap (λ (es : List Step). es ++ p.passed) e))
+    (quiet_from (schedule_of x.script) p.passed (rounds_quiet (machine_of empty []) (state_of empty) p.passed (p.rounds [])))
+
+one_answer : {A : Type 0} (xs : List A) (q : ℕ) (x a b : A) → slice_get xs q ≡ Some x → slice_set xs q a ≡ slice_set xs q b → a ≡ b
+one_answer [] q x a b at e = absurd cc
+one_answer (y ∷ xs) zero x a b at e = cc
+one_answer (y ∷ xs) (suc q) x a b at e = one_answer xs q x a b at (ap tail_of e)
+  where
+    tail_of : {A : Type 0} → List A → List A
+    tail_of [] = []
+    tail_of (x ∷ xs) = xs
+
+-- the post of a request says what was known of it before
+says_known : (told : Option Content) {S : Type 0} (old x : Shown) (q : ℕ) (r : Request) (source later : S) → IsScript old.script → slice_get old.script.requests q ≡ Some r → IsOpen old q → (d : IsDone told old x q r) → TellsKnown old x q r source later
+    → SaysKnown (schedule_of old.script) (state_of old) (Post q (answer_of d.answer))
+says_known told old x q r source later is asked opened d tells = λ k v at has.
+    let e = scheduled_at old.script.requests old.script.rounds_of q r is.each asked in
+    let same : k ≡ record { request = request_of r; round = e.0 } = some_is k (record { request = request_of r; round = e.0 }) (sym at ∙ e.1) in
+    let t = tells v (subst (λ (h : Scheduled). Has (state_of old) h.request v) same has) in
+    let one : Some t.answer ≡ Some d.answer = one_answer old.answers q None (Some t.answer) (Some d.answer) opened (sym (ap (λ (y : Shown). y.answers) t.posted) ∙ d.answers) in
+    subst (λ (a : rust.Answer). SaysOrLacks v (answer_of a)) (answer_is t.answer d.answer one) t.is
+  where
+    some_is : (a b : Scheduled) → Some a ≡ Some b → a ≡ b
+    some_is a b e = cc
+
+    answer_is : (a b : rust.Answer) → Some a ≡ Some b → a ≡ b
+    answer_is a b e = cc
+
+pub known_next : (told : Option Content) {S : Type 0} (old x new : Shown) (q : ℕ) (r : Request) (source later : S) → KnownBelow old → IsScript old.script → slice_get old.script.requests q ≡ Some r → IsOpen old q → IsDone told old x q r
+    → TellsKnown old x q r source later → RoundsPassed x new → KnownBelow new
+known_next told old x new q r source later k is asked opened d tells p =
+    let script = schedule_of old.script in
+    let piece = known_piece script start (steps old) d.made q (answer_of d.answer) k d.quiet (says_known told old x q r source later is asked opened d tells) in
+    let whole : KeepsKnown script start (steps x) = subst (λ (es : List Step). KeepsKnown script start es) (sym d.whole) piece in
+    subst (λ (y : Scripted). KeepsKnown (schedule_of y) start (steps new)) (sym (p.script ∙ d.script))
+    (subst (λ (es : List Step). KeepsKnown script start es) (sym p.steps_more)
+    (known_quiet script start (steps x) p.passed whole (rounds_quiet (machine_of x []) (state_of x) p.passed (p.rounds []))))
+
+pub known_bare : (x : Shown) → KnownBelow x → KnownStays (bare x)
+known_bare x k = λ before between behind p q b a r v e asked has.
+    known_at (schedule_of x.script) start before between behind p q b a r v (subst (λ (es : List Step). KeepsKnown (schedule_of x.script) start es) e k) asked has

@@ -1,43 +1,20 @@
--- What the calls of one request do to a registry.
+-- Which requests are posted, and what a report tells of a registry.
 use Rattle.std.proofs.Common.{◌≡◌, ◌∙◌, ◌+◌, ◌<◌, ◌≤◌, ◌∷◌, ◌++◌, [], ℕ, zero, suc, Bool, true, false, List, length, Option, Some, None, map, refl, ap, sym, subst, arith, is_some, add-one}
 use Rattle.std.specs.Prelude.{◌||◌, nat_eq, slice_get, slice_index_or, All}
 use Rattle.std.proofs.lemmas.Bool.Decides.{nat_tests}
 use Rattle.cl_model.specs.declared.answer.Answer.{Answer}
-use Rattle.cl_model.specs.declared.event.Event.TheVariants as events
 use Rattle.cl_model.specs.declared.request.Request as requests
 use Rattle.cl_model.specs.declared.request.Request.{Request}
 use Rattle.cl_model.specs.Content.{Content}
-use Rattle.cl_model.specs.Machine.{Step}
-use Rattle.cl_registry.specs.Findings.{loader_of}
-use Rattle.cl_config.specs.Scripts.{HasLoader, HasLoaders, IsLoadRequest}
+use Rattle.cl_findings.specs.Findings.{loader_of}
+use Rattle.cl_config.specs.Scripts.{HasLoader, HasLoaders}
 use Rattle.cl_model.specs.Views.{answers_of, answer_at}
 use Rattle.cl_registry.specs.declared.report.Report.{Report}
 use Rattle.cl_config.specs.Views.{Configured}
-use Rattle.cl_registry.specs.Tables.{Shown, IsTrusted, RunsAs, IsOpen, is_in, posts, with_post}
+use Rattle.cl_registry.specs.Tables.{Shown, IsTrusted, RunsAs, IsOpen, is_in, posts}
 use Rattle.cl_registry.specs.Reports.{IsReport}
 use Rattle.cl_schedule.specs.Serving.{upto, reported}
-use Rattle.cl_schedule.proofs.Histories.{Happens, posts_then, is_in_push, unposted}
-
--- the same configuration and script, and no post more
-pub record Goes (old new : Shown) : Type 0 where
-  pub config : new.config ≡ old.config
-  pub script : new.script ≡ old.script
-  pub posts_same : posts new.history ≡ posts old.history
-
-pub goes_none : (x : Shown) → Goes x x
-goes_none x = record { config = refl; script = refl; posts_same = refl }
-
-pub goes_on : (start old new : Shown) (e : Step) → Goes start old → Happens old new e → Goes start new
-goes_on start old new e g h = record { config = h.config ∙ g.config; script = h.script ∙ g.script; posts_same = h.posts_same ∙ g.posts_same }
-
-pub goes_same : (start old new : Shown) → Goes start old → new ≡ old → Goes start new
-goes_same start old new g e = subst (Goes start) (sym e) g
-
-pub posts_once : (start old new : Shown) (q : ℕ) (a : Answer) → Goes start old → new ≡ with_post old q a → posts new.history ≡ posts start.history ++ q ∷ []
-posts_once start old new q a g e = ap (λ x. posts x.history) e ∙ posts_then old.history (events.Post q ∷ []) ∙ ap (λ (ps : List ℕ). ps ++ q ∷ []) g.posts_same
-
-pub post_config : (start old new : Shown) (q : ℕ) (a : Answer) → Goes start old → new ≡ with_post old q a → (new.config ≡ start.config) × (new.script ≡ start.script)
-post_config start old new q a g e = (ap (λ x. x.config) e ∙ g.config, ap (λ x. x.script) e ∙ g.script)
+use Rattle.cl_schedule.proofs.Histories.{is_in_push, unposted}
 
 pub next_upto : (q : ℕ) (xs ys : List ℕ) → xs ≡ ys ++ q ∷ [] → ys ≡ upto q → xs ≡ upto (q + 1)
 next_upto q xs ys e h = rw (add-one, e, h) refl
@@ -134,7 +111,3 @@ names_loader n (requests.TheVariants.Link loader name) h = h
 
 pub has_loader : (n : ℕ) (rs : List Request) (q : ℕ) (r : Request) → HasLoaders n rs → slice_get rs q ≡ Some r → loader_of r < n
 has_loader n rs q r all e = names_loader n r (subst (HasLoader n) (asked_is rs q r r e) (all q r (in_script rs q r e)))
-
--- each request of a script is a load
-pub is_load : (rs : List Request) (q : ℕ) (r : Request) → All IsLoadRequest rs → slice_get rs q ≡ Some r → IsLoadRequest r
-is_load rs q r all e = subst IsLoadRequest (asked_is rs q r r e) (all q r (in_script rs q r e))

@@ -3,8 +3,8 @@ use Rattle.std.specs.Prelude.{◌≡◌, ◌⊎◌, ◌+◌, ◌≤◌, ◌^◌,
 use Rattle.cl_model.specs.declared.answer.Answer.{Answer}
 use Rattle.cl_source.specs.declared.source.SourceFault.TheVariants as sources
 use Rattle.cl_registry.specs.declared.report.Report.{Report}
-use Rattle.cl_tasks.specs.declared.stage.Reply.{Reply}
-use Rattle.cl_tasks.specs.declared.stage.Reply.TheVariants as reply
+use Rattle.cl_tasks.specs.declared.turn.Reply.{Reply}
+use Rattle.cl_tasks.specs.declared.turn.Reply.TheVariants as reply
 use Rattle.cl_model.specs.declared.answer.Answer.TheVariants.{Said, Shared, Memory, SourceFault}
 
 -- one where the answer is a fault of the source
@@ -37,16 +37,10 @@ pub record FaultsGrow (given more : List (Option Answer)) (old new : ℕ) : Type
 
 -- one where a reply tells of a fault of the source that is not out of memory
 abbrev pub told_faults : {A : Type 0} → Reply A → ℕ
-told_faults (reply.Start) = 0
-told_faults (reply.Looked row) = 0
-told_faults (reply.Probed p) = 0
-told_faults (reply.Defined row) = 0
-told_faults (reply.Initiated row) = 0
-told_faults (reply.Memory) = 0
-told_faults (reply.SourceFault sources.Memory) = 0
 told_faults (reply.SourceFault sources.Device) = 1
 told_faults (reply.SourceFault sources.TooLarge) = 1
 told_faults (reply.SourceFault sources.Twice) = 1
+told_faults other = 0
 
 -- as many reads of a source were counted as refused as answers of a report are faults of the source; no fewer answers than
 -- reads where the count is at its last value

@@ -1,32 +1,25 @@
--- What a report says where a content is told: the headline, clause by clause (JVMS SE 8, 5.3).
-use Rattle.std.specs.Prelude.{◌≡◌, ◌⊎◌, ℕ, List, [], length, Option, Some, None, Ok, slice_get}
-use Rattle.cl_classfile.specs.Files.{File}
+-- What a report says where a content is told: the headline, clause by clause (JVMS SE 8, 5.3 to 5.4.3).
+use Rattle.std.specs.Prelude.{◌≡◌, ◌⊎◌, ℕ, List, [], length, Option, Some, None, slice_get}
+use Rattle.cl_classfile.specs.Structure.{Structure}
 use Rattle.cl_model.specs.declared.class.Class.{Class}
 use Rattle.cl_model.specs.declared.request.Request as requests
-use Rattle.cl_model.specs.Content.{Content, content_at}
+use Rattle.cl_model.specs.Content.{Content}
 use Rattle.cl_model.specs.Homes.{World, home}
 use Rattle.cl_model.specs.Classes.{class, ClassCircularity, Returns}
 use Rattle.cl_model.specs.States.{IsRecorded, Need, Verdict, Wrong, Linkage, Said}
+use Rattle.cl_model.specs.Tables.{IsConsistent, Records}
 use Rattle.cl_model.specs.Views.{answers_of, answer_at}
 use Rattle.cl_config.specs.Views.{Configured, Scripted}
+use Rattle.cl_hierarchy.specs.Drafts.{IsSpelt}
 use Rattle.cl_registry.specs.declared.report.Report.{Report}
 use Rattle.cl_registry.specs.Reports.{IsNamed}
 use Rattle.cl_registry.specs.Tables.{Shown, IsTrusted, RunsAs, posts, state_of}
-use Rattle.cl_schedule.specs.Replies.{ClassesStay}
+use Rattle.cl_schedule.specs.Known.{KnownStays}
 use Rattle.cl_schedule.specs.Serving.{InOrder, machine, reported, upto}
 
--- the own content of the class's loader has bytes for its name, and they spell a file that names it (5.3.5)
-pub record IsSpelt (w : World) (c : Class) : Type 0 where
-  pub bytes : List ℕ
-  pub stored : content_at w.content c.loader c.name ≡ Some bytes
-  pub file : File
-  pub read : w.read bytes ≡ Ok file
-  pub named : file.name ≡ c.name
-
--- each class that is recorded is spelt by its defining loader's bytes (5.3.5)
+-- each class that is recorded is spelt by its defining loader's bytes, by the grammar (4.1; 5.3.5)
 abbrev pub EachSpelt : Option Content → Shown → Type 0
-EachSpelt None x = Unit {0}
-EachSpelt (Some content) x = (c : Class) → IsRecorded (state_of x) c → IsSpelt (machine x content).world c
+EachSpelt told x = (c : Class) → IsRecorded (state_of x) c → (f : Structure) × IsSpelt told c f
 
 -- the request of this number asks this, and was answered so
 pub record Says (x : Shown) (q : ℕ) (r : requests.Request) (v : Verdict) : Type 0 where
@@ -39,13 +32,26 @@ Alike None x = Unit {0}
 Alike (Some content) x =
     (p q : ℕ) (r : requests.Request) (v u : Verdict) → Says x p r v → Says x q r u → v ≡ u
 
+-- this reference of a class was asked for, of a loader that records the class, and was answered so (5.4.3)
+pub record SaysOf (x : Shown) (q : ℕ) (d : Class) (i : ℕ) (v : Verdict) : Type 0 where
+  pub loader : ℕ
+  pub name : List ℕ
+  pub says : Says x q (requests.TheVariants.Resolve loader name i) v
+  pub kept : Records (state_of x) loader name d
+
+-- equal references are answered alike, through whatever loaders they were asked for, failures apart (5.4.3)
+abbrev pub ReferencesAlike : Option Content → Shown → Type 0
+ReferencesAlike None x = Unit {0}
+ReferencesAlike (Some content) x =
+    (p q : ℕ) (d : Class) (i : ℕ) (v u : Verdict) → SaysOf x p d i v → SaysOf x q d i u → v ≡ u
+
 -- a load ends in a circle of this class: its home's walk along first supertypes that are not good meets the class again (5.3.5)
 pub record EndsInCircle (w : World) (loader : ℕ) (name : List ℕ) (c : Class) : Type 0 where
   pub place : ℕ
   pub found : home w loader name ≡ Some place
   pub returns : Returns w [] (class name place) c
 
--- a need before the end is refused, which today's verdicts never tell: loads impose no equality (5.3.4)
+-- a need before the end is refused (5.3.4)
 abbrev pub IsRefusal : Verdict → Type 0
 IsRefusal v = (n : Need) × (v ≡ Linkage n)
 
@@ -65,16 +71,19 @@ CirclesExact (Some content) x =
 -- the report of a script that was served in order under a configuration. Where a content is told, the history is a run
 -- of the linkage machine over it, in which each request is answered once, with what its plan yields in the state at that
 -- point, or with a failure, and the next round begins as soon as it may; each class is spelt by its
--- defining loader's bytes, equal requests are answered alike, and circles are told exactly. Under any source the tables can be
--- trusted, and a class that was answered stays (5.3)
+-- defining loader's bytes, equal requests and equal references are answered alike, and circles are told exactly. Under any
+-- source the tables can be trusted, no loader records a name twice, no constraint is violated, and what the tables have of a
+-- request is its answer (5.3 to 5.4.3)
 pub record IsServedInOrder (told : Option Content) (config : Configured) (script : Scripted) (r : Report) : Type 0 where
   pub of_script : r.script.value ≡ script
   pub each_once : posts r.history ≡ upto (length script.requests)
   pub named : IsNamed (length config.loaders) r
   pub trusted : IsTrusted (reported config r)
-  pub classes : ClassesStay (reported config r)
+  pub consistent : IsConsistent (state_of (reported config r))
+  pub known : KnownStays (reported config r)
   pub run : RunsAs told (reported config r)
   pub in_order : InOrder told (reported config r)
   pub spelt : EachSpelt told (reported config r)
   pub alike : Alike told (reported config r)
+  pub references : ReferencesAlike told (reported config r)
   pub circles : CirclesExact told (reported config r)

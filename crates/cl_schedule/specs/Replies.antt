@@ -1,53 +1,106 @@
--- What a look is answered, and how a request is served whose class is recorded (JVMS SE 8, 5.3).
-use Rattle.std.specs.Prelude.{◌≡◌, ◌⊎◌, ◌<◌, ℕ, List, Option, Some, None, IsSome, slice_get, slice_set}
-use Rattle.cl_model.specs.declared.answer.Answer.{Answer}
-use Rattle.cl_model.specs.declared.answer.Answer.TheVariants.{Said, Memory}
-use Rattle.cl_model.specs.declared.class.Class.{Class}
-use Rattle.cl_model.specs.declared.request.Request.{Request}
-use Rattle.cl_model.specs.declared.verdict.Verdict.TheVariants as verdicts
-use Rattle.cl_model.specs.Classes.{class}
-use Rattle.cl_model.specs.States.{recorded}
-use Rattle.cl_registry.specs.Findings.{loader_of, name_of}
-use Rattle.cl_registry.specs.Tables.{Shown, LacksRecord, looked, records_of, with_post}
-use Rattle.cl_tasks.specs.declared.stage.Reply.{Reply}
-use Rattle.cl_tasks.specs.declared.stage.Reply.TheVariants as reply
+-- What a call of a task is answered, and what it adds to the tables (JVMS SE 8, 5.3 to 5.4.3).
+use Rattle.std.specs.Prelude.{◌≡◌, ◌⊎◌, ℕ, false, Option, Some, None, IsSome, slice_get, Contains}
+use Rattle.cl_model.specs.declared.need.Equality.{Equality}
+use Rattle.cl_model.specs.declared.settled.Settled.{Settled}
+use Rattle.cl_model.specs.States.{recorded, settled_to}
+use Rattle.cl_model.specs.Machine.{Step, Define, Initiate, Settle, Prepare, step_for}
+use Rattle.cl_model.specs.Views.{verdict_of}
+use Rattle.cl_delegation.specs.Searches.{Located}
+use Rattle.cl_findings.specs.Findings.{Answered}
+use Rattle.cl_hierarchy.specs.Drafts.{Drafted}
+use Rattle.cl_hierarchy.specs.Imposed.{Listed, Sprung, OfReference, OfPreparation, equal_need}
+use Rattle.cl_registry.specs.declared.registry.RegistryFault.{RegistryFault}
+use Rattle.cl_registry.specs.declared.registry.RegistryFault.TheVariants as faults
+use Rattle.cl_registry.specs.Settling.{IsToSettle}
+use Rattle.cl_registry.specs.Tables.{Shown, IsKept, records_of, state_of}
+use Rattle.cl_tasks.specs.Waits.{Waits, Looking, LookingReference, LookingPrepared}
+use Rattle.cl_tasks.specs.Turns.{IsReplyTo, call_of}
+use Rattle.cl_tasks.specs.Follows.{TellsOf}
+use Rattle.cl_tasks.specs.declared.turn.Reply.{Reply}
+use Rattle.cl_tasks.specs.declared.turn.Reply.TheVariants as reply
+use Rattle.cl_tasks.specs.declared.turn.Turn.{Turn}
+use Rattle.cl_tasks.specs.declared.turn.Turn.TheVariants as turn
+use Rattle.cl_model.specs.Content.{Content}
+use Rattle.cl_schedule.specs.Counting.{Grows, told_faults}
+use Rattle.cl_schedule.specs.Serving.{GoesBy}
 
--- a look finds the row that the registry shows, nothing just where nothing is recorded, and what is recorded may be refused
--- for want of memory (5.3)
-abbrev pub Shows : {A : Type 0} → Shown → ℕ → List ℕ → Reply A → Type 0
-Shows x loader name (reply.Start) = ⊥
-Shows x loader name (reply.Looked None) = LacksRecord x loader name
-Shows x loader name (reply.Looked (Some row)) = looked x loader name ≡ Some row.value
-Shows x loader name (reply.Probed p) = ⊥
-Shows x loader name (reply.Defined row) = ⊥
-Shows x loader name (reply.Initiated row) = ⊥
-Shows x loader name (reply.Memory) = IsSome (looked x loader name)
-Shows x loader name (reply.SourceFault f) = ⊥
+-- a turn that asks for a call, and not for the post
+abbrev pub IsCall : {A : Type 0} → Turn A → Type 0
+IsCall (turn.Post f) = ⊥
+IsCall other = Unit {0}
 
--- this class, or want of memory
-abbrev pub ClassOrMemory : Class → Answer → Type 0
-ClassOrMemory c a = (a ≡ Said (verdicts.Class c)) ⊎ (a ≡ Memory)
+-- a turn that asks for a read (5.3.2)
+abbrev pub IsRead : {A : Type 0} → Turn A → Type 0
+IsRead (turn.Read l n) = Unit {0}
+IsRead other = ⊥
 
--- a request was answered the class that its loader has recorded, or want of memory; nothing else happened, and the source's
--- count is what it was (5.3)
-pub record IsAnsweredAs (old new : Shown) (q : ℕ) (c : Class) (count now : ℕ) : Type 0 where
-  pub answer : Answer
-  pub is : ClassOrMemory c answer
-  pub posted : new ≡ with_post old q answer
-  pub uncounted : now ≡ count
+-- a look finds nothing only where nothing is recorded, settled or prepared, and memory is wanting only where something is to be
+-- shared (5.3, 5.4.2, 5.4.3)
+abbrev pub Shows : {A : Type 0} → Shown → Waits → Reply A → Type 0
+Shows x (Looking l n) (reply.Looked None) = recorded (records_of x) l n ≡ None
+Shows x (Looking l n) reply.Memory = IsSome (recorded (records_of x) l n)
+Shows x (LookingReference c i) (reply.LookedReference None) = settled_to (state_of x).settled c i ≡ None
+Shows x (LookingReference c i) reply.Memory = IsSome (settled_to (state_of x).settled c i)
+Shows x (LookingPrepared c) (reply.LookedPrepared false) = Contains (state_of x).prepared c → ⊥
+Shows x (LookingPrepared c) reply.Memory = ⊥
+Shows x waits other = Unit {0}
 
--- a request whose class its loader has recorded is answered so (5.3)
-abbrev pub AnswersRecorded : Shown → Shown → ℕ → Request → ℕ → ℕ → Type 0
-AnswersRecorded old new q r count now =
-    (place : ℕ) → recorded (records_of old) (loader_of r) (name_of r) ≡ Some place → IsAnsweredAs old new q (class (name_of r) place) count now
+-- a call was answered: the reply is one to it, and tells what the tables hold (5.3 to 5.4.3)
+pub record IsReplied {A : Type 0} (x : Shown) (waits : Waits) (r : Reply A) : Type 0 where
+  pub fits : IsReplyTo x.config waits r
+  pub tells : TellsOf x waits r
+  pub shows : Shows x waits r
 
--- a request that asks what an earlier one was answered a class for is answered that class, or want of memory, under any source (5.3)
-abbrev pub ClassesStay : Shown → Type 0
-ClassesStay x =
-    (p q : ℕ) (r : Request) (c : Class) (a : Answer) → p < q → slice_get x.script.requests p ≡ Some r → slice_get x.script.requests q ≡ Some r
-    → slice_get x.answers p ≡ Some (Some (Said (verdicts.Class c))) → slice_get x.answers q ≡ Some (Some a) → ClassOrMemory c a
+-- the class whose preparation asked for a list is prepared by this step (5.4.2)
+abbrev pub PreparesBy : Sprung → Step → Type 0
+PreparesBy (OfReference d c index) e = ⊥
+PreparesBy (OfPreparation l) e = e ≡ Prepare l.own.class
 
--- one answer more (own choice)
-pub record IsAnswered (given more : List (Option Answer)) (q : ℕ) : Type 0 where
-  pub answer : Answer
-  pub is : more ≡ slice_set given q (Some answer)
+-- a finding settles its reference by this step (5.4.3)
+abbrev pub SettlesBy : Shown → Answered → Step → Type 0
+SettlesBy x f e = (s : Settled) × IsToSettle x f s × (e ≡ Settle s.class s.index (verdict_of s.verdict))
+
+-- the equality at a place of a list is imposed by this step (5.3.4)
+abbrev pub ImposesBy : Listed → ℕ → Step → Type 0
+ImposesBy l k e = (n : Equality) × (slice_get l.needs k ≡ Some n) × (e ≡ step_for (equal_need n))
+
+-- a class is recorded by this step (5.3.5, step 5)
+abbrev pub DefinesBy : Drafted → Step → Type 0
+DefinesBy d e = e ≡ Define d.class
+
+-- a loader that was asked is recorded by this step (5.3)
+abbrev pub InitiatesBy : Located → Step → Type 0
+InitiatesBy h e = e ≡ Initiate h.name h.place h.asked
+
+-- the step that a call may add (5.3 to 5.4.3)
+abbrev pub IsStepOf : {A : Type 0} → Shown → Turn A → Step → Type 0
+IsStepOf x (turn.Define d) e = DefinesBy d e
+IsStepOf x (turn.Initiate h) e = InitiatesBy h.value e
+IsStepOf x (turn.Settle f) e = SettlesBy x f e
+IsStepOf x (turn.Impose l k) e = ImposesBy l.value k e
+IsStepOf x (turn.Mark l) e = PreparesBy l.value.origin e
+IsStepOf x other e = ⊥
+
+-- a call changed nothing, or it added one step, such as this (5.3 to 5.4.3)
+abbrev pub Did : Shown → Shown → (Step → Type 0) → Type 0
+Did old new such = (new ≡ old) ⊎ ((e : Step) × such e × GoesBy old new e)
+
+-- a refusal that a task is told of: want of memory, or a need that is refused (5.3.4)
+abbrev pub IsTold : RegistryFault → Type 0
+IsTold faults.Memory = Unit {0}
+IsTold (faults.Violates n) = Unit {0}
+IsTold other = ⊥
+
+-- the reply that such a refusal is (5.3.4)
+abbrev pub refusal_of : {A : Type 0} → RegistryFault → Reply A
+refusal_of (faults.Violates n) = reply.Refused n
+refusal_of other = reply.Memory
+
+-- a call was made: what it did, and what the task is told of it; a source is read by a read alone (5.3 to 5.4.3)
+pub record CallSays {A S : Type 0} (told : Option Content) (x new : Shown) (u : Turn A) (given : Reply A) (count later : ℕ) (since source : S) : Type 0 where
+  pub call : IsCall u
+  pub replied : IsReplied new (call_of u) given
+  pub did : Did x new (IsStepOf x u)
+  pub kept : IsKept told new
+  pub faults : Grows (told_faults given) count later
+  pub unread : (IsRead u → ⊥) → source ≡ since

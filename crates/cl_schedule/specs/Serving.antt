@@ -1,17 +1,18 @@
--- What a report says of the requests that were served (JVMS SE 8, 5.3).
-use Rattle.std.specs.Prelude.{◌≡◌, ◌⊎◌, ℕ, zero, suc, List, [], ◌∷◌, ◌++◌, map, Option, Some, None}
+-- What a report says of the requests that were served, and what was done for one (JVMS SE 8, 5.3 to 5.4.3).
+use Rattle.std.specs.Prelude.{◌≡◌, ℕ, zero, suc, List, [], ◌∷◌, ◌++◌, map, Option, Some, None, slice_set}
+use Rattle.std.specs.List.{AllByRecursion}
+use Rattle.cl_model.specs.declared.answer.Answer as rust
 use Rattle.cl_model.specs.declared.request.Request.{Request}
 use Rattle.cl_model.specs.Content.{Content}
 use Rattle.cl_model.specs.States.{start}
-use Rattle.cl_model.specs.Views.{request_of}
-use Rattle.cl_model.specs.Machine.{Setting, Step}
+use Rattle.cl_model.specs.Views.{answer_of, request_of}
+use Rattle.cl_model.specs.Machine.{Setting, Step, Define, Initiate, Constrain, Settle, Prepare, Post, NextRound, Stray}
 use Rattle.cl_model.specs.Service.{Serves, AllServed}
 use Rattle.cl_registry.specs.declared.report.Report.{Report}
 use Rattle.cl_config.specs.Views.{Configured}
-use Rattle.cl_hierarchy.specs.Drafts.{Drafted}
+use Rattle.cl_hierarchy.specs.Rows.{Rowed}
 use Rattle.cl_delegation.specs.Worlds.{setting_of}
-use Rattle.cl_delegation.specs.Searches.{Located}
-use Rattle.cl_registry.specs.Tables.{Shown, steps, state_of, with_define, with_initiate}
+use Rattle.cl_registry.specs.Tables.{Shown, posts, steps, state_of}
 
 -- the numbers below a number, in order
 abbrev pub upto : ℕ → List ℕ
@@ -27,27 +28,51 @@ abbrev pub machine : Shown → Content → Setting
 machine x content = setting_of x.config x.script content
 
 -- the requests are served in order: for each what comes next in its service, one step after another, and then the post of
--- the answer that it comes to, or of a failure after some of these; the next round begins as soon as it may (5.3)
+-- the answer that it comes to, or of a failure after some of these; the next round begins as soon as it may (5.3 to 5.4.3)
 abbrev pub InOrder : Option Content → Shown → Type 0
 InOrder None x = Unit {0}
 InOrder (Some content) x = AllServed (machine x content) 0 start (machine x content).script (steps x)
 
--- the steps of a registry since another state of it
-pub record Since (old new : Shown) : Type 0 where
+-- ---- what was done for one request
+
+-- the step posts an answer (own choice)
+abbrev pub IsPost : Step → Type 0
+IsPost (Define c) = ⊥
+IsPost (Initiate name place loader) = ⊥
+IsPost (Constrain name a b) = ⊥
+IsPost (Settle d i v) = ⊥
+IsPost (Prepare c) = ⊥
+IsPost (Post q a) = Unit {0}
+IsPost NextRound = ⊥
+IsPost Stray = ⊥
+
+-- none of these posts an answer (own choice)
+abbrev pub NoPosts : List Step → Type 0
+NoPosts es = AllByRecursion (λ e. IsPost e → ⊥) es
+
+-- these steps serve a request, where a content is told (5.3 to 5.4.3)
+abbrev pub ServesAs : Option Content → Shown → ℕ → Request → List Step → Type 0
+ServesAs None old q r es = Unit {0}
+ServesAs (Some content) old q r es = Serves (machine old content) q (request_of r) (state_of old) es
+
+-- a request was served: some steps were made, and then its one answer was posted; nothing else changed but rows (5.3 to 5.4.3)
+pub record IsDone (told : Option Content) (old new : Shown) (q : ℕ) (r : Request) : Type 0 where
   pub config : new.config ≡ old.config
   pub script : new.script ≡ old.script
-  pub more : List Step
-  pub steps_more : steps new ≡ steps old ++ more
+  pub answer : rust.Answer
+  pub answers : new.answers ≡ slice_set old.answers q (Some answer)
+  pub posted : posts new.history ≡ posts old.history ++ q ∷ []
+  pub made : List Step
+  pub quiet : NoPosts made
+  pub whole : steps new ≡ steps old ++ (made ++ Post q (answer_of answer) ∷ [])
+  pub serves : ServesAs told old q r (made ++ Post q (answer_of answer) ∷ [])
 
--- the request was served since (5.3)
-abbrev pub Served : Option Content → Shown → Shown → ℕ → Request → Type 0
-Served None old new q r = Unit {0}
-Served (Some content) old new q r = (s : Since old new) × Serves (machine old content) q (request_of r) (state_of old) s.more
-
--- a class was recorded, or nothing happened (5.3.5)
-abbrev pub DefinesFor : Shown → Shown → Drafted → Type 0
-DefinesFor old new d = (new ≡ old) ⊎ (new ≡ with_define old d)
-
--- a loader was recorded as initiating, or nothing happened (5.3)
-abbrev pub InitiatesFor : Shown → Shown → Located → Type 0
-InitiatesFor old new h = (new ≡ old) ⊎ (new ≡ with_initiate old h)
+-- a registry went on by a step that is no post: rows may be added, and nothing else changed (5.3 to 5.4.3)
+pub record GoesBy (old new : Shown) (e : Step) : Type 0 where
+  pub config : new.config ≡ old.config
+  pub script : new.script ≡ old.script
+  pub answers : new.answers ≡ old.answers
+  pub posts_same : posts new.history ≡ posts old.history
+  pub more : List Rowed
+  pub rows : new.rows ≡ old.rows ++ more
+  pub step : steps new ≡ steps old ++ e ∷ []

@@ -1,8 +1,8 @@
 //! Scripts served over a source of which a read fails, and over much. A body that gives up on every request passes no line
 //! of these.
 
-use crate::given::{APP, BOOT, OBJECT, PLAIN, PLUG, TOP, class_name, put, served};
-use cl_model::{Answer, Class, ErrorKind, LoaderId, Untold, Verdict};
+use crate::given::{APP, BOOT, OBJECT, PLAIN, PLUG, SERVICE, TOP, USER, class_name, put, served};
+use cl_model::{Answer, Class, ErrorKind, Event, LoaderId, Untold, Verdict};
 use cl_source::{FaultySource, MemorySource, Source};
 use std::alloc::{AllocError, Global};
 use std::test::Fail;
@@ -54,6 +54,86 @@ fn each_read_fails_once(rt: HostRuntime) -> Result<(), Fail> {
             assert!(rt; as_wanted);
         }
         assert!(rt; source.failures() == u64::from(blamed < 2));
+    }
+    Ok(())
+}
+
+/// A service in `app` whose method takes a `p/T`, a class in `plug` that calls it, and a `p/T` in each.
+fn shared_service(alloc: Global) -> Result<MemorySource, AllocError> {
+    let mut source = MemorySource::new(alloc);
+    for (loader, name, bytes) in [
+        (BOOT, TOP, OBJECT),
+        (APP, b"p/Svc".as_slice(), SERVICE),
+        (APP, b"p/T", PLAIN),
+        (PLUG, b"p/T", PLAIN),
+        (PLUG, b"p/Use", USER),
+    ] {
+        let bytes = Vec::from_slice(alloc, bytes)?;
+        put(alloc, &mut source, loader, name, bytes)?;
+    }
+    Ok(source)
+}
+
+/// Requests of each kind, over a source of which a read fails, each in turn until none does: one request is answered so, the
+/// others are said.
+#[test]
+fn each_read_of_every_kind_fails_once(rt: HostRuntime) -> Result<(), Fail> {
+    let alloc = rt.alloc();
+    let script = "resolve plug p/Use 1\nlink plug p/Use\nthen\nload app p/T\nload plug p/T\n";
+    let mut runs = 0;
+    for at in 1..100u64 {
+        let source = shared_service(alloc)?.tell::<Untold>();
+        let mut source = FaultySource::new(source, at);
+        let report = served(alloc, &mut source, script)?;
+        let mut faults = 0usize;
+        for answer in report.answers.as_slice() {
+            match answer {
+                Answer::SourceFault(_, _) => faults = faults.saturating_add(1),
+                Answer::Memory => return Err(Fail::new("out of memory")),
+                _ => {}
+            }
+        }
+        if source.failures() == 0 {
+            runs = at;
+            assert!(rt; faults == 0);
+            break;
+        }
+        assert!(rt; faults == 1);
+    }
+    assert!(rt; runs > 3);
+    Ok(())
+}
+
+/// A reference is settled once, however often it is asked for, and each request has the verdict.
+#[test]
+fn a_thousand_resolutions_settle_once(rt: HostRuntime) -> Result<(), Fail> {
+    let alloc = rt.alloc();
+    let mut script = String::new(alloc);
+    for _ in 0..1000 {
+        script.push_str("resolve plug p/Use 1\n")?;
+    }
+    let mut source = shared_service(alloc)?.tell::<Untold>();
+    let report = served(alloc, &mut source, script.as_str())?;
+    let service = Class {
+        name: class_name(alloc, b"p/Svc")?,
+        loader: LoaderId(APP),
+    };
+    let mut settled = 0usize;
+    for event in report.history.events() {
+        if let Event::Settle(_) = event {
+            settled = settled.saturating_add(1);
+        }
+    }
+    assert!(rt; settled == 1);
+    let answers = report.answers.as_slice();
+    assert!(rt; answers.len() == 1000);
+    for answer in answers {
+        let verdict = match answer {
+            Answer::Said(verdict) => verdict,
+            Answer::Shared(settled) => &settled.verdict,
+            _ => return Err(Fail::new("no verdict")),
+        };
+        assert!(rt; matches!(verdict, Verdict::Method(class, _) if *class == service));
     }
     Ok(())
 }

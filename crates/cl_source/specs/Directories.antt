@@ -1,5 +1,22 @@
--- Which file of a directory a name stands for, and what the directory answers for it (own choice; JVMS SE 8, 5.3.2).
-use Rattle.std.specs.Prelude.{◌≡◌, ℕ, ⊤, List, [], ◌∷◌, ◌++◌, codes, Option, Some, None, option_map, Result, Ok, Err}
+-- Which file of a directory a name stands for, and what the directory answers for it
+-- (own choice; JVMS SE 8, 5.3.2).
+use Rattle.std.specs.Prelude.{
+  ◌≡◌,
+  ℕ,
+  ⊤,
+  List,
+  [],
+  ◌∷◌,
+  ◌++◌,
+  codes,
+  Option,
+  Some,
+  None,
+  option_map,
+  Result,
+  Ok,
+  Err,
+}
 use Rattle.cl_names.specs.Plain.{plain_of}
 use Rattle.cl_source.specs.declared.source.Outcome.{Outcome}
 use Rattle.cl_source.specs.declared.source.Outcome.TheVariants.{Found, Absent}
@@ -29,7 +46,8 @@ IsAbsent gives None = ⊤
 IsAbsent gives (Some path) = gives path Missing
 
 -- what a directory answers for a path, or for a name that has none: only what is missing is absent
-abbrev pub AnswerOf : (List ℕ → Seen → Type 0) → Option (List ℕ) → Result Outcome SourceFault → Type 0
+abbrev pub AnswerOf : (List ℕ → Seen → Type 0) → Option (List ℕ) → Result Outcome SourceFault
+    → Type 0
 AnswerOf gives path (Ok (Found bytes)) = At (λ p. IsWithin (gives p) 16777216 bytes.value) path
 AnswerOf gives path (Ok Absent) = IsAbsent gives path
 AnswerOf gives path (Err TooLarge) = At (λ p. IsTooLarge (gives p) 16777216) path

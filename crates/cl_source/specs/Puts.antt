@@ -1,5 +1,19 @@
--- What putting a class into a source in memory does (own choice).
-use Rattle.std.specs.Prelude.{◌≡◌, ℕ, ◌<◌, ◌≤◌, List, length, Some, None, IsSome, ◌==◌, ◌&&◌, nat_eq, if◌then◌else◌}
+-- What putting a class into a source in memory does.
+use Rattle.std.specs.Prelude.{
+  ◌≡◌,
+  ℕ,
+  ◌<◌,
+  ◌≤◌,
+  List,
+  length,
+  Some,
+  None,
+  IsSome,
+  ◌==◌,
+  ◌&&◌,
+  nat_eq,
+  if◌then◌else◌,
+}
 use Rattle.std.specs.Cmp.Lexicographic.{pointwise}
 use Rattle.cl_model.specs.Content.{Content, content_at}
 use Rattle.cl_source.specs.declared.source.SourceFault.{SourceFault}
@@ -9,14 +23,16 @@ use Rattle.cl_source.specs.declared.source.SourceFault.TheVariants.{Memory, Devi
 abbrev pub Fits : List ℕ → Type 0
 Fits bytes = length bytes ≤ 16777216
 
--- why nothing could be put: too large comes before twice, and twice before want of memory (own choice)
+-- why nothing could be put: too large comes before twice, and twice before want of memory
 abbrev pub Refuses : Content → ℕ → List ℕ → List ℕ → SourceFault → Type 0
 Refuses content loader name bytes TooLarge = 16777216 < length bytes
 Refuses content loader name bytes Twice = Fits bytes × IsSome (content_at content loader name)
 Refuses content loader name bytes Memory = Fits bytes × (content_at content loader name ≡ None)
 Refuses content loader name bytes Device = ⊥
 
--- the new content has these bytes for this loader and name, and for any other what the old one has (own choice)
+-- the new content has these bytes for this loader and name, and for any other what the old one has
 abbrev pub TellsMore : Content → Content → ℕ → List ℕ → List ℕ → Type 0
 TellsMore old new loader name bytes =
-    (l : ℕ) (n : List ℕ) → content_at new l n ≡ (if (loader == l) && pointwise nat_eq name n then Some bytes else content_at old l n)
+    (l : ℕ) (n : List ℕ)
+    → content_at new l n
+    ≡ (if (loader == l) && pointwise nat_eq name n then Some bytes else content_at old l n)

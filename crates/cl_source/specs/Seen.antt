@@ -1,10 +1,25 @@
--- What stands at a path, and what reading a file there answers (own choice).
-use Rattle.std.specs.Prelude.{◌<◌, ◌≤◌, ℕ, ⊤, List, length, Option, Some, None, Result, Ok, Err, Vec}
+-- What stands at a path, and what reading a file there answers.
+use Rattle.std.specs.Prelude.{
+  ◌<◌,
+  ◌≤◌,
+  ℕ,
+  ⊤,
+  List,
+  length,
+  Option,
+  Some,
+  None,
+  Result,
+  Ok,
+  Err,
+  Vec,
+}
 use Rattle.std.specs.declared.alloc.Global.{Global}
 use Rattle.cl_streams.specs.declared.input.InputFault.{InputFault}
 use Rattle.cl_streams.specs.declared.input.InputFault.TheVariants.{Unread, TooLarge, Memory}
 
--- what stands at a path: bytes; nothing, a part of the path that is a file included; or what the system refuses
+-- what stands at a path: bytes; nothing, a part of the path that is a file included; or what the
+-- system refuses
 pub data Seen : Type 0 where
   Bytes : List ℕ → Seen
   Missing : Seen
@@ -30,7 +45,8 @@ FileOf gives most (Err Unread) = gives Refused
 FileOf gives most (Err Memory) = ⊤
 
 -- a file's bytes, without where they lie
-abbrev pub file_seen : Result (Option (Vec ℕ Global)) InputFault → Result (Option (List ℕ)) InputFault
+abbrev pub file_seen : Result (Option (Vec ℕ Global)) InputFault
+    → Result (Option (List ℕ)) InputFault
 file_seen (Ok (Some v)) = Ok (Some v.items)
 file_seen (Ok None) = Ok None
 file_seen (Err e) = Err e

@@ -1,5 +1,20 @@
--- The contents of several loaders, each a list of names with their bytes, and how a content grows (JVMS SE 8, 5.3).
-use Rattle.std.specs.Prelude.{◌≡◌, ℕ, ◌+◌, nat_eq, List, [], ◌∷◌, ◌++◌, map, Option, Some, None, if◌then◌else◌}
+-- The contents of several loaders, each a list of names with their bytes, and how a content grows
+-- (JVMS SE 8, 5.3).
+use Rattle.std.specs.Prelude.{
+  ◌≡◌,
+  ℕ,
+  ◌+◌,
+  nat_eq,
+  List,
+  [],
+  ◌∷◌,
+  ◌++◌,
+  map,
+  Option,
+  Some,
+  None,
+  if◌then◌else◌,
+}
 use Rattle.std.specs.Cmp.Lexicographic.{pointwise}
 use Rattle.cl_model.specs.Content.{Stored, Content}
 
@@ -19,9 +34,10 @@ content_of_shelf loader shelf = map (λ e. record { loader = loader; name = e.0;
 -- what shelves tell, the first of this loader and each other of the next (5.3)
 abbrev pub content_from : ℕ → List Shelved → Content
 content_from loader [] = []
-content_from loader (shelf ∷ shelves) = content_of_shelf loader shelf ++ content_from (loader + 1) shelves
+content_from loader (shelf ∷ shelves) =
+    content_of_shelf loader shelf ++ content_from (loader + 1) shelves
 
--- one entry more, somewhere (own choice)
+-- one entry more, somewhere
 pub record Inserts (old new : Content) (entry : Stored) : Type 0 where
   pub front : Content
   pub back : Content

@@ -83,7 +83,8 @@ impl<F: ReadFile> Source<Untold> for DirSource<F> {
         ensures counts { Counts self.old.failures self.new.failures result }
         ensures spent { self.old.failures + 1 ≡ 2 ^ 64 → IsErrOf result SourceFault.Device }
         ensures answer { self.old.failures + 1 < 2 ^ 64
-            → ReadsAs (F.gives self.old.files) (path_in (slice_get (map string_bytes self.old.dirs.items) loader) name.now) result }
+            → ReadsAs (F.gives self.old.files)
+            (path_in (slice_get (map string_bytes self.old.dirs.items) loader) name.now) result }
         ensures unchanged { (self.new.files ≡ self.old.files) × (self.new.dirs ≡ self.old.dirs) }
     {
         if self.failures == u64::MAX {

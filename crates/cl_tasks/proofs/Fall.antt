@@ -1,5 +1,5 @@
 -- What is left of a task falls with each turn.
-use Rattle.std.proofs.Common.{◌≡◌, ◌≢◌, ◌∙◌, ◌<◌, ◌≤◌, ◌+◌, ◌*◌, ◌^◌, ℕ, List, [], ◌∷◌, ◌++◌, length, map, Option, Some, refl, sym, ap, subst, arith, length-append, lit<}
+use Rattle.std.proofs.Common.{◌≡◌, ◌∙◌, ◌<◌, ◌≤◌, ◌+◌, ◌*◌, ◌^◌, ℕ, List, [], ◌∷◌, ◌++◌, length, map, Option, Some, refl, sym, ap, subst, arith, length-append, lit<}
 use Rattle.std.specs.Prelude.{IsSome}
 use Rattle.std.proofs.lemmas.List.{length-map}
 use Rattle.cl_classfile.specs.Files.{file_of}
@@ -9,12 +9,9 @@ use Rattle.cl_model.specs.Frames.{Frame, wanted, accepting}
 use Rattle.cl_model.proofs.Measures.{push_falls, load_falls, accept_falls, pop_falls, turn_falls}
 use Rattle.cl_hierarchy.specs.Drafts.{Drafted}
 use Rattle.cl_hierarchy.specs.Frames.{Framed, accepted_of, frame_of, with_place}
-use Rattle.cl_hierarchy.specs.Paths.{Pathed, frames_of, fresh, IsPath, with_frame, Accepts}
-use Rattle.cl_tasks.proofs.Ends.{Ends}
+use Rattle.cl_hierarchy.specs.Paths.{Pathed, frames_of, fresh, IsPath, with_frame, Accepts, Completes}
 use Rattle.cl_hierarchy.proofs.Frames.{accepts_one}
-use Rattle.cl_tasks.specs.declared.phase.Phase.{Phase}
-use Rattle.cl_tasks.specs.declared.phase.Phase.TheVariants.{Fresh, Looking, Reading, Homing, Defining, Initiating, Done}
-use Rattle.cl_tasks.specs.Tasks.{most, turns, loading, ended, left_at}
+use Rattle.cl_tasks.specs.Measures.{Phase, Fresh, Looking, Reading, Homing, Defining, Initiating, most, turns, loading, ended, left_at}
 use Rattle.cl_tasks.proofs.Keep.{top_of, map_last, some_of}
 
 -- ---- sizes
@@ -68,8 +65,8 @@ accept_less told old new place path step =
     (accept_falls most most xs f t next.0 (before_within told old before last path step.split) (ap wanted (sym grown) ∙ next.1)))
 
 -- the end of a frame leaves less
-pub complete_less : (told : Option Content) (old new : Pathed) (place : ℕ) (d : Drafted) → IsPath told old → Ends old new place d → ended (frames_of new) < ended (frames_of old)
-complete_less told old new place d path step =
+pub complete_less : (told : Option Content) (old new : Pathed) (place : ℕ) (x : Framed) → IsPath told old → Completes old new place x → ended (frames_of new) < ended (frames_of old)
+complete_less told old new place x path step =
     let before = step.before in
     let last = step.last in
     let xs = map frame_of before in
@@ -98,7 +95,6 @@ IsLoading Reading = Unit {0}
 IsLoading Homing = Unit {0}
 IsLoading Defining = ⊥
 IsLoading Initiating = ⊥
-IsLoading Done = ⊥
 
 -- a task that is not done
 abbrev pub IsAtWork : Phase → Type 0
@@ -108,16 +104,6 @@ IsAtWork Reading = Unit {0}
 IsAtWork Homing = Unit {0}
 IsAtWork Defining = Unit {0}
 IsAtWork Initiating = Unit {0}
-IsAtWork Done = ⊥
-
-pub work_of : (phase : Phase) → phase ≢ Done → IsAtWork phase
-work_of Fresh h = tt
-work_of Looking h = tt
-work_of Reading h = tt
-work_of Homing h = tt
-work_of Defining h = tt
-work_of Initiating h = tt
-work_of Done h = absurd (h refl)
 
 less : (a b p q : ℕ) → a < b → p < turns → turns * a + p < turns * b + q
 less a b p q h k = turn_falls turns a b p q h k
@@ -130,7 +116,6 @@ loading_less Reading xs probes a p w h k = less a (loading xs) p (probes + 5) h 
 loading_less Homing xs probes a p w h k = less a (loading xs) p 4 h k
 loading_less Defining xs probes a p w h k = absurd w
 loading_less Initiating xs probes a p w h k = absurd w
-loading_less Done xs probes a p w h k = absurd w
 
 -- with less than once it has ended
 ended_less : (phase : Phase) (xs : List Frame) (probes a p : ℕ) → IsAtWork phase → ended xs < loading xs → a < ended xs → p < turns → turns * a + p < left_at phase xs probes
@@ -140,7 +125,6 @@ ended_less Reading xs probes a p w e h k = loading_less Reading xs probes a p tt
 ended_less Homing xs probes a p w e h k = loading_less Homing xs probes a p tt (omega arith) k
 ended_less Defining xs probes a p w e h k = less a (ended xs) p 3 h k
 ended_less Initiating xs probes a p w e h k = less a (ended xs) p 2 h k
-ended_less Done xs probes a p w e h k = absurd w
 
 -- a task begins to look
 pub starts_less : (xs : List Frame) (probes more : ℕ) → left_at Looking xs more < left_at Fresh xs probes
@@ -195,15 +179,5 @@ pub accepts_less : (told : Option Content) (old new : Pathed) (place : ℕ) (pha
 accepts_less told old new place phase probes more path w step = ended_less phase (frames_of old) probes (loading (frames_of new)) (most + 7) w (load_less told old path) (accept_less told old new place path step) turns_more
 
 -- a class has all its supertypes, and is to be recorded
-pub completes_less : (told : Option Content) (old new : Pathed) (place : ℕ) (d : Drafted) (phase : Phase) (probes more : ℕ) → IsPath told old → IsAtWork phase → Ends old new place d → left_at Defining (frames_of new) more < left_at phase (frames_of old) probes
-completes_less told old new place d phase probes more path w step = ended_less phase (frames_of old) probes (ended (frames_of new)) 3 w (load_less told old path) (complete_less told old new place d path step) few_turns
-
--- the answer is posted
-pub posts_less : (phase : Phase) (xs ys : List Frame) (probes more : ℕ) → IsAtWork phase → left_at Done ys more < left_at phase xs probes
-posts_less Fresh xs ys probes more w = omega arith
-posts_less Looking xs ys probes more w = omega arith
-posts_less Reading xs ys probes more w = omega arith
-posts_less Homing xs ys probes more w = omega arith
-posts_less Defining xs ys probes more w = omega arith
-posts_less Initiating xs ys probes more w = omega arith
-posts_less Done xs ys probes more w = absurd w
+pub completes_less : (told : Option Content) (old new : Pathed) (place : ℕ) (x : Framed) (phase : Phase) (probes more : ℕ) → IsPath told old → IsAtWork phase → Completes old new place x → left_at Defining (frames_of new) more < left_at phase (frames_of old) probes
+completes_less told old new place x phase probes more path w step = ended_less phase (frames_of old) probes (ended (frames_of new)) 3 w (load_less told old path) (complete_less told old new place x path step) few_turns

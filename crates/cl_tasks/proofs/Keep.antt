@@ -12,20 +12,15 @@ use Rattle.cl_config.specs.Views.{Configured}
 use Rattle.cl_hierarchy.specs.Rows.{Rowed}
 use Rattle.cl_hierarchy.specs.Drafts.{Drafted}
 use Rattle.cl_hierarchy.specs.Frames.{Framed, accepted_of, frame_of, with_place}
-use Rattle.cl_hierarchy.specs.Paths.{Pathed, frames_of, fresh, name_of, sought, at_loader, at_name, Stands, AllStand, IsPath, with_frame, misfit_in, misfit_under, Accepts}
-use Rattle.cl_tasks.proofs.Ends.{Ends}
+use Rattle.cl_hierarchy.specs.Paths.{Pathed, frames_of, fresh, name_of, sought, at_loader, at_name, Stands, AllStand, IsPath, with_frame, misfit_in, misfit_under, Accepts, Completes}
 use Rattle.cl_model.proofs.Stacks.{complete_is_kept}
 use Rattle.cl_hierarchy.proofs.Frames.{accepts_one}
 use Rattle.cl_registry.specs.Tables.{Shown, state_of, records_of, looked}
-use Rattle.cl_tasks.specs.Follows.{IsRecordedAs, HasAccepted, HaveAccepted}
+use Rattle.cl_tasks.specs.Facts.{AllHave, IsRecordedAs, HasAccepted, HaveAccepted}
 
 -- what a frame has accepted is recorded, and fits
 abbrev pub Has : Shown → Frame → Type 0
 Has x f = HaveAccepted x f.class f.accepted (supers f.file)
-
--- and so for each of these
-abbrev pub AllHave : Shown → List Frame → Type 0
-AllHave x fs = AllByRecursion (λ f. HaveAccepted x f.class f.accepted (supers f.file)) fs
 
 -- ---- what was accepted is kept, and named
 
@@ -55,10 +50,6 @@ pub frame_named : (x : Shown) (f : Frame) → Has x f → NamedAs f.accepted (su
 frame_named x f h = accepted_named x f.class f.accepted (supers f.file) h
 
 -- ---- the last frame
-
-pub all_first : {A : Type 0} (P : A → Type 0) (xs ys : List A) → AllByRecursion P (xs ++ ys) → AllByRecursion P xs
-all_first P [] ys h = tt
-all_first P (x ∷ xs) ys h = (h.0, all_first P xs ys h.1)
 
 pub all_last : {A : Type 0} (P : A → Type 0) (xs : List A) (x : A) → AllByRecursion P (xs ++ x ∷ []) → P x
 all_last P [] x h = h.0
@@ -176,13 +167,18 @@ accepts_holds told x old new row path h told_row fits step =
     (framed_other (Has x) step.before step.last (with_place step.last row.class.loader) has
     (takes x old step.before step.last row top (framed_last (Has x) step.before step.last has) told_row fits))
 
--- the last class is complete: those before it are left
-pub completes_holds : (x : Shown) (old new : Pathed) (place : ℕ) (d : Drafted) → AllHave x (frames_of old) → Ends old new place d → AllHave x (frames_of new)
-completes_holds x old new place d h step =
-    subst (λ (p : Pathed). AllHave x (frames_of p)) (sym step.now) (framed_first (Has x) step.before step.last (split_have x old step.before step.last step.split h))
+-- the last class is complete: those before it are left, and it has accepted all its supertypes
+pub completes_holds : (told : Option Content) (x : Shown) (old new : Pathed) (row : Rowed) (whole : Framed) → IsPath told old → AllHave x (frames_of old) → IsRecordedAs x (at_loader old) (at_name old) row
+    → misfit_under old.frames row.class (file_of row.file) ≡ None → Completes old new row.class.loader whole → AllHave x (frames_of new) × Has x (frame_of whole)
+completes_holds told x old new row whole path h told_row fits step =
+    let has = split_have x old step.before step.last step.split h in (
+      subst (λ (p : Pathed). AllHave x (frames_of p)) (sym step.now) (framed_first (Has x) step.before step.last has),
+      subst (λ (f : Framed). Has x (frame_of f)) (sym step.whole_is)
+          (takes x old step.before step.last row (top_of told old step.before step.last path step.split) (framed_last (Has x) step.before step.last has) told_row fits),
+    )
 
 -- a new frame has accepted nothing
-none_accepted : (x : Shown) (c : Class) (others : List Above) → HaveAccepted x c (accepted_of others []) others
+pub none_accepted : (x : Shown) (c : Class) (others : List Above) → HaveAccepted x c (accepted_of others []) others
 none_accepted x c [] = tt
 none_accepted x c (a ∷ others) = tt
 
@@ -194,24 +190,6 @@ pub push_holds : (x : Shown) (p : Pathed) (d : Drafted) → AllHave x (frames_of
 push_holds x p d h = framed_push (Has x) p.frames (fresh d) h (none_accepted x d.class (supers (file_of d.file)))
 
 -- ---- a class whose supertypes were all accepted
-
--- the frame of a complete class, with all its supertypes
-pub record Whole (x : Shown) (old new : Pathed) (row : Rowed) (d : Drafted) : Type 0 where
-  pub last : Framed
-  pub draft : d ≡ last.draft
-  pub has : Has x (frame_of (with_place last row.class.loader))
-  pub complete : wanted (frame_of (with_place last row.class.loader)) ≡ None
-
-pub completes_whole : (told : Option Content) (x : Shown) (old new : Pathed) (row : Rowed) (d : Drafted) → IsPath told old → AllHave x (frames_of old) → IsRecordedAs x (at_loader old) (at_name old) row
-    → misfit_under old.frames row.class (file_of row.file) ≡ None → Ends old new row.class.loader d → Whole x old new row d
-completes_whole told x old new row d path h told_row fits step =
-    let has = split_have x old step.before step.last step.split h in
-    record {
-      last = step.last;
-      draft = step.draft;
-      has = takes x old step.before step.last row (top_of told old step.before step.last path step.split) (framed_last (Has x) step.before step.last has) told_row fits;
-      complete = step.complete;
-    }
 
 -- each supertype is recorded by the class's loader
 pub whole_recorded : (x : Shown) (f : Frame) → Has x f → wanted f ≡ None → AllByRecursion (λ (a : Above). IsSome (recorded (records_of x) f.class.loader a.name)) (supers f.file)
@@ -230,3 +208,21 @@ accepted_fit x c (t ∷ ts) (a ∷ others) h e =
 
 pub whole_fits : (x : Shown) (f : Frame) → Has x f → wanted f ≡ None → AllByRecursion (RowFits x f.class) (supers f.file)
 whole_fits x f h none = accepted_fit x f.class f.accepted (supers f.file) h none
+
+-- the frames with one more
+pub have_more : (x : Shown) (fs : List Frame) (f : Frame) → AllHave x fs → Has x f → AllHave x (fs ++ f ∷ [])
+have_more x [] f h k = (k, tt)
+have_more x (g ∷ fs) f h k = (h.0, have_more x fs f h.1 k)
+
+-- and without it
+pub have_first : (x : Shown) (fs : List Frame) (f : Frame) → AllHave x (fs ++ f ∷ []) → AllHave x fs
+have_first x [] f h = tt
+have_first x (g ∷ fs) f h = (h.0, have_first x fs f h.1)
+
+pub have_last : (x : Shown) (fs : List Frame) (f : Frame) → AllHave x (fs ++ f ∷ []) → Has x f
+have_last x [] f h = h.0
+have_last x (g ∷ fs) f h = have_last x fs f h.1
+
+-- a class that accepted nothing yet
+pub fresh_has : (x : Shown) (d : Drafted) → Has x (frame_of (fresh d))
+fresh_has x d = none_accepted x d.class (supers (file_of d.file))

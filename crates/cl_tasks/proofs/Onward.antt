@@ -1,48 +1,128 @@
 -- What a step leads to where a path grows, goes on or loses its last class.
-use Rattle.std.proofs.Common.{◌≡◌, ◌≢◌, ◌∙◌, ◌<◌, ◌≤◌, ◌+◌, ◌*◌, ℕ, false, List, [], ◌∷◌, ◌++◌, length, Option, Some, None, refl, sym, ap, subst, slice_get, arith}
-use Rattle.std.specs.Prelude.{IsSome, MatchOption}
+use Rattle.std.proofs.Common.{◌≡◌, ◌≢◌, ◌∙◌, ◌<◌, ◌≤◌, ◌+◌, ◌*◌, ℕ, false, List, [], ◌∷◌, ◌++◌, inl, inr, length, Option, Some, None, refl, sym, ap, subst, slice_get, arith}
+use Rattle.std.proofs.Common.{Global}
+use Rattle.std.specs.Prelude.{IsSome, MatchOption, map}
 use Rattle.std.specs.List.{AllByRecursion}
+use Rattle.std.specs.declared.sync.Arc.{Arc}
 use Rattle.cl_classfile.specs.Files.{file_of}
 use Rattle.cl_model.specs.declared.class.Class.{Class}
-use Rattle.cl_model.specs.Content.{Content}
+use Rattle.cl_model.specs.declared.need.Need as rust
+use Rattle.cl_model.specs.declared.need.Need.TheVariants as needs
+use Rattle.cl_model.specs.declared.request.Request.{Request}
+use Rattle.cl_model.specs.declared.verdict.Verdict.TheVariants as verdicts
 use Rattle.cl_model.specs.Classes.{Above, supers}
+use Rattle.cl_model.specs.Content.{Content}
 use Rattle.cl_model.specs.Frames.{Frame, wanted}
+use Rattle.cl_model.specs.Machine.{Setting}
+use Rattle.cl_model.specs.Service.{IsNextNeed}
+use Rattle.cl_model.specs.States.{Entry, recorded}
+use Rattle.cl_model.specs.Views.{request_of}
+use Rattle.cl_model.proofs.Gone.{record_is_next}
 use Rattle.cl_config.specs.Views.{Configured}
-use Rattle.std.specs.declared.sync.Arc.{Arc}
-use Rattle.std.proofs.Common.{Global}
+use Rattle.cl_delegation.specs.Searches.{LeadsTo, Located}
 use Rattle.cl_delegation.specs.declared.search.Home.{Home}
-use Rattle.cl_delegation.specs.Searches.{LeadsTo}
-use Rattle.cl_hierarchy.specs.Rows.{Rowed}
-use Rattle.cl_hierarchy.specs.Drafts.{Drafted, IsSpelt, IsDraft}
+use Rattle.cl_hierarchy.specs.Drafts.{Drafted, IsDraft, IsSpelt}
 use Rattle.cl_hierarchy.specs.Frames.{Framed, accepted_of, frame_of}
-use Rattle.cl_hierarchy.specs.Paths.{Pathed, frames_of, fresh, at_loader, is_on, with_frame, with_frames, IsPath, misfit_under, Accepts, Completes}
-use Rattle.cl_tasks.proofs.Ends.{Ends, ends_of}
-use Rattle.cl_registry.specs.Findings.{IsFor, IsSought}
-use Rattle.cl_registry.specs.Tables.{Shown}
-use Rattle.cl_tasks.specs.Tasks.{loading, most, turns, left_at}
-use Rattle.cl_tasks.specs.Stages.{IsJob}
-use Rattle.cl_tasks.specs.Steps.{LeadsOn, Leads, HoldsOn, FindsAt, Finds, DefinesBy}
-use Rattle.cl_tasks.specs.declared.phase.Phase.TheVariants as phases
+use Rattle.cl_hierarchy.specs.Paths.{Accepts, AllStand, Completes, IsPath, Pathed, at_loader, at_name, fresh, frames_of, is_on, misfit_under, name_of, with_frame, with_frames}
+use Rattle.cl_hierarchy.specs.Rows.{Rowed}
+use Rattle.cl_model.specs.Frames.{asking, kept_of}
+use Rattle.cl_model.specs.States.{AllMet}
+use Rattle.cl_model.proofs.Stacks.{kept_is_met}
+use Rattle.cl_findings.specs.declared.load.Target.{Target}
+use Rattle.cl_findings.specs.declared.load.Target.TheVariants as targets
+use Rattle.cl_findings.specs.declared.load.NextRecord.TheVariants as nexts
+use Rattle.cl_findings.specs.Findings.{Based}
+use Rattle.cl_findings.specs.Loads.{IsFor, IsSought, IsWhole, refused_at}
+use Rattle.cl_findings.proofs.Loads.{away_rests, whole_rests}
+use Rattle.cl_findings.proofs.Whole.{completed_is_whole, root_is_whole}
+use Rattle.cl_registry.specs.Tables.{MayEnter, Shown, records_of, state_of}
+use Rattle.cl_tasks.specs.Facts.{IsRecordedAs}
+use Rattle.cl_tasks.specs.Follows.{IsWanted, ServedIn}
+use Rattle.cl_tasks.specs.Measures.{Phase, left_at, loading, most, turns}
+use Rattle.cl_tasks.specs.Measures as phases
+use Rattle.cl_tasks.specs.Stages.{IsJob, home_need, past_left}
+use Rattle.cl_tasks.specs.Steps.{DefinesBy, Finds, FindsAt, HoldsOn, Leads, LeadsBy, room_at}
+use Rattle.cl_tasks.specs.Waits as waits
 use Rattle.cl_tasks.specs.declared.stage.Job.{Job}
+use Rattle.cl_tasks.specs.declared.stage.Load.TheVariants as loads
 use Rattle.cl_tasks.specs.declared.stage.Next.{Next}
-use Rattle.cl_tasks.specs.declared.stage.Stage.TheVariants as stage
-use Rattle.cl_tasks.specs.declared.stage.Turn.TheVariants as turn
-use Rattle.cl_tasks.proofs.Keep.{top_of, all_last, accepts_holds, completes_holds, push_holds}
-use Rattle.cl_tasks.proofs.Back.{backs_root, backs_complete, backs_initiate}
-use Rattle.cl_tasks.proofs.Follow.{follows_root, follows_complete, follows_initiate}
-use Rattle.cl_tasks.proofs.Fall.{roots_less, descends_less, accepts_less, completes_less, defined_less}
-use Rattle.cl_tasks.proofs.Lead.{leads_more, leads_define, job_on}
+use Rattle.cl_tasks.specs.declared.stage.Stage.TheVariants as stages
+use Rattle.cl_tasks.specs.declared.turn.Turn.TheVariants as turn
+use Rattle.cl_tasks.proofs.Fall.{accepts_less, completes_less, defined_less, descends_less, roots_less}
+use Rattle.cl_tasks.proofs.Keep.{Has, accepts_holds, completes_holds, fresh_has, have_more, push_holds, whole_fits, whole_recorded, frame_kept}
+use Rattle.cl_tasks.proofs.Lead.{leads_by, leads_memory}
+use Rattle.cl_tasks.proofs.Obstacles.{path_met}
+use Rattle.cl_tasks.proofs.Said.{concludes_at}
 
--- a job on a path of the same configuration
-pub leads_moved : {A : Type 0} {told : Option Content} {room : ℕ} {holds : Shown → Type 0} {n : Next A} (j : Job A) (c : Configured) → c ≡ j.path.config → LeadsOn told c j.q j.request room holds n → Leads told j room holds n
-leads_moved {told = told} {room = room} {holds = holds} {n = n} j c e l = subst (λ (k : Configured). LeadsOn told k j.q j.request room holds n) e l
+-- ---- rooms
+
+pub more_room : (p a b : ℕ) → a ≤ b → p + a ≤ p + b
+more_room p a b h = omega arith
+
+pub less_room : (p a b : ℕ) → a < b → p + a < p + b
+less_room p a b h = omega arith
 
 -- a look takes no more than what is more than a look
-fresh_looks : (xs : List Frame) (b : ℕ) → left_at phases.Looking xs 0 < b → left_at phases.Fresh xs 0 ≤ b
-fresh_looks xs b h = above (turns * loading xs) most b h
+pub fresh_looks : (p : ℕ) (xs : List Frame) (b : ℕ) → left_at phases.Looking xs 0 < b → p + left_at phases.Fresh xs 0 ≤ p + b
+fresh_looks p xs b h = above p (turns * loading xs) most b h
   where
-    above : (a m b : ℕ) → a + (m + 7) < b → a + (m + 8) ≤ b
-    above a m b h = omega arith
+    above : (p a m b : ℕ) → a + (m + 7) < b → p + (a + (m + 8)) ≤ p + b
+    above p a m b h = omega arith
+
+-- ---- jobs
+
+within : {c d : Configured} {n : ℕ} → c ≡ d → n < length d.loaders → n < length c.loaders
+within {n = n} e h = subst (λ (k : Configured). n < length k.loaders) (sym e) h
+
+asks_within : (told : Option Content) (c : Configured) (loader : ℕ) (name : List ℕ) (xs : List Framed) → loader < length c.loaders → AllStand c loader name xs → AllByRecursion (λ x. IsDraft told x.draft) xs
+    → asking loader (map frame_of xs) < length c.loaders
+asks_within told c loader name [] h stand drafts = h
+asks_within told c loader name (x ∷ xs) h stand drafts =
+    asks_within told c x.draft.class.loader (name_of (wanted (frame_of x))) xs
+    (subst (λ (l : ℕ). l < length c.loaders) (sym (ap (λ (k : Class). k.loader) drafts.0.placed)) (within (sym stand.0.config) drafts.0.within)) stand.1 drafts.1
+
+-- ---- a class is to be recorded
+
+-- the record of a class that has all its supertypes is wanted next
+whole_wanted : {A : Type 0} (told : Option Content) (j : Job A) (x : Framed) → IsJob told j.path.config j → IsPath told j.path → IsWhole told j.path x → (g : Setting) (y : Shown) → ServedIn told j.path.config g (state_of y) → HoldsOn j y → Has y (frame_of x)
+    → IsWanted g (state_of y) j.request (Entry x.draft.class.loader x.draft.class.name x.draft.class.loader)
+whole_wanted {A} told j x job path whole g y served h has =
+    let c = x.draft.class in
+    let need : rust.Need = needs.Entry c.loader c.name c.loader in
+    let b : Based = refused_at {B = A} j.request j.target j.path (nexts.Define x) in
+    let met : AllMet (state_of y) b.needs = path_met y j (kept_of (frame_of x ∷ [])) h ((kept_is_met (state_of y) (frame_of x ∷ [])).1 (frame_kept y (frame_of x) has, tt)) in
+    let next : IsNextNeed g.world (state_of y) (request_of j.request) (Entry c.loader c.name c.loader) =
+    (concludes_at told j.path.config g (state_of y) j.request (verdicts.Linkage need) b served (whole_rests told j.request j.target j.path x need job.for_request job.spelt path whole refl) refl refl met).next in
+    record { need = next; step = λ may. record_is_next g (state_of y) (request_of j.request) c.loader c.loader c.name next may }
+
+-- such a class may be recorded
+whole_enters : {A : Type 0} (told : Option Content) (j : Job A) (x : Framed) → IsWhole told j.path x → IsDraft told x.draft → (y : Shown) → y.config ≡ j.path.config → Has y (frame_of x) → MayEnter y x.draft
+whole_enters told j x whole draft y config has = record {
+  config = whole.home.config ∙ sym config;
+  loader =
+      within (config ∙ sym whole.home.config) (subst (λ (l : ℕ). l < length x.draft.home.config.loaders) (sym (ap (λ (k : Class). k.loader) draft.placed)) draft.within);
+  above = whole_recorded y (frame_of x) has whole.complete;
+  fit = whole_fits y (frame_of x) has whole.complete;
+}
+
+defining : {A : Type 0} (told : Option Content) (j : Job A) (x : Framed) (room : ℕ) (holds : Shown → Type 0) → IsJob told j.path.config j → IsPath told j.path → IsWhole told j.path x → IsDraft told x.draft → room_at phases.Defining j 0 < room
+    → ((y : Shown) → holds y → HoldsOn j y × Has y (frame_of x)) → Leads told j room holds (record { stage = stages.Load (loads.Defining j x); turn = turn.Define x.draft })
+defining told j x room holds job path whole draft less has = record {
+  kept = (job, whole);
+  number = refl;
+  asks = refl;
+  serves = refl;
+  left = less;
+  keeps = λ y h. record { frames = have_more y (frames_of j.path) (frame_of x) (has y h).0.frames (has y h).1; facts = (has y h).0.facts };
+  backed = λ y config named consistent h. whole_enters told j x whole draft y config (has y h).1;
+  follows = λ g y s h. whole_wanted told j x job path whole g y s (has y h).0 (has y h).1;
+}
+
+pub leads_define : {A : Type 0} (told : Option Content) (j : Job A) (x : Framed) (room : ℕ) (holds : Shown → Type 0) (n : Next A) → IsJob told j.path.config j → IsPath told j.path → IsWhole told j.path x → IsDraft told x.draft → room_at phases.Defining j 0 < room
+    → ((y : Shown) → holds y → HoldsOn j y × Has y (frame_of x)) → DefinesBy j x n → Leads told j room holds n
+leads_define told j x room holds n job path whole draft less has (inl is) =
+    subst (λ (m : Next _). Leads told j room holds m) (sym is) (leads_memory told j.path.config j.q j.request room holds holds job.asked (omega arith))
+leads_define told j x room holds n job path whole draft less has (inr is) = subst (λ (m : Next _). Leads told j room holds m) (sym is) (defining told j x room holds job path whole draft less has)
 
 -- ---- a class without supertypes
 
@@ -57,91 +137,135 @@ some_waits (a ∷ others) h = refl
 pub waits_first : (d : Drafted) → (length (supers (file_of d.file)) ≡ 0 → ⊥) → IsSome (wanted (frame_of (fresh d)))
 waits_first d h = some_waits (supers (file_of d.file)) h
 
-pub leads_root : {A : Type 0} (told : Option Content) (j : Job A) (d : Drafted) → IsJob j.path.config j → IsPath told j.path → IsSought j.path d.home → IsDraft told d → is_on j.path d.class ≡ false → length (supers (file_of d.file)) ≡ 0
-    → (n : Next A) → DefinesBy j d n.stage n.turn → Leads told j (left_at phases.Homing (frames_of j.path) 0) (HoldsOn j.path) n
-leads_root told j d job path home draft off alone n h =
-    let none : wanted (frame_of (fresh d)) ≡ None = none_waits (supers (file_of d.file)) alone in
-    leads_define told j d _ (HoldsOn j.path) job home draft (roots_less told j.path phases.Homing 0 0 path tt) (λ x h. h)
-    (λ x config h. backs_root told x d draft (home.config ∙ sym config) none)
-    (λ g x s h. follows_root told j.path.config g x j.request j.path d s path job.for_request refl h draft home off none) n h
+pub leads_root : {A : Type 0} (told : Option Content) (j : Job A) (d : Drafted) (n : Next A) → IsJob told j.path.config j → IsPath told j.path → IsSought j.path d.home → IsDraft told d → is_on j.path d.class ≡ false → length (supers (file_of d.file)) ≡ 0
+    → DefinesBy j (fresh d) n → Leads told j (room_at phases.Homing j 0) (HoldsOn j) n
+leads_root told j d n job path home draft off alone h =
+    let whole : IsWhole told j.path (fresh d) = root_is_whole told j.path d path draft home off (none_waits (supers (file_of d.file)) alone) in
+    leads_define told j (fresh d) (room_at phases.Homing j 0) (HoldsOn j) n job path whole draft
+    (less_room (past_left j.target) (left_at phases.Defining (frames_of j.path) 0) (left_at phases.Homing (frames_of j.path) 0) (roots_less told j.path phases.Homing 0 0 path tt)) (λ y k. (k, fresh_has y d)) h
+
+-- ---- a job on another path
+
+for_moved : {A : Type 0} (r : Request) (t : Target A) (p q : Pathed) → q.loader ≡ p.loader → q.name ≡ p.name → IsFor r t p → IsFor r t q
+for_moved r targets.Own p q loader name h = record { loader = h.loader ∙ sym loader; name = h.name ∙ sym name }
+for_moved r (targets.Reference d) p q loader name h = record {
+  index = h.index;
+  of = h.of;
+  cited = h.cited;
+  found = h.found;
+  names = h.names ∙ ap (λ (n : List ℕ). Some n) (sym name);
+  loader = loader ∙ h.loader;
+}
+
+-- the same request on a path from the same loader and name
+abbrev pub on_path : {A : Type 0} → Job A → Pathed → Job A
+on_path j p = record j { path = p }
+
+pub job_on : {A : Type 0} (told : Option Content) (j : Job A) (new : Pathed) → IsJob told j.path.config j → IsPath told new → j.path.loader < length j.path.config.loaders → new.config ≡ j.path.config → new.loader ≡ j.path.loader → new.name ≡ j.path.name
+    → IsJob {A = A} told new.config (on_path j new)
+job_on told j new job path root config loader name =
+    let below : new.loader < length new.config.loaders = within config (subst (λ (l : ℕ). l < length j.path.config.loaders) (sym loader) root) in
+    record {
+      spelt = job.spelt;
+      for_request = for_moved j.request j.target j.path new loader name job.for_request;
+      config = refl;
+      asked = within config job.asked;
+      root = below;
+      loader = asks_within told new.config new.loader new.name new.frames below path.stand path.drafts;
+    }
+
+-- the job goes on with these frames
+pub job_with : {A : Type 0} (told : Option Content) (j : Job A) (new : Pathed) (xs : List Framed) → IsJob told j.path.config j → IsPath told new → new ≡ with_frames j.path xs → IsJob {A = A} told new.config (on_path j new)
+job_with told j new xs job path is = job_on told j new job path job.root (ap (λ (p : Pathed). p.config) is) (ap (λ (p : Pathed). p.loader) is) (ap (λ (p : Pathed). p.name) is)
+
+-- where a job on a path of the same configuration leads
+pub leads_moved : {A : Type 0} (told : Option Content) (j : Job A) (c : Configured) (room : ℕ) (holds : Shown → Type 0) (n : Next A) → c ≡ j.path.config → LeadsBy told c j.q j.request room holds n → Leads told j room holds n
+leads_moved told j c room holds n e l = subst (λ (k : Configured). LeadsBy told k j.q j.request room holds n) e l
 
 -- ---- a class that waits for its first supertype
 
 pub leads_descent : {A : Type 0} (told : Option Content) (j : Job A) (d : Drafted) (new : Pathed) (n : Next A) → IsPath told j.path → new ≡ with_frame j.path (fresh d) → length (supers (file_of d.file)) ≤ most → IsSome (wanted (frame_of (fresh d)))
-    → LeadsOn told new.config j.q j.request (left_at phases.Fresh (frames_of new) 0) (HoldsOn new) n → Leads told j (left_at phases.Homing (frames_of j.path) 0) (HoldsOn j.path) n
-leads_descent told j d new n path is few waits l =
+    → Leads told (on_path j new) (room_at phases.Fresh (on_path j new) 0) (HoldsOn (on_path j new)) n → Leads told j (room_at phases.Homing j 0) (HoldsOn j) n
+leads_descent {A} told j d new n path is few waits l =
     let grown = with_frame j.path (fresh d) in
-    let m : LeadsOn told j.path.config j.q j.request (left_at phases.Fresh (frames_of grown) 0) (HoldsOn grown) n =
-    subst (λ (p : Pathed). LeadsOn told p.config j.q j.request (left_at phases.Fresh (frames_of p) 0) (HoldsOn p) n) is l in
-    leads_more (left_at phases.Homing (frames_of j.path) 0) (HoldsOn j.path) m
-    (fresh_looks (frames_of grown) _ (descends_less told j.path d phases.Homing 0 0 path tt few waits)) (λ x h. push_holds x j.path d h)
-
--- ---- the loader that was asked
-
-pub leads_initiate : {A : Type 0} (told : Option Content) (j : Job A) (h : Arc (Home A) Global) (row : Rowed) → IsJob j.path.config j → IsPath told j.path → IsSought j.path h.value → LeadsTo told h.value.config h.value.asked h.value.name (Some h.value.place)
-    → h.value.place ≢ at_loader j.path → row.class.loader ≡ h.value.place → Leads told j (left_at phases.Defining (frames_of j.path) 0) (FindsAt j.path h.value.place row) (record { stage = stage.Initiating j; turn = turn.Initiate h })
-leads_initiate told j h row job path home lead other own = record {
-  kept = job;
-  number = refl;
-  asks = (refl, home.asked, home.name);
-  serves = refl;
-  left = defined_less (frames_of j.path) 0 0;
-  keeps = λ x f. f.before;
-  backed = λ x config named f. backs_initiate x j.path h.value row home (sym config) (subst (λ (k : Configured). at_loader j.path < length k.loaders) (sym config) job.loader) f.now own;
-  follows = λ g x s f. follows_initiate told j.path.config g x j.request j.path h.value row s path job.for_request refl f.before home lead other f.now own;
-}
+    let m : Leads told (on_path j grown) (room_at phases.Fresh (on_path j grown) 0) (HoldsOn (on_path j grown)) n =
+    subst (λ (p : Pathed). Leads {A = A} told (on_path j p) (room_at phases.Fresh (on_path j p) 0) (HoldsOn (on_path j p)) n) is l in
+    leads_by (room_at phases.Homing j 0) (HoldsOn j) m
+    (fresh_looks (past_left j.target) (frames_of grown) (left_at phases.Homing (frames_of j.path) 0) (descends_less told j.path d phases.Homing 0 0 path tt few waits))
+    (λ x h. record { frames = push_holds x j.path d h.frames; facts = h.facts })
 
 -- ---- the next supertype
 
 pub leads_next : {A : Type 0} (told : Option Content) (j : Job A) (row : Rowed) (new : Pathed) (n : Next A) → IsPath told j.path → misfit_under j.path.frames row.class (file_of row.file) ≡ None → Accepts j.path new row.class.loader
-    → LeadsOn told new.config j.q j.request (left_at phases.Fresh (frames_of new) 0) (HoldsOn new) n → Leads told j (left_at phases.Initiating (frames_of j.path) 0) (Finds j.path row) n
+    → Leads told (on_path j new) (room_at phases.Fresh (on_path j new) 0) (HoldsOn (on_path j new)) n → Leads told j (room_at phases.Initiating j 0) (Finds j row) n
 leads_next told j row new n path fits step l =
-    let m : LeadsOn told j.path.config j.q j.request (left_at phases.Fresh (frames_of new) 0) (HoldsOn new) n =
-    subst (λ (c : Configured). LeadsOn told c j.q j.request (left_at phases.Fresh (frames_of new) 0) (HoldsOn new) n) (ap (λ (p : Pathed). p.config) step.now) l in
-    leads_more (left_at phases.Initiating (frames_of j.path) 0) (Finds j.path row) m
-    (fresh_looks (frames_of new) _ (accepts_less told j.path new row.class.loader phases.Initiating 0 0 path tt step))
-    (λ x h. accepts_holds told x j.path new row path h.before h.now fits step)
+    leads_moved told j new.config (room_at phases.Initiating j 0) (Finds j row) n (ap (λ (p : Pathed). p.config) step.now)
+    (leads_by (room_at phases.Initiating j 0) (Finds j row) l
+    (fresh_looks (past_left j.target) (frames_of new) (left_at phases.Initiating (frames_of j.path) 0) (accepts_less told j.path new row.class.loader phases.Initiating 0 0 path tt step))
+    (λ x h. record { frames = accepts_holds told x j.path new row path h.before.frames h.now fits step; facts = h.before.facts }))
 
 -- ---- a class that has all its supertypes
 
-draft_last : (told : Option Content) (p : Pathed) (before : List Framed) (last : Framed) → IsPath told p → p.frames ≡ before ++ last ∷ [] → IsDraft told last.draft
-draft_last told p before last path split = all_last (λ (x : Framed). IsDraft told x.draft) before last (subst (λ (xs : List Framed). AllByRecursion (λ (x : Framed). IsDraft told x.draft) xs) split path.drafts)
+all_last : {A : Type 0} (P : A → Type 0) (xs : List A) (x : A) → AllByRecursion P (xs ++ x ∷ []) → P x
+all_last P [] x h = h.0
+all_last P (y ∷ ys) x h = all_last P ys x h.1
 
--- the last class of a path was found for what the classes before it look for
-pub sought_last : (told : Option Content) (p new : Pathed) (place : ℕ) (d : Drafted) → IsPath told p → Ends p new place d → IsSought new d.home
-sought_last told p new place d path step =
-    let last = step.last in
-    let stands = (top_of told p step.before last path step.split).stands in
-    let draft = draft_last told p step.before last path step.split in
-    subst (λ (q : Pathed). IsSought q d.home) (sym step.now)
-    (subst (λ (k : Drafted). IsSought (with_frames p step.before) k.home) (sym step.draft)
-    (record { config = stands.config; asked = stands.asked; name = sym (ap (λ (c : Class). c.name) draft.placed) ∙ stands.named }))
+draft_whole : (told : Option Content) (old new : Pathed) (place : ℕ) (x : Framed) → IsPath told old → Completes old new place x → IsDraft told x.draft
+draft_whole told old new place x path step =
+    subst (λ (f : Framed). IsDraft told f.draft) (sym step.whole_is)
+    (all_last (λ (f : Framed). IsDraft told f.draft) step.before step.last (subst (λ (xs : List Framed). AllByRecursion (λ (f : Framed). IsDraft told f.draft) xs) step.split path.drafts))
 
-pub leads_complete : {A : Type 0} (told : Option Content) (j k : Job A) (row : Rowed) (d : Drafted) → IsJob j.path.config j → IsJob k.path.config k → k.q ≡ j.q → k.request ≡ j.request → IsPath told j.path → IsSpelt told row.class row.file
-    → misfit_under j.path.frames row.class (file_of row.file) ≡ None → Ends j.path k.path row.class.loader d → (n : Next A) → DefinesBy k d n.stage n.turn
-    → Leads told j (left_at phases.Initiating (frames_of j.path) 0) (Finds j.path row) n
-leads_complete told j k row d job onward number request path spelt fits step n h =
-    let config : k.path.config ≡ j.path.config = ap (λ (p : Pathed). p.config) step.now in
-    let draft : IsDraft told d = subst (λ (e : Drafted). IsDraft told e) (sym step.draft) (draft_last told j.path step.before step.last path step.split) in
-    let m : Leads told k (left_at phases.Initiating (frames_of j.path) 0) (Finds j.path row) n =
-    leads_define told k d _ (Finds j.path row) onward (sought_last told j.path k.path row.class.loader d path step) draft
-    (completes_less told j.path k.path row.class.loader d phases.Initiating 0 0 path tt step)
-    (λ x f. completes_holds x j.path k.path row.class.loader d f.before step)
-    (λ x at f. backs_complete told x j.path k.path row d path (sym config ∙ sym at) f.before f.now fits step)
-    (λ g x s f. follows_complete told k.path.config g x k.request j.path k.path row d s path (subst (λ r. IsFor r j.path) (sym request) job.for_request) (sym config) f.before f.now spelt fits step) n h in
-    subst (λ (q : ℕ). LeadsOn told j.path.config q j.request (left_at phases.Initiating (frames_of j.path) 0) (Finds j.path row) n) number
-    (subst (λ r. LeadsOn told j.path.config k.q r (left_at phases.Initiating (frames_of j.path) 0) (Finds j.path row) n) request
-    (subst (λ (c : Configured). LeadsOn told c k.q k.request (left_at phases.Initiating (frames_of j.path) 0) (Finds j.path row) n) config m))
+pub leads_complete : {A : Type 0} (told : Option Content) (j : Job A) (row : Rowed) (new : Pathed) (x : Framed) (n : Next A) → IsJob told new.config (on_path j new) → IsPath told j.path → IsPath told new → IsSpelt told row.class row.file → row.class.name ≡ at_name j.path
+    → misfit_under j.path.frames row.class (file_of row.file) ≡ None → Completes j.path new row.class.loader x → DefinesBy (on_path j new) x n → Leads told j (room_at phases.Initiating j 0) (Finds j row) n
+leads_complete told j row new x n onward path path_new spelt named fits step h =
+    let place = row.class.loader in
+    leads_moved told j new.config (room_at phases.Initiating j 0) (Finds j row) n (ap (λ (p : Pathed). p.config) step.now)
+    (leads_define told (on_path j new) x (room_at phases.Initiating j 0) (Finds j row) n onward path_new (completed_is_whole told j.path new place x row path step spelt refl named fits) (draft_whole told j.path new place x path step)
+    (less_room (past_left j.target) (left_at phases.Defining (frames_of new) 0) (left_at phases.Initiating (frames_of j.path) 0) (completes_less told j.path new place x phases.Initiating 0 0 path tt step))
+    (λ y k. let both = completes_holds told y j.path new row x path k.before.frames k.now fits step in (record { frames = both.0; facts = k.before.facts }, both.1)) h)
 
 -- ---- what accepting answers
 
 pub accepts_next : (old new : Pathed) (place : ℕ) (o : Option Framed) → o ≡ None → MatchOption o (Accepts old new place) (λ x. Completes old new place x) → Accepts old new place
 accepts_next old new place o e h = subst (λ (k : Option Framed). MatchOption k (Accepts old new place) (λ x. Completes old new place x)) e h
 
-pub accepts_last : (old new : Pathed) (place : ℕ) (o : Option Framed) (x : Framed) (d : Drafted) → o ≡ Some x → d ≡ x.draft → MatchOption o (Accepts old new place) (λ y. Completes old new place y) → Ends old new place d
-accepts_last old new place o x d e same h = ends_of old new place x d same (subst (λ (k : Option Framed). MatchOption k (Accepts old new place) (λ y. Completes old new place y)) e h)
+pub accepts_last : (old new : Pathed) (place : ℕ) (o : Option Framed) (x : Framed) → o ≡ Some x → MatchOption o (Accepts old new place) (λ y. Completes old new place y) → Completes old new place x
+accepts_last old new place o x e h = subst (λ (k : Option Framed). MatchOption k (Accepts old new place) (λ y. Completes old new place y)) e h
 
--- the job goes on with these frames
-pub job_with : {A : Type 0} (told : Option Content) (j : Job A) (new : Pathed) (xs : List Framed) → IsJob j.path.config j → IsPath told new → new ≡ with_frames j.path xs → IsJob {A = A} new.config (record { q = j.q; request = j.request; path = new })
-job_with told j new xs job path is =
-    job_on told j (record { q = j.q; request = j.request; path = new }) job refl path (ap (λ (p : Pathed). p.config) is) (ap (λ (p : Pathed). p.loader) is) (ap (λ (p : Pathed). p.name) is)
+-- ---- the loader that was asked
+
+home_records : (x : Shown) (p : Pathed) (h : Located) (row : Rowed) → IsSought p h → IsRecordedAs x h.place (at_name p) row → row.class.loader ≡ h.place → recorded (records_of x) h.place h.name ≡ Some h.place
+home_records x p h row sought told own =
+    subst (λ (n : List ℕ). recorded (records_of x) h.place n ≡ Some h.place) (sym sought.name) (told.recorded ∙ ap (λ (l : ℕ). Some l) own)
+
+away_wanted : {A : Type 0} (told : Option Content) (j : Job A) (h : Arc (Home A) Global) → IsJob told j.path.config j → IsPath told j.path → IsSought j.path h.value → h.value.place ≢ at_loader j.path → LeadsTo told h.value.config h.value.asked h.value.name (Some h.value.place)
+    → (g : Setting) (y : Shown) → ServedIn told j.path.config g (state_of y) → HoldsOn j y → recorded (records_of y) h.value.place h.value.name ≡ Some h.value.place → IsWanted g (state_of y) j.request (Entry h.value.asked h.value.name h.value.place)
+away_wanted {A} told j h job path sought other lead g y served holds rec =
+    let i = h.value in
+    let need : rust.Need = needs.Entry i.asked i.name i.place in
+    let b : Based = refused_at {B = A} j.request j.target j.path (nexts.Initiate h) in
+    let met : AllMet (state_of y) b.needs = path_met y j (home_need i ∷ []) holds (rec, tt) in
+    let next : IsNextNeed g.world (state_of y) (request_of j.request) (Entry i.asked i.name i.place) =
+    (concludes_at told j.path.config g (state_of y) j.request (verdicts.Linkage need) b served (away_rests told j.request j.target j.path i need job.for_request job.spelt path (sought, other) lead refl) refl refl met).next in
+    record { need = next; step = λ may. record_is_next g (state_of y) (request_of j.request) i.asked i.place i.name next may }
+
+pub leads_initiate : {A : Type 0} (told : Option Content) (j : Job A) (h kept : Arc (Home A) Global) (row : Rowed) → kept.value ≡ h.value → IsJob told j.path.config j → IsPath told j.path → IsSought j.path h.value
+    → LeadsTo told h.value.config h.value.asked h.value.name (Some h.value.place) → h.value.place ≢ at_loader j.path → row.class.loader ≡ h.value.place
+    → Leads told j (room_at phases.Defining j 0) (FindsAt j h.value.place row) (record { stage = stages.Load (loads.Initiating j kept); turn = turn.Initiate h })
+leads_initiate told j h kept row same job path sought lead other own = record {
+  kept = (job, subst (λ (i : Located). IsSought j.path i) (sym same) sought, subst (λ (i : Located). i.place ≢ at_loader j.path) (sym same) other);
+  number = refl;
+  asks = ap (λ (i : Located). waits.Initiating i) same;
+  serves = refl;
+  left = less_room (past_left j.target) (left_at phases.Initiating (frames_of j.path) 0) (left_at phases.Defining (frames_of j.path) 0) (defined_less (frames_of j.path) 0 0);
+  keeps = λ x f. record {
+    frames = f.before.frames;
+    facts = (subst (λ (i : Located). recorded (records_of x) i.place i.name ≡ Some i.place) (sym same) (home_records x j.path h.value row sought f.now own), f.before.facts);
+  };
+  backed = λ x config named consistent f. record {
+    config = sought.config ∙ sym config;
+    loader = subst (λ (l : ℕ). l < length x.config.loaders) (sym sought.asked) (within config job.loader);
+    defined = home_records x j.path h.value row sought f.now own;
+  };
+  follows = λ g x s f. (away_wanted told j h job path sought other lead g x s f.before (home_records x j.path h.value row sought f.now own), λ e. other (sym e ∙ sought.asked));
+}

@@ -10,9 +10,10 @@ use Rattle.cl_config.specs.Loaders.{loaders_of, loader_of, parents_of, order_of}
 use Rattle.cl_source.specs.Views.{Found}
 use Rattle.cl_delegation.specs.Searches.{Searched, begun, next_of, next_on, route_of, with_bytes, with_probe}
 use Rattle.cl_model.specs.Frames.{Frame}
-use Rattle.cl_tasks.specs.Tasks.{loading, most, turns, left_at}
-use Rattle.cl_tasks.specs.Steps.{probes_left, reads_on, reads_left}
-use Rattle.cl_tasks.specs.declared.phase.Phase.TheVariants as phases
+use Rattle.cl_tasks.specs.Measures.{loading, most, turns, left_at}
+use Rattle.cl_tasks.specs.Measures as phases
+use Rattle.cl_tasks.specs.Stages.{probes_left}
+use Rattle.cl_tasks.specs.Steps.{reads_on, reads_left}
 use Rattle.cl_delegation.specs.Routes.{in_turn, route_at, routed, route_below, route_from, route}
 
 -- a way goes through the first so many loaders alone, and is no longer

@@ -1,134 +1,160 @@
--- What a turn rests on: the tables, as far as the task was told of them, the plan of its request, and the faults told.
-use Rattle.std.specs.Prelude.{◌≡◌, ℕ, List, [], ◌∷◌, Option, Some, None}
-use Rattle.cl_model.specs.declared.answer.Answer.{Answer}
-use Rattle.cl_model.specs.declared.answer.Answer.TheVariants as answers
-use Rattle.cl_model.specs.declared.request.Request.{Request}
-use Rattle.cl_model.specs.Content.{Content}
-use Rattle.cl_classfile.specs.Files.{file_of}
+-- What a turn rests on: the tables, as far as the task was told of them, the plan of its request, and the faults told (JVMS SE 8, 5.3 to 5.4.3).
+use Rattle.std.specs.Prelude.{◌≡◌, ◌⊎◌, ℕ, true, List, Option, Some, None, IfSome, Contains}
 use Rattle.cl_model.specs.declared.class.Class.{Class}
-use Rattle.cl_model.specs.Classes.{Above, supers, misfit}
-use Rattle.cl_model.specs.States.{State, Entry, recorded}
-use Rattle.std.specs.List.{AllByRecursion}
-use Rattle.cl_model.specs.Machine.{Setting, AnswersPlan, IsClosed}
-use Rattle.cl_model.specs.Service.{IsNextNeed}
-use Rattle.cl_model.specs.Views.{request_of, verdict_of}
+use Rattle.cl_model.specs.declared.answer.Answer.{Answer}
+use Rattle.cl_model.specs.declared.need.Need as needs
+use Rattle.cl_model.specs.declared.answer.Answer.TheVariants as answers
+use Rattle.cl_model.specs.declared.verdict.Verdict.TheVariants as verdicts
+use Rattle.cl_model.specs.declared.verdict.Verdict as verdict
+use Rattle.cl_model.specs.declared.request.Request.{Request}
+use Rattle.cl_model.specs.declared.request.Request.TheVariants as requests
+use Rattle.cl_model.specs.declared.settled.Settled.{Settled}
+use Rattle.cl_model.specs.Content.{Content}
+use Rattle.cl_model.specs.States.{State, Need, Entry, recorded, settled_to, IsRecorded, Met, MayAdd, Refused}
+use Rattle.cl_model.specs.Machine.{Setting, Settle, Prepare, IsSound, step_for}
+use Rattle.cl_model.specs.Service.{ComesTo, IsNextNeed, IsNextStep}
+use Rattle.cl_model.specs.Tables.{IsConsistent, Records}
+use Rattle.cl_model.specs.Views.{need_of, request_of, verdict_of}
 use Rattle.cl_source.specs.declared.source.SourceFault.{SourceFault}
 use Rattle.cl_source.specs.declared.source.SourceFault.TheVariants as faults
-use Rattle.cl_config.specs.Views.{Configured}
-use Rattle.cl_delegation.specs.Worlds.{world_of}
-use Rattle.cl_hierarchy.specs.Rows.{Rowed}
-use Rattle.cl_hierarchy.specs.Paths.{frames_of, at_name}
-use Rattle.cl_registry.specs.Tables.{Shown, state_of, records_of, looked, NamesLoaders, MayEnter, MayJoin, IsBacked}
+use Rattle.cl_config.specs.Views.{Configured, Scripted}
+use Rattle.cl_delegation.specs.Worlds.{setting_of}
+use Rattle.cl_hierarchy.specs.Imposed.{OfReference, OfPreparation, Sprung}
+use Rattle.cl_findings.specs.Findings.{Answered, loader_of, name_of}
+use Rattle.cl_findings.specs.References.{index_of}
+use Rattle.cl_registry.specs.Tables.{Shown, state_of, records_of, NamesLoaders, MayEnter, MayJoin}
+use Rattle.cl_registry.specs.Imposing.{IsNextOf, IsPreparedBy, MayImpose, MayMark}
+use Rattle.cl_registry.specs.Traced.{IsTraced}
+use Rattle.cl_registry.specs.References.{IsSettledIn}
+use Rattle.cl_registry.specs.Settling.{MaySettle}
+use Rattle.cl_registry.specs.Posting.{IsBacked}
 use Rattle.cl_tasks.specs.Tasks.{Tasked}
-use Rattle.cl_tasks.specs.declared.stage.Reply.{Reply}
-use Rattle.cl_tasks.specs.declared.stage.Reply.TheVariants as reply
-use Rattle.cl_tasks.specs.declared.stage.Turn.{Turn}
-use Rattle.cl_tasks.specs.declared.stage.Turn.TheVariants as turn
+use Rattle.cl_tasks.specs.Facts.{Holds, IsRecordedAs}
+use Rattle.cl_tasks.specs.Waits.{Waits, Looking, Reading, Defining, Initiating, Tracing, LookingReference, Settling, Imposing, LookingPrepared, Marking}
+use Rattle.cl_tasks.specs.declared.turn.Reply.{Reply}
+use Rattle.cl_tasks.specs.declared.turn.Reply.TheVariants as reply
+use Rattle.cl_tasks.specs.declared.turn.Turn.{Turn}
+use Rattle.cl_tasks.specs.declared.turn.Turn.TheVariants as turn
 
--- ---- what is told of the tables, and stays so
+-- ---- what a reply tells of the tables, and stays so
 
--- a loader has recorded the name as this row's class, and this row is kept (5.3)
-pub record IsRecordedAs (x : Shown) (loader : ℕ) (name : List ℕ) (row : Rowed) : Type 0 where
-  pub named : row.class.name ≡ name
-  pub recorded : recorded (records_of x) loader name ≡ Some row.class.loader
-  pub kept : looked x loader name ≡ Some row
+-- the reference of a request is settled to this, where its loader records the class (5.4.3)
+abbrev pub IsSettledOf : Shown → Request → Settled → Type 0
+IsSettledOf x r s = (d : Class) → Records (state_of x) (loader_of r) (name_of r) d → IsSettledIn x d (index_of r) s
 
--- what a reply tells: what the task looked for is recorded where it asked (5.3)
-abbrev pub TellsOf : {A : Type 0} → Shown → ℕ → List ℕ → Reply A → Type 0
-TellsOf x loader name (reply.Start) = Unit {0}
-TellsOf x loader name (reply.Looked None) = Unit {0}
-TellsOf x loader name (reply.Looked (Some row)) = IsRecordedAs x loader name row.value
-TellsOf x loader name (reply.Probed p) = Unit {0}
-TellsOf x loader name (reply.Defined row) = IsRecordedAs x loader name row.value
-TellsOf x loader name (reply.Initiated row) = IsRecordedAs x loader name row.value
-TellsOf x loader name (reply.Memory) = Unit {0}
-TellsOf x loader name (reply.SourceFault f) = Unit {0}
+-- what a call was answered holds: a class is recorded, a lineage is of the tables, a reference is settled, an equality is imposed,
+-- a class is prepared, or what was to stand is refused (5.3 to 5.4.3)
+abbrev pub TellsOf : {A : Type 0} → Shown → Waits → Reply A → Type 0
+TellsOf x (Looking l n) (reply.Looked (Some row)) = IsRecordedAs x l n row.value
+TellsOf x (Defining d) (reply.Defined row) = IsRecordedAs x d.class.loader d.class.name row.value
+TellsOf x (Initiating h) (reply.Initiated row) = IsRecordedAs x h.asked h.name row.value
+TellsOf x (Tracing c) (reply.Lineage l) = IsTraced x c l.value
+TellsOf x (LookingReference c i) (reply.LookedReference (Some s)) = IsSettledIn x c i s.value
+TellsOf x (Settling r) (reply.Settled s) = IsSettledOf x r s.value
+TellsOf x (Imposing e k) reply.Imposed = IsNextOf e k (Met (state_of x))
+TellsOf x (LookingPrepared c) (reply.LookedPrepared true) = Contains (state_of x).prepared c
+TellsOf x (Marking e) reply.Marked = IsPreparedBy x e.origin
+TellsOf x waits (reply.Refused n) = Refused (state_of x) (need_of n)
+TellsOf x waits other = Unit {0}
 
--- a class has accepted a recorded one as this supertype, which fits (5.3.5, steps 3 and 4)
-pub record HasAccepted (x : Shown) (c t : Class) (a : Above) : Type 0 where
-  pub row : Rowed
-  pub recorded : IsRecordedAs x c.loader a.name row
-  pub is : row.class ≡ t
-  pub fits : misfit c a.role row.class (file_of row.file) ≡ None
-
--- and so each of these as the first direct supertypes (5.3.5, steps 3 and 4)
-abbrev pub HaveAccepted : Shown → Class → List Class → List Above → Type 0
-HaveAccepted x c [] others = Unit {0}
-HaveAccepted x c (t ∷ ts) [] = ⊥
-HaveAccepted x c (t ∷ ts) (a ∷ others) = HasAccepted x c t a × HaveAccepted x c ts others
-
--- what a task was told so far: what its classes accepted is recorded, and fits (5.3, 5.3.5)
-abbrev pub Holds : Shown → Tasked → Type 0
-Holds x t = AllByRecursion (λ f. HaveAccepted x f.class f.accepted (supers f.file)) (frames_of t.path)
-
--- what it was told before this reply, and by it (5.3, 5.3.5)
+-- what a task was told before this reply, and by it (5.3 to 5.4.3)
 pub record Tells {A : Type 0} (x : Shown) (t : Tasked) (r : Reply A) : Type 0 where
   pub before : Holds x t
-  pub now : TellsOf x t.place (at_name t.path) r
+  pub now : TellsOf x t.waits r
+
+-- what a look found, or that it found nothing: true of the tables that were looked at, until that is recorded (5.3)
+abbrev pub Unrecorded : {A : Type 0} → Shown → Waits → Reply A → Type 0
+Unrecorded x (Looking l n) (reply.Looked None) = recorded (records_of x) l n ≡ None
+Unrecorded x waits other = Unit {0}
+
+-- what holds of the tables that answered (5.3 to 5.4.3)
+pub record TellsNow {A : Type 0} (x : Shown) (t : Tasked) (r : Reply A) : Type 0 where
+  pub told : Tells x t r
+  pub unrecorded : Unrecorded x t.waits r
 
 -- ---- the tables, under any source
 
--- the tables bear what a turn asks for: a class may be recorded, a loader may be recorded as initiating, what an answer rests
--- on is recorded (5.3)
+-- the tables bear what a turn asks for: a class may be recorded, a loader may be recorded as initiating, a class has a lineage, an
+-- equality may be imposed, a class may be prepared, what an answer rests on stands (5.3 to 5.4.3)
 abbrev pub Backed : {A : Type 0} → Shown → Turn A → Type 0
-Backed x (turn.Look l n) = Unit {0}
-Backed x (turn.Read l n) = Unit {0}
 Backed x (turn.Define d) = MayEnter x d
 Backed x (turn.Initiate h) = MayJoin x h.value
+Backed x (turn.Lineage c) = IsRecorded (state_of x) c
+Backed x (turn.Settle f) = MaySettle x f
+Backed x (turn.Impose e k) = MayImpose x e.value k
+Backed x (turn.Mark e) = MayMark x e.value
 Backed x (turn.Post f) = IsBacked x f
+Backed x other = Unit {0}
 
--- the tables of this configuration, which name its loaders alone, bear a turn wherever what the task was told holds of them (5.3)
+-- the tables of this configuration, which are consistent and name its loaders alone, bear a turn wherever what the task was told holds of them (5.3)
 abbrev pub BackedWhere : {A : Type 0} → Configured → (Shown → Type 0) → Turn A → Type 0
-BackedWhere c holds t = (x : Shown) → x.config ≡ c → NamesLoaders x → holds x → Backed x t
+BackedWhere c holds t = (x : Shown) → x.config ≡ c → NamesLoaders x → IsConsistent (state_of x) → holds x → Backed x t
 
 -- ---- the plan, where the source tells a content
 
--- an answer is the plan's, failures apart (5.3.5)
+-- the need comes next in the request's plan, and where it may be added its step is the next of the request's service (5.3 to 5.4.3)
+pub record IsWanted (g : Setting) (s : State) (r : Request) (n : Need) : Type 0 where
+  pub need : IsNextNeed g.world s (request_of r) n
+  pub step : MayAdd s n → IsNextStep g s (request_of r) (step_for n)
+
+-- the preparation of a class is the next step of the request's service, unless it is prepared (5.4.2)
+abbrev pub IsPreparedNext : Setting → State → Request → Sprung → Type 0
+IsPreparedNext g s r (OfReference d c index) = ⊥
+IsPreparedNext g s r (OfPreparation l) = (Contains s.prepared l.own.class → ⊥) → IsNextStep g s (request_of r) (Prepare l.own.class)
+
+-- what the reference of the request's class is settled to is the next step of its service, unless it is settled (5.4.3)
+pub record IsSettledNext (g : Setting) (s : State) (r : Request) (f : Answered) : Type 0 where
+  pub class : Class
+  pub kept : Records s (loader_of r) (name_of r) class
+  pub verdict : verdict.Verdict
+  pub said : f.answer ≡ answers.Said verdict
+  pub step : settled_to s.settled class (index_of r) ≡ None → IsNextStep g s (request_of r) (Settle class (index_of r) (verdict_of verdict))
+
+-- the request's service has come to an answer, failures apart (5.3 to 5.4.3)
 abbrev pub AnswerFollows : Setting → State → Request → Answer → Type 0
-AnswerFollows g s r (answers.Said v) = AnswersPlan g s (request_of r) (verdict_of v)
-AnswerFollows g s r (answers.Shared settled) = AnswersPlan g s (request_of r) (verdict_of settled.value.verdict)
+AnswerFollows g s r (answers.Said v) = ComesTo g s (request_of r) (verdict_of v)
+AnswerFollows g s r (answers.Shared settled) = ComesTo g s (request_of r) (verdict_of settled.value.verdict)
 AnswerFollows g s r answers.Memory = Unit {0}
 AnswerFollows g s r (answers.SourceFault name loader) = Unit {0}
 
--- a turn is what the plan of the request asks next: the record of a class, or of the loader that was asked for it, is the next
--- need; an answer is the plan's (5.3, 5.3.5)
+-- a turn is what comes next in the service of the request: a record of a class, or of the loader that was asked for it, an equality, a
+-- preparation, what a reference is settled to, or the answer (5.3 to 5.4.3)
 abbrev pub Follows : {A : Type 0} → Setting → State → Request → Turn A → Type 0
-Follows g s r (turn.Look l n) = Unit {0}
-Follows g s r (turn.Read l n) = Unit {0}
-Follows g s r (turn.Define d) = IsNextNeed g.world s (request_of r) (Entry d.class.loader d.class.name d.class.loader)
-Follows g s r (turn.Initiate h) = IsNextNeed g.world s (request_of r) (Entry h.value.asked h.value.name h.value.place) × (h.value.asked ≡ h.value.place → ⊥)
+Follows g s r (turn.Define d) = IsWanted g s r (Entry d.class.loader d.class.name d.class.loader)
+Follows g s r (turn.Initiate h) = IsWanted g s r (Entry h.value.asked h.value.name h.value.place) × (h.value.asked ≡ h.value.place → ⊥)
+Follows g s r (turn.Settle f) = IsSettledNext g s r f
+Follows g s r (turn.Impose e k) = IsNextOf e.value k (IsWanted g s r)
+Follows g s r (turn.Mark e) = IsPreparedNext g s r e.value.origin
 Follows g s r (turn.Post f) = AnswerFollows g s r f.answer
+Follows g s r other = Unit {0}
 
--- where a request is served: the world is that of the content that is told and of this configuration, and what is recorded is
--- of that world (5.3)
+-- where a request is served: the setting is that of the content that is told, of this configuration and of a script, and all that the tables
+-- hold is as it should be in it (5.3 to 5.4.3)
 pub record ServedIn (told : Option Content) (c : Configured) (g : Setting) (s : State) : Type 0 where
   pub content : Content
+  pub script : Scripted
   pub told_so : told ≡ Some content
-  pub world : g.world ≡ world_of c content
-  pub closed : IsClosed g.world s
+  pub setting : g ≡ setting_of c script content
+  pub sound : IsSound g s
 
--- a turn follows the plan wherever the request is served and this holds (5.3.5)
+-- a turn follows the plan wherever the request is served and this holds (5.3 to 5.4.3)
 abbrev pub FollowsWhere : {A : Type 0} → Option Content → Configured → (Shown → Type 0) → Request → Turn A → Type 0
 FollowsWhere told c holds r t = (g : Setting) (x : Shown) → ServedIn told c g (state_of x) → holds x → Follows g (state_of x) r t
 
 -- ---- faults
 
 -- the answer that a refused read is: out of memory, or what was to be read at which loader (own choice)
-abbrev pub fault_answer : Tasked → SourceFault → Answer
-fault_answer t faults.Memory = answers.Memory
-fault_answer t faults.Device = answers.SourceFault (at_name t.path) t.place
-fault_answer t faults.TooLarge = answers.SourceFault (at_name t.path) t.place
-fault_answer t faults.Twice = answers.SourceFault (at_name t.path) t.place
+abbrev pub fault_answer : Waits → SourceFault → Answer
+fault_answer (Reading l n) faults.Device = answers.SourceFault n l
+fault_answer (Reading l n) faults.TooLarge = answers.SourceFault n l
+fault_answer (Reading l n) faults.Twice = answers.SourceFault n l
+fault_answer waits fault = answers.Memory
 
--- the answer that a reply is, where it is a refusal (own choice)
+-- the answer that a reply is, where memory or the source was refused (own choice)
 abbrev pub refusal : {A : Type 0} → Tasked → Reply A → Option Answer
-refusal t (reply.Start) = None
-refusal t (reply.Looked row) = None
-refusal t (reply.Probed p) = None
-refusal t (reply.Defined row) = None
-refusal t (reply.Initiated row) = None
-refusal t (reply.Memory) = Some answers.Memory
-refusal t (reply.SourceFault fault) = Some (fault_answer t fault)
+refusal t reply.Memory = Some answers.Memory
+refusal t (reply.SourceFault fault) = Some (fault_answer t.waits fault)
+refusal t other = None
 
 -- an answer is no fault of the source
 abbrev pub NoFault : Answer → Type 0
@@ -137,23 +163,55 @@ NoFault (answers.Shared settled) = Unit {0}
 NoFault answers.Memory = Unit {0}
 NoFault (answers.SourceFault name loader) = ⊥
 
--- a turn posts no fault of the source
+-- a turn posts no fault of the source, and settles none
 abbrev pub PostsNoFault : {A : Type 0} → Turn A → Type 0
-PostsNoFault (turn.Look l n) = Unit {0}
-PostsNoFault (turn.Read l n) = Unit {0}
-PostsNoFault (turn.Define d) = Unit {0}
-PostsNoFault (turn.Initiate h) = Unit {0}
 PostsNoFault (turn.Post f) = NoFault f.answer
+PostsNoFault other = Unit {0}
 
 -- a turn posts this answer
 abbrev pub Posts : {A : Type 0} → Answer → Turn A → Type 0
-Posts a (turn.Look l n) = ⊥
-Posts a (turn.Read l n) = ⊥
-Posts a (turn.Define d) = ⊥
-Posts a (turn.Initiate h) = ⊥
 Posts a (turn.Post f) = f.answer ≡ a
+Posts a other = ⊥
+
+-- a request resolves a reference (5.4.3)
+abbrev pub IsResolution : Request → Type 0
+IsResolution (requests.Load loader name) = ⊥
+IsResolution (requests.Resolve loader name i) = Unit {0}
+IsResolution (requests.Link loader name) = ⊥
+
+-- on this reply a turn may run out of memory: not where it posts what is settled, a fault of the source, or a refused need of
+-- a load or a link (own choice)
+abbrev pub MayLack : {A : Type 0} → Option Request → Reply A → Type 0
+MayLack r (reply.LookedReference (Some s)) = ⊥
+MayLack r (reply.Settled s) = ⊥
+MayLack r (reply.Refused n) = IfSome r IsResolution
+MayLack r (reply.SourceFault fault) = fault ≡ faults.Memory
+MayLack r other = Unit {0}
+
+-- a turn posts that memory ran out only on such a reply (own choice)
+abbrev pub LacksOnly : {A : Type 0} → Option Request → Reply A → Turn A → Type 0
+LacksOnly r reply t = Posts answers.Memory t → MayLack r reply
 
 -- a refusal is posted as its answer, and a fault of the source nowhere else (own choice)
 abbrev pub Refuses : {A : Type 0} → Option Answer → Turn A → Type 0
 Refuses None t = PostsNoFault t
 Refuses (Some a) t = Posts a t
+
+-- the class of a resolution is looked for where the request asks for it (5.4.3)
+abbrev pub LooksAgain : ℕ → List ℕ → Request → Type 0
+LooksAgain loader name (requests.Load l n) = ⊥
+LooksAgain loader name (requests.Resolve l n i) = (loader ≡ l) × (name ≡ n)
+LooksAgain loader name (requests.Link l n) = ⊥
+
+-- a refused need is the answer, or what the reference is settled to, unless memory runs out; before a resolution is answered so, its class
+-- is looked for once more (5.3.4)
+abbrev pub EndsAsRefused : {A : Type 0} → Request → needs.Need → Turn A → Type 0
+EndsAsRefused r n (turn.Post f) = (f.answer ≡ answers.Said (verdicts.Linkage n)) ⊎ (f.answer ≡ answers.Memory)
+EndsAsRefused r n (turn.Settle f) = f.answer ≡ answers.Said (verdicts.Linkage n)
+EndsAsRefused r n (turn.Look loader name) = LooksAgain loader name r
+EndsAsRefused r n other = ⊥
+
+-- the same of each reply that is such a refusal (5.3.4)
+abbrev pub EndsRefused : {A : Type 0} → Option Request → Reply A → Turn A → Type 0
+EndsRefused r (reply.Refused n) t = IfSome r (λ r. EndsAsRefused r n t)
+EndsRefused r other t = Unit {0}

@@ -1,5 +1,14 @@
+pub mod Measures
+pub mod Waits
 pub mod Tasks
-pub mod Stages
+pub mod Facts
 pub mod Turns
 pub mod Follows
+pub mod Stages
+pub mod Deriving
 pub mod Steps
+pub mod Ends
+pub mod Reaching
+pub mod Cited
+pub mod Resolving
+pub mod Linking

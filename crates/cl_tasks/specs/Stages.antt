@@ -1,49 +1,206 @@
--- What a task is at, as contracts see it, and what it keeps (JVMS SE 8, 5.3, 5.3.5).
-use Rattle.std.specs.Prelude.{◌≡◌, ◌≢◌, ◌<◌, ◌-◌, ℕ, false, [], length, Some, None, unwrap_or}
+-- What a task is at, as contracts see it, and what it keeps (JVMS SE 8, 5.3 to 5.4.3).
+use Rattle.std.specs.Prelude.{◌≡◌, ◌≢◌, ◌<◌, ◌+◌, ◌-◌, ◌++◌, ◌∷◌, ℕ, false, List, [], length, map, take, Option, Some, None, slice_get, option_map, unwrap_or}
+use Rattle.cl_classfile.specs.Files.{file_of, reference}
+use Rattle.cl_model.specs.declared.class.Class.{Class}
+use Rattle.cl_model.specs.declared.answer.Answer.TheVariants as answers
+use Rattle.cl_model.specs.declared.verdict.Verdict as verdict
+use Rattle.cl_model.specs.declared.verdict.Verdict.TheVariants as verdicts
+use Rattle.cl_model.specs.declared.request.Request.{Request}
+use Rattle.cl_model.specs.declared.request.Request.TheVariants as requests
+use Rattle.cl_model.specs.Content.{Content}
 use Rattle.cl_model.specs.Classes.{class}
-use Rattle.cl_config.specs.Scripts.{IsLoadRequest}
+use Rattle.cl_model.specs.Frames.{class_named}
+use Rattle.cl_model.specs.States.{Need, Entry}
 use Rattle.cl_config.specs.Views.{Configured}
 use Rattle.cl_delegation.specs.Searches.{Searched, Located, next_of, route_of}
-use Rattle.cl_hierarchy.specs.Paths.{Pathed, at_loader, at_name, is_on}
-use Rattle.cl_registry.specs.Findings.{IsFor, IsSought}
-use Rattle.cl_tasks.specs.declared.phase.Phase.{Phase}
-use Rattle.cl_tasks.specs.declared.phase.Phase.TheVariants as phases
+use Rattle.cl_hierarchy.specs.Frames.{frame_of}
+use Rattle.cl_hierarchy.specs.Imposed.{Listed, Sprung, OfPreparation, OfReference, needs_of}
+use Rattle.cl_hierarchy.specs.Lineages.{Lined, rows_in}
+use Rattle.cl_hierarchy.specs.Paths.{Pathed, at_loader, at_name, frames_of, is_on}
+use Rattle.cl_hierarchy.specs.Rows.{Rowed}
+use Rattle.cl_findings.specs.declared.load.Target.{Target}
+use Rattle.cl_findings.specs.declared.load.Target.TheVariants as targets
+use Rattle.cl_findings.specs.Findings.{Based, Rests, loader_of, name_of}
+use Rattle.cl_findings.specs.Bases.{IsSpeltIn}
+use Rattle.cl_findings.specs.Loads.{IsFor, IsSought, IsWhole, Resolves}
+use Rattle.cl_findings.specs.References.{AreLinked, GoesTo, class_need, reference_needs}
+use Rattle.cl_tasks.specs.Measures.{Phase, Fresh, Looking, Reading, Homing, Defining, Initiating, left_at, named_left, own_left, checking_left, reference_left, tracing_own_left, tracing_named_left, imposing_left, settling_left, prepared_left, whole_left, chain_left, linking_left}
+use Rattle.cl_tasks.specs.Tasks.{Tasked, Fact, Stands, StandsRefused, HasLineage, IsPrepared}
+use Rattle.cl_tasks.specs.Waits.{Waits}
+use Rattle.cl_tasks.specs.Waits as waits
 use Rattle.cl_tasks.specs.declared.stage.Job.{Job}
+use Rattle.cl_tasks.specs.declared.stage.Load.{Load}
+use Rattle.cl_tasks.specs.declared.stage.Load.TheVariants as loads
+use Rattle.cl_tasks.specs.declared.stage.Entry as entries
+use Rattle.cl_tasks.specs.declared.stage.Failed.{Failed}
+use Rattle.cl_tasks.specs.declared.stage.Member.{Member}
+use Rattle.cl_tasks.specs.declared.stage.Resolution.{Resolution}
+use Rattle.cl_tasks.specs.declared.stage.Resolution.TheVariants as resolutions
+use Rattle.cl_tasks.specs.declared.stage.Goal.{Goal}
+use Rattle.cl_tasks.specs.declared.stage.Chain.{Chain}
+use Rattle.cl_tasks.specs.declared.stage.Link.{Link}
+use Rattle.cl_tasks.specs.declared.stage.Link.TheVariants as links
 use Rattle.cl_tasks.specs.declared.stage.Stage.{Stage}
-use Rattle.cl_tasks.specs.declared.stage.Stage.TheVariants.{Fresh, Looking, Searching, Homing, Defining, Initiating, Done}
-use Rattle.cl_tasks.specs.Tasks.{Tasked}
+use Rattle.cl_tasks.specs.declared.stage.Stage.TheVariants as stages
 
--- a task that is at work on its request, and waits for what this loader says
-abbrev pub at_work : {A : Type 0} → Configured → Phase → ℕ → Job A → Tasked
-at_work c phase place j = record { config = c; q = j.q; phase = phase; request = Some j.request; path = j.path; place = place; probes = 0 }
+-- ---- loads
 
 -- the loader that a search asks next
 abbrev pub next_place : Searched → ℕ
 next_place s = unwrap_or (next_of s) 0
 
--- a task that searches
-abbrev pub at_search : {A : Type 0} → Configured → Job A → Searched → Tasked
-at_search c j s = record (at_work c phases.Reading (next_place s) j) { probes = length (route_of s) - length s.absent }
+-- what was told before the load: nothing of a request's own class; of a reference's that the request's class is recorded (5.3, 5.4.3.1)
+abbrev pub target_facts : {A : Type 0} → Request → Target A → List Fact
+target_facts r targets.Own = []
+target_facts r (targets.Reference d) = Stands (class_need r d.value.class) ∷ []
 
--- the path of a task that is done
-abbrev pub nowhere : Pathed
-nowhere = record { config = record { loaders = [] }; loader = 0; name = []; frames = [] }
+-- how many turns are left past the load (5.4, 5.4.3)
+abbrev pub past_left : {A : Type 0} → Target A → ℕ
+past_left targets.Own = own_left
+past_left (targets.Reference d) = named_left
+
+-- how many probes a search has left at most (5.3.2)
+abbrev pub probes_left : Searched → ℕ
+probes_left s = length (route_of s) - length s.absent
+
+-- a task that loads a class
+abbrev pub at_work : {A : Type 0} → Configured → Waits → Phase → ℕ → Job A → Tasked
+at_work c w phase probes j = record {
+  config = c;
+  q = j.q;
+  request = Some j.request;
+  waits = w;
+  frames = frames_of j.path;
+  absent = None;
+  facts = target_facts j.request j.target;
+  left = past_left j.target + left_at phase (frames_of j.path) probes;
+}
+
+-- the record of a class by its home (5.3)
+abbrev pub home_need : Located → Need
+home_need h = Entry h.place h.name h.place
+
+-- the class that is looked for, where the loader that is asked is its home (5.3.2)
+abbrev pub sought_class : Pathed → Class
+sought_class p = class (at_name p) (at_loader p)
+
+-- what contracts see of a load; a class that is being recorded is the last of those that are derived
+abbrev pub loading_at : {A : Type 0} → Configured → Load A → Tasked
+loading_at c (loads.Fresh j) = at_work c waits.Beginning Fresh 0 j
+loading_at c (loads.Looking j) = at_work c (waits.Looking (at_loader j.path) (at_name j.path)) Looking 0 j
+loading_at c (loads.Searching j s) = record (at_work c (waits.Reading (next_place s) (at_name j.path)) Reading (probes_left s) j) { absent = Some (sought_class j.path) }
+loading_at c (loads.Homing j h) = at_work c (waits.Looking h.place (at_name j.path)) Homing 0 j
+loading_at c (loads.Defining j x) = record (at_work c (waits.Defining x.draft) Defining 0 j) { frames = frames_of j.path ++ frame_of x ∷ [] }
+loading_at c (loads.Initiating j h) = record (at_work c (waits.Initiating h.value) Initiating 0 j) { facts = Stands (home_need h.value) ∷ target_facts j.request j.target }
+
+-- ---- resolutions
+
+-- a task whose request's class is recorded, or cannot be
+abbrev pub settled_down : Configured → ℕ → Request → Waits → List Fact → ℕ → Tasked
+settled_down c q r w facts left = record { config = c; q = q; request = Some r; waits = w; frames = []; absent = None; facts = facts; left = left }
+
+-- the need that is refused, if one is (5.3.4)
+abbrev pub refused_facts : Option Need → List Fact
+refused_facts None = []
+refused_facts (Some n) = StandsRefused n ∷ []
+
+-- what an answer rests on was told (5.3 to 5.4.3)
+abbrev pub basis_facts : Option Based → List Fact
+basis_facts None = []
+basis_facts (Some b) = map (λ n. Stands n) b.needs ++ refused_facts b.refused
+
+-- the request's class is recorded (5.3)
+abbrev pub entry_facts : {A : Type 0} → entries.Entry A → List Fact
+entry_facts e = Stands (class_need e.request e.d.value.class) ∷ []
+
+-- and so is the class that its entry names, by the loader that defined the first (5.3, 5.4.3.1)
+abbrev pub named_facts : Request → Class → Class → List Fact
+named_facts r d c = map (λ n. Stands n) (reference_needs r d c)
+
+-- the first so many equalities of a list are imposed (5.3.4)
+abbrev pub imposed_facts : Listed → ℕ → List Fact
+imposed_facts e k = map (λ n. Stands n) (take k (needs_of e.needs))
+
+-- of a member the two classes are recorded, and these are their lineages (5.4.3.2 to 5.4.3.4)
+abbrev pub member_facts : {A : Type 0} → Member A → List Fact
+member_facts m =
+    named_facts m.entry.request m.found.d.own.class m.found.c.own.class ++ HasLineage m.found.d ∷ HasLineage m.found.c ∷ []
+
+-- what contracts see of a resolution
+abbrev pub resolving_at : {A : Type 0} → Configured → Resolution A → Tasked
+resolving_at c (resolutions.Checking f) =
+    settled_down c f.q f.request (waits.Looking (loader_of f.request) (name_of f.request)) (basis_facts f.finding.basis) checking_left
+resolving_at c (resolutions.LookingReference e) = settled_down c e.q e.request (waits.LookingReference e.d.value.class e.index) (entry_facts e) reference_left
+resolving_at c (resolutions.TracingOwn e k) =
+    settled_down c e.q e.request (waits.Tracing e.d.value.class) (named_facts e.request e.d.value.class k.value.class) tracing_own_left
+resolving_at c (resolutions.TracingNamed e l k) =
+    settled_down c e.q e.request (waits.Tracing k.value.class) (named_facts e.request e.d.value.class k.value.class ++ HasLineage l.value ∷ []) tracing_named_left
+resolving_at c (resolutions.Imposing m k) =
+    settled_down c m.entry.q m.entry.request (waits.Imposing m.equalities.value k) (member_facts m ++ imposed_facts m.equalities.value k) (imposing_left (length m.equalities.value.needs - k))
+resolving_at c (resolutions.Settling e) = settled_down c e.q e.request (waits.Settling e.request) (entry_facts e) settling_left
+
+-- ---- links
+
+-- the request's class is recorded (5.3)
+abbrev pub goal_facts : {A : Type 0} → Goal A → List Fact
+goal_facts g = Stands (class_need g.request g.class.value.class) ∷ []
+
+-- the classes of a lineage in order (5.4)
+abbrev pub classes_in : Lined → List Class
+classes_in l = map (λ r. r.class) (rows_in l)
+
+-- this is the lineage of the class that is linked, and those before a place in it are prepared (5.4)
+abbrev pub chain_facts : {A : Type 0} → Chain A → List Fact
+chain_facts c = goal_facts c.goal ++ (HasLineage c.whole.value ∷ map (λ k. IsPrepared k) (take c.place (classes_in c.whole.value)))
+
+-- the class at a place of a lineage; the last one past the end
+abbrev pub class_in : Lined → ℕ → Class
+class_in l place = unwrap_or (slice_get (classes_in l) place) l.own.class
+
+-- how many classes of the lineage stand at a place and behind it
+abbrev pub behind : {A : Type 0} → Chain A → ℕ
+behind c = length (rows_in c.whole.value) - c.place
+
+-- the lineages that a list was made from (5.4.2, 5.4.3)
+abbrev pub sprung_facts : Sprung → List Fact
+sprung_facts (OfReference d c index) = HasLineage d ∷ HasLineage c ∷ []
+sprung_facts (OfPreparation l) = HasLineage l ∷ []
+
+-- the same of a list
+abbrev pub traced_facts : Listed → List Fact
+traced_facts e = sprung_facts e.origin
+
+-- what contracts see of a link
+abbrev pub linking_at : {A : Type 0} → Configured → Link A → Tasked
+linking_at c (links.LookingPrepared g) = settled_down c g.q g.request (waits.LookingPrepared g.class.value.class) (goal_facts g) prepared_left
+linking_at c (links.TracingWhole g) = settled_down c g.q g.request (waits.Tracing g.class.value.class) (goal_facts g) whole_left
+linking_at c (links.Tracing k) = settled_down c k.goal.q k.goal.request (waits.Tracing (class_in k.whole.value k.place)) (chain_facts k) (chain_left (behind k))
+linking_at c (links.Imposing k e i) =
+    settled_down c k.goal.q k.goal.request (waits.Imposing e.value i) (chain_facts k ++ (traced_facts e.value ++ imposed_facts e.value i)) (linking_left (behind k - 1) (length e.value.needs - i))
+linking_at c (links.Marking k e) =
+    settled_down c k.goal.q k.goal.request (waits.Marking e.value) (chain_facts k ++ (traced_facts e.value ++ imposed_facts e.value (length e.value.needs))) (linking_left (behind k - 1) 0)
+
+-- ---- all
+
+-- a task whose request has its answer
+abbrev pub done_at : Configured → ℕ → Tasked
+done_at c q = record { config = c; q = q; request = None; waits = waits.Ended; frames = []; absent = None; facts = []; left = 0 }
 
 -- what contracts see of each stage
 abbrev pub task_at : {A : Type 0} → Configured → Stage A → Tasked
-task_at c (Fresh j) = at_work c phases.Fresh (at_loader j.path) j
-task_at c (Looking j) = at_work c phases.Looking (at_loader j.path) j
-task_at c (Searching j s) = at_search c j s
-task_at c (Homing j h) = at_work c phases.Homing h.place j
-task_at c (Defining j h) = at_work c phases.Defining h.value.place j
-task_at c (Initiating j) = at_work c phases.Initiating (at_loader j.path) j
-task_at c (Done q) = record { config = c; q = q; phase = phases.Done; request = None; path = nowhere; place = 0; probes = 0 }
+task_at c (stages.Load l) = loading_at c l
+task_at c (stages.Resolve r) = resolving_at c r
+task_at c (stages.Link l) = linking_at c l
+task_at c (stages.Done q) = done_at c q
 
--- the request is a load, and the path is its under this configuration, whose loaders it names (5.3)
-pub record IsJob {A : Type 0} (c : Configured) (j : Job A) : Type 0 where
-  pub load : IsLoadRequest j.request
-  pub for_request : IsFor j.request j.path
+-- ---- what each stage keeps
+
+-- the path is the request's under this configuration, whose loaders it names; what it loads was named by a class whose bytes spell its file (5.3)
+pub record IsJob {A : Type 0} (told : Option Content) (c : Configured) (j : Job A) : Type 0 where
+  pub spelt : IsSpeltIn told j.target
+  pub for_request : IsFor j.request j.target j.path
   pub config : j.path.config ≡ c
+  pub asked : loader_of j.request < length c.loaders
   pub root : j.path.loader < length c.loaders
   pub loader : at_loader j.path < length c.loaders
 
@@ -60,12 +217,102 @@ pub record IsHoming {A : Type 0} (j : Job A) (h : Located) : Type 0 where
   pub off : is_on j.path (class h.name h.place) ≡ false
   pub other : h.place ≢ at_loader j.path
 
--- what each stage keeps (5.3)
-abbrev pub IsStage : {A : Type 0} → Configured → Stage A → Type 0
-IsStage c (Fresh j) = IsJob c j
-IsStage c (Looking j) = IsJob c j
-IsStage c (Searching j s) = IsJob c j × IsSearch j s
-IsStage c (Homing j h) = IsJob c j × IsHoming j h
-IsStage c (Defining j h) = IsJob c j × IsSought j.path h.value
-IsStage c (Initiating j) = IsJob c j
-IsStage c (Done q) = Unit {0}
+-- a job at its beginning: the request's own class is loaded, and nothing is derived yet (5.3)
+pub record IsFirst {A : Type 0} (j : Job A) : Type 0 where
+  pub own : target_facts j.request j.target ≡ []
+  pub alone : j.path.frames ≡ []
+
+-- what a load keeps (5.3, 5.3.5)
+abbrev pub IsLoading : {A : Type 0} → Option Content → Configured → Load A → Type 0
+IsLoading told c (loads.Fresh j) = IsJob told c j × IsFirst j
+IsLoading told c (loads.Looking j) = IsJob told c j
+IsLoading told c (loads.Searching j s) = IsJob told c j × IsSearch j s
+IsLoading told c (loads.Homing j h) = IsJob told c j × IsHoming j h
+IsLoading told c (loads.Defining j x) = IsJob told c j × IsWhole told j.path x
+IsLoading told c (loads.Initiating j h) = IsJob told c j × IsSought j.path h.value × (h.value.place ≢ at_loader j.path)
+
+-- the same request, but to load its class alone (5.3)
+abbrev pub load_of : Request → Request
+load_of r = requests.Load (loader_of r) (name_of r)
+
+-- a verdict that is an error, or a refused need (5.3.4, 5.3.5)
+abbrev pub IsFailure : verdict.Verdict → Type 0
+IsFailure (verdicts.Error kind c) = Unit {0}
+IsFailure (verdicts.Linkage n) = Unit {0}
+IsFailure other = ⊥
+
+-- the load of the class of a resolution ends in a verdict, whatever the request asks past it (5.3, 5.4.3)
+pub record IsFailed {A : Type 0} (told : Option Content) (c : Configured) (f : Failed A) : Type 0 where
+  pub index : ℕ
+  pub resolves : f.request ≡ requests.Resolve (loader_of f.request) (name_of f.request) index
+  pub same : f.finding.request ≡ f.request
+  pub asked : loader_of f.request < length c.loaders
+  pub verdict : verdict.Verdict
+  pub said : f.finding.answer ≡ answers.Said verdict
+  pub basis : Based
+  pub rests_on : f.finding.basis ≡ Some basis
+  pub config : basis.config ≡ c
+  pub unprepared : basis.prepared ≡ []
+  pub failure : IsFailure verdict
+  pub own : Rests told (record f.finding { request = load_of f.request })
+
+-- the request resolves the entry at an index of the pool of a class (5.4.3)
+pub record IsEntry {A : Type 0} (c : Configured) (e : entries.Entry A) : Type 0 where
+  pub of : Resolves e.request e.d.value.class e.index
+  pub asked : loader_of e.request < length c.loaders
+
+-- the entry names a class (5.4.3.1)
+pub record IsNaming {A : Type 0} (e : entries.Entry A) (k : Rowed) : Type 0 where
+  pub named : option_map class_named (reference (file_of e.d.value.file) e.index) ≡ Some (Some k.class.name)
+
+-- the lineage is of a class, under this configuration (5.3.5)
+pub record IsOf (c : Configured) (k : Class) (l : Lined) : Type 0 where
+  pub class : l.own.class ≡ k
+  pub config : l.config ≡ c
+
+-- a member that the request's entry asks for, with its equalities, and this one is to be imposed (5.4.3.2 to 5.4.3.4)
+pub record IsMember {A : Type 0} (c : Configured) (m : Member A) : Type 0 where
+  pub entry : IsEntry c m.entry
+  pub own : IsOf c m.entry.d.value.class m.found.d
+  pub index : m.found.index ≡ m.entry.index
+  pub reference : GoesTo m.entry.request m.found.d m.found.c m.found.index
+  pub origin : m.equalities.value.origin ≡ OfReference m.found.d m.found.c m.found.index
+
+-- what a resolution keeps (5.4.3)
+abbrev pub IsResolving : {A : Type 0} → Option Content → Configured → Resolution A → Type 0
+IsResolving told c (resolutions.Checking f) = IsFailed told c f
+IsResolving told c (resolutions.LookingReference e) = IsEntry c e
+IsResolving told c (resolutions.TracingOwn e k) = IsEntry c e
+IsResolving told c (resolutions.TracingNamed e l k) = IsEntry c e × IsOf c e.d.value.class l.value
+IsResolving told c (resolutions.Imposing m k) = IsMember c m × (k < length m.equalities.value.needs)
+IsResolving told c (resolutions.Settling e) = IsEntry c e
+
+-- the request links the class (5.4)
+pub record IsGoal {A : Type 0} (c : Configured) (g : Goal A) : Type 0 where
+  pub of : g.request ≡ requests.Link (loader_of g.request) g.class.value.class.name
+  pub asked : loader_of g.request < length c.loaders
+
+-- the lineage is that of the class that is linked, and a class of it stands at the place (5.4)
+pub record IsChain {A : Type 0} (c : Configured) (k : Chain A) : Type 0 where
+  pub goal : IsGoal c k.goal
+  pub whole : IsOf c k.goal.class.value.class k.whole.value
+  pub within : k.place < length (rows_in k.whole.value)
+
+-- the equalities are those of the class at the place (5.4.2)
+abbrev pub IsAtPlace : {A : Type 0} → Chain A → Listed → Type 0
+IsAtPlace k e = AreLinked k.goal.request k.whole.value k.place e.origin
+
+-- what a link keeps (5.4.2)
+abbrev pub IsLinking : {A : Type 0} → Configured → Link A → Type 0
+IsLinking c (links.LookingPrepared g) = IsGoal c g
+IsLinking c (links.TracingWhole g) = IsGoal c g
+IsLinking c (links.Tracing k) = IsChain c k
+IsLinking c (links.Imposing k e i) = IsChain c k × IsAtPlace k e.value × (i < length e.value.needs)
+IsLinking c (links.Marking k e) = IsChain c k × IsAtPlace k e.value
+
+-- what each stage keeps (5.3 to 5.4.3)
+abbrev pub IsStage : {A : Type 0} → Option Content → Configured → Stage A → Type 0
+IsStage told c (stages.Load l) = IsLoading told c l
+IsStage told c (stages.Resolve r) = IsResolving told c r
+IsStage told c (stages.Link l) = IsLinking c l
+IsStage told c (stages.Done q) = Unit {0}

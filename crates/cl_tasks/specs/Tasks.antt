@@ -1,64 +1,34 @@
--- What contracts see of a task, and how many turns it has left at most.
-use Rattle.std.specs.Prelude.{ℕ, ◌+◌, ◌*◌, List, [], Option, Some}
+-- What contracts see of a task (JVMS SE 8, 5.3 to 5.4.3).
+use Rattle.std.specs.Prelude.{ℕ, List, [], Option, Some, None}
 use Rattle.cl_model.specs.declared.request.Request.{Request}
+use Rattle.cl_model.specs.declared.class.Class.{Class}
 use Rattle.cl_model.specs.Frames.{Frame}
-use Rattle.cl_model.specs.Measures.{left_loading, left_ended}
+use Rattle.cl_model.specs.States.{Need}
 use Rattle.cl_config.specs.Views.{Configured}
-use Rattle.cl_hierarchy.specs.Paths.{Pathed, frames_of}
-use Rattle.cl_registry.specs.Findings.{loader_of, name_of}
-use Rattle.cl_tasks.specs.declared.phase.Phase.{Phase}
-use Rattle.cl_tasks.specs.declared.phase.Phase.TheVariants.{Fresh, Looking, Reading, Homing, Defining, Initiating, Done}
+use Rattle.cl_hierarchy.specs.Lineages.{Lined}
+use Rattle.cl_tasks.specs.Measures.{all_left}
+use Rattle.cl_tasks.specs.Waits.{Waits, Beginning}
 
--- under which configuration and for which request of the script a task is, what it waits for, at which loader, how many probes its search has left, and the
--- classes that it derives (5.3.5)
+-- what a task was told of the tables, and stays so: a need stands, or is refused; a lineage is of these tables; a class is prepared (5.3 to 5.4.3)
+pub data Fact : Type 0 where
+  Stands : (need : Need) → Fact
+  StandsRefused : (need : Need) → Fact
+  HasLineage : (lineage : Lined) → Fact
+  IsPrepared : (class : Class) → Fact
+
+-- under which configuration and for which request of the script a task is, until that has its answer; what it waits for; the classes that it derives, with what each
+-- has accepted; while it reads for a class, that one, of which it was told that its loader has no record; what else it was told of the tables; and how many
+-- turns it has left at most (5.3 to 5.4.3)
 pub record Tasked : Type 0 where
   pub config : Configured
   pub q : ℕ
-  pub phase : Phase
   pub request : Option Request
-  pub path : Pathed
-  pub place : ℕ
-  pub probes : ℕ
+  pub waits : Waits
+  pub frames : List Frame
+  pub absent : Option Class
+  pub facts : List Fact
+  pub left : ℕ
 
 -- a task that was told nothing yet
 abbrev pub begun : Configured → ℕ → Request → Tasked
-begun c q r =
-    record {
-      config = c;
-      q = q;
-      phase = Fresh;
-      request = Some r;
-      path = record { config = c; loader = loader_of r; name = name_of r; frames = [] };
-      place = loader_of r;
-      probes = 0;
-    }
-
--- the most frames, and the most supertypes of a class: what a `usize` counts
-unfoldable pub most : ℕ
-most = 18446744073709551616
-
--- one more than the turns from a look to the end of the load
-unfoldable pub turns : ℕ
-turns = 18446744073709551632
-
--- how much is left of loads under these frames, while one is still to be made (own choice)
-abbrev pub loading : List Frame → ℕ
-loading xs = left_loading most most xs
-
--- and once it has ended (own choice)
-abbrev pub ended : List Frame → ℕ
-ended xs = left_ended most most xs
-
--- no more than this many turns are left, with these frames and so many probes
-abbrev pub left_at : Phase → List Frame → ℕ → ℕ
-left_at Fresh xs probes = turns * loading xs + (most + 8)
-left_at Looking xs probes = turns * loading xs + (most + 7)
-left_at Reading xs probes = turns * loading xs + (probes + 5)
-left_at Homing xs probes = turns * loading xs + 4
-left_at Defining xs probes = turns * ended xs + 3
-left_at Initiating xs probes = turns * ended xs + 2
-left_at Done xs probes = 0
-
--- the same of a task
-abbrev pub left : Tasked → ℕ
-left t = left_at t.phase (frames_of t.path) t.probes
+begun c q r = record { config = c; q = q; request = Some r; waits = Beginning; frames = []; absent = None; facts = []; left = all_left }

@@ -1,66 +1,143 @@
--- What a task asks, and what it may be told.
-use Rattle.std.specs.Prelude.{◌≡◌, ◌≢◌, ◌⊎◌, [], Some, None}
+-- What a task asks, and what it may be told (JVMS SE 8, 5.3 to 5.4.3).
+use Rattle.std.specs.Prelude.{◌≡◌, ◌≢◌, ◌⊎◌, ℕ, true, List, [], ◌∷◌, Option, Some, None, slice_get, option_map}
 use Rattle.cl_model.specs.declared.class.Class.{Class}
+use Rattle.cl_model.specs.declared.request.Request.{Request}
+use Rattle.cl_model.specs.declared.request.Request.TheVariants as requests
+use Rattle.cl_model.specs.declared.answer.Answer.{Answer}
 use Rattle.cl_model.specs.declared.answer.Answer.TheVariants as answers
 use Rattle.cl_model.specs.declared.verdict.Verdict.TheVariants as verdicts
-use Rattle.cl_model.specs.Classes.{class}
-use Rattle.cl_hierarchy.specs.Paths.{at_name, frames_of}
+use Rattle.cl_model.specs.Frames.{Frame}
+use Rattle.cl_model.specs.States.{Need, Entry}
+use Rattle.cl_model.specs.Views.{need_of}
+use Rattle.cl_config.specs.Views.{Configured}
+use Rattle.cl_hierarchy.specs.Imposed.{Listed, equal_need}
+use Rattle.cl_findings.specs.Findings.{IsSettledFor, loader_of, name_of}
 use Rattle.cl_tasks.specs.Tasks.{Tasked}
-use Rattle.cl_tasks.specs.declared.phase.Phase.TheVariants.{Fresh, Looking, Reading, Homing, Defining, Initiating, Done}
-use Rattle.cl_tasks.specs.declared.stage.Reply.{Reply}
-use Rattle.cl_tasks.specs.declared.stage.Reply.TheVariants as reply
-use Rattle.cl_tasks.specs.declared.stage.Turn.{Turn}
-use Rattle.cl_tasks.specs.declared.stage.Turn.TheVariants as turn
+use Rattle.cl_tasks.specs.Waits.{Waits, Beginning, Looking, Reading, Defining, Initiating, Tracing, LookingReference, Settling, Imposing, LookingPrepared, Marking, Ended}
+use Rattle.cl_tasks.specs.declared.turn.Reply.{Reply}
+use Rattle.cl_tasks.specs.declared.turn.Reply.TheVariants as reply
+use Rattle.cl_tasks.specs.declared.turn.Turn.{Turn}
+use Rattle.cl_tasks.specs.declared.turn.Turn.TheVariants as turn
 
--- a task waits for what a loader has recorded: the one that was asked, or the home
-abbrev pub Looks : Tasked → Type 0
-Looks t = (t.phase ≡ Looking) ⊎ (t.phase ≡ Homing)
+-- ---- what may be told
+
+-- the equality at a place of a list, as a need, if the list is so long (5.3.4)
+abbrev pub equality_at : Listed → ℕ → Option Need
+equality_at e k = option_map equal_need (slice_get e.needs k)
+
+-- the need that the call which is waited for would make stand, if it is one that may be refused (5.3.4)
+abbrev pub need_at : Waits → Option Need
+need_at (Defining d) = Some (Entry d.class.loader d.class.name d.class.loader)
+need_at (Initiating h) = Some (Entry h.asked h.name h.place)
+need_at (Imposing e k) = equality_at e k
+need_at waits = None
+
+-- the reply is one to this call; memory may be refused to each, and a need to one that would make it stand
+abbrev pub IsReplyTo : {A : Type 0} → Configured → Waits → Reply A → Type 0
+IsReplyTo config waits reply.Start = waits ≡ Beginning
+IsReplyTo config (Looking l n) (reply.Looked row) = Unit {0}
+IsReplyTo config (Reading l n) (reply.Probed p) = (p.loader ≡ l) × (p.name ≡ n)
+IsReplyTo config (Reading l n) (reply.SourceFault f) = Unit {0}
+IsReplyTo config (Defining d) (reply.Defined row) = Unit {0}
+IsReplyTo config (Initiating h) (reply.Initiated row) = Unit {0}
+IsReplyTo config (Tracing c) (reply.Lineage l) = (l.value.own.class ≡ c) × (l.value.config ≡ config)
+IsReplyTo config (LookingReference c i) (reply.LookedReference None) = Unit {0}
+IsReplyTo config (LookingReference c i) (reply.LookedReference (Some s)) = (s.value.class ≡ c) × (s.value.index ≡ i)
+IsReplyTo config (Settling r) (reply.Settled s) = IsSettledFor r s.value
+IsReplyTo config (Imposing e k) reply.Imposed = Unit {0}
+IsReplyTo config (LookingPrepared c) (reply.LookedPrepared b) = Unit {0}
+IsReplyTo config (Marking e) reply.Marked = Unit {0}
+IsReplyTo config waits (reply.Refused n) = need_at waits ≡ Some (need_of n)
+IsReplyTo config waits reply.Memory = waits ≢ Ended
+IsReplyTo config waits other = ⊥
 
 -- the reply is one to what was asked
 abbrev pub Expects : {A : Type 0} → Tasked → Reply A → Type 0
-Expects t (reply.Start) = t.phase ≡ Fresh
-Expects t (reply.Looked row) = Looks t
-Expects t (reply.Probed p) = (t.phase ≡ Reading) × (p.loader ≡ t.place) × (p.name ≡ at_name t.path)
-Expects t (reply.Defined row) = t.phase ≡ Defining
-Expects t (reply.Initiated row) = t.phase ≡ Initiating
-Expects t (reply.Memory) = t.phase ≢ Done
-Expects t (reply.SourceFault f) = t.phase ≡ Reading
+Expects t r = IsReplyTo t.config t.waits r
 
--- the task waits for the answer to what it asks
+-- ---- what is asked
+
+-- the call that a turn is
+abbrev pub call_of : {A : Type 0} → Turn A → Waits
+call_of (turn.Look l n) = Looking l n
+call_of (turn.Read l n) = Reading l n
+call_of (turn.Define d) = Defining d
+call_of (turn.Initiate h) = Initiating h.value
+call_of (turn.Lineage c) = Tracing c
+call_of (turn.LookReference c i) = LookingReference c i
+call_of (turn.Settle f) = Settling f.request
+call_of (turn.Impose e k) = Imposing e.value k
+call_of (turn.LookPrepared c) = LookingPrepared c
+call_of (turn.Mark e) = Marking e.value
+call_of (turn.Post f) = Ended
+
+-- the task waits for the reply to what it asks
 abbrev pub Asks : {A : Type 0} → Tasked → Turn A → Type 0
-Asks t (turn.Look l n) = Looks t × (l ≡ t.place) × (n ≡ at_name t.path)
-Asks t (turn.Read l n) = (t.phase ≡ Reading) × (l ≡ t.place) × (n ≡ at_name t.path)
-Asks t (turn.Define d) = (t.phase ≡ Defining) × (d.class ≡ class (at_name t.path) t.place)
-Asks t (turn.Initiate h) = (t.phase ≡ Initiating) × (h.value.asked ≡ t.place) × (h.value.name ≡ at_name t.path)
-Asks t (turn.Post f) = t.phase ≡ Done
+Asks t turn = t.waits ≡ call_of turn
 
--- the request stays until its answer is posted
+-- the request stays until its answer is posted, and is that of what is settled and posted
 abbrev pub Serves : {A : Type 0} → Tasked → Tasked → Turn A → Type 0
-Serves old new (turn.Look l n) = new.request ≡ old.request
-Serves old new (turn.Read l n) = new.request ≡ old.request
-Serves old new (turn.Define d) = new.request ≡ old.request
-Serves old new (turn.Initiate h) = new.request ≡ old.request
 Serves old new (turn.Post f) = old.request ≡ Some f.request
+Serves old new (turn.Settle f) = (old.request ≡ Some f.request) × (new.request ≡ old.request)
+Serves old new other = new.request ≡ old.request
+
+-- ---- what is looked at first
+
+-- a reply that says that a loader has no record, or what a loader has (5.3, 5.3.2)
+abbrev pub MayRead : {A : Type 0} → Reply A → Type 0
+MayRead (reply.Looked None) = Unit {0}
+MayRead (reply.Probed p) = Unit {0}
+MayRead other = ⊥
 
 -- a task reads only after it was told that the loader that was asked, and then the home, has no record (5.3)
 abbrev pub ReadsUnrecorded : {A : Type 0} → Reply A → Turn A → Type 0
-ReadsUnrecorded (reply.Looked None) (turn.Read l n) = Unit {0}
-ReadsUnrecorded (reply.Probed p) (turn.Read l n) = Unit {0}
-ReadsUnrecorded other (turn.Read l n) = ⊥
-ReadsUnrecorded other t = Unit {0}
+ReadsUnrecorded r (turn.Read l n) = MayRead r
+ReadsUnrecorded r other = Unit {0}
 
--- a turn posts this class, or that memory ran out (5.3)
-abbrev pub PostsClass : {A : Type 0} → Class → Turn A → Type 0
-PostsClass c (turn.Look l n) = ⊥
-PostsClass c (turn.Read l n) = ⊥
-PostsClass c (turn.Define d) = ⊥
-PostsClass c (turn.Initiate h) = ⊥
-PostsClass c (turn.Post f) = (f.answer ≡ answers.Said (verdicts.Class c)) ⊎ (f.answer ≡ answers.Memory)
+-- a class is one of those that are being derived (5.3.5, step 3)
+abbrev pub IsDerived : List Frame → Class → Type 0
+IsDerived [] c = ⊥
+IsDerived (x ∷ xs) c = (x.class ≡ c) ⊎ IsDerived xs c
 
--- a task that derives nothing yet looks first, and the class that its loader has recorded is its answer; memory may run out (5.3)
+-- of a class the task was told, before this reply or by it, that its loader has no record (5.3)
+abbrev pub WasAbsent : {A : Type 0} → Tasked → Reply A → Class → Type 0
+WasAbsent t (reply.Looked None) c = (t.absent ≡ Some c) ⊎ (t.waits ≡ Looking c.loader c.name)
+WasAbsent t other c = t.absent ≡ Some c
+
+-- a name is read of which the task was told so, and a class is defined that it derives (5.3, 5.3.5)
+abbrev pub AsksDerived : {A : Type 0} → Tasked → Turn A → Type 0
+AsksDerived t (turn.Read l n) = (c : Class) × (t.absent ≡ Some c) × (c.name ≡ n)
+AsksDerived t (turn.Define d) = IsDerived t.frames d.class
+AsksDerived t other = Unit {0}
+
+-- a task reads for a class, and derives it, only after it was told that the class's loader has no record (5.3, 5.3.5)
+pub record DerivesUnrecorded {A : Type 0} (old new : Tasked) (r : Reply A) (t : Turn A) : Type 0 where
+  pub absent : (c : Class) → new.absent ≡ Some c → WasAbsent old r c
+  pub derived : (c : Class) → IsDerived new.frames c → IsDerived old.frames c ⊎ WasAbsent old r c
+  pub asked : AsksDerived new t
+
+-- a turn posts this answer, or that memory ran out
+abbrev pub PostsOr : {A : Type 0} → Answer → Turn A → Type 0
+PostsOr a (turn.Post f) = (f.answer ≡ a) ⊎ (f.answer ≡ answers.Memory)
+PostsOr a other = ⊥
+
+-- a turn asks what a request asks of its class once that is recorded: to answer it, to look at its reference, to look whether it is prepared;
+-- or memory ran out (5.3, 5.4, 5.4.3)
+abbrev pub GoesOnWith : {A : Type 0} → Request → Class → Turn A → Type 0
+GoesOnWith (requests.Load loader name) c t = PostsOr (answers.Said (verdicts.Class c)) t
+GoesOnWith (requests.Resolve loader name i) c (turn.LookReference d j) = (d ≡ c) × (j ≡ i)
+GoesOnWith (requests.Link loader name) c (turn.LookPrepared d) = d ≡ c
+GoesOnWith r c (turn.Post f) = f.answer ≡ answers.Memory
+GoesOnWith r c other = ⊥
+
+-- a task that was told nothing yet of its class looks for it first, and goes on with the class that its loader has recorded; a reference
+-- that is settled is answered so, and a prepared class is linked; memory may run out (5.3, 5.4, 5.4.3)
 abbrev pub AnswersOwn : {A : Type 0} → Tasked → Tasked → Reply A → Turn A → Type 0
-AnswersOwn old new (reply.Start) (turn.Look l n) = (new.phase ≡ Looking) × (new.path ≡ old.path) × (new.place ≡ old.place)
-AnswersOwn old new (reply.Start) (turn.Post f) = f.answer ≡ answers.Memory
-AnswersOwn old new (reply.Start) t = ⊥
-AnswersOwn old new (reply.Looked (Some row)) t = old.phase ≡ Looking → frames_of old.path ≡ [] → PostsClass row.value.class t
-AnswersOwn old new r t = Unit {0}
+AnswersOwn old new reply.Start (turn.Look l n) = (new.frames ≡ []) × (new.facts ≡ []) × ((r : Request) → old.request ≡ Some r → (l ≡ loader_of r) × (n ≡ name_of r))
+AnswersOwn old new reply.Start (turn.Post f) = f.answer ≡ answers.Memory
+AnswersOwn old new reply.Start t = ⊥
+AnswersOwn old new (reply.Looked (Some row)) t = (r : Request) → old.request ≡ Some r → old.waits ≡ Looking (loader_of r) (name_of r) → old.frames ≡ [] → old.facts ≡ [] → GoesOnWith r row.value.class t
+AnswersOwn old new (reply.LookedReference (Some s)) t = PostsOr (answers.Shared s) t
+AnswersOwn old new (reply.LookedPrepared true) t = (c : Class) → old.waits ≡ LookingPrepared c → PostsOr (answers.Said (verdicts.Linked c)) t
+AnswersOwn old new (reply.Settled s) t = PostsOr (answers.Shared s) t
+AnswersOwn old new other t = Unit {0}

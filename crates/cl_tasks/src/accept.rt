@@ -1,139 +1,173 @@
 //! From a home to the record of its class, and on with the class that waits for it.
 
-ghost use Rattle.std.specs.Prelude.{◌≡◌, ◌≢◌, ◌≤◌, [], Some, None, IsSome, false, length};
+ghost use Rattle.std.specs.Prelude.{◌≡◌, ◌≢◌, ◌≤◌, [], None, IsSome, false, length};
 ghost use Rattle.cl_classfile.specs.Files.{file_of};
+ghost use Rattle.cl_findings.specs.Loads.{IsSought, IsWhole};
+ghost use Rattle.cl_hierarchy.specs.Frames.{frame_of};
+ghost use Rattle.cl_hierarchy.specs.Paths.{at_loader, at_name, frames_of, fresh, is_on, misfit_under};
 ghost use Rattle.cl_model.specs.Classes.{class, supers};
 ghost use Rattle.cl_model.specs.Frames.{wanted};
-ghost use Rattle.cl_hierarchy.specs.Frames.{frame_of};
-ghost use Rattle.cl_hierarchy.specs.Paths.{at_loader, at_name, fresh, is_on, misfit_under};
-ghost use Rattle.cl_registry.specs.Findings.{IsSought};
-ghost use Rattle.cl_tasks.specs.Tasks.{most};
+ghost use Rattle.cl_tasks.specs.Deriving.{Derives, IsAtHome, IsNone, IsPast};
+ghost use Rattle.cl_tasks.specs.Ends.{IsOwnTarget};
+ghost use Rattle.cl_tasks.specs.Measures.{Fresh, Homing, Defining, Initiating, most};
 ghost use Rattle.cl_tasks.specs.Stages.{IsJob};
-ghost use Rattle.cl_tasks.specs.Turns.{PostsClass};
-ghost use Rattle.cl_tasks.specs.Follows.{PostsNoFault};
-ghost use Rattle.cl_tasks.specs.Steps.{DefinesBy, Finds, FindsBy, HoldsOn, IsMisfit, LeadsAt, ReadsNothing};
-ghost use Rattle.cl_tasks.specs.declared.phase.Phase.TheVariants as phases;
+ghost use Rattle.cl_tasks.specs.Steps.{DefinesBy, Finds, FindsBy, HoldsOn, IsMisfit, IsPlain, LeadsAt, LooksBy};
+ghost use Rattle.cl_tasks.specs.Turns.{GoesOnWith};
 
-use crate::leads::{look, obstacle, out_of_memory, post};
-use crate::stage::{Job, Next, Stage, Turn};
+use crate::ends::obstacle;
+use crate::leads::out_of_memory;
+use crate::reach::reach;
+use crate::stage::{Job, Load, Next, Stage};
+use crate::turn::Turn;
+use cl_config::Config;
 use cl_delegation::Home;
-use cl_hierarchy::{ClassRow, Draft, DraftRefused};
+use cl_findings::Obstacle;
+use cl_hierarchy::{ClassRow, Draft, DraftRefused, Frame};
 use cl_model::{ErrorKind, Told};
-use cl_registry::laws::recorded_is_named;
-use cl_registry::{Finding, Obstacle};
 use std::alloc::Global;
 use std::sync::Arc;
 
+/// Looks up what the path is at.
+pub(crate) fn look<T: Told>(alloc: Global, job: Job<T>) -> Next<T>
+    requires job { IsJob T.told job.path.config job }
+    ensures leads { LeadsAt T.told Fresh job (HoldsOn job) result }
+    ensures looks { LooksBy job result.stage result.turn }
+    ensures plain { IsPlain result.turn }
+    ensures derives { Derives IsNone (frames_of job.path) result.stage }
+{
+    match job.path.at_name().try_clone(alloc) {
+        Err(_) => out_of_memory(job.q, job.request),
+        Ok(name) => {
+            let loader = job.path.at_loader();
+            Next {
+                stage: Stage::Load(Load::Looking(job)),
+                turn: Turn::Look(loader, name),
+            }
+        }
+    }
+}
+
 /// Derives what is looked for from the bytes of its home.
 pub(crate) fn derive<T: Told>(alloc: Global, job: Job<T>, home: Home<T>) -> Next<T>
-    requires job { IsJob job.path.config job }
+    requires job { IsJob T.told job.path.config job }
     requires home { IsSought job.path home }
     requires off { is_on job.path (class home.name home.place) ≡ false }
-    ensures leads { LeadsAt T.told phases.Homing job (HoldsOn job.path) result }
-    ensures no_fault { PostsNoFault result.turn }
-    ensures reads { ReadsNothing result.turn }
+    ensures leads { LeadsAt T.told Homing job (HoldsOn job) result }
+    ensures plain { IsPlain result.turn }
+    ensures derives { Derives (IsAtHome home) (frames_of job.path) result.stage }
 {
     // brings what a home keeps
     let _ = home.config();
     match Draft::read(alloc, home) {
-        Err(DraftRefused::Memory(_)) => out_of_memory(job),
-        Err(DraftRefused::Unreadable(unreadable)) => obstacle(
-            job,
-            Obstacle::Unreadable(unreadable),
-        ),
+        Err(DraftRefused::Memory(_)) => out_of_memory(job.q, job.request),
+        Err(DraftRefused::Unreadable(unreadable)) => {
+            obstacle(alloc, job, Obstacle::Unreadable(unreadable))
+        }
         Ok(draft) => follow_draft(alloc, job, draft),
     }
 }
 
 /// The file of what is looked for was read: its direct supertypes come first.
 fn follow_draft<T: Told>(alloc: Global, job: Job<T>, draft: Draft<T>) -> Next<T>
-    requires job { IsJob job.path.config job }
+    requires job { IsJob T.told job.path.config job }
     requires home { IsSought job.path draft.home }
     requires off { is_on job.path draft.class ≡ false }
-    ensures leads { LeadsAt T.told phases.Homing job (HoldsOn job.path) result }
-    ensures no_fault { PostsNoFault result.turn }
-    ensures reads { ReadsNothing result.turn }
+    ensures leads { LeadsAt T.told Homing job (HoldsOn job) result }
+    ensures plain { IsPlain result.turn }
+    ensures derives { Derives (λ c. c ≡ draft.class) (frames_of job.path) result.stage }
 {
     // brings what a draft keeps
     let _ = draft.home();
     if draft.supertypes() == 0 {
         // brings what a path keeps
         let _ = job.path.at_name();
-        return define(job, draft);
+        return define(alloc, job, Frame::new(alloc, draft));
     }
     descend(alloc, job, draft)
 }
 
 /// What is looked for waits for its first supertype.
 fn descend<T: Told>(alloc: Global, job: Job<T>, draft: Draft<T>) -> Next<T>
-    requires job { IsJob job.path.config job }
+    requires job { IsJob T.told job.path.config job }
     requires home { IsSought job.path draft.home }
     requires off { is_on job.path draft.class ≡ false }
     requires waits { IsSome (wanted (frame_of (fresh draft))) }
     requires few { length (supers (file_of draft.file)) ≤ most }
-    ensures leads { LeadsAt T.told phases.Homing job (HoldsOn job.path) result }
-    ensures no_fault { PostsNoFault result.turn }
-    ensures reads { ReadsNothing result.turn }
+    ensures leads { LeadsAt T.told Homing job (HoldsOn job) result }
+    ensures plain { IsPlain result.turn }
+    ensures derives { Derives (λ c. c ≡ draft.class) (frames_of job.path) result.stage }
 {
     // brings what a path keeps
     let _ = job.path.at_name();
     let Job {
         q,
         request,
+        target,
         mut path,
     } = job;
     match path.push(draft) {
         Ok(()) => {}
-        Err(_) => return out_of_memory(Job { q, request, path }),
+        Err(_) => return out_of_memory(q, request),
     }
     // brings what a path keeps
     let _ = path.at_name();
-    look(alloc, Job { q, request, path })
+    look(
+        alloc,
+        Job {
+            q,
+            request,
+            target,
+            path,
+        },
+    )
 }
 
-/// Asks for the record of a class with its home.
-fn define<T: Told>(job: Job<T>, draft: Draft<T>) -> Next<T>
-    requires job { IsJob job.path.config job }
-    ensures { DefinesBy job draft result.stage result.turn }
+/// Asks for the record of a class with its home. Its frame is kept, so that a refusal can be told.
+fn define<T: Told>(alloc: Global, job: Job<T>, whole: Frame<T>) -> Next<T>
+    ensures { DefinesBy job whole result }
 {
-    match Arc::try_clone(draft.home()) {
-        Err(_) => out_of_memory(job),
-        Ok(home) => Next {
-            stage: Stage::Defining(job, home),
+    match whole.draft().try_clone(alloc) {
+        Err(_) => out_of_memory(job.q, job.request),
+        Ok(draft) => Next {
+            stage: Stage::Load(Load::Defining(job, whole)),
             turn: Turn::Define(draft),
         },
     }
 }
 
-/// The class of this home is recorded by its loader, as this row.
+/// The class of this frame is recorded by its loader, as this row.
 pub(crate) fn take_defined<T: Told>(
     alloc: Global,
+    config: &Arc<Config>,
     job: Job<T>,
-    home: Arc<Home<T>>,
+    whole: Frame<T>,
     row: Arc<ClassRow<T>>,
 ) -> Next<T>
-    requires job { IsJob job.path.config job }
-    requires home { IsSought job.path home.value }
-    ensures leads { LeadsAt T.told phases.Defining job (FindsBy job.path home.value row.value) result }
-    ensures no_fault { PostsNoFault result.turn }
-    ensures reads { ReadsNothing result.turn }
+    requires job { IsJob T.told config.now.value job }
+    requires whole { IsWhole T.told job.path whole }
+    ensures leads { LeadsAt T.told Defining job (FindsBy job whole.draft.home row.value) result }
+    ensures plain { IsPlain result.turn }
+    ensures derives { Derives IsNone (frames_of job.path) result.stage }
 {
+    let home = whole.draft().home();
     if home.place() == job.path.at_loader() {
-        go_on(alloc, job, row)
-    } else {
-        initiate(job, home, &row)
+        return go_on(alloc, config, job, row);
+    }
+    match Arc::try_clone(home) {
+        Err(_) => out_of_memory(job.q, job.request),
+        Ok(home) => initiate(job, home, &row),
     }
 }
 
 /// What is looked for is recorded at its home, another loader than the one that was asked: that one is
 /// recorded, too.
 pub(crate) fn initiate<T: Told>(job: Job<T>, home: Arc<Home<T>>, row: &ClassRow<T>) -> Next<T>
-    requires job { IsJob job.path.config job }
+    requires job { IsJob T.told job.path.config job }
     requires home { IsSought job.path home.value }
     requires other { home.value.place ≢ at_loader job.path }
-    ensures leads { LeadsAt T.told phases.Defining job (FindsBy job.path home.value row.now) result }
-    ensures no_fault { PostsNoFault result.turn }
-    ensures reads { ReadsNothing result.turn }
+    ensures leads { LeadsAt T.told Defining job (FindsBy job home.value row.now) result }
+    ensures plain { IsPlain result.turn }
+    ensures derives { Derives IsNone (frames_of job.path) result.stage }
 {
     // brings what a home keeps, and what a path keeps
     let _ = home.config();
@@ -141,29 +175,38 @@ pub(crate) fn initiate<T: Told>(job: Job<T>, home: Arc<Home<T>>, row: &ClassRow<
     // a home has its own class alone, unless the source told two things: one that tells a content
     // never does
     if row.class().loader != home.place() {
-        return out_of_memory(job);
+        return out_of_memory(job.q, job.request);
     }
-    Next {
-        stage: Stage::Initiating(job),
-        turn: Turn::Initiate(home),
+    match Arc::try_clone(&home) {
+        Err(_) => out_of_memory(job.q, job.request),
+        Ok(kept) => Next {
+            stage: Stage::Load(Load::Initiating(job, kept)),
+            turn: Turn::Initiate(home),
+        },
     }
 }
 
 /// What is looked for is recorded where it was asked for: the class that waits for it goes on, or it is
-/// the answer.
-pub(crate) fn go_on<T: Told>(alloc: Global, job: Job<T>, row: Arc<ClassRow<T>>) -> Next<T>
-    requires job { IsJob job.path.config job }
-    ensures leads { LeadsAt T.told phases.Initiating job (Finds job.path row.value) result }
-    ensures own { job.path.frames ≡ [] → PostsClass row.value.class result.turn }
-    ensures no_fault { PostsNoFault result.turn }
-    ensures reads { ReadsNothing result.turn }
+/// what the request loads.
+pub(crate) fn go_on<T: Told>(
+    alloc: Global,
+    config: &Arc<Config>,
+    job: Job<T>,
+    row: Arc<ClassRow<T>>,
+) -> Next<T>
+    requires job { IsJob T.told config.now.value job }
+    ensures leads { LeadsAt T.told Initiating job (Finds job row.value) result }
+    ensures own { IsOwnTarget job.target → job.path.frames ≡ []
+        → GoesOnWith job.request row.value.class result.turn }
+    ensures plain { IsPlain result.turn }
+    ensures derives { Derives IsNone (frames_of job.path) result.stage }
 {
     // no registry gives a row of another name
     if row.class().name != *job.path.at_name() {
-        return out_of_memory(job);
+        return out_of_memory(job.q, job.request);
     }
     if job.path.is_empty() {
-        return answer(alloc, job, &row);
+        return reach(alloc, config, job, row);
     }
     match job.path.misfit(&row) {
         Some(kind) => reject(alloc, job, row, kind),
@@ -171,47 +214,30 @@ pub(crate) fn go_on<T: Told>(alloc: Global, job: Job<T>, row: Arc<ClassRow<T>>) 
     }
 }
 
-/// What the request loads is recorded.
-fn answer<T: Told>(alloc: Global, job: Job<T>, row: &ClassRow<T>) -> Next<T>
-    requires job { IsJob job.path.config job }
-    requires alone { job.path.frames ≡ [] }
-    ensures leads { LeadsAt T.told phases.Initiating job (Finds job.path row.now) result }
-    ensures own { PostsClass row.now.class result.turn }
-    ensures no_fault { PostsNoFault result.turn }
-    ensures reads { ReadsNothing result.turn }
-{
-    // brings that what is recorded was defined by a loader of the configuration
-    recorded_is_named();
-    match row.class().try_clone(alloc) {
-        Err(_) => out_of_memory(job),
-        Ok(class) => post(job.q, Finding::class(job.request, class)),
-    }
-}
-
 /// The recorded class does not fit as the supertype that is looked for.
 fn reject<T: Told>(alloc: Global, job: Job<T>, row: Arc<ClassRow<T>>, kind: ErrorKind) -> Next<T>
-    requires job { IsJob job.path.config job }
+    requires job { IsJob T.told job.path.config job }
     requires name { row.value.class.name ≡ at_name job.path }
     requires misfit { IsMisfit job.path row.value kind }
-    ensures leads { LeadsAt T.told phases.Initiating job (Finds job.path row.value) result }
-    ensures no_fault { PostsNoFault result.turn }
-    ensures reads { ReadsNothing result.turn }
+    ensures leads { LeadsAt T.told Initiating job (Finds job row.value) result }
+    ensures plain { IsPlain result.turn }
+    ensures past { IsPast result.stage }
 {
     match row.class().try_clone(alloc) {
-        Err(_) => out_of_memory(job),
-        Ok(class) => obstacle(job, Obstacle::Misfit(row, class, kind)),
+        Err(_) => out_of_memory(job.q, job.request),
+        Ok(class) => obstacle(alloc, job, Obstacle::Misfit(row, class, kind)),
     }
 }
 
 /// The class that waits accepts the recorded one as its supertype.
 fn accept<T: Told>(alloc: Global, job: Job<T>, row: &ClassRow<T>) -> Next<T>
-    requires job { IsJob job.path.config job }
+    requires job { IsJob T.told job.path.config job }
     requires waits { job.path.frames ≢ [] }
     requires name { row.now.class.name ≡ at_name job.path }
     requires fits { misfit_under job.path.frames row.now.class (file_of row.now.file) ≡ None }
-    ensures leads { LeadsAt T.told phases.Initiating job (Finds job.path row.now) result }
-    ensures no_fault { PostsNoFault result.turn }
-    ensures reads { ReadsNothing result.turn }
+    ensures leads { LeadsAt T.told Initiating job (Finds job row.now) result }
+    ensures plain { IsPlain result.turn }
+    ensures derives { Derives IsNone (frames_of job.path) result.stage }
 {
     // brings what a path keeps, and that the row's file is what its bytes spell
     let _ = job.path.at_name();
@@ -219,17 +245,23 @@ fn accept<T: Told>(alloc: Global, job: Job<T>, row: &ClassRow<T>) -> Next<T>
     let Job {
         q,
         request,
+        target,
         mut path,
     } = job;
     let accepted = match path.accept(row) {
-        Err(_) => return out_of_memory(Job { q, request, path }),
+        Err(_) => return out_of_memory(q, request),
         Ok(accepted) => accepted,
     };
     // brings what a path keeps
     let _ = path.at_name();
-    let job = Job { q, request, path };
+    let job = Job {
+        q,
+        request,
+        target,
+        path,
+    };
     match accepted {
         None => look(alloc, job),
-        Some(frame) => define(job, frame.into_draft()),
+        Some(whole) => define(alloc, job, whole),
     }
 }

@@ -2,13 +2,22 @@
 #![tactic(auto)]
 
 mod accept;
+mod cited;
+mod ends;
+mod expected;
 mod leads;
-mod phase;
+mod link;
+mod link_replies;
+mod load_replies;
+mod member;
+mod reach;
+mod reference;
+mod resolution_replies;
 mod search;
 mod stage;
 mod step;
 mod task;
+mod turn;
 
-pub use phase::Phase;
-pub use stage::{Reply, Turn};
 pub use task::{Task, TaskRefused};
+pub use turn::{Reply, Turn};

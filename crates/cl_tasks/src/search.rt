@@ -1,35 +1,39 @@
-//! From a look that found no record to the home of what is looked for.
+//! From a look that found no record to a home.
 
-ghost use Rattle.std.specs.Prelude.{◌≡◌, ◌<◌, Some, IfOk, length};
+ghost use Rattle.std.specs.Prelude.{◌≡◌, ◌<◌, Some, length, IfOk};
 ghost use Rattle.cl_delegation.specs.Searches.{begun, next_of};
-ghost use Rattle.cl_hierarchy.specs.Paths.{at_loader, at_name};
-ghost use Rattle.cl_registry.specs.Findings.{IsSought};
-ghost use Rattle.cl_tasks.specs.Stages.{IsJob, IsHoming};
+ghost use Rattle.cl_findings.specs.Loads.{IsSought};
+ghost use Rattle.cl_hierarchy.specs.Paths.{at_loader, at_name, frames_of};
+ghost use Rattle.cl_tasks.specs.Deriving.{Derives, IsSoughtHere, IsUnfound};
 ghost use Rattle.cl_tasks.specs.Follows.{PostsNoFault};
-ghost use Rattle.cl_tasks.specs.Steps.{FindsHome, HoldsOn, LeadsAt, ReadsNothing, ReadsOn, Seeks, probes_left, reads_left};
-ghost use Rattle.cl_tasks.specs.declared.phase.Phase.TheVariants as phases;
+ghost use Rattle.cl_tasks.specs.Measures.{Looking, Reading, Homing};
+ghost use Rattle.cl_tasks.specs.Stages.{IsJob, IsHoming, probes_left};
+ghost use Rattle.cl_tasks.specs.Steps.{FindsHome, HoldsOn, IsPlain, LeadsAt, ReadsOn, Seeks, reads_left};
 
 use crate::accept::{derive, initiate};
-use crate::leads::{obstacle, out_of_memory};
-use crate::stage::{Job, Next, Stage, Turn};
+use crate::ends::obstacle;
+use crate::leads::out_of_memory;
+use crate::stage::{Job, Load, Next, Stage};
+use crate::turn::Turn;
 use cl_delegation::{Home, Search};
+use cl_findings::Obstacle;
 use cl_hierarchy::ClassRow;
 use cl_model::{Class, Told};
-use cl_registry::Obstacle;
 use cl_source::Probe;
 use std::alloc::{AllocError, Global};
 use std::sync::Arc;
 
 /// Begins the search for what the path is at.
 pub(crate) fn begin_search<T: Told>(alloc: Global, job: Job<T>) -> Next<T>
-    requires job { IsJob job.path.config job }
-    ensures leads { LeadsAt T.told phases.Looking job (HoldsOn job.path) result }
+    requires job { IsJob T.told job.path.config job }
+    ensures leads { LeadsAt T.told Looking job (HoldsOn job) result }
     ensures no_fault { PostsNoFault result.turn }
+    ensures derives { Derives (IsSoughtHere job.path) (frames_of job.path) result.stage }
 {
     // brings that there are few loaders
     let _ = job.path.config().count();
     match search_for(alloc, &job) {
-        Err(_) => out_of_memory(job),
+        Err(_) => out_of_memory(job.q, job.request),
         Ok(search) => pursue(alloc, job, search),
     }
 }
@@ -37,7 +41,8 @@ pub(crate) fn begin_search<T: Told>(alloc: Global, job: Job<T>) -> Next<T>
 /// The search for what the path is at, which has asked nobody yet.
 fn search_for<T: Told>(alloc: Global, job: &Job<T>) -> Result<Search<T>, AllocError>
     requires { at_loader job.now.path < length job.now.path.config.loaders }
-    ensures { IfOk result (λ s. s ≡ begun job.now.path.config (at_loader job.now.path) (at_name job.now.path)) }
+    ensures { IfOk result (λ s. s ≡ begun job.now.path.config (at_loader job.now.path)
+        (at_name job.now.path)) }
 {
     let name = job.path.at_name().try_clone(alloc)?;
     let config = Arc::try_clone(job.path.config())?;
@@ -51,12 +56,13 @@ pub(crate) fn take_probe<T: Told>(
     search: Search<T>,
     probe: Probe<T>,
 ) -> Next<T>
-    requires job { IsJob job.path.config job }
+    requires job { IsJob T.told job.path.config job }
     requires search { Seeks job search }
     requires next { next_of search ≡ Some probe.loader }
     requires name { probe.name ≡ at_name job.path }
-    ensures leads { ReadsOn T.told (probes_left search) job (HoldsOn job.path) result }
+    ensures leads { ReadsOn T.told (probes_left search) job (HoldsOn job) result }
     ensures no_fault { PostsNoFault result.turn }
+    ensures derives { Derives (IsSoughtHere job.path) (frames_of job.path) result.stage }
 {
     let mut search = search;
     match search.take(probe) {
@@ -67,20 +73,21 @@ pub(crate) fn take_probe<T: Told>(
 
 /// Reads what the search asks next, or goes on with what it ended in.
 fn pursue<T: Told>(alloc: Global, job: Job<T>, search: Search<T>) -> Next<T>
-    requires job { IsJob job.path.config job }
+    requires job { IsJob T.told job.path.config job }
     requires search { Seeks job search }
-    ensures leads { ReadsOn T.told (reads_left search) job (HoldsOn job.path) result }
+    ensures leads { ReadsOn T.told (reads_left search) job (HoldsOn job) result }
     ensures no_fault { PostsNoFault result.turn }
+    ensures derives { Derives (IsSoughtHere job.path) (frames_of job.path) result.stage }
 {
     match search.next_probe() {
         None => match search.home() {
-            Err(unfound) => obstacle(job, Obstacle::Missing(unfound)),
+            Err(unfound) => obstacle(alloc, job, Obstacle::Missing(unfound)),
             Ok(home) => at_home(alloc, job, home),
         },
         Some(loader) => match job.path.at_name().try_clone(alloc) {
-            Err(_) => out_of_memory(job),
+            Err(_) => out_of_memory(job.q, job.request),
             Ok(name) => Next {
-                stage: Stage::Searching(job, search),
+                stage: Stage::Load(Load::Searching(job, search)),
                 turn: Turn::Read(loader, name),
             },
         },
@@ -90,14 +97,14 @@ fn pursue<T: Told>(alloc: Global, job: Job<T>, search: Search<T>) -> Next<T>
 /// The home of what is looked for was found: it is looked up there, unless that is the loader that was
 /// asked.
 fn at_home<T: Told>(alloc: Global, job: Job<T>, home: Home<T>) -> Next<T>
-    requires job { IsJob job.path.config job }
+    requires job { IsJob T.told job.path.config job }
     requires home { IsSought job.path home }
-    ensures leads { LeadsAt T.told phases.Reading job (HoldsOn job.path) result }
-    ensures no_fault { PostsNoFault result.turn }
-    ensures reads { ReadsNothing result.turn }
+    ensures leads { LeadsAt T.told Reading job (HoldsOn job) result }
+    ensures plain { IsPlain result.turn }
+    ensures derives { Derives (IsSoughtHere job.path) (frames_of job.path) result.stage }
 {
     let class = match home.name().try_clone(alloc) {
-        Err(_) => return out_of_memory(job),
+        Err(_) => return out_of_memory(job.q, job.request),
         Ok(name) => Class {
             name,
             loader: home.place(),
@@ -106,14 +113,14 @@ fn at_home<T: Told>(alloc: Global, job: Job<T>, home: Home<T>) -> Next<T>
     // brings what a home keeps
     let _ = home.config();
     if job.path.has(&class) {
-        return obstacle(job, Obstacle::Circle(home));
+        return obstacle(alloc, job, Obstacle::Circle(home));
     }
     if class.loader == job.path.at_loader() {
         return derive(alloc, job, home);
     }
     let Class { name, loader } = class;
     Next {
-        stage: Stage::Homing(job, home),
+        stage: Stage::Load(Load::Homing(job, home)),
         turn: Turn::Look(loader, name),
     }
 }
@@ -125,18 +132,18 @@ pub(crate) fn take_look<T: Told>(
     home: Home<T>,
     row: Option<Arc<ClassRow<T>>>,
 ) -> Next<T>
-    requires job { IsJob job.path.config job }
+    requires job { IsJob T.told job.path.config job }
     requires home { IsHoming job home }
-    ensures leads { LeadsAt T.told phases.Homing job (FindsHome job.path home row (λ r. r.value)) result }
-    ensures no_fault { PostsNoFault result.turn }
-    ensures reads { ReadsNothing result.turn }
+    ensures leads { LeadsAt T.told Homing job (FindsHome job home row (λ r. r.value)) result }
+    ensures plain { IsPlain result.turn }
+    ensures derives { Derives (IsUnfound home row) (frames_of job.path) result.stage }
 {
     // brings what a path keeps
     let _ = job.path.at_name();
     match row {
         None => derive(alloc, job, home),
         Some(row) => match Arc::new(alloc, home) {
-            Err(_) => out_of_memory(job),
+            Err(_) => out_of_memory(job.q, job.request),
             Ok(home) => initiate(job, home, &row),
         },
     }

@@ -1,59 +1,108 @@
+use crate::turn::Turn;
 use cl_delegation::{Home, Search};
-use cl_hierarchy::{ClassRow, Draft, Path};
-use cl_model::{LoaderId, Request, Told};
-use cl_names::Name;
-use cl_registry::Finding;
-use cl_source::{Probe, SourceFault};
+use cl_findings::{Finding, Target};
+use cl_hierarchy::{ClassRow, Equalities, Frame, Lineage, Path};
+use cl_members::Found;
+use cl_model::{Request, Told};
 use std::sync::Arc;
 
-/// What a task is told: the answer or the refusal of the call that its last turn asked for.
-#[derive(Drop)]
-pub enum Reply<T: Told> {
-    /// To be the first.
-    Start,
-    Looked(Option<Arc<ClassRow<T>>>),
-    Probed(Probe<T>),
-    Defined(Arc<ClassRow<T>>),
-    Initiated(Arc<ClassRow<T>>),
-    /// Memory was refused.
-    Memory,
-    SourceFault(SourceFault),
-}
-
-/// The call that a task asks for.
-#[derive(Drop)]
-pub enum Turn<T: Told> {
-    /// To look a name up at a loader.
-    Look(LoaderId, Name),
-    /// To read a name of a loader.
-    Read(LoaderId, Name),
-    /// To record a class with its home.
-    Define(Draft<T>),
-    /// To record the loader that was asked for a class.
-    Initiate(Arc<Home<T>>),
-    /// To post the answer. It is the last.
-    Post(Finding<T>),
-}
-
-/// A request with its number, and how far its derivation went.
+/// A request with its number, and how far the derivation went of the class that is loaded for it: its own, or that of its
+/// reference.
 #[derive(Drop)]
 pub struct Job<T: Told> {
     pub q: u32,
     pub request: Request,
+    pub target: Target<T>,
     pub path: Path<T>,
 }
 
-/// What a task is at.
+/// A load (JVMS SE 8, 5.3, 5.3.5).
 #[derive(Drop)]
-pub enum Stage<T: Told> {
+pub enum Load<T: Told> {
     Fresh(Job<T>),
     Looking(Job<T>),
     Searching(Job<T>, Search<T>),
     /// What is looked for was found at this home, which is another loader than the one that was asked.
     Homing(Job<T>, Home<T>),
-    /// The class of this home is being recorded.
-    Defining(Job<T>, Arc<Home<T>>),
-    Initiating(Job<T>),
+    /// This class, which has accepted all its supertypes, is being recorded.
+    Defining(Job<T>, Frame<T>),
+    /// The loader that was asked is being recorded for the class of this home.
+    Initiating(Job<T>, Arc<Home<T>>),
+}
+
+/// A request to resolve an entry of the pool of a class, which is recorded (JVMS SE 8, 5.4.3).
+#[derive(Drop)]
+pub struct Entry<T: Told> {
+    pub q: u32,
+    pub request: Request,
+    pub index: u16,
+    /// The class whose pool has the entry.
+    pub d: Arc<ClassRow<T>>,
+}
+
+/// A resolution whose request's class cannot be loaded.
+#[derive(Drop)]
+pub struct Failed<T: Told> {
+    pub q: u32,
+    pub request: Request,
+    pub finding: Finding<T>,
+}
+
+/// A member that an entry asks for, with its loading constraints.
+#[derive(Drop)]
+pub struct Member<T: Told> {
+    pub entry: Entry<T>,
+    pub found: Found<T>,
+    pub equalities: Arc<Equalities<T>>,
+}
+
+/// A resolution whose request's class is recorded, or cannot be loaded (JVMS SE 8, 5.4.3).
+#[derive(Drop)]
+pub enum Resolution<T: Told> {
+    /// The class cannot be loaded; it is looked for once more.
+    Checking(Failed<T>),
+    LookingReference(Entry<T>),
+    /// The entry asks for a member of this class.
+    TracingOwn(Entry<T>, Arc<ClassRow<T>>),
+    TracingNamed(Entry<T>, Arc<Lineage<T>>, Arc<ClassRow<T>>),
+    /// The equality at this place is being imposed.
+    Imposing(Member<T>, usize),
+    Settling(Entry<T>),
+}
+
+/// A request to link a class, which is recorded (JVMS SE 8, 5.4).
+#[derive(Drop)]
+pub struct Goal<T: Told> {
+    pub q: u32,
+    pub request: Request,
+    pub class: Arc<ClassRow<T>>,
+}
+
+/// The classes of a lineage, those before this place prepared.
+#[derive(Drop)]
+pub struct Chain<T: Told> {
+    pub goal: Goal<T>,
+    pub whole: Arc<Lineage<T>>,
+    pub place: usize,
+}
+
+/// A link whose request's class is recorded (JVMS SE 8, 5.4.2).
+#[derive(Drop)]
+pub enum Link<T: Told> {
+    LookingPrepared(Goal<T>),
+    TracingWhole(Goal<T>),
+    Tracing(Chain<T>),
+    /// The equality at this place is being imposed.
+    Imposing(Chain<T>, Arc<Equalities<T>>, usize),
+    Marking(Chain<T>, Arc<Equalities<T>>),
+}
+
+/// What a task is at.
+#[derive(Drop)]
+pub enum Stage<T: Told> {
+    Load(Load<T>),
+    Resolve(Resolution<T>),
+    Link(Link<T>),
     /// The request of this number has its answer.
     Done(u32),
 }

@@ -1,83 +1,151 @@
-ghost use Rattle.std.specs.Prelude.{MatchBool};
-ghost use Rattle.cl_tasks.specs.Stages.{task_at, IsStage};
-ghost use Rattle.cl_tasks.specs.Turns.{AnswersOwn, Expects, ReadsUnrecorded};
-ghost use Rattle.cl_tasks.specs.Follows.{Refuses, Tells, refusal};
-ghost use Rattle.cl_tasks.specs.Steps.{StepsOn, config_of, staged};
+//! A step: what a task is at, and the reply to what it asked for.
 
-use crate::accept::{go_on, take_defined};
-use crate::leads::{blame_source, look, out_of_memory};
-use crate::search::{begin_search, take_look, take_probe};
-use crate::stage::{Next, Reply, Stage};
+ghost use Rattle.std.specs.Prelude.{◌≡◌};
+ghost use Rattle.cl_config.specs.Views.{Configured};
+ghost use Rattle.cl_tasks.specs.Stages.{IsLinking, IsLoading, IsResolving, IsStage, linking_at, loading_at, resolving_at, task_at};
+ghost use Rattle.cl_tasks.specs.Steps.{Steps};
+ghost use Rattle.cl_tasks.specs.Turns.{Expects};
+
+use crate::link_replies::{imposed as imposed_link, looked_prepared, marked, traced, traced_whole};
+use crate::load_replies::{begin, defined, initiated, looked, looked_home, probed};
+use crate::resolution_replies::{
+    checked, imposed, looked_reference, settled, traced_named, traced_own,
+};
+use crate::stage::{Link, Load, Next, Resolution, Stage};
+use crate::turn::Reply;
+use cl_config::Config;
 use cl_model::Told;
 use std::alloc::Global;
+use std::sync::Arc;
 
-/// Whether a reply is one to what a task at this stage asked for.
-pub(crate) fn expects<T: Told>(stage: &Stage<T>, reply: &Reply<T>) -> bool
-    requires { IsStage (config_of stage.now) stage.now }
-    ensures { MatchBool result (Expects (staged stage.now) reply.now) (Expects (staged stage.now) reply.now → ⊥) }
+/// The number of the request.
+pub(crate) fn number<T: Told>(stage: &Stage<T>) -> u32
+    ensures { (c : Configured) → result ≡ (task_at c stage.now).q }
 {
-    match (stage, reply) {
-        (Stage::Fresh(_), Reply::Start) => true,
-        (Stage::Looking(_), Reply::Looked(_)) => true,
-        (Stage::Searching(job, search), Reply::Probed(probe)) => {
-            search.next_probe() == Some(probe.loader()) && *probe.name() == *job.path.at_name()
-        }
-        (Stage::Searching(_, _), Reply::SourceFault(_)) => true,
-        (Stage::Homing(_, _), Reply::Looked(_)) => true,
-        (Stage::Defining(_, _), Reply::Defined(_)) => true,
-        (Stage::Initiating(_), Reply::Initiated(_)) => true,
-        (Stage::Done(_), Reply::Memory) => false,
-        (_, Reply::Memory) => true,
-        _ => false,
+    match stage {
+        Stage::Load(load) => number_of_load(load),
+        Stage::Resolve(resolution) => number_of_resolution(resolution),
+        Stage::Link(link) => number_of_link(link),
+        Stage::Done(q) => *q,
+    }
+}
+
+fn number_of_load<T: Told>(load: &Load<T>) -> u32
+    ensures { (c : Configured) → result ≡ (loading_at c load.now).q }
+{
+    match load {
+        Load::Fresh(job) => job.q,
+        Load::Looking(job) => job.q,
+        Load::Searching(job, _) => job.q,
+        Load::Homing(job, _) => job.q,
+        Load::Defining(job, _) => job.q,
+        Load::Initiating(job, _) => job.q,
+    }
+}
+
+fn number_of_resolution<T: Told>(resolution: &Resolution<T>) -> u32
+    ensures { (c : Configured) → result ≡ (resolving_at c resolution.now).q }
+{
+    match resolution {
+        Resolution::Checking(failed) => failed.q,
+        Resolution::LookingReference(entry) => entry.q,
+        Resolution::TracingOwn(entry, _) => entry.q,
+        Resolution::TracingNamed(entry, _, _) => entry.q,
+        Resolution::Imposing(member, _) => member.entry.q,
+        Resolution::Settling(entry) => entry.q,
+    }
+}
+
+fn number_of_link<T: Told>(link: &Link<T>) -> u32
+    ensures { (c : Configured) → result ≡ (linking_at c link.now).q }
+{
+    match link {
+        Link::LookingPrepared(goal) => goal.q,
+        Link::TracingWhole(goal) => goal.q,
+        Link::Tracing(chain) => chain.goal.q,
+        Link::Imposing(chain, _, _) => chain.goal.q,
+        Link::Marking(chain, _) => chain.goal.q,
     }
 }
 
 /// The turn that a reply leads to.
-pub(crate) fn step<T: Told>(alloc: Global, stage: Stage<T>, reply: Reply<T>) -> Next<T>
-    requires kept { IsStage (config_of stage) stage }
-    requires expects { Expects (staged stage) reply }
-    ensures leads { StepsOn T.told (staged stage) reply result }
-    ensures refused { Refuses (refusal (staged stage) reply) result.turn }
-    ensures reads { ReadsUnrecorded reply result.turn }
-    ensures own { AnswersOwn (staged stage) (task_at (config_of stage) result.stage) reply result.turn }
+pub(crate) fn step<T: Told>(
+    alloc: Global,
+    config: &Arc<Config>,
+    stage: Stage<T>,
+    reply: Reply<T>,
+) -> Next<T>
+    requires kept { IsStage T.told config.now.value stage }
+    requires expects { Expects (task_at config.now.value stage) reply }
+    ensures { Steps T.told (task_at config.now.value stage) reply result }
 {
     match stage {
-        Stage::Fresh(job) => match reply {
-            Reply::Start => look(alloc, job),
-            Reply::Memory => out_of_memory(job),
-            _ => unreachable!(),
-        },
-        Stage::Looking(job) => match reply {
-            Reply::Looked(Some(row)) => {
-                // brings what a path keeps
-                let _ = job.path.at_name();
-                go_on(alloc, job, row)
-            }
-            Reply::Looked(None) => begin_search(alloc, job),
-            Reply::Memory => out_of_memory(job),
-            _ => unreachable!(),
-        },
-        Stage::Searching(job, search) => match reply {
-            Reply::Probed(probe) => take_probe(alloc, job, search, probe),
-            Reply::SourceFault(fault) => blame_source(job, search, fault),
-            Reply::Memory => out_of_memory(job),
-            _ => unreachable!(),
-        },
-        Stage::Homing(job, home) => match reply {
-            Reply::Looked(row) => take_look(alloc, job, home, row),
-            Reply::Memory => out_of_memory(job),
-            _ => unreachable!(),
-        },
-        Stage::Defining(job, home) => match reply {
-            Reply::Defined(row) => take_defined(alloc, job, home, row),
-            Reply::Memory => out_of_memory(job),
-            _ => unreachable!(),
-        },
-        Stage::Initiating(job) => match reply {
-            Reply::Initiated(row) => go_on(alloc, job, row),
-            Reply::Memory => out_of_memory(job),
-            _ => unreachable!(),
-        },
+        Stage::Load(load) => step_of_load(alloc, config, load, reply),
+        Stage::Resolve(resolution) => step_of_resolution(alloc, config, resolution, reply),
+        Stage::Link(link) => step_of_link(alloc, config, link, reply),
         Stage::Done(_) => unreachable!(),
+    }
+}
+
+fn step_of_load<T: Told>(
+    alloc: Global,
+    config: &Arc<Config>,
+    load: Load<T>,
+    reply: Reply<T>,
+) -> Next<T>
+    requires kept { IsLoading T.told config.now.value load }
+    requires expects { Expects (loading_at config.now.value load) reply }
+    ensures { Steps T.told (loading_at config.now.value load) reply result }
+{
+    match load {
+        Load::Fresh(job) => begin(alloc, job, reply),
+        Load::Looking(job) => looked(alloc, config, job, reply),
+        Load::Searching(job, search) => probed(alloc, job, search, reply),
+        Load::Homing(job, home) => looked_home(alloc, job, home, reply),
+        Load::Defining(job, whole) => defined(alloc, config, job, whole, reply),
+        Load::Initiating(job, home) => initiated(alloc, config, job, home, reply),
+    }
+}
+
+fn step_of_resolution<T: Told>(
+    alloc: Global,
+    config: &Arc<Config>,
+    resolution: Resolution<T>,
+    reply: Reply<T>,
+) -> Next<T>
+    requires kept { IsResolving T.told config.now.value resolution }
+    requires expects { Expects (resolving_at config.now.value resolution) reply }
+    ensures { Steps T.told (resolving_at config.now.value resolution) reply result }
+{
+    match resolution {
+        Resolution::Checking(failed) => checked(alloc, config, failed, reply),
+        Resolution::LookingReference(entry) => looked_reference(alloc, config, entry, reply),
+        Resolution::TracingOwn(entry, named) => traced_own(alloc, config, entry, named, reply),
+        Resolution::TracingNamed(entry, own, named) => {
+            traced_named(alloc, config, entry, own, named, reply)
+        }
+        Resolution::Imposing(member, place) => imposed(alloc, config, member, place, reply),
+        Resolution::Settling(entry) => settled(config, entry, reply),
+    }
+}
+
+fn step_of_link<T: Told>(
+    alloc: Global,
+    config: &Arc<Config>,
+    link: Link<T>,
+    reply: Reply<T>,
+) -> Next<T>
+    requires kept { IsLinking config.now.value link }
+    requires expects { Expects (linking_at config.now.value link) reply }
+    ensures { Steps T.told (linking_at config.now.value link) reply result }
+{
+    match link {
+        Link::LookingPrepared(goal) => looked_prepared(alloc, config, goal, reply),
+        Link::TracingWhole(goal) => traced_whole(alloc, config, goal, reply),
+        Link::Tracing(chain) => traced(alloc, config, chain, reply),
+        Link::Imposing(chain, list, place) => {
+            imposed_link(alloc, config, chain, list, place, reply)
+        }
+        Link::Marking(chain, list) => marked(alloc, config, chain, list, reply),
     }
 }

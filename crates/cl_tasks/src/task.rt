@@ -1,14 +1,17 @@
 ghost use Rattle.std.specs.Prelude.{◌≡◌, ◌<◌, IfOk, IfErr, IfSome, MatchBool, length};
-ghost use Rattle.cl_config.specs.Scripts.{IsLoadRequest};
+ghost use Rattle.cl_findings.specs.Findings.{loader_of};
 ghost use Rattle.cl_registry.specs.Tables.{Shown};
-ghost use Rattle.cl_registry.specs.Findings.{loader_of};
-ghost use Rattle.cl_tasks.specs.Tasks.{begun, left};
-ghost use Rattle.cl_tasks.specs.Turns.{AnswersOwn, Asks, Expects, ReadsUnrecorded, Serves};
-ghost use Rattle.cl_tasks.specs.Follows.{BackedWhere, FollowsWhere, Holds, Refuses, Tells, refusal};
+ghost use Rattle.cl_tasks.specs.Facts.{Holds};
+ghost use Rattle.cl_tasks.specs.Follows.{BackedWhere, EndsRefused, FollowsWhere, LacksOnly, Refuses, Tells, TellsNow, refusal};
+ghost use Rattle.cl_tasks.specs.Tasks.{begun};
+ghost use Rattle.cl_tasks.specs.Turns.{AnswersOwn, Asks, DerivesUnrecorded, Expects, ReadsUnrecorded, Serves};
 
-use crate::stage::{Job, Reply, Stage, Turn};
-use crate::step::{expects, step};
+use crate::expected::expects;
+use crate::stage::{Job, Load, Stage};
+use crate::step::{number, step};
+use crate::turn::{Reply, Turn};
 use cl_config::Config;
+use cl_findings::Target;
 use cl_hierarchy::Path;
 use cl_model::{Request, Told};
 use std::alloc::Global;
@@ -17,7 +20,7 @@ use std::mem;
 use std::sync::Arc;
 use thiserror::Error;
 
-/// One request, turn by turn, to its answer (JVMS SE 8, 5.3.5).
+/// One request, turn by turn, to its answer (JVMS SE 8, 5.3 to 5.4.3).
 #[derive(Drop)]
 pub struct Task<T: Told> {
     config: Arc<Config>,
@@ -25,14 +28,14 @@ pub struct Task<T: Told> {
 }
 
 impl<T: Told> Model for Task<T> {
-    ghost use Rattle.cl_tasks.specs.Tasks.{Tasked};
     ghost use Rattle.cl_tasks.specs.Stages.{IsStage, task_at};
+    ghost use Rattle.cl_tasks.specs.Tasks.{Tasked};
 
     ghost Value = { Tasked };
 
     ghost view = { λ t. task_at t.config.value t.stage };
 
-    ghost invariant = { λ t. IsStage t.config.value t.stage };
+    ghost invariant = { λ t. IsStage T.told t.config.value t.stage };
 }
 
 /// A task could not be made.
@@ -44,17 +47,17 @@ pub struct TaskRefused {
 }
 
 impl<T: Told> Task<T> {
-    /// The task of a load, which has this number in its script.
+    /// The task of a request, which has this number in its script.
     pub fn new(
         alloc: Global,
         config: Arc<Config>,
         q: u32,
         request: Request,
     ) -> Result<Task<T>, TaskRefused>
-        requires load { IsLoadRequest request }
         requires loader { loader_of request < length config.value.loaders }
         ensures fresh { IfOk result (λ t. t ≡ begun config.value q request) }
-        ensures refused { IfErr result (λ e. (e.config.value ≡ config.value) × (e.request ≡ request)) }
+        ensures refused { IfErr result (λ e. (e.config.value ≡ config.value)
+            × (e.request ≡ request)) }
     {
         let loader = request.loader();
         let name = match request.name().try_clone(alloc) {
@@ -65,9 +68,15 @@ impl<T: Told> Task<T> {
             return Err(TaskRefused { config, request });
         };
         let path = Path::new(alloc, shared, loader, name);
+        let target = Target::Own;
         Ok(Task {
             config,
-            stage: Stage::Fresh(Job { q, request, path }),
+            stage: Stage::Load(Load::Fresh(Job {
+                q,
+                request,
+                target,
+                path,
+            })),
         })
     }
 
@@ -75,22 +84,14 @@ impl<T: Told> Task<T> {
     pub fn q(&self) -> u32
         ensures { result ≡ self.now.q }
     {
-        match &self.stage {
-            Stage::Fresh(job) => job.q,
-            Stage::Looking(job) => job.q,
-            Stage::Searching(job, _) => job.q,
-            Stage::Homing(job, _) => job.q,
-            Stage::Defining(job, _) => job.q,
-            Stage::Initiating(job) => job.q,
-            Stage::Done(q) => *q,
-        }
+        number(&self.stage)
     }
 
     /// Whether a reply is one to what the task asked for.
     pub fn expects(&self, reply: &Reply<T>) -> bool
         ensures { MatchBool result (Expects self.now reply.now) (Expects self.now reply.now → ⊥) }
     {
-        expects(&self.stage, reply)
+        expects(&self.config, &self.stage, reply)
     }
 
     /// The next turn, by the reply to the last.
@@ -100,18 +101,23 @@ impl<T: Told> Task<T> {
         ensures config { self.new.config ≡ self.old.config }
         ensures asks { Asks self.new result }
         ensures serves { Serves self.old self.new result }
-        ensures left { left self.new < left self.old }
+        ensures left { self.new.left < self.old.left }
         ensures keeps { (x : Shown) → Tells x self.old reply → Holds x self.new }
-        ensures backed { BackedWhere self.old.config (λ x. Tells x self.old reply) result }
-        ensures next { IfSome self.old.request (λ r. FollowsWhere T.told self.old.config (λ x. Tells x self.old reply) r result) }
+        ensures backed { BackedWhere self.old.config (λ x. TellsNow x self.old reply) result }
+        ensures next { IfSome self.old.request (λ r. FollowsWhere T.told self.old.config
+            (λ x. Tells x self.old reply) r result) }
         ensures refused { Refuses (refusal self.old reply) result }
+        ensures linkage { EndsRefused self.old.request reply result }
+        ensures lacks { LacksOnly self.old.request reply result }
         ensures reads { ReadsUnrecorded reply result }
+        ensures derives { DerivesUnrecorded self.old self.new reply result }
         ensures own { AnswersOwn self.old self.new reply result }
     {
         let q = self.q();
         let stage = mem::replace(&mut self.stage, Stage::Done(q));
-        let next = step(alloc, stage, reply);
-        self.stage = next.stage;
+        let next = step(alloc, &self.config, stage, reply);
+        // the `Done` that stood there owns nothing
+        mem::forget(mem::replace(&mut self.stage, next.stage));
         next.turn
     }
 }

@@ -10,8 +10,8 @@ use Rattle.cl_writer.specs.Assemblies.{Listed, IsRead, IsBadAt}
 use Rattle.cl_writer.specs.Described.{described}
 use Rattle.cl_writer.specs.Listings.{listing_of, text_of}
 
--- the lines describe this file, which is a class file: the tests of its parts find no fault, and bytes spell it; it is
--- listed as these lines without those of `ref` (own choice of the text; JVMS SE 8, 4.1 of the file)
+-- the lines describe this file, which is a class file: the tests of its parts find no fault, and
+-- bytes spell it; it is listed as these lines without those of `ref` (JVMS SE 8, 4.1 of the file)
 pub record IsAssembled (lines : List Numbered) (file : Structure) : Type 0 where
   pub listed : Listed
   pub read : IsRead lines listed
@@ -20,13 +20,14 @@ pub record IsAssembled (lines : List Numbered) (file : Structure) : Type 0 where
   pub spelled : Spells (spelling file) file
   pub printed : listing_of file ≡ text_of listed
 
--- the lines describe what is no class file: this is the first fault of its parts (own choice of the text; 4.1)
+-- the lines describe what is no class file: this is the first fault of its parts (4.1)
 pub record IsInvalid (lines : List Numbered) (fault : Fault) : Type 0 where
   pub listed : Listed
   pub read : IsRead lines listed
   pub first : parts_of (described listed) ≡ Err fault
 
--- what the lines of a text, without the skipped ones, are assembled to; of want of memory nothing is said (own choice)
+-- what the lines of a text, without the skipped ones, are assembled to; of want of memory nothing
+-- is said
 abbrev pub AssembleOf : List Numbered → Result Structure AssembleFault → Type 0
 AssembleOf lines (Ok file) = IsAssembled lines file
 AssembleOf lines (Err (BadLine n)) = IsBadAt lines n

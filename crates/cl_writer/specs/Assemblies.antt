@@ -1,5 +1,4 @@
--- The lines of a class, by what they say, and which line is the first that says nothing. The form of the text is an own
--- choice, so all of these are.
+-- The lines of a class, by what they say, and which line is the first that says nothing.
 use Rattle.std.specs.Prelude.{◌≡◌, ◌⊎◌, ℕ, List, [], ◌∷◌, ◌++◌, fold, Result, Ok, Err}
 use Rattle.cl_lines.specs.Lines.{Numbered, words_of}
 use Rattle.cl_writer.specs.declared.item.Item.{Item}
@@ -12,7 +11,7 @@ use Rattle.cl_writer.specs.declared.fault.AssembleFault.{AssembleFault}
 use Rattle.cl_writer.specs.declared.fault.AssembleFault.TheVariants.{Memory, BadLine, Invalid}
 use Rattle.cl_writer.specs.Statements.{IsClassLine, Says}
 
--- what the lines of a class say, each kind in its order (own choice)
+-- what the lines of a class say, each kind in its order
 pub record Listed : Type 0 where
   pub class : ClassLine
   pub interfaces : List (List ℕ)
@@ -20,35 +19,43 @@ pub record Listed : Type 0 where
   pub methods : List MemberLine
   pub references : List Item
 
--- the same of what was read (own choice)
+-- the same of what was read
 abbrev pub lists_of : Assembly → Listed
-lists_of a = record { class = a.class; interfaces = a.interfaces.items; fields = a.fields.items; methods = a.methods.items; references = a.references.items }
+lists_of a =
+    record {
+      class = a.class;
+      interfaces = a.interfaces.items;
+      fields = a.fields.items;
+      methods = a.methods.items;
+      references = a.references.items;
+    }
 
--- the line of the class alone (own choice)
+-- the line of the class alone
 abbrev pub class_alone : ClassLine → Listed
-class_alone class = record { class = class; interfaces = []; fields = []; methods = []; references = [] }
+class_alone class =
+    record { class = class; interfaces = []; fields = []; methods = []; references = [] }
 
--- one line more stands at the end of its kind (own choice)
+-- one line more stands at the end of its kind
 abbrev pub with_said : Listed → Statement → Listed
 with_said l (Implements name) = record l { interfaces = l.interfaces ++ name ∷ [] }
 with_said l (Field line) = record l { fields = l.fields ++ line ∷ [] }
 with_said l (Method line) = record l { methods = l.methods ++ line ∷ [] }
 with_said l (Ref item) = record l { references = l.references ++ item ∷ [] }
 
--- each line says what stands at its place (own choice)
+-- each line says what stands at its place
 abbrev pub AllSay : List Numbered → List Statement → Type 0
 AllSay [] [] = Unit {0}
 AllSay [] (s ∷ ss) = ⊥
 AllSay (l ∷ ls) [] = ⊥
 AllSay (l ∷ ls) (s ∷ ss) = Says (words_of l.text) s × AllSay ls ss
 
--- the lines behind that of the class say this (own choice)
+-- the lines behind that of the class say this
 pub record IsRest (class : ClassLine) (lines : List Numbered) (listed : Listed) : Type 0 where
   pub statements : List Statement
   pub said : AllSay lines statements
   pub is : listed ≡ fold with_said (class_alone class) statements
 
--- after lines that say something, a line says nothing (own choice)
+-- after lines that say something, a line says nothing
 pub record StopsAt (lines : List Numbered) (number : ℕ) : Type 0 where
   pub front : List Numbered
   pub line : Numbered
@@ -59,26 +66,26 @@ pub record StopsAt (lines : List Numbered) (number : ℕ) : Type 0 where
   pub bad : (s : Statement) → Says (words_of line.text) s → ⊥
   pub is : number ≡ line.number
 
--- what the lines behind that of the class are read as (own choice)
+-- what the lines behind that of the class are read as
 abbrev pub RestOf : ClassLine → List Numbered → Result Assembly AssembleFault → Type 0
 RestOf class lines (Ok a) = IsRest class lines (lists_of a)
 RestOf class lines (Err (BadLine n)) = StopsAt lines n
 RestOf class lines (Err (Invalid f)) = ⊥
 RestOf class lines (Err Memory) = Unit {0}
 
--- the first line is that of the class, and the others say the rest (own choice)
+-- the first line is that of the class, and the others say the rest
 abbrev pub IsRead : List Numbered → Listed → Type 0
 IsRead [] listed = ⊥
 IsRead (l ∷ ls) listed = IsClassLine (words_of l.text) listed.class × IsRest listed.class ls listed
 
--- the first line that is wrong: 0 where there is no line (own choice)
+-- the first line that is wrong: 0 where there is no line
 abbrev pub IsBadAt : List Numbered → ℕ → Type 0
 IsBadAt [] n = n ≡ 0
 IsBadAt (l ∷ ls) n =
     ((n ≡ l.number) × ((class : ClassLine) → IsClassLine (words_of l.text) class → ⊥))
     ⊎ (((class : ClassLine) × IsClassLine (words_of l.text) class) × StopsAt ls n)
 
--- what the lines of a text, without the skipped ones, are read as (own choice)
+-- what the lines of a text, without the skipped ones, are read as
 abbrev pub LinesOf : List Numbered → Result Assembly AssembleFault → Type 0
 LinesOf lines (Ok a) = IsRead lines (lists_of a)
 LinesOf lines (Err (BadLine n)) = IsBadAt lines n

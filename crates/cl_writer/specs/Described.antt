@@ -6,7 +6,13 @@ use Rattle.cl_classfile.specs.Structure as structure
 use Rattle.cl_writer.specs.declared.item.MemberKind.{MemberKind}
 use Rattle.cl_writer.specs.declared.item.MemberKind.TheVariants as kinds
 use Rattle.cl_writer.specs.declared.item.Item.{Item}
-use Rattle.cl_writer.specs.declared.item.Item.TheVariants.{Text, Integer, Class, NameAndType, Member}
+use Rattle.cl_writer.specs.declared.item.Item.TheVariants.{
+  Text,
+  Integer,
+  Class,
+  NameAndType,
+  Member,
+}
 use Rattle.cl_writer.specs.declared.statement.MemberLine.{MemberLine}
 use Rattle.cl_writer.specs.Assemblies.{Listed}
 use Rattle.cl_writer.specs.Items.{index, items_of}
@@ -22,12 +28,20 @@ abbrev pub entry_of : List Item → Item → Entry
 entry_of items (Text text) = entries.Utf8 text
 entry_of items (Integer number) = entries.Integer number
 entry_of items (Class name) = entries.Class (index items (Text name))
-entry_of items (NameAndType name descriptor) = entries.NameAndType (index items (Text name)) (index items (Text descriptor))
-entry_of items (Member kind m) = reference_of kind (index items (Class m.class)) (index items (NameAndType m.name m.descriptor))
+entry_of items (NameAndType name descriptor) =
+    entries.NameAndType (index items (Text name)) (index items (Text descriptor))
+entry_of items (Member kind m) =
+    reference_of kind (index items (Class m.class)) (index items (NameAndType m.name m.descriptor))
 
 -- a field or a method, without attributes (4.5, 4.6)
 abbrev pub member_of : List Item → MemberLine → structure.Member
-member_of items line = record { flags = line.flags; name_index = index items (Text line.name); descriptor_index = index items (Text line.descriptor); attributes = [] }
+member_of items line =
+    record {
+      flags = line.flags;
+      name_index = index items (Text line.name);
+      descriptor_index = index items (Text line.descriptor);
+      attributes = [];
+    }
 
 -- the index of the superclass, and 0 where there is none (4.1)
 abbrev pub super_index : List Item → Option (List ℕ) → ℕ

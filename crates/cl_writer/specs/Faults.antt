@@ -5,7 +5,7 @@ use Rattle.cl_classfile.specs.Texts.{fault_text}
 use Rattle.cl_writer.specs.declared.fault.AssembleFault.{AssembleFault}
 use Rattle.cl_writer.specs.declared.fault.AssembleFault.TheVariants.{Memory, BadLine, Invalid}
 
--- the text of a fault; of what is wrong with a file, behind it that fault's own (own choice)
+-- the text of a fault; of what is wrong with a file, behind it that fault's own
 abbrev pub assemble_text : AssembleFault → List ℕ
 assemble_text Memory = codes "A0 Memory"
 assemble_text (BadLine n) = codes "A1 BadLine " ++ decimal n

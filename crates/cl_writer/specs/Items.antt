@@ -1,5 +1,26 @@
 -- The pool that the assembler makes, as entries that name one another (JVMS SE 8, 4.4).
-use Rattle.std.specs.Prelude.{◌≡◌, ℕ, ◌+◌, Bool, true, false, nat_eq, ◌&&◌, List, [], ◌∷◌, ◌++◌, fold, Option, Some, None, is_some, unwrap_or, option_to_list, if◌then◌else◌}
+use Rattle.std.specs.Prelude.{
+  ◌≡◌,
+  ℕ,
+  ◌+◌,
+  Bool,
+  true,
+  false,
+  nat_eq,
+  ◌&&◌,
+  List,
+  [],
+  ◌∷◌,
+  ◌++◌,
+  fold,
+  Option,
+  Some,
+  None,
+  is_some,
+  unwrap_or,
+  option_to_list,
+  if◌then◌else◌,
+}
 use Rattle.std.specs.Ordering.{int_eq}
 use Rattle.std.specs.List.{flat_map}
 use Rattle.std.specs.Cmp.Lexicographic.{pointwise}
@@ -8,7 +29,13 @@ use Rattle.cl_writer.specs.declared.item.MemberKind.{MemberKind}
 use Rattle.cl_writer.specs.declared.item.MemberKind.TheVariants as kinds
 use Rattle.cl_writer.specs.declared.item.MemberName.{MemberName}
 use Rattle.cl_writer.specs.declared.item.Item.{Item}
-use Rattle.cl_writer.specs.declared.item.Item.TheVariants.{Text, Integer, Class, NameAndType, Member}
+use Rattle.cl_writer.specs.declared.item.Item.TheVariants.{
+  Text,
+  Integer,
+  Class,
+  NameAndType,
+  Member,
+}
 use Rattle.cl_writer.specs.declared.statement.MemberLine.{MemberLine}
 use Rattle.cl_writer.specs.Assemblies.{Listed}
 
@@ -27,7 +54,8 @@ same_kind _ _ = false
 
 -- two members are of one class, name and descriptor (4.4.2, 4.4.6)
 abbrev pub same_member : MemberName → MemberName → Bool
-same_member m n = same_text m.class n.class && (same_text m.name n.name && same_text m.descriptor n.descriptor)
+same_member m n =
+    same_text m.class n.class && (same_text m.name n.name && same_text m.descriptor n.descriptor)
 
 -- two entries name the same (4.4; own choice that names and not indices are compared)
 abbrev pub same_item : Item → Item → Bool
@@ -40,7 +68,8 @@ same_item _ _ = false
 
 -- ---- where an entry stands
 
--- the least index at which the entry stands, where the first has this index (4.1; own choice of the least)
+-- the least index at which the entry stands, where the first has this index
+-- (4.1; own choice of the least)
 abbrev pub index_from : ℕ → List Item → Item → Option ℕ
 index_from n [] item = None
 index_from n (x ∷ xs) item = if same_item item x then Some n else index_from (n + 1) xs item
@@ -53,17 +82,19 @@ index_of items item = index_from 1 items item
 abbrev pub index : List Item → Item → ℕ
 index items item = unwrap_or (index_of items item) 0
 
--- the map tells the index of each entry (own choice)
+-- the map tells the index of each entry
 abbrev pub IsIndexed : {S : Type 0} → List Item → IndexMap Item ℕ S → Type 0
 IsIndexed items indices = (item : Item) → get same_item indices item ≡ index_of items item
 
--- one entry of the map is put, and the others stay (own choice)
+-- one entry of the map is put, and the others stay
 abbrev pub PutsIndex : {S : Type 0} → IndexMap Item ℕ S → IndexMap Item ℕ S → Item → ℕ → Type 0
-PutsIndex old new item index = (q : Item) → get same_item new q ≡ (if same_item item q then Some index else get same_item old q)
+PutsIndex old new item index =
+    (q : Item)
+    → get same_item new q ≡ (if same_item item q then Some index else get same_item old q)
 
 -- ---- what stands
 
--- the entries with one more at the end, where no equal one stands (own choice)
+-- the entries with one more at the end, where no equal one stands
 abbrev pub with_item : List Item → Item → List Item
 with_item items item = if is_some (index_of items item) then items else items ++ item ∷ []
 
@@ -81,21 +112,24 @@ wanted (Text text) = Text text ∷ []
 wanted (Integer number) = Integer number ∷ []
 wanted (Class name) = class_wanted name
 wanted (NameAndType name descriptor) = type_wanted name descriptor
-wanted (Member kind m) = class_wanted m.class ++ (type_wanted m.name m.descriptor ++ Member kind m ∷ [])
+wanted (Member kind m) =
+    class_wanted m.class ++ (type_wanted m.name m.descriptor ++ Member kind m ∷ [])
 
 -- what a field or a method wants: its name and its descriptor (4.5, 4.6)
 abbrev pub line_wanted : MemberLine → List Item
 line_wanted line = Text line.name ∷ Text line.descriptor ∷ []
 
--- what all lines want, in their order: the `ref` lines, the class, its superclass, the interfaces, the fields, the methods
--- (own choice)
+-- what all lines want, in their order: the `ref` lines, the class, its superclass, the interfaces,
+-- the fields, the methods
 abbrev pub all_wanted : Listed → List Item
 all_wanted l =
     flat_map wanted l.references
     ++ (class_wanted l.class.name
     ++ (flat_map class_wanted (option_to_list l.class.superclass)
-    ++ (flat_map class_wanted l.interfaces ++ (flat_map line_wanted l.fields ++ flat_map line_wanted l.methods))))
+    ++ (flat_map class_wanted l.interfaces
+    ++ (flat_map line_wanted l.fields ++ flat_map line_wanted l.methods))))
 
--- the entries of the `ref` lines stand from the start; what is wanted is appended where no equal entry stands (own choice)
+-- the entries of the `ref` lines stand from the start; what is wanted is appended where no equal
+-- entry stands (own choice)
 abbrev pub items_of : Listed → List Item
 items_of l = fold with_item l.references (all_wanted l)

@@ -1,5 +1,19 @@
 -- The lines of a class file in the assembler's form.
-use Rattle.std.specs.Prelude.{ℕ, ◌/◌, ◌%◌, ◌==◌, List, [], ◌∷◌, ◌++◌, Option, Some, None, codes, if◌then◌else◌}
+use Rattle.std.specs.Prelude.{
+  ℕ,
+  ◌/◌,
+  ◌%◌,
+  ◌==◌,
+  List,
+  [],
+  ◌∷◌,
+  ◌++◌,
+  Option,
+  Some,
+  None,
+  codes,
+  if◌then◌else◌,
+}
 use Rattle.std.specs.List.{flat_map}
 use Rattle.std.specs.Char.{digit_char}
 use Rattle.cl_names.specs.Escape.{escaped}
@@ -10,11 +24,13 @@ use Rattle.cl_writer.specs.declared.statement.ClassLine.{ClassLine}
 use Rattle.cl_writer.specs.declared.statement.MemberLine.{MemberLine}
 use Rattle.cl_writer.specs.Assemblies.{Listed}
 
--- four hexadecimal digits, in lower case (own choice)
+-- four hexadecimal digits, in lower case
 abbrev pub printed_flags : ℕ → List ℕ
-printed_flags flags = digit_char (flags / 4096) ∷ digit_char (flags / 256 % 16) ∷ digit_char (flags / 16 % 16) ∷ digit_char (flags % 16) ∷ []
+printed_flags flags =
+    digit_char (flags / 4096) ∷ digit_char (flags / 256 % 16) ∷ digit_char (flags / 16 % 16)
+    ∷ digit_char (flags % 16) ∷ []
 
--- a name as escaped text (own choice)
+-- a name as escaped text
 abbrev pub printed_name : Option (List ℕ) → List ℕ
 printed_name None = []
 printed_name (Some name) = escaped name
@@ -27,19 +43,23 @@ printed_type pool i = printed_name (type_name pool i)
 abbrev pub printed_super : List Entry → ℕ → List ℕ
 printed_super pool super = if super == 0 then codes "-" else printed_type pool super
 
--- class FLAGS NAME SUPER (own choice)
+-- class FLAGS NAME SUPER
 abbrev pub class_line : Structure → List ℕ
-class_line f = codes "class " ++ printed_flags f.flags ++ codes " " ++ printed_type f.pool f.this_class ++ codes " " ++ printed_super f.pool f.super_class ++ 10 ∷ []
+class_line f =
+    codes "class " ++ printed_flags f.flags ++ codes " " ++ printed_type f.pool f.this_class
+    ++ codes " " ++ printed_super f.pool f.super_class ++ 10 ∷ []
 
--- implements NAME (own choice)
+-- implements NAME
 abbrev pub implements_line : List Entry → ℕ → List ℕ
 implements_line pool interface = codes "implements " ++ printed_type pool interface ++ 10 ∷ []
 
--- field FLAGS NAME DESC, and so a method (own choice)
+-- field FLAGS NAME DESC, and so a method
 abbrev pub member_line : List ℕ → List Entry → Member → List ℕ
-member_line word pool m = word ++ printed_flags m.flags ++ codes " " ++ printed_name (text_at pool m.name_index) ++ codes " " ++ printed_name (text_at pool m.descriptor_index) ++ 10 ∷ []
+member_line word pool m =
+    word ++ printed_flags m.flags ++ codes " " ++ printed_name (text_at pool m.name_index)
+    ++ codes " " ++ printed_name (text_at pool m.descriptor_index) ++ 10 ∷ []
 
--- the lines of a file: the class, its interfaces, its fields, its methods (own choice)
+-- the lines of a file: the class, its interfaces, its fields, its methods
 abbrev pub listing_of : Structure → List ℕ
 listing_of f =
     class_line f
@@ -49,24 +69,28 @@ listing_of f =
 
 -- ---- the lines of a text in this form
 
--- the name of the superclass, and `-` where there is none (own choice)
+-- the name of the superclass, and `-` where there is none
 abbrev pub super_text : Option (List ℕ) → List ℕ
 super_text None = codes "-"
 super_text (Some name) = escaped name
 
--- class FLAGS NAME SUPER, of what a line said (own choice)
+-- class FLAGS NAME SUPER, of what a line said
 abbrev pub class_text : ClassLine → List ℕ
-class_text c = codes "class " ++ printed_flags c.flags ++ codes " " ++ escaped c.name ++ codes " " ++ super_text c.superclass ++ 10 ∷ []
+class_text c =
+    codes "class " ++ printed_flags c.flags ++ codes " " ++ escaped c.name ++ codes " "
+    ++ super_text c.superclass ++ 10 ∷ []
 
--- implements NAME (own choice)
+-- implements NAME
 abbrev pub implements_text : List ℕ → List ℕ
 implements_text name = codes "implements " ++ escaped name ++ 10 ∷ []
 
--- field FLAGS NAME DESC, and so a method (own choice)
+-- field FLAGS NAME DESC, and so a method
 abbrev pub member_text : List ℕ → MemberLine → List ℕ
-member_text word m = word ++ printed_flags m.flags ++ codes " " ++ escaped m.name ++ codes " " ++ escaped m.descriptor ++ 10 ∷ []
+member_text word m =
+    word ++ printed_flags m.flags ++ codes " " ++ escaped m.name ++ codes " "
+    ++ escaped m.descriptor ++ 10 ∷ []
 
--- all lines but those of `ref`: the class, its interfaces, its fields, its methods (own choice)
+-- all lines but those of `ref`: the class, its interfaces, its fields, its methods
 abbrev pub text_of : Listed → List ℕ
 text_of l =
     class_text l.class

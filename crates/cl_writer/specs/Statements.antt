@@ -1,5 +1,23 @@
 -- What the lines of assembler text say. Words count from the left, a keyword first.
-use Rattle.std.specs.Prelude.{◌≡◌, ◌≢◌, ℕ, ℤ, List, [], ◌∷◌, Option, Some, None, Result, IfOk, MatchOption, codes, slice_index, if◌then◌else◌, FitsSigned}
+use Rattle.std.specs.Prelude.{
+  ◌≡◌,
+  ◌≢◌,
+  ℕ,
+  ℤ,
+  List,
+  [],
+  ◌∷◌,
+  Option,
+  Some,
+  None,
+  Result,
+  IfOk,
+  MatchOption,
+  codes,
+  slice_index,
+  if◌then◌else◌,
+  FitsSigned,
+}
 use Rattle.std.specs.Int.{w32}
 use Rattle.std.specs.Str.Parse.{IsNumeral, without_leading_sign, signed_digits_value}
 use Rattle.cl_names.specs.Escape.{are_hex, hex_value, WritesName}
@@ -7,13 +25,19 @@ use Rattle.cl_writer.specs.declared.item.MemberKind.{MemberKind}
 use Rattle.cl_writer.specs.declared.item.MemberKind.TheVariants as kinds
 use Rattle.cl_writer.specs.declared.item.MemberName.{MemberName}
 use Rattle.cl_writer.specs.declared.item.Item.{Item}
-use Rattle.cl_writer.specs.declared.item.Item.TheVariants.{Text, Integer, Class, NameAndType, Member}
+use Rattle.cl_writer.specs.declared.item.Item.TheVariants.{
+  Text,
+  Integer,
+  Class,
+  NameAndType,
+  Member,
+}
 use Rattle.cl_writer.specs.declared.statement.ClassLine.{ClassLine}
 use Rattle.cl_writer.specs.declared.statement.MemberLine.{MemberLine}
 use Rattle.cl_writer.specs.declared.statement.Statement.{Statement}
 use Rattle.cl_writer.specs.declared.statement.Statement.TheVariants.{Implements, Field, Method, Ref}
 
--- what was read is what P says, or it says nothing; memory may have run out (own choice)
+-- what was read is what P says, or it says nothing; memory may have run out
 abbrev pub Reads : {A E : Type 0} → (A → Type 0) → Result (Option A) E → Type 0
 Reads {A} P r = IfOk r (λ o. MatchOption o ((a : A) → P a → ⊥) P)
 
@@ -29,24 +53,24 @@ pub record WritesInteger (text : List ℕ) (number : ℤ) : Type 0 where
   pub value : number ≡ signed_digits_value 10 text
   pub fits : FitsSigned w32 number
 
--- `-` writes that there is no superclass (own choice)
+-- `-` writes that there is no superclass
 abbrev pub WritesSuper : List ℕ → Option (List ℕ) → Type 0
 WritesSuper text None = text ≡ codes "-"
 WritesSuper text (Some name) = (text ≢ codes "-") × WritesName text name
 
--- NAME (own choice)
+-- NAME
 pub record IsName (words : List (List ℕ)) (name : List ℕ) : Type 0 where
   pub text : List ℕ
   pub spelled : words ≡ text ∷ []
   pub writes : WritesName text name
 
--- N (own choice)
+-- N
 pub record IsInteger (words : List (List ℕ)) (number : ℤ) : Type 0 where
   pub text : List ℕ
   pub spelled : words ≡ text ∷ []
   pub writes : WritesInteger text number
 
--- FLAGS NAME DESC (own choice)
+-- FLAGS NAME DESC
 pub record IsMemberLine (words : List (List ℕ)) (line : MemberLine) : Type 0 where
   pub flags_text : List ℕ
   pub name_text : List ℕ
@@ -56,7 +80,7 @@ pub record IsMemberLine (words : List (List ℕ)) (line : MemberLine) : Type 0 w
   pub name : WritesName name_text line.name
   pub descriptor : WritesName descriptor_text line.descriptor
 
--- CLASS NAME DESC (own choice)
+-- CLASS NAME DESC
 pub record IsMemberName (words : List (List ℕ)) (member : MemberName) : Type 0 where
   pub class_text : List ℕ
   pub name_text : List ℕ
@@ -66,7 +90,7 @@ pub record IsMemberName (words : List (List ℕ)) (member : MemberName) : Type 0
   pub name : WritesName name_text member.name
   pub descriptor : WritesName descriptor_text member.descriptor
 
--- class FLAGS NAME SUPER (own choice)
+-- class FLAGS NAME SUPER
 pub record IsClassLine (words : List (List ℕ)) (line : ClassLine) : Type 0 where
   pub flags_text : List ℕ
   pub name_text : List ℕ
@@ -76,19 +100,20 @@ pub record IsClassLine (words : List (List ℕ)) (line : ClassLine) : Type 0 whe
   pub name : WritesName name_text line.name
   pub superclass : WritesSuper super_text line.superclass
 
--- a keyword, and behind it words of which P holds (own choice)
-pub record Begins (keyword : List ℕ) (words : List (List ℕ)) (P : List (List ℕ) → Type 0) : Type 0 where
+-- a keyword, and behind it words of which P holds
+pub record Begins (keyword : List ℕ) (words : List (List ℕ)) (P : List (List ℕ) → Type 0)
+    : Type 0 where
   pub rest : List (List ℕ)
   pub spelled : words ≡ keyword ∷ rest
   pub behind : P rest
 
--- the word of each kind of member (own choice; 4.4.2)
+-- the word of each kind of member (4.4.2)
 abbrev pub kind_word : MemberKind → List ℕ
 kind_word kinds.Field = codes "field"
 kind_word kinds.Method = codes "method"
 kind_word kinds.InterfaceMethod = codes "imethod"
 
--- the words behind `ref` ask for this entry (own choice; 4.4)
+-- the words behind `ref` ask for this entry (4.4)
 abbrev pub Refers : List (List ℕ) → Item → Type 0
 Refers words (Text text) = ⊥
 Refers words (Integer number) = Begins (codes "int") words (λ rest. IsInteger rest number)
@@ -96,7 +121,7 @@ Refers words (Class name) = Begins (codes "class") words (λ rest. IsName rest n
 Refers words (NameAndType name descriptor) = ⊥
 Refers words (Member kind member) = Begins (kind_word kind) words (λ rest. IsMemberName rest member)
 
--- a line after the first says this (own choice)
+-- a line after the first says this
 abbrev pub Says : List (List ℕ) → Statement → Type 0
 Says words (Implements name) = Begins (codes "implements") words (λ rest. IsName rest name)
 Says words (Field line) = Begins (codes "field") words (λ rest. IsMemberLine rest line)

@@ -6,7 +6,8 @@ use Rattle.cl_classfile.specs.declared.fault.ReadError.{ReadError}
 use Rattle.cl_classfile.specs.declared.fault.ReadError.TheVariants as errors
 use Rattle.classlink.specs.Faults.{print_fault}
 use Rattle.cl_streams.specs.Writing.{AppendsPart}
-use Rattle.classlink.specs.Files.{Giving, IsContent, IsUnread}
+use Rattle.cl_source.specs.Seen.{IsWithin}
+use Rattle.classlink.specs.Files.{Giving, IsUnread}
 use Rattle.classlink.specs.Readings.{AreLinesOf, FailsToRead, IsReading, IsRefusal, ReadingOf, most_of_class}
 use Rattle.classlink.specs.Runs.{TellsFault}
 use Rattle.classlink.specs.declared.fault.Fault.{Fault}
@@ -28,7 +29,7 @@ by_bytes gives path old Memory w = inl (appends_nothing old, tt)
 by_bytes gives path old fault w = absurd w
 
 -- it is no class file
-pub by_class : (gives : Giving) (path : List ℕ) (old : Option (List ℕ)) (bytes : List ℕ) (fault : Fault) → IsContent gives most_of_class bytes → IsRefusal bytes fault → FailsToRead gives path old old fault
+pub by_class : (gives : Giving) (path : List ℕ) (old : Option (List ℕ)) (bytes : List ℕ) (fault : Fault) → IsWithin gives most_of_class bytes → IsRefusal bytes fault → FailsToRead gives path old old fault
 by_class gives path old bytes (File (errors.Fault f)) is w = (appends_nothing old, record { bytes = bytes; content = is; read = w })
 by_class gives path old bytes (File errors.Memory) is w = (appends_nothing old, tt)
 by_class gives path old bytes Memory is w = inl (appends_nothing old, tt)

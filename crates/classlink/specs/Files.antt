@@ -1,27 +1,21 @@
 -- What the files that the words name give.
-use Rattle.std.specs.Prelude.{◌≡◌, ◌<◌, ◌≤◌, ℕ, ⊤, List, length, Option, Some, None, string_bytes}
+use Rattle.std.specs.Prelude.{◌≡◌, ◌⊎◌, ℕ, ⊤, List, string_bytes}
 use Rattle.std.specs.Str.{IsUtf8}
+use Rattle.cl_source.specs.Seen.{Seen, Missing, Refused, IsTooLarge, IsWithin}
 use Rattle.classlink.specs.declared.fault.Fault.{Fault}
 use Rattle.classlink.specs.declared.fault.Fault.TheVariants.{NotUtf8, TooLarge, Path, Memory}
 
--- what reading a file may give: its bytes, or nothing where it cannot be read (own choice)
+-- what may stand at a path (own choice)
 abbrev pub Giving : Type 1
-Giving = Option (List ℕ) → Type 0
+Giving = Seen → Type 0
 
--- bytes that a file gives, not more than are wanted (own choice)
-pub record IsContent (gives : Giving) (most : ℕ) (bytes : List ℕ) : Type 0 where
-  pub given : gives (Some bytes)
-  pub small : length bytes ≤ most
-
--- a file gives more bytes than are wanted (own choice)
-pub record IsTooLarge (gives : Giving) (most : ℕ) : Type 0 where
-  pub bytes : List ℕ
-  pub given : gives (Some bytes)
-  pub large : most < length bytes
+-- no file stands there, or the system refuses it (own choice)
+abbrev pub IsUnreadable : Giving → Type 0
+IsUnreadable gives = gives Missing ⊎ gives Refused
 
 -- why there are no bytes of the file at a path (own choice)
 abbrev pub IsUnread : Giving → ℕ → List ℕ → Fault → Type 0
-IsUnread gives most path (Path p) = (string_bytes p ≡ path) × gives None
+IsUnread gives most path (Path p) = (string_bytes p ≡ path) × IsUnreadable gives
 IsUnread gives most path TooLarge = IsTooLarge gives most
 IsUnread gives most path Memory = ⊤
 IsUnread gives most path _ = ⊥
@@ -32,13 +26,13 @@ most_of_text = 67108864
 
 -- a text that a file gives (own choice)
 pub record IsText (gives : Giving) (text : List ℕ) : Type 0 where
-  pub content : IsContent gives most_of_text text
+  pub content : IsWithin gives most_of_text text
   pub utf8 : IsUtf8 text
 
 -- a file gives bytes that are no text (own choice)
 pub record IsNoText (gives : Giving) : Type 0 where
   pub bytes : List ℕ
-  pub content : IsContent gives most_of_text bytes
+  pub content : IsWithin gives most_of_text bytes
   pub not_utf8 : ¬ (IsUtf8 bytes)
 
 -- why there is no text of the file at a path (own choice)

@@ -1,5 +1,5 @@
 -- What reading a class file answers, and what it writes.
-use Rattle.std.specs.Prelude.{◌≡◌, ◌⊎◌, ℕ, ⊤, List, Option, None, Result, Ok, Err, string_bytes}
+use Rattle.std.specs.Prelude.{◌≡◌, ◌⊎◌, ℕ, ⊤, List, Option, Result, Ok, Err, string_bytes}
 use Rattle.std.specs.Io.KnownBytes.{Appends}
 use Rattle.cl_classfile.specs.Structure.{Structure}
 use Rattle.cl_classfile.specs.declared.fault.Fault.{Fault as ClassFault}
@@ -7,7 +7,8 @@ use Rattle.cl_classfile.specs.declared.fault.ReadError.TheVariants as errors
 use Rattle.cl_classfile.specs.Reading.{read_of}
 use Rattle.cl_writer.specs.Listings.{listing_of}
 use Rattle.cl_streams.specs.Writing.{AppendsPart}
-use Rattle.classlink.specs.Files.{Giving, IsContent, IsTooLarge}
+use Rattle.cl_source.specs.Seen.{IsTooLarge, IsWithin}
+use Rattle.classlink.specs.Files.{Giving, IsUnreadable}
 use Rattle.classlink.specs.Runs.{EndsWith, WritesNothing}
 use Rattle.classlink.specs.declared.fault.Fault.{Fault}
 use Rattle.classlink.specs.declared.fault.Fault.TheVariants.{Write, TooLarge, Path, File, Memory}
@@ -25,13 +26,13 @@ pub record IsListing (bytes lines : List ℕ) : Type 0 where
 -- the lines of the class file that was read (own choice)
 pub record AreLinesOf (gives : Giving) (lines : List ℕ) : Type 0 where
   pub bytes : List ℕ
-  pub content : IsContent gives most_of_class bytes
+  pub content : IsWithin gives most_of_class bytes
   pub listing : IsListing bytes lines
 
 -- what was read is no class file, and this is its first fault (JVMS SE 8, 4; the order of faults is an own choice)
 pub record IsNoClass (gives : Giving) (fault : ClassFault) : Type 0 where
   pub bytes : List ℕ
-  pub content : IsContent gives most_of_class bytes
+  pub content : IsWithin gives most_of_class bytes
   pub read : read_of bytes ≡ Err fault
 
 -- the lines are written (own choice)
@@ -48,7 +49,7 @@ pub record BreaksLines (gives : Giving) (old new : Option (List ℕ)) : Type 0 w
 
 -- when a reading ends by a fault, and what is on its output (own choice)
 abbrev pub FailsToRead : Giving → List ℕ → Option (List ℕ) → Option (List ℕ) → Fault → Type 0
-FailsToRead gives path old new (Path p) = WritesNothing old new ((string_bytes p ≡ path) × gives None)
+FailsToRead gives path old new (Path p) = WritesNothing old new ((string_bytes p ≡ path) × IsUnreadable gives)
 FailsToRead gives path old new TooLarge = WritesNothing old new (IsTooLarge gives most_of_class)
 FailsToRead gives path old new (File (errors.Fault fault)) = WritesNothing old new (IsNoClass gives fault)
 FailsToRead gives path old new (File errors.Memory) = WritesNothing old new ⊤

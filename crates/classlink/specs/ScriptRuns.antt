@@ -10,9 +10,10 @@ use Rattle.cl_registry.specs.declared.report.Report.{Report}
 use Rattle.cl_report.specs.Report.{report_lines}
 use Rattle.cl_schedule.specs.Headline.{IsServedInOrder}
 use Rattle.cl_schedule.specs.declared.serve.ServeFault.TheVariants as serve
+use Rattle.cl_source.specs.Seen.{IsTooLarge}
 use Rattle.cl_streams.specs.Writing.{AppendsPart}
 use Rattle.classlink.specs.CommandLine.{Wanted}
-use Rattle.classlink.specs.Files.{Giving, IsText, IsNoText, IsTooLarge, LacksText, most_of_text}
+use Rattle.classlink.specs.Files.{Giving, IsText, IsNoText, IsUnreadable, LacksText, most_of_text}
 use Rattle.classlink.specs.Runs.{EndsWith, WritesNothing}
 use Rattle.classlink.specs.declared.fault.Fault.{Fault}
 use Rattle.classlink.specs.declared.fault.Fault.TheVariants.{Write, TooLarge, NotUtf8, Config, Script, Serve, Path, Memory}
@@ -80,7 +81,7 @@ IsOfOne gives w P = P (gives w.config) ⊎ IsUnder gives w (λ config. P (gives 
 
 -- the path is the configuration's, which cannot be read; or the configuration was read, and it is the script's, which cannot (own choice)
 abbrev pub IsUnreadPath : (List ℕ → Giving) → Wanted → List ℕ → Type 0
-IsUnreadPath gives w path = ((path ≡ w.config) × gives w.config None) ⊎ IsUnder gives w (λ config. (path ≡ w.script) × gives w.script None)
+IsUnreadPath gives w path = ((path ≡ w.config) × IsUnreadable (gives w.config)) ⊎ IsUnder gives w (λ config. (path ≡ w.script) × IsUnreadable (gives w.script))
 
 -- when a run ends by a fault, and what is on its output (own choice); that a write was refused, or that memory was wanting,
 -- is taken at its word

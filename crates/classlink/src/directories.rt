@@ -7,7 +7,7 @@ ghost use Rattle.classlink.specs.CommandLine.{wanted_of};
 ghost use Rattle.classlink.specs.ScriptRuns.{IsConfigAt, IsRunOf, IsScriptAt, IsUnserved, LacksConfig, LacksScript, ScriptRunOf};
 
 use crate::fault::Fault;
-use crate::files::{ReadPath, text_at};
+use crate::files::text_at;
 use crate::input::draw_seed;
 use crate::words::RunWords;
 use cl_config::{Config, Script};
@@ -24,31 +24,33 @@ use std::sync::Arc;
 
 /// Draws a seed, and runs a script with it. Where none is to be had, that is told as a read of the configuration that
 /// failed.
-pub fn report_script<F: ReadPath + ReadFile + RandomSource, W: Write>(
+pub fn report_script<R: ReadFile + RandomSource, F: ReadFile, W: Write>(
     alloc: Global,
+    rt: &R,
     files: &F,
     words: RunWords<'_>,
     out: &mut W,
 ) -> Result<(), Fault>
-    ensures { IsRunOf (F.ReadPath.gives files.now) (wanted_of words.entry)
+    ensures { IsRunOf (F.gives files.now) (wanted_of words.entry)
         (W.contents out.old) (W.contents out.new) result }
 {
-    let Some(seed) = draw_seed(files) else {
+    let Some(seed) = draw_seed(rt) else {
         return Err(Fault::Path(String::from_str(alloc, words.config)?));
     };
-    report_with_seed(alloc, files, seed, words, out)
+    report_with_seed(alloc, rt, files, seed, words, out)
 }
 
 /// Reads a configuration and then a script, serves the script over the loaders' directories and prints the report. A
 /// relative directory is taken from the working directory.
-fn report_with_seed<F: ReadPath + ReadFile, W: Write>(
+fn report_with_seed<R: ReadFile, F: ReadFile, W: Write>(
     alloc: Global,
+    rt: &R,
     files: &F,
     seed: Seed,
     words: RunWords<'_>,
     out: &mut W,
 ) -> Result<(), Fault>
-    ensures { ScriptRunOf (F.ReadPath.gives files.now) (wanted_of words.entry)
+    ensures { ScriptRunOf (F.gives files.now) (wanted_of words.entry)
         (W.contents out.old) (W.contents out.new) result }
 {
     let config = config_at(alloc, files, words.config)?.with_seed(seed);
@@ -56,14 +58,14 @@ fn report_with_seed<F: ReadPath + ReadFile, W: Write>(
     let config = Arc::new(alloc, config)?;
     let script = Arc::new(alloc, script)?;
     let loaders = Arc::try_clone(&config)?;
-    let report = serve(alloc, files, config, script)?;
+    let report = serve(alloc, rt, config, script)?;
     let names = loaders.names();
     print_report(alloc, &report, names, words.answers, out)?;
     Ok(())
 }
 
 /// The configuration at a path.
-fn config_at<F: ReadPath>(alloc: Global, files: &F, path: &str) -> Result<Config, Fault>
+fn config_at<F: ReadFile>(alloc: Global, files: &F, path: &str) -> Result<Config, Fault>
     ensures ok { IfOk result (λ c. IsConfigAt (F.gives files.now path.now) (Ok c)) }
     ensures err { IfErr result (LacksConfig (F.gives files.now path.now) path.now) }
 {
@@ -73,7 +75,7 @@ fn config_at<F: ReadPath>(alloc: Global, files: &F, path: &str) -> Result<Config
 }
 
 /// The script at a path, under a configuration.
-fn script_at<F: ReadPath>(
+fn script_at<F: ReadFile>(
     alloc: Global,
     files: &F,
     config: &Config,
@@ -89,9 +91,9 @@ fn script_at<F: ReadPath>(
 }
 
 /// Serves a script over the directories that a configuration has for its loaders.
-fn serve<F: ReadFile>(
+fn serve<R: ReadFile>(
     alloc: Global,
-    files: &F,
+    rt: &R,
     config: Arc<Config>,
     script: Arc<Script>,
 ) -> Result<Report, Fault>
@@ -99,7 +101,7 @@ fn serve<F: ReadFile>(
     ensures served { IfOk result (IsServedInOrder None config.value script.value) }
     ensures unserved { IfErr result IsUnserved }
 {
-    let files = files.another(alloc)?;
+    let files = rt.another(alloc)?;
     let Ok(mut source) = DirSource::new(alloc, files, &config) else {
         return Err(Fault::Memory);
     };

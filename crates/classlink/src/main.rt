@@ -12,6 +12,7 @@ mod tests;
 mod words;
 
 use fault::Fault;
+use files::NamedFiles;
 use run::{fail, refuse_words, run_over};
 use std::io::ErrorKind;
 use std::process::ExitCode;
@@ -27,6 +28,7 @@ fn main(rt: HostRuntime) -> ExitCode {
     let status = match words {
         Ok(words) => run_over(
             &rt,
+            &NamedFiles { host: &rt },
             words.as_slice(),
             rt.stdin(),
             &mut rt.stdout(),

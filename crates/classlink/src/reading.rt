@@ -5,8 +5,9 @@ ghost use Rattle.cl_classfile.specs.Reading.{read_of};
 ghost use Rattle.classlink.specs.Readings.{IsRefusal, ReadingOf};
 
 use crate::fault::Fault;
-use crate::files::{ReadPath, bytes_at};
+use crate::files::bytes_at;
 use cl_classfile::ClassFile;
+use cl_source::ReadFile;
 use cl_writer::print_listing;
 use std::alloc::Global;
 use std::io::Write;
@@ -15,7 +16,7 @@ use std::io::Write;
 const MOST_CLASS_BYTES: usize = 16_777_216;
 
 /// Prints the lines of the class file at a path. It takes the memory of the file, and of a page of its lines.
-pub fn print_class<F: ReadPath, W: Write>(
+pub fn print_class<F: ReadFile, W: Write>(
     alloc: Global,
     files: &F,
     path: &str,

@@ -10,7 +10,6 @@ ghost use Rattle.classlink.specs.ScriptRuns.{IsScriptRun};
 
 use crate::directories::report_script;
 use crate::fault::Fault;
-use crate::files::ReadPath;
 use crate::input::{draw_seed, read_text};
 use crate::reading::print_class;
 use crate::words::{self, Asked, RunWords};
@@ -31,28 +30,29 @@ use std::marker::Brand;
 use std::random::RandomSource;
 use std::sync::Arc;
 
-/// Runs the program: its words, of which the first is its name, its input and its two outputs. The answer is the exit
-/// status: 0; 1 for a fault, whose text is written to `err`; 2 for words that are refused, with their text on `err`;
-/// 0 for help, on `out`.
+/// Runs the program: its words, of which the first is its name, its input and its two outputs. The files of the words
+/// are read of `files`, those of directories of `rt`. The answer is the exit status: 0; 1 for a fault, whose text is
+/// written to `err`; 2 for words that are refused, with their text on `err`; 0 for help, on `out`.
 pub fn run_over<
-    R: AllocGlobal + ReadPath + ReadFile + RandomSource,
+    R: AllocGlobal + ReadFile + RandomSource,
+    F: ReadFile,
     S: AsStr,
     I: Read + Drop,
     W: Write,
     E: Write,
->(rt: &R, words: &[S], input: I, out: &mut W, err: &mut E) -> u8
+>(rt: &R, files: &F, words: &[S], input: I, out: &mut W, err: &mut E) -> u8
     ensures bundle { (answers : Bool) → AskFor (map S.text words.now) answers
         → IsRun (I.remaining input) answers
         (W.contents out.old) (W.contents out.new) (E.contents err.old) (E.contents err.new) result }
     ensures run { (w : Wanted) → AskToRun (map S.text words.now) w
-        → IsScriptRun (R.ReadPath.gives rt.now) w
+        → IsScriptRun (F.gives files.now) w
         (W.contents out.old) (W.contents out.new) (E.contents err.old) (E.contents err.new) result }
     ensures read { (path : List ℕ) → AskToRead (map S.text words.now) path
-        → IsReading (R.ReadPath.gives rt.now path) path
+        → IsReading (F.gives files.now path) path
         (W.contents out.old) (W.contents out.new) (E.contents err.old) (E.contents err.new) result }
     ensures taken { wrong_words (map S.text words.now) ≡ []
         → IsTaken (subcommand_of program (map S.text words.now)) (I.remaining input)
-        (R.ReadPath.gives rt.now)
+        (F.gives files.now)
         (W.contents out.old) (W.contents out.new) (E.contents err.old) (E.contents err.new) result }
     ensures other { (wrong_words (map S.text words.now) ≡ [] → ⊥)
         → IsTurnedDown (wrong_words (map S.text words.now))
@@ -60,14 +60,15 @@ pub fn run_over<
 {
     let alloc = rt.alloc();
     match words::read(alloc, words) {
-        Ok(asked) => run_asked(alloc, rt, asked, input, out, err),
+        Ok(asked) => run_asked(alloc, rt, files, asked, input, out, err),
         Err(error) => turn_down(alloc, &error, out, err),
     }
 }
 
 /// Runs what is asked for.
-fn run_asked<F: ReadPath + ReadFile + RandomSource, I: Read + Drop, W: Write, E: Write>(
+fn run_asked<R: ReadFile + RandomSource, F: ReadFile, I: Read + Drop, W: Write, E: Write>(
     alloc: Global,
+    rt: &R,
     files: &F,
     asked: Asked<'_>,
     input: I,
@@ -78,15 +79,15 @@ fn run_asked<F: ReadPath + ReadFile + RandomSource, I: Read + Drop, W: Write, E:
         → IsRun (I.remaining input) answers
         (W.contents out.old) (W.contents out.new) (E.contents err.old) (E.contents err.new) result }
     ensures run { (w : Wanted) → AsksForRun w asked.entry
-        → IsScriptRun (F.ReadPath.gives files.now) w
+        → IsScriptRun (F.gives files.now) w
         (W.contents out.old) (W.contents out.new) (E.contents err.old) (E.contents err.new) result }
     ensures read { (path : List ℕ) → AsksForFile path asked.entry
-        → IsReading (F.ReadPath.gives files.now path) path
+        → IsReading (F.gives files.now path) path
         (W.contents out.old) (W.contents out.new) (E.contents err.old) (E.contents err.new) result }
 {
     match asked {
-        Asked::Bundle { answers } => run_bundle(alloc, files, answers, input, out, err),
-        Asked::Run(words) => run_script(alloc, files, words, out, err),
+        Asked::Bundle { answers } => run_bundle(alloc, rt, answers, input, out, err),
+        Asked::Run(words) => run_script(alloc, rt, files, words, out, err),
         Asked::Read { path } => run_read(alloc, files, path, out, err),
     }
 }
@@ -138,24 +139,25 @@ fn run_bundle<F: RandomSource, I: Read + Drop, W: Write, E: Write>(
 }
 
 /// Runs a script over directories, and tells of the fault that ended it.
-fn run_script<F: ReadPath + ReadFile + RandomSource, W: Write, E: Write>(
+fn run_script<R: ReadFile + RandomSource, F: ReadFile, W: Write, E: Write>(
     alloc: Global,
+    rt: &R,
     files: &F,
     words: RunWords<'_>,
     out: &mut W,
     err: &mut E,
 ) -> u8
-    ensures { IsScriptRun (F.ReadPath.gives files.now) (wanted_of words.entry)
+    ensures { IsScriptRun (F.gives files.now) (wanted_of words.entry)
         (W.contents out.old) (W.contents out.new) (E.contents err.old) (E.contents err.new) result }
 {
-    match report_script(alloc, files, words, out) {
+    match report_script(alloc, rt, files, words, out) {
         Ok(()) => 0,
         Err(fault) => fail(alloc, &fault, err),
     }
 }
 
 /// Prints the lines of the class file at a path, and tells of the fault that ended it.
-fn run_read<F: ReadPath, W: Write, E: Write>(
+fn run_read<F: ReadFile, W: Write, E: Write>(
     alloc: Global,
     files: &F,
     path: &str,

@@ -1,7 +1,6 @@
 //! Runs over readers and writers that refuse, and count what they refused, and over seeds of one's own. Whole runs are
 //! rows of tests/program.
 
-use crate::files::ReadPath;
 use crate::run::run_over;
 use cl_source::ReadFile;
 use cl_streams::InputFault;
@@ -87,10 +86,7 @@ fn writer<R: AllocGlobal>(rt: &R, room: usize) -> CountingWriter {
 
 /// Runs the bundle over a reader and two writers with so much room. A fault is told exactly where its count rose, its
 /// line whole unless standard error refused; and what is on standard output is a beginning of the lines.
-fn check_rooms<R: AllocGlobal + ReadPath + ReadFile + RandomSource + Abort>(
-    rt: &R,
-    rooms: [usize; 3],
-) {
+fn check_rooms<R: AllocGlobal + ReadFile + RandomSource + Abort>(rt: &R, rooms: [usize; 3]) {
     let [read, written, told] = rooms;
     let mut unread = 0;
     let input = CountingReader {
@@ -101,7 +97,7 @@ fn check_rooms<R: AllocGlobal + ReadPath + ReadFile + RandomSource + Abort>(
     };
     let mut out = writer(rt, written);
     let mut err = writer(rt, told);
-    let status = run_over(rt, &["classlink", "bundle"], input, &mut out, &mut err);
+    let status = run_over(rt, rt, &["classlink", "bundle"], input, &mut out, &mut err);
     let line: &[u8] = if unread > 0 {
         b"classlink: cannot read standard input\n"
     } else if out.refused > 0 {
@@ -163,12 +159,6 @@ impl RandomSource for SeededRuntime {
     }
 }
 
-impl ReadPath for SeededRuntime {
-    fn read_path(&self, _alloc: Global, _path: &str, _most: usize) -> Result<Vec<u8>, InputFault> {
-        Err(InputFault::Unread)
-    }
-}
-
 impl ReadFile for SeededRuntime {
     fn read_file(
         &self,
@@ -188,10 +178,10 @@ impl ReadFile for SeededRuntime {
 }
 
 const LINEAGES: &str =
-    "%config\n[[loader]]\nname = \"boot\"\n%class boot java/lang/Object\nclass 0021 java/lang/Object -\n%class boot p/A\nclass 0021 p/A java/lang/Object\n%class boot p/B\nclass 0021 p/B p/A\n%class boot p/C\nclass 0021 p/C p/A\n%script\nload boot p/C\nload boot p/K\nload boot p/B\nload boot p/A\n";
+    "%config\n[[loader]]\nname = \"boot\"\n%class boot java/lang/Object\nclass 0021 java/lang/Object -\n%class boot p/A\nclass 0021 p/A java/lang/Object\n%class boot p/B\nclass 0021 p/B p/A\nmethod 0001 m ()V\n%class boot p/C\nclass 0021 p/C p/A\nref method p/B m ()V\n%script\nload boot p/C\nload boot p/K\nresolve boot p/C 1\nlink boot p/C\nload boot p/A\nresolve boot p/C 1\n";
 
 const LINEAGE_LINES: &str =
-    "define java/lang/Object@boot\ndefine p/A@boot\ndefine p/C@boot\ndefine p/B@boot\n1 class p/C@boot\n2 ClassNotFoundException p/K@boot\n3 class p/B@boot\n4 class p/A@boot\n";
+    "define java/lang/Object@boot\ndefine p/A@boot\ndefine p/C@boot\ndefine p/B@boot\nprepare java/lang/Object@boot\nprepare p/A@boot\nprepare p/C@boot\n1 class p/C@boot\n2 ClassNotFoundException p/K@boot\n3 method p/B@boot m ()V\n4 linked p/C@boot\n5 class p/A@boot\n6 method p/B@boot m ()V\n";
 
 /// Two seeds give the same lines, and without a seed nothing is run.
 #[test]
@@ -209,7 +199,14 @@ fn seeds_change_no_line(rt: HostRuntime) {
         let mut out = Vec::new(rt.alloc());
         let mut err = Vec::new(rt.alloc());
         let words = ["classlink", "bundle"];
-        let found = run_over(&runtime, &words, LINEAGES.as_bytes(), &mut out, &mut err);
+        let found = run_over(
+            &runtime,
+            &runtime,
+            &words,
+            LINEAGES.as_bytes(),
+            &mut out,
+            &mut err,
+        );
         assert_eq!(rt; found, status);
         assert_eq!(rt; out.as_slice(), lines.as_bytes());
         assert_eq!(rt; err.as_slice(), line.as_bytes());
@@ -227,7 +224,7 @@ fn run_without_seed_names_configuration(rt: HostRuntime) {
     let mut err = Vec::new(rt.alloc());
     let words = ["classlink", "run", "loaders.toml", "script"];
     let input: &[u8] = b"";
-    let found = run_over(&runtime, &words, input, &mut out, &mut err);
+    let found = run_over(&runtime, &runtime, &words, input, &mut out, &mut err);
     assert_eq!(rt; found, 1);
     assert!(rt; out.is_empty());
     let line = "classlink: cannot read loaders.toml\n";

@@ -40,12 +40,18 @@ const VERSION: &str = "0.1.0";
 const BUNDLE_FORM: &str = "\
 A bundle is a line %config and a configuration in TOML; any number of sections,
 each a line %class LOADER NAME and assembler text, or lines @hex and bytes;
-and a line %script and a script, of lines such as load LOADER NAME.";
+and a line %script and a script, of lines load LOADER NAME, link LOADER NAME,
+resolve LOADER NAME INDEX, and then, which begins a round.";
 
 /// Where directories are looked for.
 const DIRECTORIES: &str = "\
 A class is read from DIR/NAME.class, DIR the dir of its loader. A relative DIR
 is taken from the working directory.";
+
+/// Which class files are read.
+const VERSION_READ: &str = "\
+Class files of version 52.0 are read, those of Java SE 8. Another version is
+told as F2 Version.";
 
 fn command<'a>(alloc: Global) -> Result<Command<'a>, AllocError>
     ensures { IfOk result (λ c. app_of c ≡ program) }
@@ -66,7 +72,7 @@ fn bundle_command<'a>(alloc: Global) -> Result<Command<'a>, AllocError>
     ensures { IfOk result (IsCommand bundle) }
 {
     Command::new(alloc, "bundle")
-        .about("Loads the classes of a bundle that is read from standard input")
+        .about("Runs the script of a bundle that is read from standard input")
         .after_help(BUNDLE_FORM)
         .arg(answers_flag(alloc))
 }
@@ -106,6 +112,7 @@ fn read_command<'a>(alloc: Global) -> Result<Command<'a>, AllocError>
 {
     Command::new(alloc, "read")
         .about("Prints a class file's class, interfaces, fields and methods")
+        .after_help(VERSION_READ)
         .arg(file(alloc, "FILE", "The class file"))
 }
 

@@ -6,13 +6,20 @@ use Rattle.cl_classfile.specs.Reading.{read_of}
 use Rattle.cl_writer.specs.Assembled.{AssembleOf}
 use Rattle.cl_writer.specs.Listings.{listing_of}
 use Rattle.classlink_corpus.specs.declared.round.Outcome.{Outcome}
-use Rattle.classlink_corpus.specs.declared.round.Outcome.TheVariants.{Same, Refused, OtherBytes, OtherListing}
+use Rattle.classlink_corpus.specs.declared.round.Outcome.TheVariants.{
+  Same,
+  Refused,
+  OtherBytes,
+  OtherListing,
+}
 
--- the listing of a file is assembled to a file with the same listing (own choice)
+-- the listing of a file is assembled to a file with the same listing
 abbrev pub ListsAgain : Structure → Type 0
-ListsAgain f = (g : Structure) × AssembleOf (stated_from 1 (listing_of f)) (Ok g) × (listing_of g ≡ listing_of f)
+ListsAgain f =
+    (g : Structure) × AssembleOf (stated_from 1 (listing_of f)) (Ok g)
+    × (listing_of g ≡ listing_of f)
 
--- what is said of the bytes of a file (JVMS SE 8, 4.1; own choice of the listing)
+-- what is said of the bytes of a file (JVMS SE 8, 4.1)
 abbrev pub OutcomeOf : List ℕ → Outcome → Type 0
 OutcomeOf bytes Same = (f : Structure) × (read_of bytes ≡ Ok f) × ListsAgain f
 OutcomeOf bytes (Refused fault) = read_of bytes ≡ Err fault

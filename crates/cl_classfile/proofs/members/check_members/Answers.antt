@@ -1,28 +1,34 @@
 use Rattle.std.proofs.Common.{List, take, refl, sym, subst, ◌∙◌, arith}
 use Rattle.cl_classfile.specs.Structure.{Member}
 use Rattle.cl_classfile.specs.Checking.{keeps_member}
-use Rattle.cl_classfile.specs.Seen.{HasKeys}
+use Rattle.cl_classfile.specs.Numbers.{number_of}
+use Rattle.cl_classfile.specs.Seen.{HasPairs}
 use Rattle.cl_classfile.proofs.MemberRows.{counted, front, goes_on, refuses, repeats, is_done}
 use Rattle.cl_classfile.proofs.Keys.{starts, old, fresh}
+use Rattle.cl_classfile.proofs.Numbering.{member_noted}
 use Rattle.cl_classfile.proofs.members.check_members.Goals as goal
 
 pub loop-i-init : goal.loop-i-init
-loop-i-init c = (refl, starts c.args.pool.now c.new-seen.result.keys c.new-seen.ensures.empty)
+loop-i-init c = λ pool a. (refl, starts pool (number_of c.args.numbers.now) c.new-seen.result.keys c.new-seen.ensures.empty)
 
 pub returns-then-not-keeps_member : goal.returns-then-not-keeps_member
-returns-then-not-keeps_member c = counted c.args.kind c.args.traits.now c.args.of_interface c.args.pool.now c.args.members.now (omega arith) ∙ refuses (keeps_member c.args.kind c.args.traits.now c.args.of_interface) c.args.pool.now c.args.members.now c.loop-i.i c.index-members-i.result c.loop-i-test.true c.index-members-i.is (sym c.keeps_member.ensures ∙ c.if-not-keeps_member.true) c.loop-i.invariant.0
+returns-then-not-keeps_member c = λ pool a.
+    counted c.args.kind c.args.traits.now c.args.of_interface pool c.args.members.now (omega arith) ∙ refuses (keeps_member c.args.kind c.args.traits.now c.args.of_interface) pool c.args.members.now c.loop-i.i c.index-members-i.result c.loop-i-test.true c.index-members-i.is (sym c.keeps_member.ensures ∙ c.if-not-keeps_member.true) (c.loop-i.invariant pool a).0
 
 pub returns-then-not-branch : goal.returns-then-not-branch
-returns-then-not-branch c =
-    let k = c.in_ok-is_new.ensures (take c.loop-i.i c.args.members.now) c.loop-i.invariant.1 in
-    counted c.args.kind c.args.traits.now c.args.of_interface c.args.pool.now c.args.members.now (omega arith) ∙ repeats (keeps_member c.args.kind c.args.traits.now c.args.of_interface) c.args.pool.now c.args.members.now c.loop-i.i c.index-members-i.result c.loop-i-test.true c.index-members-i.is (sym c.keeps_member.ensures ∙ c.if-not-keeps_member.false) (old c.in_ok-is_new.field-0 _ k.0 c.if-not-branch.true) c.loop-i.invariant.0
+returns-then-not-branch c = λ pool a.
+    let so_far = c.loop-i.invariant pool a in
+    let k = c.in_ok-is_new.ensures pool (take c.loop-i.i c.args.members.now) a.numbers (member_noted pool c.args.numbers.now c.args.members.now c.loop-i.i c.index-members-i.result c.loop-i-test.true c.index-members-i.is a.each) so_far.1 in
+    counted c.args.kind c.args.traits.now c.args.of_interface pool c.args.members.now (omega arith) ∙ repeats (keeps_member c.args.kind c.args.traits.now c.args.of_interface) pool c.args.members.now c.loop-i.i c.index-members-i.result c.loop-i-test.true c.index-members-i.is (sym c.keeps_member.ensures ∙ c.if-not-keeps_member.false) (old c.in_ok-is_new.field-0 _ k.0 c.if-not-branch.true) so_far.0
 
 pub loop-i-preserved : goal.loop-i-preserved
-loop-i-preserved c =
-    let k = c.in_ok-is_new.ensures (take c.loop-i.i c.args.members.now) c.loop-i.invariant.1 in (
-      goes_on (keeps_member c.args.kind c.args.traits.now c.args.of_interface) c.args.pool.now c.args.members.now c.loop-i.i c.index-members-i.result c.loop-i-test.true c.index-members-i.is (sym c.keeps_member.ensures ∙ c.if-not-keeps_member.false) (fresh c.in_ok-is_new.field-0 _ k.0 c.if-not-branch.false) c.loop-i.invariant.0,
-      subst (λ (ms : List Member). HasKeys c.args.pool.now c.is_new.new.seen.keys ms) (sym (front c.args.members.now c.loop-i.i c.index-members-i.result c.loop-i-test.true c.index-members-i.is)) k.1,
+loop-i-preserved c = λ pool a.
+    let so_far = c.loop-i.invariant pool a in
+    let k = c.in_ok-is_new.ensures pool (take c.loop-i.i c.args.members.now) a.numbers (member_noted pool c.args.numbers.now c.args.members.now c.loop-i.i c.index-members-i.result c.loop-i-test.true c.index-members-i.is a.each) so_far.1 in (
+      goes_on (keeps_member c.args.kind c.args.traits.now c.args.of_interface) pool c.args.members.now c.loop-i.i c.index-members-i.result c.loop-i-test.true c.index-members-i.is (sym c.keeps_member.ensures ∙ c.if-not-keeps_member.false) (fresh c.in_ok-is_new.field-0 _ k.0 c.if-not-branch.false) so_far.0,
+      subst (λ (ms : List Member). HasPairs pool (number_of c.args.numbers.now) c.is_new.new.seen.keys ms) (sym (front c.args.members.now c.loop-i.i c.index-members-i.result c.loop-i-test.true c.index-members-i.is)) k.1,
     )
 
 pub returns : goal.returns
-returns c = counted c.args.kind c.args.traits.now c.args.of_interface c.args.pool.now c.args.members.now (omega arith) ∙ is_done (keeps_member c.args.kind c.args.traits.now c.args.of_interface) c.args.pool.now c.args.members.now c.loop-i.i c.loop-i-test.false c.loop-i.invariant.0
+returns c = λ pool a.
+    counted c.args.kind c.args.traits.now c.args.of_interface pool c.args.members.now (omega arith) ∙ is_done (keeps_member c.args.kind c.args.traits.now c.args.of_interface) pool c.args.members.now c.loop-i.i c.loop-i-test.false (c.loop-i.invariant pool a).0

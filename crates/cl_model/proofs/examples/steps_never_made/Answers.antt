@@ -11,11 +11,11 @@ returns-clause-initiate_own c s h = h.not_own refl
 pub returns-clause-initiate_elsewhere : goal.returns-clause-initiate_elsewhere
 returns-clause-initiate_elsewhere c s h = absurd (let e : Some boot ≡ Some app = h.found in cc)
 
-pub returns-clause-settle_no_reference : goal.returns-clause-settle_no_reference
-returns-clause-settle_no_reference c s h = h.is_entry refl
+pub returns-clause-bad_entry_settled : goal.returns-clause-bad_entry_settled
+returns-clause-bad_entry_settled c s h = h.is_entry refl
 
-pub returns-clause-settle_array_member : goal.returns-clause-settle_array_member
-returns-clause-settle_array_member c s h = h.is_class_member refl
+pub returns-clause-member_settled : goal.returns-clause-member_settled
+returns-clause-member_settled c s h = h.is_class_member refl
 
 pub returns-clause-stray : goal.returns-clause-stray
 returns-clause-stray c s h = h

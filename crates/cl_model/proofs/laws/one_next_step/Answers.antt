@@ -6,3 +6,6 @@ returns-clause-one c = one_next_step
 
 pub returns-clause-none : goal.returns-clause-none
 returns-clause-none c = come_to_ends
+
+pub returns-clause-ended : goal.returns-clause-ended
+returns-clause-ended c = come_to_ends

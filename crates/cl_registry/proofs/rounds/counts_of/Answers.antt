@@ -1,8 +1,7 @@
-use Rattle.std.proofs.Common.{◌≡◌, ◌<◌, ◌≤◌, ◌∙◌, ℕ, Some, None, replicate, length, refl, sym, ap, subst, arith}
+use Rattle.std.proofs.Common.{◌∙◌, length, refl, sym, ap, arith}
 use Rattle.std.specs.Prelude.{slice_get}
 use Rattle.std.proofs.lemmas.Option.{slice_get_read}
 use Rattle.std.proofs.lemmas.List.{length-set, length-replicate}
-use Rattle.cl_registry.specs.Kept.{open_in}
 use Rattle.cl_registry.proofs.Counts.{counted, open_le, open_none, index_below, zeros_are}
 use Rattle.cl_registry.proofs.rounds.counts_of.Goals as goal
 

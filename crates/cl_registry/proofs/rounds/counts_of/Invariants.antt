@@ -1,4 +1,4 @@
-use Rattle.std.proofs.Common.{◌≡◌, ◌≤◌, ℕ, length, replicate, None, Some}
+use Rattle.std.proofs.Common.{◌≡◌, ℕ, length, replicate, None, Some}
 use Rattle.std.specs.Prelude.{slice_get}
 use Rattle.cl_registry.specs.Kept.{open_in}
 use Rattle.cl_registry.proofs.rounds.counts_of.Given as goal

@@ -1,7 +1,6 @@
 use Rattle.std.proofs.Common.{ap}
 use Rattle.cl_registry.specs.Tables.{Shown}
-use Rattle.cl_schedule.proofs.Histories.{happens_round}
-use Rattle.cl_schedule.proofs.Rounds.{passing_on, end_of_rounds, next_number}
+use Rattle.cl_schedule.proofs.Rounds.{passing_on, end_of_rounds, next_number, round_goes}
 use Rattle.cl_schedule.proofs.serve.pass_rounds.Goals as goal
 
 pub loop-smaller : goal.loop-smaller
@@ -10,7 +9,7 @@ loop-smaller g c = next_number c.loop.registry c.next_round.new.self c.in-Ok.ens
 pub loop-preserved : goal.loop-preserved
 loop-preserved g c =
     passing_on c.args.registry.now c.loop.registry c.next_round.new.self c.loop.invariant c.in-Ok.ensures.may
-    (happens_round c.loop.registry c.next_round.new.self c.in-Ok.ensures.begun) (ap (λ (x : Shown). x.rows) c.in-Ok.ensures.begun)
+    (round_goes c.loop.registry c.next_round.new.self c.in-Ok.ensures.begun) (ap (λ (x : Shown). x.rows) c.in-Ok.ensures.begun)
 
 pub returns-in-Err-clause-passed : goal.returns-in-Err-clause-passed
 returns-in-Err-clause-passed g c = end_of_rounds c.args.registry.now c.loop.registry c.next_round.new.self c.in-Err.field-0 c.loop.invariant c.in-Err.ensures.unchanged c.in-Err.ensures.refused

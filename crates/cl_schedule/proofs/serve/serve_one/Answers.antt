@@ -3,16 +3,16 @@ use Rattle.std.specs.Prelude.{slice_get}
 use Rattle.cl_config.specs.Views.{Configured, Scripted}
 use Rattle.cl_config.specs.Scripts.{HasLoaders}
 use Rattle.cl_registry.specs.Reports.{IsNamed}
-use Rattle.cl_registry.specs.Tables.{Shown, IsTrusted, RunsAs, posts, steps}
+use Rattle.cl_model.specs.Tables.{IsConsistent}
+use Rattle.cl_registry.specs.Tables.{Shown, IsTrusted, RunsAs, posts, state_of, steps}
 use Rattle.cl_schedule.specs.Counting.{Grows, faults}
 use Rattle.cl_schedule.specs.Serving.{reported, upto, InOrder}
-use Rattle.cl_schedule.specs.Headline.{EachSpelt, Alike, CirclesExact}
-use Rattle.cl_schedule.proofs.Serving.{bare, bare_runs, bare_trusted, next_upto, next_is_open, in_script, has_loader, is_load, report_tells}
-use Rattle.cl_schedule.proofs.Rounds.{next_is_now, none_goes_on, nothing_left, served_bare, served_none, served_next, served_whole}
-use Rattle.cl_schedule.specs.Replies.{ClassesStay}
-use Rattle.cl_schedule.proofs.Again.{stays_next, stays_same, stays_start}
+use Rattle.cl_schedule.specs.Headline.{EachSpelt, Alike, ReferencesAlike, CirclesExact}
+use Rattle.cl_schedule.proofs.Serving.{bare, bare_runs, bare_trusted, next_upto, next_is_open, in_script, has_loader, report_tells}
+use Rattle.cl_schedule.proofs.Rounds.{known_bare, known_next, known_none, next_is_now, none_goes_on, nothing_left, served_bare, served_none, served_next, served_whole}
+use Rattle.cl_schedule.specs.Known.{KnownStays}
 use Rattle.cl_schedule.proofs.Counted.{grows_none, faults_none, faults_then}
-use Rattle.cl_schedule.proofs.Headline.{each_spelt, alike, circles_exact}
+use Rattle.cl_schedule.proofs.Headline.{each_spelt, alike, references_alike, circles_exact, consistent}
 use Rattle.cl_schedule.proofs.serve.serve_one.Goals as goal
 
 pub loop-q-init : goal.loop-q-init
@@ -25,18 +25,12 @@ loop-q-init g c =
       order = passed.posts_same ∙ ap (λ (x : Shown). posts x.history) empty;
       kept = c.pass_rounds.ensures.kept;
       over = none_goes_on c.in-Ok.registry c.pass_rounds.new.registry passed;
-      stay = stays_start c.pass_rounds.new.registry c.pass_rounds.ensures.kept.trusted (passed.posts_same ∙ ap (λ (x : Shown). posts x.history) empty);
+      known = known_none c.in-Ok.registry c.pass_rounds.new.registry (ap steps empty) passed;
       served = served_none g.T.Told.told c.in-Ok.registry c.pass_rounds.new.registry (ap steps empty) passed;
       counted =
           subst (λ (n : ℕ). Grows n (g.S.Source.refused c.args.source.now) (g.S.Source.refused c.args.source.now))
           (sym (ap faults passed.answers ∙ ap (λ (x : Shown). faults x.answers) empty ∙ faults_none (length c.in_ok-asked.asked.value.requests))) (grows_none _);
     }
-
-pub serve_request-requires-clause-load : goal.serve_request-requires-clause-load
-serve_request-requires-clause-load g c =
-    let inv = c.loop-q.invariant in
-    is_load c.loop-q.registry.script.requests c.loop-q.q c.in_ok-request.request inv.kept.trusted.script.loads
-    (subst (λ (s : Scripted). slice_get s.requests c.loop-q.q ≡ Some c.in_ok-request.request) (c.deref-in-loop-q.ensures ∙ sym inv.script) c.in_ok-request.ensures)
 
 pub serve_request-requires-clause-loader : goal.serve_request-requires-clause-loader
 serve_request-requires-clause-loader g c =
@@ -61,20 +55,16 @@ loop-q-preserved g c =
     let old = c.loop-q.registry in
     let x = c.serve_request.new.registry in
     let new = c.pass_rounds-in-loop-q.new.registry in
+    let asked = subst (λ (s : Scripted). slice_get s.requests c.loop-q.q ≡ Some c.in_ok-request.request) (c.deref-in-loop-q.ensures ∙ sym inv.script) c.in_ok-request.ensures in
+    let opened = next_is_open old c.loop-q.q inv.kept.trusted inv.order (in_script old.script.requests c.loop-q.q c.in_ok-request.request asked) in
     record {
-      config = passed.config ∙ served.config ∙ inv.config;
-      script = passed.script ∙ served.script ∙ inv.script;
-      order = next_upto c.loop-q.q _ _ (passed.posts_same ∙ served.posted) inv.order;
+      config = passed.config ∙ served.done.config ∙ inv.config;
+      script = passed.script ∙ served.done.script ∙ inv.script;
+      order = next_upto c.loop-q.q _ _ (passed.posts_same ∙ served.done.posted) inv.order;
       kept = c.pass_rounds-in-loop-q.ensures.kept;
       over = none_goes_on x new passed;
-      stay =
-          stays_same x new
-          (stays_next old x c.loop-q.q c.in_ok-request.request served.answered.answer _ _ inv.kept.trusted inv.order
-          (subst (λ (s : Scripted). slice_get s.requests c.loop-q.q ≡ Some c.in_ok-request.request) (c.deref-in-loop-q.ensures ∙ sym inv.script) c.in_ok-request.ensures)
-          inv.stay served.script served.answered.is served.recorded) passed.script passed.answers;
-      served =
-          served_next g.T.Told.told old x new c.loop-q.q c.in_ok-request.request inv.served inv.kept.trusted.script
-          (subst (λ (s : Scripted). slice_get s.requests c.loop-q.q ≡ Some c.in_ok-request.request) (c.deref-in-loop-q.ensures ∙ sym inv.script) c.in_ok-request.ensures) served.served passed;
+      known = known_next g.T.Told.told old x new c.loop-q.q c.in_ok-request.request _ _ inv.known inv.kept.trusted.script asked opened served.done served.known passed;
+      served = served_next g.T.Told.told old x new c.loop-q.q c.in_ok-request.request inv.served inv.kept.trusted.script asked served.done passed;
       counted =
           subst (λ (n : ℕ). Grows n (g.S.Source.refused c.args.source.now) (g.S.Source.refused c.serve_request.new.source)) (sym (ap faults passed.answers))
           (faults_then old.answers x.answers _ _ _ inv.counted served.faults);
@@ -111,10 +101,12 @@ returns-clause-served g c =
       each_once = ap posts whole.history ∙ inv.order ∙ ap upto (all_served g c);
       named = subst (λ (k : Configured). IsNamed (length k.loaders) c.in-Ok-into_report.report) inv.config c.in-Ok-into_report.ensures.loaders;
       trusted = subst IsTrusted (told_of g c) trusted;
-      classes = subst ClassesStay (told_of g c) inv.stay;
+      consistent = subst (λ (y : Shown). IsConsistent (state_of y)) (told_of g c) (consistent x trusted);
+      known = subst KnownStays (told_of g c) (known_bare c.loop-q.registry inv.known);
       run = subst (RunsAs told) (told_of g c) run;
       in_order = subst (InOrder told) (told_of g c) (served_bare told c.loop-q.registry (served_whole told c.loop-q.registry c.loop-q.q trusted.script inv.served all));
-      spelt = subst (EachSpelt told) (told_of g c) (each_spelt told x run);
+      spelt = subst (EachSpelt told) (told_of g c) (each_spelt told c.loop-q.registry inv.kept);
       alike = subst (Alike told) (told_of g c) (alike told x trusted run);
+      references = subst (ReferencesAlike told) (told_of g c) (references_alike told x trusted run);
       circles = subst (CirclesExact told) (told_of g c) (circles_exact told x trusted run);
     }

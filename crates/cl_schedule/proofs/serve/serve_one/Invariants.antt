@@ -1,9 +1,8 @@
 use Rattle.std.proofs.Common.{◌≡◌}
 use Rattle.cl_registry.specs.Tables.{IsKept, MayGoOn, posts}
 use Rattle.cl_schedule.specs.Serving.{upto}
-use Rattle.cl_schedule.specs.Replies.{ClassesStay}
 use Rattle.cl_schedule.specs.Counting.{Grows, faults}
-use Rattle.cl_schedule.proofs.Rounds.{ServedBelow}
+use Rattle.cl_schedule.proofs.Rounds.{KnownBelow, ServedBelow}
 use Rattle.cl_schedule.proofs.serve.serve_one.Given as goal
 
 abbrev pub invariant-loop-q : goal.invariant-loop-q
@@ -13,7 +12,7 @@ invariant-loop-q g l = record {
   order : posts l.registry.history ≡ upto l.q;
   kept : IsKept g.T.Told.told l.registry;
   over : MayGoOn l.registry → ⊥;
-  stay : ClassesStay l.registry;
+  known : KnownBelow l.registry;
   served : ServedBelow g.T.Told.told l.registry l.q;
   counted : Grows (faults l.registry.answers) (g.S.Source.refused l.fn.source) (g.S.Source.refused l.source);
 }

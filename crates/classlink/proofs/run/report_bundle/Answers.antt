@@ -1,5 +1,5 @@
 use Rattle.std.proofs.Common.{◌≡◌, ℕ, All, string_bytes, subst}
-use Rattle.cl_model.specs.Texts.{EventNames}
+use Rattle.cl_model.specs.Texts.{AnswerNames, EventNames}
 use Rattle.classlink.specs.Faults.{print_fault}
 use Rattle.classlink.specs.declared.fault.Fault.TheVariants.{Bundle, Memory}
 use Rattle.classlink.proofs.Running.{are_lines, by_bundle, by_memory, by_print, names_count, ran_wrong}
@@ -21,6 +21,12 @@ print_report-requires-clause-events g c =
     let seen : c.deref.result.now ≡ c.in_ok-config-2.config.value = cc (c.deref.ensures, c.in_ok-loaders.ensures) in
     let count = names_count string_bytes c.names-names.result.now c.in_ok-config-2.config.value c.deref.result.now c.names-names.ensures seen in
     subst (λ (n : ℕ). All (EventNames n) c.in_ok-report.report.history) count c.in_ok-report.ensures.served.in_order.named.history
+
+pub print_report-requires-clause-answers : goal.print_report-requires-clause-answers
+print_report-requires-clause-answers g c =
+    let seen : c.deref.result.now ≡ c.in_ok-config-2.config.value = cc (c.deref.ensures, c.in_ok-loaders.ensures) in
+    let count = names_count string_bytes c.names-names.result.now c.in_ok-config-2.config.value c.deref.result.now c.names-names.ensures seen in
+    subst (λ (n : ℕ). All (AnswerNames n) c.in_ok-report.report.answers) count c.in_ok-report.ensures.served.in_order.named.answers
 
 pub returns-in_err-print_report : goal.returns-in_err-print_report
 returns-in_err-print_report g c =

@@ -16,13 +16,13 @@ pub returns-in-Ok-clause-read : goal.returns-in-Ok-clause-read
 returns-in-Ok-clause-read g c = λ path ask. c.run_asked.ensures.read path (c.in-Ok.ensures.read path ask)
 
 pub returns-in-Ok-clause-taken : goal.returns-in-Ok-clause-taken
-returns-in-Ok-clause-taken g c = λ none. taken _ _ (g.R.ReadPath.gives c.args.rt.now) _ _ _ _ _ c.in-Ok.asked c.in-Ok.ensures.exact c.run_asked.ensures.bundle c.run_asked.ensures.run c.run_asked.ensures.read
+returns-in-Ok-clause-taken g c = λ none. taken _ _ (g.F.ReadFile.gives c.args.files.now) _ _ _ _ _ c.in-Ok.asked c.in-Ok.ensures.exact c.run_asked.ensures.bundle c.run_asked.ensures.run c.run_asked.ensures.read
 
 pub returns-in-Err-clause-bundle : goal.returns-in-Err-clause-bundle
 returns-in-Err-clause-bundle g c = λ answers ask. lacking_run _ _ _ _ _ _ _ (lacking _ _ _ _ _ _ (c.in-Err.ensures.asked answers ask) c.turn_down.ensures)
 
 pub returns-in-Err-clause-run : goal.returns-in-Err-clause-run
-returns-in-Err-clause-run g c = λ w ask. lacking_script (g.R.ReadPath.gives c.args.rt.now) w _ _ _ _ _ (lacking _ _ _ _ _ _ (c.in-Err.ensures.run w ask) c.turn_down.ensures)
+returns-in-Err-clause-run g c = λ w ask. lacking_script (g.F.ReadFile.gives c.args.files.now) w _ _ _ _ _ (lacking _ _ _ _ _ _ (c.in-Err.ensures.run w ask) c.turn_down.ensures)
 
 pub returns-in-Err-clause-read : goal.returns-in-Err-clause-read
 returns-in-Err-clause-read g c = λ path ask. lacking_reading _ _ _ _ _ _ _ (lacking _ _ _ _ _ _ (c.in-Err.ensures.read path ask) c.turn_down.ensures)

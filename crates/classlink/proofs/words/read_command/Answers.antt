@@ -8,7 +8,7 @@ use Rattle.classlink.proofs.words.read_command.Goals as goal
 
 pub returns : goal.returns
 returns c =
-    let empty : app_of c.about.result ≡ app_of c.new.result = search rules in
-    let globals : (out-Command c.about.result).has_globals ≡ (out-Command c.new.result).has_globals = search rules in
-    let is : IsCommand (new_app (codes "read")) c.about.result = (empty ∙ c.new.ensures.app, globals ∙ c.new.ensures.local) in
-    IfOk-weaker c.arg.result _ _ (λ m h. adds _ c.about.result m (file (codes "FILE")) c.file.result is c.file.ensures.rule c.file.ensures.local h) c.arg.ensures
+    let empty : app_of c.after_help.result ≡ app_of c.new.result = search rules in
+    let globals : (out-Command c.after_help.result).has_globals ≡ (out-Command c.new.result).has_globals = search rules in
+    let is : IsCommand (new_app (codes "read")) c.after_help.result = (empty ∙ c.new.ensures.app, globals ∙ c.new.ensures.local) in
+    IfOk-weaker c.arg.result _ _ (λ m h. adds _ c.after_help.result m (file (codes "FILE")) c.file.result is c.file.ensures.rule c.file.ensures.local h) c.arg.ensures

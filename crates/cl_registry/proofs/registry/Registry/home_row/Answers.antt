@@ -1,4 +1,4 @@
-use Rattle.std.proofs.Common.{◌≡◌, ◌∙◌, ◌<◌, ℕ, ap, sym, subst, length}
+use Rattle.std.proofs.Common.{◌≡◌, ◌∙◌, ap, sym, subst, length}
 use Rattle.std.specs.Prelude.{MatchOption, IfSome, Some}
 use Rattle.cl_registry.specs.Tables.{Shown, MayJoin, looked, row_at}
 use Rattle.cl_registry.proofs.Asked.{below_count, joins, home_looked}

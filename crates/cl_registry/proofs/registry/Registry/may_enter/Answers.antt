@@ -1,16 +1,16 @@
-use Rattle.std.proofs.Common.{◌≡◌, ◌∙◌, ◌<◌, ℕ, ap, sym, subst, length}
+use Rattle.std.proofs.Common.{◌∙◌, ap, sym, subst, length}
 use Rattle.std.specs.Prelude.{MatchBool}
 use Rattle.cl_registry.specs.Tables.{Shown, MayEnter, row_at}
 use Rattle.cl_registry.proofs.Asked.{below_count, enters_by, lacks_above}
 use Rattle.cl_registry.proofs.registry.Registry.may_enter.Goals as goal
 
-pub returns-then-not-has_supers : goal.returns-then-not-has_supers
-returns-then-not-has_supers g c =
+pub returns-then-not-has_supers-clause-may : goal.returns-then-not-has_supers-clause-may
+returns-then-not-has_supers-clause-may g c =
     subst (λ (y : Shown). MayEnter y c.args.draft.now → ⊥) c.self.view_is
     (lacks_above (λ r. r.value) g.T.Told.told _ c.self.invariant.kept (row_at c.self.inside.tables.items) c.self.invariant.rows c.args.draft.now c.if-not-has_supers.ensures)
 
-pub returns : goal.returns
-returns g c =
+pub returns-clause-may : goal.returns-clause-may
+returns-clause-may g c =
     subst (λ (y : Shown). MatchBool c.supertypes_fit.result (MayEnter y c.args.draft.now) (MayEnter y c.args.draft.now → ⊥)) c.self.view_is
     (enters_by (λ r. r.value) g.T.Told.told _ c.self.invariant.kept (row_at c.self.inside.tables.items) c.self.invariant.rows c.args.draft.now c.supertypes_fit.result
     (sym (c.config.ensures.config ∙ ap (λ h. h.config) (c.deref.ensures ∙ c.home.ensures.home)) ∙ c.if-not-is_same.ensures ∙ c.deref-2.ensures)

@@ -1,6 +1,4 @@
-use Rattle.std.proofs.Common.{◌≡◌, ◌∙◌, ◌<◌, ◌≤◌, ◌+◌, ℕ, ap, sym, subst, refl, arith, length, Some}
-use Rattle.std.specs.Prelude.{slice_get}
-use Rattle.std.proofs.lemmas.Option.{slice_get_read}
+use Rattle.std.proofs.Common.{◌∙◌, ◌<◌, ◌≤◌, ◌+◌, ℕ, ap, subst}
 use Rattle.cl_registry.specs.Tables.{Shown, MayGoOn}
 use Rattle.cl_registry.proofs.Schedules.{may_go_on, open_stops, last_stops, kept_round, round_there_is}
 use Rattle.cl_registry.proofs.registry.Registry.next_round.Goals as goal

@@ -1,22 +1,21 @@
-use Rattle.std.proofs.Common.{◌≡◌, ◌∙◌, List, map, Option, Some, None, inr, ap, sym, arith}
+use Rattle.std.proofs.Common.{◌≡◌, ◌∙◌, List, map, Option, Some, None, inr, ap, sym, subst, arith}
 use Rattle.std.specs.Prelude.{slice_get}
 use Rattle.cl_model.specs.declared.answer.Answer.{Answer}
 use Rattle.cl_model.specs.declared.request.Request.{Request}
 use Rattle.cl_config.specs.Views.{Scripted}
-use Rattle.cl_registry.specs.Tables.{Shown, Fits}
+use Rattle.cl_registry.specs.Posting.{Fits, IsBacked}
+use Rattle.cl_registry.specs.Tables.{Shown}
 use Rattle.cl_registry.proofs.Histories.{left_set}
-use Rattle.cl_registry.proofs.Backed.{table_of, not_later}
-use Rattle.cl_registry.proofs.Posting.{kept_post, counts_down, one_less}
+use Rattle.cl_registry.proofs.Posts.{kept_post, counts_down, not_later, one_less}
 use Rattle.cl_registry.proofs.registry.Registry.post.Goals as goal
 
 pub returns-then-not-backs-clause-refused : goal.returns-then-not-backs-clause-refused
 returns-then-not-backs-clause-refused g c =
     let x : Shown = record { config = c.self.inside.config.value; script = c.self.inside.script.value; rows = map (λ r. r.value) c.self.inside.rows.items; history = c.self.inside.history.items; answers = c.self.inside.answers.items } in
-    let asked : slice_get c.self.inside.script.value.requests c.args.q ≡ Some c.args.finding.request = ap (λ (l : List Request). slice_get l c.args.q) (sym (c.requests.ensures.requests ∙ ap (λ (s : Scripted). s.requests) c.deref.ensures)) ∙ c.if-not-is_asked.ensures ∙ ap (λ (r : Request). Some r) c.request.ensures in
+    let asked : slice_get c.self.inside.script.value.requests c.args.q ≡ Some c.args.finding.request = ap (λ (l : List Request). slice_get l c.args.q) (sym (c.requests.ensures.requests ∙ ap (λ (s : Scripted). s.requests) c.deref.ensures)) ∙ c.if-not-is_asked.ensures ∙ ap (λ (r : Request). Some r) c.request.ensures.request in
     let is : slice_get c.self.inside.answers.items c.args.q ≡ Some None = ap (λ (xs : List (Option Answer)). slice_get xs c.args.q) (sym c.deref-3.ensures.value) ∙ c.if-not-is_open.ensures in
     let at : slice_get c.self.inside.script.value.rounds_of c.args.q ≡ Some c.round_of-round.result = ap (λ (s : Scripted). slice_get s.rounds_of c.args.q) (sym c.deref-2.ensures) ∙ c.round_of-round.ensures in
-    let table = table_of (λ r. r.value) g.T.Told.told x _ c.self.invariant.kept c.self.invariant.rows in
-    rw (← c.self.view_is) (inr (asked, not_later x c.args.q c.round_of-round.result c.self.inside.round at c.if-round-self.false c.self.invariant.round, is, c.if-not-backs.ensures x (sym c.deref-4.ensures) table))
+    rw (← c.self.view_is) (inr (asked, not_later x c.args.q c.round_of-round.result c.self.inside.round at c.if-round-self.false c.self.invariant.round, is, subst (λ (y : Shown). IsBacked y c.args.finding → ⊥) (sym c.self.view_is) c.if-not-backs.ensures))
 
 pub put_answer-requires : goal.put_answer-requires
 put_answer-requires g c = ap (λ (xs : List (Option Answer)). slice_get xs c.args.q) (sym c.deref-3.ensures.value) ∙ c.if-not-is_open.ensures
@@ -45,11 +44,10 @@ push_reserved-requires g c =
 pub invariant_of-self : goal.invariant_of-self
 invariant_of-self g c =
     let x : Shown = record { config = c.self.inside.config.value; script = c.self.inside.script.value; rows = map (λ r. r.value) c.self.inside.rows.items; history = c.self.inside.history.items; answers = c.self.inside.answers.items } in
-    let asked : slice_get c.self.inside.script.value.requests c.args.q ≡ Some c.args.finding.request = ap (λ (l : List Request). slice_get l c.args.q) (sym (c.requests.ensures.requests ∙ ap (λ (s : Scripted). s.requests) c.deref.ensures)) ∙ c.if-not-is_asked.ensures ∙ ap (λ (r : Request). Some r) c.request.ensures in
+    let asked : slice_get c.self.inside.script.value.requests c.args.q ≡ Some c.args.finding.request = ap (λ (l : List Request). slice_get l c.args.q) (sym (c.requests.ensures.requests ∙ ap (λ (s : Scripted). s.requests) c.deref.ensures)) ∙ c.if-not-is_asked.ensures ∙ ap (λ (r : Request). Some r) c.request.ensures.request in
     let is : slice_get c.self.inside.answers.items c.args.q ≡ Some None = ap (λ (xs : List (Option Answer)). slice_get xs c.args.q) (sym c.deref-3.ensures.value) ∙ c.if-not-is_open.ensures in
     let at : slice_get c.self.inside.script.value.rounds_of c.args.q ≡ Some c.round_of-round.result = ap (λ (s : Scripted). slice_get s.rounds_of c.args.q) (sym c.deref-2.ensures) ∙ c.round_of-round.ensures in
-    let table = table_of (λ r. r.value) g.T.Told.told x _ c.self.invariant.kept c.self.invariant.rows in
-    let fits : Fits x c.args.q c.args.finding = record { asked = asked; begun = not_later x c.args.q c.round_of-round.result c.self.inside.round at c.if-round-self.false c.self.invariant.round; unanswered = is; backed = c.if-not-backs.ensures x (sym c.deref-4.ensures) table } in
+    let fits : Fits x c.args.q c.args.finding = record { asked = asked; begun = not_later x c.args.q c.round_of-round.result c.self.inside.round at c.if-round-self.false c.self.invariant.round; unanswered = is; backed = subst (λ (y : Shown). IsBacked y c.args.finding) (sym c.self.view_is) c.if-not-backs.ensures } in
     let e = left_set c.self.inside.answers.items c.args.q c.into_answer.result is in
     rw (c.push_reserved.ensures.items, c.put_answer.ensures, c.into_answer.ensures.answer)
     (kept_post g.T.Told.told x _ c.args.q c.round_of-round.result c.args.finding _ _ _ _ c.self.invariant fits c.into_answer.ensures.rests at c.count_down.ensures
@@ -58,11 +56,10 @@ invariant_of-self g c =
 pub returns-clause-fits : goal.returns-clause-fits
 returns-clause-fits g c =
     let x : Shown = record { config = c.self.inside.config.value; script = c.self.inside.script.value; rows = map (λ r. r.value) c.self.inside.rows.items; history = c.self.inside.history.items; answers = c.self.inside.answers.items } in
-    let asked : slice_get c.self.inside.script.value.requests c.args.q ≡ Some c.args.finding.request = ap (λ (l : List Request). slice_get l c.args.q) (sym (c.requests.ensures.requests ∙ ap (λ (s : Scripted). s.requests) c.deref.ensures)) ∙ c.if-not-is_asked.ensures ∙ ap (λ (r : Request). Some r) c.request.ensures in
+    let asked : slice_get c.self.inside.script.value.requests c.args.q ≡ Some c.args.finding.request = ap (λ (l : List Request). slice_get l c.args.q) (sym (c.requests.ensures.requests ∙ ap (λ (s : Scripted). s.requests) c.deref.ensures)) ∙ c.if-not-is_asked.ensures ∙ ap (λ (r : Request). Some r) c.request.ensures.request in
     let is : slice_get c.self.inside.answers.items c.args.q ≡ Some None = ap (λ (xs : List (Option Answer)). slice_get xs c.args.q) (sym c.deref-3.ensures.value) ∙ c.if-not-is_open.ensures in
     let at : slice_get c.self.inside.script.value.rounds_of c.args.q ≡ Some c.round_of-round.result = ap (λ (s : Scripted). slice_get s.rounds_of c.args.q) (sym c.deref-2.ensures) ∙ c.round_of-round.ensures in
-    let table = table_of (λ r. r.value) g.T.Told.told x _ c.self.invariant.kept c.self.invariant.rows in
-    let fits : Fits x c.args.q c.args.finding = record { asked = asked; begun = not_later x c.args.q c.round_of-round.result c.self.inside.round at c.if-round-self.false c.self.invariant.round; unanswered = is; backed = c.if-not-backs.ensures x (sym c.deref-4.ensures) table } in
+    let fits : Fits x c.args.q c.args.finding = record { asked = asked; begun = not_later x c.args.q c.round_of-round.result c.self.inside.round at c.if-round-self.false c.self.invariant.round; unanswered = is; backed = subst (λ (y : Shown). IsBacked y c.args.finding) (sym c.self.view_is) c.if-not-backs.ensures } in
     rw (← c.self.view_is) fits
 
 pub returns-clause-kept : goal.returns-clause-kept

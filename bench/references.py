@@ -1,0 +1,108 @@
+#!/usr/bin/env python3
+"""references.py FOLDER: writes the inputs of references and links that docs/GATE.md has figures for.
+
+  methods       60,000 references to the methods of a class that has 65,000
+  settled       one reference, 65,535 times
+  constraints   63 loaders under one, whose classes each have 1,000 references to its methods: 63,000 constraints
+  refused       the same where each of the loaders, and the one above, has recorded a class of its own of each name before
+  overriding    5,000 classes over one another with a method of package access, in two packages by turns; the last is linked
+  ladder        60 diamonds of interfaces that each have the method which a class declares; it is linked and resolves it
+  links         65,535 links of 20,000 classes of app, each over one of boot whose method it overrides
+
+Each is a bundle: classlink bundle < FILE.
+"""
+import os
+import sys
+
+from loads import MANY, OBJECT, TOP, TWO, bundle, section
+
+NAMES = 1000
+LOADERS = [f"l{n}" for n in range(1, 64)]
+
+
+def with_lines(class_section, lines):
+    return class_section + "".join(f"{line}\n" for line in lines)
+
+
+def methods(path, count=65000, users=4, each=15000):
+    classes = [TOP, with_lines(section("app", "p/Wide"), [f"method 0001 m{n} ()V" for n in range(count)])]
+    script = []
+    for user in range(users):
+        refs = [f"ref method p/Wide m{user + n * users} ()V" for n in range(each)]
+        classes.append(with_lines(section("app", f"p/U{user}"), refs))
+        script += [f"resolve app p/U{user} {n}\n" for n in range(1, each + 1)]
+    bundle(path, TWO, classes, script)
+
+
+def settled(path):
+    service = with_lines(section("boot", "p/Svc"), ["method 0001 m (Lp/T;)V"])
+    user = with_lines(section("app", "p/Use"), ["ref method p/Svc m (Lp/T;)V"])
+    bundle(path, TWO, [TOP, service, user], ["resolve app p/Use 1\n"] * 65535)
+
+
+def below():
+    """A loader above 63 others that look at their own classes first."""
+    config = '[[loader]]\nname = "boot"\n'
+    for name in LOADERS:
+        config += f'[[loader]]\nname = "{name}"\nparent = "boot"\norder = "child"\n'
+    return config
+
+
+def service(loaders):
+    """A class with a method for each name, and in each loader a class that refers to all of them."""
+    found = [TOP, with_lines(section("boot", "p/Svc"), [f"method 0001 m (Lp/T{n};)V" for n in range(NAMES)])]
+    refs = [f"ref method p/Svc m (Lp/T{n};)V" for n in range(NAMES)]
+    return found + [with_lines(section(loader, "p/Use"), refs) for loader in loaders]
+
+
+def constraints(path):
+    script = [f"resolve {loader} p/Use {n}\n" for n in range(1, NAMES + 1) for loader in LOADERS]
+    bundle(path, below(), service(LOADERS), script)
+
+
+def refused(path, loaders=LOADERS[:31]):
+    classes = service(loaders) + [section(loader, f"p/T{n}") for loader in ["boot", *loaders] for n in range(NAMES)]
+    script = [f"load {loader} p/T{n}\n" for loader in ["boot", *loaders] for n in range(NAMES)]
+    script += [f"resolve {loader} p/Use {n}\n" for n in range(1, NAMES + 1) for loader in loaders]
+    bundle(path, below(), classes, script)
+
+
+def overriding(path, count=5000):
+    names = [f"{'pq'[n % 2]}/C{n}" for n in range(count)]
+    classes = [TOP]
+    for name, above in zip(names, [OBJECT, *names]):
+        classes.append(with_lines(section("app", name, above), ["method 0000 m (Lp/T;)V"]))
+    bundle(path, TWO, classes, [f"link app {names[-1]}\n"])
+
+
+def ladder(path):
+    own = ["method 0401 m (Lp/T;)V"]
+    classes = [TOP, with_lines(section("boot", "p/L0", flags="0601"), own)]
+    for n in range(1, 61):
+        for side in "AB":
+            classes.append(with_lines(section("boot", f"p/{side}{n}", interfaces=[f"p/L{n - 1}"], flags="0601"), own))
+        classes.append(with_lines(section("boot", f"p/L{n}", interfaces=[f"p/A{n}", f"p/B{n}"], flags="0601"), own))
+    user = ["ref method q/D m (Lp/T;)V", "ref imethod p/L60 m (Lp/T;)V"]
+    classes.append(with_lines(section("app", "q/C", interfaces=["p/L60"], flags="0421"), []))
+    classes.append(with_lines(section("app", "q/D", "q/C"), ["method 0001 m (Lp/T;)V"]))
+    classes.append(with_lines(section("app", "q/Use"), user + ["ref method q/C m (Lp/T;)V"]))
+    bundle(path, TWO, classes, ["link app q/D\n", *(f"resolve app q/Use {n}\n" for n in (1, 2, 3))])
+
+
+def links(path):
+    classes = [TOP]
+    for n in range(MANY):
+        own = [f"method 0001 m (Lp/T{n % NAMES};)V"]
+        classes.append(with_lines(section("boot", f"p/B{n}"), own))
+        classes.append(with_lines(section("app", f"p/C{n}", f"p/B{n}"), own))
+    bundle(path, TWO, classes, [f"link app p/C{n % MANY}\n" for n in range(65535)])
+
+
+def main(folder):
+    os.makedirs(folder, exist_ok=True)
+    for make in methods, settled, constraints, refused, overriding, ladder, links:
+        make(f"{folder}/{make.__name__}")
+
+
+if __name__ == "__main__":
+    main(sys.argv[1])

@@ -1,0 +1,73 @@
+-- Numbers of texts, the same for equal ones.
+use Rattle.std.specs.Prelude.{◌≡◌, ℕ, zero, suc, List, length, Option, Some, None, unwrap_or, set}
+use Rattle.std.specs.List.{AllByRecursion}
+use Rattle.std.specs.BTreeMap.{get}
+use Rattle.std.specs.Ordering.{ordering_then, nat_cmp}
+use Rattle.std.specs.declared.cmp.Ordering.{Ordering}
+use Rattle.std.specs.Cmp.Lexicographic.{slice_cmp}
+use Rattle.cl_classfile.specs.declared.entry.Entry.{Entry}
+use Rattle.cl_classfile.specs.declared.numbers.Numbers.{Numbers}
+use Rattle.cl_classfile.specs.Pool.{at}
+use Rattle.cl_classfile.specs.Structure.{Member}
+use Rattle.cl_classfile.specs.Files.{text_at}
+
+-- by the length, and then by the bytes
+abbrev pub text_cmp : ℕ × List ℕ → ℕ × List ℕ → Ordering
+text_cmp a b = ordering_then (nat_cmp a.0 b.0) (slice_cmp nat_cmp a.1 b.1)
+
+-- the number of a text, if it was met
+abbrev pub number_of : Numbers → List ℕ → Option ℕ
+number_of ns text = get text_cmp ns.met (length text, text)
+
+-- the number that is noted at an index, or 0
+abbrev pub number_at : List ℕ → ℕ → ℕ
+number_at noted i = unwrap_or (at noted i) 0
+
+-- the notes with this number at an index
+abbrev pub with_number : List ℕ → ℕ → ℕ → List ℕ
+with_number noted zero n = noted
+with_number noted (suc i) n = set noted i n
+
+-- this is the number of what stands at an index, 0 of what is no text
+abbrev pub IsNumber : (List ℕ → Option ℕ) → Option (List ℕ) → ℕ → Type 0
+IsNumber of None n = n ≡ 0
+IsNumber of (Some text) n = of text ≡ Some n
+
+-- the number of the text at an index is noted
+abbrev pub IsNoted : List Entry → Numbers → ℕ → Type 0
+IsNoted pool ns i = IsNumber (number_of ns) (text_at pool i) (number_at ns.noted.items i)
+
+-- a number is an index at which its text stands
+abbrev pub IsFirst : List Entry → (List ℕ → Option ℕ) → Type 0
+IsFirst pool of = (text : List ℕ) (n : ℕ) → of text ≡ Some n → text_at pool n ≡ Some text
+
+-- numbers are such, and what is noted is the number of the text there
+pub record AreNumbers (pool : List Entry) (ns : Numbers) : Type 0 where
+  pub first : IsFirst pool (number_of ns)
+  pub known : (i : ℕ) → (number_at ns.noted.items i ≡ 0 → ⊥) → IsNoted pool ns i
+  pub all : length ns.noted.items ≡ length pool
+
+-- a text that has a number keeps it
+abbrev pub Grows : Numbers → Numbers → Type 0
+Grows old new = (text : List ℕ) (n : ℕ) → number_of old text ≡ Some n → number_of new text ≡ Some n
+
+-- the text at an index was asked for, and no other's number changed
+pub record Notes (pool : List Entry) (old new : Numbers) (i : ℕ) : Type 0 where
+  pub numbers : AreNumbers pool new
+  pub kept : (j : ℕ) → IsNoted pool old j → IsNoted pool new j
+  pub noted : IsNoted pool new i
+
+-- the texts of a member were asked for (4.5, 4.6)
+abbrev pub IsMemberNoted : List Entry → Numbers → Member → Type 0
+IsMemberNoted pool ns m = IsNoted pool ns m.name_index × IsNoted pool ns m.descriptor_index
+
+-- the texts of these members were asked for, and no other's number changed (4.5, 4.6)
+pub record NotesAll (pool : List Entry) (old new : Numbers) (ms : List Member) : Type 0 where
+  pub numbers : AreNumbers pool new
+  pub kept : (j : ℕ) → IsNoted pool old j → IsNoted pool new j
+  pub noted : AllByRecursion (IsMemberNoted pool new) ms
+
+-- the texts of these members have numbers (4.5, 4.6)
+pub record AreNoted (pool : List Entry) (ns : Numbers) (ms : List Member) : Type 0 where
+  pub numbers : AreNumbers pool ns
+  pub each : AllByRecursion (IsMemberNoted pool ns) ms

@@ -1,0 +1,109 @@
+-- What an answer rests on, as it is kept (JVMS SE 8, 5.3 to 5.4.3).
+use Rattle.std.specs.Prelude.{
+  List,
+  [],
+  ◌∷◌,
+  ◌++◌,
+  map,
+  take,
+  Option,
+  Some,
+  None,
+  slice_get,
+  Contains,
+  IfSome,
+}
+use Rattle.std.specs.List.{AllByRecursion}
+use Rattle.cl_model.specs.declared.request.Request as request
+use Rattle.cl_model.specs.States.{State, Need, Entry, AllMet, Refused}
+use Rattle.cl_model.specs.Frames.{kept_of}
+use Rattle.cl_model.specs.Content.{Content}
+use Rattle.cl_hierarchy.specs.Drafts.{IsSpelt}
+use Rattle.cl_hierarchy.specs.Imposed.{Sprung, OfReference, OfPreparation}
+use Rattle.cl_hierarchy.specs.Imposed as imposed
+use Rattle.cl_hierarchy.specs.Frames.{frame_of}
+use Rattle.cl_hierarchy.specs.Lineages.{IsLineageOf, rows_in}
+use Rattle.cl_hierarchy.specs.Paths.{Pathed, frames_of, at_loader, at_name}
+use Rattle.cl_findings.specs.Findings.{Based}
+use Rattle.cl_findings.specs.Loads.{target_needs}
+use Rattle.cl_findings.specs.References.{class_need, reference_needs, config_of, sprung_needs}
+use Rattle.cl_findings.specs.declared.basis.Basis.{Basis}
+use Rattle.cl_findings.specs.declared.basis.Basis.TheVariants as bases
+use Rattle.cl_findings.specs.declared.load.Target.{Target}
+use Rattle.cl_findings.specs.declared.load.Target.TheVariants as targets
+use Rattle.cl_findings.specs.declared.basis.At.{At}
+use Rattle.cl_findings.specs.declared.basis.At.TheVariants as ats
+
+-- what else is recorded where a load ends: the class that does not fit, the supertypes of the class
+-- whose record is refused, or its home's own record (5.3, 5.3.5)
+abbrev pub at_needs : {A : Type 0} → Pathed → At A → List Need
+at_needs p ats.Nothing = []
+at_needs p (ats.Misfit place) = Entry (at_loader p) (at_name p) place ∷ []
+at_needs p (ats.Whole x) = kept_of (frame_of x ∷ [])
+at_needs p (ats.Away h) = Entry h.value.place h.value.name h.value.place ∷ []
+
+-- the record that is refused there, if one is (5.3, 5.3.4)
+abbrev pub at_refused : {A : Type 0} → At A → Option Need
+at_refused ats.Nothing = None
+at_refused (ats.Misfit place) = None
+at_refused (ats.Whole x) = Some (Entry x.draft.class.loader x.draft.class.name x.draft.class.loader)
+at_refused (ats.Away h) = Some (Entry h.value.asked h.value.name h.value.place)
+
+-- what an answer of a request rests on (5.3 to 5.4.3)
+abbrev pub based : {A : Type 0} → request.Request → Basis A → Based
+based r (bases.Load target path at) = record {
+  config = path.config;
+  needs = target_needs r target ++ (kept_of (frames_of path) ++ at_needs path at);
+  prepared = [];
+  refused = at_refused at;
+}
+based r (bases.Entry config d) =
+    record {
+      config = config.value;
+      needs = class_need r d.value.class ∷ [];
+      prepared = [];
+      refused = None;
+    }
+based r (bases.Class config d c) =
+    record {
+      config = config.value;
+      needs = reference_needs r d.value.class c.value.class;
+      prepared = [];
+      refused = None;
+    }
+based r (bases.Lookup d c) =
+    record {
+      config = d.value.config;
+      needs = reference_needs r d.value.own.class c.value.own.class;
+      prepared = [];
+      refused = None;
+    }
+based r (bases.Asked e met) = record {
+  config = config_of e.value.origin;
+  needs = sprung_needs r e.value.origin ++ take met (imposed.needs_of e.value.needs);
+  prepared = [];
+  refused = slice_get (imposed.needs_of e.value.needs) met;
+}
+based r (bases.Linked l place e met) = record {
+  config = l.value.config;
+  needs = class_need r l.value.own.class ∷ take met (imposed.needs_of e.value.needs);
+  prepared = map (λ row. row.class) (take place (rows_in l.value));
+  refused = slice_get (imposed.needs_of e.value.needs) met;
+}
+
+-- the file of the class that a target names is what that one's bytes spell (5.3.5)
+abbrev pub IsSpeltIn : {A : Type 0} → Option Content → Target A → Type 0
+IsSpeltIn told targets.Own = Unit {0}
+IsSpeltIn told (targets.Reference d) = IsSpelt told d.value.class d.value.file
+
+-- a state has the needs and the prepared classes, and refuses what is refused (5.3 to 5.4.3)
+abbrev pub Carries : State → Based → Type 0
+Carries s b =
+    AllMet s b.needs × AllByRecursion (Contains s.prepared) b.prepared
+    × IfSome b.refused (Refused s)
+
+-- where a content is told, the lineages that a list of equalities was made from are those of its
+-- world (5.3.5)
+abbrev pub AreLineages : Option Content → Sprung → Type 0
+AreLineages told (OfReference d c index) = IsLineageOf told d × IsLineageOf told c
+AreLineages told (OfPreparation at) = IsLineageOf told at

@@ -1,0 +1,19 @@
+-- What tables tell, in each state that they stand for (JVMS SE 8, 5.4.2).
+use Rattle.std.specs.Prelude.{Bool, Contains}
+use Rattle.cl_model.specs.declared.class.Class.{Class}
+use Rattle.cl_model.specs.States.{State}
+use Rattle.cl_constraints.specs.Books.{Wherever}
+use Rattle.cl_config.specs.Views.{Configured}
+use Rattle.cl_findings.specs.Findings.{Answered, Decides, Stands}
+
+-- a test tells whether this holds in each state that tables stand for
+abbrev pub TellsOf : (State → Type 0) → Bool → (State → Type 0) → Type 0
+TellsOf stands answer holds = Wherever stands (λ s. Decides answer (holds s))
+
+-- the answer tells whether a class is prepared (5.4.2)
+abbrev pub TellsPrepared : (State → Type 0) → Class → Bool → Type 0
+TellsPrepared stands c answer = TellsOf stands answer (λ s. Contains s.prepared c)
+
+-- the answer tells whether a finding stands under a configuration (5.3 to 5.4.3)
+abbrev pub TellsStanding : (State → Type 0) → Configured → Answered → Bool → Type 0
+TellsStanding stands c f answer = TellsOf stands answer (λ s. Stands c s f)

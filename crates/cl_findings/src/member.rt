@@ -1,0 +1,69 @@
+//! How entries that ask for members end.
+
+ghost use Rattle.std.specs.Prelude.{◌≡◌, Some};
+ghost use Rattle.cl_model.specs.declared.answer.Answer.TheVariants as answers;
+ghost use Rattle.cl_model.specs.Views.{verdict_of};
+ghost use Rattle.cl_hierarchy.specs.Imposed.{OfReference};
+ghost use Rattle.cl_findings.specs.References.{GoesTo, IsOfFound, IsLookupError, class_basis, index_of, member_basis};
+
+use crate::basis::Basis;
+use crate::finding::Finding;
+use cl_hierarchy::{Equalities, Lineage};
+use cl_members::Found;
+use cl_model::{Answer, Request, Told, Verdict};
+use std::sync::Arc;
+
+impl<T: Told> Finding<T> {
+    /// The member that an entry is resolved to, all of whose equalities are imposed (JVMS SE 8, 5.4.3.2 to 5.4.3.4).
+    pub fn member(
+        request: Request,
+        found: &Found<T>,
+        equalities: Arc<Equalities<T>>,
+        verdict: Verdict,
+    ) -> Finding<T>
+        requires reference { GoesTo request found.now.d found.now.c found.now.index }
+        requires origin { equalities.value.origin ≡ OfReference found.now.d found.now.c
+            found.now.index }
+        requires verdict { IsOfFound found.now (verdict_of verdict) }
+        ensures request { result.request ≡ request }
+        ensures answer { result.answer ≡ answers.Said verdict }
+        ensures basis { result.basis ≡ Some (member_basis request found.now equalities.value) }
+    {
+        // brings what is kept of the member, of its equalities, and of the classes' lineages
+        let _ = found.index();
+        let _ = found.d().class();
+        let _ = found.c().class();
+        let met = equalities.needs().len();
+        Finding {
+            request,
+            answer: Answer::Said(verdict),
+            basis: Some(Basis::Asked { equalities, met }),
+        }
+    }
+
+    /// The error of an entry of the class `d` whose member was not found through the class `c`: NoSuchFieldError,
+    /// NoSuchMethodError or IncompatibleClassChangeError of the class `c`, or IllegalAccessError of the class that declares
+    /// the member (JVMS SE 8, 5.4.3.2 to 5.4.3.4).
+    pub fn member_fault(
+        request: Request,
+        d: Arc<Lineage<T>>,
+        c: Arc<Lineage<T>>,
+        verdict: Verdict,
+    ) -> Finding<T>
+        requires reference { GoesTo request d.value c.value (index_of request) }
+        requires lookup { IsLookupError d.value c.value (index_of request) verdict }
+        ensures request { result.request ≡ request }
+        ensures answer { result.answer ≡ answers.Said verdict }
+        ensures basis { result.basis
+            ≡ Some (class_basis d.value.config request d.value.own.class c.value.own.class) }
+    {
+        // brings what is kept of the classes' lineages
+        let _ = d.class();
+        let _ = c.class();
+        Finding {
+            request,
+            answer: Answer::Said(verdict),
+            basis: Some(Basis::Lookup { d, c }),
+        }
+    }
+}

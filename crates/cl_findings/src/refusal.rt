@@ -1,0 +1,94 @@
+//! Equalities that are refused (JVMS SE 8, 5.3.4).
+
+ghost use Rattle.std.specs.Prelude.{◌≡◌, Some, slice_get};
+ghost use Rattle.cl_model.specs.declared.answer.Answer.TheVariants as answers;
+ghost use Rattle.cl_model.specs.declared.verdict.Verdict.TheVariants as verdicts;
+ghost use Rattle.cl_model.specs.Views.{need_of};
+ghost use Rattle.cl_hierarchy.specs.Imposed.{AreOf, needs_of};
+ghost use Rattle.cl_findings.specs.Bases.{AreLineages};
+ghost use Rattle.cl_findings.specs.References.{AreAsked, AreLinked, asked_basis, link_basis};
+
+use crate::basis::Basis;
+use crate::finding::Finding;
+use cl_hierarchy::{Equalities, Lineage, Origin};
+use cl_model::{Answer, Need, Request, Told, Verdict};
+use std::sync::Arc;
+
+/// Brings what a list of equalities keeps, and that the lineages that it was made from are those of their world.
+fn bring_lineages<T: Told>(equalities: &Equalities<T>)
+    ensures kept { AreOf equalities.now.origin (needs_of equalities.now.needs) }
+    ensures lineages { AreLineages T.told equalities.now.origin }
+{
+    match equalities.origin() {
+        Origin::Reference { d, c, .. } => {
+            let _ = d.class();
+            let _ = c.class();
+        }
+        Origin::Preparation { lineage } => {
+            let _ = lineage.class();
+        }
+    }
+}
+
+impl<T: Told> Finding<T> {
+    /// The refusal of the equality at this index of those of an entry's member, all before which are imposed: LinkageError of
+    /// that need (JVMS SE 8, 5.3.4, 5.4.3).
+    pub fn refused_member(
+        request: Request,
+        equalities: Arc<Equalities<T>>,
+        index: usize,
+        need: Need,
+    ) -> Finding<T>
+        requires reference { AreAsked request equalities.value.origin }
+        requires need { slice_get (needs_of equalities.value.needs) index ≡ Some (need_of need) }
+        ensures request { result.request ≡ request }
+        ensures answer { result.answer ≡ answers.Said (verdicts.Linkage need) }
+        ensures basis { result.basis ≡ Some (asked_basis request equalities.value index
+            (need_of need)) }
+    {
+        bring_lineages(&equalities);
+        let basis = Basis::Asked {
+            equalities,
+            met: index,
+        };
+        Finding {
+            request,
+            answer: Answer::Said(Verdict::Linkage(need)),
+            basis: Some(basis),
+        }
+    }
+
+    /// The refusal of the equality at this index of those of the preparation of the class at this place of the lineage of a
+    /// request to link, where all before it are imposed and all classes before the place are prepared: LinkageError of that
+    /// need (JVMS SE 8, 5.3.4, 5.4.2).
+    pub fn refused_link(
+        request: Request,
+        lineage: Arc<Lineage<T>>,
+        place: usize,
+        equalities: Arc<Equalities<T>>,
+        index: usize,
+        need: Need,
+    ) -> Finding<T>
+        requires link { AreLinked request lineage.value place equalities.value.origin }
+        requires need { slice_get (needs_of equalities.value.needs) index ≡ Some (need_of need) }
+        ensures request { result.request ≡ request }
+        ensures answer { result.answer ≡ answers.Said (verdicts.Linkage need) }
+        ensures basis { result.basis
+            ≡ Some (link_basis request lineage.value place equalities.value index (need_of need)) }
+    {
+        bring_lineages(&equalities);
+        // brings what is kept of the lineage
+        let _ = lineage.class();
+        let basis = Basis::Linked {
+            lineage,
+            place,
+            equalities,
+            met: index,
+        };
+        Finding {
+            request,
+            answer: Answer::Said(Verdict::Linkage(need)),
+            basis: Some(basis),
+        }
+    }
+}

@@ -1,0 +1,17 @@
+use Rattle.std.proofs.Common.{Option, subst, sym}
+use Rattle.std.specs.Prelude.{MatchOption}
+use Rattle.cl_registry.specs.Tables.{MayEnter}
+use Rattle.cl_tasks.specs.Waits.{Defining}
+use Rattle.cl_tasks.specs.declared.turn.Reply.{Reply}
+use Rattle.cl_schedule.specs.Replies.{IsReplied}
+use Rattle.cl_schedule.proofs.Calls.{did_define}
+use Rattle.cl_pool.proofs.Answered.{define_answered}
+use Rattle.cl_pool.proofs.calls.define.Goals as goal
+
+pub returns-in-Ok-clause-did : goal.returns-in-Ok-clause-did
+returns-in-Ok-clause-did g c = did_define c.args.registry.now c.define.new.self c.args.draft c.in-Ok.row.value c.in-Ok.ensures.defined
+
+pub returns-in-Err-clause-replied : goal.returns-in-Err-clause-replied
+returns-in-Err-clause-replied g c =
+    subst (λ (r : Option (Reply g.row.T.Denot)). MatchOption r (MayEnter c.args.registry.now c.args.draft → ⊥) (λ a. IsReplied c.define.new.self (Defining c.args.draft) a)) (sym c.refused.ensures)
+    (define_answered g.row.T.Denot c.args.registry.now c.define.new.self c.args.draft _ c.in-Err.ensures.refused c.in-Err.ensures.unchanged.0)

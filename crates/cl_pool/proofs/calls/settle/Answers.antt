@@ -1,0 +1,22 @@
+use Rattle.std.proofs.Common.{Option, subst, sym}
+use Rattle.std.specs.Prelude.{MatchOption}
+use Rattle.cl_registry.specs.Settling.{MaySettle}
+use Rattle.cl_tasks.specs.Waits.{Settling}
+use Rattle.cl_tasks.specs.declared.turn.Reply.{Reply}
+use Rattle.cl_schedule.specs.Replies.{IsReplied}
+use Rattle.cl_schedule.proofs.Calls.{did_settle, settled_entry}
+use Rattle.cl_pool.proofs.Answered.{settle_answered}
+use Rattle.cl_pool.proofs.calls.settle.Goals as goal
+
+pub returns-in-Ok-clause-replied : goal.returns-in-Ok-clause-replied
+returns-in-Ok-clause-replied g c =
+    let is = settled_entry c.settle-told.new.self c.args.finding.request c.in-Ok.settled.value c.in-Ok.ensures.shown in
+    record { fits = is.fits; tells = is.tells; shows = tt }
+
+pub returns-in-Ok-clause-did : goal.returns-in-Ok-clause-did
+returns-in-Ok-clause-did g c = did_settle c.args.registry.now c.settle-told.new.self c.args.finding c.in-Ok.settled.value c.in-Ok.ensures.settles
+
+pub returns-in-Err-clause-replied : goal.returns-in-Err-clause-replied
+returns-in-Err-clause-replied g c =
+    subst (λ (r : Option (Reply g.row.T.Denot)). MatchOption r (MaySettle c.args.registry.now c.args.finding → ⊥) (λ a. IsReplied c.settle-told.new.self (Settling c.args.finding.request) a)) (sym c.refused.ensures)
+    (settle_answered g.row.T.Denot c.args.registry.now c.settle-told.new.self c.args.finding c.in-Err.fault c.in-Err.ensures.refused)

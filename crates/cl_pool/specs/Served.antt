@@ -1,0 +1,58 @@
+-- What a report of running threads says, and why there is none (JVMS SE 8, 5.3 to 5.4.3).
+use Rattle.std.specs.Prelude.{◌≡◌, ◌<◌, ◌≤◌, ◌⊎◌, ℕ, Option, length}
+use Rattle.cl_model.specs.Content.{Content}
+use Rattle.cl_model.specs.Tables.{IsConsistent}
+use Rattle.cl_config.specs.Views.{Configured, Scripted}
+use Rattle.cl_registry.specs.declared.report.Report.{Report}
+use Rattle.cl_registry.specs.Reports.{IsNamed}
+use Rattle.cl_registry.specs.Tables.{Shown, IsOpen, IsTrusted, RunsAs, posts, state_of}
+use Rattle.cl_schedule.specs.Serving.{reported}
+use Rattle.cl_schedule.specs.Headline.{EachSpelt, Alike, ReferencesAlike, CirclesExact}
+use Rattle.cl_pool.specs.Numbers.{HasEachBelow}
+use Rattle.cl_pool.specs.declared.fault.PoolFault.{PoolFault}
+use Rattle.cl_pool.specs.declared.fault.PoolFault.TheVariants as faults
+
+-- the report of a script that was served by threads under a configuration. Where a content is told, the history is a run of the
+-- linkage machine over it, in which each request is answered once, in its round, with what its plan yields in the state at that
+-- point, or with a failure; each class is spelt by its defining loader's bytes, equal requests and equal references are answered
+-- alike, and circles are told exactly. Under any source each request has one post, the tables can be trusted, no loader records a
+-- name twice and no constraint is violated (5.3 to 5.4.3)
+pub record IsServed (told : Option Content) (config : Configured) (script : Scripted) (r : Report) : Type 0 where
+  pub of_script : r.script.value ≡ script
+  pub each_once : HasEachBelow (length script.requests) (posts r.history)
+  pub named : IsNamed (length config.loaders) r
+  pub trusted : IsTrusted (reported config r)
+  pub consistent : IsConsistent (state_of (reported config r))
+  pub run : RunsAs told (reported config r)
+  pub spelt : EachSpelt told (reported config r)
+  pub alike : Alike told (reported config r)
+  pub references : ReferencesAlike told (reported config r)
+  pub circles : CirclesExact told (reported config r)
+
+-- so many workers may serve (own choice)
+pub record MayServe (workers : ℕ) : Type 0 where
+  pub least : 1 ≤ workers
+  pub most : workers ≤ 64
+
+-- a registry that serves this configuration and script, in which a request has no answer
+pub record IsUnanswered (config : Configured) (script : Scripted) (x : Shown) : Type 0 where
+  pub config_is : x.config ≡ config
+  pub script_is : x.script ≡ script
+  pub request : ℕ
+  pub unanswered : IsOpen x request
+
+-- why workers that were started made no report: one met a stray, or a request has no answer (own choice)
+abbrev pub FailsAs : {A : Type 0} → Configured → Scripted → PoolFault A → Type 0
+FailsAs config script faults.Memory = ⊥
+FailsAs config script faults.Workers = ⊥
+FailsAs config script faults.NoThread = ⊥
+FailsAs config script faults.Stray = Unit {0}
+FailsAs config script (faults.Unanswered x) = IsUnanswered config script x
+
+-- why there is no report: the workers are blamed where there are none or more than 64, and nowhere else (own choice)
+abbrev pub RefusedFor : {A : Type 0} → ℕ → Configured → Scripted → PoolFault A → Type 0
+RefusedFor workers config script faults.Memory = MayServe workers
+RefusedFor workers config script faults.Workers = MayServe workers → ⊥
+RefusedFor workers config script faults.NoThread = MayServe workers
+RefusedFor workers config script faults.Stray = MayServe workers
+RefusedFor workers config script (faults.Unanswered x) = MayServe workers × IsUnanswered config script x

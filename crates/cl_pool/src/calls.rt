@@ -1,0 +1,187 @@
+//! What the registry is asked under the lock, and what a task is told of it.
+
+ghost use Rattle.std.specs.Prelude.{◌≡◌, MatchOption};
+ghost use Rattle.cl_model.specs.States.{IsRecorded};
+ghost use Rattle.cl_registry.specs.Imposing.{MayImpose, MayMark};
+ghost use Rattle.cl_registry.specs.Settling.{MaySettle};
+ghost use Rattle.cl_registry.specs.Tables.{IsKept, MayEnter, MayJoin, state_of};
+ghost use Rattle.cl_tasks.specs.Follows.{Backed};
+ghost use Rattle.cl_tasks.specs.Turns.{call_of};
+ghost use Rattle.cl_tasks.specs.Waits.{Looking, Defining, Initiating, Tracing, LookingReference, Settling, Imposing, LookingPrepared, Marking};
+ghost use Rattle.cl_schedule.specs.Replies.{Did, DefinesBy, ImposesBy, InitiatesBy, IsReplied, IsStepOf, PreparesBy, SettlesBy};
+ghost use Rattle.cl_pool.specs.Calls.{IsOfTables, reply_of};
+
+use cl_delegation::Home;
+use cl_findings::Finding;
+use cl_hierarchy::{Draft, Equalities};
+use cl_model::{Class, LoaderId, Told};
+use cl_names::Name;
+use cl_registry::{Registry, RegistryFault};
+use cl_tasks::{Reply, Turn};
+use std::alloc::Global;
+use std::sync::Arc;
+
+/// The reply to a look at what a loader has recorded: what is found is shared with the task (JVMS SE 8, 5.3).
+fn look<T: Told>(registry: &Registry<T>, loader: LoaderId, name: &Name) -> Reply<T>
+    ensures replied { IsReplied registry.now (Looking loader name.now) result }
+{
+    match registry.look(loader, name) {
+        None => Reply::Looked(None),
+        Some(row) => match Arc::try_clone(row) {
+            Ok(row) => Reply::Looked(Some(row)),
+            Err(_) => Reply::Memory,
+        },
+    }
+}
+
+/// The reply to a look at a reference: what is found is shared with the task (JVMS SE 8, 5.4.3).
+fn look_reference<T: Told>(registry: &Registry<T>, class: &Class, index: u16) -> Reply<T>
+    ensures replied { IsReplied registry.now (LookingReference class.now index) result }
+{
+    match registry.look_reference(class, index) {
+        None => Reply::LookedReference(None),
+        Some(settled) => match Arc::try_clone(settled) {
+            Ok(settled) => Reply::LookedReference(Some(settled)),
+            Err(_) => Reply::Memory,
+        },
+    }
+}
+
+/// The reply to a look whether a class is prepared (JVMS SE 8, 5.4.2).
+fn look_prepared<T: Told>(registry: &Registry<T>, class: &Class) -> Reply<T>
+    ensures replied { IsReplied registry.now (LookingPrepared class.now) result }
+{
+    Reply::LookedPrepared(registry.look_prepared(class))
+}
+
+/// The reply that a refusal is; none, where the value was a stray.
+fn refused<T: Told>(fault: RegistryFault) -> Option<Reply<T>>
+    ensures { result ≡ reply_of fault }
+{
+    match fault {
+        RegistryFault::Memory => Some(Reply::Memory),
+        RegistryFault::Violates(need) => Some(Reply::Refused(need)),
+        RegistryFault::Stray | RegistryFault::AlreadyPosted | RegistryFault::NotYet => None,
+    }
+}
+
+/// The reply to a definition; none, where it may not be made (JVMS SE 8, 5.3.5).
+fn define<T: Told>(alloc: Global, registry: &mut Registry<T>, draft: Draft<T>) -> Option<Reply<T>>
+    ensures replied { MatchOption result (MayEnter registry.old draft → ⊥)
+        (λ r. IsReplied registry.new (Defining draft) r) }
+    ensures did { Did registry.old registry.new (DefinesBy draft) }
+    ensures kept { IsKept T.told registry.new }
+{
+    match registry.define(alloc, draft) {
+        Ok(row) => Some(Reply::Defined(row)),
+        Err(e) => refused(e.fault),
+    }
+}
+
+/// The reply to a record of an initiating loader; none, where it may not be made (JVMS SE 8, 5.3).
+fn initiate<T: Told>(
+    alloc: Global,
+    registry: &mut Registry<T>,
+    home: Arc<Home<T>>,
+) -> Option<Reply<T>>
+    ensures replied { MatchOption result (MayJoin registry.old home.value → ⊥)
+        (λ r. IsReplied registry.new (Initiating home.value) r) }
+    ensures did { Did registry.old registry.new (InitiatesBy home.value) }
+    ensures kept { IsKept T.told registry.new }
+{
+    match registry.initiate(alloc, &home) {
+        Ok(row) => Some(Reply::Initiated(row)),
+        Err(fault) => refused(fault),
+    }
+}
+
+/// The lineage of a class; none, where it is not recorded (JVMS SE 8, 5.3.5).
+fn lineage<T: Told>(alloc: Global, registry: &Registry<T>, class: &Class) -> Option<Reply<T>>
+    ensures replied { MatchOption result (IsRecorded (state_of registry.now) class.now → ⊥)
+        (λ r. IsReplied registry.now (Tracing class.now) r) }
+{
+    match registry.lineage(alloc, class) {
+        Ok(lineage) => Some(Reply::Lineage(lineage)),
+        Err(fault) => refused(fault),
+    }
+}
+
+/// The reply to a settlement; none, where it may not be made (JVMS SE 8, 5.4.3).
+fn settle<T: Told>(
+    alloc: Global,
+    registry: &mut Registry<T>,
+    finding: Finding<T>,
+) -> Option<Reply<T>>
+    ensures replied { MatchOption result (MaySettle registry.old finding → ⊥)
+        (λ r. IsReplied registry.new (Settling finding.request) r) }
+    ensures did { Did registry.old registry.new (SettlesBy registry.old finding) }
+    ensures kept { IsKept T.told registry.new }
+{
+    let told = registry.settle(alloc, &finding);
+    drop(finding);
+    match told {
+        Ok(settled) => Some(Reply::Settled(settled)),
+        Err(fault) => refused(fault),
+    }
+}
+
+/// The reply to an equality; none, where it may not be imposed (JVMS SE 8, 5.3.4).
+fn impose<T: Told>(
+    alloc: Global,
+    registry: &mut Registry<T>,
+    list: Arc<Equalities<T>>,
+    place: usize,
+) -> Option<Reply<T>>
+    ensures replied { MatchOption result (MayImpose registry.old list.value place → ⊥)
+        (λ r. IsReplied registry.new (Imposing list.value place) r) }
+    ensures did { Did registry.old registry.new (ImposesBy list.value place) }
+    ensures kept { IsKept T.told registry.new }
+{
+    match registry.impose(alloc, &list, place) {
+        Ok(()) => Some(Reply::Imposed),
+        Err(fault) => refused(fault),
+    }
+}
+
+/// The reply to a preparation; none, where it may not be made (JVMS SE 8, 5.4.2).
+fn mark<T: Told>(
+    alloc: Global,
+    registry: &mut Registry<T>,
+    list: Arc<Equalities<T>>,
+) -> Option<Reply<T>>
+    ensures replied { MatchOption result (MayMark registry.old list.value → ⊥)
+        (λ r. IsReplied registry.new (Marking list.value) r) }
+    ensures did { Did registry.old registry.new (PreparesBy list.value.origin) }
+    ensures kept { IsKept T.told registry.new }
+{
+    match registry.mark_prepared(alloc, &list) {
+        Ok(()) => Some(Reply::Marked),
+        Err(fault) => refused(fault),
+    }
+}
+
+/// Makes the call that a task asks for, and gives the reply; none, where the tables do not bear it (JVMS SE 8, 5.3 to
+/// 5.4.3).
+pub(crate) fn reply_to<T: Told>(
+    alloc: Global,
+    registry: &mut Registry<T>,
+    call: Turn<T>,
+) -> Option<Reply<T>>
+    requires call { IsOfTables call }
+    ensures replied { MatchOption result (Backed registry.old call → ⊥)
+        (λ r. IsReplied registry.new (call_of call) r) }
+    ensures did { Did registry.old registry.new (IsStepOf registry.old call) }
+{
+    match call {
+        Turn::Look(loader, name) => Some(look(registry, loader, &name)),
+        Turn::Define(draft) => define(alloc, registry, draft),
+        Turn::Initiate(home) => initiate(alloc, registry, home),
+        Turn::Lineage(class) => lineage(alloc, registry, &class),
+        Turn::LookReference(class, index) => Some(look_reference(registry, &class, index)),
+        Turn::Settle(finding) => settle(alloc, registry, finding),
+        Turn::Impose(list, place) => impose(alloc, registry, list, place),
+        Turn::LookPrepared(class) => Some(look_prepared(registry, &class)),
+        Turn::Mark(list) => mark(alloc, registry, list),
+        Turn::Read(_, _) | Turn::Post(_) => unreachable!(),
+    }
+}

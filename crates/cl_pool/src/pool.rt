@@ -1,0 +1,268 @@
+//! What the workers share, and what each of them does.
+
+ghost use Rattle.std.specs.Prelude.{◌≡◌, ◌<◌, ◌≤◌, length};
+ghost use Rattle.cl_registry.specs.Tables.{Shown};
+ghost use Rattle.cl_tasks.specs.Waits.{Reading};
+ghost use Rattle.cl_schedule.specs.Replies.{IsReplied};
+ghost use Rattle.cl_pool.specs.Calls.{IsOfTables};
+ghost use Rattle.cl_pool.specs.Seats.{IsSeatOf, MayDraw};
+
+use crate::calls::reply_to;
+use crate::desk::Desk;
+use crate::draws::{Draws, Seat};
+use crate::gate::Gate;
+use cl_config::{Config, Script};
+use cl_findings::Finding;
+use cl_model::{LoaderId, Request, Told};
+use cl_names::Name;
+use cl_source::Source;
+use cl_tasks::{Reply, Task, Turn};
+use std::alloc::Global;
+use std::sync::{Arc, Condvar, Mutex, MutexGuard, Wait};
+use std::thread::{Scope, Threads};
+
+/// What the workers share.
+#[derive(Drop)]
+pub(crate) struct Pool<T: Told> {
+    pub desk: Mutex<Desk<T>>,
+    /// A round has begun, or the workers are to stop.
+    pub changed: Condvar,
+    pub draws: Draws,
+    pub config: Arc<Config>,
+    pub script: Arc<Script>,
+    pub ghost count: { draws.of.requests ≡ length script.value.requests },
+}
+
+/// What a worker owns. Its seat is one of the pool's word, and may draw.
+#[derive(Drop)]
+pub(crate) struct Worker<'a, T: Told, S: Source<T>, G: Gate> {
+    pool: &'a Pool<T>,
+    alloc: Global,
+    gate: &'a G,
+    seat: Seat,
+    source: S,
+    ghost fits: { IsSeatOf pool.now.draws seat },
+    ghost may: { MayDraw seat },
+}
+
+impl<T: Told, S: Source<T>, G: Gate> Worker<'_, T, S, G> {
+    /// Serves requests until none is left or the workers are to stop.
+    fn run<R: Wait>(self, rt: &R) {
+        let Worker {
+            pool,
+            alloc,
+            gate,
+            mut seat,
+            mut source,
+        } = self;
+        for _ in rt.forever() {
+            let Some(q) = pool.draws.draw(&mut seat) else {
+                break;
+            };
+            if !pool.serve_request(rt, alloc, gate, &mut source, q) {
+                break;
+            }
+        }
+    }
+}
+
+impl<T: Told> Pool<T> {
+    /// Serves the request of a number, from its first turn to its post, once its round has begun (JVMS SE 8, 5.3 to
+    /// 5.4.3). False, where the workers are to stop.
+    fn serve_request<S: Source<T>, G: Gate, R: Wait>(
+        &self,
+        rt: &R,
+        alloc: Global,
+        gate: &G,
+        source: &mut S,
+        q: u32,
+    ) -> bool
+        requires { q < length self.now.script.value.requests }
+    {
+        let Some(request) = self.begin(rt, q) else {
+            return self.stop(rt);
+        };
+        if usize::from(request.loader().0) >= self.config.count() {
+            return self.stop(rt);
+        }
+        let config = match Arc::try_clone(&self.config) {
+            Ok(config) => config,
+            Err(_) => return self.post(rt, gate, q, Finding::memory(request)),
+        };
+        match Task::<T>::new(alloc, config, q, request) {
+            Ok(task) => self.take_turns(rt, alloc, gate, source, task),
+            Err(refused) => self.post(rt, gate, q, Finding::memory(refused.request)),
+        }
+    }
+
+    /// Takes a task that has not begun from its first turn to its post. False, where the workers are to stop.
+    fn take_turns<S: Source<T>, G: Gate, R: Wait>(
+        &self,
+        rt: &R,
+        alloc: Global,
+        gate: &G,
+        source: &mut S,
+        mut task: Task<T>,
+    ) -> bool {
+        let q = task.q();
+        let mut reply = Reply::Start;
+        while task.expects(&reply) {
+            match task.turn(alloc, reply) {
+                Turn::Post(finding) => return self.post(rt, gate, q, finding),
+                Turn::Read(loader, name) => {
+                    gate.before_read(q, loader, &name);
+                    reply = read(alloc, source, loader, &name);
+                }
+                call => match self.call(rt, alloc, gate, q, call) {
+                    Some(told) => reply = told,
+                    None => return false,
+                },
+            }
+        }
+        self.stop(rt)
+    }
+
+    /// The request of a number, once its round has begun; none, where the workers are to stop.
+    fn begin<R: Wait>(&self, rt: &R, q: u32) -> Option<Request>
+        requires { q < length self.now.script.value.requests }
+    {
+        let round = self.script.round_of(q as usize);
+        let desk = self.desk.lock(rt);
+        let mut desk = self
+            .changed
+            .wait_while(rt, desk, |desk| !desk.stopped && desk.round < round);
+        if desk.stopped {
+            return None;
+        }
+        desk.asked.get_mut(q as usize)?.take()
+    }
+
+    /// Makes the call that a task asks for, under the lock. None, where the workers are to stop.
+    fn call<G: Gate, R: Wait>(
+        &self,
+        rt: &R,
+        alloc: Global,
+        gate: &G,
+        q: u32,
+        call: Turn<T>,
+    ) -> Option<Reply<T>>
+        requires { IsOfTables call }
+    {
+        let mut desk = self.enter(rt, gate, q)?;
+        let told = reply_to(alloc, &mut desk.registry, call);
+        if told.is_none() {
+            desk.stopped = true;
+            self.changed.notify_all();
+        }
+        told
+    }
+
+    /// Posts the answer of a request, and wakes those that wait for a round. False, where the workers are to stop.
+    fn post<G: Gate, R: Wait>(&self, rt: &R, gate: &G, q: u32, finding: Finding<T>) -> bool {
+        let Some(mut desk) = self.enter(rt, gate, q) else {
+            return false;
+        };
+        let round = desk.round;
+        let posted = desk.post(q, finding);
+        if !posted {
+            desk.stopped = true;
+        }
+        if !posted || desk.round != round {
+            self.changed.notify_all();
+        }
+        drop(desk);
+        if posted {
+            gate.after_post(q);
+        }
+        posted
+    }
+
+    /// What stands behind the lock, for a turn of a request; none, where the workers are to stop.
+    fn enter<'a, G: Gate, R: Wait>(
+        &'a self,
+        rt: &R,
+        gate: &G,
+        q: u32,
+    ) -> Option<MutexGuard<'a, Desk<T>>> {
+        gate.before_lock(q);
+        let desk = self.desk.lock(rt);
+        if desk.stopped { None } else { Some(desk) }
+    }
+
+    /// Has all workers stop. It answers false.
+    fn stop<R: Wait>(&self, rt: &R) -> bool {
+        self.desk.lock(rt).stopped = true;
+        self.changed.notify_all();
+        false
+    }
+
+    /// Starts the workers that can be started, and answers how many. The first takes the source.
+    pub(crate) fn start<
+        's,
+        E,
+        S: Source<T> + Send + 's,
+        G: Gate + 's,
+        R: Threads + Wait + Sync + 's,
+    >(
+        &'s self,
+        rt: &'s R,
+        scope: &Scope<'s, E>,
+        alloc: Global,
+        gate: &'s G,
+        mut seat: Seat,
+        source: S,
+        workers: u32,
+    ) -> u32
+    where
+        T: Send + Sync + 's,
+        requires fits { IsSeatOf self.now.draws seat }
+        requires may { MayDraw seat }
+        requires workers { 1 ≤ workers }
+    {
+        let mut started = 0;
+        for _ in 1..workers {
+            let Ok(theirs) = source.another(alloc) else {
+                continue;
+            };
+            let Ok(place) = self.draws.split(&mut seat) else {
+                break;
+            };
+            let worker = Worker {
+                pool: self,
+                alloc,
+                gate,
+                seat: place,
+                source: theirs,
+            };
+            if scope.spawn(move || worker.run(rt)).is_ok() {
+                started += 1;
+            }
+        }
+        let worker = Worker {
+            pool: self,
+            alloc,
+            gate,
+            seat,
+            source,
+        };
+        if scope.spawn(move || worker.run(rt)).is_ok() {
+            started += 1;
+        }
+        started
+    }
+}
+
+/// The reply to a read of a source (JVMS SE 8, 5.3.2).
+fn read<T: Told, S: Source<T>>(
+    alloc: Global,
+    source: &mut S,
+    loader: LoaderId,
+    name: &Name,
+) -> Reply<T>
+    ensures replied { (x : Shown) → IsReplied x (Reading loader name.now) result }
+{
+    match source.read(alloc, loader, name) {
+        Ok(probe) => Reply::Probed(probe),
+        Err(fault) => Reply::SourceFault(fault),
+    }
+}

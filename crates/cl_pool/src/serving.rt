@@ -1,0 +1,161 @@
+ghost use Rattle.std.specs.Prelude.{◌≡◌, ◌≤◌, IfOk, IfErr, OnOk, length};
+ghost use Rattle.cl_config.specs.Scripts.{HasLoaders};
+ghost use Rattle.cl_pool.specs.Seats.{IsSeatOf, MayDraw};
+ghost use Rattle.cl_pool.specs.Served.{FailsAs, IsServed, MayServe, RefusedFor};
+
+use crate::desk::Desk;
+use crate::draws::{Draws, Seat};
+use crate::fault::PoolFault;
+use crate::gate::Gate;
+use crate::pool::Pool;
+use cl_config::{Config, Script};
+use cl_model::{Request, Told};
+use cl_registry::{Registry, Report};
+use cl_source::Source;
+use std::alloc::{AllocError, Global};
+use std::sync::{Arc, Condvar, Mutex, Wait};
+use std::thread::{self, Threads};
+
+/// The most workers.
+const MOST_WORKERS: u32 = 64;
+
+/// Serves the requests of a script by several threads, round by round (JVMS SE 8, 5.3). However the steps of the workers
+/// fall, where the source tells a content, the report's history is a run of the linkage machine over it, in which each
+/// request is answered once, with what its plan ends in there, or with a failure. Whatever the source tells, the report's
+/// tables can be trusted.
+///
+/// The first worker takes the source, each other one a further source. One whose source or thread cannot be had is not
+/// started. The registry stands behind one lock, which is held for one call of it at a time; reading, parsing and searching
+/// are done without it.
+///
+/// # Errors
+///
+/// `Workers`, where they are not 1 to 64; `Memory`, before a worker is started; `NoThread`, where none could be; `Stray`,
+/// where a worker met a value that does not fit the tables; `Unanswered`, with the registry, where a request has no answer.
+pub fn serve<T: Told + Send + Sync, S: Source<T> + Send, G: Gate, R: Threads + Wait + Sync>(
+    rt: &R,
+    alloc: Global,
+    config: Arc<Config>,
+    source: S,
+    script: Arc<Script>,
+    workers: u32,
+    gate: &G,
+) -> Result<Report, PoolFault<T>>
+    requires loaders { HasLoaders (length config.value.loaders) script.value.requests }
+    ensures served { IfOk result (IsServed T.told config.value script.value) }
+    ensures workers { OnOk result (MayServe workers) }
+    ensures refused { IfErr result (RefusedFor workers config.value script.value) }
+{
+    if workers < 1 || workers > MOST_WORKERS {
+        return Err(PoolFault::Workers);
+    }
+    let (pool, seat) = open::<T>(alloc, &config, &script, workers)?;
+    let started = run_workers(rt, alloc, &pool, gate, seat, source, workers);
+    if started == 0 {
+        return Err(PoolFault::NoThread);
+    }
+    let Pool {
+        desk,
+        changed: _,
+        draws: _,
+        config: _,
+        script: _,
+    } = pool;
+    finish(desk.into_inner(), &config, &script)
+}
+
+/// What the workers share, with the first seat.
+fn open<T: Told>(
+    alloc: Global,
+    config: &Arc<Config>,
+    script: &Arc<Script>,
+    workers: u32,
+) -> Result<(Pool<T>, Seat), AllocError>
+    requires workers { (1 ≤ workers) × (workers ≤ 64) }
+    ensures fits { IfOk result (λ r. IsSeatOf r.0.draws r.1) }
+    ensures may { IfOk result (λ r. MayDraw r.1) }
+{
+    let theirs = Arc::try_clone(config)?;
+    let Ok(registry) = Registry::<T>::new(alloc, theirs, Arc::try_clone(script)?) else {
+        return Err(AllocError);
+    };
+    let asked = copies(alloc, script.requests())?;
+    let Ok((draws, seat)) = Draws::new(alloc, script.requests().len() as u32, workers) else {
+        return Err(AllocError);
+    };
+    let mut desk = Desk {
+        registry,
+        asked,
+        round: 0,
+        stopped: false,
+    };
+    desk.pass_rounds();
+    let pool = Pool {
+        desk: Mutex::new(desk),
+        changed: Condvar::new(),
+        draws,
+        config: Arc::try_clone(config)?,
+        script: Arc::try_clone(script)?,
+    };
+    Ok((pool, seat))
+}
+
+/// A copy of each request, so that a worker needs no memory to have one.
+fn copies(alloc: Global, requests: &[Request]) -> Result<Vec<Option<Request>>, AllocError> {
+    let mut copies = Vec::with_capacity(alloc, requests.len())?;
+    for request in requests {
+        copies.push(Some(request.try_clone(alloc)?))?;
+    }
+    Ok(copies)
+}
+
+/// Runs the workers to their ends, and answers how many were started.
+fn run_workers<T: Told + Send + Sync, S: Source<T> + Send, G: Gate, R: Threads + Wait + Sync>(
+    rt: &R,
+    alloc: Global,
+    pool: &Pool<T>,
+    gate: &G,
+    seat: Seat,
+    source: S,
+    workers: u32,
+) -> u32
+    requires fits { IsSeatOf pool.now.draws seat }
+    requires may { MayDraw seat }
+    requires workers { 1 ≤ workers }
+{
+    thread::scope(
+        thread::scope_env(),
+        rt,
+        |scope| -> u32
+            requires { IsSeatOf pool.now.draws seat × MayDraw seat × (1 ≤ workers) }
+        { pool.start(rt, scope, alloc, gate, seat, source, workers) },
+    )
+}
+
+/// What the registry reports, once the workers have ended.
+fn finish<T: Told>(
+    mut desk: Desk<T>,
+    config: &Config,
+    script: &Script,
+) -> Result<Report, PoolFault<T>>
+    ensures served { IfOk result (IsServed T.told config.now script.now) }
+    ensures refused { IfErr result (FailsAs config.now script.now) }
+{
+    desk.pass_rounds();
+    let Desk {
+        registry,
+        asked: _,
+        round: _,
+        stopped,
+    } = desk;
+    if stopped {
+        return Err(PoolFault::Stray);
+    }
+    if !registry.serves(config, script) {
+        return Err(PoolFault::Stray);
+    }
+    match registry.into_report() {
+        Ok(report) => Ok(report),
+        Err(refused) => Err(PoolFault::Unanswered(refused.registry)),
+    }
+}

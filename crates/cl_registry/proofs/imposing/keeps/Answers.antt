@@ -1,0 +1,12 @@
+use Rattle.std.proofs.Common.{◌∙◌, ap, sym, subst}
+use Rattle.cl_hierarchy.specs.Imposed.{Sprung, sprung}
+use Rattle.cl_hierarchy.specs.Lineages.{IsLined, Lined}
+use Rattle.cl_registry.specs.Imposing.{AreLineages}
+use Rattle.cl_registry.proofs.imposing.keeps.Goals as goal
+
+pub returns-in-Preparation : goal.returns-in-Preparation
+returns-in-Preparation g c = record {
+  lineages = subst (λ (o : Sprung). AreLineages g.T.Told.told o) (sym (ap (λ o. sprung o) c.in-Preparation.is) ∙ c.origin.ensures.origin)
+      (subst (λ (l : Lined). IsLined g.T.Told.told l) c.deref-in-Preparation.ensures c.class-in-Preparation.ensures.kept);
+  are = c.origin.ensures.kept;
+}

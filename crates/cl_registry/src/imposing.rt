@@ -1,0 +1,378 @@
+//! Loading constraints and preparation (JVMS SE 8, 5.3.4, 5.4.2).
+
+ghost use Rattle.std.specs.Prelude.{◌≡◌, ◌<◌, ◌≤◌, ◌+◌, ◌++◌, ◌∷◌, [], Contains, IfErr, IfSome, OnErr, OnOk, length, slice_get, vec_capacity, vec_len};
+ghost use Rattle.std.specs.List.{AllByRecursion};
+ghost use Rattle.cl_classfile.specs.Files.{file_of};
+ghost use Rattle.cl_constraints.specs.Books.{Adds};
+ghost use Rattle.cl_findings.specs.Findings.{Decides};
+ghost use Rattle.cl_hierarchy.specs.Imposed.{equal_need, needs_of, sprung};
+ghost use Rattle.cl_model.specs.Classes.{supers};
+ghost use Rattle.cl_model.specs.declared.event.Event.TheVariants as events;
+ghost use Rattle.cl_model.specs.declared.need.Need.TheVariants as needs;
+ghost use Rattle.cl_model.specs.States.{IsRecorded, Met, Refused};
+ghost use Rattle.cl_model.specs.Texts.{EqualityNames};
+ghost use Rattle.cl_registry.specs.Imposing.{Imposes, IsListed, IsNextOf, IsPreparedAbove, IsPreparedBy, IsReached, IsReady, IsStanding, IsUnmetIn, Marks, MayConstrainAs, MayImpose, MayMark, MayPrepareAs, StandsFor, with_constrain, with_prepare};
+ghost use Rattle.cl_registry.specs.declared.registry.RegistryFault.TheVariants.{Memory};
+ghost use Rattle.cl_registry.specs.Refusals.{AddRefusedFor, BlamesIn, ImposeRefusedFor, MarkRefusedFor, fault_of};
+ghost use Rattle.cl_registry.specs.Tables.{IsKept, state_of};
+
+use crate::met::{are_met, is_met, note};
+use crate::registry::{Registry, RegistryFault};
+use crate::rounds::to_come;
+use crate::tables::has;
+use cl_constraints::{BookFault, ConstraintBook, GroupedBook, Refusal};
+use cl_hierarchy::{ClassRow, Equalities, Lineage, Origin, class_accessible};
+use cl_model::{Class, Equality, Event, Need, Told};
+use cl_names::{Name, Seed};
+use indexmap::IndexSet;
+use std::alloc::{AllocError, Global};
+
+/// Brings what a list keeps.
+fn keeps<T: Told>(list: &Equalities<T>)
+    ensures { IsListed T.told list.now }
+{
+    match list.origin() {
+        Origin::Reference { d, c, index: _ } => {
+            let _ = d.class();
+            let _ = c.class();
+        }
+        Origin::Preparation { lineage } => {
+            let _ = lineage.class();
+        }
+    }
+}
+
+/// Why a book did not take an equality.
+fn equality_fault(refusal: Refusal, equality: &Equality) -> RegistryFault
+    ensures { result ≡ fault_of refusal.fault (needs.Equal (record {
+      name = refusal.name;
+      one = equality.now.one;
+      other = equality.now.other;
+    })) }
+{
+    match refusal.fault {
+        BookFault::Memory => RegistryFault::Memory,
+        BookFault::Violates => RegistryFault::Violates(Need::Equal(Equality {
+            name: refusal.name,
+            one: equality.one,
+            other: equality.other,
+        })),
+    }
+}
+
+/// Adds an equality that is not met, under a copy of its name, and its event, with as much room left for other events.
+fn add_equality(
+    alloc: Global,
+    book: &mut GroupedBook,
+    history: &mut Vec<Event>,
+    left: usize,
+    equality: &Equality,
+    name: Name,
+) -> Result<(), RegistryFault>
+    requires room { vec_len history.old + left ≤ vec_capacity history.old }
+    requires named { name ≡ equality.now.name }
+    requires unmet { IsUnmetIn (⟦<GroupedBook as ConstraintBook>⟧.stands_for book.old)
+        (equal_need equality.now) }
+    ensures room { vec_len history.new + left ≤ vec_capacity history.new }
+    ensures event { OnOk result (history.new.items ≡ history.old.items ++ events.Constrain
+        equality.now ∷ []) }
+    ensures used { OnOk result (vec_len history.new ≡ vec_len history.old + 1) }
+    ensures added { OnOk result (Adds ⟦<GroupedBook as ConstraintBook>⟧.stands_for book.old book.new
+        (equal_need equality.now)) }
+    ensures blames { IfErr result
+        (λ fault. BlamesIn (⟦<GroupedBook as ConstraintBook>⟧.stands_for book.old)
+        (equal_need equality.now) fault) }
+    ensures same_history { OnErr result (history.new.items ≡ history.old.items) }
+    ensures same_length { OnErr result (vec_len history.new ≡ vec_len history.old) }
+    ensures same_book { OnErr result (book.new ≡ book.old) }
+{
+    let event = Event::Constrain(equality.try_clone(alloc)?);
+    history.reserve(left + 1)?;
+    match book.impose(alloc, name, equality.one, equality.other) {
+        Ok(true) => {
+            history.push_reserved(event);
+            Ok(())
+        }
+        Ok(false) => unreachable!(),
+        Err(refusal) => Err(equality_fault(refusal, equality)),
+    }
+}
+
+/// Adds a class that is not there, and the event of its preparation, with as much room left for other events.
+fn add_prepared(
+    alloc: Global,
+    prepared: &mut IndexSet<Class, Seed>,
+    history: &mut Vec<Event>,
+    left: usize,
+    class: &Class,
+) -> Result<(), AllocError>
+    requires room { vec_len history.old + left ≤ vec_capacity history.old }
+    requires absent { Contains prepared.old.keys class.now → ⊥ }
+    ensures room { vec_len history.new + left ≤ vec_capacity history.new }
+    ensures event { OnOk result (history.new.items ≡ history.old.items ++ events.Prepare class.now
+        ∷ []) }
+    ensures used { OnOk result (vec_len history.new ≡ vec_len history.old + 1) }
+    ensures added { OnOk result (prepared.new.keys ≡ prepared.old.keys ++ class.now ∷ []) }
+    ensures same_history { OnErr result (history.new.items ≡ history.old.items) }
+    ensures same_length { OnErr result (vec_len history.new ≡ vec_len history.old) }
+    ensures same_prepared { OnErr result (prepared.new.keys ≡ prepared.old.keys) }
+{
+    let event = Event::Prepare(class.try_clone(alloc)?);
+    let class = class.try_clone(alloc)?;
+    history.reserve(left + 1)?;
+    match prepared.insert(class) {
+        Ok(_) => {}
+        Err(_) => return Err(AllocError),
+    }
+    history.push_reserved(event);
+    Ok(())
+}
+
+impl<T: Told> Registry<T> {
+    /// Imposes the equality at a place of a list, counted from 0, once all before it are met; one that stands already is
+    /// no event (JVMS SE 8, 5.3.4). One that would violate what stands is not imposed.
+    ///
+    /// Each call compares all equalities before its own with those that the calls before it found met, and asks the book of
+    /// others alone.
+    pub fn impose(
+        &mut self,
+        alloc: Global,
+        list: &Equalities<T>,
+        place: usize,
+    ) -> Result<(), RegistryFault>
+        ensures may { OnOk result (MayImpose self.old list.now place) }
+        ensures imposed { OnOk result (Imposes self.old self.new list.now place) }
+        ensures met { OnOk result (IsNextOf list.now place (Met (state_of self.new))) }
+        ensures refused { IfErr result (λ fault. ImposeRefusedFor self.old list.now place fault) }
+        ensures unchanged { IfErr result (λ fault. self.new ≡ self.old) }
+        ensures kept { IsKept T.told self.new }
+    {
+        if !self.may_impose(list, place) {
+            return Err(RegistryFault::Stray);
+        }
+        keeps(list);
+        let equality = &list.needs()[place];
+        if is_met(&self.book, self.met.as_slice(), place, equality) {
+            self.remember(alloc, place, equality);
+            return Ok(());
+        }
+        let Ok(name) = equality.name.try_clone(alloc) else {
+            return Err(RegistryFault::Memory);
+        };
+        match self.constrain(alloc, equality, name) {
+            Ok(()) => {}
+            Err(fault) => return Err(fault),
+        }
+        self.remember(alloc, place, equality);
+        Ok(())
+    }
+
+    /// Whether a class is prepared (JVMS SE 8, 5.4.2).
+    pub fn look_prepared(&self, class: &Class) -> bool
+        ensures prepared { Decides result (Contains (state_of self.now).prepared class.now) }
+        ensures kept { IsKept T.told self.now }
+    {
+        self.prepared.contains(class)
+    }
+
+    /// Marks the class as prepared whose preparation asks for a list, once all its equalities are met and its direct
+    /// supertypes are prepared; a class that is prepared already is no event (JVMS SE 8, 5.4.2).
+    pub fn mark_prepared(
+        &mut self,
+        alloc: Global,
+        list: &Equalities<T>,
+    ) -> Result<(), RegistryFault>
+        ensures may { OnOk result (MayMark self.old list.now) }
+        ensures marked { OnOk result (Marks self.old self.new list.now) }
+        ensures prepared { OnOk result (IsPreparedBy self.new list.now.origin) }
+        ensures refused { IfErr result (λ fault. MarkRefusedFor self.old list.now fault) }
+        ensures unchanged { IfErr result (λ fault. self.new ≡ self.old) }
+        ensures kept { IsKept T.told self.new }
+    {
+        // brings what the registry keeps
+        let _ = &self.config;
+        keeps(list);
+        let Origin::Preparation { lineage } = list.origin() else {
+            return Err(RegistryFault::Stray);
+        };
+        if !self.is_ready(lineage, list.needs()) {
+            return Err(RegistryFault::Stray);
+        }
+        if self.look_prepared(lineage.class()) {
+            return Ok(());
+        }
+        match self.prepare(alloc, lineage.class()) {
+            Ok(()) => {}
+            Err(fault) => return Err(fault),
+        }
+        Ok(())
+    }
+
+    /// Whether the equality at a place of a list may be imposed, where it is not refused.
+    fn may_impose(&self, list: &Equalities<T>, place: usize) -> bool
+        ensures may { Decides result (MayImpose self.now list.now place) }
+        ensures kept { IsKept T.told self.now }
+    {
+        if !self.has_origin(list.origin()) {
+            return false;
+        }
+        if place >= list.needs().len() {
+            return false;
+        }
+        are_met(&self.book, self.met.as_slice(), &list.needs()[..place])
+    }
+
+    /// Whether what a list was made from stands in the tables.
+    fn has_origin(&self, origin: &Origin<T>) -> bool
+        ensures stands { Decides result (StandsFor self.now (sprung origin.now)) }
+        ensures kept { IsKept T.told self.now }
+    {
+        match origin {
+            Origin::Reference { d, c, index: _ } => {
+                if !self.has_lineage(d) {
+                    return false;
+                }
+                self.reaches(d, c)
+            }
+            Origin::Preparation { lineage } => self.has_lineage(lineage),
+        }
+    }
+
+    /// Whether a lineage is of this configuration, and its class is recorded by its loader (JVMS SE 8, 5.3).
+    fn has_lineage(&self, lineage: &Lineage<T>) -> bool
+        ensures stands { Decides result (IsStanding self.now lineage.now) }
+        ensures kept { IsKept T.told self.now }
+    {
+        let class = lineage.class();
+        if !lineage.config().is_same(&self.config) {
+            return false;
+        }
+        has(&self.tables, class.loader, &class.name, class.loader)
+    }
+
+    /// Whether the class of c is the one that the loader of d's class has recorded for its name, and is accessible to d
+    /// (JVMS SE 8, 5.4.3.1, 5.4.4).
+    fn reaches(&self, d: &Lineage<T>, c: &Lineage<T>) -> bool
+        ensures reached { Decides result (IsReached self.now d.now c.now) }
+        ensures kept { IsKept T.told self.now }
+    {
+        let class = c.class();
+        if !c.config().is_same(&self.config) {
+            return false;
+        }
+        if !has(&self.tables, d.class().loader, &class.name, class.loader) {
+            return false;
+        }
+        class_accessible(c.own(), d.class())
+    }
+
+    /// Whether the class of a lineage may be prepared, whose preparation asks for these equalities.
+    fn is_ready(&self, lineage: &Lineage<T>, equalities: &[Equality]) -> bool
+        ensures ready { Decides result (IsReady self.now lineage.now (needs_of equalities.now)) }
+        ensures kept { IsKept T.told self.now }
+    {
+        if !self.has_lineage(lineage) {
+            return false;
+        }
+        if !self.supers_prepared(lineage.own()) {
+            return false;
+        }
+        are_met(&self.book, self.met.as_slice(), equalities)
+    }
+
+    /// Whether the direct supertypes of a class are prepared, as its loader has recorded them.
+    fn supers_prepared(&self, row: &ClassRow<T>) -> bool
+        ensures { Decides result (AllByRecursion (IsPreparedAbove self.now row.now.class)
+            (supers (file_of row.now.file))) }
+    {
+        for at in 0..row.places().len() {
+            if !self.super_prepared(row, at) {
+                return false;
+            }
+        }
+        true
+    }
+
+    /// Whether the direct supertype of a class at a place is prepared, if there is one.
+    fn super_prepared(&self, row: &ClassRow<T>, at: usize) -> bool
+        ensures { Decides result (IfSome (slice_get (supers (file_of row.now.file)) at)
+            (IsPreparedAbove self.now row.now.class)) }
+    {
+        let Some(above) = row.supertype(at) else {
+            return true;
+        };
+        match self.look(row.class().loader, above.name) {
+            None => false,
+            Some(found) => self.look_prepared(found.class()),
+        }
+    }
+
+    /// Keeps that the equality at a place of a list is met.
+    fn remember(&mut self, alloc: Global, place: usize, equality: &Equality)
+        requires met { Met (state_of self.old) (equal_need equality.now) }
+        ensures unchanged { self.new ≡ self.old }
+        ensures kept { IsKept T.told self.new }
+    {
+        note(alloc, &mut self.met, place, equality);
+    }
+
+    /// Imposes an equality that is not met, under a copy of its name.
+    fn constrain(
+        &mut self,
+        alloc: Global,
+        equality: &Equality,
+        name: Name,
+    ) -> Result<(), RegistryFault>
+        requires unmet { Met (state_of self.old) (equal_need equality.now) → ⊥ }
+        requires may { MayConstrainAs T.told self.old equality.now }
+        requires within { EqualityNames (length self.old.config.loaders) equality.now }
+        requires named { name ≡ equality.now.name }
+        ensures constrained { OnOk result (self.new ≡ with_constrain self.old equality.now) }
+        ensures free { OnOk result (Refused (state_of self.old) (equal_need equality.now) → ⊥) }
+        ensures met { OnOk result (Met (state_of self.new) (equal_need equality.now)) }
+        ensures refused { IfErr result (λ fault. AddRefusedFor self.old (equal_need equality.now)
+            fault) }
+        ensures unchanged { IfErr result (λ fault. self.new ≡ self.old) }
+        ensures kept { IsKept T.told self.new }
+    {
+        if self.book.refuses(&name, equality.one, equality.other) {
+            return Err(RegistryFault::Violates(Need::Equal(Equality {
+                name,
+                one: equality.one,
+                other: equality.other,
+            })));
+        }
+        let left = to_come(self.left, self.round, self.script.rounds());
+        match add_equality(
+            alloc,
+            &mut self.book,
+            &mut self.history,
+            left,
+            equality,
+            name,
+        ) {
+            Ok(()) => {}
+            Err(fault) => return Err(fault),
+        }
+        Ok(())
+    }
+
+    /// Marks a class that is recorded and not prepared.
+    fn prepare(&mut self, alloc: Global, class: &Class) -> Result<(), RegistryFault>
+        requires recorded { IsRecorded (state_of self.old) class.now }
+        requires unprepared { Contains (state_of self.old).prepared class.now → ⊥ }
+        requires may { MayPrepareAs T.told self.old class.now }
+        ensures prepared { OnOk result (self.new ≡ with_prepare self.old class.now) }
+        ensures stands { OnOk result (Contains (state_of self.new).prepared class.now) }
+        ensures memory { IfErr result (λ fault. fault ≡ Memory) }
+        ensures unchanged { IfErr result (λ fault. self.new ≡ self.old) }
+        ensures kept { IsKept T.told self.new }
+    {
+        let left = to_come(self.left, self.round, self.script.rounds());
+        match add_prepared(alloc, &mut self.prepared, &mut self.history, left, class) {
+            Ok(()) => {}
+            Err(_) => return Err(RegistryFault::Memory),
+        }
+        Ok(())
+    }
+}

@@ -1,0 +1,106 @@
+//! The table of settled references, as a plain map.
+
+ghost use Rattle.std.specs.Prelude.{◌≡◌, ◌+◌, ◌≤◌, None, IfOk, OnOk, OnErr, option_map, vec_capacity, vec_len};
+ghost use Rattle.indexmap.specs.IndexMap.{IsUnchanged, get};
+ghost use Rattle.cl_model.specs.Classes.{same_class};
+ghost use Rattle.cl_registry.specs.References.{AddsSettled, HasSameReferences, IsReferencePut, shared_references};
+ghost use Rattle.cl_registry.specs.Tables.{reference_in};
+
+use crate::tables::References;
+use cl_model::{Class, Event, Settled};
+use cl_names::Seed;
+use indexmap::IndexMap;
+use std::alloc::{AllocError, Global};
+use std::sync::Arc;
+
+/// What an entry of a class is settled to.
+pub fn find_reference<'a>(
+    references: &'a References,
+    class: &Class,
+    index: u16,
+) -> Option<&'a Arc<Settled>>
+    ensures { option_map (λ s. s.now) result ≡ reference_in references.now class.now index }
+{
+    references.get(class)?.get(&index)
+}
+
+/// Puts what an entry is settled to, the first of its class.
+fn put_first(
+    references: &mut References,
+    alloc: Global,
+    seed: Seed,
+    class: Class,
+    index: u16,
+    settled: Arc<Settled>,
+) -> Result<(), AllocError>
+    requires { get same_class references.old class ≡ None }
+    ensures put { OnOk result (IsReferencePut (reference_in references.old)
+        (reference_in references.new) class index settled) }
+    ensures unchanged { OnErr result (IsUnchanged references.old references.new) }
+{
+    let mut one = IndexMap::with_hasher(alloc, seed);
+    if one.insert(index, settled).is_err() {
+        return Err(AllocError);
+    }
+    match references.insert(class, one) {
+        Ok(_) => Ok(()),
+        Err(_) => Err(AllocError),
+    }
+}
+
+/// Puts what an entry of a class is settled to, in a table that hashes with this seed.
+pub fn put_reference(
+    references: &mut References,
+    alloc: Global,
+    seed: Seed,
+    class: Class,
+    index: u16,
+    settled: Arc<Settled>,
+) -> Result<(), AllocError>
+    ensures put { OnOk result (IsReferencePut (reference_in references.old)
+        (reference_in references.new) class index settled) }
+    ensures unchanged { OnErr result (HasSameReferences (reference_in references.old)
+        (reference_in references.new)) }
+{
+    if let Some(one) = references.get_mut(&class) {
+        return match one.insert(index, settled) {
+            Ok(_) => Ok(()),
+            Err(_) => Err(AllocError),
+        };
+    }
+    put_first(references, alloc, seed, class, index, settled)
+}
+
+/// Settles an entry: one event more, and as much room left for other events.
+pub fn bind(
+    alloc: Global,
+    references: &mut References,
+    history: &mut Vec<Event>,
+    left: usize,
+    seed: Seed,
+    settled: Settled,
+) -> Result<Arc<Settled>, AllocError>
+    requires room { vec_len history.old + left ≤ vec_capacity history.old }
+    ensures room { vec_len history.new + left ≤ vec_capacity history.new }
+    ensures value { IfOk result (λ s. s.value ≡ settled) }
+    ensures event { OnOk result (AddsSettled history.old.items history.new.items settled) }
+    ensures used { OnOk result (vec_len history.new ≡ vec_len history.old + 1) }
+    ensures put { OnOk result (IsReferencePut
+        (shared_references (λ s. s.value) (reference_in references.old))
+        (shared_references (λ s. s.value) (reference_in references.new))
+        settled.class settled.index settled) }
+    ensures same_history { OnErr result (history.new.items ≡ history.old.items) }
+    ensures same_length { OnErr result (vec_len history.new ≡ vec_len history.old) }
+    ensures same_references { OnErr result (HasSameReferences (reference_in references.old)
+        (reference_in references.new)) }
+{
+    let class = settled.class.try_clone(alloc)?;
+    let index = settled.index;
+    let settled = Arc::new(alloc, settled)?;
+    let kept = Arc::try_clone(&settled)?;
+    let answered = Arc::try_clone(&settled)?;
+    history.reserve(left + 1)?;
+    put_reference(references, alloc, seed, class, index, kept)?;
+    history.push_reserved(Event::Settle(settled));
+    Ok(answered)
+}

@@ -1,0 +1,342 @@
+-- How a request goes whose verdict the tables have: one or two looks, and the post (JVMS SE 8, 5.3, 5.4.2, 5.4.3).
+use Rattle.std.proofs.Common.{◌≡◌, ◌⊎◌, inl, inr, ◌∙◌, ℕ, Bool, true, false, List, [], Option, Some, None, refl, sym, ap, subst}
+use Rattle.std.specs.Prelude.{Contains}
+use Rattle.cl_model.specs.declared.answer.Answer as rust
+use Rattle.cl_model.specs.declared.class.Class.{Class}
+use Rattle.cl_model.specs.declared.request.Request.{Request}
+use Rattle.cl_model.specs.declared.request.Request.TheVariants as requests
+use Rattle.cl_model.specs.declared.verdict.Verdict.TheVariants as verdicts
+use Rattle.cl_model.specs.Classes.{class}
+use Rattle.cl_model.specs.States.{State, Verdict, Said, IsClass, IsLinked, recorded, settled_to}
+use Rattle.cl_model.specs.Tables.{Records}
+use Rattle.cl_model.specs.Views.{answer_of, request_of, verdict_of}
+use Rattle.cl_hierarchy.specs.Rows.{Rowed}
+use Rattle.cl_findings.specs.Findings.{Answered, loader_of, name_of}
+use Rattle.cl_registry.specs.Tables.{Shown, records_of, state_of, with_post}
+use Rattle.cl_tasks.specs.Facts.{IsRecordedAs}
+use Rattle.cl_tasks.specs.Follows.{Posts, Refuses, refusal}
+use Rattle.cl_tasks.specs.Tasks.{Tasked}
+use Rattle.cl_tasks.specs.Turns.{AnswersOwn, GoesOnWith, PostsOr, call_of}
+use Rattle.cl_tasks.specs.Waits.{Waits, Beginning, Looking, LookingReference, LookingPrepared}
+use Rattle.cl_tasks.specs.declared.turn.Reply.{Reply}
+use Rattle.cl_tasks.specs.declared.turn.Reply.TheVariants as reply
+use Rattle.cl_tasks.specs.declared.turn.Turn.{Turn}
+use Rattle.cl_tasks.specs.declared.turn.Turn.TheVariants as turn
+use Rattle.cl_schedule.specs.Known.{Has, IsToldAtOnce, SaysOrLacks, TellsKnown}
+use Rattle.cl_schedule.specs.Replies.{Did, IsCall, IsRead, IsReplied, IsStepOf}
+
+-- ---- turns
+
+no_post_or : {A : Type 0} (a : rust.Answer) (u : Turn A) → PostsOr a u → IsCall u → ⊥
+no_post_or a (turn.Look l n) p call = p
+no_post_or a (turn.Read l n) p call = p
+no_post_or a (turn.Define d) p call = p
+no_post_or a (turn.Initiate h) p call = p
+no_post_or a (turn.Lineage c) p call = p
+no_post_or a (turn.LookReference c i) p call = p
+no_post_or a (turn.Settle f) p call = p
+no_post_or a (turn.Impose l k) p call = p
+no_post_or a (turn.LookPrepared c) p call = p
+no_post_or a (turn.Mark l) p call = p
+no_post_or a (turn.Post f) p call = call
+
+pub no_posts : {A : Type 0} (a : rust.Answer) (u : Turn A) → Posts a u → IsCall u → ⊥
+no_posts a (turn.Look l n) p call = p
+no_posts a (turn.Read l n) p call = p
+no_posts a (turn.Define d) p call = p
+no_posts a (turn.Initiate h) p call = p
+no_posts a (turn.Lineage c) p call = p
+no_posts a (turn.LookReference c i) p call = p
+no_posts a (turn.Settle f) p call = p
+no_posts a (turn.Impose l k) p call = p
+no_posts a (turn.LookPrepared c) p call = p
+no_posts a (turn.Mark l) p call = p
+no_posts a (turn.Post f) p call = call
+
+-- ---- stations
+
+-- the tables have a request's verdict, whose class is this one
+abbrev HasOf : State → Request → Class → Verdict → Type 0
+HasOf s (requests.Load loader name) c v = v ≡ IsClass c
+HasOf s (requests.Resolve loader name i) c v = settled_to s.settled c i ≡ Some v
+HasOf s (requests.Link loader name) c v = Contains s.prepared c × (v ≡ IsLinked c)
+
+-- what a task is told on its way to a verdict that the tables have
+abbrev AtHand : {A : Type 0} → State → Request → Verdict → Tasked → Reply A → Type 0
+AtHand s r v t reply.Start = Unit {0}
+AtHand s r v t (reply.Looked (Some row)) = (t.waits ≡ Looking (loader_of r) (name_of r)) × (t.frames ≡ []) × (t.facts ≡ []) × HasOf s r row.value.class v
+AtHand s r v t (reply.LookedReference (Some e)) = verdict_of e.value.verdict ≡ v
+AtHand s r v t (reply.LookedPrepared true) = (c : Class) × (t.waits ≡ LookingPrepared c) × (v ≡ IsLinked c)
+AtHand s r v t reply.Memory = Unit {0}
+AtHand s r v t other = ⊥
+
+-- the calls on that way
+abbrev OwnCall : {A : Type 0} → State → Request → Verdict → Tasked → Turn A → Type 0
+OwnCall s r v t (turn.Look l n) = (t.frames ≡ []) × (t.facts ≡ []) × (l ≡ loader_of r) × (n ≡ name_of r)
+OwnCall s r v t (turn.LookReference c i) = settled_to s.settled c i ≡ Some v
+OwnCall s r v t (turn.LookPrepared c) = Contains s.prepared c × (v ≡ IsLinked c)
+OwnCall s r v t other = ⊥
+
+one_class : (s : State) (loader : ℕ) (name : List ℕ) (c d : Class) → Records s loader name c → d.name ≡ name → recorded s.records loader name ≡ Some d.loader → c ≡ d
+one_class s loader name c d kept named is =
+    let at : c.loader ≡ d.loader = some_is c.loader d.loader (sym kept.1 ∙ is) in
+    let n : c.name ≡ d.name = kept.0 ∙ sym named in
+    rw (n, at) refl
+  where
+    some_is : (a b : ℕ) → Some a ≡ Some b → a ≡ b
+    some_is a b e = cc
+
+has_of : (x : Shown) (r : Request) (v : Verdict) (row : Rowed) → Has (state_of x) (request_of r) v → IsRecordedAs x (loader_of r) (name_of r) row → HasOf (state_of x) r row.class v
+has_of x (requests.Load loader name) v row h k = h.2 ∙ ap (λ (c : Class). IsClass c) (one_class (state_of x) loader name h.0 row.class h.1 k.named k.recorded)
+has_of x (requests.Resolve loader name i) v row h k =
+    subst (λ (c : Class). settled_to (state_of x).settled c i ≡ Some v) (one_class (state_of x) loader name h.0 row.class h.1 k.named k.recorded) h.2
+has_of x (requests.Link loader name) v row h k =
+    let same = one_class (state_of x) loader name h.0 row.class h.1 k.named k.recorded in
+    (subst (λ (c : Class). Contains (state_of x).prepared c) same h.2, h.3 ∙ ap (λ (c : Class). IsLinked c) same)
+
+has_record : (s : State) (r : Request) (v : Verdict) → Has s (request_of r) v → (place : ℕ) × (recorded s.records (loader_of r) (name_of r) ≡ Some place)
+has_record s (requests.Load loader name) v h = (h.0.loader, h.1.1)
+has_record s (requests.Resolve loader name i) v h = (h.0.loader, h.1.1)
+has_record s (requests.Link loader name) v h = (h.0.loader, h.1.1)
+
+-- ---- from a reply to the call
+
+goes_call : {A : Type 0} (s : State) (r : Request) (c : Class) (v : Verdict) (new : Tasked) (u : Turn A) → HasOf s r c v → GoesOnWith r c u → IsCall u → OwnCall s r v new u
+goes_call s (requests.Load loader name) c v new u has goes call = absurd (no_post_or (rust.TheVariants.Said (verdicts.Class c)) u goes call)
+goes_call s (requests.Resolve loader name i) c v new (turn.Look l n) has goes call = absurd goes
+goes_call s (requests.Resolve loader name i) c v new (turn.Read l n) has goes call = absurd goes
+goes_call s (requests.Resolve loader name i) c v new (turn.Define d) has goes call = absurd goes
+goes_call s (requests.Resolve loader name i) c v new (turn.Initiate h) has goes call = absurd goes
+goes_call s (requests.Resolve loader name i) c v new (turn.Lineage d) has goes call = absurd goes
+goes_call s (requests.Resolve loader name i) c v new (turn.LookReference d j) has goes call =
+    subst (λ (k : ℕ). settled_to s.settled d k ≡ Some v) (sym goes.1) (subst (λ (k : Class). settled_to s.settled k i ≡ Some v) (sym goes.0) has)
+goes_call s (requests.Resolve loader name i) c v new (turn.Settle f) has goes call = absurd goes
+goes_call s (requests.Resolve loader name i) c v new (turn.Impose l k) has goes call = absurd goes
+goes_call s (requests.Resolve loader name i) c v new (turn.LookPrepared d) has goes call = absurd goes
+goes_call s (requests.Resolve loader name i) c v new (turn.Mark l) has goes call = absurd goes
+goes_call s (requests.Resolve loader name i) c v new (turn.Post f) has goes call = absurd call
+goes_call s (requests.Link loader name) c v new (turn.Look l n) has goes call = absurd goes
+goes_call s (requests.Link loader name) c v new (turn.Read l n) has goes call = absurd goes
+goes_call s (requests.Link loader name) c v new (turn.Define d) has goes call = absurd goes
+goes_call s (requests.Link loader name) c v new (turn.Initiate h) has goes call = absurd goes
+goes_call s (requests.Link loader name) c v new (turn.Lineage d) has goes call = absurd goes
+goes_call s (requests.Link loader name) c v new (turn.LookReference d j) has goes call = absurd goes
+goes_call s (requests.Link loader name) c v new (turn.Settle f) has goes call = absurd goes
+goes_call s (requests.Link loader name) c v new (turn.Impose l k) has goes call = absurd goes
+goes_call s (requests.Link loader name) c v new (turn.LookPrepared d) has goes call =
+    (subst (λ (k : Class). Contains s.prepared k) (sym goes) has.0, has.1 ∙ ap (λ (k : Class). IsLinked k) (sym goes))
+goes_call s (requests.Link loader name) c v new (turn.Mark l) has goes call = absurd goes
+goes_call s (requests.Link loader name) c v new (turn.Post f) has goes call = absurd call
+
+own_call : {A : Type 0} (s : State) (r : Request) (v : Verdict) (t new : Tasked) (told : Reply A) (u : Turn A) → AtHand s r v t told → t.request ≡ Some r → AnswersOwn t new told u → Refuses (refusal t told) u → IsCall u → OwnCall s r v new u
+own_call s r v t new reply.Start (turn.Look l n) at q own refused call = let asked = own.2 r q in (own.0, own.1, asked.0, asked.1)
+own_call s r v t new reply.Start (turn.Read l n) at q own refused call = absurd own
+own_call s r v t new reply.Start (turn.Define d) at q own refused call = absurd own
+own_call s r v t new reply.Start (turn.Initiate h) at q own refused call = absurd own
+own_call s r v t new reply.Start (turn.Lineage c) at q own refused call = absurd own
+own_call s r v t new reply.Start (turn.LookReference c i) at q own refused call = absurd own
+own_call s r v t new reply.Start (turn.Settle f) at q own refused call = absurd own
+own_call s r v t new reply.Start (turn.Impose l k) at q own refused call = absurd own
+own_call s r v t new reply.Start (turn.LookPrepared c) at q own refused call = absurd own
+own_call s r v t new reply.Start (turn.Mark l) at q own refused call = absurd own
+own_call s r v t new reply.Start (turn.Post f) at q own refused call = absurd call
+own_call s r v t new (reply.Looked None) u at q own refused call = absurd at
+own_call s r v t new (reply.Looked (Some row)) u at q own refused call = goes_call s r row.value.class v new u at.3 (own r q at.0 at.1 at.2) call
+own_call s r v t new (reply.Probed p) u at q own refused call = absurd at
+own_call s r v t new (reply.Defined row) u at q own refused call = absurd at
+own_call s r v t new (reply.Initiated row) u at q own refused call = absurd at
+own_call s r v t new (reply.Lineage l) u at q own refused call = absurd at
+own_call s r v t new (reply.LookedReference None) u at q own refused call = absurd at
+own_call s r v t new (reply.LookedReference (Some e)) u at q own refused call = absurd (no_post_or (rust.TheVariants.Shared e) u own call)
+own_call s r v t new (reply.Settled e) u at q own refused call = absurd at
+own_call s r v t new reply.Imposed u at q own refused call = absurd at
+own_call s r v t new (reply.LookedPrepared true) u at q own refused call = absurd (no_post_or (rust.TheVariants.Said (verdicts.Linked at.0)) u (own at.0 at.1) call)
+own_call s r v t new (reply.LookedPrepared false) u at q own refused call = absurd at
+own_call s r v t new reply.Marked u at q own refused call = absurd at
+own_call s r v t new (reply.Refused n) u at q own refused call = absurd at
+own_call s r v t new reply.Memory u at q own refused call = absurd (no_posts rust.TheVariants.Memory u refused call)
+own_call s r v t new (reply.SourceFault f) u at q own refused call = absurd at
+
+-- ---- from a call to the reply
+
+some_none : {A : Type 0} (o : Option A) (a : A) → o ≡ Some a → o ≡ None → ⊥
+some_none o a e k = cc
+
+look_told : {A : Type 0} (x : Shown) (r : Request) (v : Verdict) (t : Tasked) (told : Reply A) → Has (state_of x) (request_of r) v → IsReplied x (Looking (loader_of r) (name_of r)) told → t.waits ≡ Looking (loader_of r) (name_of r) → t.frames ≡ [] → t.facts ≡ [] → AtHand (state_of x) r v t told
+look_told x r v t reply.Start has is waits frames facts = tt
+look_told x r v t (reply.Looked None) has is waits frames facts = let k = has_record (state_of x) r v has in absurd (some_none (recorded (records_of x) (loader_of r) (name_of r)) k.0 k.1 is.shows)
+look_told x r v t (reply.Looked (Some row)) has is waits frames facts = (waits, frames, facts, has_of x r v row.value has is.tells)
+look_told x r v t (reply.Probed p) has is waits frames facts = is.fits
+look_told x r v t (reply.Defined row) has is waits frames facts = is.fits
+look_told x r v t (reply.Initiated row) has is waits frames facts = is.fits
+look_told x r v t (reply.Lineage l) has is waits frames facts = is.fits
+look_told x r v t (reply.LookedReference o) has is waits frames facts = absurd is.fits
+look_told x r v t (reply.Settled e) has is waits frames facts = is.fits
+look_told x r v t reply.Imposed has is waits frames facts = is.fits
+look_told x r v t (reply.LookedPrepared b) has is waits frames facts = absurd is.fits
+look_told x r v t reply.Marked has is waits frames facts = is.fits
+look_told x r v t (reply.Refused n) has is waits frames facts = absurd (none_some is.fits)
+  where
+    none_some : {A : Type 0} {a : A} → None ≡ Some a → ⊥
+    none_some e = cc
+look_told x r v t reply.Memory has is waits frames facts = tt
+look_told x r v t (reply.SourceFault f) has is waits frames facts = is.fits
+
+reference_told : {A : Type 0} (x : Shown) (r : Request) (v : Verdict) (t : Tasked) (told : Reply A) (c : Class) (i : ℕ) → settled_to (state_of x).settled c i ≡ Some v → IsReplied x (LookingReference c i) told → AtHand (state_of x) r v t told
+reference_told x r v t reply.Start c i has is = tt
+reference_told x r v t (reply.Looked o) c i has is = absurd is.fits
+reference_told x r v t (reply.Probed p) c i has is = is.fits
+reference_told x r v t (reply.Defined row) c i has is = is.fits
+reference_told x r v t (reply.Initiated row) c i has is = is.fits
+reference_told x r v t (reply.Lineage l) c i has is = is.fits
+reference_told x r v t (reply.LookedReference None) c i has is = absurd (some_none (settled_to (state_of x).settled c i) v has is.shows)
+reference_told x r v t (reply.LookedReference (Some e)) c i has is = same (verdict_of e.value.verdict) v (sym is.tells.verdict ∙ has)
+  where
+    same : (a b : Verdict) → Some a ≡ Some b → a ≡ b
+    same a b e = cc
+reference_told x r v t (reply.Settled e) c i has is = is.fits
+reference_told x r v t reply.Imposed c i has is = is.fits
+reference_told x r v t (reply.LookedPrepared b) c i has is = absurd is.fits
+reference_told x r v t reply.Marked c i has is = is.fits
+reference_told x r v t (reply.Refused n) c i has is = absurd (none_some is.fits)
+  where
+    none_some : {A : Type 0} {a : A} → None ≡ Some a → ⊥
+    none_some e = cc
+reference_told x r v t reply.Memory c i has is = tt
+reference_told x r v t (reply.SourceFault f) c i has is = is.fits
+
+prepared_told : {A : Type 0} (x : Shown) (r : Request) (v : Verdict) (t : Tasked) (told : Reply A) (c : Class) → Contains (state_of x).prepared c → v ≡ IsLinked c → t.waits ≡ LookingPrepared c → IsReplied x (LookingPrepared c) told → AtHand (state_of x) r v t told
+prepared_told x r v t reply.Start c has linked waits is = tt
+prepared_told x r v t (reply.Looked o) c has linked waits is = absurd is.fits
+prepared_told x r v t (reply.Probed p) c has linked waits is = is.fits
+prepared_told x r v t (reply.Defined row) c has linked waits is = is.fits
+prepared_told x r v t (reply.Initiated row) c has linked waits is = is.fits
+prepared_told x r v t (reply.Lineage l) c has linked waits is = is.fits
+prepared_told x r v t (reply.LookedReference o) c has linked waits is = absurd is.fits
+prepared_told x r v t (reply.Settled e) c has linked waits is = is.fits
+prepared_told x r v t reply.Imposed c has linked waits is = is.fits
+prepared_told x r v t (reply.LookedPrepared true) c has linked waits is = (c, waits, linked)
+prepared_told x r v t (reply.LookedPrepared false) c has linked waits is = absurd (is.shows has)
+prepared_told x r v t reply.Marked c has linked waits is = is.fits
+prepared_told x r v t (reply.Refused n) c has linked waits is = absurd (none_some is.fits)
+  where
+    none_some : {A : Type 0} {a : A} → None ≡ Some a → ⊥
+    none_some e = cc
+prepared_told x r v t reply.Memory c has linked waits is = tt
+prepared_told x r v t (reply.SourceFault f) c has linked waits is = is.fits
+
+-- ---- all the way
+
+-- nothing happened yet, and the task is on its way
+pub record Standing {A S : Type 0} (old now : Shown) (r : Request) (v : Verdict) (t : Tasked) (told : Reply A) (source since : S) : Type 0 where
+  pub same : now ≡ old
+  pub unread : since ≡ source
+  pub at : AtHand (state_of old) r v t told
+
+-- and so for each verdict that the tables have
+abbrev pub Known : {A S : Type 0} → Shown → Shown → Request → Tasked → Reply A → S → S → Type 0
+Known old now r t told source since = (v : Verdict) → Has (state_of old) (request_of r) v → Standing old now r v t told source since
+
+pub known_start : {A S : Type 0} (old : Shown) (r : Request) (t : Tasked) (source : S) → Known {A = A} old old r t reply.Start source source
+known_start old r t source = λ v has. record { same = refl; unread = refl; at = tt }
+
+-- the call on that way changes nothing
+own_same : {A : Type 0} (s : State) (r : Request) (v : Verdict) (new : Tasked) (x y : Shown) (u : Turn A) → OwnCall s r v new u → Did x y (IsStepOf x u) → y ≡ x
+own_same s r v new x y u own (inl same) = same
+own_same s r v new x y (turn.Look l n) own (inr did) = absurd did.1
+own_same s r v new x y (turn.Read l n) own (inr did) = absurd did.1
+own_same s r v new x y (turn.Define d) own (inr did) = absurd own
+own_same s r v new x y (turn.Initiate h) own (inr did) = absurd own
+own_same s r v new x y (turn.Lineage c) own (inr did) = absurd did.1
+own_same s r v new x y (turn.LookReference c i) own (inr did) = absurd did.1
+own_same s r v new x y (turn.Settle f) own (inr did) = absurd own
+own_same s r v new x y (turn.Impose l k) own (inr did) = absurd own
+own_same s r v new x y (turn.LookPrepared c) own (inr did) = absurd did.1
+own_same s r v new x y (turn.Mark l) own (inr did) = absurd own
+own_same s r v new x y (turn.Post f) own (inr did) = absurd did.1
+
+own_unread : {A : Type 0} (s : State) (r : Request) (v : Verdict) (new : Tasked) (u : Turn A) → OwnCall s r v new u → IsRead u → ⊥
+own_unread s r v new (turn.Look l n) own read = read
+own_unread s r v new (turn.Read l n) own read = own
+own_unread s r v new (turn.Define d) own read = read
+own_unread s r v new (turn.Initiate h) own read = read
+own_unread s r v new (turn.Lineage c) own read = read
+own_unread s r v new (turn.LookReference c i) own read = read
+own_unread s r v new (turn.Settle f) own read = read
+own_unread s r v new (turn.Impose l k) own read = read
+own_unread s r v new (turn.LookPrepared c) own read = read
+own_unread s r v new (turn.Mark l) own read = read
+own_unread s r v new (turn.Post f) own read = read
+
+own_told : {A : Type 0} (x : Shown) (r : Request) (v : Verdict) (new : Tasked) (u : Turn A) (told : Reply A) → OwnCall (state_of x) r v new u → Has (state_of x) (request_of r) v → new.waits ≡ call_of u → IsReplied x (call_of u) told → AtHand (state_of x) r v new told
+own_told x r v new (turn.Look l n) told own has asks is =
+    let w : Looking l n ≡ Looking (loader_of r) (name_of r) = rw (own.2, own.3) refl in
+    look_told x r v new told has (subst (λ (k : Waits). IsReplied x k told) w is) (asks ∙ w) own.0 own.1
+own_told x r v new (turn.Read l n) told own has asks is = absurd own
+own_told x r v new (turn.Define d) told own has asks is = absurd own
+own_told x r v new (turn.Initiate h) told own has asks is = absurd own
+own_told x r v new (turn.Lineage c) told own has asks is = absurd own
+own_told x r v new (turn.LookReference c i) told own has asks is = reference_told x r v new told c i own is
+own_told x r v new (turn.Settle f) told own has asks is = absurd own
+own_told x r v new (turn.Impose l k) told own has asks is = absurd own
+own_told x r v new (turn.LookPrepared c) told own has asks is = prepared_told x r v new told c own.0 own.1 asks is
+own_told x r v new (turn.Mark l) told own has asks is = absurd own
+own_told x r v new (turn.Post f) told own has asks is = absurd own
+
+-- after one call more
+pub known_on : {A S : Type 0} (old x y : Shown) (r : Request) (t new : Tasked) (told next : Reply A) (u : Turn A) (source since later : S) → Known old x r t told source since → t.request ≡ Some r → AnswersOwn t new told u → Refuses (refusal t told) u → IsCall u
+    → new.waits ≡ call_of u → Did x y (IsStepOf x u) → IsReplied y (call_of u) next → ((IsRead u → ⊥) → later ≡ since) → Known old y r new next source later
+known_on old x y r t new told next u source since later known q own refused call asks did is unread = λ v has.
+    let k = known v has in
+    let c = own_call (state_of old) r v t new told u k.at q own refused call in
+    let same : y ≡ old = own_same (state_of old) r v new x y u c did ∙ k.same in
+    record {
+      same = same;
+      unread = unread (own_unread (state_of old) r v new u c) ∙ k.unread;
+      at = own_told old r v new u next c has asks (subst (λ (z : Shown). IsReplied z (call_of u) next) same is);
+    }
+
+-- ---- the post
+
+says : (v : Verdict) (f a : rust.Answer) → answer_of a ≡ Said v → (f ≡ a) ⊎ (f ≡ rust.TheVariants.Memory) → SaysOrLacks v (answer_of f)
+says v f a is (inl e) = inl (ap answer_of e ∙ is)
+says v f a is (inr e) = inr (ap answer_of e)
+
+class_says : (s : State) (r : Request) (c : Class) (v : Verdict) (A : Type 0) (f : Answered) → HasOf s r c v → GoesOnWith {A = A} r c (turn.Post f) → SaysOrLacks v (answer_of f.answer)
+class_says s (requests.Load loader name) c v A f has goes = says v f.answer (rust.TheVariants.Said (verdicts.Class c)) (ap (λ (k : Verdict). Said k) (sym has)) goes
+class_says s (requests.Resolve loader name i) c v A f has goes = inr (ap answer_of goes)
+class_says s (requests.Link loader name) c v A f has goes = inr (ap answer_of goes)
+
+post_says : {A : Type 0} (s : State) (r : Request) (v : Verdict) (t new : Tasked) (told : Reply A) (f : Answered) → AtHand s r v t told → t.request ≡ Some r → AnswersOwn {A = A} t new told (turn.Post f) → Refuses {A = A} (refusal t told) (turn.Post f) → SaysOrLacks v (answer_of f.answer)
+post_says s r v t new reply.Start f at q own refused = inr (ap answer_of own)
+post_says s r v t new (reply.Looked None) f at q own refused = absurd at
+post_says {A = A} s r v t new (reply.Looked (Some row)) f at q own refused = class_says s r row.value.class v A f at.3 (own r q at.0 at.1 at.2)
+post_says s r v t new (reply.Probed p) f at q own refused = absurd at
+post_says s r v t new (reply.Defined row) f at q own refused = absurd at
+post_says s r v t new (reply.Initiated row) f at q own refused = absurd at
+post_says s r v t new (reply.Lineage l) f at q own refused = absurd at
+post_says s r v t new (reply.LookedReference None) f at q own refused = absurd at
+post_says s r v t new (reply.LookedReference (Some e)) f at q own refused = says v f.answer (rust.TheVariants.Shared e) (ap (λ (k : Verdict). Said k) at) own
+post_says s r v t new (reply.Settled e) f at q own refused = absurd at
+post_says s r v t new reply.Imposed f at q own refused = absurd at
+post_says s r v t new (reply.LookedPrepared true) f at q own refused = says v f.answer (rust.TheVariants.Said (verdicts.Linked at.0)) (ap (λ (k : Verdict). Said k) (sym at.2)) (own at.0 at.1)
+post_says s r v t new (reply.LookedPrepared false) f at q own refused = absurd at
+post_says s r v t new reply.Marked f at q own refused = absurd at
+post_says s r v t new (reply.Refused n) f at q own refused = absurd at
+post_says s r v t new reply.Memory f at q own refused = inr (ap answer_of refused)
+post_says s r v t new (reply.SourceFault k) f at q own refused = absurd at
+
+pub known_post : {A S : Type 0} (old x y : Shown) (q : ℕ) (r : Request) (t new : Tasked) (told : Reply A) (f : Answered) (source since : S) → Known old x r t told source since → t.request ≡ Some r → AnswersOwn {A = A} t new told (turn.Post f) → Refuses {A = A} (refusal t told) (turn.Post f)
+    → y ≡ with_post x q f.answer → TellsKnown old y q r source since
+known_post old x y q r t new told f source since known request own refused posted = λ v has.
+    let k = known v has in
+    record {
+      answer = f.answer;
+      is = post_says (state_of old) r v t new told f k.at request own refused;
+      posted = posted ∙ ap (λ (z : Shown). with_post z q f.answer) k.same;
+      unread = k.unread;
+    }
+
+-- memory ran out before the first turn
+pub known_memory : {S : Type 0} (old new : Shown) (q : ℕ) (r : Request) (a : rust.Answer) (source : S) → a ≡ rust.TheVariants.Memory → new ≡ with_post old q a → TellsKnown old new q r source source
+known_memory old new q r a source is posted = λ v has. record { answer = a; is = inr (ap answer_of is); posted = posted; unread = refl }

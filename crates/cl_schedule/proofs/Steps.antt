@@ -1,0 +1,169 @@
+-- One turn of a request, and the call that it asks for (JVMS SE 8, 5.3 to 5.4.3).
+use Rattle.std.proofs.Common.{◌≡◌, inl, inr, ◌∙◌, ℕ, Option, Some, None, refl, sym, ap, subst}
+use Rattle.std.specs.Prelude.{IfSome}
+use Rattle.cl_model.specs.declared.request.Request.{Request}
+use Rattle.cl_model.specs.Content.{Content}
+use Rattle.cl_model.proofs.Sound.{runs_are_sound}
+use Rattle.cl_config.specs.Views.{Configured}
+use Rattle.cl_delegation.specs.Worlds.{setting_of}
+use Rattle.cl_config.specs.Loaders.{schedule_of}
+use Rattle.cl_model.proofs.Tables.{trusted_is_consistent}
+use Rattle.cl_registry.specs.Tables.{Shown, IsKept, RunsAs, state_of, steps}
+use Rattle.cl_tasks.specs.Facts.{Holds}
+use Rattle.cl_tasks.specs.Follows.{Backed, BackedWhere, Follows, FollowsWhere, Refuses, ServedIn, Tells, TellsNow, TellsOf, Unrecorded, refusal}
+use Rattle.cl_tasks.specs.Tasks.{Tasked, begun}
+use Rattle.cl_tasks.specs.Turns.{AnswersOwn, Asks, Expects, IsReplyTo, Serves, call_of}
+use Rattle.cl_tasks.specs.Waits.{Waits, Beginning, Looking, Reading, Defining, Initiating, Tracing, LookingReference, Settling, Imposing, LookingPrepared, Marking, Ended}
+use Rattle.cl_tasks.specs.declared.turn.Reply.{Reply}
+use Rattle.cl_tasks.specs.declared.turn.Reply.TheVariants as reply
+use Rattle.cl_tasks.specs.declared.turn.Turn.{Turn}
+use Rattle.cl_tasks.specs.declared.turn.Turn.TheVariants as turn
+use Rattle.cl_schedule.specs.Counting.{Grows, told_faults}
+use Rattle.cl_schedule.specs.Replies.{CallSays, Did, IsCall, IsReplied, IsStepOf, Shows}
+use Rattle.cl_schedule.specs.Serving.{machine}
+use Rattle.cl_schedule.proofs.Counted.{grows_none, grows_on, told_none}
+use Rattle.cl_schedule.proofs.Next.{next_of, step_of_call}
+use Rattle.cl_schedule.proofs.Served.{Going, going_did, going_start}
+use Rattle.cl_schedule.proofs.Stations.{Known, known_on, known_start}
+use Rattle.cl_schedule.proofs.Told.{holds_stays}
+
+-- what a turn says of itself
+pub record TurnSays {A : Type 0} (told : Option Content) (t new : Tasked) (given : Reply A) (u : Turn A) : Type 0 where
+  pub config : new.config ≡ t.config
+  pub asks : Asks new u
+  pub serves : Serves t new u
+  pub keeps : (x : Shown) → Tells x t given → Holds x new
+  pub backed : BackedWhere t.config (λ x. TellsNow x t given) u
+  pub next : IfSome t.request (λ r. FollowsWhere told t.config (λ x. Tells x t given) r u)
+  pub refused : Refuses (refusal t given) u
+  pub own : AnswersOwn t new given u
+
+-- what holds before each turn of a request
+pub record Turning {A S : Type 0} (told : Option Content) (old now : Shown) (c : Configured) (r : Request) (t : Tasked) (given : Reply A) (count since : ℕ) (source later : S) : Type 0 where
+  pub expects : Expects t given
+  pub going : Going told old now r
+  pub base : old.config ≡ c
+  pub config : t.config ≡ c
+  pub request : t.request ≡ Some r
+  pub tells : TellsNow now t given
+  pub faults : Grows (told_faults given) count since
+  pub known : Known old now r t given source later
+
+turning_begun : {A S : Type 0} (told : Option Content) (old : Shown) (c : Configured) (q : ℕ) (r : Request) (count : ℕ) (source : S) → IsKept told old → old.config ≡ c → Turning {A = A} told old old c r (begun c q r) reply.Start count count source source
+turning_begun {A = A} told old c q r count source kept base =
+    record {
+      expects = refl;
+      going = going_start told old r kept;
+      base = base;
+      config = refl;
+      request = refl;
+      tells = record { told = record { before = record { frames = tt; facts = tt }; now = tt }; unrecorded = tt };
+      faults = grows_none count;
+      known = known_start {A = A} old r (begun c q r) source;
+    }
+
+pub turning_start : {A S : Type 0} (told : Option Content) (old : Shown) (c : Configured) (q : ℕ) (r : Request) (t : Tasked) (count : ℕ) (source : S) → IsKept told old → old.config ≡ c → t ≡ begun c q r → Turning {A = A} told old old c r t reply.Start count count source source
+turning_start {A = A} told old c q r t count source kept base is =
+    subst (λ (k : Tasked). Turning {A = A} told old old c r k reply.Start count count source source) (sym is) (turning_begun {A = A} told old c q r count source kept base)
+
+-- ---- what a turn says where its request is served
+
+-- what holds of a task's request
+of_request : (o : Option Request) (r : Request) (P : Request → Type 0) → o ≡ Some r → IfSome o P → P r
+of_request o r P e h = subst (λ (k : Option Request). IfSome k P) e h
+
+served_in : (told : Option Content) (x : Shown) (c : Configured) (content : Content) → told ≡ Some content → IsKept told x → x.config ≡ c → ServedIn told c (machine x content) (state_of x)
+served_in told x c content e kept same =
+    record {
+      content = content;
+      script = x.script;
+      told_so = e;
+      setting = ap (λ (k : Configured). setting_of k x.script content) same;
+      sound = runs_are_sound (machine x content) (steps x) (subst (λ (o : Option Content). RunsAs o x) e kept.run);
+    }
+
+pub follows_now : {A S : Type 0} (told : Option Content) (old x : Shown) (c : Configured) (r : Request) (t new : Tasked) (given : Reply A) (u : Turn A) (count since : ℕ) (source later : S) → Turning told old x c r t given count since source later → TurnSays told t new given u
+    → (content : Content) → told ≡ Some content → Follows (machine x content) (state_of x) r u
+follows_now told old x c r t new given u count since source later k says content e =
+    of_request t.request r (λ (r : Request). FollowsWhere told t.config (λ s. Tells s t given) r u) k.request says.next (machine x content) x
+    (served_in told x t.config content e k.going.kept (k.going.config ∙ k.base ∙ sym k.config)) k.tells.told
+
+-- the tables bear what a turn asks for
+pub backed_now : {A S : Type 0} (told : Option Content) (old x : Shown) (c : Configured) (r : Request) (t : Tasked) (given : Reply A) (u : Turn A) (count since : ℕ) (source later : S) → Turning told old x c r t given count since source later
+    → BackedWhere t.config (λ s. TellsNow s t given) u → Backed x u
+backed_now told old x c r t given u count since source later k backed =
+    backed x (k.going.config ∙ k.base ∙ sym k.config) k.going.kept.named (trusted_is_consistent (schedule_of x.script) x.script.rounds (steps x) k.going.kept.trusted.tables) k.tells
+
+-- ---- one turn and its call
+
+holds_did : {A : Type 0} (told : Option Content) (x new : Shown) (u : Turn A) (t : Tasked) → Did x new (IsStepOf x u) → IsKept told new → Holds x t → Holds new t
+holds_did told x new u t (inl same) kept held = subst (λ (y : Shown). Holds y t) (sym same) held
+holds_did told x new u t (inr did) kept held = holds_stays told x new did.0 t did.2 kept held
+
+unrecorded_of : {A : Type 0} (x : Shown) (w : Waits) (given : Reply A) → Shows x w given → Unrecorded x w given
+unrecorded_of x Beginning given shows = tt
+unrecorded_of x (Looking l n) reply.Start shows = tt
+unrecorded_of x (Looking l n) (reply.Looked None) shows = shows
+unrecorded_of x (Looking l n) (reply.Looked (Some row)) shows = tt
+unrecorded_of x (Looking l n) (reply.Probed p) shows = tt
+unrecorded_of x (Looking l n) (reply.Defined row) shows = tt
+unrecorded_of x (Looking l n) (reply.Initiated row) shows = tt
+unrecorded_of x (Looking l n) (reply.Lineage o) shows = tt
+unrecorded_of x (Looking l n) (reply.LookedReference o) shows = tt
+unrecorded_of x (Looking l n) (reply.Settled e) shows = tt
+unrecorded_of x (Looking l n) reply.Imposed shows = tt
+unrecorded_of x (Looking l n) (reply.LookedPrepared b) shows = tt
+unrecorded_of x (Looking l n) reply.Marked shows = tt
+unrecorded_of x (Looking l n) (reply.Refused need) shows = tt
+unrecorded_of x (Looking l n) reply.Memory shows = tt
+unrecorded_of x (Looking l n) (reply.SourceFault f) shows = tt
+unrecorded_of x (Reading l n) given shows = tt
+unrecorded_of x (Defining d) given shows = tt
+unrecorded_of x (Initiating h) given shows = tt
+unrecorded_of x (Tracing c) given shows = tt
+unrecorded_of x (LookingReference c i) given shows = tt
+unrecorded_of x (Settling r) given shows = tt
+unrecorded_of x (Imposing e k) given shows = tt
+unrecorded_of x (LookingPrepared c) given shows = tt
+unrecorded_of x (Marking e) given shows = tt
+unrecorded_of x Ended given shows = tt
+
+serves_request : {A : Type 0} (t new : Tasked) (u : Turn A) → Serves t new u → IsCall u → new.request ≡ t.request
+serves_request t new (turn.Look l n) s call = s
+serves_request t new (turn.Read l n) s call = s
+serves_request t new (turn.Define d) s call = s
+serves_request t new (turn.Initiate h) s call = s
+serves_request t new (turn.Lineage c) s call = s
+serves_request t new (turn.LookReference c i) s call = s
+serves_request t new (turn.Settle f) s call = s.1
+serves_request t new (turn.Impose l k) s call = s
+serves_request t new (turn.LookPrepared c) s call = s
+serves_request t new (turn.Mark l) s call = s
+serves_request t new (turn.Post f) s call = absurd call
+
+pub turning_on : {A S : Type 0} (told : Option Content) (old x new : Shown) (c : Configured) (r : Request) (t next : Tasked) (given more : Reply A) (u : Turn A) (count since after : ℕ) (source later last : S) → Turning told old x c r t given count since source later
+    → TurnSays told t next given u → CallSays told x new u more since after later last → Turning told old new c r next more count after source last
+turning_on {A = A} told old x new c r t next given more u count since after source later last k says did =
+    let going : Going told old new r =
+    going_did told old x new r u k.going did.did
+    (λ e is. (step_of_call x u e is, λ content is_told may. next_of (machine x content) x r t next u e (follows_now told old x c r t next given u count since source later k says content is_told) says.serves k.request is may)) did.kept in
+    let config : next.config ≡ c = says.config ∙ k.config in
+    let same : new.config ≡ next.config = going.config ∙ k.base ∙ sym config in
+    record {
+      expects =
+          subst (λ (w : Waits). IsReplyTo next.config w more) (sym says.asks)
+          (subst (λ (y : Configured). IsReplyTo {A = A} y (call_of u) more) same did.replied.fits);
+      going = going;
+      base = k.base;
+      config = config;
+      request = serves_request t next u says.serves did.call ∙ k.request;
+      tells = record {
+        told = record {
+          before = holds_did told x new u next did.did did.kept (says.keeps x k.tells.told);
+          now = subst (λ (w : Waits). TellsOf new w more) (sym says.asks) did.replied.tells;
+        };
+        unrecorded = subst (λ (w : Waits). Unrecorded new w more) (sym says.asks) (unrecorded_of new (call_of u) more did.replied.shows);
+      };
+      faults = grows_on (told_faults given) (told_faults more) count since after k.faults (told_none A t given u says.refused did.call) did.faults;
+      known = known_on old x new r t next given more u source later last k.known k.request says.own says.refused did.call says.asks did.did did.replied did.unread;
+    }

@@ -1,0 +1,42 @@
+-- What the tables have of a request before it is served, and how it is answered then (JVMS SE 8, 5.3 to 5.4.3).
+use Rattle.std.specs.Prelude.{◌≡◌, ◌⊎◌, ℕ, List, ◌∷◌, ◌++◌, Some, Contains, slice_get}
+use Rattle.cl_model.specs.declared.answer.Answer as rust
+use Rattle.cl_model.specs.declared.class.Class.{Class}
+use Rattle.cl_model.specs.declared.request.Request as requests
+use Rattle.cl_model.specs.States.{State, start, Verdict, IsClass, IsLinked, Answer, Said, OutOfMemory, settled_to}
+use Rattle.cl_model.specs.Plans.{Request, Load, Resolve, Link}
+use Rattle.cl_model.specs.Machine.{Scheduled, Step, Post, state_after}
+use Rattle.cl_model.specs.Tables.{Records}
+use Rattle.cl_model.specs.Views.{answer_of, request_of}
+use Rattle.cl_config.specs.Loaders.{schedule_of}
+use Rattle.cl_registry.specs.Tables.{Shown, state_of, steps, with_post}
+
+-- the tables have a request's verdict: its class is recorded, its reference is settled, its class is prepared (5.3, 5.4.2, 5.4.3)
+abbrev pub Has : State → Request → Verdict → Type 0
+Has s (Load loader name) v = (c : Class) × Records s loader name c × (v ≡ IsClass c)
+Has s (Resolve loader name i) v = (d : Class) × Records s loader name d × (settled_to s.settled d i ≡ Some v)
+Has s (Link loader name) v = (c : Class) × Records s loader name c × Contains s.prepared c × (v ≡ IsLinked c)
+
+-- this verdict, or want of memory (own choice)
+abbrev pub SaysOrLacks : Verdict → Answer → Type 0
+SaysOrLacks v a = (a ≡ Said v) ⊎ (a ≡ OutOfMemory)
+
+-- a request was answered this verdict, or want of memory, by its post alone, and the source was left alone (own choice)
+pub record IsToldAtOnce {S : Type 0} (old new : Shown) (q : ℕ) (v : Verdict) (source later : S) : Type 0 where
+  pub answer : rust.Answer
+  pub is : SaysOrLacks v (answer_of answer)
+  pub posted : new ≡ with_post old q answer
+  pub unread : later ≡ source
+
+-- where the tables have a request's verdict it is answered so at once (5.3, 5.4.2, 5.4.3)
+abbrev pub TellsKnown : {S : Type 0} → Shown → Shown → ℕ → requests.Request → S → S → Type 0
+TellsKnown old new q r source later =
+    (v : Verdict) → Has (state_of old) (request_of r) v → IsToldAtOnce old new q v source later
+
+-- where the tables have a request's verdict when another one is posted, the request is answered so after that, or want of
+-- memory, under any source (5.3, 5.4.2, 5.4.3)
+abbrev pub KnownStays : Shown → Type 0
+KnownStays x =
+    (before between behind : List Step) (p q : ℕ) (b a : Answer) (r : Scheduled) (v : Verdict)
+    → steps x ≡ before ++ Post p b ∷ (between ++ Post q a ∷ behind) → slice_get (schedule_of x.script) q ≡ Some r
+    → Has (state_after start before) r.request v → SaysOrLacks v a

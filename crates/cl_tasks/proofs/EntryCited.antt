@@ -1,0 +1,138 @@
+-- What entries ask for, by the texts that they name (JVMS SE 8, 4.4.1, 4.4.2, 5.4.3).
+use Rattle.std.proofs.Common.{◌≡◌, ℕ, Bool, true, false, ◌&&◌, eqb, leb, List, [], ◌∷◌, length, Option, Some, None, Result, Ok, Err, inl, inr, refl, sym, ap, subst, ◌∙◌}
+use Rattle.std.specs.Prelude.{option_map, IfOk, IfSome, if◌then◌else◌}
+use Rattle.std.specs.List.{list_all, slice_split, onto_first}
+use Rattle.std.proofs.lemmas.Bool.{eqb-true}
+use Rattle.cl_names.specs.Text.{is_text}
+use Rattle.cl_names.specs.Kind.{IsNameOf, IsClass, has_unqualified_form, has_class_form, is_class_name}
+use Rattle.cl_names.proofs.Grammars.{class_test_of}
+use Rattle.cl_descriptors.specs.Answers.{Gives}
+use Rattle.cl_descriptors.specs.Reading.{whole_field, whole_method, within_field}
+use Rattle.cl_descriptors.specs.Types.{SpellsField, is_shallow}
+use Rattle.cl_descriptors.specs.declared.types.DescriptorFault.{DescriptorFault}
+use Rattle.cl_descriptors.specs.declared.types.DescriptorFault.TheVariants.{Memory, Malformed, TooManyDimensions, TooManyUnits}
+use Rattle.cl_descriptors.specs.declared.types.FieldType.{FieldType}
+use Rattle.cl_descriptors.proofs.Methods.{whole_field_again, whole_method_again}
+use Rattle.cl_classfile.specs.Files.{Key, Name, Reference, Symbol, ToField, ToMethod, ToInterfaceMethod, CitesField, CitesMethod, CitesInterfaceMethod, field_key, method_key, class_type, is_array_name, named_type, typed, typed_by}
+use Rattle.cl_classfile.specs.Pool.{IsArray, NamesType}
+use Rattle.cl_classfile.specs.References.{IsFieldSymbol, IsMethodSymbol}
+use Rattle.cl_model.specs.Plans.{member_target}
+use Rattle.cl_tasks.specs.Cited.{AsksMember, AsksTarget, IsKind, TargetsClass, TellsEntry, TellsReference, made_by}
+use Rattle.cl_tasks.specs.declared.cited.Asked.{Asked}
+use Rattle.cl_tasks.specs.declared.cited.Asked.TheVariants as asked
+use Rattle.cl_tasks.specs.declared.cited.Kind.{Kind}
+use Rattle.cl_tasks.specs.declared.cited.Kind.TheVariants as kinds
+
+-- ---- names of arrays
+
+differ : (b : Bool) → b ≡ true → b ≡ false → ⊥
+differ true e f = absurd cc
+differ false e f = absurd cc
+
+last : (a b : Bool) → b ≡ false → a && b ≡ false
+last true b e = e
+last false b e = refl
+
+bracket : (parts : List (List ℕ)) → list_all has_unqualified_form (onto_first 91 parts) ≡ false
+bracket [] = refl
+bracket (part ∷ parts) = refl
+
+no_bracket : (rest : List ℕ) → is_class_name (91 ∷ rest) ≡ false
+unfolding is_class_name
+no_bracket rest = last (is_text (91 ∷ rest) && leb (length (91 ∷ rest)) 65535) (has_class_form (91 ∷ rest)) (bracket (slice_split (λ p. eqb p 47) rest))
+
+by_first : (c : ℕ) (rest : List ℕ) (b : Bool) → eqb c 91 ≡ b → is_class_name (c ∷ rest) ≡ true → b ≡ false
+by_first c rest false e h = refl
+by_first c rest true e h = absurd (differ (is_class_name (91 ∷ rest)) (ap (λ (n : ℕ). is_class_name (n ∷ rest)) (sym (eqb-true c 91 e)) ∙ h) (no_bracket rest))
+
+-- no class's name begins as an array's
+class_begins : (name : List ℕ) → IsNameOf IsClass name → is_array_name name ≡ false
+class_begins [] h = refl
+class_begins (c ∷ rest) h = by_first c rest (eqb c 91) refl (class_test_of (c ∷ rest) h)
+
+array_of : (text : List ℕ) → NamesType text → is_array_name text ≡ true → IsArray text
+array_of text (inl h) e = absurd (differ (is_array_name text) e (class_begins text h))
+array_of text (inr h) e = h
+
+-- the name of an array is read, but for want of memory
+shallow_read : (t : FieldType) (fault : DescriptorFault) (b : Bool) → b ≡ true → Gives (Err fault) (if b then Ok t else Err TooManyDimensions) → (fault ≡ Memory → ⊥) → ⊥
+shallow_read t fault false e gives other = absurd cc
+shallow_read t Memory true e gives other = other refl
+shallow_read t Malformed true e gives other = absurd cc
+shallow_read t TooManyDimensions true e gives other = absurd cc
+shallow_read t TooManyUnits true e gives other = absurd cc
+
+pub array_read : (text : List ℕ) (fault : DescriptorFault) → NamesType text → is_array_name text ≡ true → ((t : FieldType) → SpellsField text t → Gives (Err fault) (within_field (Some t))) → (fault ≡ Memory → ⊥) → ⊥
+array_read text fault names is only other =
+    let a = array_of text names is in
+    shallow_read a.0 fault (is_shallow a.0) a.2.0.shallow (only a.0 a.1) other
+
+pub array_named : (text : List ℕ) (t : FieldType) → is_array_name text ≡ true → SpellsField text t → named_type text ≡ Some t
+array_named text t is spells = rw (is) (whole_field_again text t spells)
+
+pub class_named_so : (text : List ℕ) → is_array_name text ≡ false → named_type text ≡ Some (class_type text)
+class_named_so text is = rw (is) refl
+
+-- ---- members
+
+-- the key of a symbol is read
+some_map : {A B : Type 0} (f : A → B) (o : Option A) (x : A) → o ≡ Some x → (y : B) × (option_map f o ≡ Some y)
+some_map f o x e = (f x, ap (option_map f) e)
+
+pub field_keyed : (s : Symbol) → IsFieldSymbol s → (k : Key) × (field_key s ≡ Some k)
+field_keyed s h = some_map _ (whole_field s.descriptor) h.descriptor.0 (whole_field_again s.descriptor h.descriptor.0 h.descriptor.1)
+
+pub method_keyed : (s : Symbol) → IsMethodSymbol s → (k : Key) × (method_key s ≡ Some k)
+method_keyed s h = some_map _ (whole_method s.descriptor) h.descriptor.0 (whole_method_again s.descriptor h.descriptor.0 h.descriptor.1)
+
+asks_kind : (kind : Kind) (t : FieldType) (k : Key) (a : Asked) → AsksTarget (member_target t) a → TellsReference (made_by kind t k) a
+asks_kind kinds.Field t k asked.Nothing asks = asks
+asks_kind kinds.Field t k asked.ArrayMember asks = (asks, refl)
+asks_kind kinds.Field t k (asked.PrimitiveArray dims p) asks = absurd asks
+asks_kind kinds.Field t k (asked.Class name) asks = asks
+asks_kind kinds.Method t k asked.Nothing asks = asks
+asks_kind kinds.Method t k asked.ArrayMember asks = (asks, refl)
+asks_kind kinds.Method t k (asked.PrimitiveArray dims p) asks = absurd asks
+asks_kind kinds.Method t k (asked.Class name) asks = asks
+asks_kind kinds.InterfaceMethod t k asked.Nothing asks = asks
+asks_kind kinds.InterfaceMethod t k asked.ArrayMember asks = (asks, refl)
+asks_kind kinds.InterfaceMethod t k (asked.PrimitiveArray dims p) asks = absurd asks
+asks_kind kinds.InterfaceMethod t k (asked.Class name) asks = asks
+
+-- what an entry of this kind is, by its symbol
+pub record IsTyped (kind : Kind) (text : Name) (o : Option Reference) : Type 0 where
+  pub key : Key
+  pub is : o ≡ typed_by (made_by kind) (named_type text) (Some key)
+
+pub typed_field : (s : Symbol) (o : Option Reference) → IsFieldSymbol s → typed (CitesField s) ≡ o → IsTyped kinds.Field s.class o
+typed_field s o h e = let k = field_keyed s h in record { key = k.0; is = sym e ∙ ap (typed_by ToField (named_type s.class)) k.1 }
+
+pub typed_method : (s : Symbol) (o : Option Reference) → IsMethodSymbol s → typed (CitesMethod s) ≡ o → IsTyped kinds.Method s.class o
+typed_method s o h e = let k = method_keyed s h in record { key = k.0; is = sym e ∙ ap (typed_by ToMethod (named_type s.class)) k.1 }
+
+pub typed_interface : (s : Symbol) (o : Option Reference) → IsMethodSymbol s → typed (CitesInterfaceMethod s) ≡ o → IsTyped kinds.InterfaceMethod s.class o
+typed_interface s o h e = let k = method_keyed s h in record { key = k.0; is = sym e ∙ ap (typed_by ToInterfaceMethod (named_type s.class)) k.1 }
+
+member_tells : (kind : Kind) (text : Name) (o : Option Reference) (a : Asked) → IsTyped kind text o → AsksMember text a → TellsEntry o a
+member_tells kind text o a typed asks =
+    subst (λ (r : Option Reference). TellsEntry r a) (sym typed.is)
+    (subst (λ (t : Option FieldType). TellsEntry (typed_by (made_by kind) t (Some typed.key)) a) (sym asks.named) (asks_kind kind asks.target typed.key a asks.asks))
+
+pub member_tells_ok : {E : Type 0} (kind : Kind) (text : Name) (o : Option Reference) (r : Result Asked E) → IsTyped kind text o → IfOk r (AsksMember text) → IfOk r (TellsEntry o)
+member_tells_ok kind text o (Ok a) typed asks = member_tells kind text o a typed asks
+member_tells_ok kind text o (Err e) typed asks = tt
+
+member_kind : (kind k : Kind) (text name : Name) (o : Option Reference) → IsTyped kind text o → k ≡ kind → TargetsClass text name → IsKind o name k
+member_kind kind k text name o typed same targets =
+    subst (λ (j : Kind). IsKind o name j) (sym same)
+    (record {
+      target = targets.target;
+      key = typed.key;
+      refers = typed.is ∙ ap (λ (t : Option FieldType). typed_by (made_by kind) t (Some typed.key)) targets.is;
+      named = targets.named;
+    })
+
+pub member_kind_ok : {E : Type 0} (kind : Kind) (text name : Name) (o : Option Reference) (r : Result (Option Kind) E) → IsTyped kind text o → IfOk r (λ k. IfSome k (λ j. (j ≡ kind) × TargetsClass text name)) → IfOk r (λ k. IfSome k (IsKind o name))
+member_kind_ok kind text name o (Ok None) typed h = tt
+member_kind_ok kind text name o (Ok (Some k)) typed h = member_kind kind k text name o typed h.0 h.1
+member_kind_ok kind text name o (Err e) typed h = tt

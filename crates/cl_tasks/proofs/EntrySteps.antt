@@ -1,0 +1,237 @@
+-- What a resolution does on the look at its entry, and on the second look for its class, as a step (JVMS SE 8, 5.4.3).
+use Rattle.std.proofs.Common.{◌≡◌, ◌∙◌, ◌≤◌, ℕ, Bool, true, false, not, eqb, List, [], length, Option, Some, None, inr, refl, sym, ap, subst, arith}
+use Rattle.std.specs.Prelude.{IfSome}
+use Rattle.std.specs.Cmp.Lexicographic.{pointwise, same_text}
+use Rattle.std.specs.declared.alloc.Global.{Global}
+use Rattle.std.specs.declared.sync.Arc.{Arc}
+use Rattle.cl_model.specs.declared.answer.Answer.TheVariants as answers
+use Rattle.cl_model.specs.declared.class.Class.{Class}
+use Rattle.cl_model.specs.declared.request.Request.{Request}
+use Rattle.cl_model.specs.declared.request.Request.TheVariants as requests
+use Rattle.cl_model.specs.declared.settled.Settled.{Settled}
+use Rattle.cl_model.specs.declared.verdict.Verdict as verdict
+use Rattle.cl_model.specs.Content.{Content}
+use Rattle.cl_model.specs.Machine.{AnswersPlan, Setting}
+use Rattle.cl_model.specs.Plans as plans
+use Rattle.cl_model.specs.Service.{ComesTo}
+use Rattle.cl_model.specs.States.{State, recorded}
+use Rattle.cl_model.specs.Tables.{Bears}
+use Rattle.cl_model.specs.Views.{request_of, verdict_of}
+use Rattle.cl_model.proofs.Gone.{borne_said, unrecorded_bears}
+use Rattle.cl_model.proofs.Service.{resolve_wants, said_comes}
+use Rattle.cl_config.specs.Views.{Configured}
+use Rattle.cl_findings.specs.Findings.{Answered, Based, Decides, IsWithin, Rests, loader_of, name_of}
+use Rattle.cl_hierarchy.specs.declared.row.ClassRow.{ClassRow}
+use Rattle.cl_registry.specs.Tables.{Shown, state_of}
+use Rattle.cl_tasks.specs.Facts.{AreSo}
+use Rattle.cl_tasks.specs.Deriving.{Derives, IsNone, IsPast}
+use Rattle.cl_tasks.specs.Follows.{LacksOnly, Posts, ServedIn, Tells, TellsNow}
+use Rattle.cl_tasks.specs.Measures.{checking_left, reference_left}
+use Rattle.cl_tasks.specs.Reaching.{ReachesBy}
+use Rattle.cl_tasks.specs.Resolving.{SettledTold}
+use Rattle.cl_tasks.specs.Stages.{IsFailed, basis_facts, load_of, resolving_at, task_at}
+use Rattle.cl_tasks.specs.Steps.{IsPlain, LeadsBy, LeadsOn, Steps, memory_ends}
+use Rattle.cl_tasks.specs.Turns.{AnswersOwn, GoesOnWith, WasAbsent}
+use Rattle.cl_tasks.specs.declared.stage.Entry as entries
+use Rattle.cl_tasks.specs.declared.stage.Failed.{Failed}
+use Rattle.cl_tasks.specs.declared.stage.Next.{Next}
+use Rattle.cl_tasks.specs.declared.stage.Resolution.TheVariants as resolutions
+use Rattle.cl_tasks.specs.declared.stage.Stage.TheVariants as stages
+use Rattle.cl_tasks.specs.declared.turn.Reply.TheVariants as reply
+use Rattle.cl_tasks.specs.declared.turn.Turn.TheVariants as turn
+use Rattle.cl_tasks.proofs.Deriving.{derives_more, past_derives}
+use Rattle.cl_tasks.proofs.Facts.{so_met, so_refuses}
+use Rattle.cl_tasks.proofs.Lacking.{posts_one, posts_or, shared_memory}
+use Rattle.cl_tasks.proofs.Lead.{leads_memory, leads_more, plain_no_fault, plain_reads}
+use Rattle.cl_tasks.proofs.Reaching.{reached_left, reaches}
+use Rattle.cl_tasks.proofs.Said.{Stood, borne, found_is, said_of, stood_answers, unrecorded}
+
+same_room : (m : ℕ) → m ≤ m
+same_room m = omega arith
+
+-- ---- the look at the entry
+
+reference_told : {A : Type 0} (c : Configured) (e : entries.Entry A) (o : Option (Arc Settled Global)) (x : Shown) → Tells {A = A} x (resolving_at c (resolutions.LookingReference e)) (reply.LookedReference o) → SettledTold e o x
+reference_told c e None x h = record { before = h.before.facts; now = tt }
+reference_told c e (Some s) x h = record { before = h.before.facts; now = h.now }
+
+reference_own : {A : Type 0} (c : Configured) (e : entries.Entry A) (o : Option (Arc Settled Global)) (n : Next A) → IfSome o (λ s. Posts (answers.Shared s) n.turn)
+    → AnswersOwn (resolving_at c (resolutions.LookingReference e)) (task_at c n.stage) (reply.LookedReference o) n.turn
+reference_own c e None n h = tt
+reference_own c e (Some s) n h = posts_or (answers.Shared s) n.turn h
+
+-- what is settled is posted without memory
+reference_lacks : {A : Type 0} (r : Request) (o : Option (Arc Settled Global)) (n : Next A) → IfSome o (λ s. Posts (answers.Shared s) n.turn) → LacksOnly {A = A} (Some r) (reply.LookedReference o) n.turn
+reference_lacks r None n h = λ k. tt
+reference_lacks r (Some s) n h = λ k. shared_memory s (posts_one (answers.Shared s) answers.Memory n.turn h k)
+
+pub reference_steps : {A : Type 0} (told : Option Content) (c : Configured) (e : entries.Entry A) (o : Option (Arc Settled Global)) (n : Next A) → LeadsBy told c e.q e.request reference_left (SettledTold e o) n
+    → IfSome o (λ s. Posts (answers.Shared s) n.turn) → IsPlain n.turn → Derives IsNone [] n.stage → Steps told (resolving_at c (resolutions.LookingReference e)) (reply.LookedReference o) n
+reference_steps {A = A} told c e o n l own plain derives = record {
+  leads = leads_more reference_left (λ x. Tells {A = A} x (resolving_at c (resolutions.LookingReference e)) (reply.LookedReference o)) (λ x. TellsNow {A = A} x (resolving_at c (resolutions.LookingReference e)) (reply.LookedReference o)) l
+      (same_room reference_left) (λ x h. reference_told c e o x h) (λ x h. reference_told c e o x h.told);
+  refused = plain_no_fault n.turn plain;
+  linkage = tt;
+  lacks = reference_lacks e.request o n own;
+  reads = plain_reads {A = A} (reply.LookedReference o) n.turn plain;
+  derives = derives_more IsNone (WasAbsent {A = A} (resolving_at c (resolutions.LookingReference e)) (reply.LookedReference o)) [] n.stage (λ k h. absurd h) derives;
+  own = reference_own c e o n own;
+}
+
+-- ---- tests
+
+not_false : (b : Bool) → not b ≡ false → b ≡ true
+not_false true e = refl
+not_false false e = absurd cc
+
+pub texts_same : (a b : List ℕ) → not (pointwise eqb a b) ≡ false → a ≡ b
+texts_same a b e = same_text a b (sym (not_false (pointwise eqb a b) e))
+
+pub decided : {P : Type 0} (b : Bool) → Decides b P → b ≡ true → P
+decided true d e = d
+decided false d e = absurd cc
+
+-- ---- the second look for the class
+
+some_request : (a b : Request) → Some a ≡ Some b → a ≡ b
+some_request a b e = cc
+
+equal_room : (a b : ℕ) → a ≡ b → a ≤ b
+equal_room a b e = omega (arith, e)
+
+pub found_steps : {A : Type 0} (told : Option Content) (c : Configured) (f : Failed A) (row : Arc (ClassRow A) Global) (n : Next A) → IsFailed told c f → row.value.class.name ≡ name_of f.request → ReachesBy f.q f.request row n
+    → GoesOnWith f.request row.value.class n.turn → IsPlain n.turn → IsPast n.stage → Steps told (resolving_at c (resolutions.Checking f)) (reply.Looked (Some row)) n
+found_steps {A = A} told c f row n failed name by goes plain past = record {
+  leads = leads_more checking_left (λ x. Tells {A = A} x (resolving_at c (resolutions.Checking f)) (reply.Looked (Some row))) (λ x. TellsNow {A = A} x (resolving_at c (resolutions.Checking f)) (reply.Looked (Some row)))
+      (reaches A told c f.q f.request row n failed.asked name by)
+      (equal_room (reached_left f.request) checking_left (ap reached_left failed.resolves)) (λ x h. h.now) (λ x h. h.told.now);
+  refused = plain_no_fault n.turn plain;
+  linkage = tt;
+  lacks = λ h. tt;
+  reads = plain_reads {A = A} (reply.Looked (Some row)) n.turn plain;
+  derives = past_derives (WasAbsent {A = A} (resolving_at c (resolutions.Checking f)) (reply.Looked (Some row))) [] n.stage past;
+  own = λ r e w frames facts. subst (λ (k : Request). GoesOnWith k row.value.class n.turn) (some_request f.request r e) goes;
+}
+
+-- memory ran out at what was found
+memory_goes : {A : Type 0} (q : ℕ) (r : Request) (k : Class) (n : Next A) → n ≡ memory_ends q r → GoesOnWith r k n.turn
+memory_goes q (requests.Load l m) k n e = subst (λ (i : Next _). GoesOnWith (requests.Load l m) k i.turn) (sym e) (inr refl)
+memory_goes q (requests.Resolve l m i) k n e = subst (λ (j : Next _). GoesOnWith (requests.Resolve l m i) k j.turn) (sym e) refl
+memory_goes q (requests.Link l m) k n e = subst (λ (i : Next _). GoesOnWith (requests.Link l m) k i.turn) (sym e) refl
+
+pub found_out : {A : Type 0} (told : Option Content) (c : Configured) (f : Failed A) (row : Arc (ClassRow A) Global) → IsFailed told c f → Steps {A = A} told (resolving_at c (resolutions.Checking f)) (reply.Looked (Some row)) (memory_ends f.q f.request)
+found_out {A = A} told c f row failed = record {
+  leads = leads_memory told c f.q f.request checking_left _ _ failed.asked (omega arith);
+  refused = tt;
+  linkage = tt;
+  lacks = λ h. tt;
+  reads = tt;
+  derives = tt;
+  own = λ r e w frames facts. subst (λ (k : Request). GoesOnWith {A = A} k row.value.class (memory_ends f.q f.request).turn) (some_request f.request r e) (memory_goes f.q f.request row.value.class (memory_ends f.q f.request) refl);
+}
+
+pub unfound_out : {A : Type 0} (told : Option Content) (c : Configured) (f : Failed A) → IsFailed told c f → Steps {A = A} told (resolving_at c (resolutions.Checking f)) (reply.Looked None) (memory_ends f.q f.request)
+unfound_out {A = A} told c f failed = record {
+  leads = leads_memory told c f.q f.request checking_left _ _ failed.asked (omega arith);
+  refused = tt;
+  linkage = tt;
+  lacks = λ h. tt;
+  reads = tt;
+  derives = tt;
+  own = tt;
+}
+
+-- ---- nothing was found, and the verdict stands
+
+-- what was told where nothing was found
+abbrev Unfound : (A : Type 0) → Configured → Failed A → Shown → Type 0
+Unfound A c f x = Tells {A = A} x (resolving_at c (resolutions.Checking f)) (reply.Looked None)
+
+failed_whole : {A : Type 0} (told : Option Content) (c : Configured) (f : Failed A) (failed : IsFailed told c f) → f.finding ≡ said_of f.request failed.verdict failed.basis
+failed_whole told c f failed = found_is f.finding f.request failed.verdict failed.basis failed.same failed.said failed.rests_on
+
+failed_facts : {A : Type 0} (told : Option Content) (c : Configured) (f : Failed A) (failed : IsFailed told c f) (x : Shown) → Unfound A c f x → AreSo x (basis_facts (Some failed.basis))
+failed_facts told c f failed x h = subst (λ (o : Option Based). AreSo x (basis_facts o)) failed.rests_on h.before.facts
+
+failed_stood : {A : Type 0} (told : Option Content) (c : Configured) (f : Failed A) (failed : IsFailed told c f) → Rests told f.finding → IsWithin (length c.loaders) f.finding → Stood told c f.request failed.verdict failed.basis (Unfound A c f)
+failed_stood told c f failed rests within =
+    let whole = failed_whole told c f failed in
+    record {
+      rests = subst (λ (k : Answered). Rests told k) whole rests;
+      config = failed.config;
+      unprepared = failed.unprepared;
+      needs = λ x h. so_met x failed.basis (failed_facts told c f failed x h);
+      refused = λ x h. so_refuses x failed.basis (failed_facts told c f failed x h);
+      within = λ x config named h. subst (λ (k : Configured). IsWithin (length k.loaders) (said_of f.request failed.verdict failed.basis)) (sym config) (subst (λ (k : Answered). IsWithin (length c.loaders) k) whole within);
+    }
+
+none_some : {n : ℕ} → None ≡ Some n → ⊥
+none_some e = absurd cc
+
+-- of a request to resolve, where its class is not recorded, the tables bear any verdict
+unreached_bears : (s : State) (r : Request) (i : ℕ) (v : verdict.Verdict) → r ≡ requests.Resolve (loader_of r) (name_of r) i → recorded s.records (loader_of r) (name_of r) ≡ None → Bears s (request_of r) (verdict_of v)
+unreached_bears s r i v is free = subst (λ (k : Request). Bears s (request_of k) (verdict_of v)) (sym is) (λ d kept. absurd (none_some (sym free ∙ kept.1)))
+
+-- and what it answers is what it comes to
+unreached_answers : (g : Setting) (s : State) (r : Request) (i : ℕ) (v : verdict.Verdict) → r ≡ requests.Resolve (loader_of r) (name_of r) i → recorded s.records (loader_of r) (name_of r) ≡ None → AnswersPlan g s (request_of r) (verdict_of v) → ComesTo g s (request_of r) (verdict_of v)
+unreached_answers g s r i v is free answer =
+    let q = plans.Resolve (loader_of r) (name_of r) i in
+    let here : AnswersPlan g s q (verdict_of v) = subst (λ (k : Request). AnswersPlan g s (request_of k) (verdict_of v)) is answer in
+    subst (λ (k : Request). ComesTo g s (request_of k) (verdict_of v)) (sym is)
+    (said_comes g s q (verdict_of v) (resolve_wants (loader_of r) (name_of r) i) (borne_said g s q (verdict_of v) (unrecorded_bears g s q (verdict_of v) free here) here))
+
+failed_comes : {A : Type 0} (told : Option Content) (c : Configured) (f : Failed A) (failed : IsFailed told c f) → Stood told c f.request failed.verdict failed.basis (Unfound A c f) → (g : Setting) (x : Shown) → ServedIn told c g (state_of x) → Unfound A c f x
+    → ComesTo g (state_of x) (request_of f.request) (verdict_of failed.verdict)
+failed_comes {A = A} told c f failed stood g x served h =
+    let r = f.request in
+    let v = failed.verdict in
+    let load : Stood told c (load_of r) v failed.basis (Unfound A c f) = record {
+      rests = subst (λ (k : Answered). Rests told (record k { request = load_of r })) (failed_whole told c f failed) failed.own;
+      config = stood.config;
+      unprepared = stood.unprepared;
+      needs = stood.needs;
+      refused = stood.refused;
+      within = λ y config named k. let w = stood.within y config named k in record { loader = w.loader; answer = w.answer };
+    } in
+    let free = unrecorded g (state_of x) (loader_of r) (name_of r) v served.sound failed.failure (stood_answers told c (load_of r) v failed.basis (Unfound A c f) load g x served h) in
+    unreached_answers g (state_of x) r failed.index v failed.resolves free (stood_answers told c r v failed.basis (Unfound A c f) stood g x served h)
+
+failed_leads : {A : Type 0} (told : Option Content) (c : Configured) (f : Failed A) (failed : IsFailed told c f) → Stood told c f.request failed.verdict failed.basis (Unfound A c f)
+    → LeadsOn {A = A} told c f.q f.request checking_left (Unfound A c f) (λ x. TellsNow {A = A} x (resolving_at c (resolutions.Checking f)) (reply.Looked None))
+    (record { stage = stages.Done f.q; turn = turn.Post (said_of f.request failed.verdict failed.basis) })
+failed_leads {A = A} told c f failed stood =
+    let r = f.request in
+    let v = failed.verdict in
+    let b = failed.basis in
+    record {
+      kept = tt;
+      number = refl;
+      asks = refl;
+      serves = refl;
+      left = omega arith;
+      keeps = λ x h. record { frames = tt; facts = tt };
+      backed = λ x config named consistent h. record {
+        within = stood.within x config named h.told;
+        answer = record {
+          grounded = inr (record { within = stood.within x config named h.told; basis = borne told c r v b (Unfound A c f) stood x config h.told });
+          borne = unreached_bears (state_of x) r failed.index v failed.resolves h.unrecorded;
+        };
+      };
+      follows = λ g x served h. failed_comes told c f failed stood g x served h;
+    }
+
+pub unfound_steps : {A : Type 0} (told : Option Content) (c : Configured) (f : Failed A) (n : Next A) → IsFailed told c f → Rests told f.finding → IsWithin (length c.loaders) f.finding → n ≡ record { stage = stages.Done f.q; turn = turn.Post f.finding }
+    → Steps told (resolving_at c (resolutions.Checking f)) (reply.Looked None) n
+unfound_steps {A = A} told c f n failed rests within is =
+    let at : n ≡ record { stage = stages.Done f.q; turn = turn.Post (said_of f.request failed.verdict failed.basis) } =
+    is ∙ ap (λ (k : Answered). record { stage = stages.Done f.q; turn = turn.Post k }) (failed_whole told c f failed) in
+    subst (λ (m : Next A). Steps told (resolving_at c (resolutions.Checking f)) (reply.Looked None) m) (sym at)
+    (record {
+      leads = failed_leads told c f failed (failed_stood told c f failed rests within);
+      refused = tt;
+      linkage = tt;
+      lacks = λ h. tt;
+      reads = tt;
+      derives = tt;
+      own = tt;
+    })

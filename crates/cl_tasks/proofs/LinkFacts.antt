@@ -1,0 +1,161 @@
+-- What a link was told of the tables, and what follows of them.
+use Rattle.std.proofs.Common.{◌≡◌, ◌∙◌, ◌<◌, ◌+◌, ℕ, zero, suc, List, [], ◌∷◌, ◌++◌, length, map, Option, Some, refl, sym, ap, subst, arith}
+use Rattle.std.specs.Prelude.{slice_get, take, unwrap_or, Contains}
+use Rattle.std.specs.List.{AllByRecursion}
+use Rattle.cl_model.specs.declared.class.Class.{Class}
+use Rattle.cl_model.specs.States.{Need, AllMet, recorded, IsRecorded}
+use Rattle.cl_model.specs.Tables.{IsConsistent}
+use Rattle.cl_model.proofs.Bind.{some_same}
+use Rattle.cl_hierarchy.specs.Imposed.{Listed, OfPreparation, Sprung, needs_of}
+use Rattle.cl_hierarchy.specs.Lineages.{Lined, rows_in}
+use Rattle.cl_hierarchy.specs.Rows.{Rowed}
+use Rattle.cl_registry.specs.Tables.{Shown, records_of, state_of}
+use Rattle.cl_registry.specs.Traced.{IsRowOf, IsTraced}
+use Rattle.cl_tasks.specs.Facts.{AreSo}
+use Rattle.cl_tasks.specs.Stages.{chain_facts, class_in, classes_in, goal_facts, imposed_facts, sprung_facts, traced_facts}
+use Rattle.cl_tasks.specs.Tasks.{Fact, HasLineage, IsPrepared, Stands}
+use Rattle.cl_tasks.specs.declared.stage.Chain.{Chain}
+
+-- ---- lists of facts
+
+pub so_both : (x : Shown) (fs gs : List Fact) → AreSo x fs → AreSo x gs → AreSo x (fs ++ gs)
+so_both x [] gs h k = k
+so_both x (f ∷ fs) gs h k = (h.0, so_both x fs gs h.1 k)
+
+pub so_first : (x : Shown) (fs gs : List Fact) → AreSo x (fs ++ gs) → AreSo x fs
+so_first x [] gs h = tt
+so_first x (f ∷ fs) gs h = (h.0, so_first x fs gs h.1)
+
+pub so_second : (x : Shown) (fs gs : List Fact) → AreSo x (fs ++ gs) → AreSo x gs
+so_second x [] gs h = h
+so_second x (f ∷ fs) gs h = so_second x fs gs h.1
+
+pub so_to_met : (x : Shown) (ns : List Need) → AreSo x (map (λ n. Stands n) ns) → AllMet (state_of x) ns
+so_to_met x [] h = tt
+so_to_met x (n ∷ ns) h = (h.0, so_to_met x ns h.1)
+
+pub met_to_so : (x : Shown) (ns : List Need) → AllMet (state_of x) ns → AreSo x (map (λ n. Stands n) ns)
+met_to_so x [] h = tt
+met_to_so x (n ∷ ns) h = (h.0, met_to_so x ns h.1)
+
+pub so_to_prepared : (x : Shown) (cs : List Class) → AreSo x (map (λ c. IsPrepared c) cs) → AllByRecursion (Contains (state_of x).prepared) cs
+so_to_prepared x [] h = tt
+so_to_prepared x (c ∷ cs) h = (h.0, so_to_prepared x cs h.1)
+
+pub prepared_to_so : (x : Shown) (cs : List Class) → AllByRecursion (Contains (state_of x).prepared) cs → AreSo x (map (λ c. IsPrepared c) cs)
+prepared_to_so x [] h = tt
+prepared_to_so x (c ∷ cs) h = (h.0, prepared_to_so x cs h.1)
+
+-- ---- places of lists
+
+pub all_at : {A : Type 0} (P : A → Type 0) (xs : List A) (k : ℕ) (a : A) → AllByRecursion P xs → slice_get xs k ≡ Some a → P a
+all_at P [] k a h e = absurd cc
+all_at P (x ∷ xs) zero a h e = subst P (some_same x a e) h.0
+all_at P (x ∷ xs) (suc k) a h e = all_at P xs k a h.1 e
+
+pub none : {A : Type 0} (P : A → Type 0) (xs : List A) → AllByRecursion P (take 0 xs)
+none P [] = tt
+none P (x ∷ xs) = tt
+
+taken_next : {A : Type 0} (P : A → Type 0) (xs : List A) (k : ℕ) (a : A) → AllByRecursion P (take k xs) → slice_get xs k ≡ Some a → P a → AllByRecursion P (take (suc k) xs)
+taken_next P [] k a h e p = absurd cc
+taken_next P (x ∷ xs) zero a h e p = (subst P (sym (some_same x a e)) p, none P xs)
+taken_next P (x ∷ xs) (suc k) a h e p = (h.0, taken_next P xs k a h.1 e p)
+
+pub taken_more : {A : Type 0} (P : A → Type 0) (xs : List A) (k : ℕ) (a : A) → AllByRecursion P (take k xs) → slice_get xs k ≡ Some a → P a → AllByRecursion P (take (k + 1) xs)
+taken_more P xs k a h e p =
+    let one : suc k ≡ k + 1 = omega arith in
+    subst (λ (n : ℕ). AllByRecursion P (take n xs)) one (taken_next P xs k a h e p)
+
+pub within_some : {A : Type 0} (xs : List A) (k : ℕ) → k < length xs → (a : A) × (slice_get xs k ≡ Some a)
+within_some [] k lt = absurd (omega (arith, lt))
+within_some (x ∷ xs) zero lt = (x, refl)
+within_some (x ∷ xs) (suc k) lt = within_some xs k (omega (arith, lt))
+
+pub mapped_at : {A B : Type 0} (f : A → B) (xs : List A) (k : ℕ) (a : A) → slice_get xs k ≡ Some a → slice_get (map f xs) k ≡ Some (f a)
+mapped_at f [] k a e = absurd cc
+mapped_at f (x ∷ xs) zero a e = ap (λ y. Some (f y)) (some_same x a e)
+mapped_at f (x ∷ xs) (suc k) a e = mapped_at f xs k a e
+
+pub last_at : {A : Type 0} (xs : List A) (a : A) → slice_get (xs ++ a ∷ []) (length xs) ≡ Some a
+last_at [] a = refl
+last_at (x ∷ xs) a = last_at xs a
+
+pushed_length : (xs : List Rowed) (r : Rowed) → length (xs ++ r ∷ []) ≡ length xs + 1
+pushed_length [] r = refl
+pushed_length (x ∷ xs) r = let e = pushed_length xs r in omega (arith, e)
+
+pub whole_length : (l : Lined) → length (rows_in l) ≡ length l.above + 1
+whole_length l = pushed_length l.above l.own
+
+-- ---- classes of a lineage
+
+-- the row at a place
+pub row_there : (l : Lined) (place : ℕ) → place < length (rows_in l) → (r : Rowed) × (slice_get (rows_in l) place ≡ Some r) × (class_in l place ≡ r.class)
+row_there l place lt =
+    let r = within_some (rows_in l) place lt in
+    (r.0, r.1, ap (λ (o : Option Class). unwrap_or o l.own.class) (mapped_at (λ (y : Rowed). y.class) (rows_in l) place r.0 r.1))
+
+pub class_there : (l : Lined) (place : ℕ) → place < length (rows_in l) → slice_get (classes_in l) place ≡ Some (class_in l place)
+class_there l place lt =
+    let r = row_there l place lt in
+    mapped_at (λ (y : Rowed). y.class) (rows_in l) place r.0 r.1 ∙ ap (λ (c : Class). Some c) (sym r.2)
+
+pub class_last : (l : Lined) → class_in l (length l.above) ≡ l.own.class
+class_last l = ap (λ (o : Option Class). unwrap_or o l.own.class) (mapped_at (λ (y : Rowed). y.class) (rows_in l) (length l.above) l.own (last_at l.above l.own))
+
+-- ---- what is traced
+
+pub traced_recorded : (x : Shown) (c : Class) (l : Lined) (place : ℕ) → IsTraced x c l → place < length (rows_in l) → IsRecorded (state_of x) (class_in l place)
+traced_recorded x c l place h lt =
+    let r = row_there l place lt in
+    subst (λ (k : Class). IsRecorded (state_of x) k) (sym r.2) (all_at (IsRowOf x) (rows_in l) place r.0 h.rows r.1).recorded
+
+pub traced_own : (x : Shown) (c : Class) (l : Lined) → IsTraced x c l → IsRowOf x l.own
+traced_own x c l h = all_at (IsRowOf x) (rows_in l) (length l.above) l.own h.rows (last_at l.above l.own)
+
+-- a class that a loader records is recorded by its own
+pub own_recorded : (x : Shown) (loader : ℕ) (c : Class) → IsConsistent (state_of x) → recorded (records_of x) loader c.name ≡ Some c.loader → IsRecorded (state_of x) c
+own_recorded x loader c fine at = fine.own loader c.loader c.name at
+
+-- ---- the facts of a chain
+
+pub chain_goal : {A : Type 0} (x : Shown) (k : Chain A) → AreSo x (chain_facts k) → AreSo x (goal_facts k.goal)
+chain_goal x k h = so_first x (goal_facts k.goal) (HasLineage k.whole.value ∷ map (λ c. IsPrepared c) (take k.place (classes_in k.whole.value))) h
+
+pub chain_whole : {A : Type 0} (x : Shown) (k : Chain A) → AreSo x (chain_facts k) → IsTraced x k.whole.value.own.class k.whole.value
+chain_whole x k h = (so_second x (goal_facts k.goal) (HasLineage k.whole.value ∷ map (λ c. IsPrepared c) (take k.place (classes_in k.whole.value))) h).0
+
+pub chain_prepared : {A : Type 0} (x : Shown) (k : Chain A) → AreSo x (chain_facts k) → AllByRecursion (Contains (state_of x).prepared) (take k.place (classes_in k.whole.value))
+chain_prepared x k h =
+    so_to_prepared x (take k.place (classes_in k.whole.value))
+    (so_second x (goal_facts k.goal) (HasLineage k.whole.value ∷ map (λ c. IsPrepared c) (take k.place (classes_in k.whole.value))) h).1
+
+pub chain_of : {A : Type 0} (x : Shown) (k : Chain A) → AreSo x (goal_facts k.goal) → IsTraced x k.whole.value.own.class k.whole.value → AllByRecursion (Contains (state_of x).prepared) (take k.place (classes_in k.whole.value))
+    → AreSo x (chain_facts k)
+chain_of x k goal whole prepared =
+    so_both x (goal_facts k.goal) (HasLineage k.whole.value ∷ map (λ c. IsPrepared c) (take k.place (classes_in k.whole.value))) goal
+    (whole, prepared_to_so x (take k.place (classes_in k.whole.value)) prepared)
+
+-- ---- the facts of a list
+
+abbrev pub list_facts : {A : Type 0} → Chain A → Listed → ℕ → List Fact
+list_facts k e place = chain_facts k ++ (traced_facts e ++ imposed_facts e place)
+
+pub list_chain : {A : Type 0} (x : Shown) (k : Chain A) (e : Listed) (place : ℕ) → AreSo x (list_facts k e place) → AreSo x (chain_facts k)
+list_chain x k e place h = so_first x (chain_facts k) (traced_facts e ++ imposed_facts e place) h
+
+pub list_imposed : {A : Type 0} (x : Shown) (k : Chain A) (e : Listed) (place : ℕ) → AreSo x (list_facts k e place) → AllMet (state_of x) (take place (needs_of e.needs))
+list_imposed x k e place h =
+    so_to_met x (take place (needs_of e.needs)) (so_second x (traced_facts e) (imposed_facts e place) (so_second x (chain_facts k) (traced_facts e ++ imposed_facts e place) h))
+
+pub list_traced : {A : Type 0} (x : Shown) (k : Chain A) (e : Listed) (place : ℕ) (at : Lined) → e.origin ≡ OfPreparation at → AreSo x (list_facts k e place) → IsTraced x at.own.class at
+list_traced x k e place at is h =
+    let here : AreSo x (sprung_facts (OfPreparation at)) = subst (λ (from : Sprung). AreSo x (sprung_facts from)) is (so_first x (traced_facts e) (imposed_facts e place) (so_second x (chain_facts k) (traced_facts e ++ imposed_facts e place) h)) in
+    here.0
+
+pub list_of : {A : Type 0} (x : Shown) (k : Chain A) (e : Listed) (place : ℕ) (at : Lined) → e.origin ≡ OfPreparation at → AreSo x (chain_facts k) → IsTraced x at.own.class at → AllMet (state_of x) (take place (needs_of e.needs))
+    → AreSo x (list_facts k e place)
+list_of x k e place at is chain traced met =
+    so_both x (chain_facts k) (traced_facts e ++ imposed_facts e place) chain
+    (so_both x (traced_facts e) (imposed_facts e place) (subst (λ (from : Sprung). AreSo x (sprung_facts from)) (sym is) (traced, tt)) (met_to_so x (take place (needs_of e.needs)) met))

@@ -1,0 +1,412 @@
+-- What each step of a link leads to.
+use Rattle.std.proofs.Common.{Global, ◌≡◌, ◌∙◌, ◌<◌, ◌≤◌, ◌+◌, ◌-◌, ◌*◌, ◌^◌, ℕ, zero, suc, Bool, List, [], ◌∷◌, length, Option, Some, None, inl, inr, refl, sym, ap, subst, arith}
+use Rattle.std.specs.Prelude.{slice_get, take, option_map, unwrap_or, Contains, IfSome}
+use Rattle.std.specs.List.{AllByRecursion}
+use Rattle.std.proofs.lemmas.List.{length-map, take-map}
+use Rattle.std.proofs.lemmas.Option.{slice_get-map}
+use Rattle.std.specs.declared.sync.Arc.{Arc}
+use Rattle.cl_classfile.specs.Files.{file_of}
+use Rattle.cl_model.specs.declared.answer.Answer as answer
+use Rattle.cl_model.specs.declared.answer.Answer.TheVariants as answers
+use Rattle.cl_model.specs.declared.class.Class.{Class}
+use Rattle.cl_model.specs.declared.need.Equality.{Equality}
+use Rattle.cl_model.specs.declared.need.Need as rust
+use Rattle.cl_model.specs.declared.request.Request as request
+use Rattle.cl_model.specs.declared.request.Request.TheVariants as requests
+use Rattle.cl_model.specs.declared.verdict.Verdict.TheVariants as verdicts
+use Rattle.cl_model.specs.Content.{Content}
+use Rattle.cl_model.specs.Classes.{supers}
+use Rattle.cl_model.specs.Lineages.{IsLineage}
+use Rattle.cl_model.specs.Machine.{Setting, IsSound}
+use Rattle.cl_model.specs.Preparation.{constraints_of}
+use Rattle.cl_model.specs.Service.{ComesTo}
+use Rattle.cl_model.specs.States.{State, Need, IsLinked, IsNext, Linkage, AllMet, IsRecorded, recorded}
+use Rattle.cl_model.specs.Tables.{Bears}
+use Rattle.cl_model.specs.Texts.{AnswerNames}
+use Rattle.cl_model.specs.Views.{need_of, request_of}
+use Rattle.cl_model.proofs.Bind.{some_same}
+use Rattle.cl_model.proofs.Gone.{link_refusal_comes}
+use Rattle.cl_config.specs.Views.{Configured}
+use Rattle.cl_delegation.specs.Worlds.{world_of}
+use Rattle.cl_hierarchy.specs.Imposed.{AreOf, Listed, OfPreparation, Sprung, equal_need, needs_of}
+use Rattle.cl_hierarchy.specs.Lineages.{IsInOrder, IsLineageOf, Lined, kin_of, rows_in}
+use Rattle.cl_hierarchy.specs.Rows.{Rowed}
+use Rattle.cl_findings.specs.Bases.{AreLineages}
+use Rattle.cl_findings.specs.Findings.{Answered, Based, BasisStands, IsLookedUp, IsWithin, loader_of}
+use Rattle.cl_findings.specs.References.{link_basis}
+use Rattle.cl_findings.proofs.References.{next_at}
+use Rattle.cl_registry.specs.Imposing.{IsNextOf, IsPreparedAbove, IsReady, IsReadyBy, IsStanding, MayImpose, MayMark, StandsFor}
+use Rattle.cl_registry.specs.Posting.{AnswerBacked, IsBacked}
+use Rattle.cl_registry.specs.Tables.{NamesLoaders, Shown, records_of, row_of, state_of}
+use Rattle.cl_registry.specs.Traced.{IsRowOf, IsTraced}
+use Rattle.cl_registry.proofs.Linked.{prepared_comes}
+use Rattle.cl_registry.proofs.Named.{recorded_is_named}
+use Rattle.cl_tasks.specs.Facts.{AreSo}
+use Rattle.cl_tasks.specs.Follows.{AnswerFollows, IsPreparedNext, IsWanted, ServedIn}
+use Rattle.cl_tasks.specs.Linking.{ChainTold, DoneTold, GoalTold, LineageTold, ListTold, MarkedTold, PreparedTold, RefusedTold, WholeTold}
+use Rattle.cl_tasks.specs.Measures.{chain_left, each_left, linking_left, most, prepared_left, whole_left}
+use Rattle.cl_tasks.specs.Stages.{IsAtPlace, IsChain, IsGoal, IsOf, behind, class_in, classes_in}
+use Rattle.cl_tasks.specs.Steps.{LeadsBy}
+use Rattle.cl_tasks.specs.declared.stage.Chain.{Chain}
+use Rattle.cl_tasks.specs.declared.stage.Goal.{Goal}
+use Rattle.cl_tasks.specs.declared.stage.Link.TheVariants as links
+use Rattle.cl_tasks.specs.declared.stage.Stage.TheVariants as stages
+use Rattle.cl_tasks.specs.declared.turn.Turn.TheVariants as turn
+use Rattle.cl_tasks.specs.Waits as waits
+use Rattle.cl_tasks.proofs.LinkAbove.{supers_prepared}
+use Rattle.cl_tasks.proofs.LinkFacts.{all_at, chain_goal, chain_of, chain_prepared, chain_whole, class_last, class_there, list_chain, list_facts, list_imposed, list_of, list_traced, none, own_recorded, row_there, taken_more, traced_own, traced_recorded, whole_length, within_some}
+use Rattle.cl_tasks.proofs.LinkNamed.{refused_named}
+use Rattle.cl_tasks.proofs.LinkPlan.{IsThere, equality_next, preparation_next, there}
+
+-- ---- in general
+
+within_same : (c : Configured) (x : Shown) (l : ℕ) → x.config ≡ c → l < length c.loaders → l < length x.config.loaders
+within_same c x l e lt = subst (λ (k : Configured). l < length k.loaders) (sym e) lt
+
+-- ---- the request's class is recorded
+
+goal_at : {A : Type 0} (x : Shown) (g : Goal A) → GoalTold g x → recorded (records_of x) (loader_of g.request) g.class.value.class.name ≡ Some g.class.value.class.loader
+goal_at x g h = h.0
+
+more_by_one : (a : ℕ) → a + 1 < a + 2
+more_by_one a = omega arith
+
+pub whole_asked : {A : Type 0} (told : Option Content) (c : Configured) (g : Goal A) (prepared : Bool) (k : Class) → IsGoal c g → k ≡ g.class.value.class
+    → LeadsBy told c g.q g.request prepared_left (PreparedTold g prepared) (record { stage = stages.Link (links.TracingWhole g); turn = turn.Lineage k })
+whole_asked told c g prepared k goal is = record {
+  kept = goal;
+  number = refl;
+  asks = ap (λ (d : Class). waits.Tracing d) (sym is);
+  serves = refl;
+  left = more_by_one (chain_left most);
+  keeps = λ x h. record { frames = tt; facts = h.before };
+  backed = λ x config names fine h. subst (λ (d : Class). IsRecorded (state_of x) d) (sym is) (own_recorded x (loader_of g.request) g.class.value.class fine (goal_at x g h.before));
+  follows = λ s x served h. tt;
+}
+
+-- a request to link looks up a linked class
+link_looks_up : (r : request.Request) (name : List ℕ) (d : Class) → r ≡ requests.Link (loader_of r) name → IsLookedUp r (verdicts.Linked d)
+link_looks_up r name d is = subst (λ (q : request.Request). IsLookedUp q (verdicts.Linked d)) (sym is) tt
+
+linked_is : (d e : Class) → IsLinked d ≡ IsLinked e → d ≡ e
+linked_is d e h = cc
+
+linked_borne : (s : State) (r : request.Request) (d : Class) → r ≡ requests.Link (loader_of r) d.name → recorded s.records (loader_of r) d.name ≡ Some d.loader → Contains s.prepared d → Bears s (request_of r) (IsLinked d)
+linked_borne s r d is at prepared =
+    subst (λ (q : request.Request). Bears s (request_of q) (IsLinked d)) (sym is)
+    (λ e h. subst (λ (k : Class). ((k.name ≡ d.name) × (recorded s.records (loader_of r) d.name ≡ Some k.loader)) × Contains s.prepared k) (linked_is d e h) ((refl, at), prepared))
+
+-- the answer of a link
+abbrev pub linked_answer : request.Request → Class → Answered
+linked_answer r d = record { request = r; answer = answers.Said (verdicts.Linked d); basis = None }
+
+linked_backed : (c : Configured) (x : Shown) (r : request.Request) (d : Class) → x.config ≡ c → NamesLoaders x → loader_of r < length c.loaders → r ≡ requests.Link (loader_of r) d.name
+    → recorded (records_of x) (loader_of r) d.name ≡ Some d.loader → Contains (state_of x).prepared d → IsBacked x (linked_answer r d)
+linked_backed c x r d config names asked is at prepared = record {
+  within = record { loader = within_same c x (loader_of r) config asked; answer = recorded_is_named x (loader_of r) d.loader d.name names at };
+  answer = record { grounded = inl (link_looks_up r d.name d is); borne = linked_borne (state_of x) r d is at prepared };
+}
+
+linked_comes : (g : Setting) (s : State) (r : request.Request) (d : Class) → IsSound g s → r ≡ requests.Link (loader_of r) d.name → recorded s.records (loader_of r) d.name ≡ Some d.loader → Contains s.prepared d
+    → ComesTo g s (request_of r) (IsLinked d)
+linked_comes g s r d sound is at prepared = subst (λ (q : request.Request). ComesTo g s (request_of q) (IsLinked d)) (sym is) (prepared_comes g s (loader_of r) d.loader d.name sound at prepared)
+
+pub linked_leads : {A : Type 0} (told : Option Content) (c : Configured) (g : Goal A) (k : Class) → IsGoal c g → k ≡ g.class.value.class
+    → LeadsBy {A = A} told c g.q g.request 1 (DoneTold g) (record { stage = stages.Done g.q; turn = turn.Post (linked_answer g.request k) })
+linked_leads told c g k goal is =
+    let d = g.class.value.class in
+    record {
+      kept = tt;
+      number = refl;
+      asks = refl;
+      serves = refl;
+      left = omega arith;
+      keeps = λ x h. record { frames = tt; facts = tt };
+      backed = λ x config names fine h.
+          subst (λ (e : Class). IsBacked x (linked_answer g.request e)) (sym is) (linked_backed c x g.request d config names goal.asked goal.of (goal_at x g h.before) h.now);
+      follows = λ s x served h.
+          subst (λ (e : Class). ComesTo s (state_of x) (request_of g.request) (IsLinked e)) (sym is) (linked_comes s (state_of x) g.request d served.sound goal.of (goal_at x g h.before) h.now);
+    }
+
+-- ---- its lineage
+
+one_more : (a : ℕ) → a < a + 1
+one_more a = omega arith
+
+pub trace_leads : {A : Type 0} (told : Option Content) (c : Configured) (k : Chain A) (d : Class) → IsChain c k → d ≡ class_in k.whole.value k.place
+    → LeadsBy told c k.goal.q k.goal.request (chain_left (behind k) + 1) (ChainTold k) (record { stage = stages.Link (links.Tracing k); turn = turn.Lineage d })
+trace_leads told c k d chain is = record {
+  kept = chain;
+  number = refl;
+  asks = ap (λ (e : Class). waits.Tracing e) (sym is);
+  serves = refl;
+  left = one_more (chain_left (behind k));
+  keeps = λ x h. record { frames = tt; facts = h };
+  backed = λ x config names fine h. subst (λ (e : Class). IsRecorded (state_of x) e) (sym is) (traced_recorded x k.whole.value.own.class k.whole.value k.place (chain_whole x k h) chain.within);
+  follows = λ s x served h. tt;
+}
+
+traced_as : (x : Shown) (d : Class) (l : Lined) → IsTraced x d l → IsTraced x l.own.class l
+traced_as x d l h = record { config = h.config; class = refl; rows = h.rows }
+
+abbrev pub first_of : {A : Type 0} → Goal A → Arc Lined Global → Chain A
+first_of g whole = record { goal = g; whole = whole; place = 0 }
+
+pub whole_told : {A : Type 0} (x : Shown) (g : Goal A) (whole : Arc Lined Global) → WholeTold g whole.value x → ChainTold (first_of g whole) x
+whole_told x g whole h = chain_of x (first_of g whole) h.before (traced_as x g.class.value.class whole.value h.now) (none (Contains (state_of x).prepared) (classes_in whole.value))
+
+abbrev pub next_of : {A : Type 0} → Chain A → Chain A
+next_of k = record k { place = k.place + 1 }
+
+pub marked_told : {A : Type 0} (c : Configured) (x : Shown) (k : Chain A) → IsChain c k → MarkedTold k x → ChainTold (next_of k) x
+marked_told c x k chain h =
+    chain_of x (next_of k) (chain_goal x k h.before) (chain_whole x k h.before)
+    (taken_more (Contains (state_of x).prepared) (classes_in k.whole.value) k.place (class_in k.whole.value k.place) (chain_prepared x k h.before) (class_there k.whole.value k.place chain.within) h.now)
+
+pub last_told : {A : Type 0} (c : Configured) (x : Shown) (k : Chain A) → IsChain c k → length k.whole.value.above ≤ k.place → MarkedTold k x → DoneTold k.goal x
+last_told c x k chain le h =
+    let many = whole_length k.whole.value in
+    let lt = chain.within in
+    let at : k.place ≡ length k.whole.value.above = omega (arith, many, lt, le) in
+    record {
+      before = chain_goal x k h.before;
+      now = subst (λ (d : Class). Contains (state_of x).prepared d) (ap (λ (p : ℕ). class_in k.whole.value p) at ∙ class_last k.whole.value ∙ chain.whole.class) h.now;
+    }
+
+-- the list of the class at the place of a chain is at that place
+pub at_place : {A : Type 0} (c : Configured) (k : Chain A) (l : Lined) (e : Listed) → IsChain c k → IsOf c (class_in k.whole.value k.place) l → e.origin ≡ OfPreparation l → IsAtPlace k e
+at_place c k l e chain of from =
+    let row = row_there k.whole.value k.place chain.within in
+    record {
+      of = subst (λ (d : Class). k.goal.request ≡ requests.Link (loader_of k.goal.request) d.name) (sym chain.whole.class) chain.goal.of;
+      at = l;
+      prepares = from;
+      config = of.config ∙ sym chain.whole.config;
+      there = ap (λ (o : Option Rowed). option_map (λ (y : Rowed). y.class) o) row.1 ∙ ap (λ (d : Class). Some d) (sym row.2 ∙ sym of.class);
+    }
+
+pub first_chain : {A : Type 0} (c : Configured) (g : Goal A) (whole : Arc Lined Global) → IsGoal c g → IsOf c g.class.value.class whole.value → IsChain c (first_of g whole)
+first_chain c g whole goal of = let many = whole_length whole.value in record { goal = goal; whole = of; within = omega (arith, many) }
+
+pub next_chain : {A : Type 0} (c : Configured) (k : Chain A) → IsChain c k → k.place < length k.whole.value.above → IsChain c (next_of k)
+next_chain c k chain lt = let many = whole_length k.whole.value in record { goal = chain.goal; whole = chain.whole; within = omega (arith, many, lt) }
+
+pub row_class : (l : Lined) (place : ℕ) (r : Rowed) → slice_get (rows_in l) place ≡ Some r → class_in l place ≡ r.class
+row_class l place r e = ap (λ (o : Option Class). unwrap_or o l.own.class) (slice_get-map (λ (y : Rowed). y.class) (rows_in l) place ∙ ap (λ (o : Option Rowed). option_map (λ (y : Rowed). y.class) o) e)
+
+pub no_row : (l : Lined) (place : ℕ) → slice_get (rows_in l) place ≡ None → class_in l place ≡ l.own.class
+no_row l place e = ap (λ (o : Option Class). unwrap_or o l.own.class) (slice_get-map (λ (y : Rowed). y.class) (rows_in l) place ∙ ap (λ (o : Option Rowed). option_map (λ (y : Rowed). y.class) o) e)
+
+-- a list that was told of is at its first equality
+pub traced_told : {A : Type 0} (x : Shown) (k : Chain A) (l : Lined) (e : Listed) → e.origin ≡ OfPreparation l → LineageTold k l x → ListTold k e 0 x
+traced_told x k l e from h = list_of x k e 0 l from h.before (traced_as x (class_in k.whole.value k.place) l h.now) (no_needs (needs_of e.needs))
+  where
+    no_needs : (ns : List Need) → AllMet (state_of x) (take 0 ns)
+    no_needs [] = tt
+    no_needs (n ∷ ns) = tt
+
+-- ---- how many turns are left
+
+each_more : (b e : ℕ) → (b + 1) * e ≡ b * e + e
+each_more b e = grind arith
+
+pub chain_grows : (a b e : ℕ) → a ≤ b → a * e ≤ b * e
+chain_grows a b e le = grind (arith, le)
+
+pub whole_room : (n : ℕ) → n ≤ most → chain_left n + 1 ≤ whole_left
+whole_room n le = let l = chain_grows n most each_left le in omega (arith, l)
+
+pub list_room : (n m : ℕ) → 0 < n → m < most → linking_left (n - 1) (m - 0) + 1 ≤ chain_left n
+list_room n m some few =
+    let is : (n - 1) + 1 ≡ n = omega (arith, some) in
+    let e = each_more (n - 1) each_left in
+    let f = ap (λ (k : ℕ). k * each_left) is in
+    omega (arith, e, f, few)
+
+pub one_room : (a m : ℕ) → 1 ≤ a + (m + 1)
+one_room a m = omega arith
+
+pub one_prepared : 1 ≤ prepared_left
+one_prepared = one_room (chain_left most) 1
+
+pub rows_few : (l : Lined) (n : ℕ) → n < 2 ^ 64 → n ≡ length l.above → length (rows_in l) - 0 ≤ most
+unfolding most
+rows_few l n lt is =
+    let many = whole_length l in
+    let lim : 2 ^ 64 ≡ most = refl in
+    omega (arith, lt, is, many, lim)
+
+pub needs_few : (m n : ℕ) → n < 2 ^ 64 → n ≡ m → m < most
+unfolding most
+needs_few m n lt is =
+    let lim : 2 ^ 64 ≡ most = refl in
+    omega (arith, lt, is, lim)
+
+pub next_room : (n p : ℕ) → chain_left (n - (p + 1)) + 1 ≤ linking_left ((n - p) - 1) 0
+next_room n p =
+    let is : n - (p + 1) ≡ (n - p) - 1 = omega arith in
+    let e = ap (λ (k : ℕ). chain_left k) is in
+    omega (arith, e)
+
+-- ---- equalities
+
+-- what a list at a place of a chain was made from, and what is known of it
+pub record IsKnown {A : Type 0} (told : Option Content) (k : Chain A) (e : Listed) : Type 0 where
+  pub place : IsAtPlace k e
+  pub order : IsInOrder k.whole.value
+  pub whole : IsLineageOf told k.whole.value
+  pub lineages : AreLineages told e.origin
+  pub are : AreOf e.origin (needs_of e.needs)
+
+module _ {A : Type 0} (told : Option Content) (c : Configured) (k : Chain A) (e : Listed) (chain : IsChain c k) (known : IsKnown told k e) where
+  at : Lined
+  at = known.place.at
+
+  are : needs_of e.needs ≡ constraints_of (kin_of known.place.at)
+  are = subst (λ (from : Sprung). AreOf from (needs_of e.needs)) known.place.prepares known.are
+
+  other : IsLineageOf told known.place.at
+  other = subst (λ (from : Sprung). AreLineages told from) known.place.prepares known.lineages
+
+  -- the lineage of the class at the place stands
+  standing : (x : Shown) (i : ℕ) → ListTold k e i x → IsStanding x known.place.at
+  standing x i h =
+      let traced = list_traced x k e i known.place.at known.place.prepares h in
+      record { config = traced.config; recorded = (traced_own x known.place.at.own.class known.place.at traced).recorded }
+
+  goal_recorded : (x : Shown) (i : ℕ) → ListTold k e i x → recorded (records_of x) (loader_of k.goal.request) k.whole.value.own.class.name ≡ Some k.whole.value.own.class.loader
+  goal_recorded x i h =
+      subst (λ (d : Class). recorded (records_of x) (loader_of k.goal.request) d.name ≡ Some d.loader) (sym chain.whole.class) (goal_at x k.goal (chain_goal x k (list_chain x k e i h)))
+
+  -- where the request is served, the link is at that class
+  pub here : (g : Setting) (x : Shown) (i : ℕ) → ServedIn told c g (state_of x) → ListTold k e i x → IsThere g (state_of x) (loader_of k.goal.request) k.whole.value known.place.at
+  here g x i served h =
+      there g (state_of x) (loader_of k.goal.request) k.whole.value known.place.at k.place served.sound known.order (in_world served k.whole.value chain.whole.config known.whole)
+      (in_world served known.place.at (known.place.config ∙ chain.whole.config) other) (goal_recorded x i h) known.place.there (chain_prepared x k (list_chain x k e i h))
+    where
+      in_world : (served : ServedIn told c g (state_of x)) (l : Lined) → l.config ≡ c → IsLineageOf told l → IsLineage g.world (kin_of l)
+      in_world served l config lin =
+          let told_lin : IsLineageOf (Some served.content) l = subst (λ (o : Option Content). IsLineageOf o l) served.told_so lin in
+          subst (λ (s : Setting). IsLineage s.world (kin_of l)) (sym served.setting) (subst (λ (d : Configured). IsLineage (world_of d served.content) (kin_of l)) config told_lin)
+
+  -- ---- one of them is imposed
+
+  may_impose : (x : Shown) (i : ℕ) → i < length e.needs → ListTold k e i x → MayImpose x e i
+  may_impose x i lt h = record {
+    stands = subst (λ (from : Sprung). StandsFor x from) (sym known.place.prepares) (standing x i h);
+    within = lt;
+    earlier = list_imposed x k e i h;
+  }
+
+  wanted_next : (g : Setting) (x : Shown) (i : ℕ) → i < length e.needs → ServedIn told c g (state_of x) → ListTold k e i x → IsNextOf e i (IsWanted g (state_of x) k.goal.request)
+  wanted_next g x i lt served h =
+      let one = within_some e.needs i lt in
+      let there_it_is : slice_get (needs_of e.needs) i ≡ Some (equal_need one.0) = slice_get-map equal_need e.needs i ∙ ap (λ (o : Option Equality). option_map equal_need o) one.1 in
+      subst (λ (o : Option Equality). IfSome o (λ n. IsWanted g (state_of x) k.goal.request (equal_need n))) (sym one.1)
+      (equality_next g (state_of x) k.goal.request k.whole.value known.place.at served.sound known.place.of (here g x i served h) (needs_of e.needs) i (equal_need one.0) are there_it_is (list_imposed x k e i h))
+
+  pub impose_leads : (i : ℕ) (list shared : Arc Listed Global) → list.value ≡ e → shared.value ≡ e → i < length e.needs
+      → LeadsBy told c k.goal.q k.goal.request (linking_left (behind k - 1) (length e.needs - i) + 1) (ListTold k e i) (record { stage = stages.Link (links.Imposing k list i); turn = turn.Impose shared i })
+  impose_leads i list shared one two lt = record {
+    kept = (chain, subst (λ (l : Listed). IsAtPlace k l) (sym one) known.place, subst (λ (l : Listed). i < length l.needs) (sym one) lt);
+    number = refl;
+    asks = ap (λ (l : Listed). waits.Imposing l i) (one ∙ sym two);
+    serves = refl;
+    left = subst (λ (l : Listed). linking_left (behind k - 1) (length l.needs - i) < linking_left (behind k - 1) (length e.needs - i) + 1) (sym one) (one_more (linking_left (behind k - 1) (length e.needs - i)));
+    keeps = λ x h. record { frames = tt; facts = subst (λ (l : Listed). AreSo x (list_facts k l i)) (sym one) h };
+    backed = λ x config names fine h. subst (λ (l : Listed). MayImpose x l i) (sym two) (may_impose x i lt h);
+    follows = λ g x served h. subst (λ (l : Listed). IsNextOf l i (IsWanted g (state_of x) k.goal.request)) (sym two) (wanted_next g x i lt served h);
+  }
+
+  -- ---- the class is prepared
+
+  same_row : (x : Shown) (a b : Rowed) → a.class ≡ b.class → row_of x.rows a.class ≡ Some a → row_of x.rows b.class ≡ Some b → a ≡ b
+  same_row x a b is h m = some_same a b (sym h ∙ ap (λ (d : Class). row_of x.rows d) is ∙ m)
+
+  ready : (x : Shown) (i : ℕ) → i ≡ length e.needs → ListTold k e i x → IsReady x known.place.at (needs_of e.needs)
+  ready x i all h =
+      let row = row_there k.whole.value k.place chain.within in
+      let of_row = all_at (IsRowOf x) (rows_in k.whole.value) k.place row.0 (chain_whole x k (list_chain x k e i h)).rows row.1 in
+      let of_at = traced_own x known.place.at.own.class known.place.at (list_traced x k e i known.place.at known.place.prepares h) in
+      let class_is : row.0.class ≡ known.place.at.own.class = some_same row.0.class known.place.at.own.class (sym (ap (λ (o : Option Rowed). option_map (λ (y : Rowed). y.class) o) row.1) ∙ known.place.there) in
+      let same = same_row x row.0 known.place.at.own class_is of_row.kept of_at.kept in
+      let before = subst (λ (cs : List Class). AllByRecursion (Contains (state_of x).prepared) cs) (take-map (λ (y : Rowed). y.class) k.place (rows_in k.whole.value)) (chain_prepared x k (list_chain x k e i h)) in
+      record {
+        stands = standing x i h;
+        above = subst (λ (r : Rowed). AllByRecursion (IsPreparedAbove x r.class) (supers (file_of r.file))) same (supers_prepared x k.whole.value k.place row.0 known.order row.1 of_row.placed before);
+        imposed = subst (λ (ns : List Need). AllMet (state_of x) ns) (whole_taken (needs_of e.needs) i (all ∙ sym (length-map e.needs equal_need))) (list_imposed x k e i h);
+      }
+    where
+      whole_taken : (ns : List Need) (n : ℕ) → n ≡ length ns → take n ns ≡ ns
+      whole_taken [] zero e = refl
+      whole_taken [] (suc n) e = refl
+      whole_taken (y ∷ ns) zero e = absurd (omega (arith, e))
+      whole_taken (y ∷ ns) (suc n) e = ap (λ (xs : List Need). y ∷ xs) (whole_taken ns n (omega (arith, e)))
+
+  prepared_next : (g : Setting) (x : Shown) (i : ℕ) → i ≡ length e.needs → ServedIn told c g (state_of x) → ListTold k e i x → IsPreparedNext g (state_of x) k.goal.request e.origin
+  prepared_next g x i all served h =
+      let met : AllMet (state_of x) (constraints_of (kin_of known.place.at)) = subst (λ (ns : List Need). AllMet (state_of x) ns) are (ready x i all h).imposed in
+      subst (λ (from : Sprung). IsPreparedNext g (state_of x) k.goal.request from) (sym known.place.prepares)
+      (preparation_next g (state_of x) k.goal.request k.whole.value known.place.at served.sound known.place.of (here g x i served h) met)
+
+  fewer : (a m : ℕ) → a + (0 + 1) < a + (m + 1) + 1
+  fewer a m = omega arith
+
+  pub mark_leads : (i : ℕ) (list shared : Arc Listed Global) → list.value ≡ e → shared.value ≡ e → i ≡ length e.needs
+      → LeadsBy told c k.goal.q k.goal.request (linking_left (behind k - 1) (length e.needs - i) + 1) (ListTold k e i) (record { stage = stages.Link (links.Marking k list); turn = turn.Mark shared })
+  mark_leads i list shared one two all = record {
+    kept = (chain, subst (λ (l : Listed). IsAtPlace k l) (sym one) known.place);
+    number = refl;
+    asks = ap (λ (l : Listed). waits.Marking l) (one ∙ sym two);
+    serves = refl;
+    left = fewer (chain_left (behind k - 1)) (length e.needs - i);
+    keeps = λ x h. record { frames = tt; facts = subst (λ (l : Listed). AreSo x (list_facts k l (length l.needs))) (sym one) (subst (λ (n : ℕ). AreSo x (list_facts k e n)) all h) };
+    backed = λ x config names fine h. subst (λ (l : Listed). MayMark x l) (sym two) (subst (λ (from : Sprung). IsReadyBy x from (needs_of e.needs)) (sym known.place.prepares) (ready x i all h));
+    follows = λ g x served h. subst (λ (l : Listed). IsPreparedNext g (state_of x) k.goal.request l.origin) (sym two) (prepared_next g x i all served h);
+  }
+
+  -- ---- one of them is refused
+
+  refused_comes : (g : Setting) (x : Shown) (i : ℕ) (n : Need) → slice_get (needs_of e.needs) i ≡ Some n → ServedIn told c g (state_of x) → RefusedTold k e i n x → ComesTo g (state_of x) (request_of k.goal.request) (Linkage n)
+  refused_comes g x i n is served h =
+      let s = state_of x in
+      let l = k.whole.value in
+      let now = here g x i served h.before in
+      let next = subst (λ (ns : List Need). IsNext s ns n) are (next_at s (needs_of e.needs) i n is (list_imposed x k e i h.before)) in
+      subst (λ (q : request.Request). ComesTo g s (request_of q) (Linkage n)) (sym known.place.of)
+      (link_refusal_comes g s (loader_of k.goal.request) l.own.class.loader l.own.class.name (kin_of l) (kin_of known.place.at) now.front now.behind n served.sound.closed now.kept now.has now.split now.linked next h.now)
+
+  not_linked : (n : Need) (d : Class) → Linkage n ≡ IsLinked d → ⊥
+  not_linked n d h = cc
+
+  refused_borne : (s : State) (n : Need) → Bears s (request_of k.goal.request) (Linkage n)
+  refused_borne s n = subst (λ (q : request.Request). Bears s (request_of q) (Linkage n)) (sym known.place.of) (λ d h. absurd (not_linked n d h))
+
+  refused_backed : (x : Shown) (i : ℕ) (f : Answered) (need : rust.Need) → x.config ≡ c → NamesLoaders x → f.request ≡ k.goal.request → f.answer ≡ answers.Said (verdicts.Linkage need)
+      → f.basis ≡ Some (link_basis k.goal.request k.whole.value k.place e i (need_of need)) → RefusedTold k e i (need_of need) x → IsBacked x f
+  refused_backed x i f need config names asked said rests h =
+      let loader : loader_of f.request < length x.config.loaders = subst (λ (q : request.Request). loader_of q < length x.config.loaders) (sym asked) (within_same c x (loader_of k.goal.request) config chain.goal.asked) in
+      let named = refused_named x need names h.now in
+      let before = subst (λ (cs : List Class). AllByRecursion (Contains (state_of x).prepared) cs) (take-map (λ (y : Rowed). y.class) k.place (rows_in k.whole.value)) (chain_prepared x k (list_chain x k e i h.before)) in
+      let within : IsWithin (length x.config.loaders) f = record { loader = loader; answer = subst (λ (a : answer.Answer). AnswerNames (length x.config.loaders) a) (sym said) named } in
+      let basis : BasisStands x.config (state_of x) f.basis = subst (λ (o : Option Based). BasisStands x.config (state_of x) o) (sym rests)
+      (record { config = chain.whole.config ∙ sym config; needs = (goal_recorded x i h.before, list_imposed x k e i h.before); prepared = before; refused = h.now }) in
+      record {
+        within = within;
+        answer = subst (λ (a : answer.Answer). AnswerBacked x f a) (sym said)
+            (record { grounded = inr (record { within = within; basis = basis }); borne = subst (λ (q : request.Request). Bears (state_of x) (request_of q) (Linkage (need_of need))) (sym asked) (refused_borne (state_of x) (need_of need)) });
+      }
+
+  pub refused_leads : (i : ℕ) (f : Answered) (need : rust.Need) → slice_get (needs_of e.needs) i ≡ Some (need_of need) → f.request ≡ k.goal.request → f.answer ≡ answers.Said (verdicts.Linkage need)
+      → f.basis ≡ Some (link_basis k.goal.request k.whole.value k.place e i (need_of need))
+      → LeadsBy {A = A} told c k.goal.q k.goal.request 1 (RefusedTold k e i (need_of need)) (record { stage = stages.Done k.goal.q; turn = turn.Post f })
+  refused_leads i f need is asked said rests = record {
+    kept = tt;
+    number = refl;
+    asks = refl;
+    serves = ap (λ (q : request.Request). Some q) (sym asked);
+    left = omega arith;
+    keeps = λ x h. record { frames = tt; facts = tt };
+    backed = λ x config names fine h. refused_backed x i f need config names asked said rests h;
+    follows = λ g x served h. subst (λ (a : answer.Answer). AnswerFollows g (state_of x) k.goal.request a) (sym said) (refused_comes g x i (need_of need) is served h);
+  }

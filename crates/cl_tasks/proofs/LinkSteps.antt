@@ -1,0 +1,194 @@
+-- What a link does on a reply.
+use Rattle.std.proofs.Common.{Global, ◌≡◌, ◌∙◌, ◌<◌, ◌≤◌, ◌+◌, ◌-◌, ◌*◌, ℕ, Bool, true, false, List, [], length, Option, Some, None, refl, sym, ap, subst, arith}
+use Rattle.std.specs.Prelude.{slice_get, take, option_map, Contains, IfSome}
+use Rattle.std.proofs.lemmas.Option.{slice_get-map}
+use Rattle.std.specs.declared.sync.Arc.{Arc}
+use Rattle.cl_model.specs.declared.answer.Answer.TheVariants as answers
+use Rattle.cl_model.specs.declared.class.Class.{Class}
+use Rattle.cl_model.specs.declared.need.Equality.{Equality}
+use Rattle.cl_model.specs.declared.need.Need as rust
+use Rattle.cl_model.specs.declared.verdict.Verdict.TheVariants as verdicts
+use Rattle.cl_model.specs.Content.{Content}
+use Rattle.cl_model.specs.States.{AllMet, Met}
+use Rattle.cl_model.specs.Views.{need_of}
+use Rattle.cl_model.proofs.Bind.{some_same}
+use Rattle.cl_config.specs.Views.{Configured}
+use Rattle.cl_hierarchy.specs.Imposed.{Listed, Sprung, equal_need, needs_of}
+use Rattle.cl_hierarchy.specs.Lineages.{Lined}
+use Rattle.cl_hierarchy.specs.Rows.{Rowed}
+use Rattle.cl_findings.proofs.Stood.{all_met, met_all}
+use Rattle.cl_registry.specs.Imposing.{IsPreparedBy}
+use Rattle.cl_registry.specs.Tables.{Shown, state_of}
+use Rattle.cl_tasks.specs.Deriving.{IsPast}
+use Rattle.cl_tasks.specs.Follows.{EndsAsRefused, Posts, Tells, TellsNow}
+use Rattle.cl_tasks.specs.Linking.{LineageTold, ListTold, MarkedTold, PreparedTold, RefusedTold, WholeTold}
+use Rattle.cl_tasks.specs.Measures.{chain_left, linking_left, most, prepared_left, whole_left}
+use Rattle.cl_tasks.specs.Stages.{IsAtPlace, IsChain, behind, class_in, linking_at}
+use Rattle.cl_tasks.specs.Steps.{IsPlain, LeadsBy, Steps}
+use Rattle.cl_tasks.specs.Turns.{PostsOr, WasAbsent}
+use Rattle.cl_tasks.specs.Waits as waits
+use Rattle.cl_tasks.specs.declared.stage.Chain.{Chain}
+use Rattle.cl_tasks.specs.declared.stage.Goal.{Goal}
+use Rattle.cl_tasks.specs.declared.stage.Link.TheVariants as links
+use Rattle.cl_tasks.specs.declared.stage.Next.{Next}
+use Rattle.cl_tasks.specs.declared.turn.Reply.TheVariants as reply
+use Rattle.cl_tasks.proofs.Deriving.{past_derives}
+use Rattle.cl_tasks.proofs.Lead.{leads_more, plain_no_fault, plain_reads}
+use Rattle.cl_tasks.proofs.LinkFacts.{list_chain, list_imposed, list_of, list_traced, row_there, taken_more, within_some}
+
+same_room : (m : ℕ) → m ≤ m
+same_room m = omega arith
+
+-- ---- whether the request's class is prepared
+
+prepared_told : {A : Type 0} (c : Configured) (g : Goal A) (p : Bool) (x : Shown) → Tells {A = A} x (linking_at c (links.LookingPrepared g)) (reply.LookedPrepared p) → PreparedTold g p x
+prepared_told c g true x h = record { before = h.before.facts; now = λ e. h.now }
+prepared_told c g false x h = record { before = h.before.facts; now = λ e. absurd cc }
+
+waits_same : (a b : Class) → waits.LookingPrepared a ≡ waits.LookingPrepared b → a ≡ b
+waits_same a b h = cc
+
+pub prepared_steps : {A : Type 0} (told : Option Content) (c : Configured) (g : Goal A) (p : Bool) (n : Next A) → LeadsBy told c g.q g.request prepared_left (PreparedTold g p) n
+    → (p ≡ true → PostsOr (answers.Said (verdicts.Linked g.class.value.class)) n.turn) → IsPlain n.turn → IsPast n.stage → Steps told (linking_at c (links.LookingPrepared g)) (reply.LookedPrepared p) n
+prepared_steps {A = A} told c g true n l own plain past = record {
+  leads = leads_more prepared_left (λ x. Tells {A = A} x (linking_at c (links.LookingPrepared g)) (reply.LookedPrepared true)) (λ x. TellsNow {A = A} x (linking_at c (links.LookingPrepared g)) (reply.LookedPrepared true)) l
+      (same_room prepared_left) (λ x h. prepared_told c g true x h) (λ x h. prepared_told c g true x h.told);
+  refused = plain_no_fault n.turn plain;
+  linkage = tt;
+  lacks = λ h. tt;
+  reads = plain_reads {A = A} (reply.LookedPrepared true) n.turn plain;
+  derives = past_derives (WasAbsent {A = A} (linking_at c (links.LookingPrepared g)) (reply.LookedPrepared true)) [] n.stage past;
+  own = λ d e. subst (λ (k : Class). PostsOr (answers.Said (verdicts.Linked k)) n.turn) (waits_same g.class.value.class d e) (own refl);
+}
+prepared_steps {A = A} told c g false n l own plain past = record {
+  leads = leads_more prepared_left (λ x. Tells {A = A} x (linking_at c (links.LookingPrepared g)) (reply.LookedPrepared false)) (λ x. TellsNow {A = A} x (linking_at c (links.LookingPrepared g)) (reply.LookedPrepared false)) l
+      (same_room prepared_left) (λ x h. prepared_told c g false x h) (λ x h. prepared_told c g false x h.told);
+  refused = plain_no_fault n.turn plain;
+  linkage = tt;
+  lacks = λ h. tt;
+  reads = plain_reads {A = A} (reply.LookedPrepared false) n.turn plain;
+  derives = past_derives (WasAbsent {A = A} (linking_at c (links.LookingPrepared g)) (reply.LookedPrepared false)) [] n.stage past;
+  own = tt;
+}
+
+-- ---- lineages
+
+pub whole_steps : {A : Type 0} (told : Option Content) (c : Configured) (g : Goal A) (whole : Arc Lined Global) (n : Next A) → LeadsBy told c g.q g.request whole_left (WholeTold g whole.value) n → IsPlain n.turn → IsPast n.stage
+    → Steps told (linking_at c (links.TracingWhole g)) (reply.Lineage whole) n
+whole_steps {A = A} told c g whole n l plain past =
+    let tells : (x : Shown) → Tells {A = A} x (linking_at c (links.TracingWhole g)) (reply.Lineage whole) → WholeTold g whole.value x = λ x h. record { before = h.before.facts; now = h.now } in
+    record {
+      leads = leads_more whole_left (λ x. Tells {A = A} x (linking_at c (links.TracingWhole g)) (reply.Lineage whole)) (λ x. TellsNow {A = A} x (linking_at c (links.TracingWhole g)) (reply.Lineage whole)) l
+          (same_room whole_left) tells (λ x h. tells x h.told);
+      refused = plain_no_fault n.turn plain;
+      linkage = tt;
+      lacks = λ h. tt;
+      reads = plain_reads {A = A} (reply.Lineage whole) n.turn plain;
+      derives = past_derives (WasAbsent {A = A} (linking_at c (links.TracingWhole g)) (reply.Lineage whole)) [] n.stage past;
+      own = tt;
+    }
+
+pub traced_steps : {A : Type 0} (told : Option Content) (c : Configured) (k : Chain A) (at : Arc Lined Global) (n : Next A) → LeadsBy told c k.goal.q k.goal.request (chain_left (behind k)) (LineageTold k at.value) n → IsPlain n.turn → IsPast n.stage
+    → Steps told (linking_at c (links.Tracing k)) (reply.Lineage at) n
+traced_steps {A = A} told c k at n l plain past =
+    let tells : (x : Shown) → Tells {A = A} x (linking_at c (links.Tracing k)) (reply.Lineage at) → LineageTold k at.value x = λ x h. record { before = h.before.facts; now = h.now } in
+    record {
+      leads = leads_more (chain_left (behind k)) (λ x. Tells {A = A} x (linking_at c (links.Tracing k)) (reply.Lineage at)) (λ x. TellsNow {A = A} x (linking_at c (links.Tracing k)) (reply.Lineage at)) l
+          (same_room (chain_left (behind k))) tells (λ x h. tells x h.told);
+      refused = plain_no_fault n.turn plain;
+      linkage = tt;
+      lacks = λ h. tt;
+      reads = plain_reads {A = A} (reply.Lineage at) n.turn plain;
+      derives = past_derives (WasAbsent {A = A} (linking_at c (links.Tracing k)) (reply.Lineage at)) [] n.stage past;
+      own = tt;
+    }
+
+-- ---- equalities
+
+met_more : (x : Shown) (e : Listed) (i : ℕ) (y : Equality) → slice_get e.needs i ≡ Some y → AllMet (state_of x) (take i (needs_of e.needs)) → Met (state_of x) (equal_need y) → AllMet (state_of x) (take (i + 1) (needs_of e.needs))
+met_more x e i y at met one =
+    met_all (state_of x) (take (i + 1) (needs_of e.needs))
+    (taken_more (Met (state_of x)) (needs_of e.needs) i (equal_need y) (all_met (state_of x) (take i (needs_of e.needs)) met) (slice_get-map equal_need e.needs i ∙ ap (λ (o : Option Equality). option_map equal_need o) at) one)
+
+none_some : {A : Type 0} (a : A) → None ≡ Some a → ⊥
+none_some a h = cc
+
+imposed_told : {A : Type 0} (k : Chain A) (e : Listed) (i : ℕ) (x : Shown) (o : Option Equality) → slice_get e.needs i ≡ o → i < length e.needs → IsAtPlace k e → ListTold k e i x → IfSome o (λ n. Met (state_of x) (equal_need n)) → ListTold k e (i + 1) x
+imposed_told k e i x None at lt place h one = absurd (past e.needs i at lt)
+  where
+    past : (ys : List Equality) (j : ℕ) → slice_get ys j ≡ None → j < length ys → ⊥
+    past ys j f g = let s = within_some ys j g in none_some s.0 (sym f ∙ s.1)
+imposed_told k e i x (Some y) at lt place h one =
+    list_of x k e (i + 1) place.at place.prepares (list_chain x k e i h) (list_traced x k e i place.at place.prepares h) (met_more x e i y at (list_imposed x k e i h) one)
+
+next_less : (a m p : ℕ) → p < m → a + ((m - (p + 1)) + 1) + 1 ≤ a + ((m - p) + 1)
+next_less a m p lt = omega (arith, lt)
+
+pub imposed_steps : {A : Type 0} (told : Option Content) (c : Configured) (k : Chain A) (e : Arc Listed Global) (i : ℕ) (n : Next A) → IsAtPlace k e.value → i < length e.value.needs
+    → LeadsBy told c k.goal.q k.goal.request (linking_left (behind k - 1) (length e.value.needs - (i + 1)) + 1) (ListTold k e.value (i + 1)) n → IsPlain n.turn → IsPast n.stage → Steps told (linking_at c (links.Imposing k e i)) reply.Imposed n
+imposed_steps {A = A} told c k e i n place lt l plain past =
+    let tells : (x : Shown) → Tells {A = A} x (linking_at c (links.Imposing k e i)) reply.Imposed → ListTold k e.value (i + 1) x = λ x h. imposed_told k e.value i x (slice_get e.value.needs i) refl lt place h.before.facts h.now in
+    record {
+      leads = leads_more (linking_left (behind k - 1) (length e.value.needs - i)) (λ x. Tells {A = A} x (linking_at c (links.Imposing k e i)) reply.Imposed) (λ x. TellsNow {A = A} x (linking_at c (links.Imposing k e i)) reply.Imposed) l
+          (next_less (chain_left (behind k - 1)) (length e.value.needs) i lt) tells (λ x h. tells x h.told);
+      refused = plain_no_fault n.turn plain;
+      linkage = tt;
+      lacks = λ h. tt;
+      reads = plain_reads {A = A} reply.Imposed n.turn plain;
+      derives = past_derives (WasAbsent {A = A} (linking_at c (links.Imposing k e i)) reply.Imposed) [] n.stage past;
+      own = tt;
+    }
+
+one_less : (a m : ℕ) → 1 ≤ a + (m + 1)
+one_less a m = omega arith
+
+pub refused_steps : {A : Type 0} (told : Option Content) (c : Configured) (k : Chain A) (e : Arc Listed Global) (i : ℕ) (need : rust.Need) (n : Next A)
+    → LeadsBy told c k.goal.q k.goal.request 1 (RefusedTold k e.value i (need_of need)) n → IsPlain n.turn → IsPast n.stage → EndsAsRefused k.goal.request need n.turn → (Posts answers.Memory n.turn → ⊥) → Steps told (linking_at c (links.Imposing k e i)) (reply.Refused need) n
+refused_steps {A = A} told c k e i need n l plain past ends posts =
+    let tells : (x : Shown) → Tells {A = A} x (linking_at c (links.Imposing k e i)) (reply.Refused need) → RefusedTold k e.value i (need_of need) x = λ x h. record { before = h.before.facts; now = h.now } in
+    record {
+      leads = leads_more (linking_left (behind k - 1) (length e.value.needs - i)) (λ x. Tells {A = A} x (linking_at c (links.Imposing k e i)) (reply.Refused need)) (λ x. TellsNow {A = A} x (linking_at c (links.Imposing k e i)) (reply.Refused need)) l
+          (one_less (chain_left (behind k - 1)) (length e.value.needs - i)) tells (λ x h. tells x h.told);
+      refused = plain_no_fault n.turn plain;
+      linkage = ends;
+      lacks = λ h. absurd (posts h);
+      reads = plain_reads {A = A} (reply.Refused need) n.turn plain;
+      derives = past_derives (WasAbsent {A = A} (linking_at c (links.Imposing k e i)) (reply.Refused need)) [] n.stage past;
+      own = tt;
+    }
+
+-- ---- preparations
+
+prepared_there : {A : Type 0} (c : Configured) (k : Chain A) (e : Listed) (x : Shown) → IsChain c k → (place : IsAtPlace k e) → IsPreparedBy x e.origin → Contains (state_of x).prepared (class_in k.whole.value k.place)
+prepared_there c k e x chain place h =
+    let row = row_there k.whole.value k.place chain.within in
+    let is : class_in k.whole.value k.place ≡ place.at.own.class = row.2 ∙ some_same row.0.class place.at.own.class (sym (ap (λ (o : Option Rowed). option_map (λ (y : Rowed). y.class) o) row.1) ∙ place.there) in
+    let here : Contains (state_of x).prepared place.at.own.class = subst (λ (from : Sprung). IsPreparedBy x from) place.prepares h in
+    subst (λ (d : Class). Contains (state_of x).prepared d) (sym is) here
+
+pub marked_steps : {A : Type 0} (told : Option Content) (c : Configured) (k : Chain A) (e : Arc Listed Global) (n : Next A) → IsChain c k → IsAtPlace k e.value
+    → LeadsBy told c k.goal.q k.goal.request (linking_left (behind k - 1) 0) (MarkedTold k) n → IsPlain n.turn → IsPast n.stage → Steps told (linking_at c (links.Marking k e)) reply.Marked n
+marked_steps {A = A} told c k e n chain place l plain past =
+    let tells : (x : Shown) → Tells {A = A} x (linking_at c (links.Marking k e)) reply.Marked → MarkedTold k x =
+    λ x h. record { before = list_chain x k e.value (length e.value.needs) h.before.facts; now = prepared_there c k e.value x chain place h.now } in
+    record {
+      leads = leads_more (linking_left (behind k - 1) 0) (λ x. Tells {A = A} x (linking_at c (links.Marking k e)) reply.Marked) (λ x. TellsNow {A = A} x (linking_at c (links.Marking k e)) reply.Marked) l
+          (same_room (linking_left (behind k - 1) 0)) tells (λ x h. tells x h.told);
+      refused = plain_no_fault n.turn plain;
+      linkage = tt;
+      lacks = λ h. tt;
+      reads = plain_reads {A = A} reply.Marked n.turn plain;
+      derives = past_derives (WasAbsent {A = A} (linking_at c (links.Marking k e)) reply.Marked) [] n.stage past;
+      own = tt;
+    }
+
+-- ---- memory
+
+pub some_left : (a m : ℕ) → 0 < a + (m + 1)
+some_left a m = omega arith
+
+pub chain_some : {A : Type 0} (c : Configured) (k : Chain A) → IsChain c k → 0 < chain_left (behind k)
+chain_some c k chain = let lt = chain.within in let some : 0 < behind k = omega (arith, lt) in product_some (behind k) most some
+  where
+    product_some : (n m : ℕ) → 0 < n → 0 < n * (m + 3)
+    product_some n m lt = grind (arith, lt)

@@ -1,0 +1,274 @@
+-- What a load does on a reply, as a step.
+use Rattle.std.proofs.Common.{◌≡◌, ◌∙◌, ◌<◌, ℕ, List, [], ◌∷◌, ◌++◌, Option, Some, None, inl, inr, sym, ap, subst, arith}
+use Rattle.std.proofs.Common.{Global}
+use Rattle.std.specs.declared.sync.Arc.{Arc}
+use Rattle.cl_model.specs.declared.answer.Answer.{Answer}
+use Rattle.cl_model.specs.declared.answer.Answer.TheVariants as answers
+use Rattle.cl_model.specs.declared.class.Class.{Class}
+use Rattle.cl_model.specs.declared.need.Need as needs
+use Rattle.cl_model.specs.declared.request.Request.{Request}
+use Rattle.cl_model.specs.Classes.{class}
+use Rattle.cl_model.specs.Content.{Content}
+use Rattle.cl_model.specs.States.{Need, Refused}
+use Rattle.cl_model.specs.Views.{need_of}
+use Rattle.cl_model.proofs.Stacks.{kept_is_met}
+use Rattle.cl_source.specs.declared.source.SourceFault.{SourceFault}
+use Rattle.cl_config.specs.Views.{Configured}
+use Rattle.cl_delegation.specs.declared.search.Home.{Home}
+use Rattle.cl_delegation.specs.Searches.{Located, Searched}
+use Rattle.cl_source.specs.Views.{Found}
+use Rattle.cl_hierarchy.specs.declared.row.ClassRow.{ClassRow}
+use Rattle.cl_hierarchy.specs.Drafts.{IsDraft}
+use Rattle.cl_hierarchy.specs.Frames.{Framed, frame_of}
+use Rattle.cl_hierarchy.specs.Paths.{IsPath, at_name, frames_of}
+use Rattle.cl_findings.specs.Loads.{IsFor, IsSought, IsWhole, next_need}
+use Rattle.cl_findings.specs.declared.load.NextRecord.TheVariants as nexts
+use Rattle.cl_registry.specs.Tables.{Shown, state_of}
+use Rattle.cl_tasks.specs.Ends.{IsOwnTarget, RefusedOn}
+use Rattle.cl_tasks.specs.Facts.{IsRecordedAs}
+use Rattle.cl_tasks.specs.Deriving.{Derives, IsNone, IsPast, IsSoughtHere, IsUnfound}
+use Rattle.cl_tasks.specs.Follows.{EndsAsRefused, IsResolution, Posts, PostsNoFault, Tells, fault_answer}
+use Rattle.cl_tasks.specs.Measures.{left_at}
+use Rattle.cl_tasks.specs.Measures as phases
+use Rattle.cl_tasks.specs.Stages.{IsFirst, IsHoming, loading_at, next_place, past_left, probes_left, task_at}
+use Rattle.cl_tasks.specs.Steps.{FindsBy, FindsHome, Finds, HoldsOn, IsPlain, Leads, LeadsAt, LeadsOn, LooksBy, ReadsOn, Steps, room_at}
+use Rattle.cl_tasks.specs.Turns.{GoesOnWith, ReadsUnrecorded, WasAbsent}
+use Rattle.cl_tasks.specs.Waits as waits
+use Rattle.cl_tasks.specs.declared.stage.Job.{Job}
+use Rattle.cl_tasks.specs.declared.stage.Load.TheVariants as loads
+use Rattle.cl_tasks.specs.declared.stage.Next.{Next}
+use Rattle.cl_tasks.specs.declared.turn.Reply.{Reply}
+use Rattle.cl_tasks.specs.declared.turn.Reply.TheVariants as reply
+use Rattle.cl_tasks.specs.declared.turn.Turn.{Turn}
+use Rattle.cl_tasks.specs.declared.turn.Turn.TheVariants as turn
+use Rattle.cl_tasks.proofs.Begun.{begins_own, home_any, looked_own}
+use Rattle.cl_tasks.proofs.Deriving.{derived_first, derives_by, derives_more, past_derives}
+use Rattle.cl_tasks.proofs.Fall.{joins_less}
+use Rattle.cl_tasks.proofs.Keep.{frame_kept, have_first, have_last}
+use Rattle.cl_tasks.proofs.Lacking.{fault_lacks, posts_one}
+use Rattle.cl_tasks.proofs.Lead.{leads_more, plain_no_fault, plain_reads}
+use Rattle.cl_tasks.proofs.Onward.{less_room}
+
+-- under the configuration of the job's path
+at_config : {A : Type 0} (told : Option Content) (c : Configured) (d : Configured) (q : ℕ) (r : Request) (room : ℕ) (holds now : Shown → Type 0) (n : Next A) → d ≡ c → LeadsOn told d q r room holds now n → LeadsOn told c q r room holds now n
+at_config told c d q r room holds now n e l = subst (λ (k : Configured). LeadsOn told k q r room holds now n) e l
+
+none_reads : {A : Type 0} (t : Turn A) → ReadsUnrecorded (reply.Looked None) t
+none_reads (turn.Look l n) = tt
+none_reads (turn.Read l n) = tt
+none_reads (turn.Define d) = tt
+none_reads (turn.Initiate h) = tt
+none_reads (turn.Lineage c) = tt
+none_reads (turn.LookReference c i) = tt
+none_reads (turn.Settle f) = tt
+none_reads (turn.Impose e k) = tt
+none_reads (turn.LookPrepared c) = tt
+none_reads (turn.Mark e) = tt
+none_reads (turn.Post f) = tt
+
+probed_reads : {A : Type 0} (p : _) (t : Turn A) → ReadsUnrecorded (reply.Probed p) t
+probed_reads p (turn.Look l n) = tt
+probed_reads p (turn.Read l n) = tt
+probed_reads p (turn.Define d) = tt
+probed_reads p (turn.Initiate h) = tt
+probed_reads p (turn.Lineage c) = tt
+probed_reads p (turn.LookReference c i) = tt
+probed_reads p (turn.Settle f) = tt
+probed_reads p (turn.Impose e k) = tt
+probed_reads p (turn.LookPrepared c) = tt
+probed_reads p (turn.Mark e) = tt
+probed_reads p (turn.Post f) = tt
+
+posts_reads : {A : Type 0} (r : Reply A) (a : Answer) (t : Turn A) → Posts a t → ReadsUnrecorded r t
+posts_reads r a (turn.Look l n) h = tt
+posts_reads r a (turn.Read l n) h = absurd h
+posts_reads r a (turn.Define d) h = tt
+posts_reads r a (turn.Initiate i) h = tt
+posts_reads r a (turn.Lineage c) h = tt
+posts_reads r a (turn.LookReference c i) h = tt
+posts_reads r a (turn.Settle f) h = tt
+posts_reads r a (turn.Impose e k) h = tt
+posts_reads r a (turn.LookPrepared c) h = tt
+posts_reads r a (turn.Mark e) h = tt
+posts_reads r a (turn.Post f) h = tt
+
+-- ---- the first turn
+
+pub steps_begun : {A : Type 0} (told : Option Content) (j : Job A) (n : Next A) → IsFirst j → IsFor j.request j.target j.path → LeadsAt told phases.Fresh j (HoldsOn j) n → LooksBy j n.stage n.turn → IsPlain n.turn → Derives IsNone (frames_of j.path) n.stage
+    → Steps told (loading_at j.path.config (loads.Fresh j)) reply.Start n
+steps_begun {A = A} told j n first for l looks plain derives = record {
+  leads = leads_more (room_at phases.Fresh j 0) _ _ l (omega arith) (λ x h. record { frames = h.before.frames; facts = h.before.facts }) (λ x h. record { frames = h.told.before.frames; facts = h.told.before.facts });
+  refused = plain_no_fault n.turn plain;
+  linkage = tt;
+  lacks = λ h. tt;
+  reads = plain_reads {A = A} reply.Start n.turn plain;
+  derives = derives_more IsNone (WasAbsent {A = A} (loading_at j.path.config (loads.Fresh j)) reply.Start) (frames_of j.path) n.stage (λ k e. absurd e) derives;
+  own = begins_own j.path.config j n.stage n.turn first for looks l.asks;
+}
+
+-- ---- a look where it is asked for
+
+pub steps_unrecorded : {A : Type 0} (told : Option Content) (c : Configured) (j : Job A) (n : Next A) → j.path.config ≡ c → LeadsAt told phases.Looking j (HoldsOn j) n → PostsNoFault n.turn
+    → Derives (IsSoughtHere j.path) (frames_of j.path) n.stage → Steps told (loading_at c (loads.Looking j)) (reply.Looked None) n
+steps_unrecorded {A = A} told c j n e l no_fault derives = record {
+  leads = at_config told c j.path.config j.q j.request (room_at phases.Looking j 0) _ _ n e
+      (leads_more (room_at phases.Looking j 0) _ _ l (omega arith) (λ x h. record { frames = h.before.frames; facts = h.before.facts }) (λ x h. record { frames = h.told.before.frames; facts = h.told.before.facts }));
+  refused = no_fault;
+  linkage = tt;
+  lacks = λ h. tt;
+  reads = none_reads n.turn;
+  derives = derives_more (IsSoughtHere j.path) (WasAbsent {A = A} (loading_at c (loads.Looking j)) (reply.Looked None)) (frames_of j.path) n.stage (λ k e. inr (ap (λ (d : Class). waits.Looking d.loader d.name) (sym e))) derives;
+  own = tt;
+}
+
+pub steps_looked : {A : Type 0} (told : Option Content) (c : Configured) (j : Job A) (row : Arc (ClassRow A) Global) (n : Next A) → j.path.config ≡ c → IsPath told j.path → LeadsAt told phases.Initiating j (Finds j row.value) n → IsPlain n.turn
+    → (IsOwnTarget j.target → j.path.frames ≡ [] → GoesOnWith j.request row.value.class n.turn) → Derives IsNone (frames_of j.path) n.stage → Steps told (loading_at c (loads.Looking j)) (reply.Looked (Some row)) n
+steps_looked {A = A} told c j row n e path l plain goes derives =
+    let k : room_at phases.Initiating j 0 < room_at phases.Looking j 0 = less_room (past_left j.target) (left_at phases.Initiating (frames_of j.path) 0) (left_at phases.Looking (frames_of j.path) 0) (joins_less told j.path phases.Looking 0 0 path tt) in
+    record {
+      leads = at_config told c j.path.config j.q j.request (room_at phases.Looking j 0) _ _ n e
+          (leads_more (room_at phases.Looking j 0) _ _ l (omega arith) (λ x h. record { before = record { frames = h.before.frames; facts = h.before.facts }; now = h.now })
+          (λ x h. record { before = record { frames = h.told.before.frames; facts = h.told.before.facts }; now = h.told.now }));
+      refused = plain_no_fault n.turn plain;
+      linkage = tt;
+      lacks = λ h. tt;
+      reads = plain_reads (reply.Looked (Some row)) n.turn plain;
+      derives = derives_more IsNone (WasAbsent {A = A} (loading_at c (loads.Looking j)) (reply.Looked (Some row))) (frames_of j.path) n.stage (λ k e. absurd e) derives;
+      own = looked_own c j row (task_at c n.stage) n.turn goes;
+    }
+
+-- ---- a read
+
+pub steps_probed : {A : Type 0} (told : Option Content) (j : Job A) (s : Searched) (p : Found) (n : Next A) → ReadsOn told (probes_left s) j (HoldsOn j) n → PostsNoFault n.turn
+    → Derives (IsSoughtHere j.path) (frames_of j.path) n.stage → Steps told (loading_at j.path.config (loads.Searching j s)) (reply.Probed p) n
+steps_probed {A = A} told j s p n l no_fault derives = record {
+  leads = leads_more (room_at phases.Reading j (probes_left s)) _ _ l (omega arith) (λ x h. record { frames = h.before.frames; facts = h.before.facts }) (λ x h. record { frames = h.told.before.frames; facts = h.told.before.facts });
+  refused = no_fault;
+  linkage = tt;
+  lacks = λ h. tt;
+  reads = probed_reads p n.turn;
+  derives = derives_more (IsSoughtHere j.path) (WasAbsent {A = A} (loading_at j.path.config (loads.Searching j s)) (reply.Probed p)) (frames_of j.path) n.stage (λ k e. ap (λ (d : Class). Some d) (sym e)) derives;
+  own = tt;
+}
+
+pub steps_fault : {A : Type 0} (told : Option Content) (j : Job A) (s : Searched) (f : SourceFault) (n : Next A) → Leads told j 1 (λ x. Unit {0}) n → Posts (fault_answer (loading_at j.path.config (loads.Searching j s)).waits f) n.turn → IsPast n.stage
+    → Steps told (loading_at j.path.config (loads.Searching j s)) (reply.SourceFault f) n
+steps_fault {A = A} told j s f n l posts past = record {
+  leads = leads_more (room_at phases.Reading j (probes_left s)) _ _ l (omega arith) (λ x h. tt) (λ x h. tt);
+  refused = posts;
+  linkage = tt;
+  lacks = λ h. fault_lacks (next_place s) (at_name j.path) f (posts_one (fault_answer (loading_at j.path.config (loads.Searching j s)).waits f) answers.Memory n.turn posts h);
+  derives = past_derives (WasAbsent {A = A} (loading_at j.path.config (loads.Searching j s)) (reply.SourceFault f)) (frames_of j.path) n.stage past;
+  reads = posts_reads (reply.SourceFault f) (fault_answer (loading_at j.path.config (loads.Searching j s)).waits f) n.turn posts;
+  own = tt;
+}
+
+-- ---- a look at a home
+
+home_finds : {A : Type 0} (x : Shown) (c : Configured) (j : Job A) (h : Located) (o : Option (Arc (ClassRow A) Global)) → Tells {A = A} x (loading_at c (loads.Homing j h)) (reply.Looked o) → FindsHome j h o (λ r. r.value) x
+home_finds x c j h None t = record { frames = t.before.frames; facts = t.before.facts }
+home_finds x c j h (Some row) t = record { before = record { frames = t.before.frames; facts = t.before.facts }; now = t.now }
+
+home_absent : {A : Type 0} (c : Configured) (j : Job A) (h : Located) (o : Option (Arc (ClassRow A) Global)) → h.name ≡ at_name j.path → (k : Class) → IsUnfound h o k → WasAbsent {A = A} (loading_at c (loads.Homing j h)) (reply.Looked o) k
+home_absent c j h None named k e = inr (ap (λ (d : Class). waits.Looking d.loader d.name) (sym (e ∙ ap (λ (n : List ℕ). class n h.place) named)))
+home_absent c j h (Some row) named k e = absurd e
+
+pub steps_home : {A : Type 0} (told : Option Content) (j : Job A) (h : Located) (o : Option (Arc (ClassRow A) Global)) (n : Next A) → IsFor j.request j.target j.path → IsHoming j h → LeadsAt told phases.Homing j (FindsHome j h o (λ r. r.value)) n → IsPlain n.turn
+    → Derives (IsUnfound h o) (frames_of j.path) n.stage → Steps told (loading_at j.path.config (loads.Homing j h)) (reply.Looked o) n
+steps_home {A = A} told j h o n for homing l plain derives = record {
+  leads = leads_more (room_at phases.Homing j 0) _ _ l (omega arith) (λ x t. home_finds x j.path.config j h o t) (λ x t. home_finds x j.path.config j h o t.told);
+  refused = plain_no_fault n.turn plain;
+  linkage = tt;
+  lacks = λ h. tt;
+  reads = plain_reads (reply.Looked o) n.turn plain;
+  derives = derives_more (IsUnfound h o) (WasAbsent {A = A} (loading_at j.path.config (loads.Homing j h)) (reply.Looked o)) (frames_of j.path) n.stage (λ k e. home_absent j.path.config j h o homing.sought.name k e) derives;
+  own = home_any j.path.config j h o (task_at j.path.config n.stage) n.turn for homing;
+}
+
+-- ---- a record of a class
+
+defined_finds : {A : Type 0} (told : Option Content) (x : Shown) (c : Configured) (j : Job A) (w : Framed) (row : Arc (ClassRow A) Global) → IsWhole told j.path w → IsDraft told w.draft → Tells {A = A} x (loading_at c (loads.Defining j w)) (reply.Defined row) → FindsBy j w.draft.home row.value x
+defined_finds told x c j w row whole draft t = record {
+  before = record { frames = have_first x (frames_of j.path) (frame_of w) t.before.frames; facts = t.before.facts };
+  now =
+      subst (λ (l : ℕ). IsRecordedAs x l (at_name j.path) row.value) (ap (λ (k : Class). k.loader) draft.placed)
+      (subst (λ (name : List ℕ). IsRecordedAs x w.draft.class.loader name row.value) whole.named t.now);
+}
+
+pub steps_defined : {A : Type 0} (told : Option Content) (c : Configured) (j : Job A) (w : Framed) (row : Arc (ClassRow A) Global) (n : Next A) → j.path.config ≡ c → IsWhole told j.path w → IsDraft told w.draft → LeadsAt told phases.Defining j (FindsBy j w.draft.home row.value) n
+    → IsPlain n.turn → Derives IsNone (frames_of j.path) n.stage → Steps told (loading_at c (loads.Defining j w)) (reply.Defined row) n
+steps_defined {A = A} told c j w row n e whole draft l plain derives = record {
+  leads = at_config told c j.path.config j.q j.request (room_at phases.Defining j 0) _ _ n e
+      (leads_more (room_at phases.Defining j 0) _ _ l (omega arith) (λ x t. defined_finds told x c j w row whole draft t) (λ x t. defined_finds told x c j w row whole draft t.told));
+  refused = plain_no_fault n.turn plain;
+  linkage = tt;
+  lacks = λ h. tt;
+  reads = plain_reads (reply.Defined row) n.turn plain;
+  derives = derives_by IsNone (WasAbsent {A = A} (loading_at c (loads.Defining j w)) (reply.Defined row)) (frames_of j.path ++ frame_of w ∷ []) (frames_of j.path) n.stage (λ k d. inl (derived_first (frames_of j.path) (frame_of w) k d)) (λ k e. absurd e) derives;
+  own = tt;
+}
+
+define_refused : {A : Type 0} (x : Shown) (c : Configured) (j : Job A) (w : Framed) (need : needs.Need) → need_of need ≡ next_need {A = A} (nexts.Define w) → Tells {A = A} x (loading_at c (loads.Defining j w)) (reply.Refused need) → RefusedOn {A = A} {B = A} j (nexts.Define w) x
+define_refused x c j w need is t = record {
+  before = record { frames = have_first x (frames_of j.path) (frame_of w) t.before.frames; facts = t.before.facts };
+  needs = (kept_is_met (state_of x) (frame_of w ∷ [])).1 (frame_kept x (frame_of w) (have_last x (frames_of j.path) (frame_of w) t.before.frames), tt);
+  refused = subst (λ (k : Need). Refused (state_of x) k) is t.now;
+}
+
+pub steps_define_refused : {A : Type 0} (told : Option Content) (c : Configured) (j : Job A) (w : Framed) (need : needs.Need) (n : Next A) → j.path.config ≡ c → need_of need ≡ next_need {A = A} (nexts.Define w) → Leads told j (past_left j.target) (RefusedOn {A = A} {B = A} j (nexts.Define w)) n
+    → IsPlain n.turn → EndsAsRefused j.request need n.turn → IsPast n.stage → (Posts answers.Memory n.turn → IsResolution j.request) → Steps told (loading_at c (loads.Defining j w)) (reply.Refused need) n
+steps_define_refused {A} told c j w need n e is l plain ends past lacks = record {
+  leads = at_config told c j.path.config j.q j.request (room_at phases.Defining j 0) _ _ n e
+      (leads_more (room_at phases.Defining j 0) _ _ l (omega arith) (λ x t. define_refused {A = A} x c j w need is t) (λ x t. define_refused {A = A} x c j w need is t.told));
+  refused = plain_no_fault n.turn plain;
+  linkage = ends;
+  lacks = lacks;
+  reads = plain_reads (reply.Refused need) n.turn plain;
+  derives = past_derives (WasAbsent {A = A} (loading_at c (loads.Defining j w)) (reply.Refused need)) (frames_of j.path ++ frame_of w ∷ []) n.stage past;
+  own = tt;
+}
+
+-- ---- a record of the loader that was asked
+
+initiated_finds : {A : Type 0} (x : Shown) (c : Configured) (j : Job A) (h : Arc (Home A) Global) (row : Arc (ClassRow A) Global) → IsSought j.path h.value → Tells {A = A} x (loading_at c (loads.Initiating j h)) (reply.Initiated row) → Finds j row.value x
+initiated_finds x c j h row sought t = record {
+  before = record { frames = t.before.frames; facts = t.before.facts.1 };
+  now = subst (λ (l : ℕ). IsRecordedAs x l (at_name j.path) row.value) sought.asked (subst (λ (name : List ℕ). IsRecordedAs x h.value.asked name row.value) sought.name t.now);
+}
+
+pub steps_initiated : {A : Type 0} (told : Option Content) (c : Configured) (j : Job A) (h : Arc (Home A) Global) (row : Arc (ClassRow A) Global) (n : Next A) → j.path.config ≡ c → IsSought j.path h.value → LeadsAt told phases.Initiating j (Finds j row.value) n → IsPlain n.turn
+    → Derives IsNone (frames_of j.path) n.stage → Steps told (loading_at c (loads.Initiating j h)) (reply.Initiated row) n
+steps_initiated {A = A} told c j h row n e sought l plain derives = record {
+  leads = at_config told c j.path.config j.q j.request (room_at phases.Initiating j 0) _ _ n e
+      (leads_more (room_at phases.Initiating j 0) _ _ l (omega arith) (λ x t. initiated_finds x c j h row sought t) (λ x t. initiated_finds x c j h row sought t.told));
+  refused = plain_no_fault n.turn plain;
+  linkage = tt;
+  lacks = λ h. tt;
+  reads = plain_reads (reply.Initiated row) n.turn plain;
+  derives = derives_more IsNone (WasAbsent {A = A} (loading_at c (loads.Initiating j h)) (reply.Initiated row)) (frames_of j.path) n.stage (λ k e. absurd e) derives;
+  own = tt;
+}
+
+initiate_refused : {A : Type 0} (x : Shown) (c : Configured) (j : Job A) (h : Arc (Home A) Global) (need : needs.Need) → need_of need ≡ next_need {A = A} (nexts.Initiate h) → Tells {A = A} x (loading_at c (loads.Initiating j h)) (reply.Refused need) → RefusedOn {A = A} {B = A} j (nexts.Initiate h) x
+initiate_refused x c j h need is t = record {
+  before = record { frames = t.before.frames; facts = t.before.facts.1 };
+  needs = (t.before.facts.0, tt);
+  refused = subst (λ (k : Need). Refused (state_of x) k) is t.now;
+}
+
+pub steps_initiate_refused : {A : Type 0} (told : Option Content) (c : Configured) (j : Job A) (h : Arc (Home A) Global) (need : needs.Need) (n : Next A) → j.path.config ≡ c → need_of need ≡ next_need {A = A} (nexts.Initiate h) → Leads told j (past_left j.target) (RefusedOn {A = A} {B = A} j (nexts.Initiate h)) n
+    → IsPlain n.turn → EndsAsRefused j.request need n.turn → IsPast n.stage → (Posts answers.Memory n.turn → IsResolution j.request) → Steps told (loading_at c (loads.Initiating j h)) (reply.Refused need) n
+steps_initiate_refused {A} told c j h need n e is l plain ends past lacks = record {
+  leads = at_config told c j.path.config j.q j.request (room_at phases.Initiating j 0) _ _ n e
+      (leads_more (room_at phases.Initiating j 0) _ _ l (omega arith) (λ x t. initiate_refused {A = A} x c j h need is t) (λ x t. initiate_refused {A = A} x c j h need is t.told));
+  refused = plain_no_fault n.turn plain;
+  linkage = ends;
+  lacks = lacks;
+  reads = plain_reads (reply.Refused need) n.turn plain;
+  derives = past_derives (WasAbsent {A = A} (loading_at c (loads.Initiating j h)) (reply.Refused need)) (frames_of j.path) n.stage past;
+  own = tt;
+}
+
+-- the need that was refused is that of the call
+pub need_is : {n m : Need} → Some n ≡ Some m → m ≡ n
+need_is e = cc

@@ -1,0 +1,154 @@
+-- What the resolution of an entry that asks for a member does on a reply.
+use Rattle.std.proofs.Common.{Global, ◌≡◌, ◌∙◌, ◌<◌, ◌≤◌, ◌+◌, ◌-◌, ℕ, [], ◌∷◌, ◌++◌, length, Option, Some, None, inl, refl, sym, ap, subst, arith}
+use Rattle.std.specs.Prelude.{slice_get, take, option_map, IfSome}
+use Rattle.std.proofs.lemmas.Option.{slice_get-map}
+use Rattle.std.specs.declared.sync.Arc.{Arc}
+use Rattle.cl_model.specs.declared.answer.Answer.TheVariants as answers
+use Rattle.cl_model.specs.declared.class.Class.{Class}
+use Rattle.cl_model.specs.declared.need.Equality.{Equality}
+use Rattle.cl_model.specs.declared.need.Need as rust
+use Rattle.cl_model.specs.declared.request.Request.{Request}
+use Rattle.cl_model.specs.declared.request.Request.TheVariants as requests
+use Rattle.cl_model.specs.declared.settled.Settled.{Settled}
+use Rattle.cl_model.specs.Content.{Content}
+use Rattle.cl_model.specs.States.{AllMet, Met, recorded}
+use Rattle.cl_model.specs.Views.{need_of}
+use Rattle.cl_config.specs.Views.{Configured}
+use Rattle.cl_hierarchy.specs.Imposed.{Listed, equal_need, needs_of}
+use Rattle.cl_hierarchy.specs.Lineages.{Lined}
+use Rattle.cl_hierarchy.specs.Rows.{Rowed}
+use Rattle.cl_findings.specs.Findings.{loader_of}
+use Rattle.cl_findings.proofs.Stood.{all_met, met_all}
+use Rattle.cl_registry.specs.References.{IsSettledIn}
+use Rattle.cl_registry.specs.Tables.{Shown, records_of, state_of}
+use Rattle.cl_tasks.specs.Facts.{AreSo}
+use Rattle.cl_tasks.specs.Deriving.{IsPast}
+use Rattle.cl_tasks.specs.Follows.{EndsAsRefused, IsResolution, IsSettledOf, Tells, TellsNow}
+use Rattle.cl_tasks.specs.Measures.{imposing_left, settling_left, tracing_named_left, tracing_own_left}
+use Rattle.cl_tasks.specs.Resolving.{ImposedTold, OwnTold, RefusedTold, TracedTold}
+use Rattle.cl_tasks.specs.Stages.{IsEntry, named_facts, resolving_at}
+use Rattle.cl_tasks.specs.Steps.{IsPlain, LeadsBy, Steps}
+use Rattle.cl_tasks.specs.Tasks.{HasLineage}
+use Rattle.cl_tasks.specs.Turns.{WasAbsent}
+use Rattle.cl_tasks.specs.declared.stage.Entry as entries
+use Rattle.cl_tasks.specs.declared.stage.Member.{Member}
+use Rattle.cl_tasks.specs.declared.stage.Next.{Next}
+use Rattle.cl_tasks.specs.declared.stage.Resolution.TheVariants as resolutions
+use Rattle.cl_tasks.specs.declared.stage.Stage.TheVariants as stages
+use Rattle.cl_tasks.specs.declared.turn.Reply.TheVariants as reply
+use Rattle.cl_tasks.specs.declared.turn.Turn.TheVariants as turn
+use Rattle.cl_tasks.proofs.Deriving.{past_derives}
+use Rattle.cl_tasks.proofs.Entries.{leads_shared}
+use Rattle.cl_tasks.proofs.Lacking.{shared_memory}
+use Rattle.cl_tasks.proofs.Lead.{leads_more, plain_no_fault, plain_reads}
+use Rattle.cl_tasks.proofs.LinkFacts.{taken_more, within_some}
+use Rattle.cl_tasks.proofs.MemberFacts.{member_imposed, member_needs, member_of, member_own, member_through, traced_as}
+
+same_room : (m : ℕ) → m ≤ m
+same_room m = omega arith
+
+-- ---- lineages
+
+pub own_steps : {A : Type 0} (told : Option Content) (c : Configured) (e : entries.Entry A) (k : Arc Rowed Global) (own : Arc Lined Global) (n : Next A) → LeadsBy told c e.q e.request tracing_own_left (OwnTold e k.value own.value) n → IsPlain n.turn → IsPast n.stage
+    → Steps told (resolving_at c (resolutions.TracingOwn e k)) (reply.Lineage own) n
+own_steps {A = A} told c e k own n l plain past =
+    let tells : (x : Shown) → Tells {A = A} x (resolving_at c (resolutions.TracingOwn e k)) (reply.Lineage own) → OwnTold e k.value own.value x = λ x h. record { before = h.before.facts; now = h.now } in
+    record {
+      leads = leads_more tracing_own_left (λ x. Tells {A = A} x (resolving_at c (resolutions.TracingOwn e k)) (reply.Lineage own)) (λ x. TellsNow {A = A} x (resolving_at c (resolutions.TracingOwn e k)) (reply.Lineage own)) l
+          (same_room tracing_own_left) tells (λ x h. tells x h.told);
+      refused = plain_no_fault n.turn plain;
+      linkage = tt;
+      lacks = λ h. tt;
+      reads = plain_reads {A = A} (reply.Lineage own) n.turn plain;
+      derives = past_derives (WasAbsent {A = A} (resolving_at c (resolutions.TracingOwn e k)) (reply.Lineage own)) [] n.stage past;
+      own = tt;
+    }
+
+pub named_steps : {A : Type 0} (told : Option Content) (c : Configured) (e : entries.Entry A) (own : Arc Lined Global) (k : Arc Rowed Global) (named : Arc Lined Global) (n : Next A) → named.value.own.class ≡ k.value.class
+    → LeadsBy told c e.q e.request tracing_named_left (TracedTold e own.value named.value) n → IsPlain n.turn → IsPast n.stage → Steps told (resolving_at c (resolutions.TracingNamed e own k)) (reply.Lineage named) n
+named_steps {A = A} told c e own k named n is l plain past =
+    let tells : (x : Shown) → Tells {A = A} x (resolving_at c (resolutions.TracingNamed e own k)) (reply.Lineage named) → TracedTold e own.value named.value x =
+    λ x h. record {
+      before = subst (λ (j : Class). AreSo x (named_facts e.request e.d.value.class j ++ HasLineage own.value ∷ [])) (sym is) h.before.facts;
+      now = traced_as x k.value.class named.value h.now;
+    } in
+    record {
+      leads = leads_more tracing_named_left (λ x. Tells {A = A} x (resolving_at c (resolutions.TracingNamed e own k)) (reply.Lineage named)) (λ x. TellsNow {A = A} x (resolving_at c (resolutions.TracingNamed e own k)) (reply.Lineage named)) l
+          (same_room tracing_named_left) tells (λ x h. tells x h.told);
+      refused = plain_no_fault n.turn plain;
+      linkage = tt;
+      lacks = λ h. tt;
+      reads = plain_reads {A = A} (reply.Lineage named) n.turn plain;
+      derives = past_derives (WasAbsent {A = A} (resolving_at c (resolutions.TracingNamed e own k)) (reply.Lineage named)) [] n.stage past;
+      own = tt;
+    }
+
+-- ---- equalities
+
+met_more : (x : Shown) (e : Listed) (i : ℕ) (y : Equality) → slice_get e.needs i ≡ Some y → AllMet (state_of x) (take i (needs_of e.needs)) → Met (state_of x) (equal_need y) → AllMet (state_of x) (take (i + 1) (needs_of e.needs))
+met_more x e i y at met one =
+    met_all (state_of x) (take (i + 1) (needs_of e.needs))
+    (taken_more (Met (state_of x)) (needs_of e.needs) i (equal_need y) (all_met (state_of x) (take i (needs_of e.needs)) met) (slice_get-map equal_need e.needs i ∙ ap (λ (o : Option Equality). option_map equal_need o) at) one)
+
+imposed_told : {A : Type 0} (m : Member A) (i : ℕ) (x : Shown) → i < length m.equalities.value.needs → ImposedTold m i x → IfSome (slice_get m.equalities.value.needs i) (λ n. Met (state_of x) (equal_need n)) → ImposedTold m (i + 1) x
+imposed_told m i x lt h one =
+    let y = within_some m.equalities.value.needs i lt in
+    let met : Met (state_of x) (equal_need y.0) = subst (λ (o : Option Equality). IfSome o (λ n. Met (state_of x) (equal_need n))) y.1 one in
+    member_of x m (i + 1) (member_needs x m i h) (member_own x m i h) (member_through x m i h) (met_more x m.equalities.value i y.0 y.1 (member_imposed x m i h) met)
+
+next_less : (m p : ℕ) → p < m → imposing_left (m - (p + 1)) + 1 ≤ imposing_left (m - p)
+next_less m p lt = omega (arith, lt)
+
+pub imposed_steps : {A : Type 0} (told : Option Content) (c : Configured) (m : Member A) (i : ℕ) (n : Next A) → i < length m.equalities.value.needs
+    → LeadsBy told c m.entry.q m.entry.request (imposing_left (length m.equalities.value.needs - (i + 1)) + 1) (ImposedTold m (i + 1)) n → IsPlain n.turn → IsPast n.stage → Steps told (resolving_at c (resolutions.Imposing m i)) reply.Imposed n
+imposed_steps {A = A} told c m i n lt l plain past =
+    let tells : (x : Shown) → Tells {A = A} x (resolving_at c (resolutions.Imposing m i)) reply.Imposed → ImposedTold m (i + 1) x = λ x h. imposed_told m i x lt h.before.facts h.now in
+    record {
+      leads = leads_more (imposing_left (length m.equalities.value.needs - i)) (λ x. Tells {A = A} x (resolving_at c (resolutions.Imposing m i)) reply.Imposed) (λ x. TellsNow {A = A} x (resolving_at c (resolutions.Imposing m i)) reply.Imposed) l
+          (next_less (length m.equalities.value.needs) i lt) tells (λ x h. tells x h.told);
+      refused = plain_no_fault n.turn plain;
+      linkage = tt;
+      lacks = λ h. tt;
+      reads = plain_reads {A = A} reply.Imposed n.turn plain;
+      derives = past_derives (WasAbsent {A = A} (resolving_at c (resolutions.Imposing m i)) reply.Imposed) [] n.stage past;
+      own = tt;
+    }
+
+two_less : (m p : ℕ) → p < m → 2 ≤ imposing_left (m - p)
+two_less m p lt = omega (arith, lt)
+
+pub refused_steps : {A : Type 0} (told : Option Content) (c : Configured) (m : Member A) (i : ℕ) (need : rust.Need) (n : Next A) → i < length m.equalities.value.needs
+    → LeadsBy told c m.entry.q m.entry.request 2 (RefusedTold m i (need_of need)) n → IsPlain n.turn → IsPast n.stage → EndsAsRefused m.entry.request need n.turn → IsResolution m.entry.request → Steps told (resolving_at c (resolutions.Imposing m i)) (reply.Refused need) n
+refused_steps {A = A} told c m i need n lt l plain past ends resolves =
+    let tells : (x : Shown) → Tells {A = A} x (resolving_at c (resolutions.Imposing m i)) (reply.Refused need) → RefusedTold m i (need_of need) x = λ x h. record { before = h.before.facts; now = h.now } in
+    record {
+      leads = leads_more (imposing_left (length m.equalities.value.needs - i)) (λ x. Tells {A = A} x (resolving_at c (resolutions.Imposing m i)) (reply.Refused need)) (λ x. TellsNow {A = A} x (resolving_at c (resolutions.Imposing m i)) (reply.Refused need)) l
+          (two_less (length m.equalities.value.needs) i lt) tells (λ x h. tells x h.told);
+      refused = plain_no_fault n.turn plain;
+      linkage = ends;
+      lacks = λ h. resolves;
+      reads = plain_reads {A = A} (reply.Refused need) n.turn plain;
+      derives = past_derives (WasAbsent {A = A} (resolving_at c (resolutions.Imposing m i)) (reply.Refused need)) [] n.stage past;
+      own = tt;
+    }
+
+-- ---- what is settled
+
+settled_in : (x : Shown) (r : Request) (d : Class) (i : ℕ) (s : Settled) → r ≡ requests.Resolve (loader_of r) d.name i → recorded (records_of x) (loader_of r) d.name ≡ Some d.loader → IsSettledOf x r s → IsSettledIn x d i s
+settled_in x r d i s is at h = subst (λ (q : Request). IsSettledOf x q s) is h d (refl, at)
+
+pub settled_steps : {A : Type 0} (told : Option Content) (c : Configured) (e : entries.Entry A) (s : Arc Settled Global) → IsEntry c e
+    → Steps {A = A} told (resolving_at c (resolutions.Settling e)) (reply.Settled s) (record { stage = stages.Done e.q; turn = turn.Post (record { request = e.request; answer = answers.Shared s; basis = None }) })
+settled_steps {A} told c e s entry =
+    let holds : Shown → Type 0 = λ x. Tells {A = A} x (resolving_at c (resolutions.Settling e)) (reply.Settled s) in
+    let kept : (x : Shown) → holds x → recorded (records_of x) (loader_of e.request) e.d.value.class.name ≡ Some e.d.value.class.loader = λ x h. h.before.facts.0 in
+    let led = leads_shared A told c e.q e.request e.d.value.class e.index s settling_left holds entry.of entry.asked kept (λ x h. settled_in x e.request e.d.value.class e.index s.value entry.of (kept x h) h.now) (omega arith) in
+    record {
+      leads = leads_more settling_left holds (λ x. TellsNow {A = A} x (resolving_at c (resolutions.Settling e)) (reply.Settled s)) led (same_room settling_left) (λ x h. h) (λ x h. h.told);
+      refused = tt;
+      linkage = tt;
+      lacks = λ h. shared_memory s h;
+      reads = tt;
+      derives = tt;
+      own = inl refl;
+    }

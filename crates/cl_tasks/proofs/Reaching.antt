@@ -1,0 +1,177 @@
+-- The class that a path loads is recorded: what the request goes on with (JVMS SE 8, 5.3, 5.4, 5.4.3).
+use Rattle.std.proofs.Common.{◌≡◌, ◌∙◌, ◌<◌, ◌≤◌, ◌+◌, ℕ, List, [], length, map, Option, Some, inl, inr, refl, sym, ap, subst, arith}
+use Rattle.std.specs.declared.alloc.Global.{Global}
+use Rattle.std.specs.declared.sync.Arc.{Arc}
+use Rattle.cl_model.specs.declared.class.Class.{Class}
+use Rattle.cl_model.specs.declared.request.Request.{Request}
+use Rattle.cl_model.specs.declared.request.Request.TheVariants as requests
+use Rattle.cl_model.specs.Content.{Content}
+use Rattle.cl_model.specs.Classes.{class}
+use Rattle.cl_model.specs.Machine.{AnswersPlan}
+use Rattle.cl_model.specs.Plans as plans
+use Rattle.cl_model.specs.States.{IsClass, recorded}
+use Rattle.cl_model.proofs.Looks.{recorded_answers}
+use Rattle.cl_model.proofs.Service.{load_comes}
+use Rattle.cl_config.specs.Views.{Configured}
+use Rattle.cl_hierarchy.specs.Frames.{Framed, frame_of}
+use Rattle.cl_hierarchy.specs.Paths.{Pathed, at_loader, at_name, frames_of, sought}
+use Rattle.cl_hierarchy.specs.Rows.{Rowed}
+use Rattle.cl_model.specs.Frames.{asking}
+use Rattle.cl_findings.specs.declared.load.Target.{Target}
+use Rattle.cl_findings.specs.declared.load.Target.TheVariants as targets
+use Rattle.cl_findings.specs.Loads.{IsFor, IsReferred}
+use Rattle.cl_hierarchy.specs.declared.row.ClassRow.{ClassRow}
+use Rattle.cl_findings.specs.Findings.{loader_of, name_of}
+use Rattle.cl_registry.specs.Tables.{Shown, records_of, state_of}
+use Rattle.cl_registry.proofs.Named.{recorded_is_named}
+use Rattle.cl_tasks.specs.Facts.{AreSo, IsRecordedAs}
+use Rattle.cl_tasks.specs.Reaching.{ReachesBy, reached}
+use Rattle.cl_tasks.specs.Measures.{Initiating, checking_left, left_at, named_left, own_left, prepared_left}
+use Rattle.cl_tasks.specs.Resolving.{NamedTold}
+use Rattle.cl_tasks.specs.Stages.{IsJob, named_facts, past_left, target_facts}
+use Rattle.cl_tasks.specs.declared.stage.Entry as entries
+use Rattle.cl_tasks.specs.declared.stage.Job.{Job}
+use Rattle.cl_tasks.specs.Steps.{Finds, LeadsAt, LeadsBy, room_at}
+use Rattle.cl_tasks.specs.declared.stage.Next.{Next}
+use Rattle.cl_tasks.proofs.Lead.{leads_by, leads_out}
+
+-- the loader that a request asks has recorded the class of this row for its name
+abbrev pub RowFor : Request → Rowed → Shown → Type 0
+RowFor r row x = IsRecordedAs x (loader_of r) (name_of r) row
+
+-- how many turns are left at most once a request goes on with its class
+abbrev pub reached_left : Request → ℕ
+reached_left (requests.Load loader name) = 1
+reached_left (requests.Resolve loader name i) = checking_left
+reached_left (requests.Link loader name) = prepared_left + 1
+
+record_for : (x : Shown) (l : ℕ) (n : List ℕ) (row : Rowed) → IsRecordedAs x l n row → recorded (records_of x) l row.class.name ≡ Some row.class.loader
+record_for x l n row h = subst (λ (k : List ℕ). recorded (records_of x) l k ≡ Some row.class.loader) (sym h.named) h.recorded
+
+reaches_load : (A : Type 0) (told : Option Content) (c : Configured) (q l : ℕ) (n : List ℕ) (row : Arc (ClassRow A) Global) → l < length c.loaders → LeadsBy {A = A} told c q (requests.Load l n) 1 (RowFor (requests.Load l n) row.value) (reached q (requests.Load l n) row row.value.class)
+reaches_load A told c q l n row asked = record {
+  kept = tt;
+  number = refl;
+  asks = refl;
+  serves = refl;
+  left = omega arith;
+  keeps = λ x h. record { frames = tt; facts = tt };
+  backed = λ x config named consistent h. record {
+    within = record {
+      loader = subst (λ (k : Configured). l < length k.loaders) (sym config) asked;
+      answer = recorded_is_named x l row.value.class.loader n named h.recorded;
+    };
+    answer = record {
+      grounded = inl tt;
+      borne = λ d is. let same : row.value.class ≡ d = class_is row.value.class d is in (sym (ap (λ (k : Class). k.name) same) ∙ h.named, h.recorded ∙ ap (λ (k : Class). Some k.loader) same);
+    };
+  };
+  follows = λ g x served h.
+      load_comes g (state_of x) l n (IsClass row.value.class)
+      (subst (λ (k : Class). AnswersPlan g (state_of x) (plans.Load l n) (IsClass k)) (row_class x l n row.value h) (recorded_answers g (state_of x) l row.value.class.loader n served.sound.closed h.recorded));
+}
+  where
+    class_is : (a b : Class) → IsClass a ≡ IsClass b → a ≡ b
+    class_is a b e = cc
+
+    row_class : (x : Shown) (l : ℕ) (n : List ℕ) (row : Rowed) → IsRecordedAs x l n row → class n row.class.loader ≡ row.class
+    row_class x l n row h = ap (λ (k : List ℕ). class k row.class.loader) (sym h.named)
+
+reaches_reference : (A : Type 0) (told : Option Content) (c : Configured) (q l : ℕ) (n : List ℕ) (i : ℕ) (row : Arc (ClassRow A) Global) → l < length c.loaders → row.value.class.name ≡ n
+    → LeadsBy {A = A} told c q (requests.Resolve l n i) checking_left (RowFor (requests.Resolve l n i) row.value) (reached q (requests.Resolve l n i) row row.value.class)
+reaches_reference A told c q l n i row asked name = record {
+  kept = record { of = ap (λ (k : List ℕ). requests.Resolve l k i) (sym name); asked = asked };
+  number = refl;
+  asks = refl;
+  serves = refl;
+  left = omega arith;
+  keeps = λ x h. record { frames = tt; facts = (record_for x l n row.value h, tt) };
+  backed = λ x config named consistent h. tt;
+  follows = λ g x served h. tt;
+}
+
+reaches_goal : (A : Type 0) (told : Option Content) (c : Configured) (q l : ℕ) (n : List ℕ) (row : Arc (ClassRow A) Global) → l < length c.loaders → row.value.class.name ≡ n
+    → LeadsBy {A = A} told c q (requests.Link l n) (prepared_left + 1) (RowFor (requests.Link l n) row.value) (reached q (requests.Link l n) row row.value.class)
+reaches_goal A told c q l n row asked name = record {
+  kept = record { of = ap (λ (k : List ℕ). requests.Link l k) (sym name); asked = asked };
+  number = refl;
+  asks = refl;
+  serves = refl;
+  left = omega arith;
+  keeps = λ x h. record { frames = tt; facts = (record_for x l n row.value h, tt) };
+  backed = λ x config named consistent h. tt;
+  follows = λ g x served h. tt;
+}
+
+reaches_class : (A : Type 0) (told : Option Content) (c : Configured) (q : ℕ) (r : Request) (row : Arc (ClassRow A) Global) → loader_of r < length c.loaders → row.value.class.name ≡ name_of r
+    → LeadsBy {A = A} told c q r (reached_left r) (RowFor r row.value) (reached q r row row.value.class)
+reaches_class A told c q (requests.Load l n) row asked name = reaches_load A told c q l n row asked
+reaches_class A told c q (requests.Resolve l n i) row asked name = reaches_reference A told c q l n i row asked name
+reaches_class A told c q (requests.Link l n) row asked name = reaches_goal A told c q l n row asked name
+
+room_for : (r : Request) → 0 < reached_left r
+room_for (requests.Load l n) = omega arith
+room_for (requests.Resolve l n i) = omega arith
+room_for (requests.Link l n) = omega arith
+
+-- a request goes on with its class, or memory runs out
+pub reaches : (A : Type 0) (told : Option Content) (c : Configured) (q : ℕ) (r : Request) (row : Arc (ClassRow A) Global) (n : Next A) → loader_of r < length c.loaders → row.value.class.name ≡ name_of r → ReachesBy q r row n
+    → LeadsBy told c q r (reached_left r) (RowFor r row.value) n
+reaches A told c q r row n asked name (inl out) = leads_out told c q r (reached_left r) (RowFor r row.value) (RowFor r row.value) out asked (room_for r)
+reaches A told c q r row n asked name (inr is) = subst (λ (m : Next A). LeadsBy told c q r (reached_left r) (RowFor r row.value) m) (sym is) (reaches_class A told c q r row asked name)
+
+own_room : (r : Request) → reached_left r ≤ own_left
+own_room (requests.Load l n) = omega arith
+own_room (requests.Resolve l n i) = omega arith
+own_room (requests.Link l n) = omega arith
+
+-- ---- a path without frames
+
+root_loader : (p : Pathed) → p.frames ≡ [] → at_loader p ≡ p.loader
+root_loader p e = ap (λ (fs : List Framed). asking p.loader (map frame_of fs)) e
+
+root_name : (p : Pathed) → p.frames ≡ [] → at_name p ≡ p.name
+root_name p e = ap (sought p.name) e
+
+more_room : (a p k r : ℕ) → r ≤ a → p ≡ a → r ≤ p + k
+more_room a p k r le e = omega arith
+
+-- the path of a request's own class
+abbrev OwnPath : (A : Type 0) → Job A → Type 0
+OwnPath A j = IsFor {A = A} j.request targets.Own j.path
+
+own_found : (A : Type 0) (j : Job A) (row : Rowed) (x : Shown) → OwnPath A j → j.path.frames ≡ [] → Finds j row x → RowFor j.request row x
+own_found A j row x own root h =
+    subst (λ (l : ℕ). IsRecordedAs x l (name_of j.request) row) (root_loader j.path root ∙ sym own.loader)
+    (subst (λ (n : List ℕ). IsRecordedAs x (at_loader j.path) n row) (root_name j.path root ∙ sym own.name) h.now)
+
+pub reaches_own : (A : Type 0) (told : Option Content) (c : Configured) (j : Job A) (row : Arc (ClassRow A) Global) (n : Next A) → IsJob told c j → j.target ≡ targets.Own → j.path.frames ≡ [] → row.value.class.name ≡ at_name j.path → ReachesBy j.q j.request row n
+    → LeadsAt told Initiating j (Finds j row.value) n
+reaches_own A told c j row n job target root name by =
+    let own : OwnPath A j = subst (λ (t : Target A). IsFor j.request t j.path) target job.for_request in
+    subst (λ (k : Configured). LeadsBy told k j.q j.request (room_at Initiating j 0) (Finds j row.value) n) (sym job.config)
+    (leads_by (room_at Initiating j 0) (Finds j row.value)
+    (reaches A told c j.q j.request row n job.asked (name ∙ root_name j.path root ∙ sym own.name) by)
+    (more_room own_left (past_left j.target) (left_at Initiating (frames_of j.path) 0) (reached_left j.request) (own_room j.request) (ap (λ (t : Target A). past_left t) target))
+    (λ x h. own_found A j row.value x own root h))
+
+-- the entry whose class a path loads
+abbrev entry_for : (A : Type 0) → Job A → Arc (ClassRow A) Global → ℕ → ℕ → List ℕ → entries.Entry A
+entry_for A j d i l n = record { q = j.q; request = requests.Resolve l n i; index = i; d = d }
+
+named_found : (A : Type 0) (j : Job A) (d : Arc (ClassRow A) Global) (l i : ℕ) (n : List ℕ) (row : Rowed) (x : Shown) → IsReferred j.request d.value j.path → j.target ≡ targets.Reference d → j.path.frames ≡ [] → j.request ≡ requests.Resolve l n i → Finds j row x → NamedTold (entry_for A j d i l n) row x
+named_found A j d l i n row x referred target root is h =
+    let facts : AreSo x (target_facts {A = A} j.request (targets.Reference d)) = subst (λ (t : Target A). AreSo x (target_facts j.request t)) target h.before.facts in
+    let here : IsRecordedAs x d.value.class.loader (at_name j.path) row = subst (λ (l : ℕ). IsRecordedAs x l (at_name j.path) row) (root_loader j.path root ∙ referred.loader) h.now in
+    subst (λ (r : Request). AreSo x (named_facts r d.value.class row.class)) is
+    (facts.0, (record_for x d.value.class.loader (at_name j.path) row here, tt))
+
+pub reaches_named : (A : Type 0) (told : Option Content) (c : Configured) (j : Job A) (d : Arc (ClassRow A) Global) (l i : ℕ) (n : List ℕ) (row : Rowed) (next : Next A) → IsJob told c j → j.target ≡ targets.Reference d → j.path.frames ≡ [] → j.request ≡ requests.Resolve l n i
+    → LeadsBy told c j.q (requests.Resolve l n i) named_left (NamedTold (entry_for A j d i l n) row) next → LeadsAt told Initiating j (Finds j row) next
+reaches_named A told c j d l i n row next job target root is leads =
+    let referred : IsReferred j.request d.value j.path = subst (λ (t : Target A). IsFor j.request t j.path) target job.for_request in
+    subst (λ (k : Configured). LeadsBy told k j.q j.request (room_at Initiating j 0) (Finds j row) next) (sym job.config)
+    (leads_by (room_at Initiating j 0) (Finds j row)
+    (subst (λ (r : Request). LeadsBy told c j.q r named_left (NamedTold (entry_for A j d i l n) row) next) (sym is) leads)
+    (more_room named_left (past_left j.target) (left_at Initiating (frames_of j.path) 0) named_left (omega arith) (ap (λ (t : Target A). past_left t) target))
+    (λ x h. named_found A j d l i n row x referred target root is h))

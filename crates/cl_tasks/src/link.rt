@@ -1,0 +1,298 @@
+//! A request to link a class that is recorded: each class of its lineage in order, its loading constraints one by one, and
+//! then that it is prepared (JVMS SE 8, 5.4, 5.4.2).
+
+ghost use Rattle.std.specs.Option.{option_map};
+ghost use Rattle.std.specs.Prelude.{◌≡◌, ◌<◌, ◌≤◌, ◌+◌, ◌-◌, Some, IfOk, length, slice_get, true};
+ghost use Rattle.cl_findings.specs.Bases.{AreLineages};
+ghost use Rattle.cl_hierarchy.specs.Imposed.{AreOf, OfPreparation, needs_of};
+ghost use Rattle.cl_hierarchy.specs.Lineages.{rows_in};
+ghost use Rattle.cl_model.specs.Views.{need_of};
+ghost use Rattle.cl_model.specs.declared.answer.Answer.TheVariants as answers;
+ghost use Rattle.cl_model.specs.declared.verdict.Verdict.TheVariants as verdicts;
+ghost use Rattle.cl_tasks.specs.Deriving.{IsPast};
+ghost use Rattle.cl_tasks.specs.Follows.{EndsAsRefused, Posts};
+ghost use Rattle.cl_tasks.specs.Linking.{ChainTold, DoneTold, LineageTold, ListTold, MarkedTold, PreparedTold, RefusedTold, WholeTold};
+ghost use Rattle.cl_tasks.specs.Measures.{chain_left, linking_left, prepared_left, whole_left};
+ghost use Rattle.cl_tasks.specs.Stages.{IsAtPlace, IsChain, IsGoal, IsOf, behind, class_in, classes_in};
+ghost use Rattle.cl_tasks.specs.Steps.{IsPlain, LeadsBy, memory_ends};
+ghost use Rattle.cl_tasks.specs.Turns.{PostsOr, equality_at};
+
+use crate::leads::{out_of_memory, post};
+use crate::stage::{Chain, Goal, Link, Next, Stage};
+use crate::turn::Turn;
+use cl_config::Config;
+use cl_findings::Finding;
+use cl_hierarchy::{ClassRow, Equalities, Lineage, Origin};
+use cl_model::{Class, Need, Told};
+use cl_preparation::constraints_of;
+use std::alloc::{AllocError, Global};
+use std::sync::Arc;
+
+/// Whether the class of a request is prepared was looked up.
+pub(crate) fn take_prepared<T: Told>(
+    alloc: Global,
+    config: &Arc<Config>,
+    goal: Goal<T>,
+    prepared: bool,
+) -> Next<T>
+    requires goal { IsGoal config.now.value goal }
+    ensures leads { LeadsBy T.told config.now.value goal.q goal.request prepared_left
+        (PreparedTold goal prepared) result }
+    ensures own { prepared ≡ true
+        → PostsOr (answers.Said (verdicts.Linked goal.class.value.class)) result.turn }
+    ensures plain { IsPlain result.turn }
+    ensures past { IsPast result.stage }
+{
+    if prepared {
+        return linked(alloc, config, goal);
+    }
+    match goal.class.class().try_clone(alloc) {
+        Err(_) => out_of_memory(goal.q, goal.request),
+        Ok(class) => Next {
+            stage: Stage::Link(Link::TracingWhole(goal)),
+            turn: Turn::Lineage(class),
+        },
+    }
+}
+
+/// The class of a request is prepared, and so all above it.
+fn linked<T: Told>(alloc: Global, config: &Arc<Config>, goal: Goal<T>) -> Next<T>
+    requires goal { IsGoal config.now.value goal }
+    ensures leads { LeadsBy T.told config.now.value goal.q goal.request 1 (DoneTold goal) result }
+    ensures own { PostsOr (answers.Said (verdicts.Linked goal.class.value.class)) result.turn }
+    ensures plain { IsPlain result.turn }
+    ensures past { IsPast result.stage }
+{
+    match goal.class.class().try_clone(alloc) {
+        Err(_) => out_of_memory(goal.q, goal.request),
+        Ok(class) => post(goal.q, Finding::linked(goal.request, class)),
+    }
+}
+
+/// Memory ran out.
+pub(crate) fn give_up<T: Told>(chain: Chain<T>) -> Next<T>
+    ensures { result ≡ memory_ends chain.goal.q chain.goal.request }
+{
+    let Chain { goal, .. } = chain;
+    out_of_memory(goal.q, goal.request)
+}
+
+/// The lineage of the class that is linked came: its first class comes next.
+pub(crate) fn take_whole<T: Told>(
+    alloc: Global,
+    config: &Arc<Config>,
+    goal: Goal<T>,
+    whole: Arc<Lineage<T>>,
+) -> Next<T>
+    requires goal { IsGoal config.now.value goal }
+    requires whole { IsOf config.now.value goal.class.value.class whole.value }
+    ensures leads { LeadsBy T.told config.now.value goal.q goal.request whole_left
+        (WholeTold goal whole.value) result }
+    ensures plain { IsPlain result.turn }
+    ensures past { IsPast result.stage }
+{
+    // brings that a `usize` counts them
+    let _ = count_rows(&whole);
+    trace(
+        alloc,
+        config,
+        Chain {
+            goal,
+            whole,
+            place: 0,
+        },
+    )
+}
+
+/// How many classes stand above the class of a lineage.
+fn count_rows<T: Told>(whole: &Lineage<T>) -> usize
+    ensures { result ≡ length whole.now.above }
+{
+    whole.above().len()
+}
+
+/// The row at a place of a lineage, if there is one.
+pub(crate) fn row_at<T: Told>(whole: &Lineage<T>, place: usize) -> Option<&Arc<ClassRow<T>>>
+    ensures { option_map (λ r. r.now.value) result ≡ slice_get (rows_in whole.now) place }
+{
+    let above = whole.above();
+    if place == above.len() {
+        return Some(whole.own());
+    }
+    above.get(place)
+}
+
+/// The class at a place of a lineage; the class itself stands last.
+fn class_at<T: Told>(alloc: Global, whole: &Lineage<T>, place: usize) -> Result<Class, AllocError>
+    ensures { IfOk result (λ c. c ≡ class_in whole.now place) }
+{
+    match row_at(whole, place) {
+        Some(row) => row.class().try_clone(alloc),
+        None => whole.class().try_clone(alloc),
+    }
+}
+
+/// Asks for the lineage of the class at the place of a chain.
+fn trace<T: Told>(alloc: Global, config: &Arc<Config>, chain: Chain<T>) -> Next<T>
+    requires chain { IsChain config.now.value chain }
+    ensures leads { LeadsBy T.told config.now.value chain.goal.q chain.goal.request
+        (chain_left (behind chain) + 1) (ChainTold chain) result }
+    ensures plain { IsPlain result.turn }
+    ensures past { IsPast result.stage }
+{
+    match class_at(alloc, &chain.whole, chain.place) {
+        Err(_) => give_up(chain),
+        Ok(class) => Next {
+            stage: Stage::Link(Link::Tracing(chain)),
+            turn: Turn::Lineage(class),
+        },
+    }
+}
+
+/// The lineage of the class at the place of a chain came: its loading constraints come next.
+pub(crate) fn take_traced<T: Told>(
+    alloc: Global,
+    config: &Arc<Config>,
+    chain: Chain<T>,
+    lineage: Arc<Lineage<T>>,
+) -> Next<T>
+    requires chain { IsChain config.now.value chain }
+    requires lineage { IsOf config.now.value (class_in chain.whole.value chain.place)
+        lineage.value }
+    ensures leads { LeadsBy T.told config.now.value chain.goal.q chain.goal.request
+        (chain_left (behind chain)) (LineageTold chain lineage.value) result }
+    ensures plain { IsPlain result.turn }
+    ensures past { IsPast result.stage }
+{
+    match list_of(alloc, &lineage) {
+        Err(_) => give_up(chain),
+        Ok(list) => {
+            // brings that a `usize` counts them
+            let _ = count_needs(&list);
+            impose(alloc, config, chain, list, 0)
+        }
+    }
+}
+
+/// The loading constraints of a class, to be shared.
+fn list_of<T: Told>(
+    alloc: Global,
+    lineage: &Arc<Lineage<T>>,
+) -> Result<Arc<Equalities<T>>, AllocError>
+    ensures { IfOk result (λ e. e.value.origin ≡ OfPreparation lineage.now.value) }
+{
+    let list = constraints_of(alloc, lineage)?;
+    Arc::new(alloc, list).map_err(|_| AllocError)
+}
+
+/// How many equalities a list has.
+pub(crate) fn count_needs<T: Told>(list: &Equalities<T>) -> usize
+    ensures { result ≡ length list.now.needs }
+{
+    list.needs().len()
+}
+
+/// Brings what a list keeps, and that the lineages that it was made from are those of their world.
+pub(crate) fn bring_list<T: Told>(list: &Equalities<T>)
+    ensures kept { AreOf list.now.origin (needs_of list.now.needs) }
+    ensures lineages { AreLineages T.told list.now.origin }
+{
+    match list.origin() {
+        Origin::Reference { d, c, .. } => {
+            let _ = d.class();
+            let _ = c.class();
+        }
+        Origin::Preparation { lineage } => {
+            let _ = lineage.class();
+        }
+    }
+}
+
+/// Imposes the equality at this place of a list, or marks the class as prepared where none is left.
+pub(crate) fn impose<T: Told>(
+    alloc: Global,
+    config: &Arc<Config>,
+    chain: Chain<T>,
+    list: Arc<Equalities<T>>,
+    place: usize,
+) -> Next<T>
+    requires chain { IsChain config.now.value chain }
+    requires list { IsAtPlace chain list.value }
+    requires within { place ≤ length list.value.needs }
+    ensures leads { LeadsBy T.told config.now.value chain.goal.q chain.goal.request
+        (linking_left (behind chain - 1) (length list.value.needs - place) + 1)
+        (ListTold chain list.value place) result }
+    ensures plain { IsPlain result.turn }
+    ensures past { IsPast result.stage }
+{
+    // brings what the lineage and the list keep
+    let _ = chain.whole.class();
+    bring_list(&list);
+    let Ok(shared) = Arc::try_clone(&list) else {
+        return give_up(chain);
+    };
+    if place < count_needs(&list) {
+        Next {
+            stage: Stage::Link(Link::Imposing(chain, list, place)),
+            turn: Turn::Impose(shared, place),
+        }
+    } else {
+        Next {
+            stage: Stage::Link(Link::Marking(chain, list)),
+            turn: Turn::Mark(shared),
+        }
+    }
+}
+
+/// The class at the place of a chain is prepared: the next one comes, or the request's class was the last.
+pub(crate) fn take_marked<T: Told>(alloc: Global, config: &Arc<Config>, chain: Chain<T>) -> Next<T>
+    requires chain { IsChain config.now.value chain }
+    ensures leads { LeadsBy T.told config.now.value chain.goal.q chain.goal.request
+        (linking_left (behind chain - 1) 0) (MarkedTold chain) result }
+    ensures plain { IsPlain result.turn }
+    ensures past { IsPast result.stage }
+{
+    let Chain { goal, whole, place } = chain;
+    if place >= count_rows(&whole) {
+        return linked(alloc, config, goal);
+    }
+    trace(
+        alloc,
+        config,
+        Chain {
+            goal,
+            whole,
+            place: place + 1,
+        },
+    )
+}
+
+/// The equality at this place of a list is refused: that is the answer.
+pub(crate) fn refuse_link<T: Told>(
+    config: &Arc<Config>,
+    chain: Chain<T>,
+    list: Arc<Equalities<T>>,
+    place: usize,
+    need: Need,
+) -> Next<T>
+    requires chain { IsChain config.now.value chain }
+    requires list { IsAtPlace chain list.value }
+    requires need { equality_at list.value place ≡ Some (need_of need) }
+    ensures leads { LeadsBy T.told config.now.value chain.goal.q chain.goal.request 1
+        (RefusedTold chain list.value place (need_of need)) result }
+    ensures plain { IsPlain result.turn }
+    ensures past { IsPast result.stage }
+    ensures lacks { Posts answers.Memory result.turn → ⊥ }
+    ensures ends { EndsAsRefused chain.goal.request need result.turn }
+{
+    // brings what the lineage and the list keep
+    let _ = chain.whole.class();
+    bring_list(&list);
+    let Chain {
+        goal,
+        whole,
+        place: at,
+    } = chain;
+    let finding = Finding::refused_link(goal.request, whole, at, list, place, need);
+    post(goal.q, finding)
+}

@@ -1,0 +1,162 @@
+//! What a resolution makes of a reply.
+
+ghost use Rattle.std.specs.Prelude.{◌<◌, length};
+ghost use Rattle.cl_tasks.specs.Stages.{IsEntry, IsFailed, IsMember, IsOf, resolving_at};
+ghost use Rattle.cl_tasks.specs.Steps.{Steps};
+ghost use Rattle.cl_tasks.specs.Turns.{Expects};
+
+use crate::leads::{out_of_memory, post};
+use crate::link::count_needs;
+use crate::member::{give_up, impose, refuse_member, take_class, take_own};
+use crate::reach::reach_own;
+use crate::reference::take_reference;
+use crate::stage::{Entry, Failed, Member, Next, Resolution};
+use crate::turn::Reply;
+use cl_config::Config;
+use cl_findings::Finding;
+use cl_hierarchy::{ClassRow, Lineage};
+use cl_model::Told;
+use std::alloc::Global;
+use std::sync::Arc;
+
+/// The request's class, which cannot be loaded, was looked for once more.
+pub(crate) fn checked<T: Told>(
+    alloc: Global,
+    config: &Arc<Config>,
+    failed: Failed<T>,
+    reply: Reply<T>,
+) -> Next<T>
+    requires failed { IsFailed T.told config.now.value failed }
+    requires expects { Expects (resolving_at config.now.value (Resolution.Checking failed)) reply }
+    ensures { Steps T.told (resolving_at config.now.value (Resolution.Checking failed)) reply
+        result }
+{
+    let Failed {
+        q,
+        request,
+        finding,
+    } = failed;
+    match reply {
+        Reply::Looked(Some(row)) => {
+            // no registry gives a row of another name
+            if row.class().name != *request.name() {
+                return out_of_memory(q, request);
+            }
+            reach_own(alloc, q, request, row)
+        }
+        Reply::Looked(None) => {
+            // no load ends in a verdict that names another configuration's loader
+            if !finding.is_within(config) {
+                return out_of_memory(q, request);
+            }
+            // brings what a finding rests on
+            let _ = finding.answer();
+            post(q, finding)
+        }
+        Reply::Memory => out_of_memory(q, request),
+        _ => unreachable!(),
+    }
+}
+
+/// The entry of the request was looked up.
+pub(crate) fn looked_reference<T: Told>(
+    alloc: Global,
+    config: &Arc<Config>,
+    entry: Entry<T>,
+    reply: Reply<T>,
+) -> Next<T>
+    requires entry { IsEntry config.now.value entry }
+    requires expects { Expects
+        (resolving_at config.now.value (Resolution.LookingReference entry)) reply }
+    ensures { Steps T.told
+        (resolving_at config.now.value (Resolution.LookingReference entry)) reply result }
+{
+    match reply {
+        Reply::LookedReference(settled) => take_reference(alloc, config, entry, settled),
+        Reply::Memory => out_of_memory(entry.q, entry.request),
+        _ => unreachable!(),
+    }
+}
+
+/// The lineage of the class whose pool has the entry was asked for.
+pub(crate) fn traced_own<T: Told>(
+    alloc: Global,
+    config: &Arc<Config>,
+    entry: Entry<T>,
+    named: Arc<ClassRow<T>>,
+    reply: Reply<T>,
+) -> Next<T>
+    requires entry { IsEntry config.now.value entry }
+    requires expects { Expects
+        (resolving_at config.now.value (Resolution.TracingOwn entry named)) reply }
+    ensures { Steps T.told
+        (resolving_at config.now.value (Resolution.TracingOwn entry named)) reply result }
+{
+    match reply {
+        Reply::Lineage(own) => take_own(alloc, config, entry, named, own),
+        Reply::Memory => out_of_memory(entry.q, entry.request),
+        _ => unreachable!(),
+    }
+}
+
+/// The lineage of the class that the entry names was asked for.
+pub(crate) fn traced_named<T: Told>(
+    alloc: Global,
+    config: &Arc<Config>,
+    entry: Entry<T>,
+    own: Arc<Lineage<T>>,
+    named: Arc<ClassRow<T>>,
+    reply: Reply<T>,
+) -> Next<T>
+    requires entry { IsEntry config.now.value entry }
+    requires own { IsOf config.now.value entry.d.value.class own.value }
+    requires expects { Expects
+        (resolving_at config.now.value (Resolution.TracingNamed entry own named)) reply }
+    ensures { Steps T.told
+        (resolving_at config.now.value (Resolution.TracingNamed entry own named)) reply result }
+{
+    match reply {
+        Reply::Lineage(lineage) => take_class(alloc, config, entry, own, lineage),
+        Reply::Memory => out_of_memory(entry.q, entry.request),
+        _ => unreachable!(),
+    }
+}
+
+/// An equality of a member was to be imposed.
+pub(crate) fn imposed<T: Told>(
+    alloc: Global,
+    config: &Arc<Config>,
+    member: Member<T>,
+    place: usize,
+    reply: Reply<T>,
+) -> Next<T>
+    requires member { IsMember config.now.value member }
+    requires within { place < length member.equalities.value.needs }
+    requires expects { Expects
+        (resolving_at config.now.value (Resolution.Imposing member place)) reply }
+    ensures { Steps T.told
+        (resolving_at config.now.value (Resolution.Imposing member place)) reply result }
+{
+    // brings that a `usize` counts them
+    let _ = count_needs(&member.equalities);
+    match reply {
+        Reply::Imposed => impose(alloc, config, member, place + 1),
+        Reply::Refused(need) => refuse_member(alloc, config, member, place, need),
+        Reply::Memory => give_up(member),
+        _ => unreachable!(),
+    }
+}
+
+/// The entry was to be settled.
+pub(crate) fn settled<T: Told>(config: &Arc<Config>, entry: Entry<T>, reply: Reply<T>) -> Next<T>
+    requires entry { IsEntry config.now.value entry }
+    requires expects { Expects (resolving_at config.now.value (Resolution.Settling entry)) reply }
+    ensures { Steps T.told (resolving_at config.now.value (Resolution.Settling entry)) reply
+        result }
+{
+    match reply {
+        Reply::Settled(settled) => post(entry.q, Finding::settled(entry.request, settled)),
+        Reply::Memory => out_of_memory(entry.q, entry.request),
+        _ => unreachable!(),
+    }
+}

@@ -37,6 +37,15 @@ rtlib = rt.rtlib
 # The line of a check that tells of one function, and the one that tells of a goal in the code.
 TOLD = re.compile(r"^fn (\S+): (.*)$", re.M)
 GOAL = re.compile(r"^note: (src/[^:]*):(\d+):\d+: (it is not proved .*)$", re.M)
+# The files of a function's proof, and what stands in place of them where the function is taken by its contract: a hole.
+PROOF_FILES = ("Invariants.antt", "Answers.antt", "Proof.antt")
+TAKEN = """use {place}.Statement.{{statement}}
+
+pub {name}_spec : {{M : Type 1}} → statement M
+{name}_spec = ?
+"""
+# How a line says that a proof rests on a hole.
+RESTS = "depends on a hole in "
 # What a check refuses in a proof file, and how it says that a name of that file stands for nothing.
 REFUSED = re.compile(r"^(?:\./)?proofs/([^:]*):\d+:\d+: error: (.*)$", re.M)
 NO_NAME = re.compile(r"has no field|is not in scope|has no `|was not admitted")
@@ -259,9 +268,32 @@ class Asked:
     behind: int = 0
 
 
-def check(crate, texts, asked, functions=(), is_whole=False):
+def proof_of(name):
+    """Where the prover keeps a function's proof, as it names that."""
+    crate, *path = name.split("::")
+    return ".".join(["Rattle", crate, "proofs", *path])
+
+
+def can_take(name):
+    """Whether a check can take the function by its contract: one that no other function encloses."""
+    return re.fullmatch(r"[\w:]+", name) is not None and "::fn::" not in name
+
+
+def take(folder, name):
+    """Has the copy of a crate take the function by its contract: its proof is a hole."""
+    path = name.split("::")[1:]
+    at = "/".join([folder, "proofs", *path])
+    os.makedirs(at, exist_ok=True)
+    for file in PROOF_FILES:
+        if os.path.exists(f"{at}/{file}"):
+            os.remove(f"{at}/{file}")
+    with open(f"{at}/Proof.antt", "w", encoding="utf-8") as it:
+        it.write(TAKEN.format(place=proof_of(name), name=path[-1]))
+
+
+def check(crate, texts, asked, functions=(), is_whole=False, taken=()):
     """Checks a copy of the crate with these texts in place of its own: the named functions, or all, going on past those refused
-    unless is_whole."""
+    unless is_whole. Those that are taken are not proved: their callers have what their contracts say."""
     flags = ["--jobs", "1", *([] if is_whole else ["--allow-holes"])]
     for it in sorted(functions):
         flags += ["--only", it.partition("::")[2]]
@@ -272,6 +304,8 @@ def check(crate, texts, asked, functions=(), is_whole=False):
         for path, text in texts.items():
             with open(f"{room}/{path}", "w", encoding="utf-8") as it:
                 it.write(text)
+        for name in filter(can_take, taken):
+            take(room, name)
         words = [*rtlib.guarded(), rtlib.RATTLE, "check", *crate.of_kit.words(flags, keeps=False), "--incremental", asked.kept]
         status, usage, is_late = run_limited(words, room, said, asked)
         said.seek(0)

@@ -5,6 +5,7 @@ definitions, where no function that one of them is to have refused can reach wha
 function that it changes, or names, is refused for a reason of its own. One whose function is only not proved because it calls
 another that is refused is tried again, without the edits that were told already. A group that cannot be told as a whole, since it
 does not compile, takes too long, or has a function refused that none of its edits changes, is parted in two, down to one edit.
+All other functions are taken by their contracts: rt ci has proved them, and a hole in place of a proof costs nothing.
 What does not compile, is still proved, takes too long or is not told even alone is a failure, with its reason.
 """
 import os
@@ -58,12 +59,6 @@ def closures_too(said, name):
     return [it for it in said if it == name or it.startswith((f"{name}::{{", f"{name}::closure"))]
 
 
-def proof_of(name):
-    """Where the prover keeps a function's proof, as it names that."""
-    crate, *path = name.split("::")
-    return ".".join(["Rattle", crate, "proofs", *path, ""])
-
-
 def own_reason(name, checked, span=None, by_lemma=False):
     """Why the prover refuses the function by itself: '' where it is proved, where it only calls what is not, and where that is not told.
 
@@ -72,8 +67,8 @@ def own_reason(name, checked, span=None, by_lemma=False):
     what = checked.said[name]
     if not re.match(r"no proof|not proved", what):
         return ""
-    own = proof_of(name)
-    others = [proof_of(it) for it in checked.said if it != name] if by_lemma else []
+    own = f"{kit.proof_of(name)}."
+    others = [f"{kit.proof_of(it)}." for it in checked.said if it != name] if by_lemma else []
     for part in re.split(r"; (?=it |expected |`search`)|: ", what):
         if part.startswith("`search` did not prove "):
             return part
@@ -89,8 +84,9 @@ def own_reason(name, checked, span=None, by_lemma=False):
 class Trial:
     """The trial of edits of one crate, whose functions are known."""
 
-    def __init__(self, crate, edits, kept, lanes):
+    def __init__(self, crate, known, lanes, edits, kept):
         self.crate, self.edits, self.kept, self.lanes = crate, edits, kept, lanes
+        self.taken = {it for it in known if kit.can_take(it)}
         self.told = Told(crate.name, [it.name for it in edits])
 
     def fail(self, edit, why):
@@ -103,11 +99,17 @@ class Trial:
         limit = LOADING_SECONDS + LINE_SECONDS * lines + EDIT_SECONDS * number
         needs = int(1.2 * self.told.peak) + kit.LEAST_BYTES if self.told.peak else kit.MOST_BYTES
         asked = kit.Asked(self.kept, limit, self.lanes, needs, left * lines)
-        checked = kit.check(self.crate, texts, asked, functions)
-        self.told.checks += 1
-        self.told.seconds += checked.seconds
-        self.told.peak = max(self.told.peak, checked.peak)
-        return checked
+        while True:
+            taken = self.taken - functions
+            checked = kit.check(self.crate, texts, asked, functions, taken=taken)
+            self.told.checks += 1
+            self.told.seconds += checked.seconds
+            self.told.peak = max(self.told.peak, checked.peak)
+            # (what cannot be taken by its contract is proved from then on)
+            proved = {it for it in taken if not checked.said.get(it, kit.RESTS).startswith(kit.RESTS)}
+            if not proved:
+                return checked
+            self.taken -= proved
 
     def run(self):
         waiting = grouped(self.edits)
@@ -131,6 +133,10 @@ class Trial:
             half = len(group) // 2
             waiting += [group[:half], group[half:]]
             return []
+        if why and self.taken and not checked.is_late:
+            # (whatever it is, it may not lie in what was taken)
+            self.taken = set()
+            return self.try_group(group, waiting)
         if why:
             self.fail(group[0], why)
             return []
@@ -152,7 +158,7 @@ class Trial:
                     return True
         said = {name: checked.said[name] for name in sorted(edit.functions)}
         names = ", ".join(said)
-        if all(it.startswith(("proved", "no hole")) for it in said.values()):
+        if all(it.startswith(("proved", "no hole", kit.RESTS)) for it in said.values()):
             self.fail(edit, f"NOT REFUSED: {names} is still proved")
         elif is_last:
             self.fail(edit, f"NOT TOLD: {names} is not refused for what it does: {'; '.join(said.values())}")
@@ -230,7 +236,7 @@ def try_known(crate, edits, known, kept, lanes):
     folders = [kept, *(shutil.copytree(kept, f"{kept}-{at}") for at in range(1, len(divided)))]
     told = Told(crate.name, [it.name for it in edits if it.bad], failed=bad)
     with ThreadPoolExecutor(len(divided)) as pool:
-        for part in pool.map(lambda it: Trial(crate, *it, lanes).run(), zip(divided, folders)):
+        for part in pool.map(lambda it: Trial(crate, known, lanes, *it).run(), zip(divided, folders)):
             told.add(part)
     return told
 

@@ -44,8 +44,10 @@ TAKEN = """use {place}.Statement.{{statement}}
 pub {name}_spec : {{M : Type 1}} → statement M
 {name}_spec = ?
 """
-# How a line says that a proof rests on a hole.
+# How a line says that a proof rests on a hole, and how a check says that a function's proof cannot be one (a function that calls itself
+# has its proof elsewhere).
 RESTS = "depends on a hole in "
+MISPLACED = re.compile(r"^(?:\./)?proofs/(.*)/Proof\.antt: error\b", re.M)
 # What a check refuses in a proof file, and how it says that a name of that file stands for nothing.
 REFUSED = re.compile(r"^(?:\./)?proofs/([^:]*):\d+:\d+: error: (.*)$", re.M)
 NO_NAME = re.compile(r"has no field|is not in scope|has no `|was not admitted")
@@ -229,6 +231,11 @@ class Checked:
     def __post_init__(self):
         self.said = dict(TOLD.findall(self.text))
         self.goals = [(path, int(line), why) for path, line, why in GOAL.findall(self.text)]
+
+    def not_taken(self, taken):
+        """Which of the functions could not be taken by their contracts."""
+        odd = {it for it in taken if not self.said.get(it, RESTS).startswith(RESTS)}
+        return odd | {it for at in MISPLACED.findall(self.text) for it in taken if it.partition("::")[2] == at.replace("/", "::")}
 
     def is_proved(self):
         return not self.status and re.search(r"^logic=proved ", self.text, re.M) is not None

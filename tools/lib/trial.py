@@ -106,7 +106,7 @@ class Trial:
             self.told.seconds += checked.seconds
             self.told.peak = max(self.told.peak, checked.peak)
             # (what cannot be taken by its contract is proved from then on)
-            proved = {it for it in taken if not checked.said.get(it, kit.RESTS).startswith(kit.RESTS)}
+            proved = checked.not_taken(taken)
             if not proved:
                 return checked
             self.taken -= proved

@@ -1,8 +1,8 @@
 //! What a resolution makes of a reply.
 
-ghost use Rattle.std.specs.Prelude.{◌<◌, length};
+ghost use Rattle.std.specs.Prelude.{◌<◌, ◌≡◌, None, Some, length};
 ghost use Rattle.cl_tasks.specs.Stages.{IsEntry, IsFailed, IsMember, IsOf, resolving_at};
-ghost use Rattle.cl_tasks.specs.Steps.{Steps};
+ghost use Rattle.cl_tasks.specs.Steps.{Steps, memory_ends};
 ghost use Rattle.cl_tasks.specs.Turns.{Expects};
 
 use crate::leads::{out_of_memory, post};
@@ -31,31 +31,71 @@ pub(crate) fn checked<T: Told>(
     ensures { Steps T.told (resolving_at config.now.value (Resolution.Checking failed)) reply
         result }
 {
+    match reply {
+        Reply::Looked(Some(row)) => found_again(alloc, config, failed, row),
+        Reply::Looked(None) => missed_again(config, failed),
+        Reply::Memory => unchecked(failed),
+        _ => unreachable!(),
+    }
+}
+
+/// The request's class is recorded by now.
+fn found_again<T: Told>(
+    alloc: Global,
+    config: &Arc<Config>,
+    failed: Failed<T>,
+    row: Arc<ClassRow<T>>,
+) -> Next<T>
+    requires failed { IsFailed T.told config.now.value failed }
+    ensures { Steps T.told (resolving_at config.now.value (Resolution.Checking failed))
+        (Reply.Looked (Some row)) result }
+{
     let Failed {
         q,
         request,
         finding,
     } = failed;
-    match reply {
-        Reply::Looked(Some(row)) => {
-            // no registry gives a row of another name
-            if row.class().name != *request.name() {
-                return out_of_memory(q, request);
-            }
-            reach_own(alloc, q, request, row)
-        }
-        Reply::Looked(None) => {
-            // no load ends in a verdict that names another configuration's loader
-            if !finding.is_within(config) {
-                return out_of_memory(q, request);
-            }
-            // brings what a finding rests on
-            let _ = finding.answer();
-            post(q, finding)
-        }
-        Reply::Memory => out_of_memory(q, request),
-        _ => unreachable!(),
+    // (whole, since each way to take it apart is a case of the proof)
+    drop(finding);
+    // no registry gives a row of another name
+    if row.class().name != *request.name() {
+        return out_of_memory(q, request);
     }
+    reach_own(alloc, q, request, row)
+}
+
+/// The request's class is not recorded, so that the failure of its load is the answer.
+fn missed_again<T: Told>(config: &Arc<Config>, failed: Failed<T>) -> Next<T>
+    requires failed { IsFailed T.told config.now.value failed }
+    ensures { Steps T.told (resolving_at config.now.value (Resolution.Checking failed))
+        (Reply.Looked None) result }
+{
+    // no load ends in a verdict that names another configuration's loader
+    if !failed.finding.is_within(config) {
+        return unchecked(failed);
+    }
+    let Failed {
+        q,
+        request,
+        finding,
+    } = failed;
+    drop(request);
+    // brings what a finding rests on
+    let _ = finding.answer();
+    post(q, finding)
+}
+
+/// Memory ran out before the answer that waits.
+fn unchecked<T: Told>(failed: Failed<T>) -> Next<T>
+    ensures { result ≡ memory_ends failed.q failed.request }
+{
+    let Failed {
+        q,
+        request,
+        finding,
+    } = failed;
+    drop(finding);
+    out_of_memory(q, request)
 }
 
 /// The entry of the request was looked up.

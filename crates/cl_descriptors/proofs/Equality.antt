@@ -1,5 +1,5 @@
 -- Two types are equal where they are the same.
-use Rattle.std.proofs.Common.{◌≡◌, ◌↔◌, ℕ, true, eqb, List, Option, Some, None, refl, sym, ap, subst, ◌∙◌}
+use Rattle.std.proofs.Common.{◌≡◌, ◌↔◌, ℕ, false, true, eqb, List, Option, Some, None, refl, sym, ap, subst, ◌∙◌}
 use Rattle.std.specs.Cmp.Lexicographic.{pointwise, pointwise_decides, same_text}
 use Rattle.std.specs.Option.{option_eq}
 use Rattle.std.specs.Prelude.{IsTrue}
@@ -14,6 +14,10 @@ use Rattle.cl_descriptors.specs.contracts.types.FieldTypeEq.TheImpl.Laws as laws
 use Rattle.cl_descriptors.specs.contracts.types.MethodTypeEq.TheImpl.Laws as laws_of_methods
 use Rattle.std.proofs.lemmas.Bool.{and_parts, eqb-true}
 
+-- what is told apart is not the same
+apart : {A : Type 0} → false ≡ true → A
+apart e = absurd cc
+
 base_same : (a b : Base) → bases.ghosts.eq a b ≡ true → a ≡ b
 base_same Byte Byte e = refl
 base_same Char Char e = refl
@@ -24,7 +28,7 @@ base_same Long Long e = refl
 base_same Short Short e = refl
 base_same Boolean Boolean e = refl
 base_same (Class m) (Class n) e = ap (λ (x : List ℕ). Class x) (same_text m n (sym e))
-base_same _ _ e = absurd cc
+base_same _ _ e = apart e
 
 field_same : (s t : FieldType) → fields.ghosts.eq s t ≡ true → s ≡ t
 field_same s t e =

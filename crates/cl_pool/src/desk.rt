@@ -32,7 +32,11 @@ impl<T: Told> Desk<T> {
                 self.pass_rounds();
                 true
             }
-            Err(_) => false,
+            Err(refused) => {
+                // (whole, since each way to take it apart is a case of the proof)
+                drop(refused);
+                false
+            }
         }
     }
 

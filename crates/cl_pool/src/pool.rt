@@ -148,7 +148,11 @@ impl<T: Told> Pool<T> {
     ) -> Option<Reply<T>>
         requires { IsOfTables call }
     {
-        let mut desk = self.enter(rt, gate, q)?;
+        let Some(mut desk) = self.enter(rt, gate, q) else {
+            // (whole, since each way to take it apart is a case of the proof)
+            drop(call);
+            return None;
+        };
         let told = reply_to(alloc, &mut desk.registry, call);
         if told.is_none() {
             desk.stopped = true;
@@ -160,6 +164,7 @@ impl<T: Told> Pool<T> {
     /// Posts the answer of a request, and wakes those that wait for a round. False, where the workers are to stop.
     fn post<G: Gate, R: Wait>(&self, rt: &R, gate: &G, q: u32, finding: Finding<T>) -> bool {
         let Some(mut desk) = self.enter(rt, gate, q) else {
+            drop(finding);
             return false;
         };
         let round = desk.round;

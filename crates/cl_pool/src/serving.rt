@@ -144,14 +144,18 @@ fn finish<T: Told>(
     desk.pass_rounds();
     let Desk {
         registry,
-        asked: _,
+        asked,
         round: _,
         stopped,
     } = desk;
+    drop(asked);
+    // (what is dropped whole costs the proof no cases)
     if stopped {
+        drop(registry);
         return Err(PoolFault::Stray);
     }
     if !registry.serves(config, script) {
+        drop(registry);
         return Err(PoolFault::Stray);
     }
     match registry.into_report() {

@@ -90,11 +90,13 @@ impl<T: Told> Relatives<T> {
         ensures { IfOk result (λ r. r ≡ lineage.now.value) }
     {
         let seed = lineage.config().seed();
-        let own = Relative::of(alloc, seed, lineage.own())?;
         let superclasses = superclasses_of(alloc, seed, lineage)?;
         let superinterfaces = superinterfaces_of(alloc, seed, lineage)?;
+        let lineage_copy = Arc::try_clone(lineage)?;
+        // (last, since each way to drop it is a case of the proof)
+        let own = Relative::of(alloc, seed, lineage.own())?;
         Ok(Relatives {
-            lineage: Arc::try_clone(lineage)?,
+            lineage: lineage_copy,
             own,
             superclasses,
             superinterfaces,
@@ -245,6 +247,7 @@ pub fn constraints_of<T: Told>(
     ensures origin { IfOk result (λ e. e.origin ≡ OfPreparation lineage.now.value) }
 {
     let relatives = Relatives::of(alloc, lineage)?;
-    let needs = relatives.needs(alloc)?;
-    Ok(Equalities::of_preparation(Arc::try_clone(lineage)?, needs))
+    let needs = relatives.needs(alloc);
+    drop(relatives);
+    Ok(Equalities::of_preparation(Arc::try_clone(lineage)?, needs?))
 }

@@ -9,8 +9,8 @@ returns-in-Ok-clause-served g c =
     is_served g.T.Told.told c.pass_rounds.new.self.registry c.args.config.now c.args.script.now c.in-Ok.report c.in-Ok.ensures.kept c.in-Ok.ensures.whole c.in-Ok.ensures.loaders
     c.if-not-serves.ensures.0 c.if-not-serves.ensures.1
 
-pub returns-clause-refused : goal.returns-clause-refused
-returns-clause-refused g c =
+pub returns-in-Err-clause-refused : goal.returns-in-Err-clause-refused
+returns-in-Err-clause-refused g c =
     subst (IsUnanswered c.args.config.now c.args.script.now) (sym c.in-Err.ensures.refused.0)
     (is_unanswered c.pass_rounds.new.self.registry c.args.config.now c.args.script.now c.pass_rounds.ensures.kept.trusted
     (none_goes_on c.args.desk.registry c.pass_rounds.new.self.registry c.pass_rounds.ensures.passed) c.in-Err.ensures.refused.1 c.if-not-serves.ensures.0 c.if-not-serves.ensures.1)

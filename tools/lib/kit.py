@@ -19,6 +19,8 @@ import time
 from contextlib import contextmanager
 from dataclasses import dataclass, field
 
+from source import without_bodies
+
 sys.dont_write_bytecode = True
 
 
@@ -286,8 +288,20 @@ def can_take(name):
     return re.fullmatch(r"[\w:]+", name) is not None and "::fn::" not in name
 
 
-def take(folder, name):
-    """Has the copy of a crate take the function by its contract: its proof is a hole."""
+def take(folder, crate, taken, known):
+    """Has the copy of a crate take functions by their contracts: their proofs are holes, and their bodies empty, since the prover would
+    look at those all the same."""
+    for at, _, names in os.walk(f"{folder}/src"):
+        for path in (f"{at}/{it}" for it in names if it.endswith(".rt")):
+            with open(path, encoding="utf-8") as file:
+                text = file.read()
+            with open(path, "w", encoding="utf-8") as file:
+                file.write(without_bodies(os.path.relpath(path, folder), text, crate, taken, known))
+    for it in taken:
+        leave_hole(folder, it)
+
+
+def leave_hole(folder, name):
     path = name.split("::")[1:]
     at = "/".join([folder, "proofs", *path])
     os.makedirs(at, exist_ok=True)
@@ -298,9 +312,9 @@ def take(folder, name):
         it.write(TAKEN.format(place=proof_of(name), name=path[-1]))
 
 
-def check(crate, texts, asked, functions=(), is_whole=False, taken=()):
+def check(crate, texts, asked, functions=(), is_whole=False, taken=(), known=()):
     """Checks a copy of the crate with these texts in place of its own: the named functions, or all, going on past those refused
-    unless is_whole. Those that are taken are not proved: their callers have what their contracts say."""
+    unless is_whole. Those of the known functions that are taken are not proved: their callers have what their contracts say."""
     flags = ["--jobs", "1", *([] if is_whole else ["--allow-holes"])]
     for it in sorted(functions):
         flags += ["--only", it.partition("::")[2]]
@@ -311,8 +325,8 @@ def check(crate, texts, asked, functions=(), is_whole=False, taken=()):
         for path, text in texts.items():
             with open(f"{room}/{path}", "w", encoding="utf-8") as it:
                 it.write(text)
-        for name in filter(can_take, taken):
-            take(room, name)
+        if taken:
+            take(room, crate.name, taken, known)
         words = [*rtlib.guarded(), rtlib.RATTLE, "check", *crate.of_kit.words(flags, keeps=False), "--incremental", asked.kept]
         status, usage, is_late = run_limited(words, room, said, asked)
         said.seek(0)

@@ -5,7 +5,7 @@ definitions, where no function that one of them is to have refused can reach wha
 function that it changes, or names, is refused for a reason of its own. One whose function is only not proved because it calls
 another that is refused is tried again, without the edits that were told already. A group that cannot be told as a whole, since it
 does not compile, takes too long, or has a function refused that none of its edits changes, is parted in two, down to one edit.
-All other functions are taken by their contracts: rt ci has proved them, and a hole in place of a proof costs nothing.
+All other functions are taken by their contracts: rt ci has proved them, and an empty body with a hole for its proof costs nothing.
 What does not compile, is still proved, takes too long or is not told even alone is a failure, with its reason.
 """
 import os
@@ -86,7 +86,7 @@ class Trial:
 
     def __init__(self, crate, known, lanes, edits, kept):
         self.crate, self.edits, self.kept, self.lanes = crate, edits, kept, lanes
-        self.taken = {it for it in known if kit.can_take(it)}
+        self.known, self.taken = known, {it for it in known if kit.can_take(it)}
         self.told = Told(crate.name, [it.name for it in edits])
 
     def fail(self, edit, why):
@@ -101,7 +101,7 @@ class Trial:
         asked = kit.Asked(self.kept, limit, self.lanes, needs, left * lines)
         while True:
             taken = self.taken - functions
-            checked = kit.check(self.crate, texts, asked, functions, taken=taken)
+            checked = kit.check(self.crate, texts, asked, functions, taken=taken, known=self.known)
             self.told.checks += 1
             self.told.seconds += checked.seconds
             self.told.peak = max(self.told.peak, checked.peak)

@@ -7,7 +7,7 @@ import time
 from dataclasses import dataclass
 
 from costs import Watch
-from kit import guard
+from kit import guard, lanes
 
 LAST = re.compile(r"^(\d+) passed, (\d+) failed$", re.M)
 SECTION = re.compile(r"^== (.*)\n", re.M)
@@ -43,6 +43,8 @@ def run(root, crates, file, when_proved=lambda crate, log: None, when_refused=la
     clear(crates)
     begun, lines, named = time.time(), [], {it.name: it for it in crates}
     how = {"cwd": root, "stdin": subprocess.DEVNULL, "stdout": subprocess.PIPE, "stderr": subprocess.STDOUT}
+    # (one job a proof: more cost a third more of processor, and the wrong bodies beside it take what cores it leaves)
+    how["env"] = {**os.environ, "RT_JOBS": str(lanes())}
     ran = subprocess.Popen([*guard(), "rt", "ci"], text=True, errors="replace", **how)
     try:
         watch = Watch(ran.pid)

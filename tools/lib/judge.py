@@ -43,7 +43,7 @@ def run(root, crates, file, when_proved=lambda crate, log: None, when_refused=la
     clear(crates)
     begun, lines, named = time.time(), [], {it.name: it for it in crates}
     how = {"cwd": root, "stdin": subprocess.DEVNULL, "stdout": subprocess.PIPE, "stderr": subprocess.STDOUT}
-    # (one job a proof: more cost a third more of processor, and the wrong bodies beside it take what cores it leaves)
+    # (one job a proof: more cost more of processor, and the wrong bodies beside it take what cores it leaves; rt ci then plans no memory)
     how["env"] = {**os.environ, "RT_JOBS": str(lanes())}
     ran = subprocess.Popen([*guard(), "rt", "ci"], text=True, errors="replace", **how)
     try:

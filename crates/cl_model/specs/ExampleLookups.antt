@@ -1,9 +1,14 @@
 -- Worlds of the examples of lookup and access (JVMS SE 8, 5.4.3.2 to 5.4.4).
-use Rattle.std.specs.Prelude.{ℕ, ◌+◌, List, [], ◌∷◌, Option}
+use Prim.Native.String.{String}
+use Rattle.std.specs.Prelude.{◌≡◌, ℕ, ◌+◌, List, [], ◌∷◌, codes, Option, Some, None, Result, Ok, Err, option_map, option_and_then}
 use Rattle.cl_classfile.specs.Files.{ToField, ToMethod, ToInterfaceMethod}
+use Rattle.cl_model.specs.declared.class.Class.{Class}
 use Rattle.cl_model.specs.Homes.{World}
+use Rattle.cl_model.specs.Classes.{Error, ClassNotFound}
+use Rattle.cl_model.specs.Lineages.{Kin, classes}
+use Rattle.cl_model.specs.Plans.{load}
 use Rattle.cl_model.specs.States.{Verdict}
-use Rattle.cl_model.specs.Examples.{boot, app, root, under, plain, interface, acc_public, acc_private, acc_protected, acc_static, acc_abstract, taking_none, an_int, a_class, with_fields, with_methods, with_interfaces, referring, bundle, ends_at, resolve_of}
+use Rattle.cl_model.specs.Examples.{boot, app, enough, root, under, plain, interface, acc_public, acc_private, acc_protected, acc_static, acc_abstract, taking_none, an_int, a_class, with_fields, with_methods, with_interfaces, referring, bundle, ends_at, resolve_of}
 
 -- p/J1 and p/J2 have m with a body, p/J3 and p/J4 under it without; p/D has the first three, p/E the third and the first,
 -- p/F the last two; p/G has the field x from the second of its interfaces;
@@ -127,3 +132,16 @@ from_d i = ends_at accesses (resolve_of app "q/D" i)
 -- what this reference of p/R is resolved to in that world (5.4.4)
 abbrev pub from_r : ℕ → Option Verdict
 from_r i = ends_at accesses (resolve_of app "p/R" i)
+
+-- what a derivation ends in, if it is no error (5.3.5)
+abbrev pub derived : Result Kin Error → Option Kin
+derived (Ok k) = Some k
+derived (Err e) = None
+
+-- the class of this name in app of the world of several, with all that stands above it (5.3.5)
+abbrev pub several_kin : String → Option Kin
+several_kin name = option_and_then (λ m. derived m.ends) (load several enough ClassNotFound app (codes name))
+
+-- these are the classes of an order of what stands above the class of this name, and of the class itself (5.3.5, 5.4.3)
+abbrev pub Orders : (Kin → List Kin) → String → List Class → Type 0
+Orders order name cs = option_map (λ k. classes (order k)) (several_kin name) ≡ Some cs

@@ -8,7 +8,8 @@ ghost use Rattle.cl_model.specs.Machine.{Define, Initiate, Constrain, Settle, Pr
 ghost use Rattle.cl_model.specs.Lines.{line};
 ghost use Rattle.cl_model.specs.Examples.{boot, app, plug, kid, fifth, object, names, the_root, in_boot, in_app, in_plug, in_kid, in_fifth, taking_none, taking_t, an_int, an_array, int_letter, long_letter, load_of, resolve_of, link_of, entry, own, root_record, root_for, through_app, equal, same_t, same_v, same_both, ends_at, needs_at, HasBytes, Loads, LoadFails, LoadNeeds, Resolves, ResolveNeeds, Links, LinkNeeds, Costs};
 ghost use Rattle.cl_model.specs.ExampleLoads.{copies, twice, bad, circle, missing, importing, imports, misfits, two_parents};
-ghost use Rattle.cl_model.specs.ExampleLookups.{chosen, found, from_d, from_r};
+ghost use Rattle.cl_model.specs.Lineages.{lineage, superclasses, superinterfaces};
+ghost use Rattle.cl_model.specs.ExampleLookups.{chosen, found, from_d, from_r, Orders};
 ghost use Rattle.cl_model.specs.ExampleReferences.{service, three_users, hidden, arrays, from_u, NeedsPast};
 ghost use Rattle.cl_model.specs.ExampleOverriding.{overriding, declared, through_kid, whole_lineage, three_loaders, packages};
 ghost use Rattle.cl_model.specs.ExampleRuns.{over, standing, Answered, of_use, t_refused, kid_refused, both_defined, both_stand, constrained, across, in_rounds, two_rounds, serving, loading, resolving, linking, of_svc, unsettled, unprepared, unconstrained, ended, resolved_in_kid, overridden_alone, below_hidden, joined_with_kid};
@@ -111,6 +112,20 @@ pub fn maximally_specific()
     ensures none { chosen 6 ≡ Some (IsMethod (in_app "p/J3") (taking_none "m")) }
 {}
 
+/// A lineage has the superclass's first, then that of each superinterface in file order, then the class; the superinterfaces
+/// stand in file order, each before its own.
+pub fn orders_of_ancestors()
+    ensures lineage { Orders lineage "p/D" (
+        the_root ∷ in_app "p/J3" ∷ in_app "p/J1" ∷ in_app "p/J2" ∷ in_app "p/D" ∷ []) }
+    ensures superinterfaces { Orders superinterfaces "p/D" (
+        in_app "p/J3" ∷ in_app "p/J1" ∷ in_app "p/J2" ∷ []) }
+    ensures superclasses { Orders superclasses "p/C" (in_app "p/S" ∷ the_root ∷ []) }
+    ensures own_superinterfaces { Orders superinterfaces "p/F" (
+        in_app "p/J3" ∷ in_app "p/J4" ∷ []) }
+    ensures interface_first { Orders lineage "p/J4" (
+        the_root ∷ in_app "p/J3" ∷ in_app "p/J4" ∷ []) }
+{}
+
 /// A method of a class is looked up in the superclasses and then in the superinterfaces, those of
 /// superclasses too, of which the most specific counts; private and static ones are not offered.
 pub fn methods_of_classes()
@@ -206,6 +221,9 @@ pub fn declared_methods()
     ensures implements { LinkNeeds declared plug "q/A" (same_both app plug) }
     ensures of_interface { LinkNeeds declared plug "q/I" (same_both app plug) }
     ensures extends { LinkNeeds declared plug "q/B" (same_both app plug ++ same_both app plug) }
+    ensures class_linked { Links declared plug "q/A" (IsLinked (in_plug "q/A")) }
+    ensures interface_linked { Links declared plug "q/I" (IsLinked (in_plug "q/I")) }
+    ensures subclass_linked { Links declared plug "q/B" (IsLinked (in_plug "q/B")) }
 {}
 
 /// A private method is not inherited, and one that the class declares itself, also a private one,
@@ -216,6 +234,8 @@ pub fn inherited_methods()
     ensures of_superclass { LinkNeeds declared plug "q/G" (same_both app app) }
     ensures each_once { LinkNeeds declared plug "q/K" (
         same_both app plug ++ same_both plug plug ++ same_both app plug ++ same_t boot plug ∷ []) }
+    ensures private_above_linked { Links declared plug "q/D" (IsLinked (in_plug "q/D")) }
+    ensures private_own_linked { Links declared plug "q/F" (IsLinked (in_plug "q/F")) }
     ensures linked { Links declared plug "q/G" (IsLinked (in_plug "q/G")) }
 {}
 
@@ -224,12 +244,16 @@ pub fn inherited_methods()
 pub fn inherited_across_loaders()
     ensures of_class { LinkNeeds through_kid kid "r/C" (same_t boot app ∷ []) }
     ensures of_interface { LinkNeeds through_kid kid "r/J" [] }
+    ensures class_linked { Links through_kid kid "r/C" (IsLinked (in_kid "r/C")) }
+    ensures interface_linked { Links through_kid kid "r/J" (IsLinked (in_kid "r/J")) }
 {}
 
 /// A link has the constraints of the whole lineage, supertypes first.
 pub fn whole_lineages()
     ensures root_above { LinkNeeds whole_lineage plug "q/J" [] }
     ensures in_order { LinkNeeds whole_lineage plug "q/C" (same_t app plug ∷ same_v app plug ∷ []) }
+    ensures interface_linked { Links whole_lineage plug "q/J" (IsLinked (in_plug "q/J")) }
+    ensures class_linked { Links whole_lineage plug "q/C" (IsLinked (in_plug "q/C")) }
 {}
 
 /// Of what a class overrides the nearest superclass comes first, then the farther ones, then the

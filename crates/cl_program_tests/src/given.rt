@@ -82,6 +82,7 @@ pub fn writer<R: AllocGlobal>(rt: &R, room: usize) -> CountingWriter {
 }
 
 /// A runtime without files, whose random bytes all are this one, or cannot be had.
+#[derive(Drop)]
 pub struct SeededRuntime<'a, R> {
     pub host: &'a R,
     pub random: Option<u8>,

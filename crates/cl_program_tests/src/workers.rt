@@ -48,6 +48,7 @@ impl Source<Untold> for CountedSource<'_> {
 }
 
 /// A runtime whose directories are such a source.
+#[derive(Drop)]
 struct CountingRuntime<'a, R> {
     host: &'a R,
     opened: &'a AtomicU64,
@@ -105,7 +106,7 @@ impl ReadFile for TwoFiles {
 /// As many workers serve as are asked for.
 #[test]
 fn workers_are_those_asked_for(rt: HostRuntime) {
-    for workers in [1u32, 2, 8, 64] {
+    for (workers, further) in [(1, 0), (2, 1), (8, 7), (64, 63)] {
         let opened = AtomicU64::new(0);
         let runtime = CountingRuntime {
             host: &rt,
@@ -127,7 +128,7 @@ fn workers_are_those_asked_for(rt: HostRuntime) {
         let lines: &[u8] = b"1 ClassNotFoundException p/A@boot\n2 ClassNotFoundException p/B@boot\n";
         assert_eq!(rt; out.as_slice(), lines);
         assert!(rt; err.is_empty());
-        assert_eq!(rt; opened.load(Ordering::SeqCst), u64::from(workers) - 1);
+        assert_eq!(rt; opened.load(Ordering::SeqCst), further);
     }
 }
 

@@ -11,7 +11,7 @@ use Rattle.cl_program.specs.Faults.{print_fault}
 use Rattle.cl_program.specs.Files.{Giving}
 use Rattle.cl_program.specs.Outputs.{Outputs, Stream, TellsFault, WritesPart}
 use Rattle.cl_program.proofs.Running.{still}
-use Rattle.cl_program.specs.ScriptRuns.{AreLinesFrom, EndsFrom, IsConfigAt, IsRunOf, IsScriptAt, IsScriptRun, IsSeedless, IsServedBy, IsUnservedOver, LacksConfig, LacksScript, ScriptRunOf}
+use Rattle.cl_program.specs.ScriptRuns.{AreLinesFrom, EndsFrom, IsConfigAt, IsRunOf, IsScriptAt, IsScriptRun, IsSeedless, IsServedOver, IsUnservedOver, LacksConfig, LacksScript, ScriptRunOf}
 use Rattle.cl_program.specs.declared.fault.Fault.{Fault}
 use Rattle.cl_program.specs.declared.fault.Fault.TheVariants.{Write, TooLarge, NotUtf8, Config, Script, Serve, Threads, Path, Memory}
 
@@ -54,7 +54,7 @@ by_service gives w old fault h = absurd h
 
 -- the lines that are printed are those of a report, where what is held in between is what was read
 pub lines_from : (gives : List ℕ → Giving) (w : Wanted) (config held seen : Configured) (script given : Scripted) (report : Report) (names : List (List ℕ))
-    → IsConfigAt (gives w.config) (Ok config) → IsScriptAt (gives w.script) config (Ok script) → held ≡ config → given ≡ script → IsServedBy w.options.workers held given report
+    → IsConfigAt (gives w.config) (Ok config) → IsScriptAt (gives w.script) config (Ok script) → held ≡ config → given ≡ script → IsServedOver w.options.workers held given report
     → names ≡ names_of seen → seen ≡ config → AreLinesFrom gives w (report_lines names w.options.answers report.history report.answers)
 lines_from gives w config held seen script given report names configured scripted h s served n e = record {
   config = config;
@@ -62,7 +62,7 @@ lines_from gives w config held seen script given report names configured scripte
   report = report;
   configured = configured;
   scripted = scripted;
-  served = subst (λ (x : Scripted). IsServedBy w.options.workers config x report) s (subst (λ (x : Configured). IsServedBy w.options.workers x given report) h served);
+  served = subst (λ (x : Scripted). IsServedOver w.options.workers config x report) s (subst (λ (x : Configured). IsServedOver w.options.workers x given report) h served);
   are = ap (λ (x : List (List ℕ)). report_lines x w.options.answers report.history report.answers) (n ∙ ap names_of e);
 }
 

@@ -45,8 +45,8 @@ LacksScript gives config path fault = LacksText gives path fault
 
 -- what so many workers make of a script over directories: one serves in order, several in any order of their steps. Of directories no
 -- content is told, so this is what holds under any source (JVMS SE 8, 5.3)
-abbrev pub IsServedBy : ℕ → Configured → Scripted → Report → Type 0
-IsServedBy workers config script r = ByWorkers workers (IsServedInOrder None config script r) (IsServed None config script r)
+abbrev pub IsServedOver : ℕ → Configured → Scripted → Report → Type 0
+IsServedOver workers config script r = ByWorkers workers (IsServedInOrder None config script r) (IsServed None config script r)
 
 -- the lines of a report of the script under the configuration that the files give (own choice)
 pub record AreLinesFrom (gives : List ℕ → Giving) (w : Wanted) (lines : List ℕ) : Type 0 where
@@ -55,7 +55,7 @@ pub record AreLinesFrom (gives : List ℕ → Giving) (w : Wanted) (lines : List
   pub report : Report
   pub configured : IsConfigAt (gives w.config) (Ok config)
   pub scripted : IsScriptAt (gives w.script) config (Ok script)
-  pub served : IsServedBy w.options.workers config script report
+  pub served : IsServedOver w.options.workers config script report
   pub are : lines ≡ report_lines (names_of config) w.options.answers report.history report.answers
 
 -- its lines are written (own choice)

@@ -28,11 +28,13 @@ use std::sync::{Arc, Wait};
 use std::thread::Threads;
 
 /// Draws a seed, and reads, serves and reports a bundle with it. Where none is to be had, that is a read that failed.
-pub(crate) fn report_with_seed<
-    R: RandomSource + Threads + Wait + Sync,
-    I: Read + Drop,
-    W: Write,
->(alloc: Global, rt: &R, options: Options, input: I, out: &mut W) -> Result<(), Fault>
+pub(crate) fn report_with_seed<R: RandomSource + Threads + Wait + Sync, I: Read + Drop, W: Write>(
+    alloc: Global,
+    rt: &R,
+    options: Options,
+    input: I,
+    out: &mut W,
+) -> Result<(), Fault>
     ensures { RunOf (I.remaining input) options (stream W.contents out.old out.new) result }
 {
     let Some(seed) = draw_seed(rt) else {

@@ -5,7 +5,7 @@ ghost use Rattle.cl_config.specs.Scripts.{HasLoaders};
 ghost use Rattle.cl_registry.specs.Reports.{IsNamed};
 ghost use Rattle.cl_program.specs.Asking.{wanted_of};
 ghost use Rattle.cl_program.specs.Outputs.{stream};
-ghost use Rattle.cl_program.specs.ScriptRuns.{IsConfigAt, IsRunOf, IsScriptAt, IsServedBy, IsUnservedOver, LacksConfig, LacksScript, ScriptRunOf};
+ghost use Rattle.cl_program.specs.ScriptRuns.{IsConfigAt, IsRunOf, IsScriptAt, IsServedOver, IsUnservedOver, LacksConfig, LacksScript, ScriptRunOf};
 
 use crate::asked::RunWords;
 use crate::fault::Fault;
@@ -48,13 +48,7 @@ pub(crate) fn report_script<
     R: OpenDirectories + RandomSource + Threads + Wait + Sync,
     F: ReadFile,
     W: Write,
->(
-    alloc: Global,
-    rt: &R,
-    files: &F,
-    words: RunWords<'_>,
-    out: &mut W,
-) -> Result<(), Fault>
+>(alloc: Global, rt: &R, files: &F, words: RunWords<'_>, out: &mut W) -> Result<(), Fault>
     ensures { IsRunOf (F.gives files.now) (wanted_of words.entry)
         (stream W.contents out.old out.new) result }
 {
@@ -123,7 +117,7 @@ fn serve<R: OpenDirectories + Threads + Wait + Sync>(
     workers: u32,
 ) -> Result<Report, Fault>
     requires { HasLoaders (length config.value.loaders) script.value.requests }
-    ensures served { IfOk result (IsServedBy workers config.value script.value) }
+    ensures served { IfOk result (IsServedOver workers config.value script.value) }
     ensures named { IfOk result (IsNamed (length config.value.loaders)) }
     ensures unserved { IfErr result (IsUnservedOver workers) }
 {
@@ -143,7 +137,7 @@ fn serve_over<S: Source<Untold> + Send, R: Threads + Wait + Sync>(
     workers: u32,
 ) -> Result<Report, Fault>
     requires { HasLoaders (length config.value.loaders) script.value.requests }
-    ensures served { IfOk result (IsServedBy workers config.value script.value) }
+    ensures served { IfOk result (IsServedOver workers config.value script.value) }
     ensures named { IfOk result (IsNamed (length config.value.loaders)) }
     ensures unserved { IfErr result (IsUnservedOver workers) }
 {

@@ -26,15 +26,7 @@ pub fn run_asked<
     I: Read + Drop,
     W: Write,
     E: Write,
->(
-    alloc: Global,
-    rt: &R,
-    files: &F,
-    asked: Asked<'_>,
-    input: I,
-    out: &mut W,
-    err: &mut E,
-) -> u8
+>(alloc: Global, rt: &R, files: &F, asked: Asked<'_>, input: I, out: &mut W, err: &mut E) -> u8
     ensures bundle { (o : Options) → AsksForBundle o asked.entry
         → IsRun (I.remaining input) o
         (outputs W.contents out.old out.new E.contents err.old err.new) result }
@@ -76,14 +68,7 @@ fn run_script<
     F: ReadFile,
     W: Write,
     E: Write,
->(
-    alloc: Global,
-    rt: &R,
-    files: &F,
-    words: RunWords<'_>,
-    out: &mut W,
-    err: &mut E,
-) -> u8
+>(alloc: Global, rt: &R, files: &F, words: RunWords<'_>, out: &mut W, err: &mut E) -> u8
     ensures { IsScriptRun (F.gives files.now) (wanted_of words.entry)
         (outputs W.contents out.old out.new E.contents err.old err.new) result }
 {

@@ -98,7 +98,15 @@ fn seeds_change_no_line(rt: HostRuntime) {
             answers: false,
         });
         let input = LINEAGES.as_bytes();
-        let found = run_asked(rt.alloc(), &runtime, &NoFiles, asked, input, &mut out, &mut err);
+        let found = run_asked(
+            rt.alloc(),
+            &runtime,
+            &NoFiles,
+            asked,
+            input,
+            &mut out,
+            &mut err,
+        );
         assert_eq!(rt; found, status);
         assert_eq!(rt; out.as_slice(), lines.as_bytes());
         assert_eq!(rt; err.as_slice(), line.as_bytes());
@@ -123,7 +131,15 @@ fn run_without_seed_names_configuration(rt: HostRuntime) {
         },
     });
     let input: &[u8] = b"";
-    let found = run_asked(rt.alloc(), &runtime, &NoFiles, asked, input, &mut out, &mut err);
+    let found = run_asked(
+        rt.alloc(),
+        &runtime,
+        &NoFiles,
+        asked,
+        input,
+        &mut out,
+        &mut err,
+    );
     assert_eq!(rt; found, 1);
     assert!(rt; out.is_empty());
     let line = "classlink: cannot read loaders.toml\n";

@@ -123,9 +123,18 @@ fn workers_are_those_asked_for(rt: HostRuntime) {
             },
         });
         let input: &[u8] = b"";
-        let status = run_asked(rt.alloc(), &runtime, &TwoFiles, asked, input, &mut out, &mut err);
+        let status = run_asked(
+            rt.alloc(),
+            &runtime,
+            &TwoFiles,
+            asked,
+            input,
+            &mut out,
+            &mut err,
+        );
         assert_eq!(rt; status, 0);
-        let lines: &[u8] = b"1 ClassNotFoundException p/A@boot\n2 ClassNotFoundException p/B@boot\n";
+        let lines: &[u8] =
+            b"1 ClassNotFoundException p/A@boot\n2 ClassNotFoundException p/B@boot\n";
         assert_eq!(rt; out.as_slice(), lines);
         assert!(rt; err.is_empty());
         assert_eq!(rt; opened.load(Ordering::SeqCst), further);
@@ -148,7 +157,15 @@ fn other_numbers_are_refused(rt: HostRuntime) {
             answers: true,
         });
         let input: &[u8] = b"%config\n[[loader]]\nname = \"boot\"\n%script\nload boot p/A\n";
-        let status = run_asked(rt.alloc(), &runtime, &TwoFiles, asked, input, &mut out, &mut err);
+        let status = run_asked(
+            rt.alloc(),
+            &runtime,
+            &TwoFiles,
+            asked,
+            input,
+            &mut out,
+            &mut err,
+        );
         assert_eq!(rt; status, 1);
         assert!(rt; out.is_empty());
         let line: &[u8] = b"classlink: V1 Workers\n";

@@ -1,14 +1,18 @@
 -- What `clap` makes of the words that ask for a report or for a class file's lines.
-use Rattle.std.proofs.Common.{◌≡◌, ◌∙◌, ◌==◌, Bool, true, false, not, List, [], ◌∷◌, ◌++◌, codes, drop, Option, Some, None, option_map, option_and_then, unwrap_or, Result, Ok, Err, IsErrAnd, IfErr, MatchResult, inl, inr, refl, sym, ap, subst}
+use Rattle.std.proofs.Common.{◌≡◌, ◌∙◌, ◌==◌, ◌<◌, ◌≤◌, ◌^◌, ℕ, Bool, true, false, not, List, [], ◌∷◌, ◌++◌, codes, drop, Option, Some, None, option_map, option_and_then, unwrap_or, Result, Ok, Err, IsErrAnd, IfErr, MatchResult, inl, inr, refl, sym, ap, subst, arith}
 use Rattle.std.specs.Borrow.{Bor}
 use Rattle.std.specs.Prelude.{Box}
 use Rattle.std.specs.Box.{box_value}
 use Rattle.std.specs.Str.{bytes_eq}
+use Rattle.std.specs.Str.Parse.{ExplainsUnsignedError, HasUnsignedDigitsIfOk, IsNumeral, ParsesUnsigned, without_leading_plus}
+use Rattle.std.proofs.lemmas.Bool.{eqb-true}
 use Rattle.clap.specs.Faults.{built_fault}
 use Rattle.clap.specs.Lexer.{long_of, short_of}
-use Rattle.clap.specs.Matches.{first_value, one_text}
+use Rattle.clap.specs.Matches.{ReadsOne, first_value, one_text}
 use Rattle.clap.specs.Simple.{built, entered, names_of}
 use Rattle.clap.specs.Values.{bool_text}
+use Rattle.clap.specs.ValueTests.{accepts}
+use Rattle.clap.specs.declared.builder.value_parser.ValueParser.TheVariants.{Unsigned}
 use Rattle.clap.specs.Walk.{nothing_held, stop_after}
 use Rattle.clap.specs.Words.{App, FailsBy, HasMatchesOf, Row, Text, fault_of, first_of, is_simple, is_simple_and_free, HasKind, Kinds, kind_of, one_of, rows_of, subcommand_name_of, subcommand_of, subcommand_rows, subcommand_rows_of}
 use Rattle.clap.specs.declared.error.Error.{Error}
@@ -18,10 +22,13 @@ use Rattle.clap.specs.declared.parser.matches.ArgMatches.TheViews.{out-ArgMatche
 use Rattle.clap.specs.declared.parser.matches.Found.{Found}
 use Rattle.clap.specs.declared.parser.matches.SubCommand.{SubCommand}
 use Rattle.clap.proofs.OnLiterals.{clap_on_literals}
+use Rattle.clap.proofs.ValueTestLemmas.{Accepts-accepts}
 use Rattle.clap.proofs.WalkLemmas.{first_value-rows, one_text-rows}
-use Rattle.classlink.specs.CommandLine.{Apart, AskFor, AskToRead, AskToRun, AsksForBundle, AsksForFile, AsksForRun, Before, Behind, HasFlag, IsAsked, IsNamed, IsToRead, IsToRun, Wanted, file_of, flag_words, is_plain_word, named_file, program, wanted_of, words_for, wrong_words}
-use Rattle.classlink.specs.declared.words.Asked.{Asked}
-use Rattle.classlink.specs.declared.words.Asked.TheVariants.{Bundle, Read, Run}
+use Rattle.cl_program.specs.Asking.{AsksForBundle, AsksForFile, AsksForRun, Wanted, wanted_of}
+use Rattle.cl_program.specs.declared.asked.Asked.{Asked}
+use Rattle.cl_program.specs.declared.asked.Asked.TheVariants.{Bundle, Read, Run}
+use Rattle.cl_program.specs.declared.asked.Options.{Options}
+use Rattle.classlink.specs.CommandLine.{Apart, AreOptions, AskFor, AskToRead, AskToRun, Before, Behind, HasFlag, HasOptions, HasWorkers, IsAsked, IsCount, IsCountOf, IsNamed, IsToRead, IsToRun, file_of, flag_words, is_plain_word, named_file, option_words, program, wrong_words}
 
 -- ---- the program's command on its words
 
@@ -38,39 +45,7 @@ pub ends_by : (a : App) (words : List Text) (r : Result ArgMatches Error) → a 
 unfolding wrong_words
 ends_by a words r is kinds = subst (λ (b : App). FailsBy (fault_of b words) r) is (kinds (ap is_simple_and_free is ∙ is_free_program))
 
-no_fault : (answers : Bool) → built_fault (built program) nothing_held (words_for answers) ≡ []
-unfolding clap_on_literals
-no_fault false = refl
-no_fault true = refl
-
-pub takes_words : (words : List Text) (answers : Bool) → AskFor words answers → wrong_words words ≡ []
-unfolding wrong_words
-takes_words words answers e = ap (built_fault (built program) nothing_held) e ∙ no_fault answers
-
-abbrev entered_at : List Text → Option (Text × List Row)
-entered_at words = entered (built program) (stop_after (built program).top.rules (names_of (built program)) words)
-
-flag_at : (answers : Bool) → HasFlag (entered_at (words_for answers)) answers
-unfolding clap_on_literals
-flag_at false = refl
-flag_at true = refl
-
-flag_of_words : (words : List Text) (answers : Bool) → AskFor words answers → HasFlag (subcommand_of program words) answers
-flag_of_words words answers e = ap (λ (ws : List Text). option_and_then (λ p. one_of (codes "answers") p.1) (entered_at ws)) e ∙ flag_at answers
-
--- ---- a path among the words
-
-abbrev Passes : List Text → Type 0
-Passes words = built_fault (built program) nothing_held words ≡ []
-
-abbrev Finds : Text → List Text → Type 0
-Finds path words = IsToRead (entered_at words) × (file_of (entered_at words) ≡ path)
-
-abbrev to_read : Text → List Text
-to_read path = codes "read" ∷ path ∷ []
-
-abbrev to_read_behind : Text → List Text
-to_read_behind path = codes "read" ∷ codes "--" ∷ path ∷ []
+-- ---- words that are no flags
 
 not_true : (b : Bool) → not b ≡ true → b ≡ false
 not_true true e = cc
@@ -88,6 +63,100 @@ no_flag (c ∷ []) p = one (c == 45) refl
     one true t = rw t (refl, refl, refl)
     one false t = rw t (refl, refl, refl)
 no_flag (c ∷ d ∷ rest) p = let t = not_true (c == 45) p in rw t (refl, refl, refl)
+
+-- ---- a count of workers among the words
+
+-- a numeral does not begin with a hyphen
+numeral_plain : (text : Text) → IsNumeral 10 (without_leading_plus text) → is_plain_word text ≡ true
+numeral_plain [] h = refl
+numeral_plain (c ∷ []) h = refl
+numeral_plain (c ∷ d ∷ rest) h = by (c == 45) refl
+  where
+    by : (b : Bool) → (c == 45) ≡ b → not (c == 45) ≡ true
+    by false e = rw e refl
+    by true e =
+        let digits = subst (λ (x : ℕ). IsNumeral 10 (without_leading_plus (x ∷ d ∷ rest))) (eqb-true _ _ e) h in
+        let bad : 36 < 10 = digits.1.0 in
+        absurd (omega arith)
+
+-- no test for a flag takes it for one, and it passes the parser
+abbrev IsCountWord : Text → Type 0
+IsCountWord text = IsNoFlag text × (accepts false (Unsigned 1 64) text ≡ true)
+
+abbrev PassesCount : Option Text → Type 0
+PassesCount None = Unit {0}
+PassesCount (Some text) = IsCountWord text
+
+passes_count : (count : Option Text) (n : ℕ) → IsCountOf count n → PassesCount count
+passes_count None n is = tt
+passes_count (Some text) n is = (no_flag text (numeral_plain text is.is_in.0), Accepts-accepts false (Unsigned 1 64) text is.is_in)
+
+-- what is found for the option
+abbrev count_text : Option Text → Text
+count_text None = codes "1"
+count_text (Some text) = text
+
+one_is : IsCount (codes "1") 1
+one_is = record { is_in = ((omega arith, (omega arith, tt)), omega arith, omega arith, omega arith); value = refl }
+
+spells_count : (count : Option Text) (n : ℕ) → IsCountOf count n → IsCount (count_text count) n
+spells_count None n is = subst (IsCount (codes "1")) (sym is) one_is
+spells_count (Some text) n is = is
+
+-- ---- the words of a bundle's report
+
+abbrev for_bundle : Option Text → Bool → List Text
+for_bundle count answers = codes "bundle" ∷ option_words count answers
+
+no_fault : (count : Option Text) (answers : Bool) → PassesCount count → built_fault (built program) nothing_held (for_bundle count answers) ≡ []
+unfolding clap_on_literals
+no_fault None false p = refl
+no_fault None true p = refl
+no_fault (Some text) false p = rw (p.0.0, p.0.1, p.0.2, p.1) refl
+no_fault (Some text) true p = rw (p.0.0, p.0.1, p.0.2, p.1) refl
+
+pub takes_words : (words : List Text) (o : Options) → AskFor words o → wrong_words words ≡ []
+unfolding wrong_words
+takes_words words o ask = ap (built_fault (built program) nothing_held) ask.are ∙ no_fault ask.count o.answers (passes_count ask.count o.workers ask.counts)
+
+abbrev entered_at : List Text → Option (Text × List Row)
+entered_at words = entered (built program) (stop_after (built program).top.rules (names_of (built program)) words)
+
+-- what is found for the options
+abbrev FindsOptions : Option Text → Bool → List Text → Type 0
+FindsOptions count answers words =
+    HasFlag (entered_at words) answers × (option_and_then (λ p. one_of (codes "workers") p.1) (entered_at words) ≡ Some (count_text count))
+
+options_found : (count : Option Text) (answers : Bool) → PassesCount count → FindsOptions count answers (for_bundle count answers)
+unfolding clap_on_literals
+options_found None false p = (refl, refl)
+options_found None true p = (refl, refl)
+options_found (Some text) false p = rw (p.0.0, p.0.1, p.0.2) (refl, refl)
+options_found (Some text) true p = rw (p.0.0, p.0.1, p.0.2) (refl, refl)
+
+same_options : (a b : Options) → a.workers ≡ b.workers → a.answers ≡ b.answers → a ≡ b
+same_options a b w f =
+    let by_workers : a ≡ record { workers = b.workers; answers = a.answers } = ap (λ (x : ℕ). let o : Options = record { workers = x; answers = a.answers } in o) w in
+    by_workers ∙ ap (λ (x : Bool). let o : Options = record { workers = b.workers; answers = x } in o) f
+
+-- the options that were found are those that the words have
+options_are : (count : Option Text) (words : List Text) (o given : Options) → IsCountOf count o.workers → FindsOptions count o.answers words → HasOptions (entered_at words) given → given ≡ o
+options_are count words o given is found has =
+    same_options given o (has.workers o.workers (record { text = count_text count; found = found.1; spells = spells_count count o.workers is })) (has.answers o.answers found.0)
+
+-- ---- a path among the words
+
+abbrev Passes : List Text → Type 0
+Passes words = built_fault (built program) nothing_held words ≡ []
+
+abbrev Finds : Text → List Text → Type 0
+Finds path words = IsToRead (entered_at words) × (file_of (entered_at words) ≡ path)
+
+abbrev to_read : Text → List Text
+to_read path = codes "read" ∷ path ∷ []
+
+abbrev to_read_behind : Text → List Text
+to_read_behind path = codes "read" ∷ codes "--" ∷ path ∷ []
 
 plain_passes : (path : Text) → IsNoFlag path → Passes (to_read path)
 unfolding clap_on_literals
@@ -116,73 +185,92 @@ found_path words path (inr p) = subst (Finds path) (sym p) (behind_found path)
 
 -- ---- a script's run among the words
 
--- what clap finds is the run that is wanted
-abbrev FindsRun : Wanted → List Text → Type 0
-FindsRun w words =
-    IsToRun (entered_at words)
-    × (named_file (codes "CONFIG") (entered_at words) ≡ w.config)
-    × (named_file (codes "SCRIPT") (entered_at words) ≡ w.script)
-    × HasFlag (entered_at words) w.answers
+abbrev run_behind : Text → Text → Bool → List Text
+run_behind config script answers = codes "run" ∷ config ∷ script ∷ flag_words answers
 
-abbrev run_words : Text → Text → Bool → List Text
-run_words config script answers = codes "run" ∷ config ∷ script ∷ flag_words answers
-
-abbrev run_flagged : Text → Text → Bool → List Text
-run_flagged config script answers = codes "run" ∷ flag_words answers ++ config ∷ script ∷ []
+abbrev run_before : Text → Text → Bool → List Text
+run_before config script answers = codes "run" ∷ flag_words answers ++ config ∷ script ∷ []
 
 abbrev run_apart : Text → Text → Bool → List Text
 run_apart config script answers = codes "run" ∷ flag_words answers ++ codes "--" ∷ config ∷ script ∷ []
 
-words_pass : (config script : Text) (answers : Bool) → IsNoFlag config → IsNoFlag script → Passes (run_words config script answers)
-unfolding clap_on_literals
-words_pass config script false c s = rw (c.0, c.1, c.2, s.0, s.1, s.2) refl
-words_pass config script true c s = rw (c.0, c.1, c.2, s.0, s.1, s.2) refl
+-- what clap finds is the run that is wanted, by one worker
+abbrev FindsRun : Text → Text → Bool → List Text → Type 0
+FindsRun config script answers words =
+    IsToRun (entered_at words)
+    × (named_file (codes "CONFIG") (entered_at words) ≡ config)
+    × (named_file (codes "SCRIPT") (entered_at words) ≡ script)
+    × FindsOptions None answers words
 
-flagged_pass : (config script : Text) (answers : Bool) → IsNoFlag config → IsNoFlag script → Passes (run_flagged config script answers)
+behind_pass : (c s : Text) (b : Bool) → IsNoFlag c → IsNoFlag s → Passes (run_behind c s b)
 unfolding clap_on_literals
-flagged_pass config script false c s = rw (c.0, c.1, c.2, s.0, s.1, s.2) refl
-flagged_pass config script true c s = rw (c.0, c.1, c.2, s.0, s.1, s.2) refl
+behind_pass c s false x y = rw (x.0, x.1, x.2, y.0, y.1, y.2) refl
+behind_pass c s true x y = rw (x.0, x.1, x.2, y.0, y.1, y.2) refl
 
-apart_pass : (config script : Text) (answers : Bool) → Passes (run_apart config script answers)
+before_pass : (c s : Text) (b : Bool) → IsNoFlag c → IsNoFlag s → Passes (run_before c s b)
 unfolding clap_on_literals
-apart_pass config script false = refl
-apart_pass config script true = refl
+before_pass c s false x y = rw (x.0, x.1, x.2, y.0, y.1, y.2) refl
+before_pass c s true x y = rw (x.0, x.1, x.2, y.0, y.1, y.2) refl
 
-abbrev wanting_run : Text → Text → Bool → Wanted
-wanting_run config script answers = record { config = config; script = script; answers = answers }
-
-words_found : (config script : Text) (answers : Bool) → IsNoFlag config → IsNoFlag script → FindsRun (wanting_run config script answers) (run_words config script answers)
+apart_pass : (c s : Text) (b : Bool) → Passes (run_apart c s b)
 unfolding clap_on_literals
-words_found config script false c s = rw (c.0, c.1, c.2, s.0, s.1, s.2) (refl, refl, refl, refl)
-words_found config script true c s = rw (c.0, c.1, c.2, s.0, s.1, s.2) (refl, refl, refl, refl)
+apart_pass c s false = refl
+apart_pass c s true = refl
 
-flagged_found : (config script : Text) (answers : Bool) → IsNoFlag config → IsNoFlag script → FindsRun (wanting_run config script answers) (run_flagged config script answers)
+behind_finds : (c s : Text) (b : Bool) → IsNoFlag c → IsNoFlag s → FindsRun c s b (run_behind c s b)
 unfolding clap_on_literals
-flagged_found config script false c s = rw (c.0, c.1, c.2, s.0, s.1, s.2) (refl, refl, refl, refl)
-flagged_found config script true c s = rw (c.0, c.1, c.2, s.0, s.1, s.2) (refl, refl, refl, refl)
+behind_finds c s false x y = rw (x.0, x.1, x.2, y.0, y.1, y.2) (refl, refl, refl, (refl, refl))
+behind_finds c s true x y = rw (x.0, x.1, x.2, y.0, y.1, y.2) (refl, refl, refl, (refl, refl))
 
-apart_found : (config script : Text) (answers : Bool) → FindsRun (wanting_run config script answers) (run_apart config script answers)
+before_finds : (c s : Text) (b : Bool) → IsNoFlag c → IsNoFlag s → FindsRun c s b (run_before c s b)
 unfolding clap_on_literals
-apart_found config script false = (refl, refl, refl, refl)
-apart_found config script true = (refl, refl, refl, refl)
+before_finds c s false x y = rw (x.0, x.1, x.2, y.0, y.1, y.2) (refl, refl, refl, (refl, refl))
+before_finds c s true x y = rw (x.0, x.1, x.2, y.0, y.1, y.2) (refl, refl, refl, (refl, refl))
+
+apart_finds : (c s : Text) (b : Bool) → FindsRun c s b (run_apart c s b)
+unfolding clap_on_literals
+apart_finds c s false = (refl, refl, refl, (refl, refl))
+apart_finds c s true = (refl, refl, refl, (refl, refl))
+
+-- the words of a run pass, and clap finds in them what is wanted
+record RunFound (words : List Text) (w : Wanted) : Type 0 where
+  pub one : w.options.workers ≡ 1
+  pub passes : Passes (drop 1 words)
+  pub found : FindsRun w.config w.script w.options.answers (drop 1 words)
+
+run_found : (words : List Text) (w : Wanted) → AskToRun words w → RunFound words w
+run_found words w (Behind one p e) = record {
+  one = one;
+  passes = subst Passes (sym e) (behind_pass w.config w.script w.options.answers (no_flag w.config p.config) (no_flag w.script p.script));
+  found = subst (FindsRun w.config w.script w.options.answers) (sym e) (behind_finds w.config w.script w.options.answers (no_flag w.config p.config) (no_flag w.script p.script));
+}
+run_found words w (Before one p e) = record {
+  one = one;
+  passes = subst Passes (sym e) (before_pass w.config w.script w.options.answers (no_flag w.config p.config) (no_flag w.script p.script));
+  found = subst (FindsRun w.config w.script w.options.answers) (sym e) (before_finds w.config w.script w.options.answers (no_flag w.config p.config) (no_flag w.script p.script));
+}
+run_found words w (Apart one e) = record {
+  one = one;
+  passes = subst Passes (sym e) (apart_pass w.config w.script w.options.answers);
+  found = subst (FindsRun w.config w.script w.options.answers) (sym e) (apart_finds w.config w.script w.options.answers);
+}
 
 pub takes_run : (words : List Text) (w : Wanted) → AskToRun words w → wrong_words words ≡ []
 unfolding wrong_words
-takes_run words w (Behind p e) = ap (built_fault (built program) nothing_held) e ∙ words_pass w.config w.script w.answers (no_flag w.config p.config) (no_flag w.script p.script)
-takes_run words w (Before p e) = ap (built_fault (built program) nothing_held) e ∙ flagged_pass w.config w.script w.answers (no_flag w.config p.config) (no_flag w.script p.script)
-takes_run words w (Apart e) = ap (built_fault (built program) nothing_held) e ∙ apart_pass w.config w.script w.answers
-
-found_run : (words : List Text) (w : Wanted) → AskToRun words w → FindsRun w (drop 1 words)
-found_run words w (Behind p e) = subst (FindsRun w) (sym e) (words_found w.config w.script w.answers (no_flag w.config p.config) (no_flag w.script p.script))
-found_run words w (Before p e) = subst (FindsRun w) (sym e) (flagged_found w.config w.script w.answers (no_flag w.config p.config) (no_flag w.script p.script))
-found_run words w (Apart e) = subst (FindsRun w) (sym e) (apart_found w.config w.script w.answers)
+takes_run words w ask = (run_found words w ask).passes
 
 -- ---- what is asked for by these words
 
-is_bundle : (answers : Bool) → IsNamed (codes "bundle") (entered_at (words_for answers))
+is_bundle : (count : Option Text) (answers : Bool) → IsNamed (codes "bundle") (entered_at (for_bundle count answers))
 unfolding clap_on_literals
-is_bundle false = refl
-is_bundle true = refl
+is_bundle None false = refl
+is_bundle None true = refl
+is_bundle (Some text) false = refl
+is_bundle (Some text) true = refl
+
+bundle_named : (words : List Text) (o : Options) → AskFor words o → IsNamed (codes "bundle") (entered_at (drop 1 words))
+bundle_named words o ask =
+    subst (λ (ws : List Text). IsNamed (codes "bundle") (entered_at ws)) (sym ask.are) (is_bundle ask.count o.answers)
 
 one_name : (o : Option (Text × List Row)) (a b : Text) → IsNamed a o → IsNamed b o → a ≡ b
 one_name o a b x y = some_is (sym x ∙ y)
@@ -199,26 +287,30 @@ bundle_no_running e = cc
 reading_no_running : codes "read" ≡ codes "run" → ⊥
 reading_no_running e = cc
 
-pub bundle_asked : (words : List Text) (answers : Bool) (a : Asked) → AskFor words answers → IsAsked (subcommand_of program words) a → AsksForBundle answers a
-bundle_asked words answers (Bundle b) ask is = is.1 answers (flag_of_words words answers ask)
-bundle_asked words answers (Run w) ask is = absurd (bundle_no_running (one_name _ _ _ (is_bundle answers) (subst (λ (ws : List Text). IsToRun (entered_at ws)) ask is.0)))
-bundle_asked words answers (Read path) ask is = absurd (bundle_no_reading (one_name _ _ _ (is_bundle answers) (subst (λ (ws : List Text). IsToRead (entered_at ws)) ask is.0)))
+pub bundle_asked : (words : List Text) (o : Options) (a : Asked) → AskFor words o → IsAsked (subcommand_of program words) a → AsksForBundle o a
+bundle_asked words o (Bundle given) ask is =
+    let found = subst (FindsOptions ask.count o.answers) (sym ask.are) (options_found ask.count o.answers (passes_count ask.count o.workers ask.counts)) in
+    options_are ask.count (drop 1 words) o given ask.counts found is.1
+bundle_asked words o (Run w) ask is = absurd (bundle_no_running (one_name _ _ _ (bundle_named words o ask) is.0))
+bundle_asked words o (Read path) ask is = absurd (bundle_no_reading (one_name _ _ _ (bundle_named words o ask) is.0))
 
 pub path_asked : (words : List Text) (path : Text) (a : Asked) → AskToRead words path → IsAsked (subcommand_of program words) a → AsksForFile path a
 path_asked words path (Bundle b) ask is = absurd (is.0.no_reading (found_path words path ask).0)
 path_asked words path (Run w) ask is = absurd (reading_no_running (one_name _ _ _ (found_path words path ask).0 is.0))
 path_asked words path (Read at) ask is = sym is.1 ∙ (found_path words path ask).1
 
-same_wanted : (a b : Wanted) → a.config ≡ b.config → a.script ≡ b.script → a.answers ≡ b.answers → a ≡ b
-same_wanted a b c s f =
-    ap (λ (x : Text). wanting_run x a.script a.answers) c ∙ ap (λ (x : Text). wanting_run b.config x a.answers) s ∙ ap (λ (x : Bool). wanting_run b.config b.script x) f
+same_wanted : (a b : Wanted) → a.config ≡ b.config → a.script ≡ b.script → a.options ≡ b.options → a ≡ b
+same_wanted a b c s o =
+    let run : Text → Text → Options → Wanted = λ config script options. record { config = config; script = script; options = options } in
+    ap (λ (x : Text). run x a.script a.options) c ∙ ap (λ (x : Text). run b.config x a.options) s ∙ ap (λ (x : Options). run b.config b.script x) o
 
 pub run_asked : (words : List Text) (w : Wanted) (a : Asked) → AskToRun words w → IsAsked (subcommand_of program words) a → AsksForRun w a
-run_asked words w (Bundle b) ask is = absurd (is.0.no_running (found_run words w ask).0)
+run_asked words w (Bundle b) ask is = absurd (is.0.no_running (run_found words w ask).found.0)
 run_asked words w (Run given) ask is =
-    let found = found_run words w ask in
-    same_wanted (wanted_of given) w (sym is.1.config ∙ found.1) (sym is.1.script ∙ found.2) (is.1.flag w.answers found.3)
-run_asked words w (Read at) ask is = absurd (reading_no_running (one_name _ _ _ is.0 (found_run words w ask).0))
+    let run = run_found words w ask in
+    let options = options_are None (drop 1 words) w.options given.options run.one run.found.3 is.1.options in
+    same_wanted (wanted_of given) w (sym is.1.config ∙ run.found.1) (sym is.1.script ∙ run.found.2) options
+run_asked words w (Read at) ask is = absurd (reading_no_running (one_name _ _ _ is.0 (run_found words w ask).found.0))
 
 -- what the matches ask for is what the words ask for
 pub asked_by_words : (a : App) (words : List Text) (m : ArgMatches) (asked : Asked) → a ≡ program → HasMatchesOf a words m → IsAsked (subcommand_rows_of m) asked → IsAsked (subcommand_of program words) asked
@@ -228,12 +320,28 @@ asked_by_words a words m asked is matches h =
 
 -- ---- what is read of the matches
 
-pub flag_text : (f : Found) (answers : Bool) (o : Option (Text × List Row)) → Some (rows_of f) ≡ option_map (λ p. p.1) o → HasFlag o answers → one_text f (codes "answers") ≡ Some (bool_text answers)
-flag_text f answers None e h = absurd cc
-flag_text f answers (Some p) e h = one_text-rows f (codes "answers") ∙ ap (one_of (codes "answers")) (same e) ∙ h
+-- the text of an argument, by the entries of its subcommand
+text_in : (id : Text) (text : Text) (f : Found) (o : Option (Text × List Row)) → option_map (λ p. p.1) o ≡ Some (rows_of f) → option_and_then (λ p. one_of id p.1) o ≡ Some text → one_text f id ≡ Some text
+text_in id text f None e h = absurd cc
+text_in id text f (Some p) e h = one_text-rows f id ∙ ap (one_of id) (sym (same e)) ∙ h
   where
-    same : Some (rows_of f) ≡ Some p.1 → rows_of f ≡ p.1
+    same : Some p.1 ≡ Some (rows_of f) → p.1 ≡ rows_of f
     same e = cc
+
+-- the options that are found for a subcommand's arguments are its options
+pub are_its : (f : Found) (o : Option (Text × List Row)) (given : Options) → option_map (λ p. p.1) o ≡ Some (rows_of f) → AreOptions f given → HasOptions o given
+are_its f o given e are = record {
+  workers = λ n has. are.workers has.text n (text_in (codes "workers") has.text f o e has.found) has.spells;
+  answers = λ b has. are.answers b (text_in (codes "answers") (bool_text b) f o e has);
+}
+
+-- there is no subcommand
+pub has_none : (o : Option (Text × List Row)) (given : Options) → o ≡ None → HasOptions o given
+has_none None given e = record { workers = λ n has. absurd (none_is has.found); answers = λ b has. absurd (none_is has) }
+  where
+    none_is : {A : Type 0} {x : A} → None ≡ Some x → ⊥
+    none_is e = cc
+has_none (Some p) given e = absurd cc
 
 name_of : {Z : Type 0} (o : Option (Box SubCommand Z)) → option_map (λ b. (out-SubCommand (box_value b)).name.now) o ≡ option_map (λ p. p.0) (subcommand_rows o)
 name_of None = refl
@@ -265,6 +373,14 @@ pub flag_read : (f : Found) (read : Bool) (answers : Bool) → (one_text f (code
     → one_text f (codes "answers") ≡ Some (bool_text answers) → read ≡ answers
 flag_read f read true by_true by_false e = by_true e
 flag_read f read false by_true by_false e = by_false e
+
+-- the number that is read of a text that spells a count
+pub count_read : (read : Option ℕ) (text : Text) (n : ℕ) → IsCount text n → ReadsOne (λ bs r. ParsesUnsigned 32 10 bs r × ExplainsUnsignedError 10 bs r × HasUnsignedDigitsIfOk bs r) text read
+    → unwrap_or read 1 ≡ n
+count_read (Some v) text n is got = got.0.1 ∙ is.value
+count_read None text n is got =
+    let most = is.is_in.3 in
+    absurd (got.1.0 (is.is_in.0, omega arith))
 
 -- ---- a parse that fails
 

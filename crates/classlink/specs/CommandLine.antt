@@ -1,21 +1,30 @@
 -- The words that the program takes, as `clap` sees its command.
-use Rattle.std.specs.Prelude.{◌≡◌, ◌⊎◌, ◌==◌, ℕ, Bool, true, false, not, List, [], ◌∷◌, ◌++◌, codes, Option, Some, option_map, option_and_then, unwrap_or, drop}
-use Rattle.clap.specs.Values.{bool_text}
+use Rattle.std.specs.Prelude.{◌≡◌, ◌⊎◌, ◌==◌, ℕ, Bool, true, false, not, List, [], ◌∷◌, ◌++◌, codes, Option, Some, None, option_map, option_and_then, unwrap_or, drop}
+use Rattle.std.specs.Str.Parse.{digits_value, without_leading_plus}
+use Rattle.clap.specs.Matches.{one_text}
+use Rattle.clap.specs.Values.{IsUnsignedIn, bool_text}
 use Rattle.clap.specs.Words.{App, Kinds, Row, Rule, Text, app_of, fault_of, first_of, new_app, new_rule, one_of, with_rule, with_subcommand}
 use Rattle.clap.specs.declared.builder.ArgAction.TheVariants.{SetTrue}
 use Rattle.clap.specs.declared.builder.command.Command.{Command}
 use Rattle.clap.specs.declared.builder.command.Command.TheViews.{out-Command}
-use Rattle.classlink.specs.declared.words.Asked.{Asked}
-use Rattle.classlink.specs.declared.words.Asked.TheVariants.{Bundle, Read, Run}
-use Rattle.classlink.specs.declared.words.RunWords.{RunWords}
+use Rattle.clap.specs.declared.builder.value_parser.ValueParser.TheVariants.{Unsigned}
+use Rattle.clap.specs.declared.parser.matches.Found.{Found}
+use Rattle.cl_program.specs.Asking.{Wanted, wanted_of}
+use Rattle.cl_program.specs.declared.asked.Asked.{Asked}
+use Rattle.cl_program.specs.declared.asked.Asked.TheVariants.{Bundle, Read, Run}
+use Rattle.cl_program.specs.declared.asked.Options.{Options}
+
+-- the option `--workers`, from 1 to 64, and 1 where it is left out (own choice)
+abbrev pub workers : Rule
+workers = record (new_rule (codes "workers")) { long = Some (codes "workers"); value_names = 1; defaults = codes "1" ∷ []; parser = Some (Unsigned 1 64) }
 
 -- the flag `--answers` (own choice)
 abbrev pub answers : Rule
 answers = record (new_rule (codes "answers")) { long = Some (codes "answers"); action = Some SetTrue }
 
--- `bundle`, with its flag (own choice)
+-- `bundle`, with its options (own choice)
 abbrev pub bundle : App
-bundle = with_rule (new_app (codes "bundle")) answers
+bundle = with_rule (with_rule (new_app (codes "bundle")) workers) answers
 
 -- a file that is wanted, by its name (own choice)
 abbrev pub file : List ℕ → Rule
@@ -25,9 +34,9 @@ file name = record (new_rule name) { required = true }
 abbrev pub reading : App
 reading = with_rule (new_app (codes "read")) (file (codes "FILE"))
 
--- `run`, with its files and its flag (own choice)
+-- `run`, with its files and its options (own choice)
 abbrev pub running : App
-running = with_rule (with_rule (with_rule (new_app (codes "run")) (file (codes "CONFIG"))) (file (codes "SCRIPT"))) answers
+running = with_rule (with_rule (with_rule (with_rule (new_app (codes "run")) (file (codes "CONFIG"))) (file (codes "SCRIPT"))) workers) answers
 
 -- the command, with one of its subcommands wanted (own choice)
 abbrev pub with_required : App → App
@@ -53,14 +62,31 @@ IsCommand a c = (app_of c ≡ a) × ((out-Command c).has_globals ≡ false)
 unfoldable pub wrong_words : List (List ℕ) → Kinds
 wrong_words words = fault_of program words
 
--- the words behind the program's name that ask for a bundle's report, or for its answers alone (own choice)
-abbrev pub words_for : Bool → List (List ℕ)
-words_for false = codes "bundle" ∷ []
-words_for true = codes "bundle" ∷ codes "--answers" ∷ []
+-- a text of digits that spells a count of workers, from 1 to 64; a plus may stand first (own choice)
+pub record IsCount (text : List ℕ) (n : ℕ) : Type 0 where
+  pub is_in : IsUnsignedIn 1 64 text
+  pub value : digits_value 10 (without_leading_plus text) ≡ n
 
--- the words, of which the first is the program's name, ask so (own choice)
-abbrev pub AskFor : List (List ℕ) → Bool → Type 0
-AskFor words only_answers = drop 1 words ≡ words_for only_answers
+-- a count of workers that is given, or 1 (own choice)
+abbrev pub IsCountOf : Option (List ℕ) → ℕ → Type 0
+IsCountOf None n = n ≡ 1
+IsCountOf (Some text) n = IsCount text n
+
+-- the word `--answers`, where the answers alone are wanted (own choice)
+abbrev pub flag_words : Bool → List (List ℕ)
+flag_words false = []
+flag_words true = codes "--answers" ∷ []
+
+-- the words of the options: `--workers` and a count, where one is given, and `--answers` (own choice)
+abbrev pub option_words : Option (List ℕ) → Bool → List (List ℕ)
+option_words None only_answers = flag_words only_answers
+option_words (Some text) only_answers = codes "--workers" ∷ text ∷ flag_words only_answers
+
+-- the words, of which the first is the program's name, ask for a bundle's report with these options (own choice)
+pub record AskFor (words : List (List ℕ)) (o : Options) : Type 0 where
+  pub count : Option (List ℕ)
+  pub counts : IsCountOf count o.workers
+  pub are : drop 1 words ≡ codes "bundle" ∷ option_words count o.answers
 
 -- a word that is no flag: it does not begin with a hyphen, or is the hyphen alone (own choice)
 abbrev pub is_plain_word : List ℕ → Bool
@@ -73,28 +99,20 @@ abbrev pub AskToRead : List (List ℕ) → List ℕ → Type 0
 AskToRead words path =
     ((drop 1 words ≡ codes "read" ∷ path ∷ []) × (is_plain_word path ≡ true)) ⊎ (drop 1 words ≡ codes "read" ∷ codes "--" ∷ path ∷ [])
 
--- what `run` wants: the paths of a configuration and of a script, and whether the answers alone are printed (own choice)
-pub record Wanted : Type 0 where
-  pub config : List ℕ
-  pub script : List ℕ
-  pub answers : Bool
-
--- the words `--answers`, where the answers alone are wanted (own choice)
-abbrev pub flag_words : Bool → List (List ℕ)
-flag_words false = []
-flag_words true = codes "--answers" ∷ []
-
 -- both paths are no flags (own choice)
 pub record ArePlain (w : Wanted) : Type 0 where
   pub config : is_plain_word w.config ≡ true
   pub script : is_plain_word w.script ≡ true
 
--- the words, of which the first is the program's name, ask so for a script's run: the flag behind or before the paths, which are
--- plain or stand behind `--` (own choice)
+-- the words, of which the first is the program's name, ask so for a script's run by one worker: the flag behind or before the paths,
+-- which are plain or stand behind `--` (own choice)
 pub data AskToRun (words : List (List ℕ)) (w : Wanted) : Type 0 where
-  Behind : ArePlain w → drop 1 words ≡ codes "run" ∷ w.config ∷ w.script ∷ flag_words w.answers → AskToRun words w
-  Before : ArePlain w → drop 1 words ≡ codes "run" ∷ flag_words w.answers ++ w.config ∷ w.script ∷ [] → AskToRun words w
-  Apart : drop 1 words ≡ codes "run" ∷ flag_words w.answers ++ codes "--" ∷ w.config ∷ w.script ∷ [] → AskToRun words w
+  Behind : w.options.workers ≡ 1 → ArePlain w
+      → drop 1 words ≡ codes "run" ∷ w.config ∷ w.script ∷ flag_words w.options.answers → AskToRun words w
+  Before : w.options.workers ≡ 1 → ArePlain w
+      → drop 1 words ≡ codes "run" ∷ flag_words w.options.answers ++ w.config ∷ w.script ∷ [] → AskToRun words w
+  Apart : w.options.workers ≡ 1
+      → drop 1 words ≡ codes "run" ∷ flag_words w.options.answers ++ codes "--" ∷ w.config ∷ w.script ∷ [] → AskToRun words w
 
 -- ---- what is asked for, by the subcommand that `clap` finds and what it finds for its arguments
 
@@ -122,6 +140,22 @@ file_of entered = named_file (codes "FILE") entered
 abbrev pub HasFlag : Option (Text × List Row) → Bool → Type 0
 HasFlag entered b = option_and_then (λ p. one_of (codes "answers") p.1) entered ≡ Some (bool_text b)
 
+-- `--workers` is a text that spells this count (own choice)
+pub record HasWorkers (entered : Option (Text × List Row)) (n : ℕ) : Type 0 where
+  pub text : List ℕ
+  pub found : option_and_then (λ p. one_of (codes "workers") p.1) entered ≡ Some text
+  pub spells : IsCount text n
+
+-- these are its options (own choice)
+pub record HasOptions (entered : Option (Text × List Row)) (o : Options) : Type 0 where
+  pub workers : (n : ℕ) → HasWorkers entered n → o.workers ≡ n
+  pub answers : (b : Bool) → HasFlag entered b → o.answers ≡ b
+
+-- these are the options of a subcommand, by what is found for its arguments (own choice)
+pub record AreOptions (f : Found) (o : Options) : Type 0 where
+  pub workers : (text : List ℕ) (n : ℕ) → one_text f (codes "workers") ≡ Some text → IsCount text n → o.workers ≡ n
+  pub answers : (b : Bool) → one_text f (codes "answers") ≡ Some (bool_text b) → o.answers ≡ b
+
 -- the subcommand is neither `read` nor `run` (own choice)
 pub record IsForBundle (entered : Option (Text × List Row)) : Type 0 where
   pub no_reading : ¬ IsToRead entered
@@ -131,29 +165,10 @@ pub record IsForBundle (entered : Option (Text × List Row)) : Type 0 where
 pub record IsWanted (entered : Option (Text × List Row)) (w : Wanted) : Type 0 where
   pub config : named_file (codes "CONFIG") entered ≡ w.config
   pub script : named_file (codes "SCRIPT") entered ≡ w.script
-  pub flag : (b : Bool) → HasFlag entered b → w.answers ≡ b
-
--- the words of `run`, without where they lie (own choice)
-abbrev pub wanted_of : RunWords → Wanted
-wanted_of w = record { config = w.config.now; script = w.script.now; answers = w.answers }
+  pub options : HasOptions entered w.options
 
 -- what is asked for is what `clap` finds (own choice)
 abbrev pub IsAsked : Option (Text × List Row) → Asked → Type 0
-IsAsked entered (Bundle answers) = IsForBundle entered × ((b : Bool) → HasFlag entered b → answers ≡ b)
+IsAsked entered (Bundle options) = IsForBundle entered × HasOptions entered options
 IsAsked entered (Run words) = IsToRun entered × IsWanted entered (wanted_of words)
 IsAsked entered (Read path) = IsToRead entered × (file_of entered ≡ path.now)
-
--- a bundle's report is asked for, or its answers alone (own choice)
-abbrev pub AsksForBundle : Bool → Asked → Type 0
-AsksForBundle only_answers (Bundle answers) = answers ≡ only_answers
-AsksForBundle only_answers _ = ⊥
-
--- this run of a script is asked for (own choice)
-abbrev pub AsksForRun : Wanted → Asked → Type 0
-AsksForRun w (Run words) = wanted_of words ≡ w
-AsksForRun w _ = ⊥
-
--- the lines of the file at a path are asked for (own choice)
-abbrev pub AsksForFile : List ℕ → Asked → Type 0
-AsksForFile at (Read path) = path.now ≡ at
-AsksForFile at _ = ⊥

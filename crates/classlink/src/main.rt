@@ -1,19 +1,11 @@
 //! Loads and links classes as a Java machine does: those of a bundle, or those of directories.
 #![tactic(auto)]
 
-mod directories;
-mod fault;
-mod files;
-mod input;
-mod reading;
 mod run;
-#[cfg(test)]
-mod tests;
 mod words;
 
-use fault::Fault;
-use files::NamedFiles;
-use run::{fail, refuse_words, run_over};
+use cl_program::{Fault, NamedFiles, fail, refuse_words};
+use run::run_over;
 use std::io::ErrorKind;
 use std::process::ExitCode;
 use std::{env, io};

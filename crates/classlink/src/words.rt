@@ -1,37 +1,15 @@
-ghost use Rattle.std.specs.Prelude.{◌≡◌, [], ℕ, List, Bool, false, IfOk, IfErr, MatchResult, map};
-ghost use Rattle.clap.specs.Words.{HasKind, app_of, kind_of, rule_of, subcommand_of, subcommand_rows_of};
-ghost use Rattle.classlink.specs.CommandLine.{AskFor, AskToRead, AskToRun, AsksForBundle, AsksForFile, AsksForRun, HasFlag, IsAsked, IsCommand, Wanted, answers, bundle, file, program, reading, running, wrong_words};
+ghost use Rattle.std.specs.Prelude.{◌≡◌, [], ℕ, List, false, IfOk, IfErr, MatchResult, map};
+ghost use Rattle.clap.specs.Words.{HasKind, app_of, found_of, kind_of, rule_of, subcommand_of, subcommand_rows_of};
+ghost use Rattle.cl_program.specs.Asking.{AsksForBundle, AsksForFile, AsksForRun, Wanted};
+ghost use Rattle.cl_program.specs.declared.asked.Options.{Options};
+ghost use Rattle.classlink.specs.CommandLine.{AreOptions, AskFor, AskToRead, AskToRun, IsAsked, IsCommand, HasOptions, answers, bundle, file, program, reading, running, workers, wrong_words};
 
+use cl_program::{Asked, Options, RunWords};
+use clap::builder::ValueParser;
 use clap::error::ErrorKind;
 use clap::{Arg, ArgAction, ArgMatches, Command, Error};
 use std::alloc::{AllocError, Global};
 use std::convert::AsStr;
-
-/// What the words of a command line ask for.
-#[derive(Clone, Copy, Debug, PartialEq, Eq)]
-pub enum Asked<'a> {
-    /// The report of the bundle on standard input.
-    Bundle {
-        /// Whether the answers alone are printed.
-        answers: bool,
-    },
-    /// The report of a script that is run over directories.
-    Run(RunWords<'a>),
-    /// The lines of a class file.
-    Read {
-        /// Where the file is, as the words have it.
-        path: &'a str,
-    },
-}
-
-/// Where a configuration and a script are, as the words have it.
-#[derive(Clone, Copy, Debug, PartialEq, Eq)]
-pub struct RunWords<'a> {
-    pub config: &'a str,
-    pub script: &'a str,
-    /// Whether the answers alone are printed.
-    pub answers: bool,
-}
 
 /// What `--version` prints behind the program's name.
 const VERSION: &str = "0.1.0";
@@ -71,10 +49,10 @@ fn command<'a>(alloc: Global) -> Result<Command<'a>, AllocError>
 fn bundle_command<'a>(alloc: Global) -> Result<Command<'a>, AllocError>
     ensures { IfOk result (IsCommand bundle) }
 {
-    Command::new(alloc, "bundle")
+    let bundle = Command::new(alloc, "bundle")
         .about("Runs the script of a bundle that is read from standard input")
-        .after_help(BUNDLE_FORM)
-        .arg(answers_flag(alloc))
+        .after_help(BUNDLE_FORM);
+    bundle.arg(workers_option(alloc))?.arg(answers_flag(alloc))
 }
 
 fn run_command<'a>(alloc: Global) -> Result<Command<'a>, AllocError>
@@ -85,7 +63,23 @@ fn run_command<'a>(alloc: Global) -> Result<Command<'a>, AllocError>
         .after_help(DIRECTORIES);
     let run = run.arg(file(alloc, "CONFIG", "The configuration, in TOML"))?;
     let run = run.arg(file(alloc, "SCRIPT", "The script"))?;
-    run.arg(answers_flag(alloc))
+    run.arg(workers_option(alloc))?.arg(answers_flag(alloc))
+}
+
+/// The most workers.
+const MOST_WORKERS: u64 = 64;
+
+/// The option for the number of workers.
+fn workers_option<'a>(alloc: Global) -> Arg<'a>
+    ensures rule { rule_of result ≡ workers }
+    ensures local { result.global ≡ false }
+{
+    Arg::new(alloc, "workers")
+        .long("workers")
+        .value_name("N")
+        .value_parser(ValueParser::unsigned(1, MOST_WORKERS))
+        .default_value("1")
+        .help("How many threads serve, 1 to 64; one serves in order")
 }
 
 /// The flag for the answers alone.
@@ -119,8 +113,8 @@ fn read_command<'a>(alloc: Global) -> Result<Command<'a>, AllocError>
 /// Reads the words of a command line, of which the first is the program's name. The error is `clap`'s, for words that
 /// it refuses and for those that ask for help.
 pub fn read<'a, S: AsStr>(alloc: Global, words: &'a [S]) -> Result<Asked<'a>, Error>
-    ensures asked { (answers : Bool) → AskFor (map S.text words.entry.now) answers
-        → MatchResult result (AsksForBundle answers) (λ e. kind_of e ≡ ErrorKind.OutOfMemory) }
+    ensures asked { (o : Options) → AskFor (map S.text words.entry.now) o
+        → MatchResult result (AsksForBundle o) (λ e. kind_of e ≡ ErrorKind.OutOfMemory) }
     ensures read { (path : List ℕ) → AskToRead (map S.text words.entry.now) path
         → MatchResult result (AsksForFile path) (λ e. kind_of e ≡ ErrorKind.OutOfMemory) }
     ensures run { (w : Wanted) → AskToRun (map S.text words.entry.now) w
@@ -145,22 +139,32 @@ fn wanted<'a>(matches: &ArgMatches<'a>) -> Asked<'a>
             Some(run) => Asked::Run(RunWords {
                 config: run.get_str("CONFIG").unwrap_or(""),
                 script: run.get_str("SCRIPT").unwrap_or(""),
-                answers: run.get_flag("answers"),
+                options: options_of(run),
             }),
-            None => Asked::Bundle {
-                answers: answers_alone(matches),
-            },
+            None => Asked::Bundle(bundle_options(matches)),
         },
     }
 }
 
-/// Whether the matches of a bundle's report have the flag `--answers`.
-fn answers_alone(matches: &ArgMatches<'_>) -> bool
-    ensures { (answers : Bool) → HasFlag (subcommand_rows_of matches.now) answers
-        → result ≡ answers }
+/// The options of a bundle's report.
+fn bundle_options(matches: &ArgMatches<'_>) -> Options
+    ensures { HasOptions (subcommand_rows_of matches.now) result }
 {
     match matches.subcommand() {
-        Some((_, bundle)) => bundle.get_flag("answers"),
-        None => false,
+        Some((_, bundle)) => options_of(bundle),
+        None => Options {
+            workers: 1,
+            answers: false,
+        },
+    }
+}
+
+/// The options among the matches of a subcommand.
+fn options_of(matches: &ArgMatches<'_>) -> Options
+    ensures { AreOptions (found_of matches.now) result }
+{
+    Options {
+        workers: matches.get_one::<u32>("workers").unwrap_or(1),
+        answers: matches.get_flag("answers"),
     }
 }

@@ -1,11 +1,12 @@
 use Rattle.std.proofs.Common.{Ok, Err, map}
-use Rattle.classlink.specs.CommandLine.{AsksForBundle, AsksForFile, AsksForRun, wrong_words}
+use Rattle.cl_program.specs.Asking.{AsksForBundle, AsksForFile, AsksForRun}
+use Rattle.classlink.specs.CommandLine.{wrong_words}
 use Rattle.classlink.proofs.Flags.{asked_by_words, bundle_asked, ends_by, for_memory, kind_by, path_asked, run_asked, takes_path, takes_run, takes_words}
 use Rattle.classlink.proofs.words.read.Goals as goal
 
 pub returns-in_err-matches-clause-asked : goal.returns-in_err-matches-clause-asked
-returns-in_err-matches-clause-asked g c = λ answers ask.
-    for_memory (wrong_words (map g.S.AsStr.text c.args.words.now)) c.from_residual-in_err-matches.result c.in_err-matches.field-0.0 (AsksForBundle answers) (takes_words _ answers ask)
+returns-in_err-matches-clause-asked g c = λ o ask.
+    for_memory (wrong_words (map g.S.AsStr.text c.args.words.now)) c.from_residual-in_err-matches.result c.in_err-matches.field-0.0 (AsksForBundle o) (takes_words _ o ask)
     c.from_residual-in_err-matches.ensures.1 (ends_by _ _ (Err c.in_err-matches.field-0.0) c.in_ok-command.ensures c.in_err-matches.ensures.kinds)
 
 pub returns-in_err-matches-clause-read : goal.returns-in_err-matches-clause-read
@@ -24,8 +25,8 @@ returns-in_err-matches-clause-refused g c =
     c.from_residual-in_err-matches.ensures.1 (ends_by _ _ (Err c.in_err-matches.field-0.0) c.in_ok-command.ensures c.in_err-matches.ensures.kinds)
 
 pub returns-clause-asked : goal.returns-clause-asked
-returns-clause-asked g c = λ answers ask.
-    bundle_asked (map g.S.AsStr.text c.args.words.now) answers c.wanted.result ask (asked_by_words _ (map g.S.AsStr.text c.args.words.now) c.in_ok-matches.matches c.wanted.result c.in_ok-command.ensures c.in_ok-matches.ensures.matches c.wanted.ensures)
+returns-clause-asked g c = λ o ask.
+    bundle_asked (map g.S.AsStr.text c.args.words.now) o c.wanted.result ask (asked_by_words _ (map g.S.AsStr.text c.args.words.now) c.in_ok-matches.matches c.wanted.result c.in_ok-command.ensures c.in_ok-matches.ensures.matches c.wanted.ensures)
 
 pub returns-clause-read : goal.returns-clause-read
 returns-clause-read g c = λ path ask.

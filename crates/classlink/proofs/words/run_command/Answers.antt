@@ -2,7 +2,7 @@ use Rattle.std.proofs.Common.{◌≡◌, ◌∙◌, codes, rules}
 use Rattle.std.proofs.lemmas.Result.{IfOk-weaker}
 use Rattle.clap.specs.Words.{app_of, new_app}
 use Rattle.clap.specs.declared.builder.command.Command.TheViews.{out-Command}
-use Rattle.classlink.specs.CommandLine.{IsCommand, answers, file}
+use Rattle.classlink.specs.CommandLine.{IsCommand, answers, file, workers}
 use Rattle.classlink.proofs.Commands.{adds}
 use Rattle.classlink.proofs.words.run_command.Goals as goal
 
@@ -13,4 +13,5 @@ returns c =
     let is : IsCommand (new_app (codes "run")) c.after_help-run.result = (empty ∙ c.new.ensures.app, globals ∙ c.new.ensures.local) in
     let config = adds _ c.after_help-run.result c.in_ok-run.run' (file (codes "CONFIG")) c.file.result is c.file.ensures.rule c.file.ensures.local c.in_ok-run.ensures in
     let script = adds _ c.in_ok-run.run' c.in_ok-run-2.run' (file (codes "SCRIPT")) c.file-2.result config c.file-2.ensures.rule c.file-2.ensures.local c.in_ok-run-2.ensures in
-    IfOk-weaker c.arg-3.result _ _ (λ m h. adds _ c.in_ok-run-2.run' m answers c.answers_flag.result script c.answers_flag.ensures.rule c.answers_flag.ensures.local h) c.arg-3.ensures
+    let workers_in = adds _ c.in_ok-run-2.run' c.in_ok-arg.field-0 workers c.workers_option.result script c.workers_option.ensures.rule c.workers_option.ensures.local c.in_ok-arg.ensures in
+    IfOk-weaker c.arg-4.result _ _ (λ m h. adds _ c.in_ok-arg.field-0 m answers c.answers_flag.result workers_in c.answers_flag.ensures.rule c.answers_flag.ensures.local h) c.arg-4.ensures

@@ -1,6 +1,6 @@
 use Rattle.std.proofs.Common.{codes, refl, sym}
 use Rattle.clap.specs.Words.{found_of, subcommand_rows_of}
-use Rattle.classlink.proofs.Flags.{file_read, flag_read, flag_text, is_named}
+use Rattle.classlink.proofs.Flags.{are_its, file_read, is_named}
 use Rattle.classlink.proofs.words.wanted.Goals as goal
 
 pub returns-in-Some : goal.returns-in-Some
@@ -17,6 +17,6 @@ returns-in-Some-subcommand_matches c =
       record {
         config = file_read (codes "CONFIG") rows found c.get_str-in-Some-subcommand_matches.result _ c.unwrap_or-in-Some-subcommand_matches.result c.in-Some-subcommand_matches.ensures.rows c.get_str-in-Some-subcommand_matches.ensures refl c.unwrap_or-in-Some-subcommand_matches.ensures;
         script = file_read (codes "SCRIPT") rows found c.get_str-in-Some-subcommand_matches-2.result _ c.unwrap_or-in-Some-subcommand_matches-2.result c.in-Some-subcommand_matches.ensures.rows c.get_str-in-Some-subcommand_matches-2.ensures refl c.unwrap_or-in-Some-subcommand_matches-2.ensures;
-        flag = λ answers says. flag_read found c.get_flag.result answers c.get_flag.ensures.value c.get_flag.ensures.other (flag_text found answers rows (sym c.in-Some-subcommand_matches.ensures.rows) says);
+        options = are_its found rows c.options_of.result c.in-Some-subcommand_matches.ensures.rows c.options_of.ensures;
       },
     )

@@ -1,0 +1,5 @@
+use Rattle.cl_program.proofs.ScriptRunning.{script_failed}
+use Rattle.cl_program.proofs.run.run_script.Goals as goal
+
+pub returns-in-Err : goal.returns-in-Err
+returns-in-Err g c = script_failed _ _ _ c.in-Err.fault c.fail.result c.in-Err.ensures c.fail.ensures.status c.fail.ensures.told

@@ -1,0 +1,35 @@
+-- What so many workers make of a script, and why they make no report of it (JVMS SE 8, 5.3).
+use Rattle.std.specs.Prelude.{◌≡◌, ℕ, Option}
+use Rattle.cl_model.specs.Content.{Content}
+use Rattle.cl_config.specs.Views.{Configured, Scripted}
+use Rattle.cl_registry.specs.declared.report.Report.{Report}
+use Rattle.cl_schedule.specs.Counting.{faults}
+use Rattle.cl_schedule.specs.Headline.{IsServedInOrder}
+use Rattle.cl_schedule.specs.Serving.{reported}
+use Rattle.cl_schedule.specs.declared.serve.ServeFault.TheVariants as serve
+use Rattle.cl_pool.specs.Served.{MayServe}
+use Rattle.cl_program.specs.declared.fault.Fault.{Fault}
+use Rattle.cl_program.specs.declared.fault.Fault.TheVariants.{Serve, Threads, Memory}
+use Rattle.cl_program.specs.declared.fault.ThreadFault.{ThreadFault}
+use Rattle.cl_program.specs.declared.fault.ThreadFault.TheVariants.{Workers}
+
+-- the one holds where one worker serves, and the other where several do
+pub record ByWorkers (workers : ℕ) (One Several : Type 0) : Type 0 where
+  pub alone : workers ≡ 1 → One
+  pub together : ¬ (workers ≡ 1) → Several
+
+-- the report of a script that was served in order under a configuration, with no fault of the source (5.3)
+pub record IsServedAlone (told : Option Content) (config : Configured) (script : Scripted) (r : Report) : Type 0 where
+  pub in_order : IsServedInOrder told config script r
+  pub no_source_faults : faults (reported config r).answers ≡ 0
+
+-- why several workers made no report: their number is blamed where it is not 1 to 64, and nowhere else (own choice)
+abbrev pub FailsBy : ℕ → ThreadFault → Type 0
+FailsBy workers Workers = ¬ (MayServe workers)
+FailsBy workers _ = MayServe workers
+
+-- why a script was not served: one worker tells that memory was wanting, several tell a fault of theirs (own choice)
+abbrev pub IsUnserved : ℕ → Fault → Type 0
+IsUnserved workers (Serve wrong) = (workers ≡ 1) × (wrong ≡ serve.Memory)
+IsUnserved workers (Threads wrong) = ¬ (workers ≡ 1) × FailsBy workers wrong
+IsUnserved workers _ = ⊥

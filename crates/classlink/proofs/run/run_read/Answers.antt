@@ -1,5 +1,0 @@
-use Rattle.classlink.proofs.Listing.{reading_failed}
-use Rattle.classlink.proofs.run.run_read.Goals as goal
-
-pub returns-in-Err : goal.returns-in-Err
-returns-in-Err g c = reading_failed _ _ _ _ _ _ c.in-Err.fault c.fail.result c.in-Err.ensures c.fail.ensures.status c.fail.ensures.told

@@ -186,8 +186,8 @@ class Service:
 
     def answer(self, request):
         course = self.courses[request]
-        must(course.answer is not None, "there can be none, since '%s' did not happen" % (
-            self.rules.line(course.wanted()) if course.answer is None else ""))
+        if course.answer is None:
+            raise Refused(f"there can be none, since '{self.rules.line(course.wanted())}' did not happen")
         return course.answer
 
 

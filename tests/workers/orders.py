@@ -5,7 +5,7 @@ next stop. So any order of steps may come, and each step is whole."""
 import random
 import threading
 
-from machine import Machine, types_of
+from plans import Machine, types_of
 
 
 class Shared(Machine):

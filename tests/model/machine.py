@@ -144,7 +144,7 @@ class Machine:
         return list(dict.fromkeys(found + (self.superinterfaces(self.above(c)) if self.above(c) else [])))
 
     def lineage(self, c):
-        found = self.lineage(self.above(c)) if self.above(c) else []
+        found = [*self.lineage(self.above(c))] if self.above(c) else []
         for i in self.interfaces(c):
             found += self.lineage(i)
         return list(dict.fromkeys(found + [c]))
@@ -289,6 +289,6 @@ class Machine:
         try:
             if verb == "load":
                 return f"class {self.at(*self.load(loader, name, missing='ClassNotFoundException'))}"
-            return self.link(loader, name) if verb == "link" else self.resolve(loader, name, int(index[0]))
+            return self.link(loader, name) if verb == "link" else self.resolve(loader, name, *index)
         except Ended as ended:
             return str(ended)

@@ -242,6 +242,12 @@ def of_bundle(text):
     return Rules(loaders, files), script
 
 
+def units(text):
+    """A name as its code units, as names stand in class files: a supplementary character is two."""
+    data = text.encode("utf-16-be", "surrogatepass")
+    return "".join(chr(data[at] << 8 | data[at + 1]) for at in range(0, len(data), 2))
+
+
 def files_below(folder):
     """The class files of a directory, by name."""
     found = {}
@@ -250,7 +256,7 @@ def files_below(folder):
             if name.endswith(".class"):
                 path = os.path.join(at, name)
                 with open(path, "rb") as file:
-                    found[os.path.relpath(path, folder)[:-len(".class")]] = classes.read(file.read())
+                    found[units(os.path.relpath(path, folder)[:-len(".class")])] = classes.read(file.read())
     return found
 
 

@@ -9,7 +9,7 @@ use Rattle.cl_schedule.specs.Serving.{reported}
 use Rattle.cl_schedule.specs.declared.serve.ServeFault.TheVariants as serve
 use Rattle.cl_pool.specs.Served.{MayServe}
 use Rattle.cl_program.specs.declared.fault.Fault.{Fault}
-use Rattle.cl_program.specs.declared.fault.Fault.TheVariants.{Serve, Threads, Memory}
+use Rattle.cl_program.specs.declared.fault.Fault.TheVariants.{Serve, Threads}
 use Rattle.cl_program.specs.declared.fault.ThreadFault.{ThreadFault}
 use Rattle.cl_program.specs.declared.fault.ThreadFault.TheVariants.{Workers}
 

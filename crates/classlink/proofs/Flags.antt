@@ -1,5 +1,5 @@
 -- What `clap` makes of the words that ask for a report or for a class file's lines.
-use Rattle.std.proofs.Common.{◌≡◌, ◌∙◌, ◌==◌, ◌<◌, ◌≤◌, ◌^◌, ℕ, Bool, true, false, not, List, [], ◌∷◌, ◌++◌, codes, drop, Option, Some, None, option_map, option_and_then, unwrap_or, Result, Ok, Err, IsErrAnd, IfErr, MatchResult, inl, inr, refl, sym, ap, subst, arith}
+use Rattle.std.proofs.Common.{◌≡◌, ◌∙◌, ◌==◌, ◌<◌, ℕ, Bool, true, false, not, List, [], ◌∷◌, ◌++◌, codes, drop, Option, Some, None, option_map, option_and_then, unwrap_or, Result, Ok, Err, IsErrAnd, IfErr, MatchResult, inl, inr, refl, sym, ap, subst, arith}
 use Rattle.std.specs.Borrow.{Bor}
 use Rattle.std.specs.Prelude.{Box}
 use Rattle.std.specs.Box.{box_value}
@@ -28,7 +28,7 @@ use Rattle.cl_program.specs.Asking.{AsksForBundle, AsksForFile, AsksForRun, Want
 use Rattle.cl_program.specs.declared.asked.Asked.{Asked}
 use Rattle.cl_program.specs.declared.asked.Asked.TheVariants.{Bundle, Read, Run}
 use Rattle.cl_program.specs.declared.asked.Options.{Options}
-use Rattle.classlink.specs.CommandLine.{Apart, AreOptions, AskFor, AskToRead, AskToRun, Before, Behind, HasFlag, HasOptions, HasWorkers, IsAsked, IsCount, IsCountOf, IsNamed, IsToRead, IsToRun, file_of, flag_words, is_plain_word, named_file, option_words, program, wrong_words}
+use Rattle.classlink.specs.CommandLine.{Apart, AreOptions, AskFor, AskToRead, AskToRun, Before, Behind, HasFlag, HasOptions, IsAsked, IsCount, IsCountOf, IsNamed, IsToRead, IsToRun, file_of, flag_words, is_plain_word, named_file, option_words, program, wrong_words}
 
 -- ---- the program's command on its words
 

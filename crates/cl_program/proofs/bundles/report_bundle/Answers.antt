@@ -2,7 +2,7 @@ use Rattle.std.proofs.Common.{◌≡◌, ℕ, All, string_bytes, subst}
 use Rattle.cl_model.specs.Texts.{AnswerNames, EventNames}
 use Rattle.cl_program.specs.Faults.{print_fault}
 use Rattle.cl_program.specs.declared.fault.Fault.TheVariants.{Bundle, Memory}
-use Rattle.cl_program.proofs.Running.{are_lines, by_bundle, by_memory, by_print, by_service, names_count, ran_wrong}
+use Rattle.cl_program.proofs.Running.{are_lines, by_bundle, by_memory, by_print, names_count, ran_wrong}
 use Rattle.cl_program.proofs.bundles.report_bundle.Goals as goal
 
 pub returns-in_err-config : goal.returns-in_err-config

@@ -1,4 +1,4 @@
-use Rattle.std.proofs.Common.{codes, refl, sym}
+use Rattle.std.proofs.Common.{codes, refl}
 use Rattle.clap.specs.Words.{found_of, subcommand_rows_of}
 use Rattle.classlink.proofs.Flags.{are_its, file_read, is_named}
 use Rattle.classlink.proofs.words.wanted.Goals as goal

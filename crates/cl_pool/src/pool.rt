@@ -3,6 +3,7 @@
 ghost use Rattle.std.specs.Prelude.{◌≡◌, ◌<◌, ◌≤◌, length};
 ghost use Rattle.cl_registry.specs.Tables.{Shown};
 ghost use Rattle.cl_tasks.specs.Waits.{Reading};
+ghost use Rattle.cl_schedule.specs.Counting.{Grows, told_faults};
 ghost use Rattle.cl_schedule.specs.Replies.{IsReplied};
 ghost use Rattle.cl_pool.specs.Calls.{IsOfTables};
 ghost use Rattle.cl_pool.specs.Seats.{IsSeatOf, MayDraw};
@@ -265,6 +266,7 @@ fn read<T: Told, S: Source<T>>(
     name: &Name,
 ) -> Reply<T>
     ensures replied { (x : Shown) → IsReplied x (Reading loader name.now) result }
+    ensures faults { Grows (told_faults result) (S.refused source.old) (S.refused source.new) }
 {
     match source.read(alloc, loader, name) {
         Ok(probe) => Reply::Probed(probe),

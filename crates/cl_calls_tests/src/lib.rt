@@ -11,6 +11,8 @@ mod faults;
 #[cfg(test)]
 mod given;
 #[cfg(test)]
+mod lineages;
+#[cfg(test)]
 mod links;
 #[cfg(test)]
 mod rounds;

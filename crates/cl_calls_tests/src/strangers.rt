@@ -1,16 +1,20 @@
 //! Values that belong elsewhere: probes of another search, findings of another script, homes of other loaders.
 
 use crate::given::{
-    APP, BOOT, CHILD_FIRST, FINAL, KID, PARENT_FIRST, PLAIN, PLUG, T, TOP, Told, class, class_name,
-    config, home, kind_of, registry, search, source,
+    APP, BOOT, CHILD_FIRST, KID, Kind, Named, PARENT_FIRST, PLUG, Step, Told, bytes_of, class,
+    class_name, config, do_report, final_file, home, kind_of, plain_file, registry, search, source,
 };
-use cl_delegation::Home;
+use cl_config::Config;
+use cl_delegation::{Home, Search};
 use cl_findings::Finding;
 use cl_hierarchy::Draft;
-use cl_model::{Event, LoaderId, Request, Untold};
-use cl_registry::{Registry, RegistryFault};
-use cl_source::{MemorySource, Source};
-use std::alloc::Global;
+use cl_model::{LoaderId, Request, Untold};
+use cl_names::Name;
+use cl_registry::{DefineRefused, Registry, RegistryFault};
+use cl_source::{MemorySource, Source, Telling};
+use std::alloc::{AllocError, Global};
+use std::process::Abort;
+use std::sync::Arc;
 use std::test::Fail;
 
 /// Of a loader and a name, the loaders that are probed while none has it.
@@ -21,6 +25,18 @@ const ORDERS: [(u16, &[u8], &[u16]); 4] = [
     (BOOT, b"p/X", &[BOOT]),
 ];
 
+/// Whether a search takes what a loader has of a name.
+fn is_taken(
+    alloc: Global,
+    nothing: &mut Telling<Untold>,
+    search: &mut Search<Untold>,
+    loader: u16,
+    name: &[u8],
+) -> Result<bool, Fail> {
+    let probe = nothing.read(alloc, LoaderId(loader), &class_name(alloc, name)?)?;
+    Ok(search.take(probe).is_ok())
+}
+
 /// A search asks for its probes in their order, takes each once, and hands back every other.
 #[test]
 fn probes_in_order(rt: HostRuntime) -> Result<(), Fail> {
@@ -29,20 +45,14 @@ fn probes_in_order(rt: HostRuntime) -> Result<(), Fail> {
     let mut nothing = MemorySource::new(alloc).tell::<Untold>();
     for (loader, name, order) in ORDERS {
         let mut search = search(alloc, &loaders, loader, name)?;
-        let name = class_name(alloc, name)?;
-        let other_name = class_name(alloc, b"p/Y")?;
         for place in order {
             assert!(rt; search.next_probe() == Some(LoaderId(*place)));
             let elsewhere = if *place == PLUG { KID } else { PLUG };
-            let probe = nothing.read(alloc, LoaderId(elsewhere), &name)?;
-            assert!(rt; search.take(probe).is_err());
-            let probe = nothing.read(alloc, LoaderId(*place), &other_name)?;
-            assert!(rt; search.take(probe).is_err());
-            let probe = nothing.read(alloc, LoaderId(*place), &name)?;
-            assert!(rt; search.take(probe).is_ok());
+            assert!(rt; !is_taken(alloc, &mut nothing, &mut search, elsewhere, name)?);
+            assert!(rt; !is_taken(alloc, &mut nothing, &mut search, *place, b"p/Y")?);
+            assert!(rt; is_taken(alloc, &mut nothing, &mut search, *place, name)?);
         }
-        let probe = nothing.read(alloc, LoaderId(loader), &name)?;
-        assert!(rt; search.take(probe).is_err());
+        assert!(rt; !is_taken(alloc, &mut nothing, &mut search, loader, name)?);
         assert!(rt; search.next_probe().is_none() && search.home().is_err());
     }
     Ok(())
@@ -56,26 +66,63 @@ fn define(
     tables: &mut Registry<Untold>,
     home: Home<Untold>,
 ) -> Result<Result<u16, Told>, Fail> {
-    let Ok(draft) = Draft::read(alloc, home) else {
-        return Err(Fail::new("no draft"));
+    let draft = drafted(alloc, home)?;
+    let (loader, name) = (draft.class().loader, draft.class().name.try_clone(alloc));
+    let Ok(name) = name else {
+        drop(draft);
+        return Err(Fail::new("out of memory"));
     };
-    let class = draft.class().try_clone(alloc)?;
-    let was_recorded = tables.look(class.loader, &class.name).is_some();
+    let was_recorded = is_recorded(tables, loader, &name);
     let back = match tables.define(alloc, draft) {
         Ok(row) => return Ok(Ok(row.file().flags())),
         Err(back) => back,
     };
-    let is_recorded = tables.look(class.loader, &class.name).is_some();
-    if is_recorded != was_recorded || *back.draft.class() != class {
+    if is_recorded(tables, loader, &name) != was_recorded || !is_of(&back.draft, loader, &name) {
+        drop(back);
         return Err(Fail::new("a refused definition left a trace"));
     }
-    if kind_of(&back.fault) != Told::Memory {
-        return Ok(Err(kind_of(&back.fault)));
+    let told = kind_of(&back.fault);
+    if told != Told::Memory {
+        drop(back);
+        return Ok(Err(told));
     }
+    again(rt, alloc, tables, back)
+}
+
+/// The draft of a home.
+fn drafted(alloc: Global, home: Home<Untold>) -> Result<Draft<Untold>, Fail> {
+    match Draft::read(alloc, home) {
+        Ok(draft) => Ok(draft),
+        Err(refused) => {
+            drop(refused);
+            Err(Fail::new("no draft"))
+        }
+    }
+}
+
+fn is_recorded(tables: &Registry<Untold>, loader: LoaderId, name: &Name) -> bool {
+    tables.look(loader, name).is_some()
+}
+
+fn is_of(draft: &Draft<Untold>, loader: LoaderId, name: &Name) -> bool {
+    draft.class().loader == loader && draft.class().name == *name
+}
+
+/// Asks for a definition once more, which came back for want of memory.
+fn again(
+    rt: &impl Print,
+    alloc: Global,
+    tables: &mut Registry<Untold>,
+    back: DefineRefused<Untold>,
+) -> Result<Result<u16, Told>, Fail> {
     println!(rt; "refused: Registry::define")?;
     match tables.define(alloc, back.draft) {
         Ok(row) => Ok(Ok(row.file().flags())),
-        Err(again) => Ok(Err(kind_of(&again.fault))),
+        Err(refused) => {
+            let told = kind_of(&refused.fault);
+            drop(refused);
+            Ok(Err(told))
+        }
     }
 }
 
@@ -119,21 +166,22 @@ enum Found {
 
 use Call::{Define, Initiate};
 use Found::{Changed, Elsewhere, Own};
+use Named::{T, Top};
 
 const STRAY: Result<u16, Told> = Err(Told::Stray);
 
 /// What is asked in order, of which home, and what is told: a file's flags, a defining loader, or the refusal.
-const STEPS: [(Call, Found, u16, &[u8], Result<u16, Told>); 15] = [
+const STEPS: [(Call, Found, u16, Named, Result<u16, Told>); 15] = [
     (Initiate, Elsewhere, KID, T, STRAY),
     (Define, Elsewhere, PLUG, T, STRAY),
-    (Define, Elsewhere, BOOT, TOP, STRAY),
+    (Define, Elsewhere, BOOT, Top, STRAY),
     // nothing is recorded that it could rest on
     (Define, Own, APP, T, STRAY),
     (Initiate, Own, PLUG, T, STRAY),
-    (Initiate, Own, APP, TOP, STRAY),
-    (Define, Own, BOOT, TOP, Ok(0x21)),
+    (Initiate, Own, APP, Top, STRAY),
+    (Define, Own, BOOT, Top, Ok(0x21)),
     (Define, Own, APP, T, STRAY),
-    (Initiate, Own, APP, TOP, Ok(BOOT)),
+    (Initiate, Own, APP, Top, Ok(BOOT)),
     (Define, Own, APP, T, Ok(0x21)),
     // a later definition does not replace it, whatever its file
     (Define, Changed, APP, T, Ok(0x21)),
@@ -143,6 +191,81 @@ const STEPS: [(Call, Found, u16, &[u8], Result<u16, Told>); 15] = [
     (Initiate, Elsewhere, KID, T, STRAY),
 ];
 
+/// The history that the steps leave, and a post.
+const HISTORY: [Step; 5] = [
+    (Kind::Define, BOOT, Top, 0),
+    (Kind::Initiate, BOOT, Top, APP),
+    (Kind::Define, APP, T, 0),
+    (Kind::Initiate, APP, T, PLUG),
+    (Kind::Post, 0, T, 0),
+];
+
+/// Asks a registry to do something with the home of a name at a loader.
+fn ask(
+    rt: &impl Print,
+    alloc: Global,
+    tables: &mut Registry<Untold>,
+    call: Call,
+    home: Home<Untold>,
+) -> Result<Result<u16, Told>, Fail> {
+    match call {
+        Define => define(rt, alloc, tables, home),
+        Initiate => initiate(rt, alloc, tables, &home),
+    }
+}
+
+/// Whether the tables take the answer that `plug` found a class of this loader.
+fn is_posted(
+    alloc: Global,
+    tables: &mut Registry<Untold>,
+    loader: u16,
+) -> Result<bool, AllocError> {
+    let found = class(alloc, loader, bytes_of(T))?;
+    let request = Request::Load(LoaderId(PLUG), class_name(alloc, bytes_of(T))?);
+    match tables.post(0, Finding::class(request, found)) {
+        Ok(()) => Ok(true),
+        Err(refused) => {
+            drop(refused);
+            Ok(false)
+        }
+    }
+}
+
+/// The home of a name in a source where `p/T` has these bytes.
+fn home_among(
+    alloc: Global,
+    loaders: &Arc<Config>,
+    bytes: &[u8],
+    loader: u16,
+    name: Named,
+) -> Result<Home<Untold>, AllocError> {
+    let mut source = source(alloc, bytes)?;
+    home(alloc, loaders, &mut source, loader, bytes_of(name))
+}
+
+/// Asks the steps of tables, and posts two answers.
+fn ask_steps<R: Abort + Print>(
+    rt: &R,
+    alloc: Global,
+    tables: &mut Registry<Untold>,
+    own: &Arc<Config>,
+    other: &Arc<Config>,
+) -> Result<(), Fail> {
+    for (call, found, loader, name, wanted) in STEPS {
+        let loaders = if found == Elsewhere { other } else { own };
+        let bytes = if found == Changed {
+            final_file()
+        } else {
+            plain_file()
+        };
+        let home = home_among(alloc, loaders, bytes, loader, name)?;
+        assert!(rt; ask(rt, alloc, tables, call, home)? == wanted);
+    }
+    assert!(rt; !is_posted(alloc, tables, PLUG)?);
+    assert!(rt; is_posted(alloc, tables, APP)?);
+    Ok(())
+}
+
 /// What was found under other loaders is strayed and changes nothing, though their numbers are the same; a class is recorded
 /// once its supertypes are, and what is recorded stays.
 #[test]
@@ -151,33 +274,9 @@ fn strangers_change_nothing(rt: HostRuntime) -> Result<(), Fail> {
     let own = config(alloc, PARENT_FIRST)?;
     let other = config(alloc, CHILD_FIRST)?;
     let mut tables = registry(alloc, &own, "load plug p/T")?;
-    for (call, found, loader, name, wanted) in STEPS {
-        let loaders = if found == Elsewhere { &other } else { &own };
-        let bytes = if found == Changed { FINAL } else { PLAIN };
-        let mut files = source(alloc, bytes)?;
-        let home = home(alloc, loaders, &mut files, loader, name)?;
-        let answer = if call == Define {
-            define(&rt, alloc, &mut tables, home)?
-        } else {
-            initiate(&rt, alloc, &mut tables, &home)?
-        };
-        assert!(rt; answer == wanted);
-    }
-    for (loader, is_posted) in [(PLUG, false), (APP, true)] {
-        let request = Request::Load(LoaderId(PLUG), class_name(alloc, T)?);
-        let said = Finding::class(request, class(alloc, loader, T)?);
-        assert!(rt; tables.post(0, said).is_ok() == is_posted);
-    }
-    let Ok(report) = tables.into_report() else {
-        return Err(Fail::new("no report"));
-    };
-    let history = [
-        Event::Define(class(alloc, BOOT, TOP)?),
-        Event::Initiate(class(alloc, BOOT, TOP)?, LoaderId(APP)),
-        Event::Define(class(alloc, APP, T)?),
-        Event::Initiate(class(alloc, APP, T)?, LoaderId(PLUG)),
-        Event::Post(0),
-    ];
-    assert!(rt; report.history.events() == history.as_slice());
+    ask_steps(&rt, alloc, &mut tables, &own, &other)?;
+    drop(own);
+    drop(other);
+    assert!(rt; do_report(tables, &HISTORY));
     Ok(())
 }

@@ -1,9 +1,9 @@
 //! A task and its replies.
 
-use crate::given::{APP, BOOT, LOADERS, PLAIN, TOP, class_name, put};
+use crate::given::{APP, BOOT, LOADERS, Named, bytes_of, class_name, source};
 use cl_config::Config;
 use cl_model::{Answer, LoaderId, Request, Untold};
-use cl_source::{MemorySource, Source, SourceFault, Telling};
+use cl_source::{Source, SourceFault, Telling};
 use cl_tasks::{Reply, Task, Turn};
 use std::alloc::{AllocError, Global};
 use std::sync::Arc;
@@ -32,7 +32,7 @@ enum Told {
     /// That nothing is recorded.
     Unrecorded,
     /// What a loader has for a name.
-    Read(u16, &'static [u8]),
+    Read(u16, Named),
     Fault,
     Memory,
 }
@@ -59,7 +59,7 @@ fn reply(
         Told::Fault => Ok(Reply::SourceFault(SourceFault::Device)),
         Told::Memory => Ok(Reply::Memory),
         Told::Read(loader, name) => {
-            let name = class_name(alloc, name)?;
+            let name = class_name(alloc, bytes_of(name))?;
             Ok(Reply::Probed(source.read(alloc, LoaderId(loader), &name)?))
         }
     }
@@ -88,10 +88,10 @@ const TURNS: [(Told, Does); 13] = [
     (Told::Start, Does::ExpectsAnother),
     (Told::Fault, Does::ExpectsAnother),
     (Told::Unrecorded, Does::Reads(BOOT)),
-    (Told::Read(APP, b"p/T"), Does::ExpectsAnother),
-    (Told::Read(BOOT, TOP), Does::ExpectsAnother),
+    (Told::Read(APP, Named::T), Does::ExpectsAnother),
+    (Told::Read(BOOT, Named::Top), Does::ExpectsAnother),
     // found: what has the home recorded?
-    (Told::Read(BOOT, b"p/T"), Does::Looks(BOOT)),
+    (Told::Read(BOOT, Named::T), Does::Looks(BOOT)),
     (Told::Unrecorded, Does::Looks(BOOT)),
     (Told::Unrecorded, Does::Reads(BOOT)),
     (Told::Unrecorded, Does::ExpectsAnother),
@@ -99,18 +99,15 @@ const TURNS: [(Told, Does); 13] = [
     (Told::Memory, Does::ExpectsAnother),
 ];
 
+/// A source that has `p/T` in the first loader.
+fn plain(alloc: Global) -> Result<Telling<Untold>, AllocError> {
+    Ok(source(alloc, &[(BOOT, Named::T)])?.tell::<Untold>())
+}
+
 #[test]
 fn replies_are_expected_in_turn(rt: HostRuntime) -> Result<(), Fail> {
     let alloc = rt.alloc();
-    let mut source = MemorySource::new(alloc);
-    put(
-        alloc,
-        &mut source,
-        BOOT,
-        b"p/T",
-        Vec::from_slice(alloc, PLAIN)?,
-    )?;
-    let mut source = source.tell::<Untold>();
+    let mut source = plain(alloc)?;
     let mut task = task(alloc)?;
     for (told, does) in TURNS {
         let reply = reply(alloc, &mut source, told)?;

@@ -11,23 +11,25 @@ use std::fmt::Display;
 use std::test::Fail;
 
 /// Adds the text of a fault, as a line.
-fn tell<F: Display>(alloc: Global, told: &mut String, fault: &F) -> Result<(), AllocError> {
-    let text = fault.to_string(alloc)?;
+fn tell<F: Display + Drop>(alloc: Global, told: &mut String, fault: F) -> Result<(), AllocError> {
+    let text = fault.to_string(alloc);
+    drop(fault);
+    let text = text?;
     told.push_str(text.as_str())?;
     told.push_str("\n")
 }
 
 fn tell_sources(alloc: Global, told: &mut String) -> Result<(), AllocError> {
-    tell(alloc, told, &SourceFault::Memory)?;
-    tell(alloc, told, &SourceFault::Device)?;
-    tell(alloc, told, &SourceFault::TooLarge)?;
-    tell(alloc, told, &SourceFault::Twice)
+    tell(alloc, told, SourceFault::Memory)?;
+    tell(alloc, told, SourceFault::Device)?;
+    tell(alloc, told, SourceFault::TooLarge)?;
+    tell(alloc, told, SourceFault::Twice)
 }
 
 fn tell_drafts(alloc: Global, told: &mut String) -> Result<(), AllocError> {
-    tell(alloc, told, &DraftFault::Format(Fault::Trailing))?;
-    tell(alloc, told, &DraftFault::Version)?;
-    tell(alloc, told, &DraftFault::OtherName)
+    tell(alloc, told, DraftFault::Format(Fault::Trailing))?;
+    tell(alloc, told, DraftFault::Version)?;
+    tell(alloc, told, DraftFault::OtherName)
 }
 
 fn violated(alloc: Global) -> Result<RegistryFault, AllocError> {
@@ -39,14 +41,11 @@ fn violated(alloc: Global) -> Result<RegistryFault, AllocError> {
 }
 
 fn tell_registries(alloc: Global, told: &mut String) -> Result<(), AllocError> {
-    tell(alloc, told, &RegistryFault::Memory)?;
-    tell(alloc, told, &RegistryFault::Stray)?;
-    let violated = violated(alloc)?;
-    let done = tell(alloc, told, &violated);
-    drop(violated);
-    done?;
-    tell(alloc, told, &RegistryFault::AlreadyPosted)?;
-    tell(alloc, told, &RegistryFault::NotYet)
+    tell(alloc, told, RegistryFault::Memory)?;
+    tell(alloc, told, RegistryFault::Stray)?;
+    tell(alloc, told, violated(alloc)?)?;
+    tell(alloc, told, RegistryFault::AlreadyPosted)?;
+    tell(alloc, told, RegistryFault::NotYet)
 }
 
 #[test]

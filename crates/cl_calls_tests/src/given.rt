@@ -2,10 +2,11 @@
 
 use cl_config::{Config, Script};
 use cl_delegation::{Home, Search};
+use cl_findings::Finding;
 use cl_hierarchy::Draft;
 use cl_model::{Class, Equality, Event, LoaderId, Untold};
 use cl_names::Name;
-use cl_registry::{DefineRefused, Registry, RegistryFault};
+use cl_registry::{DefineRefused, PostRefused, Registry, RegistryFault};
 use cl_source::{MemorySource, Source, Telling};
 use std::alloc::{AllocError, Global};
 use std::sync::Arc;
@@ -211,17 +212,17 @@ pub fn search(
     }
 }
 
-/// Whether a search takes what a source has for its name at the loader that is asked next.
-fn is_taken(
+/// Whether a search takes what a source has for a name of a loader.
+pub fn is_taken(
     alloc: Global,
     source: &mut Telling<Untold>,
     search: &mut Search<Untold>,
-    place: LoaderId,
+    loader: LoaderId,
     name: &Name,
-) -> bool {
-    match source.read(alloc, place, name) {
-        Ok(probe) => search.take(probe).is_ok(),
-        Err(_) => false,
+) -> Result<bool, AllocError> {
+    match source.read(alloc, loader, name) {
+        Ok(probe) => Ok(search.take(probe).is_ok()),
+        Err(_) => Err(AllocError),
     }
 }
 
@@ -231,16 +232,16 @@ fn is_ended(
     source: &mut Telling<Untold>,
     search: &mut Search<Untold>,
     name: &Name,
-) -> bool {
+) -> Result<bool, AllocError> {
     for _ in 0..64 {
         let Some(next) = search.next_probe() else {
-            return true;
+            return Ok(true);
         };
-        if !is_taken(alloc, source, search, next, name) {
-            return false;
+        if !is_taken(alloc, source, search, next, name)? {
+            return Ok(false);
         }
     }
-    false
+    Ok(false)
 }
 
 /// The home of a name at a loader, which has to have one.
@@ -253,7 +254,7 @@ pub fn home(
 ) -> Result<Home<Untold>, AllocError> {
     let wanted = class_name(alloc, name)?;
     let mut search = search(alloc, config, loader, name)?;
-    if !is_ended(alloc, source, &mut search, &wanted) {
+    if is_ended(alloc, source, &mut search, &wanted) != Ok(true) {
         drop(search);
         return Err(AllocError);
     }
@@ -284,19 +285,39 @@ pub fn registry(
     }
 }
 
+/// The draft of a home.
+pub fn drafted(alloc: Global, home: Home<Untold>) -> Result<Draft<Untold>, AllocError> {
+    match Draft::read(alloc, home) {
+        Ok(draft) => Ok(draft),
+        Err(refused) => {
+            drop(refused);
+            Err(AllocError)
+        }
+    }
+}
+
+/// What the tables tell of an answer.
+pub fn posted(tables: &mut Registry<Untold>, q: u32, finding: Finding<Untold>) -> Told {
+    match tables.post(q, finding) {
+        Ok(()) => Told::Done,
+        Err(refused) => unposted(refused),
+    }
+}
+
+/// What an answer that comes back tells.
+fn unposted(refused: PostRefused<Untold>) -> Told {
+    let told = kind_of(&refused.fault);
+    drop(refused);
+    told
+}
+
 /// What the tables tell of a class that its home defines.
 fn define(
     alloc: Global,
     tables: &mut Registry<Untold>,
     home: Home<Untold>,
 ) -> Result<Told, AllocError> {
-    let draft = match Draft::read(alloc, home) {
-        Ok(draft) => draft,
-        Err(refused) => {
-            drop(refused);
-            return Err(AllocError);
-        }
-    };
+    let draft = drafted(alloc, home)?;
     match tables.define(alloc, draft) {
         Ok(row) => {
             drop(row);
@@ -307,7 +328,7 @@ fn define(
 }
 
 /// What a definition that comes back tells.
-fn refusal(back: DefineRefused<Untold>) -> Told {
+pub fn refusal(back: DefineRefused<Untold>) -> Told {
     let told = kind_of(&back.fault);
     drop(back);
     told

@@ -1,20 +1,22 @@
 //! Lineages, and what is accessible to whom: what stands above a class, each ancestor once and supertypes first.
 
+use crate::access::ask_access;
 use crate::given::{
-    APP, BOOT, CHILD_FIRST, PLUG, Told, class_name, config, object_file, record, registry, with,
+    APP, BOOT, CHILD_FIRST, Told, class_name, config, object_file, record, registry, with,
 };
 use cl_config::Config;
-use cl_hierarchy::{ClassRow, Lineage, class_accessible, member_accessible};
+use cl_hierarchy::{ClassRow, Lineage};
 use cl_model::{Class, LoaderId, Untold};
 use cl_names::Name;
 use cl_registry::Registry;
 use cl_source::MemorySource;
 use std::alloc::{AllocError, Global};
+use std::process::Abort;
 use std::sync::Arc;
 use std::test::Fail;
 
 /// Classes stand in tables by their numbers: `p/C0`, `p/C1` and on, but for those that have names of their own.
-const TOP: u16 = 20_000;
+pub const TOP: u16 = 20_000;
 
 const J1: u16 = 20_001;
 
@@ -24,22 +26,22 @@ const J3: u16 = 20_003;
 
 const D: u16 = 20_004;
 
-const P: u16 = 20_005;
+pub const P: u16 = 20_005;
 
-const Q: u16 = 20_006;
+pub const Q: u16 = 20_006;
 
-const R: u16 = 20_007;
+pub const R: u16 = 20_007;
 
-const H: u16 = 20_008;
+pub const H: u16 = 20_008;
 
-const QD: u16 = 20_009;
+pub const QD: u16 = 20_009;
 
-const QE: u16 = 20_010;
+pub const QE: u16 = 20_010;
 
 /// No class, at the end of a row.
-const NONE: u16 = 20_011;
+pub const NONE: u16 = 20_011;
 
-fn named(alloc: Global, class: u16) -> Result<Name, AllocError> {
+pub fn named(alloc: Global, class: u16) -> Result<Name, AllocError> {
     match class {
         TOP => class_name(alloc, b"java/lang/Object"),
         J1 => class_name(alloc, b"p/J1"),
@@ -75,7 +77,7 @@ fn put_class(alloc: Global, bytes: &mut Vec<u8>, index: u16, class: u16) -> Resu
 }
 
 /// A class with no members: its flags, itself, its superclass and its superinterfaces.
-type Row = (u16, [u16; 5]);
+pub type Row = (u16, [u16; 5]);
 
 /// How many classes a row names.
 fn count_of(classes: &[u16]) -> u16 {
@@ -115,7 +117,7 @@ fn file(alloc: Global, row: &Row) -> Result<Vec<u8>, AllocError> {
 }
 
 /// Has `app` define a class.
-fn define(
+pub fn define(
     alloc: Global,
     tables: &mut Registry<Untold>,
     config: &Arc<Config>,
@@ -187,7 +189,7 @@ fn are_of(
 }
 
 /// The lineage of a class of `app`.
-fn lineage(
+pub fn lineage(
     alloc: Global,
     tables: &Registry<Untold>,
     class: u16,
@@ -202,7 +204,7 @@ fn lineage(
     }
 }
 
-fn class_of(alloc: Global, class: u16) -> Result<Class, AllocError> {
+pub fn class_of(alloc: Global, class: u16) -> Result<Class, AllocError> {
     Ok(Class {
         name: named(alloc, class)?,
         loader: LoaderId(APP),
@@ -238,36 +240,36 @@ fn has_superinterfaces(
     is_so
 }
 
-const CLASS: u16 = 0x21;
+pub const CLASS: u16 = 0x21;
 
 const INTERFACE: u16 = 0x601;
 
-/// A class with three superinterfaces, and a diamond over `p/C0`.
+/// A class with three superinterfaces, and a diamond over `p/C6000`.
 const CLASSES: [Row; 8] = [
     (INTERFACE, [J3, TOP, NONE, NONE, NONE]),
     (INTERFACE, [J1, TOP, NONE, NONE, NONE]),
     (INTERFACE, [J2, TOP, NONE, NONE, NONE]),
     (CLASS, [D, TOP, J3, J1, J2]),
-    (INTERFACE, [0, TOP, NONE, NONE, NONE]),
-    (INTERFACE, [1, TOP, 0, NONE, NONE]),
-    (INTERFACE, [2, TOP, 0, NONE, NONE]),
-    (CLASS, [3, TOP, 1, 2, NONE]),
+    (INTERFACE, [6000, TOP, NONE, NONE, NONE]),
+    (INTERFACE, [6001, TOP, 6000, NONE, NONE]),
+    (INTERFACE, [6002, TOP, 6000, NONE, NONE]),
+    (CLASS, [6003, TOP, 6001, 6002, NONE]),
 ];
 
 /// A class has each ancestor once, supertypes first; its superinterfaces stand each at its first place.
-#[test]
-fn classes_stand_in_order(rt: HostRuntime) -> Result<(), Fail> {
-    let alloc = rt.alloc();
-    let loaders = config(alloc, CHILD_FIRST)?;
-    let mut tables = registry(alloc, &loaders, "")?;
-    assert!(rt; define_top(alloc, &mut tables, &loaders)?);
+fn ask_classes<R: Abort>(
+    rt: &R,
+    alloc: Global,
+    tables: &mut Registry<Untold>,
+    config: &Arc<Config>,
+) -> Result<(), AllocError> {
     for row in &CLASSES {
-        assert!(rt; define(alloc, &mut tables, &loaders, row)?);
+        assert!(rt; define(alloc, tables, config, row)?);
     }
-    assert!(rt; stands_under(alloc, &tables, D, &[TOP, J3, J1, J2])?);
-    assert!(rt; has_superinterfaces(alloc, &tables, D, &[J3, J1, J2])?);
-    assert!(rt; stands_under(alloc, &tables, 3, &[TOP, 0, 1, 2])?);
-    assert!(rt; has_superinterfaces(alloc, &tables, 3, &[1, 0, 2])?);
+    assert!(rt; stands_under(alloc, tables, D, &[TOP, J3, J1, J2])?);
+    assert!(rt; has_superinterfaces(alloc, tables, D, &[J3, J1, J2])?);
+    assert!(rt; stands_under(alloc, tables, 6003, &[TOP, 6000, 6001, 6002])?);
+    assert!(rt; has_superinterfaces(alloc, tables, 6003, &[6001, 6000, 6002])?);
     Ok(())
 }
 
@@ -286,11 +288,11 @@ fn rung(number: u16) -> Row {
     }
 }
 
-/// `java/lang/Object`, and the first numbers.
-fn numbers(alloc: Global, count: u16) -> Result<Vec<u16>, AllocError> {
+/// `java/lang/Object`, and the numbers from one to before another.
+fn numbers(alloc: Global, first: u16, end: u16) -> Result<Vec<u16>, AllocError> {
     let mut numbers = Vec::new(alloc);
     numbers.push(TOP)?;
-    for number in 0..count {
+    for number in first..end {
         numbers.push(number)?;
     }
     Ok(numbers)
@@ -310,29 +312,31 @@ fn sides(alloc: Global) -> Result<Vec<u16>, AllocError> {
     Ok(sides)
 }
 
-/// Of a ladder of diamonds each interface is told once, though there are 2^60 ways down.
-#[test]
-fn a_ladder_stands_in_order(rt: HostRuntime) -> Result<(), Fail> {
-    let alloc = rt.alloc();
-    let loaders = config(alloc, CHILD_FIRST)?;
-    let above = numbers(alloc, RUNGS)?;
-    let sides = sides(alloc)?;
-    let mut tables = registry(alloc, &loaders, "")?;
-    assert!(rt; define_top(alloc, &mut tables, &loaders)?);
+/// Of a ladder of diamonds each interface is told once, though there are 2^60 ways up.
+fn ask_ladder<R: Abort>(
+    rt: &R,
+    alloc: Global,
+    tables: &mut Registry<Untold>,
+    config: &Arc<Config>,
+) -> Result<(), AllocError> {
     for number in 0..=RUNGS {
-        assert!(rt; define(alloc, &mut tables, &loaders, &rung(number))?);
+        assert!(rt; define(alloc, tables, config, &rung(number))?);
     }
-    assert!(rt; stands_under(alloc, &tables, RUNGS, above.as_slice())?);
-    assert!(rt; has_superinterfaces(alloc, &tables, RUNGS, sides.as_slice())?);
+    let above = numbers(alloc, 0, RUNGS)?;
+    assert!(rt; stands_under(alloc, tables, RUNGS, above.as_slice())?);
+    let sides = sides(alloc)?;
+    assert!(rt; has_superinterfaces(alloc, tables, RUNGS, sides.as_slice())?);
     Ok(())
 }
 
-/// How many superclasses the last class of a chain has, but for `java/lang/Object`.
-const LINKS: u16 = 4999;
+/// The first class of a chain of 5,000, and its last.
+const FIRST: u16 = 1000;
+
+const LAST: u16 = 5999;
 
 /// A class of a chain, over the one before it.
 fn link(number: u16) -> Row {
-    let above = if number == 0 {
+    let above = if number == FIRST {
         TOP
     } else {
         number.saturating_sub(1)
@@ -341,7 +345,7 @@ fn link(number: u16) -> Row {
 }
 
 /// Whether a class has another as a proper superclass.
-fn is_subclass(
+pub fn is_subclass(
     alloc: Global,
     tables: &Registry<Untold>,
     class: u16,
@@ -355,128 +359,46 @@ fn is_subclass(
 }
 
 /// Five thousand classes over one another.
-#[test]
-fn a_chain_stands_in_order(rt: HostRuntime) -> Result<(), Fail> {
-    let alloc = rt.alloc();
-    let loaders = config(alloc, CHILD_FIRST)?;
-    let above = numbers(alloc, LINKS)?;
-    let mut tables = registry(alloc, &loaders, "")?;
-    assert!(rt; define_top(alloc, &mut tables, &loaders)?);
-    for number in 0..=LINKS {
-        assert!(rt; define(alloc, &mut tables, &loaders, &link(number))?);
+fn ask_chain<R: Abort>(
+    rt: &R,
+    alloc: Global,
+    tables: &mut Registry<Untold>,
+    config: &Arc<Config>,
+) -> Result<(), AllocError> {
+    for number in FIRST..=LAST {
+        assert!(rt; define(alloc, tables, config, &link(number))?);
     }
-    assert!(rt; stands_under(alloc, &tables, LINKS, above.as_slice())?);
-    assert!(rt; has_superinterfaces(alloc, &tables, LINKS, &[])?);
-    assert!(rt; is_subclass(alloc, &tables, LINKS, 0)?);
-    assert!(rt; !is_subclass(alloc, &tables, 0, LINKS)?);
+    let above = numbers(alloc, FIRST, LAST)?;
+    assert!(rt; stands_under(alloc, tables, LAST, above.as_slice())?);
+    assert!(rt; has_superinterfaces(alloc, tables, LAST, &[])?);
+    assert!(rt; is_subclass(alloc, tables, LAST, FIRST)?);
+    assert!(rt; !is_subclass(alloc, tables, FIRST, LAST)?);
     Ok(())
 }
 
-/// The classes of the tables of access, of which `p/H` is not public.
-const PACKAGES: [Row; 6] = [
-    (CLASS, [P, TOP, NONE, NONE, NONE]),
-    (CLASS, [Q, P, NONE, NONE, NONE]),
-    (CLASS, [QD, P, NONE, NONE, NONE]),
-    (CLASS, [QE, QD, NONE, NONE, NONE]),
-    (CLASS, [R, TOP, NONE, NONE, NONE]),
-    (0x20, [H, TOP, NONE, NONE, NONE]),
-];
-
-const PACKAGE: u16 = 0;
-
-const PRIVATE: u16 = 2;
-
-const PROTECTED: u16 = 4;
-
-const STATIC: u16 = 0xc;
-
-/// From which class, the class that declares a member, the member's flags, through which class, and whether it is accessible
-/// so (JVMS SE 8, 5.4.4).
-const MEMBERS: [(u16, u16, u16, u16, bool); 15] = [
-    (QD, P, PROTECTED, P, true),
-    (QD, P, PROTECTED, QD, true),
-    (QD, P, PROTECTED, QE, true),
-    (QD, P, PROTECTED, Q, false),
-    (QD, P, STATIC, Q, true),
-    (QD, P, PACKAGE, P, false),
-    (QD, P, PRIVATE, P, false),
-    (QD, QD, PRIVATE, QD, true),
-    (QD, R, PROTECTED, R, false),
-    (QD, R, STATIC, R, false),
-    (R, P, PACKAGE, P, true),
-    (R, P, PRIVATE, P, false),
-    (R, P, PROTECTED, QD, true),
-    (R, P, PROTECTED, Q, true),
-    (QD, R, 1, R, true),
-];
-
-/// Whether a member that a class declares with these flags is accessible to another through a third.
-fn is_open(
+/// Asks all of tables in which nothing is recorded.
+fn ask_all<R: Abort>(
+    rt: &R,
     alloc: Global,
-    tables: &Registry<Untold>,
-    from: u16,
-    owner: u16,
-    flags: u16,
-    through: u16,
-) -> Result<bool, AllocError> {
-    let owner = class_of(alloc, owner)?;
-    let through = lineage(alloc, tables, through)?;
-    let is_open = match lineage(alloc, tables, from) {
-        Ok(from) => {
-            let is_open = member_accessible(&from, &owner, flags, &through);
-            drop(from);
-            Ok(is_open)
-        }
-        Err(fault) => Err(fault),
-    };
-    drop(through);
-    is_open
+    tables: &mut Registry<Untold>,
+    config: &Arc<Config>,
+) -> Result<(), AllocError> {
+    assert!(rt; define_top(alloc, tables, config)?);
+    ask_classes(rt, alloc, tables, config)?;
+    ask_ladder(rt, alloc, tables, config)?;
+    ask_chain(rt, alloc, tables, config)?;
+    ask_access(rt, alloc, tables, config)
 }
 
-/// A class, the class that asks for it and the loader of that, and whether it is accessible so (JVMS SE 8, 5.4.4).
-const SEEN: [(u16, u16, u16, bool); 6] = [
-    (P, QD, APP, true),
-    (P, P, PLUG, true),
-    (H, P, APP, true),
-    (H, H, APP, true),
-    (H, QD, APP, false),
-    (H, P, PLUG, false),
-];
-
-/// Whether a class of `app` is accessible to another.
-fn is_seen(
-    alloc: Global,
-    tables: &Registry<Untold>,
-    class: u16,
-    from: u16,
-    loader: u16,
-) -> Result<bool, AllocError> {
-    let name = named(alloc, class)?;
-    let from = Class {
-        name: named(alloc, from)?,
-        loader: LoaderId(loader),
-    };
-    match tables.look(LoaderId(APP), &name) {
-        Some(row) => Ok(class_accessible(row, &from)),
-        None => Err(AllocError),
-    }
-}
-
-/// Members and classes are accessible just as the tables say.
+/// Lineages of worked examples, of a diamond, of a ladder of diamonds and of a long chain, and what is accessible to whom.
 #[test]
-fn access_is_told(rt: HostRuntime) -> Result<(), Fail> {
+fn lineages_and_access(rt: HostRuntime) -> Result<(), Fail> {
     let alloc = rt.alloc();
     let loaders = config(alloc, CHILD_FIRST)?;
     let mut tables = registry(alloc, &loaders, "")?;
-    assert!(rt; define_top(alloc, &mut tables, &loaders)?);
-    for row in &PACKAGES {
-        assert!(rt; define(alloc, &mut tables, &loaders, row)?);
-    }
-    for (from, owner, flags, through, wanted) in MEMBERS {
-        assert!(rt; is_open(alloc, &tables, from, owner, flags, through)? == wanted);
-    }
-    for (class, from, loader, wanted) in SEEN {
-        assert!(rt; is_seen(alloc, &tables, class, from, loader)? == wanted);
-    }
+    let asked = ask_all(&rt, alloc, &mut tables, &loaders);
+    drop(tables);
+    drop(loaders);
+    asked?;
     Ok(())
 }

@@ -2,7 +2,8 @@
 
 use crate::given::{
     APP, BOOT, CHILD_FIRST, Kind, Named, PARENT_FIRST, PLUG, Step, Told, bytes_of, class,
-    class_name, config, do_report, kind_of, object_file, plain_file, record, registry, with,
+    class_name, config, do_report, kind_of, object_file, plain_file, posted, record, registry,
+    with,
 };
 use cl_config::Config;
 use cl_findings::Finding;
@@ -52,15 +53,17 @@ fn list(
     Ok(constraints_of(alloc, &lineage)?)
 }
 
-/// What a registry is asked: to record a name at a loader; of a class, to impose the constraint at a place, or to mark it.
-#[derive(Clone, Copy)]
+/// What a registry is asked: to record a name at a loader; of a class, to impose the first constraint of its list, or one past
+/// its end, or to mark it.
+#[derive(Clone, Copy, PartialEq, Eq)]
 enum Call {
     Record,
-    Impose(usize),
+    Impose,
+    ImposePast,
     Mark,
 }
 
-use Call::{Impose, Mark, Record};
+use Call::{Impose, ImposePast, Mark, Record};
 use Named::{Base, Sub, T, Top};
 use Told::{Done, Stray, Violates};
 
@@ -74,9 +77,9 @@ const STEPS: [(Call, u16, Named, Told); 20] = [
     (Record, PLUG, Sub, Done),
     // its constraint does not stand yet
     (Mark, PLUG, Sub, Stray),
-    (Impose(1), PLUG, Sub, Stray),
-    (Impose(0), PLUG, Sub, Done),
-    (Impose(0), PLUG, Sub, Done),
+    (ImposePast, PLUG, Sub, Stray),
+    (Impose, PLUG, Sub, Done),
+    (Impose, PLUG, Sub, Done),
     // what stands above it is not prepared
     (Mark, PLUG, Sub, Stray),
     (Mark, APP, Base, Stray),
@@ -87,7 +90,7 @@ const STEPS: [(Call, u16, Named, Told); 20] = [
     (Record, APP, T, Done),
     (Record, PLUG, Top, Done),
     (Record, PLUG, T, Violates),
-    (Impose(0), PLUG, Sub, Done),
+    (Impose, PLUG, Sub, Done),
 ];
 
 /// The same where both loaders have recorded a class `p/T` before.
@@ -100,7 +103,7 @@ const CLASHES: [(Call, u16, Named, Told); 11] = [
     (Record, APP, Base, Done),
     (Record, PLUG, Base, Done),
     (Record, PLUG, Sub, Done),
-    (Impose(0), PLUG, Sub, Violates),
+    (Impose, PLUG, Sub, Violates),
     (Mark, PLUG, Sub, Stray),
     (Mark, BOOT, Top, Done),
 ];
@@ -109,13 +112,8 @@ const CLASHES: [(Call, u16, Named, Told); 11] = [
 fn is_posted(alloc: Global, tables: &mut Registry<Untold>) -> Result<bool, AllocError> {
     let sub = class(alloc, PLUG, bytes_of(Sub))?;
     let request = Request::Link(LoaderId(PLUG), class_name(alloc, bytes_of(Sub))?);
-    match tables.post(0, Finding::linked(request, sub)) {
-        Ok(()) => Ok(true),
-        Err(refused) => {
-            drop(refused);
-            Ok(false)
-        }
-    }
+    let linked = Finding::linked(request, sub);
+    Ok(posted(tables, 0, linked) == Done)
 }
 
 fn asked(
@@ -126,21 +124,33 @@ fn asked(
 ) -> Result<Told, AllocError> {
     let (call, loader, name) = step;
     let name = bytes_of(name);
-    if let Record = call {
+    if call == Record {
         return record(alloc, tables, config, files(alloc)?, loader, name);
     }
-    let list = match list(alloc, tables, &class(alloc, loader, name)?) {
-        Ok(list) => list,
-        Err(fault) => return Ok(kind_of(&fault)),
-    };
+    let class = class(alloc, loader, name)?;
+    match list(alloc, tables, &class) {
+        Ok(list) => Ok(asked_of(alloc, tables, call, list)),
+        Err(fault) => Ok(kind_of(&fault)),
+    }
+}
+
+/// What the tables tell of a list.
+fn asked_of(
+    alloc: Global,
+    tables: &mut Registry<Untold>,
+    call: Call,
+    list: Equalities<Untold>,
+) -> Told {
     let done = match call {
-        Impose(place) => tables.impose(alloc, &list, place),
+        Impose => tables.impose(alloc, &list, 0),
+        ImposePast => tables.impose(alloc, &list, 1),
         _ => tables.mark_prepared(alloc, &list),
     };
-    Ok(match done {
+    drop(list);
+    match done {
         Ok(()) => Done,
         Err(fault) => kind_of(&fault),
-    })
+    }
 }
 
 /// The history that the steps leave.
@@ -174,19 +184,42 @@ fn ask_all<R: Abort>(
     Ok(())
 }
 
+/// Records in tables of other loaders what the steps record.
+fn record_all(
+    alloc: Global,
+    tables: &mut Registry<Untold>,
+    other: &Arc<Config>,
+) -> Result<(), AllocError> {
+    for (call, loader, name, _) in STEPS {
+        if call == Record {
+            let _ = asked(alloc, tables, other, (call, loader, name))?;
+        }
+    }
+    Ok(())
+}
+
+/// The list of the subclass by tables in which it is recorded.
+fn sub_list(alloc: Global, tables: &Registry<Untold>) -> Result<Equalities<Untold>, AllocError> {
+    let sub = class(alloc, PLUG, bytes_of(Sub))?;
+    match list(alloc, tables, &sub) {
+        Ok(list) => Ok(list),
+        Err(_) => Err(AllocError),
+    }
+}
+
 /// The list of the subclass by tables of other loaders, in which the same is recorded.
 fn strange_list(alloc: Global) -> Result<Equalities<Untold>, AllocError> {
     let other = config(alloc, PARENT_FIRST)?;
     let mut elsewhere = registry(alloc, &other, "link plug q/C")?;
-    for (call, loader, name, _) in STEPS {
-        if let Record = call {
-            let _ = asked(alloc, &mut elsewhere, &other, (call, loader, name))?;
-        }
-    }
-    match list(alloc, &elsewhere, &class(alloc, PLUG, bytes_of(Sub))?) {
-        Ok(list) => Ok(list),
-        Err(_) => Err(AllocError),
-    }
+    let recorded = record_all(alloc, &mut elsewhere, &other);
+    drop(other);
+    let list = if recorded.is_ok() {
+        sub_list(alloc, &elsewhere)
+    } else {
+        Err(AllocError)
+    };
+    drop(elsewhere);
+    list
 }
 
 /// Whether the tables take neither a constraint of a list of other loaders nor its class as prepared.

@@ -2,7 +2,7 @@
 
 use crate::given::{
     APP, CHILD_FIRST, Kind, Named, PLUG, Step, Told, are_steps, bytes_of, class_name, config,
-    kind_of, registry,
+    posted, registry,
 };
 use cl_findings::Finding;
 use cl_model::{Answer, LoaderId, Request, Untold};
@@ -18,60 +18,62 @@ const TEXT: &str = "resolve plug p/Use 1\nthen\nload app p/T\nload plug p/T\nthe
 #[derive(Clone, Copy)]
 enum Asks {
     Load,
-    Resolve(u16),
+    Resolve,
     Link,
 }
 
 use Asks::{Link, Load, Resolve};
 use Named::{T, Use};
+use Told::{AlreadyPosted, Done, NotYet, Stray};
 
-/// For each round, what is posted as out of memory, in order: number and request, and what is told.
-const POSTS: [&[(u32, Asks, u16, Named, Told)]; 3] = [
-    &[
-        (9, Resolve(1), PLUG, Use, Told::Stray),
-        (3, Load, PLUG, T, Told::Stray),
-        (0, Resolve(2), PLUG, Use, Told::Stray),
-        (0, Resolve(1), APP, Use, Told::Stray),
-        (0, Resolve(1), PLUG, T, Told::Stray),
-        (0, Load, PLUG, Use, Told::Stray),
-        (0, Link, PLUG, Use, Told::Stray),
-        (1, Resolve(1), PLUG, Use, Told::Stray),
-        (1, Load, APP, T, Told::NotYet),
-        (0, Resolve(1), PLUG, Use, Told::Done),
-        (0, Resolve(1), PLUG, Use, Told::AlreadyPosted),
-        (2, Load, PLUG, T, Told::NotYet),
-    ],
-    &[
-        (0, Resolve(1), PLUG, Use, Told::AlreadyPosted),
-        (2, Load, PLUG, T, Told::Done),
-        (1, Load, APP, T, Told::Done),
-        (2, Load, PLUG, T, Told::AlreadyPosted),
-    ],
-    &[
-        (1, Load, APP, T, Told::AlreadyPosted),
-        (3, Load, APP, T, Told::Stray),
-    ],
+/// What is posted as out of memory: the number of a request, what it asks for, of which entry, loader and name; and what is
+/// told.
+type Posting = (u32, Asks, u16, u16, Named, Told);
+
+/// What is posted in the first round, in order.
+const FIRST: [Posting; 12] = [
+    (9, Resolve, 1, PLUG, Use, Stray),
+    (3, Load, 0, PLUG, T, Stray),
+    (0, Resolve, 2, PLUG, Use, Stray),
+    (0, Resolve, 1, APP, Use, Stray),
+    (0, Resolve, 1, PLUG, T, Stray),
+    (0, Load, 0, PLUG, Use, Stray),
+    (0, Link, 0, PLUG, Use, Stray),
+    (1, Resolve, 1, PLUG, Use, Stray),
+    (1, Load, 0, APP, T, NotYet),
+    (0, Resolve, 1, PLUG, Use, Done),
+    (0, Resolve, 1, PLUG, Use, AlreadyPosted),
+    (2, Load, 0, PLUG, T, NotYet),
 ];
 
-fn request(alloc: Global, asks: Asks, loader: u16, name: &[u8]) -> Result<Request, AllocError> {
-    let (loader, name) = (LoaderId(loader), class_name(alloc, name)?);
+/// What is posted in the second round.
+const SECOND: [Posting; 4] = [
+    (0, Resolve, 1, PLUG, Use, AlreadyPosted),
+    (2, Load, 0, PLUG, T, Done),
+    (1, Load, 0, APP, T, Done),
+    (2, Load, 0, PLUG, T, AlreadyPosted),
+];
+
+/// What is posted in the third round, which has no request.
+const THIRD: [Posting; 2] = [
+    (1, Load, 0, APP, T, AlreadyPosted),
+    (3, Load, 0, APP, T, Stray),
+];
+
+fn request(
+    alloc: Global,
+    asks: Asks,
+    index: u16,
+    loader: u16,
+    name: Named,
+) -> Result<Request, AllocError> {
+    let name = class_name(alloc, bytes_of(name))?;
+    let loader = LoaderId(loader);
     Ok(match asks {
         Load => Request::Load(loader, name),
-        Resolve(index) => Request::Resolve(loader, name, index),
+        Resolve => Request::Resolve(loader, name, index),
         Link => Request::Link(loader, name),
     })
-}
-
-/// What the tables tell of a request that ended out of memory.
-fn posted(tables: &mut Registry<Untold>, q: u32, request: Request) -> Told {
-    match tables.post(q, Finding::memory(request)) {
-        Ok(()) => Told::Done,
-        Err(refused) => {
-            let told = kind_of(&refused.fault);
-            drop(refused);
-            told
-        }
-    }
 }
 
 /// Posts each as out of memory, and compares what is told.
@@ -79,11 +81,11 @@ fn post_all<R: Abort>(
     rt: &R,
     alloc: Global,
     tables: &mut Registry<Untold>,
-    posts: &[(u32, Asks, u16, Named, Told)],
+    posts: &[Posting],
 ) -> Result<(), AllocError> {
-    for (q, asks, loader, name, wanted) in posts {
-        let request = request(alloc, *asks, *loader, bytes_of(*name))?;
-        assert!(rt; posted(tables, *q, request) == *wanted);
+    for (q, asks, index, loader, name, wanted) in posts {
+        let request = request(alloc, *asks, *index, *loader, *name)?;
+        assert!(rt; posted(tables, *q, Finding::memory(request)) == *wanted);
     }
     Ok(())
 }
@@ -141,23 +143,41 @@ fn are_reported(tables: Registry<Untold>) -> bool {
     }
 }
 
+/// The tables after a round, which is not the last: there is no report before its posts.
+fn after_round<R: Abort>(
+    rt: &R,
+    alloc: Global,
+    tables: Registry<Untold>,
+    posts: &[Posting],
+) -> Result<Registry<Untold>, AllocError> {
+    let mut tables = unreported(tables)?;
+    match post_all(rt, alloc, &mut tables, posts) {
+        Ok(()) => Ok(tables),
+        Err(fault) => {
+            drop(tables);
+            Err(fault)
+        }
+    }
+}
+
 /// A request is answered once, in its round; a round ends when all of it are answered; the report comes after the last.
 #[test]
 fn rounds(rt: HostRuntime) -> Result<(), Fail> {
     let alloc = rt.alloc();
     let loaders = config(alloc, CHILD_FIRST)?;
-    let mut tables = registry(alloc, &loaders, TEXT)?;
+    let made = registry(alloc, &loaders, TEXT);
     drop(loaders);
-    let [first, second, third] = POSTS;
+    let mut tables = made?;
     assert!(rt; is_begun(tables.next_round(), None));
-    tables = unreported(tables)?;
-    post_all(&rt, alloc, &mut tables, first)?;
+    let mut tables = after_round(&rt, alloc, tables, &FIRST)?;
     assert!(rt; is_begun(tables.next_round(), Some(1)));
-    tables = unreported(tables)?;
-    post_all(&rt, alloc, &mut tables, second)?;
+    let mut tables = after_round(&rt, alloc, tables, &SECOND)?;
     assert!(rt; is_begun(tables.next_round(), Some(2)));
-    post_all(&rt, alloc, &mut tables, third)?;
-    assert!(rt; is_begun(tables.next_round(), None));
-    assert!(rt; are_reported(tables));
+    let asked = post_all(&rt, alloc, &mut tables, &THIRD);
+    let is_last = is_begun(tables.next_round(), None);
+    let are_reported = are_reported(tables);
+    asked?;
+    assert!(rt; is_last);
+    assert!(rt; are_reported);
     Ok(())
 }

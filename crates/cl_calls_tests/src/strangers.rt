@@ -2,39 +2,108 @@
 
 use crate::given::{
     APP, BOOT, CHILD_FIRST, KID, Kind, Named, PARENT_FIRST, PLUG, Step, Told, bytes_of, class,
-    class_name, config, do_report, final_file, home, kind_of, plain_file, registry, search, source,
+    class_name, config, do_report, drafted, final_file, home, is_taken, kind_of, plain_file,
+    posted, refusal, registry, search, source,
 };
 use cl_config::Config;
 use cl_delegation::{Home, Search};
 use cl_findings::Finding;
-use cl_hierarchy::Draft;
+use cl_hierarchy::{ClassRow, Draft};
 use cl_model::{LoaderId, Request, Untold};
 use cl_names::Name;
-use cl_registry::{DefineRefused, Registry, RegistryFault};
-use cl_source::{MemorySource, Source, Telling};
+use cl_registry::{DefineRefused, Registry};
+use cl_source::{MemorySource, Telling};
 use std::alloc::{AllocError, Global};
 use std::process::Abort;
 use std::sync::Arc;
 use std::test::Fail;
 
-/// Of a loader and a name, the loaders that are probed while none has it.
-const ORDERS: [(u16, &[u8], &[u16]); 4] = [
-    (KID, b"p/X", &[BOOT, APP, KID]),
-    (PLUG, b"p/X", &[PLUG, BOOT, APP]),
-    (PLUG, b"java/x", &[BOOT]),
-    (BOOT, b"p/X", &[BOOT]),
+/// No loader, at the end of an order.
+const NOWHERE: u16 = 9;
+
+/// Of a loader and `java/x` or `p/X`, the loaders that are probed while none has it.
+const ORDERS: [(u16, bool, [u16; 3]); 4] = [
+    (KID, false, [BOOT, APP, KID]),
+    (PLUG, false, [PLUG, BOOT, APP]),
+    (PLUG, true, [BOOT, NOWHERE, NOWHERE]),
+    (BOOT, false, [BOOT, NOWHERE, NOWHERE]),
 ];
 
-/// Whether a search takes what a loader has of a name.
-fn is_taken(
+/// Whether a search asks for the probe of a loader next, takes it then, and hands back those of another loader and of
+/// another name.
+fn takes_alone(
     alloc: Global,
     nothing: &mut Telling<Untold>,
     search: &mut Search<Untold>,
-    loader: u16,
-    name: &[u8],
-) -> Result<bool, Fail> {
-    let probe = nothing.read(alloc, LoaderId(loader), &class_name(alloc, name)?)?;
-    Ok(search.take(probe).is_ok())
+    place: u16,
+    name: &Name,
+) -> Result<bool, AllocError> {
+    let other_name = class_name(alloc, b"p/Y")?;
+    let elsewhere = LoaderId(if place == PLUG { KID } else { PLUG });
+    Ok(
+        search.next_probe() == Some(LoaderId(place))
+            && !is_taken(alloc, nothing, search, elsewhere, name)?
+            && !is_taken(alloc, nothing, search, LoaderId(place), &other_name)?
+            && is_taken(alloc, nothing, search, LoaderId(place), name)?,
+    )
+}
+
+/// Asks a search for its probes in this order, and for no other.
+fn ask_probes<R: Abort>(
+    rt: &R,
+    alloc: Global,
+    nothing: &mut Telling<Untold>,
+    search: &mut Search<Untold>,
+    order: &[u16; 3],
+    name: &Name,
+) -> Result<(), AllocError> {
+    for place in order {
+        if *place != NOWHERE {
+            assert!(rt; takes_alone(alloc, nothing, search, *place, name)?);
+        }
+    }
+    assert!(rt; search.next_probe().is_none());
+    Ok(())
+}
+
+/// Whether an ended search found nothing.
+fn is_unfound(search: Search<Untold>) -> bool {
+    match search.home() {
+        Ok(home) => {
+            drop(home);
+            false
+        }
+        Err(unfound) => {
+            drop(unfound);
+            true
+        }
+    }
+}
+
+/// Asks all orders.
+fn ask_orders<R: Abort>(
+    rt: &R,
+    alloc: Global,
+    loaders: &Arc<Config>,
+    nothing: &mut Telling<Untold>,
+) -> Result<(), AllocError> {
+    for (loader, is_java, order) in ORDERS {
+        let name = class_name(
+            alloc,
+            if is_java {
+                b"java/x".as_slice()
+            } else {
+                b"p/X"
+            },
+        )?;
+        let mut search = search(alloc, loaders, loader, name.bytes())?;
+        let asked = ask_probes(rt, alloc, nothing, &mut search, &order, &name);
+        let is_more = is_taken(alloc, nothing, &mut search, LoaderId(loader), &name);
+        let is_unfound = is_unfound(search);
+        asked?;
+        assert!(rt; !is_more? && is_unfound);
+    }
+    Ok(())
 }
 
 /// A search asks for its probes in their order, takes each once, and hands back every other.
@@ -43,18 +112,10 @@ fn probes_in_order(rt: HostRuntime) -> Result<(), Fail> {
     let alloc = rt.alloc();
     let loaders = config(alloc, CHILD_FIRST)?;
     let mut nothing = MemorySource::new(alloc).tell::<Untold>();
-    for (loader, name, order) in ORDERS {
-        let mut search = search(alloc, &loaders, loader, name)?;
-        for place in order {
-            assert!(rt; search.next_probe() == Some(LoaderId(*place)));
-            let elsewhere = if *place == PLUG { KID } else { PLUG };
-            assert!(rt; !is_taken(alloc, &mut nothing, &mut search, elsewhere, name)?);
-            assert!(rt; !is_taken(alloc, &mut nothing, &mut search, *place, b"p/Y")?);
-            assert!(rt; is_taken(alloc, &mut nothing, &mut search, *place, name)?);
-        }
-        assert!(rt; !is_taken(alloc, &mut nothing, &mut search, loader, name)?);
-        assert!(rt; search.next_probe().is_none() && search.home().is_err());
-    }
+    let asked = ask_orders(&rt, alloc, &loaders, &mut nothing);
+    drop(nothing);
+    drop(loaders);
+    asked?;
     Ok(())
 }
 
@@ -65,43 +126,30 @@ fn define(
     alloc: Global,
     tables: &mut Registry<Untold>,
     home: Home<Untold>,
+    name: &Name,
 ) -> Result<Result<u16, Told>, Fail> {
+    let loader = home.place();
+    let was_recorded = tables.look(loader, name).is_some();
     let draft = drafted(alloc, home)?;
-    let (loader, name) = (draft.class().loader, draft.class().name.try_clone(alloc));
-    let Ok(name) = name else {
-        drop(draft);
-        return Err(Fail::new("out of memory"));
-    };
-    let was_recorded = is_recorded(tables, loader, &name);
     let back = match tables.define(alloc, draft) {
-        Ok(row) => return Ok(Ok(row.file().flags())),
+        Ok(row) => return Ok(Ok(flags_of(row))),
         Err(back) => back,
     };
-    if is_recorded(tables, loader, &name) != was_recorded || !is_of(&back.draft, loader, &name) {
+    let is_recorded = tables.look(loader, name).is_some();
+    if is_recorded != was_recorded || !is_of(&back.draft, loader, name) {
         drop(back);
         return Err(Fail::new("a refused definition left a trace"));
     }
-    let told = kind_of(&back.fault);
-    if told != Told::Memory {
-        drop(back);
-        return Ok(Err(told));
+    if kind_of(&back.fault) == Told::Memory {
+        return again(rt, alloc, tables, back);
     }
-    again(rt, alloc, tables, back)
+    Ok(Err(refusal(back)))
 }
 
-/// The draft of a home.
-fn drafted(alloc: Global, home: Home<Untold>) -> Result<Draft<Untold>, Fail> {
-    match Draft::read(alloc, home) {
-        Ok(draft) => Ok(draft),
-        Err(refused) => {
-            drop(refused);
-            Err(Fail::new("no draft"))
-        }
-    }
-}
-
-fn is_recorded(tables: &Registry<Untold>, loader: LoaderId, name: &Name) -> bool {
-    tables.look(loader, name).is_some()
+fn flags_of(row: Arc<ClassRow<Untold>>) -> u16 {
+    let flags = row.file().flags();
+    drop(row);
+    flags
 }
 
 fn is_of(draft: &Draft<Untold>, loader: LoaderId, name: &Name) -> bool {
@@ -115,14 +163,27 @@ fn again(
     tables: &mut Registry<Untold>,
     back: DefineRefused<Untold>,
 ) -> Result<Result<u16, Told>, Fail> {
+    let told = match tables.define(alloc, back.draft) {
+        Ok(row) => Ok(flags_of(row)),
+        Err(refused) => Err(refusal(refused)),
+    };
     println!(rt; "refused: Registry::define")?;
-    match tables.define(alloc, back.draft) {
-        Ok(row) => Ok(Ok(row.file().flags())),
-        Err(refused) => {
-            let told = kind_of(&refused.fault);
-            drop(refused);
-            Ok(Err(told))
+    Ok(told)
+}
+
+/// What the tables tell of the loader that was asked for a home: which loader defined its class, or the refusal.
+fn initiated(
+    alloc: Global,
+    tables: &mut Registry<Untold>,
+    home: &Home<Untold>,
+) -> Result<u16, Told> {
+    match tables.initiate(alloc, home) {
+        Ok(row) => {
+            let loader = row.class().loader.0;
+            drop(row);
+            Ok(loader)
         }
+        Err(fault) => Err(kind_of(&fault)),
     }
 }
 
@@ -133,20 +194,18 @@ fn initiate(
     alloc: Global,
     tables: &mut Registry<Untold>,
     home: &Home<Untold>,
+    name: &Name,
 ) -> Result<Result<u16, Told>, Fail> {
-    let was_recorded = tables.look(home.asked(), home.name()).is_some();
-    let mut tried = tables.initiate(alloc, home);
-    if tried.is_err() && tables.look(home.asked(), home.name()).is_some() != was_recorded {
+    let was_recorded = tables.look(home.asked(), name).is_some();
+    let told = initiated(alloc, tables, home);
+    if told.is_err() && tables.look(home.asked(), name).is_some() != was_recorded {
         return Err(Fail::new("a refused record left a trace"));
     }
-    if let Err(RegistryFault::Memory) = tried {
+    if told == Err(Told::Memory) {
         println!(rt; "refused: Registry::initiate")?;
-        tried = tables.initiate(alloc, home);
+        return Ok(initiated(alloc, tables, home));
     }
-    match tried {
-        Ok(row) => Ok(Ok(row.class().loader.0)),
-        Err(fault) => Ok(Err(kind_of(&fault))),
-    }
+    Ok(told)
 }
 
 /// What a registry is asked to do with a home.
@@ -207,10 +266,15 @@ fn ask(
     tables: &mut Registry<Untold>,
     call: Call,
     home: Home<Untold>,
+    name: &Name,
 ) -> Result<Result<u16, Told>, Fail> {
     match call {
-        Define => define(rt, alloc, tables, home),
-        Initiate => initiate(rt, alloc, tables, &home),
+        Define => define(rt, alloc, tables, home, name),
+        Initiate => {
+            let told = initiate(rt, alloc, tables, &home, name);
+            drop(home);
+            told
+        }
     }
 }
 
@@ -222,13 +286,7 @@ fn is_posted(
 ) -> Result<bool, AllocError> {
     let found = class(alloc, loader, bytes_of(T))?;
     let request = Request::Load(LoaderId(PLUG), class_name(alloc, bytes_of(T))?);
-    match tables.post(0, Finding::class(request, found)) {
-        Ok(()) => Ok(true),
-        Err(refused) => {
-            drop(refused);
-            Ok(false)
-        }
-    }
+    Ok(posted(tables, 0, Finding::class(request, found)) == Told::Done)
 }
 
 /// The home of a name in a source where `p/T` has these bytes.
@@ -258,8 +316,9 @@ fn ask_steps<R: Abort + Print>(
         } else {
             plain_file()
         };
+        let asked = class_name(alloc, bytes_of(name))?;
         let home = home_among(alloc, loaders, bytes, loader, name)?;
-        assert!(rt; ask(rt, alloc, tables, call, home)? == wanted);
+        assert!(rt; ask(rt, alloc, tables, call, home, &asked)? == wanted);
     }
     assert!(rt; !is_posted(alloc, tables, PLUG)?);
     assert!(rt; is_posted(alloc, tables, APP)?);
@@ -274,9 +333,11 @@ fn strangers_change_nothing(rt: HostRuntime) -> Result<(), Fail> {
     let own = config(alloc, PARENT_FIRST)?;
     let other = config(alloc, CHILD_FIRST)?;
     let mut tables = registry(alloc, &own, "load plug p/T")?;
-    ask_steps(&rt, alloc, &mut tables, &own, &other)?;
+    let asked = ask_steps(&rt, alloc, &mut tables, &own, &other);
     drop(own);
     drop(other);
-    assert!(rt; do_report(tables, &HISTORY));
+    let are_told = do_report(tables, &HISTORY);
+    asked?;
+    assert!(rt; are_told);
     Ok(())
 }

@@ -217,7 +217,7 @@ fn chain(alloc: Global, first: &str) -> Result<MemorySource, AllocError> {
 }
 
 fn is_last(class: &Class) -> bool {
-    class.loader == LoaderId(APP) && class.name.bytes() == b"p/C5000"
+    class.loader == LoaderId(APP) && class.name.bytes() == b"p/C5000".as_slice()
 }
 
 /// Whether the one answer is the last class of the chain, or that it is above itself.

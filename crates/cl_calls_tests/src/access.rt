@@ -1,19 +1,15 @@
 //! What is accessible to whom (JVMS SE 8, 5.4.4).
 
 use crate::given::{APP, PLUG};
-use crate::lineages::{
-    CLASS, H, NONE, P, Q, QD, QE, R, Row, TOP, class_of, define, is_subclass, lineage, named,
-};
-use cl_config::Config;
+use crate::lineages::{CLASS, H, NONE, P, Q, QD, QE, R, Row, TOP, class_of, lineage, named};
 use cl_hierarchy::{class_accessible, member_accessible};
 use cl_model::{Class, LoaderId, Untold};
 use cl_registry::Registry;
 use std::alloc::{AllocError, Global};
 use std::process::Abort;
-use std::sync::Arc;
 
 /// The classes of the tables of access, of which `p/H` is not public.
-const PACKAGES: [Row; 6] = [
+pub const PACKAGES: [Row; 6] = [
     (CLASS, [P, TOP, NONE, NONE, NONE]),
     (CLASS, [Q, P, NONE, NONE, NONE]),
     (CLASS, [QD, P, NONE, NONE, NONE]),
@@ -32,7 +28,9 @@ const STATIC: u16 = 0xc;
 
 /// From which class, the class that declares a member, the member's flags, through which class, and whether it is accessible
 /// so (JVMS SE 8, 5.4.4).
-const MEMBERS: [(u16, u16, u16, u16, bool); 15] = [
+type Member = (u16, u16, u16, u16, bool);
+
+pub const MEMBERS: [Member; 15] = [
     (QD, P, PROTECTED, P, true),
     (QD, P, PROTECTED, QD, true),
     (QD, P, PROTECTED, QE, true),
@@ -74,7 +72,9 @@ fn is_open(
 }
 
 /// A class, the class that asks for it and the loader of that, and whether it is accessible so (JVMS SE 8, 5.4.4).
-const SEEN: [(u16, u16, u16, bool); 6] = [
+type Seen = (u16, u16, u16, bool);
+
+pub const SEEN: [Seen; 6] = [
     (P, QD, APP, true),
     (P, P, PLUG, true),
     (H, P, APP, true),
@@ -102,23 +102,28 @@ fn is_seen(
     }
 }
 
-/// Members and classes are accessible just as the tables say.
-pub fn ask_access<R: Abort>(
+/// Members are accessible just as the rows say.
+pub fn ask_members<R: Abort>(
     rt: &R,
     alloc: Global,
-    tables: &mut Registry<Untold>,
-    config: &Arc<Config>,
+    tables: &Registry<Untold>,
+    rows: &[Member],
 ) -> Result<(), AllocError> {
-    for row in &PACKAGES {
-        assert!(rt; define(alloc, tables, config, row)?);
+    for (from, owner, flags, through, wanted) in rows {
+        assert!(rt; is_open(alloc, tables, *from, *owner, *flags, *through)? == *wanted);
     }
-    for (from, owner, flags, through, wanted) in MEMBERS {
-        assert!(rt; is_open(alloc, tables, from, owner, flags, through)? == wanted);
+    Ok(())
+}
+
+/// Classes are accessible just as the rows say.
+pub fn ask_seen<R: Abort>(
+    rt: &R,
+    alloc: Global,
+    tables: &Registry<Untold>,
+    rows: &[Seen],
+) -> Result<(), AllocError> {
+    for (class, from, loader, wanted) in rows {
+        assert!(rt; is_seen(alloc, tables, *class, *from, *loader)? == *wanted);
     }
-    for (class, from, loader, wanted) in SEEN {
-        assert!(rt; is_seen(alloc, tables, class, from, loader)? == wanted);
-    }
-    assert!(rt; is_subclass(alloc, tables, QE, P)?);
-    assert!(rt; !is_subclass(alloc, tables, QE, QE)?);
     Ok(())
 }

@@ -232,16 +232,27 @@ fn is_ended(
     source: &mut Telling<Untold>,
     search: &mut Search<Untold>,
     name: &Name,
-) -> Result<bool, AllocError> {
+) -> bool {
     for _ in 0..64 {
         let Some(next) = search.next_probe() else {
-            return Ok(true);
+            return true;
         };
-        if !is_taken(alloc, source, search, next, name)? {
-            return Ok(false);
+        if !matches!(is_taken(alloc, source, search, next, name), Ok(true)) {
+            return false;
         }
     }
-    Ok(false)
+    false
+}
+
+/// The home that an ended search found.
+fn home_of(search: Search<Untold>) -> Result<Home<Untold>, AllocError> {
+    match search.home() {
+        Ok(home) => Ok(home),
+        Err(refused) => {
+            drop(refused);
+            Err(AllocError)
+        }
+    }
 }
 
 /// The home of a name at a loader, which has to have one.
@@ -254,17 +265,11 @@ pub fn home(
 ) -> Result<Home<Untold>, AllocError> {
     let wanted = class_name(alloc, name)?;
     let mut search = search(alloc, config, loader, name)?;
-    if is_ended(alloc, source, &mut search, &wanted) != Ok(true) {
-        drop(search);
-        return Err(AllocError);
+    if is_ended(alloc, source, &mut search, &wanted) {
+        return home_of(search);
     }
-    match search.home() {
-        Ok(home) => Ok(home),
-        Err(refused) => {
-            drop(refused);
-            Err(AllocError)
-        }
-    }
+    drop(search);
+    Err(AllocError)
 }
 
 pub fn registry(

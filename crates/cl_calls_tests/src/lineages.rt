@@ -1,6 +1,6 @@
 //! Lineages, and what is accessible to whom: what stands above a class, each ancestor once and supertypes first.
 
-use crate::access::ask_access;
+use crate::access::{MEMBERS, PACKAGES, SEEN, ask_members, ask_seen};
 use crate::given::{
     APP, BOOT, CHILD_FIRST, Told, class_name, config, object_file, record, registry, with,
 };
@@ -117,7 +117,7 @@ fn file(alloc: Global, row: &Row) -> Result<Vec<u8>, AllocError> {
 }
 
 /// Has `app` define a class.
-pub fn define(
+fn define(
     alloc: Global,
     tables: &mut Registry<Untold>,
     config: &Arc<Config>,
@@ -256,20 +256,32 @@ const CLASSES: [Row; 8] = [
     (CLASS, [6003, TOP, 6001, 6002, NONE]),
 ];
 
-/// A class has each ancestor once, supertypes first; its superinterfaces stand each at its first place.
-fn ask_classes<R: Abort>(
+/// Has `app` define these classes.
+fn define_all<R: Abort>(
     rt: &R,
     alloc: Global,
     tables: &mut Registry<Untold>,
     config: &Arc<Config>,
+    rows: &[Row],
 ) -> Result<(), AllocError> {
-    for row in &CLASSES {
+    for row in rows {
         assert!(rt; define(alloc, tables, config, row)?);
     }
+    Ok(())
+}
+
+/// A class has each ancestor once, supertypes first; its superinterfaces stand each at its first place.
+fn ask_classes<R: Abort>(
+    rt: &R,
+    alloc: Global,
+    tables: &Registry<Untold>,
+) -> Result<(), AllocError> {
     assert!(rt; stands_under(alloc, tables, D, &[TOP, J3, J1, J2])?);
     assert!(rt; has_superinterfaces(alloc, tables, D, &[J3, J1, J2])?);
     assert!(rt; stands_under(alloc, tables, 6003, &[TOP, 6000, 6001, 6002])?);
     assert!(rt; has_superinterfaces(alloc, tables, 6003, &[6001, 6000, 6002])?);
+    assert!(rt; is_subclass(alloc, tables, QE, P)?);
+    assert!(rt; !is_subclass(alloc, tables, QE, QE)?);
     Ok(())
 }
 
@@ -345,7 +357,7 @@ fn link(number: u16) -> Row {
 }
 
 /// Whether a class has another as a proper superclass.
-pub fn is_subclass(
+fn is_subclass(
     alloc: Global,
     tables: &Registry<Untold>,
     class: u16,
@@ -384,10 +396,13 @@ fn ask_all<R: Abort>(
     config: &Arc<Config>,
 ) -> Result<(), AllocError> {
     assert!(rt; define_top(alloc, tables, config)?);
-    ask_classes(rt, alloc, tables, config)?;
+    define_all(rt, alloc, tables, config, &CLASSES)?;
+    define_all(rt, alloc, tables, config, &PACKAGES)?;
+    ask_classes(rt, alloc, tables)?;
+    ask_members(rt, alloc, tables, &MEMBERS)?;
+    ask_seen(rt, alloc, tables, &SEEN)?;
     ask_ladder(rt, alloc, tables, config)?;
-    ask_chain(rt, alloc, tables, config)?;
-    ask_access(rt, alloc, tables, config)
+    ask_chain(rt, alloc, tables, config)
 }
 
 /// Lineages of worked examples, of a diamond, of a ladder of diamonds and of a long chain, and what is accessible to whom.

@@ -227,10 +227,16 @@ use Call::{Define, Initiate};
 use Found::{Changed, Elsewhere, Own};
 use Named::{T, Top};
 
-const STRAY: Result<u16, Told> = Err(Told::Stray);
+/// What stands in a row for the refusal of what belongs elsewhere, and for any other.
+const STRAY: u16 = 1000;
 
-/// What is asked in order, of which home, and what is told: a file's flags, a defining loader, or the refusal.
-const STEPS: [(Call, Found, u16, Named, Result<u16, Told>); 15] = [
+const OTHER: u16 = 1001;
+
+/// A step: what is asked, of which home, and what is told: a file's flags, a defining loader, or the refusal.
+type Asked = (Call, Found, u16, Named, u16);
+
+/// What is asked in order.
+const STEPS: [Asked; 15] = [
     (Initiate, Elsewhere, KID, T, STRAY),
     (Define, Elsewhere, PLUG, T, STRAY),
     (Define, Elsewhere, BOOT, Top, STRAY),
@@ -238,17 +244,26 @@ const STEPS: [(Call, Found, u16, Named, Result<u16, Told>); 15] = [
     (Define, Own, APP, T, STRAY),
     (Initiate, Own, PLUG, T, STRAY),
     (Initiate, Own, APP, Top, STRAY),
-    (Define, Own, BOOT, Top, Ok(0x21)),
+    (Define, Own, BOOT, Top, 0x21),
     (Define, Own, APP, T, STRAY),
-    (Initiate, Own, APP, Top, Ok(BOOT)),
-    (Define, Own, APP, T, Ok(0x21)),
+    (Initiate, Own, APP, Top, BOOT),
+    (Define, Own, APP, T, 0x21),
     // a later definition does not replace it, whatever its file
-    (Define, Changed, APP, T, Ok(0x21)),
-    (Define, Own, APP, T, Ok(0x21)),
-    (Initiate, Own, PLUG, T, Ok(APP)),
-    (Initiate, Changed, PLUG, T, Ok(APP)),
+    (Define, Changed, APP, T, 0x21),
+    (Define, Own, APP, T, 0x21),
+    (Initiate, Own, PLUG, T, APP),
+    (Initiate, Changed, PLUG, T, APP),
     (Initiate, Elsewhere, KID, T, STRAY),
 ];
+
+/// What is told, as a number of the rows.
+fn number_of(told: Result<u16, Told>) -> u16 {
+    match told {
+        Ok(number) => number,
+        Err(Told::Stray) => STRAY,
+        Err(_) => OTHER,
+    }
+}
 
 /// The history that the steps leave, and a post.
 const HISTORY: [Step; 5] = [
@@ -301,25 +316,36 @@ fn home_among(
     home(alloc, loaders, &mut source, loader, bytes_of(name))
 }
 
-/// Asks the steps of tables, and posts two answers.
+/// Asks the steps of tables.
 fn ask_steps<R: Abort + Print>(
     rt: &R,
     alloc: Global,
     tables: &mut Registry<Untold>,
     own: &Arc<Config>,
     other: &Arc<Config>,
+    steps: &[Asked],
 ) -> Result<(), Fail> {
-    for (call, found, loader, name, wanted) in STEPS {
-        let loaders = if found == Elsewhere { other } else { own };
-        let bytes = if found == Changed {
+    for (call, found, loader, name, wanted) in steps {
+        let loaders = if *found == Elsewhere { other } else { own };
+        let bytes = if *found == Changed {
             final_file()
         } else {
             plain_file()
         };
-        let asked = class_name(alloc, bytes_of(name))?;
-        let home = home_among(alloc, loaders, bytes, loader, name)?;
-        assert!(rt; ask(rt, alloc, tables, call, home, &asked)? == wanted);
+        let asked = class_name(alloc, bytes_of(*name))?;
+        let home = home_among(alloc, loaders, bytes, *loader, *name)?;
+        let told = ask(rt, alloc, tables, *call, home, &asked)?;
+        assert!(rt; number_of(told) == *wanted);
     }
+    Ok(())
+}
+
+/// Posts two answers, of which the first is strayed.
+fn post_both<R: Abort>(
+    rt: &R,
+    alloc: Global,
+    tables: &mut Registry<Untold>,
+) -> Result<(), AllocError> {
     assert!(rt; !is_posted(alloc, tables, PLUG)?);
     assert!(rt; is_posted(alloc, tables, APP)?);
     Ok(())
@@ -333,11 +359,13 @@ fn strangers_change_nothing(rt: HostRuntime) -> Result<(), Fail> {
     let own = config(alloc, PARENT_FIRST)?;
     let other = config(alloc, CHILD_FIRST)?;
     let mut tables = registry(alloc, &own, "load plug p/T")?;
-    let asked = ask_steps(&rt, alloc, &mut tables, &own, &other);
+    let asked = ask_steps(&rt, alloc, &mut tables, &own, &other, &STEPS);
     drop(own);
     drop(other);
+    let posted = post_both(&rt, alloc, &mut tables);
     let are_told = do_report(tables, &HISTORY);
     asked?;
+    posted?;
     assert!(rt; are_told);
     Ok(())
 }

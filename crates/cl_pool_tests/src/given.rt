@@ -81,13 +81,28 @@ fn put(
     }
 }
 
+/// Puts the files of these classes of these loaders.
+fn put_classes(
+    alloc: Global,
+    source: &mut MemorySource,
+    classes: &[(u16, Named)],
+) -> Result<(), AllocError> {
+    for (loader, name) in classes {
+        put(alloc, source, *loader, *name)?;
+    }
+    Ok(())
+}
+
 /// A source of the files of these classes of these loaders.
 pub fn source(alloc: Global, classes: &[(u16, Named)]) -> Result<Telling<Untold>, AllocError> {
     let mut source = MemorySource::new(alloc);
-    for (loader, name) in classes {
-        put(alloc, &mut source, *loader, *name)?;
+    match put_classes(alloc, &mut source, classes) {
+        Ok(()) => Ok(source.tell::<Untold>()),
+        Err(fault) => {
+            drop(source);
+            Err(fault)
+        }
     }
-    Ok(source.tell::<Untold>())
 }
 
 /// A service in `app` whose method takes a `p/T`, a class in `plug` that calls it, and a `p/T` in each.

@@ -39,7 +39,7 @@ pub fn bytes_of(name: Named) -> &'static [u8] {
 
 /// The file of a class: `java/lang/Object`, and three public classes over it. `p/Svc` has the public method `m (Lp/T;)V`, and
 /// the first entry of `p/Use` is a reference to that.
-pub fn file_of(name: Named) -> &'static [u8] {
+fn file_of(name: Named) -> &'static [u8] {
     match name {
         Named::Top => {
             b"\xca\xfe\xba\xbe\x00\x00\x00\x34\x00\x03\x01\x00\x10java/lang/Object\x07\x00\x01\x00\x21\x00\x02\x00\x00\x00\x00\x00\x00\x00\x00\x00\x00"
@@ -83,24 +83,29 @@ pub fn put(
     }
 }
 
-/// Puts the file of a class.
-pub fn put_class(
+/// Puts the files of these classes of these loaders.
+fn put_classes(
     alloc: Global,
     source: &mut MemorySource,
-    loader: u16,
-    name: Named,
+    classes: &[(u16, Named)],
 ) -> Result<(), AllocError> {
-    let bytes = Vec::from_slice(alloc, file_of(name))?;
-    put(alloc, source, loader, bytes_of(name), bytes)
+    for (loader, name) in classes {
+        let bytes = Vec::from_slice(alloc, file_of(*name))?;
+        put(alloc, source, *loader, bytes_of(*name), bytes)?;
+    }
+    Ok(())
 }
 
 /// A source of the files of these classes of these loaders.
 pub fn source(alloc: Global, classes: &[(u16, Named)]) -> Result<MemorySource, AllocError> {
     let mut source = MemorySource::new(alloc);
-    for (loader, name) in classes {
-        put_class(alloc, &mut source, *loader, *name)?;
+    match put_classes(alloc, &mut source, classes) {
+        Ok(()) => Ok(source),
+        Err(fault) => {
+            drop(source);
+            Err(fault)
+        }
     }
-    Ok(source)
 }
 
 /// The report of a script that is served over a source.

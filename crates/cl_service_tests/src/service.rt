@@ -9,19 +9,29 @@ use cl_source::{FaultySource, MemorySource, Source};
 use std::alloc::{AllocError, Global};
 use std::test::Fail;
 
-/// The report of a script over a source of these classes, whose read of this number fails, and how many the source counts.
+/// What a script comes to over a source of which a read fails, and how many reads the source counts that did.
+#[derive(Drop)]
+struct Failing {
+    report: Report,
+    failures: u64,
+}
+
+/// Serves a script over a source of these classes, whose read of this number fails.
 fn served_failing(
     alloc: Global,
     classes: &[(u16, Named)],
     at: u64,
     text: &str,
-) -> Result<(Report, u64), AllocError> {
+) -> Result<Failing, AllocError> {
     let telling = source(alloc, classes)?.tell::<Untold>();
-    let mut failing = FaultySource::new(telling, at);
-    let report = served(alloc, &mut failing, text);
-    let failures = failing.failures();
-    drop(failing);
-    Ok((report?, failures))
+    let mut source = FaultySource::new(telling, at);
+    let report = served(alloc, &mut source, text);
+    let failures = source.failures();
+    drop(source);
+    Ok(Failing {
+        report: report?,
+        failures,
+    })
 }
 
 /// Which read is refused, which request is answered so, and where.
@@ -69,9 +79,10 @@ fn each_read_fails_once(rt: HostRuntime) -> Result<(), Fail> {
     let classes = [(BOOT, Top), (APP, T), (PLUG, T)];
     let script = "load plug p/T\nthen\nload app p/T\n";
     for (at, blamed, loader, name) in FAULTS {
-        let (report, failures) = served_failing(alloc, &classes, at, script)?;
-        let as_wanted = are_answered(report.answers.as_slice(), blamed, loader, name);
-        drop(report);
+        let served = served_failing(alloc, &classes, at, script)?;
+        let as_wanted = are_answered(served.report.answers.as_slice(), blamed, loader, name);
+        let failures = served.failures;
+        drop(served);
         assert!(rt; as_wanted);
         assert!(rt; failures == u64::from(blamed < 2));
     }
@@ -108,9 +119,10 @@ fn each_read_of_every_kind_fails_once(rt: HostRuntime) -> Result<(), Fail> {
     let alloc = rt.alloc();
     let script = "resolve plug p/Use 1\nlink plug p/Use\nthen\nload app p/T\nload plug p/T\n";
     for at in 1..100u64 {
-        let (report, failures) = served_failing(alloc, &SHARED, at, script)?;
-        let counts = counted(report.answers.as_slice());
-        drop(report);
+        let served = served_failing(alloc, &SHARED, at, script)?;
+        let counts = counted(served.report.answers.as_slice());
+        let failures = served.failures;
+        drop(served);
         if failures == 0 {
             assert!(rt; counts == (4, 0));
             assert!(rt; at > 3);
@@ -201,19 +213,29 @@ fn link(alloc: Global, own: &str, above: &str) -> Result<Vec<u8>, AllocError> {
 /// How many classes stand above one another.
 const LINKS: usize = 5000;
 
-/// A chain of classes in `app`, whose first has this superclass and whose last is `p/C5000`.
-fn chain(alloc: Global, first: &str) -> Result<MemorySource, AllocError> {
-    let mut source = source(alloc, &[(BOOT, Top)])?;
+/// Puts a chain of classes into `app`, whose first has this superclass and whose last is `p/C5000`.
+fn put_chain(alloc: Global, source: &mut MemorySource, first: &str) -> Result<(), AllocError> {
     let mut above = String::from_str(alloc, first)?;
     for number in 1001..LINKS + 1000 {
         let own = format!(in alloc; "p/D{number}")?;
         let bytes = link(alloc, own.as_str(), above.as_str())?;
-        put(alloc, &mut source, APP, own.as_bytes(), bytes)?;
+        put(alloc, source, APP, own.as_bytes(), bytes)?;
         above = own;
     }
     let bytes = link(alloc, "p/C5000", above.as_str())?;
-    put(alloc, &mut source, APP, b"p/C5000", bytes)?;
-    Ok(source)
+    put(alloc, source, APP, b"p/C5000", bytes)
+}
+
+/// A source of `java/lang/Object` and such a chain.
+fn chain(alloc: Global, first: &str) -> Result<MemorySource, AllocError> {
+    let mut source = source(alloc, &[(BOOT, Top)])?;
+    match put_chain(alloc, &mut source, first) {
+        Ok(()) => Ok(source),
+        Err(fault) => {
+            drop(source);
+            Err(fault)
+        }
+    }
 }
 
 fn is_last(class: &Class) -> bool {

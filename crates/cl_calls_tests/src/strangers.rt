@@ -48,7 +48,7 @@ fn takes_alone(
     )
 }
 
-/// Asks a search for its probes in this order, and for no other.
+/// Asks a search for its probes in this order.
 fn ask_probes<R: Abort>(
     rt: &R,
     alloc: Global,
@@ -62,7 +62,6 @@ fn ask_probes<R: Abort>(
             assert!(rt; takes_alone(alloc, nothing, search, *place, name)?);
         }
     }
-    assert!(rt; search.next_probe().is_none());
     Ok(())
 }
 
@@ -99,9 +98,10 @@ fn ask_orders<R: Abort>(
         let mut search = search(alloc, loaders, loader, name.bytes())?;
         let asked = ask_probes(rt, alloc, nothing, &mut search, &order, &name);
         let is_more = is_taken(alloc, nothing, &mut search, LoaderId(loader), &name);
+        let is_over = search.next_probe().is_none();
         let is_unfound = is_unfound(search);
         asked?;
-        assert!(rt; !is_more? && is_unfound);
+        assert!(rt; !is_more? && is_over && is_unfound);
     }
     Ok(())
 }

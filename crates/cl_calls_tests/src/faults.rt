@@ -6,39 +6,59 @@ use cl_hierarchy::DraftFault;
 use cl_model::{Equality, LoaderId, Need};
 use cl_registry::RegistryFault;
 use cl_source::SourceFault;
+use std::alloc::{AllocError, Global};
+use std::fmt::Display;
 use std::test::Fail;
+
+/// Adds the text of a fault, as a line.
+fn tell<F: Display + Drop>(alloc: Global, told: &mut String, fault: F) -> Result<(), AllocError> {
+    let text = fault.to_string(alloc);
+    drop(fault);
+    let text = text?;
+    told.push_str(text.as_str())?;
+    told.push_str("\n")
+}
+
+fn tell_sources(alloc: Global, told: &mut String) -> Result<(), AllocError> {
+    tell(alloc, told, SourceFault::Memory)?;
+    tell(alloc, told, SourceFault::Device)?;
+    tell(alloc, told, SourceFault::TooLarge)?;
+    tell(alloc, told, SourceFault::Twice)
+}
+
+fn tell_drafts(alloc: Global, told: &mut String) -> Result<(), AllocError> {
+    tell(alloc, told, DraftFault::Format(Fault::Trailing))?;
+    tell(alloc, told, DraftFault::Version)?;
+    tell(alloc, told, DraftFault::OtherName)
+}
+
+fn violated(alloc: Global) -> Result<RegistryFault, AllocError> {
+    Ok(RegistryFault::Violates(Need::Equal(Equality {
+        name: class_name(alloc, T)?,
+        one: LoaderId(0),
+        other: LoaderId(1),
+    })))
+}
+
+fn tell_registries(alloc: Global, told: &mut String) -> Result<(), AllocError> {
+    tell(alloc, told, RegistryFault::Memory)?;
+    tell(alloc, told, RegistryFault::Stray)?;
+    tell(alloc, told, violated(alloc)?)?;
+    tell(alloc, told, RegistryFault::AlreadyPosted)?;
+    tell(alloc, told, RegistryFault::NotYet)
+}
 
 #[test]
 fn printed_faults(rt: HostRuntime) -> Result<(), Fail> {
     let alloc = rt.alloc();
-    for (fault, text) in [
-        (SourceFault::Memory, "S0 Memory"),
-        (SourceFault::Device, "S1 Device"),
-        (SourceFault::TooLarge, "S2 TooLarge"),
-        (SourceFault::Twice, "S3 Twice"),
-    ] {
-        assert!(rt; fault.to_string(alloc)?.as_str() == text);
-    }
-    for (fault, text) in [
-        (DraftFault::Format(Fault::Trailing), "H1 Format F4 Trailing"),
-        (DraftFault::Version, "H2 Version"),
-        (DraftFault::OtherName, "H3 OtherName"),
-    ] {
-        assert!(rt; fault.to_string(alloc)?.as_str() == text);
-    }
-    let need = Need::Equal(Equality {
-        name: class_name(alloc, T)?,
-        one: LoaderId(0),
-        other: LoaderId(1),
-    });
-    for (fault, text) in [
-        (RegistryFault::Memory, "B0 Memory"),
-        (RegistryFault::Stray, "B1 Stray"),
-        (RegistryFault::Violates(need), "B2 Violates"),
-        (RegistryFault::AlreadyPosted, "B3 AlreadyPosted"),
-        (RegistryFault::NotYet, "B4 NotYet"),
-    ] {
-        assert!(rt; fault.to_string(alloc)?.as_str() == text);
-    }
+    let mut told = String::new(alloc);
+    tell_sources(alloc, &mut told)?;
+    assert!(rt; told.as_str() == "S0 Memory\nS1 Device\nS2 TooLarge\nS3 Twice\n");
+    let mut told = String::new(alloc);
+    tell_drafts(alloc, &mut told)?;
+    assert!(rt; told.as_str() == "H1 Format F4 Trailing\nH2 Version\nH3 OtherName\n");
+    let mut told = String::new(alloc);
+    tell_registries(alloc, &mut told)?;
+    assert!(rt; told.as_str() == "B0 Memory\nB1 Stray\nB2 Violates\nB3 AlreadyPosted\nB4 NotYet\n");
     Ok(())
 }

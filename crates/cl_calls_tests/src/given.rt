@@ -2,9 +2,11 @@
 
 use cl_config::{Config, Script};
 use cl_delegation::{Home, Search};
-use cl_model::{Class, LoaderId, Untold};
+use cl_findings::Finding;
+use cl_hierarchy::Draft;
+use cl_model::{Class, Equality, Event, LoaderId, Untold};
 use cl_names::Name;
-use cl_registry::{Registry, RegistryFault};
+use cl_registry::{DefineRefused, PostRefused, Registry, RegistryFault};
 use cl_source::{MemorySource, Source, Telling};
 use std::alloc::{AllocError, Global};
 use std::sync::Arc;
@@ -29,19 +31,22 @@ pub const TOP: &[u8] = b"java/lang/Object";
 
 pub const T: &[u8] = b"p/T";
 
-pub const OBJECT: &[u8] =
-    b"\xca\xfe\xba\xbe\x00\x00\x00\x34\x00\x03\x01\x00\x10java/lang/Object\x07\x00\x01\x00\x21\x00\x02\x00\x00\x00\x00\x00\x00\x00\x00\x00\x00";
+pub fn object_file() -> &'static [u8] {
+    b"\xca\xfe\xba\xbe\x00\x00\x00\x34\x00\x03\x01\x00\x10java/lang/Object\x07\x00\x01\x00\x21\x00\x02\x00\x00\x00\x00\x00\x00\x00\x00\x00\x00"
+}
 
 /// `p/T`, public, over `java/lang/Object`.
-pub const PLAIN: &[u8] =
-    b"\xca\xfe\xba\xbe\x00\x00\x00\x34\x00\x05\x01\x00\x03p/T\x07\x00\x01\x01\x00\x10java/lang/Object\x07\x00\x03\x00\x21\x00\x02\x00\x04\x00\x00\x00\x00\x00\x00\x00\x00";
+pub fn plain_file() -> &'static [u8] {
+    b"\xca\xfe\xba\xbe\x00\x00\x00\x34\x00\x05\x01\x00\x03p/T\x07\x00\x01\x01\x00\x10java/lang/Object\x07\x00\x03\x00\x21\x00\x02\x00\x04\x00\x00\x00\x00\x00\x00\x00\x00"
+}
 
 /// The same, and final.
-pub const FINAL: &[u8] =
-    b"\xca\xfe\xba\xbe\x00\x00\x00\x34\x00\x05\x01\x00\x03p/T\x07\x00\x01\x01\x00\x10java/lang/Object\x07\x00\x03\x00\x31\x00\x02\x00\x04\x00\x00\x00\x00\x00\x00\x00\x00";
+pub fn final_file() -> &'static [u8] {
+    b"\xca\xfe\xba\xbe\x00\x00\x00\x34\x00\x05\x01\x00\x03p/T\x07\x00\x01\x01\x00\x10java/lang/Object\x07\x00\x03\x00\x31\x00\x02\x00\x04\x00\x00\x00\x00\x00\x00\x00\x00"
+}
 
 /// What a call of a registry answers.
-#[derive(Clone, Copy, Debug, PartialEq, Eq)]
+#[derive(Clone, Copy, PartialEq, Eq)]
 pub enum Told {
     Done,
     Memory,
@@ -62,11 +67,79 @@ pub fn kind_of(fault: &RegistryFault) -> Told {
     }
 }
 
-pub fn class_name(alloc: Global, name: &[u8]) -> Result<Name, AllocError> {
-    match Name::class(alloc, name) {
-        Ok(name) => Ok(name),
-        Err(_) => Err(AllocError),
+/// The names of the tables of tests. (A table of names as bytes costs the proof of whoever reads it minutes.)
+#[derive(Clone, Copy, PartialEq, Eq)]
+pub enum Named {
+    Top,
+    T,
+    Base,
+    Sub,
+    Use,
+}
+
+pub fn bytes_of(name: Named) -> &'static [u8] {
+    match name {
+        Named::Top => TOP,
+        Named::T => T,
+        Named::Base => b"p/B",
+        Named::Sub => b"q/C",
+        Named::Use => b"p/Use",
     }
+}
+
+/// What a step of a history is. (A table of steps that carry values costs the proof of whoever reads it minutes, one of
+/// tuples seconds.)
+#[derive(Clone, Copy, PartialEq, Eq)]
+pub enum Kind {
+    Define,
+    Initiate,
+    Constrain,
+    Prepare,
+    NextRound,
+    Post,
+}
+
+/// A step of a history that has no settled reference: its loader or request, its name, and the other loader.
+pub type Step = (Kind, u16, Named, u16);
+
+fn is_class(class: &Class, loader: u16, name: Named) -> bool {
+    class.loader == LoaderId(loader) && class.name.bytes() == bytes_of(name)
+}
+
+fn is_step(event: &Event, step: Step) -> bool {
+    let (kind, loader, name, other) = step;
+    match event {
+        Event::Define(class) => kind == Kind::Define && is_class(class, loader, name),
+        Event::Initiate(class, by) => {
+            kind == Kind::Initiate && is_class(class, loader, name) && *by == LoaderId(other)
+        }
+        Event::Constrain(both) => kind == Kind::Constrain && is_equality(both, step),
+        Event::Prepare(class) => kind == Kind::Prepare && is_class(class, loader, name),
+        Event::NextRound => kind == Kind::NextRound,
+        Event::Post(q) => kind == Kind::Post && *q == u32::from(loader),
+        Event::Settle(_) => false,
+    }
+}
+
+fn is_equality(both: &Equality, step: Step) -> bool {
+    let (_, one, name, other) = step;
+    both.one == LoaderId(one)
+        && both.other == LoaderId(other)
+        && both.name.bytes() == bytes_of(name)
+}
+
+/// Whether a history is just these steps.
+pub fn are_steps(history: &[Event], steps: &[Step]) -> bool {
+    for (event, step) in history.iter().zip(steps) {
+        if !is_step(event, *step) {
+            return false;
+        }
+    }
+    history.len() == steps.len()
+}
+
+pub fn class_name(alloc: Global, name: &[u8]) -> Result<Name, AllocError> {
+    Name::class(alloc, name).map_err(|_| AllocError)
 }
 
 pub fn class(alloc: Global, loader: u16, name: &[u8]) -> Result<Class, AllocError> {
@@ -80,20 +153,43 @@ pub fn class(alloc: Global, loader: u16, name: &[u8]) -> Result<Class, AllocErro
 pub fn config(alloc: Global, text: &str) -> Result<Arc<Config>, AllocError> {
     match Config::read(alloc, text) {
         Ok(config) => Ok(Arc::new(alloc, config)?),
-        Err(_) => Err(AllocError),
+        Err(refused) => {
+            drop(refused);
+            Err(AllocError)
+        }
+    }
+}
+
+/// The source, with a file more.
+pub fn with(
+    alloc: Global,
+    mut source: MemorySource,
+    loader: u16,
+    name: &[u8],
+    bytes: &[u8],
+) -> Result<MemorySource, AllocError> {
+    let name = class_name(alloc, name)?;
+    let bytes = Vec::from_slice(alloc, bytes)?;
+    match source.put(alloc, LoaderId(loader), name, bytes) {
+        Ok(()) => Ok(source),
+        Err(refused) => {
+            drop(refused);
+            Err(AllocError)
+        }
     }
 }
 
 /// A source of `java/lang/Object` in the first loader, and of these bytes of `p/T` in `app` and `plug`.
 pub fn source(alloc: Global, bytes: &[u8]) -> Result<Telling<Untold>, AllocError> {
-    let mut source = MemorySource::new(alloc);
-    for (loader, name, bytes) in [(BOOT, TOP, OBJECT), (APP, T, bytes), (PLUG, T, bytes)] {
-        let bytes = Vec::from_slice(alloc, bytes)?;
-        let name = class_name(alloc, name)?;
-        if source.put(alloc, LoaderId(loader), name, bytes).is_err() {
-            return Err(AllocError);
-        }
-    }
+    let source = with(
+        alloc,
+        MemorySource::new(alloc),
+        BOOT,
+        bytes_of(Named::Top),
+        object_file(),
+    )?;
+    let source = with(alloc, source, APP, bytes_of(Named::T), bytes)?;
+    let source = with(alloc, source, PLUG, bytes_of(Named::T), bytes)?;
     Ok(source.tell::<Untold>())
 }
 
@@ -109,7 +205,53 @@ pub fn search(
     }
     match Search::new(alloc, config, LoaderId(loader), class_name(alloc, name)?) {
         Ok(search) => Ok(search),
+        Err(refused) => {
+            drop(refused);
+            Err(AllocError)
+        }
+    }
+}
+
+/// Whether a search takes what a source has for a name of a loader.
+pub fn is_taken(
+    alloc: Global,
+    source: &mut Telling<Untold>,
+    search: &mut Search<Untold>,
+    loader: LoaderId,
+    name: &Name,
+) -> Result<bool, AllocError> {
+    match source.read(alloc, loader, name) {
+        Ok(probe) => Ok(search.take(probe).is_ok()),
         Err(_) => Err(AllocError),
+    }
+}
+
+/// Whether a search is led to its end.
+fn is_ended(
+    alloc: Global,
+    source: &mut Telling<Untold>,
+    search: &mut Search<Untold>,
+    name: &Name,
+) -> bool {
+    for _ in 0..64 {
+        let Some(next) = search.next_probe() else {
+            return true;
+        };
+        if !matches!(is_taken(alloc, source, search, next, name), Ok(true)) {
+            return false;
+        }
+    }
+    false
+}
+
+/// The home that an ended search found.
+fn home_of(search: Search<Untold>) -> Result<Home<Untold>, AllocError> {
+    match search.home() {
+        Ok(home) => Ok(home),
+        Err(refused) => {
+            drop(refused);
+            Err(AllocError)
+        }
     }
 }
 
@@ -121,24 +263,13 @@ pub fn home(
     loader: u16,
     name: &[u8],
 ) -> Result<Home<Untold>, AllocError> {
+    let wanted = class_name(alloc, name)?;
     let mut search = search(alloc, config, loader, name)?;
-    let name = class_name(alloc, name)?;
-    for _ in 0..64 {
-        let Some(next) = search.next_probe() else {
-            break;
-        };
-        let Ok(probe) = source.read(alloc, next, &name) else {
-            return Err(AllocError);
-        };
-        let _ = search.take(probe);
+    if is_ended(alloc, source, &mut search, &wanted) {
+        return home_of(search);
     }
-    if search.next_probe().is_some() {
-        return Err(AllocError);
-    }
-    match search.home() {
-        Ok(home) => Ok(home),
-        Err(_) => Err(AllocError),
-    }
+    drop(search);
+    Err(AllocError)
 }
 
 pub fn registry(
@@ -152,6 +283,99 @@ pub fn registry(
     let script = Arc::new(alloc, script)?;
     match Registry::new(alloc, Arc::try_clone(config)?, script) {
         Ok(registry) => Ok(registry),
-        Err(_) => Err(AllocError),
+        Err(refused) => {
+            drop(refused);
+            Err(AllocError)
+        }
+    }
+}
+
+/// The draft of a home.
+pub fn drafted(alloc: Global, home: Home<Untold>) -> Result<Draft<Untold>, AllocError> {
+    match Draft::read(alloc, home) {
+        Ok(draft) => Ok(draft),
+        Err(refused) => {
+            drop(refused);
+            Err(AllocError)
+        }
+    }
+}
+
+/// What the tables tell of an answer.
+pub fn posted(tables: &mut Registry<Untold>, q: u32, finding: Finding<Untold>) -> Told {
+    match tables.post(q, finding) {
+        Ok(()) => Told::Done,
+        Err(refused) => unposted(refused),
+    }
+}
+
+/// What an answer that comes back tells.
+fn unposted(refused: PostRefused<Untold>) -> Told {
+    let told = kind_of(&refused.fault);
+    drop(refused);
+    told
+}
+
+/// What the tables tell of a class that its home defines.
+fn define(
+    alloc: Global,
+    tables: &mut Registry<Untold>,
+    home: Home<Untold>,
+) -> Result<Told, AllocError> {
+    let draft = drafted(alloc, home)?;
+    match tables.define(alloc, draft) {
+        Ok(row) => {
+            drop(row);
+            Ok(Told::Done)
+        }
+        Err(back) => Ok(refusal(back)),
+    }
+}
+
+/// What a definition that comes back tells.
+pub fn refusal(back: DefineRefused<Untold>) -> Told {
+    let told = kind_of(&back.fault);
+    drop(back);
+    told
+}
+
+/// Records the class of a name of a source, for its home or for the loader that was asked.
+pub fn record(
+    alloc: Global,
+    tables: &mut Registry<Untold>,
+    config: &Arc<Config>,
+    mut source: Telling<Untold>,
+    loader: u16,
+    name: &[u8],
+) -> Result<Told, AllocError> {
+    let found = home(alloc, config, &mut source, loader, name);
+    drop(source);
+    let home = found?;
+    if home.place() == LoaderId(loader) {
+        return define(alloc, tables, home);
+    }
+    let told = match tables.initiate(alloc, &home) {
+        Ok(row) => {
+            drop(row);
+            Told::Done
+        }
+        Err(fault) => kind_of(&fault),
+    };
+    drop(home);
+    Ok(told)
+}
+
+/// Whether the tables report just these steps: all is posted.
+pub fn do_report(tables: Registry<Untold>, steps: &[Step]) -> bool {
+    match tables.into_report() {
+        Ok(report) => {
+            let are_told = are_steps(report.history.events(), steps);
+            drop(report);
+            are_told
+        }
+        Err(refused) => {
+            drop(refused);
+            false
+        }
     }
 }

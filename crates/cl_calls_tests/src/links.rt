@@ -1,75 +1,46 @@
 //! Lists of constraints: in their order, once, and of these tables alone.
 
 use crate::given::{
-    APP, BOOT, CHILD_FIRST, OBJECT, PARENT_FIRST, PLAIN, PLUG, T, TOP, Told, class, class_name,
-    config, home, kind_of, registry,
+    APP, BOOT, CHILD_FIRST, Kind, Named, PARENT_FIRST, PLUG, Step, Told, bytes_of, class,
+    class_name, config, do_report, kind_of, object_file, plain_file, posted, record, registry,
+    with,
 };
 use cl_config::Config;
 use cl_findings::Finding;
-use cl_hierarchy::{Draft, Equalities};
-use cl_model::{Class, Equality, Event, LoaderId, Request, Untold};
+use cl_hierarchy::Equalities;
+use cl_model::{Class, LoaderId, Request, Untold};
 use cl_preparation::constraints_of;
 use cl_registry::{Registry, RegistryFault};
 use cl_source::{MemorySource, Telling};
 use std::alloc::{AllocError, Global};
+use std::process::Abort;
 use std::sync::Arc;
 use std::test::Fail;
 
-const BASE: &[u8] = b"p/B";
-
-const SUB: &[u8] = b"q/C";
-
 /// `p/B` over `java/lang/Object`, with the public method `m (Lp/T;)V`.
-const BASE_FILE: &[u8] =
-    b"\xca\xfe\xba\xbe\x00\x00\x00\x34\x00\x07\x01\x00\x03p/B\x07\x00\x01\x01\x00\x10java/lang/Object\x07\x00\x03\x01\x00\x01m\x01\x00\x08(Lp/T;)V\x00\x21\x00\x02\x00\x04\x00\x00\x00\x00\x00\x01\x00\x01\x00\x05\x00\x06\x00\x00\x00\x00";
-
-/// `q/C` over `p/B`, with the same method.
-const SUB_FILE: &[u8] =
-    b"\xca\xfe\xba\xbe\x00\x00\x00\x34\x00\x07\x01\x00\x03q/C\x07\x00\x01\x01\x00\x03p/B\x07\x00\x03\x01\x00\x01m\x01\x00\x08(Lp/T;)V\x00\x21\x00\x02\x00\x04\x00\x00\x00\x00\x00\x01\x00\x01\x00\x05\x00\x06\x00\x00\x00\x00";
-
-/// Whose files there are.
-const FILES: [(u16, &[u8], &[u8]); 5] = [
-    (BOOT, TOP, OBJECT),
-    (APP, BASE, BASE_FILE),
-    (PLUG, SUB, SUB_FILE),
-    (APP, T, PLAIN),
-    (PLUG, T, PLAIN),
-];
-
-fn files(alloc: Global) -> Result<Telling<Untold>, AllocError> {
-    let mut source = MemorySource::new(alloc);
-    for (loader, name, bytes) in FILES {
-        let bytes = Vec::from_slice(alloc, bytes)?;
-        let name = class_name(alloc, name)?;
-        if source.put(alloc, LoaderId(loader), name, bytes).is_err() {
-            return Err(AllocError);
-        }
-    }
-    Ok(source.tell::<Untold>())
+// (a function hides the bytes from the proofs of those that call it, which would carry them through each step)
+fn base_file() -> &'static [u8] {
+    b"\xca\xfe\xba\xbe\x00\x00\x00\x34\x00\x07\x01\x00\x03p/B\x07\x00\x01\x01\x00\x10java/lang/Object\x07\x00\x03\x01\x00\x01m\x01\x00\x08(Lp/T;)V\x00\x21\x00\x02\x00\x04\x00\x00\x00\x00\x00\x01\x00\x01\x00\x05\x00\x06\x00\x00\x00\x00"
 }
 
-/// Records the class of a name, for its home or for the loader that was asked.
-fn record(
-    alloc: Global,
-    tables: &mut Registry<Untold>,
-    config: &Arc<Config>,
-    loader: u16,
-    name: &[u8],
-) -> Result<Told, AllocError> {
-    let home = home(alloc, config, &mut files(alloc)?, loader, name)?;
-    if home.place() != LoaderId(loader) {
-        return Ok(match tables.initiate(alloc, &home) {
-            Ok(_) => Told::Done,
-            Err(fault) => kind_of(&fault),
-        });
-    }
-    let Ok(draft) = Draft::read(alloc, home) else {
-        return Err(AllocError);
-    };
-    Ok(match tables.define(alloc, draft) {
-        Ok(_) => Told::Done,
-        Err(back) => kind_of(&back.fault),
-    })
+/// `q/C` over `p/B`, with the same method.
+fn sub_file() -> &'static [u8] {
+    b"\xca\xfe\xba\xbe\x00\x00\x00\x34\x00\x07\x01\x00\x03q/C\x07\x00\x01\x01\x00\x03p/B\x07\x00\x03\x01\x00\x01m\x01\x00\x08(Lp/T;)V\x00\x21\x00\x02\x00\x04\x00\x00\x00\x00\x00\x01\x00\x01\x00\x05\x00\x06\x00\x00\x00\x00"
+}
+
+fn files(alloc: Global) -> Result<Telling<Untold>, AllocError> {
+    let source = with(
+        alloc,
+        MemorySource::new(alloc),
+        BOOT,
+        bytes_of(Top),
+        object_file(),
+    )?;
+    let source = with(alloc, source, APP, bytes_of(Base), base_file())?;
+    let source = with(alloc, source, PLUG, bytes_of(Sub), sub_file())?;
+    let source = with(alloc, source, APP, bytes_of(T), plain_file())?;
+    let source = with(alloc, source, PLUG, bytes_of(T), plain_file())?;
+    Ok(source.tell::<Untold>())
 }
 
 /// The constraints of a class's preparation.
@@ -82,139 +53,252 @@ fn list(
     Ok(constraints_of(alloc, &lineage)?)
 }
 
-/// What a registry is asked: to record a name at a loader; of a class, to impose the constraint at a place, or to mark it.
-#[derive(Clone, Copy)]
+/// What a registry is asked: to record a name at a loader; of a class, to impose the first constraint of its list, or one past
+/// its end, or to mark it.
+#[derive(Clone, Copy, PartialEq, Eq)]
 enum Call {
     Record,
-    Impose(usize),
+    Impose,
+    ImposePast,
     Mark,
 }
 
-use Call::{Impose, Mark, Record};
+use Call::{Impose, ImposePast, Mark, Record};
+use Named::{Base, Sub, T, Top};
 use Told::{Done, Stray, Violates};
 
 /// What is asked in order of tables in which nothing of `p/T` is recorded.
-const STEPS: [(Call, u16, &[u8], Told); 20] = [
-    (Mark, PLUG, SUB, Stray),
-    (Record, BOOT, TOP, Done),
-    (Record, APP, TOP, Done),
-    (Record, APP, BASE, Done),
-    (Record, PLUG, BASE, Done),
-    (Record, PLUG, SUB, Done),
+const STEPS: [(Call, u16, Named, Told); 20] = [
+    (Mark, PLUG, Sub, Stray),
+    (Record, BOOT, Top, Done),
+    (Record, APP, Top, Done),
+    (Record, APP, Base, Done),
+    (Record, PLUG, Base, Done),
+    (Record, PLUG, Sub, Done),
     // its constraint does not stand yet
-    (Mark, PLUG, SUB, Stray),
-    (Impose(1), PLUG, SUB, Stray),
-    (Impose(0), PLUG, SUB, Done),
-    (Impose(0), PLUG, SUB, Done),
+    (Mark, PLUG, Sub, Stray),
+    (ImposePast, PLUG, Sub, Stray),
+    (Impose, PLUG, Sub, Done),
+    (Impose, PLUG, Sub, Done),
     // what stands above it is not prepared
-    (Mark, PLUG, SUB, Stray),
-    (Mark, APP, BASE, Stray),
-    (Mark, BOOT, TOP, Done),
-    (Mark, APP, BASE, Done),
-    (Mark, PLUG, SUB, Done),
-    (Mark, PLUG, SUB, Done),
+    (Mark, PLUG, Sub, Stray),
+    (Mark, APP, Base, Stray),
+    (Mark, BOOT, Top, Done),
+    (Mark, APP, Base, Done),
+    (Mark, PLUG, Sub, Done),
+    (Mark, PLUG, Sub, Done),
     (Record, APP, T, Done),
-    (Record, PLUG, TOP, Done),
+    (Record, PLUG, Top, Done),
     (Record, PLUG, T, Violates),
-    (Impose(0), PLUG, SUB, Done),
+    (Impose, PLUG, Sub, Done),
 ];
 
 /// The same where both loaders have recorded a class `p/T` before.
-const CLASHES: [(Call, u16, &[u8], Told); 11] = [
-    (Record, BOOT, TOP, Done),
-    (Record, APP, TOP, Done),
-    (Record, PLUG, TOP, Done),
+const CLASHES: [(Call, u16, Named, Told); 11] = [
+    (Record, BOOT, Top, Done),
+    (Record, APP, Top, Done),
+    (Record, PLUG, Top, Done),
     (Record, APP, T, Done),
     (Record, PLUG, T, Done),
-    (Record, APP, BASE, Done),
-    (Record, PLUG, BASE, Done),
-    (Record, PLUG, SUB, Done),
-    (Impose(0), PLUG, SUB, Violates),
-    (Mark, PLUG, SUB, Stray),
-    (Mark, BOOT, TOP, Done),
+    (Record, APP, Base, Done),
+    (Record, PLUG, Base, Done),
+    (Record, PLUG, Sub, Done),
+    (Impose, PLUG, Sub, Violates),
+    (Mark, PLUG, Sub, Stray),
+    (Mark, BOOT, Top, Done),
 ];
 
 /// Whether the tables take the answer that the subclass is linked.
 fn is_posted(alloc: Global, tables: &mut Registry<Untold>) -> Result<bool, AllocError> {
-    let request = Request::Link(LoaderId(PLUG), class_name(alloc, SUB)?);
-    let linked = Finding::linked(request, class(alloc, PLUG, SUB)?);
-    Ok(tables.post(0, linked).is_ok())
+    let sub = class(alloc, PLUG, bytes_of(Sub))?;
+    let request = Request::Link(LoaderId(PLUG), class_name(alloc, bytes_of(Sub))?);
+    let linked = Finding::linked(request, sub);
+    Ok(posted(tables, 0, linked) == Done)
 }
 
 fn asked(
     alloc: Global,
     tables: &mut Registry<Untold>,
     config: &Arc<Config>,
-    step: (Call, u16, &[u8]),
+    step: (Call, u16, Named),
 ) -> Result<Told, AllocError> {
     let (call, loader, name) = step;
-    if let Record = call {
-        return record(alloc, tables, config, loader, name);
+    let name = bytes_of(name);
+    if call == Record {
+        return record(alloc, tables, config, files(alloc)?, loader, name);
     }
-    let list = match list(alloc, tables, &class(alloc, loader, name)?) {
-        Ok(list) => list,
-        Err(fault) => return Ok(kind_of(&fault)),
-    };
+    let class = class(alloc, loader, name)?;
+    match list(alloc, tables, &class) {
+        Ok(list) => Ok(asked_of(alloc, tables, call, list)),
+        Err(fault) => Ok(kind_of(&fault)),
+    }
+}
+
+/// What the tables tell of a list.
+fn asked_of(
+    alloc: Global,
+    tables: &mut Registry<Untold>,
+    call: Call,
+    list: Equalities<Untold>,
+) -> Told {
     let done = match call {
-        Impose(place) => tables.impose(alloc, &list, place),
+        Impose => tables.impose(alloc, &list, 0),
+        ImposePast => tables.impose(alloc, &list, 1),
         _ => tables.mark_prepared(alloc, &list),
     };
-    Ok(match done {
+    drop(list);
+    match done {
         Ok(()) => Done,
         Err(fault) => kind_of(&fault),
-    })
+    }
+}
+
+/// The history that the steps leave.
+const HISTORY: [Step; 12] = [
+    (Kind::Define, BOOT, Top, 0),
+    (Kind::Initiate, BOOT, Top, APP),
+    (Kind::Define, APP, Base, 0),
+    (Kind::Initiate, APP, Base, PLUG),
+    (Kind::Define, PLUG, Sub, 0),
+    (Kind::Constrain, APP, T, PLUG),
+    (Kind::Prepare, BOOT, Top, 0),
+    (Kind::Prepare, APP, Base, 0),
+    (Kind::Prepare, PLUG, Sub, 0),
+    (Kind::Define, APP, T, 0),
+    (Kind::Initiate, BOOT, Top, PLUG),
+    (Kind::Post, 0, T, 0),
+];
+
+/// Asks all steps, and compares what is told.
+fn ask_all<R: Abort>(
+    rt: &R,
+    alloc: Global,
+    tables: &mut Registry<Untold>,
+    config: &Arc<Config>,
+    steps: &[(Call, u16, Named, Told)],
+) -> Result<(), AllocError> {
+    for (call, loader, name, wanted) in steps {
+        let told = asked(alloc, tables, config, (*call, *loader, *name))?;
+        assert!(rt; told == *wanted);
+    }
+    Ok(())
+}
+
+/// Records in tables of other loaders what the steps record.
+fn record_all(
+    alloc: Global,
+    tables: &mut Registry<Untold>,
+    other: &Arc<Config>,
+) -> Result<(), AllocError> {
+    for (call, loader, name, _) in STEPS {
+        if call == Record {
+            let _ = asked(alloc, tables, other, (call, loader, name))?;
+        }
+    }
+    Ok(())
+}
+
+/// The list of the subclass by tables in which it is recorded.
+fn sub_list(alloc: Global, tables: &Registry<Untold>) -> Result<Equalities<Untold>, AllocError> {
+    let sub = class(alloc, PLUG, bytes_of(Sub))?;
+    match list(alloc, tables, &sub) {
+        Ok(list) => Ok(list),
+        Err(_) => Err(AllocError),
+    }
+}
+
+/// The list of the subclass by tables of other loaders, in which the same is recorded.
+fn strange_list(alloc: Global) -> Result<Equalities<Untold>, AllocError> {
+    let other = config(alloc, PARENT_FIRST)?;
+    let mut elsewhere = registry(alloc, &other, "link plug q/C")?;
+    let recorded = record_all(alloc, &mut elsewhere, &other);
+    drop(other);
+    let list = if recorded.is_ok() {
+        sub_list(alloc, &elsewhere)
+    } else {
+        Err(AllocError)
+    };
+    drop(elsewhere);
+    list
+}
+
+/// Whether the tables take neither a constraint of a list of other loaders nor its class as prepared.
+fn strays(alloc: Global, tables: &mut Registry<Untold>) -> Result<bool, AllocError> {
+    let strange = strange_list(alloc)?;
+    let are_strayed = is_stray(tables.impose(alloc, &strange, 0))
+        && is_stray(tables.mark_prepared(alloc, &strange));
+    drop(strange);
+    Ok(are_strayed)
+}
+
+fn is_stray(told: Result<(), RegistryFault>) -> bool {
+    match told {
+        Ok(()) => false,
+        Err(fault) => kind_of(&fault) == Stray,
+    }
+}
+
+fn is_prepared(
+    alloc: Global,
+    tables: &Registry<Untold>,
+    loader: u16,
+    name: Named,
+) -> Result<bool, AllocError> {
+    Ok(tables.look_prepared(&class(alloc, loader, bytes_of(name))?))
+}
+
+/// Asks the steps of tables, and what they then tell.
+fn ask_steps<R: Abort>(
+    rt: &R,
+    alloc: Global,
+    tables: &mut Registry<Untold>,
+    own: &Arc<Config>,
+) -> Result<(), AllocError> {
+    ask_all(rt, alloc, tables, own, &STEPS)?;
+    assert!(rt; strays(alloc, tables)?);
+    assert!(rt; is_prepared(alloc, tables, PLUG, Sub)?);
+    assert!(rt; is_posted(alloc, tables)?);
+    Ok(())
 }
 
 /// A list is imposed one after another, then its class is marked, supertypes first, each once; a record that would violate is
-/// refused, and so is a constraint; a list of other loaders is strayed. A link is posted once its class is prepared.
+/// refused; a list of other loaders is strayed. A link is posted once its class is prepared.
 #[test]
 fn constraints_are_imposed_and_marked(rt: HostRuntime) -> Result<(), Fail> {
     let alloc = rt.alloc();
     let own = config(alloc, CHILD_FIRST)?;
-    let other = config(alloc, PARENT_FIRST)?;
     let mut tables = registry(alloc, &own, "link plug q/C")?;
-    let mut elsewhere = registry(alloc, &other, "link plug q/C")?;
-    let mut clashing = registry(alloc, &own, "link plug q/C")?;
-    let sub = class(alloc, PLUG, SUB)?;
-    for (call, loader, name, wanted) in STEPS {
-        assert!(rt; asked(alloc, &mut tables, &own, (call, loader, name))? == wanted);
-        if let Record = call {
-            let _ = asked(alloc, &mut elsewhere, &other, (call, loader, name))?;
-        }
-    }
-    for (call, loader, name, wanted) in CLASHES {
-        assert!(rt; asked(alloc, &mut clashing, &own, (call, loader, name))? == wanted);
-    }
-    let Ok(strange) = list(alloc, &elsewhere, &sub) else {
-        return Err(Fail::new("no list elsewhere"));
-    };
-    assert!(rt; tables.impose(alloc, &strange, 0) == Err(RegistryFault::Stray));
-    assert!(rt; tables.mark_prepared(alloc, &strange) == Err(RegistryFault::Stray));
-    assert!(rt; tables.look_prepared(&sub) && !clashing.look_prepared(&sub));
-    assert!(rt; clashing.look_prepared(&class(alloc, BOOT, TOP)?));
-    assert!(rt; !is_posted(alloc, &mut clashing)?);
-    assert!(rt; is_posted(alloc, &mut tables)?);
-    let Ok(report) = tables.into_report() else {
-        return Err(Fail::new("no report"));
-    };
-    let history = [
-        Event::Define(class(alloc, BOOT, TOP)?),
-        Event::Initiate(class(alloc, BOOT, TOP)?, LoaderId(APP)),
-        Event::Define(class(alloc, APP, BASE)?),
-        Event::Initiate(class(alloc, APP, BASE)?, LoaderId(PLUG)),
-        Event::Define(class(alloc, PLUG, SUB)?),
-        Event::Constrain(Equality {
-            name: class_name(alloc, T)?,
-            one: LoaderId(APP),
-            other: LoaderId(PLUG),
-        }),
-        Event::Prepare(class(alloc, BOOT, TOP)?),
-        Event::Prepare(class(alloc, APP, BASE)?),
-        Event::Prepare(class(alloc, PLUG, SUB)?),
-        Event::Define(class(alloc, APP, T)?),
-        Event::Initiate(class(alloc, BOOT, TOP)?, LoaderId(PLUG)),
-        Event::Post(0),
-    ];
-    assert!(rt; report.history.events() == history.as_slice());
+    let asked = ask_steps(&rt, alloc, &mut tables, &own);
+    drop(own);
+    let are_told = do_report(tables, &HISTORY);
+    asked?;
+    assert!(rt; are_told);
+    Ok(())
+}
+
+/// Asks the steps of tables that clash, and what they then tell.
+fn ask_clashes<R: Abort>(
+    rt: &R,
+    alloc: Global,
+    tables: &mut Registry<Untold>,
+    own: &Arc<Config>,
+) -> Result<(), AllocError> {
+    ask_all(rt, alloc, tables, own, &CLASHES)?;
+    assert!(rt; !is_prepared(alloc, tables, PLUG, Sub)?);
+    assert!(rt; is_prepared(alloc, tables, BOOT, Top)?);
+    assert!(rt; !is_posted(alloc, tables)?);
+    Ok(())
+}
+
+/// A constraint that two recorded classes violate is refused; its class is neither marked nor linked.
+#[test]
+fn a_violated_constraint_is_refused(rt: HostRuntime) -> Result<(), Fail> {
+    let alloc = rt.alloc();
+    let own = config(alloc, CHILD_FIRST)?;
+    let mut tables = registry(alloc, &own, "link plug q/C")?;
+    let asked = ask_clashes(&rt, alloc, &mut tables, &own);
+    drop(tables);
+    drop(own);
+    asked?;
     Ok(())
 }

@@ -1,62 +1,163 @@
 //! Posts in their rounds: what is not yet, no longer, or never.
 
-use crate::given::{APP, CHILD_FIRST, PLUG, T, Told, class_name, config, kind_of, registry};
+use crate::given::{
+    APP, CHILD_FIRST, Kind, Named, PLUG, Step, Told, are_steps, bytes_of, class_name, config,
+    posted, registry,
+};
 use cl_findings::Finding;
-use cl_model::{Answer, Event, LoaderId, Request};
-use cl_registry::RegistryFault;
+use cl_model::{Answer, LoaderId, Request, Untold};
+use cl_registry::{Registry, RegistryFault, Report};
 use std::alloc::{AllocError, Global};
+use std::process::Abort;
 use std::test::Fail;
 
 /// A resolution in the first round, two loads in the second, nothing in the third.
 const TEXT: &str = "resolve plug p/Use 1\nthen\nload app p/T\nload plug p/T\nthen\n";
 
-const USE: &[u8] = b"p/Use";
-
 /// What a request asks for.
 #[derive(Clone, Copy)]
 enum Asks {
     Load,
-    Resolve(u16),
+    Resolve,
     Link,
 }
 
 use Asks::{Link, Load, Resolve};
+use Named::{T, Use};
+use Told::{AlreadyPosted, Done, NotYet, Stray};
 
-/// For each round, what is posted as out of memory, in order: number and request, and what is told.
-const POSTS: [&[(u32, Asks, u16, &[u8], Told)]; 3] = [
-    &[
-        (9, Resolve(1), PLUG, USE, Told::Stray),
-        (3, Load, PLUG, T, Told::Stray),
-        (0, Resolve(2), PLUG, USE, Told::Stray),
-        (0, Resolve(1), APP, USE, Told::Stray),
-        (0, Resolve(1), PLUG, T, Told::Stray),
-        (0, Load, PLUG, USE, Told::Stray),
-        (0, Link, PLUG, USE, Told::Stray),
-        (1, Resolve(1), PLUG, USE, Told::Stray),
-        (1, Load, APP, T, Told::NotYet),
-        (0, Resolve(1), PLUG, USE, Told::Done),
-        (0, Resolve(1), PLUG, USE, Told::AlreadyPosted),
-        (2, Load, PLUG, T, Told::NotYet),
-    ],
-    &[
-        (0, Resolve(1), PLUG, USE, Told::AlreadyPosted),
-        (2, Load, PLUG, T, Told::Done),
-        (1, Load, APP, T, Told::Done),
-        (2, Load, PLUG, T, Told::AlreadyPosted),
-    ],
-    &[
-        (1, Load, APP, T, Told::AlreadyPosted),
-        (3, Load, APP, T, Told::Stray),
-    ],
+/// What is posted as out of memory: the number of a request, what it asks for, of which entry, loader and name; and what is
+/// told.
+type Posting = (u32, Asks, u16, u16, Named, Told);
+
+/// What is posted in the first round, in order.
+const FIRST: [Posting; 12] = [
+    (9, Resolve, 1, PLUG, Use, Stray),
+    (3, Load, 0, PLUG, T, Stray),
+    (0, Resolve, 2, PLUG, Use, Stray),
+    (0, Resolve, 1, APP, Use, Stray),
+    (0, Resolve, 1, PLUG, T, Stray),
+    (0, Load, 0, PLUG, Use, Stray),
+    (0, Link, 0, PLUG, Use, Stray),
+    (1, Resolve, 1, PLUG, Use, Stray),
+    (1, Load, 0, APP, T, NotYet),
+    (0, Resolve, 1, PLUG, Use, Done),
+    (0, Resolve, 1, PLUG, Use, AlreadyPosted),
+    (2, Load, 0, PLUG, T, NotYet),
 ];
 
-fn request(alloc: Global, asks: Asks, loader: u16, name: &[u8]) -> Result<Request, AllocError> {
-    let (loader, name) = (LoaderId(loader), class_name(alloc, name)?);
+/// What is posted in the second round.
+const SECOND: [Posting; 4] = [
+    (0, Resolve, 1, PLUG, Use, AlreadyPosted),
+    (2, Load, 0, PLUG, T, Done),
+    (1, Load, 0, APP, T, Done),
+    (2, Load, 0, PLUG, T, AlreadyPosted),
+];
+
+/// What is posted in the third round, which has no request.
+const THIRD: [Posting; 2] = [
+    (1, Load, 0, APP, T, AlreadyPosted),
+    (3, Load, 0, APP, T, Stray),
+];
+
+fn request(
+    alloc: Global,
+    asks: Asks,
+    index: u16,
+    loader: u16,
+    name: Named,
+) -> Result<Request, AllocError> {
+    let name = class_name(alloc, bytes_of(name))?;
+    let loader = LoaderId(loader);
     Ok(match asks {
         Load => Request::Load(loader, name),
-        Resolve(index) => Request::Resolve(loader, name, index),
+        Resolve => Request::Resolve(loader, name, index),
         Link => Request::Link(loader, name),
     })
+}
+
+/// Posts each as out of memory, and compares what is told.
+fn post_all<R: Abort>(
+    rt: &R,
+    alloc: Global,
+    tables: &mut Registry<Untold>,
+    posts: &[Posting],
+) -> Result<(), AllocError> {
+    for (q, asks, index, loader, name, wanted) in posts {
+        let request = request(alloc, *asks, *index, *loader, *name)?;
+        assert!(rt; posted(tables, *q, Finding::memory(request)) == *wanted);
+    }
+    Ok(())
+}
+
+/// Whether a round of this number is begun, or it is not yet time.
+fn is_begun(begun: Result<u32, RegistryFault>, wanted: Option<u32>) -> bool {
+    match (begun, wanted) {
+        (Ok(round), Some(number)) => round == number,
+        (Err(RegistryFault::NotYet), None) => true,
+        _ => false,
+    }
+}
+
+/// The tables, which give no report yet.
+fn unreported(tables: Registry<Untold>) -> Result<Registry<Untold>, AllocError> {
+    match tables.into_report() {
+        Ok(report) => {
+            drop(report);
+            Err(AllocError)
+        }
+        Err(refused) => Ok(refused.registry),
+    }
+}
+
+/// What is recorded of it.
+const HISTORY: [Step; 5] = [
+    (Kind::Post, 0, T, 0),
+    (Kind::NextRound, 0, T, 0),
+    (Kind::Post, 2, T, 0),
+    (Kind::Post, 1, T, 0),
+    (Kind::NextRound, 0, T, 0),
+];
+
+/// Whether a report has just this history, and says of each request that memory ran out.
+fn is_wanted(report: &Report) -> bool {
+    are_steps(report.history.events(), &HISTORY)
+        && matches!(
+            report.answers.as_slice(),
+            [Answer::Memory, Answer::Memory, Answer::Memory]
+        )
+}
+
+/// Whether the tables have the report that is wanted.
+fn are_reported(tables: Registry<Untold>) -> bool {
+    match tables.into_report() {
+        Ok(report) => {
+            let is_wanted = is_wanted(&report);
+            drop(report);
+            is_wanted
+        }
+        Err(refused) => {
+            drop(refused);
+            false
+        }
+    }
+}
+
+/// The tables after a round, which is not the last: there is no report before its posts.
+fn after_round<R: Abort>(
+    rt: &R,
+    alloc: Global,
+    tables: Registry<Untold>,
+    posts: &[Posting],
+) -> Result<Registry<Untold>, AllocError> {
+    let mut tables = unreported(tables)?;
+    match post_all(rt, alloc, &mut tables, posts) {
+        Ok(()) => Ok(tables),
+        Err(fault) => {
+            drop(tables);
+            Err(fault)
+        }
+    }
 }
 
 /// A request is answered once, in its round; a round ends when all of it are answered; the report comes after the last.
@@ -64,41 +165,19 @@ fn request(alloc: Global, asks: Asks, loader: u16, name: &[u8]) -> Result<Reques
 fn rounds(rt: HostRuntime) -> Result<(), Fail> {
     let alloc = rt.alloc();
     let loaders = config(alloc, CHILD_FIRST)?;
-    let mut tables = registry(alloc, &loaders, TEXT)?;
-    for (round, posts) in POSTS.iter().enumerate() {
-        if round == 0 {
-            assert!(rt; tables.next_round() == Err(RegistryFault::NotYet));
-        } else {
-            assert!(rt; tables.next_round() == Ok(round as u32));
-        }
-        if round != 2 {
-            let Err(refused) = tables.into_report() else {
-                return Err(Fail::new("a report before its time"));
-            };
-            tables = refused.registry;
-        }
-        for (q, asks, loader, name, wanted) in *posts {
-            let finding = Finding::memory(request(alloc, *asks, *loader, name)?);
-            let answer = match tables.post(*q, finding) {
-                Ok(()) => Told::Done,
-                Err(refused) => kind_of(&refused.fault),
-            };
-            assert!(rt; answer == *wanted);
-        }
-    }
-    assert!(rt; tables.next_round() == Err(RegistryFault::NotYet));
-    let Ok(report) = tables.into_report() else {
-        return Err(Fail::new("no report"));
-    };
-    let history = [
-        Event::Post(0),
-        Event::NextRound,
-        Event::Post(2),
-        Event::Post(1),
-        Event::NextRound,
-    ];
-    assert!(rt; report.history.events() == history.as_slice());
-    let answers = report.answers.as_slice();
-    assert!(rt; matches!(answers, [Answer::Memory, Answer::Memory, Answer::Memory]));
+    let made = registry(alloc, &loaders, TEXT);
+    drop(loaders);
+    let mut tables = made?;
+    assert!(rt; is_begun(tables.next_round(), None));
+    let mut tables = after_round(&rt, alloc, tables, &FIRST)?;
+    assert!(rt; is_begun(tables.next_round(), Some(1)));
+    let mut tables = after_round(&rt, alloc, tables, &SECOND)?;
+    assert!(rt; is_begun(tables.next_round(), Some(2)));
+    let asked = post_all(&rt, alloc, &mut tables, &THIRD);
+    let is_last = is_begun(tables.next_round(), None);
+    let are_reported = are_reported(tables);
+    asked?;
+    assert!(rt; is_last);
+    assert!(rt; are_reported);
     Ok(())
 }

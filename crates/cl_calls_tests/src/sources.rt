@@ -2,8 +2,9 @@
 
 use crate::given::class_name;
 use cl_model::{LoaderId, Untold};
-use cl_source::{FaultySource, MemorySource, Outcome, Source, SourceFault};
-use std::alloc::Global;
+use cl_source::{FaultySource, MemorySource, Outcome, Probe, Source, SourceFault, Telling};
+use std::alloc::{AllocError, Global};
+use std::process::Abort;
 use std::test::Fail;
 
 /// Loaders, lengths of what is put for `p/A`, and the refusal.
@@ -25,19 +26,66 @@ const READS: [(u16, Option<usize>); 5] = [
     (9, None),
 ];
 
+/// How many bytes a probe found, if there are any.
+fn length_of(probe: Probe<Untold>) -> Option<usize> {
+    let length = match probe.outcome() {
+        Outcome::Found(bytes) => Some(bytes.as_slice().len()),
+        Outcome::Absent => None,
+    };
+    drop(probe);
+    length
+}
+
 /// How much a source has for `p/A`.
 fn found<S: Source<Untold>>(
     alloc: Global,
     source: &mut S,
     loader: u16,
-) -> Result<Result<Option<usize>, SourceFault>, Fail> {
+) -> Result<Option<usize>, SourceFault> {
     let name = class_name(alloc, b"p/A")?;
     match source.read(alloc, LoaderId(loader), &name) {
-        Err(fault) => Ok(Err(fault)),
-        Ok(probe) => match probe.outcome() {
-            Outcome::Found(bytes) => Ok(Ok(Some(bytes.as_slice().len()))),
-            Outcome::Absent => Ok(Ok(None)),
-        },
+        Ok(probe) => Ok(length_of(probe)),
+        Err(fault) => Err(fault),
+    }
+}
+
+/// What a source tells of so many bytes for `p/A`.
+fn put(
+    alloc: Global,
+    source: &mut MemorySource,
+    loader: u16,
+    length: usize,
+) -> Result<Option<SourceFault>, AllocError> {
+    let name = class_name(alloc, b"p/A")?;
+    let bytes = vec![in alloc; 0u8; length]?;
+    match source.put(alloc, LoaderId(loader), name, bytes) {
+        Ok(()) => Ok(None),
+        Err(refused) => {
+            let fault = refused.fault;
+            drop(refused);
+            Ok(Some(fault))
+        }
+    }
+}
+
+/// A source, after all puts.
+fn filled<R: Abort>(rt: &R, alloc: Global) -> Result<Telling<Untold>, AllocError> {
+    let mut source = MemorySource::new(alloc);
+    for (loader, length, fault) in PUTS {
+        assert!(rt; put(alloc, &mut source, loader, length)? == fault);
+    }
+    Ok(source.tell::<Untold>())
+}
+
+/// Reads all, of which one fails.
+fn read_all<R: Abort, S: Source<Untold>>(rt: &R, alloc: Global, source: &mut S, failing: usize) {
+    for (number, (loader, length)) in READS.iter().enumerate() {
+        let wanted = if number == failing {
+            Err(SourceFault::Device)
+        } else {
+            Ok(*length)
+        };
+        assert!(rt; found(alloc, source, *loader) == wanted);
     }
 }
 
@@ -46,31 +94,17 @@ fn found<S: Source<Untold>>(
 #[test]
 fn sources(rt: HostRuntime) -> Result<(), Fail> {
     let alloc = rt.alloc();
-    let mut source = MemorySource::new(alloc);
-    for (loader, length, fault) in PUTS {
-        let bytes = vec![in alloc; 0u8; length]?;
-        let put = source.put(alloc, LoaderId(loader), class_name(alloc, b"p/A")?, bytes);
-        let told = match put {
-            Ok(()) => None,
-            Err(refused) => Some(refused.fault),
-        };
-        assert!(rt; told == fault);
-    }
-    let telling = source.tell::<Untold>();
+    let telling = filled(&rt, alloc)?;
     for (at, failing) in [(0u64, 9), (1, 0), (3, 2)] {
         let mut faulty = FaultySource::new(telling.another(alloc)?, at);
-        for (number, (loader, length)) in READS.iter().enumerate() {
-            let wanted = if number == failing {
-                Err(SourceFault::Device)
-            } else {
-                Ok(*length)
-            };
-            assert!(rt; found(alloc, &mut faulty, *loader)? == wanted);
-        }
+        read_all(&rt, alloc, &mut faulty, failing);
         assert!(rt; faulty.failures() == u64::from(at != 0));
-        let mut second = faulty.another(alloc)?;
+        let second = faulty.another(alloc);
+        drop(faulty);
+        let mut second = second?;
         assert!(rt; second.failures() == 0);
-        assert!(rt; found(alloc, &mut second, 2)?.is_err() == (at == 1));
+        assert!(rt; found(alloc, &mut second, 2).is_err() == (at == 1));
+        drop(second);
     }
     Ok(())
 }

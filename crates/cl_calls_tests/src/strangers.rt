@@ -1,25 +1,110 @@
 //! Values that belong elsewhere: probes of another search, findings of another script, homes of other loaders.
 
 use crate::given::{
-    APP, BOOT, CHILD_FIRST, FINAL, KID, PARENT_FIRST, PLAIN, PLUG, T, TOP, Told, class, class_name,
-    config, home, kind_of, registry, search, source,
+    APP, BOOT, CHILD_FIRST, KID, Kind, Named, PARENT_FIRST, PLUG, Step, Told, bytes_of, class,
+    class_name, config, do_report, drafted, final_file, home, is_taken, kind_of, plain_file,
+    posted, refusal, registry, search, source,
 };
-use cl_delegation::Home;
+use cl_config::Config;
+use cl_delegation::{Home, Search};
 use cl_findings::Finding;
-use cl_hierarchy::Draft;
-use cl_model::{Event, LoaderId, Request, Untold};
-use cl_registry::{Registry, RegistryFault};
-use cl_source::{MemorySource, Source};
-use std::alloc::Global;
+use cl_hierarchy::{ClassRow, Draft};
+use cl_model::{LoaderId, Request, Untold};
+use cl_names::Name;
+use cl_registry::{DefineRefused, Registry};
+use cl_source::{MemorySource, Telling};
+use std::alloc::{AllocError, Global};
+use std::process::Abort;
+use std::sync::Arc;
 use std::test::Fail;
 
-/// Of a loader and a name, the loaders that are probed while none has it.
-const ORDERS: [(u16, &[u8], &[u16]); 4] = [
-    (KID, b"p/X", &[BOOT, APP, KID]),
-    (PLUG, b"p/X", &[PLUG, BOOT, APP]),
-    (PLUG, b"java/x", &[BOOT]),
-    (BOOT, b"p/X", &[BOOT]),
+/// No loader, at the end of an order.
+const NOWHERE: u16 = 9;
+
+/// Of a loader and `java/x` or `p/X`, the loaders that are probed while none has it.
+const ORDERS: [(u16, bool, [u16; 3]); 4] = [
+    (KID, false, [BOOT, APP, KID]),
+    (PLUG, false, [PLUG, BOOT, APP]),
+    (PLUG, true, [BOOT, NOWHERE, NOWHERE]),
+    (BOOT, false, [BOOT, NOWHERE, NOWHERE]),
 ];
+
+/// Whether a search asks for the probe of a loader next, takes it then, and hands back those of another loader and of
+/// another name.
+fn takes_alone(
+    alloc: Global,
+    nothing: &mut Telling<Untold>,
+    search: &mut Search<Untold>,
+    place: u16,
+    name: &Name,
+) -> Result<bool, AllocError> {
+    let other_name = class_name(alloc, b"p/Y")?;
+    let elsewhere = LoaderId(if place == PLUG { KID } else { PLUG });
+    Ok(
+        search.next_probe() == Some(LoaderId(place))
+            && !is_taken(alloc, nothing, search, elsewhere, name)?
+            && !is_taken(alloc, nothing, search, LoaderId(place), &other_name)?
+            && is_taken(alloc, nothing, search, LoaderId(place), name)?,
+    )
+}
+
+/// Asks a search for its probes in this order.
+fn ask_probes<R: Abort>(
+    rt: &R,
+    alloc: Global,
+    nothing: &mut Telling<Untold>,
+    search: &mut Search<Untold>,
+    order: &[u16; 3],
+    name: &Name,
+) -> Result<(), AllocError> {
+    for place in order {
+        if *place != NOWHERE {
+            assert!(rt; takes_alone(alloc, nothing, search, *place, name)?);
+        }
+    }
+    Ok(())
+}
+
+/// Whether an ended search found nothing.
+fn is_unfound(search: Search<Untold>) -> bool {
+    match search.home() {
+        Ok(home) => {
+            drop(home);
+            false
+        }
+        Err(unfound) => {
+            drop(unfound);
+            true
+        }
+    }
+}
+
+/// Asks all orders.
+fn ask_orders<R: Abort>(
+    rt: &R,
+    alloc: Global,
+    loaders: &Arc<Config>,
+    nothing: &mut Telling<Untold>,
+) -> Result<(), AllocError> {
+    for (loader, is_java, order) in ORDERS {
+        let name = class_name(
+            alloc,
+            if is_java {
+                b"java/x".as_slice()
+            } else {
+                b"p/X"
+            },
+        )?;
+        let mut search = search(alloc, loaders, loader, name.bytes())?;
+        let asked = ask_probes(rt, alloc, nothing, &mut search, &order, &name);
+        let is_more = is_taken(alloc, nothing, &mut search, LoaderId(loader), &name);
+        let is_over = search.next_probe().is_none();
+        let is_unfound = is_unfound(search);
+        asked?;
+        assert!(rt; !is_more? && is_over && is_unfound);
+    }
+    Ok(())
+}
 
 /// A search asks for its probes in their order, takes each once, and hands back every other.
 #[test]
@@ -27,24 +112,10 @@ fn probes_in_order(rt: HostRuntime) -> Result<(), Fail> {
     let alloc = rt.alloc();
     let loaders = config(alloc, CHILD_FIRST)?;
     let mut nothing = MemorySource::new(alloc).tell::<Untold>();
-    for (loader, name, order) in ORDERS {
-        let mut search = search(alloc, &loaders, loader, name)?;
-        let name = class_name(alloc, name)?;
-        let other_name = class_name(alloc, b"p/Y")?;
-        for place in order {
-            assert!(rt; search.next_probe() == Some(LoaderId(*place)));
-            let elsewhere = if *place == PLUG { KID } else { PLUG };
-            let probe = nothing.read(alloc, LoaderId(elsewhere), &name)?;
-            assert!(rt; search.take(probe).is_err());
-            let probe = nothing.read(alloc, LoaderId(*place), &other_name)?;
-            assert!(rt; search.take(probe).is_err());
-            let probe = nothing.read(alloc, LoaderId(*place), &name)?;
-            assert!(rt; search.take(probe).is_ok());
-        }
-        let probe = nothing.read(alloc, LoaderId(loader), &name)?;
-        assert!(rt; search.take(probe).is_err());
-        assert!(rt; search.next_probe().is_none() && search.home().is_err());
-    }
+    let asked = ask_orders(&rt, alloc, &loaders, &mut nothing);
+    drop(nothing);
+    drop(loaders);
+    asked?;
     Ok(())
 }
 
@@ -55,27 +126,64 @@ fn define(
     alloc: Global,
     tables: &mut Registry<Untold>,
     home: Home<Untold>,
+    name: &Name,
 ) -> Result<Result<u16, Told>, Fail> {
-    let Ok(draft) = Draft::read(alloc, home) else {
-        return Err(Fail::new("no draft"));
-    };
-    let class = draft.class().try_clone(alloc)?;
-    let was_recorded = tables.look(class.loader, &class.name).is_some();
+    let loader = home.place();
+    let was_recorded = tables.look(loader, name).is_some();
+    let draft = drafted(alloc, home)?;
     let back = match tables.define(alloc, draft) {
-        Ok(row) => return Ok(Ok(row.file().flags())),
+        Ok(row) => return Ok(Ok(flags_of(row))),
         Err(back) => back,
     };
-    let is_recorded = tables.look(class.loader, &class.name).is_some();
-    if is_recorded != was_recorded || *back.draft.class() != class {
+    let is_recorded = tables.look(loader, name).is_some();
+    if is_recorded != was_recorded || !is_of(&back.draft, loader, name) {
+        drop(back);
         return Err(Fail::new("a refused definition left a trace"));
     }
-    if kind_of(&back.fault) != Told::Memory {
-        return Ok(Err(kind_of(&back.fault)));
+    if kind_of(&back.fault) == Told::Memory {
+        return again(rt, alloc, tables, back);
     }
+    Ok(Err(refusal(back)))
+}
+
+fn flags_of(row: Arc<ClassRow<Untold>>) -> u16 {
+    let flags = row.file().flags();
+    drop(row);
+    flags
+}
+
+fn is_of(draft: &Draft<Untold>, loader: LoaderId, name: &Name) -> bool {
+    draft.class().loader == loader && draft.class().name == *name
+}
+
+/// Asks for a definition once more, which came back for want of memory.
+fn again(
+    rt: &impl Print,
+    alloc: Global,
+    tables: &mut Registry<Untold>,
+    back: DefineRefused<Untold>,
+) -> Result<Result<u16, Told>, Fail> {
+    let told = match tables.define(alloc, back.draft) {
+        Ok(row) => Ok(flags_of(row)),
+        Err(refused) => Err(refusal(refused)),
+    };
     println!(rt; "refused: Registry::define")?;
-    match tables.define(alloc, back.draft) {
-        Ok(row) => Ok(Ok(row.file().flags())),
-        Err(again) => Ok(Err(kind_of(&again.fault))),
+    Ok(told)
+}
+
+/// What the tables tell of the loader that was asked for a home: which loader defined its class, or the refusal.
+fn initiated(
+    alloc: Global,
+    tables: &mut Registry<Untold>,
+    home: &Home<Untold>,
+) -> Result<u16, Told> {
+    match tables.initiate(alloc, home) {
+        Ok(row) => {
+            let loader = row.class().loader.0;
+            drop(row);
+            Ok(loader)
+        }
+        Err(fault) => Err(kind_of(&fault)),
     }
 }
 
@@ -86,20 +194,18 @@ fn initiate(
     alloc: Global,
     tables: &mut Registry<Untold>,
     home: &Home<Untold>,
+    name: &Name,
 ) -> Result<Result<u16, Told>, Fail> {
-    let was_recorded = tables.look(home.asked(), home.name()).is_some();
-    let mut tried = tables.initiate(alloc, home);
-    if tried.is_err() && tables.look(home.asked(), home.name()).is_some() != was_recorded {
+    let was_recorded = tables.look(home.asked(), name).is_some();
+    let told = initiated(alloc, tables, home);
+    if told.is_err() && tables.look(home.asked(), name).is_some() != was_recorded {
         return Err(Fail::new("a refused record left a trace"));
     }
-    if let Err(RegistryFault::Memory) = tried {
+    if told == Err(Told::Memory) {
         println!(rt; "refused: Registry::initiate")?;
-        tried = tables.initiate(alloc, home);
+        return Ok(initiated(alloc, tables, home));
     }
-    match tried {
-        Ok(row) => Ok(Ok(row.class().loader.0)),
-        Err(fault) => Ok(Err(kind_of(&fault))),
-    }
+    Ok(told)
 }
 
 /// What a registry is asked to do with a home.
@@ -119,29 +225,131 @@ enum Found {
 
 use Call::{Define, Initiate};
 use Found::{Changed, Elsewhere, Own};
+use Named::{T, Top};
 
-const STRAY: Result<u16, Told> = Err(Told::Stray);
+/// What stands in a row for the refusal of what belongs elsewhere, and for any other.
+const STRAY: u16 = 1000;
 
-/// What is asked in order, of which home, and what is told: a file's flags, a defining loader, or the refusal.
-const STEPS: [(Call, Found, u16, &[u8], Result<u16, Told>); 15] = [
+const OTHER: u16 = 1001;
+
+/// A step: what is asked, of which home, and what is told: a file's flags, a defining loader, or the refusal.
+type Asked = (Call, Found, u16, Named, u16);
+
+/// What is asked in order.
+const STEPS: [Asked; 15] = [
     (Initiate, Elsewhere, KID, T, STRAY),
     (Define, Elsewhere, PLUG, T, STRAY),
-    (Define, Elsewhere, BOOT, TOP, STRAY),
+    (Define, Elsewhere, BOOT, Top, STRAY),
     // nothing is recorded that it could rest on
     (Define, Own, APP, T, STRAY),
     (Initiate, Own, PLUG, T, STRAY),
-    (Initiate, Own, APP, TOP, STRAY),
-    (Define, Own, BOOT, TOP, Ok(0x21)),
+    (Initiate, Own, APP, Top, STRAY),
+    (Define, Own, BOOT, Top, 0x21),
     (Define, Own, APP, T, STRAY),
-    (Initiate, Own, APP, TOP, Ok(BOOT)),
-    (Define, Own, APP, T, Ok(0x21)),
+    (Initiate, Own, APP, Top, BOOT),
+    (Define, Own, APP, T, 0x21),
     // a later definition does not replace it, whatever its file
-    (Define, Changed, APP, T, Ok(0x21)),
-    (Define, Own, APP, T, Ok(0x21)),
-    (Initiate, Own, PLUG, T, Ok(APP)),
-    (Initiate, Changed, PLUG, T, Ok(APP)),
+    (Define, Changed, APP, T, 0x21),
+    (Define, Own, APP, T, 0x21),
+    (Initiate, Own, PLUG, T, APP),
+    (Initiate, Changed, PLUG, T, APP),
     (Initiate, Elsewhere, KID, T, STRAY),
 ];
+
+/// What is told, as a number of the rows.
+fn number_of(told: Result<u16, Told>) -> u16 {
+    match told {
+        Ok(number) => number,
+        Err(Told::Stray) => STRAY,
+        Err(_) => OTHER,
+    }
+}
+
+/// The history that the steps leave, and a post.
+const HISTORY: [Step; 5] = [
+    (Kind::Define, BOOT, Top, 0),
+    (Kind::Initiate, BOOT, Top, APP),
+    (Kind::Define, APP, T, 0),
+    (Kind::Initiate, APP, T, PLUG),
+    (Kind::Post, 0, T, 0),
+];
+
+/// Asks a registry to do something with the home of a name at a loader.
+fn ask(
+    rt: &impl Print,
+    alloc: Global,
+    tables: &mut Registry<Untold>,
+    call: Call,
+    home: Home<Untold>,
+    name: &Name,
+) -> Result<Result<u16, Told>, Fail> {
+    match call {
+        Define => define(rt, alloc, tables, home, name),
+        Initiate => {
+            let told = initiate(rt, alloc, tables, &home, name);
+            drop(home);
+            told
+        }
+    }
+}
+
+/// Whether the tables take the answer that `plug` found a class of this loader.
+fn is_posted(
+    alloc: Global,
+    tables: &mut Registry<Untold>,
+    loader: u16,
+) -> Result<bool, AllocError> {
+    let found = class(alloc, loader, bytes_of(T))?;
+    let request = Request::Load(LoaderId(PLUG), class_name(alloc, bytes_of(T))?);
+    Ok(posted(tables, 0, Finding::class(request, found)) == Told::Done)
+}
+
+/// The home of a name in a source where `p/T` has these bytes.
+fn home_among(
+    alloc: Global,
+    loaders: &Arc<Config>,
+    bytes: &[u8],
+    loader: u16,
+    name: Named,
+) -> Result<Home<Untold>, AllocError> {
+    let mut source = source(alloc, bytes)?;
+    home(alloc, loaders, &mut source, loader, bytes_of(name))
+}
+
+/// Asks the steps of tables.
+fn ask_steps<R: Abort + Print>(
+    rt: &R,
+    alloc: Global,
+    tables: &mut Registry<Untold>,
+    own: &Arc<Config>,
+    other: &Arc<Config>,
+    steps: &[Asked],
+) -> Result<(), Fail> {
+    for (call, found, loader, name, wanted) in steps {
+        let loaders = if *found == Elsewhere { other } else { own };
+        let bytes = if *found == Changed {
+            final_file()
+        } else {
+            plain_file()
+        };
+        let asked = class_name(alloc, bytes_of(*name))?;
+        let home = home_among(alloc, loaders, bytes, *loader, *name)?;
+        let told = ask(rt, alloc, tables, *call, home, &asked)?;
+        assert!(rt; number_of(told) == *wanted);
+    }
+    Ok(())
+}
+
+/// Posts two answers, of which the first is strayed.
+fn post_both<R: Abort>(
+    rt: &R,
+    alloc: Global,
+    tables: &mut Registry<Untold>,
+) -> Result<(), AllocError> {
+    assert!(rt; !is_posted(alloc, tables, PLUG)?);
+    assert!(rt; is_posted(alloc, tables, APP)?);
+    Ok(())
+}
 
 /// What was found under other loaders is strayed and changes nothing, though their numbers are the same; a class is recorded
 /// once its supertypes are, and what is recorded stays.
@@ -151,33 +359,13 @@ fn strangers_change_nothing(rt: HostRuntime) -> Result<(), Fail> {
     let own = config(alloc, PARENT_FIRST)?;
     let other = config(alloc, CHILD_FIRST)?;
     let mut tables = registry(alloc, &own, "load plug p/T")?;
-    for (call, found, loader, name, wanted) in STEPS {
-        let loaders = if found == Elsewhere { &other } else { &own };
-        let bytes = if found == Changed { FINAL } else { PLAIN };
-        let mut files = source(alloc, bytes)?;
-        let home = home(alloc, loaders, &mut files, loader, name)?;
-        let answer = if call == Define {
-            define(&rt, alloc, &mut tables, home)?
-        } else {
-            initiate(&rt, alloc, &mut tables, &home)?
-        };
-        assert!(rt; answer == wanted);
-    }
-    for (loader, is_posted) in [(PLUG, false), (APP, true)] {
-        let request = Request::Load(LoaderId(PLUG), class_name(alloc, T)?);
-        let said = Finding::class(request, class(alloc, loader, T)?);
-        assert!(rt; tables.post(0, said).is_ok() == is_posted);
-    }
-    let Ok(report) = tables.into_report() else {
-        return Err(Fail::new("no report"));
-    };
-    let history = [
-        Event::Define(class(alloc, BOOT, TOP)?),
-        Event::Initiate(class(alloc, BOOT, TOP)?, LoaderId(APP)),
-        Event::Define(class(alloc, APP, T)?),
-        Event::Initiate(class(alloc, APP, T)?, LoaderId(PLUG)),
-        Event::Post(0),
-    ];
-    assert!(rt; report.history.events() == history.as_slice());
+    let asked = ask_steps(&rt, alloc, &mut tables, &own, &other, &STEPS);
+    drop(own);
+    drop(other);
+    let posted = post_both(&rt, alloc, &mut tables);
+    let are_told = do_report(tables, &HISTORY);
+    asked?;
+    posted?;
+    assert!(rt; are_told);
     Ok(())
 }

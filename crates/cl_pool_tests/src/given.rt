@@ -1,11 +1,11 @@
 //! What the tests share: loaders, class files, sources and scripts served by threads.
 
 use cl_config::{Config, Script};
-use cl_model::{LoaderId, Untold};
+use cl_model::{Class, LoaderId, Untold};
 use cl_names::Name;
 use cl_pool::{Gate, PoolFault, serve};
 use cl_registry::Report;
-use cl_source::{MemorySource, Source};
+use cl_source::{MemorySource, Source, Telling};
 use std::alloc::{AllocError, Global};
 use std::sync::{Arc, Wait};
 use std::test::Fail;
@@ -21,59 +21,98 @@ pub const APP: u16 = 1;
 
 pub const PLUG: u16 = 2;
 
-pub const TOP: &[u8] = b"java/lang/Object";
+/// The classes of the tests. (A table of names as bytes costs the proof of whoever reads it minutes, one of these seconds.)
+#[derive(Clone, Copy, PartialEq, Eq)]
+pub enum Named {
+    Top,
+    T,
+    Service,
+    User,
+}
 
-pub const OBJECT: &[u8] =
-    b"\xca\xfe\xba\xbe\x00\x00\x00\x34\x00\x03\x01\x00\x10java/lang/Object\x07\x00\x01\x00\x21\x00\x02\x00\x00\x00\x00\x00\x00\x00\x00\x00\x00";
-
-/// `p/T`, public, over `java/lang/Object`.
-pub const PLAIN: &[u8] =
-    b"\xca\xfe\xba\xbe\x00\x00\x00\x34\x00\x05\x01\x00\x03p/T\x07\x00\x01\x01\x00\x10java/lang/Object\x07\x00\x03\x00\x21\x00\x02\x00\x04\x00\x00\x00\x00\x00\x00\x00\x00";
-
-/// `p/Svc`, public, over `java/lang/Object`, with the public method `m (Lp/T;)V`.
-pub const SERVICE: &[u8] =
-    b"\xca\xfe\xba\xbe\x00\x00\x00\x34\x00\x07\x01\x00\x05p/Svc\x07\x00\x01\x01\x00\x10java/lang/Object\x07\x00\x03\x01\x00\x01m\x01\x00\x08(Lp/T;)V\x00\x21\x00\x02\x00\x04\x00\x00\x00\x00\x00\x01\x00\x01\x00\x05\x00\x06\x00\x00\x00\x00";
-
-/// `p/Use`, public, over `java/lang/Object`, whose first entry is a reference to that method.
-pub const USER: &[u8] =
-    b"\xca\xfe\xba\xbe\x00\x00\x00\x34\x00\x0b\x0a\x00\x03\x00\x06\x01\x00\x05p/Svc\x07\x00\x02\x01\x00\x01m\x01\x00\x08(Lp/T;)V\x0c\x00\x04\x00\x05\x01\x00\x05p/Use\x07\x00\x07\x01\x00\x10java/lang/Object\x07\x00\x09\x00\x21\x00\x08\x00\x0a\x00\x00\x00\x00\x00\x00\x00\x00";
-
-pub fn class_name(alloc: Global, name: &[u8]) -> Result<Name, AllocError> {
-    match Name::class(alloc, name) {
-        Ok(name) => Ok(name),
-        Err(_) => Err(AllocError),
+pub fn bytes_of(name: Named) -> &'static [u8] {
+    match name {
+        Named::Top => b"java/lang/Object",
+        Named::T => b"p/T",
+        Named::Service => b"p/Svc",
+        Named::User => b"p/Use",
     }
 }
 
-pub fn put(
+/// The file of a class: `java/lang/Object`, and three public classes over it. `p/Svc` has the public method `m (Lp/T;)V`, and
+/// the first entry of `p/Use` is a reference to that.
+fn file_of(name: Named) -> &'static [u8] {
+    match name {
+        Named::Top => {
+            b"\xca\xfe\xba\xbe\x00\x00\x00\x34\x00\x03\x01\x00\x10java/lang/Object\x07\x00\x01\x00\x21\x00\x02\x00\x00\x00\x00\x00\x00\x00\x00\x00\x00"
+        }
+        Named::T => {
+            b"\xca\xfe\xba\xbe\x00\x00\x00\x34\x00\x05\x01\x00\x03p/T\x07\x00\x01\x01\x00\x10java/lang/Object\x07\x00\x03\x00\x21\x00\x02\x00\x04\x00\x00\x00\x00\x00\x00\x00\x00"
+        }
+        Named::Service => {
+            b"\xca\xfe\xba\xbe\x00\x00\x00\x34\x00\x07\x01\x00\x05p/Svc\x07\x00\x01\x01\x00\x10java/lang/Object\x07\x00\x03\x01\x00\x01m\x01\x00\x08(Lp/T;)V\x00\x21\x00\x02\x00\x04\x00\x00\x00\x00\x00\x01\x00\x01\x00\x05\x00\x06\x00\x00\x00\x00"
+        }
+        Named::User => {
+            b"\xca\xfe\xba\xbe\x00\x00\x00\x34\x00\x0b\x0a\x00\x03\x00\x06\x01\x00\x05p/Svc\x07\x00\x02\x01\x00\x01m\x01\x00\x08(Lp/T;)V\x0c\x00\x04\x00\x05\x01\x00\x05p/Use\x07\x00\x07\x01\x00\x10java/lang/Object\x07\x00\x09\x00\x21\x00\x08\x00\x0a\x00\x00\x00\x00\x00\x00\x00\x00"
+        }
+    }
+}
+
+/// Whether a class is that of a name and a loader.
+pub fn is_class(class: &Class, loader: u16, name: Named) -> bool {
+    class.loader == LoaderId(loader) && class.name.bytes() == bytes_of(name)
+}
+
+/// Puts the file of a class.
+fn put(
     alloc: Global,
     source: &mut MemorySource,
     loader: u16,
-    name: &[u8],
-    bytes: Vec<u8>,
+    name: Named,
 ) -> Result<(), AllocError> {
-    let name = class_name(alloc, name)?;
+    let bytes = Vec::from_slice(alloc, file_of(name))?;
+    let name = Name::class(alloc, bytes_of(name)).map_err(|_| AllocError)?;
     match source.put(alloc, LoaderId(loader), name, bytes) {
         Ok(()) => Ok(()),
-        Err(_) => Err(AllocError),
+        Err(refused) => {
+            drop(refused);
+            Err(AllocError)
+        }
+    }
+}
+
+/// Puts the files of these classes of these loaders.
+fn put_classes(
+    alloc: Global,
+    source: &mut MemorySource,
+    classes: &[(u16, Named)],
+) -> Result<(), AllocError> {
+    for (loader, name) in classes {
+        put(alloc, source, *loader, *name)?;
+    }
+    Ok(())
+}
+
+/// A source of the files of these classes of these loaders.
+pub fn source(alloc: Global, classes: &[(u16, Named)]) -> Result<Telling<Untold>, AllocError> {
+    let mut source = MemorySource::new(alloc);
+    match put_classes(alloc, &mut source, classes) {
+        Ok(()) => Ok(source.tell::<Untold>()),
+        Err(fault) => {
+            drop(source);
+            Err(fault)
+        }
     }
 }
 
 /// A service in `app` whose method takes a `p/T`, a class in `plug` that calls it, and a `p/T` in each.
-pub fn shared_service(alloc: Global) -> Result<MemorySource, AllocError> {
-    let mut source = MemorySource::new(alloc);
-    for (loader, name, bytes) in [
-        (BOOT, TOP, OBJECT),
-        (APP, b"p/Svc".as_slice(), SERVICE),
-        (APP, b"p/T", PLAIN),
-        (PLUG, b"p/T", PLAIN),
-        (PLUG, b"p/Use", USER),
-    ] {
-        let bytes = Vec::from_slice(alloc, bytes)?;
-        put(alloc, &mut source, loader, name, bytes)?;
-    }
-    Ok(source)
-}
+pub const SHARED: [(u16, Named); 5] = [
+    (BOOT, Named::Top),
+    (APP, Named::Service),
+    (APP, Named::T),
+    (PLUG, Named::T),
+    (PLUG, Named::User),
+];
 
 /// What so many workers make of a script over a source.
 pub fn served_by<S: Source<Untold> + Send, G: Gate, R: Threads + Wait + Sync>(
@@ -83,16 +122,20 @@ pub fn served_by<S: Source<Untold> + Send, G: Gate, R: Threads + Wait + Sync>(
     text: &str,
     workers: u32,
     gate: &G,
-) -> Result<Result<Report, PoolFault<Untold>>, Fail> {
+) -> Result<Report, PoolFault<Untold>> {
     let Ok(config) = Config::read(alloc, LOADERS) else {
-        return Err(Fail::new("configuration"));
+        return Err(PoolFault::Memory);
     };
     let Ok(script) = Script::read(alloc, &config, text) else {
-        return Err(Fail::new("script"));
+        return Err(PoolFault::Memory);
     };
-    let config = Arc::new(alloc, config)?;
-    let script = Arc::new(alloc, script)?;
-    Ok(serve::<Untold, S, G, R>(rt, alloc, config, source, script, workers, gate))
+    let Ok(config) = Arc::new(alloc, config) else {
+        return Err(PoolFault::Memory);
+    };
+    let Ok(script) = Arc::new(alloc, script) else {
+        return Err(PoolFault::Memory);
+    };
+    serve::<Untold, S, G, R>(rt, alloc, config, source, script, workers, gate)
 }
 
 /// The report of so many workers.
@@ -104,8 +147,11 @@ pub fn reported<S: Source<Untold> + Send, G: Gate, R: Threads + Wait + Sync>(
     workers: u32,
     gate: &G,
 ) -> Result<Report, Fail> {
-    match served_by(rt, alloc, source, text, workers, gate)? {
+    match served_by(rt, alloc, source, text, workers, gate) {
         Ok(report) => Ok(report),
-        Err(_) => Err(Fail::new("no report")),
+        Err(fault) => {
+            drop(fault);
+            Err(Fail::new("no report"))
+        }
     }
 }

@@ -1,16 +1,18 @@
 //! Scripts that several workers serve. A body that gives up on every request passes no line of these.
 
-use crate::given::{
-    APP, BOOT, OBJECT, PLAIN, PLUG, TOP, class_name, put, reported, served_by, shared_service,
-};
-use cl_model::{Answer, Class, Event, LoaderId, Untold, Verdict};
+use crate::given::{APP, BOOT, Named, PLUG, SHARED, is_class, reported, served_by, source};
+use Named::{Service, T, Top, User};
+use cl_model::{Answer, Event, LoaderId, Untold, Verdict};
 use cl_names::Name;
 use cl_pool::{Gate, OpenGate, PoolFault};
-use cl_source::{FaultySource, MemorySource};
-use std::alloc::{AllocError, Global};
+use cl_registry::Report;
+use cl_source::FaultySource;
+use std::alloc::Global;
+use std::sync::Wait;
 use std::sync::atomic::{AtomicU64, Ordering};
 use std::test::Fail;
 use std::thread;
+use std::thread::Threads;
 
 /// How often a held worker looks again before it gives up.
 const TURNS: u64 = 1_000_000;
@@ -47,13 +49,25 @@ impl Gate for Holding {
 }
 
 /// `java/lang/Object` in `boot`, and `p/T` in `app`.
-fn plain(alloc: Global) -> Result<MemorySource, AllocError> {
-    let mut source = MemorySource::new(alloc);
-    for (loader, name, bytes) in [(BOOT, TOP, OBJECT), (APP, b"p/T".as_slice(), PLAIN)] {
-        let bytes = Vec::from_slice(alloc, bytes)?;
-        put(alloc, &mut source, loader, name, bytes)?;
+const PLAIN: [(u16, Named); 2] = [(BOOT, Top), (APP, T)];
+
+/// A script of seven loads of `p/T`, and one of `java/lang/Object`.
+const EIGHT: &str =
+    "load app p/T\nload app p/T\nload app p/T\nload app p/T\nload app p/T\nload app p/T\nload app p/T\nload app java/lang/Object\n";
+
+/// Whether so many answers are each a class, or blame the source where that may be.
+fn are_classes(answers: &[Answer], count: usize, may_blame: bool) -> bool {
+    for answer in answers {
+        let as_wanted = match answer {
+            Answer::Said(Verdict::Class(_)) => true,
+            Answer::SourceFault(_, _) => may_blame,
+            _ => false,
+        };
+        if !as_wanted {
+            return false;
+        }
     }
-    Ok(source)
+    answers.len() == count
 }
 
 /// Seven workers wait in their reads until the eighth has served its request: no read is made under the lock, and all eight
@@ -65,19 +79,32 @@ fn reads_overlap(rt: HostRuntime) -> Result<(), Fail> {
         posted: AtomicU64::new(0),
         spent: AtomicU64::new(0),
     };
-    let mut script = String::new(alloc);
-    for _ in 0..7 {
-        script.push_str("load app p/T\n")?;
-    }
-    script.push_str("load app java/lang/Object\n")?;
-    let source = plain(alloc)?.tell::<Untold>();
-    let report = reported(&rt, alloc, source, script.as_str(), 8, &gate)?;
-    assert!(rt; report.answers.as_slice().len() == 8);
-    for answer in report.answers.as_slice() {
-        assert!(rt; matches!(answer, Answer::Said(Verdict::Class(_))));
-    }
+    let report = reported(&rt, alloc, source(alloc, &PLAIN)?, EIGHT, 8, &gate)?;
+    let are_classes = are_classes(report.answers.as_slice(), 8, false);
+    drop(report);
+    assert!(rt; are_classes);
     assert!(rt; gate.spent.load(Ordering::SeqCst) == 0);
     Ok(())
+}
+
+/// Whether so many workers are refused for their number.
+fn are_refused<R: Threads + Wait + Sync>(
+    rt: &R,
+    alloc: Global,
+    workers: u32,
+) -> Result<bool, Fail> {
+    let source = source(alloc, &PLAIN)?;
+    match served_by(rt, alloc, source, "load app p/T", workers, &OpenGate) {
+        Ok(report) => {
+            drop(report);
+            Ok(false)
+        }
+        Err(fault) => {
+            let are_refused = matches!(&fault, PoolFault::Workers);
+            drop(fault);
+            Ok(are_refused)
+        }
+    }
 }
 
 /// No worker, and more than 64, are refused; 64 serve a script.
@@ -85,16 +112,52 @@ fn reads_overlap(rt: HostRuntime) -> Result<(), Fail> {
 fn workers_are_limited(rt: HostRuntime) -> Result<(), Fail> {
     let alloc = rt.alloc();
     for workers in [0u32, 65, u32::MAX] {
-        let source = plain(alloc)?.tell::<Untold>();
-        let fault = served_by(&rt, alloc, source, "load app p/T", workers, &OpenGate)?.err();
-        assert!(rt; matches!(fault, Some(PoolFault::Workers)));
+        assert!(rt; are_refused(&rt, alloc, workers)?);
     }
     for workers in [1, 2, 64] {
-        let source = plain(alloc)?.tell::<Untold>();
+        let source = source(alloc, &PLAIN)?;
         let report = reported(&rt, alloc, source, "load app p/T", workers, &OpenGate)?;
-        assert!(rt; report.history.events().len() == 4);
+        let happened = report.history.events().len();
+        drop(report);
+        assert!(rt; happened == 4);
     }
     Ok(())
+}
+
+/// How many references a history settles, and how many rounds it begins.
+fn counted(history: &[Event]) -> (usize, usize) {
+    let mut settled = 0usize;
+    let mut rounds = 0usize;
+    for event in history {
+        match event {
+            Event::Settle(_) => settled = settled.saturating_add(1),
+            Event::NextRound => rounds = rounds.saturating_add(1),
+            _ => {}
+        }
+    }
+    (settled, rounds)
+}
+
+fn is_service(verdict: &Verdict) -> bool {
+    match verdict {
+        Verdict::Method(class, _) => is_class(class, APP, Service),
+        _ => false,
+    }
+}
+
+/// Whether each answer is the method of the service.
+fn are_service(answers: &[Answer]) -> bool {
+    for answer in answers {
+        let is_so = match answer {
+            Answer::Said(verdict) => is_service(verdict),
+            Answer::Shared(settled) => is_service(&settled.verdict),
+            _ => false,
+        };
+        if !is_so {
+            return false;
+        }
+    }
+    true
 }
 
 /// A reference that a thousand requests ask for is settled once, whichever worker is first, and each has its verdict.
@@ -105,30 +168,28 @@ fn many_workers_settle_once(rt: HostRuntime) -> Result<(), Fail> {
     for _ in 0..1000 {
         script.push_str("resolve plug p/Use 1\n")?;
     }
-    let source = shared_service(alloc)?.tell::<Untold>();
+    let source = source(alloc, &SHARED)?;
     let report = reported(&rt, alloc, source, script.as_str(), 8, &OpenGate)?;
-    let service = Class {
-        name: class_name(alloc, b"p/Svc")?,
-        loader: LoaderId(APP),
-    };
-    let mut settled = 0usize;
-    for event in report.history.events() {
-        if let Event::Settle(_) = event {
-            settled = settled.saturating_add(1);
-        }
-    }
+    let (settled, _) = counted(report.history.events());
+    let count = report.answers.as_slice().len();
+    let are_service = are_service(report.answers.as_slice());
+    drop(report);
     assert!(rt; settled == 1);
-    let answers = report.answers.as_slice();
-    assert!(rt; answers.len() == 1000);
-    for answer in answers {
-        let verdict = match answer {
-            Answer::Said(verdict) => verdict,
-            Answer::Shared(settled) => &settled.verdict,
-            _ => return Err(Fail::new("no verdict")),
-        };
-        assert!(rt; matches!(verdict, Verdict::Method(class, _) if *class == service));
-    }
+    assert!(rt; count == 1000);
+    assert!(rt; are_service);
     Ok(())
+}
+
+/// Whether the second request found `p/T` in `app`, and the third met a constraint.
+fn are_constrained(answers: &[Answer]) -> bool {
+    match answers {
+        [
+            _,
+            Answer::Said(Verdict::Class(class)),
+            Answer::Said(Verdict::Linkage(_)),
+        ] => { is_class(class, APP, T) }
+        _ => false,
+    }
 }
 
 /// A round begins once all of the round before is answered, and empty rounds are passed: the constraint that the first round
@@ -139,23 +200,13 @@ fn rounds_are_kept(rt: HostRuntime) -> Result<(), Fail> {
     let script =
         "then\nthen\nresolve plug p/Use 1\nthen\nthen\nload app p/T\nthen\nload plug p/T\nthen\n";
     for workers in [1, 2, 3, 8] {
-        let source = shared_service(alloc)?.tell::<Untold>();
+        let source = source(alloc, &SHARED)?;
         let report = reported(&rt, alloc, source, script, workers, &OpenGate)?;
-        let mut rounds = 0usize;
-        for event in report.history.events() {
-            if let Event::NextRound = event {
-                rounds = rounds.saturating_add(1);
-            }
-        }
+        let (_, rounds) = counted(report.history.events());
+        let are_constrained = are_constrained(report.answers.as_slice());
+        drop(report);
         assert!(rt; rounds == 6);
-        let home = Class {
-            name: class_name(alloc, b"p/T")?,
-            loader: LoaderId(APP),
-        };
-        assert!(rt;
-            matches!(report.answers.as_slice(),
-            [_, Answer::Said(Verdict::Class(class)), Answer::Said(Verdict::Linkage(_))] if *class == home)
-        );
+        assert!(rt; are_constrained);
     }
     Ok(())
 }
@@ -166,18 +217,11 @@ fn a_failed_read_stops_no_other(rt: HostRuntime) -> Result<(), Fail> {
     let alloc = rt.alloc();
     let script = "load plug p/T\nthen\nload app p/T\nload app java/lang/Object\n";
     for at in 0..12 {
-        let source = FaultySource::new(shared_service(alloc)?.tell::<Untold>(), at);
+        let source = FaultySource::new(source(alloc, &SHARED)?, at);
         let report = reported(&rt, alloc, source, script, 4, &OpenGate)?;
-        let answers = report.answers.as_slice();
-        assert!(rt; answers.len() == 3);
-        for answer in answers {
-            let as_wanted = match answer {
-                Answer::Said(Verdict::Class(_)) => true,
-                Answer::SourceFault(_, _) => at > 0,
-                _ => false,
-            };
-            assert!(rt; as_wanted);
-        }
+        let are_classes = are_classes(report.answers.as_slice(), 3, at > 0);
+        drop(report);
+        assert!(rt; are_classes);
     }
     Ok(())
 }
@@ -187,10 +231,12 @@ fn a_failed_read_stops_no_other(rt: HostRuntime) -> Result<(), Fail> {
 fn nothing_is_served(rt: HostRuntime) -> Result<(), Fail> {
     let alloc = rt.alloc();
     for (script, events) in [("", 0usize), ("then\nthen\n", 2)] {
-        let source = MemorySource::new(alloc).tell::<Untold>();
-        let report = reported(&rt, alloc, source, script, 3, &OpenGate)?;
-        assert!(rt; report.history.events().len() == events);
-        assert!(rt; report.answers.as_slice().is_empty());
+        let report = reported(&rt, alloc, source(alloc, &[])?, script, 3, &OpenGate)?;
+        let happened = report.history.events().len();
+        let answers = report.answers.as_slice().len();
+        drop(report);
+        assert!(rt; happened == events);
+        assert!(rt; answers == 0);
     }
     Ok(())
 }

@@ -1,77 +1,115 @@
 //! Scripts served over a source of which a read fails, and over much. A body that gives up on every request passes no line
 //! of these.
 
-use crate::given::{APP, BOOT, OBJECT, PLAIN, PLUG, SERVICE, TOP, USER, class_name, put, served};
+use crate::given::{APP, BOOT, Named, PLUG, bytes_of, is_class, put, served, source};
+use Named::{Service, T, Top, User};
 use cl_model::{Answer, Class, ErrorKind, Event, LoaderId, Untold, Verdict};
+use cl_registry::Report;
 use cl_source::{FaultySource, MemorySource, Source};
 use std::alloc::{AllocError, Global};
 use std::test::Fail;
 
+/// What a script comes to over a source of which a read fails, and how many reads the source counts that did.
+#[derive(Drop)]
+struct Failing {
+    report: Report,
+    failures: u64,
+}
+
+/// Serves a script over a source of these classes, whose read of this number fails.
+fn served_failing(
+    alloc: Global,
+    classes: &[(u16, Named)],
+    at: u64,
+    text: &str,
+) -> Result<Failing, AllocError> {
+    let telling = source(alloc, classes)?.tell::<Untold>();
+    let mut source = FaultySource::new(telling, at);
+    let report = served(alloc, &mut source, text);
+    let failures = source.failures();
+    drop(source);
+    Ok(Failing {
+        report: report?,
+        failures,
+    })
+}
+
 /// Which read is refused, which request is answered so, and where.
-const FAULTS: [(u64, usize, u16, &[u8]); 7] = [
-    (0, 9, BOOT, TOP),
-    (1, 0, PLUG, b"p/T"),
-    (2, 0, BOOT, TOP),
-    (3, 1, BOOT, b"p/T"),
-    (4, 1, APP, b"p/T"),
-    (5, 1, BOOT, TOP),
-    (6, 9, BOOT, TOP),
+const FAULTS: [(u64, usize, u16, Named); 7] = [
+    (0, 9, BOOT, Top),
+    (1, 0, PLUG, T),
+    (2, 0, BOOT, Top),
+    (3, 1, BOOT, T),
+    (4, 1, APP, T),
+    (5, 1, BOOT, Top),
+    (6, 9, BOOT, Top),
 ];
+
+/// Whether an answer blames this loader and name.
+fn blames(answer: &Answer, loader: u16, name: Named) -> bool {
+    match answer {
+        Answer::SourceFault(at, by) => *by == LoaderId(loader) && at.bytes() == bytes_of(name),
+        _ => false,
+    }
+}
+
+/// Whether an answer is `p/T` of this loader.
+fn finds(answer: &Answer, loader: u16) -> bool {
+    match answer {
+        Answer::Said(Verdict::Class(class)) => is_class(class, loader, T),
+        _ => false,
+    }
+}
+
+/// Whether the request of this number blames this loader and name, and the others find `p/T` in `plug` and in `app`.
+fn are_answered(answers: &[Answer], blamed: usize, loader: u16, name: Named) -> bool {
+    match answers {
+        [first, second] if blamed == 0 => blames(first, loader, name) && finds(second, APP),
+        [first, second] if blamed == 1 => finds(first, PLUG) && blames(second, loader, name),
+        [first, second] => finds(first, PLUG) && finds(second, APP),
+        _ => false,
+    }
+}
 
 /// A read that fails is the answer of its request alone, and of no other; what was recorded before stays, what is asked
 /// again is found.
 #[test]
 fn each_read_fails_once(rt: HostRuntime) -> Result<(), Fail> {
     let alloc = rt.alloc();
+    let classes = [(BOOT, Top), (APP, T), (PLUG, T)];
+    let script = "load plug p/T\nthen\nload app p/T\n";
     for (at, blamed, loader, name) in FAULTS {
-        let mut source = MemorySource::new(alloc);
-        for (loader, name, bytes) in [
-            (BOOT, TOP, OBJECT),
-            (APP, b"p/T".as_slice(), PLAIN),
-            (PLUG, b"p/T", PLAIN),
-        ] {
-            let bytes = Vec::from_slice(alloc, bytes)?;
-            put(alloc, &mut source, loader, name, bytes)?;
-        }
-        let mut source = FaultySource::new(source.tell::<Untold>(), at);
-        let script = "load plug p/T\nthen\nload app p/T\n";
-        let report = served(alloc, &mut source, script)?;
-        let name = class_name(alloc, name)?;
-        let answers = report.answers.as_slice();
-        for (number, home) in [PLUG, APP].iter().enumerate() {
-            let class = Class {
-                name: class_name(alloc, b"p/T")?,
-                loader: LoaderId(*home),
-            };
-            let found = Verdict::Class(class);
-            let as_wanted = match answers.get(number) {
-                Some(Answer::Said(verdict)) => number != blamed && *verdict == found,
-                Some(Answer::SourceFault(at, by)) => {
-                    number == blamed && *at == name && *by == LoaderId(loader)
-                }
-                _ => false,
-            };
-            assert!(rt; as_wanted);
-        }
-        assert!(rt; source.failures() == u64::from(blamed < 2));
+        let served = served_failing(alloc, &classes, at, script)?;
+        let as_wanted = are_answered(served.report.answers.as_slice(), blamed, loader, name);
+        let failures = served.failures;
+        drop(served);
+        assert!(rt; as_wanted);
+        assert!(rt; failures == u64::from(blamed < 2));
     }
     Ok(())
 }
 
 /// A service in `app` whose method takes a `p/T`, a class in `plug` that calls it, and a `p/T` in each.
-fn shared_service(alloc: Global) -> Result<MemorySource, AllocError> {
-    let mut source = MemorySource::new(alloc);
-    for (loader, name, bytes) in [
-        (BOOT, TOP, OBJECT),
-        (APP, b"p/Svc".as_slice(), SERVICE),
-        (APP, b"p/T", PLAIN),
-        (PLUG, b"p/T", PLAIN),
-        (PLUG, b"p/Use", USER),
-    ] {
-        let bytes = Vec::from_slice(alloc, bytes)?;
-        put(alloc, &mut source, loader, name, bytes)?;
+const SHARED: [(u16, Named); 5] = [
+    (BOOT, Top),
+    (APP, Service),
+    (APP, T),
+    (PLUG, T),
+    (PLUG, User),
+];
+
+/// How many requests have a verdict, and how many blame the source.
+fn counted(answers: &[Answer]) -> (usize, usize) {
+    let mut said = 0usize;
+    let mut faults = 0usize;
+    for answer in answers {
+        match answer {
+            Answer::Said(_) | Answer::Shared(_) => said = said.saturating_add(1),
+            Answer::SourceFault(_, _) => faults = faults.saturating_add(1),
+            Answer::Memory => {}
+        }
     }
-    Ok(source)
+    (said, faults)
 }
 
 /// Requests of each kind, over a source of which a read fails, each in turn until none does: one request is answered so, the
@@ -80,28 +118,60 @@ fn shared_service(alloc: Global) -> Result<MemorySource, AllocError> {
 fn each_read_of_every_kind_fails_once(rt: HostRuntime) -> Result<(), Fail> {
     let alloc = rt.alloc();
     let script = "resolve plug p/Use 1\nlink plug p/Use\nthen\nload app p/T\nload plug p/T\n";
-    let mut runs = 0;
     for at in 1..100u64 {
-        let source = shared_service(alloc)?.tell::<Untold>();
-        let mut source = FaultySource::new(source, at);
-        let report = served(alloc, &mut source, script)?;
-        let mut faults = 0usize;
-        for answer in report.answers.as_slice() {
-            match answer {
-                Answer::SourceFault(_, _) => faults = faults.saturating_add(1),
-                Answer::Memory => return Err(Fail::new("out of memory")),
-                _ => {}
-            }
+        let served = served_failing(alloc, &SHARED, at, script)?;
+        let counts = counted(served.report.answers.as_slice());
+        let failures = served.failures;
+        drop(served);
+        if failures == 0 {
+            assert!(rt; counts == (4, 0));
+            assert!(rt; at > 3);
+            return Ok(());
         }
-        if source.failures() == 0 {
-            runs = at;
-            assert!(rt; faults == 0);
-            break;
-        }
-        assert!(rt; faults == 1);
+        assert!(rt; counts == (3, 1));
     }
-    assert!(rt; runs > 3);
-    Ok(())
+    Err(Fail::new("a read fails each time"))
+}
+
+/// The report of a script over a source in memory.
+fn served_from(alloc: Global, source: MemorySource, text: &str) -> Result<Report, AllocError> {
+    let mut telling = source.tell::<Untold>();
+    let report = served(alloc, &mut telling, text);
+    drop(telling);
+    report
+}
+
+/// How many references a history settles.
+fn settled(history: &[Event]) -> usize {
+    let mut settled = 0usize;
+    for event in history {
+        if let Event::Settle(_) = event {
+            settled = settled.saturating_add(1);
+        }
+    }
+    settled
+}
+
+fn is_service(verdict: &Verdict) -> bool {
+    match verdict {
+        Verdict::Method(class, _) => is_class(class, APP, Service),
+        _ => false,
+    }
+}
+
+/// Whether each answer is the method of the service.
+fn are_service(answers: &[Answer]) -> bool {
+    for answer in answers {
+        let is_so = match answer {
+            Answer::Said(verdict) => is_service(verdict),
+            Answer::Shared(settled) => is_service(&settled.verdict),
+            _ => false,
+        };
+        if !is_so {
+            return false;
+        }
+    }
+    true
 }
 
 /// A reference is settled once, however often it is asked for, and each request has the verdict.
@@ -112,29 +182,14 @@ fn a_thousand_resolutions_settle_once(rt: HostRuntime) -> Result<(), Fail> {
     for _ in 0..1000 {
         script.push_str("resolve plug p/Use 1\n")?;
     }
-    let mut source = shared_service(alloc)?.tell::<Untold>();
-    let report = served(alloc, &mut source, script.as_str())?;
-    let service = Class {
-        name: class_name(alloc, b"p/Svc")?,
-        loader: LoaderId(APP),
-    };
-    let mut settled = 0usize;
-    for event in report.history.events() {
-        if let Event::Settle(_) = event {
-            settled = settled.saturating_add(1);
-        }
-    }
+    let report = served_from(alloc, source(alloc, &SHARED)?, script.as_str())?;
+    let settled = settled(report.history.events());
+    let count = report.answers.as_slice().len();
+    let are_service = are_service(report.answers.as_slice());
+    drop(report);
     assert!(rt; settled == 1);
-    let answers = report.answers.as_slice();
-    assert!(rt; answers.len() == 1000);
-    for answer in answers {
-        let verdict = match answer {
-            Answer::Said(verdict) => verdict,
-            Answer::Shared(settled) => &settled.verdict,
-            _ => return Err(Fail::new("no verdict")),
-        };
-        assert!(rt; matches!(verdict, Verdict::Method(class, _) if *class == service));
-    }
+    assert!(rt; count == 1000);
+    assert!(rt; are_service);
     Ok(())
 }
 
@@ -158,67 +213,89 @@ fn link(alloc: Global, own: &str, above: &str) -> Result<Vec<u8>, AllocError> {
 /// How many classes stand above one another.
 const LINKS: usize = 5000;
 
+/// Puts a chain of classes into `app`, whose first has this superclass and whose last is `p/C5000`.
+fn put_chain(alloc: Global, source: &mut MemorySource, first: &str) -> Result<(), AllocError> {
+    let mut above = String::from_str(alloc, first)?;
+    for number in 1001..LINKS + 1000 {
+        let own = format!(in alloc; "p/D{number}")?;
+        let bytes = link(alloc, own.as_str(), above.as_str())?;
+        put(alloc, source, APP, own.as_bytes(), bytes)?;
+        above = own;
+    }
+    let bytes = link(alloc, "p/C5000", above.as_str())?;
+    put(alloc, source, APP, b"p/C5000", bytes)
+}
+
+/// A source of `java/lang/Object` and such a chain.
+fn chain(alloc: Global, first: &str) -> Result<MemorySource, AllocError> {
+    let mut source = source(alloc, &[(BOOT, Top)])?;
+    match put_chain(alloc, &mut source, first) {
+        Ok(()) => Ok(source),
+        Err(fault) => {
+            drop(source);
+            Err(fault)
+        }
+    }
+}
+
+fn is_last(class: &Class) -> bool {
+    class.loader == LoaderId(APP) && class.name.bytes() == b"p/C5000".as_slice()
+}
+
+/// Whether the one answer is the last class of the chain, or that it is above itself.
+fn is_loaded(answers: &[Answer], is_circle: bool) -> bool {
+    match answers {
+        [Answer::Said(Verdict::Class(class))] => !is_circle && is_last(class),
+        [Answer::Said(Verdict::Error(ErrorKind::ClassCircularityError, class))] => {
+            is_circle && is_last(class)
+        }
+        _ => false,
+    }
+}
+
 /// A chain of classes in `app`, the first over `java/lang/Object` or over the last.
 #[test]
 fn long_chain(rt: HostRuntime) -> Result<(), Fail> {
     let alloc = rt.alloc();
-    for (first, events) in [("java/lang/Object", LINKS + 3), ("p/C5000", 1)] {
-        let mut source = MemorySource::new(alloc);
-        put(
-            alloc,
-            &mut source,
-            BOOT,
-            TOP,
-            Vec::from_slice(alloc, OBJECT)?,
-        )?;
-        let mut above = String::from_str(alloc, first)?;
-        for number in 1001..=LINKS + 1000 {
-            let own = if number == LINKS + 1000 {
-                String::from_str(alloc, "p/C5000")?
-            } else {
-                format!(in alloc; "p/D{number}")?
-            };
-            let bytes = link(alloc, own.as_str(), above.as_str())?;
-            put(alloc, &mut source, APP, own.as_bytes(), bytes)?;
-            above = own;
-        }
-        let report = served(alloc, &mut source.tell::<Untold>(), "load app p/C5000")?;
-        let class = Class {
-            name: class_name(alloc, b"p/C5000")?,
-            loader: LoaderId(APP),
-        };
-        let verdict = if events == 1 {
-            Verdict::Error(ErrorKind::ClassCircularityError, class)
+    for (is_circle, events) in [(false, LINKS + 3), (true, 1)] {
+        let first = if is_circle {
+            "p/C5000"
         } else {
-            Verdict::Class(class)
+            "java/lang/Object"
         };
-        assert!(rt; report.history.events().len() == events);
-        assert!(rt; matches!(report.answers.as_slice(), [Answer::Said(said)] if *said == verdict));
+        let report = served_from(alloc, chain(alloc, first)?, "load app p/C5000")?;
+        let happened = report.history.events().len();
+        let is_loaded = is_loaded(report.answers.as_slice(), is_circle);
+        drop(report);
+        assert!(rt; happened == events);
+        assert!(rt; is_loaded);
     }
     Ok(())
+}
+
+/// Whether each answer is a verdict of its own.
+fn are_said(answers: &[Answer]) -> bool {
+    for answer in answers {
+        if !matches!(answer, Answer::Said(_)) {
+            return false;
+        }
+    }
+    true
 }
 
 /// As many requests as a script may have, of names that are there and that are not: none is answered out of memory.
 #[test]
 fn many_requests(rt: HostRuntime) -> Result<(), Fail> {
     let alloc = rt.alloc();
-    let mut source = MemorySource::new(alloc);
-    put(
-        alloc,
-        &mut source,
-        BOOT,
-        TOP,
-        Vec::from_slice(alloc, OBJECT)?,
-    )?;
     let mut script = String::from_str(alloc, "load plug java/lang/Object\n")?;
     for _ in 0..32_767 {
         script.push_str("load app p/Z\nload plug java/lang/Object\n")?;
     }
-    let report = served(alloc, &mut source.tell::<Untold>(), script.as_str())?;
-    let answers = report.answers.as_slice();
-    assert!(rt; answers.len() == 65_535);
-    for answer in answers {
-        assert!(rt; matches!(answer, Answer::Said(_)));
-    }
+    let report = served_from(alloc, source(alloc, &[(BOOT, Top)])?, script.as_str())?;
+    let are_said = are_said(report.answers.as_slice());
+    let count = report.answers.as_slice().len();
+    drop(report);
+    assert!(rt; are_said);
+    assert!(rt; count == 65_535);
     Ok(())
 }

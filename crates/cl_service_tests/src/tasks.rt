@@ -1,11 +1,12 @@
 //! A task and its replies.
 
-use crate::given::{APP, BOOT, LOADERS, PLAIN, TOP, class_name, put};
+use crate::given::{APP, BOOT, LOADERS, Named, bytes_of, class_name, source};
 use cl_config::Config;
 use cl_model::{Answer, LoaderId, Request, Untold};
-use cl_source::{MemorySource, Source, SourceFault, Telling};
+use cl_source::{Source, SourceFault, Telling};
 use cl_tasks::{Reply, Task, Turn};
 use std::alloc::{AllocError, Global};
+use std::process::Abort;
 use std::sync::Arc;
 use std::test::Fail;
 
@@ -32,7 +33,7 @@ enum Told {
     /// That nothing is recorded.
     Unrecorded,
     /// What a loader has for a name.
-    Read(u16, &'static [u8]),
+    Read,
     Fault,
     Memory,
 }
@@ -41,81 +42,106 @@ enum Told {
 #[derive(Clone, Copy, PartialEq, Eq)]
 enum Does {
     ExpectsAnother,
-    Looks(u16),
-    Reads(u16),
-    Blames(u16),
+    Looks,
+    Reads,
+    Blames,
     Else,
 }
+
+use Does::{Blames, ExpectsAnother, Looks, Reads};
+use Named::{T, Top};
+use Told::{Fault, Memory, Read, Start, Unrecorded};
 
 /// What a task is told, as a reply.
 fn reply(
     alloc: Global,
     source: &mut Telling<Untold>,
     told: Told,
+    loader: u16,
+    name: Named,
 ) -> Result<Reply<Untold>, SourceFault> {
     match told {
-        Told::Start => Ok(Reply::Start),
-        Told::Unrecorded => Ok(Reply::Looked(None)),
-        Told::Fault => Ok(Reply::SourceFault(SourceFault::Device)),
-        Told::Memory => Ok(Reply::Memory),
-        Told::Read(loader, name) => {
-            let name = class_name(alloc, name)?;
+        Start => Ok(Reply::Start),
+        Unrecorded => Ok(Reply::Looked(None)),
+        Fault => Ok(Reply::SourceFault(SourceFault::Device)),
+        Memory => Ok(Reply::Memory),
+        Read => {
+            let name = class_name(alloc, bytes_of(name))?;
             Ok(Reply::Probed(source.read(alloc, LoaderId(loader), &name)?))
         }
     }
 }
 
-/// What a task does with a reply.
-fn turned(alloc: Global, task: &mut Task<Untold>, reply: Reply<Untold>) -> Does {
+/// What a task does with a reply, and at which loader.
+fn turned(alloc: Global, task: &mut Task<Untold>, reply: Reply<Untold>) -> (Does, u16) {
     if !task.expects(&reply) {
-        return Does::ExpectsAnother;
+        drop(reply);
+        return (ExpectsAnother, BOOT);
     }
-    match task.turn(alloc, reply) {
-        Turn::Look(loader, _) => Does::Looks(loader.0),
-        Turn::Read(loader, _) => Does::Reads(loader.0),
+    let turn = task.turn(alloc, reply);
+    let does = does_of(&turn);
+    drop(turn);
+    does
+}
+
+fn does_of(turn: &Turn<Untold>) -> (Does, u16) {
+    match turn {
+        Turn::Look(loader, _) => (Looks, loader.0),
+        Turn::Read(loader, _) => (Reads, loader.0),
         Turn::Post(finding) => match finding.answer() {
-            Answer::SourceFault(_, loader) => Does::Blames(loader.0),
-            _ => Does::Else,
+            Answer::SourceFault(_, loader) => (Blames, loader.0),
+            _ => (Does::Else, BOOT),
         },
-        _ => Does::Else,
+        _ => (Does::Else, BOOT),
     }
 }
 
-/// A load whose home is the first loader: what its task is told, and what it does.
-const TURNS: [(Told, Does); 13] = [
-    (Told::Unrecorded, Does::ExpectsAnother),
-    (Told::Start, Does::Looks(APP)),
-    (Told::Start, Does::ExpectsAnother),
-    (Told::Fault, Does::ExpectsAnother),
-    (Told::Unrecorded, Does::Reads(BOOT)),
-    (Told::Read(APP, b"p/T"), Does::ExpectsAnother),
-    (Told::Read(BOOT, TOP), Does::ExpectsAnother),
+/// A load whose home is the first loader: what its task is told, of a loader and a name where it is read, and what it does,
+/// at which loader.
+const TURNS: [(Told, u16, Named, Does, u16); 13] = [
+    (Unrecorded, BOOT, T, ExpectsAnother, BOOT),
+    (Start, BOOT, T, Looks, APP),
+    (Start, BOOT, T, ExpectsAnother, BOOT),
+    (Fault, BOOT, T, ExpectsAnother, BOOT),
+    (Unrecorded, BOOT, T, Reads, BOOT),
+    (Read, APP, T, ExpectsAnother, BOOT),
+    (Read, BOOT, Top, ExpectsAnother, BOOT),
     // found: what has the home recorded?
-    (Told::Read(BOOT, b"p/T"), Does::Looks(BOOT)),
-    (Told::Unrecorded, Does::Looks(BOOT)),
-    (Told::Unrecorded, Does::Reads(BOOT)),
-    (Told::Unrecorded, Does::ExpectsAnother),
-    (Told::Fault, Does::Blames(BOOT)),
-    (Told::Memory, Does::ExpectsAnother),
+    (Read, BOOT, T, Looks, BOOT),
+    (Unrecorded, BOOT, T, Looks, BOOT),
+    (Unrecorded, BOOT, T, Reads, BOOT),
+    (Unrecorded, BOOT, T, ExpectsAnother, BOOT),
+    (Fault, BOOT, T, Blames, BOOT),
+    (Memory, BOOT, T, ExpectsAnother, BOOT),
 ];
+
+/// A source that has `p/T` in the first loader.
+fn plain(alloc: Global) -> Result<Telling<Untold>, AllocError> {
+    Ok(source(alloc, &[(BOOT, T)])?.tell::<Untold>())
+}
+
+/// Tells a task all of it in order, and compares what it does.
+fn ask_turns<R: Abort>(
+    rt: &R,
+    alloc: Global,
+    source: &mut Telling<Untold>,
+    task: &mut Task<Untold>,
+) -> Result<(), SourceFault> {
+    for (told, loader, name, does, at) in TURNS {
+        let reply = reply(alloc, source, told, loader, name)?;
+        assert!(rt; turned(alloc, task, reply) == (does, at));
+    }
+    Ok(())
+}
 
 #[test]
 fn replies_are_expected_in_turn(rt: HostRuntime) -> Result<(), Fail> {
     let alloc = rt.alloc();
-    let mut source = MemorySource::new(alloc);
-    put(
-        alloc,
-        &mut source,
-        BOOT,
-        b"p/T",
-        Vec::from_slice(alloc, PLAIN)?,
-    )?;
-    let mut source = source.tell::<Untold>();
+    let mut source = plain(alloc)?;
     let mut task = task(alloc)?;
-    for (told, does) in TURNS {
-        let reply = reply(alloc, &mut source, told)?;
-        let done = turned(alloc, &mut task, reply);
-        assert!(rt; done == does);
-    }
+    let asked = ask_turns(&rt, alloc, &mut source, &mut task);
+    drop(task);
+    drop(source);
+    asked?;
     Ok(())
 }

@@ -246,6 +246,10 @@ fn is_ended(
 
 /// The home that an ended search found.
 fn home_of(search: Search<Untold>) -> Result<Home<Untold>, AllocError> {
+    if search.next_probe().is_some() {
+        drop(search);
+        return Err(AllocError);
+    }
     match search.home() {
         Ok(home) => Ok(home),
         Err(refused) => {

@@ -65,8 +65,12 @@ fn ask_probes<R: Abort>(
     Ok(())
 }
 
-/// Whether an ended search found nothing.
+/// Whether a search has ended and found nothing.
 fn is_unfound(search: Search<Untold>) -> bool {
+    if search.next_probe().is_some() {
+        drop(search);
+        return false;
+    }
     match search.home() {
         Ok(home) => {
             drop(home);
@@ -98,10 +102,9 @@ fn ask_orders<R: Abort>(
         let mut search = search(alloc, loaders, loader, name.bytes())?;
         let asked = ask_probes(rt, alloc, nothing, &mut search, &order, &name);
         let is_more = is_taken(alloc, nothing, &mut search, LoaderId(loader), &name);
-        let is_over = search.next_probe().is_none();
         let is_unfound = is_unfound(search);
         asked?;
-        assert!(rt; !is_more? && is_over && is_unfound);
+        assert!(rt; !is_more? && is_unfound);
     }
     Ok(())
 }

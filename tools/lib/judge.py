@@ -45,7 +45,8 @@ def run(root, crates, file, when_proved=lambda crate, log: None, when_refused=la
     how = {"cwd": root, "stdin": subprocess.DEVNULL, "stdout": subprocess.PIPE, "stderr": subprocess.STDOUT}
     # (one job a proof: more cost more of processor, and the wrong bodies beside it take what cores it leaves; rt ci then plans no memory)
     how["env"] = {**os.environ, "RT_JOBS": str(lanes())}
-    ran = subprocess.Popen([*guard(), "rt", "ci"], text=True, errors="replace", **how)
+    # (anew, since of a crate that an earlier run on this machine proved rt ci prints nothing, and the trials go by what it prints)
+    ran = subprocess.Popen([*guard(), "rt", "ci", "--anew"], text=True, errors="replace", **how)
     try:
         watch = Watch(ran.pid)
         with open(file, "w", encoding="utf-8") as log:

@@ -1,4 +1,4 @@
-ghost use Rattle.std.specs.Prelude.{◌≡◌, ◌≤◌, ℕ, List, [], ◌∷◌, ◌++◌, length, IfErr, IfOk, MatchOption};
+ghost use Rattle.std.specs.Prelude.{◌≡◌, ◌≤◌, ℕ, List, [], ◌∷◌, ◌++◌, length, IfErr, IfOk, OnOk, MatchOption};
 ghost use Rattle.std.specs.Prelude.{refl, nat_eq, Some, string_bytes};
 ghost use Rattle.std.specs.Option.{option_map};
 ghost use Rattle.std.specs.Ordering.{nat_cmp};
@@ -12,10 +12,10 @@ ghost use Rattle.cl_names.specs.Escape.{escaped, WritesName};
 ghost use Rattle.cl_names.specs.Name.{TestedNameOf, WritesClass};
 ghost use Rattle.cl_names.specs.Plain.{plain_of};
 
-use crate::escape::{printed, written};
+use crate::escape::{bytes_of_text, put_printed};
 use crate::kind::{
-    MAX_LEN, has_class_form, has_method_form, has_unqualified_form, is_class_name, is_method_name,
-    is_unqualified_name, package_len,
+    MOST_TEXT_BYTES, has_class_form, has_method_form, has_unqualified_form, is_class_name,
+    is_method_name, is_unqualified_name, package_len,
 };
 use crate::plain::plain;
 use crate::text::is_text;
@@ -87,12 +87,14 @@ impl Ord for Name {
 }
 
 impl Hash for Name {
-    ghost hash_input = { fed.slice fed.u8 };
+    ghost hash_input = { fed.str };
 
     ghost respects_eq = { Prim.search (hashing, rules) };
 
+    // The bytes at once, and then one that no text has, as std hashes a str: byte by byte takes ten times as long.
     fn hash<H: Hasher>(&self, state: &mut H) {
-        self.bytes().hash(state);
+        state.write(self.bytes());
+        state.write_u8(0xff);
     }
 }
 
@@ -126,17 +128,17 @@ impl Name {
     ghost use Rattle.cl_names.specs.declared.name.NameFault.TheVariants.{Memory};
 
     /// The name of any kind that the bytes spell: `NotModifiedUtf8` where they spell nothing, `BadName`
-    /// where they are over 65,535, and then `Memory` (JVMS SE 8, 4.4.7).
+    /// where they are over `MOST_TEXT_BYTES`, and then `Memory` (JVMS SE 8, 4.4.7).
     pub fn any(alloc: Global, bytes: &[u8]) -> Result<Name, NameFault>
         ensures { NameOf bytes.now result }
     {
-        spelled(alloc, bytes, true)
+        name_of(alloc, bytes, true)
     }
 
     /// The name whose bytes these are, which are known to be text: they are copied, and not looked at again.
     pub fn of_text(alloc: Global, bytes: &[u8]) -> Result<Name, AllocError>
         requires text { IsModifiedUtf8 bytes.now }
-        requires short { length bytes.now ≤ 65535 }
+        requires short { length bytes.now ≤ MOST_TEXT_BYTES }
         ensures { IfOk result (λ name. name ≡ bytes.now) }
     {
         Ok(Name::whole(ArcSlice::from_slice(alloc, bytes)?))
@@ -144,7 +146,7 @@ impl Name {
 
     /// The name of `len` of these bytes from `start` on, which are known to be text: it shares them, and is not looked at
     /// again. It takes memory where `start` is over 4,294,967,295 alone.
-    pub fn shared(
+    pub fn of_part(
         alloc: Global,
         bytes: &ArcSlice<u8>,
         start: usize,
@@ -152,7 +154,7 @@ impl Name {
     ) -> Result<Name, AllocError>
         requires within { start + len ≤ length (arc_slice_items bytes.now) }
         requires text { IsModifiedUtf8 (part_of start len (arc_slice_items bytes.now)) }
-        requires short { len ≤ 65535 }
+        requires short { len ≤ MOST_TEXT_BYTES }
         ensures { IfOk result (λ name. name ≡ part_of start len (arc_slice_items bytes.now)) }
     {
         if start > u32::MAX as usize {
@@ -167,7 +169,7 @@ impl Name {
 
     fn whole(bytes: ArcSlice<u8>) -> Name
         requires text { IsModifiedUtf8 (arc_slice_items bytes) }
-        requires short { length (arc_slice_items bytes) ≤ 65535 }
+        requires short { length (arc_slice_items bytes) ≤ MOST_TEXT_BYTES }
         ensures { result ≡ arc_slice_items bytes }
     {
         let len = bytes.len() as u16;
@@ -179,37 +181,37 @@ impl Name {
     }
 
     /// The class's name that the bytes spell, unqualified names with `/` between them: `NotModifiedUtf8`,
-    /// then `BadName` where it is another or over 65,535 bytes, then `Memory` (JVMS SE 8, 4.2.1).
+    /// then `BadName` where it is another or over `MOST_TEXT_BYTES`, then `Memory` (JVMS SE 8, 4.2.1).
     pub fn class(alloc: Global, bytes: &[u8]) -> Result<Name, NameFault>
         ensures { KindNameOf IsClass bytes.now result }
     {
-        spelled(alloc, bytes, has_class_form(bytes))
+        name_of(alloc, bytes, has_class_form(bytes))
     }
 
     /// The unqualified name that the bytes spell, with none of `.` `;` `[` `/`: `NotModifiedUtf8`, then
-    /// `BadName` where it is another or over 65,535 bytes, then `Memory` (JVMS SE 8, 4.2.2).
+    /// `BadName` where it is another or over `MOST_TEXT_BYTES`, then `Memory` (JVMS SE 8, 4.2.2).
     pub fn unqualified(alloc: Global, bytes: &[u8]) -> Result<Name, NameFault>
         ensures { KindNameOf IsUnqualified bytes.now result }
     {
-        spelled(alloc, bytes, has_unqualified_form(bytes))
+        name_of(alloc, bytes, has_unqualified_form(bytes))
     }
 
     /// The method's name that the bytes spell, unqualified without `<` and `>`, or `<init>` or
-    /// `<clinit>`: `NotModifiedUtf8`, then `BadName` where it is another or over 65,535 bytes, then
+    /// `<clinit>`: `NotModifiedUtf8`, then `BadName` where it is another or over `MOST_TEXT_BYTES`, then
     /// `Memory` (JVMS SE 8, 4.2.2).
     pub fn method(alloc: Global, bytes: &[u8]) -> Result<Name, NameFault>
         ensures { KindNameOf IsMethod bytes.now result }
     {
-        spelled(alloc, bytes, has_method_form(bytes))
+        name_of(alloc, bytes, has_method_form(bytes))
     }
 
     /// The name of any kind that escaped text writes: each code unit as itself, where it is one of
     /// 0x21 to 0x7E but `\`, or as `\u` and four hexadecimal digits. `BadName` where the text is no
-    /// such text or writes over 65,535 bytes, and then `Memory`.
+    /// such text or writes over `MOST_TEXT_BYTES`, and then `Memory`.
     pub fn from_text(alloc: Global, text: &str) -> Result<Name, NameFault>
         ensures { TextNameOf text.now result }
     {
-        Ok(Name::whole(ArcSlice::from_vec(written(alloc, text.as_bytes())?)?))
+        Ok(Name::whole(ArcSlice::from_vec(bytes_of_text(alloc, text.as_bytes())?)?))
     }
 
     /// The name as escaped text, in lower case, with escapes only where they are needed, or `Memory`.
@@ -217,7 +219,16 @@ impl Name {
         ensures printed { IfOk result (λ text. string_bytes text ≡ escaped self.now) }
         ensures memory { IfErr result (λ e. e ≡ Memory) }
     {
-        Ok(printed(alloc, self.bytes())?)
+        let mut text = String::with_capacity(alloc, self.bytes().len())?;
+        self.put_text(&mut text)?;
+        Ok(text)
+    }
+
+    /// Puts the name as escaped text behind the text. Where the text cannot grow, some of it may stand there.
+    pub fn put_text(&self, text: &mut String) -> Result<(), AllocError>
+        ensures { OnOk result (string_bytes text.new ≡ string_bytes text.old ++ escaped self.now) }
+    {
+        put_printed(text, self.bytes())
     }
 
     /// Whether it is a class's name (JVMS SE 8, 4.2.1).
@@ -272,7 +283,7 @@ impl Name {
     pub fn bytes(&self) -> &[u8]
         ensures bytes { result.now ≡ self.now }
         ensures text { IsModifiedUtf8 self.now }
-        ensures short { length self.now ≤ 65535 }
+        ensures short { length self.now ≤ MOST_TEXT_BYTES }
     {
         &self.bytes.as_slice()[self.start as usize..][..self.len as usize]
     }
@@ -319,13 +330,13 @@ pub fn class_name(alloc: Global, text: &str) -> Result<Option<Name>, AllocError>
 
 /// The name that the bytes spell, where they have the form that is wanted.
 #[tactic(auto, using(crate::proofs::Texts::text_from_test))]
-fn spelled(alloc: Global, bytes: &[u8], has_form: bool) -> Result<Name, NameFault>
+fn name_of(alloc: Global, bytes: &[u8], has_form: bool) -> Result<Name, NameFault>
     ensures { TestedNameOf has_form bytes.now result }
 {
     if !is_text(bytes) {
         return Err(NameFault::NotModifiedUtf8);
     }
-    if !has_form || bytes.len() > MAX_LEN {
+    if !has_form || bytes.len() > MOST_TEXT_BYTES {
         return Err(NameFault::BadName);
     }
     Ok(Name::of_text(alloc, bytes)?)

@@ -13,12 +13,12 @@ pub struct Seed {
 
 impl Seed {
     /// The seed that everyone knows, for names that no stranger chooses.
-    pub fn known() -> Seed {
+    pub fn common() -> Seed {
         Seed { drawn: None }
     }
 
-    /// The seed that was drawn.
-    pub fn drawn(state: RandomState) -> Seed {
+    /// The seed that a run drew from its runtime.
+    pub fn from_state(state: RandomState) -> Seed {
         Seed { drawn: Some(state) }
     }
 }

@@ -18,6 +18,7 @@ use Rattle.std.specs.Prelude.{
 use Rattle.std.specs.List.{AllByRecursion, list_all}
 use Rattle.cl_names.specs.Kind.{IsNameOf, IsClass}
 use Rattle.cl_descriptors.specs.Units.{units_of_types}
+use Rattle.cl_descriptors.specs.declared.limits.TheConstants.{MOST_DIMENSIONS, MOST_UNITS}
 use Rattle.cl_descriptors.specs.declared.types.Base.{Base}
 use Rattle.cl_descriptors.specs.declared.types.Base.TheVariants.{
   Byte,
@@ -83,11 +84,11 @@ pub record SpellsMethod (bytes : List ℕ) (m : MethodType) : Type 0 where
   pub named : AreNamed m
   pub spelled : bytes ≡ spelling_of_method m
 
--- at most 255 dimensions (JVMS SE 8, 4.3.2)
+-- not too many dimensions (JVMS SE 8, 4.3.2)
 abbrev pub is_shallow : FieldType → Bool
-is_shallow t = nat_le t.dims 255
+is_shallow t = nat_le t.dims MOST_DIMENSIONS
 
--- each type of a method has at most 255 dimensions (JVMS SE 8, 4.3.2)
+-- each type of a method has not too many dimensions (JVMS SE 8, 4.3.2)
 abbrev pub are_shallow : MethodType → Bool
 are_shallow m = list_all is_shallow (types_of m)
 
@@ -95,9 +96,9 @@ are_shallow m = list_all is_shallow (types_of m)
 abbrev pub units_of_method : MethodType → ℕ
 units_of_method m = units_of_types m.params
 
--- at most 255 units (JVMS SE 8, 4.3.3)
+-- not too many units (JVMS SE 8, 4.3.3)
 abbrev pub is_short : MethodType → Bool
-is_short m = nat_le (units_of_method m) 255
+is_short m = nat_le (units_of_method m) MOST_UNITS
 
 -- the class that a base is, if it is one (JVMS SE 8, 4.3.2)
 abbrev pub class_of_base : Base → Option (List ℕ)

@@ -22,7 +22,7 @@ impl FieldType {
 
 impl MethodType {
     /// The classes that it names: that of the return type, and then those of the parameters in order, of arrays those of their elements.
-    /// Refused is want of memory alone.
+    /// It is refused only where memory runs out.
     pub fn element_names(&self, alloc: Global) -> Result<Vec<Name>, DescriptorFault>
         ensures names { IfOk result (λ names. names.items ≡ classes_of self.now) }
         ensures memory { IfErr result (λ fault. fault ≡ Memory) }

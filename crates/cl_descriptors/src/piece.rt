@@ -7,6 +7,7 @@ ghost use Rattle.cl_descriptors.specs.Types.{IsBase, is_shallow};
 ghost use Rattle.cl_descriptors.specs.Units.{units_of_field};
 ghost use Rattle.cl_descriptors.specs.Pieces.{seen, seen_base};
 
+use crate::limits::MOST_DIMENSIONS;
 use crate::types::{Base, FieldType};
 use cl_names::{Name, kinds_of};
 use std::alloc::{AllocError, Global};
@@ -40,13 +41,13 @@ impl Piece<'_> {
     pub fn is_shallow(&self) -> bool
         ensures { result ≡ is_shallow (seen self.now) }
     {
-        self.dims <= 255
+        self.dims <= MOST_DIMENSIONS
     }
 
     /// The type, with a copy of its name.
     pub fn build(self, alloc: Global) -> Result<FieldType, AllocError>
         requires named { IsBase (seen_base self.base) }
-        requires shallow { self.dims ≤ 255 }
+        requires shallow { self.dims ≤ MOST_DIMENSIONS }
         ensures { IfOk result (λ t. t ≡ seen self.entry) }
     {
         let dims = self.dims as u8;

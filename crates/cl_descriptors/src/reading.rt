@@ -8,6 +8,7 @@ ghost use Rattle.cl_descriptors.specs.Pieces.{seen, outlined, IsCounted};
 ghost use Rattle.cl_descriptors.specs.Reading.{all_types, whole_method, within_field, within_method, field_of, method_of, field_form, method_form, form_of, units_of};
 ghost use Rattle.cl_descriptors.specs.Answers.{FieldOf, MethodOf, FormOf, UnitsOf, Gives};
 
+use crate::limits::MOST_UNITS;
 use crate::piece::{Piece, field_at, whole_field, whole_return};
 use crate::types::{DescriptorFault, FieldType, Form, MethodType, Params};
 use std::alloc::{AllocError, Global};
@@ -45,8 +46,8 @@ impl Tally {
     }
 }
 
-/// The types at the front, counted, and what follows.
-fn counted(bytes: &[u8]) -> (Tally, &[u8])
+/// What the types at the front count for the limits, and what follows.
+fn tally_of(bytes: &[u8]) -> (Tally, &[u8])
     ensures units { result.0.units ≡ sum_by units_of_field (all_types bytes.now).0 }
     ensures shallow { result.0.shallow ≡ list_all is_shallow (all_types bytes.now).0 }
     ensures rest { result.1.now ≡ (all_types bytes.now).1 }
@@ -87,7 +88,7 @@ fn outline_of(bytes: &[u8]) -> Option<Outline<'_>>
     let [b'(', params @ ..] = bytes else {
         return None;
     };
-    let (tally, after) = counted(params);
+    let (tally, after) = tally_of(params);
     let [b')', after @ ..] = after else {
         return None;
     };
@@ -110,7 +111,7 @@ impl Outline<'_> {
         requires { IsCounted self.now }
         ensures { result ≡ is_short (outlined self.now) }
     {
-        self.tally.units <= 255
+        self.tally.units <= MOST_UNITS
     }
 
     /// The method type, with copies of its names.
@@ -162,7 +163,7 @@ fn method_of(alloc: Global, bytes: &[u8]) -> Result<MethodType, DescriptorFault>
 }
 
 /// The type that the bytes are the field descriptor of, all of the bytes: `Malformed` where they are none,
-/// `TooManyDimensions` where they are one but for the limit of 255, and then `Memory` (JVMS SE 8, 4.3.2).
+/// `TooManyDimensions` where they are one but for `MOST_DIMENSIONS`, and then `Memory` (JVMS SE 8, 4.3.2).
 pub fn read_field(alloc: Global, bytes: &[u8]) -> Result<FieldType, DescriptorFault>
     // What is read is spelled so, and each fault is that of the bytes.
     ensures grammar { FieldOf bytes.now result }
@@ -176,7 +177,7 @@ pub fn read_field(alloc: Global, bytes: &[u8]) -> Result<FieldType, DescriptorFa
 }
 
 /// The type that the bytes are the method descriptor of, all of the bytes: `Malformed` where they are none,
-/// `TooManyDimensions` and then `TooManyUnits` where they are one but for a limit of 255, and then `Memory`.
+/// `TooManyDimensions` and then `TooManyUnits` where they are one but for `MOST_DIMENSIONS` or `MOST_UNITS`, and then `Memory`.
 /// `this` is not counted (JVMS SE 8, 4.3.3).
 pub fn read_method(alloc: Global, bytes: &[u8]) -> Result<MethodType, DescriptorFault>
     // What is read is spelled so, and each fault is that of the bytes.

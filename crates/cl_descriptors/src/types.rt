@@ -69,10 +69,11 @@ impl Model for Params {
     ghost Value = { List FieldType };
 
     ghost use Rattle.cl_descriptors.specs.Units.{units_of_types};
+    ghost use Rattle.cl_descriptors.specs.declared.limits.TheConstants.{MOST_UNITS};
 
     ghost view = { λ p. p.items.items };
 
-    ghost invariant = { λ p. units_of_types p.items.items ≤ 255 };
+    ghost invariant = { λ p. units_of_types p.items.items ≤ MOST_UNITS };
 }
 
 impl PartialEq for Params {
@@ -103,9 +104,10 @@ impl Params {
     ghost use Rattle.cl_descriptors.specs.declared.types.FieldType.{FieldType};
     ghost use Rattle.std.specs.Prelude.{◌≤◌, ◌↔◌, [], IsTrue, length, option_map, slice_get};
     ghost use Rattle.cl_descriptors.specs.Units.{units_of_types};
+    ghost use Rattle.cl_descriptors.specs.declared.limits.TheConstants.{MOST_UNITS};
 
     pub(crate) fn new(items: Vec<FieldType>) -> Params
-        requires { units_of_types items.items ≤ 255 }
+        requires { units_of_types items.items ≤ MOST_UNITS }
         ensures { result ≡ items.items }
     {
         Params { items }
@@ -122,7 +124,7 @@ impl Params {
     /// How many units they count (JVMS SE 8, 4.3.3).
     pub fn units(&self) -> usize
         ensures value { result ≡ units_of_types self.now }
-        ensures few { result ≤ 255 }
+        ensures few { result ≤ MOST_UNITS }
     {
         self.items.iter().map(|t| t.units()).sum()
     }
@@ -159,7 +161,7 @@ impl Params {
     /// All of them.
     pub fn as_slice(&self) -> &[FieldType]
         ensures types { result.now ≡ self.now }
-        ensures short { units_of_types self.now ≤ 255 }
+        ensures short { units_of_types self.now ≤ MOST_UNITS }
     {
         self.items.as_slice()
     }
@@ -186,11 +188,12 @@ pub struct MethodType {
 impl MethodType {
     ghost use Rattle.std.specs.Prelude.{◌≤◌};
     ghost use Rattle.cl_descriptors.specs.Types.{units_of_method};
+    ghost use Rattle.cl_descriptors.specs.declared.limits.TheConstants.{MOST_UNITS};
 
     /// How many units its parameters count, without one for `this` (JVMS SE 8, 4.3.3).
     pub fn units(&self) -> usize
         ensures value { result ≡ units_of_method self.now }
-        ensures few { result ≤ 255 }
+        ensures few { result ≤ MOST_UNITS }
     {
         self.params.units()
     }

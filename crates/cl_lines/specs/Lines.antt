@@ -24,11 +24,11 @@ without_empty_end [] = []
 without_empty_end (part ∷ []) = if length part == 0 then [] else part ∷ []
 without_empty_end (part ∷ next ∷ more) = part ∷ without_empty_end (next ∷ more)
 
--- the lines of a text, which U+000A alone parts; a last line without one counts (own choice)
+-- the lines of a text, which U+000A alone parts; a last line without one counts
 abbrev pub lines_of : List ℕ → List (List ℕ)
 lines_of text = without_empty_end (slice_split (λ b. b == 10) text)
 
--- the words of a line, which one or more U+0020 part (own choice)
+-- the words of a line, which one or more U+0020 part
 abbrev pub words_of : List ℕ → List (List ℕ)
 words_of line = filter (λ word. not (length word == 0)) (slice_split (λ b. b == 32) line)
 

@@ -6,7 +6,7 @@ use Rattle.cl_descriptors.specs.Units.{units_of_field}
 use Rattle.cl_descriptors.specs.Pieces.{seen}
 use Rattle.cl_descriptors.specs.declared.types.FieldType.{FieldType}
 use Rattle.cl_descriptors.proofs.Loop.{counted_more, shorter, types-end, after-end}
-use Rattle.cl_descriptors.proofs.reading.counted.Goals as goal
+use Rattle.cl_descriptors.proofs.reading.tally_of.Goals as goal
 
 pub with-tally-requires-clause-room : goal.with-tally-requires-clause-room
 with-tally-requires-clause-room c =

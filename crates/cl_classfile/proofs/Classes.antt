@@ -13,6 +13,7 @@ use Rattle.cl_classfile.specs.declared.entry.Entry.TheVariants.{Utf8, Class}
 use Rattle.cl_classfile.specs.Pool.{at, IsText, NamesType, KeepsEntry}
 use Rattle.cl_classfile.specs.Structure.{NamesClass, KeepsInterface}
 use Rattle.cl_classfile.specs.Files.{text_of, type_of, type_name, is_array_name, no_array, class_name}
+use Rattle.cl_names.specs.declared.kind.TheConstants.{MOST_TEXT_BYTES}
 
 -- each entry keeps its row
 abbrev pub Rows : List Entry → Type 0
@@ -46,7 +47,7 @@ bracket (part ∷ parts) = refl
 -- no class's name begins as an array's
 no_bracket : (rest : List ℕ) → is_class_name (91 ∷ rest) ≡ false
 unfolding is_class_name
-no_bracket rest = last (is_text (91 ∷ rest) && leb (length (91 ∷ rest)) 65535) (has_class_form (91 ∷ rest)) (bracket (slice_split (λ p. eqb p 47) rest))
+no_bracket rest = last (is_text (91 ∷ rest) && leb (length (91 ∷ rest)) MOST_TEXT_BYTES) (has_class_form (91 ∷ rest)) (bracket (slice_split (λ p. eqb p 47) rest))
 
 by_first : (c : ℕ) (rest : List ℕ) (b : Bool) → eqb c 91 ≡ b → is_class_name (c ∷ rest) ≡ true → b ≡ false
 by_first c rest false e h = refl

@@ -21,6 +21,7 @@ use Rattle.cl_classfile.specs.Rows.{entry_traits, traits_at, keeps_entry}
 use Rattle.cl_classfile.specs.declared.traits.Traits.{Traits}
 use Rattle.cl_classfile.specs.Checking.{kept_entry, checked_entries}
 use Rattle.cl_classfile.proofs.Codec.{bind_ok}
+use Rattle.cl_names.specs.declared.kind.TheConstants.{MOST_TEXT_BYTES}
 
 -- what a slice lends at an index, from 1 on
 lent : {X : Type 0} (xs : List X) (i : ℕ) (r : Option (Bor X)) → IsItemAt xs i r → option_map (λ x. x.now) r ≡ slice_get xs i
@@ -96,7 +97,7 @@ each_holds P (r ∷ raws) (suc i) d lt all = each_holds P raws i d (omega (arith
 
 -- an entry that keeps its row holds a text, if it is one
 text_held : (traits : List Traits) (pool : List Entry) (e : Entry) → keeps_entry traits pool e ≡ true → HoldsText e
-text_held traits pool (Utf8 text) h = let b = and_parts (is_text text) (leb (length text) 65535) h in (text_from_test text b.0, leb-true _ _ b.1)
+text_held traits pool (Utf8 text) h = let b = and_parts (is_text text) (leb (length text) MOST_TEXT_BYTES) h in (text_from_test text b.0, leb-true _ _ b.1)
 text_held traits pool (Integer v) h = tt
 text_held traits pool (Float b) h = tt
 text_held traits pool (Long v) h = tt

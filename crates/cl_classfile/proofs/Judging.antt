@@ -21,6 +21,7 @@ use Rattle.cl_classfile.specs.declared.traits.Traits.{Traits}
 use Rattle.cl_classfile.specs.Pool.{at, HasText, HasClass, HasPair, IsNamed, IsField, IsArray, IsCall, IsVoid, NamesType, init, clinit, MayCall, IsPlain, MayPair, MayHandle, EntryFits, KeepsEntry}
 use Rattle.cl_classfile.specs.Rows.{begins_angle, special_of, is_field, is_array, is_call, is_void, traits_of, nothing, entry_traits, traits_at, is_class, pair_of, pair_at, may_call, may_pair, is_plain, is_init, may_handle, keeps_entry}
 use Rattle.cl_classfile.proofs.Codec.{both}
+use Rattle.cl_names.specs.declared.kind.TheConstants.{MOST_TEXT_BYTES}
 
 -- ---- tests
 
@@ -412,7 +413,7 @@ may_pair_told pool n d (inr h) =
     second _ _ (all _ _ (text_told (λ t. is_call t.form) IsCall call pool d h.0) (text_told (λ t. t.method) (IsNameOf IsMethod) method pool n h.1))
 
 pub keeps_entry_says : (pool : List Entry) (e : Entry) → keeps_entry (map entry_traits pool) pool e ≡ true → KeepsEntry pool e
-keeps_entry_says pool (Utf8 text) h = text_from_test text (both (is_text text) (leb (length text) 65535) h).0
+keeps_entry_says pool (Utf8 text) h = text_from_test text (both (is_text text) (leb (length text) MOST_TEXT_BYTES) h).0
 keeps_entry_says pool (Integer v) h = tt
 keeps_entry_says pool (Float b) h = tt
 keeps_entry_says pool (Long v) h = tt
@@ -431,7 +432,7 @@ keeps_entry_says pool (MethodType d) h = text_says (λ t. is_call t.form) IsCall
 keeps_entry_says pool (InvokeDynamic b p) h = pair_says (λ t. is_call t.form) IsCall call pool p h
 
 pub keeps_entry_told : (pool : List Entry) (e : Entry) → EntryFits e → KeepsEntry pool e → keeps_entry (map entry_traits pool) pool e ≡ true
-keeps_entry_told pool (Utf8 text) fits h = let short : leb (length text) 65535 ≡ true = le-leb _ _ (omega (arith, fits)) in rw (test_of text h, short) refl
+keeps_entry_told pool (Utf8 text) fits h = let short : leb (length text) MOST_TEXT_BYTES ≡ true = le-leb _ _ (omega (arith, fits)) in rw (test_of text h, short) refl
 keeps_entry_told pool (Integer v) fits h = refl
 keeps_entry_told pool (Float b) fits h = refl
 keeps_entry_told pool (Long v) fits h = refl

@@ -8,6 +8,7 @@ pub mod Sharing
 pub mod MemberRows
 pub mod Keys
 pub mod Numbering
+pub mod Indexes
 pub mod Classes
 pub mod References
 pub mod KeyTexts

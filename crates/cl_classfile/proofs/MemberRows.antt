@@ -29,17 +29,19 @@ use Rattle.cl_classfile.specs.Checking.{keeps_field, has_room, keeps_method_flag
 use Rattle.cl_classfile.proofs.Codec.{both}
 use Rattle.cl_classfile.proofs.Judging.{tests, differ, all, IsTrait, field, unqualified, method, option_traits, traits_are, text_says, text_told, is_clinit, init_says, clinit_says}
 use Rattle.cl_classfile.proofs.Fitting.{short_tells, choice_ok, member_tells}
+use Rattle.cl_descriptors.specs.declared.limits.TheConstants.{MOST_UNITS}
+use Rattle.cl_classfile.specs.declared.limits.TheConstants.{MOST_COUNTED}
 
 -- ---- units
 
 room_says : (of_class : Bool) (text : List ℕ) (o : Option ℕ) → UnitsOf text o → has_room of_class o ≡ true → TakesUnits of_class text
 room_says of_class text None u h = absurd cc
-room_says true text (Some n) u h = (u.0, u.1, (u.2.0, omega (arith, leb-true (units_of_method u.0) 255 u.2.0.short)))
-room_says false text (Some n) u h = (u.0, u.1, (u.2.0, omega (arith, ltb-true n 255 h, u.2.1)))
+room_says true text (Some n) u h = (u.0, u.1, (u.2.0, omega (arith, leb-true (units_of_method u.0) MOST_UNITS u.2.0.short)))
+room_says false text (Some n) u h = (u.0, u.1, (u.2.0, omega (arith, ltb-true n MOST_UNITS h, u.2.1)))
 
-room_of : (of_class : Bool) (n : ℕ) → n + cond of_class 0 1 ≤ 255 → of_class || ltb n 255 ≡ true
+room_of : (of_class : Bool) (n : ℕ) → n + cond of_class 0 1 ≤ MOST_UNITS → of_class || ltb n MOST_UNITS ≡ true
 room_of true n h = refl
-room_of false n h = lt-ltb n 255 (omega arith)
+room_of false n h = lt-ltb n MOST_UNITS (omega arith)
 
 room_told : (of_class : Bool) (text : List ℕ) → TakesUnits of_class text → has_room of_class (units_of text) ≡ true
 room_told of_class text h = ap (has_room of_class) (units_told text h.0 h.1 h.2.0) ∙ room_of of_class (units_of_method h.0) h.2.1
@@ -137,11 +139,11 @@ method_told pool of_interface m k =
 
 -- ---- members that agree
 
-named_text : (o : Option Entry) (text : List ℕ) → text_of o ≡ Some text → o ≡ Some (Utf8 text)
+pub named_text : (o : Option Entry) (text : List ℕ) → text_of o ≡ Some text → o ≡ Some (Utf8 text)
 named_text (Some (Utf8 t)) text e = cc
 named_text _ text e = absurd cc
 
-reflexive : (text : List ℕ) → pointwise nat_eq text text ≡ true
+pub reflexive : (text : List ℕ) → pointwise nat_eq text text ≡ true
 reflexive [] = refl
 reflexive (b ∷ bytes) = all (eqb b b) (pointwise nat_eq bytes bytes) (eq-eqb b b refl) (reflexive bytes)
 
@@ -277,7 +279,7 @@ methods_told pool of_interface =
 -- ---- one after the other, as a loop does
 
 -- a count can say how many there are
-pub counted : (kind : Kind) (traits : List Traits) (of_interface : Bool) (pool : List Entry) (ms : List Member) → length ms ≤ 65535
+pub counted : (kind : Kind) (traits : List Traits) (of_interface : Bool) (pool : List Entry) (ms : List Member) → length ms ≤ MOST_COUNTED
     → checked_list kind traits of_interface pool ms ≡ checked_members (keeps_member kind traits of_interface) pool [] ms
 unfolding checked_list
 counted kind traits of_interface pool ms le = rw ((short_tells (length ms)).1 (omega arith)) refl

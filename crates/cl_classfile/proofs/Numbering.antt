@@ -1,10 +1,9 @@
 -- The numbers of texts, as they are asked for one after the other.
-use Rattle.std.proofs.Common.{◌≡◌, ℕ, zero, suc, ◌+◌, ◌<◌, Bool, true, false, cond, ◌&&◌, ◌==◌, nat_eq, List, [], ◌∷◌, ◌++◌, length, take, get_or, Option, Some, None, refl, sym, ap, subst, ◌∙◌, arith, inl, inr}
+use Rattle.std.proofs.Common.{◌≡◌, ℕ, zero, suc, ◌+◌, ◌<◌, Bool, true, false, cond, nat_eq, List, [], ◌∷◌, ◌++◌, length, take, get_or, Option, Some, None, refl, sym, ap, subst, ◌∙◌, arith, inl, inr}
 use Rattle.std.specs.Prelude.{set, slice_get, unwrap_or}
 use Rattle.std.specs.List.{AllByRecursion}
-use Rattle.std.specs.Ordering.{is_eq, nat_cmp}
-use Rattle.std.specs.Cmp.{both_tied, unsigned_ties}
-use Rattle.std.specs.Cmp.Lexicographic.{pointwise, slice_cmp, same_text, texts_ties}
+use Rattle.std.specs.Ordering.{is_eq}
+use Rattle.std.specs.Cmp.Lexicographic.{pointwise, same_text, texts_ties}
 use Rattle.std.proofs.lemmas.Bool.{eq-eqb, cases_eq, cases_lt}
 use Rattle.std.proofs.lemmas.List.{length-set}
 use Rattle.std.specs.BTreeMap.{get}
@@ -17,34 +16,20 @@ use Rattle.cl_classfile.specs.Pool.{at}
 use Rattle.cl_classfile.specs.Files.{text_of, text_at}
 use Rattle.cl_classfile.specs.Numbers.{text_cmp, number_of, number_at, with_number, IsNumber, IsNoted, IsFirst, AreNumbers, Grows, Notes, IsMemberNoted, NotesAll}
 
-abbrev Of : Type 0
+abbrev pub Of : Type 0
 Of = List ℕ → Option ℕ
-
--- ---- texts by their lengths and bytes
-
-and_false : (b : Bool) → b && false ≡ false
-and_false true = refl
-and_false false = refl
-
-as_long : (t u : List ℕ) (b : Bool) → pointwise nat_eq t u ≡ b → ((length t == length u) && b) ≡ b
-as_long t u false e = and_false (length t == length u)
-as_long t u true e = let same : t ≡ u = same_text t u (sym e) in rw (eq-eqb (length t) (length u) (ap length same)) refl
-
-tied : (t u : List ℕ) → is_eq (text_cmp (length t, t) (length u, u)) ≡ pointwise nat_eq t u
-tied t u =
-    sym (both_tied (length t == length u) (pointwise nat_eq t u) (nat_cmp (length t) (length u)) (slice_cmp nat_cmp t u) (unsigned_ties (length t) (length u)) (texts_ties t u)) ∙ as_long t u (pointwise nat_eq t u) refl
 
 -- ---- one more text
 
 -- the numbers when a text was put in
-abbrev Puts : Of → Of → List ℕ → ℕ → Type 0
+abbrev pub Puts : Of → Of → List ℕ → ℕ → Type 0
 Puts old new t n = (u : List ℕ) → new u ≡ cond (pointwise nat_eq t u) (Some n) (old u)
 
 itself : (t : List ℕ) → pointwise nat_eq t t ≡ true
 itself [] = refl
 itself (b ∷ t) = rw (eq-eqb b b refl, itself t) refl
 
-put_is : (old new : Of) (t : List ℕ) (n : ℕ) → Puts old new t n → new t ≡ Some n
+pub put_is : (old new : Of) (t : List ℕ) (n : ℕ) → Puts old new t n → new t ≡ Some n
 put_is old new t n puts = puts t ∙ rw (itself t) refl
 
 put_first : (pool : List Entry) (old new : Of) (t : List ℕ) (n : ℕ) → Puts old new t n → text_at pool n ≡ Some t → IsFirst pool old → IsFirst pool new
@@ -61,8 +46,8 @@ put_grows old new t n puts none u m e = puts u ∙ choose (pointwise nat_eq t u)
     choose true same = absurd (let t_is : old t ≡ Some m = ap old (same_text t u (sym same)) ∙ e in cc)
     choose false other = e
 
-pub more : (old new : Numbers) (t : List ℕ) (n : ℕ) → ((q : ℕ × List ℕ) → get text_cmp new.met q ≡ cond (is_eq (text_cmp (length t, t) q)) (Some n) (get text_cmp old.met q)) → Puts (number_of old) (number_of new) t n
-more old new t n updates u = updates (length u, u) ∙ ap (λ (b : Bool). cond b (Some n) (number_of old u)) (tied t u)
+pub more : (old new : Numbers) (t : List ℕ) (n : ℕ) → ((q : List ℕ) → get text_cmp new.met q ≡ cond (is_eq (text_cmp t q)) (Some n) (get text_cmp old.met q)) → Puts (number_of old) (number_of new) t n
+more old new t n updates u = updates u ∙ ap (λ (b : Bool). cond b (Some n) (number_of old u)) (sym (texts_ties t u))
 
 grows_number : (old new : Of) → ((u : List ℕ) (m : ℕ) → old u ≡ Some m → new u ≡ Some m) → (o : Option (List ℕ)) (n : ℕ) → IsNumber old o n → IsNumber new o n
 grows_number old new grows None n h = h
@@ -128,8 +113,8 @@ put_length noted (suc i) n = length-set noted i n
 pub noted : (pool : List Entry) (old mid new : Numbers) (i n : ℕ) → AreNumbers pool mid → Grows old mid → mid.noted.items ≡ old.noted.items → IsNumber (number_of mid) (text_at pool i) n → new.met ≡ mid.met
     → new.noted.items ≡ with_number mid.noted.items i n → Notes pool old new i
 noted pool old mid new i n a grows same is met put =
-    let kept_of : (u : List ℕ) (m : ℕ) → number_of mid u ≡ Some m → number_of new u ≡ Some m = λ u m e. ap (λ m. get text_cmp m (length u, u)) met ∙ e in
-    let of_new : (u : List ℕ) (m : ℕ) → number_of new u ≡ Some m → number_of mid u ≡ Some m = λ u m e. ap (λ m. get text_cmp m (length u, u)) (sym met) ∙ e in
+    let kept_of : (u : List ℕ) (m : ℕ) → number_of mid u ≡ Some m → number_of new u ≡ Some m = λ u m e. ap (λ m. get text_cmp m u) met ∙ e in
+    let of_new : (u : List ℕ) (m : ℕ) → number_of new u ≡ Some m → number_of mid u ≡ Some m = λ u m e. ap (λ m. get text_cmp m u) (sym met) ∙ e in
     let there : IsNoted pool new i =
     subst (λ (ns : List ℕ). IsNumber (number_of new) (text_at pool i) (number_at ns i)) (sym put)
     (put_there pool (number_of new) mid.noted.items i n a.all (grows_number (number_of mid) (number_of new) kept_of (text_at pool i) n is)) in
@@ -176,7 +161,7 @@ one_more pool old so_far named new ms i m lt is a name descriptor =
 -- of no text there is a number
 pub nothing : (pool : List Entry) (ns : Numbers) → ns.met.entries ≡ [] → ((i : ℕ) → number_at ns.noted.items i ≡ 0) → length ns.noted.items ≡ length pool → AreNumbers pool ns
 nothing pool ns none zeros all = record {
-  first = λ text n e. absurd (let no : number_of ns text ≡ None = ap (lookup (λ q. is_eq (text_cmp (length text, text) q))) none in cc);
+  first = λ text n e. absurd (let no : number_of ns text ≡ None = ap (lookup (λ q. is_eq (text_cmp text q))) none in cc);
   known = λ i some. absurd (some (zeros i));
   all = all;
 }

@@ -66,6 +66,7 @@ use Rattle.cl_classfile.specs.Widths.{
 }
 use Rattle.cl_classfile.specs.Rows.{is_field, entry_traits, traits_at, keeps_entry}
 use Rattle.cl_classfile.specs.Files.{text_at, class_name}
+use Rattle.cl_descriptors.specs.declared.limits.TheConstants.{MOST_UNITS}
 
 -- the first fault of two steps, or what the second gives
 infixl 10 ◌>>=◌
@@ -140,7 +141,7 @@ keeps_field traits of_interface m =
 -- the parameters leave a unit for this, where the method is of an instance (4.3.3)
 abbrev pub has_room : Bool → Option ℕ → Bool
 has_room of_class None = false
-has_room of_class (Some units) = of_class || nat_lt units 255
+has_room of_class (Some units) = of_class || nat_lt units MOST_UNITS
 
 -- the flags of a method of such a name (4.6)
 abbrev pub keeps_method_flags : Special → Bool → ℕ → Bool

@@ -8,6 +8,7 @@ pub mod Rows
 pub mod Checking
 pub mod Numbers
 pub mod Seen
+pub mod Indexes
 pub mod Raw
 pub mod Reading
 pub mod References

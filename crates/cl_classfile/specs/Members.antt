@@ -23,6 +23,7 @@ use Rattle.cl_descriptors.specs.Answers as descriptors
 use Rattle.cl_classfile.specs.declared.entry.Entry.{Entry}
 use Rattle.cl_classfile.specs.Flags.{has, static, is_field_flags, is_method_flags, is_init_flags}
 use Rattle.cl_classfile.specs.Pool.{IsText, HasText, IsField, init, clinit}
+use Rattle.cl_descriptors.specs.declared.limits.TheConstants.{MOST_UNITS}
 
 -- ---- the parts
 
@@ -81,12 +82,12 @@ pub record KeepsField (pool : List Entry) (of_interface : Bool) (m : Member) : T
   pub name : HasText pool m.name_index (IsNameOf IsUnqualified)
   pub descriptor : HasText pool m.descriptor_index IsField
 
--- the parameters count at most 255 units, with one for this where the method is of an instance
+-- the parameters count not too many units, with one for this where the method is of an instance
 -- (4.3.3)
 abbrev pub TakesUnits : Bool → List ℕ → Type 0
 TakesUnits of_class text =
     descriptors.IsMethod text
-    (λ m. descriptors.IsMethodType m × (units_of_method m + (if of_class then 0 else 1) ≤ 255))
+    (λ m. descriptors.IsMethodType m × (units_of_method m + (if of_class then 0 else 1) ≤ MOST_UNITS))
 
 -- the flags of <clinit> are not looked at; those of <init> are more narrow (4.6)
 pub record KeepsMethod (pool : List Entry) (of_interface : Bool) (m : Member) : Type 0 where

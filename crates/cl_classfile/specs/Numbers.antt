@@ -2,7 +2,7 @@
 use Rattle.std.specs.Prelude.{◌≡◌, ℕ, zero, suc, List, length, Option, Some, None, unwrap_or, set}
 use Rattle.std.specs.List.{AllByRecursion}
 use Rattle.std.specs.BTreeMap.{get}
-use Rattle.std.specs.Ordering.{ordering_then, nat_cmp}
+use Rattle.std.specs.Ordering.{nat_cmp}
 use Rattle.std.specs.declared.cmp.Ordering.{Ordering}
 use Rattle.std.specs.Cmp.Lexicographic.{slice_cmp}
 use Rattle.cl_classfile.specs.declared.entry.Entry.{Entry}
@@ -11,13 +11,13 @@ use Rattle.cl_classfile.specs.Pool.{at}
 use Rattle.cl_classfile.specs.Structure.{Member}
 use Rattle.cl_classfile.specs.Files.{text_at}
 
--- by the length, and then by the bytes
-abbrev pub text_cmp : ℕ × List ℕ → ℕ × List ℕ → Ordering
-text_cmp a b = ordering_then (nat_cmp a.0 b.0) (slice_cmp nat_cmp a.1 b.1)
+-- by the bytes
+abbrev pub text_cmp : List ℕ → List ℕ → Ordering
+text_cmp a b = slice_cmp nat_cmp a b
 
 -- the number of a text, if it was met
 abbrev pub number_of : Numbers → List ℕ → Option ℕ
-number_of ns text = get text_cmp ns.met (length text, text)
+number_of ns text = get text_cmp ns.met text
 
 -- the number that is noted at an index, or 0
 abbrev pub number_at : List ℕ → ℕ → ℕ

@@ -25,6 +25,7 @@ use Rattle.cl_classfile.specs.declared.raw.RawEntry.{RawEntry}
 use Rattle.cl_classfile.specs.declared.raw.RawEntry.TheVariants as raw
 use Rattle.cl_classfile.specs.declared.reading.RawFile.{RawFile}
 use Rattle.cl_classfile.specs.Structure.{Structure}
+use Rattle.cl_names.specs.declared.kind.TheConstants.{MOST_TEXT_BYTES}
 
 -- an entry without where its text lies (4.4)
 abbrev pub plain_entry : RawEntry → Entry
@@ -63,7 +64,7 @@ plain_file f = record {
 
 -- where the entry is a text, it is modified UTF-8 and no longer than a class file can say (4.4.7)
 abbrev pub HoldsText : Entry → Type 0
-HoldsText (Utf8 text) = IsModifiedUtf8 text × (length text ≤ 65535)
+HoldsText (Utf8 text) = IsModifiedUtf8 text × (length text ≤ MOST_TEXT_BYTES)
 HoldsText _ = Unit {0}
 
 -- the bytes of the text that an entry is, if it is one (4.4.7)

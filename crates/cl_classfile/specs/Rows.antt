@@ -42,6 +42,7 @@ use Rattle.cl_classfile.specs.declared.traits.Special.{Special}
 use Rattle.cl_classfile.specs.declared.traits.Special.TheVariants as names
 use Rattle.cl_classfile.specs.declared.traits.Traits.{Traits}
 use Rattle.cl_classfile.specs.Pool.{at, init, clinit}
+use Rattle.cl_names.specs.declared.kind.TheConstants.{MOST_TEXT_BYTES}
 
 -- ---- what a text is
 
@@ -175,7 +176,7 @@ may_handle traits pool kind _ = false
 
 -- the entry keeps its row of the table (4.4)
 abbrev pub keeps_entry : List Traits → List Entry → Entry → Bool
-keeps_entry traits pool (Utf8 text) = is_text text && nat_le (length text) 65535
+keeps_entry traits pool (Utf8 text) = is_text text && nat_le (length text) MOST_TEXT_BYTES
 keeps_entry traits pool (Class text) = (traits_at traits text).class
 keeps_entry traits pool (String text) = (traits_at traits text).stands
 keeps_entry traits pool (Fieldref class pair) =

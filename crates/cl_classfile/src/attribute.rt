@@ -30,7 +30,7 @@ impl Attribute {
     }
 
     /// The attribute with a copy of these bytes.
-    pub(crate) fn copied(
+    pub(crate) fn copy_of(
         alloc: Global,
         name_index: u16,
         bytes: &[u8],

@@ -10,6 +10,7 @@ ghost use Rattle.cl_classfile.specs.Checking.{Finds, may_stand_above, keeps_supe
 use crate::entry::Entry;
 use crate::fault::Fault;
 use crate::flags::{is_class_flags, is_interface};
+use crate::limits::MOST_COUNTED;
 use crate::parts::Parts;
 use cl_names::Name;
 
@@ -114,7 +115,7 @@ fn each_is_class(pool: &[Entry], interfaces: &[u16]) -> bool
 fn keeps_interfaces(pool: &[Entry], interfaces: &[u16]) -> bool
     ensures { result ≡ keeps_interfaces pool.now interfaces.now }
 {
-    interfaces.len() <= 65535 && each_is_class(pool, interfaces)
+    interfaces.len() <= MOST_COUNTED && each_is_class(pool, interfaces)
 }
 
 /// Whether the flags and the supertypes keep their tables.

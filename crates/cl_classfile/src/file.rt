@@ -11,6 +11,7 @@ ghost use Rattle.std.specs.List.{AllByRecursion};
 ghost use Rattle.cl_classfile.specs.Raw.{plain_file, HoldsText};
 ghost use Rattle.cl_classfile.specs.View.{plain_parts};
 ghost use Rattle.cl_classfile.specs.Refusals.{Answers};
+ghost use Rattle.cl_classfile.specs.Indexes.{IsIndexOf};
 ghost use Rattle.cl_classfile.specs.Checking.{Gives, checked_tables, kept_file, parts_of};
 ghost use Rattle.cl_classfile.specs.Reading.{header_at, read_of};
 
@@ -19,6 +20,8 @@ use crate::checking::{check_class, class_name};
 use crate::entry::Entry;
 use crate::fault::{Fault, ReadError};
 use crate::flags::{is_interface, is_public};
+use crate::index::{Index, index_of};
+use crate::limits::MOST_ENTRIES;
 use crate::member::{Member, attributes_fit};
 use crate::members::{Kind, check_members};
 use crate::numbers::numbers_of;
@@ -44,6 +47,8 @@ pub struct ClassFile {
     fields: Vec<Member>,
     methods: Vec<Member>,
     attributes: Vec<Attribute>,
+    /// Where fields and methods stand, unless they are few.
+    index: Option<Index>,
 }
 
 impl Model for ClassFile {
@@ -52,10 +57,11 @@ impl Model for ClassFile {
     ghost Value = { Structure };
 
     ghost use Rattle.cl_classfile.specs.View.{structure};
+    ghost use Rattle.cl_classfile.specs.Indexes.{IsIndexOf};
 
     ghost view = { structure };
 
-    ghost invariant = { λ f. IsClassFile (structure f) };
+    ghost invariant = { λ f. IsClassFile (structure f) × IsIndexOf f.index (structure f) };
 }
 
 impl ClassFile {
@@ -79,7 +85,7 @@ impl ClassFile {
         ensures back { IfErr result (λ r. r.parts ≡ parts) }
     {
         match check_parts(alloc, &parts) {
-            Ok(()) => Ok(made(parts)),
+            Ok(index) => Ok(class_file(parts, index)),
             Err(error) => Err(Refused { parts, error }),
         }
     }
@@ -155,6 +161,14 @@ impl ClassFile {
         self.attributes.as_slice()
     }
 
+    /// Where the fields and the methods stand, unless they are few.
+    pub(crate) fn index(&self) -> Option<&Index>
+        ensures index { IsIndexOf (option_map (λ i. i.now) result) self.now }
+        ensures sound { IsClassFile self.now }
+    {
+        self.index.as_ref()
+    }
+
     /// The name of the class.
     pub fn this_name(&self) -> &Name
         ensures name { result.now ≡ (file_of self.now).name }
@@ -201,8 +215,9 @@ fn interface_name<'a>(pool: &'a [Entry], interfaces: &[u16], place: usize) -> Op
     class_name(pool, *index)
 }
 
-fn made(parts: Parts) -> ClassFile
-    requires { IsClassFile (plain_parts parts) }
+fn class_file(parts: Parts, index: Option<Index>) -> ClassFile
+    requires file { IsClassFile (plain_parts parts) }
+    requires index { IsIndexOf index (plain_parts parts) }
     ensures { result ≡ plain_parts parts }
 {
     ClassFile {
@@ -214,14 +229,17 @@ fn made(parts: Parts) -> ClassFile
         fields: parts.fields,
         methods: parts.methods,
         attributes: parts.attributes,
+        index,
     }
 }
 
-/// Whether the flags and the supertypes keep their tables, then the fields, the methods and the attributes.
+/// Whether the flags and the supertypes keep their tables, then the fields, the methods and the attributes. With the index
+/// of the members.
 #[tactic(auto, unfolding(crate::specs::Checking::checked_tables))]
-fn check_tables(alloc: Global, traits: &[Traits], parts: &Parts) -> Result<(), ReadError>
-    ensures { Gives (λ u. u) result (checked_tables traits.now parts.now.pool.items
+fn check_tables(alloc: Global, traits: &[Traits], parts: &Parts) -> Result<Option<Index>, ReadError>
+    ensures tables { Gives (λ _. tt) result (checked_tables traits.now parts.now.pool.items
         (plain_parts parts.now)) }
+    ensures index { IfOk result (λ i. IsIndexOf i (plain_parts parts.now)) }
 {
     check_class(parts)?;
     let pool = parts.pool.as_slice();
@@ -234,7 +252,7 @@ fn check_tables(alloc: Global, traits: &[Traits], parts: &Parts) -> Result<(), R
     if !attributes_fit(parts.attributes.as_slice()) {
         return Err(ReadError::Fault(Fault::BadMember));
     }
-    Ok(())
+    Ok(index_of(alloc, numbers, fields, methods)?)
 }
 
 /// Marks the text by which a class is named.
@@ -250,7 +268,7 @@ fn mark(pool: &[RawEntry<'_>], class: u16, marks: &mut [bool]) {
 
 /// Of each entry, whether it is the name of the class or of a direct supertype. Loading copies these, and where the class
 /// is not recorded the copies outlive its file.
-fn leaving(alloc: Global, file: &RawFile<'_>) -> Result<Vec<bool>, AllocError> {
+fn marks_of(alloc: Global, file: &RawFile<'_>) -> Result<Vec<bool>, AllocError> {
     let pool = file.pool.as_slice();
     let mut marks = vec![in alloc; false; pool.len()]?;
     mark(pool, file.this_class, marks.as_mut_slice());
@@ -266,7 +284,7 @@ fn owned_parts(alloc: Global, file: RawFile<'_>) -> Result<Parts, AllocError>
     requires { AllByRecursion HoldsText (plain_file file).pool }
     ensures { IfOk result (λ p. plain_parts p ≡ plain_file file.entry) }
 {
-    let apart = leaving(alloc, &file)?;
+    let apart = marks_of(alloc, &file)?;
     let pool = owned_entries(alloc, file.pool.as_slice(), apart.as_slice())?;
     Ok(Parts {
         pool,
@@ -288,16 +306,17 @@ fn kept_file(alloc: Global, file: RawFile<'_>) -> Result<ClassFile, ReadError>
     let traits = all_traits(alloc, file.pool.as_slice())?;
     check_entries(traits.as_slice(), file.pool.as_slice())?;
     let parts = owned_parts(alloc, file)?;
-    check_tables(alloc, traits.as_slice(), &parts)?;
-    Ok(made(parts))
+    let index = check_tables(alloc, traits.as_slice(), &parts)?;
+    Ok(class_file(parts, index))
 }
 
-/// Whether the parts are those of a class file.
+/// Whether the parts are those of a class file, with the index of its members.
 #[tactic(auto, unfolding(crate::specs::Checking::parts_of, crate::specs::Checking::checked_pool, crate::specs::Checking::kept_file))]
-fn check_parts(alloc: Global, parts: &Parts) -> Result<(), ReadError>
-    ensures { Gives (λ u. plain_parts parts.now) result (parts_of (plain_parts parts.now)) }
+fn check_parts(alloc: Global, parts: &Parts) -> Result<Option<Index>, ReadError>
+    ensures parts { Gives (λ _. plain_parts parts.now) result (parts_of (plain_parts parts.now)) }
+    ensures index { IfOk result (λ i. IsIndexOf i (plain_parts parts.now)) }
 {
-    if parts.pool.len() > 65534 {
+    if parts.pool.len() > MOST_ENTRIES {
         return Err(ReadError::Fault(Fault::BadPool(0)));
     }
     let pool = borrowed_entries(alloc, parts.pool.as_slice())?;

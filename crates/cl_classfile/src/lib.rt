@@ -7,7 +7,9 @@ mod entry;
 mod fault;
 mod file;
 mod flags;
+mod index;
 mod laws;
+mod limits;
 mod lookup;
 mod member;
 mod members;
@@ -18,7 +20,6 @@ mod raw;
 mod reading;
 mod reference;
 mod rows;
-mod text;
 mod traits;
 mod widths;
 
@@ -29,6 +30,7 @@ pub use file::{ClassFile, read};
 pub use laws::{
     has_one_spelling, parts_are_spelled, reading_finds_what_is_spelled, spells_one_file,
 };
+pub use limits::{MOST_COUNTED, MOST_ENTRIES};
 pub use member::Member;
 pub use parts::{Parts, Refused};
 pub use reference::{Reference, Symbol};

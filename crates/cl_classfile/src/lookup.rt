@@ -44,20 +44,26 @@ fn find<'a>(
 
 impl ClassFile {
     /// The field of this name and this descriptor, if the class declares one; no two fields agree in both (JVMS SE 8,
-    /// 4.5). Takes no memory; in time linear in the fields, and in the texts of those whose lengths are the same.
+    /// 4.5). Takes no memory; compares each of the two texts with at most 16 others, or some log n of the n that members name.
     pub fn field(&self, name: &Name, descriptor: &Name) -> Option<&Member>
         ensures { option_map (λ m. linked_field self.now m.now) result ≡ option_map (λ m. Some m)
             (field_named (file_of self.now) name.now descriptor.now) }
     {
-        find(self.pool(), self.fields(), name, descriptor)
+        match self.index() {
+            Some(index) => index.field(self.fields(), name, descriptor),
+            None => find(self.pool(), self.fields(), name, descriptor),
+        }
     }
 
     /// The method of this name and this descriptor, if the class declares one; no two methods agree in both (JVMS SE 8,
-    /// 4.6). Takes no memory; in time linear in the methods, and in the texts of those whose lengths are the same.
+    /// 4.6). Takes no memory; compares each of the two texts with at most 16 others, or some log n of the n that members name.
     pub fn method(&self, name: &Name, descriptor: &Name) -> Option<&Member>
         ensures { option_map (λ m. linked_method self.now m.now) result ≡ option_map (λ m. Some m)
             (method_named (file_of self.now) name.now descriptor.now) }
     {
-        find(self.pool(), self.methods(), name, descriptor)
+        match self.index() {
+            Some(index) => index.method(self.methods(), name, descriptor),
+            None => find(self.pool(), self.methods(), name, descriptor),
+        }
     }
 }

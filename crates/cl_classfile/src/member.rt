@@ -5,6 +5,7 @@ ghost use Rattle.std.specs.List.{list_all};
 ghost use Rattle.cl_classfile.specs.Widths.{all_fit, attribute_fits, member_fits};
 
 use crate::attribute::Attribute;
+use crate::limits::MOST_COUNTED;
 use std::marker::Model;
 
 /// A field or a method (JVMS SE 8, 4.5, 4.6).
@@ -28,7 +29,7 @@ impl Model for Member {
 pub fn attributes_fit(attributes: &[Attribute]) -> bool
     ensures { result ≡ all_fit attribute_fits attributes.now }
 {
-    attributes.len() <= 65535 && each_fits(attributes)
+    attributes.len() <= MOST_COUNTED && each_fits(attributes)
 }
 
 fn each_fits(attributes: &[Attribute]) -> bool

@@ -10,10 +10,12 @@ ghost use Rattle.cl_classfile.specs.declared.entry.Entry.{Entry};
 
 use crate::fault::{Fault, ReadError};
 use crate::flags::{is_field_flags, is_init_flags, is_method_flags, is_static};
+use crate::limits::MOST_COUNTED;
 use crate::member::Member;
 use crate::numbers::Numbers;
 use crate::rows::traits_at;
 use crate::traits::{Special, Traits, is_field};
+use cl_descriptors::MOST_UNITS;
 use std::alloc::{AllocError, Global};
 use std::collections::BTreeSet;
 
@@ -37,7 +39,7 @@ fn has_room(of_class: bool, units: Option<usize>) -> bool
     ensures { result ≡ has_room of_class units }
 {
     match units {
-        Some(units) => of_class || units < 255,
+        Some(units) => of_class || units < MOST_UNITS,
         None => false,
     }
 }
@@ -75,7 +77,7 @@ fn keeps_member(kind: Kind, traits: &[Traits], of_interface: bool, member: &Memb
 /// Whether none of those seen has the name and the descriptor of this member, which is seen from now on.
 fn is_new(
     seen: &mut BTreeSet<(u16, u16), Global>,
-    numbers: &Numbers<'_>,
+    numbers: &Numbers,
     member: &Member,
 ) -> Result<bool, AllocError>
     ensures { (pool : List Entry) (before : List Member) → AreNumbers pool numbers.now
@@ -98,7 +100,7 @@ pub fn check_members(
     alloc: Global,
     kind: Kind,
     traits: &[Traits],
-    numbers: &Numbers<'_>,
+    numbers: &Numbers,
     of_interface: bool,
     members: &[Member],
 ) -> Result<(), ReadError>
@@ -106,7 +108,7 @@ pub fn check_members(
     ensures { (pool : List Entry) → AreNoted pool numbers.now members.now
         → Gives (λ u. u) result (checked_list kind traits.now of_interface pool members.now) }
 {
-    if members.len() > 65535 {
+    if members.len() > MOST_COUNTED {
         return Err(ReadError::Fault(Fault::BadMember));
     }
     let mut seen = BTreeSet::new(alloc);

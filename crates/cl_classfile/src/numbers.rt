@@ -8,27 +8,26 @@ ghost use Rattle.cl_classfile.specs.Numbers.{IsNumber, AreNumbers, AreNoted, Not
 use crate::checking::text_at;
 use crate::entry::Entry;
 use crate::member::Member;
-use crate::text::Text;
+use cl_names::Name;
 use std::alloc::{AllocError, Global};
 use std::collections::BTreeMap;
 
 /// The numbers of texts.
-#[derive(Drop)]
-pub struct Numbers<'a> {
-    /// Of each text that was met, the first index of it that was asked for: its number. Lengths come first, so that few
-    /// texts are compared byte by byte.
-    met: BTreeMap<(usize, Text<'a>), u16, Global>,
+#[derive(Debug, Drop)]
+pub struct Numbers {
+    /// Of each text that was met, the first index of it that was asked for: its number.
+    met: BTreeMap<Name, u16, Global>,
     /// Of each index of the pool the number of the text there, or 0 where it was not asked for.
     noted: Vec<u16>,
 }
 
 /// The numbers of the texts that the members name.
-pub fn numbers_of<'a>(
+pub fn numbers_of(
     alloc: Global,
-    pool: &'a [Entry],
+    pool: &[Entry],
     fields: &[Member],
     methods: &[Member],
-) -> Result<Numbers<'a>, AllocError>
+) -> Result<Numbers, AllocError>
     ensures fields { IfOk result (λ ns. AreNoted pool.now ns fields.now) }
     ensures methods { IfOk result (λ ns. AreNoted pool.now ns methods.now) }
 {
@@ -36,12 +35,12 @@ pub fn numbers_of<'a>(
         met: BTreeMap::new(alloc),
         noted: vec![in alloc; 0u16; pool.len()]?,
     };
-    numbers.note_all(pool, fields)?;
-    numbers.note_all(pool, methods)?;
+    numbers.note_all(alloc, pool, fields)?;
+    numbers.note_all(alloc, pool, methods)?;
     Ok(numbers)
 }
 
-impl<'a> Numbers<'a> {
+impl Numbers {
     /// The number of the text at an index, or 0 where it is none or was not asked for.
     pub fn at(&self, index: u16) -> u16
         ensures { result ≡ number_at self.now.noted.items index }
@@ -55,32 +54,44 @@ impl<'a> Numbers<'a> {
         }
     }
 
+    /// The number of a text, if a member that was asked for names it.
+    pub fn number_of(&self, text: &Name) -> Option<u16>
+        ensures { result ≡ number_of self.now text.now }
+    {
+        self.met.get(text).copied()
+    }
+
     /// Asks for the texts of these members.
-    fn note_all(&mut self, pool: &'a [Entry], members: &[Member]) -> Result<(), AllocError>
+    fn note_all(
+        &mut self,
+        alloc: Global,
+        pool: &[Entry],
+        members: &[Member],
+    ) -> Result<(), AllocError>
         requires { AreNumbers pool.now self.old }
         ensures { IfOk result (λ _. NotesAll pool.now self.old self.new members.now) }
     {
         for member in members {
-            self.note(pool, member.name_index())?;
-            self.note(pool, member.descriptor_index())?;
+            self.note(alloc, pool, member.name_index())?;
+            self.note(alloc, pool, member.descriptor_index())?;
         }
         Ok(())
     }
 
     /// Asks for the text at an index.
-    fn note(&mut self, pool: &'a [Entry], index: u16) -> Result<(), AllocError>
+    fn note(&mut self, alloc: Global, pool: &[Entry], index: u16) -> Result<(), AllocError>
         requires { AreNumbers pool.now self.old }
         ensures { IfOk result (λ _. Notes pool.now self.old self.new index) }
     {
         if self.at(index) == 0 {
-            let number = self.number(pool, index)?;
+            let number = self.number(alloc, pool, index)?;
             self.put(index, number);
         }
         Ok(())
     }
 
     /// The number of the text at an index, or 0 where it is none.
-    fn number(&mut self, pool: &'a [Entry], index: u16) -> Result<u16, AllocError>
+    fn number(&mut self, alloc: Global, pool: &[Entry], index: u16) -> Result<u16, AllocError>
         requires { AreNumbers pool.now self.old }
         ensures is { IfOk result (λ n. IsNumber (number_of self.new) (text_at pool.now index) n) }
         ensures numbers { IfOk result (λ _. AreNumbers pool.now self.new) }
@@ -90,12 +101,10 @@ impl<'a> Numbers<'a> {
         let Some(text) = text_at(pool, index) else {
             return Ok(0);
         };
-        let bytes = text.bytes();
-        let key = (bytes.len(), Text::new(bytes));
-        match self.met.get(&key).copied() {
+        match self.number_of(text) {
             Some(number) => Ok(number),
             None => {
-                self.met.insert(key, index)?;
+                self.met.insert(text.try_clone(alloc)?, index)?;
                 Ok(index)
             }
         }

@@ -88,12 +88,12 @@ fn name_of(
     if is_apart {
         Name::of_text(alloc, text)
     } else {
-        Name::shared(alloc, shared, start, text.len())
+        Name::of_part(alloc, shared, start, text.len())
     }
 }
 
 /// The entry of its own.
-fn owned(
+fn owned_entry(
     alloc: Global,
     shared: &ArcSlice<u8>,
     start: usize,
@@ -162,14 +162,14 @@ pub fn owned_entries(
     let mut start = 0;
     for (i, entry) in pool.iter().enumerate() {
         let is_apart = apart.get(i).copied().unwrap_or(false);
-        entries.push(owned(alloc, &shared, start, is_apart, *entry)?)?;
+        entries.push(owned_entry(alloc, &shared, start, is_apart, *entry)?)?;
         start += text_in(*entry).len();
     }
     Ok(entries)
 }
 
 /// The entry as it would stand in the bytes.
-fn borrowed(entry: &Entry) -> RawEntry<'_>
+fn borrowed_entry(entry: &Entry) -> RawEntry<'_>
     ensures { plain_entry result ≡ entry.now }
 {
     match entry {
@@ -227,7 +227,7 @@ pub fn borrowed_entries(alloc: Global, pool: &[Entry]) -> Result<Vec<RawEntry<'_
 {
     let mut entries = Vec::with_capacity(alloc, pool.len())?;
     for entry in pool {
-        entries.push(borrowed(entry))?;
+        entries.push(borrowed_entry(entry))?;
     }
     Ok(entries)
 }

@@ -120,7 +120,7 @@ impl Listed for Attribute {
         let (name_index, rest) = u16_at(bytes)?;
         let (count, rest) = u32_at(rest)?;
         let (content, rest) = bytes_at(count as usize, rest)?;
-        let attribute = Attribute::copied(alloc, name_index, content)?;
+        let attribute = Attribute::copy_of(alloc, name_index, content)?;
         Ok((attribute, rest))
     }
 }

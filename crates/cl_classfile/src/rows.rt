@@ -10,6 +10,7 @@ use crate::fault::Fault;
 use crate::raw::RawEntry;
 use crate::traits::{Special, Traits, is_call, is_field, is_void, nothing, traits_of};
 use cl_descriptors::Form;
+use cl_names::MOST_TEXT_BYTES;
 use std::alloc::{AllocError, Global};
 
 fn entry_traits(entry: RawEntry<'_>) -> Traits
@@ -33,7 +34,7 @@ pub fn all_traits(alloc: Global, pool: &[RawEntry<'_>]) -> Result<Vec<Traits>, A
 }
 
 /// What stands in the row of an index, from 1 on.
-fn listed(traits: &[Traits], index: u16) -> Option<&Traits>
+fn row_at(traits: &[Traits], index: u16) -> Option<&Traits>
     ensures { option_map (λ t. t.now) result ≡ at traits.now index }
 {
     if index == 0 {
@@ -46,7 +47,7 @@ fn listed(traits: &[Traits], index: u16) -> Option<&Traits>
 pub fn traits_at(traits: &[Traits], index: u16) -> Traits
     ensures { result ≡ traits_at traits.now index }
 {
-    match listed(traits, index) {
+    match row_at(traits, index) {
         Some(traits) => *traits,
         None => nothing(),
     }
@@ -152,7 +153,7 @@ fn keeps_entry(traits: &[Traits], pool: &[RawEntry<'_>], own: Traits, entry: Raw
     ensures { result ≡ keeps_entry traits.now (plain_entries pool.now) (plain_entry entry.entry) }
 {
     match entry {
-        RawEntry::Utf8(text) => own.text && text.len() <= 65535,
+        RawEntry::Utf8(text) => own.text && text.len() <= MOST_TEXT_BYTES,
         RawEntry::Integer(_)
         | RawEntry::Float(_)
         | RawEntry::Long(_)

@@ -8,13 +8,14 @@ ghost use Rattle.cl_classfile.specs.Checking.{Finds, fits_slot, checked_slots};
 
 use crate::fault::Fault;
 use crate::raw::{RawEntry, is_wide};
+use cl_names::MOST_TEXT_BYTES;
 
 /// Whether the entry is such as its width can say: of what an entry may hold a text alone can be too long.
 fn entry_fits(entry: RawEntry<'_>) -> bool
     ensures { result ≡ entry_fits (plain_entry entry.entry) }
 {
     match entry {
-        RawEntry::Utf8(text) => text.len() <= 65535,
+        RawEntry::Utf8(text) => text.len() <= MOST_TEXT_BYTES,
         _ => true,
     }
 }

@@ -16,16 +16,16 @@ traits_of raws = map entry_traits (plain_entries raws)
 pub check_entries-requires-clause-traits : goal.check_entries-requires-clause-traits
 check_entries-requires-clause-traits c = c.as_slice-2.ensures.value ∙ c.in_ok-traits.ensures ∙ ap traits_of (c.as_slice.ensures.value ∙ sym c.as_slice-3.ensures.value)
 
-pub made-requires : goal.made-requires
-made-requires c =
+pub class_file-requires-clause-file : goal.class_file-requires-clause-file
+class_file-requires-clause-file c =
     let f = plain_file c.args.file in
     let same : plain_parts c.in_ok-parts.parts ≡ f = c.in_ok-parts.ensures in
     let traits : c.as_slice-4.result.now ≡ map entry_traits f.pool = c.as_slice-4.ensures.value ∙ c.in_ok-traits.ensures ∙ ap traits_of c.as_slice.ensures.value in
     let rows : checked_entries f.pool 1 f.pool ≡ Ok c.in_ok-check_entries.field-0 =
     ap (λ (rs : List RawEntry). checked_entries (plain_entries rs) 1 (plain_entries rs)) (sym c.as_slice-3.ensures.value) ∙ c.in_ok-check_entries.ensures in
-    let tables : checked_tables (map entry_traits f.pool) f.pool f ≡ Ok c.in_ok-check_tables.field-0 =
-    ap (λ (ts : List Traits). checked_tables ts f.pool f) (sym traits) ∙ ap (λ (g : Structure). checked_tables c.as_slice-4.result.now g.pool g) (sym same) ∙ c.in_ok-check_tables.ensures in
-    subst IsClassFile (sym same) (is_class_file f c.in_ok-check_entries.field-0 c.in_ok-check_tables.field-0 c.requires rows tables)
+    let tables : checked_tables (map entry_traits f.pool) f.pool f ≡ Ok tt =
+    ap (λ (ts : List Traits). checked_tables ts f.pool f) (sym traits) ∙ ap (λ (g : Structure). checked_tables c.as_slice-4.result.now g.pool g) (sym same) ∙ c.in_ok-index.ensures.tables in
+    subst IsClassFile (sym same) (is_class_file f c.in_ok-check_entries.field-0 tt c.requires rows tables)
 
 pub owned_parts-requires : goal.owned_parts-requires
 owned_parts-requires c =

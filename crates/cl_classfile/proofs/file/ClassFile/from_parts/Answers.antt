@@ -6,13 +6,13 @@ use Rattle.cl_classfile.specs.Checking.{Fails}
 use Rattle.cl_classfile.proofs.Tables.{parts_say, parts_told}
 use Rattle.cl_classfile.proofs.file.ClassFile.from_parts.Goals as goal
 
-pub made-requires : goal.made-requires
-made-requires c = (parts_say (plain_parts c.args.parts) (plain_parts c.args.parts) c.in-Ok.ensures).1
+pub class_file-requires-clause-file : goal.class_file-requires-clause-file
+class_file-requires-clause-file c = (parts_say (plain_parts c.args.parts) (plain_parts c.args.parts) c.in-Ok.ensures.parts).1
 
 pub returns-in-Ok-clause-found : goal.returns-in-Ok-clause-found
 returns-in-Ok-clause-found c =
-    let is = (parts_say (plain_parts c.args.parts) (plain_parts c.args.parts) c.in-Ok.ensures).1 in
-    (c.made.ensures, subst (λ (f : Structure). Spells (spelling f) f) (sym c.made.ensures) (record { fits = is.fits; kept = is.kept; spelled = refl }))
+    let is = (parts_say (plain_parts c.args.parts) (plain_parts c.args.parts) c.in-Ok.ensures.parts).1 in
+    (c.class_file.ensures, subst (λ (f : Structure). Spells (spelling f) f) (sym c.class_file.ensures) (record { fits = is.fits; kept = is.kept; spelled = refl }))
 
 pub returns-in-Err-clause-only : goal.returns-in-Err-clause-only
-returns-in-Err-clause-only c = λ bytes s. subst (λ (file : Result Structure Fault). Fails c.in-Err.error file) (parts_told (plain_parts c.args.parts) s.fits s.kept) c.in-Err.ensures
+returns-in-Err-clause-only c = λ bytes s. subst (λ (file : Result Structure Fault). Fails c.in-Err.error file) (parts_told (plain_parts c.args.parts) s.fits s.kept) c.in-Err.ensures.parts

@@ -10,5 +10,5 @@ pub returns : goal.returns
 returns c =
     c.interface_name.ensures ∙ ap (λ (es : List Entry). option_and_then (class_name es) (slice_get c.as_slice-2.result.now c.args.place)) c.as_slice.ensures.value
     ∙ ap (λ (is : List ℕ). option_and_then (class_name c.self.inside.pool.items) (slice_get is c.args.place)) c.as_slice-2.ensures.value
-    ∙ interface_at c.self.inside.pool.items c.self.inside.interfaces.items c.args.place c.self.invariant.kept.interfaces
+    ∙ interface_at c.self.inside.pool.items c.self.inside.interfaces.items c.args.place c.self.invariant.0.kept.interfaces
     ∙ ap (λ (f : Structure). slice_get (file_of f).interfaces c.args.place) c.self.view_is

@@ -3,12 +3,26 @@ use Rattle.std.specs.Prelude.{find}
 use Rattle.cl_classfile.specs.declared.entry.Entry.{Entry}
 use Rattle.cl_classfile.specs.Structure.{Member}
 use Rattle.cl_classfile.specs.Lookups.{linked_method, has_texts}
+use Rattle.cl_classfile.specs.Indexes.{Leads, led_to}
 use Rattle.cl_classfile.proofs.Lookups.{method_is, map_after}
+use Rattle.cl_classfile.proofs.Indexes.{leads}
 use Rattle.cl_classfile.proofs.file.ClassFile.method.Goals as goal
 
-pub returns : goal.returns
-returns c =
+pub returns-in-Some : goal.returns-in-Some
+returns-in-Some c =
+    let f = c.args.self.now in
+    let name = c.args.name.now in
+    let descriptor = c.args.descriptor.now in
+    let index = c.in-Some.index.now in
+    let led : Leads f.pool index f.fields f.methods = c.in-Some.ensures.index in
+    map_after (λ m. m.now) (linked_method f) c.method.result _
+    (c.method.ensures ∙ ap (λ (ms : List Member). led_to index.numbers index.methods ms name descriptor) c.methods.ensures
+    ∙ leads f.pool index.numbers index.methods f.methods led.methods c.in-Some.ensures.sound.kept.methods.new name descriptor)
+    ∙ method_is f c.in-Some.ensures.sound name descriptor
+
+pub returns-in-None : goal.returns-in-None
+returns-in-None c =
     map_after (λ m. m.now) (linked_method c.args.self.now) c.find.result _
-    (c.find.ensures ∙ ap (λ (es : List Entry). find (has_texts es c.args.name.now c.args.descriptor.now) c.methods.result.now) c.pool.ensures.entries
-    ∙ ap (λ (ms : List Member). find (has_texts c.args.self.now.pool c.args.name.now c.args.descriptor.now) ms) c.methods.ensures)
+    (c.find.ensures ∙ ap (λ (es : List Entry). find (has_texts es c.args.name.now c.args.descriptor.now) c.methods-in-None.result.now) c.pool.ensures.entries
+    ∙ ap (λ (ms : List Member). find (has_texts c.args.self.now.pool c.args.name.now c.args.descriptor.now) ms) c.methods-in-None.ensures)
     ∙ method_is c.args.self.now c.pool.ensures.sound c.args.name.now c.args.descriptor.now

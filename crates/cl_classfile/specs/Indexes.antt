@@ -1,0 +1,72 @@
+-- Where the members of a class stand, by the numbers of their names and descriptors.
+use Rattle.std.specs.Prelude.{
+  ◌≡◌,
+  ℕ,
+  ◌<◌,
+  List,
+  Option,
+  Some,
+  IsSome,
+  IfSome,
+  option_and_then,
+  slice_get,
+}
+use Rattle.std.specs.BTreeMap.{get}
+use Rattle.cl_classfile.specs.declared.entry.Entry.{Entry}
+use Rattle.cl_classfile.specs.declared.numbers.Numbers.{Numbers}
+use Rattle.cl_classfile.specs.declared.index.Places.{Places}
+use Rattle.cl_classfile.specs.declared.index.Index.{Index}
+use Rattle.cl_classfile.specs.Structure.{Structure, Member}
+use Rattle.cl_classfile.specs.Numbers.{AreNoted, number_at, number_of}
+use Rattle.cl_classfile.specs.Seen.{pair_cmp}
+
+-- the numbers that are noted of a member's name and descriptor (4.5, 4.6)
+abbrev pub pair_of : Numbers → Member → ℕ × ℕ
+pair_of ns m =
+    (number_at ns.noted.items m.name_index, number_at ns.noted.items m.descriptor_index)
+
+-- where a member of these numbers stands, if there is one
+abbrev pub place_of : Places → ℕ × ℕ → Option ℕ
+place_of ps pair = get pair_cmp ps.map pair
+
+-- the member that stands where one of these numbers does
+abbrev pub member_at : Places → List Member → ℕ → ℕ → Option Member
+member_at ps ms name descriptor = option_and_then (slice_get ms) (place_of ps (name, descriptor))
+
+-- the member that a name and a descriptor lead to by their numbers
+abbrev pub led_to : Numbers → Places → List Member → List ℕ → List ℕ → Option Member
+led_to ns ps ms name descriptor =
+    option_and_then
+    (λ n. option_and_then (λ d. member_at ps ms n d) (number_of ns descriptor))
+    (number_of ns name)
+
+-- a member of these numbers stands there
+pub record StandsAt (ns : Numbers) (ms : List Member) (pair : ℕ × ℕ) (i : ℕ) : Type 0 where
+  pub member : Member
+  pub stands : slice_get ms i ≡ Some member
+  pub pair_is : pair_of ns member ≡ pair
+
+-- each place is that of a member of its numbers, and each of the members before the end has one
+pub record StandTo (ns : Numbers) (ps : Places) (ms : List Member) (end : ℕ) : Type 0 where
+  pub each : (pair : ℕ × ℕ) (i : ℕ) → place_of ps pair ≡ Some i → StandsAt ns ms pair i
+  pub all : (i : ℕ) (m : Member) → i < end → slice_get ms i ≡ Some m
+      → IsSome (place_of ps (pair_of ns m))
+
+-- each place is that of a member of its numbers, and each of the members has one
+pub record StandThere (ns : Numbers) (ps : Places) (ms : List Member) : Type 0 where
+  pub each : (pair : ℕ × ℕ) (i : ℕ) → place_of ps pair ≡ Some i → StandsAt ns ms pair i
+  pub all : (i : ℕ) (m : Member) → slice_get ms i ≡ Some m → IsSome (place_of ps (pair_of ns m))
+
+-- the texts of these members have numbers, under which the members stand
+pub record Lead (pool : List Entry) (ns : Numbers) (ps : Places) (ms : List Member) : Type 0 where
+  pub noted : AreNoted pool ns ms
+  pub stand : StandThere ns ps ms
+
+-- the index leads to these fields and these methods
+pub record Leads (pool : List Entry) (i : Index) (fs ms : List Member) : Type 0 where
+  pub fields : Lead pool i.numbers i.fields fs
+  pub methods : Lead pool i.numbers i.methods ms
+
+-- an index, if there is one, leads to the fields and the methods of the file
+abbrev pub IsIndexOf : Option Index → Structure → Type 0
+IsIndexOf index f = IfSome index (λ i. Leads f.pool i f.fields f.methods)

@@ -1,0 +1,109 @@
+//! Where the members of a class stand, by their names and descriptors: made once for a class of many members, as it is read.
+
+ghost use Rattle.std.specs.Prelude.{◌≡◌, ℕ, List, IfOk, IfSome};
+ghost use Rattle.std.specs.Option.{option_map};
+ghost use Rattle.cl_classfile.specs.declared.entry.Entry.{Entry};
+ghost use Rattle.cl_classfile.specs.Numbers.{AreNoted};
+ghost use Rattle.cl_classfile.specs.Indexes.{Leads, StandThere, led_to, member_at};
+
+use crate::member::Member;
+use crate::numbers::Numbers;
+use cl_names::Name;
+use std::alloc::{AllocError, Global};
+use std::collections::BTreeMap;
+
+/// So many members are looked through as fast, without an index.
+const FEW: usize = 16;
+
+/// Where members stand, by the numbers of their names and descriptors.
+#[derive(Debug, Drop)]
+pub struct Places {
+    map: BTreeMap<(u16, u16), usize, Global>,
+}
+
+/// Where the fields and the methods of a class stand.
+#[derive(Debug, Drop)]
+pub struct Index {
+    numbers: Numbers,
+    fields: Places,
+    methods: Places,
+}
+
+/// The index of these members, which have these numbers, where they are many.
+pub fn index_of(
+    alloc: Global,
+    numbers: Numbers,
+    fields: &[Member],
+    methods: &[Member],
+) -> Result<Option<Index>, AllocError>
+    ensures { (pool : List Entry) → AreNoted pool numbers fields.now
+        → AreNoted pool numbers methods.now
+        → IfOk result (λ o. IfSome o (λ i. Leads pool i fields.now methods.now)) }
+{
+    if fields.len() <= FEW && methods.len() <= FEW {
+        return Ok(None);
+    }
+    let fields = places_of(alloc, &numbers, fields)?;
+    let methods = places_of(alloc, &numbers, methods)?;
+    Ok(Some(Index {
+        numbers,
+        fields,
+        methods,
+    }))
+}
+
+/// Where each of these members stands.
+fn places_of(alloc: Global, numbers: &Numbers, members: &[Member]) -> Result<Places, AllocError>
+    ensures { IfOk result (λ ps. StandThere numbers.now ps members.now) }
+{
+    let mut map = BTreeMap::new(alloc);
+    for i in 0..members.len() {
+        let member = &members[i];
+        let name = numbers.at(member.name_index());
+        let descriptor = numbers.at(member.descriptor_index());
+        map.insert((name, descriptor), i)?;
+    }
+    Ok(Places { map })
+}
+
+impl Places {
+    /// The member of these numbers.
+    fn member<'a>(&self, members: &'a [Member], name: u16, descriptor: u16) -> Option<&'a Member>
+        ensures { option_map (λ m. m.now) result ≡ member_at self.now members.now name descriptor }
+    {
+        let place = self.map.get(&(name, descriptor))?;
+        members.get(*place)
+    }
+}
+
+impl Index {
+    /// The field of this name and this descriptor, where these are the fields.
+    pub fn field<'a>(
+        &self,
+        fields: &'a [Member],
+        name: &Name,
+        descriptor: &Name,
+    ) -> Option<&'a Member>
+        ensures { option_map (λ m. m.now) result
+            ≡ led_to self.now.numbers self.now.fields fields.now name.now descriptor.now }
+    {
+        let name = self.numbers.number_of(name)?;
+        let descriptor = self.numbers.number_of(descriptor)?;
+        self.fields.member(fields, name, descriptor)
+    }
+
+    /// The method of this name and this descriptor, where these are the methods.
+    pub fn method<'a>(
+        &self,
+        methods: &'a [Member],
+        name: &Name,
+        descriptor: &Name,
+    ) -> Option<&'a Member>
+        ensures { option_map (λ m. m.now) result
+            ≡ led_to self.now.numbers self.now.methods methods.now name.now descriptor.now }
+    {
+        let name = self.numbers.number_of(name)?;
+        let descriptor = self.numbers.number_of(descriptor)?;
+        self.methods.member(methods, name, descriptor)
+    }
+}

@@ -23,7 +23,7 @@ sparse = record { world = service; script = of_second ∷ of_fourth ∷ []; roun
 abbrev pub BothServed : List Step → Type 0
 BothServed es = AllServed sparse 0 start sparse.script es
 
--- memory ran out for the request of this number (own choice)
+-- memory ran out for the request of this number
 abbrev pub failed : ℕ → Step
 failed q = Post q OutOfMemory
 

@@ -82,6 +82,10 @@ answer_text names (SourceFault name loader) = words (codes "SourceFault" ∷ cla
 abbrev pub answer_line : List Text → ℕ → Answer → Text
 answer_line names q a = words (decimal (q + 1) ∷ answer_text names a ∷ [])
 
+-- a line with its line feed
+abbrev pub ended : Text → Text
+ended line = line ++ 10 ∷ []
+
 -- the line of a step, if it has one
 abbrev pub line : List Text → Step → Option Text
 line names (Define c) = Some (words (codes "define" ∷ class_text names c ∷ []))

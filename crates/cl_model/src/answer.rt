@@ -1,10 +1,10 @@
-ghost use Rattle.std.specs.Prelude.{◌≡◌, length, map, string_bytes, IfOk};
+ghost use Rattle.std.specs.Prelude.{◌≡◌, ◌++◌, length, map, string_bytes, OnOk};
 
-use crate::loader::{LoaderId, located_text};
+use crate::loader::{LoaderId, put_located};
 use crate::settled::Settled;
 use crate::verdict::Verdict;
 use cl_names::Name;
-use std::alloc::{AllocError, Global};
+use std::alloc::AllocError;
 use std::sync::Arc;
 
 /// What a request is answered.
@@ -25,19 +25,19 @@ impl Answer {
     ghost use Rattle.cl_model.specs.Texts.{AnswerNames};
     ghost use Rattle.cl_model.specs.Views.{answer_of};
 
-    /// The text that is printed behind the request's number, with each loader by its name.
-    pub fn text(&self, alloc: Global, loaders: &[String]) -> Result<String, AllocError>
+    /// Puts the text that is printed behind the request's number behind the text, with each loader by its name.
+    pub fn put_text(&self, loaders: &[String], text: &mut String) -> Result<(), AllocError>
         requires { AnswerNames (length loaders.now) self.now }
-        ensures { IfOk result (λ t. string_bytes t ≡ answer_text (map string_bytes loaders.now)
-            (answer_of self.now)) }
+        ensures { OnOk result (string_bytes text.new ≡ string_bytes text.old
+            ++ answer_text (map string_bytes loaders.now) (answer_of self.now)) }
     {
         match self {
-            Answer::Said(verdict) => verdict.text(alloc, loaders),
-            Answer::Shared(settled) => settled.verdict.text(alloc, loaders),
-            Answer::Memory => String::from_str(alloc, "OutOfMemory"),
+            Answer::Said(verdict) => verdict.put_text(loaders, text),
+            Answer::Shared(settled) => settled.verdict.put_text(loaders, text),
+            Answer::Memory => text.push_str("OutOfMemory"),
             Answer::SourceFault(name, loader) => {
-                let place = located_text(alloc, loaders, name, *loader)?;
-                format!(in alloc; "SourceFault {place}")
+                text.push_str("SourceFault ")?;
+                put_located(loaders, name, *loader, text)
             }
         }
     }

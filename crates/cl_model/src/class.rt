@@ -1,6 +1,6 @@
-ghost use Rattle.std.specs.Prelude.{◌≡◌, ◌≢◌, ◌<◌, length, map, string_bytes, IfOk, MatchBool};
+ghost use Rattle.std.specs.Prelude.{◌≡◌, ◌≢◌, ◌<◌, ◌++◌, length, map, string_bytes, IfOk, OnOk, MatchBool};
 
-use crate::loader::{LoaderId, located_text};
+use crate::loader::{LoaderId, put_located};
 use cl_names::Name;
 use std::alloc::{AllocError, Global};
 
@@ -31,12 +31,12 @@ impl Class {
         })
     }
 
-    /// Its text `N@M`: the name in escaped text and the name of its loader.
-    pub fn text(&self, alloc: Global, loaders: &[String]) -> Result<String, AllocError>
+    /// Puts its text `N@M` behind the text: the name in escaped text and the name of its loader.
+    pub fn put_text(&self, loaders: &[String], text: &mut String) -> Result<(), AllocError>
         requires { self.now.loader < length loaders.now }
-        ensures { IfOk result (λ t. string_bytes t ≡ class_text (map string_bytes loaders.now)
-            self.now) }
+        ensures { OnOk result (string_bytes text.new ≡ string_bytes text.old
+            ++ class_text (map string_bytes loaders.now) self.now) }
     {
-        located_text(alloc, loaders, &self.name, self.loader)
+        put_located(loaders, &self.name, self.loader, text)
     }
 }

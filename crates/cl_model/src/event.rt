@@ -1,11 +1,12 @@
-ghost use Rattle.std.specs.Prelude.{◌≡◌, List, Option, length, map, option_map, string_bytes, IfOk};
+ghost use Rattle.std.specs.Prelude.{◌≡◌, ◌++◌, [], List, Option, length, map, string_bytes, OnOk};
+ghost use Rattle.std.specs.Option.{option_map_or};
 ghost use Rattle.cl_model.specs.States.{Answer};
 
 use crate::class::Class;
 use crate::loader::{LoaderId, loader_name};
 use crate::need::Equality;
 use crate::settled::Settled;
-use std::alloc::{AllocError, Global};
+use std::alloc::AllocError;
 use std::sync::Arc;
 
 /// One step of the linkage machine, as a history keeps it.
@@ -28,37 +29,40 @@ pub enum Event {
 }
 
 impl Event {
-    ghost use Rattle.cl_model.specs.Lines.{line};
+    ghost use Rattle.cl_model.specs.Lines.{ended, line};
     ghost use Rattle.cl_model.specs.Texts.{EventNames};
     ghost use Rattle.cl_model.specs.Views.{step_of};
 
-    /// The line that a report prints for it, without its end, if it has one; loaders by their names.
-    pub fn text(&self, alloc: Global, loaders: &[String]) -> Result<Option<String>, AllocError>
+    /// Puts the line that a report prints for it, with its end, behind the text, if it has one; loaders by their names.
+    pub fn put_line(&self, loaders: &[String], text: &mut String) -> Result<(), AllocError>
         requires { EventNames (length loaders.now) self.now }
         ensures { (given : List (Option Answer))
-            → IfOk result (λ o. option_map string_bytes o ≡ line (map string_bytes loaders.now)
-            (step_of given self.now)) }
+            → OnOk result (string_bytes text.new ≡ string_bytes text.old
+            ++ option_map_or ended (line (map string_bytes loaders.now) (step_of given self.now)) []) }
     {
-        Ok(match self {
+        match self {
             Event::Define(class) => {
-                let class = class.text(alloc, loaders)?;
-                Some(format!(in alloc; "define {class}")?)
+                text.push_str("define ")?;
+                class.put_text(loaders, text)?;
             }
             Event::Initiate(class, asked) => {
-                let name = class.name.text(alloc).map_err(|_| AllocError)?;
-                let home = loader_name(loaders, class.loader);
-                let asked = loader_name(loaders, *asked);
-                Some(format!(in alloc; "initiate {name} {home} by {asked}")?)
+                text.push_str("initiate ")?;
+                class.name.put_text(text)?;
+                text.push_str(" ")?;
+                text.push_str(loader_name(loaders, class.loader))?;
+                text.push_str(" by ")?;
+                text.push_str(loader_name(loaders, *asked))?;
             }
             Event::Constrain(equality) => {
-                let equality = equality.text(alloc, loaders)?;
-                Some(format!(in alloc; "constrain {equality}")?)
+                text.push_str("constrain ")?;
+                equality.put_text(loaders, text)?;
             }
             Event::Prepare(class) => {
-                let class = class.text(alloc, loaders)?;
-                Some(format!(in alloc; "prepare {class}")?)
+                text.push_str("prepare ")?;
+                class.put_text(loaders, text)?;
             }
-            Event::Settle(_) | Event::NextRound | Event::Post(_) => None,
-        })
+            Event::Settle(_) | Event::NextRound | Event::Post(_) => return Ok(()),
+        }
+        text.push_str("\n")
     }
 }

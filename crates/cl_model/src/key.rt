@@ -1,4 +1,4 @@
-ghost use Rattle.std.specs.Prelude.{◌≡◌, ◌≢◌, ◌∷◌, [], string_bytes, IfOk, IsSome, MatchBool};
+ghost use Rattle.std.specs.Prelude.{◌≡◌, ◌≢◌, ◌∷◌, ◌++◌, [], string_bytes, IfOk, OnOk, IsSome, MatchBool};
 ghost use Rattle.cl_names.specs.Escape.{escaped};
 ghost use Rattle.std.specs.Prelude.{nat_eq};
 ghost use Rattle.std.specs.Ordering.{eq_of_both, on};
@@ -83,15 +83,14 @@ impl MemberKey {
         self.name == other.name && self.descriptor == other.descriptor
     }
 
-    /// Its text: the name and the descriptor.
-    #[tactic(auto, using(crate::proofs::Keys::spelled_again))]
-    pub fn text(&self, alloc: Global) -> Result<String, AllocError>
-        ensures { IfOk result (λ t. string_bytes t
-            ≡ words (escaped self.now.name ∷ escaped (spelling_of self.now.descriptor) ∷ [])) }
+    /// Puts its text behind the text: the name and the descriptor.
+    pub fn put_text(&self, text: &mut String) -> Result<(), AllocError>
+        ensures { OnOk result (string_bytes text.new ≡ string_bytes text.old
+            ++ words (escaped self.now.name ∷ escaped (spelling_of self.now.descriptor) ∷ [])) }
     {
-        let name = self.name.text(alloc).map_err(|_| AllocError)?;
-        let descriptor = self.descriptor.text(alloc).map_err(|_| AllocError)?;
-        format!(in alloc; "{name} {descriptor}")
+        self.name.put_text(text)?;
+        text.push_str(" ")?;
+        self.descriptor.put_text(text)
     }
 
     /// A copy, which shares the bytes.

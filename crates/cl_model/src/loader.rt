@@ -1,9 +1,9 @@
-ghost use Rattle.std.specs.Prelude.{◌≡◌, ◌<◌, length, map, string_bytes, IfOk};
+ghost use Rattle.std.specs.Prelude.{◌≡◌, ◌<◌, ◌++◌, length, map, string_bytes, OnOk};
 ghost use Rattle.cl_model.specs.Classes.{class};
 ghost use Rattle.cl_model.specs.Lines.{class_text, loader_text};
 
 use cl_names::Name;
-use std::alloc::{AllocError, Global};
+use std::alloc::AllocError;
 use std::marker::Model;
 
 /// A class loader, by its place in the configuration, counted from 0 (JVMS SE 8, 5.3).
@@ -20,20 +20,20 @@ impl Model for LoaderId {
     ghost inverse = { λ n. record { 0 = n } };
 }
 
-/// The text `N@M` of a name and a loader.
-pub(crate) fn located_text(
-    alloc: Global,
+/// Puts the text `N@M` of a name and a loader behind the text.
+pub(crate) fn put_located(
     loaders: &[String],
     name: &Name,
     loader: LoaderId,
-) -> Result<String, AllocError>
+    text: &mut String,
+) -> Result<(), AllocError>
     requires { loader < length loaders.now }
-    ensures { IfOk result (λ t. string_bytes t ≡ class_text (map string_bytes loaders.now)
-        (class name.now loader)) }
+    ensures { OnOk result (string_bytes text.new ≡ string_bytes text.old
+        ++ class_text (map string_bytes loaders.now) (class name.now loader)) }
 {
-    let name = name.text(alloc).map_err(|_| AllocError)?;
-    let loader = loader_name(loaders, loader);
-    format!(in alloc; "{name}@{loader}")
+    name.put_text(text)?;
+    text.push_str("@")?;
+    text.push_str(loader_name(loaders, loader))
 }
 
 /// The name of a loader.

@@ -1,9 +1,9 @@
-ghost use Rattle.std.specs.Prelude.{◌≡◌, ◌≢◌, length, map, string_bytes, IfOk, MatchBool};
+ghost use Rattle.std.specs.Prelude.{◌≡◌, ◌≢◌, ◌++◌, length, map, string_bytes, IfOk, OnOk, MatchBool};
 ghost use Rattle.cl_model.specs.Lines.{need_texts, words};
 ghost use Rattle.cl_model.specs.Texts.{EqualityNames, NeedNames, equality_text};
 ghost use Rattle.cl_model.specs.Views.{need_of};
 
-use crate::loader::{LoaderId, loader_name, located_text};
+use crate::loader::{LoaderId, loader_name, put_located};
 use cl_names::Name;
 use std::alloc::{AllocError, Global};
 
@@ -34,16 +34,17 @@ impl Equality {
         })
     }
 
-    /// Its text: the name and the names of the two loaders.
-    pub fn text(&self, alloc: Global, loaders: &[String]) -> Result<String, AllocError>
+    /// Puts its text behind the text: the name and the names of the two loaders.
+    pub fn put_text(&self, loaders: &[String], text: &mut String) -> Result<(), AllocError>
         requires { EqualityNames (length loaders.now) self.now }
-        ensures { IfOk result (λ t. string_bytes t ≡ equality_text (map string_bytes loaders.now)
-            self.now) }
+        ensures { OnOk result (string_bytes text.new ≡ string_bytes text.old
+            ++ equality_text (map string_bytes loaders.now) self.now) }
     {
-        let name = self.name.text(alloc).map_err(|_| AllocError)?;
-        let one = loader_name(loaders, self.one);
-        let other = loader_name(loaders, self.other);
-        format!(in alloc; "{name} {one} {other}")
+        self.name.put_text(text)?;
+        text.push_str(" ")?;
+        text.push_str(loader_name(loaders, self.one))?;
+        text.push_str(" ")?;
+        text.push_str(loader_name(loaders, self.other))
     }
 }
 
@@ -93,20 +94,20 @@ impl Need {
         })
     }
 
-    /// Its text, as that of a refused one is printed: a record by the loader that was asked.
-    pub fn text(&self, alloc: Global, loaders: &[String]) -> Result<String, AllocError>
+    /// Puts its text behind the text, as that of a refused one is printed: a record by the loader that was asked.
+    pub fn put_text(&self, loaders: &[String], text: &mut String) -> Result<(), AllocError>
         requires { NeedNames (length loaders.now) self.now }
-        ensures { IfOk result (λ t. string_bytes t
-            ≡ words (need_texts (map string_bytes loaders.now) (need_of self.now))) }
+        ensures { OnOk result (string_bytes text.new ≡ string_bytes text.old
+            ++ words (need_texts (map string_bytes loaders.now) (need_of self.now))) }
     {
         match self {
             Need::Entry { loader, name, .. } => {
-                let class = located_text(alloc, loaders, name, *loader)?;
-                format!(in alloc; "record {class}")
+                text.push_str("record ")?;
+                put_located(loaders, name, *loader, text)
             }
             Need::Equal(equality) => {
-                let equality = equality.text(alloc, loaders)?;
-                format!(in alloc; "equal {equality}")
+                text.push_str("equal ")?;
+                equality.put_text(loaders, text)
             }
         }
     }

@@ -1,5 +1,5 @@
-ghost use Rattle.std.specs.Prelude.{◌≡◌, ◌≢◌, ◌∷◌, ◌<◌, [], ℕ, List, length, map, string_bytes, IfOk, MatchBool};
-ghost use Rattle.cl_model.specs.Lines.{class_text, error_texts, verdict_text};
+ghost use Rattle.std.specs.Prelude.{◌≡◌, ◌≢◌, ◌∷◌, ◌<◌, ◌++◌, [], ℕ, List, length, map, string_bytes, IfOk, OnOk, MatchBool};
+ghost use Rattle.cl_model.specs.Lines.{class_text, error_texts, member_texts, verdict_text, words};
 ghost use Rattle.cl_model.specs.States.{Wrong};
 ghost use Rattle.cl_model.specs.Views.{error_of, verdict_of};
 
@@ -130,55 +130,83 @@ impl Verdict {
         ensures { IfOk result (λ t. string_bytes t ≡ verdict_text (map string_bytes loaders.now)
             (verdict_of self.now)) }
     {
+        let mut text = String::new(alloc);
+        self.put_text(loaders, &mut text)?;
+        Ok(text)
+    }
+
+    /// Puts the text that an answer prints behind the text.
+    pub fn put_text(&self, loaders: &[String], text: &mut String) -> Result<(), AllocError>
+        requires { VerdictNames (length loaders.now) self.now }
+        ensures { OnOk result (string_bytes text.new ≡ string_bytes text.old
+            ++ verdict_text (map string_bytes loaders.now) (verdict_of self.now)) }
+    {
         match self {
-            Verdict::Class(class) => {
-                let class = class.text(alloc, loaders)?;
-                format!(in alloc; "class {class}")
-            }
+            Verdict::Class(class) => put_class("class", class, loaders, text),
             Verdict::Array(dimensions, class) => {
-                let class = class.text(alloc, loaders)?;
-                format!(in alloc; "array {dimensions} {class}")
+                write!(text, "array {dimensions} ")?;
+                class.put_text(loaders, text)
             }
             Verdict::PrimitiveArray(dimensions, base) => {
-                format!(in alloc; "array {dimensions} {base}")
+                write!(text, "array {dimensions} {base}")
             }
-            Verdict::Field(class, key) => {
-                let class = class.text(alloc, loaders)?;
-                let key = key.text(alloc)?;
-                format!(in alloc; "field {class} {key}")
-            }
-            Verdict::Method(class, key) => {
-                let class = class.text(alloc, loaders)?;
-                let key = key.text(alloc)?;
-                format!(in alloc; "method {class} {key}")
-            }
-            Verdict::Linked(class) => {
-                let class = class.text(alloc, loaders)?;
-                format!(in alloc; "linked {class}")
-            }
-            Verdict::BadEntry => String::from_str(alloc, "BadEntry"),
-            Verdict::ArrayMember => String::from_str(alloc, "ArrayMember"),
-            Verdict::Error(kind, subject) => error_text(alloc, *kind, subject, loaders),
+            Verdict::Field(class, key) => put_member("field", class, key, loaders, text),
+            Verdict::Method(class, key) => put_member("method", class, key, loaders, text),
+            Verdict::Linked(class) => put_class("linked", class, loaders, text),
+            Verdict::BadEntry => text.push_str("BadEntry"),
+            Verdict::ArrayMember => text.push_str("ArrayMember"),
+            Verdict::Error(kind, subject) => put_error(*kind, subject, loaders, text),
             Verdict::Linkage(need) => {
-                let need = need.text(alloc, loaders)?;
-                format!(in alloc; "LinkageError {need}")
+                text.push_str("LinkageError ")?;
+                need.put_text(loaders, text)
             }
         }
     }
 }
 
-/// The text of an error about a class.
-fn error_text(
-    alloc: Global,
+/// Puts a word and the text of a class behind the text.
+fn put_class(
+    word: &str,
+    class: &Class,
+    loaders: &[String],
+    text: &mut String,
+) -> Result<(), AllocError>
+    requires { class.now.loader < length loaders.now }
+    ensures { OnOk result (string_bytes text.new ≡ string_bytes text.old
+        ++ words (word.now ∷ class_text (map string_bytes loaders.now) class.now ∷ [])) }
+{
+    text.push_str(word)?;
+    text.push_str(" ")?;
+    class.put_text(loaders, text)
+}
+
+/// Puts a word and the text of a member behind the text: the class that declares it, its name and its descriptor.
+fn put_member(
+    word: &str,
+    class: &Class,
+    key: &MemberKey,
+    loaders: &[String],
+    text: &mut String,
+) -> Result<(), AllocError>
+    requires { class.now.loader < length loaders.now }
+    ensures { OnOk result (string_bytes text.new ≡ string_bytes text.old
+        ++ words (word.now ∷ member_texts (map string_bytes loaders.now) class.now key.now)) }
+{
+    put_class(word, class, loaders, text)?;
+    text.push_str(" ")?;
+    key.put_text(text)
+}
+
+/// Puts the text of an error about a class behind the text.
+fn put_error(
     kind: ErrorKind,
     subject: &Class,
     loaders: &[String],
-) -> Result<String, AllocError>
+    text: &mut String,
+) -> Result<(), AllocError>
     requires { subject.now.loader < length loaders.now }
-    ensures { IfOk result (λ t. string_bytes t ≡ verdict_text (map string_bytes loaders.now)
-        (Wrong (error_of kind subject.now))) }
+    ensures { OnOk result (string_bytes text.new ≡ string_bytes text.old
+        ++ verdict_text (map string_bytes loaders.now) (Wrong (error_of kind subject.now))) }
 {
-    let name = kind.name();
-    let subject = subject.text(alloc, loaders)?;
-    format!(in alloc; "{name} {subject}")
+    put_class(kind.name(), subject, loaders, text)
 }

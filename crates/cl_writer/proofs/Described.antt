@@ -15,8 +15,9 @@ use Rattle.cl_writer.specs.Described.{described, described_over, entry_of}
 use Rattle.cl_writer.specs.Assembled.{IsAssembled, IsInvalid}
 use Rattle.cl_writer.specs.Listings.{listing_of}
 use Rattle.cl_writer.proofs.Standing.{printed_so}
+use Rattle.cl_classfile.specs.declared.limits.TheConstants.{MOST_ENTRIES}
 
-no_count : (n : ℕ) → 65534 < n → is_short (n + 1) ≡ false
+no_count : (n : ℕ) → MOST_ENTRIES < n → is_short (n + 1) ≡ false
 no_count n many = grind (arith, nat_tests)
 
 -- a pool of which no count can say how many entries it has is the first fault of any parts
@@ -24,7 +25,7 @@ too_long : (f : Structure) → is_short (length f.pool + 1) ≡ false → parts_
 unfolding checked_pool parts_of
 too_long f long = rw long refl
 
-pub too_many : (lines : List Numbered) (l : Listed) (items : List Item) → IsRead lines l → items ≡ items_of l → 65534 < length items → IsInvalid lines (BadPool 0)
+pub too_many : (lines : List Numbered) (l : Listed) (items : List Item) → IsRead lines l → items ≡ items_of l → MOST_ENTRIES < length items → IsInvalid lines (BadPool 0)
 too_many lines l items read is many = record {
   listed = l;
   read = read;

@@ -26,8 +26,8 @@ pub record IsInvalid (lines : List Numbered) (fault : Fault) : Type 0 where
   pub read : IsRead lines listed
   pub first : parts_of (described listed) ≡ Err fault
 
--- what the lines of a text, without the skipped ones, are assembled to; of want of memory nothing
--- is said
+-- what the lines of a text, without the skipped ones, are assembled to; where memory runs out,
+-- nothing is said
 abbrev pub AssembleOf : List Numbered → Result Structure AssembleFault → Type 0
 AssembleOf lines (Ok file) = IsAssembled lines file
 AssembleOf lines (Err (BadLine n)) = IsBadAt lines n

@@ -7,22 +7,19 @@ use crate::assembly::read_lines;
 use crate::fault::AssembleFault;
 use crate::items::items_of;
 use crate::making::parts_of;
-use cl_classfile::{ClassFile, Fault, ReadError};
+use cl_classfile::{ClassFile, Fault, MOST_ENTRIES, ReadError};
 use cl_names::Seed;
 use std::alloc::Global;
 
-/// The most entries of a pool, whose count is one more (JVMS SE 8, 4.1).
-const MOST_ENTRIES: usize = 65_534;
-
 /// The file that assembler text describes. The errors come in this order: `BadLine` of the first line that is none of
 /// the assembler's, and 0 where all are skipped; `Invalid`, with the first fault that `ClassFile::from_parts` finds in
-/// what the lines describe, which is F5 of 0 where they ask for over 65,534 entries. `Memory`.
+/// what the lines describe, which is F5 of 0 where they ask for over `MOST_ENTRIES` entries. `Memory`.
 ///
 /// The text is one that no stranger wrote: entries are found in a table whose seed everyone knows.
 pub fn assemble(alloc: Global, text: &str) -> Result<ClassFile, AssembleFault>
     ensures { AssembleOf (stated_from 1 text.now) result }
 {
-    assemble_with_hasher(alloc, Seed::known(), text)
+    assemble_with_hasher(alloc, Seed::common(), text)
 }
 
 /// The same, with a table of entries that hashes with this seed. No answer depends on it.

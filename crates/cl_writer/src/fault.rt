@@ -7,7 +7,7 @@ use std::alloc::{AllocError, AllocFailed};
 use std::error::Error;
 use std::fmt::{self, Display, Formatter};
 
-/// Why a class file could not be written: only for want of memory.
+/// Why a class file could not be written: only where memory ran out.
 #[derive(Clone, Copy, Debug, PartialEq, Eq, thiserror::Error)]
 pub enum WriteFault {
     #[error("A0 Memory")]

@@ -10,6 +10,7 @@ ghost use Rattle.cl_writer.specs.Items.{PutsIndex, same_item, index, index_of, w
 use crate::assembly::Assembly;
 use crate::item::Item;
 use crate::statement::MemberLine;
+use cl_classfile::MOST_ENTRIES;
 use cl_names::{Name, Seed};
 use indexmap::IndexMap;
 use std::alloc::{AllocError, Global};
@@ -54,7 +55,7 @@ impl Items {
 
     /// The least index at which an entry stands, and 0 where it does not (JVMS SE 8, 4.4).
     pub fn index(&self, item: &Item) -> u16
-        requires { length self.now ≤ 65534 }
+        requires { length self.now ≤ MOST_ENTRIES }
         ensures { result ≡ index self.now item.now }
     {
         match self.indices.get(item) {

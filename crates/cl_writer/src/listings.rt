@@ -13,7 +13,7 @@ use cl_names::Name;
 use std::alloc::{AllocError, Global};
 
 /// The lines of a file in the assembler's form: its `class`, `implements`, `field` and `method` lines, each ended by
-/// U+000A. Flags are in lower case; a superclass that is not there is `-`. Only want of memory refuses it.
+/// U+000A. Flags are in lower case; a superclass that is not there is `-`. It is refused only where memory runs out.
 pub fn listing(alloc: Global, file: &ClassFile) -> Result<String, AllocError>
     ensures { IfOk result (λ text. string_bytes text ≡ listing_of file.now) }
 {

@@ -11,13 +11,13 @@ use crate::assembly::Assembly;
 use crate::item::{Item, MemberKind, MemberName};
 use crate::items::Items;
 use crate::statement::MemberLine;
-use cl_classfile::{Entry, Member, Parts};
+use cl_classfile::{Entry, MOST_ENTRIES, Member, Parts};
 use cl_names::Name;
 use std::alloc::{AllocError, Global};
 
-/// The parts of a file of these entries, of which it may have 65,534 (JVMS SE 8, 4.1).
+/// The parts of a file of these entries, of which it may have `MOST_ENTRIES` (JVMS SE 8, 4.1).
 pub fn parts_of(alloc: Global, items: &Items, assembly: &Assembly) -> Result<Parts, AllocError>
-    requires { length items.now ≤ 65534 }
+    requires { length items.now ≤ MOST_ENTRIES }
     ensures { IfOk result (λ p. plain_parts p ≡ described_over items.now (lists_of assembly.now)) }
 {
     let class = &assembly.class;
@@ -34,7 +34,7 @@ pub fn parts_of(alloc: Global, items: &Items, assembly: &Assembly) -> Result<Par
 }
 
 fn text_index(alloc: Global, items: &Items, text: &Name) -> Result<u16, AllocError>
-    requires { length items.now ≤ 65534 }
+    requires { length items.now ≤ MOST_ENTRIES }
     ensures { IfOk result (λ i. i ≡ index items.now (said.Text text.now)) }
 {
     let item = Item::Text(text.try_clone(alloc)?);
@@ -42,7 +42,7 @@ fn text_index(alloc: Global, items: &Items, text: &Name) -> Result<u16, AllocErr
 }
 
 fn class_index(alloc: Global, items: &Items, name: &Name) -> Result<u16, AllocError>
-    requires { length items.now ≤ 65534 }
+    requires { length items.now ≤ MOST_ENTRIES }
     ensures { IfOk result (λ i. i ≡ index items.now (said.Class name.now)) }
 {
     let item = Item::Class(name.try_clone(alloc)?);
@@ -50,7 +50,7 @@ fn class_index(alloc: Global, items: &Items, name: &Name) -> Result<u16, AllocEr
 }
 
 fn pair_index(alloc: Global, items: &Items, member: &MemberName) -> Result<u16, AllocError>
-    requires { length items.now ≤ 65534 }
+    requires { length items.now ≤ MOST_ENTRIES }
     ensures { IfOk result (λ i. i ≡ index items.now (said.NameAndType member.now.name
         member.now.descriptor)) }
 {
@@ -62,7 +62,7 @@ fn pair_index(alloc: Global, items: &Items, member: &MemberName) -> Result<u16, 
 
 /// The index of the superclass, and 0 where there is none (JVMS SE 8, 4.1).
 fn super_index(alloc: Global, items: &Items, name: &Option<Name>) -> Result<u16, AllocError>
-    requires { length items.now ≤ 65534 }
+    requires { length items.now ≤ MOST_ENTRIES }
     ensures { IfOk result (λ i. i ≡ super_index items.now name.now) }
 {
     match name {
@@ -73,7 +73,7 @@ fn super_index(alloc: Global, items: &Items, name: &Option<Name>) -> Result<u16,
 
 /// An entry for each of these, by the indices of what it names (JVMS SE 8, 4.4).
 fn entries(alloc: Global, items: &Items, named: &[Item]) -> Result<Vec<Entry>, AllocError>
-    requires { length items.now ≤ 65534 }
+    requires { length items.now ≤ MOST_ENTRIES }
     ensures { IfOk result (λ pool. pool.items ≡ map (entry_of items.now) named.now) }
 {
     let mut pool = Vec::new(alloc);
@@ -84,7 +84,7 @@ fn entries(alloc: Global, items: &Items, named: &[Item]) -> Result<Vec<Entry>, A
 }
 
 fn entry(alloc: Global, items: &Items, item: &Item) -> Result<Entry, AllocError>
-    requires { length items.now ≤ 65534 }
+    requires { length items.now ≤ MOST_ENTRIES }
     ensures { IfOk result (λ e. e ≡ entry_of items.now item.now) }
 {
     Ok(match item {
@@ -124,7 +124,7 @@ fn reference(kind: MemberKind, class: u16, name_and_type: u16) -> Entry
 }
 
 fn class_indices(alloc: Global, items: &Items, names: &[Name]) -> Result<Vec<u16>, AllocError>
-    requires { length items.now ≤ 65534 }
+    requires { length items.now ≤ MOST_ENTRIES }
     ensures { IfOk result (λ v. v.items ≡ map (λ n. index items.now (said.Class n)) names.now) }
 {
     let mut indices = Vec::new(alloc);
@@ -136,7 +136,7 @@ fn class_indices(alloc: Global, items: &Items, names: &[Name]) -> Result<Vec<u16
 
 /// The fields or methods of these lines, without attributes (JVMS SE 8, 4.5, 4.6).
 fn members(alloc: Global, items: &Items, lines: &[MemberLine]) -> Result<Vec<Member>, AllocError>
-    requires { length items.now ≤ 65534 }
+    requires { length items.now ≤ MOST_ENTRIES }
     ensures { IfOk result (λ v. v.items ≡ map (member_of items.now) lines.now) }
 {
     let mut members = Vec::new(alloc);
@@ -147,7 +147,7 @@ fn members(alloc: Global, items: &Items, lines: &[MemberLine]) -> Result<Vec<Mem
 }
 
 fn member(alloc: Global, items: &Items, line: &MemberLine) -> Result<Member, AllocError>
-    requires { length items.now ≤ 65534 }
+    requires { length items.now ≤ MOST_ENTRIES }
     ensures { IfOk result (λ m. m ≡ member_of items.now line.now) }
 {
     let name = text_index(alloc, items, &line.name)?;

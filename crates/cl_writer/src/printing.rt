@@ -55,7 +55,8 @@ fn print_interfaces<W: Write>(
     waiting: &mut String,
 ) -> Result<(), PrintFault>
     ensures lines { OnOk result (Passes (W.contents out.old) (string_bytes waiting.old)
-        (W.contents out.new) (string_bytes waiting.new) (flat_map (implements_line pool.now) interfaces.now)) }
+        (W.contents out.new) (string_bytes waiting.new)
+        (flat_map (implements_line pool.now) interfaces.now)) }
     ensures part { OnErr result (AppendsPart (W.contents out.old) (W.contents out.new)
         (string_bytes waiting.old ++ flat_map (implements_line pool.now) interfaces.now)) }
 {
@@ -91,7 +92,8 @@ fn print_members<W: Write>(
     waiting: &mut String,
 ) -> Result<(), PrintFault>
     ensures lines { OnOk result (Passes (W.contents out.old) (string_bytes waiting.old)
-        (W.contents out.new) (string_bytes waiting.new) (flat_map (member_line word.now pool.now) members.now)) }
+        (W.contents out.new) (string_bytes waiting.new)
+        (flat_map (member_line word.now pool.now) members.now)) }
     ensures part { OnErr result (AppendsPart (W.contents out.old) (W.contents out.new)
         (string_bytes waiting.old ++ flat_map (member_line word.now pool.now) members.now)) }
 {
@@ -110,7 +112,8 @@ fn print_member<W: Write>(
     waiting: &mut String,
 ) -> Result<(), PrintFault>
     ensures line { OnOk result (Passes (W.contents out.old) (string_bytes waiting.old)
-        (W.contents out.new) (string_bytes waiting.new) (member_line word.now pool.now member.now)) }
+        (W.contents out.new) (string_bytes waiting.new)
+        (member_line word.now pool.now member.now)) }
     ensures part { OnErr result (AppendsPart (W.contents out.old) (W.contents out.new)
         (string_bytes waiting.old ++ member_line word.now pool.now member.now)) }
 {

@@ -12,17 +12,18 @@ use crate::fault::WriteFault;
 use cl_classfile::{Attribute, ClassFile, Entry, Member};
 use std::alloc::{AllocError, Global};
 
-/// The bytes that spell a file (JVMS SE 8, 4.1). Only want of memory refuses it.
+/// The bytes that spell a file (JVMS SE 8, 4.1). It is refused only where memory runs out.
 pub fn write(alloc: Global, file: &ClassFile) -> Result<Vec<u8>, WriteFault>
     // The file is spelled so.
     ensures spelled { IfOk result (λ bytes. Spells bytes.items file.now) }
     // It is read back.
     ensures reads_back { IfOk result (λ bytes. read_of bytes.items ≡ Ok file.now) }
 {
-    Ok(spelled(alloc, file)?)
+    Ok(bytes_of(alloc, file)?)
 }
 
-fn spelled(alloc: Global, file: &ClassFile) -> Result<Vec<u8>, AllocError>
+/// The bytes that spell a file.
+fn bytes_of(alloc: Global, file: &ClassFile) -> Result<Vec<u8>, AllocError>
     ensures { IfOk result (λ bytes. Spells bytes.items file.now) }
 {
     let mut out = Vec::new(alloc);

@@ -16,6 +16,7 @@ use Rattle.cl_bundle.specs.Bundles.{AllTell, FirstWrong, StoredAs, StoredBy, Sto
 use Rattle.cl_bundle.specs.Faults.{SameAnswer, SameFault, fault_text}
 use Rattle.cl_bundle.specs.declared.fault.BundleFault.{BundleFault}
 use Rattle.cl_bundle.specs.declared.fault.BundleFault.TheVariants.{BadLine, Class}
+use Rattle.cl_source.specs.declared.size.TheConstants.{MOST_CLASS_BYTES}
 
 -- ---- faults and answers
 
@@ -93,7 +94,7 @@ one_by false part r s v w = one_text part r s v w
 one_written : (part : Part) (r s : Result (List ℕ) BundleFault) → Written part r → Written part s → SameAnswer r s
 one_written part r s v w = one_by (is_hex (stated part)) part r s v w
 
-too_long : (a b : List ℕ) → a ≡ b → length a ≤ 16777216 → 16777216 < length b → ⊥
+too_long : (a b : List ℕ) → a ≡ b → length a ≤ MOST_CLASS_BYTES → MOST_CLASS_BYTES < length b → ⊥
 too_long a b e short long = let n : length a ≡ length b = ap (λ (x : List ℕ). length x) e in absurd (omega arith)
 
 long_or_short : (part : Part) (a : List ℕ) → ContentOf part (Ok a) → IsTooLong part → ⊥

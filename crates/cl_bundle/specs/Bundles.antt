@@ -41,7 +41,7 @@ StoredAs loader part (Ok stored) =
 StoredAs loader part (Err fault) = ContentOf part (Err fault)
 
 -- the loader has to be one, then this loader and name must not have had a section, and then the
--- content counts (own choice)
+-- content counts
 abbrev pub StoredBy : Option ℕ → Content → Part → Result Stored BundleFault → Type 0
 StoredBy None before part result = result ≡ Err (BadLine part.line)
 StoredBy (Some loader) before part result =

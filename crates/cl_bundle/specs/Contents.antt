@@ -41,6 +41,7 @@ use Rattle.cl_lines.specs.Lines.{Numbered, words_of, stated_from}
 use Rattle.cl_bundle.specs.Sections.{Part}
 use Rattle.cl_bundle.specs.declared.fault.BundleFault.{BundleFault}
 use Rattle.cl_bundle.specs.declared.fault.BundleFault.TheVariants.{BadLine, Class, Memory}
+use Rattle.cl_source.specs.declared.size.TheConstants.{MOST_CLASS_BYTES}
 
 -- the lines of a class section that are not skipped, counted from the one after `%class`
 abbrev pub stated : Part → List Numbered
@@ -54,7 +55,7 @@ line_digits [] = None
 line_digits (word ∷ words) =
     if pointwise nat_eq word (codes "@hex") then Some (concat words) else None
 
--- the same of each line, put together (own choice)
+-- the same of each line, put together
 abbrev pub all_digits : List Numbered → Option (List ℕ)
 all_digits [] = Some []
 all_digits (line ∷ lines) =
@@ -70,7 +71,7 @@ abbrev pub is_hex : List Numbered → Bool
 is_hex [] = false
 is_hex (line ∷ lines) = is_some (line_digits (words_of line.text))
 
--- the bytes, or else the line of `%class` is wrong (own choice)
+-- the bytes, or else the line of `%class` is wrong
 abbrev pub bytes_or : ℕ → Option (List ℕ) → Result (List ℕ) BundleFault
 bytes_or line (Some bytes) = Ok bytes
 bytes_or line None = Err (BadLine line)
@@ -87,7 +88,7 @@ pub record IsSpelledBy (lines : List Numbered) (bytes : List ℕ) : Type 0 where
   pub assembled : IsAssembled lines file
   pub spelled : Spells bytes file
 
--- this is wrong with the lines; want of memory never is
+-- this is wrong with the lines; out of memory never is
 abbrev pub IsRefused : List Numbered → AssembleFault → Type 0
 IsRefused lines assembler.Memory = ⊥
 IsRefused lines fault = AssembleOf lines (Err fault)
@@ -106,7 +107,7 @@ TextWritten part (Err _) = ⊥
 -- ---- either
 
 -- what a class section writes: one whose first line begins with `@hex` has such lines alone, any
--- other is assembler text (own choice)
+-- other is assembler text
 abbrev pub Written : Part → Result (List ℕ) BundleFault → Type 0
 Written part result =
     MatchBool (is_hex (stated part)) (result ≡ hex_written part) (TextWritten part result)
@@ -115,12 +116,12 @@ Written part result =
 pub record IsTooLong (part : Part) : Type 0 where
   pub bytes : List ℕ
   pub written : Written part (Ok bytes)
-  pub over : 16777216 < length bytes
+  pub over : MOST_CLASS_BYTES < length bytes
 
 -- the bytes that a class section has for its name, or what is wrong with it: bytes that are too
--- many are told by the line of `%class` (own choice)
+-- many are told by the line of `%class`
 abbrev pub ContentOf : Part → Result (List ℕ) BundleFault → Type 0
-ContentOf part (Ok bytes) = Written part (Ok bytes) × (length bytes ≤ 16777216)
+ContentOf part (Ok bytes) = Written part (Ok bytes) × (length bytes ≤ MOST_CLASS_BYTES)
 ContentOf part (Err fault) =
     Written part (Err fault) ⊎ ((fault ≡ BadLine part.line) × IsTooLong part)
 

@@ -35,7 +35,7 @@ abbrev pub sections_of : Sections → Cut
 sections_of s =
     record { config = s.config.now; classes = map part_of s.classes.items; script = s.script.now }
 
--- a line that is wrong, or want of memory, of which nothing is said
+-- a line that is wrong, or out of memory, of which nothing is said
 abbrev pub IsWrongLine : {A : Type 0} → Result A ℕ → BundleFault → Type 0
 IsWrongLine r (BadLine n) = r ≡ Err n
 IsWrongLine r Memory = ⊤

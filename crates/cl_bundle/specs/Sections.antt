@@ -54,7 +54,7 @@ abbrev pub script_heading : List (List ℕ) → Heading
 script_heading [] = ScriptLine
 script_heading (word ∷ words) = WrongLine
 
--- a section line is told by its first word; `%config` stands at the front alone (own choice)
+-- a section line is told by its first word; `%config` stands at the front alone
 abbrev pub heading_of : List (List ℕ) → Heading
 heading_of [] = InnerLine
 heading_of (word ∷ words) =
@@ -105,7 +105,7 @@ behind_line ScriptLine n line rest parts = Ok (record { body = []; classes = [];
 behind_line WrongLine n line rest parts = Err n
 
 -- the parts of lines, the first with this number, or the line that is wrong; line 0 is one that
--- lacks (own choice)
+-- lacks
 abbrev pub parts_from : ℕ → List (List ℕ) → Result Parts ℕ
 parts_from n [] = Err 0
 parts_from n (line ∷ lines) =

@@ -108,7 +108,7 @@ fn class_bytes(
         (Err fault))) }
 {
     if !is_hex(section.body) {
-        return assembled(alloc, seed, section);
+        return text_bytes(alloc, seed, section);
     }
     match hex_bytes(alloc, section.body) {
         Ok(bytes) => Ok(bytes),
@@ -129,7 +129,7 @@ fn is_hex(body: &str) -> bool
 
 /// The bytes of the class that a section of assembler text describes.
 #[tactic(auto, using(crate::proofs::Refusals::refused_text))]
-fn assembled(alloc: Global, seed: Seed, section: &ClassSection<'_>) -> Result<Vec<u8>, BundleFault>
+fn text_bytes(alloc: Global, seed: Seed, section: &ClassSection<'_>) -> Result<Vec<u8>, BundleFault>
     ensures ok { IfOk result (λ bytes. TextWritten (part_of section.now) (Ok bytes.items)) }
     ensures err { IfErr result (λ fault. UnlessMemory fault (TextWritten (part_of section.now)
         (Err fault))) }

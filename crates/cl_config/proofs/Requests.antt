@@ -18,6 +18,7 @@ use Rattle.cl_config.specs.declared.script.Said.TheVariants.{Ask, Then}
 use Rattle.cl_config.specs.Views.{Scripted}
 use Rattle.cl_config.specs.Scripts.{loader_named, HasLoader, HasLoaders, HasWords, IsRequest, IsThen, WritesIndex, AsksFor, Asks, Says, AllSay, requests_in, rounds_in, thens_in, Fits, StopsAt, Tells, IsOver, IsScript}
 use Rattle.cl_names.specs.Name.{WritesClass}
+use Rattle.cl_config.specs.declared.limits.TheConstants.{MOST_REQUESTS, MOST_THENS}
 
 -- ---- the words of a request
 
@@ -141,7 +142,7 @@ none_read names lines = record { front = []; said = []; cut = refl; says = tt; f
 -- one more line asks for a request
 pub more_asked : (names : List (List ℕ)) (lines left rest : List Numbered) (requests more : List Request) (rounds_of more_rounds : List ℕ) (round : ℕ) (line : Numbered) (request : Request) (count : ℕ)
     → IsRead names lines left requests rounds_of round → left ≡ line ∷ rest → Asks names line.text request → more ≡ requests ++ request ∷ [] → more_rounds ≡ rounds_of ++ round ∷ []
-    → count ≡ length requests → (count ≡ 65535 → ⊥) → IsRead names lines rest more more_rounds round
+    → count ≡ length requests → (count ≡ MOST_REQUESTS → ⊥) → IsRead names lines rest more more_rounds round
 more_asked names lines left rest requests more rounds_of more_rounds round line request count t first here grown longer counted room = record {
   front = t.front ++ line ∷ [];
   said = t.said ++ Ask request ∷ [];
@@ -158,7 +159,7 @@ more_asked names lines left rest requests more rounds_of more_rounds round line 
 
 -- one more line begins a round
 pub more_begun : (names : List (List ℕ)) (lines left rest : List Numbered) (requests : List Request) (rounds_of : List ℕ) (round next : ℕ) (line : Numbered)
-    → IsRead names lines left requests rounds_of round → left ≡ line ∷ rest → IsThen line.text → next ≡ round + 1 → (round ≡ 65535 → ⊥) → IsRead names lines rest requests rounds_of next
+    → IsRead names lines left requests rounds_of round → left ≡ line ∷ rest → IsThen line.text → next ≡ round + 1 → (round ≡ MOST_THENS → ⊥) → IsRead names lines rest requests rounds_of next
 more_begun names lines left rest requests rounds_of round next line t first here is room = record {
   front = t.front ++ line ∷ [];
   said = t.said ++ Then ∷ [];
@@ -189,7 +190,7 @@ stops_here names lines left rest requests rounds_of round line P t first here = 
 
 -- a request more than there may be
 pub one_request_over : (names : List (List ℕ)) (lines left rest : List Numbered) (requests : List Request) (rounds_of : List ℕ) (round : ℕ) (line : Numbered) (request : Request) (count : ℕ)
-    → IsRead names lines left requests rounds_of round → left ≡ line ∷ rest → Asks names line.text request → count ≡ length requests → count ≡ 65535 → StopsAt names lines (IsOver names)
+    → IsRead names lines left requests rounds_of round → left ≡ line ∷ rest → Asks names line.text request → count ≡ length requests → count ≡ MOST_REQUESTS → StopsAt names lines (IsOver names)
 one_request_over names lines left rest requests rounds_of round line request count t first here counted many =
     stops_here names lines left rest requests rounds_of round line (IsOver names) t first (record {
       one = Ask request;
@@ -199,7 +200,7 @@ one_request_over names lines left rest requests rounds_of round line request cou
 
 -- a round more than there may be
 pub one_round_over : (names : List (List ℕ)) (lines left rest : List Numbered) (requests : List Request) (rounds_of : List ℕ) (round : ℕ) (line : Numbered)
-    → IsRead names lines left requests rounds_of round → left ≡ line ∷ rest → IsThen line.text → round ≡ 65535 → StopsAt names lines (IsOver names)
+    → IsRead names lines left requests rounds_of round → left ≡ line ∷ rest → IsThen line.text → round ≡ MOST_THENS → StopsAt names lines (IsOver names)
 one_round_over names lines left rest requests rounds_of round line t first here many =
     stops_here names lines left rest requests rounds_of round line (IsOver names) t first (record {
       one = Then;

@@ -1,5 +1,5 @@
 -- Which texts are configurations, and which is the first fault of any other
--- (own choice; JVMS SE 8, 5.3.2).
+-- (JVMS SE 8, 5.3.2).
 use Rattle.std.specs.Prelude.{
   ◌<◌,
   ◌≤◌,
@@ -43,12 +43,9 @@ use Rattle.cl_config.specs.Steps.{◌>>=◌}
 use Rattle.cl_config.specs.Fields.{is_one_of, required, has_only, list_from}
 use Rattle.cl_config.specs.Entries.{Entry, EntryImport, entries_of}
 use Rattle.cl_config.specs.Views.{Configured, Loader, Import}
+use Rattle.cl_config.specs.declared.limits.TheConstants.{MOST_LOADERS}
 
 -- ---- the top of the document
-
--- the most loaders
-abbrev pub most_loaders : ℕ
-most_loaders = 64
 
 -- how many items there are
 abbrev pub count : Items → ℕ
@@ -71,17 +68,17 @@ array_at ms =
     >>= λ d. required (BadLoader 0) (as_array d)
 
 -- some tables, and not too many, where nothing stands beside them
-abbrev pub checked : Bool → Items → Result Items ConfigFault
-checked alone ds =
+abbrev pub checked_tables : Bool → Items → Result Items ConfigFault
+checked_tables alone ds =
     if alone && nat_lt 0 (count ds) && are_tables ds
-    then (if nat_lt most_loaders (count ds) then Err TooMany else Ok ds)
+    then (if nat_lt MOST_LOADERS (count ds) then Err TooMany else Ok ds)
     else Err (BadLoader 0)
 
 -- the tables at the top
 unfoldable pub top_of : Members → Result Items ConfigFault
 top_of ms = do
   ds ← array_at ms
-  checked (has_only (is_one_of top_keys) ms) ds
+  checked_tables (has_only (is_one_of top_keys) ms) ds
 
 -- ---- whom a loader asks: each loader in order, its parent and then its imports
 
@@ -146,8 +143,8 @@ abbrev pub AllLeadBelow : ℕ → List Loader → Type 0
 AllLeadBelow i [] = Unit {0}
 AllLeadBelow i (l ∷ ls) = LeadsBelow i l × AllLeadBelow (i + 1) ls
 
--- there are 1 to 64 loaders, each of which leads to earlier ones alone (5.3.2)
+-- there are some loaders and not too many, each of which leads to earlier ones alone (5.3.2)
 pub record IsConfig (c : Configured) : Type 0 where
   pub some : 0 < length c.loaders
-  pub few : length c.loaders ≤ most_loaders
+  pub few : length c.loaders ≤ MOST_LOADERS
   pub below : AllLeadBelow 0 c.loaders

@@ -41,14 +41,7 @@ use Rattle.cl_config.specs.Fields.{
   or_else,
   each_from,
 }
-
--- the most imports of a loader
-abbrev pub most_imports : ℕ
-most_imports = 64
-
--- the most bytes of a loader's name
-abbrev pub most_name_bytes : ℕ
-most_name_bytes = 64
+use Rattle.cl_config.specs.declared.limits.TheConstants.{MOST_IMPORTS, MOST_LOADER_NAME_BYTES}
 
 -- an import: what the names begin with, and the name of the loader that has them (5.3.2)
 pub record EntryImport : Type 0 where
@@ -94,12 +87,12 @@ is_name_byte b =
 -- a name that no earlier loader has
 abbrev pub is_new_name : List Entry → List ℕ → Bool
 is_new_name before name =
-    nat_le 1 (length name) && nat_le (length name) most_name_bytes && list_all is_name_byte name
+    nat_le 1 (length name) && nat_le (length name) MOST_LOADER_NAME_BYTES && list_all is_name_byte name
     && not (list_any (λ e. pointwise nat_eq e.name name) before)
 
 -- a loader, where it has not too many imports
 abbrev pub unless_many : Entry → Result Entry ConfigFault
-unless_many entry = if nat_lt most_imports (length entry.imports) then Err TooMany else Ok entry
+unless_many entry = if nat_lt MOST_IMPORTS (length entry.imports) then Err TooMany else Ok entry
 
 -- what a table says of a loader, behind those before it
 unfoldable pub entry_of : ConfigFault → List Entry → Data → Result Entry ConfigFault

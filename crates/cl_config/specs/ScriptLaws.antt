@@ -5,13 +5,13 @@ use Rattle.cl_config.specs.Scripts.{script_of}
 use Rattle.cl_config.specs.declared.script.ScriptFault.{ScriptFault}
 use Rattle.cl_config.specs.declared.script.ScriptFault.TheVariants.{Memory}
 
--- a text that is a script has no fault but want of memory
+-- a text that is a script has no fault but out of memory
 abbrev pub ScriptOrItsFault : Type 0
 ScriptOrItsFault =
     (names : List (List ℕ)) (text : List ℕ) (s : Scripted) (f : ScriptFault)
     → script_of names text (Ok s) → script_of names text (Err f) → f ≢ Memory → ⊥
 
--- a text has one fault at most, want of memory apart
+-- a text has one fault at most, out of memory apart
 abbrev pub ScriptHasOneFault : Type 0
 ScriptHasOneFault =
     (names : List (List ℕ)) (text : List ℕ) (f g : ScriptFault)

@@ -40,10 +40,7 @@ use Rattle.cl_config.specs.declared.script.ScriptFault.TheVariants.{
   UnknownLoader,
   TooMany,
 }
-
--- the most requests, and the most lines that begin a round (own choice)
-abbrev pub most : ℕ
-most = 65535
+use Rattle.cl_config.specs.declared.limits.TheConstants.{MOST_INDEX, MOST_REQUESTS, MOST_THENS}
 
 -- ---- one line
 
@@ -51,12 +48,12 @@ most = 65535
 abbrev pub loader_named : List (List ℕ) → List ℕ → Option ℕ
 loader_named names word = position (λ name. pointwise nat_eq name word) names
 
--- one to five digits write this index of a constant pool (own choice; JVMS SE 8, 4.1)
+-- one to five digits write this index of a constant pool (JVMS SE 8, 4.1)
 pub record WritesIndex (text : List ℕ) (index : ℕ) : Type 0 where
   pub digits : IsNumeral 10 text
   pub few : length text ≤ 5
   pub value : index ≡ digits_value 10 text
-  pub fits : index ≤ 65535
+  pub fits : index ≤ MOST_INDEX
 
 -- the words are those of a request: what is asked for, a loader's name and the text of a class's
 -- name, and of a resolution that of an index
@@ -135,10 +132,11 @@ thens_in [] = 0
 thens_in (Ask r ∷ xs) = thens_in xs
 thens_in (Then ∷ xs) = thens_in xs + 1
 
--- there are not too many requests, and not too many that begin a round
+-- there are not too many requests, and not too many lines that begin a round (own choice of the
+-- numbers)
 pub record Fits (xs : List Said) : Type 0 where
-  pub requests : length (requests_in xs) ≤ most
-  pub thens : thens_in xs ≤ most
+  pub requests : length (requests_in xs) ≤ MOST_REQUESTS
+  pub thens : thens_in xs ≤ MOST_THENS
 
 -- the script that says these: the rounds are counted from 0, and the first begins the script
 abbrev pub script_from : List Said → Scripted
@@ -171,7 +169,6 @@ pub record IsOver (names : List (List ℕ)) (said : List Said) (line : Numbered)
   pub over : Fits (said ++ one ∷ []) → ⊥
 
 -- what the lines of a text are read as: the script, or the first line that is wrong or one too many
--- (own choice)
 abbrev pub script_of : List (List ℕ) → List ℕ → Result Scripted ScriptFault → Type 0
 script_of names text (Ok script) = Tells names (stated_from 1 text) script
 script_of names text (Err (BadLine n)) =
@@ -202,12 +199,12 @@ HasLoader count (Link loader name) = loader < count
 abbrev pub HasLoaders : ℕ → List Request → Type 0
 HasLoaders count requests = All (HasLoader count) requests
 
--- there are at most 65,535 requests, each of one of the rounds and none of an earlier one than
--- those before it, and 1 to 65,536 rounds
+-- there are not too many requests, each of one of the rounds and none of an earlier one than those
+-- before it, and not too many rounds
 pub record IsScript (s : Scripted) : Type 0 where
-  pub few : length s.requests ≤ most
+  pub few : length s.requests ≤ MOST_REQUESTS
   pub each : length s.rounds_of ≡ length s.requests
   pub within : All (λ n. n < s.rounds) s.rounds_of
   pub in_order : (p q m n : ℕ) → p < q → slice_get s.rounds_of p ≡ Some m
       → slice_get s.rounds_of q ≡ Some n → m ≤ n
-  pub rounds : s.rounds ≤ most + 1
+  pub rounds : s.rounds ≤ MOST_THENS + 1

@@ -5,13 +5,14 @@ ghost use Rattle.std.specs.List.{list_all};
 ghost use Rattle.std.specs.Cmp.Lexicographic.{pointwise};
 ghost use Rattle.toml.specs.Data.{as_table};
 ghost use Rattle.toml.specs.View.{view, table_view, items_view};
-ghost use Rattle.cl_config.specs.Configs.{top_of, array_at, checked, config_in, config_of, IsConfig, LeadsBelow};
+ghost use Rattle.cl_config.specs.Configs.{top_of, array_at, checked_tables, config_in, config_of, IsConfig, LeadsBelow};
 ghost use Rattle.cl_config.specs.Steps.{Finds, Gives};
 ghost use Rattle.cl_config.specs.Views.{names_of};
 
 use crate::entry::entries_in;
 use crate::fault::{ConfigError, ConfigFault};
 use crate::fields::{has_only, value_at};
+use crate::limits::MOST_LOADERS;
 use crate::loader::{Import, Loader, loaders_of};
 use crate::order::Order;
 use crate::same::are_same;
@@ -21,10 +22,7 @@ use std::alloc::{AllocError, Global};
 use std::marker::Model;
 use toml::{Table, Value};
 
-/// The most loaders.
-const MOST_LOADERS: usize = 64;
-
-/// The loaders, in order: 1 to 64, each of which leads to earlier ones alone (JVMS SE 8, 5.3, 5.3.2).
+/// The loaders, in order: 1 to `MOST_LOADERS`, each of which leads to earlier ones alone (JVMS SE 8, 5.3, 5.3.2).
 #[derive(Debug, Drop)]
 pub struct Config {
     /// The loaders' names, which are lent together.
@@ -47,7 +45,7 @@ impl Model for Config {
 
 impl Config {
     /// The configuration that a text is: of the texts that `toml` reads those whose table keeps the rules of
-    /// `specs/Configs.antt`, and no others. Else the first fault, or want of memory.
+    /// `specs/Configs.antt`, and no others. Else the first fault, or out of memory.
     pub fn read(alloc: Global, text: &str) -> Result<Config, ConfigError>
         ensures { Gives (λ c. c) result (config_of text.now) }
     {
@@ -187,7 +185,7 @@ fn config_in(alloc: Global, table: &Table) -> Result<Config, ConfigError>
     Ok(Config {
         names,
         loaders,
-        seed: Seed::known(),
+        seed: Seed::common(),
     })
 }
 
@@ -196,10 +194,10 @@ fn config_in(alloc: Global, table: &Table) -> Result<Config, ConfigError>
 fn top_in(table: &Table) -> Result<&[Value], ConfigFault>
     ensures found { Finds (λ vs. items_view vs.now) result (top_of (table_view table.now)) }
     ensures some { IfOk result (λ vs. 0 < length vs.now) }
-    ensures few { IfOk result (λ vs. length vs.now ≤ 64) }
+    ensures few { IfOk result (λ vs. length vs.now ≤ MOST_LOADERS) }
 {
     let values = array_at(table)?;
-    checked(has_only(table, &["loader"]), values)
+    check_tables(has_only(table, &["loader"]), values)
 }
 
 /// The array at the top.
@@ -218,10 +216,11 @@ fn array_at(table: &Table) -> Result<&[Value], ConfigFault>
 
 /// Some tables, and not too many, where nothing stands beside them.
 #[tactic(auto, using(crate::proofs::Tops::count_is, crate::proofs::Tops::tables_are))]
-fn checked(alone: bool, values: &[Value]) -> Result<&[Value], ConfigFault>
-    ensures found { Finds (λ vs. items_view vs.now) result (checked alone (items_view values.now)) }
+fn check_tables(alone: bool, values: &[Value]) -> Result<&[Value], ConfigFault>
+    ensures found { Finds (λ vs. items_view vs.now) result (checked_tables alone
+        (items_view values.now)) }
     ensures some { IfOk result (λ vs. 0 < length vs.now) }
-    ensures few { IfOk result (λ vs. length vs.now ≤ 64) }
+    ensures few { IfOk result (λ vs. length vs.now ≤ MOST_LOADERS) }
 {
     if !alone || values.is_empty() || !are_tables(values) {
         return Err(ConfigFault::BadLoader(0));

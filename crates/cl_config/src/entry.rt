@@ -10,17 +10,12 @@ ghost use Rattle.cl_config.specs.Steps.{Gives};
 
 use crate::fault::{ConfigError, ConfigFault};
 use crate::fields::{Field, Text, or_else, table_in, under};
+use crate::limits::{MOST_IMPORTS, MOST_LOADER_NAME_BYTES, MOST_LOADERS};
 use crate::order::Order;
 use cl_names::Name;
 use std::alloc::Global;
 use std::marker::Model;
 use toml::Value;
-
-/// The most imports of a loader.
-const MOST_IMPORTS: usize = 64;
-
-/// The most bytes of a loader's name.
-const MOST_NAME_BYTES: usize = 64;
 
 /// An import, of a loader by its name.
 #[derive(Debug, Drop)]
@@ -193,7 +188,7 @@ fn is_new_name(before: &[Entry], name: &str) -> bool
     ensures { result ≡ is_new_name before.now name.now }
 {
     1 <= name.len()
-        && name.len() <= MOST_NAME_BYTES
+        && name.len() <= MOST_LOADER_NAME_BYTES
         && has_name_bytes(name.as_bytes())
         && !is_taken(before, name)
 }
@@ -246,7 +241,7 @@ fn entry_of(
 
 /// The loaders that an array is.
 pub fn entries_in(alloc: Global, values: &[Value]) -> Result<Vec<Entry>, ConfigError>
-    requires { length values.now ≤ 64 }
+    requires { length values.now ≤ MOST_LOADERS }
     ensures loaders { Gives (λ v. v.items) result (entries_of (items_view values.now)) }
     ensures count { IfOk result (λ v. length v.items ≡ length values.now) }
 {

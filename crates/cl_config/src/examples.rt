@@ -14,7 +14,7 @@ pub fn lines_that_say()
     ensures round { Says two (codes " then ") Then }
 {}
 
-/// An index is one to five digits, leading zeros among them, of at most 65,535.
+/// An index is one to five digits, leading zeros among them, of at most `MOST_INDEX`.
 pub fn indices()
     ensures none { WritesIndex (codes "0") 0 }
     ensures zeros { WritesIndex (codes "00017") 17 }

@@ -136,14 +136,14 @@ impl Field for Name {
             return Err(ConfigError::Fault(wrong));
         };
         match value.as_str() {
-            Some(text) => written(alloc, wrong, text),
+            Some(text) => name_in_text(alloc, wrong, text),
             None => Err(ConfigError::Fault(wrong)),
         }
     }
 }
 
 /// The name that escaped text writes.
-fn written(alloc: Global, wrong: ConfigFault, text: &str) -> Result<Name, ConfigError>
+fn name_in_text(alloc: Global, wrong: ConfigFault, text: &str) -> Result<Name, ConfigError>
     ensures { Gives (λ x. x) result (required wrong (unescaped text.now)) }
 {
     match Name::from_text(alloc, text) {

@@ -8,6 +8,7 @@ ghost use Rattle.cl_config.specs.Steps.{Finds, Gives};
 use crate::entry::{Entry, EntryImport};
 use crate::fault::{ConfigError, ConfigFault};
 use crate::fields::Text;
+use crate::limits::MOST_LOADERS;
 use crate::order::Order;
 use cl_model::LoaderId;
 use cl_names::Name;
@@ -125,7 +126,7 @@ fn place_of(entries: &[Entry], name: &str) -> Option<usize>
 
 /// The loader of this name, where it stands before loader `i`.
 fn earlier(entries: &[Entry], i: usize, name: &str) -> Result<LoaderId, ConfigFault>
-    requires { i < 64 }
+    requires { i < MOST_LOADERS }
     ensures { Finds (λ p. p) result (earlier i (place_of entries.now name.now)) }
 {
     match place_of(entries, name) {
@@ -141,7 +142,7 @@ fn parent_of(
     i: usize,
     parent: &Option<Text>,
 ) -> Result<Option<LoaderId>, ConfigFault>
-    requires { i < 64 }
+    requires { i < MOST_LOADERS }
     ensures { Finds (λ p. p) result (parent_of entries.now i parent.now) }
 {
     match parent {
@@ -158,7 +159,7 @@ fn import_of(
     i: usize,
     import: &EntryImport,
 ) -> Result<Import, ConfigError>
-    requires { i < 64 }
+    requires { i < MOST_LOADERS }
     ensures { Gives (λ x. x) result (import_of entries.now i import.now) }
 {
     let target = earlier(entries, i, import.from())?;
@@ -173,7 +174,7 @@ fn imports_of(
     i: usize,
     imports: &[EntryImport],
 ) -> Result<Imports, ConfigError>
-    requires { i < 64 }
+    requires { i < MOST_LOADERS }
     ensures { Gives (λ x. x) result (imports_of entries.now i imports.now) }
 {
     let mut items = Vec::with_capacity(alloc, imports.len())?;
@@ -191,7 +192,7 @@ fn loader_of(
     i: usize,
     entry: &Entry,
 ) -> Result<Loader, ConfigError>
-    requires { i < 64 }
+    requires { i < MOST_LOADERS }
     ensures { Gives (λ x. x) result (loader_of entries.now i entry.now) }
 {
     let parent = parent_of(entries, i, entry.parent())?;
@@ -207,7 +208,7 @@ fn loader_of(
 
 /// Each loader, in order.
 pub(crate) fn loaders_of(alloc: Global, entries: &[Entry]) -> Result<Vec<Loader>, ConfigError>
-    requires { length entries.now ≤ 64 }
+    requires { length entries.now ≤ MOST_LOADERS }
     ensures read { Gives (λ v. v.items) result (loaders_of entries.now) }
     ensures count { IfOk result (λ v. length v.items ≡ length entries.now) }
     ensures below { IfOk result (λ v. AllLeadBelow 0 v.items) }

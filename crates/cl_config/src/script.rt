@@ -6,6 +6,7 @@ ghost use Rattle.cl_config.specs.declared.script.Action.{Action};
 ghost use Rattle.cl_config.specs.Views.{Scripted, names_of};
 
 use crate::config::Config;
+use crate::limits::{MOST_REQUESTS, MOST_THENS};
 use crate::same::are_same;
 use cl_lines::{Line, Stated, Words};
 use cl_model::Request;
@@ -15,13 +16,7 @@ use std::error::Error;
 use std::fmt::{self, Display, Formatter};
 use std::marker::Model;
 
-/// The most requests of a script.
-const MOST_REQUESTS: usize = 65_535;
-
-/// The most lines that begin a round.
-const MOST_THENS: u32 = 65_535;
-
-/// The requests, in order, at most 65,535, in 1 to 65,536 rounds. A round may be empty.
+/// The requests, in order, at most `MOST_REQUESTS`, in 1 to `MOST_THENS` + 1 rounds. A round may be empty.
 #[derive(Debug, Drop)]
 pub struct Script {
     requests: Vec<Request>,
@@ -82,7 +77,7 @@ impl Script {
     /// The script that a text is, whose lines that are not skipped are `load LOADER NAME`, `resolve LOADER NAME INDEX`
     /// or `link LOADER NAME`, NAME the escaped text of a class's name and INDEX one to five digits, or `then`, which
     /// begins a round. Else the first line that is wrong: `BadLine`, then `UnknownLoader`, then `TooMany`, where it is
-    /// one over 65,535 requests or as many lines `then`. `Memory`.
+    /// one over `MOST_REQUESTS` requests or `MOST_THENS` lines `then`. `Memory`.
     pub fn read(alloc: Global, config: &Config, text: &str) -> Result<Script, ScriptFault>
         ensures read { script_of (names_of config.now) text.now result }
         ensures loaders { IfOk result (λ s. HasLoaders (length config.now.loaders) s.requests) }
@@ -223,7 +218,7 @@ fn request_words(line: &str) -> Option<(Action, &str, &str)>
     Some((action, loader, name))
 }
 
-/// The index that a word writes: one to five digits, of at most 65,535.
+/// The index that a word writes: one to five digits, of at most `MOST_INDEX`.
 fn index_of(word: &str) -> Option<u16>
     ensures { MatchOption result ((index : ℕ) → WritesIndex word.now index → ⊥)
         (λ index. WritesIndex word.now index) }

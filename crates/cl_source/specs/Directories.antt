@@ -1,5 +1,5 @@
 -- Which file of a directory a name stands for, and what the directory answers for it
--- (own choice; JVMS SE 8, 5.3.2).
+-- (JVMS SE 8, 5.3.2).
 use Rattle.std.specs.Prelude.{
   ◌≡◌,
   ℕ,
@@ -24,6 +24,7 @@ use Rattle.cl_source.specs.declared.source.SourceFault.{SourceFault}
 use Rattle.cl_source.specs.declared.source.SourceFault.TheVariants.{Memory, Device, TooLarge, Twice}
 use Rattle.cl_source.specs.Views.{Found as Probed}
 use Rattle.cl_source.specs.Seen.{Seen, Missing, Refused, IsWithin, IsTooLarge}
+use Rattle.cl_source.specs.declared.size.TheConstants.{MOST_CLASS_BYTES}
 
 -- what a directory's paths begin with; the empty one is the working directory
 abbrev pub within : List ℕ → List ℕ
@@ -48,9 +49,10 @@ IsAbsent gives (Some path) = gives path Missing
 -- what a directory answers for a path, or for a name that has none: only what is missing is absent
 abbrev pub AnswerOf : (List ℕ → Seen → Type 0) → Option (List ℕ) → Result Outcome SourceFault
     → Type 0
-AnswerOf gives path (Ok (Found bytes)) = At (λ p. IsWithin (gives p) 16777216 bytes.value) path
+AnswerOf gives path (Ok (Found bytes)) =
+    At (λ p. IsWithin (gives p) MOST_CLASS_BYTES bytes.value) path
 AnswerOf gives path (Ok Absent) = IsAbsent gives path
-AnswerOf gives path (Err TooLarge) = At (λ p. IsTooLarge (gives p) 16777216) path
+AnswerOf gives path (Err TooLarge) = At (λ p. IsTooLarge (gives p) MOST_CLASS_BYTES) path
 AnswerOf gives path (Err Device) = At (λ p. gives p Refused) path
 AnswerOf gives path (Err Memory) = ⊤
 AnswerOf gives path (Err Twice) = ⊥
@@ -62,7 +64,7 @@ path_in (Some dir) name = path_of dir name
 
 -- bytes that stand there, or nothing
 abbrev pub FoundAs : (List ℕ → Seen → Type 0) → Option (List ℕ) → Option (List ℕ) → Type 0
-FoundAs gives path (Some bytes) = At (λ p. IsWithin (gives p) 16777216 bytes) path
+FoundAs gives path (Some bytes) = At (λ p. IsWithin (gives p) MOST_CLASS_BYTES bytes) path
 FoundAs gives path None = IsAbsent gives path
 
 -- what the source answers for it: a probe with these bytes, or the fault

@@ -18,14 +18,15 @@ use Rattle.std.specs.Cmp.Lexicographic.{pointwise}
 use Rattle.cl_model.specs.Content.{Content, content_at}
 use Rattle.cl_source.specs.declared.source.SourceFault.{SourceFault}
 use Rattle.cl_source.specs.declared.source.SourceFault.TheVariants.{Memory, Device, TooLarge, Twice}
+use Rattle.cl_source.specs.declared.size.TheConstants.{MOST_CLASS_BYTES}
 
--- the bytes are not too many for a class file (own choice)
+-- the bytes are not too many for a class file
 abbrev pub Fits : List ℕ → Type 0
-Fits bytes = length bytes ≤ 16777216
+Fits bytes = length bytes ≤ MOST_CLASS_BYTES
 
--- why nothing could be put: too large comes before twice, and twice before want of memory
+-- why nothing could be put: too large comes before twice, and twice before out of memory
 abbrev pub Refuses : Content → ℕ → List ℕ → List ℕ → SourceFault → Type 0
-Refuses content loader name bytes TooLarge = 16777216 < length bytes
+Refuses content loader name bytes TooLarge = MOST_CLASS_BYTES < length bytes
 Refuses content loader name bytes Twice = Fits bytes × IsSome (content_at content loader name)
 Refuses content loader name bytes Memory = Fits bytes × (content_at content loader name ≡ None)
 Refuses content loader name bytes Device = ⊥

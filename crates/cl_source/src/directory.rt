@@ -6,6 +6,7 @@ ghost use Rattle.cl_source.specs.Counts.{Counts};
 ghost use Rattle.cl_source.specs.Directories.{path_of, path_in, AnswerOf, ReadsAs};
 
 use crate::files::ReadFile;
+use crate::size::MOST_CLASS_BYTES;
 use crate::source::{ClassBytes, Outcome, Probe, Source, SourceFault};
 use cl_config::Config;
 use cl_model::{LoaderId, Untold};
@@ -13,9 +14,6 @@ use cl_names::Name;
 use cl_streams::InputFault;
 use std::alloc::{AllocError, Global};
 use std::sync::Arc;
-
-/// The most bytes that a class may have.
-const MOST_BYTES: usize = 16_777_216;
 
 /// A directory for each loader, in order, which holds the class of a name as `NAME.class`, the name's parts as folders
 /// (JVMS SE 8, 5.3.2). It tells no content, since what a host's files are is not known.
@@ -68,10 +66,11 @@ impl<F: ReadFile> Source<Untold> for DirSource<F> {
     ghost refused = { λ s. s.failures };
 
     ghost gives = { λ s loader name result. (s.failures + 1 < 2 ^ 64)
-        → ReadsAs (F.gives s.files) (path_in (slice_get (map string_bytes s.dirs.items) loader) name) result };
+        → ReadsAs (F.gives s.files)
+        (path_in (slice_get (map string_bytes s.dirs.items) loader) name) result };
 
     /// What the loader's directory has for the name: `Absent` where there is no such file, or the name has no text in
-    /// UTF-8, or the loader no directory; `TooLarge` over 16,777,216 bytes; `Device` where the system refuses the file,
+    /// UTF-8, or the loader no directory; `TooLarge` over `MOST_CLASS_BYTES`; `Device` where the system refuses the file,
     /// or something else stands there.
     fn read(
         &mut self,
@@ -158,7 +157,7 @@ fn look_in<F: ReadFile>(
     let Some(path) = path_of(alloc, dir, name)? else {
         return Ok(Outcome::Absent);
     };
-    match files.read_file(alloc, path.as_str(), MOST_BYTES) {
+    match files.read_file(alloc, path.as_str(), MOST_CLASS_BYTES) {
         Ok(Some(bytes)) => match Arc::new(alloc, ClassBytes::from(bytes)) {
             Ok(bytes) => Ok(Outcome::Found(bytes)),
             Err(_) => Err(SourceFault::Memory),

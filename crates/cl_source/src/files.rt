@@ -44,14 +44,14 @@ impl ReadFile for HostRuntime {
         let length = match fs::metadata(self, path) {
             Ok(place) if place.is_file() => place.len(),
             Ok(_) => return Err(InputFault::Unread),
-            Err(error) => return unopened(&error),
+            Err(error) => return answer_of(&error),
         };
         match fs::open(self, path) {
             Ok(file) => match read_limited(alloc, file, most, length) {
                 Ok(bytes) => Ok(Some(bytes)),
                 Err(fault) => Err(fault),
             },
-            Err(error) => unopened(&error),
+            Err(error) => answer_of(&error),
         }
     }
 
@@ -62,7 +62,7 @@ impl ReadFile for HostRuntime {
 
 /// What a path that cannot be opened says: that no file is there, where it or a folder on the way is missing or a part
 /// of the way is a file; else that the system refuses it.
-fn unopened(error: &io::Error) -> Result<Option<Vec<u8>>, InputFault>
+fn answer_of(error: &io::Error) -> Result<Option<Vec<u8>>, InputFault>
     ensures { (most : ℕ) → FileOf (λ _. ⊤) most (file_seen result) }
 {
     match error.kind() {

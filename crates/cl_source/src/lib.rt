@@ -7,10 +7,12 @@ pub mod faulty;
 pub mod files;
 pub mod memory;
 mod shelf;
+mod size;
 pub mod source;
 
 pub use directory::DirSource;
 pub use faulty::FaultySource;
 pub use files::{ReadFile, read_limited};
 pub use memory::{MemorySource, PutRefused, Telling};
+pub use size::MOST_CLASS_BYTES;
 pub use source::{ClassBytes, Outcome, Probe, Source, SourceFault};

@@ -7,15 +7,13 @@ ghost use Rattle.cl_source.specs.Puts.{Fits, Refuses, TellsMore};
 ghost use Rattle.cl_source.specs.Shelves.{content_from, Inserts};
 
 use crate::shelf::{NotPut, Shelf};
+use crate::size::MOST_CLASS_BYTES;
 use crate::source::{ClassBytes, Outcome, Probe, Source, SourceFault};
 use cl_model::{LoaderId, Told};
 use cl_names::{Name, Seed};
 use std::alloc::{AllocError, Global};
 use std::marker::{Model, PhantomData};
 use std::sync::Arc;
-
-/// The most bytes that a class may have.
-const MOST_BYTES: usize = 16_777_216;
 
 /// A source in memory that is being filled, and tells nothing yet.
 #[derive(Drop)]
@@ -47,7 +45,7 @@ impl MemorySource {
     pub fn new(alloc: Global) -> MemorySource
         ensures { result ≡ [] }
     {
-        MemorySource::with_hasher(alloc, Seed::known())
+        MemorySource::with_hasher(alloc, Seed::common())
     }
 
     /// An empty one, whose tables hash with this seed.
@@ -60,7 +58,7 @@ impl MemorySource {
         }
     }
 
-    /// Puts the bytes of a loader and name. `TooLarge` is over 16,777,216 bytes; `Twice`, where they have bytes
+    /// Puts the bytes of a loader and name. `TooLarge` is over `MOST_CLASS_BYTES`; `Twice`, where they have bytes
     /// already; `Memory`.
     pub fn put(
         &mut self,
@@ -82,7 +80,7 @@ impl MemorySource {
         ensures name_returned { IfErr result (λ e. e.name ≡ name) }
         ensures bytes_returned { IfErr result (λ e. e.bytes.items ≡ bytes.items) }
     {
-        let fault = if bytes.len() > MOST_BYTES {
+        let fault = if bytes.len() > MOST_CLASS_BYTES {
             SourceFault::TooLarge
         } else if find(self.shelves.as_slice(), loader, &name).is_some() {
             SourceFault::Twice
@@ -143,7 +141,7 @@ impl<T: Told> Source<T> for Telling<T> {
 
     ghost gives = { λ s loader name result. GivesContent s loader name result };
 
-    /// What was put for a loader and a name. Only want of memory refuses it.
+    /// What was put for a loader and a name. It is refused only where memory runs out.
     fn read(
         &mut self,
         alloc: Global,
@@ -186,7 +184,7 @@ fn find<'a>(shelves: &'a [Shelf], loader: LoaderId, name: &Name) -> Option<&'a A
     shelves.get(usize::from(loader.0))?.find(name)
 }
 
-/// Puts what is not there. Only want of memory refuses it.
+/// Puts what is not there. It is refused only where memory runs out.
 fn put_on(
     shelves: &mut Vec<Shelf>,
     alloc: Global,

@@ -62,7 +62,7 @@ impl Shelf {
         Ok(Shelf { entries })
     }
 
-    /// Puts a name that is not there. Only want of memory refuses it.
+    /// Puts a name that is not there. It is refused only where memory runs out.
     pub fn put(&mut self, alloc: Global, name: Name, bytes: Vec<u8>) -> Result<(), NotPut>
         requires { bytes_in self.old name ≡ None }
         ensures ok { OnOk result (self.new ≡ self.old ++ (name, bytes.items) ∷ []) }

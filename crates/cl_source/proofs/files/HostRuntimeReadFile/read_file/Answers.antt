@@ -5,7 +5,7 @@ pub returns-in-Err-read_limited : goal.returns-in-Err-read_limited
 returns-in-Err-read_limited c = host_fails c.args.most c.in-Err-read_limited.fault
 
 pub returns-in-Err : goal.returns-in-Err
-returns-in-Err c = c.unopened.ensures c.args.most
+returns-in-Err c = c.answer_of.ensures c.args.most
 
 pub returns-in-Err-open : goal.returns-in-Err-open
-returns-in-Err-open c = c.unopened-in-Err-open.ensures c.args.most
+returns-in-Err-open c = c.answer_of-in-Err-open.ensures c.args.most

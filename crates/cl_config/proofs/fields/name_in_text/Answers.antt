@@ -1,6 +1,6 @@
 use Rattle.std.proofs.Common.{refl}
 use Rattle.cl_names.proofs.Escapes.{unescaped_of, unescaped_of_none}
-use Rattle.cl_config.proofs.fields.written.Goals as goal
+use Rattle.cl_config.proofs.fields.name_in_text.Goals as goal
 
 pub returns-in-Ok : goal.returns-in-Ok
 returns-in-Ok c = rw (unescaped_of c.args.text.now c.in-Ok.name c.in-Ok.ensures) refl

@@ -30,7 +30,7 @@ impl<N: NameBook + Drop> Book<N> {
     pub fn new(alloc: Global) -> Book<N>
         ensures { ⟦<Book<N> as ConstraintBook>⟧.stands_for result start }
     {
-        Book::with_hasher(alloc, Seed::known())
+        Book::with_hasher(alloc, Seed::common())
     }
 
     /// A book of nothing, whose table hashes with this seed.

@@ -376,13 +376,13 @@ fn wide_book(rt: HostRuntime) -> Result<(), Fail> {
         ask_chain(
             &rt,
             alloc,
-            &mut GroupedBook::with_hasher(alloc, Seed::known()),
+            &mut GroupedBook::with_hasher(alloc, Seed::common()),
             stride,
         )?;
         ask_chain(
             &rt,
             alloc,
-            &mut PlainBook::with_hasher(alloc, Seed::known()),
+            &mut PlainBook::with_hasher(alloc, Seed::common()),
             stride,
         )?;
     }

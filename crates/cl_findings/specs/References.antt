@@ -126,7 +126,7 @@ IsOfFound f v =
     (cited : Reference) → reference (kin_of f.d).file f.index ≡ Some cited
     → v ≡ asking.verdict_of cited f.owner.class f.key
 
--- the error of a member that was not found through a class; want of memory is none
+-- the error of a member that was not found through a class; out of memory is none
 -- (5.4.3.2 to 5.4.3.4)
 abbrev pub fault_verdict : Class → LookupFault → Option verdict.Verdict
 fault_verdict c faults.Memory = None

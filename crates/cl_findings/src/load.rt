@@ -189,6 +189,7 @@ fn refused_at<T: Told>(
     // brings what a path keeps
     let _ = path.config();
     bring_row(target);
+    // the contract alone speaks of it
     let _ = need;
     match next {
         NextRecord::Define(frame) => At::Whole(frame),

@@ -65,7 +65,7 @@ impl<T: Told> Frame<T> {
     }
 
     /// The supertype that comes next, if one is left.
-    pub fn wanted(&self) -> Option<Supertype<'_>>
+    pub fn next_supertype(&self) -> Option<Supertype<'_>>
         ensures { option_map plain_supertype result ≡ wanted (frame_of self.now) }
     {
         self.draft.supertype(self.places.len())

@@ -198,7 +198,7 @@ impl<T: Told> Path<T> {
             ≡ misfit_under self.now.frames row.now.class (file_of row.now.file) }
     {
         let (_, frame) = self.frames.last()?;
-        let wanted = frame.wanted()?;
+        let wanted = frame.next_supertype()?;
         misfit(frame.draft().class(), wanted.role, row.class(), row.file())
     }
 

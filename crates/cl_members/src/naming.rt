@@ -19,7 +19,7 @@ use cl_names::Name;
 use std::alloc::{AllocError, Global};
 
 /// A name, if there is one.
-fn listed(alloc: Global, name: Option<&Name>) -> Result<Vec<Name>, AllocError>
+fn list_of(alloc: Global, name: Option<&Name>) -> Result<Vec<Name>, AllocError>
     ensures { IfOk result (λ v. v.items ≡ option_to_list (option_map (λ n. n.now) name.entry)) }
 {
     let mut names = Vec::new(alloc);
@@ -38,7 +38,7 @@ fn field_names(alloc: Global, descriptor: &Name) -> Result<Vec<Name>, AllocError
 {
     match read_field(alloc, descriptor.bytes()) {
         Ok(t) => {
-            let names = listed(alloc, t.element_name())?;
+            let names = list_of(alloc, t.element_name())?;
             Ok(names)
         }
         Err(DescriptorFault::Memory) => Err(AllocError),

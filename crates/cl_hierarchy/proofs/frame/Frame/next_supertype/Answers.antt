@@ -5,7 +5,7 @@ use Rattle.cl_model.specs.Classes.{supers}
 use Rattle.cl_model.specs.Frames.{wanted}
 use Rattle.cl_hierarchy.specs.Frames.{Framed, frame_of}
 use Rattle.cl_hierarchy.proofs.Frames.{as_many}
-use Rattle.cl_hierarchy.proofs.frame.Frame.wanted.Goals as goal
+use Rattle.cl_hierarchy.proofs.frame.Frame.next_supertype.Goals as goal
 
 pub returns : goal.returns
 returns g c =

@@ -1,6 +1,7 @@
 -- What the rows of a lineage impose is what its tree does.
-use Rattle.std.proofs.Common.{◌≡◌, ◌<◌, ◌+◌, ℕ, Bool, true, false, not, ◌&&◌, if◌then◌else◌, List, [], ◌∷◌, ◌++◌, map, filter, length, Option, Some, None, refl, ap, sym, subst, ◌∙◌, get_or, take}
+use Rattle.std.proofs.Common.{◌≡◌, ◌<◌, ◌+◌, ℕ, Bool, true, false, not, ◌&&◌, ◌||◌, if◌then◌else◌, List, [], ◌∷◌, ◌++◌, map, filter, length, Option, Some, None, refl, ap, sym, subst, ◌∙◌, get_or, take}
 use Rattle.std.specs.Prelude.{Result, Ok, Err, OnOk, option_map, is_some, find, flat_map, nat_le}
+use Rattle.std.specs.List.{list_any}
 use Rattle.std.proofs.lemmas.List.{take_more, map-append}
 use Rattle.std.proofs.lemmas.Grind.{flat_map-append}
 use Rattle.cl_classfile.specs.Files.{Name, Key, Member, file_of, is_interface}
@@ -126,6 +127,69 @@ declared_pushed l self own above over xs ys m k key old middle new loader view a
 
 pub declared_passed : (l : Lined) (own : Rowed) (m : Member) (old : List Need) → own ≡ l.own → false ≡ takes_part m.key (bare own) → old ≡ old ++ for_declared (kin_of l) m
 declared_passed l own m old e part = sym (append_nothing old) ∙ ap (λ ns. old ++ ns) (sym (declared_none l own m e part))
+
+-- a test of rows, and of the tree
+pub any_taking : (key : Key) (l : Lined) (rs : List Rowed) → list_any (λ r. takes_part key (bare r)) rs ≡ list_any (takes_part key) (map (kin_at l) rs)
+any_taking key l [] = refl
+any_taking key l (r ∷ rs) = ap (λ (b : Bool). takes_part key (bare r) || b) (any_taking key l rs)
+
+-- whether one of the rows does tells whether one of the tree does
+pub any_above : (rows_of : Kin → List Kin) (key : Key) (l self : Lined) (rs xs : List Rowed) (found : Bool) → l ≡ self → map (kin_at l) rs ≡ rows_of (kin_of l) → xs ≡ rs → found ≡ list_any (λ r. takes_part key (bare r)) xs
+    → found ≡ list_any (takes_part key) (rows_of (kin_of self))
+any_above rows_of key l self rs xs found view are same told =
+    told ∙ ap (λ (rows : List Rowed). list_any (λ r. takes_part key (bare r)) rows) same ∙ any_taking key l rs ∙ ap (list_any (takes_part key)) are ∙ ap (λ (x : Lined). list_any (takes_part key) (rows_of (kin_of x))) view
+
+-- where no class above takes part, none is overridden
+walked_past : (key : Key) (opened : List Class) (k : Kin) (ks : List Kin) (part : Bool) → takes_part key k ≡ part → (part || list_any (takes_part key) ks) ≡ false → ((others : List Class) → list_any (takes_part key) ks ≡ false → walked key others ks ≡ []) → walked key opened (k ∷ ks) ≡ []
+walked_past key opened k ks true e none rest = absurd cc
+walked_past key opened k ks false e none rest = rw e (rest opened none)
+
+walked_none : (key : Key) (opened : List Class) (ks : List Kin) → list_any (takes_part key) ks ≡ false → walked key opened ks ≡ []
+walked_none key opened [] none = refl
+walked_none key opened (k ∷ ks) none = walked_past key opened k ks (takes_part key k) refl none (λ others more. walked_none key others ks more)
+
+filter_past : (p : Kin → Bool) (k : Kin) (ks : List Kin) (b : Bool) → p k ≡ b → (b || list_any p ks) ≡ false → (list_any p ks ≡ false → filter p ks ≡ []) → filter p (k ∷ ks) ≡ []
+filter_past p k ks true e none rest = absurd cc
+filter_past p k ks false e none rest = rw e (rest none)
+
+filter_none : (p : Kin → Bool) (ks : List Kin) → list_any p ks ≡ false → filter p ks ≡ []
+filter_none p [] none = refl
+filter_none p (k ∷ ks) none = filter_past p k ks (p k) refl none (λ more. filter_none p ks more)
+
+neither : (a b : Bool) → (a || b) ≡ false → (a ≡ false) × (b ≡ false)
+neither true b e = absurd cc
+neither false b e = (refl, e)
+
+nothing_either : (b : Bool) (ns : List Need) → ns ≡ [] → (if b then [] else ns) ++ [] ≡ []
+nothing_either true ns e = refl
+nothing_either false ns e = rw e refl
+
+alone : (l : Lined) (m : Member) → list_any (takes_part m.key) (superclasses (kin_of l)) ≡ false → list_any (takes_part m.key) (superinterfaces (kin_of l)) ≡ false → for_declared (kin_of l) m ≡ []
+alone l m above over = by_test (takes_part m.key (kin_of l)) refl
+  where
+    second : equals_with m.key l.own.class.loader (filter (takes_part m.key) (superinterfaces (kin_of l))) ≡ []
+    second = ap (equals_with m.key l.own.class.loader) (filter_none (takes_part m.key) (superinterfaces (kin_of l)) over)
+
+    halves : Bool → List Need → List Need → List Need
+    halves b first rest = if b then (if is_interface (kin_of l).file then [] else first) ++ rest else []
+
+    first : takes_part m.key (kin_of l) ≡ true → equals_with m.key l.own.class.loader (overridden m.key (kin_of l)) ≡ []
+    first tp = ap (equals_with m.key l.own.class.loader) (overridden_is_walked m.key (kin_of l) tp ∙ walked_none m.key (l.own.class ∷ []) (superclasses (kin_of l)) above)
+
+    by_test : (b : Bool) → takes_part m.key (kin_of l) ≡ b → for_declared (kin_of l) m ≡ []
+    by_test false e = ap (λ (b : Bool). halves b (equals_with m.key l.own.class.loader (overridden m.key (kin_of l))) (equals_with m.key l.own.class.loader (filter (takes_part m.key) (superinterfaces (kin_of l))))) e
+    by_test true e =
+        ap (λ (b : Bool). halves b (equals_with m.key l.own.class.loader (overridden m.key (kin_of l))) (equals_with m.key l.own.class.loader (filter (takes_part m.key) (superinterfaces (kin_of l))))) e
+        ∙ ap (λ (ns : List Need). halves true (equals_with m.key l.own.class.loader (overridden m.key (kin_of l))) ns) second
+        ∙ nothing_either (is_interface (kin_of l).file) (equals_with m.key l.own.class.loader (overridden m.key (kin_of l))) (first e)
+
+-- a method of which no class above has one that takes part imposes nothing
+pub declared_alone : (l : Lined) (m : Member) (key : Key) (over : Bool) (old : List Need) → key ≡ m.key → over ≡ (list_any (takes_part key) (superclasses (kin_of l)) || list_any (takes_part key) (superinterfaces (kin_of l))) → over ≡ false
+    → old ≡ old ++ for_declared (kin_of l) m
+declared_alone l m key over old same told none =
+    let both = neither (list_any (takes_part m.key) (superclasses (kin_of l))) (list_any (takes_part m.key) (superinterfaces (kin_of l)))
+    (ap (λ (k : Key). list_any (takes_part k) (superclasses (kin_of l)) || list_any (takes_part k) (superinterfaces (kin_of l))) (sym same) ∙ sym told ∙ none) in
+    sym (append_nothing old) ∙ ap (λ ns. old ++ ns) (sym (alone l m both.0 both.1))
 
 -- ---- the second half
 

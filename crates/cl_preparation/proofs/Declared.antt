@@ -1,24 +1,19 @@
 -- The methods that a class declares, and their flags.
-use Rattle.std.proofs.Common.{◌≡◌, ◌<◌, ◌+◌, ℕ, Bool, true, false, Option, Some, None, List, [], ◌∷◌, ◌++◌, if◌then◌else◌, refl, ap, sym, subst, ◌∙◌, get_or}
-use Rattle.std.specs.Prelude.{option_map, is_some, filter_map, take, length}
+use Rattle.std.proofs.Common.{◌≡◌, ◌<◌, ◌+◌, ℕ, Bool, false, Option, Some, None, List, [], ◌∷◌, ◌++◌, refl, ap, sym, subst, ◌∙◌, get_or}
+use Rattle.std.specs.Prelude.{option_map, option_and_then, is_some, filter_map, take, length}
 use Rattle.std.specs.List.{All, AllByRecursion}
-use Rattle.cl_descriptors.specs.Reading.{whole_method}
 use Rattle.cl_descriptors.proofs.Methods.{whole_method_again}
 use Rattle.cl_classfile.specs.declared.entry.Entry.{Entry}
 use Rattle.cl_classfile.specs.Structure.{Structure, Member, IsClassFile}
 use Rattle.cl_classfile.specs.Flags.{has, interface}
 use Rattle.cl_classfile.specs.Members.{KeepsMethod}
-use Rattle.cl_classfile.specs.Files.{text_of}
+use Rattle.cl_classfile.specs.Files.{Name, Key, File, method_of, text_of}
 use Rattle.cl_classfile.specs.Files as files
+use Rattle.cl_classfile.specs.Lookups.{method_named}
 use Rattle.cl_model.specs.Lineages.{if_declared}
-use Rattle.std.specs.Option.{option_or}
 use Rattle.std.proofs.lemmas.List.{take_more}
 use Rattle.std.proofs.lemmas.List.Elements.{All-from_recursion, All-get_or, filter_map-append}
-use Rattle.std.proofs.lemmas.List.Folds.{find-append}
-use Rattle.indexmap.specs.IndexMap.{IndexMap, get}
-use Rattle.cl_classfile.specs.Files.{same_key}
-use Rattle.cl_model.proofs.Keys.{keys_are_told}
-use Rattle.cl_preparation.specs.Methods.{IsTyped, Tells, flags_in}
+use Rattle.cl_preparation.specs.Methods.{IsTyped}
 
 typed_by : (pool : List Entry) (b : Bool) (m : Member) → KeepsMethod pool b m → IsTyped pool m
 typed_by pool b m k = record {
@@ -46,56 +41,11 @@ pub flags_stand : (o : Option files.Member) → is_some (option_map (λ m. m.fla
 flags_stand None = refl
 flags_stand (Some m) = refl
 
--- ---- a table of flags
-
-one_flag : (m : files.Member) (q : files.Key) (b : Bool) → same_key m.key q ≡ b → flags_in (m ∷ []) q ≡ (if b then Some m.flags else None)
-one_flag m q true e = rw e refl
-one_flag m q false e = rw e refl
-
-or_flags : (o p : Option files.Member) → option_map (λ m. m.flags) (option_or o p) ≡ option_or (option_map (λ m. m.flags) o) (option_map (λ m. m.flags) p)
-or_flags None p = refl
-or_flags (Some m) p = refl
-
-flags_more : (ms : List files.Member) (m : files.Member) (q : files.Key) → flags_in (ms ++ m ∷ []) q ≡ option_or (flags_in ms q) (flags_in (m ∷ []) q)
-flags_more ms m q = ap (option_map (λ m. m.flags)) (find-append (λ m. same_key m.key q) ms (m ∷ [])) ∙ or_flags (files.member ms q) (files.member (m ∷ []) q)
-
-or_none : {A : Type 0} (o : Option A) → option_or o None ≡ o
-or_none None = refl
-or_none (Some a) = refl
-
-or_known : {A : Type 0} (o p : Option A) → is_some o ≡ true → option_or o p ≡ o
-or_known None p h = absurd cc
-or_known (Some a) p h = refl
-
--- one more method, under a key that the table has not
-pub tells_new : {S : Type 0} (old new : IndexMap files.Key ℕ S) (ms : List files.Member) (m : files.Member) → Tells old ms → get same_key old m.key ≡ None
-    → ((q : files.Key) → get same_key new q ≡ (if same_key m.key q then Some m.flags else get same_key old q)) → Tells new (ms ++ m ∷ [])
-tells_new old new ms m told absent put = λ q. put q ∙ at q (same_key m.key q) refl ∙ sym (flags_more ms m q)
-  where
-    at : (q : files.Key) (b : Bool) → same_key m.key q ≡ b → (if b then Some m.flags else get same_key old q) ≡ option_or (flags_in ms q) (flags_in (m ∷ []) q)
-    at q true e =
-        let none : flags_in ms q ≡ None = ap (flags_in ms) (sym ((keys_are_told m.key q).0 e)) ∙ sym (told m.key) ∙ absent in
-        rw none (sym (one_flag m q true e))
-    at q false e = told q ∙ sym (or_none (flags_in ms q)) ∙ ap (option_or (flags_in ms q)) (sym (one_flag m q false e))
-
--- one more method, by a copy of its key that the table has not
-pub tells_entered : {S : Type 0} (old new : IndexMap files.Key ℕ S) (ms : List files.Member) (m : files.Member) (k j : files.Key) → Tells old ms → k ≡ m.key → false ≡ is_some (get same_key old k) → j ≡ m.key
-    → ((q : files.Key) → get same_key new q ≡ (if same_key j q then Some m.flags else get same_key old q)) → Tells new (ms ++ m ∷ [])
-tells_entered old new ms m k j told key absent copied put = tells_new old new ms m told (none_there (get same_key old m.key) (absent ∙ ap (λ (x : files.Key). is_some (get same_key old x)) key)) (λ q. put q ∙ ap (λ (x : files.Key). if same_key x q then Some m.flags else get same_key old q) copied)
-  where
-    none_there : (o : Option ℕ) → false ≡ is_some o → o ≡ None
-    none_there None h = refl
-    none_there (Some x) h = absurd cc
-
--- one more method, under a key that the table has
-pub tells_old : {S : Type 0} (old : IndexMap files.Key ℕ S) (ms : List files.Member) (m : files.Member) → Tells old ms → is_some (get same_key old m.key) ≡ true → Tells old (ms ++ m ∷ [])
-tells_old old ms m told present = λ q. told q ∙ at q (same_key m.key q) refl ∙ sym (flags_more ms m q)
-  where
-    at : (q : files.Key) (b : Bool) → same_key m.key q ≡ b → flags_in ms q ≡ option_or (flags_in ms q) (flags_in (m ∷ []) q)
-    at q true e =
-        let some : is_some (flags_in ms q) ≡ true = ap (λ (k : files.Key). is_some (flags_in ms k)) (sym ((keys_are_told m.key q).0 e)) ∙ ap is_some (sym (told m.key)) ∙ present in
-        sym (or_known (flags_in ms q) (flags_in (m ∷ []) q) some)
-    at q false e = sym (or_none (flags_in ms q)) ∙ ap (option_or (flags_in ms q)) (sym (one_flag m q false e))
+-- the flags of the method that the texts of a key name are those of the method with this key
+pub flags_keyed : (f : File) (name descriptor : Name) (key : Key) (found : Option ℕ) → name ≡ key.name → method_of key.name descriptor ≡ Some key → found ≡ option_map (λ m. m.flags) (method_named f name descriptor)
+    → found ≡ option_map (λ m. m.flags) (files.member f.methods key)
+flags_keyed f name descriptor key found same is told =
+    told ∙ ap (λ (n : Name). option_map (λ m. m.flags) (method_named f n descriptor)) same ∙ ap (λ (o : Option Key). option_map (λ m. m.flags) (option_and_then (files.member f.methods) o)) is
 
 -- ---- the walk over the methods of a file
 

@@ -1,18 +1,16 @@
 -- Overriding by the texts of a name and a descriptor.
 use Rattle.std.proofs.Common.{◌≡◌, ◌<◌, ℕ, Bool, true, false, not, ◌&&◌, ◌||◌, Option, Some, None, List, [], ◌∷◌, map, length, refl, ap, sym, ◌∙◌, get_or}
-use Rattle.std.specs.Prelude.{option_map, option_and_then, slice_get, take, nat_eq}
-use Rattle.std.specs.List.{list_any, starts_with}
+use Rattle.std.specs.Prelude.{option_map, option_and_then, slice_get, take}
+use Rattle.std.specs.List.{list_any}
 use Rattle.cl_descriptors.specs.Reading.{whole_method}
 use Rattle.cl_descriptors.specs.declared.types.MethodType.{MethodType}
 use Rattle.cl_descriptors.specs.declared.types.Descriptor.TheVariants as descriptors
-use Rattle.cl_classfile.specs.declared.entry.Entry.{Entry}
 use Rattle.cl_classfile.specs.Structure.{Structure}
 use Rattle.cl_classfile.specs.Structure as structure
-use Rattle.cl_classfile.specs.Files.{Name, Key, Member, File, declared_by, keyed, member, method_of, text_at}
+use Rattle.cl_classfile.specs.Files.{Name, Key, Member, keyed, member, method_of, text_at}
 use Rattle.cl_classfile.specs.Lookups.{linked_method, method_named}
 use Rattle.cl_model.specs.Classes.{same_package}
 use Rattle.cl_model.specs.Lineages.{Kin, if_declared, superclasses}
-use Rattle.cl_model.specs.Lineages as lineages
 use Rattle.cl_model.specs.Preparation.{is_special, overrides, takes_part}
 use Rattle.cl_hierarchy.specs.Rows.{Rowed}
 use Rattle.cl_hierarchy.specs.Lineages.{Lined, kin_at, kin_of}
@@ -21,8 +19,8 @@ use Rattle.std.proofs.lemmas.List.Folds.{list_any_at}
 use Rattle.std.proofs.lemmas.Option.{slice_get-get_or, slice_get-map}
 use Rattle.cl_preparation.specs.Methods.{is_instance, is_wide}
 use Rattle.cl_preparation.specs.Named.{told_by_rows}
-use Rattle.cl_preparation.specs.Relatives.{asked, bare, overrides_named}
-use Rattle.cl_preparation.specs.Walks.{is_open, opens_to, overrides_by_package}
+use Rattle.cl_preparation.specs.Relatives.{asked, bare}
+use Rattle.cl_preparation.specs.Walks.{is_open, opens_to}
 use Rattle.cl_preparation.proofs.Reached.{overrides_is_by_package}
 
 -- what linking looks at of a method has its flags

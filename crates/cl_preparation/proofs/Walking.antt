@@ -1,7 +1,7 @@
 -- The walk over the superclasses, step by step.
 use Rattle.std.proofs.Common.{◌≡◌, ◌<◌, ◌+◌, ℕ, Bool, true, false, ◌&&◌, ◌||◌, if◌then◌else◌, List, [], ◌∷◌, ◌++◌, map, filter, length, refl, ap, sym, subst, ◌∙◌, get_or, suc, drop, append_assoc, add-one}
 use Rattle.std.specs.Prelude.{nat_eq, ◌==◌}
-use Rattle.std.specs.List.{flat_map, list_any}
+use Rattle.std.specs.List.{list_any}
 use Rattle.std.specs.Cmp.Lexicographic.{pointwise, nat_list_eq_equiv}
 use Rattle.std.proofs.lemmas.Cmp.{nat_eq_equiv}
 use Rattle.std.proofs.Math.Seq.{drop-cons}
@@ -17,7 +17,7 @@ use Rattle.cl_hierarchy.specs.Rows.{Rowed}
 use Rattle.cl_preparation.specs.declared.packages.Package.{Package}
 use Rattle.cl_preparation.specs.Packages.{AreOpened, Opens, packaged, same_packages}
 use Rattle.cl_preparation.specs.Relatives.{Visits, Walking, bare}
-use Rattle.cl_preparation.specs.Walks.{is_in_package, is_open, is_overridden, opened_by, opens, walked}
+use Rattle.cl_preparation.specs.Walks.{is_in_package, is_open, is_overridden, opened_by, walked}
 
 -- ---- lists
 

@@ -1,5 +1,5 @@
-pub mod Equality
 pub mod Methods
+pub mod Filters
 pub mod Named
 pub mod Packages
 pub mod Relatives

@@ -1,20 +1,5 @@
 -- Methods by their names and the texts of their descriptors (JVMS SE 8, 4.3.3, 4.6).
-use Rattle.std.specs.Prelude.{
-  ◌≡◌,
-  ℕ,
-  Bool,
-  ◌&&◌,
-  ◌||◌,
-  not,
-  List,
-  [],
-  Option,
-  Some,
-  None,
-  IsSome,
-  option_map,
-  unwrap_or,
-}
+use Rattle.std.specs.Prelude.{◌≡◌, ℕ, Bool, ◌&&◌, ◌||◌, not, List, [], Some, None, IsSome, unwrap_or}
 use Rattle.cl_descriptors.specs.declared.types.MethodType.{MethodType}
 use Rattle.cl_descriptors.specs.declared.types.Descriptor.TheVariants as descriptors
 use Rattle.cl_descriptors.specs.Reading.{whole_method}
@@ -23,16 +8,12 @@ use Rattle.cl_classfile.specs.Structure as structure
 use Rattle.cl_classfile.specs.Files.{
   Name,
   Key,
-  Member,
-  member,
   text_at,
   is_public,
   is_private,
   is_protected,
   is_static,
 }
-use Rattle.indexmap.specs.IndexMap.{IndexMap, get}
-use Rattle.cl_classfile.specs.Files.{same_key}
 
 -- the method type that a text is the descriptor of; of another text it tells nothing (4.3.3)
 abbrev pub type_in : Name → MethodType
@@ -50,14 +31,6 @@ pub record IsTyped (pool : List Entry) (m : structure.Member) : Type 0 where
   pub named : text_at pool m.name_index ≡ Some name
   pub described : text_at pool m.descriptor_index ≡ Some descriptor
   pub typed : IsSome (whole_method descriptor)
-
--- the flags of the method of a list with this key, if there is one (4.6)
-abbrev pub flags_in : List Member → Key → Option ℕ
-flags_in ms key = option_map (λ m. m.flags) (member ms key)
-
--- a table tells the flags of each method of a list
-abbrev pub Tells : {S : Type 0} → IndexMap Key ℕ S → List Member → Type 0
-Tells table ms = (key : Key) → get same_key table key ≡ flags_in ms key
 
 -- neither private nor static (5.4.5)
 abbrev pub is_instance : ℕ → Bool

@@ -1,21 +1,5 @@
 -- A class with what stands above it, as preparation looks at them (JVMS SE 8, 5.4.2, 5.4.5).
-use Rattle.std.specs.Prelude.{
-  ◌≡◌,
-  ◌++◌,
-  ℕ,
-  Bool,
-  false,
-  if◌then◌else◌,
-  nat_le,
-  List,
-  [],
-  ◌∷◌,
-  map,
-  Option,
-  Some,
-  None,
-  option_and_then,
-}
+use Rattle.std.specs.Prelude.{⊤, ◌≡◌, ◌++◌, ℕ, Bool, false, if◌then◌else◌, nat_le, List, [], ◌∷◌, map, Option, Some, None, is_some, slice_get}
 use Rattle.indexmap.specs.IndexSet.{IndexSet}
 use Rattle.cl_classfile.specs.Files.{Name, Key, Member, file_of, is_interface, method_of}
 use Rattle.cl_model.specs.declared.class.Class.{Class}
@@ -25,6 +9,7 @@ use Rattle.cl_model.specs.States.{Need, Equal}
 use Rattle.cl_hierarchy.specs.Rows.{Rowed}
 use Rattle.cl_hierarchy.specs.Lineages.{Lined, kin_at, kin_of}
 use Rattle.cl_preparation.specs.declared.packages.Package.{Package}
+use Rattle.cl_preparation.specs.Filters.{Covers}
 use Rattle.cl_preparation.specs.Packages.{AreOpened, packaged}
 use Rattle.cl_preparation.specs.Walks.{is_overridden, opened_by, walked}
 
@@ -35,14 +20,24 @@ pub record AreRelatives (l : Lined) (own : Rowed) (above over : List Rowed) : Ty
   pub above_are : map (kin_at l) above ≡ superclasses (kin_of l)
   pub over_are : map (kin_at l) over ≡ superinterfaces (kin_of l)
 
--- what a class keeps with it: its package, and its methods (5.3, 4.6)
-pub record IsRelative (r : Rowed) (p : Package) (methods : List Member) : Type 0 where
-  pub package_is : p ≡ packaged r.class
-  pub methods_are : methods ≡ (file_of r.file).methods
-
 -- the class of a row, without what stands above it
 abbrev pub bare : Rowed → Kin
 bare r = record { class = r.class; file = file_of r.file; superclass = Bare; interfaces = Bare }
+
+-- a filter, if there is one, is of the names of these methods
+abbrev pub AreNames : List Member → Option (List Bool) → Type 0
+AreNames ms None = ⊤
+AreNames ms (Some names) = Covers names ms
+
+-- what a class of a lineage keeps: its run-time package (5.3), and a filter of its methods' names
+pub record IsRelative (r : Rowed) (runtime_package : Package) (names : Option (List Bool))
+    : Type 0 where
+  pub package_is : runtime_package ≡ packaged r.class
+  pub names_are : AreNames (file_of r.file).methods names
+
+-- the class of a row names a superinterface (4.1, interfaces)
+abbrev pub names_interfaces : Rowed → Bool
+names_interfaces r = is_some (slice_get (file_of r.file).interfaces 0)
 
 -- the step of a walk over superclasses: equalities where the method of this one is overridden, and
 -- what it opens (5.4.2, 5.4.5)

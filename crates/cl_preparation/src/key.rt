@@ -1,17 +1,14 @@
 //! Methods by their names and descriptors.
 
-ghost use Rattle.std.specs.Prelude.{◌≡◌, ◌++◌, IfOk, IsSome};
-ghost use Rattle.std.specs.Hash as fed;
+ghost use Rattle.std.specs.Prelude.{◌≡◌, Some, IfOk, IsSome};
 ghost use Rattle.cl_descriptors.specs.Reading.{whole_method};
-ghost use Rattle.cl_classfile.specs.Files.{same_key};
-ghost use Rattle.cl_model.specs.Lines.{spelling_of};
+ghost use Rattle.cl_classfile.specs.Files.{method_of};
 ghost use Rattle.cl_model.specs.Preparation.{class_names, is_special};
 ghost use Rattle.cl_preparation.specs.Methods.{key_in};
 
 use cl_descriptors::{DescriptorFault, read_method};
 use cl_names::Name;
 use std::alloc::{AllocError, Global};
-use std::hash::{Hash, Hasher};
 use std::marker::Model;
 
 /// What a method is looked up by: its name and its descriptor, whose bytes copies share (JVMS SE 8, 4.6).
@@ -34,39 +31,6 @@ impl Model for MethodKey {
     ghost invariant = { λ k. IsSome (whole_method k.descriptor) };
 }
 
-impl PartialEq for MethodKey {
-    ghost use Rattle.std.specs.Cmp;
-    ghost use Rattle.cl_preparation.specs.Equality.{keys_equiv};
-
-    ghost eq = { same_key };
-
-    ghost laws = { Cmp.partial_equiv_from_equiv keys_equiv };
-
-    #[tactic(auto, using(crate::proofs::Keys::same_texts))]
-    fn eq(&self, other: &MethodKey) -> bool {
-        self.name == other.name && self.descriptor == other.descriptor
-    }
-}
-
-impl Eq for MethodKey {
-    ghost use Rattle.cl_preparation.specs.Equality.{keys_equiv};
-
-    ghost laws = { keys_equiv };
-}
-
-impl Hash for MethodKey {
-    ghost use Rattle.cl_preparation.specs.Equality.{keys_fed};
-
-    ghost hash_input = { λ k. fed.slice fed.u8 k.name ++ fed.slice fed.u8 (spelling_of k.descriptor) };
-
-    ghost respects_eq = { keys_fed (λ k. fed.slice fed.u8 k.name ++ fed.slice fed.u8 (spelling_of k.descriptor)) };
-
-    fn hash<H: Hasher>(&self, state: &mut H) {
-        self.name().hash(state);
-        self.descriptor().hash(state);
-    }
-}
-
 impl MethodKey {
     /// The key of a method of this name and this descriptor.
     pub fn new(alloc: Global, name: &Name, descriptor: &Name) -> Result<MethodKey, AllocError>
@@ -79,16 +43,17 @@ impl MethodKey {
         })
     }
 
-    fn name(&self) -> &Name
+    /// Its name.
+    pub fn name(&self) -> &Name
         ensures { result.now ≡ self.now.name }
     {
         &self.name
     }
 
     /// The text of its descriptor (JVMS SE 8, 4.3.3).
-    #[tactic(auto, using(crate::proofs::Keys::spelled_again))]
-    fn descriptor(&self) -> &Name
-        ensures { result.now ≡ spelling_of self.now.descriptor }
+    #[tactic(auto, using(crate::proofs::Keys::read_is))]
+    pub fn descriptor(&self) -> &Name
+        ensures { method_of self.now.name result.now ≡ Some self.now }
     {
         &self.descriptor
     }

@@ -3,6 +3,7 @@
 #![tactic(auto)]
 
 mod described;
+mod filter;
 mod key;
 mod method;
 mod overriding;

@@ -19,7 +19,7 @@ use std::sync::Arc;
 
 /// The flags of the method of this name and descriptor that a class declares, if it declares one.
 #[tactic(auto, using(crate::proofs::Named::flags_named))]
-fn flags<T: Told>(row: &ClassRow<T>, name: &Name, descriptor: &Name) -> Option<u16>
+pub(crate) fn flags<T: Told>(row: &ClassRow<T>, name: &Name, descriptor: &Name) -> Option<u16>
     ensures { result ≡ option_map (λ m. m.flags) (method_named (file_of row.now.file) name.now
         descriptor.now) }
 {

@@ -1,30 +1,34 @@
 //! A class of a lineage with what preparation looks at.
 
-ghost use Rattle.std.specs.Prelude.{◌≡◌, IfOk, is_some};
+ghost use Rattle.std.specs.Prelude.{◌≡◌, IfOk, is_some, option_map};
 ghost use Rattle.cl_classfile.specs.Files.{file_of, is_interface};
 ghost use Rattle.cl_model.specs.Lineages.{if_declared, method_of};
 ghost use Rattle.cl_model.specs.Preparation.{takes_part};
 ghost use Rattle.cl_preparation.specs.Methods.{is_instance};
 ghost use Rattle.cl_preparation.specs.Packages.{packaged};
-ghost use Rattle.cl_preparation.specs.Relatives.{bare};
+ghost use Rattle.cl_preparation.specs.Relatives.{AreNames, bare, names_interfaces};
 ghost use Rattle.cl_preparation.specs.Walks.{is_open};
 
+use crate::filter::NameFilter;
 use crate::key::MethodKey;
-use crate::method::{Method, Methods};
+use crate::method::{Method, is_instance, is_wide, methods_of};
+use crate::overriding::flags;
 use crate::packages::Package;
+use cl_classfile::ClassFile;
 use cl_hierarchy::ClassRow;
 use cl_model::{LoaderId, Told};
-use cl_names::Seed;
 use std::alloc::{AllocError, Global};
 use std::marker::Model;
 use std::sync::Arc;
 
-/// A class of a lineage, with its run-time package and its methods by their keys.
+const FEW_METHODS: usize = 16;
+
+/// A class of a lineage, with its run-time package and, where it has many methods, a filter of their names.
 #[derive(Drop)]
 pub(crate) struct Relative<T: Told> {
     row: Arc<ClassRow<T>>,
     runtime_package: Package,
-    methods: Methods,
+    names: Option<NameFilter>,
 }
 
 impl<T: Told> Model for Relative<T> {
@@ -35,20 +39,40 @@ impl<T: Told> Model for Relative<T> {
 
     ghost view = { λ r. r.row.value };
 
-    ghost invariant = { λ r. IsRelative r.row.value r.runtime_package r.methods };
+    ghost invariant = { λ r. IsRelative r.row.value r.runtime_package r.names };
+}
+
+/// Whether a class names superinterfaces (JVMS SE 8, 4.1).
+pub(crate) fn names_interfaces<T: Told>(row: &ClassRow<T>) -> bool
+    ensures { result ≡ names_interfaces row.now }
+{
+    match row.file().interface_name(0) {
+        Some(_) => true,
+        None => false,
+    }
+}
+
+/// The filter of the names of a file's methods, where these are more than a look at each would take.
+fn names_of(alloc: Global, file: &ClassFile) -> Result<Option<NameFilter>, AllocError>
+    ensures { IfOk result (AreNames (file_of file.now).methods) }
+{
+    if file.methods().len() <= FEW_METHODS {
+        return Ok(None);
+    }
+    Ok(Some(NameFilter::of(alloc, file)?))
 }
 
 impl<T: Told> Relative<T> {
-    /// The class of a row. The table of its methods hashes with this seed.
-    pub fn of(alloc: Global, seed: Seed, row: &Arc<ClassRow<T>>) -> Result<Relative<T>, AllocError>
+    /// The class of a row.
+    pub fn of(alloc: Global, row: &Arc<ClassRow<T>>) -> Result<Relative<T>, AllocError>
         ensures { IfOk result (λ r. r ≡ row.now.value) }
     {
         let runtime_package = Package::of(alloc, row.class())?;
-        let methods = Methods::of(alloc, seed, row.file())?;
+        let names = names_of(alloc, row.file())?;
         Ok(Relative {
             row: Arc::try_clone(row)?,
             runtime_package,
-            methods,
+            names,
         })
     }
 
@@ -73,25 +97,48 @@ impl<T: Told> Relative<T> {
         self.row.file().is_interface()
     }
 
-    /// Its methods, in order.
-    pub fn methods(&self) -> &[Method]
-        ensures { result.now ≡ (file_of self.now.file).methods }
+    /// Whether it names superinterfaces (JVMS SE 8, 4.1).
+    pub fn names_interfaces(&self) -> bool
+        ensures { result ≡ names_interfaces self.now }
     {
-        self.methods.as_slice()
+        names_interfaces(&self.row)
+    }
+
+    /// Its methods, in order.
+    pub fn methods(&self, alloc: Global) -> Result<Vec<Method>, AllocError>
+        ensures { IfOk result (λ ms. ms.items ≡ (file_of self.now.file).methods) }
+    {
+        methods_of(alloc, self.row.file())
+    }
+
+    /// The flags of the method with this key, if it declares one.
+    #[tactic(auto, using(crate::proofs::Declared::flags_keyed, crate::proofs::Filters::flags_free))]
+    fn flags(&self, key: &MethodKey) -> Option<u16>
+        ensures { result ≡ option_map (λ m. m.flags) (method_of (bare self.now) key.now) }
+    {
+        match &self.names {
+            Some(names) if !names.passes(key.name()) => None,
+            _ => flags(&self.row, key.name(), key.descriptor()),
+        }
     }
 
     /// Whether it declares a method with this key.
+    #[tactic(auto, using(crate::proofs::Declared::flags_stand))]
     pub fn has(&self, key: &MethodKey) -> bool
         ensures { result ≡ is_some (method_of (bare self.now) key.now) }
     {
-        self.methods.has(key)
+        self.flags(key).is_some()
     }
 
     /// Whether it declares a method with this key that is neither private nor static (JVMS SE 8, 5.4.5).
+    #[tactic(auto, using(crate::proofs::Declared::flags_tell))]
     pub fn has_instance(&self, key: &MethodKey) -> bool
         ensures { result ≡ if_declared (method_of (bare self.now) key.now) is_instance }
     {
-        self.methods.has_instance(key)
+        match self.flags(key) {
+            Some(flags) => is_instance(flags),
+            None => false,
+        }
     }
 
     /// Whether it declares a method with this key that takes part in overriding (JVMS SE 8, 5.4.5).
@@ -102,9 +149,13 @@ impl<T: Told> Relative<T> {
     }
 
     /// Whether it declares a method with this key that is public or protected (JVMS SE 8, 5.4.5).
+    #[tactic(auto, using(crate::proofs::Declared::flags_tell))]
     pub fn is_open(&self, key: &MethodKey) -> bool
         ensures { result ≡ is_open key.now (bare self.now) }
     {
-        self.methods.has_wide(key)
+        match self.flags(key) {
+            Some(flags) => is_wide(flags),
+            None => false,
+        }
     }
 }

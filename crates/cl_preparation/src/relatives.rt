@@ -1,20 +1,21 @@
 //! The loading constraints that the preparation of a class imposes (JVMS SE 8, 5.4.2).
 
-ghost use Rattle.std.specs.Prelude.{◌≡◌, ◌++◌, [], if◌then◌else◌, map, flat_map, IfOk, OnOk};
+ghost use Rattle.std.specs.Prelude.{◌≡◌, ◌||◌, ◌++◌, [], if◌then◌else◌, map, flat_map, IfOk, OnOk};
+ghost use Rattle.std.specs.List.{list_any};
 ghost use Rattle.cl_classfile.specs.Files.{is_interface};
 ghost use Rattle.cl_model.specs.Lineages.{superclasses, superinterfaces};
-ghost use Rattle.cl_model.specs.Preparation.{constraints_of, for_declared, for_inherited};
+ghost use Rattle.cl_model.specs.Preparation.{constraints_of, for_declared, for_inherited, takes_part};
 ghost use Rattle.cl_hierarchy.specs.Imposed.{OfPreparation, needs_of};
 ghost use Rattle.cl_hierarchy.specs.Lineages.{kin_at, kin_of};
-ghost use Rattle.cl_preparation.specs.Relatives.{bare};
+ghost use Rattle.cl_preparation.specs.Relatives.{bare, names_interfaces};
 
 use crate::described::{Described, push_equals};
+use crate::key::MethodKey;
 use crate::method::Method;
-use crate::relative::Relative;
+use crate::relative::{Relative, names_interfaces};
 use crate::walk::{inherited_loader, push_above, push_implemented};
 use cl_hierarchy::{ClassRow, Equalities, Lineage};
 use cl_model::{Equality, Told};
-use cl_names::Seed;
 use std::alloc::{AllocError, Global};
 use std::marker::Model;
 use std::sync::Arc;
@@ -41,16 +42,12 @@ impl<T: Told> Model for Relatives<T> {
 
 /// The classes of these rows.
 #[tactic(auto, using(crate::proofs::Constraints::mapped_more))]
-fn all_of<T: Told>(
-    alloc: Global,
-    seed: Seed,
-    rows: &[Arc<ClassRow<T>>],
-) -> Result<Vec<Relative<T>>, AllocError>
+fn all_of<T: Told>(alloc: Global, rows: &[Arc<ClassRow<T>>]) -> Result<Vec<Relative<T>>, AllocError>
     ensures { IfOk result (λ v. v.items ≡ map (λ r. r.value) rows.now) }
 {
     let mut all = Vec::with_capacity(alloc, rows.len())?;
     for row in rows {
-        all.push(Relative::of(alloc, seed, row)?)?;
+        all.push(Relative::of(alloc, row)?)?;
     }
     Ok(all)
 }
@@ -58,29 +55,48 @@ fn all_of<T: Told>(
 /// The superclasses, nearest first.
 fn superclasses_of<T: Told>(
     alloc: Global,
-    seed: Seed,
     lineage: &Arc<Lineage<T>>,
 ) -> Result<Vec<Relative<T>>, AllocError>
     ensures { IfOk result (λ v. map (kin_at lineage.now.value) v.items
         ≡ superclasses (kin_of lineage.now.value)) }
 {
     let rows = lineage.superclasses(alloc)?;
-    let all = all_of(alloc, seed, rows.as_slice())?;
+    let all = all_of(alloc, rows.as_slice())?;
     Ok(all)
 }
 
-/// The superinterfaces, in preorder.
+/// Whether one of these classes names superinterfaces.
+fn any_names_interfaces<T: Told>(classes: &[Relative<T>]) -> bool
+    ensures { result ≡ list_any names_interfaces classes.now }
+{
+    classes.iter().any(|class| class.names_interfaces())
+}
+
+/// The superinterfaces, in preorder, where these are the superclasses.
 fn superinterfaces_of<T: Told>(
     alloc: Global,
-    seed: Seed,
     lineage: &Arc<Lineage<T>>,
+    above: &[Relative<T>],
 ) -> Result<Vec<Relative<T>>, AllocError>
+    requires { map (kin_at lineage.now.value) above.now
+        ≡ superclasses (kin_of lineage.now.value) }
     ensures { IfOk result (λ v. map (kin_at lineage.now.value) v.items ≡ superinterfaces
         (kin_of lineage.now.value)) }
 {
+    // most classes have none, and a chain of classes is long
+    if !names_interfaces(lineage.own()) && !any_names_interfaces(above) {
+        return Ok(Vec::new(alloc));
+    }
     let rows = lineage.superinterfaces(alloc)?;
-    let all = all_of(alloc, seed, rows.as_slice())?;
+    let all = all_of(alloc, rows.as_slice())?;
     Ok(all)
+}
+
+/// Whether one of these classes declares a method with this key that takes part in overriding.
+fn any_takes_part<T: Told>(classes: &[Relative<T>], key: &MethodKey) -> bool
+    ensures { result ≡ list_any (λ r. takes_part key.now (bare r)) classes.now }
+{
+    classes.iter().any(|class| class.takes_part(key))
 }
 
 impl<T: Told> Relatives<T> {
@@ -89,12 +105,11 @@ impl<T: Told> Relatives<T> {
     fn of(alloc: Global, lineage: &Arc<Lineage<T>>) -> Result<Relatives<T>, AllocError>
         ensures { IfOk result (λ r. r ≡ lineage.now.value) }
     {
-        let seed = lineage.config().seed();
-        let superclasses = superclasses_of(alloc, seed, lineage)?;
-        let superinterfaces = superinterfaces_of(alloc, seed, lineage)?;
+        let superclasses = superclasses_of(alloc, lineage)?;
+        let superinterfaces = superinterfaces_of(alloc, lineage, superclasses.as_slice())?;
         let lineage_copy = Arc::try_clone(lineage)?;
         // (last, since each way to drop it is a case of the proof)
-        let own = Relative::of(alloc, seed, lineage.own())?;
+        let own = Relative::of(alloc, lineage.own())?;
         Ok(Relatives {
             lineage: lineage_copy,
             own,
@@ -103,8 +118,17 @@ impl<T: Told> Relatives<T> {
         })
     }
 
+    /// Whether a class above declares a method with this key that takes part in overriding: no other imposes anything.
+    fn has_over(&self, key: &MethodKey) -> bool
+        ensures { result ≡ list_any (takes_part key.now) (superclasses (kin_of self.now))
+            || list_any (takes_part key.now) (superinterfaces (kin_of self.now)) }
+    {
+        any_takes_part(self.superclasses.as_slice(), key)
+            || any_takes_part(self.superinterfaces.as_slice(), key)
+    }
+
     /// Adds what a method of the class imposes with those that it overrides (JVMS SE 8, 5.4.2).
-    #[tactic(auto, using(crate::proofs::Constraints::declared_passed))]
+    #[tactic(auto, using(crate::proofs::Constraints::declared_passed, crate::proofs::Constraints::declared_alone))]
     fn push_declared(
         &self,
         alloc: Global,
@@ -115,6 +139,10 @@ impl<T: Told> Relatives<T> {
             (kin_of self.now) method.now) }
     {
         let key = method.key();
+        // first, since most methods stand over no other
+        if !self.has_over(key) {
+            return Ok(());
+        }
         if !self.own.takes_part(key) {
             return Ok(());
         }
@@ -126,17 +154,30 @@ impl<T: Told> Relatives<T> {
         push_implemented(alloc, needs, &described, self.own.loader(), over)
     }
 
-    /// Adds what the methods of the class impose.
-    #[tactic(auto, using(crate::proofs::Constraints::pushed_more, crate::proofs::Constraints::methods_are))]
-    fn push_all_declared(&self, alloc: Global, needs: &mut Vec<Equality>) -> Result<(), AllocError>
+    /// Adds what these methods of the class impose.
+    #[tactic(auto, using(crate::proofs::Constraints::pushed_more))]
+    fn push_each_declared(
+        &self,
+        alloc: Global,
+        needs: &mut Vec<Equality>,
+        methods: &[Method],
+    ) -> Result<(), AllocError>
         ensures { OnOk result (needs_of needs.new.items ≡ needs_of needs.old.items ++ flat_map
-            (for_declared (kin_of self.now)) (kin_of self.now).file.methods) }
+            (for_declared (kin_of self.now)) methods.now) }
     {
-        let methods = self.own.methods();
         for method in methods {
             self.push_declared(alloc, needs, method)?;
         }
         Ok(())
+    }
+
+    /// Adds what the methods of the class impose.
+    fn push_all_declared(&self, alloc: Global, needs: &mut Vec<Equality>) -> Result<(), AllocError>
+        ensures { OnOk result (needs_of needs.new.items ≡ needs_of needs.old.items ++ flat_map
+            (for_declared (kin_of self.now)) (kin_of self.now).file.methods) }
+    {
+        let methods = self.own.methods(alloc)?;
+        self.push_each_declared(alloc, needs, methods.as_slice())
     }
 
     /// Adds what a method of a superinterface imposes with the one that the class inherits (JVMS SE 8, 5.4.2).
@@ -164,8 +205,25 @@ impl<T: Told> Relatives<T> {
         }
     }
 
-    /// Adds what the methods of a superinterface impose.
+    /// Adds what these methods of a superinterface impose.
     #[tactic(auto, using(crate::proofs::Constraints::pushed_more))]
+    fn push_methods_inherited(
+        &self,
+        alloc: Global,
+        needs: &mut Vec<Equality>,
+        interface: &Relative<T>,
+        methods: &[Method],
+    ) -> Result<(), AllocError>
+        ensures { OnOk result (needs_of needs.new.items ≡ needs_of needs.old.items ++ flat_map
+            (for_inherited (kin_of self.now) (bare interface.now)) methods.now) }
+    {
+        for method in methods {
+            self.push_inherited(alloc, needs, interface, method)?;
+        }
+        Ok(())
+    }
+
+    /// Adds what the methods of a superinterface impose.
     fn push_all_inherited(
         &self,
         alloc: Global,
@@ -176,11 +234,8 @@ impl<T: Told> Relatives<T> {
             (for_inherited (kin_of self.now) (bare interface.now))
             (bare interface.now).file.methods) }
     {
-        let methods = interface.methods();
-        for method in methods {
-            self.push_inherited(alloc, needs, interface, method)?;
-        }
-        Ok(())
+        let methods = interface.methods(alloc)?;
+        self.push_methods_inherited(alloc, needs, interface, methods.as_slice())
     }
 
     /// Adds what the methods of these superinterfaces impose.

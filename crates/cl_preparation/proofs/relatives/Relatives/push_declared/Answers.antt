@@ -1,6 +1,5 @@
 use Rattle.std.proofs.Common.{◌≡◌, true, rules, sym, ◌∙◌}
 use Rattle.cl_hierarchy.specs.Imposed.{needs_of}
-use Rattle.cl_hierarchy.specs.Lineages.{kin_of}
 use Rattle.cl_preparation.proofs.Constraints.{declared_pushed, on_ok, told}
 use Rattle.cl_preparation.proofs.relatives.Relatives.push_declared.Goals as goal
 

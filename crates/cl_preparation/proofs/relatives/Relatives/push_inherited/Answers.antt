@@ -1,6 +1,5 @@
 use Rattle.std.proofs.Common.{◌≡◌, true, false, rules, sym, ◌∙◌}
 use Rattle.cl_hierarchy.specs.Imposed.{needs_of}
-use Rattle.cl_hierarchy.specs.Lineages.{kin_of}
 use Rattle.cl_preparation.proofs.Constraints.{inherited_none, inherited_pushed, on_ok}
 use Rattle.cl_preparation.proofs.relatives.Relatives.push_inherited.Goals as goal
 

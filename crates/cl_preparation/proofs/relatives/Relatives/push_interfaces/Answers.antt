@@ -1,6 +1,5 @@
 use Rattle.std.proofs.Common.{◌++◌, ap, ◌∙◌}
 use Rattle.cl_hierarchy.specs.Imposed.{needs_of}
-use Rattle.cl_hierarchy.specs.Lineages.{kin_of}
 use Rattle.cl_preparation.proofs.Constraints.{interfaces_are, on_ok}
 use Rattle.cl_preparation.proofs.relatives.Relatives.push_interfaces.Goals as goal
 

@@ -1,7 +1,6 @@
-use Rattle.std.proofs.Common.{Some}
 use Rattle.cl_classfile.specs.Files.{declared_by, method_of}
 use Rattle.cl_preparation.proofs.Declared.{typed_at, declared_more}
-use Rattle.cl_preparation.proofs.method.Methods.of.Goals as goal
+use Rattle.cl_preparation.proofs.method.methods_of.Goals as goal
 
 pub method_at-requires : goal.method_at-requires
 method_at-requires c =
@@ -10,5 +9,5 @@ method_at-requires c =
 
 pub loop-member-preserved : goal.loop-member-preserved
 loop-member-preserved c =
-    declared_more (declared_by method_of c.pool-pool.result.now) c.methods-members.result.now c.loop-member.member-index c.member-item.result _ c.loop-member.methods c.in_ok-methods.methods
-    c.loop-member-test.true c.member-item.is c.in_ok-method_at.ensures c.loop-member.invariant c.in_ok-methods.ensures
+    declared_more (declared_by method_of c.pool-pool.result.now) c.methods-members.result.now c.loop-member.member-index c.member-item.result _ c.loop-member.methods.items c.push.new.self.items
+    c.loop-member-test.true c.member-item.is c.in_ok-method_at.ensures c.loop-member.invariant c.in_ok-push.ensures.items

@@ -4,7 +4,7 @@ use Rattle.cl_hierarchy.specs.Imposed.{needs_of}
 use Rattle.cl_hierarchy.specs.Lineages.{kin_of}
 use Rattle.cl_model.specs.Preparation.{for_inherited}
 use Rattle.cl_preparation.specs.Relatives.{bare}
-use Rattle.cl_preparation.proofs.relatives.Relatives.push_all_inherited.Given as goal
+use Rattle.cl_preparation.proofs.relatives.Relatives.push_methods_inherited.Given as goal
 
 abbrev pub invariant-loop-method : goal.invariant-loop-method
 invariant-loop-method g l =

@@ -3,7 +3,7 @@ use Rattle.std.specs.List.{flat_map}
 use Rattle.cl_hierarchy.specs.Imposed.{needs_of}
 use Rattle.cl_hierarchy.specs.Lineages.{kin_of}
 use Rattle.cl_model.specs.Preparation.{for_declared}
-use Rattle.cl_preparation.proofs.relatives.Relatives.push_all_declared.Given as goal
+use Rattle.cl_preparation.proofs.relatives.Relatives.push_each_declared.Given as goal
 
 abbrev pub invariant-loop-method : goal.invariant-loop-method
 invariant-loop-method g l =

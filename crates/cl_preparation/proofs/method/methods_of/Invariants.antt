@@ -1,0 +1,7 @@
+use Rattle.std.proofs.Common.{◌≡◌, take}
+use Rattle.std.specs.Prelude.{filter_map}
+use Rattle.cl_classfile.specs.Files.{declared_by, method_of}
+use Rattle.cl_preparation.proofs.method.methods_of.Given as goal
+
+abbrev pub invariant-loop-member : goal.invariant-loop-member
+invariant-loop-member l = l.methods.items ≡ filter_map (declared_by method_of l.pool) (take l.member-index l.members)

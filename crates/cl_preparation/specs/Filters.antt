@@ -1,0 +1,12 @@
+-- Slots that the names of methods share.
+use Rattle.std.specs.Prelude.{◌≡◌, ℕ, ◌+◌, ◌-◌, ◌*◌, ◌%◌, Bool, true, List, length, Some, slice_get, unwrap_or}
+use Rattle.std.specs.List.{AllByRecursion}
+use Rattle.cl_classfile.specs.Files.{Name, Member}
+
+-- the slot of a name, by its length and its last byte
+abbrev pub slot : Name → ℕ
+slot name = (length name * 37 + unwrap_or (slice_get name (length name - 1)) 0) % 256
+
+-- the slot of each method's name is marked
+abbrev pub Covers : List Bool → List Member → Type 0
+Covers slots ms = AllByRecursion (λ m. slice_get slots (slot m.key.name) ≡ Some true) ms

@@ -1,0 +1,79 @@
+//! Which names the methods of a class may have, told without a look at them.
+
+ghost use Rattle.std.specs.Prelude.{◌≡◌, ◌<◌, Some, IfOk, List, false, true, ℕ, length, option_map, slice_get};
+ghost use Rattle.cl_classfile.specs.Files.{file_of};
+ghost use Rattle.cl_preparation.specs.Filters.{Covers, slot};
+
+use crate::method::text_at;
+use cl_classfile::ClassFile;
+use cl_names::Name;
+use std::alloc::{AllocError, Global};
+use std::marker::Model;
+
+const SLOTS: usize = 256;
+
+/// Slots that names share. Most classes above a method's class declare none of its name: a look at one slot tells so where a
+/// search would compare some log n names, and neither answer depends on which names share a slot.
+#[derive(Debug, Drop)]
+pub(crate) struct NameFilter {
+    slots: Vec<bool>,
+}
+
+impl Model for NameFilter {
+    ghost use Rattle.std.specs.Prelude.{◌≡◌, Bool, List, length};
+
+    ghost Value = { List Bool };
+
+    ghost view = { λ f. f.slots.items };
+
+    ghost invariant = { λ f. length f.slots.items ≡ 256 };
+}
+
+/// The slot of a name, by its length and its last byte.
+fn slot_of(name: &Name) -> usize
+    ensures is { result ≡ slot name.now }
+    ensures within { result < 256 }
+{
+    let bytes = name.bytes();
+    let last = match bytes.last() {
+        Some(last) => *last as usize,
+        None => 0,
+    };
+    (bytes.len() * 37 + last) % SLOTS
+}
+
+/// Marks the slot of a name, if there is one.
+fn mark(slots: &mut Vec<bool>, name: Option<&Name>)
+    requires { length slots.old.items ≡ 256 }
+    ensures length { length slots.new.items ≡ 256 }
+    ensures marked { (n : List ℕ) → option_map (λ x. x.now) name.entry ≡ Some n
+        → slice_get slots.new.items (slot n) ≡ Some true }
+    ensures others { (i : ℕ) → slice_get slots.old.items i ≡ Some true
+        → slice_get slots.new.items i ≡ Some true }
+{
+    if let Some(name) = name {
+        slots[slot_of(name)] = true;
+    }
+}
+
+impl NameFilter {
+    /// The filter of the names of a file's methods.
+    pub fn of(alloc: Global, file: &ClassFile) -> Result<NameFilter, AllocError>
+        ensures { IfOk result (λ f. Covers f (file_of file.now).methods) }
+    {
+        let pool = file.pool();
+        let mut slots = vec![in alloc; false; SLOTS]?;
+        let members = file.methods();
+        for member in members {
+            mark(&mut slots, text_at(pool, member.name_index()));
+        }
+        Ok(NameFilter { slots })
+    }
+
+    /// Whether a method may have this name: where it is not so, none has.
+    pub fn passes(&self, name: &Name) -> bool
+        ensures { slice_get self.now (slot name.now) ≡ Some result }
+    {
+        self.slots[slot_of(name)]
+    }
+}

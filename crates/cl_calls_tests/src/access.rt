@@ -1,7 +1,7 @@
 //! What is accessible to whom (JVMS SE 8, 5.4.4).
 
 use crate::given::{APP, PLUG};
-use crate::lineages::{CLASS, H, NONE, P, Q, QD, QE, R, Row, TOP, class_of, lineage, named};
+use crate::lineages::{CLASS, H, NONE, P, Q, QD, QE, R, Row, TOP, class_of, lineage, name_of};
 use cl_hierarchy::{class_accessible, member_accessible};
 use cl_model::{Class, LoaderId, Untold};
 use cl_registry::Registry;
@@ -91,9 +91,9 @@ fn is_seen(
     from: u16,
     loader: u16,
 ) -> Result<bool, AllocError> {
-    let name = named(alloc, class)?;
+    let name = name_of(alloc, class)?;
     let from = Class {
-        name: named(alloc, from)?,
+        name: name_of(alloc, from)?,
         loader: LoaderId(loader),
     };
     match tables.look(LoaderId(APP), &name) {

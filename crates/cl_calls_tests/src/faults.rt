@@ -32,7 +32,7 @@ fn tell_drafts(alloc: Global, told: &mut String) -> Result<(), AllocError> {
     tell(alloc, told, DraftFault::OtherName)
 }
 
-fn violated(alloc: Global) -> Result<RegistryFault, AllocError> {
+fn violation(alloc: Global) -> Result<RegistryFault, AllocError> {
     Ok(RegistryFault::Violates(Need::Equal(Equality {
         name: class_name(alloc, T)?,
         one: LoaderId(0),
@@ -43,7 +43,7 @@ fn violated(alloc: Global) -> Result<RegistryFault, AllocError> {
 fn tell_registries(alloc: Global, told: &mut String) -> Result<(), AllocError> {
     tell(alloc, told, RegistryFault::Memory)?;
     tell(alloc, told, RegistryFault::Stray)?;
-    tell(alloc, told, violated(alloc)?)?;
+    tell(alloc, told, violation(alloc)?)?;
     tell(alloc, told, RegistryFault::AlreadyPosted)?;
     tell(alloc, told, RegistryFault::NotYet)
 }

@@ -295,7 +295,7 @@ pub fn registry(
 }
 
 /// The draft of a home.
-pub fn drafted(alloc: Global, home: Home<Untold>) -> Result<Draft<Untold>, AllocError> {
+pub fn draft_of(alloc: Global, home: Home<Untold>) -> Result<Draft<Untold>, AllocError> {
     match Draft::read(alloc, home) {
         Ok(draft) => Ok(draft),
         Err(refused) => {
@@ -306,15 +306,15 @@ pub fn drafted(alloc: Global, home: Home<Untold>) -> Result<Draft<Untold>, Alloc
 }
 
 /// What the tables tell of an answer.
-pub fn posted(tables: &mut Registry<Untold>, q: u32, finding: Finding<Untold>) -> Told {
+pub fn post_finding(tables: &mut Registry<Untold>, q: u32, finding: Finding<Untold>) -> Told {
     match tables.post(q, finding) {
         Ok(()) => Told::Done,
-        Err(refused) => unposted(refused),
+        Err(refused) => tell_refused(refused),
     }
 }
 
 /// What an answer that comes back tells.
-fn unposted(refused: PostRefused<Untold>) -> Told {
+fn tell_refused(refused: PostRefused<Untold>) -> Told {
     let told = kind_of(&refused.fault);
     drop(refused);
     told
@@ -326,7 +326,7 @@ fn define(
     tables: &mut Registry<Untold>,
     home: Home<Untold>,
 ) -> Result<Told, AllocError> {
-    let draft = drafted(alloc, home)?;
+    let draft = draft_of(alloc, home)?;
     match tables.define(alloc, draft) {
         Ok(row) => {
             drop(row);

@@ -41,7 +41,7 @@ pub const QE: u16 = 20_010;
 /// No class, at the end of a row.
 pub const NONE: u16 = 20_011;
 
-pub fn named(alloc: Global, class: u16) -> Result<Name, AllocError> {
+pub fn name_of(alloc: Global, class: u16) -> Result<Name, AllocError> {
     match class {
         TOP => class_name(alloc, b"java/lang/Object"),
         J1 => class_name(alloc, b"p/J1"),
@@ -67,7 +67,7 @@ fn put_u16(bytes: &mut Vec<u8>, number: u16) -> Result<(), AllocError> {
 
 /// Adds the two entries of a class's constant, of which the first has this index.
 fn put_class(alloc: Global, bytes: &mut Vec<u8>, index: u16, class: u16) -> Result<(), AllocError> {
-    let name = named(alloc, class)?;
+    let name = name_of(alloc, class)?;
     let length = u16::try_from(name.bytes().len()).map_err(|_| AllocError)?;
     bytes.push(1)?;
     put_u16(bytes, length)?;
@@ -124,7 +124,7 @@ fn define(
     row: &Row,
 ) -> Result<bool, AllocError> {
     let (_, [class, ..]) = row;
-    let name = named(alloc, *class)?;
+    let name = name_of(alloc, *class)?;
     let bytes = file(alloc, row)?;
     let source = with(
         alloc,
@@ -150,7 +150,7 @@ fn define_top(
     tables: &mut Registry<Untold>,
     config: &Arc<Config>,
 ) -> Result<bool, AllocError> {
-    let name = named(alloc, TOP)?;
+    let name = name_of(alloc, TOP)?;
     for loader in [BOOT, APP] {
         let source = with(
             alloc,
@@ -181,7 +181,7 @@ fn are_of(
     classes: &[u16],
 ) -> Result<bool, AllocError> {
     for (row, class) in rows.iter().zip(classes) {
-        if row.class().name != named(alloc, *class)? {
+        if row.class().name != name_of(alloc, *class)? {
             return Ok(false);
         }
     }
@@ -206,7 +206,7 @@ pub fn lineage(
 
 pub fn class_of(alloc: Global, class: u16) -> Result<Class, AllocError> {
     Ok(Class {
-        name: named(alloc, class)?,
+        name: name_of(alloc, class)?,
         loader: LoaderId(APP),
     })
 }

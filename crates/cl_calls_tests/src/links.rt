@@ -2,8 +2,8 @@
 
 use crate::given::{
     APP, BOOT, CHILD_FIRST, Kind, Named, PARENT_FIRST, PLUG, Step, Told, bytes_of, class,
-    class_name, config, do_report, kind_of, object_file, plain_file, posted, record, registry,
-    with,
+    class_name, config, do_report, kind_of, object_file, plain_file, post_finding, record,
+    registry, with,
 };
 use cl_config::Config;
 use cl_findings::Finding;
@@ -113,10 +113,10 @@ fn is_posted(alloc: Global, tables: &mut Registry<Untold>) -> Result<bool, Alloc
     let sub = class(alloc, PLUG, bytes_of(Sub))?;
     let request = Request::Link(LoaderId(PLUG), class_name(alloc, bytes_of(Sub))?);
     let linked = Finding::linked(request, sub);
-    Ok(posted(tables, 0, linked) == Done)
+    Ok(post_finding(tables, 0, linked) == Done)
 }
 
-fn asked(
+fn ask(
     alloc: Global,
     tables: &mut Registry<Untold>,
     config: &Arc<Config>,
@@ -178,7 +178,7 @@ fn ask_all<R: Abort>(
     steps: &[(Call, u16, Named, Told)],
 ) -> Result<(), AllocError> {
     for (call, loader, name, wanted) in steps {
-        let told = asked(alloc, tables, config, (*call, *loader, *name))?;
+        let told = ask(alloc, tables, config, (*call, *loader, *name))?;
         assert!(rt; told == *wanted);
     }
     Ok(())
@@ -192,7 +192,7 @@ fn record_all(
 ) -> Result<(), AllocError> {
     for (call, loader, name, _) in STEPS {
         if call == Record {
-            let _ = asked(alloc, tables, other, (call, loader, name))?;
+            let _ = ask(alloc, tables, other, (call, loader, name))?;
         }
     }
     Ok(())

@@ -2,7 +2,7 @@
 
 use crate::given::{
     APP, CHILD_FIRST, Kind, Named, PLUG, Step, Told, are_steps, bytes_of, class_name, config,
-    posted, registry,
+    post_finding, registry,
 };
 use cl_findings::Finding;
 use cl_model::{Answer, LoaderId, Request, Untold};
@@ -85,7 +85,7 @@ fn post_all<R: Abort>(
 ) -> Result<(), AllocError> {
     for (q, asks, index, loader, name, wanted) in posts {
         let request = request(alloc, *asks, *index, *loader, *name)?;
-        assert!(rt; posted(tables, *q, Finding::memory(request)) == *wanted);
+        assert!(rt; post_finding(tables, *q, Finding::memory(request)) == *wanted);
     }
     Ok(())
 }
@@ -100,7 +100,7 @@ fn is_begun(begun: Result<u32, RegistryFault>, wanted: Option<u32>) -> bool {
 }
 
 /// The tables, which give no report yet.
-fn unreported(tables: Registry<Untold>) -> Result<Registry<Untold>, AllocError> {
+fn without_report(tables: Registry<Untold>) -> Result<Registry<Untold>, AllocError> {
     match tables.into_report() {
         Ok(report) => {
             drop(report);
@@ -150,7 +150,7 @@ fn after_round<R: Abort>(
     tables: Registry<Untold>,
     posts: &[Posting],
 ) -> Result<Registry<Untold>, AllocError> {
-    let mut tables = unreported(tables)?;
+    let mut tables = without_report(tables)?;
     match post_all(rt, alloc, &mut tables, posts) {
         Ok(()) => Ok(tables),
         Err(fault) => {

@@ -69,7 +69,7 @@ fn put(
 }
 
 /// A source, after all puts.
-fn filled<R: Abort>(rt: &R, alloc: Global) -> Result<Telling<Untold>, AllocError> {
+fn fill_source<R: Abort>(rt: &R, alloc: Global) -> Result<Telling<Untold>, AllocError> {
     let mut source = MemorySource::new(alloc);
     for (loader, length, fault) in PUTS {
         assert!(rt; put(alloc, &mut source, loader, length)? == fault);
@@ -94,7 +94,7 @@ fn read_all<R: Abort, S: Source<Untold>>(rt: &R, alloc: Global, source: &mut S, 
 #[test]
 fn sources(rt: HostRuntime) -> Result<(), Fail> {
     let alloc = rt.alloc();
-    let telling = filled(&rt, alloc)?;
+    let telling = fill_source(&rt, alloc)?;
     for (at, failing) in [(0u64, 9), (1, 0), (3, 2)] {
         let mut faulty = FaultySource::new(telling.another(alloc)?, at);
         read_all(&rt, alloc, &mut faulty, failing);

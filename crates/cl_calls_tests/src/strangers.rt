@@ -2,8 +2,8 @@
 
 use crate::given::{
     APP, BOOT, CHILD_FIRST, KID, Kind, Named, PARENT_FIRST, PLUG, Step, Told, bytes_of, class,
-    class_name, config, do_report, drafted, final_file, home, is_taken, kind_of, plain_file,
-    posted, refusal, registry, search, source,
+    class_name, config, do_report, draft_of, final_file, home, is_taken, kind_of, plain_file,
+    post_finding, refusal, registry, search, source,
 };
 use cl_config::Config;
 use cl_delegation::{Home, Search};
@@ -133,7 +133,7 @@ fn define(
 ) -> Result<Result<u16, Told>, Fail> {
     let loader = home.place();
     let was_recorded = tables.look(loader, name).is_some();
-    let draft = drafted(alloc, home)?;
+    let draft = draft_of(alloc, home)?;
     let back = match tables.define(alloc, draft) {
         Ok(row) => return Ok(Ok(flags_of(row))),
         Err(back) => back,
@@ -159,7 +159,7 @@ fn is_of(draft: &Draft<Untold>, loader: LoaderId, name: &Name) -> bool {
     draft.class().loader == loader && draft.class().name == *name
 }
 
-/// Asks for a definition once more, which came back for want of memory.
+/// Asks for a definition once more, which came back since memory ran out.
 fn again(
     rt: &impl Print,
     alloc: Global,
@@ -175,7 +175,7 @@ fn again(
 }
 
 /// What the tables tell of the loader that was asked for a home: which loader defined its class, or the refusal.
-fn initiated(
+fn tell_loader(
     alloc: Global,
     tables: &mut Registry<Untold>,
     home: &Home<Untold>,
@@ -200,13 +200,13 @@ fn initiate(
     name: &Name,
 ) -> Result<Result<u16, Told>, Fail> {
     let was_recorded = tables.look(home.asked(), name).is_some();
-    let told = initiated(alloc, tables, home);
+    let told = tell_loader(alloc, tables, home);
     if told.is_err() && tables.look(home.asked(), name).is_some() != was_recorded {
         return Err(Fail::new("a refused record left a trace"));
     }
     if told == Err(Told::Memory) {
         println!(rt; "refused: Registry::initiate")?;
-        return Ok(initiated(alloc, tables, home));
+        return Ok(tell_loader(alloc, tables, home));
     }
     Ok(told)
 }
@@ -304,7 +304,7 @@ fn is_posted(
 ) -> Result<bool, AllocError> {
     let found = class(alloc, loader, bytes_of(T))?;
     let request = Request::Load(LoaderId(PLUG), class_name(alloc, bytes_of(T))?);
-    Ok(posted(tables, 0, Finding::class(request, found)) == Told::Done)
+    Ok(post_finding(tables, 0, Finding::class(request, found)) == Told::Done)
 }
 
 /// The home of a name in a source where `p/T` has these bytes.

@@ -84,11 +84,11 @@ FittingIsAllowed =
     (content : Content) (x : Shown) (q : ℕ) (f : Answered) → IsKept (Some content) x → Fits x q f → Rests (Some content) f
     → MayPost (setting_of x.config x.script content) (state_of x) q (answer_of f.answer)
 
--- the next round may begin just where the machine may go on (own choice)
+-- the next round may begin just where the machine may go on
 abbrev pub RoundIsAllowed : Type 0
 RoundIsAllowed = (content : Content) (x : Shown) → MayGoOn x → May (setting_of x.config x.script content) (state_of x) NextRound
 
--- a class of another configuration than the registry's has no row of its own to be recorded (own choice)
+-- a class of another configuration than the registry's has no row of its own to be recorded
 abbrev pub OtherConfigIsStray : Type 0
 OtherConfigIsStray =
     (x : Shown) (d : Drafted) → IsNew x d → (d.home.config ≡ x.config → ⊥) → DefineRefusedFor x d Stray

@@ -40,7 +40,7 @@ pub record MayImpose (x : Shown) (e : Listed) (k : ℕ) : Type 0 where
   pub within : k < length e.needs
   pub earlier : AllMet (state_of x) (take k (needs_of e.needs))
 
--- the equality at this place has the property (own choice of form)
+-- the equality at this place has the property
 abbrev pub IsNextOf : Listed → ℕ → (Need → Type 0) → Type 0
 IsNextOf e k holds = IfSome (slice_get e.needs k) (λ n. holds (equal_need n))
 
@@ -105,7 +105,7 @@ IsPreparedBy x (OfPreparation l) = Contains (state_of x).prepared l.own.class
 
 -- ---- for the steps of a call
 
--- there is a state that a book stands for, and there a need is not met (own choice of form)
+-- there is a state that a book stands for, and there a need is not met
 pub record IsUnmetIn (stands : State → Type 0) (need : Need) : Type 0 where
   pub state : State
   pub stood_for : stands state
@@ -116,7 +116,7 @@ pub record StandsWith (stands : State → Type 0) (known : List Equality) (s : S
   pub stood_for : stands s
   pub met : AllMet s (needs_of known)
 
--- an equality is kept at a place, with those before it, or all stays (own choice)
+-- an equality is kept at a place, with those before it, or all stays
 abbrev pub IsNoted : List Equality → ℕ → Equality → List Equality → Type 0
 IsNoted old place e new = (new ≡ old) ⊎ (new ≡ take place old ++ e ∷ [])
 
@@ -138,7 +138,7 @@ abbrev pub AreLineages : Option Content → Sprung → Type 0
 AreLineages told (OfReference d c index) = IsLined told d × IsLined told c
 AreLineages told (OfPreparation l) = IsLined told l
 
--- they were made under this configuration (own choice)
+-- they were made under this configuration
 abbrev pub AreOfConfig : Configured → Sprung → Type 0
 AreOfConfig config (OfReference d c index) = (d.config ≡ config) × (c.config ≡ config)
 AreOfConfig config (OfPreparation l) = l.config ≡ config

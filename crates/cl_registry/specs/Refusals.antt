@@ -1,4 +1,4 @@
--- When a registry refuses a value, and why (own choice; JVMS SE 8, 5.3, 5.3.4, 5.3.5, 5.4.2).
+-- When a registry refuses a value, and why (JVMS SE 8, 5.3, 5.3.4, 5.3.5, 5.4.2).
 use Rattle.std.specs.Prelude.{◌≡◌, ◌⊎◌, ℕ, None}
 use Rattle.cl_model.specs.declared.class.Class.{Class}
 use Rattle.cl_model.specs.declared.need.Need.{Need}
@@ -115,7 +115,7 @@ BindRefusedFor x f AlreadyPosted = ⊥
 BindRefusedFor x f NotYet = ⊥
 
 -- an answer is strayed where the request is another, or where what it rests on is not in the tables; between the two it is
--- told that the request is of a later round, or has an answer (own choice)
+-- told that the request is of a later round, or has an answer
 abbrev pub PostRefusedFor : Shown → ℕ → Answered → RegistryFault → Type 0
 PostRefusedFor x q f Memory = ⊥
 PostRefusedFor x q f Stray = (IsAsked x q f → ⊥) ⊎ (IsAsked x q f × (IsLater x q → ⊥) × IsOpen x q × (IsBacked x f → ⊥))
@@ -123,7 +123,7 @@ PostRefusedFor x q f (Violates n) = ⊥
 PostRefusedFor x q f AlreadyPosted = IsAsked x q f × (IsLater x q → ⊥) × (IsOpen x q → ⊥)
 PostRefusedFor x q f NotYet = IsAsked x q f × IsLater x q
 
--- a round does not end while a request of it has no answer, and the last one never (own choice)
+-- a round does not end while a request of it has no answer, and the last one never
 abbrev pub RoundRefusedFor : Shown → RegistryFault → Type 0
 RoundRefusedFor x Memory = ⊥
 RoundRefusedFor x Stray = ⊥

@@ -15,6 +15,6 @@ pub record IsNamed (count : ℕ) (r : Report) : Type 0 where
   pub history : All (EventNames count) r.history
   pub answers : All (AnswerNames count) r.answers
 
--- a request has no answer, or there is a later round (own choice)
+-- a request has no answer, or there is a later round
 abbrev pub IsUnfinished : Shown → Type 0
 IsUnfinished x = ((q : ℕ) × IsOpen x q) ⊎ (round_of x + 1 < x.script.rounds)

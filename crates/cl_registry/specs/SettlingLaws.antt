@@ -64,7 +64,7 @@ AllowedIsSettled =
     → MaySettle (setting_of x.config x.script content) (state_of x) s.class s.index (verdict_of s.verdict)
     → (settled_by x f.request ≡ None) × IsToSettle x f s
 
--- a finding that rests on another configuration settles nothing (own choice)
+-- a finding that rests on another configuration settles nothing
 abbrev pub OtherFindingIsStray : Type 0
 OtherFindingIsStray =
     (x : Shown) (f : Answered) (b : Based) → f.basis ≡ Some b → (b.config ≡ x.config → ⊥) → settled_by x f.request ≡ None

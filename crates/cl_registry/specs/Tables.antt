@@ -28,7 +28,7 @@ use Rattle.cl_hierarchy.specs.RowTables.{AreRows}
 use Rattle.cl_findings.specs.Findings.{Answered}
 
 -- what a registry shows: whose it is, the rows of the classes that were defined, in order, what happened, and the answer of
--- each request that has one (own choice)
+-- each request that has one
 pub record Shown : Type 0 where
   pub config : Configured
   pub script : Scripted
@@ -36,16 +36,16 @@ pub record Shown : Type 0 where
   pub history : List Event
   pub answers : List (Option Answer)
 
--- no class, no event, and no answer to any request (own choice)
+-- no class, no event, and no answer to any request
 abbrev pub empty_of : Configured → Scripted → Shown
 empty_of config script =
     record { config = config; script = script; rows = []; history = []; answers = replicate (length script.requests) None }
 
--- the steps of the linkage machine that the history tells (own choice)
+-- the steps of the linkage machine that the history tells
 abbrev pub steps : Shown → List Step
 steps x = steps_of (answers_of x.answers) x.history
 
--- the state that the history leads to (own choice)
+-- the state that the history leads to
 abbrev pub state_of : Shown → State
 state_of x = state_after start (steps x)
 
@@ -53,11 +53,11 @@ state_of x = state_after start (steps x)
 abbrev pub records_of : Shown → List Record
 records_of x = (state_of x).records
 
--- the round that is being served (own choice)
+-- the round that is being served
 abbrev pub round_of : Shown → ℕ
 round_of x = (state_of x).round
 
--- the requests that are posted, in order (own choice)
+-- the requests that are posted, in order
 abbrev pub posts : List Event → List ℕ
 posts [] = []
 posts (events.Define c ∷ es) = posts es
@@ -90,7 +90,7 @@ settlements (events.Prepare c ∷ es) = settlements es
 settlements (events.NextRound ∷ es) = settlements es
 settlements (events.Post q ∷ es) = settlements es
 
--- the number is one of these (own choice)
+-- the number is one of these
 abbrev pub is_in : ℕ → List ℕ → Bool
 is_in n [] = false
 is_in n (x ∷ xs) = nat_eq n x || is_in n xs
@@ -109,7 +109,7 @@ abbrev pub RunsAs : Option Content → Shown → Type 0
 RunsAs None x = Unit {0}
 RunsAs (Some content) x = Run (setting_of x.config x.script content) start (steps x)
 
--- each loader that the history, what is settled and the answers name is one of the configuration (own choice)
+-- each loader that the history, what is settled and the answers name is one of the configuration
 pub record NamesLoaders (x : Shown) : Type 0 where
   pub history : All (EventNames (length x.config.loaders)) x.history
   pub settled : All (λ s. VerdictNames (length x.config.loaders) s.verdict) (settlements x.history)
@@ -246,28 +246,28 @@ InitiatedAs old new h row (Some place) = (new ≡ old) × (looked old h.asked h.
 abbrev pub Initiates : Shown → Shown → Located → Rowed → Type 0
 Initiates old new h row = InitiatedAs old new h row (recorded (records_of old) h.asked h.name)
 
--- an answer more, and its event (own choice)
+-- an answer more, and its event
 abbrev pub with_post : Shown → ℕ → Answer → Shown
 with_post x q a = record x { history = x.history ++ events.Post q ∷ []; answers = slice_set x.answers q (Some a) }
 
--- the next round begins (own choice)
+-- the next round begins
 abbrev pub with_round : Shown → Shown
 with_round x = record x { history = x.history ++ events.NextRound ∷ [] }
 
--- the request of this number asks what was answered (own choice)
+-- the request of this number asks what was answered
 abbrev pub IsAsked : Shown → ℕ → Answered → Type 0
 IsAsked x q f = slice_get x.script.requests q ≡ Some f.request
 
--- the request of this number is of a later round (own choice)
+-- the request of this number is of a later round
 pub record IsLater (x : Shown) (q : ℕ) : Type 0 where
   pub round : ℕ
   pub of : slice_get x.script.rounds_of q ≡ Some round
   pub later : round_of x < round
 
--- the request of this number has no answer yet (own choice)
+-- the request of this number has no answer yet
 abbrev pub IsOpen : Shown → ℕ → Type 0
 IsOpen x q = slice_get x.answers q ≡ Some None
 
--- each request of the round has its answer, and there is a later round (own choice)
+-- each request of the round has its answer, and there is a later round
 abbrev pub MayGoOn : Shown → Type 0
 MayGoOn x = machine.EndsRound (schedule_of x.script) x.script.rounds (state_of x)

@@ -87,7 +87,7 @@ impl<T: Told> Registry<T> {
     }
 
     /// The class whose entry a request resolves, as its loader has recorded it, and the index of the entry.
-    fn cited(&self, request: &Request) -> Option<(&Class, u16)>
+    fn cited_by(&self, request: &Request) -> Option<(&Class, u16)>
         ensures { option_map (λ e. record { class = e.0.now; index = e.1 }) result
             ≡ cited_by self.now request.now }
     {
@@ -104,7 +104,7 @@ impl<T: Told> Registry<T> {
     pub(crate) fn settled_of(&self, request: &Request) -> Option<&Arc<Settled>>
         ensures { option_map (λ s. s.now.value) result ≡ settled_by self.now request.now }
     {
-        let (class, index) = self.cited(request)?;
+        let (class, index) = self.cited_by(request)?;
         self.look_reference(class, index)
     }
 
@@ -124,7 +124,7 @@ impl<T: Told> Registry<T> {
         ensures settled { IfOk result (λ s. IsToSettle self.now finding.now s) }
         ensures refused { IfErr result (λ fault. BindRefusedFor self.now finding.now fault) }
     {
-        let Some((class, index)) = self.cited(finding.request()) else {
+        let Some((class, index)) = self.cited_by(finding.request()) else {
             return Err(RegistryFault::Stray);
         };
         let Some(verdict) = binding(finding) else {

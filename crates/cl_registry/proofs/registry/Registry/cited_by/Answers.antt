@@ -5,7 +5,7 @@ use Rattle.cl_registry.specs.Tables.{Shown}
 use Rattle.cl_registry.proofs.Asked.{found_none, found_some}
 use Rattle.cl_registry.proofs.Looked.{looked_records}
 use Rattle.cl_registry.proofs.Cited.{cited_found, cited_lacks}
-use Rattle.cl_registry.proofs.registry.Registry.cited.Goals as goal
+use Rattle.cl_registry.proofs.registry.Registry.cited_by.Goals as goal
 
 pub returns-in-Some : goal.returns-in-Some
 returns-in-Some g c =

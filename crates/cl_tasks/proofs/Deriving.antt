@@ -22,7 +22,6 @@ use Rattle.cl_tasks.specs.declared.ends.Aftermath.{Aftermath}
 use Rattle.cl_tasks.specs.declared.ends.Aftermath.TheVariants as aftermaths
 use Rattle.cl_tasks.specs.declared.stage.Job.{Job}
 use Rattle.cl_tasks.specs.declared.stage.Link.TheVariants as links
-use Rattle.cl_tasks.specs.declared.stage.Load.{Load}
 use Rattle.cl_tasks.specs.declared.stage.Load.TheVariants as loads
 use Rattle.cl_tasks.specs.declared.stage.Next.{Next}
 use Rattle.cl_tasks.specs.declared.stage.Resolution.TheVariants as resolutions
@@ -202,16 +201,15 @@ derived_at c absent before (stages.Link (links.Imposing i l m)) h = λ k e. absu
 derived_at c absent before (stages.Link (links.Marking i l)) h = λ k e. absurd e
 derived_at c absent before (stages.Done q) h = λ k e. absurd e
 
--- what is waited for by a task that reads, or that defines
+-- what is waited for by a task that defines
 abbrev IsAsked : Tasked → Waits → Type 0
-IsAsked t (waits.Reading l n) = (c : Class) × (t.absent ≡ Some c) × (c.name ≡ n)
 IsAsked t (waits.Defining d) = IsDerived t.frames d.class
 IsAsked t other = Unit {0}
 
 asked_at : {A : Type 0} (c : Configured) (s : Stage A) → IsAsked (task_at c s) (task_at c s).waits
 asked_at c (stages.Load (loads.Fresh j)) = tt
 asked_at c (stages.Load (loads.Looking j)) = tt
-asked_at c (stages.Load (loads.Searching j s)) = (sought_class j.path, refl, refl)
+asked_at c (stages.Load (loads.Searching j s)) = tt
 asked_at c (stages.Load (loads.Homing j i)) = tt
 asked_at c (stages.Load (loads.Defining j x)) = derived_last (frames_of j.path) (frame_of x)
 asked_at c (stages.Load (loads.Initiating j i)) = tt
@@ -230,7 +228,7 @@ asked_at c (stages.Done q) = tt
 
 asks_derived : {A : Type 0} (t : Tasked) (u : Turn A) → Asks t u → IsAsked t t.waits → AsksDerived t u
 asks_derived t (turn.Look l n) asks h = tt
-asks_derived t (turn.Read l n) asks h = subst (λ (w : Waits). IsAsked t w) asks h
+asks_derived t (turn.Read l n) asks h = tt
 asks_derived t (turn.Define d) asks h = subst (λ (w : Waits). IsAsked t w) asks h
 asks_derived t (turn.Initiate i) asks h = tt
 asks_derived t (turn.Lineage c) asks h = tt

@@ -54,7 +54,7 @@ array_of : (text : List ℕ) → NamesType text → is_array_name text ≡ true 
 array_of text (inl h) e = absurd (differ (is_array_name text) e (class_begins text h))
 array_of text (inr h) e = h
 
--- the name of an array is read, but for want of memory
+-- the name of an array is read, unless memory ran out
 shallow_read : (t : FieldType) (fault : DescriptorFault) (b : Bool) → b ≡ true → Gives (Err fault) (if b then Ok t else Err TooManyDimensions) → (fault ≡ Memory → ⊥) → ⊥
 shallow_read t fault false e gives other = absurd cc
 shallow_read t Memory true e gives other = other refl

@@ -73,7 +73,7 @@ reference_steps {A = A} told c e o n l own plain derives = record {
   refused = plain_no_fault n.turn plain;
   linkage = tt;
   lacks = reference_lacks e.request o n own;
-  reads = plain_reads {A = A} (reply.LookedReference o) n.turn plain;
+  reads = plain_reads {A = A} (resolving_at c (resolutions.LookingReference e)) (reply.LookedReference o) n.turn plain;
   derives = derives_more IsNone (WasAbsent {A = A} (resolving_at c (resolutions.LookingReference e)) (reply.LookedReference o)) [] n.stage (λ k h. absurd h) derives;
   own = reference_own c e o n own;
 }
@@ -108,7 +108,7 @@ found_steps {A = A} told c f row n failed name by goes plain past = record {
   refused = plain_no_fault n.turn plain;
   linkage = tt;
   lacks = λ h. tt;
-  reads = plain_reads {A = A} (reply.Looked (Some row)) n.turn plain;
+  reads = plain_reads {A = A} (resolving_at c (resolutions.Checking f)) (reply.Looked (Some row)) n.turn plain;
   derives = past_derives (WasAbsent {A = A} (resolving_at c (resolutions.Checking f)) (reply.Looked (Some row))) [] n.stage past;
   own = λ r e w frames facts. subst (λ (k : Request). GoesOnWith k row.value.class n.turn) (some_request f.request r e) goes;
 }

@@ -57,7 +57,7 @@ posts_or a (turn.LookPrepared c) h = absurd h
 posts_or a (turn.Mark e) h = absurd h
 posts_or a (turn.Post f) h = inl h
 
--- a fault of the source is answered as want of memory where it is one
+-- a fault of the source is answered as out of memory where it is one
 pub fault_lacks : (l : ℕ) (n : List ℕ) (f : SourceFault) → fault_answer (Reading l n) f ≡ answers.Memory → f ≡ faults.Memory
 fault_lacks l n faults.Memory e = refl
 fault_lacks l n faults.Device e = absurd (blamed_memory n l e)

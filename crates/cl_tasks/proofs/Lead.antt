@@ -77,18 +77,18 @@ plain_no_fault (turn.LookPrepared c) h = tt
 plain_no_fault (turn.Mark e) h = tt
 plain_no_fault (turn.Post f) h = h
 
-pub plain_reads : {A : Type 0} (r : Reply A) (t : Turn A) → IsPlain t → ReadsUnrecorded r t
-plain_reads r (turn.Look l n) h = tt
-plain_reads r (turn.Read l n) h = absurd h
-plain_reads r (turn.Define d) h = tt
-plain_reads r (turn.Initiate i) h = tt
-plain_reads r (turn.Lineage c) h = tt
-plain_reads r (turn.LookReference c i) h = tt
-plain_reads r (turn.Settle f) h = tt
-plain_reads r (turn.Impose e k) h = tt
-plain_reads r (turn.LookPrepared c) h = tt
-plain_reads r (turn.Mark e) h = tt
-plain_reads r (turn.Post f) h = tt
+pub plain_reads : {A : Type 0} (t : Tasked) (r : Reply A) (u : Turn A) → IsPlain u → ReadsUnrecorded t r u
+plain_reads t r (turn.Look l n) h = tt
+plain_reads t r (turn.Read l n) h = absurd h
+plain_reads t r (turn.Define d) h = tt
+plain_reads t r (turn.Initiate i) h = tt
+plain_reads t r (turn.Lineage c) h = tt
+plain_reads t r (turn.LookReference c i) h = tt
+plain_reads t r (turn.Settle f) h = tt
+plain_reads t r (turn.Impose e k) h = tt
+plain_reads t r (turn.LookPrepared c) h = tt
+plain_reads t r (turn.Mark e) h = tt
+plain_reads t r (turn.Post f) h = tt
 
 -- a refused growth is the answer
 pub steps_memory : {A : Type 0} (told : Option Content) (t : Tasked) (r : Request) → t.request ≡ Some r → loader_of r < length t.config.loaders → 0 < t.left → Steps {A = A} told t reply.Memory (memory_ends t.q r)

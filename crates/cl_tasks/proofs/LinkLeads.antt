@@ -250,6 +250,15 @@ next_room n p =
 
 -- ---- equalities
 
+-- fewer are left where some are skipped
+pub skipped_room : (a m p n : ℕ) → p ≤ n → (a + ((m - n) + 1)) + 1 ≤ (a + ((m - p) + 1)) + 1
+skipped_room a m p n le = omega (arith, le)
+
+-- where all that are skipped are met, as many more are imposed
+pub skipped_told : {A : Type 0} (x : Shown) (k : Chain A) (e : Listed) (p n : ℕ) → IsAtPlace k e → ((s : State) → AllMet s (take p (needs_of e.needs)) → AllMet s (take n (needs_of e.needs))) → ListTold k e p x → ListTold k e n x
+skipped_told x k e p n place met h =
+    list_of x k e n place.at place.prepares (list_chain x k e p h) (list_traced x k e p place.at place.prepares h) (met (state_of x) (list_imposed x k e p h))
+
 -- what a list at a place of a chain was made from, and what is known of it
 pub record IsKnown {A : Type 0} (told : Option Content) (k : Chain A) (e : Listed) : Type 0 where
   pub place : IsAtPlace k e

@@ -56,7 +56,7 @@ prepared_steps {A = A} told c g true n l own plain past = record {
   refused = plain_no_fault n.turn plain;
   linkage = tt;
   lacks = λ h. tt;
-  reads = plain_reads {A = A} (reply.LookedPrepared true) n.turn plain;
+  reads = plain_reads {A = A} (linking_at c (links.LookingPrepared g)) (reply.LookedPrepared true) n.turn plain;
   derives = past_derives (WasAbsent {A = A} (linking_at c (links.LookingPrepared g)) (reply.LookedPrepared true)) [] n.stage past;
   own = λ d e. subst (λ (k : Class). PostsOr (answers.Said (verdicts.Linked k)) n.turn) (waits_same g.class.value.class d e) (own refl);
 }
@@ -66,7 +66,7 @@ prepared_steps {A = A} told c g false n l own plain past = record {
   refused = plain_no_fault n.turn plain;
   linkage = tt;
   lacks = λ h. tt;
-  reads = plain_reads {A = A} (reply.LookedPrepared false) n.turn plain;
+  reads = plain_reads {A = A} (linking_at c (links.LookingPrepared g)) (reply.LookedPrepared false) n.turn plain;
   derives = past_derives (WasAbsent {A = A} (linking_at c (links.LookingPrepared g)) (reply.LookedPrepared false)) [] n.stage past;
   own = tt;
 }
@@ -83,7 +83,7 @@ whole_steps {A = A} told c g whole n l plain past =
       refused = plain_no_fault n.turn plain;
       linkage = tt;
       lacks = λ h. tt;
-      reads = plain_reads {A = A} (reply.Lineage whole) n.turn plain;
+      reads = plain_reads {A = A} (linking_at c (links.TracingWhole g)) (reply.Lineage whole) n.turn plain;
       derives = past_derives (WasAbsent {A = A} (linking_at c (links.TracingWhole g)) (reply.Lineage whole)) [] n.stage past;
       own = tt;
     }
@@ -98,7 +98,7 @@ traced_steps {A = A} told c k at n l plain past =
       refused = plain_no_fault n.turn plain;
       linkage = tt;
       lacks = λ h. tt;
-      reads = plain_reads {A = A} (reply.Lineage at) n.turn plain;
+      reads = plain_reads {A = A} (linking_at c (links.Tracing k)) (reply.Lineage at) n.turn plain;
       derives = past_derives (WasAbsent {A = A} (linking_at c (links.Tracing k)) (reply.Lineage at)) [] n.stage past;
       own = tt;
     }
@@ -134,7 +134,7 @@ imposed_steps {A = A} told c k e i n place lt l plain past =
       refused = plain_no_fault n.turn plain;
       linkage = tt;
       lacks = λ h. tt;
-      reads = plain_reads {A = A} reply.Imposed n.turn plain;
+      reads = plain_reads {A = A} (linking_at c (links.Imposing k e i)) reply.Imposed n.turn plain;
       derives = past_derives (WasAbsent {A = A} (linking_at c (links.Imposing k e i)) reply.Imposed) [] n.stage past;
       own = tt;
     }
@@ -152,7 +152,7 @@ refused_steps {A = A} told c k e i need n l plain past ends posts =
       refused = plain_no_fault n.turn plain;
       linkage = ends;
       lacks = λ h. absurd (posts h);
-      reads = plain_reads {A = A} (reply.Refused need) n.turn plain;
+      reads = plain_reads {A = A} (linking_at c (links.Imposing k e i)) (reply.Refused need) n.turn plain;
       derives = past_derives (WasAbsent {A = A} (linking_at c (links.Imposing k e i)) (reply.Refused need)) [] n.stage past;
       own = tt;
     }
@@ -177,7 +177,7 @@ marked_steps {A = A} told c k e n chain place l plain past =
       refused = plain_no_fault n.turn plain;
       linkage = tt;
       lacks = λ h. tt;
-      reads = plain_reads {A = A} reply.Marked n.turn plain;
+      reads = plain_reads {A = A} (linking_at c (links.Marking k e)) reply.Marked n.turn plain;
       derives = past_derives (WasAbsent {A = A} (linking_at c (links.Marking k e)) reply.Marked) [] n.stage past;
       own = tt;
     }

@@ -1,5 +1,5 @@
 -- What a load does on a reply, as a step.
-use Rattle.std.proofs.Common.{◌≡◌, ◌∙◌, ◌<◌, ℕ, List, [], ◌∷◌, ◌++◌, Option, Some, None, inl, inr, sym, ap, subst, arith}
+use Rattle.std.proofs.Common.{◌≡◌, ◌∙◌, ◌<◌, ℕ, List, [], ◌∷◌, ◌++◌, Option, Some, None, inl, inr, refl, sym, ap, subst, slice_get, arith}
 use Rattle.std.proofs.Common.{Global}
 use Rattle.std.specs.declared.sync.Arc.{Arc}
 use Rattle.cl_model.specs.declared.answer.Answer.{Answer}
@@ -20,7 +20,7 @@ use Rattle.cl_source.specs.Views.{Found}
 use Rattle.cl_hierarchy.specs.declared.row.ClassRow.{ClassRow}
 use Rattle.cl_hierarchy.specs.Drafts.{IsDraft}
 use Rattle.cl_hierarchy.specs.Frames.{Framed, frame_of}
-use Rattle.cl_hierarchy.specs.Paths.{IsPath, at_name, frames_of}
+use Rattle.cl_hierarchy.specs.Paths.{IsPath, Pathed, at_name, frames_of}
 use Rattle.cl_findings.specs.Loads.{IsFor, IsSought, IsWhole, next_need}
 use Rattle.cl_findings.specs.declared.load.NextRecord.TheVariants as nexts
 use Rattle.cl_registry.specs.Tables.{Shown, state_of}
@@ -30,9 +30,10 @@ use Rattle.cl_tasks.specs.Deriving.{Derives, IsNone, IsPast, IsSoughtHere, IsUnf
 use Rattle.cl_tasks.specs.Follows.{EndsAsRefused, IsResolution, Posts, PostsNoFault, Tells, fault_answer}
 use Rattle.cl_tasks.specs.Measures.{left_at}
 use Rattle.cl_tasks.specs.Measures as phases
-use Rattle.cl_tasks.specs.Stages.{IsFirst, IsHoming, loading_at, next_place, past_left, probes_left, task_at}
-use Rattle.cl_tasks.specs.Steps.{FindsBy, FindsHome, Finds, HoldsOn, IsPlain, Leads, LeadsAt, LeadsOn, LooksBy, ReadsOn, Steps, room_at}
-use Rattle.cl_tasks.specs.Turns.{GoesOnWith, ReadsUnrecorded, WasAbsent}
+use Rattle.cl_tasks.specs.Stages.{IsFirst, IsHoming, loading_at, next_place, past_left, probes_left, sought_class, task_at}
+use Rattle.cl_tasks.specs.Steps.{FindsBy, FindsHome, Finds, HoldsOn, IsPlain, Leads, LeadsAt, LeadsOn, LooksBy, ReadsAt, ReadsOn, Steps, room_at, way_on}
+use Rattle.cl_tasks.specs.Tasks.{Tasked}
+use Rattle.cl_tasks.specs.Turns.{GoesOnWith, IsBehind, IsReadNext, ReadsUnrecorded, WasAbsent, way_of}
 use Rattle.cl_tasks.specs.Waits as waits
 use Rattle.cl_tasks.specs.declared.stage.Job.{Job}
 use Rattle.cl_tasks.specs.declared.stage.Load.TheVariants as loads
@@ -53,44 +54,32 @@ use Rattle.cl_tasks.proofs.Onward.{less_room}
 at_config : {A : Type 0} (told : Option Content) (c : Configured) (d : Configured) (q : ℕ) (r : Request) (room : ℕ) (holds now : Shown → Type 0) (n : Next A) → d ≡ c → LeadsOn told d q r room holds now n → LeadsOn told c q r room holds now n
 at_config told c d q r room holds now n e l = subst (λ (k : Configured). LeadsOn told k q r room holds now n) e l
 
-none_reads : {A : Type 0} (t : Turn A) → ReadsUnrecorded (reply.Looked None) t
-none_reads (turn.Look l n) = tt
-none_reads (turn.Read l n) = tt
-none_reads (turn.Define d) = tt
-none_reads (turn.Initiate h) = tt
-none_reads (turn.Lineage c) = tt
-none_reads (turn.LookReference c i) = tt
-none_reads (turn.Settle f) = tt
-none_reads (turn.Impose e k) = tt
-none_reads (turn.LookPrepared c) = tt
-none_reads (turn.Mark e) = tt
-none_reads (turn.Post f) = tt
+-- a turn that reads for what is looked for, of which it was told that its loader has no record
+reads_along : {A : Type 0} (t : Tasked) (r : Reply A) (p : Pathed) (is : ℕ → Type 0) (u : Turn A) → WasAbsent t r (sought_class p) → ((l : ℕ) → is l → IsReadNext (way_of t.config (sought_class p)) r l) → ReadsAt p is u → ReadsUnrecorded t r u
+reads_along t r p is (turn.Look l n) absent next h = tt
+reads_along t r p is (turn.Read l n) absent next h = (sought_class p, absent, sym h.0, next l h.1)
+reads_along t r p is (turn.Define d) absent next h = tt
+reads_along t r p is (turn.Initiate i) absent next h = tt
+reads_along t r p is (turn.Lineage c) absent next h = tt
+reads_along t r p is (turn.LookReference c i) absent next h = tt
+reads_along t r p is (turn.Settle f) absent next h = tt
+reads_along t r p is (turn.Impose e k) absent next h = tt
+reads_along t r p is (turn.LookPrepared c) absent next h = tt
+reads_along t r p is (turn.Mark e) absent next h = tt
+reads_along t r p is (turn.Post f) absent next h = tt
 
-probed_reads : {A : Type 0} (p : _) (t : Turn A) → ReadsUnrecorded (reply.Probed p) t
-probed_reads p (turn.Look l n) = tt
-probed_reads p (turn.Read l n) = tt
-probed_reads p (turn.Define d) = tt
-probed_reads p (turn.Initiate h) = tt
-probed_reads p (turn.Lineage c) = tt
-probed_reads p (turn.LookReference c i) = tt
-probed_reads p (turn.Settle f) = tt
-probed_reads p (turn.Impose e k) = tt
-probed_reads p (turn.LookPrepared c) = tt
-probed_reads p (turn.Mark e) = tt
-probed_reads p (turn.Post f) = tt
-
-posts_reads : {A : Type 0} (r : Reply A) (a : Answer) (t : Turn A) → Posts a t → ReadsUnrecorded r t
-posts_reads r a (turn.Look l n) h = tt
-posts_reads r a (turn.Read l n) h = absurd h
-posts_reads r a (turn.Define d) h = tt
-posts_reads r a (turn.Initiate i) h = tt
-posts_reads r a (turn.Lineage c) h = tt
-posts_reads r a (turn.LookReference c i) h = tt
-posts_reads r a (turn.Settle f) h = tt
-posts_reads r a (turn.Impose e k) h = tt
-posts_reads r a (turn.LookPrepared c) h = tt
-posts_reads r a (turn.Mark e) h = tt
-posts_reads r a (turn.Post f) h = tt
+posts_reads : {A : Type 0} (t : Tasked) (r : Reply A) (a : Answer) (u : Turn A) → Posts a u → ReadsUnrecorded t r u
+posts_reads t r a (turn.Look l n) h = tt
+posts_reads t r a (turn.Read l n) h = absurd h
+posts_reads t r a (turn.Define d) h = tt
+posts_reads t r a (turn.Initiate i) h = tt
+posts_reads t r a (turn.Lineage c) h = tt
+posts_reads t r a (turn.LookReference c i) h = tt
+posts_reads t r a (turn.Settle f) h = tt
+posts_reads t r a (turn.Impose e k) h = tt
+posts_reads t r a (turn.LookPrepared c) h = tt
+posts_reads t r a (turn.Mark e) h = tt
+posts_reads t r a (turn.Post f) h = tt
 
 -- ---- the first turn
 
@@ -101,7 +90,7 @@ steps_begun {A = A} told j n first for l looks plain derives = record {
   refused = plain_no_fault n.turn plain;
   linkage = tt;
   lacks = λ h. tt;
-  reads = plain_reads {A = A} reply.Start n.turn plain;
+  reads = plain_reads {A = A} (loading_at j.path.config (loads.Fresh j)) reply.Start n.turn plain;
   derives = derives_more IsNone (WasAbsent {A = A} (loading_at j.path.config (loads.Fresh j)) reply.Start) (frames_of j.path) n.stage (λ k e. absurd e) derives;
   own = begins_own j.path.config j n.stage n.turn first for looks l.asks;
 }
@@ -109,14 +98,14 @@ steps_begun {A = A} told j n first for l looks plain derives = record {
 -- ---- a look where it is asked for
 
 pub steps_unrecorded : {A : Type 0} (told : Option Content) (c : Configured) (j : Job A) (n : Next A) → j.path.config ≡ c → LeadsAt told phases.Looking j (HoldsOn j) n → PostsNoFault n.turn
-    → Derives (IsSoughtHere j.path) (frames_of j.path) n.stage → Steps told (loading_at c (loads.Looking j)) (reply.Looked None) n
-steps_unrecorded {A = A} told c j n e l no_fault derives = record {
+    → Derives (IsSoughtHere j.path) (frames_of j.path) n.stage → ReadsAt j.path (λ l. slice_get (way_on j.path) 0 ≡ Some l) n.turn → Steps told (loading_at c (loads.Looking j)) (reply.Looked None) n
+steps_unrecorded {A = A} told c j n e l no_fault derives reads = record {
   leads = at_config told c j.path.config j.q j.request (room_at phases.Looking j 0) _ _ n e
       (leads_more (room_at phases.Looking j 0) _ _ l (omega arith) (λ x h. record { frames = h.before.frames; facts = h.before.facts }) (λ x h. record { frames = h.told.before.frames; facts = h.told.before.facts }));
   refused = no_fault;
   linkage = tt;
   lacks = λ h. tt;
-  reads = none_reads n.turn;
+  reads = reads_along {A = A} (loading_at c (loads.Looking j)) (reply.Looked None) j.path (λ l. slice_get (way_on j.path) 0 ≡ Some l) n.turn (inr refl) (λ m k. subst (λ (d : Configured). slice_get (way_of d (sought_class j.path)) 0 ≡ Some m) e k) reads;
   derives = derives_more (IsSoughtHere j.path) (WasAbsent {A = A} (loading_at c (loads.Looking j)) (reply.Looked None)) (frames_of j.path) n.stage (λ k e. inr (ap (λ (d : Class). waits.Looking d.loader d.name) (sym e))) derives;
   own = tt;
 }
@@ -132,7 +121,7 @@ steps_looked {A = A} told c j row n e path l plain goes derives =
       refused = plain_no_fault n.turn plain;
       linkage = tt;
       lacks = λ h. tt;
-      reads = plain_reads (reply.Looked (Some row)) n.turn plain;
+      reads = plain_reads {A = A} (loading_at c (loads.Looking j)) (reply.Looked (Some row)) n.turn plain;
       derives = derives_more IsNone (WasAbsent {A = A} (loading_at c (loads.Looking j)) (reply.Looked (Some row))) (frames_of j.path) n.stage (λ k e. absurd e) derives;
       own = looked_own c j row (task_at c n.stage) n.turn goes;
     }
@@ -140,13 +129,13 @@ steps_looked {A = A} told c j row n e path l plain goes derives =
 -- ---- a read
 
 pub steps_probed : {A : Type 0} (told : Option Content) (j : Job A) (s : Searched) (p : Found) (n : Next A) → ReadsOn told (probes_left s) j (HoldsOn j) n → PostsNoFault n.turn
-    → Derives (IsSoughtHere j.path) (frames_of j.path) n.stage → Steps told (loading_at j.path.config (loads.Searching j s)) (reply.Probed p) n
-steps_probed {A = A} told j s p n l no_fault derives = record {
+    → Derives (IsSoughtHere j.path) (frames_of j.path) n.stage → ReadsAt j.path (IsBehind (way_on j.path) p) n.turn → Steps told (loading_at j.path.config (loads.Searching j s)) (reply.Probed p) n
+steps_probed {A = A} told j s p n l no_fault derives reads = record {
   leads = leads_more (room_at phases.Reading j (probes_left s)) _ _ l (omega arith) (λ x h. record { frames = h.before.frames; facts = h.before.facts }) (λ x h. record { frames = h.told.before.frames; facts = h.told.before.facts });
   refused = no_fault;
   linkage = tt;
   lacks = λ h. tt;
-  reads = probed_reads p n.turn;
+  reads = reads_along {A = A} (loading_at j.path.config (loads.Searching j s)) (reply.Probed p) j.path (IsBehind (way_on j.path) p) n.turn refl (λ m k. k) reads;
   derives = derives_more (IsSoughtHere j.path) (WasAbsent {A = A} (loading_at j.path.config (loads.Searching j s)) (reply.Probed p)) (frames_of j.path) n.stage (λ k e. ap (λ (d : Class). Some d) (sym e)) derives;
   own = tt;
 }
@@ -159,7 +148,7 @@ steps_fault {A = A} told j s f n l posts past = record {
   linkage = tt;
   lacks = λ h. fault_lacks (next_place s) (at_name j.path) f (posts_one (fault_answer (loading_at j.path.config (loads.Searching j s)).waits f) answers.Memory n.turn posts h);
   derives = past_derives (WasAbsent {A = A} (loading_at j.path.config (loads.Searching j s)) (reply.SourceFault f)) (frames_of j.path) n.stage past;
-  reads = posts_reads (reply.SourceFault f) (fault_answer (loading_at j.path.config (loads.Searching j s)).waits f) n.turn posts;
+  reads = posts_reads {A = A} (loading_at j.path.config (loads.Searching j s)) (reply.SourceFault f) (fault_answer (loading_at j.path.config (loads.Searching j s)).waits f) n.turn posts;
   own = tt;
 }
 
@@ -180,7 +169,7 @@ steps_home {A = A} told j h o n for homing l plain derives = record {
   refused = plain_no_fault n.turn plain;
   linkage = tt;
   lacks = λ h. tt;
-  reads = plain_reads (reply.Looked o) n.turn plain;
+  reads = plain_reads {A = A} (loading_at j.path.config (loads.Homing j h)) (reply.Looked o) n.turn plain;
   derives = derives_more (IsUnfound h o) (WasAbsent {A = A} (loading_at j.path.config (loads.Homing j h)) (reply.Looked o)) (frames_of j.path) n.stage (λ k e. home_absent j.path.config j h o homing.sought.name k e) derives;
   own = home_any j.path.config j h o (task_at j.path.config n.stage) n.turn for homing;
 }
@@ -203,7 +192,7 @@ steps_defined {A = A} told c j w row n e whole draft l plain derives = record {
   refused = plain_no_fault n.turn plain;
   linkage = tt;
   lacks = λ h. tt;
-  reads = plain_reads (reply.Defined row) n.turn plain;
+  reads = plain_reads {A = A} (loading_at c (loads.Defining j w)) (reply.Defined row) n.turn plain;
   derives = derives_by IsNone (WasAbsent {A = A} (loading_at c (loads.Defining j w)) (reply.Defined row)) (frames_of j.path ++ frame_of w ∷ []) (frames_of j.path) n.stage (λ k d. inl (derived_first (frames_of j.path) (frame_of w) k d)) (λ k e. absurd e) derives;
   own = tt;
 }
@@ -223,7 +212,7 @@ steps_define_refused {A} told c j w need n e is l plain ends past lacks = record
   refused = plain_no_fault n.turn plain;
   linkage = ends;
   lacks = lacks;
-  reads = plain_reads (reply.Refused need) n.turn plain;
+  reads = plain_reads {A = A} (loading_at c (loads.Defining j w)) (reply.Refused need) n.turn plain;
   derives = past_derives (WasAbsent {A = A} (loading_at c (loads.Defining j w)) (reply.Refused need)) (frames_of j.path ++ frame_of w ∷ []) n.stage past;
   own = tt;
 }
@@ -244,7 +233,7 @@ steps_initiated {A = A} told c j h row n e sought l plain derives = record {
   refused = plain_no_fault n.turn plain;
   linkage = tt;
   lacks = λ h. tt;
-  reads = plain_reads (reply.Initiated row) n.turn plain;
+  reads = plain_reads {A = A} (loading_at c (loads.Initiating j h)) (reply.Initiated row) n.turn plain;
   derives = derives_more IsNone (WasAbsent {A = A} (loading_at c (loads.Initiating j h)) (reply.Initiated row)) (frames_of j.path) n.stage (λ k e. absurd e) derives;
   own = tt;
 }
@@ -264,7 +253,7 @@ steps_initiate_refused {A} told c j h need n e is l plain ends past lacks = reco
   refused = plain_no_fault n.turn plain;
   linkage = ends;
   lacks = lacks;
-  reads = plain_reads (reply.Refused need) n.turn plain;
+  reads = plain_reads {A = A} (loading_at c (loads.Initiating j h)) (reply.Refused need) n.turn plain;
   derives = past_derives (WasAbsent {A = A} (loading_at c (loads.Initiating j h)) (reply.Refused need)) (frames_of j.path) n.stage past;
   own = tt;
 }

@@ -59,7 +59,7 @@ own_steps {A = A} told c e k own n l plain past =
       refused = plain_no_fault n.turn plain;
       linkage = tt;
       lacks = λ h. tt;
-      reads = plain_reads {A = A} (reply.Lineage own) n.turn plain;
+      reads = plain_reads {A = A} (resolving_at c (resolutions.TracingOwn e k)) (reply.Lineage own) n.turn plain;
       derives = past_derives (WasAbsent {A = A} (resolving_at c (resolutions.TracingOwn e k)) (reply.Lineage own)) [] n.stage past;
       own = tt;
     }
@@ -78,7 +78,7 @@ named_steps {A = A} told c e own k named n is l plain past =
       refused = plain_no_fault n.turn plain;
       linkage = tt;
       lacks = λ h. tt;
-      reads = plain_reads {A = A} (reply.Lineage named) n.turn plain;
+      reads = plain_reads {A = A} (resolving_at c (resolutions.TracingNamed e own k)) (reply.Lineage named) n.turn plain;
       derives = past_derives (WasAbsent {A = A} (resolving_at c (resolutions.TracingNamed e own k)) (reply.Lineage named)) [] n.stage past;
       own = tt;
     }
@@ -109,7 +109,7 @@ imposed_steps {A = A} told c m i n lt l plain past =
       refused = plain_no_fault n.turn plain;
       linkage = tt;
       lacks = λ h. tt;
-      reads = plain_reads {A = A} reply.Imposed n.turn plain;
+      reads = plain_reads {A = A} (resolving_at c (resolutions.Imposing m i)) reply.Imposed n.turn plain;
       derives = past_derives (WasAbsent {A = A} (resolving_at c (resolutions.Imposing m i)) reply.Imposed) [] n.stage past;
       own = tt;
     }
@@ -127,7 +127,7 @@ refused_steps {A = A} told c m i need n lt l plain past ends resolves =
       refused = plain_no_fault n.turn plain;
       linkage = ends;
       lacks = λ h. resolves;
-      reads = plain_reads {A = A} (reply.Refused need) n.turn plain;
+      reads = plain_reads {A = A} (resolving_at c (resolutions.Imposing m i)) (reply.Refused need) n.turn plain;
       derives = past_derives (WasAbsent {A = A} (resolving_at c (resolutions.Imposing m i)) (reply.Refused need)) [] n.stage past;
       own = tt;
     }

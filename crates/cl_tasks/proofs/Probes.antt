@@ -1,5 +1,5 @@
 -- A search asks loaders of the configuration alone, and no more of them than there are.
-use Rattle.std.proofs.Common.{◌≡◌, ◌<◌, ◌≤◌, ◌+◌, ◌*◌, ◌-◌, lit<, ℕ, zero, suc, Bool, true, false, List, [], ◌∷◌, ◌++◌, length, Option, Some, None, refl, sym, ap, subst, slice_get, arith, length-append}
+use Rattle.std.proofs.Common.{◌≡◌, ◌<◌, ◌≤◌, ◌+◌, ◌*◌, ◌-◌, lit<, ℕ, zero, suc, Bool, true, false, List, [], ◌∷◌, ◌++◌, length, Option, Some, None, refl, sym, ap, ◌∙◌, subst, slice_get, arith, length-append}
 use Rattle.std.specs.Prelude.{◌==◌, nat_lt, flat_map, option_map, if◌then◌else◌}
 use Rattle.std.specs.List.{AllByRecursion}
 use Rattle.cl_classfile.specs.Files.{Name}
@@ -13,8 +13,13 @@ use Rattle.cl_model.specs.Frames.{Frame}
 use Rattle.cl_tasks.specs.Measures.{loading, most, turns, left_at}
 use Rattle.cl_tasks.specs.Measures as phases
 use Rattle.cl_tasks.specs.Stages.{probes_left}
-use Rattle.cl_tasks.specs.Steps.{reads_on, reads_left}
+use Rattle.cl_tasks.specs.Steps.{IsPlain, ReadsAt, Seeks, reads_on, reads_left, way_on}
 use Rattle.cl_delegation.specs.Routes.{in_turn, route_at, routed, route_below, route_from, route}
+use Rattle.cl_hierarchy.specs.Paths.{Pathed, at_loader, at_name}
+use Rattle.cl_tasks.specs.Turns.{IsBehind}
+use Rattle.cl_tasks.specs.declared.stage.Job.{Job}
+use Rattle.cl_tasks.specs.declared.turn.Turn.{Turn}
+use Rattle.cl_tasks.specs.declared.turn.Turn.TheVariants as turn
 
 -- a way goes through the first so many loaders alone, and is no longer
 record IsShort (n : ℕ) (way : List ℕ) : Type 0 where
@@ -168,3 +173,68 @@ reads_fewer xs s new p l e is = subst (λ (u : Searched). left_at phases.Reading
   where
     above : (a p q : ℕ) → p ≤ q → a + (p + 5) ≤ a + (q + 5)
     above a p q h = omega arith
+
+-- ---- what is read next
+
+none_is : (l : ℕ) → None ≡ Some l → ⊥
+none_is l e = cc
+
+one_more_is : (n : ℕ) → n + 1 ≡ suc n
+one_more_is n = omega arith
+
+-- a turn that reads nothing
+pub reads_none : {A : Type 0} (p : Pathed) (is : ℕ → Type 0) (u : Turn A) → IsPlain u → ReadsAt p is u
+reads_none p is (turn.Look l n) h = tt
+reads_none p is (turn.Read l n) h = absurd h
+reads_none p is (turn.Define d) h = tt
+reads_none p is (turn.Initiate i) h = tt
+reads_none p is (turn.Lineage c) h = tt
+reads_none p is (turn.LookReference c i) h = tt
+reads_none p is (turn.Settle f) h = tt
+reads_none p is (turn.Impose e k) h = tt
+reads_none p is (turn.LookPrepared c) h = tt
+reads_none p is (turn.Mark e) h = tt
+reads_none p is (turn.Post f) h = tt
+
+reads_more_so : {A : Type 0} (p : Pathed) (is so : ℕ → Type 0) (u : Turn A) → ((l : ℕ) → is l → so l) → ReadsAt p is u → ReadsAt p so u
+reads_more_so p is so (turn.Look l n) weaker h = tt
+reads_more_so p is so (turn.Read l n) weaker h = (h.0, weaker l h.1)
+reads_more_so p is so (turn.Define d) weaker h = tt
+reads_more_so p is so (turn.Initiate i) weaker h = tt
+reads_more_so p is so (turn.Lineage c) weaker h = tt
+reads_more_so p is so (turn.LookReference c i) weaker h = tt
+reads_more_so p is so (turn.Settle f) weaker h = tt
+reads_more_so p is so (turn.Impose e k) weaker h = tt
+reads_more_so p is so (turn.LookPrepared c) weaker h = tt
+reads_more_so p is so (turn.Mark e) weaker h = tt
+reads_more_so p is so (turn.Post f) weaker h = tt
+
+-- a search that begins asks the first on its way
+pub reads_first : {A : Type 0} (p : Pathed) (s : Searched) (u : Turn A) → s ≡ begun p.config (at_loader p) (at_name p) → ReadsAt p (λ l. next_of s ≡ Some l) u → ReadsAt p (λ l. slice_get (way_on p) 0 ≡ Some l) u
+reads_first p s u is h = subst (λ (t : Searched). ReadsAt p (λ l. next_of t ≡ Some l) u) is h
+
+-- behind a probe a search asks the next on its way, if that found nothing
+behind : (s : Searched) (p : Found) (l : ℕ) → next_of s ≡ Some p.loader → next_of (with_probe s p) ≡ Some l → IsBehind (route_of s) p l
+behind s p l before e = step p.bytes refl e
+  where
+    step : (o : Option (List ℕ)) → p.bytes ≡ o → next_of (with_bytes s p o) ≡ Some l → IsBehind (route_of s) p l
+    step (Some bytes) is f = absurd (none_is l f)
+    step None is f = record {
+      nothing = is;
+      place = length s.absent;
+      read = on_way (route_of s) (length s.absent) s.found p.loader before;
+      next =
+          subst (λ (n : ℕ). slice_get (route_of s) n ≡ Some l) (length-append s.absent (p ∷ []) ∙ one_more_is (length s.absent))
+          (on_way (route_of s) (length (s.absent ++ p ∷ [])) s.found l f);
+    }
+
+way_is : (p : Pathed) (s : Searched) → s.config ≡ p.config → s.loader ≡ at_loader p → s.name ≡ at_name p → route_of s ≡ way_on p
+way_is p s config loader name =
+    ap (λ (c : Configured). route (loaders_of c) s.loader s.name) config
+    ∙ ap (λ (l : ℕ). route (loaders_of p.config) l s.name) loader
+    ∙ ap (λ (n : Name). route (loaders_of p.config) (at_loader p) n) name
+
+pub reads_behind : {A : Type 0} (j : Job A) (s new : Searched) (p : Found) (u : Turn A) → Seeks j s → next_of s ≡ Some p.loader → new ≡ with_probe s p → ReadsAt j.path (λ l. next_of new ≡ Some l) u → ReadsAt j.path (IsBehind (way_on j.path) p) u
+reads_behind j s new p u seeks before is h =
+    reads_more_so j.path (λ l. next_of new ≡ Some l) (IsBehind (way_on j.path) p) u
+    (λ l e. subst (λ (way : List ℕ). IsBehind way p l) (way_is j.path s seeks.config seeks.loader seeks.name) (behind s p l before (subst (λ (t : Searched). next_of t ≡ Some l) is e))) h

@@ -146,7 +146,7 @@ pub record Turns {A : Type 0} (told : Option Content) (c : Configured) (old : Ta
   pub refused : Refuses (refusal old r) n.turn
   pub linkage : EndsRefused old.request r n.turn
   pub lacks : LacksOnly old.request r n.turn
-  pub reads : ReadsUnrecorded r n.turn
+  pub reads : ReadsUnrecorded old r n.turn
   pub derives : DerivesUnrecorded old (task_at c n.stage) r n.turn
   pub own : AnswersOwn old (task_at c n.stage) r n.turn
 

@@ -42,7 +42,7 @@ IsNoResolution (requests.Load loader name) = Unit {0}
 IsNoResolution (requests.Resolve loader name i) = ⊥
 IsNoResolution (requests.Link loader name) = Unit {0}
 
--- the request's class is looked for once more (own choice)
+-- the request's class is looked for once more
 pub record IsCheck {A : Type 0} (j : Job A) (r : Request) (loader : ℕ) (name : List ℕ) : Type 0 where
   pub own : IsOwnTarget j.target
   pub same : r ≡ j.request

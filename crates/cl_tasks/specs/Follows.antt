@@ -143,14 +143,14 @@ FollowsWhere told c holds r t = (g : Setting) (x : Shown) → ServedIn told c g 
 
 -- ---- faults
 
--- the answer that a refused read is: out of memory, or what was to be read at which loader (own choice)
+-- the answer that a refused read is: out of memory, or what was to be read at which loader
 abbrev pub fault_answer : Waits → SourceFault → Answer
 fault_answer (Reading l n) faults.Device = answers.SourceFault n l
 fault_answer (Reading l n) faults.TooLarge = answers.SourceFault n l
 fault_answer (Reading l n) faults.Twice = answers.SourceFault n l
 fault_answer waits fault = answers.Memory
 
--- the answer that a reply is, where memory or the source was refused (own choice)
+-- the answer that a reply is, where memory or the source was refused
 abbrev pub refusal : {A : Type 0} → Tasked → Reply A → Option Answer
 refusal t reply.Memory = Some answers.Memory
 refusal t (reply.SourceFault fault) = Some (fault_answer t.waits fault)
@@ -180,7 +180,7 @@ IsResolution (requests.Resolve loader name i) = Unit {0}
 IsResolution (requests.Link loader name) = ⊥
 
 -- on this reply a turn may run out of memory: not where it posts what is settled, a fault of the source, or a refused need of
--- a load or a link (own choice)
+-- a load or a link
 abbrev pub MayLack : {A : Type 0} → Option Request → Reply A → Type 0
 MayLack r (reply.LookedReference (Some s)) = ⊥
 MayLack r (reply.Settled s) = ⊥
@@ -188,11 +188,11 @@ MayLack r (reply.Refused n) = IfSome r IsResolution
 MayLack r (reply.SourceFault fault) = fault ≡ faults.Memory
 MayLack r other = Unit {0}
 
--- a turn posts that memory ran out only on such a reply (own choice)
+-- a turn posts that memory ran out only on such a reply
 abbrev pub LacksOnly : {A : Type 0} → Option Request → Reply A → Turn A → Type 0
 LacksOnly r reply t = Posts answers.Memory t → MayLack r reply
 
--- a refusal is posted as its answer, and a fault of the source nowhere else (own choice)
+-- a refusal is posted as its answer, and a fault of the source nowhere else
 abbrev pub Refuses : {A : Type 0} → Option Answer → Turn A → Type 0
 Refuses None t = PostsNoFault t
 Refuses (Some a) t = Posts a t

@@ -1,4 +1,4 @@
--- How many turns a task has left at most (own choice).
+-- How many turns a task has left at most.
 use Rattle.std.specs.Prelude.{ℕ, ◌+◌, ◌*◌, List, []}
 use Rattle.cl_model.specs.Frames.{Frame}
 use Rattle.cl_model.specs.Measures.{left_loading, left_ended}
@@ -11,11 +11,11 @@ most = 18446744073709551616
 unfoldable pub turns : ℕ
 turns = 18446744073709551632
 
--- how much is left of loads under these frames, while one is still to be made (own choice)
+-- how much is left of loads under these frames, while one is still to be made
 abbrev pub loading : List Frame → ℕ
 loading xs = left_loading most most xs
 
--- and once it has ended (own choice)
+-- and once it has ended
 abbrev pub ended : List Frame → ℕ
 ended xs = left_ended most most xs
 
@@ -62,7 +62,7 @@ named_left = most + 4
 abbrev pub reference_left : ℕ
 reference_left = named_left + left_at Fresh [] 0
 
--- where the request's class is looked for once more (own choice)
+-- where the request's class is looked for once more
 abbrev pub checking_left : ℕ
 checking_left = reference_left + 1
 

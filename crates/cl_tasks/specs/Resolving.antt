@@ -73,13 +73,13 @@ pub record IsSame {A : Type 0} (one other : entries.Entry A) : Type 0 where
 abbrev pub IsReply : {A : Type 0} → entries.Entry A → Option (Arc Settled Global) → Type 0
 IsReply e settled = IfSome settled (λ s. IsSettledFor e.request s.value)
 
--- a verdict that is never settled (own choice)
+-- a verdict that is never settled
 abbrev pub IsNoneSettled : verdict.Verdict → Type 0
 IsNoneSettled verdicts.BadEntry = Unit {0}
 IsNoneSettled verdicts.ArrayMember = Unit {0}
 IsNoneSettled other = ⊥
 
--- a verdict that is settled (own choice)
+-- a verdict that is settled
 pub record IsSettledKind (v : verdict.Verdict) : Type 0 where
   pub is_entry : v ≢ verdicts.BadEntry
   pub is_class_member : v ≢ verdicts.ArrayMember

@@ -1,5 +1,5 @@
 -- What a step of a task leads to, and what it rests on (JVMS SE 8, 5.3 to 5.4.3).
-use Rattle.std.specs.Prelude.{◌≡◌, ◌⊎◌, ◌<◌, ◌+◌, ℕ, Option, Some, None, IfSome}
+use Rattle.std.specs.Prelude.{◌≡◌, ◌⊎◌, ◌<◌, ◌+◌, ℕ, List, Option, Some, None, IfSome}
 use Rattle.cl_model.specs.declared.answer.Answer.TheVariants as answers
 use Rattle.cl_model.specs.declared.request.Request.{Request}
 use Rattle.cl_model.specs.declared.verdict.ErrorKind.{ErrorKind}
@@ -19,9 +19,9 @@ use Rattle.cl_tasks.specs.Facts.{AllHave, AreSo, Holds, IsRecordedAs}
 use Rattle.cl_tasks.specs.Follows.{BackedWhere, EndsRefused, FollowsWhere, LacksOnly, NoFault, Refuses, Tells, TellsNow, refusal}
 use Rattle.cl_tasks.specs.Deriving.{Derives}
 use Rattle.cl_tasks.specs.Measures.{Phase, Reading, left_at}
-use Rattle.cl_tasks.specs.Stages.{IsStage, past_left, probes_left, target_facts, task_at}
+use Rattle.cl_tasks.specs.Stages.{IsStage, past_left, probes_left, sought_class, target_facts, task_at}
 use Rattle.cl_tasks.specs.Tasks.{Tasked, begun}
-use Rattle.cl_tasks.specs.Turns.{AnswersOwn, Asks, ReadsUnrecorded, Serves, WasAbsent}
+use Rattle.cl_tasks.specs.Turns.{AnswersOwn, Asks, ReadsUnrecorded, Serves, WasAbsent, way_of}
 use Rattle.cl_tasks.specs.declared.stage.Job.{Job}
 use Rattle.cl_tasks.specs.declared.stage.Load.TheVariants as loads
 use Rattle.cl_tasks.specs.declared.stage.Next.{Next}
@@ -132,11 +132,20 @@ IsPlain (turn.Read l n) = ⊥
 IsPlain (turn.Post f) = NoFault f.answer
 IsPlain other = Unit {0}
 
--- memory ran out (own choice)
+-- the loaders on the way of what is looked for (5.3.2)
+abbrev pub way_on : Pathed → List ℕ
+way_on p = way_of p.config (sought_class p)
+
+-- a turn that reads asks such a loader for what is looked for (5.3.2)
+abbrev pub ReadsAt : {A : Type 0} → Pathed → (ℕ → Type 0) → Turn A → Type 0
+ReadsAt p is (turn.Read l n) = (n ≡ at_name p) × is l
+ReadsAt p is other = Unit {0}
+
+-- memory ran out
 abbrev pub memory_ends : {A : Type 0} → ℕ → Request → Next A
 memory_ends q r = record { stage = stages.Done q; turn = turn.Post (record { request = r; answer = answers.Memory; basis = None }) }
 
--- a class is being recorded, whose frame is kept, or memory ran out (5.3.5, step 5; own choice)
+-- a class is being recorded, whose frame is kept, or memory ran out (5.3.5, step 5)
 abbrev pub DefinesBy : {A : Type 0} → Job A → Framed → Next A → Type 0
 DefinesBy j whole n =
     (n ≡ memory_ends j.q j.request) ⊎ (n ≡ record { stage = stages.Load (loads.Defining j whole); turn = turn.Define whole.draft })
@@ -153,6 +162,6 @@ pub record Steps {A : Type 0} (told : Option Content) (t : Tasked) (reply : Repl
   pub refused : Refuses (refusal t reply) n.turn
   pub linkage : EndsRefused t.request reply n.turn
   pub lacks : LacksOnly t.request reply n.turn
-  pub reads : ReadsUnrecorded reply n.turn
+  pub reads : ReadsUnrecorded t reply n.turn
   pub derives : Derives (WasAbsent t reply) t.frames n.stage
   pub own : AnswersOwn t (task_at t.config n.stage) reply n.turn

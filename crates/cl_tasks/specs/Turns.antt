@@ -1,5 +1,5 @@
 -- What a task asks, and what it may be told (JVMS SE 8, 5.3 to 5.4.3).
-use Rattle.std.specs.Prelude.{◌≡◌, ◌≢◌, ◌⊎◌, ℕ, true, List, [], ◌∷◌, Option, Some, None, slice_get, option_map}
+use Rattle.std.specs.Prelude.{◌≡◌, ◌≢◌, ◌⊎◌, ℕ, suc, true, List, [], ◌∷◌, Option, Some, None, slice_get, option_map}
 use Rattle.cl_model.specs.declared.class.Class.{Class}
 use Rattle.cl_model.specs.declared.request.Request.{Request}
 use Rattle.cl_model.specs.declared.request.Request.TheVariants as requests
@@ -9,7 +9,10 @@ use Rattle.cl_model.specs.declared.verdict.Verdict.TheVariants as verdicts
 use Rattle.cl_model.specs.Frames.{Frame}
 use Rattle.cl_model.specs.States.{Need, Entry}
 use Rattle.cl_model.specs.Views.{need_of}
+use Rattle.cl_config.specs.Loaders.{loaders_of}
 use Rattle.cl_config.specs.Views.{Configured}
+use Rattle.cl_source.specs.Views.{Found}
+use Rattle.cl_delegation.specs.Routes.{route}
 use Rattle.cl_hierarchy.specs.Imposed.{Listed, equal_need}
 use Rattle.cl_findings.specs.Findings.{IsSettledFor, loader_of, name_of}
 use Rattle.cl_tasks.specs.Tasks.{Tasked}
@@ -83,17 +86,6 @@ Serves old new other = new.request ≡ old.request
 
 -- ---- what is looked at first
 
--- a reply that says that a loader has no record, or what a loader has (5.3, 5.3.2)
-abbrev pub MayRead : {A : Type 0} → Reply A → Type 0
-MayRead (reply.Looked None) = Unit {0}
-MayRead (reply.Probed p) = Unit {0}
-MayRead other = ⊥
-
--- a task reads only after it was told that the loader that was asked, and then the home, has no record (5.3)
-abbrev pub ReadsUnrecorded : {A : Type 0} → Reply A → Turn A → Type 0
-ReadsUnrecorded r (turn.Read l n) = MayRead r
-ReadsUnrecorded r other = Unit {0}
-
 -- a class is one of those that are being derived (5.3.5, step 3)
 abbrev pub IsDerived : List Frame → Class → Type 0
 IsDerived [] c = ⊥
@@ -104,9 +96,8 @@ abbrev pub WasAbsent : {A : Type 0} → Tasked → Reply A → Class → Type 0
 WasAbsent t (reply.Looked None) c = (t.absent ≡ Some c) ⊎ (t.waits ≡ Looking c.loader c.name)
 WasAbsent t other c = t.absent ≡ Some c
 
--- a name is read of which the task was told so, and a class is defined that it derives (5.3, 5.3.5)
+-- a class is defined that the task derives (5.3.5)
 abbrev pub AsksDerived : {A : Type 0} → Tasked → Turn A → Type 0
-AsksDerived t (turn.Read l n) = (c : Class) × (t.absent ≡ Some c) × (c.name ≡ n)
 AsksDerived t (turn.Define d) = IsDerived t.frames d.class
 AsksDerived t other = Unit {0}
 
@@ -115,6 +106,28 @@ pub record DerivesUnrecorded {A : Type 0} (old new : Tasked) (r : Reply A) (t : 
   pub absent : (c : Class) → new.absent ≡ Some c → WasAbsent old r c
   pub derived : (c : Class) → IsDerived new.frames c → IsDerived old.frames c ⊎ WasAbsent old r c
   pub asked : AsksDerived new t
+
+-- the loaders on the way of a class: those that are asked for its name where its own loader is asked for it (5.3.2)
+abbrev pub way_of : Configured → Class → List ℕ
+way_of config c = route (loaders_of config) c.loader c.name
+
+-- a loader stands on a way directly behind that of a probe, which found nothing (5.3.2)
+pub record IsBehind (way : List ℕ) (p : Found) (loader : ℕ) : Type 0 where
+  pub nothing : p.bytes ≡ None
+  pub place : ℕ
+  pub read : slice_get way place ≡ Some p.loader
+  pub next : slice_get way (suc place) ≡ Some loader
+
+-- the loader that is read next on a way: the first after a look that found no record, after a read that found nothing the one behind (5.3, 5.3.2)
+abbrev pub IsReadNext : {A : Type 0} → List ℕ → Reply A → ℕ → Type 0
+IsReadNext way (reply.Looked None) loader = slice_get way 0 ≡ Some loader
+IsReadNext way (reply.Probed p) loader = IsBehind way p loader
+IsReadNext way other loader = ⊥
+
+-- a task reads the name of a class of which it was told that its loader has no record: along the way of the class, while each loader lacks it (5.3, 5.3.2)
+abbrev pub ReadsUnrecorded : {A : Type 0} → Tasked → Reply A → Turn A → Type 0
+ReadsUnrecorded t r (turn.Read l n) = (c : Class) × WasAbsent t r c × (c.name ≡ n) × IsReadNext (way_of t.config c) r l
+ReadsUnrecorded t r other = Unit {0}
 
 -- a turn posts this answer, or that memory ran out
 abbrev pub PostsOr : {A : Type 0} → Answer → Turn A → Type 0

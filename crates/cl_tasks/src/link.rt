@@ -2,10 +2,11 @@
 //! then that it is prepared (JVMS SE 8, 5.4, 5.4.2).
 
 ghost use Rattle.std.specs.Option.{option_map};
-ghost use Rattle.std.specs.Prelude.{◌≡◌, ◌<◌, ◌≤◌, ◌+◌, ◌-◌, Some, IfOk, length, slice_get, true};
+ghost use Rattle.std.specs.Prelude.{◌≡◌, ◌<◌, ◌≤◌, ◌+◌, ◌-◌, Some, IfOk, length, slice_get, take, true};
 ghost use Rattle.cl_findings.specs.Bases.{AreLineages};
 ghost use Rattle.cl_hierarchy.specs.Imposed.{AreOf, OfPreparation, needs_of};
 ghost use Rattle.cl_hierarchy.specs.Lineages.{rows_in};
+ghost use Rattle.cl_model.specs.States.{AllMet, State};
 ghost use Rattle.cl_model.specs.Views.{need_of};
 ghost use Rattle.cl_model.specs.declared.answer.Answer.TheVariants as answers;
 ghost use Rattle.cl_model.specs.declared.verdict.Verdict.TheVariants as verdicts;
@@ -44,7 +45,7 @@ pub(crate) fn take_prepared<T: Told>(
     ensures past { IsPast result.stage }
 {
     if prepared {
-        return linked(alloc, config, goal);
+        return post_linked(alloc, config, goal);
     }
     match goal.class.class().try_clone(alloc) {
         Err(_) => out_of_memory(goal.q, goal.request),
@@ -56,7 +57,7 @@ pub(crate) fn take_prepared<T: Told>(
 }
 
 /// The class of a request is prepared, and so all above it.
-fn linked<T: Told>(alloc: Global, config: &Arc<Config>, goal: Goal<T>) -> Next<T>
+fn post_linked<T: Told>(alloc: Global, config: &Arc<Config>, goal: Goal<T>) -> Next<T>
     requires goal { IsGoal config.now.value goal }
     ensures leads { LeadsBy T.told config.now.value goal.q goal.request 1 (DoneTold goal) result }
     ensures own { PostsOr (answers.Said (verdicts.Linked goal.class.value.class)) result.turn }
@@ -208,8 +209,48 @@ pub(crate) fn bring_list<T: Told>(list: &Equalities<T>)
     }
 }
 
-/// Imposes the equality at this place of a list, or marks the class as prepared where none is left.
+/// The first place from this one on whose equality is of two loaders: one of a loader with itself stands from the start
+/// (JVMS SE 8, 5.3.4).
+fn next_of_two<T: Told>(list: &Equalities<T>, place: usize) -> usize
+    requires { place ≤ length list.now.needs }
+    ensures behind { place ≤ result }
+    ensures within { result ≤ length list.now.needs }
+    ensures met { (s : State) → AllMet s (take place (needs_of list.now.needs))
+        → AllMet s (take result (needs_of list.now.needs)) }
+{
+    let needs = list.needs();
+    for at in place..needs.len() {
+        if needs[at].one != needs[at].other {
+            return at;
+        }
+    }
+    needs.len()
+}
+
+/// Imposes the next equality of a list from this place on, or marks the class as prepared where none is left. Those of a
+/// loader with itself are not asked for.
 pub(crate) fn impose<T: Told>(
+    alloc: Global,
+    config: &Arc<Config>,
+    chain: Chain<T>,
+    list: Arc<Equalities<T>>,
+    place: usize,
+) -> Next<T>
+    requires chain { IsChain config.now.value chain }
+    requires list { IsAtPlace chain list.value }
+    requires within { place ≤ length list.value.needs }
+    ensures leads { LeadsBy T.told config.now.value chain.goal.q chain.goal.request
+        (linking_left (behind chain - 1) (length list.value.needs - place) + 1)
+        (ListTold chain list.value place) result }
+    ensures plain { IsPlain result.turn }
+    ensures past { IsPast result.stage }
+{
+    let next = next_of_two(&list, place);
+    impose_at(alloc, config, chain, list, next)
+}
+
+/// Imposes the equality at this place of a list, or marks the class as prepared where none is left.
+fn impose_at<T: Told>(
     alloc: Global,
     config: &Arc<Config>,
     chain: Chain<T>,
@@ -254,7 +295,7 @@ pub(crate) fn take_marked<T: Told>(alloc: Global, config: &Arc<Config>, chain: C
 {
     let Chain { goal, whole, place } = chain;
     if place >= count_rows(&whole) {
-        return linked(alloc, config, goal);
+        return post_linked(alloc, config, goal);
     }
     trace(
         alloc,

@@ -18,7 +18,7 @@ use std::alloc::Global;
 use std::sync::Arc;
 
 /// Whether the request's class is prepared was looked up.
-pub(crate) fn looked_prepared<T: Told>(
+pub(crate) fn after_prepared_look<T: Told>(
     alloc: Global,
     config: &Arc<Config>,
     goal: Goal<T>,
@@ -36,7 +36,7 @@ pub(crate) fn looked_prepared<T: Told>(
 }
 
 /// The lineage of the request's class was asked for.
-pub(crate) fn traced_whole<T: Told>(
+pub(crate) fn after_whole_lineage<T: Told>(
     alloc: Global,
     config: &Arc<Config>,
     goal: Goal<T>,
@@ -54,7 +54,7 @@ pub(crate) fn traced_whole<T: Told>(
 }
 
 /// The lineage of a class of it was asked for.
-pub(crate) fn traced<T: Told>(
+pub(crate) fn after_lineage<T: Told>(
     alloc: Global,
     config: &Arc<Config>,
     chain: Chain<T>,
@@ -72,7 +72,7 @@ pub(crate) fn traced<T: Told>(
 }
 
 /// An equality of a preparation was to be imposed.
-pub(crate) fn imposed<T: Told>(
+pub(crate) fn after_impose<T: Told>(
     alloc: Global,
     config: &Arc<Config>,
     chain: Chain<T>,
@@ -99,7 +99,7 @@ pub(crate) fn imposed<T: Told>(
 }
 
 /// A class was to be prepared.
-pub(crate) fn marked<T: Told>(
+pub(crate) fn after_mark<T: Told>(
     alloc: Global,
     config: &Arc<Config>,
     chain: Chain<T>,

@@ -36,7 +36,7 @@ pub(crate) fn begin<T: Told>(alloc: Global, job: Job<T>, reply: Reply<T>) -> Nex
 }
 
 /// What is looked for was looked up where it is asked for.
-pub(crate) fn looked<T: Told>(
+pub(crate) fn after_look<T: Told>(
     alloc: Global,
     config: &Arc<Config>,
     job: Job<T>,
@@ -59,7 +59,7 @@ pub(crate) fn looked<T: Told>(
 }
 
 /// A loader of the search was read.
-pub(crate) fn probed<T: Told>(
+pub(crate) fn after_read<T: Told>(
     alloc: Global,
     job: Job<T>,
     search: Search<T>,
@@ -79,7 +79,7 @@ pub(crate) fn probed<T: Told>(
 }
 
 /// What is looked for was looked up at its home.
-pub(crate) fn looked_home<T: Told>(
+pub(crate) fn after_home_look<T: Told>(
     alloc: Global,
     job: Job<T>,
     home: Home<T>,
@@ -98,7 +98,7 @@ pub(crate) fn looked_home<T: Told>(
 }
 
 /// A class was to be recorded.
-pub(crate) fn defined<T: Told>(
+pub(crate) fn after_define<T: Told>(
     alloc: Global,
     config: &Arc<Config>,
     job: Job<T>,
@@ -121,7 +121,7 @@ pub(crate) fn defined<T: Told>(
 }
 
 /// The loader that was asked was to be recorded.
-pub(crate) fn initiated<T: Told>(
+pub(crate) fn after_initiate<T: Told>(
     alloc: Global,
     config: &Arc<Config>,
     job: Job<T>,

@@ -218,7 +218,7 @@ fn equalities_of<T: Told>(alloc: Global, found: &Found<T>) -> Result<Arc<Equalit
     Arc::new(alloc, equalities).map_err(|_| AllocError)
 }
 
-/// The error of a lookup that found nothing; want of memory is none.
+/// The error of a lookup that found nothing; out of memory is none.
 fn error_of(alloc: Global, class: &Class, fault: LookupFault) -> Result<Verdict, AllocError>
     ensures { IfOk result (λ v. fault_verdict class.now fault ≡ Some v) }
 {

@@ -20,7 +20,7 @@ use std::alloc::Global;
 use std::sync::Arc;
 
 /// The request's class, which cannot be loaded, was looked for once more.
-pub(crate) fn checked<T: Told>(
+pub(crate) fn after_check<T: Told>(
     alloc: Global,
     config: &Arc<Config>,
     failed: Failed<T>,
@@ -32,15 +32,15 @@ pub(crate) fn checked<T: Told>(
         result }
 {
     match reply {
-        Reply::Looked(Some(row)) => found_again(alloc, config, failed, row),
-        Reply::Looked(None) => missed_again(config, failed),
-        Reply::Memory => unchecked(failed),
+        Reply::Looked(Some(row)) => reach_again(alloc, config, failed, row),
+        Reply::Looked(None) => post_failure(config, failed),
+        Reply::Memory => give_up_check(failed),
         _ => unreachable!(),
     }
 }
 
 /// The request's class is recorded by now.
-fn found_again<T: Told>(
+fn reach_again<T: Told>(
     alloc: Global,
     config: &Arc<Config>,
     failed: Failed<T>,
@@ -65,14 +65,14 @@ fn found_again<T: Told>(
 }
 
 /// The request's class is not recorded, so that the failure of its load is the answer.
-fn missed_again<T: Told>(config: &Arc<Config>, failed: Failed<T>) -> Next<T>
+fn post_failure<T: Told>(config: &Arc<Config>, failed: Failed<T>) -> Next<T>
     requires failed { IsFailed T.told config.now.value failed }
     ensures { Steps T.told (resolving_at config.now.value (Resolution.Checking failed))
         (Reply.Looked None) result }
 {
     // no load ends in a verdict that names another configuration's loader
     if !failed.finding.is_within(config) {
-        return unchecked(failed);
+        return give_up_check(failed);
     }
     let Failed {
         q,
@@ -86,7 +86,7 @@ fn missed_again<T: Told>(config: &Arc<Config>, failed: Failed<T>) -> Next<T>
 }
 
 /// Memory ran out before the answer that waits.
-fn unchecked<T: Told>(failed: Failed<T>) -> Next<T>
+fn give_up_check<T: Told>(failed: Failed<T>) -> Next<T>
     ensures { result ≡ memory_ends failed.q failed.request }
 {
     let Failed {
@@ -99,7 +99,7 @@ fn unchecked<T: Told>(failed: Failed<T>) -> Next<T>
 }
 
 /// The entry of the request was looked up.
-pub(crate) fn looked_reference<T: Told>(
+pub(crate) fn after_reference_look<T: Told>(
     alloc: Global,
     config: &Arc<Config>,
     entry: Entry<T>,
@@ -119,7 +119,7 @@ pub(crate) fn looked_reference<T: Told>(
 }
 
 /// The lineage of the class whose pool has the entry was asked for.
-pub(crate) fn traced_own<T: Told>(
+pub(crate) fn after_own_lineage<T: Told>(
     alloc: Global,
     config: &Arc<Config>,
     entry: Entry<T>,
@@ -140,7 +140,7 @@ pub(crate) fn traced_own<T: Told>(
 }
 
 /// The lineage of the class that the entry names was asked for.
-pub(crate) fn traced_named<T: Told>(
+pub(crate) fn after_named_lineage<T: Told>(
     alloc: Global,
     config: &Arc<Config>,
     entry: Entry<T>,
@@ -163,7 +163,7 @@ pub(crate) fn traced_named<T: Told>(
 }
 
 /// An equality of a member was to be imposed.
-pub(crate) fn imposed<T: Told>(
+pub(crate) fn after_impose<T: Told>(
     alloc: Global,
     config: &Arc<Config>,
     member: Member<T>,
@@ -188,7 +188,11 @@ pub(crate) fn imposed<T: Told>(
 }
 
 /// The entry was to be settled.
-pub(crate) fn settled<T: Told>(config: &Arc<Config>, entry: Entry<T>, reply: Reply<T>) -> Next<T>
+pub(crate) fn after_settle<T: Told>(
+    config: &Arc<Config>,
+    entry: Entry<T>,
+    reply: Reply<T>,
+) -> Next<T>
     requires entry { IsEntry config.now.value entry }
     requires expects { Expects (resolving_at config.now.value (Resolution.Settling entry)) reply }
     ensures { Steps T.told (resolving_at config.now.value (Resolution.Settling entry)) reply

@@ -1,6 +1,6 @@
 //! From a look that found no record to a home.
 
-ghost use Rattle.std.specs.Prelude.{◌≡◌, ◌<◌, Some, length, IfOk};
+ghost use Rattle.std.specs.Prelude.{◌≡◌, ◌<◌, Some, length, slice_get, IfOk};
 ghost use Rattle.cl_delegation.specs.Searches.{begun, next_of};
 ghost use Rattle.cl_findings.specs.Loads.{IsSought};
 ghost use Rattle.cl_hierarchy.specs.Paths.{at_loader, at_name, frames_of};
@@ -8,7 +8,8 @@ ghost use Rattle.cl_tasks.specs.Deriving.{Derives, IsSoughtHere, IsUnfound};
 ghost use Rattle.cl_tasks.specs.Follows.{PostsNoFault};
 ghost use Rattle.cl_tasks.specs.Measures.{Looking, Reading, Homing};
 ghost use Rattle.cl_tasks.specs.Stages.{IsJob, IsHoming, probes_left};
-ghost use Rattle.cl_tasks.specs.Steps.{FindsHome, HoldsOn, IsPlain, LeadsAt, ReadsOn, Seeks, reads_left};
+ghost use Rattle.cl_tasks.specs.Steps.{FindsHome, HoldsOn, IsPlain, LeadsAt, ReadsAt, ReadsOn, Seeks, reads_left, way_on};
+ghost use Rattle.cl_tasks.specs.Turns.{IsBehind};
 
 use crate::accept::{derive, initiate};
 use crate::ends::obstacle;
@@ -29,6 +30,7 @@ pub(crate) fn begin_search<T: Told>(alloc: Global, job: Job<T>) -> Next<T>
     ensures leads { LeadsAt T.told Looking job (HoldsOn job) result }
     ensures no_fault { PostsNoFault result.turn }
     ensures derives { Derives (IsSoughtHere job.path) (frames_of job.path) result.stage }
+    ensures reads { ReadsAt job.path (λ l. slice_get (way_on job.path) 0 ≡ Some l) result.turn }
 {
     // brings that there are few loaders
     let _ = job.path.config().count();
@@ -63,6 +65,7 @@ pub(crate) fn take_probe<T: Told>(
     ensures leads { ReadsOn T.told (probes_left search) job (HoldsOn job) result }
     ensures no_fault { PostsNoFault result.turn }
     ensures derives { Derives (IsSoughtHere job.path) (frames_of job.path) result.stage }
+    ensures reads { ReadsAt job.path (IsBehind (way_on job.path) probe) result.turn }
 {
     let mut search = search;
     match search.take(probe) {
@@ -78,6 +81,7 @@ fn pursue<T: Told>(alloc: Global, job: Job<T>, search: Search<T>) -> Next<T>
     ensures leads { ReadsOn T.told (reads_left search) job (HoldsOn job) result }
     ensures no_fault { PostsNoFault result.turn }
     ensures derives { Derives (IsSoughtHere job.path) (frames_of job.path) result.stage }
+    ensures reads { ReadsAt job.path (λ l. next_of search ≡ Some l) result.turn }
 {
     match search.next_probe() {
         None => match search.home() {

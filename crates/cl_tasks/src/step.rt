@@ -6,10 +6,16 @@ ghost use Rattle.cl_tasks.specs.Stages.{IsLinking, IsLoading, IsResolving, IsSta
 ghost use Rattle.cl_tasks.specs.Steps.{Steps};
 ghost use Rattle.cl_tasks.specs.Turns.{Expects};
 
-use crate::link_replies::{imposed as imposed_link, looked_prepared, marked, traced, traced_whole};
-use crate::load_replies::{begin, defined, initiated, looked, looked_home, probed};
+use crate::link_replies::{
+    after_impose as after_link_impose, after_lineage, after_mark, after_prepared_look,
+    after_whole_lineage,
+};
+use crate::load_replies::{
+    after_define, after_home_look, after_initiate, after_look, after_read, begin,
+};
 use crate::resolution_replies::{
-    checked, imposed, looked_reference, settled, traced_named, traced_own,
+    after_check, after_impose, after_named_lineage, after_own_lineage, after_reference_look,
+    after_settle,
 };
 use crate::stage::{Link, Load, Next, Resolution, Stage};
 use crate::turn::Reply;
@@ -99,11 +105,11 @@ fn step_of_load<T: Told>(
 {
     match load {
         Load::Fresh(job) => begin(alloc, job, reply),
-        Load::Looking(job) => looked(alloc, config, job, reply),
-        Load::Searching(job, search) => probed(alloc, job, search, reply),
-        Load::Homing(job, home) => looked_home(alloc, job, home, reply),
-        Load::Defining(job, whole) => defined(alloc, config, job, whole, reply),
-        Load::Initiating(job, home) => initiated(alloc, config, job, home, reply),
+        Load::Looking(job) => after_look(alloc, config, job, reply),
+        Load::Searching(job, search) => after_read(alloc, job, search, reply),
+        Load::Homing(job, home) => after_home_look(alloc, job, home, reply),
+        Load::Defining(job, whole) => after_define(alloc, config, job, whole, reply),
+        Load::Initiating(job, home) => after_initiate(alloc, config, job, home, reply),
     }
 }
 
@@ -118,14 +124,16 @@ fn step_of_resolution<T: Told>(
     ensures { Steps T.told (resolving_at config.now.value resolution) reply result }
 {
     match resolution {
-        Resolution::Checking(failed) => checked(alloc, config, failed, reply),
-        Resolution::LookingReference(entry) => looked_reference(alloc, config, entry, reply),
-        Resolution::TracingOwn(entry, named) => traced_own(alloc, config, entry, named, reply),
+        Resolution::Checking(failed) => after_check(alloc, config, failed, reply),
+        Resolution::LookingReference(entry) => after_reference_look(alloc, config, entry, reply),
+        Resolution::TracingOwn(entry, named) => after_own_lineage(
+            alloc, config, entry, named, reply,
+        ),
         Resolution::TracingNamed(entry, own, named) => {
-            traced_named(alloc, config, entry, own, named, reply)
+            after_named_lineage(alloc, config, entry, own, named, reply)
         }
-        Resolution::Imposing(member, place) => imposed(alloc, config, member, place, reply),
-        Resolution::Settling(entry) => settled(config, entry, reply),
+        Resolution::Imposing(member, place) => after_impose(alloc, config, member, place, reply),
+        Resolution::Settling(entry) => after_settle(config, entry, reply),
     }
 }
 
@@ -140,12 +148,12 @@ fn step_of_link<T: Told>(
     ensures { Steps T.told (linking_at config.now.value link) reply result }
 {
     match link {
-        Link::LookingPrepared(goal) => looked_prepared(alloc, config, goal, reply),
-        Link::TracingWhole(goal) => traced_whole(alloc, config, goal, reply),
-        Link::Tracing(chain) => traced(alloc, config, chain, reply),
+        Link::LookingPrepared(goal) => after_prepared_look(alloc, config, goal, reply),
+        Link::TracingWhole(goal) => after_whole_lineage(alloc, config, goal, reply),
+        Link::Tracing(chain) => after_lineage(alloc, config, chain, reply),
         Link::Imposing(chain, list, place) => {
-            imposed_link(alloc, config, chain, list, place, reply)
+            after_link_impose(alloc, config, chain, list, place, reply)
         }
-        Link::Marking(chain, list) => marked(alloc, config, chain, list, reply),
+        Link::Marking(chain, list) => after_mark(alloc, config, chain, list, reply),
     }
 }

@@ -109,7 +109,7 @@ impl<T: Told> Task<T> {
         ensures refused { Refuses (refusal self.old reply) result }
         ensures linkage { EndsRefused self.old.request reply result }
         ensures lacks { LacksOnly self.old.request reply result }
-        ensures reads { ReadsUnrecorded reply result }
+        ensures reads { ReadsUnrecorded self.old reply result }
         ensures derives { DerivesUnrecorded self.old self.new reply result }
         ensures own { AnswersOwn self.old self.new reply result }
     {

@@ -1,23 +1,14 @@
-use Rattle.std.proofs.Common.{◌≡◌, length, refl, arith}
-use Rattle.cl_tasks.proofs.LinkLeads.{IsKnown, impose_leads, mark_leads}
+use Rattle.std.proofs.Common.{◌-◌, ◌+◌, length}
+use Rattle.cl_tasks.specs.Linking.{ListTold}
+use Rattle.cl_tasks.specs.Measures.{chain_left, linking_left}
+use Rattle.cl_tasks.specs.Stages.{behind}
+use Rattle.cl_tasks.proofs.Lead.{leads_by}
+use Rattle.cl_tasks.proofs.LinkLeads.{skipped_room, skipped_told}
 use Rattle.cl_tasks.proofs.link.impose.Goals as goal
 
-pub returns-then-place-count_needs-clause-leads : goal.returns-then-place-count_needs-clause-leads
-returns-then-place-count_needs-clause-leads g c =
-    let kept = rw c.deref.ensures at c.class.ensures.kept in
-    let of = rw c.deref-2.ensures at c.bring_list.ensures.kept in
-    let lin = rw c.deref-2.ensures at c.bring_list.ensures.lineages in
-    let known : IsKnown g.T.Told.told c.args.chain c.args.list.value = record { place = c.requires.list; order = kept.order; whole = kept.lineage; lineages = lin; are = of } in
-    let lt = rw (c.count_needs.ensures, c.deref-3.ensures) at c.if-place-count_needs.true in
-    impose_leads g.T.Told.told c.args.config.now.value c.args.chain c.args.list.value c.requires.chain known c.args.place c.args.list c.in-Ok.shared refl c.in-Ok.ensures lt
-
-pub returns-else-place-count_needs-clause-leads : goal.returns-else-place-count_needs-clause-leads
-returns-else-place-count_needs-clause-leads g c =
-    let kept = rw c.deref.ensures at c.class.ensures.kept in
-    let of = rw c.deref-2.ensures at c.bring_list.ensures.kept in
-    let lin = rw c.deref-2.ensures at c.bring_list.ensures.lineages in
-    let known : IsKnown g.T.Told.told c.args.chain c.args.list.value = record { place = c.requires.list; order = kept.order; whole = kept.lineage; lineages = lin; are = of } in
-    let lt = rw (c.count_needs.ensures, c.deref-3.ensures) at c.if-place-count_needs.false in
-    let le = c.requires.within in
-    let all : c.args.place ≡ length c.args.list.value.needs = omega (arith, lt, le) in
-    mark_leads g.T.Told.told c.args.config.now.value c.args.chain c.args.list.value c.requires.chain known c.args.place c.args.list c.in-Ok.shared refl c.in-Ok.ensures all
+pub returns-clause-leads : goal.returns-clause-leads
+returns-clause-leads g c =
+    let many = length c.args.list.value.needs in
+    leads_by (linking_left (behind c.args.chain - 1) (many - c.args.place) + 1) (ListTold c.args.chain c.args.list.value c.args.place) c.impose_at.ensures.leads
+    (skipped_room (chain_left (behind c.args.chain - 1)) many c.args.place c.next_of_two-next.result c.next_of_two-next.ensures.behind)
+    (λ x h. skipped_told x c.args.chain c.args.list.value c.args.place c.next_of_two-next.result c.requires.list (rw c.deref.ensures at c.next_of_two-next.ensures.met) h)

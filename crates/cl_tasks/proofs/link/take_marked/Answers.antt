@@ -10,7 +10,7 @@ use Rattle.cl_tasks.proofs.link.take_marked.Goals as goal
 pub returns-then-place-count_rows-clause-leads : goal.returns-then-place-count_rows-clause-leads
 returns-then-place-count_rows-clause-leads g c =
     let le = rw (c.count_rows.ensures, c.deref.ensures) at c.if-place-count_rows.true in
-    leads_by (linking_left (behind c.args.chain - 1) 0) (MarkedTold c.args.chain) c.linked.ensures.leads (one_room (chain_left (behind c.args.chain - 1)) 0)
+    leads_by (linking_left (behind c.args.chain - 1) 0) (MarkedTold c.args.chain) c.post_linked.ensures.leads (one_room (chain_left (behind c.args.chain - 1)) 0)
     (λ x h. last_told c.args.config.now.value x c.args.chain c.requires.chain le h)
 
 pub returns-clause-leads : goal.returns-clause-leads

@@ -7,7 +7,7 @@ use Rattle.cl_tasks.specs.Stages.{past_left}
 use Rattle.cl_tasks.specs.Steps.{HoldsOn, reads_left, room_at}
 use Rattle.cl_tasks.proofs.Lead.{leads_by}
 use Rattle.cl_tasks.proofs.Onward.{more_room}
-use Rattle.cl_tasks.proofs.Probes.{begins_less}
+use Rattle.cl_tasks.proofs.Probes.{begins_less, reads_first}
 use Rattle.cl_tasks.proofs.search.begin_search.Goals as goal
 
 pub returns-in-Ok-clause-leads : goal.returns-in-Ok-clause-leads
@@ -17,3 +17,6 @@ returns-in-Ok-clause-leads g c =
     (more_room (past_left c.args.job.target) (left_at phases.Reading (frames_of p) (reads_left c.in-Ok.search)) (left_at phases.Looking (frames_of p) 0)
     (begins_less (frames_of p) p.config _ _ c.in-Ok.search c.in-Ok.ensures c.requires.job.loader (subst (λ (k : Configured). length k.loaders ≤ 64) (c.deref.ensures ∙ c.config.ensures.config) c.count.ensures.config.few)))
     (λ x h. h)
+
+pub returns-in-Ok-clause-reads : goal.returns-in-Ok-clause-reads
+returns-in-Ok-clause-reads g c = reads_first c.args.job.path c.in-Ok.search c.pursue.result.turn c.in-Ok.ensures c.pursue.ensures.reads

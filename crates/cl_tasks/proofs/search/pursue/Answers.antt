@@ -1,7 +1,9 @@
-use Rattle.std.proofs.Common.{arith}
+use Rattle.std.proofs.Common.{◌≡◌, Some, arith}
+use Rattle.cl_delegation.specs.Searches.{next_of}
 use Rattle.cl_tasks.specs.Measures as phases
 use Rattle.cl_tasks.specs.Steps.{HoldsOn, reads_left, room_at}
 use Rattle.cl_tasks.proofs.Lead.{leads_by}
+use Rattle.cl_tasks.proofs.Probes.{reads_none}
 use Rattle.cl_hierarchy.specs.Paths.{frames_of}
 use Rattle.cl_tasks.specs.Deriving.{IsSoughtHere}
 use Rattle.cl_tasks.proofs.Deriving.{past_derives}
@@ -12,3 +14,9 @@ returns-in-Err-clause-leads g c = leads_by (room_at phases.Reading c.args.job (r
 
 pub returns-in-Err-clause-derives : goal.returns-in-Err-clause-derives
 returns-in-Err-clause-derives g c = past_derives (IsSoughtHere c.args.job.path) (frames_of c.args.job.path) c.obstacle.result.stage c.obstacle.ensures.past
+
+pub returns-in-Err-clause-reads : goal.returns-in-Err-clause-reads
+returns-in-Err-clause-reads g c = reads_none c.args.job.path (λ l. next_of c.args.search ≡ Some l) c.obstacle.result.turn c.obstacle.ensures.plain
+
+pub returns-in-Ok-clause-reads : goal.returns-in-Ok-clause-reads
+returns-in-Ok-clause-reads g c = reads_none c.args.job.path (λ l. next_of c.args.search ≡ Some l) c.at_home.result.turn c.at_home.ensures.plain

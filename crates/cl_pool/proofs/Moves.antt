@@ -10,6 +10,7 @@ use Rattle.atomic_table.proofs.Lists.{at_set, at_snoc, set_again}
 use Rattle.cl_pool.specs.declared.hand.Hand.{Hand}
 use Rattle.cl_pool.specs.declared.hand.Bounds.{Bounds}
 use Rattle.cl_pool.specs.Numbers.{times, past, once_below, HasEachBelow, AllBelow, new_hand, one_split_less, with_number, both, spent, IsFair, IsShared, DrawsNumber, LooksAt, Drawn, PlaysDraw, PlaysLook}
+use Rattle.cl_pool.specs.declared.limits.TheConstants.{MOST_WORKERS}
 
 -- a total after one view has changed
 total_set : (f : Hand → ℕ) (views : List Hand) (id : ℕ) (v w : Hand) → get_elem? views id ≡ some v → sum_by f (set views id w) + f v ≡ sum_by f views + f w
@@ -170,7 +171,7 @@ may_again v w n requests drew is below may =
 
 module _ {S : Type 0} where
   -- drawing a number keeps the rule
-  pub draws : (k : Bounds) (slots id : ℕ) (me : Me S Hand) (st : Step S) → k.requests < 2 ^ 32 → k.workers ≤ 64 → me.0.of ≡ k → past k.requests me.0.drawn < me.0.parts
+  pub draws : (k : Bounds) (slots id : ℕ) (me : Me S Hand) (st : Step S) → k.requests < 2 ^ 32 → k.workers ≤ MOST_WORKERS → me.0.of ≡ k → past k.requests me.0.drawn < me.0.parts
       → Allows (Drawn {S = S} k) slots id me 0 (λ n. (n + 1) % 2 ^ 64) (PlaysDraw st me)
   draws k slots id me st small few of may s h len at fits =
       let v = me.0 in

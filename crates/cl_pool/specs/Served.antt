@@ -11,6 +11,7 @@ use Rattle.cl_schedule.specs.Headline.{EachSpelt, Alike, ReferencesAlike, Circle
 use Rattle.cl_pool.specs.Numbers.{HasEachBelow}
 use Rattle.cl_pool.specs.declared.fault.PoolFault.{PoolFault}
 use Rattle.cl_pool.specs.declared.fault.PoolFault.TheVariants as faults
+use Rattle.cl_pool.specs.declared.limits.TheConstants.{MOST_WORKERS}
 
 -- the report of a script that was served by threads under a configuration. Where a content is told, the history is a run of the
 -- linkage machine over it, in which each request is answered once, in its round, with what its plan yields in the state at that
@@ -29,10 +30,10 @@ pub record IsServed (told : Option Content) (config : Configured) (script : Scri
   pub references : ReferencesAlike told (reported config r)
   pub circles : CirclesExact told (reported config r)
 
--- so many workers may serve (own choice)
+-- so many workers may serve
 pub record MayServe (workers : ℕ) : Type 0 where
   pub least : 1 ≤ workers
-  pub most : workers ≤ 64
+  pub most : workers ≤ MOST_WORKERS
 
 -- a registry that serves this configuration and script, in which a request has no answer
 pub record IsUnanswered (config : Configured) (script : Scripted) (x : Shown) : Type 0 where
@@ -41,7 +42,7 @@ pub record IsUnanswered (config : Configured) (script : Scripted) (x : Shown) : 
   pub request : ℕ
   pub unanswered : IsOpen x request
 
--- why workers that were started made no report: one met a stray, or a request has no answer (own choice)
+-- why workers that were started made no report: one met a stray, or a request has no answer
 abbrev pub FailsAs : {A : Type 0} → Configured → Scripted → PoolFault A → Type 0
 FailsAs config script faults.Memory = ⊥
 FailsAs config script faults.Workers = ⊥
@@ -49,7 +50,7 @@ FailsAs config script faults.NoThread = ⊥
 FailsAs config script faults.Stray = Unit {0}
 FailsAs config script (faults.Unanswered x) = IsUnanswered config script x
 
--- why there is no report: the workers are blamed where there are none or more than 64, and nowhere else (own choice)
+-- why there is no report: the workers are blamed where there are none or too many, and nowhere else
 abbrev pub RefusedFor : {A : Type 0} → ℕ → Configured → Scripted → PoolFault A → Type 0
 RefusedFor workers config script faults.Memory = MayServe workers
 RefusedFor workers config script faults.Workers = MayServe workers → ⊥

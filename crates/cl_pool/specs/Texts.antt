@@ -3,7 +3,7 @@ use Rattle.std.specs.Prelude.{List, ℕ, codes}
 use Rattle.cl_pool.specs.declared.fault.PoolFault.{PoolFault}
 use Rattle.cl_pool.specs.declared.fault.PoolFault.TheVariants.{Memory, Workers, NoThread, Stray, Unanswered}
 
--- the text of why there is no report (own choice)
+-- the text of why there is no report
 abbrev pub pool_text : {A : Type 0} → PoolFault A → List ℕ
 pool_text Memory = codes "V0 Memory"
 pool_text Workers = codes "V1 Workers"

@@ -1,6 +1,6 @@
 //! What the registry is asked under the lock, and what a task is told of it.
 
-ghost use Rattle.std.specs.Prelude.{◌≡◌, MatchOption};
+ghost use Rattle.std.specs.Prelude.{◌≡◌, MatchOption, Some};
 ghost use Rattle.cl_model.specs.States.{IsRecorded};
 ghost use Rattle.cl_registry.specs.Imposing.{MayImpose, MayMark};
 ghost use Rattle.cl_registry.specs.Settling.{MaySettle};
@@ -55,7 +55,7 @@ fn look_prepared<T: Told>(registry: &Registry<T>, class: &Class) -> Reply<T>
 }
 
 /// The reply that a refusal is; none, where the value was a stray.
-fn refused<T: Told>(fault: RegistryFault) -> Option<Reply<T>>
+fn reply_of<T: Told>(fault: RegistryFault) -> Option<Reply<T>>
     ensures { result ≡ reply_of fault }
 {
     match fault {
@@ -70,11 +70,12 @@ fn define<T: Told>(alloc: Global, registry: &mut Registry<T>, draft: Draft<T>) -
     ensures replied { MatchOption result (MayEnter registry.old draft → ⊥)
         (λ r. IsReplied registry.new (Defining draft) r) }
     ensures did { Did registry.old registry.new (DefinesBy draft) }
+    ensures untold { result ≡ Some Reply.Memory → registry.new ≡ registry.old }
     ensures kept { IsKept T.told registry.new }
 {
     match registry.define(alloc, draft) {
         Ok(row) => Some(Reply::Defined(row)),
-        Err(e) => refused(e.fault),
+        Err(e) => reply_of(e.fault),
     }
 }
 
@@ -87,11 +88,12 @@ fn initiate<T: Told>(
     ensures replied { MatchOption result (MayJoin registry.old home.value → ⊥)
         (λ r. IsReplied registry.new (Initiating home.value) r) }
     ensures did { Did registry.old registry.new (InitiatesBy home.value) }
+    ensures untold { result ≡ Some Reply.Memory → registry.new ≡ registry.old }
     ensures kept { IsKept T.told registry.new }
 {
     match registry.initiate(alloc, &home) {
         Ok(row) => Some(Reply::Initiated(row)),
-        Err(fault) => refused(fault),
+        Err(fault) => reply_of(fault),
     }
 }
 
@@ -102,7 +104,7 @@ fn lineage<T: Told>(alloc: Global, registry: &Registry<T>, class: &Class) -> Opt
 {
     match registry.lineage(alloc, class) {
         Ok(lineage) => Some(Reply::Lineage(lineage)),
-        Err(fault) => refused(fault),
+        Err(fault) => reply_of(fault),
     }
 }
 
@@ -115,13 +117,14 @@ fn settle<T: Told>(
     ensures replied { MatchOption result (MaySettle registry.old finding → ⊥)
         (λ r. IsReplied registry.new (Settling finding.request) r) }
     ensures did { Did registry.old registry.new (SettlesBy registry.old finding) }
+    ensures untold { result ≡ Some Reply.Memory → registry.new ≡ registry.old }
     ensures kept { IsKept T.told registry.new }
 {
     let told = registry.settle(alloc, &finding);
     drop(finding);
     match told {
         Ok(settled) => Some(Reply::Settled(settled)),
-        Err(fault) => refused(fault),
+        Err(fault) => reply_of(fault),
     }
 }
 
@@ -135,11 +138,12 @@ fn impose<T: Told>(
     ensures replied { MatchOption result (MayImpose registry.old list.value place → ⊥)
         (λ r. IsReplied registry.new (Imposing list.value place) r) }
     ensures did { Did registry.old registry.new (ImposesBy list.value place) }
+    ensures untold { result ≡ Some Reply.Memory → registry.new ≡ registry.old }
     ensures kept { IsKept T.told registry.new }
 {
     match registry.impose(alloc, &list, place) {
         Ok(()) => Some(Reply::Imposed),
-        Err(fault) => refused(fault),
+        Err(fault) => reply_of(fault),
     }
 }
 
@@ -152,11 +156,12 @@ fn mark<T: Told>(
     ensures replied { MatchOption result (MayMark registry.old list.value → ⊥)
         (λ r. IsReplied registry.new (Marking list.value) r) }
     ensures did { Did registry.old registry.new (PreparesBy list.value.origin) }
+    ensures untold { result ≡ Some Reply.Memory → registry.new ≡ registry.old }
     ensures kept { IsKept T.told registry.new }
 {
     match registry.mark_prepared(alloc, &list) {
         Ok(()) => Some(Reply::Marked),
-        Err(fault) => refused(fault),
+        Err(fault) => reply_of(fault),
     }
 }
 

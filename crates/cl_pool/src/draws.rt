@@ -2,6 +2,7 @@
 
 ghost use Rattle.std.specs.Prelude.{◌≡◌, ◌<◌, ◌≤◌, IfOk, IfErr, IfSome, MatchOption};
 ghost use Rattle.cl_pool.specs.Numbers.{both, first_hand, new_hand, one_split_less};
+ghost use Rattle.cl_pool.specs.declared.limits.TheConstants.{MOST_WORKERS};
 ghost use Rattle.cl_pool.specs.Seats.{Drew, HoldsAll, IsSeatOf, MayDraw, Missed, bounds};
 
 use crate::hand::{Both, Bounds, Cut, Draw, Hand, Look, Rule};
@@ -40,12 +41,13 @@ pub struct Seat {
 impl Model for Seat {
     ghost use Rattle.std.specs.Prelude.{◌≡◌, ◌≤◌, []};
     ghost use Rattle.cl_pool.specs.Seats.{Seated};
+    ghost use Rattle.cl_pool.specs.declared.limits.TheConstants.{MOST_WORKERS};
 
     ghost Value = { Seated };
 
     ghost view = { λ s. record { word = s.token.table_id; hand = s.token.me.0 } };
 
-    ghost invariant = { λ s. (s.token.me.1 ≡ []) × (s.token.me.0.splits ≡ s.splits) × (s.splits ≤ 64) };
+    ghost invariant = { λ s. (s.token.me.1 ≡ []) × (s.token.me.0.splits ≡ s.splits) × (s.splits ≤ MOST_WORKERS) };
 }
 
 /// The numbers below the count of requests, each for one seat, whatever threads the seats are in. No call waits.
@@ -58,19 +60,20 @@ pub struct Draws {
 impl Model for Draws {
     ghost use Rattle.std.specs.Prelude.{◌≡◌, ◌≤◌, ◌<◌, ◌^◌};
     ghost use Rattle.cl_pool.specs.Seats.{Drawing};
+    ghost use Rattle.cl_pool.specs.declared.limits.TheConstants.{MOST_WORKERS};
 
     ghost Value = { Drawing };
 
     ghost view = { λ d. record { word = d.table.shared.table_id; of = d.bounds } };
 
-    ghost invariant = { λ d. (d.table.shared.table_id.words ≡ 1) × (d.table.shared.key ≡ d.bounds) × (d.bounds.workers ≤ 64) × (d.bounds.requests < 2 ^ 32) };
+    ghost invariant = { λ d. (d.table.shared.table_id.words ≡ 1) × (d.table.shared.key ≡ d.bounds) × (d.bounds.workers ≤ MOST_WORKERS) × (d.bounds.requests < 2 ^ 32) };
 }
 
 impl Draws {
     /// A word for the numbers of so many requests, with its first seat, from which one less than the workers can be split
     /// off. `Memory`.
     pub fn new(alloc: Global, requests: u32, workers: u32) -> Result<(Draws, Seat), DrawFault>
-        requires { (1 ≤ workers) × (workers ≤ 64) }
+        requires { (1 ≤ workers) × (workers ≤ MOST_WORKERS) }
         ensures bounds { IfOk result (λ r. r.0.of ≡ bounds requests workers) }
         ensures seat { IfOk result (λ r. IsSeatOf r.0 r.1) }
         ensures first { IfOk result (λ r. r.1.hand ≡ first_hand r.0.of) }

@@ -11,7 +11,7 @@ use std::fmt::{self, Display, Formatter};
 pub enum PoolFault<T: Told> {
     /// Memory was refused before a worker was started.
     Memory,
-    /// The workers are none, or more than 64.
+    /// The workers are none, or more than `MOST_WORKERS`.
     Workers,
     /// No thread could be had.
     NoThread,

@@ -7,6 +7,7 @@ mod draws;
 mod fault;
 mod gate;
 mod hand;
+mod limits;
 mod pool;
 mod serving;
 
@@ -14,4 +15,5 @@ pub use draws::{DrawFault, Draws, Seat};
 pub use fault::PoolFault;
 pub use gate::{Gate, OpenGate};
 pub use hand::Bounds;
+pub use limits::MOST_WORKERS;
 pub use serving::serve;

@@ -267,6 +267,7 @@ fn read<T: Told, S: Source<T>>(
 ) -> Reply<T>
     ensures replied { (x : Shown) → IsReplied x (Reading loader name.now) result }
     ensures faults { Grows (told_faults result) (S.refused source.old) (S.refused source.new) }
+    ensures no_memory { result ≡ Reply.Memory → ⊥ }
 {
     match source.read(alloc, loader, name) {
         Ok(probe) => Reply::Probed(probe),

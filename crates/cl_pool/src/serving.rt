@@ -7,6 +7,7 @@ use crate::desk::Desk;
 use crate::draws::{Draws, Seat};
 use crate::fault::PoolFault;
 use crate::gate::Gate;
+use crate::limits::MOST_WORKERS;
 use crate::pool::Pool;
 use cl_config::{Config, Script};
 use cl_model::{Request, Told};
@@ -15,9 +16,6 @@ use cl_source::Source;
 use std::alloc::{AllocError, Global};
 use std::sync::{Arc, Condvar, Mutex, Wait};
 use std::thread::{self, Threads};
-
-/// The most workers.
-const MOST_WORKERS: u32 = 64;
 
 /// Serves the requests of a script by several threads, round by round (JVMS SE 8, 5.3). However the steps of the workers
 /// fall, where the source tells a content, the report's history is a run of the linkage machine over it, in which each
@@ -30,7 +28,7 @@ const MOST_WORKERS: u32 = 64;
 ///
 /// # Errors
 ///
-/// `Workers`, where they are not 1 to 64; `Memory`, before a worker is started; `NoThread`, where none could be; `Stray`,
+/// `Workers`, where they are not 1 to `MOST_WORKERS`; `Memory`, before a worker is started; `NoThread`, where none could be; `Stray`,
 /// where a worker met a value that does not fit the tables; `Unanswered`, with the registry, where a request has no answer.
 pub fn serve<T: Told + Send + Sync, S: Source<T> + Send, G: Gate, R: Threads + Wait + Sync>(
     rt: &R,
@@ -71,7 +69,7 @@ fn open<T: Told>(
     script: &Arc<Script>,
     workers: u32,
 ) -> Result<(Pool<T>, Seat), AllocError>
-    requires workers { (1 ≤ workers) × (workers ≤ 64) }
+    requires workers { (1 ≤ workers) × (workers ≤ MOST_WORKERS) }
     ensures fits { IfOk result (λ r. IsSeatOf r.0.draws r.1) }
     ensures may { IfOk result (λ r. MayDraw r.1) }
 {

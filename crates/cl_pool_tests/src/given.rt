@@ -139,7 +139,7 @@ pub fn served_by<S: Source<Untold> + Send, G: Gate, R: Threads + Wait + Sync>(
 }
 
 /// The report of so many workers.
-pub fn reported<S: Source<Untold> + Send, G: Gate, R: Threads + Wait + Sync>(
+pub fn report_of<S: Source<Untold> + Send, G: Gate, R: Threads + Wait + Sync>(
     rt: &R,
     alloc: Global,
     source: S,

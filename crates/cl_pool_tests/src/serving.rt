@@ -1,6 +1,6 @@
 //! Scripts that several workers serve. A body that gives up on every request passes no line of these.
 
-use crate::given::{APP, BOOT, Named, PLUG, SHARED, is_class, reported, served_by, source};
+use crate::given::{APP, BOOT, Named, PLUG, SHARED, is_class, report_of, served_by, source};
 use Named::{Service, T, Top, User};
 use cl_model::{Answer, Event, LoaderId, Untold, Verdict};
 use cl_names::Name;
@@ -79,7 +79,7 @@ fn reads_overlap(rt: HostRuntime) -> Result<(), Fail> {
         posted: AtomicU64::new(0),
         spent: AtomicU64::new(0),
     };
-    let report = reported(&rt, alloc, source(alloc, &PLAIN)?, EIGHT, 8, &gate)?;
+    let report = report_of(&rt, alloc, source(alloc, &PLAIN)?, EIGHT, 8, &gate)?;
     let are_classes = are_classes(report.answers.as_slice(), 8, false);
     drop(report);
     assert!(rt; are_classes);
@@ -116,7 +116,7 @@ fn workers_are_limited(rt: HostRuntime) -> Result<(), Fail> {
     }
     for workers in [1, 2, 64] {
         let source = source(alloc, &PLAIN)?;
-        let report = reported(&rt, alloc, source, "load app p/T", workers, &OpenGate)?;
+        let report = report_of(&rt, alloc, source, "load app p/T", workers, &OpenGate)?;
         let happened = report.history.events().len();
         drop(report);
         assert!(rt; happened == 4);
@@ -125,7 +125,7 @@ fn workers_are_limited(rt: HostRuntime) -> Result<(), Fail> {
 }
 
 /// How many references a history settles, and how many rounds it begins.
-fn counted(history: &[Event]) -> (usize, usize) {
+fn count_events(history: &[Event]) -> (usize, usize) {
     let mut settled = 0usize;
     let mut rounds = 0usize;
     for event in history {
@@ -169,8 +169,8 @@ fn many_workers_settle_once(rt: HostRuntime) -> Result<(), Fail> {
         script.push_str("resolve plug p/Use 1\n")?;
     }
     let source = source(alloc, &SHARED)?;
-    let report = reported(&rt, alloc, source, script.as_str(), 8, &OpenGate)?;
-    let (settled, _) = counted(report.history.events());
+    let report = report_of(&rt, alloc, source, script.as_str(), 8, &OpenGate)?;
+    let (settled, _) = count_events(report.history.events());
     let count = report.answers.as_slice().len();
     let are_service = are_service(report.answers.as_slice());
     drop(report);
@@ -201,8 +201,8 @@ fn rounds_are_kept(rt: HostRuntime) -> Result<(), Fail> {
         "then\nthen\nresolve plug p/Use 1\nthen\nthen\nload app p/T\nthen\nload plug p/T\nthen\n";
     for workers in [1, 2, 3, 8] {
         let source = source(alloc, &SHARED)?;
-        let report = reported(&rt, alloc, source, script, workers, &OpenGate)?;
-        let (_, rounds) = counted(report.history.events());
+        let report = report_of(&rt, alloc, source, script, workers, &OpenGate)?;
+        let (_, rounds) = count_events(report.history.events());
         let are_constrained = are_constrained(report.answers.as_slice());
         drop(report);
         assert!(rt; rounds == 6);
@@ -218,7 +218,7 @@ fn a_failed_read_stops_no_other(rt: HostRuntime) -> Result<(), Fail> {
     let script = "load plug p/T\nthen\nload app p/T\nload app java/lang/Object\n";
     for at in 0..12 {
         let source = FaultySource::new(source(alloc, &SHARED)?, at);
-        let report = reported(&rt, alloc, source, script, 4, &OpenGate)?;
+        let report = report_of(&rt, alloc, source, script, 4, &OpenGate)?;
         let are_classes = are_classes(report.answers.as_slice(), 3, at > 0);
         drop(report);
         assert!(rt; are_classes);
@@ -231,7 +231,7 @@ fn a_failed_read_stops_no_other(rt: HostRuntime) -> Result<(), Fail> {
 fn nothing_is_served(rt: HostRuntime) -> Result<(), Fail> {
     let alloc = rt.alloc();
     for (script, events) in [("", 0usize), ("then\nthen\n", 2)] {
-        let report = reported(&rt, alloc, source(alloc, &[])?, script, 3, &OpenGate)?;
+        let report = report_of(&rt, alloc, source(alloc, &[])?, script, 3, &OpenGate)?;
         let happened = report.history.events().len();
         let answers = report.answers.as_slice().len();
         drop(report);

@@ -16,7 +16,7 @@ has_stays s es (Load loader name) v h = (h.0, (h.1.0, records_stay s es loader h
 has_stays s es (Resolve loader name i) v h = (h.0, (h.1.0, records_stay s es loader h.0.loader name h.1.1), settled_stay s es h.0 i v h.2)
 has_stays s es (Link loader name) v h = (h.0, (h.1.0, records_stay s es loader h.0.loader name h.1.1), prepared_stay s es h.0 h.2, h.3)
 
--- a post of a request whose verdict a state has is of it, or of want of memory
+-- a post of a request whose verdict a state has is of it, or tells that memory ran out
 abbrev pub SaysKnown : List Scheduled → State → Step → Type 0
 SaysKnown script s (Define c) = Unit {0}
 SaysKnown script s (Initiate name place loader) = Unit {0}

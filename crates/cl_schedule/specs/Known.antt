@@ -17,11 +17,11 @@ Has s (Load loader name) v = (c : Class) × Records s loader name c × (v ≡ Is
 Has s (Resolve loader name i) v = (d : Class) × Records s loader name d × (settled_to s.settled d i ≡ Some v)
 Has s (Link loader name) v = (c : Class) × Records s loader name c × Contains s.prepared c × (v ≡ IsLinked c)
 
--- this verdict, or want of memory (own choice)
+-- this verdict, or out of memory
 abbrev pub SaysOrLacks : Verdict → Answer → Type 0
 SaysOrLacks v a = (a ≡ Said v) ⊎ (a ≡ OutOfMemory)
 
--- a request was answered this verdict, or want of memory, by its post alone, and the source was left alone (own choice)
+-- a request was answered this verdict, or out of memory, by its post alone, and the source was left alone
 pub record IsToldAtOnce {S : Type 0} (old new : Shown) (q : ℕ) (v : Verdict) (source later : S) : Type 0 where
   pub answer : rust.Answer
   pub is : SaysOrLacks v (answer_of answer)

@@ -85,7 +85,7 @@ IsStepOf x other e = ⊥
 abbrev pub Did : Shown → Shown → (Step → Type 0) → Type 0
 Did old new such = (new ≡ old) ⊎ ((e : Step) × such e × GoesBy old new e)
 
--- a refusal that a task is told of: want of memory, or a need that is refused (5.3.4)
+-- a refusal that a task is told of: out of memory, or a need that is refused (5.3.4)
 abbrev pub IsTold : RegistryFault → Type 0
 IsTold faults.Memory = Unit {0}
 IsTold (faults.Violates n) = Unit {0}

@@ -1,4 +1,4 @@
--- The rounds that begin before, between and after requests (own choice).
+-- The rounds that begin before, between and after requests.
 use Rattle.std.specs.Prelude.{◌≡◌, List, ◌++◌}
 use Rattle.cl_model.specs.Content.{Content}
 use Rattle.cl_model.specs.Machine.{Step}
@@ -6,7 +6,7 @@ use Rattle.cl_model.specs.Service.{PassesRounds}
 use Rattle.cl_registry.specs.Tables.{Shown, posts, state_of, steps}
 use Rattle.cl_schedule.specs.Serving.{machine}
 
--- rounds alone began, one after another as long as the next one might: nothing else changed (own choice)
+-- rounds alone began, one after another as long as the next one might: nothing else changed
 pub record RoundsPassed (old new : Shown) : Type 0 where
   pub config : new.config ≡ old.config
   pub script : new.script ≡ old.script

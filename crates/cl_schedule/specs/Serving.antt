@@ -35,7 +35,7 @@ InOrder (Some content) x = AllServed (machine x content) 0 start (machine x cont
 
 -- ---- what was done for one request
 
--- the step posts an answer (own choice)
+-- the step posts an answer
 abbrev pub IsPost : Step → Type 0
 IsPost (Define c) = ⊥
 IsPost (Initiate name place loader) = ⊥
@@ -46,7 +46,7 @@ IsPost (Post q a) = Unit {0}
 IsPost NextRound = ⊥
 IsPost Stray = ⊥
 
--- none of these posts an answer (own choice)
+-- none of these posts an answer
 abbrev pub NoPosts : List Step → Type 0
 NoPosts es = AllByRecursion (λ e. IsPost e → ⊥) es
 

@@ -43,6 +43,7 @@ fn read<T: Told, S: Source<T>>(
 ) -> Reply<T>
     ensures replied { (x : Shown) → IsReplied x (Reading loader name.now) result }
     ensures faults { Grows (told_faults result) (S.refused source.old) (S.refused source.new) }
+    ensures no_memory { result ≡ Reply.Memory → ⊥ }
 {
     match source.read(alloc, loader, name) {
         Ok(probe) => Reply::Probed(probe),
@@ -51,7 +52,7 @@ fn read<T: Told, S: Source<T>>(
 }
 
 /// The reply that a refusal is, of a value that the tables bear.
-fn refused<T: Told>(fault: RegistryFault) -> Reply<T>
+fn refusal<T: Told>(fault: RegistryFault) -> Reply<T>
     requires { IsTold fault }
     ensures is { result ≡ refusal_of fault }
     ensures faults { told_faults result ≡ 0 }
@@ -68,12 +69,13 @@ fn define<T: Told>(alloc: Global, registry: &mut Registry<T>, draft: Draft<T>) -
     requires { MayEnter registry.old draft }
     ensures replied { IsReplied registry.new (Defining draft) result }
     ensures did { Did registry.old registry.new (DefinesBy draft) }
+    ensures untold { result ≡ Reply.Memory → registry.new ≡ registry.old }
     ensures faults { told_faults result ≡ 0 }
     ensures kept { IsKept T.told registry.new }
 {
     match registry.define(alloc, draft) {
         Ok(row) => Reply::Defined(row),
-        Err(e) => refused(e.fault),
+        Err(e) => refusal(e.fault),
     }
 }
 
@@ -82,12 +84,13 @@ fn initiate<T: Told>(alloc: Global, registry: &mut Registry<T>, home: Arc<Home<T
     requires { MayJoin registry.old home.value }
     ensures replied { IsReplied registry.new (Initiating home.value) result }
     ensures did { Did registry.old registry.new (InitiatesBy home.value) }
+    ensures untold { result ≡ Reply.Memory → registry.new ≡ registry.old }
     ensures faults { told_faults result ≡ 0 }
     ensures kept { IsKept T.told registry.new }
 {
     match registry.initiate(alloc, &home) {
         Ok(row) => Reply::Initiated(row),
-        Err(fault) => refused(fault),
+        Err(fault) => refusal(fault),
     }
 }
 
@@ -99,7 +102,7 @@ fn lineage<T: Told>(alloc: Global, registry: &Registry<T>, class: &Class) -> Rep
 {
     match registry.lineage(alloc, class) {
         Ok(lineage) => Reply::Lineage(lineage),
-        Err(fault) => refused(fault),
+        Err(fault) => refusal(fault),
     }
 }
 
@@ -122,6 +125,7 @@ fn settle<T: Told>(alloc: Global, registry: &mut Registry<T>, finding: Finding<T
     requires { MaySettle registry.old finding }
     ensures replied { IsReplied registry.new (Settling finding.request) result }
     ensures did { Did registry.old registry.new (SettlesBy registry.old finding) }
+    ensures untold { result ≡ Reply.Memory → registry.new ≡ registry.old }
     ensures faults { told_faults result ≡ 0 }
     ensures kept { IsKept T.told registry.new }
 {
@@ -129,7 +133,7 @@ fn settle<T: Told>(alloc: Global, registry: &mut Registry<T>, finding: Finding<T
     drop(finding);
     match told {
         Ok(settled) => Reply::Settled(settled),
-        Err(fault) => refused(fault),
+        Err(fault) => refusal(fault),
     }
 }
 
@@ -143,12 +147,13 @@ fn impose<T: Told>(
     requires { MayImpose registry.old list.value place }
     ensures replied { IsReplied registry.new (Imposing list.value place) result }
     ensures did { Did registry.old registry.new (ImposesBy list.value place) }
+    ensures untold { result ≡ Reply.Memory → registry.new ≡ registry.old }
     ensures faults { told_faults result ≡ 0 }
     ensures kept { IsKept T.told registry.new }
 {
     match registry.impose(alloc, &list, place) {
         Ok(()) => Reply::Imposed,
-        Err(fault) => refused(fault),
+        Err(fault) => refusal(fault),
     }
 }
 
@@ -165,12 +170,13 @@ fn mark<T: Told>(alloc: Global, registry: &mut Registry<T>, list: Arc<Equalities
     requires { MayMark registry.old list.value }
     ensures replied { IsReplied registry.new (Marking list.value) result }
     ensures did { Did registry.old registry.new (PreparesBy list.value.origin) }
+    ensures untold { result ≡ Reply.Memory → registry.new ≡ registry.old }
     ensures faults { told_faults result ≡ 0 }
     ensures kept { IsKept T.told registry.new }
 {
     match registry.mark_prepared(alloc, &list) {
         Ok(()) => Reply::Marked,
-        Err(fault) => refused(fault),
+        Err(fault) => refusal(fault),
     }
 }
 

@@ -109,7 +109,7 @@ pub fn source(alloc: Global, classes: &[(u16, Named)]) -> Result<MemorySource, A
 }
 
 /// The report of a script that is served over a source.
-pub fn served<S: Source<Untold>>(
+pub fn report_over<S: Source<Untold>>(
     alloc: Global,
     source: &mut S,
     text: &str,

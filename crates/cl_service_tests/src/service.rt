@@ -1,7 +1,7 @@
 //! Scripts served over a source of which a read fails, and over much. A body that gives up on every request passes no line
 //! of these.
 
-use crate::given::{APP, BOOT, Named, PLUG, bytes_of, is_class, put, served, source};
+use crate::given::{APP, BOOT, Named, PLUG, bytes_of, is_class, put, report_over, source};
 use Named::{Service, T, Top, User};
 use cl_model::{Answer, Class, ErrorKind, Event, LoaderId, Untold, Verdict};
 use cl_registry::Report;
@@ -25,7 +25,7 @@ fn served_failing(
 ) -> Result<Failing, AllocError> {
     let telling = source(alloc, classes)?.tell::<Untold>();
     let mut source = FaultySource::new(telling, at);
-    let report = served(alloc, &mut source, text);
+    let report = report_over(alloc, &mut source, text);
     let failures = source.failures();
     drop(source);
     Ok(Failing {
@@ -99,7 +99,7 @@ const SHARED: [(u16, Named); 5] = [
 ];
 
 /// How many requests have a verdict, and how many blame the source.
-fn counted(answers: &[Answer]) -> (usize, usize) {
+fn count_answers(answers: &[Answer]) -> (usize, usize) {
     let mut said = 0usize;
     let mut faults = 0usize;
     for answer in answers {
@@ -120,7 +120,7 @@ fn each_read_of_every_kind_fails_once(rt: HostRuntime) -> Result<(), Fail> {
     let script = "resolve plug p/Use 1\nlink plug p/Use\nthen\nload app p/T\nload plug p/T\n";
     for at in 1..100u64 {
         let served = served_failing(alloc, &SHARED, at, script)?;
-        let counts = counted(served.report.answers.as_slice());
+        let counts = count_answers(served.report.answers.as_slice());
         let failures = served.failures;
         drop(served);
         if failures == 0 {
@@ -136,13 +136,13 @@ fn each_read_of_every_kind_fails_once(rt: HostRuntime) -> Result<(), Fail> {
 /// The report of a script over a source in memory.
 fn served_from(alloc: Global, source: MemorySource, text: &str) -> Result<Report, AllocError> {
     let mut telling = source.tell::<Untold>();
-    let report = served(alloc, &mut telling, text);
+    let report = report_over(alloc, &mut telling, text);
     drop(telling);
     report
 }
 
 /// How many references a history settles.
-fn settled(history: &[Event]) -> usize {
+fn settled_count(history: &[Event]) -> usize {
     let mut settled = 0usize;
     for event in history {
         if let Event::Settle(_) = event {
@@ -183,7 +183,7 @@ fn a_thousand_resolutions_settle_once(rt: HostRuntime) -> Result<(), Fail> {
         script.push_str("resolve plug p/Use 1\n")?;
     }
     let report = served_from(alloc, source(alloc, &SHARED)?, script.as_str())?;
-    let settled = settled(report.history.events());
+    let settled = settled_count(report.history.events());
     let count = report.answers.as_slice().len();
     let are_service = are_service(report.answers.as_slice());
     drop(report);

@@ -73,7 +73,7 @@ fn reply(
 }
 
 /// What a task does with a reply, and at which loader.
-fn turned(alloc: Global, task: &mut Task<Untold>, reply: Reply<Untold>) -> (Does, u16) {
+fn take_reply(alloc: Global, task: &mut Task<Untold>, reply: Reply<Untold>) -> (Does, u16) {
     if !task.expects(&reply) {
         drop(reply);
         return (ExpectsAnother, BOOT);
@@ -129,7 +129,7 @@ fn ask_turns<R: Abort>(
 ) -> Result<(), SourceFault> {
     for (told, loader, name, does, at) in TURNS {
         let reply = reply(alloc, source, told, loader, name)?;
-        assert!(rt; turned(alloc, task, reply) == (does, at));
+        assert!(rt; take_reply(alloc, task, reply) == (does, at));
     }
     Ok(())
 }

@@ -13,5 +13,5 @@ returns-in-Ok-clause-did g c = did_define c.args.registry.now c.define.new.self 
 
 pub returns-in-Err-clause-replied : goal.returns-in-Err-clause-replied
 returns-in-Err-clause-replied g c =
-    subst (λ (r : Option (Reply g.row.T.Denot)). MatchOption r (MayEnter c.args.registry.now c.args.draft → ⊥) (λ a. IsReplied c.define.new.self (Defining c.args.draft) a)) (sym c.refused.ensures)
+    subst (λ (r : Option (Reply g.row.T.Denot)). MatchOption r (MayEnter c.args.registry.now c.args.draft → ⊥) (λ a. IsReplied c.define.new.self (Defining c.args.draft) a)) (sym c.reply_of.ensures)
     (define_answered g.row.T.Denot c.args.registry.now c.define.new.self c.args.draft _ c.in-Err.ensures.refused c.in-Err.ensures.unchanged.0)

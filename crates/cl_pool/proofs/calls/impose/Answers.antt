@@ -18,6 +18,6 @@ returns-in-Ok-clause-did g c =
 
 pub returns-clause-replied : goal.returns-clause-replied
 returns-clause-replied g c =
-    subst (λ (r : Option (Reply g.row.T.Denot)). MatchOption r (MayImpose c.args.registry.now c.args.list.value c.args.place → ⊥) (λ a. IsReplied c.impose.new.self (Imposing c.args.list.value c.args.place) a)) (sym c.refused.ensures)
+    subst (λ (r : Option (Reply g.row.T.Denot)). MatchOption r (MayImpose c.args.registry.now c.args.list.value c.args.place → ⊥) (λ a. IsReplied c.impose.new.self (Imposing c.args.list.value c.args.place) a)) (sym c.reply_of.ensures)
     (impose_answered g.row.T.Denot c.args.registry.now c.impose.new.self c.args.list.value c.args.place c.in-Err.fault
     (subst (λ (l : Listed). ImposeRefusedFor c.args.registry.now l c.args.place c.in-Err.fault) c.deref.ensures c.in-Err.ensures.refused) c.in-Err.ensures.unchanged)

@@ -17,6 +17,6 @@ returns-in-Ok-clause-did g c =
 
 pub returns-clause-replied : goal.returns-clause-replied
 returns-clause-replied g c =
-    subst (λ (r : Option (Reply g.row.T.Denot)). MatchOption r (MayJoin c.args.registry.now c.args.home.value → ⊥) (λ a. IsReplied c.initiate.new.self (Initiating c.args.home.value) a)) (sym c.refused.ensures)
+    subst (λ (r : Option (Reply g.row.T.Denot)). MatchOption r (MayJoin c.args.registry.now c.args.home.value → ⊥) (λ a. IsReplied c.initiate.new.self (Initiating c.args.home.value) a)) (sym c.reply_of.ensures)
     (initiate_answered g.row.T.Denot c.args.registry.now c.initiate.new.self c.args.home.value c.in-Err.fault
     (subst (λ (h : Located). InitiateRefusedFor c.args.registry.now h c.in-Err.fault) c.deref.ensures c.in-Err.ensures.refused) c.in-Err.ensures.unchanged)

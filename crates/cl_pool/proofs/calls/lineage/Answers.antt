@@ -11,6 +11,6 @@ use Rattle.cl_pool.proofs.calls.lineage.Goals as goal
 pub returns-in-Err : goal.returns-in-Err
 returns-in-Err g c = record {
   replied =
-      subst (λ (r : Option (Reply g.row.T.Denot)). MatchOption r (IsRecorded (state_of c.args.registry.now) c.args.class.now → ⊥) (λ a. IsReplied c.args.registry.now (Tracing c.args.class.now) a)) (sym c.refused.ensures)
+      subst (λ (r : Option (Reply g.row.T.Denot)). MatchOption r (IsRecorded (state_of c.args.registry.now) c.args.class.now → ⊥) (λ a. IsReplied c.args.registry.now (Tracing c.args.class.now) a)) (sym c.reply_of.ensures)
       (lineage_answered g.row.T.Denot c.args.registry.now c.args.class.now c.in-Err.fault c.in-Err.ensures.refused);
 }

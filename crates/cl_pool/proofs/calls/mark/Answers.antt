@@ -17,6 +17,6 @@ returns-in-Ok-clause-did g c =
 
 pub returns-clause-replied : goal.returns-clause-replied
 returns-clause-replied g c =
-    subst (λ (r : Option (Reply g.row.T.Denot)). MatchOption r (MayMark c.args.registry.now c.args.list.value → ⊥) (λ a. IsReplied c.mark_prepared.new.self (Marking c.args.list.value) a)) (sym c.refused.ensures)
+    subst (λ (r : Option (Reply g.row.T.Denot)). MatchOption r (MayMark c.args.registry.now c.args.list.value → ⊥) (λ a. IsReplied c.mark_prepared.new.self (Marking c.args.list.value) a)) (sym c.reply_of.ensures)
     (mark_answered g.row.T.Denot c.args.registry.now c.mark_prepared.new.self c.args.list.value c.in-Err.fault
     (subst (λ (l : Listed). MarkRefusedFor c.args.registry.now l c.in-Err.fault) c.deref.ensures c.in-Err.ensures.refused))

@@ -18,5 +18,5 @@ returns-in-Ok-clause-did g c = did_settle c.args.registry.now c.settle-told.new.
 
 pub returns-in-Err-clause-replied : goal.returns-in-Err-clause-replied
 returns-in-Err-clause-replied g c =
-    subst (λ (r : Option (Reply g.row.T.Denot)). MatchOption r (MaySettle c.args.registry.now c.args.finding → ⊥) (λ a. IsReplied c.settle-told.new.self (Settling c.args.finding.request) a)) (sym c.refused.ensures)
+    subst (λ (r : Option (Reply g.row.T.Denot)). MatchOption r (MaySettle c.args.registry.now c.args.finding → ⊥) (λ a. IsReplied c.settle-told.new.self (Settling c.args.finding.request) a)) (sym c.reply_of.ensures)
     (settle_answered g.row.T.Denot c.args.registry.now c.settle-told.new.self c.args.finding c.in-Err.fault c.in-Err.ensures.refused)

@@ -10,5 +10,5 @@ returns-in-Ok-clause-did g c = did_define c.args.registry.now c.define.new.self 
 
 pub returns-in-Err-clause-replied : goal.returns-in-Err-clause-replied
 returns-in-Err-clause-replied g c =
-    subst (λ (r : Reply g.row.T.Denot). IsReplied c.define.new.self (Defining c.args.draft) r) (sym c.refused.ensures.is)
+    subst (λ (r : Reply g.row.T.Denot). IsReplied c.define.new.self (Defining c.args.draft) r) (sym c.refusal.ensures.is)
     (define_refused g.row.T.Denot c.args.registry.now c.define.new.self c.args.draft _ c.requires c.in-Err.ensures.refused c.in-Err.ensures.unchanged.0)

@@ -15,6 +15,6 @@ returns-in-Ok-clause-did g c =
 
 pub returns-clause-replied : goal.returns-clause-replied
 returns-clause-replied g c =
-    subst (λ (r : Reply g.row.T.Denot). IsReplied c.impose.new.self (Imposing c.args.list.value c.args.place) r) (sym c.refused.ensures.is)
+    subst (λ (r : Reply g.row.T.Denot). IsReplied c.impose.new.self (Imposing c.args.list.value c.args.place) r) (sym c.refusal.ensures.is)
     (impose_refused g.row.T.Denot c.args.registry.now c.impose.new.self c.args.list.value c.args.place c.in-Err.fault c.requires
     (subst (λ (l : Listed). ImposeRefusedFor c.args.registry.now l c.args.place c.in-Err.fault) c.deref.ensures c.in-Err.ensures.refused) c.in-Err.ensures.unchanged)

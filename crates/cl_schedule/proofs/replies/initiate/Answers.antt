@@ -15,6 +15,6 @@ returns-in-Ok-clause-did g c =
 
 pub returns-clause-replied : goal.returns-clause-replied
 returns-clause-replied g c =
-    subst (λ (r : Reply g.row.T.Denot). IsReplied c.initiate.new.self (Initiating c.args.home.value) r) (sym c.refused.ensures.is)
+    subst (λ (r : Reply g.row.T.Denot). IsReplied c.initiate.new.self (Initiating c.args.home.value) r) (sym c.refusal.ensures.is)
     (initiate_refused g.row.T.Denot c.args.registry.now c.initiate.new.self c.args.home.value c.in-Err.fault c.requires
     (subst (λ (h : Located). InitiateRefusedFor c.args.registry.now h c.in-Err.fault) c.deref.ensures c.in-Err.ensures.refused) c.in-Err.ensures.unchanged)

@@ -7,6 +7,7 @@ use Rattle.cl_pool.specs.Seats.{Seated, Drawing, MayDraw}
 use Rattle.cl_pool.proofs.Moves.{draws, may_again}
 use Rattle.cl_pool.proofs.draws.Draws.draw.Goals.{then-number-from, else-number-from}
 use Rattle.cl_pool.proofs.draws.Draws.draw.Goals as goal
+use Rattle.cl_pool.specs.declared.limits.TheConstants.{MOST_WORKERS}
 
 pub fetch_add-number-requires : goal.fetch_add-number-requires
 fetch_add-number-requires c =
@@ -14,7 +15,7 @@ fetch_add-number-requires c =
     let word = ap (λ (v : Seated). v.word) c.seat.view_is ∙ (c.requires.seat.word ∙ sym (ap (λ (v : Drawing). v.word) c.self.view_is)) in
     let of = ap (λ (v : Seated). v.hand.of) c.seat.view_is ∙ (c.requires.seat.of ∙ sym (ap (λ (v : Drawing). v.of) c.self.view_is)) ∙ sym inv.1 in
     let small : c.self.inside.table.shared.key.requests < 2 ^ 32 = rw inv.1 inv.3 in
-    let few : c.self.inside.table.shared.key.workers ≤ 64 = rw inv.1 inv.2 in
+    let few : c.self.inside.table.shared.key.workers ≤ MOST_WORKERS = rw inv.1 inv.2 in
     let may = subst MayDraw (sym c.seat.view_is) c.requires.may in (
       word,
       omega (arith, inv.0),

@@ -7,7 +7,7 @@ use Rattle.cl_classfile.specs.declared.fault.ReadError.TheVariants as errors
 use Rattle.cl_program.specs.Faults.{print_fault}
 use Rattle.cl_source.specs.Seen.{IsWithin}
 use Rattle.cl_program.specs.Files.{Giving, IsUnread}
-use Rattle.cl_program.specs.Readings.{AreLinesOf, FailsToRead, IsReading, IsRefusal, ReadingOf, most_of_class}
+use Rattle.cl_program.specs.Readings.{AreLinesOf, FailsToRead, IsReading, IsRefusal, ReadingOf}
 use Rattle.cl_program.specs.Outputs.{Outputs, Stream, TellsFault, WritesPart}
 use Rattle.cl_program.proofs.Running.{still}
 use Rattle.cl_program.specs.declared.fault.Fault.{Fault}
@@ -15,6 +15,7 @@ use Rattle.cl_program.specs.declared.fault.Fault.TheVariants.{Write, TooLarge, P
 use Rattle.cl_streams.specs.declared.output.PrintFault.{PrintFault}
 use Rattle.cl_streams.specs.declared.output.PrintFault.TheVariants as print
 use Rattle.cl_streams.proofs.Written.{appends_nothing}
+use Rattle.cl_source.specs.declared.size.TheConstants.{MOST_CLASS_BYTES}
 
 pub read_wrong : (gives : Giving) (path : List ℕ) (out : Stream) (r : Result (Unit {0}) Fault) (fault : Fault) → IsErrAnd r (λ e. e ≡ fault) → FailsToRead gives path out fault
     → ReadingOf gives path out r
@@ -22,14 +23,14 @@ read_wrong gives path out (Ok x) fault e w = absurd e
 read_wrong gives path out (Err f) fault e w = subst (FailsToRead gives path out) (sym e) w
 
 -- the file was not read
-pub by_bytes : (gives : Giving) (path : List ℕ) (old : Option (List ℕ)) (fault : Fault) → IsUnread gives most_of_class path fault → FailsToRead gives path (still old) fault
+pub by_bytes : (gives : Giving) (path : List ℕ) (old : Option (List ℕ)) (fault : Fault) → IsUnread gives MOST_CLASS_BYTES path fault → FailsToRead gives path (still old) fault
 by_bytes gives path old (Path p) w = (appends_nothing old, w)
 by_bytes gives path old TooLarge w = (appends_nothing old, w)
 by_bytes gives path old Memory w = inl (appends_nothing old, tt)
 by_bytes gives path old fault w = absurd w
 
 -- it is no class file
-pub by_class : (gives : Giving) (path : List ℕ) (old : Option (List ℕ)) (bytes : List ℕ) (fault : Fault) → IsWithin gives most_of_class bytes → IsRefusal bytes fault → FailsToRead gives path (still old) fault
+pub by_class : (gives : Giving) (path : List ℕ) (old : Option (List ℕ)) (bytes : List ℕ) (fault : Fault) → IsWithin gives MOST_CLASS_BYTES bytes → IsRefusal bytes fault → FailsToRead gives path (still old) fault
 by_class gives path old bytes (File (errors.Fault f)) is w = (appends_nothing old, record { bytes = bytes; content = is; read = w })
 by_class gives path old bytes (File errors.Memory) is w = (appends_nothing old, tt)
 by_class gives path old bytes Memory is w = inl (appends_nothing old, tt)
@@ -47,7 +48,7 @@ by_writing gives path out lines print.Memory is w = inr (record { lines = lines;
 
 -- ---- the exit status
 
--- want of memory may be told in place of any other fault
+-- out of memory may be told in place of any other fault
 as_memory : (gives : Giving) (path : List ℕ) (out : Stream) (fault : Fault) → FailsToRead gives path out fault → FailsToRead gives path out Memory
 as_memory gives path out (Path p) w = inl (w.0, tt)
 as_memory gives path out TooLarge w = inl (w.0, tt)

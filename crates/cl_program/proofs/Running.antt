@@ -1,7 +1,6 @@
 -- How a run ends, from its steps.
 use Rattle.std.proofs.Common.{◌≡◌, ◌⊎◌, ◌∙◌, ◌<◌, ◌≤◌, ℕ, List, [], ◌∷◌, ◌++◌, length, Option, Some, None, Result, Ok, Err, IfSome, IsErrAnd, OnOk, OnErr, ap, map, append-nil, append_assoc, codes, inl, inr, refl, sym, subst}
 use Rattle.std.proofs.lemmas.List.{length-map}
-use Rattle.std.specs.Str.{IsUtf8}
 use Rattle.std.specs.Io.KnownBytes.{Appends}
 use Rattle.cl_model.specs.Content.{Content}
 use Rattle.cl_config.specs.Views.{Configured, Loader, Scripted, names_of}
@@ -9,6 +8,7 @@ use Rattle.cl_registry.specs.declared.report.Report.{Report}
 use Rattle.cl_bundle.specs.Bundles.{IsBundle, IsNoBundle}
 use Rattle.cl_bundle.specs.Faults.{UnlessMemory}
 use Rattle.cl_bundle.specs.declared.fault.BundleFault.{BundleFault}
+use Rattle.cl_program.specs.Files.{AreNoText}
 use Rattle.cl_program.specs.Faults.{IsInputFault, print_fault}
 use Rattle.cl_program.specs.Outputs.{Outputs, Stream, TellsFault, WritesPart, fault_line}
 use Rattle.cl_program.specs.Runs.{AreLinesFor, EndsBy, IsRun, IsServedBy, RunOf}
@@ -21,6 +21,7 @@ use Rattle.cl_program.specs.declared.fault.Fault.TheVariants.{Input, Write, TooL
 use Rattle.cl_streams.specs.declared.output.PrintFault.{PrintFault}
 use Rattle.cl_streams.specs.declared.output.PrintFault.TheVariants as print
 use Rattle.cl_streams.proofs.Written.{appends_nothing}
+use Rattle.cl_program.specs.declared.limits.TheConstants.{MOST_INPUT_BYTES}
 
 -- a stream on which nothing is written
 abbrev pub still : Option (List ℕ) → Stream
@@ -30,8 +31,8 @@ pub ran_wrong : (input : Option (List ℕ)) (asked : Options) (out : Stream) (r 
 ran_wrong input asked out (Ok x) fault e w = absurd e
 ran_wrong input asked out (Err f) fault e w = subst (EndsBy input asked out) (sym e) w
 
-pub by_input : (input : Option (List ℕ)) (asked : Options) (old : Option (List ℕ)) (fault : Fault) → IsInputFault fault → (fault ≡ TooLarge → IfSome input (λ bytes. 67108864 < length bytes))
-    → (fault ≡ NotUtf8 → IfSome input (λ bytes. (length bytes ≤ 67108864) × ¬ (IsUtf8 bytes))) → EndsBy input asked (still old) fault
+pub by_input : (input : Option (List ℕ)) (asked : Options) (old : Option (List ℕ)) (fault : Fault) → IsInputFault fault → (fault ≡ TooLarge → IfSome input (λ bytes. MOST_INPUT_BYTES < length bytes))
+    → (fault ≡ NotUtf8 → IfSome input (λ bytes. AreNoText bytes)) → EndsBy input asked (still old) fault
 by_input input asked old Input k large other = (appends_nothing old, tt)
 by_input input asked old TooLarge k large other = (appends_nothing old, large refl)
 by_input input asked old NotUtf8 k large other = (appends_nothing old, other refl)
@@ -87,7 +88,7 @@ by_print input asked out lines print.Memory are part = inr (record { lines = lin
 
 -- ---- the exit status
 
--- want of memory may be told in place of any other fault
+-- out of memory may be told in place of any other fault
 as_memory : (input : Option (List ℕ)) (asked : Options) (out : Stream) (fault : Fault) → EndsBy input asked out fault → EndsBy input asked out Memory
 as_memory input asked out Input w = inl (w.0, tt)
 as_memory input asked out TooLarge w = inl (w.0, tt)

@@ -72,14 +72,14 @@ by_printing gives w out lines print.Memory are part = inr (record { lines = line
 
 -- ---- the seed
 
--- where there is none the path of the configuration is told, or want of memory for its text
+-- where there is none the path of the configuration is told, or out of memory for its text
 pub seedless : (gives : List ℕ → Giving) (w : Wanted) (old : Option (List ℕ)) (r : Result (Unit {0}) Fault) → IsErrAnd r (λ e. e ≡ Memory) → IsRunOf gives w (still old) r
 seedless gives w old (Ok x) e = absurd e
 seedless gives w old (Err f) e = inl (subst (EndsFrom gives w (still old)) (sym e) (by_memory gives w old))
 
 -- ---- the exit status
 
--- want of memory may be told in place of any other fault
+-- out of memory may be told in place of any other fault
 as_memory : (gives : List ℕ → Giving) (w : Wanted) (out : Stream) (fault : Fault) → EndsFrom gives w out fault → EndsFrom gives w out Memory
 as_memory gives w out (Path p) h = inl (h.0, tt)
 as_memory gives w out TooLarge h = inl (h.0, tt)

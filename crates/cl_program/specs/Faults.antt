@@ -18,35 +18,35 @@ use Rattle.cl_streams.specs.declared.input.InputFault.TheVariants as input
 use Rattle.cl_streams.specs.declared.output.PrintFault.{PrintFault}
 use Rattle.cl_streams.specs.declared.output.PrintFault.TheVariants as print
 
--- a read failed, the bytes are too many, or memory was wanting (own choice)
+-- a read failed, the bytes are too many, or memory was wanting
 abbrev pub IsReadFault : Fault → Type 0
 IsReadFault Input = ⊤
 IsReadFault TooLarge = ⊤
 IsReadFault Memory = ⊤
 IsReadFault _ = ⊥
 
--- so it is, or the bytes are no text (own choice)
+-- so it is, or the bytes are no text
 abbrev pub IsInputFault : Fault → Type 0
 IsInputFault NotUtf8 = ⊤
 IsInputFault fault = IsReadFault fault
 
--- why standard input was not read is what ends the program (own choice)
+-- why standard input was not read is what ends the program
 abbrev pub input_fault : InputFault → Fault
 input_fault input.Unread = Input
 input_fault input.TooLarge = TooLarge
 input_fault input.Memory = Memory
 
--- why a configuration was not read is what ends the program (own choice)
+-- why a configuration was not read is what ends the program
 abbrev pub config_fault : ConfigError → Fault
 config_fault errors.Memory = Memory
 config_fault (errors.Fault fault) = Config fault
 
--- what refuses a report is what ends the program (own choice)
+-- what refuses a report is what ends the program
 abbrev pub print_fault : PrintFault → Fault
 print_fault print.Write = Write
 print_fault print.Memory = Memory
 
--- a pool's fault, without the registry in which a request has no answer (own choice)
+-- a pool's fault, without the registry in which a request has no answer
 abbrev pub thread_fault : {A : Type 0} → PoolFault A → ThreadFault
 thread_fault pool.Memory = threads.Memory
 thread_fault pool.Workers = threads.Workers
@@ -54,7 +54,7 @@ thread_fault pool.NoThread = threads.NoThread
 thread_fault pool.Stray = threads.Stray
 thread_fault (pool.Unanswered registry) = threads.Unanswered
 
--- the text of why several workers made no report, that of the pool (own choice)
+-- the text of why several workers made no report, that of the pool
 abbrev pub thread_text : ThreadFault → List ℕ
 thread_text threads.Memory = codes "V0 Memory"
 thread_text threads.Workers = codes "V1 Workers"
@@ -62,7 +62,7 @@ thread_text threads.NoThread = codes "V2 NoThread"
 thread_text threads.Stray = codes "V3 Stray"
 thread_text threads.Unanswered = codes "V4 Unanswered"
 
--- the text of a fault (own choice); of what a bundle, a configuration, a script, its service or a class file is refused with, that
+-- the text of a fault; of what a bundle, a configuration, a script, its service or a class file is refused with, that
 -- fault's own text
 abbrev pub fault_text : Fault → List ℕ
 fault_text Input = codes "cannot read standard input"

@@ -31,19 +31,19 @@ Writes s bytes = Appends s.old s.new bytes
 abbrev pub WritesPart : Stream → List ℕ → Type 0
 WritesPart s bytes = AppendsPart s.old s.new bytes
 
--- nothing is written, for this reason (own choice)
+-- nothing is written, for this reason
 abbrev pub WritesNothing : Stream → Type 0 → Type 0
 WritesNothing s reason = Writes s [] × reason
 
--- the line of a fault (own choice)
+-- the line of a fault
 abbrev pub fault_line : List ℕ → List ℕ
 fault_line text = codes "classlink: " ++ text ++ 10 ∷ []
 
--- the line of a fault is written, as far as its output takes it (own choice)
+-- the line of a fault is written, as far as its output takes it
 abbrev pub TellsFault : Stream → Fault → Type 0
 TellsFault err fault = WritesPart err (fault_line (fault_text fault))
 
--- the exit status, and what is on standard error (own choice)
+-- the exit status, and what is on standard error
 abbrev pub EndsWith : Stream → ℕ → Result (Unit {0}) Fault → Type 0
 EndsWith err status (Ok x) = (status ≡ 0) × Writes err []
 EndsWith err status (Err fault) = (status ≡ 1) × TellsFault err fault

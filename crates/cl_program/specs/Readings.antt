@@ -10,10 +10,7 @@ use Rattle.cl_program.specs.Files.{Giving, IsUnreadable}
 use Rattle.cl_program.specs.Outputs.{EndsWith, Outputs, Stream, Writes, WritesNothing, WritesPart}
 use Rattle.cl_program.specs.declared.fault.Fault.{Fault}
 use Rattle.cl_program.specs.declared.fault.Fault.TheVariants.{Write, TooLarge, Path, File, Memory}
-
--- the most bytes that a class file may have (own choice)
-abbrev pub most_of_class : ℕ
-most_of_class = 16777216
+use Rattle.cl_source.specs.declared.size.TheConstants.{MOST_CLASS_BYTES}
 
 -- the lines of the class file that bytes spell (JVMS SE 8, 4; the lines are an own choice)
 pub record IsListing (bytes lines : List ℕ) : Type 0 where
@@ -21,46 +18,46 @@ pub record IsListing (bytes lines : List ℕ) : Type 0 where
   pub read : read_of bytes ≡ Ok file
   pub are : lines ≡ listing_of file
 
--- the lines of the class file that was read (own choice)
+-- the lines of the class file that was read
 pub record AreLinesOf (gives : Giving) (lines : List ℕ) : Type 0 where
   pub bytes : List ℕ
-  pub content : IsWithin gives most_of_class bytes
+  pub content : IsWithin gives MOST_CLASS_BYTES bytes
   pub listing : IsListing bytes lines
 
 -- what was read is no class file, and this is its first fault (JVMS SE 8, 4; the order of faults is an own choice)
 pub record IsNoClass (gives : Giving) (fault : ClassFault) : Type 0 where
   pub bytes : List ℕ
-  pub content : IsWithin gives most_of_class bytes
+  pub content : IsWithin gives MOST_CLASS_BYTES bytes
   pub read : read_of bytes ≡ Err fault
 
--- the lines are written (own choice)
+-- the lines are written
 pub record PrintsLines (gives : Giving) (out : Stream) : Type 0 where
   pub lines : List ℕ
   pub of_file : AreLinesOf gives lines
   pub whole : Writes out lines
 
--- a first part of the lines is written, and no more (own choice)
+-- a first part of the lines is written, and no more
 pub record BreaksLines (gives : Giving) (out : Stream) : Type 0 where
   pub lines : List ℕ
   pub of_file : AreLinesOf gives lines
   pub part : WritesPart out lines
 
--- when a reading ends by a fault, and what is on its output (own choice)
+-- when a reading ends by a fault, and what is on its output
 abbrev pub FailsToRead : Giving → List ℕ → Stream → Fault → Type 0
 FailsToRead gives path out (Path p) = WritesNothing out ((string_bytes p ≡ path) × IsUnreadable gives)
-FailsToRead gives path out TooLarge = WritesNothing out (IsTooLarge gives most_of_class)
+FailsToRead gives path out TooLarge = WritesNothing out (IsTooLarge gives MOST_CLASS_BYTES)
 FailsToRead gives path out (File (errors.Fault fault)) = WritesNothing out (IsNoClass gives fault)
 FailsToRead gives path out (File errors.Memory) = WritesNothing out ⊤
 FailsToRead gives path out Write = BreaksLines gives out
 FailsToRead gives path out Memory = WritesNothing out ⊤ ⊎ BreaksLines gives out
 FailsToRead gives path out _ = ⊥
 
--- what reading a class file answers, and what is on its output (own choice)
+-- what reading a class file answers, and what is on its output
 abbrev pub ReadingOf : Giving → List ℕ → Stream → Result (Unit {0}) Fault → Type 0
 ReadingOf gives path out (Ok x) = PrintsLines gives out
 ReadingOf gives path out (Err fault) = FailsToRead gives path out fault
 
--- the class file at a path was read, or a fault ended it, and the exit status and both outputs say so (own choice)
+-- the class file at a path was read, or a fault ended it, and the exit status and both outputs say so
 pub record IsReading (gives : Giving) (path : List ℕ) (outputs : Outputs) (status : ℕ) : Type 0 where
   pub outcome : Result (Unit {0}) Fault
   pub read : ReadingOf gives path outputs.out outcome
@@ -68,7 +65,7 @@ pub record IsReading (gives : Giving) (path : List ℕ) (outputs : Outputs) (sta
 
 -- ---- its steps
 
--- the first fault of bytes that spell no class file (JVMS SE 8, 4; the order of faults is an own choice), or want of memory
+-- the first fault of bytes that spell no class file (JVMS SE 8, 4; the order of faults is an own choice), or out of memory
 abbrev pub IsRefusal : List ℕ → Fault → Type 0
 IsRefusal bytes (File (errors.Fault fault)) = read_of bytes ≡ Err fault
 IsRefusal bytes (File errors.Memory) = ⊤

@@ -11,32 +11,33 @@ use Rattle.cl_schedule.specs.Headline.{IsServedInOrder}
 use Rattle.cl_pool.specs.Served.{IsServed}
 use Rattle.cl_source.specs.Seen.{IsTooLarge}
 use Rattle.cl_program.specs.Asking.{Wanted}
-use Rattle.cl_program.specs.Files.{Giving, IsText, IsNoText, IsUnreadable, LacksText, most_of_text}
+use Rattle.cl_program.specs.Files.{Giving, IsText, IsNoText, IsUnreadable, LacksText}
 use Rattle.cl_program.specs.Outputs.{EndsWith, Outputs, Stream, Writes, WritesNothing, WritesPart}
 use Rattle.cl_program.specs.Serving.{ByWorkers, IsUnserved}
 use Rattle.cl_program.specs.declared.fault.Fault.{Fault}
 use Rattle.cl_program.specs.declared.fault.Fault.TheVariants.{Write, TooLarge, NotUtf8, Config, Script, Serve, Threads, Path, Memory}
+use Rattle.cl_program.specs.declared.limits.TheConstants.{MOST_INPUT_BYTES}
 
 -- ---- the two files
 
--- what the text that a file gives is read as for a configuration: it, or its first fault (own choice)
+-- what the text that a file gives is read as for a configuration: it, or its first fault
 pub record IsConfigAt (gives : Giving) (result : Result Configured ConfigFault) : Type 0 where
   pub text : List ℕ
   pub given : IsText gives text
   pub read : config_of text ≡ result
 
--- what the text that a file gives is read as for a script under a configuration: it, or its first fault (own choice)
+-- what the text that a file gives is read as for a script under a configuration: it, or its first fault
 pub record IsScriptAt (gives : Giving) (config : Configured) (result : Result Scripted ScriptFault) : Type 0 where
   pub text : List ℕ
   pub given : IsText gives text
   pub read : script_of (names_of config) text result
 
--- why there is no configuration at a path (own choice)
+-- why there is no configuration at a path
 abbrev pub LacksConfig : Giving → List ℕ → Fault → Type 0
 LacksConfig gives path (Config fault) = IsConfigAt gives (Err fault)
 LacksConfig gives path fault = LacksText gives path fault
 
--- why there is no script at a path (own choice)
+-- why there is no script at a path
 abbrev pub LacksScript : Giving → Configured → List ℕ → Fault → Type 0
 LacksScript gives config path (Script fault) = IsScriptAt gives config (Err fault)
 LacksScript gives config path fault = LacksText gives path fault
@@ -48,7 +49,7 @@ LacksScript gives config path fault = LacksText gives path fault
 abbrev pub IsServedOver : ℕ → Configured → Scripted → Report → Type 0
 IsServedOver workers config script r = ByWorkers workers (IsServedInOrder None config script r) (IsServed None config script r)
 
--- the lines of a report of the script under the configuration that the files give (own choice)
+-- the lines of a report of the script under the configuration that the files give
 pub record AreLinesFrom (gives : List ℕ → Giving) (w : Wanted) (lines : List ℕ) : Type 0 where
   pub config : Configured
   pub script : Scripted
@@ -58,13 +59,13 @@ pub record AreLinesFrom (gives : List ℕ → Giving) (w : Wanted) (lines : List
   pub served : IsServedOver w.options.workers config script report
   pub are : lines ≡ report_lines (names_of config) w.options.answers report.history report.answers
 
--- its lines are written (own choice)
+-- its lines are written
 pub record PrintsFrom (gives : List ℕ → Giving) (w : Wanted) (out : Stream) : Type 0 where
   pub lines : List ℕ
   pub of_files : AreLinesFrom gives w lines
   pub whole : Writes out lines
 
--- a first part of its lines is written, and no more (own choice)
+-- a first part of its lines is written, and no more
 pub record BreaksFrom (gives : List ℕ → Giving) (w : Wanted) (out : Stream) : Type 0 where
   pub lines : List ℕ
   pub of_files : AreLinesFrom gives w lines
@@ -72,25 +73,25 @@ pub record BreaksFrom (gives : List ℕ → Giving) (w : Wanted) (out : Stream) 
 
 -- ---- how a run ends
 
--- the configuration was read, and this holds under it (own choice)
+-- the configuration was read, and this holds under it
 pub record IsUnder (gives : List ℕ → Giving) (w : Wanted) (P : Configured → Type 0) : Type 0 where
   pub config : Configured
   pub configured : IsConfigAt (gives w.config) (Ok config)
   pub holds : P config
 
--- this holds of the configuration's file, or of the script's once the configuration was read (own choice)
+-- this holds of the configuration's file, or of the script's once the configuration was read
 abbrev pub IsOfOne : (List ℕ → Giving) → Wanted → (Giving → Type 0) → Type 0
 IsOfOne gives w P = P (gives w.config) ⊎ IsUnder gives w (λ config. P (gives w.script))
 
--- the path is the configuration's, which cannot be read; or the configuration was read, and it is the script's, which cannot (own choice)
+-- the path is the configuration's, which cannot be read; or the configuration was read, and it is the script's, which cannot
 abbrev pub IsUnreadPath : (List ℕ → Giving) → Wanted → List ℕ → Type 0
 IsUnreadPath gives w path = ((path ≡ w.config) × IsUnreadable (gives w.config)) ⊎ IsUnder gives w (λ config. (path ≡ w.script) × IsUnreadable (gives w.script))
 
--- when a run ends by a fault, and what is on its output (own choice); that a write was refused, or that memory was wanting,
+-- when a run ends by a fault, and what is on its output; that a write was refused, or that memory was wanting,
 -- is taken at its word
 abbrev pub EndsFrom : (List ℕ → Giving) → Wanted → Stream → Fault → Type 0
 EndsFrom gives w out (Path p) = WritesNothing out (IsUnreadPath gives w (string_bytes p))
-EndsFrom gives w out TooLarge = WritesNothing out (IsOfOne gives w (λ g. IsTooLarge g most_of_text))
+EndsFrom gives w out TooLarge = WritesNothing out (IsOfOne gives w (λ g. IsTooLarge g MOST_INPUT_BYTES))
 EndsFrom gives w out NotUtf8 = WritesNothing out (IsOfOne gives w IsNoText)
 EndsFrom gives w out (Config fault) = WritesNothing out (IsConfigAt (gives w.config) (Err fault))
 EndsFrom gives w out (Script fault) = WritesNothing out (IsUnder gives w (λ config. IsScriptAt (gives w.script) config (Err fault)))
@@ -100,21 +101,21 @@ EndsFrom gives w out Write = BreaksFrom gives w out
 EndsFrom gives w out Memory = WritesNothing out ⊤ ⊎ BreaksFrom gives w out
 EndsFrom gives w out _ = ⊥
 
--- what running a script answers, and what is on its output (own choice)
+-- what running a script answers, and what is on its output
 abbrev pub ScriptRunOf : (List ℕ → Giving) → Wanted → Stream → Result (Unit {0}) Fault → Type 0
 ScriptRunOf gives w out (Ok x) = PrintsFrom gives w out
 ScriptRunOf gives w out (Err fault) = EndsFrom gives w out fault
 
--- no seed could be drawn, which is taken at its word: nothing is written, and the configuration's path is told as unread (own choice)
+-- no seed could be drawn, which is taken at its word: nothing is written, and the configuration's path is told as unread
 abbrev pub IsSeedless : Wanted → Stream → Result (Unit {0}) Fault → Type 0
 IsSeedless w out (Err (Path p)) = WritesNothing out (string_bytes p ≡ w.config)
 IsSeedless w out _ = ⊥
 
--- so it is with a seed, or none could be drawn (own choice)
+-- so it is with a seed, or none could be drawn
 abbrev pub IsRunOf : (List ℕ → Giving) → Wanted → Stream → Result (Unit {0}) Fault → Type 0
 IsRunOf gives w out outcome = ScriptRunOf gives w out outcome ⊎ IsSeedless w out outcome
 
--- a script was run, or a fault ended it, and the exit status and both outputs say so (own choice)
+-- a script was run, or a fault ended it, and the exit status and both outputs say so
 pub record IsScriptRun (gives : List ℕ → Giving) (w : Wanted) (outputs : Outputs) (status : ℕ) : Type 0 where
   pub outcome : Result (Unit {0}) Fault
   pub ran : IsRunOf gives w outputs.out outcome
@@ -122,7 +123,7 @@ pub record IsScriptRun (gives : List ℕ → Giving) (w : Wanted) (outputs : Out
 
 -- ---- its steps
 
--- why a script was not served: memory was wanting for the directories, or its workers tell why (own choice)
+-- why a script was not served: memory was wanting for the directories, or its workers tell why
 abbrev pub IsUnservedOver : ℕ → Fault → Type 0
 IsUnservedOver workers Memory = ⊤
 IsUnservedOver workers fault = IsUnserved workers fault

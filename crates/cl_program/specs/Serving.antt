@@ -23,12 +23,12 @@ pub record IsServedAlone (told : Option Content) (config : Configured) (script :
   pub in_order : IsServedInOrder told config script r
   pub no_source_faults : faults (reported config r).answers ≡ 0
 
--- why several workers made no report: their number is blamed where it is not 1 to 64, and nowhere else (own choice)
+-- why several workers made no report: their number is blamed where there are none or too many, and nowhere else
 abbrev pub FailsBy : ℕ → ThreadFault → Type 0
 FailsBy workers Workers = ¬ (MayServe workers)
 FailsBy workers _ = MayServe workers
 
--- why a script was not served: one worker tells that memory was wanting, several tell a fault of theirs (own choice)
+-- why a script was not served: one worker tells that memory was wanting, several tell a fault of theirs
 abbrev pub IsUnserved : ℕ → Fault → Type 0
 IsUnserved workers (Serve wrong) = (workers ≡ 1) × (wrong ≡ serve.Memory)
 IsUnserved workers (Threads wrong) = ¬ (workers ≡ 1) × FailsBy workers wrong

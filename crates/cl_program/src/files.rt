@@ -5,7 +5,7 @@ ghost use Rattle.cl_source.specs.Seen.{IsWithin};
 ghost use Rattle.cl_program.specs.Files.{IsText, IsUnread, LacksText};
 
 use crate::fault::Fault;
-use crate::input::MOST_BYTES;
+use crate::limits::MOST_INPUT_BYTES;
 use cl_source::ReadFile;
 use cl_streams::{InputFault, read_bytes};
 use std::alloc::{AllocError, Global};
@@ -62,7 +62,7 @@ pub(crate) fn text_at<F: ReadFile>(alloc: Global, files: &F, path: &str) -> Resu
     ensures ok { IfOk result (λ t. IsText (F.gives files.now path.now) (string_bytes t)) }
     ensures err { IfErr result (LacksText (F.gives files.now path.now) path.now) }
 {
-    let bytes = bytes_at(alloc, files, path, MOST_BYTES)?;
+    let bytes = bytes_at(alloc, files, path, MOST_INPUT_BYTES)?;
     match String::from_utf8(bytes) {
         Ok(text) => Ok(text),
         Err(_) => Err(Fault::NotUtf8),

@@ -1,10 +1,11 @@
 //! What the program reads and draws for a run: its input, and a seed.
 
 ghost use Rattle.std.specs.Prelude.{◌≡◌, ◌<◌, ◌≤◌, length, IfOk, IfErr, IfSome, Err, string_bytes, string_len};
-ghost use Rattle.std.specs.Str.{IsUtf8};
+ghost use Rattle.cl_program.specs.Files.{AreNoText};
 ghost use Rattle.cl_program.specs.Faults.{IsInputFault, input_fault};
 
 use crate::fault::Fault;
+use crate::limits::MOST_INPUT_BYTES;
 use cl_names::Seed;
 use cl_streams::read_bytes;
 use std::alloc::Global;
@@ -12,20 +13,17 @@ use std::hash::RandomState;
 use std::io::Read;
 use std::random::RandomSource;
 
-/// The most bytes that a text may have.
-pub(crate) const MOST_BYTES: usize = 67_108_864;
-
 /// The text of an input, read to its end.
 pub(crate) fn read_text<I: Read + Drop>(alloc: Global, mut input: I) -> Result<String, Fault>
     ensures ok { IfOk result (λ t. IfSome (I.remaining input) (λ bytes. string_bytes t ≡ bytes)) }
-    ensures small { IfOk result (λ t. string_len t ≤ MOST_BYTES) }
+    ensures small { IfOk result (λ t. string_len t ≤ MOST_INPUT_BYTES) }
     ensures large { result ≡ Err Fault.TooLarge
-        → IfSome (I.remaining input) (λ bytes. MOST_BYTES < length bytes) }
+        → IfSome (I.remaining input) (λ bytes. MOST_INPUT_BYTES < length bytes) }
     ensures not_text { result ≡ Err Fault.NotUtf8
-        → IfSome (I.remaining input) (λ bytes. (length bytes ≤ MOST_BYTES) × ¬ (IsUtf8 bytes)) }
+        → IfSome (I.remaining input) (λ bytes. AreNoText bytes) }
     ensures faults { IfErr result IsInputFault }
 {
-    let bytes = read_bytes(alloc, &mut input, MOST_BYTES)?;
+    let bytes = read_bytes(alloc, &mut input, MOST_INPUT_BYTES)?;
     match String::from_utf8(bytes) {
         Ok(text) => Ok(text),
         Err(_) => Err(Fault::NotUtf8),
@@ -35,7 +33,7 @@ pub(crate) fn read_text<I: Read + Drop>(alloc: Global, mut input: I) -> Result<S
 /// A seed for the tables of names, which strangers cannot know, if one is to be had.
 pub(crate) fn draw_seed<F: RandomSource>(random: &F) -> Option<Seed> {
     match RandomState::new(random) {
-        Ok(state) => Some(Seed::drawn(state)),
+        Ok(state) => Some(Seed::from_state(state)),
         Err(_) => None,
     }
 }

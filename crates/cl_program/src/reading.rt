@@ -8,13 +8,10 @@ ghost use Rattle.cl_program.specs.Readings.{IsRefusal, ReadingOf};
 use crate::fault::Fault;
 use crate::files::bytes_at;
 use cl_classfile::ClassFile;
-use cl_source::ReadFile;
+use cl_source::{MOST_CLASS_BYTES, ReadFile};
 use cl_writer::print_listing;
 use std::alloc::Global;
 use std::io::Write;
-
-/// The most bytes that a class file may have.
-const MOST_CLASS_BYTES: usize = 16_777_216;
 
 /// Prints the lines of the class file at a path. It takes the memory of the file, and of a page of its lines.
 pub(crate) fn print_class<F: ReadFile, W: Write>(

@@ -4,12 +4,8 @@ use Rattle.std.specs.List.{enumerate_from, flat_map}
 use Rattle.std.specs.Option.{option_map_or}
 use Rattle.cl_model.specs.declared.event.Event.{Event}
 use Rattle.cl_model.specs.declared.answer.Answer.{Answer}
-use Rattle.cl_model.specs.Lines.{line, answer_line}
+use Rattle.cl_model.specs.Lines.{line, ended, answer_line}
 use Rattle.cl_model.specs.Views.{answer_of, step_of}
-
--- a line with its line feed
-abbrev pub ended : List ℕ → List ℕ
-ended line = line ++ 10 ∷ []
 
 -- the line of the step that an event tells, where it has one; a post has none, whatever its answer
 abbrev pub event_line : List (List ℕ) → Event → List ℕ

@@ -1,11 +1,11 @@
 ghost use Rattle.std.specs.Prelude.{◌≡◌, ◌++◌, [], ◌∷◌, length, map, string_bytes, All, OnOk, OnErr, if◌then◌else◌};
 ghost use Rattle.std.specs.Fmt.{decimal};
 ghost use Rattle.std.specs.Io.KnownBytes.{Appends};
-ghost use Rattle.cl_model.specs.Lines.{answer_text, words};
+ghost use Rattle.cl_model.specs.Lines.{answer_text, ended, words};
 ghost use Rattle.cl_model.specs.Texts.{EventNames, AnswerNames};
 ghost use Rattle.cl_model.specs.Views.{answer_of};
 ghost use Rattle.cl_streams.specs.Writing.{AppendsPart, Passes};
-ghost use Rattle.cl_report.specs.Report.{answer_lines, ended, event_line, history_lines, report_lines};
+ghost use Rattle.cl_report.specs.Report.{answer_lines, event_line, history_lines, report_lines};
 
 use cl_model::{Answer, Event};
 use cl_registry::Report;
@@ -33,8 +33,8 @@ pub fn print_report<W: Write>(
 {
     let mut waiting = String::new(alloc);
     let events = shown_events(report, answers);
-    print_history(alloc, events, loaders, out, &mut waiting)?;
-    print_answers(alloc, report.answers.as_slice(), loaders, out, &mut waiting)?;
+    print_history(events, loaders, out, &mut waiting)?;
+    print_answers(report.answers.as_slice(), loaders, out, &mut waiting)?;
     write_out(out, waiting.as_bytes())
 }
 
@@ -51,7 +51,6 @@ fn shown_events(report: &Report, answers: bool) -> &[Event]
 
 /// Puts the lines of events behind what waits.
 fn print_history<W: Write>(
-    alloc: Global,
     events: &[Event],
     loaders: &[String],
     out: &mut W,
@@ -65,14 +64,13 @@ fn print_history<W: Write>(
         (string_bytes waiting.old ++ history_lines (map string_bytes loaders.now) events.now)) }
 {
     for event in events {
-        put_event(alloc, event, loaders, out, waiting)?;
+        put_event(event, loaders, out, waiting)?;
     }
     Ok(())
 }
 
 /// Puts the lines of answers, numbered from 1, behind what waits.
 fn print_answers<W: Write>(
-    alloc: Global,
     answers: &[Answer],
     loaders: &[String],
     out: &mut W,
@@ -86,14 +84,13 @@ fn print_answers<W: Write>(
         (string_bytes waiting.old ++ answer_lines (map string_bytes loaders.now) answers.now)) }
 {
     for (index, answer) in answers.iter().enumerate() {
-        put_answer(alloc, index + 1, answer, loaders, out, waiting)?;
+        put_answer(index + 1, answer, loaders, out, waiting)?;
     }
     Ok(())
 }
 
-/// Puts the line of an event, where it has one, behind what waits.
+/// Puts the line of an event, where it has one, behind what waits, and writes all of it once it is long.
 fn put_event<W: Write>(
-    alloc: Global,
     event: &Event,
     loaders: &[String],
     out: &mut W,
@@ -106,15 +103,12 @@ fn put_event<W: Write>(
     ensures part { OnErr result (AppendsPart (W.contents out.old) (W.contents out.new)
         (string_bytes waiting.old ++ event_line (map string_bytes loaders.now) event.now)) }
 {
-    match event.text(alloc, loaders)? {
-        Some(line) => put_line(out, waiting, line.as_str()),
-        None => Ok(()),
-    }
+    event.put_line(loaders, waiting)?;
+    pass_page(out, waiting)
 }
 
-/// Puts the number of a request and its answer behind what waits.
+/// Puts the number of a request and its answer behind what waits, and writes all of it once it is long.
 fn put_answer<W: Write>(
-    alloc: Global,
     number: usize,
     answer: &Answer,
     loaders: &[String],
@@ -129,19 +123,8 @@ fn put_answer<W: Write>(
         (string_bytes waiting.old ++ ended (words (decimal number ∷ answer_text
         (map string_bytes loaders.now) (answer_of answer.now) ∷ [])))) }
 {
-    let text = answer.text(alloc, loaders)?;
     write!(waiting, "{number} ")?;
-    put_line(out, waiting, text.as_str())
-}
-
-/// Puts a line and its end behind what waits, and writes all of it once it is long.
-fn put_line<W: Write>(out: &mut W, waiting: &mut String, line: &str) -> Result<(), PrintFault>
-    ensures line { OnOk result (Passes (W.contents out.old) (string_bytes waiting.old)
-        (W.contents out.new) (string_bytes waiting.new) (ended line.now)) }
-    ensures part { OnErr result (AppendsPart (W.contents out.old) (W.contents out.new)
-        (string_bytes waiting.old ++ ended line.now)) }
-{
-    waiting.push_str(line)?;
+    answer.put_text(loaders, waiting)?;
     waiting.push_str("\n")?;
     pass_page(out, waiting)
 }

@@ -30,7 +30,7 @@ taken entered input gives o status (Bundle options) is bundle run read = Runs op
 taken entered input gives o status (Run words) is bundle run read = RunsScript (wanted_of words) is.0 is.1 (run (wanted_of words) refl)
 taken entered input gives o status (Read path) is bundle run read = Reads is.0 (read (file_of entered) (sym is.1))
 
--- ---- want of memory
+-- ---- out of memory
 
 pub lacking : (kind : ErrorKind) (o : Outputs) (status : ℕ) → kind ≡ kinds.OutOfMemory → EndsFor kind o status → LacksMemory o status
 lacking kind o status is ends = subst (λ (k : ErrorKind). EndsFor k o status) is ends

@@ -29,6 +29,7 @@ use Rattle.cl_program.specs.declared.asked.Asked.{Asked}
 use Rattle.cl_program.specs.declared.asked.Asked.TheVariants.{Bundle, Read, Run}
 use Rattle.cl_program.specs.declared.asked.Options.{Options}
 use Rattle.classlink.specs.CommandLine.{Apart, AreOptions, AskFor, AskToRead, AskToRun, Before, Behind, HasFlag, HasOptions, IsAsked, IsCount, IsCountOf, IsNamed, IsToRead, IsToRun, file_of, flag_words, is_plain_word, named_file, option_words, program, wrong_words}
+use Rattle.cl_pool.specs.declared.limits.TheConstants.{MOST_WORKERS}
 
 -- ---- the program's command on its words
 
@@ -81,7 +82,7 @@ numeral_plain (c ∷ d ∷ rest) h = by (c == 45) refl
 
 -- no test for a flag takes it for one, and it passes the parser
 abbrev IsCountWord : Text → Type 0
-IsCountWord text = IsNoFlag text × (accepts false (Unsigned 1 64) text ≡ true)
+IsCountWord text = IsNoFlag text × (accepts false (Unsigned 1 MOST_WORKERS) text ≡ true)
 
 abbrev PassesCount : Option Text → Type 0
 PassesCount None = Unit {0}
@@ -89,7 +90,7 @@ PassesCount (Some text) = IsCountWord text
 
 passes_count : (count : Option Text) (n : ℕ) → IsCountOf count n → PassesCount count
 passes_count None n is = tt
-passes_count (Some text) n is = (no_flag text (numeral_plain text is.is_in.0), Accepts-accepts false (Unsigned 1 64) text is.is_in)
+passes_count (Some text) n is = (no_flag text (numeral_plain text is.is_in.0), Accepts-accepts false (Unsigned 1 MOST_WORKERS) text is.is_in)
 
 -- what is found for the option
 abbrev count_text : Option Text → Text

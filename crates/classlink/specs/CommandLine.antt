@@ -13,99 +13,100 @@ use Rattle.cl_program.specs.Asking.{Wanted, wanted_of}
 use Rattle.cl_program.specs.declared.asked.Asked.{Asked}
 use Rattle.cl_program.specs.declared.asked.Asked.TheVariants.{Bundle, Read, Run}
 use Rattle.cl_program.specs.declared.asked.Options.{Options}
+use Rattle.cl_pool.specs.declared.limits.TheConstants.{MOST_WORKERS}
 
--- the option `--workers`, from 1 to 64, and 1 where it is left out (own choice)
+-- the option `--workers`, from 1 to the most, and 1 where it is left out
 abbrev pub workers : Rule
-workers = record (new_rule (codes "workers")) { long = Some (codes "workers"); value_names = 1; defaults = codes "1" ∷ []; parser = Some (Unsigned 1 64) }
+workers = record (new_rule (codes "workers")) { long = Some (codes "workers"); value_names = 1; defaults = codes "1" ∷ []; parser = Some (Unsigned 1 MOST_WORKERS) }
 
--- the flag `--answers` (own choice)
+-- the flag `--answers`
 abbrev pub answers : Rule
 answers = record (new_rule (codes "answers")) { long = Some (codes "answers"); action = Some SetTrue }
 
--- `bundle`, with its options (own choice)
+-- `bundle`, with its options
 abbrev pub bundle : App
 bundle = with_rule (with_rule (new_app (codes "bundle")) workers) answers
 
--- a file that is wanted, by its name (own choice)
+-- a file that is wanted, by its name
 abbrev pub file : List ℕ → Rule
 file name = record (new_rule name) { required = true }
 
--- `read`, with its file (own choice)
+-- `read`, with its file
 abbrev pub reading : App
 reading = with_rule (new_app (codes "read")) (file (codes "FILE"))
 
--- `run`, with its files and its options (own choice)
+-- `run`, with its files and its options
 abbrev pub running : App
 running = with_rule (with_rule (with_rule (with_rule (new_app (codes "run")) (file (codes "CONFIG"))) (file (codes "SCRIPT"))) workers) answers
 
--- the command, with one of its subcommands wanted (own choice)
+-- the command, with one of its subcommands wanted
 abbrev pub with_required : App → App
 with_required a = record a { top = record a.top { subcommand_required = true } }
 
--- the command, with a version (own choice)
+-- the command, with a version
 abbrev pub with_version : App → App
 with_version a = record a { top = record a.top { has_version = true } }
 
--- the program before its subcommands are added: one of them is wanted, and there is a version (own choice)
+-- the program before its subcommands are added: one of them is wanted, and there is a version
 abbrev pub wanting : App
 wanting = with_required (with_version (new_app (codes "classlink")))
 
--- the program: `bundle`, `run` or `read` (own choice)
+-- the program: `bundle`, `run` or `read`
 abbrev pub program : App
 program = with_subcommand (with_subcommand (with_subcommand wanting bundle.top) running.top) reading.top
 
--- a command is this one, for what is built on it (own choice)
+-- a command is this one, for what is built on it
 abbrev pub IsCommand : App → Command → Type 0
 IsCommand a c = (app_of c ≡ a) × ((out-Command c).has_globals ≡ false)
 
--- what `clap` finds wrong with the words, of which the first is the program's name: nothing, or the kinds of error that it may give (own choice)
+-- what `clap` finds wrong with the words, of which the first is the program's name: nothing, or the kinds of error that it may give
 unfoldable pub wrong_words : List (List ℕ) → Kinds
 wrong_words words = fault_of program words
 
--- a text of digits that spells a count of workers, from 1 to 64; a plus may stand first (own choice)
+-- a text of digits that spells a count of workers, from 1 to the most; a plus may stand first
 pub record IsCount (text : List ℕ) (n : ℕ) : Type 0 where
-  pub is_in : IsUnsignedIn 1 64 text
+  pub is_in : IsUnsignedIn 1 MOST_WORKERS text
   pub value : digits_value 10 (without_leading_plus text) ≡ n
 
--- a count of workers that is given, or 1 (own choice)
+-- a count of workers that is given, or 1
 abbrev pub IsCountOf : Option (List ℕ) → ℕ → Type 0
 IsCountOf None n = n ≡ 1
 IsCountOf (Some text) n = IsCount text n
 
--- the word `--answers`, where the answers alone are wanted (own choice)
+-- the word `--answers`, where the answers alone are wanted
 abbrev pub flag_words : Bool → List (List ℕ)
 flag_words false = []
 flag_words true = codes "--answers" ∷ []
 
--- the words of the options: `--workers` and a count, where one is given, and `--answers` (own choice)
+-- the words of the options: `--workers` and a count, where one is given, and `--answers`
 abbrev pub option_words : Option (List ℕ) → Bool → List (List ℕ)
 option_words None only_answers = flag_words only_answers
 option_words (Some text) only_answers = codes "--workers" ∷ text ∷ flag_words only_answers
 
--- the words, of which the first is the program's name, ask for a bundle's report with these options (own choice)
+-- the words, of which the first is the program's name, ask for a bundle's report with these options
 pub record AskFor (words : List (List ℕ)) (o : Options) : Type 0 where
   pub count : Option (List ℕ)
   pub counts : IsCountOf count o.workers
   pub are : drop 1 words ≡ codes "bundle" ∷ option_words count o.answers
 
--- a word that is no flag: it does not begin with a hyphen, or is the hyphen alone (own choice)
+-- a word that is no flag: it does not begin with a hyphen, or is the hyphen alone
 abbrev pub is_plain_word : List ℕ → Bool
 is_plain_word [] = true
 is_plain_word (c ∷ []) = true
 is_plain_word (c ∷ d ∷ rest) = not (c == 45)
 
--- the words, of which the first is the program's name, ask for the lines of the file at a path, which is plain or stands behind `--` (own choice)
+-- the words, of which the first is the program's name, ask for the lines of the file at a path, which is plain or stands behind `--`
 abbrev pub AskToRead : List (List ℕ) → List ℕ → Type 0
 AskToRead words path =
     ((drop 1 words ≡ codes "read" ∷ path ∷ []) × (is_plain_word path ≡ true)) ⊎ (drop 1 words ≡ codes "read" ∷ codes "--" ∷ path ∷ [])
 
--- both paths are no flags (own choice)
+-- both paths are no flags
 pub record ArePlain (w : Wanted) : Type 0 where
   pub config : is_plain_word w.config ≡ true
   pub script : is_plain_word w.script ≡ true
 
 -- the words, of which the first is the program's name, ask so for a script's run by one worker: the flag behind or before the paths,
--- which are plain or stand behind `--` (own choice)
+-- which are plain or stand behind `--`
 pub data AskToRun (words : List (List ℕ)) (w : Wanted) : Type 0 where
   Behind : w.options.workers ≡ 1 → ArePlain w
       → drop 1 words ≡ codes "run" ∷ w.config ∷ w.script ∷ flag_words w.options.answers → AskToRun words w
@@ -116,58 +117,58 @@ pub data AskToRun (words : List (List ℕ)) (w : Wanted) : Type 0 where
 
 -- ---- what is asked for, by the subcommand that `clap` finds and what it finds for its arguments
 
--- the subcommand has this name (own choice)
+-- the subcommand has this name
 abbrev pub IsNamed : List ℕ → Option (Text × List Row) → Type 0
 IsNamed name entered = option_map (λ p. p.0) entered ≡ Some name
 
--- the subcommand is `read` (own choice)
+-- the subcommand is `read`
 abbrev pub IsToRead : Option (Text × List Row) → Type 0
 IsToRead entered = IsNamed (codes "read") entered
 
--- the subcommand is `run` (own choice)
+-- the subcommand is `run`
 abbrev pub IsToRun : Option (Text × List Row) → Type 0
 IsToRun entered = IsNamed (codes "run") entered
 
--- its file of this name (own choice)
+-- its file of this name
 abbrev pub named_file : List ℕ → Option (Text × List Row) → Text
 named_file name entered = unwrap_or (option_and_then (λ p. first_of name p.1) entered) []
 
--- the file of `read` (own choice)
+-- the file of `read`
 abbrev pub file_of : Option (Text × List Row) → Text
 file_of entered = named_file (codes "FILE") entered
 
--- the flag `--answers` is `true` or `false` (own choice)
+-- the flag `--answers` is `true` or `false`
 abbrev pub HasFlag : Option (Text × List Row) → Bool → Type 0
 HasFlag entered b = option_and_then (λ p. one_of (codes "answers") p.1) entered ≡ Some (bool_text b)
 
--- `--workers` is a text that spells this count (own choice)
+-- `--workers` is a text that spells this count
 pub record HasWorkers (entered : Option (Text × List Row)) (n : ℕ) : Type 0 where
   pub text : List ℕ
   pub found : option_and_then (λ p. one_of (codes "workers") p.1) entered ≡ Some text
   pub spells : IsCount text n
 
--- these are its options (own choice)
+-- these are its options
 pub record HasOptions (entered : Option (Text × List Row)) (o : Options) : Type 0 where
   pub workers : (n : ℕ) → HasWorkers entered n → o.workers ≡ n
   pub answers : (b : Bool) → HasFlag entered b → o.answers ≡ b
 
--- these are the options of a subcommand, by what is found for its arguments (own choice)
+-- these are the options of a subcommand, by what is found for its arguments
 pub record AreOptions (f : Found) (o : Options) : Type 0 where
   pub workers : (text : List ℕ) (n : ℕ) → one_text f (codes "workers") ≡ Some text → IsCount text n → o.workers ≡ n
   pub answers : (b : Bool) → one_text f (codes "answers") ≡ Some (bool_text b) → o.answers ≡ b
 
--- the subcommand is neither `read` nor `run` (own choice)
+-- the subcommand is neither `read` nor `run`
 pub record IsForBundle (entered : Option (Text × List Row)) : Type 0 where
   pub no_reading : ¬ IsToRead entered
   pub no_running : ¬ IsToRun entered
 
--- `run` wants this (own choice)
+-- `run` wants this
 pub record IsWanted (entered : Option (Text × List Row)) (w : Wanted) : Type 0 where
   pub config : named_file (codes "CONFIG") entered ≡ w.config
   pub script : named_file (codes "SCRIPT") entered ≡ w.script
   pub options : HasOptions entered w.options
 
--- what is asked for is what `clap` finds (own choice)
+-- what is asked for is what `clap` finds
 abbrev pub IsAsked : Option (Text × List Row) → Asked → Type 0
 IsAsked entered (Bundle options) = IsForBundle entered × HasOptions entered options
 IsAsked entered (Run words) = IsToRun entered × IsWanted entered (wanted_of words)

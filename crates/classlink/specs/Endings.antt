@@ -16,13 +16,13 @@ use Rattle.classlink.specs.CommandLine.{HasOptions, IsForBundle, IsToRead, IsToR
 
 -- ---- words that `clap` takes
 
--- memory was wanting before anything was done: this is told, and standard output is as it was (own choice)
+-- memory was wanting before anything was done: this is told, and standard output is as it was
 pub record LacksMemory (o : Outputs) (status : ℕ) : Type 0 where
   pub nothing : Writes o.out []
   pub told : EndsWith o.err status (Err Memory)
 
 -- what `clap` finds in words that it takes is done: the file of `read` is read, a script is run, or a bundle with its options; or memory
--- was wanting (own choice)
+-- was wanting
 pub data IsTaken (entered : Option (Text × List Row)) (input : Option (List ℕ)) (gives : List ℕ → Giving) (o : Outputs) (status : ℕ) : Type 0 where
   Reads : IsToRead entered → IsReading (gives (file_of entered)) (file_of entered) o status → IsTaken entered input gives o status
   RunsScript : (w : Wanted) → IsToRun entered → IsWanted entered w → IsScriptRun gives w o status → IsTaken entered input gives o status
@@ -31,33 +31,33 @@ pub data IsTaken (entered : Option (Text × List Row)) (input : Option (List ℕ
 
 -- ---- words that it does not take, and those that ask for help
 
--- known bytes grow by some text (own choice)
+-- known bytes grow by some text
 pub record Grows (s : Stream) : Type 0 where
   pub text : List ℕ
   pub grown : Writes s text
 
--- writing help succeeds, or is refused for a write or for want of memory; what is written is clap's (own choice)
+-- writing help succeeds, or is refused for a write or since memory ran out; what is written is clap's
 abbrev pub HelpOf : Result (Unit {0}) Fault → Type 0
 HelpOf (Ok x) = ⊤
 HelpOf (Err Write) = ⊤
 HelpOf (Err Memory) = ⊤
 HelpOf (Err _) = ⊥
 
--- standard output grows by some text, and standard error by nothing but the line of a fault that breaks it off (own choice)
+-- standard output grows by some text, and standard error by nothing but the line of a fault that breaks it off
 pub record IsHelped (o : Outputs) (status : ℕ) : Type 0 where
   pub outcome : Result (Unit {0}) Fault
   pub helped : HelpOf outcome
   pub grown : Grows o.out
   pub told : EndsWith o.err status outcome
 
--- how the program ends where `clap` answers with an error of this kind: want of memory and help as above, any other with status 2 and standard output as it was (own choice)
+-- how the program ends where `clap` answers with an error of this kind: out of memory and help as above, any other with status 2 and standard output as it was
 abbrev pub EndsFor : ErrorKind → Outputs → ℕ → Type 0
 EndsFor kinds.OutOfMemory o status = LacksMemory o status
 EndsFor kinds.DisplayHelp o status = IsHelped o status
 EndsFor kinds.DisplayVersion o status = IsHelped o status
 EndsFor _ o status = (status ≡ 2) × Writes o.out []
 
--- the program ends as for want of memory, or as for one of these kinds of error (own choice)
+-- the program ends as where memory ran out, or as for one of these kinds of error
 pub record IsTurnedDown (faults : Kinds) (o : Outputs) (status : ℕ) : Type 0 where
   pub kind : ErrorKind
   pub among : (kind ≡ kinds.OutOfMemory) ⊎ IsAmong kind faults

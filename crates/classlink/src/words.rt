@@ -4,6 +4,7 @@ ghost use Rattle.cl_program.specs.Asking.{AsksForBundle, AsksForFile, AsksForRun
 ghost use Rattle.cl_program.specs.declared.asked.Options.{Options};
 ghost use Rattle.classlink.specs.CommandLine.{AreOptions, AskFor, AskToRead, AskToRun, IsAsked, IsCommand, HasOptions, answers, bundle, file, program, reading, running, workers, wrong_words};
 
+use cl_pool::MOST_WORKERS;
 use cl_program::{Asked, Options, RunWords};
 use clap::builder::ValueParser;
 use clap::error::ErrorKind;
@@ -66,9 +67,6 @@ fn run_command<'a>(alloc: Global) -> Result<Command<'a>, AllocError>
     run.arg(workers_option(alloc))?.arg(answers_flag(alloc))
 }
 
-/// The most workers.
-const MOST_WORKERS: u64 = 64;
-
 /// The option for the number of workers.
 fn workers_option<'a>(alloc: Global) -> Arg<'a>
     ensures rule { rule_of result ≡ workers }
@@ -77,7 +75,7 @@ fn workers_option<'a>(alloc: Global) -> Arg<'a>
     Arg::new(alloc, "workers")
         .long("workers")
         .value_name("N")
-        .value_parser(ValueParser::unsigned(1, MOST_WORKERS))
+        .value_parser(ValueParser::unsigned(1, MOST_WORKERS as u64))
         .default_value("1")
         .help("How many threads serve, 1 to 64; one serves in order")
 }
@@ -124,11 +122,11 @@ pub fn read<'a, S: AsStr>(alloc: Global, words: &'a [S]) -> Result<Asked<'a>, Er
     ensures refused { IfErr result (HasKind (wrong_words (map S.text words.entry.now))) }
 {
     let matches = command(alloc)?.try_get_matches_from(words)?;
-    Ok(wanted(&matches))
+    Ok(asked_of(&matches))
 }
 
 /// What the matches ask for.
-fn wanted<'a>(matches: &ArgMatches<'a>) -> Asked<'a>
+fn asked_of<'a>(matches: &ArgMatches<'a>) -> Asked<'a>
     ensures { IsAsked (subcommand_rows_of matches.now) result }
 {
     match matches.subcommand_matches("read") {

@@ -9,7 +9,7 @@ use Rattle.cl_writer.specs.Assembled.{AssembleOf}
 use Rattle.cl_writer.specs.Listings.{listing_of}
 use Rattle.classlink_corpus.specs.Rounds.{ListsAgain}
 
--- want of memory apart, a text is assembled to one answer
+-- out of memory apart, a text is assembled to one answer
 abbrev pub OneAnswer : Type 0
 OneAnswer = (lines : List Numbered) (r s : Result Structure AssembleFault) → AssembleOf lines r → AssembleOf lines s → r ≢ Err Memory → s ≢ Err Memory → r ≡ s
 

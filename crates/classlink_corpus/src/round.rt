@@ -20,7 +20,7 @@ pub enum Outcome {
     OtherListing,
 }
 
-/// Reads the bytes, writes the file, and assembles its listing. Only want of memory refuses it.
+/// Reads the bytes, writes the file, and assembles its listing. It is refused only where memory runs out.
 pub fn round_trip(alloc: Global, bytes: &[u8]) -> Result<Outcome, AllocError>
     ensures { IfOk result (OutcomeOf bytes.now) }
 {

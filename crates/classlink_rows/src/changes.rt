@@ -14,7 +14,7 @@ pub fn changes(alloc: Global, bytes: &[u8]) -> Result<String, AllocError> {
 }
 
 /// In how many ways the byte at a place may be another.
-pub fn changed(alloc: Global, bytes: &[u8], place: usize) -> Result<String, AllocError> {
+pub fn change_count(alloc: Global, bytes: &[u8], place: usize) -> Result<String, AllocError> {
     let count = changes_at(alloc, bytes, place)?;
     format!(in alloc; "{count}")
 }

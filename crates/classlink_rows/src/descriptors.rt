@@ -1,6 +1,6 @@
 //! Questions about descriptors.
 
-use crate::names::shown;
+use crate::names::show;
 use cl_descriptors::{
     Descriptor, FieldType, Form, MethodType, form_of, read_field, read_method, units_of,
 };
@@ -17,7 +17,7 @@ pub fn field_type(alloc: Global, bytes: &[u8]) -> Result<String, AllocError> {
         return String::from_str(alloc, "another copy");
     }
     let class = match t.element_name() {
-        Some(name) => shown(alloc, name.bytes())?,
+        Some(name) => show(alloc, name.bytes())?,
         None => String::from_str(alloc, "-")?,
     };
     format!(in alloc; "{} dimensions {} units {class}", t.dims, t.units())
@@ -54,7 +54,7 @@ fn method_text(alloc: Global, m: &MethodType, bytes: &[u8]) -> Result<String, Al
 }
 
 fn type_text(alloc: Global, t: &FieldType) -> Result<String, AllocError> {
-    shown(alloc, t.text(alloc)?.as_slice())
+    show(alloc, t.text(alloc)?.as_slice())
 }
 
 /// The parameters, each with a blank before it.
@@ -80,7 +80,7 @@ fn classes_of(alloc: Global, m: &MethodType) -> Result<String, AllocError> {
     let mut text = String::new(alloc);
     for name in names.as_slice() {
         text.push(' ')?;
-        text.push_str(shown(alloc, name.bytes())?.as_str())?;
+        text.push_str(show(alloc, name.bytes())?.as_str())?;
     }
     Ok(text)
 }

@@ -1,6 +1,6 @@
 //! Entries of the pool, as a row writes them.
 
-use crate::names::shown;
+use crate::names::show;
 use cl_classfile::Entry;
 use std::alloc::{AllocError, Global};
 
@@ -8,7 +8,7 @@ use std::alloc::{AllocError, Global};
 pub fn entry_text(alloc: Global, entry: &Entry) -> Result<String, AllocError> {
     match entry {
         Entry::Utf8(text) => {
-            let text = shown(alloc, text.bytes())?;
+            let text = show(alloc, text.bytes())?;
             format!(in alloc; "utf8 '{text}'")
         }
         Entry::Integer(value) => format!(in alloc; "integer {value}"),

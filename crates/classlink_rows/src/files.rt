@@ -1,7 +1,7 @@
 //! Questions about class files.
 
 use crate::entries::entry_text;
-use crate::names::shown;
+use crate::names::show;
 use cl_classfile::{Attribute, ClassFile, Entry, Member, Reference, Symbol, read};
 use std::alloc::{AllocError, Global};
 
@@ -26,9 +26,9 @@ fn parts_text(alloc: Global, file: &ClassFile) -> Result<String, AllocError> {
     let mut text = pool_text(alloc, file.pool())?;
     let flags = file.flags();
     let (this_class, super_class) = (file.this_class(), file.super_class());
-    let this_name = shown(alloc, file.this_name().bytes())?;
+    let this_name = show(alloc, file.this_name().bytes())?;
     let super_name = match file.super_name() {
-        Some(name) => shown(alloc, name.bytes())?,
+        Some(name) => show(alloc, name.bytes())?,
         None => String::from_str(alloc, "-")?,
     };
     let names = format!(in alloc; "{this_class} {this_name} {super_class} {super_name}")?;
@@ -88,7 +88,7 @@ pub fn reference(alloc: Global, bytes: &[u8], index: u16) -> Result<String, Allo
     };
     match file.reference(index) {
         Some(Reference::Class(name)) => {
-            let name = shown(alloc, name.bytes())?;
+            let name = show(alloc, name.bytes())?;
             format!(in alloc; "class {name}")
         }
         Some(Reference::Field(symbol)) => symbol_text(alloc, "field", symbol),
@@ -99,8 +99,8 @@ pub fn reference(alloc: Global, bytes: &[u8], index: u16) -> Result<String, Allo
 }
 
 fn symbol_text(alloc: Global, what: &str, symbol: Symbol<'_>) -> Result<String, AllocError> {
-    let class = shown(alloc, symbol.class.bytes())?;
-    let name = shown(alloc, symbol.name.bytes())?;
-    let descriptor = shown(alloc, symbol.descriptor.bytes())?;
+    let class = show(alloc, symbol.class.bytes())?;
+    let name = show(alloc, symbol.name.bytes())?;
+    let descriptor = show(alloc, symbol.descriptor.bytes())?;
     format!(in alloc; "{what} {class} {name} {descriptor}")
 }

@@ -11,7 +11,7 @@ use std::cmp::Ordering;
 const MOST_PRINTED: usize = 2000;
 
 /// Bytes as escaped text; of many, and of those that are no name, how many there are.
-pub fn shown(alloc: Global, bytes: &[u8]) -> Result<String, AllocError> {
+pub fn show(alloc: Global, bytes: &[u8]) -> Result<String, AllocError> {
     if bytes.len() <= MOST_PRINTED {
         if let Ok(name) = Name::any(alloc, bytes) {
             if let Ok(text) = name.text(alloc) {
@@ -61,8 +61,8 @@ pub fn name(alloc: Global, bytes: &[u8]) -> Result<String, AllocError> {
     if copy != name || copy.bytes() != bytes {
         return String::from_str(alloc, "another copy");
     }
-    let text = shown(alloc, bytes)?;
-    let package = shown(alloc, copy.package())?;
+    let text = show(alloc, bytes)?;
+    let package = show(alloc, copy.package())?;
     let class = yes_or_no(name.is_class());
     let unqualified = yes_or_no(name.is_unqualified());
     let method = yes_or_no(name.is_method());
@@ -70,10 +70,10 @@ pub fn name(alloc: Global, bytes: &[u8]) -> Result<String, AllocError> {
 }
 
 /// The name that escaped text writes, its text and its bytes.
-pub fn written(alloc: Global, text: &str) -> Result<String, AllocError> {
+pub fn name_in(alloc: Global, text: &str) -> Result<String, AllocError> {
     match Name::from_text(alloc, text) {
         Ok(name) => {
-            let text = shown(alloc, name.bytes())?;
+            let text = show(alloc, name.bytes())?;
             let count = name.bytes().len();
             if count > MOST_PRINTED {
                 return Ok(text);
@@ -86,11 +86,11 @@ pub fn written(alloc: Global, text: &str) -> Result<String, AllocError> {
 }
 
 /// The class's name that escaped text writes.
-pub fn class_written(alloc: Global, text: &str) -> Result<String, AllocError> {
+pub fn class_name_in(alloc: Global, text: &str) -> Result<String, AllocError> {
     let Some(name) = class_name(alloc, text)? else {
         return String::from_str(alloc, "none");
     };
-    shown(alloc, name.bytes())
+    show(alloc, name.bytes())
 }
 
 /// Whether the bytes of one name begin with those of another.

@@ -1,6 +1,6 @@
 //! Questions about lines, assembler texts and listings.
 
-use crate::names::shown;
+use crate::names::show;
 use cl_classfile::{ClassFile, ReadError, read};
 use cl_descriptors::DescriptorFault;
 use cl_lines::{Stated, Words};
@@ -24,7 +24,7 @@ pub fn memory_fault(alloc: Global, library: &str) -> Result<String, AllocError> 
 }
 
 /// The lines of a text that are not skipped, each by its number and its words.
-pub fn stated(alloc: Global, text: &str) -> Result<String, AllocError> {
+pub fn lines_in(alloc: Global, text: &str) -> Result<String, AllocError> {
     let mut found = String::new(alloc);
     for line in Stated::new(text) {
         found.push_str(format!(in alloc; " {}:", line.number)?.as_str())?;
@@ -49,7 +49,7 @@ pub fn bytes_text(alloc: Global, file: &ClassFile) -> Result<String, AllocError>
 }
 
 /// The bytes that assembler text describes.
-pub fn assembled(alloc: Global, text: &str) -> Result<String, AllocError> {
+pub fn bytes_in(alloc: Global, text: &str) -> Result<String, AllocError> {
     match assemble(alloc, text) {
         Ok(file) => bytes_text(alloc, &file),
         Err(fault) => format!(in alloc; "{fault}"),
@@ -65,7 +65,7 @@ pub fn pool_len(alloc: Global, text: &str) -> Result<String, AllocError> {
 }
 
 /// What the file lists that assembler text describes, with `|` for the end of a line.
-pub fn listed(alloc: Global, text: &str) -> Result<String, AllocError> {
+pub fn listing_in(alloc: Global, text: &str) -> Result<String, AllocError> {
     let file = match assemble(alloc, text) {
         Ok(file) => file,
         Err(fault) => return format!(in alloc; "{fault}"),
@@ -80,14 +80,14 @@ pub fn listed(alloc: Global, text: &str) -> Result<String, AllocError> {
 }
 
 /// Whether the file is written as it was read.
-pub fn rewritten(alloc: Global, bytes: &[u8]) -> Result<String, AllocError> {
+pub fn write_again(alloc: Global, bytes: &[u8]) -> Result<String, AllocError> {
     let file = match read(alloc, bytes) {
         Ok(file) => file,
         Err(fault) => return format!(in alloc; "{fault}"),
     };
     match write(alloc, &file) {
         Ok(written) if written.as_slice() == bytes => String::from_str(alloc, "the same"),
-        Ok(written) => shown(alloc, written.as_slice()),
+        Ok(written) => show(alloc, written.as_slice()),
         Err(fault) => format!(in alloc; "{fault}"),
     }
 }

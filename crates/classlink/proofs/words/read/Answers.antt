@@ -26,18 +26,18 @@ returns-in_err-matches-clause-refused g c =
 
 pub returns-clause-asked : goal.returns-clause-asked
 returns-clause-asked g c = λ o ask.
-    bundle_asked (map g.S.AsStr.text c.args.words.now) o c.wanted.result ask (asked_by_words _ (map g.S.AsStr.text c.args.words.now) c.in_ok-matches.matches c.wanted.result c.in_ok-command.ensures c.in_ok-matches.ensures.matches c.wanted.ensures)
+    bundle_asked (map g.S.AsStr.text c.args.words.now) o c.asked_of.result ask (asked_by_words _ (map g.S.AsStr.text c.args.words.now) c.in_ok-matches.matches c.asked_of.result c.in_ok-command.ensures c.in_ok-matches.ensures.matches c.asked_of.ensures)
 
 pub returns-clause-read : goal.returns-clause-read
 returns-clause-read g c = λ path ask.
-    path_asked (map g.S.AsStr.text c.args.words.now) path c.wanted.result ask (asked_by_words _ (map g.S.AsStr.text c.args.words.now) c.in_ok-matches.matches c.wanted.result c.in_ok-command.ensures c.in_ok-matches.ensures.matches c.wanted.ensures)
+    path_asked (map g.S.AsStr.text c.args.words.now) path c.asked_of.result ask (asked_by_words _ (map g.S.AsStr.text c.args.words.now) c.in_ok-matches.matches c.asked_of.result c.in_ok-command.ensures c.in_ok-matches.ensures.matches c.asked_of.ensures)
 
 pub returns-clause-run : goal.returns-clause-run
 returns-clause-run g c = λ w ask.
-    run_asked (map g.S.AsStr.text c.args.words.now) w c.wanted.result ask (asked_by_words _ (map g.S.AsStr.text c.args.words.now) c.in_ok-matches.matches c.wanted.result c.in_ok-command.ensures c.in_ok-matches.ensures.matches c.wanted.ensures)
+    run_asked (map g.S.AsStr.text c.args.words.now) w c.asked_of.result ask (asked_by_words _ (map g.S.AsStr.text c.args.words.now) c.in_ok-matches.matches c.asked_of.result c.in_ok-command.ensures c.in_ok-matches.ensures.matches c.asked_of.ensures)
 
 pub returns-clause-taken : goal.returns-clause-taken
 returns-clause-taken g c = ends_by _ _ (Ok c.in_ok-matches.matches) c.in_ok-command.ensures c.in_ok-matches.ensures.kinds
 
 pub returns-clause-exact : goal.returns-clause-exact
-returns-clause-exact g c = asked_by_words _ (map g.S.AsStr.text c.args.words.now) c.in_ok-matches.matches c.wanted.result c.in_ok-command.ensures c.in_ok-matches.ensures.matches c.wanted.ensures
+returns-clause-exact g c = asked_by_words _ (map g.S.AsStr.text c.args.words.now) c.in_ok-matches.matches c.asked_of.result c.in_ok-command.ensures c.in_ok-matches.ensures.matches c.asked_of.ensures

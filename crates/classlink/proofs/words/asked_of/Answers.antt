@@ -1,7 +1,7 @@
 use Rattle.std.proofs.Common.{codes, refl}
 use Rattle.clap.specs.Words.{found_of, subcommand_rows_of}
 use Rattle.classlink.proofs.Flags.{are_its, file_read, is_named}
-use Rattle.classlink.proofs.words.wanted.Goals as goal
+use Rattle.classlink.proofs.words.asked_of.Goals as goal
 
 pub returns-in-Some : goal.returns-in-Some
 returns-in-Some c = (

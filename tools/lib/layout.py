@@ -8,6 +8,7 @@ import subprocess
 
 import page
 from edits import FOLDERS, of_crate
+from source import files as texts_of, functions, names_of
 
 HANDLES = "Handles allowed: Threads, Wait."
 MOST_LINES = 500
@@ -65,6 +66,18 @@ def edits_apply(_root, _files, crates):
     return found
 
 
+def edits_name_functions(_root, _files, crates):
+    """Each function that an edit is to have refused is one of its crate."""
+    found = []
+    for crate in crates:
+        wanted = [(edit, it) for edit in of_crate(crate, FOLDERS)[0] for it in sorted(edit.refuses)]
+        held = [it for path, text in texts_of(crate.folder).items() for it in functions(path, text)] if wanted else []
+        for edit, name in wanted:
+            if not any(names_of(it, crate.name, [name]) for it in held):
+                found.append(f"{edit}: 'refuses:' names no function of the crate: {name}")
+    return found
+
+
 def page_is_made(root, _files, crates):
     """docs/EDITS.md is what the tool prints."""
     file = f"{root}/docs/EDITS.md"
@@ -89,7 +102,7 @@ def code_is_checked(_root, files, crates):
     ]
 
 
-RULES = (handles, nothing_made, code_is_checked, stands_alone, files_are_short, edits_apply, page_is_made)
+RULES = (handles, nothing_made, code_is_checked, stands_alone, files_are_short, edits_apply, edits_name_functions, page_is_made)
 
 
 def long_clauses(root, files):

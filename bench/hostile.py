@@ -1,7 +1,7 @@
 """Writes inputs that hurt a reader which trusts its input, for seconds and peak memory beside plain ones. Usage:
-python3 hostile.py FOLDER COUNT [NAMES]. COUNT, up to 65,535, is how many names, methods or requests there are, so that growth
-is seen; NAMES is a file of class names, one a line, in place of plain ones (such as names that fall on one place of a table
-whose seed is known).
+python3 hostile.py FOLDER COUNT [--colliding]. COUNT, up to 65,535, is how many names, methods or requests there are, so that
+growth is seen; --colliding searches for names that fall on few places of a table whose seed is known, in place of plain ones (some
+minutes for 65,535).
 
 sections.bundle   a section for each name, without a class
 classes.bundle    a class for each name, and a request for each
@@ -28,6 +28,48 @@ def word(number):
     return letters
 
 
+WORD = 2**64 - 1
+
+
+def sip_round(a, b, c, d):
+    """One round of SipHash."""
+    a = (a + b) & WORD
+    c = (c + d) & WORD
+    b = (b << 13 & WORD | b >> 51) ^ a
+    d = (d << 16 & WORD | d >> 48) ^ c
+    a = a << 32 & WORD | a >> 32
+    c = (c + b) & WORD
+    a = (a + d) & WORD
+    b = (b << 17 & WORD | b >> 47) ^ c
+    d = (d << 21 & WORD | d >> 43) ^ a
+    return a, b, c << 32 & WORD | c >> 32, d
+
+
+def table_hash(name):
+    """What a table under the seed that everyone knows has for a name of eight bytes: SipHash-1-3 of it and of the byte 0xFF, folded."""
+    a, b, c, d = 0x736F6D6570736575, 0x646F72616E646F6D, 0x6C7967656E657261, 0x7465646279746573
+    for word in (int.from_bytes(name, "little"), 9 << 56 | 0xFF):
+        a, b, c, d = sip_round(a, b, c, d ^ word)
+        a ^= word
+    c ^= 0xFF
+    for _ in range(3):
+        a, b, c, d = sip_round(a, b, c, d)
+    hashed = a ^ b ^ c ^ d
+    return (hashed ^ hashed >> 32) & 0xFFFFFFFF
+
+
+def colliding_names(count):
+    """Names that begin at the first 64 of the 8,192 groups of places that a table of 65,535 entries has."""
+    found = []
+    number = 0
+    while len(found) < count:
+        name = f"p/{word(number)}{word(number // 997)[:2]}"
+        if table_hash(name.encode()) & 0x1FC0 == 0:
+            found.append(name)
+        number += 1
+    return found
+
+
 def methods_file(count):
     """A class whose methods have one long name."""
     pool = [
@@ -47,13 +89,11 @@ def methods_file(count):
     return head + b"".join(pool) + body + b"".join(members) + b"\x00\x00"
 
 
-def main(folder, count, names=None):
+def main(folder, count, form="--plain"):
     folder = pathlib.Path(folder)
+    folder.mkdir(parents=True, exist_ok=True)
     count = int(count)
-    if names is None:
-        names = [f"p/{word(number)}" for number in range(count)]
-    else:
-        names = pathlib.Path(names).read_text(encoding="ascii").split()[:count]
+    names = colliding_names(count) if form == "--colliding" else [f"p/{word(number)}" for number in range(count)]
     with open(folder / "sections.bundle", "w", encoding="ascii") as out:
         out.write(CONFIG)
         out.writelines(f"%class boot {name}\n@hex\n" for name in names)

@@ -8,6 +8,8 @@
   overriding    5,000 classes over one another with a method of package access, in two packages by turns; the last is linked
   ladder        60 diamonds of interfaces that each have the method which a class declares; it is linked and resolves it
   links         65,535 links of 20,000 classes of app, each over one of boot whose method it overrides
+  repeated      800 classes of app over one another and over 800 of boot, each with one method; the last is linked
+  wide          a class of app over one of boot whose 20,000 methods it overrides, each of another signature; it is linked
 
 Each is a bundle: classlink bundle < FILE.
 """
@@ -98,9 +100,24 @@ def links(path):
     bundle(path, TWO, classes, [f"link app p/C{n % MANY}\n" for n in range(65535)])
 
 
+def repeated(path, count=800):
+    names = [f"p/B{n}" for n in range(count)] + [f"q/C{n}" for n in range(count)]
+    classes = [TOP]
+    for name, above in zip(names, [OBJECT, *names]):
+        loader = "boot" if name.startswith("p/") else "app"
+        classes.append(with_lines(section(loader, name, above), ["method 0001 m (Lp/T;)V"]))
+    bundle(path, TWO, classes, [f"link app {names[-1]}\n"])
+
+
+def wide(path, count=20000):
+    own = [f"method 0001 m (Lp/T{n};)V" for n in range(count)]
+    classes = [TOP, with_lines(section("boot", "p/B"), own), with_lines(section("app", "p/C", "p/B"), own)]
+    bundle(path, TWO, classes, ["link app p/C\n"])
+
+
 def main(folder):
     os.makedirs(folder, exist_ok=True)
-    for make in methods, settled, constraints, refused, overriding, ladder, links:
+    for make in methods, settled, constraints, refused, overriding, ladder, links, repeated, wide:
         make(f"{folder}/{make.__name__}")
 
 

@@ -18,20 +18,20 @@ pub fn listing(alloc: Global, file: &ClassFile) -> Result<String, AllocError>
     ensures { IfOk result (λ text. string_bytes text ≡ listing_of file.now) }
 {
     let mut text = String::new(alloc);
-    put_class(&mut text, alloc, file)?;
-    put_interfaces(&mut text, alloc, file.pool(), file.interfaces())?;
-    put_members(&mut text, alloc, "field ", file.pool(), file.fields())?;
-    put_members(&mut text, alloc, "method ", file.pool(), file.methods())?;
+    put_class(&mut text, file)?;
+    put_interfaces(&mut text, file.pool(), file.interfaces())?;
+    put_members(&mut text, "field ", file.pool(), file.fields())?;
+    put_members(&mut text, "method ", file.pool(), file.methods())?;
     Ok(text)
 }
 
-pub fn put_class(text: &mut String, alloc: Global, file: &ClassFile) -> Result<(), AllocError>
+pub fn put_class(text: &mut String, file: &ClassFile) -> Result<(), AllocError>
     ensures { OnOk result (string_bytes text.new ≡ string_bytes text.old ++ class_line file.now) }
 {
     put_head(text, "class ", file.flags())?;
-    put_type(text, alloc, file.pool(), file.this_class())?;
+    put_type(text, file.pool(), file.this_class())?;
     text.push_str(" ")?;
-    put_super(text, alloc, file.pool(), file.super_class())?;
+    put_super(text, file.pool(), file.super_class())?;
     text.push_str("\n")
 }
 
@@ -47,61 +47,45 @@ fn put_head(text: &mut String, word: &str, flags: u16) -> Result<(), AllocError>
 
 /// The name of a class.
 #[tactic(auto, unfolding(crate::specs::Listings::printed_type))]
-fn put_type(text: &mut String, alloc: Global, pool: &[Entry], index: u16) -> Result<(), AllocError>
+fn put_type(text: &mut String, pool: &[Entry], index: u16) -> Result<(), AllocError>
     ensures { OnOk result (string_bytes text.new ≡ string_bytes text.old ++ printed_type pool.now
         index) }
 {
-    put_name(text, alloc, type_name(pool, index))
+    put_name(text, type_name(pool, index))
 }
 
 /// The name of the superclass, and `-` where there is none.
-fn put_super(
-    text: &mut String,
-    alloc: Global,
-    pool: &[Entry],
-    super_class: u16,
-) -> Result<(), AllocError>
+fn put_super(text: &mut String, pool: &[Entry], super_class: u16) -> Result<(), AllocError>
     ensures { OnOk result (string_bytes text.new ≡ string_bytes text.old ++ printed_super pool.now
         super_class) }
 {
     if super_class == 0 {
         return text.push_str("-");
     }
-    put_type(text, alloc, pool, super_class)
+    put_type(text, pool, super_class)
 }
 
-fn put_interfaces(
-    text: &mut String,
-    alloc: Global,
-    pool: &[Entry],
-    interfaces: &[u16],
-) -> Result<(), AllocError>
+fn put_interfaces(text: &mut String, pool: &[Entry], interfaces: &[u16]) -> Result<(), AllocError>
     ensures { OnOk result (string_bytes text.new ≡ string_bytes text.old ++ flat_map
         (implements_line pool.now) interfaces.now) }
 {
     for interface in interfaces {
-        put_interface(text, alloc, pool, *interface)?;
+        put_interface(text, pool, *interface)?;
     }
     Ok(())
 }
 
-pub fn put_interface(
-    text: &mut String,
-    alloc: Global,
-    pool: &[Entry],
-    interface: u16,
-) -> Result<(), AllocError>
+pub fn put_interface(text: &mut String, pool: &[Entry], interface: u16) -> Result<(), AllocError>
     ensures { OnOk result (string_bytes text.new ≡ string_bytes text.old ++ implements_line pool.now
         interface) }
 {
     text.push_str("implements ")?;
-    put_type(text, alloc, pool, interface)?;
+    put_type(text, pool, interface)?;
     text.push_str("\n")
 }
 
 fn put_members(
     text: &mut String,
-    alloc: Global,
     word: &str,
     pool: &[Entry],
     members: &[Member],
@@ -110,14 +94,13 @@ fn put_members(
         (member_line word.now pool.now) members.now) }
 {
     for member in members {
-        put_member(text, alloc, word, pool, member)?;
+        put_member(text, word, pool, member)?;
     }
     Ok(())
 }
 
 pub fn put_member(
     text: &mut String,
-    alloc: Global,
     word: &str,
     pool: &[Entry],
     member: &Member,
@@ -126,24 +109,21 @@ pub fn put_member(
         pool.now member.now) }
 {
     put_head(text, word, member.flags())?;
-    put_name(text, alloc, text_at(pool, member.name_index()))?;
+    put_name(text, text_at(pool, member.name_index()))?;
     text.push_str(" ")?;
-    put_name(text, alloc, text_at(pool, member.descriptor_index()))?;
+    put_name(text, text_at(pool, member.descriptor_index()))?;
     text.push_str("\n")
 }
 
 /// A name as escaped text.
-fn put_name(text: &mut String, alloc: Global, name: Option<&Name>) -> Result<(), AllocError>
+fn put_name(text: &mut String, name: Option<&Name>) -> Result<(), AllocError>
     ensures { OnOk result (string_bytes text.new ≡ string_bytes text.old ++ printed_name
         (option_map (λ n. n.now) name.entry)) }
 {
-    let Some(name) = name else {
-        return Ok(());
-    };
-    let Ok(printed) = name.text(alloc) else {
-        return Err(AllocError);
-    };
-    text.push_str(printed.as_str())
+    match name {
+        Some(name) => name.put_text(text),
+        None => Ok(()),
+    }
 }
 
 /// Four hexadecimal digits.

@@ -25,30 +25,15 @@ pub fn print_listing<W: Write>(
         (AppendsPart (W.contents out.old) (W.contents out.new) (listing_of file.now)) }
 {
     let mut waiting = String::new(alloc);
-    put_class(&mut waiting, alloc, file)?;
-    print_interfaces(alloc, file.pool(), file.interfaces(), out, &mut waiting)?;
-    print_members(
-        alloc,
-        "field ",
-        file.pool(),
-        file.fields(),
-        out,
-        &mut waiting,
-    )?;
-    print_members(
-        alloc,
-        "method ",
-        file.pool(),
-        file.methods(),
-        out,
-        &mut waiting,
-    )?;
+    put_class(&mut waiting, file)?;
+    print_interfaces(file.pool(), file.interfaces(), out, &mut waiting)?;
+    print_members("field ", file.pool(), file.fields(), out, &mut waiting)?;
+    print_members("method ", file.pool(), file.methods(), out, &mut waiting)?;
     write_out(out, waiting.as_bytes())
 }
 
 /// Puts the lines of interfaces behind what waits.
 fn print_interfaces<W: Write>(
-    alloc: Global,
     pool: &[Entry],
     interfaces: &[u16],
     out: &mut W,
@@ -61,13 +46,12 @@ fn print_interfaces<W: Write>(
         (string_bytes waiting.old ++ flat_map (implements_line pool.now) interfaces.now)) }
 {
     for interface in interfaces {
-        print_interface(alloc, pool, *interface, out, waiting)?;
+        print_interface(pool, *interface, out, waiting)?;
     }
     Ok(())
 }
 
 fn print_interface<W: Write>(
-    alloc: Global,
     pool: &[Entry],
     interface: u16,
     out: &mut W,
@@ -78,13 +62,12 @@ fn print_interface<W: Write>(
     ensures part { OnErr result (AppendsPart (W.contents out.old) (W.contents out.new)
         (string_bytes waiting.old ++ implements_line pool.now interface)) }
 {
-    put_interface(waiting, alloc, pool, interface)?;
+    put_interface(waiting, pool, interface)?;
     pass_page(out, waiting)
 }
 
 /// Puts the lines of members, each with this word, behind what waits.
 fn print_members<W: Write>(
-    alloc: Global,
     word: &str,
     pool: &[Entry],
     members: &[Member],
@@ -98,13 +81,12 @@ fn print_members<W: Write>(
         (string_bytes waiting.old ++ flat_map (member_line word.now pool.now) members.now)) }
 {
     for member in members {
-        print_member(alloc, word, pool, member, out, waiting)?;
+        print_member(word, pool, member, out, waiting)?;
     }
     Ok(())
 }
 
 fn print_member<W: Write>(
-    alloc: Global,
     word: &str,
     pool: &[Entry],
     member: &Member,
@@ -117,6 +99,6 @@ fn print_member<W: Write>(
     ensures part { OnErr result (AppendsPart (W.contents out.old) (W.contents out.new)
         (string_bytes waiting.old ++ member_line word.now pool.now member.now)) }
 {
-    put_member(waiting, alloc, word, pool, member)?;
+    put_member(waiting, word, pool, member)?;
     pass_page(out, waiting)
 }

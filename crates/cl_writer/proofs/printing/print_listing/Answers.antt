@@ -1,6 +1,6 @@
 use Rattle.std.proofs.Common.{codes}
 use Rattle.std.specs.List.{flat_map}
-use Rattle.cl_streams.proofs.Written.{on_err, on_err_by, on_ok_by, part_none, passes_all, passes_then, refused_last}
+use Rattle.cl_streams.proofs.Written.{on_err, on_err_by, on_ok_by, passes_all, passes_then, refused_last}
 use Rattle.cl_writer.specs.Listings.{class_line, implements_line, member_line}
 use Rattle.cl_writer.proofs.Pages.{at_fields, at_interfaces, at_methods, before_methods, class_waits}
 use Rattle.cl_writer.proofs.printing.print_listing.Goals as goal

@@ -1,5 +1,5 @@
 -- The table of settled references, and what it has after a call.
-use Rattle.std.proofs.Common.{◌≡◌, ◌∙◌, ◌==◌, ◌&&◌, if◌then◌else◌, ℕ, Bool, true, false, List, [], ◌∷◌, Option, Some, None, refl, sym, ap, subst, cond}
+use Rattle.std.proofs.Common.{◌≡◌, ◌∙◌, ◌==◌, ◌&&◌, if◌then◌else◌, ℕ, Bool, true, false, List, [], Option, Some, None, refl, sym, ap, subst, cond}
 use Rattle.std.specs.Prelude.{Contains, IsSome, nat_eq, option_and_then, OnOk, Result, Ok, Err}
 use Rattle.std.specs.Result.{is_err}
 use Rattle.std.specs.List.{list_any}

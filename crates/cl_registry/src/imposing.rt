@@ -133,7 +133,7 @@ impl<T: Told> Registry<T> {
     /// no event (JVMS SE 8, 5.3.4). One that would violate what stands is not imposed.
     ///
     /// Each call compares all equalities before its own with those that the calls before it found met, and asks the book of
-    /// others alone.
+    /// others alone: who knows that the equality may be imposed calls `impose_allowed`.
     pub fn impose(
         &mut self,
         alloc: Global,
@@ -150,6 +150,24 @@ impl<T: Told> Registry<T> {
         if !self.may_impose(list, place) {
             return Err(RegistryFault::Stray);
         }
+        self.impose_allowed(alloc, list, place)
+    }
+
+    /// The same of an equality that is known to be one that may be imposed: those before it are not looked at, so that the
+    /// calls for a whole list take time in its length.
+    pub fn impose_allowed(
+        &mut self,
+        alloc: Global,
+        list: &Equalities<T>,
+        place: usize,
+    ) -> Result<(), RegistryFault>
+        requires may { MayImpose self.old list.now place }
+        ensures imposed { OnOk result (Imposes self.old self.new list.now place) }
+        ensures met { OnOk result (IsNextOf list.now place (Met (state_of self.new))) }
+        ensures refused { IfErr result (λ fault. ImposeRefusedFor self.old list.now place fault) }
+        ensures unchanged { IfErr result (λ fault. self.new ≡ self.old) }
+        ensures kept { IsKept T.told self.new }
+    {
         keeps(list);
         let equality = &list.needs()[place];
         if is_met(&self.book, self.met.as_slice(), place, equality) {

@@ -1,0 +1,49 @@
+use Rattle.std.proofs.Common.{◌∙◌, map, subst, sym}
+use Rattle.cl_hierarchy.specs.Imposed.{equal_need}
+use Rattle.cl_model.specs.States.{Met}
+use Rattle.cl_registry.specs.Imposing.{Imposes, IsNextOf}
+use Rattle.cl_registry.specs.Tables.{IsKept, Shown, state_of}
+use Rattle.cl_registry.proofs.Imposed.{constrains_as, impose_refused, names_equality}
+use Rattle.cl_registry.proofs.Known.{standing_with}
+use Rattle.cl_registry.proofs.Tested.{imposes_new, imposes_old, next_of, read_at}
+use Rattle.cl_registry.proofs.registry.Registry.impose_allowed.Goals as goal
+
+pub returns-then-is_met-clause-imposed : goal.returns-then-is_met-clause-imposed
+returns-then-is_met-clause-imposed g c =
+    let x : Shown = record { config = c.self.inside.config.value; script = c.self.inside.script.value; rows = map (λ r. r.value) c.self.inside.rows.items; history = c.self.inside.history.items; answers = c.self.inside.answers.items } in
+    subst (λ (y : Shown). Imposes c.args.self.now y c.args.list.now c.args.place) (sym c.remember.ensures.unchanged)
+    (imposes_old c.args.self.now c.args.list.now c.args.place c.index-needs-place.result (read_at c.needs.result.now c.args.list.now.needs c.args.place c.index-needs-place.result c.needs.ensures.needs c.requires.may.within c.index-needs-place.is) (subst (λ (y : Shown). Met (state_of y) (equal_need c.index-needs-place.result)) c.self.view_is (c.if-is_met.ensures (state_of x) (standing_with (state_of x) _ _ c.as_slice.ensures.value c.self.invariant.book c.self.invariant.met))))
+
+pub returns-then-is_met-clause-met : goal.returns-then-is_met-clause-met
+returns-then-is_met-clause-met g c =
+    let x : Shown = record { config = c.self.inside.config.value; script = c.self.inside.script.value; rows = map (λ r. r.value) c.self.inside.rows.items; history = c.self.inside.history.items; answers = c.self.inside.answers.items } in
+    subst (λ (y : Shown). IsNextOf c.args.list.now c.args.place (Met (state_of y))) (sym c.remember.ensures.unchanged)
+    (next_of (Met (state_of c.args.self.now)) c.args.list.now c.args.place c.index-needs-place.result (read_at c.needs.result.now c.args.list.now.needs c.args.place c.index-needs-place.result c.needs.ensures.needs c.requires.may.within c.index-needs-place.is) (subst (λ (y : Shown). Met (state_of y) (equal_need c.index-needs-place.result)) c.self.view_is (c.if-is_met.ensures (state_of x) (standing_with (state_of x) _ _ c.as_slice.ensures.value c.self.invariant.book c.self.invariant.met))))
+
+pub constrain-requires-clause-unmet : goal.constrain-requires-clause-unmet
+constrain-requires-clause-unmet g c =
+    let x : Shown = record { config = c.self.inside.config.value; script = c.self.inside.script.value; rows = map (λ r. r.value) c.self.inside.rows.items; history = c.self.inside.history.items; answers = c.self.inside.answers.items } in
+    (subst (λ (y : Shown). Met (state_of y) (equal_need c.index-needs-place.result) → ⊥) c.self.view_is (c.if-is_met.ensures (state_of x) (standing_with (state_of x) _ _ c.as_slice.ensures.value c.self.invariant.book c.self.invariant.met)))
+
+pub constrain-requires-clause-may : goal.constrain-requires-clause-may
+constrain-requires-clause-may g c =
+    let x : Shown = record { config = c.self.inside.config.value; script = c.self.inside.script.value; rows = map (λ r. r.value) c.self.inside.rows.items; history = c.self.inside.history.items; answers = c.self.inside.answers.items } in
+    constrains_as g.T.Told.told c.args.self.now c.args.list.now c.args.place c.index-needs-place.result (subst (IsKept g.T.Told.told) c.self.view_is c.self.invariant.kept) c.keeps.ensures c.requires.may (read_at c.needs.result.now c.args.list.now.needs c.args.place c.index-needs-place.result c.needs.ensures.needs c.requires.may.within c.index-needs-place.is) (subst (λ (y : Shown). Met (state_of y) (equal_need c.index-needs-place.result) → ⊥) c.self.view_is (c.if-is_met.ensures (state_of x) (standing_with (state_of x) _ _ c.as_slice.ensures.value c.self.invariant.book c.self.invariant.met)))
+
+pub constrain-requires-clause-within : goal.constrain-requires-clause-within
+constrain-requires-clause-within g c =
+    names_equality g.T.Told.told c.args.self.now c.args.list.now c.args.place c.index-needs-place.result c.keeps.ensures c.requires.may (read_at c.needs.result.now c.args.list.now.needs c.args.place c.index-needs-place.result c.needs.ensures.needs c.requires.may.within c.index-needs-place.is)
+
+pub returns-in-Err-clause-refused : goal.returns-in-Err-clause-refused
+returns-in-Err-clause-refused g c =
+    impose_refused c.args.self.now c.args.list.now c.args.place c.index-needs-place.result c.in-Err.fault c.requires.may (read_at c.needs.result.now c.args.list.now.needs c.args.place c.index-needs-place.result c.needs.ensures.needs c.requires.may.within c.index-needs-place.is) c.in-Err.ensures.refused
+
+pub returns-clause-imposed : goal.returns-clause-imposed
+returns-clause-imposed g c =
+    let x : Shown = record { config = c.self.inside.config.value; script = c.self.inside.script.value; rows = map (λ r. r.value) c.self.inside.rows.items; history = c.self.inside.history.items; answers = c.self.inside.answers.items } in
+    imposes_new c.args.self.now c.remember-2.new.self c.args.list.now c.args.place c.index-needs-place.result (read_at c.needs.result.now c.args.list.now.needs c.args.place c.index-needs-place.result c.needs.ensures.needs c.requires.may.within c.index-needs-place.is) (subst (λ (y : Shown). Met (state_of y) (equal_need c.index-needs-place.result) → ⊥) c.self.view_is (c.if-is_met.ensures (state_of x) (standing_with (state_of x) _ _ c.as_slice.ensures.value c.self.invariant.book c.self.invariant.met))) c.in-Ok-constrain.ensures.free (c.remember-2.ensures.unchanged ∙ c.in-Ok-constrain.ensures.constrained)
+
+pub returns-clause-met : goal.returns-clause-met
+returns-clause-met g c =
+    subst (λ (y : Shown). IsNextOf c.args.list.now c.args.place (Met (state_of y))) (sym c.remember-2.ensures.unchanged)
+    (next_of (Met (state_of c.constrain.new.self)) c.args.list.now c.args.place c.index-needs-place.result (read_at c.needs.result.now c.args.list.now.needs c.args.place c.index-needs-place.result c.needs.ensures.needs c.requires.may.within c.index-needs-place.is) c.in-Ok-constrain.ensures.met)

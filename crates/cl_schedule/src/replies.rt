@@ -151,7 +151,7 @@ fn impose<T: Told>(
     ensures faults { told_faults result ≡ 0 }
     ensures kept { IsKept T.told registry.new }
 {
-    match registry.impose(alloc, &list, place) {
+    match registry.impose_allowed(alloc, &list, place) {
         Ok(()) => Reply::Imposed,
         Err(fault) => refusal(fault),
     }

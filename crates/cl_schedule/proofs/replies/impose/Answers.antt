@@ -10,11 +10,11 @@ use Rattle.cl_schedule.proofs.replies.impose.Goals as goal
 
 pub returns-in-Ok-clause-did : goal.returns-in-Ok-clause-did
 returns-in-Ok-clause-did g c =
-    did_impose c.args.registry.now c.impose.new.self c.args.list.value c.args.place c.requires
-    (subst (λ (l : Listed). Imposes c.args.registry.now c.impose.new.self l c.args.place) c.deref.ensures c.in-Ok.ensures.imposed)
+    did_impose c.args.registry.now c.impose_allowed.new.self c.args.list.value c.args.place c.requires
+    (subst (λ (l : Listed). Imposes c.args.registry.now c.impose_allowed.new.self l c.args.place) c.deref.ensures c.in-Ok.ensures.imposed)
 
 pub returns-clause-replied : goal.returns-clause-replied
 returns-clause-replied g c =
-    subst (λ (r : Reply g.row.T.Denot). IsReplied c.impose.new.self (Imposing c.args.list.value c.args.place) r) (sym c.refusal.ensures.is)
-    (impose_refused g.row.T.Denot c.args.registry.now c.impose.new.self c.args.list.value c.args.place c.in-Err.fault c.requires
+    subst (λ (r : Reply g.row.T.Denot). IsReplied c.impose_allowed.new.self (Imposing c.args.list.value c.args.place) r) (sym c.refusal.ensures.is)
+    (impose_refused g.row.T.Denot c.args.registry.now c.impose_allowed.new.self c.args.list.value c.args.place c.in-Err.fault c.requires
     (subst (λ (l : Listed). ImposeRefusedFor c.args.registry.now l c.args.place c.in-Err.fault) c.deref.ensures c.in-Err.ensures.refused) c.in-Err.ensures.unchanged)

@@ -1,13 +1,12 @@
 -- The numbers of texts, as they are asked for one after the other.
-use Rattle.std.proofs.Common.{◌≡◌, ℕ, zero, suc, ◌+◌, ◌<◌, Bool, true, false, cond, ◌==◌, nat_eq, List, [], ◌∷◌, ◌++◌, length, take, get_or, Option, Some, None, refl, sym, ap, subst, ◌∙◌, arith, inl, inr}
+use Rattle.std.proofs.Common.{◌≡◌, ℕ, zero, suc, ◌+◌, ◌<◌, Bool, true, false, cond, nat_eq, List, [], ◌∷◌, ◌++◌, length, take, get_or, Option, Some, None, refl, sym, ap, subst, ◌∙◌, arith, inl, inr}
 use Rattle.std.specs.Prelude.{set, slice_get, unwrap_or}
 use Rattle.std.specs.List.{AllByRecursion}
-use Rattle.std.specs.Ordering.{is_eq, nat_cmp}
-use Rattle.std.specs.Cmp.{unsigned_ties}
-use Rattle.std.specs.Cmp.Lexicographic.{pointwise, same_text, texts_ties, unequal}
-use Rattle.std.proofs.lemmas.Bool.{eq-eqb, ne_eqb, cases_eq, cases_lt}
+use Rattle.std.specs.Ordering.{is_eq}
+use Rattle.std.specs.Cmp.Lexicographic.{pointwise, same_text, texts_ties}
+use Rattle.std.proofs.lemmas.Bool.{eq-eqb, cases_eq, cases_lt}
 use Rattle.std.proofs.lemmas.List.{length-set}
-use Rattle.std.specs.BTreeMap.{BTreeMap, get}
+use Rattle.std.specs.BTreeMap.{get}
 use Rattle.std.specs.Map.{lookup}
 use Rattle.cl_classfile.proofs.MemberRows.{front}
 use Rattle.cl_classfile.specs.declared.entry.Entry.{Entry}
@@ -15,56 +14,47 @@ use Rattle.cl_classfile.specs.declared.numbers.Numbers.{Numbers}
 use Rattle.cl_classfile.specs.Structure.{Member}
 use Rattle.cl_classfile.specs.Pool.{at}
 use Rattle.cl_classfile.specs.Files.{text_of, text_at}
-use Rattle.cl_classfile.specs.Numbers.{text_cmp, number_among, number_in, number_of, Enters, number_at, with_number, IsNumber, IsNoted, IsFirst, AreNumbers, Grows, Notes, IsMemberNoted, NotesAll}
+use Rattle.cl_classfile.specs.Numbers.{text_cmp, number_of, number_at, with_number, IsNumber, IsNoted, IsFirst, AreNumbers, Grows, Notes, IsMemberNoted, NotesAll}
 
 abbrev pub Of : Type 0
 Of = List ℕ → Option ℕ
 
 -- ---- one more text
 
+-- the numbers when a text was put in
+abbrev pub Puts : Of → Of → List ℕ → ℕ → Type 0
+Puts old new t n = (u : List ℕ) → new u ≡ cond (pointwise nat_eq t u) (Some n) (old u)
+
 itself : (t : List ℕ) → pointwise nat_eq t t ≡ true
 itself [] = refl
 itself (b ∷ t) = rw (eq-eqb b b refl, itself t) refl
 
-pub put_is : (old new : Of) (t : List ℕ) (n : ℕ) → Enters old new t n → new t ≡ Some n
+pub put_is : (old new : Of) (t : List ℕ) (n : ℕ) → Puts old new t n → new t ≡ Some n
 put_is old new t n puts = puts t ∙ rw (itself t) refl
 
-put_first : (pool : List Entry) (old new : Of) (t : List ℕ) (n : ℕ) → Enters old new t n → text_at pool n ≡ Some t → IsFirst pool old → IsFirst pool new
+put_first : (pool : List Entry) (old new : Of) (t : List ℕ) (n : ℕ) → Puts old new t n → text_at pool n ≡ Some t → IsFirst pool old → IsFirst pool new
 put_first pool old new t n puts is first u m e = choose (pointwise nat_eq t u) refl (sym (puts u) ∙ e)
   where
     choose : (b : Bool) → pointwise nat_eq t u ≡ b → cond b (Some n) (old u) ≡ Some m → text_at pool m ≡ Some u
     choose true same is_m = let same_number : n ≡ m = cc in ap (text_at pool) (sym same_number) ∙ is ∙ ap Some (same_text t u (sym same))
     choose false other is_m = first u m is_m
 
-pub put_grows : (old new : Of) (t : List ℕ) (n : ℕ) → Enters old new t n → old t ≡ None → (u : List ℕ) (m : ℕ) → old u ≡ Some m → new u ≡ Some m
+pub put_grows : (old new : Of) (t : List ℕ) (n : ℕ) → Puts old new t n → old t ≡ None → (u : List ℕ) (m : ℕ) → old u ≡ Some m → new u ≡ Some m
 put_grows old new t n puts none u m e = puts u ∙ choose (pointwise nat_eq t u) refl
   where
     choose : (b : Bool) → pointwise nat_eq t u ≡ b → cond b (Some n) (old u) ≡ Some m
     choose true same = absurd (let t_is : old t ≡ Some m = ap old (same_text t u (sym same)) ∙ e in cc)
     choose false other = e
 
--- a text put in among those of its length
-pub entered : (old new : Numbers) (t : List ℕ) (n len : ℕ) (was with : BTreeMap (List ℕ) ℕ) → len ≡ length t → ((q : List ℕ) → get text_cmp was q ≡ number_among (get nat_cmp old.met len) q)
-    → ((q : List ℕ) → get text_cmp with q ≡ cond (is_eq (text_cmp t q)) (Some n) (get text_cmp was q)) → ((k : ℕ) → get nat_cmp new.met k ≡ cond (is_eq (nat_cmp len k)) (Some with) (get nat_cmp old.met k)) → Enters (number_of old) (number_of new) t n
-entered old new t n len was with is_len was_is among lengths u = elim (cases_eq len (length u)) [ inl e ↦ same e | inr other ↦ apart other ]
-  where
-    at_length : (b : Bool) → (len == length u) ≡ b → number_of new u ≡ number_among (cond b (Some with) (get nat_cmp old.met (length u))) u
-    at_length b e = ap (λ (o : Option (BTreeMap (List ℕ) ℕ)). number_among o u) (lengths (length u) ∙ ap (λ (b : Bool). cond b (Some with) (get nat_cmp old.met (length u))) (sym (unsigned_ties len (length u)) ∙ e))
-
-    same : len ≡ length u → number_of new u ≡ cond (pointwise nat_eq t u) (Some n) (number_of old u)
-    same e =
-        at_length true (eq-eqb len (length u) e) ∙ among u ∙ ap (λ (b : Bool). cond b (Some n) (get text_cmp was u)) (sym (texts_ties t u))
-        ∙ ap (cond (pointwise nat_eq t u) (Some n)) (was_is u ∙ ap (λ (k : ℕ). number_among (get nat_cmp old.met k) u) e)
-
-    apart : (len ≡ length u → ⊥) → number_of new u ≡ cond (pointwise nat_eq t u) (Some n) (number_of old u)
-    apart other = at_length false (ne_eqb len (length u) other) ∙ ap (λ (b : Bool). cond b (Some n) (number_of old u)) (sym (unequal nat_eq t u (λ e. other (is_len ∙ e))))
+pub more : (old new : Numbers) (t : List ℕ) (n : ℕ) → ((q : List ℕ) → get text_cmp new.met q ≡ cond (is_eq (text_cmp t q)) (Some n) (get text_cmp old.met q)) → Puts (number_of old) (number_of new) t n
+more old new t n updates u = updates u ∙ ap (λ (b : Bool). cond b (Some n) (number_of old u)) (sym (texts_ties t u))
 
 grows_number : (old new : Of) → ((u : List ℕ) (m : ℕ) → old u ≡ Some m → new u ≡ Some m) → (o : Option (List ℕ)) (n : ℕ) → IsNumber old o n → IsNumber new o n
 grows_number old new grows None n h = h
 grows_number old new grows (Some t) n h = grows t n h
 
 -- a text that had no number has one
-pub put_number : (pool : List Entry) (old new : Numbers) (t : List ℕ) (n : ℕ) → new.noted.items ≡ old.noted.items → Enters (number_of old) (number_of new) t n → number_of old t ≡ None → text_at pool n ≡ Some t → AreNumbers pool old → AreNumbers pool new
+pub put_number : (pool : List Entry) (old new : Numbers) (t : List ℕ) (n : ℕ) → new.noted.items ≡ old.noted.items → Puts (number_of old) (number_of new) t n → number_of old t ≡ None → text_at pool n ≡ Some t → AreNumbers pool old → AreNumbers pool new
 put_number pool old new t n same puts none is a = record {
   first = put_first pool (number_of old) (number_of new) t n puts is a.first;
   known = λ i some.
@@ -123,8 +113,8 @@ put_length noted (suc i) n = length-set noted i n
 pub noted : (pool : List Entry) (old mid new : Numbers) (i n : ℕ) → AreNumbers pool mid → Grows old mid → mid.noted.items ≡ old.noted.items → IsNumber (number_of mid) (text_at pool i) n → new.met ≡ mid.met
     → new.noted.items ≡ with_number mid.noted.items i n → Notes pool old new i
 noted pool old mid new i n a grows same is met put =
-    let kept_of : (u : List ℕ) (m : ℕ) → number_of mid u ≡ Some m → number_of new u ≡ Some m = λ u m e. ap (λ m. number_in m u) met ∙ e in
-    let of_new : (u : List ℕ) (m : ℕ) → number_of new u ≡ Some m → number_of mid u ≡ Some m = λ u m e. ap (λ m. number_in m u) (sym met) ∙ e in
+    let kept_of : (u : List ℕ) (m : ℕ) → number_of mid u ≡ Some m → number_of new u ≡ Some m = λ u m e. ap (λ m. get text_cmp m u) met ∙ e in
+    let of_new : (u : List ℕ) (m : ℕ) → number_of new u ≡ Some m → number_of mid u ≡ Some m = λ u m e. ap (λ m. get text_cmp m u) (sym met) ∙ e in
     let there : IsNoted pool new i =
     subst (λ (ns : List ℕ). IsNumber (number_of new) (text_at pool i) (number_at ns i)) (sym put)
     (put_there pool (number_of new) mid.noted.items i n a.all (grows_number (number_of mid) (number_of new) kept_of (text_at pool i) n is)) in
@@ -171,7 +161,7 @@ one_more pool old so_far named new ms i m lt is a name descriptor =
 -- of no text there is a number
 pub nothing : (pool : List Entry) (ns : Numbers) → ns.met.entries ≡ [] → ((i : ℕ) → number_at ns.noted.items i ≡ 0) → length ns.noted.items ≡ length pool → AreNumbers pool ns
 nothing pool ns none zeros all = record {
-  first = λ text n e. absurd (let no : number_of ns text ≡ None = ap (λ (es : List (ℕ × BTreeMap (List ℕ) ℕ)). number_among (lookup (λ k. is_eq (nat_cmp (length text) k)) es) text) none in cc);
+  first = λ text n e. absurd (let no : number_of ns text ≡ None = ap (lookup (λ q. is_eq (text_cmp text q))) none in cc);
   known = λ i some. absurd (some (zeros i));
   all = all;
 }

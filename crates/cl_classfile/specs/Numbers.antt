@@ -1,10 +1,10 @@
 -- Numbers of texts, the same for equal ones.
-use Rattle.std.specs.Prelude.{◌≡◌, ℕ, zero, suc, cond, nat_eq, List, length, Option, Some, None, unwrap_or, option_and_then, set}
+use Rattle.std.specs.Prelude.{◌≡◌, ℕ, zero, suc, List, length, Option, Some, None, unwrap_or, set}
 use Rattle.std.specs.List.{AllByRecursion}
-use Rattle.std.specs.BTreeMap.{BTreeMap, get}
+use Rattle.std.specs.BTreeMap.{get}
 use Rattle.std.specs.Ordering.{nat_cmp}
 use Rattle.std.specs.declared.cmp.Ordering.{Ordering}
-use Rattle.std.specs.Cmp.Lexicographic.{pointwise, slice_cmp}
+use Rattle.std.specs.Cmp.Lexicographic.{slice_cmp}
 use Rattle.cl_classfile.specs.declared.entry.Entry.{Entry}
 use Rattle.cl_classfile.specs.declared.numbers.Numbers.{Numbers}
 use Rattle.cl_classfile.specs.Pool.{at}
@@ -15,21 +15,9 @@ use Rattle.cl_classfile.specs.Files.{text_at}
 abbrev pub text_cmp : List ℕ → List ℕ → Ordering
 text_cmp a b = slice_cmp nat_cmp a b
 
--- the number of a text among those of its length, if there are any
-abbrev pub number_among : Option (BTreeMap (List ℕ) ℕ) → List ℕ → Option ℕ
-number_among of_length text = option_and_then (λ ns. get text_cmp ns text) of_length
-
--- the number of a text in the maps of each length, if it was met
-abbrev pub number_in : BTreeMap ℕ (BTreeMap (List ℕ) ℕ) → List ℕ → Option ℕ
-number_in met text = number_among (get nat_cmp met (length text)) text
-
 -- the number of a text, if it was met
 abbrev pub number_of : Numbers → List ℕ → Option ℕ
-number_of ns text = number_in ns.met text
-
--- the numbers when a text was put in
-abbrev pub Enters : (List ℕ → Option ℕ) → (List ℕ → Option ℕ) → List ℕ → ℕ → Type 0
-Enters old new text n = (u : List ℕ) → new u ≡ cond (pointwise nat_eq text u) (Some n) (old u)
+number_of ns text = get text_cmp ns.met text
 
 -- the number that is noted at an index, or 0
 abbrev pub number_at : List ℕ → ℕ → ℕ

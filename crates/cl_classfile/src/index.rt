@@ -4,7 +4,7 @@ ghost use Rattle.std.specs.Prelude.{◌≡◌, ℕ, List, IfOk, IfSome};
 ghost use Rattle.std.specs.Option.{option_map};
 ghost use Rattle.cl_classfile.specs.declared.entry.Entry.{Entry};
 ghost use Rattle.cl_classfile.specs.Numbers.{AreNoted};
-ghost use Rattle.cl_classfile.specs.Indexes.{Leads, StandThere, led_to};
+ghost use Rattle.cl_classfile.specs.Indexes.{Leads, StandThere, led_to, member_at};
 
 use crate::member::Member;
 use crate::numbers::Numbers;
@@ -67,19 +67,10 @@ fn places_of(alloc: Global, numbers: &Numbers, members: &[Member]) -> Result<Pla
 }
 
 impl Places {
-    /// The member of this name and this descriptor, by their numbers.
-    fn member<'a>(
-        &self,
-        numbers: &Numbers,
-        members: &'a [Member],
-        name: &Name,
-        descriptor: &Name,
-    ) -> Option<&'a Member>
-        ensures { option_map (λ m. m.now) result
-            ≡ led_to numbers.now self.now members.now name.now descriptor.now }
+    /// The member of these numbers.
+    fn member<'a>(&self, members: &'a [Member], name: u16, descriptor: u16) -> Option<&'a Member>
+        ensures { option_map (λ m. m.now) result ≡ member_at self.now members.now name descriptor }
     {
-        let name = numbers.number_of(name)?;
-        let descriptor = numbers.number_of(descriptor)?;
         let place = self.map.get(&(name, descriptor))?;
         members.get(*place)
     }
@@ -96,7 +87,9 @@ impl Index {
         ensures { option_map (λ m. m.now) result
             ≡ led_to self.now.numbers self.now.fields fields.now name.now descriptor.now }
     {
-        self.fields.member(&self.numbers, fields, name, descriptor)
+        let name = self.numbers.number_of(name)?;
+        let descriptor = self.numbers.number_of(descriptor)?;
+        self.fields.member(fields, name, descriptor)
     }
 
     /// The method of this name and this descriptor, where these are the methods.
@@ -109,7 +102,8 @@ impl Index {
         ensures { option_map (λ m. m.now) result
             ≡ led_to self.now.numbers self.now.methods methods.now name.now descriptor.now }
     {
-        self.methods
-            .member(&self.numbers, methods, name, descriptor)
+        let name = self.numbers.number_of(name)?;
+        let descriptor = self.numbers.number_of(descriptor)?;
+        self.methods.member(methods, name, descriptor)
     }
 }

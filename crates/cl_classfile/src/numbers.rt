@@ -1,9 +1,9 @@
 //! Numbers of texts, the same for equal ones: each text that members name is compared with others once, however many members
 //! name it and however long it is.
 
-ghost use Rattle.std.specs.Prelude.{◌≡◌, IfOk, OnOk};
+ghost use Rattle.std.specs.Prelude.{◌≡◌, IfOk};
 ghost use Rattle.cl_classfile.specs.Files.{text_at};
-ghost use Rattle.cl_classfile.specs.Numbers.{IsNumber, AreNumbers, AreNoted, Enters, Notes, Grows, NotesAll, number_of, number_at, with_number};
+ghost use Rattle.cl_classfile.specs.Numbers.{IsNumber, AreNumbers, AreNoted, Notes, Grows, NotesAll, number_of, number_at, with_number};
 
 use crate::checking::text_at;
 use crate::entry::Entry;
@@ -15,9 +15,8 @@ use std::collections::BTreeMap;
 /// The numbers of texts.
 #[derive(Debug, Drop)]
 pub struct Numbers {
-    /// Of each text that was met, the first index of it that was asked for: its number. The texts of one length stand in a map
-    /// of their own, since many begin alike, and their lengths tell most apart without a look at their bytes.
-    met: BTreeMap<usize, BTreeMap<Name, u16, Global>, Global>,
+    /// Of each text that was met, the first index of it that was asked for: its number.
+    met: BTreeMap<Name, u16, Global>,
     /// Of each index of the pool the number of the text there, or 0 where it was not asked for.
     noted: Vec<u16>,
 }
@@ -59,8 +58,7 @@ impl Numbers {
     pub fn number_of(&self, text: &Name) -> Option<u16>
         ensures { result ≡ number_of self.now text.now }
     {
-        let of_length = self.met.get(&text.bytes().len())?;
-        of_length.get(text).copied()
+        self.met.get(text).copied()
     }
 
     /// Asks for the texts of these members.
@@ -106,27 +104,10 @@ impl Numbers {
         match self.number_of(text) {
             Some(number) => Ok(number),
             None => {
-                self.enter(alloc, text.try_clone(alloc)?, index)?;
+                self.met.insert(text.try_clone(alloc)?, index)?;
                 Ok(index)
             }
         }
-    }
-
-    /// Gives a text a number.
-    fn enter(&mut self, alloc: Global, text: Name, number: u16) -> Result<(), AllocError>
-        ensures entered { OnOk result
-            (Enters (number_of self.old) (number_of self.new) text number) }
-        ensures noted { self.new.noted.items ≡ self.old.noted.items }
-    {
-        let len = text.bytes().len();
-        if let Some(of_length) = self.met.get_mut(&len) {
-            of_length.insert(text, number)?;
-            return Ok(());
-        }
-        let mut of_length = BTreeMap::new(alloc);
-        of_length.insert(text, number)?;
-        self.met.insert(len, of_length)?;
-        Ok(())
     }
 
     fn put(&mut self, index: u16, number: u16)

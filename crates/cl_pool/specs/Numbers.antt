@@ -3,24 +3,13 @@ use Rattle.std.specs.Prelude.{◌≡◌, ◌==◌, ℕ, ◌+◌, ◌-◌, ◌<�
 use mathlib.Core.Option.{some}
 use lib.ListN.{get_elem?}
 use Rattle.atomic_table.specs.Table.{State, Step, Me}
+use Rattle.cl_schedule.specs.Serving.{HasEachBelow, once_below, times}
 use Rattle.cl_pool.specs.declared.hand.Hand.{Hand}
 use Rattle.cl_pool.specs.declared.hand.Bounds.{Bounds}
-
--- how often a number stands in a list
-abbrev pub times : ℕ → List ℕ → ℕ
-times x xs = count_by (λ y. y == x) xs
 
 -- how many numbers of a list are past the last request
 abbrev pub past : ℕ → List ℕ → ℕ
 past requests xs = count_by (λ y. nat_le requests y) xs
-
--- once where a number is below this one, else never
-abbrev pub once_below : ℕ → ℕ → ℕ
-once_below x n = if nat_lt x n then 1 else 0
-
--- a list has each number below this one once, and no other
-abbrev pub HasEachBelow : ℕ → List ℕ → Type 0
-HasEachBelow n xs = (x : ℕ) → times x xs ≡ once_below x n
 
 -- each number of a list is below this one
 abbrev pub AllBelow : ℕ → List ℕ → Type 0

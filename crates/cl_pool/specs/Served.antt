@@ -13,23 +13,6 @@ use Rattle.cl_pool.specs.declared.fault.PoolFault.{PoolFault}
 use Rattle.cl_pool.specs.declared.fault.PoolFault.TheVariants as faults
 use Rattle.cl_pool.specs.declared.limits.TheConstants.{MOST_WORKERS}
 
--- the report of a script that was served by threads under a configuration. Where a content is told, the history is a run of the
--- linkage machine over it, in which each request is answered once, in its round, with what its plan yields in the state at that
--- point, or with a failure; each class is spelt by its defining loader's bytes, equal requests and equal references are answered
--- alike, and circles are told exactly. Under any source each request has one post, the tables can be trusted, no loader records a
--- name twice and no constraint is violated (5.3 to 5.4.3)
-pub record IsServed (told : Option Content) (config : Configured) (script : Scripted) (r : Report) : Type 0 where
-  pub of_script : r.script.value ≡ script
-  pub each_once : HasEachBelow (length script.requests) (posts r.history)
-  pub named : IsNamed (length config.loaders) r
-  pub trusted : IsTrusted (reported config r)
-  pub consistent : IsConsistent (state_of (reported config r))
-  pub run : RunsAs told (reported config r)
-  pub spelt : EachSpelt told (reported config r)
-  pub alike : Alike told (reported config r)
-  pub references : ReferencesAlike told (reported config r)
-  pub circles : CirclesExact told (reported config r)
-
 -- so many workers may serve
 pub record MayServe (workers : ℕ) : Type 0 where
   pub least : 1 ≤ workers

@@ -49,6 +49,8 @@ goes_by old new e more is quiet = record {
   posts_same = ap (λ (x : Shown). posts x.history) is ∙ posts_quiet old.history e quiet;
   more = more;
   rows = ap (λ (x : Shown). x.rows) is;
+  event = e;
+  history = ap (λ (x : Shown). x.history) is;
   step = ap steps is ∙ map_push (step_of (answers_of old.answers)) old.history e;
 }
 

@@ -1,7 +1,6 @@
 pub mod Histories
 pub mod Serving
 pub mod States
-pub mod Told
 pub mod Next
 pub mod Calls
 pub mod Served
@@ -11,3 +10,12 @@ pub mod Steps
 pub mod Counted
 pub mod Headline
 pub mod Known
+pub mod Ended
+pub mod Waiting
+pub mod Gathering
+pub mod Playing
+pub mod Later
+pub mod Telling
+pub mod Backing
+pub mod Seated
+pub mod Rooming

@@ -28,21 +28,10 @@ use Rattle.cl_tasks.specs.Follows.{Follows, IsPreparedNext, IsSettledNext, IsWan
 use Rattle.cl_tasks.specs.Tasks.{Tasked}
 use Rattle.cl_tasks.specs.declared.turn.Turn.{Turn}
 use Rattle.cl_tasks.specs.declared.turn.Turn.TheVariants as turn
-use Rattle.cl_schedule.specs.Serving.{IsPost}
+use Rattle.cl_schedule.specs.Serving.{IsCallStep, IsPost}
 use Rattle.cl_schedule.specs.Replies.{IsStepOf, PreparesBy}
 
 -- ---- the steps of calls
-
--- a step that a call may make: no post, and no round
-abbrev pub IsCallStep : Step → Type 0
-IsCallStep (Define c) = Unit {0}
-IsCallStep (Initiate name place loader) = Unit {0}
-IsCallStep (Constrain name a b) = Unit {0}
-IsCallStep (Settle d i v) = Unit {0}
-IsCallStep (Prepare c) = Unit {0}
-IsCallStep (Post q a) = ⊥
-IsCallStep NextRound = ⊥
-IsCallStep Stray = ⊥
 
 pub step_quiet : (e : Step) → IsCallStep e → IsPost e → ⊥
 step_quiet (Define c) call post = post

@@ -44,6 +44,8 @@ pub record Passing (old now : Shown) : Type 0 where
   pub rows : now.rows ≡ old.rows
   pub answers : now.answers ≡ old.answers
   pub posts_same : posts now.history ≡ posts old.history
+  pub events : List Event
+  pub history : now.history ≡ old.history ++ events
   pub begun : List Step
   pub steps_more : steps now ≡ steps old ++ begun
   pub later : (content : Content) (es : List Step) → PassesRounds (machine_of old content) (state_of now) es → PassesRounds (machine_of old content) (state_of old) (begun ++ es)
@@ -55,6 +57,8 @@ passing_none x = record {
   rows = refl;
   answers = refl;
   posts_same = refl;
+  events = [];
+  history = sym (append-nil x.history);
   begun = [];
   steps_more = sym (append-nil (steps x));
   later = λ content es h. h;
@@ -71,6 +75,8 @@ passing_on old x new p may h rows = record {
   rows = rows ∙ p.rows;
   answers = h.answers ∙ p.answers;
   posts_same = h.posts_same ∙ p.posts_same;
+  events = p.events ++ h.event ∷ [];
+  history = h.history ∙ ap (λ (es : List Event). es ++ h.event ∷ []) p.history ∙ append_assoc old.history p.events (h.event ∷ []);
   begun = p.begun ++ NextRound ∷ [];
   steps_more = h.step ∙ ap (λ (es : List Step). es ++ NextRound ∷ []) p.steps_more ∙ append_assoc (steps old) p.begun (NextRound ∷ []);
   later = λ content es more.
@@ -85,6 +91,8 @@ all_passed old now p over = record {
   rows = p.rows;
   answers = p.answers;
   posts_same = p.posts_same;
+  events = p.events;
+  history = p.history;
   passed = p.begun;
   steps_more = p.steps_more;
   rounds = λ content.
@@ -127,7 +135,7 @@ none_goes_on old new p may =
 
 -- ---- what is posted is answered
 
-found_here : (xs : List Posted) (q : ℕ) (a : Answer) → answer_to xs q ≡ None → answer_to (xs ++ record { request = q; answer = a } ∷ []) q ≡ Some a
+pub found_here : (xs : List Posted) (q : ℕ) (a : Answer) → answer_to xs q ≡ None → answer_to (xs ++ record { request = q; answer = a } ∷ []) q ≡ Some a
 found_here xs q a none =
     let test = λ (p : Posted). p.request == q in
     let last : Posted = record { request = q; answer = a } in
@@ -142,7 +150,7 @@ or_nothing : {A : Type 0} (o : Option A) → option_or o None ≡ o
 or_nothing None = refl
 or_nothing (Some x) = refl
 
-post_other : (s : State) (q p : ℕ) (o : Option Answer) → nat_eq p q ≡ false → answer_to (after s (post_of p o)).answers q ≡ answer_to s.answers q
+pub post_other : (s : State) (q p : ℕ) (o : Option Answer) → nat_eq p q ≡ false → answer_to (after s (post_of p o)).answers q ≡ answer_to s.answers q
 post_other s q p None ne = refl
 post_other s q p (Some a) ne =
     let test = λ (r : Posted). r.request == q in
@@ -188,7 +196,7 @@ answered_below x n p t order below =
 -- ---- the round of a request
 
 -- a scheduled request stands with its round
-scheduled_round : (rs : List Request) (ns : List ℕ) (p : ℕ) (e : Scheduled) → slice_get (schedule rs ns) p ≡ Some e → slice_get ns p ≡ Some e.round
+pub scheduled_round : (rs : List Request) (ns : List ℕ) (p : ℕ) (e : Scheduled) → slice_get (schedule rs ns) p ≡ Some e → slice_get ns p ≡ Some e.round
 scheduled_round [] ns p e h = absurd cc
 scheduled_round (r ∷ rs) [] p e h = absurd cc
 scheduled_round (r ∷ rs) (n ∷ ns) zero e h = round_here n e (ap (option_map (λ (k : Scheduled). k.round)) h)
@@ -206,12 +214,12 @@ scheduled_at (k ∷ rs) (n ∷ ns) zero r whole h = (n, ap (option_map (λ (d : 
     the_scheduled d n = record { request = request_of d; round = n }
 scheduled_at (k ∷ rs) (n ∷ ns) (suc q) r whole h = scheduled_at rs ns q r (omega arith) h
 
-schedule_length : (rs : List Request) (ns : List ℕ) → length ns ≡ length rs → length (schedule rs ns) ≡ length rs
+pub schedule_length : (rs : List Request) (ns : List ℕ) → length ns ≡ length rs → length (schedule rs ns) ≡ length rs
 schedule_length [] ns whole = refl
 schedule_length (r ∷ rs) [] whole = absurd (omega arith)
 schedule_length (r ∷ rs) (n ∷ ns) whole = ap (λ (k : ℕ). suc k) (schedule_length rs ns (omega arith))
 
-within : (rounds : ℕ) (ns : List ℕ) (q n : ℕ) → All (λ k. k < rounds) ns → slice_get ns q ≡ Some n → n < rounds
+pub within : (rounds : ℕ) (ns : List ℕ) (q n : ℕ) → All (λ k. k < rounds) ns → slice_get ns q ≡ Some n → n < rounds
 within rounds ns q n all at = subst (λ (k : ℕ). k < rounds) (index_is ns q n at) (all q n (slice_get_within ns q n at))
   where
     index_is : (ns : List ℕ) (q n : ℕ) → slice_get ns q ≡ Some n → slice_index_or ns q n ≡ n

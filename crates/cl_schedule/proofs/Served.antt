@@ -13,11 +13,11 @@ use Rattle.cl_model.proofs.Service.{begun_push, begun_ends, run_last, state_appe
 use Rattle.cl_registry.specs.Tables.{Shown, IsKept, IsLater, IsOpen, RunsAs, posts, round_of, steps, state_of, with_post}
 use Rattle.cl_tasks.specs.declared.turn.Turn.{Turn}
 use Rattle.cl_tasks.specs.Follows.{AnswerFollows}
-use Rattle.cl_schedule.specs.Serving.{machine, GoesBy, IsDone, IsPost, NoPosts, ServesAs}
+use Rattle.cl_schedule.specs.Serving.{machine, GoesBy, IsCallStep, IsDone, IsPost, NoPosts, ServesAs}
 use Rattle.cl_schedule.specs.Replies.{Did, IsStepOf}
 use Rattle.cl_schedule.proofs.Histories.{posts_then, steps_posts, unposted}
 use Rattle.cl_schedule.proofs.States.{same_machine, state_goes}
-use Rattle.cl_schedule.proofs.Next.{IsCallStep, step_quiet, step_within}
+use Rattle.cl_schedule.proofs.Next.{step_quiet, step_within}
 use Rattle.cl_model.specs.declared.event.Event.TheVariants as events
 
 -- ---- what was done so far
@@ -68,7 +68,7 @@ going_same told old x new r g same = subst (λ (y : Shown). Going told old y r) 
 -- ---- one step more
 
 -- the last step of a registry's run
-last_may : (content : Content) (x new : Shown) (g : Setting) (e : Step) → RunsAs (Some content) new → machine new content ≡ g → steps new ≡ steps x ++ e ∷ [] → May g (state_of x) e
+pub last_may : (content : Content) (x new : Shown) (g : Setting) (e : Step) → RunsAs (Some content) new → machine new content ≡ g → steps new ≡ steps x ++ e ∷ [] → May g (state_of x) e
 last_may content x new g e run same h =
     run_last g start (steps x) e (subst (λ (es : List Step). Run g start es) h (subst (λ (k : Setting). Run k start (steps new)) same run))
 
@@ -122,7 +122,7 @@ still_now told old x r q g now later =
       later = subst (λ (k : ℕ). k < later.round) g.round later.later;
     })
 
-may_end : (g : Setting) (s : State) (r : Request) (a : rust.Answer) → AnswerFollows g s r a → MayEnd g s (request_of r) (answer_of a)
+pub may_end : (g : Setting) (s : State) (r : Request) (a : rust.Answer) → AnswerFollows g s r a → MayEnd g s (request_of r) (answer_of a)
 may_end g s r (rust.TheVariants.Said v) f = f
 may_end g s r (rust.TheVariants.Shared v) f = f
 may_end g s r rust.TheVariants.Memory f = tt

@@ -25,7 +25,7 @@ use Rattle.cl_schedule.proofs.Counted.{grows_none, grows_on, told_none}
 use Rattle.cl_schedule.proofs.Next.{next_of, step_of_call}
 use Rattle.cl_schedule.proofs.Served.{Going, going_did, going_start}
 use Rattle.cl_schedule.proofs.Stations.{Known, known_on, known_start}
-use Rattle.cl_schedule.proofs.Told.{holds_stays}
+use Rattle.cl_schedule.proofs.Later.{goes_on_by, holds_later}
 
 -- what a turn says of itself
 pub record TurnSays {A : Type 0} (told : Option Content) (t new : Tasked) (given : Reply A) (u : Turn A) : Type 0 where
@@ -69,10 +69,10 @@ turning_start {A = A} told old c q r t count source kept base is =
 -- ---- what a turn says where its request is served
 
 -- what holds of a task's request
-of_request : (o : Option Request) (r : Request) (P : Request → Type 0) → o ≡ Some r → IfSome o P → P r
+pub of_request : (o : Option Request) (r : Request) (P : Request → Type 0) → o ≡ Some r → IfSome o P → P r
 of_request o r P e h = subst (λ (k : Option Request). IfSome k P) e h
 
-served_in : (told : Option Content) (x : Shown) (c : Configured) (content : Content) → told ≡ Some content → IsKept told x → x.config ≡ c → ServedIn told c (machine x content) (state_of x)
+pub served_in : (told : Option Content) (x : Shown) (c : Configured) (content : Content) → told ≡ Some content → IsKept told x → x.config ≡ c → ServedIn told c (machine x content) (state_of x)
 served_in told x c content e kept same =
     record {
       content = content;
@@ -98,9 +98,9 @@ backed_now told old x c r t given u count since source later k backed =
 
 holds_did : {A : Type 0} (told : Option Content) (x new : Shown) (u : Turn A) (t : Tasked) → Did x new (IsStepOf x u) → IsKept told new → Holds x t → Holds new t
 holds_did told x new u t (inl same) kept held = subst (λ (y : Shown). Holds y t) (sym same) held
-holds_did told x new u t (inr did) kept held = holds_stays told x new did.0 t did.2 kept held
+holds_did told x new u t (inr did) kept held = holds_later told x new t (record { goes = goes_on_by x new did.0 did.2; kept = kept }) held
 
-unrecorded_of : {A : Type 0} (x : Shown) (w : Waits) (given : Reply A) → Shows x w given → Unrecorded x w given
+pub unrecorded_of : {A : Type 0} (x : Shown) (w : Waits) (given : Reply A) → Shows x w given → Unrecorded x w given
 unrecorded_of x Beginning given shows = tt
 unrecorded_of x (Looking l n) reply.Start shows = tt
 unrecorded_of x (Looking l n) (reply.Looked None) shows = shows
@@ -128,7 +128,7 @@ unrecorded_of x (LookingPrepared c) given shows = tt
 unrecorded_of x (Marking e) given shows = tt
 unrecorded_of x Ended given shows = tt
 
-serves_request : {A : Type 0} (t new : Tasked) (u : Turn A) → Serves t new u → IsCall u → new.request ≡ t.request
+pub serves_request : {A : Type 0} (t new : Tasked) (u : Turn A) → Serves t new u → IsCall u → new.request ≡ t.request
 serves_request t new (turn.Look l n) s call = s
 serves_request t new (turn.Read l n) s call = s
 serves_request t new (turn.Define d) s call = s

@@ -15,7 +15,7 @@ use Rattle.cl_registry.specs.declared.report.Report.{Report}
 use Rattle.cl_registry.specs.Reports.{IsNamed}
 use Rattle.cl_registry.specs.Tables.{Shown, IsTrusted, RunsAs, posts, state_of}
 use Rattle.cl_schedule.specs.Known.{KnownStays}
-use Rattle.cl_schedule.specs.Serving.{InOrder, machine, reported, upto}
+use Rattle.cl_schedule.specs.Serving.{HasEachBelow, InOrder, machine, reported, upto}
 
 -- each class that is recorded is spelt by its defining loader's bytes, by the grammar (4.1; 5.3.5)
 abbrev pub EachSpelt : Option Content → Shown → Type 0
@@ -83,6 +83,23 @@ pub record IsServedInOrder (told : Option Content) (config : Configured) (script
   pub known : KnownStays (reported config r)
   pub run : RunsAs told (reported config r)
   pub in_order : InOrder told (reported config r)
+  pub spelt : EachSpelt told (reported config r)
+  pub alike : Alike told (reported config r)
+  pub references : ReferencesAlike told (reported config r)
+  pub circles : CirclesExact told (reported config r)
+
+-- the report of a script that was served in some order, or by threads, under a configuration. Where a content is told, the history is a run of the
+-- linkage machine over it, in which each request is answered once, in its round, with what its plan yields in the state at that
+-- point, or with a failure; each class is spelt by its defining loader's bytes, equal requests and equal references are answered
+-- alike, and circles are told exactly. Under any source each request has one post, the tables can be trusted, no loader records a
+-- name twice and no constraint is violated (5.3 to 5.4.3)
+pub record IsServed (told : Option Content) (config : Configured) (script : Scripted) (r : Report) : Type 0 where
+  pub of_script : r.script.value ≡ script
+  pub each_once : HasEachBelow (length script.requests) (posts r.history)
+  pub named : IsNamed (length config.loaders) r
+  pub trusted : IsTrusted (reported config r)
+  pub consistent : IsConsistent (state_of (reported config r))
+  pub run : RunsAs told (reported config r)
   pub spelt : EachSpelt told (reported config r)
   pub alike : Alike told (reported config r)
   pub references : ReferencesAlike told (reported config r)

@@ -4,4 +4,7 @@ pub mod Replies
 pub mod Known
 pub mod Counting
 pub mod Headline
+pub mod Choices
+pub mod Seats
+pub mod Rooms
 pub mod Texts

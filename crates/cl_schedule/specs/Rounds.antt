@@ -1,5 +1,6 @@
 -- The rounds that begin before, between and after requests.
 use Rattle.std.specs.Prelude.{◌≡◌, List, ◌++◌}
+use Rattle.cl_model.specs.declared.event.Event.{Event}
 use Rattle.cl_model.specs.Content.{Content}
 use Rattle.cl_model.specs.Machine.{Step}
 use Rattle.cl_model.specs.Service.{PassesRounds}
@@ -13,6 +14,8 @@ pub record RoundsPassed (old new : Shown) : Type 0 where
   pub rows : new.rows ≡ old.rows
   pub answers : new.answers ≡ old.answers
   pub posts_same : posts new.history ≡ posts old.history
+  pub events : List Event
+  pub history : new.history ≡ old.history ++ events
   pub passed : List Step
   pub steps_more : steps new ≡ steps old ++ passed
   pub rounds : (content : Content) → PassesRounds (machine old content) (state_of old) passed

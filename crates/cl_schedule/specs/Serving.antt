@@ -1,7 +1,8 @@
 -- What a report says of the requests that were served, and what was done for one (JVMS SE 8, 5.3 to 5.4.3).
-use Rattle.std.specs.Prelude.{◌≡◌, ℕ, zero, suc, List, [], ◌∷◌, ◌++◌, map, Option, Some, None, slice_set}
+use Rattle.std.specs.Prelude.{◌≡◌, ◌==◌, ℕ, zero, suc, List, [], ◌∷◌, ◌++◌, map, Option, Some, None, count_by, nat_lt, if◌then◌else◌, slice_set}
 use Rattle.std.specs.List.{AllByRecursion}
 use Rattle.cl_model.specs.declared.answer.Answer as rust
+use Rattle.cl_model.specs.declared.event.Event.{Event}
 use Rattle.cl_model.specs.declared.request.Request.{Request}
 use Rattle.cl_model.specs.Content.{Content}
 use Rattle.cl_model.specs.States.{start}
@@ -18,6 +19,18 @@ use Rattle.cl_registry.specs.Tables.{Shown, posts, steps, state_of}
 abbrev pub upto : ℕ → List ℕ
 upto zero = []
 upto (suc n) = upto n ++ n ∷ []
+
+-- how often a number stands in a list
+abbrev pub times : ℕ → List ℕ → ℕ
+times x xs = count_by (λ y. y == x) xs
+
+-- once where a number is below this one, else never
+abbrev pub once_below : ℕ → ℕ → ℕ
+once_below x n = if nat_lt x n then 1 else 0
+
+-- a list has each number below this one once, and no other
+abbrev pub HasEachBelow : ℕ → List ℕ → Type 0
+HasEachBelow n xs = (x : ℕ) → times x xs ≡ once_below x n
 
 -- the registry that a report was made from, but for its rows; each request has its answer
 abbrev pub reported : Configured → Report → Shown
@@ -45,6 +58,17 @@ IsPost (Prepare c) = ⊥
 IsPost (Post q a) = Unit {0}
 IsPost NextRound = ⊥
 IsPost Stray = ⊥
+
+-- a step that a call may make: no post, and no round
+abbrev pub IsCallStep : Step → Type 0
+IsCallStep (Define c) = Unit {0}
+IsCallStep (Initiate name place loader) = Unit {0}
+IsCallStep (Constrain name a b) = Unit {0}
+IsCallStep (Settle d i v) = Unit {0}
+IsCallStep (Prepare c) = Unit {0}
+IsCallStep (Post q a) = ⊥
+IsCallStep NextRound = ⊥
+IsCallStep Stray = ⊥
 
 -- none of these posts an answer
 abbrev pub NoPosts : List Step → Type 0
@@ -75,4 +99,6 @@ pub record GoesBy (old new : Shown) (e : Step) : Type 0 where
   pub posts_same : posts new.history ≡ posts old.history
   pub more : List Rowed
   pub rows : new.rows ≡ old.rows ++ more
+  pub event : Event
+  pub history : new.history ≡ old.history ++ event ∷ []
   pub step : steps new ≡ steps old ++ e ∷ []

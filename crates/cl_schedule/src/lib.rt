@@ -1,7 +1,11 @@
 //! Scripts of requests, served in order.
 #![tactic(auto)]
 
+mod choices;
+mod gather;
 mod replies;
+mod seats;
 mod serve;
 
+pub use choices::simulate;
 pub use serve::{ServeFault, serve_one};

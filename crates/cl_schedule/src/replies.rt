@@ -35,7 +35,7 @@ fn look<T: Told>(registry: &Registry<T>, loader: LoaderId, name: &Name) -> Reply
 }
 
 /// The reply of a read of a source (JVMS SE 8, 5.3.2).
-fn read<T: Told, S: Source<T>>(
+pub(crate) fn read<T: Told, S: Source<T>>(
     alloc: Global,
     source: &mut S,
     loader: LoaderId,

@@ -58,7 +58,7 @@ impl From<AllocError> for ServeFault {
 }
 
 /// Posts an answer that the tables bear.
-fn post<T: Told>(registry: &mut Registry<T>, q: u32, finding: Finding<T>)
+pub(crate) fn post<T: Told>(registry: &mut Registry<T>, q: u32, finding: Finding<T>)
     requires asked { IsAsked registry.old q finding }
     requires begun { IsLater registry.old q → ⊥ }
     requires open { IsOpen registry.old q }
@@ -73,7 +73,7 @@ fn post<T: Told>(registry: &mut Registry<T>, q: u32, finding: Finding<T>)
 }
 
 /// Begins the next rounds, as long as nothing of the round is unposted and there is a later one.
-fn pass_rounds<T: Told>(registry: &mut Registry<T>)
+pub(crate) fn pass_rounds<T: Told>(registry: &mut Registry<T>)
     ensures passed { RoundsPassed registry.old registry.new }
     ensures kept { IsKept T.told registry.new }
 {
@@ -138,7 +138,7 @@ fn serve_request<T: Told, S: Source<T>>(
 }
 
 /// A copy of the request of a number.
-fn request_at(alloc: Global, script: &Script, q: u32) -> Result<Request, AllocError>
+pub(crate) fn request_at(alloc: Global, script: &Script, q: u32) -> Result<Request, AllocError>
     requires { q < length script.now.requests }
     ensures { IfOk result (λ r. slice_get script.now.requests q ≡ Some r) }
 {

@@ -1,7 +1,8 @@
 use Rattle.std.proofs.Common.{subst, sym}
+use Rattle.cl_schedule.proofs.Ended.{is_served}
 use Rattle.cl_schedule.proofs.Rounds.{none_goes_on}
 use Rattle.cl_pool.specs.Served.{IsUnanswered}
-use Rattle.cl_pool.proofs.Ended.{is_served, is_unanswered}
+use Rattle.cl_pool.proofs.Ended.{is_unanswered}
 use Rattle.cl_pool.proofs.serving.finish.Goals as goal
 
 pub returns-in-Ok-clause-served : goal.returns-in-Ok-clause-served

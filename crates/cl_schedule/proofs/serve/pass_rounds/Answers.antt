@@ -1,7 +1,10 @@
 use Rattle.std.proofs.Common.{ap}
 use Rattle.cl_registry.specs.Tables.{Shown}
-use Rattle.cl_schedule.proofs.Rounds.{passing_on, end_of_rounds, next_number, round_goes}
+use Rattle.cl_schedule.proofs.Rounds.{passing_none, passing_on, end_of_rounds, next_number, round_goes}
 use Rattle.cl_schedule.proofs.serve.pass_rounds.Goals as goal
+
+pub loop-init : goal.loop-init
+loop-init g c = passing_none c.args.registry.now
 
 pub loop-smaller : goal.loop-smaller
 loop-smaller g c = next_number c.loop.registry c.next_round.new.self c.in-Ok.ensures.may c.in-Ok.ensures.begun

@@ -1,0 +1,270 @@
+-- What a reply told stays so, wherever the registry goes on to (JVMS SE 8, 5.3 to 5.4.3).
+use Rattle.std.proofs.Common.{◌≡◌, ◌∙◌, ℕ, true, false, List, Option, Some, None, refl, sym, ap, subst}
+use Rattle.std.specs.Prelude.{option_map, slice_get, IfSome, Contains}
+use Rattle.cl_findings.specs.Findings.{loader_of, name_of}
+use Rattle.cl_findings.specs.References.{index_of}
+use Rattle.cl_hierarchy.specs.Imposed.{Sprung, OfReference, OfPreparation, equal_need}
+use Rattle.cl_hierarchy.specs.Lineages.{rows_in}
+use Rattle.cl_model.specs.declared.class.Class.{Class}
+use Rattle.cl_model.specs.declared.need.Equality.{Equality}
+use Rattle.cl_model.specs.declared.request.Request.{Request}
+use Rattle.cl_model.specs.declared.request.Request.TheVariants as requests
+use Rattle.cl_model.specs.declared.settled.Settled.{Settled}
+use Rattle.cl_model.specs.Content.{Content}
+use Rattle.cl_model.specs.Classes.{class}
+use Rattle.cl_model.specs.States.{State, Met, recorded}
+use Rattle.cl_model.specs.Tables.{Records}
+use Rattle.cl_model.specs.Views.{need_of}
+use Rattle.cl_registry.specs.Imposing.{IsPreparedBy}
+use Rattle.cl_registry.specs.References.{Cited, IsSettledIn, cited_by}
+use Rattle.cl_registry.specs.Tables.{Shown, records_of, state_of}
+use Rattle.cl_tasks.specs.Follows.{IsSettledOf, Tells, TellsOf}
+use Rattle.cl_tasks.specs.Tasks.{Tasked}
+use Rattle.cl_tasks.specs.Waits.{Waits, Beginning, Looking, Reading, Defining, Initiating, Tracing, LookingReference, Settling, Imposing, LookingPrepared, Marking, Ended}
+use Rattle.cl_tasks.specs.declared.turn.Reply.{Reply}
+use Rattle.cl_tasks.specs.declared.turn.Reply.TheVariants as reply
+use Rattle.cl_schedule.specs.Seats.{GoesOn, IsAfter, IsCitedFor}
+use Rattle.cl_schedule.proofs.Later.{holds_later, met_goes, prepared_later, record_later, recorded_as_later, refused_goes, rows_later, settled_in_later}
+
+-- ---- what is settled
+
+pub some_of_map : {A B : Type 0} (f : A → B) (o : Option A) (b : B) → option_map f o ≡ Some b → (a : A) × (o ≡ Some a)
+some_of_map f None b e = absurd cc
+some_of_map f (Some a) b e = (a, refl)
+
+-- what a reference is settled to is told of the class that the loader has recorded, and stays so
+settled_of_later : (old new : Shown) (r : Request) (s : Settled) → GoesOn old new → (e : Cited) × (cited_by old r ≡ Some e) → IsSettledOf old r s → IsSettledOf new r s
+settled_of_later old new (requests.Load loader name) s h (e, cited) so = absurd cc
+settled_of_later old new (requests.Link loader name) s h (e, cited) so = absurd cc
+settled_of_later old new (requests.Resolve loader name i) s h (e, cited) so = λ d kept.
+    let at = some_of_map (λ (p : ℕ). the_cited name i p) (recorded (records_of old) loader name) e cited in
+    let there : Some at.0 ≡ Some d.loader = sym (record_later old new loader at.0 name h at.1) ∙ kept.1 in
+    let same : class name at.0 ≡ d = one_class name at.0 d (sym kept.0) there in
+    subst (λ (c : Class). IsSettledIn new c i s) same (settled_in_later old new (class name at.0) i s h (so (class name at.0) (refl, at.1)))
+  where
+    the_cited : List ℕ → ℕ → ℕ → Cited
+    the_cited name i p = record { class = class name p; index = i }
+
+    one_class : (name : List ℕ) (p : ℕ) (d : Class) → name ≡ d.name → Some p ≡ Some d.loader → class name p ≡ d
+    one_class name p d n at = let l : p ≡ d.loader = cc in rw (n, l) refl
+
+-- ---- what stands
+
+imposed_later : (old new : Shown) (o : Option Equality) → GoesOn old new → IfSome o (λ n. Met (state_of old) (equal_need n)) → IfSome o (λ n. Met (state_of new) (equal_need n))
+imposed_later old new None h so = tt
+imposed_later old new (Some n) h so = met_goes old new (equal_need n) h so
+
+marked_later : (old new : Shown) (o : Sprung) → GoesOn old new → IsPreparedBy old o → IsPreparedBy new o
+marked_later old new (OfReference d c index) h so = so
+marked_later old new (OfPreparation l) h so = prepared_later old new l.own.class h so
+
+-- ---- each reply to each call
+
+told_later : {A : Type 0} (told : Option Content) (old new : Shown) (w : Waits) (given : Reply A) → IsAfter told old new → IsCitedFor old w given → TellsOf old w given → TellsOf new w given
+told_later told old new Beginning reply.Start h cited so = tt
+told_later told old new Beginning (reply.Looked None) h cited so = tt
+told_later told old new Beginning (reply.Looked (Some row)) h cited so = tt
+told_later told old new Beginning (reply.Probed p) h cited so = tt
+told_later told old new Beginning (reply.Defined row) h cited so = tt
+told_later told old new Beginning (reply.Initiated row) h cited so = tt
+told_later told old new Beginning (reply.Lineage l) h cited so = tt
+told_later told old new Beginning (reply.LookedReference None) h cited so = tt
+told_later told old new Beginning (reply.LookedReference (Some s)) h cited so = tt
+told_later told old new Beginning (reply.Settled s) h cited so = tt
+told_later told old new Beginning reply.Imposed h cited so = tt
+told_later told old new Beginning (reply.LookedPrepared true) h cited so = tt
+told_later told old new Beginning (reply.LookedPrepared false) h cited so = tt
+told_later told old new Beginning reply.Marked h cited so = tt
+told_later told old new Beginning (reply.Refused need) h cited so = refused_goes told old new (need_of need) h.goes h.kept so
+told_later told old new Beginning reply.Memory h cited so = tt
+told_later told old new Beginning (reply.SourceFault f) h cited so = tt
+told_later told old new (Looking l n) reply.Start h cited so = tt
+told_later told old new (Looking l n) (reply.Looked None) h cited so = tt
+told_later told old new (Looking l n) (reply.Looked (Some row)) h cited so = recorded_as_later old new l n row.value h.goes so
+told_later told old new (Looking l n) (reply.Probed p) h cited so = tt
+told_later told old new (Looking l n) (reply.Defined row) h cited so = tt
+told_later told old new (Looking l n) (reply.Initiated row) h cited so = tt
+told_later told old new (Looking l n) (reply.Lineage o) h cited so = tt
+told_later told old new (Looking l n) (reply.LookedReference None) h cited so = tt
+told_later told old new (Looking l n) (reply.LookedReference (Some s)) h cited so = tt
+told_later told old new (Looking l n) (reply.Settled s) h cited so = tt
+told_later told old new (Looking l n) reply.Imposed h cited so = tt
+told_later told old new (Looking l n) (reply.LookedPrepared true) h cited so = tt
+told_later told old new (Looking l n) (reply.LookedPrepared false) h cited so = tt
+told_later told old new (Looking l n) reply.Marked h cited so = tt
+told_later told old new (Looking l n) (reply.Refused need) h cited so = refused_goes told old new (need_of need) h.goes h.kept so
+told_later told old new (Looking l n) reply.Memory h cited so = tt
+told_later told old new (Looking l n) (reply.SourceFault f) h cited so = tt
+told_later told old new (Reading l n) reply.Start h cited so = tt
+told_later told old new (Reading l n) (reply.Looked None) h cited so = tt
+told_later told old new (Reading l n) (reply.Looked (Some row)) h cited so = tt
+told_later told old new (Reading l n) (reply.Probed p) h cited so = tt
+told_later told old new (Reading l n) (reply.Defined row) h cited so = tt
+told_later told old new (Reading l n) (reply.Initiated row) h cited so = tt
+told_later told old new (Reading l n) (reply.Lineage o) h cited so = tt
+told_later told old new (Reading l n) (reply.LookedReference None) h cited so = tt
+told_later told old new (Reading l n) (reply.LookedReference (Some s)) h cited so = tt
+told_later told old new (Reading l n) (reply.Settled s) h cited so = tt
+told_later told old new (Reading l n) reply.Imposed h cited so = tt
+told_later told old new (Reading l n) (reply.LookedPrepared true) h cited so = tt
+told_later told old new (Reading l n) (reply.LookedPrepared false) h cited so = tt
+told_later told old new (Reading l n) reply.Marked h cited so = tt
+told_later told old new (Reading l n) (reply.Refused need) h cited so = refused_goes told old new (need_of need) h.goes h.kept so
+told_later told old new (Reading l n) reply.Memory h cited so = tt
+told_later told old new (Reading l n) (reply.SourceFault f) h cited so = tt
+told_later told old new (Defining d) reply.Start h cited so = tt
+told_later told old new (Defining d) (reply.Looked None) h cited so = tt
+told_later told old new (Defining d) (reply.Looked (Some row)) h cited so = tt
+told_later told old new (Defining d) (reply.Probed p) h cited so = tt
+told_later told old new (Defining d) (reply.Defined row) h cited so = recorded_as_later old new d.class.loader d.class.name row.value h.goes so
+told_later told old new (Defining d) (reply.Initiated row) h cited so = tt
+told_later told old new (Defining d) (reply.Lineage l) h cited so = tt
+told_later told old new (Defining d) (reply.LookedReference None) h cited so = tt
+told_later told old new (Defining d) (reply.LookedReference (Some s)) h cited so = tt
+told_later told old new (Defining d) (reply.Settled s) h cited so = tt
+told_later told old new (Defining d) reply.Imposed h cited so = tt
+told_later told old new (Defining d) (reply.LookedPrepared true) h cited so = tt
+told_later told old new (Defining d) (reply.LookedPrepared false) h cited so = tt
+told_later told old new (Defining d) reply.Marked h cited so = tt
+told_later told old new (Defining d) (reply.Refused need) h cited so = refused_goes told old new (need_of need) h.goes h.kept so
+told_later told old new (Defining d) reply.Memory h cited so = tt
+told_later told old new (Defining d) (reply.SourceFault f) h cited so = tt
+told_later told old new (Initiating j) reply.Start h cited so = tt
+told_later told old new (Initiating j) (reply.Looked None) h cited so = tt
+told_later told old new (Initiating j) (reply.Looked (Some row)) h cited so = tt
+told_later told old new (Initiating j) (reply.Probed p) h cited so = tt
+told_later told old new (Initiating j) (reply.Defined row) h cited so = tt
+told_later told old new (Initiating j) (reply.Initiated row) h cited so = recorded_as_later old new j.asked j.name row.value h.goes so
+told_later told old new (Initiating j) (reply.Lineage l) h cited so = tt
+told_later told old new (Initiating j) (reply.LookedReference None) h cited so = tt
+told_later told old new (Initiating j) (reply.LookedReference (Some s)) h cited so = tt
+told_later told old new (Initiating j) (reply.Settled s) h cited so = tt
+told_later told old new (Initiating j) reply.Imposed h cited so = tt
+told_later told old new (Initiating j) (reply.LookedPrepared true) h cited so = tt
+told_later told old new (Initiating j) (reply.LookedPrepared false) h cited so = tt
+told_later told old new (Initiating j) reply.Marked h cited so = tt
+told_later told old new (Initiating j) (reply.Refused need) h cited so = refused_goes told old new (need_of need) h.goes h.kept so
+told_later told old new (Initiating j) reply.Memory h cited so = tt
+told_later told old new (Initiating j) (reply.SourceFault f) h cited so = tt
+told_later told old new (Tracing c) reply.Start h cited so = tt
+told_later told old new (Tracing c) (reply.Looked None) h cited so = tt
+told_later told old new (Tracing c) (reply.Looked (Some row)) h cited so = tt
+told_later told old new (Tracing c) (reply.Probed p) h cited so = tt
+told_later told old new (Tracing c) (reply.Defined row) h cited so = tt
+told_later told old new (Tracing c) (reply.Initiated row) h cited so = tt
+told_later told old new (Tracing c) (reply.Lineage l) h cited so = record { config = so.config ∙ sym h.goes.config; class = so.class; rows = rows_later old new h.goes (rows_in l.value) so.rows }
+told_later told old new (Tracing c) (reply.LookedReference None) h cited so = tt
+told_later told old new (Tracing c) (reply.LookedReference (Some s)) h cited so = tt
+told_later told old new (Tracing c) (reply.Settled s) h cited so = tt
+told_later told old new (Tracing c) reply.Imposed h cited so = tt
+told_later told old new (Tracing c) (reply.LookedPrepared true) h cited so = tt
+told_later told old new (Tracing c) (reply.LookedPrepared false) h cited so = tt
+told_later told old new (Tracing c) reply.Marked h cited so = tt
+told_later told old new (Tracing c) (reply.Refused need) h cited so = refused_goes told old new (need_of need) h.goes h.kept so
+told_later told old new (Tracing c) reply.Memory h cited so = tt
+told_later told old new (Tracing c) (reply.SourceFault f) h cited so = tt
+told_later told old new (LookingReference c i) reply.Start h cited so = tt
+told_later told old new (LookingReference c i) (reply.Looked None) h cited so = tt
+told_later told old new (LookingReference c i) (reply.Looked (Some row)) h cited so = tt
+told_later told old new (LookingReference c i) (reply.Probed p) h cited so = tt
+told_later told old new (LookingReference c i) (reply.Defined row) h cited so = tt
+told_later told old new (LookingReference c i) (reply.Initiated row) h cited so = tt
+told_later told old new (LookingReference c i) (reply.Lineage l) h cited so = tt
+told_later told old new (LookingReference c i) (reply.LookedReference None) h cited so = tt
+told_later told old new (LookingReference c i) (reply.LookedReference (Some s)) h cited so = settled_in_later old new c i s.value h.goes so
+told_later told old new (LookingReference c i) (reply.Settled s) h cited so = tt
+told_later told old new (LookingReference c i) reply.Imposed h cited so = tt
+told_later told old new (LookingReference c i) (reply.LookedPrepared true) h cited so = tt
+told_later told old new (LookingReference c i) (reply.LookedPrepared false) h cited so = tt
+told_later told old new (LookingReference c i) reply.Marked h cited so = tt
+told_later told old new (LookingReference c i) (reply.Refused need) h cited so = refused_goes told old new (need_of need) h.goes h.kept so
+told_later told old new (LookingReference c i) reply.Memory h cited so = tt
+told_later told old new (LookingReference c i) (reply.SourceFault f) h cited so = tt
+told_later told old new (Settling r) reply.Start h cited so = tt
+told_later told old new (Settling r) (reply.Looked None) h cited so = tt
+told_later told old new (Settling r) (reply.Looked (Some row)) h cited so = tt
+told_later told old new (Settling r) (reply.Probed p) h cited so = tt
+told_later told old new (Settling r) (reply.Defined row) h cited so = tt
+told_later told old new (Settling r) (reply.Initiated row) h cited so = tt
+told_later told old new (Settling r) (reply.Lineage l) h cited so = tt
+told_later told old new (Settling r) (reply.LookedReference None) h cited so = tt
+told_later told old new (Settling r) (reply.LookedReference (Some s)) h cited so = tt
+told_later told old new (Settling r) (reply.Settled s) h cited so = settled_of_later old new r s.value h.goes cited so
+told_later told old new (Settling r) reply.Imposed h cited so = tt
+told_later told old new (Settling r) (reply.LookedPrepared true) h cited so = tt
+told_later told old new (Settling r) (reply.LookedPrepared false) h cited so = tt
+told_later told old new (Settling r) reply.Marked h cited so = tt
+told_later told old new (Settling r) (reply.Refused need) h cited so = refused_goes told old new (need_of need) h.goes h.kept so
+told_later told old new (Settling r) reply.Memory h cited so = tt
+told_later told old new (Settling r) (reply.SourceFault f) h cited so = tt
+told_later told old new (Imposing e k) reply.Start h cited so = tt
+told_later told old new (Imposing e k) (reply.Looked None) h cited so = tt
+told_later told old new (Imposing e k) (reply.Looked (Some row)) h cited so = tt
+told_later told old new (Imposing e k) (reply.Probed p) h cited so = tt
+told_later told old new (Imposing e k) (reply.Defined row) h cited so = tt
+told_later told old new (Imposing e k) (reply.Initiated row) h cited so = tt
+told_later told old new (Imposing e k) (reply.Lineage l) h cited so = tt
+told_later told old new (Imposing e k) (reply.LookedReference None) h cited so = tt
+told_later told old new (Imposing e k) (reply.LookedReference (Some s)) h cited so = tt
+told_later told old new (Imposing e k) (reply.Settled s) h cited so = tt
+told_later told old new (Imposing e k) reply.Imposed h cited so = imposed_later old new (slice_get e.needs k) h.goes so
+told_later told old new (Imposing e k) (reply.LookedPrepared true) h cited so = tt
+told_later told old new (Imposing e k) (reply.LookedPrepared false) h cited so = tt
+told_later told old new (Imposing e k) reply.Marked h cited so = tt
+told_later told old new (Imposing e k) (reply.Refused need) h cited so = refused_goes told old new (need_of need) h.goes h.kept so
+told_later told old new (Imposing e k) reply.Memory h cited so = tt
+told_later told old new (Imposing e k) (reply.SourceFault f) h cited so = tt
+told_later told old new (LookingPrepared c) reply.Start h cited so = tt
+told_later told old new (LookingPrepared c) (reply.Looked None) h cited so = tt
+told_later told old new (LookingPrepared c) (reply.Looked (Some row)) h cited so = tt
+told_later told old new (LookingPrepared c) (reply.Probed p) h cited so = tt
+told_later told old new (LookingPrepared c) (reply.Defined row) h cited so = tt
+told_later told old new (LookingPrepared c) (reply.Initiated row) h cited so = tt
+told_later told old new (LookingPrepared c) (reply.Lineage l) h cited so = tt
+told_later told old new (LookingPrepared c) (reply.LookedReference None) h cited so = tt
+told_later told old new (LookingPrepared c) (reply.LookedReference (Some s)) h cited so = tt
+told_later told old new (LookingPrepared c) (reply.Settled s) h cited so = tt
+told_later told old new (LookingPrepared c) reply.Imposed h cited so = tt
+told_later told old new (LookingPrepared c) (reply.LookedPrepared true) h cited so = prepared_later old new c h.goes so
+told_later told old new (LookingPrepared c) (reply.LookedPrepared false) h cited so = tt
+told_later told old new (LookingPrepared c) reply.Marked h cited so = tt
+told_later told old new (LookingPrepared c) (reply.Refused need) h cited so = refused_goes told old new (need_of need) h.goes h.kept so
+told_later told old new (LookingPrepared c) reply.Memory h cited so = tt
+told_later told old new (LookingPrepared c) (reply.SourceFault f) h cited so = tt
+told_later told old new (Marking e) reply.Start h cited so = tt
+told_later told old new (Marking e) (reply.Looked None) h cited so = tt
+told_later told old new (Marking e) (reply.Looked (Some row)) h cited so = tt
+told_later told old new (Marking e) (reply.Probed p) h cited so = tt
+told_later told old new (Marking e) (reply.Defined row) h cited so = tt
+told_later told old new (Marking e) (reply.Initiated row) h cited so = tt
+told_later told old new (Marking e) (reply.Lineage l) h cited so = tt
+told_later told old new (Marking e) (reply.LookedReference None) h cited so = tt
+told_later told old new (Marking e) (reply.LookedReference (Some s)) h cited so = tt
+told_later told old new (Marking e) (reply.Settled s) h cited so = tt
+told_later told old new (Marking e) reply.Imposed h cited so = tt
+told_later told old new (Marking e) (reply.LookedPrepared true) h cited so = tt
+told_later told old new (Marking e) (reply.LookedPrepared false) h cited so = tt
+told_later told old new (Marking e) reply.Marked h cited so = marked_later old new e.origin h.goes so
+told_later told old new (Marking e) (reply.Refused need) h cited so = refused_goes told old new (need_of need) h.goes h.kept so
+told_later told old new (Marking e) reply.Memory h cited so = tt
+told_later told old new (Marking e) (reply.SourceFault f) h cited so = tt
+told_later told old new Ended reply.Start h cited so = tt
+told_later told old new Ended (reply.Looked None) h cited so = tt
+told_later told old new Ended (reply.Looked (Some row)) h cited so = tt
+told_later told old new Ended (reply.Probed p) h cited so = tt
+told_later told old new Ended (reply.Defined row) h cited so = tt
+told_later told old new Ended (reply.Initiated row) h cited so = tt
+told_later told old new Ended (reply.Lineage l) h cited so = tt
+told_later told old new Ended (reply.LookedReference None) h cited so = tt
+told_later told old new Ended (reply.LookedReference (Some s)) h cited so = tt
+told_later told old new Ended (reply.Settled s) h cited so = tt
+told_later told old new Ended reply.Imposed h cited so = tt
+told_later told old new Ended (reply.LookedPrepared true) h cited so = tt
+told_later told old new Ended (reply.LookedPrepared false) h cited so = tt
+told_later told old new Ended reply.Marked h cited so = tt
+told_later told old new Ended (reply.Refused need) h cited so = refused_goes told old new (need_of need) h.goes h.kept so
+told_later told old new Ended reply.Memory h cited so = tt
+told_later told old new Ended (reply.SourceFault f) h cited so = tt
+
+pub tells_later : {A : Type 0} (told : Option Content) (old new : Shown) (t : Tasked) (given : Reply A) → IsAfter told old new → IsCitedFor old t.waits given → Tells old t given → Tells new t given
+tells_later told old new t given h cited tells = record { before = holds_later told old new t h tells.before; now = told_later told old new t.waits given h cited tells.now }

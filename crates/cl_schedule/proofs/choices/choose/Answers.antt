@@ -1,0 +1,50 @@
+use Rattle.std.proofs.Common.{◌∙◌, ap, length, refl, sym}
+use Rattle.cl_config.specs.Views.{Scripted}
+use Rattle.cl_schedule.specs.declared.choices.Room.{Room}
+use Rattle.cl_schedule.proofs.Rooming.{falls, falls_gathered, none_waits, plays_in, room_gathered, room_rounds, some_wait}
+use Rattle.cl_schedule.proofs.Rounds.{none_goes_on}
+use Rattle.cl_schedule.proofs.choices.choose.Goals as goal
+
+-- ---- those of the next round are gathered
+
+pub returns-in_ok-room-clause-played : goal.returns-in_ok-room-clause-played
+returns-in_ok-room-clause-played g c =
+    let e = c.in_ok-play.ensures in
+    plays_in g.T.Told.told c.args.registry.now c.play.new.registry c.pass_rounds.new.registry c.args.choice e.same e.chosen c.pass_rounds.ensures.passed
+
+pub returns-in_ok-room-clause-room : goal.returns-in_ok-room-clause-room
+returns-in_ok-room-clause-room g c =
+    let e = c.in_ok-play.ensures in
+    let passed = c.pass_rounds.ensures.passed in
+    let done : Room g.row.T.Denot = record { tasks = c.play.new.room.tasks; calls = c.play.new.room.calls; waiting = c.gather.new.waiting; next = c.in_ok-room.field-0 } in
+    room_gathered g.T.Told.told c.play.new.registry c.pass_rounds.new.registry c.play.new.room done c.args.script.now c.in_ok-room.field-0 e.kept c.pass_rounds.ensures.kept e.room (none_waits c.play.new.room.waiting.items c.as_slice.result.now c.as_slice.ensures.value c.if-as_slice-eq0.true) passed
+    (none_goes_on c.play.new.registry c.pass_rounds.new.registry passed) (sym (passed.script ∙ e.same.script ∙ c.requires.script)) c.in_ok-room.ensures.gathered refl refl refl
+
+pub returns-in_ok-room-clause-over : goal.returns-in_ok-room-clause-over
+returns-in_ok-room-clause-over g c = none_goes_on c.play.new.registry c.pass_rounds.new.registry c.pass_rounds.ensures.passed
+
+pub returns-in_ok-room-clause-less : goal.returns-in_ok-room-clause-less
+returns-in_ok-room-clause-less g c =
+    let e = c.in_ok-play.ensures in
+    let done : Room g.row.T.Denot = record { tasks = c.play.new.room.tasks; calls = c.play.new.room.calls; waiting = c.gather.new.waiting; next = c.in_ok-room.field-0 } in
+    falls_gathered g.T.Told.told c.pass_rounds.new.registry c.args.choice c.args.room.now c.play.new.room done c.args.script.now c.in_ok-room.field-0 (returns-in_ok-room-clause-room g c) e.less (none_waits c.play.new.room.waiting.items c.as_slice.result.now c.as_slice.ensures.value c.if-as_slice-eq0.true) c.in_ok-room.ensures.gathered refl refl
+    (ap (λ (s : Scripted). length s.requests) (sym (e.same.script ∙ c.requires.script)) ∙ sym e.room.tasks_whole)
+
+-- ---- somebody waits
+
+pub returns-else-as_slice-eq0-clause-played : goal.returns-else-as_slice-eq0-clause-played
+returns-else-as_slice-eq0-clause-played g c =
+    let e = c.in_ok-play.ensures in
+    plays_in g.T.Told.told c.args.registry.now c.play.new.registry c.pass_rounds.new.registry c.args.choice e.same e.chosen c.pass_rounds.ensures.passed
+
+pub returns-else-as_slice-eq0-clause-room : goal.returns-else-as_slice-eq0-clause-room
+returns-else-as_slice-eq0-clause-room g c =
+    let e = c.in_ok-play.ensures in
+    room_rounds g.T.Told.told c.play.new.registry c.pass_rounds.new.registry c.play.new.room e.kept e.room c.pass_rounds.ensures.passed (some_wait c.play.new.room.waiting.items c.as_slice.result.now c.as_slice.ensures.value c.if-as_slice-eq0.false)
+
+pub returns-else-as_slice-eq0-clause-over : goal.returns-else-as_slice-eq0-clause-over
+returns-else-as_slice-eq0-clause-over g c = none_goes_on c.play.new.registry c.pass_rounds.new.registry c.pass_rounds.ensures.passed
+
+pub returns-else-as_slice-eq0-clause-less : goal.returns-else-as_slice-eq0-clause-less
+returns-else-as_slice-eq0-clause-less g c =
+    falls g.T.Told.told c.pass_rounds.new.registry c.args.choice c.args.room.now c.play.new.room (returns-else-as_slice-eq0-clause-room g c) c.in_ok-play.ensures.less

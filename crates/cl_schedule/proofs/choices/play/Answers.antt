@@ -1,0 +1,93 @@
+use Rattle.std.proofs.Common.{◌≡◌, ◌∙◌, ◌%◌, ◌<◌, inl, inr, ℕ, List, length, Some, ap, refl, subst, sym}
+use Rattle.std.specs.Prelude.{slice_get, slice_index}
+use Rattle.cl_config.specs.Views.{Scripted}
+use Rattle.cl_schedule.specs.declared.seats.Seat.{Seat}
+use Rattle.cl_schedule.specs.Rooms.{left_at}
+use Rattle.cl_schedule.specs.Seats.{HasAdvanced, HasPosted, IsSeatedAt}
+use Rattle.cl_schedule.proofs.Rooming.{chosen_advanced, chosen_posted, first_advanced, first_place, if_some, match_none, match_some, room_advanced, room_posted, same_turned, waits_at}
+use Rattle.cl_schedule.proofs.Waiting.{waiting_is}
+use Rattle.cl_schedule.proofs.choices.play.Goals as goal
+
+-- which request is taken
+abbrev taken : List ℕ → ℕ → ℕ
+taken ws choice = slice_index ws (choice % length ws)
+
+pub turn_of-requires-clause-asked : goal.turn_of-requires-clause-asked
+turn_of-requires-clause-asked g c =
+    let ws = c.args.room.now.waiting.items in
+    let at = waits_at ws c.as_slice-waiting.result.now c.args.choice c.as_slice-waiting.ensures.value c.if-len-eq0.false in
+    let is = waiting_is g.T.Told.told c.args.registry.now ws c.args.room.now.next (c.args.choice % length ws) (taken c.as_slice-waiting.result.now c.args.choice) c.requires.kept c.requires.room.gathered at in
+    subst (λ (s : Scripted). taken c.as_slice-waiting.result.now c.args.choice < length s.requests) c.requires.script is.2
+
+pub turn_of-requires-clause-begun : goal.turn_of-requires-clause-begun
+turn_of-requires-clause-begun g c =
+    let ws = c.args.room.now.waiting.items in
+    let at = waits_at ws c.as_slice-waiting.result.now c.args.choice c.as_slice-waiting.ensures.value c.if-len-eq0.false in
+    (waiting_is g.T.Told.told c.args.registry.now ws c.args.room.now.next (c.args.choice % length ws) (taken c.as_slice-waiting.result.now c.args.choice) c.requires.kept c.requires.room.gathered at).1
+
+pub turn_of-requires-clause-open : goal.turn_of-requires-clause-open
+turn_of-requires-clause-open g c =
+    let ws = c.args.room.now.waiting.items in
+    let at = waits_at ws c.as_slice-waiting.result.now c.args.choice c.as_slice-waiting.ensures.value c.if-len-eq0.false in
+    (waiting_is g.T.Told.told c.args.registry.now ws c.args.room.now.next (c.args.choice % length ws) (taken c.as_slice-waiting.result.now c.args.choice) c.requires.kept c.requires.room.gathered at).0
+
+-- ---- it went on
+
+pub returns-in-Some-clause-chosen : goal.returns-in-Some-clause-chosen
+returns-in-Some-clause-chosen g c =
+    let ws = c.args.room.now.waiting.items in
+    let q = taken c.as_slice-waiting.result.now c.args.choice in
+    let at = waits_at ws c.as_slice-waiting.result.now c.args.choice c.as_slice-waiting.ensures.value c.if-len-eq0.false in
+    let P = HasPosted g.T.Told.told c.args.registry.now c.turn_of.new.registry q in
+    let Q : Seat g.row.T.Denot → Type 0 = λ s. HasAdvanced g.T.Told.told c.args.registry.now c.turn_of.new.registry q in
+    chosen_advanced g.T.Told.told c.args.registry.now c.turn_of.new.registry ws c.args.room.now.next c.args.choice q c.requires.kept c.requires.room.gathered at
+    (match_some c.in_ok-seat.field-0 c.in-Some.seat P Q c.in-Some.is c.in_ok-seat.ensures.did)
+
+pub returns-in-Some-clause-room : goal.returns-in-Some-clause-room
+returns-in-Some-clause-room g c =
+    let q = taken c.as_slice-waiting.result.now c.args.choice in
+    let P = HasPosted g.T.Told.told c.args.registry.now c.turn_of.new.registry q in
+    let Q : Seat g.row.T.Denot → Type 0 = λ s. HasAdvanced g.T.Told.told c.args.registry.now c.turn_of.new.registry q in
+    let S : Seat g.row.T.Denot → Type 0 = λ s. IsSeatedAt {A = g.row.T.Denot} g.T.Told.told c.turn_of.new.registry s.task s.call q in
+    room_advanced g.T.Told.told c.args.registry.now c.turn_of.new.registry c.args.room.now c.turn_of.new.room c.put.new.self q c.in-Some.seat.task c.in-Some.seat.call c.requires.room c.in_ok-seat.ensures.taken
+    (match_some c.in_ok-seat.field-0 c.in-Some.seat P Q c.in-Some.is c.in_ok-seat.ensures.did)
+    (if_some c.in_ok-seat.field-0 c.in-Some.seat S c.in-Some.is c.in_ok-seat.ensures.seated)
+    c.put.ensures.tasks c.put.ensures.calls c.put.ensures.waiting c.put.ensures.next
+
+pub returns-in-Some-clause-less : goal.returns-in-Some-clause-less
+returns-in-Some-clause-less g c = λ zero_is some.
+    let ws = c.args.room.now.waiting.items in
+    let q = taken c.as_slice-waiting.result.now c.args.choice in
+    let at = waits_at ws c.as_slice-waiting.result.now c.args.choice c.as_slice-waiting.ensures.value c.if-len-eq0.false in
+    let below = (waiting_is g.T.Told.told c.args.registry.now ws c.args.room.now.next (c.args.choice % length ws) q c.requires.kept c.requires.room.gathered at).2 in
+    let L : Seat g.row.T.Denot → Type 0 = λ s. s.task.left < left_at c.args.room.now q in
+    inr
+    (first_advanced c.args.room.now c.turn_of.new.room c.put.new.self q (c.args.choice % length ws) c.in-Some.seat.task c.in-Some.seat.call c.in_ok-seat.ensures.taken (first_place (length ws) c.args.choice zero_is) at
+    (subst (λ (n : ℕ). q < n) (sym c.requires.room.tasks_whole) below) (subst (λ (n : ℕ). q < n) (sym c.requires.room.calls_whole) below)
+    (if_some c.in_ok-seat.field-0 c.in-Some.seat L c.in-Some.is c.in_ok-seat.ensures.less)
+    c.put.ensures.tasks c.put.ensures.calls c.put.ensures.waiting c.put.ensures.next)
+
+-- ---- it was answered
+
+pub returns-in-None-clause-chosen : goal.returns-in-None-clause-chosen
+returns-in-None-clause-chosen g c =
+    let ws = c.args.room.now.waiting.items in
+    let q = taken c.as_slice-waiting.result.now c.args.choice in
+    let at = waits_at ws c.as_slice-waiting.result.now c.args.choice c.as_slice-waiting.ensures.value c.if-len-eq0.false in
+    let P = HasPosted g.T.Told.told c.args.registry.now c.turn_of.new.registry q in
+    let Q : Seat g.row.T.Denot → Type 0 = λ s. HasAdvanced g.T.Told.told c.args.registry.now c.turn_of.new.registry q in
+    chosen_posted g.T.Told.told c.args.registry.now c.turn_of.new.registry ws c.args.room.now.next c.args.choice q c.requires.kept c.requires.room.gathered at
+    (match_none c.in_ok-seat.field-0 P Q c.in-None.is c.in_ok-seat.ensures.did)
+
+pub returns-in-None-clause-room : goal.returns-in-None-clause-room
+returns-in-None-clause-room g c =
+    let ws = c.args.room.now.waiting.items in
+    let given = c.as_slice-waiting.result.now in
+    let q = taken given c.args.choice in
+    let at = waits_at ws given c.args.choice c.as_slice-waiting.ensures.value c.if-len-eq0.false in
+    let place = subst (λ (xs : List ℕ). slice_get ws (c.args.choice % length xs) ≡ Some q) (sym c.as_slice-waiting.ensures.value) at in
+    let P = HasPosted g.T.Told.told c.args.registry.now c.turn_of.new.registry q in
+    let Q : Seat g.row.T.Denot → Type 0 = λ s. HasAdvanced g.T.Told.told c.args.registry.now c.turn_of.new.registry q in
+    room_posted g.T.Told.told c.args.registry.now c.turn_of.new.registry c.args.room.now c.turn_of.new.room
+    (record { tasks = c.turn_of.new.room.tasks; calls = c.turn_of.new.room.calls; waiting = c.remove.new.self; next = c.turn_of.new.room.next }) q (c.args.choice % length given) c.requires.kept c.requires.room c.in_ok-seat.ensures.taken
+    (match_none c.in_ok-seat.field-0 P Q c.in-None.is c.in_ok-seat.ensures.did) place refl refl c.remove.ensures.items refl

@@ -1,0 +1,34 @@
+use Rattle.std.proofs.Common.{◌∙◌, ◌++◌, ◌∷◌, [], ℕ, List, arith, subst, sym, take}
+use Rattle.std.specs.Prelude.{slice_index}
+use Rattle.cl_schedule.specs.Rooms.{PlayedTo}
+use Rattle.cl_schedule.proofs.Playing.{past_on, played_on, take_more}
+use Rattle.cl_schedule.proofs.choices.play_all.Goals as goal
+
+pub loop-choice-preserved : goal.loop-choice-preserved
+loop-choice-preserved g c =
+    let told = g.T.Told.told in
+    let inv = c.loop-choice.invariant in
+    let e = c.in_ok-choose.ensures in
+    let i = c.loop-choice.choice-index in
+    let more = take_more c.args.schedule.now i (let less = c.loop-choice-test.true in let end = c.loop-choice.auto.choice-index-end in omega arith) in
+    record {
+      same = record { config = e.same.config ∙ inv.same.config; script = e.same.script ∙ inv.same.script };
+      kept = e.kept;
+      room = e.room;
+      over = e.over;
+      played =
+          subst (PlayedTo told c.choose.new.registry) (sym more)
+          (played_on told c.loop-choice.registry c.choose.new.registry (take i c.args.schedule.now) (slice_index c.args.schedule.now i) e.same inv.played e.played);
+    }
+
+pub loop-alloc-preserved : goal.loop-alloc-preserved
+loop-alloc-preserved g c =
+    let inv = c.loop-alloc.invariant in
+    let e = c.in_ok-choose-2.ensures in
+    record {
+      same = record { config = e.same.config ∙ inv.same.config; script = e.same.script ∙ inv.same.script };
+      kept = e.kept;
+      room = e.room;
+      over = e.over;
+      played = past_on g.T.Told.told c.loop-alloc.registry c.choose-in-loop-alloc.new.registry c.args.schedule.now e.same inv.played e.played;
+    }

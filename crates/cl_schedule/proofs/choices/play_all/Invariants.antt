@@ -1,0 +1,25 @@
+use Rattle.std.proofs.Common.{◌≡◌, take}
+use Rattle.cl_registry.specs.Tables.{IsKept, MayGoOn}
+use Rattle.cl_schedule.specs.Rooms.{IsRoom, PlayedPast, PlayedTo, SameScript, room_left}
+use Rattle.cl_schedule.proofs.choices.play_all.Given as goal
+
+abbrev pub invariant-loop-choice : goal.invariant-loop-choice
+invariant-loop-choice g l = record {
+  same : SameScript l.fn.registry l.registry;
+  kept : IsKept g.T.Told.told l.registry;
+  room : IsRoom g.T.Told.told l.registry l.room;
+  over : MayGoOn l.registry → ⊥;
+  played : PlayedTo g.T.Told.told l.registry (take l.choice-index l.fn.schedule);
+}
+
+abbrev pub invariant-loop-alloc : goal.invariant-loop-alloc
+invariant-loop-alloc g l = record {
+  same : SameScript l.fn.registry l.registry;
+  kept : IsKept g.T.Told.told l.registry;
+  room : IsRoom g.T.Told.told l.registry l.room;
+  over : MayGoOn l.registry → ⊥;
+  played : PlayedPast g.T.Told.told l.registry l.fn.schedule;
+}
+
+abbrev pub decreases-loop-alloc : goal.decreases-loop-alloc
+decreases-loop-alloc g l = room_left l.room

@@ -1,0 +1,34 @@
+use Rattle.std.proofs.Common.{arith}
+use Rattle.cl_tasks.specs.declared.turn.Turn.{Turn}
+use Rattle.cl_tasks.specs.declared.turn.Turn.TheVariants as turn
+use Rattle.cl_schedule.proofs.Seated.{expects_read, ready_on, seated_on}
+use Rattle.cl_schedule.proofs.Steps.{TurnSays}
+use Rattle.cl_schedule.proofs.seats.read_on.Goals as goal
+
+pub loop-loader-preserved : goal.loop-loader-preserved
+loop-loader-preserved g c =
+    let e = c.in-Read.ensures in
+    let u : Turn g.row.T.Denot = turn.Read c.in-Read.loader c.in-Read.name in
+    let says : TurnSays g.T.Told.told c.loop-loader.task c.turn.new.self c.loop-loader.reply u =
+    record { config = e.config; asks = e.asks; serves = e.serves; keeps = e.keeps; backed = e.backed; next = e.next; refused = e.refused; own = e.own } in
+    let inv = c.loop-loader.invariant in
+    let less = e.left in
+    let before = inv.less in
+    record {
+      expects = expects_read c.turn.new.self u c.read-reply.result e.asks c.read-reply.ensures.replied;
+      ready = λ x r ready. ready_on g.T.Told.told x r c.loop-loader.task c.turn.new.self c.loop-loader.reply c.read-reply.result c.in-Read.loader c.in-Read.name (inv.ready x r ready) says less (c.read-reply.ensures.replied x);
+      less = omega arith;
+    }
+
+pub returns-in_default : goal.returns-in_default
+returns-in_default g c =
+    let e = c.turn.ensures in
+    let says : TurnSays g.T.Told.told c.loop-loader.task c.turn.new.self c.loop-loader.reply c.turn.result =
+    record { config = e.config; asks = e.asks; serves = e.serves; keeps = e.keeps; backed = e.backed; next = e.next; refused = e.refused; own = e.own } in
+    let inv = c.loop-loader.invariant in
+    let less = e.left in
+    let before = inv.less in
+    record {
+      seated = λ x q r ready. seated_on g.T.Told.told x q r c.loop-loader.task c.turn.new.self c.loop-loader.reply c.turn.result (inv.ready x r ready) says less;
+      less = omega arith;
+    }

@@ -1,0 +1,16 @@
+use Rattle.std.proofs.Common.{◌≤◌}
+use Rattle.cl_model.specs.declared.request.Request.{Request}
+use Rattle.cl_registry.specs.Tables.{Shown}
+use Rattle.cl_tasks.specs.Turns.{Expects}
+use Rattle.cl_schedule.specs.Seats.{IsReady}
+use Rattle.cl_schedule.proofs.seats.read_on.Given as goal
+
+abbrev pub invariant-loop-loader : goal.invariant-loop-loader
+invariant-loop-loader g l = record {
+  expects : Expects l.task l.reply;
+  ready : (x : Shown) (r : Request) → IsReady g.T.Told.told x l.fn.task l.fn.reply r → IsReady g.T.Told.told x l.task l.reply r;
+  less : l.task.left ≤ l.fn.task.left;
+}
+
+abbrev pub decreases-loop-loader : goal.decreases-loop-loader
+decreases-loop-loader g l = l.task.left

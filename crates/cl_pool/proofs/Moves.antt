@@ -9,7 +9,8 @@ use Rattle.atomic_table.specs.Table.{Step, Me, Act, keeps, Valid, stepped, carri
 use Rattle.atomic_table.proofs.Lists.{at_set, at_snoc, set_again}
 use Rattle.cl_pool.specs.declared.hand.Hand.{Hand}
 use Rattle.cl_pool.specs.declared.hand.Bounds.{Bounds}
-use Rattle.cl_pool.specs.Numbers.{times, past, once_below, HasEachBelow, AllBelow, new_hand, one_split_less, with_number, both, spent, IsFair, IsShared, DrawsNumber, LooksAt, Drawn, PlaysDraw, PlaysLook}
+use Rattle.cl_schedule.specs.Serving.{HasEachBelow, once_below, times}
+use Rattle.cl_pool.specs.Numbers.{past, AllBelow, new_hand, one_split_less, with_number, both, spent, IsFair, IsShared, DrawsNumber, LooksAt, Drawn, PlaysDraw, PlaysLook}
 use Rattle.cl_pool.specs.declared.limits.TheConstants.{MOST_WORKERS}
 
 -- a total after one view has changed

@@ -3,7 +3,8 @@ use Rattle.std.specs.Prelude.{◌≡◌, ◌<◌, ◌≤◌, ℕ}
 use Rattle.atomic_table.specs.Seated.{TableId}
 use Rattle.cl_pool.specs.declared.hand.Hand.{Hand}
 use Rattle.cl_pool.specs.declared.hand.Bounds.{Bounds}
-use Rattle.cl_pool.specs.Numbers.{DrawsNumber, HasEachBelow, IsWhole, past}
+use Rattle.cl_schedule.specs.Serving.{HasEachBelow}
+use Rattle.cl_pool.specs.Numbers.{DrawsNumber, IsWhole, past}
 
 -- a seat: of which word it is, and what it knows
 pub record Seated : Type 0 where

@@ -1,14 +1,7 @@
--- What a report of running threads says, and why there is none (JVMS SE 8, 5.3 to 5.4.3).
-use Rattle.std.specs.Prelude.{◌≡◌, ◌<◌, ◌≤◌, ◌⊎◌, ℕ, Option, length}
-use Rattle.cl_model.specs.Content.{Content}
-use Rattle.cl_model.specs.Tables.{IsConsistent}
+-- Why running threads make no report.
+use Rattle.std.specs.Prelude.{◌≡◌, ◌≤◌, ℕ}
 use Rattle.cl_config.specs.Views.{Configured, Scripted}
-use Rattle.cl_registry.specs.declared.report.Report.{Report}
-use Rattle.cl_registry.specs.Reports.{IsNamed}
-use Rattle.cl_registry.specs.Tables.{Shown, IsOpen, IsTrusted, RunsAs, posts, state_of}
-use Rattle.cl_schedule.specs.Serving.{reported}
-use Rattle.cl_schedule.specs.Headline.{EachSpelt, Alike, ReferencesAlike, CirclesExact}
-use Rattle.cl_pool.specs.Numbers.{HasEachBelow}
+use Rattle.cl_registry.specs.Tables.{Shown, IsOpen}
 use Rattle.cl_pool.specs.declared.fault.PoolFault.{PoolFault}
 use Rattle.cl_pool.specs.declared.fault.PoolFault.TheVariants as faults
 use Rattle.cl_pool.specs.declared.limits.TheConstants.{MOST_WORKERS}

@@ -1,7 +1,8 @@
 ghost use Rattle.std.specs.Prelude.{◌≡◌, ◌≤◌, IfOk, IfErr, OnOk, length};
 ghost use Rattle.cl_config.specs.Scripts.{HasLoaders};
 ghost use Rattle.cl_pool.specs.Seats.{IsSeatOf, MayDraw};
-ghost use Rattle.cl_pool.specs.Served.{FailsAs, IsServed, MayServe, RefusedFor};
+ghost use Rattle.cl_pool.specs.Served.{FailsAs, MayServe, RefusedFor};
+ghost use Rattle.cl_schedule.specs.Headline.{IsServed};
 
 use crate::desk::Desk;
 use crate::draws::{Draws, Seat};

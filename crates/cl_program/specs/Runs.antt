@@ -6,7 +6,7 @@ use Rattle.cl_registry.specs.declared.report.Report.{Report}
 use Rattle.cl_bundle.specs.Bundles.{IsBundle, IsNoBundle}
 use Rattle.cl_bundle.specs.Faults.{UnlessMemory}
 use Rattle.cl_report.specs.Report.{report_lines}
-use Rattle.cl_pool.specs.Served.{IsServed}
+use Rattle.cl_schedule.specs.Headline.{IsServed}
 use Rattle.cl_program.specs.Files.{AreNoText}
 use Rattle.cl_program.specs.Outputs.{EndsWith, Outputs, Stream, Writes, WritesNothing, WritesPart}
 use Rattle.cl_program.specs.Serving.{ByWorkers, IsServedAlone, IsUnserved}

@@ -7,8 +7,7 @@ use Rattle.cl_config.specs.declared.fault.ConfigFault.{ConfigFault}
 use Rattle.cl_config.specs.declared.script.ScriptFault.{ScriptFault}
 use Rattle.cl_registry.specs.declared.report.Report.{Report}
 use Rattle.cl_report.specs.Report.{report_lines}
-use Rattle.cl_schedule.specs.Headline.{IsServedInOrder}
-use Rattle.cl_pool.specs.Served.{IsServed}
+use Rattle.cl_schedule.specs.Headline.{IsServed, IsServedInOrder}
 use Rattle.cl_source.specs.Seen.{IsTooLarge}
 use Rattle.cl_program.specs.Asking.{Wanted}
 use Rattle.cl_program.specs.Files.{Giving, IsText, IsNoText, IsUnreadable, LacksText}

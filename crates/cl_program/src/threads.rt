@@ -2,7 +2,7 @@
 
 ghost use Rattle.std.specs.Prelude.{IfOk, IfErr, length};
 ghost use Rattle.cl_config.specs.Scripts.{HasLoaders};
-ghost use Rattle.cl_pool.specs.Served.{IsServed};
+ghost use Rattle.cl_schedule.specs.Headline.{IsServed};
 ghost use Rattle.cl_program.specs.Serving.{FailsBy};
 
 use crate::fault::ThreadFault;

@@ -1,6 +1,6 @@
 -- What the tables bear they bear wherever the registry goes on to (JVMS SE 8, 5.3 to 5.4.3).
 use Rattle.std.proofs.Common.{◌≡◌, ◌⊎◌, inl, inr, ◌∙◌, ◌<◌, ℕ, List, [], ◌∷◌, length, take, Option, Some, None, refl, sym, ap, subst}
-use Rattle.std.specs.Prelude.{option_and_then, option_map, slice_get, Contains, IfSome, IsSome}
+use Rattle.std.specs.Prelude.{option_and_then, option_map, Contains, IfSome, IsSome}
 use Rattle.std.specs.List.{AllByRecursion}
 use Rattle.cl_classfile.specs.Files.{file_of}
 use Rattle.cl_config.specs.Views.{Configured}
@@ -17,15 +17,15 @@ use Rattle.cl_model.specs.declared.settled.Settled.{Settled}
 use Rattle.cl_model.specs.Content.{Content}
 use Rattle.cl_model.specs.Classes.{class, Above, supers}
 use Rattle.cl_model.specs.Machine.{Setting}
-use Rattle.cl_model.specs.States.{State, Need, AllMet, Refused, recorded}
+use Rattle.cl_model.specs.States.{Need, AllMet, Refused, recorded}
 use Rattle.cl_model.specs.Tables.{Bears}
 use Rattle.cl_model.specs.Views.{request_of, verdict_of}
 use Rattle.cl_model.proofs.Sound.{runs_are_sound}
 use Rattle.cl_model.proofs.Tables.{may_bear}
-use Rattle.cl_registry.specs.Imposing.{IsPreparedAbove, IsReached, IsReadyBy, IsStanding, MayImpose, MayMark, StandsFor}
+use Rattle.cl_registry.specs.Imposing.{IsPreparedAbove, IsReadyBy, IsStanding, StandsFor}
 use Rattle.cl_registry.specs.Posting.{AnswerBacked, IsBacked}
 use Rattle.cl_registry.specs.References.{Cited, cited_by, settled_by}
-use Rattle.cl_registry.specs.Settling.{IsToSettle, MaySettle}
+use Rattle.cl_registry.specs.Settling.{MaySettle}
 use Rattle.cl_registry.specs.Tables.{Shown, FitsAs, IsKept, MayEnter, looked, records_of, settled_at, state_of, steps}
 use Rattle.cl_registry.proofs.Placed.{recorded_row}
 use Rattle.cl_tasks.specs.Follows.{AnswerFollows, Backed}

@@ -1,5 +1,5 @@
 -- What each call does and is answered (JVMS SE 8, 5.3 to 5.4.3).
-use Rattle.std.proofs.Common.{◌≡◌, ◌≢◌, inl, inr, ◌∙◌, ◌<◌, ℕ, zero, suc, List, [], ◌∷◌, length, Option, Some, None, refl, sym, ap, subst, arith}
+use Rattle.std.proofs.Common.{◌≡◌, inl, inr, ◌∙◌, ◌<◌, ℕ, zero, suc, List, [], ◌∷◌, length, Option, Some, None, refl, sym, ap, subst, arith}
 use Rattle.std.specs.Prelude.{IfSome, slice_get, option_map, option_and_then}
 use Rattle.cl_model.specs.declared.class.Class.{Class}
 use Rattle.cl_model.specs.declared.event.Event.TheVariants as events
@@ -20,15 +20,14 @@ use Rattle.cl_hierarchy.specs.Imposed.{Listed, Sprung, OfReference, OfPreparatio
 use Rattle.cl_hierarchy.specs.Rows.{Rowed}
 use Rattle.cl_registry.specs.declared.registry.RegistryFault.{RegistryFault}
 use Rattle.cl_registry.specs.declared.registry.RegistryFault.TheVariants.{Memory, Stray, Violates, AlreadyPosted, NotYet}
-use Rattle.cl_registry.specs.Imposing.{Constrains, Imposes, IsNextOf, MarksBy, MayImpose, Prepares}
-use Rattle.cl_registry.specs.References.{Cited, IsSettledIn, cited_by, settled_by}
+use Rattle.cl_registry.specs.Imposing.{Constrains, Imposes, MarksBy, MayImpose}
+use Rattle.cl_registry.specs.References.{Cited, IsSettledIn, settled_by}
 use Rattle.cl_registry.specs.Refusals.{Blames, DefineRefusedFor, ImposeRefusedFor, InitiateRefusedFor, SettleRefusedFor}
 use Rattle.cl_registry.specs.Settling.{MaySettle, SettledAs, Settles}
 use Rattle.cl_registry.specs.Tables.{Shown, Defines, DefinedAs, Initiates, InitiatedAs, MayEnter, MayJoin, asked_record, own_record, records_of, row_for, settled_at, state_of}
 use Rattle.cl_registry.proofs.Settled.{settled_is_told}
 use Rattle.cl_tasks.specs.Follows.{IsSettledOf}
-use Rattle.cl_tasks.specs.Waits.{Waits, Defining, Initiating, Settling, Imposing, Ended}
-use Rattle.cl_tasks.specs.declared.turn.Reply.{Reply}
+use Rattle.cl_tasks.specs.Waits.{Defining, Initiating, Settling, Imposing, Ended}
 use Rattle.cl_schedule.specs.Replies.{Did, ImposesBy, IsReplied, PreparesBy, SettlesBy, refusal_of}
 use Rattle.cl_schedule.proofs.Histories.{goes_by, goes_event}
 

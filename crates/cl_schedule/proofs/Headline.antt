@@ -1,13 +1,12 @@
 -- What follows of a report from its being a run: spelling, equal answers, circles.
-use Rattle.std.proofs.Common.{◌≡◌, ◌⊎◌, inl, inr, ◌∙◌, ℕ, zero, suc, List, Option, Some, None, refl, sym, ap, subst}
+use Rattle.std.proofs.Common.{◌≡◌, ◌∙◌, ℕ, List, Option, Some, None, refl, sym, ap, subst}
 use Rattle.std.specs.Prelude.{slice_get, option_map, option_and_then}
 use Rattle.std.proofs.lemmas.Option.{slice_get-map}
 use Rattle.cl_model.specs.declared.class.Class.{Class}
 use Rattle.cl_model.specs.declared.answer.Answer as answers
 use Rattle.cl_model.specs.declared.request.Request as requests
 use Rattle.cl_model.specs.Content.{Content}
-use Rattle.cl_model.specs.Homes.{World}
-use Rattle.cl_model.specs.Classes.{class, ClassCircularity, IsGood}
+use Rattle.cl_model.specs.Classes.{class, ClassCircularity}
 use Rattle.cl_model.specs.States.{State, Answer, Said, Verdict, Wrong, answer_to}
 use Rattle.cl_model.specs.Plans.{Load, Resolve}
 use Rattle.cl_model.specs.Machine.{Setting, Scheduled, AnswersPlan, AnswersReference, IsSound}

@@ -1,5 +1,5 @@
 -- What a turn asks for is what comes next in the service of its request (JVMS SE 8, 5.3 to 5.4.3).
-use Rattle.std.proofs.Common.{◌≡◌, ◌∙◌, ℕ, Bool, false, List, Option, Some, None, refl, sym, ap, subst, arith}
+use Rattle.std.proofs.Common.{◌≡◌, ◌∙◌, ℕ, Bool, false, List, Option, Some, refl, sym, ap, subst, arith}
 use Rattle.std.specs.Prelude.{nat_eq, if◌then◌else◌, slice_get, option_map, IfSome}
 use Rattle.std.proofs.lemmas.Bool.Decides.{nat_tests}
 use Rattle.std.proofs.lemmas.Cmp.{nat_eq_equiv}
@@ -11,7 +11,7 @@ use Rattle.cl_model.specs.declared.settled.Settled.{Settled}
 use Rattle.cl_model.specs.declared.verdict.Verdict as verdicts
 use Rattle.cl_model.specs.declared.answer.Answer as answers
 use Rattle.cl_model.specs.Classes.{class}
-use Rattle.cl_model.specs.States.{State, Entry, recorded}
+use Rattle.cl_model.specs.States.{State, Entry}
 use Rattle.cl_model.specs.Machine.{Setting, Step, Define, Initiate, Constrain, Settle, Prepare, Post, NextRound, Stray, May, after, step_for}
 use Rattle.cl_model.specs.Service.{IsNextStep}
 use Rattle.cl_model.specs.Tables.{Records}
@@ -19,10 +19,10 @@ use Rattle.cl_model.specs.Views.{request_of, verdict_of}
 use Rattle.cl_delegation.specs.Searches.{Located}
 use Rattle.cl_findings.specs.Findings.{Answered, loader_of, name_of}
 use Rattle.cl_findings.specs.References.{index_of}
-use Rattle.cl_hierarchy.specs.Imposed.{Listed, Sprung, OfReference, OfPreparation, equal_need}
+use Rattle.cl_hierarchy.specs.Imposed.{Sprung, OfReference, OfPreparation, equal_need}
 use Rattle.cl_registry.specs.References.{Cited, cited_by}
 use Rattle.cl_registry.specs.Settling.{IsToSettle}
-use Rattle.cl_registry.specs.Tables.{Shown, records_of, state_of}
+use Rattle.cl_registry.specs.Tables.{Shown, state_of}
 use Rattle.cl_tasks.specs.Turns.{Serves}
 use Rattle.cl_tasks.specs.Follows.{Follows, IsPreparedNext, IsSettledNext, IsWanted}
 use Rattle.cl_tasks.specs.Tasks.{Tasked}

@@ -8,7 +8,7 @@ use Rattle.cl_model.specs.Machine.{Setting, Step, state_after}
 use Rattle.cl_model.specs.Service.{PassesRounds}
 use Rattle.cl_model.proofs.Service.{state_append}
 use Rattle.cl_registry.specs.Tables.{Shown, state_of, steps}
-use Rattle.cl_schedule.specs.Choices.{Chooses, IsPlayed, Plays, PlayedAs}
+use Rattle.cl_schedule.specs.Choices.{Chooses, Plays, PlayedAs}
 use Rattle.cl_schedule.specs.Rooms.{PlayedPast, PlayedTo, PlaysIn, SameScript}
 use Rattle.cl_schedule.specs.Rounds.{RoundsPassed}
 use Rattle.cl_schedule.specs.Serving.{machine}

@@ -1,5 +1,5 @@
 -- Requests in their places: what a choice does to them and to the history (JVMS SE 8, 5.3 to 5.4.3).
-use Rattle.std.proofs.Common.{◌≡◌, ◌≢◌, ◌⊎◌, inl, inr, ◌∙◌, ◌+◌, ◌-◌, ◌*◌, ◌%◌, ◌<◌, ◌≤◌, ℕ, zero, suc, List, [], ◌∷◌, ◌++◌, length, Option, Some, None, refl, sym, ap, subst, arith, add-one, append_assoc}
+use Rattle.std.proofs.Common.{◌≡◌, ◌⊎◌, inl, inr, ◌∙◌, ◌+◌, ◌*◌, ◌%◌, ◌<◌, ◌≤◌, ℕ, zero, suc, List, [], ◌∷◌, ◌++◌, length, Option, Some, None, refl, sym, ap, subst, arith, add-one, append_assoc}
 use Rattle.std.specs.Prelude.{replicate, slice_get, slice_index, slice_set, IfSome, MatchOption}
 use Rattle.std.specs.List.{remove}
 use native.Mathlib.Nat.{mod-lt, suc-mul, zero-mod}
@@ -8,23 +8,22 @@ use Rattle.std.proofs.lemmas.Option.{slice_get_within}
 use Rattle.cl_config.specs.Views.{Configured, Scripted}
 use Rattle.cl_model.specs.declared.request.Request.{Request}
 use Rattle.cl_model.specs.Content.{Content}
-use Rattle.cl_model.specs.Machine.{Scheduled, Setting, Step, Post, state_after}
-use Rattle.cl_model.specs.Service.{IsNextStep, IsPiece, MayEnd, PassesRounds}
+use Rattle.cl_model.specs.Machine.{Setting, Step, Post, state_after}
+use Rattle.cl_model.specs.Service.{IsNextStep, MayEnd, PassesRounds}
 use Rattle.cl_model.specs.States.{State, start}
 use Rattle.cl_model.proofs.Service.{state_append}
 use Rattle.cl_model.specs.Plans as plans
-use Rattle.cl_model.specs.Views.{answer_of, request_of}
+use Rattle.cl_model.specs.Views.{answer_of}
 use Rattle.cl_registry.specs.Tables.{Shown, IsKept, empty_of, state_of, steps}
 use Rattle.cl_registry.specs.Tables as tables
 use Rattle.cl_tasks.specs.Measures.{all_left}
 use Rattle.cl_tasks.specs.Tasks.{Tasked}
 use Rattle.cl_tasks.specs.declared.turn.Turn.{Turn}
 use Rattle.cl_schedule.specs.declared.choices.Room.{Room}
-use Rattle.cl_schedule.specs.Choices.{Chooses, Takes}
 use Rattle.cl_schedule.specs.Replies.{Did}
-use Rattle.cl_schedule.specs.Rooms.{AllSeated, ChoosesIn, FirstFalls, HasTaken, IsRoom, PlaysIn, SameScript, TakesFirst, first_left, left_at, left_of, room_left, room_sum}
+use Rattle.cl_schedule.specs.Rooms.{AllSeated, ChoosesIn, FirstFalls, HasTaken, IsRoom, PlaysIn, SameScript, TakesFirst, first_left, left_at, left_of, room_sum}
 use Rattle.cl_schedule.specs.Rounds.{RoundsPassed}
-use Rattle.cl_schedule.specs.Seats.{AreOfRound, GoesOn, HasAdvanced, HasGathered, HasPosted, IsAfter, IsSeated, IsSeatedAt, NextIn}
+use Rattle.cl_schedule.specs.Seats.{AreOfRound, GoesOn, HasAdvanced, HasGathered, HasPosted, IsSeated, IsSeatedAt, NextIn}
 use Rattle.cl_schedule.specs.Serving.{IsCallStep, machine}
 use Rattle.cl_schedule.proofs.Histories.{steps_posts, unposted}
 use Rattle.cl_schedule.proofs.Later.{after_then, goes_on_did, goes_on_posted, goes_on_rounds}

@@ -1,6 +1,6 @@
 -- Requests that take turns: from a reply to the next call, and what the call does, wherever the registry has gone on to (JVMS SE 8, 5.3 to 5.4.3).
 use Rattle.std.proofs.Common.{◌≡◌, inl, inr, ◌∙◌, ◌<◌, ◌≤◌, ℕ, List, [], Option, Some, None, refl, sym, ap, subst, arith}
-use Rattle.std.specs.Prelude.{IfSome, slice_get}
+use Rattle.std.specs.Prelude.{slice_get}
 use Rattle.cl_config.specs.Loaders.{schedule_of}
 use Rattle.cl_config.specs.Views.{Configured, Scripted}
 use Rattle.cl_findings.specs.Findings.{Answered}
@@ -9,18 +9,15 @@ use Rattle.cl_model.specs.declared.request.Request.{Request}
 use Rattle.cl_model.specs.Content.{Content}
 use Rattle.cl_model.specs.Machine.{Setting, Step}
 use Rattle.cl_model.specs.States.{State}
-use Rattle.cl_model.specs.Service.{MayEnd}
-use Rattle.cl_model.specs.Views.{answer_of, request_of}
 use Rattle.cl_model.proofs.Tables.{trusted_is_consistent}
 use Rattle.cl_registry.specs.declared.registry.RegistryFault.{RegistryFault}
 use Rattle.cl_registry.specs.declared.registry.RegistryFault.TheVariants.{Memory, Stray, Violates, AlreadyPosted, NotYet}
-use Rattle.cl_registry.specs.Posting.{IsBacked}
 use Rattle.cl_registry.specs.References.{Cited, cited_by}
 use Rattle.cl_registry.specs.Refusals.{PostRefusedFor}
-use Rattle.cl_registry.specs.Tables.{Shown, IsAsked, IsKept, IsLater, IsOpen, RunsAs, round_of, state_of, steps, with_post}
+use Rattle.cl_registry.specs.Tables.{Shown, IsAsked, IsKept, RunsAs, state_of, steps, with_post}
 use Rattle.cl_tasks.specs.Facts.{Holds}
 use Rattle.cl_tasks.specs.Measures.{all_left}
-use Rattle.cl_tasks.specs.Follows.{AnswerFollows, Backed, Follows, FollowsWhere, Tells, TellsOf, Unrecorded}
+use Rattle.cl_tasks.specs.Follows.{Backed, FollowsWhere, Tells, TellsOf, Unrecorded}
 use Rattle.cl_tasks.specs.Tasks.{Tasked, begun}
 use Rattle.cl_tasks.specs.Turns.{Asks, Expects, IsReplyTo, Serves, call_of}
 use Rattle.cl_tasks.specs.Waits.{Waits, Reading, Settling}
@@ -29,7 +26,7 @@ use Rattle.cl_tasks.specs.declared.turn.Reply.TheVariants as reply
 use Rattle.cl_tasks.specs.declared.turn.Turn.{Turn}
 use Rattle.cl_tasks.specs.declared.turn.Turn.TheVariants as turn
 use Rattle.cl_schedule.specs.Replies.{CallSays, Did, IsCall, IsReplied, IsStepOf}
-use Rattle.cl_schedule.specs.Seats.{EndsIn, FollowsIn, GoesOn, HasAdvanced, HasPosted, IsAfter, IsCitedFor, IsFor, IsReady, IsSeated, IsSeatedAt, MayPost, NextIn, PostsIn}
+use Rattle.cl_schedule.specs.Seats.{FollowsIn, GoesOn, HasAdvanced, HasPosted, IsAfter, IsCitedFor, IsFor, IsReady, IsSeated, IsSeatedAt, MayPost, NextIn, PostsIn}
 use Rattle.cl_schedule.specs.Serving.{GoesBy, IsCallStep, machine}
 use Rattle.cl_schedule.proofs.Backing.{call_backed_later, cited_later, post_backed_later}
 use Rattle.cl_schedule.proofs.Later.{goes_on_did, goes_on_none, holds_later}
@@ -37,7 +34,7 @@ use Rattle.cl_schedule.proofs.Next.{next_of, step_of_call, step_within}
 use Rattle.cl_schedule.proofs.Served.{last_may, may_end}
 use Rattle.cl_schedule.proofs.States.{same_machine, state_goes}
 use Rattle.cl_schedule.proofs.Telling.{tells_later}
-use Rattle.cl_schedule.proofs.Steps.{TurnSays, of_request, served_in, serves_request, unrecorded_of}
+use Rattle.cl_schedule.proofs.Steps.{TurnSays, of_request, served_in, unrecorded_of}
 
 pub after_none : (told : Option Content) (x : Shown) → IsKept told x → IsAfter told x x
 after_none told x kept = record { goes = goes_on_none x; kept = kept }

@@ -1,6 +1,6 @@
 -- Which requests are posted, and what a report tells of a registry.
 use Rattle.std.proofs.Common.{◌≡◌, ◌∙◌, ◌+◌, ◌<◌, ◌≤◌, ◌∷◌, ◌++◌, [], ℕ, zero, suc, Bool, true, false, List, length, Option, Some, None, map, refl, ap, sym, subst, arith, is_some, add-one}
-use Rattle.std.specs.Prelude.{◌||◌, nat_eq, slice_get, slice_index_or, All}
+use Rattle.std.specs.Prelude.{◌||◌, nat_eq, slice_get, slice_index_or}
 use Rattle.std.proofs.lemmas.Bool.Decides.{nat_tests}
 use Rattle.cl_model.specs.declared.answer.Answer.{Answer}
 use Rattle.cl_model.specs.declared.request.Request as requests

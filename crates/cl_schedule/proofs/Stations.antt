@@ -1,12 +1,11 @@
 -- How a request goes whose verdict the tables have: one or two looks, and the post (JVMS SE 8, 5.3, 5.4.2, 5.4.3).
-use Rattle.std.proofs.Common.{◌≡◌, ◌⊎◌, inl, inr, ◌∙◌, ℕ, Bool, true, false, List, [], Option, Some, None, refl, sym, ap, subst}
+use Rattle.std.proofs.Common.{◌≡◌, ◌⊎◌, inl, inr, ◌∙◌, ℕ, true, false, List, [], Option, Some, None, refl, sym, ap, subst}
 use Rattle.std.specs.Prelude.{Contains}
 use Rattle.cl_model.specs.declared.answer.Answer as rust
 use Rattle.cl_model.specs.declared.class.Class.{Class}
 use Rattle.cl_model.specs.declared.request.Request.{Request}
 use Rattle.cl_model.specs.declared.request.Request.TheVariants as requests
 use Rattle.cl_model.specs.declared.verdict.Verdict.TheVariants as verdicts
-use Rattle.cl_model.specs.Classes.{class}
 use Rattle.cl_model.specs.States.{State, Verdict, Said, IsClass, IsLinked, recorded, settled_to}
 use Rattle.cl_model.specs.Tables.{Records}
 use Rattle.cl_model.specs.Views.{answer_of, request_of, verdict_of}
@@ -17,12 +16,12 @@ use Rattle.cl_tasks.specs.Facts.{IsRecordedAs}
 use Rattle.cl_tasks.specs.Follows.{Posts, Refuses, refusal}
 use Rattle.cl_tasks.specs.Tasks.{Tasked}
 use Rattle.cl_tasks.specs.Turns.{AnswersOwn, GoesOnWith, PostsOr, call_of}
-use Rattle.cl_tasks.specs.Waits.{Waits, Beginning, Looking, LookingReference, LookingPrepared}
+use Rattle.cl_tasks.specs.Waits.{Waits, Looking, LookingReference, LookingPrepared}
 use Rattle.cl_tasks.specs.declared.turn.Reply.{Reply}
 use Rattle.cl_tasks.specs.declared.turn.Reply.TheVariants as reply
 use Rattle.cl_tasks.specs.declared.turn.Turn.{Turn}
 use Rattle.cl_tasks.specs.declared.turn.Turn.TheVariants as turn
-use Rattle.cl_schedule.specs.Known.{Has, IsToldAtOnce, SaysOrLacks, TellsKnown}
+use Rattle.cl_schedule.specs.Known.{Has, SaysOrLacks, TellsKnown}
 use Rattle.cl_schedule.specs.Replies.{Did, IsCall, IsRead, IsReplied, IsStepOf}
 
 -- ---- turns

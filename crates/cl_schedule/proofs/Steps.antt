@@ -19,7 +19,7 @@ use Rattle.cl_tasks.specs.declared.turn.Reply.TheVariants as reply
 use Rattle.cl_tasks.specs.declared.turn.Turn.{Turn}
 use Rattle.cl_tasks.specs.declared.turn.Turn.TheVariants as turn
 use Rattle.cl_schedule.specs.Counting.{Grows, told_faults}
-use Rattle.cl_schedule.specs.Replies.{CallSays, Did, IsCall, IsReplied, IsStepOf, Shows}
+use Rattle.cl_schedule.specs.Replies.{CallSays, Did, IsCall, IsStepOf, Shows}
 use Rattle.cl_schedule.specs.Serving.{machine}
 use Rattle.cl_schedule.proofs.Counted.{grows_none, grows_on, told_none}
 use Rattle.cl_schedule.proofs.Next.{next_of, step_of_call}

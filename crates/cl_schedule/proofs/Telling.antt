@@ -1,8 +1,6 @@
 -- What a reply told stays so, wherever the registry goes on to (JVMS SE 8, 5.3 to 5.4.3).
-use Rattle.std.proofs.Common.{◌≡◌, ◌∙◌, ℕ, true, false, List, Option, Some, None, refl, sym, ap, subst}
-use Rattle.std.specs.Prelude.{option_map, slice_get, IfSome, Contains}
-use Rattle.cl_findings.specs.Findings.{loader_of, name_of}
-use Rattle.cl_findings.specs.References.{index_of}
+use Rattle.std.proofs.Common.{◌≡◌, ◌∙◌, ℕ, true, false, List, Option, Some, None, refl, sym, subst}
+use Rattle.std.specs.Prelude.{option_map, slice_get, IfSome}
 use Rattle.cl_hierarchy.specs.Imposed.{Sprung, OfReference, OfPreparation, equal_need}
 use Rattle.cl_hierarchy.specs.Lineages.{rows_in}
 use Rattle.cl_model.specs.declared.class.Class.{Class}
@@ -12,8 +10,7 @@ use Rattle.cl_model.specs.declared.request.Request.TheVariants as requests
 use Rattle.cl_model.specs.declared.settled.Settled.{Settled}
 use Rattle.cl_model.specs.Content.{Content}
 use Rattle.cl_model.specs.Classes.{class}
-use Rattle.cl_model.specs.States.{State, Met, recorded}
-use Rattle.cl_model.specs.Tables.{Records}
+use Rattle.cl_model.specs.States.{Met, recorded}
 use Rattle.cl_model.specs.Views.{need_of}
 use Rattle.cl_registry.specs.Imposing.{IsPreparedBy}
 use Rattle.cl_registry.specs.References.{Cited, IsSettledIn, cited_by}

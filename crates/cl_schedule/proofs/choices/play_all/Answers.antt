@@ -1,4 +1,4 @@
-use Rattle.std.proofs.Common.{◌∙◌, ◌++◌, ◌∷◌, [], ℕ, List, arith, subst, sym, take}
+use Rattle.std.proofs.Common.{◌∙◌, arith, subst, sym, take}
 use Rattle.std.specs.Prelude.{slice_index}
 use Rattle.cl_schedule.specs.Rooms.{PlayedTo}
 use Rattle.cl_schedule.proofs.Playing.{past_on, played_on, take_more}

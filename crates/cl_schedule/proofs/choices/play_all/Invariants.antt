@@ -1,4 +1,4 @@
-use Rattle.std.proofs.Common.{◌≡◌, take}
+use Rattle.std.proofs.Common.{take}
 use Rattle.cl_registry.specs.Tables.{IsKept, MayGoOn}
 use Rattle.cl_schedule.specs.Rooms.{IsRoom, PlayedPast, PlayedTo, SameScript, room_left}
 use Rattle.cl_schedule.proofs.choices.play_all.Given as goal

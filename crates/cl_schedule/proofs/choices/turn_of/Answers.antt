@@ -1,8 +1,8 @@
-use Rattle.std.proofs.Common.{◌≡◌, ◌∙◌, Some, ap, subst, sym}
+use Rattle.std.proofs.Common.{◌∙◌, ap, subst, sym}
 use Rattle.std.specs.Prelude.{slice_get}
 use Rattle.cl_config.specs.Views.{Scripted}
 use Rattle.cl_schedule.specs.declared.seats.Seat.{Seat}
-use Rattle.cl_schedule.specs.Seats.{IsSeated, IsSeatedAt}
+use Rattle.cl_schedule.specs.Seats.{IsSeatedAt}
 use Rattle.cl_schedule.proofs.Rooming.{some_request}
 use Rattle.cl_schedule.proofs.choices.turn_of.Goals as goal
 use Rattle.cl_schedule.proofs.choices.turn_of.Goals.{in-Some, in-None+in_ok-held-in-None+in_ok-request-in-None+in-Ok}

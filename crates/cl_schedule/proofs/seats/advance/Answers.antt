@@ -4,7 +4,7 @@ use Rattle.cl_tasks.specs.declared.turn.Turn.{Turn}
 use Rattle.cl_tasks.specs.declared.turn.Turn.TheVariants as turn
 use Rattle.cl_schedule.specs.Replies.{IsCall}
 use Rattle.cl_schedule.specs.Seats.{IsSeatedAt}
-use Rattle.cl_schedule.proofs.Seated.{has_advanced, has_posted, post_refused, seated_again, seated_backed, seated_expects}
+use Rattle.cl_schedule.proofs.Seated.{has_advanced, has_posted, post_refused, seated_again, seated_backed}
 use Rattle.cl_schedule.proofs.seats.advance.Goals as goal
 
 -- a turn that is no post asks for a call

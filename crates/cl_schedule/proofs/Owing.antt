@@ -135,28 +135,28 @@ count_refused old new at q k a none quiet opened posted = record {
 
 -- ---- places
 
-no_call : {A : Type 0} (o : Option (Option Tasked)) → owed_pair {A = A} o None ≡ 0
-no_call None = refl
-no_call (Some None) = refl
-no_call (Some (Some t)) = refl
+no_call : (A : Type 0) (o : Option (Option Tasked)) → owed_pair {A = A} o None ≡ 0
+no_call A None = refl
+no_call A (Some None) = refl
+no_call A (Some (Some t)) = refl
 
-empty_call : {A : Type 0} (o : Option (Option Tasked)) → owed_pair {A = A} o (Some None) ≡ 0
-empty_call None = refl
-empty_call (Some None) = refl
-empty_call (Some (Some t)) = refl
+empty_call : (A : Type 0) (o : Option (Option Tasked)) → owed_pair {A = A} o (Some None) ≡ 0
+empty_call A None = refl
+empty_call A (Some None) = refl
+empty_call A (Some (Some t)) = refl
 
 -- a call is taken from its place
 owed_drop : {A : Type 0} (ts : List (Option Tasked)) (us : List (Option (Turn A))) (q : ℕ) → owed_all ts us ≡ owed_all ts (slice_set us q None) + owed_pair (slice_get ts q) (slice_get us q)
 owed_drop [] us q = refl
-owed_drop {A = A} (t ∷ ts) [] q = sym (no_call {A = A} (slice_get (t ∷ ts) q))
-owed_drop {A = A} (t ∷ ts) (u ∷ us) zero = let none = empty_call {A = A} (Some t) in omega arith
+owed_drop {A = A} (t ∷ ts) [] q = let none = no_call A (slice_get (t ∷ ts) q) in omega arith
+owed_drop {A = A} (t ∷ ts) (u ∷ us) zero = let none = empty_call A (Some t) in omega arith
 owed_drop (t ∷ ts) (u ∷ us) (suc q) = let more = owed_drop ts us q in omega arith
 
 -- a task and its call are
 owed_take : {A : Type 0} (ts : List (Option Tasked)) (us : List (Option (Turn A))) (q : ℕ) → owed_all ts us ≡ owed_all (slice_set ts q None) (slice_set us q None) + owed_pair (slice_get ts q) (slice_get us q)
 owed_take [] us q = refl
-owed_take {A = A} (t ∷ ts) [] zero = sym (no_call {A = A} (Some t))
-owed_take {A = A} (t ∷ ts) [] (suc q) = sym (no_call {A = A} (slice_get ts q))
+owed_take {A = A} (t ∷ ts) [] zero = let none = no_call A (Some t) in omega arith
+owed_take {A = A} (t ∷ ts) [] (suc q) = let none = no_call A (slice_get ts q) in omega arith
 owed_take (t ∷ ts) (u ∷ us) zero = omega arith
 owed_take (t ∷ ts) (u ∷ us) (suc q) = let more = owed_take ts us q in omega arith
 
@@ -179,21 +179,21 @@ owed_taken {A = A} room mid q taken = elim taken.tasks [
 owed_put : {A : Type 0} (ts : List (Option Tasked)) (us : List (Option (Turn A))) (q : ℕ) (t : Tasked) (u : Turn A) → q < length ts → slice_get us q ≡ Some None → owed_all (slice_set ts q (Some t)) (slice_set us q (Some u)) ≡ owed_all ts us + owed u
 owed_put [] us q t u below none = absurd (omega arith)
 owed_put (s ∷ ts) [] q t u below none = absurd cc
-owed_put {A = A} (s ∷ ts) (None ∷ us) zero t u below none = let empty = empty_call {A = A} (Some s) in omega arith
+owed_put {A = A} (s ∷ ts) (None ∷ us) zero t u below none = let empty = empty_call A (Some s) in omega arith
 owed_put (s ∷ ts) (Some w ∷ us) zero t u below none = absurd cc
 owed_put (s ∷ ts) (w ∷ us) (suc q) t u below none = let more = owed_put ts us q t u (omega arith) none in omega arith
 
-owed_empty : {A : Type 0} (n m : ℕ) → owed_all {A = A} (replicate n None) (replicate m None) ≡ 0
-owed_empty zero m = refl
-owed_empty (suc n) zero = refl
-owed_empty {A = A} (suc n) (suc m) = owed_empty {A = A} n m
+owed_empty : (A : Type 0) (n m : ℕ) → owed_all {A = A} (replicate n None) (replicate m None) ≡ 0
+owed_empty A zero m = refl
+owed_empty A (suc n) zero = refl
+owed_empty A (suc n) (suc m) = let more = owed_empty A n m in omega arith
 
 -- where no task has a call beside it
 owed_nothing : {A : Type 0} (ts : List (Option Tasked)) (us : List (Option (Turn A))) → ((q : ℕ) (t : Tasked) (u : Turn A) → slice_get ts q ≡ Some (Some t) → slice_get us q ≡ Some (Some u) → ⊥) → owed_all ts us ≡ 0
 owed_nothing [] us none = refl
 owed_nothing (t ∷ ts) [] none = refl
-owed_nothing (None ∷ ts) (u ∷ us) none = owed_nothing ts us (λ q. none (suc q))
-owed_nothing (Some t ∷ ts) (None ∷ us) none = owed_nothing ts us (λ q. none (suc q))
+owed_nothing (None ∷ ts) (u ∷ us) none = let more = owed_nothing ts us (λ q. none (suc q)) in omega arith
+owed_nothing (Some t ∷ ts) (None ∷ us) none = let more = owed_nothing ts us (λ q. none (suc q)) in omega arith
 owed_nothing (Some t ∷ ts) (Some u ∷ us) none = absurd (none 0 t u refl refl)
 
 -- ---- the room after a choice
@@ -245,7 +245,7 @@ pub debt_first : {A : Type 0} (config : Configured) (script : Scripted) (empty n
 debt_first {A = A} config script empty new room n m is passed tasks calls =
     let answers : faults new.answers ≡ 0 = ap faults passed.answers ∙ ap (λ (x : Shown). faults x.answers) is ∙ faults_none (length script.requests) in
     let places : owed_all room.tasks.items room.calls.items ≡ 0 =
-    ap (λ (ts : List (Option Tasked)). owed_all ts room.calls.items) tasks ∙ ap (λ (us : List (Option (Turn A))). owed_all (replicate n None) us) calls ∙ owed_empty {A = A} n m in
+    ap (λ (ts : List (Option Tasked)). owed_all ts room.calls.items) tasks ∙ ap (λ (us : List (Option (Turn A))). owed_all (replicate n None) us) calls ∙ owed_empty A n m in
     omega arith
 
 -- ---- those that wait have no answer

@@ -1,5 +1,6 @@
 use Rattle.std.proofs.Common.{ap}
 use Rattle.cl_registry.specs.Tables.{steps}
+use Rattle.cl_schedule.proofs.Owing.{debt_first, seats_first}
 use Rattle.cl_schedule.proofs.Playing.{played_none}
 use Rattle.cl_schedule.proofs.Rounds.{none_goes_on}
 use Rattle.cl_schedule.proofs.choices.open.Goals as goal

@@ -1,6 +1,6 @@
 -- The count of a source beside the answers that are its faults, with those that are still to be posted.
-use Rattle.std.proofs.Common.{◌≡◌, ◌⊎◌, inl, inr, ◌∙◌, ◌+◌, ◌<◌, ℕ, zero, suc, List, [], ◌∷◌, length, map, Option, Some, None, refl, sym, ap, subst, arith, replicate}
-use Rattle.std.specs.Prelude.{IfSome, slice_get, slice_set}
+use Rattle.std.proofs.Common.{◌≡◌, ◌⊎◌, inl, inr, ◌∙◌, ◌+◌, ◌<◌, ℕ, zero, suc, List, [], ◌∷◌, length, map, Option, Some, None, Result, Ok, Err, refl, sym, ap, subst, arith, replicate}
+use Rattle.std.specs.Prelude.{IfOk, slice_get, slice_set}
 use Rattle.cl_config.specs.Views.{Configured, Scripted}
 use Rattle.cl_findings.specs.Findings.{Answered}
 use Rattle.cl_model.specs.declared.answer.Answer.{Answer}
@@ -24,7 +24,7 @@ use Rattle.cl_schedule.specs.Rooms.{HasTaken, OpenSeats}
 use Rattle.cl_schedule.specs.Rounds.{RoundsPassed}
 use Rattle.cl_schedule.specs.Seats.{HasAdvanced, HasGathered, HasPosted, IsSeatedAt, NextIn}
 use Rattle.cl_schedule.specs.Serving.{IsCallStep}
-use Rattle.cl_schedule.proofs.Counted.{faults_none, faults_set, grows_none, grows_then, told_fault, told_none}
+use Rattle.cl_schedule.proofs.Counted.{faults_none, faults_set, grows_none, grows_same, grows_then, told_fault, told_none}
 use Rattle.cl_schedule.proofs.Rooming.{get_set, get_set_same, set_length}
 use Rattle.cl_schedule.proofs.Waiting.{none_left}
 
@@ -121,16 +121,28 @@ pub owed_there : {A : Type 0} (room : Room A) (q : ℕ) (t : Tasked) (u : Turn A
 owed_there {A = A} room q t u task call =
     ap (λ (o : Option (Option Tasked)). owed_pair o (slice_get room.calls.items q)) task ∙ ap (λ (o : Option (Option (Turn A))). owed_pair (Some (Some t)) o) call
 
--- one that begins, and is taken on
-pub count_begun : (n at more new k l m : ℕ) → at ≡ 0 → CountGrows 0 more k l → CountGrows (n + more) new l m → CountGrows (n + at) new k m
-count_begun n at more new k l m none g h = count_then (n + at) (n + more) new k l m (count_beside n 0 more (n + at) (n + more) k l (omega arith) (omega arith) g) h
+pub count_seated : (n at here k l : ℕ) → here ≡ at → l ≡ k → CountGrows (n + at) (n + here) k l
+count_seated n at here k l same unread = record { number = 0; counted = omega arith; grows = grows_same k l unread }
+
+-- one that begins
+pub count_begun : (n at here more k l m : ℕ) → at ≡ 0 → here ≡ more → m ≡ l → CountGrows 0 more k l → CountGrows (n + at) (n + here) k m
+count_begun n at here more k l m none same unread g = record {
+  number = g.number;
+  counted = let one = g.counted in omega arith;
+  grows = subst (λ (i : ℕ). Grows g.number k i) (sym unread) g.grows;
+}
+
+-- and then goes on, or is answered
+pub count_first : {B E : Type 0} (r : Result B E) (a b : ℕ) (more : B → ℕ) (k l m : ℕ) → CountGrows a b k l → IfOk r (λ o. CountGrows b (more o) l m) → IfOk r (λ o. CountGrows a (more o) k m)
+count_first (Ok o) a b more k l m g h = count_then a b (more o) k l m g h
+count_first (Err e) a b more k l m g h = tt
 
 -- one that memory was wanting for before it began
-pub count_refused : (old new : Shown) (at q k : ℕ) (a : Answer) → at ≡ 0 → fault a ≡ 0 → IsOpen old q → new ≡ with_post old q a → CountGrows (faults old.answers + at) (faults new.answers + 0) k k
-count_refused old new at q k a none quiet opened posted = record {
+pub count_refused : (old new : Shown) (at q k l : ℕ) (a : Answer) → at ≡ 0 → fault a ≡ 0 → l ≡ k → IsOpen old q → new ≡ with_post old q a → CountGrows (faults old.answers + at) (faults new.answers + 0) k l
+count_refused old new at q k l a none quiet unread opened posted = record {
   number = 0;
   counted = let one = ap (λ (x : Shown). faults x.answers) posted ∙ faults_set old.answers q a opened in omega arith;
-  grows = grows_none k;
+  grows = grows_same k l unread;
 }
 
 -- ---- places

@@ -1,9 +1,20 @@
-use Rattle.std.proofs.Common.{◌∙◌, ◌++◌, ◌∷◌, [], ℕ, List, arith, subst, sym, take}
+use Rattle.std.proofs.Common.{◌∙◌, ◌++◌, ◌∷◌, [], ℕ, List, arith, refl, subst, sym, take}
 use Rattle.std.specs.Prelude.{slice_index}
 use Rattle.cl_schedule.specs.Rooms.{PlayedTo}
-use Rattle.cl_schedule.proofs.Owing.{count_then}
+use Rattle.cl_schedule.proofs.Owing.{count_none, count_then}
 use Rattle.cl_schedule.proofs.Playing.{past_on, played_on, take_more}
 use Rattle.cl_schedule.proofs.choices.play_all.Goals as goal
+
+pub loop-choice-init : goal.loop-choice-init
+loop-choice-init g c = record {
+  same = record { config = refl; script = refl };
+  kept = c.requires.kept;
+  room = c.requires.room;
+  over = c.requires.over;
+  seats = c.requires.seats;
+  faults = count_none _ _;
+  played = c.requires.begun;
+}
 
 pub loop-choice-preserved : goal.loop-choice-preserved
 loop-choice-preserved g c =

@@ -7,7 +7,7 @@ use Rattle.cl_model.specs.declared.answer.Answer.{Answer}
 use Rattle.cl_model.specs.Content.{Content}
 use Rattle.cl_model.specs.Machine.{Step}
 use Rattle.cl_registry.specs.declared.report.Report.{Report}
-use Rattle.cl_registry.specs.Reports.{IsReport, IsUnfinished}
+use Rattle.cl_registry.specs.Reports.{IsReport}
 use Rattle.cl_registry.specs.Tables.{Shown, IsKept, IsOpen, empty_of, with_post}
 use Rattle.cl_registry.specs.Tables as tables
 use Rattle.cl_tasks.specs.Follows.{Refuses, refusal}
@@ -121,6 +121,7 @@ pub owed_there : {A : Type 0} (room : Room A) (q : ℕ) (t : Tasked) (u : Turn A
 owed_there {A = A} room q t u task call =
     ap (λ (o : Option (Option Tasked)). owed_pair o (slice_get room.calls.items q)) task ∙ ap (λ (o : Option (Option (Turn A))). owed_pair (Some (Some t)) o) call
 
+-- it is taken from there
 pub count_seated : (n at here k l : ℕ) → here ≡ at → l ≡ k → CountGrows (n + at) (n + here) k l
 count_seated n at here k l same unread = record { number = 0; counted = omega arith; grows = grows_same k l unread }
 
@@ -176,15 +177,15 @@ owed_take (t ∷ ts) (u ∷ us) (suc q) = let more = owed_take ts us q in omega 
 owed_taken : {A : Type 0} (room mid : Room A) (q : ℕ) → HasTaken room mid q → owed_all room.tasks.items room.calls.items ≡ owed_all mid.tasks.items mid.calls.items + owed_at room q
 owed_taken {A = A} room mid q taken = elim taken.tasks [
   | inl same ↦
-    (let here = ap (λ (us : List (Option (Turn A))). owed_all mid.tasks.items us) taken.calls in
-    let there = ap (λ (ts : List (Option Tasked)). owed_all ts (slice_set room.calls.items q None)) same in
-    let drop = owed_drop room.tasks.items room.calls.items q in
-    omega arith)
+      (let here = ap (λ (us : List (Option (Turn A))). owed_all mid.tasks.items us) taken.calls in
+      let there = ap (λ (ts : List (Option Tasked)). owed_all ts (slice_set room.calls.items q None)) same in
+      let drop = owed_drop room.tasks.items room.calls.items q in
+      omega arith)
   | inr set ↦
-    (let here = ap (λ (us : List (Option (Turn A))). owed_all mid.tasks.items us) taken.calls in
-    let there = ap (λ (ts : List (Option Tasked)). owed_all ts (slice_set room.calls.items q None)) set in
-    let take = owed_take room.tasks.items room.calls.items q in
-    omega arith)
+      (let here = ap (λ (us : List (Option (Turn A))). owed_all mid.tasks.items us) taken.calls in
+      let there = ap (λ (ts : List (Option Tasked)). owed_all ts (slice_set room.calls.items q None)) set in
+      let take = owed_take room.tasks.items room.calls.items q in
+      omega arith)
 ]
 
 -- a request is put in a place that has none

@@ -140,7 +140,7 @@ fn turn_of<T: Told, S: Source<T>>(
     ensures taken { HasTaken room.old room.new q }
     ensures faults { IfOk result (λ o.
         CountGrows (faults registry.old.answers + owed_at room.old q) (faults registry.new.answers + owed_of o)
-            (S.refused source.old) (S.refused source.new)) }
+        (S.refused source.old) (S.refused source.new)) }
     ensures refused { IfErr result (IsStrayUntold T.told) }
     ensures kept { IsKept T.told registry.new }
 {
@@ -268,7 +268,15 @@ fn play_all<T: Told, S: Source<T>>(
     ensures kept { IsKept T.told registry.new }
 {
     for choice in schedule {
-        choose(alloc, config, script, registry, source, room, *choice as usize)?;
+        choose(
+            alloc,
+            config,
+            script,
+            registry,
+            source,
+            room,
+            *choice as usize,
+        )?;
     }
     while room.waiting.as_slice().len() != 0 {
         choose(alloc, config, script, registry, source, room, 0)?;

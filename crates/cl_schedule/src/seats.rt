@@ -90,7 +90,7 @@ pub(crate) fn advance<T: Told, S: Source<T>>(
     ensures less { IfOk result (λ o. IfSome o (λ s. s.task.left < seat.task.left)) }
     ensures faults { IfOk result (λ o.
         CountGrows (faults registry.old.answers + owed seat.call) (faults registry.new.answers + owed_of o)
-            (S.refused source.old) (S.refused source.new)) }
+        (S.refused source.old) (S.refused source.new)) }
     ensures stray { IfErr result (λ e. (e ≡ ServeFault.Stray) × (T.told ≡ None)) }
     ensures kept { IsKept T.told registry.new }
 {

@@ -4,7 +4,7 @@ use Rattle.cl_config.specs.Views.{Scripted}
 use Rattle.cl_schedule.specs.declared.seats.Seat.{Seat}
 use Rattle.cl_schedule.specs.Rooms.{left_at}
 use Rattle.cl_schedule.specs.Seats.{HasAdvanced, HasPosted, IsSeatedAt}
-use Rattle.cl_schedule.proofs.Owing.{count_none, debt_advanced, debt_posted, seats_advanced, seats_posted}
+use Rattle.cl_schedule.proofs.Owing.{debt_advanced, debt_posted, seats_advanced, seats_posted}
 use Rattle.cl_schedule.proofs.Rooming.{chosen_advanced, chosen_posted, first_advanced, first_place, if_some, match_none, match_some, room_advanced, room_posted, same_turned, waits_at}
 use Rattle.cl_schedule.proofs.Waiting.{waiting_is}
 use Rattle.cl_schedule.proofs.choices.play.Goals as goal

@@ -16,19 +16,19 @@ advance-requires-clause-seated g c =
     let P : Seat g.row.T.Denot → Type 0 = λ s. IsSeatedAt {A = g.row.T.Denot} told x s.task s.call c.args.q in
     elim c.match-take.branch [
       | in-Some w ↦ (
-        let r = some_request c.args.script.now.requests c.args.q c.requires.asked in
-        let asked = ap (λ (s : Scripted). slice_get s.requests c.args.q) c.requires.script ∙ r.1 in
-        let at = w.in-Some.ensures.seat in
-        subst P (sym w.seat-is) (r.0, record { asked = asked; begun = c.requires.begun; unanswered = c.requires.open }, c.requires.seated c.args.q w.in-Some.seat.task w.in-Some.seat.call r.0 at.0 at.1 asked)
-      )
+          let r = some_request c.args.script.now.requests c.args.q c.requires.asked in
+          let asked = ap (λ (s : Scripted). slice_get s.requests c.args.q) c.requires.script ∙ r.1 in
+          let at = w.in-Some.ensures.seat in
+          subst P (sym w.seat-is) (r.0, record { asked = asked; begun = c.requires.begun; unanswered = c.requires.open }, c.requires.seated c.args.q w.in-Some.seat.task w.in-Some.seat.call r.0 at.0 at.1 asked)
+          )
       | in-None+in_ok-held-in-None+in_ok-request-in-None+in-Ok w ↦ (
-        let asked = ap (λ (s : Scripted). slice_get s.requests c.args.q) c.requires.script ∙ w.in_ok-request-in-None.ensures in
-        subst P (sym w.seat-is) (
-          w.in_ok-request-in-None.request,
-          record { asked = asked; begun = c.requires.begun; unanswered = c.requires.open },
-          w.in-Ok.ensures.seated x c.requires.kept (c.requires.config ∙ sym w.in_ok-held-in-None.ensures),
-        )
-      )
+          let asked = ap (λ (s : Scripted). slice_get s.requests c.args.q) c.requires.script ∙ w.in_ok-request-in-None.ensures in
+          subst P (sym w.seat-is) (
+            w.in_ok-request-in-None.request,
+            record { asked = asked; begun = c.requires.begun; unanswered = c.requires.open },
+            w.in-Ok.ensures.seated x c.requires.kept (c.requires.config ∙ sym w.in_ok-held-in-None.ensures),
+          )
+          )
     ]
 
 -- ---- the count of the source
@@ -46,11 +46,11 @@ returns-clause-faults g c =
     let first : CountGrows (given + at) (given + here) (g.S.Source.refused c.args.source.now) (g.S.Source.refused c.match-take.source) =
     elim c.match-take.branch [
       | in-Some w ↦
-        count_seated given at here _ _
-        (ap (λ (s : Seat g.row.T.Denot). owed s.call) w.seat-is ∙ sym (owed_there c.args.room.now c.args.q w.in-Some.seat.task w.in-Some.seat.call w.in-Some.ensures.seat.0 w.in-Some.ensures.seat.1))
-        (ap (λ (s : g.row.S.Denot). g.S.Source.refused s) w.source-is)
+          count_seated given at here _ _
+          (ap (λ (s : Seat g.row.T.Denot). owed s.call) w.seat-is ∙ sym (owed_there c.args.room.now c.args.q w.in-Some.seat.task w.in-Some.seat.call w.in-Some.ensures.seat.0 w.in-Some.ensures.seat.1))
+          (ap (λ (s : g.row.S.Denot). g.S.Source.refused s) w.source-is)
       | in-None+in_ok-held-in-None+in_ok-request-in-None+in-Ok w ↦
-        count_begun given at here (owed w.in-Ok.seat.call) _ _ _ (c.take.ensures.none_owed w.in-None.is) (ap (λ (s : Seat g.row.T.Denot). owed s.call) w.seat-is)
-        (ap (λ (s : g.row.S.Denot). g.S.Source.refused s) w.source-is) w.in-Ok.ensures.faults
+          count_begun given at here (owed w.in-Ok.seat.call) _ _ _ (c.take.ensures.none_owed w.in-None.is) (ap (λ (s : Seat g.row.T.Denot). owed s.call) w.seat-is)
+          (ap (λ (s : g.row.S.Denot). g.S.Source.refused s) w.source-is) w.in-Ok.ensures.faults
     ] in
     count_first c.advance.result (given + at) (given + here) (λ o. faults c.advance.new.registry.answers + owed_of o) _ _ _ first c.advance.ensures.faults

@@ -19,3 +19,4 @@ pub mod Telling
 pub mod Backing
 pub mod Seated
 pub mod Rooming
+pub mod Owing

@@ -39,7 +39,7 @@ some_request (r ∷ rs) zero below = (r, refl)
 some_request (r ∷ rs) (suc q) below = some_request rs q (omega arith)
 
 -- what stands at a place after one was set
-get_set : {A : Type 0} (xs : List A) (q p : ℕ) (a b : A) → slice_get (slice_set xs q a) p ≡ Some b → ((p ≡ q) × (a ≡ b)) ⊎ ((p ≡ q → ⊥) × (slice_get xs p ≡ Some b))
+pub get_set : {A : Type 0} (xs : List A) (q p : ℕ) (a b : A) → slice_get (slice_set xs q a) p ≡ Some b → ((p ≡ q) × (a ≡ b)) ⊎ ((p ≡ q → ⊥) × (slice_get xs p ≡ Some b))
 get_set [] q p a b e = absurd cc
 get_set (x ∷ xs) zero zero a b e = inl (refl, some_is a b e)
   where
@@ -53,7 +53,7 @@ get_set (x ∷ xs) (suc q) (suc p) a b e = next (get_set xs q p a b e)
     next (inl (same, is)) = inl (ap (λ (n : ℕ). suc n) same, is)
     next (inr (other, is)) = inr (λ same. other (omega arith), is)
 
-set_length : {A : Type 0} (xs : List A) (q : ℕ) (a : A) → length (slice_set xs q a) ≡ length xs
+pub set_length : {A : Type 0} (xs : List A) (q : ℕ) (a : A) → length (slice_set xs q a) ≡ length xs
 set_length [] q a = refl
 set_length (x ∷ xs) zero a = refl
 set_length (x ∷ xs) (suc q) a = ap (λ (n : ℕ). suc n) (set_length xs q a)
@@ -216,7 +216,7 @@ room_advanced {A = A} told old new room mid done q t u is taken advanced (r, may
 
 -- ---- the first request, taken again and again
 
-get_set_same : {A : Type 0} (xs : List A) (q : ℕ) (a : A) → q < length xs → slice_get (slice_set xs q a) q ≡ Some a
+pub get_set_same : {A : Type 0} (xs : List A) (q : ℕ) (a : A) → q < length xs → slice_get (slice_set xs q a) q ≡ Some a
 get_set_same [] q a below = absurd (omega arith)
 get_set_same (x ∷ xs) zero a below = refl
 get_set_same (x ∷ xs) (suc q) a below = get_set_same xs q a (omega arith)

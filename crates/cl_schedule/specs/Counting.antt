@@ -1,10 +1,16 @@
 -- How many answers are faults of the source, beside the count that the source keeps of them.
-use Rattle.std.specs.Prelude.{◌≡◌, ◌⊎◌, ◌+◌, ◌≤◌, ◌^◌, ℕ, List, [], ◌∷◌, map, Option, Some, None}
+use Rattle.std.specs.Prelude.{◌≡◌, ◌⊎◌, ◌+◌, ◌≤◌, ◌^◌, ℕ, List, [], ◌∷◌, map, Option, Some, None, slice_get}
 use Rattle.cl_model.specs.declared.answer.Answer.{Answer}
 use Rattle.cl_source.specs.declared.source.SourceFault.TheVariants as sources
 use Rattle.cl_registry.specs.declared.report.Report.{Report}
+use Rattle.cl_registry.specs.Tables.{Shown}
+use Rattle.cl_tasks.specs.Tasks.{Tasked}
 use Rattle.cl_tasks.specs.declared.turn.Reply.{Reply}
 use Rattle.cl_tasks.specs.declared.turn.Reply.TheVariants as reply
+use Rattle.cl_tasks.specs.declared.turn.Turn.{Turn}
+use Rattle.cl_tasks.specs.declared.turn.Turn.TheVariants as turn
+use Rattle.cl_schedule.specs.declared.choices.Room.{Room}
+use Rattle.cl_schedule.specs.declared.seats.Seat.{Seat}
 use Rattle.cl_model.specs.declared.answer.Answer.TheVariants.{Said, Shared, Memory, SourceFault}
 
 -- one where the answer is a fault of the source
@@ -46,3 +52,40 @@ told_faults other = 0
 -- reads where the count is at its last value
 abbrev pub CountsFaults : Report → ℕ → ℕ → Type 0
 CountsFaults r old new = RoseBy (faults (map (λ a. Some a) r.answers)) old new
+
+-- ---- what is still to be posted
+
+-- this number is the other one and as many as the count rose by
+pub record CountGrows (given more old new : ℕ) : Type 0 where
+  pub number : ℕ
+  pub counted : more ≡ given + number
+  pub grows : Grows number old new
+
+-- one where a turn asks to post a fault of the source
+abbrev pub owed : {A : Type 0} → Turn A → ℕ
+owed (turn.Post f) = fault f.answer
+owed other = 0
+
+-- one where the request that has a seat is to post such an answer
+abbrev pub owed_of : {A : Type 0} → Option (Seat A) → ℕ
+owed_of None = 0
+owed_of (Some s) = owed s.call
+
+-- one where the request of a place was begun and is to post such an answer
+abbrev pub owed_pair : {A : Type 0} → Option (Option Tasked) → Option (Option (Turn A)) → ℕ
+owed_pair (Some (Some t)) (Some (Some u)) = owed u
+owed_pair task call = 0
+
+-- how many requests were begun and are to post such an answer
+abbrev pub owed_all : {A : Type 0} → List (Option Tasked) → List (Option (Turn A)) → ℕ
+owed_all [] calls = 0
+owed_all (t ∷ ts) [] = 0
+owed_all (t ∷ ts) (u ∷ us) = owed_pair (Some t) (Some u) + owed_all ts us
+
+-- one where the request of this number is one of them
+abbrev pub owed_at : {A : Type 0} → Room A → ℕ → ℕ
+owed_at room q = owed_pair (slice_get room.tasks.items q) (slice_get room.calls.items q)
+
+-- how many answers are faults of the source, and how many more will be by the posts that are asked for
+abbrev pub debt : {A : Type 0} → Shown → Room A → ℕ
+debt x room = faults x.answers + owed_all room.tasks.items room.calls.items

@@ -5,7 +5,7 @@ use Rattle.cl_model.specs.Content.{Content}
 use Rattle.cl_model.specs.Machine.{Step, state_after}
 use Rattle.cl_model.specs.Service.{PassesRounds}
 use Rattle.cl_model.specs.States.{start}
-use Rattle.cl_registry.specs.Tables.{Shown, state_of, steps}
+use Rattle.cl_registry.specs.Tables.{Shown, IsOpen, state_of, steps}
 use Rattle.cl_tasks.specs.Measures.{all_left}
 use Rattle.cl_tasks.specs.Tasks.{Tasked}
 use Rattle.cl_tasks.specs.declared.turn.Turn.{Turn}
@@ -30,6 +30,11 @@ pub record IsRoom {A : Type 0} (told : Option Content) (x : Shown) (room : Room 
   pub calls_whole : length room.calls.items ≡ length x.script.requests
   pub seated : AllSeated told x room.tasks.items room.calls.items
   pub gathered : HasGathered x room.waiting.items room.next
+
+-- each request that was begun and waits has no answer
+abbrev pub OpenSeats : {A : Type 0} → Shown → Room A → Type 0
+OpenSeats {A} x room =
+    (q : ℕ) (t : Tasked) (u : Turn A) → slice_get room.tasks.items q ≡ Some (Some t) → slice_get room.calls.items q ≡ Some (Some u) → IsOpen x q
 
 -- a request was taken from its place, and all else stayed
 pub record HasTaken {A : Type 0} (old new : Room A) (q : ℕ) : Type 0 where

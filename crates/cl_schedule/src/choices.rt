@@ -5,7 +5,8 @@ ghost use Rattle.cl_config.specs.Scripts.{HasLoaders};
 ghost use Rattle.cl_registry.specs.Tables.{IsKept, IsLater, IsOpen, MayGoOn};
 ghost use Rattle.cl_tasks.specs.Measures.{all_left};
 ghost use Rattle.cl_schedule.specs.Choices.{IsSimulated};
-ghost use Rattle.cl_schedule.specs.Rooms.{AllSeated, ChoosesIn, FirstFalls, HasTaken, IsRoom, IsStrayUntold, PlayedPast, PlayedTo, PlaysIn, SameScript, TakesFirst, left_at};
+ghost use Rattle.cl_schedule.specs.Counting.{CountGrows, CountsFaults, debt, faults, owed_at, owed_of};
+ghost use Rattle.cl_schedule.specs.Rooms.{AllSeated, ChoosesIn, FirstFalls, HasTaken, IsRoom, IsStrayUntold, OpenSeats, PlayedPast, PlayedTo, PlaysIn, SameScript, TakesFirst, left_at};
 ghost use Rattle.cl_schedule.specs.Seats.{HasAdvanced, HasPosted, IsSeatedAt};
 
 use crate::gather::gather;
@@ -53,6 +54,7 @@ impl<T: Told> Room<T> {
         ensures seat { IfSome result (λ s. (slice_get self.old.tasks.items q ≡ Some (Some s.task))
             × (slice_get self.old.calls.items q ≡ Some (Some s.call))) }
         ensures none { result ≡ None → left_at self.old q ≡ all_left + 1 }
+        ensures none_owed { result ≡ None → owed_at self.old q ≡ 0 }
         ensures taken { HasTaken self.old self.new q }
     {
         let call = take_place(&mut self.calls, q)?;
@@ -136,6 +138,9 @@ fn turn_of<T: Told, S: Source<T>>(
         IsSeatedAt T.told registry.new s.task s.call q)) }
     ensures less { IfOk result (λ o. IfSome o (λ s. s.task.left < left_at room.old q)) }
     ensures taken { HasTaken room.old room.new q }
+    ensures faults { IfOk result (λ o.
+        CountGrows (faults registry.old.answers + owed_at room.old q) (faults registry.new.answers + owed_of o)
+        (S.refused source.old) (S.refused source.new)) }
     ensures refused { IfErr result (IsStrayUntold T.told) }
     ensures kept { IsKept T.told registry.new }
 {
@@ -171,9 +176,13 @@ fn play<T: Told, S: Source<T>>(
     requires loaders { HasLoaders (length config.now.value.loaders) script.now.requests }
     requires kept { IsKept T.told registry.old }
     requires room { IsRoom T.told registry.old room.old }
+    requires seats { OpenSeats registry.old room.old }
     ensures chosen { IfOk result (λ _. ChoosesIn T.told registry.old registry.new choice) }
     ensures room { IfOk result (λ _. IsRoom T.told registry.new room.new) }
+    ensures seats { IfOk result (λ _. OpenSeats registry.new room.new) }
     ensures same { IfOk result (λ _. SameScript registry.old registry.new) }
+    ensures faults { IfOk result (λ _. CountGrows (debt registry.old room.old) (debt registry.new room.new)
+        (S.refused source.old) (S.refused source.new)) }
     ensures less { IfOk result (λ _. TakesFirst choice room.old room.new) }
     ensures refused { IfErr result (IsStrayUntold T.told) }
     ensures kept { IsKept T.told registry.new }
@@ -209,10 +218,14 @@ fn choose<T: Told, S: Source<T>>(
     requires loaders { HasLoaders (length config.now.value.loaders) script.now.requests }
     requires kept { IsKept T.told registry.old }
     requires room { IsRoom T.told registry.old room.old }
+    requires seats { OpenSeats registry.old room.old }
     ensures played { IfOk result (λ _. PlaysIn T.told registry.old registry.new choice) }
     ensures room { IfOk result (λ _. IsRoom T.told registry.new room.new) }
+    ensures seats { IfOk result (λ _. OpenSeats registry.new room.new) }
     ensures over { IfOk result (λ _. MayGoOn registry.new → ⊥) }
     ensures same { IfOk result (λ _. SameScript registry.old registry.new) }
+    ensures faults { IfOk result (λ _. CountGrows (debt registry.old room.old) (debt registry.new room.new)
+        (S.refused source.old) (S.refused source.new)) }
     ensures less { IfOk result (λ _. FirstFalls choice room.old room.new) }
     ensures refused { IfErr result (IsStrayUntold T.told) }
     ensures kept { IsKept T.told registry.new }
@@ -240,18 +253,30 @@ fn play_all<T: Told, S: Source<T>>(
     requires loaders { HasLoaders (length config.now.value.loaders) script.now.requests }
     requires kept { IsKept T.told registry.old }
     requires room { IsRoom T.told registry.old room.old }
+    requires seats { OpenSeats registry.old room.old }
     requires begun { PlayedTo T.told registry.old [] }
     requires over { MayGoOn registry.old → ⊥ }
     ensures played { IfOk result (λ _. PlayedPast T.told registry.new schedule.now) }
     ensures room { IfOk result (λ _. IsRoom T.told registry.new room.new) }
+    ensures seats { IfOk result (λ _. OpenSeats registry.new room.new) }
     ensures none { IfOk result (λ _. room.new.waiting.items ≡ []) }
     ensures over { IfOk result (λ _. MayGoOn registry.new → ⊥) }
     ensures same { IfOk result (λ _. SameScript registry.old registry.new) }
+    ensures faults { IfOk result (λ _. CountGrows (debt registry.old room.old) (debt registry.new room.new)
+        (S.refused source.old) (S.refused source.new)) }
     ensures refused { IfErr result (IsStrayUntold T.told) }
     ensures kept { IsKept T.told registry.new }
 {
     for choice in schedule {
-        choose(alloc, config, script, registry, source, room, *choice as usize)?;
+        choose(
+            alloc,
+            config,
+            script,
+            registry,
+            source,
+            room,
+            *choice as usize,
+        )?;
     }
     while room.waiting.as_slice().len() != 0 {
         choose(alloc, config, script, registry, source, room, 0)?;
@@ -269,6 +294,8 @@ fn open<T: Told>(
     ensures script { IfOk result (λ r. r.0.script ≡ script.now.value) }
     ensures kept { IfOk result (λ r. IsKept T.told r.0) }
     ensures room { IfOk result (λ r. IsRoom T.told r.0 r.1) }
+    ensures seats { IfOk result (λ r. OpenSeats r.0 r.1) }
+    ensures none_owed { IfOk result (λ r. debt r.0 r.1 ≡ 0) }
     ensures begun { IfOk result (λ r. PlayedTo T.told r.0 []) }
     ensures over { IfOk result (λ r. MayGoOn r.0 → ⊥) }
     ensures memory { IfErr result (λ e. e ≡ ServeFault.Memory) }
@@ -313,6 +340,8 @@ pub fn simulate<T: Told, S: Source<T>>(
 ) -> Result<Report, ServeFault>
     requires { HasLoaders (length config.value.loaders) script.value.requests }
     ensures simulated { IfOk result (IsSimulated T.told config.value script.value schedule.now) }
+    ensures source_faults { IfOk result (λ r. CountsFaults r (S.refused source.old)
+        (S.refused source.new)) }
     ensures refused { IfErr result (IsStrayUntold T.told) }
 {
     let (mut registry, mut room) = open::<T>(alloc, &config, &script)?;

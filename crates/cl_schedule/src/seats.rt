@@ -1,11 +1,12 @@
 //! Requests that take turns: each waits with its task and with the call that the task asks for (JVMS SE 8, 5.3 to 5.4.3).
 
-ghost use Rattle.std.specs.Prelude.{◌≡◌, ◌<◌, ℕ, IfOk, IfErr, IfSome, MatchOption, None, length};
+ghost use Rattle.std.specs.Prelude.{◌≡◌, ◌<◌, ◌+◌, ℕ, IfOk, IfErr, IfSome, MatchOption, None, OnErr, length};
 ghost use Rattle.cl_model.specs.declared.answer.Answer.TheVariants as answers;
 ghost use Rattle.cl_model.specs.declared.request.Request as requests;
 ghost use Rattle.cl_findings.specs.Findings.{loader_of};
 ghost use Rattle.cl_registry.specs.Tables.{Shown, IsKept};
 ghost use Rattle.cl_tasks.specs.Turns.{Expects};
+ghost use Rattle.cl_schedule.specs.Counting.{CountGrows, faults, owed, owed_of, told_faults};
 ghost use Rattle.cl_schedule.specs.Seats.{HasAdvanced, HasPosted, IsReady, IsSeated, IsSeatedAt};
 
 use crate::replies::{read, reply_to};
@@ -37,6 +38,8 @@ pub(crate) fn read_on<T: Told, S: Source<T>>(
     ensures seated { (x : Shown) (q : ℕ) (r : requests.Request) → IsReady T.told x task reply r
         → IsSeated T.told x result.task result.call q r }
     ensures less { result.task.left < task.left }
+    ensures faults { CountGrows (told_faults reply) (owed result.call)
+        (S.refused source.old) (S.refused source.new) }
 {
     loop {
         match task.turn(alloc, reply) {
@@ -59,6 +62,9 @@ pub(crate) fn begin<T: Told, S: Source<T>>(
         → IsSeated T.told x s.task s.call q request) }
     ensures request { IfErr result (λ f. f.request ≡ request) }
     ensures memory { IfErr result (λ f. f.answer ≡ answers.Memory) }
+    ensures faults { IfOk result (λ s. CountGrows 0 (owed s.call)
+        (S.refused source.old) (S.refused source.new)) }
+    ensures unread { OnErr result (source.new ≡ source.old) }
 {
     match Task::<T>::new(alloc, config, q, request) {
         Ok(task) => Ok(read_on(alloc, source, task, Reply::Start)),
@@ -82,6 +88,9 @@ pub(crate) fn advance<T: Told, S: Source<T>>(
     ensures seated { IfOk result (λ o. IfSome o (λ s.
         IsSeatedAt T.told registry.new s.task s.call q)) }
     ensures less { IfOk result (λ o. IfSome o (λ s. s.task.left < seat.task.left)) }
+    ensures faults { IfOk result (λ o.
+        CountGrows (faults registry.old.answers + owed seat.call) (faults registry.new.answers + owed_of o)
+        (S.refused source.old) (S.refused source.new)) }
     ensures stray { IfErr result (λ e. (e ≡ ServeFault.Stray) × (T.told ≡ None)) }
     ensures kept { IsKept T.told registry.new }
 {

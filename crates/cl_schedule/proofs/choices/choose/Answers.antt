@@ -1,6 +1,7 @@
 use Rattle.std.proofs.Common.{◌∙◌, ap, length, refl, sym}
 use Rattle.cl_config.specs.Views.{Scripted}
 use Rattle.cl_schedule.specs.declared.choices.Room.{Room}
+use Rattle.cl_schedule.proofs.Owing.{debt_rounds, seats_same}
 use Rattle.cl_schedule.proofs.Rooming.{falls, falls_gathered, none_waits, plays_in, room_gathered, room_rounds, some_wait}
 use Rattle.cl_schedule.proofs.Rounds.{none_goes_on}
 use Rattle.cl_schedule.proofs.choices.choose.Goals as goal
@@ -30,6 +31,16 @@ returns-in_ok-room-clause-less g c =
     falls_gathered g.T.Told.told c.pass_rounds.new.registry c.args.choice c.args.room.now c.play.new.room done c.args.script.now c.in_ok-room.field-0 (returns-in_ok-room-clause-room g c) e.less (none_waits c.play.new.room.waiting.items c.as_slice.result.now c.as_slice.ensures.value c.if-as_slice-eq0.true) c.in_ok-room.ensures.gathered refl refl
     (ap (λ (s : Scripted). length s.requests) (sym (e.same.script ∙ c.requires.script)) ∙ sym e.room.tasks_whole)
 
+pub returns-in_ok-room-clause-seats : goal.returns-in_ok-room-clause-seats
+returns-in_ok-room-clause-seats g c =
+    let done : Room g.row.T.Denot = record { tasks = c.play.new.room.tasks; calls = c.play.new.room.calls; waiting = c.gather.new.waiting; next = c.in_ok-room.field-0 } in
+    seats_same c.play.new.registry c.pass_rounds.new.registry c.play.new.room done c.in_ok-play.ensures.seats c.pass_rounds.ensures.passed.answers refl refl
+
+pub returns-in_ok-room-clause-faults : goal.returns-in_ok-room-clause-faults
+returns-in_ok-room-clause-faults g c =
+    let done : Room g.row.T.Denot = record { tasks = c.play.new.room.tasks; calls = c.play.new.room.calls; waiting = c.gather.new.waiting; next = c.in_ok-room.field-0 } in
+    debt_rounds c.args.registry.now c.play.new.registry c.pass_rounds.new.registry c.args.room.now c.play.new.room done _ _ c.in_ok-play.ensures.faults c.pass_rounds.ensures.passed refl refl
+
 -- ---- somebody waits
 
 pub returns-else-as_slice-eq0-clause-played : goal.returns-else-as_slice-eq0-clause-played
@@ -48,3 +59,11 @@ returns-else-as_slice-eq0-clause-over g c = none_goes_on c.play.new.registry c.p
 pub returns-else-as_slice-eq0-clause-less : goal.returns-else-as_slice-eq0-clause-less
 returns-else-as_slice-eq0-clause-less g c =
     falls g.T.Told.told c.pass_rounds.new.registry c.args.choice c.args.room.now c.play.new.room (returns-else-as_slice-eq0-clause-room g c) c.in_ok-play.ensures.less
+
+pub returns-else-as_slice-eq0-clause-seats : goal.returns-else-as_slice-eq0-clause-seats
+returns-else-as_slice-eq0-clause-seats g c =
+    seats_same c.play.new.registry c.pass_rounds.new.registry c.play.new.room c.play.new.room c.in_ok-play.ensures.seats c.pass_rounds.ensures.passed.answers refl refl
+
+pub returns-else-as_slice-eq0-clause-faults : goal.returns-else-as_slice-eq0-clause-faults
+returns-else-as_slice-eq0-clause-faults g c =
+    debt_rounds c.args.registry.now c.play.new.registry c.pass_rounds.new.registry c.args.room.now c.play.new.room c.play.new.room _ _ c.in_ok-play.ensures.faults c.pass_rounds.ensures.passed refl refl

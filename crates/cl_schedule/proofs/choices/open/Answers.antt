@@ -2,6 +2,7 @@ use Rattle.std.proofs.Common.{◌≡◌, ◌∙◌, ℕ, None, ap, length, refl,
 use Rattle.cl_config.specs.Views.{Scripted}
 use Rattle.cl_registry.specs.Tables.{Shown, steps}
 use Rattle.cl_schedule.specs.declared.choices.Room.{Room}
+use Rattle.cl_schedule.proofs.Owing.{debt_first, seats_first}
 use Rattle.cl_schedule.proofs.Playing.{played_none}
 use Rattle.cl_schedule.proofs.Rooming.{room_first}
 use Rattle.cl_schedule.proofs.Rounds.{none_goes_on}
@@ -22,3 +23,13 @@ returns-in-Ok-clause-begun g c = played_none g.T.Told.told c.in-Ok.registry c.pa
 
 pub returns-in-Ok-clause-over : goal.returns-in-Ok-clause-over
 returns-in-Ok-clause-over g c = none_goes_on c.in-Ok.registry c.pass_rounds.new.registry c.pass_rounds.ensures.passed
+
+pub returns-in-Ok-clause-seats : goal.returns-in-Ok-clause-seats
+returns-in-Ok-clause-seats g c =
+    let done : Room g.row.T.Denot = record { tasks = c.in_ok-room.room.tasks; calls = c.in_ok-room.room.calls; waiting = c.gather.new.waiting; next = c.in_ok-room-2.field-0 } in
+    seats_first c.pass_rounds.new.registry done _ c.in_ok-room.ensures.calls
+
+pub returns-in-Ok-clause-none_owed : goal.returns-in-Ok-clause-none_owed
+returns-in-Ok-clause-none_owed g c =
+    let done : Room g.row.T.Denot = record { tasks = c.in_ok-room.room.tasks; calls = c.in_ok-room.room.calls; waiting = c.gather.new.waiting; next = c.in_ok-room-2.field-0 } in
+    debt_first c.in_ok-held.held.value c.in_ok-asked.asked.value c.in-Ok.registry c.pass_rounds.new.registry done _ _ c.in-Ok.ensures.empty c.pass_rounds.ensures.passed c.in_ok-room.ensures.tasks c.in_ok-room.ensures.calls

@@ -4,7 +4,8 @@ use Rattle.cl_config.specs.Views.{Scripted}
 use Rattle.cl_schedule.specs.declared.seats.Seat.{Seat}
 use Rattle.cl_schedule.specs.Rooms.{left_at}
 use Rattle.cl_schedule.specs.Seats.{HasAdvanced, HasPosted, IsSeatedAt}
-use Rattle.cl_schedule.proofs.Rooming.{chosen_advanced, chosen_posted, first_advanced, first_place, if_some, match_none, match_some, room_advanced, room_posted, waits_at}
+use Rattle.cl_schedule.proofs.Rooming.{chosen_advanced, chosen_posted, first_advanced, first_place, if_some, match_none, match_some, room_advanced, room_posted, waits_at, same_turned}
+use Rattle.cl_schedule.proofs.Owing.{debt_advanced, debt_posted, seats_advanced, seats_posted}
 use Rattle.cl_schedule.proofs.Waiting.{waiting_is}
 use Rattle.cl_schedule.proofs.choices.play.Goals as goal
 
@@ -67,6 +68,27 @@ returns-in-Some-clause-less g c = λ zero_is some.
     (if_some c.in_ok-seat.field-0 c.in-Some.seat L c.in-Some.is c.in_ok-seat.ensures.less)
     c.put.ensures.tasks c.put.ensures.calls c.put.ensures.waiting c.put.ensures.next)
 
+pub returns-in-Some-clause-seats : goal.returns-in-Some-clause-seats
+returns-in-Some-clause-seats g c =
+    let q = taken c.as_slice-waiting.result.now c.args.choice in
+    let P = HasPosted g.T.Told.told c.args.registry.now c.turn_of.new.registry q in
+    let Q : Seat g.row.T.Denot → Type 0 = λ s. HasAdvanced g.T.Told.told c.args.registry.now c.turn_of.new.registry q in
+    let S : Seat g.row.T.Denot → Type 0 = λ s. IsSeatedAt {A = g.row.T.Denot} g.T.Told.told c.turn_of.new.registry s.task s.call q in
+    seats_advanced g.T.Told.told c.args.registry.now c.turn_of.new.registry c.args.room.now c.turn_of.new.room c.put.new.self q c.in-Some.seat.task c.in-Some.seat.call c.requires.seats c.in_ok-seat.ensures.taken
+    (match_some c.in_ok-seat.field-0 c.in-Some.seat P Q c.in-Some.is c.in_ok-seat.ensures.did)
+    (if_some c.in_ok-seat.field-0 c.in-Some.seat S c.in-Some.is c.in_ok-seat.ensures.seated)
+    c.put.ensures.tasks c.put.ensures.calls
+
+pub returns-in-Some-clause-faults : goal.returns-in-Some-clause-faults
+returns-in-Some-clause-faults g c =
+    let ws = c.args.room.now.waiting.items in
+    let q = taken c.as_slice-waiting.result.now c.args.choice in
+    let at = waits_at ws c.as_slice-waiting.result.now c.args.choice c.as_slice-waiting.ensures.value c.if-len-eq0.false in
+    let below = (waiting_is g.T.Told.told c.args.registry.now ws c.args.room.now.next (c.args.choice % length ws) q c.requires.kept c.requires.room.gathered at).2 in
+    debt_advanced c.args.registry.now c.turn_of.new.registry c.args.room.now c.turn_of.new.room c.put.new.self c.in_ok-seat.field-0 c.in-Some.seat q _ _ c.in-Some.is c.in_ok-seat.ensures.taken
+    (subst (λ (n : ℕ). q < n) (sym c.requires.room.tasks_whole) below) (subst (λ (n : ℕ). q < n) (sym c.requires.room.calls_whole) below)
+    c.in_ok-seat.ensures.faults c.put.ensures.tasks c.put.ensures.calls
+
 -- ---- it was answered
 
 pub returns-in-None-clause-chosen : goal.returns-in-None-clause-chosen
@@ -91,3 +113,19 @@ returns-in-None-clause-room g c =
     room_posted g.T.Told.told c.args.registry.now c.turn_of.new.registry c.args.room.now c.turn_of.new.room
     (record { tasks = c.turn_of.new.room.tasks; calls = c.turn_of.new.room.calls; waiting = c.remove.new.self; next = c.turn_of.new.room.next }) q (c.args.choice % length given) c.requires.kept c.requires.room c.in_ok-seat.ensures.taken
     (match_none c.in_ok-seat.field-0 P Q c.in-None.is c.in_ok-seat.ensures.did) place refl refl c.remove.ensures.items refl
+
+pub returns-in-None-clause-seats : goal.returns-in-None-clause-seats
+returns-in-None-clause-seats g c =
+    let q = taken c.as_slice-waiting.result.now c.args.choice in
+    let P = HasPosted g.T.Told.told c.args.registry.now c.turn_of.new.registry q in
+    let Q : Seat g.row.T.Denot → Type 0 = λ s. HasAdvanced g.T.Told.told c.args.registry.now c.turn_of.new.registry q in
+    seats_posted g.T.Told.told c.args.registry.now c.turn_of.new.registry c.args.room.now c.turn_of.new.room
+    (record { tasks = c.turn_of.new.room.tasks; calls = c.turn_of.new.room.calls; waiting = c.remove.new.self; next = c.turn_of.new.room.next }) q c.requires.seats c.in_ok-seat.ensures.taken
+    (match_none c.in_ok-seat.field-0 P Q c.in-None.is c.in_ok-seat.ensures.did) refl refl
+
+pub returns-in-None-clause-faults : goal.returns-in-None-clause-faults
+returns-in-None-clause-faults g c =
+    let q = taken c.as_slice-waiting.result.now c.args.choice in
+    debt_posted c.args.registry.now c.turn_of.new.registry c.args.room.now c.turn_of.new.room
+    (record { tasks = c.turn_of.new.room.tasks; calls = c.turn_of.new.room.calls; waiting = c.remove.new.self; next = c.turn_of.new.room.next }) c.in_ok-seat.field-0 q _ _ c.in-None.is c.in_ok-seat.ensures.taken
+    c.in_ok-seat.ensures.faults refl refl

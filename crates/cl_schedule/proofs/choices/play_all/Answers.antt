@@ -1,8 +1,20 @@
-use Rattle.std.proofs.Common.{◌∙◌, arith, subst, sym, take}
+use Rattle.std.proofs.Common.{◌∙◌, arith, subst, sym, take, ◌++◌, ◌∷◌, [], ℕ, List, refl}
 use Rattle.std.specs.Prelude.{slice_index}
 use Rattle.cl_schedule.specs.Rooms.{PlayedTo}
+use Rattle.cl_schedule.proofs.Owing.{count_none, count_then}
 use Rattle.cl_schedule.proofs.Playing.{past_on, played_on, take_more}
 use Rattle.cl_schedule.proofs.choices.play_all.Goals as goal
+
+pub loop-choice-init : goal.loop-choice-init
+loop-choice-init g c = record {
+  same = record { config = refl; script = refl };
+  kept = c.requires.kept;
+  room = c.requires.room;
+  over = c.requires.over;
+  seats = c.requires.seats;
+  faults = count_none _ _;
+  played = c.requires.begun;
+}
 
 pub loop-choice-preserved : goal.loop-choice-preserved
 loop-choice-preserved g c =
@@ -16,6 +28,8 @@ loop-choice-preserved g c =
       kept = e.kept;
       room = e.room;
       over = e.over;
+      seats = e.seats;
+      faults = count_then _ _ _ _ _ _ inv.faults e.faults;
       played =
           subst (PlayedTo told c.choose.new.registry) (sym more)
           (played_on told c.loop-choice.registry c.choose.new.registry (take i c.args.schedule.now) (slice_index c.args.schedule.now i) e.same inv.played e.played);
@@ -30,5 +44,7 @@ loop-alloc-preserved g c =
       kept = e.kept;
       room = e.room;
       over = e.over;
+      seats = e.seats;
+      faults = count_then _ _ _ _ _ _ inv.faults e.faults;
       played = past_on g.T.Told.told c.loop-alloc.registry c.choose-in-loop-alloc.new.registry c.args.schedule.now e.same inv.played e.played;
     }

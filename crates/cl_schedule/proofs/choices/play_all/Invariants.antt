@@ -1,6 +1,7 @@
 use Rattle.std.proofs.Common.{take}
 use Rattle.cl_registry.specs.Tables.{IsKept, MayGoOn}
-use Rattle.cl_schedule.specs.Rooms.{IsRoom, PlayedPast, PlayedTo, SameScript, room_left}
+use Rattle.cl_schedule.specs.Counting.{CountGrows, debt}
+use Rattle.cl_schedule.specs.Rooms.{IsRoom, OpenSeats, PlayedPast, PlayedTo, SameScript, room_left}
 use Rattle.cl_schedule.proofs.choices.play_all.Given as goal
 
 abbrev pub invariant-loop-choice : goal.invariant-loop-choice
@@ -9,6 +10,8 @@ invariant-loop-choice g l = record {
   kept : IsKept g.T.Told.told l.registry;
   room : IsRoom g.T.Told.told l.registry l.room;
   over : MayGoOn l.registry → ⊥;
+  seats : OpenSeats l.registry l.room;
+  faults : CountGrows (debt l.fn.registry l.fn.room) (debt l.registry l.room) (g.S.Source.refused l.fn.source) (g.S.Source.refused l.source);
   played : PlayedTo g.T.Told.told l.registry (take l.choice-index l.fn.schedule);
 }
 
@@ -18,6 +21,8 @@ invariant-loop-alloc g l = record {
   kept : IsKept g.T.Told.told l.registry;
   room : IsRoom g.T.Told.told l.registry l.room;
   over : MayGoOn l.registry → ⊥;
+  seats : OpenSeats l.registry l.room;
+  faults : CountGrows (debt l.fn.registry l.fn.room) (debt l.registry l.room) (g.S.Source.refused l.fn.source) (g.S.Source.refused l.source);
   played : PlayedPast g.T.Told.told l.registry l.fn.schedule;
 }
 

@@ -7,6 +7,7 @@ use Rattle.cl_schedule.proofs.Playing.{played_as}
 use Rattle.cl_schedule.proofs.Serving.{report_tells}
 use Rattle.cl_schedule.proofs.Waiting.{none_left}
 use Rattle.cl_schedule.proofs.choices.simulate.Goals as goal
+use Rattle.cl_schedule.proofs.Owing.{counts_faults}
 
 pub unreachable-requires : goal.unreachable-requires
 unreachable-requires g c =
@@ -28,3 +29,9 @@ returns-clause-simulated g c =
           subst (λ (y : Shown). PlayedAs g.T.Told.told y c.args.schedule.now) (report_tells x c.in-Ok.report c.args.config.value whole config)
           (played_as g.T.Told.told x c.args.schedule.now e.played);
     }
+
+pub returns-clause-source_faults : goal.returns-clause-source_faults
+returns-clause-source_faults g c =
+    let e = c.in_default.ensures in
+    counts_faults g.T.Told.told c.in_ok-registry.registry c.play_all-played.new.registry c.in_ok-registry.room c.play_all-played.new.room c.in-Ok.report _ _ c.in_ok-registry.ensures.none_owed e.faults
+    e.kept e.room.gathered e.none e.over e.seats c.in-Ok.ensures.whole

@@ -4,7 +4,8 @@ use Rattle.cl_tasks.specs.declared.turn.Turn.{Turn}
 use Rattle.cl_tasks.specs.declared.turn.Turn.TheVariants as turn
 use Rattle.cl_schedule.specs.Replies.{IsCall}
 use Rattle.cl_schedule.specs.Seats.{IsSeatedAt}
-use Rattle.cl_schedule.proofs.Seated.{has_advanced, has_posted, post_refused, seated_again, seated_backed}
+use Rattle.cl_schedule.proofs.Seated.{has_advanced, has_posted, post_refused, seated_again, seated_backed, seated_expects}
+use Rattle.cl_schedule.proofs.Owing.{count_called, count_posted}
 use Rattle.cl_schedule.proofs.seats.advance.Goals as goal
 
 -- a turn that is no post asks for a call
@@ -26,6 +27,10 @@ returns-in-Ok-clause-did g c =
     let at = subst (λ (u : Turn g.row.T.Denot). IsSeatedAt g.T.Told.told c.args.registry.now c.args.seat.task u c.args.q) c.in-Post.is c.requires.seated in
     has_posted g.T.Told.told c.args.registry.now c.post.new.self c.args.seat.task c.in-Post.finding c.args.q c.requires.kept at c.in-Ok.ensures.posted
 
+pub returns-in-Ok-clause-faults : goal.returns-in-Ok-clause-faults
+returns-in-Ok-clause-faults g c =
+    count_posted c.args.registry.now c.post.new.self c.args.seat.call c.in-Post.finding c.args.q _ c.in-Post.is c.requires.seated.1.unanswered c.in-Ok.ensures.posted
+
 pub returns-in-Post-clause-stray : goal.returns-in-Post-clause-stray
 returns-in-Post-clause-stray g c =
     let at = subst (λ (u : Turn g.row.T.Denot). IsSeatedAt g.T.Told.told c.args.registry.now c.args.seat.task u c.args.q) c.in-Post.is c.requires.seated in
@@ -44,6 +49,7 @@ returns g c =
       did = has_advanced told c.args.registry.now c.reply_to-reply.new.registry c.args.seat.task c.args.seat.call c.args.q c.reply_to-reply.result _ _ _ _ c.requires.kept c.requires.seated says;
       seated = seated_again told c.args.registry.now c.reply_to-reply.new.registry c.args.seat.task c.read_on.result.task c.args.seat.call c.read_on.result.call c.args.q c.reply_to-reply.result _ _ _ _ c.requires.kept c.requires.seated says c.read_on.ensures.seated;
       less = c.read_on.ensures.less;
+      faults = count_called told c.args.registry.now c.reply_to-reply.new.registry c.args.seat.call c.read_on.result.call c.reply_to-reply.result _ _ _ _ _ says c.read_on.ensures.faults;
       stray = tt;
       kept = says.kept;
     }

@@ -1,9 +1,13 @@
-use Rattle.std.proofs.Common.{arith}
+use Rattle.std.proofs.Common.{arith, refl, sym}
 use Rattle.cl_tasks.specs.declared.turn.Turn.{Turn}
 use Rattle.cl_tasks.specs.declared.turn.Turn.TheVariants as turn
+use Rattle.cl_schedule.proofs.Owing.{count_is, count_none, count_told, owed_told}
 use Rattle.cl_schedule.proofs.Seated.{expects_read, ready_on, seated_on}
 use Rattle.cl_schedule.proofs.Steps.{TurnSays}
 use Rattle.cl_schedule.proofs.seats.read_on.Goals as goal
+
+pub loop-loader-init : goal.loop-loader-init
+loop-loader-init g c = record { expects = c.requires.expects; ready = λ x r ready. ready; less = omega arith; faults = count_none _ _ }
 
 pub loop-loader-preserved : goal.loop-loader-preserved
 loop-loader-preserved g c =
@@ -18,6 +22,7 @@ loop-loader-preserved g c =
       expects = expects_read c.turn.new.self u c.read-reply.result e.asks c.read-reply.ensures.replied;
       ready = λ x r ready. ready_on g.T.Told.told x r c.loop-loader.task c.turn.new.self c.loop-loader.reply c.read-reply.result c.in-Read.loader c.in-Read.name (inv.ready x r ready) says less (c.read-reply.ensures.replied x);
       less = omega arith;
+      faults = count_told _ _ _ _ _ _ inv.faults (sym (owed_told c.loop-loader.task c.loop-loader.reply u inv.expects says.refused)) c.read-reply.ensures.faults;
     }
 
 pub returns-in_default : goal.returns-in_default
@@ -31,4 +36,5 @@ returns-in_default g c =
     record {
       seated = λ x q r ready. seated_on g.T.Told.told x q r c.loop-loader.task c.turn.new.self c.loop-loader.reply c.turn.result (inv.ready x r ready) says less;
       less = omega arith;
+      faults = count_is _ _ _ _ _ _ refl (owed_told c.loop-loader.task c.loop-loader.reply c.turn.result inv.expects says.refused) inv.faults;
     }

@@ -2,6 +2,7 @@ use Rattle.std.proofs.Common.{◌≤◌}
 use Rattle.cl_model.specs.declared.request.Request.{Request}
 use Rattle.cl_registry.specs.Tables.{Shown}
 use Rattle.cl_tasks.specs.Turns.{Expects}
+use Rattle.cl_schedule.specs.Counting.{CountGrows, told_faults}
 use Rattle.cl_schedule.specs.Seats.{IsReady}
 use Rattle.cl_schedule.proofs.seats.read_on.Given as goal
 
@@ -10,6 +11,7 @@ invariant-loop-loader g l = record {
   expects : Expects l.task l.reply;
   ready : (x : Shown) (r : Request) → IsReady g.T.Told.told x l.fn.task l.fn.reply r → IsReady g.T.Told.told x l.task l.reply r;
   less : l.task.left ≤ l.fn.task.left;
+  faults : CountGrows (told_faults l.fn.reply) (told_faults l.reply) (g.S.Source.refused l.fn.source) (g.S.Source.refused l.source);
 }
 
 abbrev pub decreases-loop-loader : goal.decreases-loop-loader

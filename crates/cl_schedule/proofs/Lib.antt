@@ -19,3 +19,5 @@ pub mod Telling
 pub mod Backing
 pub mod Seated
 pub mod Rooming
+pub mod Nearing
+pub mod Prompt

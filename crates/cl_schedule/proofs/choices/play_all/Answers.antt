@@ -1,7 +1,6 @@
 use Rattle.std.proofs.Common.{◌∙◌, ◌++◌, ◌∷◌, [], ℕ, List, arith, subst, sym, take}
 use Rattle.std.specs.Prelude.{slice_index}
-use Rattle.cl_schedule.specs.Rooms.{PlayedTo}
-use Rattle.cl_schedule.proofs.Playing.{past_on, played_on, take_more}
+use Rattle.cl_schedule.proofs.Playing.{RoomPlayed, past_none, past_on, played_on, room_none, room_past, take_more}
 use Rattle.cl_schedule.proofs.choices.play_all.Goals as goal
 
 pub loop-choice-preserved : goal.loop-choice-preserved
@@ -17,8 +16,8 @@ loop-choice-preserved g c =
       room = e.room;
       over = e.over;
       played =
-          subst (PlayedTo told c.choose.new.registry) (sym more)
-          (played_on told c.loop-choice.registry c.choose.new.registry (take i c.args.schedule.now) (slice_index c.args.schedule.now i) e.same inv.played e.played);
+          subst (RoomPlayed told c.choose.new.registry c.choose.new.room) (sym more)
+          (played_on told c.loop-choice.registry c.choose.new.registry c.loop-choice.room c.choose.new.room (take i c.args.schedule.now) (slice_index c.args.schedule.now i) e.same inv.played e.played e.known);
     }
 
 pub loop-alloc-preserved : goal.loop-alloc-preserved
@@ -30,5 +29,5 @@ loop-alloc-preserved g c =
       kept = e.kept;
       room = e.room;
       over = e.over;
-      played = past_on g.T.Told.told c.loop-alloc.registry c.choose-in-loop-alloc.new.registry c.args.schedule.now e.same inv.played e.played;
+      played = past_on g.T.Told.told c.loop-alloc.registry c.choose-in-loop-alloc.new.registry c.loop-alloc.room c.choose-in-loop-alloc.new.room c.args.schedule.now e.same inv.played e.played e.known;
     }

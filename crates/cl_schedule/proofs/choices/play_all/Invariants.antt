@@ -1,6 +1,7 @@
 use Rattle.std.proofs.Common.{◌≡◌, take}
 use Rattle.cl_registry.specs.Tables.{IsKept, MayGoOn}
-use Rattle.cl_schedule.specs.Rooms.{IsRoom, PlayedPast, PlayedTo, SameScript, room_left}
+use Rattle.cl_schedule.specs.Rooms.{IsRoom, SameScript, room_left}
+use Rattle.cl_schedule.proofs.Playing.{RoomPast, RoomPlayed}
 use Rattle.cl_schedule.proofs.choices.play_all.Given as goal
 
 abbrev pub invariant-loop-choice : goal.invariant-loop-choice
@@ -9,7 +10,7 @@ invariant-loop-choice g l = record {
   kept : IsKept g.T.Told.told l.registry;
   room : IsRoom g.T.Told.told l.registry l.room;
   over : MayGoOn l.registry → ⊥;
-  played : PlayedTo g.T.Told.told l.registry (take l.choice-index l.fn.schedule);
+  played : RoomPlayed g.T.Told.told l.registry l.room (take l.choice-index l.fn.schedule);
 }
 
 abbrev pub invariant-loop-alloc : goal.invariant-loop-alloc
@@ -18,7 +19,7 @@ invariant-loop-alloc g l = record {
   kept : IsKept g.T.Told.told l.registry;
   room : IsRoom g.T.Told.told l.registry l.room;
   over : MayGoOn l.registry → ⊥;
-  played : PlayedPast g.T.Told.told l.registry l.fn.schedule;
+  played : RoomPast g.T.Told.told l.registry l.room l.fn.schedule;
 }
 
 abbrev pub decreases-loop-alloc : goal.decreases-loop-alloc

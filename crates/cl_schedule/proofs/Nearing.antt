@@ -36,13 +36,13 @@ use Rattle.cl_schedule.proofs.Stations.{no_post_or, no_posts, own_call, own_same
 
 -- ---- from a reply to the call
 
-no_look : {A : Type 0} (r : Request) (c : Class) (l : ℕ) (n : List ℕ) → GoesOnWith {A = A} r c (turn.Look l n) → ⊥
-no_look (requests.Load loader name) c l n goes = goes
-no_look (requests.Resolve loader name i) c l n goes = goes
-no_look (requests.Link loader name) c l n goes = goes
+no_look : (A : Type 0) (r : Request) (c : Class) (l : ℕ) (n : List ℕ) → GoesOnWith {A = A} r c (turn.Look l n) → ⊥
+no_look A (requests.Load loader name) c l n goes = goes
+no_look A (requests.Resolve loader name i) c l n goes = goes
+no_look A (requests.Link loader name) c l n goes = goes
 
 goes_few : {A : Type 0} (r : Request) (c : Class) (u : Turn A) → GoesOnWith r c u → calls_from u ≤ 1
-goes_few {A = A} r c (turn.Look l n) goes = absurd (no_look {A = A} r c l n goes)
+goes_few {A = A} r c (turn.Look l n) goes = absurd (no_look A r c l n goes)
 goes_few r c (turn.Post f) goes = omega arith
 goes_few r c other goes = omega arith
 

@@ -1,6 +1,7 @@
 use Rattle.std.proofs.Common.{◌∙◌, ap, length, refl, sym}
 use Rattle.cl_config.specs.Views.{Scripted}
 use Rattle.cl_schedule.specs.declared.choices.Room.{Room}
+use Rattle.cl_schedule.proofs.Prompt.{keeps_rounds}
 use Rattle.cl_schedule.proofs.Rooming.{falls, falls_gathered, none_waits, plays_in, room_gathered, room_rounds, some_wait}
 use Rattle.cl_schedule.proofs.Rounds.{none_goes_on}
 use Rattle.cl_schedule.proofs.choices.choose.Goals as goal
@@ -30,6 +31,11 @@ returns-in_ok-room-clause-less g c =
     falls_gathered g.T.Told.told c.pass_rounds.new.registry c.args.choice c.args.room.now c.play.new.room done c.args.script.now c.in_ok-room.field-0 (returns-in_ok-room-clause-room g c) e.less (none_waits c.play.new.room.waiting.items c.as_slice.result.now c.as_slice.ensures.value c.if-as_slice-eq0.true) c.in_ok-room.ensures.gathered refl refl
     (ap (λ (s : Scripted). length s.requests) (sym (e.same.script ∙ c.requires.script)) ∙ sym e.room.tasks_whole)
 
+pub returns-in_ok-room-clause-known : goal.returns-in_ok-room-clause-known
+returns-in_ok-room-clause-known g c =
+    let done : Room g.row.T.Denot = record { tasks = c.play.new.room.tasks; calls = c.play.new.room.calls; waiting = c.gather.new.waiting; next = c.in_ok-room.field-0 } in
+    keeps_rounds c.args.registry.now c.play.new.registry c.pass_rounds.new.registry c.args.room.now c.play.new.room done c.args.choice c.in_ok-play.ensures.known c.pass_rounds.ensures.passed refl refl
+
 -- ---- somebody waits
 
 pub returns-else-as_slice-eq0-clause-played : goal.returns-else-as_slice-eq0-clause-played
@@ -48,3 +54,7 @@ returns-else-as_slice-eq0-clause-over g c = none_goes_on c.play.new.registry c.p
 pub returns-else-as_slice-eq0-clause-less : goal.returns-else-as_slice-eq0-clause-less
 returns-else-as_slice-eq0-clause-less g c =
     falls g.T.Told.told c.pass_rounds.new.registry c.args.choice c.args.room.now c.play.new.room (returns-else-as_slice-eq0-clause-room g c) c.in_ok-play.ensures.less
+
+pub returns-else-as_slice-eq0-clause-known : goal.returns-else-as_slice-eq0-clause-known
+returns-else-as_slice-eq0-clause-known g c =
+    keeps_rounds c.args.registry.now c.play.new.registry c.pass_rounds.new.registry c.args.room.now c.play.new.room c.play.new.room c.args.choice c.in_ok-play.ensures.known c.pass_rounds.ensures.passed refl refl

@@ -1,7 +1,9 @@
-use Rattle.std.proofs.Common.{◌≤◌}
+use Rattle.std.proofs.Common.{◌≡◌, ◌≤◌, Some}
 use Rattle.cl_model.specs.declared.request.Request.{Request}
-use Rattle.cl_registry.specs.Tables.{Shown}
+use Rattle.cl_model.specs.States.{Verdict}
+use Rattle.cl_registry.specs.Tables.{Shown, state_of}
 use Rattle.cl_tasks.specs.Turns.{Expects}
+use Rattle.cl_schedule.specs.Nearing.{AtHand, calls_after}
 use Rattle.cl_schedule.specs.Seats.{IsReady}
 use Rattle.cl_schedule.proofs.seats.read_on.Given as goal
 
@@ -10,6 +12,8 @@ invariant-loop-loader g l = record {
   expects : Expects l.task l.reply;
   ready : (x : Shown) (r : Request) → IsReady g.T.Told.told x l.fn.task l.fn.reply r → IsReady g.T.Told.told x l.task l.reply r;
   less : l.task.left ≤ l.fn.task.left;
+  known : (x : Shown) (r : Request) (v : Verdict) → AtHand (state_of x) r v l.fn.task l.fn.reply → l.fn.task.request ≡ Some r
+      → AtHand (state_of x) r v l.task l.reply × (l.task.request ≡ Some r) × (calls_after l.reply ≡ calls_after l.fn.reply);
 }
 
 abbrev pub decreases-loop-loader : goal.decreases-loop-loader

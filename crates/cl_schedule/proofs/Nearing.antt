@@ -122,7 +122,7 @@ fewer_after s r v c t (turn.LookPrepared d) (reply.Looked row) own fits = absurd
 fewer_after s r v c t (turn.LookPrepared d) other own fits = omega arith
 fewer_after s r v c t other told own fits = absurd own
 
-same_request : (x : Shown) (q : ℕ) (a b : Request) → slice_get x.script.requests q ≡ Some a → slice_get x.script.requests q ≡ Some b → a ≡ b
+pub same_request : (x : Shown) (q : ℕ) (a b : Request) → slice_get x.script.requests q ≡ Some a → slice_get x.script.requests q ≡ Some b → a ≡ b
 same_request x q a b e f = is a b (sym e ∙ f)
   where
     is : (a b : Request) → Some a ≡ Some b → a ≡ b

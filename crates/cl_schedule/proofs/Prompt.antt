@@ -1,5 +1,6 @@
 -- Pieces of a history that are added one by one, and how near its answer each request is behind them (JVMS SE 8, 5.3, 5.4.2, 5.4.3).
 use Rattle.std.proofs.Common.{◌≡◌, ◌⊎◌, inl, inr, ◌∙◌, ◌+◌, ◌<◌, ◌≤◌, ◌%◌, ℕ, zero, suc, Bool, true, false, List, [], ◌∷◌, ◌++◌, length, Option, Some, None, refl, sym, ap, subst, arith, append_assoc}
+use Rattle.std.proofs.lemmas.Bool.Decides.{nat_tests}
 use Rattle.std.specs.Prelude.{if◌then◌else◌, nat_eq, slice_get, slice_set}
 use Rattle.std.proofs.lemmas.List.{append-nil, append_cancel_left}
 use Rattle.cl_config.specs.Loaders.{schedule_of}
@@ -51,8 +52,7 @@ true_false b e k = cc
 -- ---- whom a piece takes
 
 same_nat : (q : ℕ) → nat_eq q q ≡ true
-same_nat zero = refl
-same_nat (suc q) = same_nat q
+same_nat q = grind (arith, nat_tests)
 
 of_this : (q : ℕ) (o : Option ℕ) → o ≡ Some q → is_of q o ≡ true
 of_this q o is = ap (is_of q) is ∙ same_nat q
@@ -62,7 +62,7 @@ this_of q None is = absurd cc
 this_of q (Some p) is = ap (λ (n : ℕ). Some n) (eq_nat p q is)
 
 of_other : (q p : ℕ) (o : Option ℕ) → o ≡ Some p → is_of q o ≡ false → q ≡ p → ⊥
-of_other q p o is no same = true_false (is_of q o) (of_this q o (is ∙ ap (λ (n : ℕ). Some n) (sym same))) no
+of_other q p o is apart same = true_false (is_of q o) (of_this q o (is ∙ ap (λ (n : ℕ). Some n) (sym same))) apart
 
 takings_this : (q : ℕ) (ps : List Piece) (p : Piece) → is_of q p.taken ≡ true → takings q (ps ++ p ∷ []) ≡ suc (takings q ps)
 takings_this q [] p is = ap (λ (b : Bool). if b then suc 0 else 0) is
@@ -108,7 +108,7 @@ untaken_before : (q : ℕ) (ps : List Piece) (p : Piece) → first_taken q (ps +
 untaken_before q ps p none = elim (option_cases (first_taken q ps)) [
   | inl before ↦ (elim (bool_cases (is_of q p.taken)) [
     | inl is ↦ absurd (some_none (first_taken q (ps ++ p ∷ [])) p.state (first_this q ps p before is) none)
-    | inr no ↦ (before, no)
+    | inr apart ↦ (before, apart)
   ])
   | inr before ↦ absurd (some_none (first_taken q (ps ++ p ∷ [])) before.0 (first_kept q ps p before.0 before.1) none)
 ]
@@ -196,16 +196,16 @@ are_near {A = A} old new was now ps p goes near state opens tasks calls this = r
   near = λ q r v s n asked is_open first has three. elim (bool_cases (is_of q p.taken)) [
     | inl is ↦ this q r v n is (ap (λ (k : Scripted). slice_get k.requests q) (sym goes.script) ∙ asked) is_open (has_before q r v s first has)
         (place_before q r v s n (ap (λ (k : Scripted). slice_get k.requests q) (sym goes.script) ∙ asked) (opens q is_open) first has (subst (λ (m : ℕ). 3 ≤ m + n) (takings_this q ps p is) three))
-    | inr no ↦ moved q r v n no
+    | inr apart ↦ moved q r v n apart
         (near_later old new was q r v n goes
-        (near.near q r v s n (ap (λ (k : Scripted). slice_get k.requests q) (sym goes.script) ∙ asked) (opens q is_open) (sym (first_other q ps p no) ∙ first) has (subst (λ (m : ℕ). 3 ≤ m + n) (takings_other q ps p no) three)))
+        (near.near q r v s n (ap (λ (k : Scripted). slice_get k.requests q) (sym goes.script) ∙ asked) (opens q is_open) (sym (first_other q ps p apart) ∙ first) has (subst (λ (m : ℕ). 3 ≤ m + n) (takings_other q ps p apart) three)))
   ];
 }
   where
     state_is : (q : ℕ) (s : State) → first_taken q ps ≡ None → first_taken q (ps ++ p ∷ []) ≡ Some s → s ≡ state_of old
     state_is q s none first = elim (bool_cases (is_of q p.taken)) [
       | inl is ↦ some_is s p.state (sym first ∙ first_this q ps p none is) ∙ state
-      | inr no ↦ absurd (some_none (first_taken q (ps ++ p ∷ [])) s first (first_other q ps p no ∙ none))
+      | inr apart ↦ absurd (some_none (first_taken q (ps ++ p ∷ [])) s first (first_other q ps p apart ∙ none))
     ]
 
     has_before : (q : ℕ) (r : Request) (v : Verdict) (s : State) → first_taken q (ps ++ p ∷ []) ≡ Some s → Has s (request_of r) v → Has (state_of old) (request_of r) v
@@ -221,9 +221,9 @@ are_near {A = A} old new was now ps p goes near state opens tasks calls this = r
     ]
 
     moved : (q : ℕ) (r : Request) (v : Verdict) (n : ℕ) → is_of q p.taken ≡ false → IsNearAt (state_of new) was q r v n → IsNearAt (state_of new) now q r v n
-    moved q r v n no at =
-        subst (λ (k : Option (Option Tasked)). IsNearBy (state_of new) r v n k (slice_get now.calls.items q)) (sym (tasks q no))
-        (subst (λ (k : Option (Option (Turn A))). IsNearBy (state_of new) r v n (slice_get was.tasks.items q) k) (sym (calls q no)) at)
+    moved q r v n apart at =
+        subst (λ (k : Option (Option Tasked)). IsNearBy (state_of new) r v n k (slice_get now.calls.items q)) (sym (tasks q apart))
+        (subst (λ (k : Option (Option (Turn A))). IsNearBy (state_of new) r v n (slice_get was.tasks.items q) k) (sym (calls q apart)) at)
 
 -- ---- what was taken before says of this choice
 
@@ -317,7 +317,7 @@ pub keeps_none : {A : Type 0} (x : Shown) (room : Room A) (choice : ℕ) → Has
 keeps_none x room choice h none = λ ps near.
     let nobody = taken_none x room.waiting.items room.next choice h none in (
       λ q r s v taken twice of first has. absurd (some_none (taken_by (schedule_of x.script) (state_of x) choice) q taken nobody),
-      λ made rounds. are_near x x room room ps (piece (schedule_of x.script) (state_of x) choice made rounds) (goes_on_none x) near refl (λ q is. is) (λ q no. refl) (λ q no. refl)
+      λ made rounds. are_near x x room room ps (piece (schedule_of x.script) (state_of x) choice made rounds) (goes_on_none x) near refl (λ q is. is) (λ q apart. refl) (λ q apart. refl)
           (λ q r v n is asked is_open has at. absurd (some_none (taken_by (schedule_of x.script) (state_of x) choice) q (this_of q (taken_by (schedule_of x.script) (state_of x) choice) is) nobody)),
     )
 
@@ -351,8 +351,8 @@ pub keeps_advanced : {A : Type 0} (told : Option Content) (old new : Shown) (roo
 keeps_advanced {A = A} told old new room mid done choice q t u kept h at is_open in_tasks in_calls taken advanced nearer tasks calls = λ ps near. (
   goes_promptly told old new room choice q advanced.request t u ps kept near is_open whom advanced.asked nearer,
   λ made rounds. are_near old new room done ps (piece (schedule_of old.script) (state_of old) choice made rounds) (goes_on_did old new (λ e. IsCallStep e × NextIn told old advanced.request e) advanced.did) near refl (open_did old new (λ e. IsCallStep e × NextIn told old advanced.request e) advanced.did)
-      (λ p no. ap (λ (ts : List (Option Tasked)). slice_get ts p) tasks ∙ other_set mid.tasks.items q p (Some t) (of_other p q taken_by_choice whom no) ∙ other_task room mid q p taken (of_other p q taken_by_choice whom no))
-      (λ p no. ap (λ (cs : List (Option (Turn A))). slice_get cs p) calls ∙ other_set mid.calls.items q p (Some u) (of_other p q taken_by_choice whom no) ∙ other_call room mid q p taken (of_other p q taken_by_choice whom no))
+      (λ p apart. ap (λ (ts : List (Option Tasked)). slice_get ts p) tasks ∙ other_set mid.tasks.items q p (Some t) (of_other p q taken_by_choice whom apart) ∙ other_task room mid q p taken (of_other p q taken_by_choice whom apart))
+      (λ p apart. ap (λ (cs : List (Option (Turn A))). slice_get cs p) calls ∙ other_set mid.calls.items q p (Some u) (of_other p q taken_by_choice whom apart) ∙ other_call room mid q p taken (of_other p q taken_by_choice whom apart))
       (λ p r v n is asked open_is has near_at. this p r v n (some_is p q (sym (this_of p taken_by_choice is) ∙ whom)) asked has near_at),
 )
   where
@@ -380,8 +380,8 @@ pub keeps_posted : {A : Type 0} (told : Option Content) (old new : Shown) (room 
 keeps_posted {A = A} told old new room mid done choice q kept h at taken posted known tasks calls = λ ps near. (
   posts_promptly told old new room choice q posted.request ps kept near posted.unanswered whom posted.asked known,
   λ made rounds. are_near old new room done ps (piece (schedule_of old.script) (state_of old) choice made rounds) goes near refl (open_posted old new q posted.answer posted.unanswered posted.posted)
-      (λ p no. ap (λ (ts : List (Option Tasked)). slice_get ts p) tasks ∙ other_task room mid q p taken (of_other p q taken_by_choice whom no))
-      (λ p no. ap (λ (cs : List (Option (Turn A))). slice_get cs p) calls ∙ other_call room mid q p taken (of_other p q taken_by_choice whom no))
+      (λ p apart. ap (λ (ts : List (Option Tasked)). slice_get ts p) tasks ∙ other_task room mid q p taken (of_other p q taken_by_choice whom apart))
+      (λ p apart. ap (λ (cs : List (Option (Turn A))). slice_get cs p) calls ∙ other_call room mid q p taken (of_other p q taken_by_choice whom apart))
       (λ p r v n is asked open_is has near_at. absurd (not_open old new q posted.answer posted.unanswered posted.posted (subst (IsOpen new) (some_is p q (sym (this_of p taken_by_choice is) ∙ whom)) open_is))),
 )
   where

@@ -7,7 +7,7 @@ use Rattle.cl_schedule.specs.Nearing.{ComesNearer, IsNearAt, PostsKnown}
 use Rattle.cl_schedule.specs.Rooms.{left_at}
 use Rattle.cl_schedule.specs.Seats.{HasAdvanced, HasPosted, IsSeatedAt}
 use Rattle.cl_schedule.proofs.Prompt.{keeps_advanced, keeps_none, keeps_posted}
-use Rattle.cl_schedule.proofs.Rooming.{chosen_advanced, chosen_posted, first_advanced, first_place, if_some, match_none, match_some, room_advanced, room_posted, same_turned, waits_at}
+use Rattle.cl_schedule.proofs.Rooming.{chosen_advanced, chosen_posted, first_advanced, first_place, if_some, match_none, match_some, none_waits, room_advanced, room_posted, same_turned, waits_at}
 use Rattle.cl_schedule.proofs.Waiting.{waiting_is}
 use Rattle.cl_schedule.proofs.choices.play.Goals as goal
 
@@ -33,6 +33,12 @@ turn_of-requires-clause-open g c =
     let ws = c.args.room.now.waiting.items in
     let at = waits_at ws c.as_slice-waiting.result.now c.args.choice c.as_slice-waiting.ensures.value c.if-len-eq0.false in
     (waiting_is g.T.Told.told c.args.registry.now ws c.args.room.now.next (c.args.choice % length ws) (taken c.as_slice-waiting.result.now c.args.choice) c.requires.kept c.requires.room.gathered at).0
+
+-- ---- nobody waits
+
+pub returns-then-len-eq0-clause-known : goal.returns-then-len-eq0-clause-known
+returns-then-len-eq0-clause-known g c =
+    keeps_none c.args.registry.now c.args.room.now c.args.choice c.requires.room.gathered (none_waits c.args.room.now.waiting.items c.as_slice-waiting.result.now c.as_slice-waiting.ensures.value c.if-len-eq0.true)
 
 -- ---- it went on
 

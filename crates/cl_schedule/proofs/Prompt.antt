@@ -1,7 +1,7 @@
 -- Pieces of a history that are added one by one, and how near its answer each request is behind them (JVMS SE 8, 5.3, 5.4.2, 5.4.3).
 use Rattle.std.proofs.Common.{◌≡◌, ◌⊎◌, inl, inr, ◌∙◌, ◌+◌, ◌<◌, ◌≤◌, ◌%◌, ℕ, zero, suc, Bool, true, false, List, [], ◌∷◌, ◌++◌, length, Option, Some, None, refl, sym, ap, subst, arith, append_assoc}
 use Rattle.std.proofs.lemmas.Bool.Decides.{nat_tests}
-use Rattle.std.specs.Prelude.{if◌then◌else◌, nat_eq, slice_get, slice_set}
+use Rattle.std.specs.Prelude.{if◌then◌else◌, nat_eq, replicate, slice_get, slice_set}
 use Rattle.std.proofs.lemmas.List.{append-nil, append_cancel_left}
 use Rattle.cl_config.specs.Loaders.{schedule_of}
 use Rattle.cl_config.specs.Views.{Scripted}
@@ -19,7 +19,7 @@ use Rattle.cl_tasks.specs.declared.turn.Turn.{Turn}
 use Rattle.cl_schedule.specs.declared.choices.Room.{Room}
 use Rattle.cl_schedule.specs.Choices.{ArePrompt, Chooses, IsPrompt, Piece, first_taken, is_of, piece, taken_by, takings, waiting}
 use Rattle.cl_schedule.specs.Known.{Has, SaysOrLacks}
-use Rattle.cl_schedule.specs.Nearing.{AreNear, ComesNearer, HasNoSeat, IsNear, IsNearAt, IsNearBy, KeepsNear, PostsKnown, PostsPromptly}
+use Rattle.cl_schedule.specs.Nearing.{AreNear, ComesNearer, HasNoSeat, IsNear, IsNearAt, IsNearBy, KeepsNear, NoneBegun, PostsKnown, PostsPromptly}
 use Rattle.cl_schedule.specs.Replies.{Did}
 use Rattle.cl_schedule.specs.Rooms.{HasTaken}
 use Rattle.cl_schedule.specs.Rounds.{RoundsPassed}
@@ -421,3 +421,14 @@ keeps_rounds old mid new was room done choice keeps passed tasks calls = λ ps n
           ),
       λ made rounds. rounds_near mid new room done (ps ++ piece (schedule_of old.script) (state_of old) choice made rounds ∷ []) passed tasks calls (k.1 made rounds),
     )
+
+-- ---- before the first choice
+
+-- where nothing stands in any place nobody was begun
+pub none_begun : {A : Type 0} (room : Room A) (n : ℕ) → room.tasks.items ≡ replicate n None → NoneBegun room
+none_begun room n is = λ q t u task call. nothing n q t (ap (λ (ts : List (Option Tasked)). slice_get ts q) (sym is) ∙ task)
+  where
+    nothing : (n q : ℕ) (t : Tasked) → slice_get (replicate n None) q ≡ Some (Some t) → ⊥
+    nothing zero q t e = cc
+    nothing (suc n) zero t e = cc
+    nothing (suc n) (suc q) t e = nothing n q t e

@@ -1,7 +1,16 @@
-use Rattle.std.proofs.Common.{◌∙◌, ◌++◌, ◌∷◌, [], ℕ, List, arith, subst, sym, take}
+use Rattle.std.proofs.Common.{◌∙◌, ◌++◌, ◌∷◌, [], ℕ, List, arith, refl, subst, sym, take}
 use Rattle.std.specs.Prelude.{slice_index}
-use Rattle.cl_schedule.proofs.Playing.{RoomPlayed, past_none, past_on, played_on, room_none, room_past, take_more}
+use Rattle.cl_schedule.proofs.Playing.{RoomPlayed, past_on, played_on, room_none, room_past, take_more}
 use Rattle.cl_schedule.proofs.choices.play_all.Goals as goal
+
+pub loop-choice-init : goal.loop-choice-init
+loop-choice-init g c = record {
+  same = record { config = refl; script = refl };
+  kept = c.requires.kept;
+  room = c.requires.room;
+  over = c.requires.over;
+  played = room_none g.T.Told.told c.args.registry.now c.args.room.now c.requires.begun c.requires.fresh;
+}
 
 pub loop-choice-preserved : goal.loop-choice-preserved
 loop-choice-preserved g c =
@@ -31,3 +40,6 @@ loop-alloc-preserved g c =
       over = e.over;
       played = past_on g.T.Told.told c.loop-alloc.registry c.choose-in-loop-alloc.new.registry c.loop-alloc.room c.choose-in-loop-alloc.new.room c.args.schedule.now e.same inv.played e.played e.known;
     }
+
+pub returns-clause-played : goal.returns-clause-played
+returns-clause-played g c = room_past g.T.Told.told c.loop-alloc.registry c.loop-alloc.room c.args.schedule.now c.loop-alloc.invariant.played

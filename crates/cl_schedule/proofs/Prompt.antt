@@ -19,7 +19,7 @@ use Rattle.cl_tasks.specs.declared.turn.Turn.{Turn}
 use Rattle.cl_schedule.specs.declared.choices.Room.{Room}
 use Rattle.cl_schedule.specs.Choices.{ArePrompt, Chooses, IsPrompt, Piece, first_taken, is_of, piece, taken_by, takings, waiting}
 use Rattle.cl_schedule.specs.Known.{Has, SaysOrLacks}
-use Rattle.cl_schedule.specs.Nearing.{AreNear, ComesNearer, HasNoSeat, IsNear, IsNearAt, IsNearBy, KeepsNear, NoneBegun, PostsKnown, PostsPromptly}
+use Rattle.cl_schedule.specs.Nearing.{AreNear, ComesNearer, HasNoSeat, IsNear, IsNearAt, IsNearBy, KeepsNear, PostsKnown, PostsPromptly}
 use Rattle.cl_schedule.specs.Replies.{Did}
 use Rattle.cl_schedule.specs.Rooms.{HasTaken}
 use Rattle.cl_schedule.specs.Rounds.{RoundsPassed}
@@ -424,9 +424,9 @@ keeps_rounds old mid new was room done choice keeps passed tasks calls = λ ps n
 
 -- ---- before the first choice
 
--- where nothing stands in any place nobody was begun
-pub none_begun : {A : Type 0} (room : Room A) (n : ℕ) → room.tasks.items ≡ replicate n None → NoneBegun room
-none_begun room n is = λ q t u task call. nothing n q t (ap (λ (ts : List (Option Tasked)). slice_get ts q) (sym is) ∙ task)
+-- where there are only empty places nothing stands in one
+pub none_stands : (tasks : List (Option Tasked)) (n q : ℕ) (t : Tasked) → tasks ≡ replicate n None → slice_get tasks q ≡ Some (Some t) → ⊥
+none_stands tasks n q t is task = nothing n q t (ap (λ (ts : List (Option Tasked)). slice_get ts q) (sym is) ∙ task)
   where
     nothing : (n q : ℕ) (t : Tasked) → slice_get (replicate n None) q ≡ Some (Some t) → ⊥
     nothing zero q t e = cc

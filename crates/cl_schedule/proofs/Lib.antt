@@ -20,3 +20,5 @@ pub mod Backing
 pub mod Seated
 pub mod Rooming
 pub mod Owing
+pub mod Nearing
+pub mod Prompt

@@ -4,42 +4,40 @@ use Rattle.std.specs.Prelude.{replicate, slice_index}
 use Rattle.std.proofs.lemmas.List.{append-nil}
 use Rattle.cl_model.specs.Content.{Content}
 use Rattle.cl_model.specs.States.{State, start}
-use Rattle.cl_model.specs.Machine.{Setting, Step, state_after}
+use Rattle.cl_model.specs.Machine.{Scheduled, Setting, Step, state_after}
 use Rattle.cl_model.specs.Service.{PassesRounds}
 use Rattle.cl_model.proofs.Service.{state_append}
 use Rattle.cl_registry.specs.Tables.{Shown, state_of, steps}
-use Rattle.cl_schedule.specs.Choices.{Chooses, Plays, PlayedAs}
-use Rattle.cl_schedule.specs.Rooms.{PlayedPast, PlayedTo, PlaysIn, SameScript}
+use Rattle.cl_schedule.specs.Choices.{Chooses, Plays, PlayedAs, ArePrompt, IsPieceOf, IsPlayed, IsPrompt, Piece, piece, steps_in}
+use Rattle.cl_schedule.specs.Rooms.{PlayedPast, PlayedTo, PlaysIn, SameScript, IsPlayedBy}
+use Rattle.cl_config.specs.Loaders.{schedule_of}
+use Rattle.cl_config.specs.Views.{Scripted}
+use Rattle.cl_schedule.specs.declared.choices.Room.{Room}
+use Rattle.cl_schedule.specs.Nearing.{AreNear, KeepsNear, NoneBegun}
 use Rattle.cl_schedule.specs.Rounds.{RoundsPassed}
 use Rattle.cl_schedule.specs.Serving.{machine}
+use Rattle.cl_schedule.proofs.Prompt.{is_prompt, prompt_none, prompt_push}
 use Rattle.cl_schedule.proofs.Serving.{bare}
 use Rattle.cl_schedule.proofs.States.{same_machine}
 
--- a choice more, and the rounds behind it
-pub plays_push : (g : Setting) (s : State) (cs : List ℕ) (c : ℕ) (es one rounds : List Step) → Plays g s cs es → Chooses g (state_after s es) c one → PassesRounds g (state_after (state_after s es) one) rounds
-    → Plays g s (cs ++ c ∷ []) (es ++ (one ++ rounds))
-plays_push g s [] c es one rounds played chosen passed =
-    subst (λ (k : List Step). Plays g s (c ∷ []) (k ++ (one ++ rounds))) (sym played) (
-      one,
-      rounds,
-      [],
-      ap (λ (k : List Step). one ++ k) (sym (append-nil rounds)),
-      subst (λ (k : List Step). Chooses g (state_after s k) c one) played chosen,
-      subst (λ (k : List Step). PassesRounds g (state_after (state_after s k) one) rounds) played passed,
-      refl,
-    )
-plays_push g s (d ∷ cs) c es one rounds (first, between, others, whole, made, began, more) chosen passed =
-    let there : state_after s es ≡ state_after (state_after (state_after s first) between) others =
-    ap (state_after s) whole ∙ state_append s first (between ++ others) ∙ state_append (state_after s first) between others in (
+-- a choice more, and its piece
+pub plays_push : (g : Setting) (s : State) (cs : List ℕ) (ps : List Piece) (c : ℕ) (p : Piece) → Plays g s cs ps → IsPieceOf g (state_after s (steps_in ps)) c p → Plays g s (cs ++ c ∷ []) (ps ++ p ∷ [])
+plays_push g s [] [] c p played is = (is, tt)
+plays_push g s [] (k ∷ ps) c p played is = absurd played
+plays_push g s (d ∷ cs) [] c p played is = absurd played
+plays_push g s (d ∷ cs) (k ∷ ps) c p (first, more) is =
+    let there : state_after s (steps_in (k ∷ ps)) ≡ state_after (state_after (state_after s k.made) k.rounds) (steps_in ps) =
+    state_append s k.made (k.rounds ++ steps_in ps) ∙ state_append (state_after s k.made) k.rounds (steps_in ps) in (
       first,
-      between,
-      others ++ (one ++ rounds),
-      ap (λ (k : List Step). k ++ (one ++ rounds)) whole ∙ append_assoc first (between ++ others) (one ++ rounds) ∙ ap (λ (k : List Step). first ++ k) (append_assoc between others (one ++ rounds)),
-      made,
-      began,
-      plays_push g (state_after (state_after s first) between) cs c others one rounds more
-      (subst (λ (k : State). Chooses g k c one) there chosen) (subst (λ (k : State). PassesRounds g (state_after k one) rounds) there passed),
+      plays_push g (state_after (state_after s k.made) k.rounds) cs ps c p more (subst (λ (t : State). IsPieceOf g t c p) there is),
     )
+
+steps_push : (ps : List Piece) (p : Piece) → steps_in (ps ++ p ∷ []) ≡ steps_in ps ++ (p.made ++ p.rounds)
+steps_push [] p = ap (λ (es : List Step). p.made ++ es) (append-nil p.rounds)
+steps_push (k ∷ ps) p =
+    ap (λ (es : List Step). k.made ++ (k.rounds ++ es)) (steps_push ps p)
+    ∙ ap (λ (es : List Step). k.made ++ es) (sym (append_assoc k.rounds (steps_in ps) (p.made ++ p.rounds)))
+    ∙ sym (append_assoc k.made (k.rounds ++ steps_in ps) (p.made ++ p.rounds))
 
 -- ---- a registry's history
 
@@ -49,26 +47,62 @@ played_none (Some content) empty x e p =
     let same = same_machine empty x content p.config p.script in (
       p.passed,
       [],
-      p.steps_more ∙ ap (λ (es : List Step). es ++ p.passed) e ∙ sym (append-nil p.passed),
-      subst (λ (g : Setting). PassesRounds g start p.passed) (sym same)
-      (subst (λ (es : List Step). PassesRounds (machine empty content) (state_after start es) p.passed) e (p.rounds content)),
-      refl,
+      record {
+        whole = p.steps_more ∙ ap (λ (es : List Step). es ++ p.passed) e ∙ sym (append-nil p.passed);
+        passed =
+            subst (λ (g : Setting). PassesRounds g start p.passed) (sym same)
+            (subst (λ (es : List Step). PassesRounds (machine empty content) (state_after start es) p.passed) e (p.rounds content));
+        played = tt;
+        prompt = prompt_none (schedule_of x.script);
+      },
     )
 
-pub played_on : (told : Option Content) (old new : Shown) (cs : List ℕ) (c : ℕ) → SameScript old new → PlayedTo told old cs → PlaysIn told old new c → PlayedTo told new (cs ++ c ∷ [])
-played_on None old new cs c same played plays = tt
-played_on (Some content) old new cs c same (first, others, whole, passed, played) (one, rounds, more, chosen, began) =
+-- the choices so far, and how near their answers the requests are behind them
+abbrev pub RoomPlayed : {A : Type 0} → Option Content → Shown → Room A → List ℕ → Type 0
+RoomPlayed None x room cs = Unit {0}
+RoomPlayed (Some content) x room cs = (rounds : List Step) × (pieces : List Piece) × IsPlayedBy content x cs rounds pieces × AreNear x room pieces
+
+-- the same after the schedule
+abbrev pub RoomPast : {A : Type 0} → Option Content → Shown → Room A → List ℕ → Type 0
+RoomPast told x room cs = (more : ℕ) × RoomPlayed told x room (cs ++ replicate more 0)
+
+none_near : {A : Type 0} (x : Shown) (room : Room A) → NoneBegun room → AreNear x room []
+none_near x room none = record { untaken = λ q e. none q; has = λ q r v s first has. absurd (no_first first); near = λ q r v s n asked is first has three. absurd (no_first first) }
+  where
+    no_first : {s : State} → None ≡ Some s → ⊥
+    no_first e = cc
+
+pub room_none : {A : Type 0} (told : Option Content) (x : Shown) (room : Room A) → PlayedTo told x [] → NoneBegun room → RoomPlayed told x room []
+room_none None x room played none = tt
+room_none (Some content) x room (rounds, [], by) none = (rounds, [], by, none_near x room none)
+room_none (Some content) x room (rounds, p ∷ ps, by) none = absurd by.played
+
+pub played_on : {A : Type 0} (told : Option Content) (old new : Shown) (was now : Room A) (cs : List ℕ) (c : ℕ) → SameScript old new → RoomPlayed told old was cs → PlaysIn told old new c → KeepsNear old new was now c → RoomPlayed told new now (cs ++ c ∷ [])
+played_on None old new was now cs c same played plays keeps = tt
+played_on (Some content) old new was now cs c same (first, pieces, by, near) (one, rounds, more, chosen, began) keeps =
     let g : Setting = machine old content in
-    let there : state_of old ≡ state_after (state_after start first) others = ap (state_after start) whole ∙ state_append start first others in
-    subst
-    (λ (h : Setting). (firsts : List Step) × (rest : List Step) × (steps new ≡ firsts ++ rest) × PassesRounds h start firsts × Plays h (state_after start firsts) (cs ++ c ∷ []) rest)
-    (sym (same_machine old new content same.config same.script)) (
+    let script : List Scheduled = schedule_of old.script in
+    let p : Piece = piece script (state_of old) c one rounds in
+    let there : state_of old ≡ state_after (state_after start first) (steps_in pieces) = ap (state_after start) by.whole ∙ state_append start first (steps_in pieces) in
+    let is : IsPieceOf g (state_of old) c p = record { is = refl; made = chosen; passed = began } in
+    let kept = keeps pieces near in
+    let last : IsPrompt script pieces p = is_prompt old new content c one rounds pieces kept.0 more chosen began in
+    let machine_is = sym (same_machine old new content same.config same.script) in (
       first,
-      others ++ (one ++ rounds),
-      more ∙ ap (λ (es : List Step). es ++ (one ++ rounds)) whole ∙ append_assoc first others (one ++ rounds),
-      passed,
-      plays_push g (state_after start first) cs c others one rounds played
-      (subst (λ (k : State). Chooses g k c one) there chosen) (subst (λ (k : State). PassesRounds g (state_after k one) rounds) there began),
+      pieces ++ p ∷ [],
+      record {
+        whole =
+            more
+            ∙ ap (λ (es : List Step). es ++ (one ++ rounds)) by.whole
+            ∙ append_assoc first (steps_in pieces) (one ++ rounds)
+            ∙ ap (λ (es : List Step). first ++ es) (sym (steps_push pieces p));
+        passed = subst (λ (h : Setting). PassesRounds h start first) machine_is by.passed;
+        played =
+            subst (λ (h : Setting). Plays h (state_after start first) (cs ++ c ∷ []) (pieces ++ p ∷ [])) machine_is
+            (plays_push g (state_after start first) cs pieces c p by.played (subst (λ (t : State). IsPieceOf g t c p) there is));
+        prompt = subst (λ (k : Scripted). ArePrompt (schedule_of k) (pieces ++ p ∷ [])) (sym same.script) (prompt_push script pieces p by.prompt last);
+      },
+      kept.1 one rounds,
     )
 
 -- one zero more at the end
@@ -76,18 +110,25 @@ replicate_push : (n k : ℕ) → replicate n k ++ k ∷ [] ≡ replicate (suc n)
 replicate_push zero k = refl
 replicate_push (suc n) k = ap (λ (xs : List ℕ). k ∷ xs) (replicate_push n k)
 
-pub past_none : (told : Option Content) (x : Shown) (cs : List ℕ) → PlayedTo told x cs → PlayedPast told x cs
-past_none told x cs played = (0, subst (PlayedTo told x) (sym (append-nil cs)) played)
+pub past_none : {A : Type 0} (told : Option Content) (x : Shown) (room : Room A) (cs : List ℕ) → RoomPlayed told x room cs → RoomPast told x room cs
+past_none told x room cs played = (0, subst (RoomPlayed told x room) (sym (append-nil cs)) played)
 
-pub past_on : (told : Option Content) (old new : Shown) (cs : List ℕ) → SameScript old new → PlayedPast told old cs → PlaysIn told old new 0 → PlayedPast told new cs
-past_on told old new cs same (more, played) plays = (
+pub past_on : {A : Type 0} (told : Option Content) (old new : Shown) (was now : Room A) (cs : List ℕ) → SameScript old new → RoomPast told old was cs → PlaysIn told old new 0 → KeepsNear old new was now 0 → RoomPast told new now cs
+past_on told old new was now cs same (more, played) plays keeps = (
   suc more,
-  subst (PlayedTo told new) (append_assoc cs (replicate more 0) (0 ∷ []) ∙ ap (λ (xs : List ℕ). cs ++ xs) (replicate_push more 0)) (played_on told old new (cs ++ replicate more 0) 0 same played plays),
+  subst (RoomPlayed told new now) (append_assoc cs (replicate more 0) (0 ∷ []) ∙ ap (λ (xs : List ℕ). cs ++ xs) (replicate_push more 0)) (played_on told old new was now (cs ++ replicate more 0) 0 same played plays keeps),
 )
+
+room_played : {A : Type 0} (told : Option Content) (x : Shown) (room : Room A) (cs : List ℕ) → RoomPlayed told x room cs → PlayedTo told x cs
+room_played None x room cs played = tt
+room_played (Some content) x room cs (rounds, pieces, by, near) = (rounds, pieces, by)
+
+pub room_past : {A : Type 0} (told : Option Content) (x : Shown) (room : Room A) (cs : List ℕ) → RoomPast told x room cs → PlayedPast told x cs
+room_past told x room cs (more, played) = (more, room_played told x room (cs ++ replicate more 0) played)
 
 pub played_as : (told : Option Content) (x : Shown) (cs : List ℕ) → PlayedPast told x cs → PlayedAs told (bare x) cs
 played_as None x cs played = tt
-played_as (Some content) x cs (more, (rounds, others, whole, passed, played)) = record { rounds = rounds; others = others; more = more; whole = whole; passed = passed; played = played }
+played_as (Some content) x cs (more, (rounds, pieces, by)) = record { rounds = rounds; pieces = pieces; more = more; whole = by.whole; passed = by.passed; played = by.played; prompt = by.prompt }
 
 -- ---- the choices of a schedule
 

@@ -159,7 +159,7 @@ serves_self t (turn.LookPrepared c) r is call = refl
 serves_self t (turn.Mark l) r is call = refl
 serves_self t (turn.Post f) r is call = absurd call
 
-request_of_call : {A : Type 0} (t : Tasked) (u : Turn A) (r : Request) → IsFor t u r → IsCall u → t.request ≡ Some r
+pub request_of_call : {A : Type 0} (t : Tasked) (u : Turn A) (r : Request) → IsFor t u r → IsCall u → t.request ≡ Some r
 request_of_call t (turn.Look l n) r is call = is
 request_of_call t (turn.Read l n) r is call = is
 request_of_call t (turn.Define d) r is call = is

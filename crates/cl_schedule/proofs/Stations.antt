@@ -21,12 +21,13 @@ use Rattle.cl_tasks.specs.declared.turn.Reply.{Reply}
 use Rattle.cl_tasks.specs.declared.turn.Reply.TheVariants as reply
 use Rattle.cl_tasks.specs.declared.turn.Turn.{Turn}
 use Rattle.cl_tasks.specs.declared.turn.Turn.TheVariants as turn
-use Rattle.cl_schedule.specs.Known.{Has, SaysOrLacks, TellsKnown}
+use Rattle.cl_schedule.specs.Known.{Has, SaysOrLacks, TellsKnown, IsToldAtOnce}
+use Rattle.cl_schedule.specs.Nearing.{AtHand, HasOf, OwnCall}
 use Rattle.cl_schedule.specs.Replies.{Did, IsCall, IsRead, IsReplied, IsStepOf}
 
 -- ---- turns
 
-no_post_or : {A : Type 0} (a : rust.Answer) (u : Turn A) → PostsOr a u → IsCall u → ⊥
+pub no_post_or : {A : Type 0} (a : rust.Answer) (u : Turn A) → PostsOr a u → IsCall u → ⊥
 no_post_or a (turn.Look l n) p call = p
 no_post_or a (turn.Read l n) p call = p
 no_post_or a (turn.Define d) p call = p
@@ -53,28 +54,6 @@ no_posts a (turn.Mark l) p call = p
 no_posts a (turn.Post f) p call = call
 
 -- ---- stations
-
--- the tables have a request's verdict, whose class is this one
-abbrev HasOf : State → Request → Class → Verdict → Type 0
-HasOf s (requests.Load loader name) c v = v ≡ IsClass c
-HasOf s (requests.Resolve loader name i) c v = settled_to s.settled c i ≡ Some v
-HasOf s (requests.Link loader name) c v = Contains s.prepared c × (v ≡ IsLinked c)
-
--- what a task is told on its way to a verdict that the tables have
-abbrev AtHand : {A : Type 0} → State → Request → Verdict → Tasked → Reply A → Type 0
-AtHand s r v t reply.Start = Unit {0}
-AtHand s r v t (reply.Looked (Some row)) = (t.waits ≡ Looking (loader_of r) (name_of r)) × (t.frames ≡ []) × (t.facts ≡ []) × HasOf s r row.value.class v
-AtHand s r v t (reply.LookedReference (Some e)) = verdict_of e.value.verdict ≡ v
-AtHand s r v t (reply.LookedPrepared true) = (c : Class) × (t.waits ≡ LookingPrepared c) × (v ≡ IsLinked c)
-AtHand s r v t reply.Memory = Unit {0}
-AtHand s r v t other = ⊥
-
--- the calls on that way
-abbrev OwnCall : {A : Type 0} → State → Request → Verdict → Tasked → Turn A → Type 0
-OwnCall s r v t (turn.Look l n) = (t.frames ≡ []) × (t.facts ≡ []) × (l ≡ loader_of r) × (n ≡ name_of r)
-OwnCall s r v t (turn.LookReference c i) = settled_to s.settled c i ≡ Some v
-OwnCall s r v t (turn.LookPrepared c) = Contains s.prepared c × (v ≡ IsLinked c)
-OwnCall s r v t other = ⊥
 
 one_class : (s : State) (loader : ℕ) (name : List ℕ) (c d : Class) → Records s loader name c → d.name ≡ name → recorded s.records loader name ≡ Some d.loader → c ≡ d
 one_class s loader name c d kept named is =
@@ -127,7 +106,7 @@ goes_call s (requests.Link loader name) c v new (turn.LookPrepared d) has goes c
 goes_call s (requests.Link loader name) c v new (turn.Mark l) has goes call = absurd goes
 goes_call s (requests.Link loader name) c v new (turn.Post f) has goes call = absurd call
 
-own_call : {A : Type 0} (s : State) (r : Request) (v : Verdict) (t new : Tasked) (told : Reply A) (u : Turn A) → AtHand s r v t told → t.request ≡ Some r → AnswersOwn t new told u → Refuses (refusal t told) u → IsCall u → OwnCall s r v new u
+pub own_call : {A : Type 0} (s : State) (r : Request) (v : Verdict) (t new : Tasked) (told : Reply A) (u : Turn A) → AtHand s r v t told → t.request ≡ Some r → AnswersOwn t new told u → Refuses (refusal t told) u → IsCall u → OwnCall s r v new u
 own_call s r v t new reply.Start (turn.Look l n) at q own refused call = let asked = own.2 r q in (own.0, own.1, asked.0, asked.1)
 own_call s r v t new reply.Start (turn.Read l n) at q own refused call = absurd own
 own_call s r v t new reply.Start (turn.Define d) at q own refused call = absurd own
@@ -240,7 +219,7 @@ pub known_start : {A S : Type 0} (old : Shown) (r : Request) (t : Tasked) (sourc
 known_start old r t source = λ v has. record { same = refl; unread = refl; at = tt }
 
 -- the call on that way changes nothing
-own_same : {A : Type 0} (s : State) (r : Request) (v : Verdict) (new : Tasked) (x y : Shown) (u : Turn A) → OwnCall s r v new u → Did x y (IsStepOf x u) → y ≡ x
+pub own_same : {A : Type 0} (s : State) (r : Request) (v : Verdict) (new : Tasked) (x y : Shown) (u : Turn A) → OwnCall s r v new u → Did x y (IsStepOf x u) → y ≡ x
 own_same s r v new x y u own (inl same) = same
 own_same s r v new x y (turn.Look l n) own (inr did) = absurd did.1
 own_same s r v new x y (turn.Read l n) own (inr did) = absurd did.1
@@ -267,7 +246,7 @@ own_unread s r v new (turn.LookPrepared c) own read = read
 own_unread s r v new (turn.Mark l) own read = read
 own_unread s r v new (turn.Post f) own read = read
 
-own_told : {A : Type 0} (x : Shown) (r : Request) (v : Verdict) (new : Tasked) (u : Turn A) (told : Reply A) → OwnCall (state_of x) r v new u → Has (state_of x) (request_of r) v → new.waits ≡ call_of u → IsReplied x (call_of u) told → AtHand (state_of x) r v new told
+pub own_told : {A : Type 0} (x : Shown) (r : Request) (v : Verdict) (new : Tasked) (u : Turn A) (told : Reply A) → OwnCall (state_of x) r v new u → Has (state_of x) (request_of r) v → new.waits ≡ call_of u → IsReplied x (call_of u) told → AtHand (state_of x) r v new told
 own_told x r v new (turn.Look l n) told own has asks is =
     let w : Looking l n ≡ Looking (loader_of r) (name_of r) = rw (own.2, own.3) refl in
     look_told x r v new told has (subst (λ (k : Waits). IsReplied x k told) w is) (asks ∙ w) own.0 own.1
@@ -306,7 +285,7 @@ class_says s (requests.Load loader name) c v A f has goes = says v f.answer (rus
 class_says s (requests.Resolve loader name i) c v A f has goes = inr (ap answer_of goes)
 class_says s (requests.Link loader name) c v A f has goes = inr (ap answer_of goes)
 
-post_says : {A : Type 0} (s : State) (r : Request) (v : Verdict) (t new : Tasked) (told : Reply A) (f : Answered) → AtHand s r v t told → t.request ≡ Some r → AnswersOwn {A = A} t new told (turn.Post f) → Refuses {A = A} (refusal t told) (turn.Post f) → SaysOrLacks v (answer_of f.answer)
+pub post_says : {A : Type 0} (s : State) (r : Request) (v : Verdict) (t new : Tasked) (told : Reply A) (f : Answered) → AtHand s r v t told → t.request ≡ Some r → AnswersOwn {A = A} t new told (turn.Post f) → Refuses {A = A} (refusal t told) (turn.Post f) → SaysOrLacks v (answer_of f.answer)
 post_says s r v t new reply.Start f at q own refused = inr (ap answer_of own)
 post_says s r v t new (reply.Looked None) f at q own refused = absurd at
 post_says {A = A} s r v t new (reply.Looked (Some row)) f at q own refused = class_says s r row.value.class v A f at.3 (own r q at.0 at.1 at.2)

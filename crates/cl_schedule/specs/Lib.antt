@@ -2,6 +2,7 @@ pub mod Serving
 pub mod Rounds
 pub mod Replies
 pub mod Known
+pub mod Nearing
 pub mod Counting
 pub mod Headline
 pub mod Choices

@@ -1,5 +1,6 @@
 -- The room that requests wait in, and what a choice does to it.
 use Rattle.std.specs.Prelude.{◌≡◌, ◌⊎◌, ◌<◌, ◌+◌, ◌-◌, ◌*◌, ℕ, List, [], ◌∷◌, ◌++◌, length, replicate, Option, Some, None, slice_get, slice_set}
+use Rattle.cl_config.specs.Loaders.{schedule_of}
 use Rattle.cl_model.specs.declared.request.Request.{Request}
 use Rattle.cl_model.specs.Content.{Content}
 use Rattle.cl_model.specs.Machine.{Step, state_after}
@@ -12,7 +13,7 @@ use Rattle.cl_tasks.specs.declared.turn.Turn.{Turn}
 use Rattle.cl_schedule.specs.declared.choices.Room.{Room}
 use Rattle.cl_schedule.specs.declared.serve.ServeFault.{ServeFault}
 use Rattle.cl_schedule.specs.declared.serve.ServeFault.TheVariants as faults
-use Rattle.cl_schedule.specs.Choices.{Chooses, Plays}
+use Rattle.cl_schedule.specs.Choices.{ArePrompt, Chooses, Piece, Plays, steps_in}
 use Rattle.cl_schedule.specs.Seats.{HasGathered, IsSeated}
 use Rattle.cl_schedule.specs.Serving.{machine}
 
@@ -62,13 +63,17 @@ PlaysIn (Some content) old new choice =
     × Chooses (machine old content) (state_of old) choice one
     × PassesRounds (machine old content) (state_after (state_of old) one) rounds
 
+-- the history is that of the choices so far: these rounds, which began at first, and these pieces
+pub record IsPlayedBy (content : Content) (x : Shown) (cs : List ℕ) (rounds : List Step) (pieces : List Piece) : Type 0 where
+  pub whole : steps x ≡ rounds ++ steps_in pieces
+  pub passed : PassesRounds (machine x content) start rounds
+  pub played : Plays (machine x content) (state_after start rounds) cs pieces
+  pub prompt : ArePrompt (schedule_of x.script) pieces
+
 -- the choices so far, after the rounds that began at first
 abbrev pub PlayedTo : Option Content → Shown → List ℕ → Type 0
 PlayedTo None x cs = Unit {0}
-PlayedTo (Some content) x cs =
-    (rounds : List Step) × (others : List Step) × (steps x ≡ rounds ++ others)
-    × PassesRounds (machine x content) start rounds
-    × Plays (machine x content) (state_after start rounds) cs others
+PlayedTo (Some content) x cs = (rounds : List Step) × (pieces : List Piece) × IsPlayedBy content x cs rounds pieces
 
 -- after the schedule the first request that waits was taken so often
 abbrev pub PlayedPast : Option Content → Shown → List ℕ → Type 0

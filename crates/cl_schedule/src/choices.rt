@@ -2,11 +2,12 @@
 
 ghost use Rattle.std.specs.Prelude.{◌≡◌, ◌<◌, ◌+◌, [], IfOk, IfErr, IfSome, MatchOption, Some, None, length, replicate, slice_get, slice_set};
 ghost use Rattle.cl_config.specs.Scripts.{HasLoaders};
-ghost use Rattle.cl_registry.specs.Tables.{IsKept, IsLater, IsOpen, MayGoOn};
+ghost use Rattle.cl_registry.specs.Tables.{IsKept, IsLater, IsOpen, MayGoOn, state_of};
 ghost use Rattle.cl_tasks.specs.Measures.{all_left};
 ghost use Rattle.cl_schedule.specs.Choices.{IsSimulated};
 ghost use Rattle.cl_schedule.specs.Counting.{CountGrows, CountsFaults, debt, faults, owed_at, owed_of};
 ghost use Rattle.cl_schedule.specs.Rooms.{AllSeated, ChoosesIn, FirstFalls, HasTaken, IsRoom, IsStrayUntold, OpenSeats, PlayedPast, PlayedTo, PlaysIn, SameScript, TakesFirst, left_at};
+ghost use Rattle.cl_schedule.specs.Nearing.{ComesNearer, IsNearAt, KeepsNear, NoneBegun, PostsKnown};
 ghost use Rattle.cl_schedule.specs.Seats.{HasAdvanced, HasPosted, IsSeatedAt};
 
 use crate::gather::gather;
@@ -139,10 +140,14 @@ fn turn_of<T: Told, S: Source<T>>(
     ensures less { IfOk result (λ o. IfSome o (λ s. s.task.left < left_at room.old q)) }
     ensures taken { HasTaken room.old room.new q }
     ensures faults { IfOk result (λ o.
-        CountGrows (faults registry.old.answers + owed_at room.old q) (faults registry.new.answers + owed_of o)
-        (S.refused source.old) (S.refused source.new)) }
+        CountGrows (faults registry.old.answers + owed_at room.old q)
+        (faults registry.new.answers + owed_of o) (S.refused source.old) (S.refused source.new)) }
     ensures refused { IfErr result (IsStrayUntold T.told) }
     ensures kept { IsKept T.told registry.new }
+    ensures known { IfOk result (λ o. MatchOption o
+        (PostsKnown (IsNearAt (state_of registry.old) room.old q) registry.old registry.new q)
+        (λ s. ComesNearer (IsNearAt (state_of registry.old) room.old q) registry.old registry.new q
+            s.task s.call)) }
 {
     let seat = match room.take(q as usize) {
         Some(seat) => seat,
@@ -186,6 +191,7 @@ fn play<T: Told, S: Source<T>>(
     ensures less { IfOk result (λ _. TakesFirst choice room.old room.new) }
     ensures refused { IfErr result (IsStrayUntold T.told) }
     ensures kept { IsKept T.told registry.new }
+    ensures known { IfOk result (λ _. KeepsNear registry.old registry.new room.old room.new choice) }
 {
     let waiting = room.waiting.as_slice();
     let len = waiting.len();
@@ -229,6 +235,7 @@ fn choose<T: Told, S: Source<T>>(
     ensures less { IfOk result (λ _. FirstFalls choice room.old room.new) }
     ensures refused { IfErr result (IsStrayUntold T.told) }
     ensures kept { IsKept T.told registry.new }
+    ensures known { IfOk result (λ _. KeepsNear registry.old registry.new room.old room.new choice) }
 {
     play(alloc, config, script, registry, source, room, choice)?;
     pass_rounds(registry);
@@ -256,6 +263,7 @@ fn play_all<T: Told, S: Source<T>>(
     requires seats { OpenSeats registry.old room.old }
     requires begun { PlayedTo T.told registry.old [] }
     requires over { MayGoOn registry.old → ⊥ }
+    requires fresh { NoneBegun room.old }
     ensures played { IfOk result (λ _. PlayedPast T.told registry.new schedule.now) }
     ensures room { IfOk result (λ _. IsRoom T.told registry.new room.new) }
     ensures seats { IfOk result (λ _. OpenSeats registry.new room.new) }
@@ -298,6 +306,7 @@ fn open<T: Told>(
     ensures none_owed { IfOk result (λ r. debt r.0 r.1 ≡ 0) }
     ensures begun { IfOk result (λ r. PlayedTo T.told r.0 []) }
     ensures over { IfOk result (λ r. MayGoOn r.0 → ⊥) }
+    ensures fresh { IfOk result (λ r. NoneBegun r.1) }
     ensures memory { IfErr result (λ e. e ≡ ServeFault.Memory) }
 {
     let mut room = Room::new(alloc, script.requests().len())?;

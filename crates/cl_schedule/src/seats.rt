@@ -1,12 +1,14 @@
 //! Requests that take turns: each waits with its task and with the call that the task asks for (JVMS SE 8, 5.3 to 5.4.3).
 
-ghost use Rattle.std.specs.Prelude.{◌≡◌, ◌<◌, ◌+◌, ℕ, IfOk, IfErr, IfSome, MatchOption, None, OnErr, length};
+ghost use Rattle.std.specs.Prelude.{◌≡◌, ◌<◌, ◌+◌, ℕ, IfOk, IfErr, IfSome, MatchOption, None, OnErr, length, Some};
 ghost use Rattle.cl_model.specs.declared.answer.Answer.TheVariants as answers;
 ghost use Rattle.cl_model.specs.declared.request.Request as requests;
 ghost use Rattle.cl_findings.specs.Findings.{loader_of};
-ghost use Rattle.cl_registry.specs.Tables.{Shown, IsKept};
+ghost use Rattle.cl_model.specs.States.{Verdict};
+ghost use Rattle.cl_registry.specs.Tables.{Shown, IsKept, state_of};
 ghost use Rattle.cl_tasks.specs.Turns.{Expects};
 ghost use Rattle.cl_schedule.specs.Counting.{CountGrows, faults, owed, owed_of, told_faults};
+ghost use Rattle.cl_schedule.specs.Nearing.{AtHand, ComesNearer, IsNear, PostsKnown, calls_after};
 ghost use Rattle.cl_schedule.specs.Seats.{HasAdvanced, HasPosted, IsReady, IsSeated, IsSeatedAt};
 
 use crate::replies::{read, reply_to};
@@ -40,6 +42,9 @@ pub(crate) fn read_on<T: Told, S: Source<T>>(
     ensures less { result.task.left < task.left }
     ensures faults { CountGrows (told_faults reply) (owed result.call)
         (S.refused source.old) (S.refused source.new) }
+    ensures known { (x : Shown) (r : requests.Request) (v : Verdict)
+        → AtHand (state_of x) r v task reply → task.request ≡ Some r
+        → IsNear (state_of x) r v (calls_after reply + 1) result.task result.call }
 {
     loop {
         match task.turn(alloc, reply) {
@@ -65,6 +70,8 @@ pub(crate) fn begin<T: Told, S: Source<T>>(
     ensures faults { IfOk result (λ s. CountGrows 0 (owed s.call)
         (S.refused source.old) (S.refused source.new)) }
     ensures unread { OnErr result (source.new ≡ source.old) }
+    ensures known { IfOk result (λ s. (x : Shown) (v : Verdict)
+        → IsNear (state_of x) request v 3 s.task s.call) }
 {
     match Task::<T>::new(alloc, config, q, request) {
         Ok(task) => Ok(read_on(alloc, source, task, Reply::Start)),
@@ -89,10 +96,15 @@ pub(crate) fn advance<T: Told, S: Source<T>>(
         IsSeatedAt T.told registry.new s.task s.call q)) }
     ensures less { IfOk result (λ o. IfSome o (λ s. s.task.left < seat.task.left)) }
     ensures faults { IfOk result (λ o.
-        CountGrows (faults registry.old.answers + owed seat.call) (faults registry.new.answers + owed_of o)
-        (S.refused source.old) (S.refused source.new)) }
+        CountGrows (faults registry.old.answers + owed seat.call)
+        (faults registry.new.answers + owed_of o) (S.refused source.old) (S.refused source.new)) }
     ensures stray { IfErr result (λ e. (e ≡ ServeFault.Stray) × (T.told ≡ None)) }
     ensures kept { IsKept T.told registry.new }
+    ensures known { IfOk result (λ o. MatchOption o
+        (PostsKnown (λ r v n. IsNear (state_of registry.old) r v n seat.task seat.call)
+            registry.old registry.new q)
+        (λ s. ComesNearer (λ r v n. IsNear (state_of registry.old) r v n seat.task seat.call)
+            registry.old registry.new q s.task s.call)) }
 {
     let Seat { task, call } = seat;
     match call {

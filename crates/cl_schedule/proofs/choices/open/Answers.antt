@@ -5,6 +5,7 @@ use Rattle.cl_schedule.specs.declared.choices.Room.{Room}
 use Rattle.cl_schedule.proofs.Owing.{debt_first, seats_first}
 use Rattle.cl_schedule.proofs.Playing.{played_none}
 use Rattle.cl_schedule.proofs.Rooming.{room_first}
+use Rattle.cl_schedule.proofs.Prompt.{none_stands}
 use Rattle.cl_schedule.proofs.Rounds.{none_goes_on}
 use Rattle.cl_schedule.proofs.choices.open.Goals as goal
 
@@ -33,3 +34,6 @@ pub returns-in-Ok-clause-none_owed : goal.returns-in-Ok-clause-none_owed
 returns-in-Ok-clause-none_owed g c =
     let done : Room g.row.T.Denot = record { tasks = c.in_ok-room.room.tasks; calls = c.in_ok-room.room.calls; waiting = c.gather.new.waiting; next = c.in_ok-room-2.field-0 } in
     debt_first c.in_ok-held.held.value c.in_ok-asked.asked.value c.in-Ok.registry c.pass_rounds.new.registry done _ _ c.in-Ok.ensures.empty c.pass_rounds.ensures.passed c.in_ok-room.ensures.tasks c.in_ok-room.ensures.calls
+
+pub returns-in-Ok-clause-fresh : goal.returns-in-Ok-clause-fresh
+returns-in-Ok-clause-fresh g c = λ q t u task call. none_stands _ _ q t c.in_ok-room.ensures.tasks task

@@ -2,10 +2,13 @@ use Rattle.std.proofs.Common.{◌≡◌, ◌%◌, ◌<◌, inr, ℕ, List, lengt
 use Rattle.std.specs.Prelude.{slice_get, slice_index}
 use Rattle.cl_config.specs.Views.{Scripted}
 use Rattle.cl_schedule.specs.declared.seats.Seat.{Seat}
+use Rattle.cl_registry.specs.Tables.{state_of}
+use Rattle.cl_schedule.specs.Nearing.{ComesNearer, IsNearAt, PostsKnown}
 use Rattle.cl_schedule.specs.Rooms.{left_at}
 use Rattle.cl_schedule.specs.Seats.{HasAdvanced, HasPosted, IsSeatedAt}
-use Rattle.cl_schedule.proofs.Rooming.{chosen_advanced, chosen_posted, first_advanced, first_place, if_some, match_none, match_some, room_advanced, room_posted, waits_at, same_turned}
+use Rattle.cl_schedule.proofs.Rooming.{chosen_advanced, chosen_posted, first_advanced, first_place, if_some, match_none, match_some, room_advanced, room_posted, waits_at, same_turned, none_waits}
 use Rattle.cl_schedule.proofs.Owing.{debt_advanced, debt_posted, seats_advanced, seats_posted}
+use Rattle.cl_schedule.proofs.Prompt.{keeps_advanced, keeps_none, keeps_posted}
 use Rattle.cl_schedule.proofs.Waiting.{waiting_is}
 use Rattle.cl_schedule.proofs.choices.play.Goals as goal
 
@@ -31,6 +34,12 @@ turn_of-requires-clause-open g c =
     let ws = c.args.room.now.waiting.items in
     let at = waits_at ws c.as_slice-waiting.result.now c.args.choice c.as_slice-waiting.ensures.value c.if-len-eq0.false in
     (waiting_is g.T.Told.told c.args.registry.now ws c.args.room.now.next (c.args.choice % length ws) (taken c.as_slice-waiting.result.now c.args.choice) c.requires.kept c.requires.room.gathered at).0
+
+-- ---- nobody waits
+
+pub returns-then-len-eq0-clause-known : goal.returns-then-len-eq0-clause-known
+returns-then-len-eq0-clause-known g c =
+    keeps_none c.args.registry.now c.args.room.now c.args.choice c.requires.room.gathered (none_waits c.args.room.now.waiting.items c.as_slice-waiting.result.now c.as_slice-waiting.ensures.value c.if-len-eq0.true)
 
 -- ---- it went on
 
@@ -89,6 +98,25 @@ returns-in-Some-clause-faults g c =
     (subst (λ (n : ℕ). q < n) (sym c.requires.room.tasks_whole) below) (subst (λ (n : ℕ). q < n) (sym c.requires.room.calls_whole) below)
     c.in_ok-seat.ensures.faults c.put.ensures.tasks c.put.ensures.calls
 
+pub returns-in-Some-clause-known : goal.returns-in-Some-clause-known
+returns-in-Some-clause-known g c =
+    let told = g.T.Told.told in
+    let x = c.args.registry.now in
+    let room = c.args.room.now in
+    let ws = room.waiting.items in
+    let q = taken c.as_slice-waiting.result.now c.args.choice in
+    let at = waits_at ws c.as_slice-waiting.result.now c.args.choice c.as_slice-waiting.ensures.value c.if-len-eq0.false in
+    let is = waiting_is told x ws room.next (c.args.choice % length ws) q c.requires.kept c.requires.room.gathered at in
+    let P = HasPosted told x c.turn_of.new.registry q in
+    let Q : Seat g.row.T.Denot → Type 0 = λ s. HasAdvanced told x c.turn_of.new.registry q in
+    let M = PostsKnown (IsNearAt (state_of x) room q) x c.turn_of.new.registry q in
+    let N : Seat g.row.T.Denot → Type 0 = λ s. ComesNearer (IsNearAt (state_of x) room q) x c.turn_of.new.registry q s.task s.call in
+    keeps_advanced told x c.turn_of.new.registry room c.turn_of.new.room c.put.new.self c.args.choice q c.in-Some.seat.task c.in-Some.seat.call c.requires.kept c.requires.room.gathered at is.0
+    (subst (λ (n : ℕ). q < n) (sym c.requires.room.tasks_whole) is.2) (subst (λ (n : ℕ). q < n) (sym c.requires.room.calls_whole) is.2) c.in_ok-seat.ensures.taken
+    (match_some c.in_ok-seat.field-0 c.in-Some.seat P Q c.in-Some.is c.in_ok-seat.ensures.did)
+    (match_some c.in_ok-seat.field-0 c.in-Some.seat M N c.in-Some.is c.in_ok-seat.ensures.known)
+    c.put.ensures.tasks c.put.ensures.calls
+
 -- ---- it was answered
 
 pub returns-in-None-clause-chosen : goal.returns-in-None-clause-chosen
@@ -129,3 +157,20 @@ returns-in-None-clause-faults g c =
     debt_posted c.args.registry.now c.turn_of.new.registry c.args.room.now c.turn_of.new.room
     (record { tasks = c.turn_of.new.room.tasks; calls = c.turn_of.new.room.calls; waiting = c.remove.new.self; next = c.turn_of.new.room.next }) c.in_ok-seat.field-0 q _ _ c.in-None.is c.in_ok-seat.ensures.taken
     c.in_ok-seat.ensures.faults refl refl
+
+pub returns-in-None-clause-known : goal.returns-in-None-clause-known
+returns-in-None-clause-known g c =
+    let told = g.T.Told.told in
+    let x = c.args.registry.now in
+    let room = c.args.room.now in
+    let ws = room.waiting.items in
+    let q = taken c.as_slice-waiting.result.now c.args.choice in
+    let at = waits_at ws c.as_slice-waiting.result.now c.args.choice c.as_slice-waiting.ensures.value c.if-len-eq0.false in
+    let P = HasPosted told x c.turn_of.new.registry q in
+    let Q : Seat g.row.T.Denot → Type 0 = λ s. HasAdvanced told x c.turn_of.new.registry q in
+    let M = PostsKnown (IsNearAt (state_of x) room q) x c.turn_of.new.registry q in
+    let N : Seat g.row.T.Denot → Type 0 = λ s. ComesNearer (IsNearAt (state_of x) room q) x c.turn_of.new.registry q s.task s.call in
+    keeps_posted told x c.turn_of.new.registry room c.turn_of.new.room
+    (record { tasks = c.turn_of.new.room.tasks; calls = c.turn_of.new.room.calls; waiting = c.remove.new.self; next = c.turn_of.new.room.next }) c.args.choice q c.requires.kept c.requires.room.gathered at c.in_ok-seat.ensures.taken
+    (match_none c.in_ok-seat.field-0 P Q c.in-None.is c.in_ok-seat.ensures.did)
+    (match_none c.in_ok-seat.field-0 M N c.in-None.is c.in_ok-seat.ensures.known) refl refl

@@ -2,7 +2,7 @@ use Rattle.std.proofs.Common.{◌∙◌, arith, subst, sym, take, ◌++◌, ◌�
 use Rattle.std.specs.Prelude.{slice_index}
 use Rattle.cl_schedule.specs.Rooms.{PlayedTo}
 use Rattle.cl_schedule.proofs.Owing.{count_none, count_then}
-use Rattle.cl_schedule.proofs.Playing.{past_on, played_on, take_more}
+use Rattle.cl_schedule.proofs.Playing.{past_on, played_on, take_more, RoomPlayed, room_none, room_past}
 use Rattle.cl_schedule.proofs.choices.play_all.Goals as goal
 
 pub loop-choice-init : goal.loop-choice-init
@@ -13,7 +13,7 @@ loop-choice-init g c = record {
   over = c.requires.over;
   seats = c.requires.seats;
   faults = count_none _ _;
-  played = c.requires.begun;
+  played = room_none g.T.Told.told c.args.registry.now c.args.room.now c.requires.begun c.requires.fresh;
 }
 
 pub loop-choice-preserved : goal.loop-choice-preserved
@@ -31,8 +31,8 @@ loop-choice-preserved g c =
       seats = e.seats;
       faults = count_then _ _ _ _ _ _ inv.faults e.faults;
       played =
-          subst (PlayedTo told c.choose.new.registry) (sym more)
-          (played_on told c.loop-choice.registry c.choose.new.registry (take i c.args.schedule.now) (slice_index c.args.schedule.now i) e.same inv.played e.played);
+          subst (RoomPlayed told c.choose.new.registry c.choose.new.room) (sym more)
+          (played_on told c.loop-choice.registry c.choose.new.registry c.loop-choice.room c.choose.new.room (take i c.args.schedule.now) (slice_index c.args.schedule.now i) e.same inv.played e.played e.known);
     }
 
 pub loop-alloc-preserved : goal.loop-alloc-preserved
@@ -46,5 +46,8 @@ loop-alloc-preserved g c =
       over = e.over;
       seats = e.seats;
       faults = count_then _ _ _ _ _ _ inv.faults e.faults;
-      played = past_on g.T.Told.told c.loop-alloc.registry c.choose-in-loop-alloc.new.registry c.args.schedule.now e.same inv.played e.played;
+      played = past_on g.T.Told.told c.loop-alloc.registry c.choose-in-loop-alloc.new.registry c.loop-alloc.room c.choose-in-loop-alloc.new.room c.args.schedule.now e.same inv.played e.played e.known;
     }
+
+pub returns-clause-played : goal.returns-clause-played
+returns-clause-played g c = room_past g.T.Told.told c.loop-alloc.registry c.loop-alloc.room c.args.schedule.now c.loop-alloc.invariant.played

@@ -2,6 +2,7 @@ use Rattle.std.proofs.Common.{take}
 use Rattle.cl_registry.specs.Tables.{IsKept, MayGoOn}
 use Rattle.cl_schedule.specs.Counting.{CountGrows, debt}
 use Rattle.cl_schedule.specs.Rooms.{IsRoom, OpenSeats, PlayedPast, PlayedTo, SameScript, room_left}
+use Rattle.cl_schedule.proofs.Playing.{RoomPast, RoomPlayed}
 use Rattle.cl_schedule.proofs.choices.play_all.Given as goal
 
 abbrev pub invariant-loop-choice : goal.invariant-loop-choice
@@ -12,7 +13,7 @@ invariant-loop-choice g l = record {
   over : MayGoOn l.registry → ⊥;
   seats : OpenSeats l.registry l.room;
   faults : CountGrows (debt l.fn.registry l.fn.room) (debt l.registry l.room) (g.S.Source.refused l.fn.source) (g.S.Source.refused l.source);
-  played : PlayedTo g.T.Told.told l.registry (take l.choice-index l.fn.schedule);
+  played : RoomPlayed g.T.Told.told l.registry l.room (take l.choice-index l.fn.schedule);
 }
 
 abbrev pub invariant-loop-alloc : goal.invariant-loop-alloc
@@ -23,7 +24,7 @@ invariant-loop-alloc g l = record {
   over : MayGoOn l.registry → ⊥;
   seats : OpenSeats l.registry l.room;
   faults : CountGrows (debt l.fn.registry l.fn.room) (debt l.registry l.room) (g.S.Source.refused l.fn.source) (g.S.Source.refused l.source);
-  played : PlayedPast g.T.Told.told l.registry l.fn.schedule;
+  played : RoomPast g.T.Told.told l.registry l.room l.fn.schedule;
 }
 
 abbrev pub decreases-loop-alloc : goal.decreases-loop-alloc

@@ -1,9 +1,12 @@
-use Rattle.std.proofs.Common.{◌≡◌, refl, subst}
+use Rattle.std.proofs.Common.{◌≡◌, refl, subst, sym}
 use Rattle.cl_findings.specs.Findings.{Answered}
 use Rattle.cl_tasks.specs.declared.turn.Turn.{Turn}
 use Rattle.cl_tasks.specs.declared.turn.Turn.TheVariants as turn
+use Rattle.cl_registry.specs.Tables.{state_of}
+use Rattle.cl_schedule.specs.Nearing.{IsNear, PostsKnown}
 use Rattle.cl_schedule.specs.Replies.{IsCall}
 use Rattle.cl_schedule.specs.Seats.{IsSeatedAt}
+use Rattle.cl_schedule.proofs.Nearing.{call_nearer, post_known}
 use Rattle.cl_schedule.proofs.Seated.{has_advanced, has_posted, post_refused, seated_again, seated_backed, seated_expects}
 use Rattle.cl_schedule.proofs.Owing.{count_called, count_posted}
 use Rattle.cl_schedule.proofs.seats.advance.Goals as goal
@@ -31,6 +34,14 @@ pub returns-in-Ok-clause-faults : goal.returns-in-Ok-clause-faults
 returns-in-Ok-clause-faults g c =
     count_posted c.args.registry.now c.post.new.self c.args.seat.call c.in-Post.finding c.args.q _ c.in-Post.is c.requires.seated.1.unanswered c.in-Ok.ensures.posted
 
+pub returns-in-Ok-clause-known : goal.returns-in-Ok-clause-known
+returns-in-Ok-clause-known g c =
+    let told = g.T.Told.told in
+    let x = c.args.registry.now in
+    let at = subst (λ (u : Turn g.row.T.Denot). IsSeatedAt told x c.args.seat.task u c.args.q) c.in-Post.is c.requires.seated in
+    let P : Turn g.row.T.Denot → Type 0 = λ u. PostsKnown (λ r v n. IsNear (state_of x) r v n c.args.seat.task u) x c.post.new.self c.args.q in
+    subst P (sym c.in-Post.is) (post_known {A = g.row.T.Denot} told x c.post.new.self c.args.seat.task c.in-Post.finding c.args.q c.requires.kept at c.in-Ok.ensures.posted)
+
 pub returns-in-Post-clause-stray : goal.returns-in-Post-clause-stray
 returns-in-Post-clause-stray g c =
     let at = subst (λ (u : Turn g.row.T.Denot). IsSeatedAt g.T.Told.told c.args.registry.now c.args.seat.task u c.args.q) c.in-Post.is c.requires.seated in
@@ -52,4 +63,5 @@ returns g c =
       faults = count_called told c.args.registry.now c.reply_to-reply.new.registry c.args.seat.call c.read_on.result.call c.reply_to-reply.result _ _ _ _ _ says c.read_on.ensures.faults;
       stray = tt;
       kept = says.kept;
+      known = call_nearer told c.args.registry.now c.reply_to-reply.new.registry c.args.seat.task c.read_on.result.task c.args.seat.call c.read_on.result.call c.args.q c.reply_to-reply.result _ _ _ _ c.requires.seated says c.read_on.ensures.known;
     }

@@ -1,7 +1,10 @@
-use Rattle.std.proofs.Common.{arith, refl, sym}
+use Rattle.std.proofs.Common.{arith, refl, sym, ◌+◌, ℕ, subst}
 use Rattle.cl_tasks.specs.declared.turn.Turn.{Turn}
 use Rattle.cl_tasks.specs.declared.turn.Turn.TheVariants as turn
 use Rattle.cl_schedule.proofs.Owing.{count_is, count_none, count_told, owed_told}
+use Rattle.cl_registry.specs.Tables.{state_of}
+use Rattle.cl_schedule.specs.Nearing.{IsNear}
+use Rattle.cl_schedule.proofs.Nearing.{near_on, no_read}
 use Rattle.cl_schedule.proofs.Seated.{expects_read, ready_on, seated_on}
 use Rattle.cl_schedule.proofs.Steps.{TurnSays}
 use Rattle.cl_schedule.proofs.seats.read_on.Goals as goal
@@ -23,6 +26,9 @@ loop-loader-preserved g c =
       ready = λ x r ready. ready_on g.T.Told.told x r c.loop-loader.task c.turn.new.self c.loop-loader.reply c.read-reply.result c.in-Read.loader c.in-Read.name (inv.ready x r ready) says less (c.read-reply.ensures.replied x);
       less = omega arith;
       faults = count_told _ _ _ _ _ _ inv.faults (sym (owed_told c.loop-loader.task c.loop-loader.reply u inv.expects says.refused)) c.read-reply.ensures.faults;
+      known = λ x r v at q.
+          let k = inv.known x r v at q in
+          absurd (no_read {A = g.row.T.Denot} (state_of x) r v c.loop-loader.task c.turn.new.self c.loop-loader.reply c.in-Read.loader c.in-Read.name k.0 k.1 e.own e.refused);
     }
 
 pub returns-in_default : goal.returns-in_default
@@ -37,4 +43,8 @@ returns-in_default g c =
       seated = λ x q r ready. seated_on g.T.Told.told x q r c.loop-loader.task c.turn.new.self c.loop-loader.reply c.turn.result (inv.ready x r ready) says less;
       less = omega arith;
       faults = count_is _ _ _ _ _ _ refl (owed_told c.loop-loader.task c.loop-loader.reply c.turn.result inv.expects says.refused) inv.faults;
+      known = λ x r v at q.
+          let k = inv.known x r v at q in
+          subst (λ (n : ℕ). IsNear (state_of x) r v (n + 1) c.turn.new.self c.turn.result) k.2
+          (near_on (state_of x) r v c.loop-loader.task c.turn.new.self c.loop-loader.reply c.turn.result k.0 k.1 e.own e.refused);
     }

@@ -1,21 +1,21 @@
 -- A request whose verdict the tables have, while requests take turns: each call brings it nearer to its answer (JVMS SE 8, 5.3, 5.4.2, 5.4.3).
-use Rattle.std.proofs.Common.{◌≡◌, ◌⊎◌, inl, inr, ◌∙◌, ◌+◌, ◌<◌, ◌≤◌, ℕ, zero, suc, Bool, true, false, List, [], ◌∷◌, ◌++◌, length, Option, Some, None, refl, sym, ap, subst, arith}
-use Rattle.std.specs.Prelude.{Contains, Result, Ok, Err, IfOk, MatchOption, slice_get, slice_set}
+use Rattle.std.proofs.Common.{◌≡◌, ◌⊎◌, inl, inr, ◌∙◌, ◌+◌, ◌<◌, ◌≤◌, ℕ, suc, true, false, List, Option, Some, None, refl, sym, ap, subst, arith}
+use Rattle.std.specs.Prelude.{Result, Ok, Err, IfOk, MatchOption, slice_get}
 use Rattle.cl_model.specs.declared.answer.Answer as rust
 use Rattle.cl_model.specs.declared.class.Class.{Class}
 use Rattle.cl_model.specs.declared.request.Request.{Request}
 use Rattle.cl_model.specs.declared.request.Request.TheVariants as requests
 use Rattle.cl_model.specs.Content.{Content}
-use Rattle.cl_model.specs.States.{State, Verdict, Answer, settled_to, start}
-use Rattle.cl_model.specs.Machine.{Step, Post, state_after}
+use Rattle.cl_model.specs.States.{State, Verdict, start}
+use Rattle.cl_model.specs.Machine.{Step, state_after}
 use Rattle.cl_model.specs.Plans as plans
-use Rattle.cl_model.specs.Views.{answer_of, request_of}
+use Rattle.cl_model.specs.Views.{answer_of}
 use Rattle.cl_model.proofs.Service.{state_append}
 use Rattle.cl_model.proofs.Sound.{settled_stay, prepared_stay}
-use Rattle.cl_config.specs.Views.{Configured, Scripted}
+use Rattle.cl_config.specs.Views.{Configured}
 use Rattle.cl_findings.specs.Findings.{Answered}
 use Rattle.cl_registry.specs.Tables.{Shown, IsKept, IsOpen, state_of, steps, with_post}
-use Rattle.cl_tasks.specs.Follows.{Posts, Refuses, refusal}
+use Rattle.cl_tasks.specs.Follows.{Refuses, refusal}
 use Rattle.cl_tasks.specs.Measures.{all_left}
 use Rattle.cl_tasks.specs.Tasks.{Tasked}
 use Rattle.cl_tasks.specs.Turns.{AnswersOwn, GoesOnWith, IsReplyTo, call_of}
@@ -24,11 +24,11 @@ use Rattle.cl_tasks.specs.declared.turn.Reply.TheVariants as reply
 use Rattle.cl_tasks.specs.declared.turn.Turn.{Turn}
 use Rattle.cl_tasks.specs.declared.turn.Turn.TheVariants as turn
 use Rattle.cl_schedule.specs.declared.choices.Room.{Room}
-use Rattle.cl_schedule.specs.Known.{Has, SaysOrLacks}
+use Rattle.cl_schedule.specs.Known.{Has}
 use Rattle.cl_schedule.specs.Nearing.{AtHand, ComesNearer, HasNoSeat, IsNear, IsNearAt, IsNearBy, OnWay, OwnCall, PostsKnown, calls_after, calls_from}
 use Rattle.cl_schedule.specs.Replies.{CallSays, IsCall, IsReplied}
 use Rattle.cl_schedule.specs.Rooms.{AllSeated, left_at, left_of}
-use Rattle.cl_schedule.specs.Seats.{GoesOn, IsSeated, IsSeatedAt}
+use Rattle.cl_schedule.specs.Seats.{GoesOn, IsSeatedAt}
 use Rattle.cl_schedule.proofs.Histories.{steps_posts, unposted}
 use Rattle.cl_schedule.proofs.Known.{has_stays}
 use Rattle.cl_schedule.proofs.Seated.{request_of_call}
@@ -88,15 +88,15 @@ post_or_call other = inr tt
 pub near_on : {A : Type 0} (s : State) (r : Request) (v : Verdict) (t new : Tasked) (told : Reply A) (u : Turn A) → AtHand s r v t told → t.request ≡ Some r → AnswersOwn t new told u → Refuses (refusal t told) u → IsNear s r v (calls_after told + 1) new u
 near_on {A = A} s r v t new told u at q own refused = elim (post_or_call u) [
   | inl post ↦ (
-    let f = post.0 in
-    let P : Turn A → Type 0 = λ (w : Turn A). IsNear s r v (calls_after told + 1) new w in
-    subst P (sym post.1) (record {
-      way = post_says {A = A} s r v t new told f at q
-          (subst (λ (w : Turn A). AnswersOwn t new told w) post.1 own)
-          (subst (λ (w : Turn A). Refuses (refusal t told) w) post.1 refused);
-      calls = omega arith;
-    })
-  )
+      let f = post.0 in
+      let P : Turn A → Type 0 = λ (w : Turn A). IsNear s r v (calls_after told + 1) new w in
+      subst P (sym post.1) (record {
+        way = post_says {A = A} s r v t new told f at q
+            (subst (λ (w : Turn A). AnswersOwn t new told w) post.1 own)
+            (subst (λ (w : Turn A). Refuses (refusal t told) w) post.1 refused);
+        calls = omega arith;
+      })
+      )
   | inr call ↦ record {
     way = on_way s r v new u call (own_call s r v t new told u at q own refused call);
     calls = let few = few_calls s r v t new told u at q own refused call in omega arith;

@@ -8,7 +8,7 @@ use Rattle.cl_model.specs.Machine.{Scheduled, Setting, Step, state_after}
 use Rattle.cl_model.specs.Service.{PassesRounds}
 use Rattle.cl_model.proofs.Service.{state_append}
 use Rattle.cl_registry.specs.Tables.{Shown, state_of, steps}
-use Rattle.cl_schedule.specs.Choices.{Chooses, Plays, PlayedAs, ArePrompt, IsPieceOf, IsPlayed, IsPrompt, Piece, piece, steps_in}
+use Rattle.cl_schedule.specs.Choices.{Plays, PlayedAs, ArePrompt, IsPieceOf, IsPrompt, Piece, piece, steps_in}
 use Rattle.cl_schedule.specs.Rooms.{PlayedPast, PlayedTo, PlaysIn, SameScript, IsPlayedBy}
 use Rattle.cl_config.specs.Loaders.{schedule_of}
 use Rattle.cl_config.specs.Views.{Scripted}

@@ -2,7 +2,7 @@
 use Rattle.std.proofs.Common.{◌≡◌, ◌⊎◌, inl, inr, ◌∙◌, ◌+◌, ◌<◌, ◌≤◌, ◌%◌, ℕ, zero, suc, Bool, true, false, List, [], ◌∷◌, ◌++◌, length, Option, Some, None, refl, sym, ap, subst, arith, append_assoc}
 use Rattle.std.proofs.lemmas.Bool.Decides.{nat_tests}
 use Rattle.std.specs.Prelude.{if◌then◌else◌, nat_eq, replicate, slice_get, slice_set}
-use Rattle.std.proofs.lemmas.List.{append-nil, append_cancel_left}
+use Rattle.std.proofs.lemmas.List.{append_cancel_left}
 use Rattle.cl_config.specs.Loaders.{schedule_of}
 use Rattle.cl_config.specs.Views.{Scripted}
 use Rattle.cl_model.specs.declared.answer.Answer as rust
@@ -17,9 +17,9 @@ use Rattle.cl_registry.specs.Tables.{Shown, IsKept, IsOpen, state_of, steps, wit
 use Rattle.cl_tasks.specs.Tasks.{Tasked}
 use Rattle.cl_tasks.specs.declared.turn.Turn.{Turn}
 use Rattle.cl_schedule.specs.declared.choices.Room.{Room}
-use Rattle.cl_schedule.specs.Choices.{ArePrompt, Chooses, IsPrompt, Piece, first_taken, is_of, piece, taken_by, takings, waiting}
-use Rattle.cl_schedule.specs.Known.{Has, SaysOrLacks}
-use Rattle.cl_schedule.specs.Nearing.{AreNear, ComesNearer, HasNoSeat, IsNear, IsNearAt, IsNearBy, KeepsNear, PostsKnown, PostsPromptly}
+use Rattle.cl_schedule.specs.Choices.{ArePrompt, Chooses, IsPrompt, Piece, first_taken, is_of, piece, taken_by, takings}
+use Rattle.cl_schedule.specs.Known.{Has}
+use Rattle.cl_schedule.specs.Nearing.{AreNear, ComesNearer, IsNear, IsNearAt, IsNearBy, KeepsNear, PostsKnown, PostsPromptly}
 use Rattle.cl_schedule.specs.Replies.{Did}
 use Rattle.cl_schedule.specs.Rooms.{HasTaken}
 use Rattle.cl_schedule.specs.Rounds.{RoundsPassed}
@@ -177,7 +177,7 @@ is_prompt old new content c one rounds ps posts whole chosen passed = λ q r s v
       k.0,
       k.2,
       only_post (machine old content) (state_of old) (state_after (state_of old) one) c q k.0 one rounds k.1 chosen passed
-      (append_cancel_left (steps old) (one ++ rounds) (Post q k.0 ∷ k.1) (sym whole ∙ k.3)),
+          (append_cancel_left (steps old) (one ++ rounds) (Post q k.0 ∷ k.1) (sym whole ∙ k.3)),
     )
 
 -- ---- the room behind one piece more

@@ -288,7 +288,7 @@ plays_in (Some content) old mid new choice same (one, whole, chosen) passed =
       passed.steps_more ∙ ap (λ (es : List Step). es ++ passed.passed) whole ∙ append_assoc (steps old) one passed.passed,
       chosen,
       subst (λ (s : State). PassesRounds (machine old content) s passed.passed) there
-      (subst (λ (g : Setting). PassesRounds g (state_of mid) passed.passed) (same_machine old mid content same.config same.script) (passed.rounds content)),
+          (subst (λ (g : Setting). PassesRounds g (state_of mid) passed.passed) (same_machine old mid content same.config same.script) (passed.rounds content)),
     )
 
 pub same_rounds : (old mid new : Shown) → SameScript old mid → RoundsPassed mid new → SameScript old new
@@ -385,7 +385,7 @@ pub falls_gathered : {A : Type 0} (told : Option Content) (x : Shown) (choice : 
     → length done.tasks.items ≡ length mid.tasks.items → done.next ≡ n → length s.requests ≡ length mid.tasks.items → FirstFalls choice old done
 falls_gathered told x choice old mid done s n is takes none are tasks next whole = λ zero_is some. elim (takes zero_is some) [
   | inl one ↦ fewer (room_sum done) (room_sum old) (first_left done done.waiting.items) (first_left old old.waiting.items)
-    (same_sum (ap length none) are.until are.within ∙ one) (first_bound told x done done.waiting.items is)
+      (same_sum (ap length none) are.until are.within ∙ one) (first_bound told x done done.waiting.items is)
   | inr same ↦ absurd (some (sym same.1 ∙ none))
 ]
   where

@@ -21,7 +21,7 @@ use Rattle.cl_tasks.specs.declared.turn.Reply.{Reply}
 use Rattle.cl_tasks.specs.declared.turn.Reply.TheVariants as reply
 use Rattle.cl_tasks.specs.declared.turn.Turn.{Turn}
 use Rattle.cl_tasks.specs.declared.turn.Turn.TheVariants as turn
-use Rattle.cl_schedule.specs.Known.{Has, SaysOrLacks, TellsKnown, IsToldAtOnce}
+use Rattle.cl_schedule.specs.Known.{Has, SaysOrLacks, TellsKnown}
 use Rattle.cl_schedule.specs.Nearing.{AtHand, HasOf, OwnCall}
 use Rattle.cl_schedule.specs.Replies.{Did, IsCall, IsRead, IsReplied, IsStepOf}
 

@@ -3,7 +3,7 @@ use Rattle.std.specs.Prelude.{◌≡◌, ◌≤◌, ◌&&◌, ◌%◌, ℕ, suc,
 use Rattle.cl_config.specs.Views.{Configured, Scripted}
 use Rattle.cl_model.specs.Content.{Content}
 use Rattle.cl_model.specs.States.{State, answer_to, start, Verdict, Answer}
-use Rattle.cl_model.specs.Machine.{Setting, Scheduled, Step, state_after, Post, after}
+use Rattle.cl_model.specs.Machine.{Setting, Scheduled, Step, state_after, Post}
 use Rattle.cl_model.specs.Service.{IsPiece, PassesRounds}
 use Rattle.cl_registry.specs.declared.report.Report.{Report}
 use Rattle.cl_registry.specs.Tables.{Shown, steps}

@@ -147,7 +147,7 @@ fn turn_of<T: Told, S: Source<T>>(
     ensures known { IfOk result (λ o. MatchOption o
         (PostsKnown (IsNearAt (state_of registry.old) room.old q) registry.old registry.new q)
         (λ s. ComesNearer (IsNearAt (state_of registry.old) room.old q) registry.old registry.new q
-            s.task s.call)) }
+        s.task s.call)) }
 {
     let seat = match room.take(q as usize) {
         Some(seat) => seat,

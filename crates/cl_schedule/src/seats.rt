@@ -102,9 +102,9 @@ pub(crate) fn advance<T: Told, S: Source<T>>(
     ensures kept { IsKept T.told registry.new }
     ensures known { IfOk result (λ o. MatchOption o
         (PostsKnown (λ r v n. IsNear (state_of registry.old) r v n seat.task seat.call)
-            registry.old registry.new q)
+        registry.old registry.new q)
         (λ s. ComesNearer (λ r v n. IsNear (state_of registry.old) r v n seat.task seat.call)
-            registry.old registry.new q s.task s.call)) }
+        registry.old registry.new q s.task s.call)) }
 {
     let Seat { task, call } = seat;
     match call {

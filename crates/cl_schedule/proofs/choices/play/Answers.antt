@@ -6,7 +6,7 @@ use Rattle.cl_registry.specs.Tables.{state_of}
 use Rattle.cl_schedule.specs.Nearing.{ComesNearer, IsNearAt, PostsKnown}
 use Rattle.cl_schedule.specs.Rooms.{left_at}
 use Rattle.cl_schedule.specs.Seats.{HasAdvanced, HasPosted, IsSeatedAt}
-use Rattle.cl_schedule.proofs.Rooming.{chosen_advanced, chosen_posted, first_advanced, first_place, if_some, match_none, match_some, room_advanced, room_posted, waits_at, same_turned, none_waits}
+use Rattle.cl_schedule.proofs.Rooming.{chosen_advanced, chosen_posted, first_advanced, first_place, if_some, match_none, match_some, room_advanced, room_posted, waits_at, none_waits}
 use Rattle.cl_schedule.proofs.Owing.{debt_advanced, debt_posted, seats_advanced, seats_posted}
 use Rattle.cl_schedule.proofs.Prompt.{keeps_advanced, keeps_none, keeps_posted}
 use Rattle.cl_schedule.proofs.Waiting.{waiting_is}

@@ -1,6 +1,5 @@
-use Rattle.std.proofs.Common.{◌∙◌, arith, subst, sym, take, ◌++◌, ◌∷◌, [], ℕ, List, refl}
+use Rattle.std.proofs.Common.{◌∙◌, arith, subst, sym, take, refl}
 use Rattle.std.specs.Prelude.{slice_index}
-use Rattle.cl_schedule.specs.Rooms.{PlayedTo}
 use Rattle.cl_schedule.proofs.Owing.{count_none, count_then}
 use Rattle.cl_schedule.proofs.Playing.{past_on, played_on, take_more, RoomPlayed, room_none, room_past}
 use Rattle.cl_schedule.proofs.choices.play_all.Goals as goal

@@ -1,7 +1,7 @@
 use Rattle.std.proofs.Common.{take}
 use Rattle.cl_registry.specs.Tables.{IsKept, MayGoOn}
 use Rattle.cl_schedule.specs.Counting.{CountGrows, debt}
-use Rattle.cl_schedule.specs.Rooms.{IsRoom, OpenSeats, PlayedPast, PlayedTo, SameScript, room_left}
+use Rattle.cl_schedule.specs.Rooms.{IsRoom, OpenSeats, SameScript, room_left}
 use Rattle.cl_schedule.proofs.Playing.{RoomPast, RoomPlayed}
 use Rattle.cl_schedule.proofs.choices.play_all.Given as goal
 

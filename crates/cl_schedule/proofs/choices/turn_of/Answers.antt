@@ -6,7 +6,7 @@ use Rattle.cl_model.specs.States.{Verdict}
 use Rattle.cl_registry.specs.Tables.{state_of}
 use Rattle.cl_schedule.specs.Nearing.{ComesNearer, IsNear, IsNearAt}
 use Rattle.cl_schedule.specs.declared.seats.Seat.{Seat}
-use Rattle.cl_schedule.specs.Seats.{IsSeatedAt, IsSeated}
+use Rattle.cl_schedule.specs.Seats.{IsSeatedAt}
 use Rattle.cl_schedule.specs.Counting.{CountGrows, fault, faults, owed, owed_at, owed_of}
 use Rattle.cl_schedule.proofs.Owing.{count_begun, count_first, count_refused, count_seated, owed_there}
 use Rattle.cl_schedule.proofs.Nearing.{all_no_seat, begun_near, memory_known, place_known, place_nearer, same_request, seat_near}
@@ -74,20 +74,20 @@ returns-clause-known g c =
     let near : Request → Verdict → ℕ → Type 0 = λ r v n. IsNear (state_of x) r v n c.match-take.seat.task c.match-take.seat.call in
     let by : Request → Verdict → ℕ → Type 0 = IsNearAt (state_of x) room q in
     let to : (r : Request) (v : Verdict) (n : ℕ) → slice_get x.script.requests q ≡ Some r → by r v n → near r v n = λ r v n asked at.
-        let P : Seat g.row.T.Denot → Type 0 = λ s. IsNear (state_of x) r v n s.task s.call in
-        elim c.match-take.branch [
-          | in-Some w ↦ (
-            let stands = w.in-Some.ensures.seat in
-            subst P (sym w.seat-is) (seat_near (state_of x) r v n room q w.in-Some.seat.task w.in-Some.seat.call stands.0 stands.1 at)
+    let P : Seat g.row.T.Denot → Type 0 = λ s. IsNear (state_of x) r v n s.task s.call in
+    elim c.match-take.branch [
+      | in-Some w ↦ (
+          let stands = w.in-Some.ensures.seat in
+          subst P (sym w.seat-is) (seat_near (state_of x) r v n room q w.in-Some.seat.task w.in-Some.seat.call stands.0 stands.1 at)
           )
-          | in-None+in_ok-held-in-None+in_ok-request-in-None+in-Ok w ↦ (
-            let k = w.in_ok-request-in-None.request in
-            let of = ap (λ (s : Scripted). slice_get s.requests q) c.requires.script ∙ w.in_ok-request-in-None.ensures in
-            let R : Request → Type 0 = λ m. IsNear (state_of x) m v 3 w.in-Ok.seat.task w.in-Ok.seat.call in
-            subst P (sym w.seat-is)
-            (begun_near (state_of x) r v n room q w.in-Ok.seat.task w.in-Ok.seat.call (all_no_seat told x room q r c.requires.seated asked (w.in-None.ensures.none refl))
-            (subst R (same_request x q k r of asked) (w.in-Ok.ensures.known x v)) at)
+      | in-None+in_ok-held-in-None+in_ok-request-in-None+in-Ok w ↦ (
+          let k = w.in_ok-request-in-None.request in
+          let of = ap (λ (s : Scripted). slice_get s.requests q) c.requires.script ∙ w.in_ok-request-in-None.ensures in
+          let R : Request → Type 0 = λ m. IsNear (state_of x) m v 3 w.in-Ok.seat.task w.in-Ok.seat.call in
+          subst P (sym w.seat-is)
+          (begun_near (state_of x) r v n room q w.in-Ok.seat.task w.in-Ok.seat.call (all_no_seat told x room q r c.requires.seated asked (w.in-None.ensures.none refl))
+          (subst R (same_request x q k r of asked) (w.in-Ok.ensures.known x v)) at)
           )
-        ] in
+    ] in
     place_known near by x y q (λ (s : Seat g.row.T.Denot). ComesNearer near x y q s.task s.call) (λ (s : Seat g.row.T.Denot). ComesNearer by x y q s.task s.call) c.advance.result to
     (λ s nearer. place_nearer near by x y q s.task s.call to nearer) c.advance.ensures.known

@@ -7,7 +7,7 @@ use Rattle.cl_schedule.specs.Nearing.{IsNear, PostsKnown}
 use Rattle.cl_schedule.specs.Replies.{IsCall}
 use Rattle.cl_schedule.specs.Seats.{IsSeatedAt}
 use Rattle.cl_schedule.proofs.Nearing.{call_nearer, post_known}
-use Rattle.cl_schedule.proofs.Seated.{has_advanced, has_posted, post_refused, seated_again, seated_backed, seated_expects}
+use Rattle.cl_schedule.proofs.Seated.{has_advanced, has_posted, post_refused, seated_again, seated_backed}
 use Rattle.cl_schedule.proofs.Owing.{count_called, count_posted}
 use Rattle.cl_schedule.proofs.seats.advance.Goals as goal
 

@@ -10,7 +10,7 @@ use Rattle.cl_schedule.proofs.Steps.{TurnSays}
 use Rattle.cl_schedule.proofs.seats.read_on.Goals as goal
 
 pub loop-loader-init : goal.loop-loader-init
-loop-loader-init g c = record { expects = c.requires.expects; ready = λ x r ready. ready; less = omega arith; faults = count_none _ _ }
+loop-loader-init g c = record { expects = c.requires.expects; ready = λ x r ready. ready; less = omega arith; faults = count_none _ _; known = λ x r v at q. (at, q, refl) }
 
 pub loop-loader-preserved : goal.loop-loader-preserved
 loop-loader-preserved g c =

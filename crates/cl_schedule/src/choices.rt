@@ -186,12 +186,13 @@ fn play<T: Told, S: Source<T>>(
     ensures room { IfOk result (λ _. IsRoom T.told registry.new room.new) }
     ensures seats { IfOk result (λ _. OpenSeats registry.new room.new) }
     ensures same { IfOk result (λ _. SameScript registry.old registry.new) }
-    ensures faults { IfOk result (λ _. CountGrows (debt registry.old room.old) (debt registry.new room.new)
-        (S.refused source.old) (S.refused source.new)) }
+    ensures faults { IfOk result (λ _. CountGrows (debt registry.old room.old)
+        (debt registry.new room.new) (S.refused source.old) (S.refused source.new)) }
     ensures less { IfOk result (λ _. TakesFirst choice room.old room.new) }
     ensures refused { IfErr result (IsStrayUntold T.told) }
     ensures kept { IsKept T.told registry.new }
-    ensures known { IfOk result (λ _. KeepsNear registry.old registry.new room.old room.new choice) }
+    ensures known { IfOk result (λ _. KeepsNear registry.old registry.new
+        room.old room.new choice) }
 {
     let waiting = room.waiting.as_slice();
     let len = waiting.len();
@@ -230,12 +231,13 @@ fn choose<T: Told, S: Source<T>>(
     ensures seats { IfOk result (λ _. OpenSeats registry.new room.new) }
     ensures over { IfOk result (λ _. MayGoOn registry.new → ⊥) }
     ensures same { IfOk result (λ _. SameScript registry.old registry.new) }
-    ensures faults { IfOk result (λ _. CountGrows (debt registry.old room.old) (debt registry.new room.new)
-        (S.refused source.old) (S.refused source.new)) }
+    ensures faults { IfOk result (λ _. CountGrows (debt registry.old room.old)
+        (debt registry.new room.new) (S.refused source.old) (S.refused source.new)) }
     ensures less { IfOk result (λ _. FirstFalls choice room.old room.new) }
     ensures refused { IfErr result (IsStrayUntold T.told) }
     ensures kept { IsKept T.told registry.new }
-    ensures known { IfOk result (λ _. KeepsNear registry.old registry.new room.old room.new choice) }
+    ensures known { IfOk result (λ _. KeepsNear registry.old registry.new
+        room.old room.new choice) }
 {
     play(alloc, config, script, registry, source, room, choice)?;
     pass_rounds(registry);
@@ -270,8 +272,8 @@ fn play_all<T: Told, S: Source<T>>(
     ensures none { IfOk result (λ _. room.new.waiting.items ≡ []) }
     ensures over { IfOk result (λ _. MayGoOn registry.new → ⊥) }
     ensures same { IfOk result (λ _. SameScript registry.old registry.new) }
-    ensures faults { IfOk result (λ _. CountGrows (debt registry.old room.old) (debt registry.new room.new)
-        (S.refused source.old) (S.refused source.new)) }
+    ensures faults { IfOk result (λ _. CountGrows (debt registry.old room.old)
+        (debt registry.new room.new) (S.refused source.old) (S.refused source.new)) }
     ensures refused { IfErr result (IsStrayUntold T.told) }
     ensures kept { IsKept T.told registry.new }
 {

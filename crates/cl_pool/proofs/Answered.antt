@@ -1,5 +1,5 @@
 -- What is told of a call that was refused (JVMS SE 8, 5.3 to 5.4.3).
-use Rattle.std.proofs.Common.{◌≡◌, ℕ, subst, sym}
+use Rattle.std.proofs.Common.{◌≡◌, ℕ}
 use Rattle.std.specs.Prelude.{MatchOption}
 use Rattle.cl_model.specs.declared.class.Class.{Class}
 use Rattle.cl_model.specs.States.{IsRecorded}
@@ -14,8 +14,6 @@ use Rattle.cl_registry.specs.Refusals.{DefineRefusedFor, ImposeRefusedFor, Initi
 use Rattle.cl_registry.specs.Settling.{MaySettle}
 use Rattle.cl_registry.specs.Tables.{Shown, MayEnter, MayJoin, state_of}
 use Rattle.cl_tasks.specs.Waits.{Waits, Defining, Initiating, Tracing, Settling, Imposing, Marking, Ended}
-use Rattle.cl_tasks.specs.declared.turn.Reply.{Reply}
-use Rattle.cl_tasks.specs.declared.turn.Reply.TheVariants as reply
 use Rattle.cl_schedule.specs.Replies.{IsReplied}
 use Rattle.cl_schedule.proofs.Calls.{define_refused, initiate_refused, impose_refused}
 use Rattle.cl_pool.specs.Calls.{reply_of}

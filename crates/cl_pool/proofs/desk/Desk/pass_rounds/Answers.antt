@@ -1,7 +1,10 @@
 use Rattle.std.proofs.Common.{ap}
 use Rattle.cl_registry.specs.Tables.{Shown}
-use Rattle.cl_schedule.proofs.Rounds.{passing_on, end_of_rounds, next_number, round_goes}
+use Rattle.cl_schedule.proofs.Rounds.{passing_none, passing_on, end_of_rounds, next_number, round_goes}
 use Rattle.cl_pool.proofs.desk.Desk.pass_rounds.Goals as goal
+
+pub loop-round-init : goal.loop-round-init
+loop-round-init g c = passing_none c.args.self.now.registry
 
 pub loop-round-smaller : goal.loop-round-smaller
 loop-round-smaller g c = next_number c.loop-round.self.registry c.next_round.new.self c.in-Ok.ensures.may c.in-Ok.ensures.begun

@@ -24,6 +24,7 @@ pub fn at(pool: &[Entry], index: u16) -> Option<&Entry>
     pool.get(index as usize - 1)
 }
 
+/// The text that stands at an index of a pool (JVMS SE 8, 4.4.7).
 pub fn text_at(pool: &[Entry], index: u16) -> Option<&Name>
     ensures { option_map (λ n. n.now) result ≡ text_at pool.now index }
 {
@@ -33,7 +34,7 @@ pub fn text_at(pool: &[Entry], index: u16) -> Option<&Name>
     }
 }
 
-/// The name of the class or the array that stands at an index.
+/// The name of the class or the array that stands at an index of a pool (JVMS SE 8, 4.4.1).
 pub fn type_name(pool: &[Entry], index: u16) -> Option<&Name>
     ensures { option_map (λ n. n.now) result ≡ type_name pool.now index }
 {

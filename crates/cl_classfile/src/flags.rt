@@ -35,8 +35,8 @@ const ANNOTATION: u16 = 0x2000;
 
 const ENUM: u16 = 0x4000;
 
-/// Whether the flags have this bit.
-fn has(flags: u16, bit: u16) -> bool
+/// Whether flags have this bit (JVMS SE 8, tables 4.1-B, 4.5-A and 4.6-A).
+pub fn has_flag(flags: u16, bit: u16) -> bool
     requires { 0 < bit }
     ensures { result ≡ has flags bit }
 {
@@ -47,26 +47,29 @@ fn has(flags: u16, bit: u16) -> bool
 pub fn is_public(flags: u16) -> bool
     ensures { result ≡ has flags public }
 {
-    has(flags, PUBLIC)
+    has_flag(flags, PUBLIC)
 }
 
 /// Whether these are the flags of an interface.
 pub fn is_interface(flags: u16) -> bool
     ensures { result ≡ has flags interface }
 {
-    has(flags, INTERFACE)
+    has_flag(flags, INTERFACE)
 }
 
 fn is_interface_flags(flags: u16) -> bool
     ensures { result ≡ is_interface_flags flags }
 {
-    has(flags, ABSTRACT) && !has(flags, FINAL) && !has(flags, SUPER) && !has(flags, ENUM)
+    has_flag(flags, ABSTRACT)
+        && !has_flag(flags, FINAL)
+        && !has_flag(flags, SUPER)
+        && !has_flag(flags, ENUM)
 }
 
 fn is_plain_flags(flags: u16) -> bool
     ensures { result ≡ is_plain_flags flags }
 {
-    !has(flags, ANNOTATION) && !(has(flags, FINAL) && has(flags, ABSTRACT))
+    !has_flag(flags, ANNOTATION) && !(has_flag(flags, FINAL) && has_flag(flags, ABSTRACT))
 }
 
 /// Whether the flags of a class keep their table (JVMS SE 8, 4.1).
@@ -83,29 +86,29 @@ pub fn is_class_flags(flags: u16) -> bool
 pub fn is_static(flags: u16) -> bool
     ensures { result ≡ has flags static }
 {
-    has(flags, STATIC)
+    has_flag(flags, STATIC)
 }
 
 /// At most one of public, private and protected.
 fn has_one_access(flags: u16) -> bool
     ensures { result ≡ has_one_access flags }
 {
-    !(has(flags, PUBLIC) && has(flags, PRIVATE))
-        && !(has(flags, PUBLIC) && has(flags, PROTECTED))
-        && !(has(flags, PRIVATE) && has(flags, PROTECTED))
+    !(has_flag(flags, PUBLIC) && has_flag(flags, PRIVATE))
+        && !(has_flag(flags, PUBLIC) && has_flag(flags, PROTECTED))
+        && !(has_flag(flags, PRIVATE) && has_flag(flags, PROTECTED))
 }
 
 fn is_constant_flags(flags: u16) -> bool
     ensures { result ≡ is_constant_flags flags }
 {
-    has(flags, PUBLIC)
-        && has(flags, STATIC)
-        && has(flags, FINAL)
-        && !(has(flags, PRIVATE)
-            || has(flags, PROTECTED)
-            || has(flags, VOLATILE)
-            || has(flags, TRANSIENT)
-            || has(flags, ENUM))
+    has_flag(flags, PUBLIC)
+        && has_flag(flags, STATIC)
+        && has_flag(flags, FINAL)
+        && !(has_flag(flags, PRIVATE)
+            || has_flag(flags, PROTECTED)
+            || has_flag(flags, VOLATILE)
+            || has_flag(flags, TRANSIENT)
+            || has_flag(flags, ENUM))
 }
 
 /// Whether the flags of a field, of an interface or another class, keep their table (JVMS SE 8, 4.5).
@@ -115,29 +118,29 @@ pub fn is_field_flags(of_interface: bool, flags: u16) -> bool
     if of_interface {
         is_constant_flags(flags)
     } else {
-        has_one_access(flags) && !(has(flags, FINAL) && has(flags, VOLATILE))
+        has_one_access(flags) && !(has_flag(flags, FINAL) && has_flag(flags, VOLATILE))
     }
 }
 
 fn may_be_abstract(flags: u16) -> bool
     ensures { result ≡ may_be_abstract flags }
 {
-    !(has(flags, PRIVATE)
-        || has(flags, STATIC)
-        || has(flags, FINAL)
-        || has(flags, SYNCHRONIZED)
-        || has(flags, NATIVE)
-        || has(flags, STRICT))
+    !(has_flag(flags, PRIVATE)
+        || has_flag(flags, STATIC)
+        || has_flag(flags, FINAL)
+        || has_flag(flags, SYNCHRONIZED)
+        || has_flag(flags, NATIVE)
+        || has_flag(flags, STRICT))
 }
 
 fn may_be_of_interface(flags: u16) -> bool
     ensures { result ≡ may_be_of_interface flags }
 {
-    (has(flags, PUBLIC) || has(flags, PRIVATE))
-        && !(has(flags, PROTECTED)
-            || has(flags, FINAL)
-            || has(flags, SYNCHRONIZED)
-            || has(flags, NATIVE))
+    (has_flag(flags, PUBLIC) || has_flag(flags, PRIVATE))
+        && !(has_flag(flags, PROTECTED)
+            || has_flag(flags, FINAL)
+            || has_flag(flags, SYNCHRONIZED)
+            || has_flag(flags, NATIVE))
 }
 
 /// Whether the flags of a method that is neither `<init>` nor `<clinit>` keep their table (JVMS SE 8, 4.6).
@@ -145,7 +148,7 @@ pub fn is_method_flags(of_interface: bool, flags: u16) -> bool
     ensures { result ≡ is_method_flags of_interface flags }
 {
     has_one_access(flags)
-        && (!has(flags, ABSTRACT) || may_be_abstract(flags))
+        && (!has_flag(flags, ABSTRACT) || may_be_abstract(flags))
         && (!of_interface || may_be_of_interface(flags))
 }
 
@@ -153,10 +156,10 @@ pub fn is_method_flags(of_interface: bool, flags: u16) -> bool
 pub fn is_init_flags(flags: u16) -> bool
     ensures { result ≡ is_init_flags flags }
 {
-    !(has(flags, STATIC)
-        || has(flags, FINAL)
-        || has(flags, SYNCHRONIZED)
-        || has(flags, BRIDGE)
-        || has(flags, NATIVE)
-        || has(flags, ABSTRACT))
+    !(has_flag(flags, STATIC)
+        || has_flag(flags, FINAL)
+        || has_flag(flags, SYNCHRONIZED)
+        || has_flag(flags, BRIDGE)
+        || has_flag(flags, NATIVE)
+        || has_flag(flags, ABSTRACT))
 }

@@ -24,9 +24,11 @@ mod traits;
 mod widths;
 
 pub use attribute::Attribute;
+pub use checking::{text_at, type_name};
 pub use entry::Entry;
 pub use fault::{Fault, ReadError};
 pub use file::{ClassFile, read};
+pub use flags::has_flag;
 pub use laws::{
     has_one_spelling, parts_are_spelled, reading_finds_what_is_spelled, spells_one_file,
 };

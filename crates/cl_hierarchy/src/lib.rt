@@ -25,7 +25,7 @@ pub use fit::misfit;
 pub use frame::Frame;
 pub use lineage::Lineage;
 pub use making::{LineageFault, RowTable};
-pub use member::{has_flag, member_accessible};
+pub use member::member_accessible;
 pub use path::Path;
 pub use row::ClassRow;
 pub use supertype::{Role, Supertype};

@@ -6,6 +6,7 @@ ghost use Rattle.cl_hierarchy.specs.Lineages.{TellsAccess, TellsOpen};
 
 use crate::access::{is_same, same_package};
 use crate::lineage::Lineage;
+use cl_classfile::has_flag;
 use cl_model::{Class, Told};
 
 const PUBLIC: u16 = 0x0001;
@@ -15,14 +16,6 @@ const PRIVATE: u16 = 0x0002;
 const PROTECTED: u16 = 0x0004;
 
 const STATIC: u16 = 0x0008;
-
-/// Whether the flags of a member have this bit (JVMS SE 8, tables 4.5-A and 4.6-A).
-pub fn has_flag(flags: u16, bit: u16) -> bool
-    requires { 0 < bit }
-    ensures { result ≡ flag.has flags bit }
-{
-    flags / bit % 2 == 1
-}
 
 /// Whether a protected member of a class, with these flags, is open to another through a third (JVMS SE 8, 5.4.4).
 fn protected_open<T: Told>(

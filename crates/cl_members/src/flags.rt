@@ -3,7 +3,7 @@
 ghost use Rattle.std.specs.Prelude.{◌≡◌};
 ghost use Rattle.cl_classfile.specs.Files.{is_public, is_private, is_static, is_abstract};
 
-use cl_hierarchy::has_flag;
+use cl_classfile::has_flag;
 
 const PUBLIC: u16 = 0x0001;
 

@@ -4,8 +4,7 @@ ghost use Rattle.std.specs.Prelude.{◌≡◌, ◌<◌, Some, IfOk, List, false,
 ghost use Rattle.cl_classfile.specs.Files.{file_of};
 ghost use Rattle.cl_preparation.specs.Filters.{Covers, slot};
 
-use crate::method::text_at;
-use cl_classfile::ClassFile;
+use cl_classfile::{ClassFile, text_at};
 use cl_names::Name;
 use std::alloc::{AllocError, Global};
 use std::marker::Model;

@@ -1,14 +1,11 @@
 //! The methods that a class declares.
 
 ghost use Rattle.std.specs.Prelude.{◌≡◌, Some, IfOk};
-ghost use Rattle.cl_classfile.specs.Files.{declared_by, file_of, method_of, text_at};
+ghost use Rattle.cl_classfile.specs.Files.{declared_by, file_of, method_of};
 ghost use Rattle.cl_preparation.specs.Methods.{IsTyped, is_instance, is_wide};
-ghost use Rattle.std.specs.Option.{option_map};
 
 use crate::key::MethodKey;
-use cl_classfile::{ClassFile, Entry, Member};
-use cl_hierarchy::has_flag;
-use cl_names::Name;
+use cl_classfile::{ClassFile, Entry, Member, has_flag, text_at};
 use std::alloc::{AllocError, Global};
 use std::marker::Model;
 
@@ -55,19 +52,6 @@ impl Method {
         ensures { result.now ≡ self.now.key }
     {
         &self.key
-    }
-}
-
-/// The text at an index of the pool (JVMS SE 8, 4.4.7).
-pub(crate) fn text_at(pool: &[Entry], index: u16) -> Option<&Name>
-    ensures { option_map (λ n. n.now) result ≡ text_at pool.now index }
-{
-    if index == 0 {
-        return None;
-    }
-    match pool.get(index as usize - 1) {
-        Some(Entry::Utf8(text)) => Some(text),
-        _ => None,
     }
 }
 

@@ -5,10 +5,9 @@ ghost use Rattle.std.specs.List.{flat_map};
 ghost use Rattle.std.specs.Option.{option_map};
 ghost use Rattle.std.specs.Char.{digit_char};
 ghost use Rattle.cl_classfile.specs.Files.{type_name, text_at};
-ghost use Rattle.cl_classfile.specs.Pool.{at};
 ghost use Rattle.cl_writer.specs.Listings.{printed_flags, printed_name, printed_super, printed_type, class_line, implements_line, member_line, listing_of};
 
-use cl_classfile::{ClassFile, Entry, Member};
+use cl_classfile::{ClassFile, Entry, Member, text_at, type_name};
 use cl_names::Name;
 use std::alloc::{AllocError, Global};
 
@@ -147,34 +146,4 @@ fn put_digit(text: &mut String, value: u16) -> Result<(), AllocError>
         b'a' + (value - 10)
     };
     text.push(char::from(digit))
-}
-
-/// The entry at an index, from 1 on.
-fn at(pool: &[Entry], index: u16) -> Option<&Entry>
-    ensures { option_map (λ e. e.now) result ≡ at pool.now index }
-{
-    if index == 0 {
-        return None;
-    }
-    pool.get(usize::from(index) - 1)
-}
-
-/// The text at an index.
-fn text_at(pool: &[Entry], index: u16) -> Option<&Name>
-    ensures { option_map (λ n. n.now) result ≡ text_at pool.now index }
-{
-    match at(pool, index)? {
-        Entry::Utf8(text) => Some(text),
-        _ => None,
-    }
-}
-
-/// The name of the class or array at an index.
-fn type_name(pool: &[Entry], index: u16) -> Option<&Name>
-    ensures { option_map (λ n. n.now) result ≡ type_name pool.now index }
-{
-    match at(pool, index)? {
-        Entry::Class(name) => text_at(pool, *name),
-        _ => None,
-    }
 }

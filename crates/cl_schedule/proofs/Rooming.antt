@@ -248,10 +248,10 @@ first_advanced {A = A} room mid done q i t u taken zero_is at in_tasks in_calls 
 -- ---- where a choice falls
 
 -- the number at a place of those that wait
-pub waits_at : (ws given : List ℕ) (choice : ℕ) → given ≡ ws → (length given ≡ 0 → ⊥) → slice_get ws (choice % length ws) ≡ Some (slice_index given (choice % length given))
-waits_at ws given choice same some =
-    subst (λ (xs : List ℕ). slice_get xs (choice % length xs) ≡ Some (slice_index given (choice % length given))) same
-    (index_at given (choice % length given) (mod-lt choice (positive (length given) some)))
+pub waits_at : (ws : List ℕ) (n choice q : ℕ) → n ≡ length ws → (n ≡ 0 → ⊥) → q ≡ slice_index ws (choice % n) → slice_get ws (choice % length ws) ≡ Some q
+waits_at ws n choice q count some is =
+    subst (λ (m : ℕ). slice_get ws (choice % m) ≡ Some q) count
+    (index_at ws (choice % n) (subst (λ (m : ℕ). choice % n < m) count (mod-lt choice (positive n some))) ∙ ap (λ (k : ℕ). Some k) (sym is))
   where
     positive : (n : ℕ) → (n ≡ 0 → ⊥) → 0 < n
     positive zero some = absurd (some refl)
@@ -394,12 +394,12 @@ falls_gathered told x choice old mid done s n is takes none are tasks next whole
 
 -- ---- who waits
 
-pub none_waits : (ws given : List ℕ) → given ≡ ws → length given ≡ 0 → ws ≡ []
-none_waits ws given same none = sym same ∙ empty given none
+pub none_waits : (ws : List ℕ) (n : ℕ) → n ≡ length ws → n ≡ 0 → ws ≡ []
+none_waits ws n count none = empty ws (sym count ∙ none)
   where
     empty : (xs : List ℕ) → length xs ≡ 0 → xs ≡ []
     empty [] e = refl
     empty (x ∷ xs) e = absurd (omega arith)
 
-pub some_wait : (ws given : List ℕ) → given ≡ ws → (length given ≡ 0 → ⊥) → ws ≡ [] → ⊥
-some_wait ws given same some none = some (ap length (same ∙ none))
+pub some_wait : (ws : List ℕ) (n : ℕ) → n ≡ length ws → (n ≡ 0 → ⊥) → ws ≡ [] → ⊥
+some_wait ws n count some none = some (count ∙ ap length none)

@@ -10,7 +10,7 @@ ghost use Rattle.cl_schedule.specs.Rooms.{AllSeated, ChoosesIn, FirstFalls, HasT
 ghost use Rattle.cl_schedule.specs.Nearing.{ComesNearer, IsNearAt, KeepsNear, NoneBegun, PostsKnown};
 ghost use Rattle.cl_schedule.specs.Seats.{HasAdvanced, HasPosted, IsSeatedAt};
 
-use crate::gather::gather;
+use crate::gather::{count, gather, number_at, take_out};
 use crate::seats::{Seat, advance, begin};
 use crate::serve::{ServeFault, pass_rounds, post, request_at};
 use cl_config::{Config, Script};
@@ -19,6 +19,7 @@ use cl_registry::{Registry, Report};
 use cl_source::Source;
 use cl_tasks::{Task, Turn};
 use std::alloc::{AllocError, Global};
+use std::collections::VecDeque;
 use std::sync::Arc;
 
 /// What is served of a script: of each request that was begun and has no answer its task and its call, and who waits.
@@ -29,7 +30,7 @@ struct Room<T: Told> {
     tasks: Vec<Option<Task<T>>>,
     calls: Vec<Option<Turn<T>>>,
     /// The numbers of the requests of the round that have no answer, in order.
-    waiting: Vec<u32>,
+    waiting: VecDeque<u32>,
     /// The requests from this number on are of later rounds.
     next: usize,
 }
@@ -45,7 +46,7 @@ impl<T: Told> Room<T> {
         Ok(Room {
             tasks: empty_places(alloc, count)?,
             calls: empty_places(alloc, count)?,
-            waiting: Vec::with_capacity(alloc, count)?,
+            waiting: VecDeque::with_capacity(alloc, count)?,
             next: 0,
         })
     }
@@ -194,17 +195,16 @@ fn play<T: Told, S: Source<T>>(
     ensures known { IfOk result (λ _. KeepsNear registry.old registry.new
         room.old room.new choice) }
 {
-    let waiting = room.waiting.as_slice();
-    let len = waiting.len();
+    let len = count(&room.waiting);
     if len == 0 {
         return Ok(());
     }
     let place = choice % len;
-    let q = waiting[place];
+    let q = number_at(&room.waiting, place);
     match turn_of(alloc, config, script, registry, source, room, q)? {
         Some(seat) => room.put(q as usize, seat),
         None => {
-            room.waiting.remove(place);
+            take_out(&mut room.waiting, place);
         }
     }
     Ok(())
@@ -241,7 +241,7 @@ fn choose<T: Told, S: Source<T>>(
 {
     play(alloc, config, script, registry, source, room, choice)?;
     pass_rounds(registry);
-    if room.waiting.as_slice().len() == 0 {
+    if count(&room.waiting) == 0 {
         room.next = gather(script, &mut room.waiting, room.next)?;
     }
     Ok(())
@@ -288,7 +288,7 @@ fn play_all<T: Told, S: Source<T>>(
             *choice as usize,
         )?;
     }
-    while room.waiting.as_slice().len() != 0 {
+    while count(&room.waiting) != 0 {
         choose(alloc, config, script, registry, source, room, 0)?;
     }
     Ok(())

@@ -19,7 +19,7 @@ returns-in_ok-room-clause-room g c =
     let e = c.in_ok-play.ensures in
     let passed = c.pass_rounds.ensures.passed in
     let done : Room g.row.T.Denot = record { tasks = c.play.new.room.tasks; calls = c.play.new.room.calls; waiting = c.gather.new.waiting; next = c.in_ok-room.field-0 } in
-    room_gathered g.T.Told.told c.play.new.registry c.pass_rounds.new.registry c.play.new.room done c.args.script.now c.in_ok-room.field-0 e.kept c.pass_rounds.ensures.kept e.room (none_waits c.play.new.room.waiting.items c.as_slice.result.now c.as_slice.ensures.value c.if-as_slice-eq0.true) passed
+    room_gathered g.T.Told.told c.play.new.registry c.pass_rounds.new.registry c.play.new.room done c.args.script.now c.in_ok-room.field-0 e.kept c.pass_rounds.ensures.kept e.room (none_waits c.play.new.room.waiting.items c.count.result c.count.ensures c.if-count-eq0.true) passed
     (none_goes_on c.play.new.registry c.pass_rounds.new.registry passed) (sym (passed.script ∙ e.same.script ∙ c.requires.script)) c.in_ok-room.ensures.gathered refl refl refl
 
 pub returns-in_ok-room-clause-over : goal.returns-in_ok-room-clause-over
@@ -29,7 +29,7 @@ pub returns-in_ok-room-clause-less : goal.returns-in_ok-room-clause-less
 returns-in_ok-room-clause-less g c =
     let e = c.in_ok-play.ensures in
     let done : Room g.row.T.Denot = record { tasks = c.play.new.room.tasks; calls = c.play.new.room.calls; waiting = c.gather.new.waiting; next = c.in_ok-room.field-0 } in
-    falls_gathered g.T.Told.told c.pass_rounds.new.registry c.args.choice c.args.room.now c.play.new.room done c.args.script.now c.in_ok-room.field-0 (returns-in_ok-room-clause-room g c) e.less (none_waits c.play.new.room.waiting.items c.as_slice.result.now c.as_slice.ensures.value c.if-as_slice-eq0.true) c.in_ok-room.ensures.gathered refl refl
+    falls_gathered g.T.Told.told c.pass_rounds.new.registry c.args.choice c.args.room.now c.play.new.room done c.args.script.now c.in_ok-room.field-0 (returns-in_ok-room-clause-room g c) e.less (none_waits c.play.new.room.waiting.items c.count.result c.count.ensures c.if-count-eq0.true) c.in_ok-room.ensures.gathered refl refl
     (ap (λ (s : Scripted). length s.requests) (sym (e.same.script ∙ c.requires.script)) ∙ sym e.room.tasks_whole)
 
 pub returns-in_ok-room-clause-seats : goal.returns-in_ok-room-clause-seats
@@ -49,31 +49,31 @@ returns-in_ok-room-clause-known g c =
 
 -- ---- somebody waits
 
-pub returns-else-as_slice-eq0-clause-played : goal.returns-else-as_slice-eq0-clause-played
-returns-else-as_slice-eq0-clause-played g c =
+pub returns-else-count-eq0-clause-played : goal.returns-else-count-eq0-clause-played
+returns-else-count-eq0-clause-played g c =
     let e = c.in_ok-play.ensures in
     plays_in g.T.Told.told c.args.registry.now c.play.new.registry c.pass_rounds.new.registry c.args.choice e.same e.chosen c.pass_rounds.ensures.passed
 
-pub returns-else-as_slice-eq0-clause-room : goal.returns-else-as_slice-eq0-clause-room
-returns-else-as_slice-eq0-clause-room g c =
+pub returns-else-count-eq0-clause-room : goal.returns-else-count-eq0-clause-room
+returns-else-count-eq0-clause-room g c =
     let e = c.in_ok-play.ensures in
-    room_rounds g.T.Told.told c.play.new.registry c.pass_rounds.new.registry c.play.new.room e.kept e.room c.pass_rounds.ensures.passed (some_wait c.play.new.room.waiting.items c.as_slice.result.now c.as_slice.ensures.value c.if-as_slice-eq0.false)
+    room_rounds g.T.Told.told c.play.new.registry c.pass_rounds.new.registry c.play.new.room e.kept e.room c.pass_rounds.ensures.passed (some_wait c.play.new.room.waiting.items c.count.result c.count.ensures c.if-count-eq0.false)
 
-pub returns-else-as_slice-eq0-clause-over : goal.returns-else-as_slice-eq0-clause-over
-returns-else-as_slice-eq0-clause-over g c = none_goes_on c.play.new.registry c.pass_rounds.new.registry c.pass_rounds.ensures.passed
+pub returns-else-count-eq0-clause-over : goal.returns-else-count-eq0-clause-over
+returns-else-count-eq0-clause-over g c = none_goes_on c.play.new.registry c.pass_rounds.new.registry c.pass_rounds.ensures.passed
 
-pub returns-else-as_slice-eq0-clause-less : goal.returns-else-as_slice-eq0-clause-less
-returns-else-as_slice-eq0-clause-less g c =
-    falls g.T.Told.told c.pass_rounds.new.registry c.args.choice c.args.room.now c.play.new.room (returns-else-as_slice-eq0-clause-room g c) c.in_ok-play.ensures.less
+pub returns-else-count-eq0-clause-less : goal.returns-else-count-eq0-clause-less
+returns-else-count-eq0-clause-less g c =
+    falls g.T.Told.told c.pass_rounds.new.registry c.args.choice c.args.room.now c.play.new.room (returns-else-count-eq0-clause-room g c) c.in_ok-play.ensures.less
 
-pub returns-else-as_slice-eq0-clause-seats : goal.returns-else-as_slice-eq0-clause-seats
-returns-else-as_slice-eq0-clause-seats g c =
+pub returns-else-count-eq0-clause-seats : goal.returns-else-count-eq0-clause-seats
+returns-else-count-eq0-clause-seats g c =
     seats_same c.play.new.registry c.pass_rounds.new.registry c.play.new.room c.play.new.room c.in_ok-play.ensures.seats c.pass_rounds.ensures.passed.answers refl refl
 
-pub returns-else-as_slice-eq0-clause-faults : goal.returns-else-as_slice-eq0-clause-faults
-returns-else-as_slice-eq0-clause-faults g c =
+pub returns-else-count-eq0-clause-faults : goal.returns-else-count-eq0-clause-faults
+returns-else-count-eq0-clause-faults g c =
     debt_rounds c.args.registry.now c.play.new.registry c.pass_rounds.new.registry c.args.room.now c.play.new.room c.play.new.room _ _ c.in_ok-play.ensures.faults c.pass_rounds.ensures.passed refl refl
 
-pub returns-else-as_slice-eq0-clause-known : goal.returns-else-as_slice-eq0-clause-known
-returns-else-as_slice-eq0-clause-known g c =
+pub returns-else-count-eq0-clause-known : goal.returns-else-count-eq0-clause-known
+returns-else-count-eq0-clause-known g c =
     keeps_rounds c.args.registry.now c.play.new.registry c.pass_rounds.new.registry c.args.room.now c.play.new.room c.play.new.room c.args.choice c.in_ok-play.ensures.known c.pass_rounds.ensures.passed refl refl

@@ -12,42 +12,38 @@ use Rattle.cl_schedule.proofs.Prompt.{keeps_advanced, keeps_none, keeps_posted}
 use Rattle.cl_schedule.proofs.Waiting.{waiting_is}
 use Rattle.cl_schedule.proofs.choices.play.Goals as goal
 
--- which request is taken
-abbrev taken : List ℕ → ℕ → ℕ
-taken ws choice = slice_index ws (choice % length ws)
-
 pub turn_of-requires-clause-asked : goal.turn_of-requires-clause-asked
 turn_of-requires-clause-asked g c =
     let ws = c.args.room.now.waiting.items in
-    let at = waits_at ws c.as_slice-waiting.result.now c.args.choice c.as_slice-waiting.ensures.value c.if-len-eq0.false in
-    let is = waiting_is g.T.Told.told c.args.registry.now ws c.args.room.now.next (c.args.choice % length ws) (taken c.as_slice-waiting.result.now c.args.choice) c.requires.kept c.requires.room.gathered at in
-    subst (λ (s : Scripted). taken c.as_slice-waiting.result.now c.args.choice < length s.requests) c.requires.script is.2
+    let at = waits_at ws c.count-len.result c.args.choice c.number_at-q.result c.count-len.ensures c.if-len-eq0.false c.number_at-q.ensures in
+    let is = waiting_is g.T.Told.told c.args.registry.now ws c.args.room.now.next (c.args.choice % length ws) (c.number_at-q.result) c.requires.kept c.requires.room.gathered at in
+    subst (λ (s : Scripted). c.number_at-q.result < length s.requests) c.requires.script is.2
 
 pub turn_of-requires-clause-begun : goal.turn_of-requires-clause-begun
 turn_of-requires-clause-begun g c =
     let ws = c.args.room.now.waiting.items in
-    let at = waits_at ws c.as_slice-waiting.result.now c.args.choice c.as_slice-waiting.ensures.value c.if-len-eq0.false in
-    (waiting_is g.T.Told.told c.args.registry.now ws c.args.room.now.next (c.args.choice % length ws) (taken c.as_slice-waiting.result.now c.args.choice) c.requires.kept c.requires.room.gathered at).1
+    let at = waits_at ws c.count-len.result c.args.choice c.number_at-q.result c.count-len.ensures c.if-len-eq0.false c.number_at-q.ensures in
+    (waiting_is g.T.Told.told c.args.registry.now ws c.args.room.now.next (c.args.choice % length ws) (c.number_at-q.result) c.requires.kept c.requires.room.gathered at).1
 
 pub turn_of-requires-clause-open : goal.turn_of-requires-clause-open
 turn_of-requires-clause-open g c =
     let ws = c.args.room.now.waiting.items in
-    let at = waits_at ws c.as_slice-waiting.result.now c.args.choice c.as_slice-waiting.ensures.value c.if-len-eq0.false in
-    (waiting_is g.T.Told.told c.args.registry.now ws c.args.room.now.next (c.args.choice % length ws) (taken c.as_slice-waiting.result.now c.args.choice) c.requires.kept c.requires.room.gathered at).0
+    let at = waits_at ws c.count-len.result c.args.choice c.number_at-q.result c.count-len.ensures c.if-len-eq0.false c.number_at-q.ensures in
+    (waiting_is g.T.Told.told c.args.registry.now ws c.args.room.now.next (c.args.choice % length ws) (c.number_at-q.result) c.requires.kept c.requires.room.gathered at).0
 
 -- ---- nobody waits
 
 pub returns-then-len-eq0-clause-known : goal.returns-then-len-eq0-clause-known
 returns-then-len-eq0-clause-known g c =
-    keeps_none c.args.registry.now c.args.room.now c.args.choice c.requires.room.gathered (none_waits c.args.room.now.waiting.items c.as_slice-waiting.result.now c.as_slice-waiting.ensures.value c.if-len-eq0.true)
+    keeps_none c.args.registry.now c.args.room.now c.args.choice c.requires.room.gathered (none_waits c.args.room.now.waiting.items c.count-len.result c.count-len.ensures c.if-len-eq0.true)
 
 -- ---- it went on
 
 pub returns-in-Some-clause-chosen : goal.returns-in-Some-clause-chosen
 returns-in-Some-clause-chosen g c =
     let ws = c.args.room.now.waiting.items in
-    let q = taken c.as_slice-waiting.result.now c.args.choice in
-    let at = waits_at ws c.as_slice-waiting.result.now c.args.choice c.as_slice-waiting.ensures.value c.if-len-eq0.false in
+    let q = c.number_at-q.result in
+    let at = waits_at ws c.count-len.result c.args.choice c.number_at-q.result c.count-len.ensures c.if-len-eq0.false c.number_at-q.ensures in
     let P = HasPosted g.T.Told.told c.args.registry.now c.turn_of.new.registry q in
     let Q : Seat g.row.T.Denot → Type 0 = λ s. HasAdvanced g.T.Told.told c.args.registry.now c.turn_of.new.registry q in
     chosen_advanced g.T.Told.told c.args.registry.now c.turn_of.new.registry ws c.args.room.now.next c.args.choice q c.requires.kept c.requires.room.gathered at
@@ -55,7 +51,7 @@ returns-in-Some-clause-chosen g c =
 
 pub returns-in-Some-clause-room : goal.returns-in-Some-clause-room
 returns-in-Some-clause-room g c =
-    let q = taken c.as_slice-waiting.result.now c.args.choice in
+    let q = c.number_at-q.result in
     let P = HasPosted g.T.Told.told c.args.registry.now c.turn_of.new.registry q in
     let Q : Seat g.row.T.Denot → Type 0 = λ s. HasAdvanced g.T.Told.told c.args.registry.now c.turn_of.new.registry q in
     let S : Seat g.row.T.Denot → Type 0 = λ s. IsSeatedAt {A = g.row.T.Denot} g.T.Told.told c.turn_of.new.registry s.task s.call q in
@@ -67,8 +63,8 @@ returns-in-Some-clause-room g c =
 pub returns-in-Some-clause-less : goal.returns-in-Some-clause-less
 returns-in-Some-clause-less g c = λ zero_is some.
     let ws = c.args.room.now.waiting.items in
-    let q = taken c.as_slice-waiting.result.now c.args.choice in
-    let at = waits_at ws c.as_slice-waiting.result.now c.args.choice c.as_slice-waiting.ensures.value c.if-len-eq0.false in
+    let q = c.number_at-q.result in
+    let at = waits_at ws c.count-len.result c.args.choice c.number_at-q.result c.count-len.ensures c.if-len-eq0.false c.number_at-q.ensures in
     let below = (waiting_is g.T.Told.told c.args.registry.now ws c.args.room.now.next (c.args.choice % length ws) q c.requires.kept c.requires.room.gathered at).2 in
     let L : Seat g.row.T.Denot → Type 0 = λ s. s.task.left < left_at c.args.room.now q in
     inr
@@ -79,7 +75,7 @@ returns-in-Some-clause-less g c = λ zero_is some.
 
 pub returns-in-Some-clause-seats : goal.returns-in-Some-clause-seats
 returns-in-Some-clause-seats g c =
-    let q = taken c.as_slice-waiting.result.now c.args.choice in
+    let q = c.number_at-q.result in
     let P = HasPosted g.T.Told.told c.args.registry.now c.turn_of.new.registry q in
     let Q : Seat g.row.T.Denot → Type 0 = λ s. HasAdvanced g.T.Told.told c.args.registry.now c.turn_of.new.registry q in
     let S : Seat g.row.T.Denot → Type 0 = λ s. IsSeatedAt {A = g.row.T.Denot} g.T.Told.told c.turn_of.new.registry s.task s.call q in
@@ -91,8 +87,8 @@ returns-in-Some-clause-seats g c =
 pub returns-in-Some-clause-faults : goal.returns-in-Some-clause-faults
 returns-in-Some-clause-faults g c =
     let ws = c.args.room.now.waiting.items in
-    let q = taken c.as_slice-waiting.result.now c.args.choice in
-    let at = waits_at ws c.as_slice-waiting.result.now c.args.choice c.as_slice-waiting.ensures.value c.if-len-eq0.false in
+    let q = c.number_at-q.result in
+    let at = waits_at ws c.count-len.result c.args.choice c.number_at-q.result c.count-len.ensures c.if-len-eq0.false c.number_at-q.ensures in
     let below = (waiting_is g.T.Told.told c.args.registry.now ws c.args.room.now.next (c.args.choice % length ws) q c.requires.kept c.requires.room.gathered at).2 in
     debt_advanced c.args.registry.now c.turn_of.new.registry c.args.room.now c.turn_of.new.room c.put.new.self c.in_ok-seat.field-0 c.in-Some.seat q _ _ c.in-Some.is c.in_ok-seat.ensures.taken
     (subst (λ (n : ℕ). q < n) (sym c.requires.room.tasks_whole) below) (subst (λ (n : ℕ). q < n) (sym c.requires.room.calls_whole) below)
@@ -104,8 +100,8 @@ returns-in-Some-clause-known g c =
     let x = c.args.registry.now in
     let room = c.args.room.now in
     let ws = room.waiting.items in
-    let q = taken c.as_slice-waiting.result.now c.args.choice in
-    let at = waits_at ws c.as_slice-waiting.result.now c.args.choice c.as_slice-waiting.ensures.value c.if-len-eq0.false in
+    let q = c.number_at-q.result in
+    let at = waits_at ws c.count-len.result c.args.choice c.number_at-q.result c.count-len.ensures c.if-len-eq0.false c.number_at-q.ensures in
     let is = waiting_is told x ws room.next (c.args.choice % length ws) q c.requires.kept c.requires.room.gathered at in
     let P = HasPosted told x c.turn_of.new.registry q in
     let Q : Seat g.row.T.Denot → Type 0 = λ s. HasAdvanced told x c.turn_of.new.registry q in
@@ -122,8 +118,8 @@ returns-in-Some-clause-known g c =
 pub returns-in-None-clause-chosen : goal.returns-in-None-clause-chosen
 returns-in-None-clause-chosen g c =
     let ws = c.args.room.now.waiting.items in
-    let q = taken c.as_slice-waiting.result.now c.args.choice in
-    let at = waits_at ws c.as_slice-waiting.result.now c.args.choice c.as_slice-waiting.ensures.value c.if-len-eq0.false in
+    let q = c.number_at-q.result in
+    let at = waits_at ws c.count-len.result c.args.choice c.number_at-q.result c.count-len.ensures c.if-len-eq0.false c.number_at-q.ensures in
     let P = HasPosted g.T.Told.told c.args.registry.now c.turn_of.new.registry q in
     let Q : Seat g.row.T.Denot → Type 0 = λ s. HasAdvanced g.T.Told.told c.args.registry.now c.turn_of.new.registry q in
     chosen_posted g.T.Told.told c.args.registry.now c.turn_of.new.registry ws c.args.room.now.next c.args.choice q c.requires.kept c.requires.room.gathered at
@@ -132,30 +128,29 @@ returns-in-None-clause-chosen g c =
 pub returns-in-None-clause-room : goal.returns-in-None-clause-room
 returns-in-None-clause-room g c =
     let ws = c.args.room.now.waiting.items in
-    let given = c.as_slice-waiting.result.now in
-    let q = taken given c.args.choice in
-    let at = waits_at ws given c.args.choice c.as_slice-waiting.ensures.value c.if-len-eq0.false in
-    let place = subst (λ (xs : List ℕ). slice_get ws (c.args.choice % length xs) ≡ Some q) (sym c.as_slice-waiting.ensures.value) at in
+    let q = c.number_at-q.result in
+    let at = waits_at ws c.count-len.result c.args.choice c.number_at-q.result c.count-len.ensures c.if-len-eq0.false c.number_at-q.ensures in
+    let place = subst (λ (n : ℕ). slice_get ws (c.args.choice % n) ≡ Some q) (sym c.count-len.ensures) at in
     let P = HasPosted g.T.Told.told c.args.registry.now c.turn_of.new.registry q in
     let Q : Seat g.row.T.Denot → Type 0 = λ s. HasAdvanced g.T.Told.told c.args.registry.now c.turn_of.new.registry q in
     room_posted g.T.Told.told c.args.registry.now c.turn_of.new.registry c.args.room.now c.turn_of.new.room
-    (record { tasks = c.turn_of.new.room.tasks; calls = c.turn_of.new.room.calls; waiting = c.remove.new.self; next = c.turn_of.new.room.next }) q (c.args.choice % length given) c.requires.kept c.requires.room c.in_ok-seat.ensures.taken
-    (match_none c.in_ok-seat.field-0 P Q c.in-None.is c.in_ok-seat.ensures.did) place refl refl c.remove.ensures.items refl
+    (record { tasks = c.turn_of.new.room.tasks; calls = c.turn_of.new.room.calls; waiting = c.take_out.new.waiting; next = c.turn_of.new.room.next }) q (c.args.choice % c.count-len.result) c.requires.kept c.requires.room c.in_ok-seat.ensures.taken
+    (match_none c.in_ok-seat.field-0 P Q c.in-None.is c.in_ok-seat.ensures.did) place refl refl c.take_out.ensures refl
 
 pub returns-in-None-clause-seats : goal.returns-in-None-clause-seats
 returns-in-None-clause-seats g c =
-    let q = taken c.as_slice-waiting.result.now c.args.choice in
+    let q = c.number_at-q.result in
     let P = HasPosted g.T.Told.told c.args.registry.now c.turn_of.new.registry q in
     let Q : Seat g.row.T.Denot → Type 0 = λ s. HasAdvanced g.T.Told.told c.args.registry.now c.turn_of.new.registry q in
     seats_posted g.T.Told.told c.args.registry.now c.turn_of.new.registry c.args.room.now c.turn_of.new.room
-    (record { tasks = c.turn_of.new.room.tasks; calls = c.turn_of.new.room.calls; waiting = c.remove.new.self; next = c.turn_of.new.room.next }) q c.requires.seats c.in_ok-seat.ensures.taken
+    (record { tasks = c.turn_of.new.room.tasks; calls = c.turn_of.new.room.calls; waiting = c.take_out.new.waiting; next = c.turn_of.new.room.next }) q c.requires.seats c.in_ok-seat.ensures.taken
     (match_none c.in_ok-seat.field-0 P Q c.in-None.is c.in_ok-seat.ensures.did) refl refl
 
 pub returns-in-None-clause-faults : goal.returns-in-None-clause-faults
 returns-in-None-clause-faults g c =
-    let q = taken c.as_slice-waiting.result.now c.args.choice in
+    let q = c.number_at-q.result in
     debt_posted c.args.registry.now c.turn_of.new.registry c.args.room.now c.turn_of.new.room
-    (record { tasks = c.turn_of.new.room.tasks; calls = c.turn_of.new.room.calls; waiting = c.remove.new.self; next = c.turn_of.new.room.next }) c.in_ok-seat.field-0 q _ _ c.in-None.is c.in_ok-seat.ensures.taken
+    (record { tasks = c.turn_of.new.room.tasks; calls = c.turn_of.new.room.calls; waiting = c.take_out.new.waiting; next = c.turn_of.new.room.next }) c.in_ok-seat.field-0 q _ _ c.in-None.is c.in_ok-seat.ensures.taken
     c.in_ok-seat.ensures.faults refl refl
 
 pub returns-in-None-clause-known : goal.returns-in-None-clause-known
@@ -164,13 +159,13 @@ returns-in-None-clause-known g c =
     let x = c.args.registry.now in
     let room = c.args.room.now in
     let ws = room.waiting.items in
-    let q = taken c.as_slice-waiting.result.now c.args.choice in
-    let at = waits_at ws c.as_slice-waiting.result.now c.args.choice c.as_slice-waiting.ensures.value c.if-len-eq0.false in
+    let q = c.number_at-q.result in
+    let at = waits_at ws c.count-len.result c.args.choice c.number_at-q.result c.count-len.ensures c.if-len-eq0.false c.number_at-q.ensures in
     let P = HasPosted told x c.turn_of.new.registry q in
     let Q : Seat g.row.T.Denot → Type 0 = λ s. HasAdvanced told x c.turn_of.new.registry q in
     let M = PostsKnown (IsNearAt (state_of x) room q) x c.turn_of.new.registry q in
     let N : Seat g.row.T.Denot → Type 0 = λ s. ComesNearer (IsNearAt (state_of x) room q) x c.turn_of.new.registry q s.task s.call in
     keeps_posted told x c.turn_of.new.registry room c.turn_of.new.room
-    (record { tasks = c.turn_of.new.room.tasks; calls = c.turn_of.new.room.calls; waiting = c.remove.new.self; next = c.turn_of.new.room.next }) c.args.choice q c.requires.kept c.requires.room.gathered at c.in_ok-seat.ensures.taken
+    (record { tasks = c.turn_of.new.room.tasks; calls = c.turn_of.new.room.calls; waiting = c.take_out.new.waiting; next = c.turn_of.new.room.next }) c.args.choice q c.requires.kept c.requires.room.gathered at c.in_ok-seat.ensures.taken
     (match_none c.in_ok-seat.field-0 P Q c.in-None.is c.in_ok-seat.ensures.did)
     (match_none c.in_ok-seat.field-0 M N c.in-None.is c.in_ok-seat.ensures.known) refl refl

@@ -1,5 +1,5 @@
-use Rattle.std.proofs.Common.{◌≡◌, ◌%◌, ◌<◌, inr, ℕ, List, length, Some, refl, subst, sym}
-use Rattle.std.specs.Prelude.{slice_get, slice_index}
+use Rattle.std.proofs.Common.{◌≡◌, ◌%◌, ◌<◌, inr, ℕ, length, Some, refl, subst, sym}
+use Rattle.std.specs.Prelude.{slice_get}
 use Rattle.cl_config.specs.Views.{Scripted}
 use Rattle.cl_schedule.specs.declared.seats.Seat.{Seat}
 use Rattle.cl_registry.specs.Tables.{state_of}

@@ -77,7 +77,7 @@ wrong_read h drafts.OtherName c same wrong =
 -- ---- the frames of a path
 
 -- what is absent where a path begins
-abbrev absent_of : {A : Type 0} → Target A → Class → Error
+abbrev pub absent_of : {A : Type 0} → Target A → Class → Error
 absent_of targets.Own = λ c. ClassNotFound c
 absent_of (targets.Reference d) = λ c. NoClassDef c
 
@@ -143,7 +143,7 @@ module _ {A : Type 0} (content : Content) (r : request.Request) (t : Target A) (
   abbrev w : World
   w = world_of p.config content
 
-  under : (s : State) → IsClosed w s → AllMet s (target_needs r t) → AllMet s (kept_of (frames_of p)) → Under w s (request_of r) (absent_of t) (frames_of p) (at_loader p) (at_name p)
+  pub under : (s : State) → IsClosed w s → AllMet s (target_needs r t) → AllMet s (kept_of (frames_of p)) → Under w s (request_of r) (absent_of t) (frames_of p) (at_loader p) (at_name p)
   under s closed begun met = record {
     loader = p.loader;
     name = p.name;
@@ -175,7 +175,7 @@ module _ {A : Type 0} (content : Content) (r : request.Request) (t : Target A) (
       (missing_ends w s (request_of r) (absent_of t) (frames_of p) (at_loader p) (at_name p) closed (under_all s [] closed met).0 nowhere)
 
   -- the search leads to the home
-  there : (h : Located) → IsSought p h → LeadsTo (Some content) h.config h.asked h.name (Some h.place) → home w (at_loader p) (at_name p) ≡ Some h.place
+  pub there : (h : Located) → IsSought p h → LeadsTo (Some content) h.config h.asked h.name (Some h.place) → home w (at_loader p) (at_name p) ≡ Some h.place
   there h sought leads =
       subst (λ (n : List ℕ). home w (at_loader p) n ≡ Some h.place) sought.name
       (subst (λ (l : ℕ). home w l h.name ≡ Some h.place) sought.asked (subst (λ (c : Configured). home (world_of c content) h.asked h.name ≡ Some h.place) sought.config leads))

@@ -11,7 +11,8 @@ use Rattle.cl_findings.specs.Findings.{Answered, Based}
 use Rattle.cl_registry.specs.Tables.{Shown}
 use Rattle.cl_tasks.specs.Ends.{ConcludesBy, IsAftermath}
 use Rattle.cl_tasks.specs.Follows.{EndsAsRefused, LooksAgain, NoFault}
-use Rattle.cl_tasks.specs.Stages.{IsJob, past_left}
+use Rattle.cl_tasks.specs.Rooms.{past_room}
+use Rattle.cl_tasks.specs.Stages.{IsJob}
 use Rattle.cl_tasks.specs.Steps.{IsPlain, Leads}
 use Rattle.cl_tasks.specs.declared.ends.Aftermath.{Aftermath}
 use Rattle.cl_tasks.specs.declared.ends.Aftermath.TheVariants as aftermaths
@@ -25,7 +26,7 @@ by_said : {A : Type 0} (q : ℕ) (a : Aftermath A) (f : Answered) (r : Request) 
 by_said q a f r v b n request answer basis h = subst (λ (u : Answered). ConcludesBy q a u n) (found_is f r v b request answer basis) h
 
 pub concludes_found : {A : Type 0} (told : Option Content) (j : Job A) (f : Answered) (v : verdict.Verdict) (b : Based) (holds : Shown → Type 0) (a : Aftermath A) (n : Next A) → IsJob told j.path.config j → Ended told j v b holds → IsAftermath j a
-    → f.request ≡ j.request → f.answer ≡ answers.Said v → f.basis ≡ Some b → ConcludesBy j.q a f n → Leads told j (past_left j.target) holds n
+    → f.request ≡ j.request → f.answer ≡ answers.Said v → f.basis ≡ Some b → ConcludesBy j.q a f n → Leads told j (past_room j) holds n
 concludes_found told j f v b holds a n job ended is request answer basis by = concludes told j v b holds a n job ended is (by_said j.q a f j.request v b n request answer basis by)
 
 -- it reads nothing, and posts no fault

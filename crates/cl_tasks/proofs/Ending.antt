@@ -1,19 +1,23 @@
 -- How a load ends otherwise than with its class: of the request's own class that is answered, or looked for once more; of a reference's it is settled.
-use Rattle.std.proofs.Common.{◌≡◌, ◌∙◌, ◌<◌, ℕ, List, length, Option, Some, refl, sym, ap, subst, arith}
+use Rattle.std.proofs.Common.{◌≡◌, ◌∙◌, ◌<◌, ◌≤◌, ◌+◌, ℕ, List, length, Option, Some, refl, sym, ap, subst, arith}
 use Rattle.cl_model.specs.declared.class.Class.{Class}
 use Rattle.cl_model.specs.declared.request.Request.{Request}
 use Rattle.cl_model.specs.declared.request.Request.TheVariants as requests
 use Rattle.cl_model.specs.declared.verdict.Verdict as verdict
 use Rattle.cl_model.specs.Content.{Content}
-use Rattle.cl_model.specs.States.{recorded}
+use Rattle.cl_model.specs.Homes.{World}
+use Rattle.cl_model.specs.Plans.{Plan}
+use Rattle.cl_model.specs.States.{State, recorded}
 use Rattle.cl_findings.specs.declared.load.Target.{Target}
 use Rattle.cl_findings.specs.declared.load.Target.TheVariants as targets
 use Rattle.cl_findings.specs.Findings.{Based, Rests, loader_of, name_of}
-use Rattle.cl_registry.specs.Tables.{Shown, records_of}
+use Rattle.cl_registry.specs.Tables.{Shown, records_of, state_of}
+use Rattle.cl_tasks.specs.Calls.{calls_in, past_loads}
 use Rattle.cl_tasks.specs.Ends.{ConcludesBy, IsAftermath, IsCheck, IsForEntry, IsNoResolution, IsOwnTarget}
 use Rattle.cl_tasks.specs.Facts.{AreSo}
 use Rattle.cl_tasks.specs.Measures.{checking_left}
-use Rattle.cl_tasks.specs.Stages.{IsFailure, IsJob, load_of, past_left, target_facts}
+use Rattle.cl_tasks.specs.Rooms.{past_room}
+use Rattle.cl_tasks.specs.Stages.{IsFailure, IsJob, load_of, past_calls, past_left, target_facts}
 use Rattle.cl_tasks.specs.Steps.{Leads}
 use Rattle.cl_tasks.specs.Waits as waits
 use Rattle.cl_tasks.specs.declared.ends.Aftermath.{Aftermath}
@@ -25,6 +29,7 @@ use Rattle.cl_tasks.specs.declared.stage.Resolution.TheVariants as resolutions
 use Rattle.cl_tasks.specs.declared.stage.Stage.TheVariants as stages
 use Rattle.cl_tasks.specs.declared.turn.Turn.TheVariants as turn
 use Rattle.cl_tasks.proofs.Facts.{basis_so}
+use Rattle.cl_tasks.proofs.Lead.{past_has, posts_within}
 use Rattle.cl_tasks.proofs.Said.{IsRecordIn, OwnFails, Settling, Stood, failure_backed, failure_entry, failure_member, may_settle, own_comes, said_of, settled_next}
 
 -- what a load ends in, where this holds
@@ -45,13 +50,14 @@ some_left targets.Own = omega arith
 some_left (targets.Reference d) = omega arith
 
 answers_so : {A : Type 0} (told : Option Content) (j : Job A) (v : verdict.Verdict) (b : Based) (holds : Shown → Type 0) → IsJob told j.path.config j → Ended told j v b holds → IsOwnTarget j.target × IsNoResolution j.request
-    → Leads told j (past_left j.target) holds (record { stage = stages.Done j.q; turn = turn.Post (said_of j.request v b) })
+    → Leads told j (past_room j) holds (record { stage = stages.Done j.q; turn = turn.Post (said_of j.request v b) })
 answers_so told j v b holds job e is = record {
   kept = tt;
   number = refl;
   asks = refl;
   serves = refl;
   left = some_left j.target;
+  calls = posts_within told j.path.config holds j.request (past_room j) (past_has j);
   keeps = λ x h. record { frames = tt; facts = tt };
   backed = λ x config named consistent h. failure_backed told j.path.config j.request v b holds e.stood is.1 e.failure x config named h;
   follows = λ g x s h. own_comes told j.path.config j.request v b holds (own_fails told j v b holds e is.0) g x s h;
@@ -63,8 +69,14 @@ check_less : {A : Type 0} (t : Target A) → IsOwnTarget t → checking_left < p
 check_less targets.Own own = omega arith
 check_less (targets.Reference d) own = absurd own
 
+check_calls : {A : Type 0} (r : Request) (t : Target A) (loader : ℕ) (name : List ℕ) (i : ℕ) (w : World) (p : Plan) (s : State) → IsOwnTarget t → r ≡ requests.Resolve loader name i
+    → 0 + calls_in (past_loads 0 0 2) w p s ≤ calls_in (past_calls r t) w p s
+check_calls {A = A} r targets.Own loader name i w p s own is =
+    subst (λ (q : Request). 0 + calls_in (past_loads 0 0 2) w p s ≤ calls_in (past_calls {A = A} q targets.Own) w p s) (sym is) (omega arith)
+check_calls r (targets.Reference d) loader name i w p s own is = absurd own
+
 checks_so : {A : Type 0} (told : Option Content) (j : Job A) (v : verdict.Verdict) (b : Based) (holds : Shown → Type 0) (r : Request) (loader : ℕ) (name : List ℕ) → IsJob told j.path.config j → Ended told j v b holds → IsCheck j r loader name
-    → Leads told j (past_left j.target) holds (record { stage = stages.Resolve (resolutions.Checking (record { q = j.q; request = r; finding = said_of j.request v b })); turn = turn.Look loader name })
+    → Leads told j (past_room j) holds (record { stage = stages.Resolve (resolutions.Checking (record { q = j.q; request = r; finding = said_of j.request v b })); turn = turn.Look loader name })
 checks_so told j v b holds r loader name job e is =
     let load : Rests told (said_of (load_of r) v b) = subst (λ (q : Request). Rests told (said_of (load_of q) v b)) (sym is.same) (e.load is.own) in
     record {
@@ -86,6 +98,7 @@ checks_so told j v b holds r loader name job e is =
       asks = ap (λ (q : Request). waits.Looking (loader_of q) (name_of q)) is.resolves;
       serves = ap Some is.same;
       left = check_less j.target is.own;
+      calls = λ g x p served plan h. check_calls j.request j.target loader name is.index g.world p (state_of x) is.own (sym is.same ∙ is.resolves);
       keeps = λ x h. record { frames = tt; facts = basis_so x b (e.stood.needs x h) (e.stood.refused x h) };
       backed = λ x config named consistent h. tt;
       follows = λ g x s h. tt;
@@ -97,8 +110,12 @@ settle_less : {A : Type 0} (t : Target A) (d : _) → t ≡ targets.Reference d 
 settle_less targets.Own d is = absurd cc
 settle_less (targets.Reference e) d is = omega arith
 
+settle_calls : {A : Type 0} (r : Request) (t : Target A) (d : _) (w : World) (p : Plan) (s : State) → t ≡ targets.Reference d → 0 + calls_in (past_loads 0 0 2) w p s ≤ calls_in (past_calls r t) w p s
+settle_calls r targets.Own d w p s is = absurd cc
+settle_calls r (targets.Reference e) d w p s is = omega arith
+
 settles_so : {A : Type 0} (told : Option Content) (j : Job A) (v : verdict.Verdict) (b : Based) (holds : Shown → Type 0) (e : entries.Entry A) → IsJob told j.path.config j → Ended told j v b holds → IsForEntry j e
-    → Leads told j (past_left j.target) holds (record { stage = stages.Resolve (resolutions.Settling e); turn = turn.Settle (said_of j.request v b) })
+    → Leads told j (past_room j) holds (record { stage = stages.Resolve (resolutions.Settling e); turn = turn.Settle (said_of j.request v b) })
 settles_so told j v b holds e job ended is =
     let c = j.path.config in
     let d = e.d.value.class in
@@ -121,6 +138,7 @@ settles_so told j v b holds e job ended is =
       asks = ap (λ (q : Request). waits.Settling q) is.same;
       serves = (refl, ap Some is.same);
       left = settle_less j.target is.row is.target;
+      calls = λ g x p served plan h. settle_calls j.request j.target is.row g.world p (state_of x) is.target;
       keeps = λ x h. record {
         frames = tt;
         facts = (subst (λ (q : Request). recorded (records_of x) (loader_of q) d.name ≡ Some d.loader) (sym is.same) (kept x h), tt);
@@ -132,7 +150,7 @@ settles_so told j v b holds e job ended is =
 -- ---- all
 
 pub concludes : {A : Type 0} (told : Option Content) (j : Job A) (v : verdict.Verdict) (b : Based) (holds : Shown → Type 0) (a : Aftermath A) (n : Next A) → IsJob told j.path.config j → Ended told j v b holds → IsAftermath j a
-    → ConcludesBy j.q a (said_of j.request v b) n → Leads told j (past_left j.target) holds n
-concludes told j v b holds aftermaths.Answer n job e is by = subst (λ (m : Next _). Leads told j (past_left j.target) holds m) (sym by) (answers_so told j v b holds job e is)
-concludes told j v b holds (aftermaths.Check r loader name) n job e is by = subst (λ (m : Next _). Leads told j (past_left j.target) holds m) (sym by) (checks_so told j v b holds r loader name job e is)
-concludes told j v b holds (aftermaths.Settle entry) n job e is by = subst (λ (m : Next _). Leads told j (past_left j.target) holds m) (sym by) (settles_so told j v b holds entry job e is)
+    → ConcludesBy j.q a (said_of j.request v b) n → Leads told j (past_room j) holds n
+concludes told j v b holds aftermaths.Answer n job e is by = subst (λ (m : Next _). Leads told j (past_room j) holds m) (sym by) (answers_so told j v b holds job e is)
+concludes told j v b holds (aftermaths.Check r loader name) n job e is by = subst (λ (m : Next _). Leads told j (past_room j) holds m) (sym by) (checks_so told j v b holds r loader name job e is)
+concludes told j v b holds (aftermaths.Settle entry) n job e is by = subst (λ (m : Next _). Leads told j (past_room j) holds m) (sym by) (settles_so told j v b holds entry job e is)

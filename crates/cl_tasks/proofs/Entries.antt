@@ -1,5 +1,5 @@
 -- Steps of a request whose class is recorded, and of the entry that it asks for (JVMS SE 8, 5.3, 5.4.3, 5.4.3.1).
-use Rattle.std.proofs.Common.{◌≡◌, ◌∙◌, ◌<◌, ℕ, zero, suc, Bool, true, false, List, [], ◌∷◌, length, Option, Some, None, inl, inr, refl, sym, ap, subst, arith}
+use Rattle.std.proofs.Common.{◌≡◌, ◌∙◌, ◌<◌, ◌≤◌, ◌+◌, ℕ, zero, suc, Bool, true, false, List, [], ◌∷◌, length, Option, Some, None, inl, inr, refl, sym, ap, subst, arith}
 use Rattle.std.specs.Prelude.{find, if◌then◌else◌}
 use Rattle.std.specs.List.{AllByRecursion}
 use Rattle.std.specs.declared.alloc.Global.{Global}
@@ -18,6 +18,7 @@ use Rattle.cl_model.specs.declared.verdict.ErrorKind.{ErrorKind}
 use Rattle.cl_model.specs.declared.verdict.ErrorKind.TheVariants as kinds
 use Rattle.cl_model.specs.Plans.{class_verdict}
 use Rattle.cl_model.specs.Content.{Content}
+use Rattle.cl_model.specs.Homes.{World}
 use Rattle.cl_model.specs.Machine.{AnswersPlan, IsSound, Setting}
 use Rattle.cl_model.specs.Plans as plans
 use Rattle.cl_model.specs.Service.{ComesTo}
@@ -38,9 +39,10 @@ use Rattle.cl_registry.proofs.Named.{recorded_is_named}
 use Rattle.cl_findings.specs.References.{EndsAtClass, EndsAtOnce, IsAtClass, IsAtOnce, class_basis, class_need, entry_basis}
 use Rattle.cl_registry.specs.References.{IsSettledIn, settled_by}
 use Rattle.cl_registry.specs.Tables.{Shown, NamesLoaders, records_of, settled_at, settlements, state_of}
+use Rattle.cl_tasks.specs.Calls.{calls_in, past_loads}
 use Rattle.cl_tasks.specs.Facts.{AreSo}
-use Rattle.cl_tasks.specs.Measures.{named_left, reference_left}
 use Rattle.cl_tasks.specs.Resolving.{EntryTold, IsNoneSettled, IsSame, IsSettledKind, NamedTold, SettledTold}
+use Rattle.cl_tasks.specs.Rooms.{Room, named_room, reference_room}
 use Rattle.cl_tasks.specs.Tasks.{Stands}
 use Rattle.cl_tasks.specs.declared.stage.Next.{Next}
 use Rattle.cl_tasks.specs.Stages.{IsEntry}
@@ -51,8 +53,17 @@ use Rattle.cl_tasks.specs.declared.stage.Stage.TheVariants as stages
 use Rattle.cl_tasks.specs.declared.turn.Turn.TheVariants as turn
 use Rattle.cl_tasks.specs.Waits as waits
 use Rattle.cl_tasks.specs.Waits.{Waits}
-use Rattle.cl_tasks.proofs.Lead.{leads_by}
+use Rattle.cl_tasks.proofs.Lead.{HasPost, Holding, leads_by, posts_within}
 use Rattle.cl_tasks.proofs.Said.{Settling, Stood, borne, found_is, may_settle, said_of, settled_next, stood_answers}
+
+-- ---- rooms
+
+-- there is room for what is settled and for the post, beside the call that was made
+abbrev pub HasSettle : Room → Type 0
+HasSettle room = (w : World) (p : plans.Plan) (s : State) → room.made + 2 ≤ calls_in room.calls w p s
+
+settles_within : (told : Option Content) (c : Configured) (now : Shown → Type 0) (r : Request) (room : Room) → HasSettle room → Holding told c now r (past_loads 0 0 2) room
+settles_within told c now r room h = λ g x p served is k. let two = h g.world p (state_of x) in omega arith
 
 -- ---- an entry that is never settled is answered so
 
@@ -76,9 +87,9 @@ resolving r d i P is p = subst P (sym is) p
 bears_comes : (g : Setting) (s : State) (l : ℕ) (n : List ℕ) (i : ℕ) (v : Verdict) → Bears s (plans.Resolve l n i) v → AnswersPlan g s (plans.Resolve l n i) v → ComesTo g s (plans.Resolve l n i) v
 bears_comes g s l n i v bears answer = said_comes g s (plans.Resolve l n i) v (resolve_wants l n i) (borne_said g s (plans.Resolve l n i) v bears answer)
 
-pub leads_never : (A : Type 0) (told : Option Content) (c : Configured) (q : ℕ) (r : Request) (d : Class) (i : ℕ) (v : verdict.Verdict) (b : Based) (room : ℕ) (holds : Shown → Type 0) → Stood told c r v b holds → r ≡ requests.Resolve (loader_of r) d.name i → IsNoneSettled v → 0 < room
+pub leads_never : (A : Type 0) (told : Option Content) (c : Configured) (q : ℕ) (r : Request) (d : Class) (i : ℕ) (v : verdict.Verdict) (b : Based) (room : Room) (holds : Shown → Type 0) → Stood told c r v b holds → r ≡ requests.Resolve (loader_of r) d.name i → IsNoneSettled v → 0 < room.turns → HasPost room
     → LeadsBy {A = A} told c q r room holds (record { stage = stages.Done q; turn = turn.Post (said_of r v b) })
-leads_never A told c q r d i v b room holds stood is never more =
+leads_never A told c q r d i v b room holds stood is never more post =
     let bears = λ (s : State). resolving r d i (λ (k : Request). Bears s (request_of k) (verdict_of v)) is (never_bears s (loader_of r) d.name i v never) in
     record {
       kept = tt;
@@ -86,6 +97,7 @@ leads_never A told c q r d i v b room holds stood is never more =
       asks = refl;
       serves = refl;
       left = more;
+      calls = posts_within told c holds r room post;
       keeps = λ x h. record { frames = tt; facts = tt };
       backed = λ x config named consistent h. record {
         within = stood.within x config named h;
@@ -103,14 +115,15 @@ leads_never A told c q r d i v b room holds stood is never more =
 
 -- ---- an entry is settled
 
-pub leads_settles : (A : Type 0) (told : Option Content) (c : Configured) (q : ℕ) (r : Request) (d : Class) (i : ℕ) (v : verdict.Verdict) (b : Based) (room : ℕ) (holds : Shown → Type 0) (kept : entries.Entry A) → Stood told c r v b holds → Settling r d i v holds → IsEntry c kept → kept.q ≡ q → kept.request ≡ r
-    → ((x : Shown) → holds x → EntryTold kept x) → 1 < room → LeadsBy {A = A} told c q r room holds (record { stage = stages.Resolve (resolutions.Settling kept); turn = turn.Settle (said_of r v b) })
-leads_settles A told c q r d i v b room holds kept stood may entry number same told_so more = record {
+pub leads_settles : (A : Type 0) (told : Option Content) (c : Configured) (q : ℕ) (r : Request) (d : Class) (i : ℕ) (v : verdict.Verdict) (b : Based) (room : Room) (holds : Shown → Type 0) (kept : entries.Entry A) → Stood told c r v b holds → Settling r d i v holds → IsEntry c kept → kept.q ≡ q → kept.request ≡ r
+    → ((x : Shown) → holds x → EntryTold kept x) → 1 < room.turns → HasSettle room → LeadsBy {A = A} told c q r room holds (record { stage = stages.Resolve (resolutions.Settling kept); turn = turn.Settle (said_of r v b) })
+leads_settles A told c q r d i v b room holds kept stood may entry number same told_so more two = record {
   kept = entry;
   number = number;
   asks = ap (λ (k : Request). waits.Settling k) same;
   serves = (refl, ap (λ (k : Request). Some k) same);
   left = more;
+  calls = settles_within told c holds r room two;
   keeps = λ x h. record { frames = tt; facts = told_so x h };
   backed = λ x config named consistent h. may_settle told c r d i v b holds stood may x config named h;
   follows = λ g x served h. settled_next told c r d i v b holds stood may g x served h;
@@ -154,14 +167,15 @@ settled_comes g s l d i v sound kept settled =
         some_is : (a b : ℕ) → Some a ≡ Some b → a ≡ b
         some_is a b e = cc
 
-pub leads_shared : (A : Type 0) (told : Option Content) (c : Configured) (q : ℕ) (r : Request) (d : Class) (i : ℕ) (s : Arc Settled Global) (room : ℕ) (holds : Shown → Type 0) → r ≡ requests.Resolve (loader_of r) d.name i → loader_of r < length c.loaders → ((x : Shown) → holds x → recorded (records_of x) (loader_of r) d.name ≡ Some d.loader)
-    → ((x : Shown) → holds x → IsSettledIn x d i s.value) → 0 < room → LeadsBy {A = A} told c q r room holds (record { stage = stages.Done q; turn = turn.Post (record { request = r; answer = answers.Shared s; basis = None }) })
-leads_shared A told c q r d i s room holds is asked kept settled more = record {
+pub leads_shared : (A : Type 0) (told : Option Content) (c : Configured) (q : ℕ) (r : Request) (d : Class) (i : ℕ) (s : Arc Settled Global) (room : Room) (holds : Shown → Type 0) → r ≡ requests.Resolve (loader_of r) d.name i → loader_of r < length c.loaders → ((x : Shown) → holds x → recorded (records_of x) (loader_of r) d.name ≡ Some d.loader)
+    → ((x : Shown) → holds x → IsSettledIn x d i s.value) → 0 < room.turns → HasPost room → LeadsBy {A = A} told c q r room holds (record { stage = stages.Done q; turn = turn.Post (record { request = r; answer = answers.Shared s; basis = None }) })
+leads_shared A told c q r d i s room holds is asked kept settled more post = record {
   kept = tt;
   number = refl;
   asks = refl;
   serves = refl;
   left = more;
+  calls = posts_within told c holds r room post;
   keeps = λ x h. record { frames = tt; facts = tt };
   backed = λ x config named consistent h. record {
     within = record {
@@ -307,43 +321,43 @@ found : (told : Option Content) (f : Answered) (r : Request) (v : verdict.Verdic
 found told f r v b h = found_is f r v b h.request h.answer h.basis
 
 pub posts_entry : (A : Type 0) (told : Option Content) (c config : Configured) (e : entries.Entry A) (v : verdict.Verdict) (f : Answered) (n : Next A) → IsEntry c e → config ≡ c → IsAtOnce e.request e.d.value (verdict_of v) → IsNoneSettled v
-    → IsFound told f e.request v (entry_basis config e.request e.d.value.class) → n ≡ record { stage = stages.Done e.q; turn = turn.Post f } → LeadsBy told c e.q e.request reference_left (EntryTold e) n
+    → IsFound told f e.request v (entry_basis config e.request e.d.value.class) → n ≡ record { stage = stages.Done e.q; turn = turn.Post f } → LeadsBy told c e.q e.request reference_room (EntryTold e) n
 posts_entry A told c config e v f n entry same ends never h is =
     let b = entry_basis config e.request e.d.value.class in
     let whole = found told f e.request v b h in
-    subst (λ (m : Next A). LeadsBy told c e.q e.request reference_left (EntryTold e) m) (sym (is ∙ ap (λ (k : Answered). record { stage = stages.Done e.q; turn = turn.Post k }) whole))
-    (leads_never A told c e.q e.request e.d.value.class e.index v b reference_left (EntryTold e) (entry_stood A told c config e v entry same ends (subst (Rests told) whole h.rests)) entry.of never (omega arith))
+    subst (λ (m : Next A). LeadsBy told c e.q e.request reference_room (EntryTold e) m) (sym (is ∙ ap (λ (k : Answered). record { stage = stages.Done e.q; turn = turn.Post k }) whole))
+    (leads_never A told c e.q e.request e.d.value.class e.index v b reference_room (EntryTold e) (entry_stood A told c config e v entry same ends (subst (Rests told) whole h.rests)) entry.of never (omega arith) (λ w p s. omega arith))
 
 pub settles_entry : (A : Type 0) (told : Option Content) (c config : Configured) (e kept : entries.Entry A) (v : verdict.Verdict) (f : Answered) (n : Next A) → IsEntry c e → IsSame e kept → config ≡ c → IsAtOnce e.request e.d.value (verdict_of v) → IsSettledKind v
-    → IsFound told f e.request v (entry_basis config e.request e.d.value.class) → n ≡ record { stage = stages.Resolve (resolutions.Settling kept); turn = turn.Settle f } → LeadsBy told c e.q e.request reference_left (EntryTold e) n
+    → IsFound told f e.request v (entry_basis config e.request e.d.value.class) → n ≡ record { stage = stages.Resolve (resolutions.Settling kept); turn = turn.Settle f } → LeadsBy told c e.q e.request reference_room (EntryTold e) n
 settles_entry A told c config e kept v f n entry same_kept same ends kind h is =
     let b = entry_basis config e.request e.d.value.class in
     let whole = found told f e.request v b h in
-    subst (λ (m : Next A). LeadsBy told c e.q e.request reference_left (EntryTold e) m) (sym (is ∙ ap (λ (k : Answered). record { stage = stages.Resolve (resolutions.Settling kept); turn = turn.Settle k }) whole))
-    (leads_settles A told c e.q e.request e.d.value.class e.index v b reference_left (EntryTold e) kept (entry_stood A told c config e v entry same ends (subst (Rests told) whole h.rests))
+    subst (λ (m : Next A). LeadsBy told c e.q e.request reference_room (EntryTold e) m) (sym (is ∙ ap (λ (k : Answered). record { stage = stages.Resolve (resolutions.Settling kept); turn = turn.Settle k }) whole))
+    (leads_settles A told c e.q e.request e.d.value.class e.index v b reference_room (EntryTold e) kept (entry_stood A told c config e v entry same ends (subst (Rests told) whole h.rests))
     (record { resolves = entry.of; kept = λ x k. k.0; is_entry = kind.is_entry; is_class_member = kind.is_class_member })
-    (same_entry A c e kept same_kept entry) same_kept.number same_kept.request (λ x k. same_told A e kept x same_kept k) (omega arith))
+    (same_entry A c e kept same_kept entry) same_kept.number same_kept.request (λ x k. same_told A e kept x same_kept k) (omega arith) (λ w p s. omega arith))
 
 pub settles_class : (A : Type 0) (told : Option Content) (c config : Configured) (e kept : entries.Entry A) (k : Rowed) (v : verdict.Verdict) (f : Answered) (n : Next A) → IsEntry c e → IsSame e kept → config ≡ c → IsAtClass e.request e.d.value k (verdict_of v) → IsSettledKind v
-    → IsFound told f e.request v (class_basis config e.request e.d.value.class k.class) → n ≡ record { stage = stages.Resolve (resolutions.Settling kept); turn = turn.Settle f } → LeadsBy told c e.q e.request named_left (NamedTold e k) n
+    → IsFound told f e.request v (class_basis config e.request e.d.value.class k.class) → n ≡ record { stage = stages.Resolve (resolutions.Settling kept); turn = turn.Settle f } → LeadsBy told c e.q e.request named_room (NamedTold e k) n
 settles_class A told c config e kept k v f n entry same_kept same ends kind h is =
     let b = class_basis config e.request e.d.value.class k.class in
     let whole = found told f e.request v b h in
-    subst (λ (m : Next A). LeadsBy told c e.q e.request named_left (NamedTold e k) m) (sym (is ∙ ap (λ (k : Answered). record { stage = stages.Resolve (resolutions.Settling kept); turn = turn.Settle k }) whole))
-    (leads_settles A told c e.q e.request e.d.value.class e.index v b named_left (NamedTold e k) kept (class_stood A told c config e k v entry same ends (subst (Rests told) whole h.rests))
+    subst (λ (m : Next A). LeadsBy told c e.q e.request named_room (NamedTold e k) m) (sym (is ∙ ap (λ (k : Answered). record { stage = stages.Resolve (resolutions.Settling kept); turn = turn.Settle k }) whole))
+    (leads_settles A told c e.q e.request e.d.value.class e.index v b named_room (NamedTold e k) kept (class_stood A told c config e k v entry same ends (subst (Rests told) whole h.rests))
     (record { resolves = entry.of; kept = λ x t. t.0; is_entry = kind.is_entry; is_class_member = kind.is_class_member })
-    (same_entry A c e kept same_kept entry) same_kept.number same_kept.request (λ x t. same_told A e kept x same_kept (t.0, tt)) (omega arith))
+    (same_entry A c e kept same_kept entry) same_kept.number same_kept.request (λ x t. same_told A e kept x same_kept (t.0, tt)) (omega arith) (λ w p s. omega arith))
 
 -- what the entry was found to be settled to is the answer
 pub shares_entry : (A : Type 0) (told : Option Content) (c : Configured) (e : entries.Entry A) (o : Option (Arc Settled Global)) (s : Arc Settled Global) (n : Next A) → IsEntry c e → o ≡ Some s → n ≡ record { stage = stages.Done e.q; turn = turn.Post (record { request = e.request; answer = answers.Shared s; basis = None }) }
-    → LeadsBy told c e.q e.request reference_left (SettledTold e o) n
+    → LeadsBy told c e.q e.request reference_room (SettledTold e o) n
 shares_entry A told c e o s n entry found is =
-    subst (λ (m : Next A). LeadsBy told c e.q e.request reference_left (SettledTold e o) m) (sym is)
-    (leads_shared A told c e.q e.request e.d.value.class e.index s reference_left (SettledTold e o) entry.of entry.asked (λ x h. h.before.0) (λ x h. found_now x h found) (omega arith))
+    subst (λ (m : Next A). LeadsBy told c e.q e.request reference_room (SettledTold e o) m) (sym is)
+    (leads_shared A told c e.q e.request e.d.value.class e.index s reference_room (SettledTold e o) entry.of entry.asked (λ x h. h.before.0) (λ x h. found_now x h found) (omega arith) (λ w p s. omega arith))
   where
     found_now : (x : Shown) → SettledTold e o x → o ≡ Some s → IsSettledIn x e.d.value.class e.index s.value
     found_now x h eq = (subst (λ (k : Option (Arc Settled Global)). SettledTold e k x) eq h).now
 
 -- nothing was found, and the entry is opened
-pub opens_entry : (A : Type 0) (told : Option Content) (c : Configured) (e : entries.Entry A) (o : Option (Arc Settled Global)) (n : Next A) → LeadsBy told c e.q e.request reference_left (EntryTold e) n → LeadsBy told c e.q e.request reference_left (SettledTold e o) n
-opens_entry A told c e o n l = leads_by reference_left (SettledTold e o) l (omega arith) (λ x h. h.before)
+pub opens_entry : (A : Type 0) (told : Option Content) (c : Configured) (e : entries.Entry A) (o : Option (Arc Settled Global)) (n : Next A) → LeadsBy told c e.q e.request reference_room (EntryTold e) n → LeadsBy told c e.q e.request reference_room (SettledTold e o) n
+opens_entry A told c e o n l = leads_by reference_room (SettledTold e o) l (omega arith) (λ g x p served is h. omega arith) (λ x h. h.before)

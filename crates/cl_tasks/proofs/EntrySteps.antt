@@ -29,8 +29,9 @@ use Rattle.cl_tasks.specs.Follows.{LacksOnly, Posts, ServedIn, Tells, TellsNow}
 use Rattle.cl_tasks.specs.Measures.{checking_left, reference_left}
 use Rattle.cl_tasks.specs.Reaching.{ReachesBy}
 use Rattle.cl_tasks.specs.Resolving.{SettledTold}
+use Rattle.cl_tasks.specs.Rooms.{reference_room}
 use Rattle.cl_tasks.specs.Stages.{IsFailed, basis_facts, load_of, resolving_at, task_at}
-use Rattle.cl_tasks.specs.Steps.{IsPlain, LeadsBy, LeadsOn, Steps, memory_ends}
+use Rattle.cl_tasks.specs.Steps.{IsPlain, LeadsBy, LeadsOn, Steps, memory_ends, task_room}
 use Rattle.cl_tasks.specs.Turns.{AnswersOwn, GoesOnWith, WasAbsent}
 use Rattle.cl_tasks.specs.declared.stage.Entry as entries
 use Rattle.cl_tasks.specs.declared.stage.Failed.{Failed}
@@ -44,7 +45,7 @@ use Rattle.cl_tasks.proofs.Facts.{so_met, so_refuses}
 use Rattle.cl_tasks.proofs.Lacking.{posts_one, posts_or, shared_memory}
 use Rattle.cl_tasks.proofs.Lead.{leads_memory, leads_more, plain_no_fault, plain_reads}
 use Rattle.cl_tasks.proofs.Reaching.{reached_left, reaches}
-use Rattle.cl_tasks.proofs.Said.{Stood, borne, found_is, said_of, stood_answers, unrecorded}
+use Rattle.cl_tasks.proofs.Said.{Stood, borne, concluded, concludes_at, found_is, said_of, stood_answers, unrecorded}
 
 same_room : (m : ℕ) → m ≤ m
 same_room m = omega arith
@@ -65,11 +66,11 @@ reference_lacks : {A : Type 0} (r : Request) (o : Option (Arc Settled Global)) (
 reference_lacks r None n h = λ k. tt
 reference_lacks r (Some s) n h = λ k. shared_memory s (posts_one (answers.Shared s) answers.Memory n.turn h k)
 
-pub reference_steps : {A : Type 0} (told : Option Content) (c : Configured) (e : entries.Entry A) (o : Option (Arc Settled Global)) (n : Next A) → LeadsBy told c e.q e.request reference_left (SettledTold e o) n
+pub reference_steps : {A : Type 0} (told : Option Content) (c : Configured) (e : entries.Entry A) (o : Option (Arc Settled Global)) (n : Next A) → LeadsBy told c e.q e.request reference_room (SettledTold e o) n
     → IfSome o (λ s. Posts (answers.Shared s) n.turn) → IsPlain n.turn → Derives IsNone [] n.stage → Steps told (resolving_at c (resolutions.LookingReference e)) (reply.LookedReference o) n
 reference_steps {A = A} told c e o n l own plain derives = record {
-  leads = leads_more reference_left (λ x. Tells {A = A} x (resolving_at c (resolutions.LookingReference e)) (reply.LookedReference o)) (λ x. TellsNow {A = A} x (resolving_at c (resolutions.LookingReference e)) (reply.LookedReference o)) l
-      (same_room reference_left) (λ x h. reference_told c e o x h) (λ x h. reference_told c e o x h.told);
+  leads = leads_more (task_room (resolving_at c (resolutions.LookingReference e))) (λ x. Tells {A = A} x (resolving_at c (resolutions.LookingReference e)) (reply.LookedReference o)) (λ x. TellsNow {A = A} x (resolving_at c (resolutions.LookingReference e)) (reply.LookedReference o)) l
+      (same_room reference_left) (λ g x p served is h. omega arith) (λ x h. reference_told c e o x h) (λ x h. reference_told c e o x h.told);
   refused = plain_no_fault n.turn plain;
   linkage = tt;
   lacks = reference_lacks e.request o n own;
@@ -99,12 +100,36 @@ some_request a b e = cc
 equal_room : (a b : ℕ) → a ≡ b → a ≤ b
 equal_room a b e = omega (arith, e)
 
+none_some : {n : ℕ} → None ≡ Some n → ⊥
+none_some e = absurd cc
+
+failed_whole : {A : Type 0} (told : Option Content) (c : Configured) (f : Failed A) (failed : IsFailed told c f) → f.finding ≡ said_of f.request failed.verdict failed.basis
+failed_whole told c f failed = found_is f.finding f.request failed.verdict failed.basis failed.same failed.said failed.rests_on
+
+-- what it rests on was told
+failed_facts : {A : Type 0} (told : Option Content) (c : Configured) (f : Failed A) (failed : IsFailed told c f) (x : Shown) → AreSo x (basis_facts f.finding.basis) → AreSo x (basis_facts (Some failed.basis))
+failed_facts told c f failed x h = subst (λ (o : Option Based). AreSo x (basis_facts o)) failed.rests_on h
+
+-- where a content is told, the class of a resolution whose load fails is recorded nowhere
+failed_unrecorded : {A : Type 0} (told : Option Content) (c : Configured) (f : Failed A) → IsFailed told c f → (g : Setting) (x : Shown) → ServedIn told c g (state_of x) → AreSo x (basis_facts f.finding.basis) → recorded (state_of x).records (loader_of f.request) (name_of f.request) ≡ None
+failed_unrecorded told c f failed g x served facts =
+    let r = f.request in
+    let v = failed.verdict in
+    let so = failed_facts told c f failed x facts in
+    let load : Rests told (said_of (load_of r) v failed.basis) = subst (λ (k : Answered). Rests told (record k { request = load_of r })) (failed_whole told c f failed) failed.own in
+    let concludes = concludes_at told c g (state_of x) (load_of r) v failed.basis served load failed.config failed.unprepared (so_met x failed.basis so) in
+    unrecorded g (state_of x) (loader_of r) (name_of r) v served.sound failed.failure (concluded g (state_of x) (plans.Load (loader_of r) (name_of r)) failed.basis.refused failed.basis.prepared (verdict_of v) concludes (so_refuses x failed.basis so))
+
+-- so nothing is found there
+found_never : {A : Type 0} (told : Option Content) (c : Configured) (f : Failed A) → IsFailed told c f → (row : Arc (ClassRow A) Global) (g : Setting) (x : Shown) → ServedIn told c g (state_of x) → Tells {A = A} x (resolving_at c (resolutions.Checking f)) (reply.Looked (Some row)) → ⊥
+found_never told c f failed row g x served h = none_some (sym (failed_unrecorded told c f failed g x served h.before.facts) ∙ h.now.recorded)
+
 pub found_steps : {A : Type 0} (told : Option Content) (c : Configured) (f : Failed A) (row : Arc (ClassRow A) Global) (n : Next A) → IsFailed told c f → row.value.class.name ≡ name_of f.request → ReachesBy f.q f.request row n
     → GoesOnWith f.request row.value.class n.turn → IsPlain n.turn → IsPast n.stage → Steps told (resolving_at c (resolutions.Checking f)) (reply.Looked (Some row)) n
 found_steps {A = A} told c f row n failed name by goes plain past = record {
-  leads = leads_more checking_left (λ x. Tells {A = A} x (resolving_at c (resolutions.Checking f)) (reply.Looked (Some row))) (λ x. TellsNow {A = A} x (resolving_at c (resolutions.Checking f)) (reply.Looked (Some row)))
+  leads = leads_more (task_room (resolving_at c (resolutions.Checking f))) (λ x. Tells {A = A} x (resolving_at c (resolutions.Checking f)) (reply.Looked (Some row))) (λ x. TellsNow {A = A} x (resolving_at c (resolutions.Checking f)) (reply.Looked (Some row)))
       (reaches A told c f.q f.request row n failed.asked name by)
-      (equal_room (reached_left f.request) checking_left (ap reached_left failed.resolves)) (λ x h. h.now) (λ x h. h.told.now);
+      (equal_room (reached_left f.request) checking_left (ap reached_left failed.resolves)) (λ g x p served is h. absurd (found_never told c f failed row g x served h.told)) (λ x h. h.now) (λ x h. h.told.now);
   refused = plain_no_fault n.turn plain;
   linkage = tt;
   lacks = λ h. tt;
@@ -121,7 +146,7 @@ memory_goes q (requests.Link l m) k n e = subst (λ (i : Next _). GoesOnWith (re
 
 pub found_out : {A : Type 0} (told : Option Content) (c : Configured) (f : Failed A) (row : Arc (ClassRow A) Global) → IsFailed told c f → Steps {A = A} told (resolving_at c (resolutions.Checking f)) (reply.Looked (Some row)) (memory_ends f.q f.request)
 found_out {A = A} told c f row failed = record {
-  leads = leads_memory told c f.q f.request checking_left _ _ failed.asked (omega arith);
+  leads = leads_memory told c f.q f.request (task_room (resolving_at c (resolutions.Checking f))) _ _ failed.asked (omega arith) (λ w p s. omega arith);
   refused = tt;
   linkage = tt;
   lacks = λ h. tt;
@@ -132,7 +157,7 @@ found_out {A = A} told c f row failed = record {
 
 pub unfound_out : {A : Type 0} (told : Option Content) (c : Configured) (f : Failed A) → IsFailed told c f → Steps {A = A} told (resolving_at c (resolutions.Checking f)) (reply.Looked None) (memory_ends f.q f.request)
 unfound_out {A = A} told c f failed = record {
-  leads = leads_memory told c f.q f.request checking_left _ _ failed.asked (omega arith);
+  leads = leads_memory told c f.q f.request (task_room (resolving_at c (resolutions.Checking f))) _ _ failed.asked (omega arith) (λ w p s. omega arith);
   refused = tt;
   linkage = tt;
   lacks = λ h. tt;
@@ -147,12 +172,6 @@ unfound_out {A = A} told c f failed = record {
 abbrev Unfound : (A : Type 0) → Configured → Failed A → Shown → Type 0
 Unfound A c f x = Tells {A = A} x (resolving_at c (resolutions.Checking f)) (reply.Looked None)
 
-failed_whole : {A : Type 0} (told : Option Content) (c : Configured) (f : Failed A) (failed : IsFailed told c f) → f.finding ≡ said_of f.request failed.verdict failed.basis
-failed_whole told c f failed = found_is f.finding f.request failed.verdict failed.basis failed.same failed.said failed.rests_on
-
-failed_facts : {A : Type 0} (told : Option Content) (c : Configured) (f : Failed A) (failed : IsFailed told c f) (x : Shown) → Unfound A c f x → AreSo x (basis_facts (Some failed.basis))
-failed_facts told c f failed x h = subst (λ (o : Option Based). AreSo x (basis_facts o)) failed.rests_on h.before.facts
-
 failed_stood : {A : Type 0} (told : Option Content) (c : Configured) (f : Failed A) (failed : IsFailed told c f) → Rests told f.finding → IsWithin (length c.loaders) f.finding → Stood told c f.request failed.verdict failed.basis (Unfound A c f)
 failed_stood told c f failed rests within =
     let whole = failed_whole told c f failed in
@@ -160,13 +179,10 @@ failed_stood told c f failed rests within =
       rests = subst (λ (k : Answered). Rests told k) whole rests;
       config = failed.config;
       unprepared = failed.unprepared;
-      needs = λ x h. so_met x failed.basis (failed_facts told c f failed x h);
-      refused = λ x h. so_refuses x failed.basis (failed_facts told c f failed x h);
+      needs = λ x h. so_met x failed.basis (failed_facts told c f failed x h.before.facts);
+      refused = λ x h. so_refuses x failed.basis (failed_facts told c f failed x h.before.facts);
       within = λ x config named h. subst (λ (k : Configured). IsWithin (length k.loaders) (said_of f.request failed.verdict failed.basis)) (sym config) (subst (λ (k : Answered). IsWithin (length c.loaders) k) whole within);
     }
-
-none_some : {n : ℕ} → None ≡ Some n → ⊥
-none_some e = absurd cc
 
 -- of a request to resolve, where its class is not recorded, the tables bear any verdict
 unreached_bears : (s : State) (r : Request) (i : ℕ) (v : verdict.Verdict) → r ≡ requests.Resolve (loader_of r) (name_of r) i → recorded s.records (loader_of r) (name_of r) ≡ None → Bears s (request_of r) (verdict_of v)
@@ -182,22 +198,12 @@ unreached_answers g s r i v is free answer =
 
 failed_comes : {A : Type 0} (told : Option Content) (c : Configured) (f : Failed A) (failed : IsFailed told c f) → Stood told c f.request failed.verdict failed.basis (Unfound A c f) → (g : Setting) (x : Shown) → ServedIn told c g (state_of x) → Unfound A c f x
     → ComesTo g (state_of x) (request_of f.request) (verdict_of failed.verdict)
-failed_comes {A = A} told c f failed stood g x served h =
-    let r = f.request in
-    let v = failed.verdict in
-    let load : Stood told c (load_of r) v failed.basis (Unfound A c f) = record {
-      rests = subst (λ (k : Answered). Rests told (record k { request = load_of r })) (failed_whole told c f failed) failed.own;
-      config = stood.config;
-      unprepared = stood.unprepared;
-      needs = stood.needs;
-      refused = stood.refused;
-      within = λ y config named k. let w = stood.within y config named k in record { loader = w.loader; answer = w.answer };
-    } in
-    let free = unrecorded g (state_of x) (loader_of r) (name_of r) v served.sound failed.failure (stood_answers told c (load_of r) v failed.basis (Unfound A c f) load g x served h) in
-    unreached_answers g (state_of x) r failed.index v failed.resolves free (stood_answers told c r v failed.basis (Unfound A c f) stood g x served h)
+failed_comes told c f failed stood g x served h =
+    let free = failed_unrecorded told c f failed g x served h.before.facts in
+    unreached_answers g (state_of x) f.request failed.index failed.verdict failed.resolves free (stood_answers told c f.request failed.verdict failed.basis (Unfound _ c f) stood g x served h)
 
 failed_leads : {A : Type 0} (told : Option Content) (c : Configured) (f : Failed A) (failed : IsFailed told c f) → Stood told c f.request failed.verdict failed.basis (Unfound A c f)
-    → LeadsOn {A = A} told c f.q f.request checking_left (Unfound A c f) (λ x. TellsNow {A = A} x (resolving_at c (resolutions.Checking f)) (reply.Looked None))
+    → LeadsOn {A = A} told c f.q f.request (task_room (resolving_at c (resolutions.Checking f))) (Unfound A c f) (λ x. TellsNow {A = A} x (resolving_at c (resolutions.Checking f)) (reply.Looked None))
     (record { stage = stages.Done f.q; turn = turn.Post (said_of f.request failed.verdict failed.basis) })
 failed_leads {A = A} told c f failed stood =
     let r = f.request in
@@ -209,6 +215,7 @@ failed_leads {A = A} told c f failed stood =
       asks = refl;
       serves = refl;
       left = omega arith;
+      calls = λ g x p served is h. omega arith;
       keeps = λ x h. record { frames = tt; facts = tt };
       backed = λ x config named consistent h. record {
         within = stood.within x config named h.told;

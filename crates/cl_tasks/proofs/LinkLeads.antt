@@ -1,5 +1,5 @@
 -- What each step of a link leads to.
-use Rattle.std.proofs.Common.{Global, ◌≡◌, ◌∙◌, ◌<◌, ◌≤◌, ◌+◌, ◌-◌, ◌*◌, ◌^◌, ℕ, zero, suc, Bool, List, [], ◌∷◌, length, Option, Some, None, inl, inr, refl, sym, ap, subst, arith}
+use Rattle.std.proofs.Common.{Global, ◌≡◌, ◌∙◌, ◌<◌, ◌≤◌, ◌+◌, ◌-◌, ◌*◌, ◌^◌, ℕ, zero, suc, Bool, List, [], ◌∷◌, drop, length, Option, Some, None, inl, inr, refl, sym, ap, subst, arith}
 use Rattle.std.specs.Prelude.{slice_get, take, option_map, unwrap_or, Contains, IfSome}
 use Rattle.std.specs.List.{AllByRecursion}
 use Rattle.std.proofs.lemmas.List.{length-map, take-map}
@@ -16,7 +16,7 @@ use Rattle.cl_model.specs.declared.request.Request.TheVariants as requests
 use Rattle.cl_model.specs.declared.verdict.Verdict.TheVariants as verdicts
 use Rattle.cl_model.specs.Content.{Content}
 use Rattle.cl_model.specs.Classes.{supers}
-use Rattle.cl_model.specs.Lineages.{IsLineage}
+use Rattle.cl_model.specs.Lineages.{Kin, IsLineage, lineage}
 use Rattle.cl_model.specs.Machine.{Setting, IsSound}
 use Rattle.cl_model.specs.Preparation.{constraints_of}
 use Rattle.cl_model.specs.Service.{ComesTo}
@@ -34,6 +34,7 @@ use Rattle.cl_hierarchy.specs.Rows.{Rowed}
 use Rattle.cl_findings.specs.Bases.{AreLineages}
 use Rattle.cl_findings.specs.Findings.{Answered, Based, BasisStands, IsLookedUp, IsWithin, loader_of}
 use Rattle.cl_findings.specs.References.{link_basis}
+use Rattle.cl_findings.proofs.Links.{lineage_classes}
 use Rattle.cl_findings.proofs.References.{next_at}
 use Rattle.cl_registry.specs.Imposing.{IsNextOf, IsPreparedAbove, IsReady, IsReadyBy, IsStanding, MayImpose, MayMark, StandsFor}
 use Rattle.cl_registry.specs.Posting.{AnswerBacked, IsBacked}
@@ -41,27 +42,64 @@ use Rattle.cl_registry.specs.Tables.{NamesLoaders, Shown, records_of, row_of, st
 use Rattle.cl_registry.specs.Traced.{IsRowOf, IsTraced}
 use Rattle.cl_registry.proofs.Linked.{prepared_comes}
 use Rattle.cl_registry.proofs.Named.{recorded_is_named}
+use Rattle.cl_tasks.specs.Calls.{Calls, calls_in, equalities_in, link_calls, own_homes, past_loads}
 use Rattle.cl_tasks.specs.Facts.{AreSo}
-use Rattle.cl_tasks.specs.Follows.{AnswerFollows, IsPreparedNext, IsWanted, ServedIn}
+use Rattle.cl_tasks.specs.Follows.{AnswerFollows, CallsWithin, IsPreparedNext, IsWanted, ServedIn}
 use Rattle.cl_tasks.specs.Linking.{ChainTold, DoneTold, GoalTold, LineageTold, ListTold, MarkedTold, PreparedTold, RefusedTold, WholeTold}
 use Rattle.cl_tasks.specs.Measures.{chain_left, each_left, linking_left, most, prepared_left, whole_left}
-use Rattle.cl_tasks.specs.Stages.{IsAtPlace, IsChain, IsGoal, IsOf, behind, class_in, classes_in}
+use Rattle.cl_tasks.specs.Rooms.{chain_room, last_room, linking_room, listed_room, prepared_room}
+use Rattle.cl_tasks.specs.Stages.{IsAtPlace, IsChain, IsGoal, IsOf, behind, chain_calls, class_in, classes_in, list_calls}
 use Rattle.cl_tasks.specs.Steps.{LeadsBy}
 use Rattle.cl_tasks.specs.declared.stage.Chain.{Chain}
 use Rattle.cl_tasks.specs.declared.stage.Goal.{Goal}
 use Rattle.cl_tasks.specs.declared.stage.Link.TheVariants as links
+use Rattle.cl_tasks.specs.declared.stage.Next.{Next}
 use Rattle.cl_tasks.specs.declared.stage.Stage.TheVariants as stages
 use Rattle.cl_tasks.specs.declared.turn.Turn.TheVariants as turn
 use Rattle.cl_tasks.specs.Waits as waits
+use Rattle.cl_tasks.proofs.Lead.{HasPost, leads_by}
 use Rattle.cl_tasks.proofs.LinkAbove.{supers_prepared}
 use Rattle.cl_tasks.proofs.LinkFacts.{all_at, chain_goal, chain_of, chain_prepared, chain_whole, class_last, class_there, list_chain, list_facts, list_imposed, list_of, list_traced, none, own_recorded, row_there, taken_more, traced_own, traced_recorded, whole_length, within_some}
 use Rattle.cl_tasks.proofs.LinkNamed.{refused_named}
-use Rattle.cl_tasks.proofs.LinkPlan.{IsThere, equality_next, preparation_next, there}
+use Rattle.cl_tasks.proofs.LinkPlan.{IsThere, chain_step, chain_within, equality_next, preparation_next, there}
 
 -- ---- in general
 
 within_same : (c : Configured) (x : Shown) (l : ℕ) → x.config ≡ c → l < length c.loaders → l < length x.config.loaders
 within_same c x l e lt = subst (λ (k : Configured). l < length k.loaders) (sym e) lt
+
+-- a lineage of what is told is one of the setting that the request is served in
+in_world : (told : Option Content) (c : Configured) (g : Setting) (s : State) → ServedIn told c g s → (l : Lined) → l.config ≡ c → IsLineageOf told l → IsLineage g.world (kin_of l)
+in_world told c g s served l config lin =
+    let told_lin : IsLineageOf (Some served.content) l = subst (λ (o : Option Content). IsLineageOf o l) served.told_so lin in
+    subst (λ (t : Setting). IsLineage t.world (kin_of l)) (sym served.setting) (subst (λ (d : Configured). IsLineage (world_of d served.content) (kin_of l)) config told_lin)
+
+-- ---- calls
+
+-- no more are left than there is room for
+pub stay : (told : Option Content) (c : Configured) (now : Shown → Type 0) (r : request.Request) (n : Calls) → CallsWithin told c now r 0 n n
+stay told c now r n = λ g x p served is h. same_calls (calls_in n g.world p (state_of x))
+  where
+    same_calls : (a : ℕ) → 0 + a ≤ a
+    same_calls a = omega arith
+
+-- where none of them are of homes or equalities
+pub fewer_calls : (told : Option Content) (c : Configured) (now : Shown → Type 0) (r : request.Request) (made a b : ℕ) → made + a ≤ b → CallsWithin told c now r made (past_loads 0 0 a) (past_loads 0 0 b)
+fewer_calls told c now r made a b le = λ g x p served is h. omega (arith, le)
+
+-- the post alone is left
+pub post_calls : (told : Option Content) (c : Configured) (now : Shown → Type 0) (r : request.Request) (made homes equalities more : ℕ) → made + 1 ≤ more → CallsWithin told c now r made (past_loads 0 0 1) (past_loads homes equalities more)
+post_calls told c now r made homes equalities more le = λ g x p served is h. below (own_homes g.world p) (equalities_in p) (homes * own_homes g.world p) (equalities * equalities_in p) made more le
+  where
+    below : (h e a b m n : ℕ) → m + 1 ≤ n → m + (0 + (0 * h + 0 * e + 1)) ≤ 0 + (a + b + n)
+    below h e a b m n le = omega (arith, le)
+
+-- there is room for the post
+pub post_room : (turns made homes equalities more : ℕ) → made + 1 ≤ more → HasPost (record { turns = turns; made = made; calls = past_loads homes equalities more })
+post_room turns made homes equalities more le = λ w p s. below (homes * own_homes w p) (equalities * equalities_in p) made more le
+  where
+    below : (a b m n : ℕ) → m + 1 ≤ n → m + 1 ≤ 0 + (a + b + n)
+    below a b m n le = omega (arith, le)
 
 -- ---- the request's class is recorded
 
@@ -72,13 +110,14 @@ more_by_one : (a : ℕ) → a + 1 < a + 2
 more_by_one a = omega arith
 
 pub whole_asked : {A : Type 0} (told : Option Content) (c : Configured) (g : Goal A) (prepared : Bool) (k : Class) → IsGoal c g → k ≡ g.class.value.class
-    → LeadsBy told c g.q g.request prepared_left (PreparedTold g prepared) (record { stage = stages.Link (links.TracingWhole g); turn = turn.Lineage k })
+    → LeadsBy told c g.q g.request prepared_room (PreparedTold g prepared) (record { stage = stages.Link (links.TracingWhole g); turn = turn.Lineage k })
 whole_asked told c g prepared k goal is = record {
   kept = goal;
   number = refl;
   asks = ap (λ (d : Class). waits.Tracing d) (sym is);
   serves = refl;
   left = more_by_one (chain_left most);
+  calls = stay told c (PreparedTold g prepared) g.request (past_loads 2 1 2);
   keeps = λ x h. record { frames = tt; facts = h.before };
   backed = λ x config names fine h. subst (λ (d : Class). IsRecorded (state_of x) d) (sym is) (own_recorded x (loader_of g.request) g.class.value.class fine (goal_at x g h.before));
   follows = λ s x served h. tt;
@@ -112,7 +151,7 @@ linked_comes : (g : Setting) (s : State) (r : request.Request) (d : Class) → I
 linked_comes g s r d sound is at prepared = subst (λ (q : request.Request). ComesTo g s (request_of q) (IsLinked d)) (sym is) (prepared_comes g s (loader_of r) d.loader d.name sound at prepared)
 
 pub linked_leads : {A : Type 0} (told : Option Content) (c : Configured) (g : Goal A) (k : Class) → IsGoal c g → k ≡ g.class.value.class
-    → LeadsBy {A = A} told c g.q g.request 1 (DoneTold g) (record { stage = stages.Done g.q; turn = turn.Post (linked_answer g.request k) })
+    → LeadsBy {A = A} told c g.q g.request last_room (DoneTold g) (record { stage = stages.Done g.q; turn = turn.Post (linked_answer g.request k) })
 linked_leads told c g k goal is =
     let d = g.class.value.class in
     record {
@@ -121,6 +160,7 @@ linked_leads told c g k goal is =
       asks = refl;
       serves = refl;
       left = omega arith;
+      calls = stay told c (DoneTold g) g.request (past_loads 0 0 1);
       keeps = λ x h. record { frames = tt; facts = tt };
       backed = λ x config names fine h.
           subst (λ (e : Class). IsBacked x (linked_answer g.request e)) (sym is) (linked_backed c x g.request d config names goal.asked goal.of (goal_at x g h.before) h.now);
@@ -134,13 +174,14 @@ one_more : (a : ℕ) → a < a + 1
 one_more a = omega arith
 
 pub trace_leads : {A : Type 0} (told : Option Content) (c : Configured) (k : Chain A) (d : Class) → IsChain c k → d ≡ class_in k.whole.value k.place
-    → LeadsBy told c k.goal.q k.goal.request (chain_left (behind k) + 1) (ChainTold k) (record { stage = stages.Link (links.Tracing k); turn = turn.Lineage d })
+    → LeadsBy told c k.goal.q k.goal.request (chain_room k) (ChainTold k) (record { stage = stages.Link (links.Tracing k); turn = turn.Lineage d })
 trace_leads told c k d chain is = record {
   kept = chain;
   number = refl;
   asks = ap (λ (e : Class). waits.Tracing e) (sym is);
   serves = refl;
   left = one_more (chain_left (behind k));
+  calls = stay told c (ChainTold k) k.goal.request (past_loads 0 0 (chain_calls k.whole.value k.place + 1));
   keeps = λ x h. record { frames = tt; facts = h };
   backed = λ x config names fine h. subst (λ (e : Class). IsRecorded (state_of x) e) (sym is) (traced_recorded x k.whole.value.own.class k.whole.value k.place (chain_whole x k h) chain.within);
   follows = λ s x served h. tt;
@@ -198,14 +239,60 @@ pub no_row : (l : Lined) (place : ℕ) → slice_get (rows_in l) place ≡ None 
 no_row l place e = ap (λ (o : Option Class). unwrap_or o l.own.class) (slice_get-map (λ (y : Rowed). y.class) (rows_in l) place ∙ ap (λ (o : Option Rowed). option_map (λ (y : Rowed). y.class) o) e)
 
 -- a list that was told of is at its first equality
-pub traced_told : {A : Type 0} (x : Shown) (k : Chain A) (l : Lined) (e : Listed) → e.origin ≡ OfPreparation l → LineageTold k l x → ListTold k e 0 x
+traced_told : {A : Type 0} (x : Shown) (k : Chain A) (l : Lined) (e : Listed) → e.origin ≡ OfPreparation l → LineageTold k l x → ListTold k e 0 x
 traced_told x k l e from h = list_of x k e 0 l from h.before (traced_as x (class_in k.whole.value k.place) l h.now) (no_needs (needs_of e.needs))
   where
     no_needs : (ns : List Need) → AllMet (state_of x) (take 0 ns)
     no_needs [] = tt
     no_needs (n ∷ ns) = tt
 
+-- ---- how many calls are left
+
+-- something is left at a place of a lineage
+pub chain_some_calls : (l : Lined) (place : ℕ) → IsInOrder l → place < length (rows_in l) → 1 ≤ chain_calls l place
+chain_some_calls l place order lt =
+    let ks = lineage (kin_of l) in
+    let many : length ks ≡ length (rows_in l) =
+    sym (length-map ks (λ (k : Kin). k.class)) ∙ ap (λ (cs : List Class). length cs) (lineage_classes l order) ∙ length-map (rows_in l) (λ (row : Rowed). row.class) in
+    some ks place (subst (λ (n : ℕ). place < n) (sym many) lt)
+  where
+    some : (ks : List Kin) (n : ℕ) → n < length ks → 1 ≤ link_calls (drop n ks)
+    some [] n lt = absurd (omega (arith, lt))
+    some (k ∷ ks) zero lt = omega arith
+    some (k ∷ ks) (suc n) lt = some ks n (omega (arith, lt))
+
+pub one_call : (a : ℕ) → 0 + 1 ≤ a + 1
+one_call a = omega arith
+
+-- the lineage of the class at the place of a chain was had, and there is room for the post
+pub listed_post : {A : Type 0} (c : Configured) (k : Chain A) → IsChain c k → IsInOrder k.whole.value → HasPost (listed_room k)
+listed_post c k chain order = post_room (chain_left (behind k)) 0 0 0 (chain_calls k.whole.value k.place) (one_at_least (chain_calls k.whole.value k.place) (chain_some_calls k.whole.value k.place order chain.within))
+  where
+    one_at_least : (a : ℕ) → 1 ≤ a → 0 + 1 ≤ a
+    one_at_least a le = omega (arith, le)
+
+-- all classes of the lineage are within what a link has left
+pub whole_calls : {A : Type 0} (told : Option Content) (c : Configured) (g : Goal A) (whole : Arc Lined Global) → IsGoal c g → IsOf c g.class.value.class whole.value → IsLineageOf told whole.value
+    → CallsWithin told c (WholeTold g whole.value) g.request 0 (past_loads 0 0 (chain_calls whole.value 0 + 1)) (past_loads 2 1 1)
+whole_calls told c g whole goal of lin =
+    λ w x p served is h.
+    let l = whole.value in
+    let kept : recorded (records_of x) (loader_of g.request) l.own.class.name ≡ Some l.own.class.loader =
+    subst (λ (d : Class). recorded (records_of x) (loader_of g.request) d.name ≡ Some d.loader) (sym of.class) (goal_at x g h.before) in
+    let for_it : g.request ≡ requests.Link (loader_of g.request) l.own.class.name = subst (λ (d : Class). g.request ≡ requests.Link (loader_of g.request) d.name) (sym of.class) goal.of in
+    let all = chain_within w (state_of x) g.request l p served.sound for_it kept (in_world told c w (state_of x) served l of.config lin) is in
+    within (own_homes w.world p) (equalities_in p) (chain_calls l 0) all
+  where
+    within : (a b n : ℕ) → n ≤ 2 * a + b → 0 + (0 + (0 * a + 0 * b + (n + 1))) ≤ 0 + (2 * a + 1 * b + 1)
+    within a b n le = omega (arith, le)
+
 -- ---- how many turns are left
+
+pub chain_some_turns : {A : Type 0} (c : Configured) (k : Chain A) → IsChain c k → 0 < chain_left (behind k)
+chain_some_turns c k chain = let lt = chain.within in let some : 0 < behind k = omega (arith, lt) in product_some (behind k) most some
+  where
+    product_some : (n m : ℕ) → 0 < n → 0 < n * (m + 3)
+    product_some n m lt = grind (arith, lt)
 
 each_more : (b e : ℕ) → (b + 1) * e ≡ b * e + e
 each_more b e = grind arith
@@ -213,21 +300,21 @@ each_more b e = grind arith
 pub chain_grows : (a b e : ℕ) → a ≤ b → a * e ≤ b * e
 chain_grows a b e le = grind (arith, le)
 
-pub whole_room : (n : ℕ) → n ≤ most → chain_left n + 1 ≤ whole_left
-whole_room n le = let l = chain_grows n most each_left le in omega (arith, l)
+pub whole_turns : (n : ℕ) → n ≤ most → chain_left n + 1 ≤ whole_left
+whole_turns n le = let l = chain_grows n most each_left le in omega (arith, l)
 
-pub list_room : (n m : ℕ) → 0 < n → m < most → linking_left (n - 1) (m - 0) + 1 ≤ chain_left n
-list_room n m some few =
+list_turns : (n m : ℕ) → 0 < n → m < most → linking_left (n - 1) (m - 0) + 1 ≤ chain_left n
+list_turns n m some few =
     let is : (n - 1) + 1 ≡ n = omega (arith, some) in
     let e = each_more (n - 1) each_left in
     let f = ap (λ (k : ℕ). k * each_left) is in
     omega (arith, e, f, few)
 
-pub one_room : (a m : ℕ) → 1 ≤ a + (m + 1)
-one_room a m = omega arith
+pub one_turn : (a m : ℕ) → 1 ≤ a + (m + 1)
+one_turn a m = omega arith
 
 pub one_prepared : 1 ≤ prepared_left
-one_prepared = one_room (chain_left most) 1
+one_prepared = one_turn (chain_left most) 1
 
 pub rows_few : (l : Lined) (n : ℕ) → n < 2 ^ 64 → n ≡ length l.above → length (rows_in l) - 0 ≤ most
 unfolding most
@@ -242,8 +329,8 @@ needs_few m n lt is =
     let lim : 2 ^ 64 ≡ most = refl in
     omega (arith, lt, is, lim)
 
-pub next_room : (n p : ℕ) → chain_left (n - (p + 1)) + 1 ≤ linking_left ((n - p) - 1) 0
-next_room n p =
+pub next_turns : (n p : ℕ) → chain_left (n - (p + 1)) + 1 ≤ linking_left ((n - p) - 1) 0
+next_turns n p =
     let is : n - (p + 1) ≡ (n - p) - 1 = omega arith in
     let e = ap (λ (k : ℕ). chain_left k) is in
     omega (arith, e)
@@ -251,13 +338,24 @@ next_room n p =
 -- ---- equalities
 
 -- fewer are left where some are skipped
-pub skipped_room : (a m p n : ℕ) → p ≤ n → (a + ((m - n) + 1)) + 1 ≤ (a + ((m - p) + 1)) + 1
-skipped_room a m p n le = omega (arith, le)
+skipped_turns : (a m p n : ℕ) → p ≤ n → (a + ((m - n) + 1)) + 1 ≤ (a + ((m - p) + 1)) + 1
+skipped_turns a m p n le = omega (arith, le)
+
+skipped_calls : (a m p n : ℕ) → p ≤ n → 0 + (a + ((m - n) + 2)) ≤ a + ((m - p) + 2)
+skipped_calls a m p n le = omega (arith, le)
 
 -- where all that are skipped are met, as many more are imposed
-pub skipped_told : {A : Type 0} (x : Shown) (k : Chain A) (e : Listed) (p n : ℕ) → IsAtPlace k e → ((s : State) → AllMet s (take p (needs_of e.needs)) → AllMet s (take n (needs_of e.needs))) → ListTold k e p x → ListTold k e n x
+skipped_told : {A : Type 0} (x : Shown) (k : Chain A) (e : Listed) (p n : ℕ) → IsAtPlace k e → ((s : State) → AllMet s (take p (needs_of e.needs)) → AllMet s (take n (needs_of e.needs))) → ListTold k e p x → ListTold k e n x
 skipped_told x k e p n place met h =
     list_of x k e n place.at place.prepares (list_chain x k e p h) (list_traced x k e p place.at place.prepares h) (met (state_of x) (list_imposed x k e p h))
+
+-- where some are skipped, a step that goes on behind them goes on from here
+pub skipped_leads : {A : Type 0} {n : Next A} (told : Option Content) (c : Configured) (k : Chain A) (e : Listed) (p next : ℕ) → IsAtPlace k e → p ≤ next → ((s : State) → AllMet s (take p (needs_of e.needs)) → AllMet s (take next (needs_of e.needs)))
+    → LeadsBy told c k.goal.q k.goal.request (linking_room k e next) (ListTold k e next) n → LeadsBy told c k.goal.q k.goal.request (linking_room k e p) (ListTold k e p) n
+skipped_leads told c k e p next place le met l =
+    leads_by (linking_room k e p) (ListTold k e p) l (skipped_turns (chain_left (behind k - 1)) (length e.needs) p next le)
+    (fewer_calls told c (ListTold k e p) k.goal.request 0 (list_calls k.whole.value k.place (length e.needs - next)) (list_calls k.whole.value k.place (length e.needs - p)) (skipped_calls (chain_calls k.whole.value (k.place + 1)) (length e.needs) p next le))
+    (λ x h. skipped_told x k e p next place met h)
 
 -- what a list at a place of a chain was made from, and what is known of it
 pub record IsKnown {A : Type 0} (told : Option Content) (k : Chain A) (e : Listed) : Type 0 where
@@ -288,15 +386,30 @@ module _ {A : Type 0} (told : Option Content) (c : Configured) (k : Chain A) (e 
       subst (λ (d : Class). recorded (records_of x) (loader_of k.goal.request) d.name ≡ Some d.loader) (sym chain.whole.class) (goal_at x k.goal (chain_goal x k (list_chain x k e i h)))
 
   -- where the request is served, the link is at that class
-  pub here : (g : Setting) (x : Shown) (i : ℕ) → ServedIn told c g (state_of x) → ListTold k e i x → IsThere g (state_of x) (loader_of k.goal.request) k.whole.value known.place.at
+  pub here : (g : Setting) (x : Shown) (i : ℕ) → ServedIn told c g (state_of x) → ListTold k e i x → IsThere g (state_of x) (loader_of k.goal.request) k.whole.value known.place.at k.place
   here g x i served h =
-      there g (state_of x) (loader_of k.goal.request) k.whole.value known.place.at k.place served.sound known.order (in_world served k.whole.value chain.whole.config known.whole)
-      (in_world served known.place.at (known.place.config ∙ chain.whole.config) other) (goal_recorded x i h) known.place.there (chain_prepared x k (list_chain x k e i h))
+      there g (state_of x) (loader_of k.goal.request) k.whole.value known.place.at k.place served.sound known.order (in_world told c g (state_of x) served k.whole.value chain.whole.config known.whole)
+      (in_world told c g (state_of x) served known.place.at (known.place.config ∙ chain.whole.config) other) (goal_recorded x i h) known.place.there (chain_prepared x k (list_chain x k e i h))
+
+  -- the class at the place has as many calls left as it has equalities, and two more
+  listed_calls : (now : Shown → Type 0) → ((x : Shown) → now x → ListTold k e 0 x) → CallsWithin told c now k.goal.request 0 (past_loads 0 0 (list_calls k.whole.value k.place (length e.needs - 0))) (past_loads 0 0 (chain_calls k.whole.value k.place))
+  listed_calls now tells =
+      λ g x p served is h.
+      let step = chain_step g (state_of x) (loader_of k.goal.request) k.whole.value known.place.at k.place (here g x 0 served (tells x h)) in
+      let many : length e.needs ≡ length (constraints_of (kin_of known.place.at)) = sym (length-map e.needs equal_need) ∙ ap (λ (ns : List Need). length ns) are in
+      fewer_calls told c now k.goal.request 0 (list_calls k.whole.value k.place (length e.needs - 0)) (chain_calls k.whole.value k.place)
+      (within (length e.needs) (length (constraints_of (kin_of known.place.at))) (chain_calls k.whole.value (k.place + 1)) (chain_calls k.whole.value k.place) many step) g x p served is h
     where
-      in_world : (served : ServedIn told c g (state_of x)) (l : Lined) → l.config ≡ c → IsLineageOf told l → IsLineage g.world (kin_of l)
-      in_world served l config lin =
-          let told_lin : IsLineageOf (Some served.content) l = subst (λ (o : Option Content). IsLineageOf o l) served.told_so lin in
-          subst (λ (s : Setting). IsLineage s.world (kin_of l)) (sym served.setting) (subst (λ (d : Configured). IsLineage (world_of d served.content) (kin_of l)) config told_lin)
+      within : (n m b a : ℕ) → n ≡ m → a ≡ (m + 2) + b → 0 + (b + ((n - 0) + 2)) ≤ a
+      within n m b a many step = omega (arith, many, step)
+
+  -- a step that begins with its equalities goes on from there
+  pub listed_leads : {n : Next A} (l : Lined) → e.origin ≡ OfPreparation l → length e.needs < most → LeadsBy told c k.goal.q k.goal.request (linking_room k e 0) (ListTold k e 0) n
+      → LeadsBy told c k.goal.q k.goal.request (listed_room k) (LineageTold k l) n
+  listed_leads l from few next =
+      let lt = chain.within in
+      let some : 0 < behind k = omega (arith, lt) in
+      leads_by (listed_room k) (LineageTold k l) next (list_turns (behind k) (length e.needs) some few) (listed_calls (LineageTold k l) (λ x h. traced_told x k l e from h)) (λ x h. traced_told x k l e from h)
 
   -- ---- one of them is imposed
 
@@ -312,16 +425,18 @@ module _ {A : Type 0} (told : Option Content) (c : Configured) (k : Chain A) (e 
       let one = within_some e.needs i lt in
       let there_it_is : slice_get (needs_of e.needs) i ≡ Some (equal_need one.0) = slice_get-map equal_need e.needs i ∙ ap (λ (o : Option Equality). option_map equal_need o) one.1 in
       subst (λ (o : Option Equality). IfSome o (λ n. IsWanted g (state_of x) k.goal.request (equal_need n))) (sym one.1)
-      (equality_next g (state_of x) k.goal.request k.whole.value known.place.at served.sound known.place.of (here g x i served h) (needs_of e.needs) i (equal_need one.0) are there_it_is (list_imposed x k e i h))
+      (equality_next g (state_of x) k.goal.request k.whole.value known.place.at k.place served.sound known.place.of (here g x i served h) (needs_of e.needs) i (equal_need one.0) are there_it_is (list_imposed x k e i h))
 
   pub impose_leads : (i : ℕ) (list shared : Arc Listed Global) → list.value ≡ e → shared.value ≡ e → i < length e.needs
-      → LeadsBy told c k.goal.q k.goal.request (linking_left (behind k - 1) (length e.needs - i) + 1) (ListTold k e i) (record { stage = stages.Link (links.Imposing k list i); turn = turn.Impose shared i })
+      → LeadsBy told c k.goal.q k.goal.request (linking_room k e i) (ListTold k e i) (record { stage = stages.Link (links.Imposing k list i); turn = turn.Impose shared i })
   impose_leads i list shared one two lt = record {
     kept = (chain, subst (λ (l : Listed). IsAtPlace k l) (sym one) known.place, subst (λ (l : Listed). i < length l.needs) (sym one) lt);
     number = refl;
     asks = ap (λ (l : Listed). waits.Imposing l i) (one ∙ sym two);
     serves = refl;
     left = subst (λ (l : Listed). linking_left (behind k - 1) (length l.needs - i) < linking_left (behind k - 1) (length e.needs - i) + 1) (sym one) (one_more (linking_left (behind k - 1) (length e.needs - i)));
+    calls = subst (λ (l : Listed). CallsWithin told c (ListTold k e i) k.goal.request 0 (past_loads 0 0 (list_calls k.whole.value k.place (length l.needs - i))) (past_loads 0 0 (list_calls k.whole.value k.place (length e.needs - i)))) (sym one)
+        (stay told c (ListTold k e i) k.goal.request (past_loads 0 0 (list_calls k.whole.value k.place (length e.needs - i))));
     keeps = λ x h. record { frames = tt; facts = subst (λ (l : Listed). AreSo x (list_facts k l i)) (sym one) h };
     backed = λ x config names fine h. subst (λ (l : Listed). MayImpose x l i) (sym two) (may_impose x i lt h);
     follows = λ g x served h. subst (λ (l : Listed). IsNextOf l i (IsWanted g (state_of x) k.goal.request)) (sym two) (wanted_next g x i lt served h);
@@ -356,19 +471,23 @@ module _ {A : Type 0} (told : Option Content) (c : Configured) (k : Chain A) (e 
   prepared_next g x i all served h =
       let met : AllMet (state_of x) (constraints_of (kin_of known.place.at)) = subst (λ (ns : List Need). AllMet (state_of x) ns) are (ready x i all h).imposed in
       subst (λ (from : Sprung). IsPreparedNext g (state_of x) k.goal.request from) (sym known.place.prepares)
-      (preparation_next g (state_of x) k.goal.request k.whole.value known.place.at served.sound known.place.of (here g x i served h) met)
+      (preparation_next g (state_of x) k.goal.request k.whole.value known.place.at k.place served.sound known.place.of (here g x i served h) met)
 
   fewer : (a m : ℕ) → a + (0 + 1) < a + (m + 1) + 1
   fewer a m = omega arith
 
+  none_left : (b n : ℕ) → 0 + (b + (0 + 2)) ≤ b + (n + 2)
+  none_left b n = omega arith
+
   pub mark_leads : (i : ℕ) (list shared : Arc Listed Global) → list.value ≡ e → shared.value ≡ e → i ≡ length e.needs
-      → LeadsBy told c k.goal.q k.goal.request (linking_left (behind k - 1) (length e.needs - i) + 1) (ListTold k e i) (record { stage = stages.Link (links.Marking k list); turn = turn.Mark shared })
+      → LeadsBy told c k.goal.q k.goal.request (linking_room k e i) (ListTold k e i) (record { stage = stages.Link (links.Marking k list); turn = turn.Mark shared })
   mark_leads i list shared one two all = record {
     kept = (chain, subst (λ (l : Listed). IsAtPlace k l) (sym one) known.place);
     number = refl;
     asks = ap (λ (l : Listed). waits.Marking l) (one ∙ sym two);
     serves = refl;
     left = fewer (chain_left (behind k - 1)) (length e.needs - i);
+    calls = fewer_calls told c (ListTold k e i) k.goal.request 0 (list_calls k.whole.value k.place 0) (list_calls k.whole.value k.place (length e.needs - i)) (none_left (chain_calls k.whole.value (k.place + 1)) (length e.needs - i));
     keeps = λ x h. record { frames = tt; facts = subst (λ (l : Listed). AreSo x (list_facts k l (length l.needs))) (sym one) (subst (λ (n : ℕ). AreSo x (list_facts k e n)) all h) };
     backed = λ x config names fine h. subst (λ (l : Listed). MayMark x l) (sym two) (subst (λ (from : Sprung). IsReadyBy x from (needs_of e.needs)) (sym known.place.prepares) (ready x i all h));
     follows = λ g x served h. subst (λ (l : Listed). IsPreparedNext g (state_of x) k.goal.request l.origin) (sym two) (prepared_next g x i all served h);
@@ -408,13 +527,14 @@ module _ {A : Type 0} (told : Option Content) (c : Configured) (k : Chain A) (e 
 
   pub refused_leads : (i : ℕ) (f : Answered) (need : rust.Need) → slice_get (needs_of e.needs) i ≡ Some (need_of need) → f.request ≡ k.goal.request → f.answer ≡ answers.Said (verdicts.Linkage need)
       → f.basis ≡ Some (link_basis k.goal.request k.whole.value k.place e i (need_of need))
-      → LeadsBy {A = A} told c k.goal.q k.goal.request 1 (RefusedTold k e i (need_of need)) (record { stage = stages.Done k.goal.q; turn = turn.Post f })
+      → LeadsBy {A = A} told c k.goal.q k.goal.request last_room (RefusedTold k e i (need_of need)) (record { stage = stages.Done k.goal.q; turn = turn.Post f })
   refused_leads i f need is asked said rests = record {
     kept = tt;
     number = refl;
     asks = refl;
     serves = ap (λ (q : request.Request). Some q) (sym asked);
     left = omega arith;
+    calls = stay told c (RefusedTold k e i (need_of need)) k.goal.request (past_loads 0 0 1);
     keeps = λ x h. record { frames = tt; facts = tt };
     backed = λ x config names fine h. refused_backed x i f need config names asked said rests h;
     follows = λ g x served h. subst (λ (a : answer.Answer). AnswerFollows g (state_of x) k.goal.request a) (sym said) (refused_comes g x i (need_of need) is served h);

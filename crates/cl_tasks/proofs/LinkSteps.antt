@@ -7,6 +7,7 @@ use Rattle.cl_model.specs.declared.answer.Answer.TheVariants as answers
 use Rattle.cl_model.specs.declared.class.Class.{Class}
 use Rattle.cl_model.specs.declared.need.Equality.{Equality}
 use Rattle.cl_model.specs.declared.need.Need as rust
+use Rattle.cl_model.specs.declared.request.Request.{Request}
 use Rattle.cl_model.specs.declared.verdict.Verdict.TheVariants as verdicts
 use Rattle.cl_model.specs.Content.{Content}
 use Rattle.cl_model.specs.States.{AllMet, Met}
@@ -14,17 +15,19 @@ use Rattle.cl_model.specs.Views.{need_of}
 use Rattle.cl_model.proofs.Bind.{some_same}
 use Rattle.cl_config.specs.Views.{Configured}
 use Rattle.cl_hierarchy.specs.Imposed.{Listed, Sprung, equal_need, needs_of}
-use Rattle.cl_hierarchy.specs.Lineages.{Lined}
+use Rattle.cl_hierarchy.specs.Lineages.{IsInOrder, Lined}
 use Rattle.cl_hierarchy.specs.Rows.{Rowed}
 use Rattle.cl_findings.proofs.Stood.{all_met, met_all}
 use Rattle.cl_registry.specs.Imposing.{IsPreparedBy}
 use Rattle.cl_registry.specs.Tables.{Shown, state_of}
 use Rattle.cl_tasks.specs.Deriving.{IsPast}
-use Rattle.cl_tasks.specs.Follows.{EndsAsRefused, Posts, Tells, TellsNow}
+use Rattle.cl_tasks.specs.Calls.{equalities_in, own_homes, past_loads}
+use Rattle.cl_tasks.specs.Follows.{CallsWithin, EndsAsRefused, Posts, Tells, TellsNow}
 use Rattle.cl_tasks.specs.Linking.{LineageTold, ListTold, MarkedTold, PreparedTold, RefusedTold, WholeTold}
-use Rattle.cl_tasks.specs.Measures.{chain_left, linking_left, most, prepared_left, whole_left}
-use Rattle.cl_tasks.specs.Stages.{IsAtPlace, IsChain, behind, class_in, linking_at}
-use Rattle.cl_tasks.specs.Steps.{IsPlain, LeadsBy, Steps}
+use Rattle.cl_tasks.specs.Measures.{chain_left, linking_left, prepared_left, whole_left}
+use Rattle.cl_tasks.specs.Rooms.{last_room, linking_room, listed_room, marked_room, prepared_room, whole_room}
+use Rattle.cl_tasks.specs.Stages.{IsAtPlace, IsChain, behind, chain_calls, class_in, linking_at, list_calls}
+use Rattle.cl_tasks.specs.Steps.{IsPlain, LeadsBy, Steps, task_room}
 use Rattle.cl_tasks.specs.Turns.{PostsOr, WasAbsent}
 use Rattle.cl_tasks.specs.Waits as waits
 use Rattle.cl_tasks.specs.declared.stage.Chain.{Chain}
@@ -33,11 +36,19 @@ use Rattle.cl_tasks.specs.declared.stage.Link.TheVariants as links
 use Rattle.cl_tasks.specs.declared.stage.Next.{Next}
 use Rattle.cl_tasks.specs.declared.turn.Reply.TheVariants as reply
 use Rattle.cl_tasks.proofs.Deriving.{past_derives}
-use Rattle.cl_tasks.proofs.Lead.{leads_more, plain_no_fault, plain_reads}
+use Rattle.cl_tasks.proofs.Lead.{HasPost, leads_more, plain_no_fault, plain_reads}
 use Rattle.cl_tasks.proofs.LinkFacts.{list_chain, list_imposed, list_of, list_traced, row_there, taken_more, within_some}
+use Rattle.cl_tasks.proofs.LinkLeads.{chain_some_calls, fewer_calls, post_calls, post_room}
 
-same_room : (m : ℕ) → m ≤ m
-same_room m = omega arith
+same_turns : (m : ℕ) → m ≤ m
+same_turns m = omega arith
+
+-- one call was made
+one_made : (told : Option Content) (c : Configured) (now : Shown → Type 0) (r : Request) (homes equalities more : ℕ) → CallsWithin told c now r 1 (past_loads homes equalities more) (past_loads homes equalities (more + 1))
+one_made told c now r homes equalities more = λ g x p served is h. one_more (homes * own_homes g.world p) (equalities * equalities_in p) more
+  where
+    one_more : (a b n : ℕ) → 1 + (0 + (a + b + n)) ≤ 0 + (a + b + (n + 1))
+    one_more a b n = omega arith
 
 -- ---- whether the request's class is prepared
 
@@ -48,11 +59,11 @@ prepared_told c g false x h = record { before = h.before.facts; now = λ e. absu
 waits_same : (a b : Class) → waits.LookingPrepared a ≡ waits.LookingPrepared b → a ≡ b
 waits_same a b h = cc
 
-pub prepared_steps : {A : Type 0} (told : Option Content) (c : Configured) (g : Goal A) (p : Bool) (n : Next A) → LeadsBy told c g.q g.request prepared_left (PreparedTold g p) n
+pub prepared_steps : {A : Type 0} (told : Option Content) (c : Configured) (g : Goal A) (p : Bool) (n : Next A) → LeadsBy told c g.q g.request prepared_room (PreparedTold g p) n
     → (p ≡ true → PostsOr (answers.Said (verdicts.Linked g.class.value.class)) n.turn) → IsPlain n.turn → IsPast n.stage → Steps told (linking_at c (links.LookingPrepared g)) (reply.LookedPrepared p) n
 prepared_steps {A = A} told c g true n l own plain past = record {
-  leads = leads_more prepared_left (λ x. Tells {A = A} x (linking_at c (links.LookingPrepared g)) (reply.LookedPrepared true)) (λ x. TellsNow {A = A} x (linking_at c (links.LookingPrepared g)) (reply.LookedPrepared true)) l
-      (same_room prepared_left) (λ x h. prepared_told c g true x h) (λ x h. prepared_told c g true x h.told);
+  leads = leads_more (task_room (linking_at c (links.LookingPrepared g))) (λ x. Tells {A = A} x (linking_at c (links.LookingPrepared g)) (reply.LookedPrepared true)) (λ x. TellsNow {A = A} x (linking_at c (links.LookingPrepared g)) (reply.LookedPrepared true)) l
+      (same_turns prepared_left) (one_made told c (λ x. TellsNow {A = A} x (linking_at c (links.LookingPrepared g)) (reply.LookedPrepared true)) g.request 2 1 2) (λ x h. prepared_told c g true x h) (λ x h. prepared_told c g true x h.told);
   refused = plain_no_fault n.turn plain;
   linkage = tt;
   lacks = λ h. tt;
@@ -61,8 +72,8 @@ prepared_steps {A = A} told c g true n l own plain past = record {
   own = λ d e. subst (λ (k : Class). PostsOr (answers.Said (verdicts.Linked k)) n.turn) (waits_same g.class.value.class d e) (own refl);
 }
 prepared_steps {A = A} told c g false n l own plain past = record {
-  leads = leads_more prepared_left (λ x. Tells {A = A} x (linking_at c (links.LookingPrepared g)) (reply.LookedPrepared false)) (λ x. TellsNow {A = A} x (linking_at c (links.LookingPrepared g)) (reply.LookedPrepared false)) l
-      (same_room prepared_left) (λ x h. prepared_told c g false x h) (λ x h. prepared_told c g false x h.told);
+  leads = leads_more (task_room (linking_at c (links.LookingPrepared g))) (λ x. Tells {A = A} x (linking_at c (links.LookingPrepared g)) (reply.LookedPrepared false)) (λ x. TellsNow {A = A} x (linking_at c (links.LookingPrepared g)) (reply.LookedPrepared false)) l
+      (same_turns prepared_left) (one_made told c (λ x. TellsNow {A = A} x (linking_at c (links.LookingPrepared g)) (reply.LookedPrepared false)) g.request 2 1 2) (λ x h. prepared_told c g false x h) (λ x h. prepared_told c g false x h.told);
   refused = plain_no_fault n.turn plain;
   linkage = tt;
   lacks = λ h. tt;
@@ -73,13 +84,13 @@ prepared_steps {A = A} told c g false n l own plain past = record {
 
 -- ---- lineages
 
-pub whole_steps : {A : Type 0} (told : Option Content) (c : Configured) (g : Goal A) (whole : Arc Lined Global) (n : Next A) → LeadsBy told c g.q g.request whole_left (WholeTold g whole.value) n → IsPlain n.turn → IsPast n.stage
+pub whole_steps : {A : Type 0} (told : Option Content) (c : Configured) (g : Goal A) (whole : Arc Lined Global) (n : Next A) → LeadsBy told c g.q g.request whole_room (WholeTold g whole.value) n → IsPlain n.turn → IsPast n.stage
     → Steps told (linking_at c (links.TracingWhole g)) (reply.Lineage whole) n
 whole_steps {A = A} told c g whole n l plain past =
     let tells : (x : Shown) → Tells {A = A} x (linking_at c (links.TracingWhole g)) (reply.Lineage whole) → WholeTold g whole.value x = λ x h. record { before = h.before.facts; now = h.now } in
     record {
-      leads = leads_more whole_left (λ x. Tells {A = A} x (linking_at c (links.TracingWhole g)) (reply.Lineage whole)) (λ x. TellsNow {A = A} x (linking_at c (links.TracingWhole g)) (reply.Lineage whole)) l
-          (same_room whole_left) tells (λ x h. tells x h.told);
+      leads = leads_more (task_room (linking_at c (links.TracingWhole g))) (λ x. Tells {A = A} x (linking_at c (links.TracingWhole g)) (reply.Lineage whole)) (λ x. TellsNow {A = A} x (linking_at c (links.TracingWhole g)) (reply.Lineage whole)) l
+          (same_turns whole_left) (one_made told c (λ x. TellsNow {A = A} x (linking_at c (links.TracingWhole g)) (reply.Lineage whole)) g.request 2 1 1) tells (λ x h. tells x h.told);
       refused = plain_no_fault n.turn plain;
       linkage = tt;
       lacks = λ h. tt;
@@ -88,13 +99,13 @@ whole_steps {A = A} told c g whole n l plain past =
       own = tt;
     }
 
-pub traced_steps : {A : Type 0} (told : Option Content) (c : Configured) (k : Chain A) (at : Arc Lined Global) (n : Next A) → LeadsBy told c k.goal.q k.goal.request (chain_left (behind k)) (LineageTold k at.value) n → IsPlain n.turn → IsPast n.stage
+pub traced_steps : {A : Type 0} (told : Option Content) (c : Configured) (k : Chain A) (at : Arc Lined Global) (n : Next A) → LeadsBy told c k.goal.q k.goal.request (listed_room k) (LineageTold k at.value) n → IsPlain n.turn → IsPast n.stage
     → Steps told (linking_at c (links.Tracing k)) (reply.Lineage at) n
 traced_steps {A = A} told c k at n l plain past =
     let tells : (x : Shown) → Tells {A = A} x (linking_at c (links.Tracing k)) (reply.Lineage at) → LineageTold k at.value x = λ x h. record { before = h.before.facts; now = h.now } in
     record {
-      leads = leads_more (chain_left (behind k)) (λ x. Tells {A = A} x (linking_at c (links.Tracing k)) (reply.Lineage at)) (λ x. TellsNow {A = A} x (linking_at c (links.Tracing k)) (reply.Lineage at)) l
-          (same_room (chain_left (behind k))) tells (λ x h. tells x h.told);
+      leads = leads_more (task_room (linking_at c (links.Tracing k))) (λ x. Tells {A = A} x (linking_at c (links.Tracing k)) (reply.Lineage at)) (λ x. TellsNow {A = A} x (linking_at c (links.Tracing k)) (reply.Lineage at)) l
+          (same_turns (chain_left (behind k))) (one_made told c (λ x. TellsNow {A = A} x (linking_at c (links.Tracing k)) (reply.Lineage at)) k.goal.request 0 0 (chain_calls k.whole.value k.place)) tells (λ x h. tells x h.told);
       refused = plain_no_fault n.turn plain;
       linkage = tt;
       lacks = λ h. tt;
@@ -124,13 +135,18 @@ imposed_told k e i x (Some y) at lt place h one =
 next_less : (a m p : ℕ) → p < m → a + ((m - (p + 1)) + 1) + 1 ≤ a + ((m - p) + 1)
 next_less a m p lt = omega (arith, lt)
 
+one_imposed : (a m p : ℕ) → p < m → 1 + (a + ((m - (p + 1)) + 2)) ≤ a + ((m - p) + 2)
+one_imposed a m p lt = omega (arith, lt)
+
 pub imposed_steps : {A : Type 0} (told : Option Content) (c : Configured) (k : Chain A) (e : Arc Listed Global) (i : ℕ) (n : Next A) → IsAtPlace k e.value → i < length e.value.needs
-    → LeadsBy told c k.goal.q k.goal.request (linking_left (behind k - 1) (length e.value.needs - (i + 1)) + 1) (ListTold k e.value (i + 1)) n → IsPlain n.turn → IsPast n.stage → Steps told (linking_at c (links.Imposing k e i)) reply.Imposed n
+    → LeadsBy told c k.goal.q k.goal.request (linking_room k e.value (i + 1)) (ListTold k e.value (i + 1)) n → IsPlain n.turn → IsPast n.stage → Steps told (linking_at c (links.Imposing k e i)) reply.Imposed n
 imposed_steps {A = A} told c k e i n place lt l plain past =
     let tells : (x : Shown) → Tells {A = A} x (linking_at c (links.Imposing k e i)) reply.Imposed → ListTold k e.value (i + 1) x = λ x h. imposed_told k e.value i x (slice_get e.value.needs i) refl lt place h.before.facts h.now in
     record {
-      leads = leads_more (linking_left (behind k - 1) (length e.value.needs - i)) (λ x. Tells {A = A} x (linking_at c (links.Imposing k e i)) reply.Imposed) (λ x. TellsNow {A = A} x (linking_at c (links.Imposing k e i)) reply.Imposed) l
-          (next_less (chain_left (behind k - 1)) (length e.value.needs) i lt) tells (λ x h. tells x h.told);
+      leads = leads_more (task_room (linking_at c (links.Imposing k e i))) (λ x. Tells {A = A} x (linking_at c (links.Imposing k e i)) reply.Imposed) (λ x. TellsNow {A = A} x (linking_at c (links.Imposing k e i)) reply.Imposed) l
+          (next_less (chain_left (behind k - 1)) (length e.value.needs) i lt)
+          (fewer_calls told c (λ x. TellsNow {A = A} x (linking_at c (links.Imposing k e i)) reply.Imposed) k.goal.request 1 (list_calls k.whole.value k.place (length e.value.needs - (i + 1))) (list_calls k.whole.value k.place (length e.value.needs - i))
+          (one_imposed (chain_calls k.whole.value (k.place + 1)) (length e.value.needs) i lt)) tells (λ x h. tells x h.told);
       refused = plain_no_fault n.turn plain;
       linkage = tt;
       lacks = λ h. tt;
@@ -142,13 +158,17 @@ imposed_steps {A = A} told c k e i n place lt l plain past =
 one_less : (a m : ℕ) → 1 ≤ a + (m + 1)
 one_less a m = omega arith
 
+two_more : (a m : ℕ) → 1 + 1 ≤ a + (m + 2)
+two_more a m = omega arith
+
 pub refused_steps : {A : Type 0} (told : Option Content) (c : Configured) (k : Chain A) (e : Arc Listed Global) (i : ℕ) (need : rust.Need) (n : Next A)
-    → LeadsBy told c k.goal.q k.goal.request 1 (RefusedTold k e.value i (need_of need)) n → IsPlain n.turn → IsPast n.stage → EndsAsRefused k.goal.request need n.turn → (Posts answers.Memory n.turn → ⊥) → Steps told (linking_at c (links.Imposing k e i)) (reply.Refused need) n
+    → LeadsBy told c k.goal.q k.goal.request last_room (RefusedTold k e.value i (need_of need)) n → IsPlain n.turn → IsPast n.stage → EndsAsRefused k.goal.request need n.turn → (Posts answers.Memory n.turn → ⊥) → Steps told (linking_at c (links.Imposing k e i)) (reply.Refused need) n
 refused_steps {A = A} told c k e i need n l plain past ends posts =
     let tells : (x : Shown) → Tells {A = A} x (linking_at c (links.Imposing k e i)) (reply.Refused need) → RefusedTold k e.value i (need_of need) x = λ x h. record { before = h.before.facts; now = h.now } in
     record {
-      leads = leads_more (linking_left (behind k - 1) (length e.value.needs - i)) (λ x. Tells {A = A} x (linking_at c (links.Imposing k e i)) (reply.Refused need)) (λ x. TellsNow {A = A} x (linking_at c (links.Imposing k e i)) (reply.Refused need)) l
-          (one_less (chain_left (behind k - 1)) (length e.value.needs - i)) tells (λ x h. tells x h.told);
+      leads = leads_more (task_room (linking_at c (links.Imposing k e i))) (λ x. Tells {A = A} x (linking_at c (links.Imposing k e i)) (reply.Refused need)) (λ x. TellsNow {A = A} x (linking_at c (links.Imposing k e i)) (reply.Refused need)) l
+          (one_less (chain_left (behind k - 1)) (length e.value.needs - i))
+          (post_calls told c (λ x. TellsNow {A = A} x (linking_at c (links.Imposing k e i)) (reply.Refused need)) k.goal.request 1 0 0 (list_calls k.whole.value k.place (length e.value.needs - i)) (two_more (chain_calls k.whole.value (k.place + 1)) (length e.value.needs - i))) tells (λ x h. tells x h.told);
       refused = plain_no_fault n.turn plain;
       linkage = ends;
       lacks = λ h. absurd (posts h);
@@ -166,14 +186,18 @@ prepared_there c k e x chain place h =
     let here : Contains (state_of x).prepared place.at.own.class = subst (λ (from : Sprung). IsPreparedBy x from) place.prepares h in
     subst (λ (d : Class). Contains (state_of x).prepared d) (sym is) here
 
+one_marked : (a : ℕ) → 1 + (a + 1) ≤ a + (0 + 2)
+one_marked a = omega arith
+
 pub marked_steps : {A : Type 0} (told : Option Content) (c : Configured) (k : Chain A) (e : Arc Listed Global) (n : Next A) → IsChain c k → IsAtPlace k e.value
-    → LeadsBy told c k.goal.q k.goal.request (linking_left (behind k - 1) 0) (MarkedTold k) n → IsPlain n.turn → IsPast n.stage → Steps told (linking_at c (links.Marking k e)) reply.Marked n
+    → LeadsBy told c k.goal.q k.goal.request (marked_room k) (MarkedTold k) n → IsPlain n.turn → IsPast n.stage → Steps told (linking_at c (links.Marking k e)) reply.Marked n
 marked_steps {A = A} told c k e n chain place l plain past =
     let tells : (x : Shown) → Tells {A = A} x (linking_at c (links.Marking k e)) reply.Marked → MarkedTold k x =
     λ x h. record { before = list_chain x k e.value (length e.value.needs) h.before.facts; now = prepared_there c k e.value x chain place h.now } in
     record {
-      leads = leads_more (linking_left (behind k - 1) 0) (λ x. Tells {A = A} x (linking_at c (links.Marking k e)) reply.Marked) (λ x. TellsNow {A = A} x (linking_at c (links.Marking k e)) reply.Marked) l
-          (same_room (linking_left (behind k - 1) 0)) tells (λ x h. tells x h.told);
+      leads = leads_more (task_room (linking_at c (links.Marking k e))) (λ x. Tells {A = A} x (linking_at c (links.Marking k e)) reply.Marked) (λ x. TellsNow {A = A} x (linking_at c (links.Marking k e)) reply.Marked) l
+          (same_turns (linking_left (behind k - 1) 0))
+          (fewer_calls told c (λ x. TellsNow {A = A} x (linking_at c (links.Marking k e)) reply.Marked) k.goal.request 1 (chain_calls k.whole.value (k.place + 1) + 1) (list_calls k.whole.value k.place 0) (one_marked (chain_calls k.whole.value (k.place + 1)))) tells (λ x h. tells x h.told);
       refused = plain_no_fault n.turn plain;
       linkage = tt;
       lacks = λ h. tt;
@@ -184,11 +208,23 @@ marked_steps {A = A} told c k e n chain place l plain past =
 
 -- ---- memory
 
+-- before the lineage of the class that is linked was had there is room for the post
+pub past_post : (turns more : ℕ) → HasPost (record { turns = turns; made = 1; calls = past_loads 2 1 (more + 2) })
+past_post turns more = post_room turns 1 2 1 (more + 2) (two_of more)
+  where
+    two_of : (m : ℕ) → 1 + 1 ≤ m + 2
+    two_of m = omega arith
+
+-- and so before that of a class of it
+pub traced_post : {A : Type 0} (c : Configured) (k : Chain A) → IsChain c k → IsInOrder k.whole.value → HasPost (task_room (linking_at c (links.Tracing k)))
+traced_post c k chain order = post_room (chain_left (behind k)) 1 0 0 (chain_calls k.whole.value k.place + 1) (one_and_more (chain_calls k.whole.value k.place) (chain_some_calls k.whole.value k.place order chain.within))
+  where
+    one_and_more : (a : ℕ) → 1 ≤ a → 1 + 1 ≤ a + 1
+    one_and_more a le = omega (arith, le)
+
+-- and where its equalities are imposed
+pub list_post : (turns a m : ℕ) → HasPost (record { turns = turns; made = 1; calls = past_loads 0 0 (a + (m + 2)) })
+list_post turns a m = post_room turns 1 0 0 (a + (m + 2)) (two_more a m)
+
 pub some_left : (a m : ℕ) → 0 < a + (m + 1)
 some_left a m = omega arith
-
-pub chain_some : {A : Type 0} (c : Configured) (k : Chain A) → IsChain c k → 0 < chain_left (behind k)
-chain_some c k chain = let lt = chain.within in let some : 0 < behind k = omega (arith, lt) in product_some (behind k) most some
-  where
-    product_some : (n m : ℕ) → 0 < n → 0 < n * (m + 3)
-    product_some n m lt = grind (arith, lt)

@@ -1,5 +1,5 @@
 -- What a load does on a reply, as a step.
-use Rattle.std.proofs.Common.{◌≡◌, ◌∙◌, ◌<◌, ℕ, List, [], ◌∷◌, ◌++◌, Option, Some, None, inl, inr, refl, sym, ap, subst, slice_get, arith}
+use Rattle.std.proofs.Common.{◌≡◌, ◌∙◌, ◌<◌, ◌+◌, ℕ, List, [], ◌∷◌, ◌++◌, Option, Some, None, inl, inr, refl, sym, ap, subst, slice_get, arith}
 use Rattle.std.proofs.Common.{Global}
 use Rattle.std.specs.declared.sync.Arc.{Arc}
 use Rattle.cl_model.specs.declared.answer.Answer.{Answer}
@@ -20,18 +20,20 @@ use Rattle.cl_source.specs.Views.{Found}
 use Rattle.cl_hierarchy.specs.declared.row.ClassRow.{ClassRow}
 use Rattle.cl_hierarchy.specs.Drafts.{IsDraft}
 use Rattle.cl_hierarchy.specs.Frames.{Framed, frame_of}
-use Rattle.cl_hierarchy.specs.Paths.{IsPath, Pathed, at_name, frames_of}
+use Rattle.cl_hierarchy.specs.Paths.{IsPath, Pathed, at_loader, at_name, frames_of}
 use Rattle.cl_findings.specs.Loads.{IsFor, IsSought, IsWhole, next_need}
 use Rattle.cl_findings.specs.declared.load.NextRecord.TheVariants as nexts
 use Rattle.cl_registry.specs.Tables.{Shown, state_of}
 use Rattle.cl_tasks.specs.Ends.{IsOwnTarget, RefusedOn}
 use Rattle.cl_tasks.specs.Facts.{IsRecordedAs}
+use Rattle.cl_tasks.specs.Calls.{ask_for, away_calls}
 use Rattle.cl_tasks.specs.Deriving.{Derives, IsNone, IsPast, IsSoughtHere, IsUnfound}
-use Rattle.cl_tasks.specs.Follows.{EndsAsRefused, IsResolution, Posts, PostsNoFault, Tells, fault_answer}
+use Rattle.cl_tasks.specs.Follows.{EndsAsRefused, IsResolution, Posts, PostsNoFault, Tells, TellsNow, fault_answer}
 use Rattle.cl_tasks.specs.Measures.{left_at}
 use Rattle.cl_tasks.specs.Measures as phases
-use Rattle.cl_tasks.specs.Stages.{IsFirst, IsHoming, loading_at, next_place, past_left, probes_left, sought_class, task_at}
-use Rattle.cl_tasks.specs.Steps.{FindsBy, FindsHome, Finds, HoldsOn, IsPlain, Leads, LeadsAt, LeadsOn, LooksBy, ReadsAt, ReadsOn, Steps, room_at, way_on}
+use Rattle.cl_tasks.specs.Rooms.{Room, calls_at, calls_found, last_room, past_room, room_at}
+use Rattle.cl_tasks.specs.Stages.{IsFirst, IsHoming, IsJob, job_calls, loading_at, next_place, past_left, probes_left, sought_ask, sought_class, task_at}
+use Rattle.cl_tasks.specs.Steps.{FindsBy, FindsHome, Finds, HoldsOn, IsPlain, Leads, LeadsAt, LeadsFrom, LeadsHome, LeadsOn, LooksBy, ReadsAt, ReadsOn, Steps, task_room, way_on}
 use Rattle.cl_tasks.specs.Tasks.{Tasked}
 use Rattle.cl_tasks.specs.Turns.{GoesOnWith, IsBehind, IsReadNext, ReadsUnrecorded, WasAbsent, way_of}
 use Rattle.cl_tasks.specs.Waits as waits
@@ -47,11 +49,12 @@ use Rattle.cl_tasks.proofs.Deriving.{derived_first, derives_by, derives_more, pa
 use Rattle.cl_tasks.proofs.Fall.{joins_less}
 use Rattle.cl_tasks.proofs.Keep.{frame_kept, have_first, have_last}
 use Rattle.cl_tasks.proofs.Lacking.{fault_lacks, posts_one}
-use Rattle.cl_tasks.proofs.Lead.{leads_more, plain_no_fault, plain_reads}
-use Rattle.cl_tasks.proofs.Onward.{less_room}
+use Rattle.cl_tasks.proofs.Lead.{job_some, leads_more, plain_no_fault, plain_reads}
+use Rattle.cl_tasks.proofs.Moves.{Holds, defined_holds, fewer_holds, found_holds, initiated_holds, past_made, unfound_holds, unrecorded_holds}
+use Rattle.cl_tasks.proofs.Onward.{defining_calls, less_room}
 
 -- under the configuration of the job's path
-at_config : {A : Type 0} (told : Option Content) (c : Configured) (d : Configured) (q : ℕ) (r : Request) (room : ℕ) (holds now : Shown → Type 0) (n : Next A) → d ≡ c → LeadsOn told d q r room holds now n → LeadsOn told c q r room holds now n
+at_config : {A : Type 0} (told : Option Content) (c : Configured) (d : Configured) (q : ℕ) (r : Request) (room : Room) (holds now : Shown → Type 0) (n : Next A) → d ≡ c → LeadsOn told d q r room holds now n → LeadsOn told c q r room holds now n
 at_config told c d q r room holds now n e l = subst (λ (k : Configured). LeadsOn told k q r room holds now n) e l
 
 -- a turn that reads for what is looked for, of which it was told that its loader has no record
@@ -86,7 +89,7 @@ posts_reads t r a (turn.Post f) h = tt
 pub steps_begun : {A : Type 0} (told : Option Content) (j : Job A) (n : Next A) → IsFirst j → IsFor j.request j.target j.path → LeadsAt told phases.Fresh j (HoldsOn j) n → LooksBy j n.stage n.turn → IsPlain n.turn → Derives IsNone (frames_of j.path) n.stage
     → Steps told (loading_at j.path.config (loads.Fresh j)) reply.Start n
 steps_begun {A = A} told j n first for l looks plain derives = record {
-  leads = leads_more (room_at phases.Fresh j 0) _ _ l (omega arith) (λ x h. record { frames = h.before.frames; facts = h.before.facts }) (λ x h. record { frames = h.told.before.frames; facts = h.told.before.facts });
+  leads = leads_more (task_room (loading_at j.path.config (loads.Fresh j))) _ _ l (omega arith) (fewer_holds told j _ [] [] 0 1 1 (omega arith)) (λ x h. record { frames = h.before.frames; facts = h.before.facts }) (λ x h. record { frames = h.told.before.frames; facts = h.told.before.facts });
   refused = plain_no_fault n.turn plain;
   linkage = tt;
   lacks = λ h. tt;
@@ -97,11 +100,13 @@ steps_begun {A = A} told j n first for l looks plain derives = record {
 
 -- ---- a look where it is asked for
 
-pub steps_unrecorded : {A : Type 0} (told : Option Content) (c : Configured) (j : Job A) (n : Next A) → j.path.config ≡ c → LeadsAt told phases.Looking j (HoldsOn j) n → PostsNoFault n.turn
+pub steps_unrecorded : {A : Type 0} (told : Option Content) (c : Configured) (j : Job A) (n : Next A) → j.path.config ≡ c → IsJob told j.path.config j → IsPath told j.path → LeadsAt told phases.Looking j (HoldsOn j) n → PostsNoFault n.turn
     → Derives (IsSoughtHere j.path) (frames_of j.path) n.stage → ReadsAt j.path (λ l. slice_get (way_on j.path) 0 ≡ Some l) n.turn → Steps told (loading_at c (loads.Looking j)) (reply.Looked None) n
-steps_unrecorded {A = A} told c j n e l no_fault derives reads = record {
-  leads = at_config told c j.path.config j.q j.request (room_at phases.Looking j 0) _ _ n e
-      (leads_more (room_at phases.Looking j 0) _ _ l (omega arith) (λ x h. record { frames = h.before.frames; facts = h.before.facts }) (λ x h. record { frames = h.told.before.frames; facts = h.told.before.facts }));
+steps_unrecorded {A = A} told c j n e job path l no_fault derives reads = record {
+  leads = at_config told c j.path.config j.q j.request (task_room (loading_at c (loads.Looking j))) _ _ n e
+      (leads_more (task_room (loading_at c (loads.Looking j))) _ _ l (omega arith)
+      (unrecorded_holds told j (λ x. TellsNow {A = A} x (loading_at c (loads.Looking j)) (reply.Looked None)) job path (λ x h. (record { frames = h.told.before.frames; facts = h.told.before.facts }, h.unrecorded)))
+      (λ x h. record { frames = h.before.frames; facts = h.before.facts }) (λ x h. record { frames = h.told.before.frames; facts = h.told.before.facts }));
   refused = no_fault;
   linkage = tt;
   lacks = λ h. tt;
@@ -115,8 +120,8 @@ pub steps_looked : {A : Type 0} (told : Option Content) (c : Configured) (j : Jo
 steps_looked {A = A} told c j row n e path l plain goes derives =
     let k : room_at phases.Initiating j 0 < room_at phases.Looking j 0 = less_room (past_left j.target) (left_at phases.Initiating (frames_of j.path) 0) (left_at phases.Looking (frames_of j.path) 0) (joins_less told j.path phases.Looking 0 0 path tt) in
     record {
-      leads = at_config told c j.path.config j.q j.request (room_at phases.Looking j 0) _ _ n e
-          (leads_more (room_at phases.Looking j 0) _ _ l (omega arith) (λ x h. record { before = record { frames = h.before.frames; facts = h.before.facts }; now = h.now })
+      leads = at_config told c j.path.config j.q j.request (task_room (loading_at c (loads.Looking j))) _ _ n e
+          (leads_more (task_room (loading_at c (loads.Looking j))) _ _ l (omega arith) (fewer_holds told j _ [] [] 1 0 1 (omega arith)) (λ x h. record { before = record { frames = h.before.frames; facts = h.before.facts }; now = h.now })
           (λ x h. record { before = record { frames = h.told.before.frames; facts = h.told.before.facts }; now = h.told.now }));
       refused = plain_no_fault n.turn plain;
       linkage = tt;
@@ -131,7 +136,7 @@ steps_looked {A = A} told c j row n e path l plain goes derives =
 pub steps_probed : {A : Type 0} (told : Option Content) (j : Job A) (s : Searched) (p : Found) (n : Next A) → ReadsOn told (probes_left s) j (HoldsOn j) n → PostsNoFault n.turn
     → Derives (IsSoughtHere j.path) (frames_of j.path) n.stage → ReadsAt j.path (IsBehind (way_on j.path) p) n.turn → Steps told (loading_at j.path.config (loads.Searching j s)) (reply.Probed p) n
 steps_probed {A = A} told j s p n l no_fault derives reads = record {
-  leads = leads_more (room_at phases.Reading j (probes_left s)) _ _ l (omega arith) (λ x h. record { frames = h.before.frames; facts = h.before.facts }) (λ x h. record { frames = h.told.before.frames; facts = h.told.before.facts });
+  leads = leads_more (task_room (loading_at j.path.config (loads.Searching j s))) _ _ l (omega arith) (fewer_holds told j _ (sought_ask j.path ∷ []) [] 0 0 0 (omega arith)) (λ x h. record { frames = h.before.frames; facts = h.before.facts }) (λ x h. record { frames = h.told.before.frames; facts = h.told.before.facts });
   refused = no_fault;
   linkage = tt;
   lacks = λ h. tt;
@@ -140,10 +145,11 @@ steps_probed {A = A} told j s p n l no_fault derives reads = record {
   own = tt;
 }
 
-pub steps_fault : {A : Type 0} (told : Option Content) (j : Job A) (s : Searched) (f : SourceFault) (n : Next A) → Leads told j 1 (λ x. Unit {0}) n → Posts (fault_answer (loading_at j.path.config (loads.Searching j s)).waits f) n.turn → IsPast n.stage
+pub steps_fault : {A : Type 0} (told : Option Content) (j : Job A) (s : Searched) (f : SourceFault) (n : Next A) → Leads told j last_room (λ x. Unit {0}) n → Posts (fault_answer (loading_at j.path.config (loads.Searching j s)).waits f) n.turn → IsPast n.stage
     → Steps told (loading_at j.path.config (loads.Searching j s)) (reply.SourceFault f) n
 steps_fault {A = A} told j s f n l posts past = record {
-  leads = leads_more (room_at phases.Reading j (probes_left s)) _ _ l (omega arith) (λ x h. tt) (λ x h. tt);
+  leads = leads_more (task_room (loading_at j.path.config (loads.Searching j s))) _ _ l (omega arith)
+      (λ g x p served is h. let k = job_some (sought_ask j.path ∷ []) [] 0 j g.world p (state_of x) in omega arith) (λ x h. tt) (λ x h. tt);
   refused = posts;
   linkage = tt;
   lacks = λ h. fault_lacks (next_place s) (at_name j.path) f (posts_one (fault_answer (loading_at j.path.config (loads.Searching j s)).waits f) answers.Memory n.turn posts h);
@@ -162,10 +168,15 @@ home_absent : {A : Type 0} (c : Configured) (j : Job A) (h : Located) (o : Optio
 home_absent c j h None named k e = inr (ap (λ (d : Class). waits.Looking d.loader d.name) (sym (e ∙ ap (λ (n : List ℕ). class n h.place) named)))
 home_absent c j h (Some row) named k e = absurd e
 
-pub steps_home : {A : Type 0} (told : Option Content) (j : Job A) (h : Located) (o : Option (Arc (ClassRow A) Global)) (n : Next A) → IsFor j.request j.target j.path → IsHoming j h → LeadsAt told phases.Homing j (FindsHome j h o (λ r. r.value)) n → IsPlain n.turn
+home_calls : {A : Type 0} (told : Option Content) (j : Job A) (h : Located) (o : Option (Arc (ClassRow A) Global)) → IsHoming j h
+    → Holds told j (λ x. TellsNow {A = A} x (loading_at j.path.config (loads.Homing j h)) (reply.Looked o)) 1 (calls_found j h.place o) (job_calls [] (sought_ask j.path ∷ []) 2 j)
+home_calls {A = A} told j h None homing = unfound_holds told j h.place (λ x. TellsNow {A = A} x (loading_at j.path.config (loads.Homing j h)) (reply.Looked None)) (λ e. homing.other (sym e)) (λ x t. t.unrecorded)
+home_calls {A = A} told j h (Some row) homing = found_holds told j h.place (λ x. TellsNow {A = A} x (loading_at j.path.config (loads.Homing j h)) (reply.Looked (Some row))) (λ e. homing.other (sym e))
+
+pub steps_home : {A : Type 0} (told : Option Content) (j : Job A) (h : Located) (o : Option (Arc (ClassRow A) Global)) (n : Next A) → IsFor j.request j.target j.path → IsHoming j h → LeadsHome told j h.place o (FindsHome j h o (λ r. r.value)) n → IsPlain n.turn
     → Derives (IsUnfound h o) (frames_of j.path) n.stage → Steps told (loading_at j.path.config (loads.Homing j h)) (reply.Looked o) n
 steps_home {A = A} told j h o n for homing l plain derives = record {
-  leads = leads_more (room_at phases.Homing j 0) _ _ l (omega arith) (λ x t. home_finds x j.path.config j h o t) (λ x t. home_finds x j.path.config j h o t.told);
+  leads = leads_more (task_room (loading_at j.path.config (loads.Homing j h))) _ _ l (omega arith) (home_calls told j h o homing) (λ x t. home_finds x j.path.config j h o t) (λ x t. home_finds x j.path.config j h o t.told);
   refused = plain_no_fault n.turn plain;
   linkage = tt;
   lacks = λ h. tt;
@@ -184,11 +195,18 @@ defined_finds told x c j w row whole draft t = record {
       (subst (λ (name : List ℕ). IsRecordedAs x w.draft.class.loader name row.value) whole.named t.now);
 }
 
-pub steps_defined : {A : Type 0} (told : Option Content) (c : Configured) (j : Job A) (w : Framed) (row : Arc (ClassRow A) Global) (n : Next A) → j.path.config ≡ c → IsWhole told j.path w → IsDraft told w.draft → LeadsAt told phases.Defining j (FindsBy j w.draft.home row.value) n
+defined_calls : {A : Type 0} (told : Option Content) (c : Configured) (j : Job A) (w : Framed) (row : Arc (ClassRow A) Global) → IsWhole told j.path w → IsDraft told w.draft
+    → Holds told j (λ x. TellsNow {A = A} x (loading_at c (loads.Defining j w)) (reply.Defined row)) 1 (calls_at phases.Defining j w.draft.home.place) (defining_calls j w)
+defined_calls {A = A} told c j w row whole draft =
+    let now : Shown → Type 0 = λ x. TellsNow {A = A} x (loading_at c (loads.Defining j w)) (reply.Defined row) in
+    subst (λ (l : ℕ). Holds told j now 1 (calls_at phases.Defining j l) (defining_calls j w)) (ap (λ (k : Class). k.loader) draft.placed)
+    (defined_holds told j w.draft.class row.value.class.loader now whole.named (λ x t. t.told.now.recorded))
+
+pub steps_defined : {A : Type 0} (told : Option Content) (c : Configured) (j : Job A) (w : Framed) (row : Arc (ClassRow A) Global) (n : Next A) → j.path.config ≡ c → IsWhole told j.path w → IsDraft told w.draft → LeadsFrom told phases.Defining j w.draft.home.place (FindsBy j w.draft.home row.value) n
     → IsPlain n.turn → Derives IsNone (frames_of j.path) n.stage → Steps told (loading_at c (loads.Defining j w)) (reply.Defined row) n
 steps_defined {A = A} told c j w row n e whole draft l plain derives = record {
-  leads = at_config told c j.path.config j.q j.request (room_at phases.Defining j 0) _ _ n e
-      (leads_more (room_at phases.Defining j 0) _ _ l (omega arith) (λ x t. defined_finds told x c j w row whole draft t) (λ x t. defined_finds told x c j w row whole draft t.told));
+  leads = at_config told c j.path.config j.q j.request (task_room (loading_at c (loads.Defining j w))) _ _ n e
+      (leads_more (task_room (loading_at c (loads.Defining j w))) _ _ l (omega arith) (defined_calls told c j w row whole draft) (λ x t. defined_finds told x c j w row whole draft t) (λ x t. defined_finds told x c j w row whole draft t.told));
   refused = plain_no_fault n.turn plain;
   linkage = tt;
   lacks = λ h. tt;
@@ -204,11 +222,12 @@ define_refused x c j w need is t = record {
   refused = subst (λ (k : Need). Refused (state_of x) k) is t.now;
 }
 
-pub steps_define_refused : {A : Type 0} (told : Option Content) (c : Configured) (j : Job A) (w : Framed) (need : needs.Need) (n : Next A) → j.path.config ≡ c → need_of need ≡ next_need {A = A} (nexts.Define w) → Leads told j (past_left j.target) (RefusedOn {A = A} {B = A} j (nexts.Define w)) n
+pub steps_define_refused : {A : Type 0} (told : Option Content) (c : Configured) (j : Job A) (w : Framed) (need : needs.Need) (n : Next A) → j.path.config ≡ c → need_of need ≡ next_need {A = A} (nexts.Define w) → Leads told j (past_room j) (RefusedOn {A = A} {B = A} j (nexts.Define w)) n
     → IsPlain n.turn → EndsAsRefused j.request need n.turn → IsPast n.stage → (Posts answers.Memory n.turn → IsResolution j.request) → Steps told (loading_at c (loads.Defining j w)) (reply.Refused need) n
 steps_define_refused {A} told c j w need n e is l plain ends past lacks = record {
-  leads = at_config told c j.path.config j.q j.request (room_at phases.Defining j 0) _ _ n e
-      (leads_more (room_at phases.Defining j 0) _ _ l (omega arith) (λ x t. define_refused {A = A} x c j w need is t) (λ x t. define_refused {A = A} x c j w need is t.told));
+  leads = at_config told c j.path.config j.q j.request (task_room (loading_at c (loads.Defining j w))) _ _ n e
+      (leads_more (task_room (loading_at c (loads.Defining j w))) _ _ l (omega arith)
+      (past_made told j _ [] (sought_ask j.path ∷ ask_for w.draft.class ∷ []) (1 + away_calls (at_loader j.path) w.draft.class.loader) (omega arith)) (λ x t. define_refused {A = A} x c j w need is t) (λ x t. define_refused {A = A} x c j w need is t.told));
   refused = plain_no_fault n.turn plain;
   linkage = ends;
   lacks = lacks;
@@ -228,8 +247,9 @@ initiated_finds x c j h row sought t = record {
 pub steps_initiated : {A : Type 0} (told : Option Content) (c : Configured) (j : Job A) (h : Arc (Home A) Global) (row : Arc (ClassRow A) Global) (n : Next A) → j.path.config ≡ c → IsSought j.path h.value → LeadsAt told phases.Initiating j (Finds j row.value) n → IsPlain n.turn
     → Derives IsNone (frames_of j.path) n.stage → Steps told (loading_at c (loads.Initiating j h)) (reply.Initiated row) n
 steps_initiated {A = A} told c j h row n e sought l plain derives = record {
-  leads = at_config told c j.path.config j.q j.request (room_at phases.Initiating j 0) _ _ n e
-      (leads_more (room_at phases.Initiating j 0) _ _ l (omega arith) (λ x t. initiated_finds x c j h row sought t) (λ x t. initiated_finds x c j h row sought t.told));
+  leads = at_config told c j.path.config j.q j.request (task_room (loading_at c (loads.Initiating j h))) _ _ n e
+      (leads_more (task_room (loading_at c (loads.Initiating j h))) _ _ l (omega arith)
+      (initiated_holds told j row.value.class.loader (λ x. TellsNow {A = A} x (loading_at c (loads.Initiating j h)) (reply.Initiated row)) (λ x t. (initiated_finds x c j h row sought t.told).now.recorded)) (λ x t. initiated_finds x c j h row sought t) (λ x t. initiated_finds x c j h row sought t.told));
   refused = plain_no_fault n.turn plain;
   linkage = tt;
   lacks = λ h. tt;
@@ -245,11 +265,11 @@ initiate_refused x c j h need is t = record {
   refused = subst (λ (k : Need). Refused (state_of x) k) is t.now;
 }
 
-pub steps_initiate_refused : {A : Type 0} (told : Option Content) (c : Configured) (j : Job A) (h : Arc (Home A) Global) (need : needs.Need) (n : Next A) → j.path.config ≡ c → need_of need ≡ next_need {A = A} (nexts.Initiate h) → Leads told j (past_left j.target) (RefusedOn {A = A} {B = A} j (nexts.Initiate h)) n
+pub steps_initiate_refused : {A : Type 0} (told : Option Content) (c : Configured) (j : Job A) (h : Arc (Home A) Global) (need : needs.Need) (n : Next A) → j.path.config ≡ c → need_of need ≡ next_need {A = A} (nexts.Initiate h) → Leads told j (past_room j) (RefusedOn {A = A} {B = A} j (nexts.Initiate h)) n
     → IsPlain n.turn → EndsAsRefused j.request need n.turn → IsPast n.stage → (Posts answers.Memory n.turn → IsResolution j.request) → Steps told (loading_at c (loads.Initiating j h)) (reply.Refused need) n
 steps_initiate_refused {A} told c j h need n e is l plain ends past lacks = record {
-  leads = at_config told c j.path.config j.q j.request (room_at phases.Initiating j 0) _ _ n e
-      (leads_more (room_at phases.Initiating j 0) _ _ l (omega arith) (λ x t. initiate_refused {A = A} x c j h need is t) (λ x t. initiate_refused {A = A} x c j h need is t.told));
+  leads = at_config told c j.path.config j.q j.request (task_room (loading_at c (loads.Initiating j h))) _ _ n e
+      (leads_more (task_room (loading_at c (loads.Initiating j h))) _ _ l (omega arith) (past_made told j _ [] (sought_ask j.path ∷ []) 1 (omega arith)) (λ x t. initiate_refused {A = A} x c j h need is t) (λ x t. initiate_refused {A = A} x c j h need is t.told));
   refused = plain_no_fault n.turn plain;
   linkage = ends;
   lacks = lacks;

@@ -12,14 +12,15 @@ use Rattle.cl_model.specs.Texts.{VerdictNames}
 use Rattle.cl_model.specs.Views.{verdict_of}
 use Rattle.cl_model.proofs.Bind.{some_same}
 use Rattle.cl_config.specs.Views.{Configured}
-use Rattle.cl_hierarchy.specs.Imposed.{Listed, equal_need, needs_of}
+use Rattle.cl_hierarchy.specs.Imposed.{Listed, OfReference, equal_need, needs_of}
 use Rattle.cl_hierarchy.specs.Lineages.{IsRowIn, Lined, rows_in}
 use Rattle.cl_hierarchy.specs.Rows.{Rowed}
 use Rattle.cl_members.specs.Asking.{IsDeniedIn, IsLocated, Located, asked_key}
 use Rattle.cl_members.specs.Asking as asking
+use Rattle.cl_members.specs.Asking.{IsOf as IsFoundOf}
 use Rattle.cl_members.specs.declared.fault.LookupFault.{LookupFault}
 use Rattle.cl_members.specs.declared.fault.LookupFault.TheVariants as faults
-use Rattle.cl_findings.specs.References.{IsOfFound, fault_verdict, reference_needs}
+use Rattle.cl_findings.specs.References.{GoesTo, IsOfFound, fault_verdict, reference_needs}
 use Rattle.cl_registry.specs.Tables.{Shown, NamesLoaders, state_of}
 use Rattle.cl_registry.specs.Traced.{IsRowOf, IsTraced}
 use Rattle.cl_registry.proofs.Named.{recorded_is_named}
@@ -90,6 +91,19 @@ member_told c x m own named of one two h =
     let first : IsTraced x m.found.d.own.class m.found.d = subst (λ (l : Lined). IsTraced x l.own.class l) (sym one) h.before.1.1.0 in
     let second : IsTraced x m.found.c.own.class m.found.c = subst (λ (l : Lined). IsTraced x l.own.class l) (sym two) h.now in
     (both.0, (both.1.0, (first, (second, met_stand x (take 0 (needs_of m.equalities.value.needs)) (no_needs (state_of x) (needs_of m.equalities.value.needs))))))
+
+-- what was found is a member that its entry asks for
+pub found_member : {A : Type 0} (c : Configured) (m : Member A) (own named : Lined) → IsEntry c m.entry → IsOf c m.entry.d.value.class own → GoesTo m.entry.request own named m.entry.index → IsFoundOf own named m.entry.index m.found
+    → m.equalities.value.origin ≡ OfReference m.found.d m.found.c m.found.index → IsMember c m
+found_member c m own named entry of goes found origin = record {
+  entry = entry;
+  own = subst (λ (l : Lined). IsOf c m.entry.d.value.class l) (sym found.from) of;
+  index = found.at;
+  reference =
+      subst (λ (i : ℕ). GoesTo m.entry.request m.found.d m.found.c i) (sym found.at)
+      (subst (λ (l : Lined). GoesTo m.entry.request m.found.d l m.entry.index) (sym found.through) (subst (λ (l : Lined). GoesTo m.entry.request l named m.entry.index) (sym found.from) goes));
+  origin = origin;
+}
 
 pub member_needs : {A : Type 0} (x : Shown) (m : Member A) (k : ℕ) → ImposedTold m k x → AllMet (state_of x) (reference_needs m.entry.request m.found.d.own.class m.found.c.own.class)
 member_needs x m k h = (h.0, (h.1.0, tt))

@@ -1,5 +1,5 @@
 -- What the resolution of an entry that asks for a member leads to (JVMS SE 8, 5.4.3.2 to 5.4.3.4).
-use Rattle.std.proofs.Common.{Global, ◌≡◌, ◌≢◌, ◌∙◌, ◌<◌, ◌≤◌, ◌+◌, ◌-◌, ℕ, List, ◌++◌, length, Option, Some, Err, refl, sym, ap, subst, arith}
+use Rattle.std.proofs.Common.{Global, ◌≡◌, ◌≢◌, ◌∙◌, ◌<◌, ◌≤◌, ◌+◌, ◌-◌, ◌^◌, ℕ, List, ◌++◌, length, Option, Some, Err, refl, sym, ap, subst, arith}
 use Rattle.std.specs.Prelude.{slice_get, take, option_map, IfSome}
 use Rattle.std.proofs.lemmas.Option.{slice_get-map}
 use Rattle.std.specs.declared.sync.Arc.{Arc}
@@ -34,8 +34,9 @@ use Rattle.cl_findings.proofs.References.{asked_rests}
 use Rattle.cl_registry.specs.Imposing.{IsNextOf, IsReached, IsStanding, MayImpose, StandsFor}
 use Rattle.cl_registry.specs.Tables.{NamesLoaders, Shown, state_of}
 use Rattle.cl_tasks.specs.Follows.{IsWanted, ServedIn}
-use Rattle.cl_tasks.specs.Measures.{imposing_left, most, tracing_named_left, tracing_own_left}
+use Rattle.cl_tasks.specs.Measures.{imposing_left, most, tracing_named_left}
 use Rattle.cl_tasks.specs.Resolving.{EntryTold, ImposedTold, IsInaccessible, IsSame, OwnTold, RefusedTold, TracedTold}
+use Rattle.cl_tasks.specs.Rooms.{Room, imposing_room, settle_room, tracing_named_room, tracing_own_room}
 use Rattle.cl_tasks.specs.Stages.{IsEntry, IsMember, IsOf}
 use Rattle.cl_tasks.specs.Steps.{LeadsBy}
 use Rattle.cl_tasks.specs.declared.member.Inaccessible.{Inaccessible}
@@ -45,21 +46,23 @@ use Rattle.cl_tasks.specs.declared.stage.Resolution.TheVariants as resolutions
 use Rattle.cl_tasks.specs.declared.stage.Stage.TheVariants as stages
 use Rattle.cl_tasks.specs.declared.turn.Turn.TheVariants as turn
 use Rattle.cl_tasks.specs.Waits as waits
-use Rattle.cl_tasks.proofs.Entries.{leads_settles}
+use Rattle.cl_tasks.proofs.Entries.{HasSettle, leads_settles}
 use Rattle.cl_tasks.proofs.Facts.{met_both}
+use Rattle.cl_tasks.proofs.Lead.{Holding}
 use Rattle.cl_tasks.proofs.LinkFacts.{within_some}
 use Rattle.cl_tasks.proofs.LinkNamed.{refused_named}
-use Rattle.cl_tasks.proofs.MemberFacts.{all_taken, fault_of, found_owner, member_entry, member_imposed, member_needs, member_through, own_within, row_within, same_entry, same_told, traced_as, traced_entry, traced_needs}
+use Rattle.cl_tasks.proofs.MemberCounts.{member_few}
+use Rattle.cl_tasks.proofs.MemberFacts.{all_taken, fault_of, found_owner, member_entry, member_imposed, member_needs, member_through, member_told, own_within, row_within, same_entry, same_told, traced_as, traced_entry, traced_needs}
 use Rattle.cl_tasks.proofs.Said.{Settling, Stood, concludes_at, found_is}
 
 -- an entry is settled to what a finding says, where that stands
-pub leads_settle : {A : Type 0} (told : Option Content) (c : Configured) (e kept : entries.Entry A) (f : Answered) (v : verdict.Verdict) (b : Based) (room : ℕ) (holds : Shown → Type 0) → IsEntry c e → IsSame e kept
-    → f.request ≡ e.request → f.answer ≡ answers.Said v → f.basis ≡ Some b → Stood told c e.request v b holds → v ≢ verdicts.BadEntry → v ≢ verdicts.ArrayMember → ((x : Shown) → holds x → EntryTold e x) → 1 < room
+pub leads_settle : {A : Type 0} (told : Option Content) (c : Configured) (e kept : entries.Entry A) (f : Answered) (v : verdict.Verdict) (b : Based) (room : Room) (holds : Shown → Type 0) → IsEntry c e → IsSame e kept
+    → f.request ≡ e.request → f.answer ≡ answers.Said v → f.basis ≡ Some b → Stood told c e.request v b holds → v ≢ verdicts.BadEntry → v ≢ verdicts.ArrayMember → ((x : Shown) → holds x → EntryTold e x) → 1 < room.turns → HasSettle room
     → LeadsBy told c e.q e.request room holds (record { stage = stages.Resolve (resolutions.Settling kept); turn = turn.Settle f })
-leads_settle {A} told c e kept f v b room holds entry same asked said rests stood is_entry is_member entry_told more =
+leads_settle {A} told c e kept f v b room holds entry same asked said rests stood is_entry is_member entry_told more two =
     let may : Settling e.request e.d.value.class e.index v holds = record { resolves = entry.of; kept = λ x h. (entry_told x h).0; is_entry = is_entry; is_class_member = is_member } in
     subst (λ (a : Answered). LeadsBy {A = A} told c e.q e.request room holds (record { stage = stages.Resolve (resolutions.Settling kept); turn = turn.Settle a })) (sym (found_is f e.request v b asked said rests))
-    (leads_settles A told c e.q e.request e.d.value.class e.index v b room holds kept stood may (same_entry c e kept entry same) same.number same.request (λ x h. same_told x e kept same (entry_told x h)) more)
+    (leads_settles A told c e.q e.request e.d.value.class e.index v b room holds kept stood may (same_entry c e kept entry same) same.number same.request (λ x h. same_told x e kept same (entry_told x h)) more two)
 
 within_same : (c : Configured) (x : Shown) (l : ℕ) → x.config ≡ c → l < length c.loaders → l < length x.config.loaders
 within_same c x l e lt = subst (λ (k : Configured). l < length k.loaders) (sym e) lt
@@ -70,7 +73,7 @@ within_same c x l e lt = subst (λ (k : Configured). l < length k.loaders) (sym 
 pub class_leads : {A : Type 0} (told : Option Content) (c : Configured) (e kept : entries.Entry A) (own named : Lined) (config : Configured) (f : Answered) (v : verdict.Verdict) → IsEntry c e → IsOf c e.d.value.class own → IsSame e kept
     → config ≡ c → f.request ≡ e.request → f.answer ≡ answers.Said v → f.basis ≡ Some (class_basis config e.request own.own.class named.own.class) → Rests told f → v ≢ verdicts.BadEntry → v ≢ verdicts.ArrayMember
     → ((x : Shown) → NamesLoaders x → TracedTold e own named x → VerdictNames (length x.config.loaders) v)
-    → LeadsBy told c e.q e.request tracing_named_left (TracedTold e own named) (record { stage = stages.Resolve (resolutions.Settling kept); turn = turn.Settle f })
+    → LeadsBy told c e.q e.request tracing_named_room (TracedTold e own named) (record { stage = stages.Resolve (resolutions.Settling kept); turn = turn.Settle f })
 class_leads {A} told c e kept own named config f v entry of same here asked said basis rests is_entry is_member names =
     let b : Based = class_basis config e.request own.own.class named.own.class in
     let stood : Stood told c e.request v b (TracedTold e own named) = record {
@@ -81,7 +84,7 @@ class_leads {A} told c e kept own named config f v entry of same here asked said
       refused = λ x h. tt;
       within = λ x config loaders h. record { loader = within_same c x (loader_of e.request) config entry.asked; answer = names x loaders h };
     } in
-    leads_settle {A = A} told c e kept f v b tracing_named_left (TracedTold e own named) entry same asked said basis stood is_entry is_member (λ x h. traced_entry x e own named h) (more most)
+    leads_settle {A = A} told c e kept f v b tracing_named_room (TracedTold e own named) entry same asked said basis stood is_entry is_member (λ x h. traced_entry x e own named h) (more most) (λ w p s. omega arith)
   where
     more : (n : ℕ) → 1 < n + 2
     more n = omega arith
@@ -89,7 +92,7 @@ class_leads {A} told c e kept own named config f v entry of same here asked said
 -- the class that the entry names is not accessible
 pub inaccessible_leads : {A : Type 0} (told : Option Content) (c : Configured) (e kept : entries.Entry A) (own named : Lined) (end : Inaccessible A) (f : Answered) → IsEntry c e → IsOf c e.d.value.class own → IsSame e kept → IsInaccessible c own named end
     → f.request ≡ e.request → f.answer ≡ answers.Said end.verdict → f.basis ≡ Some (class_basis end.config.value e.request end.d.value.class end.named.value.class) → Rests told f
-    → LeadsBy told c e.q e.request tracing_named_left (TracedTold e own named) (record { stage = stages.Resolve (resolutions.Settling kept); turn = turn.Settle f })
+    → LeadsBy told c e.q e.request tracing_named_room (TracedTold e own named) (record { stage = stages.Resolve (resolutions.Settling kept); turn = turn.Settle f })
 inaccessible_leads told c e kept own named end f entry of same is asked said basis rests =
     class_leads told c e kept own named end.config.value f (verdicts.Error kinds.IllegalAccessError named.own.class) entry of same is.config_is asked (said ∙ ap (λ (v : verdict.Verdict). answers.Said v) is.verdict_is)
     (basis ∙ ap (λ (d : Rowed). Some (class_basis end.config.value e.request d.class end.named.value.class)) is.own_is ∙ ap (λ (d : Rowed). Some (class_basis end.config.value e.request own.own.class d.class)) is.named_is) rests
@@ -98,7 +101,7 @@ inaccessible_leads told c e kept own named end f entry of same is asked said bas
 -- the member was not found
 pub fault_leads : {A : Type 0} (told : Option Content) (c : Configured) (e kept : entries.Entry A) (own named : Lined) (fault : LookupFault) (f : Answered) (v : verdict.Verdict) → IsEntry c e → IsOf c e.d.value.class own → IsSame e kept
     → fault_verdict named.own.class fault ≡ Some v → IsDeniedIn named (Err fault) → f.request ≡ e.request → f.answer ≡ answers.Said v → f.basis ≡ Some (class_basis own.config e.request own.own.class named.own.class) → Rests told f
-    → LeadsBy told c e.q e.request tracing_named_left (TracedTold e own named) (record { stage = stages.Resolve (resolutions.Settling kept); turn = turn.Settle f })
+    → LeadsBy told c e.q e.request tracing_named_room (TracedTold e own named) (record { stage = stages.Resolve (resolutions.Settling kept); turn = turn.Settle f })
 fault_leads told c e kept own named fault f v entry of same error denied asked said basis rests =
     let owner = fault_of named fault v error denied in
     class_leads told c e kept own named own.config f v entry of same of.config asked said basis rests owner.of.is_entry owner.of.is_class_member
@@ -107,13 +110,14 @@ fault_leads told c e kept own named fault f v entry of same error denied asked s
 -- ---- the lineages
 
 pub own_taken : {A : Type 0} (told : Option Content) (c : Configured) (e : entries.Entry A) (own : Arc Lined Global) (k : Arc Rowed Global) (d : Class) → IsEntry c e → IsOf c e.d.value.class own.value → d ≡ k.value.class
-    → LeadsBy told c e.q e.request tracing_own_left (OwnTold e k.value own.value) (record { stage = stages.Resolve (resolutions.TracingNamed e own k); turn = turn.Lineage d })
+    → LeadsBy told c e.q e.request tracing_own_room (OwnTold e k.value own.value) (record { stage = stages.Resolve (resolutions.TracingNamed e own k); turn = turn.Lineage d })
 own_taken told c e own k d entry of is = record {
   kept = (entry, of);
   number = refl;
   asks = ap (λ (j : Class). waits.Tracing j) (sym is);
   serves = refl;
   left = more most;
+  calls = λ g x p served is h. omega arith;
   keeps = λ x h. record { frames = tt; facts = (h.before.0, (h.before.1.0, (traced_as x e.d.value.class own.value h.now, tt))) };
   backed = λ x config names fine h. subst (λ (j : Class). IsRecorded (state_of x) j) (sym is) (fine.own e.d.value.class.loader k.value.class.loader k.value.class.name h.before.1.0);
   follows = λ g x served h. tt;
@@ -180,13 +184,14 @@ module _ {A : Type 0} (told : Option Content) (c : Configured) (m : Member A) (m
   one_more a = omega arith
 
   pub impose_leads : IsKnown told m → (i : ℕ) (shared : Arc Listed Global) → shared.value ≡ m.equalities.value → i < length m.equalities.value.needs
-      → LeadsBy told c m.entry.q m.entry.request (imposing_left (length m.equalities.value.needs - i) + 1) (ImposedTold m i) (record { stage = stages.Resolve (resolutions.Imposing m i); turn = turn.Impose shared i })
+      → LeadsBy told c m.entry.q m.entry.request (imposing_room m i) (ImposedTold m i) (record { stage = stages.Resolve (resolutions.Imposing m i); turn = turn.Impose shared i })
   impose_leads known i shared same lt = record {
     kept = (member, lt);
     number = refl;
     asks = ap (λ (l : Listed). waits.Imposing l i) (sym same);
     serves = refl;
     left = one_more (imposing_left (length m.equalities.value.needs - i));
+    calls = λ g x p served is h. omega arith;
     keeps = λ x h. record { frames = tt; facts = h };
     backed = λ x config names fine h. subst (λ (l : Listed). MayImpose x l i) (sym same) (may_impose x i lt config fine h);
     follows = λ g x served h. subst (λ (l : Listed). IsNextOf l i (IsWanted g (state_of x) m.entry.request)) (sym same) (wanted_next known g x i lt served h);
@@ -196,7 +201,7 @@ module _ {A : Type 0} (told : Option Content) (c : Configured) (m : Member A) (m
 
   pub refused_leads : (i : ℕ) (kept : entries.Entry A) (f : Answered) (need : rust.Need) → IsSame m.entry kept → f.request ≡ m.entry.request → f.answer ≡ answers.Said (verdicts.Linkage need)
       → f.basis ≡ Some (asked_basis m.entry.request m.equalities.value i (need_of need)) → Rests told f
-      → LeadsBy told c m.entry.q m.entry.request 2 (RefusedTold m i (need_of need)) (record { stage = stages.Resolve (resolutions.Settling kept); turn = turn.Settle f })
+      → LeadsBy told c m.entry.q m.entry.request settle_room (RefusedTold m i (need_of need)) (record { stage = stages.Resolve (resolutions.Settling kept); turn = turn.Settle f })
   refused_leads i kept f need same is_asked said basis rests =
       let b : Based = asked_basis m.entry.request m.equalities.value i (need_of need) in
       let v : verdict.Verdict = verdicts.Linkage need in
@@ -208,13 +213,13 @@ module _ {A : Type 0} (told : Option Content) (c : Configured) (m : Member A) (m
         refused = λ x h. h.now;
         within = λ x config loaders h. record { loader = within_same c x (loader_of m.entry.request) config member.entry.asked; answer = refused_named x need loaders h.now };
       } in
-      leads_settle {A = A} told c m.entry kept f v b 2 (RefusedTold m i (need_of need)) member.entry same is_asked said basis stood (λ h. cc) (λ h. cc) (λ x h. member_entry c x m i member h.before) (omega arith)
+      leads_settle {A = A} told c m.entry kept f v b settle_room (RefusedTold m i (need_of need)) member.entry same is_asked said basis stood (λ h. cc) (λ h. cc) (λ x h. member_entry c x m i member h.before) (omega arith) (λ w p s. omega arith)
 
 -- ---- the member
 
 pub found_leads : {A : Type 0} (told : Option Content) (c : Configured) (m : Member A) (kept : entries.Entry A) (f : Answered) (v : verdict.Verdict) → IsMember c m → IsSame m.entry kept → f.request ≡ m.entry.request → f.answer ≡ answers.Said v
     → f.basis ≡ Some (member_basis m.entry.request m.found m.equalities.value) → Rests told f → IsLocated m.found → IsOfFound m.found (verdict_of v)
-    → LeadsBy told c m.entry.q m.entry.request 2 (ImposedTold m (length m.equalities.value.needs)) (record { stage = stages.Resolve (resolutions.Settling kept); turn = turn.Settle f })
+    → LeadsBy told c m.entry.q m.entry.request settle_room (ImposedTold m (length m.equalities.value.needs)) (record { stage = stages.Resolve (resolutions.Settling kept); turn = turn.Settle f })
 found_leads {A} told c m kept f v member same asked said basis rests located found =
     let owner = found_owner m.found v located found in
     let b : Based = member_basis m.entry.request m.found m.equalities.value in
@@ -229,7 +234,7 @@ found_leads {A} told c m kept f v member same asked said basis rests located fou
       refused = λ x h. tt;
       within = λ x config loaders h. record { loader = within_same c x (loader_of m.entry.request) config member.entry.asked; answer = owner.names (length x.config.loaders) (row_within x m.found.c.own.class m.found.c m.found.owner loaders (member_through x m all h) located.row) };
     } in
-    leads_settle {A = A} told c m.entry kept f v b 2 (ImposedTold m all) member.entry same asked said basis stood owner.is_entry owner.is_class_member (λ x h. member_entry c x m all member h) (omega arith)
+    leads_settle {A = A} told c m.entry kept f v b settle_room (ImposedTold m all) member.entry same asked said basis stood owner.is_entry owner.is_class_member (λ x h. member_entry c x m all member h) (omega arith) (λ w p s. omega arith)
 
 -- ---- how many turns are left
 
@@ -238,3 +243,22 @@ two_room n = omega arith
 
 pub member_room : (n : ℕ) → n < most → imposing_left (n - 0) + 1 ≤ tracing_named_left
 member_room n lt = omega (arith, lt)
+
+pub needs_few : (m n : ℕ) → n < 2 ^ 64 → n ≡ m → m < most
+unfolding most
+needs_few m n lt is =
+    let lim : 2 ^ 64 ≡ most = refl in
+    omega (arith, lt, is, lim)
+
+-- ---- how many calls
+
+-- where all equalities are imposed the calls that are left are within
+pub two_within : {A : Type 0} (told : Option Content) (c : Configured) (m : Member A) (place : ℕ) (now : Shown → Type 0) → Holding told c now m.entry.request settle_room.calls (imposing_room m place)
+two_within told c m place now = λ g x p served is h. omega arith
+
+-- the equalities of a member are within what its request may still need
+pub member_within : {A : Type 0} (told : Option Content) (c : Configured) (m : Member A) (own named : Lined) → IsMember c m → IsOf c m.entry.d.value.class own → m.found.d ≡ own → m.found.c ≡ named → IsKnown told m
+    → Holding told c (TracedTold m.entry own named) m.entry.request (imposing_room m 0).calls tracing_named_room
+member_within told c m own named member of one two known = λ g x p served is h.
+    let few = member_few told c m g x p member known.lineages known.are served is (member_told c x m own named of one two h) in
+    omega arith

@@ -1,6 +1,7 @@
 -- What a step leads to where a path grows, goes on or loses its last class.
 use Rattle.std.proofs.Common.{◌≡◌, ◌≢◌, ◌∙◌, ◌<◌, ◌≤◌, ◌+◌, ◌*◌, ℕ, false, List, [], ◌∷◌, ◌++◌, inl, inr, length, Option, Some, None, refl, sym, ap, subst, slice_get, arith}
-use Rattle.std.proofs.Common.{Global}
+use Rattle.std.proofs.Common.{Global, eqb, true}
+use Rattle.std.proofs.lemmas.Bool.{eq-eqb}
 use Rattle.std.specs.Prelude.{IsSome, MatchOption, map}
 use Rattle.std.specs.List.{AllByRecursion}
 use Rattle.std.specs.declared.sync.Arc.{Arc}
@@ -37,20 +38,23 @@ use Rattle.cl_findings.proofs.Loads.{away_rests, whole_rests}
 use Rattle.cl_findings.proofs.Whole.{completed_is_whole, root_is_whole}
 use Rattle.cl_registry.specs.Tables.{MayEnter, Shown, records_of, state_of}
 use Rattle.cl_tasks.specs.Facts.{IsRecordedAs}
-use Rattle.cl_tasks.specs.Follows.{IsWanted, ServedIn}
+use Rattle.cl_tasks.specs.Calls.{Calls, ask_for, away_calls}
+use Rattle.cl_tasks.specs.Follows.{CallsWithin, IsWanted, ServedIn}
 use Rattle.cl_tasks.specs.Measures.{Phase, left_at, loading, most, turns}
 use Rattle.cl_tasks.specs.Measures as phases
-use Rattle.cl_tasks.specs.Stages.{IsJob, home_need, past_left}
-use Rattle.cl_tasks.specs.Steps.{DefinesBy, Finds, FindsAt, HoldsOn, Leads, LeadsBy, room_at}
+use Rattle.cl_tasks.specs.Rooms.{Room, calls_at, room_at, room_of}
+use Rattle.cl_tasks.specs.Stages.{IsHoming, IsJob, home_need, job_calls, past_left, sought_ask}
+use Rattle.cl_tasks.specs.Steps.{DefinesBy, Finds, FindsAt, HoldsOn, Leads, LeadsAt, LeadsBy, LeadsFrom}
 use Rattle.cl_tasks.specs.Waits as waits
 use Rattle.cl_tasks.specs.declared.stage.Job.{Job}
 use Rattle.cl_tasks.specs.declared.stage.Load.TheVariants as loads
 use Rattle.cl_tasks.specs.declared.stage.Next.{Next}
 use Rattle.cl_tasks.specs.declared.stage.Stage.TheVariants as stages
 use Rattle.cl_tasks.specs.declared.turn.Turn.TheVariants as turn
-use Rattle.cl_tasks.proofs.Fall.{accepts_less, completes_less, defined_less, descends_less, roots_less}
-use Rattle.cl_tasks.proofs.Keep.{Has, accepts_holds, completes_holds, fresh_has, have_more, push_holds, whole_fits, whole_recorded, frame_kept}
-use Rattle.cl_tasks.proofs.Lead.{leads_by, leads_memory}
+use Rattle.cl_tasks.proofs.Fall.{accepts_less, completes_less, defined_less, descends_less, homes_less, roots_less}
+use Rattle.cl_tasks.proofs.Keep.{Has, accepts_holds, all_last, completes_holds, fresh_has, have_more, push_holds, whole_fits, whole_recorded, frame_kept}
+use Rattle.cl_tasks.proofs.Lead.{HasPost, leads_by, leads_memory}
+use Rattle.cl_tasks.proofs.Moves.{Holds, accepts_left, away_defined, completes_left, descends_holds, homing_holds, phase_has, root_holds, same_holds}
 use Rattle.cl_tasks.proofs.Obstacles.{path_met}
 use Rattle.cl_tasks.proofs.Said.{concludes_at}
 
@@ -105,24 +109,29 @@ whole_enters told j x whole draft y config has = record {
   fit = whole_fits y (frame_of x) has whole.complete;
 }
 
-defining : {A : Type 0} (told : Option Content) (j : Job A) (x : Framed) (room : ℕ) (holds : Shown → Type 0) → IsJob told j.path.config j → IsPath told j.path → IsWhole told j.path x → IsDraft told x.draft → room_at phases.Defining j 0 < room
-    → ((y : Shown) → holds y → HoldsOn j y × Has y (frame_of x)) → Leads told j room holds (record { stage = stages.Load (loads.Defining j x); turn = turn.Define x.draft })
-defining told j x room holds job path whole draft less has = record {
+-- the calls of a job whose class is to be recorded
+abbrev pub defining_calls : {A : Type 0} → Job A → Framed → Calls
+defining_calls j x = job_calls [] (sought_ask j.path ∷ ask_for x.draft.class ∷ []) (1 + away_calls (at_loader j.path) x.draft.class.loader) j
+
+defining : {A : Type 0} (told : Option Content) (j : Job A) (x : Framed) (room : Room) (holds : Shown → Type 0) → IsJob told j.path.config j → IsPath told j.path → IsWhole told j.path x → IsDraft told x.draft → room_at phases.Defining j 0 < room.turns
+    → Holds told j holds room.made (defining_calls j x) room.calls → ((y : Shown) → holds y → HoldsOn j y × Has y (frame_of x)) → Leads told j room holds (record { stage = stages.Load (loads.Defining j x); turn = turn.Define x.draft })
+defining told j x room holds job path whole draft less calls has = record {
   kept = (job, whole);
   number = refl;
   asks = refl;
   serves = refl;
   left = less;
+  calls = calls;
   keeps = λ y h. record { frames = have_more y (frames_of j.path) (frame_of x) (has y h).0.frames (has y h).1; facts = (has y h).0.facts };
   backed = λ y config named consistent h. whole_enters told j x whole draft y config (has y h).1;
   follows = λ g y s h. whole_wanted told j x job path whole g y s (has y h).0 (has y h).1;
 }
 
-pub leads_define : {A : Type 0} (told : Option Content) (j : Job A) (x : Framed) (room : ℕ) (holds : Shown → Type 0) (n : Next A) → IsJob told j.path.config j → IsPath told j.path → IsWhole told j.path x → IsDraft told x.draft → room_at phases.Defining j 0 < room
-    → ((y : Shown) → holds y → HoldsOn j y × Has y (frame_of x)) → DefinesBy j x n → Leads told j room holds n
-leads_define told j x room holds n job path whole draft less has (inl is) =
-    subst (λ (m : Next _). Leads told j room holds m) (sym is) (leads_memory told j.path.config j.q j.request room holds holds job.asked (omega arith))
-leads_define told j x room holds n job path whole draft less has (inr is) = subst (λ (m : Next _). Leads told j room holds m) (sym is) (defining told j x room holds job path whole draft less has)
+pub leads_define : {A : Type 0} (told : Option Content) (j : Job A) (x : Framed) (room : Room) (holds : Shown → Type 0) (n : Next A) → IsJob told j.path.config j → IsPath told j.path → IsWhole told j.path x → IsDraft told x.draft → room_at phases.Defining j 0 < room.turns
+    → HasPost room → Holds told j holds room.made (defining_calls j x) room.calls → ((y : Shown) → holds y → HoldsOn j y × Has y (frame_of x)) → DefinesBy j x n → Leads told j room holds n
+leads_define told j x room holds n job path whole draft less post calls has (inl is) =
+    subst (λ (m : Next _). Leads told j room holds m) (sym is) (leads_memory told j.path.config j.q j.request room holds holds job.asked (omega arith) post)
+leads_define told j x room holds n job path whole draft less post calls has (inr is) = subst (λ (m : Next _). Leads told j room holds m) (sym is) (defining told j x room holds job path whole draft less calls has)
 
 -- ---- a class without supertypes
 
@@ -138,11 +147,13 @@ pub waits_first : (d : Drafted) → (length (supers (file_of d.file)) ≡ 0 → 
 waits_first d h = some_waits (supers (file_of d.file)) h
 
 pub leads_root : {A : Type 0} (told : Option Content) (j : Job A) (d : Drafted) (n : Next A) → IsJob told j.path.config j → IsPath told j.path → IsSought j.path d.home → IsDraft told d → is_on j.path d.class ≡ false → length (supers (file_of d.file)) ≡ 0
-    → DefinesBy j (fresh d) n → Leads told j (room_at phases.Homing j 0) (HoldsOn j) n
+    → DefinesBy j (fresh d) n → LeadsFrom told phases.Homing j d.home.place (HoldsOn j) n
 leads_root told j d n job path home draft off alone h =
+    let place = ap (λ (k : Class). k.loader) draft.placed in
     let whole : IsWhole told j.path (fresh d) = root_is_whole told j.path d path draft home off (none_waits (supers (file_of d.file)) alone) in
-    leads_define told j (fresh d) (room_at phases.Homing j 0) (HoldsOn j) n job path whole draft
-    (less_room (past_left j.target) (left_at phases.Defining (frames_of j.path) 0) (left_at phases.Homing (frames_of j.path) 0) (roots_less told j.path phases.Homing 0 0 path tt)) (λ y k. (k, fresh_has y d)) h
+    leads_define told j (fresh d) (room_of (room_at phases.Homing j 0) (calls_at phases.Homing j d.home.place)) (HoldsOn j) n job path whole draft
+    (less_room (past_left j.target) (left_at phases.Defining (frames_of j.path) 0) (left_at phases.Homing (frames_of j.path) 0) (roots_less told j.path phases.Homing 0 0 path tt)) (phase_has phases.Homing j d.home.place)
+    (subst (λ (l : ℕ). Holds told j (HoldsOn j) 0 (defining_calls j (fresh d)) (calls_at phases.Homing j l)) place (root_holds told j (fresh d) job path whole)) (λ y k. (k, fresh_has y d)) h
 
 -- ---- a job on another path
 
@@ -179,36 +190,40 @@ pub job_with : {A : Type 0} (told : Option Content) (j : Job A) (new : Pathed) (
 job_with told j new xs job path is = job_on told j new job path job.root (ap (λ (p : Pathed). p.config) is) (ap (λ (p : Pathed). p.loader) is) (ap (λ (p : Pathed). p.name) is)
 
 -- where a job on a path of the same configuration leads
-pub leads_moved : {A : Type 0} (told : Option Content) (j : Job A) (c : Configured) (room : ℕ) (holds : Shown → Type 0) (n : Next A) → c ≡ j.path.config → LeadsBy told c j.q j.request room holds n → Leads told j room holds n
+pub leads_moved : {A : Type 0} (told : Option Content) (j : Job A) (c : Configured) (room : Room) (holds : Shown → Type 0) (n : Next A) → c ≡ j.path.config → LeadsBy told c j.q j.request room holds n → Leads told j room holds n
 leads_moved told j c room holds n e l = subst (λ (k : Configured). LeadsBy told k j.q j.request room holds n) e l
 
 -- ---- a class that waits for its first supertype
 
-pub leads_descent : {A : Type 0} (told : Option Content) (j : Job A) (d : Drafted) (new : Pathed) (n : Next A) → IsPath told j.path → new ≡ with_frame j.path (fresh d) → length (supers (file_of d.file)) ≤ most → IsSome (wanted (frame_of (fresh d)))
-    → Leads told (on_path j new) (room_at phases.Fresh (on_path j new) 0) (HoldsOn (on_path j new)) n → Leads told j (room_at phases.Homing j 0) (HoldsOn j) n
-leads_descent {A} told j d new n path is few waits l =
+pub leads_descent : {A : Type 0} (told : Option Content) (j : Job A) (d : Drafted) (new : Pathed) (n : Next A) → IsJob told j.path.config j → IsPath told j.path → IsPath told new → new ≡ with_frame j.path (fresh d) → length (supers (file_of d.file)) ≤ most → IsSome (wanted (frame_of (fresh d)))
+    → LeadsAt told phases.Fresh (on_path j new) (HoldsOn (on_path j new)) n → LeadsFrom told phases.Homing j d.home.place (HoldsOn j) n
+leads_descent {A} told j d new n job path on is few waits l =
     let grown = with_frame j.path (fresh d) in
-    let m : Leads told (on_path j grown) (room_at phases.Fresh (on_path j grown) 0) (HoldsOn (on_path j grown)) n =
-    subst (λ (p : Pathed). Leads {A = A} told (on_path j p) (room_at phases.Fresh (on_path j p) 0) (HoldsOn (on_path j p)) n) is l in
-    leads_by (room_at phases.Homing j 0) (HoldsOn j) m
-    (fresh_looks (past_left j.target) (frames_of grown) (left_at phases.Homing (frames_of j.path) 0) (descends_less told j.path d phases.Homing 0 0 path tt few waits))
+    let m : LeadsAt told phases.Fresh (on_path j grown) (HoldsOn (on_path j grown)) n = subst (λ (p : Pathed). LeadsAt {A = A} told phases.Fresh (on_path j p) (HoldsOn (on_path j p)) n) is l in
+    let drafts : AllByRecursion (λ (x : Framed). IsDraft told x.draft) (j.path.frames ++ fresh d ∷ []) = subst (λ (p : Pathed). AllByRecursion (λ (x : Framed). IsDraft told x.draft) p.frames) is on.drafts in
+    let draft : IsDraft told d = all_last (λ (x : Framed). IsDraft told x.draft) j.path.frames (fresh d) drafts in
+    let place = ap (λ (k : Class). k.loader) draft.placed in
+    let calls : Holds told j (HoldsOn j) 0 (calls_at phases.Fresh (on_path j grown) 0) (calls_at phases.Homing j d.home.place) =
+    subst (λ (l : ℕ). Holds told j (HoldsOn j) 0 (calls_at phases.Fresh (on_path j grown) 0) (calls_at phases.Homing j l)) place
+    (descends_holds told j d grown job path (subst (λ (p : Pathed). IsPath told p) is on) refl waits) in
+    leads_by (room_of (room_at phases.Homing j 0) (calls_at phases.Homing j d.home.place)) (HoldsOn j) m
+    (fresh_looks (past_left j.target) (frames_of grown) (left_at phases.Homing (frames_of j.path) 0) (descends_less told j.path d phases.Homing 0 0 path tt few waits)) calls
     (λ x h. record { frames = push_holds x j.path d h.frames; facts = h.facts })
 
 -- ---- the next supertype
 
 pub leads_next : {A : Type 0} (told : Option Content) (j : Job A) (row : Rowed) (new : Pathed) (n : Next A) → IsPath told j.path → misfit_under j.path.frames row.class (file_of row.file) ≡ None → Accepts j.path new row.class.loader
-    → Leads told (on_path j new) (room_at phases.Fresh (on_path j new) 0) (HoldsOn (on_path j new)) n → Leads told j (room_at phases.Initiating j 0) (Finds j row) n
+    → LeadsAt told phases.Fresh (on_path j new) (HoldsOn (on_path j new)) n → LeadsAt told phases.Initiating j (Finds j row) n
 leads_next told j row new n path fits step l =
-    leads_moved told j new.config (room_at phases.Initiating j 0) (Finds j row) n (ap (λ (p : Pathed). p.config) step.now)
-    (leads_by (room_at phases.Initiating j 0) (Finds j row) l
+    let room = room_of (room_at phases.Initiating j 0) (calls_at phases.Initiating j 0) in
+    let config : new.config ≡ j.path.config = ap (λ (p : Pathed). p.config) step.now in
+    leads_moved told j new.config room (Finds j row) n config
+    (leads_by room (Finds j row) l
     (fresh_looks (past_left j.target) (frames_of new) (left_at phases.Initiating (frames_of j.path) 0) (accepts_less told j.path new row.class.loader phases.Initiating 0 0 path tt step))
+    (subst (λ (c : Configured). CallsWithin told c (Finds j row) j.request 0 (calls_at phases.Fresh (on_path j new) 0) room.calls) (sym config) (accepts_left told j new row.class.loader (Finds j row) path step))
     (λ x h. record { frames = accepts_holds told x j.path new row path h.before.frames h.now fits step; facts = h.before.facts }))
 
 -- ---- a class that has all its supertypes
-
-all_last : {A : Type 0} (P : A → Type 0) (xs : List A) (x : A) → AllByRecursion P (xs ++ x ∷ []) → P x
-all_last P [] x h = h.0
-all_last P (y ∷ ys) x h = all_last P ys x h.1
 
 draft_whole : (told : Option Content) (old new : Pathed) (place : ℕ) (x : Framed) → IsPath told old → Completes old new place x → IsDraft told x.draft
 draft_whole told old new place x path step =
@@ -216,12 +231,16 @@ draft_whole told old new place x path step =
     (all_last (λ (f : Framed). IsDraft told f.draft) step.before step.last (subst (λ (xs : List Framed). AllByRecursion (λ (f : Framed). IsDraft told f.draft) xs) step.split path.drafts))
 
 pub leads_complete : {A : Type 0} (told : Option Content) (j : Job A) (row : Rowed) (new : Pathed) (x : Framed) (n : Next A) → IsJob told new.config (on_path j new) → IsPath told j.path → IsPath told new → IsSpelt told row.class row.file → row.class.name ≡ at_name j.path
-    → misfit_under j.path.frames row.class (file_of row.file) ≡ None → Completes j.path new row.class.loader x → DefinesBy (on_path j new) x n → Leads told j (room_at phases.Initiating j 0) (Finds j row) n
+    → misfit_under j.path.frames row.class (file_of row.file) ≡ None → Completes j.path new row.class.loader x → DefinesBy (on_path j new) x n → LeadsAt told phases.Initiating j (Finds j row) n
 leads_complete told j row new x n onward path path_new spelt named fits step h =
     let place = row.class.loader in
-    leads_moved told j new.config (room_at phases.Initiating j 0) (Finds j row) n (ap (λ (p : Pathed). p.config) step.now)
-    (leads_define told (on_path j new) x (room_at phases.Initiating j 0) (Finds j row) n onward path_new (completed_is_whole told j.path new place x row path step spelt refl named fits) (draft_whole told j.path new place x path step)
-    (less_room (past_left j.target) (left_at phases.Defining (frames_of new) 0) (left_at phases.Initiating (frames_of j.path) 0) (completes_less told j.path new place x phases.Initiating 0 0 path tt step))
+    let room = room_of (room_at phases.Initiating j 0) (calls_at phases.Initiating j 0) in
+    let config : new.config ≡ j.path.config = ap (λ (p : Pathed). p.config) step.now in
+    let whole = completed_is_whole told j.path new place x row path step spelt refl named fits in
+    leads_moved told j new.config room (Finds j row) n config
+    (leads_define told (on_path j new) x room (Finds j row) n onward path_new whole (draft_whole told j.path new place x path step)
+    (less_room (past_left j.target) (left_at phases.Defining (frames_of new) 0) (left_at phases.Initiating (frames_of j.path) 0) (completes_less told j.path new place x phases.Initiating 0 0 path tt step)) (phase_has phases.Initiating j 0)
+    (subst (λ (c : Configured). CallsWithin told c (Finds j row) j.request 0 (defining_calls (on_path j new) x) room.calls) (sym config) (completes_left told j new place x (Finds j row) path step whole))
     (λ y k. let both = completes_holds told y j.path new row x path k.before.frames k.now fits step in (record { frames = both.0; facts = k.before.facts }, both.1)) h)
 
 -- ---- what accepting answers
@@ -251,13 +270,14 @@ away_wanted {A} told j h job path sought other lead g y served holds rec =
 
 pub leads_initiate : {A : Type 0} (told : Option Content) (j : Job A) (h kept : Arc (Home A) Global) (row : Rowed) → kept.value ≡ h.value → IsJob told j.path.config j → IsPath told j.path → IsSought j.path h.value
     → LeadsTo told h.value.config h.value.asked h.value.name (Some h.value.place) → h.value.place ≢ at_loader j.path → row.class.loader ≡ h.value.place
-    → Leads told j (room_at phases.Defining j 0) (FindsAt j h.value.place row) (record { stage = stages.Load (loads.Initiating j kept); turn = turn.Initiate h })
+    → LeadsFrom told phases.Defining j h.value.place (FindsAt j h.value.place row) (record { stage = stages.Load (loads.Initiating j kept); turn = turn.Initiate h })
 leads_initiate told j h kept row same job path sought lead other own = record {
   kept = (job, subst (λ (i : Located). IsSought j.path i) (sym same) sought, subst (λ (i : Located). i.place ≢ at_loader j.path) (sym same) other);
   number = refl;
   asks = ap (λ (i : Located). waits.Initiating i) same;
   serves = refl;
   left = less_room (past_left j.target) (left_at phases.Initiating (frames_of j.path) 0) (left_at phases.Defining (frames_of j.path) 0) (defined_less (frames_of j.path) 0 0);
+  calls = same_holds told j (FindsAt j h.value.place row) (job_calls [] (sought_ask j.path ∷ []) 1 j) (calls_at phases.Defining j h.value.place) (sym (away_defined j h.value.place (λ e. other (sym e))));
   keeps = λ x f. record {
     frames = f.before.frames;
     facts = (subst (λ (i : Located). recorded (records_of x) i.place i.name ≡ Some i.place) (sym same) (home_records x j.path h.value row sought f.now own), f.before.facts);
@@ -268,4 +288,22 @@ leads_initiate told j h kept row same job path sought lead other own = record {
     defined = home_records x j.path h.value row sought f.now own;
   };
   follows = λ g x s f. (away_wanted told j h job path sought other lead g x s f.before (home_records x j.path h.value row sought f.now own), λ e. other (sym e ∙ sought.asked));
+}
+
+pub differ : (a b : ℕ) → eqb a b ≡ false → a ≡ b → ⊥
+differ a b h e = let k : eqb a b ≡ true = eq-eqb a b e in cc
+
+-- the home, another loader, is asked for what is looked for
+pub leads_homing : {A : Type 0} (told : Option Content) (j : Job A) (h : Located) (loader : ℕ) (name : List ℕ) → IsJob told j.path.config j → IsPath told j.path → IsHoming j h → LeadsTo told h.config h.asked h.name (Some h.place) → loader ≡ h.place → name ≡ at_name j.path
+    → LeadsAt told phases.Reading j (HoldsOn j) (record { stage = stages.Load (loads.Homing j h); turn = turn.Look loader name })
+leads_homing told j h loader name job path homing leads is_loader is_name = record {
+  kept = (job, homing);
+  number = refl;
+  asks = ap (λ (l : ℕ). waits.Looking l (at_name j.path)) (sym is_loader) ∙ ap (λ (n : List ℕ). waits.Looking loader n) (sym is_name);
+  serves = refl;
+  left = less_room (past_left j.target) (left_at phases.Homing (frames_of j.path) 0) (left_at phases.Reading (frames_of j.path) 0) (homes_less (frames_of j.path) 0 0);
+  calls = homing_holds told j h job path homing leads;
+  keeps = λ x k. record { frames = k.frames; facts = k.facts };
+  backed = λ x config named consistent k. tt;
+  follows = λ g x s k. tt;
 }

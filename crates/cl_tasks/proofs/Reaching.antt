@@ -7,16 +7,17 @@ use Rattle.cl_model.specs.declared.request.Request.{Request}
 use Rattle.cl_model.specs.declared.request.Request.TheVariants as requests
 use Rattle.cl_model.specs.Content.{Content}
 use Rattle.cl_model.specs.Classes.{class}
+use Rattle.cl_model.specs.Frames.{Frame, asking}
+use Rattle.cl_model.specs.Homes.{World}
 use Rattle.cl_model.specs.Machine.{AnswersPlan}
 use Rattle.cl_model.specs.Plans as plans
-use Rattle.cl_model.specs.States.{IsClass, recorded}
+use Rattle.cl_model.specs.States.{State, IsClass, recorded}
 use Rattle.cl_model.proofs.Looks.{recorded_answers}
 use Rattle.cl_model.proofs.Service.{load_comes}
 use Rattle.cl_config.specs.Views.{Configured}
 use Rattle.cl_hierarchy.specs.Frames.{Framed, frame_of}
 use Rattle.cl_hierarchy.specs.Paths.{Pathed, at_loader, at_name, frames_of, sought}
 use Rattle.cl_hierarchy.specs.Rows.{Rowed}
-use Rattle.cl_model.specs.Frames.{asking}
 use Rattle.cl_findings.specs.declared.load.Target.{Target}
 use Rattle.cl_findings.specs.declared.load.Target.TheVariants as targets
 use Rattle.cl_findings.specs.Loads.{IsFor, IsReferred}
@@ -24,16 +25,18 @@ use Rattle.cl_hierarchy.specs.declared.row.ClassRow.{ClassRow}
 use Rattle.cl_findings.specs.Findings.{loader_of, name_of}
 use Rattle.cl_registry.specs.Tables.{Shown, records_of, state_of}
 use Rattle.cl_registry.proofs.Named.{recorded_is_named}
+use Rattle.cl_tasks.specs.Calls.{Calls, calls_in, hand_calls, in_hand, own_calls, reference_calls, while_loading}
 use Rattle.cl_tasks.specs.Facts.{AreSo, IsRecordedAs}
 use Rattle.cl_tasks.specs.Reaching.{ReachesBy, reached}
 use Rattle.cl_tasks.specs.Measures.{Initiating, checking_left, left_at, named_left, own_left, prepared_left}
 use Rattle.cl_tasks.specs.Resolving.{NamedTold}
-use Rattle.cl_tasks.specs.Stages.{IsJob, named_facts, past_left, target_facts}
+use Rattle.cl_tasks.specs.Rooms.{Room, calls_at, named_room, room_at, room_of}
+use Rattle.cl_tasks.specs.Stages.{IsJob, job_calls, named_facts, past_calls, past_left, target_facts}
 use Rattle.cl_tasks.specs.declared.stage.Entry as entries
 use Rattle.cl_tasks.specs.declared.stage.Job.{Job}
-use Rattle.cl_tasks.specs.Steps.{Finds, LeadsAt, LeadsBy, room_at}
+use Rattle.cl_tasks.specs.Steps.{Finds, LeadsAt, LeadsBy}
 use Rattle.cl_tasks.specs.declared.stage.Next.{Next}
-use Rattle.cl_tasks.proofs.Lead.{leads_by, leads_out}
+use Rattle.cl_tasks.proofs.Lead.{HasPost, job_past, leads_by, leads_out}
 
 -- the loader that a request asks has recorded the class of this row for its name
 abbrev pub RowFor : Request → Rowed → Shown → Type 0
@@ -45,16 +48,24 @@ reached_left (requests.Load loader name) = 1
 reached_left (requests.Resolve loader name i) = checking_left
 reached_left (requests.Link loader name) = prepared_left + 1
 
+-- and how many calls: of what is still to be recorded, and of what follows the load
+abbrev pub reached_calls : Request → Calls
+reached_calls r = while_loading [] [] 0 (own_calls r)
+
+abbrev pub reached_room : Request → Room
+reached_room r = room_of (reached_left r) (reached_calls r)
+
 record_for : (x : Shown) (l : ℕ) (n : List ℕ) (row : Rowed) → IsRecordedAs x l n row → recorded (records_of x) l row.class.name ≡ Some row.class.loader
 record_for x l n row h = subst (λ (k : List ℕ). recorded (records_of x) l k ≡ Some row.class.loader) (sym h.named) h.recorded
 
-reaches_load : (A : Type 0) (told : Option Content) (c : Configured) (q l : ℕ) (n : List ℕ) (row : Arc (ClassRow A) Global) → l < length c.loaders → LeadsBy {A = A} told c q (requests.Load l n) 1 (RowFor (requests.Load l n) row.value) (reached q (requests.Load l n) row row.value.class)
+reaches_load : (A : Type 0) (told : Option Content) (c : Configured) (q l : ℕ) (n : List ℕ) (row : Arc (ClassRow A) Global) → l < length c.loaders → LeadsBy {A = A} told c q (requests.Load l n) (reached_room (requests.Load l n)) (RowFor (requests.Load l n) row.value) (reached q (requests.Load l n) row row.value.class)
 reaches_load A told c q l n row asked = record {
   kept = tt;
   number = refl;
   asks = refl;
   serves = refl;
   left = omega arith;
+  calls = λ g x p served is h. omega arith;
   keeps = λ x h. record { frames = tt; facts = tt };
   backed = λ x config named consistent h. record {
     within = record {
@@ -78,33 +89,35 @@ reaches_load A told c q l n row asked = record {
     row_class x l n row h = ap (λ (k : List ℕ). class k row.class.loader) (sym h.named)
 
 reaches_reference : (A : Type 0) (told : Option Content) (c : Configured) (q l : ℕ) (n : List ℕ) (i : ℕ) (row : Arc (ClassRow A) Global) → l < length c.loaders → row.value.class.name ≡ n
-    → LeadsBy {A = A} told c q (requests.Resolve l n i) checking_left (RowFor (requests.Resolve l n i) row.value) (reached q (requests.Resolve l n i) row row.value.class)
+    → LeadsBy {A = A} told c q (requests.Resolve l n i) (reached_room (requests.Resolve l n i)) (RowFor (requests.Resolve l n i) row.value) (reached q (requests.Resolve l n i) row row.value.class)
 reaches_reference A told c q l n i row asked name = record {
   kept = record { of = ap (λ (k : List ℕ). requests.Resolve l k i) (sym name); asked = asked };
   number = refl;
   asks = refl;
   serves = refl;
   left = omega arith;
+  calls = λ g x p served is h. omega arith;
   keeps = λ x h. record { frames = tt; facts = (record_for x l n row.value h, tt) };
   backed = λ x config named consistent h. tt;
   follows = λ g x served h. tt;
 }
 
 reaches_goal : (A : Type 0) (told : Option Content) (c : Configured) (q l : ℕ) (n : List ℕ) (row : Arc (ClassRow A) Global) → l < length c.loaders → row.value.class.name ≡ n
-    → LeadsBy {A = A} told c q (requests.Link l n) (prepared_left + 1) (RowFor (requests.Link l n) row.value) (reached q (requests.Link l n) row row.value.class)
+    → LeadsBy {A = A} told c q (requests.Link l n) (reached_room (requests.Link l n)) (RowFor (requests.Link l n) row.value) (reached q (requests.Link l n) row row.value.class)
 reaches_goal A told c q l n row asked name = record {
   kept = record { of = ap (λ (k : List ℕ). requests.Link l k) (sym name); asked = asked };
   number = refl;
   asks = refl;
   serves = refl;
   left = omega arith;
+  calls = λ g x p served is h. omega arith;
   keeps = λ x h. record { frames = tt; facts = (record_for x l n row.value h, tt) };
   backed = λ x config named consistent h. tt;
   follows = λ g x served h. tt;
 }
 
 reaches_class : (A : Type 0) (told : Option Content) (c : Configured) (q : ℕ) (r : Request) (row : Arc (ClassRow A) Global) → loader_of r < length c.loaders → row.value.class.name ≡ name_of r
-    → LeadsBy {A = A} told c q r (reached_left r) (RowFor r row.value) (reached q r row row.value.class)
+    → LeadsBy {A = A} told c q r (reached_room r) (RowFor r row.value) (reached q r row row.value.class)
 reaches_class A told c q (requests.Load l n) row asked name = reaches_load A told c q l n row asked
 reaches_class A told c q (requests.Resolve l n i) row asked name = reaches_reference A told c q l n i row asked name
 reaches_class A told c q (requests.Link l n) row asked name = reaches_goal A told c q l n row asked name
@@ -114,11 +127,16 @@ room_for (requests.Load l n) = omega arith
 room_for (requests.Resolve l n i) = omega arith
 room_for (requests.Link l n) = omega arith
 
+post_for : (r : Request) → HasPost (reached_room r)
+post_for (requests.Load l n) = λ w p s. omega arith
+post_for (requests.Resolve l n i) = λ w p s. omega arith
+post_for (requests.Link l n) = λ w p s. omega arith
+
 -- a request goes on with its class, or memory runs out
 pub reaches : (A : Type 0) (told : Option Content) (c : Configured) (q : ℕ) (r : Request) (row : Arc (ClassRow A) Global) (n : Next A) → loader_of r < length c.loaders → row.value.class.name ≡ name_of r → ReachesBy q r row n
-    → LeadsBy told c q r (reached_left r) (RowFor r row.value) n
-reaches A told c q r row n asked name (inl out) = leads_out told c q r (reached_left r) (RowFor r row.value) (RowFor r row.value) out asked (room_for r)
-reaches A told c q r row n asked name (inr is) = subst (λ (m : Next A). LeadsBy told c q r (reached_left r) (RowFor r row.value) m) (sym is) (reaches_class A told c q r row asked name)
+    → LeadsBy told c q r (reached_room r) (RowFor r row.value) n
+reaches A told c q r row n asked name (inl out) = leads_out told c q r (reached_room r) (RowFor r row.value) (RowFor r row.value) out asked (room_for r) (post_for r)
+reaches A told c q r row n asked name (inr is) = subst (λ (m : Next A). LeadsBy told c q r (reached_room r) (RowFor r row.value) m) (sym is) (reaches_class A told c q r row asked name)
 
 own_room : (r : Request) → reached_left r ≤ own_left
 own_room (requests.Load l n) = omega arith
@@ -132,6 +150,21 @@ root_loader p e = ap (λ (fs : List Framed). asking p.loader (map frame_of fs)) 
 
 root_name : (p : Pathed) → p.frames ≡ [] → at_name p ≡ p.name
 root_name p e = ap (sought p.name) e
+
+-- nothing is in hand
+root_frames : (p : Pathed) → p.frames ≡ [] → frames_of p ≡ []
+root_frames p e = ap (λ (fs : List Framed). map frame_of fs) e
+
+own_job_calls : (A : Type 0) (j : Job A) → j.target ≡ targets.Own → j.path.frames ≡ [] → job_calls [] [] 0 j ≡ reached_calls j.request
+own_job_calls A j target root =
+    ap (λ (fs : List Frame). while_loading [] (in_hand j.path.loader fs) (hand_calls j.path.loader fs + 0) (past_calls j.request j.target)) (root_frames j.path root)
+    ∙ ap (λ (t : Target A). while_loading [] [] 0 (past_calls j.request t)) target
+
+same_calls : (one other : Calls) (w : World) (p : plans.Plan) (s : State) → one ≡ other → 0 + calls_in other w p s ≤ calls_in one w p s
+same_calls one other w p s is = subst (λ (n : Calls). 0 + calls_in n w p s ≤ calls_in one w p s) is (same (calls_in one w p s))
+  where
+    same : (n : ℕ) → 0 + n ≤ n
+    same n = omega arith
 
 more_room : (a p k r : ℕ) → r ≤ a → p ≡ a → r ≤ p + k
 more_room a p k r le e = omega arith
@@ -149,10 +182,12 @@ pub reaches_own : (A : Type 0) (told : Option Content) (c : Configured) (j : Job
     → LeadsAt told Initiating j (Finds j row.value) n
 reaches_own A told c j row n job target root name by =
     let own : OwnPath A j = subst (λ (t : Target A). IsFor j.request t j.path) target job.for_request in
-    subst (λ (k : Configured). LeadsBy told k j.q j.request (room_at Initiating j 0) (Finds j row.value) n) (sym job.config)
-    (leads_by (room_at Initiating j 0) (Finds j row.value)
+    let room = room_of (room_at Initiating j 0) (calls_at Initiating j 0) in
+    subst (λ (k : Configured). LeadsBy told k j.q j.request room (Finds j row.value) n) (sym job.config)
+    (leads_by room (Finds j row.value)
     (reaches A told c j.q j.request row n job.asked (name ∙ root_name j.path root ∙ sym own.name) by)
     (more_room own_left (past_left j.target) (left_at Initiating (frames_of j.path) 0) (reached_left j.request) (own_room j.request) (ap (λ (t : Target A). past_left t) target))
+    (λ g x p served is h. same_calls (job_calls [] [] 0 j) (reached_calls j.request) g.world p (state_of x) (own_job_calls A j target root))
     (λ x h. own_found A j row.value x own root h))
 
 -- the entry whose class a path loads
@@ -166,12 +201,21 @@ named_found A j d l i n row x referred target root is h =
     subst (λ (r : Request). AreSo x (named_facts r d.value.class row.class)) is
     (facts.0, (record_for x d.value.class.loader (at_name j.path) row here, tt))
 
+named_within : (A : Type 0) (j : Job A) (d : Arc (ClassRow A) Global) (w : World) (p : plans.Plan) (s : State) → j.target ≡ targets.Reference d → 0 + calls_in reference_calls w p s ≤ calls_in (job_calls [] [] 0 j) w p s
+named_within A j d w p s target =
+    subst (λ (t : Target A). 0 + calls_in (past_calls j.request t) w p s ≤ calls_in (job_calls [] [] 0 j) w p s) target (none (calls_in (past_calls j.request j.target) w p s) (calls_in (job_calls [] [] 0 j) w p s) (job_past [] [] 0 j w p s))
+  where
+    none : (a b : ℕ) → a ≤ b → 0 + a ≤ b
+    none a b h = omega arith
+
 pub reaches_named : (A : Type 0) (told : Option Content) (c : Configured) (j : Job A) (d : Arc (ClassRow A) Global) (l i : ℕ) (n : List ℕ) (row : Rowed) (next : Next A) → IsJob told c j → j.target ≡ targets.Reference d → j.path.frames ≡ [] → j.request ≡ requests.Resolve l n i
-    → LeadsBy told c j.q (requests.Resolve l n i) named_left (NamedTold (entry_for A j d i l n) row) next → LeadsAt told Initiating j (Finds j row) next
+    → LeadsBy told c j.q (requests.Resolve l n i) named_room (NamedTold (entry_for A j d i l n) row) next → LeadsAt told Initiating j (Finds j row) next
 reaches_named A told c j d l i n row next job target root is leads =
     let referred : IsReferred j.request d.value j.path = subst (λ (t : Target A). IsFor j.request t j.path) target job.for_request in
-    subst (λ (k : Configured). LeadsBy told k j.q j.request (room_at Initiating j 0) (Finds j row) next) (sym job.config)
-    (leads_by (room_at Initiating j 0) (Finds j row)
-    (subst (λ (r : Request). LeadsBy told c j.q r named_left (NamedTold (entry_for A j d i l n) row) next) (sym is) leads)
+    let room = room_of (room_at Initiating j 0) (calls_at Initiating j 0) in
+    subst (λ (k : Configured). LeadsBy told k j.q j.request room (Finds j row) next) (sym job.config)
+    (leads_by room (Finds j row)
+    (subst (λ (r : Request). LeadsBy told c j.q r named_room (NamedTold (entry_for A j d i l n) row) next) (sym is) leads)
     (more_room named_left (past_left j.target) (left_at Initiating (frames_of j.path) 0) named_left (omega arith) (ap (λ (t : Target A). past_left t) target))
+    (λ g x p served is h. named_within A j d g.world p (state_of x) target)
     (λ x h. named_found A j d l i n row x referred target root is h))

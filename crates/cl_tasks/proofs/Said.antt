@@ -73,7 +73,7 @@ borne told c r v b holds stood x config h = record {
 
 -- ---- where a content is told
 
-concluded : (g : Setting) (s : State) (q : plans.Request) (o : Option Need) (cs : List Class) (v : Verdict) → Concludes g.world s q o cs v → IfSome o (Refused s) → AnswersPlan g s q v
+pub concluded : (g : Setting) (s : State) (q : plans.Request) (o : Option Need) (cs : List Class) (v : Verdict) → Concludes g.world s q o cs v → IfSome o (Refused s) → AnswersPlan g s q v
 concluded g s q None cs v h refused = answers_here g s q v h
 concluded g s q (Some n) cs v h refused = subst (λ (u : Verdict). AnswersPlan g s q u) (sym h.linkage) (refused_answers g s q n h.next refused)
 

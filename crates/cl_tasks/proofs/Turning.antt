@@ -6,9 +6,9 @@ use Rattle.cl_model.specs.Content.{Content}
 use Rattle.cl_config.specs.Views.{Configured}
 use Rattle.cl_registry.specs.Tables.{Shown}
 use Rattle.cl_tasks.specs.Facts.{Holds}
-use Rattle.cl_tasks.specs.Follows.{BackedWhere, EndsRefused, FollowsWhere, LacksOnly, Refuses, Tells, TellsNow, refusal}
+use Rattle.cl_tasks.specs.Follows.{AreLeft, BackedWhere, CallsWithin, EndsRefused, FollowsWhere, LacksOnly, Refuses, Tells, TellsNow, made_by, refusal}
 use Rattle.cl_tasks.specs.Stages.{IsStage, linking_at, loading_at, resolving_at, task_at}
-use Rattle.cl_tasks.specs.Steps.{LeadsOn, Steps}
+use Rattle.cl_tasks.specs.Steps.{LeadsOn, Steps, task_room}
 use Rattle.cl_tasks.specs.Tasks.{Tasked, begun}
 use Rattle.cl_tasks.specs.Turns.{AnswersOwn, Asks, DerivesUnrecorded, Expects, IsReplyTo, ReadsUnrecorded, Serves}
 use Rattle.cl_tasks.specs.Waits as waits
@@ -26,6 +26,7 @@ use Rattle.cl_tasks.specs.declared.turn.Reply.TheVariants as reply
 use Rattle.cl_tasks.specs.declared.turn.Turn.{Turn}
 use Rattle.cl_tasks.specs.declared.turn.Turn.TheVariants as turn
 use Rattle.cl_tasks.proofs.Deriving.{derives_so}
+use Rattle.cl_tasks.proofs.Left.{stage_left}
 
 -- ---- no reply is one to the end
 
@@ -140,6 +141,8 @@ pub record Turns {A : Type 0} (told : Option Content) (c : Configured) (old : Ta
   pub asks : Asks (task_at c n.stage) n.turn
   pub serves : Serves old (task_at c n.stage) n.turn
   pub left : (task_at c n.stage).left < old.left
+  pub calls : IfSome old.request (λ q. CallsWithin told old.config (λ x. TellsNow x old r) q (made_by old.waits) (task_at c n.stage).calls old.calls)
+  pub more : AreLeft (task_at c n.stage).calls
   pub keeps : (x : Shown) → Tells x old r → Holds x (task_at c n.stage)
   pub backed : BackedWhere old.config (λ x. TellsNow x old r) n.turn
   pub next : IfSome old.request (λ q. FollowsWhere told old.config (λ x. Tells x old r) q n.turn)
@@ -153,8 +156,8 @@ pub record Turns {A : Type 0} (told : Option Content) (c : Configured) (old : Ta
 turns_by : {A : Type 0} (told : Option Content) (c : Configured) (t : Tasked) (r : Reply A) (n : Next A) → t.config ≡ c → HasRequest t → Steps told t r n → Turns told c t r n
 turns_by {A = A} told c t r n config has steps =
     let q = has.0 in
-    let l : LeadsOn {A = A} told t.config t.q q t.left (λ x. Tells {A = A} x t r) (λ x. TellsNow {A = A} x t r) n =
-    subst (λ (o : Option Request). IfSome o (λ q. LeadsOn {A = A} told t.config t.q q t.left (λ x. Tells {A = A} x t r) (λ x. TellsNow {A = A} x t r) n)) has.1 steps.leads in
+    let l : LeadsOn {A = A} told t.config t.q q (task_room t) (λ x. Tells {A = A} x t r) (λ x. TellsNow {A = A} x t r) n =
+    subst (λ (o : Option Request). IfSome o (λ q. LeadsOn {A = A} told t.config t.q q (task_room t) (λ x. Tells {A = A} x t r) (λ x. TellsNow {A = A} x t r) n)) has.1 steps.leads in
     record {
       kept = subst (λ (d : Configured). IsStage told d n.stage) config l.kept;
       number = subst (λ (d : Configured). (task_at d n.stage).q ≡ t.q) config l.number;
@@ -162,6 +165,10 @@ turns_by {A = A} told c t r n config has steps =
       asks = subst (λ (d : Configured). Asks (task_at d n.stage) n.turn) config l.asks;
       serves = subst (λ (d : Configured). Serves t (task_at d n.stage) n.turn) config (serves_so t.config t.q q t (task_at t.config n.stage) n.turn has.1 l.serves);
       left = subst (λ (d : Configured). (task_at d n.stage).left < t.left) config l.left;
+      calls =
+          subst (λ (o : Option Request). IfSome o (λ q. CallsWithin told t.config (λ x. TellsNow {A = A} x t r) q (made_by t.waits) (task_at c n.stage).calls t.calls)) (sym has.1)
+          (subst (λ (d : Configured). CallsWithin told t.config (λ x. TellsNow {A = A} x t r) q (made_by t.waits) (task_at d n.stage).calls t.calls) config l.calls);
+      more = stage_left c n.stage;
       keeps = subst (λ (d : Configured). (x : Shown) → Tells {A = A} x t r → Holds x (task_at d n.stage)) config l.keeps;
       backed = l.backed;
       next = subst (λ (o : Option Request). IfSome o (λ q. FollowsWhere {A = A} told t.config (λ x. Tells {A = A} x t r) q n.turn)) (sym has.1) l.follows;

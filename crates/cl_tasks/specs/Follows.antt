@@ -1,5 +1,5 @@
 -- What a turn rests on: the tables, as far as the task was told of them, the plan of its request, and the faults told (JVMS SE 8, 5.3 to 5.4.3).
-use Rattle.std.specs.Prelude.{◌≡◌, ◌⊎◌, ℕ, true, List, Option, Some, None, IfSome, Contains}
+use Rattle.std.specs.Prelude.{◌≡◌, ◌≤◌, ◌⊎◌, ◌+◌, ℕ, true, List, Option, Some, None, IfSome, Contains}
 use Rattle.cl_model.specs.declared.class.Class.{Class}
 use Rattle.cl_model.specs.declared.answer.Answer.{Answer}
 use Rattle.cl_model.specs.declared.need.Need as needs
@@ -11,7 +11,9 @@ use Rattle.cl_model.specs.declared.request.Request.TheVariants as requests
 use Rattle.cl_model.specs.declared.settled.Settled.{Settled}
 use Rattle.cl_model.specs.Content.{Content}
 use Rattle.cl_model.specs.States.{State, Need, Entry, recorded, settled_to, IsRecorded, Met, MayAdd, Refused}
-use Rattle.cl_model.specs.Machine.{Setting, Settle, Prepare, IsSound, step_for}
+use Rattle.cl_model.specs.Homes.{World}
+use Rattle.cl_model.specs.Machine.{Setting, Settle, Prepare, IsPlan, IsSound, step_for}
+use Rattle.cl_model.specs.Plans.{Plan, cost}
 use Rattle.cl_model.specs.Service.{ComesTo, IsNextNeed, IsNextStep}
 use Rattle.cl_model.specs.Tables.{IsConsistent, Records}
 use Rattle.cl_model.specs.Views.{need_of, request_of, verdict_of}
@@ -28,9 +30,10 @@ use Rattle.cl_registry.specs.Traced.{IsTraced}
 use Rattle.cl_registry.specs.References.{IsSettledIn}
 use Rattle.cl_registry.specs.Settling.{MaySettle}
 use Rattle.cl_registry.specs.Posting.{IsBacked}
+use Rattle.cl_tasks.specs.Calls.{Calls, calls_in}
 use Rattle.cl_tasks.specs.Tasks.{Tasked}
 use Rattle.cl_tasks.specs.Facts.{Holds, IsRecordedAs}
-use Rattle.cl_tasks.specs.Waits.{Waits, Looking, Reading, Defining, Initiating, Tracing, LookingReference, Settling, Imposing, LookingPrepared, Marking}
+use Rattle.cl_tasks.specs.Waits.{Waits, Beginning, Looking, Reading, Defining, Initiating, Tracing, LookingReference, Settling, Imposing, LookingPrepared, Marking}
 use Rattle.cl_tasks.specs.declared.turn.Reply.{Reply}
 use Rattle.cl_tasks.specs.declared.turn.Reply.TheVariants as reply
 use Rattle.cl_tasks.specs.declared.turn.Turn.{Turn}
@@ -140,6 +143,29 @@ pub record ServedIn (told : Option Content) (c : Configured) (g : Setting) (s : 
 -- a turn follows the plan wherever the request is served and this holds (5.3 to 5.4.3)
 abbrev pub FollowsWhere : {A : Type 0} → Option Content → Configured → (Shown → Type 0) → Request → Turn A → Type 0
 FollowsWhere told c holds r t = (g : Setting) (x : Shown) → ServedIn told c g (state_of x) → holds x → Follows g (state_of x) r t
+
+-- ---- calls
+
+-- the call that is waited for is one of the tables; the beginning is none, nor is a read
+abbrev pub made_by : Waits → ℕ
+made_by Beginning = 0
+made_by (Reading l n) = 0
+made_by waits = 1
+
+-- where the request is served, and this is its plan, so many calls are left at most, beside those made (5.3 to 5.4.3)
+abbrev pub CallsWithin : Option Content → Configured → (Shown → Type 0) → Request → ℕ → Calls → Calls → Type 0
+CallsWithin told c holds r made left room =
+    (g : Setting) (x : Shown) (p : Plan) → ServedIn told c g (state_of x) → IsPlan g.world (request_of r) p → holds x
+    → made + calls_in left g.world p (state_of x) ≤ calls_in room g.world p (state_of x)
+
+-- no more calls are left than a request costs (5.3 to 5.4.3)
+abbrev pub IsWithinCost : Calls → Type 0
+IsWithinCost n = (w : World) (p : Plan) (s : State) → calls_in n w p s ≤ cost w p
+
+-- the post is always left, and no more calls are where more is recorded
+pub record AreLeft (n : Calls) : Type 0 where
+  pub post : (w : World) (p : Plan) (s : State) → 1 ≤ calls_in n w p s
+  pub fewer : (w : World) (p : Plan) (s t : State) → ((l : ℕ) (name : List ℕ) → recorded t.records l name ≡ None → recorded s.records l name ≡ None) → calls_in n w p t ≤ calls_in n w p s
 
 -- ---- faults
 

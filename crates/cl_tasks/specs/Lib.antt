@@ -1,11 +1,13 @@
 pub mod Measures
 pub mod Waits
+pub mod Calls
 pub mod Tasks
 pub mod Facts
 pub mod Turns
 pub mod Follows
 pub mod Stages
 pub mod Deriving
+pub mod Rooms
 pub mod Steps
 pub mod Ends
 pub mod Reaching

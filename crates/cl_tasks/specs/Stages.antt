@@ -1,5 +1,5 @@
 -- What a task is at, as contracts see it, and what it keeps (JVMS SE 8, 5.3 to 5.4.3).
-use Rattle.std.specs.Prelude.{◌≡◌, ◌≢◌, ◌<◌, ◌+◌, ◌-◌, ◌++◌, ◌∷◌, ℕ, false, List, [], length, map, take, Option, Some, None, slice_get, option_map, unwrap_or}
+use Rattle.std.specs.Prelude.{◌≡◌, ◌≢◌, ◌<◌, ◌+◌, ◌-◌, ◌++◌, ◌∷◌, ℕ, false, List, [], length, map, take, drop, Option, Some, None, slice_get, option_map, unwrap_or}
 use Rattle.cl_classfile.specs.Files.{file_of, reference}
 use Rattle.cl_model.specs.declared.class.Class.{Class}
 use Rattle.cl_model.specs.declared.answer.Answer.TheVariants as answers
@@ -10,12 +10,14 @@ use Rattle.cl_model.specs.declared.request.Request.TheVariants as requests
 use Rattle.cl_model.specs.Content.{Content}
 use Rattle.cl_model.specs.Classes.{class}
 use Rattle.cl_model.specs.Frames.{class_named}
+use Rattle.cl_model.specs.Lineages.{lineage}
 use Rattle.cl_model.specs.States.{Need, Entry}
+use Rattle.cl_model.specs.Works.{Ask}
 use Rattle.cl_config.specs.Views.{Configured}
 use Rattle.cl_delegation.specs.Searches.{Searched, Located, next_of, route_of}
 use Rattle.cl_hierarchy.specs.Frames.{frame_of}
 use Rattle.cl_hierarchy.specs.Imposed.{Listed, Sprung, OfPreparation, OfReference, needs_of}
-use Rattle.cl_hierarchy.specs.Lineages.{Lined, rows_in}
+use Rattle.cl_hierarchy.specs.Lineages.{Lined, kin_of, rows_in}
 use Rattle.cl_hierarchy.specs.Paths.{Pathed, at_loader, at_name, frames_of, is_on}
 use Rattle.cl_hierarchy.specs.Rows.{Rowed}
 use Rattle.cl_findings.specs.declared.load.Target.{Target}
@@ -24,6 +26,7 @@ use Rattle.cl_findings.specs.Findings.{Based, Rests, loader_of, name_of}
 use Rattle.cl_findings.specs.Bases.{IsSpeltIn}
 use Rattle.cl_findings.specs.Loads.{IsFor, IsSought, IsWhole, Resolves}
 use Rattle.cl_findings.specs.References.{AreLinked, GoesTo, class_need, reference_needs}
+use Rattle.cl_tasks.specs.Calls.{Calls, ask_for, ask_of, away_calls, hand_calls, in_hand, link_calls, own_calls, past_loads, reference_calls, while_loading}
 use Rattle.cl_tasks.specs.Measures.{Phase, Fresh, Looking, Reading, Homing, Defining, Initiating, left_at, named_left, own_left, checking_left, reference_left, tracing_own_left, tracing_named_left, imposing_left, settling_left, prepared_left, whole_left, chain_left, linking_left}
 use Rattle.cl_tasks.specs.Tasks.{Tasked, Fact, Stands, StandsRefused, HasLineage, IsPrepared}
 use Rattle.cl_tasks.specs.Waits.{Waits}
@@ -63,9 +66,24 @@ past_left (targets.Reference d) = named_left
 abbrev pub probes_left : Searched → ℕ
 probes_left s = length (route_of s) - length s.absent
 
+-- how many calls are left past the load (5.4, 5.4.3)
+abbrev pub past_calls : {A : Type 0} → Request → Target A → Calls
+past_calls r targets.Own = own_calls r
+past_calls r (targets.Reference d) = reference_calls
+
+-- what is looked for where it is asked for (5.3.2)
+abbrev pub sought_ask : Pathed → Ask
+sought_ask p = ask_of (at_name p) (at_loader p)
+
+-- the calls that are left of a job: of what is still to be recorded, of what it has in hand, these beside it, so many more, and of what
+-- follows its load (5.3 to 5.4.3)
+abbrev pub job_calls : {A : Type 0} → List Ask → List Ask → ℕ → Job A → Calls
+job_calls absent beside more j =
+    while_loading absent (beside ++ in_hand j.path.loader (frames_of j.path)) (hand_calls j.path.loader (frames_of j.path) + more) (past_calls j.request j.target)
+
 -- a task that loads a class
-abbrev pub at_work : {A : Type 0} → Configured → Waits → Phase → ℕ → Job A → Tasked
-at_work c w phase probes j = record {
+abbrev pub at_work : {A : Type 0} → Configured → Waits → Phase → ℕ → Calls → Job A → Tasked
+at_work c w phase probes calls j = record {
   config = c;
   q = j.q;
   request = Some j.request;
@@ -74,6 +92,7 @@ at_work c w phase probes j = record {
   absent = None;
   facts = target_facts j.request j.target;
   left = past_left j.target + left_at phase (frames_of j.path) probes;
+  calls = calls;
 }
 
 -- the record of a class by its home (5.3)
@@ -86,18 +105,21 @@ sought_class p = class (at_name p) (at_loader p)
 
 -- what contracts see of a load; a class that is being recorded is the last of those that are derived
 abbrev pub loading_at : {A : Type 0} → Configured → Load A → Tasked
-loading_at c (loads.Fresh j) = at_work c waits.Beginning Fresh 0 j
-loading_at c (loads.Looking j) = at_work c (waits.Looking (at_loader j.path) (at_name j.path)) Looking 0 j
-loading_at c (loads.Searching j s) = record (at_work c (waits.Reading (next_place s) (at_name j.path)) Reading (probes_left s) j) { absent = Some (sought_class j.path) }
-loading_at c (loads.Homing j h) = at_work c (waits.Looking h.place (at_name j.path)) Homing 0 j
-loading_at c (loads.Defining j x) = record (at_work c (waits.Defining x.draft) Defining 0 j) { frames = frames_of j.path ++ frame_of x ∷ [] }
-loading_at c (loads.Initiating j h) = record (at_work c (waits.Initiating h.value) Initiating 0 j) { facts = Stands (home_need h.value) ∷ target_facts j.request j.target }
+loading_at c (loads.Fresh j) = at_work c waits.Beginning Fresh 0 (job_calls [] [] 1 j) j
+loading_at c (loads.Looking j) = at_work c (waits.Looking (at_loader j.path) (at_name j.path)) Looking 0 (job_calls [] [] 1 j) j
+loading_at c (loads.Searching j s) =
+    record (at_work c (waits.Reading (next_place s) (at_name j.path)) Reading (probes_left s) (job_calls (sought_ask j.path ∷ []) [] 0 j) j) { absent = Some (sought_class j.path) }
+loading_at c (loads.Homing j h) = at_work c (waits.Looking h.place (at_name j.path)) Homing 0 (job_calls [] (sought_ask j.path ∷ []) 2 j) j
+loading_at c (loads.Defining j x) =
+    record (at_work c (waits.Defining x.draft) Defining 0 (job_calls [] (sought_ask j.path ∷ ask_for x.draft.class ∷ []) (1 + away_calls (at_loader j.path) x.draft.class.loader) j) j) { frames = frames_of j.path ++ frame_of x ∷ [] }
+loading_at c (loads.Initiating j h) =
+    record (at_work c (waits.Initiating h.value) Initiating 0 (job_calls [] (sought_ask j.path ∷ []) 1 j) j) { facts = Stands (home_need h.value) ∷ target_facts j.request j.target }
 
 -- ---- resolutions
 
 -- a task whose request's class is recorded, or cannot be
-abbrev pub settled_down : Configured → ℕ → Request → Waits → List Fact → ℕ → Tasked
-settled_down c q r w facts left = record { config = c; q = q; request = Some r; waits = w; frames = []; absent = None; facts = facts; left = left }
+abbrev pub settled_down : Configured → ℕ → Request → Waits → List Fact → ℕ → Calls → Tasked
+settled_down c q r w facts left calls = record { config = c; q = q; request = Some r; waits = w; frames = []; absent = None; facts = facts; left = left; calls = calls }
 
 -- the need that is refused, if one is (5.3.4)
 abbrev pub refused_facts : Option Need → List Fact
@@ -129,15 +151,15 @@ member_facts m =
 -- what contracts see of a resolution
 abbrev pub resolving_at : {A : Type 0} → Configured → Resolution A → Tasked
 resolving_at c (resolutions.Checking f) =
-    settled_down c f.q f.request (waits.Looking (loader_of f.request) (name_of f.request)) (basis_facts f.finding.basis) checking_left
-resolving_at c (resolutions.LookingReference e) = settled_down c e.q e.request (waits.LookingReference e.d.value.class e.index) (entry_facts e) reference_left
+    settled_down c f.q f.request (waits.Looking (loader_of f.request) (name_of f.request)) (basis_facts f.finding.basis) checking_left (past_loads 0 0 2)
+resolving_at c (resolutions.LookingReference e) = settled_down c e.q e.request (waits.LookingReference e.d.value.class e.index) (entry_facts e) reference_left (while_loading [] [] 2 reference_calls)
 resolving_at c (resolutions.TracingOwn e k) =
-    settled_down c e.q e.request (waits.Tracing e.d.value.class) (named_facts e.request e.d.value.class k.value.class) tracing_own_left
+    settled_down c e.q e.request (waits.Tracing e.d.value.class) (named_facts e.request e.d.value.class k.value.class) tracing_own_left reference_calls
 resolving_at c (resolutions.TracingNamed e l k) =
-    settled_down c e.q e.request (waits.Tracing k.value.class) (named_facts e.request e.d.value.class k.value.class ++ HasLineage l.value ∷ []) tracing_named_left
+    settled_down c e.q e.request (waits.Tracing k.value.class) (named_facts e.request e.d.value.class k.value.class ++ HasLineage l.value ∷ []) tracing_named_left (past_loads 0 1 3)
 resolving_at c (resolutions.Imposing m k) =
-    settled_down c m.entry.q m.entry.request (waits.Imposing m.equalities.value k) (member_facts m ++ imposed_facts m.equalities.value k) (imposing_left (length m.equalities.value.needs - k))
-resolving_at c (resolutions.Settling e) = settled_down c e.q e.request (waits.Settling e.request) (entry_facts e) settling_left
+    settled_down c m.entry.q m.entry.request (waits.Imposing m.equalities.value k) (member_facts m ++ imposed_facts m.equalities.value k) (imposing_left (length m.equalities.value.needs - k)) (past_loads 0 0 ((length m.equalities.value.needs - k) + 2))
+resolving_at c (resolutions.Settling e) = settled_down c e.q e.request (waits.Settling e.request) (entry_facts e) settling_left (past_loads 0 0 2)
 
 -- ---- links
 
@@ -170,21 +192,31 @@ sprung_facts (OfPreparation l) = HasLineage l ∷ []
 abbrev pub traced_facts : Listed → List Fact
 traced_facts e = sprung_facts e.origin
 
+-- the calls that are left of a link from a place in its lineage on (5.4.2)
+abbrev pub chain_calls : Lined → ℕ → ℕ
+chain_calls l place = link_calls (drop place (lineage (kin_of l)))
+
+-- and of the rest of a list, its class's preparation, the classes behind it, and the post (5.4.2)
+abbrev pub list_calls : Lined → ℕ → ℕ → ℕ
+list_calls l place equalities = chain_calls l (place + 1) + (equalities + 2)
+
 -- what contracts see of a link
 abbrev pub linking_at : {A : Type 0} → Configured → Link A → Tasked
-linking_at c (links.LookingPrepared g) = settled_down c g.q g.request (waits.LookingPrepared g.class.value.class) (goal_facts g) prepared_left
-linking_at c (links.TracingWhole g) = settled_down c g.q g.request (waits.Tracing g.class.value.class) (goal_facts g) whole_left
-linking_at c (links.Tracing k) = settled_down c k.goal.q k.goal.request (waits.Tracing (class_in k.whole.value k.place)) (chain_facts k) (chain_left (behind k))
+linking_at c (links.LookingPrepared g) = settled_down c g.q g.request (waits.LookingPrepared g.class.value.class) (goal_facts g) prepared_left (past_loads 2 1 3)
+linking_at c (links.TracingWhole g) = settled_down c g.q g.request (waits.Tracing g.class.value.class) (goal_facts g) whole_left (past_loads 2 1 2)
+linking_at c (links.Tracing k) = settled_down c k.goal.q k.goal.request (waits.Tracing (class_in k.whole.value k.place)) (chain_facts k) (chain_left (behind k)) (past_loads 0 0 (chain_calls k.whole.value k.place + 1))
 linking_at c (links.Imposing k e i) =
     settled_down c k.goal.q k.goal.request (waits.Imposing e.value i) (chain_facts k ++ (traced_facts e.value ++ imposed_facts e.value i)) (linking_left (behind k - 1) (length e.value.needs - i))
+    (past_loads 0 0 (list_calls k.whole.value k.place (length e.value.needs - i)))
 linking_at c (links.Marking k e) =
     settled_down c k.goal.q k.goal.request (waits.Marking e.value) (chain_facts k ++ (traced_facts e.value ++ imposed_facts e.value (length e.value.needs))) (linking_left (behind k - 1) 0)
+    (past_loads 0 0 (list_calls k.whole.value k.place 0))
 
 -- ---- all
 
 -- a task whose request has its answer
 abbrev pub done_at : Configured → ℕ → Tasked
-done_at c q = record { config = c; q = q; request = None; waits = waits.Ended; frames = []; absent = None; facts = []; left = 0 }
+done_at c q = record { config = c; q = q; request = None; waits = waits.Ended; frames = []; absent = None; facts = []; left = 0; calls = past_loads 0 0 1 }
 
 -- what contracts see of each stage
 abbrev pub task_at : {A : Type 0} → Configured → Stage A → Tasked

@@ -16,10 +16,11 @@ use Rattle.cl_findings.specs.declared.load.Obstacle.{Obstacle}
 use Rattle.cl_findings.specs.declared.load.Obstacle.TheVariants as obstacles
 use Rattle.cl_registry.specs.Tables.{Shown}
 use Rattle.cl_tasks.specs.Facts.{AllHave, AreSo, Holds, IsRecordedAs}
-use Rattle.cl_tasks.specs.Follows.{BackedWhere, EndsRefused, FollowsWhere, LacksOnly, NoFault, Refuses, Tells, TellsNow, refusal}
+use Rattle.cl_tasks.specs.Follows.{BackedWhere, CallsWithin, EndsRefused, FollowsWhere, LacksOnly, NoFault, Refuses, Tells, TellsNow, made_by, refusal}
 use Rattle.cl_tasks.specs.Deriving.{Derives}
-use Rattle.cl_tasks.specs.Measures.{Phase, Reading, left_at}
-use Rattle.cl_tasks.specs.Stages.{IsStage, past_left, probes_left, sought_class, target_facts, task_at}
+use Rattle.cl_tasks.specs.Measures.{Phase, Homing, Reading}
+use Rattle.cl_tasks.specs.Rooms.{Room, calls_at, calls_found, room_at, room_of}
+use Rattle.cl_tasks.specs.Stages.{IsStage, probes_left, sought_class, target_facts, task_at}
 use Rattle.cl_tasks.specs.Tasks.{Tasked, begun}
 use Rattle.cl_tasks.specs.Turns.{AnswersOwn, Asks, ReadsUnrecorded, Serves, WasAbsent, way_of}
 use Rattle.cl_tasks.specs.declared.stage.Job.{Job}
@@ -31,40 +32,50 @@ use Rattle.cl_tasks.specs.declared.turn.Reply.{Reply}
 use Rattle.cl_tasks.specs.declared.turn.Turn.{Turn}
 use Rattle.cl_tasks.specs.declared.turn.Turn.TheVariants as turn
 
--- where this holds, and now this, the request of this number goes on with this turn and stage, and fewer turns are left than so many (5.3 to 5.4.3)
-pub record LeadsOn {A : Type 0} (told : Option Content) (c : Configured) (q : ℕ) (r : Request) (room : ℕ) (holds now : Shown → Type 0) (n : Next A) : Type 0 where
+-- where this holds, and now this, the request of this number goes on with this turn and stage, and fewer turns are left than there is room for, and
+-- no more calls (5.3 to 5.4.3)
+pub record LeadsOn {A : Type 0} (told : Option Content) (c : Configured) (q : ℕ) (r : Request) (room : Room) (holds now : Shown → Type 0) (n : Next A) : Type 0 where
   pub kept : IsStage told c n.stage
   pub number : (task_at c n.stage).q ≡ q
   pub asks : Asks (task_at c n.stage) n.turn
   pub serves : Serves (begun c q r) (task_at c n.stage) n.turn
-  pub left : (task_at c n.stage).left < room
+  pub left : (task_at c n.stage).left < room.turns
+  pub calls : CallsWithin told c now r room.made (task_at c n.stage).calls room.calls
   pub keeps : (x : Shown) → holds x → Holds x (task_at c n.stage)
   pub backed : BackedWhere c now n.turn
   pub follows : FollowsWhere told c holds r n.turn
 
 -- the same where what holds now is no more (5.3 to 5.4.3)
-abbrev pub LeadsBy : {A : Type 0} → Option Content → Configured → ℕ → Request → ℕ → (Shown → Type 0) → Next A → Type 0
+abbrev pub LeadsBy : {A : Type 0} → Option Content → Configured → ℕ → Request → Room → (Shown → Type 0) → Next A → Type 0
 LeadsBy told c q r room holds n = LeadsOn told c q r room holds holds n
 
 -- the same of a job (5.3.5)
-abbrev pub Leads : {A : Type 0} → Option Content → Job A → ℕ → (Shown → Type 0) → Next A → Type 0
+abbrev pub Leads : {A : Type 0} → Option Content → Job A → Room → (Shown → Type 0) → Next A → Type 0
 Leads told j room holds n = LeadsBy told j.path.config j.q j.request room holds n
-
--- how many turns a job has left (5.3.5)
-abbrev pub room_at : {A : Type 0} → Phase → Job A → ℕ → ℕ
-room_at phase j probes = past_left j.target + left_at phase (frames_of j.path) probes
 
 -- a job that is in this phase leads on (5.3.5)
 abbrev pub LeadsAt : {A : Type 0} → Option Content → Phase → Job A → (Shown → Type 0) → Next A → Type 0
-LeadsAt told phase j holds n = Leads told j (room_at phase j 0) holds n
+LeadsAt told phase j holds n = Leads told j (room_of (room_at phase j 0) (calls_at phase j 0)) holds n
+
+-- the same where this is the home of what is looked for (5.3.2, 5.3.5)
+abbrev pub LeadsFrom : {A : Type 0} → Option Content → Phase → Job A → ℕ → (Shown → Type 0) → Next A → Type 0
+LeadsFrom told phase j place holds n = Leads told j (room_of (room_at phase j 0) (calls_at phase j place)) holds n
+
+-- the same of what a look at its home found (5.3, 5.3.2)
+abbrev pub LeadsHome : {A B : Type 0} → Option Content → Job A → ℕ → Option B → (Shown → Type 0) → Next A → Type 0
+LeadsHome told j place found holds n = Leads told j (room_of (room_at Homing j 0) (calls_found j place found)) holds n
 
 -- a job that has so many probes left leads on (5.3.2, 5.3.5)
 abbrev pub ReadsOn : {A : Type 0} → Option Content → ℕ → Job A → (Shown → Type 0) → Next A → Type 0
-ReadsOn told probes j holds n = Leads told j (room_at Reading j probes) holds n
+ReadsOn told probes j holds n = Leads told j (room_of (room_at Reading j probes) (calls_at Reading j 0)) holds n
+
+-- the room of a task
+abbrev pub task_room : Tasked → Room
+task_room t = record { turns = t.left; made = made_by t.waits; calls = t.calls }
 
 -- the same of a task that is told this (5.3 to 5.4.3)
 abbrev pub StepsOn : {A : Type 0} → Option Content → Tasked → Reply A → Next A → Type 0
-StepsOn told t reply n = IfSome t.request (λ r. LeadsOn told t.config t.q r t.left (λ x. Tells x t reply) (λ x. TellsNow x t reply) n)
+StepsOn told t reply n = IfSome t.request (λ r. LeadsOn told t.config t.q r (task_room t) (λ x. Tells x t reply) (λ x. TellsNow x t reply) n)
 
 -- what a job was told holds (5.3, 5.3.5, 5.4.3)
 pub record HoldsOn {A : Type 0} (j : Job A) (x : Shown) : Type 0 where

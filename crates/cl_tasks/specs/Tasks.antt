@@ -6,6 +6,7 @@ use Rattle.cl_model.specs.Frames.{Frame}
 use Rattle.cl_model.specs.States.{Need}
 use Rattle.cl_config.specs.Views.{Configured}
 use Rattle.cl_hierarchy.specs.Lineages.{Lined}
+use Rattle.cl_tasks.specs.Calls.{Calls, all_calls}
 use Rattle.cl_tasks.specs.Measures.{all_left}
 use Rattle.cl_tasks.specs.Waits.{Waits, Beginning}
 
@@ -17,8 +18,8 @@ pub data Fact : Type 0 where
   IsPrepared : (class : Class) → Fact
 
 -- under which configuration and for which request of the script a task is, until that has its answer; what it waits for; the classes that it derives, with what each
--- has accepted; while it reads for a class, that one, of which it was told that its loader has no record; what else it was told of the tables; and how many
--- turns it has left at most (5.3 to 5.4.3)
+-- has accepted; while it reads for a class, that one, of which it was told that its loader has no record; what else it was told of the tables; how many
+-- turns it has left at most, and how many calls of the tables, its post among them (5.3 to 5.4.3)
 pub record Tasked : Type 0 where
   pub config : Configured
   pub q : ℕ
@@ -28,7 +29,8 @@ pub record Tasked : Type 0 where
   pub absent : Option Class
   pub facts : List Fact
   pub left : ℕ
+  pub calls : Calls
 
 -- a task that was told nothing yet
 abbrev pub begun : Configured → ℕ → Request → Tasked
-begun c q r = record { config = c; q = q; request = Some r; waits = Beginning; frames = []; absent = None; facts = []; left = all_left }
+begun c q r = record { config = c; q = q; request = Some r; waits = Beginning; frames = []; absent = None; facts = []; left = all_left; calls = all_calls r }

@@ -11,7 +11,7 @@ ghost use Rattle.cl_tasks.specs.Deriving.{Derives, IsAtHome, IsNone, IsPast};
 ghost use Rattle.cl_tasks.specs.Ends.{IsOwnTarget};
 ghost use Rattle.cl_tasks.specs.Measures.{Fresh, Homing, Defining, Initiating, most};
 ghost use Rattle.cl_tasks.specs.Stages.{IsJob};
-ghost use Rattle.cl_tasks.specs.Steps.{DefinesBy, Finds, FindsBy, HoldsOn, IsMisfit, IsPlain, LeadsAt, LooksBy};
+ghost use Rattle.cl_tasks.specs.Steps.{DefinesBy, Finds, FindsBy, HoldsOn, IsMisfit, IsPlain, LeadsAt, LeadsFrom, LooksBy};
 ghost use Rattle.cl_tasks.specs.Turns.{GoesOnWith};
 
 use crate::ends::obstacle;
@@ -52,7 +52,7 @@ pub(crate) fn derive<T: Told>(alloc: Global, job: Job<T>, home: Home<T>) -> Next
     requires job { IsJob T.told job.path.config job }
     requires home { IsSought job.path home }
     requires off { is_on job.path (class home.name home.place) ≡ false }
-    ensures leads { LeadsAt T.told Homing job (HoldsOn job) result }
+    ensures leads { LeadsFrom T.told Homing job home.place (HoldsOn job) result }
     ensures plain { IsPlain result.turn }
     ensures derives { Derives (IsAtHome home) (frames_of job.path) result.stage }
 {
@@ -72,7 +72,7 @@ fn follow_draft<T: Told>(alloc: Global, job: Job<T>, draft: Draft<T>) -> Next<T>
     requires job { IsJob T.told job.path.config job }
     requires home { IsSought job.path draft.home }
     requires off { is_on job.path draft.class ≡ false }
-    ensures leads { LeadsAt T.told Homing job (HoldsOn job) result }
+    ensures leads { LeadsFrom T.told Homing job draft.home.place (HoldsOn job) result }
     ensures plain { IsPlain result.turn }
     ensures derives { Derives (λ c. c ≡ draft.class) (frames_of job.path) result.stage }
 {
@@ -93,7 +93,7 @@ fn descend<T: Told>(alloc: Global, job: Job<T>, draft: Draft<T>) -> Next<T>
     requires off { is_on job.path draft.class ≡ false }
     requires waits { IsSome (wanted (frame_of (fresh draft))) }
     requires few { length (supers (file_of draft.file)) ≤ most }
-    ensures leads { LeadsAt T.told Homing job (HoldsOn job) result }
+    ensures leads { LeadsFrom T.told Homing job draft.home.place (HoldsOn job) result }
     ensures plain { IsPlain result.turn }
     ensures derives { Derives (λ c. c ≡ draft.class) (frames_of job.path) result.stage }
 {
@@ -145,7 +145,8 @@ pub(crate) fn take_defined<T: Told>(
 ) -> Next<T>
     requires job { IsJob T.told config.now.value job }
     requires whole { IsWhole T.told job.path whole }
-    ensures leads { LeadsAt T.told Defining job (FindsBy job whole.draft.home row.value) result }
+    ensures leads { LeadsFrom T.told Defining job whole.draft.home.place
+        (FindsBy job whole.draft.home row.value) result }
     ensures plain { IsPlain result.turn }
     ensures derives { Derives IsNone (frames_of job.path) result.stage }
 {
@@ -165,7 +166,8 @@ pub(crate) fn initiate<T: Told>(job: Job<T>, home: Arc<Home<T>>, row: &ClassRow<
     requires job { IsJob T.told job.path.config job }
     requires home { IsSought job.path home.value }
     requires other { home.value.place ≢ at_loader job.path }
-    ensures leads { LeadsAt T.told Defining job (FindsBy job home.value row.now) result }
+    ensures leads { LeadsFrom T.told Defining job home.value.place
+        (FindsBy job home.value row.now) result }
     ensures plain { IsPlain result.turn }
     ensures derives { Derives IsNone (frames_of job.path) result.stage }
 {

@@ -9,7 +9,8 @@ ghost use Rattle.cl_model.specs.declared.answer.Answer.TheVariants as answers;
 ghost use Rattle.cl_tasks.specs.Deriving.{IsPast};
 ghost use Rattle.cl_tasks.specs.Follows.{EndsAsRefused, IsResolution, Posts, fault_answer};
 ghost use Rattle.cl_tasks.specs.Ends.{ConcludesBy, EndRests, IsAftermath, NextRests, NextWithin, RefusedOn};
-ghost use Rattle.cl_tasks.specs.Stages.{IsJob, IsSearch, loading_at, past_left};
+ghost use Rattle.cl_tasks.specs.Rooms.{last_room, past_room};
+ghost use Rattle.cl_tasks.specs.Stages.{IsJob, IsSearch, loading_at};
 ghost use Rattle.cl_tasks.specs.Steps.{EndWithin, EndsOn, IsPlain, Leads};
 
 use crate::leads::{out_of_memory, post, settle};
@@ -129,7 +130,7 @@ pub(crate) fn obstacle<T: Told>(alloc: Global, job: Job<T>, end: Obstacle<T>) ->
     requires job { IsJob T.told job.path.config job }
     requires stops { Stops job.path end }
     requires within { EndWithin (length job.path.config.loaders) end }
-    ensures leads { Leads T.told job (past_left job.target) (EndsOn job end) result }
+    ensures leads { Leads T.told job (past_room job) (EndsOn job end) result }
     ensures plain { IsPlain result.turn }
     ensures past { IsPast result.stage }
 {
@@ -159,7 +160,7 @@ pub(crate) fn refuse<T: Told>(
     requires job { IsJob T.told job.path.config job }
     requires next { ComesNext T.told job.path next }
     requires need { need_of need ≡ next_need next }
-    ensures leads { Leads T.told job (past_left job.target) (RefusedOn job next) result }
+    ensures leads { Leads T.told job (past_room job) (RefusedOn job next) result }
     ensures plain { IsPlain result.turn }
     ensures past { IsPast result.stage }
     ensures lacks { Posts answers.Memory result.turn → IsResolution job.request }
@@ -187,7 +188,7 @@ pub(crate) fn refuse<T: Told>(
 pub(crate) fn blame_source<T: Told>(job: Job<T>, search: Search<T>, fault: SourceFault) -> Next<T>
     requires job { IsJob T.told job.path.config job }
     requires search { IsSearch job search }
-    ensures leads { Leads T.told job 1 (λ x. Unit {0}) result }
+    ensures leads { Leads T.told job last_room (λ x. Unit {0}) result }
     ensures posts { Posts (fault_answer (loading_at job.path.config
         (Load.Searching job search)).waits fault) result.turn }
     ensures past { IsPast result.stage }

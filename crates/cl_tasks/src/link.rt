@@ -2,7 +2,7 @@
 //! then that it is prepared (JVMS SE 8, 5.4, 5.4.2).
 
 ghost use Rattle.std.specs.Option.{option_map};
-ghost use Rattle.std.specs.Prelude.{◌≡◌, ◌<◌, ◌≤◌, ◌+◌, ◌-◌, Some, IfOk, length, slice_get, take, true};
+ghost use Rattle.std.specs.Prelude.{◌≡◌, ◌<◌, ◌≤◌, Some, IfOk, length, slice_get, take, true};
 ghost use Rattle.cl_findings.specs.Bases.{AreLineages};
 ghost use Rattle.cl_hierarchy.specs.Imposed.{AreOf, OfPreparation, needs_of};
 ghost use Rattle.cl_hierarchy.specs.Lineages.{rows_in};
@@ -13,8 +13,8 @@ ghost use Rattle.cl_model.specs.declared.verdict.Verdict.TheVariants as verdicts
 ghost use Rattle.cl_tasks.specs.Deriving.{IsPast};
 ghost use Rattle.cl_tasks.specs.Follows.{EndsAsRefused, Posts};
 ghost use Rattle.cl_tasks.specs.Linking.{ChainTold, DoneTold, LineageTold, ListTold, MarkedTold, PreparedTold, RefusedTold, WholeTold};
-ghost use Rattle.cl_tasks.specs.Measures.{chain_left, linking_left, prepared_left, whole_left};
-ghost use Rattle.cl_tasks.specs.Stages.{IsAtPlace, IsChain, IsGoal, IsOf, behind, class_in, classes_in};
+ghost use Rattle.cl_tasks.specs.Rooms.{chain_room, last_room, linking_room, listed_room, marked_room, prepared_room, whole_room};
+ghost use Rattle.cl_tasks.specs.Stages.{IsAtPlace, IsChain, IsGoal, IsOf, class_in};
 ghost use Rattle.cl_tasks.specs.Steps.{IsPlain, LeadsBy, memory_ends};
 ghost use Rattle.cl_tasks.specs.Turns.{PostsOr, equality_at};
 
@@ -37,7 +37,7 @@ pub(crate) fn take_prepared<T: Told>(
     prepared: bool,
 ) -> Next<T>
     requires goal { IsGoal config.now.value goal }
-    ensures leads { LeadsBy T.told config.now.value goal.q goal.request prepared_left
+    ensures leads { LeadsBy T.told config.now.value goal.q goal.request prepared_room
         (PreparedTold goal prepared) result }
     ensures own { prepared ≡ true
         → PostsOr (answers.Said (verdicts.Linked goal.class.value.class)) result.turn }
@@ -59,7 +59,8 @@ pub(crate) fn take_prepared<T: Told>(
 /// The class of a request is prepared, and so all above it.
 fn post_linked<T: Told>(alloc: Global, config: &Arc<Config>, goal: Goal<T>) -> Next<T>
     requires goal { IsGoal config.now.value goal }
-    ensures leads { LeadsBy T.told config.now.value goal.q goal.request 1 (DoneTold goal) result }
+    ensures leads { LeadsBy T.told config.now.value goal.q goal.request last_room
+        (DoneTold goal) result }
     ensures own { PostsOr (answers.Said (verdicts.Linked goal.class.value.class)) result.turn }
     ensures plain { IsPlain result.turn }
     ensures past { IsPast result.stage }
@@ -87,13 +88,14 @@ pub(crate) fn take_whole<T: Told>(
 ) -> Next<T>
     requires goal { IsGoal config.now.value goal }
     requires whole { IsOf config.now.value goal.class.value.class whole.value }
-    ensures leads { LeadsBy T.told config.now.value goal.q goal.request whole_left
+    ensures leads { LeadsBy T.told config.now.value goal.q goal.request whole_room
         (WholeTold goal whole.value) result }
     ensures plain { IsPlain result.turn }
     ensures past { IsPast result.stage }
 {
-    // brings that a `usize` counts them
+    // brings that a `usize` counts them, and what the lineage keeps
     let _ = count_rows(&whole);
+    let _ = whole.class();
     trace(
         alloc,
         config,
@@ -137,7 +139,7 @@ fn class_at<T: Told>(alloc: Global, whole: &Lineage<T>, place: usize) -> Result<
 fn trace<T: Told>(alloc: Global, config: &Arc<Config>, chain: Chain<T>) -> Next<T>
     requires chain { IsChain config.now.value chain }
     ensures leads { LeadsBy T.told config.now.value chain.goal.q chain.goal.request
-        (chain_left (behind chain) + 1) (ChainTold chain) result }
+        (chain_room chain) (ChainTold chain) result }
     ensures plain { IsPlain result.turn }
     ensures past { IsPast result.stage }
 {
@@ -161,15 +163,18 @@ pub(crate) fn take_traced<T: Told>(
     requires lineage { IsOf config.now.value (class_in chain.whole.value chain.place)
         lineage.value }
     ensures leads { LeadsBy T.told config.now.value chain.goal.q chain.goal.request
-        (chain_left (behind chain)) (LineageTold chain lineage.value) result }
+        (listed_room chain) (LineageTold chain lineage.value) result }
     ensures plain { IsPlain result.turn }
     ensures past { IsPast result.stage }
 {
+    // brings what the lineage keeps
+    let _ = chain.whole.class();
     match list_of(alloc, &lineage) {
         Err(_) => give_up(chain),
         Ok(list) => {
-            // brings that a `usize` counts them
+            // brings that a `usize` counts them, and what the list keeps
             let _ = count_needs(&list);
+            bring_list(&list);
             impose(alloc, config, chain, list, 0)
         }
     }
@@ -240,7 +245,7 @@ pub(crate) fn impose<T: Told>(
     requires list { IsAtPlace chain list.value }
     requires within { place ≤ length list.value.needs }
     ensures leads { LeadsBy T.told config.now.value chain.goal.q chain.goal.request
-        (linking_left (behind chain - 1) (length list.value.needs - place) + 1)
+        (linking_room chain list.value place)
         (ListTold chain list.value place) result }
     ensures plain { IsPlain result.turn }
     ensures past { IsPast result.stage }
@@ -261,7 +266,7 @@ fn impose_at<T: Told>(
     requires list { IsAtPlace chain list.value }
     requires within { place ≤ length list.value.needs }
     ensures leads { LeadsBy T.told config.now.value chain.goal.q chain.goal.request
-        (linking_left (behind chain - 1) (length list.value.needs - place) + 1)
+        (linking_room chain list.value place)
         (ListTold chain list.value place) result }
     ensures plain { IsPlain result.turn }
     ensures past { IsPast result.stage }
@@ -289,7 +294,7 @@ fn impose_at<T: Told>(
 pub(crate) fn take_marked<T: Told>(alloc: Global, config: &Arc<Config>, chain: Chain<T>) -> Next<T>
     requires chain { IsChain config.now.value chain }
     ensures leads { LeadsBy T.told config.now.value chain.goal.q chain.goal.request
-        (linking_left (behind chain - 1) 0) (MarkedTold chain) result }
+        (marked_room chain) (MarkedTold chain) result }
     ensures plain { IsPlain result.turn }
     ensures past { IsPast result.stage }
 {
@@ -319,7 +324,7 @@ pub(crate) fn refuse_link<T: Told>(
     requires chain { IsChain config.now.value chain }
     requires list { IsAtPlace chain list.value }
     requires need { equality_at list.value place ≡ Some (need_of need) }
-    ensures leads { LeadsBy T.told config.now.value chain.goal.q chain.goal.request 1
+    ensures leads { LeadsBy T.told config.now.value chain.goal.q chain.goal.request last_room
         (RefusedTold chain list.value place (need_of need)) result }
     ensures plain { IsPlain result.turn }
     ensures past { IsPast result.stage }

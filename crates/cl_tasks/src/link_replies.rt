@@ -64,6 +64,8 @@ pub(crate) fn after_lineage<T: Told>(
     requires expects { Expects (linking_at config.now.value (Link.Tracing chain)) reply }
     ensures { Steps T.told (linking_at config.now.value (Link.Tracing chain)) reply result }
 {
+    // brings what the lineage keeps
+    let _ = chain.whole.class();
     match reply {
         Reply::Lineage(lineage) => take_traced(alloc, config, chain, lineage),
         Reply::Memory => give_up(chain),

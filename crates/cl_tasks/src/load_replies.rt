@@ -52,7 +52,11 @@ pub(crate) fn after_look<T: Told>(
             let _ = job.path.at_name();
             go_on(alloc, config, job, row)
         }
-        Reply::Looked(None) => begin_search(alloc, job),
+        Reply::Looked(None) => {
+            // brings what a path keeps
+            let _ = job.path.at_name();
+            begin_search(alloc, job)
+        }
         Reply::Memory => out_of_memory(job.q, job.request),
         _ => unreachable!(),
     }

@@ -11,7 +11,7 @@ ghost use Rattle.cl_model.specs.Views.{need_of, verdict_of};
 ghost use Rattle.cl_tasks.specs.Cited.{IsKind};
 ghost use Rattle.cl_tasks.specs.Deriving.{IsPast};
 ghost use Rattle.cl_tasks.specs.Follows.{EndsAsRefused};
-ghost use Rattle.cl_tasks.specs.Measures.{imposing_left, tracing_named_left, tracing_own_left};
+ghost use Rattle.cl_tasks.specs.Rooms.{imposing_room, settle_room, tracing_named_room, tracing_own_room};
 ghost use Rattle.cl_tasks.specs.Resolving.{Cites, ImposedTold, IsInaccessible, IsRefusedAccess, NamedTold, OwnTold, RefusedTold, TracedTold};
 ghost use Rattle.cl_tasks.specs.Stages.{IsEntry, IsMember, IsOf};
 ghost use Rattle.cl_tasks.specs.Steps.{IsPlain, LeadsBy, memory_ends};
@@ -41,7 +41,7 @@ pub(crate) fn take_own<T: Told>(
 ) -> Next<T>
     requires entry { IsEntry config.now.value entry }
     requires own { IsOf config.now.value entry.d.value.class own.value }
-    ensures leads { LeadsBy T.told config.now.value entry.q entry.request tracing_own_left
+    ensures leads { LeadsBy T.told config.now.value entry.q entry.request tracing_own_room
         (OwnTold entry named.value own.value) result }
     ensures plain { IsPlain result.turn }
     ensures past { IsPast result.stage }
@@ -66,7 +66,7 @@ pub(crate) fn take_class<T: Told>(
     requires entry { IsEntry config.now.value entry }
     requires own { IsOf config.now.value entry.d.value.class own.value }
     requires named { named.value.config ≡ config.now.value }
-    ensures leads { LeadsBy T.told config.now.value entry.q entry.request tracing_named_left
+    ensures leads { LeadsBy T.told config.now.value entry.q entry.request tracing_named_room
         (TracedTold entry own.value named.value) result }
     ensures plain { IsPlain result.turn }
     ensures past { IsPast result.stage }
@@ -123,7 +123,7 @@ fn refuse_access<T: Told>(
     requires entry { IsEntry config.now.value entry }
     requires own { IsOf config.now.value entry.d.value.class own.now }
     requires names { IsRefusedAccess entry own.now named.now }
-    ensures leads { LeadsBy T.told config.now.value entry.q entry.request tracing_named_left
+    ensures leads { LeadsBy T.told config.now.value entry.q entry.request tracing_named_room
         (TracedTold entry own.now named.now) result }
     ensures plain { IsPlain result.turn }
     ensures past { IsPast result.stage }
@@ -181,7 +181,7 @@ fn find<T: Told>(
     requires goes { GoesTo entry.request own.value named.value entry.index }
     requires kind { IsKind (reference (kin_of own.value).file entry.index)
         (kin_of named.value).class.name kind }
-    ensures leads { LeadsBy T.told config.now.value entry.q entry.request tracing_named_left
+    ensures leads { LeadsBy T.told config.now.value entry.q entry.request tracing_named_room
         (TracedTold entry own.value named.value) result }
     ensures plain { IsPlain result.turn }
     ensures past { IsPast result.stage }
@@ -192,8 +192,9 @@ fn find<T: Told>(
         Ok(found) => match equalities_of(alloc, &found) {
             Err(_) => out_of_memory(entry.q, entry.request),
             Ok(equalities) => {
-                // brings that a `usize` counts them
+                // brings that a `usize` counts them, and what the list keeps
                 let _ = count_needs(&equalities);
+                bring_list(&equalities);
                 impose(
                     alloc,
                     config,
@@ -248,7 +249,7 @@ fn settle_fault<T: Told>(
     requires goes { GoesTo entry.request own.value named.value entry.index }
     requires cites { Cites own.value named.value entry.index }
     requires lookup { Answers own.value named.value entry.index (Err fault) }
-    ensures leads { LeadsBy T.told config.now.value entry.q entry.request tracing_named_left
+    ensures leads { LeadsBy T.told config.now.value entry.q entry.request tracing_named_room
         (TracedTold entry own.value named.value) result }
     ensures plain { IsPlain result.turn }
     ensures past { IsPast result.stage }
@@ -285,7 +286,7 @@ pub(crate) fn impose<T: Told>(
     requires member { IsMember config.now.value member }
     requires within { place ≤ length member.equalities.value.needs }
     ensures leads { LeadsBy T.told config.now.value member.entry.q member.entry.request
-        (imposing_left (length member.equalities.value.needs - place) + 1)
+        (imposing_room member place)
         (ImposedTold member place) result }
     ensures plain { IsPlain result.turn }
     ensures past { IsPast result.stage }
@@ -319,7 +320,7 @@ fn verdict_of<T: Told>(alloc: Global, found: &Found<T>) -> Result<Verdict, Alloc
 /// Settles an entry to the member that was found, whose equalities are all imposed.
 fn settle_member<T: Told>(alloc: Global, config: &Arc<Config>, member: Member<T>) -> Next<T>
     requires member { IsMember config.now.value member }
-    ensures leads { LeadsBy T.told config.now.value member.entry.q member.entry.request 2
+    ensures leads { LeadsBy T.told config.now.value member.entry.q member.entry.request settle_room
         (ImposedTold member (length member.equalities.value.needs)) result }
     ensures plain { IsPlain result.turn }
     ensures past { IsPast result.stage }
@@ -352,7 +353,7 @@ pub(crate) fn refuse_member<T: Told>(
 ) -> Next<T>
     requires member { IsMember config.now.value member }
     requires need { equality_at member.equalities.value place ≡ Some (need_of need) }
-    ensures leads { LeadsBy T.told config.now.value member.entry.q member.entry.request 2
+    ensures leads { LeadsBy T.told config.now.value member.entry.q member.entry.request settle_room
         (RefusedTold member place (need_of need)) result }
     ensures plain { IsPlain result.turn }
     ensures past { IsPast result.stage }

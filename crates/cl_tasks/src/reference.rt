@@ -9,7 +9,7 @@ ghost use Rattle.cl_model.specs.declared.answer.Answer.TheVariants as answers;
 ghost use Rattle.cl_model.specs.declared.verdict.Verdict.TheVariants as verdicts;
 ghost use Rattle.cl_tasks.specs.Deriving.{Derives, IsNone, IsPast};
 ghost use Rattle.cl_tasks.specs.Follows.{Posts};
-ghost use Rattle.cl_tasks.specs.Measures.{named_left, reference_left};
+ghost use Rattle.cl_tasks.specs.Rooms.{named_room, reference_room};
 ghost use Rattle.cl_tasks.specs.Resolving.{EntryTold, HasItself, HasNamed, IsItself, IsNoneSettled, IsReply, IsSame, IsSettledKind, NamedTold, SettledTold};
 ghost use Rattle.cl_tasks.specs.Stages.{IsEntry};
 ghost use Rattle.cl_tasks.specs.Steps.{IsPlain, LeadsBy};
@@ -50,7 +50,7 @@ pub(crate) fn take_reference<T: Told>(
 ) -> Next<T>
     requires entry { IsEntry config.now.value entry }
     requires settled { IsReply entry settled }
-    ensures leads { LeadsBy T.told config.now.value entry.q entry.request reference_left
+    ensures leads { LeadsBy T.told config.now.value entry.q entry.request reference_room
         (SettledTold entry settled) result }
     ensures own { IfSome settled (λ s. Posts (answers.Shared s) result.turn) }
     ensures plain { IsPlain result.turn }
@@ -65,7 +65,7 @@ pub(crate) fn take_reference<T: Told>(
 /// An entry that is not settled is resolved at once, or the class that it names is loaded.
 fn open<T: Told>(alloc: Global, config: &Arc<Config>, entry: Entry<T>) -> Next<T>
     requires entry { IsEntry config.now.value entry }
-    ensures leads { LeadsBy T.told config.now.value entry.q entry.request reference_left
+    ensures leads { LeadsBy T.told config.now.value entry.q entry.request reference_room
         (EntryTold entry) result }
     ensures plain { IsPlain result.turn }
     ensures derives { Derives IsNone [] result.stage }
@@ -86,7 +86,7 @@ fn post_at_once<T: Told>(config: &Arc<Config>, entry: Entry<T>, verdict: Verdict
     requires entry { IsEntry config.now.value entry }
     requires ends { IsAtOnce entry.request entry.d.value (verdict_of verdict) }
     requires unsettled { IsNoneSettled verdict }
-    ensures leads { LeadsBy T.told config.now.value entry.q entry.request reference_left
+    ensures leads { LeadsBy T.told config.now.value entry.q entry.request reference_room
         (EntryTold entry) result }
     ensures plain { IsPlain result.turn }
     ensures past { IsPast result.stage }
@@ -113,7 +113,7 @@ fn settle_at_once<T: Told>(
     requires entry { IsEntry config.now.value entry }
     requires ends { IsAtOnce entry.request entry.d.value (verdict_of verdict) }
     requires settled { IsSettledKind verdict }
-    ensures leads { LeadsBy T.told config.now.value entry.q entry.request reference_left
+    ensures leads { LeadsBy T.told config.now.value entry.q entry.request reference_room
         (EntryTold entry) result }
     ensures plain { IsPlain result.turn }
     ensures past { IsPast result.stage }
@@ -133,7 +133,7 @@ fn settle_at_once<T: Told>(
 fn load_named<T: Told>(alloc: Global, config: &Arc<Config>, entry: Entry<T>, name: Name) -> Next<T>
     requires entry { IsEntry config.now.value entry }
     requires names { HasNamed entry name }
-    ensures leads { LeadsBy T.told config.now.value entry.q entry.request reference_left
+    ensures leads { LeadsBy T.told config.now.value entry.q entry.request reference_room
         (EntryTold entry) result }
     ensures plain { IsPlain result.turn }
     ensures derives { Derives IsNone [] result.stage }
@@ -169,7 +169,7 @@ pub(crate) fn take_named<T: Told>(
 ) -> Next<T>
     requires entry { IsEntry config.now.value entry }
     requires names { HasNamed entry named.value.class.name }
-    ensures leads { LeadsBy T.told config.now.value entry.q entry.request named_left
+    ensures leads { LeadsBy T.told config.now.value entry.q entry.request named_room
         (NamedTold entry named.value) result }
     ensures plain { IsPlain result.turn }
     ensures past { IsPast result.stage }
@@ -216,7 +216,7 @@ fn take_itself<T: Told>(
 ) -> Next<T>
     requires entry { IsEntry config.now.value entry }
     requires names { HasItself entry named.value.class.name dims }
-    ensures leads { LeadsBy T.told config.now.value entry.q entry.request named_left
+    ensures leads { LeadsBy T.told config.now.value entry.q entry.request named_room
         (NamedTold entry named.value) result }
     ensures plain { IsPlain result.turn }
     ensures past { IsPast result.stage }
@@ -238,7 +238,7 @@ pub(crate) fn settle_class<T: Told>(
     requires entry { IsEntry config.now.value entry }
     requires ends { IsAtClass entry.request entry.d.value named.value (verdict_of verdict) }
     requires settled { IsSettledKind verdict }
-    ensures leads { LeadsBy T.told config.now.value entry.q entry.request named_left
+    ensures leads { LeadsBy T.told config.now.value entry.q entry.request named_room
         (NamedTold entry named.value) result }
     ensures plain { IsPlain result.turn }
     ensures past { IsPast result.stage }

@@ -6,9 +6,9 @@ ghost use Rattle.cl_findings.specs.Loads.{IsSought};
 ghost use Rattle.cl_hierarchy.specs.Paths.{at_loader, at_name, frames_of};
 ghost use Rattle.cl_tasks.specs.Deriving.{Derives, IsSoughtHere, IsUnfound};
 ghost use Rattle.cl_tasks.specs.Follows.{PostsNoFault};
-ghost use Rattle.cl_tasks.specs.Measures.{Looking, Reading, Homing};
+ghost use Rattle.cl_tasks.specs.Measures.{Looking, Reading};
 ghost use Rattle.cl_tasks.specs.Stages.{IsJob, IsHoming, probes_left};
-ghost use Rattle.cl_tasks.specs.Steps.{FindsHome, HoldsOn, IsPlain, LeadsAt, ReadsAt, ReadsOn, Seeks, reads_left, way_on};
+ghost use Rattle.cl_tasks.specs.Steps.{FindsHome, HoldsOn, IsPlain, LeadsAt, LeadsHome, ReadsAt, ReadsOn, Seeks, reads_left, way_on};
 ghost use Rattle.cl_tasks.specs.Turns.{IsBehind};
 
 use crate::accept::{derive, initiate};
@@ -138,7 +138,8 @@ pub(crate) fn take_look<T: Told>(
 ) -> Next<T>
     requires job { IsJob T.told job.path.config job }
     requires home { IsHoming job home }
-    ensures leads { LeadsAt T.told Homing job (FindsHome job home row (λ r. r.value)) result }
+    ensures leads { LeadsHome T.told job home.place row
+        (FindsHome job home row (λ r. r.value)) result }
     ensures plain { IsPlain result.turn }
     ensures derives { Derives (IsUnfound home row) (frames_of job.path) result.stage }
 {

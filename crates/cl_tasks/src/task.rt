@@ -2,7 +2,7 @@ ghost use Rattle.std.specs.Prelude.{◌≡◌, ◌<◌, IfOk, IfErr, IfSome, Mat
 ghost use Rattle.cl_findings.specs.Findings.{loader_of};
 ghost use Rattle.cl_registry.specs.Tables.{Shown};
 ghost use Rattle.cl_tasks.specs.Facts.{Holds};
-ghost use Rattle.cl_tasks.specs.Follows.{BackedWhere, EndsRefused, FollowsWhere, LacksOnly, Refuses, Tells, TellsNow, refusal};
+ghost use Rattle.cl_tasks.specs.Follows.{AreLeft, BackedWhere, CallsWithin, EndsRefused, FollowsWhere, IsWithinCost, LacksOnly, Refuses, Tells, TellsNow, made_by, refusal};
 ghost use Rattle.cl_tasks.specs.Tasks.{begun};
 ghost use Rattle.cl_tasks.specs.Turns.{AnswersOwn, Asks, DerivesUnrecorded, Expects, ReadsUnrecorded, Serves};
 
@@ -56,6 +56,8 @@ impl<T: Told> Task<T> {
     ) -> Result<Task<T>, TaskRefused>
         requires loader { loader_of request < length config.value.loaders }
         ensures fresh { IfOk result (λ t. t ≡ begun config.value q request) }
+        ensures cost { IfOk result (λ t. IsWithinCost t.calls) }
+        ensures more { IfOk result (λ t. AreLeft t.calls) }
         ensures refused { IfErr result (λ e. (e.config.value ≡ config.value)
             × (e.request ≡ request)) }
     {
@@ -102,6 +104,10 @@ impl<T: Told> Task<T> {
         ensures asks { Asks self.new result }
         ensures serves { Serves self.old self.new result }
         ensures left { self.new.left < self.old.left }
+        ensures calls { IfSome self.old.request (λ r. CallsWithin T.told self.old.config
+            (λ x. TellsNow x self.old reply) r (made_by self.old.waits) self.new.calls
+            self.old.calls) }
+        ensures more { AreLeft self.new.calls }
         ensures keeps { (x : Shown) → Tells x self.old reply → Holds x self.new }
         ensures backed { BackedWhere self.old.config (λ x. TellsNow x self.old reply) result }
         ensures next { IfSome self.old.request (λ r. FollowsWhere T.told self.old.config

@@ -1,14 +1,17 @@
 use Rattle.std.proofs.Common.{arith}
 use Rattle.cl_tasks.specs.Measures as phases
-use Rattle.cl_tasks.specs.Steps.{HoldsOn, room_at}
+use Rattle.cl_tasks.specs.Rooms.{calls_at, room_at, room_of}
+use Rattle.cl_tasks.specs.Steps.{HoldsOn}
 use Rattle.cl_tasks.proofs.Lead.{leads_by}
+use Rattle.cl_tasks.proofs.Moves.{past_phase}
 use Rattle.cl_hierarchy.specs.Paths.{frames_of}
 use Rattle.cl_tasks.specs.Deriving.{IsAtHome}
 use Rattle.cl_tasks.proofs.Deriving.{home_derives, past_derives}
 use Rattle.cl_tasks.proofs.accept.derive.Goals as goal
 
 pub returns-in-Err-Unreadable-clause-leads : goal.returns-in-Err-Unreadable-clause-leads
-returns-in-Err-Unreadable-clause-leads g c = leads_by (room_at phases.Homing c.args.job 0) (HoldsOn c.args.job) c.obstacle.ensures.leads (omega arith) (λ x h. (h, tt))
+returns-in-Err-Unreadable-clause-leads g c =
+    leads_by (room_of (room_at phases.Homing c.args.job 0) (calls_at phases.Homing c.args.job c.args.home.place)) (HoldsOn c.args.job) c.obstacle.ensures.leads (omega arith) (past_phase g.T.Told.told c.args.job (HoldsOn c.args.job) phases.Homing c.args.home.place) (λ x h. (h, tt))
 
 pub returns-in-Err-Unreadable-clause-derives : goal.returns-in-Err-Unreadable-clause-derives
 returns-in-Err-Unreadable-clause-derives g c = past_derives (IsAtHome c.args.home) (frames_of c.args.job.path) c.obstacle.result.stage c.obstacle.ensures.past

@@ -14,7 +14,7 @@ look-requires g c =
     }
 
 pub returns-clause-leads : goal.returns-clause-leads
-returns-clause-leads g c = leads_descent g.T.Told.told c.args.job c.args.draft c.push.new.self _ c.at_name.ensures.path c.in-Ok.ensures.pushed c.requires.few c.requires.waits c.look.ensures.leads
+returns-clause-leads g c = leads_descent g.T.Told.told c.args.job c.args.draft c.push.new.self _ c.requires.job c.at_name.ensures.path c.at_name-2.ensures.path c.in-Ok.ensures.pushed c.requires.few c.requires.waits c.look.ensures.leads
 
 pub returns-clause-derives : goal.returns-clause-derives
 returns-clause-derives g c = descends_derives c.args.job.path c.push.new.self c.args.draft _ c.in-Ok.ensures.pushed c.look.ensures.derives

@@ -1,4 +1,5 @@
 use Rattle.std.proofs.Common.{sym, subst}
+use Rattle.cl_tasks.specs.Rooms.{last_room}
 use Rattle.cl_tasks.specs.Steps.{Leads}
 use Rattle.cl_tasks.specs.declared.stage.Next.{Next}
 use Rattle.cl_tasks.proofs.Lead.{leads_fault}
@@ -7,7 +8,7 @@ use Rattle.cl_tasks.proofs.ends.blame_source.Goals as goal
 
 pub returns-clause-leads : goal.returns-clause-leads
 returns-clause-leads g c =
-    subst (λ (n : Next _). Leads g.T.Told.told c.args.job 1 (λ x. Unit {0}) n) (sym c.post.ensures)
+    subst (λ (n : Next _). Leads g.T.Told.told c.args.job last_room (λ x. Unit {0}) n) (sym c.post.ensures)
     (rw (c.source_fault.ensures)
-    (leads_fault g.T.Told.told c.args.job.path.config c.args.job.q c.args.job.request _ c.in-Some.loader 0 (λ x. Unit {0}) c.requires.job.asked
+    (leads_fault g.T.Told.told c.args.job.path.config c.args.job.q c.args.job.request _ c.in-Some.loader (λ x. Unit {0}) c.requires.job.asked
     (next_within c.args.search c.args.job.path.config _ c.in-Some.loader c.requires.search.config c.requires.search.loader c.requires.job.loader (sym c.in-Some.ensures.next))))

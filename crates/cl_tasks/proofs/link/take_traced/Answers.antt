@@ -1,16 +1,24 @@
-use Rattle.std.proofs.Common.{◌<◌, length, arith}
+use Rattle.std.proofs.Common.{length}
 use Rattle.cl_tasks.specs.Linking.{LineageTold}
-use Rattle.cl_tasks.specs.Measures.{chain_left}
-use Rattle.cl_tasks.specs.Stages.{behind}
-use Rattle.cl_tasks.proofs.Lead.{leads_by}
-use Rattle.cl_tasks.proofs.LinkLeads.{list_room, needs_few, traced_told}
+use Rattle.cl_tasks.specs.Rooms.{listed_room}
+use Rattle.cl_tasks.proofs.Lead.{leads_out}
+use Rattle.cl_tasks.proofs.LinkLeads.{IsKnown, at_place, chain_some_turns, listed_leads, listed_post, needs_few}
 use Rattle.cl_tasks.proofs.link.take_traced.Goals as goal
+
+pub returns-in-Err-clause-leads : goal.returns-in-Err-clause-leads
+returns-in-Err-clause-leads g c =
+    let k = c.args.chain in
+    let kept = rw c.deref.ensures at c.class.ensures.kept in
+    leads_out g.T.Told.told c.args.config.now.value k.goal.q k.goal.request (listed_room k) (LineageTold k c.args.lineage.value) (LineageTold k c.args.lineage.value) c.give_up.ensures c.requires.chain.goal.asked
+    (chain_some_turns c.args.config.now.value k c.requires.chain) (listed_post c.args.config.now.value k c.requires.chain kept.order)
 
 pub returns-clause-leads : goal.returns-clause-leads
 returns-clause-leads g c =
-    let lt = c.requires.chain.within in
-    let some : 0 < behind c.args.chain = omega (arith, lt) in
-    let counted = rw c.deref.ensures at c.count_needs.ensures in
+    let counted = rw c.deref-in-Ok.ensures at c.count_needs.ensures in
     let few = needs_few (length c.in-Ok.list.value.needs) c.count_needs.result c.count_needs.type_inv counted in
-    leads_by (chain_left (behind c.args.chain)) (LineageTold c.args.chain c.args.lineage.value) c.impose.ensures.leads (list_room (behind c.args.chain) (length c.in-Ok.list.value.needs) some few)
-    (λ x h. traced_told x c.args.chain c.args.lineage.value c.in-Ok.list.value c.in-Ok.ensures h)
+    let kept = rw c.deref.ensures at c.class.ensures.kept in
+    let of = rw c.deref-in-Ok-2.ensures at c.bring_list.ensures.kept in
+    let lin = rw c.deref-in-Ok-2.ensures at c.bring_list.ensures.lineages in
+    let place = at_place c.args.config.now.value c.args.chain c.args.lineage.value c.in-Ok.list.value c.requires.chain c.requires.lineage c.in-Ok.ensures in
+    let known : IsKnown g.T.Told.told c.args.chain c.in-Ok.list.value = record { place = place; order = kept.order; whole = kept.lineage; lineages = lin; are = of } in
+    listed_leads g.T.Told.told c.args.config.now.value c.args.chain c.in-Ok.list.value c.requires.chain known c.args.lineage.value c.in-Ok.ensures few c.impose.ensures.leads

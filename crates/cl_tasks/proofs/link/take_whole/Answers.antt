@@ -1,13 +1,15 @@
 use Rattle.std.proofs.Common.{◌-◌, length}
 use Rattle.cl_hierarchy.specs.Lineages.{rows_in}
 use Rattle.cl_tasks.specs.Linking.{WholeTold}
-use Rattle.cl_tasks.specs.Measures.{whole_left}
+use Rattle.cl_tasks.specs.Rooms.{whole_room}
 use Rattle.cl_tasks.proofs.Lead.{leads_by}
-use Rattle.cl_tasks.proofs.LinkLeads.{rows_few, whole_room, whole_told}
+use Rattle.cl_tasks.proofs.LinkLeads.{rows_few, whole_calls, whole_told, whole_turns}
 use Rattle.cl_tasks.proofs.link.take_whole.Goals as goal
 
 pub returns-clause-leads : goal.returns-clause-leads
 returns-clause-leads g c =
     let counted = rw c.deref.ensures at c.count_rows.ensures in
+    let kept = rw c.deref-2.ensures at c.class.ensures.kept in
     let le = rows_few c.args.whole.value c.count_rows.result c.count_rows.type_inv counted in
-    leads_by whole_left (WholeTold c.args.goal c.args.whole.value) c.trace.ensures.leads (whole_room (length (rows_in c.args.whole.value) - 0) le) (λ x h. whole_told x c.args.goal c.args.whole h)
+    leads_by whole_room (WholeTold c.args.goal c.args.whole.value) c.trace.ensures.leads (whole_turns (length (rows_in c.args.whole.value) - 0) le)
+    (whole_calls g.T.Told.told c.args.config.now.value c.args.goal c.args.whole c.requires.goal c.requires.whole kept.lineage) (λ x h. whole_told x c.args.goal c.args.whole h)

@@ -1,9 +1,9 @@
-use Rattle.std.proofs.Common.{◌-◌, length, refl}
-use Rattle.cl_tasks.specs.Measures.{chain_left}
-use Rattle.cl_tasks.specs.Stages.{behind, linking_at}
+use Rattle.std.proofs.Common.{◌-◌, ◌+◌, length, refl}
+use Rattle.cl_tasks.specs.Measures.{chain_left, linking_left}
+use Rattle.cl_tasks.specs.Stages.{behind, chain_calls, linking_at}
 use Rattle.cl_tasks.specs.declared.stage.Link.TheVariants as links
 use Rattle.cl_tasks.proofs.Lead.{steps_memory}
-use Rattle.cl_tasks.proofs.LinkSteps.{imposed_steps, refused_steps, some_left}
+use Rattle.cl_tasks.proofs.LinkSteps.{imposed_steps, list_post, refused_steps, some_left}
 use Rattle.cl_tasks.proofs.link_replies.after_impose.Goals as goal
 
 pub returns-in-Imposed : goal.returns-in-Imposed
@@ -20,4 +20,5 @@ pub returns-in-Memory : goal.returns-in-Memory
 returns-in-Memory g c =
     rw (c.in-Memory.is, c.give_up.ensures)
     (steps_memory g.T.Told.told (linking_at c.args.config.now.value (links.Imposing c.args.chain c.args.list c.args.place)) c.args.chain.goal.request refl c.requires.chain.goal.asked
-    (some_left (chain_left (behind c.args.chain - 1)) (length c.args.list.value.needs - c.args.place)))
+    (some_left (chain_left (behind c.args.chain - 1)) (length c.args.list.value.needs - c.args.place))
+    (list_post (linking_left (behind c.args.chain - 1) (length c.args.list.value.needs - c.args.place)) (chain_calls c.args.chain.whole.value (c.args.chain.place + 1)) (length c.args.list.value.needs - c.args.place)))

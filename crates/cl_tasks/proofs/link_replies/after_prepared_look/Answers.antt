@@ -1,9 +1,9 @@
 use Rattle.std.proofs.Common.{refl}
-use Rattle.cl_tasks.specs.Measures.{chain_left, most}
+use Rattle.cl_tasks.specs.Measures.{chain_left, most, prepared_left}
 use Rattle.cl_tasks.specs.Stages.{linking_at}
 use Rattle.cl_tasks.specs.declared.stage.Link.TheVariants as links
 use Rattle.cl_tasks.proofs.Lead.{steps_memory}
-use Rattle.cl_tasks.proofs.LinkSteps.{prepared_steps, some_left}
+use Rattle.cl_tasks.proofs.LinkSteps.{past_post, prepared_steps, some_left}
 use Rattle.cl_tasks.proofs.link_replies.after_prepared_look.Goals as goal
 
 pub returns-in-LookedPrepared : goal.returns-in-LookedPrepared
@@ -14,4 +14,4 @@ returns-in-LookedPrepared g c =
 pub returns-in-Memory : goal.returns-in-Memory
 returns-in-Memory g c =
     rw (c.in-Memory.is, c.out_of_memory.ensures)
-    (steps_memory g.T.Told.told (linking_at c.args.config.now.value (links.LookingPrepared c.args.goal)) c.args.goal.request refl c.requires.goal.asked (some_left (chain_left most) 1))
+    (steps_memory g.T.Told.told (linking_at c.args.config.now.value (links.LookingPrepared c.args.goal)) c.args.goal.request refl c.requires.goal.asked (some_left (chain_left most) 1) (past_post prepared_left 1))

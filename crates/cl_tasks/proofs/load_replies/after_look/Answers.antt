@@ -1,4 +1,6 @@
-use Rattle.std.proofs.Common.{◌∙◌, ap}
+use Rattle.std.proofs.Common.{◌∙◌, ap, subst, sym}
+use Rattle.cl_config.specs.Views.{Configured}
+use Rattle.cl_tasks.specs.Stages.{IsJob}
 use Rattle.cl_tasks.specs.declared.turn.Reply.TheVariants as reply
 use Rattle.cl_tasks.proofs.LoadSteps.{steps_looked, steps_unrecorded}
 use Rattle.cl_tasks.proofs.load_replies.after_look.Goals as goal
@@ -11,4 +13,4 @@ returns-in-Looked-Some g c =
 pub returns-in-Looked-None : goal.returns-in-Looked-None
 returns-in-Looked-None g c =
     rw (c.in-Looked-None.is ∙ ap (λ o. reply.Looked o) c.in-Looked-None.field-0-is)
-    (steps_unrecorded g.T.Told.told c.args.config.now.value c.args.job _ c.requires.job.config c.begin_search.ensures.leads c.begin_search.ensures.no_fault c.begin_search.ensures.derives c.begin_search.ensures.reads)
+    (steps_unrecorded g.T.Told.told c.args.config.now.value c.args.job _ c.requires.job.config (subst (λ (d : Configured). IsJob g.T.Told.told d c.args.job) (sym c.requires.job.config) c.requires.job) c.at_name-in-Looked-None.ensures.path c.begin_search.ensures.leads c.begin_search.ensures.no_fault c.begin_search.ensures.derives c.begin_search.ensures.reads)

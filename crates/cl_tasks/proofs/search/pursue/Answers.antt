@@ -1,8 +1,10 @@
 use Rattle.std.proofs.Common.{◌≡◌, Some, arith}
 use Rattle.cl_delegation.specs.Searches.{next_of}
 use Rattle.cl_tasks.specs.Measures as phases
-use Rattle.cl_tasks.specs.Steps.{HoldsOn, reads_left, room_at}
+use Rattle.cl_tasks.specs.Rooms.{calls_at, room_at, room_of}
+use Rattle.cl_tasks.specs.Steps.{HoldsOn, reads_left}
 use Rattle.cl_tasks.proofs.Lead.{leads_by}
+use Rattle.cl_tasks.proofs.Moves.{past_phase}
 use Rattle.cl_tasks.proofs.Probes.{reads_none}
 use Rattle.cl_hierarchy.specs.Paths.{frames_of}
 use Rattle.cl_tasks.specs.Deriving.{IsSoughtHere}
@@ -10,7 +12,8 @@ use Rattle.cl_tasks.proofs.Deriving.{past_derives}
 use Rattle.cl_tasks.proofs.search.pursue.Goals as goal
 
 pub returns-in-Err-clause-leads : goal.returns-in-Err-clause-leads
-returns-in-Err-clause-leads g c = leads_by (room_at phases.Reading c.args.job (reads_left c.args.search)) (HoldsOn c.args.job) c.obstacle.ensures.leads (omega arith) (λ x h. (h, tt))
+returns-in-Err-clause-leads g c =
+    leads_by (room_of (room_at phases.Reading c.args.job (reads_left c.args.search)) (calls_at phases.Reading c.args.job 0)) (HoldsOn c.args.job) c.obstacle.ensures.leads (omega arith) (past_phase g.T.Told.told c.args.job (HoldsOn c.args.job) phases.Reading 0) (λ x h. (h, tt))
 
 pub returns-in-Err-clause-derives : goal.returns-in-Err-clause-derives
 returns-in-Err-clause-derives g c = past_derives (IsSoughtHere c.args.job.path) (frames_of c.args.job.path) c.obstacle.result.stage c.obstacle.ensures.past

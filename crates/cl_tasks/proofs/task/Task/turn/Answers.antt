@@ -60,3 +60,11 @@ returns-clause-derives g c =
 pub returns-clause-own : goal.returns-clause-own
 returns-clause-own g c =
     (turns g.T.Told.told c.self.inside.config.value c.self.inside.stage c.replace-stage.result c.replace.new.dest c.args.self.now c.args.reply c.step-next.result c.self.view_is c.requires.expects c.replace-stage.ensures.value c.step-next.ensures c.replace.ensures.after).own
+
+pub returns-clause-calls : goal.returns-clause-calls
+returns-clause-calls g c =
+    (turns g.T.Told.told c.self.inside.config.value c.self.inside.stage c.replace-stage.result c.replace.new.dest c.args.self.now c.args.reply c.step-next.result c.self.view_is c.requires.expects c.replace-stage.ensures.value c.step-next.ensures c.replace.ensures.after).calls
+
+pub returns-clause-more : goal.returns-clause-more
+returns-clause-more g c =
+    (turns g.T.Told.told c.self.inside.config.value c.self.inside.stage c.replace-stage.result c.replace.new.dest c.args.self.now c.args.reply c.step-next.result c.self.view_is c.requires.expects c.replace-stage.ensures.value c.step-next.ensures c.replace.ensures.after).more

@@ -33,6 +33,7 @@ pub record Bound {A B : Type 0} (a : Work A) (f : A → Work B) (m : Made B) (r 
   pub next : f value ≡ Some second
   pub ends : second.ends ≡ r
   pub needs : m.needs ≡ first.needs ++ second.needs
+  pub asks : m.asked ≡ first.asked ++ second.asked
 
 -- the first piece alone, which ends ill
 pub record Stopped {A B : Type 0} (a : Work A) (m : Made B) (e : Error) : Type 0 where
@@ -40,6 +41,7 @@ pub record Stopped {A B : Type 0} (a : Work A) (m : Made B) (e : Error) : Type 0
   pub made : a ≡ Some first
   pub ended : first.ends ≡ Err e
   pub needs : m.needs ≡ first.needs
+  pub asks : m.asked ≡ first.asked
 
 abbrev pub Pieces : {A B : Type 0} → Work A → (A → Work B) → Made B → Result B Error → Type 0
 Pieces a f m r = Bound a f m r ⊎ ((e : Error) × (r ≡ Err e) × Stopped a m e)
@@ -48,12 +50,12 @@ mapped : {A B : Type 0} (first : Made A) (x : A) (f : A → Work B) (m : Made B)
 mapped first x f m r None is e h k = absurd cc
 mapped first x f m r (Some y) is e h k =
     let same : after_made first.needs first.asked y ≡ m = some_same _ _ h in
-    record { first = first; value = x; second = y; made = refl; ended = is; next = e; ends = ap (λ (z : Made _). z.ends) same ∙ k; needs = ap (λ (z : Made _). z.needs) (sym same) }
+    record { first = first; value = x; second = y; made = refl; ended = is; next = e; ends = ap (λ (z : Made _). z.ends) same ∙ k; needs = ap (λ (z : Made _). z.needs) (sym same); asks = ap (λ (z : Made _). z.asked) (sym same) }
 
 pieces_at : {A B : Type 0} (first : Made A) (ends : Result A Error) (f : A → Work B) (m : Made B) (r : Result B Error) → first.ends ≡ ends → go_on first.needs first.asked ends f ≡ Some m → m.ends ≡ r → Pieces (Some first) f m r
 pieces_at first (Err e) f m r is h k =
     let same = some_same _ _ h in
-    inr (e, sym k ∙ ap (λ (z : Made _). z.ends) (sym same), record { first = first; made = refl; ended = is; needs = ap (λ (z : Made _). z.needs) (sym same) })
+    inr (e, sym k ∙ ap (λ (z : Made _). z.ends) (sym same), record { first = first; made = refl; ended = is; needs = ap (λ (z : Made _). z.needs) (sym same); asks = ap (λ (z : Made _). z.asked) (sym same) })
 pieces_at first (Ok x) f m r is h k = inl (mapped first x f m r (f x) is refl h k)
 
 pub pieces : {A B : Type 0} (a : Work A) (f : A → Work B) (m : Made B) (r : Result B Error) → (a >>= f) ≡ Some m → m.ends ≡ r → Pieces a f m r

@@ -1,5 +1,5 @@
 -- The plan of a request whose class stands under frames: what comes next in it, and where it ends.
-use Rattle.std.proofs.Common.{◌≡◌, ◌≢◌, inl, inr, ℕ, zero, suc, Bool, true, false, ◌==◌, if◌then◌else◌, List, [], ◌∷◌, length, Option, Some, None, Result, Ok, Err, refl, sym, ap, subst, ◌∙◌, slice_get}
+use Rattle.std.proofs.Common.{◌≡◌, ◌≢◌, inl, inr, ℕ, zero, suc, Bool, true, false, ◌==◌, if◌then◌else◌, List, [], ◌∷◌, ◌++◌, length, Option, Some, None, Result, Ok, Err, refl, sym, ap, subst, ◌∙◌, slice_get}
 use Rattle.std.specs.Prelude.{option_map}
 use Rattle.std.specs.List.{AllByRecursion}
 use Rattle.std.proofs.lemmas.Bool.{eqb-true}
@@ -10,7 +10,7 @@ use Rattle.cl_model.specs.declared.class.Class.{Class}
 use Rattle.cl_model.specs.Classes.{class, Error, Above, is_among, ClassNotFound, NoClassDef, ClassCircularity, file_of, misfit, superclass_of, superinterfaces_of, supers, HasFile, AtHome, Fitting, FitsAt, Good, IsGood, FirstWrong, Next}
 use Rattle.cl_model.specs.Lineages.{Bare, Kin}
 use Rattle.cl_model.specs.States.{State, Need, Entry, Verdict, Wrong, Met, AllMet, IsNext, IsRecorded}
-use Rattle.cl_model.specs.Works.{Work, Made, ask, need, done, or_fail, unless_wrong, of_result, ◌>>=◌}
+use Rattle.cl_model.specs.Works.{Work, Made, Ask, ask, need, done, or_fail, unless_wrong, of_result, ◌>>=◌}
 use Rattle.cl_model.specs.Plans.{initiating, load_by, loads_above, derive_new, derive, load, Request, loaded_by, go_on_with, Plan, plan_after, plan_from, needs_of, resolve_class, resolve_field, resolve_method, resolve_member, resolve_reference, resolve, member_target, Resolve, ending}
 use Rattle.cl_model.specs.Machine.{Setting, IsPlan, AnswersPlan, IsClosed}
 use Rattle.cl_model.specs.Service.{IsNextNeed}
@@ -26,7 +26,8 @@ use Rattle.cl_model.proofs.Closed.{met_both, all_left, all_right, recorded_is_me
 use Rattle.cl_model.proofs.Looks.{answers_met}
 use Rattle.cl_model.proofs.Planned.{plan_exists, accessible, class_found, to_class, resolved}
 use Rattle.cl_model.proofs.Reached.{then_some, map_is}
-use Rattle.cl_model.proofs.Aims.{Aim, Hits, Well, Every, Any, next_left, next_right, then_hits, then_well, first_hits, well_once, hits_once, ask_well, or_fail_well, or_fail_hits, unless_well, unless_hits, read_well, read_hits, need_next, NextIs, EndsIn}
+use Rattle.cl_model.proofs.Aims.{Aim, AsksFor, Hits, Well, Every, Any, next_left, next_right, then_hits, then_well, first_hits, well_once, hits_once, ask_hits, ask_well, or_fail_well, or_fail_hits, unless_well, unless_hits, read_well, read_hits, need_next, NextIs, EndsIn}
+use Rattle.cl_model.proofs.Marks.{In, in_left, in_right}
 
 -- ---- the path leads here, so what is recorded is derived
 
@@ -269,15 +270,18 @@ walk w s g closed (x ∷ xs) path absent loader name al an f acc top n here =
 abbrev PlanHits : State → Aim → Plan → Type 0
 PlanHits s (NextIs n) p = IsNext s (needs_of p) n
 PlanHits s (EndsIn e) p = AllMet s (needs_of p) × (p.ends ≡ Wrong e)
+PlanHits s (AsksFor a) p = In a p.asked
 
-plan_well : (s : State) (g : Aim) (m : Made Kin) (k : Kin) (more : List Need) (p : Plan) → m.ends ≡ Ok k → p.own ≡ m.needs → Hits s g m → PlanHits s g p
-plan_well s (NextIs n) m k more p q o h = next_left s p.own p.more n (subst (λ (l : List Need). IsNext s l n) (sym o) h)
-plan_well s (EndsIn e) m k more p q o h = absurd (ok_not_err k e m.ends q h.1)
+plan_well : (s : State) (g : Aim) (m : Made Kin) (k : Kin) (behind : List Ask) (p : Plan) → m.ends ≡ Ok k → p.own ≡ m.needs → p.asked ≡ m.asked ++ behind → Hits s g m → PlanHits s g p
+plan_well s (NextIs n) m k behind p q o z h = next_left s p.own p.more n (subst (λ (l : List Need). IsNext s l n) (sym o) h)
+plan_well s (EndsIn e) m k behind p q o z h = absurd (ok_not_err k e m.ends q h.1)
+plan_well s (AsksFor a) m k behind p q o z h = subst (λ (l : List Ask). In a l) (sym z) (in_left a m.asked behind h)
 
-plan_ill : (s : State) (g : Aim) (m : Made Kin) (d : Error) (p : Plan) → m.ends ≡ Err d → p.own ≡ m.needs → p.more ≡ [] → p.ends ≡ Wrong d → Hits s g m → PlanHits s g p
-plan_ill s (NextIs n) m d p q o r z h = next_left s p.own p.more n (subst (λ (l : List Need). IsNext s l n) (sym o) h)
-plan_ill s (EndsIn e) m d p q o r z h =
+plan_ill : (s : State) (g : Aim) (m : Made Kin) (d : Error) (p : Plan) → m.ends ≡ Err d → p.own ≡ m.needs → p.more ≡ [] → p.asked ≡ m.asked → p.ends ≡ Wrong d → Hits s g m → PlanHits s g p
+plan_ill s (NextIs n) m d p q o r y z h = next_left s p.own p.more n (subst (λ (l : List Need). IsNext s l n) (sym o) h)
+plan_ill s (EndsIn e) m d p q o r y z h =
     (met_both s p.own p.more (subst (λ (l : List Need). AllMet s l) (sym o) h.0) (subst (λ (l : List Need). AllMet s l) (sym r) tt), z ∙ ap (λ (y : Error). Wrong y) (err_same {A = Kin} d e m.ends q h.1))
+plan_ill s (AsksFor a) m d p q o r y z h = subst (λ (l : List Ask). In a l) (sym y) h
 
 plan_hits : (w : World) (s : State) (g : Aim) (r : Request) (p : Plan) → IsPlan w r p → ((n : ℕ) → Every (load w n ClassNotFound (loaded_by r).loader (loaded_by r).name) (Hits s g)) → PlanHits s g p
 plan_hits w s g r p is h =
@@ -291,10 +295,10 @@ plan_hits w s g r p is h =
     ]) ≡ Some p → PlanHits s g p
     at n m c (Err x) e z =
         let same = some_same _ _ z in
-        plan_ill s g m x p e (ap (λ (y : Plan). y.own) (sym same)) (ap (λ (y : Plan). y.more) (sym same)) (ap (λ (y : Plan). y.ends) (sym same)) c
+        plan_ill s g m x p e (ap (λ (y : Plan). y.own) (sym same)) (ap (λ (y : Plan). y.more) (sym same)) (ap (λ (y : Plan). y.asked) (sym same)) (ap (λ (y : Plan). y.ends) (sym same)) c
     at n m c (Ok k) e z =
         let on = map_is (plan_after m k) (go_on_with w n r k) p z in
-        plan_well s g m k [] p e (ap (λ (y : Plan). y.own) (sym on.2)) c
+        plan_well s g m k on.0.asked p e (ap (λ (y : Plan). y.own) (sym on.2)) (ap (λ (y : Plan). y.asked) (sym on.2)) c
 
 nothing_here : (w : World) (loader : ℕ) (name : Name) → HereAt w [] loader name
 nothing_here w loader name place e = nothing_leads w (class name place)
@@ -310,6 +314,7 @@ plan_on w s g r P p is h on =
     rest : (b : Aim) (m : Made Kin) (k : Kin) (x : Made Verdict) → AllMet s m.needs → Hits s b x → PlanHits s b (plan_after m k x)
     rest (NextIs n) m k x met c = next_right s m.needs x.needs n met c
     rest (EndsIn e) m k x met c = (met_both s m.needs x.needs met c.0, ap (λ (y : Result Verdict Error). ending y) c.1)
+    rest (AsksFor a) m k x met c = in_right a m.asked x.asked c
 
     at : (n : ℕ) (m : Made Kin) → Well s P m → (e : Result Kin Error) → m.ends ≡ e → (elim e as (λ x. Option Plan) [
       | Err x ↦ Some (record { own = m.needs; more = []; asked = m.asked; reached = None; ends = Wrong x })
@@ -374,6 +379,13 @@ ends_at w s e r absent xs al an closed u top =
     let p = plan_exists w r in
     let h = request_hits w s (EndsIn e) r absent xs al an closed u top p.0 p.1 in
     record { plan = p.0; planned = p.1; met = h.0; ends = h.1 }
+
+-- what is looked for under frames is asked by the plan
+pub sought_asked : (w : World) (s : State) (r : Request) (p : Plan) (absent : Class → Error) (xs : List Frame) (al : ℕ) (an : Name) → IsClosed w s → IsPlan w r p → Under w s r absent xs al an → (let a : Ask = record { loader = al; name = an } in In a p.asked)
+sought_asked w s r p absent xs al an closed is u =
+    let g = AsksFor (record { loader = al; name = an }) in
+    let under = absent_under absent xs in
+    request_hits w s g r absent xs al an closed u (λ n here. first_hits s g (ask al an) (sought w (derive w n (path_of [] xs)) under al an) (ask_hits s al an)) p is
 
 -- ---- what comes next
 

@@ -16,6 +16,7 @@ use Rattle.cl_model.specs.States.{State, recorded}
 use Rattle.cl_model.specs.Views.{request_of}
 use Rattle.cl_model.specs.Works.{Ask}
 use Rattle.cl_model.proofs.Bind.{some_same}
+use Rattle.cl_model.proofs.Frames.{sought_asked}
 use Rattle.cl_model.proofs.Marks.{In}
 use Rattle.cl_model.proofs.Stacks.{frame_pop, kept_is_met, path_scanned}
 use Rattle.cl_config.specs.Views.{Configured}
@@ -37,7 +38,7 @@ use Rattle.cl_tasks.specs.Rooms.{away_hand, calls_at, room_at, room_of}
 use Rattle.cl_tasks.specs.Stages.{IsHoming, IsJob, job_calls, past_calls, sought_ask}
 use Rattle.cl_tasks.specs.Steps.{HoldsOn}
 use Rattle.cl_tasks.specs.declared.stage.Job.{Job}
-use Rattle.cl_tasks.proofs.Asked.{home_node, node_of, not_own, off_hand, own_home, sought_asked}
+use Rattle.cl_tasks.proofs.Asked.{home_node, node_of, not_own, off_hand, own_home}
 use Rattle.cl_tasks.proofs.Hands.{IsNone, away_call, away_one, calls_last, frame_calls, hand_closed, hand_last, here_no_calls, here_none, none_both, none_here, none_more, none_two, open_of, open_parts, or_unrecorded, other_loader, recorded_apart, same_itself, told_unrecorded, unrecorded_at}
 use Rattle.cl_tasks.proofs.Keep.{all_kept, map_last, top_of}
 use Rattle.cl_tasks.proofs.Lead.{HasPost, job_past, job_some, loading_is}

@@ -34,7 +34,7 @@ base_test Boolean Boolean = refl
 base_test (Class m) (Class n) = and_true (same_name m n)
 base_test _ _ = refl
 
-type_decides : (s t : FieldType) → Decides (same_type s t) (s ≡ t)
+pub type_decides : (s t : FieldType) → Decides (same_type s t) (s ≡ t)
 type_decides s t = Decides-at (same_type s t) (fields.ghosts.eq s t) (ap (λ (b : Bool). (s.dims == t.dims) && b) (base_test s.base t.base)) (fields_equal s t)
 
 return_same : (r q : Option FieldType) → option_to_list r ≡ option_to_list q → r ≡ q
@@ -48,10 +48,10 @@ method_same m n e =
     let ret : m.ret ≡ n.ret = return_same m.ret n.ret e.0 in
     ap (λ (ts : List FieldType). let made : MethodType = record { params = ts; ret = m.ret } in made) e.1 ∙ ap (λ (r : Option FieldType). let made : MethodType = record { params = n.params; ret = r } in made) ret
 
-abbrev same_method : MethodType → MethodType → Bool
+abbrev pub same_method : MethodType → MethodType → Bool
 same_method m n = pointwise same_type (option_to_list m.ret) (option_to_list n.ret) && pointwise same_type m.params n.params
 
-method_decides : (m n : MethodType) → Decides (same_method m n) (m ≡ n)
+pub method_decides : (m n : MethodType) → Decides (same_method m n) (m ≡ n)
 method_decides m n =
     Decides-like (same_method m n) (method_same m n) (λ e. (ap (λ (x : MethodType). option_to_list x.ret) e, ap (λ (x : MethodType). x.params) e))
     (Decides-and (pointwise same_type (option_to_list m.ret) (option_to_list n.ret)) (pointwise same_type m.params n.params)

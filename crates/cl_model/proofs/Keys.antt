@@ -1,58 +1,25 @@
 -- Two keys are equal where the test says so; what texts spell a key.
-use Rattle.std.proofs.Common.{zero, suc, ◌++◌, codes, replicate, subst, ◌∷◌, ◌≡◌, ◌≢◌, true≢false, ◌↔◌, ℕ, Bool, true, false, List, [], Option, Some, None, refl, sym, ap, ◌∙◌, ◌&&◌, ◌==◌}
-use Rattle.std.specs.Prelude.{IsSome, MatchBool, option_map, option_to_list, unwrap_or}
+use Rattle.std.proofs.Common.{zero, suc, ◌++◌, codes, replicate, subst, ◌∷◌, ◌≡◌, ◌≢◌, true≢false, ◌↔◌, ℕ, Bool, true, false, List, [], Option, Some, None, refl, sym, ap, ◌∙◌, ◌==◌}
+use Rattle.std.specs.Prelude.{IsSome, MatchBool, option_map, unwrap_or}
 use Rattle.std.specs.Option.{option_or}
 use Rattle.std.specs.Bool.{Decides}
-use Rattle.std.specs.Cmp.Lexicographic.{pointwise, bytes_decides, pointwise_decides}
-use Rattle.std.proofs.lemmas.Bool.Decides.{Decides-and, Decides-at, Decides-like}
+use Rattle.std.specs.Cmp.Lexicographic.{bytes_decides}
+use Rattle.std.proofs.lemmas.Bool.Decides.{Decides-and, Decides-like}
 use Rattle.cl_descriptors.specs.declared.types.Base.{Base}
 use Rattle.cl_descriptors.specs.declared.types.Base.TheVariants.{Byte, Char, Double, Float, Int, Long, Short, Boolean, Class}
 use Rattle.cl_descriptors.specs.declared.types.FieldType.{FieldType}
 use Rattle.cl_descriptors.specs.declared.types.MethodType.{MethodType}
 use Rattle.cl_descriptors.specs.declared.types.Descriptor.{Descriptor}
 use Rattle.cl_descriptors.specs.declared.types.Descriptor.TheVariants as descriptors
-use Rattle.cl_descriptors.specs.contracts.types.BasePartialEq.TheImpl as bases
-use Rattle.cl_descriptors.specs.contracts.types.FieldTypePartialEq.TheImpl as fields
-use Rattle.cl_descriptors.proofs.Equality.{fields_equal}
 use Rattle.cl_descriptors.specs.Reading.{whole_field, whole_method}
 use Rattle.cl_descriptors.specs.Types.{spelling_of_base}
 use Rattle.cl_descriptors.proofs.Methods.{whole_field_spelled, whole_method_spelled}
 use Rattle.std.proofs.lemmas.Cmp.{nat_eq_equiv}
 use Rattle.cl_classfile.specs.Files as files
 use Rattle.cl_classfile.specs.Files.{Key, Name, same_name, same_base, same_type, same_descriptor, same_key}
+use Rattle.cl_classfile.proofs.KeyTexts.{method_decides, type_decides}
 use Rattle.cl_model.specs.Keys.{descriptor_of, descriptor_in, key_of}
 use Rattle.cl_model.specs.Lines.{spelling_of}
-
-and_true : (b : Bool) → b && true ≡ b
-and_true true = refl
-and_true false = refl
-
--- the test of bases and of types is that of the code
-base_test : (a b : Base) → same_base a b ≡ bases.ghosts.eq a b
-base_test Byte Byte = refl
-base_test Char Char = refl
-base_test Double Double = refl
-base_test Float Float = refl
-base_test Int Int = refl
-base_test Long Long = refl
-base_test Short Short = refl
-base_test Boolean Boolean = refl
-base_test (Class m) (Class n) = and_true (same_name m n)
-base_test _ _ = refl
-
-type_decides : (s t : FieldType) → Decides (same_type s t) (s ≡ t)
-type_decides s t = Decides-at (same_type s t) (fields.ghosts.eq s t) (ap (λ (b : Bool). (s.dims == t.dims) && b) (base_test s.base t.base)) (fields_equal s t)
-
-return_same : (r q : Option FieldType) → option_to_list r ≡ option_to_list q → r ≡ q
-return_same None None e = refl
-return_same None (Some t) e = absurd cc
-return_same (Some s) None e = absurd cc
-return_same (Some s) (Some t) e = cc
-
-method_same : (m n : MethodType) → (option_to_list m.ret ≡ option_to_list n.ret) × (m.params ≡ n.params) → m ≡ n
-method_same m n e =
-    let ret : m.ret ≡ n.ret = return_same m.ret n.ret e.0 in
-    ap (λ (ts : List FieldType). let made : MethodType = record { params = ts; ret = m.ret } in made) e.1 ∙ ap (λ (r : Option FieldType). let made : MethodType = record { params = n.params; ret = r } in made) ret
 
 field_of : (s t : FieldType) → descriptors.Field s ≡ descriptors.Field t → s ≡ t
 field_of s t e = cc
@@ -63,10 +30,7 @@ method_of m n e = cc
 descriptor_decides : (a b : Descriptor) → Decides (same_descriptor a b) (a ≡ b)
 descriptor_decides (descriptors.Field s) (descriptors.Field t) = Decides-like (same_type s t) (ap (λ (x : FieldType). descriptors.Field x)) (field_of s t) (type_decides s t)
 descriptor_decides (descriptors.Method m) (descriptors.Method n) =
-    Decides-like (same_descriptor (descriptors.Method m) (descriptors.Method n)) (λ e. ap (λ (x : MethodType). descriptors.Method x) (method_same m n e))
-    (λ e. let same = method_of m n e in (ap (λ (x : MethodType). option_to_list x.ret) same, ap (λ (x : MethodType). x.params) same))
-    (Decides-and (pointwise same_type (option_to_list m.ret) (option_to_list n.ret)) (pointwise same_type m.params n.params)
-    (pointwise_decides type_decides (option_to_list m.ret) (option_to_list n.ret)) (pointwise_decides type_decides m.params n.params))
+    Decides-like (same_descriptor (descriptors.Method m) (descriptors.Method n)) (ap (λ (x : MethodType). descriptors.Method x)) (method_of m n) (method_decides m n)
 descriptor_decides (descriptors.Field s) (descriptors.Method n) = (λ e. absurd cc, λ e. absurd cc)
 descriptor_decides (descriptors.Method m) (descriptors.Field t) = (λ e. absurd cc, λ e. absurd cc)
 

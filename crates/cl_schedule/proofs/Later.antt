@@ -89,7 +89,7 @@ after_then told a b c h k = record { goes = goes_on_then a b c h k.goes; kept = 
 state_later : (old new : Shown) (h : GoesOn old new) → state_of new ≡ state_after (state_of old) h.made
 state_later old new h = ap (state_after start) h.steps_more ∙ state_append start (steps old) h.made
 
-is_later : (old new : Shown) → GoesOn old new → IsLater (state_of old) (state_of new)
+pub is_later : (old new : Shown) → GoesOn old new → IsLater (state_of old) (state_of new)
 is_later old new h = subst (λ (s : State). IsLater (state_of old) s) (sym (state_later old new h)) (run_later (state_of old) h.made)
 
 -- ---- records and rows

@@ -22,3 +22,4 @@ pub mod Rooming
 pub mod Owing
 pub mod Nearing
 pub mod Prompt
+pub mod Paying

@@ -8,14 +8,16 @@ use Rattle.cl_model.specs.Machine.{Scheduled, Setting, Step, state_after}
 use Rattle.cl_model.specs.Service.{PassesRounds}
 use Rattle.cl_model.proofs.Service.{state_append}
 use Rattle.cl_registry.specs.Tables.{Shown, state_of, steps}
-use Rattle.cl_schedule.specs.Choices.{Plays, PlayedAs, ArePrompt, IsPieceOf, IsPrompt, Piece, piece, steps_in}
+use Rattle.cl_schedule.specs.Choices.{AreInTime, Plays, PlayedAs, ArePrompt, IsInTime, IsPieceOf, IsPrompt, Piece, piece, steps_in}
 use Rattle.cl_schedule.specs.Rooms.{PlayedPast, PlayedTo, PlaysIn, SameScript, IsPlayedBy}
 use Rattle.cl_config.specs.Loaders.{schedule_of}
 use Rattle.cl_config.specs.Views.{Scripted}
 use Rattle.cl_schedule.specs.declared.choices.Room.{Room}
 use Rattle.cl_schedule.specs.Nearing.{AreNear, KeepsNear, NoneBegun}
+use Rattle.cl_schedule.specs.Paying.{ArePaid, KeepsPaid}
 use Rattle.cl_schedule.specs.Rounds.{RoundsPassed}
 use Rattle.cl_schedule.specs.Serving.{machine}
+use Rattle.cl_schedule.proofs.Paying.{in_time_none, in_time_push, is_in_time, none_paid}
 use Rattle.cl_schedule.proofs.Prompt.{is_prompt, prompt_none, prompt_push}
 use Rattle.cl_schedule.proofs.Serving.{bare}
 use Rattle.cl_schedule.proofs.States.{same_machine}
@@ -54,13 +56,14 @@ played_none (Some content) empty x e p =
             (subst (λ (es : List Step). PassesRounds (machine empty content) (state_after start es) p.passed) e (p.rounds content));
         played = tt;
         prompt = prompt_none (schedule_of x.script);
+        in_time = in_time_none (machine x content);
       },
     )
 
--- the choices so far, and how near their answers the requests are behind them
+-- the choices so far, how near their answers the requests are behind them, and how many calls they have left
 abbrev pub RoomPlayed : {A : Type 0} → Option Content → Shown → Room A → List ℕ → Type 0
 RoomPlayed None x room cs = Unit {0}
-RoomPlayed (Some content) x room cs = (rounds : List Step) × (pieces : List Piece) × IsPlayedBy content x cs rounds pieces × AreNear x room pieces
+RoomPlayed (Some content) x room cs = (rounds : List Step) × (pieces : List Piece) × IsPlayedBy content x cs rounds pieces × AreNear x room pieces × ArePaid (Some content) x room pieces
 
 -- the same after the schedule
 abbrev pub RoomPast : {A : Type 0} → Option Content → Shown → Room A → List ℕ → Type 0
@@ -74,12 +77,12 @@ none_near x room none = record { untaken = λ q e. none q; has = λ q r v s firs
 
 pub room_none : {A : Type 0} (told : Option Content) (x : Shown) (room : Room A) → PlayedTo told x [] → NoneBegun room → RoomPlayed told x room []
 room_none None x room played none = tt
-room_none (Some content) x room (rounds, [], by) none = (rounds, [], by, none_near x room none)
+room_none (Some content) x room (rounds, [], by) none = (rounds, [], by, none_near x room none, none_paid (Some content) x room none)
 room_none (Some content) x room (rounds, p ∷ ps, by) none = absurd by.played
 
-pub played_on : {A : Type 0} (told : Option Content) (old new : Shown) (was now : Room A) (cs : List ℕ) (c : ℕ) → SameScript old new → RoomPlayed told old was cs → PlaysIn told old new c → KeepsNear old new was now c → RoomPlayed told new now (cs ++ c ∷ [])
-played_on None old new was now cs c same played plays keeps = tt
-played_on (Some content) old new was now cs c same (first, pieces, by, near) (one, rounds, more, chosen, began) keeps =
+pub played_on : {A : Type 0} (told : Option Content) (old new : Shown) (was now : Room A) (cs : List ℕ) (c : ℕ) → SameScript old new → RoomPlayed told old was cs → PlaysIn told old new c → KeepsNear old new was now c → KeepsPaid told old new was now c → RoomPlayed told new now (cs ++ c ∷ [])
+played_on None old new was now cs c same played plays keeps pays = tt
+played_on (Some content) old new was now cs c same (first, pieces, by, near, paid) (one, rounds, more, chosen, began) keeps pays =
     let g : Setting = machine old content in
     let script : List Scheduled = schedule_of old.script in
     let p : Piece = piece script (state_of old) c one rounds in
@@ -87,6 +90,8 @@ played_on (Some content) old new was now cs c same (first, pieces, by, near) (on
     let is : IsPieceOf g (state_of old) c p = record { is = refl; made = chosen; passed = began } in
     let kept = keeps pieces near in
     let last : IsPrompt script pieces p = is_prompt old new content c one rounds pieces kept.0 more chosen began in
+    let left = pays pieces paid in
+    let in_time : IsInTime g pieces p = is_in_time old new content c one rounds pieces left.0 more chosen began in
     let machine_is = sym (same_machine old new content same.config same.script) in (
       first,
       pieces ++ p ∷ [],
@@ -101,8 +106,10 @@ played_on (Some content) old new was now cs c same (first, pieces, by, near) (on
             subst (λ (h : Setting). Plays h (state_after start first) (cs ++ c ∷ []) (pieces ++ p ∷ [])) machine_is
             (plays_push g (state_after start first) cs pieces c p by.played (subst (λ (t : State). IsPieceOf g t c p) there is));
         prompt = subst (λ (k : Scripted). ArePrompt (schedule_of k) (pieces ++ p ∷ [])) (sym same.script) (prompt_push script pieces p by.prompt last);
+        in_time = subst (λ (h : Setting). AreInTime h (pieces ++ p ∷ [])) machine_is (in_time_push g pieces p by.in_time in_time);
       },
       kept.1 one rounds,
+      left.1 one rounds,
     )
 
 -- one zero more at the end
@@ -113,22 +120,22 @@ replicate_push (suc n) k = ap (λ (xs : List ℕ). k ∷ xs) (replicate_push n k
 pub past_none : {A : Type 0} (told : Option Content) (x : Shown) (room : Room A) (cs : List ℕ) → RoomPlayed told x room cs → RoomPast told x room cs
 past_none told x room cs played = (0, subst (RoomPlayed told x room) (sym (append-nil cs)) played)
 
-pub past_on : {A : Type 0} (told : Option Content) (old new : Shown) (was now : Room A) (cs : List ℕ) → SameScript old new → RoomPast told old was cs → PlaysIn told old new 0 → KeepsNear old new was now 0 → RoomPast told new now cs
-past_on told old new was now cs same (more, played) plays keeps = (
+pub past_on : {A : Type 0} (told : Option Content) (old new : Shown) (was now : Room A) (cs : List ℕ) → SameScript old new → RoomPast told old was cs → PlaysIn told old new 0 → KeepsNear old new was now 0 → KeepsPaid told old new was now 0 → RoomPast told new now cs
+past_on told old new was now cs same (more, played) plays keeps pays = (
   suc more,
-  subst (RoomPlayed told new now) (append_assoc cs (replicate more 0) (0 ∷ []) ∙ ap (λ (xs : List ℕ). cs ++ xs) (replicate_push more 0)) (played_on told old new was now (cs ++ replicate more 0) 0 same played plays keeps),
+  subst (RoomPlayed told new now) (append_assoc cs (replicate more 0) (0 ∷ []) ∙ ap (λ (xs : List ℕ). cs ++ xs) (replicate_push more 0)) (played_on told old new was now (cs ++ replicate more 0) 0 same played plays keeps pays),
 )
 
 room_played : {A : Type 0} (told : Option Content) (x : Shown) (room : Room A) (cs : List ℕ) → RoomPlayed told x room cs → PlayedTo told x cs
 room_played None x room cs played = tt
-room_played (Some content) x room cs (rounds, pieces, by, near) = (rounds, pieces, by)
+room_played (Some content) x room cs (rounds, pieces, by, near, paid) = (rounds, pieces, by)
 
 pub room_past : {A : Type 0} (told : Option Content) (x : Shown) (room : Room A) (cs : List ℕ) → RoomPast told x room cs → PlayedPast told x cs
 room_past told x room cs (more, played) = (more, room_played told x room (cs ++ replicate more 0) played)
 
 pub played_as : (told : Option Content) (x : Shown) (cs : List ℕ) → PlayedPast told x cs → PlayedAs told (bare x) cs
 played_as None x cs played = tt
-played_as (Some content) x cs (more, (rounds, pieces, by)) = record { rounds = rounds; pieces = pieces; more = more; whole = by.whole; passed = by.passed; played = by.played; prompt = by.prompt }
+played_as (Some content) x cs (more, (rounds, pieces, by)) = record { rounds = rounds; pieces = pieces; more = more; whole = by.whole; passed = by.passed; played = by.played; prompt = by.prompt; in_time = by.in_time }
 
 -- ---- the choices of a schedule
 

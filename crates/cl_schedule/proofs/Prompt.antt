@@ -32,7 +32,7 @@ use Rattle.cl_schedule.proofs.Rounds.{scheduled_at}
 
 -- ---- cases
 
-bool_cases : (b : Bool) → (b ≡ true) ⊎ (b ≡ false)
+pub bool_cases : (b : Bool) → (b ≡ true) ⊎ (b ≡ false)
 bool_cases true = inl refl
 bool_cases false = inr refl
 
@@ -40,10 +40,10 @@ option_cases : {A : Type 0} (o : Option A) → (o ≡ None) ⊎ ((a : A) × (o �
 option_cases None = inl refl
 option_cases (Some a) = inr (a, refl)
 
-some_is : {A : Type 0} (a b : A) → Some a ≡ Some b → a ≡ b
+pub some_is : {A : Type 0} (a b : A) → Some a ≡ Some b → a ≡ b
 some_is a b e = cc
 
-some_none : {A : Type 0} (o : Option A) (a : A) → o ≡ Some a → o ≡ None → ⊥
+pub some_none : {A : Type 0} (o : Option A) (a : A) → o ≡ Some a → o ≡ None → ⊥
 some_none o a e k = cc
 
 true_false : (b : Bool) → b ≡ true → b ≡ false → ⊥
@@ -57,14 +57,14 @@ same_nat q = grind (arith, nat_tests)
 of_this : (q : ℕ) (o : Option ℕ) → o ≡ Some q → is_of q o ≡ true
 of_this q o is = ap (is_of q) is ∙ same_nat q
 
-this_of : (q : ℕ) (o : Option ℕ) → is_of q o ≡ true → o ≡ Some q
+pub this_of : (q : ℕ) (o : Option ℕ) → is_of q o ≡ true → o ≡ Some q
 this_of q None is = absurd cc
 this_of q (Some p) is = ap (λ (n : ℕ). Some n) (eq_nat p q is)
 
-of_other : (q p : ℕ) (o : Option ℕ) → o ≡ Some p → is_of q o ≡ false → q ≡ p → ⊥
+pub of_other : (q p : ℕ) (o : Option ℕ) → o ≡ Some p → is_of q o ≡ false → q ≡ p → ⊥
 of_other q p o is apart same = true_false (is_of q o) (of_this q o (is ∙ ap (λ (n : ℕ). Some n) (sym same))) apart
 
-takings_this : (q : ℕ) (ps : List Piece) (p : Piece) → is_of q p.taken ≡ true → takings q (ps ++ p ∷ []) ≡ suc (takings q ps)
+pub takings_this : (q : ℕ) (ps : List Piece) (p : Piece) → is_of q p.taken ≡ true → takings q (ps ++ p ∷ []) ≡ suc (takings q ps)
 takings_this q [] p is = ap (λ (b : Bool). if b then suc 0 else 0) is
 takings_this q (x ∷ xs) p is = ap (λ (n : ℕ). if is_of q x.taken then suc n else n) (takings_this q xs p is) ∙ one_more (is_of q x.taken) (takings q xs)
   where
@@ -72,7 +72,7 @@ takings_this q (x ∷ xs) p is = ap (λ (n : ℕ). if is_of q x.taken then suc n
     one_more true n = refl
     one_more false n = refl
 
-takings_other : (q : ℕ) (ps : List Piece) (p : Piece) → is_of q p.taken ≡ false → takings q (ps ++ p ∷ []) ≡ takings q ps
+pub takings_other : (q : ℕ) (ps : List Piece) (p : Piece) → is_of q p.taken ≡ false → takings q (ps ++ p ∷ []) ≡ takings q ps
 takings_other q [] p is = ap (λ (b : Bool). if b then suc 0 else 0) is
 takings_other q (x ∷ xs) p is = ap (λ (n : ℕ). if is_of q x.taken then suc n else n) (takings_other q xs p is)
 
@@ -115,11 +115,11 @@ untaken_before q ps p none = elim (option_cases (first_taken q ps)) [
 
 -- ---- pieces, one after another
 
-no_end : (before behind : List Piece) (p : Piece) → [] ≡ before ++ p ∷ behind → ⊥
+pub no_end : (before behind : List Piece) (p : Piece) → [] ≡ before ++ p ∷ behind → ⊥
 no_end [] behind p e = cc
 no_end (b ∷ before) behind p e = cc
 
-split_last : (xs before : List Piece) (x p : Piece) (behind : List Piece) → xs ++ x ∷ [] ≡ before ++ p ∷ behind → ((before ≡ xs) × (p ≡ x)) ⊎ ((more : List Piece) × (xs ≡ before ++ p ∷ more))
+pub split_last : (xs before : List Piece) (x p : Piece) (behind : List Piece) → xs ++ x ∷ [] ≡ before ++ p ∷ behind → ((before ≡ xs) × (p ≡ x)) ⊎ ((more : List Piece) × (xs ≡ before ++ p ∷ more))
 split_last [] [] x p behind e = inl (refl, head_is x p [] behind e)
   where
     head_is : (x p : Piece) (xs ps : List Piece) → x ∷ xs ≡ p ∷ ps → p ≡ x
@@ -155,7 +155,7 @@ prompt_push script ps p all last = λ before behind k whole. elim (split_last ps
 
 -- ---- what the piece is of which it is known what it posts
 
-only_post : (g : Setting) (s t : State) (c q : ℕ) (a : Answer) (one rounds rest : List Step) → Chooses g s c one → PassesRounds g t rounds → one ++ rounds ≡ Post q a ∷ rest → one ≡ Post q a ∷ []
+pub only_post : (g : Setting) (s t : State) (c q : ℕ) (a : Answer) (one rounds rest : List Step) → Chooses g s c one → PassesRounds g t rounds → one ++ rounds ≡ Post q a ∷ rest → one ≡ Post q a ∷ []
 only_post g s t c q a [] [] rest chosen passed whole = absurd cc
 only_post g s t c q a [] (e ∷ es) rest chosen passed whole = absurd (no_round passed.0 (head_is e (Post q a) es rest whole))
   where
@@ -267,14 +267,14 @@ goes_promptly told old new was choice q k t u ps kept near is_open taken asked n
 
 -- ---- places
 
-other_set : {A : Type 0} (xs : List A) (q p : ℕ) (a : A) → (p ≡ q → ⊥) → slice_get (slice_set xs q a) p ≡ slice_get xs p
+pub other_set : {A : Type 0} (xs : List A) (q p : ℕ) (a : A) → (p ≡ q → ⊥) → slice_get (slice_set xs q a) p ≡ slice_get xs p
 other_set [] q p a other = refl
 other_set (x ∷ xs) zero zero a other = absurd (other refl)
 other_set (x ∷ xs) zero (suc p) a other = refl
 other_set (x ∷ xs) (suc q) zero a other = refl
 other_set (x ∷ xs) (suc q) (suc p) a other = other_set xs q p a (λ same. other (ap (λ (n : ℕ). suc n) same))
 
-same_set : {A : Type 0} (xs : List A) (q : ℕ) (a : A) → q < length xs → slice_get (slice_set xs q a) q ≡ Some a
+pub same_set : {A : Type 0} (xs : List A) (q : ℕ) (a : A) → q < length xs → slice_get (slice_set xs q a) q ≡ Some a
 same_set [] q a below = absurd (omega arith)
 same_set (x ∷ xs) zero a below = refl
 same_set (x ∷ xs) (suc q) a below = same_set xs q a (omega arith)
@@ -284,22 +284,22 @@ kept_length [] q a = refl
 kept_length (x ∷ xs) zero a = refl
 kept_length (x ∷ xs) (suc q) a = ap (λ (n : ℕ). suc n) (kept_length xs q a)
 
-other_task : {A : Type 0} (old mid : Room A) (q p : ℕ) → HasTaken old mid q → (p ≡ q → ⊥) → slice_get mid.tasks.items p ≡ slice_get old.tasks.items p
+pub other_task : {A : Type 0} (old mid : Room A) (q p : ℕ) → HasTaken old mid q → (p ≡ q → ⊥) → slice_get mid.tasks.items p ≡ slice_get old.tasks.items p
 other_task old mid q p taken other = elim taken.tasks [
   | inl same ↦ ap (λ (ts : List (Option Tasked)). slice_get ts p) same
   | inr set ↦ ap (λ (ts : List (Option Tasked)). slice_get ts p) set ∙ other_set old.tasks.items q p None other
 ]
 
-other_call : {A : Type 0} (old mid : Room A) (q p : ℕ) → HasTaken old mid q → (p ≡ q → ⊥) → slice_get mid.calls.items p ≡ slice_get old.calls.items p
+pub other_call : {A : Type 0} (old mid : Room A) (q p : ℕ) → HasTaken old mid q → (p ≡ q → ⊥) → slice_get mid.calls.items p ≡ slice_get old.calls.items p
 other_call {A = A} old mid q p taken other = ap (λ (cs : List (Option (Turn A))). slice_get cs p) taken.calls ∙ other_set old.calls.items q p None other
 
-mid_tasks : {A : Type 0} (old mid : Room A) (q : ℕ) → HasTaken old mid q → length mid.tasks.items ≡ length old.tasks.items
+pub mid_tasks : {A : Type 0} (old mid : Room A) (q : ℕ) → HasTaken old mid q → length mid.tasks.items ≡ length old.tasks.items
 mid_tasks old mid q taken = elim taken.tasks [
   | inl same ↦ ap length same
   | inr set ↦ ap length set ∙ kept_length old.tasks.items q None
 ]
 
-mid_calls : {A : Type 0} (old mid : Room A) (q : ℕ) → HasTaken old mid q → length mid.calls.items ≡ length old.calls.items
+pub mid_calls : {A : Type 0} (old mid : Room A) (q : ℕ) → HasTaken old mid q → length mid.calls.items ≡ length old.calls.items
 mid_calls old mid q taken = ap length taken.calls ∙ kept_length old.calls.items q None
 
 -- ---- whom a choice takes of those that were gathered
@@ -307,7 +307,7 @@ mid_calls old mid q taken = ap length taken.calls ∙ kept_length old.calls.item
 pub taken_is : (x : Shown) (ws : List ℕ) (next choice q : ℕ) → HasGathered x ws next → slice_get ws (choice % length ws) ≡ Some q → taken_by (schedule_of x.script) (state_of x) choice ≡ Some q
 taken_is x ws next choice q h at = subst (λ (xs : List ℕ). slice_get xs (choice % length xs) ≡ Some q) h.waits at
 
-taken_none : (x : Shown) (ws : List ℕ) (next choice : ℕ) → HasGathered x ws next → ws ≡ [] → taken_by (schedule_of x.script) (state_of x) choice ≡ None
+pub taken_none : (x : Shown) (ws : List ℕ) (next choice : ℕ) → HasGathered x ws next → ws ≡ [] → taken_by (schedule_of x.script) (state_of x) choice ≡ None
 taken_none x ws next choice h none = ap (λ (xs : List ℕ). slice_get xs (choice % length xs)) (sym h.waits ∙ none)
 
 -- ---- a choice
@@ -322,11 +322,11 @@ keeps_none x room choice h none = λ ps near.
     )
 
 -- the answers stay open that a call leaves
-open_did : (old new : Shown) (such : Step → Type 0) → Did old new such → (q : ℕ) → IsOpen new q → IsOpen old q
+pub open_did : (old new : Shown) (such : Step → Type 0) → Did old new such → (q : ℕ) → IsOpen new q → IsOpen old q
 open_did old new such (inl same) q is = subst (λ (y : Shown). IsOpen y q) same is
 open_did old new such (inr (e, is_such, goes)) q is = ap (λ (xs : List (Option rust.Answer)). slice_get xs q) (sym goes.answers) ∙ is
 
-open_posted : (old new : Shown) (q : ℕ) (a : rust.Answer) → IsOpen old q → new ≡ with_post old q a → (p : ℕ) → IsOpen new p → IsOpen old p
+pub open_posted : (old new : Shown) (q : ℕ) (a : rust.Answer) → IsOpen old q → new ≡ with_post old q a → (p : ℕ) → IsOpen new p → IsOpen old p
 open_posted old new q a here is p open_is = by_set old.answers q p here (ap (λ (y : Shown). slice_get y.answers p) (sym is) ∙ open_is)
   where
     by_set : (xs : List (Option rust.Answer)) (q p : ℕ) → slice_get xs q ≡ Some None → slice_get (slice_set xs q (Some a)) p ≡ Some None → slice_get xs p ≡ Some None
@@ -336,7 +336,7 @@ open_posted old new q a here is p open_is = by_set old.answers q p here (ap (λ 
     by_set (x ∷ xs) (suc q) zero here e = e
     by_set (x ∷ xs) (suc q) (suc p) here e = by_set xs q p here e
 
-not_open : (old new : Shown) (q : ℕ) (a : rust.Answer) → IsOpen old q → new ≡ with_post old q a → IsOpen new q → ⊥
+pub not_open : (old new : Shown) (q : ℕ) (a : rust.Answer) → IsOpen old q → new ≡ with_post old q a → IsOpen new q → ⊥
 not_open old new q a here is open_is = by_set old.answers q here (ap (λ (y : Shown). slice_get y.answers q) (sym is) ∙ open_is)
   where
     by_set : (xs : List (Option rust.Answer)) (q : ℕ) → slice_get xs q ≡ Some None → slice_get (slice_set xs q (Some a)) q ≡ Some None → ⊥

@@ -17,7 +17,7 @@ use Rattle.cl_registry.specs.Refusals.{PostRefusedFor}
 use Rattle.cl_registry.specs.Tables.{Shown, IsAsked, IsKept, RunsAs, state_of, steps, with_post}
 use Rattle.cl_tasks.specs.Facts.{Holds}
 use Rattle.cl_tasks.specs.Measures.{all_left}
-use Rattle.cl_tasks.specs.Follows.{Backed, FollowsWhere, Tells, TellsOf, Unrecorded}
+use Rattle.cl_tasks.specs.Follows.{AreLeft, Backed, FollowsWhere, Tells, TellsOf, Unrecorded}
 use Rattle.cl_tasks.specs.Tasks.{Tasked, begun}
 use Rattle.cl_tasks.specs.Turns.{Asks, Expects, IsReplyTo, Serves, call_of}
 use Rattle.cl_tasks.specs.Waits.{Waits, Reading, Settling}
@@ -25,7 +25,7 @@ use Rattle.cl_tasks.specs.declared.turn.Reply.{Reply}
 use Rattle.cl_tasks.specs.declared.turn.Reply.TheVariants as reply
 use Rattle.cl_tasks.specs.declared.turn.Turn.{Turn}
 use Rattle.cl_tasks.specs.declared.turn.Turn.TheVariants as turn
-use Rattle.cl_schedule.specs.Replies.{CallSays, Did, IsCall, IsReplied, IsStepOf}
+use Rattle.cl_schedule.specs.Replies.{CallSays, Did, IsCall, IsRead, IsReplied, IsStepOf}
 use Rattle.cl_schedule.specs.Seats.{FollowsIn, GoesOn, HasAdvanced, HasPosted, IsAfter, IsCitedFor, IsFor, IsReady, IsSeated, IsSeatedAt, MayPost, NextIn, PostsIn}
 use Rattle.cl_schedule.specs.Serving.{GoesBy, IsCallStep, machine}
 use Rattle.cl_schedule.proofs.Backing.{call_backed_later, cited_later, post_backed_later}
@@ -119,8 +119,8 @@ posts_later told x y q r (turn.Post f) after follows backed t is = λ content e 
     post_backed_later content x y r f (subst (λ (o : Option Content). IsAfter o x y) e after) (follows content e) is backed
 
 -- after a turn the request waits with what is asked
-pub seated_on : {A : Type 0} (told : Option Content) (x : Shown) (q : ℕ) (r : Request) (t next : Tasked) (given : Reply A) (u : Turn A) → IsReady told x t given r → TurnSays told t next given u → next.left < t.left → IsSeated told x next u q r
-seated_on told x q r t next given u ready says less =
+pub seated_on : {A : Type 0} (told : Option Content) (x : Shown) (q : ℕ) (r : Request) (t next : Tasked) (given : Reply A) (u : Turn A) → IsReady told x t given r → TurnSays told t next given u → next.left < t.left → (IsRead u → ⊥) → AreLeft next.calls → IsSeated told x next u q r
+seated_on told x q r t next given u ready says less unread more =
     let few = ready.few in
     let here : Backed x u = says.backed x (sym ready.config) ready.kept.named (trusted_is_consistent (schedule_of x.script) x.script.rounds (steps x) ready.kept.trusted.tables) ready.tells in
     let is : IsFor next u r = is_for t next u r says.serves ready.request in
@@ -129,6 +129,8 @@ seated_on told x q r t next given u ready says less =
       asks = says.asks;
       for_request = is;
       few = omega arith;
+      unread = unread;
+      more = more;
       holds = λ y after. holds_later told x y next after (says.keeps x ready.tells.told);
       backed = λ y after call. call_backed_later told x y u ready.kept after call here;
       follows = λ y after. follows_there y after;
@@ -242,15 +244,20 @@ cited_after old new (turn.LookPrepared c) more h backed = tt
 cited_after old new (turn.Mark e) more h backed = tt
 cited_after old new (turn.Post f) more h backed = tt
 
+-- what a task was told before a call that was made, and by its reply, holds behind it
+pub ready_again : {A S : Type 0} (told : Option Content) (old new : Shown) (t : Tasked) (u : Turn A) (q : ℕ) (r : Request) (more : Reply A) (count later : ℕ) (since source : S) → IsKept told old → IsSeated told old t u q r → CallSays told old new u more count later since source → IsReady told new t more r
+ready_again told old new t u q r more count later since source kept seated says =
+    let after = after_call told old new u more count later since source says in
+    ready_told told new r t u more says.kept (seated.config ∙ sym after.goes.config) (request_of_call t u r seated.for_request says.call) seated.few seated.asks (seated.holds new after) says.replied (cited_after old new u more after.goes (seated.backed old (after_none told old kept) says.call))
+
 -- it waits again after the call and what follows it
 pub seated_again : {A S : Type 0} (told : Option Content) (old new : Shown) (t next : Tasked) (u w : Turn A) (q : ℕ) (more : Reply A) (count later : ℕ) (since source : S) → IsKept told old → IsSeatedAt told old t u q → CallSays told old new u more count later since source
     → ((x : Shown) (q : ℕ) (r : Request) → IsReady told x t more r → IsSeated told x next w q r) → IsSeatedAt told new next w q
-seated_again told old new t next u w q more count later since source kept (r, may, seated) says goes_on =
-    let after = after_call told old new u more count later since source says in (
-      r,
-      may_stay old new u q r says.did may,
-      goes_on new q r (ready_told told new r t u more says.kept (seated.config ∙ sym after.goes.config) (request_of_call t u r seated.for_request says.call) seated.few seated.asks (seated.holds new after) says.replied (cited_after old new u more after.goes (seated.backed old (after_none told old kept) says.call))),
-    )
+seated_again told old new t next u w q more count later since source kept (r, may, seated) says goes_on = (
+  r,
+  may_stay old new u q r says.did may,
+  goes_on new q r (ready_again told old new t u q r more count later since source kept seated says),
+)
 
 -- ---- the post of a request that waits
 

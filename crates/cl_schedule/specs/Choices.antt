@@ -1,9 +1,10 @@
 -- Requests of a round that are served in turns, as a schedule chooses among them (JVMS SE 8, 5.3 to 5.4.3).
-use Rattle.std.specs.Prelude.{◌≡◌, ◌≤◌, ◌&&◌, ◌%◌, ℕ, suc, Bool, false, List, [], ◌∷◌, ◌++◌, length, replicate, Option, Some, None, is_none, nat_eq, if◌then◌else◌, slice_get}
+use Rattle.std.specs.Prelude.{◌≡◌, ◌≤◌, ◌+◌, ◌&&◌, ◌%◌, ℕ, suc, Bool, false, List, [], ◌∷◌, ◌++◌, length, replicate, Option, Some, None, is_none, nat_eq, if◌then◌else◌, slice_get}
 use Rattle.cl_config.specs.Views.{Configured, Scripted}
 use Rattle.cl_model.specs.Content.{Content}
 use Rattle.cl_model.specs.States.{State, answer_to, start, Verdict, Answer}
-use Rattle.cl_model.specs.Machine.{Setting, Scheduled, Step, state_after, Post}
+use Rattle.cl_model.specs.Machine.{Setting, Scheduled, Step, IsPlan, state_after, Post}
+use Rattle.cl_model.specs.Plans.{Plan, cost}
 use Rattle.cl_model.specs.Service.{IsPiece, PassesRounds}
 use Rattle.cl_registry.specs.declared.report.Report.{Report}
 use Rattle.cl_registry.specs.Tables.{Shown, steps}
@@ -104,11 +105,24 @@ IsPrompt script before p =
 abbrev pub ArePrompt : List Scheduled → List Piece → Type 0
 ArePrompt script pieces = (before behind : List Piece) (p : Piece) → pieces ≡ before ++ p ∷ behind → IsPrompt script before p
 
+-- ---- a request that is taken as often as it costs
+
+-- where a piece takes a request that was taken before as often as its plan costs but once, its answer is posted (5.3 to 5.4.3)
+abbrev pub IsInTime : Setting → List Piece → Piece → Type 0
+IsInTime g before p =
+    (q : ℕ) (r : Scheduled) (plan : Plan)
+    → p.taken ≡ Some q → slice_get g.script q ≡ Some r → IsPlan g.world r.request plan → cost g.world plan ≤ takings q before + 1
+    → (a : Answer) × (p.made ≡ Post q a ∷ [])
+
+-- so it is with each piece: a request that was taken as often as its plan costs has its answer by then, whatever the others did between
+abbrev pub AreInTime : Setting → List Piece → Type 0
+AreInTime g pieces = (before behind : List Piece) (p : Piece) → pieces ≡ before ++ p ∷ behind → IsInTime g before p
+
 -- ---- the history of a schedule
 
 -- a history is that of a schedule: the rounds that may begin, then the pieces of the schedule's choices; after the last one the first
 -- request that waits is taken again and again, so that what is left is served in order. A request whose verdict the tables have when it
--- is taken first has its answer by its third taking
+-- is taken first has its answer by its third taking, and each has its own once it was taken as often as its plan costs
 pub record IsPlayed (g : Setting) (schedule : List ℕ) (es : List Step) : Type 0 where
   pub rounds : List Step
   pub pieces : List Piece
@@ -117,6 +131,7 @@ pub record IsPlayed (g : Setting) (schedule : List ℕ) (es : List Step) : Type 
   pub passed : PassesRounds g start rounds
   pub played : Plays g (state_after start rounds) (schedule ++ replicate more 0) pieces
   pub prompt : ArePrompt g.script pieces
+  pub in_time : AreInTime g pieces
 
 -- ---- the report
 

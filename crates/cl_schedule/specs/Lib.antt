@@ -3,6 +3,7 @@ pub mod Rounds
 pub mod Replies
 pub mod Known
 pub mod Nearing
+pub mod Paying
 pub mod Counting
 pub mod Headline
 pub mod Choices

@@ -13,7 +13,7 @@ use Rattle.cl_tasks.specs.declared.turn.Turn.{Turn}
 use Rattle.cl_schedule.specs.declared.choices.Room.{Room}
 use Rattle.cl_schedule.specs.declared.serve.ServeFault.{ServeFault}
 use Rattle.cl_schedule.specs.declared.serve.ServeFault.TheVariants as faults
-use Rattle.cl_schedule.specs.Choices.{ArePrompt, Chooses, Piece, Plays, steps_in}
+use Rattle.cl_schedule.specs.Choices.{AreInTime, ArePrompt, Chooses, Piece, Plays, steps_in}
 use Rattle.cl_schedule.specs.Seats.{HasGathered, IsSeated}
 use Rattle.cl_schedule.specs.Serving.{machine}
 
@@ -69,6 +69,7 @@ pub record IsPlayedBy (content : Content) (x : Shown) (cs : List ℕ) (rounds : 
   pub passed : PassesRounds (machine x content) start rounds
   pub played : Plays (machine x content) (state_after start rounds) cs pieces
   pub prompt : ArePrompt (schedule_of x.script) pieces
+  pub in_time : AreInTime (machine x content) pieces
 
 -- the choices so far, after the rounds that began at first
 abbrev pub PlayedTo : Option Content → Shown → List ℕ → Type 0

@@ -14,7 +14,7 @@ use Rattle.cl_registry.specs.Posting.{IsBacked}
 use Rattle.cl_registry.specs.References.{Cited, cited_by}
 use Rattle.cl_registry.specs.Tables.{Shown, IsKept, IsLater, IsOpen, state_of, steps, with_post}
 use Rattle.cl_tasks.specs.Facts.{Holds}
-use Rattle.cl_tasks.specs.Follows.{Backed, Follows, TellsNow}
+use Rattle.cl_tasks.specs.Follows.{AreLeft, Backed, Follows, TellsNow}
 use Rattle.cl_tasks.specs.Measures.{all_left}
 use Rattle.cl_tasks.specs.Tasks.{Tasked}
 use Rattle.cl_tasks.specs.Turns.{Asks}
@@ -24,7 +24,7 @@ use Rattle.cl_tasks.specs.declared.turn.Reply.TheVariants as reply
 use Rattle.cl_tasks.specs.declared.turn.Turn.{Turn}
 use Rattle.cl_tasks.specs.declared.turn.Turn.TheVariants as turn
 use Rattle.cl_schedule.specs.Choices.{waiting}
-use Rattle.cl_schedule.specs.Replies.{Did, IsCall}
+use Rattle.cl_schedule.specs.Replies.{Did, IsCall, IsRead}
 use Rattle.cl_schedule.specs.Serving.{IsCallStep, machine}
 
 -- ---- a registry later on
@@ -68,13 +68,15 @@ abbrev pub PostsIn : {A : Type 0} → Option Content → Shown → ℕ → Reque
 PostsIn told y q r (turn.Post f) = (content : Content) → told ≡ Some content → MayPost y q r → IsBacked y f
 PostsIn told y q r other = Unit {0}
 
--- a request was begun and waits with this call: wherever the registry goes on to, what its task was told holds, the call may be made, and
--- it is what comes next (5.3 to 5.4.3)
+-- a request was begun and waits with this call, which is no read: wherever the registry goes on to, what its task was told holds, the call
+-- may be made, and it is what comes next; its post at least is left (5.3 to 5.4.3)
 pub record IsSeated {A : Type 0} (told : Option Content) (x : Shown) (t : Tasked) (u : Turn A) (q : ℕ) (r : Request) : Type 0 where
   pub config : t.config ≡ x.config
   pub asks : Asks t u
   pub for_request : IsFor t u r
   pub few : t.left ≤ all_left
+  pub unread : IsRead u → ⊥
+  pub more : AreLeft t.calls
   pub holds : (y : Shown) → IsAfter told x y → Holds y t
   pub backed : (y : Shown) → IsAfter told x y → IsCall u → Backed y u
   pub follows : (y : Shown) → IsAfter told x y → FollowsIn told y r u

@@ -8,6 +8,7 @@ ghost use Rattle.cl_schedule.specs.Choices.{IsSimulated};
 ghost use Rattle.cl_schedule.specs.Counting.{CountGrows, CountsFaults, debt, faults, owed_at, owed_of};
 ghost use Rattle.cl_schedule.specs.Rooms.{AllSeated, ChoosesIn, FirstFalls, HasTaken, IsRoom, IsStrayUntold, OpenSeats, PlayedPast, PlayedTo, PlaysIn, SameScript, TakesFirst, left_at};
 ghost use Rattle.cl_schedule.specs.Nearing.{ComesNearer, IsNearAt, KeepsNear, NoneBegun, PostsKnown};
+ghost use Rattle.cl_schedule.specs.Paying.{HasFewAt, KeepsPaid, LeavesFewer};
 ghost use Rattle.cl_schedule.specs.Seats.{HasAdvanced, HasPosted, IsSeatedAt};
 
 use crate::gather::{count, gather, number_at, take_out};
@@ -149,6 +150,8 @@ fn turn_of<T: Told, S: Source<T>>(
         (PostsKnown (IsNearAt (state_of registry.old) room.old q) registry.old registry.new q)
         (λ s. ComesNearer (IsNearAt (state_of registry.old) room.old q) registry.old registry.new q
         s.task s.call)) }
+    ensures paid { IfOk result (λ o. IfSome o (λ s. LeavesFewer T.told
+        (HasFewAt (state_of registry.old) room.old q) registry.old registry.new q s.task)) }
 {
     let seat = match room.take(q as usize) {
         Some(seat) => seat,
@@ -194,6 +197,8 @@ fn play<T: Told, S: Source<T>>(
     ensures kept { IsKept T.told registry.new }
     ensures known { IfOk result (λ _. KeepsNear registry.old registry.new
         room.old room.new choice) }
+    ensures paid { IfOk result (λ _. KeepsPaid T.told registry.old registry.new
+        room.old room.new choice) }
 {
     let len = count(&room.waiting);
     if len == 0 {
@@ -237,6 +242,8 @@ fn choose<T: Told, S: Source<T>>(
     ensures refused { IfErr result (IsStrayUntold T.told) }
     ensures kept { IsKept T.told registry.new }
     ensures known { IfOk result (λ _. KeepsNear registry.old registry.new
+        room.old room.new choice) }
+    ensures paid { IfOk result (λ _. KeepsPaid T.told registry.old registry.new
         room.old room.new choice) }
 {
     play(alloc, config, script, registry, source, room, choice)?;
@@ -334,7 +341,8 @@ fn open<T: Told>(
 /// nothing. After the last choice what is left is served in order.
 ///
 /// Where the source tells a content, the report's history is a run of the linkage machine over it, in which each request is
-/// answered once, with what its plan ends in there, or with a failure, however the schedule chooses.
+/// answered once, with what its plan ends in there, or with a failure, however the schedule chooses; and whoever was taken as
+/// often as its plan costs has its answer by then.
 ///
 /// Configuration and script are shared: a refusal drops what was moved in, and a caller that goes on keeps its own clone.
 ///

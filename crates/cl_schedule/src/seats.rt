@@ -9,6 +9,7 @@ ghost use Rattle.cl_registry.specs.Tables.{Shown, IsKept, state_of};
 ghost use Rattle.cl_tasks.specs.Turns.{Expects};
 ghost use Rattle.cl_schedule.specs.Counting.{CountGrows, faults, owed, owed_of, told_faults};
 ghost use Rattle.cl_schedule.specs.Nearing.{AtHand, ComesNearer, IsNear, PostsKnown, calls_after};
+ghost use Rattle.cl_schedule.specs.Paying.{HasFew, LeavesFewer, PaysFor, StartsWithin};
 ghost use Rattle.cl_schedule.specs.Seats.{HasAdvanced, HasPosted, IsReady, IsSeated, IsSeatedAt};
 
 use crate::replies::{read, reply_to};
@@ -45,6 +46,8 @@ pub(crate) fn read_on<T: Told, S: Source<T>>(
     ensures known { (x : Shown) (r : requests.Request) (v : Verdict)
         → AtHand (state_of x) r v task reply → task.request ≡ Some r
         → IsNear (state_of x) r v (calls_after reply + 1) result.task result.call }
+    ensures paid { (x : Shown) (r : requests.Request) → IsReady T.told x task reply r
+        → PaysFor T.told x r task result.task }
 {
     loop {
         match task.turn(alloc, reply) {
@@ -72,6 +75,8 @@ pub(crate) fn begin<T: Told, S: Source<T>>(
     ensures unread { OnErr result (source.new ≡ source.old) }
     ensures known { IfOk result (λ s. (x : Shown) (v : Verdict)
         → IsNear (state_of x) request v 3 s.task s.call) }
+    ensures paid { IfOk result (λ s. (x : Shown) → IsKept T.told x → x.config ≡ config.value
+        → StartsWithin T.told x request s.task) }
 {
     match Task::<T>::new(alloc, config, q, request) {
         Ok(task) => Ok(read_on(alloc, source, task, Reply::Start)),
@@ -105,6 +110,9 @@ pub(crate) fn advance<T: Told, S: Source<T>>(
         registry.old registry.new q)
         (λ s. ComesNearer (λ r v n. IsNear (state_of registry.old) r v n seat.task seat.call)
         registry.old registry.new q s.task s.call)) }
+    ensures paid { IfOk result (λ o. IfSome o (λ s. LeavesFewer T.told
+        (λ w p n. HasFew w p (state_of registry.old) n seat.task)
+        registry.old registry.new q s.task)) }
 {
     let Seat { task, call } = seat;
     match call {

@@ -2,6 +2,7 @@ use Rattle.std.proofs.Common.{◌∙◌, ap, length, refl, sym}
 use Rattle.cl_config.specs.Views.{Scripted}
 use Rattle.cl_schedule.specs.declared.choices.Room.{Room}
 use Rattle.cl_schedule.proofs.Owing.{debt_rounds, seats_same}
+use Rattle.cl_schedule.proofs.Paying.{pays_rounds}
 use Rattle.cl_schedule.proofs.Prompt.{keeps_rounds}
 use Rattle.cl_schedule.proofs.Rooming.{falls, falls_gathered, none_waits, plays_in, room_gathered, room_rounds, some_wait}
 use Rattle.cl_schedule.proofs.Rounds.{none_goes_on}
@@ -47,6 +48,12 @@ returns-in_ok-room-clause-known g c =
     let done : Room g.row.T.Denot = record { tasks = c.play.new.room.tasks; calls = c.play.new.room.calls; waiting = c.gather.new.waiting; next = c.in_ok-room.field-0 } in
     keeps_rounds c.args.registry.now c.play.new.registry c.pass_rounds.new.registry c.args.room.now c.play.new.room done c.args.choice c.in_ok-play.ensures.known c.pass_rounds.ensures.passed refl refl
 
+pub returns-in_ok-room-clause-paid : goal.returns-in_ok-room-clause-paid
+returns-in_ok-room-clause-paid g c =
+    let e = c.in_ok-play.ensures in
+    let done : Room g.row.T.Denot = record { tasks = c.play.new.room.tasks; calls = c.play.new.room.calls; waiting = c.gather.new.waiting; next = c.in_ok-room.field-0 } in
+    pays_rounds g.T.Told.told c.args.registry.now c.play.new.registry c.pass_rounds.new.registry c.args.room.now c.play.new.room done c.args.choice e.room.seated e.paid c.pass_rounds.ensures.passed refl refl
+
 -- ---- somebody waits
 
 pub returns-else-count-eq0-clause-played : goal.returns-else-count-eq0-clause-played
@@ -77,3 +84,8 @@ returns-else-count-eq0-clause-faults g c =
 pub returns-else-count-eq0-clause-known : goal.returns-else-count-eq0-clause-known
 returns-else-count-eq0-clause-known g c =
     keeps_rounds c.args.registry.now c.play.new.registry c.pass_rounds.new.registry c.args.room.now c.play.new.room c.play.new.room c.args.choice c.in_ok-play.ensures.known c.pass_rounds.ensures.passed refl refl
+
+pub returns-else-count-eq0-clause-paid : goal.returns-else-count-eq0-clause-paid
+returns-else-count-eq0-clause-paid g c =
+    let e = c.in_ok-play.ensures in
+    pays_rounds g.T.Told.told c.args.registry.now c.play.new.registry c.pass_rounds.new.registry c.args.room.now c.play.new.room c.play.new.room c.args.choice e.room.seated e.paid c.pass_rounds.ensures.passed refl refl

@@ -4,10 +4,12 @@ use Rattle.cl_config.specs.Views.{Scripted}
 use Rattle.cl_schedule.specs.declared.seats.Seat.{Seat}
 use Rattle.cl_registry.specs.Tables.{state_of}
 use Rattle.cl_schedule.specs.Nearing.{ComesNearer, IsNearAt, PostsKnown}
+use Rattle.cl_schedule.specs.Paying.{HasFewAt, LeavesFewer}
 use Rattle.cl_schedule.specs.Rooms.{left_at}
 use Rattle.cl_schedule.specs.Seats.{HasAdvanced, HasPosted, IsSeatedAt}
 use Rattle.cl_schedule.proofs.Rooming.{chosen_advanced, chosen_posted, first_advanced, first_place, if_some, match_none, match_some, room_advanced, room_posted, waits_at, none_waits}
 use Rattle.cl_schedule.proofs.Owing.{debt_advanced, debt_posted, seats_advanced, seats_posted}
+use Rattle.cl_schedule.proofs.Paying.{pays_advanced, pays_none, pays_posted}
 use Rattle.cl_schedule.proofs.Prompt.{keeps_advanced, keeps_none, keeps_posted}
 use Rattle.cl_schedule.proofs.Waiting.{waiting_is}
 use Rattle.cl_schedule.proofs.choices.play.Goals as goal
@@ -36,6 +38,10 @@ turn_of-requires-clause-open g c =
 pub returns-then-len-eq0-clause-known : goal.returns-then-len-eq0-clause-known
 returns-then-len-eq0-clause-known g c =
     keeps_none c.args.registry.now c.args.room.now c.args.choice c.requires.room.gathered (none_waits c.args.room.now.waiting.items c.count-len.result c.count-len.ensures c.if-len-eq0.true)
+
+pub returns-then-len-eq0-clause-paid : goal.returns-then-len-eq0-clause-paid
+returns-then-len-eq0-clause-paid g c =
+    pays_none g.T.Told.told c.args.registry.now c.args.room.now c.args.choice c.requires.room.seated c.requires.room.gathered (none_waits c.args.room.now.waiting.items c.count-len.result c.count-len.ensures c.if-len-eq0.true)
 
 -- ---- it went on
 
@@ -113,6 +119,26 @@ returns-in-Some-clause-known g c =
     (match_some c.in_ok-seat.field-0 c.in-Some.seat M N c.in-Some.is c.in_ok-seat.ensures.known)
     c.put.ensures.tasks c.put.ensures.calls
 
+pub returns-in-Some-clause-paid : goal.returns-in-Some-clause-paid
+returns-in-Some-clause-paid g c =
+    let told = g.T.Told.told in
+    let x = c.args.registry.now in
+    let room = c.args.room.now in
+    let ws = room.waiting.items in
+    let q = c.number_at-q.result in
+    let at = waits_at ws c.count-len.result c.args.choice c.number_at-q.result c.count-len.ensures c.if-len-eq0.false c.number_at-q.ensures in
+    let is = waiting_is told x ws room.next (c.args.choice % length ws) q c.requires.kept c.requires.room.gathered at in
+    let P = HasPosted told x c.turn_of.new.registry q in
+    let Q : Seat g.row.T.Denot → Type 0 = λ s. HasAdvanced told x c.turn_of.new.registry q in
+    let S : Seat g.row.T.Denot → Type 0 = λ s. IsSeatedAt {A = g.row.T.Denot} told c.turn_of.new.registry s.task s.call q in
+    let L : Seat g.row.T.Denot → Type 0 = λ s. LeavesFewer told (HasFewAt (state_of x) room q) x c.turn_of.new.registry q s.task in
+    pays_advanced told x c.turn_of.new.registry room c.turn_of.new.room c.put.new.self c.args.choice q c.in-Some.seat.task c.in-Some.seat.call c.requires.kept c.requires.room.seated c.requires.room.gathered at is.0
+    (subst (λ (n : ℕ). q < n) (sym c.requires.room.tasks_whole) is.2) (subst (λ (n : ℕ). q < n) (sym c.requires.room.calls_whole) is.2) c.in_ok-seat.ensures.taken
+    (match_some c.in_ok-seat.field-0 c.in-Some.seat P Q c.in-Some.is c.in_ok-seat.ensures.did)
+    (if_some c.in_ok-seat.field-0 c.in-Some.seat S c.in-Some.is c.in_ok-seat.ensures.seated)
+    (if_some c.in_ok-seat.field-0 c.in-Some.seat L c.in-Some.is c.in_ok-seat.ensures.paid)
+    c.put.ensures.tasks c.put.ensures.calls
+
 -- ---- it was answered
 
 pub returns-in-None-clause-chosen : goal.returns-in-None-clause-chosen
@@ -169,3 +195,17 @@ returns-in-None-clause-known g c =
     (record { tasks = c.turn_of.new.room.tasks; calls = c.turn_of.new.room.calls; waiting = c.take_out.new.waiting; next = c.turn_of.new.room.next }) c.args.choice q c.requires.kept c.requires.room.gathered at c.in_ok-seat.ensures.taken
     (match_none c.in_ok-seat.field-0 P Q c.in-None.is c.in_ok-seat.ensures.did)
     (match_none c.in_ok-seat.field-0 M N c.in-None.is c.in_ok-seat.ensures.known) refl refl
+
+pub returns-in-None-clause-paid : goal.returns-in-None-clause-paid
+returns-in-None-clause-paid g c =
+    let told = g.T.Told.told in
+    let x = c.args.registry.now in
+    let room = c.args.room.now in
+    let ws = room.waiting.items in
+    let q = c.number_at-q.result in
+    let at = waits_at ws c.count-len.result c.args.choice c.number_at-q.result c.count-len.ensures c.if-len-eq0.false c.number_at-q.ensures in
+    let P = HasPosted told x c.turn_of.new.registry q in
+    let Q : Seat g.row.T.Denot → Type 0 = λ s. HasAdvanced told x c.turn_of.new.registry q in
+    pays_posted told x c.turn_of.new.registry room c.turn_of.new.room
+    (record { tasks = c.turn_of.new.room.tasks; calls = c.turn_of.new.room.calls; waiting = c.take_out.new.waiting; next = c.turn_of.new.room.next }) c.args.choice q c.requires.kept c.requires.room.seated c.requires.room.gathered at c.in_ok-seat.ensures.taken
+    (match_none c.in_ok-seat.field-0 P Q c.in-None.is c.in_ok-seat.ensures.did) refl refl

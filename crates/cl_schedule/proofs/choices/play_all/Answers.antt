@@ -31,7 +31,7 @@ loop-choice-preserved g c =
       faults = count_then _ _ _ _ _ _ inv.faults e.faults;
       played =
           subst (RoomPlayed told c.choose.new.registry c.choose.new.room) (sym more)
-          (played_on told c.loop-choice.registry c.choose.new.registry c.loop-choice.room c.choose.new.room (take i c.args.schedule.now) (slice_index c.args.schedule.now i) e.same inv.played e.played e.known);
+          (played_on told c.loop-choice.registry c.choose.new.registry c.loop-choice.room c.choose.new.room (take i c.args.schedule.now) (slice_index c.args.schedule.now i) e.same inv.played e.played e.known e.paid);
     }
 
 pub loop-alloc-preserved : goal.loop-alloc-preserved
@@ -45,7 +45,7 @@ loop-alloc-preserved g c =
       over = e.over;
       seats = e.seats;
       faults = count_then _ _ _ _ _ _ inv.faults e.faults;
-      played = past_on g.T.Told.told c.loop-alloc.registry c.choose-in-loop-alloc.new.registry c.loop-alloc.room c.choose-in-loop-alloc.new.room c.args.schedule.now e.same inv.played e.played e.known;
+      played = past_on g.T.Told.told c.loop-alloc.registry c.choose-in-loop-alloc.new.registry c.loop-alloc.room c.choose-in-loop-alloc.new.room c.args.schedule.now e.same inv.played e.played e.known e.paid;
     }
 
 pub returns-clause-played : goal.returns-clause-played

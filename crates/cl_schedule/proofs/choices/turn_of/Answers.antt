@@ -4,12 +4,17 @@ use Rattle.cl_config.specs.Views.{Scripted}
 use Rattle.cl_model.specs.declared.request.Request.{Request}
 use Rattle.cl_model.specs.States.{Verdict}
 use Rattle.cl_registry.specs.Tables.{state_of}
+use Rattle.cl_model.specs.Homes.{World}
+use Rattle.cl_model.specs.Plans.{Plan}
+use Rattle.cl_model.specs.Views.{request_of}
 use Rattle.cl_schedule.specs.Nearing.{ComesNearer, IsNear, IsNearAt}
+use Rattle.cl_schedule.specs.Paying.{HasFew, HasFewAt, IsPlanIn, StartsWithin}
 use Rattle.cl_schedule.specs.declared.seats.Seat.{Seat}
 use Rattle.cl_schedule.specs.Seats.{IsSeatedAt}
 use Rattle.cl_schedule.specs.Counting.{CountGrows, fault, faults, owed, owed_at, owed_of}
 use Rattle.cl_schedule.proofs.Owing.{count_begun, count_first, count_refused, count_seated, owed_there}
 use Rattle.cl_schedule.proofs.Nearing.{all_no_seat, begun_near, memory_known, place_known, place_nearer, same_request, seat_near}
+use Rattle.cl_schedule.proofs.Paying.{few_begun, few_seated, place_fewer}
 use Rattle.cl_schedule.proofs.Rooming.{some_request}
 use Rattle.cl_schedule.proofs.choices.turn_of.Goals as goal
 use Rattle.cl_schedule.proofs.choices.turn_of.Goals.{in-Some, in-None+in_ok-held-in-None+in_ok-request-in-None+in-Ok}
@@ -91,3 +96,30 @@ returns-clause-known g c =
     ] in
     place_known near by x y q (λ (s : Seat g.row.T.Denot). ComesNearer near x y q s.task s.call) (λ (s : Seat g.row.T.Denot). ComesNearer by x y q s.task s.call) c.advance.result to
     (λ s nearer. place_nearer near by x y q s.task s.call to nearer) c.advance.ensures.known
+
+-- ---- how many calls it has left
+
+pub returns-clause-paid : goal.returns-clause-paid
+returns-clause-paid g c =
+    let x = c.args.registry.now in
+    let told = g.T.Told.told in
+    let room = c.args.room.now in
+    let q = c.args.q in
+    let few : World → Plan → ℕ → Type 0 = λ w p n. HasFew w p (state_of x) n c.match-take.seat.task in
+    let by : World → Plan → ℕ → Type 0 = HasFewAt (state_of x) room q in
+    let to : (r : Request) (w : World) (p : Plan) (n : ℕ) → slice_get x.script.requests q ≡ Some r → IsPlanIn told x (request_of r) w p → by w p n → few w p n = λ r w p n asked is at.
+    let P : Seat g.row.T.Denot → Type 0 = λ s. HasFew w p (state_of x) n s.task in
+    elim c.match-take.branch [
+      | in-Some b ↦ (
+          let stands = b.in-Some.ensures.seat in
+          subst P (sym b.seat-is) (few_seated w p (state_of x) n room q b.in-Some.seat.task b.in-Some.seat.call stands.0 stands.1 at)
+          )
+      | in-None+in_ok-held-in-None+in_ok-request-in-None+in-Ok b ↦ (
+          let k = b.in_ok-request-in-None.request in
+          let of = ap (λ (s : Scripted). slice_get s.requests q) c.requires.script ∙ b.in_ok-request-in-None.ensures in
+          let R : Request → Type 0 = λ m. StartsWithin told x m b.in-Ok.seat.task in
+          let starts = subst R (same_request x q k r of asked) (b.in-Ok.ensures.paid x c.requires.kept (c.requires.config ∙ sym b.in_ok-held-in-None.ensures)) in
+          subst P (sym b.seat-is) (few_begun w p (state_of x) n room q b.in-Ok.seat.task (all_no_seat told x room q r c.requires.seated asked (b.in-None.ensures.none refl)) (starts w p is) at)
+          )
+    ] in
+    place_fewer told few by x c.advance.new.registry q (λ (s : Seat g.row.T.Denot). s.task) c.advance.result to c.advance.ensures.paid

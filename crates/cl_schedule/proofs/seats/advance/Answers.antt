@@ -7,6 +7,7 @@ use Rattle.cl_schedule.specs.Nearing.{IsNear, PostsKnown}
 use Rattle.cl_schedule.specs.Replies.{IsCall}
 use Rattle.cl_schedule.specs.Seats.{IsSeatedAt}
 use Rattle.cl_schedule.proofs.Nearing.{call_nearer, post_known}
+use Rattle.cl_schedule.proofs.Paying.{call_pays}
 use Rattle.cl_schedule.proofs.Seated.{has_advanced, has_posted, post_refused, seated_again, seated_backed}
 use Rattle.cl_schedule.proofs.Owing.{count_called, count_posted}
 use Rattle.cl_schedule.proofs.seats.advance.Goals as goal
@@ -64,4 +65,5 @@ returns g c =
       stray = tt;
       kept = says.kept;
       known = call_nearer told c.args.registry.now c.reply_to-reply.new.registry c.args.seat.task c.read_on.result.task c.args.seat.call c.read_on.result.call c.args.q c.reply_to-reply.result _ _ _ _ c.requires.seated says c.read_on.ensures.known;
+      paid = call_pays told c.args.registry.now c.reply_to-reply.new.registry c.args.seat.task c.read_on.result.task c.args.seat.call c.args.q c.reply_to-reply.result _ _ _ _ c.requires.kept c.requires.seated says c.read_on.ensures.paid;
     }

@@ -6,6 +6,7 @@ use Rattle.cl_tasks.specs.Turns.{Expects}
 use Rattle.cl_schedule.specs.Counting.{CountGrows, told_faults}
 use Rattle.cl_schedule.specs.Nearing.{AtHand, calls_after}
 use Rattle.cl_schedule.specs.Seats.{IsReady}
+use Rattle.cl_schedule.proofs.Paying.{IsPaying}
 use Rattle.cl_schedule.proofs.seats.read_on.Given as goal
 
 abbrev pub invariant-loop-loader : goal.invariant-loop-loader
@@ -16,6 +17,7 @@ invariant-loop-loader g l = record {
   faults : CountGrows (told_faults l.fn.reply) (told_faults l.reply) (g.S.Source.refused l.fn.source) (g.S.Source.refused l.source);
   known : (x : Shown) (r : Request) (v : Verdict) → AtHand (state_of x) r v l.fn.task l.fn.reply → l.fn.task.request ≡ Some r
       → AtHand (state_of x) r v l.task l.reply × (l.task.request ≡ Some r) × (calls_after l.reply ≡ calls_after l.fn.reply);
+  paid : (x : Shown) (r : Request) → IsReady g.T.Told.told x l.fn.task l.fn.reply r → IsPaying g.T.Told.told x r l.fn.task l.task;
 }
 
 abbrev pub decreases-loop-loader : goal.decreases-loop-loader

@@ -36,15 +36,15 @@ use Rattle.cl_schedule.proofs.Stations.{no_post_or, no_posts, own_call, own_same
 
 -- ---- from a reply to the call
 
-no_look : (A : Type 0) (r : Request) (c : Class) (l : ℕ) (n : List ℕ) → GoesOnWith {A = A} r c (turn.Look l n) → ⊥
-no_look A (requests.Load loader name) c l n goes = goes
-no_look A (requests.Resolve loader name i) c l n goes = goes
-no_look A (requests.Link loader name) c l n goes = goes
+no_look : (A : Type 0) (r : Request) (c : Class) (new : Tasked) (l : ℕ) (n : List ℕ) → GoesOnWith {A = A} r c new (turn.Look l n) → ⊥
+no_look A (requests.Load loader name) c new l n goes = goes
+no_look A (requests.Resolve loader name i) c new l n goes = goes
+no_look A (requests.Link loader name) c new l n goes = goes
 
-goes_few : {A : Type 0} (r : Request) (c : Class) (u : Turn A) → GoesOnWith r c u → calls_from u ≤ 1
-goes_few {A = A} r c (turn.Look l n) goes = absurd (no_look A r c l n goes)
-goes_few r c (turn.Post f) goes = omega arith
-goes_few r c other goes = omega arith
+goes_few : {A : Type 0} (r : Request) (c : Class) (new : Tasked) (u : Turn A) → GoesOnWith r c new u → calls_from u ≤ 1
+goes_few {A = A} r c new (turn.Look l n) goes = absurd (no_look A r c new l n goes)
+goes_few r c new (turn.Post f) goes = omega arith
+goes_few r c new other goes = omega arith
 
 start_few : {A : Type 0} (t new : Tasked) (u : Turn A) → AnswersOwn t new reply.Start u → calls_from u ≤ 2
 start_few t new (turn.Look l n) own = omega arith
@@ -55,7 +55,7 @@ start_few t new other own = omega arith
 few_calls : {A : Type 0} (s : State) (r : Request) (v : Verdict) (t new : Tasked) (told : Reply A) (u : Turn A) → AtHand s r v t told → t.request ≡ Some r → AnswersOwn t new told u → Refuses (refusal t told) u → IsCall u → calls_from u ≤ calls_after told
 few_calls s r v t new reply.Start u at q own refused call = start_few t new u own
 few_calls s r v t new (reply.Looked None) u at q own refused call = absurd at
-few_calls s r v t new (reply.Looked (Some row)) u at q own refused call = goes_few r row.value.class u (own r q at.0 at.1 at.2)
+few_calls s r v t new (reply.Looked (Some row)) u at q own refused call = goes_few r row.value.class new u (own r q at.0 at.1 at.2)
 few_calls s r v t new (reply.Probed p) u at q own refused call = absurd at
 few_calls s r v t new (reply.Defined row) u at q own refused call = absurd at
 few_calls s r v t new (reply.Initiated row) u at q own refused call = absurd at
@@ -64,7 +64,7 @@ few_calls s r v t new (reply.LookedReference None) u at q own refused call = abs
 few_calls s r v t new (reply.LookedReference (Some e)) u at q own refused call = absurd (no_post_or _ u own call)
 few_calls s r v t new (reply.Settled e) u at q own refused call = absurd at
 few_calls s r v t new reply.Imposed u at q own refused call = absurd at
-few_calls s r v t new (reply.LookedPrepared true) u at q own refused call = absurd (no_post_or _ u (own at.0 at.1) call)
+few_calls s r v t new (reply.LookedPrepared true) u at q own refused call = absurd (no_post_or _ u (own at.0 at.1 at.3) call)
 few_calls s r v t new (reply.LookedPrepared false) u at q own refused call = absurd at
 few_calls s r v t new reply.Marked u at q own refused call = absurd at
 few_calls s r v t new (reply.Refused n) u at q own refused call = absurd at
@@ -220,7 +220,7 @@ place_nearer near by old new q t u to nearer = λ r v n asked has at. nearer r v
 own_later : {A : Type 0} (s : State) (es : List Step) (r : Request) (v : Verdict) (t : Tasked) (u : Turn A) → OwnCall s r v t u → OwnCall (state_after s es) r v t u
 own_later s es r v t (turn.Look l n) own = own
 own_later s es r v t (turn.LookReference c i) own = settled_stay s es c i v own
-own_later s es r v t (turn.LookPrepared c) own = (prepared_stay s es c own.0, own.1)
+own_later s es r v t (turn.LookPrepared c) own = (prepared_stay s es c own.0, own.1, own.2)
 own_later s es r v t other own = absurd own
 
 way_later : {A : Type 0} (s : State) (es : List Step) (r : Request) (v : Verdict) (t : Tasked) (u : Turn A) → OnWay s r v t u → OnWay (state_after s es) r v t u

@@ -15,7 +15,7 @@ use Rattle.cl_registry.specs.Tables.{Shown, records_of, state_of, with_post}
 use Rattle.cl_tasks.specs.Facts.{IsRecordedAs}
 use Rattle.cl_tasks.specs.Follows.{Posts, Refuses, refusal}
 use Rattle.cl_tasks.specs.Tasks.{Tasked}
-use Rattle.cl_tasks.specs.Turns.{AnswersOwn, GoesOnWith, PostsOr, call_of}
+use Rattle.cl_tasks.specs.Turns.{AnswersOwn, GoesOnWith, KnowsOne, PostsOr, call_of}
 use Rattle.cl_tasks.specs.Waits.{Waits, Looking, LookingReference, LookingPrepared}
 use Rattle.cl_tasks.specs.declared.turn.Reply.{Reply}
 use Rattle.cl_tasks.specs.declared.turn.Reply.TheVariants as reply
@@ -79,7 +79,7 @@ has_record s (requests.Link loader name) v h = (h.0.loader, h.1.1)
 
 -- ---- from a reply to the call
 
-goes_call : {A : Type 0} (s : State) (r : Request) (c : Class) (v : Verdict) (new : Tasked) (u : Turn A) → HasOf s r c v → GoesOnWith r c u → IsCall u → OwnCall s r v new u
+goes_call : {A : Type 0} (s : State) (r : Request) (c : Class) (v : Verdict) (new : Tasked) (u : Turn A) → HasOf s r c v → GoesOnWith r c new u → IsCall u → OwnCall s r v new u
 goes_call s (requests.Load loader name) c v new u has goes call = absurd (no_post_or (rust.TheVariants.Said (verdicts.Class c)) u goes call)
 goes_call s (requests.Resolve loader name i) c v new (turn.Look l n) has goes call = absurd goes
 goes_call s (requests.Resolve loader name i) c v new (turn.Read l n) has goes call = absurd goes
@@ -102,7 +102,7 @@ goes_call s (requests.Link loader name) c v new (turn.LookReference d j) has goe
 goes_call s (requests.Link loader name) c v new (turn.Settle f) has goes call = absurd goes
 goes_call s (requests.Link loader name) c v new (turn.Impose l k) has goes call = absurd goes
 goes_call s (requests.Link loader name) c v new (turn.LookPrepared d) has goes call =
-    (subst (λ (k : Class). Contains s.prepared k) (sym goes) has.0, has.1 ∙ ap (λ (k : Class). IsLinked k) (sym goes))
+    (subst (λ (k : Class). Contains s.prepared k) (sym goes.0) has.0, has.1 ∙ ap (λ (k : Class). IsLinked k) (sym goes.0), goes.1)
 goes_call s (requests.Link loader name) c v new (turn.Mark l) has goes call = absurd goes
 goes_call s (requests.Link loader name) c v new (turn.Post f) has goes call = absurd call
 
@@ -128,7 +128,7 @@ own_call s r v t new (reply.LookedReference None) u at q own refused call = absu
 own_call s r v t new (reply.LookedReference (Some e)) u at q own refused call = absurd (no_post_or (rust.TheVariants.Shared e) u own call)
 own_call s r v t new (reply.Settled e) u at q own refused call = absurd at
 own_call s r v t new reply.Imposed u at q own refused call = absurd at
-own_call s r v t new (reply.LookedPrepared true) u at q own refused call = absurd (no_post_or (rust.TheVariants.Said (verdicts.Linked at.0)) u (own at.0 at.1) call)
+own_call s r v t new (reply.LookedPrepared true) u at q own refused call = absurd (no_post_or (rust.TheVariants.Said (verdicts.Linked at.0)) u (own at.0 at.1 at.3) call)
 own_call s r v t new (reply.LookedPrepared false) u at q own refused call = absurd at
 own_call s r v t new reply.Marked u at q own refused call = absurd at
 own_call s r v t new (reply.Refused n) u at q own refused call = absurd at
@@ -183,25 +183,25 @@ reference_told x r v t (reply.Refused n) c i has is = absurd (none_some is.fits)
 reference_told x r v t reply.Memory c i has is = tt
 reference_told x r v t (reply.SourceFault f) c i has is = is.fits
 
-prepared_told : {A : Type 0} (x : Shown) (r : Request) (v : Verdict) (t : Tasked) (told : Reply A) (c : Class) → Contains (state_of x).prepared c → v ≡ IsLinked c → t.waits ≡ LookingPrepared c → IsReplied x (LookingPrepared c) told → AtHand (state_of x) r v t told
-prepared_told x r v t reply.Start c has linked waits is = tt
-prepared_told x r v t (reply.Looked o) c has linked waits is = absurd is.fits
-prepared_told x r v t (reply.Probed p) c has linked waits is = is.fits
-prepared_told x r v t (reply.Defined row) c has linked waits is = is.fits
-prepared_told x r v t (reply.Initiated row) c has linked waits is = is.fits
-prepared_told x r v t (reply.Lineage l) c has linked waits is = is.fits
-prepared_told x r v t (reply.LookedReference o) c has linked waits is = absurd is.fits
-prepared_told x r v t (reply.Settled e) c has linked waits is = is.fits
-prepared_told x r v t reply.Imposed c has linked waits is = is.fits
-prepared_told x r v t (reply.LookedPrepared true) c has linked waits is = (c, waits, linked)
-prepared_told x r v t (reply.LookedPrepared false) c has linked waits is = absurd (is.shows has)
-prepared_told x r v t reply.Marked c has linked waits is = is.fits
-prepared_told x r v t (reply.Refused n) c has linked waits is = absurd (none_some is.fits)
+prepared_told : {A : Type 0} (x : Shown) (r : Request) (v : Verdict) (t : Tasked) (told : Reply A) (c : Class) → Contains (state_of x).prepared c → v ≡ IsLinked c → KnowsOne t → t.waits ≡ LookingPrepared c → IsReplied x (LookingPrepared c) told → AtHand (state_of x) r v t told
+prepared_told x r v t reply.Start c has linked knows waits is = tt
+prepared_told x r v t (reply.Looked o) c has linked knows waits is = absurd is.fits
+prepared_told x r v t (reply.Probed p) c has linked knows waits is = is.fits
+prepared_told x r v t (reply.Defined row) c has linked knows waits is = is.fits
+prepared_told x r v t (reply.Initiated row) c has linked knows waits is = is.fits
+prepared_told x r v t (reply.Lineage l) c has linked knows waits is = is.fits
+prepared_told x r v t (reply.LookedReference o) c has linked knows waits is = absurd is.fits
+prepared_told x r v t (reply.Settled e) c has linked knows waits is = is.fits
+prepared_told x r v t reply.Imposed c has linked knows waits is = is.fits
+prepared_told x r v t (reply.LookedPrepared true) c has linked knows waits is = (c, waits, linked, knows)
+prepared_told x r v t (reply.LookedPrepared false) c has linked knows waits is = absurd (is.shows has)
+prepared_told x r v t reply.Marked c has linked knows waits is = is.fits
+prepared_told x r v t (reply.Refused n) c has linked knows waits is = absurd (none_some is.fits)
   where
     none_some : {A : Type 0} {a : A} → None ≡ Some a → ⊥
     none_some e = cc
-prepared_told x r v t reply.Memory c has linked waits is = tt
-prepared_told x r v t (reply.SourceFault f) c has linked waits is = is.fits
+prepared_told x r v t reply.Memory c has linked knows waits is = tt
+prepared_told x r v t (reply.SourceFault f) c has linked knows waits is = is.fits
 
 -- ---- all the way
 
@@ -257,7 +257,7 @@ own_told x r v new (turn.Lineage c) told own has asks is = absurd own
 own_told x r v new (turn.LookReference c i) told own has asks is = reference_told x r v new told c i own is
 own_told x r v new (turn.Settle f) told own has asks is = absurd own
 own_told x r v new (turn.Impose l k) told own has asks is = absurd own
-own_told x r v new (turn.LookPrepared c) told own has asks is = prepared_told x r v new told c own.0 own.1 asks is
+own_told x r v new (turn.LookPrepared c) told own has asks is = prepared_told x r v new told c own.0 own.1 own.2 asks is
 own_told x r v new (turn.Mark l) told own has asks is = absurd own
 own_told x r v new (turn.Post f) told own has asks is = absurd own
 
@@ -280,15 +280,15 @@ says : (v : Verdict) (f a : rust.Answer) → answer_of a ≡ Said v → (f ≡ a
 says v f a is (inl e) = inl (ap answer_of e ∙ is)
 says v f a is (inr e) = inr (ap answer_of e)
 
-class_says : (s : State) (r : Request) (c : Class) (v : Verdict) (A : Type 0) (f : Answered) → HasOf s r c v → GoesOnWith {A = A} r c (turn.Post f) → SaysOrLacks v (answer_of f.answer)
-class_says s (requests.Load loader name) c v A f has goes = says v f.answer (rust.TheVariants.Said (verdicts.Class c)) (ap (λ (k : Verdict). Said k) (sym has)) goes
-class_says s (requests.Resolve loader name i) c v A f has goes = inr (ap answer_of goes)
-class_says s (requests.Link loader name) c v A f has goes = inr (ap answer_of goes)
+class_says : (s : State) (r : Request) (c : Class) (v : Verdict) (A : Type 0) (new : Tasked) (f : Answered) → HasOf s r c v → GoesOnWith {A = A} r c new (turn.Post f) → SaysOrLacks v (answer_of f.answer)
+class_says s (requests.Load loader name) c v A new f has goes = says v f.answer (rust.TheVariants.Said (verdicts.Class c)) (ap (λ (k : Verdict). Said k) (sym has)) goes
+class_says s (requests.Resolve loader name i) c v A new f has goes = inr (ap answer_of goes)
+class_says s (requests.Link loader name) c v A new f has goes = inr (ap answer_of goes)
 
 pub post_says : {A : Type 0} (s : State) (r : Request) (v : Verdict) (t new : Tasked) (told : Reply A) (f : Answered) → AtHand s r v t told → t.request ≡ Some r → AnswersOwn {A = A} t new told (turn.Post f) → Refuses {A = A} (refusal t told) (turn.Post f) → SaysOrLacks v (answer_of f.answer)
 post_says s r v t new reply.Start f at q own refused = inr (ap answer_of own)
 post_says s r v t new (reply.Looked None) f at q own refused = absurd at
-post_says {A = A} s r v t new (reply.Looked (Some row)) f at q own refused = class_says s r row.value.class v A f at.3 (own r q at.0 at.1 at.2)
+post_says {A = A} s r v t new (reply.Looked (Some row)) f at q own refused = class_says s r row.value.class v A new f at.3 (own r q at.0 at.1 at.2)
 post_says s r v t new (reply.Probed p) f at q own refused = absurd at
 post_says s r v t new (reply.Defined row) f at q own refused = absurd at
 post_says s r v t new (reply.Initiated row) f at q own refused = absurd at
@@ -297,7 +297,7 @@ post_says s r v t new (reply.LookedReference None) f at q own refused = absurd a
 post_says s r v t new (reply.LookedReference (Some e)) f at q own refused = says v f.answer (rust.TheVariants.Shared e) (ap (λ (k : Verdict). Said k) at) own
 post_says s r v t new (reply.Settled e) f at q own refused = absurd at
 post_says s r v t new reply.Imposed f at q own refused = absurd at
-post_says s r v t new (reply.LookedPrepared true) f at q own refused = says v f.answer (rust.TheVariants.Said (verdicts.Linked at.0)) (ap (λ (k : Verdict). Said k) (sym at.2)) (own at.0 at.1)
+post_says s r v t new (reply.LookedPrepared true) f at q own refused = says v f.answer (rust.TheVariants.Said (verdicts.Linked at.0)) (ap (λ (k : Verdict). Said k) (sym at.2)) (own at.0 at.1 at.3)
 post_says s r v t new (reply.LookedPrepared false) f at q own refused = absurd at
 post_says s r v t new reply.Marked f at q own refused = absurd at
 post_says s r v t new (reply.Refused n) f at q own refused = absurd at

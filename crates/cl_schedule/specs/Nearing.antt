@@ -10,6 +10,7 @@ use Rattle.cl_model.specs.Views.{answer_of, request_of, verdict_of}
 use Rattle.cl_findings.specs.Findings.{loader_of, name_of}
 use Rattle.cl_registry.specs.Tables.{Shown, IsOpen, state_of, steps}
 use Rattle.cl_tasks.specs.Tasks.{Tasked}
+use Rattle.cl_tasks.specs.Turns.{KnowsOne}
 use Rattle.cl_tasks.specs.Waits.{Looking, LookingPrepared}
 use Rattle.cl_tasks.specs.declared.turn.Reply.{Reply}
 use Rattle.cl_tasks.specs.declared.turn.Reply.TheVariants as reply
@@ -32,7 +33,7 @@ abbrev pub AtHand : {A : Type 0} → State → Request → Verdict → Tasked �
 AtHand s r v t reply.Start = Unit {0}
 AtHand s r v t (reply.Looked (Some row)) = (t.waits ≡ Looking (loader_of r) (name_of r)) × (t.frames ≡ []) × (t.facts ≡ []) × HasOf s r row.value.class v
 AtHand s r v t (reply.LookedReference (Some e)) = verdict_of e.value.verdict ≡ v
-AtHand s r v t (reply.LookedPrepared true) = (c : Class) × (t.waits ≡ LookingPrepared c) × (v ≡ IsLinked c)
+AtHand s r v t (reply.LookedPrepared true) = (c : Class) × (t.waits ≡ LookingPrepared c) × (v ≡ IsLinked c) × KnowsOne t
 AtHand s r v t reply.Memory = Unit {0}
 AtHand s r v t other = ⊥
 
@@ -40,7 +41,7 @@ AtHand s r v t other = ⊥
 abbrev pub OwnCall : {A : Type 0} → State → Request → Verdict → Tasked → Turn A → Type 0
 OwnCall s r v t (turn.Look l n) = (t.frames ≡ []) × (t.facts ≡ []) × (l ≡ loader_of r) × (n ≡ name_of r)
 OwnCall s r v t (turn.LookReference c i) = settled_to s.settled c i ≡ Some v
-OwnCall s r v t (turn.LookPrepared c) = Contains s.prepared c × (v ≡ IsLinked c)
+OwnCall s r v t (turn.LookPrepared c) = Contains s.prepared c × (v ≡ IsLinked c) × KnowsOne t
 OwnCall s r v t other = ⊥
 
 -- a call on that way, or the post at its end

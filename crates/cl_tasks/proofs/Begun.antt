@@ -81,10 +81,10 @@ begins_own c j s t first for looks asks = begins c j s t first for looks asks
 -- ---- a look
 
 -- the request's own class was looked for, and is recorded
-pub looked_own : {A : Type 0} (c : Configured) (j : Job A) (row : Arc (ClassRow A) Global) (new : Tasked) (t : Turn A) → (IsOwnTarget j.target → j.path.frames ≡ [] → GoesOnWith j.request row.value.class t)
+pub looked_own : {A : Type 0} (c : Configured) (j : Job A) (row : Arc (ClassRow A) Global) (new : Tasked) (t : Turn A) → (IsOwnTarget j.target → j.path.frames ≡ [] → GoesOnWith j.request row.value.class new t)
     → AnswersOwn (loading_at c (loads.Looking j)) new (reply.Looked (Some row)) t
 looked_own c j row new t goes =
-    λ r e look frames facts. subst (λ (q : Request). GoesOnWith q row.value.class t) (some_same e) (goes (own_of j.request j.target facts) (none_framed j.path.frames frames))
+    λ r e look frames facts. subst (λ (q : Request). GoesOnWith q row.value.class new t) (some_same e) (goes (own_of j.request j.target facts) (none_framed j.path.frames frames))
 
 -- its home was: that is another loader
 pub home_own : {A : Type 0} (c : Configured) (j : Job A) (h : Located) (row : Arc (ClassRow A) Global) (new : Tasked) (t : Turn A) → IsFor j.request j.target j.path → IsHoming j h → AnswersOwn (loading_at c (loads.Homing j h)) new (reply.Looked (Some row)) t

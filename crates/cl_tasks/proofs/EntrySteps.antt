@@ -32,6 +32,7 @@ use Rattle.cl_tasks.specs.Resolving.{SettledTold}
 use Rattle.cl_tasks.specs.Rooms.{reference_room}
 use Rattle.cl_tasks.specs.Stages.{IsFailed, basis_facts, load_of, resolving_at, task_at}
 use Rattle.cl_tasks.specs.Steps.{IsPlain, LeadsBy, LeadsOn, Steps, memory_ends, task_room}
+use Rattle.cl_tasks.specs.Tasks.{Tasked}
 use Rattle.cl_tasks.specs.Turns.{AnswersOwn, GoesOnWith, WasAbsent}
 use Rattle.cl_tasks.specs.declared.stage.Entry as entries
 use Rattle.cl_tasks.specs.declared.stage.Failed.{Failed}
@@ -125,7 +126,7 @@ found_never : {A : Type 0} (told : Option Content) (c : Configured) (f : Failed 
 found_never told c f failed row g x served h = none_some (sym (failed_unrecorded told c f failed g x served h.before.facts) ∙ h.now.recorded)
 
 pub found_steps : {A : Type 0} (told : Option Content) (c : Configured) (f : Failed A) (row : Arc (ClassRow A) Global) (n : Next A) → IsFailed told c f → row.value.class.name ≡ name_of f.request → ReachesBy f.q f.request row n
-    → GoesOnWith f.request row.value.class n.turn → IsPlain n.turn → IsPast n.stage → Steps told (resolving_at c (resolutions.Checking f)) (reply.Looked (Some row)) n
+    → GoesOnWith f.request row.value.class (task_at c n.stage) n.turn → IsPlain n.turn → IsPast n.stage → Steps told (resolving_at c (resolutions.Checking f)) (reply.Looked (Some row)) n
 found_steps {A = A} told c f row n failed name by goes plain past = record {
   leads = leads_more (task_room (resolving_at c (resolutions.Checking f))) (λ x. Tells {A = A} x (resolving_at c (resolutions.Checking f)) (reply.Looked (Some row))) (λ x. TellsNow {A = A} x (resolving_at c (resolutions.Checking f)) (reply.Looked (Some row)))
       (reaches A told c f.q f.request row n failed.asked name by)
@@ -135,14 +136,14 @@ found_steps {A = A} told c f row n failed name by goes plain past = record {
   lacks = λ h. tt;
   reads = plain_reads {A = A} (resolving_at c (resolutions.Checking f)) (reply.Looked (Some row)) n.turn plain;
   derives = past_derives (WasAbsent {A = A} (resolving_at c (resolutions.Checking f)) (reply.Looked (Some row))) [] n.stage past;
-  own = λ r e w frames facts. subst (λ (k : Request). GoesOnWith k row.value.class n.turn) (some_request f.request r e) goes;
+  own = λ r e w frames facts. subst (λ (k : Request). GoesOnWith k row.value.class (task_at c n.stage) n.turn) (some_request f.request r e) goes;
 }
 
 -- memory ran out at what was found
-memory_goes : {A : Type 0} (q : ℕ) (r : Request) (k : Class) (n : Next A) → n ≡ memory_ends q r → GoesOnWith r k n.turn
-memory_goes q (requests.Load l m) k n e = subst (λ (i : Next _). GoesOnWith (requests.Load l m) k i.turn) (sym e) (inr refl)
-memory_goes q (requests.Resolve l m i) k n e = subst (λ (j : Next _). GoesOnWith (requests.Resolve l m i) k j.turn) (sym e) refl
-memory_goes q (requests.Link l m) k n e = subst (λ (i : Next _). GoesOnWith (requests.Link l m) k i.turn) (sym e) refl
+memory_goes : {A : Type 0} (q : ℕ) (r : Request) (k : Class) (new : Tasked) (n : Next A) → n ≡ memory_ends q r → GoesOnWith r k new n.turn
+memory_goes q (requests.Load l m) k new n e = subst (λ (i : Next _). GoesOnWith (requests.Load l m) k new i.turn) (sym e) (inr refl)
+memory_goes q (requests.Resolve l m i) k new n e = subst (λ (j : Next _). GoesOnWith (requests.Resolve l m i) k new j.turn) (sym e) refl
+memory_goes q (requests.Link l m) k new n e = subst (λ (i : Next _). GoesOnWith (requests.Link l m) k new i.turn) (sym e) refl
 
 pub found_out : {A : Type 0} (told : Option Content) (c : Configured) (f : Failed A) (row : Arc (ClassRow A) Global) → IsFailed told c f → Steps {A = A} told (resolving_at c (resolutions.Checking f)) (reply.Looked (Some row)) (memory_ends f.q f.request)
 found_out {A = A} told c f row failed = record {
@@ -152,7 +153,7 @@ found_out {A = A} told c f row failed = record {
   lacks = λ h. tt;
   reads = tt;
   derives = tt;
-  own = λ r e w frames facts. subst (λ (k : Request). GoesOnWith {A = A} k row.value.class (memory_ends f.q f.request).turn) (some_request f.request r e) (memory_goes f.q f.request row.value.class (memory_ends f.q f.request) refl);
+  own = λ r e w frames facts. subst (λ (k : Request). GoesOnWith {A = A} k row.value.class (task_at {A = A} c (memory_ends f.q f.request).stage) (memory_ends f.q f.request).turn) (some_request f.request r e) (memory_goes f.q f.request row.value.class (task_at {A = A} c (memory_ends f.q f.request).stage) (memory_ends f.q f.request) refl);
 }
 
 pub unfound_out : {A : Type 0} (told : Option Content) (c : Configured) (f : Failed A) → IsFailed told c f → Steps {A = A} told (resolving_at c (resolutions.Checking f)) (reply.Looked None) (memory_ends f.q f.request)

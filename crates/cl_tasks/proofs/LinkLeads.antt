@@ -47,7 +47,7 @@ use Rattle.cl_tasks.specs.Facts.{AreSo}
 use Rattle.cl_tasks.specs.Follows.{AnswerFollows, CallsWithin, IsPreparedNext, IsWanted, ServedIn}
 use Rattle.cl_tasks.specs.Linking.{ChainTold, DoneTold, GoalTold, LineageTold, ListTold, MarkedTold, PreparedTold, RefusedTold, WholeTold}
 use Rattle.cl_tasks.specs.Measures.{chain_left, each_left, linking_left, most, prepared_left, whole_left}
-use Rattle.cl_tasks.specs.Rooms.{chain_room, last_room, linking_room, listed_room, prepared_room}
+use Rattle.cl_tasks.specs.Rooms.{asking_room, chain_room, last_room, linking_room, listed_room, prepared_room}
 use Rattle.cl_tasks.specs.Stages.{IsAtPlace, IsChain, IsGoal, IsOf, behind, chain_calls, class_in, classes_in, list_calls}
 use Rattle.cl_tasks.specs.Steps.{LeadsBy}
 use Rattle.cl_tasks.specs.declared.stage.Chain.{Chain}
@@ -106,7 +106,7 @@ post_room turns made homes equalities more le = λ w p s. below (homes * own_hom
 goal_at : {A : Type 0} (x : Shown) (g : Goal A) → GoalTold g x → recorded (records_of x) (loader_of g.request) g.class.value.class.name ≡ Some g.class.value.class.loader
 goal_at x g h = h.0
 
-more_by_one : (a : ℕ) → a + 1 < a + 2
+more_by_one : (a : ℕ) → a + 2 < a + 3
 more_by_one a = omega arith
 
 pub whole_asked : {A : Type 0} (told : Option Content) (c : Configured) (g : Goal A) (prepared : Bool) (k : Class) → IsGoal c g → k ≡ g.class.value.class
@@ -117,7 +117,7 @@ whole_asked told c g prepared k goal is = record {
   asks = ap (λ (d : Class). waits.Tracing d) (sym is);
   serves = refl;
   left = more_by_one (chain_left most);
-  calls = stay told c (PreparedTold g prepared) g.request (past_loads 2 1 2);
+  calls = stay told c (PreparedTold g prepared) g.request (past_loads 2 1 3);
   keeps = λ x h. record { frames = tt; facts = h.before };
   backed = λ x config names fine h. subst (λ (d : Class). IsRecorded (state_of x) d) (sym is) (own_recorded x (loader_of g.request) g.class.value.class fine (goal_at x g h.before));
   follows = λ s x served h. tt;
@@ -172,6 +172,23 @@ linked_leads told c g k goal is =
 
 one_more : (a : ℕ) → a < a + 1
 one_more a = omega arith
+
+next_more : (a : ℕ) → a + 1 < a + 2
+next_more a = omega arith
+
+pub ask_leads : {A : Type 0} (told : Option Content) (c : Configured) (k : Chain A) (d : Class) → IsChain c k → d ≡ class_in k.whole.value k.place
+    → LeadsBy told c k.goal.q k.goal.request (asking_room k) (ChainTold k) (record { stage = stages.Link (links.Asking k); turn = turn.LookPrepared d })
+ask_leads told c k d chain is = record {
+  kept = chain;
+  number = refl;
+  asks = ap (λ (e : Class). waits.LookingPrepared e) (sym is);
+  serves = refl;
+  left = next_more (chain_left (behind k));
+  calls = stay told c (ChainTold k) k.goal.request (past_loads 0 0 (chain_calls k.whole.value k.place + 2));
+  keeps = λ x h. record { frames = tt; facts = h };
+  backed = λ x config names fine h. tt;
+  follows = λ s x served h. tt;
+}
 
 pub trace_leads : {A : Type 0} (told : Option Content) (c : Configured) (k : Chain A) (d : Class) → IsChain c k → d ≡ class_in k.whole.value k.place
     → LeadsBy told c k.goal.q k.goal.request (chain_room k) (ChainTold k) (record { stage = stages.Link (links.Tracing k); turn = turn.Lineage d })
@@ -248,18 +265,33 @@ traced_told x k l e from h = list_of x k e 0 l from h.before (traced_as x (class
 
 -- ---- how many calls are left
 
--- something is left at a place of a lineage
-pub chain_some_calls : (l : Lined) (place : ℕ) → IsInOrder l → place < length (rows_in l) → 1 ≤ chain_calls l place
-chain_some_calls l place order lt =
+-- each class of a lineage has two calls at least
+pub chain_each_calls : (l : Lined) (place : ℕ) → IsInOrder l → place < length (rows_in l) → chain_calls l (place + 1) + 2 ≤ chain_calls l place
+chain_each_calls l place order lt =
     let ks = lineage (kin_of l) in
     let many : length ks ≡ length (rows_in l) =
     sym (length-map ks (λ (k : Kin). k.class)) ∙ ap (λ (cs : List Class). length cs) (lineage_classes l order) ∙ length-map (rows_in l) (λ (row : Rowed). row.class) in
-    some ks place (subst (λ (n : ℕ). place < n) (sym many) lt)
+    let one : suc place ≡ place + 1 = omega arith in
+    subst (λ (n : ℕ). chain_calls l n + 2 ≤ chain_calls l place) one (each ks place (subst (λ (n : ℕ). place < n) (sym many) lt))
   where
-    some : (ks : List Kin) (n : ℕ) → n < length ks → 1 ≤ link_calls (drop n ks)
-    some [] n lt = absurd (omega (arith, lt))
-    some (k ∷ ks) zero lt = omega arith
-    some (k ∷ ks) (suc n) lt = some ks n (omega (arith, lt))
+    each : (ks : List Kin) (n : ℕ) → n < length ks → link_calls (drop (suc n) ks) + 2 ≤ link_calls (drop n ks)
+    each [] n lt = absurd (omega (arith, lt))
+    each (k ∷ ks) zero lt = omega arith
+    each (k ∷ ks) (suc n) lt = each ks n (omega (arith, lt))
+
+-- something is left at a place of a lineage
+pub chain_some_calls : (l : Lined) (place : ℕ) → IsInOrder l → place < length (rows_in l) → 1 ≤ chain_calls l place
+chain_some_calls l place order lt = let two = chain_each_calls l place order lt in omega (arith, two)
+
+-- a class that was prepared before has one look less
+pub passed_calls : {A : Type 0} (told : Option Content) (c : Configured) (k : Chain A) → IsChain c k → IsInOrder k.whole.value
+    → CallsWithin told c (MarkedTold k) k.goal.request 0 (past_loads 0 0 (chain_calls k.whole.value (k.place + 1) + 2)) (past_loads 0 0 (chain_calls k.whole.value k.place + 1))
+passed_calls told c k chain order =
+    fewer_calls told c (MarkedTold k) k.goal.request 0 (chain_calls k.whole.value (k.place + 1) + 2) (chain_calls k.whole.value k.place + 1)
+    (within (chain_calls k.whole.value (k.place + 1)) (chain_calls k.whole.value k.place) (chain_each_calls k.whole.value k.place order chain.within))
+  where
+    within : (a b : ℕ) → a + 2 ≤ b → 0 + (a + 2) ≤ b + 1
+    within a b le = omega (arith, le)
 
 pub one_call : (a : ℕ) → 0 + 1 ≤ a + 1
 one_call a = omega arith
@@ -273,7 +305,7 @@ listed_post c k chain order = post_room (chain_left (behind k)) 0 0 0 (chain_cal
 
 -- all classes of the lineage are within what a link has left
 pub whole_calls : {A : Type 0} (told : Option Content) (c : Configured) (g : Goal A) (whole : Arc Lined Global) → IsGoal c g → IsOf c g.class.value.class whole.value → IsLineageOf told whole.value
-    → CallsWithin told c (WholeTold g whole.value) g.request 0 (past_loads 0 0 (chain_calls whole.value 0 + 1)) (past_loads 2 1 1)
+    → CallsWithin told c (WholeTold g whole.value) g.request 0 (past_loads 0 0 (chain_calls whole.value 0 + 2)) (past_loads 2 1 2)
 whole_calls told c g whole goal of lin =
     λ w x p served is h.
     let l = whole.value in
@@ -283,7 +315,7 @@ whole_calls told c g whole goal of lin =
     let all = chain_within w (state_of x) g.request l p served.sound for_it kept (in_world told c w (state_of x) served l of.config lin) is in
     within (own_homes w.world p) (equalities_in p) (chain_calls l 0) all
   where
-    within : (a b n : ℕ) → n ≤ 2 * a + b → 0 + (0 + (0 * a + 0 * b + (n + 1))) ≤ 0 + (2 * a + 1 * b + 1)
+    within : (a b n : ℕ) → n ≤ 2 * a + b → 0 + (0 + (0 * a + 0 * b + (n + 2))) ≤ 0 + (2 * a + 1 * b + 2)
     within a b n le = omega (arith, le)
 
 -- ---- how many turns are left
@@ -300,7 +332,7 @@ each_more b e = grind arith
 pub chain_grows : (a b e : ℕ) → a ≤ b → a * e ≤ b * e
 chain_grows a b e le = grind (arith, le)
 
-pub whole_turns : (n : ℕ) → n ≤ most → chain_left n + 1 ≤ whole_left
+pub whole_turns : (n : ℕ) → n ≤ most → chain_left n + 2 ≤ whole_left
 whole_turns n le = let l = chain_grows n most each_left le in omega (arith, l)
 
 list_turns : (n m : ℕ) → 0 < n → m < most → linking_left (n - 1) (m - 0) + 1 ≤ chain_left n
@@ -314,7 +346,7 @@ pub one_turn : (a m : ℕ) → 1 ≤ a + (m + 1)
 one_turn a m = omega arith
 
 pub one_prepared : 1 ≤ prepared_left
-one_prepared = one_turn (chain_left most) 1
+one_prepared = one_turn (chain_left most) 2
 
 pub rows_few : (l : Lined) (n : ℕ) → n < 2 ^ 64 → n ≡ length l.above → length (rows_in l) - 0 ≤ most
 unfolding most
@@ -334,6 +366,21 @@ next_turns n p =
     let is : n - (p + 1) ≡ (n - p) - 1 = omega arith in
     let e = ap (λ (k : ℕ). chain_left k) is in
     omega (arith, e)
+
+-- as many are left as there is room for
+pub asked_turns : {A : Type 0} (k : Chain A) → (chain_room k).turns ≤ (chain_room k).turns
+asked_turns k = all (chain_left (behind k))
+  where
+    all : (a : ℕ) → a + 1 ≤ a + 1
+    all a = omega arith
+
+-- a class that was prepared before leaves room for the look at the next
+pub passed_turns : (n p : ℕ) → p < n → chain_left (n - (p + 1)) + 2 ≤ chain_left (n - p) + 1
+passed_turns n p lt =
+    let is : n - p ≡ (n - (p + 1)) + 1 = omega (arith, lt) in
+    let e = each_more (n - (p + 1)) each_left in
+    let f = ap (λ (k : ℕ). k * each_left) is in
+    omega (arith, e, f)
 
 -- ---- equalities
 

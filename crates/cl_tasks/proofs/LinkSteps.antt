@@ -1,5 +1,5 @@
 -- What a link does on a reply.
-use Rattle.std.proofs.Common.{Global, ◌≡◌, ◌∙◌, ◌<◌, ◌≤◌, ◌+◌, ◌-◌, ◌*◌, ℕ, Bool, true, false, List, [], length, Option, Some, None, refl, sym, ap, subst, arith}
+use Rattle.std.proofs.Common.{Global, ◌≡◌, ◌∙◌, ◌<◌, ◌≤◌, ◌+◌, ◌-◌, ◌*◌, ℕ, Bool, true, false, List, [], ◌∷◌, length, Option, Some, None, refl, sym, ap, subst, arith}
 use Rattle.std.specs.Prelude.{slice_get, take, option_map, Contains, IfSome}
 use Rattle.std.proofs.lemmas.Option.{slice_get-map}
 use Rattle.std.specs.declared.sync.Arc.{Arc}
@@ -10,7 +10,7 @@ use Rattle.cl_model.specs.declared.need.Need as rust
 use Rattle.cl_model.specs.declared.request.Request.{Request}
 use Rattle.cl_model.specs.declared.verdict.Verdict.TheVariants as verdicts
 use Rattle.cl_model.specs.Content.{Content}
-use Rattle.cl_model.specs.States.{AllMet, Met}
+use Rattle.cl_model.specs.States.{AllMet, Met, Need}
 use Rattle.cl_model.specs.Views.{need_of}
 use Rattle.cl_model.proofs.Bind.{some_same}
 use Rattle.cl_config.specs.Views.{Configured}
@@ -23,11 +23,12 @@ use Rattle.cl_registry.specs.Tables.{Shown, state_of}
 use Rattle.cl_tasks.specs.Deriving.{IsPast}
 use Rattle.cl_tasks.specs.Calls.{equalities_in, own_homes, past_loads}
 use Rattle.cl_tasks.specs.Follows.{CallsWithin, EndsAsRefused, Posts, Tells, TellsNow}
-use Rattle.cl_tasks.specs.Linking.{LineageTold, ListTold, MarkedTold, PreparedTold, RefusedTold, WholeTold}
+use Rattle.cl_tasks.specs.Linking.{AskedTold, LineageTold, ListTold, MarkedTold, PreparedTold, RefusedTold, WholeTold}
 use Rattle.cl_tasks.specs.Measures.{chain_left, linking_left, prepared_left, whole_left}
-use Rattle.cl_tasks.specs.Rooms.{last_room, linking_room, listed_room, marked_room, prepared_room, whole_room}
-use Rattle.cl_tasks.specs.Stages.{IsAtPlace, IsChain, behind, chain_calls, class_in, linking_at, list_calls}
+use Rattle.cl_tasks.specs.Rooms.{chain_room, last_room, linking_room, listed_room, marked_room, prepared_room, whole_room}
+use Rattle.cl_tasks.specs.Stages.{IsAtPlace, IsChain, behind, chain_calls, chain_facts, class_in, linking_at, list_calls}
 use Rattle.cl_tasks.specs.Steps.{IsPlain, LeadsBy, Steps, task_room}
+use Rattle.cl_tasks.specs.Tasks.{Stands}
 use Rattle.cl_tasks.specs.Turns.{PostsOr, WasAbsent}
 use Rattle.cl_tasks.specs.Waits as waits
 use Rattle.cl_tasks.specs.declared.stage.Chain.{Chain}
@@ -63,22 +64,58 @@ pub prepared_steps : {A : Type 0} (told : Option Content) (c : Configured) (g : 
     → (p ≡ true → PostsOr (answers.Said (verdicts.Linked g.class.value.class)) n.turn) → IsPlain n.turn → IsPast n.stage → Steps told (linking_at c (links.LookingPrepared g)) (reply.LookedPrepared p) n
 prepared_steps {A = A} told c g true n l own plain past = record {
   leads = leads_more (task_room (linking_at c (links.LookingPrepared g))) (λ x. Tells {A = A} x (linking_at c (links.LookingPrepared g)) (reply.LookedPrepared true)) (λ x. TellsNow {A = A} x (linking_at c (links.LookingPrepared g)) (reply.LookedPrepared true)) l
-      (same_turns prepared_left) (one_made told c (λ x. TellsNow {A = A} x (linking_at c (links.LookingPrepared g)) (reply.LookedPrepared true)) g.request 2 1 2) (λ x h. prepared_told c g true x h) (λ x h. prepared_told c g true x h.told);
+      (same_turns prepared_left) (one_made told c (λ x. TellsNow {A = A} x (linking_at c (links.LookingPrepared g)) (reply.LookedPrepared true)) g.request 2 1 3) (λ x h. prepared_told c g true x h) (λ x h. prepared_told c g true x h.told);
   refused = plain_no_fault n.turn plain;
   linkage = tt;
   lacks = λ h. tt;
   reads = plain_reads {A = A} (linking_at c (links.LookingPrepared g)) (reply.LookedPrepared true) n.turn plain;
   derives = past_derives (WasAbsent {A = A} (linking_at c (links.LookingPrepared g)) (reply.LookedPrepared true)) [] n.stage past;
-  own = λ d e. subst (λ (k : Class). PostsOr (answers.Said (verdicts.Linked k)) n.turn) (waits_same g.class.value.class d e) (own refl);
+  own = λ d e alone. subst (λ (k : Class). PostsOr (answers.Said (verdicts.Linked k)) n.turn) (waits_same g.class.value.class d e) (own refl);
 }
 prepared_steps {A = A} told c g false n l own plain past = record {
   leads = leads_more (task_room (linking_at c (links.LookingPrepared g))) (λ x. Tells {A = A} x (linking_at c (links.LookingPrepared g)) (reply.LookedPrepared false)) (λ x. TellsNow {A = A} x (linking_at c (links.LookingPrepared g)) (reply.LookedPrepared false)) l
-      (same_turns prepared_left) (one_made told c (λ x. TellsNow {A = A} x (linking_at c (links.LookingPrepared g)) (reply.LookedPrepared false)) g.request 2 1 2) (λ x h. prepared_told c g false x h) (λ x h. prepared_told c g false x h.told);
+      (same_turns prepared_left) (one_made told c (λ x. TellsNow {A = A} x (linking_at c (links.LookingPrepared g)) (reply.LookedPrepared false)) g.request 2 1 3) (λ x h. prepared_told c g false x h) (λ x h. prepared_told c g false x h.told);
   refused = plain_no_fault n.turn plain;
   linkage = tt;
   lacks = λ h. tt;
   reads = plain_reads {A = A} (linking_at c (links.LookingPrepared g)) (reply.LookedPrepared false) n.turn plain;
   derives = past_derives (WasAbsent {A = A} (linking_at c (links.LookingPrepared g)) (reply.LookedPrepared false)) [] n.stage past;
+  own = tt;
+}
+
+-- ---- whether the class at a place is
+
+asked_told : {A : Type 0} (c : Configured) (k : Chain A) (p : Bool) (x : Shown) → Tells {A = A} x (linking_at c (links.Asking k)) (reply.LookedPrepared p) → AskedTold k p x
+asked_told c k true x h = record { before = h.before.facts; now = λ e. h.now }
+asked_told c k false x h = record { before = h.before.facts; now = λ e. absurd cc }
+
+one_asked : (a : ℕ) → 1 + (a + 1) ≤ a + 2
+one_asked a = omega arith
+
+-- a chain knows a lineage, too
+knows_more : {A : Type 0} (k : Chain A) (n : Need) → chain_facts k ≡ Stands n ∷ [] → ⊥
+knows_more k n e = cc
+
+pub asked_steps : {A : Type 0} (told : Option Content) (c : Configured) (k : Chain A) (p : Bool) (n : Next A) → LeadsBy told c k.goal.q k.goal.request (chain_room k) (AskedTold k p) n → IsPlain n.turn → IsPast n.stage
+    → Steps told (linking_at c (links.Asking k)) (reply.LookedPrepared p) n
+asked_steps {A = A} told c k true n l plain past = record {
+  leads = leads_more (task_room (linking_at c (links.Asking k))) (λ x. Tells {A = A} x (linking_at c (links.Asking k)) (reply.LookedPrepared true)) (λ x. TellsNow {A = A} x (linking_at c (links.Asking k)) (reply.LookedPrepared true)) l
+      (same_turns (chain_left (behind k) + 1)) (fewer_calls told c (λ x. TellsNow {A = A} x (linking_at c (links.Asking k)) (reply.LookedPrepared true)) k.goal.request 1 (chain_calls k.whole.value k.place + 1) (chain_calls k.whole.value k.place + 2) (one_asked (chain_calls k.whole.value k.place))) (λ x h. asked_told c k true x h) (λ x h. asked_told c k true x h.told);
+  refused = plain_no_fault n.turn plain;
+  linkage = tt;
+  lacks = λ h. tt;
+  reads = plain_reads {A = A} (linking_at c (links.Asking k)) (reply.LookedPrepared true) n.turn plain;
+  derives = past_derives (WasAbsent {A = A} (linking_at c (links.Asking k)) (reply.LookedPrepared true)) [] n.stage past;
+  own = λ d e alone. absurd (knows_more k alone.0 alone.1);
+}
+asked_steps {A = A} told c k false n l plain past = record {
+  leads = leads_more (task_room (linking_at c (links.Asking k))) (λ x. Tells {A = A} x (linking_at c (links.Asking k)) (reply.LookedPrepared false)) (λ x. TellsNow {A = A} x (linking_at c (links.Asking k)) (reply.LookedPrepared false)) l
+      (same_turns (chain_left (behind k) + 1)) (fewer_calls told c (λ x. TellsNow {A = A} x (linking_at c (links.Asking k)) (reply.LookedPrepared false)) k.goal.request 1 (chain_calls k.whole.value k.place + 1) (chain_calls k.whole.value k.place + 2) (one_asked (chain_calls k.whole.value k.place))) (λ x h. asked_told c k false x h) (λ x h. asked_told c k false x h.told);
+  refused = plain_no_fault n.turn plain;
+  linkage = tt;
+  lacks = λ h. tt;
+  reads = plain_reads {A = A} (linking_at c (links.Asking k)) (reply.LookedPrepared false) n.turn plain;
+  derives = past_derives (WasAbsent {A = A} (linking_at c (links.Asking k)) (reply.LookedPrepared false)) [] n.stage past;
   own = tt;
 }
 
@@ -90,7 +127,7 @@ whole_steps {A = A} told c g whole n l plain past =
     let tells : (x : Shown) → Tells {A = A} x (linking_at c (links.TracingWhole g)) (reply.Lineage whole) → WholeTold g whole.value x = λ x h. record { before = h.before.facts; now = h.now } in
     record {
       leads = leads_more (task_room (linking_at c (links.TracingWhole g))) (λ x. Tells {A = A} x (linking_at c (links.TracingWhole g)) (reply.Lineage whole)) (λ x. TellsNow {A = A} x (linking_at c (links.TracingWhole g)) (reply.Lineage whole)) l
-          (same_turns whole_left) (one_made told c (λ x. TellsNow {A = A} x (linking_at c (links.TracingWhole g)) (reply.Lineage whole)) g.request 2 1 1) tells (λ x h. tells x h.told);
+          (same_turns whole_left) (one_made told c (λ x. TellsNow {A = A} x (linking_at c (links.TracingWhole g)) (reply.Lineage whole)) g.request 2 1 2) tells (λ x h. tells x h.told);
       refused = plain_no_fault n.turn plain;
       linkage = tt;
       lacks = λ h. tt;
@@ -215,7 +252,13 @@ past_post turns more = post_room turns 1 2 1 (more + 2) (two_of more)
     two_of : (m : ℕ) → 1 + 1 ≤ m + 2
     two_of m = omega arith
 
--- and so before that of a class of it
+-- and so before that of a class of it, or before it is known whether that is prepared
+pub asked_post : {A : Type 0} (c : Configured) (k : Chain A) → HasPost (task_room (linking_at c (links.Asking k)))
+asked_post c k = post_room (chain_left (behind k) + 1) 1 0 0 (chain_calls k.whole.value k.place + 2) (two_calls (chain_calls k.whole.value k.place))
+  where
+    two_calls : (a : ℕ) → 1 + 1 ≤ a + 2
+    two_calls a = omega arith
+
 pub traced_post : {A : Type 0} (c : Configured) (k : Chain A) → IsChain c k → IsInOrder k.whole.value → HasPost (task_room (linking_at c (links.Tracing k)))
 traced_post c k chain order = post_room (chain_left (behind k)) 1 0 0 (chain_calls k.whole.value k.place + 1) (one_and_more (chain_calls k.whole.value k.place) (chain_some_calls k.whole.value k.place order chain.within))
   where

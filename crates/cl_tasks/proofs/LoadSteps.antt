@@ -116,7 +116,7 @@ steps_unrecorded {A = A} told c j n e job path l no_fault derives reads = record
 }
 
 pub steps_looked : {A : Type 0} (told : Option Content) (c : Configured) (j : Job A) (row : Arc (ClassRow A) Global) (n : Next A) → j.path.config ≡ c → IsPath told j.path → LeadsAt told phases.Initiating j (Finds j row.value) n → IsPlain n.turn
-    → (IsOwnTarget j.target → j.path.frames ≡ [] → GoesOnWith j.request row.value.class n.turn) → Derives IsNone (frames_of j.path) n.stage → Steps told (loading_at c (loads.Looking j)) (reply.Looked (Some row)) n
+    → (IsOwnTarget j.target → j.path.frames ≡ [] → GoesOnWith j.request row.value.class (task_at c n.stage) n.turn) → Derives IsNone (frames_of j.path) n.stage → Steps told (loading_at c (loads.Looking j)) (reply.Looked (Some row)) n
 steps_looked {A = A} told c j row n e path l plain goes derives =
     let k : room_at phases.Initiating j 0 < room_at phases.Looking j 0 = less_room (past_left j.target) (left_at phases.Initiating (frames_of j.path) 0) (left_at phases.Looking (frames_of j.path) 0) (joins_less told j.path phases.Looking 0 0 path tt) in
     record {

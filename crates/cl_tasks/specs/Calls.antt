@@ -118,11 +118,12 @@ abbrev pub reference_calls : Calls
 reference_calls = past_loads 0 1 4
 
 -- past the load of a request's own class: the post; before it, of a resolution, a look at the reference and one for its class; of a link, a look whether the
--- class is prepared, its lineage, the equalities, and for each class of the lineage its lineage and its preparation (5.3, 5.4, 5.4.3)
+-- class is prepared, its lineage, the equalities, for each class of the lineage its lineage and its preparation, or one look alone, and one more look, at the
+-- first class that is not prepared (5.3, 5.4, 5.4.3)
 abbrev pub own_calls : Request → Calls
 own_calls (requests.Load loader name) = past_loads 0 0 1
 own_calls (requests.Resolve loader name i) = past_loads 0 1 6
-own_calls (requests.Link loader name) = past_loads 2 1 3
+own_calls (requests.Link loader name) = past_loads 2 1 4
 
 -- so many more before that, while classes are loaded; these were told to be unrecorded, and those are in hand
 abbrev pub while_loading : List Ask → List Ask → ℕ → Calls → Calls

@@ -33,6 +33,11 @@ pub record WholeTold {A : Type 0} (g : Goal A) (whole : Lined) (x : Shown) : Typ
 abbrev pub ChainTold : {A : Type 0} → Chain A → Shown → Type 0
 ChainTold k x = AreSo x (chain_facts k)
 
+-- and that at the place was found to be prepared, if this says so (5.4.2)
+pub record AskedTold {A : Type 0} (k : Chain A) (prepared : Bool) (x : Shown) : Type 0 where
+  pub before : ChainTold k x
+  pub now : prepared ≡ true → Contains (state_of x).prepared (class_in k.whole.value k.place)
+
 -- and this is the lineage of the class at the place (5.3.5)
 pub record LineageTold {A : Type 0} (k : Chain A) (lineage : Lined) (x : Shown) : Type 0 where
   pub before : ChainTold k x

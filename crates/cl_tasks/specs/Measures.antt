@@ -78,12 +78,13 @@ chain_left classes = classes * each_left
 abbrev pub linking_left : ℕ → ℕ → ℕ
 linking_left classes equalities = chain_left classes + (equalities + 1)
 
--- where the lineage of the class that is linked is still to be had, and whether it is prepared (5.4)
+-- where the lineage of the class that is linked is still to be had, and whether it is prepared; a look at the first class that is not prepared comes
+-- after it (5.4)
 abbrev pub whole_left : ℕ
-whole_left = chain_left most + 1
+whole_left = chain_left most + 2
 
 abbrev pub prepared_left : ℕ
-prepared_left = chain_left most + 2
+prepared_left = chain_left most + 3
 
 -- past the load of a request's own class (5.4, 5.4.3)
 abbrev pub own_left : ℕ

@@ -82,13 +82,17 @@ imposing_room m place =
 
 -- the class was found to be prepared or not (5.4)
 abbrev pub prepared_room : Room
-prepared_room = room_of prepared_left (past_loads 2 1 2)
+prepared_room = room_of prepared_left (past_loads 2 1 3)
 
 -- its lineage was had (5.4)
 abbrev pub whole_room : Room
-whole_room = room_of whole_left (past_loads 2 1 1)
+whole_room = room_of whole_left (past_loads 2 1 2)
 
--- the classes of the lineage before a place are linked (5.4)
+-- the classes of the lineage before a place are linked, and were all prepared before (5.4)
+abbrev pub asking_room : {A : Type 0} → Chain A → Room
+asking_room k = room_of (chain_left (behind k) + 2) (past_loads 0 0 (chain_calls k.whole.value k.place + 2))
+
+-- the same where that at the place is not, or is asked for its lineage otherwise (5.4)
 abbrev pub chain_room : {A : Type 0} → Chain A → Room
 chain_room k = room_of (chain_left (behind k) + 1) (past_loads 0 0 (chain_calls k.whole.value k.place + 1))
 

@@ -202,8 +202,9 @@ list_calls l place equalities = chain_calls l (place + 1) + (equalities + 2)
 
 -- what contracts see of a link
 abbrev pub linking_at : {A : Type 0} → Configured → Link A → Tasked
-linking_at c (links.LookingPrepared g) = settled_down c g.q g.request (waits.LookingPrepared g.class.value.class) (goal_facts g) prepared_left (past_loads 2 1 3)
-linking_at c (links.TracingWhole g) = settled_down c g.q g.request (waits.Tracing g.class.value.class) (goal_facts g) whole_left (past_loads 2 1 2)
+linking_at c (links.LookingPrepared g) = settled_down c g.q g.request (waits.LookingPrepared g.class.value.class) (goal_facts g) prepared_left (past_loads 2 1 4)
+linking_at c (links.TracingWhole g) = settled_down c g.q g.request (waits.Tracing g.class.value.class) (goal_facts g) whole_left (past_loads 2 1 3)
+linking_at c (links.Asking k) = settled_down c k.goal.q k.goal.request (waits.LookingPrepared (class_in k.whole.value k.place)) (chain_facts k) (chain_left (behind k) + 1) (past_loads 0 0 (chain_calls k.whole.value k.place + 2))
 linking_at c (links.Tracing k) = settled_down c k.goal.q k.goal.request (waits.Tracing (class_in k.whole.value k.place)) (chain_facts k) (chain_left (behind k)) (past_loads 0 0 (chain_calls k.whole.value k.place + 1))
 linking_at c (links.Imposing k e i) =
     settled_down c k.goal.q k.goal.request (waits.Imposing e.value i) (chain_facts k ++ (traced_facts e.value ++ imposed_facts e.value i)) (linking_left (behind k - 1) (length e.value.needs - i))
@@ -338,6 +339,7 @@ IsAtPlace k e = AreLinked k.goal.request k.whole.value k.place e.origin
 abbrev pub IsLinking : {A : Type 0} → Configured → Link A → Type 0
 IsLinking c (links.LookingPrepared g) = IsGoal c g
 IsLinking c (links.TracingWhole g) = IsGoal c g
+IsLinking c (links.Asking k) = IsChain c k
 IsLinking c (links.Tracing k) = IsChain c k
 IsLinking c (links.Imposing k e i) = IsChain c k × IsAtPlace k e.value × (i < length e.value.needs)
 IsLinking c (links.Marking k e) = IsChain c k × IsAtPlace k e.value

@@ -15,7 +15,7 @@ use Rattle.cl_source.specs.Views.{Found}
 use Rattle.cl_delegation.specs.Routes.{route}
 use Rattle.cl_hierarchy.specs.Imposed.{Listed, equal_need}
 use Rattle.cl_findings.specs.Findings.{IsSettledFor, loader_of, name_of}
-use Rattle.cl_tasks.specs.Tasks.{Tasked}
+use Rattle.cl_tasks.specs.Tasks.{Tasked, Stands}
 use Rattle.cl_tasks.specs.Waits.{Waits, Beginning, Looking, Reading, Defining, Initiating, Tracing, LookingReference, Settling, Imposing, LookingPrepared, Marking, Ended}
 use Rattle.cl_tasks.specs.declared.turn.Reply.{Reply}
 use Rattle.cl_tasks.specs.declared.turn.Reply.TheVariants as reply
@@ -134,23 +134,28 @@ abbrev pub PostsOr : {A : Type 0} → Answer → Turn A → Type 0
 PostsOr a (turn.Post f) = (f.answer ≡ a) ⊎ (f.answer ≡ answers.Memory)
 PostsOr a other = ⊥
 
--- a turn asks what a request asks of its class once that is recorded: to answer it, to look at its reference, to look whether it is prepared;
--- or memory ran out (5.3, 5.4, 5.4.3)
-abbrev pub GoesOnWith : {A : Type 0} → Request → Class → Turn A → Type 0
-GoesOnWith (requests.Load loader name) c t = PostsOr (answers.Said (verdicts.Class c)) t
-GoesOnWith (requests.Resolve loader name i) c (turn.LookReference d j) = (d ≡ c) × (j ≡ i)
-GoesOnWith (requests.Link loader name) c (turn.LookPrepared d) = d ≡ c
-GoesOnWith r c (turn.Post f) = f.answer ≡ answers.Memory
-GoesOnWith r c other = ⊥
+-- a task was told one thing alone, that a need stands
+abbrev pub KnowsOne : Tasked → Type 0
+KnowsOne t = (n : Need) × (t.facts ≡ Stands n ∷ [])
+
+-- a turn asks what a request asks of its class once that is recorded: to answer it, to look at its reference, to look whether it is prepared, and then
+-- the task knows that it is recorded, and no more; or memory ran out (5.3, 5.4, 5.4.3)
+abbrev pub GoesOnWith : {A : Type 0} → Request → Class → Tasked → Turn A → Type 0
+GoesOnWith (requests.Load loader name) c new t = PostsOr (answers.Said (verdicts.Class c)) t
+GoesOnWith (requests.Resolve loader name i) c new (turn.LookReference d j) = (d ≡ c) × (j ≡ i)
+GoesOnWith (requests.Link loader name) c new (turn.LookPrepared d) = (d ≡ c) × KnowsOne new
+GoesOnWith r c new (turn.Post f) = f.answer ≡ answers.Memory
+GoesOnWith r c new other = ⊥
 
 -- a task that was told nothing yet of its class looks for it first, and goes on with the class that its loader has recorded; a reference
--- that is settled is answered so, and a prepared class is linked; memory may run out (5.3, 5.4, 5.4.3)
+-- that is settled is answered so; a class that is prepared is linked, where the task was told nothing but that it is recorded; memory may run
+-- out (5.3, 5.4, 5.4.3)
 abbrev pub AnswersOwn : {A : Type 0} → Tasked → Tasked → Reply A → Turn A → Type 0
 AnswersOwn old new reply.Start (turn.Look l n) = (new.frames ≡ []) × (new.facts ≡ []) × ((r : Request) → old.request ≡ Some r → (l ≡ loader_of r) × (n ≡ name_of r))
 AnswersOwn old new reply.Start (turn.Post f) = f.answer ≡ answers.Memory
 AnswersOwn old new reply.Start t = ⊥
-AnswersOwn old new (reply.Looked (Some row)) t = (r : Request) → old.request ≡ Some r → old.waits ≡ Looking (loader_of r) (name_of r) → old.frames ≡ [] → old.facts ≡ [] → GoesOnWith r row.value.class t
+AnswersOwn old new (reply.Looked (Some row)) t = (r : Request) → old.request ≡ Some r → old.waits ≡ Looking (loader_of r) (name_of r) → old.frames ≡ [] → old.facts ≡ [] → GoesOnWith r row.value.class new t
 AnswersOwn old new (reply.LookedReference (Some s)) t = PostsOr (answers.Shared s) t
-AnswersOwn old new (reply.LookedPrepared true) t = (c : Class) → old.waits ≡ LookingPrepared c → PostsOr (answers.Said (verdicts.Linked c)) t
+AnswersOwn old new (reply.LookedPrepared true) t = (c : Class) → old.waits ≡ LookingPrepared c → KnowsOne old → PostsOr (answers.Said (verdicts.Linked c)) t
 AnswersOwn old new (reply.Settled s) t = PostsOr (answers.Shared s) t
 AnswersOwn old new other t = Unit {0}

@@ -10,7 +10,7 @@ ghost use Rattle.cl_model.specs.Frames.{wanted};
 ghost use Rattle.cl_tasks.specs.Deriving.{Derives, IsAtHome, IsNone, IsPast};
 ghost use Rattle.cl_tasks.specs.Ends.{IsOwnTarget};
 ghost use Rattle.cl_tasks.specs.Measures.{Fresh, Homing, Defining, Initiating, most};
-ghost use Rattle.cl_tasks.specs.Stages.{IsJob};
+ghost use Rattle.cl_tasks.specs.Stages.{IsJob, task_at};
 ghost use Rattle.cl_tasks.specs.Steps.{DefinesBy, Finds, FindsBy, HoldsOn, IsMisfit, IsPlain, LeadsAt, LeadsFrom, LooksBy};
 ghost use Rattle.cl_tasks.specs.Turns.{GoesOnWith};
 
@@ -199,7 +199,8 @@ pub(crate) fn go_on<T: Told>(
     requires job { IsJob T.told config.now.value job }
     ensures leads { LeadsAt T.told Initiating job (Finds job row.value) result }
     ensures own { IsOwnTarget job.target → job.path.frames ≡ []
-        → GoesOnWith job.request row.value.class result.turn }
+        → GoesOnWith job.request row.value.class (task_at config.now.value result.stage)
+        result.turn }
     ensures plain { IsPlain result.turn }
     ensures derives { Derives IsNone (frames_of job.path) result.stage }
 {

@@ -4,6 +4,7 @@ ghost use Rattle.std.specs.Prelude.{◌≡◌, ℕ, List, Some, MatchBool};
 ghost use Rattle.cl_config.specs.Views.{Configured};
 ghost use Rattle.cl_findings.specs.Findings.{IsSettledFor};
 ghost use Rattle.cl_hierarchy.specs.Imposed.{equal_need};
+ghost use Rattle.cl_model.specs.declared.class.Class as classes;
 ghost use Rattle.cl_model.specs.States.{Entry};
 ghost use Rattle.cl_model.specs.Views.{need_of};
 ghost use Rattle.cl_tasks.specs.Stages.{class_in, linking_at, loading_at, next_place, resolving_at, task_at};
@@ -194,12 +195,11 @@ fn is_to_impose<T: Told>(list: &Equalities<T>, place: usize, reply: &Reply<T>) -
 }
 
 /// Whether it is one to a look whether a class is prepared.
-fn is_to_look_prepared<T: Told>(class: &Class, reply: &Reply<T>) -> bool
-    ensures { (c : Configured)
-        → MatchBool result (IsReplyTo c (waits.LookingPrepared class.now) reply.now)
-        (IsReplyTo c (waits.LookingPrepared class.now) reply.now → ⊥) }
+fn is_to_look_prepared<T: Told>(reply: &Reply<T>) -> bool
+    ensures { (c : Configured) (k : classes.Class)
+        → MatchBool result (IsReplyTo c (waits.LookingPrepared k) reply.now)
+        (IsReplyTo c (waits.LookingPrepared k) reply.now → ⊥) }
 {
-    let _ = class;
     match reply {
         Reply::LookedPrepared(_) | Reply::Memory => true,
         _ => false,
@@ -287,8 +287,9 @@ fn link_expects<T: Told>(config: &Config, link: &Link<T>, reply: &Reply<T>) -> b
         (Expects (linking_at config.now link.now) reply.now → ⊥) }
 {
     match link {
-        Link::LookingPrepared(goal) => is_to_look_prepared(goal.class.class(), reply),
+        Link::LookingPrepared(_) => is_to_look_prepared(reply),
         Link::TracingWhole(goal) => is_to_trace(config, goal.class.class(), reply),
+        Link::Asking(_) => is_to_look_prepared(reply),
         Link::Tracing(chain) => is_to_trace_at(config, &chain.whole, chain.place, reply),
         Link::Imposing(_, list, place) => is_to_impose(list, *place, reply),
         Link::Marking(_, list) => is_to_mark(list, reply),

@@ -1,5 +1,5 @@
 //! A request to link a class that is recorded: each class of its lineage in order, its loading constraints one by one, and
-//! then that it is prepared (JVMS SE 8, 5.4, 5.4.2).
+//! then that it is prepared; those that are prepared already, as many as stand first, are passed (JVMS SE 8, 5.4, 5.4.2).
 
 ghost use Rattle.std.specs.Option.{option_map};
 ghost use Rattle.std.specs.Prelude.{◌≡◌, ◌<◌, ◌≤◌, Some, IfOk, length, slice_get, take, true};
@@ -12,8 +12,8 @@ ghost use Rattle.cl_model.specs.declared.answer.Answer.TheVariants as answers;
 ghost use Rattle.cl_model.specs.declared.verdict.Verdict.TheVariants as verdicts;
 ghost use Rattle.cl_tasks.specs.Deriving.{IsPast};
 ghost use Rattle.cl_tasks.specs.Follows.{EndsAsRefused, Posts};
-ghost use Rattle.cl_tasks.specs.Linking.{ChainTold, DoneTold, LineageTold, ListTold, MarkedTold, PreparedTold, RefusedTold, WholeTold};
-ghost use Rattle.cl_tasks.specs.Rooms.{chain_room, last_room, linking_room, listed_room, marked_room, prepared_room, whole_room};
+ghost use Rattle.cl_tasks.specs.Linking.{AskedTold, ChainTold, DoneTold, LineageTold, ListTold, MarkedTold, PreparedTold, RefusedTold, WholeTold};
+ghost use Rattle.cl_tasks.specs.Rooms.{asking_room, chain_room, last_room, linking_room, listed_room, marked_room, prepared_room, whole_room};
 ghost use Rattle.cl_tasks.specs.Stages.{IsAtPlace, IsChain, IsGoal, IsOf, class_in};
 ghost use Rattle.cl_tasks.specs.Steps.{IsPlain, LeadsBy, memory_ends};
 ghost use Rattle.cl_tasks.specs.Turns.{PostsOr, equality_at};
@@ -79,7 +79,7 @@ pub(crate) fn give_up<T: Told>(chain: Chain<T>) -> Next<T>
     out_of_memory(goal.q, goal.request)
 }
 
-/// The lineage of the class that is linked came: its first class comes next.
+/// The lineage of the class that is linked came: whether its first class is prepared comes next.
 pub(crate) fn take_whole<T: Told>(
     alloc: Global,
     config: &Arc<Config>,
@@ -96,7 +96,7 @@ pub(crate) fn take_whole<T: Told>(
     // brings that a `usize` counts them, and what the lineage keeps
     let _ = count_rows(&whole);
     let _ = whole.class();
-    trace(
+    ask(
         alloc,
         config,
         Chain {
@@ -133,6 +133,75 @@ fn class_at<T: Told>(alloc: Global, whole: &Lineage<T>, place: usize) -> Result<
         Some(row) => row.class().try_clone(alloc),
         None => whole.class().try_clone(alloc),
     }
+}
+
+/// Asks whether the class at the place of a chain is prepared; of the last, the request's own, it was asked at first.
+fn ask<T: Told>(alloc: Global, config: &Arc<Config>, chain: Chain<T>) -> Next<T>
+    requires chain { IsChain config.now.value chain }
+    ensures leads { LeadsBy T.told config.now.value chain.goal.q chain.goal.request
+        (asking_room chain) (ChainTold chain) result }
+    ensures plain { IsPlain result.turn }
+    ensures past { IsPast result.stage }
+{
+    if chain.place >= count_rows(&chain.whole) {
+        return trace(alloc, config, chain);
+    }
+    let Ok(class) = class_at(alloc, &chain.whole, chain.place) else {
+        return give_up(chain);
+    };
+    Next {
+        stage: Stage::Link(Link::Asking(chain)),
+        turn: Turn::LookPrepared(class),
+    }
+}
+
+/// Whether the class at the place of a chain is prepared was looked up.
+pub(crate) fn take_asked<T: Told>(
+    alloc: Global,
+    config: &Arc<Config>,
+    chain: Chain<T>,
+    prepared: bool,
+) -> Next<T>
+    requires chain { IsChain config.now.value chain }
+    ensures leads { LeadsBy T.told config.now.value chain.goal.q chain.goal.request
+        (chain_room chain) (AskedTold chain prepared) result }
+    ensures plain { IsPlain result.turn }
+    ensures past { IsPast result.stage }
+{
+    if !prepared {
+        return trace(alloc, config, chain);
+    }
+    pass(alloc, config, chain)
+}
+
+/// The class at the place of a chain is prepared, and was so before: whether the next one is comes next, or the request's
+/// class was the last.
+fn pass<T: Told>(alloc: Global, config: &Arc<Config>, chain: Chain<T>) -> Next<T>
+    requires chain { IsChain config.now.value chain }
+    ensures leads { LeadsBy T.told config.now.value chain.goal.q chain.goal.request
+        (chain_room chain) (MarkedTold chain) result }
+    ensures plain { IsPlain result.turn }
+    ensures past { IsPast result.stage }
+{
+    // brings what the lineage keeps
+    let _ = chain.whole.class();
+    let Chain {
+        goal,
+        whole,
+        place: at,
+    } = chain;
+    if at >= count_rows(&whole) {
+        return post_linked(alloc, config, goal);
+    }
+    ask(
+        alloc,
+        config,
+        Chain {
+            goal,
+            whole,
+            place: at + 1,
+        },
+    )
 }
 
 /// Asks for the lineage of the class at the place of a chain.
@@ -290,7 +359,7 @@ fn impose_at<T: Told>(
     }
 }
 
-/// The class at the place of a chain is prepared: the next one comes, or the request's class was the last.
+/// The class at the place of a chain was prepared: the next one comes, or the request's class was the last.
 pub(crate) fn take_marked<T: Told>(alloc: Global, config: &Arc<Config>, chain: Chain<T>) -> Next<T>
     requires chain { IsChain config.now.value chain }
     ensures leads { LeadsBy T.told config.now.value chain.goal.q chain.goal.request

@@ -7,7 +7,8 @@ ghost use Rattle.cl_tasks.specs.Turns.{Expects};
 
 use crate::leads::out_of_memory;
 use crate::link::{
-    count_needs, give_up, impose, refuse_link, take_marked, take_prepared, take_traced, take_whole,
+    count_needs, give_up, impose, refuse_link, take_asked, take_marked, take_prepared, take_traced,
+    take_whole,
 };
 use crate::stage::{Chain, Goal, Link, Next};
 use crate::turn::Reply;
@@ -49,6 +50,24 @@ pub(crate) fn after_whole_lineage<T: Told>(
     match reply {
         Reply::Lineage(whole) => take_whole(alloc, config, goal, whole),
         Reply::Memory => out_of_memory(goal.q, goal.request),
+        _ => unreachable!(),
+    }
+}
+
+/// Whether the class at the place of a chain is prepared was looked up.
+pub(crate) fn after_place_look<T: Told>(
+    alloc: Global,
+    config: &Arc<Config>,
+    chain: Chain<T>,
+    reply: Reply<T>,
+) -> Next<T>
+    requires chain { IsChain config.now.value chain }
+    requires expects { Expects (linking_at config.now.value (Link.Asking chain)) reply }
+    ensures { Steps T.told (linking_at config.now.value (Link.Asking chain)) reply result }
+{
+    match reply {
+        Reply::LookedPrepared(prepared) => take_asked(alloc, config, chain, prepared),
+        Reply::Memory => give_up(chain),
         _ => unreachable!(),
     }
 }

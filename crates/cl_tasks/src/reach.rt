@@ -1,13 +1,14 @@
 //! The class that a path loads is recorded: a request goes on with its own, an entry with the one that it names.
 
 ghost use Rattle.std.specs.Prelude.{◌≡◌, []};
+ghost use Rattle.cl_config.specs.Views.{Configured};
 ghost use Rattle.cl_findings.specs.Findings.{name_of};
 ghost use Rattle.cl_hierarchy.specs.Paths.{at_name};
 ghost use Rattle.cl_tasks.specs.Deriving.{IsPast};
 ghost use Rattle.cl_tasks.specs.Ends.{IsOwnTarget};
 ghost use Rattle.cl_tasks.specs.Measures.{Initiating};
 ghost use Rattle.cl_tasks.specs.Reaching.{ReachesBy};
-ghost use Rattle.cl_tasks.specs.Stages.{IsJob};
+ghost use Rattle.cl_tasks.specs.Stages.{IsJob, task_at};
 ghost use Rattle.cl_tasks.specs.Steps.{Finds, IsPlain, LeadsAt};
 ghost use Rattle.cl_tasks.specs.Turns.{GoesOnWith};
 
@@ -33,7 +34,8 @@ pub(crate) fn reach<T: Told>(
     requires alone { job.path.frames ≡ [] }
     requires name { row.value.class.name ≡ at_name job.path }
     ensures leads { LeadsAt T.told Initiating job (Finds job row.value) result }
-    ensures own { IsOwnTarget job.target → GoesOnWith job.request row.value.class result.turn }
+    ensures own { IsOwnTarget job.target → GoesOnWith job.request row.value.class
+        (task_at config.now.value result.stage) result.turn }
     ensures plain { IsPlain result.turn }
     ensures past { IsPast result.stage }
 {
@@ -70,7 +72,8 @@ pub(crate) fn reach_own<T: Told>(
 ) -> Next<T>
     requires name { row.value.class.name ≡ name_of request }
     ensures reaches { ReachesBy q request row result }
-    ensures goes_on { GoesOnWith request row.value.class result.turn }
+    ensures goes_on { (c : Configured) → GoesOnWith request row.value.class (task_at c result.stage)
+        result.turn }
     ensures plain { IsPlain result.turn }
     ensures past { IsPast result.stage }
 {

@@ -7,4 +7,4 @@ use Rattle.cl_tasks.proofs.link.take_prepared.Goals as goal
 pub returns-then-prepared-clause-leads : goal.returns-then-prepared-clause-leads
 returns-then-prepared-clause-leads g c =
     leads_by prepared_room (PreparedTold c.args.goal c.args.prepared) c.post_linked.ensures.leads one_prepared
-    (post_calls g.T.Told.told c.args.config.now.value (PreparedTold c.args.goal c.args.prepared) c.args.goal.request 0 2 1 2 (one_call 1)) (λ x h. record { before = h.before; now = h.now c.if-prepared.true })
+    (post_calls g.T.Told.told c.args.config.now.value (PreparedTold c.args.goal c.args.prepared) c.args.goal.request 0 2 1 3 (one_call 2)) (λ x h. record { before = h.before; now = h.now c.if-prepared.true })

@@ -11,5 +11,5 @@ returns-clause-leads g c =
     let counted = rw c.deref.ensures at c.count_rows.ensures in
     let kept = rw c.deref-2.ensures at c.class.ensures.kept in
     let le = rows_few c.args.whole.value c.count_rows.result c.count_rows.type_inv counted in
-    leads_by whole_room (WholeTold c.args.goal c.args.whole.value) c.trace.ensures.leads (whole_turns (length (rows_in c.args.whole.value) - 0) le)
+    leads_by whole_room (WholeTold c.args.goal c.args.whole.value) c.ask.ensures.leads (whole_turns (length (rows_in c.args.whole.value) - 0) le)
     (whole_calls g.T.Told.told c.args.config.now.value c.args.goal c.args.whole c.requires.goal c.requires.whole kept.lineage) (λ x h. whole_told x c.args.goal c.args.whole h)

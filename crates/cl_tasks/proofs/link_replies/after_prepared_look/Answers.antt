@@ -14,4 +14,4 @@ returns-in-LookedPrepared g c =
 pub returns-in-Memory : goal.returns-in-Memory
 returns-in-Memory g c =
     rw (c.in-Memory.is, c.out_of_memory.ensures)
-    (steps_memory g.T.Told.told (linking_at c.args.config.now.value (links.LookingPrepared c.args.goal)) c.args.goal.request refl c.requires.goal.asked (some_left (chain_left most) 1) (past_post prepared_left 1))
+    (steps_memory g.T.Told.told (linking_at c.args.config.now.value (links.LookingPrepared c.args.goal)) c.args.goal.request refl c.requires.goal.asked (some_left (chain_left most) 2) (past_post prepared_left 2))

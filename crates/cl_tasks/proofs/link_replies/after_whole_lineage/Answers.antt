@@ -13,4 +13,4 @@ returns-in-Lineage g c =
 pub returns-in-Memory : goal.returns-in-Memory
 returns-in-Memory g c =
     rw (c.in-Memory.is, c.out_of_memory.ensures)
-    (steps_memory g.T.Told.told (linking_at c.args.config.now.value (links.TracingWhole c.args.goal)) c.args.goal.request refl c.requires.goal.asked (some_left (chain_left most) 0) (past_post whole_left 0))
+    (steps_memory g.T.Told.told (linking_at c.args.config.now.value (links.TracingWhole c.args.goal)) c.args.goal.request refl c.requires.goal.asked (some_left (chain_left most) 1) (past_post whole_left 1))

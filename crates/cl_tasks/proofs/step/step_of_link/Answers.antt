@@ -12,6 +12,12 @@ after_whole_lineage-requires g c = record { goal = rw c.in-TracingWhole.is at c.
 pub returns-in-TracingWhole : goal.returns-in-TracingWhole
 returns-in-TracingWhole g c = rw c.in-TracingWhole.is c.after_whole_lineage.ensures
 
+pub after_place_look-requires : goal.after_place_look-requires
+after_place_look-requires g c = record { chain = rw c.in-Asking.is at c.requires.kept; expects = rw c.in-Asking.is at c.requires.expects }
+
+pub returns-in-Asking : goal.returns-in-Asking
+returns-in-Asking g c = rw c.in-Asking.is c.after_place_look.ensures
+
 pub after_lineage-requires : goal.after_lineage-requires
 after_lineage-requires g c = record { chain = rw c.in-Tracing.is at c.requires.kept; expects = rw c.in-Tracing.is at c.requires.expects }
 

@@ -20,6 +20,13 @@ within_most : (n : ℕ) → n < 2 ^ 64 → n < most
 unfolding most
 within_most n h = h
 
+-- as many as a `usize` counts
+pub needs_few : (m n : ℕ) → n < 2 ^ 64 → n ≡ m → m < most
+unfolding most
+needs_few m n lt is =
+    let lim : 2 ^ 64 ≡ most = refl in
+    omega (arith, lt, is, lim)
+
 turns_more : most + 7 < turns
 unfolding most turns
 turns_more = lit< tt

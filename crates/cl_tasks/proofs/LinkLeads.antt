@@ -355,12 +355,6 @@ rows_few l n lt is =
     let lim : 2 ^ 64 ≡ most = refl in
     omega (arith, lt, is, many, lim)
 
-pub needs_few : (m n : ℕ) → n < 2 ^ 64 → n ≡ m → m < most
-unfolding most
-needs_few m n lt is =
-    let lim : 2 ^ 64 ≡ most = refl in
-    omega (arith, lt, is, lim)
-
 pub next_turns : (n p : ℕ) → chain_left (n - (p + 1)) + 1 ≤ linking_left ((n - p) - 1) 0
 next_turns n p =
     let is : n - (p + 1) ≡ (n - p) - 1 = omega arith in

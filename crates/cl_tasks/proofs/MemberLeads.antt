@@ -1,5 +1,5 @@
 -- What the resolution of an entry that asks for a member leads to (JVMS SE 8, 5.4.3.2 to 5.4.3.4).
-use Rattle.std.proofs.Common.{Global, ◌≡◌, ◌≢◌, ◌∙◌, ◌<◌, ◌≤◌, ◌+◌, ◌-◌, ◌^◌, ℕ, List, ◌++◌, length, Option, Some, Err, refl, sym, ap, subst, arith}
+use Rattle.std.proofs.Common.{Global, ◌≡◌, ◌≢◌, ◌∙◌, ◌<◌, ◌≤◌, ◌+◌, ◌-◌, ℕ, List, ◌++◌, length, Option, Some, Err, refl, sym, ap, subst, arith}
 use Rattle.std.specs.Prelude.{slice_get, take, option_map, IfSome}
 use Rattle.std.proofs.lemmas.Option.{slice_get-map}
 use Rattle.std.specs.declared.sync.Arc.{Arc}
@@ -243,12 +243,6 @@ two_room n = omega arith
 
 pub member_room : (n : ℕ) → n < most → imposing_left (n - 0) + 1 ≤ tracing_named_left
 member_room n lt = omega (arith, lt)
-
-pub needs_few : (m n : ℕ) → n < 2 ^ 64 → n ≡ m → m < most
-unfolding most
-needs_few m n lt is =
-    let lim : 2 ^ 64 ≡ most = refl in
-    omega (arith, lt, is, lim)
 
 -- ---- how many calls
 

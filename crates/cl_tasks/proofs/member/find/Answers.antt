@@ -5,7 +5,8 @@ use Rattle.cl_tasks.specs.Stages.{IsMember}
 use Rattle.cl_tasks.specs.declared.stage.Member.{Member}
 use Rattle.cl_tasks.proofs.Lead.{leads_by}
 use Rattle.cl_tasks.proofs.MemberFacts.{found_member, member_told}
-use Rattle.cl_tasks.proofs.MemberLeads.{IsKnown, member_room, member_within, needs_few}
+use Rattle.cl_tasks.proofs.MemberLeads.{IsKnown, member_room, member_within}
+use Rattle.cl_tasks.proofs.Fall.{needs_few}
 use Rattle.cl_tasks.proofs.member.find.Goals as goal
 
 pub returns-in-Ok-equalities_of-clause-leads : goal.returns-in-Ok-equalities_of-clause-leads

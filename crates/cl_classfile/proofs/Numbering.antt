@@ -25,13 +25,6 @@ Of = List ℕ → Option ℕ
 abbrev pub Puts : Of → Of → List ℕ → ℕ → Type 0
 Puts old new t n = (u : List ℕ) → new u ≡ cond (pointwise nat_eq t u) (Some n) (old u)
 
-itself : (t : List ℕ) → pointwise nat_eq t t ≡ true
-itself [] = refl
-itself (b ∷ t) = rw (eq-eqb b b refl, itself t) refl
-
-pub put_is : (old new : Of) (t : List ℕ) (n : ℕ) → Puts old new t n → new t ≡ Some n
-put_is old new t n puts = puts t ∙ rw (itself t) refl
-
 put_first : (pool : List Entry) (old new : Of) (t : List ℕ) (n : ℕ) → Puts old new t n → text_at pool n ≡ Some t → IsFirst pool old → IsFirst pool new
 put_first pool old new t n puts is first u m e = choose (pointwise nat_eq t u) refl (sym (puts u) ∙ e)
   where
@@ -60,6 +53,24 @@ put_number pool old new t n same puts none is a = record {
   known = λ i some.
       subst (λ (ns : List ℕ). IsNumber (number_of new) (text_at pool i) (number_at ns i)) (sym same)
       (grows_number (number_of old) (number_of new) (put_grows (number_of old) (number_of new) t n puts none) (text_at pool i) (number_at old.noted.items i) (a.known i (λ z. some (ap (λ (ns : List ℕ). number_at ns i) same ∙ z))));
+  all = ap length same ∙ a.all;
+}
+
+-- a text that had a number has it again
+pub put_back : (old mid new : Of) (t : List ℕ) (i n : ℕ) → Puts old mid t i → Puts mid new t n → old t ≡ Some n → (u : List ℕ) → new u ≡ old u
+put_back old mid new t i n first again had u = again u ∙ choose (pointwise nat_eq t u) refl
+  where
+    choose : (b : Bool) → pointwise nat_eq t u ≡ b → cond b (Some n) (mid u) ≡ old u
+    choose true same = sym had ∙ ap old (same_text t u (sym same))
+    choose false other = first u ∙ rw other refl
+
+-- what has the same numbers
+pub same_numbers : (pool : List Entry) (old new : Numbers) → new.noted.items ≡ old.noted.items → ((u : List ℕ) → number_of new u ≡ number_of old u) → AreNumbers pool old → AreNumbers pool new
+same_numbers pool old new same each a = record {
+  first = λ u m e. a.first u m (sym (each u) ∙ e);
+  known = λ i some.
+      subst (λ (ns : List ℕ). IsNumber (number_of new) (text_at pool i) (number_at ns i)) (sym same)
+      (grows_number (number_of old) (number_of new) (λ u m e. each u ∙ e) (text_at pool i) (number_at old.noted.items i) (a.known i (λ z. some (ap (λ (ns : List ℕ). number_at ns i) same ∙ z))));
   all = ap length same ∙ a.all;
 }
 

@@ -101,11 +101,12 @@ impl Numbers {
         let Some(text) = text_at(pool, index) else {
             return Ok(0);
         };
-        match self.number_of(text) {
-            Some(number) => Ok(number),
-            None => {
-                self.met.insert(text.try_clone(alloc)?, index)?;
-                Ok(index)
+        match self.met.insert(text.try_clone(alloc)?, index)? {
+            None => Ok(index),
+            Some(number) => {
+                // (a pool seldom has a text twice: who looked first would search twice for nearly all)
+                self.met.insert(text.try_clone(alloc)?, number)?;
+                Ok(number)
             }
         }
     }

@@ -1,7 +1,7 @@
 //! What is accessible to whom (JVMS SE 8, 5.4.4).
 
-use crate::given::{APP, PLUG};
 use crate::lineages::{CLASS, H, NONE, P, Q, QD, QE, R, Row, TOP, class_of, lineage, name_of};
+use cl_given::{APP, PLUG};
 use cl_hierarchy::{class_accessible, member_accessible};
 use cl_model::{Class, LoaderId, Untold};
 use cl_registry::Registry;

@@ -1,7 +1,7 @@
 //! The printed faults that no run shows, and no contract tells the text of.
 
-use crate::given::{T, class_name};
 use cl_classfile::Fault;
+use cl_given::class_name;
 use cl_hierarchy::DraftFault;
 use cl_model::{Equality, LoaderId, Need};
 use cl_registry::RegistryFault;
@@ -34,7 +34,7 @@ fn tell_drafts(alloc: Global, told: &mut String) -> Result<(), AllocError> {
 
 fn violation(alloc: Global) -> Result<RegistryFault, AllocError> {
     Ok(RegistryFault::Violates(Need::Equal(Equality {
-        name: class_name(alloc, T)?,
+        name: class_name(alloc, b"p/T")?,
         one: LoaderId(0),
         other: LoaderId(1),
     })))

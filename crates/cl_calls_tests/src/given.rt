@@ -1,46 +1,22 @@
-//! What the tests share: loaders, names, class files, homes and registries, made with memory to spare.
+//! What these tests share: histories as tables, homes and registries, made with memory to spare.
 
-use cl_config::{Config, Script};
+use cl_config::Config;
 use cl_delegation::{Home, Search};
 use cl_findings::Finding;
+use cl_given::{APP, BOOT, Named, PLUG, bytes_of, class_name, is_class, put, script, source};
 use cl_hierarchy::Draft;
 use cl_model::{Class, Equality, Event, LoaderId, Untold};
 use cl_names::Name;
 use cl_registry::{DefineRefused, PostRefused, Registry, RegistryFault};
-use cl_source::{MemorySource, Source, Telling};
+use cl_source::{Source, Telling};
 use std::alloc::{AllocError, Global};
 use std::sync::Arc;
 
-pub const BOOT: u16 = 0;
-
-pub const APP: u16 = 1;
-
-pub const PLUG: u16 = 2;
-
-pub const KID: u16 = 3;
-
-/// Four loaders, of which `plug` looks at its own content first.
-pub const CHILD_FIRST: &str =
-    "[[loader]]\nname = \"boot\"\n[[loader]]\nname = \"app\"\nparent = \"boot\"\n[[loader]]\nname = \"plug\"\nparent = \"app\"\norder = \"child\"\n[[loader]]\nname = \"kid\"\nparent = \"app\"\n";
-
-/// The same four, of which `plug` asks its parent first.
+/// The loaders of LOADERS, of which `plug` asks its parent first.
 pub const PARENT_FIRST: &str =
     "[[loader]]\nname = \"boot\"\n[[loader]]\nname = \"app\"\nparent = \"boot\"\n[[loader]]\nname = \"plug\"\nparent = \"app\"\n[[loader]]\nname = \"kid\"\nparent = \"app\"\n";
 
-pub const TOP: &[u8] = b"java/lang/Object";
-
-pub const T: &[u8] = b"p/T";
-
-pub fn object_file() -> &'static [u8] {
-    b"\xca\xfe\xba\xbe\x00\x00\x00\x34\x00\x03\x01\x00\x10java/lang/Object\x07\x00\x01\x00\x21\x00\x02\x00\x00\x00\x00\x00\x00\x00\x00\x00\x00"
-}
-
-/// `p/T`, public, over `java/lang/Object`.
-pub fn plain_file() -> &'static [u8] {
-    b"\xca\xfe\xba\xbe\x00\x00\x00\x34\x00\x05\x01\x00\x03p/T\x07\x00\x01\x01\x00\x10java/lang/Object\x07\x00\x03\x00\x21\x00\x02\x00\x04\x00\x00\x00\x00\x00\x00\x00\x00"
-}
-
-/// The same, and final.
+/// `p/T`, public and final, over `java/lang/Object`.
 pub fn final_file() -> &'static [u8] {
     b"\xca\xfe\xba\xbe\x00\x00\x00\x34\x00\x05\x01\x00\x03p/T\x07\x00\x01\x01\x00\x10java/lang/Object\x07\x00\x03\x00\x31\x00\x02\x00\x04\x00\x00\x00\x00\x00\x00\x00\x00"
 }
@@ -67,26 +43,6 @@ pub fn kind_of(fault: &RegistryFault) -> Told {
     }
 }
 
-/// The names of the tables of tests. (A table of names as bytes costs the proof of whoever reads it minutes.)
-#[derive(Clone, Copy, PartialEq, Eq)]
-pub enum Named {
-    Top,
-    T,
-    Base,
-    Sub,
-    Use,
-}
-
-pub fn bytes_of(name: Named) -> &'static [u8] {
-    match name {
-        Named::Top => TOP,
-        Named::T => T,
-        Named::Base => b"p/B",
-        Named::Sub => b"q/C",
-        Named::Use => b"p/Use",
-    }
-}
-
 /// What a step of a history is. (A table of steps that carry values costs the proof of whoever reads it minutes, one of
 /// tuples seconds.)
 #[derive(Clone, Copy, PartialEq, Eq)]
@@ -101,10 +57,6 @@ pub enum Kind {
 
 /// A step of a history that has no settled reference: its loader or request, its name, and the other loader.
 pub type Step = (Kind, u16, Named, u16);
-
-fn is_class(class: &Class, loader: u16, name: Named) -> bool {
-    class.loader == LoaderId(loader) && class.name.bytes() == bytes_of(name)
-}
 
 fn is_step(event: &Event, step: Step) -> bool {
     let (kind, loader, name, other) = step;
@@ -138,10 +90,6 @@ pub fn are_steps(history: &[Event], steps: &[Step]) -> bool {
     history.len() == steps.len()
 }
 
-pub fn class_name(alloc: Global, name: &[u8]) -> Result<Name, AllocError> {
-    Name::class(alloc, name).map_err(|_| AllocError)
-}
-
 pub fn class(alloc: Global, loader: u16, name: &[u8]) -> Result<Class, AllocError> {
     let name = class_name(alloc, name)?;
     Ok(Class {
@@ -150,46 +98,13 @@ pub fn class(alloc: Global, loader: u16, name: &[u8]) -> Result<Class, AllocErro
     })
 }
 
-pub fn config(alloc: Global, text: &str) -> Result<Arc<Config>, AllocError> {
-    match Config::read(alloc, text) {
-        Ok(config) => Ok(Arc::new(alloc, config)?),
-        Err(refused) => {
-            drop(refused);
-            Err(AllocError)
-        }
-    }
-}
-
-/// The source, with a file more.
-pub fn with(
-    alloc: Global,
-    mut source: MemorySource,
-    loader: u16,
-    name: &[u8],
-    bytes: &[u8],
-) -> Result<MemorySource, AllocError> {
-    let name = class_name(alloc, name)?;
-    let bytes = Vec::from_slice(alloc, bytes)?;
-    match source.put(alloc, LoaderId(loader), name, bytes) {
-        Ok(()) => Ok(source),
-        Err(refused) => {
-            drop(refused);
-            Err(AllocError)
-        }
-    }
-}
-
 /// A source of `java/lang/Object` in the first loader, and of these bytes of `p/T` in `app` and `plug`.
-pub fn source(alloc: Global, bytes: &[u8]) -> Result<Telling<Untold>, AllocError> {
-    let source = with(
-        alloc,
-        MemorySource::new(alloc),
-        BOOT,
-        bytes_of(Named::Top),
-        object_file(),
-    )?;
-    let source = with(alloc, source, APP, bytes_of(Named::T), bytes)?;
-    let source = with(alloc, source, PLUG, bytes_of(Named::T), bytes)?;
+pub fn source_of(alloc: Global, bytes: &[u8]) -> Result<Telling<Untold>, AllocError> {
+    let mut source = source(alloc, &[(BOOT, Named::Top)])?;
+    for loader in [APP, PLUG] {
+        let bytes = Vec::from_slice(alloc, bytes)?;
+        put(alloc, &mut source, loader, bytes_of(Named::T), bytes)?;
+    }
     Ok(source.tell::<Untold>())
 }
 
@@ -281,10 +196,7 @@ pub fn registry(
     config: &Arc<Config>,
     text: &str,
 ) -> Result<Registry<Untold>, AllocError> {
-    let Ok(script) = Script::read(alloc, config, text) else {
-        return Err(AllocError);
-    };
-    let script = Arc::new(alloc, script)?;
+    let script = script(alloc, config, text)?;
     match Registry::new(alloc, Arc::try_clone(config)?, script) {
         Ok(registry) => Ok(registry),
         Err(refused) => {

@@ -1,10 +1,9 @@
 //! Lineages, and what is accessible to whom: what stands above a class, each ancestor once and supertypes first.
 
 use crate::access::{MEMBERS, PACKAGES, SEEN, ask_members, ask_seen};
-use crate::given::{
-    APP, BOOT, CHILD_FIRST, Told, class_name, config, object_file, record, registry, with,
-};
+use crate::given::{Told, record, registry};
 use cl_config::Config;
+use cl_given::{APP, BOOT, LOADERS, Named, bytes_of, class_name, config, put, telling};
 use cl_hierarchy::{ClassRow, Lineage};
 use cl_model::{Class, LoaderId, Untold};
 use cl_names::Name;
@@ -126,13 +125,8 @@ fn define(
     let (_, [class, ..]) = row;
     let name = name_of(alloc, *class)?;
     let bytes = file(alloc, row)?;
-    let source = with(
-        alloc,
-        MemorySource::new(alloc),
-        APP,
-        name.bytes(),
-        bytes.as_slice(),
-    )?;
+    let mut source = MemorySource::new(alloc);
+    put(alloc, &mut source, APP, name.bytes(), bytes)?;
     let told = record(
         alloc,
         tables,
@@ -150,24 +144,9 @@ fn define_top(
     tables: &mut Registry<Untold>,
     config: &Arc<Config>,
 ) -> Result<bool, AllocError> {
-    let name = name_of(alloc, TOP)?;
     for loader in [BOOT, APP] {
-        let source = with(
-            alloc,
-            MemorySource::new(alloc),
-            BOOT,
-            name.bytes(),
-            object_file(),
-        )?;
-        let told = record(
-            alloc,
-            tables,
-            config,
-            source.tell::<Untold>(),
-            loader,
-            name.bytes(),
-        )?;
-        if told != Told::Done {
+        let source = telling(alloc, &[(BOOT, Named::Top)])?;
+        if record(alloc, tables, config, source, loader, bytes_of(Named::Top))? != Told::Done {
             return Ok(false);
         }
     }
@@ -409,7 +388,7 @@ fn ask_all<R: Abort>(
 #[test]
 fn lineages_and_access(rt: HostRuntime) -> Result<(), Fail> {
     let alloc = rt.alloc();
-    let loaders = config(alloc, CHILD_FIRST)?;
+    let loaders = config(alloc, LOADERS)?;
     let mut tables = registry(alloc, &loaders, "")?;
     let asked = ask_all(&rt, alloc, &mut tables, &loaders);
     drop(tables);

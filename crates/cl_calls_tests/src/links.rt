@@ -1,47 +1,28 @@
 //! Lists of constraints: in their order, once, and of these tables alone.
 
 use crate::given::{
-    APP, BOOT, CHILD_FIRST, Kind, Named, PARENT_FIRST, PLUG, Step, Told, bytes_of, class,
-    class_name, config, do_report, kind_of, object_file, plain_file, post_finding, record,
-    registry, with,
+    Kind, PARENT_FIRST, Step, Told, class, do_report, kind_of, post_finding, record, registry,
 };
 use cl_config::Config;
 use cl_findings::Finding;
+use cl_given::{APP, BOOT, LOADERS, Named, PLUG, bytes_of, class_name, config, telling};
 use cl_hierarchy::Equalities;
 use cl_model::{Class, LoaderId, Request, Untold};
 use cl_preparation::constraints_of;
 use cl_registry::{Registry, RegistryFault};
-use cl_source::{MemorySource, Telling};
 use std::alloc::{AllocError, Global};
 use std::process::Abort;
 use std::sync::Arc;
 use std::test::Fail;
 
-/// `p/B` over `java/lang/Object`, with the public method `m (Lp/T;)V`.
-// (a function hides the bytes from the proofs of those that call it, which would carry them through each step)
-fn base_file() -> &'static [u8] {
-    b"\xca\xfe\xba\xbe\x00\x00\x00\x34\x00\x07\x01\x00\x03p/B\x07\x00\x01\x01\x00\x10java/lang/Object\x07\x00\x03\x01\x00\x01m\x01\x00\x08(Lp/T;)V\x00\x21\x00\x02\x00\x04\x00\x00\x00\x00\x00\x01\x00\x01\x00\x05\x00\x06\x00\x00\x00\x00"
-}
-
-/// `q/C` over `p/B`, with the same method.
-fn sub_file() -> &'static [u8] {
-    b"\xca\xfe\xba\xbe\x00\x00\x00\x34\x00\x07\x01\x00\x03q/C\x07\x00\x01\x01\x00\x03p/B\x07\x00\x03\x01\x00\x01m\x01\x00\x08(Lp/T;)V\x00\x21\x00\x02\x00\x04\x00\x00\x00\x00\x00\x01\x00\x01\x00\x05\x00\x06\x00\x00\x00\x00"
-}
-
-fn files(alloc: Global) -> Result<Telling<Untold>, AllocError> {
-    let source = with(
-        alloc,
-        MemorySource::new(alloc),
-        BOOT,
-        bytes_of(Top),
-        object_file(),
-    )?;
-    let source = with(alloc, source, APP, bytes_of(Base), base_file())?;
-    let source = with(alloc, source, PLUG, bytes_of(Sub), sub_file())?;
-    let source = with(alloc, source, APP, bytes_of(T), plain_file())?;
-    let source = with(alloc, source, PLUG, bytes_of(T), plain_file())?;
-    Ok(source.tell::<Untold>())
-}
+/// A class in `plug` over one in `app`, both with a method that takes a `p/T`, and a `p/T` in each.
+const FILES: [(u16, Named); 5] = [
+    (BOOT, Top),
+    (APP, Service),
+    (PLUG, Sub),
+    (APP, T),
+    (PLUG, T),
+];
 
 /// The constraints of a class's preparation.
 fn list(
@@ -64,7 +45,7 @@ enum Call {
 }
 
 use Call::{Impose, ImposePast, Mark, Record};
-use Named::{Base, Sub, T, Top};
+use Named::{Service, Sub, T, Top};
 use Told::{Done, Stray, Violates};
 
 /// What is asked in order of tables in which nothing of `p/T` is recorded.
@@ -72,8 +53,8 @@ const STEPS: [(Call, u16, Named, Told); 20] = [
     (Mark, PLUG, Sub, Stray),
     (Record, BOOT, Top, Done),
     (Record, APP, Top, Done),
-    (Record, APP, Base, Done),
-    (Record, PLUG, Base, Done),
+    (Record, APP, Service, Done),
+    (Record, PLUG, Service, Done),
     (Record, PLUG, Sub, Done),
     // its constraint does not stand yet
     (Mark, PLUG, Sub, Stray),
@@ -82,9 +63,9 @@ const STEPS: [(Call, u16, Named, Told); 20] = [
     (Impose, PLUG, Sub, Done),
     // what stands above it is not prepared
     (Mark, PLUG, Sub, Stray),
-    (Mark, APP, Base, Stray),
+    (Mark, APP, Service, Stray),
     (Mark, BOOT, Top, Done),
-    (Mark, APP, Base, Done),
+    (Mark, APP, Service, Done),
     (Mark, PLUG, Sub, Done),
     (Mark, PLUG, Sub, Done),
     (Record, APP, T, Done),
@@ -100,8 +81,8 @@ const CLASHES: [(Call, u16, Named, Told); 11] = [
     (Record, PLUG, Top, Done),
     (Record, APP, T, Done),
     (Record, PLUG, T, Done),
-    (Record, APP, Base, Done),
-    (Record, PLUG, Base, Done),
+    (Record, APP, Service, Done),
+    (Record, PLUG, Service, Done),
     (Record, PLUG, Sub, Done),
     (Impose, PLUG, Sub, Violates),
     (Mark, PLUG, Sub, Stray),
@@ -125,7 +106,7 @@ fn ask(
     let (call, loader, name) = step;
     let name = bytes_of(name);
     if call == Record {
-        return record(alloc, tables, config, files(alloc)?, loader, name);
+        return record(alloc, tables, config, telling(alloc, &FILES)?, loader, name);
     }
     let class = class(alloc, loader, name)?;
     match list(alloc, tables, &class) {
@@ -157,12 +138,12 @@ fn asked_of(
 const HISTORY: [Step; 12] = [
     (Kind::Define, BOOT, Top, 0),
     (Kind::Initiate, BOOT, Top, APP),
-    (Kind::Define, APP, Base, 0),
-    (Kind::Initiate, APP, Base, PLUG),
+    (Kind::Define, APP, Service, 0),
+    (Kind::Initiate, APP, Service, PLUG),
     (Kind::Define, PLUG, Sub, 0),
     (Kind::Constrain, APP, T, PLUG),
     (Kind::Prepare, BOOT, Top, 0),
-    (Kind::Prepare, APP, Base, 0),
+    (Kind::Prepare, APP, Service, 0),
     (Kind::Prepare, PLUG, Sub, 0),
     (Kind::Define, APP, T, 0),
     (Kind::Initiate, BOOT, Top, PLUG),
@@ -266,7 +247,7 @@ fn ask_steps<R: Abort>(
 #[test]
 fn constraints_are_imposed_and_marked(rt: HostRuntime) -> Result<(), Fail> {
     let alloc = rt.alloc();
-    let own = config(alloc, CHILD_FIRST)?;
+    let own = config(alloc, LOADERS)?;
     let mut tables = registry(alloc, &own, "link plug q/C")?;
     let asked = ask_steps(&rt, alloc, &mut tables, &own);
     drop(own);
@@ -294,7 +275,7 @@ fn ask_clashes<R: Abort>(
 #[test]
 fn a_violated_constraint_is_refused(rt: HostRuntime) -> Result<(), Fail> {
     let alloc = rt.alloc();
-    let own = config(alloc, CHILD_FIRST)?;
+    let own = config(alloc, LOADERS)?;
     let mut tables = registry(alloc, &own, "link plug q/C")?;
     let asked = ask_clashes(&rt, alloc, &mut tables, &own);
     drop(tables);

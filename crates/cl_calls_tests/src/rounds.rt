@@ -1,10 +1,8 @@
 //! Posts in their rounds: what is not yet, no longer, or never.
 
-use crate::given::{
-    APP, CHILD_FIRST, Kind, Named, PLUG, Step, Told, are_steps, bytes_of, class_name, config,
-    post_finding, registry,
-};
+use crate::given::{Kind, Step, Told, are_steps, post_finding, registry};
 use cl_findings::Finding;
+use cl_given::{APP, LOADERS, Named, PLUG, bytes_of, class_name, config};
 use cl_model::{Answer, LoaderId, Request, Untold};
 use cl_registry::{Registry, RegistryFault, Report};
 use std::alloc::{AllocError, Global};
@@ -23,7 +21,7 @@ enum Asks {
 }
 
 use Asks::{Link, Load, Resolve};
-use Named::{T, Use};
+use Named::{T, User};
 use Told::{AlreadyPosted, Done, NotYet, Stray};
 
 /// What is posted as out of memory: the number of a request, what it asks for, of which entry, loader and name; and what is
@@ -32,23 +30,23 @@ type Posting = (u32, Asks, u16, u16, Named, Told);
 
 /// What is posted in the first round, in order.
 const FIRST: [Posting; 12] = [
-    (9, Resolve, 1, PLUG, Use, Stray),
+    (9, Resolve, 1, PLUG, User, Stray),
     (3, Load, 0, PLUG, T, Stray),
-    (0, Resolve, 2, PLUG, Use, Stray),
-    (0, Resolve, 1, APP, Use, Stray),
+    (0, Resolve, 2, PLUG, User, Stray),
+    (0, Resolve, 1, APP, User, Stray),
     (0, Resolve, 1, PLUG, T, Stray),
-    (0, Load, 0, PLUG, Use, Stray),
-    (0, Link, 0, PLUG, Use, Stray),
-    (1, Resolve, 1, PLUG, Use, Stray),
+    (0, Load, 0, PLUG, User, Stray),
+    (0, Link, 0, PLUG, User, Stray),
+    (1, Resolve, 1, PLUG, User, Stray),
     (1, Load, 0, APP, T, NotYet),
-    (0, Resolve, 1, PLUG, Use, Done),
-    (0, Resolve, 1, PLUG, Use, AlreadyPosted),
+    (0, Resolve, 1, PLUG, User, Done),
+    (0, Resolve, 1, PLUG, User, AlreadyPosted),
     (2, Load, 0, PLUG, T, NotYet),
 ];
 
 /// What is posted in the second round.
 const SECOND: [Posting; 4] = [
-    (0, Resolve, 1, PLUG, Use, AlreadyPosted),
+    (0, Resolve, 1, PLUG, User, AlreadyPosted),
     (2, Load, 0, PLUG, T, Done),
     (1, Load, 0, APP, T, Done),
     (2, Load, 0, PLUG, T, AlreadyPosted),
@@ -164,7 +162,7 @@ fn after_round<R: Abort>(
 #[test]
 fn rounds(rt: HostRuntime) -> Result<(), Fail> {
     let alloc = rt.alloc();
-    let loaders = config(alloc, CHILD_FIRST)?;
+    let loaders = config(alloc, LOADERS)?;
     let made = registry(alloc, &loaders, TEXT);
     drop(loaders);
     let mut tables = made?;

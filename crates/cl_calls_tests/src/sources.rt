@@ -1,6 +1,6 @@
 //! Sources in memory: what is put, what is refused, and the count of refused reads.
 
-use crate::given::class_name;
+use cl_given::class_name;
 use cl_model::{LoaderId, Untold};
 use cl_source::{FaultySource, MemorySource, Outcome, Probe, Source, SourceFault, Telling};
 use std::alloc::{AllocError, Global};

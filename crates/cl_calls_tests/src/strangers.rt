@@ -1,13 +1,13 @@
 //! Values that belong elsewhere: probes of another search, findings of another script, homes of other loaders.
 
 use crate::given::{
-    APP, BOOT, CHILD_FIRST, KID, Kind, Named, PARENT_FIRST, PLUG, Step, Told, bytes_of, class,
-    class_name, config, do_report, draft_of, final_file, home, is_taken, kind_of, plain_file,
-    post_finding, refusal, registry, search, source,
+    Kind, PARENT_FIRST, Step, Told, class, do_report, draft_of, final_file, home, is_taken,
+    kind_of, post_finding, refusal, registry, search, source_of,
 };
 use cl_config::Config;
 use cl_delegation::{Home, Search};
 use cl_findings::Finding;
+use cl_given::{APP, BOOT, KID, LOADERS, Named, PLUG, bytes_of, class_name, config, file_of};
 use cl_hierarchy::{ClassRow, Draft};
 use cl_model::{LoaderId, Request, Untold};
 use cl_names::Name;
@@ -113,7 +113,7 @@ fn ask_orders<R: Abort>(
 #[test]
 fn probes_in_order(rt: HostRuntime) -> Result<(), Fail> {
     let alloc = rt.alloc();
-    let loaders = config(alloc, CHILD_FIRST)?;
+    let loaders = config(alloc, LOADERS)?;
     let mut nothing = MemorySource::new(alloc).tell::<Untold>();
     let asked = ask_orders(&rt, alloc, &loaders, &mut nothing);
     drop(nothing);
@@ -315,7 +315,7 @@ fn home_among(
     loader: u16,
     name: Named,
 ) -> Result<Home<Untold>, AllocError> {
-    let mut source = source(alloc, bytes)?;
+    let mut source = source_of(alloc, bytes)?;
     home(alloc, loaders, &mut source, loader, bytes_of(name))
 }
 
@@ -333,7 +333,7 @@ fn ask_steps<R: Abort + Print>(
         let bytes = if *found == Changed {
             final_file()
         } else {
-            plain_file()
+            file_of(T)
         };
         let asked = class_name(alloc, bytes_of(*name))?;
         let home = home_among(alloc, loaders, bytes, *loader, *name)?;
@@ -360,7 +360,7 @@ fn post_both<R: Abort>(
 fn strangers_change_nothing(rt: HostRuntime) -> Result<(), Fail> {
     let alloc = rt.alloc();
     let own = config(alloc, PARENT_FIRST)?;
-    let other = config(alloc, CHILD_FIRST)?;
+    let other = config(alloc, LOADERS)?;
     let mut tables = registry(alloc, &own, "load plug p/T")?;
     let asked = ask_steps(&rt, alloc, &mut tables, &own, &other, &STEPS);
     drop(own);

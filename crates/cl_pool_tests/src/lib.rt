@@ -5,6 +5,4 @@
 #[cfg(test)]
 mod draws;
 #[cfg(test)]
-mod given;
-#[cfg(test)]
 mod serving;

@@ -1,12 +1,14 @@
 //! Scripts that several workers serve. A body that gives up on every request passes no line of these.
 
-use crate::given::{APP, BOOT, Named, PLUG, SHARED, is_class, report_of, served_by, source};
-use Named::{Service, T, Top, User};
-use cl_model::{Answer, Event, LoaderId, Untold, Verdict};
+use Named::{T, Top};
+use cl_given::{
+    APP, BOOT, LOADERS, Named, SHARED, are_service, config, count_events, is_class, script, telling,
+};
+use cl_model::{Answer, LoaderId, Untold, Verdict};
 use cl_names::Name;
-use cl_pool::{Gate, OpenGate, PoolFault};
+use cl_pool::{Gate, OpenGate, PoolFault, serve};
 use cl_registry::Report;
-use cl_source::FaultySource;
+use cl_source::{FaultySource, Source};
 use std::alloc::Global;
 use std::sync::Wait;
 use std::sync::atomic::{AtomicU64, Ordering};
@@ -48,6 +50,38 @@ impl Gate for Holding {
     }
 }
 
+/// What so many workers make of a script over a source.
+fn served_by<S: Source<Untold> + Send, G: Gate, R: Threads + Wait + Sync>(
+    rt: &R,
+    alloc: Global,
+    source: S,
+    text: &str,
+    workers: u32,
+    gate: &G,
+) -> Result<Report, PoolFault<Untold>> {
+    let config = config(alloc, LOADERS)?;
+    let script = script(alloc, &config, text)?;
+    serve::<Untold, S, G, R>(rt, alloc, config, source, script, workers, gate)
+}
+
+/// The report of so many workers.
+fn report_of<S: Source<Untold> + Send, G: Gate, R: Threads + Wait + Sync>(
+    rt: &R,
+    alloc: Global,
+    source: S,
+    text: &str,
+    workers: u32,
+    gate: &G,
+) -> Result<Report, Fail> {
+    match served_by(rt, alloc, source, text, workers, gate) {
+        Ok(report) => Ok(report),
+        Err(fault) => {
+            drop(fault);
+            Err(Fail::new("no report"))
+        }
+    }
+}
+
 /// `java/lang/Object` in `boot`, and `p/T` in `app`.
 const PLAIN: [(u16, Named); 2] = [(BOOT, Top), (APP, T)];
 
@@ -79,7 +113,7 @@ fn reads_overlap(rt: HostRuntime) -> Result<(), Fail> {
         posted: AtomicU64::new(0),
         spent: AtomicU64::new(0),
     };
-    let report = report_of(&rt, alloc, source(alloc, &PLAIN)?, EIGHT, 8, &gate)?;
+    let report = report_of(&rt, alloc, telling(alloc, &PLAIN)?, EIGHT, 8, &gate)?;
     let are_classes = are_classes(report.answers.as_slice(), 8, false);
     drop(report);
     assert!(rt; are_classes);
@@ -93,7 +127,7 @@ fn are_refused<R: Threads + Wait + Sync>(
     alloc: Global,
     workers: u32,
 ) -> Result<bool, Fail> {
-    let source = source(alloc, &PLAIN)?;
+    let source = telling(alloc, &PLAIN)?;
     match served_by(rt, alloc, source, "load app p/T", workers, &OpenGate) {
         Ok(report) => {
             drop(report);
@@ -115,49 +149,13 @@ fn workers_are_limited(rt: HostRuntime) -> Result<(), Fail> {
         assert!(rt; are_refused(&rt, alloc, workers)?);
     }
     for workers in [1, 2, 64] {
-        let source = source(alloc, &PLAIN)?;
+        let source = telling(alloc, &PLAIN)?;
         let report = report_of(&rt, alloc, source, "load app p/T", workers, &OpenGate)?;
         let happened = report.history.events().len();
         drop(report);
         assert!(rt; happened == 4);
     }
     Ok(())
-}
-
-/// How many references a history settles, and how many rounds it begins.
-fn count_events(history: &[Event]) -> (usize, usize) {
-    let mut settled = 0usize;
-    let mut rounds = 0usize;
-    for event in history {
-        match event {
-            Event::Settle(_) => settled = settled.saturating_add(1),
-            Event::NextRound => rounds = rounds.saturating_add(1),
-            _ => {}
-        }
-    }
-    (settled, rounds)
-}
-
-fn is_service(verdict: &Verdict) -> bool {
-    match verdict {
-        Verdict::Method(class, _) => is_class(class, APP, Service),
-        _ => false,
-    }
-}
-
-/// Whether each answer is the method of the service.
-fn are_service(answers: &[Answer]) -> bool {
-    for answer in answers {
-        let is_so = match answer {
-            Answer::Said(verdict) => is_service(verdict),
-            Answer::Shared(settled) => is_service(&settled.verdict),
-            _ => false,
-        };
-        if !is_so {
-            return false;
-        }
-    }
-    true
 }
 
 /// A reference that a thousand requests ask for is settled once, whichever worker is first, and each has its verdict.
@@ -168,7 +166,7 @@ fn many_workers_settle_once(rt: HostRuntime) -> Result<(), Fail> {
     for _ in 0..1000 {
         script.push_str("resolve plug p/Use 1\n")?;
     }
-    let source = source(alloc, &SHARED)?;
+    let source = telling(alloc, &SHARED)?;
     let report = report_of(&rt, alloc, source, script.as_str(), 8, &OpenGate)?;
     let (settled, _) = count_events(report.history.events());
     let count = report.answers.as_slice().len();
@@ -200,7 +198,7 @@ fn rounds_are_kept(rt: HostRuntime) -> Result<(), Fail> {
     let script =
         "then\nthen\nresolve plug p/Use 1\nthen\nthen\nload app p/T\nthen\nload plug p/T\nthen\n";
     for workers in [1, 2, 3, 8] {
-        let source = source(alloc, &SHARED)?;
+        let source = telling(alloc, &SHARED)?;
         let report = report_of(&rt, alloc, source, script, workers, &OpenGate)?;
         let (_, rounds) = count_events(report.history.events());
         let are_constrained = are_constrained(report.answers.as_slice());
@@ -217,7 +215,7 @@ fn a_failed_read_stops_no_other(rt: HostRuntime) -> Result<(), Fail> {
     let alloc = rt.alloc();
     let script = "load plug p/T\nthen\nload app p/T\nload app java/lang/Object\n";
     for at in 0..12 {
-        let source = FaultySource::new(source(alloc, &SHARED)?, at);
+        let source = FaultySource::new(telling(alloc, &SHARED)?, at);
         let report = report_of(&rt, alloc, source, script, 4, &OpenGate)?;
         let are_classes = are_classes(report.answers.as_slice(), 3, at > 0);
         drop(report);
@@ -231,7 +229,7 @@ fn a_failed_read_stops_no_other(rt: HostRuntime) -> Result<(), Fail> {
 fn nothing_is_served(rt: HostRuntime) -> Result<(), Fail> {
     let alloc = rt.alloc();
     for (script, events) in [("", 0usize), ("then\nthen\n", 2)] {
-        let report = report_of(&rt, alloc, source(alloc, &[])?, script, 3, &OpenGate)?;
+        let report = report_of(&rt, alloc, telling(alloc, &[])?, script, 3, &OpenGate)?;
         let happened = report.history.events().len();
         let answers = report.answers.as_slice().len();
         drop(report);

@@ -1,13 +1,28 @@
 //! Scripts served over a source of which a read fails, and over much. A body that gives up on every request passes no line
 //! of these.
 
-use crate::given::{APP, BOOT, Named, PLUG, bytes_of, is_class, put, report_over, source};
-use Named::{Service, T, Top, User};
-use cl_model::{Answer, Class, ErrorKind, Event, LoaderId, Untold, Verdict};
+use Named::{T, Top};
+use cl_given::{
+    APP, BOOT, LOADERS, Named, PLUG, SHARED, are_service, bytes_of, config, count_events, is_class,
+    put, script, source, telling,
+};
+use cl_model::{Answer, Class, ErrorKind, LoaderId, Untold, Verdict};
 use cl_registry::Report;
-use cl_source::{FaultySource, MemorySource, Source};
+use cl_schedule::serve_one;
+use cl_source::{FaultySource, MemorySource, Source, Telling};
 use std::alloc::{AllocError, Global};
 use std::test::Fail;
+
+/// The report of a script that is served over a source.
+fn report_over<S: Source<Untold>>(
+    alloc: Global,
+    source: &mut S,
+    text: &str,
+) -> Result<Report, AllocError> {
+    let config = config(alloc, LOADERS)?;
+    let script = script(alloc, &config, text)?;
+    serve_one::<Untold, S>(alloc, config, source, script).map_err(|_| AllocError)
+}
 
 /// What a script comes to over a source of which a read fails, and how many reads the source counts that did.
 #[derive(Drop)]
@@ -23,8 +38,7 @@ fn served_failing(
     at: u64,
     text: &str,
 ) -> Result<Failing, AllocError> {
-    let telling = source(alloc, classes)?.tell::<Untold>();
-    let mut source = FaultySource::new(telling, at);
+    let mut source = FaultySource::new(telling(alloc, classes)?, at);
     let report = report_over(alloc, &mut source, text);
     let failures = source.failures();
     drop(source);
@@ -89,15 +103,6 @@ fn each_read_fails_once(rt: HostRuntime) -> Result<(), Fail> {
     Ok(())
 }
 
-/// A service in `app` whose method takes a `p/T`, a class in `plug` that calls it, and a `p/T` in each.
-const SHARED: [(u16, Named); 5] = [
-    (BOOT, Top),
-    (APP, Service),
-    (APP, T),
-    (PLUG, T),
-    (PLUG, User),
-];
-
 /// How many requests have a verdict, and how many blame the source.
 fn count_answers(answers: &[Answer]) -> (usize, usize) {
     let mut said = 0usize;
@@ -134,44 +139,14 @@ fn each_read_of_every_kind_fails_once(rt: HostRuntime) -> Result<(), Fail> {
 }
 
 /// The report of a script over a source in memory.
-fn served_from(alloc: Global, source: MemorySource, text: &str) -> Result<Report, AllocError> {
-    let mut telling = source.tell::<Untold>();
-    let report = report_over(alloc, &mut telling, text);
-    drop(telling);
+fn served_from(
+    alloc: Global,
+    mut source: Telling<Untold>,
+    text: &str,
+) -> Result<Report, AllocError> {
+    let report = report_over(alloc, &mut source, text);
+    drop(source);
     report
-}
-
-/// How many references a history settles.
-fn settled_count(history: &[Event]) -> usize {
-    let mut settled = 0usize;
-    for event in history {
-        if let Event::Settle(_) = event {
-            settled = settled.saturating_add(1);
-        }
-    }
-    settled
-}
-
-fn is_service(verdict: &Verdict) -> bool {
-    match verdict {
-        Verdict::Method(class, _) => is_class(class, APP, Service),
-        _ => false,
-    }
-}
-
-/// Whether each answer is the method of the service.
-fn are_service(answers: &[Answer]) -> bool {
-    for answer in answers {
-        let is_so = match answer {
-            Answer::Said(verdict) => is_service(verdict),
-            Answer::Shared(settled) => is_service(&settled.verdict),
-            _ => false,
-        };
-        if !is_so {
-            return false;
-        }
-    }
-    true
 }
 
 /// A reference is settled once, however often it is asked for, and each request has the verdict.
@@ -182,8 +157,8 @@ fn a_thousand_resolutions_settle_once(rt: HostRuntime) -> Result<(), Fail> {
     for _ in 0..1000 {
         script.push_str("resolve plug p/Use 1\n")?;
     }
-    let report = served_from(alloc, source(alloc, &SHARED)?, script.as_str())?;
-    let settled = settled_count(report.history.events());
+    let report = served_from(alloc, telling(alloc, &SHARED)?, script.as_str())?;
+    let (settled, _) = count_events(report.history.events());
     let count = report.answers.as_slice().len();
     let are_service = are_service(report.answers.as_slice());
     drop(report);
@@ -227,10 +202,10 @@ fn put_chain(alloc: Global, source: &mut MemorySource, first: &str) -> Result<()
 }
 
 /// A source of `java/lang/Object` and such a chain.
-fn chain(alloc: Global, first: &str) -> Result<MemorySource, AllocError> {
+fn chain(alloc: Global, first: &str) -> Result<Telling<Untold>, AllocError> {
     let mut source = source(alloc, &[(BOOT, Top)])?;
     match put_chain(alloc, &mut source, first) {
-        Ok(()) => Ok(source),
+        Ok(()) => Ok(source.tell::<Untold>()),
         Err(fault) => {
             drop(source);
             Err(fault)
@@ -291,7 +266,7 @@ fn many_requests(rt: HostRuntime) -> Result<(), Fail> {
     for _ in 0..32_767 {
         script.push_str("load app p/Z\nload plug java/lang/Object\n")?;
     }
-    let report = served_from(alloc, source(alloc, &[(BOOT, Top)])?, script.as_str())?;
+    let report = served_from(alloc, telling(alloc, &[(BOOT, Top)])?, script.as_str())?;
     let are_said = are_said(report.answers.as_slice());
     let count = report.answers.as_slice().len();
     drop(report);

@@ -1,21 +1,16 @@
 //! A task and its replies.
 
-use crate::given::{APP, BOOT, LOADERS, Named, bytes_of, class_name, source};
-use cl_config::Config;
+use cl_given::{APP, BOOT, LOADERS, Named, bytes_of, class_name, config, telling};
 use cl_model::{Answer, LoaderId, Request, Untold};
 use cl_source::{Source, SourceFault, Telling};
 use cl_tasks::{Reply, Task, Turn};
 use std::alloc::{AllocError, Global};
 use std::process::Abort;
-use std::sync::Arc;
 use std::test::Fail;
 
 /// A task for a load of `p/T` through `app`.
 fn task(alloc: Global) -> Result<Task<Untold>, AllocError> {
-    let Ok(config) = Config::read(alloc, LOADERS) else {
-        return Err(AllocError);
-    };
-    let config = Arc::new(alloc, config)?;
+    let config = config(alloc, LOADERS)?;
     if usize::from(APP) >= config.count() {
         return Err(AllocError);
     }
@@ -115,11 +110,6 @@ const TURNS: [(Told, u16, Named, Does, u16); 13] = [
     (Memory, BOOT, T, ExpectsAnother, BOOT),
 ];
 
-/// A source that has `p/T` in the first loader.
-fn plain(alloc: Global) -> Result<Telling<Untold>, AllocError> {
-    Ok(source(alloc, &[(BOOT, T)])?.tell::<Untold>())
-}
-
 /// Tells a task all of it in order, and compares what it does.
 fn ask_turns<R: Abort>(
     rt: &R,
@@ -137,7 +127,7 @@ fn ask_turns<R: Abort>(
 #[test]
 fn replies_are_expected_in_turn(rt: HostRuntime) -> Result<(), Fail> {
     let alloc = rt.alloc();
-    let mut source = plain(alloc)?;
+    let mut source = telling(alloc, &[(BOOT, T)])?;
     let mut task = task(alloc)?;
     let asked = ask_turns(&rt, alloc, &mut source, &mut task);
     drop(task);

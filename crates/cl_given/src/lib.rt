@@ -1,0 +1,12 @@
+//! What the tests share: loaders, classes with their files, sources of these, and what histories and answers tell.
+#![tactic(auto)]
+
+mod answers;
+mod classes;
+mod loaders;
+mod sources;
+
+pub use answers::{are_service, count_events};
+pub use classes::{Named, bytes_of, class_name, file_of, is_class};
+pub use loaders::{APP, BOOT, KID, LOADERS, PLUG, config, script};
+pub use sources::{SHARED, put, source, telling};

@@ -94,7 +94,8 @@ impl<T: Told> Search<T> {
         self.route.get(self.absent.len()).copied()
     }
 
-    /// How many loaders are still to be probed, if each of them lacks the name.
+    /// How many loaders of the route have not been found to lack the name. While no bytes were found these are still to be
+    /// probed, if each of them lacks it.
     pub fn left(&self) -> usize
         ensures { result ≡ length (route_of self.now) - length self.now.absent }
     {
@@ -164,7 +165,8 @@ impl<T: Told> Search<T> {
     }
 }
 
-/// Where a search found a name: the loader whose own content answered, with its bytes, and the probes before.
+/// Where a search found a name: the loader whose own content answered, with its bytes, and the probes before, as
+/// `Search::home` gives them.
 #[derive(Drop)]
 pub struct Home<T: Told> {
     config: Arc<Config>,
@@ -228,7 +230,8 @@ impl<T: Told> Home<T> {
         }
     }
 
-    /// The probes that found nothing, in order.
+    /// The probes of the search that it had taken before this one, as `Search::home` gives them. That they follow the route
+    /// and found nothing is known of that search (`Search::next_probe`); a home keeps nothing of it.
     pub fn absent(&self) -> &[Probe<T>]
         ensures { result.now ≡ self.now.absent }
     {
@@ -243,7 +246,8 @@ impl<T: Told> Home<T> {
     }
 }
 
-/// A name that no loader has, of those that the search asked, with all probes.
+/// A name that a search did not find, with its probes, as `Search::home` gives them. Where a content is told, the search
+/// rule leads to no loader.
 #[derive(Drop)]
 pub struct Unfound<T: Told> {
     config: Arc<Config>,
@@ -286,7 +290,8 @@ impl<T: Told> Unfound<T> {
         &self.name
     }
 
-    /// The probes, in order, none of which found anything.
+    /// The probes that the search had taken, as `Search::home` gives them. That they follow the route and found nothing is
+    /// known of that search (`Search::next_probe`); this type keeps nothing of it.
     pub fn absent(&self) -> &[Probe<T>]
         ensures { result.now ≡ self.now.absent }
     {

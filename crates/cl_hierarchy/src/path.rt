@@ -28,7 +28,8 @@ use std::sync::Arc;
 type Frames<T> = IndexMap<Class, Frame<T>, Seed>;
 
 /// The classes that are being derived for one request, each for the sake of the one before it, each at its own loader
-/// (JVMS SE 8, 5.3.5, steps 3 and 4). Each waits for a supertype; none stands twice.
+/// (JVMS SE 8, 5.3.5, steps 3 and 4). Each waits for a supertype. None stands twice: where a content is told, a path keeps
+/// that (`IsFrames` of the rules); else it stands in the condition *absent* of `push` alone.
 #[derive(Drop)]
 pub struct Path<T: Told> {
     config: Arc<Config>,

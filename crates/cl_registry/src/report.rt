@@ -5,7 +5,8 @@ use cl_model::{Answer, Event};
 use std::marker::Model;
 use std::sync::Arc;
 
-/// The events of a run of the linkage machine, in order.
+/// Events, in order. Anyone can make one of any events. Where `Registry::into_report` made it, they are the history of that
+/// registry: where a content is told, a run of the linkage machine.
 #[derive(Debug, Drop)]
 pub struct History {
     events: Vec<Event>,
@@ -37,7 +38,8 @@ impl History {
     }
 }
 
-/// The answers of a script's requests, in the requests' order.
+/// Answers, in order. Anyone can make one of any answers. Where `Registry::into_report` made it, they are those of the
+/// script's requests, one for each, in the requests' order.
 #[derive(Debug, Drop)]
 pub struct Answers {
     items: Vec<Answer>,
@@ -69,7 +71,8 @@ impl Answers {
     }
 }
 
-/// What was asked, what happened, and what each request was answered.
+/// A script with a history and answers. Anyone can put these together. Where `Registry::into_report` did, it is what was
+/// asked of that registry, what happened there, and what each request was answered.
 #[derive(Debug, Drop)]
 pub struct Report {
     pub script: Arc<Script>,

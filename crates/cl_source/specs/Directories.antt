@@ -2,7 +2,9 @@
 -- (JVMS SE 8, 5.3.2).
 use Rattle.std.specs.Prelude.{
   ◌≡◌,
+  ◌≢◌,
   ℕ,
+  ◌==◌,
   ⊤,
   List,
   [],
@@ -17,6 +19,7 @@ use Rattle.std.specs.Prelude.{
   Ok,
   Err,
 }
+use Rattle.std.specs.List.{AllByRecursion, slice_split}
 use Rattle.cl_names.specs.Plain.{plain_of}
 use Rattle.cl_source.specs.declared.source.Outcome.{Outcome}
 use Rattle.cl_source.specs.declared.source.Outcome.TheVariants.{Found, Absent}
@@ -34,6 +37,17 @@ within (b ∷ bs) = (b ∷ bs) ++ 47 ∷ []
 -- DIR/NAME.class, where the name has a text in UTF-8
 abbrev pub path_of : List ℕ → List ℕ → Option (List ℕ)
 path_of dir name = option_map (λ text. within dir ++ text ++ codes ".class") (plain_of name)
+
+-- the name of what stands in a folder: not the folder itself, nor the one above it
+abbrev pub IsEntry : List ℕ → Type 0
+IsEntry part = (part ≢ []) × (part ≢ codes ".") × (part ≢ codes "..")
+
+-- a path that leads nowhere out of its directory: behind the directory's own path, each part between
+-- two / is the name of what stands in the folder before it
+pub record StaysWithin (dir path : List ℕ) : Type 0 where
+  pub rest : List ℕ
+  pub joined : path ≡ within dir ++ rest
+  pub parts : AllByRecursion IsEntry (slice_split (λ b. b == 47) rest)
 
 -- the path of a name is looked at, and P holds of it
 pub record At (P : List ℕ → Type 0) (path : Option (List ℕ)) : Type 0 where

@@ -1,9 +1,10 @@
 //! A source of class files in directories.
 
-ghost use Rattle.std.specs.Prelude.{◌≡◌, ◌<◌, ◌+◌, ◌^◌, List, map, slice_get, IfOk, IfErr, IsErrOf, string_bytes};
+ghost use Rattle.std.specs.Prelude.{◌≡◌, ◌<◌, ◌+◌, ◌^◌, ℕ, List, map, slice_get, IfOk, IfErr, IsErrOf, string_bytes};
 ghost use Rattle.std.specs.Option.{option_map};
 ghost use Rattle.cl_source.specs.Counts.{Counts};
 ghost use Rattle.cl_source.specs.Directories.{path_of, path_in, AnswerOf, ReadsAs};
+ghost use Rattle.cl_source.specs.Seen.{Seen};
 
 use crate::files::ReadFile;
 use crate::size::MOST_CLASS_BYTES;
@@ -18,8 +19,8 @@ use std::sync::Arc;
 /// A directory for each loader, in order, which holds the class of a name as `NAME.class`, the name's parts as folders
 /// (JVMS SE 8, 5.3.2). It tells no content, since what a host's files are is not known.
 ///
-/// A class's name leads out of no directory: its parts are unqualified names (JVMS SE 8, 4.2.2), so none is empty, and
-/// none has a dot, so none is `.` or `..`.
+/// A class's name leads out of no directory (the law `class_names_stay_within`): its parts are unqualified names (JVMS SE 8,
+/// 4.2.2), so none is empty, and none has a dot, so none is `.` or `..`.
 #[derive(Drop)]
 pub struct DirSource<F: ReadFile> {
     pub files: F,
@@ -109,6 +110,8 @@ impl<F: ReadFile> Source<Untold> for DirSource<F> {
         ensures own { IfOk result (λ s. s.failures ≡ 0) }
         ensures same { IfOk result (λ s. map string_bytes s.dirs.items
             ≡ map string_bytes self.now.dirs.items) }
+        ensures files { IfOk result (λ s. (path : List ℕ) (seen : Seen)
+            → F.gives s.files path seen → F.gives self.now.files path seen) }
     {
         Ok(DirSource {
             files: self.files.another(alloc)?,

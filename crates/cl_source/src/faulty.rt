@@ -48,7 +48,8 @@ impl<T: Told, S: Source<T>> Source<T> for FaultySource<T, S> {
 
     ghost gives = { λ s loader name result. PassesOn (S.gives s.inner loader name) s result };
 
-    /// What the inner source answers, but for the one read that is refused, and once the count is at its end.
+    /// What the inner source answers, but for the one read that is refused, and once the count is at its end: then it is not
+    /// asked, and stays as it was.
     fn read(
         &mut self,
         alloc: Global,
@@ -61,6 +62,7 @@ impl<T: Told, S: Source<T>> Source<T> for FaultySource<T, S> {
         ensures gives { PassesOn (S.gives self.old.inner loader name.now) self.old result }
         ensures refused { self.old.until ≡ 1 → IsErrOf result SourceFault.Device
             × (self.new.inner ≡ self.old.inner) }
+        ensures stays { self.old.refused + 1 ≡ 2 ^ 64 → self.new.inner ≡ self.old.inner }
         ensures others { self.old.until ≢ 1 → self.old.refused + 1 < 2 ^ 64
             → Counts (S.refused self.old.inner) (S.refused self.new.inner) result }
         ensures nearer { self.new.until ≡ self.old.until - 1 }

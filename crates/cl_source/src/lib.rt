@@ -5,6 +5,7 @@
 pub mod directory;
 pub mod faulty;
 pub mod files;
+pub mod laws;
 pub mod memory;
 mod shelf;
 mod size;

@@ -179,7 +179,8 @@ Rests (Some content) f = AnswerRests content f.request f.answer f.basis
 abbrev pub Decides : Bool → Type 0 → Type 0
 Decides b P = MatchBool b P (P → ⊥)
 
--- what an answer names is of a configuration of so many loaders
+-- the loader of the request, and those that the text of the answer names, are of a configuration
+-- of so many loaders
 pub record IsWithin (count : ℕ) (f : Answered) : Type 0 where
   pub loader : loader_of f.request < count
   pub answer : AnswerNames count f.answer

@@ -1,4 +1,4 @@
-//! Which loaders answers name.
+//! Which loaders the texts of answers name.
 
 ghost use Rattle.std.specs.Prelude.{length};
 ghost use Rattle.cl_model.specs.Texts.{AnswerNames, NeedNames, VerdictNames};
@@ -49,7 +49,8 @@ fn is_named(answer: &Answer, count: usize) -> bool
 }
 
 impl<T: Told> Finding<T> {
-    /// Whether all loaders that the request and the answer name are those of a configuration. Takes no memory.
+    /// Whether the loader of the request, and those that the text of the answer names, are of a configuration. The home of a
+    /// record that is refused is in no text, nor is the class whose entry is settled. Takes no memory.
     pub fn is_within(&self, config: &Config) -> bool
         ensures { Decides result (IsWithin (length config.now.loaders) self.now) }
     {

@@ -9,6 +9,7 @@ pub mod Constrained
 pub mod Counts
 pub mod Entered
 pub mod Equated
+pub mod Fitting
 pub mod Histories
 pub mod Imposed
 pub mod Kept

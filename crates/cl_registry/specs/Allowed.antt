@@ -1,6 +1,8 @@
 -- What a registry accepts is what the linkage machine allows next: laws, each the contract of a function without a body (JVMS SE 8, 5.3, 5.3.5).
-use Rattle.std.specs.Prelude.{◌≡◌, ◌<◌, ℕ, List, ◌++◌, length, take, Some, slice_get, Contains}
+use Rattle.std.specs.Prelude.{◌≡◌, ◌⊎◌, ◌<◌, ℕ, List, ◌++◌, length, take, Some, slice_get, Contains}
+use Rattle.cl_model.specs.declared.answer.Answer.TheVariants as answers
 use Rattle.cl_model.specs.declared.need.Equality.{Equality}
+use Rattle.cl_model.specs.declared.verdict.Verdict.{Verdict}
 use Rattle.cl_model.specs.States.{Need, recorded, AllMet, Met, Refused}
 use Rattle.cl_model.specs.Content.{Content}
 use Rattle.cl_model.specs.Views.{answer_of}
@@ -10,12 +12,12 @@ use Rattle.cl_delegation.specs.Worlds.{setting_of, world_of}
 use Rattle.cl_hierarchy.specs.Drafts.{IsDraft, Drafted}
 use Rattle.cl_hierarchy.specs.Imposed.{Listed, OfPreparation, equal_need, needs_of}
 use Rattle.cl_hierarchy.specs.Lineages.{Lined}
-use Rattle.cl_findings.specs.Findings.{Answered, Rests}
+use Rattle.cl_findings.specs.Findings.{Answered, IsLookedUp, Rests, Stands}
 use Rattle.cl_registry.specs.declared.registry.RegistryFault.TheVariants.{Stray}
 use Rattle.cl_registry.specs.Imposing.{AreOfConfig, IsListed, IsListOf, IsReady, MayImpose}
 use Rattle.cl_registry.specs.Posting.{Fits}
 use Rattle.cl_registry.specs.Refusals.{DefineRefusedFor}
-use Rattle.cl_registry.specs.Tables.{Shown, state_of, records_of, NamesLoaders, IsKept, IsNew, LacksRecord, MayEnter, MayJoin, own_record, asked_record, MayGoOn}
+use Rattle.cl_registry.specs.Tables.{Shown, state_of, records_of, NamesLoaders, IsKept, IsAsked, IsNew, LacksRecord, MayEnter, MayJoin, own_record, asked_record, MayGoOn}
 
 -- a class of this configuration that the machine may define has no record and may be entered, and is not refused (5.3.4, 5.3.5)
 abbrev pub AllowedIsEntered : Type 0
@@ -84,7 +86,15 @@ FittingIsAllowed =
     (content : Content) (x : Shown) (q : ℕ) (f : Answered) → IsKept (Some content) x → Fits x q f → Rests (Some content) f
     → MayPost (setting_of x.config x.script content) (state_of x) q (answer_of f.answer)
 
--- the next round may begin just where the machine may go on
+-- a verdict that a finding says of its request, and that the machine may post, fits where the finding stands, or the verdict is
+-- one that is looked up: `post` takes it (5.3 to 5.4.3)
+abbrev pub AllowedIsPosted : Type 0
+AllowedIsPosted =
+    (content : Content) (x : Shown) (q : ℕ) (f : Answered) (v : Verdict) → IsKept (Some content) x → IsAsked x q f
+    → f.answer ≡ answers.Said v → IsLookedUp f.request v ⊎ Stands x.config (state_of x) f
+    → MayPost (setting_of x.config x.script content) (state_of x) q (answer_of f.answer) → Fits x q f
+
+-- the next round may begin just where the machine may go on: both are `EndsRound` of the same script, so that nothing is left to show
 abbrev pub RoundIsAllowed : Type 0
 RoundIsAllowed = (content : Content) (x : Shown) → MayGoOn x → May (setting_of x.config x.script content) (state_of x) NextRound
 

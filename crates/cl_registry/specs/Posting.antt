@@ -23,7 +23,7 @@ AnswerBacked x f (answers.Shared s) = settled_by x f.request ≡ Some s.value
 AnswerBacked x f answers.Memory = Unit {0}
 AnswerBacked x f (answers.SourceFault n l) = Unit {0}
 
--- its loaders are those of the configuration, too (5.3)
+-- the loader of the request, and those that the text of the answer names, are of the configuration, too (5.3)
 pub record IsBacked (x : Shown) (f : Answered) : Type 0 where
   pub within : IsWithin (length x.config.loaders) f
   pub answer : AnswerBacked x f f.answer

@@ -10,7 +10,7 @@ pub record IsReport (x : Shown) (r : Report) : Type 0 where
   pub history : r.history ≡ x.history
   pub answers : map (λ a. Some a) r.answers ≡ x.answers
 
--- each loader that the report names is below this count
+-- each loader that the text of the report names is below this count
 pub record IsNamed (count : ℕ) (r : Report) : Type 0 where
   pub history : All (EventNames count) r.history
   pub answers : All (AnswerNames count) r.answers

@@ -9,6 +9,7 @@ use Rattle.cl_model.specs.declared.answer.Answer.TheVariants as answers
 use Rattle.cl_model.specs.declared.request.Request.{Request}
 use Rattle.cl_model.specs.declared.request.Request.TheVariants as requests
 use Rattle.cl_model.specs.declared.settled.Settled.{Settled}
+use Rattle.cl_model.specs.declared.verdict.Verdict as verdict
 use Rattle.cl_model.specs.Content.{Content}
 use Rattle.cl_model.specs.Classes.{class}
 use Rattle.cl_model.specs.States.{Verdict, IsLinked, BadEntry, ArrayMember, Said, recorded, settled_to}
@@ -18,7 +19,7 @@ use Rattle.cl_model.specs.Service.{ComesTo}
 use Rattle.cl_model.specs.Tables.{BearsAnswer, Records}
 use Rattle.cl_model.specs.Views.{answer_of, request_of, verdict_of}
 use Rattle.cl_delegation.specs.Worlds.{setting_of}
-use Rattle.cl_findings.specs.Findings.{Answered, Based, Rests, Stands}
+use Rattle.cl_findings.specs.Findings.{Answered, Based, IsLookedUp, Rests, Stands}
 use Rattle.cl_registry.specs.declared.registry.RegistryFault.TheVariants.{Stray}
 use Rattle.cl_registry.specs.Tables.{Shown, state_of, records_of, IsKept, settled_at}
 use Rattle.cl_registry.specs.References.{IsSettledIn, IsUnsettled, cited_by, settled_by}
@@ -64,11 +65,17 @@ AllowedIsSettled =
     → MaySettle (setting_of x.config x.script content) (state_of x) s.class s.index (verdict_of s.verdict)
     → (settled_by x f.request ≡ None) × IsToSettle x f s
 
--- a finding that rests on another configuration settles nothing
+-- a finding that rests on another configuration is strayed by `settle`, where the entry of its request is not settled
 abbrev pub OtherFindingIsStray : Type 0
 OtherFindingIsStray =
     (x : Shown) (f : Answered) (b : Based) → f.basis ≡ Some b → (b.config ≡ x.config → ⊥) → settled_by x f.request ≡ None
     → SettleRefusedFor x f Stray
+
+-- and a verdict that it says, which is none that is looked up, is not borne: `post` takes none of it
+abbrev pub OtherFindingIsUnbacked : Type 0
+OtherFindingIsUnbacked =
+    (x : Shown) (f : Answered) (b : Based) (v : verdict.Verdict) → f.basis ≡ Some b → (b.config ≡ x.config → ⊥)
+    → f.answer ≡ answers.Said v → (IsLookedUp f.request v → ⊥) → IsBacked x f → ⊥
 
 -- under any source the tables bear what is posted (5.3 to 5.4.3)
 abbrev pub FittingIsBorne : Type 0

@@ -109,7 +109,7 @@ abbrev pub RunsAs : Option Content → Shown → Type 0
 RunsAs None x = Unit {0}
 RunsAs (Some content) x = Run (setting_of x.config x.script content) start (steps x)
 
--- each loader that the history, what is settled and the answers name is one of the configuration
+-- each loader that the texts of the history, of what is settled and of the answers name is one of the configuration
 pub record NamesLoaders (x : Shown) : Type 0 where
   pub history : All (EventNames (length x.config.loaders)) x.history
   pub settled : All (λ s. VerdictNames (length x.config.loaders) s.verdict) (settlements x.history)

@@ -1,22 +1,25 @@
 //! Laws of what a registry accepts, each the contract of a function that does nothing.
-ghost use Rattle.cl_registry.specs.Allowed.{AllowedIsEntered, AllowedIsImposed, AllowedIsJoined, AllowedIsMarked, EnteredIsAllowed, FittingIsAllowed, ImposedIsAllowed, JoinedIsAllowed, MarkedIsAllowed, OtherConfigIsStray, RecordedIsNamed, RoundIsAllowed};
+ghost use Rattle.cl_registry.specs.Allowed.{AllowedIsEntered, AllowedIsImposed, AllowedIsJoined, AllowedIsMarked, AllowedIsPosted, EnteredIsAllowed, FittingIsAllowed, ImposedIsAllowed, JoinedIsAllowed, MarkedIsAllowed, OtherConfigIsStray, RecordedIsNamed, RoundIsAllowed};
 
-/// A class that the linkage machine may define has no record and may be entered: `define` refuses it for memory alone.
+/// A class of this configuration that the linkage machine may define has no record, may be entered and is not refused: `define`
+/// refuses it for memory alone.
 pub fn allowed_is_entered()
     ensures { AllowedIsEntered }
 {}
 
-/// A class that has no record and may be entered may be defined by the linkage machine.
+/// A class that has no record and may be entered, and is not refused, may be defined by the linkage machine.
 pub fn entered_is_allowed()
     ensures { EnteredIsAllowed }
 {}
 
-/// A home by which the linkage machine may record an initiating loader may be joined: `initiate` refuses it for memory alone.
+/// A home of this configuration by which the linkage machine may record an initiating loader may be joined, that loader has no
+/// record, and this one is not refused: `initiate` refuses it for memory alone.
 pub fn allowed_is_joined()
     ensures { AllowedIsJoined }
 {}
 
-/// A home that may be joined, where the loader has no record, is one by which the linkage machine may record that loader.
+/// A home that may be joined, where the loader has no record and this one is not refused, is one by which the linkage machine may
+/// record that loader.
 pub fn joined_is_allowed()
     ensures { JoinedIsAllowed }
 {}
@@ -26,8 +29,8 @@ pub fn imposed_is_allowed()
     ensures { ImposedIsAllowed }
 {}
 
-/// An equality to which the linkage machine's own list comes may be imposed: `impose` refuses it where it is refused, or
-/// for memory.
+/// An equality of a list of this configuration, to which the linkage machine's own list comes, may be imposed: `impose` refuses it
+/// where it is refused, or for memory.
 pub fn allowed_is_imposed()
     ensures { AllowedIsImposed }
 {}
@@ -37,7 +40,8 @@ pub fn marked_is_allowed()
     ensures { MarkedIsAllowed }
 {}
 
-/// A class that the linkage machine may prepare may be marked: `mark_prepared` refuses it for memory alone.
+/// A class of this configuration that the linkage machine may prepare may be marked by its list: `mark_prepared` refuses it for
+/// memory alone.
 pub fn allowed_is_marked()
     ensures { AllowedIsMarked }
 {}
@@ -47,12 +51,19 @@ pub fn fitting_is_allowed()
     ensures { FittingIsAllowed }
 {}
 
-/// Where the next round may begin, the linkage machine may go on.
+/// A verdict that the linkage machine may post fits where the finding that says it stands, or where it is one that is looked up:
+/// `post` takes it.
+pub fn allowed_is_posted()
+    ensures { AllowedIsPosted }
+{}
+
+/// Where the next round may begin, the linkage machine may go on. By definition: both say that the round is over and is not the
+/// last.
 pub fn round_is_allowed()
     ensures { RoundIsAllowed }
 {}
 
-/// A class whose home was found under another configuration is strayed.
+/// A class whose home was found under another configuration, and of which its loader has no record, is strayed.
 pub fn other_config_is_stray()
     ensures { OtherConfigIsStray }
 {}

@@ -119,7 +119,9 @@ pub struct NotYet<T: Told> {
 }
 
 impl<T: Told> Registry<T> {
-    /// Empty tables, with room for all posts and rounds. Only memory refuses it.
+    /// Empty tables, with room for all posts and rounds. Only memory refuses it. The script is to be one that was read over this
+    /// configuration (`Script::read`, whose clause gives `HasLoaders`): of another, a request through a loader that this
+    /// configuration has not is never posted.
     pub fn new(
         alloc: Global,
         config: Arc<Config>,

@@ -1,6 +1,6 @@
 //! Laws of what is settled and posted: each is the contract of a function without a body.
 
-ghost use Rattle.cl_registry.specs.SettlingLaws.{AllowedIsSettled, FittingIsBorne, LinkedIsPrepared, OtherFindingIsStray, PostedIsSettled, PreparedComes, SettledIsAllowed, SettledIsBacked, SettledIsTold, SettledStays, UnsettledIsTold};
+ghost use Rattle.cl_registry.specs.SettlingLaws.{AllowedIsSettled, FittingIsBorne, LinkedIsPrepared, OtherFindingIsStray, OtherFindingIsUnbacked, PostedIsSettled, PreparedComes, SettledIsAllowed, SettledIsBacked, SettledIsTold, SettledStays, UnsettledIsTold};
 
 /// What a history tells to be settled is so in the linkage machine, and nothing else is (JVMS SE 8, 5.4.3).
 pub fn settled_is_told()
@@ -29,9 +29,15 @@ pub fn allowed_is_settled()
     ensures { AllowedIsSettled }
 {}
 
-/// A finding of another configuration is strayed.
+/// A finding of another configuration is strayed by `settle`, where the entry of its request is not settled.
 pub fn other_finding_is_stray()
     ensures { OtherFindingIsStray }
+{}
+
+/// A verdict that a finding of another configuration says is not borne, unless it is one that is looked up: `post` does not take
+/// it.
+pub fn other_finding_is_unbacked()
+    ensures { OtherFindingIsUnbacked }
 {}
 
 /// The tables bear what is posted, under any source: what a reference is settled to, and what is prepared (JVMS SE 8, 5.3 to

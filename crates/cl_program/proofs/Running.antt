@@ -1,5 +1,5 @@
 -- How a run ends, from its steps.
-use Rattle.std.proofs.Common.{◌≡◌, ◌⊎◌, ◌∙◌, ◌<◌, ◌≤◌, ℕ, List, [], ◌∷◌, ◌++◌, length, Option, Some, None, Result, Ok, Err, IfSome, IsErrAnd, OnOk, OnErr, ap, map, append-nil, append_assoc, codes, inl, inr, refl, sym, subst}
+use Rattle.std.proofs.Common.{◌≡◌, ◌⊎◌, ◌∙◌, ◌<◌, ℕ, List, [], ◌∷◌, ◌++◌, length, Option, Some, Result, Ok, Err, IfSome, IsErrAnd, OnOk, OnErr, ap, map, append-nil, append_assoc, codes, inl, inr, refl, sym, subst}
 use Rattle.std.proofs.lemmas.List.{length-map}
 use Rattle.std.specs.Io.KnownBytes.{Appends}
 use Rattle.cl_model.specs.Content.{Content}
@@ -8,10 +8,13 @@ use Rattle.cl_registry.specs.declared.report.Report.{Report}
 use Rattle.cl_bundle.specs.Bundles.{IsBundle, IsNoBundle}
 use Rattle.cl_bundle.specs.Faults.{UnlessMemory}
 use Rattle.cl_bundle.specs.declared.fault.BundleFault.{BundleFault}
+use Rattle.cl_bundle.specs.declared.fault.BundleFault.TheVariants as bundles
+use Rattle.cl_writer.specs.declared.fault.AssembleFault.TheVariants as assembler
+use Rattle.cl_config.specs.declared.script.ScriptFault.TheVariants as scripts
 use Rattle.cl_program.specs.Files.{AreNoText}
 use Rattle.cl_program.specs.Faults.{IsInputFault, print_fault}
 use Rattle.cl_program.specs.Outputs.{Outputs, Stream, TellsFault, WritesPart, fault_line}
-use Rattle.cl_program.specs.Runs.{AreLinesFor, EndsBy, IsRun, IsServedBy, RunOf}
+use Rattle.cl_program.specs.Runs.{AreLinesFor, EndsBy, IsInput, IsNoBundleIn, IsRun, IsServedBy, RunOf}
 use Rattle.cl_program.specs.Serving.{IsUnserved}
 use Rattle.cl_program.specs.declared.asked.Options.{Options}
 use Rattle.cl_report.specs.Report.{report_lines}
@@ -44,35 +47,39 @@ by_memory input asked old = inl (appends_nothing old, tt)
 
 -- ---- a fault of a bundle
 
-if_read : (input : Option (List ℕ)) (text : List ℕ) (fault : BundleFault) → IfSome input (λ bytes. text ≡ bytes) → UnlessMemory fault (IsNoBundle text fault)
-    → IfSome input (λ bytes. UnlessMemory fault (IsNoBundle bytes fault))
-if_read None text fault e w = tt
-if_read (Some bytes) text fault e w = subst (λ (t : List ℕ). UnlessMemory fault (IsNoBundle t fault)) e w
+unless_memory : (fault : BundleFault) (P Q : Type 0) → (P → Q) → UnlessMemory fault P → UnlessMemory fault Q
+unless_memory bundles.Memory P Q f w = tt
+unless_memory (bundles.Script scripts.Memory) P Q f w = tt
+unless_memory (bundles.Class class assembler.Memory) P Q f w = tt
+unless_memory fault P Q f w = f w
 
-pub by_bundle : (input : Option (List ℕ)) (asked : Options) (old : Option (List ℕ)) (text : List ℕ) (fault : BundleFault) → IfSome input (λ bytes. text ≡ bytes) → UnlessMemory fault (IsNoBundle text fault)
+pub by_bundle : (input : Option (List ℕ)) (asked : Options) (old : Option (List ℕ)) (text : List ℕ) (fault : BundleFault) → IsInput input text → UnlessMemory fault (IsNoBundle text fault)
     → EndsBy input asked (still old) (Bundle fault)
-by_bundle input asked old text fault e w = (appends_nothing old, if_read input text fault e w)
+by_bundle input asked old text fault is w = (appends_nothing old, unless_memory fault (IsNoBundle text fault) (IsNoBundleIn input fault) (λ wrong. (text, is, wrong)) w)
 
 -- ---- a script that is not served
 
-pub by_service : (input : Option (List ℕ)) (asked : Options) (old : Option (List ℕ)) (fault : Fault) → IsUnserved asked.workers fault → EndsBy input asked (still old) fault
-by_service input asked old (Serve wrong) w = (appends_nothing old, w)
-by_service input asked old (Threads wrong) w = (appends_nothing old, w)
-by_service input asked old fault w = absurd w
+pub by_service : (input : Option (List ℕ)) (asked : Options) (old : Option (List ℕ)) (text : List ℕ) (config : Configured) (content : Content) (script : Scripted) (fault : Fault)
+    → IsInput input text → IsBundle text config content script → IsUnserved asked.workers fault → EndsBy input asked (still old) fault
+by_service input asked old text config content script (Serve wrong) is bundle w =
+    (appends_nothing old, record { text = text; config = config; content = content; script = script; input_is = is; bundle = bundle; unserved = w })
+by_service input asked old text config content script (Threads wrong) is bundle w =
+    (appends_nothing old, record { text = text; config = config; content = content; script = script; input_is = is; bundle = bundle; unserved = w })
+by_service input asked old text config content script fault is bundle w = absurd w
 
 -- ---- a report that is broken off
 
 -- the lines that are printed for what was read and served are those of a report, where what is held in between is what was read
 pub are_lines : (input : Option (List ℕ)) (asked : Options) (text : List ℕ) (config held seen : Configured) (content : Content) (script given : Scripted) (report : Report) (names : List (List ℕ))
-    → IfSome input (λ bytes. text ≡ bytes) → IsBundle text config content script → held ≡ config → given ≡ script → IsServedBy asked.workers (Some content) held given report
+    → IsInput input text → IsBundle text config content script → held ≡ config → given ≡ script → IsServedBy asked.workers (Some content) held given report
     → names ≡ names_of seen → seen ≡ config → AreLinesFor input asked (report_lines names asked.answers report.history report.answers)
-are_lines input asked text config held seen content script given report names read bundle h s served n e = record {
+are_lines input asked text config held seen content script given report names is bundle h s served n e = record {
   text = text;
   config = config;
   content = content;
   script = script;
   report = report;
-  read = read;
+  input_is = is;
   bundle = bundle;
   served = subst (λ (x : Scripted). IsServedBy asked.workers (Some content) config x report) s (subst (λ (x : Configured). IsServedBy asked.workers (Some content) x given report) h served);
   are = ap (λ (x : List (List ℕ)). report_lines x asked.answers report.history report.answers) (n ∙ ap names_of e);

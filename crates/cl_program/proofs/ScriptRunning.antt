@@ -44,11 +44,12 @@ by_script gives w old config fault is h = absurd h
 pub by_memory : (gives : List ℕ → Giving) (w : Wanted) (old : Option (List ℕ)) → EndsFrom gives w (still old) Memory
 by_memory gives w old = inl (appends_nothing old, tt)
 
-pub by_service : (gives : List ℕ → Giving) (w : Wanted) (old : Option (List ℕ)) (fault : Fault) → IsUnservedOver w.options.workers fault → EndsFrom gives w (still old) fault
-by_service gives w old (Serve wrong) h = (appends_nothing old, h)
-by_service gives w old (Threads wrong) h = (appends_nothing old, h)
-by_service gives w old Memory h = inl (appends_nothing old, tt)
-by_service gives w old fault h = absurd h
+pub by_service : (gives : List ℕ → Giving) (w : Wanted) (old : Option (List ℕ)) (config : Configured) (script : Scripted) (fault : Fault) → IsConfigAt (gives w.config) (Ok config)
+    → IsScriptAt (gives w.script) config (Ok script) → IsUnservedOver w.options.workers fault → EndsFrom gives w (still old) fault
+by_service gives w old config script (Serve wrong) is read h = (appends_nothing old, record { config = config; configured = is; holds = (script, read, h) })
+by_service gives w old config script (Threads wrong) is read h = (appends_nothing old, record { config = config; configured = is; holds = (script, read, h) })
+by_service gives w old config script Memory is read h = inl (appends_nothing old, tt)
+by_service gives w old config script fault is read h = absurd h
 
 -- ---- the report
 

@@ -1,10 +1,12 @@
 -- What a run of the program answers, and what it writes.
-use Rattle.std.specs.Prelude.{◌≡◌, ◌⊎◌, ◌<◌, ℕ, ⊤, List, length, Option, Some, Result, Ok, Err, IfSome}
+use Rattle.std.specs.Prelude.{◌≡◌, ◌⊎◌, ◌<◌, ◌≤◌, ℕ, ⊤, List, length, Option, Some, Result, Ok, Err, IfSome}
+use Rattle.std.specs.Str.{IsUtf8}
 use Rattle.cl_model.specs.Content.{Content}
 use Rattle.cl_config.specs.Views.{Configured, Scripted, names_of}
 use Rattle.cl_registry.specs.declared.report.Report.{Report}
 use Rattle.cl_bundle.specs.Bundles.{IsBundle, IsNoBundle}
 use Rattle.cl_bundle.specs.Faults.{UnlessMemory}
+use Rattle.cl_bundle.specs.declared.fault.BundleFault.{BundleFault}
 use Rattle.cl_report.specs.Report.{report_lines}
 use Rattle.cl_schedule.specs.Headline.{IsServed}
 use Rattle.cl_program.specs.Files.{AreNoText}
@@ -14,6 +16,12 @@ use Rattle.cl_program.specs.declared.asked.Options.{Options}
 use Rattle.cl_program.specs.declared.fault.Fault.{Fault}
 use Rattle.cl_program.specs.declared.fault.Fault.TheVariants.{Input, Write, TooLarge, NotUtf8, Bundle, Serve, Threads, Memory}
 use Rattle.cl_program.specs.declared.limits.TheConstants.{MOST_INPUT_BYTES}
+
+-- the text that an input is: not too many bytes, in UTF-8
+pub record IsInput (input : Option (List ℕ)) (text : List ℕ) : Type 0 where
+  pub read : IfSome input (λ bytes. text ≡ bytes)
+  pub small : length text ≤ MOST_INPUT_BYTES
+  pub utf8 : IsUtf8 text
 
 -- what so many workers make of a script over a content: one serves in order, with no fault of the source; several in any order of
 -- their steps (JVMS SE 8, 5.3)
@@ -27,7 +35,7 @@ pub record AreLinesFor (input : Option (List ℕ)) (o : Options) (lines : List �
   pub content : Content
   pub script : Scripted
   pub report : Report
-  pub read : IfSome input (λ bytes. text ≡ bytes)
+  pub input_is : IsInput input text
   pub bundle : IsBundle text config content script
   pub served : IsServedBy o.workers (Some content) config script report
   pub are : lines ≡ report_lines (names_of config) o.answers report.history report.answers
@@ -44,14 +52,28 @@ pub record BreaksOff (input : Option (List ℕ)) (o : Options) (out : Stream) : 
   pub for_input : AreLinesFor input o lines
   pub part : WritesPart out lines
 
+-- the input is a text that is no bundle, with the first thing that is wrong with it
+abbrev pub IsNoBundleIn : Option (List ℕ) → BundleFault → Type 0
+IsNoBundleIn input wrong = (text : List ℕ) × IsInput input text × IsNoBundle text wrong
+
+-- the input is a bundle, whose script was not served for this reason
+pub record IsUnservedFor (input : Option (List ℕ)) (o : Options) (f : Fault) : Type 0 where
+  pub text : List ℕ
+  pub config : Configured
+  pub content : Content
+  pub script : Scripted
+  pub input_is : IsInput input text
+  pub bundle : IsBundle text config content script
+  pub unserved : IsUnserved o.workers f
+
 -- when a run ends by a fault, and what is on its output; that a read or a write was refused, or that memory was wanting, is taken at its word
 abbrev pub EndsBy : Option (List ℕ) → Options → Stream → Fault → Type 0
 EndsBy input o out Input = WritesNothing out ⊤
 EndsBy input o out TooLarge = WritesNothing out (IfSome input (λ bytes. MOST_INPUT_BYTES < length bytes))
 EndsBy input o out NotUtf8 = WritesNothing out (IfSome input (λ bytes. AreNoText bytes))
-EndsBy input o out (Bundle wrong) = WritesNothing out (IfSome input (λ bytes. UnlessMemory wrong (IsNoBundle bytes wrong)))
-EndsBy input o out (Serve wrong) = WritesNothing out (IsUnserved o.workers (Serve wrong))
-EndsBy input o out (Threads wrong) = WritesNothing out (IsUnserved o.workers (Threads wrong))
+EndsBy input o out (Bundle wrong) = WritesNothing out (UnlessMemory wrong (IsNoBundleIn input wrong))
+EndsBy input o out (Serve wrong) = WritesNothing out (IsUnservedFor input o (Serve wrong))
+EndsBy input o out (Threads wrong) = WritesNothing out (IsUnservedFor input o (Threads wrong))
 EndsBy input o out Write = BreaksOff input o out
 EndsBy input o out Memory = WritesNothing out ⊤ ⊎ BreaksOff input o out
 EndsBy input o out _ = ⊥

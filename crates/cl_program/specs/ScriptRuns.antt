@@ -86,6 +86,10 @@ IsOfOne gives w P = P (gives w.config) ⊎ IsUnder gives w (λ config. P (gives 
 abbrev pub IsUnreadPath : (List ℕ → Giving) → Wanted → List ℕ → Type 0
 IsUnreadPath gives w path = ((path ≡ w.config) × IsUnreadable (gives w.config)) ⊎ IsUnder gives w (λ config. (path ≡ w.script) × IsUnreadable (gives w.script))
 
+-- the configuration and then the script were read, and the script was not served for this reason
+abbrev pub IsUnservedUnder : (List ℕ → Giving) → Wanted → Fault → Type 0
+IsUnservedUnder gives w f = IsUnder gives w (λ config. (script : Scripted) × IsScriptAt (gives w.script) config (Ok script) × IsUnserved w.options.workers f)
+
 -- when a run ends by a fault, and what is on its output; that a write was refused, or that memory was wanting,
 -- is taken at its word
 abbrev pub EndsFrom : (List ℕ → Giving) → Wanted → Stream → Fault → Type 0
@@ -94,8 +98,8 @@ EndsFrom gives w out TooLarge = WritesNothing out (IsOfOne gives w (λ g. IsTooL
 EndsFrom gives w out NotUtf8 = WritesNothing out (IsOfOne gives w IsNoText)
 EndsFrom gives w out (Config fault) = WritesNothing out (IsConfigAt (gives w.config) (Err fault))
 EndsFrom gives w out (Script fault) = WritesNothing out (IsUnder gives w (λ config. IsScriptAt (gives w.script) config (Err fault)))
-EndsFrom gives w out (Serve wrong) = WritesNothing out (IsUnserved w.options.workers (Serve wrong))
-EndsFrom gives w out (Threads wrong) = WritesNothing out (IsUnserved w.options.workers (Threads wrong))
+EndsFrom gives w out (Serve wrong) = WritesNothing out (IsUnservedUnder gives w (Serve wrong))
+EndsFrom gives w out (Threads wrong) = WritesNothing out (IsUnservedUnder gives w (Threads wrong))
 EndsFrom gives w out Write = BreaksFrom gives w out
 EndsFrom gives w out Memory = WritesNothing out ⊤ ⊎ BreaksFrom gives w out
 EndsFrom gives w out _ = ⊥

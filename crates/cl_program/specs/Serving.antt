@@ -13,8 +13,9 @@ use Rattle.cl_program.specs.declared.fault.Fault.TheVariants.{Serve, Threads}
 use Rattle.cl_program.specs.declared.fault.ThreadFault.{ThreadFault}
 use Rattle.cl_program.specs.declared.fault.ThreadFault.TheVariants.{Workers}
 
--- the one holds where one worker serves, and the other where several do
+-- so many workers may serve, and the one holds where one serves, the other where several do
 pub record ByWorkers (workers : ℕ) (One Several : Type 0) : Type 0 where
+  pub within : MayServe workers
   pub alone : workers ≡ 1 → One
   pub together : ¬ (workers ≡ 1) → Several
 

@@ -1,8 +1,9 @@
 //! What the program reads and draws for a run: its input, and a seed.
 
-ghost use Rattle.std.specs.Prelude.{◌≡◌, ◌<◌, ◌≤◌, length, IfOk, IfErr, IfSome, Err, string_bytes, string_len};
+ghost use Rattle.std.specs.Prelude.{◌≡◌, ◌<◌, length, IfOk, IfErr, IfSome, Err, string_bytes};
 ghost use Rattle.cl_program.specs.Files.{AreNoText};
 ghost use Rattle.cl_program.specs.Faults.{IsInputFault, input_fault};
+ghost use Rattle.cl_program.specs.Runs.{IsInput};
 
 use crate::fault::Fault;
 use crate::limits::MOST_INPUT_BYTES;
@@ -15,8 +16,7 @@ use std::random::RandomSource;
 
 /// The text of an input, read to its end.
 pub(crate) fn read_text<I: Read + Drop>(alloc: Global, mut input: I) -> Result<String, Fault>
-    ensures ok { IfOk result (λ t. IfSome (I.remaining input) (λ bytes. string_bytes t ≡ bytes)) }
-    ensures small { IfOk result (λ t. string_len t ≤ MOST_INPUT_BYTES) }
+    ensures ok { IfOk result (λ t. IsInput (I.remaining input) (string_bytes t)) }
     ensures large { result ≡ Err Fault.TooLarge
         → IfSome (I.remaining input) (λ bytes. MOST_INPUT_BYTES < length bytes) }
     ensures not_text { result ≡ Err Fault.NotUtf8

@@ -1,8 +1,9 @@
 //! Scripts that several workers serve.
 
-ghost use Rattle.std.specs.Prelude.{IfOk, IfErr, length};
+ghost use Rattle.std.specs.Prelude.{IfOk, IfErr, OnOk, length};
 ghost use Rattle.cl_config.specs.Scripts.{HasLoaders};
 ghost use Rattle.cl_schedule.specs.Headline.{IsServed};
+ghost use Rattle.cl_pool.specs.Served.{MayServe};
 ghost use Rattle.cl_program.specs.Serving.{FailsBy};
 
 use crate::fault::ThreadFault;
@@ -30,6 +31,7 @@ pub(crate) fn serve_by_threads<
 ) -> Result<Report, ThreadFault>
     requires { HasLoaders (length config.value.loaders) script.value.requests }
     ensures served { IfOk result (IsServed T.told config.value script.value) }
+    ensures workers { OnOk result (MayServe workers) }
     ensures refused { IfErr result (FailsBy workers) }
 {
     match serve::<T, S, OpenGate, R>(rt, alloc, config, source, script, workers, &OpenGate) {

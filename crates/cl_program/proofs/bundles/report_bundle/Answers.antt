@@ -2,7 +2,7 @@ use Rattle.std.proofs.Common.{◌≡◌, ℕ, All, string_bytes, subst}
 use Rattle.cl_model.specs.Texts.{AnswerNames, EventNames}
 use Rattle.cl_program.specs.Faults.{print_fault}
 use Rattle.cl_program.specs.declared.fault.Fault.TheVariants.{Bundle, Memory}
-use Rattle.cl_program.proofs.Running.{are_lines, by_bundle, by_memory, by_print, names_count, ran_wrong}
+use Rattle.cl_program.proofs.Running.{are_lines, by_bundle, by_memory, by_print, by_service, names_count, ran_wrong}
 use Rattle.cl_program.proofs.bundles.report_bundle.Goals as goal
 
 pub returns-in_err-config : goal.returns-in_err-config
@@ -15,6 +15,11 @@ returns-in_err-config-2 g c = ran_wrong _ _ _ c.from_residual-in_err-config-2.re
 
 pub returns-in_err-loaders : goal.returns-in_err-loaders
 returns-in_err-loaders g c = ran_wrong _ _ _ c.from_residual-in_err-loaders.result Memory c.from_residual-in_err-loaders.ensures.1 (by_memory _ c.args.options _)
+
+pub returns-in_err-report : goal.returns-in_err-report
+returns-in_err-report g c =
+    ran_wrong _ _ _ c.from_residual-in_err-report.result c.in_err-report.field-0.0 c.from_residual-in_err-report.ensures.1
+    (by_service _ c.args.options _ (string_bytes c.in_ok-text.text) _ _ _ c.in_err-report.field-0.0 c.in_ok-text.ensures.ok (rw c.as_str.ensures.value at c.in_ok-config.ensures.bundle) c.in_err-report.ensures.unserved)
 
 pub print_report-requires-clause-events : goal.print_report-requires-clause-events
 print_report-requires-clause-events g c =

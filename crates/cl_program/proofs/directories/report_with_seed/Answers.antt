@@ -4,7 +4,7 @@ use Rattle.cl_program.specs.Asking.{wanted_of}
 use Rattle.cl_program.specs.Faults.{print_fault}
 use Rattle.cl_program.specs.declared.fault.Fault.TheVariants.{Memory}
 use Rattle.cl_program.proofs.Running.{names_count}
-use Rattle.cl_program.proofs.ScriptRunning.{by_memory, by_printing, by_script, lines_from, script_wrong}
+use Rattle.cl_program.proofs.ScriptRunning.{by_memory, by_printing, by_script, by_service, lines_from, script_wrong}
 use Rattle.cl_program.proofs.directories.report_with_seed.Goals as goal
 
 pub returns-in_err-script : goal.returns-in_err-script
@@ -14,6 +14,11 @@ returns-in_err-script g c =
 
 pub returns-in_err-script-2 : goal.returns-in_err-script-2
 returns-in_err-script-2 g c = script_wrong _ _ _ c.from_residual-in_err-script-2.result Memory c.from_residual-in_err-script-2.ensures.1 (by_memory _ _ _)
+
+pub returns-in_err-report : goal.returns-in_err-report
+returns-in_err-report g c =
+    script_wrong _ _ _ c.from_residual-in_err-report.result c.in_err-report.field-0.0 c.from_residual-in_err-report.ensures.1
+    (by_service (g.F.ReadFile.gives c.args.files.now) (wanted_of c.args.words) _ _ _ c.in_err-report.field-0.0 c.in_ok-config_at.ensures.ok (rw c.with_seed-config.ensures at c.in_ok-script.ensures.ok) c.in_err-report.ensures.unserved)
 
 pub print_report-requires-clause-answers : goal.print_report-requires-clause-answers
 print_report-requires-clause-answers g c =

@@ -18,8 +18,10 @@ pub mod Later
 pub mod Telling
 pub mod Backing
 pub mod Seated
+pub mod Places
 pub mod Rooming
 pub mod Owing
 pub mod Nearing
 pub mod Prompt
+pub mod Takings
 pub mod Paying

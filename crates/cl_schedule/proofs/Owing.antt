@@ -1,15 +1,13 @@
 -- The count of a source beside the answers that are its faults, with those that are still to be posted.
-use Rattle.std.proofs.Common.{◌≡◌, ◌⊎◌, inl, inr, ◌∙◌, ◌+◌, ◌<◌, ℕ, zero, suc, List, [], ◌∷◌, length, map, Option, Some, None, Result, Ok, Err, refl, sym, ap, subst, arith, replicate}
+use Rattle.std.proofs.Common.{◌≡◌, inl, inr, ◌∙◌, ◌+◌, ◌<◌, ℕ, zero, suc, List, [], ◌∷◌, length, map, Option, Some, None, Result, Ok, Err, refl, sym, ap, subst, arith}
 use Rattle.std.specs.Prelude.{IfOk, slice_get, slice_set}
 use Rattle.cl_config.specs.Views.{Configured, Scripted}
 use Rattle.cl_findings.specs.Findings.{Answered}
 use Rattle.cl_model.specs.declared.answer.Answer.{Answer}
 use Rattle.cl_model.specs.Content.{Content}
-use Rattle.cl_model.specs.Machine.{Step}
 use Rattle.cl_registry.specs.declared.report.Report.{Report}
-use Rattle.cl_registry.specs.Reports.{IsReport}
-use Rattle.cl_registry.specs.Tables.{Shown, IsKept, IsOpen, empty_of, with_post}
-use Rattle.cl_registry.specs.Tables as tables
+use Rattle.cl_registry.specs.Reports.{IsReport, IsUnfinished}
+use Rattle.cl_registry.specs.Tables.{Shown, IsOpen, empty_of, with_post}
 use Rattle.cl_tasks.specs.Follows.{Refuses, refusal}
 use Rattle.cl_tasks.specs.Tasks.{Tasked}
 use Rattle.cl_tasks.specs.Turns.{Expects}
@@ -18,14 +16,15 @@ use Rattle.cl_tasks.specs.declared.turn.Turn.{Turn}
 use Rattle.cl_tasks.specs.declared.turn.Turn.TheVariants as turn
 use Rattle.cl_schedule.specs.declared.choices.Room.{Room}
 use Rattle.cl_schedule.specs.declared.seats.Seat.{Seat}
-use Rattle.cl_schedule.specs.Counting.{CountGrows, CountsFaults, Grows, RoseBy, debt, fault, faults, owed, owed_all, owed_at, owed_of, owed_pair, told_faults}
-use Rattle.cl_schedule.specs.Replies.{CallSays, Did, IsCall, IsStepOf}
-use Rattle.cl_schedule.specs.Rooms.{HasTaken, OpenSeats}
+use Rattle.cl_schedule.specs.Counting.{CountGrows, CountsFaults, Grows, RoseBy, debt, fault, faults, owed, owed_all, owed_at, owed_of, told_faults}
+use Rattle.cl_schedule.specs.Places.{seat_at, seat_of}
+use Rattle.cl_schedule.specs.Replies.{CallSays, IsCall, IsStepOf}
+use Rattle.cl_schedule.specs.Rooms.{HasTaken, IsOver, IsServing, NoneSeated, ServesOn}
 use Rattle.cl_schedule.specs.Rounds.{RoundsPassed}
-use Rattle.cl_schedule.specs.Seats.{HasAdvanced, HasGathered, HasPosted, IsSeatedAt, NextIn}
-use Rattle.cl_schedule.specs.Serving.{IsCallStep}
+use Rattle.cl_schedule.specs.Seats.{HasGathered}
 use Rattle.cl_schedule.proofs.Counted.{faults_none, faults_set, grows_none, grows_same, grows_then, told_fault, told_none}
-use Rattle.cl_schedule.proofs.Rooming.{get_set, get_set_same, set_length}
+use Rattle.cl_schedule.proofs.Places.{mid_tasks, no_seat, same_set}
+use Rattle.cl_schedule.proofs.Rooming.{same_answers}
 use Rattle.cl_schedule.proofs.Waiting.{none_left}
 
 -- ---- numbers that grow as the count does
@@ -99,10 +98,6 @@ count_posted old new u f q k is opened posted = record {
   grows = grows_none k;
 }
 
-same_answers : (old new : Shown) (such : Step → Type 0) → Did old new such → new.answers ≡ old.answers
-same_answers old new such (inl same) = ap (λ (x : Shown). x.answers) same
-same_answers old new such (inr (e, is, goes)) = goes.answers
-
 -- its call is made
 pub count_called : {A S : Type 0} (told : Option Content) (old new : Shown) (u w : Turn A) (given : Reply A) (k l m : ℕ) (since source : S) → CallSays told old new u given k l since source → CountGrows (told_faults given) (owed w) l m
     → CountGrows (faults old.answers + owed u) (faults new.answers + owed w) k m
@@ -115,11 +110,6 @@ count_called told old new u w given k l m since source says g = record {
       omega arith;
   grows = grows_then (told_faults given) g.number k l m says.faults g.grows;
 }
-
--- a request that stood in its place
-pub owed_there : {A : Type 0} (room : Room A) (q : ℕ) (t : Tasked) (u : Turn A) → slice_get room.tasks.items q ≡ Some (Some t) → slice_get room.calls.items q ≡ Some (Some u) → owed_at room q ≡ owed u
-owed_there {A = A} room q t u task call =
-    ap (λ (o : Option (Option Tasked)). owed_pair o (slice_get room.calls.items q)) task ∙ ap (λ (o : Option (Option (Turn A))). owed_pair (Some (Some t)) o) call
 
 -- it is taken from there
 pub count_seated : (n at here k l : ℕ) → here ≡ at → l ≡ k → CountGrows (n + at) (n + here) k l
@@ -148,25 +138,21 @@ count_refused old new at q k l a none quiet unread opened posted = record {
 
 -- ---- places
 
-no_call : (A : Type 0) (o : Option (Option Tasked)) → owed_pair {A = A} o None ≡ 0
-no_call A None = refl
-no_call A (Some None) = refl
-no_call A (Some (Some t)) = refl
+no_call : (A : Type 0) (o : Option (Option Tasked)) → owed_of (seat_of {A = A} o None) ≡ 0
+no_call A o = ap owed_of (no_seat o None (λ t u task call. absurd cc))
 
-empty_call : (A : Type 0) (o : Option (Option Tasked)) → owed_pair {A = A} o (Some None) ≡ 0
-empty_call A None = refl
-empty_call A (Some None) = refl
-empty_call A (Some (Some t)) = refl
+empty_call : (A : Type 0) (o : Option (Option Tasked)) → owed_of (seat_of {A = A} o (Some None)) ≡ 0
+empty_call A o = ap owed_of (no_seat o (Some None) (λ t u task call. absurd cc))
 
 -- a call is taken from its place
-owed_drop : {A : Type 0} (ts : List (Option Tasked)) (us : List (Option (Turn A))) (q : ℕ) → owed_all ts us ≡ owed_all ts (slice_set us q None) + owed_pair (slice_get ts q) (slice_get us q)
+owed_drop : {A : Type 0} (ts : List (Option Tasked)) (us : List (Option (Turn A))) (q : ℕ) → owed_all ts us ≡ owed_all ts (slice_set us q None) + owed_of (seat_of (slice_get ts q) (slice_get us q))
 owed_drop [] us q = refl
 owed_drop {A = A} (t ∷ ts) [] q = let none = no_call A (slice_get (t ∷ ts) q) in omega arith
 owed_drop {A = A} (t ∷ ts) (u ∷ us) zero = let none = empty_call A (Some t) in omega arith
 owed_drop (t ∷ ts) (u ∷ us) (suc q) = let more = owed_drop ts us q in omega arith
 
 -- a task and its call are
-owed_take : {A : Type 0} (ts : List (Option Tasked)) (us : List (Option (Turn A))) (q : ℕ) → owed_all ts us ≡ owed_all (slice_set ts q None) (slice_set us q None) + owed_pair (slice_get ts q) (slice_get us q)
+owed_take : {A : Type 0} (ts : List (Option Tasked)) (us : List (Option (Turn A))) (q : ℕ) → owed_all ts us ≡ owed_all (slice_set ts q None) (slice_set us q None) + owed_of (seat_of (slice_get ts q) (slice_get us q))
 owed_take [] us q = refl
 owed_take {A = A} (t ∷ ts) [] zero = let none = no_call A (Some t) in omega arith
 owed_take {A = A} (t ∷ ts) [] (suc q) = let none = no_call A (slice_get ts q) in omega arith
@@ -196,18 +182,11 @@ owed_put {A = A} (s ∷ ts) (None ∷ us) zero t u below none = let empty = empt
 owed_put (s ∷ ts) (Some w ∷ us) zero t u below none = absurd cc
 owed_put (s ∷ ts) (w ∷ us) (suc q) t u below none = let more = owed_put ts us q t u (omega arith) none in omega arith
 
-owed_empty : (A : Type 0) (n m : ℕ) → owed_all {A = A} (replicate n None) (replicate m None) ≡ 0
-owed_empty A zero m = refl
-owed_empty A (suc n) zero = refl
-owed_empty A (suc n) (suc m) = let more = owed_empty A n m in omega arith
-
--- where no task has a call beside it
-owed_nothing : {A : Type 0} (ts : List (Option Tasked)) (us : List (Option (Turn A))) → ((q : ℕ) (t : Tasked) (u : Turn A) → slice_get ts q ≡ Some (Some t) → slice_get us q ≡ Some (Some u) → ⊥) → owed_all ts us ≡ 0
+-- where there is no seat
+owed_nothing : {A : Type 0} (ts : List (Option Tasked)) (us : List (Option (Turn A))) → ((q : ℕ) → seat_of (slice_get ts q) (slice_get us q) ≡ None) → owed_all ts us ≡ 0
 owed_nothing [] us none = refl
 owed_nothing (t ∷ ts) [] none = refl
-owed_nothing (None ∷ ts) (u ∷ us) none = let more = owed_nothing ts us (λ q. none (suc q)) in omega arith
-owed_nothing (Some t ∷ ts) (None ∷ us) none = let more = owed_nothing ts us (λ q. none (suc q)) in omega arith
-owed_nothing (Some t ∷ ts) (Some u ∷ us) none = absurd (none 0 t u refl refl)
+owed_nothing (t ∷ ts) (u ∷ us) none = let here = ap owed_of (none 0) in let more = owed_nothing ts us (λ q. none (suc q)) in omega arith
 
 -- ---- the room after a choice
 
@@ -230,15 +209,11 @@ debt_advanced {A = A} old new room mid done o s q k l some taken in_tasks in_cal
     let left = owed_all mid.tasks.items mid.calls.items in
     let was = owed_taken room mid q taken in
     let more : owed_of o ≡ owed s.call = ap owed_of some in
-    let free : slice_get mid.calls.items q ≡ Some None = ap (λ (us : List (Option (Turn A))). slice_get us q) taken.calls ∙ get_set_same room.calls.items q None in_calls in
+    let free : slice_get mid.calls.items q ≡ Some None = ap (λ (us : List (Option (Turn A))). slice_get us q) taken.calls ∙ same_set room.calls.items q None in_calls in
     let here : owed_all done.tasks.items done.calls.items ≡ left + owed s.call =
     ap (λ (ts : List (Option Tasked)). owed_all ts done.calls.items) tasks ∙ ap (λ (us : List (Option (Turn A))). owed_all (slice_set mid.tasks.items q (Some s.task)) us) calls
-    ∙ owed_put mid.tasks.items mid.calls.items q s.task s.call (inside taken.tasks) free in
+    ∙ owed_put mid.tasks.items mid.calls.items q s.task s.call (let whole = mid_tasks room mid q taken in omega arith) free in
     count_beside left (faults old.answers + owed_at room q) (faults new.answers + owed_of o) (debt old room) (debt new done) k l (omega arith) (omega arith) g
-  where
-    inside : (mid.tasks.items ≡ room.tasks.items) ⊎ (mid.tasks.items ≡ slice_set room.tasks.items q None) → q < length mid.tasks.items
-    inside (inl same) = let size = ap length same in omega arith
-    inside (inr set) = let size = ap length set ∙ set_length room.tasks.items q None in omega arith
 
 -- nothing was posted, and no request has another place
 pub debt_same : {A : Type 0} (old new : Shown) (room done : Room A) → new.answers ≡ old.answers → done.tasks.items ≡ room.tasks.items → done.calls.items ≡ room.calls.items → debt new done ≡ debt old room
@@ -254,97 +229,27 @@ debt_rounds old mid new first room done k l g passed tasks calls =
     count_is (debt old first) (debt mid room) (debt old first) (debt new done) k l refl (debt_same mid new room done passed.answers tasks calls) g
 
 -- before the first choice
-pub debt_first : {A : Type 0} (config : Configured) (script : Scripted) (empty new : Shown) (room : Room A) (n m : ℕ) → empty ≡ empty_of config script → RoundsPassed empty new → room.tasks.items ≡ replicate n None → room.calls.items ≡ replicate m None → debt new room ≡ 0
-debt_first {A = A} config script empty new room n m is passed tasks calls =
+pub debt_first : {A : Type 0} (config : Configured) (script : Scripted) (empty new : Shown) (room : Room A) → empty ≡ empty_of config script → RoundsPassed empty new → NoneSeated room → debt new room ≡ 0
+debt_first config script empty new room is passed none =
     let answers : faults new.answers ≡ 0 = ap faults passed.answers ∙ ap (λ (x : Shown). faults x.answers) is ∙ faults_none (length script.requests) in
-    let places : owed_all room.tasks.items room.calls.items ≡ 0 =
-    ap (λ (ts : List (Option Tasked)). owed_all ts room.calls.items) tasks ∙ ap (λ (us : List (Option (Turn A))). owed_all (replicate n None) us) calls ∙ owed_empty A n m in
+    let places : owed_all room.tasks.items room.calls.items ≡ 0 = owed_nothing room.tasks.items room.calls.items none in
     omega arith
-
--- ---- those that wait have no answer
-
--- an open request is so after the post of another one
-open_other : (xs : List (Option Answer)) (q p : ℕ) (a : Answer) → (p ≡ q → ⊥) → slice_get xs p ≡ Some None → slice_get (slice_set xs q (Some a)) p ≡ Some None
-open_other [] q p a other at = absurd cc
-open_other (x ∷ xs) zero zero a other at = absurd (other refl)
-open_other (x ∷ xs) zero (suc p) a other at = at
-open_other (x ∷ xs) (suc q) zero a other at = at
-open_other (x ∷ xs) (suc q) (suc p) a other at = open_other xs q p a (λ same. other (ap (λ (n : ℕ). suc n) same)) at
-
--- a request that stands in a place after another one was taken
-record StoodThere {A : Type 0} (room : Room A) (q p : ℕ) (t : Tasked) (u : Turn A) : Type 0 where
-  pub other : p ≡ q → ⊥
-  pub task : slice_get room.tasks.items p ≡ Some (Some t)
-  pub call : slice_get room.calls.items p ≡ Some (Some u)
-
-stood_there : {A : Type 0} (room mid : Room A) (q p : ℕ) (t : Tasked) (u : Turn A) → HasTaken room mid q → slice_get mid.tasks.items p ≡ Some (Some t) → slice_get mid.calls.items p ≡ Some (Some u) → StoodThere room q p t u
-stood_there {A = A} room mid q p t u taken task call =
-    by_place (get_set room.calls.items q p None (Some u) (ap (λ (us : List (Option (Turn A))). slice_get us p) (sym taken.calls) ∙ call)) taken.tasks
-  where
-    some_none : {B : Type 0} {b : B} → None ≡ Some b → ⊥
-    some_none e = cc
-
-    by_place : ((p ≡ q) × (None ≡ Some u)) ⊎ ((p ≡ q → ⊥) × (slice_get room.calls.items p ≡ Some (Some u)))
-        → (mid.tasks.items ≡ room.tasks.items) ⊎ (mid.tasks.items ≡ slice_set room.tasks.items q None) → StoodThere room q p t u
-    by_place (inl (same, is)) tasks = absurd (some_none is)
-    by_place (inr (other, at)) (inl same) = record { other = other; task = ap (λ (ts : List (Option Tasked)). slice_get ts p) (sym same) ∙ task; call = at }
-    by_place (inr (other, at)) (inr set) = elim (get_set room.tasks.items q p None (Some t) (ap (λ (ts : List (Option Tasked)). slice_get ts p) (sym set) ∙ task)) [
-      | inl here ↦ absurd (some_none here.1)
-      | inr there ↦ record { other = other; task = there.1; call = at }
-    ]
-
-pub seats_posted : {A : Type 0} (told : Option Content) (old new : Shown) (room mid done : Room A) (q : ℕ) → OpenSeats old room → HasTaken room mid q → HasPosted told old new q → done.tasks.items ≡ mid.tasks.items → done.calls.items ≡ mid.calls.items → OpenSeats new done
-seats_posted {A = A} told old new room mid done q seats taken posted tasks calls = λ p t u task call.
-    let s = stood_there room mid q p t u taken (ap (λ (ts : List (Option Tasked)). slice_get ts p) (sym tasks) ∙ task) (ap (λ (us : List (Option (Turn A))). slice_get us p) (sym calls) ∙ call) in
-    subst (λ (y : Shown). IsOpen y p) (sym posted.posted) (open_other old.answers q p posted.answer s.other (seats p t u s.task s.call))
-
-pub seats_advanced : {A : Type 0} (told : Option Content) (old new : Shown) (room mid done : Room A) (q : ℕ) (t : Tasked) (u : Turn A) → OpenSeats old room → HasTaken room mid q → HasAdvanced told old new q → IsSeatedAt told new t u q
-    → done.tasks.items ≡ slice_set mid.tasks.items q (Some t) → done.calls.items ≡ slice_set mid.calls.items q (Some u) → OpenSeats new done
-seats_advanced {A = A} told old new room mid done q t u seats taken advanced (r, may, seated) tasks calls = λ p s w task call.
-    by_place p s w
-    (get_set mid.tasks.items q p (Some t) (Some s) (ap (λ (ts : List (Option Tasked)). slice_get ts p) (sym tasks) ∙ task))
-    (get_set mid.calls.items q p (Some u) (Some w) (ap (λ (us : List (Option (Turn A))). slice_get us p) (sym calls) ∙ call))
-  where
-    answers : new.answers ≡ old.answers
-    answers = same_answers old new (λ e. IsCallStep e × NextIn told old advanced.request e) advanced.did
-
-    by_place : (p : ℕ) (s : Tasked) (w : Turn A) → ((p ≡ q) × (Some t ≡ Some s)) ⊎ ((p ≡ q → ⊥) × (slice_get mid.tasks.items p ≡ Some (Some s)))
-        → ((p ≡ q) × (Some u ≡ Some w)) ⊎ ((p ≡ q → ⊥) × (slice_get mid.calls.items p ≡ Some (Some w))) → IsOpen new p
-    by_place p s w (inl (same, one)) others = subst (λ (n : ℕ). IsOpen new n) (sym same) may.unanswered
-    by_place p s w (inr (other, one)) (inl (same, two)) = absurd (other same)
-    by_place p s w (inr (other, one)) (inr (again, two)) =
-        let there = stood_there room mid q p s w taken one two in
-        ap (λ (xs : List (Option Answer)). slice_get xs p) answers ∙ seats p s w there.task there.call
-
--- nothing was posted, and no request has another place
-pub seats_same : {A : Type 0} (old new : Shown) (room done : Room A) → OpenSeats old room → new.answers ≡ old.answers → done.tasks.items ≡ room.tasks.items → done.calls.items ≡ room.calls.items → OpenSeats new done
-seats_same {A = A} old new room done seats answers tasks calls = λ p t u task call.
-    ap (λ (xs : List (Option Answer)). slice_get xs p) answers
-    ∙ seats p t u (ap (λ (ts : List (Option Tasked)). slice_get ts p) (sym tasks) ∙ task) (ap (λ (us : List (Option (Turn A))). slice_get us p) (sym calls) ∙ call)
-
--- no request was begun
-pub seats_first : {A : Type 0} (x : Shown) (room : Room A) (n : ℕ) → room.calls.items ≡ replicate n None → OpenSeats x room
-seats_first {A = A} x room n calls = λ p t u task call. absurd (nowhere n p u (ap (λ (us : List (Option (Turn A))). slice_get us p) (sym calls) ∙ call))
-  where
-    nowhere : (n p : ℕ) (u : Turn A) → slice_get (replicate n None) p ≡ Some (Some u) → ⊥
-    nowhere zero p u at = cc
-    nowhere (suc n) zero u at = cc
-    nowhere (suc n) (suc p) u at = nowhere n p u at
 
 -- ---- at the end
 
--- where each request has its answer nothing is owed
-owed_over : {A : Type 0} (told : Option Content) (x : Shown) (room : Room A) → IsKept told x → HasGathered x room.waiting.items room.next → room.waiting.items ≡ [] → (tables.MayGoOn x → ⊥) → OpenSeats x room → owed_all room.tasks.items room.calls.items ≡ 0
-owed_over told x room kept gathered none over seats =
-    let left = none_left told x room.next kept (subst (λ (ws : List ℕ). HasGathered x ws room.next) none gathered) over in
-    owed_nothing room.tasks.items room.calls.items (λ q t u task call. left (inl (q, seats q t u task call)))
+-- where each request has its answer none has not
+pub none_unfinished : {A : Type 0} (told : Option Content) (config : Configured) (script : Scripted) (x : Shown) (room : Room A) → IsServing told config script x room → IsOver x room → IsUnfinished x → ⊥
+none_unfinished told config script x room serves over = none_left told x room.next serves.kept (subst (λ (ws : List ℕ). HasGathered x ws room.next) over.none serves.places.gathered) over.over
 
 -- as many answers of the report are faults of the source as the count rose by
-pub counts_faults : {A : Type 0} (told : Option Content) (first x : Shown) (opened room : Room A) (r : Report) (k l : ℕ) → debt first opened ≡ 0 → CountGrows (debt first opened) (debt x room) k l
-    → IsKept told x → HasGathered x room.waiting.items room.next → room.waiting.items ≡ [] → (tables.MayGoOn x → ⊥) → OpenSeats x room → IsReport x r → CountsFaults r k l
-counts_faults told first x opened room r k l none g kept gathered over_waits over seats is =
-    let nothing = owed_over told x room kept gathered over_waits over seats in
-    let more = g.counted in
+pub counts_faults : {A : Type 0} (told : Option Content) (config : Configured) (script : Scripted) (first x : Shown) (opened room : Room A) (r : Report) (k l : ℕ) → debt first opened ≡ 0 → ServesOn told config script first x opened room k l → IsOver x room → IsReport x r → CountsFaults r k l
+counts_faults {A = A} told config script first x opened room r k l none on over is =
+    let nothing = owed_nothing room.tasks.items room.calls.items (λ q. by_seat q (seat_at room q) refl) in
+    let more = on.faults.counted in
     let answers : faults (map (λ a. Some a) r.answers) ≡ faults x.answers = ap faults is.answers in
-    let number : g.number ≡ faults (map (λ a. Some a) r.answers) = omega arith in
-    subst (λ (n : ℕ). RoseBy n k l) number g.grows.rose
+    let number : on.faults.number ≡ faults (map (λ a. Some a) r.answers) = omega arith in
+    subst (λ (n : ℕ). RoseBy n k l) number on.faults.grows.rose
+  where
+    by_seat : (q : ℕ) (o : Option (Seat A)) → seat_at room q ≡ o → o ≡ None
+    by_seat q None at = refl
+    by_seat q (Some s) at = absurd (none_unfinished told config script x room on.serves over (inl (q, on.serves.seats q s at)))

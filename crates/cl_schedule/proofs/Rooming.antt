@@ -1,11 +1,14 @@
 -- Requests in their places: what a choice does to them and to the history (JVMS SE 8, 5.3 to 5.4.3).
-use Rattle.std.proofs.Common.{◌≡◌, ◌⊎◌, inl, inr, ◌∙◌, ◌+◌, ◌*◌, ◌%◌, ◌<◌, ◌≤◌, ℕ, zero, suc, List, [], ◌∷◌, ◌++◌, length, Option, Some, None, refl, sym, ap, subst, arith, add-one, append_assoc}
-use Rattle.std.specs.Prelude.{replicate, slice_get, slice_index, slice_set, IfSome, MatchOption}
+use Rattle.std.proofs.Common.{◌≡◌, inl, inr, ◌∙◌, ◌+◌, ◌*◌, ◌%◌, ◌<◌, ◌≤◌, ℕ, zero, suc, List, [], ◌∷◌, ◌++◌, length, Option, Some, None, refl, sym, ap, subst, arith, add-one, append_assoc}
+use Rattle.std.specs.Prelude.{Result, Ok, Err, IfOk, replicate, slice_get, slice_index, MatchOption}
 use Rattle.std.specs.List.{remove}
 use native.Mathlib.Nat.{mod-lt, suc-mul, zero-mod}
 use Rattle.std.proofs.lemmas.List.{append-nil, length-replicate}
+use Rattle.std.proofs.lemmas.List.Edits.{length-remove}
 use Rattle.std.proofs.lemmas.Option.{slice_get_within}
+use Rattle.cl_config.specs.Scripts.{HasLoaders}
 use Rattle.cl_config.specs.Views.{Configured, Scripted}
+use Rattle.cl_model.specs.declared.answer.Answer as rust
 use Rattle.cl_model.specs.declared.request.Request.{Request}
 use Rattle.cl_model.specs.Content.{Content}
 use Rattle.cl_model.specs.Machine.{Setting, Step, Post, state_after}
@@ -14,49 +17,39 @@ use Rattle.cl_model.specs.States.{State, start}
 use Rattle.cl_model.proofs.Service.{state_append}
 use Rattle.cl_model.specs.Plans as plans
 use Rattle.cl_model.specs.Views.{answer_of}
-use Rattle.cl_registry.specs.Tables.{Shown, IsKept, empty_of, state_of, steps}
+use Rattle.cl_registry.specs.Tables.{Shown, IsKept, IsOpen, empty_of, state_of, steps, with_post}
 use Rattle.cl_registry.specs.Tables as tables
 use Rattle.cl_tasks.specs.Measures.{all_left}
 use Rattle.cl_tasks.specs.Tasks.{Tasked}
 use Rattle.cl_tasks.specs.declared.turn.Turn.{Turn}
 use Rattle.cl_schedule.specs.declared.choices.Room.{Room}
+use Rattle.cl_schedule.specs.declared.seats.Seat.{Seat}
+use Rattle.cl_schedule.specs.Places.{seat_at}
 use Rattle.cl_schedule.specs.Replies.{Did}
-use Rattle.cl_schedule.specs.Rooms.{AllSeated, ChoosesIn, FirstFalls, HasTaken, IsRoom, PlaysIn, SameScript, TakesFirst, first_left, left_at, left_of, room_sum}
+use Rattle.cl_schedule.specs.Rooms.{AllSeated, ChoosesIn, FirstFalls, HasTaken, IsRoom, IsServing, OpenSeats, PlaysIn, TakesFirst, WaitsAgain, first_left, left_at, left_of, room_sum}
 use Rattle.cl_schedule.specs.Rounds.{RoundsPassed}
 use Rattle.cl_schedule.specs.Seats.{AreOfRound, GoesOn, HasAdvanced, HasGathered, HasPosted, IsSeated, IsSeatedAt, NextIn}
 use Rattle.cl_schedule.specs.Serving.{IsCallStep, machine}
 use Rattle.cl_schedule.proofs.Histories.{steps_posts, unposted}
 use Rattle.cl_schedule.proofs.Later.{after_then, goes_on_did, goes_on_posted, goes_on_rounds}
 use Rattle.cl_schedule.proofs.Gathering.{gathered}
+use Rattle.cl_schedule.proofs.Places.{HasMoved, none_seated, other_set, same_or_apart, same_seats, same_set, seat_task, some_is, some_none}
 use Rattle.cl_schedule.proofs.States.{same_machine}
 use Rattle.cl_schedule.proofs.Waiting.{gathered_call, gathered_post, gathered_rounds, may_gather, may_gather_first, takes_waiting}
-
--- ---- places
 
 pub some_request : (rs : List Request) (q : ℕ) → q < length rs → (r : Request) × (slice_get rs q ≡ Some r)
 some_request [] q below = absurd (omega arith)
 some_request (r ∷ rs) zero below = (r, refl)
 some_request (r ∷ rs) (suc q) below = some_request rs q (omega arith)
 
--- what stands at a place after one was set
-pub get_set : {A : Type 0} (xs : List A) (q p : ℕ) (a b : A) → slice_get (slice_set xs q a) p ≡ Some b → ((p ≡ q) × (a ≡ b)) ⊎ ((p ≡ q → ⊥) × (slice_get xs p ≡ Some b))
-get_set [] q p a b e = absurd cc
-get_set (x ∷ xs) zero zero a b e = inl (refl, some_is a b e)
-  where
-    some_is : {A : Type 0} (a b : A) → Some a ≡ Some b → a ≡ b
-    some_is a b e = cc
-get_set (x ∷ xs) zero (suc p) a b e = inr (λ same. cc, e)
-get_set (x ∷ xs) (suc q) zero a b e = inr (λ same. cc, e)
-get_set (x ∷ xs) (suc q) (suc p) a b e = next (get_set xs q p a b e)
-  where
-    next : ((p ≡ q) × (a ≡ b)) ⊎ ((p ≡ q → ⊥) × (slice_get xs p ≡ Some b)) → ((suc p ≡ suc q) × (a ≡ b)) ⊎ ((suc p ≡ suc q → ⊥) × (slice_get xs p ≡ Some b))
-    next (inl (same, is)) = inl (ap (λ (n : ℕ). suc n) same, is)
-    next (inr (other, is)) = inr (λ same. other (omega arith), is)
+-- ---- cases
 
-pub set_length : {A : Type 0} (xs : List A) (q : ℕ) (a : A) → length (slice_set xs q a) ≡ length xs
-set_length [] q a = refl
-set_length (x ∷ xs) zero a = refl
-set_length (x ∷ xs) (suc q) a = ap (λ (n : ℕ). suc n) (set_length xs q a)
+match_some : {A : Type 0} (o : Option A) (a : A) (P : Type 0) (Q : A → Type 0) → o ≡ Some a → MatchOption o P Q → Q a
+match_some {A = A} o a P Q e m = subst (λ (k : Option A). MatchOption k P Q) e m
+
+pub map_ok : {A E : Type 0} (r : Result A E) (P Q : A → Type 0) → ((a : A) → P a → Q a) → IfOk r P → IfOk r Q
+map_ok (Ok a) P Q map is = map a is
+map_ok (Err e) P Q map is = is
 
 -- ---- seats later on
 
@@ -74,33 +67,46 @@ seated_later told x y t u q r goes s = record {
   posts = λ z after. s.posts z (after_then told x y z goes after);
 }
 
-all_seated_later : {A : Type 0} (told : Option Content) (x y : Shown) (tasks : List (Option Tasked)) (calls : List (Option (Turn A))) → GoesOn x y → AllSeated told x tasks calls → AllSeated told y tasks calls
-all_seated_later told x y tasks calls goes all = λ q t u r task call asked.
-    seated_later told x y t u q r goes (all q t u r task call (ap (λ s. slice_get s.requests q) (sym goes.script) ∙ asked))
+-- ---- a turn, in the registry
 
--- where one was taken from its place the others are seated
-seated_but : {A : Type 0} (told : Option Content) (x : Shown) (old mid : Room A) (q : ℕ) → AllSeated told x old.tasks.items old.calls.items → HasTaken old mid q → AllSeated told x mid.tasks.items mid.calls.items
-seated_but {A = A} told x old mid q all taken = λ p t u r task call asked.
-    by_place p t u r task asked (get_set old.calls.items q p None (Some u) (ap (λ (cs : List (Option (Turn A))). slice_get cs p) (sym taken.calls) ∙ call)) taken.tasks
-  where
-    some_none : {B : Type 0} {b : B} → None ≡ Some b → ⊥
-    some_none e = cc
+-- what is posted, in the history
+pub steps_posted : (told : Option Content) (old new : Shown) (q : ℕ) → IsKept told old → (posted : HasPosted told old new q) → steps new ≡ steps old ++ Post q (answer_of posted.answer) ∷ []
+steps_posted told old new q kept posted = ap steps posted.posted ∙ steps_posts old q posted.answer (unposted old q kept.trusted posted.unanswered) posted.unanswered
 
-    by_place : (p : ℕ) (t : Tasked) (u : Turn A) (r : Request) → slice_get mid.tasks.items p ≡ Some (Some t) → slice_get x.script.requests p ≡ Some r
-        → ((p ≡ q) × (None ≡ Some u)) ⊎ ((p ≡ q → ⊥) × (slice_get old.calls.items p ≡ Some (Some u)))
-        → (mid.tasks.items ≡ old.tasks.items) ⊎ (mid.tasks.items ≡ slice_set old.tasks.items q None) → IsSeated told x t u p r
-    by_place p t u r task asked (inl (same, is)) tasks = absurd (some_none is)
-    by_place p t u r task asked (inr (other, call)) (inl same) = all p t u r (ap (λ (ts : List (Option Tasked)). slice_get ts p) (sym same) ∙ task) call asked
-    by_place p t u r task asked (inr (other, call)) (inr set) = elim (get_set old.tasks.items q p None (Some t) (ap (λ (ts : List (Option Tasked)). slice_get ts p) (sym set) ∙ task)) [
-      | inl here ↦ absurd (some_none here.1)
-      | inr there ↦ all p t u r there.1 call asked
-    ]
+-- the request that was taken
+pub asked_turned : {A : Type 0} (told : Option Content) (old new : Shown) (q left : ℕ) (after : Option (Seat A)) → MatchOption after (HasPosted told old new q) (WaitsAgain told old new q left) → (r : Request) × (slice_get old.script.requests q ≡ Some r)
+asked_turned told old new q left None posted = (posted.request, posted.asked)
+asked_turned told old new q left (Some s) waits = (waits.advanced.request, waits.advanced.asked)
 
-taken_length : {A : Type 0} (old mid : Room A) (q : ℕ) → HasTaken old mid q → length mid.tasks.items ≡ length old.tasks.items
-taken_length old mid q taken = elim taken.tasks [
-  | inl same ↦ ap length same
-  | inr set ↦ ap length set ∙ set_length old.tasks.items q None
+pub goes_turned : {A : Type 0} (told : Option Content) (old new : Shown) (q left : ℕ) (after : Option (Seat A)) → IsKept told old → MatchOption after (HasPosted told old new q) (WaitsAgain told old new q left) → GoesOn old new
+goes_turned told old new q left None kept posted = subst (GoesOn old) (sym posted.posted) (goes_on_posted old q posted.answer kept.trusted posted.unanswered)
+goes_turned told old new q left (Some s) kept waits = goes_on_did old new (λ e. IsCallStep e × NextIn told old waits.advanced.request e) waits.advanced.did
+
+pub same_answers : (old new : Shown) (such : Step → Type 0) → Did old new such → new.answers ≡ old.answers
+same_answers old new such (inl same) = ap (λ (x : Shown). x.answers) same
+same_answers old new such (inr (e, is, goes)) = goes.answers
+
+same_advanced : (told : Option Content) (old new : Shown) (q : ℕ) → HasAdvanced told old new q → new.answers ≡ old.answers
+same_advanced told old new q advanced = same_answers old new (λ e. IsCallStep e × NextIn told old advanced.request e) advanced.did
+
+-- who has no answer behind a turn had none before
+pub opens_turned : {A : Type 0} (told : Option Content) (old new : Shown) (q left : ℕ) (after : Option (Seat A)) → MatchOption after (HasPosted told old new q) (WaitsAgain told old new q left) → (p : ℕ) → IsOpen new p → IsOpen old p
+opens_turned told old new q left None posted p is_open = elim (same_or_apart p q) [
+  | inl same ↦ subst (IsOpen old) (sym same) posted.unanswered
+  | inr apart ↦ sym (other_set old.answers q p (Some posted.answer) apart) ∙ ap (λ (y : Shown). slice_get y.answers p) (sym posted.posted) ∙ is_open
 ]
+opens_turned told old new q left (Some s) waits p is_open = ap (λ (xs : List (Option rust.Answer)). slice_get xs p) (sym (same_advanced told old new q waits.advanced)) ∙ is_open
+
+-- and another one has none still
+open_turned : {A : Type 0} (told : Option Content) (old new : Shown) (q left : ℕ) (after : Option (Seat A)) → MatchOption after (HasPosted told old new q) (WaitsAgain told old new q left) → (p : ℕ) → (p ≡ q → ⊥) → IsOpen old p → IsOpen new p
+open_turned told old new q left None posted p apart is_open = ap (λ (y : Shown). slice_get y.answers p) posted.posted ∙ other_set old.answers q p (Some posted.answer) apart ∙ is_open
+open_turned told old new q left (Some s) waits p apart is_open = ap (λ (xs : List (Option rust.Answer)). slice_get xs p) (same_advanced told old new q waits.advanced) ∙ is_open
+
+pub not_open : (old new : Shown) (q : ℕ) (a : rust.Answer) → IsOpen old q → new ≡ with_post old q a → IsOpen new q → ⊥
+not_open old new q a here is is_open = apart (sym (same_set old.answers q (Some a) (slice_get_within old.answers q None here)) ∙ ap (λ (y : Shown). slice_get y.answers q) (sym is) ∙ is_open)
+  where
+    apart : Some (Some a) ≡ Some None → ⊥
+    apart e = cc
 
 -- ---- a choice, in the history
 
@@ -110,7 +116,7 @@ chosen_posted (Some content) old new ws next choice q kept gathered at posted =
     let g : Setting = machine old content in
     let takes = takes_waiting (Some content) content old ws next choice q posted.request kept gathered at posted.asked in (
       Post q (answer_of posted.answer) ∷ [],
-      ap steps posted.posted ∙ steps_posts old q posted.answer (unposted old q kept.trusted posted.unanswered) posted.unanswered,
+      steps_posted (Some content) old new q kept posted,
       (
         q,
         takes.0,
@@ -143,109 +149,93 @@ chosen_none (Some content) x choice = ([], sym (append-nil (steps x)), tt)
 
 -- ---- the room after a choice
 
-same_posted : (told : Option Content) (old new : Shown) (q : ℕ) → HasPosted told old new q → SameScript old new
-same_posted told old new q posted = record { config = ap (λ (x : Shown). x.config) posted.posted; script = ap (λ (x : Shown). x.script) posted.posted }
+seated_here : {A : Type 0} (told : Option Content) (old new : Shown) (q left : ℕ) (after : Option (Seat A)) (s : Seat A) → MatchOption after (HasPosted told old new q) (WaitsAgain told old new q left) → after ≡ Some s → IsSeatedAt told new s.task s.call q
+seated_here {A = A} told old new q left after s did is = (match_some after s (HasPosted told old new q) (WaitsAgain told old new q left) is did).seated
 
-same_advanced : (told : Option Content) (old new : Shown) (q : ℕ) → HasAdvanced told old new q → SameScript old new
-same_advanced told old new q advanced =
-    let goes = goes_on_did old new (λ e. IsCallStep e × NextIn told old advanced.request e) advanced.did in
-    record { config = goes.config; script = goes.script }
+all_seated : {A : Type 0} (told : Option Content) (old new : Shown) (room done : Room A) (q left : ℕ) (after : Option (Seat A)) → GoesOn old new → AllSeated told old room → MatchOption after (HasPosted told old new q) (WaitsAgain told old new q left) → HasMoved room done q after → AllSeated told new done
+all_seated {A = A} told old new room done q left after goes all did moved = λ p s r at asked. elim (same_or_apart p q) [
+  | inl same ↦ subst (λ (i : ℕ). seat_at done i ≡ Some s → slice_get new.script.requests i ≡ Some r → IsSeated told new s.task s.call i r) (sym same) (here s r) at asked
+  | inr apart ↦ seated_later told old new s.task s.call p r goes (all p s r (sym (moved.others p apart) ∙ at) (ap (λ (y : Scripted). slice_get y.requests p) (sym goes.script) ∙ asked))
+]
+  where
+    here : (s : Seat A) (r : Request) → seat_at done q ≡ Some s → slice_get new.script.requests q ≡ Some r → IsSeated told new s.task s.call q r
+    here s r at asked =
+        let seated = seated_here told old new q left after s did (sym moved.here ∙ at) in
+        subst (λ (m : Request). IsSeated told new s.task s.call q m) (some_is seated.0 r (sym seated.1.asked ∙ asked)) seated.2
 
-pub same_turned : (told : Option Content) (old new : Shown) (q : ℕ) → HasPosted told old new q ⊎ HasAdvanced told old new q → SameScript old new
-same_turned told old new q (inl posted) = same_posted told old new q posted
-same_turned told old new q (inr advanced) = same_advanced told old new q advanced
+all_open : {A : Type 0} (told : Option Content) (old new : Shown) (room done : Room A) (q left : ℕ) (after : Option (Seat A)) → OpenSeats old room → MatchOption after (HasPosted told old new q) (WaitsAgain told old new q left) → HasMoved room done q after → OpenSeats new done
+all_open {A = A} told old new room done q left after seats did moved = λ p s at. elim (same_or_apart p q) [
+  | inl same ↦ subst (IsOpen new) (sym same) (seated_here told old new q left after s did (sym moved.here ∙ ap (seat_at done) (sym same) ∙ at)).1.unanswered
+  | inr apart ↦ open_turned told old new q left after did p apart (seats p s (sym (moved.others p apart) ∙ at))
+]
 
--- a request was answered: it has no place, and waits no more
-pub room_posted : {A : Type 0} (told : Option Content) (old new : Shown) (room mid done : Room A) (q i : ℕ) → IsKept told old → IsRoom told old room → HasTaken room mid q → HasPosted told old new q → slice_get room.waiting.items i ≡ Some q
-    → done.tasks.items ≡ mid.tasks.items → done.calls.items ≡ mid.calls.items → done.waiting.items ≡ remove mid.waiting.items i → done.next ≡ mid.next → IsRoom told new done
-room_posted {A = A} told old new room mid done q i kept is taken posted at tasks calls waiting next =
-    let goes : GoesOn old new = subst (GoesOn old) (sym posted.posted) (goes_on_posted old q posted.answer kept.trusted posted.unanswered) in
-    let count : length new.script.requests ≡ length old.script.requests = ap (λ s. length s.requests) goes.script in
-    let ws : done.waiting.items ≡ remove room.waiting.items i = waiting ∙ ap (λ (xs : List ℕ). remove xs i) taken.waiting in
-    record {
-      tasks_whole = ap length tasks ∙ taken_length room mid q taken ∙ is.tasks_whole ∙ sym count;
-      calls_whole = ap length calls ∙ ap length taken.calls ∙ set_length room.calls.items q None ∙ is.calls_whole ∙ sym count;
-      seated =
-          subst (λ (ts : List (Option Tasked)). AllSeated told new ts done.calls.items) (sym tasks)
-          (subst (λ (cs : List (Option (Turn A))). AllSeated told new mid.tasks.items cs) (sym calls)
-          (all_seated_later told old new mid.tasks.items mid.calls.items goes (seated_but told old room mid q is.seated taken)));
-      gathered =
-          subst (λ (k : ℕ). HasGathered new done.waiting.items k) (sym (next ∙ taken.next))
-          (subst (λ (xs : List ℕ). HasGathered new xs room.next) (sym ws)
-          (subst (λ (y : Shown). HasGathered y (remove room.waiting.items i) room.next) (sym posted.posted)
-          (gathered_post old room.waiting.items room.next i q posted.answer kept.trusted is.gathered at)));
-    }
+-- a request was answered: it waits no more
+pub gathered_posted : {A : Type 0} (told : Option Content) (old new : Shown) (room mid done : Room A) (q i : ℕ) → IsKept told old → HasGathered old room.waiting.items room.next → HasTaken room mid q → HasPosted told old new q → slice_get room.waiting.items i ≡ Some q
+    → done.waiting.items ≡ remove mid.waiting.items i → done.next ≡ mid.next → HasGathered new done.waiting.items done.next
+gathered_posted told old new room mid done q i kept h taken posted at waiting next =
+    subst (λ (k : ℕ). HasGathered new done.waiting.items k) (sym (next ∙ taken.next))
+    (subst (λ (xs : List ℕ). HasGathered new xs room.next) (sym (waiting ∙ ap (λ (xs : List ℕ). remove xs i) taken.waiting))
+    (subst (λ (y : Shown). HasGathered y (remove room.waiting.items i) room.next) (sym posted.posted)
+    (gathered_post old room.waiting.items room.next i q posted.answer kept.trusted h at)))
 
 gathered_did : (old new : Shown) (such : Step → Type 0) (ws : List ℕ) (next : ℕ) → ((e : Step) → such e → IsCallStep e) → Did old new such → HasGathered old ws next → HasGathered new ws next
 gathered_did old new such ws next calls (inl same) gathered = subst (λ (y : Shown). HasGathered y ws next) (sym same) gathered
 gathered_did old new such ws next calls (inr (e, is, goes)) gathered = gathered_call old new ws next e goes (calls e is) gathered
 
--- a request went on: it is in its place again
-pub room_advanced : {A : Type 0} (told : Option Content) (old new : Shown) (room mid done : Room A) (q : ℕ) (t : Tasked) (u : Turn A) → IsRoom told old room → HasTaken room mid q → HasAdvanced told old new q → IsSeatedAt told new t u q
-    → done.tasks.items ≡ slice_set mid.tasks.items q (Some t) → done.calls.items ≡ slice_set mid.calls.items q (Some u) → done.waiting.items ≡ mid.waiting.items → done.next ≡ mid.next → IsRoom told new done
-room_advanced {A = A} told old new room mid done q t u is taken advanced (r, may, seated) tasks calls waiting next =
-    let goes : GoesOn old new = goes_on_did old new (λ e. IsCallStep e × NextIn told old advanced.request e) advanced.did in
-    let count : length new.script.requests ≡ length old.script.requests = ap (λ s. length s.requests) goes.script in
-    record {
-      tasks_whole = ap length tasks ∙ set_length mid.tasks.items q (Some t) ∙ taken_length room mid q taken ∙ is.tasks_whole ∙ sym count;
-      calls_whole = ap length calls ∙ set_length mid.calls.items q (Some u) ∙ ap length taken.calls ∙ set_length room.calls.items q None ∙ is.calls_whole ∙ sym count;
-      seated = λ p s w k task call asked. by_place goes p s w k asked
-          (get_set mid.tasks.items q p (Some t) (Some s) (ap (λ (ts : List (Option Tasked)). slice_get ts p) (sym tasks) ∙ task))
-          (get_set mid.calls.items q p (Some u) (Some w) (ap (λ (cs : List (Option (Turn A))). slice_get cs p) (sym calls) ∙ call));
-      gathered =
-          subst (λ (k : ℕ). HasGathered new done.waiting.items k) (sym (next ∙ taken.next))
-          (subst (λ (xs : List ℕ). HasGathered new xs room.next) (sym (waiting ∙ taken.waiting))
-          (gathered_did old new (λ e. IsCallStep e × NextIn told old advanced.request e) room.waiting.items room.next (λ e is. is.0) advanced.did is.gathered));
-    }
-  where
-    task_is : {B : Type 0} (a b : B) → Some a ≡ Some b → a ≡ b
-    task_is a b e = cc
+-- a request went on: it waits still
+pub gathered_advanced : {A : Type 0} (told : Option Content) (old new : Shown) (room mid done : Room A) (q : ℕ) → HasGathered old room.waiting.items room.next → HasTaken room mid q → HasAdvanced told old new q
+    → done.waiting.items ≡ mid.waiting.items → done.next ≡ mid.next → HasGathered new done.waiting.items done.next
+gathered_advanced told old new room mid done q h taken advanced waiting next =
+    subst (λ (k : ℕ). HasGathered new done.waiting.items k) (sym (next ∙ taken.next))
+    (subst (λ (xs : List ℕ). HasGathered new xs room.next) (sym (waiting ∙ taken.waiting))
+    (gathered_did old new (λ e. IsCallStep e × NextIn told old advanced.request e) room.waiting.items room.next (λ e is. is.0) advanced.did h))
 
-    by_place : GoesOn old new → (p : ℕ) (s : Tasked) (w : Turn A) (k : Request) → slice_get new.script.requests p ≡ Some k
-        → ((p ≡ q) × (Some t ≡ Some s)) ⊎ ((p ≡ q → ⊥) × (slice_get mid.tasks.items p ≡ Some (Some s)))
-        → ((p ≡ q) × (Some u ≡ Some w)) ⊎ ((p ≡ q → ⊥) × (slice_get mid.calls.items p ≡ Some (Some w)))
-        → IsSeated told new s w p k
-    by_place goes p s w k asked (inl (same, one)) (inl (again, two)) =
-        let r_is : r ≡ k = task_is r k (sym may.asked ∙ ap (slice_get new.script.requests) (sym same) ∙ asked) in
-        subst (λ (n : ℕ). IsSeated told new s w n k) (sym same)
-        (subst (λ (m : Request). IsSeated told new s w q m) r_is
-        (subst (λ (m : Tasked). IsSeated told new m w q r) (task_is t s one)
-        (subst (λ (m : Turn A). IsSeated told new t m q r) (task_is u w two) seated)))
-    by_place goes p s w k asked (inl (same, one)) (inr (other, two)) = absurd (other same)
-    by_place goes p s w k asked (inr (other, one)) (inl (same, two)) = absurd (other same)
-    by_place goes p s w k asked (inr (other, one)) (inr (again, two)) =
-        all_seated_later told old new mid.tasks.items mid.calls.items goes (seated_but told old room mid q is.seated taken) p s w k one two asked
+-- what is served goes on to be, whether the request that was taken went on or was answered
+pub serves_turned : {A : Type 0} (told : Option Content) (config : Configured) (script : Scripted) (old new : Shown) (room done : Room A) (q left : ℕ) (after : Option (Seat A)) → IsServing told config script old room → IsKept told new
+    → MatchOption after (HasPosted told old new q) (WaitsAgain told old new q left) → HasMoved room done q after → HasGathered new done.waiting.items done.next → IsServing told config script new done
+serves_turned told config script old new room done q left after serves kept did moved gathered_now =
+    let goes = goes_turned told old new q left after serves.kept did in
+    let count : length new.script.requests ≡ length old.script.requests = ap (λ (s : Scripted). length s.requests) goes.script in
+    record {
+      configured = goes.config ∙ serves.configured;
+      scripted = goes.script ∙ serves.scripted;
+      loaders = serves.loaders;
+      kept = kept;
+      places = record {
+        tasks_whole = moved.tasks_whole ∙ serves.places.tasks_whole ∙ sym count;
+        calls_whole = moved.calls_whole ∙ serves.places.calls_whole ∙ sym count;
+        seated = all_seated told old new room done q left after goes serves.places.seated did moved;
+        gathered = gathered_now;
+      };
+      seats = all_open told old new room done q left after serves.seats did moved;
+    }
 
 -- ---- the first request, taken again and again
 
-pub get_set_same : {A : Type 0} (xs : List A) (q : ℕ) (a : A) → q < length xs → slice_get (slice_set xs q a) q ≡ Some a
-get_set_same [] q a below = absurd (omega arith)
-get_set_same (x ∷ xs) zero a below = refl
-get_set_same (x ∷ xs) (suc q) a below = get_set_same xs q a (omega arith)
-
 -- a request went on: fewer turns are left of it
-pub first_advanced : {A : Type 0} (room mid done : Room A) (q i : ℕ) (t : Tasked) (u : Turn A) → HasTaken room mid q → i ≡ 0 → slice_get room.waiting.items i ≡ Some q → q < length room.tasks.items → q < length room.calls.items → t.left < left_at room q
-    → done.tasks.items ≡ slice_set mid.tasks.items q (Some t) → done.calls.items ≡ slice_set mid.calls.items q (Some u) → done.waiting.items ≡ mid.waiting.items → done.next ≡ mid.next
+pub first_advanced : {A : Type 0} (room mid done : Room A) (q i : ℕ) (s : Seat A) → HasTaken room mid q → HasMoved room done q (Some s) → i ≡ 0 → slice_get room.waiting.items i ≡ Some q → s.task.left < left_at room q
+    → done.waiting.items ≡ mid.waiting.items → done.next ≡ mid.next
     → (room_sum done ≡ room_sum room) × (done.waiting.items ≡ room.waiting.items) × (first_left done done.waiting.items < first_left room room.waiting.items)
-first_advanced {A = A} room mid done q i t u taken zero_is at in_tasks in_calls less tasks calls waiting next =
-    let ws = waiting ∙ taken.waiting in
-    let count : length done.tasks.items ≡ length room.tasks.items = ap length tasks ∙ set_length mid.tasks.items q (Some t) ∙ taken_length room mid q taken in
-    let task : slice_get done.tasks.items q ≡ Some (Some t) = ap (λ (ts : List (Option Tasked)). slice_get ts q) tasks ∙ get_set_same mid.tasks.items q (Some t) (let n = taken_length room mid q taken in omega arith) in
-    let call : slice_get done.calls.items q ≡ Some (Some u) = ap (λ (cs : List (Option (Turn A))). slice_get cs q) calls ∙ get_set_same mid.calls.items q (Some u) (let n = ap length taken.calls ∙ set_length room.calls.items q None in omega arith) in
-    let now : left_at done q ≡ t.left = ap (λ (o : Option (Option Tasked)). left_of o (slice_get done.calls.items q)) task ∙ ap (λ (o : Option (Option (Turn A))). left_of (Some (Some t)) o) call in (
-      sum_same count (ap length ws) (next ∙ taken.next),
+first_advanced {A = A} room mid done q i s taken moved zero_is at less waiting next =
+    let ws = waiting ∙ taken.waiting in (
+      sum_same moved.tasks_whole (ap length ws) (next ∙ taken.next),
       ws,
-      subst (λ (xs : List ℕ). first_left done xs < first_left room room.waiting.items) (sym ws) (by_first room.waiting.items (subst (λ (n : ℕ). slice_get room.waiting.items n ≡ Some q) zero_is at) now less),
+      subst (λ (xs : List ℕ). first_left done xs < first_left room room.waiting.items) (sym ws) (by_first room.waiting.items (subst (λ (n : ℕ). slice_get room.waiting.items n ≡ Some q) zero_is at) (ap left_of moved.here)),
     )
   where
     sum_same : length done.tasks.items ≡ length room.tasks.items → length done.waiting.items ≡ length room.waiting.items → done.next ≡ room.next → room_sum done ≡ room_sum room
     sum_same a b c = omega (arith, a, b, c)
 
-    by_first : (ws : List ℕ) → slice_get ws 0 ≡ Some q → left_at done q ≡ t.left → t.left < left_at room q → first_left done ws < first_left room ws
-    by_first [] at now less = absurd cc
-    by_first (p ∷ ws) at now less =
-        let same : p ≡ q = cc in
-        subst (λ (n : ℕ). left_at done n < left_at room n) (sym same) (subst (λ (n : ℕ). n < left_at room q) (sym now) less)
+    by_first : (ws : List ℕ) → slice_get ws 0 ≡ Some q → left_at done q ≡ s.task.left → first_left done ws < first_left room ws
+    by_first [] at now = absurd cc
+    by_first (p ∷ ws) at now = subst (λ (n : ℕ). left_at done n < left_at room n) (sym (some_is p q at)) (subst (λ (n : ℕ). n < left_at room q) (sym now) less)
+
+-- a request was answered: fewer have none
+pub first_answered : {A : Type 0} (room mid done : Room A) (q i : ℕ) → HasTaken room mid q → HasMoved room done q None → i < length room.waiting.items → done.waiting.items ≡ remove mid.waiting.items i → done.next ≡ mid.next → room_sum done + 1 ≡ room_sum room
+first_answered room mid done q i taken moved within waiting next = by_lengths moved.tasks_whole (ap length (waiting ∙ ap (λ (xs : List ℕ). remove xs i) taken.waiting)) (length-remove room.waiting.items i within) (next ∙ taken.next)
+  where
+    by_lengths : length done.tasks.items ≡ length room.tasks.items → length done.waiting.items ≡ length (remove room.waiting.items i) → length (remove room.waiting.items i) + 1 ≡ length room.waiting.items → done.next ≡ room.next → room_sum done + 1 ≡ room_sum room
+    by_lengths a b c d = omega (arith, a, b, c, d)
 
 -- ---- where a choice falls
 
@@ -268,97 +258,92 @@ waits_at ws n choice q count some is =
 pub first_place : (n choice : ℕ) → choice ≡ 0 → choice % n ≡ 0
 first_place n choice is = ap (λ (k : ℕ). k % n) is ∙ zero-mod n
 
--- ---- cases
-
-pub match_some : {A : Type 0} (o : Option A) (a : A) (P : Type 0) (Q : A → Type 0) → o ≡ Some a → MatchOption o P Q → Q a
-match_some {A = A} o a P Q e m = subst (λ (k : Option A). MatchOption k P Q) e m
-
-pub match_none : {A : Type 0} (o : Option A) (P : Type 0) (Q : A → Type 0) → o ≡ None → MatchOption o P Q → P
-match_none {A = A} o P Q e m = subst (λ (k : Option A). MatchOption k P Q) e m
-
-pub if_some : {A : Type 0} (o : Option A) (a : A) (Q : A → Type 0) → o ≡ Some a → IfSome o Q → Q a
-if_some {A = A} o a Q e m = subst (λ (k : Option A). IfSome k Q) e m
-
 -- ---- the rounds behind a choice
 
-pub plays_in : (told : Option Content) (old mid new : Shown) (choice : ℕ) → SameScript old mid → ChoosesIn told old mid choice → RoundsPassed mid new → PlaysIn told old new choice
-plays_in None old mid new choice same chosen passed = tt
-plays_in (Some content) old mid new choice same (one, whole, chosen) passed =
+pub plays_in : (told : Option Content) (old mid new : Shown) (choice : ℕ) → mid.config ≡ old.config → mid.script ≡ old.script → ChoosesIn told old mid choice → RoundsPassed mid new → PlaysIn told old new choice
+plays_in None old mid new choice config script chosen passed = tt
+plays_in (Some content) old mid new choice config script (one, whole, chosen) passed =
     let there : state_of mid ≡ state_after (state_of old) one = ap (state_after start) whole ∙ state_append start (steps old) one in (
       one,
       passed.passed,
       passed.steps_more ∙ ap (λ (es : List Step). es ++ passed.passed) whole ∙ append_assoc (steps old) one passed.passed,
       chosen,
       subst (λ (s : State). PassesRounds (machine old content) s passed.passed) there
-          (subst (λ (g : Setting). PassesRounds g (state_of mid) passed.passed) (same_machine old mid content same.config same.script) (passed.rounds content)),
+          (subst (λ (g : Setting). PassesRounds g (state_of mid) passed.passed) (same_machine old mid content config script) (passed.rounds content)),
     )
 
-pub same_rounds : (old mid new : Shown) → SameScript old mid → RoundsPassed mid new → SameScript old new
-same_rounds old mid new same passed = record { config = passed.config ∙ same.config; script = passed.script ∙ same.script }
+-- what is served goes on to be, with these gathered
+serves_rounds : {A : Type 0} (told : Option Content) (config : Configured) (script : Scripted) (old new : Shown) (room done : Room A) → IsServing told config script old room → IsKept told new → RoundsPassed old new
+    → done.tasks.items ≡ room.tasks.items → done.calls.items ≡ room.calls.items → HasGathered new done.waiting.items done.next → IsServing told config script new done
+serves_rounds told config script old new room done serves kept passed tasks calls gathered_now =
+    let goes = goes_on_rounds old new passed in
+    let same = same_seats room done tasks calls in
+    let count : length new.script.requests ≡ length old.script.requests = ap (λ (s : Scripted). length s.requests) passed.script in
+    record {
+      configured = passed.config ∙ serves.configured;
+      scripted = passed.script ∙ serves.scripted;
+      loaders = serves.loaders;
+      kept = kept;
+      places = record {
+        tasks_whole = ap length tasks ∙ serves.places.tasks_whole ∙ sym count;
+        calls_whole = ap length calls ∙ serves.places.calls_whole ∙ sym count;
+        seated = λ q s r at asked. seated_later told old new s.task s.call q r goes (serves.places.seated q s r (sym (same q) ∙ at) (ap (λ (y : Scripted). slice_get y.requests q) (sym passed.script) ∙ asked));
+        gathered = gathered_now;
+      };
+      seats = λ q s at. ap (λ (xs : List (Option rust.Answer)). slice_get xs q) passed.answers ∙ serves.seats q s (sym (same q) ∙ at);
+    }
 
 -- while somebody waits no round begins
-pub room_rounds : {A : Type 0} (told : Option Content) (old new : Shown) (room : Room A) → IsKept told old → IsRoom told old room → RoundsPassed old new → (room.waiting.items ≡ [] → ⊥) → IsRoom told new room
-room_rounds told old new room kept is passed some =
-    let count : length new.script.requests ≡ length old.script.requests = ap (λ s. length s.requests) passed.script in
-    record {
-      tasks_whole = is.tasks_whole ∙ sym count;
-      calls_whole = is.calls_whole ∙ sym count;
-      seated = all_seated_later told old new room.tasks.items room.calls.items (goes_on_rounds old new passed) is.seated;
-      gathered = gathered_rounds told old new room.waiting.items room.next kept passed is.gathered some;
-    }
+pub serves_waiting : {A : Type 0} (told : Option Content) (config : Configured) (script : Scripted) (old new : Shown) (room : Room A) → IsServing told config script old room → IsKept told new → RoundsPassed old new → (room.waiting.items ≡ [] → ⊥) → IsServing told config script new room
+serves_waiting told config script old new room serves kept passed some =
+    serves_rounds told config script old new room room serves kept passed refl refl (gathered_rounds told old new room.waiting.items room.next serves.kept passed serves.places.gathered some)
 
 -- where nobody waits those of the next round are gathered
-pub room_gathered : {A : Type 0} (told : Option Content) (old new : Shown) (room done : Room A) (s : Scripted) (n : ℕ) → IsKept told old → IsKept told new → IsRoom told old room → room.waiting.items ≡ [] → RoundsPassed old new → (tables.MayGoOn new → ⊥)
-    → s ≡ new.script → AreOfRound s room.next done.waiting.items n → done.tasks.items ≡ room.tasks.items → done.calls.items ≡ room.calls.items → done.next ≡ n → IsRoom told new done
-room_gathered {A = A} told old new room done s n kept_old kept is none passed over script are tasks calls next =
-    let count : length new.script.requests ≡ length old.script.requests = ap (λ s. length s.requests) passed.script in
-    let may = may_gather told old new room.next kept_old passed (subst (λ (ws : List ℕ). HasGathered old ws room.next) none is.gathered) in
-    record {
-      tasks_whole = ap length tasks ∙ is.tasks_whole ∙ sym count;
-      calls_whole = ap length calls ∙ is.calls_whole ∙ sym count;
-      seated =
-          subst (λ (ts : List (Option Tasked)). AllSeated told new ts done.calls.items) (sym tasks)
-          (subst (λ (cs : List (Option (Turn A))). AllSeated told new room.tasks.items cs) (sym calls)
-          (all_seated_later told old new room.tasks.items room.calls.items (goes_on_rounds old new passed) is.seated));
-      gathered =
-          subst (λ (k : ℕ). HasGathered new done.waiting.items k) (sym next)
-          (gathered told new room.next done.waiting.items n kept may over (subst (λ (y : Scripted). AreOfRound y room.next done.waiting.items n) script are));
-    }
+pub serves_gathered : {A : Type 0} (told : Option Content) (config : Configured) (script : Scripted) (old new : Shown) (room done : Room A) (n : ℕ) → IsServing told config script old room → IsKept told new → room.waiting.items ≡ [] → RoundsPassed old new → (tables.MayGoOn new → ⊥)
+    → AreOfRound script room.next done.waiting.items n → done.tasks.items ≡ room.tasks.items → done.calls.items ≡ room.calls.items → done.next ≡ n → IsServing told config script new done
+serves_gathered told config script old new room done n serves kept none passed over are tasks calls next =
+    let may = may_gather told old new room.next serves.kept passed (subst (λ (ws : List ℕ). HasGathered old ws room.next) none serves.places.gathered) in
+    serves_rounds told config script old new room done serves kept passed tasks calls
+    (subst (λ (k : ℕ). HasGathered new done.waiting.items k) (sym next)
+    (gathered told new room.next done.waiting.items n kept may over (subst (λ (y : Scripted). AreOfRound y room.next done.waiting.items n) (sym (passed.script ∙ serves.scripted)) are)))
 
 -- before the first choice
-pub room_first : {A : Type 0} (told : Option Content) (config : Configured) (script : Scripted) (empty new : Shown) (done : Room A) (s : Scripted) (n : ℕ) → empty ≡ empty_of config script → IsKept told new → RoundsPassed empty new → (tables.MayGoOn new → ⊥)
-    → s ≡ new.script → AreOfRound s 0 done.waiting.items n → done.tasks.items ≡ replicate (length s.requests) None → done.calls.items ≡ replicate (length s.requests) None → done.next ≡ n → IsRoom told new done
-room_first {A = A} told config script empty new done s n is kept passed over same are tasks calls next =
+pub serves_first : {A : Type 0} (told : Option Content) (config : Configured) (script : Scripted) (empty new : Shown) (done : Room A) (n m : ℕ) → empty ≡ empty_of config script → HasLoaders (length config.loaders) script.requests → IsKept told new → RoundsPassed empty new → (tables.MayGoOn new → ⊥)
+    → AreOfRound script 0 done.waiting.items n → m ≡ length script.requests → done.tasks.items ≡ replicate m None → done.calls.items ≡ replicate m None → done.next ≡ n → IsServing told config script new done
+serves_first {A = A} told config script empty new done n m is loaders kept passed over are whole tasks calls next =
     let may = may_gather_first config script empty new is passed in
+    let scripted = passed.script ∙ ap (λ (x : Shown). x.script) is in
+    let count : m ≡ length new.script.requests = whole ∙ ap (λ (y : Scripted). length y.requests) (sym scripted) in
+    let none = none_seated done m calls in
     record {
-      tasks_whole = ap length tasks ∙ length-replicate (length s.requests) None ∙ ap (λ (y : Scripted). length y.requests) same;
-      calls_whole = ap length calls ∙ length-replicate (length s.requests) None ∙ ap (λ (y : Scripted). length y.requests) same;
-      seated = λ q t u r task call asked. absurd (nowhere (length s.requests) q u (ap (λ (cs : List (Option (Turn A))). slice_get cs q) (sym calls) ∙ call));
-      gathered =
-          subst (λ (k : ℕ). HasGathered new done.waiting.items k) (sym next)
-          (gathered told new 0 done.waiting.items n kept may over (subst (λ (y : Scripted). AreOfRound y 0 done.waiting.items n) same are));
+      configured = passed.config ∙ ap (λ (x : Shown). x.config) is;
+      scripted = scripted;
+      loaders = loaders;
+      kept = kept;
+      places = record {
+        tasks_whole = ap length tasks ∙ length-replicate m None ∙ count;
+        calls_whole = ap length calls ∙ length-replicate m None ∙ count;
+        seated = λ q s r at asked. absurd (some_none (seat_at done q) s at (none q));
+        gathered =
+            subst (λ (k : ℕ). HasGathered new done.waiting.items k) (sym next)
+            (gathered told new 0 done.waiting.items n kept may over (subst (λ (y : Scripted). AreOfRound y 0 done.waiting.items n) (sym scripted) are));
+      };
+      seats = λ q s at. absurd (some_none (seat_at done q) s at (none q));
     }
-  where
-    nowhere : (n q : ℕ) (u : Turn A) → slice_get (replicate n None) q ≡ Some (Some u) → ⊥
-    nowhere zero q u at = cc
-    nowhere (suc n) zero u at = cc
-    nowhere (suc n) (suc q) u at = nowhere n q u at
 
 -- ---- what falls
 
 -- a request that waits has no more turns left than one that was not begun
 first_bound : {A : Type 0} (told : Option Content) (x : Shown) (room : Room A) (ws : List ℕ) → IsRoom told x room → first_left room ws ≤ all_left + 1
 first_bound told x room [] is = omega arith
-first_bound {A = A} told x room (q ∷ ws) is = by_place (slice_get room.tasks.items q) (slice_get room.calls.items q) refl refl
+first_bound {A = A} told x room (q ∷ ws) is = by_seat (seat_at room q) refl
   where
-    by_place : (o : Option (Option Tasked)) (k : Option (Option (Turn A))) → slice_get room.tasks.items q ≡ o → slice_get room.calls.items q ≡ k → left_of o k ≤ all_left + 1
-    by_place None k task call = omega arith
-    by_place (Some None) k task call = omega arith
-    by_place (Some (Some t)) None task call = omega arith
-    by_place (Some (Some t)) (Some None) task call = omega arith
-    by_place (Some (Some t)) (Some (Some u)) task call =
-        let r = some_request x.script.requests q (subst (λ (n : ℕ). q < n) is.tasks_whole (slice_get_within room.tasks.items q (Some t) task)) in
-        let few = (is.seated q t u r.0 task call r.1).few in
+    by_seat : (o : Option (Seat A)) → seat_at room q ≡ o → left_of o ≤ all_left + 1
+    by_seat None at = omega arith
+    by_seat (Some s) at =
+        let task = seat_task (slice_get room.tasks.items q) (slice_get room.calls.items q) s at in
+        let r = some_request x.script.requests q (subst (λ (n : ℕ). q < n) is.tasks_whole (slice_get_within room.tasks.items q (Some s.task) task)) in
+        let few = (is.seated q s r.0 at r.1).few in
         omega arith
 
 add-one-mul : (s k : ℕ) → (s + 1) * k ≡ s * k + k

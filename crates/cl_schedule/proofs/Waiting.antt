@@ -23,7 +23,8 @@ use Rattle.cl_registry.specs.Tables as tables
 use Rattle.cl_registry.proofs.Histories.{open_answer}
 use Rattle.cl_registry.proofs.Running.{answered}
 use Rattle.cl_registry.proofs.Schedules.{some_at}
-use Rattle.cl_schedule.specs.Choices.{Takes, is_waiting, waiting, waiting_from}
+use Rattle.cl_schedule.specs.Choices.{Takes, is_waiting, taken_by, waiting, waiting_from}
+use Rattle.cl_schedule.specs.Rooms.{MayBeTaken}
 use Rattle.cl_schedule.specs.Rounds.{RoundsPassed}
 use Rattle.cl_schedule.specs.Seats.{HasGathered, MayGather}
 use Rattle.cl_schedule.specs.Serving.{GoesBy, IsCallStep, machine}
@@ -373,12 +374,19 @@ none_left told x next k h over (inl one) =
 -- ---- one of those that wait
 
 -- who waits may be served: it is a request of the script, open, and of no later round
-pub waiting_is : (told : Option Content) (x : Shown) (ws : List ℕ) (next i q : ℕ) → IsKept told x → HasGathered x ws next → slice_get ws i ≡ Some q → IsOpen x q × (IsLater x q → ⊥) × (q < length x.script.requests)
-waiting_is told x ws next i q k h at = let w = waits_there x ws i q k.trusted h.waits at in (w.is_open, w.begun, w.below)
+pub waiting_is : (told : Option Content) (x : Shown) (ws : List ℕ) (next i q : ℕ) → IsKept told x → HasGathered x ws next → slice_get ws i ≡ Some q → MayBeTaken x q
+waiting_is told x ws next i q k h at = let w = waits_there x ws i q k.trusted h.waits at in record { asked = w.below; begun = w.begun; unanswered = w.is_open }
+
+-- whom a choice takes of those that were gathered
+pub taken_is : (x : Shown) (ws : List ℕ) (next choice q : ℕ) → HasGathered x ws next → slice_get ws (choice % length ws) ≡ Some q → taken_by (schedule_of x.script) (state_of x) choice ≡ Some q
+taken_is x ws next choice q h at = subst (λ (xs : List ℕ). slice_get xs (choice % length xs) ≡ Some q) h.waits at
+
+pub taken_none : (x : Shown) (ws : List ℕ) (next choice : ℕ) → HasGathered x ws next → ws ≡ [] → taken_by (schedule_of x.script) (state_of x) choice ≡ None
+taken_none x ws next choice h none = ap (λ (xs : List ℕ). slice_get xs (choice % length xs)) (sym h.waits ∙ none)
 
 -- the request that a choice takes of those that were gathered is the one that it takes in the machine's words
 pub takes_waiting : (told : Option Content) (content : Content) (x : Shown) (ws : List ℕ) (next choice q : ℕ) (r : Request) → IsKept told x → HasGathered x ws next → slice_get ws (choice % length ws) ≡ Some q → slice_get x.script.requests q ≡ Some r
     → (e : Scheduled) × (e.request ≡ request_of r) × Takes (machine x content) (state_of x) choice q e
 takes_waiting told content x ws next choice q r k h at asked =
     let e = scheduled_at x.script.requests x.script.rounds_of q r k.trusted.script.each asked in
-    (record { request = request_of r; round = e.0 }, refl, record { waits = subst (λ (xs : List ℕ). slice_get xs (choice % length xs) ≡ Some q) h.waits at; asked = e.1 })
+    (record { request = request_of r; round = e.0 }, refl, record { waits = taken_is x ws next choice q h at; asked = e.1 })

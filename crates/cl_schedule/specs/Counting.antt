@@ -1,5 +1,5 @@
 -- How many answers are faults of the source, beside the count that the source keeps of them.
-use Rattle.std.specs.Prelude.{◌≡◌, ◌⊎◌, ◌+◌, ◌≤◌, ◌^◌, ℕ, List, [], ◌∷◌, map, Option, Some, None, slice_get}
+use Rattle.std.specs.Prelude.{◌≡◌, ◌⊎◌, ◌+◌, ◌≤◌, ◌^◌, ℕ, List, [], ◌∷◌, map, Option, Some, None}
 use Rattle.cl_model.specs.declared.answer.Answer.{Answer}
 use Rattle.cl_source.specs.declared.source.SourceFault.TheVariants as sources
 use Rattle.cl_registry.specs.declared.report.Report.{Report}
@@ -11,6 +11,7 @@ use Rattle.cl_tasks.specs.declared.turn.Turn.{Turn}
 use Rattle.cl_tasks.specs.declared.turn.Turn.TheVariants as turn
 use Rattle.cl_schedule.specs.declared.choices.Room.{Room}
 use Rattle.cl_schedule.specs.declared.seats.Seat.{Seat}
+use Rattle.cl_schedule.specs.Places.{seat_at, seat_of}
 use Rattle.cl_model.specs.declared.answer.Answer.TheVariants.{Said, Shared, Memory, SourceFault}
 
 -- one where the answer is a fault of the source
@@ -71,20 +72,15 @@ abbrev pub owed_of : {A : Type 0} → Option (Seat A) → ℕ
 owed_of None = 0
 owed_of (Some s) = owed s.call
 
--- one where the request of a place was begun and is to post such an answer
-abbrev pub owed_pair : {A : Type 0} → Option (Option Tasked) → Option (Option (Turn A)) → ℕ
-owed_pair (Some (Some t)) (Some (Some u)) = owed u
-owed_pair task call = 0
-
 -- how many requests were begun and are to post such an answer
 abbrev pub owed_all : {A : Type 0} → List (Option Tasked) → List (Option (Turn A)) → ℕ
 owed_all [] calls = 0
 owed_all (t ∷ ts) [] = 0
-owed_all (t ∷ ts) (u ∷ us) = owed_pair (Some t) (Some u) + owed_all ts us
+owed_all (t ∷ ts) (u ∷ us) = owed_of (seat_of (Some t) (Some u)) + owed_all ts us
 
 -- one where the request of this number is one of them
 abbrev pub owed_at : {A : Type 0} → Room A → ℕ → ℕ
-owed_at room q = owed_pair (slice_get room.tasks.items q) (slice_get room.calls.items q)
+owed_at room q = owed_of (seat_at room q)
 
 -- how many answers are faults of the source, and how many more will be by the posts that are asked for
 abbrev pub debt : {A : Type 0} → Shown → Room A → ℕ

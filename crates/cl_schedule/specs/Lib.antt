@@ -2,6 +2,8 @@ pub mod Serving
 pub mod Rounds
 pub mod Replies
 pub mod Known
+pub mod Places
+pub mod Takings
 pub mod Nearing
 pub mod Paying
 pub mod Counting

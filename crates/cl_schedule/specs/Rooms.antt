@@ -1,41 +1,44 @@
 -- The room that requests wait in, and what a choice does to it.
-use Rattle.std.specs.Prelude.{◌≡◌, ◌⊎◌, ◌<◌, ◌+◌, ◌-◌, ◌*◌, ℕ, List, [], ◌∷◌, ◌++◌, length, replicate, Option, Some, None, slice_get, slice_set}
+use Rattle.std.specs.Prelude.{◌≡◌, ◌⊎◌, ◌<◌, ◌+◌, ◌-◌, ◌*◌, ℕ, List, [], ◌∷◌, ◌++◌, length, replicate, Option, Some, None, MatchOption, slice_get, slice_set}
 use Rattle.cl_config.specs.Loaders.{schedule_of}
+use Rattle.cl_config.specs.Scripts.{HasLoaders}
+use Rattle.cl_config.specs.Views.{Configured, Scripted}
 use Rattle.cl_model.specs.declared.request.Request.{Request}
 use Rattle.cl_model.specs.Content.{Content}
 use Rattle.cl_model.specs.Machine.{Step, state_after}
 use Rattle.cl_model.specs.Service.{PassesRounds}
 use Rattle.cl_model.specs.States.{start}
-use Rattle.cl_registry.specs.Tables.{Shown, IsOpen, state_of, steps}
+use Rattle.cl_registry.specs.Tables.{Shown, IsKept, IsLater, IsOpen, MayGoOn, state_of, steps}
 use Rattle.cl_tasks.specs.Measures.{all_left}
-use Rattle.cl_tasks.specs.Tasks.{Tasked}
-use Rattle.cl_tasks.specs.declared.turn.Turn.{Turn}
 use Rattle.cl_schedule.specs.declared.choices.Room.{Room}
+use Rattle.cl_schedule.specs.declared.seats.Seat.{Seat}
 use Rattle.cl_schedule.specs.declared.serve.ServeFault.{ServeFault}
 use Rattle.cl_schedule.specs.declared.serve.ServeFault.TheVariants as faults
 use Rattle.cl_schedule.specs.Choices.{AreInTime, ArePrompt, Chooses, Piece, Plays, steps_in}
-use Rattle.cl_schedule.specs.Seats.{HasGathered, IsSeated}
+use Rattle.cl_schedule.specs.Counting.{CountGrows, debt}
+use Rattle.cl_schedule.specs.Nearing.{by_verdict}
+use Rattle.cl_schedule.specs.Paying.{by_plan}
+use Rattle.cl_schedule.specs.Places.{seat_at}
+use Rattle.cl_schedule.specs.Seats.{HasAdvanced, HasGathered, HasPosted, IsSeated, IsSeatedAt}
 use Rattle.cl_schedule.specs.Serving.{machine}
+use Rattle.cl_schedule.specs.Takings.{ComesNearer, Keeps}
 
 -- ---- the room
 
--- each request that was begun and has no answer waits with its task and its call
-abbrev pub AllSeated : {A : Type 0} → Option Content → Shown → List (Option Tasked) → List (Option (Turn A)) → Type 0
-AllSeated {A} told x tasks calls =
-    (q : ℕ) (t : Tasked) (u : Turn A) (r : Request) → slice_get tasks q ≡ Some (Some t) → slice_get calls q ≡ Some (Some u)
-    → slice_get x.script.requests q ≡ Some r → IsSeated told x t u q r
+-- each request that has a seat waits with its task and its call
+abbrev pub AllSeated : {A : Type 0} → Option Content → Shown → Room A → Type 0
+AllSeated {A} told x room = (q : ℕ) (s : Seat A) (r : Request) → seat_at room q ≡ Some s → slice_get x.script.requests q ≡ Some r → IsSeated told x s.task s.call q r
 
 -- a place for each request, those that were begun in theirs, and who waits
 pub record IsRoom {A : Type 0} (told : Option Content) (x : Shown) (room : Room A) : Type 0 where
   pub tasks_whole : length room.tasks.items ≡ length x.script.requests
   pub calls_whole : length room.calls.items ≡ length x.script.requests
-  pub seated : AllSeated told x room.tasks.items room.calls.items
+  pub seated : AllSeated told x room
   pub gathered : HasGathered x room.waiting.items room.next
 
--- each request that was begun and waits has no answer
+-- each request that has a seat has no answer
 abbrev pub OpenSeats : {A : Type 0} → Shown → Room A → Type 0
-OpenSeats {A} x room =
-    (q : ℕ) (t : Tasked) (u : Turn A) → slice_get room.tasks.items q ≡ Some (Some t) → slice_get room.calls.items q ≡ Some (Some u) → IsOpen x q
+OpenSeats {A} x room = (q : ℕ) (s : Seat A) → seat_at room q ≡ Some s → IsOpen x q
 
 -- a request was taken from its place, and all else stayed
 pub record HasTaken {A : Type 0} (old new : Room A) (q : ℕ) : Type 0 where
@@ -44,10 +47,15 @@ pub record HasTaken {A : Type 0} (old new : Room A) (q : ℕ) : Type 0 where
   pub waiting : new.waiting.items ≡ old.waiting.items
   pub next : new.next ≡ old.next
 
--- the configuration and the script stayed
-pub record SameScript (old new : Shown) : Type 0 where
-  pub config : new.config ≡ old.config
-  pub script : new.script ≡ old.script
+-- nobody has a seat
+abbrev pub NoneSeated : {A : Type 0} → Room A → Type 0
+NoneSeated room = (q : ℕ) → seat_at room q ≡ None
+
+-- the request of this number is one of the script, its round has begun, and it has no answer
+pub record MayBeTaken (x : Shown) (q : ℕ) : Type 0 where
+  pub asked : q < length x.script.requests
+  pub begun : IsLater x q → ⊥
+  pub unanswered : IsOpen x q
 
 -- memory ran out, or a stray was met, which no source that tells a content brings
 abbrev pub IsStrayUntold : Option Content → ServeFault → Type 0
@@ -86,14 +94,14 @@ ChoosesIn None old new choice = Unit {0}
 ChoosesIn (Some content) old new choice =
     (one : List Step) × (steps new ≡ steps old ++ one) × Chooses (machine old content) (state_of old) choice one
 
--- turns that are left of a request at most, begun or not
-abbrev pub left_of : {A : Type 0} → Option (Option Tasked) → Option (Option (Turn A)) → ℕ
-left_of (Some (Some t)) (Some (Some u)) = t.left
-left_of other call = all_left + 1
+-- turns that are left at most of a request that has this seat, or was not begun
+abbrev pub left_of : {A : Type 0} → Option (Seat A) → ℕ
+left_of None = all_left + 1
+left_of (Some s) = s.task.left
 
 -- those of the request of this number
 abbrev pub left_at : {A : Type 0} → Room A → ℕ → ℕ
-left_at room q = left_of (slice_get room.tasks.items q) (slice_get room.calls.items q)
+left_at room q = left_of (seat_at room q)
 
 -- those of the first request that waits
 abbrev pub first_left : {A : Type 0} → Room A → List ℕ → ℕ
@@ -118,3 +126,72 @@ TakesFirst choice old new =
 -- the number fell, if the choice was the first request, and one waited
 abbrev pub FirstFalls : {A : Type 0} → ℕ → Room A → Room A → Type 0
 FirstFalls choice old new = choice ≡ 0 → (old.waiting.items ≡ [] → ⊥) → room_left new < room_left old
+
+-- ---- what is served
+
+-- a script is served by a registry and a room
+pub record IsServing {A : Type 0} (told : Option Content) (config : Configured) (script : Scripted) (x : Shown) (room : Room A) : Type 0 where
+  -- the registry is of this configuration
+  pub configured : x.config ≡ config
+  -- and of this script
+  pub scripted : x.script ≡ script
+  -- each loader that a request names is one of the configuration
+  pub loaders : HasLoaders (length config.loaders) script.requests
+  -- the tables and the history are those of a registry
+  pub kept : IsKept told x
+  -- each request has its place, and who waits is there
+  pub places : IsRoom told x room
+  -- who has a seat has no answer
+  pub seats : OpenSeats x room
+
+-- it is served on
+pub record ServesOn {A : Type 0} (told : Option Content) (config : Configured) (script : Scripted) (old new : Shown) (was now : Room A) (before after : ℕ) : Type 0 where
+  -- as it was
+  pub serves : IsServing told config script new now
+  -- as many answers more are faults of the source, or will be by the posts that are asked for, as the source's count rose by
+  pub faults : CountGrows (debt old was) (debt new now) before after
+
+-- no choice was made yet
+pub record IsOpened {A : Type 0} (told : Option Content) (x : Shown) (room : Room A) : Type 0 where
+  -- the history is the rounds that begin at first
+  pub begun : PlayedTo told x []
+  -- and no other round may
+  pub over : MayGoOn x → ⊥
+  -- nobody was begun
+  pub fresh : NoneSeated room
+  -- no fault of the source is owed
+  pub none_owed : debt x room ≡ 0
+
+-- each request has its answer
+pub record IsOver {A : Type 0} (x : Shown) (room : Room A) : Type 0 where
+  -- nobody waits
+  pub none : room.waiting.items ≡ []
+  -- and no round may begin
+  pub over : MayGoOn x → ⊥
+
+-- ---- what a choice does with the request that it takes
+
+-- a request's call was made, and it waits with the next one
+pub record WaitsAgain {A : Type 0} (told : Option Content) (old new : Shown) (q left : ℕ) (s : Seat A) : Type 0 where
+  -- nothing changed, or the next step of its service was made
+  pub advanced : HasAdvanced told old new q
+  -- its next call may be made, and is what comes next
+  pub seated : IsSeatedAt told new s.task s.call q
+  -- fewer turns are left of it
+  pub less : s.task.left < left
+
+-- a request that had this seat, or none, was taken, and has this one now, or its answer
+pub record HasTurned {A : Type 0} (told : Option Content) (old new : Shown) (q : ℕ) (before after : Option (Seat A)) : Type 0 where
+  -- its answer was posted, or its call was made
+  pub did : MatchOption after (HasPosted told old new q) (WaitsAgain told old new q (left_of before))
+  -- where the tables have its verdict it is nearer to that, or it is its answer, or out of memory
+  pub known : ComesNearer by_verdict old new q before after
+  -- by its plan it has one call fewer left, or its answer
+  pub paid : ComesNearer (by_plan told old.config) old new q before after
+
+-- behind any pieces a choice keeps how often each request is taken at most
+pub record KeepsTakings {A : Type 0} (told : Option Content) (old new : Shown) (was now : Room A) (choice : ℕ) : Type 0 where
+  -- where the tables have its verdict
+  pub known : Keeps by_verdict old new was now choice
+  -- by its plan
+  pub paid : Keeps (by_plan told old.config) old new was now choice

@@ -1,15 +1,12 @@
 //! Requests of a round in turns, as a schedule chooses among them (JVMS SE 8, 5.3 to 5.4.3).
 
-ghost use Rattle.std.specs.Prelude.{◌≡◌, ◌<◌, ◌+◌, [], IfOk, IfErr, IfSome, MatchOption, Some, None, length, replicate, slice_get, slice_set};
+ghost use Rattle.std.specs.Prelude.{◌≡◌, ◌+◌, [], IfOk, IfErr, MatchOption, Some, None, length, replicate, slice_get, slice_set};
 ghost use Rattle.cl_config.specs.Scripts.{HasLoaders};
-ghost use Rattle.cl_registry.specs.Tables.{IsKept, IsLater, IsOpen, MayGoOn, state_of};
-ghost use Rattle.cl_tasks.specs.Measures.{all_left};
+ghost use Rattle.cl_registry.specs.Tables.{IsKept, MayGoOn};
 ghost use Rattle.cl_schedule.specs.Choices.{IsSimulated};
-ghost use Rattle.cl_schedule.specs.Counting.{CountGrows, CountsFaults, debt, faults, owed_at, owed_of};
-ghost use Rattle.cl_schedule.specs.Rooms.{AllSeated, ChoosesIn, FirstFalls, HasTaken, IsRoom, IsStrayUntold, OpenSeats, PlayedPast, PlayedTo, PlaysIn, SameScript, TakesFirst, left_at};
-ghost use Rattle.cl_schedule.specs.Nearing.{ComesNearer, IsNearAt, KeepsNear, NoneBegun, PostsKnown};
-ghost use Rattle.cl_schedule.specs.Paying.{HasFewAt, KeepsPaid, LeavesFewer};
-ghost use Rattle.cl_schedule.specs.Seats.{HasAdvanced, HasPosted, IsSeatedAt};
+ghost use Rattle.cl_schedule.specs.Counting.{CountGrows, CountsFaults, faults, owed_at, owed_of};
+ghost use Rattle.cl_schedule.specs.Places.{seat_at};
+ghost use Rattle.cl_schedule.specs.Rooms.{ChoosesIn, FirstFalls, HasTaken, HasTurned, IsOpened, IsOver, IsServing, IsStrayUntold, MayBeTaken, KeepsTakings, PlayedPast, PlaysIn, ServesOn, TakesFirst};
 
 use crate::gather::{count, gather, number_at, take_out};
 use crate::seats::{Seat, advance, begin};
@@ -54,10 +51,7 @@ impl<T: Told> Room<T> {
 
     /// Takes a request that was begun from its place.
     fn take(&mut self, q: usize) -> Option<Seat<T>>
-        ensures seat { IfSome result (λ s. (slice_get self.old.tasks.items q ≡ Some (Some s.task))
-            × (slice_get self.old.calls.items q ≡ Some (Some s.call))) }
-        ensures none { result ≡ None → left_at self.old q ≡ all_left + 1 }
-        ensures none_owed { result ≡ None → owed_at self.old q ≡ 0 }
+        ensures seat { result ≡ seat_at self.old q }
         ensures taken { HasTaken self.old self.new q }
     {
         let call = take_place(&mut self.calls, q)?;
@@ -127,31 +121,16 @@ fn turn_of<T: Told, S: Source<T>>(
     room: &mut Room<T>,
     q: u32,
 ) -> Result<Option<Seat<T>>, ServeFault>
-    requires config { registry.old.config ≡ config.now.value }
-    requires script { registry.old.script ≡ script.now }
-    requires loaders { HasLoaders (length config.now.value.loaders) script.now.requests }
-    requires kept { IsKept T.told registry.old }
-    requires seated { AllSeated T.told registry.old room.old.tasks.items room.old.calls.items }
-    requires asked { q < length script.now.requests }
-    requires begun { IsLater registry.old q → ⊥ }
-    requires open { IsOpen registry.old q }
-    ensures did { IfOk result (λ o. MatchOption o (HasPosted T.told registry.old registry.new q)
-        (λ s. HasAdvanced T.told registry.old registry.new q)) }
-    ensures seated { IfOk result (λ o. IfSome o (λ s.
-        IsSeatedAt T.told registry.new s.task s.call q)) }
-    ensures less { IfOk result (λ o. IfSome o (λ s. s.task.left < left_at room.old q)) }
+    requires serves { IsServing T.told config.now.value script.now registry.old room.old }
+    requires waits { MayBeTaken registry.old q }
+    ensures turned { IfOk result
+        (HasTurned T.told registry.old registry.new q (seat_at room.old q)) }
     ensures taken { HasTaken room.old room.new q }
     ensures faults { IfOk result (λ o.
         CountGrows (faults registry.old.answers + owed_at room.old q)
         (faults registry.new.answers + owed_of o) (S.refused source.old) (S.refused source.new)) }
     ensures refused { IfErr result (IsStrayUntold T.told) }
     ensures kept { IsKept T.told registry.new }
-    ensures known { IfOk result (λ o. MatchOption o
-        (PostsKnown (IsNearAt (state_of registry.old) room.old q) registry.old registry.new q)
-        (λ s. ComesNearer (IsNearAt (state_of registry.old) room.old q) registry.old registry.new q
-        s.task s.call)) }
-    ensures paid { IfOk result (λ o. IfSome o (λ s. LeavesFewer T.told
-        (HasFewAt (state_of registry.old) room.old q) registry.old registry.new q s.task)) }
 {
     let seat = match room.take(q as usize) {
         Some(seat) => seat,
@@ -180,25 +159,14 @@ fn play<T: Told, S: Source<T>>(
     room: &mut Room<T>,
     choice: usize,
 ) -> Result<(), ServeFault>
-    requires config { registry.old.config ≡ config.now.value }
-    requires script { registry.old.script ≡ script.now }
-    requires loaders { HasLoaders (length config.now.value.loaders) script.now.requests }
-    requires kept { IsKept T.told registry.old }
-    requires room { IsRoom T.told registry.old room.old }
-    requires seats { OpenSeats registry.old room.old }
+    requires serves { IsServing T.told config.now.value script.now registry.old room.old }
     ensures chosen { IfOk result (λ _. ChoosesIn T.told registry.old registry.new choice) }
-    ensures room { IfOk result (λ _. IsRoom T.told registry.new room.new) }
-    ensures seats { IfOk result (λ _. OpenSeats registry.new room.new) }
-    ensures same { IfOk result (λ _. SameScript registry.old registry.new) }
-    ensures faults { IfOk result (λ _. CountGrows (debt registry.old room.old)
-        (debt registry.new room.new) (S.refused source.old) (S.refused source.new)) }
+    ensures serves { IfOk result (λ _. ServesOn T.told config.now.value script.now
+        registry.old registry.new room.old room.new (S.refused source.old) (S.refused source.new)) }
+    ensures keeps { IfOk result (λ _. KeepsTakings T.told registry.old registry.new
+        room.old room.new choice) }
     ensures less { IfOk result (λ _. TakesFirst choice room.old room.new) }
-    ensures refused { IfErr result (IsStrayUntold T.told) }
-    ensures kept { IsKept T.told registry.new }
-    ensures known { IfOk result (λ _. KeepsNear registry.old registry.new
-        room.old room.new choice) }
-    ensures paid { IfOk result (λ _. KeepsPaid T.told registry.old registry.new
-        room.old room.new choice) }
+    ensures refused { IfErr result (λ e. IsStrayUntold T.told e × IsKept T.told registry.new) }
 {
     let len = count(&room.waiting);
     if len == 0 {
@@ -225,26 +193,15 @@ fn choose<T: Told, S: Source<T>>(
     room: &mut Room<T>,
     choice: usize,
 ) -> Result<(), ServeFault>
-    requires config { registry.old.config ≡ config.now.value }
-    requires script { registry.old.script ≡ script.now }
-    requires loaders { HasLoaders (length config.now.value.loaders) script.now.requests }
-    requires kept { IsKept T.told registry.old }
-    requires room { IsRoom T.told registry.old room.old }
-    requires seats { OpenSeats registry.old room.old }
+    requires serves { IsServing T.told config.now.value script.now registry.old room.old }
     ensures played { IfOk result (λ _. PlaysIn T.told registry.old registry.new choice) }
-    ensures room { IfOk result (λ _. IsRoom T.told registry.new room.new) }
-    ensures seats { IfOk result (λ _. OpenSeats registry.new room.new) }
     ensures over { IfOk result (λ _. MayGoOn registry.new → ⊥) }
-    ensures same { IfOk result (λ _. SameScript registry.old registry.new) }
-    ensures faults { IfOk result (λ _. CountGrows (debt registry.old room.old)
-        (debt registry.new room.new) (S.refused source.old) (S.refused source.new)) }
+    ensures serves { IfOk result (λ _. ServesOn T.told config.now.value script.now
+        registry.old registry.new room.old room.new (S.refused source.old) (S.refused source.new)) }
+    ensures keeps { IfOk result (λ _. KeepsTakings T.told registry.old registry.new
+        room.old room.new choice) }
     ensures less { IfOk result (λ _. FirstFalls choice room.old room.new) }
-    ensures refused { IfErr result (IsStrayUntold T.told) }
-    ensures kept { IsKept T.told registry.new }
-    ensures known { IfOk result (λ _. KeepsNear registry.old registry.new
-        room.old room.new choice) }
-    ensures paid { IfOk result (λ _. KeepsPaid T.told registry.old registry.new
-        room.old room.new choice) }
+    ensures refused { IfErr result (λ e. IsStrayUntold T.told e × IsKept T.told registry.new) }
 {
     play(alloc, config, script, registry, source, room, choice)?;
     pass_rounds(registry);
@@ -264,25 +221,13 @@ fn play_all<T: Told, S: Source<T>>(
     room: &mut Room<T>,
     schedule: &[u32],
 ) -> Result<(), ServeFault>
-    requires config { registry.old.config ≡ config.now.value }
-    requires script { registry.old.script ≡ script.now }
-    requires loaders { HasLoaders (length config.now.value.loaders) script.now.requests }
-    requires kept { IsKept T.told registry.old }
-    requires room { IsRoom T.told registry.old room.old }
-    requires seats { OpenSeats registry.old room.old }
-    requires begun { PlayedTo T.told registry.old [] }
-    requires over { MayGoOn registry.old → ⊥ }
-    requires fresh { NoneBegun room.old }
+    requires serves { IsServing T.told config.now.value script.now registry.old room.old }
+    requires opened { IsOpened T.told registry.old room.old }
     ensures played { IfOk result (λ _. PlayedPast T.told registry.new schedule.now) }
-    ensures room { IfOk result (λ _. IsRoom T.told registry.new room.new) }
-    ensures seats { IfOk result (λ _. OpenSeats registry.new room.new) }
-    ensures none { IfOk result (λ _. room.new.waiting.items ≡ []) }
-    ensures over { IfOk result (λ _. MayGoOn registry.new → ⊥) }
-    ensures same { IfOk result (λ _. SameScript registry.old registry.new) }
-    ensures faults { IfOk result (λ _. CountGrows (debt registry.old room.old)
-        (debt registry.new room.new) (S.refused source.old) (S.refused source.new)) }
-    ensures refused { IfErr result (IsStrayUntold T.told) }
-    ensures kept { IsKept T.told registry.new }
+    ensures over { IfOk result (λ _. IsOver registry.new room.new) }
+    ensures serves { IfOk result (λ _. ServesOn T.told config.now.value script.now
+        registry.old registry.new room.old room.new (S.refused source.old) (S.refused source.new)) }
+    ensures refused { IfErr result (λ e. IsStrayUntold T.told e × IsKept T.told registry.new) }
 {
     for choice in schedule {
         choose(
@@ -307,15 +252,10 @@ fn open<T: Told>(
     config: &Arc<Config>,
     script: &Arc<Script>,
 ) -> Result<(Registry<T>, Room<T>), ServeFault>
-    ensures config { IfOk result (λ r. r.0.config ≡ config.now.value) }
-    ensures script { IfOk result (λ r. r.0.script ≡ script.now.value) }
-    ensures kept { IfOk result (λ r. IsKept T.told r.0) }
-    ensures room { IfOk result (λ r. IsRoom T.told r.0 r.1) }
-    ensures seats { IfOk result (λ r. OpenSeats r.0 r.1) }
-    ensures none_owed { IfOk result (λ r. debt r.0 r.1 ≡ 0) }
-    ensures begun { IfOk result (λ r. PlayedTo T.told r.0 []) }
-    ensures over { IfOk result (λ r. MayGoOn r.0 → ⊥) }
-    ensures fresh { IfOk result (λ r. NoneBegun r.1) }
+    requires loaders { HasLoaders (length config.now.value.loaders) script.now.value.requests }
+    ensures serves { IfOk result (λ r.
+        IsServing T.told config.now.value script.now.value r.0 r.1) }
+    ensures opened { IfOk result (λ r. IsOpened T.told r.0 r.1) }
     ensures memory { IfErr result (λ e. e ≡ ServeFault.Memory) }
 {
     let mut room = Room::new(alloc, script.requests().len())?;

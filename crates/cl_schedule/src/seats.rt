@@ -1,6 +1,6 @@
 //! Requests that take turns: each waits with its task and with the call that the task asks for (JVMS SE 8, 5.3 to 5.4.3).
 
-ghost use Rattle.std.specs.Prelude.{◌≡◌, ◌<◌, ◌+◌, ℕ, IfOk, IfErr, IfSome, MatchOption, None, OnErr, length, Some};
+ghost use Rattle.std.specs.Prelude.{◌≡◌, ◌<◌, ◌+◌, ℕ, IfOk, IfErr, None, OnErr, length, Some};
 ghost use Rattle.cl_model.specs.declared.answer.Answer.TheVariants as answers;
 ghost use Rattle.cl_model.specs.declared.request.Request as requests;
 ghost use Rattle.cl_findings.specs.Findings.{loader_of};
@@ -8,9 +8,10 @@ ghost use Rattle.cl_model.specs.States.{Verdict};
 ghost use Rattle.cl_registry.specs.Tables.{Shown, IsKept, state_of};
 ghost use Rattle.cl_tasks.specs.Turns.{Expects};
 ghost use Rattle.cl_schedule.specs.Counting.{CountGrows, faults, owed, owed_of, told_faults};
-ghost use Rattle.cl_schedule.specs.Nearing.{AtHand, ComesNearer, IsNear, PostsKnown, calls_after};
-ghost use Rattle.cl_schedule.specs.Paying.{HasFew, LeavesFewer, PaysFor, StartsWithin};
-ghost use Rattle.cl_schedule.specs.Seats.{HasAdvanced, HasPosted, IsReady, IsSeated, IsSeatedAt};
+ghost use Rattle.cl_schedule.specs.Nearing.{AtHand, IsNear, calls_after};
+ghost use Rattle.cl_schedule.specs.Paying.{PaysFor, StartsWithin};
+ghost use Rattle.cl_schedule.specs.Rooms.{HasTurned};
+ghost use Rattle.cl_schedule.specs.Seats.{IsReady, IsSeated, IsSeatedAt};
 
 use crate::replies::{read, reply_to};
 use crate::serve::ServeFault;
@@ -95,24 +96,12 @@ pub(crate) fn advance<T: Told, S: Source<T>>(
 ) -> Result<Option<Seat<T>>, ServeFault>
     requires kept { IsKept T.told registry.old }
     requires seated { IsSeatedAt T.told registry.old seat.task seat.call q }
-    ensures did { IfOk result (λ o. MatchOption o (HasPosted T.told registry.old registry.new q)
-        (λ s. HasAdvanced T.told registry.old registry.new q)) }
-    ensures seated { IfOk result (λ o. IfSome o (λ s.
-        IsSeatedAt T.told registry.new s.task s.call q)) }
-    ensures less { IfOk result (λ o. IfSome o (λ s. s.task.left < seat.task.left)) }
+    ensures turned { IfOk result (HasTurned T.told registry.old registry.new q (Some seat)) }
     ensures faults { IfOk result (λ o.
         CountGrows (faults registry.old.answers + owed seat.call)
         (faults registry.new.answers + owed_of o) (S.refused source.old) (S.refused source.new)) }
     ensures stray { IfErr result (λ e. (e ≡ ServeFault.Stray) × (T.told ≡ None)) }
     ensures kept { IsKept T.told registry.new }
-    ensures known { IfOk result (λ o. MatchOption o
-        (PostsKnown (λ r v n. IsNear (state_of registry.old) r v n seat.task seat.call)
-        registry.old registry.new q)
-        (λ s. ComesNearer (λ r v n. IsNear (state_of registry.old) r v n seat.task seat.call)
-        registry.old registry.new q s.task s.call)) }
-    ensures paid { IfOk result (λ o. IfSome o (λ s. LeavesFewer T.told
-        (λ w p n. HasFew w p (state_of registry.old) n seat.task)
-        registry.old registry.new q s.task)) }
 {
     let Seat { task, call } = seat;
     match call {

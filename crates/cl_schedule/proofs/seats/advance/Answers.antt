@@ -1,13 +1,11 @@
-use Rattle.std.proofs.Common.{◌≡◌, refl, subst, sym}
+use Rattle.std.proofs.Common.{◌≡◌, Some, refl, subst}
 use Rattle.cl_findings.specs.Findings.{Answered}
 use Rattle.cl_tasks.specs.declared.turn.Turn.{Turn}
 use Rattle.cl_tasks.specs.declared.turn.Turn.TheVariants as turn
-use Rattle.cl_registry.specs.Tables.{state_of}
-use Rattle.cl_schedule.specs.Nearing.{IsNear, PostsKnown}
 use Rattle.cl_schedule.specs.Replies.{IsCall}
 use Rattle.cl_schedule.specs.Seats.{IsSeatedAt}
 use Rattle.cl_schedule.proofs.Nearing.{call_nearer, post_known}
-use Rattle.cl_schedule.proofs.Paying.{call_pays}
+use Rattle.cl_schedule.proofs.Paying.{call_pays, posted_pays}
 use Rattle.cl_schedule.proofs.Seated.{has_advanced, has_posted, post_refused, seated_again, seated_backed}
 use Rattle.cl_schedule.proofs.Owing.{count_called, count_posted}
 use Rattle.cl_schedule.proofs.seats.advance.Goals as goal
@@ -26,22 +24,20 @@ is_call (turn.LookPrepared c) other = tt
 is_call (turn.Mark l) other = tt
 is_call (turn.Post f) other = other f refl
 
-pub returns-in-Ok-clause-did : goal.returns-in-Ok-clause-did
-returns-in-Ok-clause-did g c =
-    let at = subst (λ (u : Turn g.row.T.Denot). IsSeatedAt g.T.Told.told c.args.registry.now c.args.seat.task u c.args.q) c.in-Post.is c.requires.seated in
-    has_posted g.T.Told.told c.args.registry.now c.post.new.self c.args.seat.task c.in-Post.finding c.args.q c.requires.kept at c.in-Ok.ensures.posted
+pub returns-in-Ok-clause-turned : goal.returns-in-Ok-clause-turned
+returns-in-Ok-clause-turned g c =
+    let told = g.T.Told.told in
+    let x = c.args.registry.now in
+    let y = c.post.new.self in
+    let seat = c.args.seat in
+    let kept = c.requires.kept in
+    let at = subst (λ (u : Turn g.row.T.Denot). IsSeatedAt told x seat.task u c.args.q) c.in-Post.is c.requires.seated in
+    let did = has_posted told x y seat.task c.in-Post.finding c.args.q kept at c.in-Ok.ensures.posted in
+    record { did = did; known = post_known told x y seat c.in-Post.finding c.args.q kept c.requires.seated c.in-Post.is c.in-Ok.ensures.posted; paid = posted_pays told x y c.args.q (Some seat) kept did }
 
 pub returns-in-Ok-clause-faults : goal.returns-in-Ok-clause-faults
 returns-in-Ok-clause-faults g c =
     count_posted c.args.registry.now c.post.new.self c.args.seat.call c.in-Post.finding c.args.q _ c.in-Post.is c.requires.seated.1.unanswered c.in-Ok.ensures.posted
-
-pub returns-in-Ok-clause-known : goal.returns-in-Ok-clause-known
-returns-in-Ok-clause-known g c =
-    let told = g.T.Told.told in
-    let x = c.args.registry.now in
-    let at = subst (λ (u : Turn g.row.T.Denot). IsSeatedAt told x c.args.seat.task u c.args.q) c.in-Post.is c.requires.seated in
-    let P : Turn g.row.T.Denot → Type 0 = λ u. PostsKnown (λ r v n. IsNear (state_of x) r v n c.args.seat.task u) x c.post.new.self c.args.q in
-    subst P (sym c.in-Post.is) (post_known {A = g.row.T.Denot} told x c.post.new.self c.args.seat.task c.in-Post.finding c.args.q c.requires.kept at c.in-Ok.ensures.posted)
 
 pub returns-in-Post-clause-stray : goal.returns-in-Post-clause-stray
 returns-in-Post-clause-stray g c =
@@ -57,13 +53,24 @@ pub returns : goal.returns
 returns g c =
     let says = c.reply_to-reply.ensures in
     let told = g.T.Told.told in
+    let x = c.args.registry.now in
+    let y = c.reply_to-reply.new.registry in
+    let was = c.args.seat in
+    let now = c.read_on.result in
+    let reply = c.reply_to-reply.result in
+    let kept = c.requires.kept in
+    let seated = c.requires.seated in
     record {
-      did = has_advanced told c.args.registry.now c.reply_to-reply.new.registry c.args.seat.task c.args.seat.call c.args.q c.reply_to-reply.result _ _ _ _ c.requires.kept c.requires.seated says;
-      seated = seated_again told c.args.registry.now c.reply_to-reply.new.registry c.args.seat.task c.read_on.result.task c.args.seat.call c.read_on.result.call c.args.q c.reply_to-reply.result _ _ _ _ c.requires.kept c.requires.seated says c.read_on.ensures.seated;
-      less = c.read_on.ensures.less;
-      faults = count_called told c.args.registry.now c.reply_to-reply.new.registry c.args.seat.call c.read_on.result.call c.reply_to-reply.result _ _ _ _ _ says c.read_on.ensures.faults;
+      turned = record {
+        did = record {
+          advanced = has_advanced told x y was.task was.call c.args.q reply _ _ _ _ kept seated says;
+          seated = seated_again told x y was.task now.task was.call now.call c.args.q reply _ _ _ _ kept seated says c.read_on.ensures.seated;
+          less = c.read_on.ensures.less;
+        };
+        known = call_nearer told x y was now c.args.q reply _ _ _ _ seated says c.read_on.ensures.known;
+        paid = call_pays told x y was now c.args.q reply _ _ _ _ kept seated says c.read_on.ensures.paid;
+      };
+      faults = count_called told x y was.call now.call reply _ _ _ _ _ says c.read_on.ensures.faults;
       stray = tt;
       kept = says.kept;
-      known = call_nearer told c.args.registry.now c.reply_to-reply.new.registry c.args.seat.task c.read_on.result.task c.args.seat.call c.read_on.result.call c.args.q c.reply_to-reply.result _ _ _ _ c.requires.seated says c.read_on.ensures.known;
-      paid = call_pays told c.args.registry.now c.reply_to-reply.new.registry c.args.seat.task c.read_on.result.task c.args.seat.call c.args.q c.reply_to-reply.result _ _ _ _ c.requires.kept c.requires.seated says c.read_on.ensures.paid;
     }

@@ -1,0 +1,66 @@
+-- How often a request is taken at most until it has its answer, by what is known of it, while requests take turns (JVMS SE 8, 5.3 to 5.4.3).
+use Rattle.std.specs.Prelude.{◌≡◌, ◌+◌, ◌≤◌, ℕ, suc, List, [], ◌∷◌, ◌++◌, Option, Some, None, MatchOption, slice_get, unwrap_or}
+use Rattle.cl_config.specs.Loaders.{schedule_of}
+use Rattle.cl_model.specs.declared.request.Request.{Request}
+use Rattle.cl_model.specs.States.{State, Answer}
+use Rattle.cl_model.specs.Machine.{Scheduled, Step, Post}
+use Rattle.cl_model.specs.Plans as plans
+use Rattle.cl_model.specs.Views.{request_of}
+use Rattle.cl_registry.specs.Tables.{Shown, IsOpen, state_of, steps}
+use Rattle.cl_schedule.specs.declared.choices.Room.{Room}
+use Rattle.cl_schedule.specs.declared.seats.Seat.{Seat}
+use Rattle.cl_schedule.specs.Choices.{Piece, first_taken, piece, taken_by, takings}
+use Rattle.cl_schedule.specs.Places.{seat_at}
+
+-- a measure of requests: by what is known of one it has its answer once it was taken so often
+pub record Measure (A : Type 0) : Type 1 where
+  -- what may be known of a request
+  pub Known : Type 0
+  -- it holds of a request in a state
+  pub Fits : State → plans.Request → Known → Type 0
+  -- so often is a request taken at most, which was not begun
+  pub all : Known → ℕ
+  -- a request that has this seat is taken at most so often
+  pub Within : State → Request → Known → ℕ → Seat A → Type 0
+  -- an answer is what it comes to
+  pub Says : Known → Answer → Type 0
+
+-- a request that has this seat, or none, is taken at most so often
+abbrev pub IsWithin : {A : Type 0} (m : Measure A) → State → Request → m.Known → ℕ → Option (Seat A) → Type 0
+IsWithin m s r k n seat = MatchOption seat (m.all k ≤ n) (m.Within s r k n)
+
+-- the answer of the request of this number was posted, and rounds may have begun behind it
+abbrev pub Posts : {A : Type 0} (m : Measure A) → Shown → Shown → ℕ → m.Known → Type 0
+Posts m old new q k = (a : Answer) × (rounds : List Step) × m.Says k a × (steps new ≡ steps old ++ Post q a ∷ rounds)
+
+-- a request that had this seat, or none, was taken: it has its answer, or is taken once less
+abbrev pub ComesNearer : {A : Type 0} → Measure A → Shown → Shown → ℕ → Option (Seat A) → Option (Seat A) → Type 0
+ComesNearer m old new q before after =
+    (r : Request) (k : m.Known) (n : ℕ)
+    → slice_get old.script.requests q ≡ Some r → m.Fits (state_of old) (request_of r) k → IsWithin m (state_of old) r k (suc n) before
+    → MatchOption after (Posts m old new q k) (m.Within (state_of new) r k n)
+
+-- behind these pieces each request is taken as often at most as was known of it when it was taken first, but for those times
+pub record AreWithin {A : Type 0} (m : Measure A) (x : Shown) (room : Room A) (ps : List Piece) : Type 0 where
+  -- who was never taken was not begun
+  pub untaken : (q : ℕ) → first_taken q ps ≡ None → seat_at room q ≡ None
+  -- what was known of a request when it was taken first holds of it still
+  pub fits : (q : ℕ) (r : plans.Request) (k : m.Known) (s : State) → first_taken q ps ≡ Some s → m.Fits s r k → m.Fits (state_of x) r k
+  -- and where it has no answer it is taken as often at most, but for those times
+  pub within : (q : ℕ) (r : Request) (k : m.Known) (s : State) (n : ℕ)
+      → slice_get x.script.requests q ≡ Some r → IsOpen x q → first_taken q ps ≡ Some s → m.Fits s (request_of r) k → m.all k ≤ takings q ps + n
+      → IsWithin m (state_of x) r k n (seat_at room q)
+
+-- the answer of whom a choice takes is posted, where it was taken before as often as was known of it but once
+abbrev pub PostsInTime : {A : Type 0} → Measure A → Shown → Shown → ℕ → List Piece → Type 0
+PostsInTime m old new choice ps =
+    (q : ℕ) (r : Scheduled) (k : m.Known)
+    → taken_by (schedule_of old.script) (state_of old) choice ≡ Some q → slice_get (schedule_of old.script) q ≡ Some r
+    → m.Fits (unwrap_or (first_taken q ps) (state_of old)) r.request k → m.all k ≤ takings q ps + 1 → Posts m old new q k
+
+-- behind any pieces a choice keeps that so
+abbrev pub Keeps : {A : Type 0} → Measure A → Shown → Shown → Room A → Room A → ℕ → Type 0
+Keeps m old new was now choice =
+    (ps : List Piece) → AreWithin m old was ps
+    → PostsInTime m old new choice ps
+    × ((made rounds : List Step) → AreWithin m new now (ps ++ piece (schedule_of old.script) (state_of old) choice made rounds ∷ []))

@@ -1,19 +1,16 @@
 -- What `clap` makes of the words that ask for a report or for a class file's lines.
-use Rattle.std.proofs.Common.{◌≡◌, ◌∙◌, ◌==◌, ◌<◌, ℕ, Bool, true, false, not, List, [], ◌∷◌, ◌++◌, codes, drop, Option, Some, None, option_map, option_and_then, unwrap_or, Result, Ok, Err, IsErrAnd, IfErr, MatchResult, inl, inr, refl, sym, ap, subst, arith}
+use Rattle.std.proofs.Common.{◌≡◌, ◌∙◌, ◌==◌, ◌<◌, ℕ, Bool, true, false, not, List, [], ◌∷◌, codes, drop, Option, Some, None, option_map, option_and_then, slice_get, unwrap_or, Result, Ok, Err, IsErrAnd, IfErr, MatchResult, inl, inr, refl, sym, ap, subst, arith}
 use Rattle.std.specs.Borrow.{Bor}
 use Rattle.std.specs.Prelude.{Box}
 use Rattle.std.specs.Box.{box_value}
-use Rattle.std.specs.Str.{bytes_eq}
 use Rattle.std.specs.Str.Parse.{ExplainsUnsignedError, HasUnsignedDigitsIfOk, IsNumeral, ParsesUnsigned, without_leading_plus}
 use Rattle.std.proofs.lemmas.Bool.{eqb-true}
 use Rattle.clap.specs.Faults.{built_fault}
-use Rattle.clap.specs.Lexer.{long_of, short_of}
 use Rattle.clap.specs.Matches.{ReadsOne, first_value, one_text}
 use Rattle.clap.specs.Simple.{built, entered, names_of}
 use Rattle.clap.specs.Values.{bool_text}
-use Rattle.clap.specs.ValueTests.{accepts}
 use Rattle.clap.specs.declared.builder.value_parser.ValueParser.TheVariants.{Unsigned}
-use Rattle.clap.specs.Walk.{nothing_held, stop_after}
+use Rattle.clap.specs.Walk.{nothing_held, row_text, stop_after}
 use Rattle.clap.specs.Words.{App, FailsBy, HasMatchesOf, Row, Text, fault_of, first_of, is_simple, is_simple_and_free, HasKind, Kinds, kind_of, one_of, rows_of, subcommand_name_of, subcommand_of, subcommand_rows, subcommand_rows_of}
 use Rattle.clap.specs.declared.error.Error.{Error}
 use Rattle.clap.specs.declared.error.kind.ErrorKind.TheVariants.{OutOfMemory}
@@ -28,7 +25,9 @@ use Rattle.cl_program.specs.Asking.{AsksForBundle, AsksForFile, AsksForRun, Want
 use Rattle.cl_program.specs.declared.asked.Asked.{Asked}
 use Rattle.cl_program.specs.declared.asked.Asked.TheVariants.{Bundle, Read, Run}
 use Rattle.cl_program.specs.declared.asked.Options.{Options}
-use Rattle.classlink.specs.CommandLine.{Apart, AreOptions, AskFor, AskToRead, AskToRun, Before, Behind, HasFlag, HasOptions, IsAsked, IsCount, IsCountOf, IsNamed, IsToRead, IsToRun, file_of, flag_words, is_plain_word, named_file, option_words, program, wrong_words}
+use Rattle.classlink.specs.CommandLine.{Answers, AreOptions, AreWordsOf, AskFor, AskToRead, AskToRun, Dashes, End, HasFlag, HasOptions, IsAsked, IsCount, IsCountOf, IsNamed, IsToRead, IsToRun, Workers, file_of, is_plain_word, named_file, program, wrong_words}
+use Rattle.classlink.proofs.Orders.{AreFull, Ends, PassesCount, answers_row, full_at_end, leads_on, right_at_end, workers_row}
+use Rattle.classlink.proofs.Steps.{IsNoFlag, finds_at, idle_at, no_flag, passes_to}
 use Rattle.cl_pool.specs.declared.limits.TheConstants.{MOST_WORKERS}
 
 -- ---- the program's command on its words
@@ -46,25 +45,6 @@ pub ends_by : (a : App) (words : List Text) (r : Result ArgMatches Error) → a 
 unfolding wrong_words
 ends_by a words r is kinds = subst (λ (b : App). FailsBy (fault_of b words) r) is (kinds (ap is_simple_and_free is ∙ is_free_program))
 
--- ---- words that are no flags
-
-not_true : (b : Bool) → not b ≡ true → b ≡ false
-not_true true e = cc
-not_true false e = refl
-
--- no test for a flag takes it for one
-abbrev IsNoFlag : Text → Type 0
-IsNoFlag path = (bytes_eq path (45 ∷ 45 ∷ []) ≡ false) × (long_of path ≡ None) × (short_of path ≡ None)
-
-no_flag : (path : Text) → is_plain_word path ≡ true → IsNoFlag path
-no_flag [] p = (refl, refl, refl)
-no_flag (c ∷ []) p = one (c == 45) refl
-  where
-    one : (b : Bool) → (c == 45) ≡ b → IsNoFlag (c ∷ [])
-    one true t = rw t (refl, refl, refl)
-    one false t = rw t (refl, refl, refl)
-no_flag (c ∷ d ∷ rest) p = let t = not_true (c == 45) p in rw t (refl, refl, refl)
-
 -- ---- a count of workers among the words
 
 -- a numeral does not begin with a hyphen
@@ -79,14 +59,6 @@ numeral_plain (c ∷ d ∷ rest) h = by (c == 45) refl
         let digits = subst (λ (x : ℕ). IsNumeral 10 (without_leading_plus (x ∷ d ∷ rest))) (eqb-true _ _ e) h in
         let bad : 36 < 10 = digits.1.0 in
         absurd (omega arith)
-
--- no test for a flag takes it for one, and it passes the parser
-abbrev IsCountWord : Text → Type 0
-IsCountWord text = IsNoFlag text × (accepts false (Unsigned 1 MOST_WORKERS) text ≡ true)
-
-abbrev PassesCount : Option Text → Type 0
-PassesCount None = Unit {0}
-PassesCount (Some text) = IsCountWord text
 
 passes_count : (count : Option Text) (n : ℕ) → IsCountOf count n → PassesCount count
 passes_count None n is = tt
@@ -106,34 +78,39 @@ spells_count (Some text) n is = is
 
 -- ---- the words of a bundle's report
 
-abbrev for_bundle : Option Text → Bool → List Text
-for_bundle count answers = codes "bundle" ∷ option_words count answers
-
-no_fault : (count : Option Text) (answers : Bool) → PassesCount count → built_fault (built program) nothing_held (for_bundle count answers) ≡ []
-unfolding clap_on_literals
-no_fault None false p = refl
-no_fault None true p = refl
-no_fault (Some text) false p = rw (p.0.0, p.0.1, p.0.2, p.1) refl
-no_fault (Some text) true p = rw (p.0.0, p.0.1, p.0.2, p.1) refl
-
-pub takes_words : (words : List Text) (o : Options) → AskFor words o → wrong_words words ≡ []
-unfolding wrong_words
-takes_words words o ask = ap (built_fault (built program) nothing_held) ask.are ∙ no_fault ask.count o.answers (passes_count ask.count o.workers ask.counts)
+abbrev Passes : List Text → Type 0
+Passes words = built_fault (built program) nothing_held words ≡ []
 
 abbrev entered_at : List Text → Option (Text × List Row)
 entered_at words = entered (built program) (stop_after (built program).top.rules (names_of (built program)) words)
 
 -- what is found for the options
-abbrev FindsOptions : Option Text → Bool → List Text → Type 0
-FindsOptions count answers words =
-    HasFlag (entered_at words) answers × (option_and_then (λ p. one_of (codes "workers") p.1) (entered_at words) ≡ Some (count_text count))
+abbrev HasTexts : Option Text → Bool → Option (Text × List Row) → Type 0
+HasTexts count answers entered = HasFlag entered answers × (option_and_then (λ p. one_of (codes "workers") p.1) entered ≡ Some (count_text count))
 
-options_found : (count : Option Text) (answers : Bool) → PassesCount count → FindsOptions count answers (for_bundle count answers)
+-- the words of `bundle` pass, and the options are found in them
+abbrev IsBundle : Option Text → Bool → List Text → Type 0
+IsBundle count answers words = Passes words × HasTexts count answers (entered_at words) × IsNamed (codes "bundle") (entered_at words)
+
+bundle_at : {count : Option Text} {answers : Bool} {rest : List Text} → AreWordsOf [] count answers rest → PassesCount count → IsBundle count answers (codes "bundle" ∷ rest)
 unfolding clap_on_literals
-options_found None false p = (refl, refl)
-options_found None true p = (refl, refl)
-options_found (Some text) false p = rw (p.0.0, p.0.1, p.0.2) (refl, refl)
-options_found (Some text) true p = rw (p.0.0, p.0.1, p.0.2) (refl, refl)
+bundle_at End p = (refl, (refl, refl), refl)
+bundle_at (Dashes none) p = (refl, (refl, refl), refl)
+bundle_at (Answers End) p = (refl, (refl, refl), refl)
+bundle_at (Answers (Dashes none)) p = (refl, (refl, refl), refl)
+bundle_at (Answers (Workers text End)) p = (rw (p.0.0, p.0.1, p.0.2, p.1) refl, rw (p.0.0, p.0.1, p.0.2) (refl, refl), refl)
+bundle_at (Answers (Workers text (Dashes none))) p = (rw (p.0.0, p.0.1, p.0.2, p.1) refl, rw (p.0.0, p.0.1, p.0.2) (refl, refl), refl)
+bundle_at (Workers text End) p = (rw (p.0.0, p.0.1, p.0.2, p.1) refl, rw (p.0.0, p.0.1, p.0.2) (refl, refl), refl)
+bundle_at (Workers text (Dashes none)) p = (rw (p.0.0, p.0.1, p.0.2, p.1) refl, rw (p.0.0, p.0.1, p.0.2) (refl, refl), refl)
+bundle_at (Workers text (Answers End)) p = (rw (p.0.0, p.0.1, p.0.2, p.1) refl, rw (p.0.0, p.0.1, p.0.2) (refl, refl), refl)
+bundle_at (Workers text (Answers (Dashes none))) p = (rw (p.0.0, p.0.1, p.0.2, p.1) refl, rw (p.0.0, p.0.1, p.0.2) (refl, refl), refl)
+
+bundle_found : (words : List Text) (o : Options) (ask : AskFor words o) → IsBundle ask.count o.answers (drop 1 words)
+bundle_found words o ask = subst (IsBundle ask.count o.answers) (sym ask.are) (bundle_at ask.spelled (passes_count ask.count o.workers ask.counts))
+
+pub takes_words : (words : List Text) (o : Options) → AskFor words o → wrong_words words ≡ []
+unfolding wrong_words
+takes_words words o ask = (bundle_found words o ask).0
 
 same_options : (a b : Options) → a.workers ≡ b.workers → a.answers ≡ b.answers → a ≡ b
 same_options a b w f =
@@ -141,14 +118,11 @@ same_options a b w f =
     by_workers ∙ ap (λ (x : Bool). let o : Options = record { workers = b.workers; answers = x } in o) f
 
 -- the options that were found are those that the words have
-options_are : (count : Option Text) (words : List Text) (o given : Options) → IsCountOf count o.workers → FindsOptions count o.answers words → HasOptions (entered_at words) given → given ≡ o
+options_are : (count : Option Text) (words : List Text) (o given : Options) → IsCountOf count o.workers → HasTexts count o.answers (entered_at words) → HasOptions (entered_at words) given → given ≡ o
 options_are count words o given is found has =
     same_options given o (has.workers o.workers (record { text = count_text count; found = found.1; spells = spells_count count o.workers is })) (has.answers o.answers found.0)
 
 -- ---- a path among the words
-
-abbrev Passes : List Text → Type 0
-Passes words = built_fault (built program) nothing_held words ≡ []
 
 abbrev Finds : Text → List Text → Type 0
 Finds path words = IsToRead (entered_at words) × (file_of (entered_at words) ≡ path)
@@ -186,92 +160,44 @@ found_path words path (inr p) = subst (Finds path) (sym p) (behind_found path)
 
 -- ---- a script's run among the words
 
-abbrev run_behind : Text → Text → Bool → List Text
-run_behind config script answers = codes "run" ∷ config ∷ script ∷ flag_words answers
+-- this run is what is found
+abbrev IsRunIn : Wanted → Option Text → Option (Text × List Row) → Type 0
+IsRunIn w count entered =
+    IsToRun entered × (named_file (codes "CONFIG") entered ≡ w.config) × (named_file (codes "SCRIPT") entered ≡ w.script) × HasTexts count w.options.answers entered
 
-abbrev run_before : Text → Text → Bool → List Text
-run_before config script answers = codes "run" ∷ flag_words answers ++ config ∷ script ∷ []
+-- the words of `run` pass, and the run is found in them
+abbrev IsRunAt : Wanted → Option Text → List Text → Type 0
+IsRunAt w count words = Passes words × IsRunIn w count (entered_at words)
 
-abbrev run_apart : Text → Text → Bool → List Text
-run_apart config script answers = codes "run" ∷ flag_words answers ++ codes "--" ∷ config ∷ script ∷ []
+text_of_count : (count : Option Text) → row_text (workers_row count) ≡ Some (count_text count)
+text_of_count None = refl
+text_of_count (Some text) = refl
 
--- what clap finds is the run that is wanted, by one worker
-abbrev FindsRun : Text → Text → Bool → List Text → Type 0
-FindsRun config script answers words =
-    IsToRun (entered_at words)
-    × (named_file (codes "CONFIG") (entered_at words) ≡ config)
-    × (named_file (codes "SCRIPT") (entered_at words) ≡ script)
-    × FindsOptions None answers words
+text_of_flag : (answers : Bool) → row_text (answers_row answers) ≡ Some (bool_text answers)
+text_of_flag false = refl
+text_of_flag true = refl
 
-behind_pass : (c s : Text) (b : Bool) → IsNoFlag c → IsNoFlag s → Passes (run_behind c s b)
-unfolding clap_on_literals
-behind_pass c s false x y = rw (x.0, x.1, x.2, y.0, y.1, y.2) refl
-behind_pass c s true x y = rw (x.0, x.1, x.2, y.0, y.1, y.2) refl
+run_in : (w : Wanted) (count : Option Text) (rows : List Row) → AreFull w.config w.script count w.options.answers rows → IsRunIn w count (Some (codes "run", rows))
+run_in w count rows full =
+    let first : Option Row → Text = λ row. unwrap_or (option_and_then (λ r. slice_get r.values 0) row) [] in
+    (refl, ap first full.config, ap first full.script, (ap (option_and_then row_text) full.answers ∙ text_of_flag w.options.answers, ap (option_and_then row_text) full.workers ∙ text_of_count count))
 
-before_pass : (c s : Text) (b : Bool) → IsNoFlag c → IsNoFlag s → Passes (run_before c s b)
-unfolding clap_on_literals
-before_pass c s false x y = rw (x.0, x.1, x.2, y.0, y.1, y.2) refl
-before_pass c s true x y = rw (x.0, x.1, x.2, y.0, y.1, y.2) refl
+run_at : (w : Wanted) (count : Option Text) (rest : List Text) → Ends w.config w.script count w.options.answers (idle_at nothing_held 1) rest → IsRunAt w count (codes "run" ∷ rest)
+run_at w count rest ends =
+    let full = full_at_end w.config w.script count w.options.answers ends.at.held ends.seen in
+    let right = right_at_end w.config w.script count w.options.answers ends.at.held ends.seen in
+    (passes_to rest ends.at ends.goes right, subst (IsRunIn w count) (sym (finds_at rest ends.at ends.goes)) (run_in w count _ full))
 
-apart_pass : (c s : Text) (b : Bool) → Passes (run_apart c s b)
-unfolding clap_on_literals
-apart_pass c s false = refl
-apart_pass c s true = refl
-
-behind_finds : (c s : Text) (b : Bool) → IsNoFlag c → IsNoFlag s → FindsRun c s b (run_behind c s b)
-unfolding clap_on_literals
-behind_finds c s false x y = rw (x.0, x.1, x.2, y.0, y.1, y.2) (refl, refl, refl, (refl, refl))
-behind_finds c s true x y = rw (x.0, x.1, x.2, y.0, y.1, y.2) (refl, refl, refl, (refl, refl))
-
-before_finds : (c s : Text) (b : Bool) → IsNoFlag c → IsNoFlag s → FindsRun c s b (run_before c s b)
-unfolding clap_on_literals
-before_finds c s false x y = rw (x.0, x.1, x.2, y.0, y.1, y.2) (refl, refl, refl, (refl, refl))
-before_finds c s true x y = rw (x.0, x.1, x.2, y.0, y.1, y.2) (refl, refl, refl, (refl, refl))
-
-apart_finds : (c s : Text) (b : Bool) → FindsRun c s b (run_apart c s b)
-unfolding clap_on_literals
-apart_finds c s false = (refl, refl, refl, (refl, refl))
-apart_finds c s true = (refl, refl, refl, (refl, refl))
-
--- the words of a run pass, and clap finds in them what is wanted
-record RunFound (words : List Text) (w : Wanted) : Type 0 where
-  pub one : w.options.workers ≡ 1
-  pub passes : Passes (drop 1 words)
-  pub found : FindsRun w.config w.script w.options.answers (drop 1 words)
-
-run_found : (words : List Text) (w : Wanted) → AskToRun words w → RunFound words w
-run_found words w (Behind one p e) = record {
-  one = one;
-  passes = subst Passes (sym e) (behind_pass w.config w.script w.options.answers (no_flag w.config p.config) (no_flag w.script p.script));
-  found = subst (FindsRun w.config w.script w.options.answers) (sym e) (behind_finds w.config w.script w.options.answers (no_flag w.config p.config) (no_flag w.script p.script));
-}
-run_found words w (Before one p e) = record {
-  one = one;
-  passes = subst Passes (sym e) (before_pass w.config w.script w.options.answers (no_flag w.config p.config) (no_flag w.script p.script));
-  found = subst (FindsRun w.config w.script w.options.answers) (sym e) (before_finds w.config w.script w.options.answers (no_flag w.config p.config) (no_flag w.script p.script));
-}
-run_found words w (Apart one e) = record {
-  one = one;
-  passes = subst Passes (sym e) (apart_pass w.config w.script w.options.answers);
-  found = subst (FindsRun w.config w.script w.options.answers) (sym e) (apart_finds w.config w.script w.options.answers);
-}
+run_found : (words : List Text) (w : Wanted) (ask : AskToRun words w) → IsRunAt w ask.count (drop 1 words)
+run_found words w ask =
+    let ends = leads_on ask.spelled (passes_count ask.count w.options.workers ask.counts) in
+    subst (IsRunAt w ask.count) (sym ask.are) (run_at w ask.count ask.rest ends)
 
 pub takes_run : (words : List Text) (w : Wanted) → AskToRun words w → wrong_words words ≡ []
 unfolding wrong_words
-takes_run words w ask = (run_found words w ask).passes
+takes_run words w ask = (run_found words w ask).0
 
 -- ---- what is asked for by these words
-
-is_bundle : (count : Option Text) (answers : Bool) → IsNamed (codes "bundle") (entered_at (for_bundle count answers))
-unfolding clap_on_literals
-is_bundle None false = refl
-is_bundle None true = refl
-is_bundle (Some text) false = refl
-is_bundle (Some text) true = refl
-
-bundle_named : (words : List Text) (o : Options) → AskFor words o → IsNamed (codes "bundle") (entered_at (drop 1 words))
-bundle_named words o ask =
-    subst (λ (ws : List Text). IsNamed (codes "bundle") (entered_at ws)) (sym ask.are) (is_bundle ask.count o.answers)
 
 one_name : (o : Option (Text × List Row)) (a b : Text) → IsNamed a o → IsNamed b o → a ≡ b
 one_name o a b x y = some_is (sym x ∙ y)
@@ -289,11 +215,9 @@ reading_no_running : codes "read" ≡ codes "run" → ⊥
 reading_no_running e = cc
 
 pub bundle_asked : (words : List Text) (o : Options) (a : Asked) → AskFor words o → IsAsked (subcommand_of program words) a → AsksForBundle o a
-bundle_asked words o (Bundle given) ask is =
-    let found = subst (FindsOptions ask.count o.answers) (sym ask.are) (options_found ask.count o.answers (passes_count ask.count o.workers ask.counts)) in
-    options_are ask.count (drop 1 words) o given ask.counts found is.1
-bundle_asked words o (Run w) ask is = absurd (bundle_no_running (one_name _ _ _ (bundle_named words o ask) is.0))
-bundle_asked words o (Read path) ask is = absurd (bundle_no_reading (one_name _ _ _ (bundle_named words o ask) is.0))
+bundle_asked words o (Bundle given) ask is = options_are ask.count (drop 1 words) o given ask.counts (bundle_found words o ask).1 is.1
+bundle_asked words o (Run w) ask is = absurd (bundle_no_running (one_name _ _ _ (bundle_found words o ask).2 is.0))
+bundle_asked words o (Read path) ask is = absurd (bundle_no_reading (one_name _ _ _ (bundle_found words o ask).2 is.0))
 
 pub path_asked : (words : List Text) (path : Text) (a : Asked) → AskToRead words path → IsAsked (subcommand_of program words) a → AsksForFile path a
 path_asked words path (Bundle b) ask is = absurd (is.0.no_reading (found_path words path ask).0)
@@ -306,12 +230,11 @@ same_wanted a b c s o =
     ap (λ (x : Text). run x a.script a.options) c ∙ ap (λ (x : Text). run b.config x a.options) s ∙ ap (λ (x : Options). run b.config b.script x) o
 
 pub run_asked : (words : List Text) (w : Wanted) (a : Asked) → AskToRun words w → IsAsked (subcommand_of program words) a → AsksForRun w a
-run_asked words w (Bundle b) ask is = absurd (is.0.no_running (run_found words w ask).found.0)
+run_asked words w (Bundle b) ask is = absurd (is.0.no_running (run_found words w ask).1.0)
 run_asked words w (Run given) ask is =
-    let run = run_found words w ask in
-    let options = options_are None (drop 1 words) w.options given.options run.one run.found.3 is.1.options in
-    same_wanted (wanted_of given) w (sym is.1.config ∙ run.found.1) (sym is.1.script ∙ run.found.2) options
-run_asked words w (Read at) ask is = absurd (reading_no_running (one_name _ _ _ is.0 (run_found words w ask).found.0))
+    let run = (run_found words w ask).1 in
+    same_wanted (wanted_of given) w (sym is.1.config ∙ run.1) (sym is.1.script ∙ run.2) (options_are ask.count (drop 1 words) w.options given.options ask.counts run.3 is.1.options)
+run_asked words w (Read at) ask is = absurd (reading_no_running (one_name _ _ _ is.0 (run_found words w ask).1.0))
 
 -- what the matches ask for is what the words ask for
 pub asked_by_words : (a : App) (words : List Text) (m : ArgMatches) (asked : Asked) → a ≡ program → HasMatchesOf a words m → IsAsked (subcommand_rows_of m) asked → IsAsked (subcommand_of program words) asked

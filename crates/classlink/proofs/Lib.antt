@@ -1,3 +1,6 @@
 pub mod Commands
 pub mod Ending
 pub mod Flags
+pub mod Orders
+pub mod Rows
+pub mod Steps

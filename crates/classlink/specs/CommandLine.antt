@@ -1,5 +1,5 @@
 -- The words that the program takes, as `clap` sees its command.
-use Rattle.std.specs.Prelude.{◌≡◌, ◌⊎◌, ◌==◌, ℕ, Bool, true, false, not, List, [], ◌∷◌, ◌++◌, codes, Option, Some, None, option_map, option_and_then, unwrap_or, drop}
+use Rattle.std.specs.Prelude.{◌≡◌, ◌⊎◌, ◌==◌, ℕ, Bool, true, false, not, List, [], ◌∷◌, codes, Option, Some, None, option_map, option_and_then, unwrap_or, drop}
 use Rattle.std.specs.Str.Parse.{digits_value, without_leading_plus}
 use Rattle.clap.specs.Matches.{one_text}
 use Rattle.clap.specs.Values.{IsUnsignedIn, bool_text}
@@ -73,47 +73,44 @@ abbrev pub IsCountOf : Option (List ℕ) → ℕ → Type 0
 IsCountOf None n = n ≡ 1
 IsCountOf (Some text) n = IsCount text n
 
--- the word `--answers`, where the answers alone are wanted
-abbrev pub flag_words : Bool → List (List ℕ)
-flag_words false = []
-flag_words true = codes "--answers" ∷ []
-
--- the words of the options: `--workers` and a count, where one is given, and `--answers`
-abbrev pub option_words : Option (List ℕ) → Bool → List (List ℕ)
-option_words None only_answers = flag_words only_answers
-option_words (Some text) only_answers = codes "--workers" ∷ text ∷ flag_words only_answers
-
--- the words, of which the first is the program's name, ask for a bundle's report with these options
-pub record AskFor (words : List (List ℕ)) (o : Options) : Type 0 where
-  pub count : Option (List ℕ)
-  pub counts : IsCountOf count o.workers
-  pub are : drop 1 words ≡ codes "bundle" ∷ option_words count o.answers
-
 -- a word that is no flag: it does not begin with a hyphen, or is the hyphen alone
 abbrev pub is_plain_word : List ℕ → Bool
 is_plain_word [] = true
 is_plain_word (c ∷ []) = true
 is_plain_word (c ∷ d ∷ rest) = not (c == 45)
 
+-- the words are these paths, in this order, and the options: `--workers` and a count, where one is given, and `--answers`, where the answers
+-- alone are wanted. The options stand before, between or behind the paths, in either order, and each path is plain or behind `--`
+pub data AreWordsOf : List (List ℕ) → Option (List ℕ) → Bool → List (List ℕ) → Type 0 where
+  End : AreWordsOf [] None false []
+  Path : {paths : List (List ℕ)} {count : Option (List ℕ)} {only_answers : Bool} {words : List (List ℕ)} (path : List ℕ) → is_plain_word path ≡ true
+      → AreWordsOf paths count only_answers words → AreWordsOf (path ∷ paths) count only_answers (path ∷ words)
+  Workers : {paths : List (List ℕ)} {only_answers : Bool} {words : List (List ℕ)} (count : List ℕ)
+      → AreWordsOf paths None only_answers words → AreWordsOf paths (Some count) only_answers (codes "--workers" ∷ count ∷ words)
+  Answers : {paths : List (List ℕ)} {count : Option (List ℕ)} {words : List (List ℕ)}
+      → AreWordsOf paths count false words → AreWordsOf paths count true (codes "--answers" ∷ words)
+  Dashes : (paths : List (List ℕ)) → AreWordsOf paths None false (codes "--" ∷ paths)
+
+-- the words, of which the first is the program's name, ask for a bundle's report with these options
+pub record AskFor (words : List (List ℕ)) (o : Options) : Type 0 where
+  pub count : Option (List ℕ)
+  pub counts : IsCountOf count o.workers
+  pub rest : List (List ℕ)
+  pub spelled : AreWordsOf [] count o.answers rest
+  pub are : drop 1 words ≡ codes "bundle" ∷ rest
+
 -- the words, of which the first is the program's name, ask for the lines of the file at a path, which is plain or stands behind `--`
 abbrev pub AskToRead : List (List ℕ) → List ℕ → Type 0
 AskToRead words path =
     ((drop 1 words ≡ codes "read" ∷ path ∷ []) × (is_plain_word path ≡ true)) ⊎ (drop 1 words ≡ codes "read" ∷ codes "--" ∷ path ∷ [])
 
--- both paths are no flags
-pub record ArePlain (w : Wanted) : Type 0 where
-  pub config : is_plain_word w.config ≡ true
-  pub script : is_plain_word w.script ≡ true
-
--- the words, of which the first is the program's name, ask so for a script's run by one worker: the flag behind or before the paths,
--- which are plain or stand behind `--`
-pub data AskToRun (words : List (List ℕ)) (w : Wanted) : Type 0 where
-  Behind : w.options.workers ≡ 1 → ArePlain w
-      → drop 1 words ≡ codes "run" ∷ w.config ∷ w.script ∷ flag_words w.options.answers → AskToRun words w
-  Before : w.options.workers ≡ 1 → ArePlain w
-      → drop 1 words ≡ codes "run" ∷ flag_words w.options.answers ++ w.config ∷ w.script ∷ [] → AskToRun words w
-  Apart : w.options.workers ≡ 1
-      → drop 1 words ≡ codes "run" ∷ flag_words w.options.answers ++ codes "--" ∷ w.config ∷ w.script ∷ [] → AskToRun words w
+-- the words, of which the first is the program's name, ask so for a script's run
+pub record AskToRun (words : List (List ℕ)) (w : Wanted) : Type 0 where
+  pub count : Option (List ℕ)
+  pub counts : IsCountOf count w.options.workers
+  pub rest : List (List ℕ)
+  pub spelled : AreWordsOf (w.config ∷ w.script ∷ []) count w.options.answers rest
+  pub are : drop 1 words ≡ codes "run" ∷ rest
 
 -- ---- what is asked for, by the subcommand that `clap` finds and what it finds for its arguments
 

@@ -1,10 +1,11 @@
 -- What a load does on a reply.
-use Rattle.std.proofs.Common.{◌≡◌, ◌∙◌, ℕ, List, [], ◌∷◌, Option, Some, None, refl, sym, ap, subst}
+use Rattle.std.proofs.Common.{◌≡◌, ◌∙◌, ℕ, List, [], ◌∷◌, ◌++◌, Option, Some, None, refl, sym, ap, subst}
 use Rattle.std.proofs.Common.{Global}
 use Rattle.std.specs.Prelude.{map}
 use Rattle.std.specs.declared.sync.Arc.{Arc}
 use Rattle.cl_model.specs.declared.request.Request.{Request}
 use Rattle.cl_config.specs.Views.{Configured}
+use Rattle.cl_delegation.specs.declared.search.Home.{Home}
 use Rattle.cl_delegation.specs.Searches.{Located}
 use Rattle.cl_hierarchy.specs.declared.row.ClassRow.{ClassRow}
 use Rattle.cl_hierarchy.specs.Frames.{Framed, frame_of}
@@ -96,6 +97,37 @@ home_own c j h row new t for homing =
 pub home_any : {A : Type 0} (c : Configured) (j : Job A) (h : Located) (o : Option (Arc (ClassRow A) Global)) (new : Tasked) (t : Turn A) → IsFor j.request j.target j.path → IsHoming j h → AnswersOwn (loading_at c (loads.Homing j h)) new (reply.Looked o) t
 home_any c j h None new t for homing = tt
 home_any c j h (Some row) new t for homing = home_own c j h row new t for homing
+
+-- ---- a record that the task asked for
+
+rest_none : {f g : Fact} {fs : List Fact} → f ∷ fs ≡ g ∷ [] → fs ≡ []
+rest_none e = cc
+
+-- the loader that was asked was recorded
+pub initiated_own : {A : Type 0} (c : Configured) (j : Job A) (h : Arc (Home A) Global) (row : Arc (ClassRow A) Global) (new : Tasked) (t : Turn A) → (IsOwnTarget j.target → j.path.frames ≡ [] → GoesOnWith j.request row.value.class new t)
+    → AnswersOwn (loading_at c (loads.Initiating j h)) new (reply.Initiated row) t
+initiated_own c j h row new t goes =
+    λ r e frames one. subst (λ (q : Request). GoesOnWith q row.value.class new t) (some_same e) (goes (own_of j.request j.target (rest_none one.1)) (none_framed j.path.frames frames))
+
+ends_in : (xs : List Frame) (x : Frame) → xs ++ x ∷ [] ≡ [] → ⊥
+ends_in [] x e = cc
+ends_in (y ∷ ys) x e = cc
+
+alone : (xs : List Frame) (x y : Frame) → xs ++ x ∷ [] ≡ y ∷ [] → (xs ≡ []) × (x ≡ y)
+alone [] x y e = (refl, cc)
+alone (z ∷ zs) x y e = absurd (ends_in zs x cc)
+
+-- the home was, which is the loader that was asked where the frame's loader is the request's
+pub defined_own : {A : Type 0} (c : Configured) (j : Job A) (w : Framed) (row : Arc (ClassRow A) Global) (new : Tasked) (t : Turn A) → IsFor j.request j.target j.path → w.draft.class.loader ≡ w.draft.home.place
+    → (IsOwnTarget j.target → j.path.frames ≡ [] → w.draft.home.place ≡ at_loader j.path → GoesOnWith j.request row.value.class new t) → AnswersOwn (loading_at c (loads.Defining j w)) new (reply.Defined row) t
+defined_own c j w row new t for placed goes =
+    λ r f e frames loader facts.
+    let last = alone (frames_of j.path) (frame_of w) f frames in
+    let none = none_framed j.path.frames last.0 in
+    let own = own_looked j.request j.target j.path facts none for in
+    let at : w.draft.home.place ≡ at_loader j.path =
+    sym placed ∙ ap (λ (k : Frame). k.class.loader) last.1 ∙ loader ∙ ap loader_of (sym (some_same e)) ∙ sym own.0 in
+    subst (λ (q : Request). GoesOnWith q row.value.class new t) (some_same e) (goes (own_of j.request j.target facts) none at)
 
 -- ---- what holds
 

@@ -44,7 +44,7 @@ use Rattle.cl_tasks.specs.declared.turn.Reply.{Reply}
 use Rattle.cl_tasks.specs.declared.turn.Reply.TheVariants as reply
 use Rattle.cl_tasks.specs.declared.turn.Turn.{Turn}
 use Rattle.cl_tasks.specs.declared.turn.Turn.TheVariants as turn
-use Rattle.cl_tasks.proofs.Begun.{begins_own, home_any, looked_own}
+use Rattle.cl_tasks.proofs.Begun.{begins_own, defined_own, home_any, initiated_own, looked_own}
 use Rattle.cl_tasks.proofs.Deriving.{derived_first, derives_by, derives_more, past_derives}
 use Rattle.cl_tasks.proofs.Fall.{joins_less}
 use Rattle.cl_tasks.proofs.Keep.{frame_kept, have_first, have_last}
@@ -203,8 +203,9 @@ defined_calls {A = A} told c j w row whole draft =
     (defined_holds told j w.draft.class row.value.class.loader now whole.named (λ x t. t.told.now.recorded))
 
 pub steps_defined : {A : Type 0} (told : Option Content) (c : Configured) (j : Job A) (w : Framed) (row : Arc (ClassRow A) Global) (n : Next A) → j.path.config ≡ c → IsWhole told j.path w → IsDraft told w.draft → LeadsFrom told phases.Defining j w.draft.home.place (FindsBy j w.draft.home row.value) n
-    → IsPlain n.turn → Derives IsNone (frames_of j.path) n.stage → Steps told (loading_at c (loads.Defining j w)) (reply.Defined row) n
-steps_defined {A = A} told c j w row n e whole draft l plain derives = record {
+    → IsPlain n.turn → Derives IsNone (frames_of j.path) n.stage → IsFor j.request j.target j.path → (IsOwnTarget j.target → j.path.frames ≡ [] → w.draft.home.place ≡ at_loader j.path → GoesOnWith j.request row.value.class (task_at c n.stage) n.turn)
+    → Steps told (loading_at c (loads.Defining j w)) (reply.Defined row) n
+steps_defined {A = A} told c j w row n e whole draft l plain derives for goes = record {
   leads = at_config told c j.path.config j.q j.request (task_room (loading_at c (loads.Defining j w))) _ _ n e
       (leads_more (task_room (loading_at c (loads.Defining j w))) _ _ l (omega arith) (defined_calls told c j w row whole draft) (λ x t. defined_finds told x c j w row whole draft t) (λ x t. defined_finds told x c j w row whole draft t.told));
   refused = plain_no_fault n.turn plain;
@@ -212,7 +213,7 @@ steps_defined {A = A} told c j w row n e whole draft l plain derives = record {
   lacks = λ h. tt;
   reads = plain_reads {A = A} (loading_at c (loads.Defining j w)) (reply.Defined row) n.turn plain;
   derives = derives_by IsNone (WasAbsent {A = A} (loading_at c (loads.Defining j w)) (reply.Defined row)) (frames_of j.path ++ frame_of w ∷ []) (frames_of j.path) n.stage (λ k d. inl (derived_first (frames_of j.path) (frame_of w) k d)) (λ k e. absurd e) derives;
-  own = tt;
+  own = defined_own c j w row (task_at c n.stage) n.turn for (ap (λ (k : Class). k.loader) draft.placed) goes;
 }
 
 define_refused : {A : Type 0} (x : Shown) (c : Configured) (j : Job A) (w : Framed) (need : needs.Need) → need_of need ≡ next_need {A = A} (nexts.Define w) → Tells {A = A} x (loading_at c (loads.Defining j w)) (reply.Refused need) → RefusedOn {A = A} {B = A} j (nexts.Define w) x
@@ -245,8 +246,8 @@ initiated_finds x c j h row sought t = record {
 }
 
 pub steps_initiated : {A : Type 0} (told : Option Content) (c : Configured) (j : Job A) (h : Arc (Home A) Global) (row : Arc (ClassRow A) Global) (n : Next A) → j.path.config ≡ c → IsSought j.path h.value → LeadsAt told phases.Initiating j (Finds j row.value) n → IsPlain n.turn
-    → Derives IsNone (frames_of j.path) n.stage → Steps told (loading_at c (loads.Initiating j h)) (reply.Initiated row) n
-steps_initiated {A = A} told c j h row n e sought l plain derives = record {
+    → Derives IsNone (frames_of j.path) n.stage → (IsOwnTarget j.target → j.path.frames ≡ [] → GoesOnWith j.request row.value.class (task_at c n.stage) n.turn) → Steps told (loading_at c (loads.Initiating j h)) (reply.Initiated row) n
+steps_initiated {A = A} told c j h row n e sought l plain derives goes = record {
   leads = at_config told c j.path.config j.q j.request (task_room (loading_at c (loads.Initiating j h))) _ _ n e
       (leads_more (task_room (loading_at c (loads.Initiating j h))) _ _ l (omega arith)
       (initiated_holds told j row.value.class.loader (λ x. TellsNow {A = A} x (loading_at c (loads.Initiating j h)) (reply.Initiated row)) (λ x t. (initiated_finds x c j h row sought t.told).now.recorded)) (λ x t. initiated_finds x c j h row sought t) (λ x t. initiated_finds x c j h row sought t.told));
@@ -255,7 +256,7 @@ steps_initiated {A = A} told c j h row n e sought l plain derives = record {
   lacks = λ h. tt;
   reads = plain_reads {A = A} (loading_at c (loads.Initiating j h)) (reply.Initiated row) n.turn plain;
   derives = derives_more IsNone (WasAbsent {A = A} (loading_at c (loads.Initiating j h)) (reply.Initiated row)) (frames_of j.path) n.stage (λ k e. absurd e) derives;
-  own = tt;
+  own = initiated_own c j h row (task_at c n.stage) n.turn goes;
 }
 
 initiate_refused : {A : Type 0} (x : Shown) (c : Configured) (j : Job A) (h : Arc (Home A) Global) (need : needs.Need) → need_of need ≡ next_need {A = A} (nexts.Initiate h) → Tells {A = A} x (loading_at c (loads.Initiating j h)) (reply.Refused need) → RefusedOn {A = A} {B = A} j (nexts.Initiate h) x

@@ -147,14 +147,17 @@ GoesOnWith (requests.Link loader name) c new (turn.LookPrepared d) = (d ≡ c) �
 GoesOnWith r c new (turn.Post f) = f.answer ≡ answers.Memory
 GoesOnWith r c new other = ⊥
 
--- a task that was told nothing yet of its class looks for it first, and goes on with the class that its loader has recorded; a reference
--- that is settled is answered so; a class that is prepared is linked, where the task was told nothing but that it is recorded; memory may run
--- out (5.3, 5.4, 5.4.3)
+-- a task that was told nothing yet of its class looks for it first, and goes on with the class that its loader has recorded, also where the
+-- task itself had it recorded: once it is defined, where its loader is the home, else once the loader is recorded; a reference that is
+-- settled is answered so; a class that is prepared is linked, where the task was told nothing but that it is recorded; memory may run out
+-- (5.3, 5.4, 5.4.3)
 abbrev pub AnswersOwn : {A : Type 0} → Tasked → Tasked → Reply A → Turn A → Type 0
 AnswersOwn old new reply.Start (turn.Look l n) = (new.frames ≡ []) × (new.facts ≡ []) × ((r : Request) → old.request ≡ Some r → (l ≡ loader_of r) × (n ≡ name_of r))
 AnswersOwn old new reply.Start (turn.Post f) = f.answer ≡ answers.Memory
 AnswersOwn old new reply.Start t = ⊥
 AnswersOwn old new (reply.Looked (Some row)) t = (r : Request) → old.request ≡ Some r → old.waits ≡ Looking (loader_of r) (name_of r) → old.frames ≡ [] → old.facts ≡ [] → GoesOnWith r row.value.class new t
+AnswersOwn old new (reply.Initiated row) t = (r : Request) → old.request ≡ Some r → old.frames ≡ [] → KnowsOne old → GoesOnWith r row.value.class new t
+AnswersOwn old new (reply.Defined row) t = (r : Request) (f : Frame) → old.request ≡ Some r → old.frames ≡ f ∷ [] → f.class.loader ≡ loader_of r → old.facts ≡ [] → GoesOnWith r row.value.class new t
 AnswersOwn old new (reply.LookedReference (Some s)) t = PostsOr (answers.Shared s) t
 AnswersOwn old new (reply.LookedPrepared true) t = (c : Class) → old.waits ≡ LookingPrepared c → KnowsOne old → PostsOr (answers.Said (verdicts.Linked c)) t
 AnswersOwn old new (reply.Settled s) t = PostsOr (answers.Shared s) t

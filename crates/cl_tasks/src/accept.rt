@@ -147,6 +147,10 @@ pub(crate) fn take_defined<T: Told>(
     requires whole { IsWhole T.told job.path whole }
     ensures leads { LeadsFrom T.told Defining job whole.draft.home.place
         (FindsBy job whole.draft.home row.value) result }
+    ensures own { IsOwnTarget job.target → job.path.frames ≡ []
+        → whole.draft.home.place ≡ at_loader job.path
+        → GoesOnWith job.request row.value.class (task_at config.now.value result.stage)
+        result.turn }
     ensures plain { IsPlain result.turn }
     ensures derives { Derives IsNone (frames_of job.path) result.stage }
 {

@@ -6,7 +6,7 @@ use Rattle.cl_tasks.proofs.load_replies.after_define.Goals as goal
 pub returns-in-Defined : goal.returns-in-Defined
 returns-in-Defined g c =
     rw c.in-Defined.is
-    (steps_defined g.T.Told.told c.args.config.now.value c.args.job c.args.whole c.in-Defined.row _ c.requires.job.config c.requires.whole (subst (λ (d : Drafted). IsDraft g.T.Told.told d) c.draft.ensures c.home.ensures.draft) c.take_defined.ensures.leads c.take_defined.ensures.plain c.take_defined.ensures.derives)
+    (steps_defined g.T.Told.told c.args.config.now.value c.args.job c.args.whole c.in-Defined.row _ c.requires.job.config c.requires.whole (subst (λ (d : Drafted). IsDraft g.T.Told.told d) c.draft.ensures c.home.ensures.draft) c.take_defined.ensures.leads c.take_defined.ensures.plain c.take_defined.ensures.derives c.requires.job.for_request c.take_defined.ensures.own)
 
 pub returns-in-Refused : goal.returns-in-Refused
 returns-in-Refused g c =

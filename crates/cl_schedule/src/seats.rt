@@ -12,7 +12,7 @@ ghost use Rattle.cl_schedule.specs.Nearing.{AtHand, ComesNearer, IsNear, PostsKn
 ghost use Rattle.cl_schedule.specs.Paying.{HasFew, LeavesFewer, PaysFor, StartsWithin};
 ghost use Rattle.cl_schedule.specs.Seats.{HasAdvanced, HasPosted, IsReady, IsSeated, IsSeatedAt};
 
-use crate::replies::{read, reply_to};
+use crate::replies::{ask_source, reply_to};
 use crate::serve::ServeFault;
 use cl_config::Config;
 use cl_findings::Finding;
@@ -51,7 +51,7 @@ pub(crate) fn read_on<T: Told, S: Source<T>>(
 {
     loop {
         match task.turn(alloc, reply) {
-            Turn::Read(loader, name) => reply = read(alloc, source, loader, &name),
+            Turn::Read(loader, name) => reply = ask_source(alloc, source, loader, &name),
             call => return Seat { task, call },
         }
     }

@@ -1,5 +1,4 @@
 pub mod Numbers
 pub mod Seats
 pub mod Texts
-pub mod Calls
 pub mod Served

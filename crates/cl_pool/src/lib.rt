@@ -1,7 +1,6 @@
 //! Scripts of requests, served by several threads.
 #![tactic(auto)]
 
-mod calls;
 mod desk;
 mod draws;
 mod fault;

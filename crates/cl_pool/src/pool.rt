@@ -1,21 +1,16 @@
 //! What the workers share, and what each of them does.
 
 ghost use Rattle.std.specs.Prelude.{◌≡◌, ◌<◌, ◌≤◌, length};
-ghost use Rattle.cl_registry.specs.Tables.{Shown};
-ghost use Rattle.cl_tasks.specs.Waits.{Reading};
-ghost use Rattle.cl_schedule.specs.Counting.{Grows, told_faults};
-ghost use Rattle.cl_schedule.specs.Replies.{IsReplied};
-ghost use Rattle.cl_pool.specs.Calls.{IsOfTables};
+ghost use Rattle.cl_schedule.specs.Replies.{IsOfTables};
 ghost use Rattle.cl_pool.specs.Seats.{IsSeatOf, MayDraw};
 
-use crate::calls::reply_to;
 use crate::desk::Desk;
 use crate::draws::{Draws, Seat};
 use crate::gate::Gate;
 use cl_config::{Config, Script};
 use cl_findings::Finding;
-use cl_model::{LoaderId, Request, Told};
-use cl_names::Name;
+use cl_model::{Request, Told};
+use cl_schedule::{ask_registry, ask_source};
 use cl_source::Source;
 use cl_tasks::{Reply, Task, Turn};
 use std::alloc::Global;
@@ -112,7 +107,7 @@ impl<T: Told> Pool<T> {
                 Turn::Post(finding) => return self.post(rt, gate, q, finding),
                 Turn::Read(loader, name) => {
                     gate.before_read(q, loader, &name);
-                    reply = read(alloc, source, loader, &name);
+                    reply = ask_source(alloc, source, loader, &name);
                 }
                 call => match self.call(rt, alloc, gate, q, call) {
                     Some(told) => reply = told,
@@ -154,7 +149,7 @@ impl<T: Told> Pool<T> {
             drop(call);
             return None;
         };
-        let told = reply_to(alloc, &mut desk.registry, call);
+        let told = ask_registry(alloc, &mut desk.registry, call);
         if told.is_none() {
             desk.stopped = true;
             self.changed.notify_all();
@@ -255,22 +250,5 @@ impl<T: Told> Pool<T> {
             started += 1;
         }
         started
-    }
-}
-
-/// The reply to a read of a source (JVMS SE 8, 5.3.2).
-fn read<T: Told, S: Source<T>>(
-    alloc: Global,
-    source: &mut S,
-    loader: LoaderId,
-    name: &Name,
-) -> Reply<T>
-    ensures replied { (x : Shown) → IsReplied x (Reading loader name.now) result }
-    ensures faults { Grows (told_faults result) (S.refused source.old) (S.refused source.new) }
-    ensures no_memory { result ≡ Reply.Memory → ⊥ }
-{
-    match source.read(alloc, loader, name) {
-        Ok(probe) => Reply::Probed(probe),
-        Err(fault) => Reply::SourceFault(fault),
     }
 }

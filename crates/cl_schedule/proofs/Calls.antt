@@ -1,6 +1,6 @@
 -- What each call does and is answered (JVMS SE 8, 5.3 to 5.4.3).
 use Rattle.std.proofs.Common.{◌≡◌, inl, inr, ◌∙◌, ◌<◌, ℕ, zero, suc, List, [], ◌∷◌, length, Option, Some, None, refl, sym, ap, subst, arith}
-use Rattle.std.specs.Prelude.{IfSome, slice_get, option_map, option_and_then}
+use Rattle.std.specs.Prelude.{IfSome, MatchOption, slice_get, option_map, option_and_then}
 use Rattle.cl_model.specs.declared.class.Class.{Class}
 use Rattle.cl_model.specs.declared.event.Event.TheVariants as events
 use Rattle.cl_model.specs.declared.need.Equality.{Equality}
@@ -9,7 +9,7 @@ use Rattle.cl_model.specs.declared.request.Request.{Request}
 use Rattle.cl_model.specs.declared.request.Request.TheVariants as requests
 use Rattle.cl_model.specs.declared.settled.Settled.{Settled}
 use Rattle.cl_model.specs.Classes.{class}
-use Rattle.cl_model.specs.States.{Need, Refused, recorded}
+use Rattle.cl_model.specs.States.{IsRecorded, Need, Refused, recorded}
 use Rattle.cl_model.specs.Machine.{Step, Define, Initiate, Constrain, Settle, Prepare}
 use Rattle.cl_model.specs.Tables.{Records}
 use Rattle.cl_model.specs.Views.{need_of, verdict_of}
@@ -20,15 +20,15 @@ use Rattle.cl_hierarchy.specs.Imposed.{Listed, Sprung, OfReference, OfPreparatio
 use Rattle.cl_hierarchy.specs.Rows.{Rowed}
 use Rattle.cl_registry.specs.declared.registry.RegistryFault.{RegistryFault}
 use Rattle.cl_registry.specs.declared.registry.RegistryFault.TheVariants.{Memory, Stray, Violates, AlreadyPosted, NotYet}
-use Rattle.cl_registry.specs.Imposing.{Constrains, Imposes, MarksBy, MayImpose}
+use Rattle.cl_registry.specs.Imposing.{Constrains, Imposes, MarksBy, MayImpose, MayMark}
 use Rattle.cl_registry.specs.References.{Cited, IsSettledIn, settled_by}
-use Rattle.cl_registry.specs.Refusals.{Blames, DefineRefusedFor, ImposeRefusedFor, InitiateRefusedFor, SettleRefusedFor}
+use Rattle.cl_registry.specs.Refusals.{Blames, DefineRefusedFor, ImposeRefusedFor, InitiateRefusedFor, LineageRefusedFor, MarkRefusedFor, SettleRefusedFor}
 use Rattle.cl_registry.specs.Settling.{MaySettle, SettledAs, Settles}
 use Rattle.cl_registry.specs.Tables.{Shown, Defines, DefinedAs, Initiates, InitiatedAs, MayEnter, MayJoin, asked_record, own_record, records_of, row_for, settled_at, state_of}
 use Rattle.cl_registry.proofs.Settled.{settled_is_told}
 use Rattle.cl_tasks.specs.Follows.{IsSettledOf}
-use Rattle.cl_tasks.specs.Waits.{Defining, Initiating, Settling, Imposing, Ended}
-use Rattle.cl_schedule.specs.Replies.{Did, ImposesBy, IsReplied, PreparesBy, SettlesBy, refusal_of}
+use Rattle.cl_tasks.specs.Waits.{Waits, Defining, Initiating, Tracing, Settling, Imposing, Marking, Ended}
+use Rattle.cl_schedule.specs.Replies.{Did, ImposesBy, IsReplied, PreparesBy, SettlesBy, reply_of}
 use Rattle.cl_schedule.proofs.Histories.{goes_by, goes_event}
 
 -- ---- what was done
@@ -93,49 +93,73 @@ blamed x new need n same b = record {
   refused = subst (λ (y : Shown). Refused (state_of y) (need_of n)) (sym same) (subst (Refused (state_of x)) (sym b.is) b.refused);
 }
 
-pub define_refused : (A : Type 0) (x new : Shown) (d : Drafted) (fault : RegistryFault) → MayEnter x d → DefineRefusedFor x d fault → new ≡ x → IsReplied {A = A} new (Defining d) (refusal_of fault)
-define_refused A x new d Memory may refused same = record { fits = λ e. ended e; tells = tt; shows = tt }
+-- what a refused call is answered: nothing where the tables do not bear it, else a reply to it
+abbrev TellsRefused : (A : Type 0) → Type 0 → Shown → Waits → RegistryFault → Type 0
+TellsRefused A bears new waits fault = MatchOption (reply_of {A = A} fault) (bears → ⊥) (λ r. IsReplied new waits r)
+
+pub define_answered : (A : Type 0) (x new : Shown) (d : Drafted) (fault : RegistryFault) → DefineRefusedFor x d fault → new ≡ x → TellsRefused A (MayEnter x d) new (Defining d) fault
+define_answered A x new d Memory refused same = record { fits = λ e. ended e; tells = tt; shows = tt }
   where
     ended : Defining d ≡ Ended → ⊥
     ended e = cc
-define_refused A x new d Stray may refused same = absurd (refused.1 may)
-define_refused A x new d (Violates n) may refused same = let b = blamed x new (own_record d) n same refused.2 in record { fits = b.is; tells = b.refused; shows = tt }
-define_refused A x new d AlreadyPosted may refused same = absurd refused
-define_refused A x new d NotYet may refused same = absurd refused
+define_answered A x new d Stray refused same = refused.1
+define_answered A x new d (Violates n) refused same = let b = blamed x new (own_record d) n same refused.2 in record { fits = b.is; tells = b.refused; shows = tt }
+define_answered A x new d AlreadyPosted refused same = absurd refused
+define_answered A x new d NotYet refused same = absurd refused
 
-pub initiate_refused : (A : Type 0) (x new : Shown) (h : Located) (fault : RegistryFault) → MayJoin x h → InitiateRefusedFor x h fault → new ≡ x → IsReplied {A = A} new (Initiating h) (refusal_of fault)
-initiate_refused A x new h Memory may refused same = record { fits = λ e. ended e; tells = tt; shows = tt }
+pub initiate_answered : (A : Type 0) (x new : Shown) (h : Located) (fault : RegistryFault) → InitiateRefusedFor x h fault → new ≡ x → TellsRefused A (MayJoin x h) new (Initiating h) fault
+initiate_answered A x new h Memory refused same = record { fits = λ e. ended e; tells = tt; shows = tt }
   where
     ended : Initiating h ≡ Ended → ⊥
     ended e = cc
-initiate_refused A x new h Stray may refused same = absurd (refused.1 may)
-initiate_refused A x new h (Violates n) may refused same = let b = blamed x new (asked_record h) n same refused.2 in record { fits = b.is; tells = b.refused; shows = tt }
-initiate_refused A x new h AlreadyPosted may refused same = absurd refused
-initiate_refused A x new h NotYet may refused same = absurd refused
+initiate_answered A x new h Stray refused same = refused.1
+initiate_answered A x new h (Violates n) refused same = let b = blamed x new (asked_record h) n same refused.2 in record { fits = b.is; tells = b.refused; shows = tt }
+initiate_answered A x new h AlreadyPosted refused same = absurd refused
+initiate_answered A x new h NotYet refused same = absurd refused
 
-pub impose_refused : (A : Type 0) (x new : Shown) (l : Listed) (k : ℕ) (fault : RegistryFault) → MayImpose x l k → ImposeRefusedFor x l k fault → new ≡ x → IsReplied {A = A} new (Imposing l k) (refusal_of fault)
-impose_refused A x new l k Memory may refused same = record { fits = λ e. ended e; tells = tt; shows = tt }
+pub lineage_answered : (A : Type 0) (x : Shown) (c : Class) (fault : RegistryFault) → LineageRefusedFor x c fault → TellsRefused A (IsRecorded (state_of x) c) x (Tracing c) fault
+lineage_answered A x c Memory refused = record { fits = λ e. ended e; tells = tt; shows = tt }
   where
-    ended : Imposing l k ≡ Ended → ⊥
+    ended : Tracing c ≡ Ended → ⊥
     ended e = cc
-impose_refused A x new l k Stray may refused same = absurd (refused may)
-impose_refused A x new l k (Violates n) may refused same = let b = by_entry (slice_get l.needs k) refl refused.1 in record { fits = b.0; tells = b.1; shows = tt }
-  where
-    by_entry : (o : Option Equality) → slice_get l.needs k ≡ o → IfSome o (λ e. Blames x n (equal_need e)) → (option_map equal_need (slice_get l.needs k) ≡ Some (need_of n)) × Refused (state_of new) (need_of n)
-    by_entry None at blames = absurd (past_end l.needs k at may.within)
-    by_entry (Some e) at blames = let b = blamed x new (equal_need e) n same blames in (ap (option_map equal_need) at ∙ b.is, b.refused)
-impose_refused A x new l k AlreadyPosted may refused same = absurd refused
-impose_refused A x new l k NotYet may refused same = absurd refused
+lineage_answered A x c Stray refused = refused
+lineage_answered A x c (Violates n) refused = absurd refused
+lineage_answered A x c AlreadyPosted refused = absurd refused
+lineage_answered A x c NotYet refused = absurd refused
 
-pub settle_refused : (A : Type 0) (x new : Shown) (f : Answered) (fault : RegistryFault) → MaySettle x f → SettleRefusedFor x f fault → IsReplied {A = A} new (Settling f.request) (refusal_of fault)
-settle_refused A x new f Memory may refused = record { fits = λ e. ended e; tells = tt; shows = tt }
+pub settle_answered : (A : Type 0) (x new : Shown) (f : Answered) (fault : RegistryFault) → SettleRefusedFor x f fault → TellsRefused A (MaySettle x f) new (Settling f.request) fault
+settle_answered A x new f Memory refused = record { fits = λ e. ended e; tells = tt; shows = tt }
   where
     ended : Settling f.request ≡ Ended → ⊥
     ended e = cc
-settle_refused A x new f Stray may refused = absurd (refused.1 may)
-settle_refused A x new f (Violates n) may refused = absurd refused
-settle_refused A x new f AlreadyPosted may refused = absurd refused
-settle_refused A x new f NotYet may refused = absurd refused
+settle_answered A x new f Stray refused = refused.1
+settle_answered A x new f (Violates n) refused = absurd refused
+settle_answered A x new f AlreadyPosted refused = absurd refused
+settle_answered A x new f NotYet refused = absurd refused
+
+pub impose_answered : (A : Type 0) (x new : Shown) (l : Listed) (k : ℕ) (fault : RegistryFault) → ImposeRefusedFor x l k fault → new ≡ x → TellsRefused A (MayImpose x l k) new (Imposing l k) fault
+impose_answered A x new l k Memory refused same = record { fits = λ e. ended e; tells = tt; shows = tt }
+  where
+    ended : Imposing l k ≡ Ended → ⊥
+    ended e = cc
+impose_answered A x new l k Stray refused same = refused
+impose_answered A x new l k (Violates n) refused same = let b = by_entry (slice_get l.needs k) refl refused.1 in record { fits = b.0; tells = b.1; shows = tt }
+  where
+    by_entry : (o : Option Equality) → slice_get l.needs k ≡ o → IfSome o (λ e. Blames x n (equal_need e)) → (option_map equal_need (slice_get l.needs k) ≡ Some (need_of n)) × Refused (state_of new) (need_of n)
+    by_entry None at blames = absurd (past_end l.needs k at refused.0.within)
+    by_entry (Some e) at blames = let b = blamed x new (equal_need e) n same blames in (ap (option_map equal_need) at ∙ b.is, b.refused)
+impose_answered A x new l k AlreadyPosted refused same = absurd refused
+impose_answered A x new l k NotYet refused same = absurd refused
+
+pub mark_answered : (A : Type 0) (x new : Shown) (l : Listed) (fault : RegistryFault) → MarkRefusedFor x l fault → TellsRefused A (MayMark x l) new (Marking l) fault
+mark_answered A x new l Memory refused = record { fits = λ e. ended e; tells = tt; shows = tt }
+  where
+    ended : Marking l ≡ Ended → ⊥
+    ended e = cc
+mark_answered A x new l Stray refused = refused
+mark_answered A x new l (Violates n) refused = absurd refused
+mark_answered A x new l AlreadyPosted refused = absurd refused
+mark_answered A x new l NotYet refused = absurd refused
 
 -- ---- what a reference is settled to
 

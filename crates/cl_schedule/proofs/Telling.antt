@@ -57,24 +57,27 @@ marked_later old new (OfPreparation l) h so = prepared_later old new l.own.class
 
 -- ---- each reply to each call
 
+-- before the first call, of a read and behind the post, no reply but a refused need tells of the tables
+quiet_later : {A : Type 0} (told : Option Content) (old new : Shown) (given : Reply A) → IsAfter told old new → TellsOf old Beginning given → TellsOf new Beginning given
+quiet_later told old new reply.Start h so = tt
+quiet_later told old new (reply.Looked row) h so = tt
+quiet_later told old new (reply.Probed p) h so = tt
+quiet_later told old new (reply.Defined row) h so = tt
+quiet_later told old new (reply.Initiated row) h so = tt
+quiet_later told old new (reply.Lineage l) h so = tt
+quiet_later told old new (reply.LookedReference s) h so = tt
+quiet_later told old new (reply.Settled s) h so = tt
+quiet_later told old new reply.Imposed h so = tt
+quiet_later told old new (reply.LookedPrepared b) h so = tt
+quiet_later told old new reply.Marked h so = tt
+quiet_later told old new (reply.Refused need) h so = refused_goes told old new (need_of need) h.goes h.kept so
+quiet_later told old new reply.Memory h so = tt
+quiet_later told old new (reply.SourceFault f) h so = tt
+
 told_later : {A : Type 0} (told : Option Content) (old new : Shown) (w : Waits) (given : Reply A) → IsAfter told old new → IsCitedFor old w given → TellsOf old w given → TellsOf new w given
-told_later told old new Beginning reply.Start h cited so = tt
-told_later told old new Beginning (reply.Looked None) h cited so = tt
-told_later told old new Beginning (reply.Looked (Some row)) h cited so = tt
-told_later told old new Beginning (reply.Probed p) h cited so = tt
-told_later told old new Beginning (reply.Defined row) h cited so = tt
-told_later told old new Beginning (reply.Initiated row) h cited so = tt
-told_later told old new Beginning (reply.Lineage l) h cited so = tt
-told_later told old new Beginning (reply.LookedReference None) h cited so = tt
-told_later told old new Beginning (reply.LookedReference (Some s)) h cited so = tt
-told_later told old new Beginning (reply.Settled s) h cited so = tt
-told_later told old new Beginning reply.Imposed h cited so = tt
-told_later told old new Beginning (reply.LookedPrepared true) h cited so = tt
-told_later told old new Beginning (reply.LookedPrepared false) h cited so = tt
-told_later told old new Beginning reply.Marked h cited so = tt
-told_later told old new Beginning (reply.Refused need) h cited so = refused_goes told old new (need_of need) h.goes h.kept so
-told_later told old new Beginning reply.Memory h cited so = tt
-told_later told old new Beginning (reply.SourceFault f) h cited so = tt
+told_later told old new Beginning given h cited so = quiet_later told old new given h so
+told_later told old new (Reading l n) given h cited so = quiet_later told old new given h so
+told_later told old new Ended given h cited so = quiet_later told old new given h so
 told_later told old new (Looking l n) reply.Start h cited so = tt
 told_later told old new (Looking l n) (reply.Looked None) h cited so = tt
 told_later told old new (Looking l n) (reply.Looked (Some row)) h cited so = recorded_as_later old new l n row.value h.goes so
@@ -92,23 +95,6 @@ told_later told old new (Looking l n) reply.Marked h cited so = tt
 told_later told old new (Looking l n) (reply.Refused need) h cited so = refused_goes told old new (need_of need) h.goes h.kept so
 told_later told old new (Looking l n) reply.Memory h cited so = tt
 told_later told old new (Looking l n) (reply.SourceFault f) h cited so = tt
-told_later told old new (Reading l n) reply.Start h cited so = tt
-told_later told old new (Reading l n) (reply.Looked None) h cited so = tt
-told_later told old new (Reading l n) (reply.Looked (Some row)) h cited so = tt
-told_later told old new (Reading l n) (reply.Probed p) h cited so = tt
-told_later told old new (Reading l n) (reply.Defined row) h cited so = tt
-told_later told old new (Reading l n) (reply.Initiated row) h cited so = tt
-told_later told old new (Reading l n) (reply.Lineage o) h cited so = tt
-told_later told old new (Reading l n) (reply.LookedReference None) h cited so = tt
-told_later told old new (Reading l n) (reply.LookedReference (Some s)) h cited so = tt
-told_later told old new (Reading l n) (reply.Settled s) h cited so = tt
-told_later told old new (Reading l n) reply.Imposed h cited so = tt
-told_later told old new (Reading l n) (reply.LookedPrepared true) h cited so = tt
-told_later told old new (Reading l n) (reply.LookedPrepared false) h cited so = tt
-told_later told old new (Reading l n) reply.Marked h cited so = tt
-told_later told old new (Reading l n) (reply.Refused need) h cited so = refused_goes told old new (need_of need) h.goes h.kept so
-told_later told old new (Reading l n) reply.Memory h cited so = tt
-told_later told old new (Reading l n) (reply.SourceFault f) h cited so = tt
 told_later told old new (Defining d) reply.Start h cited so = tt
 told_later told old new (Defining d) (reply.Looked None) h cited so = tt
 told_later told old new (Defining d) (reply.Looked (Some row)) h cited so = tt
@@ -245,23 +231,6 @@ told_later told old new (Marking e) reply.Marked h cited so = marked_later old n
 told_later told old new (Marking e) (reply.Refused need) h cited so = refused_goes told old new (need_of need) h.goes h.kept so
 told_later told old new (Marking e) reply.Memory h cited so = tt
 told_later told old new (Marking e) (reply.SourceFault f) h cited so = tt
-told_later told old new Ended reply.Start h cited so = tt
-told_later told old new Ended (reply.Looked None) h cited so = tt
-told_later told old new Ended (reply.Looked (Some row)) h cited so = tt
-told_later told old new Ended (reply.Probed p) h cited so = tt
-told_later told old new Ended (reply.Defined row) h cited so = tt
-told_later told old new Ended (reply.Initiated row) h cited so = tt
-told_later told old new Ended (reply.Lineage l) h cited so = tt
-told_later told old new Ended (reply.LookedReference None) h cited so = tt
-told_later told old new Ended (reply.LookedReference (Some s)) h cited so = tt
-told_later told old new Ended (reply.Settled s) h cited so = tt
-told_later told old new Ended reply.Imposed h cited so = tt
-told_later told old new Ended (reply.LookedPrepared true) h cited so = tt
-told_later told old new Ended (reply.LookedPrepared false) h cited so = tt
-told_later told old new Ended reply.Marked h cited so = tt
-told_later told old new Ended (reply.Refused need) h cited so = refused_goes told old new (need_of need) h.goes h.kept so
-told_later told old new Ended reply.Memory h cited so = tt
-told_later told old new Ended (reply.SourceFault f) h cited so = tt
 
 pub tells_later : {A : Type 0} (told : Option Content) (old new : Shown) (t : Tasked) (given : Reply A) → IsAfter told old new → IsCitedFor old t.waits given → Tells old t given → Tells new t given
 tells_later told old new t given h cited tells = record { before = holds_later told old new t h tells.before; now = told_later told old new t.waits given h cited tells.now }

@@ -34,6 +34,12 @@ abbrev pub IsRead : {A : Type 0} → Turn A → Type 0
 IsRead (turn.Read l n) = Unit {0}
 IsRead other = ⊥
 
+-- a turn that asks for a call of the tables, and neither for a read nor for the post (5.3 to 5.4.3)
+abbrev pub IsOfTables : {A : Type 0} → Turn A → Type 0
+IsOfTables (turn.Read l n) = ⊥
+IsOfTables (turn.Post f) = ⊥
+IsOfTables other = Unit {0}
+
 -- a look finds nothing only where nothing is recorded, settled or prepared, and memory is wanting only where something is to be
 -- shared (5.3, 5.4.2, 5.4.3)
 abbrev pub Shows : {A : Type 0} → Shown → Waits → Reply A → Type 0
@@ -85,16 +91,11 @@ IsStepOf x other e = ⊥
 abbrev pub Did : Shown → Shown → (Step → Type 0) → Type 0
 Did old new such = (new ≡ old) ⊎ ((e : Step) × such e × GoesBy old new e)
 
--- a refusal that a task is told of: out of memory, or a need that is refused (5.3.4)
-abbrev pub IsTold : RegistryFault → Type 0
-IsTold faults.Memory = Unit {0}
-IsTold (faults.Violates n) = Unit {0}
-IsTold other = ⊥
-
--- the reply that such a refusal is (5.3.4)
-abbrev pub refusal_of : {A : Type 0} → RegistryFault → Reply A
-refusal_of (faults.Violates n) = reply.Refused n
-refusal_of other = reply.Memory
+-- the reply that a refusal is; none for a value that does not fit the tables (5.3.4)
+abbrev pub reply_of : {A : Type 0} → RegistryFault → Option (Reply A)
+reply_of faults.Memory = Some reply.Memory
+reply_of (faults.Violates n) = Some (reply.Refused n)
+reply_of other = None
 
 -- a call was made: what it did, and what the task is told of it; a source is read by a read alone (5.3 to 5.4.3)
 pub record CallSays {A S : Type 0} (told : Option Content) (x new : Shown) (u : Turn A) (given : Reply A) (count later : ℕ) (since source : S) : Type 0 where

@@ -8,4 +8,5 @@ mod seats;
 mod serve;
 
 pub use choices::simulate;
+pub use replies::{ask_registry, ask_source};
 pub use serve::{ServeFault, serve_one};

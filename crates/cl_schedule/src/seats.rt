@@ -13,7 +13,7 @@ ghost use Rattle.cl_schedule.specs.Paying.{PaysFor, StartsWithin};
 ghost use Rattle.cl_schedule.specs.Rooms.{HasTurned};
 ghost use Rattle.cl_schedule.specs.Seats.{IsReady, IsSeated, IsSeatedAt};
 
-use crate::replies::{read, reply_to};
+use crate::replies::{ask_source, reply_to};
 use crate::serve::ServeFault;
 use cl_config::Config;
 use cl_findings::Finding;
@@ -52,7 +52,7 @@ pub(crate) fn read_on<T: Told, S: Source<T>>(
 {
     loop {
         match task.turn(alloc, reply) {
-            Turn::Read(loader, name) => reply = read(alloc, source, loader, &name),
+            Turn::Read(loader, name) => reply = ask_source(alloc, source, loader, &name),
             call => return Seat { task, call },
         }
     }

@@ -23,10 +23,10 @@ loop-loader-preserved g c =
     let less = e.left in
     let before = inv.less in
     record {
-      expects = expects_read c.turn.new.self u c.read-reply.result e.asks c.read-reply.ensures.replied;
-      ready = λ x r ready. ready_on g.T.Told.told x r c.loop-loader.task c.turn.new.self c.loop-loader.reply c.read-reply.result c.in-Read.loader c.in-Read.name (inv.ready x r ready) says less (c.read-reply.ensures.replied x);
+      expects = expects_read c.turn.new.self u c.ask_source-reply.result e.asks c.ask_source-reply.ensures.replied;
+      ready = λ x r ready. ready_on g.T.Told.told x r c.loop-loader.task c.turn.new.self c.loop-loader.reply c.ask_source-reply.result c.in-Read.loader c.in-Read.name (inv.ready x r ready) says less (c.ask_source-reply.ensures.replied x);
       less = omega arith;
-      faults = count_told _ _ _ _ _ _ inv.faults (sym (owed_told c.loop-loader.task c.loop-loader.reply u inv.expects says.refused)) c.read-reply.ensures.faults;
+      faults = count_told _ _ _ _ _ _ inv.faults (sym (owed_told c.loop-loader.task c.loop-loader.reply u inv.expects says.refused)) c.ask_source-reply.ensures.faults;
       known = λ x r v at q.
           let k = inv.known x r v at q in
           absurd (no_read {A = g.row.T.Denot} (state_of x) r v c.loop-loader.task c.turn.new.self c.loop-loader.reply c.in-Read.loader c.in-Read.name k.0 k.1 e.own e.refused);

@@ -12,20 +12,20 @@ use Rattle.cl_schedule.specs.declared.seats.Seat.{Seat}
 use Rattle.cl_schedule.specs.Choices.{Piece, first_taken, piece, taken_by, takings}
 use Rattle.cl_schedule.specs.Places.{seat_at}
 
--- a measure of requests: by what is known of one it has its answer once it was taken so often
+-- a measure of requests: what may be known of one, and how often it is taken at most, by that, until it has its answer
 pub record Measure (A : Type 0) : Type 1 where
   -- what may be known of a request
   pub Known : Type 0
   -- it holds of a request in a state
   pub Fits : State → plans.Request → Known → Type 0
-  -- so often is a request taken at most, which was not begun
+  -- so often is a request taken at most in all
   pub all : Known → ℕ
-  -- a request that has this seat is taken at most so often
+  -- one that has this seat is taken at most so often from then on
   pub Within : State → Request → Known → ℕ → Seat A → Type 0
-  -- an answer is what it comes to
+  -- this answer may be given then
   pub Says : Known → Answer → Type 0
 
--- a request that has this seat, or none, is taken at most so often
+-- a request that has this seat, or was not begun, is taken at most so often from then on
 abbrev pub IsWithin : {A : Type 0} (m : Measure A) → State → Request → m.Known → ℕ → Option (Seat A) → Type 0
 IsWithin m s r k n seat = MatchOption seat (m.all k ≤ n) (m.Within s r k n)
 
@@ -33,25 +33,25 @@ IsWithin m s r k n seat = MatchOption seat (m.all k ≤ n) (m.Within s r k n)
 abbrev pub Posts : {A : Type 0} (m : Measure A) → Shown → Shown → ℕ → m.Known → Type 0
 Posts m old new q k = (a : Answer) × (rounds : List Step) × m.Says k a × (steps new ≡ steps old ++ Post q a ∷ rounds)
 
--- a request that had this seat, or none, was taken: it has its answer, or is taken once less
+-- a request that had this seat, or none, was taken: it has its answer, or is taken once less from then on
 abbrev pub ComesNearer : {A : Type 0} → Measure A → Shown → Shown → ℕ → Option (Seat A) → Option (Seat A) → Type 0
 ComesNearer m old new q before after =
     (r : Request) (k : m.Known) (n : ℕ)
     → slice_get old.script.requests q ≡ Some r → m.Fits (state_of old) (request_of r) k → IsWithin m (state_of old) r k (suc n) before
     → MatchOption after (Posts m old new q k) (m.Within (state_of new) r k n)
 
--- behind these pieces each request is taken as often at most as was known of it when it was taken first, but for those times
+-- behind these pieces each request is taken no more often in all than was known of it when it was taken first
 pub record AreWithin {A : Type 0} (m : Measure A) (x : Shown) (room : Room A) (ps : List Piece) : Type 0 where
   -- who was never taken was not begun
   pub untaken : (q : ℕ) → first_taken q ps ≡ None → seat_at room q ≡ None
   -- what was known of a request when it was taken first holds of it still
   pub fits : (q : ℕ) (r : plans.Request) (k : m.Known) (s : State) → first_taken q ps ≡ Some s → m.Fits s r k → m.Fits (state_of x) r k
-  -- and where it has no answer it is taken as often at most, but for those times
+  -- and where it has no answer it is taken at most as often as by that, but for the times that it was
   pub within : (q : ℕ) (r : Request) (k : m.Known) (s : State) (n : ℕ)
       → slice_get x.script.requests q ≡ Some r → IsOpen x q → first_taken q ps ≡ Some s → m.Fits s (request_of r) k → m.all k ≤ takings q ps + n
       → IsWithin m (state_of x) r k n (seat_at room q)
 
--- the answer of whom a choice takes is posted, where it was taken before as often as was known of it but once
+-- the answer of whom a choice takes is posted, where by what is known of it it is taken no more often behind this
 abbrev pub PostsInTime : {A : Type 0} → Measure A → Shown → Shown → ℕ → List Piece → Type 0
 PostsInTime m old new choice ps =
     (q : ℕ) (r : Scheduled) (k : m.Known)

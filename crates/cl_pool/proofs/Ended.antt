@@ -1,6 +1,6 @@
 -- What a registry is once the workers have ended and a request has no answer.
-use Rattle.std.proofs.Common.{◌≡◌, ◌⊎◌, inl, inr, ◌∙◌, ℕ, zero, suc, ◌<◌, true, List, [], ◌∷◌, length, Option, Some, None, Result, Ok, Err, refl, sym, arith, is_some}
-use Rattle.std.specs.Prelude.{IfErr, OnOk, slice_get}
+use Rattle.std.proofs.Common.{◌≡◌, ◌⊎◌, inl, inr, ◌∙◌, ℕ, zero, suc, ◌<◌, true, List, [], ◌∷◌, length, Option, Some, None, refl, sym, arith, is_some}
+use Rattle.std.specs.Prelude.{slice_get}
 use Rattle.std.proofs.lemmas.Option.{slice_get_within}
 use Rattle.cl_model.specs.declared.answer.Answer as rust
 use Rattle.cl_model.specs.Machine.{Scheduled}
@@ -56,15 +56,10 @@ is_unanswered x c s t over is config script =
 
 -- ---- what is answered
 
-pub when_ok : {A E : Type 0} (r : Result A E) (P : Type 0) → P → OnOk r P
-when_ok (Ok x) P p = p
-when_ok (Err e) P p = tt
-
 -- why there is no report of workers that may serve
-pub why_refused : {A B : Type 0} (r : Result B (PoolFault A)) (workers : ℕ) (c : Configured) (s : Scripted) → MayServe workers → IfErr r (FailsAs c s) → IfErr r (RefusedFor workers c s)
-why_refused (Ok x) workers c s may fails = tt
-why_refused (Err faults.Memory) workers c s may fails = may
-why_refused (Err faults.Workers) workers c s may fails = absurd fails
-why_refused (Err faults.NoThread) workers c s may fails = may
-why_refused (Err faults.Stray) workers c s may fails = may
-why_refused (Err (faults.Unanswered x)) workers c s may fails = (may, fails)
+pub why_refused : {A : Type 0} (fault : PoolFault A) (workers : ℕ) (c : Configured) (s : Scripted) → MayServe workers → FailsAs c s fault → RefusedFor workers c s fault
+why_refused faults.Memory workers c s may fails = may
+why_refused faults.Workers workers c s may fails = absurd fails
+why_refused faults.NoThread workers c s may fails = may
+why_refused faults.Stray workers c s may fails = may
+why_refused (faults.Unanswered x) workers c s may fails = (may, fails)

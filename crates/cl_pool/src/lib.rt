@@ -4,6 +4,7 @@
 mod desk;
 mod draws;
 mod fault;
+mod freeing;
 mod gate;
 mod hand;
 mod limits;

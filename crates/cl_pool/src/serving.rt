@@ -7,10 +7,12 @@ ghost use Rattle.cl_schedule.specs.Headline.{IsServed};
 use crate::desk::Desk;
 use crate::draws::{Draws, Seat};
 use crate::fault::PoolFault;
+use crate::freeing::free_rows;
 use crate::gate::Gate;
 use crate::limits::MOST_WORKERS;
 use crate::pool::Pool;
 use cl_config::{Config, Script};
+use cl_hierarchy::ClassRow;
 use cl_model::{Request, Told};
 use cl_registry::{Registry, Report};
 use cl_source::Source;
@@ -60,7 +62,13 @@ pub fn serve<T: Told + Send + Sync, S: Source<T> + Send, G: Gate, R: Threads + W
         config: _,
         script: _,
     } = pool;
-    finish(desk.into_inner(), &config, &script)
+    match finish(desk.into_inner(), &config, &script) {
+        Ok((report, rows)) => {
+            free_rows(rt, rows, workers);
+            Ok(report)
+        }
+        Err(fault) => Err(fault),
+    }
 }
 
 /// What the workers share, with the first seat.
@@ -131,13 +139,13 @@ fn run_workers<T: Told + Send + Sync, S: Source<T> + Send, G: Gate, R: Threads +
     )
 }
 
-/// What the registry reports, once the workers have ended.
+/// What the registry reports, once the workers have ended, with the rows, which are left to be freed.
 fn finish<T: Told>(
     mut desk: Desk<T>,
     config: &Config,
     script: &Script,
-) -> Result<Report, PoolFault<T>>
-    ensures served { IfOk result (IsServed T.told config.now script.now) }
+) -> Result<(Report, Vec<Arc<ClassRow<T>>>), PoolFault<T>>
+    ensures served { IfOk result (λ r. IsServed T.told config.now script.now r.0) }
     ensures refused { IfErr result (FailsAs config.now script.now) }
 {
     desk.pass_rounds();
@@ -157,8 +165,8 @@ fn finish<T: Told>(
         drop(registry);
         return Err(PoolFault::Stray);
     }
-    match registry.into_report() {
-        Ok(report) => Ok(report),
+    match registry.into_report_and_rows() {
+        Ok(report_and_rows) => Ok(report_and_rows),
         Err(refused) => Err(PoolFault::Unanswered(refused.registry)),
     }
 }

@@ -1,6 +1,6 @@
 //! The registry: what it has, how it begins and what it reports.
 
-ghost use Rattle.std.specs.Prelude.{◌≡◌, ◌≤◌, ◌+◌, OnOk, IfOk, IfErr, MatchBool, MatchOption, length};
+ghost use Rattle.std.specs.Prelude.{◌≡◌, ◌≤◌, ◌+◌, OnOk, IfOk, IfErr, MatchBool, MatchOption, length, map};
 ghost use Rattle.std.specs.Option.{option_map};
 ghost use Rattle.cl_registry.specs.Tables.{IsKept, LacksRecord, MayGoOn, Records, empty_of, looked, round_of, with_round};
 ghost use Rattle.cl_registry.specs.Refusals.{RoundRefusedFor};
@@ -205,13 +205,32 @@ impl<T: Told> Registry<T> {
         ensures last { OnOk result (self.script.rounds ≤ round_of self + 1) }
         ensures refused { IfErr result (λ e. (e.registry ≡ self) × IsUnfinished self) }
     {
+        match self.into_report_and_rows() {
+            Ok((report, rows)) => {
+                drop(rows);
+                Ok(report)
+            }
+            Err(refused) => Err(refused),
+        }
+    }
+
+    /// As `into_report`, with the rows of the classes that were defined, in order. They are most of a registry's memory:
+    /// who has threads may have several free them.
+    pub fn into_report_and_rows(self) -> Result<(Report, Vec<Arc<ClassRow<T>>>), NotYet<T>>
+        ensures whole { IfOk result (λ r. IsReport self r.0) }
+        ensures kept { IfOk result (λ r. IsKept T.told self) }
+        ensures loaders { IfOk result (λ r. IsNamed (length self.config.loaders) r.0) }
+        ensures rows { IfOk result (λ r. map (λ c. c.value) r.1.items ≡ self.rows) }
+        ensures last { OnOk result (self.script.rounds ≤ round_of self + 1) }
+        ensures refused { IfErr result (λ e. (e.registry ≡ self) × IsUnfinished self) }
+    {
         if self.left != 0 || self.round + 1 < self.script.rounds() {
             return Err(NotYet { registry: self });
         }
         let Registry {
             config: _,
             script,
-            rows: _,
+            rows,
             tables: _,
             book: _,
             references: _,
@@ -224,10 +243,11 @@ impl<T: Told> Registry<T> {
             left: _,
             room,
         } = self;
-        Ok(Report {
+        let report = Report {
             script,
             history: History::from(history),
             answers: Answers::from(collect(answers, room)),
-        })
+        };
+        Ok((report, rows))
     }
 }

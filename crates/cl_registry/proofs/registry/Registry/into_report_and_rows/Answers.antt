@@ -5,8 +5,8 @@ use Rattle.cl_registry.specs.Tables.{Shown, round_of}
 use Rattle.cl_registry.proofs.Histories.{first_open}
 use Rattle.cl_registry.proofs.Schedules.{round_left, no_round_left}
 use Rattle.cl_registry.proofs.Running.{report_names}
-use Rattle.cl_registry.proofs.registry.Registry.into_report.Goals as goal
-use Rattle.cl_registry.proofs.registry.Registry.into_report.Goals.{then-self-ne0-via-then-self-ne0, then-self-ne0-via-else-self-ne0+then-self-rounds}
+use Rattle.cl_registry.proofs.registry.Registry.into_report_and_rows.Goals as goal
+use Rattle.cl_registry.proofs.registry.Registry.into_report_and_rows.Goals.{then-self-ne0-via-then-self-ne0, then-self-ne0-via-else-self-ne0+then-self-rounds}
 
 pub returns-then-self-ne0-clause-refused : goal.returns-then-self-ne0-clause-refused
 returns-then-self-ne0-clause-refused g c = (

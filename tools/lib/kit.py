@@ -5,6 +5,7 @@ the tools touches the kit: after a new kit this file and `tools/wrong-bodies --s
 """
 import importlib.machinery
 import importlib.util
+import inspect
 import itertools
 import os
 import re
@@ -91,6 +92,11 @@ class Crate:
 def crates(root):
     """The repository's crates, each after those that it uses."""
     return [Crate(it) for it in rtlib.crates_below(root)]
+
+
+def ci_words():
+    """The words of an rt ci that takes nothing over from an earlier run on the machine: some kits do, and have a word against it."""
+    return ["rt", "ci", *["--anew"] * ("--anew" in inspect.getsource(rt))]
 
 
 def guard():

@@ -7,7 +7,7 @@ import time
 from dataclasses import dataclass
 
 from costs import Watch
-from kit import ci_words, guard
+from kit import ci_words, guard, lanes
 
 LAST = re.compile(r"^(\d+) passed, (\d+) failed$", re.M)
 SECTION = re.compile(r"^== (.*)\n", re.M)
@@ -43,6 +43,8 @@ def run(root, crates, file, when_proved=lambda crate, log: None, when_refused=la
     clear(crates)
     begun, lines, named = time.time(), [], {it.name: it for it in crates}
     how = {"cwd": root, "stdin": subprocess.DEVNULL, "stdout": subprocess.PIPE, "stderr": subprocess.STDOUT}
+    # (one job a proof: more cost more of processor, and the wrong bodies beside it take what cores it leaves; rt ci then plans no memory)
+    how["env"] = {**os.environ, "RT_JOBS": str(lanes())}
     # (anew, since of a crate that an earlier run on this machine proved rt ci prints nothing, and the trials go by what it prints)
     ran = subprocess.Popen([*guard(), *ci_words()], text=True, errors="replace", **how)
     try:

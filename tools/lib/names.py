@@ -10,8 +10,10 @@ MADE = "docs/EDITS.md"
 HOMES = {"docs/CLASSFILE.md": "crates/cl_classfile"}
 FOLDERS = "src specs proofs wrong must-fail".split()
 # Pages whose every name of code is a word of the tree, or of a later stage, which the section of ARCHITECTURE.md names.
-NAMING = re.compile(r"crates/\w+/README\.md|docs/(RULES|ARCHITECTURE|CLASSFILE)\.md")
+NAMING = re.compile(r"(crates/\w+/)?README\.md|docs/(RULES|ARCHITECTURE|CLASSFILE)\.md")
 NAME = re.compile(r"(?!_)\w+(::\w+)*(?=[(<]|$)")
+# What declares a type or adds to it: its head, and its body up to the brace at the margin.
+TYPED = re.compile(r"^(?:pub(?:\([\w ]+\))? )?(impl|trait|enum|struct)\b([^{;]*)\{(.*?)^\}", re.M | re.S)
 LATER = re.compile(r"^## Stages of the work$(.*?)^## ", re.M | re.S)
 # Names of Rust, of the host and of programs beside this one.
 OTHERS = set("Rc Cell RefCell strace statx openat mremap EINTR LD_PRELOAD clang".split())
@@ -32,12 +34,29 @@ class Tree:
 
     def __init__(self, root, files):
         self.root, self.places, self.words = root, set(files), set()
+        self.types, self.members = set(), {}
         for it in files:
             while it := os.path.dirname(it):
                 self.places.add(it)
         for it in files:
             if not it.endswith((".md", ".toml")):
-                self.words.update(re.findall(r"\w+", f"{os.path.basename(it)} {self.text(it)}"))
+                text = self.text(it)
+                self.words.update(re.findall(r"\w+", f"{os.path.basename(it)} {text}"))
+                self.take_members(text if it.endswith(".rt") else "")
+
+    def take_members(self, text):
+        """Which functions and variants each type of a file has."""
+        for what, head, body in TYPED.findall(text):
+            names = re.findall(r"\b[A-Z]\w*", head)
+            self.types.update(names[:1] if what != "impl" else [])
+            for it in names:
+                self.members.setdefault(it, set()).update(re.findall(r"\bfn (\w+)", body) + re.findall(r"^    (\w+)", body, re.M))
+
+    def has(self, name, later):
+        """Whether a name of code is there, or comes later: each of its parts, and of a type's function that the type has it."""
+        parts = name.split("::")
+        is_there = all(it in self.words or it in later for it in parts)
+        return is_there and (len(parts) < 2 or parts[0] not in self.types or parts[1] in self.members[parts[0]] | later)
 
     def text(self, file):
         with open(f"{self.root}/{file}", encoding="utf-8", errors="replace") as it:
@@ -89,13 +108,12 @@ def pages_name_what_is(root, files, _crates):
     tree = Tree(root, files)
     texts = {it: tree.text(it) for it in files if it.endswith(".md") and it != MADE}
     later = LATER.search(texts.get("docs/ARCHITECTURE.md", ""))
-    known = tree.words | OTHERS | set(re.findall(r"\w+", later[1] if later else ""))
+    known = OTHERS | set(re.findall(r"\w+", later[1] if later else ""))
     found = [*rules_are_found(texts["docs/RULES.md"])] if "docs/RULES.md" in texts else []
     for page, text in texts.items():
         for number, pieces in spans(text):
             found += [f"{page}:{number}: {it}" for it in unheld(tree, page, pieces)]
             for said in pieces[1::2] if NAMING.fullmatch(page) else []:
                 name = NAME.match(said)
-                wrong = [it for it in name[0].split("::") if it not in known] if name else []
-                found += [f"{page}:{number}: nothing is named {said}"] if wrong else []
+                found += [f"{page}:{number}: nothing is named {said}"] if name and not tree.has(name[0], known) else []
     return found

@@ -6,6 +6,7 @@ import os
 import re
 import subprocess
 
+import names
 import page
 from edits import FOLDERS, of_crate
 from source import files as texts_of, functions, names_of
@@ -102,7 +103,17 @@ def code_is_checked(_root, files, crates):
     ]
 
 
-RULES = (handles, nothing_made, code_is_checked, stands_alone, files_are_short, edits_apply, edits_name_functions, page_is_made)
+RULES = (
+    handles,
+    nothing_made,
+    code_is_checked,
+    stands_alone,
+    files_are_short,
+    edits_apply,
+    edits_name_functions,
+    page_is_made,
+    names.pages_name_what_is,
+)
 
 
 def long_clauses(root, files):

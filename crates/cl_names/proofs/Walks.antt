@@ -13,7 +13,7 @@ use Rattle.cl_names.specs.Bits.{lacks}
 use Rattle.std.proofs.lemmas.List.Folds.{list_all_more}
 use Rattle.std.proofs.lemmas.List.{length-drop, nil_from_length}
 use Rattle.cl_names.specs.Text.{is_single, is_text}
-use Rattle.cl_names.specs.Kind.{is_allowed, is_angle, has_class_form, has_unqualified_form}
+use Rattle.cl_names.specs.Kind.{is_allowed, has_class_form, has_unqualified_form}
 use Rattle.cl_names.proofs.Levels.{parts_from, class_parts, unqualified_split}
 
 -- bytes that spell a code unit each are a text
@@ -158,34 +158,3 @@ unfolding parts_from
 ends seen twice last bytes i le so_far =
     let none : drop i bytes ≡ [] = nil_from_length _ (omega (arith, length-drop i bytes)) in
     ap (λ (x : Bool). (lacks 4 seen && lacks 3 twice) && x) (sym (not_not (lacks 3 last))) ∙ ap (λ (r : List ℕ). (lacks 4 seen && lacks 3 twice) && parts_from (not (lacks 3 last)) r) (sym none) ∙ so_far ∙ sym (class_parts bytes)
-
--- ---- all of it, byte by byte
-
--- what was seen of the bytes before i
-pub record AreMarked (seen twice last : ℕ) (bytes : List ℕ) (i : ℕ) : Type 0 where
-  pub within : i ≤ length bytes
-  pub single : lacks 0 seen ≡ list_all is_single (take i bytes)
-  pub plain : lacks 1 seen ≡ list_all (λ p. not (is_angle p)) (take i bytes)
-  pub allowed : lacks 2 seen ≡ list_all is_allowed (take i bytes)
-  pub class : AreParts seen twice last bytes i
-
--- what the marks of a byte tell of it
-pub record Tell (marks b : ℕ) : Type 0 where
-  pub single : lacks 0 marks ≡ is_single b
-  pub plain : lacks 1 marks ≡ not (is_angle b)
-  pub allowed : lacks 2 marks ≡ is_allowed b
-  pub slash : lacks 3 marks ≡ not (b == 47)
-  pub parted : lacks 4 marks ≡ is_allowed b || b == 47
-
-pub unmarked : (bytes : List ℕ) → AreMarked 0 0 8 bytes 0
-unmarked bytes = record { within = omega arith; single = refl; plain = refl; allowed = refl; class = refl }
-
-pub one_marked : (seen twice last marks : ℕ) (bytes : List ℕ) (i j : ℕ) → i < length bytes → j ≡ i + 1 → Tell marks (get_or bytes i 0) → AreMarked seen twice last bytes i
-    → AreMarked (bit_or seen marks) (bit_or twice (bit_and marks last)) marks bytes j
-one_marked seen twice last marks bytes i j lt next tell so_far = rw next (record {
-  within = omega (arith, lt);
-  single = one_tested 0 is_single seen marks bytes i lt tell.single so_far.single;
-  plain = one_tested 1 (λ p. not (is_angle p)) seen marks bytes i lt tell.plain so_far.plain;
-  allowed = one_tested 2 is_allowed seen marks bytes i lt tell.allowed so_far.allowed;
-  class = goes_on seen twice last marks bytes i lt tell.slash tell.parted so_far.class;
-})

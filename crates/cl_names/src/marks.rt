@@ -66,8 +66,7 @@ fn marks_at(byte: u8) -> u8
     MARKS[byte as usize]
 }
 
-/// What the bytes are. Most texts are short, so no byte ends the walk, and it has no branch. Four bytes a turn spare most of
-/// what a loop costs for itself.
+/// What the bytes are. Most texts are short, so no byte ends the walk, and it has no branch.
 pub fn marks_of(bytes: &[u8]) -> Marks
     ensures single { result.single ≡ list_all is_single bytes.now }
     ensures class { result.class ≡ has_class_form bytes.now }
@@ -77,23 +76,11 @@ pub fn marks_of(bytes: &[u8]) -> Marks
     let mut seen = 0u8;
     let mut twice = 0u8;
     let mut last = SLASH;
-    let mut i = 0;
-    while 4 <= bytes.len() - i {
-        let a = marks_at(bytes[i]);
-        let b = marks_at(bytes[i + 1]);
-        let c = marks_at(bytes[i + 2]);
-        let d = marks_at(bytes[i + 3]);
-        seen = seen | a | b | c | d;
-        twice = twice | (a & last) | (b & a) | (c & b) | (d & c);
-        last = d;
-        i += 4;
-    }
-    while i < bytes.len() {
-        let marks = marks_at(bytes[i]);
+    for byte in bytes {
+        let marks = marks_at(*byte);
         seen |= marks;
         twice |= marks & last;
         last = marks;
-        i += 1;
     }
     Marks {
         single: seen & PART == 0,

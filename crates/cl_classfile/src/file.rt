@@ -12,7 +12,7 @@ ghost use Rattle.cl_classfile.specs.Raw.{plain_file, HoldsText};
 ghost use Rattle.cl_classfile.specs.View.{plain_parts};
 ghost use Rattle.cl_classfile.specs.Refusals.{Answers};
 ghost use Rattle.cl_classfile.specs.Indexes.{IsIndexOf};
-ghost use Rattle.cl_classfile.specs.Checking.{Gives, checked_tables, kept_file, parts_of};
+ghost use Rattle.cl_classfile.specs.Checking.{Finds, Gives, checked_attributes, checked_tables, kept_file, parts_of};
 ghost use Rattle.cl_classfile.specs.Reading.{header_at, read_of};
 
 use crate::attribute::Attribute;
@@ -20,10 +20,10 @@ use crate::checking::{check_class, class_name};
 use crate::entry::Entry;
 use crate::fault::{Fault, ReadError};
 use crate::flags::{is_interface, is_public};
-use crate::index::{Index, index_of};
+use crate::index::{Index, are_few, index_of};
 use crate::limits::MOST_ENTRIES;
 use crate::member::{Member, attributes_fit};
-use crate::members::{Kind, check_members};
+use crate::members::{Kind, check_few, check_members};
 use crate::numbers::numbers_of;
 use crate::parts::{Parts, Refused};
 use crate::raw::{RawEntry, borrowed_entries, owned_entries};
@@ -233,6 +233,16 @@ fn class_file(parts: Parts, index: Option<Index>) -> ClassFile
     }
 }
 
+/// Whether the attributes fit their widths.
+fn check_attributes(attributes: &[Attribute]) -> Result<(), Fault>
+    ensures { Finds (λ u. u) result (checked_attributes attributes.now) }
+{
+    if !attributes_fit(attributes) {
+        return Err(Fault::BadMember);
+    }
+    Ok(())
+}
+
 /// Whether the flags and the supertypes keep their tables, then the fields, the methods and the attributes. With the index
 /// of the members.
 #[tactic(auto, unfolding(crate::specs::Checking::checked_tables))]
@@ -246,12 +256,16 @@ fn check_tables(alloc: Global, traits: &[Traits], parts: &Parts) -> Result<Optio
     let of_interface = is_interface(parts.flags);
     let fields = parts.fields.as_slice();
     let methods = parts.methods.as_slice();
+    if are_few(fields, methods) {
+        check_few(Kind::Field, traits, pool, of_interface, fields)?;
+        check_few(Kind::Method, traits, pool, of_interface, methods)?;
+        check_attributes(parts.attributes.as_slice())?;
+        return Ok(None);
+    }
     let numbers = numbers_of(alloc, pool, fields, methods)?;
     check_members(alloc, Kind::Field, traits, &numbers, of_interface, fields)?;
     check_members(alloc, Kind::Method, traits, &numbers, of_interface, methods)?;
-    if !attributes_fit(parts.attributes.as_slice()) {
-        return Err(ReadError::Fault(Fault::BadMember));
-    }
+    check_attributes(parts.attributes.as_slice())?;
     Ok(index_of(alloc, numbers, fields, methods)?)
 }
 

@@ -29,6 +29,11 @@ pub struct Index {
     methods: Places,
 }
 
+/// Whether these members have no index.
+pub fn are_few(fields: &[Member], methods: &[Member]) -> bool {
+    fields.len() <= FEW && methods.len() <= FEW
+}
+
 /// The index of these members, which have these numbers, where they are many.
 pub fn index_of(
     alloc: Global,
@@ -40,7 +45,7 @@ pub fn index_of(
         → AreNoted pool numbers methods.now
         → IfOk result (λ o. IfSome o (λ i. Leads pool i fields.now methods.now)) }
 {
-    if fields.len() <= FEW && methods.len() <= FEW {
+    if are_few(fields, methods) {
         return Ok(None);
     }
     let fields = places_of(alloc, &numbers, fields)?;

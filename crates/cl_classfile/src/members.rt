@@ -3,11 +3,13 @@
 ghost use Rattle.std.specs.Prelude.{◌≡◌, List, [], ◌∷◌, ◌++◌, not, IfOk};
 ghost use Rattle.std.specs.List.{list_any};
 ghost use Rattle.cl_classfile.specs.Members.{Member};
-ghost use Rattle.cl_classfile.specs.Checking.{Gives, keeps_field, has_room, keeps_method_flags, keeps_method, keeps_member, same_member, checked_list};
+ghost use Rattle.cl_classfile.specs.Checking.{Finds, Gives, keeps_field, has_room, keeps_method_flags, keeps_method, keeps_member, same_member, checked_list};
 ghost use Rattle.cl_classfile.specs.Numbers.{AreNumbers, AreNoted, IsMemberNoted, number_of};
 ghost use Rattle.cl_classfile.specs.Seen.{HasPairs};
 ghost use Rattle.cl_classfile.specs.declared.entry.Entry.{Entry};
 
+use crate::checking::text_at;
+use crate::entry::Entry;
 use crate::fault::{Fault, ReadError};
 use crate::flags::{is_field_flags, is_init_flags, is_method_flags, is_static};
 use crate::limits::MOST_COUNTED;
@@ -72,6 +74,61 @@ fn keeps_member(kind: Kind, traits: &[Traits], of_interface: bool, member: &Memb
         Kind::Field => member.fits() && keeps_field(traits, of_interface, member),
         Kind::Method => member.fits() && keeps_method(traits, of_interface, member),
     }
+}
+
+/// Whether two members agree in name and descriptor. At one index there is one text, so its bytes are not looked at.
+#[tactic(auto, using(crate::proofs::MemberRows::reflexive))]
+fn same_member(pool: &[Entry], a: &Member, b: &Member) -> bool
+    ensures { result ≡ same_member pool.now a.now b.now }
+{
+    let Some(name) = text_at(pool, a.name_index()) else {
+        return false;
+    };
+    let Some(descriptor) = text_at(pool, a.descriptor_index()) else {
+        return false;
+    };
+    let Some(other_name) = text_at(pool, b.name_index()) else {
+        return false;
+    };
+    let Some(other_descriptor) = text_at(pool, b.descriptor_index()) else {
+        return false;
+    };
+    (a.name_index() == b.name_index() || name == other_name)
+        && (a.descriptor_index() == b.descriptor_index() || descriptor == other_descriptor)
+}
+
+/// Whether one of these agrees with the member.
+fn is_among(pool: &[Entry], members: &[Member], member: &Member) -> bool
+    ensures { result ≡ list_any (λ e. same_member pool.now e member.now) members.now }
+{
+    members.iter().any(|other| same_member(pool, other, member))
+}
+
+/// What `check_members` tells, of few members: each is compared with those before it, which takes no memory.
+#[tactic(auto, unfolding(crate::specs::Checking::checked_list))]
+pub fn check_few(
+    kind: Kind,
+    traits: &[Traits],
+    pool: &[Entry],
+    of_interface: bool,
+    members: &[Member],
+) -> Result<(), Fault>
+    ensures { Finds (λ u. u) result
+        (checked_list kind traits.now of_interface pool.now members.now) }
+{
+    if MOST_COUNTED < members.len() {
+        return Err(Fault::BadMember);
+    }
+    for i in 0..members.len() {
+        let member = &members[i];
+        if !keeps_member(kind, traits, of_interface, member) {
+            return Err(Fault::BadMember);
+        }
+        if is_among(pool, &members[..i], member) {
+            return Err(Fault::Duplicate);
+        }
+    }
+    Ok(())
 }
 
 /// Whether none of those seen has the name and the descriptor of this member, which is seen from now on.

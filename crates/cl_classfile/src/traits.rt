@@ -58,16 +58,17 @@ pub fn nothing() -> Traits
 fn special_of(text: &[u8]) -> Special
     ensures { result ≡ special_of text.now }
 {
+    // Hardly a text begins so.
+    let [b'<', ..] = text else {
+        return Special::Plain;
+    };
     if text == b"<init>".as_slice() {
         return Special::Init;
     }
     if text == b"<clinit>".as_slice() {
         return Special::Clinit;
     }
-    match text {
-        [b'<', ..] => Special::Angle,
-        _ => Special::Plain,
-    }
+    Special::Angle
 }
 
 pub fn is_field(form: Option<Form>) -> bool

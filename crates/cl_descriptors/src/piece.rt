@@ -106,6 +106,12 @@ fn brackets(bytes: &[u8]) -> Option<usize>
     ensures place { result ≡ position (λ b. not (b == 91)) bytes.now }
     ensures within { IfSome result (λ k. k < length bytes.now) }
 {
+    // Most types have none.
+    if let [first, ..] = bytes {
+        if *first != b'[' {
+            return Some(0);
+        }
+    }
     bytes.iter().position(|b| *b != b'[')
 }
 

@@ -13,6 +13,7 @@ use Rattle.cl_classfile.specs.declared.entry.Entry.TheVariants.{Utf8, Class}
 use Rattle.cl_classfile.specs.Pool.{at, IsText, NamesType, KeepsEntry}
 use Rattle.cl_classfile.specs.Structure.{NamesClass, KeepsInterface}
 use Rattle.cl_classfile.specs.Files.{text_of, type_of, type_name, is_array_name, no_array, class_name}
+use Rattle.cl_classfile.proofs.Judging.{differ}
 use Rattle.cl_names.specs.declared.kind.TheConstants.{MOST_TEXT_BYTES}
 
 -- each entry keeps its row
@@ -31,10 +32,6 @@ pub row_at : (pool : List Entry) (i : ℕ) (e : Entry) → Rows pool → at pool
 row_at pool i e rows h = at_kept (KeepsEntry pool) pool i e rows h
 
 -- ---- classes and arrays
-
-differ : (b : Bool) → b ≡ true → b ≡ false → ⊥
-differ true e f = absurd cc
-differ false e f = absurd cc
 
 last : (a b : Bool) → b ≡ false → a && b ≡ false
 last true b e = e

@@ -1,5 +1,5 @@
 -- The faults of the header, in the words of its bytes.
-use Rattle.std.proofs.Common.{◌≡◌, ◌≢◌, ◌⊎◌, ℕ, ◌^◌, ◌<◌, ◌≤◌, Bool, true, false, eqb, ltb, ◌&&◌, List, ◌++◌, length, take, drop, Ok, Err, refl, sym, ap, ◌∙◌, arith, inl, inr}
+use Rattle.std.proofs.Common.{◌≡◌, ◌≢◌, ℕ, ◌^◌, ◌<◌, ◌≤◌, Bool, true, false, eqb, ltb, ◌&&◌, List, ◌++◌, length, take, drop, Ok, Err, refl, sym, ap, ◌∙◌, arith, inl, inr}
 use Rattle.std.specs.Int.{Width, w16, w32, byte_len, from_be_bytes, to_be_bytes}
 use Rattle.std.proofs.lemmas.Bool.{cases_lt, lt-ltb, le-ltb, eqb-true}
 use Rattle.std.proofs.lemmas.List.{take_at, length-drop}
@@ -7,6 +7,7 @@ use Rattle.cl_classfile.specs.declared.fault.Fault.TheVariants.{BadMagic, Versio
 use Rattle.cl_classfile.specs.Structure.{magic, version, HasOtherMagic, HasOtherVersion}
 use Rattle.cl_classfile.specs.Reading.{Reader, number_at, then_at, magic_at, version_at, header_at}
 use Rattle.cl_classfile.proofs.Codec.{both, IsBytes, IsBytes-drop, IsCodec, number16, number32, ok_is, also}
+use Rattle.cl_classfile.proofs.Judging.{tests}
 
 -- a number stands where there are bytes enough
 short : (w : Width) (bytes : List ℕ) → length bytes < byte_len w → number_at w bytes ≡ Err Truncated
@@ -25,10 +26,6 @@ same_value {A} r s F c bytes x a fits e h same =
 -- the bytes that were read stand in front
 front : {A : Type 0} (r : Reader A) (s : A → List ℕ) (F : A → Type 0) → IsCodec r s F → (bytes : List ℕ) (x : A × List ℕ) (n : ℕ) → IsBytes bytes → r bytes ≡ Ok x → length (s x.0) ≡ n → take n bytes ≡ s x.0
 front r s F c bytes x n fits e len = let one = c.takes bytes x fits e in ap (take n) one.0.parts ∙ take_at (s x.0) x.1 n len
-
-tests : (b : Bool) → (b ≡ true) ⊎ (b ≡ false)
-tests true = inl refl
-tests false = inr refl
 
 differ : (b : Bool) → b ≡ false → b ≡ true → ⊥
 differ true e f = absurd cc

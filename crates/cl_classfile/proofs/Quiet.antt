@@ -15,6 +15,7 @@ use Rattle.cl_classfile.specs.Files.{class_name}
 use Rattle.cl_classfile.specs.Rows.{entry_traits, keeps_entry}
 use Rattle.cl_classfile.specs.Checking.{◌>>=◌, kept_entry, checked_entries, keeps_names, keeps_interfaces, checked_class, keeps_member, same_member, checked_members, checked_list, checked_tables, kept_file}
 use Rattle.cl_classfile.specs.Reading.{Reader, number_at, bytes_at, then_at, test_at, map_at, sized_at, many_at, counted_at, header_at, text_at, byte_at, signed_at, two_at, handle_at, wide_at, value_at, index_at, pair_at, other_at, entry_at, slot_at, next_place, entries_at, pool_at, class_at, interfaces_at, attribute_at, attributes_at, member_at, members_at, tables_at, Parts, parts_at, structure_of, structure_at, whole_of, read_of}
+use Rattle.cl_classfile.proofs.Judging.{differ}
 
 -- the header's own faults
 abbrev pub is_header : Fault → Bool
@@ -228,10 +229,6 @@ behind x =
     let two : IsQuiet (structure_behind x) = bind (parts_behind x) _ one (λ p. ok _) in
     let three : IsQuiet (whole_behind x) = bind (structure_behind x) _ two (λ s. choice (eqb (length s.1) 0) (Ok s.0) (Err Trailing) (ok _) (err Trailing refl)) in
     bind (whole_behind x) kept_file three file
-
-differ : (b : Bool) → b ≡ true → b ≡ false → ⊥
-differ true e f = absurd cc
-differ false e f = absurd cc
 
 by_header : (bytes : List ℕ) (f : Fault) (r : Result ((ℕ × (ℕ × ℕ)) × List ℕ) Fault) → is_header f ≡ true → read_of bytes ≡ Err f → header_at bytes ≡ r → header_at bytes ≡ Err f
 unfolding read_of whole_of structure_at parts_at parts_behind structure_behind whole_behind file_behind rest_at

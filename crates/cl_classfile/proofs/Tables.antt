@@ -1,5 +1,5 @@
 -- The tests of the tables, and what they say.
-use Rattle.std.proofs.Common.{◌≡◌, ◌⊎◌, ℕ, ◌+◌, ◌^◌, ◌<◌, Bool, true, false, cond, not, ◌&&◌, eqb, nat_eq, List, [], ◌∷◌, length, map, Option, Some, None, Result, Ok, Err, refl, sym, ap, ◌∙◌, arith, inl, inr}
+use Rattle.std.proofs.Common.{◌≡◌, ℕ, ◌+◌, ◌^◌, ◌<◌, Bool, true, false, cond, not, ◌&&◌, eqb, nat_eq, List, [], ◌∷◌, length, map, Option, Some, None, Result, Ok, Err, refl, sym, ap, ◌∙◌, arith, inl, inr}
 use Rattle.std.specs.Prelude.{is_some}
 use Rattle.std.specs.Bool.{Decides}
 use Rattle.std.specs.List.{AllByRecursion}
@@ -21,7 +21,7 @@ use Rattle.cl_classfile.specs.Rows.{entry_traits, keeps_entry}
 use Rattle.cl_classfile.specs.Checking.{◌>>=◌, kept_entry, checked_entries, may_stand_above, keeps_super, keeps_names, keeps_interfaces, checked_class, checked_list, checked_attributes, checked_tables, kept_file, checked_pool, parts_of}
 use Rattle.cl_classfile.proofs.Codec.{bind_ok, test_ok, ok_is, both}
 use Rattle.cl_classfile.proofs.Fitting.{short_tells, all_tell, attributes_tell, pool_says, pool_told, within}
-use Rattle.cl_classfile.proofs.Judging.{keeps_entry_says, keeps_entry_told}
+use Rattle.cl_classfile.proofs.Judging.{keeps_entry_says, keeps_entry_told, tests}
 use Rattle.cl_classfile.proofs.MemberRows.{fields_say, fields_told, methods_say, methods_told}
 use Rattle.cl_classfile.proofs.Classes.{Rows, class_says, class_named}
 
@@ -48,10 +48,6 @@ rows_told pool i (e ∷ es) fits h = rw (keeps_entry_told pool e fits.0 h.0, row
 some_is : {A : Type 0} (o : Option A) → is_some o ≡ true → (x : A) × (o ≡ Some x)
 some_is None e = absurd cc
 some_is (Some x) e = (x, refl)
-
-tests : (b : Bool) → (b ≡ true) ⊎ (b ≡ false)
-tests true = inl refl
-tests false = inr refl
 
 is_object : (name : List ℕ) → name ≡ object → pointwise nat_eq name object ≡ true
 is_object name e = ap (λ (n : List ℕ). pointwise nat_eq n object) e

@@ -24,9 +24,9 @@ pub struct Places {
 /// Where the fields and the methods of a class stand.
 #[derive(Debug, Drop)]
 pub struct Index {
-    numbers: Numbers,
-    fields: Places,
-    methods: Places,
+    pub(crate) numbers: Numbers,
+    pub(crate) fields: Places,
+    pub(crate) methods: Places,
 }
 
 /// Whether these members have no index.
@@ -81,34 +81,18 @@ impl Places {
     }
 }
 
-impl Index {
-    /// The field of this name and this descriptor, where these are the fields.
-    pub fn field<'a>(
-        &self,
-        fields: &'a [Member],
-        name: &Name,
-        descriptor: &Name,
-    ) -> Option<&'a Member>
-        ensures { option_map (λ m. m.now) result
-            ≡ led_to self.now.numbers self.now.fields fields.now name.now descriptor.now }
-    {
-        let name = self.numbers.number_of(name)?;
-        let descriptor = self.numbers.number_of(descriptor)?;
-        self.fields.member(fields, name, descriptor)
-    }
-
-    /// The method of this name and this descriptor, where these are the methods.
-    pub fn method<'a>(
-        &self,
-        methods: &'a [Member],
-        name: &Name,
-        descriptor: &Name,
-    ) -> Option<&'a Member>
-        ensures { option_map (λ m. m.now) result
-            ≡ led_to self.now.numbers self.now.methods methods.now name.now descriptor.now }
-    {
-        let name = self.numbers.number_of(name)?;
-        let descriptor = self.numbers.number_of(descriptor)?;
-        self.methods.member(methods, name, descriptor)
-    }
+/// The member of this name and this descriptor among these, which stand at these places by the numbers of their texts.
+pub fn led_to<'a>(
+    numbers: &Numbers,
+    places: &Places,
+    members: &'a [Member],
+    name: &Name,
+    descriptor: &Name,
+) -> Option<&'a Member>
+    ensures { option_map (λ m. m.now) result
+        ≡ led_to numbers.now places.now members.now name.now descriptor.now }
+{
+    let name = numbers.number_of(name)?;
+    let descriptor = numbers.number_of(descriptor)?;
+    places.member(members, name, descriptor)
 }

@@ -8,6 +8,7 @@ ghost use Rattle.cl_classfile.specs.Lookups.{field_named, method_named, linked_f
 use crate::checking::text_at;
 use crate::entry::Entry;
 use crate::file::ClassFile;
+use crate::index::led_to;
 use crate::member::Member;
 use cl_names::Name;
 
@@ -50,7 +51,7 @@ impl ClassFile {
             (field_named (file_of self.now) name.now descriptor.now) }
     {
         match self.index() {
-            Some(index) => index.field(self.fields(), name, descriptor),
+            Some(it) => led_to(&it.numbers, &it.fields, self.fields(), name, descriptor),
             None => find(self.pool(), self.fields(), name, descriptor),
         }
     }
@@ -62,7 +63,7 @@ impl ClassFile {
             (method_named (file_of self.now) name.now descriptor.now) }
     {
         match self.index() {
-            Some(index) => index.method(self.methods(), name, descriptor),
+            Some(it) => led_to(&it.numbers, &it.methods, self.methods(), name, descriptor),
             None => find(self.pool(), self.methods(), name, descriptor),
         }
     }

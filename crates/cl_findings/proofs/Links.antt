@@ -1,5 +1,5 @@
 -- The refusal of an equality of a preparation comes next in a link, where the content is told.
-use Rattle.std.proofs.Common.{◌≡◌, ◌∙◌, ℕ, zero, suc, List, [], ◌∷◌, ◌++◌, map, reverse, Option, Some, None, inl, inr, refl, sym, ap, subst, append_assoc}
+use Rattle.std.proofs.Common.{◌≡◌, ◌∙◌, ℕ, zero, suc, List, [], ◌∷◌, ◌++◌, map, reverse, Option, Some, None, refl, sym, ap, subst, append_assoc}
 use Rattle.std.specs.Prelude.{flat_map, option_map, slice_get, take}
 use Rattle.std.specs.List.{AllByRecursion}
 use Rattle.std.proofs.lemmas.Grind.{reverse_onto}
@@ -23,6 +23,7 @@ use Rattle.cl_model.proofs.Gone.{gone_on_next, link_goes_on}
 use Rattle.cl_model.proofs.Planned.{one_lineage}
 use Rattle.cl_model.proofs.Progress.{IsKept, lineage_kept}
 use Rattle.cl_model.proofs.Trees.{lineage_is_derived}
+use Rattle.cl_model.proofs.Aims.{next_left, next_right}
 use Rattle.cl_config.specs.Views.{Configured}
 use Rattle.cl_delegation.specs.Worlds.{world_of}
 use Rattle.cl_hierarchy.specs.Imposed.{AreOf, Listed, OfPreparation, Sprung, needs_of}
@@ -87,18 +88,9 @@ split_at (k ∷ ks) (suc place) c e =
 
 -- ---- what comes next in it
 
-next_first : (s : State) (xs ys : List Need) (n : Need) → IsNext s xs n → IsNext s (xs ++ ys) n
-next_first s [] ys n h = absurd h
-next_first s (x ∷ xs) ys n (inl e) = inl e
-next_first s (x ∷ xs) ys n (inr h) = inr (h.0, next_first s xs ys n h.1)
-
-next_after : (s : State) (xs ys : List Need) (n : Need) → AllMet s xs → IsNext s ys n → IsNext s (xs ++ ys) n
-next_after s [] ys n all h = h
-next_after s (x ∷ xs) ys n all h = inr (all.0, next_after s xs ys n all.1 h)
-
 pub next_in : (s : State) (front behind : List Kin) (k : Kin) (n : Need) → AllByRecursion (λ (b : Kin). AllMet s (constraints_of b)) front → IsNext s (constraints_of k) n → IsNext s (flat_map constraints_of (front ++ k ∷ behind)) n
-next_in s [] behind k n all h = next_first s (constraints_of k) (flat_map constraints_of behind) n h
-next_in s (b ∷ front) behind k n all h = next_after s (constraints_of b) (flat_map constraints_of (front ++ k ∷ behind)) n all.0 (next_in s front behind k n all.1 h)
+next_in s [] behind k n all h = next_left s (constraints_of k) (flat_map constraints_of behind) n h
+next_in s (b ∷ front) behind k n all h = next_right s (constraints_of b) (flat_map constraints_of (front ++ k ∷ behind)) n all.0 (next_in s front behind k n all.1 h)
 
 pub all_front : {A : Type 0} (P : A → Type 0) (xs ys : List A) → AllByRecursion P (xs ++ ys) → AllByRecursion P xs
 all_front P [] ys h = tt

@@ -19,8 +19,8 @@ use Rattle.cl_model.proofs.Bind.{some_same, ok_same, err_same, ok_not_err}
 use Rattle.cl_model.proofs.Heights.{loaded, found, sought, grown, others_after, checked, finished, interfaces_next, superclass_next, circle_or}
 use Rattle.cl_model.proofs.Derived.{derive_yields}
 use Rattle.cl_model.proofs.Derivations.{good_or_fails}
-use Rattle.cl_model.proofs.Complete.{Upto, upto_self, upto_then, all_either, fits_still, file_is}
-use Rattle.cl_model.proofs.Outcomes.{wrong_split}
+use Rattle.cl_model.proofs.Complete.{Upto, upto_self, upto_then, all_either, fits_still, file_is, upto_less}
+use Rattle.cl_model.proofs.Outcomes.{wrong_split, judged_still}
 use Rattle.cl_model.proofs.Circles.{IsThere, Leads, leads_comes, LeadsHere, here_next, nothing_leads, one_derivation}
 use Rattle.cl_model.proofs.Closed.{met_both, all_left, all_right, recorded_is_met}
 use Rattle.cl_model.proofs.Looks.{answers_met}
@@ -39,32 +39,20 @@ record EndsWell (w : World) (path : List Class) (t : Class) : Type 0 where
   pub is : derive w height path t ≡ Some made
   pub ends : made.ends ≡ Ok kin
 
-upto_down : (n b : ℕ) → Upto (suc n) (suc b) → Upto n b
-upto_down n b (inl e) = let same : n ≡ b = cc in subst (λ (x : ℕ). Upto n x) same (upto_self n)
-upto_down n b (inr h) = upto_pred n b h
-  where
-    suc_is : (x y : ℕ) → suc x ≡ suc y → x ≡ y
-    suc_is x y e = cc
-
-    upto_pred : (x y : ℕ) → Upto (suc x) y → Upto x y
-    upto_pred x zero h = absurd (let e : suc x ≡ zero = h in cc)
-    upto_pred x (suc y) (inl e) = inr (subst (λ (z : ℕ). Upto x z) (suc_is x y e) (upto_self x))
-    upto_pred x (suc y) (inr k) = inr (upto_pred x y k)
-
 -- what is good is not met again below itself, so its derivation ends well
 good_ends : (w : World) (bound n : ℕ) (path : List Class) (t : Class) → Upto n bound → LeadsHere w path t → Good w n t → EndsWell w path t
 good_ends w bound zero path t u here g = absurd g
 good_ends w zero (suc n) path t u here g = absurd (let e : suc n ≡ zero = u in cc)
 good_ends w (suc b) (suc n) path t u here g = elim (all_either w (suc n) (suc n) path t (upto_self (suc n)) g) [
   | inl h ↦ record { height = suc n; kin = h.0; made = h.1.made; is = h.1.is; ends = h.1.ends }
-  | inr h ↦ again h.0 h.1 (λ j v z. good_ends w b j path t (upto_then j n b v (upto_down n b u)) here z) h.4 h.5 (here h.0 h.3)
+  | inr h ↦ again h.0 h.1 (λ j v z. good_ends w b j path t (upto_then j n b v (upto_less n b u)) here z) h.4 h.5 (here h.0 h.3)
 ]
   where
     again : (x : Class) (j : ℕ) → ((k : ℕ) → Upto k n → Good w k t → EndsWell w path t) → Upto j (suc n) → Good w j x → Leads w x t → EndsWell w path t
     again x zero below v k l = absurd k
     again x (suc j) below v k l = (let d = leads_comes w j x t (inl k) l in
         elim d.2 [
-          | inl z ↦ below d.0 (upto_then d.0 j n d.1 (upto_down j n v)) z
+          | inl z ↦ below d.0 (upto_then d.0 j n d.1 (upto_less j n v)) z
           | inr z ↦ absurd (good_or_fails w (suc n) d.0 t z.0 g z.1)
         ])
 
@@ -448,9 +436,6 @@ circle_ends w s r absent xs al place an closed u at again =
     ends_at w s (ClassCircularity t) r absent xs al an closed u (λ n here.
     load_hits w s g (derive w n path) (absent_under absent xs) al an place at
     (first_hits s g (derive w n path t) (loaded w al an place) (circle_hits w s n path t again)))
-
-judged_still : (w : World) (c : Class) (a : Above) (t : Class) (k : Kin) (o : Option Error) → Fitting w c a.role o t → k.class ≡ t → HasFile w t k.file → misfit c a.role k.class k.file ≡ o
-judged_still w c a t k o fit e h = ap (λ (x : Class). misfit c a.role x k.file) e ∙ ap (λ (x : File). misfit c a.role t x) (file_is k.file fit.file (file_of w t) h fit.has_file) ∙ fit.judged
 
 refused_hits : (w : World) (s : State) (n : ℕ) (path : List Class) (c : Class) (e : Error) → IsClosed w s → LeadsHere w path c → (a : Above) (more : List Above) → IsJudged w s c (Some e) a × NextAt w c a → Every (load_by w (derive w n (c ∷ path)) NoClassDef c.loader a.name >>= checked w (derive w n (c ∷ path)) c a more) (Hits s (EndsIn e))
 refused_hits w s n path c e closed here a more q =

@@ -10,7 +10,7 @@ use Rattle.cl_model.specs.Lineages.{Kin, classes, lineage}
 use Rattle.cl_model.specs.Preparation.{constraints_of}
 use Rattle.cl_model.specs.States.{State, Need, Entry, Verdict, IsClass, IsLinked, Wrong, Linkage, recorded, Met, AllMet, MayAdd, IsNext, Refused}
 use Rattle.cl_model.specs.Works.{Made}
-use Rattle.cl_model.specs.Plans.{derive, load, Request, Load, Resolve, Link, loaded_by, go_on_with, Plan, plan_after, plan_from, needs_of, ending}
+use Rattle.cl_model.specs.Plans.{load, Request, Load, Resolve, Link, loaded_by, go_on_with, Plan, plan_after, plan_from, needs_of, ending}
 use Rattle.cl_model.specs.Machine.{Setting, HasLineage, IsPlan, IsClosed, Answers, AnswersPlan, MaySay, RestsOn, step_for}
 use Rattle.cl_model.specs.Service.{Want, ToStand, ToPrepare, FulfilsAll, IsFirst, to_stand, to_link, WantsPast, HasWants, IsNextNeed, IsNextStep, IsLinkedIn, ComesTo}
 use Rattle.cl_model.specs.Frames.{EndsHere}
@@ -23,11 +23,12 @@ use Rattle.cl_model.proofs.Complete.{is_class}
 use Rattle.cl_model.proofs.Looks.{answers_met}
 use Rattle.cl_model.proofs.Pieces.{fulfilled_of, first_right, first_left, linked_of, links_first}
 use Rattle.cl_model.proofs.Planned.{one_plan, one_lineage, one_resolution, plan_exists}
-use Rattle.cl_model.proofs.Progress.{IsEntry, IsEquality, never_both, next_is, flat_are, constraints_are}
+use Rattle.cl_model.proofs.Progress.{IsEquality, never_both, next_is, flat_are, constraints_are}
 use Rattle.cl_model.proofs.Reached.{reached, then_some, map_is}
 use Rattle.cl_model.proofs.Service.{to_stand_both, next_is_first, answers_over, need_next, load_wants, resolve_wants}
 use Rattle.cl_model.proofs.Tables.{EndsFor, ends_for, answered_records, end_or_refused, recorded_reached, reached_records, refused_no_class, wrong_no_class, one_class, refused_not_linked, wrong_not_linked, one_linked}
 use Rattle.cl_model.proofs.Trees.{derive_gives, all_two}
+use Rattle.cl_model.proofs.Aims.{next_left, next_right}
 
 -- ---- plans whose request's class is recorded
 
@@ -100,20 +101,11 @@ gone_on_ends w s r c needs v goes all = record {
   ends = goes.ends;
 }
 
-pub next_after : (s : State) (xs ys : List Need) (n : Need) → AllMet s xs → IsNext s ys n → IsNext s (xs ++ ys) n
-next_after s [] ys n all h = h
-next_after s (x ∷ xs) ys n all h = inr (all.0, next_after s xs ys n all.1 h)
-
-next_first : (s : State) (xs ys : List Need) (n : Need) → IsNext s xs n → IsNext s (xs ++ ys) n
-next_first s [] ys n h = absurd h
-next_first s (x ∷ xs) ys n (inl e) = inl e
-next_first s (x ∷ xs) ys n (inr h) = inr (h.0, next_first s xs ys n h.1)
-
 pub gone_on_next : (w : World) (s : State) (r : Request) (c : Class) (needs : List Need) (v : Verdict) (n : Need) → GoesOn w s r c needs v → IsNext s needs n → IsNextNeed w s r n
 gone_on_next w s r c needs v n goes h = record {
   plan = goes.plan;
   planned = goes.planned;
-  next = next_after s goes.plan.own goes.plan.more n goes.own (subst (λ (ns : List Need). IsNext s ns n) (sym goes.more) (next_after s goes.before needs n goes.met h));
+  next = next_right s goes.plan.own goes.plan.more n goes.own (subst (λ (ns : List Need). IsNext s ns n) (sym goes.more) (next_right s goes.before needs n goes.met h));
 }
 
 -- ---- links
@@ -173,14 +165,14 @@ link_comes g s loader place name k closed rec lin all =
     }
 
 -- what is next and refused is the answer
-refused_answer : (s : State) (ns : List Need) (ends : Verdict) (n : Need) → IsNext s ns n → Refused s n → Answers s ns ends (Linkage n)
+pub refused_answer : (s : State) (ns : List Need) (ends : Verdict) (n : Need) → IsNext s ns n → Refused s n → Answers s ns ends (Linkage n)
 refused_answer s [] ends n h r = absurd h
 refused_answer s (x ∷ ns) ends n (inl e) r = inr (subst (λ (y : Need). Refused s y) (sym e) r, ap (λ (y : Need). Linkage y) (sym e))
 refused_answer s (x ∷ ns) ends n (inr h) r = inl (h.0, refused_answer s ns ends n h.1 r)
 
 next_linking : (s : State) (before behind : List Kin) (k : Kin) (n : Need) → AllByRecursion (IsLinkedIn s) before → IsNext s (constraints_of k) n → IsNext s (flat_map constraints_of (before ++ k ∷ behind)) n
-next_linking s [] behind k n all h = next_first s (constraints_of k) (flat_map constraints_of behind) n h
-next_linking s (b ∷ before) behind k n all h = next_after s (constraints_of b) (flat_map constraints_of (before ++ k ∷ behind)) n all.0.imposed (next_linking s before behind k n all.1 h)
+next_linking s [] behind k n all h = next_left s (constraints_of k) (flat_map constraints_of behind) n h
+next_linking s (b ∷ before) behind k n all h = next_right s (constraints_of b) (flat_map constraints_of (before ++ k ∷ behind)) n all.0.imposed (next_linking s before behind k n all.1 h)
 
 pub link_refusal_comes : (g : Setting) (s : State) (loader place : ℕ) (name : Name) (l k : Kin) (before behind : List Kin) (n : Need) → IsClosed g.world s → recorded s.records loader name ≡ Some place → HasLineage g.world (class name place) l
     → lineage l ≡ before ++ k ∷ behind → AllByRecursion (IsLinkedIn s) before → IsNext s (constraints_of k) n → Refused s n → ComesTo g s (Link loader name) (Linkage n)
@@ -272,7 +264,7 @@ load_refusal_comes g s r p n is h refused =
       wants = to_stand p.own ++ past.0;
       wanted = record { planned = is; past = past.0; follows = past.1; whole = refl };
       over = inr (n, first_left s (to_stand p.own) past.0 (ToStand n) (next_is_first s p.own n h), refused);
-      may_say = record { plan = p; planned = is; answered = refused_answer s (needs_of p) p.ends n (next_first s p.own p.more n h) refused; rests = rests_refused s r p n h refused };
+      may_say = record { plan = p; planned = is; answered = refused_answer s (needs_of p) p.ends n (next_left s p.own p.more n h) refused; rests = rests_refused s r p n h refused };
     }
 
 -- ---- records that come next

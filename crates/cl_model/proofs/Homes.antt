@@ -66,7 +66,7 @@ abbrev OfJava : World → Name → ℕ → Option ℕ
 OfJava w name l = if is_loader w l then own_home w 0 name else None
 
 -- the first loader is one, if any is
-first_is_loader : (w : World) (l : ℕ) → is_loader w l ≡ true → is_loader w 0 ≡ true
+pub first_is_loader : (w : World) (l : ℕ) → is_loader w l ≡ true → is_loader w 0 ≡ true
 first_is_loader w l h = grind (arith, nat_tests)
 
 java_at : (w : World) (name : Name) (l m : ℕ) (b : Bool) → is_loader w l ≡ b → (if b then own_home w 0 name else None) ≡ Some m → OfJava w name m ≡ Some m

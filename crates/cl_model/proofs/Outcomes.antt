@@ -54,7 +54,7 @@ load_absent w d absent loader name h =
     (ill_ends (or_fail (absent (class name loader)) (home w loader name)) (found w d loader name) (absent (class name loader)) (or_fail_ill (absent (class name loader)) (home w loader name) h))
 
 -- a supertype that is loaded is judged as its file says
-judged_still : (w : World) (c : Class) (a : Above) (s : Class) (k : Kin) (o : Option Error) → Fitting w c a.role o s → k.class ≡ s → HasFile w s k.file → misfit c a.role k.class k.file ≡ o
+pub judged_still : (w : World) (c : Class) (a : Above) (s : Class) (k : Kin) (o : Option Error) → Fitting w c a.role o s → k.class ≡ s → HasFile w s k.file → misfit c a.role k.class k.file ≡ o
 judged_still w c a s k o fit e h =
     ap (λ (x : Class). misfit c a.role x k.file) e ∙ ap (λ (x : File). misfit c a.role s x) (file_is k.file fit.file (file_of w s) h fit.has_file) ∙ fit.judged
 

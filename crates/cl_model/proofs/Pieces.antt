@@ -22,8 +22,10 @@ use Rattle.cl_model.proofs.Bind.{some_same}
 use Rattle.cl_model.proofs.Planned.{one_plan, one_lineage}
 use Rattle.cl_model.proofs.Sound.{one_reference_answer}
 use Rattle.cl_model.proofs.Reached.{reference_answered, reference_is_plan}
-use Rattle.cl_model.proofs.Service.{to_stand_both, resolve_wants, next_is_first, state_append}
+use Rattle.cl_model.proofs.Service.{to_stand_both, resolve_wants, next_is_first}
 use Rattle.cl_model.proofs.Tables.{reached_records}
+use Rattle.cl_model.proofs.Aims.{next_left}
+use Rattle.cl_model.proofs.Views.{state_then}
 
 -- ---- wants in two parts
 
@@ -51,11 +53,6 @@ needs_alone : (s : State) (ns : List Need) (c : Class) → IsFirst s (to_stand n
 needs_alone s [] c h = h
 needs_alone s (m ∷ ns) c (inl e) = absurd cc
 needs_alone s (m ∷ ns) c (inr h) = needs_alone s ns c h.1
-
-next_left : (s : State) (xs ys : List Need) (n : Need) → IsNext s xs n → IsNext s (xs ++ ys) n
-next_left s [] ys n h = absurd h
-next_left s (x ∷ xs) ys n (inl e) = inl e
-next_left s (x ∷ xs) ys n (inr h) = inr (h.0, next_left s xs ys n h.1)
 
 -- ---- what links a lineage
 
@@ -342,5 +339,5 @@ pub no_round_left : (g : Setting) (q : ℕ) (s : State) (rs : List Scheduled) (e
 no_round_left g q s [] es all may = passes_none g s es all may
 no_round_left g q s (r ∷ rs) es all may =
     let t = state_after (state_after s all.0) all.1 in
-    let here : state_after s es ≡ state_after t all.2 = ap (state_after s) all.3 ∙ state_append s all.0 (all.1 ++ all.2) ∙ state_append (state_after s all.0) all.1 all.2 in
+    let here : state_after s es ≡ state_after t all.2 = ap (state_after s) all.3 ∙ state_then s all.0 (all.1 ++ all.2) ∙ state_then (state_after s all.0) all.1 all.2 in
     no_round_left g (suc q) t rs all.2 all.6 (subst (λ (u : State). MayGoOn g u) here may)

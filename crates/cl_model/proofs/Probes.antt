@@ -13,6 +13,7 @@ use Rattle.cl_classfile.specs.Files.{Name}
 use Rattle.cl_model.specs.Homes.{World, Loader, Order, ParentFirst, ChildFirst, own_home, first_home, in_order, undecided, decisive, home_at, home_below, home, is_java, is_loader}
 use Rattle.cl_model.specs.Probes.{in_turn, probes_at, probes_below, is_in, first_places, probes, has_own, EachOnce}
 use Rattle.cl_model.proofs.Trees.{all_two}
+use Rattle.cl_model.proofs.Homes.{first_is_loader}
 
 -- ---- each at its first place alone
 
@@ -161,10 +162,6 @@ below_are w name (suc n) loader = at (λ p. below_are w name n p) (loader == n)
     at : ((p : ℕ) → AreLoaders w (probes_below w name n p)) → (b : Bool) → AreLoaders w (elim b as (λ x. List ℕ) [ true ↦ flat_map (probes_at (probes_below w name n) name n) (option_to_list (slice_get w.loaders n)) | false ↦ probes_below w name n loader ])
     at ih true = of_loader ih (slice_get w.loaders n) refl
     at ih false = ih loader
-
--- the first loader is one, if any is
-first_is_loader : (w : World) (l : ℕ) → is_loader w l ≡ true → is_loader w 0 ≡ true
-first_is_loader w l h = grind (arith, nat_tests)
 
 pub probes_are_loaders : (w : World) (loader : ℕ) (name : Name) → AllByRecursion (λ (n : ℕ). is_loader w n ≡ true) (probes w loader name)
 probes_are_loaders w loader name = at (is_java name)

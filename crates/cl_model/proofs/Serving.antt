@@ -6,7 +6,8 @@ use Rattle.cl_model.specs.declared.class.Class.{Class}
 use Rattle.cl_model.specs.Classes.{class}
 use Rattle.cl_model.specs.States.{State, Need, Entry, Equal, BadEntry, IsClass, Linkage, Said, start}
 use Rattle.cl_model.specs.Plans.{Request, Load, Resolve, Link, Plan, plan, needs_of}
-use Rattle.cl_model.specs.Machine.{Setting, Step, Define, Initiate, Constrain, Settle, Prepare, Post, NextRound, Stray, Answers, state_after}
+use Rattle.cl_model.specs.Machine.{Setting, Step, Define, Initiate, Answers, state_after}
+use Rattle.cl_model.specs.Steps.{IsOfService}
 use Rattle.cl_model.specs.Service.{Want, ToStand, ToPrepare, serving, Settles, IsNextStep, MayEnd}
 use Rattle.cl_model.specs.Examples.{boot, the_root, load_of}
 use Rattle.cl_model.specs.ExampleReferences.{service}
@@ -16,34 +17,23 @@ use Rattle.cl_model.proofs.Refusals.{the}
 
 -- ---- what comes next in a service is neither a post nor a round
 
--- a step that fulfils a want or settles a reference
-abbrev pub OfService : Step → Type 0
-OfService (Define c) = Unit {0}
-OfService (Initiate name place loader) = Unit {0}
-OfService (Constrain name one other) = Unit {0}
-OfService (Settle c i v) = Unit {0}
-OfService (Prepare c) = Unit {0}
-OfService (Post q a) = ⊥
-OfService NextRound = ⊥
-OfService Stray = ⊥
-
-one_of_two : (b : Bool) (c : Class) (name : Name) (place loader : ℕ) → OfService (if b then Define c else Initiate name place loader)
+one_of_two : (b : Bool) (c : Class) (name : Name) (place loader : ℕ) → IsOfService (if b then Define c else Initiate name place loader)
 one_of_two true c name place loader = tt
 one_of_two false c name place loader = tt
 
-serving_is : (x : Want) → OfService (serving x)
+serving_is : (x : Want) → IsOfService (serving x)
 serving_is (ToStand (Entry loader name place)) = one_of_two (loader == place) (class name place) name place loader
 serving_is (ToStand (Equal name one other)) = tt
 serving_is (ToPrepare c) = tt
 
-settles : (g : Setting) (s : State) (r : Request) (p : Plan) (e : Step) → Settles g s r p e → OfService e
+settles : (g : Setting) (s : State) (r : Request) (p : Plan) (e : Step) → Settles g s r p e → IsOfService e
 settles g s (Load loader name) p e h = absurd h
-settles g s (Resolve loader name i) p e h = subst (λ (d : Step). OfService d) (sym h.3.2) tt
+settles g s (Resolve loader name i) p e h = subst (λ (d : Step). IsOfService d) (sym h.3.2) tt
 settles g s (Link loader name) p e h = absurd h
 
-pub of_service : (g : Setting) (s : State) (r : Request) (e : Step) → IsNextStep g s r e → OfService e
+pub of_service : (g : Setting) (s : State) (r : Request) (e : Step) → IsNextStep g s r e → IsOfService e
 of_service g s r e h = elim h.next [
-  | inl a ↦ subst (λ (d : Step). OfService d) (sym a.3) (serving_is a.0)
+  | inl a ↦ subst (λ (d : Step). IsOfService d) (sym a.3) (serving_is a.0)
   | inr b ↦ settles g s r h.plan e b
 ]
 

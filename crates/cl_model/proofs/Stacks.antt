@@ -1,5 +1,5 @@
 -- Frames that are pushed, go on and end, and what is left of them.
-use Rattle.std.proofs.Common.{◌≡◌, ◌↔◌, inl, inr, ℕ, ◌+◌, ◌≤◌, Bool, true, false, ◌||◌, List, [], ◌∷◌, ◌++◌, length, map, Some, None, refl, sym, ap, subst, ◌∙◌, slice_get, arith, length-append, Option}
+use Rattle.std.proofs.Common.{◌≡◌, ◌↔◌, ℕ, ◌+◌, ◌≤◌, Bool, true, false, ◌||◌, List, [], ◌∷◌, ◌++◌, length, map, Some, None, refl, sym, ap, subst, ◌∙◌, slice_get, arith, length-append, Option}
 use Rattle.std.specs.Prelude.{option_to_list, is_some, IsSome}
 use Rattle.std.specs.List.{AllByRecursion, list_any}
 use Rattle.std.proofs.lemmas.List.{length-map}
@@ -7,13 +7,14 @@ use Rattle.cl_classfile.specs.Files.{Name, File}
 use Rattle.cl_model.specs.Homes.{World, home}
 use Rattle.cl_model.specs.declared.class.Class.{Class}
 use Rattle.cl_model.specs.Classes.{same_class, is_among, Above, AsSuperclass, AsSuperinterface, superclass_of, superinterfaces_of, supers}
-use Rattle.cl_model.specs.States.{State, Need, Entry, Verdict, Linkage, AllMet, IsNext, Refused, recorded}
+use Rattle.cl_model.specs.States.{State, Need, Entry, Linkage, AllMet, Refused, recorded}
 use Rattle.cl_model.specs.Plans.{Request, needs_of}
-use Rattle.cl_model.specs.Machine.{Setting, Step, state_after, Answers, AnswersPlan}
+use Rattle.cl_model.specs.Machine.{Setting, Step, state_after, AnswersPlan}
 use Rattle.cl_model.specs.Service.{IsNextNeed}
 use Rattle.cl_model.proofs.Bind.{some_same}
 use Rattle.cl_model.proofs.Runs.{records_stay}
 use Rattle.cl_model.specs.Frames.{Frame, wanted, Judged, Accepts, NamedAs, Keeps, KeepsAccepted, AllKept, IsFrame, IsFrames, path_of, asking, kept_of, accepting}
+use Rattle.cl_model.proofs.Gone.{refused_answer}
 
 -- ---- frames
 
@@ -62,13 +63,8 @@ kept_stays s es (x ∷ xs) h = (still_kept s es x.class.loader x.accepted h.0, k
 
 -- ---- what is refused
 
-refused_at : (s : State) (ns : List Need) (ends : Verdict) (n : Need) → IsNext s ns n → Refused s n → Answers s ns ends (Linkage n)
-refused_at s [] ends n h r = absurd h
-refused_at s (m ∷ ns) ends n (inl e) r = inr (subst (λ (x : Need). Refused s x) (sym e) r, ap (λ (x : Need). Linkage x) (sym e))
-refused_at s (m ∷ ns) ends n (inr h) r = inl (h.0, refused_at s ns ends n h.1 r)
-
 pub refused_answers : (g : Setting) (s : State) (r : Request) (n : Need) → IsNextNeed g.world s r n → Refused s n → AnswersPlan g s r (Linkage n)
-refused_answers g s r n h k = record { plan = h.plan; planned = h.planned; answered = refused_at s (needs_of h.plan) h.plan.ends n h.next k }
+refused_answers g s r n h k = record { plan = h.plan; planned = h.planned; answered = refused_answer s (needs_of h.plan) h.plan.ends n h.next k }
 
 -- ---- the path, as frames
 

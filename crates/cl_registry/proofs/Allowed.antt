@@ -28,10 +28,11 @@ use Rattle.cl_config.specs.Views.{Configured}
 use Rattle.cl_config.specs.Loaders.{loader_of}
 use Rattle.cl_delegation.specs.Worlds.{world_of, setting_of}
 use Rattle.cl_hierarchy.specs.Drafts.{Drafted, IsDraft}
+use Rattle.cl_hierarchy.proofs.Placed.{spelt_file}
 use Rattle.cl_registry.specs.Tables.{Shown, steps, state_of, records_of, looked, place_in, own_record, asked_record, FitsAs, IsKept}
 use Rattle.cl_registry.specs.Allowed.{AllowedIsEntered, EnteredIsAllowed, AllowedIsJoined, JoinedIsAllowed, RoundIsAllowed, OtherConfigIsStray}
 use Rattle.cl_registry.proofs.Running.{may_add, may_be_added, none_and_some}
-use Rattle.cl_registry.proofs.Placed.{HasRow, recorded_row, spelt_file}
+use Rattle.cl_registry.proofs.Placed.{HasRow, recorded_row}
 
 pub closed_of : (content : Content) (x : Shown) → IsKept (Some content) x → IsClosed (world_of x.config content) (state_of x)
 closed_of content x kept = runs_are_closed (setting_of x.config x.script content) (steps x) kept.run

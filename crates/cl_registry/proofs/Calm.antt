@@ -1,8 +1,7 @@
 -- What the events of a registry leave as it is.
-use Rattle.std.proofs.Common.{◌≡◌, ◌<◌, ◌∙◌, ℕ, Bool, true, false, if◌then◌else◌, List, [], ◌∷◌, ◌++◌, Option, Some, None, refl, sym, ap, subst, arith}
-use Rattle.std.specs.Prelude.{nat_eq, ◌||◌, ◌==◌, find, option_map, Contains}
+use Rattle.std.proofs.Common.{◌≡◌, ◌<◌, ◌∙◌, ℕ, Bool, false, if◌then◌else◌, List, [], ◌∷◌, ◌++◌, Option, Some, None, refl, sym, ap, subst, arith}
+use Rattle.std.specs.Prelude.{nat_eq, ◌==◌, find, option_map, Contains}
 use Rattle.std.specs.Option.{option_or}
-use Rattle.std.proofs.lemmas.Bool.Decides.{nat_tests}
 use Rattle.std.proofs.lemmas.List.Folds.{find-append}
 use Rattle.cl_classfile.specs.Files.{Name}
 use Rattle.cl_model.specs.declared.event.Event.{Event}
@@ -11,6 +10,7 @@ use Rattle.cl_model.specs.States.{State, Equality, Posted, Entry, Answer, record
 use Rattle.cl_model.specs.Machine.{Define, Initiate, NextRound, after, state_after}
 use Rattle.cl_model.specs.Views.{answer_at, post_of, step_of, steps_of}
 use Rattle.cl_registry.specs.Tables.{posts, is_in}
+use Rattle.cl_registry.proofs.Histories.{or_of_false, swap_nat}
 
 -- ---- equalities
 
@@ -36,13 +36,6 @@ may_add s loader place name e fresh = record { unmet = λ m. none_and_some (reco
 
 -- ---- answers
 
-or_of_false : (a b : Bool) → (a || b) ≡ false → (a ≡ false) × (b ≡ false)
-or_of_false true b e = absurd cc
-or_of_false false b e = (refl, e)
-
-swap_nat : (a b : ℕ) → nat_eq a b ≡ nat_eq b a
-swap_nat a b = grind (arith, nat_tests)
-
 or_nothing : {A : Type 0} (o : Option A) → option_or o None ≡ o
 or_nothing None = refl
 or_nothing (Some x) = refl
@@ -50,7 +43,7 @@ or_nothing (Some x) = refl
 find_other : {A : Type 0} (test : A → Bool) (xs : List A) (x : A) → test x ≡ false → find test (xs ++ x ∷ []) ≡ find test xs
 find_other test xs x e = find-append test xs (x ∷ []) ∙ ap (λ (b : Bool). option_or (find test xs) (if b then Some x else None)) e ∙ or_nothing (find test xs)
 
-post_other : (s : State) (q p : ℕ) (o : Option Answer) → nat_eq p q ≡ false → answer_to (after s (post_of p o)).answers q ≡ answer_to s.answers q
+pub post_other : (s : State) (q p : ℕ) (o : Option Answer) → nat_eq p q ≡ false → answer_to (after s (post_of p o)).answers q ≡ answer_to s.answers q
 post_other s q p None ne = refl
 post_other s q p (Some a) ne = ap (λ (o : Option Posted). option_map (λ r. r.answer) o) (find_other (λ (r : Posted). r.request == q) s.answers (record { request = p; answer = a }) ne)
 

@@ -18,6 +18,7 @@ use Rattle.cl_model.proofs.Planned.{one_lineage}
 use Rattle.cl_model.proofs.Posted.{may_prepare}
 use Rattle.cl_model.proofs.Through.{reference_goes}
 use Rattle.cl_model.proofs.Trees.{lineage_is_derived}
+use Rattle.cl_model.proofs.Aims.{next_right}
 use Rattle.cl_config.specs.Views.{Configured}
 use Rattle.cl_constraints.proofs.Standing.{unrefused}
 use Rattle.cl_delegation.specs.Worlds.{world_of, setting_of}
@@ -35,10 +36,6 @@ next_at : (s : State) (es : List Equality) (k : ℕ) (e : Equality) → slice_ge
 next_at s [] k e g met = absurd cc
 next_at s (x ∷ es) zero e g met = inl (ap equal_need (some_same x e g))
 next_at s (x ∷ es) (suc k) e g met = inr (met.0, next_at s es k e g met.1)
-
-next_behind : (s : State) (before ns : List Need) (n : Need) → AllMet s before → IsNext s ns n → IsNext s (before ++ ns) n
-next_behind s [] ns n met h = h
-next_behind s (b ∷ before) ns n met h = inr (met.0, next_behind s before ns n met.1 h)
 
 -- ---- lineages
 
@@ -70,7 +67,7 @@ imposed_by content x (OfReference d c index) es k n kept lined are stands earlie
     record {
       needs = goes.made.needs;
       imposes = inr (d.own.class, stands.0.recorded, (index, goes.made, goes.resolution, refl));
-      next = subst (λ (ns : List Need). IsNext s ns (equal_need n)) (ap (λ (ns : List Need). goes.before ++ ns) are.needs_are ∙ sym goes.needs) (next_behind s goes.before (needs_of es) (equal_need n) goes.met (next_at s es k n at earlier));
+      next = subst (λ (ns : List Need). IsNext s ns (equal_need n)) (ap (λ (ns : List Need). goes.before ++ ns) are.needs_are ∙ sym goes.needs) (next_right s goes.before (needs_of es) (equal_need n) goes.met (next_at s es k n at earlier));
       may_add = unrefused s (equal_need n) unmet free;
     }
 

@@ -22,6 +22,8 @@ use Rattle.cl_hierarchy.specs.Drafts.{IsDraft, IsSpelt, Drafted}
 use Rattle.cl_hierarchy.specs.Rows.{Rowed}
 use Rattle.cl_hierarchy.specs.RowTables.{HasItsFile, IsFound, IsRowAfter, StandAbove}
 use Rattle.cl_hierarchy.proofs.RowTables.{rows_grow}
+use Rattle.cl_hierarchy.proofs.Climbs.{row_more}
+use Rattle.cl_hierarchy.proofs.Placed.{spelt_file}
 use Rattle.cl_constraints.specs.Books.{Admits}
 use Rattle.cl_registry.specs.declared.registry.RegistryFault.{RegistryFault}
 use Rattle.cl_registry.specs.declared.registry.RegistryFault.TheVariants.{Memory, Stray, Violates, AlreadyPosted, NotYet}
@@ -30,9 +32,8 @@ use Rattle.cl_registry.specs.Parts.{IsPut}
 use Rattle.cl_registry.specs.Refusals.{AddRefusedFor, Blames, BlamesIn, DefineRefusedFor, InitiateRefusedFor, JoinRefusedFor}
 use Rattle.cl_registry.specs.Tables.{Shown, state_of, records_of, IsKept, ArePlaced, with_define, with_initiate, row_of, looked, row_for, place_in, own_record, asked_record, FitsAs, IsNew, LacksRecord, MayEnter, MayJoin, Records, Defines, DefinedAs, Initiates, InitiatedAs}
 use Rattle.cl_registry.proofs.Running.{may_record}
-use Rattle.cl_registry.proofs.Looked.{looked_push, looked_some, looked_records, at_self, fresh_row, row_push, row_stays}
+use Rattle.cl_registry.proofs.Looked.{looked_push, looked_some, looked_records, at_self, fresh_row, row_push}
 use Rattle.cl_registry.proofs.Allowed.{closed_of, draft_at_home, entered_is_allowed, joined_is_allowed, recorded_at, row_of_some}
-use Rattle.cl_registry.proofs.Placed.{spelt_file}
 use Rattle.cl_registry.proofs.Kept.{grown, state_event, settled_same, kept_event, same_rounds, none_settled, rows_same, placed_more, registry_event, moved, HasRoom, AreRowsBy}
 
 -- what adding a need to a book comes to, in the states that it stands for
@@ -111,7 +112,7 @@ kept_by_define told x d k draft may fresh free =
 looked_define : (told : Option Content) (x : Shown) (d : Drafted) → IsKept told x → IsNew x d → (l : ℕ) (n : List ℕ) → looked (with_define x d) l n ≡ (if (d.class.loader == l) && pointwise nat_eq d.class.name n then Some (row_for x d) else looked x l n)
 looked_define told x d k fresh =
     looked_push told x (with_define x d) (record_of d.class) (row_for x d) k (ap (λ (s : State). s.records) (state_define x d))
-    (λ c s e. row_stays x.rows (row_for x d ∷ []) c s e) fresh (row_push x.rows (row_for x d) d.class refl (fresh_row told x d.class k fresh))
+    (λ c s e. row_more x.rows (row_for x d ∷ []) c s e) fresh (row_push x.rows (row_for x d) d.class refl (fresh_row told x d.class k fresh))
 
 pub kept_define : (told : Option Content) (x : Shown) (d : Drafted) (f : Fields) (old new : State → Type 0) (table : ℕ → List ℕ → Option Rowed) (wide : ℕ) (references : Class → ℕ → Option Settled) (prepared : List Class) (used come more : ℕ)
     → IsRegistry told x f old → IsDraft told d → MayEnter x d → IsNew x d → BookAdds old new (own_record d) → IsPut f.table table d.class.loader d.class.name (row_for x d) → KeepsOthers x f wide references prepared used come more

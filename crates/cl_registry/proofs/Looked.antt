@@ -11,6 +11,8 @@ use Rattle.cl_model.specs.Content.{Content}
 use Rattle.cl_model.specs.Classes.{class, same_class}
 use Rattle.cl_model.specs.States.{Record, recorded}
 use Rattle.cl_model.proofs.Runs.{names_equal}
+use Rattle.cl_model.proofs.Ancestors.{same_self}
+use Rattle.cl_model.proofs.Complete.{is_class}
 use Rattle.cl_hierarchy.specs.Rows.{Rowed}
 use Rattle.cl_registry.specs.Tables.{Shown, state_of, records_of, defined, IsKept, row_of, looked, Records, LacksRecord}
 use Rattle.cl_registry.proofs.Histories.{eq_nat}
@@ -42,11 +44,6 @@ pub and_true : (a b : Bool) → (a && b) ≡ true → (a ≡ true) × (b ≡ tru
 and_true true b e = (refl, e)
 and_true false b e = absurd cc
 
-class_eq : (a b : Class) → same_class a b ≡ true → a ≡ b
-class_eq a b e =
-    let both = and_true (same_name a.name b.name) (a.loader == b.loader) e in
-    ap (λ (n : List ℕ). class n a.loader) (names_equal a.name b.name both.0) ∙ ap (class b.name) (eq_nat a.loader b.loader both.1)
-
 both_true : (a b : Bool) → a ≡ true → b ≡ true → (a && b) ≡ true
 both_true true b e f = f
 both_true false b e f = absurd cc
@@ -54,9 +51,6 @@ both_true false b e f = absurd cc
 name_self : (n : List ℕ) → same_name n n ≡ true
 name_self [] = refl
 name_self (a ∷ n) = both_true (nat_eq a a) (same_name n n) (nat_eq_equiv.refl a) (name_self n)
-
-same_self : (c : Class) → same_class c c ≡ true
-same_self c = both_true (same_name c.name c.name) (c.loader == c.loader) (name_self c.name) (nat_eq_equiv.refl c.loader)
 
 pub at_self : (l : ℕ) (n : List ℕ) → ((l == l) && pointwise nat_eq n n) ≡ true
 at_self l n = both_true (l == l) (same_name n n) (nat_eq_equiv.refl l) (name_self n)
@@ -87,7 +81,7 @@ row_is [] c r e = absurd cc
 row_is (x ∷ rows) c r e = by_test (same_class x.class c) refl e (row_is rows c r)
   where
     by_test : (b : Bool) → same_class x.class c ≡ b → (if b then Some x else row_of rows c) ≡ Some r → (row_of rows c ≡ Some r → r.class ≡ c) → r.class ≡ c
-    by_test true t f ih = ap (λ (s : Rowed). s.class) (sym (some_eq x r f)) ∙ class_eq x.class c t
+    by_test true t f ih = ap (λ (s : Rowed). s.class) (sym (some_eq x r f)) ∙ is_class x.class c t
     by_test false t f ih = ih f
 
 none_and_some : (o : Option ℕ) (x : ℕ) → o ≡ None → o ≡ Some x → ⊥
@@ -99,7 +93,7 @@ none_found rs [] c known fresh = refl
 none_found rs (x ∷ rows) c known fresh = by_test (same_class x.class c) refl (none_found rs rows c known.1 fresh)
   where
     by_test : (b : Bool) → same_class x.class c ≡ b → row_of rows c ≡ None → (if b then Some x else row_of rows c) ≡ None
-    by_test true t ih = absurd (none_and_some _ c.loader fresh (subst (λ (k : Class). recorded rs k.loader k.name ≡ Some k.loader) (class_eq x.class c t) known.0))
+    by_test true t ih = absurd (none_and_some _ c.loader fresh (subst (λ (k : Class). recorded rs k.loader k.name ≡ Some k.loader) (is_class x.class c t) known.0))
     by_test false t ih = ih
 
 -- a row more is found for its class, where none was
@@ -109,15 +103,6 @@ row_push (x ∷ rows) r c e none = by_test (same_class x.class c) none (row_push
   where
     by_test : (b : Bool) → (if b then Some x else row_of rows c) ≡ None → (row_of rows c ≡ None → row_of (rows ++ r ∷ []) c ≡ Some r) → (if b then Some x else row_of (rows ++ r ∷ []) c) ≡ Some r
     by_test true f ih = absurd cc
-    by_test false f ih = ih f
-
--- a row stays the row of its class
-pub row_stays : (rows more : List Rowed) (c : Class) (s : Rowed) → row_of rows c ≡ Some s → row_of (rows ++ more) c ≡ Some s
-row_stays [] more c s e = absurd cc
-row_stays (x ∷ rows) more c s e = by_test (same_class x.class c) e (row_stays rows more c s)
-  where
-    by_test : (b : Bool) → (if b then Some x else row_of rows c) ≡ Some s → (row_of rows c ≡ Some s → row_of (rows ++ more) c ≡ Some s) → (if b then Some x else row_of (rows ++ more) c) ≡ Some s
-    by_test true f ih = f
     by_test false f ih = ih f
 
 pub fresh_row : (told : Option Content) (x : Shown) (c : Class) → IsKept told x → recorded (records_of x) c.loader c.name ≡ None → row_of x.rows c ≡ None

@@ -2,31 +2,25 @@
 use Rattle.std.proofs.Common.{◌≡◌, ◌∙◌, ℕ, Bool, true, false, List, [], ◌∷◌, map, Option, Some, None, Ok, Err, inl, inr, refl, sym, ap, subst}
 use Rattle.std.specs.Prelude.{if◌then◌else◌, ◌⊎◌, ◌||◌, option_and_then}
 use Rattle.std.specs.List.{AllByRecursion, list_any}
-use Rattle.std.proofs.lemmas.Cmp.{nat_eq_equiv, nat_list_eq_equiv}
+use Rattle.std.proofs.lemmas.Cmp.{nat_list_eq_equiv}
 use Rattle.std.proofs.lemmas.List.Elements.{recursion_from_All}
-use Rattle.cl_classfile.specs.Files.{Name, File, same_name, file_of}
-use Rattle.cl_classfile.specs.Structure.{Structure}
+use Rattle.cl_classfile.specs.Files.{Name, File, same_name}
 use Rattle.cl_model.specs.declared.class.Class.{Class}
 use Rattle.cl_model.specs.declared.event.Event.{Event}
 use Rattle.cl_model.specs.declared.event.Event.TheVariants as events
-use Rattle.cl_model.specs.Content.{Content, content_at}
-use Rattle.cl_model.specs.Homes.{World}
-use Rattle.cl_model.specs.Classes.{class, same_class, NoClassDef, is_own, named, read_found, HasFile, IsAtHome}
+use Rattle.cl_model.specs.Content.{Content}
+use Rattle.cl_model.specs.Classes.{class, same_class, NoClassDef, named}
 use Rattle.cl_model.specs.Classes as classes
 use Rattle.cl_model.specs.States.{State, Record, start, Answer, recorded}
 use Rattle.cl_model.specs.Machine.{Scheduled, Define, after, state_after}
 use Rattle.cl_model.specs.Tables.{Orderly}
 use Rattle.cl_model.specs.Views.{answers_of, answer_at, post_of, step_of, steps_of}
-use Rattle.cl_model.specs.Worlds.{seen}
 use Rattle.cl_model.proofs.Ancestors.{same_self}
 use Rattle.cl_model.proofs.Complete.{is_class}
 use Rattle.cl_model.proofs.Runs.{recorded_added}
 use Rattle.cl_model.proofs.Tables.{trusted_is_consistent}
-use Rattle.cl_config.specs.Views.{Configured}
 use Rattle.cl_config.specs.Loaders.{schedule_of}
-use Rattle.cl_delegation.specs.Worlds.{world_of}
 use Rattle.cl_hierarchy.specs.Drafts.{IsSpelt}
-use Rattle.cl_hierarchy.proofs.Drafting.{grammar_read}
 use Rattle.cl_hierarchy.specs.Rows.{Rowed}
 use Rattle.cl_registry.specs.Tables.{Shown, steps, records_of, defined, row_of, looked, IsTrusted, IsKept}
 use Rattle.cl_registry.proofs.Calm.{none_and_some}
@@ -118,16 +112,5 @@ recorded_row told x loader place name kept at =
 
 -- ---- files
 
-pub file_found : (w : World) (c : Class) (bytes : List ℕ) → IsAtHome w c → content_at w.content c.loader c.name ≡ Some bytes → classes.file_of w c ≡ named c (w.read bytes)
-file_found w c bytes at stored =
-    ap (λ (o : Option ℕ). read_found w c (if is_own c.loader o then content_at w.content c.loader c.name else None)) at
-    ∙ ap (λ (b : Bool). read_found w c (if b then content_at w.content c.loader c.name else None)) (nat_eq_equiv.refl c.loader)
-    ∙ ap (read_found w c) stored
-
 named_so : (c : Class) (f : File) → f.name ≡ c.name → named c (Ok f) ≡ Ok f
 named_so c f e = ap (λ (b : Bool). if b then Ok f else Err (NoClassDef c)) (ap (λ (n : List ℕ). same_name n c.name) e ∙ nat_list_eq_equiv.refl c.name)
-
--- a class that is at home has the file that its bytes spell
-pub spelt_file : (c : Configured) (content : Content) (t : Class) (f : Structure) → IsAtHome (world_of c content) t → IsSpelt (Some content) t f → HasFile (world_of c content) t (file_of f)
-spelt_file c content t f at spelt =
-    file_found (world_of c content) t spelt.bytes at spelt.told_so ∙ ap (λ r. named t (seen r)) (grammar_read spelt.bytes f spelt.spells) ∙ named_so t (file_of f) spelt.named

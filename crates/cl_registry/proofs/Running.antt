@@ -21,6 +21,7 @@ use Rattle.cl_registry.specs.declared.report.Report.{Report}
 use Rattle.cl_registry.specs.Reports.{IsReport, IsNamed}
 use Rattle.cl_registry.specs.Tables.{Shown, state_of, posts, defined, settlements, is_in, IsTrusted, NamesLoaders}
 use Rattle.cl_registry.proofs.Histories.{eq_nat, swap_nat, or_right}
+use Rattle.cl_registry.proofs.Placed.{post_same}
 
 -- ---- what may be recorded
 
@@ -44,7 +45,7 @@ may_be_added s n may refused = may.fits refused.clashes
 
 -- ---- the answers of the state are those that are given
 
-is_or : (o : Option Posted) (r : Posted) (b : Bool) → is_some (option_map (λ (p : Posted). p.answer) (option_or o (if b then Some r else None))) ≡ (is_some (option_map (λ (p : Posted). p.answer) o) || (b && true))
+pub is_or : (o : Option Posted) (r : Posted) (b : Bool) → is_some (option_map (λ (p : Posted). p.answer) (option_or o (if b then Some r else None))) ≡ (is_some (option_map (λ (p : Posted). p.answer) o) || (b && true))
 is_or (Some x) r b = refl
 is_or None r true = refl
 is_or None r false = refl
@@ -102,10 +103,6 @@ answered x q t = answered_after (answers_of x.answers) x.history start q ∙ bot
 
 -- ---- the records of the state are of classes that are defined
 
-post_records : (s : State) (q : ℕ) (o : Option Answer) → (after s (post_of q o)).records ≡ s.records
-post_records s q None = refl
-post_records s q (Some a) = refl
-
 -- what holds of each class that is recorded or defined holds of each that is recorded after it
 records_hold : (P : Class → Type 0) (script : List Scheduled) (rounds : ℕ) (now : List (Option Answer)) (h : List Event) (s : State) → Orderly script rounds s (steps_of now h) → ((l p : ℕ) (n : Name) → recorded s.records l n ≡ Some p → P (class n p))
     → AllByRecursion P (defined h) → (l p : ℕ) (n : Name) → recorded (state_after s (steps_of now h)).records l n ≡ Some p → P (class n p)
@@ -130,7 +127,7 @@ records_hold P script rounds now (events.Prepare c ∷ h) s run here all l p n e
 records_hold P script rounds now (events.NextRound ∷ h) s run here all l p n e = records_hold P script rounds now h (after s NextRound) run.1 here all l p n e
 records_hold P script rounds now (events.Post q ∷ h) s run here all l p n e =
     records_hold P script rounds now h (after s (post_of q (answer_at now q))) run.1
-    (λ k m o f. here k m o (subst (λ (rs : List Record). recorded rs k o ≡ Some m) (post_records s q (answer_at now q)) f))
+    (λ k m o f. here k m o (subst (λ (rs : List Record). recorded rs k o ≡ Some m) (post_same s q (answer_at now q)) f))
     all l p n e
 
 none_before : (P : Class → Type 0) (l p : ℕ) (n : Name) → recorded start.records l n ≡ Some p → P (class n p)

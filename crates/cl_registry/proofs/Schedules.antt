@@ -53,7 +53,7 @@ schedule_at (x ∷ rs) (m ∷ ns) (suc q) r n e f = schedule_at rs ns q r n e f
 round_there : (x e : Scheduled) → Some x ≡ Some e → x.round ≡ e.round
 round_there x e h = let same : x ≡ e = cc in ap (λ (s : Scheduled). s.round) same
 
-schedule_round : (rs : List Request) (ns : List ℕ) (q : ℕ) (e : Scheduled) → slice_get (schedule rs ns) q ≡ Some e → slice_get ns q ≡ Some e.round
+pub schedule_round : (rs : List Request) (ns : List ℕ) (q : ℕ) (e : Scheduled) → slice_get (schedule rs ns) q ≡ Some e → slice_get ns q ≡ Some e.round
 schedule_round [] ns q e h = absurd cc
 schedule_round (x ∷ rs) [] q e h = absurd cc
 schedule_round (x ∷ rs) (n ∷ ns) zero e h = ap (λ (m : ℕ). Some m) (round_there (record { request = request_of x; round = n }) e h)

@@ -50,7 +50,7 @@ lacks : (r : Rowed) (o : Option Rowed) → o ≡ None → o ≡ Some r → ⊥
 lacks r o e f = cc
 
 -- what is found for a class that is recorded
-looked_row : (x : Shown) (l p : ℕ) (n : List ℕ) → recorded (records_of x) l n ≡ Some p → looked x l n ≡ row_of x.rows (class n p)
+pub looked_row : (x : Shown) (l p : ℕ) (n : List ℕ) → recorded (records_of x) l n ≡ Some p → looked x l n ≡ row_of x.rows (class n p)
 looked_row x l p n e = ap (λ (o : Option ℕ). option_and_then (λ place. row_of x.rows (class n place)) o) e
 
 -- one that has no row is not recorded

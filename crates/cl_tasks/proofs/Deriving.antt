@@ -29,6 +29,7 @@ use Rattle.cl_tasks.specs.declared.stage.Stage.{Stage}
 use Rattle.cl_tasks.specs.declared.stage.Stage.TheVariants as stages
 use Rattle.cl_tasks.specs.declared.turn.Turn.{Turn}
 use Rattle.cl_tasks.specs.declared.turn.Turn.TheVariants as turn
+use Rattle.cl_tasks.proofs.Keep.{map_last}
 
 -- ---- frames
 
@@ -60,10 +61,6 @@ derived_more (y ∷ ys) a c (inr h) = onward (derived_more ys a c h)
     onward : IsDerived (map frame_of ys) c ⊎ (c ≡ a.draft.class) → IsDerived (map frame_of (y ∷ ys)) c ⊎ (c ≡ a.draft.class)
     onward (inl k) = inl (inr k)
     onward (inr k) = inr k
-
-map_last : (xs : List Framed) (a : Framed) → map frame_of (xs ++ a ∷ []) ≡ map frame_of xs ++ frame_of a ∷ []
-map_last [] a = refl
-map_last (y ∷ ys) a = ap (λ (zs : List Frame). frame_of y ∷ zs) (map_last ys a)
 
 -- ---- stages
 

@@ -4,7 +4,6 @@ use Rattle.std.specs.Prelude.{find, if◌then◌else◌}
 use Rattle.std.specs.List.{AllByRecursion}
 use Rattle.std.specs.declared.alloc.Global.{Global}
 use Rattle.std.specs.declared.sync.Arc.{Arc}
-use Rattle.std.proofs.lemmas.List.Elements.{recursion_from_All}
 use Rattle.cl_model.specs.declared.answer.Answer.TheVariants as answers
 use Rattle.cl_model.specs.declared.class.Class.{Class}
 use Rattle.cl_model.specs.declared.request.Request.{Request}
@@ -38,7 +37,8 @@ use Rattle.cl_hierarchy.specs.Rows.{Rowed}
 use Rattle.cl_registry.proofs.Named.{recorded_is_named}
 use Rattle.cl_findings.specs.References.{EndsAtClass, EndsAtOnce, IsAtClass, IsAtOnce, class_basis, class_need, entry_basis}
 use Rattle.cl_registry.specs.References.{IsSettledIn, settled_by}
-use Rattle.cl_registry.specs.Tables.{Shown, NamesLoaders, records_of, settled_at, settlements, state_of}
+use Rattle.cl_registry.specs.Tables.{Shown, records_of, settled_at, state_of}
+use Rattle.cl_registry.proofs.Backed.{settled_named}
 use Rattle.cl_tasks.specs.Calls.{calls_in, past_loads}
 use Rattle.cl_tasks.specs.Facts.{AreSo}
 use Rattle.cl_tasks.specs.Resolving.{EntryTold, IsNoneSettled, IsSame, IsSettledKind, NamedTold, SettledTold}
@@ -52,7 +52,6 @@ use Rattle.cl_tasks.specs.declared.stage.Resolution.TheVariants as resolutions
 use Rattle.cl_tasks.specs.declared.stage.Stage.TheVariants as stages
 use Rattle.cl_tasks.specs.declared.turn.Turn.TheVariants as turn
 use Rattle.cl_tasks.specs.Waits as waits
-use Rattle.cl_tasks.specs.Waits.{Waits}
 use Rattle.cl_tasks.proofs.Lead.{HasPost, Holding, leads_by, posts_within}
 use Rattle.cl_tasks.proofs.Said.{Settling, Stood, borne, found_is, may_settle, said_of, settled_next, stood_answers}
 
@@ -143,11 +142,6 @@ found_among P test (x ∷ xs) s all e = by_test (test x) refl (found_among P tes
     by_test true t more = subst P (same_some x s (sym (ap (λ (b : Bool). if b then Some x else find test xs) t) ∙ e)) all.0
     by_test false t more = more (sym (ap (λ (b : Bool). if b then Some x else find test xs) t) ∙ e)
 
-pub settled_names : (x : Shown) (d : Class) (i : ℕ) (s : Settled) → NamesLoaders x → settled_at x d i ≡ Some s → VerdictNames (length x.config.loaders) s.verdict
-settled_names x d i s named e =
-    let P = λ (k : Settled). VerdictNames (length x.config.loaders) k.verdict in
-    found_among P _ (settlements x.history) s (recursion_from_All P (settlements x.history) named.settled) e
-
 -- what is settled for the entry that a request resolves
 entry_settled : (x : Shown) (l : ℕ) (d : Class) (i : ℕ) (s : Settled) → recorded (records_of x) l d.name ≡ Some d.loader → settled_at x d i ≡ Some s → settled_by x (requests.Resolve l d.name i) ≡ Some s
 entry_settled x l d i s kept at = rw (kept) at
@@ -180,7 +174,7 @@ leads_shared A told c q r d i s room holds is asked kept settled more post = rec
   backed = λ x config named consistent h. record {
     within = record {
       loader = subst (λ (k : Configured). loader_of r < length k.loaders) (sym config) asked;
-      answer = settled_names x d i s.value named (settled x h).entry;
+      answer = settled_named x d i s.value named (settled x h).entry;
     };
     answer = resolving r d i (λ (k : Request). settled_by x k ≡ Some s.value) is (entry_settled x (loader_of r) d i s.value (kept x h) (settled x h).entry);
   };

@@ -6,6 +6,7 @@ use Rattle.std.proofs.lemmas.Bool.{eqb-true}
 use Rattle.cl_names.specs.Text.{is_text}
 use Rattle.cl_names.specs.Kind.{IsNameOf, IsClass, has_unqualified_form, has_class_form, is_class_name}
 use Rattle.cl_names.proofs.Grammars.{class_test_of}
+use Rattle.cl_names.specs.declared.kind.TheConstants.{MOST_TEXT_BYTES}
 use Rattle.cl_descriptors.specs.Answers.{Gives}
 use Rattle.cl_descriptors.specs.Reading.{whole_field, whole_method, within_field}
 use Rattle.cl_descriptors.specs.Types.{SpellsField, is_shallow}
@@ -39,7 +40,7 @@ bracket (part ∷ parts) = refl
 
 no_bracket : (rest : List ℕ) → is_class_name (91 ∷ rest) ≡ false
 unfolding is_class_name
-no_bracket rest = last (is_text (91 ∷ rest) && leb (length (91 ∷ rest)) 65535) (has_class_form (91 ∷ rest)) (bracket (slice_split (λ p. eqb p 47) rest))
+no_bracket rest = last (is_text (91 ∷ rest) && leb (length (91 ∷ rest)) MOST_TEXT_BYTES) (has_class_form (91 ∷ rest)) (bracket (slice_split (λ p. eqb p 47) rest))
 
 by_first : (c : ℕ) (rest : List ℕ) (b : Bool) → eqb c 91 ≡ b → is_class_name (c ∷ rest) ≡ true → b ≡ false
 by_first c rest false e h = refl

@@ -3,7 +3,7 @@ use Rattle.std.proofs.Common.{List, [], ◌∷◌, ◌++◌, map, Option, Some, 
 use Rattle.std.specs.Prelude.{IfSome, Contains}
 use Rattle.std.specs.List.{AllByRecursion}
 use Rattle.cl_model.specs.declared.class.Class.{Class}
-use Rattle.cl_model.specs.States.{State, Need, AllMet, Refused}
+use Rattle.cl_model.specs.States.{Need, AllMet, Refused}
 use Rattle.cl_findings.specs.Findings.{Based}
 use Rattle.cl_registry.specs.Tables.{Shown, state_of}
 use Rattle.cl_tasks.specs.Facts.{AreSo, IsSo}
@@ -34,10 +34,6 @@ stand_met x (n ∷ ns) h = (h.0, stand_met x ns h.1)
 pub met_stand : (x : Shown) (ns : List Need) → AllMet (state_of x) ns → AreSo x (map (λ n. Stands n) ns)
 met_stand x [] h = tt
 met_stand x (n ∷ ns) h = (h.0, met_stand x ns h.1)
-
-pub met_both : (s : State) (xs ys : List Need) → AllMet s xs → AllMet s ys → AllMet s (xs ++ ys)
-met_both s [] ys h k = k
-met_both s (x ∷ xs) ys h k = (h.0, met_both s xs ys h.1 k)
 
 -- classes that are prepared
 pub prepared_all : (x : Shown) (cs : List Class) → AreSo x (map (λ c. IsPrepared c) cs) → AllByRecursion (Contains (state_of x).prepared) cs

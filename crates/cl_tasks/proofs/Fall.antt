@@ -8,9 +8,9 @@ use Rattle.cl_model.specs.Classes.{class, Above, supers}
 use Rattle.cl_model.specs.Frames.{Frame, wanted, accepting}
 use Rattle.cl_model.proofs.Measures.{push_falls, load_falls, accept_falls, pop_falls, turn_falls}
 use Rattle.cl_hierarchy.specs.Drafts.{Drafted}
-use Rattle.cl_hierarchy.specs.Frames.{Framed, accepted_of, frame_of, with_place}
+use Rattle.cl_hierarchy.specs.Frames.{Framed, frame_of, with_place}
 use Rattle.cl_hierarchy.specs.Paths.{Pathed, frames_of, fresh, IsPath, with_frame, Accepts, Completes}
-use Rattle.cl_hierarchy.proofs.Frames.{accepts_one}
+use Rattle.cl_hierarchy.proofs.Frames.{accepts_one, none_yet}
 use Rattle.cl_tasks.specs.Measures.{Phase, Fresh, Looking, Reading, Homing, Defining, Initiating, most, turns, loading, ended, left_at}
 use Rattle.cl_tasks.proofs.Keep.{top_of, map_last, some_of}
 
@@ -42,10 +42,6 @@ pub supers_within : (n : ℕ) (others : List Above) → n ≡ length others → 
 supers_within n others e h = let k : n < most = within_most n h in omega arith
 
 -- ---- frames
-
-none_yet : (others : List Above) → accepted_of others [] ≡ []
-none_yet [] = refl
-none_yet (a ∷ others) = refl
 
 -- the frames but the last are fewer
 before_within : (told : Option Content) (p : Pathed) (before : List Framed) (last : Framed) → IsPath told p → p.frames ≡ before ++ last ∷ [] → length (map frame_of before) < most

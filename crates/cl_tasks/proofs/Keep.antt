@@ -15,6 +15,7 @@ use Rattle.cl_hierarchy.specs.Frames.{Framed, accepted_of, frame_of, with_place}
 use Rattle.cl_hierarchy.specs.Paths.{Pathed, frames_of, fresh, name_of, sought, at_loader, at_name, Stands, AllStand, IsPath, with_frame, misfit_in, misfit_under, Accepts, Completes}
 use Rattle.cl_model.proofs.Stacks.{complete_is_kept}
 use Rattle.cl_hierarchy.proofs.Frames.{accepts_one}
+use Rattle.cl_hierarchy.proofs.Ends.{under_last, asking_push}
 use Rattle.cl_registry.specs.Tables.{Shown, state_of, records_of, looked}
 use Rattle.cl_tasks.specs.Facts.{AllHave, IsRecordedAs, HasAccepted, HaveAccepted}
 
@@ -63,18 +64,9 @@ pub map_last : (xs : List Framed) (x : Framed) → map frame_of (xs ++ x ∷ [])
 map_last [] x = refl
 map_last (y ∷ ys) x = ap (λ (fs : List Frame). frame_of y ∷ fs) (map_last ys x)
 
-pub asking_last : (loader : ℕ) (xs : List Framed) (x : Framed) → asking loader (map frame_of (xs ++ x ∷ [])) ≡ x.draft.class.loader
-asking_last loader [] x = refl
-asking_last loader (y ∷ ys) x = asking_last y.draft.class.loader ys x
-
 pub sought_last : (name : Name) (xs : List Framed) (x : Framed) → sought name (xs ++ x ∷ []) ≡ name_of (wanted (frame_of x))
 sought_last name [] x = refl
 sought_last name (y ∷ ys) x = sought_last (name_of (wanted (frame_of y))) ys x
-
-pub misfit_last : (xs : List Framed) (x : Framed) (t : Class) (f : File) → misfit_under (xs ++ x ∷ []) t f ≡ misfit_in x (wanted (frame_of x)) t f
-misfit_last [] x t f = refl
-misfit_last (y ∷ []) x t f = refl
-misfit_last (y ∷ (z ∷ zs)) x t f = misfit_last (z ∷ zs) x t f
 
 pub stands_last : (c : Configured) (loader : ℕ) (name : Name) (xs : List Framed) (x : Framed) → AllStand c loader name (xs ++ x ∷ []) → Stands c (asking loader (map frame_of xs)) (sought name xs) x
 stands_last c loader name [] x h = h.0
@@ -101,9 +93,9 @@ top_of told p before last path split =
     record {
       above = w.0;
       wants = w.1;
-      loader = ap (λ (xs : List Framed). asking p.loader (map frame_of xs)) split ∙ asking_last p.loader before last;
+      loader = ap (λ (xs : List Framed). asking p.loader (map frame_of xs)) split ∙ asking_push p.loader before last;
       name = ap (λ (xs : List Framed). sought p.name xs) split ∙ sought_last p.name before last ∙ ap name_of w.1;
-      judged = λ t f. ap (λ (xs : List Framed). misfit_under xs t f) split ∙ misfit_last before last t f ∙ ap (λ (o : Option Above). misfit_in last o t f) w.1;
+      judged = λ t f. ap (λ (xs : List Framed). misfit_under xs t f) split ∙ under_last before last t f ∙ ap (λ (o : Option Above). misfit_in last o t f) w.1;
       frames = ap (λ (xs : List Framed). map frame_of xs) split ∙ map_last before last;
       stands = stands;
     }

@@ -13,6 +13,7 @@ use Rattle.cl_hierarchy.specs.Frames.{accepted_of}
 use Rattle.cl_hierarchy.specs.Lineages.{IsInOrder, Lined, rows_in}
 use Rattle.cl_hierarchy.specs.Rows.{Rowed}
 use Rattle.cl_hierarchy.specs.Trees.{AllKnown, IsAfter, SupersBefore, interfaces_in, kin_named, kin_under, kins_after, superclass_in}
+use Rattle.cl_hierarchy.proofs.RowTables.{before_push}
 use Rattle.cl_registry.specs.Imposing.{IsPreparedAbove}
 use Rattle.cl_registry.specs.Tables.{ArePlaced, IsPlaced, Shown, records_of, state_of}
 
@@ -22,10 +23,6 @@ after_at : (known : List Kin) (rows : List Rowed) (k : ℕ) (r : Rowed) → Supe
 after_at known [] k r h e = absurd cc
 after_at known (x ∷ rows) zero r h e = subst (λ (y : Rowed). IsAfter known y) (some_same x r e) h.0
 after_at known (x ∷ rows) (suc k) r h e = after_at (kin_under known x ∷ known) rows k r h.1 e
-
-supers_push : (known : List Kin) (rows : List Rowed) (r : Rowed) → SupersBefore known rows → IsAfter (kins_after known rows) r → SupersBefore known (rows ++ r ∷ [])
-supers_push known [] r h k = (k, tt)
-supers_push known (x ∷ rows) r h k = (h.0, supers_push (kin_under known x ∷ known) rows r h.1 k)
 
 -- ---- what is known has the property
 
@@ -60,7 +57,7 @@ above_all : (P : Class → Type 0) (l : Lined) (place : ℕ) (r : Rowed) → IsI
     → AllByRecursion P (accepted_of (supers (file_of r.file)) r.places)
 above_all P l place r order at before =
     let known = kins_after [] (take place (rows_in l)) in
-    let after = after_at [] (rows_in l) place r (supers_push [] l.above l.own order.above order.own) at in
+    let after = after_at [] (rows_in l) place r (before_push [] l.above l.own order.above order.own) at in
     let have = known_all P [] (take place (rows_in l)) tt before in
     subst (λ (cs : List Class). AllByRecursion P cs) (sym (accepted_both (superclass_of (file_of r.file)) (superinterfaces_of (file_of r.file)) r.places))
     (all_two P (superclass_in r) (interfaces_in r) (known_have P known (superclass_in r) have after.superclass) (known_have P known (interfaces_in r) have after.interfaces))

@@ -1,22 +1,25 @@
 -- What a link was told of the tables, and what follows of them.
 use Rattle.std.proofs.Common.{◌≡◌, ◌∙◌, ◌<◌, ◌≤◌, ◌+◌, ℕ, zero, suc, Bool, true, false, not, eqb, List, [], ◌∷◌, ◌++◌, length, map, Option, Some, refl, sym, ap, subst, arith, get_or}
 use Rattle.std.proofs.lemmas.Bool.{eqb-true}
-use Rattle.std.specs.Prelude.{slice_get, take, unwrap_or, Contains}
+use Rattle.std.specs.Prelude.{slice_get, take, unwrap_or, Contains, option_map}
 use Rattle.std.specs.List.{AllByRecursion}
+use Rattle.std.proofs.lemmas.Option.{slice_get-map}
 use Rattle.cl_model.specs.declared.class.Class.{Class}
 use Rattle.cl_model.specs.declared.need.Equality.{Equality}
-use Rattle.cl_model.specs.States.{State, Need, AllMet, recorded, IsRecorded}
+use Rattle.cl_model.specs.States.{State, AllMet, recorded, IsRecorded, Met}
 use Rattle.cl_model.specs.Tables.{IsConsistent}
 use Rattle.cl_model.proofs.Bind.{some_same}
-use Rattle.cl_hierarchy.specs.Imposed.{Listed, OfPreparation, Sprung, needs_of}
+use Rattle.cl_hierarchy.specs.Imposed.{Listed, OfPreparation, Sprung, needs_of, equal_need}
 use Rattle.cl_hierarchy.specs.Lineages.{Lined, rows_in}
 use Rattle.cl_hierarchy.specs.Rows.{Rowed}
+use Rattle.cl_findings.proofs.Stood.{met_all, all_met}
 use Rattle.cl_registry.specs.Tables.{Shown, records_of, state_of}
 use Rattle.cl_registry.specs.Traced.{IsRowOf, IsTraced}
 use Rattle.cl_tasks.specs.Facts.{AreSo}
 use Rattle.cl_tasks.specs.Stages.{chain_facts, class_in, classes_in, goal_facts, imposed_facts, sprung_facts, traced_facts}
-use Rattle.cl_tasks.specs.Tasks.{Fact, HasLineage, IsPrepared, Stands}
+use Rattle.cl_tasks.specs.Tasks.{Fact, HasLineage, IsPrepared}
 use Rattle.cl_tasks.specs.declared.stage.Chain.{Chain}
+use Rattle.cl_tasks.proofs.Facts.{stand_met, met_stand, prepared_all}
 
 -- ---- lists of facts
 
@@ -31,18 +34,6 @@ so_first x (f ∷ fs) gs h = (h.0, so_first x fs gs h.1)
 pub so_second : (x : Shown) (fs gs : List Fact) → AreSo x (fs ++ gs) → AreSo x gs
 so_second x [] gs h = h
 so_second x (f ∷ fs) gs h = so_second x fs gs h.1
-
-pub so_to_met : (x : Shown) (ns : List Need) → AreSo x (map (λ n. Stands n) ns) → AllMet (state_of x) ns
-so_to_met x [] h = tt
-so_to_met x (n ∷ ns) h = (h.0, so_to_met x ns h.1)
-
-pub met_to_so : (x : Shown) (ns : List Need) → AllMet (state_of x) ns → AreSo x (map (λ n. Stands n) ns)
-met_to_so x [] h = tt
-met_to_so x (n ∷ ns) h = (h.0, met_to_so x ns h.1)
-
-pub so_to_prepared : (x : Shown) (cs : List Class) → AreSo x (map (λ c. IsPrepared c) cs) → AllByRecursion (Contains (state_of x).prepared) cs
-so_to_prepared x [] h = tt
-so_to_prepared x (c ∷ cs) h = (h.0, so_to_prepared x cs h.1)
 
 pub prepared_to_so : (x : Shown) (cs : List Class) → AllByRecursion (Contains (state_of x).prepared) cs → AreSo x (map (λ c. IsPrepared c) cs)
 prepared_to_so x [] h = tt
@@ -68,6 +59,11 @@ pub taken_more : {A : Type 0} (P : A → Type 0) (xs : List A) (k : ℕ) (a : A)
 taken_more P xs k a h e p =
     let one : suc k ≡ k + 1 = omega arith in
     subst (λ (n : ℕ). AllByRecursion P (take n xs)) one (taken_next P xs k a h e p)
+
+pub met_more : (x : Shown) (e : Listed) (i : ℕ) (y : Equality) → slice_get e.needs i ≡ Some y → AllMet (state_of x) (take i (needs_of e.needs)) → Met (state_of x) (equal_need y) → AllMet (state_of x) (take (i + 1) (needs_of e.needs))
+met_more x e i y at met one =
+    met_all (state_of x) (take (i + 1) (needs_of e.needs))
+    (taken_more (Met (state_of x)) (needs_of e.needs) i (equal_need y) (all_met (state_of x) (take i (needs_of e.needs)) met) (slice_get-map equal_need e.needs i ∙ ap (λ (o : Option Equality). option_map equal_need o) at) one)
 
 pub within_some : {A : Type 0} (xs : List A) (k : ℕ) → k < length xs → (a : A) × (slice_get xs k ≡ Some a)
 within_some [] k lt = absurd (omega (arith, lt))
@@ -158,7 +154,7 @@ chain_whole x k h = (so_second x (goal_facts k.goal) (HasLineage k.whole.value �
 
 pub chain_prepared : {A : Type 0} (x : Shown) (k : Chain A) → AreSo x (chain_facts k) → AllByRecursion (Contains (state_of x).prepared) (take k.place (classes_in k.whole.value))
 chain_prepared x k h =
-    so_to_prepared x (take k.place (classes_in k.whole.value))
+    prepared_all x (take k.place (classes_in k.whole.value))
     (so_second x (goal_facts k.goal) (HasLineage k.whole.value ∷ map (λ c. IsPrepared c) (take k.place (classes_in k.whole.value))) h).1
 
 pub chain_of : {A : Type 0} (x : Shown) (k : Chain A) → AreSo x (goal_facts k.goal) → IsTraced x k.whole.value.own.class k.whole.value → AllByRecursion (Contains (state_of x).prepared) (take k.place (classes_in k.whole.value))
@@ -177,7 +173,7 @@ list_chain x k e place h = so_first x (chain_facts k) (traced_facts e ++ imposed
 
 pub list_imposed : {A : Type 0} (x : Shown) (k : Chain A) (e : Listed) (place : ℕ) → AreSo x (list_facts k e place) → AllMet (state_of x) (take place (needs_of e.needs))
 list_imposed x k e place h =
-    so_to_met x (take place (needs_of e.needs)) (so_second x (traced_facts e) (imposed_facts e place) (so_second x (chain_facts k) (traced_facts e ++ imposed_facts e place) h))
+    stand_met x (take place (needs_of e.needs)) (so_second x (traced_facts e) (imposed_facts e place) (so_second x (chain_facts k) (traced_facts e ++ imposed_facts e place) h))
 
 pub list_traced : {A : Type 0} (x : Shown) (k : Chain A) (e : Listed) (place : ℕ) (at : Lined) → e.origin ≡ OfPreparation at → AreSo x (list_facts k e place) → IsTraced x at.own.class at
 list_traced x k e place at is h =
@@ -188,4 +184,4 @@ pub list_of : {A : Type 0} (x : Shown) (k : Chain A) (e : Listed) (place : ℕ) 
     → AreSo x (list_facts k e place)
 list_of x k e place at is chain traced met =
     so_both x (chain_facts k) (traced_facts e ++ imposed_facts e place) chain
-    (so_both x (traced_facts e) (imposed_facts e place) (subst (λ (from : Sprung). AreSo x (sprung_facts from)) (sym is) (traced, tt)) (met_to_so x (take place (needs_of e.needs)) met))
+    (so_both x (traced_facts e) (imposed_facts e place) (subst (λ (from : Sprung). AreSo x (sprung_facts from)) (sym is) (traced, tt)) (met_stand x (take place (needs_of e.needs)) met))

@@ -39,7 +39,7 @@ use Rattle.cl_findings.proofs.References.{next_at}
 use Rattle.cl_registry.specs.Imposing.{IsNextOf, IsPreparedAbove, IsReady, IsReadyBy, IsStanding, MayImpose, MayMark, StandsFor}
 use Rattle.cl_registry.specs.Posting.{AnswerBacked, IsBacked}
 use Rattle.cl_registry.specs.Tables.{NamesLoaders, Shown, records_of, row_of, state_of}
-use Rattle.cl_registry.specs.Traced.{IsRowOf, IsTraced}
+use Rattle.cl_registry.specs.Traced.{IsRowOf}
 use Rattle.cl_registry.proofs.Linked.{prepared_comes}
 use Rattle.cl_registry.proofs.Named.{recorded_is_named}
 use Rattle.cl_tasks.specs.Calls.{Calls, calls_in, equalities_in, link_calls, own_homes, past_loads}
@@ -62,6 +62,7 @@ use Rattle.cl_tasks.proofs.LinkAbove.{supers_prepared}
 use Rattle.cl_tasks.proofs.LinkFacts.{all_at, chain_goal, chain_of, chain_prepared, chain_whole, class_last, class_there, list_chain, list_facts, list_imposed, list_of, list_traced, none, own_recorded, row_there, taken_more, traced_own, traced_recorded, whole_length, within_some}
 use Rattle.cl_tasks.proofs.LinkNamed.{refused_named}
 use Rattle.cl_tasks.proofs.LinkPlan.{IsThere, chain_step, chain_within, equality_next, preparation_next, there}
+use Rattle.cl_tasks.proofs.MemberFacts.{traced_as}
 
 -- ---- in general
 
@@ -203,9 +204,6 @@ trace_leads told c k d chain is = record {
   backed = λ x config names fine h. subst (λ (e : Class). IsRecorded (state_of x) e) (sym is) (traced_recorded x k.whole.value.own.class k.whole.value k.place (chain_whole x k h) chain.within);
   follows = λ s x served h. tt;
 }
-
-traced_as : (x : Shown) (d : Class) (l : Lined) → IsTraced x d l → IsTraced x l.own.class l
-traced_as x d l h = record { config = h.config; class = refl; rows = h.rows }
 
 abbrev pub first_of : {A : Type 0} → Goal A → Arc Lined Global → Chain A
 first_of g whole = record { goal = g; whole = whole; place = 0 }

@@ -21,6 +21,7 @@ use Rattle.cl_model.specs.Tables.{IsConsistent}
 use Rattle.cl_model.specs.Texts.{VerdictNames}
 use Rattle.cl_model.specs.Views.{need_of, request_of, verdict_of}
 use Rattle.cl_model.proofs.Service.{need_next, resolve_wants}
+use Rattle.cl_model.proofs.Closed.{met_both}
 use Rattle.cl_config.specs.Views.{Configured}
 use Rattle.cl_hierarchy.specs.Imposed.{AreOf, Listed, Sprung, equal_need, needs_of}
 use Rattle.cl_hierarchy.specs.Lineages.{Lined}
@@ -47,7 +48,6 @@ use Rattle.cl_tasks.specs.declared.stage.Stage.TheVariants as stages
 use Rattle.cl_tasks.specs.declared.turn.Turn.TheVariants as turn
 use Rattle.cl_tasks.specs.Waits as waits
 use Rattle.cl_tasks.proofs.Entries.{HasSettle, leads_settles}
-use Rattle.cl_tasks.proofs.Facts.{met_both}
 use Rattle.cl_tasks.proofs.Lead.{Holding}
 use Rattle.cl_tasks.proofs.LinkFacts.{within_some}
 use Rattle.cl_tasks.proofs.LinkNamed.{refused_named}

@@ -1,7 +1,6 @@
 -- What the resolution of an entry that asks for a member does on a reply.
-use Rattle.std.proofs.Common.{Global, ◌≡◌, ◌∙◌, ◌<◌, ◌≤◌, ◌+◌, ◌-◌, ℕ, [], ◌∷◌, ◌++◌, length, Option, Some, None, inl, refl, sym, ap, subst, arith}
-use Rattle.std.specs.Prelude.{slice_get, take, option_map, IfSome}
-use Rattle.std.proofs.lemmas.Option.{slice_get-map}
+use Rattle.std.proofs.Common.{Global, ◌≡◌, ◌<◌, ◌≤◌, ◌+◌, ◌-◌, ℕ, [], ◌∷◌, ◌++◌, length, Option, Some, None, inl, refl, sym, subst, arith}
+use Rattle.std.specs.Prelude.{slice_get, IfSome}
 use Rattle.std.specs.declared.sync.Arc.{Arc}
 use Rattle.cl_model.specs.declared.answer.Answer.TheVariants as answers
 use Rattle.cl_model.specs.declared.class.Class.{Class}
@@ -11,14 +10,13 @@ use Rattle.cl_model.specs.declared.request.Request.{Request}
 use Rattle.cl_model.specs.declared.request.Request.TheVariants as requests
 use Rattle.cl_model.specs.declared.settled.Settled.{Settled}
 use Rattle.cl_model.specs.Content.{Content}
-use Rattle.cl_model.specs.States.{AllMet, Met, recorded}
+use Rattle.cl_model.specs.States.{Met, recorded}
 use Rattle.cl_model.specs.Views.{need_of}
 use Rattle.cl_config.specs.Views.{Configured}
-use Rattle.cl_hierarchy.specs.Imposed.{Listed, equal_need, needs_of}
+use Rattle.cl_hierarchy.specs.Imposed.{equal_need}
 use Rattle.cl_hierarchy.specs.Lineages.{Lined}
 use Rattle.cl_hierarchy.specs.Rows.{Rowed}
 use Rattle.cl_findings.specs.Findings.{loader_of}
-use Rattle.cl_findings.proofs.Stood.{all_met, met_all}
 use Rattle.cl_registry.specs.References.{IsSettledIn}
 use Rattle.cl_registry.specs.Tables.{Shown, records_of, state_of}
 use Rattle.cl_tasks.specs.Calls.{past_loads}
@@ -43,7 +41,7 @@ use Rattle.cl_tasks.proofs.Deriving.{past_derives}
 use Rattle.cl_tasks.proofs.Entries.{leads_shared}
 use Rattle.cl_tasks.proofs.Lacking.{shared_memory}
 use Rattle.cl_tasks.proofs.Lead.{leads_more, plain_no_fault, plain_reads}
-use Rattle.cl_tasks.proofs.LinkFacts.{taken_more, within_some}
+use Rattle.cl_tasks.proofs.LinkFacts.{within_some, met_more}
 use Rattle.cl_tasks.proofs.MemberFacts.{member_imposed, member_needs, member_of, member_own, member_through, traced_as}
 
 same_room : (m : ℕ) → m ≤ m
@@ -86,11 +84,6 @@ named_steps {A = A} told c e own k named n is l plain past =
     }
 
 -- ---- equalities
-
-met_more : (x : Shown) (e : Listed) (i : ℕ) (y : Equality) → slice_get e.needs i ≡ Some y → AllMet (state_of x) (take i (needs_of e.needs)) → Met (state_of x) (equal_need y) → AllMet (state_of x) (take (i + 1) (needs_of e.needs))
-met_more x e i y at met one =
-    met_all (state_of x) (take (i + 1) (needs_of e.needs))
-    (taken_more (Met (state_of x)) (needs_of e.needs) i (equal_need y) (all_met (state_of x) (take i (needs_of e.needs)) met) (slice_get-map equal_need e.needs i ∙ ap (λ (o : Option Equality). option_map equal_need o) at) one)
 
 imposed_told : {A : Type 0} (m : Member A) (i : ℕ) (x : Shown) → i < length m.equalities.value.needs → ImposedTold m i x → IfSome (slice_get m.equalities.value.needs i) (λ n. Met (state_of x) (equal_need n)) → ImposedTold m (i + 1) x
 imposed_told m i x lt h one =

@@ -11,6 +11,7 @@ use Rattle.cl_model.specs.Frames.{kept_of}
 use Rattle.cl_model.specs.States.{Need, AllMet, Entry, Equal, recorded}
 use Rattle.cl_model.specs.Views.{need_of}
 use Rattle.cl_model.proofs.Stacks.{kept_is_met}
+use Rattle.cl_model.proofs.Closed.{met_both}
 use Rattle.cl_config.specs.Views.{Configured}
 use Rattle.cl_hierarchy.specs.Paths.{Pathed, at_loader, at_name, frames_of}
 use Rattle.cl_findings.specs.declared.load.NextRecord.{NextRecord}
@@ -29,7 +30,6 @@ use Rattle.cl_tasks.specs.Stages.{IsFailure, IsJob, load_of, target_facts}
 use Rattle.cl_tasks.specs.Steps.{EndTold, EndWithin, EndsOn, HoldsOn}
 use Rattle.cl_tasks.specs.declared.stage.Job.{Job}
 use Rattle.cl_tasks.proofs.Ending.{Ended}
-use Rattle.cl_tasks.proofs.Facts.{met_both}
 use Rattle.cl_tasks.proofs.Keep.{all_kept}
 use Rattle.cl_tasks.proofs.Said.{IsRecordIn, said_of}
 

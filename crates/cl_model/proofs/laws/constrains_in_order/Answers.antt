@@ -1,8 +1,8 @@
 use Rattle.std.proofs.Common.{◌≡◌, ◌∙◌, List, [], ◌∷◌, ◌++◌, inl, inr, refl, ap, sym, subst}
 use Rattle.cl_model.specs.States.{State, Need, Equal, Met, AllMet, IsNext}
 use Rattle.cl_model.specs.Machine.{Imposes}
-use Rattle.cl_model.proofs.Gone.{next_after}
 use Rattle.cl_model.proofs.laws.constrains_in_order.Goals as goal
+use Rattle.cl_model.proofs.Aims.{next_right}
 
 -- what is next stands behind needs that are met
 place : (s : State) (ns : List Need) (n : Need) → IsNext s ns n → (before : List Need) × (behind : List Need) × (ns ≡ before ++ n ∷ behind) × AllMet s before
@@ -16,7 +16,7 @@ returns c = λ g s name one other. (
   λ h. record {
     needs = h.0 ++ Equal name one other ∷ h.1;
     imposes = h.2;
-    next = next_after s h.0 (Equal name one other ∷ h.1) (Equal name one other) h.3 (inl refl);
+    next = next_right s h.0 (Equal name one other ∷ h.1) (Equal name one other) h.3 (inl refl);
     may_add = h.4;
   },
 )

@@ -5,7 +5,8 @@ use Rattle.cl_model.specs.Plans.{Request}
 use Rattle.cl_model.specs.Machine.{Setting, Scheduled, Step, Post, NextRound, MayGoOn, after, state_after}
 use Rattle.cl_model.specs.Service.{IsBegun, Serves, PassesRounds, AllServed}
 use Rattle.cl_model.specs.ExampleServices.{of_second, of_fourth, sparse, failed}
-use Rattle.cl_model.proofs.Serving.{OfService, of_service}
+use Rattle.cl_model.specs.Steps.{IsOfService}
+use Rattle.cl_model.proofs.Serving.{of_service}
 use Rattle.cl_model.proofs.service_examples.rounds_between_services.Goals as goal
 
 -- ---- the first step of what is served
@@ -42,7 +43,7 @@ round_first g q s (r ∷ rs) es h = begun h.0 h.1 h.2 h.3 h.4 h.5 h.6
       where
         first : (steps : List Step) → IsBegun g r.request t steps → NextRound ∷ es ≡ (steps ++ Post q serves.answer ∷ []) ++ others → ⊥
         first [] b e = absurd (let same : NextRound ≡ Post q serves.answer = head e in cc)
-        first (d ∷ ds) b e = subst (λ (x : Step). OfService x) (sym (head e)) (of_service g t r.request d b.0)
+        first (d ∷ ds) b e = subst (λ (x : Step). IsOfService x) (sym (head e)) (of_service g t r.request d b.0)
 
     begun : (rounds one others : List Step) → NextRound ∷ es ≡ rounds ++ (one ++ others) → PassesRounds g s rounds → Serves g q r.request (state_after s rounds) one → AllServed g (suc q) (state_after (state_after s rounds) one) rs others → RoundFirst g q s (r ∷ rs) es
     begun [] one others split passes serves more = absurd (no_piece s one others split serves)
@@ -76,7 +77,7 @@ post_first g q p a s r rs es h = begun h.0 h.1 h.2 h.3 h.4 h.5 h.6
             )
         ends (d ∷ ds) one b posted split more =
             let e : Post p a ∷ es ≡ d ∷ ((ds ++ Post q serves.answer ∷ []) ++ others) = split ∙ ap (λ (l : List Step). l ++ others) posted in
-            absurd (subst (λ (x : Step). OfService x) (sym (head e)) (of_service g s r.request d b.0))
+            absurd (subst (λ (x : Step). IsOfService x) (sym (head e)) (of_service g s r.request d b.0))
 
 -- ---- where the next round of the example may begin
 

@@ -13,10 +13,10 @@ returns-in-Some c =
     let f = c.args.self.now in
     let name = c.args.name.now in
     let descriptor = c.args.descriptor.now in
-    let index = c.in-Some.index.now in
+    let index = c.in-Some.it.now in
     let led : Leads f.pool index f.fields f.methods = c.in-Some.ensures.index in
-    map_after (λ m. m.now) (linked_field f) c.field.result _
-    (c.field.ensures ∙ ap (λ (ms : List Member). led_to index.numbers index.fields ms name descriptor) c.fields.ensures
+    map_after (λ m. m.now) (linked_field f) c.led_to.result _
+    (c.led_to.ensures ∙ ap (λ (ms : List Member). led_to index.numbers index.fields ms name descriptor) c.fields.ensures
     ∙ leads f.pool index.numbers index.fields f.fields led.fields c.in-Some.ensures.sound.kept.fields.new name descriptor)
     ∙ field_is f c.in-Some.ensures.sound name descriptor
 

@@ -13,10 +13,10 @@ returns-in-Some c =
     let f = c.args.self.now in
     let name = c.args.name.now in
     let descriptor = c.args.descriptor.now in
-    let index = c.in-Some.index.now in
+    let index = c.in-Some.it.now in
     let led : Leads f.pool index f.fields f.methods = c.in-Some.ensures.index in
-    map_after (λ m. m.now) (linked_method f) c.method.result _
-    (c.method.ensures ∙ ap (λ (ms : List Member). led_to index.numbers index.methods ms name descriptor) c.methods.ensures
+    map_after (λ m. m.now) (linked_method f) c.led_to.result _
+    (c.led_to.ensures ∙ ap (λ (ms : List Member). led_to index.numbers index.methods ms name descriptor) c.methods.ensures
     ∙ leads f.pool index.numbers index.methods f.methods led.methods c.in-Some.ensures.sound.kept.methods.new name descriptor)
     ∙ method_is f c.in-Some.ensures.sound name descriptor
 

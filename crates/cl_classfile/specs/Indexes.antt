@@ -3,11 +3,13 @@ use Rattle.std.specs.Prelude.{
   ◌≡◌,
   ℕ,
   ◌<◌,
+  ◌≤◌,
   List,
+  length,
   Option,
   Some,
   IsSome,
-  IfSome,
+  MatchOption,
   option_and_then,
   slice_get,
 }
@@ -16,6 +18,7 @@ use Rattle.cl_classfile.specs.declared.entry.Entry.{Entry}
 use Rattle.cl_classfile.specs.declared.numbers.Numbers.{Numbers}
 use Rattle.cl_classfile.specs.declared.index.Places.{Places}
 use Rattle.cl_classfile.specs.declared.index.Index.{Index}
+use Rattle.cl_classfile.specs.declared.index.TheConstants.{FEW}
 use Rattle.cl_classfile.specs.Structure.{Structure, Member}
 use Rattle.cl_classfile.specs.Numbers.{AreNoted, number_at, number_of}
 use Rattle.cl_classfile.specs.Seen.{pair_cmp}
@@ -67,6 +70,15 @@ pub record Leads (pool : List Entry) (i : Index) (fs ms : List Member) : Type 0 
   pub fields : Lead pool i.numbers i.fields fs
   pub methods : Lead pool i.numbers i.methods ms
 
--- an index, if there is one, leads to the fields and the methods of the file
+-- these fields and these methods are so few that they have no index
+pub record AreFew (fs ms : List Member) : Type 0 where
+  pub fields : length fs ≤ FEW
+  pub methods : length ms ≤ FEW
+
+-- fields and methods are few, or there is an index, which leads to them
+abbrev pub IsIndexed : List Entry → List Member → List Member → Option Index → Type 0
+IsIndexed pool fs ms index = MatchOption index (AreFew fs ms) (λ i. Leads pool i fs ms)
+
+-- the fields and the methods of the file are few, or there is an index, which leads to them
 abbrev pub IsIndexOf : Option Index → Structure → Type 0
-IsIndexOf index f = IfSome index (λ i. Leads f.pool i f.fields f.methods)
+IsIndexOf index f = IsIndexed f.pool f.fields f.methods index

@@ -1,10 +1,10 @@
 //! Where the members of a class stand, by their names and descriptors: made once for a class of many members, as it is read.
 
-ghost use Rattle.std.specs.Prelude.{◌≡◌, ℕ, List, IfOk, IfSome};
+ghost use Rattle.std.specs.Prelude.{◌≡◌, ℕ, List, IfOk};
 ghost use Rattle.std.specs.Option.{option_map};
 ghost use Rattle.cl_classfile.specs.declared.entry.Entry.{Entry};
 ghost use Rattle.cl_classfile.specs.Numbers.{AreNoted};
-ghost use Rattle.cl_classfile.specs.Indexes.{Leads, StandThere, led_to, member_at};
+ghost use Rattle.cl_classfile.specs.Indexes.{IsIndexed, StandThere, led_to, member_at};
 
 use crate::member::Member;
 use crate::numbers::Numbers;
@@ -43,7 +43,7 @@ pub fn index_of(
 ) -> Result<Option<Index>, AllocError>
     ensures { (pool : List Entry) → AreNoted pool numbers fields.now
         → AreNoted pool numbers methods.now
-        → IfOk result (λ o. IfSome o (λ i. Leads pool i fields.now methods.now)) }
+        → IfOk result (IsIndexed pool fields.now methods.now) }
 {
     if are_few(fields, methods) {
         return Ok(None);

@@ -1,10 +1,10 @@
 //! Where the members of a class stand, by their names and descriptors: made once for a class of many members, as it is read.
 
-ghost use Rattle.std.specs.Prelude.{◌≡◌, ℕ, List, IfOk};
+ghost use Rattle.std.specs.Prelude.{◌≡◌, ℕ, List, true, IfOk};
 ghost use Rattle.std.specs.Option.{option_map};
 ghost use Rattle.cl_classfile.specs.declared.entry.Entry.{Entry};
 ghost use Rattle.cl_classfile.specs.Numbers.{AreNoted};
-ghost use Rattle.cl_classfile.specs.Indexes.{IsIndexed, StandThere, led_to, member_at};
+ghost use Rattle.cl_classfile.specs.Indexes.{AreFew, IsIndexed, StandThere, led_to, member_at};
 
 use crate::member::Member;
 use crate::numbers::Numbers;
@@ -29,8 +29,10 @@ pub struct Index {
     pub(crate) methods: Places,
 }
 
-/// Whether these members have no index.
-pub fn are_few(fields: &[Member], methods: &[Member]) -> bool {
+/// Whether these members are so few that they have no index.
+pub fn are_few(fields: &[Member], methods: &[Member]) -> bool
+    ensures { result ≡ true → AreFew fields.now methods.now }
+{
     fields.len() <= FEW && methods.len() <= FEW
 }
 

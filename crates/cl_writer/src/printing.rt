@@ -15,7 +15,8 @@ use std::alloc::Global;
 use std::io::Write;
 
 /// Writes the lines of `listing`, a page at a time, so that it takes no more memory than a page, the longest line, and 16 MB
-/// of long names as they are printed, each of which is made once however many lines have it. Where a write is refused, or memory is out, a beginning of them is written.
+/// of long names as they are printed, each of which is made once however many lines have it. Where a write is refused, or
+/// memory is out, a beginning of them is written.
 pub fn print_listing<W: Write>(
     alloc: Global,
     file: &ClassFile,

@@ -5,3 +5,4 @@ pub mod Faults
 pub mod Items
 pub mod Listings
 pub mod Statements
+pub mod Texts

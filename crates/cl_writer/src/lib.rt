@@ -12,6 +12,7 @@ mod listings;
 mod making;
 mod printing;
 mod statement;
+mod texts;
 mod writing;
 
 pub use assembling::{assemble, assemble_with_hasher};

@@ -6,8 +6,10 @@ ghost use Rattle.std.specs.Option.{option_map};
 ghost use Rattle.std.specs.Char.{digit_char};
 ghost use Rattle.cl_classfile.specs.Files.{type_name, text_at};
 ghost use Rattle.cl_writer.specs.Listings.{printed_flags, printed_name, printed_super, printed_type, class_line, implements_line, member_line, listing_of};
+ghost use Rattle.cl_writer.specs.Texts.{AreTexts};
 
-use cl_classfile::{ClassFile, Entry, Member, text_at, type_name};
+use crate::texts::Texts;
+use cl_classfile::{ClassFile, Entry, Member, type_name};
 use cl_names::Name;
 use std::alloc::{AllocError, Global};
 
@@ -17,10 +19,17 @@ pub fn listing(alloc: Global, file: &ClassFile) -> Result<String, AllocError>
     ensures { IfOk result (λ text. string_bytes text ≡ listing_of file.now) }
 {
     let mut text = String::new(alloc);
+    let mut texts = Texts::new(alloc, file.pool());
     put_class(&mut text, file)?;
-    put_interfaces(&mut text, file.pool(), file.interfaces())?;
-    put_members(&mut text, "field ", file.pool(), file.fields())?;
-    put_members(&mut text, "method ", file.pool(), file.methods())?;
+    put_interfaces(&mut text, file.pool(), file.interfaces(), &mut texts)?;
+    put_members(&mut text, "field ", file.pool(), file.fields(), &mut texts)?;
+    put_members(
+        &mut text,
+        "method ",
+        file.pool(),
+        file.methods(),
+        &mut texts,
+    )?;
     Ok(text)
 }
 
@@ -64,22 +73,36 @@ fn put_super(text: &mut String, pool: &[Entry], super_class: u16) -> Result<(), 
     put_type(text, pool, super_class)
 }
 
-fn put_interfaces(text: &mut String, pool: &[Entry], interfaces: &[u16]) -> Result<(), AllocError>
-    ensures { OnOk result (string_bytes text.new ≡ string_bytes text.old ++ flat_map
+fn put_interfaces(
+    text: &mut String,
+    pool: &[Entry],
+    interfaces: &[u16],
+    texts: &mut Texts,
+) -> Result<(), AllocError>
+    requires { AreTexts pool.now texts.old }
+    ensures put { OnOk result (string_bytes text.new ≡ string_bytes text.old ++ flat_map
         (implements_line pool.now) interfaces.now) }
+    ensures texts { OnOk result (AreTexts pool.now texts.new) }
 {
     for interface in interfaces {
-        put_interface(text, pool, *interface)?;
+        put_interface(text, pool, *interface, texts)?;
     }
     Ok(())
 }
 
-pub fn put_interface(text: &mut String, pool: &[Entry], interface: u16) -> Result<(), AllocError>
-    ensures { OnOk result (string_bytes text.new ≡ string_bytes text.old ++ implements_line pool.now
-        interface) }
+pub fn put_interface(
+    text: &mut String,
+    pool: &[Entry],
+    interface: u16,
+    texts: &mut Texts,
+) -> Result<(), AllocError>
+    requires { AreTexts pool.now texts.old }
+    ensures put { OnOk result (string_bytes text.new ≡ string_bytes text.old
+        ++ implements_line pool.now interface) }
+    ensures texts { OnOk result (AreTexts pool.now texts.new) }
 {
     text.push_str("implements ")?;
-    put_type(text, pool, interface)?;
+    texts.put_type(text, pool, interface)?;
     text.push_str("\n")
 }
 
@@ -88,12 +111,15 @@ fn put_members(
     word: &str,
     pool: &[Entry],
     members: &[Member],
+    texts: &mut Texts,
 ) -> Result<(), AllocError>
-    ensures { OnOk result (string_bytes text.new ≡ string_bytes text.old ++ flat_map
+    requires { AreTexts pool.now texts.old }
+    ensures put { OnOk result (string_bytes text.new ≡ string_bytes text.old ++ flat_map
         (member_line word.now pool.now) members.now) }
+    ensures texts { OnOk result (AreTexts pool.now texts.new) }
 {
     for member in members {
-        put_member(text, word, pool, member)?;
+        put_member(text, word, pool, member, texts)?;
     }
     Ok(())
 }
@@ -103,14 +129,17 @@ pub fn put_member(
     word: &str,
     pool: &[Entry],
     member: &Member,
+    texts: &mut Texts,
 ) -> Result<(), AllocError>
-    ensures { OnOk result (string_bytes text.new ≡ string_bytes text.old ++ member_line word.now
+    requires { AreTexts pool.now texts.old }
+    ensures put { OnOk result (string_bytes text.new ≡ string_bytes text.old ++ member_line word.now
         pool.now member.now) }
+    ensures texts { OnOk result (AreTexts pool.now texts.new) }
 {
     put_head(text, word, member.flags())?;
-    put_name(text, text_at(pool, member.name_index()))?;
+    texts.put_name(text, pool, member.name_index())?;
     text.push_str(" ")?;
-    put_name(text, text_at(pool, member.descriptor_index()))?;
+    texts.put_name(text, pool, member.descriptor_index())?;
     text.push_str("\n")
 }
 

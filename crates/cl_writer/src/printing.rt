@@ -5,15 +5,18 @@ ghost use Rattle.std.specs.List.{flat_map};
 ghost use Rattle.std.specs.Io.KnownBytes.{Appends};
 ghost use Rattle.cl_streams.specs.Writing.{AppendsPart, Passes};
 ghost use Rattle.cl_writer.specs.Listings.{class_line, implements_line, listing_of, member_line};
+ghost use Rattle.cl_writer.specs.Texts.{AreTexts};
 
 use crate::listings::{put_class, put_interface, put_member};
+use crate::texts::Texts;
 use cl_classfile::{ClassFile, Entry, Member};
 use cl_streams::{PrintFault, pass_page, write_out};
 use std::alloc::Global;
 use std::io::Write;
 
-/// Writes the lines of `listing`, a page at a time, so that it takes no more memory than a page and the longest line.
-/// Where a write is refused, or memory is out, a beginning of them is written.
+/// Writes the lines of `listing`, a page at a time, so that it takes no more memory than a page, the longest line, and 16 MB
+/// of long names as they are printed, each of which is made once however many lines have it. Where a write is refused, or
+/// memory is out, a beginning of them is written.
 pub fn print_listing<W: Write>(
     alloc: Global,
     file: &ClassFile,
@@ -25,10 +28,31 @@ pub fn print_listing<W: Write>(
         (AppendsPart (W.contents out.old) (W.contents out.new) (listing_of file.now)) }
 {
     let mut waiting = String::new(alloc);
+    let mut texts = Texts::new(alloc, file.pool());
     put_class(&mut waiting, file)?;
-    print_interfaces(file.pool(), file.interfaces(), out, &mut waiting)?;
-    print_members("field ", file.pool(), file.fields(), out, &mut waiting)?;
-    print_members("method ", file.pool(), file.methods(), out, &mut waiting)?;
+    print_interfaces(
+        file.pool(),
+        file.interfaces(),
+        out,
+        &mut waiting,
+        &mut texts,
+    )?;
+    print_members(
+        "field ",
+        file.pool(),
+        file.fields(),
+        out,
+        &mut waiting,
+        &mut texts,
+    )?;
+    print_members(
+        "method ",
+        file.pool(),
+        file.methods(),
+        out,
+        &mut waiting,
+        &mut texts,
+    )?;
     write_out(out, waiting.as_bytes())
 }
 
@@ -38,7 +62,10 @@ fn print_interfaces<W: Write>(
     interfaces: &[u16],
     out: &mut W,
     waiting: &mut String,
+    texts: &mut Texts,
 ) -> Result<(), PrintFault>
+    requires { AreTexts pool.now texts.old }
+    ensures texts { OnOk result (AreTexts pool.now texts.new) }
     ensures lines { OnOk result (Passes (W.contents out.old) (string_bytes waiting.old)
         (W.contents out.new) (string_bytes waiting.new)
         (flat_map (implements_line pool.now) interfaces.now)) }
@@ -46,7 +73,7 @@ fn print_interfaces<W: Write>(
         (string_bytes waiting.old ++ flat_map (implements_line pool.now) interfaces.now)) }
 {
     for interface in interfaces {
-        print_interface(pool, *interface, out, waiting)?;
+        print_interface(pool, *interface, out, waiting, texts)?;
     }
     Ok(())
 }
@@ -56,13 +83,16 @@ fn print_interface<W: Write>(
     interface: u16,
     out: &mut W,
     waiting: &mut String,
+    texts: &mut Texts,
 ) -> Result<(), PrintFault>
+    requires { AreTexts pool.now texts.old }
+    ensures texts { OnOk result (AreTexts pool.now texts.new) }
     ensures line { OnOk result (Passes (W.contents out.old) (string_bytes waiting.old)
         (W.contents out.new) (string_bytes waiting.new) (implements_line pool.now interface)) }
     ensures part { OnErr result (AppendsPart (W.contents out.old) (W.contents out.new)
         (string_bytes waiting.old ++ implements_line pool.now interface)) }
 {
-    put_interface(waiting, pool, interface)?;
+    put_interface(waiting, pool, interface, texts)?;
     pass_page(out, waiting)
 }
 
@@ -73,7 +103,10 @@ fn print_members<W: Write>(
     members: &[Member],
     out: &mut W,
     waiting: &mut String,
+    texts: &mut Texts,
 ) -> Result<(), PrintFault>
+    requires { AreTexts pool.now texts.old }
+    ensures texts { OnOk result (AreTexts pool.now texts.new) }
     ensures lines { OnOk result (Passes (W.contents out.old) (string_bytes waiting.old)
         (W.contents out.new) (string_bytes waiting.new)
         (flat_map (member_line word.now pool.now) members.now)) }
@@ -81,7 +114,7 @@ fn print_members<W: Write>(
         (string_bytes waiting.old ++ flat_map (member_line word.now pool.now) members.now)) }
 {
     for member in members {
-        print_member(word, pool, member, out, waiting)?;
+        print_member(word, pool, member, out, waiting, texts)?;
     }
     Ok(())
 }
@@ -92,13 +125,16 @@ fn print_member<W: Write>(
     member: &Member,
     out: &mut W,
     waiting: &mut String,
+    texts: &mut Texts,
 ) -> Result<(), PrintFault>
+    requires { AreTexts pool.now texts.old }
+    ensures texts { OnOk result (AreTexts pool.now texts.new) }
     ensures line { OnOk result (Passes (W.contents out.old) (string_bytes waiting.old)
         (W.contents out.new) (string_bytes waiting.new)
         (member_line word.now pool.now member.now)) }
     ensures part { OnErr result (AppendsPart (W.contents out.old) (W.contents out.new)
         (string_bytes waiting.old ++ member_line word.now pool.now member.now)) }
 {
-    put_member(waiting, word, pool, member)?;
+    put_member(waiting, word, pool, member, texts)?;
     pass_page(out, waiting)
 }

@@ -124,7 +124,7 @@ def run():
     """Tries the edits, as those of a small crate and then as those of a large one, in parts side by side. Returns the exit
     status."""
     passed, failed = run_once(lanes=1)
-    trial.LARGE_LINES, trial.LEAST_EDITS = 0, 3
+    trial.LARGE_LINES, trial.FIRST_EDITS, trial.LEAST_EDITS, trial.PART_BYTES = 0, 3, 3, 0
     print("the same in parts, side by side", flush=True)
     again, failed_again = run_once(lanes=3)
     print(f"{passed + again} passed, {failed + failed_again} failed")

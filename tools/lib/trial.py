@@ -25,10 +25,14 @@ from reach import Reach
 LOADING_SECONDS = 240
 LINE_SECONDS = 0.2
 EDIT_SECONDS = 10
-# A crate of more lines than these has its edits tried in parts side by side, of so many at the least: a crate that stands on all others
-# has its trial last, when other cores would have nothing to do.
+# A crate of more lines than these has so many edits tried by one check first. All others go on from the definitions, lemmas and types
+# that this check kept: in parts side by side, since a crate that stands on all others has its trial last, when other cores would have
+# nothing to do. A part has at least so many edits, and more where its checks then hold less than so many bytes, by what the first held:
+# each check pays for its beginning.
 LARGE_LINES = 4000
+FIRST_EDITS = 16
 LEAST_EDITS = 12
+PART_BYTES = 3_000_000_000
 
 
 @dataclass
@@ -84,17 +88,17 @@ def own_reason(name, checked, span=None, by_lemma=False):
 class Trial:
     """The trial of edits of one crate, whose functions are known."""
 
-    def __init__(self, crate, known, lanes, edits, kept):
-        self.crate, self.edits, self.kept, self.lanes = crate, edits, kept, lanes
+    def __init__(self, crate, known, lanes, edits, kept, peak=0, behind=0):
+        self.crate, self.edits, self.kept, self.lanes, self.behind = crate, edits, kept, lanes, behind
         self.known, self.taken = known, {it for it in known if kit.can_take(it)}
-        self.told = Told(crate.name, [it.name for it in edits])
+        self.told = Told(crate.name, [it.name for it in edits], peak=peak)
 
     def fail(self, edit, why):
         self.told.failed.append(f"{edit}: {' '.join(why.split())[:400]}")
 
     def check(self, texts, functions, number):
         """Checks these functions in one copy with so many edits. The crates with most left to do go first."""
-        left = len(self.edits) - len(self.told.refused) - len(self.told.failed)
+        left = self.behind + len(self.edits) - len(self.told.refused) - len(self.told.failed)
         lines = lines_of(self.crate)
         limit = LOADING_SECONDS + LINE_SECONDS * lines + EDIT_SECONDS * number
         needs = int(1.2 * self.told.peak) + kit.LEAST_BYTES if self.told.peak else kit.MOST_BYTES
@@ -187,15 +191,22 @@ def found_names(crate, edits, known):
     return good, [f"{it}: BAD EDIT: {it.bad}" for it in edits if it.bad]
 
 
-def parts(edits, most):
-    """The edits in so many parts at the most, each with all edits of its functions: a check takes over what those before it in its part
-    proved of them."""
+def first_and_others(edits):
+    """Those of the edits that one check of a large crate tries first, and the others."""
+    first = max(grouped(edits), key=len)[:FIRST_EDITS]
+    names = {it.name for it in first}
+    return first, [it for it in edits if it.name not in names]
+
+
+def parts(edits, most, least):
+    """The edits in so many parts at the most, of so many edits at the least, each with all edits of its functions: a check takes over
+    what those before it in its part proved of them."""
     found = []  # functions, and the edits of these
     for edit in edits:
         joined = [it for it in found if it[0] & edit.functions]
         found = [it for it in found if not it[0] & edit.functions]
         found.append((edit.functions.union(*(it[0] for it in joined)), [edit, *(other for it in joined for other in it[1])]))
-    given = [[] for _ in range(max(1, min(most, len(edits) // LEAST_EDITS)))]
+    given = [[] for _ in range(max(1, min(most, len(edits) // least)))]
     for _, those in sorted(found, key=lambda it: -len(it[1])):
         min(given, key=len).extend(those)
     return given
@@ -230,13 +241,20 @@ def try_crate(crate, edits, log, lanes):
 
 
 def try_known(crate, edits, known, kept, lanes):
-    """Tries the edits of a crate whose functions are known, those of a large one in parts side by side, each over a copy of what is kept."""
+    """Tries the edits of a crate whose functions are known: of a large one some first, and the others in parts side by side, each over a
+    copy of what those kept."""
     good, bad = found_names(crate, edits, known)
-    divided = parts(good, lanes.most) if lines_of(crate) > LARGE_LINES else [good]
-    folders = [kept, *(shutil.copytree(kept, f"{kept}-{at}") for at in range(1, len(divided)))]
     told = Told(crate.name, [it.name for it in edits if it.bad], failed=bad)
+    is_large = lines_of(crate) > LARGE_LINES and len(good) > FIRST_EDITS
+    first, others = first_and_others(good) if is_large else (good, [])
+    told.add(Trial(crate, known, lanes, first, kept, behind=len(others)).run())
+    if not others:
+        return told
+    least = max(LEAST_EDITS, FIRST_EDITS * PART_BYTES // max(1, told.peak))
+    divided = parts(others, lanes.most, least)
+    folders = [kept, *(shutil.copytree(kept, f"{kept}-{at}") for at in range(1, len(divided)))]
     with ThreadPoolExecutor(len(divided)) as pool:
-        for part in pool.map(lambda it: Trial(crate, known, lanes, *it).run(), zip(divided, folders)):
+        for part in pool.map(lambda it: Trial(crate, known, lanes, *it, told.peak).run(), zip(divided, folders)):
             told.add(part)
     return told
 

@@ -18,11 +18,12 @@ const LOADERS: u16 = 8;
 /// Loaders that a refusal is seen to leave as they were.
 const WATCHED: u16 = 8;
 
-/// What a book is asked.
-#[derive(Clone, Copy)]
+/// What a book is asked: to enter what a loader records, and its home, or to impose an equality of two loaders. (A table of calls
+/// that carry numbers costs the proof of whoever reads it minutes, one of tuples seconds.)
+#[derive(Clone, Copy, PartialEq, Eq)]
 enum Call {
-    Enter { loader: u16, home: u16 },
-    Impose { one: u16, other: u16 },
+    Enter,
+    Impose,
 }
 
 use Call::{Enter, Impose};
@@ -35,6 +36,30 @@ enum Answer {
     Added,
     Stands,
     Violates,
+}
+
+use Answer::{Added, Entered, Recorded, Stands, Violates};
+
+/// The names of the sequences: `p/T`, `p/U` and `q/T`.
+#[derive(Clone, Copy)]
+enum Named {
+    T,
+    U,
+    Other,
+}
+
+use Named::{Other, T, U};
+
+fn name_of(alloc: Global, name: Named) -> Result<Name, AllocError> {
+    let bytes: &[u8] = match name {
+        T => b"p/T",
+        U => b"p/U",
+        Other => b"q/T",
+    };
+    match Name::class(alloc, bytes) {
+        Ok(name) => Ok(name),
+        Err(_) => Err(AllocError),
+    }
 }
 
 /// What looks tell of a name and two loaders.
@@ -57,9 +82,10 @@ fn look<B: ConstraintBook>(book: &B, name: &Name, one: LoaderId, other: LoaderId
 fn sight<B: ConstraintBook>(book: &B, name: &Name, watched: u16) -> u64 {
     let mut sight = 0u64;
     for one in 0..watched {
-        let home = book
-            .home(name, LoaderId(one))
-            .map_or(0, |home| u64::from(home.0) + 1);
+        let home = match book.home(name, LoaderId(one)) {
+            Some(LoaderId(home)) => u64::from(home) + 1,
+            None => 0,
+        };
         sight = sight.wrapping_mul(65_537).wrapping_add(home);
         for other in 0..one {
             let joined = book.joined(name, LoaderId(one), LoaderId(other));
@@ -80,12 +106,12 @@ fn enter<B: ConstraintBook>(
     home: LoaderId,
 ) -> Result<Answer, Fail> {
     if book.home(&name, loader).is_some() {
-        return Ok(Answer::Recorded);
+        return Ok(Recorded);
     }
     let admits = book.admits(&name, loader, home);
     let before = sight(book, &name, watched);
     let Err(mut back) = book.enter(alloc, name, loader, home) else {
-        return Ok(Answer::Entered);
+        return Ok(Entered);
     };
     if sight(book, &back.name, watched) != before || book.home(&back.name, loader).is_some() {
         return Err(Fail::new("a refused record left a trace"));
@@ -93,12 +119,12 @@ fn enter<B: ConstraintBook>(
     if back.fault == BookFault::Memory {
         println!(rt; "refused: ConstraintBook::enter")?;
         let Err(again) = book.enter(alloc, back.name, loader, home) else {
-            return Ok(Answer::Entered);
+            return Ok(Entered);
         };
         back = again;
     }
     match back.fault {
-        BookFault::Violates if !admits => Ok(Answer::Violates),
+        BookFault::Violates if !admits => Ok(Violates),
         _ => Err(Fail::new("refused what it admits")),
     }
 }
@@ -120,152 +146,75 @@ fn impose<B: ConstraintBook>(
             return Err(Fail::new("a refused equality left a trace"));
         }
         if back.fault != BookFault::Memory {
-            return Ok(Answer::Violates);
+            return Ok(Violates);
         }
         println!(rt; "refused: ConstraintBook::impose")?;
         imposed = book.impose(alloc, back.name, one, other);
     }
     match imposed {
-        Ok(true) => Ok(Answer::Added),
-        Ok(false) => Ok(Answer::Stands),
-        Err(_) => Ok(Answer::Violates),
+        Ok(true) => Ok(Added),
+        Ok(false) => Ok(Stands),
+        Err(_) => Ok(Violates),
     }
 }
 
-/// Asks a book about a name.
+/// Asks a book about a name and two loaders.
 fn ask<B: ConstraintBook>(
     rt: &impl Print,
     alloc: Global,
     book: &mut B,
     watched: u16,
-    name: &[u8],
-    call: Call,
+    asked: (Named, Call, u16, u16),
 ) -> Result<Answer, Fail> {
-    let name = Name::class(alloc, name).map_err(|_| AllocError)?;
+    let (name, call, one, other) = asked;
+    let name = name_of(alloc, name)?;
+    let (one, other) = (LoaderId(one), LoaderId(other));
     match call {
-        Enter { loader, home } => {
-            enter(
-                rt,
-                alloc,
-                book,
-                watched,
-                name,
-                LoaderId(loader),
-                LoaderId(home),
-            )
-        }
-        Impose { one, other } => {
-            impose(
-                rt,
-                alloc,
-                book,
-                watched,
-                name,
-                LoaderId(one),
-                LoaderId(other),
-            )
-        }
+        Enter => enter(rt, alloc, book, watched, name, one, other),
+        Impose => impose(rt, alloc, book, watched, name, one, other),
     }
 }
 
-/// Asks a book of what is joined through a third loader, and of another name, which is free of it.
-fn ask_three<B: ConstraintBook>(rt: &impl Print, alloc: Global, book: &mut B) -> Result<(), Fail> {
-    for (name, call, answer) in [
-        (
-            b"p/T",
-            Enter {
-                loader: APP,
-                home: APP,
-            },
-            Answer::Entered,
-        ),
-        (
-            b"p/T",
-            Impose {
-                one: APP,
-                other: PLUG,
-            },
-            Answer::Added,
-        ),
-        (
-            b"p/T",
-            Impose {
-                one: PLUG,
-                other: KID,
-            },
-            Answer::Added,
-        ),
-        (
-            b"p/T",
-            Impose {
-                one: APP,
-                other: KID,
-            },
-            Answer::Stands,
-        ),
-        (
-            b"p/T",
-            Enter {
-                loader: KID,
-                home: KID,
-            },
-            Answer::Violates,
-        ),
-        (
-            b"p/T",
-            Enter {
-                loader: PLUG,
-                home: APP,
-            },
-            Answer::Entered,
-        ),
-        (
-            b"p/U",
-            Enter {
-                loader: KID,
-                home: KID,
-            },
-            Answer::Entered,
-        ),
-        (
-            b"p/U",
-            Enter {
-                loader: APP,
-                home: APP,
-            },
-            Answer::Entered,
-        ),
-        (
-            b"p/U",
-            Impose {
-                one: APP,
-                other: PLUG,
-            },
-            Answer::Added,
-        ),
-        (
-            b"p/U",
-            Impose {
-                one: KID,
-                other: PLUG,
-            },
-            Answer::Violates,
-        ),
-        (
-            b"p/U",
-            Impose {
-                one: KID,
-                other: KID,
-            },
-            Answer::Stands,
-        ),
-    ] {
-        if ask(rt, alloc, book, WATCHED, name, call)? != answer {
+/// What is asked, of a name and two loaders, and what is answered.
+type Row = (Named, Call, u16, u16, Answer);
+
+/// Asks a book rows in order, and compares what is answered.
+fn ask_rows<B: ConstraintBook>(
+    rt: &impl Print,
+    alloc: Global,
+    book: &mut B,
+    rows: &[Row],
+) -> Result<(), Fail> {
+    for (name, call, one, other, answer) in rows {
+        if ask(rt, alloc, book, WATCHED, (*name, *call, *one, *other))? != *answer {
             return Err(Fail::new("another answer"));
         }
     }
     Ok(())
 }
+
+/// What is joined through a third loader, and another name, which is free of it.
+const THREE: [Row; 11] = [
+    (T, Enter, APP, APP, Entered),
+    (T, Impose, APP, PLUG, Added),
+    (T, Impose, PLUG, KID, Added),
+    (T, Impose, APP, KID, Stands),
+    (T, Enter, KID, KID, Violates),
+    (T, Enter, PLUG, APP, Entered),
+    (U, Enter, KID, KID, Entered),
+    (U, Enter, APP, APP, Entered),
+    (U, Impose, APP, PLUG, Added),
+    (U, Impose, KID, PLUG, Violates),
+    (U, Impose, KID, KID, Stands),
+];
+
+/// What a chain of 64 loaders answers once all of its pairs are imposed.
+const ENDS: [Row; 4] = [
+    (T, Impose, 0, 63, Stands),
+    (T, Enter, 0, 0, Entered),
+    (T, Enter, 63, 63, Violates),
+    (T, Enter, 63, 0, Entered),
+];
 
 /// Asks a book of a chain of 64 loaders, its pairs imposed in the order of a stride, every second one the other way.
 fn ask_chain<B: ConstraintBook>(
@@ -276,44 +225,16 @@ fn ask_chain<B: ConstraintBook>(
 ) -> Result<(), Fail> {
     for turn in 0..63u16 {
         let here = turn * (stride % 64) % 63;
-        let call = if turn % 2 == 0 {
-            Impose {
-                one: here,
-                other: here + 1,
-            }
+        let (one, other) = if turn % 2 == 0 {
+            (here, here + 1)
         } else {
-            Impose {
-                one: here + 1,
-                other: here,
-            }
+            (here + 1, here)
         };
-        if ask(rt, alloc, book, WATCHED, b"p/T", call)? != Answer::Added {
+        if ask(rt, alloc, book, WATCHED, (T, Impose, one, other))? != Added {
             return Err(Fail::new("a pair of the chain stood already"));
         }
     }
-    for (call, answer) in [
-        (Impose { one: 0, other: 63 }, Answer::Stands),
-        (Enter { loader: 0, home: 0 }, Answer::Entered),
-        (
-            Enter {
-                loader: 63,
-                home: 63,
-            },
-            Answer::Violates,
-        ),
-        (
-            Enter {
-                loader: 63,
-                home: 0,
-            },
-            Answer::Entered,
-        ),
-    ] {
-        if ask(rt, alloc, book, WATCHED, b"p/T", call)? != answer {
-            return Err(Fail::new("another answer"));
-        }
-    }
-    Ok(())
+    ask_rows(rt, alloc, book, &ENDS)
 }
 
 /// A number below a bound, drawn from a row of numbers that is always the same.
@@ -321,51 +242,97 @@ fn draw(state: &mut u64, bound: u16) -> u16 {
     *state = state
         .wrapping_mul(6_364_136_223_846_793_005)
         .wrapping_add(1_442_695_040_888_963_407);
-    let drawn = (*state >> 48) as u16;
+    // (its first two bytes: a shift and a cast of the number cost a proof of a minute)
+    let [first, second, ..] = state.to_be_bytes();
+    let drawn = u16::from_be_bytes([first, second]);
     drawn.checked_rem(bound).unwrap_or(0)
 }
 
-/// Asks both books one sequence of 60 calls. The answers are the same, and so is what looks tell.
+/// Asks both books one call that is drawn. The answers are the same, and so is what looks tell.
+fn ask_drawn(
+    rt: &impl Print,
+    alloc: Global,
+    state: &mut u64,
+    grouped: &mut GroupedBook,
+    plain: &mut PlainBook,
+) -> Result<(), Fail> {
+    let named = match draw(state, 3) {
+        0 => T,
+        1 => U,
+        _ => Other,
+    };
+    let one = draw(state, LOADERS);
+    let other = draw(state, LOADERS);
+    let call = if draw(state, 2) == 0 { Enter } else { Impose };
+    let asked = (named, call, one, other);
+    if ask(rt, alloc, grouped, 0, asked)? != ask(rt, alloc, plain, 0, asked)? {
+        return Err(Fail::new("the books differ in an answer"));
+    }
+    let name = name_of(alloc, named)?;
+    let (one, other) = (LoaderId(one), LoaderId(other));
+    let is_same = look(grouped, &name, one, other) == look(plain, &name, one, other);
+    drop(name);
+    if is_same {
+        Ok(())
+    } else {
+        Err(Fail::new("the books differ in a look"))
+    }
+}
+
+/// Asks both books so many calls.
+fn ask_calls(
+    rt: &impl Print,
+    alloc: Global,
+    state: &mut u64,
+    grouped: &mut GroupedBook,
+    plain: &mut PlainBook,
+) -> Result<(), Fail> {
+    for _ in 0..60 {
+        ask_drawn(rt, alloc, state, grouped, plain)?;
+    }
+    Ok(())
+}
+
+/// Asks both books one sequence of 60 calls.
 fn ask_both(rt: &impl Print, alloc: Global, state: &mut u64) -> Result<(), Fail> {
     let mut grouped = GroupedBook::new(alloc);
     let mut plain = PlainBook::new(alloc);
-    for _ in 0..60 {
-        let name: &[u8] = match draw(state, 3) {
-            0 => b"p/T",
-            1 => b"p/U",
-            _ => b"q/T",
-        };
-        let one = draw(state, LOADERS);
-        let other = draw(state, LOADERS);
-        let call = if draw(state, 2) == 0 {
-            Enter {
-                loader: one,
-                home: other,
-            }
-        } else {
-            Impose { one, other }
-        };
-        if ask(rt, alloc, &mut grouped, 0, name, call)?
-            != ask(rt, alloc, &mut plain, 0, name, call)?
-        {
-            return Err(Fail::new("the books differ in an answer"));
-        }
-        let name = Name::class(alloc, name).map_err(|_| AllocError)?;
-        if look(&grouped, &name, LoaderId(one), LoaderId(other))
-            != look(&plain, &name, LoaderId(one), LoaderId(other))
-        {
-            return Err(Fail::new("the books differ in a look"));
-        }
-    }
-    Ok(())
+    let asked = ask_calls(rt, alloc, state, &mut grouped, &mut plain);
+    drop(grouped);
+    drop(plain);
+    asked
+}
+
+/// Asks a book rows in order, and drops it.
+fn ask_whole<B: ConstraintBook + Drop>(
+    rt: &impl Print,
+    alloc: Global,
+    mut book: B,
+    rows: &[Row],
+) -> Result<(), Fail> {
+    let asked = ask_rows(rt, alloc, &mut book, rows);
+    drop(book);
+    asked
+}
+
+/// Asks a book of a chain, and drops it.
+fn ask_whole_chain<B: ConstraintBook + Drop>(
+    rt: &impl Print,
+    alloc: Global,
+    mut book: B,
+    stride: u16,
+) -> Result<(), Fail> {
+    let asked = ask_chain(rt, alloc, &mut book, stride);
+    drop(book);
+    asked
 }
 
 /// What is joined through a third loader is one class, and another name is free of it.
 #[test]
 fn constraint_book(rt: HostRuntime) -> Result<(), Fail> {
     let alloc = rt.alloc();
-    ask_three(&rt, alloc, &mut GroupedBook::new(alloc))?;
-    ask_three(&rt, alloc, &mut PlainBook::new(alloc))
+    ask_whole(&rt, alloc, GroupedBook::new(alloc), &THREE)?;
+    ask_whole(&rt, alloc, PlainBook::new(alloc), &THREE)
 }
 
 /// A chain of 64 loaders is one, in whatever order its pairs are imposed.
@@ -373,18 +340,10 @@ fn constraint_book(rt: HostRuntime) -> Result<(), Fail> {
 fn wide_book(rt: HostRuntime) -> Result<(), Fail> {
     let alloc = rt.alloc();
     for stride in [1u16, 62, 5, 25] {
-        ask_chain(
-            &rt,
-            alloc,
-            &mut GroupedBook::with_hasher(alloc, Seed::common()),
-            stride,
-        )?;
-        ask_chain(
-            &rt,
-            alloc,
-            &mut PlainBook::with_hasher(alloc, Seed::common()),
-            stride,
-        )?;
+        let grouped = GroupedBook::with_hasher(alloc, Seed::common());
+        ask_whole_chain(&rt, alloc, grouped, stride)?;
+        let plain = PlainBook::with_hasher(alloc, Seed::common());
+        ask_whole_chain(&rt, alloc, plain, stride)?;
     }
     Ok(())
 }

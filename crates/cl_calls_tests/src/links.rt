@@ -110,13 +110,13 @@ fn ask(
     }
     let class = class(alloc, loader, name)?;
     match list(alloc, tables, &class) {
-        Ok(list) => Ok(asked_of(alloc, tables, call, list)),
+        Ok(list) => Ok(ask_of(alloc, tables, call, list)),
         Err(fault) => Ok(kind_of(&fault)),
     }
 }
 
 /// What the tables tell of a list.
-fn asked_of(
+fn ask_of(
     alloc: Global,
     tables: &mut Registry<Untold>,
     call: Call,

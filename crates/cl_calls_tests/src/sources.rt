@@ -37,7 +37,7 @@ fn length_of(probe: Probe<Untold>) -> Option<usize> {
 }
 
 /// How much a source has for `p/A`.
-fn found<S: Source<Untold>>(
+fn length_in<S: Source<Untold>>(
     alloc: Global,
     source: &mut S,
     loader: u16,
@@ -85,7 +85,7 @@ fn read_all<R: Abort, S: Source<Untold>>(rt: &R, alloc: Global, source: &mut S, 
         } else {
             Ok(*length)
         };
-        assert!(rt; found(alloc, source, *loader) == wanted);
+        assert!(rt; length_in(alloc, source, *loader) == wanted);
     }
 }
 
@@ -103,7 +103,7 @@ fn sources(rt: HostRuntime) -> Result<(), Fail> {
         drop(faulty);
         let mut second = second?;
         assert!(rt; second.failures() == 0);
-        assert!(rt; found(alloc, &mut second, 2).is_err() == (at == 1));
+        assert!(rt; length_in(alloc, &mut second, 2).is_err() == (at == 1));
         drop(second);
     }
     Ok(())

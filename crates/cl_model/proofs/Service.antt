@@ -10,6 +10,7 @@ use Rattle.cl_model.specs.Machine.{Setting, Scheduled, Step, Define, Post, IsPla
 use Rattle.cl_model.specs.Service.{Want, ToStand, to_stand, IsFirst, HasWants, IsNextNeed, IsNextStep, IsOver, ComesTo, MayEnd, Serves, IsBegun, PassesRounds, AllServed}
 use Rattle.cl_model.proofs.Runs.{joined_self, joined_link, last_linked, record_found}
 use Rattle.cl_model.proofs.Progress.{step_adds}
+use Rattle.cl_model.proofs.Views.{state_then}
 
 -- ---- a need that may be added is met once its step was made
 
@@ -120,10 +121,6 @@ begun_ends g q r s es a b ends = record { steps = es; begun = b; answer = a; end
 
 -- ---- one request after another
 
-pub state_append : (s : State) (xs ys : List Step) → state_after s (xs ++ ys) ≡ state_after (state_after s xs) ys
-state_append s [] ys = refl
-state_append s (x ∷ xs) ys = state_append (after s x) xs ys
-
 serves_at : (g : Setting) (q p : ℕ) (r : Request) (s : State) (es : List Step) → p ≡ q → Serves g p r s es → Serves g q r s es
 serves_at g q p r s es e h = subst (λ (k : ℕ). Serves g k r s es) e h
 
@@ -136,7 +133,7 @@ pub all_served_push : (g : Setting) (q p : ℕ) (s : State) (rs : List Scheduled
 all_served_push g q p s [] r es one rounds all serves pass e = (es, one, rounds, refl, all, serves_at g q p r.request (state_after s es) one (omega arith) serves, pass)
 all_served_push g q p s (k ∷ rs) r es one rounds all serves pass e =
     let t = state_after (state_after s all.0) all.1 in
-    let here : state_after s es ≡ state_after t all.2 = ap (state_after s) all.3 ∙ state_append s all.0 (all.1 ++ all.2) ∙ state_append (state_after s all.0) all.1 all.2 in (
+    let here : state_after s es ≡ state_after t all.2 = ap (state_after s) all.3 ∙ state_then s all.0 (all.1 ++ all.2) ∙ state_then (state_after s all.0) all.1 all.2 in (
       all.0,
       all.1,
       all.2 ++ (one ++ rounds),

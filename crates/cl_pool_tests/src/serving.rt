@@ -2,7 +2,8 @@
 
 use Named::{T, Top};
 use cl_given::{
-    APP, BOOT, LOADERS, Named, SHARED, are_service, config, count_events, is_class, script, telling,
+    APP, BOOT, LOADERS, Named, SHARED, config, count_events, is_class, script, settles_once,
+    telling, thousand_resolutions,
 };
 use cl_model::{Answer, LoaderId, Untold, Verdict};
 use cl_names::Name;
@@ -51,7 +52,7 @@ impl Gate for Holding {
 }
 
 /// What so many workers make of a script over a source.
-fn served_by<S: Source<Untold> + Send, G: Gate, R: Threads + Wait + Sync>(
+fn serve_by<S: Source<Untold> + Send, G: Gate, R: Threads + Wait + Sync>(
     rt: &R,
     alloc: Global,
     source: S,
@@ -73,13 +74,31 @@ fn report_of<S: Source<Untold> + Send, G: Gate, R: Threads + Wait + Sync>(
     workers: u32,
     gate: &G,
 ) -> Result<Report, Fail> {
-    match served_by(rt, alloc, source, text, workers, gate) {
+    match serve_by(rt, alloc, source, text, workers, gate) {
         Ok(report) => Ok(report),
         Err(fault) => {
             drop(fault);
             Err(Fail::new("no report"))
         }
     }
+}
+
+/// The report of so many workers over these classes, which nothing holds up.
+fn report_over<R: Threads + Wait + Sync>(
+    rt: &R,
+    alloc: Global,
+    classes: &[(u16, Named)],
+    text: &str,
+    workers: u32,
+) -> Result<Report, Fail> {
+    report_of(
+        rt,
+        alloc,
+        telling(alloc, classes)?,
+        text,
+        workers,
+        &OpenGate,
+    )
 }
 
 /// `java/lang/Object` in `boot`, and `p/T` in `app`.
@@ -128,7 +147,7 @@ fn are_refused<R: Threads + Wait + Sync>(
     workers: u32,
 ) -> Result<bool, Fail> {
     let source = telling(alloc, &PLAIN)?;
-    match served_by(rt, alloc, source, "load app p/T", workers, &OpenGate) {
+    match serve_by(rt, alloc, source, "load app p/T", workers, &OpenGate) {
         Ok(report) => {
             drop(report);
             Ok(false)
@@ -149,8 +168,7 @@ fn workers_are_limited(rt: HostRuntime) -> Result<(), Fail> {
         assert!(rt; are_refused(&rt, alloc, workers)?);
     }
     for workers in [1, 2, 64] {
-        let source = telling(alloc, &PLAIN)?;
-        let report = report_of(&rt, alloc, source, "load app p/T", workers, &OpenGate)?;
+        let report = report_over(&rt, alloc, &PLAIN, "load app p/T", workers)?;
         let happened = report.history.events().len();
         drop(report);
         assert!(rt; happened == 4);
@@ -162,19 +180,11 @@ fn workers_are_limited(rt: HostRuntime) -> Result<(), Fail> {
 #[test]
 fn many_workers_settle_once(rt: HostRuntime) -> Result<(), Fail> {
     let alloc = rt.alloc();
-    let mut script = String::new(alloc);
-    for _ in 0..1000 {
-        script.push_str("resolve plug p/Use 1\n")?;
-    }
-    let source = telling(alloc, &SHARED)?;
-    let report = report_of(&rt, alloc, source, script.as_str(), 8, &OpenGate)?;
-    let (settled, _) = count_events(report.history.events());
-    let count = report.answers.as_slice().len();
-    let are_service = are_service(report.answers.as_slice());
+    let script = thousand_resolutions(alloc)?;
+    let report = report_over(&rt, alloc, &SHARED, script.as_str(), 8)?;
+    let settles_once = settles_once(report.history.events(), report.answers.as_slice());
     drop(report);
-    assert!(rt; settled == 1);
-    assert!(rt; count == 1000);
-    assert!(rt; are_service);
+    assert!(rt; settles_once);
     Ok(())
 }
 
@@ -198,8 +208,7 @@ fn rounds_are_kept(rt: HostRuntime) -> Result<(), Fail> {
     let script =
         "then\nthen\nresolve plug p/Use 1\nthen\nthen\nload app p/T\nthen\nload plug p/T\nthen\n";
     for workers in [1, 2, 3, 8] {
-        let source = telling(alloc, &SHARED)?;
-        let report = report_of(&rt, alloc, source, script, workers, &OpenGate)?;
+        let report = report_over(&rt, alloc, &SHARED, script, workers)?;
         let (_, rounds) = count_events(report.history.events());
         let are_constrained = are_constrained(report.answers.as_slice());
         drop(report);
@@ -229,7 +238,7 @@ fn a_failed_read_stops_no_other(rt: HostRuntime) -> Result<(), Fail> {
 fn nothing_is_served(rt: HostRuntime) -> Result<(), Fail> {
     let alloc = rt.alloc();
     for (script, events) in [("", 0usize), ("then\nthen\n", 2)] {
-        let report = report_of(&rt, alloc, telling(alloc, &[])?, script, 3, &OpenGate)?;
+        let report = report_over(&rt, alloc, &[], script, 3)?;
         let happened = report.history.events().len();
         let answers = report.answers.as_slice().len();
         drop(report);

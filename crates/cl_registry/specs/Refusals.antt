@@ -1,8 +1,9 @@
 -- When a registry refuses a value, and why (JVMS SE 8, 5.3, 5.3.4, 5.3.5, 5.4.2).
-use Rattle.std.specs.Prelude.{◌≡◌, ◌⊎◌, ℕ, None}
+use Rattle.std.specs.Prelude.{◌≡◌, ◌⊎◌, ℕ, Option, None, Result, IfErr, OnOk}
+use Rattle.cl_model.specs.Content.{Content}
 use Rattle.cl_model.specs.declared.class.Class.{Class}
 use Rattle.cl_model.specs.declared.need.Need.{Need}
-use Rattle.cl_model.specs.States.{IsRecorded, Refused}
+use Rattle.cl_model.specs.States.{IsRecorded, Met, Refused}
 use Rattle.cl_model.specs.States as states
 use Rattle.cl_model.specs.Views.{need_of}
 use Rattle.cl_registry.specs.declared.registry.RegistryFault.{RegistryFault}
@@ -14,8 +15,8 @@ use Rattle.cl_delegation.specs.Searches.{Located}
 use Rattle.cl_hierarchy.specs.Drafts.{Drafted}
 use Rattle.cl_hierarchy.specs.Imposed.{Listed}
 use Rattle.cl_findings.specs.Findings.{Answered}
-use Rattle.cl_registry.specs.Imposing.{IsNextOf, MayImpose, MayMark}
-use Rattle.cl_registry.specs.Tables.{Shown, state_of, IsNew, LacksRecord, MayEnter, MayJoin, own_record, asked_record, IsAsked, IsLater, IsOpen, MayGoOn}
+use Rattle.cl_registry.specs.Imposing.{Imposes, IsNextOf, MayImpose, MayMark}
+use Rattle.cl_registry.specs.Tables.{Shown, IsKept, state_of, IsNew, LacksRecord, MayEnter, MayJoin, own_record, asked_record, IsAsked, IsLater, IsOpen, MayGoOn}
 use Rattle.cl_registry.specs.References.{settled_by}
 use Rattle.cl_registry.specs.Settling.{MaySettle}
 use Rattle.cl_registry.specs.Posting.{IsBacked}
@@ -80,6 +81,14 @@ ImposeRefusedFor x e k Stray = MayImpose x e k → ⊥
 ImposeRefusedFor x e k (Violates n) = MayImpose x e k × IsNextOf e k (Blames x n)
 ImposeRefusedFor x e k AlreadyPosted = ⊥
 ImposeRefusedFor x e k NotYet = ⊥
+
+-- an equality of a list was to be imposed: it was, and is met from then on, or nothing changed, and why (5.3.4)
+pub record ImposeSays (told : Option Content) (old new : Shown) (e : Listed) (k : ℕ) (result : Result (Unit {0}) RegistryFault) : Type 0 where
+  pub imposed : OnOk result (Imposes old new e k)
+  pub met : OnOk result (IsNextOf e k (Met (state_of new)))
+  pub refused : IfErr result (λ fault. ImposeRefusedFor old e k fault)
+  pub unchanged : IfErr result (λ fault. new ≡ old)
+  pub kept : IsKept told new
 
 -- a class is strayed where it may not be prepared; others are refused where memory ran out alone (5.4.2)
 abbrev pub MarkRefusedFor : Shown → Listed → RegistryFault → Type 0

@@ -11,9 +11,9 @@ ghost use Rattle.cl_model.specs.declared.event.Event.TheVariants as events;
 ghost use Rattle.cl_model.specs.declared.need.Need.TheVariants as needs;
 ghost use Rattle.cl_model.specs.States.{IsRecorded, Met, Refused};
 ghost use Rattle.cl_model.specs.Texts.{EqualityNames};
-ghost use Rattle.cl_registry.specs.Imposing.{Imposes, IsListed, IsNextOf, IsPreparedAbove, IsPreparedBy, IsReached, IsReady, IsStanding, IsUnmetIn, Marks, MayConstrainAs, MayImpose, MayMark, MayPrepareAs, StandsFor, with_constrain, with_prepare};
+ghost use Rattle.cl_registry.specs.Imposing.{IsListed, IsPreparedAbove, IsPreparedBy, IsReached, IsReady, IsStanding, IsUnmetIn, Marks, MayConstrainAs, MayImpose, MayMark, MayPrepareAs, StandsFor, with_constrain, with_prepare};
 ghost use Rattle.cl_registry.specs.declared.registry.RegistryFault.TheVariants.{Memory};
-ghost use Rattle.cl_registry.specs.Refusals.{AddRefusedFor, BlamesIn, ImposeRefusedFor, MarkRefusedFor, fault_of};
+ghost use Rattle.cl_registry.specs.Refusals.{AddRefusedFor, BlamesIn, ImposeSays, MarkRefusedFor, fault_of};
 ghost use Rattle.cl_registry.specs.Tables.{IsKept, state_of};
 
 use crate::met::{are_met, is_met, note};
@@ -141,11 +141,7 @@ impl<T: Told> Registry<T> {
         place: usize,
     ) -> Result<(), RegistryFault>
         ensures may { OnOk result (MayImpose self.old list.now place) }
-        ensures imposed { OnOk result (Imposes self.old self.new list.now place) }
-        ensures met { OnOk result (IsNextOf list.now place (Met (state_of self.new))) }
-        ensures refused { IfErr result (λ fault. ImposeRefusedFor self.old list.now place fault) }
-        ensures unchanged { IfErr result (λ fault. self.new ≡ self.old) }
-        ensures kept { IsKept T.told self.new }
+        ensures says { ImposeSays T.told self.old self.new list.now place result }
     {
         if !self.may_impose(list, place) {
             return Err(RegistryFault::Stray);
@@ -162,11 +158,7 @@ impl<T: Told> Registry<T> {
         place: usize,
     ) -> Result<(), RegistryFault>
         requires may { MayImpose self.old list.now place }
-        ensures imposed { OnOk result (Imposes self.old self.new list.now place) }
-        ensures met { OnOk result (IsNextOf list.now place (Met (state_of self.new))) }
-        ensures refused { IfErr result (λ fault. ImposeRefusedFor self.old list.now place fault) }
-        ensures unchanged { IfErr result (λ fault. self.new ≡ self.old) }
-        ensures kept { IsKept T.told self.new }
+        ensures says { ImposeSays T.told self.old self.new list.now place result }
     {
         keeps(list);
         let equality = &list.needs()[place];

@@ -1,10 +1,10 @@
 //! The registry: what it has, how it begins and what it reports.
 
-ghost use Rattle.std.specs.Prelude.{◌≡◌, ◌≤◌, ◌+◌, OnOk, IfOk, IfErr, MatchBool, MatchOption, length, map};
+ghost use Rattle.std.specs.Prelude.{◌≡◌, OnOk, IfOk, IfErr, MatchBool, MatchOption, map};
 ghost use Rattle.std.specs.Option.{option_map};
 ghost use Rattle.cl_registry.specs.Tables.{IsKept, LacksRecord, MayGoOn, Records, empty_of, looked, round_of, with_round};
 ghost use Rattle.cl_registry.specs.Refusals.{RoundRefusedFor};
-ghost use Rattle.cl_registry.specs.Reports.{IsNamed, IsReport, IsUnfinished};
+ghost use Rattle.cl_registry.specs.Reports.{IsBack, IsReported};
 
 use crate::report::{Answers, History, Report};
 use crate::rounds::{collect, counts_of, rooms_for};
@@ -199,11 +199,8 @@ impl<T: Told> Registry<T> {
 
     /// The report, once each request has its answer and the last round has begun.
     pub fn into_report(self) -> Result<Report, NotYet<T>>
-        ensures whole { IfOk result (λ r. IsReport self r) }
-        ensures kept { IfOk result (λ r. IsKept T.told self) }
-        ensures loaders { IfOk result (λ r. IsNamed (length self.config.loaders) r) }
-        ensures last { OnOk result (self.script.rounds ≤ round_of self + 1) }
-        ensures refused { IfErr result (λ e. (e.registry ≡ self) × IsUnfinished self) }
+        ensures reported { IfOk result (IsReported T.told self) }
+        ensures refused { IfErr result (λ e. IsBack self e.registry) }
     {
         match self.into_report_and_rows() {
             Ok((report, rows)) => {
@@ -217,12 +214,9 @@ impl<T: Told> Registry<T> {
     /// As `into_report`, with the rows of the classes that were defined, in order. They are most of a registry's memory:
     /// who has threads may have several free them.
     pub fn into_report_and_rows(self) -> Result<(Report, Vec<Arc<ClassRow<T>>>), NotYet<T>>
-        ensures whole { IfOk result (λ r. IsReport self r.0) }
-        ensures kept { IfOk result (λ r. IsKept T.told self) }
-        ensures loaders { IfOk result (λ r. IsNamed (length self.config.loaders) r.0) }
+        ensures reported { IfOk result (λ r. IsReported T.told self r.0) }
         ensures rows { IfOk result (λ r. map (λ c. c.value) r.1.items ≡ self.rows) }
-        ensures last { OnOk result (self.script.rounds ≤ round_of self + 1) }
-        ensures refused { IfErr result (λ e. (e.registry ≡ self) × IsUnfinished self) }
+        ensures refused { IfErr result (λ e. IsBack self e.registry) }
     {
         if self.left != 0 || self.round + 1 < self.script.rounds() {
             return Err(NotYet { registry: self });

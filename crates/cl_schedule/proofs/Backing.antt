@@ -28,13 +28,14 @@ use Rattle.cl_registry.specs.References.{Cited, cited_by, settled_by}
 use Rattle.cl_registry.specs.Settling.{MaySettle}
 use Rattle.cl_registry.specs.Tables.{Shown, FitsAs, IsKept, MayEnter, looked, records_of, settled_at, state_of, steps}
 use Rattle.cl_registry.proofs.Placed.{recorded_row}
+use Rattle.cl_registry.proofs.Tracing.{looked_row}
 use Rattle.cl_tasks.specs.Follows.{AnswerFollows, Backed}
 use Rattle.cl_tasks.specs.declared.turn.Turn.{Turn}
 use Rattle.cl_tasks.specs.declared.turn.Turn.TheVariants as turn
 use Rattle.cl_schedule.specs.Replies.{IsCall}
 use Rattle.cl_schedule.specs.Seats.{GoesOn, IsAfter}
 use Rattle.cl_schedule.specs.Serving.{machine}
-use Rattle.cl_schedule.proofs.Later.{looked_at, met_goes, prepared_later, record_later, refused_goes, row_stays, settled_at_later}
+use Rattle.cl_schedule.proofs.Later.{met_goes, prepared_later, record_later, refused_goes, row_stays, settled_at_later}
 use Rattle.cl_schedule.proofs.Telling.{some_of_map}
 
 -- ---- a class is defined
@@ -59,7 +60,7 @@ looked_later : (told : Option Content) (old new : Shown) (loader : ℕ) (name : 
 looked_later told old new loader name kept h is =
     let at = some_is (recorded (records_of old) loader name) is in
     let r = recorded_row told old loader at.0 name kept at.1 in
-    r.found ∙ sym (looked_at new loader at.0 name (record_later old new loader at.0 name h at.1) ∙ row_stays old.rows h.more new.rows (class name at.0) r.row h.rows (sym (looked_at old loader at.0 name at.1) ∙ r.found))
+    r.found ∙ sym (looked_row new loader at.0 name (record_later old new loader at.0 name h at.1) ∙ row_stays old.rows h.more new.rows (class name at.0) r.row h.rows (sym (looked_row old loader at.0 name at.1) ∙ r.found))
 
 fit_later : (told : Option Content) (old new : Shown) (c : Class) (above : List Above) → IsKept told old → GoesOn old new → AllByRecursion (λ (a : Above). IsSome (recorded (records_of old) c.loader a.name)) above
     → AllByRecursion (λ (a : Above). IfSome (looked old c.loader a.name) (FitsAs c a)) above → AllByRecursion (λ (a : Above). IfSome (looked new c.loader a.name) (FitsAs c a)) above

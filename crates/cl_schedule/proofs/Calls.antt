@@ -1,6 +1,6 @@
 -- What each call does and is answered (JVMS SE 8, 5.3 to 5.4.3).
 use Rattle.std.proofs.Common.{◌≡◌, inl, inr, ◌∙◌, ◌<◌, ℕ, zero, suc, List, [], ◌∷◌, length, Option, Some, None, refl, sym, ap, subst, arith}
-use Rattle.std.specs.Prelude.{IfSome, MatchOption, slice_get, option_map, option_and_then}
+use Rattle.std.specs.Prelude.{IfSome, slice_get, option_map, option_and_then}
 use Rattle.cl_model.specs.declared.class.Class.{Class}
 use Rattle.cl_model.specs.declared.event.Event.TheVariants as events
 use Rattle.cl_model.specs.declared.need.Equality.{Equality}
@@ -28,7 +28,7 @@ use Rattle.cl_registry.specs.Tables.{Shown, Defines, DefinedAs, Initiates, Initi
 use Rattle.cl_registry.proofs.Settled.{settled_is_told}
 use Rattle.cl_tasks.specs.Follows.{IsSettledOf}
 use Rattle.cl_tasks.specs.Waits.{Waits, Defining, Initiating, Tracing, Settling, Imposing, Marking, Ended}
-use Rattle.cl_schedule.specs.Replies.{Did, ImposesBy, IsReplied, PreparesBy, SettlesBy, reply_of}
+use Rattle.cl_schedule.specs.Replies.{Did, ImposesBy, PreparesBy, SettlesBy, reply_of, RepliesWhere}
 use Rattle.cl_schedule.proofs.Histories.{goes_by, goes_event}
 
 -- ---- what was done
@@ -95,7 +95,7 @@ blamed x new need n same b = record {
 
 -- what a refused call is answered: nothing where the tables do not bear it, else a reply to it
 abbrev TellsRefused : (A : Type 0) → Type 0 → Shown → Waits → RegistryFault → Type 0
-TellsRefused A bears new waits fault = MatchOption (reply_of {A = A} fault) (bears → ⊥) (λ r. IsReplied new waits r)
+TellsRefused A bears new waits fault = RepliesWhere bears new waits (reply_of {A = A} fault)
 
 pub define_answered : (A : Type 0) (x new : Shown) (d : Drafted) (fault : RegistryFault) → DefineRefusedFor x d fault → new ≡ x → TellsRefused A (MayEnter x d) new (Defining d) fault
 define_answered A x new d Memory refused same = record { fits = λ e. ended e; tells = tt; shows = tt }

@@ -5,7 +5,6 @@ use Rattle.std.proofs.lemmas.Bool.Decides.{nat_tests}
 use Rattle.std.proofs.lemmas.List.{length-map}
 use Rattle.std.proofs.lemmas.List.Folds.{find-append}
 use Rattle.std.proofs.lemmas.List.Sums.{sum_by-cons}
-use Rattle.std.specs.Option.{option_or}
 use Rattle.cl_model.specs.declared.answer.Answer as rust
 use Rattle.cl_model.specs.declared.event.Event.{Event}
 use Rattle.cl_model.specs.declared.event.Event.TheVariants as events
@@ -19,18 +18,14 @@ use Rattle.cl_config.specs.Views.{Configured, Scripted}
 use Rattle.cl_registry.specs.declared.report.Report.{Report}
 use Rattle.cl_registry.specs.Reports.{IsNamed, IsReport}
 use Rattle.cl_registry.specs.Tables.{Shown, IsKept, IsTrusted, RunsAs, is_in, posts, state_of}
+use Rattle.cl_registry.proofs.Histories.{eq_nat, swap_nat}
+use Rattle.cl_registry.proofs.Running.{is_or}
 use Rattle.cl_schedule.specs.Headline.{EachSpelt, Alike, ReferencesAlike, CirclesExact, IsServed}
 use Rattle.cl_schedule.specs.Serving.{once_below, reported, times}
-use Rattle.cl_schedule.proofs.Histories.{eq_nat, swap_nat}
 use Rattle.cl_schedule.proofs.Serving.{bare, bare_runs, bare_trusted, report_tells}
 use Rattle.cl_schedule.proofs.Headline.{each_spelt, alike, references_alike, circles_exact, consistent}
 
 -- ---- each request is posted once at most
-
-is_or : (o : Option Posted) (r : Posted) (b : Bool) → is_some (option_map (λ (p : Posted). p.answer) (option_or o (if b then Some r else None))) ≡ (is_some (option_map (λ (p : Posted). p.answer) o) || (b && true))
-is_or (Some x) r b = refl
-is_or None r true = refl
-is_or None r false = refl
 
 -- who has an answer after a post
 post_adds : (s : State) (q p : ℕ) (a : Answer) → is_some (answer_to (after s (post_of p (Some a))).answers q) ≡ (is_some (answer_to s.answers q) || (nat_eq p q && true))

@@ -18,10 +18,10 @@ use Rattle.cl_registry.specs.Tables.{Shown, IsKept, IsLater, IsOpen, IsTrusted, 
 use Rattle.cl_registry.specs.Tables as tables
 use Rattle.cl_registry.proofs.Histories.{open_answer}
 use Rattle.cl_registry.proofs.Running.{answered}
-use Rattle.cl_registry.proofs.Schedules.{some_at}
+use Rattle.cl_registry.proofs.Schedules.{some_at, schedule_round}
 use Rattle.cl_schedule.specs.Choices.{is_waiting, waiting_from}
 use Rattle.cl_schedule.specs.Seats.{AreOfRound, HasGathered, MayGather, numbers_from}
-use Rattle.cl_schedule.proofs.Rounds.{schedule_length, scheduled_round, within}
+use Rattle.cl_schedule.proofs.Rounds.{schedule_length, within}
 use Rattle.cl_schedule.proofs.Waiting.{none_some, none_there, put}
 
 -- ---- while they are put down
@@ -136,7 +136,7 @@ first_round x first m t g over below at = elim (cases_lt m (round_of x)) [
     given : (p : ℕ) (e : Scheduled) → slice_get (schedule_of x.script) p ≡ Some e → e.round ≡ round_of x → round_of x < m → IsSome (answer_to (state_of x).answers p)
     given p e there same after = elim (cases_lt p first) [
       | inl before ↦ has_answer x p t (in_script x.script p e t.script there) (g.answered p before)
-      | inr least ↦ absurd (let order = in_order x.script first p m e.round t.script least at (scheduled_round x.script.requests x.script.rounds_of p e there) in omega arith)
+      | inr least ↦ absurd (let order = in_order x.script first p m e.round t.script least at (schedule_round x.script.requests x.script.rounds_of p e there) in omega arith)
     ]
 
 -- ---- what was put down is who waits
@@ -208,7 +208,7 @@ gathered told x first ws next k g over a =
 
     those : (q : ℕ) (e : Scheduled) → slice_get (schedule_of x.script) q ≡ Some e → first ≤ q → q < next → is_waiting (state_of x) q e ≡ true
     those q e at least less =
-        let now : e.round ≡ round_of x = some_is e.round (round_of x) (sym (scheduled_round x.script.requests x.script.rounds_of q e at) ∙ of_round x first ws next q k.trusted g over a least less) in
+        let now : e.round ≡ round_of x = some_is e.round (round_of x) (sym (schedule_round x.script.requests x.script.rounds_of q e at) ∙ of_round x first ws next q k.trusted g over a least less) in
         two_true (nat_eq e.round (round_of x)) (is_none (answer_to (state_of x).answers q)) (subst (λ (n : ℕ). nat_eq e.round n ≡ true) now (nat_eq_equiv.refl e.round))
         (ap is_none (none_there x q k.trusted (g.open_later q least (in_script x.script q e k.trusted.script at))))
 
@@ -221,6 +221,6 @@ gathered told x first ws next k g over a =
     behind : (q : ℕ) (e : Scheduled) → slice_get (schedule_of x.script) q ≡ Some e → next ≤ q → is_waiting (state_of x) q e ≡ false
     behind q e at least =
         let late = behind_round x first ws next q k.trusted g over a least (in_script x.script q e k.trusted.script at) in
-        let one : late.round ≡ e.round = some_is late.round e.round (sym late.of ∙ scheduled_round x.script.requests x.script.rounds_of q e at) in
+        let one : late.round ≡ e.round = some_is late.round e.round (sym late.of ∙ schedule_round x.script.requests x.script.rounds_of q e at) in
         let after = late.later in
         other_round e.round (round_of x) (is_none (answer_to (state_of x).answers q)) (omega arith)

@@ -1,6 +1,6 @@
 -- What a task was told stays so, wherever the registry goes on to (JVMS SE 8, 5.3 to 5.4.3).
 use Rattle.std.proofs.Common.{◌≡◌, inl, inr, ◌∙◌, ℕ, List, [], ◌∷◌, ◌++◌, Option, Some, None, refl, sym, ap, subst, append_assoc}
-use Rattle.std.specs.Prelude.{◌&&◌, ◌==◌, find, option_and_then, Contains}
+use Rattle.std.specs.Prelude.{◌&&◌, ◌==◌, find, Contains}
 use Rattle.std.specs.Option.{option_or}
 use Rattle.std.specs.List.{AllByRecursion}
 use Rattle.std.proofs.lemmas.List.{append-nil}
@@ -21,19 +21,20 @@ use Rattle.cl_model.specs.Machine.{Step, Post, state_after}
 use Rattle.cl_model.specs.States.{State, Need, Met, Refused, Verdict, recorded, settled_to, start}
 use Rattle.cl_model.specs.Views.{answer_of, verdict_of}
 use Rattle.cl_model.proofs.Runs.{IsLater, met_later, refused_later, run_later}
-use Rattle.cl_model.proofs.Service.{state_append}
 use Rattle.cl_model.proofs.Sound.{prepared_stay, settled_stay}
 use Rattle.cl_model.proofs.Tables.{trusted_is_consistent}
+use Rattle.cl_model.proofs.Views.{state_then}
 use Rattle.cl_registry.specs.References.{IsSettledIn}
-use Rattle.cl_registry.specs.Tables.{Shown, ArePlaced, IsKept, IsOpen, IsTrusted, looked, records_of, row_of, settled_at, settlements, state_of, steps, with_post}
+use Rattle.cl_registry.specs.Tables.{Shown, ArePlaced, IsKept, IsOpen, IsTrusted, records_of, row_of, settled_at, settlements, state_of, steps, with_post}
 use Rattle.cl_registry.specs.Traced.{IsRowOf}
+use Rattle.cl_registry.proofs.Histories.{steps_posts, unposted, settlements_then}
+use Rattle.cl_registry.proofs.Tracing.{looked_row}
 use Rattle.cl_tasks.specs.Facts.{AllHave, AreSo, HaveAccepted, Holds, IsRecordedAs, IsSo}
 use Rattle.cl_tasks.specs.Tasks.{Tasked, Fact, Stands, StandsRefused, HasLineage, IsPrepared}
 use Rattle.cl_schedule.specs.Replies.{Did}
 use Rattle.cl_schedule.specs.Rounds.{RoundsPassed}
 use Rattle.cl_schedule.specs.Seats.{GoesOn, IsAfter}
 use Rattle.cl_schedule.specs.Serving.{GoesBy}
-use Rattle.cl_schedule.proofs.Histories.{steps_posts, unposted}
 
 -- ---- how a registry goes on
 
@@ -86,8 +87,8 @@ goes_on_then a b c h k = record {
 pub after_then : (told : Option Content) (a b c : Shown) → GoesOn a b → IsAfter told b c → IsAfter told a c
 after_then told a b c h k = record { goes = goes_on_then a b c h k.goes; kept = k.kept }
 
-state_later : (old new : Shown) (h : GoesOn old new) → state_of new ≡ state_after (state_of old) h.made
-state_later old new h = ap (state_after start) h.steps_more ∙ state_append start (steps old) h.made
+pub state_later : (old new : Shown) (h : GoesOn old new) → state_of new ≡ state_after (state_of old) h.made
+state_later old new h = ap (state_after start) h.steps_more ∙ state_then start (steps old) h.made
 
 pub is_later : (old new : Shown) → GoesOn old new → IsLater (state_of old) (state_of new)
 is_later old new h = subst (λ (s : State). IsLater (state_of old) s) (sym (state_later old new h)) (run_later (state_of old) h.made)
@@ -99,10 +100,6 @@ record_later old new loader place name h is = (is_later old new h).records loade
 
 pub prepared_later : (old new : Shown) (c : Class) → GoesOn old new → Contains (state_of old).prepared c → Contains (state_of new).prepared c
 prepared_later old new c h so = subst (λ (s : State). Contains s.prepared c) (sym (state_later old new h)) (prepared_stay (state_of old) h.made c so)
-
--- the row that is shown is that of the class that is recorded
-pub looked_at : (x : Shown) (loader place : ℕ) (name : List ℕ) → recorded (records_of x) loader name ≡ Some place → looked x loader name ≡ row_of x.rows (class name place)
-looked_at x loader place name e = ap (option_and_then (λ (p : ℕ). row_of x.rows (class name p))) e
 
 or_first : {A : Type 0} (o p : Option A) (a : A) → o ≡ Some a → option_or o p ≡ Some a
 or_first None p a e = absurd cc
@@ -121,8 +118,8 @@ recorded_as_later old new loader name row h is =
       named = is.named;
       recorded = there;
       kept =
-          looked_at new loader place name there
-          ∙ row_stays old.rows h.more new.rows (class name place) row h.rows (sym (looked_at old loader place name is.recorded) ∙ is.kept);
+          looked_row new loader place name there
+          ∙ row_stays old.rows h.more new.rows (class name place) row h.rows (sym (looked_row old loader place name is.recorded) ∙ is.kept);
     }
 
 accepted_later : (old new : Shown) → GoesOn old new → (c : Class) (ts : List Class) (others : List Above) → HaveAccepted old c ts others → HaveAccepted new c ts others
@@ -181,16 +178,6 @@ pub holds_later : (told : Option Content) (old new : Shown) (t : Tasked) → IsA
 holds_later told old new t h held = record { frames = frames_later old new h.goes t.frames held.frames; facts = facts_later told old new h.goes h.kept t.facts held.facts }
 
 -- ---- what is settled
-
-settlements_then : (g h : List Event) → settlements (g ++ h) ≡ settlements g ++ settlements h
-settlements_then [] h = refl
-settlements_then (events.Define c ∷ g) h = settlements_then g h
-settlements_then (events.Initiate c loader ∷ g) h = settlements_then g h
-settlements_then (events.Constrain e ∷ g) h = settlements_then g h
-settlements_then (events.Settle s ∷ g) h = ap (λ (ss : List Settled). s.value ∷ ss) (settlements_then g h)
-settlements_then (events.Prepare c ∷ g) h = settlements_then g h
-settlements_then (events.NextRound ∷ g) h = settlements_then g h
-settlements_then (events.Post q ∷ g) h = settlements_then g h
 
 pub settled_at_later : (old new : Shown) (c : Class) (i : ℕ) (s : Settled) → GoesOn old new → settled_at old c i ≡ Some s → settled_at new c i ≡ Some s
 settled_at_later old new c i s h is =

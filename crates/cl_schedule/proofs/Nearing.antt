@@ -6,15 +6,15 @@ use Rattle.cl_model.specs.declared.class.Class.{Class}
 use Rattle.cl_model.specs.declared.request.Request.{Request}
 use Rattle.cl_model.specs.declared.request.Request.TheVariants as requests
 use Rattle.cl_model.specs.Content.{Content}
-use Rattle.cl_model.specs.States.{State, Verdict, start}
+use Rattle.cl_model.specs.States.{State, Verdict}
 use Rattle.cl_model.specs.Machine.{Step, state_after}
 use Rattle.cl_model.specs.Plans as plans
 use Rattle.cl_model.specs.Views.{answer_of}
-use Rattle.cl_model.proofs.Service.{state_append}
 use Rattle.cl_model.proofs.Sound.{settled_stay, prepared_stay}
 use Rattle.cl_config.specs.Views.{Configured}
 use Rattle.cl_findings.specs.Findings.{Answered}
 use Rattle.cl_registry.specs.Tables.{Shown, IsKept, IsOpen, state_of, steps, with_post}
+use Rattle.cl_registry.proofs.Histories.{steps_posts, unposted}
 use Rattle.cl_tasks.specs.Follows.{Refuses, refusal}
 use Rattle.cl_tasks.specs.Tasks.{Tasked}
 use Rattle.cl_tasks.specs.Turns.{AnswersOwn, GoesOnWith, IsReplyTo, call_of}
@@ -28,11 +28,11 @@ use Rattle.cl_schedule.specs.Nearing.{AtHand, IsNear, OnWay, OwnCall, by_verdict
 use Rattle.cl_schedule.specs.Replies.{CallSays, IsCall, IsReplied}
 use Rattle.cl_schedule.specs.Seats.{GoesOn, IsSeatedAt}
 use Rattle.cl_schedule.specs.Takings.{ComesNearer}
-use Rattle.cl_schedule.proofs.Histories.{steps_posts, unposted}
 use Rattle.cl_schedule.proofs.Known.{has_stays}
 use Rattle.cl_schedule.proofs.Seated.{request_of_call}
 use Rattle.cl_schedule.proofs.Stations.{no_post_or, no_posts, own_call, own_same, own_told, post_says}
 use Rattle.cl_schedule.proofs.Takings.{IsMeasure}
+use Rattle.cl_schedule.proofs.Later.{state_later}
 
 -- ---- from a reply to the call
 
@@ -183,11 +183,8 @@ way_later s es r v t u way = elim (post_or_call u) [
     posted : {A : Type 0} (s : State) (es : List Step) (r : Request) (v : Verdict) (t : Tasked) (u : Turn A) (f : Answered) → u ≡ turn.Post f → OnWay s r v t u → OnWay (state_after s es) r v t u
     posted {A = A} s es r v t u f is way = subst (λ (w : Turn A). OnWay (state_after s es) r v t w) (sym is) (subst (λ (w : Turn A). OnWay s r v t w) is way)
 
-state_goes_on : (old new : Shown) (goes : GoesOn old new) → state_of new ≡ state_after (state_of old) goes.made
-state_goes_on old new goes = ap (state_after start) goes.steps_more ∙ state_append start (steps old) goes.made
-
 has_later : (old new : Shown) (r : plans.Request) (v : Verdict) → GoesOn old new → Has (state_of old) r v → Has (state_of new) r v
-has_later old new r v goes has = subst (λ (s : State). Has s r v) (sym (state_goes_on old new goes)) (has_stays (state_of old) goes.made r v has)
+has_later old new r v goes has = subst (λ (s : State). Has s r v) (sym (state_later old new goes)) (has_stays (state_of old) goes.made r v has)
 
 -- ---- the measure
 
@@ -195,7 +192,7 @@ pub verdict_measure : {A : Type 0} (told : Option Content) → IsMeasure {A = A}
 verdict_measure told = record {
   more = λ s r v few many seat more near. record { way = near.way; calls = let calls = near.calls in omega arith };
   fits = has_later;
-  later = λ old new q r v n seat goes seated near. subst (λ (s : State). IsNear s r v n seat.task seat.call) (sym (state_goes_on old new goes))
+  later = λ old new q r v n seat goes seated near. subst (λ (s : State). IsNear s r v n seat.task seat.call) (sym (state_later old new goes))
       (record { way = way_later (state_of old) goes.made r v seat.task seat.call near.way; calls = near.calls });
   once = λ x q r j v seat seated near. none near.calls;
 }

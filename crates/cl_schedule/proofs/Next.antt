@@ -16,6 +16,7 @@ use Rattle.cl_model.specs.Machine.{Setting, Step, Define, Initiate, Constrain, S
 use Rattle.cl_model.specs.Service.{IsNextStep}
 use Rattle.cl_model.specs.Tables.{Records}
 use Rattle.cl_model.specs.Views.{request_of, verdict_of}
+use Rattle.cl_model.specs.Steps.{IsOfService}
 use Rattle.cl_delegation.specs.Searches.{Located}
 use Rattle.cl_findings.specs.Findings.{Answered, loader_of, name_of}
 use Rattle.cl_findings.specs.References.{index_of}
@@ -28,12 +29,12 @@ use Rattle.cl_tasks.specs.Follows.{Follows, IsPreparedNext, IsSettledNext, IsWan
 use Rattle.cl_tasks.specs.Tasks.{Tasked}
 use Rattle.cl_tasks.specs.declared.turn.Turn.{Turn}
 use Rattle.cl_tasks.specs.declared.turn.Turn.TheVariants as turn
-use Rattle.cl_schedule.specs.Serving.{IsCallStep, IsPost}
+use Rattle.cl_schedule.specs.Serving.{IsPost}
 use Rattle.cl_schedule.specs.Replies.{IsStepOf, PreparesBy}
 
 -- ---- the steps of calls
 
-pub step_quiet : (e : Step) → IsCallStep e → IsPost e → ⊥
+pub step_quiet : (e : Step) → IsOfService e → IsPost e → ⊥
 step_quiet (Define c) call post = post
 step_quiet (Initiate name place loader) call post = post
 step_quiet (Constrain name a b) call post = post
@@ -43,7 +44,7 @@ step_quiet (Post q a) call post = call
 step_quiet NextRound call post = call
 step_quiet Stray call post = call
 
-pub step_within : (s : State) (e : Step) → IsCallStep e → (after s e).round ≡ s.round
+pub step_within : (s : State) (e : Step) → IsOfService e → (after s e).round ≡ s.round
 step_within s (Define c) call = refl
 step_within s (Initiate name place loader) call = refl
 step_within s (Constrain name a b) call = refl
@@ -53,19 +54,19 @@ step_within s (Post q a) call = absurd call
 step_within s NextRound call = absurd call
 step_within s Stray call = absurd call
 
-prepares_call : (o : Sprung) (e : Step) → PreparesBy o e → IsCallStep e
+prepares_call : (o : Sprung) (e : Step) → PreparesBy o e → IsOfService e
 prepares_call (OfReference d c index) e is = absurd is
-prepares_call (OfPreparation l) e is = subst IsCallStep (sym is) tt
+prepares_call (OfPreparation l) e is = subst IsOfService (sym is) tt
 
-pub step_of_call : {A : Type 0} (x : Shown) (u : Turn A) (e : Step) → IsStepOf x u e → IsCallStep e
+pub step_of_call : {A : Type 0} (x : Shown) (u : Turn A) (e : Step) → IsStepOf x u e → IsOfService e
 step_of_call x (turn.Look l n) e is = absurd is
 step_of_call x (turn.Read l n) e is = absurd is
-step_of_call x (turn.Define d) e is = subst IsCallStep (sym is) tt
-step_of_call x (turn.Initiate h) e is = subst IsCallStep (sym is) tt
+step_of_call x (turn.Define d) e is = subst IsOfService (sym is) tt
+step_of_call x (turn.Initiate h) e is = subst IsOfService (sym is) tt
 step_of_call x (turn.Lineage c) e is = absurd is
 step_of_call x (turn.LookReference c i) e is = absurd is
-step_of_call x (turn.Settle f) e is = subst IsCallStep (sym is.2) tt
-step_of_call x (turn.Impose l k) e is = subst IsCallStep (sym is.2) tt
+step_of_call x (turn.Settle f) e is = subst IsOfService (sym is.2) tt
+step_of_call x (turn.Impose l k) e is = subst IsOfService (sym is.2) tt
 step_of_call x (turn.LookPrepared c) e is = absurd is
 step_of_call x (turn.Mark l) e is = prepares_call l.value.origin e is
 step_of_call x (turn.Post f) e is = absurd is

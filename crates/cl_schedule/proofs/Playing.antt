@@ -6,7 +6,7 @@ use Rattle.cl_model.specs.Content.{Content}
 use Rattle.cl_model.specs.States.{State, start}
 use Rattle.cl_model.specs.Machine.{Scheduled, Setting, Step, state_after}
 use Rattle.cl_model.specs.Service.{PassesRounds}
-use Rattle.cl_model.proofs.Service.{state_append}
+use Rattle.cl_model.proofs.Views.{state_then}
 use Rattle.cl_registry.specs.Tables.{Shown, MayGoOn, state_of, steps}
 use Rattle.cl_schedule.specs.Choices.{AreInTime, Plays, PlayedAs, ArePrompt, IsInTime, IsPieceOf, IsPrompt, Piece, piece, steps_in}
 use Rattle.cl_schedule.specs.Counting.{debt}
@@ -32,7 +32,7 @@ plays_push g s [] (k ∷ ps) c p played is = absurd played
 plays_push g s (d ∷ cs) [] c p played is = absurd played
 plays_push g s (d ∷ cs) (k ∷ ps) c p (first, more) is =
     let there : state_after s (steps_in (k ∷ ps)) ≡ state_after (state_after (state_after s k.made) k.rounds) (steps_in ps) =
-    state_append s k.made (k.rounds ++ steps_in ps) ∙ state_append (state_after s k.made) k.rounds (steps_in ps) in (
+    state_then s k.made (k.rounds ++ steps_in ps) ∙ state_then (state_after s k.made) k.rounds (steps_in ps) in (
       first,
       plays_push g (state_after (state_after s k.made) k.rounds) cs ps c p more (subst (λ (t : State). IsPieceOf g t c p) there is),
     )
@@ -96,7 +96,7 @@ played_on {A = A} (Some content) old new was now cs c config script_is played (o
     let pieces = played.pieces in
     let by = played.by in
     let p : Piece = piece script (state_of old) c one rounds in
-    let there : state_of old ≡ state_after (state_after start first) (steps_in pieces) = ap (state_after start) by.whole ∙ state_append start first (steps_in pieces) in
+    let there : state_of old ≡ state_after (state_after start first) (steps_in pieces) = ap (state_after start) by.whole ∙ state_then start first (steps_in pieces) in
     let is : IsPieceOf g (state_of old) c p = record { is = refl; made = chosen; passed = began } in
     let near = keeps.known pieces played.near in
     let paid = keeps.paid pieces played.paid in

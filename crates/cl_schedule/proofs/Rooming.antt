@@ -14,11 +14,13 @@ use Rattle.cl_model.specs.Content.{Content}
 use Rattle.cl_model.specs.Machine.{Setting, Step, Post, state_after}
 use Rattle.cl_model.specs.Service.{IsNextStep, MayEnd, PassesRounds}
 use Rattle.cl_model.specs.States.{State, start}
-use Rattle.cl_model.proofs.Service.{state_append}
 use Rattle.cl_model.specs.Plans as plans
 use Rattle.cl_model.specs.Views.{answer_of}
+use Rattle.cl_model.specs.Steps.{IsOfService}
+use Rattle.cl_model.proofs.Views.{state_then}
 use Rattle.cl_registry.specs.Tables.{Shown, IsKept, IsOpen, empty_of, state_of, steps, with_post}
 use Rattle.cl_registry.specs.Tables as tables
+use Rattle.cl_registry.proofs.Histories.{steps_posts, unposted}
 use Rattle.cl_tasks.specs.Measures.{all_left}
 use Rattle.cl_tasks.specs.Tasks.{Tasked}
 use Rattle.cl_tasks.specs.declared.turn.Turn.{Turn}
@@ -29,8 +31,7 @@ use Rattle.cl_schedule.specs.Replies.{Did}
 use Rattle.cl_schedule.specs.Rooms.{AllSeated, ChoosesIn, FirstFalls, HasTaken, IsRoom, IsServing, OpenSeats, PlaysIn, TakesFirst, WaitsAgain, first_left, left_at, left_of, room_sum}
 use Rattle.cl_schedule.specs.Rounds.{RoundsPassed}
 use Rattle.cl_schedule.specs.Seats.{AreOfRound, GoesOn, HasAdvanced, HasGathered, HasPosted, IsSeated, IsSeatedAt, NextIn}
-use Rattle.cl_schedule.specs.Serving.{IsCallStep, machine}
-use Rattle.cl_schedule.proofs.Histories.{steps_posts, unposted}
+use Rattle.cl_schedule.specs.Serving.{machine}
 use Rattle.cl_schedule.proofs.Later.{after_then, goes_on_did, goes_on_posted, goes_on_rounds}
 use Rattle.cl_schedule.proofs.Gathering.{gathered}
 use Rattle.cl_schedule.proofs.Places.{HasMoved, none_seated, other_set, same_or_apart, same_seats, same_set, seat_task, some_is, some_none}
@@ -80,14 +81,14 @@ asked_turned told old new q left (Some s) waits = (waits.advanced.request, waits
 
 pub goes_turned : {A : Type 0} (told : Option Content) (old new : Shown) (q left : ℕ) (after : Option (Seat A)) → IsKept told old → MatchOption after (HasPosted told old new q) (WaitsAgain told old new q left) → GoesOn old new
 goes_turned told old new q left None kept posted = subst (GoesOn old) (sym posted.posted) (goes_on_posted old q posted.answer kept.trusted posted.unanswered)
-goes_turned told old new q left (Some s) kept waits = goes_on_did old new (λ e. IsCallStep e × NextIn told old waits.advanced.request e) waits.advanced.did
+goes_turned told old new q left (Some s) kept waits = goes_on_did old new (λ e. IsOfService e × NextIn told old waits.advanced.request e) waits.advanced.did
 
 pub same_answers : (old new : Shown) (such : Step → Type 0) → Did old new such → new.answers ≡ old.answers
 same_answers old new such (inl same) = ap (λ (x : Shown). x.answers) same
 same_answers old new such (inr (e, is, goes)) = goes.answers
 
 same_advanced : (told : Option Content) (old new : Shown) (q : ℕ) → HasAdvanced told old new q → new.answers ≡ old.answers
-same_advanced told old new q advanced = same_answers old new (λ e. IsCallStep e × NextIn told old advanced.request e) advanced.did
+same_advanced told old new q advanced = same_answers old new (λ e. IsOfService e × NextIn told old advanced.request e) advanced.did
 
 -- who has no answer behind a turn had none before
 pub opens_turned : {A : Type 0} (told : Option Content) (old new : Shown) (q left : ℕ) (after : Option (Seat A)) → MatchOption after (HasPosted told old new q) (WaitsAgain told old new q left) → (p : ℕ) → IsOpen new p → IsOpen old p
@@ -133,7 +134,7 @@ pub chosen_advanced : (told : Option Content) (old new : Shown) (ws : List ℕ) 
 chosen_advanced None old new ws next choice q kept gathered at advanced = tt
 chosen_advanced (Some content) old new ws next choice q kept gathered at advanced = by_did advanced.did
   where
-    by_did : Did old new (λ e. IsCallStep e × NextIn (Some content) old advanced.request e) → ChoosesIn (Some content) old new choice
+    by_did : Did old new (λ e. IsOfService e × NextIn (Some content) old advanced.request e) → ChoosesIn (Some content) old new choice
     by_did (inl same) = ([], ap steps same ∙ sym (append-nil (steps old)), tt)
     by_did (inr (e, (call, next_in), goes)) =
         let g : Setting = machine old content in
@@ -178,7 +179,7 @@ gathered_posted told old new room mid done q i kept h taken posted at waiting ne
     (subst (λ (y : Shown). HasGathered y (remove room.waiting.items i) room.next) (sym posted.posted)
     (gathered_post old room.waiting.items room.next i q posted.answer kept.trusted h at)))
 
-gathered_did : (old new : Shown) (such : Step → Type 0) (ws : List ℕ) (next : ℕ) → ((e : Step) → such e → IsCallStep e) → Did old new such → HasGathered old ws next → HasGathered new ws next
+gathered_did : (old new : Shown) (such : Step → Type 0) (ws : List ℕ) (next : ℕ) → ((e : Step) → such e → IsOfService e) → Did old new such → HasGathered old ws next → HasGathered new ws next
 gathered_did old new such ws next calls (inl same) gathered = subst (λ (y : Shown). HasGathered y ws next) (sym same) gathered
 gathered_did old new such ws next calls (inr (e, is, goes)) gathered = gathered_call old new ws next e goes (calls e is) gathered
 
@@ -188,7 +189,7 @@ pub gathered_advanced : {A : Type 0} (told : Option Content) (old new : Shown) (
 gathered_advanced told old new room mid done q h taken advanced waiting next =
     subst (λ (k : ℕ). HasGathered new done.waiting.items k) (sym (next ∙ taken.next))
     (subst (λ (xs : List ℕ). HasGathered new xs room.next) (sym (waiting ∙ taken.waiting))
-    (gathered_did old new (λ e. IsCallStep e × NextIn told old advanced.request e) room.waiting.items room.next (λ e is. is.0) advanced.did h))
+    (gathered_did old new (λ e. IsOfService e × NextIn told old advanced.request e) room.waiting.items room.next (λ e is. is.0) advanced.did h))
 
 -- what is served goes on to be, whether the request that was taken went on or was answered
 pub serves_turned : {A : Type 0} (told : Option Content) (config : Configured) (script : Scripted) (old new : Shown) (room done : Room A) (q left : ℕ) (after : Option (Seat A)) → IsServing told config script old room → IsKept told new
@@ -263,7 +264,7 @@ first_place n choice is = ap (λ (k : ℕ). k % n) is ∙ zero-mod n
 pub plays_in : (told : Option Content) (old mid new : Shown) (choice : ℕ) → mid.config ≡ old.config → mid.script ≡ old.script → ChoosesIn told old mid choice → RoundsPassed mid new → PlaysIn told old new choice
 plays_in None old mid new choice config script chosen passed = tt
 plays_in (Some content) old mid new choice config script (one, whole, chosen) passed =
-    let there : state_of mid ≡ state_after (state_of old) one = ap (state_after start) whole ∙ state_append start (steps old) one in (
+    let there : state_of mid ≡ state_after (state_of old) one = ap (state_after start) whole ∙ state_then start (steps old) one in (
       one,
       passed.passed,
       passed.steps_more ∙ ap (λ (es : List Step). es ++ passed.passed) whole ∙ append_assoc (steps old) one passed.passed,

@@ -17,7 +17,8 @@ use Rattle.cl_model.specs.Machine.{Setting, Scheduled, Step, Define, Initiate, N
 use Rattle.cl_model.specs.Service.{PassesRounds, AllServed}
 use Rattle.cl_model.specs.Views.{answer_of, answers_of, answer_at, request_of, post_of, step_of, steps_of}
 use Rattle.cl_model.proofs.Sound.{posted_stay}
-use Rattle.cl_model.proofs.Service.{all_served_push, state_append}
+use Rattle.cl_model.proofs.Service.{all_served_push}
+use Rattle.cl_model.proofs.Views.{state_then}
 use Rattle.cl_config.specs.Loaders.{schedule, schedule_of}
 use Rattle.cl_config.specs.Scripts.{IsScript}
 use Rattle.cl_config.specs.Views.{Scripted}
@@ -27,10 +28,13 @@ use Rattle.cl_registry.specs.declared.registry.RegistryFault.{RegistryFault}
 use Rattle.cl_registry.specs.declared.registry.RegistryFault.TheVariants.{Memory, Stray, Violates, AlreadyPosted, NotYet}
 use Rattle.cl_registry.specs.Refusals.{RoundRefusedFor}
 use Rattle.cl_registry.specs.Reports.{IsUnfinished}
+use Rattle.cl_registry.proofs.Histories.{eq_nat, swap_nat}
+use Rattle.cl_registry.proofs.Schedules.{schedule_round}
+use Rattle.cl_registry.proofs.Calm.{post_other}
 use Rattle.cl_schedule.specs.Known.{Has, KnownStays, SaysOrLacks, TellsKnown}
 use Rattle.cl_schedule.specs.Serving.{machine as machine_of, GoesBy, InOrder, IsDone, IsPost, NoPosts, upto}
 use Rattle.cl_schedule.specs.Rounds.{RoundsPassed}
-use Rattle.cl_schedule.proofs.Histories.{goes_event, eq_nat, swap_nat}
+use Rattle.cl_schedule.proofs.Histories.{goes_event}
 use Rattle.cl_schedule.proofs.Known.{KeepsKnown, SaysKnown, known_at, known_piece, known_quiet}
 use Rattle.cl_schedule.proofs.Serving.{bare, in_upto, none_is_open}
 use Rattle.cl_schedule.proofs.States.{same_machine, state_goes}
@@ -130,7 +134,7 @@ passes_end g s (e ∷ es) p may = passes_end g (after s NextRound) es p.2 (subst
 pub none_goes_on : (old new : Shown) → RoundsPassed old new → tables.MayGoOn new → ⊥
 none_goes_on old new p may =
     passes_end (machine_of old []) (state_of old) p.passed (p.rounds [])
-    (subst (λ (s : State). MayGoOn (machine_of old []) s) (ap (state_after start) p.steps_more ∙ state_append start (steps old) p.passed)
+    (subst (λ (s : State). MayGoOn (machine_of old []) s) (ap (state_after start) p.steps_more ∙ state_then start (steps old) p.passed)
     (goes_on_there old new [] p.script may))
 
 -- ---- what is posted is answered
@@ -149,14 +153,6 @@ found_here xs q a none =
 or_nothing : {A : Type 0} (o : Option A) → option_or o None ≡ o
 or_nothing None = refl
 or_nothing (Some x) = refl
-
-pub post_other : (s : State) (q p : ℕ) (o : Option Answer) → nat_eq p q ≡ false → answer_to (after s (post_of p o)).answers q ≡ answer_to s.answers q
-post_other s q p None ne = refl
-post_other s q p (Some a) ne =
-    let test = λ (r : Posted). r.request == q in
-    let last : Posted = record { request = p; answer = a } in
-    ap (λ (o : Option Posted). option_map (λ r. r.answer) o)
-    (find-append test s.answers (last ∷ []) ∙ ap (λ (b : Bool). option_or (find test s.answers) (if b then Some last else None)) ne ∙ or_nothing (find test s.answers))
 
 posted_answer : (now : List (Option Answer)) (h : List Event) (s : State) (q : ℕ) (a : Answer) → answer_at now q ≡ Some a → answer_to s.answers q ≡ None → is_in q (posts h) ≡ true → answer_to (state_after s (steps_of now h)).answers q ≡ Some a
 posted_answer now [] s q a at none is = absurd cc
@@ -194,16 +190,6 @@ answered_below x n p t order below =
     ap is_some (answer_there x p there.0 t there.1)
 
 -- ---- the round of a request
-
--- a scheduled request stands with its round
-pub scheduled_round : (rs : List Request) (ns : List ℕ) (p : ℕ) (e : Scheduled) → slice_get (schedule rs ns) p ≡ Some e → slice_get ns p ≡ Some e.round
-scheduled_round [] ns p e h = absurd cc
-scheduled_round (r ∷ rs) [] p e h = absurd cc
-scheduled_round (r ∷ rs) (n ∷ ns) zero e h = round_here n e (ap (option_map (λ (k : Scheduled). k.round)) h)
-  where
-    round_here : (n : ℕ) (e : Scheduled) → Some n ≡ Some e.round → Some n ≡ Some e.round
-    round_here n e h = h
-scheduled_round (r ∷ rs) (n ∷ ns) (suc p) e h = scheduled_round rs ns p e h
 
 pub scheduled_at : (rs : List Request) (ns : List ℕ) (q : ℕ) (r : Request) → length ns ≡ length rs → slice_get rs q ≡ Some r → (n : ℕ) × (slice_get (schedule rs ns) q ≡ Some (record { request = request_of r; round = n }))
 scheduled_at [] ns q r whole h = absurd cc
@@ -250,7 +236,7 @@ next_is_now x q t order over late = over (record { answered = answered; later = 
     answered : (p : ℕ) (e : Scheduled) → slice_get (schedule_of x.script) p ≡ Some e → e.round ≡ round_of x → IsSome (answer_to (state_of x).answers p)
     answered p e at same =
         answered_below x q p t order
-        (is_before p e (scheduled_round x.script.requests x.script.rounds_of p e at) same (cases_lt p q))
+        (is_before p e (schedule_round x.script.requests x.script.rounds_of p e at) same (cases_lt p q))
 
 -- where all requests are posted, and no further round may begin, nothing is left
 pub nothing_left : (x : Shown) (n : ℕ) → IsTrusted x → posts x.history ≡ upto n → length x.script.requests ≡ n → (tables.MayGoOn x → ⊥) → IsUnfinished x → ⊥
@@ -300,7 +286,7 @@ served_next (Some content) old x new q r below is asked d p =
     let at = scheduled_at old.script.requests old.script.rounds_of q r is.each asked in
     let e : Scheduled = record { request = request_of r; round = at.0 } in
     let rounds : PassesRounds g (state_after (state_of old) one) p.passed =
-    subst (λ (k : State). PassesRounds g k p.passed) (ap (state_after start) d.whole ∙ state_append start (steps old) one)
+    subst (λ (k : State). PassesRounds g k p.passed) (ap (state_after start) d.whole ∙ state_then start (steps old) one)
     (subst (λ (h : Setting). PassesRounds h (state_of x) p.passed) (same_machine old x content d.config d.script) (p.rounds content)) in
     let all : AllServed g 0 start (take q g.script ++ e ∷ []) (steps old ++ (one ++ p.passed)) =
     all_served_push g 0 q start (take q g.script) e (steps old) one p.passed below d.serves rounds

@@ -9,6 +9,7 @@ use Rattle.cl_model.specs.declared.request.Request.{Request}
 use Rattle.cl_model.specs.Content.{Content}
 use Rattle.cl_model.specs.Machine.{Setting, Step}
 use Rattle.cl_model.specs.States.{State}
+use Rattle.cl_model.specs.Steps.{IsOfService}
 use Rattle.cl_model.proofs.Tables.{trusted_is_consistent}
 use Rattle.cl_registry.specs.declared.registry.RegistryFault.{RegistryFault}
 use Rattle.cl_registry.specs.declared.registry.RegistryFault.TheVariants.{Memory, Stray, Violates, AlreadyPosted, NotYet}
@@ -27,7 +28,7 @@ use Rattle.cl_tasks.specs.declared.turn.Turn.{Turn}
 use Rattle.cl_tasks.specs.declared.turn.Turn.TheVariants as turn
 use Rattle.cl_schedule.specs.Replies.{CallSays, Did, IsCall, IsRead, IsReplied, IsStepOf}
 use Rattle.cl_schedule.specs.Seats.{FollowsIn, GoesOn, HasAdvanced, HasPosted, IsAfter, IsCitedFor, IsFor, IsReady, IsSeated, IsSeatedAt, MayPost, NextIn, PostsIn}
-use Rattle.cl_schedule.specs.Serving.{GoesBy, IsCallStep, machine}
+use Rattle.cl_schedule.specs.Serving.{GoesBy, machine}
 use Rattle.cl_schedule.proofs.Backing.{call_backed_later, cited_later, post_backed_later}
 use Rattle.cl_schedule.proofs.Later.{goes_on_did, goes_on_none, holds_later}
 use Rattle.cl_schedule.proofs.Next.{next_of, step_of_call, step_within}
@@ -181,7 +182,7 @@ next_in told old new r q t u e kept_old kept seated call is goes = λ content is
     next_of g old r t t u e (seated.follows old (after_none told old kept_old) content is_told) (serves_self t u r seated.for_request call) (request_of_call t u r seated.for_request call) is
     (last_may content old new g e (subst (λ (o : Option Content). RunsAs o new) is_told kept.run) (same_machine old new content goes.config goes.script) goes.step)
 
-did_next : {A : Type 0} (told : Option Content) (old new : Shown) (r : Request) (q : ℕ) (t : Tasked) (u : Turn A) → IsKept told old → IsKept told new → IsSeated told old t u q r → IsCall u → Did old new (IsStepOf old u) → Did old new (λ e. IsCallStep e × NextIn told old r e)
+did_next : {A : Type 0} (told : Option Content) (old new : Shown) (r : Request) (q : ℕ) (t : Tasked) (u : Turn A) → IsKept told old → IsKept told new → IsSeated told old t u q r → IsCall u → Did old new (IsStepOf old u) → Did old new (λ e. IsOfService e × NextIn told old r e)
 did_next told old new r q t u kept_old kept seated call (inl same) = inl same
 did_next told old new r q t u kept_old kept seated call (inr did) = inr (did.0, (step_of_call old u did.0 did.1, next_in told old new r q t u did.0 kept_old kept seated call did.1 did.2), did.2)
 

@@ -9,16 +9,18 @@ use Rattle.cl_model.specs.States.{State, start}
 use Rattle.cl_model.specs.Machine.{Setting, Step, Post, May, Run, state_after}
 use Rattle.cl_model.specs.Service.{IsNextStep, MayEnd, IsBegun}
 use Rattle.cl_model.specs.Views.{answer_of, request_of}
-use Rattle.cl_model.proofs.Service.{begun_push, begun_ends, run_last, state_append}
+use Rattle.cl_model.proofs.Service.{begun_push, begun_ends, run_last}
 use Rattle.cl_registry.specs.Tables.{Shown, IsKept, IsLater, IsOpen, RunsAs, posts, round_of, steps, state_of, with_post}
+use Rattle.cl_registry.proofs.Histories.{posts_then, steps_posts, unposted}
 use Rattle.cl_tasks.specs.declared.turn.Turn.{Turn}
 use Rattle.cl_tasks.specs.Follows.{AnswerFollows}
-use Rattle.cl_schedule.specs.Serving.{machine, GoesBy, IsCallStep, IsDone, IsPost, NoPosts, ServesAs}
+use Rattle.cl_schedule.specs.Serving.{machine, GoesBy, IsDone, IsPost, NoPosts, ServesAs}
 use Rattle.cl_schedule.specs.Replies.{Did, IsStepOf}
-use Rattle.cl_schedule.proofs.Histories.{posts_then, steps_posts, unposted}
 use Rattle.cl_schedule.proofs.States.{same_machine, state_goes}
 use Rattle.cl_schedule.proofs.Next.{step_quiet, step_within}
 use Rattle.cl_model.specs.declared.event.Event.TheVariants as events
+use Rattle.cl_model.specs.Steps.{IsOfService}
+use Rattle.cl_model.proofs.Views.{state_then}
 
 -- ---- what was done so far
 
@@ -41,7 +43,7 @@ pub record Going (told : Option Content) (old now : Shown) (r : Request) : Type 
   pub begun : BegunAs told old r made
 
 state_since : (old now : Shown) (made : List Step) → steps now ≡ steps old ++ made → state_of now ≡ state_after (state_of old) made
-state_since old now made e = ap (state_after start) e ∙ state_append start (steps old) made
+state_since old now made e = ap (state_after start) e ∙ state_then start (steps old) made
 
 begun_none : (told : Option Content) (x : Shown) (r : Request) → BegunAs told x r []
 begun_none None x r = tt
@@ -91,7 +93,7 @@ quiet_push : (es : List Step) (e : Step) → NoPosts es → (IsPost e → ⊥) �
 quiet_push [] e none last = (last, tt)
 quiet_push (d ∷ es) e none last = (none.0, quiet_push es e none.1 last)
 
-going_on : (told : Option Content) (old x new : Shown) (r : Request) (e : Step) → Going told old x r → GoesBy x new e → IsCallStep e → ComesNext told x r e → IsKept told new → Going told old new r
+going_on : (told : Option Content) (old x new : Shown) (r : Request) (e : Step) → Going told old x r → GoesBy x new e → IsOfService e → ComesNext told x r e → IsKept told new → Going told old new r
 going_on told old x new r e g h call next kept =
     record {
       config = h.config ∙ g.config;
@@ -107,7 +109,7 @@ going_on told old x new r e g h call next kept =
     }
 
 -- a call that did nothing, or what comes next
-pub going_did : {A : Type 0} (told : Option Content) (old x new : Shown) (r : Request) (u : Turn A) → Going told old x r → Did x new (IsStepOf x u) → ((e : Step) → IsStepOf x u e → IsCallStep e × ComesNext told x r e) → IsKept told new → Going told old new r
+pub going_did : {A : Type 0} (told : Option Content) (old x new : Shown) (r : Request) (u : Turn A) → Going told old x r → Did x new (IsStepOf x u) → ((e : Step) → IsStepOf x u e → IsOfService e × ComesNext told x r e) → IsKept told new → Going told old new r
 going_did told old x new r u g (inl same) next kept = going_same told old x new r g same
 going_did told old x new r u g (inr did) next kept = let n = next did.0 did.1 in going_on told old x new r did.0 g did.2 n.0 n.1 kept
 

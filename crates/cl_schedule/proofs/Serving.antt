@@ -13,8 +13,8 @@ use Rattle.cl_registry.specs.declared.report.Report.{Report}
 use Rattle.cl_config.specs.Views.{Configured}
 use Rattle.cl_registry.specs.Tables.{Shown, IsTrusted, RunsAs, IsOpen, is_in, posts}
 use Rattle.cl_registry.specs.Reports.{IsReport}
+use Rattle.cl_registry.proofs.Histories.{is_in_push, unposted}
 use Rattle.cl_schedule.specs.Serving.{upto, reported}
-use Rattle.cl_schedule.proofs.Histories.{is_in_push, unposted}
 
 pub next_upto : (q : ℕ) (xs ys : List ℕ) → xs ≡ ys ++ q ∷ [] → ys ≡ upto q → xs ≡ upto (q + 1)
 next_upto q xs ys e h = rw (add-one, e, h) refl

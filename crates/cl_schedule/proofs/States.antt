@@ -4,7 +4,7 @@ use Rattle.cl_model.specs.Content.{Content}
 use Rattle.cl_model.specs.States.{State, recorded, start}
 use Rattle.cl_model.specs.Machine.{Step, after, state_after}
 use Rattle.cl_model.proofs.Runs.{records_stay}
-use Rattle.cl_model.proofs.Service.{state_append}
+use Rattle.cl_model.proofs.Views.{state_then}
 use Rattle.cl_registry.specs.Tables.{Shown, state_of, records_of, steps}
 use Rattle.cl_schedule.specs.Serving.{machine, GoesBy}
 
@@ -12,7 +12,7 @@ pub same_machine : (old new : Shown) (content : Content) → new.config ≡ old.
 same_machine old new content c s = rw (c, s) refl
 
 pub state_goes : (old new : Shown) (e : Step) → GoesBy old new e → state_of new ≡ after (state_of old) e
-state_goes old new e h = ap (state_after start) h.step ∙ state_append start (steps old) (e ∷ [])
+state_goes old new e h = ap (state_after start) h.step ∙ state_then start (steps old) (e ∷ [])
 
 pub record_stays : (old new : Shown) (e : Step) (loader place : ℕ) (name : List ℕ) → GoesBy old new e → recorded (records_of old) loader name ≡ Some place → recorded (records_of new) loader name ≡ Some place
 record_stays old new e loader place name h r =

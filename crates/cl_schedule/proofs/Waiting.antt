@@ -14,23 +14,24 @@ use Rattle.cl_model.specs.States.{State, Posted, answer_to, start}
 use Rattle.cl_model.specs.Machine.{Setting, Scheduled, Step, Define, Initiate, Constrain, Settle, Prepare, Post, NextRound, Stray, MayGoOn, after, state_after}
 use Rattle.cl_model.specs.Service.{PassesRounds}
 use Rattle.cl_model.specs.Views.{answer_of, answers_of, answer_at, request_of}
-use Rattle.cl_model.proofs.Service.{state_append}
+use Rattle.cl_model.specs.Steps.{IsOfService}
+use Rattle.cl_model.proofs.Views.{state_then}
 use Rattle.cl_config.specs.Loaders.{schedule_of}
 use Rattle.cl_config.specs.Views.{Configured, Scripted}
 use Rattle.cl_registry.specs.Reports.{IsUnfinished}
 use Rattle.cl_registry.specs.Tables.{Shown, IsKept, IsLater, IsOpen, IsTrusted, empty_of, round_of, state_of, steps, with_post}
 use Rattle.cl_registry.specs.Tables as tables
-use Rattle.cl_registry.proofs.Histories.{open_answer}
+use Rattle.cl_registry.proofs.Histories.{open_answer, eq_nat, steps_posts, swap_nat, unposted}
 use Rattle.cl_registry.proofs.Running.{answered}
-use Rattle.cl_registry.proofs.Schedules.{some_at}
+use Rattle.cl_registry.proofs.Schedules.{some_at, schedule_round}
+use Rattle.cl_registry.proofs.Calm.{post_other}
 use Rattle.cl_schedule.specs.Choices.{Takes, is_waiting, taken_by, waiting, waiting_from}
 use Rattle.cl_schedule.specs.Rooms.{MayBeTaken}
 use Rattle.cl_schedule.specs.Rounds.{RoundsPassed}
 use Rattle.cl_schedule.specs.Seats.{HasGathered, MayGather}
-use Rattle.cl_schedule.specs.Serving.{GoesBy, IsCallStep, machine}
-use Rattle.cl_schedule.proofs.Histories.{eq_nat, steps_posts, swap_nat, unposted}
+use Rattle.cl_schedule.specs.Serving.{GoesBy, machine}
 use Rattle.cl_schedule.proofs.Next.{step_within}
-use Rattle.cl_schedule.proofs.Rounds.{found_here, post_other, schedule_length, scheduled_at, scheduled_round, within}
+use Rattle.cl_schedule.proofs.Rounds.{found_here, schedule_length, scheduled_at, within}
 use Rattle.cl_schedule.proofs.States.{state_goes}
 
 -- ---- who waits of a list
@@ -146,7 +147,7 @@ waits_there x ws i q t is h =
       in_round = round;
       unanswered = none;
       is_open = open_where x.answers q (subst (λ (n : ℕ). q < n) (sym t.whole) below) (sym (answered x q t) ∙ ap is_some none);
-      begun = λ late. not_later late (scheduled_round x.script.requests x.script.rounds_of q w.request at) round;
+      begun = λ late. not_later late (schedule_round x.script.requests x.script.rounds_of q w.request at) round;
       below = below;
     }
   where
@@ -198,7 +199,7 @@ gathered_same x new ws next script answers round posted h = record {
   later = λ p least below. later_down x new p script (at_most (round_of new) (round_of x) round) (h.later p least (subst (λ (s : Scripted). p < length s.requests) script below));
 }
 
-call_answers : (s : State) (e : Step) → IsCallStep e → (after s e).answers ≡ s.answers
+call_answers : (s : State) (e : Step) → IsOfService e → (after s e).answers ≡ s.answers
 call_answers s (Define c) call = refl
 call_answers s (Initiate name place loader) call = refl
 call_answers s (Constrain name a b) call = refl
@@ -209,7 +210,7 @@ call_answers s NextRound call = absurd call
 call_answers s Stray call = absurd call
 
 -- after the step of a call the same wait
-pub gathered_call : (x new : Shown) (ws : List ℕ) (next : ℕ) (e : Step) → GoesBy x new e → IsCallStep e → HasGathered x ws next → HasGathered new ws next
+pub gathered_call : (x new : Shown) (ws : List ℕ) (next : ℕ) (e : Step) → GoesBy x new e → IsOfService e → HasGathered x ws next → HasGathered new ws next
 gathered_call x new ws next e goes call h =
     let there = state_goes x new e goes in
     gathered_same x new ws next goes.script goes.answers (ap (λ (s : State). s.round) there ∙ step_within (state_of x) e call) (ap (λ (s : State). s.answers) there ∙ call_answers (state_of x) e call) h
@@ -263,7 +264,7 @@ gathered_post x ws next i q a t h at =
     let w = waits_there x ws i q t h.waits at in
     let s = state_of x in
     let there : state_of (with_post x q a) ≡ after s (Post q (answer_of a)) =
-    ap (state_after start) (steps_posts x q a (unposted x q t w.is_open) w.is_open) ∙ state_append start (steps x) (Post q (answer_of a) ∷ []) in
+    ap (state_after start) (steps_posts x q a (unposted x q t w.is_open) w.is_open) ∙ state_then start (steps x) (Post q (answer_of a) ∷ []) in
     let round : round_of (with_post x q a) ≡ round_of x = ap (λ (k : State). k.round) there in
     let left : waiting_from (after s (Post q (answer_of a))) 0 (schedule_of x.script) ≡ remove (waiting_from s 0 (schedule_of x.script)) i =
     waiting_post s (after s (Post q (answer_of a))) q refl (λ p ne. ap is_none (post_other s p q (Some (answer_of a)) ne)) (ap is_none (found_here s.answers q (answer_of a) w.unanswered)) 0 (schedule_of x.script) i
@@ -309,7 +310,7 @@ rounds_grow g s (e ∷ es) p =
 
 round_grows : (x new : Shown) → RoundsPassed x new → round_of x ≤ round_of new
 round_grows x new p =
-    subst (λ (s : State). round_of x ≤ s.round) (sym (ap (state_after start) p.steps_more ∙ state_append start (steps x) p.passed))
+    subst (λ (s : State). round_of x ≤ s.round) (sym (ap (state_after start) p.steps_more ∙ state_then start (steps x) p.passed))
     (rounds_grow (machine x []) (state_of x) p.passed (p.rounds []))
 
 -- where nobody waits, each of those that were gathered has its answer
@@ -317,7 +318,7 @@ below_answered : (x : Shown) (next p : ℕ) → IsTrusted x → HasGathered x []
 below_answered x next p t h below is =
     let asked = some_at x.script.requests p (let most = h.within in omega arith) in
     let e = scheduled_at x.script.requests x.script.rounds_of p asked.0 t.script.each asked.1 in
-    let at : slice_get x.script.rounds_of p ≡ Some e.0 = scheduled_round x.script.requests x.script.rounds_of p (record { request = request_of asked.0; round = e.0 }) e.1 in
+    let at : slice_get x.script.rounds_of p ≡ Some e.0 = schedule_round x.script.requests x.script.rounds_of p (record { request = request_of asked.0; round = e.0 }) e.1 in
     elim (cases_lt e.0 (round_of x)) [
       | inl less ↦ none_some (answer_at (answers_of x.answers) p) (open_answer x.answers p is) (t.earlier p e.0 at less)
       | inr least ↦

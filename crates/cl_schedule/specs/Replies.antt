@@ -1,5 +1,5 @@
 -- What a call of a task is answered, and what it adds to the tables (JVMS SE 8, 5.3 to 5.4.3).
-use Rattle.std.specs.Prelude.{◌≡◌, ◌⊎◌, ℕ, false, Option, Some, None, IsSome, slice_get, Contains}
+use Rattle.std.specs.Prelude.{◌≡◌, ◌⊎◌, ℕ, false, Option, Some, None, IsSome, MatchOption, slice_get, Contains}
 use Rattle.cl_model.specs.declared.need.Equality.{Equality}
 use Rattle.cl_model.specs.declared.settled.Settled.{Settled}
 use Rattle.cl_model.specs.States.{recorded, settled_to}
@@ -56,6 +56,10 @@ pub record IsReplied {A : Type 0} (x : Shown) (waits : Waits) (r : Reply A) : Ty
   pub fits : IsReplyTo x.config waits r
   pub tells : TellsOf x waits r
   pub shows : Shows x waits r
+
+-- there is a reply to a call, and none just where the tables do not bear it (5.3 to 5.4.3)
+abbrev pub RepliesWhere : {A : Type 0} → Type 0 → Shown → Waits → Option (Reply A) → Type 0
+RepliesWhere bears x waits told = MatchOption told (bears → ⊥) (λ r. IsReplied x waits r)
 
 -- the class whose preparation asked for a list is prepared by this step (5.4.2)
 abbrev pub PreparesBy : Sprung → Step → Type 0

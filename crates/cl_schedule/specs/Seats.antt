@@ -10,6 +10,7 @@ use Rattle.cl_model.specs.Content.{Content}
 use Rattle.cl_model.specs.Machine.{Step}
 use Rattle.cl_model.specs.Service.{IsNextStep, MayEnd}
 use Rattle.cl_model.specs.Views.{answer_of, request_of}
+use Rattle.cl_model.specs.Steps.{IsOfService}
 use Rattle.cl_registry.specs.Posting.{IsBacked}
 use Rattle.cl_registry.specs.References.{Cited, cited_by}
 use Rattle.cl_registry.specs.Tables.{Shown, IsKept, IsLater, IsOpen, state_of, steps, with_post}
@@ -25,7 +26,7 @@ use Rattle.cl_tasks.specs.declared.turn.Turn.{Turn}
 use Rattle.cl_tasks.specs.declared.turn.Turn.TheVariants as turn
 use Rattle.cl_schedule.specs.Choices.{waiting}
 use Rattle.cl_schedule.specs.Replies.{Did, IsCall, IsRead}
-use Rattle.cl_schedule.specs.Serving.{IsCallStep, machine}
+use Rattle.cl_schedule.specs.Serving.{machine}
 
 -- ---- a registry later on
 
@@ -100,7 +101,7 @@ EndsIn told x r a = (content : Content) → told ≡ Some content → MayEnd (ma
 pub record HasAdvanced (told : Option Content) (old new : Shown) (q : ℕ) : Type 0 where
   pub request : Request
   pub asked : slice_get old.script.requests q ≡ Some request
-  pub did : Did old new (λ e. IsCallStep e × NextIn told old request e)
+  pub did : Did old new (λ e. IsOfService e × NextIn told old request e)
 
 -- a request's answer was posted (5.3 to 5.4.3)
 pub record HasPosted (told : Option Content) (old new : Shown) (q : ℕ) : Type 0 where

@@ -59,17 +59,6 @@ IsPost (Post q a) = Unit {0}
 IsPost NextRound = ⊥
 IsPost Stray = ⊥
 
--- a step that a call may make: no post, and no round
-abbrev pub IsCallStep : Step → Type 0
-IsCallStep (Define c) = Unit {0}
-IsCallStep (Initiate name place loader) = Unit {0}
-IsCallStep (Constrain name a b) = Unit {0}
-IsCallStep (Settle d i v) = Unit {0}
-IsCallStep (Prepare c) = Unit {0}
-IsCallStep (Post q a) = ⊥
-IsCallStep NextRound = ⊥
-IsCallStep Stray = ⊥
-
 -- none of these posts an answer
 abbrev pub NoPosts : List Step → Type 0
 NoPosts es = AllByRecursion (λ e. IsPost e → ⊥) es

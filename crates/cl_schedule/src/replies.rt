@@ -1,5 +1,5 @@
 //! What a task is told of the call that it asks for.
-ghost use Rattle.std.specs.Prelude.{◌≡◌, IfSome, MatchOption, Some};
+ghost use Rattle.std.specs.Prelude.{◌≡◌, IfSome, Some};
 ghost use Rattle.cl_model.specs.States.{IsRecorded};
 ghost use Rattle.cl_registry.specs.Imposing.{MayImpose, MayMark};
 ghost use Rattle.cl_registry.specs.Settling.{MaySettle};
@@ -8,7 +8,7 @@ ghost use Rattle.cl_tasks.specs.Follows.{Backed};
 ghost use Rattle.cl_tasks.specs.Turns.{call_of};
 ghost use Rattle.cl_tasks.specs.Waits.{Looking, Reading, Defining, Initiating, Tracing, LookingReference, Settling, Imposing, LookingPrepared, Marking};
 ghost use Rattle.cl_schedule.specs.Counting.{Grows, told_faults};
-ghost use Rattle.cl_schedule.specs.Replies.{CallSays, IsCall, DefinesBy, Did, ImposesBy, InitiatesBy, IsOfTables, IsReplied, IsStepOf, PreparesBy, SettlesBy, reply_of};
+ghost use Rattle.cl_schedule.specs.Replies.{CallSays, IsCall, DefinesBy, Did, ImposesBy, InitiatesBy, IsOfTables, IsReplied, IsStepOf, PreparesBy, RepliesWhere, SettlesBy, reply_of};
 
 use cl_delegation::Home;
 use cl_findings::Finding;
@@ -70,8 +70,8 @@ fn reply_of<T: Told>(fault: RegistryFault) -> Option<Reply<T>>
 
 /// The reply to a definition; none, where it may not be made (JVMS SE 8, 5.3.5).
 fn define<T: Told>(alloc: Global, registry: &mut Registry<T>, draft: Draft<T>) -> Option<Reply<T>>
-    ensures replied { MatchOption result (MayEnter registry.old draft → ⊥)
-        (λ r. IsReplied registry.new (Defining draft) r) }
+    ensures replied { RepliesWhere (MayEnter registry.old draft) registry.new
+        (Defining draft) result }
     ensures did { Did registry.old registry.new (DefinesBy draft) }
     ensures untold { result ≡ Some Reply.Memory → registry.new ≡ registry.old }
     ensures kept { IsKept T.told registry.new }
@@ -88,8 +88,8 @@ fn initiate<T: Told>(
     registry: &mut Registry<T>,
     home: Arc<Home<T>>,
 ) -> Option<Reply<T>>
-    ensures replied { MatchOption result (MayJoin registry.old home.value → ⊥)
-        (λ r. IsReplied registry.new (Initiating home.value) r) }
+    ensures replied { RepliesWhere (MayJoin registry.old home.value) registry.new
+        (Initiating home.value) result }
     ensures did { Did registry.old registry.new (InitiatesBy home.value) }
     ensures untold { result ≡ Some Reply.Memory → registry.new ≡ registry.old }
     ensures kept { IsKept T.told registry.new }
@@ -102,8 +102,8 @@ fn initiate<T: Told>(
 
 /// The lineage of a class; none, where it is not recorded (JVMS SE 8, 5.3.5).
 fn lineage<T: Told>(alloc: Global, registry: &Registry<T>, class: &Class) -> Option<Reply<T>>
-    ensures replied { MatchOption result (IsRecorded (state_of registry.now) class.now → ⊥)
-        (λ r. IsReplied registry.now (Tracing class.now) r) }
+    ensures replied { RepliesWhere (IsRecorded (state_of registry.now) class.now) registry.now
+        (Tracing class.now) result }
     ensures kept { IsKept T.told registry.now }
 {
     match registry.lineage(alloc, class) {
@@ -118,8 +118,8 @@ fn settle<T: Told>(
     registry: &mut Registry<T>,
     finding: Finding<T>,
 ) -> Option<Reply<T>>
-    ensures replied { MatchOption result (MaySettle registry.old finding → ⊥)
-        (λ r. IsReplied registry.new (Settling finding.request) r) }
+    ensures replied { RepliesWhere (MaySettle registry.old finding) registry.new
+        (Settling finding.request) result }
     ensures did { Did registry.old registry.new (SettlesBy registry.old finding) }
     ensures untold { result ≡ Some Reply.Memory → registry.new ≡ registry.old }
     ensures kept { IsKept T.told registry.new }
@@ -139,8 +139,8 @@ fn impose<T: Told>(
     list: Arc<Equalities<T>>,
     place: usize,
 ) -> Option<Reply<T>>
-    ensures replied { MatchOption result (MayImpose registry.old list.value place → ⊥)
-        (λ r. IsReplied registry.new (Imposing list.value place) r) }
+    ensures replied { RepliesWhere (MayImpose registry.old list.value place) registry.new
+        (Imposing list.value place) result }
     ensures did { Did registry.old registry.new (ImposesBy list.value place) }
     ensures untold { result ≡ Some Reply.Memory → registry.new ≡ registry.old }
     ensures kept { IsKept T.told registry.new }
@@ -157,8 +157,8 @@ fn mark<T: Told>(
     registry: &mut Registry<T>,
     list: Arc<Equalities<T>>,
 ) -> Option<Reply<T>>
-    ensures replied { MatchOption result (MayMark registry.old list.value → ⊥)
-        (λ r. IsReplied registry.new (Marking list.value) r) }
+    ensures replied { RepliesWhere (MayMark registry.old list.value) registry.new
+        (Marking list.value) result }
     ensures did { Did registry.old registry.new (PreparesBy list.value.origin) }
     ensures untold { result ≡ Some Reply.Memory → registry.new ≡ registry.old }
     ensures kept { IsKept T.told registry.new }
@@ -199,8 +199,8 @@ pub fn ask_registry<T: Told>(
     call: Turn<T>,
 ) -> Option<Reply<T>>
     requires call { IsOfTables call }
-    ensures replied { MatchOption result (Backed registry.old call → ⊥)
-        (λ r. IsReplied registry.new (call_of call) r) }
+    ensures replied { RepliesWhere (Backed registry.old call) registry.new
+        (call_of call) result }
     ensures did { Did registry.old registry.new (IsStepOf registry.old call) }
     ensures untold { result ≡ Some Reply.Memory → registry.new ≡ registry.old }
     ensures faults { IfSome result (λ r. told_faults r ≡ 0) }

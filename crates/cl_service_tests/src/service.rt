@@ -3,8 +3,8 @@
 
 use Named::{T, Top};
 use cl_given::{
-    APP, BOOT, LOADERS, Named, PLUG, SHARED, are_service, bytes_of, config, count_events, is_class,
-    put, script, source, telling,
+    APP, BOOT, LOADERS, Named, PLUG, SHARED, bytes_of, config, is_class, put, script, settles_once,
+    source, telling, thousand_resolutions,
 };
 use cl_model::{Answer, Class, ErrorKind, LoaderId, Untold, Verdict};
 use cl_registry::Report;
@@ -32,7 +32,7 @@ struct Failing {
 }
 
 /// Serves a script over a source of these classes, whose read of this number fails.
-fn served_failing(
+fn serve_failing(
     alloc: Global,
     classes: &[(u16, Named)],
     at: u64,
@@ -93,7 +93,7 @@ fn each_read_fails_once(rt: HostRuntime) -> Result<(), Fail> {
     let classes = [(BOOT, Top), (APP, T), (PLUG, T)];
     let script = "load plug p/T\nthen\nload app p/T\n";
     for (at, blamed, loader, name) in FAULTS {
-        let served = served_failing(alloc, &classes, at, script)?;
+        let served = serve_failing(alloc, &classes, at, script)?;
         let as_wanted = are_answered(served.report.answers.as_slice(), blamed, loader, name);
         let failures = served.failures;
         drop(served);
@@ -124,7 +124,7 @@ fn each_read_of_every_kind_fails_once(rt: HostRuntime) -> Result<(), Fail> {
     let alloc = rt.alloc();
     let script = "resolve plug p/Use 1\nlink plug p/Use\nthen\nload app p/T\nload plug p/T\n";
     for at in 1..100u64 {
-        let served = served_failing(alloc, &SHARED, at, script)?;
+        let served = serve_failing(alloc, &SHARED, at, script)?;
         let counts = count_answers(served.report.answers.as_slice());
         let failures = served.failures;
         drop(served);
@@ -139,7 +139,7 @@ fn each_read_of_every_kind_fails_once(rt: HostRuntime) -> Result<(), Fail> {
 }
 
 /// The report of a script over a source in memory.
-fn served_from(
+fn serve_from(
     alloc: Global,
     mut source: Telling<Untold>,
     text: &str,
@@ -153,18 +153,11 @@ fn served_from(
 #[test]
 fn a_thousand_resolutions_settle_once(rt: HostRuntime) -> Result<(), Fail> {
     let alloc = rt.alloc();
-    let mut script = String::new(alloc);
-    for _ in 0..1000 {
-        script.push_str("resolve plug p/Use 1\n")?;
-    }
-    let report = served_from(alloc, telling(alloc, &SHARED)?, script.as_str())?;
-    let (settled, _) = count_events(report.history.events());
-    let count = report.answers.as_slice().len();
-    let are_service = are_service(report.answers.as_slice());
+    let script = thousand_resolutions(alloc)?;
+    let report = serve_from(alloc, telling(alloc, &SHARED)?, script.as_str())?;
+    let settles_once = settles_once(report.history.events(), report.answers.as_slice());
     drop(report);
-    assert!(rt; settled == 1);
-    assert!(rt; count == 1000);
-    assert!(rt; are_service);
+    assert!(rt; settles_once);
     Ok(())
 }
 
@@ -238,7 +231,7 @@ fn long_chain(rt: HostRuntime) -> Result<(), Fail> {
         } else {
             "java/lang/Object"
         };
-        let report = served_from(alloc, chain(alloc, first)?, "load app p/C5000")?;
+        let report = serve_from(alloc, chain(alloc, first)?, "load app p/C5000")?;
         let happened = report.history.events().len();
         let is_loaded = is_loaded(report.answers.as_slice(), is_circle);
         drop(report);
@@ -266,7 +259,7 @@ fn many_requests(rt: HostRuntime) -> Result<(), Fail> {
     for _ in 0..32_767 {
         script.push_str("load app p/Z\nload plug java/lang/Object\n")?;
     }
-    let report = served_from(alloc, telling(alloc, &[(BOOT, Top)])?, script.as_str())?;
+    let report = serve_from(alloc, telling(alloc, &[(BOOT, Top)])?, script.as_str())?;
     let are_said = are_said(report.answers.as_slice());
     let count = report.answers.as_slice().len();
     drop(report);

@@ -7,7 +7,7 @@ use std::io::{self, ErrorKind, Read};
 const MOST_BYTES: usize = 16_777_216;
 
 /// The bytes of the next file, or `None` at the end of the stream. A stream that ends within a file, and a file of more
-/// than 16,777,216 bytes, are refused as invalid data.
+/// than `MOST_BYTES`, are refused as invalid data.
 pub fn next_file<I: Read>(alloc: Global, input: &mut I) -> io::Result<Option<Vec<u8>>> {
     let mut head = [0u8; 4];
     let count = fill(input, &mut head)?;

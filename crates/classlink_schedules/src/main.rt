@@ -12,22 +12,14 @@ use play::play_over;
 use std::process::ExitCode;
 use std::{env, io};
 
-fn main(rt: HostRuntime) -> ExitCode {
-    let words = match env::args(&rt) {
-        Ok(words) => words
-            .collect::<Vec<String>>(rt.alloc())
-            .map_err(io::Error::from),
-        Err(error) => Err(error),
-    };
-    let status = match words {
-        Ok(words) => play_over(
-            &rt,
-            rt.alloc(),
-            words.as_slice(),
-            rt.stdin(),
-            &mut rt.stdout(),
-        ),
-        Err(_) => 2,
-    };
-    ExitCode::from(status)
+fn main(rt: HostRuntime) -> io::Result<ExitCode> {
+    let words = env::args(&rt)?.collect::<Vec<String>>(rt.alloc())?;
+    let status = play_over(
+        &rt,
+        rt.alloc(),
+        words.as_slice(),
+        rt.stdin(),
+        &mut rt.stdout(),
+    );
+    Ok(ExitCode::from(status))
 }

@@ -18,9 +18,9 @@ returns-clause-simulated g c =
     let e = c.in_default.ensures in
     let serves = e.serves.serves in
     let x = c.play_all-played.new.registry in
-    let whole = c.in-Ok.ensures.whole in
+    let whole = c.in-Ok.ensures.reported.whole in
     record {
-      served = is_served told x c.args.config.value c.args.script.value c.in-Ok.report serves.kept whole c.in-Ok.ensures.loaders (sym serves.configured) (sym (serves.scripted ∙ c.deref.ensures));
+      served = is_served told x c.args.config.value c.args.script.value c.in-Ok.report serves.kept whole c.in-Ok.ensures.reported.loaders (sym serves.configured) (sym (serves.scripted ∙ c.deref.ensures));
       played =
           subst (λ (y : Shown). PlayedAs told y c.args.schedule.now) (report_tells x c.in-Ok.report c.args.config.value whole serves.configured)
           (played_as told x c.args.schedule.now e.played);
@@ -30,4 +30,4 @@ pub returns-clause-source_faults : goal.returns-clause-source_faults
 returns-clause-source_faults g c =
     let e = c.in_default.ensures in
     counts_faults g.T.Told.told c.args.config.value c.deref.result.now c.in_ok-registry.registry c.play_all-played.new.registry c.in_ok-registry.room c.play_all-played.new.room c.in-Ok.report _ _
-    c.in_ok-registry.ensures.opened.none_owed e.serves e.over c.in-Ok.ensures.whole
+    c.in_ok-registry.ensures.opened.none_owed e.serves e.over c.in-Ok.ensures.reported.whole

@@ -1,9 +1,8 @@
 use Rattle.std.proofs.Common.{Option, subst, sym}
-use Rattle.std.specs.Prelude.{MatchOption}
 use Rattle.cl_registry.specs.Tables.{MayEnter}
 use Rattle.cl_tasks.specs.Waits.{Defining}
 use Rattle.cl_tasks.specs.declared.turn.Reply.{Reply}
-use Rattle.cl_schedule.specs.Replies.{IsReplied}
+use Rattle.cl_schedule.specs.Replies.{RepliesWhere}
 use Rattle.cl_schedule.proofs.Calls.{did_define, define_answered}
 use Rattle.cl_schedule.proofs.replies.define.Goals as goal
 
@@ -12,5 +11,5 @@ returns-in-Ok-clause-did g c = did_define c.args.registry.now c.define.new.self 
 
 pub returns-in-Err-clause-replied : goal.returns-in-Err-clause-replied
 returns-in-Err-clause-replied g c =
-    subst (λ (r : Option (Reply g.row.T.Denot)). MatchOption r (MayEnter c.args.registry.now c.args.draft → ⊥) (λ a. IsReplied c.define.new.self (Defining c.args.draft) a)) (sym c.reply_of.ensures)
+    subst (λ (r : Option (Reply g.row.T.Denot)). RepliesWhere (MayEnter c.args.registry.now c.args.draft) c.define.new.self (Defining c.args.draft) r) (sym c.reply_of.ensures)
     (define_answered g.row.T.Denot c.args.registry.now c.define.new.self c.args.draft _ c.in-Err.ensures.refused c.in-Err.ensures.unchanged.0)

@@ -79,7 +79,7 @@ unreachable-requires g c =
 
 -- the registry is the one that the report tells of, but for its rows
 told_of : (g : _) (c : goal.After-drop-config-2 g) → bare c.loop-q.registry ≡ reported c.args.config.value c.in-Ok-into_report.report
-told_of g c = report_tells c.loop-q.registry c.in-Ok-into_report.report c.args.config.value c.in-Ok-into_report.ensures.whole c.loop-q.invariant.config
+told_of g c = report_tells c.loop-q.registry c.in-Ok-into_report.report c.args.config.value c.in-Ok-into_report.ensures.reported.whole c.loop-q.invariant.config
 
 -- as many requests as the script has were served
 all_served : (g : _) (c : goal.After-drop-config-2 g) → c.loop-q.q ≡ length c.args.script.value.requests
@@ -91,7 +91,7 @@ pub returns-clause-served : goal.returns-clause-served
 returns-clause-served g c =
     let inv = c.loop-q.invariant in
     let told = g.T.Told.told in
-    let whole = c.in-Ok-into_report.ensures.whole in
+    let whole = c.in-Ok-into_report.ensures.reported.whole in
     let x = bare c.loop-q.registry in
     let trusted : IsTrusted x = bare_trusted c.loop-q.registry inv.kept.trusted in
     let run : RunsAs told x = bare_runs told c.loop-q.registry inv.kept.run in
@@ -99,7 +99,7 @@ returns-clause-served g c =
     record {
       of_script = whole.script ∙ inv.script;
       each_once = ap posts whole.history ∙ inv.order ∙ ap upto (all_served g c);
-      named = subst (λ (k : Configured). IsNamed (length k.loaders) c.in-Ok-into_report.report) inv.config c.in-Ok-into_report.ensures.loaders;
+      named = subst (λ (k : Configured). IsNamed (length k.loaders) c.in-Ok-into_report.report) inv.config c.in-Ok-into_report.ensures.reported.loaders;
       trusted = subst IsTrusted (told_of g c) trusted;
       consistent = subst (λ (y : Shown). IsConsistent (state_of y)) (told_of g c) (consistent x trusted);
       known = subst KnownStays (told_of g c) (known_bare c.loop-q.registry inv.known);

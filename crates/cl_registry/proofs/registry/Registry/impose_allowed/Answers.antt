@@ -8,17 +8,20 @@ use Rattle.cl_registry.proofs.Known.{standing_with}
 use Rattle.cl_registry.proofs.Tested.{imposes_new, imposes_old, next_of, read_at}
 use Rattle.cl_registry.proofs.registry.Registry.impose_allowed.Goals as goal
 
-pub returns-then-is_met-clause-imposed : goal.returns-then-is_met-clause-imposed
-returns-then-is_met-clause-imposed g c =
+pub returns-then-is_met : goal.returns-then-is_met
+returns-then-is_met g c =
     let x : Shown = record { config = c.self.inside.config.value; script = c.self.inside.script.value; rows = map (λ r. r.value) c.self.inside.rows.items; history = c.self.inside.history.items; answers = c.self.inside.answers.items } in
-    subst (λ (y : Shown). Imposes c.args.self.now y c.args.list.now c.args.place) (sym c.remember.ensures.unchanged)
-    (imposes_old c.args.self.now c.args.list.now c.args.place c.index-needs-place.result (read_at c.needs.result.now c.args.list.now.needs c.args.place c.index-needs-place.result c.needs.ensures.needs c.requires.may.within c.index-needs-place.is) (subst (λ (y : Shown). Met (state_of y) (equal_need c.index-needs-place.result)) c.self.view_is (c.if-is_met.ensures (state_of x) (standing_with (state_of x) _ _ c.as_slice.ensures.value c.self.invariant.book c.self.invariant.met))))
-
-pub returns-then-is_met-clause-met : goal.returns-then-is_met-clause-met
-returns-then-is_met-clause-met g c =
-    let x : Shown = record { config = c.self.inside.config.value; script = c.self.inside.script.value; rows = map (λ r. r.value) c.self.inside.rows.items; history = c.self.inside.history.items; answers = c.self.inside.answers.items } in
-    subst (λ (y : Shown). IsNextOf c.args.list.now c.args.place (Met (state_of y))) (sym c.remember.ensures.unchanged)
-    (next_of (Met (state_of c.args.self.now)) c.args.list.now c.args.place c.index-needs-place.result (read_at c.needs.result.now c.args.list.now.needs c.args.place c.index-needs-place.result c.needs.ensures.needs c.requires.may.within c.index-needs-place.is) (subst (λ (y : Shown). Met (state_of y) (equal_need c.index-needs-place.result)) c.self.view_is (c.if-is_met.ensures (state_of x) (standing_with (state_of x) _ _ c.as_slice.ensures.value c.self.invariant.book c.self.invariant.met))))
+    let at = read_at c.needs.result.now c.args.list.now.needs c.args.place c.index-needs-place.result c.needs.ensures.needs c.requires.may.within c.index-needs-place.is in
+    let met = subst (λ (y : Shown). Met (state_of y) (equal_need c.index-needs-place.result)) c.self.view_is (c.if-is_met.ensures (state_of x) (standing_with (state_of x) _ _ c.as_slice.ensures.value c.self.invariant.book c.self.invariant.met)) in
+    record {
+      says = record {
+        imposed = subst (λ (y : Shown). Imposes c.args.self.now y c.args.list.now c.args.place) (sym c.remember.ensures.unchanged) (imposes_old c.args.self.now c.args.list.now c.args.place c.index-needs-place.result at met);
+        met = subst (λ (y : Shown). IsNextOf c.args.list.now c.args.place (Met (state_of y))) (sym c.remember.ensures.unchanged) (next_of (Met (state_of c.args.self.now)) c.args.list.now c.args.place c.index-needs-place.result at met);
+        refused = tt;
+        unchanged = tt;
+        kept = c.remember.ensures.kept;
+      };
+    }
 
 pub constrain-requires-clause-unmet : goal.constrain-requires-clause-unmet
 constrain-requires-clause-unmet g c =
@@ -34,16 +37,28 @@ pub constrain-requires-clause-within : goal.constrain-requires-clause-within
 constrain-requires-clause-within g c =
     names_equality g.T.Told.told c.args.self.now c.args.list.now c.args.place c.index-needs-place.result c.keeps.ensures c.requires.may (read_at c.needs.result.now c.args.list.now.needs c.args.place c.index-needs-place.result c.needs.ensures.needs c.requires.may.within c.index-needs-place.is)
 
-pub returns-in-Err-clause-refused : goal.returns-in-Err-clause-refused
-returns-in-Err-clause-refused g c =
-    impose_refused c.args.self.now c.args.list.now c.args.place c.index-needs-place.result c.in-Err.fault c.requires.may (read_at c.needs.result.now c.args.list.now.needs c.args.place c.index-needs-place.result c.needs.ensures.needs c.requires.may.within c.index-needs-place.is) c.in-Err.ensures.refused
+pub returns-in-Err : goal.returns-in-Err
+returns-in-Err g c = record {
+  says = record {
+    imposed = tt;
+    met = tt;
+    refused = impose_refused c.args.self.now c.args.list.now c.args.place c.index-needs-place.result c.in-Err.fault c.requires.may (read_at c.needs.result.now c.args.list.now.needs c.args.place c.index-needs-place.result c.needs.ensures.needs c.requires.may.within c.index-needs-place.is) c.in-Err.ensures.refused;
+    unchanged = c.in-Err.ensures.unchanged;
+    kept = c.constrain.ensures.kept;
+  };
+}
 
-pub returns-clause-imposed : goal.returns-clause-imposed
-returns-clause-imposed g c =
+pub returns : goal.returns
+returns g c =
     let x : Shown = record { config = c.self.inside.config.value; script = c.self.inside.script.value; rows = map (λ r. r.value) c.self.inside.rows.items; history = c.self.inside.history.items; answers = c.self.inside.answers.items } in
-    imposes_new c.args.self.now c.remember-2.new.self c.args.list.now c.args.place c.index-needs-place.result (read_at c.needs.result.now c.args.list.now.needs c.args.place c.index-needs-place.result c.needs.ensures.needs c.requires.may.within c.index-needs-place.is) (subst (λ (y : Shown). Met (state_of y) (equal_need c.index-needs-place.result) → ⊥) c.self.view_is (c.if-is_met.ensures (state_of x) (standing_with (state_of x) _ _ c.as_slice.ensures.value c.self.invariant.book c.self.invariant.met))) c.in-Ok-constrain.ensures.free (c.remember-2.ensures.unchanged ∙ c.in-Ok-constrain.ensures.constrained)
-
-pub returns-clause-met : goal.returns-clause-met
-returns-clause-met g c =
-    subst (λ (y : Shown). IsNextOf c.args.list.now c.args.place (Met (state_of y))) (sym c.remember-2.ensures.unchanged)
-    (next_of (Met (state_of c.constrain.new.self)) c.args.list.now c.args.place c.index-needs-place.result (read_at c.needs.result.now c.args.list.now.needs c.args.place c.index-needs-place.result c.needs.ensures.needs c.requires.may.within c.index-needs-place.is) c.in-Ok-constrain.ensures.met)
+    let at = read_at c.needs.result.now c.args.list.now.needs c.args.place c.index-needs-place.result c.needs.ensures.needs c.requires.may.within c.index-needs-place.is in
+    let unmet = subst (λ (y : Shown). Met (state_of y) (equal_need c.index-needs-place.result) → ⊥) c.self.view_is (c.if-is_met.ensures (state_of x) (standing_with (state_of x) _ _ c.as_slice.ensures.value c.self.invariant.book c.self.invariant.met)) in
+    record {
+      says = record {
+        imposed = imposes_new c.args.self.now c.remember-2.new.self c.args.list.now c.args.place c.index-needs-place.result at unmet c.in-Ok-constrain.ensures.free (c.remember-2.ensures.unchanged ∙ c.in-Ok-constrain.ensures.constrained);
+        met = subst (λ (y : Shown). IsNextOf c.args.list.now c.args.place (Met (state_of y))) (sym c.remember-2.ensures.unchanged) (next_of (Met (state_of c.constrain.new.self)) c.args.list.now c.args.place c.index-needs-place.result at c.in-Ok-constrain.ensures.met);
+        refused = tt;
+        unchanged = tt;
+        kept = c.remember-2.ensures.kept;
+      };
+    }

@@ -1,7 +1,7 @@
-use Rattle.std.proofs.Common.{◌∙◌, ◌<◌, ◌≤◌, ◌+◌, ℕ, Some, length, map, refl, ap, subst, inl, inr}
+use Rattle.std.proofs.Common.{◌∙◌, ◌<◌, ◌≤◌, ◌+◌, ℕ, Some, map, refl, ap, subst, inl, inr}
 use Rattle.cl_registry.specs.declared.report.Report.{Report}
-use Rattle.cl_registry.specs.Reports.{IsNamed, IsUnfinished}
-use Rattle.cl_registry.specs.Tables.{Shown, round_of}
+use Rattle.cl_registry.specs.Reports.{IsReport, IsReported, IsUnfinished}
+use Rattle.cl_registry.specs.Tables.{Shown}
 use Rattle.cl_registry.proofs.Histories.{first_open}
 use Rattle.cl_registry.proofs.Schedules.{round_left, no_round_left}
 use Rattle.cl_registry.proofs.Running.{report_names}
@@ -19,14 +19,15 @@ returns-then-self-ne0-clause-refused g c = (
       ],
 )
 
-pub returns-clause-loaders : goal.returns-clause-loaders
-returns-clause-loaders g c =
+pub returns-clause-reported : goal.returns-clause-reported
+returns-clause-reported g c =
     let x : Shown = record { config = c.self.inside.config.value; script = c.self.inside.script.value; rows = map (λ c. c.value) c.self.inside.rows.items; history = c.self.inside.history.items; answers = c.self.inside.answers.items } in
     let r : Report = record { script = c.self.inside.script; history = c.from.result; answers = c.from-2.result } in
-    subst (λ (y : Shown). IsNamed (length y.config.loaders) r) c.self.view_is
-    (report_names x r c.self.invariant.kept.named (record { script = refl; history = c.from.ensures; answers = ap (map (λ a. Some a)) c.from-2.ensures ∙ c.collect.ensures }))
-
-pub returns-clause-last : goal.returns-clause-last
-returns-clause-last g c =
-    subst (λ (y : Shown). y.script.rounds ≤ round_of y + 1) c.self.view_is
-    (no_round_left g.T.Told.told _ _ c.self.invariant (subst (λ (n : ℕ). n ≤ c.self.inside.round + 1) (c.rounds.ensures ∙ ap (λ s. s.rounds) c.deref.ensures) c.if-self-rounds.false))
+    let whole : IsReport x r = record { script = refl; history = c.from.ensures; answers = ap (map (λ a. Some a)) c.from-2.ensures ∙ c.collect.ensures } in
+    subst (λ (y : Shown). IsReported g.T.Told.told y r) c.self.view_is
+    (record {
+      whole = whole;
+      kept = c.self.invariant.kept;
+      loaders = report_names x r c.self.invariant.kept.named whole;
+      last = no_round_left g.T.Told.told _ _ c.self.invariant (subst (λ (n : ℕ). n ≤ c.self.inside.round + 1) (c.rounds.ensures ∙ ap (λ s. s.rounds) c.deref.ensures) c.if-self-rounds.false);
+    })

@@ -25,7 +25,7 @@ use Rattle.cl_hierarchy.specs.Lineages.{IsWithin, Lined, kin_of, rows_in}
 use Rattle.cl_hierarchy.specs.Rows.{Rowed}
 use Rattle.cl_registry.specs.declared.registry.RegistryFault.{RegistryFault}
 use Rattle.cl_registry.specs.declared.registry.RegistryFault.TheVariants.{Memory, Stray, Violates, AlreadyPosted, NotYet}
-use Rattle.cl_registry.specs.Imposing.{AreLineages, IsListed, MayConstrainAs, MayImpose, MayPrepareAs, StandsFor, with_constrain, with_prepare}
+use Rattle.cl_registry.specs.Imposing.{AreLineages, IsListed, IsNextOf, MayConstrainAs, MayImpose, MayPrepareAs, StandsFor, with_constrain, with_prepare}
 use Rattle.cl_registry.specs.Kept.{Fields, IsRegistry}
 use Rattle.cl_registry.specs.Refusals.{AddRefusedFor, Blames, ImposeRefusedFor}
 use Rattle.cl_registry.specs.Tables.{Shown, state_of, row_of, IsKept}
@@ -144,12 +144,20 @@ pub free_equality : (x : Shown) (stands : State → Type 0) (b : Bool) (e : Equa
 free_equality x stands true e name named refuses is at = absurd cc
 free_equality x stands false e name named refuses is at = λ r. refuses (state_of x) at (subst (λ (n : List ℕ). Refused (state_of x) (Equal n e.one e.other)) (sym named) r)
 
-pub impose_refused : (x : Shown) (e : Listed) (k : ℕ) (n : Equality) (fault : RegistryFault) → MayImpose x e k → slice_get e.needs k ≡ Some n → AddRefusedFor x (equal_need n) fault → ImposeRefusedFor x e k fault
-impose_refused x e k n Memory may at r = may
-impose_refused x e k n Stray may at r = absurd r
-impose_refused x e k n (Violates m) may at r = (may, subst (λ (o : Option Equality). IfSome o (λ q. Blames x m (equal_need q))) (sym at) r)
-impose_refused x e k n AlreadyPosted may at r = r
-impose_refused x e k n NotYet may at r = r
+-- an equality that is not met is not the next one that is
+next_unmet : (x : Shown) (e : Listed) (k : ℕ) (n : Equality) → slice_get e.needs k ≡ Some n → (Met (state_of x) (equal_need n) → ⊥) → IsNextOf e k (Met (state_of x)) → ⊥
+next_unmet x e k n at unmet met = unmet (subst (λ (o : Option Equality). IfSome o (λ q. Met (state_of x) (equal_need q))) at met)
+
+-- memory ran out for an equality that may be imposed and is not met
+pub impose_lacks : (x : Shown) (e : Listed) (k : ℕ) (n : Equality) → MayImpose x e k → slice_get e.needs k ≡ Some n → (Met (state_of x) (equal_need n) → ⊥) → ImposeRefusedFor x e k Memory
+impose_lacks x e k n may at unmet = (may, next_unmet x e k n at unmet)
+
+pub impose_refused : (x : Shown) (e : Listed) (k : ℕ) (n : Equality) (fault : RegistryFault) → MayImpose x e k → slice_get e.needs k ≡ Some n → (Met (state_of x) (equal_need n) → ⊥) → AddRefusedFor x (equal_need n) fault → ImposeRefusedFor x e k fault
+impose_refused x e k n Memory may at unmet r = impose_lacks x e k n may at unmet
+impose_refused x e k n Stray may at unmet r = absurd r
+impose_refused x e k n (Violates m) may at unmet r = (may, subst (λ (o : Option Equality). IfSome o (λ q. Blames x m (equal_need q))) (sym at) r)
+impose_refused x e k n AlreadyPosted may at unmet r = r
+impose_refused x e k n NotYet may at unmet r = r
 
 -- the equality that was added is met
 pub met_constrain : (x : Shown) (e : Equality) → Met (state_of (with_constrain x e)) (equal_need e)

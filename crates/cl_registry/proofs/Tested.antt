@@ -17,7 +17,9 @@ use Rattle.cl_hierarchy.specs.Rows.{Rowed}
 use Rattle.cl_model.specs.Content.{Content}
 use Rattle.std.proofs.lemmas.Option.{slice_get_read}
 use Rattle.cl_registry.proofs.Constrained.{marked_is_allowed}
-use Rattle.cl_registry.specs.Imposing.{Constrains, Imposes, IsListed, IsNextOf, IsPreparedBy, MayPrepareAs, with_constrain, IsPreparedAbove, IsReached, IsReady, IsStanding, MayImpose, StandsFor}
+use Rattle.cl_registry.specs.Imposing.{Constrains, Imposes, IsListed, IsNextOf, IsPreparedBy, IsReadyBy, MayPrepareAs, with_constrain, IsPreparedAbove, IsReached, IsReady, IsStanding, MayImpose, StandsFor}
+use Rattle.cl_registry.specs.declared.registry.RegistryFault.TheVariants.{Memory}
+use Rattle.cl_registry.specs.Refusals.{MarkRefusedFor}
 use Rattle.cl_registry.specs.Tables.{Shown, IsKept, LacksRecord, Records, records_of, state_of}
 
 -- ---- equalities that are met
@@ -151,3 +153,10 @@ marks_as (Some content) x e l c is own kept listed ready free =
 
 pub prepared_by : (x : Shown) (o : Sprung) (l : Lined) (c : Class) → OfPreparation l ≡ o → c ≡ l.own.class → Contains (state_of x).prepared c → IsPreparedBy x o
 prepared_by x o l c is own h = subst (λ (p : Sprung). IsPreparedBy x p) is (subst (λ (k : Class). Contains (state_of x).prepared k) own h)
+
+-- memory ran out for a class that may be prepared and is not
+pub mark_lacks : (x : Shown) (e : Listed) (l : Lined) (c : Class) → OfPreparation l ≡ e.origin → c ≡ l.own.class → IsReady x l (needs_of e.needs) → (Contains (state_of x).prepared c → ⊥) → MarkRefusedFor x e Memory
+mark_lacks x e l c is own ready free = (
+  subst (λ (o : Sprung). IsReadyBy x o (needs_of e.needs)) is ready,
+  λ h. free (subst (λ (k : Class). Contains (state_of x).prepared k) (sym own) (subst (λ (o : Sprung). IsPreparedBy x o) (sym is) h)),
+)

@@ -2,7 +2,7 @@
 use Rattle.std.specs.Prelude.{◌≡◌, ◌⊎◌, ℕ, None}
 use Rattle.cl_model.specs.declared.class.Class.{Class}
 use Rattle.cl_model.specs.declared.need.Need.{Need}
-use Rattle.cl_model.specs.States.{IsRecorded, Refused}
+use Rattle.cl_model.specs.States.{IsRecorded, Met, Refused}
 use Rattle.cl_model.specs.States as states
 use Rattle.cl_model.specs.Views.{need_of}
 use Rattle.cl_registry.specs.declared.registry.RegistryFault.{RegistryFault}
@@ -14,7 +14,7 @@ use Rattle.cl_delegation.specs.Searches.{Located}
 use Rattle.cl_hierarchy.specs.Drafts.{Drafted}
 use Rattle.cl_hierarchy.specs.Imposed.{Listed}
 use Rattle.cl_findings.specs.Findings.{Answered}
-use Rattle.cl_registry.specs.Imposing.{IsNextOf, MayImpose, MayMark}
+use Rattle.cl_registry.specs.Imposing.{IsNextOf, IsPreparedBy, MayImpose, MayMark}
 use Rattle.cl_registry.specs.Tables.{Shown, state_of, IsNew, LacksRecord, MayEnter, MayJoin, own_record, asked_record, IsAsked, IsLater, IsOpen, MayGoOn}
 use Rattle.cl_registry.specs.References.{settled_by}
 use Rattle.cl_registry.specs.Settling.{MaySettle}
@@ -73,17 +73,17 @@ JoinRefusedFor x h AlreadyPosted = ⊥
 JoinRefusedFor x h NotYet = ⊥
 
 -- an equality is strayed where it may not be imposed; it is blamed where it would violate one; others are refused where memory
--- ran out alone (5.3.4, 5.4.2, 5.4.3)
+-- ran out alone, and one that is met is not (5.3.4, 5.4.2, 5.4.3)
 abbrev pub ImposeRefusedFor : Shown → Listed → ℕ → RegistryFault → Type 0
-ImposeRefusedFor x e k Memory = MayImpose x e k
+ImposeRefusedFor x e k Memory = MayImpose x e k × (IsNextOf e k (Met (state_of x)) → ⊥)
 ImposeRefusedFor x e k Stray = MayImpose x e k → ⊥
 ImposeRefusedFor x e k (Violates n) = MayImpose x e k × IsNextOf e k (Blames x n)
 ImposeRefusedFor x e k AlreadyPosted = ⊥
 ImposeRefusedFor x e k NotYet = ⊥
 
--- a class is strayed where it may not be prepared; others are refused where memory ran out alone (5.4.2)
+-- a class is strayed where it may not be prepared; others are refused where memory ran out alone, and one that is prepared is not (5.4.2)
 abbrev pub MarkRefusedFor : Shown → Listed → RegistryFault → Type 0
-MarkRefusedFor x e Memory = MayMark x e
+MarkRefusedFor x e Memory = MayMark x e × (IsPreparedBy x e.origin → ⊥)
 MarkRefusedFor x e Stray = MayMark x e → ⊥
 MarkRefusedFor x e (Violates n) = ⊥
 MarkRefusedFor x e AlreadyPosted = ⊥

@@ -3,7 +3,7 @@ use Rattle.cl_hierarchy.specs.Imposed.{equal_need}
 use Rattle.cl_model.specs.States.{Met}
 use Rattle.cl_registry.specs.Imposing.{Imposes, IsNextOf}
 use Rattle.cl_registry.specs.Tables.{IsKept, Shown, state_of}
-use Rattle.cl_registry.proofs.Imposed.{constrains_as, impose_refused, names_equality}
+use Rattle.cl_registry.proofs.Imposed.{constrains_as, impose_lacks, impose_refused, names_equality}
 use Rattle.cl_registry.proofs.Known.{standing_with}
 use Rattle.cl_registry.proofs.Tested.{imposes_new, imposes_old, next_of, read_at}
 use Rattle.cl_registry.proofs.registry.Registry.impose_allowed.Goals as goal
@@ -34,9 +34,17 @@ pub constrain-requires-clause-within : goal.constrain-requires-clause-within
 constrain-requires-clause-within g c =
     names_equality g.T.Told.told c.args.self.now c.args.list.now c.args.place c.index-needs-place.result c.keeps.ensures c.requires.may (read_at c.needs.result.now c.args.list.now.needs c.args.place c.index-needs-place.result c.needs.ensures.needs c.requires.may.within c.index-needs-place.is)
 
+pub returns-in_default-clause-refused : goal.returns-in_default-clause-refused
+returns-in_default-clause-refused g c =
+    let x : Shown = record { config = c.self.inside.config.value; script = c.self.inside.script.value; rows = map (λ r. r.value) c.self.inside.rows.items; history = c.self.inside.history.items; answers = c.self.inside.answers.items } in
+    impose_lacks c.args.self.now c.args.list.now c.args.place c.index-needs-place.result c.requires.may (read_at c.needs.result.now c.args.list.now.needs c.args.place c.index-needs-place.result c.needs.ensures.needs c.requires.may.within c.index-needs-place.is)
+    (subst (λ (y : Shown). Met (state_of y) (equal_need c.index-needs-place.result) → ⊥) c.self.view_is (c.if-is_met.ensures (state_of x) (standing_with (state_of x) _ _ c.as_slice.ensures.value c.self.invariant.book c.self.invariant.met)))
+
 pub returns-in-Err-clause-refused : goal.returns-in-Err-clause-refused
 returns-in-Err-clause-refused g c =
-    impose_refused c.args.self.now c.args.list.now c.args.place c.index-needs-place.result c.in-Err.fault c.requires.may (read_at c.needs.result.now c.args.list.now.needs c.args.place c.index-needs-place.result c.needs.ensures.needs c.requires.may.within c.index-needs-place.is) c.in-Err.ensures.refused
+    let x : Shown = record { config = c.self.inside.config.value; script = c.self.inside.script.value; rows = map (λ r. r.value) c.self.inside.rows.items; history = c.self.inside.history.items; answers = c.self.inside.answers.items } in
+    impose_refused c.args.self.now c.args.list.now c.args.place c.index-needs-place.result c.in-Err.fault c.requires.may (read_at c.needs.result.now c.args.list.now.needs c.args.place c.index-needs-place.result c.needs.ensures.needs c.requires.may.within c.index-needs-place.is)
+    (subst (λ (y : Shown). Met (state_of y) (equal_need c.index-needs-place.result) → ⊥) c.self.view_is (c.if-is_met.ensures (state_of x) (standing_with (state_of x) _ _ c.as_slice.ensures.value c.self.invariant.book c.self.invariant.met))) c.in-Err.ensures.refused
 
 pub returns-clause-imposed : goal.returns-clause-imposed
 returns-clause-imposed g c =

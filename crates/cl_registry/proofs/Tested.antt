@@ -156,6 +156,7 @@ prepared_by x o l c is own h = subst (λ (p : Sprung). IsPreparedBy x p) is (sub
 
 -- memory ran out for a class that may be prepared and is not
 pub mark_lacks : (x : Shown) (e : Listed) (l : Lined) (c : Class) → OfPreparation l ≡ e.origin → c ≡ l.own.class → IsReady x l (needs_of e.needs) → (Contains (state_of x).prepared c → ⊥) → MarkRefusedFor x e Memory
-mark_lacks x e l c is own ready free =
-    (subst (λ (o : Sprung). IsReadyBy x o (needs_of e.needs)) is ready,
-    λ h. free (subst (λ (k : Class). Contains (state_of x).prepared k) (sym own) (subst (λ (o : Sprung). IsPreparedBy x o) (sym is) h)))
+mark_lacks x e l c is own ready free = (
+  subst (λ (o : Sprung). IsReadyBy x o (needs_of e.needs)) is ready,
+  λ h. free (subst (λ (k : Class). Contains (state_of x).prepared k) (sym own) (subst (λ (o : Sprung). IsPreparedBy x o) (sym is) h)),
+)

@@ -9,12 +9,13 @@ use Rattle.cl_names.proofs.Grammars.{class_test_of}
 use Rattle.cl_descriptors.specs.Types.{spelling_of_base}
 use Rattle.cl_descriptors.specs.declared.types.Base.{Base}
 use Rattle.cl_classfile.specs.declared.entry.Entry.{Entry}
-use Rattle.cl_classfile.specs.declared.entry.Entry.TheVariants.{Utf8, Class}
+use Rattle.cl_classfile.specs.declared.entry.Entry.TheVariants.{Class}
 use Rattle.cl_classfile.specs.Pool.{at, IsText, NamesType, KeepsEntry}
 use Rattle.cl_classfile.specs.Structure.{NamesClass, KeepsInterface}
 use Rattle.cl_classfile.specs.Files.{text_of, type_of, type_name, is_array_name, no_array, class_name}
 use Rattle.cl_classfile.proofs.Judging.{differ}
 use Rattle.cl_names.specs.declared.kind.TheConstants.{MOST_TEXT_BYTES}
+use Rattle.cl_classfile.proofs.MemberRows.{named_text}
 
 -- each entry keeps its row
 abbrev pub Rows : List Entry → Type 0
@@ -50,7 +51,7 @@ by_first : (c : ℕ) (rest : List ℕ) (b : Bool) → eqb c 91 ≡ b → is_clas
 by_first c rest false e h = refl
 by_first c rest true e h = absurd (differ (is_class_name (91 ∷ rest)) (ap (λ (n : ℕ). is_class_name (n ∷ rest)) (sym (eqb-true c 91 e)) ∙ h) (no_bracket rest))
 
-class_begins : (name : List ℕ) → IsNameOf IsClass name → is_array_name name ≡ false
+pub class_begins : (name : List ℕ) → IsNameOf IsClass name → is_array_name name ≡ false
 class_begins [] h = refl
 class_begins (c ∷ rest) h = by_first c rest (eqb c 91) refl (class_test_of (c ∷ rest) h)
 
@@ -64,10 +65,6 @@ no_array_name name (inr h) e = absurd (differ (is_array_name name) (ap is_array_
 
 -- ---- what an entry is called
 
-pub text_says : (o : Option Entry) (name : List ℕ) → text_of o ≡ Some name → o ≡ Some (Utf8 name)
-text_says (Some (Utf8 text)) name h = cc
-text_says _ name h = absurd cc
-
 -- a class or an array of this name
 pub record NamesAny (pool : List Entry) (i : ℕ) (name : List ℕ) : Type 0 where
   pub index : ℕ
@@ -75,7 +72,7 @@ pub record NamesAny (pool : List Entry) (i : ℕ) (name : List ℕ) : Type 0 whe
   pub named : IsText pool index name
 
 type_by : (pool : List Entry) (i : ℕ) (o : Option Entry) (name : List ℕ) → at pool i ≡ o → type_of pool o ≡ Some name → NamesAny pool i name
-type_by pool i (Some (Class index)) name e h = record { index = index; is_entry = e; named = text_says (at pool index) name h }
+type_by pool i (Some (Class index)) name e h = record { index = index; is_entry = e; named = named_text (at pool index) name h }
 type_by pool i _ name e h = absurd cc
 
 pub type_says : (pool : List Entry) (i : ℕ) (name : List ℕ) → type_name pool i ≡ Some name → NamesAny pool i name

@@ -113,7 +113,7 @@ text_held traits pool (MethodHandle k r) h = tt
 text_held traits pool (MethodType d) h = tt
 text_held traits pool (InvokeDynamic b p) h = tt
 
-row_kept : (b : Bool) (e x : Entry) (i : ℕ) → cond b (Ok e) (let r : Result Entry Fault = Err (BadPool i) in r) ≡ Ok x → b ≡ true
+pub row_kept : (b : Bool) (e x : Entry) (i : ℕ) → cond b (Ok e) (let r : Result Entry Fault = Err (BadPool i) in r) ≡ Ok x → b ≡ true
 row_kept true e x i h = refl
 row_kept false e x i h = absurd cc
 

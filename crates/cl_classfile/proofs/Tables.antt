@@ -10,7 +10,7 @@ use Rattle.cl_classfile.specs.declared.entry.Entry.{Entry}
 use Rattle.cl_classfile.specs.declared.entry.Entry.TheVariants.{Class}
 use Rattle.cl_classfile.specs.declared.members.Kind.TheVariants as kinds
 use Rattle.cl_classfile.specs.declared.fault.Fault.{Fault}
-use Rattle.cl_classfile.specs.declared.fault.Fault.TheVariants.{BadPool, BadFlags, BadMember, BadSupertype}
+use Rattle.cl_classfile.specs.declared.fault.Fault.TheVariants.{BadFlags, BadMember, BadSupertype}
 use Rattle.cl_classfile.specs.Flags.{has, interface, is_class_flags}
 use Rattle.cl_classfile.specs.Pool.{EntryFits, KeepsEntry}
 use Rattle.cl_classfile.specs.Structure.{Structure, PoolFits, Fits, object, NamesClass, KeepsSuper, KeepsInterface, Keeps, IsClassFile}
@@ -24,19 +24,16 @@ use Rattle.cl_classfile.proofs.Fitting.{short_tells, all_tell, attributes_tell, 
 use Rattle.cl_classfile.proofs.Judging.{keeps_entry_says, keeps_entry_told, tests}
 use Rattle.cl_classfile.proofs.MemberRows.{fields_say, fields_told, methods_say, methods_told}
 use Rattle.cl_classfile.proofs.Classes.{Rows, class_says, class_named}
+use Rattle.cl_classfile.proofs.Entries.{row_kept}
 
 -- ---- all of the entries
-
-row_ok : (b : Bool) (e x : Entry) (i : ℕ) → cond b (Ok e) (let r : Result Entry Fault = Err (BadPool i) in r) ≡ Ok x → b ≡ true
-row_ok true e x i h = refl
-row_ok false e x i h = absurd cc
 
 rows_say : (pool : List Entry) (i : ℕ) (es : List Entry) (u : Unit {0}) → checked_entries pool i es ≡ Ok u → AllByRecursion (KeepsEntry pool) es
 unfolding checked_entries
 rows_say pool i [] u h = tt
 rows_say pool i (e ∷ es) u h =
     let a = bind_ok (kept_entry pool i e) (λ kept. checked_entries pool (i + 1) es) u h in
-    (keeps_entry_says pool e (row_ok (keeps_entry (map entry_traits pool) pool e) e a.0 i a.1), rows_say pool (i + 1) es u a.2)
+    (keeps_entry_says pool e (row_kept (keeps_entry (map entry_traits pool) pool e) e a.0 i a.1), rows_say pool (i + 1) es u a.2)
 
 rows_told : (pool : List Entry) (i : ℕ) (es : List Entry) → AllByRecursion EntryFits es → AllByRecursion (KeepsEntry pool) es → checked_entries pool i es ≡ Ok tt
 unfolding checked_entries

@@ -3,13 +3,17 @@
 ghost use Rattle.std.specs.Prelude.{◌≡◌, ◌<◌};
 ghost use Rattle.cl_classfile.specs.Flags.{has, public, static, interface, is_interface_flags, is_plain_flags, is_class_flags, has_one_access, is_constant_flags, is_field_flags, may_be_abstract, may_be_of_interface, is_method_flags, is_init_flags};
 
-const PUBLIC: u16 = 0x0001;
+/// What has it may be used from outside its package (JVMS SE 8, tables 4.1-B, 4.5-A and 4.6-A).
+pub const PUBLIC: u16 = 0x0001;
 
-const PRIVATE: u16 = 0x0002;
+/// What has it is used in its own class alone (JVMS SE 8, tables 4.5-A and 4.6-A).
+pub const PRIVATE: u16 = 0x0002;
 
-const PROTECTED: u16 = 0x0004;
+/// What has it may be used in subclasses (JVMS SE 8, tables 4.5-A and 4.6-A).
+pub const PROTECTED: u16 = 0x0004;
 
-const STATIC: u16 = 0x0008;
+/// What has it is of the class, and of no instance (JVMS SE 8, tables 4.5-A and 4.6-A).
+pub const STATIC: u16 = 0x0008;
 
 const FINAL: u16 = 0x0010;
 
@@ -27,7 +31,8 @@ const NATIVE: u16 = 0x0100;
 
 const INTERFACE: u16 = 0x0200;
 
-const ABSTRACT: u16 = 0x0400;
+/// What has it is not instantiated, or has no body (JVMS SE 8, tables 4.1-B and 4.6-A).
+pub const ABSTRACT: u16 = 0x0400;
 
 const STRICT: u16 = 0x0800;
 

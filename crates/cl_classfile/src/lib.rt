@@ -28,7 +28,7 @@ pub use checking::{text_at, type_name};
 pub use entry::Entry;
 pub use fault::{Fault, ReadError};
 pub use file::{ClassFile, read};
-pub use flags::has_flag;
+pub use flags::{ABSTRACT, PRIVATE, PROTECTED, PUBLIC, STATIC, has_flag};
 pub use laws::{
     has_one_spelling, parts_are_spelled, reading_finds_what_is_spelled, spells_one_file,
 };

@@ -1,9 +1,10 @@
 -- What a book stands for along a history.
 use Rattle.std.proofs.Common.{◌≡◌, ◌↔◌, ℕ, List, [], ◌∷◌, ◌++◌, Option, Some, None, refl, sym, ap, subst, ◌∙◌}
 use Rattle.cl_classfile.specs.Files.{Name}
-use Rattle.cl_model.specs.States.{State, start, Record, Equality, Need, Entry, Equal, recorded, Joined, Violated, Met, Refused, MayAdd, added}
+use Rattle.cl_model.specs.States.{State, start, Record, Equality, Need, Entry, Equal, recorded, Joined, Met, Refused, MayAdd, added}
 use Rattle.cl_model.specs.Machine.{Step, Define, Initiate, Constrain, Settle, Prepare, Post, NextRound, Stray, after, state_after}
 use Rattle.cl_model.proofs.Views.{state_then}
+use Rattle.cl_model.proofs.Runs.{violated_as}
 use Rattle.cl_constraints.specs.Books.{IsBookOf, Adds}
 use Rattle.cl_constraints.specs.Laws.{made_by}
 
@@ -14,25 +15,11 @@ module _ (home : Name → ℕ → Option ℕ) (joins : Name → ℕ → ℕ → 
       record {
         records = λ m l. same m l ∙ book.records m l;
         joined = λ m a b. subst (λ (ks : List Equality). joins m a b ↔ Joined ks m a b) (sym e) (book.joined m a b);
-        unviolated = λ v. book.unviolated (before v);
+        unviolated = λ v. book.unviolated (violated_as s t (sym r) (sym e) v);
       }
     where
       same : (m : Name) (l : ℕ) → recorded t.records l m ≡ recorded s.records l m
       same m l = ap (λ (rs : List Record). recorded rs l m) r
-
-      before : Violated t → Violated s
-      before v =
-          record {
-            name = v.name;
-            one = v.one;
-            other = v.other;
-            place = v.place;
-            other_place = v.other_place;
-            joined = subst (λ (ks : List Equality). Joined ks v.name v.one v.other) e v.joined;
-            first = sym (same v.name v.one) ∙ v.first;
-            second = sym (same v.name v.other) ∙ v.second;
-            differ = v.differ;
-          }
 
   -- so it stands for the state after a step that adds none
   after_none : (s : State) (e : Step) → made_by e ≡ None → IsBookOf home joins s → IsBookOf home joins (after s e)

@@ -5,16 +5,12 @@ use Rattle.std.specs.Option.{option_or}
 use Rattle.cl_model.specs.Content.{content_at}
 use Rattle.cl_classfile.specs.Files.{Name}
 use Rattle.cl_model.specs.Homes.{World, Loader, Order, ParentFirst, ChildFirst, is_java, decisive, first_home, in_order, own_home, undecided, home_at, home_below, is_loader}
+use Rattle.cl_model.proofs.Probes.{first_finds}
 use Rattle.cl_delegation.specs.Routes.{in_turn, route_at, routed, route_below, route_from, route, HomeIsOnRoute}
 
 find_append : (p : ℕ → Bool) (xs ys : List ℕ) → find p (xs ++ ys) ≡ option_or (find p xs) (find p ys)
 find_append p [] ys = refl
 find_append p (x ∷ xs) ys = elim (p x) as (λ b. cond b (Some x) (find p (xs ++ ys)) ≡ option_or (cond b (Some x) (find p xs)) (find p ys)) [ true ↦ refl | false ↦ find_append p xs ys ]
-
--- what some loaders' homes are, where each is found on its route
-firsts : (p : ℕ → Bool) (homes : ℕ → Option ℕ) (routes : ℕ → List ℕ) → ((l : ℕ) → homes l ≡ find p (routes l)) → (ls : List ℕ) → first_home homes ls ≡ find p (flat_map routes ls)
-firsts p homes routes same [] = refl
-firsts p homes routes same (l ∷ ls) = rw (same l, firsts p homes routes same ls) (sym (find_append p (routes l) (flat_map routes ls)))
 
 has : World → Name → ℕ → Bool
 has w name m = is_some (content_at w.content m name)
@@ -30,7 +26,7 @@ turns p ChildFirst above own route rest e f = rw (e, f) (sym (find_append p rest
 at_loader : (w : World) (name : Name) (homes : ℕ → Option ℕ) (routes : ℕ → List ℕ) (n : ℕ) (l : Loader) (d : Option ℕ) → ((m : ℕ) → homes m ≡ find (has w name) (routes m))
     → elim d [ Some target ↦ homes target | None ↦ undecided w name homes n l ] ≡ find (has w name) (elim d [ Some target ↦ routes target | None ↦ in_turn l.order (flat_map routes l.parents) (n ∷ []) ])
 at_loader w name homes routes n l (Some target) same = same target
-at_loader w name homes routes n l None same = turns (has w name) l.order (first_home homes l.parents) (own_home w n name) (flat_map routes l.parents) (n ∷ []) (firsts (has w name) homes routes same l.parents) (own_is w name n)
+at_loader w name homes routes n l None same = turns (has w name) l.order (first_home homes l.parents) (own_home w n name) (flat_map routes l.parents) (n ∷ []) (first_finds (has w name) homes routes same l.parents) (own_is w name n)
 
 at_place : (w : World) (name : Name) (homes : ℕ → Option ℕ) (routes : ℕ → List ℕ) (n : ℕ) (o : Option Loader) → ((m : ℕ) → homes m ≡ find (has w name) (routes m))
     → option_and_then (home_at w name homes n) o ≡ find (has w name) (routed (option_map (route_at name routes n) o))

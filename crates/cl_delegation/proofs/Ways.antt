@@ -113,7 +113,7 @@ pick : {A : Type 0} (P : A → Type 0) (b : Bool) (y x : A) (rest : Option A) �
 pick P true y x rest here later e = let same : y ≡ x = cc in subst P same here
 pick P false y x rest here later e = later e
 
-find_in : {A : Type 0} (P : A → Type 0) (p : A → Bool) (xs : List A) (x : A) → AllByRecursion P xs → find p xs ≡ Some x → P x
+pub find_in : {A : Type 0} (P : A → Type 0) (p : A → Bool) (xs : List A) (x : A) → AllByRecursion P xs → find p xs ≡ Some x → P x
 find_in P p [] x t e = absurd cc
 find_in P p (y ∷ ys) x t e = pick P (p y) y x (find p ys) t.0 (λ later. find_in P p ys x t.1 later) e
 

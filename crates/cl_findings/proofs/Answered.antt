@@ -29,10 +29,10 @@ use Rattle.cl_model.proofs.Reached.{plan_is_reference, reached}
 use Rattle.cl_model.proofs.Stacks.{refused_answers}
 use Rattle.cl_model.proofs.Tables.{recorded_reached}
 use Rattle.cl_model.proofs.Trees.{lineage_is_derived, lineage_of}
+use Rattle.cl_model.proofs.Closed.{all_left}
 use Rattle.cl_config.specs.Views.{Configured, Scripted}
 use Rattle.cl_delegation.specs.Worlds.{setting_of, world_of}
 use Rattle.cl_findings.specs.Findings.{Answered, AnswerRests, Based, BasisStands, Concludes, HasImposed, IsLink, IsLookedUp, IsRefusal, Rests, SaidRests, Stands, VerdictRests}
-use Rattle.cl_findings.proofs.Links.{all_front}
 
 -- ---- what a verdict that stands concludes
 
@@ -130,7 +130,7 @@ refusal_comes g s loader name (Equal other a b) cs v sound h prepared refused =
     let lin = lineage_of w (class name at.place) at.kin at.of in
     let own : IsRecorded s at.kin.class = subst (λ (c : Class). IsRecorded s c) (sym lin.0) (sound.closed.own loader at.place name at.kept) in
     let kept = subst (λ (ks : List Kin). AllByRecursion (IsKept w s) ks) at.split (lineage_kept w s at.kin sound.closed own lin.1) in
-    let linked = linked_all g s at.before sound (all_front (IsKept w s) at.before (at.at ∷ at.behind) kept) (subst (λ (ds : List Class). AllByRecursion (Contains s.prepared) ds) (sym at.are) prepared) in
+    let linked = linked_all g s at.before sound (all_left (IsKept w s) at.before (at.at ∷ at.behind) kept) (subst (λ (ds : List Class). AllByRecursion (Contains s.prepared) ds) (sym at.are) prepared) in
     link_refusal_comes g s loader at.place name at.kin at.at at.before at.behind (Equal other a b) sound.closed at.kept at.of at.split linked at.next refused
 
 comes_by : (g : Setting) (s : State) (loader : ℕ) (name : List ℕ) (o : Option Need) (cs : List Class) (v : Verdict) → IsSound g s → ((d : Class) → v ≡ IsLinked d → ⊥) → Concludes g.world s (Link loader name) o cs v

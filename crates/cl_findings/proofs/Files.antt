@@ -1,13 +1,12 @@
--- The file of a class that is recorded, and of a class that is at home.
-use Rattle.std.proofs.Common.{◌≡◌, ◌∙◌, ℕ, Bool, List, Option, Some, None, Ok, Result, ap, subst}
+-- The file of a class that is recorded.
+use Rattle.std.proofs.Common.{◌≡◌, ℕ, Some, Ok, Result, subst}
 use Rattle.std.specs.Prelude.{if◌then◌else◌}
-use Rattle.std.proofs.lemmas.Cmp.{nat_eq_equiv}
 use Rattle.cl_classfile.specs.Files.{File, file_of}
 use Rattle.cl_classfile.specs.Structure.{Structure}
 use Rattle.cl_model.specs.declared.class.Class.{Class}
-use Rattle.cl_model.specs.Content.{Content, content_at}
+use Rattle.cl_model.specs.Content.{Content}
 use Rattle.cl_model.specs.Homes.{World}
-use Rattle.cl_model.specs.Classes.{Error, HasFile, IsAtHome, is_own, named, read_found}
+use Rattle.cl_model.specs.Classes.{Error, HasFile, IsAtHome}
 use Rattle.cl_model.specs.Classes as classes
 use Rattle.cl_model.specs.Lineages.{Kin}
 use Rattle.cl_model.specs.Machine.{HasLineage, IsClosed}
@@ -19,12 +18,6 @@ use Rattle.cl_config.specs.Views.{Configured}
 use Rattle.cl_delegation.specs.Worlds.{world_of}
 use Rattle.cl_hierarchy.specs.Drafts.{IsSpelt}
 use Rattle.cl_hierarchy.proofs.Placed.{spelt_file}
-
-pub file_found : (w : World) (c : Class) (bytes : List ℕ) → IsAtHome w c → content_at w.content c.loader c.name ≡ Some bytes → classes.file_of w c ≡ named c (w.read bytes)
-file_found w c bytes at stored =
-    ap (λ (o : Option ℕ). read_found w c (if is_own c.loader o then content_at w.content c.loader c.name else None)) at
-    ∙ ap (λ (b : Bool). read_found w c (if b then content_at w.content c.loader c.name else None)) (nat_eq_equiv.refl c.loader)
-    ∙ ap (read_found w c) stored
 
 ok_same : {A E : Type 0} (a b : A) (r : Result A E) → r ≡ Ok a → r ≡ Ok b → a ≡ b
 ok_same a b r h k = cc

@@ -24,12 +24,14 @@ use Rattle.cl_model.proofs.Planned.{one_lineage}
 use Rattle.cl_model.proofs.Progress.{IsKept, lineage_kept}
 use Rattle.cl_model.proofs.Trees.{lineage_is_derived}
 use Rattle.cl_model.proofs.Aims.{next_left, next_right}
+use Rattle.cl_model.proofs.Closed.{all_left, all_right}
 use Rattle.cl_config.specs.Views.{Configured}
 use Rattle.cl_delegation.specs.Worlds.{world_of}
 use Rattle.cl_hierarchy.specs.Imposed.{AreOf, Listed, OfPreparation, Sprung, needs_of}
 use Rattle.cl_hierarchy.specs.Lineages.{IsInOrder, IsLineageOf, Lined, kin_of, rows_in}
 use Rattle.cl_hierarchy.specs.Rows.{Rowed}
 use Rattle.cl_hierarchy.specs.Trees.{kin_under, kins, kins_after}
+use Rattle.cl_hierarchy.proofs.Tours.{classes_both}
 use Rattle.cl_findings.specs.Bases.{AreLineages}
 use Rattle.cl_findings.specs.Findings.{Based, HasImposed, IsPlaced, Placed, Rests, loader_of}
 use Rattle.cl_findings.specs.References.{AreLinked, class_need, link_basis}
@@ -40,10 +42,6 @@ use Rattle.cl_findings.proofs.References.{next_at}
 
 reverse_first : {A : Type 0} (x : A) (xs : List A) → reverse (x ∷ xs) ≡ reverse xs ++ x ∷ []
 reverse_first x xs = reverse_onto xs x []
-
-classes_both : (xs ys : List Kin) → classes (xs ++ ys) ≡ classes xs ++ classes ys
-classes_both [] ys = refl
-classes_both (x ∷ xs) ys = ap (λ (cs : List Class). x.class ∷ cs) (classes_both xs ys)
 
 abbrev pub row_classes : List Rowed → List Class
 row_classes rows = map (λ row. row.class) rows
@@ -92,14 +90,6 @@ pub next_in : (s : State) (front behind : List Kin) (k : Kin) (n : Need) → All
 next_in s [] behind k n all h = next_left s (constraints_of k) (flat_map constraints_of behind) n h
 next_in s (b ∷ front) behind k n all h = next_right s (constraints_of b) (flat_map constraints_of (front ++ k ∷ behind)) n all.0 (next_in s front behind k n all.1 h)
 
-pub all_front : {A : Type 0} (P : A → Type 0) (xs ys : List A) → AllByRecursion P (xs ++ ys) → AllByRecursion P xs
-all_front P [] ys h = tt
-all_front P (x ∷ xs) ys h = (h.0, all_front P xs ys h.1)
-
-all_behind : {A : Type 0} (P : A → Type 0) (xs ys : List A) → AllByRecursion P (xs ++ ys) → AllByRecursion P ys
-all_behind P [] ys h = h
-all_behind P (x ∷ xs) ys h = all_behind P xs ys h.1
-
 -- classes of a lineage all of whose constraints are imposed
 pub imposed_all : (w : World) (s : State) (ks : List Kin) → AllByRecursion (IsKept w s) ks → AllByRecursion (HasImposed w s) (classes ks) → AllByRecursion (λ (b : Kin). AllMet s (constraints_of b)) ks
 imposed_all w s [] kept h = tt
@@ -129,11 +119,11 @@ link_concludes content loader l at place k needs n s order lin other config ther
     let fronts : classes parts.front ≡ row_classes (take place (rows_in l)) = parts.are ∙ ap (λ (xs : List Class). take place xs) list ∙ take-map (λ (row : Rowed). row.class) place (rows_in l) in
     let own : IsRecorded s l.own.class = closed.own loader l.own.class.loader name rec in
     let kept = subst (λ (xs : List Kin). AllByRecursion (IsKept w s) xs) parts.split (lineage_kept w s (kin_of l) closed own lin) in
-    let kept_at = (all_behind (IsKept w s) parts.front (parts.at ∷ parts.behind) kept).0 in
+    let kept_at = (all_right (IsKept w s) parts.front (parts.at ∷ parts.behind) kept).0 in
     let same_world : IsLineage w (kin_of at) = subst (λ (c : Configured). IsLineage (world_of c content) (kin_of at)) config other in
     let same : parts.at ≡ kin_of at = one_lineage w at.own.class parts.at (kin_of at) (subst (λ (c : Class). HasLineage w c parts.at) parts.class_is (lineage_is_derived w parts.at kept_at.1)) (lineage_is_derived w (kin_of at) same_world) in
     let next_there : IsNext s (constraints_of parts.at) n = subst (λ (ns : List Need). IsNext s ns n) (are ∙ ap constraints_of (sym same)) (next_at s needs k n is met) in
-    let imposed = imposed_all w s parts.front (all_front (IsKept w s) parts.front (parts.at ∷ parts.behind) kept) (subst (λ (xs : List Class). AllByRecursion (HasImposed w s) xs) (sym fronts) prepared) in
+    let imposed = imposed_all w s parts.front (all_left (IsKept w s) parts.front (parts.at ∷ parts.behind) kept) (subst (λ (xs : List Class). AllByRecursion (HasImposed w s) xs) (sym fronts) prepared) in
     let next : IsNext s (flat_map constraints_of ks) n = subst (λ (xs : List Kin). IsNext s (flat_map constraints_of xs) n) (sym parts.split) (next_in s parts.front parts.behind parts.at n imposed next_there) in
     let has = lineage_is_derived w (kin_of l) lin in
     let goes = link_goes_on w s loader l.own.class.loader name (kin_of l) closed rec has in (

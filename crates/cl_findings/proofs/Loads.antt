@@ -39,13 +39,13 @@ use Rattle.cl_hierarchy.specs.Drafts.{IsSpelt, IsWrong}
 use Rattle.cl_hierarchy.specs.Frames.{Framed, frame_of}
 use Rattle.cl_hierarchy.specs.Paths.{Pathed, IsPath, frames_of, at_loader, at_name, is_on, misfit_in, misfit_under}
 use Rattle.cl_hierarchy.specs.Rows.{Rowed}
-use Rattle.cl_hierarchy.proofs.Placed.{spelt_judged}
+use Rattle.cl_hierarchy.proofs.Placed.{file_found, spelt_judged}
 use Rattle.cl_findings.specs.declared.load.Target.{Target}
 use Rattle.cl_findings.specs.declared.load.Target.TheVariants as targets
 use Rattle.cl_findings.specs.Bases.{IsSpeltIn}
 use Rattle.cl_findings.specs.Findings.{Based, Concludes, IsRefusal, Placed, Rests, VerdictRests, loader_of}
 use Rattle.cl_findings.specs.Loads.{IsFor, IsReferred, IsSought, IsWhole, kind_of, missing_kind, target_needs}
-use Rattle.cl_findings.proofs.Files.{file_found, kept_file}
+use Rattle.cl_findings.proofs.Files.{kept_file}
 use Rattle.cl_findings.proofs.Plain.{error_apart, grounded, linkage_apart}
 
 -- ---- what is wrong with bytes

@@ -87,10 +87,10 @@ record Follows (d c : Kin) (cited : Reference) (needs : List Need) (v : Verdict)
   pub ends : ending made.ends ≡ v
 
 -- it is what is resolved in the class, where that is accessible
-opened : (d c : Kin) (cited : Reference) (b : Bool) → class_accessible c.file.flags c.class d.class ≡ b → through d cited c ≡ (unless_wrong (if b then None else Some (IllegalAccess c.class)) >>= λ a. resolve_in d cited c)
+pub opened : (d c : Kin) (cited : Reference) (b : Bool) → class_accessible c.file.flags c.class d.class ≡ b → through d cited c ≡ (unless_wrong (if b then None else Some (IllegalAccess c.class)) >>= λ a. resolve_in d cited c)
 opened d c cited b e = ap (λ (b : Bool). unless_wrong (if b then None else Some (IllegalAccess c.class)) >>= λ a. resolve_in d cited c) e
 
-through_made : (d c : Kin) (cited : Reference) (m : Made Verdict) → class_accessible c.file.flags c.class d.class ≡ true → resolve_in d cited c ≡ Some m → through d cited c ≡ Some m
+pub through_made : (d c : Kin) (cited : Reference) (m : Made Verdict) → class_accessible c.file.flags c.class d.class ≡ true → resolve_in d cited c ≡ Some m → through d cited c ≡ Some m
 through_made d c cited m reachable is = opened d c cited true reachable ∙ ap (λ (o : Work Verdict). option_map (after_made [] []) o) is
 
 class_follows : (d c : Kin) (cited : Reference) (v : Verdict) (b : Bool) → class_accessible c.file.flags c.class d.class ≡ b → EndsAtClass b cited c.class v → Follows d c cited [] v
@@ -238,7 +238,7 @@ asked_rests (Some content) r e k need asked lin of is = asked_rests_at content r
 abbrev pub asked_by : request.Request → Sprung → List Need → Option Need → Based
 asked_by r from met refused = record { config = config_of from; needs = sprung_needs r from ++ met; prepared = []; refused = refused }
 
-whole_taken : (ns : List Need) (n : ℕ) → n ≡ length ns → take n ns ≡ ns
+pub whole_taken : (ns : List Need) (n : ℕ) → n ≡ length ns → take n ns ≡ ns
 whole_taken [] zero e = refl
 whole_taken [] (suc n) e = refl
 whole_taken (x ∷ ns) zero e = absurd (omega (arith, e))

@@ -24,7 +24,7 @@ named_later known r c e = rw e refl
 pub same_back : (c d : Class) → c ≡ d → same_class d c ≡ true
 same_back c d e = subst (λ (x : Class). same_class x c ≡ true) e (same_self c)
 
-keeps : (known : List Kin) (r : Rowed) (c : Class) (k : Kin) → kin_named known r.class ≡ None → kin_named known c ≡ Some k → kin_named (kin_under known r ∷ known) c ≡ Some k
+pub keeps : (known : List Kin) (r : Rowed) (c : Class) (k : Kin) → kin_named known r.class ≡ None → kin_named known c ≡ Some k → kin_named (kin_under known r ∷ known) c ≡ Some k
 keeps known r c k is_new e = at (same_class c r.class) refl
   where
     at : (b : Bool) → same_class c r.class ≡ b → (if b then Some (kin_under known r) else kin_named known c) ≡ Some k

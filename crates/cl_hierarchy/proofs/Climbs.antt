@@ -133,7 +133,7 @@ pub record Climbs (rows : List Rowed) (superclass : List Class) (found rest : Li
   pub kins_are : map (kin_under (kins rows)) found ++ upward (forest (kins rest) wanted) ≡ upward (forest (kins rows) superclass)
   pub rows_are : AllByRecursion (IsRowIn rows) found
 
-all_push : (rows found : List Rowed) (r : Rowed) → AllByRecursion (IsRowIn rows) found → IsRowIn rows r → AllByRecursion (IsRowIn rows) (found ++ r ∷ [])
+pub all_push : (rows found : List Rowed) (r : Rowed) → AllByRecursion (IsRowIn rows) found → IsRowIn rows r → AllByRecursion (IsRowIn rows) (found ++ r ∷ [])
 all_push rows [] r h a = (a, tt)
 all_push rows (x ∷ found) r h a = (h.0, all_push rows found r h.1 a)
 

@@ -30,7 +30,7 @@ last_split {A} (x ∷ (y ∷ ys)) e h =
 last_place : {A : Type 0} (before : List A) (e : A) → length (before ++ e ∷ []) - 1 ≡ length before
 last_place before e = let n = length-append before (e ∷ []) in omega arith
 
-at_length : {A : Type 0} (before : List A) (e : A) → slice_get (before ++ e ∷ []) (length before) ≡ Some e
+pub at_length : {A : Type 0} (before : List A) (e : A) → slice_get (before ++ e ∷ []) (length before) ≡ Some e
 at_length [] e = refl
 at_length (x ∷ before) e = at_length before e
 

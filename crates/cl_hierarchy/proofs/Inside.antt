@@ -81,7 +81,3 @@ module _ (l inside : Lined) (table : List Rowed) (same : inside ≡ l) (h : IsIn
 
   pub rows_inside : {V A E : Type 0} (items : V → List A) (v : A → Rowed) (found : Result V E) → IfOk found (λ x. AllByRecursion (λ y. IsRowIn table (v y)) (items x)) → IfOk found (λ x. AllByRecursion (λ y. IsRowIn (rows_in l) (v y)) (items x))
   rows_inside {V} items v found g = subst (λ (rs : List Rowed). IfOk found (λ x. AllByRecursion (λ y. IsRowIn rs (v y)) (items x))) e g
-
-pub if_so : {A E : Type 0} (P Q : A → Type 0) (r : Result A E) → ((a : A) → P a → Q a) → IfOk r P → IfOk r Q
-if_so P Q (Ok a) f h = f a h
-if_so P Q (Err e) f h = tt

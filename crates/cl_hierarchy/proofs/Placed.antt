@@ -21,13 +21,13 @@ use Rattle.cl_hierarchy.specs.Paths.{fresh}
 use Rattle.cl_hierarchy.proofs.Frames.{none_yet}
 
 -- the bytes of a class that is at home are read
-file_found : (w : World) (c : Class) (bytes : List ℕ) → IsAtHome w c → content_at w.content c.loader c.name ≡ Some bytes → classes.file_of w c ≡ named c (w.read bytes)
+pub file_found : (w : World) (c : Class) (bytes : List ℕ) → IsAtHome w c → content_at w.content c.loader c.name ≡ Some bytes → classes.file_of w c ≡ named c (w.read bytes)
 file_found w c bytes at stored =
     ap (λ (o : Option ℕ). read_found w c (if is_own c.loader o then content_at w.content c.loader c.name else None)) at
     ∙ ap (λ (b : Bool). read_found w c (if b then content_at w.content c.loader c.name else None)) (nat_eq_equiv.refl c.loader)
     ∙ ap (read_found w c) stored
 
-named_so : (c : Class) (f : File) → f.name ≡ c.name → named c (Ok f) ≡ Ok f
+pub named_so : (c : Class) (f : File) → f.name ≡ c.name → named c (Ok f) ≡ Ok f
 named_so c f e = ap (λ (b : Bool). if b then Ok f else Err (NoClassDef c)) (ap (λ (n : List ℕ). same_name n c.name) e ∙ nat_list_eq_equiv.refl c.name)
 
 -- a class that is at home has the file that its bytes spell

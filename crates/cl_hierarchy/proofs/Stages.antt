@@ -19,6 +19,7 @@ use Rattle.cl_hierarchy.specs.Tours.{Comes, Leaves, Marked, Stop, Toured, first_
 use Rattle.cl_hierarchy.proofs.Ancestry.{no_row, row_kin}
 use Rattle.cl_hierarchy.proofs.Scans.{map_push}
 use Rattle.cl_hierarchy.proofs.Tours.{Goes, goes_first, goes_on, goes_past, goes_tell, told_both, with_has, with_one, within_join, classes_both, with_either, with_grows}
+use Rattle.cl_hierarchy.proofs.Climbs.{all_push}
 
 -- ---- what is left to do
 
@@ -46,10 +47,6 @@ all_first rows (m ∷ ms) ns h = (h.0, all_first rows ms ns h.1)
 all_last : (rows : List Rowed) (ms ns : List Marked) → AreRowsOf rows (ms ++ ns) → AreRowsOf rows ns
 all_last rows [] ns h = h
 all_last rows (m ∷ ms) ns h = all_last rows ms ns h.1
-
-pub all_told : (rows told : List Rowed) (r : Rowed) → AllByRecursion (IsRowIn rows) told → IsRowIn rows r → AllByRecursion (IsRowIn rows) (told ++ r ∷ [])
-all_told rows [] r h a = (a, tt)
-all_told rows (x ∷ told) r h a = (h.0, all_told rows told r h.1 a)
 
 -- ---- a superclass
 
@@ -197,7 +194,7 @@ row_joins rows seen told r h i = at (is_among seen r.class)
   where
     at : (b : Bool) → AllByRecursion (IsRowIn rows) (if b then told else told ++ r ∷ [])
     at true = h
-    at false = all_told rows told r h i
+    at false = all_push rows told r h i
 
 module _ (o : Order) (rows : List Rowed) (goal : List Kin) (r : Rowed) (is_row : IsRowIn rows r) where
   telling_on : (t : Toured) (s : Stop) (b : Bool) (rest : List Stop) → tells o s ≡ (if b then kin_under (kins rows) r ∷ [] else []) → IsTold o rows goal t (s ∷ (rest ++ stops_left o (kins rows) t.stack))

@@ -6,16 +6,8 @@ ghost use Rattle.cl_hierarchy.specs.Lineages.{TellsAccess, TellsOpen};
 
 use crate::access::{is_same, same_package};
 use crate::lineage::Lineage;
-use cl_classfile::has_flag;
+use cl_classfile::{PRIVATE, PROTECTED, PUBLIC, STATIC, has_flag};
 use cl_model::{Class, Told};
-
-const PUBLIC: u16 = 0x0001;
-
-const PRIVATE: u16 = 0x0002;
-
-const PROTECTED: u16 = 0x0004;
-
-const STATIC: u16 = 0x0008;
 
 /// Whether a protected member of a class, with these flags, is open to another through a third (JVMS SE 8, 5.4.4).
 fn protected_open<T: Told>(

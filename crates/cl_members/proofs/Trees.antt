@@ -12,6 +12,7 @@ use Rattle.cl_model.proofs.Complete.{is_class}
 use Rattle.cl_hierarchy.specs.Rows.{Rowed}
 use Rattle.cl_hierarchy.specs.Trees.{IsAfter, SupersBefore, forest, in_front, kin_named, kin_under, kins_after, kins, interfaces_in, superclass_in}
 use Rattle.cl_hierarchy.specs.Lineages.{Lined, IsInOrder, kin_of, upwards, field_order}
+use Rattle.cl_hierarchy.proofs.Ancestry.{keeps}
 use Rattle.cl_members.proofs.Lists.{find_append, or_assoc}
 
 -- ---- field lookup goes through the tree from the front
@@ -104,13 +105,6 @@ front_told known closed c rest (Some k) e all =
 forest_told : (known : List Kin) → Closed known → (cs : List Class) → AllByRecursion (Told known) (upwards (forest known cs))
 forest_told known closed [] = tt
 forest_told known closed (c ∷ cs) = front_told known closed c (forest known cs) (kin_named known c) refl (forest_told known closed cs)
-
-keeps : (known : List Kin) (r : Rowed) (c : Class) (k : Kin) → kin_named known r.class ≡ None → kin_named known c ≡ Some k → kin_named (kin_under known r ∷ known) c ≡ Some k
-keeps known r c k is_new e = at (same_class c r.class) refl
-  where
-    at : (b : Bool) → same_class c r.class ≡ b → (if b then Some (kin_under known r) else kin_named known c) ≡ Some k
-    at true s = absurd (let gone : kin_named known c ≡ None = subst (λ (x : Class). kin_named known x ≡ None) (sym (is_class c r.class s)) is_new in cc)
-    at false s = e
 
 some_kin : (x y : Kin) → (let o : Option Kin = Some x in o) ≡ Some y → x ≡ y
 some_kin x y e = cc

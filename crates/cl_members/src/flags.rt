@@ -3,15 +3,7 @@
 ghost use Rattle.std.specs.Prelude.{◌≡◌};
 ghost use Rattle.cl_classfile.specs.Files.{is_public, is_private, is_static, is_abstract};
 
-use cl_classfile::has_flag;
-
-const PUBLIC: u16 = 0x0001;
-
-const PRIVATE: u16 = 0x0002;
-
-const STATIC: u16 = 0x0008;
-
-const ABSTRACT: u16 = 0x0400;
+use cl_classfile::{ABSTRACT, PRIVATE, PUBLIC, STATIC, has_flag};
 
 pub fn is_public(flags: u16) -> bool
     ensures { result ≡ is_public flags }

@@ -9,7 +9,7 @@ use Rattle.cl_model.specs.Classes.{class, same_class, is_among, Above, AtHome, s
 use Rattle.cl_model.specs.Lineages.{Forest, Bare, Tree, Kin, StandsFor, IsLineage, alone, classes, postorder, once_after, lineage}
 use Rattle.cl_model.specs.Ancestors.{EachClassOnce, SupersFirst}
 use Rattle.cl_model.proofs.Complete.{is_class, or_true}
-use Rattle.cl_model.proofs.Trees.{all_two}
+use Rattle.cl_model.proofs.Derived.{all_both}
 
 -- ---- classes among others
 
@@ -99,7 +99,7 @@ after_both : (before : List Class) (xs ys : List Kin) → after_all before (xs +
 after_both before [] ys = refl
 after_both before (x ∷ xs) ys = after_both (x.class ∷ before) xs ys
 
-class_at : (s : Class) (name : Name) → s.name ≡ name → s ≡ class name s.loader
+pub class_at : (s : Class) (name : Name) → s.name ≡ name → s ≡ class name s.loader
 class_at s name e = ap (λ (n : Name). class n s.loader) e
 
 -- what stands for supertypes has each class after its own, and in the end these themselves
@@ -118,7 +118,7 @@ forest_first w before c (Tree s f sup ints rest) (a ∷ more) h =
     let whole : after_all before ((postorder sup ++ postorder ints) ++ (k ∷ postorder rest)) ≡ after_all (s ∷ end) (postorder rest) =
     after_both before (postorder sup ++ postorder ints) (k ∷ postorder rest) ∙ ap (λ (x : List Class). after_all (s ∷ x) (postorder rest)) both in
     let supers_among : AllAmong w end s (superclass_of f ++ superinterfaces_of f) =
-    all_two (λ (x : Above). AtHome w s (λ t. is_among end t ≡ true) x.name) (superclass_of f) (superinterfaces_of f)
+    all_both (λ (x : Above). AtHome w s (λ t. is_among end t ≡ true) x.name) (superclass_of f) (superinterfaces_of f)
     (among_within w middle end s (superclass_of f) (within_all middle middle (postorder ints) (λ x e. e)) up.1) over.1 in
     let first : SupersFirst w before (postorder sup ++ postorder ints) = first_both w before (postorder sup) (postorder ints) up.0 over.0 in
     let last : SupersFirst w end (k ∷ postorder rest) = (supers_among, beside.0) in (
@@ -151,7 +151,7 @@ lineage_first w k h =
     let end = after_all middle (postorder k.interfaces) in
     let both : after_all [] (postorder k.superclass ++ postorder k.interfaces) ≡ end = after_both [] (postorder k.superclass) (postorder k.interfaces) in
     let supers_among : AllAmong w end k.class (superclass_of k.file ++ superinterfaces_of k.file) =
-    all_two (λ (x : Above). AtHome w k.class (λ t. is_among end t ≡ true) x.name) (superclass_of k.file) (superinterfaces_of k.file)
+    all_both (λ (x : Above). AtHome w k.class (λ t. is_among end t ≡ true) x.name) (superclass_of k.file) (superinterfaces_of k.file)
     (among_within w middle end k.class (superclass_of k.file) (within_all middle middle (postorder k.interfaces) (λ x e. e)) up.1) over.1 in
     let first : SupersFirst w [] (postorder k.superclass ++ postorder k.interfaces) = first_both w [] (postorder k.superclass) (postorder k.interfaces) up.0 over.0 in
     let last : SupersFirst w end (k ∷ []) = (supers_among, tt) in

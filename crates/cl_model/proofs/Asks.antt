@@ -4,6 +4,7 @@ use Rattle.std.specs.Prelude.{flat_map, option_map}
 use Rattle.std.specs.List.{AllByRecursion, list_any}
 use Rattle.std.proofs.lemmas.Bool.{eqb-true}
 use Rattle.cl_descriptors.specs.declared.types.FieldType.{FieldType}
+use Rattle.cl_descriptors.proofs.Codec.{map_some, then_some}
 use Rattle.cl_classfile.specs.Files.{Name, Key, Member, Reference, ToClass, ToField, ToMethod, ToInterfaceMethod, reference, element_name, same_name}
 use Rattle.cl_model.specs.Homes.{World, home}
 use Rattle.cl_model.specs.declared.class.Class.{Class}
@@ -17,13 +18,12 @@ use Rattle.cl_model.specs.Plans.{initiating, load_by, loads_above, derive_new, d
 use Rattle.cl_model.specs.Machine.{HasLineage, IsPlan}
 use Rattle.cl_model.proofs.Bind.{some_same, ok_same, step_is}
 use Rattle.cl_model.proofs.Heights.{loaded, found, sought, grown, others_after, checked, finished, interfaces_next, superclass_next, circle_or}
-use Rattle.cl_model.proofs.Derived.{load_ok, above_ok, derive_ok}
+use Rattle.cl_model.proofs.Derived.{load_ok, above_ok, derive_ok, all_both}
 use Rattle.cl_model.proofs.Runs.{names_equal}
 use Rattle.cl_model.proofs.Planned.{accessible, class_found, to_class, resolved, imposed as imposed_for, field_found, looked_up, method_found, method_sought, wrong_kind, one_lineage}
 use Rattle.cl_model.proofs.Progress.{IsEquality, equals_are, constraints_are, flat_are, once_kept}
 use Rattle.cl_model.proofs.Closed.{all_left, all_right}
-use Rattle.cl_model.proofs.Trees.{all_two}
-use Rattle.cl_model.proofs.Reached.{then_some, map_is, reached}
+use Rattle.cl_model.proofs.Reached.{reached}
 use Rattle.cl_model.proofs.Ancestors.{same_self}
 use Rattle.cl_model.proofs.Marks.{In, in_left, in_right, all_in, without, and_two}
 
@@ -53,13 +53,13 @@ covers_then {A} {B} before (Some m) f one two z h = at m.ends refl h
     last : (x : A) → m.ends ≡ Ok x → (y : Made B) → f x ≡ Some y → after_made m.needs m.asked y ≡ z → AllByRecursion (Asked (before ++ z.asked)) z.needs
     last x e y k same =
         subst (λ (v : Made B). AllByRecursion (Asked (before ++ v.asked)) v.needs) same
-        (all_two (Asked (before ++ (m.asked ++ y.asked))) m.needs y.needs
+        (all_both (Asked (before ++ (m.asked ++ y.asked))) m.needs y.needs
         (subst (λ (l : List Ask). AllByRecursion (Asked l) m.needs) (append_assoc before m.asked y.asked) (all_asked (before ++ m.asked) y.asked m.needs (one m refl)))
         (subst (λ (l : List Ask). AllByRecursion (Asked l) y.needs) (append_assoc before m.asked y.asked) (two x m refl e y k)))
 
     at : (r : Result A Error) → m.ends ≡ r → go_on m.needs m.asked r f ≡ Some z → AllByRecursion (Asked (before ++ z.asked)) z.needs
     at (Err x) e k = subst (λ (v : Made B). AllByRecursion (Asked (before ++ v.asked)) v.needs) (some_same _ z k) (one m refl)
-    at (Ok x) e k = let y = map_is (after_made m.needs m.asked) (f x) z k in last x e y.0 y.1 y.2
+    at (Ok x) e k = let y = map_some (after_made m.needs m.asked) (f x) z k in last x e y.0 y.1 y.2
 
 -- work without needs
 none_covers : {A : Type 0} (before : List Ask) (m : Made A) → m.needs ≡ [] → Covers before (Some m)
@@ -199,11 +199,11 @@ plan_covers w q p is =
       | Err x ↦ Some (record { own = m.needs; more = []; asked = m.asked; reached = None; ends = Wrong x })
       | Ok k ↦ option_map (plan_after m k) (go_on_with w is.height q k)
     ]) ≡ Some p → AllByRecursion (Asked p.asked) (needs_of p)
-    at m all (Err x) h = subst (λ (y : Plan). AllByRecursion (Asked y.asked) (needs_of y)) (some_same _ p h) (all_two (Asked m.asked) m.needs [] all tt)
+    at m all (Err x) h = subst (λ (y : Plan). AllByRecursion (Asked y.asked) (needs_of y)) (some_same _ p h) (all_both (Asked m.asked) m.needs [] all tt)
     at m all (Ok k) h =
-        let on = map_is (plan_after m k) (go_on_with w is.height q k) p h in
+        let on = map_some (plan_after m k) (go_on_with w is.height q k) p h in
         subst (λ (y : Plan). AllByRecursion (Asked y.asked) (needs_of y)) on.2
-        (all_two (Asked (m.asked ++ on.0.asked)) m.needs on.0.needs (all_asked m.asked on.0.asked m.needs all) (on_covers w is.height m.asked q k on.0 on.1))
+        (all_both (Asked (m.asked ++ on.0.asked)) m.needs on.0.needs (all_asked m.asked on.0.asked m.needs all) (on_covers w is.height m.asked q k on.0 on.1))
 
 -- ---- the classes of a lineage stand in the plan by their own records
 
@@ -237,7 +237,7 @@ above_owns w d ih c (a ∷ others) m fs h e =
     subst (λ (ns : List Need). AllByRecursion (OwnIn ns) (postorder one.forest)) (sym one.needs)
     (owns_right one.one.needs (one.rest.needs ++ []) (postorder one.forest) (owns_left one.rest.needs [] (postorder one.forest) (above_owns w d ih c others one.rest one.forest one.made one.ends))) in
     subst (λ (x : Forest). AllByRecursion (OwnIn m.needs) (postorder x)) one.grows
-    (all_two (OwnIn m.needs) before (k ∷ postorder one.forest) (all_left (OwnIn m.needs) before (k ∷ []) first) ((all_right (OwnIn m.needs) before (k ∷ []) first).0, rest))
+    (all_both (OwnIn m.needs) before (k ∷ postorder one.forest) (all_left (OwnIn m.needs) before (k ∷ []) first) ((all_right (OwnIn m.needs) before (k ∷ []) first).0, rest))
 
 derive_owns : (w : World) (n : ℕ) (path : List Class) → Owns (derive w n path)
 derive_owns w zero path s m k h e = absurd cc
@@ -250,8 +250,8 @@ derive_owns w (suc n) path s m k h e =
     let over = above_owns w (derive w n (s ∷ path)) ih s (superinterfaces_of new.file) new.over new.ints new.over_made new.over_ends in
     let needs = new.up.needs ++ (new.over.needs ++ own) in
     let all : AllByRecursion (OwnIn needs) ((postorder new.sup ++ postorder new.ints) ++ record { class = s; file = new.file; superclass = new.sup; interfaces = new.ints } ∷ []) =
-    all_two (OwnIn needs) (postorder new.sup ++ postorder new.ints) (record { class = s; file = new.file; superclass = new.sup; interfaces = new.ints } ∷ [])
-    (all_two (OwnIn needs) (postorder new.sup) (postorder new.ints) (owns_left new.up.needs (new.over.needs ++ own) (postorder new.sup) up) (owns_right new.up.needs (new.over.needs ++ own) (postorder new.ints) (owns_left new.over.needs own (postorder new.ints) over)))
+    all_both (OwnIn needs) (postorder new.sup ++ postorder new.ints) (record { class = s; file = new.file; superclass = new.sup; interfaces = new.ints } ∷ [])
+    (all_both (OwnIn needs) (postorder new.sup) (postorder new.ints) (owns_left new.up.needs (new.over.needs ++ own) (postorder new.sup) up) (owns_right new.up.needs (new.over.needs ++ own) (postorder new.ints) (owns_left new.over.needs own (postorder new.ints) over)))
     (in_right (Entry s.loader s.name s.loader) new.up.needs (new.over.needs ++ own) (in_right (Entry s.loader s.name s.loader) new.over.needs own (inl refl)), tt) in
     subst (λ (ns : List Need). AllByRecursion (OwnIn ns) (postorder (alone k))) (sym (at.needs ∙ new.needs)) (subst (λ (x : Kin). AllByRecursion (OwnIn needs) (postorder (alone x))) new.kin all)
 
@@ -278,7 +278,7 @@ reached_asked w q p d k is r lin =
 
 -- ---- what is asked, each once
 
-same_asked : (a b : Ask) → same_ask a b ≡ true → a ≡ b
+pub same_asked : (a b : Ask) → same_ask a b ≡ true → a ≡ b
 same_asked a b h =
     let both = and_two (a.loader == b.loader) (same_name a.name b.name) h in
     ap (λ (l : ℕ). let x : Ask = record { loader = l; name = a.name } in x) (eqb-true a.loader b.loader both.0) ∙ ap (λ (n : Name). let x : Ask = record { loader = b.loader; name = n } in x) (names_equal a.name b.name both.1)

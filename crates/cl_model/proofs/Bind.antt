@@ -62,12 +62,9 @@ pub pieces : {A B : Type 0} (a : Work A) (f : A → Work B) (m : Made B) (r : Re
 pieces None f m r h k = absurd cc
 pieces (Some first) f m r h k = pieces_at first first.ends f m r refl h k
 
-ok_err : {B : Type 0} (b : B) (e : Error) (r : Result B Error) → r ≡ Ok b → r ≡ Err e → ⊥
-ok_err b e r h k = cc
-
 -- work that ends well is two pieces that do
 pub bind_ok : {A B : Type 0} (a : Work A) (f : A → Work B) (m : Made B) (b : B) → (a >>= f) ≡ Some m → m.ends ≡ Ok b → Bound a f m (Ok b)
-bind_ok a f m b h k = elim (pieces a f m (Ok b) h k) [ inl x ↦ x | inr x ↦ absurd (ok_err b x.0 (Ok b) refl x.1) ]
+bind_ok a f m b h k = elim (pieces a f m (Ok b) h k) [ inl x ↦ x | inr x ↦ absurd (ok_not_err b x.0 (Ok b) refl x.1) ]
 
 -- work that ends ill is a first piece that does, or two of which the second does
 pub bind_err : {A B : Type 0} (a : Work A) (f : A → Work B) (m : Made B) (e : Error) → (a >>= f) ≡ Some m → m.ends ≡ Err e → Bound a f m (Err e) ⊎ Stopped a m e

@@ -97,7 +97,7 @@ first_in s (y ∷ wants) x (inl e) = inl e
 first_in s (y ∷ wants) x (inr h) = inr (first_in s wants x h.1)
 
 -- past the load of a link its plan has the constraints of the lineage
-link_more : (w : World) (loader : ℕ) (name : Name) (p : Plan) (c : Class) (k : Kin) → IsPlan w (Link loader name) p → p.reached ≡ Some c → HasLineage w c k → p.more ≡ flat_map constraints_of (lineage k) ++ []
+pub link_more : (w : World) (loader : ℕ) (name : Name) (p : Plan) (c : Class) (k : Kin) → IsPlan w (Link loader name) p → p.reached ≡ Some c → HasLineage w c k → p.more ≡ flat_map constraints_of (lineage k) ++ []
 link_more w loader name p c k is r lin =
     let x = reached w is.height (Link loader name) p c is.planned r in
     ap (λ (y : Plan). y.more) x.is ∙ (step_is _ x.rest x.goes_on).0 ∙ ap (λ (y : Kin). flat_map constraints_of (lineage y) ++ []) (one_lineage w c x.kin k x.lineage lin)

@@ -5,6 +5,7 @@ use Rattle.std.specs.List.{AllByRecursion}
 use Rattle.std.proofs.lemmas.Bool.{eqb-true}
 use Rattle.cl_classfile.specs.Files.{Name, File, element_name, Reference, ToClass, ToField, ToMethod, ToInterfaceMethod, reference}
 use Rattle.cl_descriptors.specs.declared.types.FieldType.{FieldType}
+use Rattle.cl_descriptors.proofs.Codec.{map_some, then_some}
 use Rattle.cl_model.specs.Homes.{World, home}
 use Rattle.cl_model.specs.declared.class.Class.{Class}
 use Rattle.cl_model.specs.Classes.{class, Error, Above, is_among, ClassNotFound, NoClassDef, ClassCircularity, file_of, misfit, superclass_of, superinterfaces_of, supers, HasFile, AtHome, Fitting, FitsAt, Good, IsGood, FirstWrong, Next}
@@ -25,7 +26,6 @@ use Rattle.cl_model.proofs.Circles.{IsThere, Leads, leads_comes, LeadsHere, here
 use Rattle.cl_model.proofs.Closed.{met_both, all_left, all_right, recorded_is_met}
 use Rattle.cl_model.proofs.Looks.{answers_met}
 use Rattle.cl_model.proofs.Planned.{plan_exists, accessible, class_found, to_class, resolved}
-use Rattle.cl_model.proofs.Reached.{then_some, map_is}
 use Rattle.cl_model.proofs.Aims.{Aim, AsksFor, Hits, Well, Every, Any, next_left, next_right, then_hits, then_well, first_hits, well_once, hits_once, ask_hits, ask_well, or_fail_well, or_fail_hits, unless_well, unless_hits, read_well, read_hits, need_next, NextIs, EndsIn}
 use Rattle.cl_model.proofs.Marks.{In, in_left, in_right}
 
@@ -285,7 +285,7 @@ plan_hits w s g r p is h =
         let same = some_same _ _ z in
         plan_ill s g m x p e (ap (λ (y : Plan). y.own) (sym same)) (ap (λ (y : Plan). y.more) (sym same)) (ap (λ (y : Plan). y.asked) (sym same)) (ap (λ (y : Plan). y.ends) (sym same)) c
     at n m c (Ok k) e z =
-        let on = map_is (plan_after m k) (go_on_with w n r k) p z in
+        let on = map_some (plan_after m k) (go_on_with w n r k) p z in
         plan_well s g m k on.0.asked p e (ap (λ (y : Plan). y.own) (sym on.2)) (ap (λ (y : Plan). y.asked) (sym on.2)) c
 
 nothing_here : (w : World) (loader : ℕ) (name : Name) → HereAt w [] loader name
@@ -310,7 +310,7 @@ plan_on w s g r P p is h on =
     ]) ≡ Some p → PlanHits s g p
     at n m c (Err x) e z = absurd (ok_not_err c.value x m.ends c.ends e)
     at n m c (Ok k) e z =
-        let o = map_is (plan_after m k) (go_on_with w n r k) p z in
+        let o = map_some (plan_after m k) (go_on_with w n r k) p z in
         subst (λ (y : Plan). PlanHits s g y) o.2 (rest g m k o.0 c.met (on n k (subst P (ok_same c.value k m.ends c.ends e) c.holds) o.0 o.1))
 
 class_hits : (w : World) (s : State) (g : Aim) (n : ℕ) (d : Kin) (name : Name) → Every (load w n NoClassDef d.class.loader name) (Hits s g) → Every (resolve_class w n d name) (Hits s g)

@@ -2,6 +2,7 @@
 use Rattle.std.proofs.Common.{append-nil, ◌≡◌, ◌⊎◌, inl, inr, ℕ, Bool, true, false, ◌||◌, List, [], ◌∷◌, ◌++◌, flat_map, Option, Some, None, Result, Ok, Err, refl, sym, ap, subst, ◌∙◌}
 use Rattle.std.specs.Prelude.{option_map, Contains}
 use Rattle.std.specs.List.{AllByRecursion}
+use Rattle.cl_descriptors.proofs.Codec.{map_some, then_some}
 use Rattle.cl_classfile.specs.Files.{Name}
 use Rattle.cl_model.specs.Homes.{World}
 use Rattle.cl_model.specs.declared.class.Class.{Class}
@@ -24,11 +25,12 @@ use Rattle.cl_model.proofs.Looks.{answers_met}
 use Rattle.cl_model.proofs.Pieces.{fulfilled_of, first_right, first_left, linked_of, links_first}
 use Rattle.cl_model.proofs.Planned.{one_plan, one_lineage, one_resolution, plan_exists}
 use Rattle.cl_model.proofs.Progress.{IsEquality, never_both, next_is, flat_are, constraints_are}
-use Rattle.cl_model.proofs.Reached.{reached, then_some, map_is}
+use Rattle.cl_model.proofs.Reached.{reached}
 use Rattle.cl_model.proofs.Service.{to_stand_both, next_is_first, answers_over, need_next, load_wants, resolve_wants}
 use Rattle.cl_model.proofs.Tables.{EndsFor, ends_for, answered_records, end_or_refused, recorded_reached, reached_records, refused_no_class, wrong_no_class, one_class, refused_not_linked, wrong_not_linked, one_linked}
-use Rattle.cl_model.proofs.Trees.{derive_gives, all_two}
+use Rattle.cl_model.proofs.Trees.{derive_gives}
 use Rattle.cl_model.proofs.Aims.{next_left, next_right}
+use Rattle.cl_model.proofs.Derived.{all_both}
 
 -- ---- plans whose request's class is recorded
 
@@ -286,9 +288,9 @@ link_more w loader name p is =
     ]) ≡ Some p → AllByRecursion IsEquality p.more
     at m (Err x) h = subst (λ (y : Plan). AllByRecursion IsEquality y.more) (some_same _ p h) tt
     at m (Ok k) h =
-        let on = map_is (plan_after m k) (go_on_with w is.height (Link loader name) k) p h in
+        let on = map_some (plan_after m k) (go_on_with w is.height (Link loader name) k) p h in
         let needs = flat_map constraints_of (lineage k) in
-        let all : AllByRecursion IsEquality (needs ++ []) = all_two IsEquality needs [] (flat_are constraints_of (λ c. constraints_are c) (lineage k)) tt in
+        let all : AllByRecursion IsEquality (needs ++ []) = all_both IsEquality needs [] (flat_are constraints_of (λ c. constraints_are c) (lineage k)) tt in
         subst (λ (y : Plan). AllByRecursion IsEquality y.more) on.2 (subst (λ (ns : List Need). AllByRecursion IsEquality ns) (sym (step_is _ on.0 on.1).0) all)
 
 -- so a record is one of the load

@@ -330,7 +330,7 @@ prepare_next g s loader name p c l k before behind is reach met lin parts all im
 
 -- ---- rounds
 
-passes_none : (g : Setting) (s : State) (es : List Step) → PassesRounds g s es → MayGoOn g (state_after s es) → ⊥
+pub passes_none : (g : Setting) (s : State) (es : List Step) → PassesRounds g s es → MayGoOn g (state_after s es) → ⊥
 passes_none g s [] h may = h may
 passes_none g s (e ∷ es) h may = passes_none g (after s NextRound) es h.2 (subst (λ (f : Step). MayGoOn g (state_after (after s f) es)) h.0 may)
 

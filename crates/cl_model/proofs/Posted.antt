@@ -14,8 +14,9 @@ use Rattle.cl_model.specs.Machine.{Setting, Scheduled, Settle, Prepare, HasLinea
 use Rattle.cl_model.proofs.Bind.{some_same, ok_same}
 use Rattle.cl_model.proofs.Closed.{all_left, all_right}
 use Rattle.cl_model.proofs.Planned.{one_plan, one_lineage}
-use Rattle.cl_model.proofs.Progress.{once_kept}
-use Rattle.cl_model.proofs.Trees.{all_two, lineage_of, lineage_is_derived}
+use Rattle.cl_model.proofs.Progress.{class_is, once_kept}
+use Rattle.cl_model.proofs.Trees.{lineage_of, lineage_is_derived}
+use Rattle.cl_model.proofs.Derived.{all_both}
 
 -- ---- what may be settled and prepared
 
@@ -51,9 +52,6 @@ linked_is_prepared g s q a loader name c sound asked is said =
 place_is : (x y : ℕ) (o : Option ℕ) → o ≡ Some x → o ≡ Some y → x ≡ y
 place_is x y o h k = cc
 
-class_is : (x : Class) (name : Name) (place : ℕ) → x.name ≡ name → x.loader ≡ place → x ≡ class name place
-class_is x name place p q = ap (λ (n : Name). class n x.loader) p ∙ ap (λ (l : ℕ). class name l) q
-
 -- the supertypes of a class that is prepared are
 abbrev AbovePrepared : World → State → Class → List Above → Type 0
 AbovePrepared w s c others = AllByRecursion (λ (a : Above). AtHome w c (Contains s.prepared) a.name) others
@@ -71,8 +69,8 @@ forest_prepared g s c (Tree t f sup ints rest) (a ∷ more) sound all h =
     let lin = lineage_of w t is.kin is.lineage in
     let file : is.kin.file ≡ f = file_same is.kin.file f t (subst (λ (x : Class). HasFile w x is.kin.file) lin.0 lin.1.has_file) h.0.has_file in
     let above : AbovePrepared w s t (superclass_of f ++ superinterfaces_of f) = subst (λ (x : File). AbovePrepared w s t (supers x)) file is.above in
-    all_two P (postorder sup ++ postorder ints) (k ∷ postorder rest)
-    (all_two P (postorder sup) (postorder ints)
+    all_both P (postorder sup ++ postorder ints) (k ∷ postorder rest)
+    (all_both P (postorder sup) (postorder ints)
     (forest_prepared g s t sup (superclass_of f) sound (all_left (λ (x : Above). AtHome w t (Contains s.prepared) x.name) (superclass_of f) (superinterfaces_of f) above) h.1)
     (forest_prepared g s t ints (superinterfaces_of f) sound (all_right (λ (x : Above). AtHome w t (Contains s.prepared) x.name) (superclass_of f) (superinterfaces_of f) above) h.2))
     (own, forest_prepared g s c rest more sound all.1 h.3)
@@ -88,8 +86,8 @@ lineage_prepared g s k sound h own =
     let same : is.kin ≡ k = one_lineage w k.class is.kin k is.lineage (lineage_is_derived w k h) in
     let above : AbovePrepared w s k.class (superclass_of k.file ++ superinterfaces_of k.file) = subst (λ (x : Kin). AbovePrepared w s k.class (supers x.file)) same is.above in
     once_kept P [] (postorder (alone k))
-    (all_two P (postorder k.superclass ++ postorder k.interfaces) (k ∷ [])
-    (all_two P (postorder k.superclass) (postorder k.interfaces)
+    (all_both P (postorder k.superclass ++ postorder k.interfaces) (k ∷ [])
+    (all_both P (postorder k.superclass) (postorder k.interfaces)
     (forest_prepared g s k.class k.superclass (superclass_of k.file) sound (all_left (λ (x : Above). AtHome w k.class (Contains s.prepared) x.name) (superclass_of k.file) (superinterfaces_of k.file) above) h.above)
     (forest_prepared g s k.class k.interfaces (superinterfaces_of k.file) sound (all_right (λ (x : Above). AtHome w k.class (Contains s.prepared) x.name) (superclass_of k.file) (superinterfaces_of k.file) above) h.over))
     (own, tt))

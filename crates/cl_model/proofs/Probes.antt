@@ -12,8 +12,8 @@ use Rattle.std.proofs.Common.{arith}
 use Rattle.cl_classfile.specs.Files.{Name}
 use Rattle.cl_model.specs.Homes.{World, Loader, Order, ParentFirst, ChildFirst, own_home, first_home, in_order, undecided, decisive, home_at, home_below, home, is_java, is_loader}
 use Rattle.cl_model.specs.Probes.{in_turn, probes_at, probes_below, is_in, first_places, probes, has_own, EachOnce}
-use Rattle.cl_model.proofs.Trees.{all_two}
 use Rattle.cl_model.proofs.Homes.{first_is_loader}
+use Rattle.cl_model.proofs.Derived.{all_both}
 
 -- ---- each at its first place alone
 
@@ -51,7 +51,7 @@ order_finds hit ChildFirst above loader = at (hit loader)
     at true = refl
     at false = refl
 
-first_finds : (hit : ℕ → Bool) (homes : ℕ → Option ℕ) (earlier : ℕ → List ℕ) → ((p : ℕ) → homes p ≡ find hit (earlier p)) → (ps : List ℕ) → first_home homes ps ≡ find hit (flat_map earlier ps)
+pub first_finds : (hit : ℕ → Bool) (homes : ℕ → Option ℕ) (earlier : ℕ → List ℕ) → ((p : ℕ) → homes p ≡ find hit (earlier p)) → (ps : List ℕ) → first_home homes ps ≡ find hit (flat_map earlier ps)
 first_finds hit homes earlier h [] = refl
 first_finds hit homes earlier h (p ∷ ps) =
     ap (λ (o : Option ℕ). option_or o (first_home homes ps)) (h p)
@@ -136,10 +136,10 @@ firsts_are w seen (x ∷ xs) h = at (firsts_are w seen xs h.1) (firsts_are w (x 
 
 flat_are : {A : Type 0} (w : World) (f : A → List ℕ) (xs : List A) → ((x : A) → AreLoaders w (f x)) → AreLoaders w (flat_map f xs)
 flat_are w f [] h = tt
-flat_are w f (x ∷ xs) h = all_two (λ (n : ℕ). is_loader w n ≡ true) (f x) (flat_map f xs) (h x) (flat_are w f xs h)
+flat_are w f (x ∷ xs) h = all_both (λ (n : ℕ). is_loader w n ≡ true) (f x) (flat_map f xs) (h x) (flat_are w f xs h)
 
 turn_are : (w : World) (o : Order) (above : List ℕ) (loader : ℕ) → AreLoaders w above → is_loader w loader ≡ true → AreLoaders w (in_turn o above loader)
-turn_are w ParentFirst above loader h own = all_two (λ (n : ℕ). is_loader w n ≡ true) above (loader ∷ []) h (own, tt)
+turn_are w ParentFirst above loader h own = all_both (λ (n : ℕ). is_loader w n ≡ true) above (loader ∷ []) h (own, tt)
 turn_are w ChildFirst above loader h own = (own, h)
 
 loader_is : {A : Type 0} (xs : List A) (n : ℕ) (x : A) → slice_get xs n ≡ Some x → nat_lt n (length xs) ≡ true
@@ -157,7 +157,7 @@ below_are w name (suc n) loader = at (λ p. below_are w name n p) (loader == n)
 
     of_loader : ((p : ℕ) → AreLoaders w (probes_below w name n p)) → (o : Option Loader) → slice_get w.loaders n ≡ o → AreLoaders w (flat_map (probes_at (probes_below w name n) name n) (option_to_list o))
     of_loader ih None e = tt
-    of_loader ih (Some l) e = all_two (λ (m : ℕ). is_loader w m ≡ true) (probes_at (probes_below w name n) name n l) [] (decided ih l (loader_is w.loaders n l e) (decisive l.imports name)) tt
+    of_loader ih (Some l) e = all_both (λ (m : ℕ). is_loader w m ≡ true) (probes_at (probes_below w name n) name n l) [] (decided ih l (loader_is w.loaders n l e) (decisive l.imports name)) tt
 
     at : ((p : ℕ) → AreLoaders w (probes_below w name n p)) → (b : Bool) → AreLoaders w (elim b as (λ x. List ℕ) [ true ↦ flat_map (probes_at (probes_below w name n) name n) (option_to_list (slice_get w.loaders n)) | false ↦ probes_below w name n loader ])
     at ih true = of_loader ih (slice_get w.loaders n) refl

@@ -5,6 +5,7 @@ use Rattle.std.specs.List.{AllByRecursion}
 use Rattle.std.proofs.lemmas.Bool.{eqb-true}
 use Rattle.std.proofs.lemmas.Cmp.{nat_eq_equiv}
 use Rattle.cl_descriptors.specs.declared.types.FieldType.{FieldType}
+use Rattle.cl_descriptors.proofs.Codec.{map_some, then_some}
 use Rattle.cl_classfile.specs.Files.{Name, File, Key, Member, Reference, ToClass, ToField, ToMethod, ToInterfaceMethod, reference, is_interface, element_name}
 use Rattle.cl_model.specs.Homes.{World, home}
 use Rattle.cl_model.specs.declared.class.Class.{Class}
@@ -17,12 +18,11 @@ use Rattle.cl_model.specs.Plans.{initiating, load_by, loads_above, derive_new, d
 use Rattle.cl_model.specs.Machine.{Setting, Define, Initiate, May, IsClosed, HasLineage, IsPlan, step_for, after}
 use Rattle.cl_model.proofs.Bind.{pieces, some_same, or_fail_ok, result_ok}
 use Rattle.cl_model.proofs.Heights.{loaded, found, sought, grown, others_after, checked, finished, interfaces_next, superclass_next, circle_or}
-use Rattle.cl_model.proofs.Derived.{above_ok, above_good, derive_ok, derive_yields, load_ok, Yields, IsLoad}
+use Rattle.cl_model.proofs.Derived.{above_ok, above_good, derive_ok, derive_yields, load_ok, Yields, IsLoad, all_both}
 use Rattle.cl_model.proofs.Closed.{all_left, all_right, Stands}
 use Rattle.cl_model.proofs.Ending.{good_at_home}
 use Rattle.cl_model.proofs.Planned.{accessible, class_found, to_class, resolved, imposed, field_found, looked_up, method_found, method_sought, wrong_kind}
-use Rattle.cl_model.proofs.Reached.{then_some, map_is}
-use Rattle.cl_model.proofs.Trees.{derive_gives, lineage_of, lineage_is_derived, all_two}
+use Rattle.cl_model.proofs.Trees.{derive_gives, lineage_of, lineage_is_derived}
 
 -- ---- lists of needs
 
@@ -150,8 +150,8 @@ new_makes g s P n d r ih y c =
     last f x hx ex sup u hu eu mu ints v hv ev mv m h t next may =
         let w = g.world in
         let hf = (result_ok (file_of w c) x f hx ex).0 in
-        let good : Good w (suc n) c = (f, hf, all_two (FitsAt w c (Good w n)) (superclass_of f) (superinterfaces_of f) (above_good w d (Good w n) y c (superclass_of f) u sup hu eu) (above_good w d (Good w n) y c (superinterfaces_of f) v ints hv ev)) in
-        let stand = all_two (Stands w s c) (superclass_of f) (superinterfaces_of f) (above_met w s d r c (superclass_of f) u sup hu eu mu) (above_met w s d r c (superinterfaces_of f) v ints hv ev mv) in
+        let good : Good w (suc n) c = (f, hf, all_both (FitsAt w c (Good w n)) (superclass_of f) (superinterfaces_of f) (above_good w d (Good w n) y c (superclass_of f) u sup hu eu) (above_good w d (Good w n) y c (superinterfaces_of f) v ints hv ev)) in
+        let stand = all_both (Stands w s c) (superclass_of f) (superinterfaces_of f) (above_met w s d r c (superclass_of f) u sup hu eu mu) (above_met w s d r c (superinterfaces_of f) v ints hv ev mv) in
         elim (subst (λ (q : List Need). IsNext s q t) (ap (λ (q : Made (Unit {0})). q.needs) (sym (some_same _ m h))) next) [
           | inr k ↦ absurd (k.1)
           | inl k ↦
@@ -260,7 +260,7 @@ resolution_next g s h i d k m (Equal name a b) rec lin e next may = record {
 
 equals_with_are : (key : Key) (loader : ℕ) (ks : List Kin) → AllByRecursion IsEquality (equals_with key loader ks)
 equals_with_are key loader [] = tt
-equals_with_are key loader (k ∷ ks) = all_two IsEquality (equals_of key loader k.class.loader) (equals_with key loader ks) (equals_are (class_names key.descriptor) loader k.class.loader) (equals_with_are key loader ks)
+equals_with_are key loader (k ∷ ks) = all_both IsEquality (equals_of key loader k.class.loader) (equals_with key loader ks) (equals_are (class_names key.descriptor) loader k.class.loader) (equals_with_are key loader ks)
 
 if_are : (b : Bool) (xs ys : List Need) → AllByRecursion IsEquality xs → AllByRecursion IsEquality ys → AllByRecursion IsEquality (if b then xs else ys)
 if_are true xs ys p q = p
@@ -268,7 +268,7 @@ if_are false xs ys p q = q
 
 pub flat_are : {A : Type 0} (f : A → List Need) → ((x : A) → AllByRecursion IsEquality (f x)) → (xs : List A) → AllByRecursion IsEquality (flat_map f xs)
 flat_are f h [] = tt
-flat_are f h (x ∷ xs) = all_two IsEquality (f x) (flat_map f xs) (h x) (flat_are f h xs)
+flat_are f h (x ∷ xs) = all_both IsEquality (f x) (flat_map f xs) (h x) (flat_are f h xs)
 
 inherited_are : (key : Key) (j : Kin) (o : Option Kin) → AllByRecursion IsEquality (with_inherited key j o)
 inherited_are key j None = tt
@@ -276,8 +276,8 @@ inherited_are key j (Some a) = equals_are (class_names key.descriptor) a.class.l
 
 pub constraints_are : (c : Kin) → AllByRecursion IsEquality (constraints_of c)
 constraints_are c =
-    all_two IsEquality (flat_map (for_declared c) c.file.methods) (if is_interface c.file then [] else flat_map (λ j. flat_map (for_inherited c j) j.file.methods) (superinterfaces c))
-    (flat_are (for_declared c) (λ m. if_are (takes_part m.key c) _ [] (all_two IsEquality (if is_interface c.file then [] else equals_with m.key c.class.loader (overridden m.key c)) (equals_with m.key c.class.loader (filter (takes_part m.key) (superinterfaces c)))
+    all_both IsEquality (flat_map (for_declared c) c.file.methods) (if is_interface c.file then [] else flat_map (λ j. flat_map (for_inherited c j) j.file.methods) (superinterfaces c))
+    (flat_are (for_declared c) (λ m. if_are (takes_part m.key c) _ [] (all_both IsEquality (if is_interface c.file then [] else equals_with m.key c.class.loader (overridden m.key c)) (equals_with m.key c.class.loader (filter (takes_part m.key) (superinterfaces c)))
     (if_are (is_interface c.file) [] _ tt (equals_with_are m.key c.class.loader (overridden m.key c)))
     (equals_with_are m.key c.class.loader (filter (takes_part m.key) (superinterfaces c)))) tt) c.file.methods)
     (if_are (is_interface c.file) [] _ tt (flat_are (λ j. flat_map (for_inherited c j) j.file.methods) (λ j. flat_are (for_inherited c j) (λ m. if_are (takes_part m.key j && not (is_some (method_of c m.key))) _ [] (inherited_are m.key j (inherited_from c m.key)) tt) j.file.methods) (superinterfaces c)))
@@ -286,7 +286,7 @@ constraints_are c =
 abbrev pub IsKept : World → State → Kin → Type 0
 IsKept w s k = IsRecorded s k.class × IsLineage w k
 
-class_is : (x : Class) (name : Name) (place : ℕ) → x.name ≡ name → x.loader ≡ place → x ≡ class name place
+pub class_is : (x : Class) (name : Name) (place : ℕ) → x.name ≡ name → x.loader ≡ place → x ≡ class name place
 class_is x name place p q = ap (λ (n : Name). class n x.loader) p ∙ ap (λ (l : ℕ). class name l) q
 
 place_is : (x y : ℕ) (o : Option ℕ) → o ≡ Some x → o ≡ Some y → x ≡ y
@@ -300,8 +300,8 @@ forest_kept w s c (Tree t f sup ints rest) (a ∷ more) closed all h =
     let rec : IsRecorded s t = subst (λ (x : Class). IsRecorded s x) (sym same) (closed.own c.loader all.0.place a.name all.0.holds) in
     let above = closed.above t f rec h.0.has_file in
     let k : Kin = record { class = t; file = f; superclass = sup; interfaces = ints } in
-    all_two (IsKept w s) (postorder sup ++ postorder ints) (k ∷ postorder rest)
-    (all_two (IsKept w s) (postorder sup) (postorder ints)
+    all_both (IsKept w s) (postorder sup ++ postorder ints) (k ∷ postorder rest)
+    (all_both (IsKept w s) (postorder sup) (postorder ints)
     (forest_kept w s t sup (superclass_of f) closed (all_left (Stands w s t) (superclass_of f) (superinterfaces_of f) above) h.1)
     (forest_kept w s t ints (superinterfaces_of f) closed (all_right (Stands w s t) (superclass_of f) (superinterfaces_of f) above) h.2))
     ((rec, record { has_file = h.0.has_file; above = h.1; over = h.2 }), forest_kept w s c rest more closed all.1 h.3)
@@ -318,8 +318,8 @@ pub lineage_kept : (w : World) (s : State) (k : Kin) → IsClosed w s → IsReco
 lineage_kept w s k closed rec h =
     let above = closed.above k.class k.file rec h.has_file in
     once_kept (IsKept w s) [] (postorder (alone k))
-    (all_two (IsKept w s) (postorder k.superclass ++ postorder k.interfaces) (k ∷ [])
-    (all_two (IsKept w s) (postorder k.superclass) (postorder k.interfaces)
+    (all_both (IsKept w s) (postorder k.superclass ++ postorder k.interfaces) (k ∷ [])
+    (all_both (IsKept w s) (postorder k.superclass) (postorder k.interfaces)
     (forest_kept w s k.class k.superclass (superclass_of k.file) closed (all_left (Stands w s k.class) (superclass_of k.file) (superinterfaces_of k.file) above) h.above)
     (forest_kept w s k.class k.interfaces (superinterfaces_of k.file) closed (all_right (Stands w s k.class) (superclass_of k.file) (superinterfaces_of k.file) above) h.over))
     ((rec, h), tt))
@@ -375,7 +375,7 @@ next_may g s q p n closed is next may =
           | inr y ↦ absurd (y.1)
         ]
     at m l (Ok k) e r =
-        let on = map_is (plan_after m k) (go_on_with g.world is.height q k) p r in
+        let on = map_some (plan_after m k) (go_on_with g.world is.height q k) p r in
         elim (next_split s m.needs on.0.needs n (subst (λ (y : Plan). IsNext s (needs_of y) n) (sym on.2) next)) [
           | inl y ↦ whole_load_makes g s (λ x. Unit {0}) is.height ClassNotFound (loaded_by q).loader (loaded_by q).name m l n tt y may
           | inr y ↦

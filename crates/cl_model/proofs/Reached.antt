@@ -1,6 +1,7 @@
 -- Once the class of a request is loaded, its answer is that of the reference.
 use Rattle.std.proofs.Common.{◌≡◌, inl, inr, ℕ, Bool, true, false, if◌then◌else◌, List, [], ◌∷◌, ◌++◌, Option, Some, None, Result, Ok, Err, refl, sym, ap, subst, ◌∙◌, slice_get}
-use Rattle.std.specs.Prelude.{option_map, option_and_then}
+use Rattle.std.specs.Prelude.{option_map}
+pub use Rattle.cl_descriptors.proofs.Codec.{map_some, then_some}
 use Rattle.cl_classfile.specs.Files.{Name, File, same_name, FileFault}
 use Rattle.cl_model.specs.Content.{content_at}
 use Rattle.cl_model.specs.Homes.{World, home}
@@ -34,14 +35,6 @@ pub record IsReached (w : World) (n : ℕ) (q : Request) (p : Plan) (d : Class) 
 none_reached : {d : Class} → None ≡ Some d → ⊥
 none_reached h = cc
 
-pub then_some : {A B : Type 0} (f : A → Option B) (o : Option A) (y : B) → option_and_then f o ≡ Some y → (x : A) × (o ≡ Some x) × (f x ≡ Some y)
-then_some f None y h = absurd cc
-then_some f (Some x) y h = (x, refl, h)
-
-pub map_is : {A B : Type 0} (f : A → B) (o : Option A) (y : B) → option_map f o ≡ Some y → (x : A) × (o ≡ Some x) × (f x ≡ y)
-map_is f None y h = absurd cc
-map_is f (Some x) y h = (x, refl, some_same (f x) y h)
-
 pub reached : (w : World) (n : ℕ) (q : Request) (p : Plan) (d : Class) → plan w n q ≡ Some p → p.reached ≡ Some d → IsReached w n q p d
 reached w n q p d h r =
     let l = then_some (plan_from w n q) (load w n ClassNotFound (loaded_by q).loader (loaded_by q).name) p h in
@@ -53,7 +46,7 @@ reached w n q p d h r =
     ]) ≡ Some p → IsReached w n q p d
     at m l (Err x) e k = absurd (none_reached (ap (λ (z : Plan). z.reached) (some_same _ _ k) ∙ r))
     at m l (Ok k) e z =
-        let on = map_is (plan_after m k) (go_on_with w n q k) p z in
+        let on = map_some (plan_after m k) (go_on_with w n q k) p z in
         let same : k.class ≡ d = some_same k.class d (ap (λ (x : Plan). x.reached) on.2 ∙ r) in
         let i = load_ok w (derive w n []) ClassNotFound (loaded_by q).loader (loaded_by q).name m k l e in
         let c = derive_gives w n [] (class (loaded_by q).name i.place) i.below k i.made i.ends in

@@ -352,31 +352,8 @@ last_linked ks name a b = record { equality = record { name = name; one = a; oth
 -- a fresh need that clashes would violate, if it were added
 pub clash_violates : (s : State) (n : Need) → IsFresh s n → Clashes s n → Violated (added s n)
 clash_violates s (Entry loader name place) fresh h =
-    let t = added s (Entry loader name place) in
-    let l = added_later s (Entry loader name place) in
-    record {
-      name = name;
-      one = loader;
-      other = h.other;
-      place = place;
-      other_place = h.other_place;
-      joined = h.joined;
-      first = record_found s.records (record { loader = loader; name = name; place = place }) fresh;
-      second = l.records h.other h.other_place name h.recorded_there;
-      differ = h.differ;
-    }
+    let n = Entry loader name place in
+    met_clash (added s n) n (record_found s.records (record { loader = loader; name = name; place = place }) fresh) (clash_later s (added s n) (added_later s n) n h)
 clash_violates s (Equal name a b) fresh h =
-    let t = added s (Equal name a b) in
-    let l = added_later s (Equal name a b) in
-    let link = joined_link t.equalities name a b (last_linked s.equalities name a b) in
-    record {
-      name = name;
-      one = h.one;
-      other = h.differs.other;
-      place = h.place;
-      other_place = h.differs.other_place;
-      joined = joined_then t.equalities name h.one a h.differs.other (joined_back t.equalities name a h.one (joined_later s t l name a h.one h.joined)) (joined_then t.equalities name a b h.differs.other link (joined_later s t l name b h.differs.other h.differs.joined));
-      first = h.recorded_there;
-      second = h.differs.recorded_there;
-      differ = h.differs.differ;
-    }
+    let n = Equal name a b in
+    met_clash (added s n) n (joined_link (added s n).equalities name a b (last_linked s.equalities name a b)) (clash_later s (added s n) (added_later s n) n h)

@@ -1,18 +1,18 @@
 -- What the examples of runs rest on.
-use Rattle.std.proofs.Common.{ap, inl, inr, Result, slice_get, ◌≡◌, ◌≢◌, ℕ, [], ◌∷◌, List, Option, Some, None, Ok, Err, sym, subst, ◌∙◌, refl, codes}
-use Rattle.std.specs.Prelude.{Contains}
+use Rattle.std.proofs.Common.{ap, inl, inr, Result, slice_get, ◌≡◌, ◌≢◌, ℕ, zero, suc, arith, [], ◌∷◌, ◌++◌, List, Option, Some, None, Ok, Err, sym, subst, ◌∙◌, refl, codes}
+use Rattle.std.specs.Prelude.{Contains, IsSome}
 use Rattle.cl_classfile.specs.Files.{Name, File}
 use Rattle.cl_model.specs.declared.class.Class.{Class}
 use Rattle.cl_model.specs.Homes.{World}
 use Rattle.cl_model.specs.Classes.{class, Error, ClassNotFound, IsGood}
 use Rattle.cl_model.specs.Lineages.{Kin, Bare, alone}
-use Rattle.cl_model.specs.States.{State, Verdict, Need, Met, Said, Entry, Equal, Equality, Joined, IsPath, MayAdd, recorded}
+use Rattle.cl_model.specs.States.{State, Verdict, Need, Met, Said, Entry, Equal, Equality, Joined, IsPath, MayAdd, answer_to, recorded, settled_to, start}
 use Rattle.cl_model.specs.Works.{Made}
 use Rattle.cl_model.specs.Plans.{derive, resolve, Plan, Request}
-use Rattle.cl_model.specs.Machine.{HasLineage, IsResolution, Answers, Setting, Scheduled, IsPlan, RestsOn, MayPost, MaySay}
-use Rattle.cl_model.specs.Examples.{in_boot, in_app, in_plug, root}
+use Rattle.cl_model.specs.Machine.{HasLineage, IsResolution, Answers, Setting, Scheduled, IsPlan, RestsOn, MayPost, MaySay, NextRound, Prepare, state_after}
+use Rattle.cl_model.specs.Examples.{app, in_boot, in_app, in_plug, plug, root, the_root}
 use Rattle.cl_model.specs.ExampleReferences.{svc, use_of_svc, service}
-use Rattle.cl_model.specs.ExampleRuns.{overridden_service, user}
+use Rattle.cl_model.specs.ExampleRuns.{loading, of_svc, overridden_service, resolving, serving, unprepared, unsettled, user}
 use Rattle.cl_model.proofs.Derived.{derive_yields}
 use Rattle.cl_model.proofs.Planned.{one_plan}
 use Rattle.cl_model.proofs.Refusals.{no_equality, missing}
@@ -92,11 +92,48 @@ resolution_of_service = record {
   made = refl;
 }
 
+-- ---- along the run of two requests in two rounds
+
+-- the equality that the reference imposes joins its two loaders
+pub joined : Joined unsettled.equalities (codes "p/T") app plug
+joined = record { path = plug ∷ []; along = (record { equality = record { name = codes "p/T"; one = app; other = plug }; imposed = (0, omega arith, refl); named = refl; ends = inl (refl, refl) }, refl) }
+
+-- the only reference that is settled
+pub settled : (d : Class) → Some (in_plug "p/Use") ≡ Some d → settled_to (record { class = in_plug "p/Use"; index = 1; verdict = of_svc } ∷ []) d 1 ≡ Some of_svc
+settled d e = subst (λ (c : Class). settled_to (record { class = in_plug "p/Use"; index = 1; verdict = of_svc } ∷ []) c 1 ≡ Some of_svc) (same_class e) refl
+  where
+    same_class : {a b : Class} → Some a ≡ Some b → a ≡ b
+    same_class e = cc
+
+round_is : {a b : Scheduled} → Some a ≡ Some b → a.round ≡ b.round
+round_is e = cc
+
+no_entry : {a : Scheduled} → None ≡ Some a → ⊥
+no_entry e = cc
+
+-- all requests of the first round are answered
+pub first_round : (q : ℕ) (e : Scheduled) → slice_get serving.script q ≡ Some e → e.round ≡ 0 → IsSome (answer_to (state_after start (loading ++ resolving)).answers q)
+first_round zero e h r = refl
+first_round (suc zero) e h r = absurd (let one : 1 ≡ e.round = round_is h in omega arith)
+first_round (suc (suc zero)) e h r = absurd (let one : 1 ≡ e.round = round_is h in omega arith)
+first_round (suc (suc (suc q))) e h r = absurd (no_entry h)
+
 -- ---- what tells that a step is too early
 
 -- classes of two loaders are two
 pub other_loader : {a b : Class} → a.loader ≢ b.loader → a ≡ b → ⊥
 other_loader differ e = differ (ap (λ (c : Class). c.loader) e)
+
+-- Svc is not prepared before its turn
+pub svc_unprepared : Contains (state_after start (loading ++ resolving ++ NextRound ∷ Prepare the_root ∷ [])).prepared (in_app "p/Svc") → ⊥
+svc_unprepared (zero, l, e) = other_loader (λ d. absurd cc) e
+svc_unprepared (suc x, l, e) = absurd (omega arith)
+
+-- nor is Use
+pub use_unprepared : Contains unprepared.prepared (in_plug "p/Use") → ⊥
+use_unprepared (zero, l, e) = other_loader (λ d. absurd cc) e
+use_unprepared (suc zero, l, e) = other_loader (λ d. absurd cc) e
+use_unprepared (suc (suc x), l, e) = absurd (omega arith)
 
 pub same_file : {f g : File} → (r : Result File Error) → r ≡ Ok f → r ≡ Ok g → f ≡ g
 same_file r a b = cc

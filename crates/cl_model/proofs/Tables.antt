@@ -3,6 +3,7 @@ use Rattle.std.proofs.Common.{◌≡◌, ◌≢◌, ◌⊎◌, inl, inr, ℕ, Bo
 use Rattle.std.specs.Prelude.{option_map, find, slice_get, Contains}
 use Rattle.std.proofs.lemmas.Cmp.{nat_eq_equiv}
 use Rattle.std.proofs.lemmas.List.{append-nil}
+use Rattle.cl_descriptors.proofs.Codec.{map_some, then_some}
 use Rattle.cl_classfile.specs.Files.{Name}
 use Rattle.cl_model.specs.Homes.{World}
 use Rattle.cl_model.specs.declared.class.Class.{Class}
@@ -20,7 +21,7 @@ use Rattle.cl_model.proofs.Closed.{closed_after, start_closed, own_moved}
 use Rattle.cl_model.proofs.Looks.{load_stands, unmet_is_fresh}
 use Rattle.cl_model.proofs.Progress.{met_split, derive_records, load_records}
 use Rattle.cl_model.proofs.Trees.{derive_gives}
-use Rattle.cl_model.proofs.Reached.{reached, then_some, map_is}
+use Rattle.cl_model.proofs.Reached.{reached}
 use Rattle.cl_model.proofs.Sound.{posted_stay}
 
 -- ---- steps that are allowed keep tables consistent
@@ -115,7 +116,7 @@ recorded_reached w s q p place closed is rec =
     ]) ≡ Some p → (p.reached ≡ Some (class (loaded_by q).name place)) × AllMet s p.own
     at m kin c met (Err x) h k = absurd (ok_not_err kin x (Err x) h refl)
     at m kin c met (Ok k) h z =
-        let on = map_is (plan_after m k) (go_on_with w is.height q k) p z in
+        let on = map_some (plan_after m k) (go_on_with w is.height q k) p z in
         let same : k ≡ kin = ok_same k kin (Ok k) refl h in
         (sym (ap (λ (y : Plan). y.reached) on.2) ∙ ap (λ (y : Kin). Some y.class) same ∙ ap (λ (y : Class). Some y) c, subst (λ (y : Plan). AllMet s y.own) on.2 met)
 
@@ -141,7 +142,7 @@ ends_for w q p f goes is =
     ]) ≡ Some p → EndsFor f p
     at m (Err x) h = inr (x, ap (λ (y : Plan). y.ends) (sym (some_same _ p h)))
     at m (Ok k) h =
-        let on = map_is (plan_after m k) (go_on_with w is.height q k) p h in
+        let on = map_some (plan_after m k) (go_on_with w is.height q k) p h in
         inl (k.class, ap (λ (y : Plan). y.reached) (sym on.2), ap (λ (y : Plan). y.ends) (sym on.2) ∙ ap (λ (r : Result Verdict Error). ending r) (goes is.height k on.0 on.1))
 
 -- what is answered for a class is recorded, and that class
@@ -279,7 +280,7 @@ defined_once script rounds es fs c run (inr x) =
 no_answer : {a : Answer} → None ≡ Some a → ⊥
 no_answer h = cc
 
-answer_found : (ps : List Posted) (q : ℕ) (a : Answer) → answer_to ps q ≡ None → answer_to (ps ++ record { request = q; answer = a } ∷ []) q ≡ Some a
+pub answer_found : (ps : List Posted) (q : ℕ) (a : Answer) → answer_to ps q ≡ None → answer_to (ps ++ record { request = q; answer = a } ∷ []) q ≡ Some a
 answer_found [] q a h = ap (λ (b : Bool). option_map (λ (p : Posted). p.answer) (if b then Some (record { request = q; answer = a }) else None)) (nat_eq_equiv.refl q)
 answer_found (p ∷ ps) q a h = at (p.request == q) (answer_found ps q a) h
   where

@@ -1,5 +1,5 @@
 -- What a derivation ends in is the lineage of its class, and each lineage is what its class is derived to.
-use Rattle.std.proofs.Common.{◌≡◌, ℕ, zero, suc, List, [], ◌∷◌, ◌++◌, Option, Some, None, Result, Ok, refl, sym, ap, subst, ◌∙◌}
+use Rattle.std.proofs.Common.{◌≡◌, ℕ, zero, suc, List, [], ◌∷◌, Option, Some, None, Result, Ok, refl, sym, ap, subst, ◌∙◌}
 use Rattle.std.specs.List.{AllByRecursion}
 use Rattle.cl_classfile.specs.Files.{Name, File}
 use Rattle.cl_model.specs.Homes.{World, home}
@@ -10,7 +10,7 @@ use Rattle.cl_model.specs.Works.{Work, Made, done}
 use Rattle.cl_model.specs.Plans.{loads_above, derive}
 use Rattle.cl_model.specs.Machine.{HasLineage}
 use Rattle.cl_model.proofs.Bind.{step_is, ok_same}
-use Rattle.cl_model.proofs.Derived.{above_ok, derive_ok}
+use Rattle.cl_model.proofs.Derived.{above_ok, all_both, derive_ok}
 use Rattle.cl_model.proofs.Derivations.{all_map, fits_map}
 use Rattle.cl_model.proofs.Circles.{above_both, good_upto}
 use Rattle.cl_model.proofs.Planned.{lineage_exists}
@@ -60,10 +60,6 @@ lineage_of w c k h = derive_gives w h.height [] c h.made k h.derived h.ends
 
 -- ---- a lineage is derived
 
-pub all_two : {A : Type 0} (P : A → Type 0) (xs ys : List A) → AllByRecursion P xs → AllByRecursion P ys → AllByRecursion P (xs ++ ys)
-all_two P [] ys a b = b
-all_two P (x ∷ xs) ys a b = (a.0, all_two P xs ys a.1 b)
-
 -- at some height all of these supertypes are good and fit
 abbrev FitsSome : World → Class → List Above → Type 0
 FitsSome w c others = (n : ℕ) × AllByRecursion (FitsAt w c (Good w n)) others
@@ -78,7 +74,7 @@ good_of w c f hf up over =
       (
         f,
         hf,
-        all_two (FitsAt w c (Good w both.top)) (superclass_of f) (superinterfaces_of f)
+        all_both (FitsAt w c (Good w both.top)) (superclass_of f) (superinterfaces_of f)
             (raise_all w c up.0 both.top (superclass_of f) (λ s g. good_upto w s up.0 both.top both.one g) up.1)
             (raise_all w c over.0 both.top (superinterfaces_of f) (λ s g. good_upto w s over.0 both.top both.other g) over.1),
       ),

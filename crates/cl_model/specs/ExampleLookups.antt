@@ -2,13 +2,14 @@
 use Prim.Native.String.{String}
 use Rattle.std.specs.Prelude.{◌≡◌, ℕ, ◌+◌, List, [], ◌∷◌, codes, Option, Some, None, Result, Ok, Err, option_map, option_and_then}
 use Rattle.cl_classfile.specs.Files.{ToField, ToMethod, ToInterfaceMethod}
+use Rattle.cl_classfile.specs.Flags as flag
 use Rattle.cl_model.specs.declared.class.Class.{Class}
 use Rattle.cl_model.specs.Homes.{World}
 use Rattle.cl_model.specs.Classes.{Error, ClassNotFound}
 use Rattle.cl_model.specs.Lineages.{Kin, classes}
 use Rattle.cl_model.specs.Plans.{load}
 use Rattle.cl_model.specs.States.{Verdict}
-use Rattle.cl_model.specs.Examples.{boot, app, enough, root, under, plain, interface, acc_public, acc_private, acc_protected, acc_static, acc_abstract, taking_none, an_int, a_class, with_fields, with_methods, with_interfaces, referring, bundle, ends_at, resolve_of}
+use Rattle.cl_model.specs.Examples.{boot, app, enough, root, under, plain, interface, taking_none, an_int, a_class, with_fields, with_methods, with_interfaces, referring, bundle, ends_at, resolve_of}
 
 -- p/J1 and p/J2 have m with a body, p/J3 and p/J4 under it without; p/D has the first three, p/E the third and the first,
 -- p/F the last two; p/G has the field x from the second of its interfaces;
@@ -16,15 +17,15 @@ use Rattle.cl_model.specs.Examples.{boot, app, enough, root, under, plain, inter
 abbrev pub several : World
 several = bundle (
     (boot, root)
-    ∷ (app, with_fields ((acc_public + acc_static, an_int "x") ∷ []) (interface "p/I"))
-    ∷ (app, with_fields ((acc_public, an_int "x") ∷ []) (plain "p/S"))
+    ∷ (app, with_fields ((flag.public + flag.static, an_int "x") ∷ []) (interface "p/I"))
+    ∷ (app, with_fields ((flag.public, an_int "x") ∷ []) (plain "p/S"))
     ∷ (app, with_interfaces ("p/I" ∷ []) (under "p/C" "p/S"))
-    ∷ (app, with_methods ((acc_public, taking_none "m") ∷ []) (interface "p/J1"))
-    ∷ (app, with_methods ((acc_public, taking_none "m") ∷ []) (interface "p/J2"))
-    ∷ (app, with_methods ((acc_public + acc_abstract, taking_none "m") ∷ []) (interface "p/J3"))
+    ∷ (app, with_methods ((flag.public, taking_none "m") ∷ []) (interface "p/J1"))
+    ∷ (app, with_methods ((flag.public, taking_none "m") ∷ []) (interface "p/J2"))
+    ∷ (app, with_methods ((flag.public + flag.abstract, taking_none "m") ∷ []) (interface "p/J3"))
     ∷ (app, with_interfaces ("p/J3" ∷ "p/J1" ∷ "p/J2" ∷ []) (plain "p/D"))
     ∷ (app, with_interfaces ("p/J3" ∷ "p/J1" ∷ []) (plain "p/E"))
-    ∷ (app, with_methods ((acc_public + acc_abstract, taking_none "m") ∷ []) (with_interfaces ("p/J3" ∷ []) (interface "p/J4")))
+    ∷ (app, with_methods ((flag.public + flag.abstract, taking_none "m") ∷ []) (with_interfaces ("p/J3" ∷ []) (interface "p/J4")))
     ∷ (app, with_interfaces ("p/J3" ∷ "p/J4" ∷ []) (plain "p/F"))
     ∷ (app, with_interfaces ("p/J1" ∷ "p/I" ∷ []) (plain "p/G"))
     ∷ (
@@ -51,14 +52,14 @@ chosen i = ends_at several (resolve_of app "p/U" i)
 -- p/U names these (5.4.3.2 to 5.4.3.4)
 abbrev pub inherited : World
 inherited = bundle (
-    (boot, with_methods ((acc_public, taking_none "h") ∷ (acc_protected, taking_none "f") ∷ (acc_public + acc_static, taking_none "s") ∷ (acc_public, taking_none "e") ∷ []) root)
-    ∷ (app, with_methods ((acc_public, taking_none "m") ∷ (acc_public, taking_none "f") ∷ (acc_public, taking_none "e") ∷ []) (interface "p/I"))
-    ∷ (app, with_methods ((acc_public, taking_none "m") ∷ []) (with_interfaces ("p/I" ∷ []) (interface "p/J")))
+    (boot, with_methods ((flag.public, taking_none "h") ∷ (flag.protected, taking_none "f") ∷ (flag.public + flag.static, taking_none "s") ∷ (flag.public, taking_none "e") ∷ []) root)
+    ∷ (app, with_methods ((flag.public, taking_none "m") ∷ (flag.public, taking_none "f") ∷ (flag.public, taking_none "e") ∷ []) (interface "p/I"))
+    ∷ (app, with_methods ((flag.public, taking_none "m") ∷ []) (with_interfaces ("p/I" ∷ []) (interface "p/J")))
     ∷ (app, with_interfaces ("p/J" ∷ []) (interface "p/K"))
-    ∷ (app, with_fields ((acc_public, an_int "y") ∷ []) (with_methods ((acc_public, taking_none "a") ∷ []) (with_interfaces ("p/K" ∷ []) (plain "p/S"))))
+    ∷ (app, with_fields ((flag.public, an_int "y") ∷ []) (with_methods ((flag.public, taking_none "a") ∷ []) (with_interfaces ("p/K" ∷ []) (plain "p/S"))))
     ∷ (app, with_interfaces ("p/M" ∷ []) (under "p/C" "p/S"))
-    ∷ (app, with_methods ((acc_public + acc_abstract, taking_none "n") ∷ (acc_private, taking_none "r") ∷ (acc_public + acc_static, taking_none "t") ∷ (acc_public, taking_none "a") ∷ []) (interface "p/M"))
-    ∷ (app, with_methods ((acc_public + acc_abstract, taking_none "n") ∷ []) (interface "p/N"))
+    ∷ (app, with_methods ((flag.public + flag.abstract, taking_none "n") ∷ (flag.private, taking_none "r") ∷ (flag.public + flag.static, taking_none "t") ∷ (flag.public, taking_none "a") ∷ []) (interface "p/M"))
+    ∷ (app, with_methods ((flag.public + flag.abstract, taking_none "n") ∷ []) (interface "p/N"))
     ∷ (app, with_interfaces ("p/M" ∷ []) (under "p/V" "p/W"))
     ∷ (app, with_interfaces ("p/N" ∷ []) (plain "p/W"))
     ∷ (
@@ -96,11 +97,11 @@ found i = ends_at inherited (resolve_of app "p/U" i)
 abbrev pub accesses : World
 accesses = bundle (
     (boot, root)
-    ∷ (app, with_methods ((acc_protected, taking_none "m") ∷ (acc_protected + acc_static, taking_none "s") ∷ (0, taking_none "k") ∷ (acc_private, taking_none "v") ∷ []) (plain "p/P"))
+    ∷ (app, with_methods ((flag.protected, taking_none "m") ∷ (flag.protected + flag.static, taking_none "s") ∷ (0, taking_none "k") ∷ (flag.private, taking_none "v") ∷ []) (plain "p/P"))
     ∷ (app, under "p/Q" "p/P")
     ∷ (
       app,
-      with_methods ((acc_private, taking_none "w") ∷ []) (referring (
+      with_methods ((flag.private, taking_none "w") ∷ []) (referring (
           ToMethod (a_class "p/P") (taking_none "m")
           ∷ ToMethod (a_class "q/D") (taking_none "m")
           ∷ ToMethod (a_class "q/E") (taking_none "m")
@@ -116,7 +117,7 @@ accesses = bundle (
     ∷ (app, under "q/E" "q/D")
     ∷ (
       app,
-      with_methods ((acc_protected, taking_none "m") ∷ (acc_protected + acc_static, taking_none "s") ∷ []) (referring (
+      with_methods ((flag.protected, taking_none "m") ∷ (flag.protected + flag.static, taking_none "s") ∷ []) (referring (
           ToMethod (a_class "p/P") (taking_none "k")
           ∷ ToMethod (a_class "p/P") (taking_none "v")
           ∷ ToMethod (a_class "q/D") (taking_none "m")

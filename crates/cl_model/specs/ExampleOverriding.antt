@@ -1,7 +1,8 @@
 -- Worlds of the examples of overriding and preparation (JVMS SE 8, 5.4.2, 5.4.5).
 use Rattle.std.specs.Prelude.{ℕ, ◌+◌, List, [], ◌∷◌}
+use Rattle.cl_classfile.specs.Flags as flag
 use Rattle.cl_model.specs.Homes.{World}
-use Rattle.cl_model.specs.Examples.{boot, app, plug, kid, root, plain, under, interface, acc_public, acc_private, acc_protected, acc_static, acc_abstract, taking_t, taking_v, giving_v, with_methods, with_interfaces, bundle}
+use Rattle.cl_model.specs.Examples.{boot, app, plug, kid, root, plain, under, interface, taking_t, taking_v, giving_v, with_methods, with_interfaces, bundle}
 
 -- p/A in app has m for its package, p/B under it makes it public, p/I wants n;
 -- in plug q/F is under p/A and q/C under p/B, each with m; q/S has n, and q/E under it implements p/I (5.4.2, 5.4.5)
@@ -9,11 +10,11 @@ abbrev pub overriding : World
 overriding = bundle (
     (boot, root)
     ∷ (app, with_methods ((0, taking_t "m") ∷ []) (plain "p/A"))
-    ∷ (app, with_methods ((acc_public, taking_t "m") ∷ []) (under "p/B" "p/A"))
-    ∷ (app, with_methods ((acc_public + acc_abstract, taking_v "n") ∷ []) (interface "p/I"))
-    ∷ (plug, with_methods ((acc_public, taking_t "m") ∷ []) (under "q/F" "p/A"))
-    ∷ (plug, with_methods ((acc_public, taking_t "m") ∷ []) (under "q/C" "p/B"))
-    ∷ (plug, with_methods ((acc_public, taking_v "n") ∷ []) (plain "q/S"))
+    ∷ (app, with_methods ((flag.public, taking_t "m") ∷ []) (under "p/B" "p/A"))
+    ∷ (app, with_methods ((flag.public + flag.abstract, taking_v "n") ∷ []) (interface "p/I"))
+    ∷ (plug, with_methods ((flag.public, taking_t "m") ∷ []) (under "q/F" "p/A"))
+    ∷ (plug, with_methods ((flag.public, taking_t "m") ∷ []) (under "q/C" "p/B"))
+    ∷ (plug, with_methods ((flag.public, taking_v "n") ∷ []) (plain "q/S"))
     ∷ (plug, with_interfaces ("p/I" ∷ []) (under "q/E" "q/S"))
     ∷ [])
 
@@ -23,19 +24,19 @@ overriding = bundle (
 -- implements q/J, an interface under p/I with g; q/K implements q/I and p/I and has m (5.4.2, 5.4.5)
 abbrev pub declared : World
 declared = bundle (
-    (boot, with_methods ((acc_public, taking_t "o") ∷ []) root)
-    ∷ (app, with_methods ((acc_public + acc_abstract, giving_v "m") ∷ (acc_public + acc_static, taking_t "s") ∷ (acc_private, taking_t "r") ∷ []) (interface "p/I"))
-    ∷ (app, with_methods ((acc_protected, giving_v "m") ∷ (acc_public + acc_static, taking_t "s") ∷ (acc_private, taking_t "r") ∷ (acc_public, taking_t "<init>") ∷ []) (plain "p/S"))
-    ∷ (app, with_methods ((acc_public + acc_abstract, taking_t "g") ∷ []) (interface "p/K"))
-    ∷ (plug, with_methods ((acc_public, giving_v "m") ∷ (acc_public + acc_static, taking_t "s") ∷ (acc_private, taking_t "r") ∷ []) (with_interfaces ("p/I" ∷ []) (plain "q/A")))
-    ∷ (plug, with_methods ((acc_public + acc_abstract, giving_v "m") ∷ (acc_public + acc_abstract, taking_t "o") ∷ []) (with_interfaces ("p/I" ∷ []) (interface "q/I")))
-    ∷ (plug, with_methods ((acc_public, giving_v "m") ∷ (acc_public + acc_static, taking_t "s") ∷ (acc_private, taking_t "r") ∷ (acc_public, taking_t "<init>") ∷ []) (with_interfaces ("p/I" ∷ []) (under "q/B" "p/S")))
-    ∷ (plug, with_methods ((acc_private, taking_t "g") ∷ []) (under "q/C" "p/S"))
+    (boot, with_methods ((flag.public, taking_t "o") ∷ []) root)
+    ∷ (app, with_methods ((flag.public + flag.abstract, giving_v "m") ∷ (flag.public + flag.static, taking_t "s") ∷ (flag.private, taking_t "r") ∷ []) (interface "p/I"))
+    ∷ (app, with_methods ((flag.protected, giving_v "m") ∷ (flag.public + flag.static, taking_t "s") ∷ (flag.private, taking_t "r") ∷ (flag.public, taking_t "<init>") ∷ []) (plain "p/S"))
+    ∷ (app, with_methods ((flag.public + flag.abstract, taking_t "g") ∷ []) (interface "p/K"))
+    ∷ (plug, with_methods ((flag.public, giving_v "m") ∷ (flag.public + flag.static, taking_t "s") ∷ (flag.private, taking_t "r") ∷ []) (with_interfaces ("p/I" ∷ []) (plain "q/A")))
+    ∷ (plug, with_methods ((flag.public + flag.abstract, giving_v "m") ∷ (flag.public + flag.abstract, taking_t "o") ∷ []) (with_interfaces ("p/I" ∷ []) (interface "q/I")))
+    ∷ (plug, with_methods ((flag.public, giving_v "m") ∷ (flag.public + flag.static, taking_t "s") ∷ (flag.private, taking_t "r") ∷ (flag.public, taking_t "<init>") ∷ []) (with_interfaces ("p/I" ∷ []) (under "q/B" "p/S")))
+    ∷ (plug, with_methods ((flag.private, taking_t "g") ∷ []) (under "q/C" "p/S"))
     ∷ (plug, with_interfaces ("p/K" ∷ []) (under "q/D" "q/C"))
-    ∷ (plug, with_methods ((acc_private, taking_t "g") ∷ []) (with_interfaces ("p/K" ∷ []) (under "q/F" "q/C")))
+    ∷ (plug, with_methods ((flag.private, taking_t "g") ∷ []) (with_interfaces ("p/K" ∷ []) (under "q/F" "q/C")))
     ∷ (plug, with_interfaces ("q/J" ∷ []) (under "q/G" "p/S"))
-    ∷ (plug, with_methods ((acc_public + acc_abstract, taking_t "g") ∷ []) (with_interfaces ("p/I" ∷ []) (interface "q/J")))
-    ∷ (plug, with_methods ((acc_public, giving_v "m") ∷ []) (with_interfaces ("q/I" ∷ "p/I" ∷ []) (plain "q/K")))
+    ∷ (plug, with_methods ((flag.public + flag.abstract, taking_t "g") ∷ []) (with_interfaces ("p/I" ∷ []) (interface "q/J")))
+    ∷ (plug, with_methods ((flag.public, giving_v "m") ∷ []) (with_interfaces ("q/I" ∷ "p/I" ∷ []) (plain "q/K")))
     ∷ [])
 
 -- boot has b/I with m, app p/S with m and p/J with m; in kid r/C is under p/S and implements b/I, and r/J is an
@@ -43,9 +44,9 @@ declared = bundle (
 abbrev pub through_kid : World
 through_kid = bundle (
     (boot, root)
-    ∷ (boot, with_methods ((acc_public + acc_abstract, taking_t "m") ∷ []) (interface "b/I"))
-    ∷ (app, with_methods ((acc_public, taking_t "m") ∷ []) (plain "p/S"))
-    ∷ (app, with_methods ((acc_public + acc_abstract, taking_t "m") ∷ []) (interface "p/J"))
+    ∷ (boot, with_methods ((flag.public + flag.abstract, taking_t "m") ∷ []) (interface "b/I"))
+    ∷ (app, with_methods ((flag.public, taking_t "m") ∷ []) (plain "p/S"))
+    ∷ (app, with_methods ((flag.public + flag.abstract, taking_t "m") ∷ []) (interface "p/J"))
     ∷ (kid, with_interfaces ("b/I" ∷ []) (under "r/C" "p/S"))
     ∷ (kid, with_interfaces ("b/I" ∷ "p/J" ∷ []) (interface "r/J"))
     ∷ [])
@@ -54,13 +55,13 @@ through_kid = bundle (
 -- have a, p/I of app and q/I of plug under it b, and q/C of plug is under q/S and implements q/I (5.4.2)
 abbrev pub whole_lineage : World
 whole_lineage = bundle (
-    (boot, with_methods ((acc_public, taking_t "m") ∷ []) root)
-    ∷ (app, with_methods ((acc_public + acc_abstract, taking_t "m") ∷ []) (interface "p/J"))
-    ∷ (app, with_methods ((acc_public, taking_t "a") ∷ []) (plain "p/S"))
-    ∷ (app, with_methods ((acc_public + acc_abstract, taking_v "b") ∷ []) (interface "p/I"))
+    (boot, with_methods ((flag.public, taking_t "m") ∷ []) root)
+    ∷ (app, with_methods ((flag.public + flag.abstract, taking_t "m") ∷ []) (interface "p/J"))
+    ∷ (app, with_methods ((flag.public, taking_t "a") ∷ []) (plain "p/S"))
+    ∷ (app, with_methods ((flag.public + flag.abstract, taking_v "b") ∷ []) (interface "p/I"))
     ∷ (plug, with_interfaces ("p/J" ∷ []) (interface "q/J"))
-    ∷ (plug, with_methods ((acc_public, taking_t "a") ∷ []) (under "q/S" "p/S"))
-    ∷ (plug, with_methods ((acc_public + acc_abstract, taking_v "b") ∷ []) (with_interfaces ("p/I" ∷ []) (interface "q/I")))
+    ∷ (plug, with_methods ((flag.public, taking_t "a") ∷ []) (under "q/S" "p/S"))
+    ∷ (plug, with_methods ((flag.public + flag.abstract, taking_v "b") ∷ []) (with_interfaces ("p/I" ∷ []) (interface "q/I")))
     ∷ (plug, with_interfaces ("q/I" ∷ []) (under "q/C" "q/S"))
     ∷ [])
 
@@ -69,12 +70,12 @@ whole_lineage = bundle (
 abbrev pub three_loaders : World
 three_loaders = bundle (
     (boot, root)
-    ∷ (boot, with_methods ((acc_public, taking_t "m") ∷ []) (plain "b/A"))
-    ∷ (boot, with_methods ((acc_public + acc_abstract, taking_t "m") ∷ (acc_public + acc_abstract, taking_v "n") ∷ (acc_public + acc_abstract, taking_t "k") ∷ (acc_public + acc_static, taking_v "j") ∷ []) (interface "b/I"))
+    ∷ (boot, with_methods ((flag.public, taking_t "m") ∷ []) (plain "b/A"))
+    ∷ (boot, with_methods ((flag.public + flag.abstract, taking_t "m") ∷ (flag.public + flag.abstract, taking_v "n") ∷ (flag.public + flag.abstract, taking_t "k") ∷ (flag.public + flag.static, taking_v "j") ∷ []) (interface "b/I"))
     ∷ (boot, interface "b/K")
-    ∷ (app, with_methods ((acc_public, taking_t "m") ∷ (acc_public, taking_v "n") ∷ (acc_public + acc_static, taking_t "k") ∷ (acc_public, taking_v "j") ∷ []) (under "p/B" "b/A"))
-    ∷ (plug, with_methods ((acc_public, taking_t "m") ∷ []) (with_interfaces ("b/I" ∷ "b/K" ∷ []) (under "q/C" "p/B")))
-    ∷ (plug, with_methods ((acc_public, taking_t "o") ∷ []) (under "q/D" "q/C"))
+    ∷ (app, with_methods ((flag.public, taking_t "m") ∷ (flag.public, taking_v "n") ∷ (flag.public + flag.static, taking_t "k") ∷ (flag.public, taking_v "j") ∷ []) (under "p/B" "b/A"))
+    ∷ (plug, with_methods ((flag.public, taking_t "m") ∷ []) (with_interfaces ("b/I" ∷ "b/K" ∷ []) (under "q/C" "p/B")))
+    ∷ (plug, with_methods ((flag.public, taking_t "o") ∷ []) (under "q/D" "q/C"))
     ∷ [])
 
 -- app has p/A with m for its package, p/B0 under it with m for its package too, and q/B1 under it with m public;
@@ -84,7 +85,7 @@ packages = bundle (
     (boot, root)
     ∷ (app, with_methods ((0, taking_t "m") ∷ []) (plain "p/A"))
     ∷ (app, with_methods ((0, taking_t "m") ∷ []) (under "p/B0" "p/A"))
-    ∷ (app, with_methods ((acc_public, taking_t "m") ∷ []) (under "q/B1" "p/A"))
-    ∷ (plug, with_methods ((acc_public, taking_t "m") ∷ []) (under "q/Y" "p/B0"))
-    ∷ (plug, with_methods ((acc_public, taking_t "m") ∷ []) (under "q/Z" "q/B1"))
+    ∷ (app, with_methods ((flag.public, taking_t "m") ∷ []) (under "q/B1" "p/A"))
+    ∷ (plug, with_methods ((flag.public, taking_t "m") ∷ []) (under "q/Y" "p/B0"))
+    ∷ (plug, with_methods ((flag.public, taking_t "m") ∷ []) (under "q/Z" "q/B1"))
     ∷ [])

@@ -2,13 +2,14 @@
 use Rattle.std.specs.Prelude.{ℕ, List, [], ◌∷◌, Option, Some, codes}
 use Rattle.cl_descriptors.specs.declared.types.Base.TheVariants as bases
 use Rattle.cl_classfile.specs.Files.{File, ToClass, ToField, ToMethod}
+use Rattle.cl_classfile.specs.Flags as flag
 use Rattle.cl_model.specs.Homes.{World}
 use Rattle.cl_model.specs.States.{Need, Verdict}
-use Rattle.cl_model.specs.Examples.{boot, app, plug, kid, root, plain, under, of_package, acc_public, acc_protected, taking_none, taking_t, an_array, a_class, an_array_of, method_key, with_fields, with_methods, referring, bundle, resolve_of, ends_at, ResolveNeeds}
+use Rattle.cl_model.specs.Examples.{boot, app, plug, kid, root, plain, under, of_package, taking_none, taking_t, an_array, a_class, an_array_of, method_key, with_fields, with_methods, referring, bundle, resolve_of, ends_at, ResolveNeeds}
 
 -- a class with a method that takes a T (4.6)
 abbrev pub svc : File
-svc = with_methods ((acc_public, taking_t "m") ∷ []) (plain "p/Svc")
+svc = with_methods ((flag.public, taking_t "m") ∷ []) (plain "p/Svc")
 
 -- a class that names that method (5.4.3)
 abbrev pub use_of_svc : File
@@ -50,9 +51,9 @@ arrays = bundle (
 abbrev pub references : World
 references = bundle (
     (boot, root)
-    ∷ (app, with_fields ((acc_public, an_array "x") ∷ []) (with_methods ((acc_public, taking_t "m") ∷ []) (plain "p/F")))
+    ∷ (app, with_fields ((flag.public, an_array "x") ∷ []) (with_methods ((flag.public, taking_t "m") ∷ []) (plain "p/F")))
     ∷ (app, of_package "p/H")
-    ∷ (app, with_methods ((acc_protected, taking_none "k") ∷ []) (plain "p/P"))
+    ∷ (app, with_methods ((flag.protected, taking_none "k") ∷ []) (plain "p/P"))
     ∷ (plug, under "q/G" "p/F")
     ∷ (plug, under "q/X" "p/P")
     ∷ (

@@ -1,11 +1,12 @@
 -- Settings and steps of the examples of answers and runs (JVMS SE 8, 5.3.4 to 5.4.3).
 use Rattle.std.specs.Prelude.{ℕ, List, [], ◌∷◌, ◌++◌, codes}
 use Rattle.cl_classfile.specs.Files.{File, ToMethod}
+use Rattle.cl_classfile.specs.Flags as flag
 use Rattle.cl_model.specs.Homes.{World}
 use Rattle.cl_model.specs.States.{State, start, Verdict, IsMethod, IsLinked, BadEntry, Linkage, Said, OutOfMemory}
 use Rattle.cl_model.specs.Plans.{Request}
 use Rattle.cl_model.specs.Machine.{Setting, Step, Define, Initiate, Constrain, Settle, Prepare, Post, NextRound, AnswersPlan, state_after}
-use Rattle.cl_model.specs.Examples.{boot, app, plug, kid, object, the_root, in_app, in_plug, in_kid, own, same_t, load_of, resolve_of, link_of, root, under, acc_public, taking_t, a_class, with_methods, referring, bundle}
+use Rattle.cl_model.specs.Examples.{boot, app, plug, kid, object, the_root, in_app, in_plug, in_kid, own, same_t, load_of, resolve_of, link_of, root, under, taking_t, a_class, with_methods, referring, bundle}
 use Rattle.cl_model.specs.ExampleReferences.{svc, service, three_users}
 
 -- a setting of one round without requests
@@ -74,7 +75,7 @@ two_rounds = Post 0 OutOfMemory ∷ NextRound ∷ Post 1 OutOfMemory ∷ Post 2 
 
 -- a class under Svc, which overrides its method and names it (4.6, 5.4.3)
 abbrev pub user : File
-user = with_methods ((acc_public, taking_t "m") ∷ []) (referring (ToMethod (a_class "p/Svc") (taking_t "m") ∷ []) (under "p/Use" "p/Svc"))
+user = with_methods ((flag.public, taking_t "m") ∷ []) (referring (ToMethod (a_class "p/Svc") (taking_t "m") ∷ []) (under "p/Use" "p/Svc"))
 
 -- Svc in app, and in plug Use under it (5.4.2, 5.4.3.3)
 abbrev pub overridden_service : World
@@ -126,7 +127,7 @@ resolved_in_kid = record { world = three_users; script = record { request = reso
 
 -- Svc in app, and in plug a class under it which overrides its method and names nothing (5.4.2)
 abbrev pub overridden_alone : World
-overridden_alone = bundle ((boot, root) ∷ (app, svc) ∷ (plug, with_methods ((acc_public, taking_t "m") ∷ []) (under "p/Use" "p/Svc")) ∷ [])
+overridden_alone = bundle ((boot, root) ∷ (app, svc) ∷ (plug, with_methods ((flag.public, taking_t "m") ∷ []) (under "p/Use" "p/Svc")) ∷ [])
 
 -- the steps before a class under p/H, which is not accessible to it (5.3.5, step 3)
 abbrev pub below_hidden : List Step

@@ -6,6 +6,7 @@ use Rattle.cl_descriptors.specs.declared.types.Base.TheVariants as bases
 use Rattle.cl_descriptors.specs.declared.types.FieldType.{FieldType}
 use Rattle.cl_descriptors.specs.declared.types.Descriptor.TheVariants as descriptors
 use Rattle.cl_classfile.specs.Files.{Name, File, FileFault, BadVersion, BadFormat, Key, Member, Reference}
+use Rattle.cl_classfile.specs.Flags as flag
 use Rattle.cl_model.specs.declared.class.Class.{Class}
 use Rattle.cl_model.specs.Content.{Content, content_at}
 use Rattle.cl_model.specs.Homes.{World, Loader, ParentFirst, ChildFirst}
@@ -126,34 +127,6 @@ an_int name = field_key name (an_array_of 0 bases.Int)
 abbrev pub an_array : String → Key
 an_array name = field_key name (an_array_of 1 (bases.Class (codes "p/T")))
 
--- ACC_PUBLIC (tables 4.1-A, 4.5-A, 4.6-A)
-abbrev pub acc_public : ℕ
-acc_public = 0x0001
-
--- ACC_PRIVATE (tables 4.5-A, 4.6-A)
-abbrev pub acc_private : ℕ
-acc_private = 0x0002
-
--- ACC_PROTECTED (tables 4.5-A, 4.6-A)
-abbrev pub acc_protected : ℕ
-acc_protected = 0x0004
-
--- ACC_STATIC (tables 4.5-A, 4.6-A)
-abbrev pub acc_static : ℕ
-acc_static = 0x0008
-
--- ACC_ABSTRACT (tables 4.1-A, 4.6-A)
-abbrev pub acc_abstract : ℕ
-acc_abstract = 0x0400
-
--- ACC_SUPER (table 4.1-A)
-abbrev pub acc_super : ℕ
-acc_super = 0x0020
-
--- ACC_INTERFACE (table 4.1-A)
-abbrev pub acc_interface : ℕ
-acc_interface = 0x0200
-
 -- ---- files
 
 -- a class with these flags, this name and superclass (4.1)
@@ -162,27 +135,27 @@ flagged flags name sup = record { flags = flags; name = name; super_name = sup; 
 
 -- the file of the root class (4.1, super_class)
 abbrev pub root : File
-root = flagged (acc_public + acc_super) object None
+root = flagged (flag.public + flag.super) object None
 
 -- a public class under another (4.1)
 abbrev pub under : String → String → File
-under name sup = flagged (acc_public + acc_super) (codes name) (Some (codes sup))
+under name sup = flagged (flag.public + flag.super) (codes name) (Some (codes sup))
 
 -- a public class under the root (4.1)
 abbrev pub plain : String → File
-plain name = flagged (acc_public + acc_super) (codes name) (Some object)
+plain name = flagged (flag.public + flag.super) (codes name) (Some object)
 
 -- a class of package access under the root (4.1)
 abbrev pub of_package : String → File
-of_package name = flagged acc_super (codes name) (Some object)
+of_package name = flagged flag.super (codes name) (Some object)
 
 -- a public interface (4.1)
 abbrev pub interface : String → File
-interface name = flagged (acc_public + acc_interface + acc_abstract) (codes name) (Some object)
+interface name = flagged (flag.public + flag.interface + flag.abstract) (codes name) (Some object)
 
 -- an interface of package access (4.1)
 abbrev pub interface_of_package : String → File
-interface_of_package name = flagged (acc_interface + acc_abstract) (codes name) (Some object)
+interface_of_package name = flagged (flag.interface + flag.abstract) (codes name) (Some object)
 
 -- members by their flags and keys (4.5, 4.6)
 abbrev pub members : List (ℕ × Key) → List Member

@@ -17,6 +17,7 @@ use Rattle.cl_preparation.specs.Methods.{is_instance}
 use Rattle.cl_preparation.specs.Relatives.{AreRelatives, bare, equals_for, of_superclasses}
 use Rattle.cl_preparation.specs.Walks.{is_overridden, opened_by, walked}
 use Rattle.cl_preparation.proofs.Reached.{overridden_is_walked}
+use Rattle.cl_preparation.proofs.Named.{map_through}
 
 append_nothing : {A : Type 0} (xs : List A) → xs ++ [] ≡ xs
 append_nothing [] = refl
@@ -267,10 +268,6 @@ interfaces_are l self own above over xs view are xe =
     ∙ ap (flat_map (λ (j : Kin). flat_map (for_inherited (kin_of self) j) j.file.methods)) (subst (λ (x : Lined). map (kin_at x) over ≡ superinterfaces (kin_of x)) view are.over_are)
 
 -- ---- the rows of a lineage
-
-map_through : {A : Type 0} (f : A → Rowed) (l : Lined) (xs : List A) → map (kin_at l) (map f xs) ≡ map (λ r. kin_at l (f r)) xs
-map_through f l [] = refl
-map_through f l (x ∷ xs) = ap (λ ks. kin_at l (f x) ∷ ks) (map_through f l xs)
 
 pub mapped_rows : {A : Type 0} (f : A → Rowed) (rows_of : Kin → List Kin) (l m : Lined) (xs ys : List A) (rows : List Rowed) → m ≡ l → ys ≡ xs → rows ≡ map f ys
     → map (λ r. kin_at m (f r)) xs ≡ rows_of (kin_of m) → map (kin_at l) rows ≡ rows_of (kin_of l)

@@ -113,7 +113,7 @@ overrides_asked (Some key) l above between =
 
 -- ---- a place among the superclasses
 
-map_through : {A : Type 0} (f : A → Rowed) (l : Lined) (xs : List A) → map (kin_at l) (map f xs) ≡ map (λ r. kin_at l (f r)) xs
+pub map_through : {A : Type 0} (f : A → Rowed) (l : Lined) (xs : List A) → map (kin_at l) (map f xs) ≡ map (λ r. kin_at l (f r)) xs
 map_through f l [] = refl
 map_through f l (x ∷ xs) = ap (λ ks. kin_at l (f x) ∷ ks) (map_through f l xs)
 

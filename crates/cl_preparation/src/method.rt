@@ -5,17 +5,11 @@ ghost use Rattle.cl_classfile.specs.Files.{declared_by, file_of, method_of};
 ghost use Rattle.cl_preparation.specs.Methods.{IsTyped, is_instance, is_wide};
 
 use crate::key::MethodKey;
-use cl_classfile::{ClassFile, Entry, Member, has_flag, text_at};
+use cl_classfile::{
+    ClassFile, Entry, Member, PRIVATE, PROTECTED, PUBLIC, STATIC, has_flag, text_at,
+};
 use std::alloc::{AllocError, Global};
 use std::marker::Model;
-
-const PUBLIC: u16 = 0x0001;
-
-const PRIVATE: u16 = 0x0002;
-
-const PROTECTED: u16 = 0x0004;
-
-const STATIC: u16 = 0x0008;
 
 /// Whether a method of these flags is neither private nor static: those alone override (JVMS SE 8, 5.4.5).
 pub(crate) fn is_instance(flags: u16) -> bool

@@ -43,7 +43,8 @@ use Rattle.cl_registry.proofs.Settled.{settled_more, settled_is_told, unsettled_
 
 -- ---- the verdicts that are settled
 
-bad_is : (v : Verdict) → v ≢ verdicts.BadEntry → verdict_of v ≢ states.BadEntry
+-- what is no bad entry reads as none
+pub bad_is : (v : Verdict) → v ≢ verdicts.BadEntry → verdict_of v ≢ states.BadEntry
 bad_is (verdicts.Class c) h e = cc
 bad_is (verdicts.Array d c) h e = cc
 bad_is (verdicts.PrimitiveArray d b) h e = cc
@@ -55,7 +56,8 @@ bad_is verdicts.ArrayMember h e = cc
 bad_is (verdicts.Error k c) h e = cc
 bad_is (verdicts.Linkage n) h e = cc
 
-array_is : (v : Verdict) → v ≢ verdicts.ArrayMember → verdict_of v ≢ states.ArrayMember
+-- and what is no member of an array
+pub array_is : (v : Verdict) → v ≢ verdicts.ArrayMember → verdict_of v ≢ states.ArrayMember
 array_is (verdicts.Class c) h e = cc
 array_is (verdicts.Array d c) h e = cc
 array_is (verdicts.PrimitiveArray d b) h e = cc

@@ -1,17 +1,15 @@
 -- What a registry imposes and prepares is what the linkage machine may (JVMS SE 8, 5.3.4, 5.4.2, 5.4.3).
-use Rattle.std.proofs.Common.{◌≡◌, ◌∙◌, ℕ, zero, suc, Bool, true, if◌then◌else◌, List, [], ◌∷◌, ◌++◌, Some, None, inl, inr, refl, sym, ap, subst, take}
-use Rattle.std.specs.Prelude.{slice_get, option_map, Contains}
+use Rattle.std.proofs.Common.{◌≡◌, ◌∙◌, ℕ, zero, suc, if◌then◌else◌, List, [], ◌∷◌, ◌++◌, Some, inl, inr, refl, sym, ap, subst, take}
+use Rattle.std.specs.Prelude.{slice_get, Contains}
 use Rattle.std.specs.List.{AllByRecursion}
-use Rattle.cl_classfile.specs.Files.{Reference, file_of}
+use Rattle.cl_classfile.specs.Files.{file_of}
 use Rattle.cl_model.specs.declared.class.Class.{Class}
 use Rattle.cl_model.specs.declared.need.Equality.{Equality}
 use Rattle.cl_model.specs.Content.{Content}
-use Rattle.cl_model.specs.Classes.{Above, AtHome, IllegalAccess, class_accessible, supers}
+use Rattle.cl_model.specs.Classes.{Above, AtHome, supers}
 use Rattle.cl_model.specs.Lineages.{Kin, IsLineage}
 use Rattle.cl_model.specs.Preparation.{constraints_of}
-use Rattle.cl_model.specs.States.{State, Need, Entry, Verdict, Met, Refused, AllMet, IsNext}
-use Rattle.cl_model.specs.Works.{Made, after_made, unless_wrong, ◌>>=◌}
-use Rattle.cl_model.specs.References.{resolve_in, through}
+use Rattle.cl_model.specs.States.{State, Need, Entry, Met, Refused, AllMet, IsNext}
 use Rattle.cl_model.specs.Machine.{HasLineage, IsClosed, MayConstrain}
 use Rattle.cl_model.proofs.Bind.{some_same}
 use Rattle.cl_model.proofs.Planned.{one_lineage}
@@ -24,6 +22,7 @@ use Rattle.cl_constraints.proofs.Standing.{unrefused}
 use Rattle.cl_delegation.specs.Worlds.{world_of, setting_of}
 use Rattle.cl_hierarchy.specs.Imposed.{AreOf, Sprung, OfPreparation, OfReference, equal_need, needs_of}
 use Rattle.cl_hierarchy.specs.Lineages.{IsLined, Lined, kin_of}
+use Rattle.cl_findings.proofs.References.{through_made}
 use Rattle.cl_registry.specs.Allowed.{ImposedIsAllowed, MarkedIsAllowed, AllowedIsMarked}
 use Rattle.cl_registry.specs.Imposing.{AreLineages, IsPreparedAbove, StandsFor}
 use Rattle.cl_registry.specs.Tables.{Shown, IsKept, state_of}
@@ -44,11 +43,6 @@ pub lineage_at : (content : Content) (x : Shown) (l : Lined) → IsLined (Some c
 lineage_at content x l lined config =
     lineage_is_derived (world_of x.config content) (kin_of l) (subst (λ (c : Configured). IsLineage (world_of c content) (kin_of l)) config lined.lineage)
 
--- what follows the load of a class that is accessible is the reference
-through_open : (d c : Kin) (r : Reference) (m : Made Verdict) → class_accessible c.file.flags c.class d.class ≡ true → resolve_in d r c ≡ Some m → through d r c ≡ Some m
-through_open d c r m free is =
-    ap (λ (b : Bool). unless_wrong (if b then None else Some (IllegalAccess c.class)) >>= λ a. resolve_in d r c) free ∙ ap (option_map (after_made [] [])) is
-
 -- ---- equalities
 
 imposed_by : (content : Content) (x : Shown) (o : Sprung) (es : List Equality) (k : ℕ) (n : Equality) → IsKept (Some content) x → AreLineages (Some content) o → AreOf o (needs_of es) → StandsFor x o → AllMet (state_of x) (take k (needs_of es))
@@ -63,7 +57,7 @@ imposed_by content x (OfReference d c index) es k n kept lined are stands earlie
     let w = world_of x.config content in
     let s = state_of x in
     let goes = reference_goes w s d.own.class (kin_of d) (kin_of c) index c.own.class.loader are.refers c.own.class.name are.made (closed_of content x kept) (lineage_at content x d lined.0 stands.0.config) are.at are.names stands.1.recorded
-    (lineage_at content x c lined.1 stands.1.config) (through_open (kin_of d) (kin_of c) are.refers are.made stands.1.accessible are.worked) in
+    (lineage_at content x c lined.1 stands.1.config) (through_made (kin_of d) (kin_of c) are.refers are.made stands.1.accessible are.worked) in
     record {
       needs = goes.made.needs;
       imposes = inr (d.own.class, stands.0.recorded, (index, goes.made, goes.resolution, refl));

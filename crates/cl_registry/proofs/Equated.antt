@@ -18,6 +18,7 @@ use Rattle.cl_hierarchy.specs.Imposed.{needs_of}
 use Rattle.cl_hierarchy.specs.Lineages.{Lined, kin_of, rows_in}
 use Rattle.cl_hierarchy.specs.Rows.{Rowed}
 use Rattle.cl_hierarchy.specs.Trees.{forest, in_front, kin_named, kin_under, kins_after, superclass_in, interfaces_in}
+use Rattle.cl_findings.proofs.Stood.{mapped}
 
 -- ---- lists
 
@@ -54,10 +55,6 @@ module _ {A : Type 0} (Q : A → Type 0) where
   at [] k x h e = absurd cc
   at (y ∷ xs) zero x h e = subst Q (some_same y x e) h.0
   at (y ∷ xs) (suc k) x h e = at xs k x h.1 e
-
-mapped : {A B : Type 0} (Q : B → Type 0) (f : A → B) (xs : List A) → AllByRecursion (λ a. Q (f a)) xs → AllByRecursion Q (map f xs)
-mapped Q f [] h = tt
-mapped Q f (x ∷ xs) h = (h.0, mapped Q f xs h.1)
 
 flat : {A B : Type 0} (Q : A → Type 0) (R : B → Type 0) (f : A → List B) (xs : List A) → ((x : A) → Q x → AllByRecursion R (f x)) → AllByRecursion Q xs → AllByRecursion R (flat_map f xs)
 flat Q R f [] each h = tt

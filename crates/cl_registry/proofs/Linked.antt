@@ -1,5 +1,5 @@
 -- In a sound state a class that is prepared has all of its lineage linked.
-use Rattle.std.proofs.Common.{◌≡◌, ◌∙◌, ℕ, List, [], ◌∷◌, ◌++◌, Option, Some, sym, ap, subst}
+use Rattle.std.proofs.Common.{◌≡◌, ℕ, List, [], ◌∷◌, ◌++◌, Option, Some, sym, subst}
 use Rattle.std.specs.Prelude.{Contains}
 use Rattle.std.specs.List.{AllByRecursion}
 use Rattle.cl_classfile.specs.Files.{Name}
@@ -15,14 +15,12 @@ use Rattle.cl_model.specs.Service.{IsLinkedIn, ComesTo}
 use Rattle.cl_model.proofs.Closed.{all_left, all_right}
 use Rattle.cl_model.proofs.Gone.{link_comes}
 use Rattle.cl_model.proofs.Planned.{one_lineage}
-use Rattle.cl_model.proofs.Progress.{once_kept}
-use Rattle.cl_model.proofs.Trees.{all_two, lineage_of, lineage_is_derived}
+use Rattle.cl_model.proofs.Progress.{class_is, once_kept}
+use Rattle.cl_model.proofs.Trees.{lineage_of, lineage_is_derived}
+use Rattle.cl_model.proofs.Derived.{all_both}
 
 place_is : (x y : ℕ) (o : Option ℕ) → o ≡ Some x → o ≡ Some y → x ≡ y
 place_is x y o h k = cc
-
-class_is : (x : Class) (name : Name) (place : ℕ) → x.name ≡ name → x.loader ≡ place → x ≡ class name place
-class_is x name place p q = ap (λ (n : Name). class n x.loader) p ∙ ap (λ (l : ℕ). class name l) q
 
 abbrev IsUnder : World → State → Class → List Above → Type 0
 IsUnder w s c others = AllByRecursion (λ (a : Above). AtHome w c (Contains s.prepared) a.name) others
@@ -54,16 +52,16 @@ forest_linked g s c (Tree t f sup ints rest) (a ∷ more) sound all h =
     let own : Contains s.prepared t = subst (λ (x : Class). Contains s.prepared x) (sym same) all.0.holds in
     let k : Kin = record { class = t; file = f; superclass = sup; interfaces = ints } in
     let here = prepared_as g s k sound (record { has_file = h.0.has_file; above = h.1; over = h.2 }) own in
-    all_two (IsLinkedIn s) (postorder sup ++ postorder ints) (k ∷ postorder rest)
-    (all_two (IsLinkedIn s) (postorder sup) (postorder ints) (forest_linked g s t sup (superclass_of f) sound here.up h.1) (forest_linked g s t ints (superinterfaces_of f) sound here.over h.2))
+    all_both (IsLinkedIn s) (postorder sup ++ postorder ints) (k ∷ postorder rest)
+    (all_both (IsLinkedIn s) (postorder sup) (postorder ints) (forest_linked g s t sup (superclass_of f) sound here.up h.1) (forest_linked g s t ints (superinterfaces_of f) sound here.over h.2))
     (here.linked, forest_linked g s c rest more sound all.1 h.3)
 
 lineage_linked : (g : Setting) (s : State) (k : Kin) → IsSound g s → IsLineage g.world k → Contains s.prepared k.class → AllByRecursion (IsLinkedIn s) (lineage k)
 lineage_linked g s k sound h own =
     let here = prepared_as g s k sound h own in
     once_kept (IsLinkedIn s) [] (postorder (alone k))
-    (all_two (IsLinkedIn s) (postorder k.superclass ++ postorder k.interfaces) (k ∷ [])
-    (all_two (IsLinkedIn s) (postorder k.superclass) (postorder k.interfaces) (forest_linked g s k.class k.superclass (superclass_of k.file) sound here.up h.above) (forest_linked g s k.class k.interfaces (superinterfaces_of k.file) sound here.over h.over))
+    (all_both (IsLinkedIn s) (postorder k.superclass ++ postorder k.interfaces) (k ∷ [])
+    (all_both (IsLinkedIn s) (postorder k.superclass) (postorder k.interfaces) (forest_linked g s k.class k.superclass (superclass_of k.file) sound here.up h.above) (forest_linked g s k.class k.interfaces (superinterfaces_of k.file) sound here.over h.over))
     (here.linked, tt))
 
 -- a request to link a class that its loader has recorded and that is prepared comes to that

@@ -1,5 +1,5 @@
 -- What the linkage machine's own list comes to may be imposed.
-use Rattle.std.proofs.Common.{◌≡◌, ◌∙◌, ◌<◌, ℕ, Bool, true, false, List, [], ◌∷◌, ◌++◌, length, Option, Some, None, inl, inr, refl, sym, ap, subst, arith, take, if◌then◌else◌}
+use Rattle.std.proofs.Common.{◌≡◌, ◌∙◌, ◌<◌, ℕ, Bool, true, false, List, [], ◌∷◌, ◌++◌, length, Option, Some, inl, inr, refl, sym, ap, subst, arith, take, if◌then◌else◌}
 use Rattle.std.specs.Prelude.{option_map}
 use Rattle.std.specs.List.{AllByRecursion}
 use Rattle.std.proofs.lemmas.List.{append-nil, append_cancel_right}
@@ -8,10 +8,10 @@ use Rattle.cl_model.specs.declared.class.Class.{Class}
 use Rattle.cl_model.specs.declared.need.Equality.{Equality}
 use Rattle.cl_model.specs.Content.{Content}
 use Rattle.cl_model.specs.Homes.{World, home}
-use Rattle.cl_model.specs.Classes.{class, IllegalAccess, NoClassDef, class_accessible}
+use Rattle.cl_model.specs.Classes.{class, NoClassDef, class_accessible}
 use Rattle.cl_model.specs.Lineages.{Kin}
 use Rattle.cl_model.specs.States.{State, Need, Verdict, recorded, AllMet}
-use Rattle.cl_model.specs.Works.{Work, Made, after_made, unless_wrong, ◌>>=◌}
+use Rattle.cl_model.specs.Works.{Work, Made, after_made, ◌>>=◌}
 use Rattle.cl_model.specs.Plans.{derive, load, resolve}
 use Rattle.cl_model.specs.References.{resolve_in, through}
 use Rattle.cl_model.specs.Machine.{HasLineage}
@@ -25,6 +25,7 @@ use Rattle.cl_model.proofs.Trees.{derive_gives, lineage_is_derived}
 use Rattle.cl_delegation.specs.Worlds.{world_of}
 use Rattle.cl_hierarchy.specs.Imposed.{AreOf, OfPreparation, OfReference, Sprung, needs_of}
 use Rattle.cl_hierarchy.specs.Lineages.{kin_of}
+use Rattle.cl_findings.proofs.References.{opened}
 use Rattle.cl_registry.specs.Tables.{Shown, state_of, IsKept}
 use Rattle.cl_registry.specs.Imposing.{AreLineages, AreOfConfig, IsListOf, StandsFor}
 use Rattle.cl_registry.specs.Allowed.{AllowedIsImposed}
@@ -39,10 +40,6 @@ not_records before [] ns k h e all = absurd (omega arith)
 not_records before (x ∷ es) ns k h e all = (all_right IsEntry before (needs_of (x ∷ es)) (subst (λ (l : List Need). AllByRecursion IsEntry l) (sym e) all)).0
 
 -- ---- what follows a load
-
--- what follows the load of a class, by access
-opened : (d c : Kin) (r : Reference) (b : Bool) → class_accessible c.file.flags c.class d.class ≡ b → through d r c ≡ (unless_wrong (if b then None else Some (IllegalAccess c.class)) >>= λ a. resolve_in d r c)
-opened d c r b e = ap (λ (b : Bool). unless_wrong (if b then None else Some (IllegalAccess c.class)) >>= λ a. resolve_in d r c) e
 
 opened_made : (d c : Kin) (r : Reference) (made m : Made Verdict) → class_accessible c.file.flags c.class d.class ≡ true → resolve_in d r c ≡ Some made → through d r c ≡ Some m → m.needs ≡ made.needs
 opened_made d c r made m e worked is = ap (λ (v : Made Verdict). v.needs) (some_same m made (sym is ∙ opened d c r true e ∙ ap (λ (o : Work Verdict). option_map (after_made [] []) o) worked))

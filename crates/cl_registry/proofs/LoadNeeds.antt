@@ -13,7 +13,7 @@ use Rattle.cl_model.specs.Plans.{initiating, load_by, loads_above, derive_new, d
 use Rattle.cl_model.proofs.Bind.{pieces, some_same}
 use Rattle.cl_model.proofs.Heights.{loaded, found, sought, grown, others_after, checked, finished, interfaces_next, superclass_next, circle_or}
 use Rattle.cl_model.proofs.Progress.{IsEntry}
-use Rattle.cl_model.proofs.Trees.{all_two}
+use Rattle.cl_model.proofs.Derived.{all_both}
 
 -- work needs records alone
 abbrev Only : {A : Type 0} → Work A → Type 0
@@ -21,7 +21,7 @@ Only a = (m : Made _) → a ≡ Some m → AllByRecursion IsEntry m.needs
 
 only_then : {A B : Type 0} (a : Work A) (f : A → Work B) → Only a → ((x : A) → Only (f x)) → Only (a >>= f)
 only_then a f one two m h = elim (pieces a f m m.ends h refl) [
-  | inl b ↦ subst (λ (ns : List Need). AllByRecursion IsEntry ns) (sym b.needs) (all_two IsEntry b.first.needs b.second.needs (one b.first b.made) (two b.value b.second b.next))
+  | inl b ↦ subst (λ (ns : List Need). AllByRecursion IsEntry ns) (sym b.needs) (all_both IsEntry b.first.needs b.second.needs (one b.first b.made) (two b.value b.second b.next))
   | inr s ↦ subst (λ (ns : List Need). AllByRecursion IsEntry ns) (sym s.2.needs) (one s.2.first s.2.made)
 ]
 

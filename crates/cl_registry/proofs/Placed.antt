@@ -1,15 +1,14 @@
 -- What is recorded has its row; and in a told content its class has the file of that row.
-use Rattle.std.proofs.Common.{◌≡◌, ◌∙◌, ℕ, Bool, true, false, List, [], ◌∷◌, map, Option, Some, None, Ok, Err, inl, inr, refl, sym, ap, subst}
+use Rattle.std.proofs.Common.{◌≡◌, ◌∙◌, ℕ, Bool, true, false, List, [], ◌∷◌, map, Option, Some, None, inl, inr, refl, sym, ap, subst}
 use Rattle.std.specs.Prelude.{if◌then◌else◌, ◌⊎◌, ◌||◌, option_and_then}
 use Rattle.std.specs.List.{AllByRecursion, list_any}
-use Rattle.std.proofs.lemmas.Cmp.{nat_list_eq_equiv}
 use Rattle.std.proofs.lemmas.List.Elements.{recursion_from_All}
-use Rattle.cl_classfile.specs.Files.{Name, File, same_name}
+use Rattle.cl_classfile.specs.Files.{Name}
 use Rattle.cl_model.specs.declared.class.Class.{Class}
 use Rattle.cl_model.specs.declared.event.Event.{Event}
 use Rattle.cl_model.specs.declared.event.Event.TheVariants as events
 use Rattle.cl_model.specs.Content.{Content}
-use Rattle.cl_model.specs.Classes.{class, same_class, NoClassDef, named}
+use Rattle.cl_model.specs.Classes.{class, same_class}
 use Rattle.cl_model.specs.Classes as classes
 use Rattle.cl_model.specs.States.{State, Record, start, Answer, recorded}
 use Rattle.cl_model.specs.Machine.{Scheduled, Define, after, state_after}
@@ -109,8 +108,3 @@ recorded_row told x loader place name kept at =
     let own = (trusted_is_consistent (schedule_of x.script) x.script.rounds (steps x) kept.trusted.tables).own loader place name at in
     let r = found_row told (class name place) x.rows (recursion_from_All (Spelt told) x.rows kept.spelt) (subst (λ (cs : List Class). is_one (class name place) cs ≡ true) (sym kept.rows) (is_defined x (class name place) kept.trusted own)) in
     record { row = r.row; found = ap (option_and_then (λ place. row_of x.rows (class name place))) at ∙ r.found; is = r.is; spelt = r.spelt }
-
--- ---- files
-
-named_so : (c : Class) (f : File) → f.name ≡ c.name → named c (Ok f) ≡ Ok f
-named_so c f e = ap (λ (b : Bool). if b then Ok f else Err (NoClassDef c)) (ap (λ (n : List ℕ). same_name n c.name) e ∙ nat_list_eq_equiv.refl c.name)

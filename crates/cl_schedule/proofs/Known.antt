@@ -7,6 +7,7 @@ use Rattle.cl_model.specs.Plans.{Request, Load, Resolve, Link}
 use Rattle.cl_model.specs.Machine.{Scheduled, Step, Define, Initiate, Constrain, Settle, Prepare, Post, NextRound, Stray, after, state_after}
 use Rattle.cl_model.proofs.Runs.{records_stay}
 use Rattle.cl_model.proofs.Sound.{settled_stay, prepared_stay}
+use Rattle.cl_model.proofs.Derived.{all_both}
 use Rattle.cl_schedule.specs.Known.{Has, SaysOrLacks}
 use Rattle.cl_schedule.specs.Serving.{IsPost, NoPosts}
 
@@ -47,10 +48,6 @@ says_before script s es Stray h = tt
 all_before : (script : List Scheduled) (s : State) (es fs : List Step) → AllByRecursion (SaysKnown script (state_after s es)) fs → AllByRecursion (SaysKnown script s) fs
 all_before script s es [] all = tt
 all_before script s es (f ∷ fs) all = (says_before script s es f all.0, all_before script s es fs all.1)
-
-all_both : (P : Step → Type 0) (xs ys : List Step) → AllByRecursion P xs → AllByRecursion P ys → AllByRecursion P (xs ++ ys)
-all_both P [] ys one two = two
-all_both P (x ∷ xs) ys one two = (one.0, all_both P xs ys one.1 two)
 
 known_then : (script : List Scheduled) (s : State) (xs ys : List Step) → KeepsKnown script s xs → AllByRecursion (SaysKnown script (state_after s xs)) ys → KeepsKnown script (state_after s xs) ys → KeepsKnown script s (xs ++ ys)
 known_then script s [] ys k says more = more

@@ -1,24 +1,23 @@
 -- Rounds between requests, and one request after another (own choice).
 use Rattle.std.proofs.Common.{◌≡◌, inl, inr, ◌∙◌, ◌+◌, ◌-◌, ◌<◌, ◌≤◌, ℕ, zero, suc, Bool, true, false, List, [], ◌∷◌, ◌++◌, length, take, Option, Some, None, refl, sym, ap, subst, arith, append_assoc, add-one, is_some}
-use Rattle.std.specs.Prelude.{◌||◌, ◌==◌, ◌⊎◌, nat_eq, if◌then◌else◌, find, option_map, slice_get, slice_index_or, slice_set, IsSome, All}
-use Rattle.std.specs.Option.{option_or}
+use Rattle.std.specs.Prelude.{◌||◌, ◌⊎◌, nat_eq, if◌then◌else◌, option_map, slice_get, slice_index_or, slice_set, IsSome, All}
 use Rattle.std.proofs.lemmas.List.{append-nil}
-use Rattle.std.proofs.lemmas.List.Folds.{find-append}
 use Rattle.std.proofs.lemmas.Option.{slice_get_within}
 use Rattle.std.proofs.lemmas.Bool.{cases_lt}
-use Rattle.std.proofs.lemmas.Cmp.{nat_eq_equiv}
 use Rattle.cl_model.specs.declared.event.Event.{Event}
 use Rattle.cl_model.specs.declared.event.Event.TheVariants as events
 use Rattle.cl_model.specs.declared.answer.Answer as rust
 use Rattle.cl_model.specs.declared.request.Request.{Request}
 use Rattle.cl_model.specs.Content.{Content}
-use Rattle.cl_model.specs.States.{State, Answer, Posted, answer_to, start}
+use Rattle.cl_model.specs.States.{State, Answer, answer_to, start}
 use Rattle.cl_model.specs.Machine.{Setting, Scheduled, Step, Define, Initiate, NextRound, Post, EndsRound, MayGoOn, after, state_after}
 use Rattle.cl_model.specs.Service.{PassesRounds, AllServed}
 use Rattle.cl_model.specs.Views.{answer_of, answers_of, answer_at, request_of, post_of, step_of, steps_of}
 use Rattle.cl_model.proofs.Sound.{posted_stay}
 use Rattle.cl_model.proofs.Service.{all_served_push}
 use Rattle.cl_model.proofs.Views.{state_then}
+use Rattle.cl_model.proofs.Tables.{answer_found}
+use Rattle.cl_model.proofs.Pieces.{passes_none}
 use Rattle.cl_config.specs.Loaders.{schedule, schedule_of}
 use Rattle.cl_config.specs.Scripts.{IsScript}
 use Rattle.cl_config.specs.Views.{Scripted}
@@ -31,6 +30,7 @@ use Rattle.cl_registry.specs.Reports.{IsUnfinished}
 use Rattle.cl_registry.proofs.Histories.{eq_nat, swap_nat}
 use Rattle.cl_registry.proofs.Schedules.{schedule_round}
 use Rattle.cl_registry.proofs.Calm.{post_other}
+use Rattle.cl_tasks.proofs.LinkPlan.{taken_long}
 use Rattle.cl_schedule.specs.Known.{Has, KnownStays, SaysOrLacks, TellsKnown}
 use Rattle.cl_schedule.specs.Serving.{machine as machine_of, GoesBy, InOrder, IsDone, IsPost, NoPosts, upto}
 use Rattle.cl_schedule.specs.Rounds.{RoundsPassed}
@@ -126,33 +126,14 @@ end_of_rounds old x new NotYet p same refused = subst (RoundsPassed old) (sym sa
 
 -- ---- after rounds have passed
 
-passes_end : (g : Setting) (s : State) (es : List Step) → PassesRounds g s es → MayGoOn g (state_after s es) → ⊥
-passes_end g s [] p may = p may
-passes_end g s (e ∷ es) p may = passes_end g (after s NextRound) es p.2 (subst (λ (k : Step). MayGoOn g (state_after (after s k) es)) p.0 may)
-
 -- no further round may begin
 pub none_goes_on : (old new : Shown) → RoundsPassed old new → tables.MayGoOn new → ⊥
 none_goes_on old new p may =
-    passes_end (machine_of old []) (state_of old) p.passed (p.rounds [])
+    passes_none (machine_of old []) (state_of old) p.passed (p.rounds [])
     (subst (λ (s : State). MayGoOn (machine_of old []) s) (ap (state_after start) p.steps_more ∙ state_then start (steps old) p.passed)
     (goes_on_there old new [] p.script may))
 
 -- ---- what is posted is answered
-
-pub found_here : (xs : List Posted) (q : ℕ) (a : Answer) → answer_to xs q ≡ None → answer_to (xs ++ record { request = q; answer = a } ∷ []) q ≡ Some a
-found_here xs q a none =
-    let test = λ (p : Posted). p.request == q in
-    let last : Posted = record { request = q; answer = a } in
-    ap (option_map (λ (p : Posted). p.answer))
-    (find-append test xs (last ∷ []) ∙ ap (λ (b : Bool). option_or (find test xs) (if b then Some last else None)) (nat_eq_equiv.refl q) ∙ nothing_found (find test xs) (Some last) none)
-  where
-    nothing_found : (o k : Option Posted) → option_map (λ (p : Posted). p.answer) o ≡ None → option_or o k ≡ k
-    nothing_found None k e = refl
-    nothing_found (Some p) k e = absurd cc
-
-or_nothing : {A : Type 0} (o : Option A) → option_or o None ≡ o
-or_nothing None = refl
-or_nothing (Some x) = refl
 
 posted_answer : (now : List (Option Answer)) (h : List Event) (s : State) (q : ℕ) (a : Answer) → answer_at now q ≡ Some a → answer_to s.answers q ≡ None → is_in q (posts h) ≡ true → answer_to (state_after s (steps_of now h)).answers q ≡ Some a
 posted_answer now [] s q a at none is = absurd cc
@@ -167,7 +148,7 @@ posted_answer now (events.Post p ∷ h) s q a at none is = by_test (nat_eq q p) 
     here : q ≡ p → answer_to (after s (post_of p (answer_at now p))).answers q ≡ Some a
     here same =
         subst (λ (k : ℕ). answer_to (after s (post_of k (answer_at now k))).answers q ≡ Some a) same
-        (ap (λ (o : Option Answer). answer_to (after s (post_of q o)).answers q) at ∙ found_here s.answers q a none)
+        (ap (λ (o : Option Answer). answer_to (after s (post_of q o)).answers q) at ∙ answer_found s.answers q a none)
 
     by_test : (b : Bool) → nat_eq q p ≡ b → (b || is_in q (posts h)) ≡ true
         → (answer_to (after s (post_of p (answer_at now p))).answers q ≡ None → is_in q (posts h) ≡ true → answer_to (state_after s (steps_of now (events.Post p ∷ h))).answers q ≡ Some a)
@@ -269,11 +250,6 @@ take_next [] q a e = absurd cc
 take_next (x ∷ xs) zero a e = let same : x ≡ a = cc in rw same refl
 take_next {A = A} (x ∷ xs) (suc q) a e = ap (λ (l : List A). x ∷ l) (take_next xs q a e)
 
-length_below : {A : Type 0} (xs : List A) (q : ℕ) (a : A) → slice_get xs q ≡ Some a → length (take q xs) ≡ q
-length_below [] q a e = absurd cc
-length_below (x ∷ xs) zero a e = refl
-length_below (x ∷ xs) (suc q) a e = ap (λ (n : ℕ). suc n) (length_below xs q a e)
-
 take_all : {A : Type 0} (xs : List A) → take (length xs) xs ≡ xs
 take_all [] = refl
 take_all {A = A} (x ∷ xs) = ap (λ (l : List A). x ∷ l) (take_all xs)
@@ -290,7 +266,7 @@ served_next (Some content) old x new q r below is asked d p =
     (subst (λ (h : Setting). PassesRounds h (state_of x) p.passed) (same_machine old x content d.config d.script) (p.rounds content)) in
     let all : AllServed g 0 start (take q g.script ++ e ∷ []) (steps old ++ (one ++ p.passed)) =
     all_served_push g 0 q start (take q g.script) e (steps old) one p.passed below d.serves rounds
-    (let n = length_below g.script q e at.1 in omega arith) in
+    (let n = taken_long g.script q e at.1 in omega arith) in
     subst (λ (k : ℕ). ServedBelow (Some content) new k) (sym (add-one q))
     (subst (λ (h : Setting). AllServed h 0 start (take (suc q) h.script) (steps new)) (sym (same_machine old new content (p.config ∙ d.config) (p.script ∙ d.script)))
     (subst (λ (rs : List Scheduled). AllServed g 0 start rs (steps new)) (sym (take_next g.script q e at.1))

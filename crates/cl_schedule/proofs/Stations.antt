@@ -1,5 +1,5 @@
 -- How a request goes whose verdict the tables have: one or two looks, and the post (JVMS SE 8, 5.3, 5.4.2, 5.4.3).
-use Rattle.std.proofs.Common.{◌≡◌, ◌⊎◌, inl, inr, ◌∙◌, ℕ, true, false, List, [], Option, Some, None, refl, sym, ap, subst}
+use Rattle.std.proofs.Common.{◌≡◌, ◌⊎◌, inl, inr, ◌∙◌, ℕ, true, false, List, [], Some, None, refl, sym, ap, subst}
 use Rattle.std.specs.Prelude.{Contains}
 use Rattle.cl_model.specs.declared.answer.Answer as rust
 use Rattle.cl_model.specs.declared.class.Class.{Class}
@@ -24,6 +24,7 @@ use Rattle.cl_tasks.specs.declared.turn.Turn.TheVariants as turn
 use Rattle.cl_schedule.specs.Known.{Has, SaysOrLacks, TellsKnown}
 use Rattle.cl_schedule.specs.Nearing.{AtHand, HasOf, OwnCall}
 use Rattle.cl_schedule.specs.Replies.{Did, IsCall, IsRead, IsReplied, IsStepOf}
+use Rattle.cl_schedule.proofs.Places.{some_none}
 
 -- ---- turns
 
@@ -136,9 +137,6 @@ own_call s r v t new reply.Memory u at q own refused call = absurd (no_posts rus
 own_call s r v t new (reply.SourceFault f) u at q own refused call = absurd at
 
 -- ---- from a call to the reply
-
-some_none : {A : Type 0} (o : Option A) (a : A) → o ≡ Some a → o ≡ None → ⊥
-some_none o a e k = cc
 
 look_told : {A : Type 0} (x : Shown) (r : Request) (v : Verdict) (t : Tasked) (told : Reply A) → Has (state_of x) (request_of r) v → IsReplied x (Looking (loader_of r) (name_of r)) told → t.waits ≡ Looking (loader_of r) (name_of r) → t.frames ≡ [] → t.facts ≡ [] → AtHand (state_of x) r v t told
 look_told x r v t reply.Start has is waits frames facts = tt

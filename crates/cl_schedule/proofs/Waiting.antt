@@ -16,6 +16,7 @@ use Rattle.cl_model.specs.Service.{PassesRounds}
 use Rattle.cl_model.specs.Views.{answer_of, answers_of, answer_at, request_of}
 use Rattle.cl_model.specs.Steps.{IsOfService}
 use Rattle.cl_model.proofs.Views.{state_then}
+use Rattle.cl_model.proofs.Tables.{answer_found}
 use Rattle.cl_config.specs.Loaders.{schedule_of}
 use Rattle.cl_config.specs.Views.{Configured, Scripted}
 use Rattle.cl_registry.specs.Reports.{IsUnfinished}
@@ -31,7 +32,7 @@ use Rattle.cl_schedule.specs.Rounds.{RoundsPassed}
 use Rattle.cl_schedule.specs.Seats.{HasGathered, MayGather}
 use Rattle.cl_schedule.specs.Serving.{GoesBy, machine}
 use Rattle.cl_schedule.proofs.Next.{step_within}
-use Rattle.cl_schedule.proofs.Rounds.{found_here, schedule_length, scheduled_at, within}
+use Rattle.cl_schedule.proofs.Rounds.{schedule_length, scheduled_at, within}
 use Rattle.cl_schedule.proofs.States.{state_goes}
 
 -- ---- who waits of a list
@@ -267,7 +268,7 @@ gathered_post x ws next i q a t h at =
     ap (state_after start) (steps_posts x q a (unposted x q t w.is_open) w.is_open) ∙ state_then start (steps x) (Post q (answer_of a) ∷ []) in
     let round : round_of (with_post x q a) ≡ round_of x = ap (λ (k : State). k.round) there in
     let left : waiting_from (after s (Post q (answer_of a))) 0 (schedule_of x.script) ≡ remove (waiting_from s 0 (schedule_of x.script)) i =
-    waiting_post s (after s (Post q (answer_of a))) q refl (λ p ne. ap is_none (post_other s p q (Some (answer_of a)) ne)) (ap is_none (found_here s.answers q (answer_of a) w.unanswered)) 0 (schedule_of x.script) i
+    waiting_post s (after s (Post q (answer_of a))) q refl (λ p ne. ap is_none (post_other s p q (Some (answer_of a)) ne)) (ap is_none (answer_found s.answers q (answer_of a) w.unanswered)) 0 (schedule_of x.script) i
     (subst (λ (xs : List ℕ). slice_get xs i ≡ Some q) h.waits at) in
     let before : q < next = is_before w (cases_lt q next) in
     record {

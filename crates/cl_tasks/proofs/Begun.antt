@@ -56,8 +56,8 @@ looks_at e = (cc, cc)
 
 -- ---- the first turn
 
-begins : {A : Type 0} (c : Configured) (j : Job A) (s : Stage A) (t : Turn A) → IsFirst j → IsFor j.request j.target j.path → LooksBy j s t → Asks (task_at c s) t → AnswersOwn (loading_at c (loads.Fresh j)) (task_at c s) reply.Start t
-begins {A} c j s (turn.Look l n) first for looks asks =
+pub begins_own : {A : Type 0} (c : Configured) (j : Job A) (s : Stage A) (t : Turn A) → IsFirst j → IsFor j.request j.target j.path → LooksBy j s t → Asks (task_at c s) t → AnswersOwn (loading_at c (loads.Fresh j)) (task_at c s) reply.Start t
+begins_own {A} c j s (turn.Look l n) first for looks asks =
     let own = own_looked j.request j.target j.path first.own first.alone for in
     let at = looks_at (sym (subst (λ (u : Stage _). (task_at c u).waits ≡ waits.Looking l n) looks asks)) in
     subst (λ (u : Stage A). AnswersOwn {A = A} (loading_at c (loads.Fresh j)) (task_at c u) reply.Start (turn.Look l n)) (sym looks) (
@@ -65,19 +65,16 @@ begins {A} c j s (turn.Look l n) first for looks asks =
       first.own,
       λ r e. let same = some_same e in (at.0 ∙ own.0 ∙ ap loader_of same, at.1 ∙ own.1 ∙ ap name_of same),
     )
-begins c j s (turn.Post f) first for looks asks = looks
-begins c j s (turn.Read l n) first for looks asks = absurd looks
-begins c j s (turn.Define d) first for looks asks = absurd looks
-begins c j s (turn.Initiate h) first for looks asks = absurd looks
-begins c j s (turn.Lineage k) first for looks asks = absurd looks
-begins c j s (turn.LookReference k i) first for looks asks = absurd looks
-begins c j s (turn.Settle f) first for looks asks = absurd looks
-begins c j s (turn.Impose e k) first for looks asks = absurd looks
-begins c j s (turn.LookPrepared k) first for looks asks = absurd looks
-begins c j s (turn.Mark e) first for looks asks = absurd looks
-
-pub begins_own : {A : Type 0} (c : Configured) (j : Job A) (s : Stage A) (t : Turn A) → IsFirst j → IsFor j.request j.target j.path → LooksBy j s t → Asks (task_at c s) t → AnswersOwn (loading_at c (loads.Fresh j)) (task_at c s) reply.Start t
-begins_own c j s t first for looks asks = begins c j s t first for looks asks
+begins_own c j s (turn.Post f) first for looks asks = looks
+begins_own c j s (turn.Read l n) first for looks asks = absurd looks
+begins_own c j s (turn.Define d) first for looks asks = absurd looks
+begins_own c j s (turn.Initiate h) first for looks asks = absurd looks
+begins_own c j s (turn.Lineage k) first for looks asks = absurd looks
+begins_own c j s (turn.LookReference k i) first for looks asks = absurd looks
+begins_own c j s (turn.Settle f) first for looks asks = absurd looks
+begins_own c j s (turn.Impose e k) first for looks asks = absurd looks
+begins_own c j s (turn.LookPrepared k) first for looks asks = absurd looks
+begins_own c j s (turn.Mark e) first for looks asks = absurd looks
 
 -- ---- a look
 

@@ -1,7 +1,6 @@
 -- Steps of a request whose class is recorded, and of the entry that it asks for (JVMS SE 8, 5.3, 5.4.3, 5.4.3.1).
 use Rattle.std.proofs.Common.{◌≡◌, ◌∙◌, ◌<◌, ◌≤◌, ◌+◌, ℕ, zero, suc, Bool, true, false, List, [], ◌∷◌, length, Option, Some, None, inl, inr, refl, sym, ap, subst, arith}
-use Rattle.std.specs.Prelude.{find, if◌then◌else◌}
-use Rattle.std.specs.List.{AllByRecursion}
+use Rattle.std.specs.Prelude.{if◌then◌else◌}
 use Rattle.std.specs.declared.alloc.Global.{Global}
 use Rattle.std.specs.declared.sync.Arc.{Arc}
 use Rattle.cl_model.specs.declared.answer.Answer.TheVariants as answers
@@ -129,18 +128,6 @@ leads_settles A told c q r d i v b room holds kept stood may entry number same t
 }
 
 -- ---- what is settled is the answer
-
--- each loader of what is settled is one of the configuration
-same_some : (a b : Settled) → Some a ≡ Some b → a ≡ b
-same_some a b e = cc
-
-found_among : (P : Settled → Type 0) (test : Settled → Bool) (xs : List Settled) (s : Settled) → AllByRecursion P xs → find test xs ≡ Some s → P s
-found_among P test [] s all e = absurd cc
-found_among P test (x ∷ xs) s all e = by_test (test x) refl (found_among P test xs s all.1)
-  where
-    by_test : (b : Bool) → test x ≡ b → (find test xs ≡ Some s → P s) → P s
-    by_test true t more = subst P (same_some x s (sym (ap (λ (b : Bool). if b then Some x else find test xs) t) ∙ e)) all.0
-    by_test false t more = more (sym (ap (λ (b : Bool). if b then Some x else find test xs) t) ∙ e)
 
 -- what is settled for the entry that a request resolves
 entry_settled : (x : Shown) (l : ℕ) (d : Class) (i : ℕ) (s : Settled) → recorded (records_of x) l d.name ≡ Some d.loader → settled_at x d i ≡ Some s → settled_by x (requests.Resolve l d.name i) ≡ Some s

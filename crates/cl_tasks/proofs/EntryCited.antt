@@ -1,12 +1,6 @@
 -- What entries ask for, by the texts that they name (JVMS SE 8, 4.4.1, 4.4.2, 5.4.3).
-use Rattle.std.proofs.Common.{◌≡◌, ℕ, Bool, true, false, ◌&&◌, eqb, leb, List, [], ◌∷◌, length, Option, Some, None, Result, Ok, Err, inl, inr, refl, sym, ap, subst, ◌∙◌}
+use Rattle.std.proofs.Common.{◌≡◌, ℕ, Bool, true, false, List, Option, Some, None, Result, Ok, Err, inl, inr, refl, sym, ap, subst, ◌∙◌}
 use Rattle.std.specs.Prelude.{option_map, IfOk, IfSome, if◌then◌else◌}
-use Rattle.std.specs.List.{list_all, slice_split, onto_first}
-use Rattle.std.proofs.lemmas.Bool.{eqb-true}
-use Rattle.cl_names.specs.Text.{is_text}
-use Rattle.cl_names.specs.Kind.{IsNameOf, IsClass, has_unqualified_form, has_class_form, is_class_name}
-use Rattle.cl_names.proofs.Grammars.{class_test_of}
-use Rattle.cl_names.specs.declared.kind.TheConstants.{MOST_TEXT_BYTES}
 use Rattle.cl_descriptors.specs.Answers.{Gives}
 use Rattle.cl_descriptors.specs.Reading.{whole_field, whole_method, within_field}
 use Rattle.cl_descriptors.specs.Types.{SpellsField, is_shallow}
@@ -17,6 +11,8 @@ use Rattle.cl_descriptors.proofs.Methods.{whole_field_again, whole_method_again}
 use Rattle.cl_classfile.specs.Files.{Key, Name, Reference, Symbol, ToField, ToMethod, ToInterfaceMethod, CitesField, CitesMethod, CitesInterfaceMethod, field_key, method_key, class_type, is_array_name, named_type, typed, typed_by}
 use Rattle.cl_classfile.specs.Pool.{IsArray, NamesType}
 use Rattle.cl_classfile.specs.References.{IsFieldSymbol, IsMethodSymbol}
+use Rattle.cl_classfile.proofs.Classes.{class_begins}
+use Rattle.cl_classfile.proofs.Judging.{differ}
 use Rattle.cl_model.specs.Plans.{member_target}
 use Rattle.cl_tasks.specs.Cited.{AsksMember, AsksTarget, IsKind, TargetsClass, TellsEntry, TellsReference, made_by}
 use Rattle.cl_tasks.specs.declared.cited.Asked.{Asked}
@@ -25,31 +21,6 @@ use Rattle.cl_tasks.specs.declared.cited.Kind.{Kind}
 use Rattle.cl_tasks.specs.declared.cited.Kind.TheVariants as kinds
 
 -- ---- names of arrays
-
-differ : (b : Bool) → b ≡ true → b ≡ false → ⊥
-differ true e f = absurd cc
-differ false e f = absurd cc
-
-last : (a b : Bool) → b ≡ false → a && b ≡ false
-last true b e = e
-last false b e = refl
-
-bracket : (parts : List (List ℕ)) → list_all has_unqualified_form (onto_first 91 parts) ≡ false
-bracket [] = refl
-bracket (part ∷ parts) = refl
-
-no_bracket : (rest : List ℕ) → is_class_name (91 ∷ rest) ≡ false
-unfolding is_class_name
-no_bracket rest = last (is_text (91 ∷ rest) && leb (length (91 ∷ rest)) MOST_TEXT_BYTES) (has_class_form (91 ∷ rest)) (bracket (slice_split (λ p. eqb p 47) rest))
-
-by_first : (c : ℕ) (rest : List ℕ) (b : Bool) → eqb c 91 ≡ b → is_class_name (c ∷ rest) ≡ true → b ≡ false
-by_first c rest false e h = refl
-by_first c rest true e h = absurd (differ (is_class_name (91 ∷ rest)) (ap (λ (n : ℕ). is_class_name (n ∷ rest)) (sym (eqb-true c 91 e)) ∙ h) (no_bracket rest))
-
--- no class's name begins as an array's
-class_begins : (name : List ℕ) → IsNameOf IsClass name → is_array_name name ≡ false
-class_begins [] h = refl
-class_begins (c ∷ rest) h = by_first c rest (eqb c 91) refl (class_test_of (c ∷ rest) h)
 
 array_of : (text : List ℕ) → NamesType text → is_array_name text ≡ true → IsArray text
 array_of text (inl h) e = absurd (differ (is_array_name text) e (class_begins text h))

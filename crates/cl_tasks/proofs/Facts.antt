@@ -1,28 +1,16 @@
 -- Facts that were told, as needs that are met.
-use Rattle.std.proofs.Common.{List, [], ◌∷◌, ◌++◌, map, Option, Some, None}
+use Rattle.std.proofs.Common.{List, [], ◌∷◌, map, Option, Some, None}
 use Rattle.std.specs.Prelude.{IfSome, Contains}
 use Rattle.std.specs.List.{AllByRecursion}
 use Rattle.cl_model.specs.declared.class.Class.{Class}
 use Rattle.cl_model.specs.States.{Need, AllMet, Refused}
+use Rattle.cl_model.proofs.Derived.{all_both}
+use Rattle.cl_model.proofs.Closed.{all_left, all_right}
 use Rattle.cl_findings.specs.Findings.{Based}
 use Rattle.cl_registry.specs.Tables.{Shown, state_of}
 use Rattle.cl_tasks.specs.Facts.{AreSo, IsSo}
 use Rattle.cl_tasks.specs.Stages.{basis_facts, refused_facts}
 use Rattle.cl_tasks.specs.Tasks.{Stands, IsPrepared}
-
--- ---- lists
-
-pub all_both : {A : Type 0} (P : A → Type 0) (xs ys : List A) → AllByRecursion P xs → AllByRecursion P ys → AllByRecursion P (xs ++ ys)
-all_both P [] ys h k = k
-all_both P (x ∷ xs) ys h k = (h.0, all_both P xs ys h.1 k)
-
-pub all_first : {A : Type 0} (P : A → Type 0) (xs ys : List A) → AllByRecursion P (xs ++ ys) → AllByRecursion P xs
-all_first P [] ys h = tt
-all_first P (x ∷ xs) ys h = (h.0, all_first P xs ys h.1)
-
-pub all_second : {A : Type 0} (P : A → Type 0) (xs ys : List A) → AllByRecursion P (xs ++ ys) → AllByRecursion P ys
-all_second P [] ys h = h
-all_second P (x ∷ xs) ys h = all_second P xs ys h.1
 
 -- ---- needs
 
@@ -55,7 +43,7 @@ pub basis_so : (x : Shown) (b : Based) → AllMet (state_of x) b.needs → IfSom
 basis_so x b met refused = all_both (IsSo x) (map (λ n. Stands n) b.needs) (refused_facts b.refused) (met_stand x b.needs met) (refused_so x b.refused refused)
 
 pub so_met : (x : Shown) (b : Based) → AreSo x (basis_facts (Some b)) → AllMet (state_of x) b.needs
-so_met x b h = stand_met x b.needs (all_first (IsSo x) (map (λ n. Stands n) b.needs) (refused_facts b.refused) h)
+so_met x b h = stand_met x b.needs (all_left (IsSo x) (map (λ n. Stands n) b.needs) (refused_facts b.refused) h)
 
 pub so_refuses : (x : Shown) (b : Based) → AreSo x (basis_facts (Some b)) → IfSome b.refused (Refused (state_of x))
-so_refuses x b h = so_refused x b.refused (all_second (IsSo x) (map (λ n. Stands n) b.needs) (refused_facts b.refused) h)
+so_refuses x b h = so_refused x b.refused (all_right (IsSo x) (map (λ n. Stands n) b.needs) (refused_facts b.refused) h)

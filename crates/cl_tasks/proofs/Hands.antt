@@ -1,16 +1,15 @@
 -- What is in hand while a load goes on, and what is open beside it.
-use Rattle.std.proofs.Common.{◌≡◌, ◌≢◌, ◌∙◌, ◌+◌, ◌-◌, ◌==◌, ℕ, Bool, true, false, not, ◌||◌, ◌&&◌, if◌then◌else◌, List, [], ◌∷◌, ◌++◌, length, Option, Some, None, refl, sym, ap, subst, arith}
+use Rattle.std.proofs.Common.{◌≡◌, ◌≢◌, ◌+◌, ◌-◌, ℕ, Bool, true, false, not, ◌||◌, ◌&&◌, if◌then◌else◌, List, [], ◌∷◌, ◌++◌, length, Option, Some, None, refl, sym, ap, subst, arith}
 use Rattle.std.specs.List.{list_any}
-use Rattle.std.proofs.lemmas.Bool.{eqb-true, eq-eqb, ne_eqb}
+use Rattle.std.proofs.lemmas.Bool.{eq-eqb, ne_eqb}
 use Rattle.std.proofs.lemmas.Cmp.{nat_eq_equiv, nat_list_eq_equiv}
-use Rattle.cl_classfile.specs.Files.{Name, same_name}
+use Rattle.cl_classfile.specs.Files.{Name}
 use Rattle.cl_model.specs.Classes.{supers}
 use Rattle.cl_model.specs.Frames.{Frame, asking}
 use Rattle.cl_model.specs.Plans.{same_ask}
 use Rattle.cl_model.specs.States.{State, recorded}
 use Rattle.cl_model.specs.Works.{Ask}
-use Rattle.cl_model.proofs.Marks.{and_two}
-use Rattle.cl_model.proofs.Runs.{names_equal}
+use Rattle.cl_model.proofs.Asks.{same_asked}
 use Rattle.cl_hierarchy.specs.Paths.{Pathed, at_loader}
 use Rattle.cl_tasks.specs.Calls.{ask_for, ask_of, away_calls, hand_calls, in_hand, is_open, is_unrecorded}
 use Rattle.cl_tasks.specs.Rooms.{away_hand}
@@ -21,11 +20,6 @@ use Rattle.cl_tasks.specs.Stages.{sought_ask}
 -- an ask is none of these
 abbrev pub IsNone : Ask → List Ask → Type 0
 IsNone a asks = list_any (same_ask a) asks ≡ false
-
-same_asked : (a b : Ask) → same_ask a b ≡ true → a ≡ b
-same_asked a b h =
-    let both = and_two (a.loader == b.loader) (same_name a.name b.name) h in
-    ap (λ (l : ℕ). ask_of a.name l) (eqb-true a.loader b.loader both.0) ∙ ap (λ (n : Name). ask_of n b.loader) (names_equal a.name b.name both.1)
 
 pub same_itself : (a : Ask) → same_ask a a ≡ true
 same_itself a = rw (nat_eq_equiv.refl a.loader) (rw (nat_list_eq_equiv.refl a.name) refl)

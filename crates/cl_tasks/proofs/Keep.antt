@@ -14,6 +14,7 @@ use Rattle.cl_hierarchy.specs.Drafts.{Drafted}
 use Rattle.cl_hierarchy.specs.Frames.{Framed, accepted_of, frame_of, with_place}
 use Rattle.cl_hierarchy.specs.Paths.{Pathed, frames_of, fresh, name_of, sought, at_loader, at_name, Stands, AllStand, IsPath, with_frame, misfit_in, misfit_under, Accepts, Completes}
 use Rattle.cl_model.proofs.Stacks.{complete_is_kept}
+use Rattle.cl_model.proofs.Ancestors.{class_at}
 use Rattle.cl_hierarchy.proofs.Frames.{accepts_one}
 use Rattle.cl_hierarchy.proofs.Ends.{under_last, asking_push}
 use Rattle.cl_registry.specs.Tables.{Shown, state_of, records_of, looked}
@@ -55,10 +56,6 @@ frame_named x f h = accepted_named x f.class f.accepted (supers f.file) h
 pub all_last : {A : Type 0} (P : A → Type 0) (xs : List A) (x : A) → AllByRecursion P (xs ++ x ∷ []) → P x
 all_last P [] x h = h.0
 all_last P (y ∷ ys) x h = all_last P ys x h.1
-
-all_other : {A : Type 0} (P : A → Type 0) (xs : List A) (x y : A) → AllByRecursion P (xs ++ x ∷ []) → P y → AllByRecursion P (xs ++ y ∷ [])
-all_other P [] x y h k = (k, tt)
-all_other P (z ∷ zs) x y h k = (h.0, all_other P zs x y h.1 k)
 
 pub map_last : (xs : List Framed) (x : Framed) → map frame_of (xs ++ x ∷ []) ≡ map frame_of xs ++ frame_of x ∷ []
 map_last [] x = refl
@@ -111,10 +108,6 @@ more_accepted x c (u ∷ us) t (b ∷ others) a h e k = (h.0, more_accepted x c 
 accepting_has : (x : Shown) (f : Frame) (a : Above) (t : Class) → Has x f → wanted f ≡ Some a → HasAccepted x f.class t a → Has x (accepting f t)
 accepting_has x f a t h want k = more_accepted x f.class f.accepted t (supers f.file) a h want k
 
--- the class that a row is of
-named_is : (c : Class) (name : Name) → c.name ≡ name → c ≡ class name c.loader
-named_is c name e = ap (λ (n : Name). class n c.loader) e
-
 -- the last frame has accepted a row that was told and fits
 pub takes : (x : Shown) (p : Pathed) (before : List Framed) (last : Framed) (row : Rowed) → Top p before last → Has x (frame_of last) → IsRecordedAs x (at_loader p) (at_name p) row
     → misfit_under p.frames row.class (file_of row.file) ≡ None → Has x (frame_of (with_place last row.class.loader))
@@ -127,7 +120,7 @@ takes x p before last row top h told fits =
     subst (λ (z : Frame). Has x z) (sym f) (accepting_has x (frame_of last) a (class a.name row.class.loader) h top.wants (record {
       row = row;
       recorded = by_loader;
-      is = named_is row.class a.name by_loader.named;
+      is = class_at row.class a.name by_loader.named;
       fits = sym (top.judged row.class (file_of row.file)) ∙ fits;
     }))
 

@@ -8,7 +8,7 @@ use Rattle.cl_model.specs.Classes.{class, same_class, Above, superclass_of, supe
 use Rattle.cl_model.specs.Lineages.{Kin, classes}
 use Rattle.cl_model.proofs.Bind.{some_same}
 use Rattle.cl_model.proofs.Complete.{is_class}
-use Rattle.cl_model.proofs.Trees.{all_two}
+use Rattle.cl_model.proofs.Derived.{all_both}
 use Rattle.cl_hierarchy.specs.Frames.{accepted_of}
 use Rattle.cl_hierarchy.specs.Lineages.{IsInOrder, Lined, rows_in}
 use Rattle.cl_hierarchy.specs.Rows.{Rowed}
@@ -60,7 +60,7 @@ above_all P l place r order at before =
     let after = after_at [] (rows_in l) place r (before_push [] l.above l.own order.above order.own) at in
     let have = known_all P [] (take place (rows_in l)) tt before in
     subst (λ (cs : List Class). AllByRecursion P cs) (sym (accepted_both (superclass_of (file_of r.file)) (superinterfaces_of (file_of r.file)) r.places))
-    (all_two P (superclass_in r) (interfaces_in r) (known_have P known (superclass_in r) have after.superclass) (known_have P known (interfaces_in r) have after.interfaces))
+    (all_both P (superclass_in r) (interfaces_in r) (known_have P known (superclass_in r) have after.superclass) (known_have P known (interfaces_in r) have after.interfaces))
 
 prepared_above : (x : Shown) (c : Class) (above : List Above) (places : List ℕ) → ArePlaced (records_of x) c.loader above places → AllByRecursion (Contains (state_of x).prepared) (accepted_of above places)
     → AllByRecursion (IsPreparedAbove x c) above

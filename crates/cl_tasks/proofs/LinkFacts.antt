@@ -12,9 +12,11 @@ use Rattle.cl_model.proofs.Bind.{some_same}
 use Rattle.cl_hierarchy.specs.Imposed.{Listed, OfPreparation, Sprung, needs_of, equal_need}
 use Rattle.cl_hierarchy.specs.Lineages.{Lined, rows_in}
 use Rattle.cl_hierarchy.specs.Rows.{Rowed}
+use Rattle.cl_hierarchy.proofs.Ends.{at_length}
 use Rattle.cl_findings.proofs.Stood.{met_all, all_met}
 use Rattle.cl_registry.specs.Tables.{Shown, records_of, state_of}
 use Rattle.cl_registry.specs.Traced.{IsRowOf, IsTraced}
+use Rattle.cl_registry.proofs.Schedules.{some_at}
 use Rattle.cl_tasks.specs.Facts.{AreSo}
 use Rattle.cl_tasks.specs.Stages.{chain_facts, class_in, classes_in, goal_facts, imposed_facts, sprung_facts, traced_facts}
 use Rattle.cl_tasks.specs.Tasks.{Fact, HasLineage, IsPrepared}
@@ -65,19 +67,10 @@ met_more x e i y at met one =
     met_all (state_of x) (take (i + 1) (needs_of e.needs))
     (taken_more (Met (state_of x)) (needs_of e.needs) i (equal_need y) (all_met (state_of x) (take i (needs_of e.needs)) met) (slice_get-map equal_need e.needs i ∙ ap (λ (o : Option Equality). option_map equal_need o) at) one)
 
-pub within_some : {A : Type 0} (xs : List A) (k : ℕ) → k < length xs → (a : A) × (slice_get xs k ≡ Some a)
-within_some [] k lt = absurd (omega (arith, lt))
-within_some (x ∷ xs) zero lt = (x, refl)
-within_some (x ∷ xs) (suc k) lt = within_some xs k (omega (arith, lt))
-
 pub mapped_at : {A B : Type 0} (f : A → B) (xs : List A) (k : ℕ) (a : A) → slice_get xs k ≡ Some a → slice_get (map f xs) k ≡ Some (f a)
 mapped_at f [] k a e = absurd cc
 mapped_at f (x ∷ xs) zero a e = ap (λ y. Some (f y)) (some_same x a e)
 mapped_at f (x ∷ xs) (suc k) a e = mapped_at f xs k a e
-
-pub last_at : {A : Type 0} (xs : List A) (a : A) → slice_get (xs ++ a ∷ []) (length xs) ≡ Some a
-last_at [] a = refl
-last_at (x ∷ xs) a = last_at xs a
 
 pushed_length : (xs : List Rowed) (r : Rowed) → length (xs ++ r ∷ []) ≡ length xs + 1
 pushed_length [] r = refl
@@ -119,7 +112,7 @@ met_of_same s place at xs ys same more met =
 -- the row at a place
 pub row_there : (l : Lined) (place : ℕ) → place < length (rows_in l) → (r : Rowed) × (slice_get (rows_in l) place ≡ Some r) × (class_in l place ≡ r.class)
 row_there l place lt =
-    let r = within_some (rows_in l) place lt in
+    let r = some_at (rows_in l) place lt in
     (r.0, r.1, ap (λ (o : Option Class). unwrap_or o l.own.class) (mapped_at (λ (y : Rowed). y.class) (rows_in l) place r.0 r.1))
 
 pub class_there : (l : Lined) (place : ℕ) → place < length (rows_in l) → slice_get (classes_in l) place ≡ Some (class_in l place)
@@ -128,7 +121,7 @@ class_there l place lt =
     mapped_at (λ (y : Rowed). y.class) (rows_in l) place r.0 r.1 ∙ ap (λ (c : Class). Some c) (sym r.2)
 
 pub class_last : (l : Lined) → class_in l (length l.above) ≡ l.own.class
-class_last l = ap (λ (o : Option Class). unwrap_or o l.own.class) (mapped_at (λ (y : Rowed). y.class) (rows_in l) (length l.above) l.own (last_at l.above l.own))
+class_last l = ap (λ (o : Option Class). unwrap_or o l.own.class) (mapped_at (λ (y : Rowed). y.class) (rows_in l) (length l.above) l.own (at_length l.above l.own))
 
 -- ---- what is traced
 
@@ -138,7 +131,7 @@ traced_recorded x c l place h lt =
     subst (λ (k : Class). IsRecorded (state_of x) k) (sym r.2) (all_at (IsRowOf x) (rows_in l) place r.0 h.rows r.1).recorded
 
 pub traced_own : (x : Shown) (c : Class) (l : Lined) → IsTraced x c l → IsRowOf x l.own
-traced_own x c l h = all_at (IsRowOf x) (rows_in l) (length l.above) l.own h.rows (last_at l.above l.own)
+traced_own x c l h = all_at (IsRowOf x) (rows_in l) (length l.above) l.own h.rows (at_length l.above l.own)
 
 -- a class that a loader records is recorded by its own
 pub own_recorded : (x : Shown) (loader : ℕ) (c : Class) → IsConsistent (state_of x) → recorded (records_of x) loader c.name ≡ Some c.loader → IsRecorded (state_of x) c

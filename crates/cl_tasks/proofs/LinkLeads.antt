@@ -35,13 +35,14 @@ use Rattle.cl_findings.specs.Bases.{AreLineages}
 use Rattle.cl_findings.specs.Findings.{Answered, Based, BasisStands, IsLookedUp, IsWithin, loader_of}
 use Rattle.cl_findings.specs.References.{link_basis}
 use Rattle.cl_findings.proofs.Links.{lineage_classes}
-use Rattle.cl_findings.proofs.References.{next_at}
+use Rattle.cl_findings.proofs.References.{next_at, whole_taken}
 use Rattle.cl_registry.specs.Imposing.{IsNextOf, IsPreparedAbove, IsReady, IsReadyBy, IsStanding, MayImpose, MayMark, StandsFor}
 use Rattle.cl_registry.specs.Posting.{AnswerBacked, IsBacked}
 use Rattle.cl_registry.specs.Tables.{NamesLoaders, Shown, records_of, row_of, state_of}
 use Rattle.cl_registry.specs.Traced.{IsRowOf}
 use Rattle.cl_registry.proofs.Linked.{prepared_comes}
 use Rattle.cl_registry.proofs.Named.{recorded_is_named}
+use Rattle.cl_registry.proofs.Schedules.{some_at}
 use Rattle.cl_tasks.specs.Calls.{Calls, calls_in, equalities_in, link_calls, own_homes, past_loads}
 use Rattle.cl_tasks.specs.Facts.{AreSo}
 use Rattle.cl_tasks.specs.Follows.{AnswerFollows, CallsWithin, IsPreparedNext, IsWanted, ServedIn}
@@ -59,14 +60,14 @@ use Rattle.cl_tasks.specs.declared.turn.Turn.TheVariants as turn
 use Rattle.cl_tasks.specs.Waits as waits
 use Rattle.cl_tasks.proofs.Lead.{HasPost, leads_by}
 use Rattle.cl_tasks.proofs.LinkAbove.{supers_prepared}
-use Rattle.cl_tasks.proofs.LinkFacts.{all_at, chain_goal, chain_of, chain_prepared, chain_whole, class_last, class_there, list_chain, list_facts, list_imposed, list_of, list_traced, none, own_recorded, row_there, taken_more, traced_own, traced_recorded, whole_length, within_some}
+use Rattle.cl_tasks.proofs.LinkFacts.{all_at, chain_goal, chain_of, chain_prepared, chain_whole, class_last, class_there, list_chain, list_facts, list_imposed, list_of, list_traced, none, own_recorded, row_there, taken_more, traced_own, traced_recorded, whole_length}
 use Rattle.cl_tasks.proofs.LinkNamed.{refused_named}
 use Rattle.cl_tasks.proofs.LinkPlan.{IsThere, chain_step, chain_within, equality_next, preparation_next, there}
 use Rattle.cl_tasks.proofs.MemberFacts.{traced_as}
 
 -- ---- in general
 
-within_same : (c : Configured) (x : Shown) (l : ℕ) → x.config ≡ c → l < length c.loaders → l < length x.config.loaders
+pub within_same : (c : Configured) (x : Shown) (l : ℕ) → x.config ≡ c → l < length c.loaders → l < length x.config.loaders
 within_same c x l e lt = subst (λ (k : Configured). l < length k.loaders) (sym e) lt
 
 -- a lineage of what is told is one of the setting that the request is served in
@@ -461,7 +462,7 @@ module _ {A : Type 0} (told : Option Content) (c : Configured) (k : Chain A) (e 
 
   wanted_next : (g : Setting) (x : Shown) (i : ℕ) → i < length e.needs → ServedIn told c g (state_of x) → ListTold k e i x → IsNextOf e i (IsWanted g (state_of x) k.goal.request)
   wanted_next g x i lt served h =
-      let one = within_some e.needs i lt in
+      let one = some_at e.needs i lt in
       let there_it_is : slice_get (needs_of e.needs) i ≡ Some (equal_need one.0) = slice_get-map equal_need e.needs i ∙ ap (λ (o : Option Equality). option_map equal_need o) one.1 in
       subst (λ (o : Option Equality). IfSome o (λ n. IsWanted g (state_of x) k.goal.request (equal_need n))) (sym one.1)
       (equality_next g (state_of x) k.goal.request k.whole.value known.place.at k.place served.sound known.place.of (here g x i served h) (needs_of e.needs) i (equal_need one.0) are there_it_is (list_imposed x k e i h))
@@ -499,12 +500,6 @@ module _ {A : Type 0} (told : Option Content) (c : Configured) (k : Chain A) (e 
         above = subst (λ (r : Rowed). AllByRecursion (IsPreparedAbove x r.class) (supers (file_of r.file))) same (supers_prepared x k.whole.value k.place row.0 known.order row.1 of_row.placed before);
         imposed = subst (λ (ns : List Need). AllMet (state_of x) ns) (whole_taken (needs_of e.needs) i (all ∙ sym (length-map e.needs equal_need))) (list_imposed x k e i h);
       }
-    where
-      whole_taken : (ns : List Need) (n : ℕ) → n ≡ length ns → take n ns ≡ ns
-      whole_taken [] zero e = refl
-      whole_taken [] (suc n) e = refl
-      whole_taken (y ∷ ns) zero e = absurd (omega (arith, e))
-      whole_taken (y ∷ ns) (suc n) e = ap (λ (xs : List Need). y ∷ xs) (whole_taken ns n (omega (arith, e)))
 
   prepared_next : (g : Setting) (x : Shown) (i : ℕ) → i ≡ length e.needs → ServedIn told c g (state_of x) → ListTold k e i x → IsPreparedNext g (state_of x) k.goal.request e.origin
   prepared_next g x i all served h =

@@ -21,11 +21,12 @@ use Rattle.cl_model.proofs.Pieces.{link_need_next, prepare_next}
 use Rattle.cl_model.proofs.Planned.{one_lineage, one_plan}
 use Rattle.cl_model.proofs.Progress.{IsKept, lineage_kept}
 use Rattle.cl_model.proofs.Trees.{lineage_is_derived}
+use Rattle.cl_model.proofs.Closed.{all_left, all_right}
 use Rattle.cl_hierarchy.specs.Lineages.{IsInOrder, Lined, kin_of, rows_in}
 use Rattle.cl_hierarchy.specs.Rows.{Rowed}
 use Rattle.cl_findings.specs.Findings.{loader_of}
 use Rattle.cl_findings.proofs.Answered.{linked_all}
-use Rattle.cl_findings.proofs.Links.{all_front, lineage_classes, next_in, split_at}
+use Rattle.cl_findings.proofs.Links.{lineage_classes, next_in, split_at}
 use Rattle.cl_findings.proofs.References.{next_at}
 use Rattle.cl_tasks.specs.Calls.{equalities_in, link_calls, own_homes}
 use Rattle.cl_tasks.specs.Follows.{IsWanted}
@@ -42,12 +43,8 @@ pub record IsThere (g : Setting) (s : State) (loader : ℕ) (l at : Lined) (plac
   pub long : length front ≡ place
   pub linked : AllByRecursion (IsLinkedIn s) front
 
-behind_all : {A : Type 0} (P : A → Type 0) (xs ys : List A) → AllByRecursion P (xs ++ ys) → AllByRecursion P ys
-behind_all P [] ys h = h
-behind_all P (x ∷ xs) ys h = behind_all P xs ys h.1
-
 -- so many are taken of a list that has one more
-taken_long : {A : Type 0} (xs : List A) (place : ℕ) (a : A) → slice_get xs place ≡ Some a → length (take place xs) ≡ place
+pub taken_long : {A : Type 0} (xs : List A) (place : ℕ) (a : A) → slice_get xs place ≡ Some a → length (take place xs) ≡ place
 taken_long [] place a e = absurd cc
 taken_long (x ∷ xs) zero a e = refl
 taken_long (x ∷ xs) (suc place) a e = ap (λ (n : ℕ). suc n) (taken_long xs place a e)
@@ -63,7 +60,7 @@ there g s loader l at place sound order lin other rec here prepared =
     let parts = split_at ks place at.own.class stands in
     let own : IsRecorded s l.own.class = sound.closed.own loader l.own.class.loader l.own.class.name rec in
     let kept = subst (λ (xs : List Kin). AllByRecursion (IsKept w s) xs) parts.split (lineage_kept w s (kin_of l) sound.closed own lin) in
-    let kept_at = (behind_all (IsKept w s) parts.front (parts.at ∷ parts.behind) kept).0 in
+    let kept_at = (all_right (IsKept w s) parts.front (parts.at ∷ parts.behind) kept).0 in
     let same : parts.at ≡ kin_of at = one_lineage w at.own.class parts.at (kin_of at) (subst (λ (c : Class). HasLineage w c parts.at) parts.class_is (lineage_is_derived w parts.at kept_at.1)) (lineage_is_derived w (kin_of at) other) in
     record {
       kept = rec;
@@ -72,7 +69,7 @@ there g s loader l at place sound order lin other rec here prepared =
       behind = parts.behind;
       split = parts.split ∙ ap (λ (k : Kin). parts.front ++ k ∷ parts.behind) same;
       long = sym (length-map parts.front (λ (k : Kin). k.class)) ∙ ap (λ (cs : List Class). length cs) parts.are ∙ taken_long (classes ks) place at.own.class stands;
-      linked = linked_all g s parts.front sound (all_front (IsKept w s) parts.front (parts.at ∷ parts.behind) kept)
+      linked = linked_all g s parts.front sound (all_left (IsKept w s) parts.front (parts.at ∷ parts.behind) kept)
           (subst (λ (cs : List Class). AllByRecursion (Contains s.prepared) cs) (sym (parts.are ∙ ap (λ (cs : List Class). take place cs) list)) prepared);
     }
 

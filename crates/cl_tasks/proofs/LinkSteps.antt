@@ -18,6 +18,7 @@ use Rattle.cl_hierarchy.specs.Lineages.{IsInOrder, Lined}
 use Rattle.cl_hierarchy.specs.Rows.{Rowed}
 use Rattle.cl_registry.specs.Imposing.{IsPreparedBy}
 use Rattle.cl_registry.specs.Tables.{Shown, state_of}
+use Rattle.cl_registry.proofs.Schedules.{some_at}
 use Rattle.cl_tasks.specs.Deriving.{IsPast}
 use Rattle.cl_tasks.specs.Calls.{equalities_in, own_homes, past_loads}
 use Rattle.cl_tasks.specs.Follows.{CallsWithin, EndsAsRefused, Posts, Tells, TellsNow}
@@ -36,7 +37,7 @@ use Rattle.cl_tasks.specs.declared.stage.Next.{Next}
 use Rattle.cl_tasks.specs.declared.turn.Reply.TheVariants as reply
 use Rattle.cl_tasks.proofs.Deriving.{past_derives}
 use Rattle.cl_tasks.proofs.Lead.{HasPost, leads_more, plain_no_fault, plain_reads}
-use Rattle.cl_tasks.proofs.LinkFacts.{list_chain, list_imposed, list_of, list_traced, row_there, within_some, met_more}
+use Rattle.cl_tasks.proofs.LinkFacts.{list_chain, list_imposed, list_of, list_traced, row_there, met_more}
 use Rattle.cl_tasks.proofs.LinkLeads.{chain_some_calls, fewer_calls, post_calls, post_room}
 
 same_turns : (m : ℕ) → m ≤ m
@@ -158,7 +159,7 @@ imposed_told : {A : Type 0} (k : Chain A) (e : Listed) (i : ℕ) (x : Shown) (o 
 imposed_told k e i x None at lt place h one = absurd (past e.needs i at lt)
   where
     past : (ys : List Equality) (j : ℕ) → slice_get ys j ≡ None → j < length ys → ⊥
-    past ys j f g = let s = within_some ys j g in none_some s.0 (sym f ∙ s.1)
+    past ys j f g = let s = some_at ys j g in none_some s.0 (sym f ∙ s.1)
 imposed_told k e i x (Some y) at lt place h one =
     list_of x k e (i + 1) place.at place.prepares (list_chain x k e i h) (list_traced x k e i place.at place.prepares h) (met_more x e i y at (list_imposed x k e i h) one)
 

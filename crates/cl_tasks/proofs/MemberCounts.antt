@@ -1,20 +1,17 @@
 -- A member has no more equalities than the plan of its request.
-use Rattle.std.proofs.Common.{◌≡◌, ◌∙◌, ◌≤◌, ℕ, Bool, true, List, [], length, Option, Some, None, sym, ap, subst}
-use Rattle.std.specs.Prelude.{count_by, if◌then◌else◌, option_map}
-use Rattle.cl_classfile.specs.Files.{Reference}
+use Rattle.std.proofs.Common.{◌≡◌, ◌∙◌, ◌≤◌, ℕ, List, length, Option, Some, sym, ap, subst}
+use Rattle.std.specs.Prelude.{count_by, if◌then◌else◌}
 use Rattle.cl_model.specs.declared.need.Equality.{Equality}
 use Rattle.cl_model.specs.declared.request.Request.{Request}
-use Rattle.cl_model.specs.Classes.{IllegalAccess, class_accessible}
 use Rattle.cl_model.specs.Content.{Content}
 use Rattle.cl_model.specs.Homes.{World}
-use Rattle.cl_model.specs.Lineages.{IsLineage, Kin}
+use Rattle.cl_model.specs.Lineages.{IsLineage}
 use Rattle.cl_model.specs.Machine.{IsClosed, IsPlan, Setting}
 use Rattle.cl_model.specs.Plans as plans
 use Rattle.cl_model.specs.Plans.{ending, is_equal}
-use Rattle.cl_model.specs.References.{GoesThrough, resolve_in, through}
-use Rattle.cl_model.specs.States.{State, Need, Verdict, recorded}
+use Rattle.cl_model.specs.References.{GoesThrough}
+use Rattle.cl_model.specs.States.{State, Need, recorded}
 use Rattle.cl_model.specs.Views.{request_of}
-use Rattle.cl_model.specs.Works.{Made, Work, after_made, unless_wrong, ◌>>=◌}
 use Rattle.cl_model.proofs.Gone.{resolve_goes_on}
 use Rattle.cl_model.proofs.Through.{reference_goes}
 use Rattle.cl_model.proofs.Trees.{lineage_is_derived}
@@ -25,6 +22,7 @@ use Rattle.cl_findings.specs.Findings.{loader_of}
 use Rattle.cl_findings.specs.References.{GoesTo}
 use Rattle.cl_hierarchy.specs.Imposed.{AreOf, AreOfReference, OfReference, Sprung, needs_of}
 use Rattle.cl_hierarchy.specs.Lineages.{IsLineageOf, Lined, kin_of}
+use Rattle.cl_findings.proofs.References.{through_made}
 use Rattle.cl_registry.specs.Tables.{Shown, state_of}
 use Rattle.cl_tasks.specs.Calls.{equalities_in}
 use Rattle.cl_tasks.specs.Follows.{ServedIn}
@@ -32,12 +30,6 @@ use Rattle.cl_tasks.specs.Resolving.{ImposedTold}
 use Rattle.cl_tasks.specs.Stages.{IsMember}
 use Rattle.cl_tasks.specs.declared.stage.Member.{Member}
 use Rattle.cl_tasks.proofs.Within.{equals_counted, gone_on_counts}
-
--- what is resolved in an accessible class follows its load
-through_made : (d c : Kin) (cited : Reference) (m : Made Verdict) → class_accessible c.file.flags c.class d.class ≡ true → resolve_in d cited c ≡ Some m → through d cited c ≡ Some m
-through_made d c cited m reachable is =
-    ap (λ (b : Bool). unless_wrong (if b then None else Some (IllegalAccess c.class)) >>= λ a. resolve_in d cited c) reachable
-    ∙ ap (λ (o : Work Verdict). option_map (after_made [] []) o) is
 
 -- the equalities of a member are what its request still needs past the load of the class that its entry names
 member_counts : (content : Content) (r : Request) (d k : Lined) (i : ℕ) (es : List Equality) (s : State) (p : plans.Plan) → GoesTo r d k i → IsLineageOf (Some content) d → IsLineageOf (Some content) k → AreOfReference (kin_of d) (kin_of k) i (needs_of es)

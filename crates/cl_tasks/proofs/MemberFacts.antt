@@ -1,7 +1,6 @@
 -- What a resolution that asks for a member was told, and what follows of it.
-use Rattle.std.proofs.Common.{◌≡◌, ◌≢◌, ◌∙◌, ◌<◌, ℕ, zero, suc, Bool, true, false, List, [], ◌∷◌, length, Some, refl, sym, ap, subst, arith}
-use Rattle.std.specs.Prelude.{Err, find, if◌then◌else◌, take}
-use Rattle.std.specs.List.{AllByRecursion}
+use Rattle.std.proofs.Common.{◌≡◌, ◌≢◌, ◌<◌, ℕ, List, [], ◌∷◌, length, Some, refl, sym, subst}
+use Rattle.std.specs.Prelude.{Err, if◌then◌else◌, take}
 use Rattle.std.proofs.lemmas.List.{length-map}
 use Rattle.cl_classfile.specs.Files.{Reference, ToClass, ToField, ToMethod, ToInterfaceMethod, file_of, reference}
 use Rattle.cl_model.specs.declared.class.Class.{Class}
@@ -10,8 +9,8 @@ use Rattle.cl_model.specs.declared.verdict.Verdict.TheVariants as verdicts
 use Rattle.cl_model.specs.States.{State, Need, AllMet, IsField, IsMethod}
 use Rattle.cl_model.specs.Texts.{VerdictNames}
 use Rattle.cl_model.specs.Views.{verdict_of}
-use Rattle.cl_model.proofs.Bind.{some_same}
 use Rattle.cl_config.specs.Views.{Configured}
+use Rattle.cl_delegation.proofs.Ways.{find_in}
 use Rattle.cl_hierarchy.specs.Imposed.{Listed, OfReference, equal_need, needs_of}
 use Rattle.cl_hierarchy.specs.Lineages.{IsRowIn, Lined, rows_in}
 use Rattle.cl_hierarchy.specs.Rows.{Rowed}
@@ -21,6 +20,7 @@ use Rattle.cl_members.specs.Asking.{IsOf as IsFoundOf}
 use Rattle.cl_members.specs.declared.fault.LookupFault.{LookupFault}
 use Rattle.cl_members.specs.declared.fault.LookupFault.TheVariants as faults
 use Rattle.cl_findings.specs.References.{GoesTo, IsOfFound, fault_verdict, reference_needs}
+use Rattle.cl_findings.proofs.References.{whole_taken}
 use Rattle.cl_registry.specs.Tables.{Shown, NamesLoaders, state_of}
 use Rattle.cl_registry.specs.Traced.{IsRowOf, IsTraced}
 use Rattle.cl_registry.proofs.Named.{recorded_is_named}
@@ -49,17 +49,9 @@ same_told x e k same h = rw (same.request, same.class) h
 
 -- ---- rows of a traced lineage
 
-found_is : {A : Type 0} (P : A → Type 0) (test : A → Bool) (xs : List A) (a : A) → AllByRecursion P xs → find test xs ≡ Some a → P a
-found_is P test [] a all e = absurd cc
-found_is P test (x ∷ xs) a all e = by_test (test x) refl (λ k. found_is P test xs a all.1 k)
-  where
-    by_test : (b : Bool) → test x ≡ b → (find test xs ≡ Some a → P a) → P a
-    by_test true t more = subst P (some_same x a (sym (ap (λ (b : Bool). if b then Some x else find test xs) t) ∙ e)) all.0
-    by_test false t more = more (sym (ap (λ (b : Bool). if b then Some x else find test xs) t) ∙ e)
-
 pub row_within : (x : Shown) (c : Class) (l : Lined) (row : Rowed) → NamesLoaders x → IsTraced x c l → IsRowIn (rows_in l) row → row.class.loader < length x.config.loaders
 row_within x c l row named traced inside =
-    let of : IsRowOf x row = found_is (IsRowOf x) _ (rows_in l) row traced.rows inside in
+    let of : IsRowOf x row = find_in (IsRowOf x) _ (rows_in l) row traced.rows inside in
     recorded_is_named x row.class.loader row.class.loader row.class.name named of.recorded
 
 pub own_within : (x : Shown) (c : Class) (l : Lined) → NamesLoaders x → IsTraced x c l → l.own.class.loader < length x.config.loaders
@@ -126,13 +118,7 @@ member_entry c x m k is h = let of = is.own in (rw (sym of.class) h.0, tt)
 
 -- all of them
 pub all_taken : (e : Listed) → take (length e.needs) (needs_of e.needs) ≡ needs_of e.needs
-all_taken e = whole (needs_of e.needs) (length e.needs) (sym (length-map e.needs equal_need))
-  where
-    whole : (ns : List Need) (n : ℕ) → n ≡ length ns → take n ns ≡ ns
-    whole [] zero e = refl
-    whole [] (suc n) e = refl
-    whole (y ∷ ns) zero e = absurd (omega (arith, e))
-    whole (y ∷ ns) (suc n) e = ap (λ (xs : List Need). y ∷ xs) (whole ns n (omega (arith, e)))
+all_taken e = whole_taken (needs_of e.needs) (length e.needs) (sym (length-map e.needs equal_need))
 
 -- ---- verdicts
 

@@ -34,6 +34,7 @@ use Rattle.cl_findings.specs.References.{AreAsked, IsOfFound, asked_basis, class
 use Rattle.cl_findings.proofs.References.{asked_rests}
 use Rattle.cl_registry.specs.Imposing.{IsNextOf, IsReached, IsStanding, MayImpose, StandsFor}
 use Rattle.cl_registry.specs.Tables.{NamesLoaders, Shown, state_of}
+use Rattle.cl_registry.proofs.Schedules.{some_at}
 use Rattle.cl_tasks.specs.Follows.{IsWanted, ServedIn}
 use Rattle.cl_tasks.specs.Measures.{imposing_left, most, tracing_named_left}
 use Rattle.cl_tasks.specs.Resolving.{EntryTold, ImposedTold, IsInaccessible, IsSame, OwnTold, RefusedTold, TracedTold}
@@ -49,11 +50,11 @@ use Rattle.cl_tasks.specs.declared.turn.Turn.TheVariants as turn
 use Rattle.cl_tasks.specs.Waits as waits
 use Rattle.cl_tasks.proofs.Entries.{HasSettle, leads_settles}
 use Rattle.cl_tasks.proofs.Lead.{Holding}
-use Rattle.cl_tasks.proofs.LinkFacts.{within_some}
 use Rattle.cl_tasks.proofs.LinkNamed.{refused_named}
 use Rattle.cl_tasks.proofs.MemberCounts.{member_few}
 use Rattle.cl_tasks.proofs.MemberFacts.{all_taken, fault_of, found_owner, member_entry, member_imposed, member_needs, member_through, member_told, own_within, row_within, same_entry, same_told, traced_as, traced_entry, traced_needs}
 use Rattle.cl_tasks.proofs.Said.{Settling, Stood, concludes_at, found_is}
+use Rattle.cl_tasks.proofs.LinkLeads.{within_same}
 
 -- an entry is settled to what a finding says, where that stands
 pub leads_settle : {A : Type 0} (told : Option Content) (c : Configured) (e kept : entries.Entry A) (f : Answered) (v : verdict.Verdict) (b : Based) (room : Room) (holds : Shown → Type 0) → IsEntry c e → IsSame e kept
@@ -63,9 +64,6 @@ leads_settle {A} told c e kept f v b room holds entry same asked said rests stoo
     let may : Settling e.request e.d.value.class e.index v holds = record { resolves = entry.of; kept = λ x h. (entry_told x h).0; is_entry = is_entry; is_class_member = is_member } in
     subst (λ (a : Answered). LeadsBy {A = A} told c e.q e.request room holds (record { stage = stages.Resolve (resolutions.Settling kept); turn = turn.Settle a })) (sym (found_is f e.request v b asked said rests))
     (leads_settles A told c e.q e.request e.d.value.class e.index v b room holds kept stood may (same_entry c e kept entry same) same.number same.request (λ x h. same_told x e kept same (entry_told x h)) more two)
-
-within_same : (c : Configured) (x : Shown) (l : ℕ) → x.config ≡ c → l < length c.loaders → l < length x.config.loaders
-within_same c x l e lt = subst (λ (k : Configured). l < length k.loaders) (sym e) lt
 
 -- ---- an end at the class that the entry names
 
@@ -165,7 +163,7 @@ module _ {A : Type 0} (told : Option Content) (c : Configured) (m : Member A) (m
 
   pub wanted_next : IsKnown told m → (g : Setting) (x : Shown) (i : ℕ) → i < length m.equalities.value.needs → ServedIn told c g (state_of x) → ImposedTold m i x → IsNextOf m.equalities.value i (IsWanted g (state_of x) m.entry.request)
   wanted_next known g x i lt served h =
-      let one = within_some m.equalities.value.needs i lt in
+      let one = some_at m.equalities.value.needs i lt in
       let there : slice_get (needs_of m.equalities.value.needs) i ≡ Some (equal_need one.0) = slice_get-map equal_need m.equalities.value.needs i ∙ ap (λ (o : Option Equality). option_map equal_need o) one.1 in
       subst (λ (o : Option Equality). IfSome o (λ n. IsWanted g (state_of x) m.entry.request (equal_need n))) (sym one.1) (wanted known g x i one.0 there served h)
 

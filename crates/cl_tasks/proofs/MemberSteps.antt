@@ -19,6 +19,7 @@ use Rattle.cl_hierarchy.specs.Rows.{Rowed}
 use Rattle.cl_findings.specs.Findings.{loader_of}
 use Rattle.cl_registry.specs.References.{IsSettledIn}
 use Rattle.cl_registry.specs.Tables.{Shown, records_of, state_of}
+use Rattle.cl_registry.proofs.Schedules.{some_at}
 use Rattle.cl_tasks.specs.Calls.{past_loads}
 use Rattle.cl_tasks.specs.Facts.{AreSo}
 use Rattle.cl_tasks.specs.Deriving.{IsPast}
@@ -41,7 +42,7 @@ use Rattle.cl_tasks.proofs.Deriving.{past_derives}
 use Rattle.cl_tasks.proofs.Entries.{leads_shared}
 use Rattle.cl_tasks.proofs.Lacking.{shared_memory}
 use Rattle.cl_tasks.proofs.Lead.{leads_more, plain_no_fault, plain_reads}
-use Rattle.cl_tasks.proofs.LinkFacts.{within_some, met_more}
+use Rattle.cl_tasks.proofs.LinkFacts.{met_more}
 use Rattle.cl_tasks.proofs.MemberFacts.{member_imposed, member_needs, member_of, member_own, member_through, traced_as}
 
 same_room : (m : ℕ) → m ≤ m
@@ -87,7 +88,7 @@ named_steps {A = A} told c e own k named n is l plain past =
 
 imposed_told : {A : Type 0} (m : Member A) (i : ℕ) (x : Shown) → i < length m.equalities.value.needs → ImposedTold m i x → IfSome (slice_get m.equalities.value.needs i) (λ n. Met (state_of x) (equal_need n)) → ImposedTold m (i + 1) x
 imposed_told m i x lt h one =
-    let y = within_some m.equalities.value.needs i lt in
+    let y = some_at m.equalities.value.needs i lt in
     let met : Met (state_of x) (equal_need y.0) = subst (λ (o : Option Equality). IfSome o (λ n. Met (state_of x) (equal_need n))) y.1 one in
     member_of x m (i + 1) (member_needs x m i h) (member_own x m i h) (member_through x m i h) (met_more x m.equalities.value i y.0 y.1 (member_imposed x m i h) met)
 

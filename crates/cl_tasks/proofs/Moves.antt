@@ -334,6 +334,11 @@ root_holds told j x job path whole = λ g y p served is holds.
     let falls = frame_opens told j (frame_of x) job path whole.named g y p served is holds frame in
     moves j j g.world p (state_of y) 0 (away_calls (at_loader j.path) x.draft.class.loader) (1 + away_calls (at_loader j.path) x.draft.class.loader) (ask_of (at_name j.path) x.draft.class.loader ∷ []) (away_hand j.path x.draft.class.loader) [] (sought_ask j.path ∷ ask_for x.draft.class ∷ []) refl refl (omega arith)
 
+some_waits : (others : List Above) (n : ℕ) → IsSome (slice_get others n) → n + 1 ≤ length others
+some_waits [] n h = absurd cc
+some_waits (a ∷ others) zero h = omega arith
+some_waits (a ∷ others) (suc n) h = let k = some_waits others n h in omega arith
+
 -- a class waits for its first supertype
 pub descends_holds : {A : Type 0} (told : Option Content) (j : Job A) (d : Drafted) (new : Pathed) → IsJob told j.path.config j → IsPath told j.path → IsPath told new → new ≡ with_frame j.path (fresh d) → IsSome (wanted (frame_of (fresh d)))
     → Holds told j (HoldsOn j) 0 (job_calls [] [] 1 (record j { path = new })) (calls_at phases.Homing j d.class.loader)
@@ -366,11 +371,6 @@ descends_holds {A} told j d new job path grown is_new waits = λ g y p served is
     subst (λ (asks : List Ask). open_calls w p (state_of y) [] asks ≤ open_calls w p (state_of y) [] (sought_ask j.path ∷ ask_for d.class ∷ in_hand j.path.loader xs)) (sym hand) order in
     moves {A = A} j (record j { path = new }) w p (state_of y) 0 (away_calls (at_loader j.path) d.class.loader) 1 (ask_of (at_name j.path) d.class.loader ∷ []) (away_hand j.path d.class.loader) [] [] refl refl (omega arith)
   where
-    some_waits : (others : List Above) (n : ℕ) → IsSome (slice_get others n) → n + 1 ≤ length others
-    some_waits [] n h = absurd cc
-    some_waits (a ∷ others) zero h = omega arith
-    some_waits (a ∷ others) (suc n) h = let k = some_waits others n h in omega arith
-
     -- frames lead to one loader and name
     ends_named : (w : World) (path : List Class) (loader : ℕ) (name : Name) (xs : List Frame) (l : ℕ) (n : Name) (m : ℕ) (o : Name) → IsFrames w path loader name xs l n → IsFrames w path loader name xs m o → n ≡ o
     ends_named w path loader name [] l n m o h k = sym h.1 ∙ k.1
@@ -399,15 +399,10 @@ accepts_left {A} told j new place holds path step = λ g y p served is h.
     let to : hand_calls new.loader (frames_of new) ≡ hand_calls j.path.loader xs + frame_calls (asking j.path.loader xs) (accepting f t) =
     ap (λ (l : ℕ). hand_calls l (frames_of new)) loader ∙ ap (hand_calls j.path.loader) frames_new ∙ calls_last j.path.loader xs e ∙ ap (λ (z : Frame). hand_calls j.path.loader xs + frame_calls (asking j.path.loader xs) z) grown in
     let waits : IsSome (wanted (accepting f t)) = subst (λ (z : Frame). IsSome (wanted z)) grown step.waits in
-    let more = within (supers f.file) (length (f.accepted ++ t ∷ [])) waits in
+    let more = some_waits (supers f.file) (length (f.accepted ++ t ∷ [])) waits in
     let one = length-append f.accepted (t ∷ []) in
     let same : open_calls w p (state_of y) [] (in_hand new.loader (frames_of new)) ≡ open_calls w p (state_of y) [] (in_hand j.path.loader (frames_of j.path)) = ap (open_calls w p (state_of y) []) hand in
     moves {A = A} j (record j { path = new }) w p (state_of y) 0 0 1 [] [] [] [] refl refl (omega arith)
-  where
-    within : (others : List Above) (n : ℕ) → IsSome (slice_get others n) → n + 1 ≤ length others
-    within [] n h = absurd cc
-    within (a ∷ others) zero h = omega arith
-    within (a ∷ others) (suc n) h = let k = within others n h in omega arith
 
 -- the last class has all its supertypes, and is to be recorded
 pub completes_left : {A : Type 0} (told : Option Content) (j : Job A) (new : Pathed) (place : ℕ) (x : Framed) (holds : Shown → Type 0) → IsPath told j.path → Completes j.path new place x → IsWhole told new x

@@ -1,5 +1,5 @@
 -- What stops a derivation, and a record that is refused, as the end of a load.
-use Rattle.std.proofs.Common.{◌≡◌, ◌∙◌, ◌<◌, ℕ, List, [], ◌++◌, length, Option, Some, refl, sym, ap, subst}
+use Rattle.std.proofs.Common.{◌≡◌, ◌∙◌, ◌<◌, ℕ, List, ◌++◌, length, Option, Some, refl, sym, ap, subst}
 use Rattle.cl_model.specs.declared.class.Class.{Class}
 use Rattle.cl_model.specs.declared.need.Need as rust
 use Rattle.cl_model.specs.declared.need.Need.TheVariants as needs
@@ -47,10 +47,6 @@ path_met x j more h met =
 own_for : {A : Type 0} (r : Request) (t : Target A) (p : Pathed) → IsOwnTarget t → IsFor r t p → IsFor {A = A} (load_of r) targets.Own p
 own_for r targets.Own p own h = record { loader = h.loader; name = h.name }
 own_for r (targets.Reference d) p own h = absurd own
-
-own_needs : {A : Type 0} (r : Request) (t : Target A) → IsOwnTarget t → target_needs r t ≡ []
-own_needs r targets.Own own = refl
-own_needs r (targets.Reference d) own = absurd own
 
 -- ---- obstacles
 

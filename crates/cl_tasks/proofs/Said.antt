@@ -37,6 +37,7 @@ use Rattle.cl_registry.specs.Posting.{IsBacked}
 use Rattle.cl_registry.specs.References.{cited_by}
 use Rattle.cl_registry.specs.Settling as settling
 use Rattle.cl_registry.specs.Tables.{Shown, NamesLoaders, records_of, state_of}
+use Rattle.cl_registry.proofs.Binding.{array_is, bad_is}
 use Rattle.cl_tasks.specs.Follows.{IsSettledNext, ServedIn}
 use Rattle.cl_tasks.specs.Ends.{IsNoResolution}
 use Rattle.cl_tasks.specs.Stages.{IsFailure, load_of}
@@ -128,31 +129,6 @@ may_settle told c r d i v b holds stood may x config named h = (
   },
 )
 
--- what is no bad entry reads as none
-entry_reads : (v : verdict.Verdict) → v ≢ verdicts.BadEntry → verdict_of v ≢ states.BadEntry
-entry_reads (verdicts.Class c) h e = absurd cc
-entry_reads (verdicts.Array n c) h e = absurd cc
-entry_reads (verdicts.PrimitiveArray n p) h e = absurd cc
-entry_reads (verdicts.Field c key) h e = absurd cc
-entry_reads (verdicts.Method c key) h e = absurd cc
-entry_reads (verdicts.Linked c) h e = absurd cc
-entry_reads verdicts.BadEntry h e = h refl
-entry_reads verdicts.ArrayMember h e = absurd cc
-entry_reads (verdicts.Error kind c) h e = absurd cc
-entry_reads (verdicts.Linkage n) h e = absurd cc
-
-member_reads : (v : verdict.Verdict) → v ≢ verdicts.ArrayMember → verdict_of v ≢ states.ArrayMember
-member_reads (verdicts.Class c) h e = absurd cc
-member_reads (verdicts.Array n c) h e = absurd cc
-member_reads (verdicts.PrimitiveArray n p) h e = absurd cc
-member_reads (verdicts.Field c key) h e = absurd cc
-member_reads (verdicts.Method c key) h e = absurd cc
-member_reads (verdicts.Linked c) h e = absurd cc
-member_reads verdicts.BadEntry h e = absurd cc
-member_reads verdicts.ArrayMember h e = h refl
-member_reads (verdicts.Error kind c) h e = absurd cc
-member_reads (verdicts.Linkage n) h e = absurd cc
-
 -- past the load of its class the answer of a resolution settles its reference next
 answer_settles : (g : Setting) (s : State) (l : ℕ) (d : Class) (i : ℕ) (v : verdict.Verdict) → IsSound g s → recorded s.records l d.name ≡ Some d.loader → AnswersPlan g s (plans.Resolve l d.name i) (verdict_of v) → v ≢ verdicts.BadEntry → v ≢ verdicts.ArrayMember
     → settled_to s.settled d i ≡ None → IsNextStep g s (plans.Resolve l d.name i) (Settle d i (verdict_of v))
@@ -163,8 +139,8 @@ answer_settles g s l d i v sound kept answer is_entry is_member unsettled =
       recorded = sound.closed.own l d.loader d.name kept;
       unsettled = unsettled;
       answered = plan_is_reference g s l d.name i p.0 d (verdict_of v) p.1 at.0 at.1 answer;
-      is_entry = entry_reads v is_entry;
-      is_class_member = member_reads v is_member;
+      is_entry = bad_is v is_entry;
+      is_class_member = array_is v is_member;
     })
 
 pub settled_next : (told : Option Content) (c : Configured) (r : Request) (d : Class) (i : ℕ) (v : verdict.Verdict) (b : Based) (holds : Shown → Type 0) → Stood told c r v b holds → Settling r d i v holds → (g : Setting) (x : Shown) → ServedIn told c g (state_of x) → holds x

@@ -18,13 +18,14 @@ use Rattle.cl_model.specs.References.{GoesOn}
 use Rattle.cl_model.specs.States.{State, Need, Entry, Equal, Verdict}
 use Rattle.cl_model.proofs.Ancestors.{lineage_once}
 use Rattle.cl_model.proofs.Asks.{AskedFor, reached_asked, distinct_has, lineage_within}
-use Rattle.cl_model.proofs.Bind.{step_is}
 use Rattle.cl_model.proofs.Ending.{file_at_home}
 use Rattle.cl_model.proofs.Marks.{In, in_left, all_in}
-use Rattle.cl_model.proofs.Planned.{one_lineage, one_plan}
+use Rattle.cl_model.proofs.Planned.{one_plan}
 use Rattle.cl_model.proofs.Progress.{IsEquality, constraints_are, flat_are, once_kept}
 use Rattle.cl_model.proofs.Reached.{reached}
-use Rattle.cl_model.proofs.Trees.{all_two, lineage_of}
+use Rattle.cl_model.proofs.Trees.{lineage_of}
+use Rattle.cl_model.proofs.Derived.{all_both}
+use Rattle.cl_model.proofs.Costs.{link_more}
 use Rattle.cl_tasks.specs.Calls.{nodes_of, is_own_home, ask_for, own_homes, equalities_in, all_calls, calls_in, link_calls}
 use Rattle.cl_tasks.proofs.Opened.{open_most, own_within}
 
@@ -105,15 +106,15 @@ forest_homely : (w : World) (c : Class) (fs : Forest) (others : List Above) → 
 forest_homely w c Bare others h = tt
 forest_homely w c (Tree t f sup ints rest) [] h = absurd h
 forest_homely w c (Tree t f sup ints rest) (a ∷ more) h =
-    all_two (Homely w) (postorder sup ++ postorder ints) (record { class = t; file = f; superclass = sup; interfaces = ints } ∷ postorder rest)
-    (all_two (Homely w) (postorder sup) (postorder ints) (forest_homely w t sup (superclass_of f) h.1) (forest_homely w t ints (superinterfaces_of f) h.2))
+    all_both (Homely w) (postorder sup ++ postorder ints) (record { class = t; file = f; superclass = sup; interfaces = ints } ∷ postorder rest)
+    (all_both (Homely w) (postorder sup) (postorder ints) (forest_homely w t sup (superclass_of f) h.1) (forest_homely w t ints (superinterfaces_of f) h.2))
     (file_at_home w t f h.0.has_file, forest_homely w c rest more h.3)
 
 lineage_homely : (w : World) (k : Kin) → IsLineage w k → AllByRecursion (Homely w) (lineage k)
 lineage_homely w k h =
     once_kept (Homely w) [] (postorder (alone k))
-    (all_two (Homely w) (postorder k.superclass ++ postorder k.interfaces) (k ∷ [])
-    (all_two (Homely w) (postorder k.superclass) (postorder k.interfaces) (forest_homely w k.class k.superclass (superclass_of k.file) h.above) (forest_homely w k.class k.interfaces (superinterfaces_of k.file) h.over))
+    (all_both (Homely w) (postorder k.superclass ++ postorder k.interfaces) (k ∷ [])
+    (all_both (Homely w) (postorder k.superclass) (postorder k.interfaces) (forest_homely w k.class k.superclass (superclass_of k.file) h.above) (forest_homely w k.class k.interfaces (superinterfaces_of k.file) h.over))
     (file_at_home w k.class k.file h.has_file, tt))
 
 own_home_at : (loader : ℕ) (o : Option ℕ) → o ≡ Some loader → (elim o as (λ x. Bool) [
@@ -151,12 +152,6 @@ link_counts (k ∷ ks) =
     let rest = link_counts ks in
     let both : length (flat_map constraints_of (k ∷ ks)) ≡ length (constraints_of k) + length (flat_map constraints_of ks) = length-append (constraints_of k) (flat_map constraints_of ks) in
     omega arith
-
--- past the load of a link its plan has the constraints of the lineage
-link_more : (w : World) (loader : ℕ) (name : Name) (p : Plan) (c : Class) (k : Kin) → IsPlan w (Link loader name) p → p.reached ≡ Some c → HasLineage w c k → p.more ≡ flat_map constraints_of (lineage k) ++ []
-link_more w loader name p c k is r lin =
-    let x = reached w is.height (Link loader name) p c is.planned r in
-    ap (λ (y : Plan). y.more) x.is ∙ (step_is _ x.rest x.goes_on).0 ∙ ap (λ (y : Kin). flat_map constraints_of (lineage y) ++ []) (one_lineage w c x.kin k x.lineage lin)
 
 -- the calls that prepare a lineage are within those that a link has left past its load
 pub links_within : (w : World) (loader : ℕ) (name : Name) (p : Plan) (d : Class) (k : Kin) → IsPlan w (Link loader name) p → p.reached ≡ Some d → HasLineage w d k → link_calls (lineage k) ≤ 2 * own_homes w p + equalities_in p

@@ -1,33 +1,15 @@
-use Rattle.std.proofs.Common.{◌≡◌, ◌≢◌, ℕ, ap, subst, zero, suc, ◌++◌, Some, None, inl, inr, refl, codes, [], ◌∷◌, arith, slice_get}
-use Rattle.std.specs.Option.{IsSome}
+use Rattle.std.proofs.Common.{◌≡◌, subst, ◌++◌, inl, inr, refl, codes, [], ◌∷◌, arith}
 use Rattle.std.specs.Prelude.{Contains}
 use Rattle.cl_model.specs.declared.class.Class.{Class}
 use Rattle.cl_model.specs.Plans.{plan}
-use Rattle.cl_model.specs.States.{State, Joined, IsLinked, BadEntry, Said, start, answer_to, settled_to}
-use Rattle.cl_model.specs.Machine.{Scheduled, Run, May, Define, Initiate, Constrain, Settle, Prepare, Post, NextRound, after, state_after}
+use Rattle.cl_model.specs.States.{State, IsLinked, BadEntry, Said, start}
+use Rattle.cl_model.specs.Machine.{Run, May, Define, Initiate, Constrain, Settle, Prepare, Post, NextRound, after, state_after}
 use Rattle.cl_model.specs.Examples.{boot, app, plug, object, in_boot, in_app, in_plug, root, resolve_of, link_of}
 use Rattle.cl_model.specs.ExampleReferences.{svc}
 use Rattle.cl_model.specs.ExampleRuns.{overridden_service, user, serving, loading, resolving, of_svc}
 use Rattle.cl_model.proofs.Refusals.{the}
-use Rattle.cl_model.proofs.Served.{free_entry, free_equal, good_by, kin_of_object, kin_of_svc, kin_of_use, lineage_of_object, lineage_of_svc, lineage_of_use, made_of_svc, resolution_of_svc}
+use Rattle.cl_model.proofs.Served.{first_round, free_entry, free_equal, good_by, joined, kin_of_object, kin_of_svc, kin_of_use, lineage_of_object, lineage_of_svc, lineage_of_use, made_of_svc, resolution_of_svc, settled, svc_unprepared, use_unprepared}
 use Rattle.cl_model.proofs.examples.resolve_and_link.Goals as goal
-
--- the equality that the reference imposes joins its two loaders
-joined : Joined (state_after start (loading ++ resolving)).equalities (codes "p/T") app plug
-joined = record { path = plug ∷ []; along = (record { equality = record { name = codes "p/T"; one = app; other = plug }; imposed = (0, omega arith, refl); named = refl; ends = inl (refl, refl) }, refl) }
-
-round_is : {a b : Scheduled} → Some a ≡ Some b → a.round ≡ b.round
-round_is e = cc
-
-no_entry : {a : Scheduled} → None ≡ Some a → ⊥
-no_entry e = cc
-
--- all requests of the first round are answered
-first_round : (q : ℕ) (e : Scheduled) → slice_get serving.script q ≡ Some e → e.round ≡ 0 → IsSome (answer_to (state_after start (loading ++ resolving)).answers q)
-first_round zero e h r = refl
-first_round (suc zero) e h r = absurd (let one : 1 ≡ e.round = round_is h in omega arith)
-first_round (suc (suc zero)) e h r = absurd (let one : 1 ≡ e.round = round_is h in omega arith)
-first_round (suc (suc (suc q))) e h r = absurd (no_entry h)
 
 abbrev object_prepared : State
 object_prepared = state_after start (loading ++ resolving ++ NextRound ∷ Prepare (in_boot "java/lang/Object") ∷ [])
@@ -91,13 +73,6 @@ settle = record {
   is_class_member = λ e. absurd cc;
 }
 
-same_class : {a b : Class} → Some a ≡ Some b → a ≡ b
-same_class e = cc
-
--- the only reference that is settled
-settled : (d : Class) → Some (in_plug "p/Use") ≡ Some d → settled_to (record { class = in_plug "p/Use"; index = 1; verdict = of_svc } ∷ []) d 1 ≡ Some of_svc
-settled d e = subst (λ (c : Class). settled_to (record { class = in_plug "p/Use"; index = 1; verdict = of_svc } ∷ []) c 1 ≡ Some of_svc) (same_class e) refl
-
 answer : May serving (state_after start (loading ++ Constrain (codes "p/T") app plug ∷ Settle (in_plug "p/Use") 1 of_svc ∷ [])) (Post 0 (Said of_svc))
 answer = record {
   scheduled = _;
@@ -111,18 +86,6 @@ answer = record {
     rests = λ d r own a b. settled d r;
   };
 }
-
-other_loader : {a b : Class} → a.loader ≢ b.loader → a ≡ b → ⊥
-other_loader differ e = differ (ap (λ (c : Class). c.loader) e)
-
-svc_unprepared : Contains object_prepared.prepared (in_app "p/Svc") → ⊥
-svc_unprepared (zero, l, e) = other_loader (λ d. absurd cc) e
-svc_unprepared (suc x, l, e) = absurd (omega arith)
-
-use_unprepared : Contains svc_prepared.prepared (in_plug "p/Use") → ⊥
-use_unprepared (zero, l, e) = other_loader (λ d. absurd cc) e
-use_unprepared (suc zero, l, e) = other_loader (λ d. absurd cc) e
-use_unprepared (suc (suc x), l, e) = absurd (omega arith)
 
 prepare_svc : May serving object_prepared (Prepare (in_app "p/Svc"))
 prepare_svc = record { recorded = refl; unprepared = svc_unprepared; kin = kin_of_svc; lineage = lineage_of_svc; above = (record { place = boot; found = refl; holds = (0, omega arith, refl) }, tt); imposed = tt }

@@ -1,4 +1,4 @@
-use Rattle.std.proofs.Common.{◌≡◌, ◌<◌, ℕ, zero, suc, List, Some, None, [], ◌∷◌, ◌++◌, inl, inr, refl, sym, subst, codes, arith}
+use Rattle.std.proofs.Common.{◌≡◌, ◌<◌, ℕ, List, Some, None, [], ◌∷◌, ◌++◌, inl, inr, refl, sym, subst, codes, arith}
 use Rattle.std.specs.Prelude.{Contains}
 use Rattle.std.specs.List.{AllByRecursion}
 use Rattle.cl_classfile.specs.Files.{File}
@@ -15,7 +15,7 @@ use Rattle.cl_model.specs.ExampleReferences.{svc}
 use Rattle.cl_model.specs.ExampleRuns.{overridden_service, serving, loading, of_svc, unsettled, unprepared}
 use Rattle.cl_model.proofs.Planned.{one_lineage, one_resolution}
 use Rattle.cl_model.proofs.Refusals.{the, missing}
-use Rattle.cl_model.proofs.Served.{joined_alone, other_loader, same_file, past, said_of, rests_of, kin_of_use, lineage_of_use, made_of_svc, resolution_of_svc}
+use Rattle.cl_model.proofs.Served.{joined_alone, same_file, past, said_of, rests_of, kin_of_use, lineage_of_use, made_of_svc, resolution_of_svc, use_unprepared}
 use Rattle.cl_model.proofs.examples.steps_too_early.Goals as goal
 
 pub returns-clause-define : goal.returns-clause-define
@@ -79,11 +79,6 @@ returns-clause-prepare_below c h =
 
 pub returns-clause-prepare_unconstrained : goal.returns-clause-prepare_unconstrained
 returns-clause-prepare_unconstrained c h = absurd (let same : app ≡ plug = joined_alone [] (codes "p/T") app plug refl (subst (λ (k : Kin). AllMet (state_after start (loading ++ Prepare (in_boot "java/lang/Object") ∷ Prepare (in_app "p/Svc") ∷ [])) (constraints_of k)) (one_lineage overridden_service (in_plug "p/Use") h.kin kin_of_use h.lineage lineage_of_use) h.imposed).0 in cc)
-
-use_unprepared : Contains unprepared.prepared (in_plug "p/Use") → ⊥
-use_unprepared (zero, l, e) = other_loader (λ d. absurd cc) e
-use_unprepared (suc zero, l, e) = other_loader (λ d. absurd cc) e
-use_unprepared (suc (suc x), l, e) = absurd (omega arith)
 
 pub returns-clause-link : goal.returns-clause-link
 returns-clause-link c h =

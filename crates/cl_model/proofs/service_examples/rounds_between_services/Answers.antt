@@ -1,4 +1,4 @@
-use Rattle.std.proofs.Common.{◌≡◌, ◌≢◌, ℕ, zero, suc, ◌<◌, ◌+◌, List, Some, None, true, false, Bool, [], ◌∷◌, ◌++◌, inl, inr, refl, sym, ap, subst, ◌∙◌, arith, slice_get}
+use Rattle.std.proofs.Common.{◌≡◌, ℕ, zero, suc, ◌<◌, ◌+◌, List, Some, None, true, false, Bool, [], ◌∷◌, ◌++◌, inl, inr, refl, sym, ap, subst, ◌∙◌, arith, slice_get}
 use Rattle.std.specs.Option.{IsSome}
 use Rattle.cl_model.specs.States.{State, Answer, OutOfMemory, start, answer_to}
 use Rattle.cl_model.specs.Plans.{Request}
@@ -27,11 +27,6 @@ RoundFirst g q s rs es = MayGoOn g s × AllServed g q (after s NextRound) rs es
 -- a post that comes first is that of the first request, where no round may begin
 abbrev PostFirst : Setting → ℕ → ℕ → Answer → State → List Scheduled → List Step → Type 0
 PostFirst g q p a s rs es = (MayGoOn g s → ⊥) × (p ≡ q) × AllServed g (suc q) (after s (Post p a)) rs es
-
--- no round begins where the first step is another
-none_begun : (g : Setting) (s : State) (rounds more es : List Step) (e : Step) → e ≢ NextRound → e ∷ es ≡ rounds ++ more → PassesRounds g s rounds → rounds ≡ []
-none_begun g s [] more es e other split passes = refl
-none_begun g s (r ∷ rs) more es e other split passes = absurd (other (head split ∙ passes.0))
 
 round_first : (g : Setting) (q : ℕ) (s : State) (rs : List Scheduled) (es : List Step) → AllServed g q s rs (NextRound ∷ es) → RoundFirst g q s rs es
 round_first g q s [] es h = (h.1, h.2)

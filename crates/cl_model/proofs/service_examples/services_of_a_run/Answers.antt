@@ -1,16 +1,15 @@
-use Rattle.std.proofs.Common.{◌≡◌, ◌<◌, ◌+◌, ℕ, zero, suc, ◌++◌, List, Some, None, true, false, inl, inr, refl, subst, codes, [], ◌∷◌, arith, slice_get}
-use Rattle.std.specs.Option.{IsSome}
+use Rattle.std.proofs.Common.{◌≡◌, ◌<◌, ◌+◌, ◌++◌, List, true, false, inl, inr, refl, subst, codes, [], ◌∷◌, arith}
 use Rattle.std.specs.Prelude.{Contains, flat_map}
 use Rattle.cl_model.specs.declared.class.Class.{Class}
 use Rattle.cl_model.specs.Lineages.{lineage}
 use Rattle.cl_model.specs.Plans.{Plan, plan}
-use Rattle.cl_model.specs.States.{State, Need, Joined, IsLinked, BadEntry, Said, MayAdd, start, answer_to, settled_to}
-use Rattle.cl_model.specs.Machine.{Scheduled, MaySettle, MayGoOn, Define, Initiate, Constrain, Settle, Prepare, Post, NextRound, after, state_after, step_for}
+use Rattle.cl_model.specs.States.{State, Need, IsLinked, BadEntry, Said, MayAdd, start}
+use Rattle.cl_model.specs.Machine.{MaySettle, MayGoOn, Define, Initiate, Constrain, Settle, Prepare, Post, NextRound, after, state_after, step_for}
 use Rattle.cl_model.specs.Service.{Want, ToStand, ToPrepare, to_stand, to_link, HasWants, IsFirst, IsNextStep, IsBegun, ComesTo}
 use Rattle.cl_model.specs.Examples.{boot, app, plug, object, the_root, in_app, in_plug, own, entry, root_record, same_t, resolve_of, link_of}
 use Rattle.cl_model.specs.ExampleRuns.{overridden_service, serving, loading, resolving, linking, of_svc, unsettled, unprepared}
 use Rattle.cl_model.proofs.Refusals.{the}
-use Rattle.cl_model.proofs.Served.{free_entry, free_equal, other_loader, kin_of_use, lineage_of_use, made_of_svc, resolution_of_svc}
+use Rattle.cl_model.proofs.Served.{free_entry, free_equal, kin_of_use, lineage_of_use, made_of_svc, resolution_of_svc, first_round, joined, settled, svc_unprepared, use_unprepared}
 use Rattle.cl_model.proofs.service_examples.services_of_a_run.Goals as goal
 
 -- ---- the first request
@@ -26,10 +25,6 @@ wanted_of_use = record { planned = record { height = 3; planned = refl }; past =
 
 need_next : (s : State) (n : Need) → IsFirst s wants_of_use (ToStand n) → MayAdd s n → IsNextStep serving s (resolve_of plug "p/Use" 1) (step_for n)
 need_next s n first may = record { plan = plan_of_use; wants = wants_of_use; wanted = wanted_of_use; next = inl (ToStand n, first, may, refl) }
-
--- the equality that the reference imposes joins its two loaders
-joined : Joined unsettled.equalities (codes "p/T") app plug
-joined = record { path = plug ∷ []; along = (record { equality = record { name = codes "p/T"; one = app; other = plug }; imposed = (0, omega arith, refl); named = refl; ends = inl (refl, refl) }, refl) }
 
 may_settle : MaySettle serving unsettled (in_plug "p/Use") 1 of_svc
 may_settle = record {
@@ -69,13 +64,6 @@ begun = (
   ),
 )
 
-same_class : {a b : Class} → Some a ≡ Some b → a ≡ b
-same_class e = cc
-
--- the only reference that is settled
-settled : (d : Class) → Some (in_plug "p/Use") ≡ Some d → settled_to (record { class = in_plug "p/Use"; index = 1; verdict = of_svc } ∷ []) d 1 ≡ Some of_svc
-settled d e = subst (λ (c : Class). settled_to (record { class = in_plug "p/Use"; index = 1; verdict = of_svc } ∷ []) c 1 ≡ Some of_svc) (same_class e) refl
-
 resolved : ComesTo serving (after unsettled (Settle (in_plug "p/Use") 1 of_svc)) (resolve_of plug "p/Use" 1) of_svc
 resolved = record {
   plan = plan_of_use;
@@ -112,15 +100,6 @@ object_prepared = after second_round (Prepare the_root)
 
 abbrev use_prepared : State
 use_prepared = after unprepared (Prepare (in_plug "p/Use"))
-
-svc_unprepared : Contains object_prepared.prepared (in_app "p/Svc") → ⊥
-svc_unprepared (zero, l, e) = other_loader (λ d. absurd cc) e
-svc_unprepared (suc x, l, e) = absurd (omega arith)
-
-use_unprepared : Contains unprepared.prepared (in_plug "p/Use") → ⊥
-use_unprepared (zero, l, e) = other_loader (λ d. absurd cc) e
-use_unprepared (suc zero, l, e) = other_loader (λ d. absurd cc) e
-use_unprepared (suc (suc x), l, e) = absurd (omega arith)
 
 linked_is : {a b : Class} → IsLinked a ≡ IsLinked b → a ≡ b
 linked_is e = cc
@@ -172,21 +151,8 @@ no_reference = record {
 
 -- ---- the rounds
 
-round_is : {a b : Scheduled} → Some a ≡ Some b → a.round ≡ b.round
-round_is e = cc
-
-no_entry : {a : Scheduled} → None ≡ Some a → ⊥
-no_entry e = cc
-
 first_waits : MayGoOn serving start → ⊥
 first_waits h = absurd (let e : false ≡ true = h.answered 0 _ refl refl in cc)
-
--- all requests of the first round are answered
-first_round : (q : ℕ) (e : Scheduled) → slice_get serving.script q ≡ Some e → e.round ≡ 0 → IsSome (answer_to (state_after start (loading ++ resolving)).answers q)
-first_round zero e h r = refl
-first_round (suc zero) e h r = absurd (let one : 1 ≡ e.round = round_is h in omega arith)
-first_round (suc (suc zero)) e h r = absurd (let one : 1 ≡ e.round = round_is h in omega arith)
-first_round (suc (suc (suc q))) e h r = absurd (no_entry h)
 
 second_waits : MayGoOn serving second_round → ⊥
 second_waits h = absurd (let e : false ≡ true = h.answered 1 _ refl refl in cc)

@@ -1,5 +1,6 @@
 -- The digits of a class section, line by line.
-use Rattle.std.proofs.Common.{◌≡◌, ℕ, List, [], ◌∷◌, ◌++◌, Option, Some, None, option_map, option_and_then, refl, sym, ap, ◌∙◌, append_assoc, append-nil}
+use Rattle.std.proofs.Common.{◌≡◌, ℕ, List, [], ◌∷◌, ◌++◌, Option, Some, None, option_map, option_and_then, refl, ap, ◌∙◌, append-nil}
+use Rattle.cl_names.proofs.Plains.{with_front}
 use Rattle.cl_lines.specs.Lines.{Numbered, words_of}
 use Rattle.cl_bundle.specs.Contents.{all_digits, line_digits}
 
@@ -14,15 +15,11 @@ nothing_before (Some rest) = refl
 pub joined_first : (lines : List Numbered) → IsJoined lines lines []
 joined_first lines = record { all = nothing_before (all_digits lines) }
 
-more_digits : (digits more : List ℕ) (o : Option (List ℕ)) → option_map (λ rest. digits ++ rest) (option_map (λ rest. more ++ rest) o) ≡ option_map (λ rest. (digits ++ more) ++ rest) o
-more_digits digits more None = refl
-more_digits digits more (Some rest) = ap Some (sym (append_assoc digits more rest))
-
 -- a line with digits, in front of others
 digits_then : (digits new : List ℕ) (o p : Option (List ℕ)) → option_map (λ more. digits ++ more) o ≡ Some new
     → option_map (λ rest. digits ++ rest) (option_and_then (λ front. option_map (λ rest. front ++ rest) p) o) ≡ option_map (λ rest. new ++ rest) p
 digits_then digits new None p e = absurd cc
-digits_then digits new (Some more) p e = more_digits digits more p ∙ ap (λ (front : List ℕ). option_map (λ rest. front ++ rest) p) (some_is e)
+digits_then digits new (Some more) p e = with_front digits more p ∙ ap (λ (front : List ℕ). option_map (λ rest. front ++ rest) p) (some_is e)
   where
     some_is : Some (digits ++ more) ≡ Some new → digits ++ more ≡ new
     some_is e = cc

@@ -8,9 +8,6 @@ use Rattle.cl_registry.specs.declared.report.Report.{Report}
 use Rattle.cl_bundle.specs.Bundles.{IsBundle, IsNoBundle}
 use Rattle.cl_bundle.specs.Faults.{UnlessMemory}
 use Rattle.cl_bundle.specs.declared.fault.BundleFault.{BundleFault}
-use Rattle.cl_bundle.specs.declared.fault.BundleFault.TheVariants as bundles
-use Rattle.cl_writer.specs.declared.fault.AssembleFault.TheVariants as assembler
-use Rattle.cl_config.specs.declared.script.ScriptFault.TheVariants as scripts
 use Rattle.cl_program.specs.Files.{AreNoText}
 use Rattle.cl_program.specs.Faults.{IsInputFault, print_fault}
 use Rattle.cl_program.specs.Outputs.{Outputs, Stream, TellsFault, WritesPart, fault_line}
@@ -24,6 +21,7 @@ use Rattle.cl_program.specs.declared.fault.Fault.TheVariants.{Input, Write, TooL
 use Rattle.cl_streams.specs.declared.output.PrintFault.{PrintFault}
 use Rattle.cl_streams.specs.declared.output.PrintFault.TheVariants as print
 use Rattle.cl_streams.proofs.Written.{appends_nothing}
+use Rattle.cl_bundle.proofs.Refusals.{unless_by}
 use Rattle.cl_program.specs.declared.limits.TheConstants.{MOST_INPUT_BYTES}
 
 -- a stream on which nothing is written
@@ -47,15 +45,9 @@ by_memory input asked old = inl (appends_nothing old, tt)
 
 -- ---- a fault of a bundle
 
-unless_memory : (fault : BundleFault) (P Q : Type 0) → (P → Q) → UnlessMemory fault P → UnlessMemory fault Q
-unless_memory bundles.Memory P Q f w = tt
-unless_memory (bundles.Script scripts.Memory) P Q f w = tt
-unless_memory (bundles.Class class assembler.Memory) P Q f w = tt
-unless_memory fault P Q f w = f w
-
 pub by_bundle : (input : Option (List ℕ)) (asked : Options) (old : Option (List ℕ)) (text : List ℕ) (fault : BundleFault) → IsInput input text → UnlessMemory fault (IsNoBundle text fault)
     → EndsBy input asked (still old) (Bundle fault)
-by_bundle input asked old text fault is w = (appends_nothing old, unless_memory fault (IsNoBundle text fault) (IsNoBundleIn input fault) (λ wrong. (text, is, wrong)) w)
+by_bundle input asked old text fault is w = (appends_nothing old, unless_by fault (IsNoBundle text fault) (IsNoBundleIn input fault) (λ wrong. (text, is, wrong)) w)
 
 -- ---- a script that is not served
 

@@ -15,6 +15,3 @@ at_fields o m n w w2 a b c d p q r = part_more o n ((a ++ b) ++ c) d (refused_ne
 
 pub before_methods : (o m k : Option (List ℕ)) (w w2 w3 a b c : List ℕ) → Passes o [] o w a → Passes o w m w2 b → Passes m w2 k w3 c → Passes o [] k w3 ((a ++ b) ++ c)
 before_methods o m k w w2 w3 a b c p q r = passes_then o m k [] w2 w3 (a ++ b) c (passes_then o o m [] w w2 a b p q) r
-
-pub at_methods : (o k n : Option (List ℕ)) (w a d : List ℕ) → Passes o [] k w a → AppendsPart k n (w ++ d) → AppendsPart o n (a ++ d)
-at_methods o k n w a d p q = refused_next o k n w a d p q

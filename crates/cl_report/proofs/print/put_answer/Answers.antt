@@ -2,8 +2,8 @@ use Rattle.std.proofs.Common.{[], ◌∷◌, map, string_bytes}
 use Rattle.std.specs.Fmt.{decimal}
 use Rattle.cl_model.specs.Lines.{answer_text, ended, words}
 use Rattle.cl_model.specs.Views.{answer_of}
-use Rattle.cl_report.proofs.Lines.{answer_put, line_part, line_passes}
-use Rattle.cl_streams.proofs.Written.{on_err, on_err_by, on_ok_by, part_none}
+use Rattle.cl_report.proofs.Lines.{answer_put}
+use Rattle.cl_streams.proofs.Written.{on_err, on_err_by, on_ok_by, part_after, part_none, passes_after}
 use Rattle.cl_report.proofs.print.put_answer.Goals as goal
 
 pub returns-in_err-write-clause-part : goal.returns-in_err-write-clause-part
@@ -18,7 +18,7 @@ returns-clause-line g c =
     let waits = string_bytes c.args.waiting.now in
     let line = ended (words (decimal c.args.number ∷ said ∷ [])) in
     let put = answer_put waits _ _ _ (decimal c.args.number) said c.in_ok-write.ensures.bytes c.in_ok-put_text.ensures c.in_ok-push_str.ensures.bytes in
-    on_ok_by c.pass_page.result _ _ (line_passes _ _ waits _ _ line put) c.pass_page.ensures.passed
+    on_ok_by c.pass_page.result _ _ (passes_after _ _ waits _ _ line put) c.pass_page.ensures.passed
 
 pub returns-clause-part : goal.returns-clause-part
 returns-clause-part g c =
@@ -26,4 +26,4 @@ returns-clause-part g c =
     let waits = string_bytes c.args.waiting.now in
     let line = ended (words (decimal c.args.number ∷ said ∷ [])) in
     let put = answer_put waits _ _ _ (decimal c.args.number) said c.in_ok-write.ensures.bytes c.in_ok-put_text.ensures c.in_ok-push_str.ensures.bytes in
-    on_err_by c.pass_page.result _ _ (line_part _ _ waits _ line put) c.pass_page.ensures.part
+    on_err_by c.pass_page.result _ _ (part_after _ _ waits _ line put) c.pass_page.ensures.part

@@ -1,8 +1,8 @@
 use Rattle.std.proofs.Common.{codes}
 use Rattle.std.specs.List.{flat_map}
-use Rattle.cl_streams.proofs.Written.{on_err, on_err_by, on_ok_by, passes_all, passes_then, refused_last}
+use Rattle.cl_streams.proofs.Written.{on_err, on_err_by, on_ok_by, passes_all, passes_then, refused_last, refused_next}
 use Rattle.cl_writer.specs.Listings.{class_line, implements_line, member_line}
-use Rattle.cl_writer.proofs.Pages.{at_fields, at_interfaces, at_methods, before_methods, class_waits}
+use Rattle.cl_writer.proofs.Pages.{at_fields, at_interfaces, before_methods, class_waits}
 use Rattle.cl_writer.proofs.printing.print_listing.Goals as goal
 
 pub returns-in_err-print_interfaces-clause-part : goal.returns-in_err-print_interfaces-clause-part
@@ -27,7 +27,7 @@ returns-in_err-print_members-2-clause-part g c =
     let interfaces = rw (c.pool-2.ensures.entries, c.interfaces.ensures) at c.in_ok-print_interfaces.ensures.lines in
     let fields = rw (c.pool-3.ensures.entries, c.fields.ensures) at c.in_ok-print_members.ensures.lines in
     on_err c.from_residual-in_err-print_members-2.result _
-    (at_methods _ _ _ _ _ (flat_map (member_line (codes "method ") file.pool) file.methods) (before_methods _ _ _ _ _ _ (class_line file) (flat_map (implements_line file.pool) file.interfaces) (flat_map (member_line (codes "field ") file.pool) file.fields) head interfaces fields) (rw (c.pool-4.ensures.entries, c.methods.ensures) at c.in_err-print_members-2.ensures.part))
+    (refused_next _ _ _ _ _ (flat_map (member_line (codes "method ") file.pool) file.methods) (before_methods _ _ _ _ _ _ (class_line file) (flat_map (implements_line file.pool) file.interfaces) (flat_map (member_line (codes "field ") file.pool) file.fields) head interfaces fields) (rw (c.pool-4.ensures.entries, c.methods.ensures) at c.in_err-print_members-2.ensures.part))
 
 pub returns-clause-lines : goal.returns-clause-lines
 returns-clause-lines g c =

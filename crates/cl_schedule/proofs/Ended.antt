@@ -16,8 +16,8 @@ use Rattle.cl_model.specs.Views.{answers_of, answer_at, post_of, step_of, steps_
 use Rattle.cl_config.specs.Loaders.{schedule_of}
 use Rattle.cl_config.specs.Views.{Configured, Scripted}
 use Rattle.cl_registry.specs.declared.report.Report.{Report}
-use Rattle.cl_registry.specs.Reports.{IsNamed, IsReport}
-use Rattle.cl_registry.specs.Tables.{Shown, IsKept, IsTrusted, RunsAs, is_in, posts, state_of}
+use Rattle.cl_registry.specs.Reports.{IsNamed, IsReport, IsReported}
+use Rattle.cl_registry.specs.Tables.{Shown, IsTrusted, RunsAs, is_in, posts, round_of, state_of}
 use Rattle.cl_registry.proofs.Histories.{eq_nat, swap_nat}
 use Rattle.cl_registry.proofs.Running.{is_or}
 use Rattle.cl_schedule.specs.Headline.{EachSpelt, Alike, ReferencesAlike, CirclesExact, IsServed}
@@ -140,8 +140,10 @@ posted_once x r q t is =
 
 -- ---- the report
 
-pub is_served : (told : Option Content) (x : Shown) (c : Configured) (s : Scripted) (r : Report) → IsKept told x → IsReport x r → IsNamed (length x.config.loaders) r → c ≡ x.config → s ≡ x.script → IsServed told c s r
-is_served told x c s r kept is named config script =
+pub is_served : (told : Option Content) (x : Shown) (c : Configured) (s : Scripted) (r : Report) → IsReported told x r → c ≡ x.config → s ≡ x.script → IsServed told c s r
+is_served told x c s r made config script =
+    let kept = made.kept in
+    let is = made.whole in
     let y = bare x in
     let trusted : IsTrusted y = bare_trusted x kept.trusted in
     let run : RunsAs told y = bare_runs told x kept.run in
@@ -149,7 +151,8 @@ is_served told x c s r kept is named config script =
     record {
       of_script = is.script ∙ sym script;
       each_once = λ q. ap (λ (h : List Event). times q (posts h)) is.history ∙ posted_once x r q kept.trusted is ∙ ap (λ (k : Scripted). once_below q (length k.requests)) (sym script);
-      named = subst (λ (k : Configured). IsNamed (length k.loaders) r) (sym config) named;
+      named = subst (λ (k : Configured). IsNamed (length k.loaders) r) (sym config) made.loaders;
+      last = subst (λ (z : Shown). s.rounds ≤ round_of z + 1) same (subst (λ (k : Scripted). k.rounds ≤ round_of y + 1) (sym script) made.last);
       trusted = subst IsTrusted same trusted;
       consistent = subst (λ (z : Shown). IsConsistent (state_of z)) same (consistent y trusted);
       run = subst (RunsAs told) same run;

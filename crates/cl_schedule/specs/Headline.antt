@@ -1,5 +1,5 @@
 -- What a report says where a content is told: the headline, clause by clause (JVMS SE 8, 5.3 to 5.4.3).
-use Rattle.std.specs.Prelude.{◌≡◌, ◌⊎◌, ℕ, List, [], length, Option, Some, None, slice_get}
+use Rattle.std.specs.Prelude.{◌≡◌, ◌⊎◌, ◌≤◌, ◌+◌, ℕ, List, [], length, Option, Some, None, slice_get}
 use Rattle.cl_classfile.specs.Structure.{Structure}
 use Rattle.cl_model.specs.declared.class.Class.{Class}
 use Rattle.cl_model.specs.declared.request.Request as requests
@@ -13,7 +13,7 @@ use Rattle.cl_config.specs.Views.{Configured, Scripted}
 use Rattle.cl_hierarchy.specs.Drafts.{IsSpelt}
 use Rattle.cl_registry.specs.declared.report.Report.{Report}
 use Rattle.cl_registry.specs.Reports.{IsNamed}
-use Rattle.cl_registry.specs.Tables.{Shown, IsTrusted, RunsAs, posts, state_of}
+use Rattle.cl_registry.specs.Tables.{Shown, IsTrusted, RunsAs, posts, round_of, state_of}
 use Rattle.cl_schedule.specs.Known.{KnownStays}
 use Rattle.cl_schedule.specs.Serving.{HasEachBelow, InOrder, machine, reported, upto}
 
@@ -72,12 +72,13 @@ CirclesExact (Some content) x =
 -- of the linkage machine over it, in which each request is answered once, with what its plan yields in the state at that
 -- point, or with a failure, and the next round begins as soon as it may; each class is spelt by its
 -- defining loader's bytes, equal requests and equal references are answered alike, and circles are told exactly. Under any
--- source the tables can be trusted, no loader records a name twice, no constraint is violated, and what the tables have of a
--- request is its answer (5.3 to 5.4.3)
+-- source the last round has begun, the tables can be trusted, no loader records a name twice, no constraint is violated, and
+-- what the tables have of a request is its answer (5.3 to 5.4.3)
 pub record IsServedInOrder (told : Option Content) (config : Configured) (script : Scripted) (r : Report) : Type 0 where
   pub of_script : r.script.value ≡ script
   pub each_once : posts r.history ≡ upto (length script.requests)
   pub named : IsNamed (length config.loaders) r
+  pub last : script.rounds ≤ round_of (reported config r) + 1
   pub trusted : IsTrusted (reported config r)
   pub consistent : IsConsistent (state_of (reported config r))
   pub known : KnownStays (reported config r)
@@ -91,12 +92,13 @@ pub record IsServedInOrder (told : Option Content) (config : Configured) (script
 -- the report of a script that was served in some order, or by threads, under a configuration. Where a content is told, the history is a run of the
 -- linkage machine over it, in which each request is answered once, in its round, with what its plan yields in the state at that
 -- point, or with a failure; each class is spelt by its defining loader's bytes, equal requests and equal references are answered
--- alike, and circles are told exactly. Under any source each request has one post, the tables can be trusted, no loader records a
--- name twice and no constraint is violated (5.3 to 5.4.3)
+-- alike, and circles are told exactly. Under any source each request has one post, the last round has begun, the tables can be
+-- trusted, no loader records a name twice and no constraint is violated (5.3 to 5.4.3)
 pub record IsServed (told : Option Content) (config : Configured) (script : Scripted) (r : Report) : Type 0 where
   pub of_script : r.script.value ≡ script
   pub each_once : HasEachBelow (length script.requests) (posts r.history)
   pub named : IsNamed (length config.loaders) r
+  pub last : script.rounds ≤ round_of (reported config r) + 1
   pub trusted : IsTrusted (reported config r)
   pub consistent : IsConsistent (state_of (reported config r))
   pub run : RunsAs told (reported config r)

@@ -7,7 +7,7 @@ use Rattle.cl_pool.proofs.serving.finish.Goals as goal
 
 pub returns-in-Ok-clause-served : goal.returns-in-Ok-clause-served
 returns-in-Ok-clause-served g c =
-    is_served g.T.Told.told c.pass_rounds.new.self.registry c.args.config.now c.args.script.now c.in-Ok.report_and_rows.0 c.in-Ok.ensures.reported.kept c.in-Ok.ensures.reported.whole c.in-Ok.ensures.reported.loaders
+    is_served g.T.Told.told c.pass_rounds.new.self.registry c.args.config.now c.args.script.now c.in-Ok.report_and_rows.0 c.in-Ok.ensures.reported
     c.if-not-serves.ensures.0 c.if-not-serves.ensures.1
 
 pub returns-in-Err-clause-refused : goal.returns-in-Err-clause-refused

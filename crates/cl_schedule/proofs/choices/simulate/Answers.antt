@@ -20,7 +20,7 @@ returns-clause-simulated g c =
     let x = c.play_all-played.new.registry in
     let whole = c.in-Ok.ensures.reported.whole in
     record {
-      served = is_served told x c.args.config.value c.args.script.value c.in-Ok.report serves.kept whole c.in-Ok.ensures.reported.loaders (sym serves.configured) (sym (serves.scripted ∙ c.deref.ensures));
+      served = is_served told x c.args.config.value c.args.script.value c.in-Ok.report c.in-Ok.ensures.reported (sym serves.configured) (sym (serves.scripted ∙ c.deref.ensures));
       played =
           subst (λ (y : Shown). PlayedAs told y c.args.schedule.now) (report_tells x c.in-Ok.report c.args.config.value whole serves.configured)
           (played_as told x c.args.schedule.now e.played);

@@ -1,10 +1,10 @@
-use Rattle.std.proofs.Common.{◌≡◌, ◌∙◌, ℕ, length, Some, ap, sym, subst, arith}
+use Rattle.std.proofs.Common.{◌≡◌, ◌∙◌, ◌+◌, ◌≤◌, ℕ, length, Some, ap, sym, subst, arith}
 use Rattle.std.specs.Prelude.{slice_get}
 use Rattle.cl_config.specs.Views.{Configured, Scripted}
 use Rattle.cl_config.specs.Scripts.{HasLoaders}
 use Rattle.cl_registry.specs.Reports.{IsNamed}
 use Rattle.cl_model.specs.Tables.{IsConsistent}
-use Rattle.cl_registry.specs.Tables.{Shown, IsTrusted, RunsAs, posts, state_of, steps}
+use Rattle.cl_registry.specs.Tables.{Shown, IsTrusted, RunsAs, posts, round_of, state_of, steps}
 use Rattle.cl_schedule.specs.Counting.{Grows, faults}
 use Rattle.cl_schedule.specs.Serving.{reported, upto, InOrder}
 use Rattle.cl_schedule.specs.Headline.{EachSpelt, Alike, ReferencesAlike, CirclesExact}
@@ -100,6 +100,7 @@ returns-clause-served g c =
       of_script = whole.script ∙ inv.script;
       each_once = ap posts whole.history ∙ inv.order ∙ ap upto (all_served g c);
       named = subst (λ (k : Configured). IsNamed (length k.loaders) c.in-Ok-into_report.report) inv.config c.in-Ok-into_report.ensures.reported.loaders;
+      last = subst (λ (y : Shown). c.args.script.value.rounds ≤ round_of y + 1) (told_of g c) (subst (λ (s : Scripted). s.rounds ≤ round_of x + 1) inv.script c.in-Ok-into_report.ensures.reported.last);
       trusted = subst IsTrusted (told_of g c) trusted;
       consistent = subst (λ (y : Shown). IsConsistent (state_of y)) (told_of g c) (consistent x trusted);
       known = subst KnownStays (told_of g c) (known_bare c.loop-q.registry inv.known);

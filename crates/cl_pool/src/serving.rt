@@ -1,4 +1,4 @@
-ghost use Rattle.std.specs.Prelude.{◌≡◌, ◌≤◌, IfOk, IfErr, OnOk, length};
+ghost use Rattle.std.specs.Prelude.{◌≡◌, ◌≤◌, IfOk, IfErr, IsErrOf, OnOk, length, true};
 ghost use Rattle.cl_config.specs.Scripts.{HasLoaders};
 ghost use Rattle.cl_pool.specs.Seats.{IsSeatOf, MayDraw};
 ghost use Rattle.cl_pool.specs.Served.{FailsAs, MayServe, RefusedFor};
@@ -147,13 +147,15 @@ fn finish<T: Told>(
 ) -> Result<(Report, Vec<Arc<ClassRow<T>>>), PoolFault<T>>
     ensures served { IfOk result (λ r. IsServed T.told config.now script.now r.0) }
     ensures refused { IfErr result (FailsAs config.now script.now) }
+    ensures stray { desk.stopped ≡ true → IsErrOf result PoolFault.Stray }
 {
+    let stopped = desk.stopped;
     desk.pass_rounds();
     let Desk {
         registry,
         asked,
         round: _,
-        stopped,
+        stopped: _,
     } = desk;
     drop(asked);
     // (what is dropped whole costs the proof no cases)

@@ -20,16 +20,20 @@ use std::thread::Threads;
 /// How often a held worker looks again before it gives up.
 const TURNS: u64 = 1_000_000;
 
-/// Holds each read of the first seven requests until the eighth has its answer.
+/// Holds each read of the first seven requests until the eighth has its answer, and counts the marks.
 #[derive(Drop)]
 struct Holding {
     posted: AtomicU64,
+    /// How many reads were about to be made, and how often the lock was about to be taken.
+    reads: AtomicU64,
+    locks: AtomicU64,
     /// How many reads were let go with the eighth request unanswered.
     spent: AtomicU64,
 }
 
 impl Gate for Holding {
     fn before_read(&self, q: u32, _loader: LoaderId, _name: &Name) {
+        self.reads.fetch_add(1, Ordering::SeqCst);
         if q >= 7 {
             return;
         }
@@ -42,7 +46,9 @@ impl Gate for Holding {
         self.spent.fetch_add(1, Ordering::SeqCst);
     }
 
-    fn before_lock(&self, _q: u32) {}
+    fn before_lock(&self, _q: u32) {
+        self.locks.fetch_add(1, Ordering::SeqCst);
+    }
 
     fn after_post(&self, q: u32) {
         if q == 7 {
@@ -124,12 +130,14 @@ fn are_classes(answers: &[Answer], count: usize, may_blame: bool) -> bool {
 }
 
 /// Seven workers wait in their reads until the eighth has served its request: no read is made under the lock, and all eight
-/// run.
+/// run. Reads are marked, and so is each taking of the lock, of which each request has two at least: to look, and to post.
 #[test]
 fn reads_overlap(rt: HostRuntime) -> Result<(), Fail> {
     let alloc = rt.alloc();
     let gate = Holding {
         posted: AtomicU64::new(0),
+        reads: AtomicU64::new(0),
+        locks: AtomicU64::new(0),
         spent: AtomicU64::new(0),
     };
     let report = report_of(&rt, alloc, telling(alloc, &PLAIN)?, EIGHT, 8, &gate)?;
@@ -137,6 +145,8 @@ fn reads_overlap(rt: HostRuntime) -> Result<(), Fail> {
     drop(report);
     assert!(rt; are_classes);
     assert!(rt; gate.spent.load(Ordering::SeqCst) == 0);
+    assert!(rt; gate.reads.load(Ordering::SeqCst) != 0);
+    assert!(rt; gate.locks.load(Ordering::SeqCst) >= 16);
     Ok(())
 }
 

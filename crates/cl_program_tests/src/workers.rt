@@ -15,11 +15,12 @@ use std::sync::Wait;
 use std::sync::atomic::{AtomicU64, Ordering};
 use std::thread::Threads;
 
-/// A source of nothing, of which it is counted how many further ones were opened.
+/// A source of nothing, of which it is counted how often a further one was asked for. The first so many are had.
 #[derive(Drop)]
 struct CountedSource<'a> {
     inner: Telling<Untold>,
     opened: &'a AtomicU64,
+    most: u64,
 }
 
 impl Source<Untold> for CountedSource<'_> {
@@ -39,10 +40,13 @@ impl Source<Untold> for CountedSource<'_> {
     }
 
     fn another(&self, alloc: Global) -> Result<Self, SourceFault> {
-        self.opened.fetch_add(1, Ordering::SeqCst);
+        if self.opened.fetch_add(1, Ordering::SeqCst) >= self.most {
+            return Err(SourceFault::Memory);
+        }
         Ok(CountedSource {
             inner: self.inner.another(alloc)?,
             opened: self.opened,
+            most: self.most,
         })
     }
 }
@@ -52,6 +56,7 @@ impl Source<Untold> for CountedSource<'_> {
 struct CountingRuntime<'a, R> {
     host: &'a R,
     opened: &'a AtomicU64,
+    most: u64,
 }
 
 impl<R: Threads> Threads for CountingRuntime<'_, R> {}
@@ -72,6 +77,7 @@ impl<'a, R> OpenDirectories for CountingRuntime<'a, R> {
         Ok(CountedSource {
             inner: MemorySource::new(alloc).tell::<Untold>(),
             opened: self.opened,
+            most: self.most,
         })
     }
 }
@@ -103,14 +109,22 @@ impl ReadFile for TwoFiles {
     }
 }
 
-/// As many workers serve as are asked for.
+/// As many workers serve as are asked for; a worker whose source is not to be had is left out, and the others serve.
 #[test]
 fn workers_are_those_asked_for(rt: HostRuntime) {
-    for (workers, further) in [(1, 0), (2, 1), (8, 7), (64, 63)] {
+    for (workers, further, most) in [
+        (1, 0, 64),
+        (2, 1, 64),
+        (8, 7, 64),
+        (64, 63, 64),
+        (8, 7, 2),
+        (2, 1, 0),
+    ] {
         let opened = AtomicU64::new(0);
         let runtime = CountingRuntime {
             host: &rt,
             opened: &opened,
+            most,
         };
         let mut out = Vec::new(rt.alloc());
         let mut err = Vec::new(rt.alloc());
@@ -149,6 +163,7 @@ fn other_numbers_are_refused(rt: HostRuntime) {
         let runtime = CountingRuntime {
             host: &rt,
             opened: &opened,
+            most: 64,
         };
         let mut out = Vec::new(rt.alloc());
         let mut err = Vec::new(rt.alloc());

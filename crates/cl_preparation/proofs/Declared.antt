@@ -1,5 +1,5 @@
 -- The methods that a class declares, and their flags.
-use Rattle.std.proofs.Common.{◌≡◌, ◌<◌, ◌+◌, ℕ, Bool, false, Option, Some, None, List, [], ◌∷◌, ◌++◌, refl, ap, sym, subst, ◌∙◌, get_or}
+use Rattle.std.proofs.Common.{◌≡◌, ◌<◌, ◌+◌, ℕ, Bool, true, false, not, ◌&&◌, if◌then◌else◌, Option, Some, None, List, [], ◌∷◌, ◌++◌, refl, ap, sym, subst, ◌∙◌, get_or}
 use Rattle.std.specs.Prelude.{option_map, option_and_then, is_some, filter_map, take, length}
 use Rattle.std.specs.List.{All, AllByRecursion}
 use Rattle.cl_descriptors.proofs.Methods.{whole_method_again}
@@ -13,7 +13,7 @@ use Rattle.cl_classfile.specs.Lookups.{method_named}
 use Rattle.cl_model.specs.Lineages.{if_declared}
 use Rattle.std.proofs.lemmas.List.{take_more}
 use Rattle.std.proofs.lemmas.List.Elements.{All-from_recursion, All-get_or, filter_map-append}
-use Rattle.cl_preparation.specs.Methods.{IsTyped}
+use Rattle.cl_preparation.specs.Methods.{IsTyped, is_instance, is_wide}
 
 typed_by : (pool : List Entry) (b : Bool) (m : Member) → KeepsMethod pool b m → IsTyped pool m
 typed_by pool b m k = record {
@@ -36,6 +36,18 @@ methods_typed f is = all_typed f.pool (has f.flags interface) f.methods is.kept.
 pub flags_tell : (o : Option files.Member) (test : ℕ → Bool) (r : Option ℕ) → r ≡ option_map (λ m. m.flags) o → (b : Bool) → (r ≡ None → b ≡ false) → ((x : ℕ) → r ≡ Some x → b ≡ test x) → b ≡ if_declared o test
 flags_tell None test r e b none some = none e
 flags_tell (Some m) test r e b none some = some m.flags e
+
+-- whether a method is open, if it is declared and takes part
+pub flags_opened : (o : Option files.Member) (special : Bool) (f : Option ℕ) (r : Option Bool) → f ≡ option_map (λ m. m.flags) o → (f ≡ None → r ≡ None)
+    → ((x : ℕ) → f ≡ Some x → r ≡ (if not special && is_instance x then Some (is_wide x) else None)) → r ≡ (if not special && if_declared o is_instance then Some (if_declared o is_wide) else None)
+flags_opened None true f r e none some = none e
+flags_opened None false f r e none some = none e
+flags_opened (Some m) special f r e none some = some m.flags e
+
+-- where none is open that takes part, one that is there takes part and is not open
+pub opened_tell : (part wide : Bool) (r : Option Bool) (b : Bool) → r ≡ (if part then Some wide else None) → (r ≡ None → b ≡ false) → ((x : Bool) → r ≡ Some x → b ≡ not x) → b ≡ (part && not wide)
+opened_tell true wide r b e none some = some wide e
+opened_tell false wide r b e none some = none e
 
 pub flags_stand : (o : Option files.Member) → is_some (option_map (λ m. m.flags) o) ≡ is_some o
 flags_stand None = refl

@@ -1,5 +1,5 @@
 -- The walk over the superclasses, step by step.
-use Rattle.std.proofs.Common.{◌≡◌, ◌<◌, ◌+◌, ℕ, Bool, true, false, ◌&&◌, ◌||◌, if◌then◌else◌, List, [], ◌∷◌, ◌++◌, map, filter, length, refl, ap, sym, subst, ◌∙◌, get_or, suc, drop, append_assoc, add-one}
+use Rattle.std.proofs.Common.{◌≡◌, ◌<◌, ◌+◌, ℕ, Bool, true, false, ◌&&◌, ◌||◌, if◌then◌else◌, not, Option, Some, None, List, [], ◌∷◌, ◌++◌, map, filter, length, refl, ap, sym, subst, ◌∙◌, get_or, suc, drop, append_assoc, add-one}
 use Rattle.std.specs.Prelude.{nat_eq, ◌==◌}
 use Rattle.std.specs.List.{list_any}
 use Rattle.std.specs.Cmp.Lexicographic.{pointwise, nat_list_eq_equiv}
@@ -7,7 +7,7 @@ use Rattle.std.proofs.lemmas.Cmp.{nat_eq_equiv}
 use Rattle.std.proofs.Math.Seq.{drop-cons}
 use Rattle.indexmap.specs.IndexSet.{IndexSet, IsEmpty, contains}
 use Rattle.cl_names.specs.Kind.{package_of}
-use Rattle.cl_classfile.specs.Files.{Key}
+use Rattle.cl_classfile.specs.Files.{Key, file_of, is_interface}
 use Rattle.cl_model.specs.declared.class.Class.{Class}
 use Rattle.cl_model.specs.Classes.{same_package}
 use Rattle.cl_model.specs.Lineages.{Kin}
@@ -16,8 +16,8 @@ use Rattle.cl_model.specs.States.{Need}
 use Rattle.cl_hierarchy.specs.Rows.{Rowed}
 use Rattle.cl_preparation.specs.declared.packages.Package.{Package}
 use Rattle.cl_preparation.specs.Packages.{AreOpened, Opens, packaged, same_packages}
-use Rattle.cl_preparation.specs.Relatives.{Visits, Walking, bare}
-use Rattle.cl_preparation.specs.Walks.{is_in_package, is_open, is_overridden, opened_by, walked}
+use Rattle.cl_preparation.specs.Relatives.{Visits, Walking, bare, of_superclasses}
+use Rattle.cl_preparation.specs.Walks.{is_closed, is_in_package, is_open, is_overridden, opened_by, opening, walked}
 
 -- ---- lists
 
@@ -64,21 +64,61 @@ visits key before k imposed old new opened after part wide within tp op inside w
   opened_are = subst (λ (b : Bool). AreOpened after (if b then k.class ∷ before else before)) (ap (λ (b : Bool). b && wide) tp ∙ ap (λ (b : Bool). takes_part key k && b) op) afterwards;
 }
 
+no_part : (part wide : Bool) → None ≡ (if part then Some wide else None) → false ≡ part
+no_part true wide e = absurd cc
+no_part false wide e = refl
+
+some_part : (part wide b : Bool) → Some b ≡ (if part then Some wide else None) → (true ≡ part) × (b ≡ wide)
+some_part true wide b e = (refl, cc)
+some_part false wide b e = absurd cc
+
 -- one that does not take part
-pub passed : {S : Type 0} (key : Key) (before : List Class) (k : Kin) (imposed needs : List Need) (opened : IndexSet Package S) → false ≡ takes_part key k → AreOpened opened before → Visits key before k imposed needs needs opened
-passed key before k imposed needs opened tp was = visits key before k imposed needs needs opened opened false (is_open key k) (is_in_package before k.class) tp refl refl was (sym (append_nothing needs)) was
+pub passed : {S : Type 0} (key : Key) (before : List Class) (k : Kin) (imposed needs : List Need) (opened : IndexSet Package S) → None ≡ opening key k → AreOpened opened before → Visits key before k imposed needs needs opened
+passed key before k imposed needs opened none was =
+    visits key before k imposed needs needs opened opened false (is_open key k) (is_in_package before k.class) (no_part (takes_part key k) (is_open key k) none) refl refl was (sym (append_nothing needs)) was
 
 -- one that takes part and opens its package
-pub opened_too : {S : Type 0} (key : Key) (before : List Class) (k : Kin) (imposed old new : List Need) (opened after : IndexSet Package S) → true ≡ takes_part key k → true ≡ is_open key k → AreOpened opened before
+pub opened_too : {S : Type 0} (key : Key) (before : List Class) (k : Kin) (imposed old new : List Need) (opened after : IndexSet Package S) → Some true ≡ opening key k → AreOpened opened before
     → new ≡ old ++ imposed → Opens opened after (packaged k.class) → Visits key before k imposed old new after
-opened_too key before k imposed old new opened after tp op was needs put =
-    visits key before k imposed old new opened after true true (is_in_package before k.class) tp op refl was needs (one_opened opened after k.class before was put)
+opened_too key before k imposed old new opened after some was needs put =
+    let told : (true ≡ takes_part key k) × (true ≡ is_open key k) = some_part (takes_part key k) (is_open key k) true some in
+    visits key before k imposed old new opened after true true (is_in_package before k.class) told.0 told.1 refl was needs (one_opened opened after k.class before was put)
 
--- one that takes part for its package alone
-pub within_too : {S : Type 0} (key : Key) (before : List Class) (k : Kin) (imposed old new : List Need) (opened : IndexSet Package S) (within : Bool) → true ≡ takes_part key k → false ≡ is_open key k → AreOpened opened before
-    → within ≡ contains same_packages opened (packaged k.class) → new ≡ old ++ (if within then imposed else []) → Visits key before k imposed old new opened
-within_too key before k imposed old new opened within tp op was inside needs =
-    visits key before k imposed old new opened opened true false within tp op (inside ∙ was k.class) was needs was
+-- one that takes part for its package alone, which was opened
+pub within_too : {S : Type 0} (key : Key) (before : List Class) (k : Kin) (imposed old new : List Need) (opened : IndexSet Package S) → Some false ≡ opening key k → AreOpened opened before
+    → true ≡ contains same_packages opened (packaged k.class) → new ≡ old ++ imposed → Visits key before k imposed old new opened
+within_too key before k imposed old new opened some was inside needs =
+    let told : (true ≡ takes_part key k) × (false ≡ is_open key k) = some_part (takes_part key k) (is_open key k) false some in
+    visits key before k imposed old new opened opened true false true told.0 told.1 (inside ∙ was k.class) was needs was
+
+-- one whose package was not opened
+pub without : {S : Type 0} (key : Key) (before : List Class) (k : Kin) (imposed needs : List Need) (opened : IndexSet Package S) → Some false ≡ opening key k → AreOpened opened before
+    → false ≡ contains same_packages opened (packaged k.class) → Visits key before k imposed needs needs opened
+without key before k imposed needs opened some was outside =
+    let told : (true ≡ takes_part key k) × (false ≡ is_open key k) = some_part (takes_part key k) (is_open key k) false some in
+    visits key before k imposed needs needs opened opened true false false told.0 told.1 (outside ∙ was k.class) was (sym (append_nothing needs)) was
+
+-- ---- no package tells
+
+open_next : (key : Key) (opened : List Class) (k : Kin) (ks : List Kin) (part wide closed : Bool) → takes_part key k ≡ part → is_open key k ≡ wide → ((part && not wide) || closed) ≡ false
+    → ((others : List Class) → closed ≡ false → walked key others ks ≡ filter (takes_part key) ks) → walked key opened (k ∷ ks) ≡ filter (takes_part key) (k ∷ ks)
+open_next key opened k ks false wide closed tp op none rest = rw tp (rest opened none)
+open_next key opened k ks true true closed tp op none rest = rw tp (rw op (ap (λ others. k ∷ others) (rest (k.class ∷ opened) none)))
+open_next key opened k ks true false closed tp op none rest = absurd cc
+
+-- where none is for its package alone, all that take part are overridden
+open_walked : (key : Key) (opened : List Class) (rs : List Rowed) → list_any (λ r. is_closed key (bare r)) rs ≡ false → walked key opened (map bare rs) ≡ filter (takes_part key) (map bare rs)
+open_walked key opened [] none = refl
+open_walked key opened (r ∷ rs) none =
+    open_next key opened (bare r) (map bare rs) (takes_part key (bare r)) (is_open key (bare r)) (list_any (λ r. is_closed key (bare r)) rs) refl refl none (λ others more. open_walked key others rs more)
+
+-- what a method imposes with superclasses none of which is for its package alone
+pub above_open : (own : Rowed) (above : List Rowed) (key : Key) (loader : ℕ) (old new : List Need) (inter closed : Bool) → inter ≡ is_interface (file_of own.file) → false ≡ inter
+    → closed ≡ list_any (λ r. is_closed key (bare r)) above → false ≡ closed → loader ≡ own.class.loader → new ≡ old ++ equals_with key loader (filter (takes_part key) (map bare above)) → new ≡ old ++ of_superclasses own above key
+above_open own above key loader old new inter closed ie none ce oe le more =
+    more ∙ ap (λ (x : ℕ). old ++ equals_with key x (filter (takes_part key) (map bare above))) le
+    ∙ ap (λ (ks : List Kin). old ++ equals_with key own.class.loader ks) (sym (open_walked key (own.class ∷ []) above (sym (oe ∙ ce))))
+    ∙ ap (λ (b : Bool). old ++ (if b then [] else equals_with key own.class.loader (walked key (own.class ∷ []) (map bare above)))) (none ∙ ie)
 
 -- ---- the walk
 

@@ -10,7 +10,7 @@ use Rattle.cl_hierarchy.specs.Rows.{Rowed}
 use Rattle.cl_hierarchy.specs.Lineages.{Lined, kin_at, kin_of}
 use Rattle.cl_preparation.specs.declared.packages.Package.{Package}
 use Rattle.cl_preparation.specs.Filters.{Covers}
-use Rattle.cl_preparation.specs.Packages.{AreOpened, packaged}
+use Rattle.cl_preparation.specs.Packages.{AreOpened}
 use Rattle.cl_preparation.specs.Walks.{is_overridden, opened_by, walked}
 
 -- the rows of a class, of its superclasses nearest first, and of its superinterfaces in preorder
@@ -28,12 +28,6 @@ bare r = record { class = r.class; file = file_of r.file; superclass = Bare; int
 abbrev pub AreNames : List Member → Option (List Bool) → Type 0
 AreNames ms None = ⊤
 AreNames ms (Some names) = Covers names ms
-
--- what a class of a lineage keeps: its run-time package (5.3), and a filter of its methods' names
-pub record IsRelative (r : Rowed) (runtime_package : Package) (names : Option (List Bool))
-    : Type 0 where
-  pub package_is : runtime_package ≡ packaged r.class
-  pub names_are : AreNames (file_of r.file).methods names
 
 -- the class of a row names a superinterface (4.1, interfaces)
 abbrev pub names_interfaces : Rowed → Bool

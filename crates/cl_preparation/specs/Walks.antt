@@ -1,5 +1,5 @@
 -- Overriding by run-time packages (JVMS SE 8, 5.3, 5.4.5).
-use Rattle.std.specs.Prelude.{Bool, ◌&&◌, ◌||◌, if◌then◌else◌, List, [], ◌∷◌}
+use Rattle.std.specs.Prelude.{Bool, ◌&&◌, ◌||◌, not, if◌then◌else◌, List, [], ◌∷◌, Option, Some, None}
 use Rattle.std.specs.List.{list_any}
 use Rattle.cl_classfile.specs.Files.{Key, is_public, is_protected}
 use Rattle.cl_model.specs.declared.class.Class.{Class}
@@ -15,6 +15,14 @@ is_open key k = if_declared (method_of k key) (λ x. is_public x || is_protected
 -- the class declares such a method, which takes part in overriding (5.4.5)
 abbrev pub opens : Key → Kin → Bool
 opens key k = takes_part key k && is_open key k
+
+-- of such a method that takes part, if the class declares one: whether it is open (5.4.5)
+abbrev pub opening : Key → Kin → Option Bool
+opening key k = if takes_part key k then Some (is_open key k) else None
+
+-- the class declares such a method that takes part, for its package alone (5.4.5)
+abbrev pub is_closed : Key → Kin → Bool
+is_closed key k = takes_part key k && not (is_open key k)
 
 -- the class declares such a method, and is of the package of another class (5.3, 5.4.5)
 abbrev pub opens_to : Key → Kin → Kin → Bool

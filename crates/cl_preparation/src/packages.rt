@@ -27,16 +27,6 @@ impl Package {
             name,
         })
     }
-
-    /// A copy, which shares the bytes.
-    pub fn try_clone(&self, alloc: Global) -> Result<Package, AllocError>
-        ensures { IfOk result (λ p. p ≡ self.now) }
-    {
-        Ok(Package {
-            loader: self.loader,
-            name: self.name.try_clone(alloc)?,
-        })
-    }
 }
 
 /// Packages, each once.

@@ -1,45 +1,43 @@
 //! A class of a lineage with what preparation looks at.
 
-ghost use Rattle.std.specs.Prelude.{◌≡◌, IfOk, is_some, option_map};
+ghost use Rattle.std.specs.Prelude.{◌≡◌, ◌&&◌, not, if◌then◌else◌, Some, None, IfOk, is_some, option_map};
 ghost use Rattle.cl_classfile.specs.Files.{file_of, is_interface};
 ghost use Rattle.cl_model.specs.Lineages.{if_declared, method_of};
 ghost use Rattle.cl_model.specs.Preparation.{takes_part};
-ghost use Rattle.cl_preparation.specs.Methods.{is_instance};
-ghost use Rattle.cl_preparation.specs.Packages.{packaged};
+ghost use Rattle.cl_preparation.specs.Methods.{is_instance, is_wide};
 ghost use Rattle.cl_preparation.specs.Relatives.{AreNames, bare, names_interfaces};
-ghost use Rattle.cl_preparation.specs.Walks.{is_open};
+ghost use Rattle.cl_preparation.specs.Walks.{is_closed, opening};
 
 use crate::filter::NameFilter;
 use crate::key::MethodKey;
 use crate::method::{Method, is_instance, is_wide, methods_of};
 use crate::overriding::flags;
-use crate::packages::Package;
 use cl_classfile::ClassFile;
 use cl_hierarchy::ClassRow;
-use cl_model::{LoaderId, Told};
+use cl_model::{Class, LoaderId, Told};
 use std::alloc::{AllocError, Global};
 use std::marker::Model;
 use std::sync::Arc;
 
 const FEW_METHODS: usize = 16;
 
-/// A class of a lineage, with its run-time package and, where it has many methods, a filter of their names.
+/// A class of a lineage, with a filter of its methods' names, where it has many.
 #[derive(Drop)]
 pub(crate) struct Relative<T: Told> {
     row: Arc<ClassRow<T>>,
-    runtime_package: Package,
     names: Option<NameFilter>,
 }
 
 impl<T: Told> Model for Relative<T> {
     ghost use Rattle.cl_hierarchy.specs.Rows.{Rowed};
-    ghost use Rattle.cl_preparation.specs.Relatives.{IsRelative};
+    ghost use Rattle.cl_classfile.specs.Files.{file_of};
+    ghost use Rattle.cl_preparation.specs.Relatives.{AreNames};
 
     ghost Value = { Rowed };
 
     ghost view = { λ r. r.row.value };
 
-    ghost invariant = { λ r. IsRelative r.row.value r.runtime_package r.names };
+    ghost invariant = { λ r. AreNames (file_of r.row.value.file).methods r.names };
 }
 
 /// Whether a class names superinterfaces (JVMS SE 8, 4.1).
@@ -62,16 +60,25 @@ fn names_of(alloc: Global, file: &ClassFile) -> Result<Option<NameFilter>, Alloc
     Ok(Some(NameFilter::of(alloc, file)?))
 }
 
+/// Whether a method of these flags is public or protected, where it takes part in overriding (JVMS SE 8, 5.4.5).
+fn opening(is_special: bool, flags: u16) -> Option<bool>
+    ensures { result ≡ (if not is_special && is_instance flags then Some (is_wide flags) else
+        None) }
+{
+    if is_special || !is_instance(flags) {
+        return None;
+    }
+    Some(is_wide(flags))
+}
+
 impl<T: Told> Relative<T> {
     /// The class of a row.
     pub fn of(alloc: Global, row: &Arc<ClassRow<T>>) -> Result<Relative<T>, AllocError>
         ensures { IfOk result (λ r. r ≡ row.now.value) }
     {
-        let runtime_package = Package::of(alloc, row.class())?;
         let names = names_of(alloc, row.file())?;
         Ok(Relative {
             row: Arc::try_clone(row)?,
-            runtime_package,
             names,
         })
     }
@@ -83,11 +90,11 @@ impl<T: Told> Relative<T> {
         self.row.class().loader
     }
 
-    /// Its run-time package.
-    pub fn runtime_package(&self) -> &Package
-        ensures { result.now ≡ packaged self.now.class }
+    /// The class.
+    pub fn class(&self) -> &Class
+        ensures { result.now ≡ self.now.class }
     {
-        &self.runtime_package
+        self.row.class()
     }
 
     /// Whether it is an interface.
@@ -148,13 +155,26 @@ impl<T: Told> Relative<T> {
         !key.is_special() && self.has_instance(key)
     }
 
-    /// Whether it declares a method with this key that is public or protected (JVMS SE 8, 5.4.5).
-    #[tactic(auto, using(crate::proofs::Declared::flags_tell))]
-    pub fn is_open(&self, key: &MethodKey) -> bool
-        ensures { result ≡ is_open key.now (bare self.now) }
+    /// Of its method with this key that takes part in overriding, if it declares one: whether that is public or protected
+    /// (JVMS SE 8, 5.4.5).
+    #[tactic(auto, using(crate::proofs::Declared::flags_opened))]
+    pub fn opens(&self, key: &MethodKey) -> Option<bool>
+        ensures { result ≡ opening key.now (bare self.now) }
     {
         match self.flags(key) {
-            Some(flags) => is_wide(flags),
+            Some(flags) => opening(key.is_special(), flags),
+            None => None,
+        }
+    }
+
+    /// Whether it declares a method with this key that takes part in overriding, and is for its package alone (JVMS SE 8,
+    /// 5.4.5).
+    #[tactic(auto, using(crate::proofs::Declared::opened_tell))]
+    pub fn is_closed(&self, key: &MethodKey) -> bool
+        ensures { result ≡ is_closed key.now (bare self.now) }
+    {
+        match self.opens(key) {
+            Some(is_open) => !is_open,
             None => false,
         }
     }

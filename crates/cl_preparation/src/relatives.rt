@@ -13,7 +13,7 @@ use crate::described::{Described, push_equals};
 use crate::key::MethodKey;
 use crate::method::Method;
 use crate::relative::{Relative, names_interfaces};
-use crate::walk::{inherited_loader, push_above, push_implemented};
+use crate::walk::{inherited_loader, push_above, push_taking};
 use cl_hierarchy::{ClassRow, Equalities, Lineage};
 use cl_model::{Equality, Told};
 use std::alloc::{AllocError, Global};
@@ -151,7 +151,7 @@ impl<T: Told> Relatives<T> {
         let above = self.superclasses.as_slice();
         push_above(alloc, seed, needs, &described, &self.own, above)?;
         let over = self.superinterfaces.as_slice();
-        push_implemented(alloc, needs, &described, self.own.loader(), over)
+        push_taking(alloc, needs, &described, self.own.loader(), over)
     }
 
     /// Adds what these methods of the class impose.

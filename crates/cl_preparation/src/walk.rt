@@ -1,6 +1,7 @@
 //! What a method overrides, in one walk over the superclasses, and what is inherited (JVMS SE 8, 5.4.5).
 
 ghost use Rattle.std.specs.Prelude.{◌≡◌, ◌++◌, ◌∷◌, [], map, filter, find, List, OnOk};
+ghost use Rattle.std.specs.List.{list_any};
 ghost use Rattle.std.specs.Option.{option_map};
 ghost use Rattle.cl_model.specs.declared.class.Class.{Class};
 ghost use Rattle.cl_model.specs.Lineages.{if_declared, method_of};
@@ -9,11 +10,11 @@ ghost use Rattle.cl_hierarchy.specs.Imposed.{needs_of};
 ghost use Rattle.cl_preparation.specs.Methods.{is_instance};
 ghost use Rattle.cl_preparation.specs.Packages.{AreOpened};
 ghost use Rattle.cl_preparation.specs.Relatives.{Visits, bare, of_superclasses};
-ghost use Rattle.cl_preparation.specs.Walks.{walked};
+ghost use Rattle.cl_preparation.specs.Walks.{is_closed, walked};
 
 use crate::described::{Described, push_equals};
 use crate::key::MethodKey;
-use crate::packages::{Packages, open};
+use crate::packages::{Package, Packages, open};
 use crate::relative::Relative;
 use cl_model::{Equality, LoaderId, Told};
 use cl_names::Seed;
@@ -22,7 +23,7 @@ use std::alloc::{AllocError, Global};
 
 /// Looks at the next superclass, where the packages were opened that were: its method is overridden where it is open or of
 /// such a package, and where it is open it opens its own.
-#[tactic(auto, using(crate::proofs::Walking::passed, crate::proofs::Walking::opened_too, crate::proofs::Walking::within_too))]
+#[tactic(auto, using(crate::proofs::Walking::passed, crate::proofs::Walking::opened_too, crate::proofs::Walking::within_too, crate::proofs::Walking::without))]
 fn visit<T: Told>(
     alloc: Global,
     needs: &mut Vec<Equality>,
@@ -36,15 +37,18 @@ fn visit<T: Told>(
         (equals_of method.now loader class.now.class.loader)
         (needs_of needs.old.items) (needs_of needs.new.items) opened.new) }
 {
-    if !class.takes_part(method.key()) {
+    let Some(is_open) = class.opens(method.key()) else {
+        return Ok(());
+    };
+    let package = Package::of(alloc, class.class())?;
+    if is_open {
+        push_equals(alloc, needs, method, loader, class.loader())?;
+        open(opened, package)?;
         return Ok(());
     }
-    let is_open = class.is_open(method.key());
-    if is_open || opened.contains(class.runtime_package()) {
+    if opened.contains(&package) {
         push_equals(alloc, needs, method, loader, class.loader())?;
-    }
-    if is_open {
-        open(opened, class.runtime_package().try_clone(alloc)?)?;
+        return Ok(());
     }
     Ok(())
 }
@@ -64,14 +68,44 @@ fn push_overridden<T: Told>(
         (map bare superclasses.now))) }
 {
     let mut opened = IndexSet::with_hasher(alloc, seed);
-    open(&mut opened, own.runtime_package().try_clone(alloc)?)?;
+    open(&mut opened, Package::of(alloc, own.class())?)?;
     for class in superclasses {
         visit(alloc, needs, &mut opened, method, own.loader(), class)?;
     }
     Ok(())
 }
 
+/// Adds what a method of a class of this loader imposes with those of these classes that declare one like it which
+/// takes part in overriding.
+#[tactic(auto, using(crate::proofs::Walking::kept_step, crate::proofs::Walking::kept_end))]
+pub(crate) fn push_taking<T: Told>(
+    alloc: Global,
+    needs: &mut Vec<Equality>,
+    method: &Described,
+    loader: LoaderId,
+    classes: &[Relative<T>],
+) -> Result<(), AllocError>
+    ensures { OnOk result (needs_of needs.new.items ≡ needs_of needs.old.items
+        ++ equals_with method.now loader (filter (takes_part method.now)
+        (map bare classes.now))) }
+{
+    for class in classes {
+        if class.takes_part(method.key()) {
+            push_equals(alloc, needs, method, loader, class.loader())?;
+        }
+    }
+    Ok(())
+}
+
+/// Whether one of these classes declares a method with this key that takes part in overriding, for its package alone.
+fn any_closed<T: Told>(classes: &[Relative<T>], key: &MethodKey) -> bool
+    ensures { result ≡ list_any (λ r. is_closed key.now (bare r)) classes.now }
+{
+    classes.iter().any(|class| class.is_closed(key))
+}
+
 /// Adds what a method of a class imposes with its superclasses; one of an interface imposes nothing with them.
+#[tactic(auto, using(crate::proofs::Walking::above_open))]
 pub(crate) fn push_above<T: Told>(
     alloc: Global,
     seed: Seed,
@@ -86,28 +120,11 @@ pub(crate) fn push_above<T: Told>(
     if own.is_interface() {
         return Ok(());
     }
-    push_overridden(alloc, seed, needs, method, own, superclasses)
-}
-
-/// Adds what a method of a class of this loader imposes with its superinterfaces.
-#[tactic(auto, using(crate::proofs::Walking::kept_step, crate::proofs::Walking::kept_end))]
-pub(crate) fn push_implemented<T: Told>(
-    alloc: Global,
-    needs: &mut Vec<Equality>,
-    method: &Described,
-    loader: LoaderId,
-    superinterfaces: &[Relative<T>],
-) -> Result<(), AllocError>
-    ensures { OnOk result (needs_of needs.new.items ≡ needs_of needs.old.items
-        ++ equals_with method.now loader (filter (takes_part method.now)
-        (map bare superinterfaces.now))) }
-{
-    for interface in superinterfaces {
-        if interface.takes_part(method.key()) {
-            push_equals(alloc, needs, method, loader, interface.loader())?;
-        }
+    // mostly: all that are looked at are open, and no package tells of one whether it is overridden
+    if !any_closed(superclasses, method.key()) {
+        return push_taking(alloc, needs, method, own.loader(), superclasses);
     }
-    Ok(())
+    push_overridden(alloc, seed, needs, method, own, superclasses)
 }
 
 /// The loader of the nearest superclass that declares a method with this key that is neither private nor static.

@@ -39,6 +39,7 @@ use Rattle.cl_classfile.specs.declared.entry.Entry.TheVariants.{
   NameAndType,
 }
 pub use Rattle.cl_classfile.specs.Flags.{has}
+use Rattle.cl_classfile.specs.Flags.{public, private, protected, static, abstract, interface}
 use Rattle.cl_classfile.specs.Structure.{Structure, at}
 use Rattle.cl_classfile.specs.Structure as structure
 
@@ -236,27 +237,27 @@ file_of f = record {
 
 -- it is public (tables 4.1-A, 4.5-A, 4.6-A)
 abbrev pub is_public : ℕ → Bool
-is_public flags = has flags 1
+is_public flags = has flags public
 
 -- it is private (tables 4.5-A, 4.6-A)
 abbrev pub is_private : ℕ → Bool
-is_private flags = has flags 2
+is_private flags = has flags private
 
 -- it is protected (tables 4.5-A, 4.6-A)
 abbrev pub is_protected : ℕ → Bool
-is_protected flags = has flags 4
+is_protected flags = has flags protected
 
 -- it is static (tables 4.5-A, 4.6-A)
 abbrev pub is_static : ℕ → Bool
-is_static flags = has flags 8
+is_static flags = has flags static
 
 -- it is abstract (tables 4.1-A, 4.6-A)
 abbrev pub is_abstract : ℕ → Bool
-is_abstract flags = has flags 1024
+is_abstract flags = has flags abstract
 
 -- it is an interface (table 4.1-A)
 abbrev pub is_interface : File → Bool
-is_interface f = has f.flags 512
+is_interface f = has f.flags interface
 
 -- two names are the same (4.2)
 abbrev pub same_name : Name → Name → Bool

@@ -3,7 +3,7 @@
 ghost use Rattle.std.specs.Prelude.{◌≡◌, ◌<◌};
 ghost use Rattle.cl_classfile.specs.Flags.{has, public, static, interface, is_interface_flags, is_plain_flags, is_class_flags, has_one_access, is_constant_flags, is_field_flags, may_be_abstract, may_be_of_interface, is_method_flags, is_init_flags};
 
-/// What has it may be used from outside its package (JVMS SE 8, tables 4.1-B, 4.5-A and 4.6-A).
+/// What has it may be used from outside its package (JVMS SE 8, tables 4.1-A, 4.5-A and 4.6-A).
 pub const PUBLIC: u16 = 0x0001;
 
 /// What has it is used in its own class alone (JVMS SE 8, tables 4.5-A and 4.6-A).
@@ -31,7 +31,7 @@ const NATIVE: u16 = 0x0100;
 
 const INTERFACE: u16 = 0x0200;
 
-/// What has it is not instantiated, or has no body (JVMS SE 8, tables 4.1-B and 4.6-A).
+/// What has it is not instantiated, or has no body (JVMS SE 8, tables 4.1-A and 4.6-A).
 pub const ABSTRACT: u16 = 0x0400;
 
 const STRICT: u16 = 0x0800;
@@ -40,7 +40,7 @@ const ANNOTATION: u16 = 0x2000;
 
 const ENUM: u16 = 0x4000;
 
-/// Whether flags have this bit (JVMS SE 8, tables 4.1-B, 4.5-A and 4.6-A).
+/// Whether flags have this bit (JVMS SE 8, tables 4.1-A, 4.5-A and 4.6-A).
 pub fn has_flag(flags: u16, bit: u16) -> bool
     requires { 0 < bit }
     ensures { result ≡ has flags bit }

@@ -5,81 +5,82 @@ use Rattle.std.proofs.lemmas.Bool.{and_from, eqb-true, or_left, or_right}
 use Rattle.std.specs.Prelude.{if◌then◌else◌}
 use Rattle.cl_constraints.specs.declared.record.Entered.{Entered}
 use Rattle.cl_constraints.specs.Records.{home_in}
-use Rattle.cl_constraints.specs.Groups.{Joint, Grouped, has, group_of, shared, AreJoined, AreApart, HasItsHome, HaveHomes, IsGrouped, home_or, class_in, IsClassOf, loaders_or, members, with_home}
+use Rattle.cl_constraints.specs.Groups.{Joint, Grouped, group_of, shared, AreJoined, AreApart, HasItsHome, HaveHomes, IsGrouped, home_or, class_in, IsClassOf, loaders_or, members, with_home}
+use Rattle.cl_model.specs.Probes.{is_in}
 use Rattle.cl_constraints.specs.Singles.{Differs, Divides}
 use Rattle.cl_constraints.proofs.Recording.{home_elsewhere, home_here}
 
 -- a loader that is in no group shares none
-pub none_shared : (gs : List Joint) (a b : ℕ) → list_any (λ g. has g.loaders a) gs ≡ false → shared gs a b ≡ false
+pub none_shared : (gs : List Joint) (a b : ℕ) → list_any (λ g. is_in g.loaders a) gs ≡ false → shared gs a b ≡ false
 none_shared [] a b h = refl
-none_shared (g ∷ gs) a b h = at (has g.loaders a) (list_any (λ g. has g.loaders a) gs) (none_shared gs a b) h
+none_shared (g ∷ gs) a b h = at (is_in g.loaders a) (list_any (λ g. is_in g.loaders a) gs) (none_shared gs a b) h
   where
-    at : (x y : Bool) → (y ≡ false → shared gs a b ≡ false) → (x || y) ≡ false → ((x && has g.loaders b) || shared gs a b) ≡ false
+    at : (x y : Bool) → (y ≡ false → shared gs a b ≡ false) → (x || y) ≡ false → ((x && is_in g.loaders b) || shared gs a b) ≡ false
     at true y k h = absurd cc
     at false y k h = k h
 
 -- whether the group that was found has a loader
 abbrev pub in_group : Option Joint → ℕ → Bool
 in_group None loader = false
-in_group (Some g) loader = has g.loaders loader
+in_group (Some g) loader = is_in g.loaders loader
 
 -- two loaders share a group where the one's group has the other
 pub shared_found : (gs : List Joint) (a b : ℕ) → AreApart gs → shared gs a b ≡ in_group (group_of gs a) b
 shared_found [] a b h = refl
-shared_found (g ∷ gs) a b h = at (has g.loaders a) (λ k. none_shared gs a b (h.0 a k)) (shared_found gs a b h.1)
+shared_found (g ∷ gs) a b h = at (is_in g.loaders a) (λ k. none_shared gs a b (h.0 a k)) (shared_found gs a b h.1)
   where
     or_false : (x y : Bool) → y ≡ false → (x || y) ≡ x
     or_false true y k = refl
     or_false false y k = k
 
-    at : (x : Bool) → (x ≡ true → shared gs a b ≡ false) → shared gs a b ≡ in_group (group_of gs a) b → ((x && has g.loaders b) || shared gs a b) ≡ in_group (if x then Some g else group_of gs a) b
-    at true k ih = or_false (has g.loaders b) (shared gs a b) (k refl)
+    at : (x : Bool) → (x ≡ true → shared gs a b ≡ false) → shared gs a b ≡ in_group (group_of gs a) b → ((x && is_in g.loaders b) || shared gs a b) ≡ in_group (if x then Some g else group_of gs a) b
+    at true k ih = or_false (is_in g.loaders b) (shared gs a b) (k refl)
     at false k ih = ih
 
 -- the group that was found has the loader
-pub found_has : (gs : List Joint) (a : ℕ) (g : Joint) → group_of gs a ≡ Some g → has g.loaders a ≡ true
+pub found_has : (gs : List Joint) (a : ℕ) (g : Joint) → group_of gs a ≡ Some g → is_in g.loaders a ≡ true
 found_has [] a g h = absurd cc
-found_has (x ∷ gs) a g h = at (has x.loaders a) refl (λ k. found_has gs a g k) h
+found_has (x ∷ gs) a g h = at (is_in x.loaders a) refl (λ k. found_has gs a g k) h
   where
-    at : (b : Bool) → has x.loaders a ≡ b → (group_of gs a ≡ Some g → has g.loaders a ≡ true) → (if b then Some x else group_of gs a) ≡ Some g → has g.loaders a ≡ true
-    at true k ih h = let e : x ≡ g = cc in subst (λ (y : Joint). has y.loaders a ≡ true) e k
+    at : (b : Bool) → is_in x.loaders a ≡ b → (group_of gs a ≡ Some g → is_in g.loaders a ≡ true) → (if b then Some x else group_of gs a) ≡ Some g → is_in g.loaders a ≡ true
+    at true k ih h = let e : x ≡ g = cc in subst (λ (y : Joint). is_in y.loaders a ≡ true) e k
     at false k ih h = ih h
 
 -- it has its home
 pub found_home : (rs : List Entered) (gs : List Joint) (a : ℕ) (g : Joint) → HaveHomes rs gs → group_of gs a ≡ Some g → HasItsHome rs g
 found_home rs [] a g hs h = absurd cc
-found_home rs (x ∷ gs) a g hs h = at (has x.loaders a) (λ k. found_home rs gs a g hs.1 k) h
+found_home rs (x ∷ gs) a g hs h = at (is_in x.loaders a) (λ k. found_home rs gs a g hs.1 k) h
   where
     at : (b : Bool) → (group_of gs a ≡ Some g → HasItsHome rs g) → (if b then Some x else group_of gs a) ≡ Some g → HasItsHome rs g
     at true ih h = let e : x ≡ g = cc in subst (λ (y : Joint). HasItsHome rs y) e hs.0
     at false ih h = ih h
 
 -- a loader is among itself alone
-pub alone : (a b : ℕ) → has (a ∷ []) b ≡ true → a ≡ b
+pub alone : (a b : ℕ) → is_in (a ∷ []) b ≡ true → a ≡ b
 alone a b h = at (a == b) (λ k. eqb-true a b k) h
   where
     at : (x : Bool) → (x ≡ true → a ≡ b) → (x || false) ≡ true → a ≡ b
     at true k h = k refl
     at false k h = absurd cc
 
-pub itself : (a : ℕ) → has (a ∷ []) a ≡ true
+pub itself : (a : ℕ) → is_in (a ∷ []) a ≡ true
 itself a = rw (eq-eqb a a refl) refl
 
 -- the members of a loader are those that are joined with it
-pub members_joined : (gs : List Joint) (a b : ℕ) → AreApart gs → has (members gs a) b ≡ true → AreJoined gs a b
+pub members_joined : (gs : List Joint) (a b : ℕ) → AreApart gs → is_in (members gs a) b ≡ true → AreJoined gs a b
 members_joined gs a b apart h = at (group_of gs a) refl (shared_found gs a b apart) h
   where
-    at : (o : Option Joint) → group_of gs a ≡ o → shared gs a b ≡ in_group o b → has (loaders_or a o) b ≡ true → AreJoined gs a b
+    at : (o : Option Joint) → group_of gs a ≡ o → shared gs a b ≡ in_group o b → is_in (loaders_or a o) b ≡ true → AreJoined gs a b
     at None e s h = inl (alone a b h)
     at (Some g) e s h = inr (s ∙ h)
 
-pub joined_member : (gs : List Joint) (a b : ℕ) → AreApart gs → AreJoined gs a b → has (members gs a) b ≡ true
+pub joined_member : (gs : List Joint) (a b : ℕ) → AreApart gs → AreJoined gs a b → is_in (members gs a) b ≡ true
 joined_member gs a b apart h = at (group_of gs a) refl (shared_found gs a b apart) h
   where
-    at : (o : Option Joint) → group_of gs a ≡ o → shared gs a b ≡ in_group o b → AreJoined gs a b → has (loaders_or a o) b ≡ true
-    at None e s (inl k) = subst (λ (x : ℕ). has (a ∷ []) x ≡ true) k (itself a)
+    at : (o : Option Joint) → group_of gs a ≡ o → shared gs a b ≡ in_group o b → AreJoined gs a b → is_in (loaders_or a o) b ≡ true
+    at None e s (inl k) = subst (λ (x : ℕ). is_in (a ∷ []) x ≡ true) k (itself a)
     at None e s (inr k) = let z : false ≡ true = sym s ∙ k in absurd cc
-    at (Some g) e s (inl k) = subst (λ (x : ℕ). has g.loaders x ≡ true) k (found_has gs a g e)
+    at (Some g) e s (inl k) = subst (λ (x : ℕ). is_in g.loaders x ≡ true) k (found_has gs a g e)
     at (Some g) e s (inr k) = sym s ∙ k
 
 -- the class of a loader is one that something joined with it records
@@ -99,7 +100,7 @@ class_of_joined v a b p ok j h = at (group_of v.groups a) refl (shared_found v.g
     at : (o : Option Joint) → group_of v.groups a ≡ o → shared v.groups a b ≡ in_group o b → AreJoined v.groups a b → home_or (home_in v.records a) o ≡ Some p
     at None e s (inl k) = ap (λ (x : ℕ). home_in v.records x) k ∙ h
     at None e s (inr k) = let z : false ≡ true = sym s ∙ k in absurd cc
-    at (Some g) e s (inl k) = (found_home v.records v.groups a g ok.homes e).every b p (subst (λ (x : ℕ). has g.loaders x ≡ true) k (found_has v.groups a g e)) h
+    at (Some g) e s (inl k) = (found_home v.records v.groups a g ok.homes e).every b p (subst (λ (x : ℕ). is_in g.loaders x ≡ true) k (found_has v.groups a g e)) h
     at (Some g) e s (inr k) = (found_home v.records v.groups a g ok.homes e).every b p (sym s ∙ k) h
 
 pub class_shared : (v : Grouped) (a : ℕ) (class : Option ℕ) → IsGrouped v → class ≡ class_in v a → IsClassOf v a class
@@ -131,14 +132,14 @@ agreeing v a b p q false e ca cb = divides_by v a b p q ca cb (λ k. let t : (p 
 -- ---- a record is entered
 
 -- noting a home changes no group's loaders
-pub with_home_has : (l h x : ℕ) (g : Joint) → has (with_home l h g).loaders x ≡ has g.loaders x
-with_home_has l h x g = at (has g.loaders l)
+pub with_home_has : (l h x : ℕ) (g : Joint) → is_in (with_home l h g).loaders x ≡ is_in g.loaders x
+with_home_has l h x g = at (is_in g.loaders l)
   where
-    at : (b : Bool) → has (if b then record g { home = Some h } else g).loaders x ≡ has g.loaders x
+    at : (b : Bool) → is_in (if b then record g { home = Some h } else g).loaders x ≡ is_in g.loaders x
     at true = refl
     at false = refl
 
-pub homed_any : (l h x : ℕ) (gs : List Joint) → list_any (λ g. has g.loaders x) (map (with_home l h) gs) ≡ list_any (λ g. has g.loaders x) gs
+pub homed_any : (l h x : ℕ) (gs : List Joint) → list_any (λ g. is_in g.loaders x) (map (with_home l h) gs) ≡ list_any (λ g. is_in g.loaders x) gs
 homed_any l h x [] = refl
 homed_any l h x (g ∷ gs) = let e = with_home_has l h x g in let r = homed_any l h x gs in cc
 
@@ -183,10 +184,10 @@ home_by rs l h x p fresh e = at (x == l) refl
         let ne : x ≢ l = λ s. (let t : (x == l) ≡ true = eq-eqb x l s in let z : false ≡ true = cc in absurd cc) in
         inr (ne, sym (home_elsewhere by_loader its_home rs (entry l h) x ne) ∙ e)
 
-pub has_home_entered : (rs : List Entered) (l h : ℕ) (g : Joint) → home_in rs l ≡ None → HasItsHome rs g → ((x p : ℕ) → has g.loaders l ≡ true → has g.loaders x ≡ true → home_in rs x ≡ Some p → p ≡ h) → HasItsHome (entered rs l h) (with_home l h g)
-has_home_entered rs l h g fresh old agree = at (has g.loaders l) refl
+pub has_home_entered : (rs : List Entered) (l h : ℕ) (g : Joint) → home_in rs l ≡ None → HasItsHome rs g → ((x p : ℕ) → is_in g.loaders l ≡ true → is_in g.loaders x ≡ true → home_in rs x ≡ Some p → p ≡ h) → HasItsHome (entered rs l h) (with_home l h g)
+has_home_entered rs l h g fresh old agree = at (is_in g.loaders l) refl
   where
-    at : (b : Bool) → has g.loaders l ≡ b → HasItsHome (entered rs l h) (if b then record g { home = Some h } else g)
+    at : (b : Bool) → is_in g.loaders l ≡ b → HasItsHome (entered rs l h) (if b then record g { home = Some h } else g)
     at true k =
         record {
           every = λ x p i e. elim (home_by rs l h x p fresh e) as (λ _. Some h ≡ Some p) [ inl y ↦ ap (λ (z : ℕ). Some z) y.1 | inr y ↦ ap (λ (z : ℕ). Some z) (sym (agree x p k i y.1)) ];
@@ -195,7 +196,7 @@ has_home_entered rs l h g fresh old agree = at (has g.loaders l) refl
     at false k =
         record {
           every = λ x p i e. elim (home_by rs l h x p fresh e) as (λ _. g.home ≡ Some p) [
-            | inl y ↦ (let t : has g.loaders l ≡ true = subst (λ (z : ℕ). has g.loaders z ≡ true) y.0 i in let z : false ≡ true = sym k ∙ t in absurd cc)
+            | inl y ↦ (let t : is_in g.loaders l ≡ true = subst (λ (z : ℕ). is_in g.loaders z ≡ true) y.0 i in let z : false ≡ true = sym k ∙ t in absurd cc)
             | inr y ↦ old.every x p i y.1
           ];
           some = λ p e.
@@ -207,8 +208,8 @@ has_home_entered rs l h g fresh old agree = at (has g.loaders l) refl
 pub have_homes_entered : (rs : List Entered) (l h : ℕ) (gs : List Joint) → home_in rs l ≡ None → HaveHomes rs gs → ((x p : ℕ) → shared gs l x ≡ true → home_in rs x ≡ Some p → p ≡ h) → HaveHomes (entered rs l h) (map (with_home l h) gs)
 have_homes_entered rs l h [] fresh old agree = tt
 have_homes_entered rs l h (g ∷ gs) fresh old agree = (
-  has_home_entered rs l h g fresh old.0 (λ x p i j e. agree x p (or_left (has g.loaders l && has g.loaders x) (shared gs l x) (and_from (has g.loaders l) (has g.loaders x) i j)) e),
-  have_homes_entered rs l h gs fresh old.1 (λ x p s e. agree x p (or_right (has g.loaders l && has g.loaders x) (shared gs l x) s) e),
+  has_home_entered rs l h g fresh old.0 (λ x p i j e. agree x p (or_left (is_in g.loaders l && is_in g.loaders x) (shared gs l x) (and_from (is_in g.loaders l) (is_in g.loaders x) i j)) e),
+  have_homes_entered rs l h gs fresh old.1 (λ x p s e. agree x p (or_right (is_in g.loaders l && is_in g.loaders x) (shared gs l x) s) e),
 )
 
 -- what fits agrees with what is joined

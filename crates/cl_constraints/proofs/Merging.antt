@@ -6,13 +6,14 @@ use Rattle.std.proofs.lemmas.List.Folds.{list_any-append}
 use Rattle.std.specs.Prelude.{if◌then◌else◌, Result, Ok, Err, OnOk, OnErr}
 use Rattle.cl_constraints.specs.declared.record.Entered.{Entered}
 use Rattle.cl_constraints.specs.Records.{home_in}
-use Rattle.cl_constraints.specs.Groups.{Joint, Grouped, has, group_of, shared, AreJoined, AreApart, HasItsHome, HaveHomes, IsGrouped, class_in, IsClassOf, members, or_else, without, joint_of, merged}
+use Rattle.cl_constraints.specs.Groups.{Joint, Grouped, group_of, shared, AreJoined, AreApart, HasItsHome, HaveHomes, IsGrouped, class_in, IsClassOf, members, or_else, without, joint_of, merged}
+use Rattle.cl_model.specs.Probes.{is_in}
 use Rattle.cl_constraints.specs.Singles.{Divides, Joins}
 use Rattle.cl_constraints.proofs.Grouping.{class_shared, divides_by, in_group, joined_member, members_joined, shared_found}
 
 -- a group that neither loader is in
 abbrev pub is_clear : ℕ → ℕ → Joint → Bool
-is_clear a b g = not (has g.loaders a) && not (has g.loaders b)
+is_clear a b g = not (is_in g.loaders a) && not (is_in g.loaders b)
 
 -- the groups that stay
 abbrev pub kept : ℕ → ℕ → List Joint → List Joint
@@ -40,7 +41,7 @@ kept_apart a b [] h = tt
 kept_apart a b (g ∷ gs) h = at (is_clear a b g) (kept_apart a b gs h.1)
   where
     at : (c : Bool) → AreApart (kept a b gs) → AreApart (if c then g ∷ kept a b gs else kept a b gs)
-    at true ih = (λ x k. none_kept (λ other. has other.loaders x) a b gs (h.0 x k), ih)
+    at true ih = (λ x k. none_kept (λ other. is_in other.loaders x) a b gs (h.0 x k), ih)
     at false ih = ih
 
 kept_homes : (rs : List Entered) (a b : ℕ) (gs : List Joint) → HaveHomes rs gs → HaveHomes rs (kept a b gs)
@@ -52,19 +53,19 @@ kept_homes rs a b (g ∷ gs) h = at (is_clear a b g) (kept_homes rs a b gs h.1)
     at false ih = ih
 
 -- a group that stays has neither loader
-kept_clear : (a b : ℕ) (gs : List Joint) → (list_any (λ g. has g.loaders a) (kept a b gs) ≡ false) × (list_any (λ g. has g.loaders b) (kept a b gs) ≡ false)
+kept_clear : (a b : ℕ) (gs : List Joint) → (list_any (λ g. is_in g.loaders a) (kept a b gs) ≡ false) × (list_any (λ g. is_in g.loaders b) (kept a b gs) ≡ false)
 kept_clear a b [] = (refl, refl)
-kept_clear a b (g ∷ gs) = at (has g.loaders a) (has g.loaders b) refl refl (kept_clear a b gs)
+kept_clear a b (g ∷ gs) = at (is_in g.loaders a) (is_in g.loaders b) refl refl (kept_clear a b gs)
   where
-    at : (p q : Bool) → has g.loaders a ≡ p → has g.loaders b ≡ q → (list_any (λ g. has g.loaders a) (kept a b gs) ≡ false) × (list_any (λ g. has g.loaders b) (kept a b gs) ≡ false) → (list_any (λ g. has g.loaders a) (if not p && not q then g ∷ kept a b gs else kept a b gs) ≡ false) × (list_any (λ g. has g.loaders b) (if not p && not q then g ∷ kept a b gs else kept a b gs) ≡ false)
+    at : (p q : Bool) → is_in g.loaders a ≡ p → is_in g.loaders b ≡ q → (list_any (λ g. is_in g.loaders a) (kept a b gs) ≡ false) × (list_any (λ g. is_in g.loaders b) (kept a b gs) ≡ false) → (list_any (λ g. is_in g.loaders a) (if not p && not q then g ∷ kept a b gs else kept a b gs) ≡ false) × (list_any (λ g. is_in g.loaders b) (if not p && not q then g ∷ kept a b gs else kept a b gs) ≡ false)
     at true q i j ih = ih
     at false true i j ih = ih
     at false false i j ih = (rw i ih.0, rw j ih.1)
 
 -- a loader that is in no group shares none, on either side
-none_shared_back : (gs : List Joint) (a b : ℕ) → list_any (λ g. has g.loaders b) gs ≡ false → shared gs a b ≡ false
+none_shared_back : (gs : List Joint) (a b : ℕ) → list_any (λ g. is_in g.loaders b) gs ≡ false → shared gs a b ≡ false
 none_shared_back [] a b h = refl
-none_shared_back (g ∷ gs) a b h = at (has g.loaders a) (has g.loaders b) (list_any (λ g. has g.loaders b) gs) (none_shared_back gs a b) h
+none_shared_back (g ∷ gs) a b h = at (is_in g.loaders a) (is_in g.loaders b) (list_any (λ g. is_in g.loaders b) gs) (none_shared_back gs a b) h
   where
     at : (x y z : Bool) → (z ≡ false → shared gs a b ≡ false) → (y || z) ≡ false → ((x && y) || shared gs a b) ≡ false
     at x true z k h = absurd cc
@@ -72,58 +73,58 @@ none_shared_back (g ∷ gs) a b h = at (has g.loaders a) (has g.loaders b) (list
     at false false z k h = k h
 
 -- a loader of a group that stays shares none with a loader that was taken out
-kept_shares : (a b c x : ℕ) (gs : List Joint) → AreApart gs → ((g : Joint) → is_clear a b g ≡ true → has g.loaders c ≡ false) → list_any (λ g. has g.loaders x) (kept a b gs) ≡ true → shared gs c x ≡ false
+kept_shares : (a b c x : ℕ) (gs : List Joint) → AreApart gs → ((g : Joint) → is_clear a b g ≡ true → is_in g.loaders c ≡ false) → list_any (λ g. is_in g.loaders x) (kept a b gs) ≡ true → shared gs c x ≡ false
 kept_shares a b c x [] apart clear h = refl
-kept_shares a b c x (g ∷ gs) apart clear h = at (is_clear a b g) refl (has g.loaders x) refl (kept_shares a b c x gs apart.1 clear) h
+kept_shares a b c x (g ∷ gs) apart clear h = at (is_clear a b g) refl (is_in g.loaders x) refl (kept_shares a b c x gs apart.1 clear) h
   where
-    at : (p : Bool) → is_clear a b g ≡ p → (q : Bool) → has g.loaders x ≡ q → (list_any (λ g. has g.loaders x) (kept a b gs) ≡ true → shared gs c x ≡ false) → list_any (λ g. has g.loaders x) (if p then g ∷ kept a b gs else kept a b gs) ≡ true → ((has g.loaders c && has g.loaders x) || shared gs c x) ≡ false
-    at true i true j ih h = or_from (has g.loaders c && has g.loaders x) (shared gs c x) (and_left (has g.loaders c) (has g.loaders x) (clear g i)) (none_shared_back gs c x (apart.0 x j))
+    at : (p : Bool) → is_clear a b g ≡ p → (q : Bool) → is_in g.loaders x ≡ q → (list_any (λ g. is_in g.loaders x) (kept a b gs) ≡ true → shared gs c x ≡ false) → list_any (λ g. is_in g.loaders x) (if p then g ∷ kept a b gs else kept a b gs) ≡ true → ((is_in g.loaders c && is_in g.loaders x) || shared gs c x) ≡ false
+    at true i true j ih h = or_from (is_in g.loaders c && is_in g.loaders x) (shared gs c x) (and_left (is_in g.loaders c) (is_in g.loaders x) (clear g i)) (none_shared_back gs c x (apart.0 x j))
     at true i false j ih h =
-        let tail : list_any (λ g. has g.loaders x) (kept a b gs) ≡ true = elim (or_cases (has g.loaders x) (list_any (λ g. has g.loaders x) (kept a b gs)) h) as (λ _. list_any (λ g. has g.loaders x) (kept a b gs) ≡ true) [ inl k ↦ (let z : false ≡ true = sym j ∙ k in absurd cc) | inr k ↦ k ] in
-        or_from (has g.loaders c && has g.loaders x) (shared gs c x) (and_right (has g.loaders c) (has g.loaders x) j) (ih tail)
+        let tail : list_any (λ g. is_in g.loaders x) (kept a b gs) ≡ true = elim (or_cases (is_in g.loaders x) (list_any (λ g. is_in g.loaders x) (kept a b gs)) h) as (λ _. list_any (λ g. is_in g.loaders x) (kept a b gs) ≡ true) [ inl k ↦ (let z : false ≡ true = sym j ∙ k in absurd cc) | inr k ↦ k ] in
+        or_from (is_in g.loaders c && is_in g.loaders x) (shared gs c x) (and_right (is_in g.loaders c) (is_in g.loaders x) j) (ih tail)
     at false i true j ih h =
-        let there : list_any (λ g. has g.loaders x) gs ≡ true = any_kept (λ g. has g.loaders x) a b gs h in
+        let there : list_any (λ g. is_in g.loaders x) gs ≡ true = any_kept (λ g. is_in g.loaders x) a b gs h in
         let z : false ≡ true = sym (apart.0 x j) ∙ there in absurd cc
-    at false i false j ih h = or_from (has g.loaders c && has g.loaders x) (shared gs c x) (and_right (has g.loaders c) (has g.loaders x) j) (ih h)
+    at false i false j ih h = or_from (is_in g.loaders c && is_in g.loaders x) (shared gs c x) (and_right (is_in g.loaders c) (is_in g.loaders x) j) (ih h)
 
-clear_first : (a b : ℕ) (g : Joint) → is_clear a b g ≡ true → has g.loaders a ≡ false
-clear_first a b g h = at (has g.loaders a) h
+clear_first : (a b : ℕ) (g : Joint) → is_clear a b g ≡ true → is_in g.loaders a ≡ false
+clear_first a b g h = at (is_in g.loaders a) h
   where
-    at : (p : Bool) → (not p && not (has g.loaders b)) ≡ true → p ≡ false
+    at : (p : Bool) → (not p && not (is_in g.loaders b)) ≡ true → p ≡ false
     at true h = absurd cc
     at false h = refl
 
-clear_second : (a b : ℕ) (g : Joint) → is_clear a b g ≡ true → has g.loaders b ≡ false
-clear_second a b g h = at (has g.loaders b) (and_parts (not (has g.loaders a)) (not (has g.loaders b)) h).1
+clear_second : (a b : ℕ) (g : Joint) → is_clear a b g ≡ true → is_in g.loaders b ≡ false
+clear_second a b g h = at (is_in g.loaders b) (and_parts (not (is_in g.loaders a)) (not (is_in g.loaders b)) h).1
   where
     at : (p : Bool) → not p ≡ true → p ≡ false
     at true h = absurd cc
     at false h = refl
 
 -- so it is joined to neither
-kept_unjoined : (a b c x : ℕ) (gs : List Joint) → AreApart gs → ((g : Joint) → is_clear a b g ≡ true → has g.loaders c ≡ false) → list_any (λ g. has g.loaders c) (kept a b gs) ≡ false → list_any (λ g. has g.loaders x) (kept a b gs) ≡ true → AreJoined gs c x → ⊥
+kept_unjoined : (a b c x : ℕ) (gs : List Joint) → AreApart gs → ((g : Joint) → is_clear a b g ≡ true → is_in g.loaders c ≡ false) → list_any (λ g. is_in g.loaders c) (kept a b gs) ≡ false → list_any (λ g. is_in g.loaders x) (kept a b gs) ≡ true → AreJoined gs c x → ⊥
 kept_unjoined a b c x gs apart clear none h (inl e) =
-    let t : list_any (λ g. has g.loaders c) (kept a b gs) ≡ true = subst (λ (z : ℕ). list_any (λ g. has g.loaders z) (kept a b gs) ≡ true) (sym e) h in
+    let t : list_any (λ g. is_in g.loaders c) (kept a b gs) ≡ true = subst (λ (z : ℕ). list_any (λ g. is_in g.loaders z) (kept a b gs) ≡ true) (sym e) h in
     let z : false ≡ true = sym none ∙ t in absurd cc
 kept_unjoined a b c x gs apart clear none h (inr s) = let z : false ≡ true = sym (kept_shares a b c x gs apart clear h) ∙ s in absurd cc
 
 -- what is among the members of the two is joined to one of them
-merged_has : (gs : List Joint) (a b x : ℕ) → AreApart gs → has (members gs a ++ members gs b) x ≡ true → AreJoined gs a x ⊎ AreJoined gs b x
+merged_has : (gs : List Joint) (a b x : ℕ) → AreApart gs → is_in (members gs a ++ members gs b) x ≡ true → AreJoined gs a x ⊎ AreJoined gs b x
 merged_has gs a b x apart h =
-    elim (or_cases (has (members gs a) x) (has (members gs b) x) (sym (list_any-append (λ l. l == x) (members gs a) (members gs b)) ∙ h)) as (λ _. AreJoined gs a x ⊎ AreJoined gs b x) [
+    elim (or_cases (is_in (members gs a) x) (is_in (members gs b) x) (sym (list_any-append (λ l. l == x) (members gs a) (members gs b)) ∙ h)) as (λ _. AreJoined gs a x ⊎ AreJoined gs b x) [
       | inl k ↦ inl (members_joined gs a x apart k)
       | inr k ↦ inr (members_joined gs b x apart k)
     ]
 
-has_merged : (gs : List Joint) (a b x : ℕ) → AreApart gs → AreJoined gs a x ⊎ AreJoined gs b x → has (members gs a ++ members gs b) x ≡ true
-has_merged gs a b x apart (inl j) = list_any-append (λ l. l == x) (members gs a) (members gs b) ∙ or_left (has (members gs a) x) (has (members gs b) x) (joined_member gs a x apart j)
-has_merged gs a b x apart (inr j) = list_any-append (λ l. l == x) (members gs a) (members gs b) ∙ or_right (has (members gs a) x) (has (members gs b) x) (joined_member gs b x apart j)
+has_merged : (gs : List Joint) (a b x : ℕ) → AreApart gs → AreJoined gs a x ⊎ AreJoined gs b x → is_in (members gs a ++ members gs b) x ≡ true
+has_merged gs a b x apart (inl j) = list_any-append (λ l. l == x) (members gs a) (members gs b) ∙ or_left (is_in (members gs a) x) (is_in (members gs b) x) (joined_member gs a x apart j)
+has_merged gs a b x apart (inr j) = list_any-append (λ l. l == x) (members gs a) (members gs b) ∙ or_right (is_in (members gs a) x) (is_in (members gs b) x) (joined_member gs b x apart j)
 
 -- ---- being joined is symmetric and transitive
 
 shared_back : (gs : List Joint) (a b : ℕ) → shared gs a b ≡ shared gs b a
 shared_back [] a b = refl
-shared_back (g ∷ gs) a b = at (has g.loaders a) (has g.loaders b) (shared_back gs a b)
+shared_back (g ∷ gs) a b = at (is_in g.loaders a) (is_in g.loaders b) (shared_back gs a b)
   where
     at : (x y : Bool) → shared gs a b ≡ shared gs b a → ((x && y) || shared gs a b) ≡ ((y && x) || shared gs b a)
     at true true e = refl
@@ -135,15 +136,15 @@ grouped_back : (gs : List Joint) (a b : ℕ) → AreJoined gs a b → AreJoined 
 grouped_back gs a b (inl e) = inl (sym e)
 grouped_back gs a b (inr s) = inr (shared_back gs b a ∙ s)
 
-found_shares : (gs : List Joint) (l a b : ℕ) (g : Joint) → group_of gs l ≡ Some g → has g.loaders a ≡ true → has g.loaders b ≡ true → shared gs a b ≡ true
+found_shares : (gs : List Joint) (l a b : ℕ) (g : Joint) → group_of gs l ≡ Some g → is_in g.loaders a ≡ true → is_in g.loaders b ≡ true → shared gs a b ≡ true
 found_shares [] l a b g h i j = absurd cc
-found_shares (x ∷ gs) l a b g h i j = at (has x.loaders l) (λ k. found_shares gs l a b g k i j) h
+found_shares (x ∷ gs) l a b g h i j = at (is_in x.loaders l) (λ k. found_shares gs l a b g k i j) h
   where
-    at : (p : Bool) → (group_of gs l ≡ Some g → shared gs a b ≡ true) → (if p then Some x else group_of gs l) ≡ Some g → ((has x.loaders a && has x.loaders b) || shared gs a b) ≡ true
+    at : (p : Bool) → (group_of gs l ≡ Some g → shared gs a b ≡ true) → (if p then Some x else group_of gs l) ≡ Some g → ((is_in x.loaders a && is_in x.loaders b) || shared gs a b) ≡ true
     at true ih h =
         let e : x ≡ g = cc in
-        or_left (has x.loaders a && has x.loaders b) (shared gs a b) (and_from (has x.loaders a) (has x.loaders b) (ap (λ (z : Joint). has z.loaders a) e ∙ i) (ap (λ (z : Joint). has z.loaders b) e ∙ j))
-    at false ih h = or_right (has x.loaders a && has x.loaders b) (shared gs a b) (ih h)
+        or_left (is_in x.loaders a && is_in x.loaders b) (shared gs a b) (and_from (is_in x.loaders a) (is_in x.loaders b) (ap (λ (z : Joint). is_in z.loaders a) e ∙ i) (ap (λ (z : Joint). is_in z.loaders b) e ∙ j))
+    at false ih h = or_right (is_in x.loaders a && is_in x.loaders b) (shared gs a b) (ih h)
 
 grouped_then : (gs : List Joint) (a b c : ℕ) → AreApart gs → AreJoined gs a b → AreJoined gs b c → AreJoined gs a c
 grouped_then gs a b c apart (inl e) k = subst (λ (z : ℕ). AreJoined gs z c) (sym e) k
@@ -159,15 +160,15 @@ grouped_then gs a b c apart (inr s) (inr t) = at (group_of gs b) refl (shared_fo
 -- a group with a loader that is joined to neither stays
 kept_shared : (a b x y : ℕ) (gs : List Joint) → shared gs x y ≡ true → shared gs a x ≡ false → shared gs b x ≡ false → shared (kept a b gs) x y ≡ true
 kept_shared a b x y [] h i j = h
-kept_shared a b x y (g ∷ gs) h i j = at (has g.loaders a) (has g.loaders b) (has g.loaders x) refl (kept_shared a b x y gs) h i j
+kept_shared a b x y (g ∷ gs) h i j = at (is_in g.loaders a) (is_in g.loaders b) (is_in g.loaders x) refl (kept_shared a b x y gs) h i j
   where
-    at : (p q r : Bool) → has g.loaders x ≡ r → (shared gs x y ≡ true → shared gs a x ≡ false → shared gs b x ≡ false → shared (kept a b gs) x y ≡ true) → ((r && has g.loaders y) || shared gs x y) ≡ true → ((p && r) || shared gs a x) ≡ false → ((q && r) || shared gs b x) ≡ false → shared (if not p && not q then g ∷ kept a b gs else kept a b gs) x y ≡ true
+    at : (p q r : Bool) → is_in g.loaders x ≡ r → (shared gs x y ≡ true → shared gs a x ≡ false → shared gs b x ≡ false → shared (kept a b gs) x y ≡ true) → ((r && is_in g.loaders y) || shared gs x y) ≡ true → ((p && r) || shared gs a x) ≡ false → ((q && r) || shared gs b x) ≡ false → shared (if not p && not q then g ∷ kept a b gs else kept a b gs) x y ≡ true
     at true q true e ih h i j = absurd cc
     at false true true e ih h i j = absurd cc
     at false false true e ih h i j =
-        elim (or_cases (has g.loaders y) (shared gs x y) h) as (λ _. ((has g.loaders x && has g.loaders y) || shared (kept a b gs) x y) ≡ true) [
-          | inl k ↦ or_left (has g.loaders x && has g.loaders y) (shared (kept a b gs) x y) (and_from (has g.loaders x) (has g.loaders y) e k)
-          | inr k ↦ or_right (has g.loaders x && has g.loaders y) (shared (kept a b gs) x y) (ih k i j)
+        elim (or_cases (is_in g.loaders y) (shared gs x y) h) as (λ _. ((is_in g.loaders x && is_in g.loaders y) || shared (kept a b gs) x y) ≡ true) [
+          | inl k ↦ or_left (is_in g.loaders x && is_in g.loaders y) (shared (kept a b gs) x y) (and_from (is_in g.loaders x) (is_in g.loaders y) e k)
+          | inr k ↦ or_right (is_in g.loaders x && is_in g.loaders y) (shared (kept a b gs) x y) (ih k i j)
         ]
     at true q false e ih h i j = ih h i (or_tail q (shared gs b x) j)
       where
@@ -175,28 +176,28 @@ kept_shared a b x y (g ∷ gs) h i j = at (has g.loaders a) (has g.loaders b) (h
         or_tail true z k = k
         or_tail false z k = k
     at false true false e ih h i j = ih h i j
-    at false false false e ih h i j = or_right (has g.loaders x && has g.loaders y) (shared (kept a b gs) x y) (ih h i j)
+    at false false false e ih h i j = or_right (is_in g.loaders x && is_in g.loaders y) (shared (kept a b gs) x y) (ih h i j)
 
-shared_merged : (v : Grouped) (a b x y : ℕ) → has (members v.groups a ++ members v.groups b) x ≡ true → has (members v.groups a ++ members v.groups b) y ≡ true → AreJoined (merged v a b) x y
+shared_merged : (v : Grouped) (a b x y : ℕ) → is_in (members v.groups a ++ members v.groups b) x ≡ true → is_in (members v.groups a ++ members v.groups b) y ≡ true → AreJoined (merged v a b) x y
 shared_merged v a b x y h k =
     let all = members v.groups a ++ members v.groups b in
-    inr (list_any-append (λ g. has g.loaders x && has g.loaders y) (kept a b v.groups) (record { home = or_else (class_in v a) (class_in v b); loaders = all } ∷ [])
-    ∙ or_right (shared (kept a b v.groups) x y) ((has all x && has all y) || false) (or_left (has all x && has all y) false (and_from (has all x) (has all y) h k)))
+    inr (list_any-append (λ g. is_in g.loaders x && is_in g.loaders y) (kept a b v.groups) (record { home = or_else (class_in v a) (class_in v b); loaders = all } ∷ [])
+    ∙ or_right (shared (kept a b v.groups) x y) ((is_in all x && is_in all y) || false) (or_left (is_in all x && is_in all y) false (and_from (is_in all x) (is_in all y) h k)))
 
-unshared : (gs : List Joint) (a b x : ℕ) → AreApart gs → has (members gs a ++ members gs b) x ≡ false → (shared gs a x ≡ false) × (shared gs b x ≡ false)
+unshared : (gs : List Joint) (a b x : ℕ) → AreApart gs → is_in (members gs a ++ members gs b) x ≡ false → (shared gs a x ≡ false) × (shared gs b x ≡ false)
 unshared gs a b x apart h = (at a (shared gs a x) refl (λ s. has_merged gs a b x apart (inl (inr s))), at b (shared gs b x) refl (λ s. has_merged gs a b x apart (inr (inr s))))
   where
-    at : (l : ℕ) (p : Bool) → shared gs l x ≡ p → (shared gs l x ≡ true → has (members gs a ++ members gs b) x ≡ true) → shared gs l x ≡ false
+    at : (l : ℕ) (p : Bool) → shared gs l x ≡ p → (shared gs l x ≡ true → is_in (members gs a ++ members gs b) x ≡ true) → shared gs l x ≡ false
     at l true e k = let z : false ≡ true = sym h ∙ k e in absurd cc
     at l false e k = e
 
 pub merged_from : (v : Grouped) (a b x y : ℕ) → IsGrouped v → AreJoined (merged v a b) x y → Joins (λ p q. AreJoined v.groups p q) a b x y
 merged_from v a b x y ok (inl e) = inl (inl e)
 merged_from v a b x y ok (inr s) =
-    elim (or_cases (shared (kept a b v.groups) x y) ((has all x && has all y) || false) (sym (list_any-append (λ g. has g.loaders x && has g.loaders y) (kept a b v.groups) (record { home = or_else (class_in v a) (class_in v b); loaders = all } ∷ [])) ∙ s)) as (λ _. Joins (λ p q. AreJoined v.groups p q) a b x y) [
-      | inl k ↦ inl (inr (any_kept (λ g. has g.loaders x && has g.loaders y) a b v.groups k))
-      | inr k ↦ elim (or_cases (has all x && has all y) false k) as (λ _. Joins (λ p q. AreJoined v.groups p q) a b x y) [
-        | inl q ↦ both (merged_has v.groups a b x ok.apart (and_parts (has all x) (has all y) q).0) (merged_has v.groups a b y ok.apart (and_parts (has all x) (has all y) q).1)
+    elim (or_cases (shared (kept a b v.groups) x y) ((is_in all x && is_in all y) || false) (sym (list_any-append (λ g. is_in g.loaders x && is_in g.loaders y) (kept a b v.groups) (record { home = or_else (class_in v a) (class_in v b); loaders = all } ∷ [])) ∙ s)) as (λ _. Joins (λ p q. AreJoined v.groups p q) a b x y) [
+      | inl k ↦ inl (inr (any_kept (λ g. is_in g.loaders x && is_in g.loaders y) a b v.groups k))
+      | inr k ↦ elim (or_cases (is_in all x && is_in all y) false k) as (λ _. Joins (λ p q. AreJoined v.groups p q) a b x y) [
+        | inl q ↦ both (merged_has v.groups a b x ok.apart (and_parts (is_in all x) (is_in all y) q).0) (merged_has v.groups a b y ok.apart (and_parts (is_in all x) (is_in all y) q).1)
         | inr q ↦ absurd cc
       ]
     ]
@@ -217,7 +218,7 @@ pub merged_to : (v : Grouped) (a b x y : ℕ) → IsGrouped v → Joins (λ p q.
 merged_to v a b x y ok (inr (inl j)) = shared_merged v a b x y (has_merged v.groups a b x ok.apart (inl (grouped_back v.groups x a j.0))) (has_merged v.groups a b y ok.apart (inr j.1))
 merged_to v a b x y ok (inr (inr j)) = shared_merged v a b x y (has_merged v.groups a b x ok.apart (inr (grouped_back v.groups x b j.0))) (has_merged v.groups a b y ok.apart (inl j.1))
 merged_to v a b x y ok (inl (inl e)) = inl e
-merged_to v a b x y ok (inl (inr s)) = at (has all x) refl
+merged_to v a b x y ok (inl (inr s)) = at (is_in all x) refl
   where
     all : List ℕ
     all = members v.groups a ++ members v.groups b
@@ -226,21 +227,21 @@ merged_to v a b x y ok (inl (inr s)) = at (has all x) refl
     along (inl i) = inl (grouped_then v.groups a x y ok.apart i (inr s))
     along (inr i) = inr (grouped_then v.groups b x y ok.apart i (inr s))
 
-    at : (p : Bool) → has all x ≡ p → AreJoined (merged v a b) x y
+    at : (p : Bool) → is_in all x ≡ p → AreJoined (merged v a b) x y
     at true e = shared_merged v a b x y e (has_merged v.groups a b y ok.apart (along (merged_has v.groups a b x ok.apart e)))
     at false e =
         let none = unshared v.groups a b x ok.apart e in
-        inr (list_any-append (λ g. has g.loaders x && has g.loaders y) (kept a b v.groups) (record { home = or_else (class_in v a) (class_in v b); loaders = all } ∷ [])
-        ∙ or_left (shared (kept a b v.groups) x y) ((has all x && has all y) || false) (kept_shared a b x y v.groups s none.0 none.1))
+        inr (list_any-append (λ g. is_in g.loaders x && is_in g.loaders y) (kept a b v.groups) (record { home = or_else (class_in v a) (class_in v b); loaders = all } ∷ [])
+        ∙ or_left (shared (kept a b v.groups) x y) ((is_in all x && is_in all y) || false) (kept_shared a b x y v.groups s none.0 none.1))
 
 pub merged_joined : (v : Grouped) (a b x y : ℕ) → IsGrouped v → AreJoined (merged v a b) x y ↔ Joins (λ p q. AreJoined v.groups p q) a b x y
 merged_joined v a b x y ok = (merged_from v a b x y ok, merged_to v a b x y ok)
 
-apart_push : (gs : List Joint) (n : Joint) → AreApart gs → ((x : ℕ) → list_any (λ g. has g.loaders x) gs ≡ true → has n.loaders x ≡ false) → AreApart (gs ++ n ∷ [])
+apart_push : (gs : List Joint) (n : Joint) → AreApart gs → ((x : ℕ) → list_any (λ g. is_in g.loaders x) gs ≡ true → is_in n.loaders x ≡ false) → AreApart (gs ++ n ∷ [])
 apart_push [] n apart new = (λ x h. refl, tt)
 apart_push (g ∷ gs) n apart new = (
-  λ x h. list_any-append (λ g. has g.loaders x) gs (n ∷ []) ∙ or_from (list_any (λ g. has g.loaders x) gs) (has n.loaders x || false) (apart.0 x h) (or_from (has n.loaders x) false (new x (or_left (has g.loaders x) (list_any (λ g. has g.loaders x) gs) h)) refl),
-  apart_push gs n apart.1 (λ x h. new x (or_right (has g.loaders x) (list_any (λ g. has g.loaders x) gs) h)),
+  λ x h. list_any-append (λ g. is_in g.loaders x) gs (n ∷ []) ∙ or_from (list_any (λ g. is_in g.loaders x) gs) (is_in n.loaders x || false) (apart.0 x h) (or_from (is_in n.loaders x) false (new x (or_left (is_in g.loaders x) (list_any (λ g. is_in g.loaders x) gs) h)) refl),
+  apart_push gs n apart.1 (λ x h. new x (or_right (is_in g.loaders x) (list_any (λ g. is_in g.loaders x) gs) h)),
 )
 
 homes_push : (rs : List Entered) (gs : List Joint) (n : Joint) → HaveHomes rs gs → HasItsHome rs n → HaveHomes rs (gs ++ n ∷ [])
@@ -269,7 +270,7 @@ merged_home v a b p q ok ca cb fits =
     every (Some m) None cp cq x place (inr j) e = let z : None ≡ Some place = cq.every x place j e in absurd cc
     every (Some m) (Some n) cp cq x place (inr j) e = ap (λ (z : ℕ). Some z) (same m n cp cq) ∙ cq.every x place j e
 
-    some : (p q : Option ℕ) → IsClassOf v a p → IsClassOf v b q → (place : ℕ) → or_else p q ≡ Some place → (l : ℕ) × (has (members v.groups a ++ members v.groups b) l ≡ true) × (home_in v.records l ≡ Some place)
+    some : (p q : Option ℕ) → IsClassOf v a p → IsClassOf v b q → (place : ℕ) → or_else p q ≡ Some place → (l : ℕ) × (is_in (members v.groups a ++ members v.groups b) l ≡ true) × (home_in v.records l ≡ Some place)
     some None q cp cq place e = let f = cq.some place e in (f.0, has_merged v.groups a b f.0 ok.apart (inr f.1), f.2)
     some (Some m) q cp cq place e = let f = cp.some place e in (f.0, has_merged v.groups a b f.0 ok.apart (inl f.1), f.2)
 
@@ -283,14 +284,14 @@ merged_grouped v a b ok fits =
     all : List ℕ
     all = members v.groups a ++ members v.groups b
 
-    neither : (x : ℕ) → list_any (λ g. has g.loaders x) (kept a b v.groups) ≡ true → AreJoined v.groups a x ⊎ AreJoined v.groups b x → ⊥
+    neither : (x : ℕ) → list_any (λ g. is_in g.loaders x) (kept a b v.groups) ≡ true → AreJoined v.groups a x ⊎ AreJoined v.groups b x → ⊥
     neither x h (inl j) = kept_unjoined a b a x v.groups ok.apart (clear_first a b) (kept_clear a b v.groups).0 h j
     neither x h (inr j) = kept_unjoined a b b x v.groups ok.apart (clear_second a b) (kept_clear a b v.groups).1 h j
 
-    outside : (x : ℕ) → list_any (λ g. has g.loaders x) (kept a b v.groups) ≡ true → has all x ≡ false
-    outside x h = at (has all x) refl
+    outside : (x : ℕ) → list_any (λ g. is_in g.loaders x) (kept a b v.groups) ≡ true → is_in all x ≡ false
+    outside x h = at (is_in all x) refl
       where
-        at : (p : Bool) → has all x ≡ p → has all x ≡ false
+        at : (p : Bool) → is_in all x ≡ p → is_in all x ≡ false
         at true e = absurd (neither x h (merged_has v.groups a b x ok.apart e))
         at false e = e
 

@@ -22,6 +22,7 @@ use Rattle.std.specs.Prelude.{
   if◌then◌else◌,
 }
 use Rattle.std.specs.List.{list_any}
+use Rattle.cl_model.specs.Probes.{is_in}
 use Rattle.cl_constraints.specs.declared.record.Entered.{Entered}
 use Rattle.cl_constraints.specs.Records.{home_in}
 
@@ -35,17 +36,13 @@ pub record Grouped : Type 0 where
   pub records : List Entered
   pub groups : List Joint
 
--- a loader is one of these (5.3.4)
-abbrev pub has : List ℕ → ℕ → Bool
-has loaders loader = list_any (λ x. x == loader) loaders
-
 -- the first group that a loader is in
 abbrev pub group_of : List Joint → ℕ → Option Joint
-group_of groups loader = find (λ g. has g.loaders loader) groups
+group_of groups loader = find (λ g. is_in g.loaders loader) groups
 
 -- a group has both loaders (5.3.4)
 abbrev pub shared : List Joint → ℕ → ℕ → Bool
-shared groups a b = list_any (λ g. has g.loaders a && has g.loaders b) groups
+shared groups a b = list_any (λ g. is_in g.loaders a && is_in g.loaders b) groups
 
 -- two loaders are joined: they are one, or a group has both (5.3.4)
 abbrev pub AreJoined : List Joint → ℕ → ℕ → Type 0
@@ -55,16 +52,16 @@ AreJoined groups a b = (a ≡ b) ⊎ (shared groups a b ≡ true)
 abbrev pub AreApart : List Joint → Type 0
 AreApart [] = Unit {0}
 AreApart (g ∷ gs) =
-    ((loader : ℕ) → has g.loaders loader ≡ true
-    → list_any (λ other. has other.loaders loader) gs ≡ false)
+    ((loader : ℕ) → is_in g.loaders loader ≡ true
+    → list_any (λ other. is_in other.loaders loader) gs ≡ false)
     × AreApart gs
 
 -- a group's home is that of each record of its loaders, and one of them has it (5.3.4)
 pub record HasItsHome (records : List Entered) (g : Joint) : Type 0 where
-  pub every : (loader place : ℕ) → has g.loaders loader ≡ true → home_in records loader ≡ Some place
+  pub every : (loader place : ℕ) → is_in g.loaders loader ≡ true → home_in records loader ≡ Some place
       → g.home ≡ Some place
   pub some : (place : ℕ) → g.home ≡ Some place
-      → (loader : ℕ) × (has g.loaders loader ≡ true) × (home_in records loader ≡ Some place)
+      → (loader : ℕ) × (is_in g.loaders loader ≡ true) × (home_in records loader ≡ Some place)
 
 -- each of these groups has
 abbrev pub HaveHomes : List Entered → List Joint → Type 0
@@ -104,7 +101,7 @@ members groups loader = loaders_or loader (group_of groups loader)
 
 -- the groups once a loader records the name (5.3)
 abbrev pub with_home : ℕ → ℕ → Joint → Joint
-with_home loader place g = if has g.loaders loader then record g { home = Some place } else g
+with_home loader place g = if is_in g.loaders loader then record g { home = Some place } else g
 
 -- the first home that there is
 abbrev pub or_else : Option ℕ → Option ℕ → Option ℕ
@@ -113,7 +110,7 @@ or_else (Some place) other = Some place
 
 -- the groups that neither of two loaders is in
 abbrev pub without : ℕ → ℕ → List Joint → List Joint
-without a b gs = filter (λ g. not (has g.loaders a) && not (has g.loaders b)) gs
+without a b gs = filter (λ g. not (is_in g.loaders a) && not (is_in g.loaders b)) gs
 
 -- the group that two loaders are in once they are joined (5.3.4)
 abbrev pub joint_of : Grouped → ℕ → ℕ → Joint

@@ -1,6 +1,7 @@
 ghost use Rattle.std.specs.Prelude.{◌≡◌, [], ◌++◌, ◌∷◌, map, ℕ, Option, None, MatchBool, IfOk, OnErr, OnOk, option_map};
 ghost use Rattle.cl_constraints.specs.Singles.{Differs, Divides, Enters, Joins};
-ghost use Rattle.cl_constraints.specs.Groups.{has, class_in, members, with_home, AreJoined, joint_of, without, shared, group_of, IsClassOf};
+ghost use Rattle.cl_constraints.specs.Groups.{class_in, members, with_home, AreJoined, joint_of, without, shared, group_of, IsClassOf};
+ghost use Rattle.cl_model.specs.Probes.{is_in};
 
 use crate::record::{Entered, home_among};
 use crate::single::NameBook;
@@ -26,7 +27,7 @@ impl Model for Group {
 impl Group {
     /// Whether a loader is one of them.
     fn has(&self, loader: LoaderId) -> bool
-        ensures { result ≡ has self.now.loaders loader }
+        ensures { result ≡ is_in self.now.loaders loader }
     {
         self.loaders.iter().any(|it| *it == loader)
     }

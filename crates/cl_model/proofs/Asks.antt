@@ -2,7 +2,7 @@
 use Rattle.std.proofs.Common.{◌≡◌, ◌≤◌, inl, inr, ℕ, zero, suc, Bool, true, false, ◌==◌, ◌||◌, if◌then◌else◌, List, [], ◌∷◌, ◌++◌, length, Option, Some, None, Result, Ok, Err, refl, sym, ap, subst, ◌∙◌, arith, append_assoc}
 use Rattle.std.specs.Prelude.{flat_map, option_map}
 use Rattle.std.specs.List.{AllByRecursion, list_any}
-use Rattle.std.proofs.lemmas.Bool.{eqb-true}
+use Rattle.std.proofs.lemmas.Bool.{eqb-true, and_parts}
 use Rattle.cl_descriptors.specs.declared.types.FieldType.{FieldType}
 use Rattle.cl_descriptors.proofs.Codec.{map_some, then_some}
 use Rattle.cl_classfile.specs.Files.{Name, Key, Member, Reference, ToClass, ToField, ToMethod, ToInterfaceMethod, reference, element_name, same_name}
@@ -25,7 +25,7 @@ use Rattle.cl_model.proofs.Progress.{IsEquality, equals_are, constraints_are, fl
 use Rattle.cl_model.proofs.Closed.{all_left, all_right}
 use Rattle.cl_model.proofs.Reached.{reached}
 use Rattle.cl_model.proofs.Ancestors.{same_self}
-use Rattle.cl_model.proofs.Marks.{In, in_left, in_right, all_in, without, and_two}
+use Rattle.cl_model.proofs.Marks.{In, in_left, in_right, all_in, without}
 
 -- ---- what a plan's needs are asked of
 
@@ -280,7 +280,7 @@ reached_asked w q p d k is r lin =
 
 pub same_asked : (a b : Ask) → same_ask a b ≡ true → a ≡ b
 same_asked a b h =
-    let both = and_two (a.loader == b.loader) (same_name a.name b.name) h in
+    let both = and_parts (a.loader == b.loader) (same_name a.name b.name) h in
     ap (λ (l : ℕ). let x : Ask = record { loader = l; name = a.name } in x) (eqb-true a.loader b.loader both.0) ∙ ap (λ (n : Name). let x : Ask = record { loader = b.loader; name = n } in x) (names_equal a.name b.name both.1)
 
 any_in : (a : Ask) (asks : List Ask) → list_any (same_ask a) asks ≡ true → In a asks

@@ -8,6 +8,12 @@ use Rattle.cl_model.specs.Works.{Work, Made, Ask, or_fail, unless_wrong, of_resu
 pub some_same : {A : Type 0} (x y : A) → Some x ≡ Some y → x ≡ y
 some_same x y h = cc
 
+pub value_same : {A : Type 0} (x y : A) (o : Option A) → o ≡ Some x → o ≡ Some y → x ≡ y
+value_same x y o h k = cc
+
+pub none_not_some : {A : Type 0} {x : A} (o : Option A) → o ≡ None → o ≡ Some x → ⊥
+none_not_some o h k = cc
+
 pub ok_same : {A : Type 0} (x y : A) (r : Result A Error) → r ≡ Ok x → r ≡ Ok y → x ≡ y
 ok_same x y r h k = cc
 

@@ -1,10 +1,10 @@
 -- Every state of a run is closed, and there a recorded class needs nothing more.
-use Rattle.std.proofs.Common.{◌≡◌, ◌⊎◌, inl, inr, ℕ, zero, suc, Bool, true, false, ◌==◌, if◌then◌else◌, List, [], ◌∷◌, ◌++◌, Some, None, Result, Ok, refl, sym, ap, subst, ◌∙◌}
+use Rattle.std.proofs.Common.{◌≡◌, ◌⊎◌, inl, inr, ℕ, zero, suc, Bool, true, false, ◌==◌, if◌then◌else◌, List, [], ◌∷◌, ◌++◌, Some, None, Ok, refl, sym, ap, subst, ◌∙◌}
 use Rattle.std.specs.List.{AllByRecursion}
 use Rattle.cl_classfile.specs.Files.{Name, File}
 use Rattle.cl_model.specs.Homes.{World, home}
 use Rattle.cl_model.specs.declared.class.Class.{Class}
-use Rattle.cl_model.specs.Classes.{class, Error, Above, superclass_of, superinterfaces_of, supers, HasFile, AtHome, IsGood}
+use Rattle.cl_model.specs.Classes.{class, Above, superclass_of, superinterfaces_of, supers, HasFile, AtHome, IsGood}
 use Rattle.cl_model.specs.Lineages.{Forest, Kin}
 use Rattle.cl_model.specs.States.{State, start, Record, Need, Entry, Met, AllMet, recorded, IsRecorded, added}
 use Rattle.cl_model.specs.Works.{Work, Made}
@@ -12,6 +12,7 @@ use Rattle.cl_model.specs.Plans.{initiating, loads_above, derive}
 use Rattle.cl_model.specs.Machine.{Setting, Step, Define, Initiate, Constrain, Settle, Prepare, Post, NextRound, Stray, May, after, state_after, Run, IsClosed}
 use Rattle.cl_model.proofs.Derived.{above_ok, derive_ok}
 use Rattle.cl_model.proofs.Runs.{IsLater, after_later, recorded_added}
+use Rattle.cl_model.proofs.Bind.{some_same, ok_same}
 
 pub met_both : (s : State) (xs ys : List Need) → AllMet s xs → AllMet s ys → AllMet s (xs ++ ys)
 met_both s [] ys a b = b
@@ -25,9 +26,6 @@ pub all_right : {A : Type 0} (P : A → Type 0) (xs ys : List A) → AllByRecurs
 all_right P [] ys h = h
 all_right P (x ∷ xs) ys h = all_right P xs ys h.1
 
-some_is : {A : Type 0} {x y : A} → Some x ≡ Some y → x ≡ y
-some_is e = cc
-
 -- a supertype's record stands
 abbrev pub Stands : World → State → Class → Above → Type 0
 Stands w s c a = AtHome w c (λ t. Met s (Entry c.loader a.name t.loader)) a.name
@@ -37,10 +35,10 @@ initiating_met s loader place name true h = tt
 initiating_met s loader place name false h = (h, tt)
 
 above_met : (w : World) (s : State) (d : Class → Work Kin) → IsClosed w s → ((c : Class) (m : Made Kin) (k : Kin) → IsRecorded s c → d c ≡ Some m → m.ends ≡ Ok k → AllMet s m.needs) → (c : Class) (others : List Above) (m : Made Forest) (fs : Forest) → loads_above w d c others ≡ Some m → m.ends ≡ Ok fs → AllByRecursion (Stands w s c) others → AllMet s m.needs
-above_met w s d closed ih c [] m fs h e all = subst (λ (x : Made Forest). AllMet s x.needs) (some_is h) tt
+above_met w s d closed ih c [] m fs h e all = subst (λ (x : Made Forest). AllMet s x.needs) (some_same _ _ h) tt
 above_met w s d closed ih c (a ∷ others) m fs h e all =
     let one = above_ok w d c a others m fs h e in
-    let place : all.0.place ≡ one.load.place = some_is (sym all.0.found ∙ one.load.found) in
+    let place : all.0.place ≡ one.load.place = some_same _ _ (sym all.0.found ∙ one.load.found) in
     let stands : recorded s.records c.loader a.name ≡ Some one.load.place = all.0.holds ∙ ap (λ (x : ℕ). Some x) place in
     let own = closed.own c.loader one.load.place a.name stands in
     let below = ih (class a.name one.load.place) one.load.below one.kin own one.load.made one.load.ends in
@@ -68,9 +66,6 @@ stands_later w s t l c (a ∷ others) h =
 
 class_is : (c : Class) (name : Name) (place : ℕ) → name ≡ c.name → place ≡ c.loader → class name place ≡ c
 class_is c name place p q = ap (λ (n : Name). class n place) p ∙ ap (λ (l : ℕ). class c.name l) q
-
-file_same : (x y : File) (r : Result File Error) → r ≡ Ok x → r ≡ Ok y → x ≡ y
-file_same x y r h k = cc
 
 home_moved : (w : World) (loader place l p : ℕ) (name n : Name) → loader ≡ l → name ≡ n → place ≡ p → home w loader name ≡ Some place → home w l n ≡ Some p
 home_moved w loader place l p name n a b c h = subst (λ (x : ℕ). home w x n ≡ Some p) a (subst (λ (x : Name). home w loader x ≡ Some p) b (h ∙ ap (λ (x : ℕ). Some x) c))
@@ -107,7 +102,7 @@ closed_added w s loader place name closed at_home own later good above =
 
 pub closed_after : (g : Setting) (s : State) (e : Step) → May g s e → IsClosed g.world s → IsClosed g.world (after s e)
 closed_after g s (Define c) may closed =
-    closed_added g.world s c.loader c.loader c.name closed may.at_home (inl refl) (after_later s (Define c)) (λ e. may.good) (λ e f hf. subst (λ (x : File). AllByRecursion (Stands g.world s c) (supers x)) (file_same may.file f _ may.has_file hf) may.above)
+    closed_added g.world s c.loader c.loader c.name closed may.at_home (inl refl) (after_later s (Define c)) (λ e. may.good) (λ e f hf. subst (λ (x : File). AllByRecursion (Stands g.world s c) (supers x)) (ok_same may.file f _ may.has_file hf) may.above)
 closed_after g s (Initiate name place loader) may closed =
     closed_added g.world s loader place name closed may.found (inr may.defined) (after_later s (Initiate name place loader)) (λ e. absurd (may.not_own e)) (λ e f hf. absurd (may.not_own e))
 closed_after g s (Constrain name a b) may closed = record { homes = closed.homes; own = closed.own; good = closed.good; above = closed.above }

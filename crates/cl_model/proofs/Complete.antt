@@ -1,7 +1,7 @@
 -- What is good is derived, whatever is met on the way.
 use Rattle.std.proofs.Common.{◌≡◌, ◌⊎◌, inl, inr, ℕ, zero, suc, Bool, true, false, ◌==◌, ◌||◌, List, [], ◌∷◌, Some, None, Result, Ok, Err, refl, sym, ap, subst, ◌∙◌}
 use Rattle.std.specs.List.{AllByRecursion}
-use Rattle.std.proofs.lemmas.Bool.{eqb-true}
+use Rattle.std.proofs.lemmas.Bool.{eqb-true, and_parts}
 use Rattle.cl_classfile.specs.Files.{Name, File, same_name}
 use Rattle.cl_model.specs.Homes.{World, home}
 use Rattle.cl_model.specs.declared.class.Class.{Class}
@@ -10,11 +10,11 @@ use Rattle.cl_model.specs.Lineages.{Bare, Tree, Kin}
 use Rattle.cl_model.specs.States.{Entry}
 use Rattle.cl_model.specs.Works.{Work, Made, done, need, ask, or_fail, unless_wrong, of_result, ◌>>=◌}
 use Rattle.cl_model.specs.Plans.{initiating, load_by, loads_above, derive_new, derive}
-use Rattle.cl_model.proofs.Bind.{Ends, then_ends, ill_ends, at_once, or_fail_ends, unless_ends}
+use Rattle.cl_model.proofs.Bind.{Ends, then_ends, ill_ends, at_once, or_fail_ends, unless_ends, some_same, ok_same}
 use Rattle.cl_model.proofs.Heights.{Reaches, derive_reaches, loaded, found, sought, grown, others_after, checked, finished, interfaces_next, superclass_next, circle_or}
 use Rattle.cl_model.proofs.Derived.{derive_yields, load_ok}
 use Rattle.cl_model.proofs.Closed.{all_left, all_right}
-use Rattle.cl_model.proofs.Runs.{names_equal, and_is}
+use Rattle.cl_model.proofs.Runs.{names_equal}
 
 -- a number up to another
 abbrev pub Upto : ℕ → ℕ → Type 0
@@ -51,9 +51,6 @@ Derives w n path d m = (s : Class) → Good w m s → Either w n path (d s)
 abbrev pub Tells : World → (Class → Work Kin) → Type 0
 Tells w d = (s : Class) (m : Made Kin) (k : Kin) → d s ≡ Some m → m.ends ≡ Ok k → (k.class ≡ s) × HasFile w s k.file
 
-pub some_place : {x y : ℕ} → Some x ≡ Some y → x ≡ y
-some_place e = cc
-
 then_either : {A B : Type 0} (w : World) (n : ℕ) (path : List Class) (a : Work A) (f : A → Work B) (x : A) → Ends a (Ok x) → Either w n path (f x) → Either w n path (a >>= f)
 then_either w n path a f x e h = elim h [
   | inl r ↦ inl (r.0, then_ends a f x (Ok r.0) e r.1)
@@ -67,12 +64,9 @@ load_either w n m path d ih absent loader name place f g =
     (either_then w n path (d (class name place)) (loaded w loader name place) (ih (class name place) g) (λ k e.
     inl (k, then_ends (need (initiating loader name place)) (λ (b : Unit {0}). done k) tt (Ok k) (at_once _) (at_once _)))))
 
-pub file_is : (x y : File) (r : Result File Error) → r ≡ Ok x → r ≡ Ok y → x ≡ y
-file_is x y r h k = cc
-
 pub fits_still : (w : World) (c : Class) (a : Above) (s : Class) (k : Kin) → Fitting w c a.role None s → k.class ≡ s → HasFile w s k.file → misfit c a.role k.class k.file ≡ None
 fits_still w c a s k fit e h =
-    ap (λ (x : Class). misfit c a.role x k.file) e ∙ ap (λ (x : File). misfit c a.role s x) (file_is k.file fit.file (file_of w s) h fit.has_file) ∙ fit.judged
+    ap (λ (x : Class). misfit c a.role x k.file) e ∙ ap (λ (x : File). misfit c a.role s x) (ok_same k.file fit.file (file_of w s) h fit.has_file) ∙ fit.judged
 
 pub above_either : (w : World) (n m : ℕ) (path : List Class) (d : Class → Work Kin) → Derives w n path d m → Tells w d → (c : Class) (others : List Above) → AllByRecursion (FitsAt w c (Good w m)) others → Either w n path (loads_above w d c others)
 above_either w n m path d ih tells c [] all = inl (Bare, at_once _)
@@ -80,7 +74,7 @@ above_either w n m path d ih tells c (a ∷ others) all =
     either_then w n path (load_by w d NoClassDef c.loader a.name) (checked w d c a others) (load_either w n m path d ih NoClassDef c.loader a.name all.0.place all.0.found all.0.holds.0) (λ k e.
     let l = load_ok w d NoClassDef c.loader a.name e.made k e.is e.ends in
     let t = tells (class a.name l.place) l.below k l.made l.ends in
-    let fit = subst (λ (x : ℕ). Fitting w c a.role None (class a.name x)) (some_place (sym all.0.found ∙ l.found)) all.0.holds.1 in
+    let fit = subst (λ (x : ℕ). Fitting w c a.role None (class a.name x)) (some_same _ _ (sym all.0.found ∙ l.found)) all.0.holds.1 in
     then_either w n path (unless_wrong (misfit c a.role k.class k.file)) (others_after w d c others k) tt (unless_ends (misfit c a.role k.class k.file) (fits_still w c a (class a.name l.place) k fit t.0 t.1))
     (either_then w n path (loads_above w d c others) (grown k) (above_either w n m path d ih tells c others all.1) (λ fs e2. inl (Tree k.class k.file k.superclass k.interfaces fs, at_once _))))
 
@@ -104,7 +98,7 @@ upto_less n b h = elim h [ inl e ↦ (let same : n ≡ b = cc in subst (λ (x : 
 
 pub is_class : (x c : Class) → same_class x c ≡ true → x ≡ c
 is_class x c h =
-    let both : (same_name x.name c.name ≡ true) × ((x.loader == c.loader) ≡ true) = and_is (same_name x.name c.name) (x.loader == c.loader) h in
+    let both : (same_name x.name c.name ≡ true) × ((x.loader == c.loader) ≡ true) = and_parts (same_name x.name c.name) (x.loader == c.loader) h in
     ap (λ (n : Name). class n x.loader) (names_equal x.name c.name both.0) ∙ ap (λ (l : ℕ). class c.name l) (eqb-true x.loader c.loader both.1)
 
 -- of two tests one holds

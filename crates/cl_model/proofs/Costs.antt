@@ -14,7 +14,7 @@ use Rattle.cl_model.specs.Plans.{Request, Load, Resolve, Link, Plan, needs_of, d
 use Rattle.cl_model.specs.Machine.{Setting, Step, Settle, HasLineage, IsPlan, after}
 use Rattle.cl_model.specs.Service.{Want, ToStand, ToPrepare, IsFirst, MayServe, serving, to_stand, to_link, WantsPast, HasWants, Settles, IsNextStep}
 use Rattle.cl_model.specs.Progress.{Takes}
-use Rattle.cl_model.proofs.Bind.{some_same, step_is}
+use Rattle.cl_model.proofs.Bind.{some_same, step_is, none_not_some}
 use Rattle.cl_model.proofs.Planned.{one_plan, one_lineage}
 use Rattle.cl_model.proofs.Reached.{reached}
 use Rattle.cl_model.proofs.Ancestors.{lineage_once}
@@ -160,15 +160,12 @@ no_class w r p alone wants c has h =
     let k = past_prepares w r p wants c has h in
     absurd (needs_only p.more c (subst (λ (ws : List Want). In (ToPrepare c) ws) (alone k.0 k.1) k.2))
 
-none_reached : {d : Class} (o : Option Class) → o ≡ None → o ≡ Some d → ⊥
-none_reached o h k = cc
-
 marked : (w : World) (r : Request) (p : Plan) → IsPlan w r p → (marks : List Mark) × Marked w r p marks × (length marks + 1 ≤ cost w p)
 marked w (Load loader name) p is = built w (Load loader name) p [] [] (omega arith) (omega arith) (no_class w (Load loader name) p (λ past h. h)) (λ g s e h. absurd h)
 marked w (Resolve loader name i) p is = at p.reached refl
   where
     at : (o : Option Class) → p.reached ≡ o → (marks : List Mark) × Marked w (Resolve loader name i) p marks × (length marks + 1 ≤ cost w p)
-    at None r = built w (Resolve loader name i) p [] [] (omega arith) (omega arith) (no_class w (Resolve loader name i) p (λ past h. h)) (λ g s e h. absurd (none_reached p.reached r h.1))
+    at None r = built w (Resolve loader name i) p [] [] (omega arith) (omega arith) (no_class w (Resolve loader name i) p (λ past h. h)) (λ g s e h. absurd (none_not_some p.reached r h.1))
     at (Some d) r =
         built w (Resolve loader name i) p [] (OfReference d i ∷ []) (omega arith) (omega arith) (no_class w (Resolve loader name i) p (λ past h. h))
         (λ g s e h. (h.0, i, h.3.0, h.3.2, h.3.1.unsettled, inl (ap (λ (c : Class). OfReference c i) (some_same d h.0 (sym r ∙ h.1)))))

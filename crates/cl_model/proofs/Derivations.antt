@@ -5,9 +5,7 @@ use Rattle.cl_classfile.specs.Files.{Name, File}
 use Rattle.cl_model.specs.Homes.{World}
 use Rattle.cl_model.specs.declared.class.Class.{Class}
 use Rattle.cl_model.specs.Classes.{class, Error, Above, supers, misfit, AtHome, Fitting, FitsAt, Good, FirstWrong, WrongAt, Fails}
-
-some_is : {A : Type 0} {x y : A} → Some x ≡ Some y → x ≡ y
-some_is e = cc
+use Rattle.cl_model.proofs.Bind.{some_same}
 
 pub some_none : {A : Type 0} {x : A} → Some x ≡ None → ⊥
 some_none e = cc
@@ -31,7 +29,7 @@ none_wrong fits fits' wrong never (a ∷ others) all first = elim first [ inl h 
 
 -- what holds at one home holds at the same home, found again
 pub at_same : (w : World) (c : Class) (P Q : Class → Type 0) (name : Name) → (x : AtHome w c P name) (y : AtHome w c Q name) → P (class name y.place)
-at_same w c P Q name x y = subst (λ (l : ℕ). P (class name l)) (some_is (sym x.found ∙ y.found)) x.holds
+at_same w c P Q name x y = subst (λ (l : ℕ). P (class name l)) (some_same _ _ (sym x.found ∙ y.found)) x.holds
 
 -- a supertype that fits is not one that does not
 one_judgement : (w : World) (c : Class) (a : Above) (s : Class) (e : Error) → Fitting w c a.role None s → Fitting w c a.role (Some e) s → ⊥
@@ -114,7 +112,7 @@ fit_not_wrong w n m c e a fit wrong = elim wrong [
 same_judgement : (w : World) (c : Class) (a : Above) (s : Class) (e d : Error) → Fitting w c a.role (Some e) s → Fitting w c a.role (Some d) s → e ≡ d
 same_judgement w c a s e d x y =
     let same : x.file ≡ y.file = ok_is (sym x.has_file ∙ y.has_file) in
-    some_is (sym x.judged ∙ ap (λ (f : File). misfit c a.role s f) same ∙ y.judged)
+    some_same _ _ (sym x.judged ∙ ap (λ (f : File). misfit c a.role s f) same ∙ y.judged)
 
 -- a supertype is wrong in one way
 one_wrong : (w : World) (n m : ℕ) (c : Class) (e d : Error) → ((s : Class) → Fails w n s e → Fails w m s d → e ≡ d) → (a : Above) → WrongAt w c (Good w n) (λ s. Fails w n s e) e a → WrongAt w c (Good w m) (λ s. Fails w m s d) d a → e ≡ d

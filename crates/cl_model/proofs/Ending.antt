@@ -2,7 +2,7 @@
 use Rattle.std.proofs.Common.{◌≡◌, ◌⊎◌, inl, inr, ℕ, zero, suc, ◌<◌, ◌≤◌, Bool, true, false, ◌==◌, ◌&&◌, ◌||◌, if◌then◌else◌, List, [], ◌∷◌, Option, Some, None, Result, Ok, Err, refl, sym, ap, subst, ◌∙◌, arith, nat_eq}
 use Rattle.std.specs.Prelude.{option_map}
 use Rattle.std.specs.Cmp.Lexicographic.{pointwise}
-use Rattle.std.proofs.lemmas.Bool.{eqb-true}
+use Rattle.std.proofs.lemmas.Bool.{eqb-true, and_parts, and_from}
 use Rattle.cl_classfile.specs.Files.{Name, File, same_name}
 use Rattle.cl_model.specs.Content.{Content, Stored, content_at}
 use Rattle.cl_model.specs.Homes.{World, home}
@@ -15,7 +15,6 @@ use Rattle.cl_model.specs.Plans.{load_by, loads_above, derive_new, derive}
 use Rattle.cl_model.proofs.Bind.{Ends, some_same}
 use Rattle.cl_model.proofs.Heights.{loaded, found, sought, grown, others_after, checked, finished, interfaces_next, superclass_next, circle_or}
 use Rattle.cl_model.proofs.Derived.{derive_yields}
-use Rattle.cl_model.proofs.Runs.{and_is}
 use Rattle.cl_model.proofs.Complete.{is_class}
 use Rattle.cl_model.proofs.Circles.{return_next}
 use Rattle.cl_model.proofs.Obstacles.{derive_err}
@@ -74,16 +73,11 @@ left_le : (path : List Class) (c : Class) (es : Content) → left (c ∷ path) e
 left_le path c [] = omega arith
 left_le path c (e ∷ es) = le_step (same_class (class e.name e.loader) c) (is_among path (class e.name e.loader)) (left (c ∷ path) es) (left path es) (left_le path c es)
 
-both_true : (x y : Bool) → x ≡ true → y ≡ true → (x && y) ≡ true
-both_true true true p q = refl
-both_true true false p q = absurd cc
-both_true false y p q = absurd cc
-
 less_at : (path : List Class) (c : Class) (e : Stored) (es : Content) (b : List ℕ) → (content_at es c.loader c.name ≡ Some b → left (c ∷ path) es < left path es) → is_among path c ≡ false → (t : Bool) → ((e.loader == c.loader) && pointwise nat_eq e.name c.name) ≡ t → (if t then Some e.bytes else content_at es c.loader c.name) ≡ Some b → left (c ∷ path) (e ∷ es) < left path (e ∷ es)
 less_at path c e es b ih k false p q = less_step (same_class (class e.name e.loader) c) (is_among path (class e.name e.loader)) (left (c ∷ path) es) (left path es) (ih q)
 less_at path c e es b ih k true p q =
-    let both = and_is (e.loader == c.loader) (pointwise nat_eq e.name c.name) p in
-    let same : same_class (class e.name e.loader) c ≡ true = both_true (same_name e.name c.name) (e.loader == c.loader) both.1 both.0 in
+    let both = and_parts (e.loader == c.loader) (pointwise nat_eq e.name c.name) p in
+    let same : same_class (class e.name e.loader) c ≡ true = and_from (same_name e.name c.name) (e.loader == c.loader) both.1 both.0 in
     found_step (same_class (class e.name e.loader) c) (is_among path (class e.name e.loader)) (left (c ∷ path) es) (left path es) same (subst (λ (x : Class). is_among path x ≡ false) (sym (is_class (class e.name e.loader) c same)) k) (left_le path c es)
 
 left_less : (path : List Class) (c : Class) (es : Content) (b : List ℕ) → content_at es c.loader c.name ≡ Some b → is_among path c ≡ false → left (c ∷ path) es < left path es

@@ -20,7 +20,7 @@ use Rattle.cl_model.proofs.Bind.{some_same, ok_same, err_same, ok_not_err}
 use Rattle.cl_model.proofs.Heights.{loaded, found, sought, grown, others_after, checked, finished, interfaces_next, superclass_next, circle_or}
 use Rattle.cl_model.proofs.Derived.{derive_yields}
 use Rattle.cl_model.proofs.Derivations.{good_or_fails}
-use Rattle.cl_model.proofs.Complete.{Upto, upto_self, upto_then, all_either, fits_still, file_is, upto_less}
+use Rattle.cl_model.proofs.Complete.{Upto, upto_self, upto_then, all_either, fits_still, upto_less}
 use Rattle.cl_model.proofs.Outcomes.{wrong_split, judged_still}
 use Rattle.cl_model.proofs.Circles.{IsThere, Leads, leads_comes, LeadsHere, here_next, nothing_leads, one_derivation}
 use Rattle.cl_model.proofs.Closed.{met_both, all_left, all_right, recorded_is_met}
@@ -341,7 +341,7 @@ referring_hits w s g r loader name closed o h p is =
     plan_on w s g q (OfClass w d) p (subst (λ (z : Request). IsPlan w z p) o.request is)
     (λ n. load_well w s (derive w n []) ClassNotFound o.through o.asked loader (OfClass w d) (closed.homes o.through loader o.asked o.kept) o.kept (derive_well w s n [] d closed (closed.own o.through loader o.asked o.kept) (nothing_leads w d)))
     (λ n k c. resolve_hits w s g n k o.index o.cited name
-    (ap (λ (f : File). reference f o.index) (file_is k.file o.file (file_of w d) c.1 o.has_file) ∙ o.found) o.names
+    (ap (λ (f : File). reference f o.index) (ok_same k.file o.file (file_of w d) c.1 o.has_file) ∙ o.found) o.names
     (subst (λ (z : Class). Every (load w n NoClassDef z.loader name) (Hits s g)) (sym c.0) (h n)))
 
 start_hits : (w : World) (s : State) (g : Aim) (r : Request) (absent : Class → Error) (loader : ℕ) (name : Name) → IsClosed w s → Starts w s r absent loader name → ((n : ℕ) → Every (load w n absent loader name) (Hits s g)) → (p : Plan) → IsPlan w r p → PlanHits s g p

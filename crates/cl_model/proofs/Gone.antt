@@ -18,13 +18,13 @@ use Rattle.cl_model.specs.Frames.{EndsHere}
 use Rattle.cl_model.specs.Tables.{Records, Bears}
 use Rattle.cl_model.specs.References.{GoesThrough, GoesOn}
 use Rattle.cl_model.proofs.Ancestors.{lineage_has}
-use Rattle.cl_model.proofs.Bind.{some_same, step_is}
+use Rattle.cl_model.proofs.Bind.{some_same, step_is, none_not_some}
 use Rattle.cl_model.proofs.Closed.{met_both}
 use Rattle.cl_model.proofs.Complete.{is_class}
 use Rattle.cl_model.proofs.Looks.{answers_met}
 use Rattle.cl_model.proofs.Pieces.{fulfilled_of, first_right, first_left, linked_of, links_first}
 use Rattle.cl_model.proofs.Planned.{one_plan, one_lineage, one_resolution, plan_exists}
-use Rattle.cl_model.proofs.Progress.{IsEquality, never_both, next_is, flat_are, constraints_are}
+use Rattle.cl_model.proofs.Progress.{IsEquality, never_both, next_is, flat_are, constraints_are, next_split}
 use Rattle.cl_model.proofs.Reached.{reached}
 use Rattle.cl_model.proofs.Service.{to_stand_both, next_is_first, answers_over, need_next, load_wants, resolve_wants}
 use Rattle.cl_model.proofs.Tables.{EndsFor, ends_for, answered_records, end_or_refused, recorded_reached, reached_records, refused_no_class, wrong_no_class, one_class, refused_not_linked, wrong_not_linked, one_linked}
@@ -141,9 +141,6 @@ link_wants w s loader name p c k is reach lin = record {
   whole = refl;
 }
 
-linked_same : (a b : Class) → IsLinked a ≡ IsLinked b → a ≡ b
-linked_same a b h = cc
-
 pub link_comes : (g : Setting) (s : State) (loader place : ℕ) (name : Name) (k : Kin) → IsClosed g.world s → recorded s.records loader name ≡ Some place → HasLineage g.world (class name place) k → AllByRecursion (IsLinkedIn s) (lineage k)
     → ComesTo g s (Link loader name) (IsLinked (class name place))
 link_comes g s loader place name k closed rec lin all =
@@ -162,7 +159,7 @@ link_comes g s loader place name k closed rec lin all =
         plan = here.plan;
         planned = here.planned;
         answered = answers_met s (needs_of here.plan) here.plan.ends (IsLinked d) here.met (sym here.ends);
-        rests = λ c e. subst (λ (x : Class). Contains s.prepared x) (linked_same d c e) prepared;
+        rests = λ c e. subst (λ (x : Class). Contains s.prepared x) (one_linked c d e) prepared;
       };
     }
 
@@ -205,9 +202,6 @@ link_refusal_comes g s loader place name l k before behind n closed rec lin part
 
 -- ---- the end of the load
 
-none_class : {c : Class} (o : Option Class) → o ≡ None → o ≡ Some c → ⊥
-none_class o h k = cc
-
 past_nothing : (w : World) (r : Request) (p : Plan) → WantsPast w r p None (to_stand p.more)
 past_nothing w (Load loader name) p = refl
 past_nothing w (Resolve loader name i) p = refl
@@ -215,12 +209,12 @@ past_nothing w (Link loader name) p = refl
 
 rests_nothing : (w : World) (s : State) (r : Request) (p : Plan) (v : Verdict) → IsPlan w r p → p.reached ≡ None → Answers s (needs_of p) p.ends v → RestsOn s r p v
 rests_nothing w s (Load loader name) p v is none a = tt
-rests_nothing w s (Resolve loader name i) p v is none a = λ d reach met entry member. absurd (none_class p.reached none reach)
+rests_nothing w s (Resolve loader name i) p v is none a = λ d reach met entry member. absurd (none_not_some p.reached none reach)
 rests_nothing w s (Link loader name) p v is none a = λ c e. absurd (at c e (ends_for w (Link loader name) p (λ (d : Class). IsLinked d) (λ n k r h. (step_is _ r h).1) is) (end_or_refused s (needs_of p) p.ends v a))
   where
     at : (c : Class) → v ≡ IsLinked c → EndsFor (λ (d : Class). IsLinked d) p → ((v ≡ p.ends) × AllMet s (needs_of p)) ⊎ ((n : Need) × (v ≡ Linkage n)) → ⊥
     at c e ends (inr k) = refused_not_linked c k.0 (sym k.1 ∙ e)
-    at c e (inl x) (inl k) = none_class p.reached none x.1
+    at c e (inl x) (inl k) = none_not_some p.reached none x.1
     at c e (inr x) (inl k) = wrong_not_linked c x.0 (sym x.1 ∙ sym k.0 ∙ e)
 
 pub unreached_comes : (g : Setting) (s : State) (r : Request) (p : Plan) (v : Verdict) → IsPlan g.world r p → p.reached ≡ None → AnswersPlan g s r v → ComesTo g s r v
@@ -271,11 +265,6 @@ load_refusal_comes g s r p n is h refused =
 
 -- ---- records that come next
 
-next_parts : (s : State) (xs ys : List Need) (n : Need) → IsNext s (xs ++ ys) n → IsNext s xs n ⊎ IsNext s ys n
-next_parts s [] ys n h = inr h
-next_parts s (x ∷ xs) ys n (inl e) = inl (inl e)
-next_parts s (x ∷ xs) ys n (inr h) = elim (next_parts s xs ys n h.1) [ inl k ↦ inl (inr (h.0, k)) | inr k ↦ inr k ]
-
 -- past its load a link needs equalities alone
 link_more : (w : World) (loader : ℕ) (name : Name) (p : Plan) → IsPlan w (Link loader name) p → AllByRecursion IsEquality p.more
 link_more w loader name p is =
@@ -295,9 +284,9 @@ link_more w loader name p is =
 
 -- so a record is one of the load
 link_own : (w : World) (s : State) (loader to place : ℕ) (name other : Name) (p : Plan) → IsPlan w (Link loader name) p → IsNext s (needs_of p) (Entry to other place) → IsNext s p.own (Entry to other place)
-link_own w s loader to place name other p is h = elim (next_parts s p.own p.more (Entry to other place) h) [
+link_own w s loader to place name other p is h = elim (next_split s p.own p.more (Entry to other place) h) [
   | inl k ↦ k
-  | inr k ↦ absurd (never_both (Entry to other place) tt (next_is s IsEquality p.more (Entry to other place) (link_more w loader name p is) k))
+  | inr k ↦ absurd (never_both (Entry to other place) tt (next_is s IsEquality p.more (Entry to other place) (link_more w loader name p is) k.1))
 ]
 
 pub record_is_next : (g : Setting) (s : State) (r : Request) (loader place : ℕ) (name : Name) → IsNextNeed g.world s r (Entry loader name place) → MayAdd s (Entry loader name place) → IsNextStep g s r (step_for (Entry loader name place))
@@ -333,15 +322,12 @@ borne_said g s (Resolve loader name i) v bears a = record {
 }
 borne_said g s (Link loader name) v bears a = record { plan = a.plan; planned = a.planned; answered = a.answered; rests = λ c e. (bears c e).1 }
 
-no_place : {x : ℕ} (o : Option ℕ) → o ≡ None → o ≡ Some x → ⊥
-no_place o h k = cc
-
 pub unrecorded_bears : (g : Setting) (s : State) (r : Request) (v : Verdict) → recorded s.records (loaded_by r).loader (loaded_by r).name ≡ None → AnswersPlan g s r v → Bears s r v
 unrecorded_bears g s (Load loader name) v none a = λ c e.
     answered_records g.world s (Load loader name) a.plan (λ (d : Class). IsClass d) v c (refused_no_class c) (wrong_no_class c) (one_class c) a.planned
     (ends_for g.world (Load loader name) a.plan (λ (d : Class). IsClass d) (λ n k r h. (step_is _ r h).1) a.planned) a.answered e
-unrecorded_bears g s (Resolve loader name i) v none a = λ d rec. absurd (no_place (recorded s.records loader name) none rec.1)
+unrecorded_bears g s (Resolve loader name i) v none a = λ d rec. absurd (none_not_some (recorded s.records loader name) none rec.1)
 unrecorded_bears g s (Link loader name) v none a = λ c e.
     let rec : Records s loader name c = answered_records g.world s (Link loader name) a.plan (λ (d : Class). IsLinked d) v c (refused_not_linked c) (wrong_not_linked c) (one_linked c) a.planned
     (ends_for g.world (Link loader name) a.plan (λ (d : Class). IsLinked d) (λ n k r h. (step_is _ r h).1) a.planned) a.answered e in
-    absurd (no_place (recorded s.records loader name) none rec.1)
+    absurd (none_not_some (recorded s.records loader name) none rec.1)

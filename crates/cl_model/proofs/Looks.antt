@@ -10,10 +10,10 @@ use Rattle.cl_model.specs.States.{State, Need, Entry, Verdict, IsClass, Wrong, M
 use Rattle.cl_model.specs.Works.{Made}
 use Rattle.cl_model.specs.Plans.{initiating, derive, load, Request, Load, Plan, plan_from}
 use Rattle.cl_model.specs.Machine.{Setting, Answers, AnswersPlan, IsClosed}
-use Rattle.cl_model.proofs.Bind.{ok_not_err, ok_same}
+use Rattle.cl_model.proofs.Bind.{ok_not_err, ok_same, some_same, none_not_some}
 use Rattle.cl_model.proofs.Derived.{load_ok}
 use Rattle.cl_model.proofs.Obstacles.{load_err}
-use Rattle.cl_model.proofs.Complete.{good_is_derived, some_place}
+use Rattle.cl_model.proofs.Complete.{good_is_derived}
 use Rattle.cl_model.proofs.Circles.{one_derivation}
 use Rattle.cl_model.proofs.Ending.{enough, derive_enough, load_done}
 use Rattle.cl_model.proofs.Trees.{derive_gives}
@@ -26,9 +26,6 @@ pub record LoadStands (s : State) (name : Name) (place : ℕ) (m : Made Kin) : T
   pub is_class : kin.class ≡ class name place
   pub met : AllMet s m.needs
 
-none_some : {x : ℕ} (o : Option ℕ) → o ≡ None → o ≡ Some x → ⊥
-none_some o h k = cc
-
 pub load_stands : (w : World) (s : State) (n : ℕ) (absent : Class → Error) (loader place : ℕ) (name : Name) (m : Made Kin) → IsClosed w s → recorded s.records loader name ≡ Some place → load w n absent loader name ≡ Some m → LoadStands s name place m
 load_stands w s n absent loader place name m closed h e =
     let own : IsRecorded s (class name place) = closed.own loader place name h in
@@ -39,7 +36,7 @@ load_stands w s n absent loader place name m closed h e =
     at : (r : Result Kin Error) → m.ends ≡ r → IsRecorded s (class name place) → (x : Made Kin) (k : Kin) (g : ℕ) → derive w g [] (class name place) ≡ Some x → x.ends ≡ Ok k → LoadStands s name place m
     at (Ok k) r own x y g p q =
         let l = load_ok w (derive w n []) absent loader name m k e r in
-        let same : l.place ≡ place = some_place (sym l.found ∙ closed.homes loader place name h) in
+        let same : l.place ≡ place = some_same _ _ (sym l.found ∙ closed.homes loader place name h) in
         let made : derive w n [] (class name place) ≡ Some l.below = subst (λ (z : ℕ). derive w n [] (class name z) ≡ Some l.below) same l.made in
         record {
           kin = k;
@@ -49,9 +46,9 @@ load_stands w s n absent loader place name m closed h e =
               (met_both s l.below.needs (initiating loader name place ++ []) (recorded_is_met w s n [] (class name place) l.below k closed own made l.ends) (initiating_met s loader place name (loader == place) h));
         }
     at (Err x) r own d k g p q = elim (load_err w (derive w n []) absent loader name m x e r) [
-      | inl z ↦ absurd (none_some (home w loader name) z.0 (closed.homes loader place name h))
+      | inl z ↦ absurd (none_not_some (home w loader name) z.0 (closed.homes loader place name h))
       | inr z ↦
-          let same : z.place ≡ place = some_place (sym z.found ∙ closed.homes loader place name h) in
+          let same : z.place ≡ place = some_same _ _ (sym z.found ∙ closed.homes loader place name h) in
           let made : derive w n [] (class name place) ≡ Some z.below = subst (λ (y : ℕ). derive w n [] (class name y) ≡ Some z.below) same z.made in
           absurd (ok_not_err k x z.below.ends (ap (λ (y : Made Kin). y.ends) (one_derivation w n g [] (class name place) z.below d made p) ∙ q) z.ends)
     ]

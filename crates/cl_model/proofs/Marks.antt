@@ -2,7 +2,7 @@
 use Rattle.std.proofs.Common.{◌≡◌, ◌⊎◌, ◌≤◌, inl, inr, ℕ, suc, ◌+◌, Bool, true, false, ◌==◌, ◌&&◌, ◌||◌, not, if◌then◌else◌, List, [], ◌∷◌, ◌++◌, length, map, Option, Some, None, refl, sym, ap, subst, ◌∙◌, arith, is_some}
 use Rattle.std.specs.Prelude.{option_map, find, Contains}
 use Rattle.std.specs.List.{AllByRecursion, list_any}
-use Rattle.std.proofs.lemmas.Bool.{eqb-true}
+use Rattle.std.proofs.lemmas.Bool.{eqb-true, and_parts}
 use Rattle.std.proofs.lemmas.List.Elements.{Contains-append_left, Contains-append_right}
 use Rattle.std.proofs.lemmas.Cmp.{nat_eq_equiv, nat_list_eq_equiv}
 use Rattle.cl_classfile.specs.Files.{Name, same_name}
@@ -210,10 +210,6 @@ false_open false h = refl
 true_closed : (b : Bool) → b ≡ true → not b ≡ false
 true_closed b h = ap not h
 
-pub and_two : (a b : Bool) → (a && b) ≡ true → (a ≡ true) × (b ≡ true)
-and_two true b h = (refl, h)
-and_two false b h = absurd cc
-
 -- what stands once a need does
 abbrev pub mark_of : Need → Mark
 mark_of (Entry loader name place) = OfAsk (record { loader = loader; name = name })
@@ -223,8 +219,8 @@ unimposed : (s : State) (name : Name) (a b : ℕ) → MayAdd s (Equal name a b) 
 unfolding imposed
 unimposed s name a b may h =
     let x = any_contains (λ (e : Equality). same_name e.name name && ((e.one == a) && (e.other == b))) s.equalities h in
-    let named = and_two (same_name x.0.name name) ((x.0.one == a) && (x.0.other == b)) x.1 in
-    let ends = and_two (x.0.one == a) (x.0.other == b) named.1 in
+    let named = and_parts (same_name x.0.name name) ((x.0.one == a) && (x.0.other == b)) x.1 in
+    let ends = and_parts (x.0.one == a) (x.0.other == b) named.1 in
     may.unmet (joined_link s.equalities name a b (record { equality = x.0; imposed = x.2; named = names_equal x.0.name name named.0; ends = inl (eqb-true x.0.one a ends.0, eqb-true x.0.other b ends.1) }))
 
 imposed_last : (ks : List Equality) (name : Name) (a b : ℕ) → imposed (ks ++ record { name = name; one = a; other = b } ∷ []) name a b ≡ true

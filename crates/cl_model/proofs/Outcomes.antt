@@ -8,11 +8,11 @@ use Rattle.cl_model.specs.Classes.{class, same_class, Error, Above, is_among, No
 use Rattle.cl_model.specs.Lineages.{Kin}
 use Rattle.cl_model.specs.Works.{Work, Made, ask, or_fail, unless_wrong, of_result, ◌>>=◌}
 use Rattle.cl_model.specs.Plans.{load_by, loads_above, derive_new, derive}
-use Rattle.cl_model.proofs.Bind.{Ends, then_ends, ill_ends, at_once, or_fail_ends, or_fail_ill, unless_ends, unless_ill}
+use Rattle.cl_model.proofs.Bind.{Ends, then_ends, ill_ends, at_once, or_fail_ends, or_fail_ill, unless_ends, unless_ill, some_same, ok_same}
 use Rattle.cl_model.proofs.Heights.{loaded, found, sought, grown, others_after, checked, finished, interfaces_next, superclass_next}
 use Rattle.cl_model.proofs.Derived.{derive_yields, load_ok}
 use Rattle.cl_model.proofs.Derivations.{good_or_fails, one_error}
-use Rattle.cl_model.proofs.Complete.{Upto, upto_self, upto_then, upto_less, higher, Either, Derives, Tells, load_either, file_is, above_either, all_either, some_place, is_class, or_true, passed, circled}
+use Rattle.cl_model.proofs.Complete.{Upto, upto_self, upto_then, upto_less, higher, Either, Derives, Tells, load_either, above_either, all_either, is_class, or_true, passed, circled}
 
 -- a class comes out at a height: it is good, or fails
 abbrev pub Comes : World → ℕ → Class → Type 0
@@ -56,7 +56,7 @@ load_absent w d absent loader name h =
 -- a supertype that is loaded is judged as its file says
 pub judged_still : (w : World) (c : Class) (a : Above) (s : Class) (k : Kin) (o : Option Error) → Fitting w c a.role o s → k.class ≡ s → HasFile w s k.file → misfit c a.role k.class k.file ≡ o
 judged_still w c a s k o fit e h =
-    ap (λ (x : Class). misfit c a.role x k.file) e ∙ ap (λ (x : File). misfit c a.role s x) (file_is k.file fit.file (file_of w s) h fit.has_file) ∙ fit.judged
+    ap (λ (x : Class). misfit c a.role x k.file) e ∙ ap (λ (x : File). misfit c a.role s x) (ok_same k.file fit.file (file_of w s) h fit.has_file) ∙ fit.judged
 
 above_fails : (w : World) (n m : ℕ) (path : List Class) (d : Class → Work Kin) (e : Error) → Derives w n path d m → FailsBelow w n path d m e → Tells w d → (c : Class) (others : List Above) → FirstWrong (FitsAt w c (Good w m)) (WrongAt w c (Good w m) (λ s. Fails w m s e) e) others → FailsSo w n path (loads_above w d c others) e
 above_fails w n m path d e good ih tells c [] h = absurd h
@@ -68,13 +68,13 @@ above_fails w n m path d e good ih tells c (a ∷ others) (inl (inr (inr h))) =
     either_then w n path (load_by w d NoClassDef c.loader a.name) (checked w d c a others) e (load_either w n m path d good NoClassDef c.loader a.name h.place h.found h.holds.0) (λ k x.
     let l = load_ok w d NoClassDef c.loader a.name x.made k x.is x.ends in
     let t = tells (class a.name l.place) l.below k l.made l.ends in
-    let fit = subst (λ (y : ℕ). Fitting w c a.role (Some e) (class a.name y)) (some_place (sym h.found ∙ l.found)) h.holds.1 in
+    let fit = subst (λ (y : ℕ). Fitting w c a.role (Some e) (class a.name y)) (some_same _ _ (sym h.found ∙ l.found)) h.holds.1 in
     ill_then w n path (unless_wrong (misfit c a.role k.class k.file)) (others_after w d c others k) e (inl (unless_ill (misfit c a.role k.class k.file) e (judged_still w c a (class a.name l.place) k (Some e) fit t.0 t.1))))
 above_fails w n m path d e good ih tells c (a ∷ others) (inr h) =
     either_then w n path (load_by w d NoClassDef c.loader a.name) (checked w d c a others) e (load_either w n m path d good NoClassDef c.loader a.name h.0.place h.0.found h.0.holds.0) (λ k x.
     let l = load_ok w d NoClassDef c.loader a.name x.made k x.is x.ends in
     let t = tells (class a.name l.place) l.below k l.made l.ends in
-    let fit = subst (λ (y : ℕ). Fitting w c a.role None (class a.name y)) (some_place (sym h.0.found ∙ l.found)) h.0.holds.1 in
+    let fit = subst (λ (y : ℕ). Fitting w c a.role None (class a.name y)) (some_same _ _ (sym h.0.found ∙ l.found)) h.0.holds.1 in
     well_then w n path (unless_wrong (misfit c a.role k.class k.file)) (others_after w d c others k) tt e (unless_ends (misfit c a.role k.class k.file) (judged_still w c a (class a.name l.place) k None fit t.0 t.1))
     (ill_then w n path (loads_above w d c others) (grown k) e (above_fails w n m path d e good ih tells c others h.1)))
 

@@ -1,5 +1,5 @@
 -- What may be settled and prepared, and what a posted verdict rests on.
-use Rattle.std.proofs.Common.{◌≡◌, ◌≢◌, ℕ, List, [], ◌∷◌, ◌++◌, Option, Some, None, refl, sym, ap, subst, ◌∙◌, slice_get}
+use Rattle.std.proofs.Common.{◌≡◌, ◌≢◌, ℕ, List, [], ◌∷◌, ◌++◌, Some, None, refl, sym, ap, subst, ◌∙◌, slice_get}
 use Rattle.std.specs.Prelude.{Contains}
 use Rattle.std.specs.List.{AllByRecursion}
 use Rattle.cl_classfile.specs.Files.{Name, File}
@@ -11,7 +11,7 @@ use Rattle.cl_model.specs.Preparation.{constraints_of}
 use Rattle.cl_model.specs.States.{State, Verdict, IsLinked, BadEntry, ArrayMember, Said, AllMet, IsRecorded, settled_to, answer_to}
 use Rattle.cl_model.specs.Plans.{Request, Resolve, Link, Plan}
 use Rattle.cl_model.specs.Machine.{Setting, Scheduled, Settle, Prepare, HasLineage, IsPlan, AnswersReference, MaySay, May, IsSound}
-use Rattle.cl_model.proofs.Bind.{some_same, ok_same}
+use Rattle.cl_model.proofs.Bind.{some_same, ok_same, value_same}
 use Rattle.cl_model.proofs.Closed.{all_left, all_right}
 use Rattle.cl_model.proofs.Planned.{one_plan, one_lineage}
 use Rattle.cl_model.proofs.Progress.{class_is, once_kept}
@@ -49,9 +49,6 @@ linked_is_prepared g s q a loader name c sound asked is said =
 
 -- ---- what is prepared has its whole lineage prepared
 
-place_is : (x y : ℕ) (o : Option ℕ) → o ≡ Some x → o ≡ Some y → x ≡ y
-place_is x y o h k = cc
-
 -- the supertypes of a class that is prepared are
 abbrev AbovePrepared : World → State → Class → List Above → Type 0
 AbovePrepared w s c others = AllByRecursion (λ (a : Above). AtHome w c (Contains s.prepared) a.name) others
@@ -62,7 +59,7 @@ forest_prepared g s c (Tree t f sup ints rest) [] sound all h = absurd h
 forest_prepared g s c (Tree t f sup ints rest) (a ∷ more) sound all h =
     let w = g.world in
     let P = λ (k : Kin). Contains s.prepared k.class in
-    let same : t ≡ class a.name all.0.place = class_is t a.name all.0.place h.0.named (place_is t.loader all.0.place (home w c.loader a.name) h.0.found all.0.found) in
+    let same : t ≡ class a.name all.0.place = class_is t a.name all.0.place h.0.named (value_same t.loader all.0.place (home w c.loader a.name) h.0.found all.0.found) in
     let own : Contains s.prepared t = subst (λ (x : Class). Contains s.prepared x) (sym same) all.0.holds in
     let k : Kin = record { class = t; file = f; superclass = sup; interfaces = ints } in
     let is = sound.prepared t own in

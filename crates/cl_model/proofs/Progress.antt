@@ -16,7 +16,7 @@ use Rattle.cl_model.specs.States.{State, Need, Entry, Equal, Verdict, IsField, I
 use Rattle.cl_model.specs.Works.{Work, Made, done, need, ask, or_fail, unless_wrong, of_result, ◌>>=◌}
 use Rattle.cl_model.specs.Plans.{initiating, load_by, loads_above, derive_new, derive, load, resolve_class, resolve_found, resolve_field, resolve_method, resolve_member, member_target, resolve_reference, resolve, flags_of, Request, Load, Resolve, Link, loaded_by, go_on_with, Plan, plan_after, plan_from, needs_of}
 use Rattle.cl_model.specs.Machine.{Setting, Define, Initiate, May, IsClosed, HasLineage, IsPlan, step_for, after}
-use Rattle.cl_model.proofs.Bind.{pieces, some_same, or_fail_ok, result_ok}
+use Rattle.cl_model.proofs.Bind.{pieces, some_same, or_fail_ok, result_ok, value_same}
 use Rattle.cl_model.proofs.Heights.{loaded, found, sought, grown, others_after, checked, finished, interfaces_next, superclass_next, circle_or}
 use Rattle.cl_model.proofs.Derived.{above_ok, above_good, derive_ok, derive_yields, load_ok, Yields, IsLoad, all_both}
 use Rattle.cl_model.proofs.Closed.{all_left, all_right, Stands}
@@ -289,14 +289,11 @@ IsKept w s k = IsRecorded s k.class × IsLineage w k
 pub class_is : (x : Class) (name : Name) (place : ℕ) → x.name ≡ name → x.loader ≡ place → x ≡ class name place
 class_is x name place p q = ap (λ (n : Name). class n x.loader) p ∙ ap (λ (l : ℕ). class name l) q
 
-place_is : (x y : ℕ) (o : Option ℕ) → o ≡ Some x → o ≡ Some y → x ≡ y
-place_is x y o h k = cc
-
 forest_kept : (w : World) (s : State) (c : Class) (fs : Forest) (others : List Above) → IsClosed w s → AllByRecursion (Stands w s c) others → StandsFor w c fs others → AllByRecursion (IsKept w s) (postorder fs)
 forest_kept w s c Bare others closed all h = tt
 forest_kept w s c (Tree t f sup ints rest) [] closed all h = absurd h
 forest_kept w s c (Tree t f sup ints rest) (a ∷ more) closed all h =
-    let same : t ≡ class a.name all.0.place = class_is t a.name all.0.place h.0.named (place_is t.loader all.0.place (home w c.loader a.name) h.0.found all.0.found) in
+    let same : t ≡ class a.name all.0.place = class_is t a.name all.0.place h.0.named (value_same t.loader all.0.place (home w c.loader a.name) h.0.found all.0.found) in
     let rec : IsRecorded s t = subst (λ (x : Class). IsRecorded s x) (sym same) (closed.own c.loader all.0.place a.name all.0.holds) in
     let above = closed.above t f rec h.0.has_file in
     let k : Kin = record { class = t; file = f; superclass = sup; interfaces = ints } in

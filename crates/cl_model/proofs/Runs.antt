@@ -4,7 +4,7 @@ use Rattle.std.specs.Prelude.{find, option_map, Contains}
 use Rattle.std.specs.Option.{option_or}
 use Rattle.std.proofs.lemmas.List.Folds.{find-append}
 use Rattle.std.proofs.lemmas.List.Elements.{Contains-append_left, Contains-append_right, Contains-append_cases}
-use Rattle.std.proofs.lemmas.Bool.{eqb-true}
+use Rattle.std.proofs.lemmas.Bool.{eqb-true, and_parts}
 use Rattle.std.proofs.Common.{nat_eq, ◌≢◌, ◌<◌, arith, slice_index_or}
 use Rattle.std.proofs.lemmas.Cmp.{nat_eq_equiv, nat_list_eq_equiv}
 use Rattle.cl_classfile.specs.Files.{Name, same_name}
@@ -153,16 +153,12 @@ answers_later s t l u (n ∷ ns) ends v h =
 -- ---- what may be added violates nothing
 
 -- two names that test as the same are equal
-pub and_is : (a b : Bool) → (a && b) ≡ true → (a ≡ true) × (b ≡ true)
-and_is true b h = (refl, h)
-and_is false b h = absurd cc
-
 pub names_equal : (a b : Name) → same_name a b ≡ true → a ≡ b
 names_equal [] [] h = refl
 names_equal [] (y ∷ ys) h = absurd cc
 names_equal (x ∷ xs) [] h = absurd cc
 names_equal (x ∷ xs) (y ∷ ys) h =
-    let both : (nat_eq x y ≡ true) × (same_name xs ys ≡ true) = and_is (nat_eq x y) (same_name xs ys) h in
+    let both : (nat_eq x y ≡ true) × (same_name xs ys ≡ true) = and_parts (nat_eq x y) (same_name xs ys) h in
     let head : x ≡ y = eqb-true x y both.0 in
     let rest : xs ≡ ys = names_equal xs ys both.1 in
     cc
@@ -170,7 +166,7 @@ names_equal (x ∷ xs) (y ∷ ys) h =
 -- an added record is found, or one that stood
 found_added : (r : Record) (loader place : ℕ) (name : Name) (b : Bool) → ((r.loader == loader) && same_name r.name name) ≡ b → option_map (λ (x : Record). x.place) (if b then Some r else None) ≡ Some place → (r.loader ≡ loader) × (r.name ≡ name) × (r.place ≡ place)
 found_added r loader place name true e h =
-    let both : ((r.loader == loader) ≡ true) × (same_name r.name name ≡ true) = and_is (r.loader == loader) (same_name r.name name) e in
+    let both : ((r.loader == loader) ≡ true) × (same_name r.name name ≡ true) = and_parts (r.loader == loader) (same_name r.name name) e in
     (eqb-true r.loader loader both.0, names_equal r.name name both.1, cc)
 found_added r loader place name false e h = absurd cc
 

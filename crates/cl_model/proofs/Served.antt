@@ -105,7 +105,8 @@ settled d e = subst (λ (c : Class). settled_to (record { class = in_plug "p/Use
     same_class : {a b : Class} → Some a ≡ Some b → a ≡ b
     same_class e = cc
 
-round_is : {a b : Scheduled} → Some a ≡ Some b → a.round ≡ b.round
+-- an equation of a request's entry gives its round
+pub round_is : {a b : Scheduled} → Some a ≡ Some b → a.round ≡ b.round
 round_is e = cc
 
 no_entry : {a : Scheduled} → None ≡ Some a → ⊥

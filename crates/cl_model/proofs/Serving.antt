@@ -4,9 +4,9 @@ use Rattle.std.specs.Prelude.{◌==◌, if◌then◌else◌}
 use Rattle.cl_classfile.specs.Files.{Name}
 use Rattle.cl_model.specs.declared.class.Class.{Class}
 use Rattle.cl_model.specs.Classes.{class}
-use Rattle.cl_model.specs.States.{State, Need, Entry, Equal, BadEntry, IsClass, Linkage, Said, start}
+use Rattle.cl_model.specs.States.{State, Need, Entry, Equal, BadEntry, IsClass, Linkage, Said, start, Answer}
 use Rattle.cl_model.specs.Plans.{Request, Load, Resolve, Link, Plan, plan, needs_of}
-use Rattle.cl_model.specs.Machine.{Setting, Step, Define, Initiate, Answers, state_after}
+use Rattle.cl_model.specs.Machine.{Setting, Step, Define, Initiate, Answers, state_after, Post}
 use Rattle.cl_model.specs.Steps.{IsOfService}
 use Rattle.cl_model.specs.Service.{Want, ToStand, ToPrepare, serving, Settles, IsNextStep, MayEnd}
 use Rattle.cl_model.specs.Examples.{boot, the_root, load_of}
@@ -14,6 +14,10 @@ use Rattle.cl_model.specs.ExampleReferences.{service}
 use Rattle.cl_model.specs.ExampleRuns.{over}
 use Rattle.cl_model.proofs.Planned.{one_plan}
 use Rattle.cl_model.proofs.Refusals.{the}
+
+-- a post's number
+pub post_number : {p q : ℕ} {a b : Answer} → Post p a ≡ Post q b → p ≡ q
+post_number e = cc
 
 -- ---- what comes next in a service is neither a post nor a round
 

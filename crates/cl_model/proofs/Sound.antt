@@ -5,7 +5,7 @@ use Rattle.std.specs.Option.{option_or}
 use Rattle.std.specs.List.{AllByRecursion}
 use Rattle.std.proofs.lemmas.List.Folds.{find-append}
 use Rattle.std.proofs.lemmas.List.Elements.{Contains-append_left, Contains-append_cases}
-use Rattle.std.proofs.lemmas.Bool.{eqb-true}
+use Rattle.std.proofs.lemmas.Bool.{eqb-true, and_parts}
 use Rattle.cl_model.specs.Homes.{World}
 use Rattle.cl_model.specs.declared.class.Class.{Class}
 use Rattle.cl_model.specs.Classes.{same_class, Above, AtHome, supers}
@@ -14,7 +14,7 @@ use Rattle.cl_model.specs.States.{State, start, Need, Verdict, Answer, Said, Out
 use Rattle.cl_model.specs.Plans.{Request, Load, Resolve, Link, Plan, needs_of, ending}
 use Rattle.cl_model.specs.Works.{Made}
 use Rattle.cl_model.specs.Machine.{Setting, Step, Define, Initiate, Constrain, Settle, Prepare, Post, NextRound, Stray, May, after, state_after, Run, Answers, AnswersPlan, AnswersReference, MayAnswer, RestsOn, IsClosed, IsPrepared, IsSettled, IsAnswered, IsSound}
-use Rattle.cl_model.proofs.Runs.{IsLater, after_later, run_later, met_later, refused_later, answers_later, keeps, start_unviolated, stays_unviolated, one_answer, and_is, or_map}
+use Rattle.cl_model.proofs.Runs.{IsLater, after_later, run_later, met_later, refused_later, answers_later, keeps, start_unviolated, stays_unviolated, one_answer, or_map}
 use Rattle.cl_model.proofs.Complete.{is_class}
 use Rattle.cl_model.proofs.Closed.{closed_after, start_closed}
 use Rattle.cl_model.proofs.Planned.{one_plan, one_resolution}
@@ -158,7 +158,7 @@ settled_new rs r d i v h =
   where
     found_new : (b : Bool) → (same_class r.class d && (r.index == i)) ≡ b → option_map (λ (x : Settled). x.verdict) (if b then Some r else None) ≡ Some v → (r.class ≡ d) × (r.index ≡ i) × (r.verdict ≡ v)
     found_new true e k =
-        let both : (same_class r.class d ≡ true) × ((r.index == i) ≡ true) = and_is (same_class r.class d) (r.index == i) e in
+        let both : (same_class r.class d ≡ true) × ((r.index == i) ≡ true) = and_parts (same_class r.class d) (r.index == i) e in
         (is_class r.class d both.0, eqb-true r.index i both.1, cc)
     found_new false e k = absurd cc
 

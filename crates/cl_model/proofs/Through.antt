@@ -1,5 +1,5 @@
 -- What follows the load of a reference's class.
-use Rattle.std.proofs.Common.{◌≡◌, ℕ, true, false, if◌then◌else◌, List, [], ◌∷◌, ◌++◌, Option, Some, None, Result, Ok, Err, refl, sym, ap, subst, ◌∙◌, append_assoc}
+use Rattle.std.proofs.Common.{◌≡◌, ℕ, true, false, List, [], ◌∷◌, ◌++◌, Option, Some, None, Result, Ok, Err, refl, sym, ap, subst, ◌∙◌, append_assoc}
 use Rattle.std.specs.Prelude.{option_map}
 use Rattle.cl_descriptors.specs.declared.types.FieldType.{FieldType}
 use Rattle.cl_classfile.specs.Files.{Name, Reference, ToClass, ToField, ToMethod, ToInterfaceMethod, reference, element_name, letter}
@@ -7,7 +7,7 @@ use Rattle.cl_model.specs.Homes.{World}
 use Rattle.cl_model.specs.declared.class.Class.{Class}
 use Rattle.cl_model.specs.Classes.{class, Error, NoClassDef}
 use Rattle.cl_model.specs.Lineages.{Kin}
-use Rattle.cl_model.specs.States.{State, Need, Verdict, IsArrayOfBase, BadEntry, ArrayMember, recorded, AllMet}
+use Rattle.cl_model.specs.States.{State, Need, Verdict, IsArrayOfBase, BadEntry, ArrayMember, recorded}
 use Rattle.cl_model.specs.Works.{Work, Made, Ask, done, unless_wrong, after_made, go_on, ◌>>=◌}
 use Rattle.cl_model.specs.Plans.{derive, load, resolve_class, resolve_field, resolve_method, resolve_member, member_target, resolve_reference, resolve, ending}
 use Rattle.cl_model.specs.Machine.{Setting, HasLineage, IsClosed, Answers, AnswersReference}

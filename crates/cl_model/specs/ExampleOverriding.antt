@@ -1,5 +1,5 @@
 -- Worlds of the examples of overriding and preparation (JVMS SE 8, 5.4.2, 5.4.5).
-use Rattle.std.specs.Prelude.{ℕ, ◌+◌, List, [], ◌∷◌}
+use Rattle.std.specs.Prelude.{◌+◌, [], ◌∷◌}
 use Rattle.cl_classfile.specs.Flags as flag
 use Rattle.cl_model.specs.Homes.{World}
 use Rattle.cl_model.specs.Examples.{boot, app, plug, kid, root, plain, under, interface, taking_t, taking_v, giving_v, with_methods, with_interfaces, bundle}

@@ -1,9 +1,8 @@
 -- Laws of trusted tables, under any source (JVMS SE 8, 5.3 to 5.4.3): each is the contract of a function without a body.
-use Rattle.std.specs.Prelude.{◌≡◌, ℕ, ◌+◌, List, [], ◌∷◌, ◌++◌, Some, ◌⊎◌, Contains, slice_get, ◌≢◌, None}
+use Rattle.std.specs.Prelude.{◌≡◌, ℕ, List, [], ◌∷◌, ◌++◌, Some, ◌⊎◌, Contains, slice_get, ◌≢◌, None}
 use Rattle.cl_classfile.specs.Files.{Name}
 use Rattle.cl_model.specs.declared.class.Class.{Class}
-use Rattle.cl_model.specs.Classes.{class}
-use Rattle.cl_model.specs.Plans.{load, Load, Resolve, Link}
+use Rattle.cl_model.specs.Plans.{Load, Resolve, Link}
 use Rattle.cl_model.specs.States.{State, start, IsClass, Answer, settled_to, Verdict, recorded, IsLinked, BadEntry, ArrayMember, Said, IsRecorded}
 use Rattle.cl_model.specs.Machine.{Setting, Scheduled, Step, Post, May, state_after, Run, IsClosed, after, Define, Initiate, Settle, Prepare, NextRound, Stray, EndsRound}
 use Rattle.cl_model.specs.Tables.{Records, Allows, Orderly, IsTrusted, IsConsistent, Stands}

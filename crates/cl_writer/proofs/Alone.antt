@@ -24,6 +24,7 @@ use Rattle.cl_writer.specs.Described.{described}
 use Rattle.cl_writer.specs.Assembled.{IsAssembled, IsInvalid, AssembleOf}
 use Rattle.cl_writer.proofs.Rows.{first_of, second_of, third_of, head_of, only_of, letters, differs, other, behind, no_member_word}
 use Rattle.cl_writer.proofs.Words.{WritesFlags, One, Three, name_words, integer_words, member_line, member_line_words, member_name, member_name_words, class_line, class_line_words}
+use Rattle.std.proofs.lemmas.Option.{same_Some}
 
 -- ---- words
 
@@ -37,11 +38,8 @@ one_super text None (Some n) v w = absurd (w.0 v)
 one_super text (Some m) None v w = absurd (v.0 w)
 one_super text (Some m) (Some n) v w = ap (λ (x : List ℕ). Some x) (name_alone text m n v.1 w.1)
 
-some_is : (a b : ℕ) → Some a ≡ Some b → a ≡ b
-some_is a b e = cc
-
 one_flags : Alone WritesFlags
-one_flags text a b v w = some_is a b (sym v ∙ w)
+one_flags text a b v w = same_Some a b (sym v ∙ w)
 
 one_number : Alone WritesInteger
 one_number text a b v w = v.value ∙ sym w.value

@@ -11,12 +11,10 @@ use Rattle.cl_writer.specs.declared.item.Item.TheVariants.{Text, Integer, Class,
 use Rattle.std.proofs.lemmas.List.{length_push}
 use Rattle.indexmap.specs.IndexMap.{IndexMap, get}
 use Rattle.cl_writer.specs.Items.{same_text, same_kind, same_member, same_item, index_from, index_of, IsIndexed}
+use Rattle.std.proofs.lemmas.Bool.{and_parts, and_from}
+use Rattle.std.proofs.lemmas.Option.{same_Some}
 
 -- ---- equal entries are the same
-
-both : (a b : Bool) → (a && b) ≡ true → (a ≡ true) × (b ≡ true)
-both true b e = (refl, e)
-both false b e = absurd cc
 
 pub int_says : (a b : ℤ) → int_eq a b ≡ true → a ≡ b
 int_says a b e = (Decides-int_eq a b).0 e
@@ -34,8 +32,8 @@ kind_says kinds.InterfaceMethod kinds.InterfaceMethod e = refl
 
 member_says : (m n : MemberName) → same_member m n ≡ true → m ≡ n
 member_says m n e =
-    let s = both _ _ e in
-    let t = both _ _ s.1 in
+    let s = and_parts _ _ e in
+    let t = and_parts _ _ s.1 in
     let x : m.class ≡ n.class = (bytes_decides m.class n.class).0 s.0 in
     let y : m.name ≡ n.name = (bytes_decides m.name n.name).0 t.0 in
     let z : m.descriptor ≡ n.descriptor = (bytes_decides m.descriptor n.descriptor).0 t.1 in
@@ -60,13 +58,13 @@ same_says (Class a1) (Member k2 m2) e = absurd cc
 same_says (NameAndType a1 b1) (Text a2) e = absurd cc
 same_says (NameAndType a1 b1) (Integer i2) e = absurd cc
 same_says (NameAndType a1 b1) (Class a2) e = absurd cc
-same_says (NameAndType a1 b1) (NameAndType a2 b2) e = let t = both _ _ e in let x : a1 ≡ a2 = (bytes_decides a1 a2).0 t.0 in let y : b1 ≡ b2 = (bytes_decides b1 b2).0 t.1 in cc
+same_says (NameAndType a1 b1) (NameAndType a2 b2) e = let t = and_parts _ _ e in let x : a1 ≡ a2 = (bytes_decides a1 a2).0 t.0 in let y : b1 ≡ b2 = (bytes_decides b1 b2).0 t.1 in cc
 same_says (NameAndType a1 b1) (Member k2 m2) e = absurd cc
 same_says (Member k1 m1) (Text a2) e = absurd cc
 same_says (Member k1 m1) (Integer i2) e = absurd cc
 same_says (Member k1 m1) (Class a2) e = absurd cc
 same_says (Member k1 m1) (NameAndType a2 b2) e = absurd cc
-same_says (Member k1 m1) (Member k2 m2) e = let t = both _ _ e in let x : k1 ≡ k2 = kind_says k1 k2 t.0 in let y : m1 ≡ m2 = member_says m1 m2 t.1 in cc
+same_says (Member k1 m1) (Member k2 m2) e = let t = and_parts _ _ e in let x : k1 ≡ k2 = kind_says k1 k2 t.0 in let y : m1 ≡ m2 = member_says m1 m2 t.1 in cc
 
 kind_self : (k : MemberKind) → same_kind k k ≡ true
 kind_self kinds.Field = refl
@@ -76,9 +74,6 @@ kind_self kinds.InterfaceMethod = refl
 text_self : (a : List ℕ) → same_text a a ≡ true
 text_self a = (bytes_decides a a).1 refl
 
-both_so : (a b : Bool) → a ≡ true → b ≡ true → (a && b) ≡ true
-both_so a b e f = rw (e, f) refl
-
 pub int_self : (a : ℤ) → int_eq a a ≡ true
 int_self a = (Decides-int_eq a a).1 refl
 
@@ -86,8 +81,8 @@ pub same_self : (a : Item) → same_item a a ≡ true
 same_self (Text a) = text_self a
 same_self (Integer i) = int_self i
 same_self (Class a) = text_self a
-same_self (NameAndType a b) = both_so _ _ (text_self a) (text_self b)
-same_self (Member k m) = both_so _ _ (kind_self k) (both_so _ _ (text_self m.class) (both_so _ _ (text_self m.name) (text_self m.descriptor)))
+same_self (NameAndType a b) = and_from _ _ (text_self a) (text_self b)
+same_self (Member k m) = and_from _ _ (kind_self k) (and_from _ _ (text_self m.class) (and_from _ _ (text_self m.name) (text_self m.descriptor)))
 
 -- ---- one entry more
 
@@ -149,16 +144,12 @@ enters items item q m o none e count = by (same_item item q) refl ∙ sym (index
         rw (same, self) (sym (second_else (index_of items q) (Some m) absent))
     by false same = rw same (none_else (same_item q item) refl same)
 
--- an index is within the list
-pub some_same : {a b : ℕ} → Some a ≡ Some b → a ≡ b
-some_same h = cc
-
 pub within : (n : ℕ) (xs : List Item) (q : Item) (k : ℕ) → index_from n xs q ≡ Some k → k < n + length xs
 within n [] q k e = absurd cc
 within n (x ∷ xs) q k e = by (within (n + 1) xs q k) (same_item q x) refl
   where
     by : (index_from (n + 1) xs q ≡ Some k → k < n + 1 + length xs) → (b : Bool) → same_item q x ≡ b → k < n + length (x ∷ xs)
-    by later true same = let f : n ≡ k = some_same (rw same at e) in omega arith
+    by later true same = let f : n ≡ k = same_Some _ _ (rw same at e) in omega arith
     by later false same = let g : k < n + 1 + length xs = later (rw same at e) in omega arith
 
 pub some_is : (o : Option ℕ) → is_some o ≡ true → (n : ℕ) × (o ≡ Some n)

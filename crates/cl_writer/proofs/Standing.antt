@@ -3,7 +3,7 @@ use Rattle.std.proofs.Common.{◌≡◌, ℕ, suc, ◌+◌, ◌==◌, Bool, true
 use Rattle.std.specs.Prelude.{slice_get, option_map, unwrap_or, option_to_list}
 use Rattle.std.specs.List.{flat_map, AllByRecursion}
 use Rattle.std.proofs.lemmas.Bool.Decides.{nat_tests}
-use Rattle.std.proofs.lemmas.Option.{slice_get-map}
+use Rattle.std.proofs.lemmas.Option.{slice_get-map, same_Some}
 use Rattle.cl_names.specs.Escape.{escaped}
 use Rattle.cl_classfile.specs.declared.entry.Entry.{Entry}
 use Rattle.cl_classfile.specs.Pool.{at}
@@ -16,7 +16,7 @@ use Rattle.cl_writer.specs.Assemblies.{Listed}
 use Rattle.cl_writer.specs.Items.{same_item, index_from, index_of, index, with_item, class_wanted, line_wanted, wanted, all_wanted, items_of}
 use Rattle.cl_writer.specs.Described.{entry_of, member_of, super_index, described}
 use Rattle.cl_writer.specs.Listings.{printed_flags, printed_name, printed_type, printed_super, class_line, implements_line, member_line, listing_of, super_text, class_text, implements_text, member_text, text_of}
-use Rattle.cl_writer.proofs.Indexed.{same_says, same_self, or_else, index_more, some_same, some_is}
+use Rattle.cl_writer.proofs.Indexed.{same_says, same_self, or_else, index_more, some_is}
 
 -- ---- what is wanted stands
 
@@ -77,7 +77,7 @@ place n [] q k e = absurd cc
 place n (x ∷ xs) q k e = by (place (n + 1) xs q k) (same_item q x) refl
   where
     by : (index_from (n + 1) xs q ≡ Some k → IsPlace (n + 1) xs q k) → (b : Bool) → same_item q x ≡ b → IsPlace n (x ∷ xs) q k
-    by later true same = let f : n ≡ k = some_same (rw same at e) in record { before = 0; is = omega arith; there = ap Some (sym (same_says q x same)) }
+    by later true same = let f : n ≡ k = same_Some _ _ (rw same at e) in record { before = 0; is = omega arith; there = ap Some (sym (same_says q x same)) }
     by later false same =
         let g : IsPlace (n + 1) xs q k = later (rw same at e) in
         let i : k ≡ n + 1 + g.before = g.is in

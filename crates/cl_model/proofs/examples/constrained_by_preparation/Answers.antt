@@ -1,4 +1,4 @@
-use Rattle.std.proofs.Common.{◌≡◌, [], ◌∷◌, inl, refl, codes}
+use Rattle.std.proofs.Common.{[], ◌∷◌, inl, refl, codes}
 use Rattle.cl_classfile.specs.Flags as flag
 use Rattle.cl_model.specs.Lineages.{Kin, Bare, alone}
 use Rattle.cl_model.specs.Plans.{derive}

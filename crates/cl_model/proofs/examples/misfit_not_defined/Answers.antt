@@ -1,5 +1,5 @@
-use Rattle.std.proofs.Common.{◌≡◌, [], Some, Ok, Err, ap, sym, ◌∙◌, refl}
-use Rattle.cl_model.specs.Classes.{Error, Good}
+use Rattle.std.proofs.Common.{◌≡◌, [], Ok, Err, ap, sym, ◌∙◌, refl}
+use Rattle.cl_model.specs.Classes.{Error}
 use Rattle.cl_model.specs.Lineages.{Kin}
 use Rattle.cl_model.specs.Works.{Made}
 use Rattle.cl_model.specs.Plans.{derive}

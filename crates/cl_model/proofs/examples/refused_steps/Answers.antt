@@ -1,9 +1,9 @@
-use Rattle.std.proofs.Common.{◌≡◌, [], ◌∷◌, inl, inr, refl, codes, arith}
+use Rattle.std.proofs.Common.{[], ◌∷◌, inl, inr, refl, codes, arith}
 use Rattle.cl_model.specs.States.{Equal, Joined, Refused, start}
 use Rattle.cl_model.specs.Plans.{plan}
 use Rattle.cl_model.specs.Machine.{state_after}
-use Rattle.cl_model.specs.Examples.{app, plug, kid, in_plug, resolve_of}
-use Rattle.cl_model.specs.ExampleReferences.{service, three_users}
+use Rattle.cl_model.specs.Examples.{app, plug, kid, resolve_of}
+use Rattle.cl_model.specs.ExampleReferences.{three_users}
 use Rattle.cl_model.specs.ExampleRuns.{both_defined, constrained, across}
 use Rattle.cl_model.proofs.Refusals.{the, missing, refused_equal, refused_record}
 use Rattle.cl_model.proofs.Served.{made_of_service, resolution_of_service}

@@ -1,4 +1,4 @@
-use Rattle.std.proofs.Common.{◌≡◌, subst, ◌++◌, inl, inr, refl, codes, [], ◌∷◌, arith}
+use Rattle.std.proofs.Common.{subst, ◌++◌, inl, inr, refl, codes, [], ◌∷◌, arith}
 use Rattle.std.specs.Prelude.{Contains}
 use Rattle.cl_model.specs.declared.class.Class.{Class}
 use Rattle.cl_model.specs.Plans.{plan}
@@ -10,6 +10,7 @@ use Rattle.cl_model.specs.ExampleRuns.{overridden_service, user, serving, loadin
 use Rattle.cl_model.proofs.Refusals.{the}
 use Rattle.cl_model.proofs.Served.{first_round, free_entry, free_equal, good_by, joined, kin_of_object, kin_of_svc, kin_of_use, lineage_of_object, lineage_of_svc, lineage_of_use, made_of_svc, resolution_of_svc, settled, svc_unprepared, use_unprepared}
 use Rattle.cl_model.proofs.examples.resolve_and_link.Goals as goal
+use Rattle.cl_model.proofs.Tables.{one_linked}
 
 abbrev object_prepared : State
 object_prepared = state_after start (loading ++ resolving ++ NextRound ∷ Prepare (in_boot "java/lang/Object") ∷ [])
@@ -93,9 +94,6 @@ prepare_svc = record { recorded = refl; unprepared = svc_unprepared; kin = kin_o
 prepare_use : May serving svc_prepared (Prepare (in_plug "p/Use"))
 prepare_use = record { recorded = refl; unprepared = use_unprepared; kin = kin_of_use; lineage = lineage_of_use; above = (record { place = app; found = refl; holds = (1, omega arith, refl) }, tt); imposed = (joined, tt) }
 
-linked_is : {a b : Class} → IsLinked a ≡ IsLinked b → a ≡ b
-linked_is e = cc
-
 linked : May serving use_prepared (Post 1 (Said (IsLinked (in_plug "p/Use"))))
 linked = record {
   scheduled = _;
@@ -106,7 +104,7 @@ linked = record {
     plan = the (plan overridden_service 3 (link_of plug "p/Use"));
     planned = record { height = 3; planned = refl };
     answered = inl (refl, inl (refl, inl (refl, inl (refl, inl (refl, inl (joined, refl))))));
-    rests = λ c e. subst (λ (d : Class). Contains use_prepared.prepared d) (linked_is e) (2, omega arith, refl);
+    rests = λ c e. subst (λ (d : Class). Contains use_prepared.prepared d) (one_linked _ _ e) (2, omega arith, refl);
   };
 }
 

@@ -4,10 +4,7 @@ use Rattle.cl_model.specs.States.{Answer, OutOfMemory, start, answer_to}
 use Rattle.cl_model.specs.Machine.{Scheduled, Post, NextRound, after, state_after}
 use Rattle.cl_model.specs.ExampleRuns.{in_rounds}
 use Rattle.cl_model.proofs.examples.round_discipline.Goals as goal
-
--- an equation of a request's entry gives its round
-round_is : {a b : Scheduled} → Some a ≡ Some b → a.round ≡ b.round
-round_is e = cc
+use Rattle.cl_model.proofs.Served.{round_is}
 
 no_entry : {a : Scheduled} → None ≡ Some a → ⊥
 no_entry e = cc

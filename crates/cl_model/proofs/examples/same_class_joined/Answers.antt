@@ -1,9 +1,9 @@
 use Rattle.std.proofs.Common.{◌≡◌, ◌⊎◌, ℕ, zero, suc, ap, List, [], ◌∷◌, Some, inl, inr, refl, codes, arith, sym, subst, ◌∙◌}
 use Rattle.std.specs.Prelude.{Contains}
-use Rattle.cl_model.specs.States.{State, start, IsPath, Linked, Equality, recorded}
+use Rattle.cl_model.specs.States.{start, IsPath, Linked, Equality, recorded}
 use Rattle.cl_model.specs.Machine.{state_after}
-use Rattle.cl_model.specs.Examples.{app, plug, kid}
-use Rattle.cl_model.specs.ExampleRuns.{joined_with_kid, constrained}
+use Rattle.cl_model.specs.Examples.{app, kid}
+use Rattle.cl_model.specs.ExampleRuns.{joined_with_kid}
 use Rattle.cl_model.proofs.Refusals.{missing}
 use Rattle.cl_model.proofs.examples.same_class_joined.Goals as goal
 

@@ -1,21 +1,20 @@
-use Rattle.std.proofs.Common.{◌≡◌, ◌<◌, ℕ, List, Some, None, [], ◌∷◌, ◌++◌, inl, inr, refl, sym, subst, codes, arith}
+use Rattle.std.proofs.Common.{◌≡◌, ◌<◌, List, Some, None, [], ◌∷◌, ◌++◌, inl, inr, refl, subst, codes, arith}
 use Rattle.std.specs.Prelude.{Contains}
 use Rattle.std.specs.List.{AllByRecursion}
 use Rattle.cl_classfile.specs.Files.{File}
 use Rattle.cl_model.specs.declared.class.Class.{Class}
-use Rattle.cl_model.specs.Classes.{class, Above, AtHome, supers, file_of}
+use Rattle.cl_model.specs.Classes.{Above, AtHome, supers, file_of}
 use Rattle.cl_model.specs.Lineages.{Kin}
 use Rattle.cl_model.specs.Preparation.{constraints_of}
-use Rattle.cl_model.specs.States.{State, Verdict, Need, Entry, IsLinked, Linkage, Met, AllMet, start}
+use Rattle.cl_model.specs.States.{Verdict, Need, Entry, IsLinked, Linkage, Met, AllMet, start}
 use Rattle.cl_model.specs.Works.{Made}
 use Rattle.cl_model.specs.Plans.{plan, ending}
 use Rattle.cl_model.specs.Machine.{Imposes, Answers, Prepare, state_after}
-use Rattle.cl_model.specs.Examples.{boot, app, plug, in_boot, in_app, in_plug, resolve_of, link_of}
-use Rattle.cl_model.specs.ExampleReferences.{svc}
+use Rattle.cl_model.specs.Examples.{app, plug, in_boot, in_app, in_plug, resolve_of, link_of}
 use Rattle.cl_model.specs.ExampleRuns.{overridden_service, serving, loading, of_svc, unsettled, unprepared}
 use Rattle.cl_model.proofs.Planned.{one_lineage, one_resolution}
 use Rattle.cl_model.proofs.Refusals.{the, missing}
-use Rattle.cl_model.proofs.Served.{joined_alone, same_file, past, said_of, rests_of, kin_of_use, lineage_of_use, made_of_svc, resolution_of_svc, use_unprepared}
+use Rattle.cl_model.proofs.Served.{joined_alone, same_file, said_of, rests_of, kin_of_use, lineage_of_use, made_of_svc, resolution_of_svc, use_unprepared}
 use Rattle.cl_model.proofs.examples.steps_too_early.Goals as goal
 
 pub returns-clause-define : goal.returns-clause-define

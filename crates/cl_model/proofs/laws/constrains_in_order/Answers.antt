@@ -1,5 +1,5 @@
-use Rattle.std.proofs.Common.{◌≡◌, ◌∙◌, List, [], ◌∷◌, ◌++◌, inl, inr, refl, ap, sym, subst}
-use Rattle.cl_model.specs.States.{State, Need, Equal, Met, AllMet, IsNext}
+use Rattle.std.proofs.Common.{◌≡◌, List, [], ◌∷◌, ◌++◌, inl, inr, refl, ap, subst}
+use Rattle.cl_model.specs.States.{State, Need, Equal, AllMet, IsNext}
 use Rattle.cl_model.specs.Machine.{Imposes}
 use Rattle.cl_model.proofs.laws.constrains_in_order.Goals as goal
 use Rattle.cl_model.proofs.Aims.{next_right}

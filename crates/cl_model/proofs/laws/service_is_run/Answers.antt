@@ -1,6 +1,6 @@
 use Rattle.std.proofs.Common.{List, [], ◌∷◌, sym, subst}
 use Rattle.cl_model.specs.States.{State}
-use Rattle.cl_model.specs.Machine.{Setting, Step, NextRound, Run, May, after}
+use Rattle.cl_model.specs.Machine.{Setting, Step, NextRound, Run, after}
 use Rattle.cl_model.specs.Service.{PassesRounds}
 use Rattle.cl_model.proofs.Pieces.{next_step_may, begun_is_run}
 use Rattle.cl_model.proofs.laws.service_is_run.Goals as goal

@@ -8,7 +8,7 @@ use Rattle.cl_model.specs.ExampleReferences.{service}
 use Rattle.cl_model.specs.ExampleRuns.{over, overridden_service, serving}
 use Rattle.cl_model.proofs.Refusals.{the}
 use Rattle.cl_model.proofs.Served.{free_entry}
-use Rattle.cl_model.proofs.Serving.{of_service, root_not_bad}
+use Rattle.cl_model.proofs.Serving.{of_service, root_not_bad, post_number}
 use Rattle.cl_model.proofs.service_examples.pieces_of_services.Goals as goal
 
 abbrev plan_of_use : Plan
@@ -26,13 +26,10 @@ returns-clause-step c =
 pub returns-clause-post : goal.returns-clause-post
 returns-clause-post c = inr (OutOfMemory, tt, refl)
 
-number : {p q : ℕ} {a b : Answer} → Post p a ≡ Post q b → p ≡ q
-number e = cc
-
 pub returns-clause-other_number : goal.returns-clause-other_number
 returns-clause-other_number c h = elim h [
   | inl next ↦ of_service serving start (resolve_of plug "p/Use" 1) (Post 1 OutOfMemory) next
-  | inr ends ↦ absurd (let same : 1 ≡ 0 = number ends.2 in cc)
+  | inr ends ↦ absurd (let same : 1 ≡ 0 = post_number ends.2 in cc)
 ]
 
 same_answer : {p q : ℕ} {a b : Answer} → Post p a ≡ Post q b → a ≡ b

@@ -1,4 +1,4 @@
-use Rattle.std.proofs.Common.{◌≡◌, ℕ, zero, suc, ◌<◌, ◌+◌, List, Some, None, true, false, Bool, [], ◌∷◌, ◌++◌, inl, inr, refl, sym, ap, subst, ◌∙◌, arith, slice_get}
+use Rattle.std.proofs.Common.{◌≡◌, ℕ, zero, suc, ◌<◌, ◌+◌, List, Some, None, true, false, [], ◌∷◌, ◌++◌, refl, sym, ap, subst, ◌∙◌, arith, slice_get}
 use Rattle.std.specs.Option.{IsSome}
 use Rattle.cl_model.specs.States.{State, Answer, OutOfMemory, start, answer_to}
 use Rattle.cl_model.specs.Plans.{Request}
@@ -6,8 +6,9 @@ use Rattle.cl_model.specs.Machine.{Setting, Scheduled, Step, Post, NextRound, Ma
 use Rattle.cl_model.specs.Service.{IsBegun, Serves, PassesRounds, AllServed}
 use Rattle.cl_model.specs.ExampleServices.{of_second, of_fourth, sparse, failed}
 use Rattle.cl_model.specs.Steps.{IsOfService}
-use Rattle.cl_model.proofs.Serving.{of_service}
+use Rattle.cl_model.proofs.Serving.{of_service, post_number}
 use Rattle.cl_model.proofs.service_examples.rounds_between_services.Goals as goal
+use Rattle.cl_model.proofs.Served.{round_is}
 
 -- ---- the first step of what is served
 
@@ -16,9 +17,6 @@ head e = cc
 
 rest : {x y : Step} {xs ys : List Step} → x ∷ xs ≡ y ∷ ys → xs ≡ ys
 rest e = cc
-
-number : {p q : ℕ} {a b : Answer} → Post p a ≡ Post q b → p ≡ q
-number e = cc
 
 -- a round that comes first has begun, and what comes behind it serves the same
 abbrev RoundFirst : Setting → ℕ → State → List Scheduled → List Step → Type 0
@@ -67,7 +65,7 @@ post_first g q p a s r rs es h = begun h.0 h.1 h.2 h.3 h.4 h.5 h.6
         ends [] one b posted split more =
             let e : Post p a ∷ es ≡ Post q serves.answer ∷ others = split ∙ ap (λ (l : List Step). l ++ others) posted in
             let here : AllServed g (suc q) (after s (Post q serves.answer)) rs others = subst (λ (l : List Step). AllServed g (suc q) (state_after s l) rs others) posted more in (
-              number (head e),
+              post_number (head e),
               subst (λ (d : Step). AllServed g (suc q) (after s d) rs es) (sym (head e)) (subst (λ (l : List Step). AllServed g (suc q) (after s (Post q serves.answer)) rs l) (sym (rest e)) here),
             )
         ends (d ∷ ds) one b posted split more =
@@ -75,9 +73,6 @@ post_first g q p a s r rs es h = begun h.0 h.1 h.2 h.3 h.4 h.5 h.6
             absurd (subst (λ (x : Step). IsOfService x) (sym (head e)) (of_service g s r.request d b.0))
 
 -- ---- where the next round of the example may begin
-
-round_is : {a b : Scheduled} → Some a ≡ Some b → a.round ≡ b.round
-round_is e = cc
 
 no_entry : {a : Scheduled} → None ≡ Some a → ⊥
 no_entry e = cc

@@ -11,6 +11,7 @@ use Rattle.cl_model.specs.ExampleRuns.{overridden_service, serving, loading, res
 use Rattle.cl_model.proofs.Refusals.{the}
 use Rattle.cl_model.proofs.Served.{free_entry, free_equal, kin_of_use, lineage_of_use, made_of_svc, resolution_of_svc, first_round, joined, settled, svc_unprepared, use_unprepared}
 use Rattle.cl_model.proofs.service_examples.services_of_a_run.Goals as goal
+use Rattle.cl_model.proofs.Tables.{one_linked}
 
 -- ---- the first request
 
@@ -101,9 +102,6 @@ object_prepared = after second_round (Prepare the_root)
 abbrev use_prepared : State
 use_prepared = after unprepared (Prepare (in_plug "p/Use"))
 
-linked_is : {a b : Class} → IsLinked a ≡ IsLinked b → a ≡ b
-linked_is e = cc
-
 linked : ComesTo serving use_prepared (link_of plug "p/Use") (IsLinked (in_plug "p/Use"))
 linked = record {
   plan = plan_of_link;
@@ -114,7 +112,7 @@ linked = record {
     plan = plan_of_link;
     planned = record { height = 3; planned = refl };
     answered = inl (refl, inl (refl, inl (refl, inl (refl, inl (refl, inl (joined, refl))))));
-    rests = λ c e. subst (λ (d : Class). Contains use_prepared.prepared d) (linked_is e) (2, omega arith, refl);
+    rests = λ c e. subst (λ (d : Class). Contains use_prepared.prepared d) (one_linked _ _ e) (2, omega arith, refl);
   };
 }
 

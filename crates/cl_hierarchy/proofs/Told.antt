@@ -9,9 +9,7 @@ use Rattle.cl_model.specs.Lineages.{Forest, Bare, Tree, Kin, alone, classes, lin
 use Rattle.cl_model.proofs.Ancestors.{Within, among_first}
 use Rattle.cl_model.proofs.Complete.{is_class, or_true}
 use Rattle.cl_config.specs.Views.{Configured}
-use Rattle.cl_hierarchy.specs.declared.tour.Order.TheVariants as orders
 use Rattle.cl_hierarchy.specs.Rows.{Rowed}
-use Rattle.cl_hierarchy.specs.Tours.{stops, told_at}
 use Rattle.cl_hierarchy.specs.Trees.{AllKnown, SupersBefore, forest, in_front, interfaces_in, kin_named, kin_under, kins, kins_after, superclass_in}
 use Rattle.cl_hierarchy.specs.Lineages.{IsLined, IsLineageOf, IsRowIn, IsWithin, Lined, kin_of, row_of}
 use Rattle.cl_hierarchy.specs.RowTables.{AreRows, AreRowsAfter, IsMadeOf}
@@ -20,7 +18,7 @@ use Rattle.cl_hierarchy.proofs.Climbs.{before_split, map_twice}
 use Rattle.cl_hierarchy.proofs.Ends.{last_of}
 use Rattle.cl_hierarchy.proofs.RowTables.{made, supers_before}
 use Rattle.cl_hierarchy.proofs.Scans.{map_push}
-use Rattle.cl_hierarchy.proofs.Tours.{classes_both, lineage_told, within_join, within_right}
+use Rattle.cl_hierarchy.proofs.Tours.{classes_both, within_join, within_right}
 
 -- ---- classes among others
 
@@ -335,11 +333,10 @@ pub record AreTold (rows : List Rowed) (start : Rowed) (told : List Rowed) : Typ
   pub order : map (kin_under (kins rows)) told ≡ lineage (kin_under (kins rows) start)
 
 -- the last of the lineage of a row is its own class
-lineage_ends : (told : Option Content) (config : Configured) (rows : List Rowed) (c : Class) (start : Rowed) → AreRows told config rows → row_of rows c ≡ Some start
+pub lineage_ends : (rows : List Rowed) (c : Class) (start : Rowed) → SupersBefore [] rows → row_of rows c ≡ Some start
     → lineage (kin_under (kins rows) start) ≡ once (postorder (kin_under (kins rows) start).superclass ++ postorder (kin_under (kins rows) start).interfaces) ++ kin_under (kins rows) start ∷ []
-lineage_ends told config rows c start h e =
+lineage_ends rows c start ordered e =
     let k : Kin = kin_under (kins rows) start in
-    let ordered : SupersBefore [] rows = supers_before told config rows h in
     let first : IsRowKin (kins rows) c start = row_kin [] rows c start ordered e in
     let apart : is_among (above_classes k) k.class ≡ false =
     subst (λ (x : Class). is_among (above_classes k) x ≡ false) (sym first.same) (no_circle [] rows c start (λ x y i. absurd cc) ordered e) in
@@ -358,7 +355,7 @@ lineage_made told config rows c start above own h e t =
     let k : Kin = kin_under known start in
     let l : Lined = record { config = config; above = above; own = own } in
     let first : IsRowKin known c start = row_kin [] rows c start ordered e in
-    let ends = lineage_ends told config rows c start h e in
+    let ends = lineage_ends rows c start ordered e in
     let pushed : map (kin_under known) (above ++ own ∷ []) ≡ map (kin_under known) above ++ kin_under known own ∷ [] = map_push (kin_under known) above own in
     let own_kin : kin_under known own ≡ k =
     same_last (map (kin_under known) above) (once (postorder k.superclass ++ postorder k.interfaces)) (kin_under known own) k (sym pushed ∙ t.order ∙ ends) in
@@ -386,15 +383,15 @@ lineage_made told config rows c start above own h e t =
 
 -- ---- the same of what lies behind them in memory
 
-all_forth : {A B : Type 0} (f : A → B) (P : B → Type 0) (xs : List A) → AllByRecursion (λ x. P (f x)) xs → AllByRecursion P (map f xs)
+pub all_forth : {A B : Type 0} (f : A → B) (P : B → Type 0) (xs : List A) → AllByRecursion (λ x. P (f x)) xs → AllByRecursion P (map f xs)
 all_forth f P [] h = tt
 all_forth f P (x ∷ xs) h = (h.0, all_forth f P xs h.1)
 
-pub told_in : {A : Type 0} (v : A → Rowed) (rows : List Rowed) (start : Rowed) (items : List A) → map (λ x. kin_under (kins rows) (v x)) items ≡ once (told_at orders.Lineage (stops orders.Lineage (alone (kin_under (kins rows) start)) true))
+pub told_in : {A : Type 0} (v : A → Rowed) (rows : List Rowed) (start : Rowed) (items : List A) → map (λ x. kin_under (kins rows) (v x)) items ≡ lineage (kin_under (kins rows) start)
     → AllByRecursion (λ x. IsRowIn rows (v x)) items → AreTold rows start (map v items)
 told_in v rows start items e all = record {
   all = all_forth v (IsRowIn rows) items all;
-  order = map_twice v (kin_under (kins rows)) items ∙ e ∙ ap (λ (ks : List Kin). once ks) (lineage_told (alone (kin_under (kins rows) start)) true);
+  order = map_twice v (kin_under (kins rows)) items ∙ e;
 }
 
 pub told_made : {A : Type 0} (v : A → Rowed) (told : Option Content) (config : Configured) (rows : List Rowed) (held : Configured) (c : Class) (start : Rowed) (items rest : List A) (x : A) → AreRows told config rows → held ≡ config → row_of rows c ≡ Some start
@@ -414,7 +411,7 @@ row_in told config rows c start h e =
 nothing_told : (told : Option Content) (config : Configured) (rows : List Rowed) (c : Class) (start : Rowed) → AreRows told config rows → row_of rows c ≡ Some start → AreTold rows start [] → ⊥
 nothing_told told config rows c start h e t =
     let k : Kin = kin_under (kins rows) start in
-    nothing (once (postorder k.superclass ++ postorder k.interfaces)) k (t.order ∙ lineage_ends told config rows c start h e)
+    nothing (once (postorder k.superclass ++ postorder k.interfaces)) k (t.order ∙ lineage_ends rows c start (supers_before told config rows h) e)
   where
     nothing : (xs : List Kin) (k : Kin) → (let none : List Kin = [] in none) ≡ xs ++ k ∷ [] → ⊥
     nothing [] k e = absurd cc

@@ -10,6 +10,7 @@ pub mod RowIndex
 pub mod RowTables
 pub mod Rows
 pub mod Spelling
+pub mod Stems
 pub mod Supertypes
 pub mod Tours
 pub mod Trees

@@ -15,6 +15,7 @@ pub mod member;
 pub mod path;
 pub mod row;
 mod row_index;
+mod stem;
 pub mod supertype;
 mod tour;
 

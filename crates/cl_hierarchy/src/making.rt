@@ -9,7 +9,8 @@ ghost use Rattle.cl_hierarchy.specs.Rows.{Rowed};
 
 use crate::lineage::Lineage;
 use crate::row::ClassRow;
-use crate::tour::{Finds, Order, rows_in_order};
+use crate::stem::lineage_rows;
+use crate::tour::Finds;
 use cl_config::Config;
 use cl_model::{Class, LoaderId, Told};
 use cl_names::Name;
@@ -84,7 +85,7 @@ impl<T: Told> Lineage<T> {
             return Err(LineageFault::Unknown);
         };
         let defined = Defined { table };
-        let mut rows = rows_in_order(alloc, config.seed(), Order::Lineage, &defined, start, true)?;
+        let mut rows = lineage_rows(alloc, config.seed(), &defined, start)?;
         let config = Arc::try_clone(config)?;
         match rows.pop() {
             None => unreachable!(),

@@ -145,7 +145,7 @@ fn tell<T: Told>(
 }
 
 /// The row of the superclass of a row.
-fn superclass_of<'a, T: Told, F: Finds<T>>(
+pub(crate) fn superclass_of<'a, T: Told, F: Finds<T>>(
     alloc: Global,
     table: &'a F,
     row: &ClassRow<T>,

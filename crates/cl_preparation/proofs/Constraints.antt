@@ -294,3 +294,24 @@ both_halves c first middle new empty one two =
 -- the methods of the class, as a row and in the tree
 pub methods_are : (l : Lined) (own : Rowed) (ms : List Member) → own ≡ l.own → ms ≡ (file_of own.file).methods → ms ≡ (kin_of l).file.methods
 methods_are l own ms e m = m ∙ ap (λ (r : Rowed). (file_of r.file).methods) e
+
+-- ---- a class that imposes nothing
+
+none_declared : (l : Lined) (own : Rowed) (ms : List Member) → own ≡ l.own → list_any (λ m. takes_part m.key (bare own)) ms ≡ false → flat_map (for_declared (kin_of l)) ms ≡ []
+none_declared l own [] e none = refl
+none_declared l own (m ∷ ms) e none =
+    let both = neither (takes_part m.key (bare own)) (list_any (λ x. takes_part x.key (bare own)) ms) none in
+    ap (λ (ns : List Need). ns ++ flat_map (for_declared (kin_of l)) ms) (declared_none l own m e (sym both.0)) ∙ none_declared l own ms e both.1
+
+nothing_inherited : (l : Lined) (b : Bool) (ks : List Kin) → [] ≡ ks → (if b then [] else flat_map (λ (j : Kin). flat_map (for_inherited (kin_of l) j) j.file.methods) ks) ≡ []
+nothing_inherited l true ks e = refl
+nothing_inherited l false ks e = ap (λ (xs : List Kin). flat_map (λ (j : Kin). flat_map (for_inherited (kin_of l) j) j.file.methods) xs) (sym e)
+
+-- no method of it takes part, and it has no superinterfaces
+pub imposed_none : (l : Lined) (own : Rowed) (ms : List Member) → own ≡ l.own → ms ≡ (file_of own.file).methods → list_any (λ m. takes_part m.key (bare own)) ms ≡ false → [] ≡ superinterfaces (kin_of l) → [] ≡ constraints_of (kin_of l)
+imposed_none l own ms e m none over =
+    sym (
+    ap (λ (ns : List Need). ns ++ (if is_interface (kin_of l).file then [] else flat_map (λ (j : Kin). flat_map (for_inherited (kin_of l) j) j.file.methods) (superinterfaces (kin_of l))))
+    (ap (λ (xs : List Member). flat_map (for_declared (kin_of l)) xs) (sym (methods_are l own ms e m)) ∙ none_declared l own ms e none)
+    ∙ nothing_inherited l (is_interface (kin_of l).file) (superinterfaces (kin_of l)) over
+    )

@@ -104,13 +104,6 @@ impl<T: Told> Relative<T> {
         self.row.file().is_interface()
     }
 
-    /// Whether it names superinterfaces (JVMS SE 8, 4.1).
-    pub fn names_interfaces(&self) -> bool
-        ensures { result ≡ names_interfaces self.now }
-    {
-        names_interfaces(&self.row)
-    }
-
     /// Its methods, in order.
     pub fn methods(&self, alloc: Global) -> Result<Vec<Method>, AllocError>
         ensures { IfOk result (λ ms. ms.items ≡ (file_of self.now.file).methods) }

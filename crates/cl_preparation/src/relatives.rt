@@ -1,6 +1,6 @@
 //! The loading constraints that the preparation of a class imposes (JVMS SE 8, 5.4.2).
 
-ghost use Rattle.std.specs.Prelude.{◌≡◌, ◌||◌, ◌++◌, [], if◌then◌else◌, map, flat_map, IfOk, OnOk};
+ghost use Rattle.std.specs.Prelude.{◌≡◌, ◌||◌, ◌++◌, [], if◌then◌else◌, true, map, flat_map, IfOk, OnOk};
 ghost use Rattle.std.specs.List.{list_any};
 ghost use Rattle.cl_classfile.specs.Files.{is_interface};
 ghost use Rattle.cl_model.specs.Lineages.{superclasses, superinterfaces};
@@ -66,25 +66,32 @@ fn superclasses_of<T: Told>(
 }
 
 /// Whether one of these classes names superinterfaces.
-fn any_names_interfaces<T: Told>(classes: &[Relative<T>]) -> bool
-    ensures { result ≡ list_any names_interfaces classes.now }
+fn any_names_interfaces<T: Told>(rows: &[Arc<ClassRow<T>>]) -> bool
+    ensures { result ≡ list_any (λ r. names_interfaces r.value) rows.now }
 {
-    classes.iter().any(|class| class.names_interfaces())
+    rows.iter().any(|row| names_interfaces(row))
 }
 
-/// The superinterfaces, in preorder, where these are the superclasses.
+/// Whether neither the class of a lineage nor a class above it names superinterfaces: it has none (JVMS SE 8, 4.1).
+fn has_none_over<T: Told>(lineage: &Lineage<T>) -> bool
+    ensures { result ≡ true → [] ≡ superinterfaces (kin_of lineage.now) }
+{
+    if names_interfaces(lineage.own()) {
+        return false;
+    }
+    !any_names_interfaces(lineage.above())
+}
+
+/// The superinterfaces, in preorder.
 fn superinterfaces_of<T: Told>(
     alloc: Global,
     lineage: &Arc<Lineage<T>>,
-    above: &[Relative<T>],
 ) -> Result<Vec<Relative<T>>, AllocError>
-    requires { map (kin_at lineage.now.value) above.now
-        ≡ superclasses (kin_of lineage.now.value) }
     ensures { IfOk result (λ v. map (kin_at lineage.now.value) v.items ≡ superinterfaces
         (kin_of lineage.now.value)) }
 {
     // most classes have none, and a chain of classes is long
-    if !names_interfaces(lineage.own()) && !any_names_interfaces(above) {
+    if has_none_over(lineage) {
         return Ok(Vec::new(alloc));
     }
     let rows = lineage.superinterfaces(alloc)?;
@@ -106,7 +113,7 @@ impl<T: Told> Relatives<T> {
         ensures { IfOk result (λ r. r ≡ lineage.now.value) }
     {
         let superclasses = superclasses_of(alloc, lineage)?;
-        let superinterfaces = superinterfaces_of(alloc, lineage, superclasses.as_slice())?;
+        let superinterfaces = superinterfaces_of(alloc, lineage)?;
         let lineage_copy = Arc::try_clone(lineage)?;
         // (last, since each way to drop it is a case of the proof)
         let own = Relative::of(alloc, lineage.own())?;
@@ -289,6 +296,43 @@ impl<T: Told> Relatives<T> {
     }
 }
 
+/// Whether one of these methods of a class takes part in overriding.
+fn any_declared<T: Told>(own: &Relative<T>, methods: &[Method]) -> bool
+    ensures { result ≡ list_any (λ m. takes_part m.key (bare own.now)) methods.now }
+{
+    methods.iter().any(|method| own.takes_part(method.key()))
+}
+
+/// Whether a class imposes nothing, told without a look at what its superclasses declare: it has no superinterfaces, and no
+/// method of its own takes part in overriding (JVMS SE 8, 5.4.2, 5.4.5).
+fn imposes_nothing<T: Told>(alloc: Global, lineage: &Lineage<T>) -> Result<bool, AllocError>
+    ensures { IfOk result (λ b. b ≡ true → [] ≡ constraints_of (kin_of lineage.now)) }
+{
+    if !has_none_over(lineage) {
+        return Ok(false);
+    }
+    let own = Relative::of(alloc, lineage.own())?;
+    let methods = own.methods(alloc)?;
+    let declares = any_declared(&own, methods.as_slice());
+    Ok(!declares)
+}
+
+/// The equalities that the preparation of a class imposes.
+fn needs_over<T: Told>(
+    alloc: Global,
+    lineage: &Arc<Lineage<T>>,
+) -> Result<Vec<Equality>, AllocError>
+    ensures { IfOk result (λ v. needs_of v.items ≡ constraints_of (kin_of lineage.now.value)) }
+{
+    if imposes_nothing(alloc, lineage)? {
+        return Ok(Vec::new(alloc));
+    }
+    let relatives = Relatives::of(alloc, lineage)?;
+    let needs = relatives.needs(alloc);
+    drop(relatives);
+    needs
+}
+
 /// The loading constraints that the preparation of a class imposes, in order, repeats and those of a loader with itself
 /// included: for each method of the class those with the superclasses whose method it overrides, nearest first, and then
 /// with its superinterfaces; then, for each method of a superinterface that the class does not declare, those with the
@@ -301,8 +345,6 @@ pub fn constraints_of<T: Told>(
         ≡ constraints_of (kin_of lineage.now.value)) }
     ensures origin { IfOk result (λ e. e.origin ≡ OfPreparation lineage.now.value) }
 {
-    let relatives = Relatives::of(alloc, lineage)?;
-    let needs = relatives.needs(alloc);
-    drop(relatives);
-    Ok(Equalities::of_preparation(Arc::try_clone(lineage)?, needs?))
+    let needs = needs_over(alloc, lineage)?;
+    Ok(Equalities::of_preparation(Arc::try_clone(lineage)?, needs))
 }

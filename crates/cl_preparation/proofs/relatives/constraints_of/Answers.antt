@@ -7,8 +7,7 @@ use Rattle.cl_preparation.proofs.relatives.constraints_of.Goals as goal
 pub of_preparation-requires : goal.of_preparation-requires
 of_preparation-requires g c =
     let same : c.in_ok-try_clone.field-0.value ≡ c.args.lineage.now.value = search rules in
-    c.in_ok-needs.ensures ∙ ap (λ (l : Lined). constraints_of (kin_of l)) (c.in_ok-relatives.ensures ∙ sym same)
+    c.in_ok-needs.ensures ∙ ap (λ (l : Lined). constraints_of (kin_of l)) (sym same)
 
 pub returns-clause-needs : goal.returns-clause-needs
-returns-clause-needs g c =
-    ap (λ (e : Listed). needs_of e.needs) c.of_preparation.ensures ∙ c.in_ok-needs.ensures ∙ ap (λ (l : Lined). constraints_of (kin_of l)) c.in_ok-relatives.ensures
+returns-clause-needs g c = ap (λ (e : Listed). needs_of e.needs) c.of_preparation.ensures ∙ c.in_ok-needs.ensures

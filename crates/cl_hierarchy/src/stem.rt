@@ -1,0 +1,59 @@
+//! The rows of a lineage: a stem of classes that have no direct supertype but their superclass, and what it stands on (JVMS
+//! SE 8, 5.3.5).
+
+ghost use Rattle.std.specs.Prelude.{◌≡◌, [], map, IfOk, IfSome};
+ghost use Rattle.std.specs.List.{AllByRecursion};
+ghost use Rattle.cl_hierarchy.specs.Lineages.{IsRowIn};
+ghost use Rattle.cl_hierarchy.specs.Stems.{IsOnlyAbove};
+ghost use Rattle.cl_hierarchy.specs.Trees.{SupersBefore, kin_under, kins};
+ghost use Rattle.cl_model.specs.Lineages.{lineage};
+
+use crate::row::ClassRow;
+use crate::tour::{Finds, Order, rows_in_order, superclass_of};
+use cl_model::Told;
+use cl_names::Seed;
+use std::alloc::{AllocError, Global};
+use std::sync::Arc;
+
+/// The row of the superclass of a row, where that is its one direct supertype.
+fn only_above<'a, T: Told, F: Finds<T>>(
+    alloc: Global,
+    table: &'a F,
+    row: &ClassRow<T>,
+) -> Result<Option<&'a Arc<ClassRow<T>>>, AllocError>
+    ensures { IfOk result (λ o. IfSome o (λ r. IsOnlyAbove (F.rows table.now) row.now
+        r.now.value)) }
+{
+    if row.places().len() > 1 {
+        return Ok(None);
+    }
+    superclass_of(alloc, table, row)
+}
+
+/// The rows of the lineage of a row's class, each class once, and its own last. No tour goes through the stem, which is
+/// told from its end: a class of it stands in the lineage right behind its superclass's.
+pub(crate) fn lineage_rows<'a, T: Told, F: Finds<T>>(
+    alloc: Global,
+    seed: Seed,
+    table: &'a F,
+    start: &'a Arc<ClassRow<T>>,
+) -> Result<Vec<Arc<ClassRow<T>>>, AllocError>
+    requires ordered { SupersBefore [] (F.rows table.now) }
+    requires start { IsRowIn (F.rows table.now) start.now.value }
+    ensures kins { IfOk result (λ v. map (λ r. kin_under (kins (F.rows table.now)) r.value) v.items
+        ≡ lineage (kin_under (kins (F.rows table.now)) start.now.value)) }
+    ensures rows { IfOk result (λ v. AllByRecursion (λ r. IsRowIn (F.rows table.now) r.value)
+        v.items) }
+{
+    let mut stem = Vec::new(alloc);
+    let mut top = start;
+    while let Some(above) = only_above(alloc, table, top)? {
+        stem.push(Arc::try_clone(top)?)?;
+        top = above;
+    }
+    let mut rows = rows_in_order(alloc, seed, Order::Lineage, table, top, true)?;
+    while let Some(row) = stem.pop() {
+        rows.push(row)?;
+    }
+    Ok(rows)
+}

@@ -7,6 +7,7 @@ pub mod Served
 pub mod Rounds
 pub mod Stations
 pub mod Steps
+pub mod Blaming
 pub mod Counted
 pub mod Headline
 pub mod Known

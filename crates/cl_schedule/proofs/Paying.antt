@@ -13,6 +13,7 @@ use Rattle.cl_model.specs.Machine.{IsPlan}
 use Rattle.cl_model.specs.Plans.{Plan, cost}
 use Rattle.cl_model.specs.Views.{answer_of, request_of}
 use Rattle.cl_registry.specs.Tables.{Shown, IsKept, IsOpen, state_of, with_post}
+use Rattle.cl_tasks.specs.Blames.{AnswerBlames}
 use Rattle.cl_tasks.specs.Calls.{calls_in}
 use Rattle.cl_tasks.specs.Follows.{AreLeft, CallsWithin, IsWithinCost, TellsNow, made_by}
 use Rattle.cl_tasks.specs.Measures.{all_left}
@@ -23,6 +24,7 @@ use Rattle.cl_tasks.specs.declared.turn.Turn.{Turn}
 use Rattle.cl_tasks.specs.declared.turn.Turn.TheVariants as turn
 use Rattle.cl_schedule.specs.declared.choices.Room.{Room}
 use Rattle.cl_schedule.specs.declared.seats.Seat.{Seat}
+use Rattle.cl_schedule.specs.Blames.{IsAskedFor}
 use Rattle.cl_schedule.specs.Choices.{taken_by}
 use Rattle.cl_schedule.specs.Nearing.{IsNear, by_verdict}
 use Rattle.cl_schedule.specs.Paying.{IsPlanIn, PaysFor, StartsWithin, by_plan}
@@ -182,6 +184,7 @@ turned_memory told old new q before a kept waits is posted =
       answer = a;
       posted = posted;
       ends = λ content e. subst (λ (b : rust.Answer). MayEnd (machine old content) (state_of old) (request_of r.0) (answer_of b)) (sym is) tt;
+      blames = subst (λ (b : rust.Answer). AnswerBlames old.config (IsAskedFor told old.config r.0) b) (sym is) tt;
     } in
     record { did = did; known = memory_known told old new q a before kept waits.unanswered is posted; paid = posted_pays told old new q before kept did }
 

@@ -26,12 +26,14 @@ use Rattle.cl_tasks.specs.Tasks.{Tasked}
 use Rattle.cl_tasks.specs.declared.turn.Turn.{Turn}
 use Rattle.cl_schedule.specs.declared.choices.Room.{Room}
 use Rattle.cl_schedule.specs.declared.seats.Seat.{Seat}
+use Rattle.cl_schedule.specs.Blames.{EachBlames, TurnBlames}
 use Rattle.cl_schedule.specs.Places.{seat_at}
 use Rattle.cl_schedule.specs.Replies.{Did}
 use Rattle.cl_schedule.specs.Rooms.{AllSeated, ChoosesIn, FirstFalls, HasTaken, IsRoom, IsServing, OpenSeats, PlaysIn, TakesFirst, WaitsAgain, first_left, left_at, left_of, room_sum}
 use Rattle.cl_schedule.specs.Rounds.{RoundsPassed}
 use Rattle.cl_schedule.specs.Seats.{AreOfRound, GoesOn, HasAdvanced, HasGathered, HasPosted, IsSeated, IsSeatedAt, NextIn}
 use Rattle.cl_schedule.specs.Serving.{machine}
+use Rattle.cl_schedule.proofs.Blaming.{each_blames_more, each_blames_none, each_blames_passed, each_blames_still}
 use Rattle.cl_schedule.proofs.Later.{after_then, goes_on_did, goes_on_posted, goes_on_rounds}
 use Rattle.cl_schedule.proofs.Gathering.{gathered}
 use Rattle.cl_schedule.proofs.Places.{HasMoved, none_seated, other_set, same_or_apart, same_seats, same_set, seat_task, some_is, some_none}
@@ -66,6 +68,7 @@ seated_later told x y t u q r goes s = record {
   backed = λ z after. s.backed z (after_then told x y z goes after);
   follows = λ z after. s.follows z (after_then told x y z goes after);
   posts = λ z after. s.posts z (after_then told x y z goes after);
+  blames = subst (λ (c : Configured). TurnBlames told c r u) (sym goes.config) s.blames;
 }
 
 -- ---- a turn, in the registry
@@ -191,6 +194,12 @@ gathered_advanced told old new room mid done q h taken advanced waiting next =
     (subst (λ (xs : List ℕ). HasGathered new xs room.next) (sym (waiting ∙ taken.waiting))
     (gathered_did old new (λ e. IsOfService e × NextIn told old advanced.request e) room.waiting.items room.next (λ e is. is.0) advanced.did h))
 
+-- what was answered blames so behind a turn
+each_blames_turned : {A : Type 0} (told : Option Content) (old new : Shown) (q left : ℕ) (after : Option (Seat A)) → GoesOn old new → MatchOption after (HasPosted told old new q) (WaitsAgain told old new q left) → EachBlames told old → EachBlames told new
+each_blames_turned told old new q left None goes posted all =
+    each_blames_more told old new q posted.request posted.answer goes.config goes.script (ap (λ (x : Shown). x.answers) posted.posted) posted.unanswered posted.asked posted.blames all
+each_blames_turned told old new q left (Some s) goes waits all = each_blames_still told old new goes.config goes.script (same_advanced told old new q waits.advanced) all
+
 -- what is served goes on to be, whether the request that was taken went on or was answered
 pub serves_turned : {A : Type 0} (told : Option Content) (config : Configured) (script : Scripted) (old new : Shown) (room done : Room A) (q left : ℕ) (after : Option (Seat A)) → IsServing told config script old room → IsKept told new
     → MatchOption after (HasPosted told old new q) (WaitsAgain told old new q left) → HasMoved room done q after → HasGathered new done.waiting.items done.next → IsServing told config script new done
@@ -209,6 +218,7 @@ serves_turned told config script old new room done q left after serves kept did 
         gathered = gathered_now;
       };
       seats = all_open told old new room done q left after serves.seats did moved;
+      blames = each_blames_turned told old new q left after goes did serves.blames;
     }
 
 -- ---- the first request, taken again and again
@@ -292,6 +302,7 @@ serves_rounds told config script old new room done serves kept passed tasks call
         gathered = gathered_now;
       };
       seats = λ q s at. ap (λ (xs : List (Option rust.Answer)). slice_get xs q) passed.answers ∙ serves.seats q s (sym (same q) ∙ at);
+      blames = each_blames_passed told old new passed serves.blames;
     }
 
 -- while somebody waits no round begins
@@ -330,6 +341,7 @@ serves_first {A = A} told config script empty new done n m is loaders kept passe
             (gathered told new 0 done.waiting.items n kept may over (subst (λ (y : Scripted). AreOfRound y 0 done.waiting.items n) (sym scripted) are));
       };
       seats = λ q s at. absurd (some_none (seat_at done q) s at (none q));
+      blames = each_blames_none told new (length script.requests) (passed.answers ∙ ap (λ (x : Shown). x.answers) is);
     }
 
 -- ---- what falls

@@ -29,6 +29,7 @@ use Rattle.cl_tasks.specs.declared.turn.Turn.TheVariants as turn
 use Rattle.cl_schedule.specs.Replies.{CallSays, Did, IsCall, IsRead, IsReplied, IsStepOf}
 use Rattle.cl_schedule.specs.Seats.{FollowsIn, GoesOn, HasAdvanced, HasPosted, IsAfter, IsCitedFor, IsFor, IsReady, IsSeated, IsSeatedAt, MayPost, NextIn, PostsIn}
 use Rattle.cl_schedule.specs.Serving.{GoesBy, machine}
+use Rattle.cl_schedule.proofs.Blaming.{blames_here}
 use Rattle.cl_schedule.proofs.Backing.{call_backed_later, cited_later, post_backed_later}
 use Rattle.cl_schedule.proofs.Later.{goes_on_did, goes_on_none, holds_later}
 use Rattle.cl_schedule.proofs.Next.{next_of, step_of_call, step_within}
@@ -136,6 +137,7 @@ seated_on told x q r t next given u ready says less unread more =
       backed = λ y after call. call_backed_later told x y u ready.kept after call here;
       follows = λ y after. follows_there y after;
       posts = λ y after. posts_later told x y q r u after (follows_there y after) here next is;
+      blames = blames_here told x r t given u ready.kept (sym ready.config) ready.request ready.tells.told says.blames;
     }
   where
     follows_there : (y : Shown) → IsAfter told x y → FollowsIn told y r u
@@ -270,6 +272,7 @@ has_posted told old new t f q kept (r, may, seated) is = record {
   answer = f.answer;
   posted = is;
   ends = λ content e. may_end (machine old content) (state_of old) r f.answer (seated.follows old (after_none told old kept) content e);
+  blames = seated.blames;
 }
 
 -- an answer that is refused is a stray, and no content is told

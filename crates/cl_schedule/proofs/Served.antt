@@ -13,7 +13,9 @@ use Rattle.cl_model.proofs.Service.{begun_push, begun_ends, run_last}
 use Rattle.cl_registry.specs.Tables.{Shown, IsKept, IsLater, IsOpen, RunsAs, posts, round_of, steps, state_of, with_post}
 use Rattle.cl_registry.proofs.Histories.{posts_then, steps_posts, unposted}
 use Rattle.cl_tasks.specs.declared.turn.Turn.{Turn}
+use Rattle.cl_tasks.specs.Blames.{AnswerBlames}
 use Rattle.cl_tasks.specs.Follows.{AnswerFollows}
+use Rattle.cl_schedule.specs.Blames.{IsAskedFor}
 use Rattle.cl_schedule.specs.Serving.{machine, GoesBy, IsDone, IsPost, NoPosts, ServesAs}
 use Rattle.cl_schedule.specs.Replies.{Did, IsStepOf}
 use Rattle.cl_schedule.proofs.States.{same_machine, state_goes}
@@ -143,13 +145,14 @@ serves_as (Some content) old x q r a made same more begun next =
     subst (λ (k : Setting). MayEnd k (state_of x) (request_of r) (answer_of a)) (same content) (may_end (machine x content) (state_of x) r a (next content refl)) in
     begun_ends m q (request_of r) (state_of old) made (answer_of a) begun (subst (λ (s : State). MayEnd m s (request_of r) (answer_of a)) (state_since old x made more) ends)
 
-pub going_done : (told : Option Content) (old x new : Shown) (q : ℕ) (r : Request) (a : rust.Answer) → Going told old x r → IsOpen old q → AnswersNext told x r a → new ≡ with_post x q a → IsDone told old new q r
-going_done told old x new q r a g open_before next e =
+pub going_done : (told : Option Content) (old x new : Shown) (q : ℕ) (r : Request) (a : rust.Answer) → Going told old x r → IsOpen old q → AnswersNext told x r a → AnswerBlames old.config (IsAskedFor told old.config r) a → new ≡ with_post x q a → IsDone told old new q r
+going_done told old x new q r a g open_before next blames e =
     let opened : IsOpen x q = subst (λ (xs : List (Option rust.Answer)). slice_get xs q ≡ Some None) (sym g.answers) open_before in
     record {
       config = ap (λ (y : Shown). y.config) e ∙ g.config;
       script = ap (λ (y : Shown). y.script) e ∙ g.script;
       answer = a;
+      blames = blames;
       answers = ap (λ (y : Shown). y.answers) e ∙ ap (λ (xs : List (Option rust.Answer)). slice_set xs q (Some a)) g.answers;
       posted = ap (λ (y : Shown). posts y.history) e ∙ posts_then x.history (events.Post q ∷ []) ∙ ap (λ (ps : List ℕ). ps ++ q ∷ []) g.posts_same;
       made = g.made;

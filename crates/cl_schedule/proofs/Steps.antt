@@ -9,6 +9,7 @@ use Rattle.cl_delegation.specs.Worlds.{setting_of}
 use Rattle.cl_config.specs.Loaders.{schedule_of}
 use Rattle.cl_model.proofs.Tables.{trusted_is_consistent}
 use Rattle.cl_registry.specs.Tables.{Shown, IsKept, RunsAs, state_of, steps}
+use Rattle.cl_tasks.specs.Blames.{BlamesWhere}
 use Rattle.cl_tasks.specs.Facts.{Holds}
 use Rattle.cl_tasks.specs.Follows.{Backed, BackedWhere, Follows, FollowsWhere, Refuses, ServedIn, Tells, TellsNow, TellsOf, Unrecorded, refusal}
 use Rattle.cl_tasks.specs.Tasks.{Tasked, begun}
@@ -35,6 +36,7 @@ pub record TurnSays {A : Type 0} (told : Option Content) (t new : Tasked) (given
   pub keeps : (x : Shown) → Tells x t given → Holds x new
   pub backed : BackedWhere t.config (λ x. TellsNow x t given) u
   pub next : IfSome t.request (λ r. FollowsWhere told t.config (λ x. Tells x t given) r u)
+  pub blames : IfSome t.request (λ r. BlamesWhere told t.config (λ x. Tells x t given) r u)
   pub refused : Refuses (refusal t given) u
   pub own : AnswersOwn t new given u
 

@@ -8,6 +8,7 @@ use Rattle.cl_model.specs.Plans.{Plan, cost}
 use Rattle.cl_model.specs.Service.{IsPiece, PassesRounds}
 use Rattle.cl_registry.specs.declared.report.Report.{Report}
 use Rattle.cl_registry.specs.Tables.{Shown, steps}
+use Rattle.cl_schedule.specs.Blames.{EachBlames}
 use Rattle.cl_schedule.specs.Headline.{IsServed}
 use Rattle.cl_schedule.specs.Known.{Has, SaysOrLacks}
 use Rattle.cl_schedule.specs.Serving.{machine, reported}
@@ -140,7 +141,9 @@ abbrev pub PlayedAs : Option Content → Shown → List ℕ → Type 0
 PlayedAs None x schedule = Unit {0}
 PlayedAs (Some content) x schedule = IsPlayed (machine x content) schedule (steps x)
 
--- the report of a script that was served as a schedule chose: the headline, and the way that its history went (5.3 to 5.4.3)
+-- the report of a script that was served as a schedule chose: the headline, the way that its history went, and whom a fault of the source
+-- blames (5.3 to 5.4.3)
 pub record IsSimulated (told : Option Content) (config : Configured) (script : Scripted) (schedule : List ℕ) (r : Report) : Type 0 where
   pub served : IsServed told config script r
   pub played : PlayedAs told (reported config r) schedule
+  pub blames : EachBlames told (reported config r)

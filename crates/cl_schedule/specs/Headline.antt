@@ -14,6 +14,7 @@ use Rattle.cl_hierarchy.specs.Drafts.{IsSpelt}
 use Rattle.cl_registry.specs.declared.report.Report.{Report}
 use Rattle.cl_registry.specs.Reports.{IsNamed}
 use Rattle.cl_registry.specs.Tables.{Shown, IsTrusted, RunsAs, posts, round_of, state_of}
+use Rattle.cl_schedule.specs.Blames.{EachBlames}
 use Rattle.cl_schedule.specs.Known.{KnownStays}
 use Rattle.cl_schedule.specs.Serving.{HasEachBelow, InOrder, machine, reported, upto}
 
@@ -72,8 +73,9 @@ CirclesExact (Some content) x =
 -- of the linkage machine over it, in which each request is answered once, with what its plan yields in the state at that
 -- point, or with a failure, and the next round begins as soon as it may; each class is spelt by its
 -- defining loader's bytes, equal requests and equal references are answered alike, and circles are told exactly. Under any
--- source the last round has begun, the tables can be trusted, no loader records a name twice, no constraint is violated, and
--- what the tables have of a request is its answer (5.3 to 5.4.3)
+-- source the last round has begun, the tables can be trusted, no loader records a name twice, no constraint is violated,
+-- what the tables have of a request is its answer, and a fault of the source blames whom the search for a name asks, a name that its
+-- request asks for where a content is told (5.3 to 5.4.3)
 pub record IsServedInOrder (told : Option Content) (config : Configured) (script : Scripted) (r : Report) : Type 0 where
   pub of_script : r.script.value ≡ script
   pub each_once : posts r.history ≡ upto (length script.requests)
@@ -88,6 +90,7 @@ pub record IsServedInOrder (told : Option Content) (config : Configured) (script
   pub alike : Alike told (reported config r)
   pub references : ReferencesAlike told (reported config r)
   pub circles : CirclesExact told (reported config r)
+  pub blames : EachBlames told (reported config r)
 
 -- the report of a script that was served in some order, or by threads, under a configuration. Where a content is told, the history is a run of the
 -- linkage machine over it, in which each request is answered once, in its round, with what its plan yields in the state at that

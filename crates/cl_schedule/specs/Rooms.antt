@@ -14,6 +14,7 @@ use Rattle.cl_schedule.specs.declared.choices.Room.{Room}
 use Rattle.cl_schedule.specs.declared.seats.Seat.{Seat}
 use Rattle.cl_schedule.specs.declared.serve.ServeFault.{ServeFault}
 use Rattle.cl_schedule.specs.declared.serve.ServeFault.TheVariants as faults
+use Rattle.cl_schedule.specs.Blames.{EachBlames}
 use Rattle.cl_schedule.specs.Choices.{AreInTime, ArePrompt, Chooses, Piece, Plays, steps_in}
 use Rattle.cl_schedule.specs.Counting.{CountGrows, debt}
 use Rattle.cl_schedule.specs.Nearing.{by_verdict}
@@ -143,6 +144,8 @@ pub record IsServing {A : Type 0} (told : Option Content) (config : Configured) 
   pub places : IsRoom told x room
   -- who has a seat has no answer
   pub seats : OpenSeats x room
+  -- a fault of the source that was answered blames whom the search for a name asks
+  pub blames : EachBlames told x
 
 -- it is served on
 pub record ServesOn {A : Type 0} (told : Option Content) (config : Configured) (script : Scripted) (old new : Shown) (was now : Room A) (before after : ℕ) : Type 0 where

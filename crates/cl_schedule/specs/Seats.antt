@@ -14,6 +14,7 @@ use Rattle.cl_model.specs.Steps.{IsOfService}
 use Rattle.cl_registry.specs.Posting.{IsBacked}
 use Rattle.cl_registry.specs.References.{Cited, cited_by}
 use Rattle.cl_registry.specs.Tables.{Shown, IsKept, IsLater, IsOpen, state_of, steps, with_post}
+use Rattle.cl_tasks.specs.Blames.{AnswerBlames}
 use Rattle.cl_tasks.specs.Facts.{Holds}
 use Rattle.cl_tasks.specs.Follows.{AreLeft, Backed, Follows, TellsNow}
 use Rattle.cl_tasks.specs.Measures.{all_left}
@@ -24,6 +25,7 @@ use Rattle.cl_tasks.specs.declared.turn.Reply.{Reply}
 use Rattle.cl_tasks.specs.declared.turn.Reply.TheVariants as reply
 use Rattle.cl_tasks.specs.declared.turn.Turn.{Turn}
 use Rattle.cl_tasks.specs.declared.turn.Turn.TheVariants as turn
+use Rattle.cl_schedule.specs.Blames.{IsAskedFor, TurnBlames}
 use Rattle.cl_schedule.specs.Choices.{waiting}
 use Rattle.cl_schedule.specs.Replies.{Did, IsCall, IsRead}
 use Rattle.cl_schedule.specs.Serving.{machine}
@@ -82,6 +84,7 @@ pub record IsSeated {A : Type 0} (told : Option Content) (x : Shown) (t : Tasked
   pub backed : (y : Shown) → IsAfter told x y → IsCall u → Backed y u
   pub follows : (y : Shown) → IsAfter told x y → FollowsIn told y r u
   pub posts : (y : Shown) → IsAfter told x y → PostsIn told y q r u
+  pub blames : TurnBlames told x.config r u
 
 -- so it does in a registry in which its answer may be posted
 abbrev pub IsSeatedAt : {A : Type 0} → Option Content → Shown → Tasked → Turn A → ℕ → Type 0
@@ -111,6 +114,7 @@ pub record HasPosted (told : Option Content) (old new : Shown) (q : ℕ) : Type 
   pub answer : Answer
   pub posted : new ≡ with_post old q answer
   pub ends : EndsIn told old request answer
+  pub blames : AnswerBlames old.config (IsAskedFor told old.config request) answer
 
 -- where a reply tells what the reference of a request is settled to, the loader that is asked has recorded its class (5.4.3)
 abbrev pub IsCitedFor : {A : Type 0} → Shown → Waits → Reply A → Type 0

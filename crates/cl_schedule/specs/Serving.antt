@@ -14,6 +14,8 @@ use Rattle.cl_config.specs.Views.{Configured}
 use Rattle.cl_hierarchy.specs.Rows.{Rowed}
 use Rattle.cl_delegation.specs.Worlds.{setting_of}
 use Rattle.cl_registry.specs.Tables.{Shown, posts, steps, state_of}
+use Rattle.cl_tasks.specs.Blames.{AnswerBlames}
+use Rattle.cl_schedule.specs.Blames.{IsAskedFor}
 
 -- the numbers below a number, in order
 abbrev pub upto : ℕ → List ℕ
@@ -73,6 +75,7 @@ pub record IsDone (told : Option Content) (old new : Shown) (q : ℕ) (r : Reque
   pub config : new.config ≡ old.config
   pub script : new.script ≡ old.script
   pub answer : rust.Answer
+  pub blames : AnswerBlames old.config (IsAskedFor told old.config r) answer
   pub answers : new.answers ≡ slice_set old.answers q (Some answer)
   pub posted : posts new.history ≡ posts old.history ++ q ∷ []
   pub made : List Step

@@ -74,6 +74,7 @@ reference_steps {A = A} told c e o n l own plain derives = record {
       (same_room reference_left) (λ g x p served is h. omega arith) (λ x h. reference_told c e o x h) (λ x h. reference_told c e o x h.told);
   refused = plain_no_fault n.turn plain;
   linkage = tt;
+  blames = tt;
   lacks = reference_lacks e.request o n own;
   reads = plain_reads {A = A} (resolving_at c (resolutions.LookingReference e)) (reply.LookedReference o) n.turn plain;
   derives = derives_more IsNone (WasAbsent {A = A} (resolving_at c (resolutions.LookingReference e)) (reply.LookedReference o)) [] n.stage (λ k h. absurd h) derives;
@@ -133,6 +134,7 @@ found_steps {A = A} told c f row n failed name by goes plain past = record {
       (equal_room (reached_left f.request) checking_left (ap reached_left failed.resolves)) (λ g x p served is h. absurd (found_never told c f failed row g x served h.told)) (λ x h. h.now) (λ x h. h.told.now);
   refused = plain_no_fault n.turn plain;
   linkage = tt;
+  blames = tt;
   lacks = λ h. tt;
   reads = plain_reads {A = A} (resolving_at c (resolutions.Checking f)) (reply.Looked (Some row)) n.turn plain;
   derives = past_derives (WasAbsent {A = A} (resolving_at c (resolutions.Checking f)) (reply.Looked (Some row))) [] n.stage past;
@@ -150,6 +152,7 @@ found_out {A = A} told c f row failed = record {
   leads = leads_memory told c f.q f.request (task_room (resolving_at c (resolutions.Checking f))) _ _ failed.asked (omega arith) (λ w p s. omega arith);
   refused = tt;
   linkage = tt;
+  blames = tt;
   lacks = λ h. tt;
   reads = tt;
   derives = tt;
@@ -161,6 +164,7 @@ unfound_out {A = A} told c f failed = record {
   leads = leads_memory told c f.q f.request (task_room (resolving_at c (resolutions.Checking f))) _ _ failed.asked (omega arith) (λ w p s. omega arith);
   refused = tt;
   linkage = tt;
+  blames = tt;
   lacks = λ h. tt;
   reads = tt;
   derives = tt;
@@ -238,6 +242,7 @@ unfound_steps {A = A} told c f n failed rests within is =
       leads = failed_leads told c f failed (failed_stood told c f failed rests within);
       refused = tt;
       linkage = tt;
+      blames = tt;
       lacks = λ h. tt;
       reads = tt;
       derives = tt;

@@ -180,6 +180,7 @@ steps_memory {A} told t r is within more post = record {
       (leads_memory told t.config t.q r (task_room t) _ _ within more post);
   refused = refl;
   linkage = tt;
+  blames = tt;
   lacks = λ h. tt;
   reads = tt;
   derives = tt;

@@ -66,6 +66,7 @@ prepared_steps {A = A} told c g true n l own plain past = record {
       (same_turns prepared_left) (one_made told c (λ x. TellsNow {A = A} x (linking_at c (links.LookingPrepared g)) (reply.LookedPrepared true)) g.request 2 1 3) (λ x h. prepared_told c g true x h) (λ x h. prepared_told c g true x h.told);
   refused = plain_no_fault n.turn plain;
   linkage = tt;
+  blames = tt;
   lacks = λ h. tt;
   reads = plain_reads {A = A} (linking_at c (links.LookingPrepared g)) (reply.LookedPrepared true) n.turn plain;
   derives = past_derives (WasAbsent {A = A} (linking_at c (links.LookingPrepared g)) (reply.LookedPrepared true)) [] n.stage past;
@@ -76,6 +77,7 @@ prepared_steps {A = A} told c g false n l own plain past = record {
       (same_turns prepared_left) (one_made told c (λ x. TellsNow {A = A} x (linking_at c (links.LookingPrepared g)) (reply.LookedPrepared false)) g.request 2 1 3) (λ x h. prepared_told c g false x h) (λ x h. prepared_told c g false x h.told);
   refused = plain_no_fault n.turn plain;
   linkage = tt;
+  blames = tt;
   lacks = λ h. tt;
   reads = plain_reads {A = A} (linking_at c (links.LookingPrepared g)) (reply.LookedPrepared false) n.turn plain;
   derives = past_derives (WasAbsent {A = A} (linking_at c (links.LookingPrepared g)) (reply.LookedPrepared false)) [] n.stage past;
@@ -102,6 +104,7 @@ asked_steps {A = A} told c k true n l plain past = record {
       (same_turns (chain_left (behind k) + 1)) (fewer_calls told c (λ x. TellsNow {A = A} x (linking_at c (links.Asking k)) (reply.LookedPrepared true)) k.goal.request 1 (chain_calls k.whole.value k.place + 1) (chain_calls k.whole.value k.place + 2) (one_asked (chain_calls k.whole.value k.place))) (λ x h. asked_told c k true x h) (λ x h. asked_told c k true x h.told);
   refused = plain_no_fault n.turn plain;
   linkage = tt;
+  blames = tt;
   lacks = λ h. tt;
   reads = plain_reads {A = A} (linking_at c (links.Asking k)) (reply.LookedPrepared true) n.turn plain;
   derives = past_derives (WasAbsent {A = A} (linking_at c (links.Asking k)) (reply.LookedPrepared true)) [] n.stage past;
@@ -112,6 +115,7 @@ asked_steps {A = A} told c k false n l plain past = record {
       (same_turns (chain_left (behind k) + 1)) (fewer_calls told c (λ x. TellsNow {A = A} x (linking_at c (links.Asking k)) (reply.LookedPrepared false)) k.goal.request 1 (chain_calls k.whole.value k.place + 1) (chain_calls k.whole.value k.place + 2) (one_asked (chain_calls k.whole.value k.place))) (λ x h. asked_told c k false x h) (λ x h. asked_told c k false x h.told);
   refused = plain_no_fault n.turn plain;
   linkage = tt;
+  blames = tt;
   lacks = λ h. tt;
   reads = plain_reads {A = A} (linking_at c (links.Asking k)) (reply.LookedPrepared false) n.turn plain;
   derives = past_derives (WasAbsent {A = A} (linking_at c (links.Asking k)) (reply.LookedPrepared false)) [] n.stage past;
@@ -129,6 +133,7 @@ whole_steps {A = A} told c g whole n l plain past =
           (same_turns whole_left) (one_made told c (λ x. TellsNow {A = A} x (linking_at c (links.TracingWhole g)) (reply.Lineage whole)) g.request 2 1 2) tells (λ x h. tells x h.told);
       refused = plain_no_fault n.turn plain;
       linkage = tt;
+      blames = tt;
       lacks = λ h. tt;
       reads = plain_reads {A = A} (linking_at c (links.TracingWhole g)) (reply.Lineage whole) n.turn plain;
       derives = past_derives (WasAbsent {A = A} (linking_at c (links.TracingWhole g)) (reply.Lineage whole)) [] n.stage past;
@@ -144,6 +149,7 @@ traced_steps {A = A} told c k at n l plain past =
           (same_turns (chain_left (behind k))) (one_made told c (λ x. TellsNow {A = A} x (linking_at c (links.Tracing k)) (reply.Lineage at)) k.goal.request 0 0 (chain_calls k.whole.value k.place)) tells (λ x h. tells x h.told);
       refused = plain_no_fault n.turn plain;
       linkage = tt;
+      blames = tt;
       lacks = λ h. tt;
       reads = plain_reads {A = A} (linking_at c (links.Tracing k)) (reply.Lineage at) n.turn plain;
       derives = past_derives (WasAbsent {A = A} (linking_at c (links.Tracing k)) (reply.Lineage at)) [] n.stage past;
@@ -180,6 +186,7 @@ imposed_steps {A = A} told c k e i n place lt l plain past =
           (one_imposed (chain_calls k.whole.value (k.place + 1)) (length e.value.needs) i lt)) tells (λ x h. tells x h.told);
       refused = plain_no_fault n.turn plain;
       linkage = tt;
+      blames = tt;
       lacks = λ h. tt;
       reads = plain_reads {A = A} (linking_at c (links.Imposing k e i)) reply.Imposed n.turn plain;
       derives = past_derives (WasAbsent {A = A} (linking_at c (links.Imposing k e i)) reply.Imposed) [] n.stage past;
@@ -202,6 +209,7 @@ refused_steps {A = A} told c k e i need n l plain past ends posts =
           (post_calls told c (λ x. TellsNow {A = A} x (linking_at c (links.Imposing k e i)) (reply.Refused need)) k.goal.request 1 0 0 (list_calls k.whole.value k.place (length e.value.needs - i)) (two_more (chain_calls k.whole.value (k.place + 1)) (length e.value.needs - i))) tells (λ x h. tells x h.told);
       refused = plain_no_fault n.turn plain;
       linkage = ends;
+      blames = tt;
       lacks = λ h. absurd (posts h);
       reads = plain_reads {A = A} (linking_at c (links.Imposing k e i)) (reply.Refused need) n.turn plain;
       derives = past_derives (WasAbsent {A = A} (linking_at c (links.Imposing k e i)) (reply.Refused need)) [] n.stage past;
@@ -231,6 +239,7 @@ marked_steps {A = A} told c k e n chain place l plain past =
           (fewer_calls told c (λ x. TellsNow {A = A} x (linking_at c (links.Marking k e)) reply.Marked) k.goal.request 1 (chain_calls k.whole.value (k.place + 1) + 1) (list_calls k.whole.value k.place 0) (one_marked (chain_calls k.whole.value (k.place + 1)))) tells (λ x h. tells x h.told);
       refused = plain_no_fault n.turn plain;
       linkage = tt;
+      blames = tt;
       lacks = λ h. tt;
       reads = plain_reads {A = A} (linking_at c (links.Marking k e)) reply.Marked n.turn plain;
       derives = past_derives (WasAbsent {A = A} (linking_at c (links.Marking k e)) reply.Marked) [] n.stage past;

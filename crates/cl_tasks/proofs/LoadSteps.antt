@@ -32,7 +32,7 @@ use Rattle.cl_tasks.specs.Follows.{EndsAsRefused, IsResolution, Posts, PostsNoFa
 use Rattle.cl_tasks.specs.Measures.{left_at}
 use Rattle.cl_tasks.specs.Measures as phases
 use Rattle.cl_tasks.specs.Rooms.{Room, calls_at, calls_found, last_room, past_room, room_at}
-use Rattle.cl_tasks.specs.Stages.{IsFirst, IsHoming, IsJob, job_calls, loading_at, next_place, past_left, probes_left, sought_ask, sought_class, task_at}
+use Rattle.cl_tasks.specs.Stages.{IsFirst, IsHoming, IsJob, IsSearch, job_calls, loading_at, next_place, past_left, probes_left, sought_ask, sought_class, task_at}
 use Rattle.cl_tasks.specs.Steps.{FindsBy, FindsHome, Finds, HoldsOn, IsPlain, Leads, LeadsAt, LeadsFrom, LeadsHome, LeadsOn, LooksBy, ReadsAt, ReadsOn, Steps, task_room, way_on}
 use Rattle.cl_tasks.specs.Tasks.{Tasked}
 use Rattle.cl_tasks.specs.Turns.{GoesOnWith, IsBehind, IsReadNext, ReadsUnrecorded, WasAbsent, way_of}
@@ -45,6 +45,7 @@ use Rattle.cl_tasks.specs.declared.turn.Reply.TheVariants as reply
 use Rattle.cl_tasks.specs.declared.turn.Turn.{Turn}
 use Rattle.cl_tasks.specs.declared.turn.Turn.TheVariants as turn
 use Rattle.cl_tasks.proofs.Begun.{begins_own, defined_own, home_any, initiated_own, looked_own}
+use Rattle.cl_tasks.proofs.Blaming.{fault_blames}
 use Rattle.cl_tasks.proofs.Deriving.{derived_first, derives_by, derives_more, past_derives}
 use Rattle.cl_tasks.proofs.Fall.{joins_less}
 use Rattle.cl_tasks.proofs.Keep.{frame_kept, have_first, have_last}
@@ -92,6 +93,7 @@ steps_begun {A = A} told j n first for l looks plain derives = record {
   leads = leads_more (task_room (loading_at j.path.config (loads.Fresh j))) _ _ l (omega arith) (fewer_holds told j _ [] [] 0 1 1 (omega arith)) (λ x h. record { frames = h.before.frames; facts = h.before.facts }) (λ x h. record { frames = h.told.before.frames; facts = h.told.before.facts });
   refused = plain_no_fault n.turn plain;
   linkage = tt;
+  blames = tt;
   lacks = λ h. tt;
   reads = plain_reads {A = A} (loading_at j.path.config (loads.Fresh j)) reply.Start n.turn plain;
   derives = derives_more IsNone (WasAbsent {A = A} (loading_at j.path.config (loads.Fresh j)) reply.Start) (frames_of j.path) n.stage (λ k e. absurd e) derives;
@@ -109,6 +111,7 @@ steps_unrecorded {A = A} told c j n e job path l no_fault derives reads = record
       (λ x h. record { frames = h.before.frames; facts = h.before.facts }) (λ x h. record { frames = h.told.before.frames; facts = h.told.before.facts }));
   refused = no_fault;
   linkage = tt;
+  blames = tt;
   lacks = λ h. tt;
   reads = reads_along {A = A} (loading_at c (loads.Looking j)) (reply.Looked None) j.path (λ l. slice_get (way_on j.path) 0 ≡ Some l) n.turn (inr refl) (λ m k. subst (λ (d : Configured). slice_get (way_of d (sought_class j.path)) 0 ≡ Some m) e k) reads;
   derives = derives_more (IsSoughtHere j.path) (WasAbsent {A = A} (loading_at c (loads.Looking j)) (reply.Looked None)) (frames_of j.path) n.stage (λ k e. inr (ap (λ (d : Class). waits.Looking d.loader d.name) (sym e))) derives;
@@ -125,6 +128,7 @@ steps_looked {A = A} told c j row n e path l plain goes derives =
           (λ x h. record { before = record { frames = h.told.before.frames; facts = h.told.before.facts }; now = h.told.now }));
       refused = plain_no_fault n.turn plain;
       linkage = tt;
+      blames = tt;
       lacks = λ h. tt;
       reads = plain_reads {A = A} (loading_at c (loads.Looking j)) (reply.Looked (Some row)) n.turn plain;
       derives = derives_more IsNone (WasAbsent {A = A} (loading_at c (loads.Looking j)) (reply.Looked (Some row))) (frames_of j.path) n.stage (λ k e. absurd e) derives;
@@ -139,19 +143,21 @@ steps_probed {A = A} told j s p n l no_fault derives reads = record {
   leads = leads_more (task_room (loading_at j.path.config (loads.Searching j s))) _ _ l (omega arith) (fewer_holds told j _ (sought_ask j.path ∷ []) [] 0 0 0 (omega arith)) (λ x h. record { frames = h.before.frames; facts = h.before.facts }) (λ x h. record { frames = h.told.before.frames; facts = h.told.before.facts });
   refused = no_fault;
   linkage = tt;
+  blames = tt;
   lacks = λ h. tt;
   reads = reads_along {A = A} (loading_at j.path.config (loads.Searching j s)) (reply.Probed p) j.path (IsBehind (way_on j.path) p) n.turn refl (λ m k. k) reads;
   derives = derives_more (IsSoughtHere j.path) (WasAbsent {A = A} (loading_at j.path.config (loads.Searching j s)) (reply.Probed p)) (frames_of j.path) n.stage (λ k e. ap (λ (d : Class). Some d) (sym e)) derives;
   own = tt;
 }
 
-pub steps_fault : {A : Type 0} (told : Option Content) (j : Job A) (s : Searched) (f : SourceFault) (n : Next A) → Leads told j last_room (λ x. Unit {0}) n → Posts (fault_answer (loading_at j.path.config (loads.Searching j s)).waits f) n.turn → IsPast n.stage
+pub steps_fault : {A : Type 0} (told : Option Content) (j : Job A) (s : Searched) (f : SourceFault) (n : Next A) → IsJob told j.path.config j → IsSearch j s → IsPath told j.path → Leads told j last_room (λ x. Unit {0}) n → Posts (fault_answer (loading_at j.path.config (loads.Searching j s)).waits f) n.turn → IsPast n.stage
     → Steps told (loading_at j.path.config (loads.Searching j s)) (reply.SourceFault f) n
-steps_fault {A = A} told j s f n l posts past = record {
+steps_fault {A = A} told j s f n job search path l posts past = record {
   leads = leads_more (task_room (loading_at j.path.config (loads.Searching j s))) _ _ l (omega arith)
       (λ g x p served is h. let k = job_some (sought_ask j.path ∷ []) [] 0 j g.world p (state_of x) in omega arith) (λ x h. tt) (λ x h. tt);
   refused = posts;
   linkage = tt;
+  blames = fault_blames told j s f n.turn job search path posts;
   lacks = λ h. fault_lacks (next_place s) (at_name j.path) f (posts_one (fault_answer (loading_at j.path.config (loads.Searching j s)).waits f) answers.Memory n.turn posts h);
   derives = past_derives (WasAbsent {A = A} (loading_at j.path.config (loads.Searching j s)) (reply.SourceFault f)) (frames_of j.path) n.stage past;
   reads = posts_reads {A = A} (loading_at j.path.config (loads.Searching j s)) (reply.SourceFault f) (fault_answer (loading_at j.path.config (loads.Searching j s)).waits f) n.turn posts;
@@ -179,6 +185,7 @@ steps_home {A = A} told j h o n for homing l plain derives = record {
   leads = leads_more (task_room (loading_at j.path.config (loads.Homing j h))) _ _ l (omega arith) (home_calls told j h o homing) (λ x t. home_finds x j.path.config j h o t) (λ x t. home_finds x j.path.config j h o t.told);
   refused = plain_no_fault n.turn plain;
   linkage = tt;
+  blames = tt;
   lacks = λ h. tt;
   reads = plain_reads {A = A} (loading_at j.path.config (loads.Homing j h)) (reply.Looked o) n.turn plain;
   derives = derives_more (IsUnfound h o) (WasAbsent {A = A} (loading_at j.path.config (loads.Homing j h)) (reply.Looked o)) (frames_of j.path) n.stage (λ k e. home_absent j.path.config j h o homing.sought.name k e) derives;
@@ -210,6 +217,7 @@ steps_defined {A = A} told c j w row n e whole draft l plain derives for goes = 
       (leads_more (task_room (loading_at c (loads.Defining j w))) _ _ l (omega arith) (defined_calls told c j w row whole draft) (λ x t. defined_finds told x c j w row whole draft t) (λ x t. defined_finds told x c j w row whole draft t.told));
   refused = plain_no_fault n.turn plain;
   linkage = tt;
+  blames = tt;
   lacks = λ h. tt;
   reads = plain_reads {A = A} (loading_at c (loads.Defining j w)) (reply.Defined row) n.turn plain;
   derives = derives_by IsNone (WasAbsent {A = A} (loading_at c (loads.Defining j w)) (reply.Defined row)) (frames_of j.path ++ frame_of w ∷ []) (frames_of j.path) n.stage (λ k d. inl (derived_first (frames_of j.path) (frame_of w) k d)) (λ k e. absurd e) derives;
@@ -231,6 +239,7 @@ steps_define_refused {A} told c j w need n e is l plain ends past lacks = record
       (past_made told j _ [] (sought_ask j.path ∷ ask_for w.draft.class ∷ []) (1 + away_calls (at_loader j.path) w.draft.class.loader) (omega arith)) (λ x t. define_refused {A = A} x c j w need is t) (λ x t. define_refused {A = A} x c j w need is t.told));
   refused = plain_no_fault n.turn plain;
   linkage = ends;
+  blames = tt;
   lacks = lacks;
   reads = plain_reads {A = A} (loading_at c (loads.Defining j w)) (reply.Refused need) n.turn plain;
   derives = past_derives (WasAbsent {A = A} (loading_at c (loads.Defining j w)) (reply.Refused need)) (frames_of j.path ++ frame_of w ∷ []) n.stage past;
@@ -253,6 +262,7 @@ steps_initiated {A = A} told c j h row n e sought l plain derives goes = record 
       (initiated_holds told j row.value.class.loader (λ x. TellsNow {A = A} x (loading_at c (loads.Initiating j h)) (reply.Initiated row)) (λ x t. (initiated_finds x c j h row sought t.told).now.recorded)) (λ x t. initiated_finds x c j h row sought t) (λ x t. initiated_finds x c j h row sought t.told));
   refused = plain_no_fault n.turn plain;
   linkage = tt;
+  blames = tt;
   lacks = λ h. tt;
   reads = plain_reads {A = A} (loading_at c (loads.Initiating j h)) (reply.Initiated row) n.turn plain;
   derives = derives_more IsNone (WasAbsent {A = A} (loading_at c (loads.Initiating j h)) (reply.Initiated row)) (frames_of j.path) n.stage (λ k e. absurd e) derives;
@@ -273,6 +283,7 @@ steps_initiate_refused {A} told c j h need n e is l plain ends past lacks = reco
       (leads_more (task_room (loading_at c (loads.Initiating j h))) _ _ l (omega arith) (past_made told j _ [] (sought_ask j.path ∷ []) 1 (omega arith)) (λ x t. initiate_refused {A = A} x c j h need is t) (λ x t. initiate_refused {A = A} x c j h need is t.told));
   refused = plain_no_fault n.turn plain;
   linkage = ends;
+  blames = tt;
   lacks = lacks;
   reads = plain_reads {A = A} (loading_at c (loads.Initiating j h)) (reply.Refused need) n.turn plain;
   derives = past_derives (WasAbsent {A = A} (loading_at c (loads.Initiating j h)) (reply.Refused need)) (frames_of j.path) n.stage past;

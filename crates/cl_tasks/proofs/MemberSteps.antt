@@ -59,6 +59,7 @@ own_steps {A = A} told c e k own n l plain past =
           (same_room tracing_own_left) (λ g x p served is h. omega arith) tells (λ x h. tells x h.told);
       refused = plain_no_fault n.turn plain;
       linkage = tt;
+      blames = tt;
       lacks = λ h. tt;
       reads = plain_reads {A = A} (resolving_at c (resolutions.TracingOwn e k)) (reply.Lineage own) n.turn plain;
       derives = past_derives (WasAbsent {A = A} (resolving_at c (resolutions.TracingOwn e k)) (reply.Lineage own)) [] n.stage past;
@@ -78,6 +79,7 @@ named_steps {A = A} told c e own k named n is l plain past =
           (same_room tracing_named_left) (λ g x p served is h. omega arith) tells (λ x h. tells x h.told);
       refused = plain_no_fault n.turn plain;
       linkage = tt;
+      blames = tt;
       lacks = λ h. tt;
       reads = plain_reads {A = A} (resolving_at c (resolutions.TracingNamed e own k)) (reply.Lineage named) n.turn plain;
       derives = past_derives (WasAbsent {A = A} (resolving_at c (resolutions.TracingNamed e own k)) (reply.Lineage named)) [] n.stage past;
@@ -104,6 +106,7 @@ imposed_steps {A = A} told c m i n lt l plain past =
           (next_less (length m.equalities.value.needs) i lt) (λ g x p served is h. omega arith) tells (λ x h. tells x h.told);
       refused = plain_no_fault n.turn plain;
       linkage = tt;
+      blames = tt;
       lacks = λ h. tt;
       reads = plain_reads {A = A} (resolving_at c (resolutions.Imposing m i)) reply.Imposed n.turn plain;
       derives = past_derives (WasAbsent {A = A} (resolving_at c (resolutions.Imposing m i)) reply.Imposed) [] n.stage past;
@@ -122,6 +125,7 @@ refused_steps {A = A} told c m i need n lt l plain past ends resolves =
           (two_less (length m.equalities.value.needs) i lt) (λ g x p served is h. omega arith) tells (λ x h. tells x h.told);
       refused = plain_no_fault n.turn plain;
       linkage = ends;
+      blames = tt;
       lacks = λ h. resolves;
       reads = plain_reads {A = A} (resolving_at c (resolutions.Imposing m i)) (reply.Refused need) n.turn plain;
       derives = past_derives (WasAbsent {A = A} (resolving_at c (resolutions.Imposing m i)) (reply.Refused need)) [] n.stage past;
@@ -143,6 +147,7 @@ settled_steps {A} told c e s entry =
       leads = leads_more (task_room (resolving_at c (resolutions.Settling e))) holds (λ x. TellsNow {A = A} x (resolving_at c (resolutions.Settling e)) (reply.Settled s)) led (same_room settling_left) (λ g x p served is h. omega arith) (λ x h. h) (λ x h. h.told);
       refused = tt;
       linkage = tt;
+      blames = tt;
       lacks = λ h. shared_memory s h;
       reads = tt;
       derives = tt;

@@ -1,6 +1,6 @@
 -- A search asks loaders of the configuration alone, and no more of them than there are.
-use Rattle.std.proofs.Common.{◌≡◌, ◌<◌, ◌≤◌, ◌+◌, ◌*◌, ◌-◌, lit<, ℕ, zero, suc, Bool, true, false, List, [], ◌∷◌, ◌++◌, length, Option, Some, None, refl, sym, ap, ◌∙◌, subst, slice_get, arith, length-append}
-use Rattle.std.specs.Prelude.{◌==◌, nat_lt, flat_map, option_map, if◌then◌else◌}
+use Rattle.std.proofs.Common.{◌≡◌, ◌≢◌, ◌<◌, ◌≤◌, ◌+◌, ◌*◌, ◌-◌, lit<, ℕ, zero, suc, Bool, true, false, List, [], ◌∷◌, ◌++◌, length, Option, Some, None, refl, sym, ap, ◌∙◌, subst, slice_get, arith, length-append}
+use Rattle.std.specs.Prelude.{◌==◌, nat_lt, flat_map, option_map, unwrap_or, if◌then◌else◌}
 use Rattle.std.specs.List.{AllByRecursion}
 use Rattle.cl_classfile.specs.Files.{Name}
 use Rattle.cl_model.specs.Homes.{is_java, decisive, Order, ParentFirst, ChildFirst, Loader}
@@ -12,7 +12,7 @@ use Rattle.cl_delegation.specs.Searches.{Searched, begun, next_of, next_on, rout
 use Rattle.cl_model.specs.Frames.{Frame}
 use Rattle.cl_tasks.specs.Measures.{loading, most, turns, left_at}
 use Rattle.cl_tasks.specs.Measures as phases
-use Rattle.cl_tasks.specs.Stages.{probes_left}
+use Rattle.cl_tasks.specs.Stages.{next_place, probes_left}
 use Rattle.cl_tasks.specs.Steps.{IsPlain, ReadsAt, Seeks, reads_on, reads_left, way_on}
 use Rattle.cl_delegation.specs.Routes.{in_turn, route_at, routed, route_below, route_from, route}
 use Rattle.cl_hierarchy.specs.Paths.{Pathed, at_loader, at_name}
@@ -228,11 +228,19 @@ behind s p l before e = step p.bytes refl e
           (on_way (route_of s) (length (s.absent ++ p ∷ [])) s.found l f);
     }
 
-way_is : (p : Pathed) (s : Searched) → s.config ≡ p.config → s.loader ≡ at_loader p → s.name ≡ at_name p → route_of s ≡ way_on p
+pub way_is : (p : Pathed) (s : Searched) → s.config ≡ p.config → s.loader ≡ at_loader p → s.name ≡ at_name p → route_of s ≡ way_on p
 way_is p s config loader name =
     ap (λ (c : Configured). route (loaders_of c) s.loader s.name) config
     ∙ ap (λ (l : ℕ). route (loaders_of p.config) l s.name) loader
     ∙ ap (λ (n : Name). route (loaders_of p.config) (at_loader p) n) name
+
+-- what a search asks next stands on its route
+pub reads_place : (s : Searched) → next_of s ≢ None → (i : ℕ) × (slice_get (route_of s) i ≡ Some (next_place s))
+reads_place s some = (length s.absent, on_way (route_of s) (length s.absent) s.found (next_place s) (is_some_of (next_of s) some))
+  where
+    is_some_of : (o : Option ℕ) → o ≢ None → o ≡ Some (unwrap_or o 0)
+    is_some_of None h = absurd (h refl)
+    is_some_of (Some l) h = refl
 
 pub reads_behind : {A : Type 0} (j : Job A) (s new : Searched) (p : Found) (u : Turn A) → Seeks j s → next_of s ≡ Some p.loader → new ≡ with_probe s p → ReadsAt j.path (λ l. next_of new ≡ Some l) u → ReadsAt j.path (IsBehind (way_on j.path) p) u
 reads_behind j s new p u seeks before is h =

@@ -5,6 +5,7 @@ use Rattle.cl_model.specs.declared.request.Request.{Request}
 use Rattle.cl_model.specs.Content.{Content}
 use Rattle.cl_config.specs.Views.{Configured}
 use Rattle.cl_registry.specs.Tables.{Shown}
+use Rattle.cl_tasks.specs.Blames.{BlamesWhere}
 use Rattle.cl_tasks.specs.Facts.{Holds}
 use Rattle.cl_tasks.specs.Follows.{AreLeft, BackedWhere, CallsWithin, EndsRefused, FollowsWhere, LacksOnly, Refuses, Tells, TellsNow, made_by, refusal}
 use Rattle.cl_tasks.specs.Stages.{IsStage, linking_at, loading_at, resolving_at, task_at}
@@ -25,6 +26,7 @@ use Rattle.cl_tasks.specs.declared.turn.Reply.{Reply}
 use Rattle.cl_tasks.specs.declared.turn.Reply.TheVariants as reply
 use Rattle.cl_tasks.specs.declared.turn.Turn.{Turn}
 use Rattle.cl_tasks.specs.declared.turn.Turn.TheVariants as turn
+use Rattle.cl_tasks.proofs.Blaming.{reply_blames}
 use Rattle.cl_tasks.proofs.Deriving.{derives_so}
 use Rattle.cl_tasks.proofs.Left.{stage_left}
 
@@ -151,6 +153,7 @@ pub record Turns {A : Type 0} (told : Option Content) (c : Configured) (old : Ta
   pub refused : Refuses (refusal old r) n.turn
   pub linkage : EndsRefused old.request r n.turn
   pub lacks : LacksOnly old.request r n.turn
+  pub blames : IfSome old.request (λ q. BlamesWhere told old.config (λ x. Tells x old r) q n.turn)
   pub reads : ReadsUnrecorded old r n.turn
   pub derives : DerivesUnrecorded old (task_at c n.stage) r n.turn
   pub own : AnswersOwn old (task_at c n.stage) r n.turn
@@ -177,6 +180,7 @@ turns_by {A = A} told c t r n config has steps =
       refused = steps.refused;
       linkage = steps.linkage;
       lacks = steps.lacks;
+      blames = reply_blames told t q r n.turn has.1 steps.refused steps.blames;
       reads = steps.reads;
       derives = subst (λ (d : Configured). DerivesUnrecorded t (task_at d n.stage) r n.turn) config (derives_so t.config t r n.stage n.turn l.asks steps.derives);
       own = subst (λ (d : Configured). AnswersOwn t (task_at d n.stage) r n.turn) config steps.own;

@@ -5,6 +5,7 @@ pub mod Tasks
 pub mod Facts
 pub mod Turns
 pub mod Follows
+pub mod Blames
 pub mod Stages
 pub mod Deriving
 pub mod Rooms

@@ -15,6 +15,7 @@ use Rattle.cl_hierarchy.specs.Paths.{Pathed, frames_of, at_loader, at_name, misf
 use Rattle.cl_findings.specs.declared.load.Obstacle.{Obstacle}
 use Rattle.cl_findings.specs.declared.load.Obstacle.TheVariants as obstacles
 use Rattle.cl_registry.specs.Tables.{Shown}
+use Rattle.cl_tasks.specs.Blames.{FaultBlames}
 use Rattle.cl_tasks.specs.Facts.{AllHave, AreSo, Holds, IsRecordedAs}
 use Rattle.cl_tasks.specs.Follows.{BackedWhere, CallsWithin, EndsRefused, FollowsWhere, LacksOnly, NoFault, Refuses, Tells, TellsNow, made_by, refusal}
 use Rattle.cl_tasks.specs.Deriving.{Derives}
@@ -173,6 +174,7 @@ pub record Steps {A : Type 0} (told : Option Content) (t : Tasked) (reply : Repl
   pub refused : Refuses (refusal t reply) n.turn
   pub linkage : EndsRefused t.request reply n.turn
   pub lacks : LacksOnly t.request reply n.turn
+  pub blames : FaultBlames told t reply n.turn
   pub reads : ReadsUnrecorded t reply n.turn
   pub derives : Derives (WasAbsent t reply) t.frames n.stage
   pub own : AnswersOwn t (task_at t.config n.stage) reply n.turn

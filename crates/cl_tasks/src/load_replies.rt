@@ -76,7 +76,11 @@ pub(crate) fn after_read<T: Told>(
 {
     match reply {
         Reply::Probed(probe) => take_probe(alloc, job, search, probe),
-        Reply::SourceFault(fault) => blame_source(job, search, fault),
+        Reply::SourceFault(fault) => {
+            // brings what a path keeps
+            let _ = job.path.at_name();
+            blame_source(job, search, fault)
+        }
         Reply::Memory => out_of_memory(job.q, job.request),
         _ => unreachable!(),
     }

@@ -1,6 +1,7 @@
 ghost use Rattle.std.specs.Prelude.{◌≡◌, ◌<◌, IfOk, IfErr, IfSome, MatchBool, length};
 ghost use Rattle.cl_findings.specs.Findings.{loader_of};
 ghost use Rattle.cl_registry.specs.Tables.{Shown};
+ghost use Rattle.cl_tasks.specs.Blames.{BlamesWhere};
 ghost use Rattle.cl_tasks.specs.Facts.{Holds};
 ghost use Rattle.cl_tasks.specs.Follows.{AreLeft, BackedWhere, CallsWithin, EndsRefused, FollowsWhere, IsWithinCost, LacksOnly, Refuses, Tells, TellsNow, made_by, refusal};
 ghost use Rattle.cl_tasks.specs.Tasks.{begun};
@@ -115,6 +116,8 @@ impl<T: Told> Task<T> {
         ensures refused { Refuses (refusal self.old reply) result }
         ensures linkage { EndsRefused self.old.request reply result }
         ensures lacks { LacksOnly self.old.request reply result }
+        ensures blames { IfSome self.old.request (λ r. BlamesWhere T.told self.old.config
+            (λ x. Tells x self.old reply) r result) }
         ensures reads { ReadsUnrecorded self.old reply result }
         ensures derives { DerivesUnrecorded self.old self.new reply result }
         ensures own { AnswersOwn self.old self.new reply result }

@@ -1,5 +1,6 @@
 use Rattle.std.proofs.Common.{◌∙◌, subst, sym}
 use Rattle.cl_registry.specs.Tables.{Shown}
+use Rattle.cl_schedule.specs.Blames.{EachBlames}
 use Rattle.cl_schedule.specs.Choices.{PlayedAs}
 use Rattle.cl_schedule.proofs.Ended.{is_served}
 use Rattle.cl_schedule.proofs.Owing.{counts_faults, none_unfinished}
@@ -24,6 +25,7 @@ returns-clause-simulated g c =
       played =
           subst (λ (y : Shown). PlayedAs told y c.args.schedule.now) (report_tells x c.in-Ok.report c.args.config.value whole serves.configured)
           (played_as told x c.args.schedule.now e.played);
+      blames = subst (EachBlames told) (report_tells x c.in-Ok.report c.args.config.value whole serves.configured) serves.blames;
     }
 
 pub returns-clause-source_faults : goal.returns-clause-source_faults

@@ -18,7 +18,7 @@ loop-loader-preserved g c =
     let e = c.in-Read.ensures in
     let u : Turn g.row.T.Denot = turn.Read c.in-Read.loader c.in-Read.name in
     let says : TurnSays g.T.Told.told c.loop-loader.task c.turn.new.self c.loop-loader.reply u =
-    record { config = e.config; asks = e.asks; serves = e.serves; keeps = e.keeps; backed = e.backed; next = e.next; refused = e.refused; own = e.own } in
+    record { config = e.config; asks = e.asks; serves = e.serves; keeps = e.keeps; backed = e.backed; next = e.next; blames = e.blames; refused = e.refused; own = e.own } in
     let inv = c.loop-loader.invariant in
     let less = e.left in
     let before = inv.less in
@@ -40,7 +40,7 @@ pub returns-in_default : goal.returns-in_default
 returns-in_default g c =
     let e = c.turn.ensures in
     let says : TurnSays g.T.Told.told c.loop-loader.task c.turn.new.self c.loop-loader.reply c.turn.result =
-    record { config = e.config; asks = e.asks; serves = e.serves; keeps = e.keeps; backed = e.backed; next = e.next; refused = e.refused; own = e.own } in
+    record { config = e.config; asks = e.asks; serves = e.serves; keeps = e.keeps; backed = e.backed; next = e.next; blames = e.blames; refused = e.refused; own = e.own } in
     let inv = c.loop-loader.invariant in
     let less = e.left in
     let before = inv.less in

@@ -5,12 +5,14 @@ use Rattle.cl_config.specs.Scripts.{HasLoaders}
 use Rattle.cl_registry.specs.Reports.{IsNamed}
 use Rattle.cl_model.specs.Tables.{IsConsistent}
 use Rattle.cl_registry.specs.Tables.{Shown, IsTrusted, RunsAs, posts, round_of, state_of, steps}
+use Rattle.cl_schedule.specs.Blames.{EachBlames}
 use Rattle.cl_schedule.specs.Counting.{Grows, faults}
 use Rattle.cl_schedule.specs.Serving.{reported, upto, InOrder}
 use Rattle.cl_schedule.specs.Headline.{EachSpelt, Alike, ReferencesAlike, CirclesExact}
 use Rattle.cl_schedule.proofs.Serving.{bare, bare_runs, bare_trusted, next_upto, next_is_open, in_script, has_loader, report_tells}
 use Rattle.cl_schedule.proofs.Rounds.{known_bare, known_next, known_none, next_is_now, none_goes_on, nothing_left, served_bare, served_none, served_next, served_whole}
 use Rattle.cl_schedule.specs.Known.{KnownStays}
+use Rattle.cl_schedule.proofs.Blaming.{each_blames_more, each_blames_none, each_blames_passed}
 use Rattle.cl_schedule.proofs.Counted.{grows_none, faults_none, faults_then}
 use Rattle.cl_schedule.proofs.Headline.{each_spelt, alike, references_alike, circles_exact, consistent}
 use Rattle.cl_schedule.proofs.serve.serve_one.Goals as goal
@@ -27,6 +29,7 @@ loop-q-init g c =
       over = none_goes_on c.in-Ok.registry c.pass_rounds.new.registry passed;
       known = known_none c.in-Ok.registry c.pass_rounds.new.registry (ap steps empty) passed;
       served = served_none g.T.Told.told c.in-Ok.registry c.pass_rounds.new.registry (ap steps empty) passed;
+      blames = each_blames_none g.T.Told.told c.pass_rounds.new.registry (length c.in_ok-asked.asked.value.requests) (passed.answers ∙ ap (λ (x : Shown). x.answers) empty);
       counted =
           subst (λ (n : ℕ). Grows n (g.S.Source.refused c.args.source.now) (g.S.Source.refused c.args.source.now))
           (sym (ap faults passed.answers ∙ ap (λ (x : Shown). faults x.answers) empty ∙ faults_none (length c.in_ok-asked.asked.value.requests))) (grows_none _);
@@ -65,6 +68,9 @@ loop-q-preserved g c =
       over = none_goes_on x new passed;
       known = known_next g.T.Told.told old x new c.loop-q.q c.in_ok-request.request _ _ inv.known inv.kept.trusted.script asked opened served.done served.known passed;
       served = served_next g.T.Told.told old x new c.loop-q.q c.in_ok-request.request inv.served inv.kept.trusted.script asked served.done passed;
+      blames =
+          each_blames_passed g.T.Told.told x new passed
+          (each_blames_more g.T.Told.told old x c.loop-q.q c.in_ok-request.request served.done.answer served.done.config served.done.script served.done.answers opened asked served.done.blames inv.blames);
       counted =
           subst (λ (n : ℕ). Grows n (g.S.Source.refused c.args.source.now) (g.S.Source.refused c.serve_request.new.source)) (sym (ap faults passed.answers))
           (faults_then old.answers x.answers _ _ _ inv.counted served.faults);
@@ -110,4 +116,5 @@ returns-clause-served g c =
       alike = subst (Alike told) (told_of g c) (alike told x trusted run);
       references = subst (ReferencesAlike told) (told_of g c) (references_alike told x trusted run);
       circles = subst (CirclesExact told) (told_of g c) (circles_exact told x trusted run);
+      blames = subst (EachBlames told) (told_of g c) inv.blames;
     }

@@ -1,6 +1,7 @@
 use Rattle.std.proofs.Common.{◌≡◌}
 use Rattle.cl_registry.specs.Tables.{IsKept, MayGoOn, posts}
 use Rattle.cl_schedule.specs.Serving.{upto}
+use Rattle.cl_schedule.specs.Blames.{EachBlames}
 use Rattle.cl_schedule.specs.Counting.{Grows, faults}
 use Rattle.cl_schedule.proofs.Rounds.{KnownBelow, ServedBelow}
 use Rattle.cl_schedule.proofs.serve.serve_one.Given as goal
@@ -14,5 +15,6 @@ invariant-loop-q g l = record {
   over : MayGoOn l.registry → ⊥;
   known : KnownBelow l.registry;
   served : ServedBelow g.T.Told.told l.registry l.q;
+  blames : EachBlames g.T.Told.told l.registry;
   counted : Grows (faults l.registry.answers) (g.S.Source.refused l.fn.source) (g.S.Source.refused l.source);
 }

@@ -49,6 +49,10 @@ pub returns-clause-lacks : goal.returns-clause-lacks
 returns-clause-lacks g c =
     (turns g.T.Told.told c.self.inside.config.value c.self.inside.stage c.replace-stage.result c.replace.new.dest c.args.self.now c.args.reply c.step-next.result c.self.view_is c.requires.expects c.replace-stage.ensures.value c.step-next.ensures c.replace.ensures.after).lacks
 
+pub returns-clause-blames : goal.returns-clause-blames
+returns-clause-blames g c =
+    (turns g.T.Told.told c.self.inside.config.value c.self.inside.stage c.replace-stage.result c.replace.new.dest c.args.self.now c.args.reply c.step-next.result c.self.view_is c.requires.expects c.replace-stage.ensures.value c.step-next.ensures c.replace.ensures.after).blames
+
 pub returns-clause-reads : goal.returns-clause-reads
 returns-clause-reads g c =
     (turns g.T.Told.told c.self.inside.config.value c.self.inside.stage c.replace-stage.result c.replace.new.dest c.args.self.now c.args.reply c.step-next.result c.self.view_is c.requires.expects c.replace-stage.ensures.value c.step-next.ensures c.replace.ensures.after).reads

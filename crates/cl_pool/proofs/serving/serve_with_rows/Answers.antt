@@ -2,7 +2,7 @@ use Rattle.std.proofs.Common.{arith, subst}
 use Rattle.cl_config.specs.Views.{Configured, Scripted}
 use Rattle.cl_pool.specs.Served.{FailsAs, MayServe}
 use Rattle.cl_pool.proofs.Ended.{why_refused}
-use Rattle.cl_pool.proofs.serving.serve.Goals as goal
+use Rattle.cl_pool.proofs.serving.serve_with_rows.Goals as goal
 
 -- from 1 to 64 workers serve
 may_serve : (g : _) (c : goal.After-drop-config-2 g) → MayServe c.args.workers

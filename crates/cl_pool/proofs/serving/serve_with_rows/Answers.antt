@@ -1,7 +1,8 @@
 use Rattle.std.proofs.Common.{arith, subst}
+use Rattle.std.specs.Prelude.{IfErr}
 use Rattle.cl_config.specs.Views.{Configured, Scripted}
 use Rattle.cl_pool.specs.Served.{FailsAs, MayServe}
-use Rattle.cl_pool.proofs.Ended.{why_refused}
+use Rattle.cl_pool.proofs.Ended.{for_report, why_none}
 use Rattle.cl_pool.proofs.serving.serve_with_rows.Goals as goal
 
 -- from 1 to 64 workers serve
@@ -11,8 +12,11 @@ may_serve g c = record {
   most = let m = c.if-workers-gt-MOST_WORKERS.false in omega arith;
 }
 
+pub returns-clause-workers : goal.returns-clause-workers
+returns-clause-workers g c = for_report c.finish.result (may_serve g c)
+
 pub returns-clause-refused : goal.returns-clause-refused
 returns-clause-refused g c =
-    why_refused c.in-Err.fault c.args.workers c.args.config.value c.args.script.value (may_serve g c)
-    (subst (λ (k : Configured). FailsAs k c.args.script.value c.in-Err.fault) c.deref.ensures
-    (subst (λ (s : Scripted). FailsAs c.deref.result.now s c.in-Err.fault) c.deref-2.ensures c.in-Err.ensures.refused))
+    why_none c.finish.result c.args.workers c.args.config.value c.args.script.value (may_serve g c)
+    (subst (λ (k : Configured). IfErr c.finish.result (FailsAs k c.args.script.value)) c.deref.ensures
+    (subst (λ (s : Scripted). IfErr c.finish.result (FailsAs c.deref.result.now s)) c.deref-2.ensures c.finish.ensures.refused))

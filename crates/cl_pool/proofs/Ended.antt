@@ -1,6 +1,6 @@
 -- What a registry is once the workers have ended and a request has no answer.
-use Rattle.std.proofs.Common.{◌≡◌, ◌⊎◌, inl, inr, ◌∙◌, ℕ, zero, suc, ◌<◌, true, List, [], ◌∷◌, length, Option, Some, None, refl, sym, arith, is_some}
-use Rattle.std.specs.Prelude.{slice_get}
+use Rattle.std.proofs.Common.{◌≡◌, ◌⊎◌, inl, inr, ◌∙◌, ℕ, zero, suc, ◌<◌, true, List, [], ◌∷◌, length, Option, Some, None, Result, Ok, Err, refl, sym, arith, is_some}
+use Rattle.std.specs.Prelude.{IfErr, OnOk, slice_get}
 use Rattle.std.proofs.lemmas.Option.{slice_get_within}
 use Rattle.cl_model.specs.declared.answer.Answer as rust
 use Rattle.cl_model.specs.Machine.{Scheduled}
@@ -63,3 +63,13 @@ why_refused faults.Workers workers c s may fails = absurd fails
 why_refused faults.NoThread workers c s may fails = may
 why_refused faults.Stray workers c s may fails = may
 why_refused (faults.Unanswered x) workers c s may fails = (may, fails)
+
+-- what holds anyhow holds where workers made a report
+pub for_report : {A E P : Type 0} (result : Result A E) → P → OnOk result P
+for_report (Ok report) holds = holds
+for_report (Err fault) holds = tt
+
+-- the same of what the workers came to
+pub why_none : {A B : Type 0} (result : Result B (PoolFault A)) (workers : ℕ) (c : Configured) (s : Scripted) → MayServe workers → IfErr result (FailsAs c s) → IfErr result (RefusedFor workers c s)
+why_none (Ok report) workers c s may fails = tt
+why_none (Err fault) workers c s may fails = why_refused fault workers c s may fails

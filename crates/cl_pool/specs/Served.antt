@@ -1,10 +1,20 @@
 -- Why running threads make no report.
-use Rattle.std.specs.Prelude.{◌≡◌, ◌≤◌, ℕ}
+use Rattle.std.specs.Prelude.{◌≡◌, ◌≤◌, ℕ, List, Option}
+use Rattle.cl_model.specs.Content.{Content}
 use Rattle.cl_config.specs.Views.{Configured, Scripted}
+use Rattle.cl_hierarchy.specs.Rows.{Rowed}
+use Rattle.cl_registry.specs.declared.report.Report.{Report}
+use Rattle.cl_registry.specs.Reports.{IsReported}
 use Rattle.cl_registry.specs.Tables.{Shown, IsOpen}
 use Rattle.cl_pool.specs.declared.fault.PoolFault.{PoolFault}
 use Rattle.cl_pool.specs.declared.fault.PoolFault.TheVariants as faults
 use Rattle.cl_pool.specs.declared.limits.TheConstants.{MOST_WORKERS}
+
+-- a report is that of a registry with these rows
+pub record IsOfRows (told : Option Content) (r : Report) (rows : List Rowed) : Type 0 where
+  pub registry : Shown
+  pub reported : IsReported told registry r
+  pub rows_are : registry.rows ≡ rows
 
 -- so many workers may serve
 pub record MayServe (workers : ℕ) : Type 0 where

@@ -4,7 +4,6 @@
 mod desk;
 mod draws;
 mod fault;
-mod freeing;
 mod gate;
 mod hand;
 mod limits;
@@ -16,4 +15,4 @@ pub use fault::PoolFault;
 pub use gate::{Gate, OpenGate};
 pub use hand::Bounds;
 pub use limits::MOST_WORKERS;
-pub use serving::serve;
+pub use serving::{serve, serve_with_rows};

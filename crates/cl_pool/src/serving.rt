@@ -1,13 +1,12 @@
-ghost use Rattle.std.specs.Prelude.{◌≡◌, ◌≤◌, IfOk, IfErr, IsErrOf, OnOk, length, true};
+ghost use Rattle.std.specs.Prelude.{◌≡◌, ◌≤◌, IfOk, IfErr, IsErrOf, OnOk, length, map, true};
 ghost use Rattle.cl_config.specs.Scripts.{HasLoaders};
 ghost use Rattle.cl_pool.specs.Seats.{IsSeatOf, MayDraw};
-ghost use Rattle.cl_pool.specs.Served.{FailsAs, MayServe, RefusedFor};
+ghost use Rattle.cl_pool.specs.Served.{FailsAs, IsOfRows, MayServe, RefusedFor};
 ghost use Rattle.cl_schedule.specs.Headline.{IsServed};
 
 use crate::desk::Desk;
 use crate::draws::{Draws, Seat};
 use crate::fault::PoolFault;
-use crate::freeing::free_rows;
 use crate::gate::Gate;
 use crate::limits::MOST_WORKERS;
 use crate::pool::Pool;
@@ -47,6 +46,41 @@ pub fn serve<T: Told + Send + Sync, S: Source<T> + Send, G: Gate, R: Threads + W
     ensures workers { OnOk result (MayServe workers) }
     ensures refused { IfErr result (RefusedFor workers config.value script.value) }
 {
+    match serve_with_rows(rt, alloc, config, source, script, workers, gate) {
+        Ok((report, rows)) => {
+            drop(rows);
+            Ok(report)
+        }
+        Err(fault) => Err(fault),
+    }
+}
+
+/// As `serve`, with the rows of the classes that were defined, in order. They are most of a registry's memory, and of what
+/// several threads allocated each free takes a lock: who ends soon after may let them go.
+///
+/// # Errors
+///
+/// Those of `serve`.
+pub fn serve_with_rows<
+    T: Told + Send + Sync,
+    S: Source<T> + Send,
+    G: Gate,
+    R: Threads + Wait + Sync,
+>(
+    rt: &R,
+    alloc: Global,
+    config: Arc<Config>,
+    source: S,
+    script: Arc<Script>,
+    workers: u32,
+    gate: &G,
+) -> Result<(Report, Vec<Arc<ClassRow<T>>>), PoolFault<T>>
+    requires loaders { HasLoaders (length config.value.loaders) script.value.requests }
+    ensures served { IfOk result (λ r. IsServed T.told config.value script.value r.0) }
+    ensures rows { IfOk result (λ r. IsOfRows T.told r.0 (map (λ c. c.value) r.1.items)) }
+    ensures workers { OnOk result (MayServe workers) }
+    ensures refused { IfErr result (RefusedFor workers config.value script.value) }
+{
     if workers < 1 || workers > MOST_WORKERS {
         return Err(PoolFault::Workers);
     }
@@ -62,13 +96,7 @@ pub fn serve<T: Told + Send + Sync, S: Source<T> + Send, G: Gate, R: Threads + W
         config: _,
         script: _,
     } = pool;
-    match finish(desk.into_inner(), &config, &script) {
-        Ok((report, rows)) => {
-            free_rows(rt, rows, workers);
-            Ok(report)
-        }
-        Err(fault) => Err(fault),
-    }
+    finish(desk.into_inner(), &config, &script)
 }
 
 /// What the workers share, with the first seat.
@@ -146,6 +174,7 @@ fn finish<T: Told>(
     script: &Script,
 ) -> Result<(Report, Vec<Arc<ClassRow<T>>>), PoolFault<T>>
     ensures served { IfOk result (λ r. IsServed T.told config.now script.now r.0) }
+    ensures rows { IfOk result (λ r. IsOfRows T.told r.0 (map (λ c. c.value) r.1.items)) }
     ensures refused { IfErr result (FailsAs config.now script.now) }
     ensures stray { desk.stopped ≡ true → IsErrOf result PoolFault.Stray }
 {

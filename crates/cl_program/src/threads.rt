@@ -9,10 +9,11 @@ ghost use Rattle.cl_program.specs.Serving.{FailsBy};
 use crate::fault::ThreadFault;
 use cl_config::{Config, Script};
 use cl_model::Told;
-use cl_pool::{OpenGate, serve};
+use cl_pool::{OpenGate, serve_with_rows};
 use cl_registry::Report;
 use cl_source::Source;
 use std::alloc::Global;
+use std::mem;
 use std::sync::{Arc, Wait};
 use std::thread::Threads;
 
@@ -34,8 +35,14 @@ pub(crate) fn serve_by_threads<
     ensures workers { OnOk result (MayServe workers) }
     ensures refused { IfErr result (FailsBy workers) }
 {
-    match serve::<T, S, OpenGate, R>(rt, alloc, config, source, script, workers, &OpenGate) {
-        Ok(report) => Ok(report),
+    match serve_with_rows::<T, S, OpenGate, R>(
+        rt, alloc, config, source, script, workers, &OpenGate,
+    ) {
+        Ok((report, rows)) => {
+            // The program ends once the report is printed, and to free the rows would take a third of its time.
+            mem::forget(rows);
+            Ok(report)
+        }
         Err(fault) => Err(ThreadFault::from(fault)),
     }
 }

@@ -10,6 +10,13 @@ returns-in-Ok-clause-served g c =
     is_served g.T.Told.told c.pass_rounds.new.self.registry c.args.config.now c.args.script.now c.in-Ok.report_and_rows.0 c.in-Ok.ensures.reported
     c.if-not-serves.ensures.0 c.if-not-serves.ensures.1
 
+pub returns-in-Ok-clause-rows : goal.returns-in-Ok-clause-rows
+returns-in-Ok-clause-rows g c = record {
+  registry = c.pass_rounds.new.self.registry;
+  reported = c.in-Ok.ensures.reported;
+  rows_are = sym c.in-Ok.ensures.rows;
+}
+
 pub returns-in-Err-clause-refused : goal.returns-in-Err-clause-refused
 returns-in-Err-clause-refused g c =
     subst (IsUnanswered c.args.config.now c.args.script.now) (sym c.in-Err.ensures.refused.0)

@@ -28,7 +28,7 @@ use Rattle.cl_model.proofs.Closed.{all_left, all_right}
 use Rattle.cl_config.specs.Views.{Configured}
 use Rattle.cl_delegation.specs.Worlds.{world_of}
 use Rattle.cl_hierarchy.specs.Imposed.{AreOf, Listed, OfPreparation, Sprung, needs_of}
-use Rattle.cl_hierarchy.specs.Lineages.{IsInOrder, IsLineageOf, Lined, kin_of, rows_in}
+use Rattle.cl_hierarchy.specs.Lineages.{IsInOrder, IsLined, IsLineageOf, Lined, kin_of, rows_in}
 use Rattle.cl_hierarchy.specs.Rows.{Rowed}
 use Rattle.cl_hierarchy.specs.Trees.{kin_under, kins, kins_after}
 use Rattle.cl_hierarchy.proofs.Tours.{classes_both}
@@ -146,7 +146,7 @@ preparation_of : (from : Sprung) (at : Lined) (needs : List Need) → from ≡ O
 preparation_of from at needs e h = subst (λ (x : Sprung). AreOf x needs) e h
 
 lineage_at : (told : Option Content) (from : Sprung) (at : Lined) → from ≡ OfPreparation at → AreLineages told from → IsLineageOf told at
-lineage_at told from at e h = subst (λ (x : Sprung). AreLineages told x) e h
+lineage_at told from at e h = let lined : IsLined told at = subst (λ (x : Sprung). AreLineages told x) e h in lined.lineage
 
 pub link_rests : (told : Option Content) (r : request.Request) (l : Lined) (place : ℕ) (e : Listed) (k : ℕ) (need : rust.Need) → AreLinked r l place e.origin → IsInOrder l → IsLineageOf told l → AreLineages told e.origin
     → AreOf e.origin (needs_of e.needs) → slice_get (needs_of e.needs) k ≡ Some (need_of need) → Rests told (grounded r (verdicts.Linkage need) (link_basis r l place e k (need_of need)))

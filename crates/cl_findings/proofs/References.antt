@@ -222,7 +222,7 @@ asked_rests_at content r (OfReference d c i) needs k need to lin of is = record 
   apart = linkage_apart r need;
   concludes = λ s closed grounds.
       let w = world_of d.config content in
-      let goes = member_goes content r d c i of.refers of.made s to lin.0 lin.1 of.at of.names of.worked closed grounds.needs.1.0 in
+      let goes = member_goes content r d c i of.refers of.made s to lin.0.lineage lin.1.lineage of.at of.names of.worked closed grounds.needs.1.0 in
       let next : IsNext s of.made.needs (need_of need) = subst (λ (ns : List Need). IsNext s ns (need_of need)) of.needs_are (next_at s needs k (need_of need) is grounds.needs.1.1) in
       record { linkage = refl; next = goes_to_next w s r d.own.class i of.made (need_of need) closed to.of grounds.needs.0 goes next; placed = placed_reference w s r d.own.class i (need_of need) to.of };
 }

@@ -22,7 +22,7 @@ use Rattle.cl_hierarchy.specs.Drafts.{IsSpelt}
 use Rattle.cl_hierarchy.specs.Imposed.{Sprung, OfReference, OfPreparation}
 use Rattle.cl_hierarchy.specs.Imposed as imposed
 use Rattle.cl_hierarchy.specs.Frames.{frame_of}
-use Rattle.cl_hierarchy.specs.Lineages.{IsLineageOf, rows_in}
+use Rattle.cl_hierarchy.specs.Lineages.{IsLined, rows_in}
 use Rattle.cl_hierarchy.specs.Paths.{Pathed, frames_of, at_loader, at_name}
 use Rattle.cl_findings.specs.Findings.{Based}
 use Rattle.cl_findings.specs.Loads.{target_needs}
@@ -102,8 +102,12 @@ Carries s b =
     AllMet s b.needs × AllByRecursion (Contains s.prepared) b.prepared
     × IfSome b.refused (Refused s)
 
--- where a content is told, the lineages that a list of equalities was made from are those of its
--- world (5.3.5)
+-- the lineages that a list of equalities was made from are such (5.3.5)
 abbrev pub AreLineages : Option Content → Sprung → Type 0
-AreLineages told (OfReference d c index) = IsLineageOf told d × IsLineageOf told c
-AreLineages told (OfPreparation at) = IsLineageOf told at
+AreLineages told (OfReference d c index) = IsLined told d × IsLined told c
+AreLineages told (OfPreparation at) = IsLined told at
+
+-- a list is the definitions' of what it was made from (5.4.2, 5.4.3)
+pub record IsListed (told : Option Content) (e : imposed.Listed) : Type 0 where
+  pub lineages : AreLineages told e.origin
+  pub are : imposed.AreOf e.origin (imposed.needs_of e.needs)

@@ -9,7 +9,7 @@ use crate::basis::Basis;
 use crate::finding::Finding;
 use cl_config::Config;
 use cl_hierarchy::ClassRow;
-use cl_model::{Answer, Request, Told, Verdict};
+use cl_model::{Request, Told, Verdict};
 use std::sync::Arc;
 
 impl<T: Told> Finding<T> {
@@ -28,11 +28,7 @@ impl<T: Told> Finding<T> {
     {
         // brings that the file is what the class's bytes spell, where a content is told
         let _ = d.class();
-        Finding {
-            request,
-            answer: Answer::Said(verdict),
-            basis: Some(Basis::Entry { config, d }),
-        }
+        Finding::said(request, verdict, Basis::Entry { config, d })
     }
 
     /// What an entry of the pool of the class `d` is resolved to that names the class `c`: an IllegalAccessError where that is
@@ -53,10 +49,6 @@ impl<T: Told> Finding<T> {
         // brings that the files are what the classes' bytes spell, where a content is told
         let _ = d.class();
         let _ = c.class();
-        Finding {
-            request,
-            answer: Answer::Said(verdict),
-            basis: Some(Basis::Class { config, d, c }),
-        }
+        Finding::said(request, verdict, Basis::Class { config, d, c })
     }
 }

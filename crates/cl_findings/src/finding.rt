@@ -1,8 +1,9 @@
 //! Findings: requests with their answers.
 
-ghost use Rattle.std.specs.Prelude.{◌≡◌, None};
+ghost use Rattle.std.specs.Prelude.{◌≡◌, None, Some};
 ghost use Rattle.cl_model.specs.declared.verdict.Verdict.TheVariants as verdicts;
 ghost use Rattle.cl_model.specs.declared.answer.Answer.TheVariants as answers;
+ghost use Rattle.cl_findings.specs.Bases.{based};
 ghost use Rattle.cl_findings.specs.Findings.{IsLink, IsLoad, IsSettledFor, Rests};
 
 use crate::basis::Basis;
@@ -32,6 +33,26 @@ impl<T: Told> Model for Finding<T> {
 }
 
 impl<T: Told> Finding<T> {
+    /// A verdict that rests on this (JVMS SE 8, 5.3 to 5.4.3).
+    pub(crate) fn said(request: Request, verdict: Verdict, basis: Basis<T>) -> Finding<T>
+        requires { Rests T.told (record {
+          request = request;
+          answer = answers.Said verdict;
+          basis = Some (based request basis);
+        }) }
+        ensures { result ≡ record {
+          request = request;
+          answer = answers.Said verdict;
+          basis = Some (based request basis);
+        } }
+    {
+        Finding {
+            request,
+            answer: Answer::Said(verdict),
+            basis: Some(basis),
+        }
+    }
+
     /// The class that a request loaded, as the tables have it (JVMS SE 8, 5.3).
     #[tactic(auto, using(crate::proofs::Plain::class_rests))]
     pub fn class(request: Request, class: Class) -> Finding<T>

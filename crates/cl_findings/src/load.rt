@@ -13,7 +13,7 @@ use crate::basis::{At, Basis};
 use crate::finding::Finding;
 use cl_delegation::{Home, Unfound};
 use cl_hierarchy::{ClassRow, DraftFault, Frame, Path, Unreadable};
-use cl_model::{Answer, Class, ErrorKind, Need, Request, Told, Verdict};
+use cl_model::{Class, ErrorKind, Need, Request, Told, Verdict};
 use std::sync::Arc;
 
 /// What a path loads for a request.
@@ -216,15 +216,12 @@ impl<T: Told> Finding<T> {
         ensures basis { result.basis ≡ Some (basis_at request target path end) }
     {
         let end = end_at(&request, &target, &path, end);
-        Finding {
-            request,
-            answer: Answer::Said(end.verdict),
-            basis: Some(Basis::Load {
-                target,
-                path,
-                at: end.at,
-            }),
-        }
+        let basis = Basis::Load {
+            target,
+            path,
+            at: end.at,
+        };
+        Finding::said(request, end.verdict, basis)
     }
 
     /// The refusal of the record that comes next in a load: LinkageError of that need (JVMS SE 8, 5.3.4).
@@ -243,10 +240,10 @@ impl<T: Told> Finding<T> {
         ensures basis { result.basis ≡ Some (refused_at request target path next) }
     {
         let at = refused_at(&request, &target, &path, next, &need);
-        Finding {
+        Finding::said(
             request,
-            answer: Answer::Said(Verdict::Linkage(need)),
-            basis: Some(Basis::Load { target, path, at }),
-        }
+            Verdict::Linkage(need),
+            Basis::Load { target, path, at },
+        )
     }
 }

@@ -10,7 +10,7 @@ use crate::basis::Basis;
 use crate::finding::Finding;
 use cl_hierarchy::{Equalities, Lineage};
 use cl_members::Found;
-use cl_model::{Answer, Request, Told, Verdict};
+use cl_model::{Request, Told, Verdict};
 use std::sync::Arc;
 
 impl<T: Told> Finding<T> {
@@ -34,11 +34,7 @@ impl<T: Told> Finding<T> {
         let _ = found.d().class();
         let _ = found.c().class();
         let met = equalities.needs().len();
-        Finding {
-            request,
-            answer: Answer::Said(verdict),
-            basis: Some(Basis::Asked { equalities, met }),
-        }
+        Finding::said(request, verdict, Basis::Asked { equalities, met })
     }
 
     /// The error of an entry of the class `d` whose member was not found through the class `c`: NoSuchFieldError,
@@ -60,10 +56,6 @@ impl<T: Told> Finding<T> {
         // brings what is kept of the classes' lineages
         let _ = d.class();
         let _ = c.class();
-        Finding {
-            request,
-            answer: Answer::Said(verdict),
-            basis: Some(Basis::Lookup { d, c }),
-        }
+        Finding::said(request, verdict, Basis::Lookup { d, c })
     }
 }

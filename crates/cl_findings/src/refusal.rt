@@ -4,20 +4,19 @@ ghost use Rattle.std.specs.Prelude.{◌≡◌, Some, slice_get};
 ghost use Rattle.cl_model.specs.declared.answer.Answer.TheVariants as answers;
 ghost use Rattle.cl_model.specs.declared.verdict.Verdict.TheVariants as verdicts;
 ghost use Rattle.cl_model.specs.Views.{need_of};
-ghost use Rattle.cl_hierarchy.specs.Imposed.{AreOf, needs_of};
-ghost use Rattle.cl_findings.specs.Bases.{AreLineages};
+ghost use Rattle.cl_hierarchy.specs.Imposed.{needs_of};
+ghost use Rattle.cl_findings.specs.Bases.{IsListed};
 ghost use Rattle.cl_findings.specs.References.{AreAsked, AreLinked, asked_basis, link_basis};
 
 use crate::basis::Basis;
 use crate::finding::Finding;
 use cl_hierarchy::{Equalities, Lineage, Origin};
-use cl_model::{Answer, Need, Request, Told, Verdict};
+use cl_model::{Need, Request, Told, Verdict};
 use std::sync::Arc;
 
-/// Brings what a list of equalities keeps, and that the lineages that it was made from are those of their world.
-fn bring_lineages<T: Told>(equalities: &Equalities<T>)
-    ensures kept { AreOf equalities.now.origin (needs_of equalities.now.needs) }
-    ensures lineages { AreLineages T.told equalities.now.origin }
+/// Brings what a list of equalities keeps, and what the lineages keep that it was made from.
+pub fn bring_lineages<T: Told>(equalities: &Equalities<T>)
+    ensures { IsListed T.told equalities.now }
 {
     match equalities.origin() {
         Origin::Reference { d, c, .. } => {
@@ -51,11 +50,7 @@ impl<T: Told> Finding<T> {
             equalities,
             met: index,
         };
-        Finding {
-            request,
-            answer: Answer::Said(Verdict::Linkage(need)),
-            basis: Some(basis),
-        }
+        Finding::said(request, Verdict::Linkage(need), basis)
     }
 
     /// The refusal of the equality at this index of those of the preparation of the class at this place of the lineage of a
@@ -85,10 +80,6 @@ impl<T: Told> Finding<T> {
             equalities,
             met: index,
         };
-        Finding {
-            request,
-            answer: Answer::Said(Verdict::Linkage(need)),
-            basis: Some(basis),
-        }
+        Finding::said(request, Verdict::Linkage(need), basis)
     }
 }

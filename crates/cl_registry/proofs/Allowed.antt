@@ -17,7 +17,7 @@ use Rattle.cl_model.specs.Plans.{Load}
 use Rattle.cl_model.specs.Frames.{Frame, Judged, Accepts, Keeps}
 use Rattle.cl_model.specs.Machine.{Setting, Define, Initiate, IsClosed, May}
 use Rattle.cl_model.proofs.Closed.{runs_are_closed}
-use Rattle.cl_model.proofs.Bind.{ok_same}
+use Rattle.cl_model.proofs.Bind.{ok_same, none_not_some, some_same}
 use Rattle.cl_model.proofs.Ending.{if_some}
 use Rattle.cl_model.proofs.Frames.{complete_is_next}
 use Rattle.cl_model.proofs.Homes.{home_of_home}
@@ -31,15 +31,12 @@ use Rattle.cl_hierarchy.specs.Drafts.{Drafted, IsDraft}
 use Rattle.cl_hierarchy.proofs.Placed.{spelt_file}
 use Rattle.cl_registry.specs.Tables.{Shown, steps, state_of, records_of, looked, place_in, own_record, asked_record, FitsAs, IsKept}
 use Rattle.cl_registry.specs.Allowed.{AllowedIsEntered, EnteredIsAllowed, AllowedIsJoined, JoinedIsAllowed, RoundIsAllowed, OtherConfigIsStray}
-use Rattle.cl_registry.proofs.Running.{may_add, may_be_added, none_and_some}
+use Rattle.cl_registry.proofs.Running.{may_add, may_be_added}
 use Rattle.cl_registry.proofs.Placed.{HasRow, recorded_row}
+use Rattle.cl_registry.proofs.Looked.{some_of}
 
 pub closed_of : (content : Content) (x : Shown) → IsKept (Some content) x → IsClosed (world_of x.config content) (state_of x)
 closed_of content x kept = runs_are_closed (setting_of x.config x.script content) (steps x) kept.run
-
-some_of : (o : Option ℕ) → is_some o ≡ true → (x : ℕ) × (o ≡ Some x)
-some_of None e = absurd cc
-some_of (Some x) e = (x, refl)
 
 -- ---- homes
 
@@ -125,9 +122,6 @@ past_end f (x ∷ xs) = past_end f xs
 abbrev Stands : World → State → Class → Above → Type 0
 Stands w s c a = AtHome w c (λ t. Met s (Entry c.loader a.name t.loader)) a.name
 
-place_same : (p q : ℕ) → Some p ≡ Some q → p ≡ q
-place_same p q e = cc
-
 -- supertypes that are good and recorded are recorded as such, and fit
 all_fit : (content : Content) (x : Shown) (c : Class) (n : ℕ) (others : List Above) → IsKept (Some content) x → AllByRecursion (Stands (world_of x.config content) (state_of x) c) others
     → AllByRecursion (FitsAt (world_of x.config content) c (Good (world_of x.config content) n)) others
@@ -137,7 +131,7 @@ all_fit content x c n (a ∷ others) kept above fit =
     let w = world_of x.config content in
     let p = above.0.place in
     let r = recorded_row (Some content) x c.loader p a.name kept above.0.holds in
-    let same : fit.0.place ≡ p = place_same fit.0.place p (sym fit.0.found ∙ above.0.found) in
+    let same : fit.0.place ≡ p = some_same fit.0.place p (sym fit.0.found ∙ above.0.found) in
     let fitting : Fitting w c a.role None (class a.name p) = subst (λ (q : ℕ). Fitting w c a.role None (class a.name q)) same fit.0.holds.1 in
     let file : fitting.file ≡ file_of r.row.file = ok_same fitting.file (file_of r.row.file) (classes.file_of w (class a.name p)) fitting.has_file (row_file content x c.loader p a.name kept above.0.holds r) in
     let fits : FitsAs c a r.row = ap (λ (t : Class). misfit c a.role t (file_of r.row.file)) r.is ∙ ap (λ (f : File). misfit c a.role (class a.name p) f) (sym file) ∙ fitting.judged in
@@ -176,7 +170,7 @@ pub joined_is_allowed : JoinedIsAllowed
 joined_is_allowed content x h kept leads may fresh free =
     record {
       found = subst (λ (c : Configured). home (world_of c content) h.asked h.name ≡ Some h.place) may.config leads;
-      not_own = λ e. none_and_some (recorded (records_of x) h.asked h.name) h.place fresh (subst (λ (l : ℕ). recorded (records_of x) l h.name ≡ Some h.place) (sym e) may.defined);
+      not_own = λ e. none_not_some (recorded (records_of x) h.asked h.name) fresh (subst (λ (l : ℕ). recorded (records_of x) l h.name ≡ Some h.place) (sym e) may.defined);
       defined = may.defined;
       may_add = may_add (state_of x) h.asked h.place h.name fresh free;
     }

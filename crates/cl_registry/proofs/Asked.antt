@@ -121,6 +121,3 @@ known_defined x d row r is = subst (λ (o : Option ℕ). DefinedAs x x d row o) 
 
 pub known_initiated : (x : Shown) (h : Located) (row : Rowed) → Records x h.asked h.name row → looked x h.asked h.name ≡ Some row → Initiates x x h row
 known_initiated x h row r is = subst (λ (o : Option ℕ). InitiatedAs x x h row o) (sym r.recorded) (refl, is)
-
-pub some_or_none : (o : Option ℕ) (place : ℕ) → o ≡ Some place → o ≡ None → ⊥
-some_or_none o place e f = absurd cc

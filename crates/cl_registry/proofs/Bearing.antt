@@ -16,12 +16,11 @@ use Rattle.cl_registry.specs.References.{IsSettledIn, IsUnsettled}
 use Rattle.cl_registry.specs.Tables.{Shown, state_of, records_of, LacksRecord}
 use Rattle.cl_registry.specs.Tables as shown
 use Rattle.cl_registry.proofs.Verdicts.{verdict_same}
+use Rattle.cl_model.proofs.Bind.{none_not_some, value_same}
+use Rattle.cl_model.proofs.Tables.{one_linked}
 
 class_same : (c d : Class) → IsClass d ≡ IsClass c → c ≡ d
 class_same c d e = cc
-
-linked_same : (c d : Class) → IsLinked d ≡ IsLinked c → c ≡ d
-linked_same c d e = cc
 
 -- ---- classes that are loaded or linked
 
@@ -34,26 +33,17 @@ bears_no_link true s l n c e h = absurd cc
 bears_no_link false s l n c e h = λ all. h (all c refl).0
 
 pub bears_linked : (b : Bool) (s : State) (l : ℕ) (n : Name) (c : Class) → Records s l n c → Decides b (Contains s.prepared c) → Decides b (Bears s (Link l n) (IsLinked c))
-bears_linked true s l n c r h = λ d e. subst (λ (k : Class). Records s l n k × Contains s.prepared k) (sym (linked_same d c e)) (r, h)
+bears_linked true s l n c r h = λ d e. subst (λ (k : Class). Records s l n k × Contains s.prepared k) (one_linked d c e) (r, h)
 bears_linked false s l n c r h = λ all. h (all c refl).1
 
 -- ---- entries
 
-no_record : (o : Option ℕ) (p : ℕ) → o ≡ None → o ≡ Some p → ⊥
-no_record o p e f = cc
-
-place_same : (o : Option ℕ) (p q : ℕ) → o ≡ Some p → o ≡ Some q → p ≡ q
-place_same o p q e f = cc
-
 some_same : (v w : Verdict) (o : Option Verdict) → o ≡ Some v → o ≡ Some w → v ≡ w
 some_same v w o e f = cc
 
-none_and_some : (v : Verdict) (o : Option Verdict) → o ≡ None → o ≡ Some v → ⊥
-none_and_some v o e f = cc
-
 -- a loader records one class for a name
 one_class : (s : State) (l : ℕ) (n : Name) (c d : Class) → Records s l n c → Records s l n d → c ≡ d
-one_class s l n c d r t = ap (λ (m : Name). class m c.loader) (r.0 ∙ sym t.0) ∙ ap (λ (p : ℕ). class d.name p) (place_same (recorded s.records l n) c.loader d.loader r.1 t.1)
+one_class s l n c d r t = ap (λ (m : Name). class m c.loader) (r.0 ∙ sym t.0) ∙ ap (λ (p : ℕ). class d.name p) (value_same c.loader d.loader (recorded s.records l n) r.1 t.1)
 
 -- the class of a row that a loader has recorded
 row_records : (x : Shown) (l : ℕ) (n : Name) (r : Rowed) (c : Class) → shown.Records x l n r → c ≡ r.class → Records (state_of x) l n c
@@ -63,14 +53,14 @@ abbrev NeverSettled : Verdict → Type 0
 NeverSettled v = (v ≡ BadEntry) ⊎ (v ≡ ArrayMember)
 
 pub bears_unrecorded : (x : Shown) (l i : ℕ) (n : Name) (v : Verdict) → LacksRecord x l n → Bears (state_of x) (Resolve l n i) v
-bears_unrecorded x l i n v none = λ d r. absurd (no_record (recorded (records_of x) l n) d.loader none r.1)
+bears_unrecorded x l i n v none = λ d r. absurd (none_not_some (recorded (records_of x) l n) none r.1)
 
 -- the entry of a class that is recorded is not settled
 pub bears_unsettled : (x : Shown) (l i : ℕ) (n : Name) (r : Rowed) (c : Class) (v : Verdict) → shown.Records x l n r → c ≡ r.class → IsUnsettled x c i → (NeverSettled v → ⊥) → Bears (state_of x) (Resolve l n i) v → ⊥
 bears_unsettled x l i n r c v rec is none not all =
     elim (all c (row_records x l n r c rec is)) [
       | inl e ↦ not (inl e)
-      | inr more ↦ elim more [ inl e ↦ not (inr e) | inr e ↦ none_and_some v (settled_to (state_of x).settled c i) none.verdict e ]
+      | inr more ↦ elim more [ inl e ↦ not (inr e) | inr e ↦ none_not_some (settled_to (state_of x).settled c i) none.verdict e ]
     ]
 
 -- or is settled to this

@@ -29,11 +29,12 @@ use Rattle.cl_model.proofs.Tables.{trusted_is_consistent}
 use Rattle.cl_config.specs.Loaders.{schedule_of}
 use Rattle.cl_delegation.specs.Worlds.{setting_of}
 use Rattle.cl_hierarchy.specs.Rows.{Rowed}
+use Rattle.cl_hierarchy.specs.Lineages.{row_of}
 use Rattle.cl_constraints.specs.Books.{IsBookOf}
 use Rattle.cl_findings.specs.Findings.{Answered, Based, BasisStands, Rests, Stands}
 use Rattle.cl_findings.proofs.Answered.{standing_settles}
 use Rattle.cl_registry.specs.Kept.{Fields, IsRegistry}
-use Rattle.cl_registry.specs.Tables.{Shown, steps, state_of, settlements, settled_at, looked, row_of, IsKept}
+use Rattle.cl_registry.specs.Tables.{Shown, steps, state_of, settlements, settled_at, looked, IsKept}
 use Rattle.cl_registry.specs.References.{Cited, cited_by, settled_by, AddsSettled, IsReferencePut}
 use Rattle.cl_registry.specs.Settling.{Says, IsToSettle, with_settle, Settles, SettledAs}
 use Rattle.cl_registry.specs.SettlingLaws.{AllowedIsSettled, OtherFindingIsStray}

@@ -10,7 +10,9 @@ use Rattle.cl_model.specs.States.{State, Equality, Posted, Entry, Answer, record
 use Rattle.cl_model.specs.Machine.{Define, Initiate, NextRound, after, state_after}
 use Rattle.cl_model.specs.Views.{answer_at, post_of, step_of, steps_of}
 use Rattle.cl_registry.specs.Tables.{posts, is_in}
-use Rattle.cl_registry.proofs.Histories.{or_of_false, swap_nat}
+use Rattle.cl_registry.proofs.Histories.{swap_nat}
+use Rattle.cl_model.proofs.Bind.{none_not_some}
+use Rattle.std.proofs.lemmas.Bool.{or_parts}
 
 -- ---- equalities
 
@@ -22,21 +24,18 @@ alone : (ks : List Equality) (name : Name) (a : ℕ) (path : List ℕ) (b : ℕ)
 alone ks name a [] b e h = h
 alone ks name a (c ∷ cs) b e h = absurd (no_equality h.0.equality (subst (λ (x : List Equality). Contains x h.0.equality) e h.0.imposed))
 
-pub none_and_some : (o : Option ℕ) (x : ℕ) → o ≡ None → o ≡ Some x → ⊥
-none_and_some o x h k = cc
-
 pub no_clash : (s : State) (loader place : ℕ) (name : Name) → s.equalities ≡ [] → recorded s.records loader name ≡ None → Clashes s (Entry loader name place) → ⊥
 no_clash s loader place name e fresh k =
-    none_and_some (recorded s.records loader name) k.other_place fresh
+    none_not_some (recorded s.records loader name) fresh
     (subst (λ (o : ℕ). recorded s.records o name ≡ Some k.other_place) (sym (alone s.equalities name loader k.joined.path k.other e k.joined.along)) k.recorded_there)
 
 -- a loader that has no record of a name may record it
 pub may_add : (s : State) (loader place : ℕ) (name : Name) → s.equalities ≡ [] → recorded s.records loader name ≡ None → MayAdd s (Entry loader name place)
-may_add s loader place name e fresh = record { unmet = λ m. none_and_some (recorded s.records loader name) place fresh m; fits = λ k. no_clash s loader place name e fresh k }
+may_add s loader place name e fresh = record { unmet = λ m. none_not_some (recorded s.records loader name) fresh m; fits = λ k. no_clash s loader place name e fresh k }
 
 -- ---- answers
 
-or_nothing : {A : Type 0} (o : Option A) → option_or o None ≡ o
+pub or_nothing : {A : Type 0} (o : Option A) → option_or o None ≡ o
 or_nothing None = refl
 or_nothing (Some x) = refl
 
@@ -57,5 +56,5 @@ unposted_stays now (events.Settle r ∷ h) s q out = unposted_stays now h (after
 unposted_stays now (events.Prepare c ∷ h) s q out = unposted_stays now h (after s (step_of now (events.Prepare c))) q out
 unposted_stays now (events.NextRound ∷ h) s q out = unposted_stays now h (after s NextRound) q out
 unposted_stays now (events.Post p ∷ h) s q out =
-    let o = or_of_false (nat_eq q p) (is_in q (posts h)) out in
+    let o = or_parts (nat_eq q p) (is_in q (posts h)) out in
     unposted_stays now h (after s (post_of p (answer_at now p))) q o.1 ∙ post_other s q p (answer_at now p) (swap_nat p q ∙ o.0)

@@ -24,7 +24,8 @@ use Rattle.cl_hierarchy.specs.Imposed.{AreOf, Sprung, OfPreparation, OfReference
 use Rattle.cl_hierarchy.specs.Lineages.{IsLined, Lined, kin_of}
 use Rattle.cl_findings.proofs.References.{through_made}
 use Rattle.cl_registry.specs.Allowed.{ImposedIsAllowed, MarkedIsAllowed, AllowedIsMarked}
-use Rattle.cl_registry.specs.Imposing.{AreLineages, IsPreparedAbove, StandsFor}
+use Rattle.cl_findings.specs.Bases.{AreLineages}
+use Rattle.cl_registry.specs.Imposing.{IsPreparedAbove, StandsFor}
 use Rattle.cl_registry.specs.Tables.{Shown, IsKept, state_of}
 use Rattle.cl_registry.proofs.Allowed.{closed_of}
 
@@ -81,14 +82,11 @@ marked_is_allowed content x l needs kept listed ready free =
     may_prepare (setting_of x.config x.script content) (state_of x) l.own.class (kin_of l) ready.stands.recorded free (lineage_at content x l listed.lineages ready.stands.config)
     (prepared_at_home content x l.own.class (supers (file_of l.own.file)) (closed_of content x kept) ready.above) (subst (AllMet (state_of x)) listed.are ready.imposed)
 
-place_same : (p q : ℕ) → Some p ≡ Some q → p ≡ q
-place_same p q e = cc
-
 home_prepared : (content : Content) (x : Shown) (c : Class) (others : List Above) → AllByRecursion (λ (a : Above). AtHome (world_of x.config content) c (Contains (state_of x).prepared) a.name) others
     → AllByRecursion (λ (a : Above). AtHome (world_of x.config content) c (λ t. Met (state_of x) (Entry c.loader a.name t.loader)) a.name) others → AllByRecursion (IsPreparedAbove x c) others
 home_prepared content x c [] h m = tt
 home_prepared content x c (a ∷ others) h m =
-    let same = place_same m.0.place h.0.place (sym m.0.found ∙ h.0.found) in
+    let same = some_same m.0.place h.0.place (sym m.0.found ∙ h.0.found) in
     (record { place = h.0.place; recorded = m.0.holds ∙ ap (λ (p : ℕ). Some p) same; prepared = h.0.holds }, home_prepared content x c others h.1 m.1)
 
 pub allowed_is_marked : AllowedIsMarked

@@ -5,7 +5,7 @@ use Rattle.std.proofs.lemmas.Bool.Decides.{nat_tests}
 use Rattle.std.proofs.lemmas.Option.{slice_get_within, get_or_from_slice_get}
 use Rattle.cl_model.specs.declared.answer.Answer.{Answer}
 use Rattle.cl_registry.specs.Kept.{open_in}
-use Rattle.cl_registry.proofs.Histories.{eq_nat}
+use Rattle.cl_registry.proofs.Histories.{eq_nat, less}
 
 abbrev none : ℕ → List (Option Answer)
 none q = replicate q None
@@ -42,9 +42,6 @@ pub get_set_same : {X : Type 0} (xs : List X) (i : ℕ) (v c : X) → slice_get 
 get_set_same [] i v c e = absurd cc
 get_set_same (x ∷ xs) zero v c e = refl
 get_set_same (x ∷ xs) (suc i) v c e = get_set_same xs i v c e
-
-less : (q p : ℕ) → nat_eq (suc q) (suc p) ≡ false → nat_eq q p ≡ false
-less q p e = grind (arith, nat_tests)
 
 -- and elsewhere
 pub get_set_other : {X : Type 0} (xs : List X) (i j : ℕ) (v : X) → nat_eq i j ≡ false → slice_get (slice_set xs i v) j ≡ slice_get xs j

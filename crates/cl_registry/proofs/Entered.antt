@@ -24,13 +24,14 @@ use Rattle.cl_hierarchy.specs.RowTables.{HasItsFile, IsFound, IsRowAfter, StandA
 use Rattle.cl_hierarchy.proofs.RowTables.{rows_grow}
 use Rattle.cl_hierarchy.proofs.Climbs.{row_more}
 use Rattle.cl_hierarchy.proofs.Placed.{spelt_file}
+use Rattle.cl_hierarchy.specs.Lineages.{row_of}
 use Rattle.cl_constraints.specs.Books.{Admits}
 use Rattle.cl_registry.specs.declared.registry.RegistryFault.{RegistryFault}
 use Rattle.cl_registry.specs.declared.registry.RegistryFault.TheVariants.{Memory, Stray, Violates, AlreadyPosted, NotYet}
 use Rattle.cl_registry.specs.Kept.{Fields, IsRegistry}
 use Rattle.cl_registry.specs.Parts.{IsPut}
 use Rattle.cl_registry.specs.Refusals.{AddRefusedFor, Blames, BlamesIn, DefineRefusedFor, InitiateRefusedFor, JoinRefusedFor}
-use Rattle.cl_registry.specs.Tables.{Shown, state_of, records_of, IsKept, ArePlaced, with_define, with_initiate, row_of, looked, row_for, place_in, own_record, asked_record, FitsAs, IsNew, LacksRecord, MayEnter, MayJoin, Records, Defines, DefinedAs, Initiates, InitiatedAs}
+use Rattle.cl_registry.specs.Tables.{Shown, state_of, records_of, IsKept, ArePlaced, with_define, with_initiate, looked, row_for, place_in, own_record, asked_record, FitsAs, IsNew, LacksRecord, MayEnter, MayJoin, Records, Defines, DefinedAs, Initiates, InitiatedAs}
 use Rattle.cl_registry.proofs.Running.{may_record}
 use Rattle.cl_registry.proofs.Looked.{looked_push, looked_some, looked_records, at_self, fresh_row, row_push}
 use Rattle.cl_registry.proofs.Allowed.{closed_of, draft_at_home, entered_is_allowed, joined_is_allowed, recorded_at, row_of_some}

@@ -18,16 +18,13 @@ use Rattle.cl_config.specs.Loaders.{schedule_of}
 use Rattle.cl_delegation.specs.Worlds.{setting_of}
 use Rattle.cl_registry.specs.Kept.{left_in, open_in}
 use Rattle.cl_registry.specs.Tables.{Shown, steps, state_of, posts, defined, settlements, is_in, IsTrusted, RunsAs, with_post, IsOpen}
+use Rattle.std.proofs.lemmas.Bool.{or_parts}
 
 pub eq_nat : (a b : ℕ) → nat_eq a b ≡ true → a ≡ b
 eq_nat a b e = grind (arith, nat_tests)
 
 pub swap_nat : (a b : ℕ) → nat_eq a b ≡ nat_eq b a
 swap_nat a b = grind (arith, nat_tests)
-
-pub or_of_false : (a b : Bool) → (a || b) ≡ false → (a ≡ false) × (b ≡ false)
-or_of_false true b e = absurd cc
-or_of_false false b e = (refl, e)
 
 pub or_right : (b : Bool) → (b || false) ≡ b
 or_right true = refl
@@ -105,7 +102,7 @@ is_in_push (x ∷ xs) p q = ap (λ b. nat_eq p x || b) (is_in_push xs p q) ∙ r
 abbrev pub given : List (Option rust.Answer) → ℕ → Option Answer
 given xs p = answer_at (answers_of xs) p
 
-less : (q p : ℕ) → nat_eq (suc q) (suc p) ≡ false → nat_eq q p ≡ false
+pub less : (q p : ℕ) → nat_eq (suc q) (suc p) ≡ false → nat_eq q p ≡ false
 less q p e = grind (arith, nat_tests)
 
 pub other_answer : (xs : List (Option rust.Answer)) (q p : ℕ) (a : rust.Answer) → nat_eq q p ≡ false → given (slice_set xs q (Some a)) p ≡ given xs p
@@ -167,7 +164,7 @@ steps_set old new (events.Settle r ∷ h) q same out = ap (λ (es : List Step). 
 steps_set old new (events.Prepare c ∷ h) q same out = ap (λ (es : List Step). step_of old (events.Prepare c) ∷ es) (steps_set old new h q same out)
 steps_set old new (events.NextRound ∷ h) q same out = ap (λ (es : List Step). step_of old events.NextRound ∷ es) (steps_set old new h q same out)
 steps_set old new (events.Post p ∷ h) q same out =
-    let o = or_of_false (nat_eq q p) (is_in q (posts h)) out in
+    let o = or_parts (nat_eq q p) (is_in q (posts h)) out in
     rw (same p o.0, steps_set old new h q same o.1) refl
 
 pub steps_posts : (x : Shown) (q : ℕ) (a : rust.Answer) → is_in q (posts x.history) ≡ false → IsOpen x q → steps (with_post x q a) ≡ steps x ++ Post q (answer_of a) ∷ []

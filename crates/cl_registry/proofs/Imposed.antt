@@ -21,14 +21,15 @@ use Rattle.cl_constraints.specs.Books.{IsBookOf, Refuses}
 use Rattle.cl_constraints.proofs.Standing.{unrefused}
 use Rattle.cl_delegation.specs.Worlds.{setting_of}
 use Rattle.cl_hierarchy.specs.Imposed.{AreOf, Listed, Sprung, OfPreparation, OfReference, equal_need, needs_of}
-use Rattle.cl_hierarchy.specs.Lineages.{IsWithin, Lined, kin_of, rows_in}
+use Rattle.cl_hierarchy.specs.Lineages.{IsWithin, Lined, kin_of, rows_in, row_of}
 use Rattle.cl_hierarchy.specs.Rows.{Rowed}
 use Rattle.cl_registry.specs.declared.registry.RegistryFault.{RegistryFault}
 use Rattle.cl_registry.specs.declared.registry.RegistryFault.TheVariants.{Memory, Stray, Violates, AlreadyPosted, NotYet}
-use Rattle.cl_registry.specs.Imposing.{AreLineages, IsListed, IsNextOf, MayConstrainAs, MayImpose, MayPrepareAs, StandsFor, with_constrain, with_prepare}
+use Rattle.cl_findings.specs.Bases.{AreLineages, IsListed}
+use Rattle.cl_registry.specs.Imposing.{IsNextOf, MayConstrainAs, MayImpose, MayPrepareAs, StandsFor, with_constrain, with_prepare}
 use Rattle.cl_registry.specs.Kept.{Fields, IsRegistry}
 use Rattle.cl_registry.specs.Refusals.{AddRefusedFor, Blames, ImposeRefusedFor}
-use Rattle.cl_registry.specs.Tables.{Shown, state_of, row_of, IsKept}
+use Rattle.cl_registry.specs.Tables.{Shown, state_of, IsKept}
 use Rattle.cl_registry.proofs.Constrained.{imposed_is_allowed}
 use Rattle.cl_registry.proofs.Entered.{BookAdds, KeepsOthers}
 use Rattle.cl_registry.proofs.Equated.{Names, constraints, lined, named_at, referred}

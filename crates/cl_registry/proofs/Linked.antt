@@ -18,9 +18,7 @@ use Rattle.cl_model.proofs.Planned.{one_lineage}
 use Rattle.cl_model.proofs.Progress.{class_is, once_kept}
 use Rattle.cl_model.proofs.Trees.{lineage_of, lineage_is_derived}
 use Rattle.cl_model.proofs.Derived.{all_both}
-
-place_is : (x y : ℕ) (o : Option ℕ) → o ≡ Some x → o ≡ Some y → x ≡ y
-place_is x y o h k = cc
+use Rattle.cl_model.proofs.Bind.{value_same}
 
 abbrev IsUnder : World → State → Class → List Above → Type 0
 IsUnder w s c others = AllByRecursion (λ (a : Above). AtHome w c (Contains s.prepared) a.name) others
@@ -48,7 +46,7 @@ forest_linked g s c Bare others sound all h = tt
 forest_linked g s c (Tree t f sup ints rest) [] sound all h = absurd h
 forest_linked g s c (Tree t f sup ints rest) (a ∷ more) sound all h =
     let w = g.world in
-    let same : t ≡ class a.name all.0.place = class_is t a.name all.0.place h.0.named (place_is t.loader all.0.place (home w c.loader a.name) h.0.found all.0.found) in
+    let same : t ≡ class a.name all.0.place = class_is t a.name all.0.place h.0.named (value_same t.loader all.0.place (home w c.loader a.name) h.0.found all.0.found) in
     let own : Contains s.prepared t = subst (λ (x : Class). Contains s.prepared x) (sym same) all.0.holds in
     let k : Kin = record { class = t; file = f; superclass = sup; interfaces = ints } in
     let here = prepared_as g s k sound (record { has_file = h.0.has_file; above = h.1; over = h.2 }) own in

@@ -15,7 +15,7 @@ use Rattle.cl_model.specs.Works.{Work, Made, after_made, ◌>>=◌}
 use Rattle.cl_model.specs.Plans.{derive, load, resolve}
 use Rattle.cl_model.specs.References.{resolve_in, through}
 use Rattle.cl_model.specs.Machine.{HasLineage}
-use Rattle.cl_model.proofs.Bind.{Bound, pieces, some_same}
+use Rattle.cl_model.proofs.Bind.{Bound, pieces, some_same, value_same}
 use Rattle.cl_model.proofs.Closed.{all_right}
 use Rattle.cl_model.proofs.Derived.{IsLoad, load_ok}
 use Rattle.cl_model.proofs.Planned.{one_lineage}
@@ -27,7 +27,8 @@ use Rattle.cl_hierarchy.specs.Imposed.{AreOf, OfPreparation, OfReference, Sprung
 use Rattle.cl_hierarchy.specs.Lineages.{kin_of}
 use Rattle.cl_findings.proofs.References.{opened}
 use Rattle.cl_registry.specs.Tables.{Shown, state_of, IsKept}
-use Rattle.cl_registry.specs.Imposing.{AreLineages, AreOfConfig, IsListOf, StandsFor}
+use Rattle.cl_findings.specs.Bases.{AreLineages}
+use Rattle.cl_registry.specs.Imposing.{AreOfConfig, IsListOf, StandsFor}
 use Rattle.cl_registry.specs.Allowed.{AllowedIsImposed}
 use Rattle.cl_registry.proofs.Constrained.{lineage_at}
 use Rattle.cl_registry.proofs.LoadNeeds.{loads_only}
@@ -55,9 +56,6 @@ pub record Reached (w : World) (s : State) (d c : Kin) : Type 0 where
 module _ (w : World) (s : State) (d c : Kin) (r : Reference) (made m : Made Verdict) (before : List Need) (es : List Equality) (k n : ℕ)
     (lin : HasLineage w c.class c) (found : home w d.class.loader c.class.name ≡ Some c.class.loader) (worked : resolve_in d r c ≡ Some made) (are : needs_of es ≡ made.needs)
     (list : before ++ needs_of es ≡ m.needs) (within : k < length es) (met : AllMet s before) where
-  place_same : (p q : ℕ) (o : Option ℕ) → o ≡ Some p → o ≡ Some q → p ≡ q
-  place_same p q o e f = cc
-
   by_access : (b : Bound (load w n NoClassDef d.class.loader c.class.name) (λ t. through d r t) m m.ends) (l : IsLoad w (derive w n []) d.class.loader c.class.name b.first b.value) (t : Bool) → class_accessible c.file.flags c.class d.class ≡ t → through d r c ≡ Some b.second
       → l.place ≡ c.class.loader → Reached w s d c
   by_access b l true e next here =
@@ -75,7 +73,7 @@ module _ (w : World) (s : State) (d c : Kin) (r : Reference) (made m : Made Verd
   reached b =
       let is = load_ok w (derive w n []) NoClassDef d.class.loader c.class.name b.first b.value b.made b.ended in
       let gives = derive_gives w n [] (class c.class.name is.place) is.below b.value is.made is.ends in
-      let here : is.place ≡ c.class.loader = place_same is.place c.class.loader (home w d.class.loader c.class.name) is.found found in
+      let here : is.place ≡ c.class.loader = value_same is.place c.class.loader (home w d.class.loader c.class.name) is.found found in
       let named : b.value.class ≡ c.class = gives.0 ∙ ap (λ (p : ℕ). class c.class.name p) here in
       let same : b.value ≡ c = one_lineage w c.class b.value c (subst (λ (t : Class). HasLineage w t b.value) named (lineage_is_derived w b.value gives.1)) lin in
       by_access b is (class_accessible c.file.flags c.class d.class) refl (subst (λ (t : Kin). through d r t ≡ Some b.second) same b.next) here

@@ -14,9 +14,12 @@ use Rattle.cl_model.proofs.Runs.{names_equal}
 use Rattle.cl_model.proofs.Ancestors.{same_self}
 use Rattle.cl_model.proofs.Complete.{is_class}
 use Rattle.cl_hierarchy.specs.Rows.{Rowed}
-use Rattle.cl_registry.specs.Tables.{Shown, state_of, records_of, defined, IsKept, row_of, looked, Records, LacksRecord}
+use Rattle.cl_hierarchy.specs.Lineages.{row_of}
+use Rattle.cl_registry.specs.Tables.{Shown, state_of, records_of, defined, IsKept, looked, Records, LacksRecord}
 use Rattle.cl_registry.proofs.Histories.{eq_nat}
 use Rattle.cl_registry.proofs.Running.{IsKnown, recorded_hold, all_known}
+use Rattle.cl_model.proofs.Bind.{none_not_some, some_same}
+use Rattle.std.proofs.lemmas.Bool.{and_parts, and_from}
 
 -- ---- records
 
@@ -40,20 +43,12 @@ recorded_push rs r l n =
 
 -- ---- rows
 
-pub and_true : (a b : Bool) → (a && b) ≡ true → (a ≡ true) × (b ≡ true)
-and_true true b e = (refl, e)
-and_true false b e = absurd cc
-
-both_true : (a b : Bool) → a ≡ true → b ≡ true → (a && b) ≡ true
-both_true true b e f = f
-both_true false b e f = absurd cc
-
 name_self : (n : List ℕ) → same_name n n ≡ true
 name_self [] = refl
-name_self (a ∷ n) = both_true (nat_eq a a) (same_name n n) (nat_eq_equiv.refl a) (name_self n)
+name_self (a ∷ n) = and_from (nat_eq a a) (same_name n n) (nat_eq_equiv.refl a) (name_self n)
 
 pub at_self : (l : ℕ) (n : List ℕ) → ((l == l) && pointwise nat_eq n n) ≡ true
-at_self l n = both_true (l == l) (same_name n n) (nat_eq_equiv.refl l) (name_self n)
+at_self l n = and_from (l == l) (same_name n n) (nat_eq_equiv.refl l) (name_self n)
 
 if_found : {A : Type 0} (b : Bool) (x : A) (o : Option A) → is_some o ≡ true → is_some (if b then Some x else o) ≡ true
 if_found true x o e = refl
@@ -72,20 +67,14 @@ all_found : (rows : List Rowed) → AllByRecursion (λ (c : Class). IsSome (row_
 all_found [] = tt
 all_found (x ∷ rows) = (if_true (same_class x.class x.class) x (row_of rows x.class) (same_self x.class), found_more x rows (map (λ r. r.class) rows) (all_found rows))
 
-some_eq : {A : Type 0} (x y : A) → Some x ≡ Some y → x ≡ y
-some_eq x y e = cc
-
 -- the row of a class is of it
 pub row_is : (rows : List Rowed) (c : Class) (r : Rowed) → row_of rows c ≡ Some r → r.class ≡ c
 row_is [] c r e = absurd cc
 row_is (x ∷ rows) c r e = by_test (same_class x.class c) refl e (row_is rows c r)
   where
     by_test : (b : Bool) → same_class x.class c ≡ b → (if b then Some x else row_of rows c) ≡ Some r → (row_of rows c ≡ Some r → r.class ≡ c) → r.class ≡ c
-    by_test true t f ih = ap (λ (s : Rowed). s.class) (sym (some_eq x r f)) ∙ is_class x.class c t
+    by_test true t f ih = ap (λ (s : Rowed). s.class) (sym (some_same x r f)) ∙ is_class x.class c t
     by_test false t f ih = ih f
-
-none_and_some : (o : Option ℕ) (x : ℕ) → o ≡ None → o ≡ Some x → ⊥
-none_and_some o x h k = cc
 
 -- a class that its loader has not recorded has no row
 none_found : (rs : List Record) (rows : List Rowed) (c : Class) → AllByRecursion (λ (c : Class). recorded rs c.loader c.name ≡ Some c.loader) (map (λ r. r.class) rows) → recorded rs c.loader c.name ≡ None → row_of rows c ≡ None
@@ -93,7 +82,7 @@ none_found rs [] c known fresh = refl
 none_found rs (x ∷ rows) c known fresh = by_test (same_class x.class c) refl (none_found rs rows c known.1 fresh)
   where
     by_test : (b : Bool) → same_class x.class c ≡ b → row_of rows c ≡ None → (if b then Some x else row_of rows c) ≡ None
-    by_test true t ih = absurd (none_and_some _ c.loader fresh (subst (λ (k : Class). recorded rs k.loader k.name ≡ Some k.loader) (is_class x.class c t) known.0))
+    by_test true t ih = absurd (none_not_some _ fresh (subst (λ (k : Class). recorded rs k.loader k.name ≡ Some k.loader) (is_class x.class c t) known.0))
     by_test false t ih = ih
 
 -- a row more is found for its class, where none was
@@ -110,7 +99,7 @@ fresh_row told x c k fresh = none_found (records_of x) x.rows c (subst (AllByRec
 
 -- ---- what is looked up
 
-some_of : {A : Type 0} (o : Option A) → is_some o ≡ true → (x : A) × (o ≡ Some x)
+pub some_of : {A : Type 0} (o : Option A) → is_some o ≡ true → (x : A) × (o ≡ Some x)
 some_of None e = absurd cc
 some_of (Some x) e = (x, refl)
 
@@ -156,7 +145,7 @@ looked_records told x l n r k e = by_record (recorded (records_of x) l n) refl
     by_record None f = absurd (none_some_row r (sym (looked_none x l n f) ∙ e))
     by_record (Some p) f =
         let is = looked_some told x l p n k f in
-        let same : is.row ≡ r = some_eq is.row r (sym is.looked ∙ e) in
+        let same : is.row ≡ r = some_same is.row r (sym is.looked ∙ e) in
         let of : r.class ≡ class n p = ap (λ (s : Rowed). s.class) (sym same) ∙ is.named in
         record { named = ap (λ (c : Class). c.name) of; recorded = f ∙ ap (λ (c : Class). Some c.loader) (sym of) }
 
@@ -177,7 +166,7 @@ looked_is told x l n (Some r) k e = looked_records told x l n r k (sym e)
 -- ---- one record more
 
 same_at : (a b : ℕ) (m n : List ℕ) → ((a == b) && same_name m n) ≡ true → (a ≡ b) × (m ≡ n)
-same_at a b m n e = let both = and_true (a == b) (same_name m n) e in (eq_nat a b both.0, names_equal m n both.1)
+same_at a b m n e = let both = and_parts (a == b) (same_name m n) e in (eq_nat a b both.0, names_equal m n both.1)
 
 -- what is looked up after a record more
 pub looked_push : (told : Option Content) (x y : Shown) (r : Record) (row : Rowed) → IsKept told x → records_of y ≡ records_of x ++ r ∷ [] → ((c : Class) (s : Rowed) → row_of x.rows c ≡ Some s → row_of y.rows c ≡ Some s)
@@ -197,7 +186,7 @@ looked_push told x y r row k more stays fresh here l n = by_cases (recorded (rec
         ∙ sym (ap (λ (b : Bool). if b then Some row else looked x l n) t)
     by_cases (Some p) true e t =
         let same = same_at r.loader l r.name n t in
-        absurd (none_and_some _ p fresh (subst (λ (i : ℕ). recorded (records_of x) i r.name ≡ Some p) (sym same.0) (subst (λ (m : List ℕ). recorded (records_of x) l m ≡ Some p) (sym same.1) e)))
+        absurd (none_not_some _ fresh (subst (λ (i : ℕ). recorded (records_of x) i r.name ≡ Some p) (sym same.0) (subst (λ (m : List ℕ). recorded (records_of x) l m ≡ Some p) (sym same.1) e)))
     by_cases None false e t =
         now
         ∙ ap (λ (o : Option ℕ). option_and_then (λ (p : ℕ). row_of y.rows (class n p)) (option_or o (if (r.loader == l) && same_name r.name n then Some r.place else None))) e

@@ -21,8 +21,9 @@ use Rattle.cl_model.proofs.Tables.{trusted_is_consistent}
 use Rattle.cl_config.specs.Loaders.{schedule_of}
 use Rattle.cl_hierarchy.specs.Drafts.{IsSpelt}
 use Rattle.cl_hierarchy.specs.Rows.{Rowed}
-use Rattle.cl_registry.specs.Tables.{Shown, steps, records_of, defined, row_of, looked, IsTrusted, IsKept}
-use Rattle.cl_registry.proofs.Calm.{none_and_some}
+use Rattle.cl_hierarchy.specs.Lineages.{row_of}
+use Rattle.cl_registry.specs.Tables.{Shown, steps, records_of, defined, looked, IsTrusted, IsKept}
+use Rattle.cl_model.proofs.Bind.{none_not_some}
 
 -- ---- what is recorded by the loader that defined it has its event
 
@@ -62,7 +63,7 @@ comes script rounds now c (events.Define d ∷ h) s fine at = elim (comes script
 comes script rounds now c (events.Initiate d loader ∷ h) s fine at = elim (comes script rounds now c h (after s (step_of now (events.Initiate d loader))) fine.1 at) [
   | inl k ↦ elim (recorded_added s.records (record { loader = loader; name = d.name; place = d.loader }) c.loader c.loader c.name k) [
     | inl old ↦ inl old
-    | inr new ↦ absurd (none_and_some (recorded s.records loader d.name) d.loader fine.0.1.fresh
+    | inr new ↦ absurd (none_not_some (recorded s.records loader d.name) fine.0.1.fresh
         (subst (λ (l : ℕ). recorded s.records l d.name ≡ Some d.loader) (new.2 ∙ sym new.0) fine.0.0))
   ]
   | inr k ↦ inr k

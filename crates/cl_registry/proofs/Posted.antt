@@ -36,6 +36,7 @@ use Rattle.cl_registry.proofs.Calm.{unposted_stays}
 use Rattle.cl_registry.proofs.Cited.{settled_by_in, settled_cited_by}
 use Rattle.cl_registry.proofs.Histories.{open_answer, unposted}
 use Rattle.cl_registry.proofs.Linked.{prepared_comes}
+use Rattle.cl_model.proofs.Bind.{value_same}
 
 -- ---- rounds
 
@@ -114,9 +115,6 @@ looked_up g s (requests.Link l name) (verdicts.Linkage n) sound is bears = absur
 
 -- ---- what is settled
 
-place_same : (o : Option ℕ) (p q : ℕ) → o ≡ Some p → o ≡ Some q → p ≡ q
-place_same o p q e f = cc
-
 -- what an entry is settled to the tables bear for a request that resolves it
 settled_bears : (x : Shown) (r : Request) (s : Settled) → settled_by x r ≡ Some s → Bears (state_of x) (request_of r) (verdict_of s.verdict)
 settled_bears x r s at =
@@ -124,7 +122,7 @@ settled_bears x r s at =
     let is = settled_by_in x r s at in
     subst (λ (q : Request). Bears (state_of x) (request_of q) (verdict_of s.verdict)) (sym e.request)
     (λ d rec.
-    let same : s.class ≡ d = ap (λ (p : ℕ). class s.class.name p) (place_same (recorded (records_of x) e.loader s.class.name) s.class.loader d.loader e.recorded rec.1) ∙ ap (λ (n : Name). class n d.loader) (sym rec.0) in
+    let same : s.class ≡ d = ap (λ (p : ℕ). class s.class.name p) (value_same s.class.loader d.loader (recorded (records_of x) e.loader s.class.name) e.recorded rec.1) ∙ ap (λ (n : Name). class n d.loader) (sym rec.0) in
     inr (inr (subst (λ (c : Class). settled_to (state_of x).settled c s.index ≡ Some (verdict_of s.verdict)) same is.verdict)))
 
 -- and it is what the machine answers

@@ -25,11 +25,12 @@ use Rattle.cl_constraints.specs.Books.{IsBookOf}
 use Rattle.cl_constraints.proofs.Standing.{stands_alike}
 use Rattle.cl_findings.specs.Findings.{Answered, Rests}
 use Rattle.cl_hierarchy.specs.Imposed.{needs_of}
+use Rattle.cl_hierarchy.specs.Lineages.{row_of}
 use Rattle.cl_registry.specs.Kept.{Fields, IsRegistry, open_in}
-use Rattle.cl_registry.specs.Tables.{Shown, state_of, records_of, round_of, row_of, defined, posts, settlements, settled_at, is_in, with_post, IsTrusted, IsKept, IsLater, IsPlaced, NamesLoaders}
+use Rattle.cl_registry.specs.Tables.{Shown, state_of, records_of, round_of, defined, posts, settlements, settled_at, is_in, with_post, IsTrusted, IsKept, IsLater, IsPlaced, NamesLoaders}
 use Rattle.cl_registry.specs.Posting.{Fits}
 use Rattle.cl_registry.proofs.Calm.{unposted_stays}
-use Rattle.cl_registry.proofs.Histories.{trusted_more, run_more, posts_then, defined_then, settlements_then, is_in_push, swap_nat, eq_nat, other_answer, this_answer, left_set, open_set, steps_posts, state_posts, posted_by, unposted}
+use Rattle.cl_registry.proofs.Histories.{trusted_more, run_more, posts_then, defined_then, settlements_then, is_in_push, swap_nat, eq_nat, other_answer, this_answer, left_set, open_set, steps_posts, state_posts, posted_by, unposted, less}
 use Rattle.cl_registry.proofs.Known.{met_after}
 use Rattle.cl_registry.proofs.Posted.{borne, fitting_is_allowed, in_its_round, scheduled, scheduled_at}
 
@@ -107,9 +108,6 @@ set_here : (xs : List ℕ) (i a m : ℕ) → slice_get (slice_set xs i a) i ≡ 
 set_here [] i a m e = absurd cc
 set_here (x ∷ xs) zero a m e = cc
 set_here (x ∷ xs) (suc i) a m e = set_here xs i a m e
-
-less : (q p : ℕ) → nat_eq (suc q) (suc p) ≡ false → nat_eq q p ≡ false
-less q p e = grind (arith, nat_tests)
 
 set_there : (xs : List ℕ) (i j a : ℕ) → nat_eq i j ≡ false → slice_get (slice_set xs i a) j ≡ slice_get xs j
 set_there [] i j a e = refl

@@ -22,21 +22,19 @@ use Rattle.cl_registry.specs.Reports.{IsReport, IsNamed}
 use Rattle.cl_registry.specs.Tables.{Shown, state_of, posts, defined, settlements, is_in, IsTrusted, NamesLoaders}
 use Rattle.cl_registry.proofs.Histories.{eq_nat, swap_nat, or_right}
 use Rattle.cl_registry.proofs.Placed.{post_same}
+use Rattle.cl_model.proofs.Bind.{none_not_some}
 
 -- ---- what may be recorded
-
-pub none_and_some : (o : Option ℕ) (x : ℕ) → o ≡ None → o ≡ Some x → ⊥
-none_and_some o x h k = cc
 
 -- what has no record and is not refused may be recorded
 pub may_record : (s : State) (l p : ℕ) (name : Name) → recorded s.records l name ≡ None → (Refused s (Entry l name p) → ⊥) → MayRecord s l p name
 may_record s l p name fresh free =
-    record { fresh = fresh; fits = λ k. free (record { unmet = λ m. none_and_some (recorded s.records l name) p fresh m; clashes = k }) }
+    record { fresh = fresh; fits = λ k. free (record { unmet = λ m. none_not_some (recorded s.records l name) fresh m; clashes = k }) }
 
 -- and is a need that may be added
 pub may_add : (s : State) (l p : ℕ) (name : Name) → recorded s.records l name ≡ None → (Refused s (Entry l name p) → ⊥) → MayAdd s (Entry l name p)
 may_add s l p name fresh free =
-    let unmet : Met s (Entry l name p) → ⊥ = λ m. none_and_some (recorded s.records l name) p fresh m in
+    let unmet : Met s (Entry l name p) → ⊥ = λ m. none_not_some (recorded s.records l name) fresh m in
     record { unmet = unmet; fits = λ k. free (record { unmet = unmet; clashes = k }) }
 
 -- what may be added is not refused

@@ -30,9 +30,10 @@ use Rattle.cl_hierarchy.specs.Drafts.{IsSpelt}
 use Rattle.cl_hierarchy.specs.Imposed.{needs_of}
 use Rattle.cl_hierarchy.specs.Rows.{Rowed}
 use Rattle.cl_hierarchy.specs.RowTables.{AreRows}
+use Rattle.cl_hierarchy.specs.Lineages.{row_of}
 use Rattle.cl_constraints.specs.Books.{IsBookOf}
 use Rattle.cl_registry.specs.Kept.{left_in, open_in, Fields, IsRegistry}
-use Rattle.cl_registry.specs.Tables.{Shown, steps, state_of, records_of, round_of, row_of, posts, defined, settlements, reference_in, is_in, RunsAs, IsPlaced, with_round, MayGoOn}
+use Rattle.cl_registry.specs.Tables.{Shown, steps, state_of, records_of, round_of, posts, defined, settlements, reference_in, is_in, RunsAs, IsPlaced, with_round, MayGoOn}
 use Rattle.cl_registry.proofs.Histories.{given, open_answer, eq_nat}
 use Rattle.cl_registry.proofs.Running.{answered, named_new}
 use Rattle.cl_registry.proofs.Allowed.{round_is_allowed}

@@ -17,6 +17,8 @@ use Rattle.cl_model.proofs.Complete.{is_class}
 use Rattle.cl_registry.specs.Tables.{Shown, state_of, settlements, settled_at}
 use Rattle.cl_registry.specs.SettlingLaws.{SettledIsTold, UnsettledIsTold, SettledStays}
 use Rattle.cl_registry.proofs.Histories.{eq_nat, settlements_then}
+use Rattle.std.proofs.lemmas.Bool.{and_parts}
+use Rattle.cl_registry.proofs.Calm.{or_nothing}
 
 -- ---- as the machine has it
 
@@ -61,11 +63,6 @@ settled_is x c index = ap (λ (rs : List states.Settled). settled_to rs c index)
 
 -- ---- what is found is what was looked for
 
-both : (a b : Bool) → (a && b) ≡ true → (a ≡ true) × (b ≡ true)
-both true true e = (refl, refl)
-both true false e = absurd cc
-both false b e = absurd cc
-
 found_is : (xs : List Settled) (c : Class) (index : ℕ) (s : Settled) → find (is_it c index) xs ≡ Some s → is_it c index s ≡ true
 found_is [] c index s e = absurd cc
 found_is (x ∷ xs) c index s e = at (is_it c index x) refl e (found_is xs c index s)
@@ -76,7 +73,7 @@ found_is (x ∷ xs) c index s e = at (is_it c index x) refl e (found_is xs c ind
 
 pub settled_is_told : SettledIsTold
 settled_is_told x c index s e =
-    let tests = both (same_class s.class c) (nat_eq s.index index) (found_is (settlements x.history) c index s e) in
+    let tests = and_parts (same_class s.class c) (nat_eq s.index index) (found_is (settlements x.history) c index s e) in
     record {
       class = is_class s.class c tests.0;
       index = eq_nat s.index index tests.1;
@@ -97,10 +94,6 @@ settled_stays x y es c index s more e =
 
 -- ---- one entry more
 
-or_none : {A : Type 0} (o : Option A) → option_or o None ≡ o
-or_none None = refl
-or_none (Some x) = refl
-
 -- what is settled after an entry that was not is settled
 pub settled_more : (x y : Shown) (e : Event) (s : Settled) (c : Class) (index : ℕ) → y.history ≡ x.history ++ e ∷ [] → settlements (e ∷ []) ≡ s ∷ [] → settled_at x s.class s.index ≡ None
     → settled_at y c index ≡ (if is_it c index s then Some s else settled_at x c index)
@@ -112,6 +105,6 @@ settled_more x y e s c index more one free =
   where
     at : (b : Bool) → is_it c index s ≡ b → option_or (settled_at x c index) (if b then Some s else None) ≡ (if b then Some s else settled_at x c index)
     at true t =
-        let tests = both (same_class s.class c) (nat_eq s.index index) t in
+        let tests = and_parts (same_class s.class c) (nat_eq s.index index) t in
         ap (λ (o : Option Settled). option_or o (Some s)) (ap (λ (d : Class). settled_at x d index) (sym (is_class s.class c tests.0)) ∙ ap (settled_at x s.class) (sym (eq_nat s.index index tests.1)) ∙ free)
-    at false t = or_none (settled_at x c index)
+    at false t = or_nothing (settled_at x c index)

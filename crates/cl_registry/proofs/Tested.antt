@@ -17,10 +17,12 @@ use Rattle.cl_hierarchy.specs.Rows.{Rowed}
 use Rattle.cl_model.specs.Content.{Content}
 use Rattle.std.proofs.lemmas.Option.{slice_get_read}
 use Rattle.cl_registry.proofs.Constrained.{marked_is_allowed}
-use Rattle.cl_registry.specs.Imposing.{Constrains, Imposes, IsListed, IsNextOf, IsPreparedBy, IsReadyBy, MayPrepareAs, with_constrain, IsPreparedAbove, IsReached, IsReady, IsStanding, MayImpose, StandsFor}
+use Rattle.cl_findings.specs.Bases.{IsListed}
+use Rattle.cl_registry.specs.Imposing.{Constrains, Imposes, IsNextOf, IsPreparedBy, IsReadyBy, MayPrepareAs, with_constrain, IsPreparedAbove, IsReached, IsReady, IsStanding, MayImpose, StandsFor}
 use Rattle.cl_registry.specs.declared.registry.RegistryFault.TheVariants.{Memory}
 use Rattle.cl_registry.specs.Refusals.{MarkRefusedFor}
 use Rattle.cl_registry.specs.Tables.{Shown, IsKept, LacksRecord, Records, records_of, state_of}
+use Rattle.cl_model.proofs.Bind.{some_same, none_not_some}
 
 -- ---- equalities that are met
 
@@ -105,17 +107,11 @@ pub above_by : (x : Shown) (c : Class) (a : Above) (row : Rowed) (b : Bool) → 
 above_by x c a row true r h = record { place = row.class.loader; recorded = r.recorded; prepared = subst (λ (n : List ℕ). Contains (state_of x).prepared (class n row.class.loader)) r.named h }
 above_by x c a row false r h =
     λ p.
-    let same : row.class.loader ≡ p.place = place_is row.class.loader p.place (sym r.recorded ∙ p.recorded) in
+    let same : row.class.loader ≡ p.place = some_same row.class.loader p.place (sym r.recorded ∙ p.recorded) in
     h (subst (λ (d : Class). Contains (state_of x).prepared d) (ap (λ (n : List ℕ). class n p.place) (sym r.named) ∙ ap (λ (q : ℕ). class row.class.name q) (sym same)) p.prepared)
-  where
-    place_is : (p q : ℕ) → Some p ≡ Some q → p ≡ q
-    place_is p q e = cc
 
 pub above_none : (x : Shown) (c : Class) (a : Above) → LacksRecord x c.loader a.name → IsPreparedAbove x c a → ⊥
-above_none x c a none p = no_record _ p.place none p.recorded
-  where
-    no_record : (o : Option ℕ) (q : ℕ) → o ≡ None → o ≡ Some q → ⊥
-    no_record o q e f = cc
+above_none x c a none p = none_not_some _ none p.recorded
 
 -- what holds of each that there is holds of all
 pub each_above : (P : Above → Type 0) (xs : List Above) → ((k : ℕ) → k < length xs → IfSome (slice_get xs k) P) → AllByRecursion P xs

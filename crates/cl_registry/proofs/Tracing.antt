@@ -8,14 +8,15 @@ use Rattle.cl_model.specs.Content.{Content}
 use Rattle.cl_model.specs.Classes.{class, same_class}
 use Rattle.cl_model.specs.States.{IsRecorded, recorded}
 use Rattle.cl_model.proofs.Complete.{is_class}
-use Rattle.cl_hierarchy.specs.Lineages.{IsRowIn, Lined, rows_in}
+use Rattle.cl_hierarchy.specs.Lineages.{IsRowIn, Lined, rows_in, row_of}
 use Rattle.cl_hierarchy.specs.RowTables.{IsMadeOf}
 use Rattle.cl_hierarchy.specs.Rows.{Rowed}
-use Rattle.cl_registry.specs.Tables.{Shown, state_of, records_of, row_of, looked, IsKept, IsPlaced, LacksRecord, Records}
+use Rattle.cl_registry.specs.Tables.{Shown, state_of, records_of, looked, IsKept, IsPlaced, LacksRecord, Records}
 use Rattle.cl_registry.specs.Traced.{IsRowOf, IsTraced}
 use Rattle.cl_registry.proofs.Looked.{row_is}
 use Rattle.cl_registry.proofs.Placed.{recorded_row}
 use Rattle.cl_registry.proofs.Running.{IsKnown, all_known}
+use Rattle.cl_model.proofs.Bind.{none_not_some, value_same}
 
 -- ---- rows that are found
 
@@ -59,12 +60,6 @@ none_recorded told x c k none at = let r = recorded_row told x c.loader c.loader
 
 -- ---- what a loader has defined
 
-place_same : (o : Option ℕ) (p q : ℕ) → o ≡ Some p → o ≡ Some q → p ≡ q
-place_same o p q e f = cc
-
-no_record : (o : Option ℕ) (p : ℕ) → o ≡ None → o ≡ Some p → ⊥
-no_record o p e f = cc
-
 pub differs : (a b : ℕ) → false ≡ nat_eq a b → a ≡ b → ⊥
 differs a b h e = let t : nat_eq a b ≡ true = subst (λ (n : ℕ). nat_eq a n ≡ true) e (nat_eq_equiv.refl a) in let f : false ≡ true = h ∙ t in absurd cc
 
@@ -77,10 +72,10 @@ own_row x l n r rec at own = sym at ∙ looked_row x l l n (rec.recorded ∙ ap 
 
 pub other_row : (told : Option Content) (x : Shown) (l : ℕ) (n : List ℕ) (r : Rowed) → IsKept told x → Records x l n r → (r.class.loader ≡ l → ⊥) → None ≡ row_of x.rows (class n l)
 other_row told x l n r k rec other =
-    sym (none_or (row_of x.rows (class n l)) (λ s e. other (place_same (recorded (records_of x) l n) r.class.loader l rec.recorded (row_recorded told x (class n l) s k e))))
+    sym (none_or (row_of x.rows (class n l)) (λ s e. other (value_same r.class.loader l (recorded (records_of x) l n) rec.recorded (row_recorded told x (class n l) s k e))))
 
 pub lacks_row : (told : Option Content) (x : Shown) (l : ℕ) (n : List ℕ) → IsKept told x → LacksRecord x l n → None ≡ row_of x.rows (class n l)
-lacks_row told x l n k none = sym (none_or (row_of x.rows (class n l)) (λ s e. no_record (recorded (records_of x) l n) l none (row_recorded told x (class n l) s k e)))
+lacks_row told x l n k none = sym (none_or (row_of x.rows (class n l)) (λ s e. none_not_some (recorded (records_of x) l n) none (row_recorded told x (class n l) s k e)))
 
 -- ---- lineages
 

@@ -14,7 +14,8 @@ use Rattle.cl_hierarchy.specs.Imposed.{Listed, OfPreparation, equal_need, needs_
 use Rattle.cl_hierarchy.specs.Lineages.{Lined}
 use Rattle.cl_findings.specs.Findings.{Answered, IsLookedUp, Rests, Stands}
 use Rattle.cl_registry.specs.declared.registry.RegistryFault.TheVariants.{Stray}
-use Rattle.cl_registry.specs.Imposing.{AreOfConfig, IsListed, IsListOf, IsReady, MayImpose}
+use Rattle.cl_findings.specs.Bases.{IsListed}
+use Rattle.cl_registry.specs.Imposing.{AreOfConfig, IsListOf, IsReady, MayImpose}
 use Rattle.cl_registry.specs.Posting.{Fits}
 use Rattle.cl_registry.specs.Refusals.{DefineRefusedFor}
 use Rattle.cl_registry.specs.Tables.{Shown, state_of, records_of, NamesLoaders, IsKept, IsAsked, IsNew, LacksRecord, MayEnter, MayJoin, own_record, asked_record, MayGoOn}

@@ -15,7 +15,7 @@ use Rattle.cl_model.specs.Content.{Content}
 use Rattle.cl_config.specs.Views.{Configured}
 use Rattle.cl_delegation.specs.Worlds.{setting_of}
 use Rattle.cl_hierarchy.specs.Imposed.{Listed, AreOf, Sprung, OfPreparation, OfReference, equal_need, needs_of}
-use Rattle.cl_hierarchy.specs.Lineages.{Lined, IsLined, kin_of}
+use Rattle.cl_hierarchy.specs.Lineages.{Lined, kin_of}
 use Rattle.cl_registry.specs.Tables.{Shown, records_of, state_of}
 
 -- a lineage is of this configuration, and its class is recorded by its loader (5.3)
@@ -133,20 +133,10 @@ MayPrepareAs (Some content) x c = MayPrepare (setting_of x.config x.script conte
 
 -- ---- for the laws
 
--- the lineages that a list was made from are such (5.3.5)
-abbrev pub AreLineages : Option Content → Sprung → Type 0
-AreLineages told (OfReference d c index) = IsLined told d × IsLined told c
-AreLineages told (OfPreparation l) = IsLined told l
-
 -- they were made under this configuration
 abbrev pub AreOfConfig : Configured → Sprung → Type 0
 AreOfConfig config (OfReference d c index) = (d.config ≡ config) × (c.config ≡ config)
 AreOfConfig config (OfPreparation l) = l.config ≡ config
-
--- a list is the definitions' of what it was made from (5.4.2, 5.4.3)
-pub record IsListed (told : Option Content) (e : Listed) : Type 0 where
-  pub lineages : AreLineages told e.origin
-  pub are : AreOf e.origin (needs_of e.needs)
 
 -- the machine's own list for what a list was made from: a preparation's constraints, or the needs of a reference of a recorded
 -- class, which names the class c with its home (5.4.2, 5.4.3)

@@ -24,6 +24,7 @@ use Rattle.cl_delegation.specs.Searches.{Located}
 use Rattle.cl_delegation.specs.Worlds.{setting_of}
 use Rattle.cl_hierarchy.specs.Drafts.{Drafted, IsSpelt}
 use Rattle.cl_hierarchy.specs.Rows.{Rowed}
+use Rattle.cl_hierarchy.specs.Lineages.{row_of}
 use Rattle.cl_hierarchy.specs.RowTables.{AreRows}
 use Rattle.cl_findings.specs.Findings.{Answered}
 
@@ -139,10 +140,6 @@ pub record IsKept (told : Option Content) (x : Shown) : Type 0 where
   pub placed : AllByRecursion (IsPlaced (records_of x)) x.rows
 
 -- ---- rows
-
--- the row of a class, if it is defined (5.3.5)
-abbrev pub row_of : List Rowed → Class → Option Rowed
-row_of rows c = find (λ r. same_class r.class c) rows
 
 -- the row of the class that a loader has recorded for a name (5.3)
 abbrev pub looked : Shown → ℕ → List ℕ → Option Rowed

@@ -4,8 +4,8 @@ use Rattle.std.specs.List.{AllByRecursion}
 use Rattle.cl_model.specs.declared.class.Class.{Class}
 use Rattle.cl_model.specs.States.{IsRecorded}
 use Rattle.cl_hierarchy.specs.Rows.{Rowed}
-use Rattle.cl_hierarchy.specs.Lineages.{Lined, rows_in}
-use Rattle.cl_registry.specs.Tables.{Shown, state_of, records_of, row_of, IsPlaced}
+use Rattle.cl_hierarchy.specs.Lineages.{Lined, rows_in, row_of}
+use Rattle.cl_registry.specs.Tables.{Shown, state_of, records_of, IsPlaced}
 
 -- a row is its class's among the rows, the class is recorded, and so are its direct supertypes, by its loader (5.3, 5.3.5)
 pub record IsRowOf (x : Shown) (r : Rowed) : Type 0 where

@@ -11,7 +11,7 @@ ghost use Rattle.cl_model.specs.declared.event.Event.TheVariants as events;
 ghost use Rattle.cl_model.specs.declared.need.Need.TheVariants as needs;
 ghost use Rattle.cl_model.specs.States.{IsRecorded, Met, Refused};
 ghost use Rattle.cl_model.specs.Texts.{EqualityNames};
-ghost use Rattle.cl_registry.specs.Imposing.{IsListed, IsPreparedAbove, IsPreparedBy, IsReached, IsReady, IsStanding, IsUnmetIn, Marks, MayConstrainAs, MayImpose, MayMark, MayPrepareAs, StandsFor, with_constrain, with_prepare};
+ghost use Rattle.cl_registry.specs.Imposing.{IsPreparedAbove, IsPreparedBy, IsReached, IsReady, IsStanding, IsUnmetIn, Marks, MayConstrainAs, MayImpose, MayMark, MayPrepareAs, StandsFor, with_constrain, with_prepare};
 ghost use Rattle.cl_registry.specs.declared.registry.RegistryFault.TheVariants.{Memory};
 ghost use Rattle.cl_registry.specs.Refusals.{AddRefusedFor, BlamesIn, ImposeSays, MarkRefusedFor, fault_of};
 ghost use Rattle.cl_registry.specs.Tables.{IsKept, state_of};
@@ -21,26 +21,12 @@ use crate::registry::{Registry, RegistryFault};
 use crate::rounds::to_come;
 use crate::tables::has;
 use cl_constraints::{BookFault, ConstraintBook, GroupedBook, Refusal};
+use cl_findings::bring_lineages;
 use cl_hierarchy::{ClassRow, Equalities, Lineage, Origin, class_accessible};
 use cl_model::{Class, Equality, Event, Need, Told};
 use cl_names::{Name, Seed};
 use indexmap::IndexSet;
 use std::alloc::{AllocError, Global};
-
-/// Brings what a list keeps.
-fn keeps<T: Told>(list: &Equalities<T>)
-    ensures { IsListed T.told list.now }
-{
-    match list.origin() {
-        Origin::Reference { d, c, index: _ } => {
-            let _ = d.class();
-            let _ = c.class();
-        }
-        Origin::Preparation { lineage } => {
-            let _ = lineage.class();
-        }
-    }
-}
 
 /// Why a book did not take an equality.
 fn equality_fault(refusal: Refusal, equality: &Equality) -> RegistryFault
@@ -160,7 +146,7 @@ impl<T: Told> Registry<T> {
         requires may { MayImpose self.old list.now place }
         ensures says { ImposeSays T.told self.old self.new list.now place result }
     {
-        keeps(list);
+        bring_lineages(list);
         let equality = &list.needs()[place];
         if is_met(&self.book, self.met.as_slice(), place, equality) {
             self.remember(alloc, place, equality);
@@ -201,7 +187,7 @@ impl<T: Told> Registry<T> {
     {
         // brings what the registry keeps
         let _ = &self.config;
-        keeps(list);
+        bring_lineages(list);
         let Origin::Preparation { lineage } = list.origin() else {
             return Err(RegistryFault::Stray);
         };

@@ -2,11 +2,12 @@
 
 ghost use Rattle.std.specs.Prelude.{◌≡◌, IfErr, IfOk, OnOk};
 ghost use Rattle.std.specs.Option.{option_map};
+ghost use Rattle.cl_hierarchy.specs.Lineages.{row_of};
 ghost use Rattle.cl_hierarchy.specs.RowTables.{IsMadeOf};
 ghost use Rattle.cl_model.specs.Classes.{class};
 ghost use Rattle.cl_model.specs.States.{IsRecorded};
 ghost use Rattle.cl_registry.specs.Refusals.{LineageRefusedFor};
-ghost use Rattle.cl_registry.specs.Tables.{IsKept, row_of, state_of};
+ghost use Rattle.cl_registry.specs.Tables.{IsKept, state_of};
 ghost use Rattle.cl_registry.specs.Traced.{IsTraced};
 
 use crate::registry::{Registry, RegistryFault};

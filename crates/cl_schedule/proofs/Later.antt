@@ -7,7 +7,7 @@ use Rattle.std.proofs.lemmas.List.{append-nil}
 use Rattle.std.proofs.lemmas.List.Folds.{find-append}
 use Rattle.cl_classfile.specs.Files.{file_of}
 use Rattle.cl_config.specs.Loaders.{schedule_of}
-use Rattle.cl_hierarchy.specs.Lineages.{rows_in}
+use Rattle.cl_hierarchy.specs.Lineages.{rows_in, row_of}
 use Rattle.cl_hierarchy.specs.Rows.{Rowed}
 use Rattle.cl_model.specs.declared.answer.Answer as rust
 use Rattle.cl_model.specs.declared.class.Class.{Class}
@@ -25,7 +25,7 @@ use Rattle.cl_model.proofs.Sound.{prepared_stay, settled_stay}
 use Rattle.cl_model.proofs.Tables.{trusted_is_consistent}
 use Rattle.cl_model.proofs.Views.{state_then}
 use Rattle.cl_registry.specs.References.{IsSettledIn}
-use Rattle.cl_registry.specs.Tables.{Shown, ArePlaced, IsKept, IsOpen, IsTrusted, records_of, row_of, settled_at, settlements, state_of, steps, with_post}
+use Rattle.cl_registry.specs.Tables.{Shown, ArePlaced, IsKept, IsOpen, IsTrusted, records_of, settled_at, settlements, state_of, steps, with_post}
 use Rattle.cl_registry.specs.Traced.{IsRowOf}
 use Rattle.cl_registry.proofs.Histories.{steps_posts, unposted, settlements_then}
 use Rattle.cl_registry.proofs.Tracing.{looked_row}

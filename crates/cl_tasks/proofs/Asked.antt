@@ -2,7 +2,7 @@
 use Rattle.std.proofs.Common.{◌≡◌, inl, inr, ℕ, Bool, true, false, ◌==◌, ◌||◌, List, [], ◌∷◌, ◌++◌, Option, Some, None, refl, sym, ap, subst, ◌∙◌}
 use Rattle.std.specs.Prelude.{flat_map}
 use Rattle.std.specs.List.{list_any}
-use Rattle.std.proofs.lemmas.Bool.{eqb-true}
+use Rattle.std.proofs.lemmas.Bool.{and_parts, eqb-true}
 use Rattle.std.proofs.lemmas.Cmp.{nat_eq_equiv}
 use Rattle.cl_classfile.specs.Files.{Name, same_name}
 use Rattle.cl_model.specs.Homes.{World, home}
@@ -11,7 +11,7 @@ use Rattle.cl_model.specs.Classes.{class, same_class, is_among}
 use Rattle.cl_model.specs.Works.{Ask}
 use Rattle.cl_model.specs.Plans.{Plan, asked_at_home, same_ask}
 use Rattle.cl_model.specs.Frames.{Frame, IsFrames, path_of}
-use Rattle.cl_model.proofs.Marks.{In, in_left, in_right, and_two}
+use Rattle.cl_model.proofs.Marks.{In, in_left, in_right}
 use Rattle.cl_model.proofs.Asks.{distinct_has}
 use Rattle.cl_model.proofs.Homes.{home_of_home}
 use Rattle.cl_model.proofs.Runs.{names_equal}
@@ -81,7 +81,7 @@ among_stays (x ∷ xs) path c h = among_stays xs (x.class ∷ path) c (behind (s
 -- what is asked of a loader is asked for a class whose home that loader finds, so it is that class
 apart : (w : World) (name : Name) (q place l : ℕ) (c : Class) (cs : List Class) → home w q name ≡ Some place → home w l c.name ≡ Some c.loader → is_among cs c ≡ true → is_among cs (class name place) ≡ false → (t : Bool) → same_ask (ask_of name q) (ask_of c.name l) ≡ t → t ≡ false
 apart w name q place l c cs at found on out true e =
-    let both = and_two (q == l) (same_name name c.name) e in
+    let both = and_parts (q == l) (same_name name c.name) e in
     let one : q ≡ l = eqb-true q l both.0 in
     let two : name ≡ c.name = names_equal name c.name both.1 in
     let here : home w l c.name ≡ Some place = subst (λ (x : ℕ). home w x c.name ≡ Some place) one (subst (λ (x : Name). home w q x ≡ Some place) two at) in

@@ -44,9 +44,11 @@ use Rattle.cl_tasks.specs.declared.turn.Turn.TheVariants as turn
 use Rattle.cl_tasks.proofs.Deriving.{derives_more, past_derives}
 use Rattle.cl_tasks.proofs.Facts.{so_met, so_refuses}
 use Rattle.cl_tasks.proofs.Lacking.{posts_one, posts_or, shared_memory}
-use Rattle.cl_tasks.proofs.Lead.{leads_memory, leads_more, plain_no_fault, plain_reads}
+use Rattle.cl_tasks.proofs.Lead.{leads_memory, leads_more, plain_no_fault, plain_reads, not_false}
 use Rattle.cl_tasks.proofs.Reaching.{reached_left, reaches}
 use Rattle.cl_tasks.proofs.Said.{Stood, borne, concluded, concludes_at, found_is, said_of, stood_answers, unrecorded}
+use Rattle.std.proofs.lemmas.Option.{none-some}
+use Rattle.cl_model.proofs.Bind.{some_same}
 
 same_room : (m : ℕ) → m ≤ m
 same_room m = omega arith
@@ -83,10 +85,6 @@ reference_steps {A = A} told c e o n l own plain derives = record {
 
 -- ---- tests
 
-not_false : (b : Bool) → not b ≡ false → b ≡ true
-not_false true e = refl
-not_false false e = absurd cc
-
 pub texts_same : (a b : List ℕ) → not (pointwise eqb a b) ≡ false → a ≡ b
 texts_same a b e = same_text a b (sym (not_false (pointwise eqb a b) e))
 
@@ -96,14 +94,8 @@ decided false d e = absurd cc
 
 -- ---- the second look for the class
 
-some_request : (a b : Request) → Some a ≡ Some b → a ≡ b
-some_request a b e = cc
-
 equal_room : (a b : ℕ) → a ≡ b → a ≤ b
 equal_room a b e = omega (arith, e)
-
-none_some : {n : ℕ} → None ≡ Some n → ⊥
-none_some e = absurd cc
 
 failed_whole : {A : Type 0} (told : Option Content) (c : Configured) (f : Failed A) (failed : IsFailed told c f) → f.finding ≡ said_of f.request failed.verdict failed.basis
 failed_whole told c f failed = found_is f.finding f.request failed.verdict failed.basis failed.same failed.said failed.rests_on
@@ -124,7 +116,7 @@ failed_unrecorded told c f failed g x served facts =
 
 -- so nothing is found there
 found_never : {A : Type 0} (told : Option Content) (c : Configured) (f : Failed A) → IsFailed told c f → (row : Arc (ClassRow A) Global) (g : Setting) (x : Shown) → ServedIn told c g (state_of x) → Tells {A = A} x (resolving_at c (resolutions.Checking f)) (reply.Looked (Some row)) → ⊥
-found_never told c f failed row g x served h = none_some (sym (failed_unrecorded told c f failed g x served h.before.facts) ∙ h.now.recorded)
+found_never told c f failed row g x served h = none-some _ (sym (failed_unrecorded told c f failed g x served h.before.facts) ∙ h.now.recorded)
 
 pub found_steps : {A : Type 0} (told : Option Content) (c : Configured) (f : Failed A) (row : Arc (ClassRow A) Global) (n : Next A) → IsFailed told c f → row.value.class.name ≡ name_of f.request → ReachesBy f.q f.request row n
     → GoesOnWith f.request row.value.class (task_at c n.stage) n.turn → IsPlain n.turn → IsPast n.stage → Steps told (resolving_at c (resolutions.Checking f)) (reply.Looked (Some row)) n
@@ -138,7 +130,7 @@ found_steps {A = A} told c f row n failed name by goes plain past = record {
   lacks = λ h. tt;
   reads = plain_reads {A = A} (resolving_at c (resolutions.Checking f)) (reply.Looked (Some row)) n.turn plain;
   derives = past_derives (WasAbsent {A = A} (resolving_at c (resolutions.Checking f)) (reply.Looked (Some row))) [] n.stage past;
-  own = λ r e w frames facts. subst (λ (k : Request). GoesOnWith k row.value.class (task_at c n.stage) n.turn) (some_request f.request r e) goes;
+  own = λ r e w frames facts. subst (λ (k : Request). GoesOnWith k row.value.class (task_at c n.stage) n.turn) (some_same f.request r e) goes;
 }
 
 -- memory ran out at what was found
@@ -156,7 +148,7 @@ found_out {A = A} told c f row failed = record {
   lacks = λ h. tt;
   reads = tt;
   derives = tt;
-  own = λ r e w frames facts. subst (λ (k : Request). GoesOnWith {A = A} k row.value.class (task_at {A = A} c (memory_ends f.q f.request).stage) (memory_ends f.q f.request).turn) (some_request f.request r e) (memory_goes f.q f.request row.value.class (task_at {A = A} c (memory_ends f.q f.request).stage) (memory_ends f.q f.request) refl);
+  own = λ r e w frames facts. subst (λ (k : Request). GoesOnWith {A = A} k row.value.class (task_at {A = A} c (memory_ends f.q f.request).stage) (memory_ends f.q f.request).turn) (some_same f.request r e) (memory_goes f.q f.request row.value.class (task_at {A = A} c (memory_ends f.q f.request).stage) (memory_ends f.q f.request) refl);
 }
 
 pub unfound_out : {A : Type 0} (told : Option Content) (c : Configured) (f : Failed A) → IsFailed told c f → Steps {A = A} told (resolving_at c (resolutions.Checking f)) (reply.Looked None) (memory_ends f.q f.request)
@@ -191,7 +183,7 @@ failed_stood told c f failed rests within =
 
 -- of a request to resolve, where its class is not recorded, the tables bear any verdict
 unreached_bears : (s : State) (r : Request) (i : ℕ) (v : verdict.Verdict) → r ≡ requests.Resolve (loader_of r) (name_of r) i → recorded s.records (loader_of r) (name_of r) ≡ None → Bears s (request_of r) (verdict_of v)
-unreached_bears s r i v is free = subst (λ (k : Request). Bears s (request_of k) (verdict_of v)) (sym is) (λ d kept. absurd (none_some (sym free ∙ kept.1)))
+unreached_bears s r i v is free = subst (λ (k : Request). Bears s (request_of k) (verdict_of v)) (sym is) (λ d kept. absurd (none-some _ (sym free ∙ kept.1)))
 
 -- and what it answers is what it comes to
 unreached_answers : (g : Setting) (s : State) (r : Request) (i : ℕ) (v : verdict.Verdict) → r ≡ requests.Resolve (loader_of r) (name_of r) i → recorded s.records (loader_of r) (name_of r) ≡ None → AnswersPlan g s (request_of r) (verdict_of v) → ComesTo g s (request_of r) (verdict_of v)

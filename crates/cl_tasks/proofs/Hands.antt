@@ -1,7 +1,7 @@
 -- What is in hand while a load goes on, and what is open beside it.
 use Rattle.std.proofs.Common.{◌≡◌, ◌≢◌, ◌+◌, ◌-◌, ℕ, Bool, true, false, not, ◌||◌, ◌&&◌, if◌then◌else◌, List, [], ◌∷◌, ◌++◌, length, Option, Some, None, refl, sym, ap, subst, arith}
 use Rattle.std.specs.List.{list_any}
-use Rattle.std.proofs.lemmas.Bool.{eq-eqb, ne_eqb}
+use Rattle.std.proofs.lemmas.Bool.{eq-eqb, ne_eqb, or_parts, or_from}
 use Rattle.std.proofs.lemmas.Cmp.{nat_eq_equiv, nat_list_eq_equiv}
 use Rattle.cl_classfile.specs.Files.{Name}
 use Rattle.cl_model.specs.Classes.{supers}
@@ -24,18 +24,11 @@ IsNone a asks = list_any (same_ask a) asks ≡ false
 pub same_itself : (a : Ask) → same_ask a a ≡ true
 same_itself a = rw (nat_eq_equiv.refl a.loader) (rw (nat_list_eq_equiv.refl a.name) refl)
 
-either_none : (a b : Bool) → (a || b) ≡ false → (a ≡ false) × (b ≡ false)
-either_none true b h = absurd cc
-either_none false b h = (refl, h)
-
-none_either : (a b : Bool) → a ≡ false → b ≡ false → (a || b) ≡ false
-none_either a b h k = rw h k
-
 pub none_here : (a b : Ask) (asks : List Ask) → IsNone a (b ∷ asks) → (same_ask a b ≡ false) × IsNone a asks
-none_here a b asks h = either_none (same_ask a b) (list_any (same_ask a) asks) h
+none_here a b asks h = or_parts (same_ask a b) (list_any (same_ask a) asks) h
 
 pub none_more : (a b : Ask) (asks : List Ask) → same_ask a b ≡ false → IsNone a asks → IsNone a (b ∷ asks)
-none_more a b asks h k = none_either (same_ask a b) (list_any (same_ask a) asks) h k
+none_more a b asks h k = or_from (same_ask a b) (list_any (same_ask a) asks) h k
 
 pub none_two : (a : Ask) (xs ys : List Ask) → IsNone a (xs ++ ys) → IsNone a xs × IsNone a ys
 none_two a [] ys h = (refl, h)

@@ -210,7 +210,7 @@ leads_fault told c q r name loader holds asked within = record {
 
 -- ---- comparisons
 
-not_false : (b : Bool) → not b ≡ false → b ≡ true
+pub not_false : (b : Bool) → not b ≡ false → b ≡ true
 not_false true h = refl
 not_false false h = absurd cc
 

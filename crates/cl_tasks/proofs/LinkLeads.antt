@@ -29,16 +29,16 @@ use Rattle.cl_model.proofs.Gone.{link_refusal_comes}
 use Rattle.cl_config.specs.Views.{Configured}
 use Rattle.cl_delegation.specs.Worlds.{world_of}
 use Rattle.cl_hierarchy.specs.Imposed.{AreOf, Listed, OfPreparation, Sprung, equal_need, needs_of}
-use Rattle.cl_hierarchy.specs.Lineages.{IsInOrder, IsLineageOf, Lined, kin_of, rows_in}
+use Rattle.cl_hierarchy.specs.Lineages.{IsInOrder, IsLined, IsLineageOf, Lined, kin_of, rows_in, row_of}
 use Rattle.cl_hierarchy.specs.Rows.{Rowed}
-use Rattle.cl_findings.specs.Bases.{AreLineages}
+use Rattle.cl_findings.specs.Bases.{AreLineages, IsListed}
 use Rattle.cl_findings.specs.Findings.{Answered, Based, BasisStands, IsLookedUp, IsWithin, loader_of}
 use Rattle.cl_findings.specs.References.{link_basis}
 use Rattle.cl_findings.proofs.Links.{lineage_classes}
 use Rattle.cl_findings.proofs.References.{next_at, whole_taken}
 use Rattle.cl_registry.specs.Imposing.{IsNextOf, IsPreparedAbove, IsReady, IsReadyBy, IsStanding, MayImpose, MayMark, StandsFor}
 use Rattle.cl_registry.specs.Posting.{AnswerBacked, IsBacked}
-use Rattle.cl_registry.specs.Tables.{NamesLoaders, Shown, records_of, row_of, state_of}
+use Rattle.cl_registry.specs.Tables.{NamesLoaders, Shown, records_of, state_of}
 use Rattle.cl_registry.specs.Traced.{IsRowOf}
 use Rattle.cl_registry.proofs.Linked.{prepared_comes}
 use Rattle.cl_registry.proofs.Named.{recorded_is_named}
@@ -64,6 +64,7 @@ use Rattle.cl_tasks.proofs.LinkFacts.{all_at, chain_goal, chain_of, chain_prepar
 use Rattle.cl_tasks.proofs.LinkNamed.{refused_named}
 use Rattle.cl_tasks.proofs.LinkPlan.{IsThere, chain_step, chain_within, equality_next, preparation_next, there}
 use Rattle.cl_tasks.proofs.MemberFacts.{traced_as}
+use Rattle.cl_model.proofs.Tables.{one_linked}
 
 -- ---- in general
 
@@ -129,13 +130,10 @@ whole_asked told c g prepared k goal is = record {
 link_looks_up : (r : request.Request) (name : List ℕ) (d : Class) → r ≡ requests.Link (loader_of r) name → IsLookedUp r (verdicts.Linked d)
 link_looks_up r name d is = subst (λ (q : request.Request). IsLookedUp q (verdicts.Linked d)) (sym is) tt
 
-linked_is : (d e : Class) → IsLinked d ≡ IsLinked e → d ≡ e
-linked_is d e h = cc
-
 linked_borne : (s : State) (r : request.Request) (d : Class) → r ≡ requests.Link (loader_of r) d.name → recorded s.records (loader_of r) d.name ≡ Some d.loader → Contains s.prepared d → Bears s (request_of r) (IsLinked d)
 linked_borne s r d is at prepared =
     subst (λ (q : request.Request). Bears s (request_of q) (IsLinked d)) (sym is)
-    (λ e h. subst (λ (k : Class). ((k.name ≡ d.name) × (recorded s.records (loader_of r) d.name ≡ Some k.loader)) × Contains s.prepared k) (linked_is d e h) ((refl, at), prepared))
+    (λ e h. subst (λ (k : Class). ((k.name ≡ d.name) × (recorded s.records (loader_of r) d.name ≡ Some k.loader)) × Contains s.prepared k) (one_linked e d h) ((refl, at), prepared))
 
 -- the answer of a link
 abbrev pub linked_answer : request.Request → Class → Answered
@@ -402,18 +400,17 @@ pub record IsKnown {A : Type 0} (told : Option Content) (k : Chain A) (e : Liste
   pub place : IsAtPlace k e
   pub order : IsInOrder k.whole.value
   pub whole : IsLineageOf told k.whole.value
-  pub lineages : AreLineages told e.origin
-  pub are : AreOf e.origin (needs_of e.needs)
+  pub listed : IsListed told e
 
 module _ {A : Type 0} (told : Option Content) (c : Configured) (k : Chain A) (e : Listed) (chain : IsChain c k) (known : IsKnown told k e) where
   at : Lined
   at = known.place.at
 
   are : needs_of e.needs ≡ constraints_of (kin_of known.place.at)
-  are = subst (λ (from : Sprung). AreOf from (needs_of e.needs)) known.place.prepares known.are
+  are = subst (λ (from : Sprung). AreOf from (needs_of e.needs)) known.place.prepares known.listed.are
 
   other : IsLineageOf told known.place.at
-  other = subst (λ (from : Sprung). AreLineages told from) known.place.prepares known.lineages
+  other = let lined : IsLined told known.place.at = subst (λ (from : Sprung). AreLineages told from) known.place.prepares known.listed.lineages in lined.lineage
 
   -- the lineage of the class at the place stands
   standing : (x : Shown) (i : ℕ) → ListTold k e i x → IsStanding x known.place.at

@@ -39,6 +39,7 @@ use Rattle.cl_tasks.proofs.Deriving.{past_derives}
 use Rattle.cl_tasks.proofs.Lead.{HasPost, leads_more, plain_no_fault, plain_reads}
 use Rattle.cl_tasks.proofs.LinkFacts.{list_chain, list_imposed, list_of, list_traced, row_there, met_more}
 use Rattle.cl_tasks.proofs.LinkLeads.{chain_some_calls, fewer_calls, post_calls, post_room}
+use Rattle.std.proofs.lemmas.Option.{none-some}
 
 same_turns : (m : ℕ) → m ≤ m
 same_turns m = omega arith
@@ -158,14 +159,11 @@ traced_steps {A = A} told c k at n l plain past =
 
 -- ---- equalities
 
-none_some : {A : Type 0} (a : A) → None ≡ Some a → ⊥
-none_some a h = cc
-
 imposed_told : {A : Type 0} (k : Chain A) (e : Listed) (i : ℕ) (x : Shown) (o : Option Equality) → slice_get e.needs i ≡ o → i < length e.needs → IsAtPlace k e → ListTold k e i x → IfSome o (λ n. Met (state_of x) (equal_need n)) → ListTold k e (i + 1) x
 imposed_told k e i x None at lt place h one = absurd (past e.needs i at lt)
   where
     past : (ys : List Equality) (j : ℕ) → slice_get ys j ≡ None → j < length ys → ⊥
-    past ys j f g = let s = some_at ys j g in none_some s.0 (sym f ∙ s.1)
+    past ys j f g = let s = some_at ys j g in none-some s.0 (sym f ∙ s.1)
 imposed_told k e i x (Some y) at lt place h one =
     list_of x k e (i + 1) place.at place.prepares (list_chain x k e i h) (list_traced x k e i place.at place.prepares h) (met_more x e i y at (list_imposed x k e i h) one)
 

@@ -59,6 +59,6 @@ member_few told c m g x p member lineages are served is h =
     let both : AreLineages told (OfReference d k m.found.index) = subst (λ (o : Sprung). AreLineages told o) member.origin lineages in
     let lined : AreLineages (Some served.content) (OfReference d k m.found.index) = subst (λ (t : Option Content). AreLineages t (OfReference d k m.found.index)) served.told_so both in
     let world : g.world ≡ world_of d.config served.content = ap (λ (k : Setting). k.world) served.setting ∙ ap (λ (a : Configured). world_of a served.content) (sym member.own.config) in
-    member_counts served.content r d k m.found.index m.equalities.value.needs s p member.reference lined.0 lined.1 from
+    member_counts served.content r d k m.found.index m.equalities.value.needs s p member.reference lined.0.lineage lined.1.lineage from
     (subst (λ (w : World). IsClosed w s) world served.sound.closed) h.0 h.1.0
     (subst (λ (w : World). IsPlan w (request_of r) p) world is)

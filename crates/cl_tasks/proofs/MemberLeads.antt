@@ -28,7 +28,7 @@ use Rattle.cl_hierarchy.specs.Lineages.{Lined}
 use Rattle.cl_hierarchy.specs.Rows.{Rowed}
 use Rattle.cl_members.specs.Asking.{IsDeniedIn, IsLocated}
 use Rattle.cl_members.specs.declared.fault.LookupFault.{LookupFault}
-use Rattle.cl_findings.specs.Bases.{AreLineages}
+use Rattle.cl_findings.specs.Bases.{IsListed}
 use Rattle.cl_findings.specs.Findings.{Answered, Based, Rests, loader_of}
 use Rattle.cl_findings.specs.References.{AreAsked, IsOfFound, asked_basis, class_basis, config_of, fault_verdict, member_basis, reference_needs, sprung_needs}
 use Rattle.cl_findings.proofs.References.{asked_rests}
@@ -126,11 +126,6 @@ own_taken told c e own k d entry of is = record {
 
 -- ---- equalities
 
--- what a list of a member was made from, and what is known of it
-pub record IsKnown {A : Type 0} (told : Option Content) (m : Member A) : Type 0 where
-  pub lineages : AreLineages told m.equalities.value.origin
-  pub are : AreOf m.equalities.value.origin (needs_of m.equalities.value.needs)
-
 module _ {A : Type 0} (told : Option Content) (c : Configured) (m : Member A) (member : IsMember c m) where
   asked : AreAsked m.entry.request m.equalities.value.origin
   asked = subst (λ (from : Sprung). AreAsked m.entry.request from) (sym member.origin) member.reference
@@ -144,12 +139,12 @@ module _ {A : Type 0} (told : Option Content) (c : Configured) (m : Member A) (m
       (met_both (state_of x) (reference_needs m.entry.request m.found.d.own.class m.found.c.own.class) (take i (needs_of m.equalities.value.needs)) (member_needs x m i h) (member_imposed x m i h))
 
   -- the equality at a place comes next, where those before it are imposed
-  next : IsKnown told m → (g : Setting) (x : Shown) (i : ℕ) (need : rust.Need) → slice_get (needs_of m.equalities.value.needs) i ≡ Some (need_of need) → ServedIn told c g (state_of x) → ImposedTold m i x → IsNextNeed g.world (state_of x) (request_of m.entry.request) (need_of need)
+  next : IsListed told m.equalities.value → (g : Setting) (x : Shown) (i : ℕ) (need : rust.Need) → slice_get (needs_of m.equalities.value.needs) i ≡ Some (need_of need) → ServedIn told c g (state_of x) → ImposedTold m i x → IsNextNeed g.world (state_of x) (request_of m.entry.request) (need_of need)
   next known g x i need is served h =
       (concludes_at told c g (state_of x) m.entry.request (verdicts.Linkage need) (asked_basis m.entry.request m.equalities.value i (need_of need)) served
       (asked_rests told m.entry.request m.equalities.value i need asked known.lineages known.are is) config_is refl (needs_met x i h)).next
 
-  wanted : IsKnown told m → (g : Setting) (x : Shown) (i : ℕ) (y : Equality) → slice_get (needs_of m.equalities.value.needs) i ≡ Some (equal_need y) → ServedIn told c g (state_of x) → ImposedTold m i x → IsWanted g (state_of x) m.entry.request (equal_need y)
+  wanted : IsListed told m.equalities.value → (g : Setting) (x : Shown) (i : ℕ) (y : Equality) → slice_get (needs_of m.equalities.value.needs) i ≡ Some (equal_need y) → ServedIn told c g (state_of x) → ImposedTold m i x → IsWanted g (state_of x) m.entry.request (equal_need y)
   wanted known g x i y is served h =
       let first = next known g x i (needs.Equal y) is served h in
       let resolves = member.entry.of in
@@ -161,7 +156,7 @@ module _ {A : Type 0} (told : Option Content) (c : Configured) (m : Member A) (m
             (subst (λ (q : Request). IsNextNeed g.world (state_of x) (request_of q) (equal_need y)) resolves first) may);
       }
 
-  pub wanted_next : IsKnown told m → (g : Setting) (x : Shown) (i : ℕ) → i < length m.equalities.value.needs → ServedIn told c g (state_of x) → ImposedTold m i x → IsNextOf m.equalities.value i (IsWanted g (state_of x) m.entry.request)
+  pub wanted_next : IsListed told m.equalities.value → (g : Setting) (x : Shown) (i : ℕ) → i < length m.equalities.value.needs → ServedIn told c g (state_of x) → ImposedTold m i x → IsNextOf m.equalities.value i (IsWanted g (state_of x) m.entry.request)
   wanted_next known g x i lt served h =
       let one = some_at m.equalities.value.needs i lt in
       let there : slice_get (needs_of m.equalities.value.needs) i ≡ Some (equal_need one.0) = slice_get-map equal_need m.equalities.value.needs i ∙ ap (λ (o : Option Equality). option_map equal_need o) one.1 in
@@ -181,7 +176,7 @@ module _ {A : Type 0} (told : Option Content) (c : Configured) (m : Member A) (m
   one_more : (a : ℕ) → a < a + 1
   one_more a = omega arith
 
-  pub impose_leads : IsKnown told m → (i : ℕ) (shared : Arc Listed Global) → shared.value ≡ m.equalities.value → i < length m.equalities.value.needs
+  pub impose_leads : IsListed told m.equalities.value → (i : ℕ) (shared : Arc Listed Global) → shared.value ≡ m.equalities.value → i < length m.equalities.value.needs
       → LeadsBy told c m.entry.q m.entry.request (imposing_room m i) (ImposedTold m i) (record { stage = stages.Resolve (resolutions.Imposing m i); turn = turn.Impose shared i })
   impose_leads known i shared same lt = record {
     kept = (member, lt);
@@ -249,7 +244,7 @@ pub two_within : {A : Type 0} (told : Option Content) (c : Configured) (m : Memb
 two_within told c m place now = λ g x p served is h. omega arith
 
 -- the equalities of a member are within what its request may still need
-pub member_within : {A : Type 0} (told : Option Content) (c : Configured) (m : Member A) (own named : Lined) → IsMember c m → IsOf c m.entry.d.value.class own → m.found.d ≡ own → m.found.c ≡ named → IsKnown told m
+pub member_within : {A : Type 0} (told : Option Content) (c : Configured) (m : Member A) (own named : Lined) → IsMember c m → IsOf c m.entry.d.value.class own → m.found.d ≡ own → m.found.c ≡ named → IsListed told m.equalities.value
     → Holding told c (TracedTold m.entry own named) m.entry.request (imposing_room m 0).calls tracing_named_room
 member_within told c m own named member of one two known = λ g x p served is h.
     let few = member_few told c m g x p member known.lineages known.are served is (member_told c x m own named of one two h) in

@@ -20,6 +20,7 @@ use Rattle.cl_tasks.specs.Turns.{IsBehind}
 use Rattle.cl_tasks.specs.declared.stage.Job.{Job}
 use Rattle.cl_tasks.specs.declared.turn.Turn.{Turn}
 use Rattle.cl_tasks.specs.declared.turn.Turn.TheVariants as turn
+use Rattle.std.proofs.lemmas.Option.{none-some}
 
 -- a way goes through the first so many loaders alone, and is no longer
 record IsShort (n : ℕ) (way : List ℕ) : Type 0 where
@@ -176,9 +177,6 @@ reads_fewer xs s new p l e is = subst (λ (u : Searched). left_at phases.Reading
 
 -- ---- what is read next
 
-none_is : (l : ℕ) → None ≡ Some l → ⊥
-none_is l e = cc
-
 one_more_is : (n : ℕ) → n + 1 ≡ suc n
 one_more_is n = omega arith
 
@@ -218,7 +216,7 @@ behind : (s : Searched) (p : Found) (l : ℕ) → next_of s ≡ Some p.loader �
 behind s p l before e = step p.bytes refl e
   where
     step : (o : Option (List ℕ)) → p.bytes ≡ o → next_of (with_bytes s p o) ≡ Some l → IsBehind (route_of s) p l
-    step (Some bytes) is f = absurd (none_is l f)
+    step (Some bytes) is f = absurd (none-some l f)
     step None is f = record {
       nothing = is;
       place = length s.absent;

@@ -41,6 +41,7 @@ use Rattle.cl_registry.proofs.Binding.{array_is, bad_is}
 use Rattle.cl_tasks.specs.Follows.{IsSettledNext, ServedIn}
 use Rattle.cl_tasks.specs.Ends.{IsNoResolution}
 use Rattle.cl_tasks.specs.Stages.{IsFailure, load_of}
+use Rattle.std.proofs.lemmas.Option.{none-some}
 
 -- a finding that says a verdict, with its basis
 abbrev pub said_of : Request → verdict.Verdict → Based → Answered
@@ -267,9 +268,6 @@ met_first : (s : State) (xs ys : List Need) → AllMet s (xs ++ ys) → AllMet s
 met_first s [] ys h = tt
 met_first s (x ∷ xs) ys h = (h.0, met_first s xs ys h.1)
 
-none_some : {n : ℕ} → None ≡ Some n → ⊥
-none_some e = absurd cc
-
 -- a link whose class is not recorded comes to it
 link_comes_so : (g : Setting) (s : State) (l : ℕ) (n : List ℕ) (o : Option Need) (cs : List Class) (v : Verdict) → recorded s.records l n ≡ None → IsRecordIn o → Concludes g.world s (plans.Link l n) o cs v → IfSome o (Refused s) → ComesTo g s (plans.Link l n) v
 link_comes_so g s l n None cs v free is h refused = unreached_comes g s (plans.Link l n) h.plan v h.planned (unreached h.plan.reached refl) (answers_here g s (plans.Link l n) v h)
@@ -278,7 +276,7 @@ link_comes_so g s l n None cs v free is h refused = unreached_comes g s (plans.L
     unreached None e = e
     unreached (Some d) e =
         let at = reached_records g.world s (plans.Link l n) h.plan d h.planned e (met_first s h.plan.own h.plan.more h.met) in
-        absurd (none_some (sym free ∙ at.1))
+        absurd (none-some _ (sym free ∙ at.1))
 link_comes_so g s l n (Some (Entry loader name place)) cs v free is h refused = subst (λ (u : Verdict). ComesTo g s (plans.Link l n) u) (sym h.linkage) (link_record_comes g s l loader place n name h.next refused)
 link_comes_so g s l n (Some (Equal name a b)) cs v free is h refused = absurd is
 

@@ -29,11 +29,9 @@ use Rattle.cl_tasks.specs.declared.turn.Turn.TheVariants as turn
 use Rattle.cl_tasks.proofs.Blaming.{reply_blames}
 use Rattle.cl_tasks.proofs.Deriving.{derives_so}
 use Rattle.cl_tasks.proofs.Left.{stage_left}
+use Rattle.std.proofs.lemmas.Option.{none-some}
 
 -- ---- no reply is one to the end
-
-none_is : {A : Type 0} (a : A) → None ≡ Some a → ⊥
-none_is a h = cc
 
 ended_begins : waits.Ended ≡ waits.Beginning → ⊥
 ended_begins h = cc
@@ -50,7 +48,7 @@ ended_alone c (reply.Settled s) h = h
 ended_alone c reply.Imposed h = h
 ended_alone c (reply.LookedPrepared b) h = h
 ended_alone c reply.Marked h = h
-ended_alone c (reply.Refused n) h = none_is _ h
+ended_alone c (reply.Refused n) h = none-some _ h
 ended_alone c reply.Memory h = h refl
 ended_alone c (reply.SourceFault f) h = h
 

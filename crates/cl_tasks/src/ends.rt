@@ -137,17 +137,15 @@ pub(crate) fn obstacle<T: Told>(alloc: Global, job: Job<T>, end: Obstacle<T>) ->
     let Ok(aftermath) = what_follows(alloc, &job) else {
         return out_of_memory(job.q, job.request);
     };
-    let Job {
-        q,
-        request,
-        target,
-        path,
-    } = job;
     // brings what an obstacle rests on, and that what is recorded was defined by a loader of the
     // configuration
-    bring_end(&path, &end);
+    bring_end(&job.path, &end);
     recorded_is_named();
-    conclude(q, aftermath, Finding::obstacle(request, target, path, end))
+    conclude(
+        job.q,
+        aftermath,
+        Finding::obstacle(job.request, job.target, job.path, end),
+    )
 }
 
 /// The record that comes next is refused.
@@ -169,18 +167,12 @@ pub(crate) fn refuse<T: Told>(
     let Ok(aftermath) = what_follows(alloc, &job) else {
         return out_of_memory(job.q, job.request);
     };
-    let Job {
-        q,
-        request,
-        target,
-        path,
-    } = job;
     // brings what a refusal rests on
-    bring_next(&path, &next);
+    bring_next(&job.path, &next);
     conclude(
-        q,
+        job.q,
         aftermath,
-        Finding::refused(request, target, path, next, need),
+        Finding::refused(job.request, job.target, job.path, next, need),
     )
 }
 

@@ -3,8 +3,7 @@
 
 ghost use Rattle.std.specs.Option.{option_map};
 ghost use Rattle.std.specs.Prelude.{◌≡◌, ◌<◌, ◌≤◌, Some, IfOk, length, slice_get, take, true};
-ghost use Rattle.cl_findings.specs.Bases.{AreLineages};
-ghost use Rattle.cl_hierarchy.specs.Imposed.{AreOf, OfPreparation, needs_of};
+ghost use Rattle.cl_hierarchy.specs.Imposed.{OfPreparation, needs_of};
 ghost use Rattle.cl_hierarchy.specs.Lineages.{rows_in};
 ghost use Rattle.cl_model.specs.States.{AllMet, State};
 ghost use Rattle.cl_model.specs.Views.{need_of};
@@ -22,8 +21,8 @@ use crate::leads::{out_of_memory, post};
 use crate::stage::{Chain, Goal, Link, Next, Stage};
 use crate::turn::Turn;
 use cl_config::Config;
-use cl_findings::Finding;
-use cl_hierarchy::{ClassRow, Equalities, Lineage, Origin};
+use cl_findings::{Finding, bring_lineages};
+use cl_hierarchy::{ClassRow, Equalities, Lineage};
 use cl_model::{Class, Need, Told};
 use cl_preparation::constraints_of;
 use std::alloc::{AllocError, Global};
@@ -243,7 +242,7 @@ pub(crate) fn take_traced<T: Told>(
         Ok(list) => {
             // brings that a `usize` counts them, and what the list keeps
             let _ = count_needs(&list);
-            bring_list(&list);
+            bring_lineages(&list);
             impose(alloc, config, chain, list, 0)
         }
     }
@@ -265,22 +264,6 @@ pub(crate) fn count_needs<T: Told>(list: &Equalities<T>) -> usize
     ensures { result ≡ length list.now.needs }
 {
     list.needs().len()
-}
-
-/// Brings what a list keeps, and that the lineages that it was made from are those of their world.
-pub(crate) fn bring_list<T: Told>(list: &Equalities<T>)
-    ensures kept { AreOf list.now.origin (needs_of list.now.needs) }
-    ensures lineages { AreLineages T.told list.now.origin }
-{
-    match list.origin() {
-        Origin::Reference { d, c, .. } => {
-            let _ = d.class();
-            let _ = c.class();
-        }
-        Origin::Preparation { lineage } => {
-            let _ = lineage.class();
-        }
-    }
 }
 
 /// The first place from this one on whose equality is of two loaders: one of a loader with itself stands from the start
@@ -320,36 +303,16 @@ pub(crate) fn impose<T: Told>(
     ensures past { IsPast result.stage }
 {
     let next = next_of_two(&list, place);
-    impose_at(alloc, config, chain, list, next)
-}
-
-/// Imposes the equality at this place of a list, or marks the class as prepared where none is left.
-fn impose_at<T: Told>(
-    alloc: Global,
-    config: &Arc<Config>,
-    chain: Chain<T>,
-    list: Arc<Equalities<T>>,
-    place: usize,
-) -> Next<T>
-    requires chain { IsChain config.now.value chain }
-    requires list { IsAtPlace chain list.value }
-    requires within { place ≤ length list.value.needs }
-    ensures leads { LeadsBy T.told config.now.value chain.goal.q chain.goal.request
-        (linking_room chain list.value place)
-        (ListTold chain list.value place) result }
-    ensures plain { IsPlain result.turn }
-    ensures past { IsPast result.stage }
-{
     // brings what the lineage and the list keep
     let _ = chain.whole.class();
-    bring_list(&list);
+    bring_lineages(&list);
     let Ok(shared) = Arc::try_clone(&list) else {
         return give_up(chain);
     };
-    if place < count_needs(&list) {
+    if next < count_needs(&list) {
         Next {
-            stage: Stage::Link(Link::Imposing(chain, list, place)),
-            turn: Turn::Impose(shared, place),
+            stage: Stage::Link(Link::Imposing(chain, list, next)),
+            turn: Turn::Impose(shared, next),
         }
     } else {
         Next {
@@ -402,7 +365,7 @@ pub(crate) fn refuse_link<T: Told>(
 {
     // brings what the lineage and the list keep
     let _ = chain.whole.class();
-    bring_list(&list);
+    bring_lineages(&list);
     let Chain {
         goal,
         whole,

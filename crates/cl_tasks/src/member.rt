@@ -19,12 +19,12 @@ ghost use Rattle.cl_tasks.specs.Turns.{equality_at};
 
 use crate::cited::{Kind, kind_of};
 use crate::leads::{out_of_memory, settle};
-use crate::link::{bring_list, count_needs};
+use crate::link::count_needs;
 use crate::stage::{Entry, Member, Next, Resolution, Stage};
 use crate::turn::Turn;
 use cl_classfile::Reference;
 use cl_config::Config;
-use cl_findings::Finding;
+use cl_findings::{Finding, bring_lineages};
 use cl_hierarchy::{ClassRow, Equalities, Lineage, class_accessible};
 use cl_members::{Found, LookupFault, equalities, find_field, find_interface_method, find_method};
 use cl_model::{Class, ErrorKind, Need, Told, Verdict};
@@ -194,7 +194,7 @@ fn find<T: Told>(
             Ok(equalities) => {
                 // brings that a `usize` counts them, and what the list keeps
                 let _ = count_needs(&equalities);
-                bring_list(&equalities);
+                bring_lineages(&equalities);
                 impose(
                     alloc,
                     config,
@@ -292,7 +292,7 @@ pub(crate) fn impose<T: Told>(
     ensures past { IsPast result.stage }
 {
     // brings what the list keeps
-    bring_list(&member.equalities);
+    bring_lineages(&member.equalities);
     if place >= count_needs(&member.equalities) {
         return settle_member(alloc, config, member);
     }

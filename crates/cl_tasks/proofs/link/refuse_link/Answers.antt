@@ -7,9 +7,8 @@ use Rattle.cl_tasks.proofs.link.refuse_link.Goals as goal
 pub returns-clause-leads : goal.returns-clause-leads
 returns-clause-leads g c =
     let kept = rw c.deref.ensures at c.class.ensures.kept in
-    let of = rw c.deref-2.ensures at c.bring_list.ensures.kept in
-    let lin = rw c.deref-2.ensures at c.bring_list.ensures.lineages in
-    let known : IsKnown g.T.Told.told c.args.chain c.args.list.value = record { place = c.requires.list; order = kept.order; whole = kept.lineage; lineages = lin; are = of } in
+    let listed = rw c.deref-2.ensures at c.bring_lineages.ensures in
+    let known : IsKnown g.T.Told.told c.args.chain c.args.list.value = record { place = c.requires.list; order = kept.order; whole = kept.lineage; listed = listed } in
     let is = slice_get-map equal_need c.args.list.value.needs c.args.place ∙ c.requires.need in
     rw c.post.ensures
     (refused_leads g.T.Told.told c.args.config.now.value c.args.chain c.args.list.value c.requires.chain known c.args.place c.refused_link-finding.result c.args.need is

@@ -18,8 +18,7 @@ returns-clause-leads g c =
     let counted = rw c.deref-in-Ok.ensures at c.count_needs.ensures in
     let few = needs_few (length c.in-Ok.list.value.needs) c.count_needs.result c.count_needs.type_inv counted in
     let kept = rw c.deref.ensures at c.class.ensures.kept in
-    let of = rw c.deref-in-Ok-2.ensures at c.bring_list.ensures.kept in
-    let lin = rw c.deref-in-Ok-2.ensures at c.bring_list.ensures.lineages in
+    let listed = rw c.deref-in-Ok-2.ensures at c.bring_lineages.ensures in
     let place = at_place c.args.config.now.value c.args.chain c.args.lineage.value c.in-Ok.list.value c.requires.chain c.requires.lineage c.in-Ok.ensures in
-    let known : IsKnown g.T.Told.told c.args.chain c.in-Ok.list.value = record { place = place; order = kept.order; whole = kept.lineage; lineages = lin; are = of } in
+    let known : IsKnown g.T.Told.told c.args.chain c.in-Ok.list.value = record { place = place; order = kept.order; whole = kept.lineage; listed = listed } in
     listed_leads g.T.Told.told c.args.config.now.value c.args.chain c.in-Ok.list.value c.requires.chain known c.args.lineage.value c.in-Ok.ensures few c.impose.ensures.leads

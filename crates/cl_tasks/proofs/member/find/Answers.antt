@@ -1,11 +1,12 @@
 use Rattle.std.proofs.Common.{length}
+use Rattle.cl_findings.specs.Bases.{IsListed}
 use Rattle.cl_tasks.specs.Resolving.{TracedTold}
 use Rattle.cl_tasks.specs.Rooms.{tracing_named_room}
 use Rattle.cl_tasks.specs.Stages.{IsMember}
 use Rattle.cl_tasks.specs.declared.stage.Member.{Member}
 use Rattle.cl_tasks.proofs.Lead.{leads_by}
 use Rattle.cl_tasks.proofs.MemberFacts.{found_member, member_told}
-use Rattle.cl_tasks.proofs.MemberLeads.{IsKnown, member_room, member_within}
+use Rattle.cl_tasks.proofs.MemberLeads.{member_room, member_within}
 use Rattle.cl_tasks.proofs.Fall.{needs_few}
 use Rattle.cl_tasks.proofs.member.find.Goals as goal
 
@@ -15,9 +16,7 @@ returns-in-Ok-equalities_of-clause-leads g c =
     let counted = rw c.deref.ensures at c.count_needs.ensures in
     let few = needs_few (length m.equalities.value.needs) c.count_needs.result c.count_needs.type_inv counted in
     let of = c.in-Ok.ensures.of in
-    let are = rw c.deref-in-Ok-equalities_of.ensures at c.bring_list.ensures.kept in
-    let lin = rw c.deref-in-Ok-equalities_of.ensures at c.bring_list.ensures.lineages in
-    let known : IsKnown g.T.Told.told m = record { lineages = lin; are = are } in
+    let known : IsListed g.T.Told.told m.equalities.value = rw c.deref-in-Ok-equalities_of.ensures at c.bring_lineages.ensures in
     let member : IsMember c.args.config.now.value m = found_member c.args.config.now.value m c.args.own.value c.args.named.value c.requires.entry c.requires.own c.requires.goes of c.in-Ok-equalities_of.ensures in
     leads_by tracing_named_room (TracedTold c.args.entry c.args.own.value c.args.named.value) c.impose.ensures.leads (member_room (length m.equalities.value.needs) few)
     (member_within g.T.Told.told c.args.config.now.value m c.args.own.value c.args.named.value member c.requires.own of.from of.through known)

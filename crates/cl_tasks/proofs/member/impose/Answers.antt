@@ -1,8 +1,9 @@
 use Rattle.std.proofs.Common.{◌≡◌, ◌-◌, ℕ, length, subst, arith}
+use Rattle.cl_findings.specs.Bases.{IsListed}
 use Rattle.cl_tasks.specs.Resolving.{ImposedTold}
 use Rattle.cl_tasks.specs.Rooms.{imposing_room}
 use Rattle.cl_tasks.proofs.Lead.{leads_by}
-use Rattle.cl_tasks.proofs.MemberLeads.{IsKnown, impose_leads, two_room, two_within}
+use Rattle.cl_tasks.proofs.MemberLeads.{impose_leads, two_room, two_within}
 use Rattle.cl_tasks.proofs.member.impose.Goals as goal
 
 pub returns-then-place-count_needs-clause-leads : goal.returns-then-place-count_needs-clause-leads
@@ -16,8 +17,6 @@ returns-then-place-count_needs-clause-leads g c =
 
 pub returns-in-Ok-clause-leads : goal.returns-in-Ok-clause-leads
 returns-in-Ok-clause-leads g c =
-    let are = rw c.deref.ensures at c.bring_list.ensures.kept in
-    let lin = rw c.deref.ensures at c.bring_list.ensures.lineages in
-    let known : IsKnown g.T.Told.told c.args.member = record { lineages = lin; are = are } in
+    let known : IsListed g.T.Told.told c.args.member.equalities.value = rw c.deref.ensures at c.bring_lineages.ensures in
     let lt = rw (c.count_needs.ensures, c.deref-2.ensures) at c.if-place-count_needs.false in
     impose_leads g.T.Told.told c.args.config.now.value c.args.member c.requires.member known c.args.place c.in-Ok.shared c.in-Ok.ensures lt

@@ -1,7 +1,7 @@
 use Rattle.cl_findings.proofs.References.{entry_rests}
 use Rattle.cl_findings.proofs.finding.Finding.entry.Goals as goal
 
-pub invariant_of-result : goal.invariant_of-result
-invariant_of-result g c =
+pub said-requires : goal.said-requires
+said-requires g c =
     let spelt = rw c.deref.ensures at c.class.ensures.spelt in
     entry_rests g.T.Told.told c.args.config.value c.args.request c.args.d.value c.args.verdict c.requires.ends spelt

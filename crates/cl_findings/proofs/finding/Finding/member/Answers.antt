@@ -1,11 +1,11 @@
-use Rattle.std.proofs.Common.{List, Some, ap, length}
+use Rattle.std.proofs.Common.{List, Some, ap, length, ◌∙◌}
 use Rattle.cl_model.specs.declared.need.Equality.{Equality}
-use Rattle.cl_findings.specs.Findings.{Based}
+use Rattle.cl_findings.specs.Findings.{Answered, Based}
 use Rattle.cl_findings.proofs.References.{member_kept, member_rests_kept}
 use Rattle.cl_findings.proofs.finding.Finding.member.Goals as goal
 
-pub invariant_of-result : goal.invariant_of-result
-invariant_of-result g c =
+pub said-requires : goal.said-requires
+said-requires g c =
     let one = rw (c.deref.ensures, c.d.ensures.d) at c.class.ensures.kept in
     let other = rw (c.deref-2.ensures, c.c.ensures.c) at c.class-2.ensures.kept in
     let of = rw c.deref-3.ensures at c.needs-met.ensures.kept in
@@ -16,4 +16,5 @@ invariant_of-result g c =
 pub returns-clause-basis : goal.returns-clause-basis
 returns-clause-basis g c =
     let many = rw c.deref-3.ensures at c.needs-met.ensures.needs in
-    ap (λ (b : Based). Some b) (member_kept c.args.request c.args.found.now c.args.equalities.value (length c.needs-met.result.now) c.requires.origin (ap (λ (es : List Equality). length es) many))
+    ap (λ (a : Answered). a.basis) c.said.ensures
+    ∙ ap (λ (b : Based). Some b) (member_kept c.args.request c.args.found.now c.args.equalities.value (length c.needs-met.result.now) c.requires.origin (ap (λ (es : List Equality). length es) many))

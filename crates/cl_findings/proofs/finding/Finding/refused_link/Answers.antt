@@ -1,9 +1,9 @@
 use Rattle.cl_findings.proofs.Links.{link_rests_kept}
 use Rattle.cl_findings.proofs.finding.Finding.refused_link.Goals as goal
 
-pub invariant_of-result : goal.invariant_of-result
-invariant_of-result g c =
-    let of = rw c.deref.ensures at c.bring_lineages.ensures.kept in
+pub said-requires : goal.said-requires
+said-requires g c =
+    let of = rw c.deref.ensures at c.bring_lineages.ensures.are in
     let lin = rw c.deref.ensures at c.bring_lineages.ensures.lineages in
     let kept = rw c.deref-2.ensures at c.class.ensures.kept in
     link_rests_kept g.T.Told.told c.args.request c.args.lineage.value c.args.place c.args.equalities.value c.args.index c.args.need c.requires.link kept.order kept.lineage lin of c.requires.need

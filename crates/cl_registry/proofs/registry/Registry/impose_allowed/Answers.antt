@@ -31,11 +31,11 @@ constrain-requires-clause-unmet g c =
 pub constrain-requires-clause-may : goal.constrain-requires-clause-may
 constrain-requires-clause-may g c =
     let x : Shown = record { config = c.self.inside.config.value; script = c.self.inside.script.value; rows = map (λ r. r.value) c.self.inside.rows.items; history = c.self.inside.history.items; answers = c.self.inside.answers.items } in
-    constrains_as g.T.Told.told c.args.self.now c.args.list.now c.args.place c.index-needs-place.result (subst (IsKept g.T.Told.told) c.self.view_is c.self.invariant.kept) c.keeps.ensures c.requires.may (read_at c.needs.result.now c.args.list.now.needs c.args.place c.index-needs-place.result c.needs.ensures.needs c.requires.may.within c.index-needs-place.is) (subst (λ (y : Shown). Met (state_of y) (equal_need c.index-needs-place.result) → ⊥) c.self.view_is (c.if-is_met.ensures (state_of x) (standing_with (state_of x) _ _ c.as_slice.ensures.value c.self.invariant.book c.self.invariant.met)))
+    constrains_as g.T.Told.told c.args.self.now c.args.list.now c.args.place c.index-needs-place.result (subst (IsKept g.T.Told.told) c.self.view_is c.self.invariant.kept) c.bring_lineages.ensures c.requires.may (read_at c.needs.result.now c.args.list.now.needs c.args.place c.index-needs-place.result c.needs.ensures.needs c.requires.may.within c.index-needs-place.is) (subst (λ (y : Shown). Met (state_of y) (equal_need c.index-needs-place.result) → ⊥) c.self.view_is (c.if-is_met.ensures (state_of x) (standing_with (state_of x) _ _ c.as_slice.ensures.value c.self.invariant.book c.self.invariant.met)))
 
 pub constrain-requires-clause-within : goal.constrain-requires-clause-within
 constrain-requires-clause-within g c =
-    names_equality g.T.Told.told c.args.self.now c.args.list.now c.args.place c.index-needs-place.result c.keeps.ensures c.requires.may (read_at c.needs.result.now c.args.list.now.needs c.args.place c.index-needs-place.result c.needs.ensures.needs c.requires.may.within c.index-needs-place.is)
+    names_equality g.T.Told.told c.args.self.now c.args.list.now c.args.place c.index-needs-place.result c.bring_lineages.ensures c.requires.may (read_at c.needs.result.now c.args.list.now.needs c.args.place c.index-needs-place.result c.needs.ensures.needs c.requires.may.within c.index-needs-place.is)
 
 pub returns-in_default : goal.returns-in_default
 returns-in_default g c =

@@ -3,11 +3,12 @@ use Rattle.std.specs.Prelude.{IfOk}
 use Rattle.cl_model.specs.States.{recorded}
 use Rattle.cl_hierarchy.specs.Rows.{Rowed}
 use Rattle.cl_registry.specs.Tables.{Shown, Initiates, IsKept, LacksRecord, Records, records_of, looked}
-use Rattle.cl_registry.proofs.Asked.{found_none, found_some, known_initiated, some_or_none}
+use Rattle.cl_registry.proofs.Asked.{found_none, found_some, known_initiated}
 use Rattle.cl_registry.proofs.Looked.{looked_records}
 use Rattle.cl_registry.proofs.Entered.{is_initiated, records_initiated, shown_initiated}
 use Rattle.cl_registry.proofs.registry.Registry.initiate.Goals as goal
 use Rattle.cl_registry.proofs.registry.Registry.initiate.Goals.{in-Ok, in-Err}
+use Rattle.cl_model.proofs.Bind.{none_not_some}
 
 abbrev known : (g : _) → goal.Joined-share g → Shown
 known g c = record { config = c.self.inside.config.value; script = c.self.inside.script.value; rows = map (λ r. r.value) c.self.inside.rows.items; history = c.self.inside.history.items; answers = c.self.inside.answers.items }
@@ -51,7 +52,7 @@ returns-in-Some-clause-refused g c =
       | in-Err w ↦
           rw (w.result-is, w.in-Err.ensures.memory)
           (λ none.
-          absurd (some_or_none _ _ (records g c).recorded (subst (λ (y : Shown). recorded (records_of y) c.args.home.now.asked c.args.home.now.name ≡ None) (sym c.self.view_is) none)))
+          absurd (none_not_some _ (subst (λ (y : Shown). recorded (records_of y) c.args.home.now.asked c.args.home.now.name ≡ None) (sym c.self.view_is) none) (records g c).recorded))
     ]
 
 pub initiate_new-requires : goal.initiate_new-requires

@@ -15,7 +15,7 @@ returns-then-look_prepared-clause-prepared g c =
 
 pub prepare-requires-clause-may : goal.prepare-requires-clause-may
 prepare-requires-clause-may g c =
-    marks_as g.T.Told.told c.args.self.now c.args.list.now c.in-Preparation.lineage.value c.class-2.result.now (sym (ap (λ o. sprung o) c.in-Preparation.is) ∙ c.origin.ensures.origin) (c.class-2.ensures.class ∙ ap (λ (l : Lined). l.own.class) c.deref-3.ensures) c.if-not-is_ready.ensures.kept c.keeps.ensures
+    marks_as g.T.Told.told c.args.self.now c.args.list.now c.in-Preparation.lineage.value c.class-2.result.now (sym (ap (λ o. sprung o) c.in-Preparation.is) ∙ c.origin.ensures.origin) (c.class-2.ensures.class ∙ ap (λ (l : Lined). l.own.class) c.deref-3.ensures) c.if-not-is_ready.ensures.kept c.bring_lineages.ensures
     (subst (λ (es : List Equality). IsReady c.args.self.now c.in-Preparation.lineage.value (needs_of es)) c.needs.ensures.needs (subst (λ (l : Lined). IsReady c.args.self.now l (needs_of c.needs.result.now)) c.deref.ensures c.if-not-is_ready.ensures.ready))
     (subst (λ (k : Class). Contains (state_of c.args.self.now).prepared k → ⊥) ((c.class.ensures.class ∙ ap (λ (l : Lined). l.own.class) c.deref-2.ensures) ∙ sym (c.class-2.ensures.class ∙ ap (λ (l : Lined). l.own.class) c.deref-3.ensures)) c.if-look_prepared.ensures.prepared)
 

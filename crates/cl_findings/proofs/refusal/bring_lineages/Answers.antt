@@ -1,8 +1,8 @@
 use Rattle.std.proofs.Common.{◌∙◌, ap, sym, subst}
 use Rattle.cl_hierarchy.specs.Imposed.{Sprung, sprung}
 use Rattle.cl_hierarchy.specs.Lineages.{IsLined, Lined}
-use Rattle.cl_registry.specs.Imposing.{AreLineages}
-use Rattle.cl_registry.proofs.imposing.keeps.Goals as goal
+use Rattle.cl_findings.specs.Bases.{AreLineages}
+use Rattle.cl_findings.proofs.refusal.bring_lineages.Goals as goal
 
 pub returns-in-Preparation : goal.returns-in-Preparation
 returns-in-Preparation g c = record {

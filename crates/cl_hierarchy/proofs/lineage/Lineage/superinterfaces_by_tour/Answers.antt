@@ -6,7 +6,7 @@ use Rattle.cl_hierarchy.specs.Lineages.{kin_at}
 use Rattle.cl_hierarchy.proofs.Climbs.{if_ok}
 use Rattle.cl_hierarchy.proofs.Inside.{ordered, row_stands, rows_inside, table_is, told_inside}
 use Rattle.cl_hierarchy.proofs.Tours.{superinterfaces_told}
-use Rattle.cl_hierarchy.proofs.lineage.Lineage.superinterfaces_of.Goals as goal
+use Rattle.cl_hierarchy.proofs.lineage.Lineage.superinterfaces_by_tour.Goals as goal
 
 pub rows_in_order-requires-clause-ordered : goal.rows_in_order-requires-clause-ordered
 rows_in_order-requires-clause-ordered g c =

@@ -9,6 +9,8 @@
   ladder        60 diamonds of interfaces that each have the method which a class declares; it is linked and resolves it
   links         65,535 links of 20,000 classes of app, each over one of boot whose method it overrides
   repeated      800 classes of app over one another and over 800 of boot, each with one method; the last is linked
+  plain         5,000 classes over one another that declare nothing; the last is linked
+  topped        the same, the first of which names a superinterface
   wide          a class of app over one of boot whose 20,000 methods it overrides, each of another signature; it is linked
 
 Each is a bundle: classlink bundle < FILE.
@@ -109,6 +111,18 @@ def repeated(path, count=800):
     bundle(path, TWO, classes, [f"link app {names[-1]}\n"])
 
 
+def plain(path, count=5000, top=()):
+    names = [f"p/C{n}" for n in range(count)]
+    classes = [TOP, section("app", "p/I", flags="0601")] if top else [TOP]
+    for name, above in zip(names, [OBJECT, *names]):
+        classes.append(with_lines(section("app", name, above, interfaces=[] if above in names else list(top)), []))
+    bundle(path, TWO, classes, [f"link app {names[-1]}\n"])
+
+
+def topped(path):
+    plain(path, top=["p/I"])
+
+
 def wide(path, count=20000):
     own = [f"method 0001 m (Lp/T{n};)V" for n in range(count)]
     classes = [TOP, with_lines(section("boot", "p/B"), own), with_lines(section("app", "p/C", "p/B"), own)]
@@ -117,7 +131,7 @@ def wide(path, count=20000):
 
 def main(folder):
     os.makedirs(folder, exist_ok=True)
-    for make in methods, settled, constraints, refused, overriding, ladder, links, repeated, wide:
+    for make in methods, settled, constraints, refused, overriding, ladder, links, repeated, plain, topped, wide:
         make(f"{folder}/{make.__name__}")
 
 

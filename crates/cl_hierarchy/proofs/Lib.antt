@@ -13,6 +13,7 @@ pub mod RowTables
 pub mod Scans
 pub mod Spelling
 pub mod Stages
+pub mod StemEnds
 pub mod Stems
 pub mod Tables
 pub mod Told

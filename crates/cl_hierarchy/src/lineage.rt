@@ -11,6 +11,7 @@ use crate::above::superclass_row;
 use crate::access::is_same;
 use crate::row::ClassRow;
 use crate::row_index::RowIndex;
+use crate::stem::{stem_end, superinterfaces_behind};
 use crate::tour::{Order, rows_in_order};
 use cl_config::Config;
 use cl_model::{Class, Told};
@@ -177,6 +178,24 @@ impl<T: Told> Lineage<T> {
 
     /// The same of the class of a row of the lineage.
     pub fn superinterfaces_of(
+        &self,
+        alloc: Global,
+        row: &Arc<ClassRow<T>>,
+    ) -> Result<Vec<Arc<ClassRow<T>>>, AllocError>
+        requires { IsRowIn (rows_in self.now) row.now.value }
+        ensures superinterfaces { IfOk result (λ v. map (λ r. kin_at self.now r.value) v.items
+            ≡ superinterfaces (kin_at self.now row.now.value)) }
+        ensures rows { IfOk result (λ v. AllByRecursion (λ r. IsRowIn (rows_in self.now) r.value)
+            v.items) }
+    {
+        match stem_end(self.above.as_slice(), row) {
+            None => self.superinterfaces_by_tour(alloc, row),
+            Some((end, before)) => superinterfaces_behind(alloc, self.config.seed(), before, end),
+        }
+    }
+
+    /// The same by a tour through all rows.
+    fn superinterfaces_by_tour(
         &self,
         alloc: Global,
         row: &Arc<ClassRow<T>>,

@@ -1,30 +1,17 @@
-use Rattle.std.proofs.Common.{false, ◌∙◌, map, ap}
-use Rattle.cl_model.specs.Lineages.{Kin, alone, once}
-use Rattle.cl_hierarchy.specs.declared.tour.Order.TheVariants as orders
-use Rattle.cl_hierarchy.specs.Tours.{stops, told_at}
-use Rattle.cl_hierarchy.specs.Lineages.{kin_at}
-use Rattle.cl_hierarchy.proofs.Climbs.{if_ok}
-use Rattle.cl_hierarchy.proofs.Inside.{ordered, row_stands, rows_inside, table_is, told_inside}
-use Rattle.cl_hierarchy.proofs.Tours.{superinterfaces_told}
+use Rattle.std.proofs.Common.{ap, map}
+use Rattle.cl_hierarchy.proofs.StemEnds.{ordered_in, rows_told, told_in}
 use Rattle.cl_hierarchy.proofs.lineage.Lineage.superinterfaces_of.Goals as goal
 
-pub rows_in_order-requires-clause-ordered : goal.rows_in_order-requires-clause-ordered
-rows_in_order-requires-clause-ordered g c =
-    ordered c.args.self.now _ c.in_ok-table.table c.self.view_is c.self.invariant.order (table_is c.args.self.now _ c.in_ok-table.table _ c.self.view_is c.in_ok-table.ensures (ap (λ xs. map (λ x. x.value) xs) c.as_slice.ensures.value))
+pub superinterfaces_behind-requires : goal.superinterfaces_behind-requires
+superinterfaces_behind-requires g c =
+    ordered_in c.args.self.now _ _ _ c.in-Some.end.now.value c.self.view_is c.self.invariant.order (ap (λ xs. map (λ x. x.value) xs) c.as_slice.ensures.value) c.in-Some.ensures.place
 
-pub rows_in_order-requires-clause-start : goal.rows_in_order-requires-clause-start
-rows_in_order-requires-clause-start g c =
-    row_stands c.args.self.now _ c.in_ok-table.table c.self.view_is c.self.invariant.order (table_is c.args.self.now _ c.in_ok-table.table _ c.self.view_is c.in_ok-table.ensures (ap (λ xs. map (λ x. x.value) xs) c.as_slice.ensures.value))
-    c.args.row.now.value c.requires
+pub returns-in-Some-clause-superinterfaces : goal.returns-in-Some-clause-superinterfaces
+returns-in-Some-clause-superinterfaces g c =
+    told_in c.args.self.now _ _ _ c.in-Some.end.now.value c.self.view_is c.self.invariant.order (ap (λ xs. map (λ x. x.value) xs) c.as_slice.ensures.value) c.in-Some.ensures.place
+    (λ v. v.items) (λ r. r.value) c.args.row.now.value c.deref.result.now c.superinterfaces_behind.result c.deref.ensures c.in-Some.ensures.same c.superinterfaces_behind.ensures.superinterfaces c.superinterfaces_behind.ensures.rows
 
-pub returns-clause-superinterfaces : goal.returns-clause-superinterfaces
-returns-clause-superinterfaces g c =
-    if_ok _ _ c.rows_in_order.result (λ v e. e ∙ superinterfaces_told (kin_at c.args.self.now c.args.row.now.value)) (
-    told_inside c.args.self.now _ c.in_ok-table.table c.self.view_is c.self.invariant.order (table_is c.args.self.now _ c.in_ok-table.table _ c.self.view_is c.in_ok-table.ensures (ap (λ xs. map (λ x. x.value) xs) c.as_slice.ensures.value))
-    (λ v. v.items) (λ r. r.value) (λ (k : Kin). once (told_at orders.Superinterfaces (stops orders.Superinterfaces (alone k) false))) c.args.row.now.value c.requires c.rows_in_order.result c.rows_in_order.ensures.kins c.rows_in_order.ensures.rows
-    )
-
-pub returns-clause-rows : goal.returns-clause-rows
-returns-clause-rows g c =
-    rows_inside c.args.self.now _ c.in_ok-table.table c.self.view_is c.self.invariant.order (table_is c.args.self.now _ c.in_ok-table.table _ c.self.view_is c.in_ok-table.ensures (ap (λ xs. map (λ x. x.value) xs) c.as_slice.ensures.value))
-    (λ v. v.items) (λ r. r.value) c.rows_in_order.result c.rows_in_order.ensures.rows
+pub returns-in-Some-clause-rows : goal.returns-in-Some-clause-rows
+returns-in-Some-clause-rows g c =
+    rows_told c.args.self.now _ _ _ c.in-Some.end.now.value c.self.view_is c.self.invariant.order (ap (λ xs. map (λ x. x.value) xs) c.as_slice.ensures.value) c.in-Some.ensures.place
+    (λ v. v.items) (λ r. r.value) c.superinterfaces_behind.result c.superinterfaces_behind.ensures.rows

@@ -1,5 +1,5 @@
 -- What the rows of a lineage impose is what its tree does.
-use Rattle.std.proofs.Common.{◌≡◌, ◌<◌, ◌+◌, ℕ, Bool, true, false, not, ◌&&◌, ◌||◌, if◌then◌else◌, List, [], ◌∷◌, ◌++◌, map, filter, length, Option, Some, None, refl, ap, sym, subst, ◌∙◌, get_or, take}
+use Rattle.std.proofs.Common.{◌≡◌, ◌<◌, ◌+◌, ℕ, Bool, true, false, not, ◌&&◌, ◌||◌, if◌then◌else◌, List, [], ◌∷◌, ◌++◌, map, filter, length, Option, Some, None, refl, ap, sym, subst, ◌∙◌, get_or, take, append-nil, append_assoc}
 use Rattle.std.specs.Prelude.{Result, Ok, Err, OnOk, option_map, is_some, find, flat_map, nat_le}
 use Rattle.std.specs.List.{list_any}
 use Rattle.std.proofs.lemmas.List.{take_more, map-append}
@@ -18,14 +18,6 @@ use Rattle.cl_preparation.specs.Relatives.{AreRelatives, bare, equals_for, of_su
 use Rattle.cl_preparation.specs.Walks.{is_overridden, opened_by, walked}
 use Rattle.cl_preparation.proofs.Reached.{overridden_is_walked}
 use Rattle.cl_preparation.proofs.Named.{map_through}
-
-append_nothing : {A : Type 0} (xs : List A) → xs ++ [] ≡ xs
-append_nothing [] = refl
-append_nothing (x ∷ xs) = ap (λ ys. x ∷ ys) (append_nothing xs)
-
-assoc : {A : Type 0} (xs ys zs : List A) → (xs ++ ys) ++ zs ≡ xs ++ (ys ++ zs)
-assoc [] ys zs = refl
-assoc (x ∷ xs) ys zs = ap (λ ws. x ∷ ws) (assoc xs ys zs)
 
 -- what a result that is there tells
 pub told : {T E : Type 0} (r : Result T E) (P : Type 0) (x : T) → r ≡ Ok x → OnOk r P → P
@@ -48,7 +40,7 @@ pub pushed_equality : (names : List Name) (i : ℕ) (n : Name) (a b : ℕ) (firs
     → equal_need e ≡ (if nat_le a b then Equal n a b else Equal n b a) → needs_of done ≡ first ++ equals_for (take i names) a b → after ≡ done ++ e ∷ [] → needs_of after ≡ first ++ equals_for (take (i + 1) names) a b
 pushed_equality names i n a b first done after e h at made before more =
     let f : Name → Need = λ x. if nat_le a b then Equal x a b else Equal x b a in
-    ap needs_of more ∙ map-append equal_need done (e ∷ []) ∙ ap (λ ns. ns ++ equal_need e ∷ []) before ∙ assoc first (map f (take i names)) (equal_need e ∷ [])
+    ap needs_of more ∙ map-append equal_need done (e ∷ []) ∙ ap (λ ns. ns ++ equal_need e ∷ []) before ∙ append_assoc first (map f (take i names)) (equal_need e ∷ [])
     ∙ ap (λ y. first ++ (map f (take i names) ++ y ∷ [])) made
     ∙ ap (λ ns. first ++ ns) (sym (map-append f (take i names) (n ∷ [])) ∙ ap (λ y. map f (take i names ++ y ∷ [])) at ∙ ap (map f) (sym (take_more names i n h)))
 
@@ -56,8 +48,8 @@ pushed_equality names i n a b first done after e h at made before more =
 pub pushed_more : {A B : Type 0} (f : A → List B) (xs : List A) (i : ℕ) (x : A) (first done after : List B) → i < length xs → x ≡ get_or xs i x
     → done ≡ first ++ flat_map f (take i xs) → after ≡ done ++ f x → after ≡ first ++ flat_map f (take (i + 1) xs)
 pushed_more f xs i x first done after h at before more =
-    more ∙ ap (λ ys. ys ++ f x) before ∙ assoc first (flat_map f (take i xs)) (f x)
-    ∙ ap (λ ys. first ++ (flat_map f (take i xs) ++ ys)) (sym (append_nothing (f x)))
+    more ∙ ap (λ ys. ys ++ f x) before ∙ append_assoc first (flat_map f (take i xs)) (f x)
+    ∙ ap (λ ys. first ++ (flat_map f (take i xs) ++ ys)) (sym (append-nil (f x)))
     ∙ ap (λ ys. first ++ ys) (sym (flat_map-append f (take i xs) (x ∷ [])))
     ∙ ap (λ y. first ++ flat_map f (take i xs ++ y ∷ [])) at
     ∙ ap (λ ys. first ++ flat_map f ys) (sym (take_more xs i x h))
@@ -122,12 +114,12 @@ declared_pushed l self own above over xs ys m k key old middle new loader view a
     let tail : new ≡ middle ++ of_superinterfaces own over m.key =
     second ∙ ap (λ (x : ℕ). middle ++ equals_with key x (filter (takes_part key) (map bare ys))) le
     ∙ ap (λ (rs : List Rowed). middle ++ of_superinterfaces own rs key) ye ∙ ap (λ (x : Key). middle ++ of_superinterfaces own over x) e in
-    tail ∙ ap (λ ns. ns ++ of_superinterfaces own over m.key) head ∙ assoc old (of_superclasses own above m.key) (of_superinterfaces own over m.key)
+    tail ∙ ap (λ ns. ns ++ of_superinterfaces own over m.key) head ∙ append_assoc old (of_superclasses own above m.key) (of_superinterfaces own over m.key)
     ∙ ap (λ ns. old ++ ns) (sym (declared_some l own above over m are (part ∙ ap (λ (x : Key). takes_part x (bare own)) ke)))
     ∙ ap (λ (x : Lined). old ++ for_declared (kin_of x) m) view
 
 pub declared_passed : (l : Lined) (own : Rowed) (m : Member) (old : List Need) → own ≡ l.own → false ≡ takes_part m.key (bare own) → old ≡ old ++ for_declared (kin_of l) m
-declared_passed l own m old e part = sym (append_nothing old) ∙ ap (λ ns. old ++ ns) (sym (declared_none l own m e part))
+declared_passed l own m old e part = sym (append-nil old) ∙ ap (λ ns. old ++ ns) (sym (declared_none l own m e part))
 
 -- a test of rows, and of the tree
 pub any_taking : (key : Key) (l : Lined) (rs : List Rowed) → list_any (λ r. takes_part key (bare r)) rs ≡ list_any (takes_part key) (map (kin_at l) rs)
@@ -190,7 +182,7 @@ pub declared_alone : (l : Lined) (m : Member) (key : Key) (over : Bool) (old : L
 declared_alone l m key over old same told none =
     let both = neither (list_any (takes_part m.key) (superclasses (kin_of l))) (list_any (takes_part m.key) (superinterfaces (kin_of l)))
     (ap (λ (k : Key). list_any (takes_part k) (superclasses (kin_of l)) || list_any (takes_part k) (superinterfaces (kin_of l))) (sym same) ∙ sym told ∙ none) in
-    sym (append_nothing old) ∙ ap (λ ns. old ++ ns) (sym (alone l m both.0 both.1))
+    sym (append-nil old) ∙ ap (λ ns. old ++ ns) (sym (alone l m both.0 both.1))
 
 -- ---- the second half
 
@@ -230,7 +222,7 @@ inherited_is l own above over j m part has are tp declares =
 pub inherited_passed : (l own_l : Lined) (own : Rowed) (above over : List Rowed) (j : Rowed) (m : Member) (part has : Bool) (old : List Need) → AreRelatives l own above over → part ≡ takes_part m.key (bare j) → has ≡ is_some (method_of (bare own) m.key)
     → (part && not has) ≡ false → l ≡ own_l → old ≡ old ++ for_inherited (kin_of own_l) (bare j) m
 inherited_passed l self own above over j m part has old are tp declares off view =
-    sym (append_nothing old) ∙ ap (λ ns. old ++ ns) (sym (inherited_is l own above over j m part has are tp declares ∙ ap (λ (b : Bool). if b then with_loader m.key j (first_loader m.key above) else []) off))
+    sym (append-nil old) ∙ ap (λ ns. old ++ ns) (sym (inherited_is l own above over j m part has are tp declares ∙ ap (λ (b : Bool). if b then with_loader m.key j (first_loader m.key above) else []) off))
     ∙ ap (λ (x : Lined). old ++ for_inherited (kin_of x) (bare j) m) view
 
 inherited_from_loader : (l self : Lined) (own : Rowed) (above over xs : List Rowed) (j : Rowed) (m : Member) (k : Key) (o : Option ℕ) → l ≡ self → AreRelatives l own above over → xs ≡ above → k ≡ m.key
@@ -253,7 +245,7 @@ inherited_pushed l self own above over xs j m k key o x loader old new view are 
 pub inherited_none : (l self : Lined) (own : Rowed) (above over xs : List Rowed) (j : Rowed) (m : Member) (k : Key) (o : Option ℕ) (old : List Need) → l ≡ self → AreRelatives l own above over → xs ≡ above → k ≡ m.key
     → true ≡ takes_part k (bare j) → false ≡ is_some (method_of (bare own) k) → o ≡ first_loader k xs → o ≡ None → old ≡ old ++ for_inherited (kin_of self) (bare j) m
 inherited_none l self own above over xs j m k o old view are xe ke tp declares found none =
-    sym (append_nothing old) ∙ ap (λ (y : Option ℕ). old ++ with_loader m.key j y) (sym none)
+    sym (append-nil old) ∙ ap (λ (y : Option ℕ). old ++ with_loader m.key j y) (sym none)
     ∙ ap (λ ns. old ++ ns) (inherited_from_loader l self own above over xs j m k o view are xe ke tp declares found)
 
 -- each superinterface, as a row and in the tree

@@ -1,5 +1,5 @@
 -- The walk over the superclasses, step by step.
-use Rattle.std.proofs.Common.{◌≡◌, ◌<◌, ◌+◌, ℕ, Bool, true, false, ◌&&◌, ◌||◌, if◌then◌else◌, not, Option, Some, None, List, [], ◌∷◌, ◌++◌, map, filter, length, refl, ap, sym, subst, ◌∙◌, get_or, suc, drop, append_assoc, add-one}
+use Rattle.std.proofs.Common.{◌≡◌, ◌<◌, ◌+◌, ℕ, Bool, true, false, ◌&&◌, ◌||◌, if◌then◌else◌, not, Option, Some, None, List, [], ◌∷◌, ◌++◌, map, filter, length, refl, ap, sym, subst, ◌∙◌, get_or, suc, drop, append_assoc, add-one, append-nil}
 use Rattle.std.specs.Prelude.{nat_eq, ◌==◌}
 use Rattle.std.specs.List.{list_any}
 use Rattle.std.specs.Cmp.Lexicographic.{pointwise, nat_list_eq_equiv}
@@ -24,10 +24,6 @@ use Rattle.cl_preparation.specs.Walks.{is_closed, is_in_package, is_open, is_ove
 or_turned : (a b c : Bool) → b ≡ c → (if a then true else b) ≡ (a || c)
 or_turned true b c e = refl
 or_turned false b c e = e
-
-append_nothing : {A : Type 0} (xs : List A) → xs ++ [] ≡ xs
-append_nothing [] = refl
-append_nothing (x ∷ xs) = ap (λ ys. x ∷ ys) (append_nothing xs)
 
 drop_all : {A : Type 0} (xs : List A) → drop (length xs) xs ≡ []
 drop_all [] = refl
@@ -75,7 +71,7 @@ some_part false wide b e = absurd cc
 -- one that does not take part
 pub passed : {S : Type 0} (key : Key) (before : List Class) (k : Kin) (imposed needs : List Need) (opened : IndexSet Package S) → None ≡ opening key k → AreOpened opened before → Visits key before k imposed needs needs opened
 passed key before k imposed needs opened none was =
-    visits key before k imposed needs needs opened opened false (is_open key k) (is_in_package before k.class) (no_part (takes_part key k) (is_open key k) none) refl refl was (sym (append_nothing needs)) was
+    visits key before k imposed needs needs opened opened false (is_open key k) (is_in_package before k.class) (no_part (takes_part key k) (is_open key k) none) refl refl was (sym (append-nil needs)) was
 
 -- one that takes part and opens its package
 pub opened_too : {S : Type 0} (key : Key) (before : List Class) (k : Kin) (imposed old new : List Need) (opened after : IndexSet Package S) → Some true ≡ opening key k → AreOpened opened before
@@ -96,7 +92,7 @@ pub without : {S : Type 0} (key : Key) (before : List Class) (k : Kin) (imposed 
     → false ≡ contains same_packages opened (packaged k.class) → Visits key before k imposed needs needs opened
 without key before k imposed needs opened some was outside =
     let told : (true ≡ takes_part key k) × (false ≡ is_open key k) = some_part (takes_part key k) (is_open key k) false some in
-    visits key before k imposed needs needs opened opened true false false told.0 told.1 (outside ∙ was k.class) was (sym (append_nothing needs)) was
+    visits key before k imposed needs needs opened opened true false false told.0 told.1 (outside ∙ was k.class) was (sym (append-nil needs)) was
 
 -- ---- no package tells
 
@@ -135,7 +131,7 @@ step_total : (key : Key) (loader : ℕ) (cs : List Class) (k : Kin) (ks : List K
 step_total key loader cs k ks needs new true e =
     ap (λ ns. ns ++ equals_with key loader (walked key (opened_by key cs k) ks)) e
     ∙ append_assoc needs (equals_of key loader k.class.loader) (equals_with key loader (walked key (opened_by key cs k) ks))
-step_total key loader cs k ks needs new false e = ap (λ ns. ns ++ equals_with key loader (walked key (opened_by key cs k) ks)) (e ∙ append_nothing needs)
+step_total key loader cs k ks needs new false e = ap (λ ns. ns ++ equals_with key loader (walked key (opened_by key cs k) ks)) (e ∙ append-nil needs)
 
 walking_next : {S : Type 0} (key : Key) (loader : ℕ) (opened after : IndexSet Package S) (needs new : List Need) (k : Kin) (ks : List Kin) (total : List Need)
     → Walking key loader opened needs (k ∷ ks) total → ((before : List Class) → AreOpened opened before → Visits key before k (equals_of key loader k.class.loader) needs new after)
@@ -161,14 +157,14 @@ pub walking_end : {S : Type 0} (key : Key) (loader : ℕ) (opened : IndexSet Pac
     → Walking key loader opened needs (map bare (drop (length rows) rows)) total → needs ≡ total
 walking_end key loader opened needs rows total w =
     let e : Walking key loader opened needs [] total = subst (λ (rs : List Rowed). Walking key loader opened needs (map bare rs) total) (drop_all rows) w in
-    sym (append_nothing needs) ∙ e.total_is
+    sym (append-nil needs) ∙ e.total_is
 
 -- ---- the superinterfaces
 
 one_kept : (key : Key) (loader : ℕ) (r : Rowed) (ks : List Kin) (needs new : List Need) (b : Bool) → new ≡ needs ++ (if b then equals_of key loader r.class.loader else [])
     → new ++ equals_with key loader ks ≡ needs ++ equals_with key loader (if b then bare r ∷ ks else ks)
 one_kept key loader r ks needs new true e = ap (λ ns. ns ++ equals_with key loader ks) e ∙ append_assoc needs (equals_of key loader r.class.loader) (equals_with key loader ks)
-one_kept key loader r ks needs new false e = ap (λ ns. ns ++ equals_with key loader ks) (e ∙ append_nothing needs)
+one_kept key loader r ks needs new false e = ap (λ ns. ns ++ equals_with key loader ks) (e ∙ append-nil needs)
 
 -- a superinterface is looked at
 pub kept_step : (key : Key) (loader : ℕ) (needs new total : List Need) (rows : List Rowed) (i : ℕ) (r : Rowed) (b : Bool) → i < length rows → r ≡ get_or rows i r → b ≡ takes_part key (bare r)
@@ -184,4 +180,4 @@ kept_step key loader needs new total rows i r b h at tp more before =
 
 pub kept_end : (key : Key) (loader : ℕ) (needs total : List Need) (rows : List Rowed) → needs ++ equals_with key loader (filter (takes_part key) (map bare (drop (length rows) rows))) ≡ total → needs ≡ total
 kept_end key loader needs total rows e =
-    sym (append_nothing needs) ∙ ap (λ (rs : List Rowed). needs ++ equals_with key loader (filter (takes_part key) (map bare rs))) (sym (drop_all rows)) ∙ e
+    sym (append-nil needs) ∙ ap (λ (rs : List Rowed). needs ++ equals_with key loader (filter (takes_part key) (map bare rs))) (sym (drop_all rows)) ∙ e

@@ -16,7 +16,7 @@ use Rattle.cl_model.specs.States.{State, Entry, MayAdd, Met, recorded}
 use Rattle.cl_model.specs.Plans.{Load}
 use Rattle.cl_model.specs.Frames.{Frame, Judged, Accepts, Keeps}
 use Rattle.cl_model.specs.Machine.{Setting, Define, Initiate, IsClosed, May}
-use Rattle.cl_model.proofs.Closed.{runs_are_closed}
+use Rattle.cl_model.proofs.Closed.{Stands, runs_are_closed}
 use Rattle.cl_model.proofs.Bind.{ok_same, none_not_some, some_same}
 use Rattle.cl_model.proofs.Ending.{if_some}
 use Rattle.cl_model.proofs.Frames.{complete_is_next}
@@ -118,9 +118,6 @@ all_accepted content x c (a ∷ others) kept above fit =
 past_end : {A B : Type 0} (f : A → B) (xs : List A) → slice_get xs (length (map f xs)) ≡ None
 past_end f [] = refl
 past_end f (x ∷ xs) = past_end f xs
-
-abbrev Stands : World → State → Class → Above → Type 0
-Stands w s c a = AtHome w c (λ t. Met s (Entry c.loader a.name t.loader)) a.name
 
 -- supertypes that are good and recorded are recorded as such, and fit
 all_fit : (content : Content) (x : Shown) (c : Class) (n : ℕ) (others : List Above) → IsKept (Some content) x → AllByRecursion (Stands (world_of x.config content) (state_of x) c) others

@@ -12,12 +12,10 @@ use Rattle.cl_model.specs.Views.{answer_at, post_of, step_of, steps_of}
 use Rattle.cl_registry.specs.Tables.{posts, is_in}
 use Rattle.cl_registry.proofs.Histories.{swap_nat}
 use Rattle.cl_model.proofs.Bind.{none_not_some}
+use Rattle.cl_model.proofs.Refusals.{no_equality}
 use Rattle.std.proofs.lemmas.Bool.{or_parts}
 
 -- ---- equalities
-
-no_equality : (e : Equality) → Contains [] e → ⊥
-no_equality e h = absurd (let l : h.0 < 0 = h.1 in omega arith)
 
 -- without equalities a loader is joined with itself alone
 alone : (ks : List Equality) (name : Name) (a : ℕ) (path : List ℕ) (b : ℕ) → ks ≡ [] → IsPath ks name a path b → a ≡ b

@@ -9,7 +9,7 @@ use Rattle.cl_classfile.specs.Files.{same_name}
 use Rattle.cl_model.specs.declared.class.Class.{Class}
 use Rattle.cl_model.specs.Content.{Content}
 use Rattle.cl_model.specs.Classes.{class, same_class}
-use Rattle.cl_model.specs.States.{Record, recorded}
+use Rattle.cl_model.specs.States.{IsRecorded, Record, recorded}
 use Rattle.cl_model.proofs.Runs.{names_equal}
 use Rattle.cl_model.proofs.Ancestors.{same_self}
 use Rattle.cl_model.proofs.Complete.{is_class}
@@ -17,7 +17,7 @@ use Rattle.cl_hierarchy.specs.Rows.{Rowed}
 use Rattle.cl_hierarchy.specs.Lineages.{row_of}
 use Rattle.cl_registry.specs.Tables.{Shown, state_of, records_of, defined, IsKept, looked, Records, LacksRecord}
 use Rattle.cl_registry.proofs.Histories.{eq_nat}
-use Rattle.cl_registry.proofs.Running.{IsKnown, recorded_hold, all_known}
+use Rattle.cl_registry.proofs.Running.{recorded_hold, all_known}
 use Rattle.cl_model.proofs.Bind.{none_not_some, some_same}
 use Rattle.std.proofs.lemmas.Bool.{and_parts, and_from}
 
@@ -95,7 +95,7 @@ row_push (x ∷ rows) r c e none = by_test (same_class x.class c) none (row_push
     by_test false f ih = ih f
 
 pub fresh_row : (told : Option Content) (x : Shown) (c : Class) → IsKept told x → recorded (records_of x) c.loader c.name ≡ None → row_of x.rows c ≡ None
-fresh_row told x c k fresh = none_found (records_of x) x.rows c (subst (AllByRecursion (IsKnown (state_of x))) (sym k.rows) (all_known x k.trusted)) fresh
+fresh_row told x c k fresh = none_found (records_of x) x.rows c (subst (AllByRecursion (IsRecorded (state_of x))) (sym k.rows) (all_known x k.trusted)) fresh
 
 -- ---- what is looked up
 

@@ -12,7 +12,7 @@ use Rattle.cl_model.specs.declared.event.Event.TheVariants as events
 use Rattle.cl_model.specs.declared.answer.Answer as rust
 use Rattle.cl_model.specs.Classes.{class}
 use Rattle.cl_model.specs.Texts.{AnswerNames, EventNames, VerdictNames}
-use Rattle.cl_model.specs.States.{State, start, Record, Posted, Need, Entry, Answer, recorded, answer_to, Met, MayAdd, Refused}
+use Rattle.cl_model.specs.States.{State, start, Record, IsRecorded, Posted, Need, Entry, Answer, recorded, answer_to, Met, MayAdd, Refused}
 use Rattle.cl_model.specs.Machine.{Scheduled, Define, Initiate, NextRound, after, state_after}
 use Rattle.cl_model.specs.Tables.{Orderly, MayRecord}
 use Rattle.cl_model.specs.Views.{answers_of, answer_at, post_of, step_of, steps_of}
@@ -136,10 +136,7 @@ pub recorded_hold : (P : Class → Type 0) (x : Shown) → IsTrusted x → AllBy
 recorded_hold P x t all l p n e = records_hold P _ _ (answers_of x.answers) x.history start t.tables (none_before P) all l p n e
 
 -- each class that is defined is recorded by its loader
-abbrev pub IsKnown : State → Class → Type 0
-IsKnown s c = recorded s.records c.loader c.name ≡ Some c.loader
-
-defined_known : (script : List Scheduled) (rounds : ℕ) (now : List (Option Answer)) (h : List Event) (s : State) → Orderly script rounds s (steps_of now h) → AllByRecursion (IsKnown (state_after s (steps_of now h))) (defined h)
+defined_known : (script : List Scheduled) (rounds : ℕ) (now : List (Option Answer)) (h : List Event) (s : State) → Orderly script rounds s (steps_of now h) → AllByRecursion (IsRecorded (state_after s (steps_of now h))) (defined h)
 defined_known script rounds now [] s run = tt
 defined_known script rounds now (events.Define c ∷ h) s run = (
   (run_later (after s (Define c)) (steps_of now h)).records c.loader c.loader c.name (record_found s.records (record { loader = c.loader; name = c.name; place = c.loader }) run.0.fresh),
@@ -152,7 +149,7 @@ defined_known script rounds now (events.Prepare c ∷ h) s run = defined_known s
 defined_known script rounds now (events.NextRound ∷ h) s run = defined_known script rounds now h (after s NextRound) run.1
 defined_known script rounds now (events.Post q ∷ h) s run = defined_known script rounds now h (after s (post_of q (answer_at now q))) run.1
 
-pub all_known : (x : Shown) → IsTrusted x → AllByRecursion (IsKnown (state_of x)) (defined x.history)
+pub all_known : (x : Shown) → IsTrusted x → AllByRecursion (IsRecorded (state_of x)) (defined x.history)
 all_known x t = defined_known _ _ (answers_of x.answers) x.history start t.tables
 
 -- ---- loaders

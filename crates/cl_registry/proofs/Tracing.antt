@@ -15,7 +15,7 @@ use Rattle.cl_registry.specs.Tables.{Shown, state_of, records_of, looked, IsKept
 use Rattle.cl_registry.specs.Traced.{IsRowOf, IsTraced}
 use Rattle.cl_registry.proofs.Looked.{row_is}
 use Rattle.cl_registry.proofs.Placed.{recorded_row}
-use Rattle.cl_registry.proofs.Running.{IsKnown, all_known}
+use Rattle.cl_registry.proofs.Running.{all_known}
 use Rattle.cl_model.proofs.Bind.{none_not_some, value_same}
 
 -- ---- rows that are found
@@ -38,7 +38,7 @@ found_row P (x ∷ rows) c r all e = at (same_class x.class c) e (found_row P ro
 
 -- a class that has a row is recorded
 pub row_recorded : (told : Option Content) (x : Shown) (c : Class) (r : Rowed) → IsKept told x → row_of x.rows c ≡ Some r → IsRecorded (state_of x) c
-row_recorded told x c r k e = found_class (IsKnown (state_of x)) x.rows c r (subst (AllByRecursion (IsKnown (state_of x))) (sym k.rows) (all_known x k.trusted)) e
+row_recorded told x c r k e = found_class (IsRecorded (state_of x)) x.rows c r (subst (AllByRecursion (IsRecorded (state_of x))) (sym k.rows) (all_known x k.trusted)) e
 
 some_of : (o : Option Rowed) → IsSome o → (r : Rowed) × (o ≡ Some r)
 some_of None h = absurd cc

@@ -1,5 +1,6 @@
 -- The rows that a tour tells in the order of a lineage are that lineage.
 use Rattle.std.proofs.Common.{◌≡◌, ◌∙◌, ◌-◌, inl, inr, Bool, true, false, ◌||◌, if◌then◌else◌, List, [], ◌∷◌, ◌++◌, Option, Some, None, append_assoc, append-nil, is_some, length, map, reverse, slice_get, refl, sym, ap, subst}
+use Rattle.std.proofs.lemmas.Bool.{or_parts, or_from}
 use Rattle.std.specs.List.{AllByRecursion}
 use Rattle.std.proofs.lemmas.Grind.{reverse_onto}
 use Rattle.cl_model.specs.declared.class.Class.{Class}
@@ -40,14 +41,6 @@ not_among cs zs c h e = at (is_among cs c) refl
     at : (b : Bool) → is_among cs c ≡ b → b ≡ false
     at true i = sym (h c i) ∙ e
     at false i = refl
-
-or_false : (a b : Bool) → (a || b) ≡ false → (a ≡ false) × (b ≡ false)
-or_false true b h = absurd cc
-or_false false b h = (refl, h)
-
-or_neither : (a b : Bool) → a ≡ false → b ≡ false → (a || b) ≡ false
-or_neither true b h e = h
-or_neither false b h e = e
 
 -- ---- the definitions' order has each class once, after its direct supertypes
 
@@ -295,8 +288,8 @@ no_circle known (r ∷ rs) c row holds h e =
 once_last : (seen : List Class) (ks : List Kin) (k : Kin) → is_among seen k.class ≡ false → is_among (classes ks) k.class ≡ false → once_after seen (ks ++ k ∷ []) ≡ once_after seen ks ++ k ∷ []
 once_last seen [] k s e = ap (λ (b : Bool). if b then [] else k ∷ []) s
 once_last seen (x ∷ ks) k s e =
-    let parts = or_false (same_class k.class x.class) (is_among (classes ks) k.class) e in
-    at (once_last seen ks k s parts.1) (once_last (x.class ∷ seen) ks k (or_neither (same_class k.class x.class) (is_among seen k.class) parts.0 s) parts.1) (is_among seen x.class)
+    let parts = or_parts (same_class k.class x.class) (is_among (classes ks) k.class) e in
+    at (once_last seen ks k s parts.1) (once_last (x.class ∷ seen) ks k (or_from (same_class k.class x.class) (is_among seen k.class) parts.0 s) parts.1) (is_among seen x.class)
   where
     at : once_after seen (ks ++ k ∷ []) ≡ once_after seen ks ++ k ∷ [] → once_after (x.class ∷ seen) (ks ++ k ∷ []) ≡ once_after (x.class ∷ seen) ks ++ k ∷ []
         → (b : Bool) → (if b then once_after seen (ks ++ k ∷ []) else x ∷ once_after (x.class ∷ seen) (ks ++ k ∷ [])) ≡ (if b then once_after seen ks else x ∷ once_after (x.class ∷ seen) ks) ++ k ∷ []

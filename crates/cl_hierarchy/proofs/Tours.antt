@@ -1,5 +1,6 @@
 -- What a tour tells, and what is left of it from step to step.
 use Rattle.std.proofs.Common.{◌≡◌, ◌∙◌, ◌⊎◌, inl, inr, ℕ, suc, Bool, true, false, ◌||◌, if◌then◌else◌, List, [], ◌∷◌, ◌++◌, Option, Some, None, append_assoc, append-nil, drop, map, refl, sym, ap, subst}
+use Rattle.std.proofs.lemmas.Bool.{or_left, or_right}
 use Rattle.std.specs.List.{AllByRecursion}
 use Rattle.cl_model.specs.declared.class.Class.{Class}
 use Rattle.cl_model.specs.Classes.{same_class, is_among}
@@ -79,14 +80,6 @@ among_both (x ∷ xs) ys c = at (among_both xs ys c) (same_class c x)
 pub classes_both : (xs ys : List Kin) → classes (xs ++ ys) ≡ classes xs ++ classes ys
 classes_both [] ys = refl
 classes_both (x ∷ xs) ys = ap (λ (cs : List Class). x.class ∷ cs) (classes_both xs ys)
-
-or_left : (a b : Bool) → a ≡ true → (a || b) ≡ true
-or_left true b h = refl
-or_left false b h = absurd cc
-
-or_right : (a b : Bool) → b ≡ true → (a || b) ≡ true
-or_right true b h = refl
-or_right false b h = h
 
 pub within_left : (xs ys : List Class) → Within xs (xs ++ ys)
 within_left xs ys = λ c h. among_both xs ys c ∙ or_left (is_among xs c) (is_among ys c) h

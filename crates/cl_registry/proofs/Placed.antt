@@ -1,5 +1,6 @@
 -- What is recorded has its row; and in a told content its class has the file of that row.
 use Rattle.std.proofs.Common.{◌≡◌, ◌∙◌, ℕ, Bool, true, false, List, [], ◌∷◌, map, Option, Some, None, inl, inr, refl, sym, ap, subst}
+use Rattle.std.proofs.lemmas.Bool.{or_left, or_right}
 use Rattle.std.specs.Prelude.{if◌then◌else◌, ◌⊎◌, ◌||◌, option_and_then}
 use Rattle.std.specs.List.{AllByRecursion, list_any}
 use Rattle.std.proofs.lemmas.List.Elements.{recursion_from_All}
@@ -39,14 +40,6 @@ pub post_same : (s : State) (q : ℕ) (o : Option Answer) → (after s (post_of 
 post_same s q None = refl
 post_same s q (Some a) = refl
 
-or_true : (a b : Bool) → a ≡ true → (a || b) ≡ true
-or_true true b e = refl
-or_true false b e = absurd cc
-
-or_right : (a b : Bool) → b ≡ true → (a || b) ≡ true
-or_right true b e = refl
-or_right false b e = e
-
 class_of : (c d : Class) → c.name ≡ d.name → c.loader ≡ d.loader → c ≡ d
 class_of c d n l = ap (λ (m : Name). class m c.loader) n ∙ ap (λ (k : ℕ). class d.name k) l
 
@@ -56,7 +49,7 @@ comes script rounds now c [] s fine at = inl at
 comes script rounds now c (events.Define d ∷ h) s fine at = elim (comes script rounds now c h (after s (Define d)) fine.1 at) [
   | inl k ↦ elim (recorded_added s.records (record { loader = d.loader; name = d.name; place = d.loader }) c.loader c.loader c.name k) [
     | inl old ↦ inl old
-    | inr new ↦ inr (or_true (same_class d c) (is_one c (defined h)) (ap (λ (e : Class). same_class e c) (class_of d c new.1 new.0) ∙ same_self c))
+    | inr new ↦ inr (or_left (same_class d c) (is_one c (defined h)) (ap (λ (e : Class). same_class e c) (class_of d c new.1 new.0) ∙ same_self c))
   ]
   | inr k ↦ inr (or_right (same_class d c) (is_one c (defined h)) k)
 ]

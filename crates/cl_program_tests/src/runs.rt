@@ -91,22 +91,15 @@ fn seeds_change_no_line(rt: HostRuntime) {
         (None, 1, "", unread),
     ] {
         let runtime = SeededRuntime { host: &rt, random };
-        let mut out = Vec::new(rt.alloc());
-        let mut err = Vec::new(rt.alloc());
+        let alloc = rt.alloc();
+        let mut out = Vec::new(alloc);
+        let mut err = Vec::new(alloc);
         let asked = Asked::Bundle(Options {
             workers: 1,
             answers: false,
         });
         let input = LINEAGES.as_bytes();
-        let found = run_asked(
-            rt.alloc(),
-            &runtime,
-            &NoFiles,
-            asked,
-            input,
-            &mut out,
-            &mut err,
-        );
+        let found = run_asked(alloc, &runtime, &NoFiles, asked, input, &mut out, &mut err);
         assert_eq!(rt; found, status);
         assert_eq!(rt; out.as_slice(), lines.as_bytes());
         assert_eq!(rt; err.as_slice(), line.as_bytes());
@@ -120,8 +113,9 @@ fn run_without_seed_names_configuration(rt: HostRuntime) {
         host: &rt,
         random: None,
     };
-    let mut out = Vec::new(rt.alloc());
-    let mut err = Vec::new(rt.alloc());
+    let alloc = rt.alloc();
+    let mut out = Vec::new(alloc);
+    let mut err = Vec::new(alloc);
     let asked = Asked::Run(RunWords {
         config: "loaders.toml",
         script: "script",
@@ -131,15 +125,7 @@ fn run_without_seed_names_configuration(rt: HostRuntime) {
         },
     });
     let input: &[u8] = b"";
-    let found = run_asked(
-        rt.alloc(),
-        &runtime,
-        &NoFiles,
-        asked,
-        input,
-        &mut out,
-        &mut err,
-    );
+    let found = run_asked(alloc, &runtime, &NoFiles, asked, input, &mut out, &mut err);
     assert_eq!(rt; found, 1);
     assert!(rt; out.is_empty());
     let line = "classlink: cannot read loaders.toml\n";

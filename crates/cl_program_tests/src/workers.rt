@@ -126,8 +126,9 @@ fn workers_are_those_asked_for(rt: HostRuntime) {
             opened: &opened,
             most,
         };
-        let mut out = Vec::new(rt.alloc());
-        let mut err = Vec::new(rt.alloc());
+        let alloc = rt.alloc();
+        let mut out = Vec::new(alloc);
+        let mut err = Vec::new(alloc);
         let asked = Asked::Run(RunWords {
             config: "loaders.toml",
             script: "script",
@@ -137,15 +138,7 @@ fn workers_are_those_asked_for(rt: HostRuntime) {
             },
         });
         let input: &[u8] = b"";
-        let status = run_asked(
-            rt.alloc(),
-            &runtime,
-            &TwoFiles,
-            asked,
-            input,
-            &mut out,
-            &mut err,
-        );
+        let status = run_asked(alloc, &runtime, &TwoFiles, asked, input, &mut out, &mut err);
         assert_eq!(rt; status, 0);
         let lines: &[u8] =
             b"1 ClassNotFoundException p/A@boot\n2 ClassNotFoundException p/B@boot\n";
@@ -165,22 +158,15 @@ fn other_numbers_are_refused(rt: HostRuntime) {
             opened: &opened,
             most: 64,
         };
-        let mut out = Vec::new(rt.alloc());
-        let mut err = Vec::new(rt.alloc());
+        let alloc = rt.alloc();
+        let mut out = Vec::new(alloc);
+        let mut err = Vec::new(alloc);
         let asked = Asked::Bundle(Options {
             workers,
             answers: true,
         });
         let input: &[u8] = b"%config\n[[loader]]\nname = \"boot\"\n%script\nload boot p/A\n";
-        let status = run_asked(
-            rt.alloc(),
-            &runtime,
-            &TwoFiles,
-            asked,
-            input,
-            &mut out,
-            &mut err,
-        );
+        let status = run_asked(alloc, &runtime, &TwoFiles, asked, input, &mut out, &mut err);
         assert_eq!(rt; status, 1);
         assert!(rt; out.is_empty());
         let line: &[u8] = b"classlink: V1 Workers\n";

@@ -55,6 +55,11 @@ returns-in-Some-clause-refused g c =
           absurd (none_not_some _ (subst (λ (y : Shown). recorded (records_of y) c.args.home.now.asked c.args.home.now.name ≡ None) (sym c.self.view_is) none) (records g c).recorded))
     ]
 
+fresh : (g : _) (c : goal.In-Ok-initiate_new g) → LacksRecord c.args.self.now c.args.home.now.asked c.args.home.now.name
+fresh g c =
+    subst (λ (y : Shown). LacksRecord y c.args.home.now.asked c.args.home.now.name) c.self.view_is
+    (found_none (λ r. r.now) (λ r. r.value) g.T.Told.told _ c.args.home.now.asked c.args.home.now.name c.self.invariant.kept _ (c.self.invariant.rows c.args.home.now.asked c.args.home.now.name) c.asked_row.result c.asked_row.ensures c.in-None.is)
+
 pub initiate_new-requires : goal.initiate_new-requires
 initiate_new-requires g c = record {
   fresh = (subst (λ (y : Shown). LacksRecord y c.args.home.now.asked c.args.home.now.name) c.self.view_is
@@ -63,18 +68,12 @@ initiate_new-requires g c = record {
 
 pub returns-clause-initiated : goal.returns-clause-initiated
 returns-clause-initiated g c =
-    is_initiated g.T.Told.told c.args.self.now c.initiate_new.new.self c.args.home.now c.in-Ok-initiate_new.row.value (subst (λ (y : Shown). IsKept g.T.Told.told y) c.self.view_is c.self.invariant.kept)
-    (subst (λ (y : Shown). LacksRecord y c.args.home.now.asked c.args.home.now.name) c.self.view_is
-    (found_none (λ r. r.now) (λ r. r.value) g.T.Told.told _ c.args.home.now.asked c.args.home.now.name c.self.invariant.kept _ (c.self.invariant.rows c.args.home.now.asked c.args.home.now.name) c.asked_row.result c.asked_row.ensures c.in-None.is)) c.in-Ok-initiate_new.ensures.initiated
+    is_initiated g.T.Told.told c.args.self.now c.initiate_new.new.self c.args.home.now c.in-Ok-initiate_new.row.value (subst (λ (y : Shown). IsKept g.T.Told.told y) c.self.view_is c.self.invariant.kept) (fresh g c) c.in-Ok-initiate_new.ensures.initiated
 
 pub returns-clause-found : goal.returns-clause-found
 returns-clause-found g c =
-    records_initiated g.T.Told.told c.args.self.now c.initiate_new.new.self c.args.home.now c.in-Ok-initiate_new.row.value (subst (λ (y : Shown). IsKept g.T.Told.told y) c.self.view_is c.self.invariant.kept)
-    (subst (λ (y : Shown). LacksRecord y c.args.home.now.asked c.args.home.now.name) c.self.view_is
-    (found_none (λ r. r.now) (λ r. r.value) g.T.Told.told _ c.args.home.now.asked c.args.home.now.name c.self.invariant.kept _ (c.self.invariant.rows c.args.home.now.asked c.args.home.now.name) c.asked_row.result c.asked_row.ensures c.in-None.is)) c.in-Ok-initiate_new.ensures.initiated c.initiate_new.ensures.kept
+    records_initiated g.T.Told.told c.args.self.now c.initiate_new.new.self c.args.home.now c.in-Ok-initiate_new.row.value (subst (λ (y : Shown). IsKept g.T.Told.told y) c.self.view_is c.self.invariant.kept) (fresh g c) c.in-Ok-initiate_new.ensures.initiated c.initiate_new.ensures.kept
 
 pub returns-clause-shown : goal.returns-clause-shown
 returns-clause-shown g c =
-    shown_initiated g.T.Told.told c.args.self.now c.initiate_new.new.self c.args.home.now c.in-Ok-initiate_new.row.value (subst (λ (y : Shown). IsKept g.T.Told.told y) c.self.view_is c.self.invariant.kept)
-    (subst (λ (y : Shown). LacksRecord y c.args.home.now.asked c.args.home.now.name) c.self.view_is
-    (found_none (λ r. r.now) (λ r. r.value) g.T.Told.told _ c.args.home.now.asked c.args.home.now.name c.self.invariant.kept _ (c.self.invariant.rows c.args.home.now.asked c.args.home.now.name) c.asked_row.result c.asked_row.ensures c.in-None.is)) c.in-Ok-initiate_new.ensures.initiated
+    shown_initiated g.T.Told.told c.args.self.now c.initiate_new.new.self c.args.home.now c.in-Ok-initiate_new.row.value (subst (λ (y : Shown). IsKept g.T.Told.told y) c.self.view_is c.self.invariant.kept) (fresh g c) c.in-Ok-initiate_new.ensures.initiated

@@ -40,6 +40,16 @@ impl<T: Told> Desk<T> {
         }
     }
 
+    /// The copy of a request of this round, if it has begun and no worker took it.
+    pub(crate) fn take(&mut self, q: u32, round: u32) -> Option<Request>
+        ensures { self.new.registry ≡ self.old.registry }
+    {
+        if self.round < round {
+            return None;
+        }
+        self.asked.get_mut(q as usize)?.take()
+    }
+
     /// Begins the next rounds, as long as nothing of the round is unposted and there is a later one.
     pub(crate) fn pass_rounds(&mut self)
         ensures passed { RoundsPassed self.old.registry self.new.registry }

@@ -1,6 +1,6 @@
 //! What the workers share, and what each of them does.
 
-ghost use Rattle.std.specs.Prelude.{◌≡◌, ◌<◌, ◌≤◌, length};
+ghost use Rattle.std.specs.Prelude.{◌≡◌, ◌<◌, ◌≤◌, IfSome, length};
 ghost use Rattle.cl_schedule.specs.Replies.{IsOfTables};
 ghost use Rattle.cl_pool.specs.Seats.{IsSeatOf, MayDraw};
 
@@ -42,7 +42,8 @@ pub(crate) struct Worker<'a, T: Told, S: Source<T>, G: Gate> {
 }
 
 impl<T: Told, S: Source<T>, G: Gate> Worker<'_, T, S, G> {
-    /// Serves requests until none is left or the workers are to stop.
+    /// Serves requests until none is left or the workers are to stop. The next one is drawn before the answer of the last
+    /// is posted, so that one holding of the lock does both: it posts the one, and takes the other if its round has begun.
     fn run<R: Wait>(self, rt: &R) {
         let Worker {
             pool,
@@ -51,20 +52,36 @@ impl<T: Told, S: Source<T>, G: Gate> Worker<'_, T, S, G> {
             mut seat,
             mut source,
         } = self;
+        let mut next = pool.draws.draw(&mut seat);
+        let mut taken = None;
         for _ in rt.forever() {
-            let Some(q) = pool.draws.draw(&mut seat) else {
+            let Some(q) = next else {
                 break;
             };
-            if !pool.serve_request(rt, alloc, gate, &mut source, q) {
+            let Some(finding) = pool.serve_request(rt, alloc, gate, &mut source, q, taken) else {
                 break;
+            };
+            next = pool.draws.draw(&mut seat);
+            match pool.post(rt, gate, q, finding, next) {
+                Posted::Stops => break,
+                Posted::Takes(request) => taken = request,
             }
         }
     }
 }
 
+/// What came of a post.
+#[derive(Drop)]
+enum Posted {
+    /// The workers are to stop.
+    Stops,
+    /// The answer is posted, and this is the copy of the next request, if its round has begun.
+    Takes(Option<Request>),
+}
+
 impl<T: Told> Pool<T> {
-    /// Serves the request of a number, from its first turn to its post, once its round has begun (JVMS SE 8, 5.3 to
-    /// 5.4.3). False, where the workers are to stop.
+    /// Serves the request of a number, from its first turn up to its post, once its round has begun (JVMS SE 8, 5.3 to
+    /// 5.4.3). Its copy may have been taken before. None, where the workers are to stop.
     fn serve_request<S: Source<T>, G: Gate, R: Wait>(
         &self,
         rt: &R,
@@ -72,26 +89,33 @@ impl<T: Told> Pool<T> {
         gate: &G,
         source: &mut S,
         q: u32,
-    ) -> bool
+        taken: Option<Request>,
+    ) -> Option<Finding<T>>
         requires { q < length self.now.script.value.requests }
     {
-        let Some(request) = self.begin(rt, q) else {
-            return self.stop(rt);
+        let begun = match taken {
+            Some(request) => Some(request),
+            None => self.begin(rt, q),
+        };
+        let Some(request) = begun else {
+            self.stop(rt);
+            return None;
         };
         if usize::from(request.loader().0) >= self.config.count() {
-            return self.stop(rt);
+            self.stop(rt);
+            return None;
         }
         let config = match Arc::try_clone(&self.config) {
             Ok(config) => config,
-            Err(_) => return self.post(rt, gate, q, Finding::memory(request)),
+            Err(_) => return Some(Finding::memory(request)),
         };
         match Task::<T>::new(alloc, config, q, request) {
             Ok(task) => self.take_turns(rt, alloc, gate, source, task),
-            Err(refused) => self.post(rt, gate, q, Finding::memory(refused.request)),
+            Err(refused) => Some(Finding::memory(refused.request)),
         }
     }
 
-    /// Takes a task that has not begun from its first turn to its post. False, where the workers are to stop.
+    /// Takes a task that has not begun from its first turn up to its post. None, where the workers are to stop.
     fn take_turns<S: Source<T>, G: Gate, R: Wait>(
         &self,
         rt: &R,
@@ -99,23 +123,24 @@ impl<T: Told> Pool<T> {
         gate: &G,
         source: &mut S,
         mut task: Task<T>,
-    ) -> bool {
+    ) -> Option<Finding<T>> {
         let q = task.q();
         let mut reply = Reply::Start;
         while task.expects(&reply) {
             match task.turn(alloc, reply) {
-                Turn::Post(finding) => return self.post(rt, gate, q, finding),
+                Turn::Post(finding) => return Some(finding),
                 Turn::Read(loader, name) => {
                     gate.before_read(q, loader, &name);
                     reply = ask_source(alloc, source, loader, &name);
                 }
                 call => match self.call(rt, alloc, gate, q, call) {
                     Some(told) => reply = told,
-                    None => return false,
+                    None => return None,
                 },
             }
         }
-        self.stop(rt)
+        self.stop(rt);
+        None
     }
 
     /// The request of a number, once its round has begun; none, where the workers are to stop.
@@ -130,7 +155,7 @@ impl<T: Told> Pool<T> {
         if desk.stopped {
             return None;
         }
-        desk.asked.get_mut(q as usize)?.take()
+        desk.take(q, round)
     }
 
     /// Makes the call that a task asks for, under the lock. None, where the workers are to stop.
@@ -157,25 +182,37 @@ impl<T: Told> Pool<T> {
         told
     }
 
-    /// Posts the answer of a request, and wakes those that wait for a round. False, where the workers are to stop.
-    fn post<G: Gate, R: Wait>(&self, rt: &R, gate: &G, q: u32, finding: Finding<T>) -> bool {
+    /// Posts the answer of a request, wakes those that wait for a round, and takes the request that the worker serves next.
+    fn post<G: Gate, R: Wait>(
+        &self,
+        rt: &R,
+        gate: &G,
+        q: u32,
+        finding: Finding<T>,
+        next: Option<u32>,
+    ) -> Posted
+        requires { IfSome next (λ n. n < length self.now.script.value.requests) }
+    {
         let Some(mut desk) = self.enter(rt, gate, q) else {
             drop(finding);
-            return false;
+            return Posted::Stops;
         };
         let round = desk.round;
-        let posted = desk.post(q, finding);
-        if !posted {
+        if !desk.post(q, finding) {
             desk.stopped = true;
+            self.changed.notify_all();
+            return Posted::Stops;
         }
-        if !posted || desk.round != round {
+        if desk.round != round {
             self.changed.notify_all();
         }
+        let taken = match next {
+            Some(next) => desk.take(next, self.script.round_of(next as usize)),
+            None => None,
+        };
         drop(desk);
-        if posted {
-            gate.after_post(q);
-        }
-        posted
+        gate.after_post(q);
+        Posted::Takes(taken)
     }
 
     /// What stands behind the lock, for a turn of a request; none, where the workers are to stop.
@@ -190,11 +227,10 @@ impl<T: Told> Pool<T> {
         if desk.stopped { None } else { Some(desk) }
     }
 
-    /// Has all workers stop. It answers false.
-    fn stop<R: Wait>(&self, rt: &R) -> bool {
+    /// Has all workers stop.
+    fn stop<R: Wait>(&self, rt: &R) {
         self.desk.lock(rt).stopped = true;
         self.changed.notify_all();
-        false
     }
 
     /// Starts the workers that can be started, and answers how many. The first takes the source.

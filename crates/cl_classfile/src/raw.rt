@@ -221,7 +221,7 @@ fn borrowed_entry(entry: &Entry) -> RawEntry<'_>
     }
 }
 
-/// The entries, so.
+/// The entries as they would stand in the bytes, their texts borrowed.
 pub fn borrowed_entries(alloc: Global, pool: &[Entry]) -> Result<Vec<RawEntry<'_>>, AllocError>
     ensures { IfOk result (λ v. plain_entries v.items ≡ pool.now) }
 {

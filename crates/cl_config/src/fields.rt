@@ -154,7 +154,7 @@ fn name_in_text(alloc: Global, wrong: ConfigFault, text: &str) -> Result<Name, C
     }
 }
 
-/// What is there, or else a copy of this.
+/// The text that is there, or else a copy of the other.
 pub fn or_else(alloc: Global, other: &Text, text: Option<Text>) -> Result<Text, ConfigError>
     ensures { Gives (λ x. x) result (Ok (or_else other.now text)) }
 {

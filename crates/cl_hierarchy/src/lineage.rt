@@ -176,7 +176,7 @@ impl<T: Told> Lineage<T> {
         self.superinterfaces_of(alloc, &self.own)
     }
 
-    /// The same of the class of a row of the lineage.
+    /// The rows of all superinterfaces of the class of a row of the lineage, each once at its first place (JVMS SE 8, 5.4.3.3).
     pub fn superinterfaces_of(
         &self,
         alloc: Global,

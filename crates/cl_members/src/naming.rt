@@ -87,7 +87,7 @@ pub fn class_names(alloc: Global, file: &ClassFile, index: u16) -> Result<Vec<Na
     }
 }
 
-/// For each of these names that the two loaders have the same class of it.
+/// For each of these names the equality of the two loaders, the lesser first (JVMS SE 8, 5.3.4).
 pub fn equals(
     alloc: Global,
     names: Vec<Name>,

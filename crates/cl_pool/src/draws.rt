@@ -106,8 +106,8 @@ impl Draws {
         Ok(Seat { token, splits: 0 })
     }
 
-    /// The next number, which no seat has drawn and none will; none, where the word is past the last request. It takes no
-    /// memory.
+    /// The next number, which this seat has not drawn; none, where the word is past the last request. That no other seat has
+    /// drawn it, or will, is the word's rule (`Drawn`). It takes no memory.
     pub fn draw(&self, seat: &mut Seat) -> Option<u32>
         requires seat { IsSeatOf self.now seat.old }
         requires may { MayDraw seat.old }

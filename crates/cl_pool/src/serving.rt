@@ -25,13 +25,14 @@ use std::thread::{self, Threads};
 /// tables can be trusted.
 ///
 /// The first worker takes the source, each other one a further source. One whose source or thread cannot be had is not
-/// started. The registry stands behind one lock, which is held for one call of it at a time; reading, parsing and searching
-/// are done without it.
+/// started. The registry stands behind one lock, which is held for one call of it at a time, and behind a post for the rounds
+/// that may begin and a copy of the next request too; reading, parsing and searching are done without it.
 ///
 /// # Errors
 ///
 /// `Workers`, where they are not 1 to `MOST_WORKERS`; `Memory`, before a worker is started; `NoThread`, where none could be; `Stray`,
 /// where a worker met a value that does not fit the tables; `Unanswered`, with the registry, where a request has no answer.
+/// Of `Memory`, `NoThread` and `Stray` no clause says more than that there are 1 to `MOST_WORKERS` workers.
 pub fn serve<T: Told + Send + Sync, S: Source<T> + Send, G: Gate, R: Threads + Wait + Sync>(
     rt: &R,
     alloc: Global,

@@ -106,8 +106,8 @@ fn any_opens<T: Told>(
 }
 
 /// Whether the method of this name and descriptor of a class overrides the one of its superclass at this place, counted from
-/// 0 in the rows of its superclasses, nearest first: directly, or through the methods of classes between (JVMS SE 8, 5.4.5). In one look at each class up to
-/// there, without memory. Where the descriptor is none of a method, or one of the two classes declares no such method, it
+/// 0 in the rows of its superclasses, nearest first: directly, or through the methods of classes between (JVMS SE 8, 5.4.5). It looks at each class up to
+/// there once, and takes no memory. Where the descriptor is none of a method, or one of the two classes declares no such method, it
 /// does not.
 pub fn overrides<T: Told>(
     lineage: &Lineage<T>,

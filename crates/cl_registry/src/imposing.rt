@@ -135,8 +135,8 @@ impl<T: Told> Registry<T> {
         self.impose_allowed(alloc, list, place)
     }
 
-    /// The same of an equality that is known to be one that may be imposed: those before it are not looked at, so that the
-    /// calls for a whole list take time in its length.
+    /// Imposes an equality that is known to be one that may be imposed: those before it are not looked at, so that the calls
+    /// for a whole list take time in its length.
     pub fn impose_allowed(
         &mut self,
         alloc: Global,

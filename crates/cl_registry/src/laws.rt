@@ -12,8 +12,8 @@ pub fn entered_is_allowed()
     ensures { EnteredIsAllowed }
 {}
 
-/// A home of this configuration by which the linkage machine may record an initiating loader may be joined, that loader has no
-/// record, and this one is not refused: `initiate` refuses it for memory alone.
+/// Where the linkage machine may record an initiating loader by a home of this configuration, that loader has no record, the record
+/// is not refused, and the home may be joined: `initiate` refuses it for memory alone.
 pub fn allowed_is_joined()
     ensures { AllowedIsJoined }
 {}

@@ -97,7 +97,7 @@ impl<T: Told> Task<T> {
         expects(&self.config, &self.stage, reply)
     }
 
-    /// The next turn, by the reply to the last.
+    /// The next turn, by the reply to the last. What each clause promises stands in the crate's README, 'What `turn` promises'.
     pub fn turn(&mut self, alloc: Global, reply: Reply<T>) -> Turn<T>
         requires expects { Expects self.old reply }
         ensures number { self.new.q ≡ self.old.q }

@@ -23,7 +23,7 @@ use std::thread::Threads;
 
 /// Runs the program: its words, of which the first is its name, its input and its two outputs. The files of the words
 /// are read of `files`, those of directories of `rt`. The answer is the exit status: 0; 1 for a fault, whose text is
-/// written to `err`; 2 for words that are refused, with their text on `err`; 0 for help, on `out`.
+/// written to `err`; 2 for words that are refused, with their text on `err`; 0 for help, on `out`, or 1 where that was refused.
 pub fn run_over<
     R: AllocGlobal + OpenDirectories + RandomSource + Threads + Wait + Sync,
     F: ReadFile,

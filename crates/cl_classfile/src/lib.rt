@@ -8,6 +8,7 @@ mod fault;
 mod file;
 mod flags;
 mod index;
+mod indices;
 mod laws;
 mod limits;
 mod lookup;

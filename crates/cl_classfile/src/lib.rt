@@ -21,6 +21,7 @@ mod raw;
 mod reading;
 mod reference;
 mod rows;
+pub mod tags;
 mod traits;
 mod widths;
 

@@ -179,7 +179,7 @@ clinit = codes "<clinit>"
 -- the name, if it begins with <, is <init>, and the descriptor returns nothing (4.4.2)
 abbrev pub MayCall : List Entry → ℕ → Type 0
 MayCall pool i =
-    (rest : List ℕ) → IsNamed pool i (60 ∷ rest) → (60 ∷ rest ≡ init) × HasPair pool i IsVoid
+    (rest : List ℕ) → IsNamed pool i (0x3c ∷ rest) → (0x3c ∷ rest ≡ init) × HasPair pool i IsVoid
 
 -- it is a name that a programmer may write (4.4.8)
 abbrev pub IsPlain : List Entry → ℕ → Type 0

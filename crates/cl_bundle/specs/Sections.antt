@@ -83,7 +83,7 @@ pub record Parts : Type 0 where
 -- a line in front of what follows it, in the same section
 abbrev pub add_line : List ℕ → Result Parts ℕ → Result Parts ℕ
 add_line line (Ok p) =
-    Ok (record { body = line ++ 10 ∷ p.body; classes = p.classes; script = p.script })
+    Ok (record { body = line ++ 0x0a ∷ p.body; classes = p.classes; script = p.script })
 add_line line (Err n) = Err n
 
 -- a class section in front of what follows its `%class`: the lines up to the next section line are
@@ -109,12 +109,12 @@ behind_line WrongLine n line rest parts = Err n
 abbrev pub parts_from : ℕ → List (List ℕ) → Result Parts ℕ
 parts_from n [] = Err 0
 parts_from n (line ∷ lines) =
-    behind_line (heading_of (words_of line)) n line (join_with_byte 10 lines)
+    behind_line (heading_of (words_of line)) n line (join_with_byte 0x0a lines)
     (parts_from (n + 1) lines)
 
 -- the lines of a text, which U+000A parts
 abbrev pub lines_in : List ℕ → List (List ℕ)
-lines_in text = slice_split (λ b. b == 10) text
+lines_in text = slice_split (λ b. b == 0x0a) text
 
 -- a bundle: what follows `%config`, the class sections, and the script
 pub record Cut : Type 0 where

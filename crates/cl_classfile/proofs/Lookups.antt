@@ -7,12 +7,16 @@ use Rattle.cl_descriptors.specs.Reading.{whole_field, whole_method}
 use Rattle.cl_descriptors.proofs.Methods.{whole_field_again, whole_method_again}
 use Rattle.cl_classfile.specs.declared.entry.Entry.{Entry}
 use Rattle.cl_classfile.specs.Structure.{Structure, Member, IsClassFile}
-use Rattle.cl_classfile.specs.Members.{KeepsField, KeepsMethod}
+use Rattle.cl_classfile.specs.declared.numbers.Numbers.{Numbers}
+use Rattle.cl_classfile.specs.declared.index.Places.{Places}
+use Rattle.cl_classfile.specs.Indexes.{Lead, led_to}
+use Rattle.cl_classfile.specs.Members.{KeepsField, KeepsMethod, AreNew}
 use Rattle.cl_classfile.specs.Flags.{has, interface}
 use Rattle.cl_classfile.specs.Files.{Name, Key, same_name, same_key, member, field_of, method_of, declared_by, text_at, text_of, file_of}
 use Rattle.cl_classfile.specs.Files as files
 use Rattle.cl_classfile.specs.Lookups.{field_named, method_named, linked_field, linked_method, has_texts}
 use Rattle.cl_classfile.proofs.KeyTexts.{Reads, reads_fields, reads_methods}
+use Rattle.cl_classfile.proofs.Indexes.{leads}
 
 -- a member's texts, and the key that they are
 record IsKeyed (read : Name → Name → Option Key) (pool : List Entry) (m : Member) : Type 0 where
@@ -117,7 +121,21 @@ method_is f is name descriptor =
     either_is method_of reads_methods f.pool name descriptor (method_of name descriptor) refl f.methods
     (each (method_keyed f.pool (has f.flags interface)) f.methods is.kept.methods.each)
 
+-- ---- what a search found, r, with what g tells of it: the members are those that the file showed, and so is the pool
+
 -- what is true of what was found is true of it without where it lies
-pub map_after : {A B C : Type 0} (f : A → B) (g : B → C) (o : Option A) (r : Option B) → option_map f o ≡ r → option_map (λ a. g (f a)) o ≡ option_map g r
+map_after : {A B C : Type 0} (f : A → B) (g : B → C) (o : Option A) (r : Option B) → option_map f o ≡ r → option_map (λ a. g (f a)) o ≡ option_map g r
 map_after f g None r e = ap (option_map g) e
 map_after f g (Some a) r e = ap (option_map g) e
+
+module _ {A B : Type 0} (now : A → Member) (g : Member → B) (pool : List Entry) (ms shown : List Member) (same : shown ≡ ms) (name descriptor : Name) (r : Option A) where
+  abbrev IsFound : Type 0
+  IsFound = option_map (λ m. g (now m)) r ≡ option_map g (find (has_texts pool name descriptor) ms)
+
+  pub by_index : (ns : Numbers) (ps : Places) → Lead pool ns ps ms → AreNew pool [] ms → option_map now r ≡ led_to ns ps shown name descriptor → IsFound
+  by_index ns ps lead new e =
+      map_after now g r _ (e ∙ ap (λ (it : List Member). led_to ns ps it name descriptor) same ∙ leads pool ns ps ms lead new name descriptor)
+
+  pub by_look : (from : List Entry) → from ≡ pool → option_map now r ≡ find (has_texts from name descriptor) shown → IsFound
+  by_look from pools e =
+      map_after now g r _ (e ∙ ap (λ (es : List Entry). find (has_texts es name descriptor) shown) pools ∙ ap (find (has_texts pool name descriptor)) same)

@@ -13,7 +13,8 @@ use Rattle.cl_classfile.specs.declared.fault.Fault.{Fault}
 use Rattle.cl_classfile.specs.declared.fault.Fault.TheVariants.{BadPool}
 use Rattle.cl_classfile.specs.Pool.{entry_spelling, two, EntryFits, IsIndex, is_wide, AreSpaced}
 use Rattle.cl_classfile.specs.Structure.{pool_spelling, PoolFits}
-use Rattle.cl_classfile.specs.Reading.{Reader, number_at, test_at, map_at, text_at, byte_at, signed_at, two_at, handle_at, value_at, index_at, pair_at, other_at, entry_at, slot_at, next_place, entries_at, pool_at}
+use Rattle.cl_classfile.specs.Tags as tags
+use Rattle.cl_classfile.specs.Reading.{Reader, number_at, test_at, map_at, text_at, byte_at, signed_at, two_at, handle_at, tagged_at, entry_at, slot_at, next_place, entries_at, pool_at}
 use Rattle.cl_classfile.proofs.Codec.{IsBytes, bind_ok, ok_is, Takes, Takes-then, IsCodec, number16, number32, number64, also, tested, mapped, many, EachFits, sized}
 
 -- ---- what stands behind a tag
@@ -85,53 +86,38 @@ kind {B} n i tag given rest r s F make c spelled fits is = record {
 narrow : (n i : ℕ) (e : Entry) → EntryFits e → e ≢ Unusable → is_wide e ≡ false → IsPlaced n i e
 narrow n i e fits usable slim = record { fits = fits; usable = usable; room = λ w. absurd (let f : true ≡ false = sym w ∙ slim in cc) }
 
-other_taken : (n i tag : ℕ) (rest : List ℕ) → IsBytes (tag ∷ rest) → IsTaken n i (tag ∷ rest) (other_at i tag rest)
-unfolding other_at
-other_taken n i tag rest fits =
-    choose n i (tag ∷ rest) (eqb tag 1) _ _ (kind n i 1 tag rest text_at _ _ (λ t. Utf8 t) text (λ t h. (refl, narrow n i (Utf8 t) h (λ is. absurd cc) refl)) fits)
-    (choose n i (tag ∷ rest) (eqb tag 15) _ _ (kind n i 15 tag rest handle_at _ _ (λ p. MethodHandle p.0 p.1) handle (λ p h. (refl, narrow n i (MethodHandle p.0 p.1) h (λ is. absurd cc) refl)) fits)
-    (refused n i (tag ∷ rest) (BadPool i)))
-
-pair_taken : (n i tag : ℕ) (rest : List ℕ) (other : Reader Entry) → IsBytes (tag ∷ rest) → IsTaken n i (tag ∷ rest) (other rest) → IsTaken n i (tag ∷ rest) (pair_at tag other rest)
-unfolding pair_at
-pair_taken n i tag rest other fits o =
-    choose n i (tag ∷ rest) (eqb tag 9) _ _ (kind n i 9 tag rest two_at _ _ (λ p. Fieldref p.0 p.1) pair (λ p h. (refl, narrow n i (Fieldref p.0 p.1) h (λ is. absurd cc) refl)) fits)
-    (choose n i (tag ∷ rest) (eqb tag 10) _ _ (kind n i 10 tag rest two_at _ _ (λ p. Methodref p.0 p.1) pair (λ p h. (refl, narrow n i (Methodref p.0 p.1) h (λ is. absurd cc) refl)) fits)
-    (choose n i (tag ∷ rest) (eqb tag 11) _ _ (kind n i 11 tag rest two_at _ _ (λ p. InterfaceMethodref p.0 p.1) pair (λ p h. (refl, narrow n i (InterfaceMethodref p.0 p.1) h (λ is. absurd cc) refl)) fits)
-    (choose n i (tag ∷ rest) (eqb tag 12) _ _ (kind n i 12 tag rest two_at _ _ (λ p. NameAndType p.0 p.1) pair (λ p h. (refl, narrow n i (NameAndType p.0 p.1) h (λ is. absurd cc) refl)) fits)
-    (choose n i (tag ∷ rest) (eqb tag 18) _ _ (kind n i 18 tag rest two_at _ _ (λ p. InvokeDynamic p.0 p.1) pair (λ p h. (refl, narrow n i (InvokeDynamic p.0 p.1) h (λ is. absurd cc) refl)) fits) o))))
-
-index_taken : (n i tag : ℕ) (rest : List ℕ) (other : Reader Entry) → IsBytes (tag ∷ rest) → IsTaken n i (tag ∷ rest) (other rest) → IsTaken n i (tag ∷ rest) (index_at tag other rest)
-unfolding index_at
-index_taken n i tag rest other fits o =
-    choose n i (tag ∷ rest) (eqb tag 7) _ _ (kind n i 7 tag rest (number_at w16) _ _ (λ k. Class k) number16 (λ k h. (refl, narrow n i (Class k) h (λ is. absurd cc) refl)) fits)
-    (choose n i (tag ∷ rest) (eqb tag 8) _ _ (kind n i 8 tag rest (number_at w16) _ _ (λ k. String k) number16 (λ k h. (refl, narrow n i (String k) h (λ is. absurd cc) refl)) fits)
-    (choose n i (tag ∷ rest) (eqb tag 16) _ _ (kind n i 16 tag rest (number_at w16) _ _ (λ k. MethodType k) number16 (λ k h. (refl, narrow n i (MethodType k) h (λ is. absurd cc) refl)) fits) o))
-
-value_taken : (n i tag : ℕ) (rest : List ℕ) (other : Reader Entry) → IsBytes (tag ∷ rest) → IsTaken n i (tag ∷ rest) (other rest) → IsTaken n i (tag ∷ rest) (value_at n i tag other rest)
-unfolding value_at
-value_taken n i tag rest other fits o =
-    choose n i (tag ∷ rest) (eqb tag 3) _ _ (kind n i 3 tag rest (signed_at w32) _ _ (λ v. Integer v) signed32 (λ v h. (refl, narrow n i (Integer v) h (λ is. absurd cc) refl)) fits)
-    (choose n i (tag ∷ rest) (eqb tag 4) _ _ (kind n i 4 tag rest (number_at w32) _ _ (λ b. Float b) number32 (λ b h. (refl, narrow n i (Float b) h (λ is. absurd cc) refl)) fits)
-    (choose n i (tag ∷ rest) (eqb tag 5) _ _ (λ is.
+tagged_taken : (n i tag : ℕ) (rest : List ℕ) → IsBytes (tag ∷ rest) → IsTaken n i (tag ∷ rest) (tagged_at n i tag rest)
+unfolding tagged_at
+tagged_taken n i tag rest fits =
+    choose n i (tag ∷ rest) (eqb tag tags.utf8) _ _ (kind n i tags.utf8 tag rest text_at _ _ (λ t. Utf8 t) text (λ t h. (refl, narrow n i (Utf8 t) h (λ is. absurd cc) refl)) fits)
+    (choose n i (tag ∷ rest) (eqb tag tags.integer) _ _ (kind n i tags.integer tag rest (signed_at w32) _ _ (λ v. Integer v) signed32 (λ v h. (refl, narrow n i (Integer v) h (λ is. absurd cc) refl)) fits)
+    (choose n i (tag ∷ rest) (eqb tag tags.float) _ _ (kind n i tags.float tag rest (number_at w32) _ _ (λ b. Float b) number32 (λ b h. (refl, narrow n i (Float b) h (λ is. absurd cc) refl)) fits)
+    (choose n i (tag ∷ rest) (eqb tag tags.long) _ _ (λ is.
     choose n i (tag ∷ rest) (ltb i n) _ _
-    (λ lt. kind n i 5 tag rest (signed_at w64) _ _ (λ v. Long v) signed64 (λ v h. (refl, record { fits = h; usable = λ k. absurd cc; room = λ w. ltb-true i n lt })) fits is)
+    (λ lt. kind n i tags.long tag rest (signed_at w64) _ _ (λ v. Long v) signed64 (λ v h. (refl, record { fits = h; usable = λ k. absurd cc; room = λ w. ltb-true i n lt })) fits is)
     (refused n i (tag ∷ rest) (BadPool i)))
-    (choose n i (tag ∷ rest) (eqb tag 6) _ _ (λ is.
+    (choose n i (tag ∷ rest) (eqb tag tags.double) _ _ (λ is.
     choose n i (tag ∷ rest) (ltb i n) _ _
-    (λ lt. kind n i 6 tag rest (number_at w64) _ _ (λ b. Double b) number64 (λ b h. (refl, record { fits = h; usable = λ k. absurd cc; room = λ w. ltb-true i n lt })) fits is)
+    (λ lt. kind n i tags.double tag rest (number_at w64) _ _ (λ b. Double b) number64 (λ b h. (refl, record { fits = h; usable = λ k. absurd cc; room = λ w. ltb-true i n lt })) fits is)
     (refused n i (tag ∷ rest) (BadPool i)))
-    o)))
+    (choose n i (tag ∷ rest) (eqb tag tags.class) _ _ (kind n i tags.class tag rest (number_at w16) _ _ (λ k. Class k) number16 (λ k h. (refl, narrow n i (Class k) h (λ is. absurd cc) refl)) fits)
+    (choose n i (tag ∷ rest) (eqb tag tags.string) _ _ (kind n i tags.string tag rest (number_at w16) _ _ (λ k. String k) number16 (λ k h. (refl, narrow n i (String k) h (λ is. absurd cc) refl)) fits)
+    (choose n i (tag ∷ rest) (eqb tag tags.fieldref) _ _ (kind n i tags.fieldref tag rest two_at _ _ (λ p. Fieldref p.0 p.1) pair (λ p h. (refl, narrow n i (Fieldref p.0 p.1) h (λ is. absurd cc) refl)) fits)
+    (choose n i (tag ∷ rest) (eqb tag tags.methodref) _ _ (kind n i tags.methodref tag rest two_at _ _ (λ p. Methodref p.0 p.1) pair (λ p h. (refl, narrow n i (Methodref p.0 p.1) h (λ is. absurd cc) refl)) fits)
+    (choose n i (tag ∷ rest) (eqb tag tags.interface_methodref) _ _ (kind n i tags.interface_methodref tag rest two_at _ _ (λ p. InterfaceMethodref p.0 p.1) pair (λ p h. (refl, narrow n i (InterfaceMethodref p.0 p.1) h (λ is. absurd cc) refl)) fits)
+    (choose n i (tag ∷ rest) (eqb tag tags.name_and_type) _ _ (kind n i tags.name_and_type tag rest two_at _ _ (λ p. NameAndType p.0 p.1) pair (λ p h. (refl, narrow n i (NameAndType p.0 p.1) h (λ is. absurd cc) refl)) fits)
+    (choose n i (tag ∷ rest) (eqb tag tags.method_handle) _ _ (kind n i tags.method_handle tag rest handle_at _ _ (λ p. MethodHandle p.0 p.1) handle (λ p h. (refl, narrow n i (MethodHandle p.0 p.1) h (λ is. absurd cc) refl)) fits)
+    (choose n i (tag ∷ rest) (eqb tag tags.method_type) _ _ (kind n i tags.method_type tag rest (number_at w16) _ _ (λ k. MethodType k) number16 (λ k h. (refl, narrow n i (MethodType k) h (λ is. absurd cc) refl)) fits)
+    (choose n i (tag ∷ rest) (eqb tag tags.invoke_dynamic) _ _ (kind n i tags.invoke_dynamic tag rest two_at _ _ (λ p. InvokeDynamic p.0 p.1) pair (λ p h. (refl, narrow n i (InvokeDynamic p.0 p.1) h (λ is. absurd cc) refl)) fits)
+    (refused n i (tag ∷ rest) (BadPool i)))))))))))))))
 
 entry_taken : (n i : ℕ) (bytes : List ℕ) → IsBytes bytes → IsTaken n i bytes (entry_at n i bytes)
 unfolding entry_at
 entry_taken n i [] fits = record { taken = λ x e. absurd cc }
-entry_taken n i (tag ∷ rest) fits =
-    value_taken n i tag rest (index_at tag (pair_at tag (other_at i tag))) fits
-    (index_taken n i tag rest (pair_at tag (other_at i tag)) fits (pair_taken n i tag rest (other_at i tag) fits (other_taken n i tag rest fits)))
+entry_taken n i (tag ∷ rest) fits = tagged_taken n i tag rest fits
 
 entry_again : (n i : ℕ) (e : Entry) (rest : List ℕ) → IsPlaced n i e → entry_at n i (entry_spelling e ++ rest) ≡ Ok (e, rest)
-unfolding entry_at value_at index_at pair_at other_at
+unfolding entry_at tagged_at
 entry_again n i (Utf8 t) rest h = rw (text.again t rest h.fits) refl
 entry_again n i (Integer v) rest h = rw (signed32.again v rest h.fits) refl
 entry_again n i (Float b) rest h = rw (number32.again b rest h.fits) refl

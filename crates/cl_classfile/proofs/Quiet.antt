@@ -11,10 +11,11 @@ use Rattle.cl_classfile.specs.declared.members.Kind.{Kind}
 use Rattle.cl_classfile.specs.declared.members.Kind.TheVariants as kinds
 use Rattle.cl_classfile.specs.Structure.{Structure, Member, Attribute}
 use Rattle.cl_classfile.specs.Widths.{is_short, all_fit, attribute_fits}
+use Rattle.cl_classfile.specs.Tags as tags
 use Rattle.cl_classfile.specs.Files.{class_name}
 use Rattle.cl_classfile.specs.Rows.{entry_traits, keeps_entry}
 use Rattle.cl_classfile.specs.Checking.{◌>>=◌, kept_entry, checked_entries, keeps_names, keeps_interfaces, checked_class, keeps_member, same_member, checked_members, checked_list, checked_tables, kept_file}
-use Rattle.cl_classfile.specs.Reading.{Reader, number_at, bytes_at, then_at, test_at, map_at, sized_at, many_at, counted_at, header_at, text_at, byte_at, signed_at, two_at, handle_at, wide_at, value_at, index_at, pair_at, other_at, entry_at, slot_at, next_place, entries_at, pool_at, class_at, interfaces_at, attribute_at, attributes_at, member_at, members_at, tables_at, Parts, parts_at, structure_of, structure_at, whole_of, read_of}
+use Rattle.cl_classfile.specs.Reading.{Reader, number_at, bytes_at, then_at, test_at, map_at, sized_at, many_at, counted_at, header_at, text_at, byte_at, signed_at, two_at, handle_at, wide_at, tagged_at, entry_at, slot_at, next_place, entries_at, pool_at, class_at, interfaces_at, attribute_at, attributes_at, member_at, members_at, tables_at, Parts, parts_at, structure_of, structure_at, whole_of, read_of}
 use Rattle.cl_classfile.proofs.Judging.{differ}
 
 -- the header's own faults
@@ -103,23 +104,23 @@ wide : (n i : ℕ) (r : Reader Entry) → Quiet r → Quiet (wide_at n i r)
 wide n i r p bytes = choice (ltb i n) (r bytes) (Err (BadPool i)) (p bytes) (err (BadPool i) refl)
 
 entry : (n i : ℕ) → Quiet (entry_at n i)
-unfolding entry_at value_at index_at pair_at other_at
+unfolding entry_at tagged_at
 entry n i [] = err Truncated refl
 entry n i (tag ∷ rest) =
-    choice (eqb tag 3) _ _ (seen (signed_at w32) _ (signed w32) rest)
-    (choice (eqb tag 4) _ _ (seen (number_at w32) _ (number w32) rest)
-    (choice (eqb tag 5) _ _ (wide n i _ (seen (signed_at w64) _ (signed w64)) rest)
-    (choice (eqb tag 6) _ _ (wide n i _ (seen (number_at w64) _ (number w64)) rest)
-    (choice (eqb tag 7) _ _ (seen (number_at w16) _ (number w16) rest)
-    (choice (eqb tag 8) _ _ (seen (number_at w16) _ (number w16) rest)
-    (choice (eqb tag 16) _ _ (seen (number_at w16) _ (number w16) rest)
-    (choice (eqb tag 9) _ _ (seen two_at _ pair rest)
-    (choice (eqb tag 10) _ _ (seen two_at _ pair rest)
-    (choice (eqb tag 11) _ _ (seen two_at _ pair rest)
-    (choice (eqb tag 12) _ _ (seen two_at _ pair rest)
-    (choice (eqb tag 18) _ _ (seen two_at _ pair rest)
-    (choice (eqb tag 1) _ _ (seen text_at _ text rest)
-    (choice (eqb tag 15) _ _ (seen handle_at _ handle rest) (err (BadPool i) refl))))))))))))))
+    choice (eqb tag tags.utf8) _ _ (seen text_at _ text rest)
+    (choice (eqb tag tags.integer) _ _ (seen (signed_at w32) _ (signed w32) rest)
+    (choice (eqb tag tags.float) _ _ (seen (number_at w32) _ (number w32) rest)
+    (choice (eqb tag tags.long) _ _ (wide n i _ (seen (signed_at w64) _ (signed w64)) rest)
+    (choice (eqb tag tags.double) _ _ (wide n i _ (seen (number_at w64) _ (number w64)) rest)
+    (choice (eqb tag tags.class) _ _ (seen (number_at w16) _ (number w16) rest)
+    (choice (eqb tag tags.string) _ _ (seen (number_at w16) _ (number w16) rest)
+    (choice (eqb tag tags.fieldref) _ _ (seen two_at _ pair rest)
+    (choice (eqb tag tags.methodref) _ _ (seen two_at _ pair rest)
+    (choice (eqb tag tags.interface_methodref) _ _ (seen two_at _ pair rest)
+    (choice (eqb tag tags.name_and_type) _ _ (seen two_at _ pair rest)
+    (choice (eqb tag tags.method_handle) _ _ (seen handle_at _ handle rest)
+    (choice (eqb tag tags.method_type) _ _ (seen (number_at w16) _ (number w16) rest)
+    (choice (eqb tag tags.invoke_dynamic) _ _ (seen two_at _ pair rest) (err (BadPool i) refl))))))))))))))
 
 slot : (n : ℕ) (place : ℕ × Bool) → Quiet (slot_at n place)
 unfolding slot_at

@@ -102,7 +102,7 @@ type_name pool i = type_of pool (at pool i)
 -- the name of an array is its descriptor (4.4.1)
 abbrev pub is_array_name : Name → Bool
 is_array_name [] = false
-is_array_name (c ∷ rest) = c == 91
+is_array_name (c ∷ rest) = c == 0x5b
 
 -- a name, unless it is that of an array (4.4.1)
 abbrev pub no_array : Name → Option Name
@@ -265,15 +265,15 @@ same_name a b = pointwise nat_eq a b
 
 -- the letter of a base that is no class (4.3.2), and the name of one that is
 abbrev pub letter : Base → ℕ
-letter bases.Byte = 66
-letter bases.Char = 67
-letter bases.Double = 68
-letter bases.Float = 70
-letter bases.Int = 73
-letter bases.Long = 74
-letter bases.Short = 83
-letter bases.Boolean = 90
-letter (bases.Class name) = 76
+letter bases.Byte = 0x42
+letter bases.Char = 0x43
+letter bases.Double = 0x44
+letter bases.Float = 0x46
+letter bases.Int = 0x49
+letter bases.Long = 0x4a
+letter bases.Short = 0x53
+letter bases.Boolean = 0x5a
+letter (bases.Class name) = 0x4c
 
 -- the name of a base that is a class (4.3.2)
 abbrev pub element_name : Base → List Name

@@ -9,67 +9,67 @@ has flags bit = flags / bit % 2 == 1
 
 -- what has it may be used from outside its package (table 4.1-A, 4.5-A, 4.6-A)
 abbrev pub public : ℕ
-public = 1
+public = 0x0001
 
 -- what has it is used in its own class alone (table 4.5-A, 4.6-A)
 abbrev pub private : ℕ
-private = 2
+private = 0x0002
 
 -- what has it may be used in subclasses (table 4.5-A, 4.6-A)
 abbrev pub protected : ℕ
-protected = 4
+protected = 0x0004
 
 -- what has it is of the class, and of no instance (table 4.5-A, 4.6-A)
 abbrev pub static : ℕ
-static = 8
+static = 0x0008
 
 -- what has it is not changed, overridden or extended (table 4.1-A, 4.5-A, 4.6-A)
 abbrev pub final : ℕ
-final = 16
+final = 0x0010
 
 -- what has it is treated as a class is since JDK 1.0.2 (table 4.1-A)
 abbrev pub super : ℕ
-super = 32
+super = 0x0020
 
 -- what has it is wrapped in a lock (table 4.6-A)
 abbrev pub synchronized : ℕ
-synchronized = 32
+synchronized = 0x0020
 
 -- what has it is not cached (table 4.5-A)
 abbrev pub volatile : ℕ
-volatile = 64
+volatile = 0x0040
 
 -- what has it was made by a compiler to bridge two types (table 4.6-A)
 abbrev pub bridge : ℕ
-bridge = 64
+bridge = 0x0040
 
 -- what has it is not kept with an object (table 4.5-A)
 abbrev pub transient : ℕ
-transient = 128
+transient = 0x0080
 
 -- what has it is written in another language (table 4.6-A)
 abbrev pub native : ℕ
-native = 256
+native = 0x0100
 
 -- what has it is an interface (table 4.1-A)
 abbrev pub interface : ℕ
-interface = 512
+interface = 0x0200
 
 -- what has it is not instantiated, or has no body (table 4.1-A, 4.6-A)
 abbrev pub abstract : ℕ
-abstract = 1024
+abstract = 0x0400
 
 -- what has it computes floating point strictly (table 4.6-A)
 abbrev pub strict : ℕ
-strict = 2048
+strict = 0x0800
 
 -- what has it is an annotation type (table 4.1-A)
 abbrev pub annotation : ℕ
-annotation = 8192
+annotation = 0x2000
 
 -- what has it is an enum, or an element of one (table 4.1-A, 4.5-A)
 abbrev pub enum : ℕ
-enum = 16384
+enum = 0x4000
 
 -- ---- classes
 

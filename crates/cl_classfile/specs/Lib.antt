@@ -1,4 +1,5 @@
 pub mod Flags
+pub mod Tags
 pub mod Pool
 pub mod Members
 pub mod Widths

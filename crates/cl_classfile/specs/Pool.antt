@@ -29,6 +29,7 @@ use Rattle.std.specs.Int.{w16, w32, w64, to_be_bytes, cast_unsigned}
 use Rattle.cl_names.specs.Text.{IsModifiedUtf8}
 use Rattle.cl_names.specs.Kind.{IsNameOf, IsUnqualified, IsMethod, IsClass}
 use Rattle.cl_descriptors.specs.Answers as descriptors
+use Rattle.cl_classfile.specs.Tags as tags
 use Rattle.cl_classfile.specs.declared.entry.Entry.{Entry}
 use Rattle.cl_classfile.specs.declared.entry.Entry.TheVariants.{
   Utf8,
@@ -56,21 +57,21 @@ two a b = to_be_bytes w16 a ++ to_be_bytes w16 b
 
 -- the tag of an entry, and what follows it (4.4)
 abbrev pub entry_spelling : Entry → List ℕ
-entry_spelling (Utf8 text) = 1 ∷ (to_be_bytes w16 (length text) ++ text)
-entry_spelling (Integer value) = 3 ∷ to_be_bytes w32 (cast_unsigned w32 value)
-entry_spelling (Float bits) = 4 ∷ to_be_bytes w32 bits
-entry_spelling (Long value) = 5 ∷ to_be_bytes w64 (cast_unsigned w64 value)
-entry_spelling (Double bits) = 6 ∷ to_be_bytes w64 bits
+entry_spelling (Utf8 text) = tags.utf8 ∷ (to_be_bytes w16 (length text) ++ text)
+entry_spelling (Integer value) = tags.integer ∷ to_be_bytes w32 (cast_unsigned w32 value)
+entry_spelling (Float bits) = tags.float ∷ to_be_bytes w32 bits
+entry_spelling (Long value) = tags.long ∷ to_be_bytes w64 (cast_unsigned w64 value)
+entry_spelling (Double bits) = tags.double ∷ to_be_bytes w64 bits
 entry_spelling Unusable = []
-entry_spelling (Class text) = 7 ∷ to_be_bytes w16 text
-entry_spelling (String text) = 8 ∷ to_be_bytes w16 text
-entry_spelling (Fieldref class pair) = 9 ∷ two class pair
-entry_spelling (Methodref class pair) = 10 ∷ two class pair
-entry_spelling (InterfaceMethodref class pair) = 11 ∷ two class pair
-entry_spelling (NameAndType name descriptor) = 12 ∷ two name descriptor
-entry_spelling (MethodHandle kind reference) = 15 ∷ kind ∷ to_be_bytes w16 reference
-entry_spelling (MethodType descriptor) = 16 ∷ to_be_bytes w16 descriptor
-entry_spelling (InvokeDynamic bootstrap pair) = 18 ∷ two bootstrap pair
+entry_spelling (Class text) = tags.class ∷ to_be_bytes w16 text
+entry_spelling (String text) = tags.string ∷ to_be_bytes w16 text
+entry_spelling (Fieldref class pair) = tags.fieldref ∷ two class pair
+entry_spelling (Methodref class pair) = tags.methodref ∷ two class pair
+entry_spelling (InterfaceMethodref class pair) = tags.interface_methodref ∷ two class pair
+entry_spelling (NameAndType name descriptor) = tags.name_and_type ∷ two name descriptor
+entry_spelling (MethodHandle kind reference) = tags.method_handle ∷ kind ∷ to_be_bytes w16 reference
+entry_spelling (MethodType descriptor) = tags.method_type ∷ to_be_bytes w16 descriptor
+entry_spelling (InvokeDynamic bootstrap pair) = tags.invoke_dynamic ∷ two bootstrap pair
 
 -- ---- what the widths hold
 
@@ -178,7 +179,7 @@ clinit = codes "<clinit>"
 -- the name, if it begins with <, is <init>, and the descriptor returns nothing (4.4.2)
 abbrev pub MayCall : List Entry → ℕ → Type 0
 MayCall pool i =
-    (rest : List ℕ) → IsNamed pool i (60 ∷ rest) → (60 ∷ rest ≡ init) × HasPair pool i IsVoid
+    (rest : List ℕ) → IsNamed pool i (0x3c ∷ rest) → (0x3c ∷ rest ≡ init) × HasPair pool i IsVoid
 
 -- it is a name that a programmer may write (4.4.8)
 abbrev pub IsPlain : List Entry → ℕ → Type 0

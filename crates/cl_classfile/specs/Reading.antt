@@ -51,6 +51,7 @@ use Rattle.cl_classfile.specs.declared.fault.Fault.TheVariants.{
   BadPool,
 }
 use Rattle.cl_classfile.specs.Pool.{is_wide}
+use Rattle.cl_classfile.specs.Tags as tags
 use Rattle.cl_classfile.specs.Structure.{Structure, Member, Attribute}
 use Rattle.cl_classfile.specs.Checking.{◌>>=◌, kept_file}
 
@@ -142,58 +143,43 @@ handle_at = then_at byte_at (λ kind. number_at w16)
 abbrev pub wide_at : ℕ → ℕ → Reader Entry → Reader Entry
 wide_at n i r bytes = if nat_lt i n then r bytes else Err (BadPool i)
 
--- behind the tag of the entry at index i: numbers (4.4.4, 4.4.5)
-unfoldable pub value_at : ℕ → ℕ → ℕ → Reader Entry → Reader Entry
-value_at n i tag other rest =
-    if tag == 3
-    then map_at (signed_at w32) (λ value. Integer value) rest
-    else if tag == 4
-    then map_at (number_at w32) (λ bits. Float bits) rest
-    else if tag == 5
-    then wide_at n i (map_at (signed_at w64) (λ value. Long value)) rest
-    else if tag == 6
-    then wide_at n i (map_at (number_at w64) (λ bits. Double bits)) rest
-    else other rest
-
--- one index (4.4.1, 4.4.3, 4.4.9)
-unfoldable pub index_at : ℕ → Reader Entry → Reader Entry
-index_at tag other rest =
-    if tag == 7
-    then map_at (number_at w16) (λ text. Class text) rest
-    else if tag == 8
-    then map_at (number_at w16) (λ text. String text) rest
-    else if tag == 16
-    then map_at (number_at w16) (λ descriptor. MethodType descriptor) rest
-    else other rest
-
--- two indices (4.4.2, 4.4.6, 4.4.10)
-unfoldable pub pair_at : ℕ → Reader Entry → Reader Entry
-pair_at tag other rest =
-    if tag == 9
-    then map_at two_at (λ p. Fieldref p.0 p.1) rest
-    else if tag == 10
-    then map_at two_at (λ p. Methodref p.0 p.1) rest
-    else if tag == 11
-    then map_at two_at (λ p. InterfaceMethodref p.0 p.1) rest
-    else if tag == 12
-    then map_at two_at (λ p. NameAndType p.0 p.1) rest
-    else if tag == 18
-    then map_at two_at (λ p. InvokeDynamic p.0 p.1) rest
-    else other rest
-
--- a text, a method handle, or none that there is (4.4.7, 4.4.8)
-unfoldable pub other_at : ℕ → ℕ → Reader Entry
-other_at i tag rest =
-    if tag == 1
+-- behind the tag of the entry at index i, of which n is the last (table 4.4-A)
+unfoldable pub tagged_at : ℕ → ℕ → ℕ → Reader Entry
+tagged_at n i tag rest =
+    if tag == tags.utf8
     then map_at text_at (λ text. Utf8 text) rest
-    else if tag == 15
+    else if tag == tags.integer
+    then map_at (signed_at w32) (λ value. Integer value) rest
+    else if tag == tags.float
+    then map_at (number_at w32) (λ bits. Float bits) rest
+    else if tag == tags.long
+    then wide_at n i (map_at (signed_at w64) (λ value. Long value)) rest
+    else if tag == tags.double
+    then wide_at n i (map_at (number_at w64) (λ bits. Double bits)) rest
+    else if tag == tags.class
+    then map_at (number_at w16) (λ text. Class text) rest
+    else if tag == tags.string
+    then map_at (number_at w16) (λ text. String text) rest
+    else if tag == tags.fieldref
+    then map_at two_at (λ p. Fieldref p.0 p.1) rest
+    else if tag == tags.methodref
+    then map_at two_at (λ p. Methodref p.0 p.1) rest
+    else if tag == tags.interface_methodref
+    then map_at two_at (λ p. InterfaceMethodref p.0 p.1) rest
+    else if tag == tags.name_and_type
+    then map_at two_at (λ p. NameAndType p.0 p.1) rest
+    else if tag == tags.method_handle
     then map_at handle_at (λ p. MethodHandle p.0 p.1) rest
+    else if tag == tags.method_type
+    then map_at (number_at w16) (λ descriptor. MethodType descriptor) rest
+    else if tag == tags.invoke_dynamic
+    then map_at two_at (λ p. InvokeDynamic p.0 p.1) rest
     else Err (BadPool i)
 
 -- the entry at index i, of which n is the last (4.4)
 unfoldable pub entry_at : ℕ → ℕ → Reader Entry
 entry_at n i [] = Err Truncated
-entry_at n i (tag ∷ rest) = value_at n i tag (index_at tag (pair_at tag (other_at i tag))) rest
+entry_at n i (tag ∷ rest) = tagged_at n i tag rest
 
 -- at an index and behind such an entry: the index behind a long or a double is unusable (4.4.5)
 unfoldable pub slot_at : ℕ → ℕ × Bool → Reader Entry

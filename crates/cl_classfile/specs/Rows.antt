@@ -49,7 +49,7 @@ use Rattle.cl_names.specs.declared.kind.TheConstants.{MOST_TEXT_BYTES}
 -- the text begins with < (4.2.2)
 abbrev pub begins_angle : List ℕ → Bool
 begins_angle [] = false
-begins_angle (c ∷ rest) = c == 60
+begins_angle (c ∷ rest) = c == 0x3c
 
 -- which of the names that begin with < it is, if one (2.9, 4.2.2)
 abbrev pub special_of : List ℕ → Special

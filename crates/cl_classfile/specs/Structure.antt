@@ -63,7 +63,7 @@ pool_spelling pool = to_be_bytes w16 (length pool + 1) ++ flat_map entry_spellin
 
 -- the magic, and version 52.0 as its minor and its major number (4.1)
 abbrev pub magic : List ℕ
-magic = 202 ∷ 254 ∷ 186 ∷ 190 ∷ []
+magic = 0xca ∷ 0xfe ∷ 0xba ∷ 0xbe ∷ []
 
 -- version 52.0, as its minor and then its major number (4.1)
 abbrev pub version : List ℕ

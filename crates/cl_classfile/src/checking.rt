@@ -2,7 +2,7 @@ ghost use Rattle.std.specs.Prelude.{◌≡◌, is_some, nat_eq};
 ghost use Rattle.std.specs.Option.{option_map};
 ghost use Rattle.std.specs.List.{list_all};
 ghost use Rattle.std.specs.Cmp.Lexicographic.{pointwise};
-ghost use Rattle.cl_classfile.specs.Structure.{at, object};
+ghost use Rattle.cl_classfile.specs.Structure.{object};
 ghost use Rattle.cl_classfile.specs.Files.{text_at, type_name, is_array_name, class_name};
 ghost use Rattle.cl_classfile.specs.Flags.{has, interface};
 ghost use Rattle.cl_classfile.specs.Checking.{Finds, may_stand_above, keeps_super, keeps_names, keeps_interfaces, checked_class};
@@ -10,25 +10,16 @@ ghost use Rattle.cl_classfile.specs.Checking.{Finds, may_stand_above, keeps_supe
 use crate::entry::Entry;
 use crate::fault::Fault;
 use crate::flags::{is_class_flags, is_interface};
+use crate::indices::item_at;
 use crate::limits::MOST_COUNTED;
 use crate::parts::Parts;
 use cl_names::Name;
-
-/// What stands at an index, from 1 on.
-pub fn at(pool: &[Entry], index: u16) -> Option<&Entry>
-    ensures { option_map (λ e. e.now) result ≡ at pool.now index }
-{
-    if index == 0 {
-        return None;
-    }
-    pool.get(index as usize - 1)
-}
 
 /// The text that stands at an index of a pool (JVMS SE 8, 4.4.7).
 pub fn text_at(pool: &[Entry], index: u16) -> Option<&Name>
     ensures { option_map (λ n. n.now) result ≡ text_at pool.now index }
 {
-    match at(pool, index) {
+    match item_at(pool, index) {
         Some(Entry::Utf8(text)) => Some(text),
         _ => None,
     }
@@ -38,7 +29,7 @@ pub fn text_at(pool: &[Entry], index: u16) -> Option<&Name>
 pub fn type_name(pool: &[Entry], index: u16) -> Option<&Name>
     ensures { option_map (λ n. n.now) result ≡ type_name pool.now index }
 {
-    match at(pool, index) {
+    match item_at(pool, index) {
         Some(Entry::Class(text)) => text_at(pool, *text),
         _ => None,
     }

@@ -39,14 +39,7 @@ use std::marker::Model;
 /// A class file, whose parts keep the tables of JVMS SE 8, 4.1 and 4.4 to 4.6.
 #[derive(Debug, Drop)]
 pub struct ClassFile {
-    pool: Vec<Entry>,
-    flags: u16,
-    this_class: u16,
-    super_class: u16,
-    interfaces: Vec<u16>,
-    fields: Vec<Member>,
-    methods: Vec<Member>,
-    attributes: Vec<Attribute>,
+    parts: Parts,
     /// Where fields and methods stand, unless they are few.
     index: Option<Index>,
 }
@@ -94,35 +87,35 @@ impl ClassFile {
     pub fn flags(&self) -> u16
         ensures { result ≡ self.now.flags }
     {
-        self.flags
+        self.parts.flags
     }
 
     /// Whether the class is public: it may be used from outside its package (JVMS SE 8, table 4.1-A).
     pub fn is_public(&self) -> bool
         ensures { result ≡ is_public (file_of self.now).flags }
     {
-        is_public(self.flags)
+        is_public(self.parts.flags)
     }
 
     /// Whether the class is an interface (JVMS SE 8, table 4.1-A).
     pub fn is_interface(&self) -> bool
         ensures { result ≡ is_interface (file_of self.now) }
     {
-        is_interface(self.flags)
+        is_interface(self.parts.flags)
     }
 
     /// The index of the entry of the class itself.
     pub fn this_class(&self) -> u16
         ensures { result ≡ self.now.this_class }
     {
-        self.this_class
+        self.parts.this_class
     }
 
     /// The index of the entry of the superclass, and 0 in `java/lang/Object`.
     pub fn super_class(&self) -> u16
         ensures { result ≡ self.now.super_class }
     {
-        self.super_class
+        self.parts.super_class
     }
 
     /// The entries of the pool from index 1 on.
@@ -130,35 +123,35 @@ impl ClassFile {
         ensures entries { result.now ≡ self.now.pool }
         ensures sound { IsClassFile self.now }
     {
-        self.pool.as_slice()
+        self.parts.pool.as_slice()
     }
 
     /// The indices of the entries of the interfaces, in order.
     pub fn interfaces(&self) -> &[u16]
         ensures { result.now ≡ self.now.interfaces }
     {
-        self.interfaces.as_slice()
+        self.parts.interfaces.as_slice()
     }
 
     /// The fields, in order.
     pub fn fields(&self) -> &[Member]
         ensures { result.now ≡ self.now.fields }
     {
-        self.fields.as_slice()
+        self.parts.fields.as_slice()
     }
 
     /// The methods, in order.
     pub fn methods(&self) -> &[Member]
         ensures { result.now ≡ self.now.methods }
     {
-        self.methods.as_slice()
+        self.parts.methods.as_slice()
     }
 
     /// The attributes of the class, in order.
     pub fn attributes(&self) -> &[Attribute]
         ensures { result.now ≡ self.now.attributes }
     {
-        self.attributes.as_slice()
+        self.parts.attributes.as_slice()
     }
 
     /// Where the fields and the methods stand, unless they are few.
@@ -174,7 +167,7 @@ impl ClassFile {
         ensures name { result.now ≡ (file_of self.now).name }
         ensures class { IsNameOf IsClass result.now }
     {
-        class_name(self.pool.as_slice(), self.this_class).unwrap()
+        class_name(self.parts.pool.as_slice(), self.parts.this_class).unwrap()
     }
 
     /// The name of the superclass, if there is one.
@@ -182,14 +175,14 @@ impl ClassFile {
         ensures name { option_map (λ n. n.now) result ≡ (file_of self.now).super_name }
         ensures class { IfSome result (λ n. IsNameOf IsClass n.now) }
     {
-        class_name(self.pool.as_slice(), self.super_class)
+        class_name(self.parts.pool.as_slice(), self.parts.super_class)
     }
 
     /// The name of a direct superinterface, counted from 0, as far as there are any.
     pub fn interface_name(&self, place: usize) -> Option<&Name>
         ensures { option_map (λ n. n.now) result ≡ slice_get (file_of self.now).interfaces place }
     {
-        interface_name(self.pool.as_slice(), self.interfaces.as_slice(), place)
+        interface_name(&self.parts, place)
     }
 
     /// What the entry at an index refers to, and nothing where it is neither a class or an array nor a member of one
@@ -202,17 +195,17 @@ impl ClassFile {
         // Each text is of its kind.
         ensures sound { IfSome result (λ r. IsCited (plain_reference r)) }
     {
-        reference_at(self.pool.as_slice(), index)
+        reference_at(self.parts.pool.as_slice(), index)
     }
 }
 
 /// The name of the class of the pool that stands at a place.
-fn interface_name<'a>(pool: &'a [Entry], interfaces: &[u16], place: usize) -> Option<&'a Name>
-    ensures { option_map (λ n. n.now) result ≡ option_and_then (class_name pool.now)
-        (slice_get interfaces.now place) }
+fn interface_name(parts: &Parts, place: usize) -> Option<&Name>
+    ensures { option_map (λ n. n.now) result ≡ option_and_then (class_name parts.now.pool.items)
+        (slice_get parts.now.interfaces.items place) }
 {
-    let index = interfaces.get(place)?;
-    class_name(pool, *index)
+    let index = parts.interfaces.as_slice().get(place)?;
+    class_name(parts.pool.as_slice(), *index)
 }
 
 fn class_file(parts: Parts, index: Option<Index>) -> ClassFile
@@ -220,17 +213,7 @@ fn class_file(parts: Parts, index: Option<Index>) -> ClassFile
     requires index { IsIndexOf index (plain_parts parts) }
     ensures { result ≡ plain_parts parts }
 {
-    ClassFile {
-        pool: parts.pool,
-        flags: parts.flags,
-        this_class: parts.this_class,
-        super_class: parts.super_class,
-        interfaces: parts.interfaces,
-        fields: parts.fields,
-        methods: parts.methods,
-        attributes: parts.attributes,
-        index,
-    }
+    ClassFile { parts, index }
 }
 
 /// Whether the attributes fit their widths.

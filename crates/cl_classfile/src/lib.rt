@@ -8,6 +8,7 @@ mod fault;
 mod file;
 mod flags;
 mod index;
+mod indices;
 mod laws;
 mod limits;
 mod lookup;
@@ -20,6 +21,7 @@ mod raw;
 mod reading;
 mod reference;
 mod rows;
+pub mod tags;
 mod traits;
 mod widths;
 

@@ -7,6 +7,7 @@ ghost use Rattle.cl_classfile.specs.Numbers.{IsNumber, AreNumbers, AreNoted, Not
 
 use crate::checking::text_at;
 use crate::entry::Entry;
+use crate::indices::item_at;
 use crate::member::Member;
 use cl_names::Name;
 use std::alloc::{AllocError, Global};
@@ -45,10 +46,7 @@ impl Numbers {
     pub fn at(&self, index: u16) -> u16
         ensures { result ≡ number_at self.now.noted.items index }
     {
-        if index == 0 {
-            return 0;
-        }
-        match self.noted.get(index as usize - 1) {
+        match item_at(self.noted.as_slice(), index) {
             Some(number) => *number,
             None => 0,
         }

@@ -1,14 +1,16 @@
 //! Reading the pool: its entries are told by their tags (JVMS SE 8, 4.4).
 
-ghost use Rattle.std.specs.Prelude.{◌+◌, ◌<◌, ◌^◌};
+ghost use Rattle.std.specs.Prelude.{◌≡◌, ◌+◌, ◌<◌, ◌^◌, nat_lt, if◌then◌else◌, Ok, Err};
+ghost use Rattle.cl_classfile.specs.declared.fault.Fault.TheVariants as faults;
 ghost use Rattle.std.specs.Int.{w32, w64};
 ghost use Rattle.cl_classfile.specs.Checking.{Finds, Gives};
-ghost use Rattle.cl_classfile.specs.Reading.{number_at, text_at, byte_at, signed_at, two_at, handle_at, value_at, index_at, pair_at, other_at, entry_at, slot_at, entries_at, pool_at};
+ghost use Rattle.cl_classfile.specs.Reading.{number_at, text_at, byte_at, signed_at, two_at, handle_at, entry_at, slot_at, entries_at, pool_at};
 ghost use Rattle.cl_classfile.specs.Raw.{plain_entry, plain_entries};
 
 use crate::fault::{Fault, ReadError};
 use crate::raw::{RawEntry, is_wide};
 use crate::reading::{bytes_at, u16_at, u32_at};
+use crate::tags;
 use std::alloc::Global;
 
 #[tactic(auto, unfolding(crate::specs::Reading::text_at))]
@@ -74,135 +76,109 @@ fn handle_at(bytes: &[u8]) -> Result<((u8, u16), &[u8]), Fault>
     Ok(((kind, reference), rest))
 }
 
-/// A text, a method handle, or none that there is.
-#[tactic(auto, unfolding(crate::specs::Reading::other_at))]
-fn other_at(index: u16, tag: u8, bytes: &[u8]) -> Result<(RawEntry<'_>, &[u8]), Fault>
-    ensures { Finds (λ x. (plain_entry x.0, x.1.now)) result (other_at index tag bytes.now) }
+/// Whether there is an index behind this one, as a long and a double take it too (JVMS SE 8, 4.4.5).
+fn check_second(last: u16, index: u16) -> Result<(), Fault>
+    ensures { result ≡ (if nat_lt index last then Ok tt else Err (faults.BadPool index)) }
 {
-    match tag {
-        1 => {
-            let (text, rest) = text_at(bytes)?;
-            Ok((RawEntry::Utf8(text), rest))
-        }
-        15 => {
-            let ((kind, reference), rest) = handle_at(bytes)?;
-            Ok((RawEntry::MethodHandle { kind, reference }, rest))
-        }
-        _ => Err(Fault::BadPool(index)),
+    if index >= last {
+        return Err(Fault::BadPool(index));
     }
+    Ok(())
 }
 
-/// An entry of two indices, or another.
-#[tactic(auto, unfolding(crate::specs::Reading::pair_at))]
-fn pair_at(index: u16, tag: u8, bytes: &[u8]) -> Result<(RawEntry<'_>, &[u8]), Fault>
-    ensures { Finds (λ x. (plain_entry x.0, x.1.now)) result (pair_at tag (other_at index tag)
-        bytes.now) }
-{
-    match tag {
-        9 => {
-            let ((class, name_and_type), rest) = two_at(bytes)?;
-            let entry = RawEntry::Fieldref {
-                class,
-                name_and_type,
-            };
-            Ok((entry, rest))
-        }
-        10 => {
-            let ((class, name_and_type), rest) = two_at(bytes)?;
-            let entry = RawEntry::Methodref {
-                class,
-                name_and_type,
-            };
-            Ok((entry, rest))
-        }
-        11 => {
-            let ((class, name_and_type), rest) = two_at(bytes)?;
-            let entry = RawEntry::InterfaceMethodref {
-                class,
-                name_and_type,
-            };
-            Ok((entry, rest))
-        }
-        12 => {
-            let ((name, descriptor), rest) = two_at(bytes)?;
-            Ok((RawEntry::NameAndType { name, descriptor }, rest))
-        }
-        18 => {
-            let ((bootstrap, name_and_type), rest) = two_at(bytes)?;
-            let entry = RawEntry::InvokeDynamic {
-                bootstrap,
-                name_and_type,
-            };
-            Ok((entry, rest))
-        }
-        _ => other_at(index, tag, bytes),
-    }
-}
-
-/// An entry of one index, or another.
-#[tactic(auto, unfolding(crate::specs::Reading::index_at))]
-fn index_at(index: u16, tag: u8, bytes: &[u8]) -> Result<(RawEntry<'_>, &[u8]), Fault>
-    ensures { Finds (λ x. (plain_entry x.0, x.1.now)) result
-        (index_at tag (pair_at tag (other_at index tag)) bytes.now) }
-{
-    match tag {
-        7 => {
-            let (text, rest) = u16_at(bytes)?;
-            Ok((RawEntry::Class(text), rest))
-        }
-        8 => {
-            let (text, rest) = u16_at(bytes)?;
-            Ok((RawEntry::String(text), rest))
-        }
-        16 => {
-            let (descriptor, rest) = u16_at(bytes)?;
-            Ok((RawEntry::MethodType(descriptor), rest))
-        }
-        _ => pair_at(index, tag, bytes),
-    }
-}
-
-/// A number, or another entry. One that takes the index behind it too is no last one.
-#[tactic(auto, unfolding(crate::specs::Reading::value_at))]
-fn value_at(last: u16, index: u16, tag: u8, bytes: &[u8]) -> Result<(RawEntry<'_>, &[u8]), Fault>
-    ensures { Finds (λ x. (plain_entry x.0, x.1.now)) result
-        (value_at last index tag (index_at tag (pair_at tag (other_at index tag))) bytes.now) }
-{
-    match tag {
-        3 => {
-            let (value, rest) = i32_at(bytes)?;
-            Ok((RawEntry::Integer(value), rest))
-        }
-        4 => {
-            let (bits, rest) = u32_at(bytes)?;
-            Ok((RawEntry::Float(bits), rest))
-        }
-        5 => {
-            if index >= last {
-                return Err(Fault::BadPool(index));
-            }
-            let (value, rest) = i64_at(bytes)?;
-            Ok((RawEntry::Long(value), rest))
-        }
-        6 => {
-            if index >= last {
-                return Err(Fault::BadPool(index));
-            }
-            let (bits, rest) = u64_at(bytes)?;
-            Ok((RawEntry::Double(bits), rest))
-        }
-        _ => index_at(index, tag, bytes),
-    }
-}
-
-#[tactic(auto, unfolding(crate::specs::Reading::entry_at))]
+/// The entry at an index, of which `last` is the last, by its tag (JVMS SE 8, table 4.4-A).
+#[tactic(auto, unfolding(crate::specs::Reading::entry_at, crate::specs::Reading::tagged_at))]
 fn entry_at(last: u16, index: u16, bytes: &[u8]) -> Result<(RawEntry<'_>, &[u8]), Fault>
     ensures { Finds (λ x. (plain_entry x.0, x.1.now)) result (entry_at last index bytes.now) }
 {
     let [tag, rest @ ..] = bytes else {
         return Err(Fault::Truncated);
     };
-    value_at(last, index, *tag, rest)
+    match *tag {
+        tags::UTF8 => {
+            let (text, rest) = text_at(rest)?;
+            Ok((RawEntry::Utf8(text), rest))
+        }
+        tags::INTEGER => {
+            let (value, rest) = i32_at(rest)?;
+            Ok((RawEntry::Integer(value), rest))
+        }
+        tags::FLOAT => {
+            let (bits, rest) = u32_at(rest)?;
+            Ok((RawEntry::Float(bits), rest))
+        }
+        tags::LONG => {
+            check_second(last, index)?;
+            let (value, rest) = i64_at(rest)?;
+            Ok((RawEntry::Long(value), rest))
+        }
+        tags::DOUBLE => {
+            check_second(last, index)?;
+            let (bits, rest) = u64_at(rest)?;
+            Ok((RawEntry::Double(bits), rest))
+        }
+        tags::CLASS => {
+            let (text, rest) = u16_at(rest)?;
+            Ok((RawEntry::Class(text), rest))
+        }
+        tags::STRING => {
+            let (text, rest) = u16_at(rest)?;
+            Ok((RawEntry::String(text), rest))
+        }
+        tags::FIELDREF => {
+            let ((class, name_and_type), rest) = two_at(rest)?;
+            Ok((
+                RawEntry::Fieldref {
+                    class,
+                    name_and_type,
+                },
+                rest,
+            ))
+        }
+        tags::METHODREF => {
+            let ((class, name_and_type), rest) = two_at(rest)?;
+            Ok((
+                RawEntry::Methodref {
+                    class,
+                    name_and_type,
+                },
+                rest,
+            ))
+        }
+        tags::INTERFACE_METHODREF => {
+            let ((class, name_and_type), rest) = two_at(rest)?;
+            Ok((
+                RawEntry::InterfaceMethodref {
+                    class,
+                    name_and_type,
+                },
+                rest,
+            ))
+        }
+        tags::NAME_AND_TYPE => {
+            let ((name, descriptor), rest) = two_at(rest)?;
+            Ok((RawEntry::NameAndType { name, descriptor }, rest))
+        }
+        tags::METHOD_HANDLE => {
+            let ((kind, reference), rest) = handle_at(rest)?;
+            Ok((RawEntry::MethodHandle { kind, reference }, rest))
+        }
+        tags::METHOD_TYPE => {
+            let (descriptor, rest) = u16_at(rest)?;
+            Ok((RawEntry::MethodType(descriptor), rest))
+        }
+        tags::INVOKE_DYNAMIC => {
+            let ((bootstrap, name_and_type), rest) = two_at(rest)?;
+            Ok((
+                RawEntry::InvokeDynamic {
+                    bootstrap,
+                    name_and_type,
+                },
+                rest,
+            ))
+        }
+        _ => Err(Fault::BadPool(index)),
+    }
 }
 
 /// What stands at an index, behind an entry that takes it too or another.

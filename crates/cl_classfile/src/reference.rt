@@ -6,8 +6,9 @@ ghost use Rattle.cl_classfile.specs.Structure.{at};
 ghost use Rattle.cl_classfile.specs.Files.{symbol_at, cited};
 ghost use Rattle.cl_classfile.specs.References.{plain_symbol, plain_reference};
 
-use crate::checking::{at, text_at, type_name};
+use crate::checking::{text_at, type_name};
 use crate::entry::Entry;
+use crate::indices::item_at;
 use cl_names::Name;
 
 /// A member of a class.
@@ -33,7 +34,7 @@ fn symbol_at(pool: &[Entry], class: u16, name_and_type: u16) -> Option<Symbol<'_
     ensures { option_map plain_symbol result ≡ symbol_at pool.now class name_and_type }
 {
     let class = type_name(pool, class)?;
-    let Some(Entry::NameAndType { name, descriptor }) = at(pool, name_and_type) else {
+    let Some(Entry::NameAndType { name, descriptor }) = item_at(pool, name_and_type) else {
         return None;
     };
     let name = text_at(pool, *name)?;
@@ -50,7 +51,7 @@ pub fn reference_at(pool: &[Entry], index: u16) -> Option<Reference<'_>>
     ensures { option_map plain_reference result ≡ option_and_then (cited pool.now)
         (at pool.now index) }
 {
-    match at(pool, index)? {
+    match item_at(pool, index)? {
         Entry::Class(text) => Some(Reference::Class(text_at(pool, *text)?)),
         Entry::Fieldref {
             class,

@@ -7,6 +7,7 @@ ghost use Rattle.cl_classfile.specs.Checking.{Finds, checked_entries};
 ghost use Rattle.cl_classfile.specs.Raw.{plain_entry, plain_entries};
 
 use crate::fault::Fault;
+use crate::indices::item_at;
 use crate::raw::RawEntry;
 use crate::traits::{Special, Traits, is_call, is_field, is_void, nothing, traits_of};
 use cl_descriptors::Form;
@@ -33,33 +34,14 @@ pub fn all_traits(alloc: Global, pool: &[RawEntry<'_>]) -> Result<Vec<Traits>, A
     Ok(traits)
 }
 
-/// What stands in the row of an index, from 1 on.
-fn row_at(traits: &[Traits], index: u16) -> Option<&Traits>
-    ensures { option_map (λ t. t.now) result ≡ at traits.now index }
-{
-    if index == 0 {
-        return None;
-    }
-    traits.get(index as usize - 1)
-}
-
 /// The traits of the text at an index.
 pub fn traits_at(traits: &[Traits], index: u16) -> Traits
     ensures { result ≡ traits_at traits.now index }
 {
-    match row_at(traits, index) {
+    match item_at(traits, index) {
         Some(traits) => *traits,
         None => nothing(),
     }
-}
-
-fn raw_at<'a, 'b>(pool: &'b [RawEntry<'a>], index: u16) -> Option<&'b RawEntry<'a>>
-    ensures { option_map (λ e. e.now) result ≡ at pool.now index }
-{
-    if index == 0 {
-        return None;
-    }
-    pool.get(index as usize - 1)
 }
 
 /// The entry at an index.
@@ -67,7 +49,7 @@ fn raw_at<'a, 'b>(pool: &'b [RawEntry<'a>], index: u16) -> Option<&'b RawEntry<'
 pub fn at<'a>(pool: &[RawEntry<'a>], index: u16) -> Option<RawEntry<'a>>
     ensures { option_map plain_entry result ≡ at (plain_entries pool.now) index }
 {
-    match raw_at(pool, index) {
+    match item_at(pool, index) {
         Some(entry) => Some(*entry),
         None => None,
     }

@@ -81,8 +81,8 @@ imports_at wrong (Some d) =
 -- a byte of a loader's name
 abbrev pub is_name_byte : ℕ → Bool
 is_name_byte b =
-    (nat_le 65 b && nat_le b 90) || (nat_le 97 b && nat_le b 122) || (nat_le 48 b && nat_le b 57)
-    || (b == 95) || (b == 45)
+    (nat_le 0x41 b && nat_le b 0x5a) || (nat_le 0x61 b && nat_le b 0x7a)
+    || (nat_le 0x30 b && nat_le b 0x39) || (b == 0x5f) || (b == 0x2d)
 
 -- a name that no earlier loader has
 abbrev pub is_new_name : List Entry → List ℕ → Bool

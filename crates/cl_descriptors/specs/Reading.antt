@@ -57,21 +57,21 @@ use Rattle.cl_descriptors.specs.declared.types.DescriptorFault.TheVariants.{
 -- the base of a letter: B, C, D, F, I, J, S or Z (JVMS SE 8, 4.3.2)
 abbrev pub base_of_letter : ℕ → Option Base
 base_of_letter c =
-    if c == 66
+    if c == 0x42
     then Some Byte
-    else if c == 67
+    else if c == 0x43
     then Some Char
-    else if c == 68
+    else if c == 0x44
     then Some Double
-    else if c == 70
+    else if c == 0x46
     then Some Float
-    else if c == 73
+    else if c == 0x49
     then Some Int
-    else if c == 74
+    else if c == 0x4a
     then Some Long
-    else if c == 83
+    else if c == 0x53
     then Some Short
-    else if c == 90
+    else if c == 0x5a
     then Some Boolean
     else None
 
@@ -82,13 +82,13 @@ class_at bytes =
     (λ k. if is_class_name (take k bytes)
     then Some (take k bytes, drop (k + 1) bytes)
     else None)
-    (position (λ b. b == 59) bytes)
+    (position (λ b. b == 0x3b) bytes)
 
 -- a letter, or `L` and a class name, and what follows (JVMS SE 8, 4.3.2)
 unfoldable pub base_at : List ℕ → Option (Base × List ℕ)
 base_at [] = None
 base_at (c ∷ rest) =
-    if c == 76
+    if c == 0x4c
     then option_map (λ x. (Class x.0, x.1)) (class_at rest)
     else option_map (λ b. (b, rest)) (base_of_letter c)
 
@@ -97,7 +97,7 @@ unfoldable pub field_at : List ℕ → Option (FieldType × List ℕ)
 field_at bytes =
     option_and_then
     (λ n. option_map (λ x. (record { dims = n; base = x.0 }, x.1)) (base_at (drop n bytes)))
-    (position (λ b. not (b == 91)) bytes)
+    (position (λ b. not (b == 0x5b)) bytes)
 
 -- at most so many types, as long as one stands there, and what follows (JVMS SE 8, 4.3.3)
 unfoldable pub types_at : ℕ → List ℕ → List FieldType × List ℕ
@@ -119,7 +119,7 @@ whole_field bytes =
 -- whether bytes are `V`, for nothing (JVMS SE 8, 4.3.3)
 abbrev pub is_void : List ℕ → Bool
 is_void [] = false
-is_void (c ∷ rest) = c == 86 && length rest == 0
+is_void (c ∷ rest) = c == 0x56 && length rest == 0
 
 -- all of the bytes as what a method returns (JVMS SE 8, 4.3.3)
 unfoldable pub whole_return : List ℕ → Option (Option FieldType)
@@ -130,7 +130,7 @@ whole_return bytes =
 abbrev pub closed_with : List FieldType → List ℕ → Option MethodType
 closed_with params [] = None
 closed_with params (c ∷ rest) =
-    if c == 41
+    if c == 0x29
     then option_map (λ r. record { params = params; ret = r }) (whole_return rest)
     else None
 
@@ -138,7 +138,7 @@ closed_with params (c ∷ rest) =
 unfoldable pub whole_method : List ℕ → Option MethodType
 whole_method [] = None
 whole_method (c ∷ rest) =
-    if c == 40 then closed_with (all_types rest).0 (all_types rest).1 else None
+    if c == 0x28 then closed_with (all_types rest).0 (all_types rest).1 else None
 
 -- a field type within the limit (JVMS SE 8, 4.3.2)
 abbrev pub within_field : Option FieldType → Result FieldType DescriptorFault

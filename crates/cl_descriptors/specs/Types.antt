@@ -48,7 +48,7 @@ spelling_of_base (Class name) = codes "L" ++ (name ++ codes ";")
 
 -- a `[` for each dimension, and the base (JVMS SE 8, 4.3.2)
 abbrev pub spelling_of_field : FieldType → List ℕ
-spelling_of_field t = replicate t.dims 91 ++ spelling_of_base t.base
+spelling_of_field t = replicate t.dims 0x5b ++ spelling_of_base t.base
 
 -- `V` for nothing (JVMS SE 8, 4.3.3)
 abbrev pub spelling_of_return : Option FieldType → List ℕ

@@ -95,7 +95,7 @@ fn base_of_letter(letter: u8) -> Option<Base>
 
 /// Where the first `;` stands.
 fn semicolon(bytes: &[u8]) -> Option<usize>
-    ensures place { result ≡ position (λ b. b == 59) bytes.now }
+    ensures place { result ≡ position (λ b. b == 0x3b) bytes.now }
     ensures within { IfSome result (λ k. k < length bytes.now) }
 {
     bytes.iter().position(|b| *b == b';')
@@ -103,7 +103,7 @@ fn semicolon(bytes: &[u8]) -> Option<usize>
 
 /// How many `[` stand before the first byte that is none.
 fn brackets(bytes: &[u8]) -> Option<usize>
-    ensures place { result ≡ position (λ b. not (b == 91)) bytes.now }
+    ensures place { result ≡ position (λ b. not (b == 0x5b)) bytes.now }
     ensures within { IfSome result (λ k. k < length bytes.now) }
 {
     // Most types have none.

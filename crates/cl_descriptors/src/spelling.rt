@@ -60,7 +60,7 @@ fn push_base(text: &mut Vec<u8>, base: &Base) -> Result<(), AllocError>
 }
 
 fn push_brackets(text: &mut Vec<u8>, dims: u8) -> Result<(), AllocError>
-    ensures { OnOk result (text.new.items ≡ text.old.items ++ replicate dims 91) }
+    ensures { OnOk result (text.new.items ≡ text.old.items ++ replicate dims 0x5b) }
 {
     for _ in 0..dims {
         text.push(b'[')?;

@@ -26,16 +26,16 @@ without_empty_end (part ∷ next ∷ more) = part ∷ without_empty_end (next �
 
 -- the lines of a text, which U+000A alone parts; a last line without one counts
 abbrev pub lines_of : List ℕ → List (List ℕ)
-lines_of text = without_empty_end (slice_split (λ b. b == 10) text)
+lines_of text = without_empty_end (slice_split (λ b. b == 0x0a) text)
 
 -- the words of a line, which one or more U+0020 part
 abbrev pub words_of : List ℕ → List (List ℕ)
-words_of line = filter (λ word. not (length word == 0)) (slice_split (λ b. b == 32) line)
+words_of line = filter (λ word. not (length word == 0)) (slice_split (λ b. b == 0x20) line)
 
 -- a word that begins with `#`
 abbrev pub is_remark : List ℕ → Bool
 is_remark [] = false
-is_remark (b ∷ bs) = b == 35
+is_remark (b ∷ bs) = b == 0x23
 
 -- no word, or a first word that begins with `#`
 abbrev pub skips : List (List ℕ) → Bool
@@ -54,8 +54,8 @@ pub record Numbered : Type 0 where
 -- the first line is cut off a text whose first line has this number
 pub record CutsLine (old line new : Numbered) : Type 0 where
   pub number : line.number ≡ old.number
-  pub text : line.text ≡ before_first (λ b. b == 10) old.text
-  pub rest : new.text ≡ after_first (λ b. b == 10) old.text
+  pub text : line.text ≡ before_first (λ b. b == 0x0a) old.text
+  pub rest : new.text ≡ after_first (λ b. b == 0x0a) old.text
   pub next : new.number ≡ old.number + 1
 
 -- lines with their numbers, skipped ones included

@@ -84,7 +84,7 @@ answer_line names q a = words (decimal (q + 1) ∷ answer_text names a ∷ [])
 
 -- a line with its line feed
 abbrev pub ended : Text → Text
-ended line = line ++ 10 ∷ []
+ended line = line ++ 0x0a ∷ []
 
 -- the line of a step, if it has one
 abbrev pub line : List Text → Step → Option Text

@@ -37,7 +37,7 @@ WritesNothing s reason = Writes s [] × reason
 
 -- the line of a fault
 abbrev pub fault_line : List ℕ → List ℕ
-fault_line text = codes "classlink: " ++ text ++ 10 ∷ []
+fault_line text = codes "classlink: " ++ text ++ 0x0a ∷ []
 
 -- the line of a fault is written, as far as its output takes it
 abbrev pub TellsFault : Stream → Fault → Type 0

@@ -32,7 +32,7 @@ use Rattle.cl_source.specs.declared.size.TheConstants.{MOST_CLASS_BYTES}
 -- what a directory's paths begin with; the empty one is the working directory
 abbrev pub within : List ℕ → List ℕ
 within [] = []
-within (b ∷ bs) = (b ∷ bs) ++ 47 ∷ []
+within (b ∷ bs) = (b ∷ bs) ++ 0x2f ∷ []
 
 -- DIR/NAME.class, where the name has a text in UTF-8
 abbrev pub path_of : List ℕ → List ℕ → Option (List ℕ)
@@ -47,7 +47,7 @@ IsEntry part = (part ≢ []) × (part ≢ codes ".") × (part ≢ codes "..")
 pub record StaysWithin (dir path : List ℕ) : Type 0 where
   pub rest : List ℕ
   pub joined : path ≡ within dir ++ rest
-  pub parts : AllByRecursion IsEntry (slice_split (λ b. b == 47) rest)
+  pub parts : AllByRecursion IsEntry (slice_split (λ b. b == 0x2f) rest)
 
 -- the path of a name is looked at, and P holds of it
 pub record At (P : List ℕ → Type 0) (path : Option (List ℕ)) : Type 0 where

@@ -47,17 +47,17 @@ printed_super pool super = if super == 0 then codes "-" else printed_type pool s
 abbrev pub class_line : Structure → List ℕ
 class_line f =
     codes "class " ++ printed_flags f.flags ++ codes " " ++ printed_type f.pool f.this_class
-    ++ codes " " ++ printed_super f.pool f.super_class ++ 10 ∷ []
+    ++ codes " " ++ printed_super f.pool f.super_class ++ 0x0a ∷ []
 
 -- implements NAME
 abbrev pub implements_line : List Entry → ℕ → List ℕ
-implements_line pool interface = codes "implements " ++ printed_type pool interface ++ 10 ∷ []
+implements_line pool interface = codes "implements " ++ printed_type pool interface ++ 0x0a ∷ []
 
 -- field FLAGS NAME DESC, and so a method
 abbrev pub member_line : List ℕ → List Entry → Member → List ℕ
 member_line word pool m =
     word ++ printed_flags m.flags ++ codes " " ++ printed_name (text_at pool m.name_index)
-    ++ codes " " ++ printed_name (text_at pool m.descriptor_index) ++ 10 ∷ []
+    ++ codes " " ++ printed_name (text_at pool m.descriptor_index) ++ 0x0a ∷ []
 
 -- the lines of a file: the class, its interfaces, its fields, its methods
 abbrev pub listing_of : Structure → List ℕ
@@ -78,17 +78,17 @@ super_text (Some name) = escaped name
 abbrev pub class_text : ClassLine → List ℕ
 class_text c =
     codes "class " ++ printed_flags c.flags ++ codes " " ++ escaped c.name ++ codes " "
-    ++ super_text c.superclass ++ 10 ∷ []
+    ++ super_text c.superclass ++ 0x0a ∷ []
 
 -- implements NAME
 abbrev pub implements_text : List ℕ → List ℕ
-implements_text name = codes "implements " ++ escaped name ++ 10 ∷ []
+implements_text name = codes "implements " ++ escaped name ++ 0x0a ∷ []
 
 -- field FLAGS NAME DESC, and so a method
 abbrev pub member_text : List ℕ → MemberLine → List ℕ
 member_text word m =
     word ++ printed_flags m.flags ++ codes " " ++ escaped m.name ++ codes " "
-    ++ escaped m.descriptor ++ 10 ∷ []
+    ++ escaped m.descriptor ++ 0x0a ∷ []
 
 -- all lines but those of `ref`: the class, its interfaces, its fields, its methods
 abbrev pub text_of : Listed → List ℕ

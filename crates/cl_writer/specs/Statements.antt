@@ -48,7 +48,7 @@ flags_of _ = None
 
 -- a minus, if there is one, and decimal digits write this number of 32 bits (own choice; 4.4.4)
 pub record WritesInteger (text : List ℕ) (number : ℤ) : Type 0 where
-  pub unsigned : slice_index text 0 ≢ 43
+  pub unsigned : slice_index text 0 ≢ 0x2b
   pub digits : IsNumeral 10 (without_leading_sign text)
   pub value : number ≡ signed_digits_value 10 text
   pub fits : FitsSigned w32 number

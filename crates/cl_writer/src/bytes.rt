@@ -3,7 +3,9 @@
 ghost use Rattle.std.specs.Prelude.{◌≡◌, ◌<◌, ◌^◌, ◌++◌, ◌∷◌, OnOk, length};
 ghost use Rattle.std.specs.Int.{w16, to_be_bytes};
 ghost use Rattle.cl_classfile.specs.Pool.{two};
+ghost use Rattle.cl_classfile.specs.Tags as tags;
 
+use cl_classfile::tags;
 use std::alloc::AllocError;
 
 /// The magic, and version 52.0 as its minor and its major number (JVMS SE 8, 4.1).
@@ -19,9 +21,9 @@ pub fn put_u16(out: &mut Vec<u8>, number: u16) -> Result<(), AllocError>
 pub fn put_text(out: &mut Vec<u8>, text: &[u8]) -> Result<(), AllocError>
     requires { length text.now < 2 ^ 16 }
     ensures { OnOk result (out.new.items ≡ out.old.items
-        ++ (1 ∷ (to_be_bytes w16 (length text.now) ++ text.now))) }
+        ++ (tags.utf8 ∷ (to_be_bytes w16 (length text.now) ++ text.now))) }
 {
-    out.push(1)?;
+    out.push(tags::UTF8)?;
     put_u16(out, text.len() as u16)?;
     out.extend_from_slice(text)
 }

@@ -4,12 +4,13 @@ ghost use Rattle.std.specs.Prelude.{◌≡◌, ◌+◌, ◌<◌, ◌^◌, ◌++�
 ghost use Rattle.std.specs.List.{flat_map, AllByRecursion};
 ghost use Rattle.std.specs.Int.{w16, to_be_bytes};
 ghost use Rattle.cl_classfile.specs.Pool.{entry_spelling};
+ghost use Rattle.cl_classfile.specs.Tags as tags;
 ghost use Rattle.cl_classfile.specs.Structure.{AllFit, AttributeFits, MemberFits, Spells, attribute_spelling, counted, member_spelling, pool_spelling};
 ghost use Rattle.cl_classfile.specs.Reading.{read_of};
 
 use crate::bytes::{HEADER, put_tagged, put_text, put_two, put_u16};
 use crate::fault::WriteFault;
-use cl_classfile::{Attribute, ClassFile, Entry, Member};
+use cl_classfile::{Attribute, ClassFile, Entry, Member, tags};
 use std::alloc::{AllocError, Global};
 
 /// The bytes that spell a file (JVMS SE 8, 4.1). It is refused only where memory runs out.
@@ -63,41 +64,50 @@ fn put_entry(out: &mut Vec<u8>, entry: &Entry) -> Result<(), AllocError>
 {
     match entry {
         Entry::Utf8(text) => put_text(out, text.bytes()),
-        Entry::Integer(value) => put_tagged(out, 3, &value.to_be_bytes()),
-        Entry::Float(bits) => put_tagged(out, 4, &bits.to_be_bytes()),
-        Entry::Long(value) => put_tagged(out, 5, &value.to_be_bytes()),
-        Entry::Double(bits) => put_tagged(out, 6, &bits.to_be_bytes()),
+        Entry::Integer(value) => put_tagged(out, tags::INTEGER, &value.to_be_bytes()),
+        Entry::Float(bits) => put_tagged(out, tags::FLOAT, &bits.to_be_bytes()),
+        Entry::Long(value) => put_tagged(out, tags::LONG, &value.to_be_bytes()),
+        Entry::Double(bits) => put_tagged(out, tags::DOUBLE, &bits.to_be_bytes()),
         Entry::Unusable => Ok(()),
-        Entry::Class(text) => put_tagged(out, 7, &text.to_be_bytes()),
-        Entry::String(text) => put_tagged(out, 8, &text.to_be_bytes()),
+        Entry::Class(text) => put_tagged(out, tags::CLASS, &text.to_be_bytes()),
+        Entry::String(text) => put_tagged(out, tags::STRING, &text.to_be_bytes()),
         Entry::Fieldref {
             class,
             name_and_type,
-        } => put_two(out, 9, *class, *name_and_type),
+        } => put_two(out, tags::FIELDREF, *class, *name_and_type),
         Entry::Methodref {
             class,
             name_and_type,
-        } => put_two(out, 10, *class, *name_and_type),
+        } => put_two(out, tags::METHODREF, *class, *name_and_type),
         Entry::InterfaceMethodref {
             class,
             name_and_type,
-        } => put_two(out, 11, *class, *name_and_type),
-        Entry::NameAndType { name, descriptor } => put_two(out, 12, *name, *descriptor),
+        } => put_two(out, tags::INTERFACE_METHODREF, *class, *name_and_type),
+        Entry::NameAndType { name, descriptor } => put_two(
+            out,
+            tags::NAME_AND_TYPE,
+            *name,
+            *descriptor,
+        ),
         Entry::MethodHandle { kind, reference } => put_handle(out, *kind, *reference),
-        Entry::MethodType(descriptor) => put_tagged(out, 16, &descriptor.to_be_bytes()),
+        Entry::MethodType(descriptor) => put_tagged(
+            out,
+            tags::METHOD_TYPE,
+            &descriptor.to_be_bytes(),
+        ),
         Entry::InvokeDynamic {
             bootstrap,
             name_and_type,
-        } => put_two(out, 18, *bootstrap, *name_and_type),
+        } => put_two(out, tags::INVOKE_DYNAMIC, *bootstrap, *name_and_type),
     }
 }
 
 /// A method handle's tag, its kind and its reference (JVMS SE 8, 4.4.8).
 fn put_handle(out: &mut Vec<u8>, kind: u8, reference: u16) -> Result<(), AllocError>
     ensures { OnOk result (out.new.items ≡ out.old.items
-        ++ (15 ∷ kind ∷ to_be_bytes w16 reference)) }
+        ++ (tags.method_handle ∷ kind ∷ to_be_bytes w16 reference)) }
 {
-    out.push(15)?;
+    out.push(tags::METHOD_HANDLE)?;
     out.push(kind)?;
     put_u16(out, reference)
 }

@@ -1,28 +1,20 @@
-use Rattle.std.proofs.Common.{List, ap, ◌∙◌}
-use Rattle.std.specs.Prelude.{find}
-use Rattle.cl_classfile.specs.declared.entry.Entry.{Entry}
-use Rattle.cl_classfile.specs.Structure.{Member}
-use Rattle.cl_classfile.specs.Lookups.{linked_method, has_texts}
-use Rattle.cl_classfile.specs.Indexes.{Leads, led_to}
-use Rattle.cl_classfile.proofs.Lookups.{method_is, map_after}
-use Rattle.cl_classfile.proofs.Indexes.{leads}
+use Rattle.cl_classfile.specs.Indexes.{Leads}
+use Rattle.cl_classfile.specs.Lookups.{linked_method}
+use Rattle.cl_classfile.proofs.Lookups.{method_is, by_index, by_look}
 use Rattle.cl_classfile.proofs.file.ClassFile.method.Goals as goal
+use Rattle.std.proofs.Common.{◌∙◌}
 
 pub returns-in-Some : goal.returns-in-Some
 returns-in-Some c =
     let f = c.args.self.now in
-    let name = c.args.name.now in
-    let descriptor = c.args.descriptor.now in
+    let sound = c.in-Some.ensures.sound in
     let index = c.in-Some.it.now in
     let led : Leads f.pool index f.fields f.methods = c.in-Some.ensures.index in
-    map_after (λ m. m.now) (linked_method f) c.led_to.result _
-    (c.led_to.ensures ∙ ap (λ (ms : List Member). led_to index.numbers index.methods ms name descriptor) c.methods.ensures
-    ∙ leads f.pool index.numbers index.methods f.methods led.methods c.in-Some.ensures.sound.kept.methods.new name descriptor)
-    ∙ method_is f c.in-Some.ensures.sound name descriptor
+    by_index (λ m. m.now) (linked_method f) f.pool f.methods c.methods.result.now c.methods.ensures c.args.name.now c.args.descriptor.now c.led_to.result index.numbers index.methods led.methods sound.kept.methods.new c.led_to.ensures
+    ∙ method_is f sound c.args.name.now c.args.descriptor.now
 
 pub returns-in-None : goal.returns-in-None
 returns-in-None c =
-    map_after (λ m. m.now) (linked_method c.args.self.now) c.find.result _
-    (c.find.ensures ∙ ap (λ (es : List Entry). find (has_texts es c.args.name.now c.args.descriptor.now) c.methods-in-None.result.now) c.pool.ensures.entries
-    ∙ ap (λ (ms : List Member). find (has_texts c.args.self.now.pool c.args.name.now c.args.descriptor.now) ms) c.methods-in-None.ensures)
-    ∙ method_is c.args.self.now c.pool.ensures.sound c.args.name.now c.args.descriptor.now
+    let f = c.args.self.now in
+    by_look (λ m. m.now) (linked_method f) f.pool f.methods c.methods-in-None.result.now c.methods-in-None.ensures c.args.name.now c.args.descriptor.now c.find.result c.pool.result.now c.pool.ensures.entries c.find.ensures
+    ∙ method_is f c.pool.ensures.sound c.args.name.now c.args.descriptor.now

@@ -7,4 +7,4 @@ use Rattle.cl_classfile.proofs.file.ClassFile.this_name.Goals as goal
 pub unwrap-requires : goal.unwrap-requires
 unwrap-requires c =
     is_there (λ n. n.now) c.class_name.result c.self.invariant.0.kept.name
-    (c.class_name.ensures ∙ ap (λ (es : List Entry). class_name es c.self.inside.this_class) c.as_slice.ensures.value ∙ class_named c.self.inside.pool.items c.self.inside.this_class c.self.invariant.0.kept.name c.self.invariant.0.kept.this_class)
+    (c.class_name.ensures ∙ ap (λ (es : List Entry). class_name es c.self.inside.parts.this_class) c.as_slice.ensures.value ∙ class_named c.self.inside.parts.pool.items c.self.inside.parts.this_class c.self.invariant.0.kept.name c.self.invariant.0.kept.this_class)

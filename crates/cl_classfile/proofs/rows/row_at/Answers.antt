@@ -1,5 +1,0 @@
-use Rattle.cl_classfile.proofs.Entries.{at_lent}
-use Rattle.cl_classfile.proofs.rows.row_at.Goals as goal
-
-pub returns : goal.returns
-returns c = at_lent c.args.traits.now c.args.index c.get.result c.if-index-eq0.false c.get.ensures.lookup

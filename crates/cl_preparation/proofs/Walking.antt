@@ -3,6 +3,7 @@ use Rattle.std.proofs.Common.{◌≡◌, ◌<◌, ◌+◌, ℕ, Bool, true, fals
 use Rattle.std.specs.Prelude.{nat_eq, ◌==◌}
 use Rattle.std.specs.List.{list_any}
 use Rattle.std.specs.Cmp.Lexicographic.{pointwise, nat_list_eq_equiv}
+use Rattle.std.proofs.lemmas.Bool.{and_parts, eqb-true}
 use Rattle.std.proofs.lemmas.Cmp.{nat_eq_equiv}
 use Rattle.std.proofs.Math.Seq.{drop-cons}
 use Rattle.indexmap.specs.IndexSet.{IndexSet, IsEmpty, contains}
@@ -13,6 +14,7 @@ use Rattle.cl_model.specs.Classes.{same_package}
 use Rattle.cl_model.specs.Lineages.{Kin}
 use Rattle.cl_model.specs.Preparation.{equals_of, equals_with, takes_part}
 use Rattle.cl_model.specs.States.{Need}
+use Rattle.cl_model.proofs.Runs.{names_equal}
 use Rattle.cl_hierarchy.specs.Rows.{Rowed}
 use Rattle.cl_preparation.specs.declared.packages.Package.{Package}
 use Rattle.cl_preparation.specs.Packages.{AreOpened, Opens, packaged, same_packages}
@@ -39,6 +41,12 @@ package_turned : (a b : Class) → same_package a b ≡ same_package b a
 package_turned a b =
     ap (λ (x : Bool). x && pointwise nat_eq (package_of a.name) (package_of b.name)) (nat_eq_equiv.symm a.loader b.loader)
     ∙ ap (λ (x : Bool). (b.loader == a.loader) && x) (nat_list_eq_equiv.symm (package_of a.name) (package_of b.name))
+
+package_is : (a b : Class) → same_package a b ≡ true → packaged a ≡ packaged b
+package_is a b e =
+    let both = and_parts (a.loader == b.loader) (pointwise nat_eq (package_of a.name) (package_of b.name)) e in
+    ap (λ (l : ℕ). record { loader = l; name = package_of a.name }) (eqb-true a.loader b.loader both.0)
+    ∙ ap (λ (n : List ℕ). record { loader = b.loader; name = n }) (names_equal (package_of a.name) (package_of b.name) both.1)
 
 pub none_opened : {S : Type 0} (fresh : IndexSet Package S) → IsEmpty fresh → AreOpened fresh []
 none_opened fresh empty = λ c. ap (λ (ks : List Package). list_any (same_packages (packaged c)) ks) empty
@@ -79,6 +87,21 @@ pub opened_too : {S : Type 0} (key : Key) (before : List Class) (k : Kin) (impos
 opened_too key before k imposed old new opened after some was needs put =
     let told : (true ≡ takes_part key k) × (true ≡ is_open key k) = some_part (takes_part key k) (is_open key k) true some in
     visits key before k imposed old new opened after true true (is_in_package before k.class) told.0 told.1 refl was needs (one_opened opened after k.class before was put)
+
+-- a package that was opened once more
+opened_twice : {S : Type 0} (opened : IndexSet Package S) (k : Class) (cs : List Class) → AreOpened opened cs → contains same_packages opened (packaged k) ≡ true → AreOpened opened (k ∷ cs)
+opened_twice opened k cs before inside = λ c. by c (same_package c k) refl
+  where
+    by : (c : Class) (b : Bool) → same_package c k ≡ b → contains same_packages opened (packaged c) ≡ is_in_package (k ∷ cs) c
+    by c false e = before c ∙ ap (λ (x : Bool). x || is_in_package cs c) (sym e)
+    by c true e = ap (contains same_packages opened) (package_is c k e) ∙ inside ∙ ap (λ (x : Bool). x || is_in_package cs c) (sym e)
+
+-- one that takes part and opens its package, which was opened
+pub opened_again : {S : Type 0} (key : Key) (before : List Class) (k : Kin) (imposed old new : List Need) (opened : IndexSet Package S) → Some true ≡ opening key k → AreOpened opened before
+    → true ≡ contains same_packages opened (packaged k.class) → new ≡ old ++ imposed → Visits key before k imposed old new opened
+opened_again key before k imposed old new opened some was inside needs =
+    let told : (true ≡ takes_part key k) × (true ≡ is_open key k) = some_part (takes_part key k) (is_open key k) true some in
+    visits key before k imposed old new opened opened true true (is_in_package before k.class) told.0 told.1 refl was needs (opened_twice opened k.class before was (sym inside))
 
 -- one that takes part for its package alone, which was opened
 pub within_too : {S : Type 0} (key : Key) (before : List Class) (k : Kin) (imposed old new : List Need) (opened : IndexSet Package S) → Some false ≡ opening key k → AreOpened opened before

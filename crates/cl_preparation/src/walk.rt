@@ -14,7 +14,7 @@ ghost use Rattle.cl_preparation.specs.Walks.{is_closed, walked};
 
 use crate::described::{Described, push_equals};
 use crate::key::MethodKey;
-use crate::packages::{Package, Packages, open};
+use crate::packages::{Package, Packages, has_package_of, open};
 use crate::relative::Relative;
 use cl_model::{Equality, LoaderId, Told};
 use cl_names::Seed;
@@ -23,7 +23,7 @@ use std::alloc::{AllocError, Global};
 
 /// Looks at the next superclass, where the packages were opened that were: its method is overridden where it is open or of
 /// such a package, and where it is open it opens its own.
-#[tactic(auto, using(crate::proofs::Walking::passed, crate::proofs::Walking::opened_too, crate::proofs::Walking::within_too, crate::proofs::Walking::without))]
+#[tactic(auto, using(crate::proofs::Walking::passed, crate::proofs::Walking::opened_too, crate::proofs::Walking::opened_again, crate::proofs::Walking::within_too, crate::proofs::Walking::without))]
 fn visit<T: Told>(
     alloc: Global,
     needs: &mut Vec<Equality>,
@@ -40,15 +40,16 @@ fn visit<T: Told>(
     let Some(is_open) = class.opens(method.key()) else {
         return Ok(());
     };
-    let package = Package::of(alloc, class.class())?;
+    let is_within = has_package_of(alloc, opened, class.class())?;
     if is_open {
         push_equals(alloc, needs, method, loader, class.loader())?;
-        open(opened, package)?;
+        if !is_within {
+            open(opened, Package::of(alloc, class.class())?)?;
+        }
         return Ok(());
     }
-    if opened.contains(&package) {
+    if is_within {
         push_equals(alloc, needs, method, loader, class.loader())?;
-        return Ok(());
     }
     Ok(())
 }

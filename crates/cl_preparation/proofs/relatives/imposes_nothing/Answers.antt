@@ -4,11 +4,10 @@ use Rattle.cl_classfile.specs.Files.{Member}
 use Rattle.cl_model.specs.Preparation.{takes_part}
 use Rattle.cl_preparation.specs.Relatives.{bare}
 use Rattle.cl_preparation.proofs.Constraints.{imposed_none}
-use Rattle.cl_preparation.proofs.Interfaces.{turned}
 use Rattle.cl_preparation.proofs.relatives.imposes_nothing.Goals as goal
 
 pub returns : goal.returns
 returns g c = λ e.
     imposed_none c.args.lineage.now c.in_ok-own.own c.in_ok-methods.methods.items (c.in_ok-own.ensures ∙ c.own.ensures.own) c.in_ok-methods.ensures
-    (ap (λ (ms : List Member). list_any (λ m. takes_part m.key (bare c.in_ok-own.own)) ms) (sym c.as_slice.ensures.value) ∙ sym c.any_declared-declares.ensures ∙ turned c.any_declared-declares.result e)
-    (c.has_none_over.ensures c.if-not-has_none_over.false)
+    (ap (λ (ms : List Member). list_any (λ m. takes_part m.key (bare c.in_ok-own.own)) ms) (sym c.as_slice.ensures.value) ∙ sym c.any_declared.ensures ∙ c.if-any_declared.false)
+    (c.has_none_over.ensures e)

@@ -11,6 +11,8 @@ HOMES = {"docs/CLASSFILE.md": "crates/cl_classfile"}
 FOLDERS = "src specs proofs wrong must-fail".split()
 # Pages whose every name of code is a word of the tree, or of a later stage, which the section of ARCHITECTURE.md names.
 NAMING = re.compile(r"(crates/\w+/)?README\.md|docs/(RULES|ARCHITECTURE|CLASSFILE)\.md")
+# Of another page the section whose names are: its other words in backticks are bytes, codes and texts too.
+NAMING_SECTIONS = {"docs/FORMATS.md": "Where each section is stated"}
 NAME = re.compile(r"(?!_)\w+(::\w+)*(?=[(<]|$)")
 # What declares a type or adds to it: its head, and its body up to the brace at the margin.
 TYPED = re.compile(r"^(?:pub(?:\([\w ]+\))? )?(impl|trait|enum|struct)\b([^{;]*)\{(.*?)^\}", re.M | re.S)
@@ -18,6 +20,18 @@ LATER = re.compile(r"^## Stages of the work$(.*?)^## ", re.M | re.S)
 # Names of Rust, of the host and of programs beside this one.
 OTHERS = set("Rc Cell RefCell strace statx openat mremap EINTR LD_PRELOAD clang".split())
 RULE = ("Definition", "Code", "Proof", "Wrong bodies", "Examples")
+
+
+def names_code(page, text):
+    """The numbers of the lines of a page whose names of code have to be there."""
+    if NAMING.fullmatch(page):
+        return range(1, text.count("\n") + 2)
+    head = f"\n## {NAMING_SECTIONS.get(page)}\n"
+    if page not in NAMING_SECTIONS or head not in text:
+        return range(0)
+    begin = text.index(head) + len(head)
+    end = text.find("\n## ", begin)
+    return range(text.count("\n", 0, begin) + 1, text.count("\n", 0, end if end >= 0 else len(text)) + 2)
 
 
 def spans(text):
@@ -111,9 +125,10 @@ def pages_name_what_is(root, files, _crates):
     known = OTHERS | set(re.findall(r"\w+", later[1] if later else ""))
     found = [*rules_are_found(texts["docs/RULES.md"])] if "docs/RULES.md" in texts else []
     for page, text in texts.items():
+        naming = names_code(page, text)
         for number, pieces in spans(text):
             found += [f"{page}:{number}: {it}" for it in unheld(tree, page, pieces)]
-            for said in pieces[1::2] if NAMING.fullmatch(page) else []:
+            for said in pieces[1::2] if number in naming else []:
                 name = NAME.match(said)
                 found += [f"{page}:{number}: nothing is named {said}"] if name and not tree.has(name[0], known) else []
     return found

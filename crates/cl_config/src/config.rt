@@ -16,7 +16,7 @@ use crate::limits::MOST_LOADERS;
 use crate::loader::{Import, Loader, loaders_of};
 use crate::order::Order;
 use crate::same::are_same;
-use cl_model::LoaderId;
+use cl_model::{Directories, LoaderId};
 use cl_names::Seed;
 use std::alloc::{AllocError, Global};
 use std::marker::Model;
@@ -122,13 +122,6 @@ impl Config {
         ensures below { IfSome result (λ parent. parent < loader) }
     {
         self.at(loader).parent()
-    }
-
-    /// The directories of the loaders' own content, in order.
-    pub fn directories(&self, alloc: Global) -> Result<Vec<String>, AllocError>
-        ensures { IfOk result (λ v. map string_bytes v.items ≡ map (λ l. l.dir) self.now.loaders) }
-    {
-        dirs_of(alloc, self.loaders.as_slice())
     }
 
     /// Where a loader looks first.
@@ -248,6 +241,15 @@ fn names_of(alloc: Global, loaders: &[Loader]) -> Result<Vec<String>, AllocError
         names.push(String::from_str(alloc, loader.name())?)?;
     }
     Ok(names)
+}
+
+impl Directories for Config {
+    ghost texts = { λ c. map (λ l. l.dir) c.loaders };
+
+    /// The directories of the loaders' own content, in order.
+    fn directories(&self, alloc: Global) -> Result<Vec<String>, AllocError> {
+        dirs_of(alloc, self.loaders.as_slice())
+    }
 }
 
 /// The directories of loaders, in order.

@@ -3,6 +3,7 @@
 
 mod answer;
 mod class;
+mod directories;
 mod event;
 pub mod examples;
 pub mod frame_laws;
@@ -21,6 +22,7 @@ mod verdict;
 
 pub use answer::Answer;
 pub use class::Class;
+pub use directories::Directories;
 pub use event::Event;
 pub use key::MemberKey;
 pub use loader::LoaderId;

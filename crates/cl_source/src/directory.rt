@@ -9,8 +9,7 @@ ghost use Rattle.cl_source.specs.Seen.{Seen};
 use crate::files::ReadFile;
 use crate::size::MOST_CLASS_BYTES;
 use crate::source::{ClassBytes, Outcome, Probe, Source, SourceFault};
-use cl_config::Config;
-use cl_model::{LoaderId, Untold};
+use cl_model::{Directories, LoaderId, Untold};
 use cl_names::Name;
 use cl_streams::InputFault;
 use std::alloc::{AllocError, Global};
@@ -30,11 +29,14 @@ pub struct DirSource<F: ReadFile> {
 
 impl<F: ReadFile> DirSource<F> {
     /// The directories that a configuration has for its loaders, in order, of these files. Only memory refuses it.
-    pub fn new(alloc: Global, files: F, config: &Config) -> Result<DirSource<F>, SourceFault>
+    pub fn new<D: Directories>(
+        alloc: Global,
+        files: F,
+        config: &D,
+    ) -> Result<DirSource<F>, SourceFault>
         ensures fault { IfErr result (λ e. e ≡ SourceFault.Memory) }
         ensures files { IfOk result (λ s. s.files ≡ files) }
-        ensures dirs { IfOk result (λ s. map string_bytes s.dirs.items
-            ≡ map (λ l. l.dir) config.now.loaders) }
+        ensures dirs { IfOk result (λ s. map string_bytes s.dirs.items ≡ D.texts config.now) }
         ensures own { IfOk result (λ s. s.failures ≡ 0) }
     {
         Ok(DirSource::over(files, config.directories(alloc)?))

@@ -4,6 +4,7 @@ pub mod Counted
 pub mod Drafting
 pub mod Ends
 pub mod Frames
+pub mod Fronts
 pub mod Inside
 pub mod Paths
 pub mod Placed

@@ -3,7 +3,9 @@ pub mod Climbs
 pub mod Counted
 pub mod Drafting
 pub mod Ends
+pub mod Enough
 pub mod Frames
+pub mod Fronts
 pub mod Inside
 pub mod Paths
 pub mod Placed

@@ -1,6 +1,7 @@
 pub mod DraftReads
 pub mod Drafts
 pub mod Frames
+pub mod Fronts
 pub mod Imposed
 pub mod Kept
 pub mod Lineages

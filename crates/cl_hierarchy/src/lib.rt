@@ -8,6 +8,7 @@ pub mod draft;
 pub mod equalities;
 pub mod fit;
 pub mod frame;
+mod front;
 pub mod laws;
 pub mod lineage;
 pub mod making;

@@ -1,14 +1,17 @@
 //! Lineages: a class with all that stands above it, and what is asked of them (JVMS SE 8, 5.3.5, 5.4.4).
 
-ghost use Rattle.std.specs.Prelude.{◌≡◌, [], map, IfOk, IfSome};
+ghost use Rattle.std.specs.Prelude.{◌≡◌, [], is_some, length, map, nat_le, true, IfOk, IfSome};
 ghost use Rattle.std.specs.List.{AllByRecursion};
 ghost use Rattle.std.specs.Option.{option_map};
 ghost use Rattle.cl_model.specs.Lineages.{first, is_subclass, superclasses, superinterfaces, upward};
+ghost use Rattle.cl_hierarchy.specs.Fronts.{IsFront, IsOnStem};
 ghost use Rattle.cl_hierarchy.specs.Lineages.{IsLined, IsRowIn, field_order, kin_at, kin_of, reaches, rows_in};
+ghost use Rattle.cl_hierarchy.specs.Places.{IsPlace};
 ghost use Rattle.cl_hierarchy.specs.Trees.{SupersBefore, forest, kin_under, kins, superclass_in};
 
 use crate::above::superclass_row;
 use crate::access::is_same;
+use crate::front::{share_rows, stem_of};
 use crate::row::ClassRow;
 use crate::row_index::RowIndex;
 use crate::stem::{stem_end, superinterfaces_behind};
@@ -26,17 +29,20 @@ pub struct Lineage<T: Told> {
     config: Arc<Config>,
     above: Vec<Arc<ClassRow<T>>>,
     own: Arc<ClassRow<T>>,
+    /// The first place of the stem: from there on the superclass of each row is that of the row right before it.
+    stem: usize,
 }
 
 impl<T: Told> Model for Lineage<T> {
     ghost use Rattle.std.specs.Prelude.{map};
-    ghost use Rattle.cl_hierarchy.specs.Lineages.{IsLined, Lined};
+    ghost use Rattle.cl_hierarchy.specs.Fronts.{IsKept};
+    ghost use Rattle.cl_hierarchy.specs.Lineages.{Lined};
 
     ghost Value = { Lined };
 
     ghost view = { λ l. record { config = l.config.value; above = map (λ r. r.value) l.above.items; own = l.own.value } };
 
-    ghost invariant = { λ l. IsLined T.told (record { config = l.config.value; above = map (λ r. r.value) l.above.items; own = l.own.value }) };
+    ghost invariant = { λ l. IsKept T.told (record { config = l.config.value; above = map (λ r. r.value) l.above.items; own = l.own.value }) l.stem };
 }
 
 /// Whether `of` is a superclass of the class of this row. The rows of all these are among `rows`.
@@ -102,7 +108,13 @@ impl<T: Told> Lineage<T> {
           own = own.value;
         } }
     {
-        Lineage { config, above, own }
+        let stem = stem_of(above.as_slice(), &own);
+        Lineage {
+            config,
+            above,
+            own,
+            stem,
+        }
     }
 
     /// The class.
@@ -135,6 +147,45 @@ impl<T: Told> Lineage<T> {
         ensures kept { IsLined T.told self.now }
     {
         &self.config
+    }
+
+    /// The row at a place with those before it, if there is one; the class's own stands last.
+    fn rows_to(&self, place: usize) -> Option<(&[Arc<ClassRow<T>>], &Arc<ClassRow<T>>)>
+        ensures place { IfSome result (λ p. IsPlace (rows_in self.now)
+            (map (λ r. r.value) p.0.now) p.1.now.value) }
+        ensures many { IfSome result (λ p. length p.0.now ≡ place) }
+        ensures some { is_some result ≡ nat_le place (length self.now.above) }
+    {
+        let above = self.above.as_slice();
+        if place == above.len() {
+            return Some((above, &self.own));
+        }
+        let row = above.get(place)?;
+        Some((&above[..place], row))
+    }
+
+    /// The lineage of the class at a place, if the rows up to there are known to be that: it is so for each place on the
+    /// stem, behind which the superclass of each row is that of the row right before it (JVMS SE 8, 5.3.5, 5.4). Time
+    /// linear in the rows up to there, with no look at a table.
+    pub fn front(&self, alloc: Global, place: usize) -> Result<Option<Lineage<T>>, AllocError>
+        ensures front { IfOk result (λ o. IfSome o (λ l. IsFront self.now place l)) }
+        ensures stem { IsOnStem self.now place → IfOk result (λ o. is_some o ≡ true) }
+    {
+        if place < self.stem {
+            return Ok(None);
+        }
+        let Some((above, own)) = self.rows_to(place) else {
+            return Ok(None);
+        };
+        let config = Arc::try_clone(&self.config)?;
+        let above = share_rows(alloc, above)?;
+        let own = Arc::try_clone(own)?;
+        Ok(Some(Lineage {
+            config,
+            above,
+            own,
+            stem: self.stem,
+        }))
     }
 
     /// The row of the superclass, if there is one (JVMS SE 8, 4.1). Takes no memory.

@@ -1,9 +1,10 @@
-use Rattle.std.proofs.Common.{◌≡◌, ◌∙◌, ◌+◌, ◌-◌, ℕ, Some, None, map, ap, sym, subst, refl}
+use Rattle.std.proofs.Common.{◌≡◌, ◌∙◌, ◌+◌, ◌-◌, ℕ, Some, None, ap, sym, subst, refl}
 use Rattle.cl_model.specs.declared.request.Request.{Request}
 use Rattle.cl_model.specs.declared.settled.Settled.{Settled}
 use Rattle.cl_registry.specs.References.{settled_by, IsSettledIn}
 use Rattle.cl_registry.specs.Settling.{IsToSettle, Settles}
 use Rattle.cl_registry.specs.Tables.{Shown}
+use Rattle.cl_registry.specs.View.{shown}
 use Rattle.cl_registry.proofs.Binding.{bound, registry_bound}
 use Rattle.cl_registry.proofs.Cited.{settled_by_in}
 use Rattle.cl_registry.proofs.registry.Registry.settle.Goals as goal
@@ -18,7 +19,7 @@ returns-in-Some-clause-found g c =
     ]
 
 abbrev known : (g : _) → goal.In-Ok-bind g → Shown
-known g c = record { config = c.self.inside.config.value; script = c.self.inside.script.value; rows = map (λ r. r.value) c.self.inside.rows.items; history = c.self.inside.history.items; answers = c.self.inside.answers.items }
+known g c = shown c.self.inside
 
 free : (g : _) (c : goal.In-Ok-bind g) → settled_by (known g c) c.args.finding.now.request ≡ None
 free g c =

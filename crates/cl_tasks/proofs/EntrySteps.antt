@@ -33,7 +33,7 @@ use Rattle.cl_tasks.specs.Rooms.{reference_room}
 use Rattle.cl_tasks.specs.Stages.{IsFailed, basis_facts, load_of, resolving_at, task_at}
 use Rattle.cl_tasks.specs.Steps.{IsPlain, LeadsBy, LeadsOn, Steps, memory_ends, task_room}
 use Rattle.cl_tasks.specs.Tasks.{Tasked}
-use Rattle.cl_tasks.specs.Turns.{AnswersOwn, GoesOnWith, WasAbsent}
+use Rattle.cl_tasks.specs.Turns.{AnswersOwn, GoesOnWith}
 use Rattle.cl_tasks.specs.declared.stage.Entry as entries
 use Rattle.cl_tasks.specs.declared.stage.Failed.{Failed}
 use Rattle.cl_tasks.specs.declared.stage.Next.{Next}
@@ -44,7 +44,7 @@ use Rattle.cl_tasks.specs.declared.turn.Turn.TheVariants as turn
 use Rattle.cl_tasks.proofs.Deriving.{derives_more, past_derives}
 use Rattle.cl_tasks.proofs.Facts.{so_met, so_refuses}
 use Rattle.cl_tasks.proofs.Lacking.{posts_one, posts_or, shared_memory}
-use Rattle.cl_tasks.proofs.Lead.{leads_memory, leads_more, plain_no_fault, plain_reads, not_false}
+use Rattle.cl_tasks.proofs.Lead.{leads_memory, not_false, plain_steps}
 use Rattle.cl_tasks.proofs.Reaching.{reached_left, reaches}
 use Rattle.cl_tasks.proofs.Said.{Stood, borne, concluded, concludes_at, found_is, said_of, stood_answers, unrecorded}
 use Rattle.std.proofs.lemmas.Option.{none-some}
@@ -71,17 +71,9 @@ reference_lacks r (Some s) n h = λ k. shared_memory s (posts_one (answers.Share
 
 pub reference_steps : {A : Type 0} (told : Option Content) (c : Configured) (e : entries.Entry A) (o : Option (Arc Settled Global)) (n : Next A) → LeadsBy told c e.q e.request reference_room (SettledTold e o) n
     → IfSome o (λ s. Posts (answers.Shared s) n.turn) → IsPlain n.turn → Derives IsNone [] n.stage → Steps told (resolving_at c (resolutions.LookingReference e)) (reply.LookedReference o) n
-reference_steps {A = A} told c e o n l own plain derives = record {
-  leads = leads_more (task_room (resolving_at c (resolutions.LookingReference e))) (λ x. Tells {A = A} x (resolving_at c (resolutions.LookingReference e)) (reply.LookedReference o)) (λ x. TellsNow {A = A} x (resolving_at c (resolutions.LookingReference e)) (reply.LookedReference o)) l
-      (same_room reference_left) (λ g x p served is h. omega arith) (λ x h. reference_told c e o x h) (λ x h. reference_told c e o x h.told);
-  refused = plain_no_fault n.turn plain;
-  linkage = tt;
-  blames = tt;
-  lacks = reference_lacks e.request o n own;
-  reads = plain_reads {A = A} (resolving_at c (resolutions.LookingReference e)) (reply.LookedReference o) n.turn plain;
-  derives = derives_more IsNone (WasAbsent {A = A} (resolving_at c (resolutions.LookingReference e)) (reply.LookedReference o)) [] n.stage (λ k h. absurd h) derives;
-  own = reference_own c e o n own;
-}
+reference_steps told c e o n l own plain derives =
+    plain_steps (resolving_at c (resolutions.LookingReference e)) (reply.LookedReference o) n refl refl refl l (same_room reference_left) (λ g x p served is h. omega arith) (λ x h. reference_told c e o x h)
+    tt tt (reference_lacks e.request o n own) (derives_more IsNone _ [] n.stage (λ k h. absurd h) derives) (reference_own c e o n own) plain
 
 -- ---- tests
 
@@ -120,18 +112,10 @@ found_never told c f failed row g x served h = none-some _ (sym (failed_unrecord
 
 pub found_steps : {A : Type 0} (told : Option Content) (c : Configured) (f : Failed A) (row : Arc (ClassRow A) Global) (n : Next A) → IsFailed told c f → row.value.class.name ≡ name_of f.request → ReachesBy f.q f.request row n
     → GoesOnWith f.request row.value.class (task_at c n.stage) n.turn → IsPlain n.turn → IsPast n.stage → Steps told (resolving_at c (resolutions.Checking f)) (reply.Looked (Some row)) n
-found_steps {A = A} told c f row n failed name by goes plain past = record {
-  leads = leads_more (task_room (resolving_at c (resolutions.Checking f))) (λ x. Tells {A = A} x (resolving_at c (resolutions.Checking f)) (reply.Looked (Some row))) (λ x. TellsNow {A = A} x (resolving_at c (resolutions.Checking f)) (reply.Looked (Some row)))
-      (reaches A told c f.q f.request row n failed.asked name by)
-      (equal_room (reached_left f.request) checking_left (ap reached_left failed.resolves)) (λ g x p served is h. absurd (found_never told c f failed row g x served h.told)) (λ x h. h.now) (λ x h. h.told.now);
-  refused = plain_no_fault n.turn plain;
-  linkage = tt;
-  blames = tt;
-  lacks = λ h. tt;
-  reads = plain_reads {A = A} (resolving_at c (resolutions.Checking f)) (reply.Looked (Some row)) n.turn plain;
-  derives = past_derives (WasAbsent {A = A} (resolving_at c (resolutions.Checking f)) (reply.Looked (Some row))) [] n.stage past;
-  own = λ r e w frames facts. subst (λ (k : Request). GoesOnWith k row.value.class (task_at c n.stage) n.turn) (some_same f.request r e) goes;
-}
+found_steps {A = A} told c f row n failed name by goes plain past =
+    plain_steps (resolving_at c (resolutions.Checking f)) (reply.Looked (Some row)) n refl refl refl (reaches A told c f.q f.request row n failed.asked name by)
+    (equal_room (reached_left f.request) checking_left (ap reached_left failed.resolves)) (λ g x p served is h. absurd (found_never told c f failed row g x served h.told)) (λ x h. h.now)
+    tt tt (λ h. tt) (past_derives _ [] n.stage past) (λ r e w frames facts. subst (λ (k : Request). GoesOnWith k row.value.class (task_at c n.stage) n.turn) (some_same f.request r e) goes) plain
 
 -- memory ran out at what was found
 memory_goes : {A : Type 0} (q : ℕ) (r : Request) (k : Class) (new : Tasked) (n : Next A) → n ≡ memory_ends q r → GoesOnWith r k new n.turn

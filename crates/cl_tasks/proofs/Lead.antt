@@ -2,6 +2,7 @@
 use Rattle.std.proofs.Common.{◌≡◌, ◌<◌, ◌≤◌, ◌+◌, ◌*◌, ◌++◌, ℕ, Bool, true, false, not, eqb, List, length, Option, Some, None, refl, sym, subst, arith}
 use Rattle.std.proofs.lemmas.Bool.{eqb-true}
 use Rattle.std.specs.Prelude.{IfSome}
+use Rattle.cl_model.specs.declared.answer.Answer.{Answer}
 use Rattle.cl_model.specs.declared.answer.Answer.TheVariants as answers
 use Rattle.cl_model.specs.declared.request.Request.{Request}
 use Rattle.cl_model.specs.declared.request.Request.TheVariants as requests
@@ -17,13 +18,15 @@ use Rattle.cl_findings.specs.Findings.{loader_of}
 use Rattle.cl_hierarchy.specs.Paths.{frames_of}
 use Rattle.cl_registry.specs.Tables.{Shown, state_of}
 use Rattle.cl_tasks.specs.Calls.{Calls, calls_in, equalities_in, hand_calls, if_so, in_hand, open_calls, own_homes, past_loads, while_loading}
-use Rattle.cl_tasks.specs.Follows.{CallsWithin, PostsNoFault, Tells, TellsNow}
+use Rattle.cl_tasks.specs.Blames.{FaultBlames}
+use Rattle.cl_tasks.specs.Deriving.{Derives}
+use Rattle.cl_tasks.specs.Follows.{CallsWithin, EndsRefused, LacksOnly, PostsNoFault, Refuses, Tells, TellsNow, refusal}
 use Rattle.cl_tasks.specs.Rooms.{Room, last_room, past_room, room_of}
-use Rattle.cl_tasks.specs.Stages.{job_calls, past_calls}
+use Rattle.cl_tasks.specs.Stages.{job_calls, past_calls, task_at}
 use Rattle.cl_tasks.specs.Steps.{IsPlain, LeadsBy, LeadsOn, Steps, memory_ends, task_room}
 use Rattle.cl_tasks.specs.Tasks.{Tasked}
 use Rattle.cl_tasks.specs.declared.stage.Job.{Job}
-use Rattle.cl_tasks.specs.Turns.{ReadsUnrecorded}
+use Rattle.cl_tasks.specs.Turns.{AnswersOwn, ReadsUnrecorded, WasAbsent}
 use Rattle.cl_tasks.specs.declared.stage.Next.{Next}
 use Rattle.cl_tasks.specs.declared.stage.Stage.TheVariants as stage
 use Rattle.cl_tasks.specs.declared.turn.Reply.{Reply}
@@ -171,6 +174,26 @@ plain_reads t r (turn.Impose e k) h = tt
 plain_reads t r (turn.LookPrepared c) h = tt
 plain_reads t r (turn.Mark e) h = tt
 plain_reads t r (turn.Post f) h = tt
+
+-- a plain turn, on a reply that is neither memory nor a fault of the source: where it leads, and what else a step owes
+pub plain_steps : {A : Type 0} {told : Option Content} {c : Configured} {r : Request} {m : Room} {p : Shown → Type 0} (t : Tasked) (answer : Reply A) (n : Next A) → c ≡ t.config → t.request ≡ Some r → refusal t answer ≡ None
+    → LeadsBy told c t.q r m p n → m.turns ≤ t.left → Holding told c (λ x. TellsNow {A = A} x t answer) r m.calls (task_room t) → ((x : Shown) → Tells {A = A} x t answer → p x)
+    → EndsRefused t.request answer n.turn → FaultBlames told t answer n.turn → LacksOnly t.request answer n.turn → Derives (WasAbsent t answer) t.frames n.stage → AnswersOwn t (task_at t.config n.stage) answer n.turn → IsPlain n.turn → Steps told t answer n
+plain_steps {A = A} {told = told} {r = r} t answer n config asked granted l le calls tells linkage blames lacks derives own plain =
+    let holds : Shown → Type 0 = λ x. Tells {A = A} x t answer in
+    let now : Shown → Type 0 = λ x. TellsNow {A = A} x t answer in
+    record {
+      leads =
+          subst (λ (o : Option Request). IfSome o (λ k. LeadsOn told t.config t.q k (task_room t) holds now n)) (sym asked)
+          (subst (λ (d : Configured). LeadsOn told d t.q r (task_room t) holds now n) config (leads_more (task_room t) holds now l le calls tells (λ x h. tells x h.told)));
+      refused = subst (λ (o : Option Answer). Refuses o n.turn) (sym granted) (plain_no_fault n.turn plain);
+      linkage = linkage;
+      blames = blames;
+      lacks = lacks;
+      reads = plain_reads t answer n.turn plain;
+      derives = derives;
+      own = own;
+    }
 
 -- a refused growth is the answer
 pub steps_memory : {A : Type 0} (told : Option Content) (t : Tasked) (r : Request) → t.request ≡ Some r → loader_of r < length t.config.loaders → 0 < t.left → HasPost (task_room t) → Steps {A = A} told t reply.Memory (memory_ends t.q r)

@@ -29,7 +29,7 @@ use Rattle.cl_tasks.specs.declared.stage.Resolution.TheVariants as resolutions
 use Rattle.cl_tasks.specs.declared.stage.Stage.TheVariants as stages
 use Rattle.cl_tasks.specs.declared.turn.Turn.TheVariants as turn
 use Rattle.cl_tasks.proofs.Facts.{basis_so}
-use Rattle.cl_tasks.proofs.Lead.{past_has, posts_within}
+use Rattle.cl_tasks.proofs.Lead.{leads_post, past_has}
 use Rattle.cl_tasks.proofs.Said.{IsRecordIn, OwnFails, Settling, Stood, failure_backed, failure_entry, failure_member, may_settle, own_comes, said_of, settled_next}
 
 -- what a load ends in, where this holds
@@ -51,17 +51,9 @@ some_left (targets.Reference d) = omega arith
 
 answers_so : {A : Type 0} (told : Option Content) (j : Job A) (v : verdict.Verdict) (b : Based) (holds : Shown → Type 0) → IsJob told j.path.config j → Ended told j v b holds → IsOwnTarget j.target × IsNoResolution j.request
     → Leads told j (past_room j) holds (record { stage = stages.Done j.q; turn = turn.Post (said_of j.request v b) })
-answers_so told j v b holds job e is = record {
-  kept = tt;
-  number = refl;
-  asks = refl;
-  serves = refl;
-  left = some_left j.target;
-  calls = posts_within told j.path.config holds j.request (past_room j) (past_has j);
-  keeps = λ x h. record { frames = tt; facts = tt };
-  backed = λ x config named consistent h. failure_backed told j.path.config j.request v b holds e.stood is.1 e.failure x config named h;
-  follows = λ g x s h. own_comes told j.path.config j.request v b holds (own_fails told j v b holds e is.0) g x s h;
-}
+answers_so told j v b holds job e is =
+    leads_post refl (some_left j.target) (past_has j) (λ x config named consistent h. failure_backed told j.path.config j.request v b holds e.stood is.1 e.failure x config named h)
+    (λ g x s h. own_comes told j.path.config j.request v b holds (own_fails told j v b holds e is.0) g x s h)
 
 -- ---- the second look of a resolution
 

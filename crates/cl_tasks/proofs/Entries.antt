@@ -51,7 +51,7 @@ use Rattle.cl_tasks.specs.declared.stage.Resolution.TheVariants as resolutions
 use Rattle.cl_tasks.specs.declared.stage.Stage.TheVariants as stages
 use Rattle.cl_tasks.specs.declared.turn.Turn.TheVariants as turn
 use Rattle.cl_tasks.specs.Waits as waits
-use Rattle.cl_tasks.proofs.Lead.{HasPost, Holding, leads_by, posts_within}
+use Rattle.cl_tasks.proofs.Lead.{HasPost, Holding, leads_by, leads_post}
 use Rattle.cl_tasks.proofs.Said.{Settling, Stood, borne, found_is, may_settle, said_of, settled_next, stood_answers}
 
 -- ---- rooms
@@ -89,27 +89,19 @@ pub leads_never : (A : Type 0) (told : Option Content) (c : Configured) (q : ℕ
     → LeadsBy {A = A} told c q r room holds (record { stage = stages.Done q; turn = turn.Post (said_of r v b) })
 leads_never A told c q r d i v b room holds stood is never more post =
     let bears = λ (s : State). resolving r d i (λ (k : Request). Bears s (request_of k) (verdict_of v)) is (never_bears s (loader_of r) d.name i v never) in
-    record {
-      kept = tt;
-      number = refl;
-      asks = refl;
-      serves = refl;
-      left = more;
-      calls = posts_within told c holds r room post;
-      keeps = λ x h. record { frames = tt; facts = tt };
-      backed = λ x config named consistent h. record {
-        within = stood.within x config named h;
-        answer = record {
-          grounded = inr (record { within = stood.within x config named h; basis = borne told c r v b holds stood x config h });
-          borne = bears (state_of x);
-        };
+    leads_post refl more post
+    (λ x config named consistent h. record {
+      within = stood.within x config named h;
+      answer = record {
+        grounded = inr (record { within = stood.within x config named h; basis = borne told c r v b holds stood x config h });
+        borne = bears (state_of x);
       };
-      follows = λ g x served h.
-          let answer = stood_answers told c r v b holds stood g x served h in
-          resolving r d i (λ (k : Request). ComesTo g (state_of x) (request_of k) (verdict_of v)) is
-          (bears_comes g (state_of x) (loader_of r) d.name i (verdict_of v) (never_bears (state_of x) (loader_of r) d.name i v never)
-          (subst (λ (k : Request). AnswersPlan g (state_of x) (request_of k) (verdict_of v)) is answer));
-    }
+    })
+    (λ g x served h.
+    let answer = stood_answers told c r v b holds stood g x served h in
+    resolving r d i (λ (k : Request). ComesTo g (state_of x) (request_of k) (verdict_of v)) is
+    (bears_comes g (state_of x) (loader_of r) d.name i (verdict_of v) (never_bears (state_of x) (loader_of r) d.name i v never)
+    (subst (λ (k : Request). AnswersPlan g (state_of x) (request_of k) (verdict_of v)) is answer)))
 
 -- ---- an entry is settled
 
@@ -150,25 +142,18 @@ settled_comes g s l d i v sound kept settled =
 
 pub leads_shared : (A : Type 0) (told : Option Content) (c : Configured) (q : ℕ) (r : Request) (d : Class) (i : ℕ) (s : Arc Settled Global) (room : Room) (holds : Shown → Type 0) → r ≡ requests.Resolve (loader_of r) d.name i → loader_of r < length c.loaders → ((x : Shown) → holds x → recorded (records_of x) (loader_of r) d.name ≡ Some d.loader)
     → ((x : Shown) → holds x → IsSettledIn x d i s.value) → 0 < room.turns → HasPost room → LeadsBy {A = A} told c q r room holds (record { stage = stages.Done q; turn = turn.Post (record { request = r; answer = answers.Shared s; basis = None }) })
-leads_shared A told c q r d i s room holds is asked kept settled more post = record {
-  kept = tt;
-  number = refl;
-  asks = refl;
-  serves = refl;
-  left = more;
-  calls = posts_within told c holds r room post;
-  keeps = λ x h. record { frames = tt; facts = tt };
-  backed = λ x config named consistent h. record {
-    within = record {
-      loader = subst (λ (k : Configured). loader_of r < length k.loaders) (sym config) asked;
-      answer = settled_named x d i s.value named (settled x h).entry;
-    };
-    answer = resolving r d i (λ (k : Request). settled_by x k ≡ Some s.value) is (entry_settled x (loader_of r) d i s.value (kept x h) (settled x h).entry);
-  };
-  follows = λ g x served h.
-      resolving r d i (λ (k : Request). ComesTo g (state_of x) (request_of k) (verdict_of s.value.verdict)) is
-      (settled_comes g (state_of x) (loader_of r) d i (verdict_of s.value.verdict) served.sound (kept x h) (settled x h).verdict);
-}
+leads_shared A told c q r d i s room holds is asked kept settled more post =
+    leads_post refl more post
+    (λ x config named consistent h. record {
+      within = record {
+        loader = subst (λ (k : Configured). loader_of r < length k.loaders) (sym config) asked;
+        answer = settled_named x d i s.value named (settled x h).entry;
+      };
+      answer = resolving r d i (λ (k : Request). settled_by x k ≡ Some s.value) is (entry_settled x (loader_of r) d i s.value (kept x h) (settled x h).entry);
+    })
+    (λ g x served h.
+    resolving r d i (λ (k : Request). ComesTo g (state_of x) (request_of k) (verdict_of s.value.verdict)) is
+    (settled_comes g (state_of x) (loader_of r) d i (verdict_of s.value.verdict) served.sound (kept x h) (settled x h).verdict))
 
 -- ---- what a verdict of an entry rests on
 

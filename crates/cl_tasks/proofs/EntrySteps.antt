@@ -44,7 +44,7 @@ use Rattle.cl_tasks.specs.declared.turn.Turn.TheVariants as turn
 use Rattle.cl_tasks.proofs.Deriving.{derives_more, past_derives}
 use Rattle.cl_tasks.proofs.Facts.{so_met, so_refuses}
 use Rattle.cl_tasks.proofs.Lacking.{posts_one, posts_or, shared_memory}
-use Rattle.cl_tasks.proofs.Lead.{leads_memory, not_false, plain_steps}
+use Rattle.cl_tasks.proofs.Lead.{leads_post, memory_steps, not_false, plain_steps}
 use Rattle.cl_tasks.proofs.Reaching.{reached_left, reaches}
 use Rattle.cl_tasks.proofs.Said.{Stood, borne, concluded, concludes_at, found_is, said_of, stood_answers, unrecorded}
 use Rattle.std.proofs.lemmas.Option.{none-some}
@@ -124,28 +124,12 @@ memory_goes q (requests.Resolve l m i) k new n e = subst (λ (j : Next _). GoesO
 memory_goes q (requests.Link l m) k new n e = subst (λ (i : Next _). GoesOnWith (requests.Link l m) k new i.turn) (sym e) refl
 
 pub found_out : {A : Type 0} (told : Option Content) (c : Configured) (f : Failed A) (row : Arc (ClassRow A) Global) → IsFailed told c f → Steps {A = A} told (resolving_at c (resolutions.Checking f)) (reply.Looked (Some row)) (memory_ends f.q f.request)
-found_out {A = A} told c f row failed = record {
-  leads = leads_memory told c f.q f.request (task_room (resolving_at c (resolutions.Checking f))) _ _ failed.asked (omega arith) (λ w p s. omega arith);
-  refused = tt;
-  linkage = tt;
-  blames = tt;
-  lacks = λ h. tt;
-  reads = tt;
-  derives = tt;
-  own = λ r e w frames facts. subst (λ (k : Request). GoesOnWith {A = A} k row.value.class (task_at {A = A} c (memory_ends f.q f.request).stage) (memory_ends f.q f.request).turn) (some_same f.request r e) (memory_goes f.q f.request row.value.class (task_at {A = A} c (memory_ends f.q f.request).stage) (memory_ends f.q f.request) refl);
-}
+found_out {A = A} told c f row failed =
+    memory_steps told (resolving_at c (resolutions.Checking f)) f.request (reply.Looked (Some row)) refl failed.asked (omega arith) (λ w p s. omega arith) tt tt tt (λ h. tt)
+    (λ r e w frames facts. subst (λ (k : Request). GoesOnWith {A = A} k row.value.class (task_at {A = A} c (memory_ends f.q f.request).stage) (memory_ends f.q f.request).turn) (some_same f.request r e) (memory_goes f.q f.request row.value.class (task_at {A = A} c (memory_ends f.q f.request).stage) (memory_ends f.q f.request) refl))
 
 pub unfound_out : {A : Type 0} (told : Option Content) (c : Configured) (f : Failed A) → IsFailed told c f → Steps {A = A} told (resolving_at c (resolutions.Checking f)) (reply.Looked None) (memory_ends f.q f.request)
-unfound_out {A = A} told c f failed = record {
-  leads = leads_memory told c f.q f.request (task_room (resolving_at c (resolutions.Checking f))) _ _ failed.asked (omega arith) (λ w p s. omega arith);
-  refused = tt;
-  linkage = tt;
-  blames = tt;
-  lacks = λ h. tt;
-  reads = tt;
-  derives = tt;
-  own = tt;
-}
+unfound_out told c f failed = memory_steps told (resolving_at c (resolutions.Checking f)) f.request (reply.Looked None) refl failed.asked (omega arith) (λ w p s. omega arith) tt tt tt (λ h. tt) tt
 
 -- ---- nothing was found, and the verdict stands
 
@@ -190,23 +174,15 @@ failed_leads {A = A} told c f failed stood =
     let r = f.request in
     let v = failed.verdict in
     let b = failed.basis in
-    record {
-      kept = tt;
-      number = refl;
-      asks = refl;
-      serves = refl;
-      left = omega arith;
-      calls = λ g x p served is h. omega arith;
-      keeps = λ x h. record { frames = tt; facts = tt };
-      backed = λ x config named consistent h. record {
-        within = stood.within x config named h.told;
-        answer = record {
-          grounded = inr (record { within = stood.within x config named h.told; basis = borne told c r v b (Unfound A c f) stood x config h.told });
-          borne = unreached_bears (state_of x) r failed.index v failed.resolves h.unrecorded;
-        };
+    leads_post refl (omega arith) (λ w p s. omega arith)
+    (λ x config named consistent h. record {
+      within = stood.within x config named h.told;
+      answer = record {
+        grounded = inr (record { within = stood.within x config named h.told; basis = borne told c r v b (Unfound A c f) stood x config h.told });
+        borne = unreached_bears (state_of x) r failed.index v failed.resolves h.unrecorded;
       };
-      follows = λ g x served h. failed_comes told c f failed stood g x served h;
-    }
+    })
+    (λ g x served h. failed_comes told c f failed stood g x served h)
 
 pub unfound_steps : {A : Type 0} (told : Option Content) (c : Configured) (f : Failed A) (n : Next A) → IsFailed told c f → Rests told f.finding → IsWithin (length c.loaders) f.finding → n ≡ record { stage = stages.Done f.q; turn = turn.Post f.finding }
     → Steps told (resolving_at c (resolutions.Checking f)) (reply.Looked None) n

@@ -46,9 +46,11 @@ use Rattle.cl_tasks.proofs.Facts.{so_met, so_refuses}
 use Rattle.cl_tasks.proofs.Lacking.{posts_one, posts_or, shared_memory}
 use Rattle.cl_tasks.proofs.Lead.{leads_post, memory_steps, not_false, plain_steps}
 use Rattle.cl_tasks.proofs.Reaching.{reached_left, reaches}
-use Rattle.cl_tasks.proofs.Said.{Stood, borne, concluded, concludes_at, found_is, said_of, stood_answers, unrecorded}
+use Rattle.cl_tasks.proofs.Said.{Stood, borne, concludes_at, found_is, stood_answers, unrecorded}
 use Rattle.std.proofs.lemmas.Option.{none-some}
 use Rattle.cl_model.proofs.Bind.{some_same}
+use Rattle.cl_findings.proofs.Plain.{grounded}
+use Rattle.cl_findings.proofs.Answered.{answered_by}
 
 same_room : (m : ℕ) → m ≤ m
 same_room m = omega arith
@@ -89,7 +91,7 @@ decided false d e = absurd cc
 equal_room : (a b : ℕ) → a ≡ b → a ≤ b
 equal_room a b e = omega (arith, e)
 
-failed_whole : {A : Type 0} (told : Option Content) (c : Configured) (f : Failed A) (failed : IsFailed told c f) → f.finding ≡ said_of f.request failed.verdict failed.basis
+failed_whole : {A : Type 0} (told : Option Content) (c : Configured) (f : Failed A) (failed : IsFailed told c f) → f.finding ≡ grounded f.request failed.verdict failed.basis
 failed_whole told c f failed = found_is f.finding f.request failed.verdict failed.basis failed.same failed.said failed.rests_on
 
 -- what it rests on was told
@@ -102,9 +104,9 @@ failed_unrecorded told c f failed g x served facts =
     let r = f.request in
     let v = failed.verdict in
     let so = failed_facts told c f failed x facts in
-    let load : Rests told (said_of (load_of r) v failed.basis) = subst (λ (k : Answered). Rests told (record k { request = load_of r })) (failed_whole told c f failed) failed.own in
+    let load : Rests told (grounded (load_of r) v failed.basis) = subst (λ (k : Answered). Rests told (record k { request = load_of r })) (failed_whole told c f failed) failed.own in
     let concludes = concludes_at told c g (state_of x) (load_of r) v failed.basis served load failed.config failed.unprepared (so_met x failed.basis so) in
-    unrecorded g (state_of x) (loader_of r) (name_of r) v served.sound failed.failure (concluded g (state_of x) (plans.Load (loader_of r) (name_of r)) failed.basis.refused failed.basis.prepared (verdict_of v) concludes (so_refuses x failed.basis so))
+    unrecorded g (state_of x) (loader_of r) (name_of r) v served.sound failed.failure (answered_by g (state_of x) (plans.Load (loader_of r) (name_of r)) failed.basis.refused failed.basis.prepared (verdict_of v) concludes (so_refuses x failed.basis so))
 
 -- so nothing is found there
 found_never : {A : Type 0} (told : Option Content) (c : Configured) (f : Failed A) → IsFailed told c f → (row : Arc (ClassRow A) Global) (g : Setting) (x : Shown) → ServedIn told c g (state_of x) → Tells {A = A} x (resolving_at c (resolutions.Checking f)) (reply.Looked (Some row)) → ⊥
@@ -146,7 +148,7 @@ failed_stood told c f failed rests within =
       unprepared = failed.unprepared;
       needs = λ x h. so_met x failed.basis (failed_facts told c f failed x h.before.facts);
       refused = λ x h. so_refuses x failed.basis (failed_facts told c f failed x h.before.facts);
-      within = λ x config named h. subst (λ (k : Configured). IsWithin (length k.loaders) (said_of f.request failed.verdict failed.basis)) (sym config) (subst (λ (k : Answered). IsWithin (length c.loaders) k) whole within);
+      within = λ x config named h. subst (λ (k : Configured). IsWithin (length k.loaders) (grounded f.request failed.verdict failed.basis)) (sym config) (subst (λ (k : Answered). IsWithin (length c.loaders) k) whole within);
     }
 
 -- of a request to resolve, where its class is not recorded, the tables bear any verdict
@@ -169,7 +171,7 @@ failed_comes told c f failed stood g x served h =
 
 failed_leads : {A : Type 0} (told : Option Content) (c : Configured) (f : Failed A) (failed : IsFailed told c f) → Stood told c f.request failed.verdict failed.basis (Unfound A c f)
     → LeadsOn {A = A} told c f.q f.request (task_room (resolving_at c (resolutions.Checking f))) (Unfound A c f) (λ x. TellsNow {A = A} x (resolving_at c (resolutions.Checking f)) (reply.Looked None))
-    (record { stage = stages.Done f.q; turn = turn.Post (said_of f.request failed.verdict failed.basis) })
+    (record { stage = stages.Done f.q; turn = turn.Post (grounded f.request failed.verdict failed.basis) })
 failed_leads {A = A} told c f failed stood =
     let r = f.request in
     let v = failed.verdict in
@@ -187,7 +189,7 @@ failed_leads {A = A} told c f failed stood =
 pub unfound_steps : {A : Type 0} (told : Option Content) (c : Configured) (f : Failed A) (n : Next A) → IsFailed told c f → Rests told f.finding → IsWithin (length c.loaders) f.finding → n ≡ record { stage = stages.Done f.q; turn = turn.Post f.finding }
     → Steps told (resolving_at c (resolutions.Checking f)) (reply.Looked None) n
 unfound_steps {A = A} told c f n failed rests within is =
-    let at : n ≡ record { stage = stages.Done f.q; turn = turn.Post (said_of f.request failed.verdict failed.basis) } =
+    let at : n ≡ record { stage = stages.Done f.q; turn = turn.Post (grounded f.request failed.verdict failed.basis) } =
     is ∙ ap (λ (k : Answered). record { stage = stages.Done f.q; turn = turn.Post k }) (failed_whole told c f failed) in
     subst (λ (m : Next A). Steps told (resolving_at c (resolutions.Checking f)) (reply.Looked None) m) (sym at)
     (record {

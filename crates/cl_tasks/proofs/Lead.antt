@@ -17,7 +17,7 @@ use Rattle.cl_findings.specs.declared.load.Target.TheVariants as targets
 use Rattle.cl_findings.specs.Findings.{Answered, loader_of}
 use Rattle.cl_hierarchy.specs.Paths.{frames_of}
 use Rattle.cl_registry.specs.Tables.{Shown, state_of}
-use Rattle.cl_tasks.specs.Calls.{Calls, calls_in, equalities_in, hand_calls, if_so, in_hand, open_calls, own_homes, past_loads, while_loading}
+use Rattle.cl_tasks.specs.Calls.{Calls, calls_in, equalities_in, hand_calls, if_so, in_hand, open_calls, own_homes, while_loading}
 use Rattle.cl_tasks.specs.Blames.{FaultBlames}
 use Rattle.cl_tasks.specs.Deriving.{Derives}
 use Rattle.cl_tasks.specs.Follows.{BackedWhere, CallsWithin, EndsRefused, FollowsWhere, LacksOnly, PostsNoFault, Refuses, Tells, TellsNow, refusal}
@@ -33,6 +33,7 @@ use Rattle.cl_tasks.specs.declared.turn.Reply.{Reply}
 use Rattle.cl_tasks.specs.declared.turn.Reply.TheVariants as reply
 use Rattle.cl_tasks.specs.declared.turn.Turn.{Turn}
 use Rattle.cl_tasks.specs.declared.turn.Turn.TheVariants as turn
+use Rattle.cl_tasks.proofs.TurnCases.{of_posts, of_reads}
 
 -- ---- rooms
 
@@ -154,31 +155,11 @@ plain_out n q r is = subst (λ (m : Next _). IsPlain m.turn) (sym is) tt
 
 -- ---- what a step does
 
-pub plain_no_fault : {A : Type 0} (t : Turn A) → IsPlain t → PostsNoFault t
-plain_no_fault (turn.Look l n) h = tt
-plain_no_fault (turn.Read l n) h = tt
-plain_no_fault (turn.Define d) h = tt
-plain_no_fault (turn.Initiate i) h = tt
-plain_no_fault (turn.Lineage c) h = tt
-plain_no_fault (turn.LookReference c i) h = tt
-plain_no_fault (turn.Settle f) h = tt
-plain_no_fault (turn.Impose e k) h = tt
-plain_no_fault (turn.LookPrepared c) h = tt
-plain_no_fault (turn.Mark e) h = tt
-plain_no_fault (turn.Post f) h = h
+plain_no_fault : {A : Type 0} (u : Turn A) → IsPlain u → PostsNoFault u
+plain_no_fault u h = (of_posts u).0 (λ f e. subst (λ (v : Turn _). IsPlain v) e h)
 
-pub plain_reads : {A : Type 0} (t : Tasked) (r : Reply A) (u : Turn A) → IsPlain u → ReadsUnrecorded t r u
-plain_reads t r (turn.Look l n) h = tt
-plain_reads t r (turn.Read l n) h = absurd h
-plain_reads t r (turn.Define d) h = tt
-plain_reads t r (turn.Initiate i) h = tt
-plain_reads t r (turn.Lineage c) h = tt
-plain_reads t r (turn.LookReference c i) h = tt
-plain_reads t r (turn.Settle f) h = tt
-plain_reads t r (turn.Impose e k) h = tt
-plain_reads t r (turn.LookPrepared c) h = tt
-plain_reads t r (turn.Mark e) h = tt
-plain_reads t r (turn.Post f) h = tt
+plain_reads : {A : Type 0} (t : Tasked) (r : Reply A) (u : Turn A) → IsPlain u → ReadsUnrecorded t r u
+plain_reads t r u h = (of_reads u).0 t r (λ l n e. absurd (subst (λ (v : Turn _). IsPlain v) e h))
 
 -- a plain turn, on a reply that is neither memory nor a fault of the source: where it leads, and what else a step owes
 pub plain_steps : {A : Type 0} {told : Option Content} {c : Configured} {r : Request} {m : Room} {p : Shown → Type 0} (t : Tasked) (answer : Reply A) (n : Next A) → c ≡ t.config → t.request ≡ Some r → refusal t answer ≡ None

@@ -21,7 +21,7 @@ use Rattle.cl_registry.specs.Tables.{Shown, state_of}
 use Rattle.cl_registry.proofs.Schedules.{some_at}
 use Rattle.cl_tasks.specs.Deriving.{IsPast}
 use Rattle.cl_tasks.specs.Calls.{equalities_in, own_homes, past_loads}
-use Rattle.cl_tasks.specs.Follows.{CallsWithin, EndsAsRefused, Posts, Tells, TellsNow}
+use Rattle.cl_tasks.specs.Follows.{CallsWithin, EndsAsRefused, Posts, Tells}
 use Rattle.cl_tasks.specs.Linking.{AskedTold, LineageTold, ListTold, MarkedTold, PreparedTold, RefusedTold, WholeTold}
 use Rattle.cl_tasks.specs.Measures.{chain_left, linking_left, prepared_left, whole_left}
 use Rattle.cl_tasks.specs.Rooms.{chain_room, last_room, linking_room, listed_room, marked_room, prepared_room, whole_room}

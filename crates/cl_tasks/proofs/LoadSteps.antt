@@ -53,6 +53,7 @@ use Rattle.cl_tasks.proofs.Lacking.{fault_lacks, posts_one}
 use Rattle.cl_tasks.proofs.Lead.{job_some, leads_more, plain_steps}
 use Rattle.cl_tasks.proofs.Moves.{Holds, defined_holds, fewer_holds, found_holds, initiated_holds, past_made, unfound_holds, unrecorded_holds}
 use Rattle.cl_tasks.proofs.Onward.{defining_calls, less_room}
+use Rattle.cl_tasks.proofs.TurnCases.{of_reads}
 
 -- under the configuration of the job's path
 at_config : {A : Type 0} (told : Option Content) (c : Configured) (d : Configured) (q : ℕ) (r : Request) (room : Room) (holds now : Shown → Type 0) (n : Next A) → d ≡ c → LeadsOn told d q r room holds now n → LeadsOn told c q r room holds now n
@@ -60,30 +61,10 @@ at_config told c d q r room holds now n e l = subst (λ (k : Configured). LeadsO
 
 -- a turn that reads for what is looked for, of which it was told that its loader has no record
 reads_along : {A : Type 0} (t : Tasked) (r : Reply A) (p : Pathed) (is : ℕ → Type 0) (u : Turn A) → WasAbsent t r (sought_class p) → ((l : ℕ) → is l → IsReadNext (way_of t.config (sought_class p)) r l) → ReadsAt p is u → ReadsUnrecorded t r u
-reads_along t r p is (turn.Look l n) absent next h = tt
-reads_along t r p is (turn.Read l n) absent next h = (sought_class p, absent, sym h.0, next l h.1)
-reads_along t r p is (turn.Define d) absent next h = tt
-reads_along t r p is (turn.Initiate i) absent next h = tt
-reads_along t r p is (turn.Lineage c) absent next h = tt
-reads_along t r p is (turn.LookReference c i) absent next h = tt
-reads_along t r p is (turn.Settle f) absent next h = tt
-reads_along t r p is (turn.Impose e k) absent next h = tt
-reads_along t r p is (turn.LookPrepared c) absent next h = tt
-reads_along t r p is (turn.Mark e) absent next h = tt
-reads_along t r p is (turn.Post f) absent next h = tt
+reads_along t r p is u absent next h = (of_reads u).0 t r (λ l n e. let k = subst (λ (v : Turn _). ReadsAt p is v) e h in (sought_class p, absent, sym k.0, next l k.1))
 
 posts_reads : {A : Type 0} (t : Tasked) (r : Reply A) (a : Answer) (u : Turn A) → Posts a u → ReadsUnrecorded t r u
-posts_reads t r a (turn.Look l n) h = tt
-posts_reads t r a (turn.Read l n) h = absurd h
-posts_reads t r a (turn.Define d) h = tt
-posts_reads t r a (turn.Initiate i) h = tt
-posts_reads t r a (turn.Lineage c) h = tt
-posts_reads t r a (turn.LookReference c i) h = tt
-posts_reads t r a (turn.Settle f) h = tt
-posts_reads t r a (turn.Impose e k) h = tt
-posts_reads t r a (turn.LookPrepared c) h = tt
-posts_reads t r a (turn.Mark e) h = tt
-posts_reads t r a (turn.Post f) h = tt
+posts_reads t r a u h = (of_reads u).0 t r (λ l n e. absurd (subst (λ (v : Turn _). Posts a v) e h))
 
 -- ---- the first turn
 

@@ -19,8 +19,8 @@ use Rattle.cl_hierarchy.specs.Paths.{Pathed, at_loader, at_name}
 use Rattle.cl_tasks.specs.Turns.{IsBehind}
 use Rattle.cl_tasks.specs.declared.stage.Job.{Job}
 use Rattle.cl_tasks.specs.declared.turn.Turn.{Turn}
-use Rattle.cl_tasks.specs.declared.turn.Turn.TheVariants as turn
 use Rattle.std.proofs.lemmas.Option.{none-some}
+use Rattle.cl_tasks.proofs.TurnCases.{of_reads}
 
 -- a way goes through the first so many loaders alone, and is no longer
 record IsShort (n : ℕ) (way : List ℕ) : Type 0 where
@@ -182,30 +182,10 @@ one_more_is n = omega arith
 
 -- a turn that reads nothing
 pub reads_none : {A : Type 0} (p : Pathed) (is : ℕ → Type 0) (u : Turn A) → IsPlain u → ReadsAt p is u
-reads_none p is (turn.Look l n) h = tt
-reads_none p is (turn.Read l n) h = absurd h
-reads_none p is (turn.Define d) h = tt
-reads_none p is (turn.Initiate i) h = tt
-reads_none p is (turn.Lineage c) h = tt
-reads_none p is (turn.LookReference c i) h = tt
-reads_none p is (turn.Settle f) h = tt
-reads_none p is (turn.Impose e k) h = tt
-reads_none p is (turn.LookPrepared c) h = tt
-reads_none p is (turn.Mark e) h = tt
-reads_none p is (turn.Post f) h = tt
+reads_none p is u h = (of_reads u).1 p is (λ l n e. absurd (subst (λ (v : Turn _). IsPlain v) e h))
 
 reads_more_so : {A : Type 0} (p : Pathed) (is so : ℕ → Type 0) (u : Turn A) → ((l : ℕ) → is l → so l) → ReadsAt p is u → ReadsAt p so u
-reads_more_so p is so (turn.Look l n) weaker h = tt
-reads_more_so p is so (turn.Read l n) weaker h = (h.0, weaker l h.1)
-reads_more_so p is so (turn.Define d) weaker h = tt
-reads_more_so p is so (turn.Initiate i) weaker h = tt
-reads_more_so p is so (turn.Lineage c) weaker h = tt
-reads_more_so p is so (turn.LookReference c i) weaker h = tt
-reads_more_so p is so (turn.Settle f) weaker h = tt
-reads_more_so p is so (turn.Impose e k) weaker h = tt
-reads_more_so p is so (turn.LookPrepared c) weaker h = tt
-reads_more_so p is so (turn.Mark e) weaker h = tt
-reads_more_so p is so (turn.Post f) weaker h = tt
+reads_more_so p is so u weaker h = (of_reads u).1 p so (λ l n e. let k = subst (λ (v : Turn _). ReadsAt p is v) e h in (k.0, weaker l k.1))
 
 -- a search that begins asks the first on its way
 pub reads_first : {A : Type 0} (p : Pathed) (s : Searched) (u : Turn A) → s ≡ begun p.config (at_loader p) (at_name p) → ReadsAt p (λ l. next_of s ≡ Some l) u → ReadsAt p (λ l. slice_get (way_on p) 0 ≡ Some l) u

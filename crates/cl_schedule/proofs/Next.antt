@@ -44,12 +44,13 @@ step_quiet (Post q a) call post = call
 step_quiet NextRound call post = call
 step_quiet Stray call post = call
 
-pub step_within : (s : State) (e : Step) → IsOfService e → (after s e).round ≡ s.round
-step_within s (Define c) call = refl
-step_within s (Initiate name place loader) call = refl
-step_within s (Constrain name a b) call = refl
-step_within s (Settle d i v) call = refl
-step_within s (Prepare c) call = refl
+-- the step of a call leaves the round and the answers
+pub step_within : (s : State) (e : Step) → IsOfService e → ((after s e).round ≡ s.round) × ((after s e).answers ≡ s.answers)
+step_within s (Define c) call = (refl, refl)
+step_within s (Initiate name place loader) call = (refl, refl)
+step_within s (Constrain name a b) call = (refl, refl)
+step_within s (Settle d i v) call = (refl, refl)
+step_within s (Prepare c) call = (refl, refl)
 step_within s (Post q a) call = absurd call
 step_within s NextRound call = absurd call
 step_within s Stray call = absurd call

@@ -21,6 +21,7 @@ use Rattle.cl_model.proofs.Views.{state_then}
 use Rattle.cl_registry.specs.Tables.{Shown, IsKept, IsOpen, empty_of, state_of, steps, with_post}
 use Rattle.cl_registry.specs.Tables as tables
 use Rattle.cl_registry.proofs.Histories.{steps_posts, unposted}
+use Rattle.cl_registry.proofs.Schedules.{some_at}
 use Rattle.cl_tasks.specs.Measures.{all_left}
 use Rattle.cl_tasks.specs.Tasks.{Tasked}
 use Rattle.cl_tasks.specs.declared.turn.Turn.{Turn}
@@ -39,11 +40,6 @@ use Rattle.cl_schedule.proofs.Gathering.{gathered}
 use Rattle.cl_schedule.proofs.Places.{HasMoved, none_seated, other_set, same_or_apart, same_seats, same_set, seat_task, some_is, some_none}
 use Rattle.cl_schedule.proofs.States.{same_machine}
 use Rattle.cl_schedule.proofs.Waiting.{gathered_call, gathered_post, gathered_rounds, may_gather, may_gather_first, takes_waiting}
-
-pub some_request : (rs : List Request) (q : ℕ) → q < length rs → (r : Request) × (slice_get rs q ≡ Some r)
-some_request [] q below = absurd (omega arith)
-some_request (r ∷ rs) zero below = (r, refl)
-some_request (r ∷ rs) (suc q) below = some_request rs q (omega arith)
 
 -- ---- cases
 
@@ -355,7 +351,7 @@ first_bound {A = A} told x room (q ∷ ws) is = by_seat (seat_at room q) refl
     by_seat None at = omega arith
     by_seat (Some s) at =
         let task = seat_task (slice_get room.tasks.items q) (slice_get room.calls.items q) s at in
-        let r = some_request x.script.requests q (subst (λ (n : ℕ). q < n) is.tasks_whole (slice_get_within room.tasks.items q (Some s.task) task)) in
+        let r = some_at x.script.requests q (subst (λ (n : ℕ). q < n) is.tasks_whole (slice_get_within room.tasks.items q (Some s.task) task)) in
         let few = (is.seated q s r.0 at r.1).few in
         omega arith
 

@@ -212,7 +212,7 @@ may_stay old new u q r (inr (e, is, goes)) may = record {
   begun = λ late. may.begun (record {
     round = late.round;
     of = ap (λ (s : Scripted). slice_get s.rounds_of q) (sym goes.script) ∙ late.of;
-    later = subst (λ (n : ℕ). n < late.round) (ap (λ (s : State). s.round) (state_goes old new e goes) ∙ step_within (state_of old) e (step_of_call old u e is)) late.later;
+    later = subst (λ (n : ℕ). n < late.round) (ap (λ (s : State). s.round) (state_goes old new e goes) ∙ (step_within (state_of old) e (step_of_call old u e is)).0) late.later;
   });
   unanswered = ap (λ (xs : List (Option rust.Answer)). slice_get xs q) goes.answers ∙ may.unanswered;
 }

@@ -25,6 +25,7 @@ use Rattle.cl_schedule.specs.Known.{Has, SaysOrLacks, TellsKnown}
 use Rattle.cl_schedule.specs.Nearing.{AtHand, HasOf, OwnCall}
 use Rattle.cl_schedule.specs.Replies.{Did, IsCall, IsRead, IsReplied, IsStepOf}
 use Rattle.cl_schedule.proofs.Places.{some_none}
+use Rattle.cl_tasks.proofs.Lacking.{posts_or}
 
 -- ---- turns
 
@@ -42,17 +43,7 @@ no_post_or a (turn.Mark l) p call = p
 no_post_or a (turn.Post f) p call = call
 
 pub no_posts : {A : Type 0} (a : rust.Answer) (u : Turn A) → Posts a u → IsCall u → ⊥
-no_posts a (turn.Look l n) p call = p
-no_posts a (turn.Read l n) p call = p
-no_posts a (turn.Define d) p call = p
-no_posts a (turn.Initiate h) p call = p
-no_posts a (turn.Lineage c) p call = p
-no_posts a (turn.LookReference c i) p call = p
-no_posts a (turn.Settle f) p call = p
-no_posts a (turn.Impose l k) p call = p
-no_posts a (turn.LookPrepared c) p call = p
-no_posts a (turn.Mark l) p call = p
-no_posts a (turn.Post f) p call = call
+no_posts a u p call = no_post_or a u (posts_or a u p) call
 
 -- ---- stations
 

@@ -11,7 +11,7 @@ use Rattle.cl_model.specs.declared.answer.Answer as rust
 use Rattle.cl_model.specs.declared.request.Request.{Request}
 use Rattle.cl_model.specs.Content.{Content}
 use Rattle.cl_model.specs.States.{State, Posted, answer_to, start}
-use Rattle.cl_model.specs.Machine.{Setting, Scheduled, Step, Define, Initiate, Constrain, Settle, Prepare, Post, NextRound, Stray, MayGoOn, after, state_after}
+use Rattle.cl_model.specs.Machine.{Setting, Scheduled, Step, Post, NextRound, MayGoOn, after, state_after}
 use Rattle.cl_model.specs.Service.{PassesRounds}
 use Rattle.cl_model.specs.Views.{answer_of, answers_of, answer_at, request_of}
 use Rattle.cl_model.specs.Steps.{IsOfService}
@@ -200,21 +200,12 @@ gathered_same x new ws next script answers round posted h = record {
   later = λ p least below. later_down x new p script (at_most (round_of new) (round_of x) round) (h.later p least (subst (λ (s : Scripted). p < length s.requests) script below));
 }
 
-call_answers : (s : State) (e : Step) → IsOfService e → (after s e).answers ≡ s.answers
-call_answers s (Define c) call = refl
-call_answers s (Initiate name place loader) call = refl
-call_answers s (Constrain name a b) call = refl
-call_answers s (Settle d i v) call = refl
-call_answers s (Prepare c) call = refl
-call_answers s (Post q a) call = absurd call
-call_answers s NextRound call = absurd call
-call_answers s Stray call = absurd call
-
 -- after the step of a call the same wait
 pub gathered_call : (x new : Shown) (ws : List ℕ) (next : ℕ) (e : Step) → GoesBy x new e → IsOfService e → HasGathered x ws next → HasGathered new ws next
 gathered_call x new ws next e goes call h =
     let there = state_goes x new e goes in
-    gathered_same x new ws next goes.script goes.answers (ap (λ (s : State). s.round) there ∙ step_within (state_of x) e call) (ap (λ (s : State). s.answers) there ∙ call_answers (state_of x) e call) h
+    let still = step_within (state_of x) e call in
+    gathered_same x new ws next goes.script goes.answers (ap (λ (s : State). s.round) there ∙ still.0) (ap (λ (s : State). s.answers) there ∙ still.1) h
 
 -- ---- a post
 

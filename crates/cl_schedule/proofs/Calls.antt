@@ -30,6 +30,7 @@ use Rattle.cl_tasks.specs.Follows.{IsSettledOf}
 use Rattle.cl_tasks.specs.Waits.{Waits, Defining, Initiating, Tracing, Settling, Imposing, Marking, Ended}
 use Rattle.cl_schedule.specs.Replies.{Did, ImposesBy, PreparesBy, SettlesBy, reply_of, RepliesWhere}
 use Rattle.cl_schedule.proofs.Histories.{goes_by, goes_event}
+use Rattle.cl_model.proofs.Bind.{some_same}
 
 -- ---- what was done
 
@@ -190,7 +191,4 @@ settled_entry x (requests.Resolve loader name i) s e = by_record (recorded (reco
     }
       where
         same : (d : Class) → Records (state_of x) loader name d → class name place ≡ d
-        same d kept = let p : place ≡ d.loader = some_is place d.loader (sym at ∙ kept.1) in rw (p, sym kept.0) refl
-          where
-            some_is : (a b : ℕ) → Some a ≡ Some b → a ≡ b
-            some_is a b e = cc
+        same d kept = let p : place ≡ d.loader = some_same place d.loader (sym at ∙ kept.1) in rw (p, sym kept.0) refl

@@ -11,6 +11,7 @@ use Rattle.cl_schedule.specs.declared.choices.Room.{Room}
 use Rattle.cl_schedule.specs.declared.seats.Seat.{Seat}
 use Rattle.cl_schedule.specs.Places.{seat_at, seat_of}
 use Rattle.cl_schedule.specs.Rooms.{HasTaken, NoneSeated}
+use Rattle.cl_model.proofs.Bind.{some_same}
 
 -- ---- cases
 
@@ -29,9 +30,6 @@ same_or_apart p q = elim (bool_cases (nat_eq p q)) [
   | inl is ↦ inl (eq_nat p q is)
   | inr apart ↦ inr (λ same. true_false (nat_eq p q) (ap (nat_eq p) (sym same) ∙ same_nat p) apart)
 ]
-
-pub some_is : {A : Type 0} (a b : A) → Some a ≡ Some b → a ≡ b
-some_is a b e = cc
 
 pub some_none : {A : Type 0} (o : Option A) (a : A) → o ≡ Some a → o ≡ None → ⊥
 some_none o a e k = cc
@@ -68,7 +66,7 @@ none_first (suc n) (suc q) a at = none_first n q a at
 -- ---- seats
 
 pub seat_task : {A : Type 0} (task : Option (Option Tasked)) (call : Option (Option (Turn A))) (s : Seat A) → seat_of task call ≡ Some s → task ≡ Some (Some s.task)
-seat_task {A = A} (Some (Some t)) (Some (Some u)) s is = ap (λ (k : Seat A). Some (Some k.task)) (some_is (record { task = t; call = u }) s is)
+seat_task {A = A} (Some (Some t)) (Some (Some u)) s is = ap (λ (k : Seat A). Some (Some k.task)) (some_same (record { task = t; call = u }) s is)
 seat_task (Some (Some t)) (Some None) s is = absurd cc
 seat_task (Some (Some t)) None s is = absurd cc
 seat_task (Some None) call s is = absurd cc

@@ -26,6 +26,7 @@ use Rattle.cl_schedule.specs.Nearing.{AtHand, HasOf, OwnCall}
 use Rattle.cl_schedule.specs.Replies.{Did, IsCall, IsRead, IsReplied, IsStepOf}
 use Rattle.cl_schedule.proofs.Places.{some_none}
 use Rattle.cl_tasks.proofs.Lacking.{posts_or}
+use Rattle.cl_model.proofs.Bind.{some_same}
 
 -- ---- turns
 
@@ -49,12 +50,9 @@ no_posts a u p call = no_post_or a u (posts_or a u p) call
 
 one_class : (s : State) (loader : ℕ) (name : List ℕ) (c d : Class) → Records s loader name c → d.name ≡ name → recorded s.records loader name ≡ Some d.loader → c ≡ d
 one_class s loader name c d kept named is =
-    let at : c.loader ≡ d.loader = some_is c.loader d.loader (sym kept.1 ∙ is) in
+    let at : c.loader ≡ d.loader = some_same c.loader d.loader (sym kept.1 ∙ is) in
     let n : c.name ≡ d.name = kept.0 ∙ sym named in
     rw (n, at) refl
-  where
-    some_is : (a b : ℕ) → Some a ≡ Some b → a ≡ b
-    some_is a b e = cc
 
 has_of : (x : Shown) (r : Request) (v : Verdict) (row : Rowed) → Has (state_of x) (request_of r) v → IsRecordedAs x (loader_of r) (name_of r) row → HasOf (state_of x) r row.class v
 has_of x (requests.Load loader name) v row h k = h.2 ∙ ap (λ (c : Class). IsClass c) (one_class (state_of x) loader name h.0 row.class h.1 k.named k.recorded)
@@ -157,10 +155,7 @@ reference_told x r v t (reply.Defined row) c i has is = is.fits
 reference_told x r v t (reply.Initiated row) c i has is = is.fits
 reference_told x r v t (reply.Lineage l) c i has is = is.fits
 reference_told x r v t (reply.LookedReference None) c i has is = absurd (some_none (settled_to (state_of x).settled c i) v has is.shows)
-reference_told x r v t (reply.LookedReference (Some e)) c i has is = same (verdict_of e.value.verdict) v (sym is.tells.verdict ∙ has)
-  where
-    same : (a b : Verdict) → Some a ≡ Some b → a ≡ b
-    same a b e = cc
+reference_told x r v t (reply.LookedReference (Some e)) c i has is = some_same (verdict_of e.value.verdict) v (sym is.tells.verdict ∙ has)
 reference_told x r v t (reply.Settled e) c i has is = is.fits
 reference_told x r v t reply.Imposed c i has is = is.fits
 reference_told x r v t (reply.LookedPrepared b) c i has is = absurd is.fits

@@ -17,6 +17,7 @@ use Rattle.cl_model.specs.Views.{answer_of, answers_of, answer_at, request_of}
 use Rattle.cl_model.specs.Steps.{IsOfService}
 use Rattle.cl_model.proofs.Views.{state_then}
 use Rattle.cl_model.proofs.Tables.{answer_found}
+use Rattle.cl_model.proofs.Bind.{some_same}
 use Rattle.cl_config.specs.Loaders.{schedule_of}
 use Rattle.cl_config.specs.Views.{Configured, Scripted}
 use Rattle.cl_registry.specs.Reports.{IsUnfinished}
@@ -80,13 +81,10 @@ waiting_at s k (r ∷ rs) i q h = by_test (is_waiting s k r) refl i h (waiting_a
 none_waits : (s : State) (k : ℕ) (rs : List Scheduled) (p q : ℕ) (r : Scheduled) → waiting_from s k rs ≡ [] → q ≡ k + p → slice_get rs p ≡ Some r → is_waiting s q r ≡ false
 none_waits s k [] p q r none is at = absurd cc
 none_waits s k (e ∷ rs) zero q r none is at =
-    let same : e ≡ r = some_is e r at in
+    let same : e ≡ r = some_same e r at in
     let here : k ≡ q = omega arith in
     subst (λ (n : ℕ). is_waiting s n r ≡ false) here (subst (λ (d : Scheduled). is_waiting s k d ≡ false) same (not_put (is_waiting s k e) k (waiting_from s (suc k) rs) none))
   where
-    some_is : (a b : Scheduled) → Some a ≡ Some b → a ≡ b
-    some_is a b e = cc
-
     not_put : (b : Bool) (q : ℕ) (ws : List ℕ) → put b q ws ≡ [] → b ≡ false
     not_put true q ws e = absurd cc
     not_put false q ws e = refl
@@ -158,12 +156,9 @@ waits_there x ws i q t is h =
 
     not_later : {n : ℕ} → (late : IsLater x q) → slice_get x.script.rounds_of q ≡ Some n → n ≡ round_of x → ⊥
     not_later {n} late at same =
-        let one : late.round ≡ n = the_same late.round n (sym late.of ∙ at) in
+        let one : late.round ≡ n = some_same late.round n (sym late.of ∙ at) in
         let after = late.later in
         omega arith
-      where
-        the_same : (a b : ℕ) → Some a ≡ Some b → a ≡ b
-        the_same a b e = cc
 
 -- where nobody waits, each request of the round has its answer
 all_answered : (x : Shown) → [] ≡ waiting (schedule_of x.script) (state_of x) → (p : ℕ) (e : Scheduled) → slice_get (schedule_of x.script) p ≡ Some e → e.round ≡ round_of x → IsSome (answer_to (state_of x).answers p)

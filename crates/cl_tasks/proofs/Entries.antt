@@ -29,6 +29,7 @@ use Rattle.cl_model.proofs.Planned.{plan_exists}
 use Rattle.cl_model.proofs.Reached.{reference_is_plan}
 use Rattle.cl_model.proofs.Service.{resolve_wants, said_comes}
 use Rattle.cl_model.proofs.Tables.{recorded_reached}
+use Rattle.cl_model.proofs.Bind.{some_same}
 use Rattle.cl_config.specs.Views.{Configured}
 use Rattle.cl_findings.specs.Findings.{Answered, Based, Rests, loader_of}
 use Rattle.cl_hierarchy.specs.Rows.{Rowed}
@@ -134,10 +135,7 @@ settled_comes g s l d i v sound kept settled =
     (reference_is_plan g s l d.name i p.0 d v p.1 at.0 at.1 (sound.settled d i v settled).answered)
   where
     one_class : (e : Class) → Records s l d.name e → d ≡ e
-    one_class e is = let same : d.loader ≡ e.loader = some_is d.loader e.loader (sym kept ∙ is.1) in rw (same, sym is.0) refl
-      where
-        some_is : (a b : ℕ) → Some a ≡ Some b → a ≡ b
-        some_is a b e = cc
+    one_class e is = let same : d.loader ≡ e.loader = some_same d.loader e.loader (sym kept ∙ is.1) in rw (same, sym is.0) refl
 
 pub leads_shared : (A : Type 0) (told : Option Content) (c : Configured) (q : ℕ) (r : Request) (d : Class) (i : ℕ) (s : Arc Settled Global) (room : Room) (holds : Shown → Type 0) → r ≡ requests.Resolve (loader_of r) d.name i → loader_of r < length c.loaders → ((x : Shown) → holds x → recorded (records_of x) (loader_of r) d.name ≡ Some d.loader)
     → ((x : Shown) → holds x → IsSettledIn x d i s.value) → 0 < room.turns → HasPost room → LeadsBy {A = A} told c q r room holds (record { stage = stages.Done q; turn = turn.Post (record { request = r; answer = answers.Shared s; basis = None }) })

@@ -10,3 +10,4 @@ pub mod Settling
 pub mod SettlingLaws
 pub mod Tables
 pub mod Traced
+pub mod View

@@ -78,16 +78,18 @@ pub struct Registry<T: Told> {
 }
 
 impl<T: Told> Model for Registry<T> {
-    ghost use Rattle.std.specs.Prelude.{length, map, vec_len, vec_capacity};
+    ghost use Rattle.std.specs.Prelude.{length, vec_len, vec_capacity};
     ghost use Rattle.std.specs.Option.{option_map};
     ghost use Rattle.cl_registry.specs.Tables.{Shown, reference_in, row_at};
     ghost use Rattle.cl_registry.specs.Kept.{IsRegistry};
 
     ghost Value = { Shown };
 
-    ghost view = { λ r. record { config = r.config.value; script = r.script.value; rows = map (λ c. c.value) r.rows.items; history = r.history.items; answers = r.answers.items } };
+    ghost use Rattle.cl_registry.specs.View.{shown};
 
-    ghost invariant = { λ r. IsRegistry T.told (record { config = r.config.value; script = r.script.value; rows = map (λ c. c.value) r.rows.items; history = r.history.items; answers = r.answers.items }) (record { table = λ l n. option_map (λ c. c.value) (row_at r.tables.items l n); parts = length r.tables.items; references = λ c i. option_map (λ s. s.value) (reference_in r.references c i); prepared = r.prepared.keys; met = r.met.items; events = vec_len r.history; room_for_events = vec_capacity r.history; left = r.left; unanswered = r.unanswered.items; round = r.round; filled = vec_len r.room; room = vec_capacity r.room }) (⟦<GroupedBook as ConstraintBook>⟧.stands_for r.book) };
+    ghost view = { shown };
+
+    ghost invariant = { λ r. IsRegistry T.told (shown r) (record { table = λ l n. option_map (λ c. c.value) (row_at r.tables.items l n); parts = length r.tables.items; references = λ c i. option_map (λ s. s.value) (reference_in r.references c i); prepared = r.prepared.keys; met = r.met.items; events = vec_len r.history; room_for_events = vec_capacity r.history; left = r.left; unanswered = r.unanswered.items; round = r.round; filled = vec_len r.room; room = vec_capacity r.room }) (⟦<GroupedBook as ConstraintBook>⟧.stands_for r.book) };
 }
 
 /// A registry could not be made.

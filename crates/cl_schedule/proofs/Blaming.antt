@@ -10,6 +10,7 @@ use Rattle.cl_model.specs.Machine.{IsPlan, Setting}
 use Rattle.cl_model.specs.Views.{request_of}
 use Rattle.cl_model.specs.Works.{Ask}
 use Rattle.cl_model.proofs.Planned.{plan_exists}
+use Rattle.cl_model.proofs.Bind.{some_same}
 use Rattle.cl_config.specs.Views.{Configured, Scripted}
 use Rattle.cl_delegation.specs.Worlds.{world_of}
 use Rattle.cl_registry.specs.Tables.{Shown, IsKept}
@@ -22,7 +23,7 @@ use Rattle.cl_tasks.specs.declared.turn.Turn.TheVariants as turn
 use Rattle.cl_schedule.specs.Blames.{EachBlames, IsAskedFor, TurnBlames}
 use Rattle.cl_schedule.specs.Rounds.{RoundsPassed}
 use Rattle.cl_schedule.specs.Serving.{machine}
-use Rattle.cl_schedule.proofs.Places.{other_set, same_or_apart, same_set, some_is}
+use Rattle.cl_schedule.proofs.Places.{other_set, same_or_apart, same_set}
 use Rattle.cl_schedule.proofs.Steps.{Turning, TurnSays, of_request, served_in}
 
 -- ---- a turn
@@ -105,10 +106,10 @@ set_blames : (told : Option Content) (c : Configured) (rs : List Request) (given
     → AllBlame told c rs (slice_set given q (Some a))
 set_blames told c rs given q r a opened asked blames all = λ p s b asked_p answered. elim (same_or_apart p q) [
   | inl same ↦ (
-      let request : r ≡ s = some_is r s (sym asked ∙ ap (slice_get rs) (sym same) ∙ asked_p) in
+      let request : r ≡ s = some_same r s (sym asked ∙ ap (slice_get rs) (sym same) ∙ asked_p) in
       let answer : Some a ≡ Some b =
-      some_is (Some a) (Some b) (sym (same_set given q (Some a) (slice_get_within given q None opened)) ∙ ap (slice_get (slice_set given q (Some a))) (sym same) ∙ answered) in
-      subst (λ (k : Request). AnswerBlames c (IsAskedFor told c k) b) request (subst (λ (k : Answer). AnswerBlames c (IsAskedFor told c r) k) (some_is a b answer) blames)
+      some_same (Some a) (Some b) (sym (same_set given q (Some a) (slice_get_within given q None opened)) ∙ ap (slice_get (slice_set given q (Some a))) (sym same) ∙ answered) in
+      subst (λ (k : Request). AnswerBlames c (IsAskedFor told c k) b) request (subst (λ (k : Answer). AnswerBlames c (IsAskedFor told c r) k) (some_same a b answer) blames)
       )
   | inr apart ↦ all p s b asked_p (sym (other_set given q p (Some a) apart) ∙ answered)
 ]

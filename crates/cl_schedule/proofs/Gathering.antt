@@ -23,6 +23,7 @@ use Rattle.cl_schedule.specs.Choices.{is_waiting, waiting_from}
 use Rattle.cl_schedule.specs.Seats.{AreOfRound, HasGathered, MayGather, numbers_from}
 use Rattle.cl_schedule.proofs.Rounds.{schedule_length, within}
 use Rattle.cl_schedule.proofs.Waiting.{none_some, none_there, put}
+use Rattle.cl_model.proofs.Bind.{some_same}
 
 -- ---- while they are put down
 
@@ -99,11 +100,8 @@ waiting_there s (suc skip) k first n (r ∷ rs) here few before those behind =
 in_order : (s : Scripted) (p q m n : ℕ) → IsScript s → p ≤ q → slice_get s.rounds_of p ≡ Some m → slice_get s.rounds_of q ≡ Some n → m ≤ n
 in_order s p q m n is least at there = elim (cases_lt p q) [
   | inl less ↦ is.in_order p q m n less at there
-  | inr most ↦ (let same : p ≡ q = omega arith in let one : m ≡ n = some_is m n (sym at ∙ ap (slice_get s.rounds_of) same ∙ there) in omega arith)
+  | inr most ↦ (let same : p ≡ q = omega arith in let one : m ≡ n = some_same m n (sym at ∙ ap (slice_get s.rounds_of) same ∙ there) in omega arith)
 ]
-  where
-    some_is : (a b : ℕ) → Some a ≡ Some b → a ≡ b
-    some_is a b e = cc
 
 -- each request has a round
 round_at : (s : Scripted) (q : ℕ) → IsScript s → q < length s.requests → (n : ℕ) × (slice_get s.rounds_of q ≡ Some n)
@@ -189,11 +187,8 @@ gathered told x first ws next k g over a =
     there : (p q : ℕ) (e : Scheduled) → q ≡ 0 + p → slice_get (schedule_of x.script) p ≡ Some e → slice_get (schedule_of x.script) q ≡ Some e
     there p q e is at = let same : p ≡ q = omega arith in subst (λ (n : ℕ). slice_get (schedule_of x.script) n ≡ Some e) same at
 
-    some_is : (a b : ℕ) → Some a ≡ Some b → a ≡ b
-    some_is a b e = cc
-
     not_later : {p : ℕ} → (late : IsLater x p) → slice_get x.script.rounds_of p ≡ Some (round_of x) → ⊥
-    not_later late at = let one = some_is late.round (round_of x) (sym late.of ∙ at) in let after = late.later in omega arith
+    not_later late at = let one = some_same late.round (round_of x) (sym late.of ∙ at) in let after = late.later in omega arith
 
     no_wait : {A : Type 0} (b : Bool) (o : Option A) → is_some o ≡ true → (b && is_none o) ≡ false
     no_wait true (Some y) e = refl
@@ -208,7 +203,7 @@ gathered told x first ws next k g over a =
 
     those : (q : ℕ) (e : Scheduled) → slice_get (schedule_of x.script) q ≡ Some e → first ≤ q → q < next → is_waiting (state_of x) q e ≡ true
     those q e at least less =
-        let now : e.round ≡ round_of x = some_is e.round (round_of x) (sym (schedule_round x.script.requests x.script.rounds_of q e at) ∙ of_round x first ws next q k.trusted g over a least less) in
+        let now : e.round ≡ round_of x = some_same e.round (round_of x) (sym (schedule_round x.script.requests x.script.rounds_of q e at) ∙ of_round x first ws next q k.trusted g over a least less) in
         two_true (nat_eq e.round (round_of x)) (is_none (answer_to (state_of x).answers q)) (subst (λ (n : ℕ). nat_eq e.round n ≡ true) now (nat_eq_equiv.refl e.round))
         (ap is_none (none_there x q k.trusted (g.open_later q least (in_script x.script q e k.trusted.script at))))
 
@@ -221,6 +216,6 @@ gathered told x first ws next k g over a =
     behind : (q : ℕ) (e : Scheduled) → slice_get (schedule_of x.script) q ≡ Some e → next ≤ q → is_waiting (state_of x) q e ≡ false
     behind q e at least =
         let late = behind_round x first ws next q k.trusted g over a least (in_script x.script q e k.trusted.script at) in
-        let one : late.round ≡ e.round = some_is late.round e.round (sym late.of ∙ schedule_round x.script.requests x.script.rounds_of q e at) in
+        let one : late.round ≡ e.round = some_same late.round e.round (sym late.of ∙ schedule_round x.script.requests x.script.rounds_of q e at) in
         let after = late.later in
         other_round e.round (round_of x) (is_none (answer_to (state_of x).answers q)) (omega arith)

@@ -17,6 +17,7 @@ use Rattle.cl_model.proofs.Planned.{plan_exists}
 use Rattle.cl_model.proofs.Reached.{said_alike, said_reference}
 use Rattle.cl_model.proofs.Tables.{recorded_reached, trusted_is_consistent}
 use Rattle.cl_model.proofs.Answered.{circle_is_answered, circular_is_answered}
+use Rattle.cl_model.proofs.Bind.{some_same}
 use Rattle.cl_registry.specs.Tables.{Shown, IsTrusted, IsKept, RunsAs, state_of, steps}
 use Rattle.cl_registry.proofs.Placed.{recorded_row}
 use Rattle.cl_schedule.specs.Serving.{machine}
@@ -83,11 +84,8 @@ consistent x t = trusted_is_consistent (schedule_of x.script) x.script.rounds (s
 answered_plan : (g : Setting) (s : State) (q l n : ℕ) (name : List ℕ) (v : Verdict) → IsSound g s → slice_get g.script q ≡ Some (record { request = Load l name; round = n }) → answer_to s.answers q ≡ Some (Said v) → AnswersPlan g s (Load l name) v
 answered_plan g s q l n name v sound asked is =
     let a = sound.answered q (Said v) is in
-    let same : a.scheduled ≡ record { request = Load l name; round = n } = one_scheduled a.scheduled (record { request = Load l name; round = n }) (sym a.asked ∙ asked) in
+    let same : a.scheduled ≡ record { request = Load l name; round = n } = some_same a.scheduled (record { request = Load l name; round = n }) (sym a.asked ∙ asked) in
     subst (λ (e : Scheduled). AnswersPlan g s e.request v) same (record { plan = a.may_answer.plan; planned = a.may_answer.planned; answered = a.may_answer.answered })
-  where
-    one_scheduled : (a b : Scheduled) → Some a ≡ Some b → a ≡ b
-    one_scheduled a b e = cc
 
 pub circles_exact : (told : Option Content) (x : Shown) → IsTrusted x → RunsAs told x → CirclesExact told x
 circles_exact None x t run = tt

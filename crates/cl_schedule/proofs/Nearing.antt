@@ -10,6 +10,7 @@ use Rattle.cl_model.specs.States.{State, Verdict}
 use Rattle.cl_model.specs.Machine.{Step, state_after}
 use Rattle.cl_model.specs.Plans as plans
 use Rattle.cl_model.specs.Views.{answer_of}
+use Rattle.cl_model.proofs.Bind.{value_same}
 use Rattle.cl_model.proofs.Sound.{settled_stay, prepared_stay}
 use Rattle.cl_config.specs.Views.{Configured}
 use Rattle.cl_findings.specs.Findings.{Answered}
@@ -123,10 +124,7 @@ fewer_after s r v c t (turn.LookPrepared d) other own fits = omega arith
 fewer_after s r v c t other told own fits = absurd own
 
 pub same_request : (x : Shown) (q : ℕ) (a b : Request) → slice_get x.script.requests q ≡ Some a → slice_get x.script.requests q ≡ Some b → a ≡ b
-same_request x q a b e f = is a b (sym e ∙ f)
-  where
-    is : (a b : Request) → Some a ≡ Some b → a ≡ b
-    is a b e = cc
+same_request x q a b e f = value_same a b (slice_get x.script.requests q) e f
 
 -- a seat's call was made, and the request went on: it is nearer
 pub call_nearer : {A S : Type 0} (told : Option Content) (old new : Shown) (was now : Seat A) (q : ℕ) (more : Reply A) (count later : ℕ) (since source : S) → IsSeatedAt told old was.task was.call q → CallSays told old new was.call more count later since source

@@ -31,6 +31,7 @@ use Rattle.cl_tasks.specs.declared.turn.Turn.{Turn}
 use Rattle.cl_tasks.specs.declared.turn.Turn.TheVariants as turn
 use Rattle.cl_schedule.specs.Serving.{IsPost}
 use Rattle.cl_schedule.specs.Replies.{IsStepOf, PreparesBy}
+use Rattle.cl_model.proofs.Bind.{some_same}
 
 -- ---- the steps of calls
 
@@ -44,12 +45,13 @@ step_quiet (Post q a) call post = call
 step_quiet NextRound call post = call
 step_quiet Stray call post = call
 
-pub step_within : (s : State) (e : Step) → IsOfService e → (after s e).round ≡ s.round
-step_within s (Define c) call = refl
-step_within s (Initiate name place loader) call = refl
-step_within s (Constrain name a b) call = refl
-step_within s (Settle d i v) call = refl
-step_within s (Prepare c) call = refl
+-- the step of a call leaves the round and the answers
+pub step_within : (s : State) (e : Step) → IsOfService e → ((after s e).round ≡ s.round) × ((after s e).answers ≡ s.answers)
+step_within s (Define c) call = (refl, refl)
+step_within s (Initiate name place loader) call = (refl, refl)
+step_within s (Constrain name a b) call = (refl, refl)
+step_within s (Settle d i v) call = (refl, refl)
+step_within s (Prepare c) call = (refl, refl)
 step_within s (Post q a) call = absurd call
 step_within s NextRound call = absurd call
 step_within s Stray call = absurd call
@@ -91,11 +93,8 @@ cited_is x (requests.Load loader name) d e kept cited = absurd cc
 cited_is x (requests.Link loader name) d e kept cited = absurd cc
 cited_is x (requests.Resolve loader name i) d e kept cited =
     let here : Some (record { class = class name d.loader; index = i }) ≡ Some e = sym (ap (option_map (λ place. record { class = class name place; index = i })) kept.1) ∙ cited in
-    let same : record { class = class name d.loader; index = i } ≡ e = some_is (record { class = class name d.loader; index = i }) e here in
+    let same : record { class = class name d.loader; index = i } ≡ e = some_same (record { class = class name d.loader; index = i }) e here in
     (ap (λ (k : List ℕ). class k d.loader) kept.0 ∙ ap (λ (k : Cited). k.class) same, ap (λ (k : Cited). k.index) same)
-  where
-    some_is : (a b : Cited) → Some a ≡ Some b → a ≡ b
-    some_is a b e = cc
 
 settle_next : (g : Setting) (x : Shown) (r : Request) (f : Answered) (e : Step) (s : Settled) → IsSettledNext g (state_of x) r f → f.request ≡ r → IsToSettle x f s → e ≡ Settle s.class s.index (verdict_of s.verdict) → May g (state_of x) e → IsNextStep g (state_of x) (request_of r) e
 settle_next g x r f e s n same to is may =
@@ -133,10 +132,7 @@ next_of g x r t new (turn.Initiate h) e follows serves request is may =
 next_of g x r t new (turn.Lineage c) e follows serves request is may = absurd is
 next_of g x r t new (turn.LookReference c i) e follows serves request is may = absurd is
 next_of g x r t new (turn.Settle f) e follows serves request is may =
-    settle_next g x r f e is.0 follows (request_is f.request r (sym serves.0 ∙ request)) is.1 is.2 may
-  where
-    request_is : (p q : Request) → Some p ≡ Some q → p ≡ q
-    request_is p q e = cc
+    settle_next g x r f e is.0 follows (some_same f.request r (sym serves.0 ∙ request)) is.1 is.2 may
 next_of g x r t new (turn.Impose l k) e follows serves request is may = impose_next g (state_of x) r (slice_get l.value.needs k) e is.0 follows is.1 is.2 may
 next_of g x r t new (turn.LookPrepared c) e follows serves request is may = absurd is
 next_of g x r t new (turn.Mark l) e follows serves request is may = prepare_next g (state_of x) r l.value.origin e follows is may

@@ -38,10 +38,11 @@ use Rattle.cl_schedule.specs.Takings.{ComesNearer}
 use Rattle.cl_schedule.proofs.Later.{is_later}
 use Rattle.cl_schedule.proofs.Nearing.{memory_known, same_request, verdict_measure}
 use Rattle.cl_schedule.proofs.Places.{HasMoved, same_seats}
-use Rattle.cl_schedule.proofs.Rooming.{some_request, steps_posted}
+use Rattle.cl_schedule.proofs.Rooming.{steps_posted}
 use Rattle.cl_schedule.proofs.Seated.{after_call, ready_again}
 use Rattle.cl_schedule.proofs.Steps.{of_request, served_in}
 use Rattle.cl_schedule.proofs.Takings.{IsMeasure, begun_nearer, keeps_none, keeps_rounds, keeps_turned}
+use Rattle.cl_registry.proofs.Schedules.{some_at}
 
 -- ---- numbers
 
@@ -176,7 +177,7 @@ plan_measure told c = record {
 -- memory ran out before a request was begun
 pub turned_memory : {A : Type 0} (told : Option Content) (old new : Shown) (q : ℕ) (before : Option (Seat A)) (a : rust.Answer) → IsKept told old → MayBeTaken old q → a ≡ rust.TheVariants.Memory → new ≡ with_post old q a → HasTurned told old new q before None
 turned_memory told old new q before a kept waits is posted =
-    let r = some_request old.script.requests q waits.asked in
+    let r = some_at old.script.requests q waits.asked in
     let did : HasPosted told old new q = record {
       request = r.0;
       asked = r.1;

@@ -3,12 +3,15 @@ use Rattle.std.proofs.Common.{◌≡◌, ◌⊎◌, inl, inr, ◌∙◌, ◌<◌
 use Rattle.std.proofs.lemmas.Bool.Decides.{nat_tests}
 use Rattle.std.specs.Prelude.{Bool, nat_eq, slice_get, slice_set}
 use Rattle.cl_registry.proofs.Histories.{eq_nat}
+use Rattle.cl_registry.proofs.Counts.{get_set_other, get_set_same}
+use Rattle.cl_registry.proofs.Schedules.{some_at}
 use Rattle.cl_tasks.specs.Tasks.{Tasked}
 use Rattle.cl_tasks.specs.declared.turn.Turn.{Turn}
 use Rattle.cl_schedule.specs.declared.choices.Room.{Room}
 use Rattle.cl_schedule.specs.declared.seats.Seat.{Seat}
 use Rattle.cl_schedule.specs.Places.{seat_at, seat_of}
 use Rattle.cl_schedule.specs.Rooms.{HasTaken, NoneSeated}
+use Rattle.cl_model.proofs.Bind.{some_same}
 
 -- ---- cases
 
@@ -28,9 +31,6 @@ same_or_apart p q = elim (bool_cases (nat_eq p q)) [
   | inr apart ↦ inr (λ same. true_false (nat_eq p q) (ap (nat_eq p) (sym same) ∙ same_nat p) apart)
 ]
 
-pub some_is : {A : Type 0} (a b : A) → Some a ≡ Some b → a ≡ b
-some_is a b e = cc
-
 pub some_none : {A : Type 0} (o : Option A) (a : A) → o ≡ Some a → o ≡ None → ⊥
 some_none o a e k = cc
 
@@ -38,16 +38,14 @@ some_none o a e k = cc
 
 -- what stands at a place after one was set
 pub other_set : {A : Type 0} (xs : List A) (q p : ℕ) (a : A) → (p ≡ q → ⊥) → slice_get (slice_set xs q a) p ≡ slice_get xs p
-other_set [] q p a other = refl
-other_set (x ∷ xs) zero zero a other = absurd (other refl)
-other_set (x ∷ xs) zero (suc p) a other = refl
-other_set (x ∷ xs) (suc q) zero a other = refl
-other_set (x ∷ xs) (suc q) (suc p) a other = other_set xs q p a (λ same. other (ap (λ (n : ℕ). suc n) same))
+other_set xs q p a other = get_set_other xs q p a (by_cases (bool_cases (nat_eq q p)))
+  where
+    by_cases : (nat_eq q p ≡ true) ⊎ (nat_eq q p ≡ false) → nat_eq q p ≡ false
+    by_cases (inl is) = absurd (other (sym (eq_nat q p is)))
+    by_cases (inr apart) = apart
 
 pub same_set : {A : Type 0} (xs : List A) (q : ℕ) (a : A) → q < length xs → slice_get (slice_set xs q a) q ≡ Some a
-same_set [] q a below = absurd (omega arith)
-same_set (x ∷ xs) zero a below = refl
-same_set (x ∷ xs) (suc q) a below = same_set xs q a (omega arith)
+same_set xs q a below = let x = some_at xs q below in get_set_same xs q a x.0 x.1
 
 pub set_length : {A : Type 0} (xs : List A) (q : ℕ) (a : A) → length (slice_set xs q a) ≡ length xs
 set_length [] q a = refl
@@ -68,7 +66,7 @@ none_first (suc n) (suc q) a at = none_first n q a at
 -- ---- seats
 
 pub seat_task : {A : Type 0} (task : Option (Option Tasked)) (call : Option (Option (Turn A))) (s : Seat A) → seat_of task call ≡ Some s → task ≡ Some (Some s.task)
-seat_task {A = A} (Some (Some t)) (Some (Some u)) s is = ap (λ (k : Seat A). Some (Some k.task)) (some_is (record { task = t; call = u }) s is)
+seat_task {A = A} (Some (Some t)) (Some (Some u)) s is = ap (λ (k : Seat A). Some (Some k.task)) (some_same (record { task = t; call = u }) s is)
 seat_task (Some (Some t)) (Some None) s is = absurd cc
 seat_task (Some (Some t)) None s is = absurd cc
 seat_task (Some None) call s is = absurd cc

@@ -15,7 +15,8 @@ use Rattle.cl_schedule.specs.Nearing.{by_verdict}
 use Rattle.cl_schedule.specs.Paying.{by_plan}
 use Rattle.cl_schedule.specs.Serving.{machine}
 use Rattle.cl_schedule.specs.Takings.{PostsInTime}
-use Rattle.cl_schedule.proofs.Places.{same_nat, some_is, true_false}
+use Rattle.cl_schedule.proofs.Places.{same_nat, true_false}
+use Rattle.cl_model.proofs.Bind.{some_same}
 
 -- ---- whom a piece takes
 
@@ -46,12 +47,12 @@ pub first_since : (q : ℕ) (ps : List Piece) (p : Piece) (s : State) → first_
 first_since q [] p s first = by_this (is_of q p.taken) first
   where
     by_this : (b : Bool) → (if b then Some p.state else None) ≡ Some s → s ≡ p.state
-    by_this true e = sym (some_is p.state s e)
+    by_this true e = sym (some_same p.state s e)
     by_this false e = absurd cc
 first_since q (x ∷ xs) p s first = by_first (is_of q x.taken) (first_taken q xs) (first_taken q (xs ++ p ∷ [])) first (first_since q xs p s)
   where
     by_first : (b : Bool) (one more : Option State) → (if b then Some x.state else more) ≡ Some s → (more ≡ Some s → s ≡ unwrap_or one p.state) → s ≡ unwrap_or (if b then Some x.state else one) p.state
-    by_first true one more e f = sym (some_is x.state s e)
+    by_first true one more e f = sym (some_same x.state s e)
     by_first false one more e f = f e
 
 pub untaken_none : (q : ℕ) (ps : List Piece) → first_taken q ps ≡ None → takings q ps ≡ 0

@@ -18,9 +18,11 @@ use Rattle.cl_model.specs.Plans as plans
 use Rattle.cl_model.specs.Views.{answer_of}
 use Rattle.cl_model.specs.Steps.{IsOfService}
 use Rattle.cl_model.proofs.Views.{state_then}
+use Rattle.cl_model.proofs.Bind.{some_same}
 use Rattle.cl_registry.specs.Tables.{Shown, IsKept, IsOpen, empty_of, state_of, steps, with_post}
 use Rattle.cl_registry.specs.Tables as tables
 use Rattle.cl_registry.proofs.Histories.{steps_posts, unposted}
+use Rattle.cl_registry.proofs.Schedules.{some_at}
 use Rattle.cl_tasks.specs.Measures.{all_left}
 use Rattle.cl_tasks.specs.Tasks.{Tasked}
 use Rattle.cl_tasks.specs.declared.turn.Turn.{Turn}
@@ -36,14 +38,9 @@ use Rattle.cl_schedule.specs.Serving.{machine}
 use Rattle.cl_schedule.proofs.Blaming.{each_blames_more, each_blames_none, each_blames_passed, each_blames_still}
 use Rattle.cl_schedule.proofs.Later.{after_then, goes_on_did, goes_on_posted, goes_on_rounds}
 use Rattle.cl_schedule.proofs.Gathering.{gathered}
-use Rattle.cl_schedule.proofs.Places.{HasMoved, none_seated, other_set, same_or_apart, same_seats, same_set, seat_task, some_is, some_none}
+use Rattle.cl_schedule.proofs.Places.{HasMoved, none_seated, other_set, same_or_apart, same_seats, same_set, seat_task, some_none}
 use Rattle.cl_schedule.proofs.States.{same_machine}
 use Rattle.cl_schedule.proofs.Waiting.{gathered_call, gathered_post, gathered_rounds, may_gather, may_gather_first, takes_waiting}
-
-pub some_request : (rs : List Request) (q : ℕ) → q < length rs → (r : Request) × (slice_get rs q ≡ Some r)
-some_request [] q below = absurd (omega arith)
-some_request (r ∷ rs) zero below = (r, refl)
-some_request (r ∷ rs) (suc q) below = some_request rs q (omega arith)
 
 -- ---- cases
 
@@ -165,7 +162,7 @@ all_seated {A = A} told old new room done q left after goes all did moved = λ p
     here : (s : Seat A) (r : Request) → seat_at done q ≡ Some s → slice_get new.script.requests q ≡ Some r → IsSeated told new s.task s.call q r
     here s r at asked =
         let seated = seated_here told old new q left after s did (sym moved.here ∙ at) in
-        subst (λ (m : Request). IsSeated told new s.task s.call q m) (some_is seated.0 r (sym seated.1.asked ∙ asked)) seated.2
+        subst (λ (m : Request). IsSeated told new s.task s.call q m) (some_same seated.0 r (sym seated.1.asked ∙ asked)) seated.2
 
 all_open : {A : Type 0} (told : Option Content) (old new : Shown) (room done : Room A) (q left : ℕ) (after : Option (Seat A)) → OpenSeats old room → MatchOption after (HasPosted told old new q) (WaitsAgain told old new q left) → HasMoved room done q after → OpenSeats new done
 all_open {A = A} told old new room done q left after seats did moved = λ p s at. elim (same_or_apart p q) [
@@ -239,7 +236,7 @@ first_advanced {A = A} room mid done q i s taken moved zero_is at less waiting n
 
     by_first : (ws : List ℕ) → slice_get ws 0 ≡ Some q → left_at done q ≡ s.task.left → first_left done ws < first_left room ws
     by_first [] at now = absurd cc
-    by_first (p ∷ ws) at now = subst (λ (n : ℕ). left_at done n < left_at room n) (sym (some_is p q at)) (subst (λ (n : ℕ). n < left_at room q) (sym now) less)
+    by_first (p ∷ ws) at now = subst (λ (n : ℕ). left_at done n < left_at room n) (sym (some_same p q at)) (subst (λ (n : ℕ). n < left_at room q) (sym now) less)
 
 -- a request was answered: fewer have none
 pub first_answered : {A : Type 0} (room mid done : Room A) (q i : ℕ) → HasTaken room mid q → HasMoved room done q None → i < length room.waiting.items → done.waiting.items ≡ remove mid.waiting.items i → done.next ≡ mid.next → room_sum done + 1 ≡ room_sum room
@@ -355,7 +352,7 @@ first_bound {A = A} told x room (q ∷ ws) is = by_seat (seat_at room q) refl
     by_seat None at = omega arith
     by_seat (Some s) at =
         let task = seat_task (slice_get room.tasks.items q) (slice_get room.calls.items q) s at in
-        let r = some_request x.script.requests q (subst (λ (n : ℕ). q < n) is.tasks_whole (slice_get_within room.tasks.items q (Some s.task) task)) in
+        let r = some_at x.script.requests q (subst (λ (n : ℕ). q < n) is.tasks_whole (slice_get_within room.tasks.items q (Some s.task) task)) in
         let few = (is.seated q s r.0 at r.1).few in
         omega arith
 

@@ -1,6 +1,6 @@
 -- Rounds between requests, and one request after another (own choice).
 use Rattle.std.proofs.Common.{◌≡◌, inl, inr, ◌∙◌, ◌+◌, ◌-◌, ◌<◌, ◌≤◌, ℕ, zero, suc, Bool, true, false, List, [], ◌∷◌, ◌++◌, length, take, Option, Some, None, refl, sym, ap, subst, arith, append_assoc, add-one, is_some}
-use Rattle.std.specs.Prelude.{◌||◌, ◌⊎◌, nat_eq, if◌then◌else◌, option_map, slice_get, slice_index_or, slice_set, IsSome, All}
+use Rattle.std.specs.Prelude.{◌||◌, ◌⊎◌, nat_eq, option_map, slice_get, slice_index_or, slice_set, IsSome, All}
 use Rattle.std.proofs.lemmas.List.{append-nil}
 use Rattle.std.proofs.lemmas.Option.{slice_get_within}
 use Rattle.std.proofs.lemmas.Bool.{cases_lt}
@@ -18,6 +18,7 @@ use Rattle.cl_model.proofs.Service.{all_served_push}
 use Rattle.cl_model.proofs.Views.{state_then}
 use Rattle.cl_model.proofs.Tables.{answer_found}
 use Rattle.cl_model.proofs.Pieces.{passes_none}
+use Rattle.cl_model.proofs.Bind.{some_same}
 use Rattle.cl_config.specs.Loaders.{schedule, schedule_of}
 use Rattle.cl_config.specs.Scripts.{IsScript}
 use Rattle.cl_config.specs.Views.{Scripted}
@@ -316,16 +317,10 @@ says_known : (told : Option Content) {S : Type 0} (old x : Shown) (q : ℕ) (r :
     → SaysKnown (schedule_of old.script) (state_of old) (Post q (answer_of d.answer))
 says_known told old x q r source later is asked opened d tells = λ k v at has.
     let e = scheduled_at old.script.requests old.script.rounds_of q r is.each asked in
-    let same : k ≡ record { request = request_of r; round = e.0 } = some_is k (record { request = request_of r; round = e.0 }) (sym at ∙ e.1) in
+    let same : k ≡ record { request = request_of r; round = e.0 } = some_same k (record { request = request_of r; round = e.0 }) (sym at ∙ e.1) in
     let t = tells v (subst (λ (h : Scheduled). Has (state_of old) h.request v) same has) in
     let one : Some t.answer ≡ Some d.answer = one_answer old.answers q None (Some t.answer) (Some d.answer) opened (sym (ap (λ (y : Shown). y.answers) t.posted) ∙ d.answers) in
-    subst (λ (a : rust.Answer). SaysOrLacks v (answer_of a)) (answer_is t.answer d.answer one) t.is
-  where
-    some_is : (a b : Scheduled) → Some a ≡ Some b → a ≡ b
-    some_is a b e = cc
-
-    answer_is : (a b : rust.Answer) → Some a ≡ Some b → a ≡ b
-    answer_is a b e = cc
+    subst (λ (a : rust.Answer). SaysOrLacks v (answer_of a)) (some_same t.answer d.answer one) t.is
 
 pub known_next : (told : Option Content) {S : Type 0} (old x new : Shown) (q : ℕ) (r : Request) (source later : S) → KnownBelow old → IsScript old.script → slice_get old.script.requests q ≡ Some r → IsOpen old q → IsDone told old x q r
     → TellsKnown old x q r source later → RoundsPassed x new → KnownBelow new

@@ -11,6 +11,7 @@ use Rattle.cl_model.specs.Machine.{Setting, Step}
 use Rattle.cl_model.specs.States.{State}
 use Rattle.cl_model.specs.Steps.{IsOfService}
 use Rattle.cl_model.proofs.Tables.{trusted_is_consistent}
+use Rattle.cl_model.proofs.Bind.{some_same}
 use Rattle.cl_registry.specs.declared.registry.RegistryFault.{RegistryFault}
 use Rattle.cl_registry.specs.declared.registry.RegistryFault.TheVariants.{Memory, Stray, Violates, AlreadyPosted, NotYet}
 use Rattle.cl_registry.specs.References.{Cited, cited_by}
@@ -88,9 +89,6 @@ ready_begun {A = A} told x c q r t kept config is =
 
 -- ---- a turn
 
-one_request : (p q : Request) → Some p ≡ Some q → p ≡ q
-one_request p q e = cc
-
 -- a turn is for the request of its task
 is_for : {A : Type 0} (t next : Tasked) (u : Turn A) (r : Request) → Serves t next u → t.request ≡ Some r → IsFor next u r
 is_for t next (turn.Look l n) r serves is = serves ∙ is
@@ -99,11 +97,11 @@ is_for t next (turn.Define d) r serves is = serves ∙ is
 is_for t next (turn.Initiate h) r serves is = serves ∙ is
 is_for t next (turn.Lineage c) r serves is = serves ∙ is
 is_for t next (turn.LookReference c i) r serves is = serves ∙ is
-is_for t next (turn.Settle f) r serves is = (one_request f.request r (sym serves.0 ∙ is), serves.1 ∙ is)
+is_for t next (turn.Settle f) r serves is = (some_same f.request r (sym serves.0 ∙ is), serves.1 ∙ is)
 is_for t next (turn.Impose l k) r serves is = serves ∙ is
 is_for t next (turn.LookPrepared c) r serves is = serves ∙ is
 is_for t next (turn.Mark l) r serves is = serves ∙ is
-is_for t next (turn.Post f) r serves is = one_request f.request r (sym serves ∙ is)
+is_for t next (turn.Post f) r serves is = some_same f.request r (sym serves ∙ is)
 
 -- what is posted is borne wherever the registry goes on to, where a content is told
 posts_later : {A : Type 0} (told : Option Content) (x y : Shown) (q : ℕ) (r : Request) (u : Turn A) → IsAfter told x y → FollowsIn told y r u → Backed x u → (t : Tasked) → IsFor t u r → PostsIn told y q r u
@@ -212,7 +210,7 @@ may_stay old new u q r (inr (e, is, goes)) may = record {
   begun = λ late. may.begun (record {
     round = late.round;
     of = ap (λ (s : Scripted). slice_get s.rounds_of q) (sym goes.script) ∙ late.of;
-    later = subst (λ (n : ℕ). n < late.round) (ap (λ (s : State). s.round) (state_goes old new e goes) ∙ step_within (state_of old) e (step_of_call old u e is)) late.later;
+    later = subst (λ (n : ℕ). n < late.round) (ap (λ (s : State). s.round) (state_goes old new e goes) ∙ (step_within (state_of old) e (step_of_call old u e is)).0) late.later;
   });
   unanswered = ap (λ (xs : List (Option rust.Answer)). slice_get xs q) goes.answers ∙ may.unanswered;
 }

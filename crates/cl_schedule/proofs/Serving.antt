@@ -2,6 +2,7 @@
 use Rattle.std.proofs.Common.{◌≡◌, ◌∙◌, ◌+◌, ◌<◌, ◌≤◌, ◌∷◌, ◌++◌, [], ℕ, zero, suc, Bool, true, false, List, length, Option, Some, None, map, refl, ap, sym, subst, arith, is_some, add-one}
 use Rattle.std.specs.Prelude.{◌||◌, nat_eq, slice_get, slice_index_or}
 use Rattle.std.proofs.lemmas.Bool.Decides.{nat_tests}
+use Rattle.std.proofs.lemmas.Option.{slice_get_within}
 use Rattle.cl_model.specs.declared.answer.Answer.{Answer}
 use Rattle.cl_model.specs.declared.request.Request as requests
 use Rattle.cl_model.specs.declared.request.Request.{Request}
@@ -78,12 +79,6 @@ next_is_open x q t order below =
     unanswered (Some a ∷ xs) zero l e = absurd cc
     unanswered (a ∷ xs) (suc p) l e = unanswered xs p (omega arith) e
 
--- a request of the script is one of its numbers
-pub in_script : (rs : List Request) (q : ℕ) (r : Request) → slice_get rs q ≡ Some r → q < length rs
-in_script [] q r e = absurd cc
-in_script (x ∷ rs) zero r e = omega arith
-in_script (x ∷ rs) (suc q) r e = let below = in_script rs q r e in omega arith
-
 -- where all requests are posted, none is open
 pub none_is_open : (x : Shown) (n : ℕ) → IsTrusted x → posts x.history ≡ upto n → length x.script.requests ≡ n → (q : ℕ) × IsOpen x q → ⊥
 none_is_open x n t order whole (q, is) =
@@ -110,4 +105,4 @@ names_loader n (requests.TheVariants.Resolve loader name index) h = h
 names_loader n (requests.TheVariants.Link loader name) h = h
 
 pub has_loader : (n : ℕ) (rs : List Request) (q : ℕ) (r : Request) → HasLoaders n rs → slice_get rs q ≡ Some r → loader_of r < n
-has_loader n rs q r all e = names_loader n r (subst (HasLoader n) (asked_is rs q r r e) (all q r (in_script rs q r e)))
+has_loader n rs q r all e = names_loader n r (subst (HasLoader n) (asked_is rs q r r e) (all q r (slice_get_within rs q r e)))

@@ -25,6 +25,9 @@ use Rattle.cl_schedule.specs.Known.{Has, SaysOrLacks, TellsKnown}
 use Rattle.cl_schedule.specs.Nearing.{AtHand, HasOf, OwnCall}
 use Rattle.cl_schedule.specs.Replies.{Did, IsCall, IsRead, IsReplied, IsStepOf}
 use Rattle.cl_schedule.proofs.Places.{some_none}
+use Rattle.cl_tasks.proofs.Lacking.{posts_or}
+use Rattle.cl_model.proofs.Bind.{some_same}
+use Rattle.std.proofs.lemmas.Option.{none-some}
 
 -- ---- turns
 
@@ -42,28 +45,15 @@ no_post_or a (turn.Mark l) p call = p
 no_post_or a (turn.Post f) p call = call
 
 pub no_posts : {A : Type 0} (a : rust.Answer) (u : Turn A) → Posts a u → IsCall u → ⊥
-no_posts a (turn.Look l n) p call = p
-no_posts a (turn.Read l n) p call = p
-no_posts a (turn.Define d) p call = p
-no_posts a (turn.Initiate h) p call = p
-no_posts a (turn.Lineage c) p call = p
-no_posts a (turn.LookReference c i) p call = p
-no_posts a (turn.Settle f) p call = p
-no_posts a (turn.Impose l k) p call = p
-no_posts a (turn.LookPrepared c) p call = p
-no_posts a (turn.Mark l) p call = p
-no_posts a (turn.Post f) p call = call
+no_posts a u p call = no_post_or a u (posts_or a u p) call
 
 -- ---- stations
 
 one_class : (s : State) (loader : ℕ) (name : List ℕ) (c d : Class) → Records s loader name c → d.name ≡ name → recorded s.records loader name ≡ Some d.loader → c ≡ d
 one_class s loader name c d kept named is =
-    let at : c.loader ≡ d.loader = some_is c.loader d.loader (sym kept.1 ∙ is) in
+    let at : c.loader ≡ d.loader = some_same c.loader d.loader (sym kept.1 ∙ is) in
     let n : c.name ≡ d.name = kept.0 ∙ sym named in
     rw (n, at) refl
-  where
-    some_is : (a b : ℕ) → Some a ≡ Some b → a ≡ b
-    some_is a b e = cc
 
 has_of : (x : Shown) (r : Request) (v : Verdict) (row : Rowed) → Has (state_of x) (request_of r) v → IsRecordedAs x (loader_of r) (name_of r) row → HasOf (state_of x) r row.class v
 has_of x (requests.Load loader name) v row h k = h.2 ∙ ap (λ (c : Class). IsClass c) (one_class (state_of x) loader name h.0 row.class h.1 k.named k.recorded)
@@ -151,10 +141,7 @@ look_told x r v t (reply.Settled e) has is waits frames facts = is.fits
 look_told x r v t reply.Imposed has is waits frames facts = is.fits
 look_told x r v t (reply.LookedPrepared b) has is waits frames facts = absurd is.fits
 look_told x r v t reply.Marked has is waits frames facts = is.fits
-look_told x r v t (reply.Refused n) has is waits frames facts = absurd (none_some is.fits)
-  where
-    none_some : {A : Type 0} {a : A} → None ≡ Some a → ⊥
-    none_some e = cc
+look_told x r v t (reply.Refused n) has is waits frames facts = absurd (none-some _ is.fits)
 look_told x r v t reply.Memory has is waits frames facts = tt
 look_told x r v t (reply.SourceFault f) has is waits frames facts = is.fits
 
@@ -166,18 +153,12 @@ reference_told x r v t (reply.Defined row) c i has is = is.fits
 reference_told x r v t (reply.Initiated row) c i has is = is.fits
 reference_told x r v t (reply.Lineage l) c i has is = is.fits
 reference_told x r v t (reply.LookedReference None) c i has is = absurd (some_none (settled_to (state_of x).settled c i) v has is.shows)
-reference_told x r v t (reply.LookedReference (Some e)) c i has is = same (verdict_of e.value.verdict) v (sym is.tells.verdict ∙ has)
-  where
-    same : (a b : Verdict) → Some a ≡ Some b → a ≡ b
-    same a b e = cc
+reference_told x r v t (reply.LookedReference (Some e)) c i has is = some_same (verdict_of e.value.verdict) v (sym is.tells.verdict ∙ has)
 reference_told x r v t (reply.Settled e) c i has is = is.fits
 reference_told x r v t reply.Imposed c i has is = is.fits
 reference_told x r v t (reply.LookedPrepared b) c i has is = absurd is.fits
 reference_told x r v t reply.Marked c i has is = is.fits
-reference_told x r v t (reply.Refused n) c i has is = absurd (none_some is.fits)
-  where
-    none_some : {A : Type 0} {a : A} → None ≡ Some a → ⊥
-    none_some e = cc
+reference_told x r v t (reply.Refused n) c i has is = absurd (none-some _ is.fits)
 reference_told x r v t reply.Memory c i has is = tt
 reference_told x r v t (reply.SourceFault f) c i has is = is.fits
 
@@ -194,10 +175,7 @@ prepared_told x r v t reply.Imposed c has linked knows waits is = is.fits
 prepared_told x r v t (reply.LookedPrepared true) c has linked knows waits is = (c, waits, linked, knows)
 prepared_told x r v t (reply.LookedPrepared false) c has linked knows waits is = absurd (is.shows has)
 prepared_told x r v t reply.Marked c has linked knows waits is = is.fits
-prepared_told x r v t (reply.Refused n) c has linked knows waits is = absurd (none_some is.fits)
-  where
-    none_some : {A : Type 0} {a : A} → None ≡ Some a → ⊥
-    none_some e = cc
+prepared_told x r v t (reply.Refused n) c has linked knows waits is = absurd (none-some _ is.fits)
 prepared_told x r v t reply.Memory c has linked knows waits is = tt
 prepared_told x r v t (reply.SourceFault f) c has linked knows waits is = is.fits
 

@@ -20,10 +20,12 @@ use Rattle.cl_schedule.specs.Rounds.{RoundsPassed}
 use Rattle.cl_schedule.specs.Seats.{GoesOn, HasPosted, IsSeated}
 use Rattle.cl_schedule.specs.Takings.{AreWithin, ComesNearer, IsWithin, Keeps, Measure, Posts}
 use Rattle.cl_schedule.proofs.Later.{goes_on_none, goes_on_rounds}
-use Rattle.cl_schedule.proofs.Places.{HasMoved, bool_cases, some_is, some_none}
+use Rattle.cl_schedule.proofs.Places.{HasMoved, bool_cases, some_none}
 use Rattle.cl_schedule.proofs.Prompt.{first_since, of_other, takings_other, takings_this, this_of, untaken_before, untaken_none}
 use Rattle.cl_schedule.proofs.Rooming.{asked_turned, goes_turned, not_open, opens_turned}
 use Rattle.cl_schedule.proofs.Rounds.{scheduled_at}
+use Rattle.cl_model.proofs.Bind.{some_same}
+use Rattle.std.proofs.lemmas.Option.{none-some}
 
 -- what a measure keeps to: more takings are as good, what is known holds later on, a seat is taken no more often then, and once at least
 pub record IsMeasure {A : Type 0} (told : Option Content) (m : Measure A) : Type 0 where
@@ -76,10 +78,7 @@ within_before {A = A} m x room ps q r k n are asked is_open fits all = by_first 
 
 -- before the first choice
 pub none_within : {A : Type 0} (m : Measure A) (x : Shown) (room : Room A) → NoneSeated room → AreWithin m x room []
-none_within m x room none = record { untaken = λ q e. none q; fits = λ q r k s first fits. absurd (no_first first); within = λ q r k s n asked is_open first fits all. absurd (no_first first) }
-  where
-    no_first : {s : State} → None ≡ Some s → ⊥
-    no_first e = cc
+none_within m x room none = record { untaken = λ q e. none q; fits = λ q r k s first fits. absurd (none-some _ first); within = λ q r k s n asked is_open first fits all. absurd (none-some _ first) }
 
 -- one piece more
 are_within : {A : Type 0} (told : Option Content) (m : Measure A) (old new : Shown) (was now : Room A) (ps : List Piece) (choice : ℕ) (made rounds : List Step) → IsMeasure told m → GoesOn old new → AllSeated told old was → AreWithin m old was ps
@@ -124,11 +123,11 @@ pub keeps_turned : {A : Type 0} (told : Option Content) (m : Measure A) (old new
     → MatchOption after (HasPosted told old new q) (WaitsAgain told old new q left) → HasMoved room done q after → ComesNearer m old new q (seat_at room q) after → Keeps m old new room done choice
 keeps_turned {A = A} told m old new room done choice q left after law kept seated here whom did moved nearer = λ ps are. (
   λ p r k taken. subst (λ (i : ℕ). slice_get (schedule_of old.script) i ≡ Some r → m.Fits (unwrap_or (first_taken i ps) (state_of old)) r.request k → m.all k ≤ takings i ps + 1 → Posts m old new i k)
-      (sym (some_is p q (sym taken ∙ whom))) (in_time ps r k are),
+      (sym (some_same p q (sym taken ∙ whom))) (in_time ps r k are),
   λ made rounds. are_within told m old new room done ps choice made rounds law (goes_turned told old new q left after kept did) seated are (opens_turned told old new q left after did)
       (λ p apart. moved.others p (of_other p q (taken_by (schedule_of old.script) (state_of old) choice) whom apart))
       (λ p r k n is. subst (λ (i : ℕ). slice_get old.script.requests i ≡ Some r → IsOpen new i → m.Fits (state_of old) (request_of r) k → IsWithin m (state_of old) r k (suc n) (seat_at room i) → IsWithin m (state_of new) r k n (seat_at done i))
-      (sym (some_is p q (sym (this_of p (taken_by (schedule_of old.script) (state_of old) choice) is) ∙ whom)))
+      (sym (some_same p q (sym (this_of p (taken_by (schedule_of old.script) (state_of old) choice) is) ∙ whom)))
       (λ asked is_open fits at. subst (λ (seat : Option (Seat A)). IsWithin m (state_of new) r k n seat) (sym moved.here)
       (within_now told m old new q left r k n after did is_open (nearer r k n asked fits at)))),
 )
@@ -138,7 +137,7 @@ keeps_turned {A = A} told m old new room done choice q left after law kept seate
     in_time ps r k are of fits all =
         let j = asked_turned told old new q left after did in
         let e = scheduled_at old.script.requests old.script.rounds_of q j.0 kept.trusted.script.each j.1 in
-        let is : r ≡ record { request = request_of j.0; round = e.0 } = some_is r (record { request = request_of j.0; round = e.0 }) (sym of ∙ e.1) in
+        let is : r ≡ record { request = request_of j.0; round = e.0 } = some_same r (record { request = request_of j.0; round = e.0 }) (sym of ∙ e.1) in
         let fit = subst (λ (i : Scheduled). m.Fits (unwrap_or (first_taken q ps) (state_of old)) i.request k) is fits in
         posts_now told m old new q left j.0 k after law did
         (nearer j.0 k 0 j.1 (fits_now m old room ps q (request_of j.0) k are fit) (within_before m old room ps q j.0 k 1 are j.1 here fit all))

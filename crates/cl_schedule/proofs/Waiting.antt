@@ -11,12 +11,13 @@ use Rattle.cl_model.specs.declared.answer.Answer as rust
 use Rattle.cl_model.specs.declared.request.Request.{Request}
 use Rattle.cl_model.specs.Content.{Content}
 use Rattle.cl_model.specs.States.{State, Posted, answer_to, start}
-use Rattle.cl_model.specs.Machine.{Setting, Scheduled, Step, Define, Initiate, Constrain, Settle, Prepare, Post, NextRound, Stray, MayGoOn, after, state_after}
+use Rattle.cl_model.specs.Machine.{Setting, Scheduled, Step, Post, NextRound, MayGoOn, after, state_after}
 use Rattle.cl_model.specs.Service.{PassesRounds}
 use Rattle.cl_model.specs.Views.{answer_of, answers_of, answer_at, request_of}
 use Rattle.cl_model.specs.Steps.{IsOfService}
 use Rattle.cl_model.proofs.Views.{state_then}
 use Rattle.cl_model.proofs.Tables.{answer_found}
+use Rattle.cl_model.proofs.Bind.{some_same}
 use Rattle.cl_config.specs.Loaders.{schedule_of}
 use Rattle.cl_config.specs.Views.{Configured, Scripted}
 use Rattle.cl_registry.specs.Reports.{IsUnfinished}
@@ -80,13 +81,10 @@ waiting_at s k (r ∷ rs) i q h = by_test (is_waiting s k r) refl i h (waiting_a
 none_waits : (s : State) (k : ℕ) (rs : List Scheduled) (p q : ℕ) (r : Scheduled) → waiting_from s k rs ≡ [] → q ≡ k + p → slice_get rs p ≡ Some r → is_waiting s q r ≡ false
 none_waits s k [] p q r none is at = absurd cc
 none_waits s k (e ∷ rs) zero q r none is at =
-    let same : e ≡ r = some_is e r at in
+    let same : e ≡ r = some_same e r at in
     let here : k ≡ q = omega arith in
     subst (λ (n : ℕ). is_waiting s n r ≡ false) here (subst (λ (d : Scheduled). is_waiting s k d ≡ false) same (not_put (is_waiting s k e) k (waiting_from s (suc k) rs) none))
   where
-    some_is : (a b : Scheduled) → Some a ≡ Some b → a ≡ b
-    some_is a b e = cc
-
     not_put : (b : Bool) (q : ℕ) (ws : List ℕ) → put b q ws ≡ [] → b ≡ false
     not_put true q ws e = absurd cc
     not_put false q ws e = refl
@@ -158,12 +156,9 @@ waits_there x ws i q t is h =
 
     not_later : {n : ℕ} → (late : IsLater x q) → slice_get x.script.rounds_of q ≡ Some n → n ≡ round_of x → ⊥
     not_later {n} late at same =
-        let one : late.round ≡ n = the_same late.round n (sym late.of ∙ at) in
+        let one : late.round ≡ n = some_same late.round n (sym late.of ∙ at) in
         let after = late.later in
         omega arith
-      where
-        the_same : (a b : ℕ) → Some a ≡ Some b → a ≡ b
-        the_same a b e = cc
 
 -- where nobody waits, each request of the round has its answer
 all_answered : (x : Shown) → [] ≡ waiting (schedule_of x.script) (state_of x) → (p : ℕ) (e : Scheduled) → slice_get (schedule_of x.script) p ≡ Some e → e.round ≡ round_of x → IsSome (answer_to (state_of x).answers p)
@@ -200,21 +195,12 @@ gathered_same x new ws next script answers round posted h = record {
   later = λ p least below. later_down x new p script (at_most (round_of new) (round_of x) round) (h.later p least (subst (λ (s : Scripted). p < length s.requests) script below));
 }
 
-call_answers : (s : State) (e : Step) → IsOfService e → (after s e).answers ≡ s.answers
-call_answers s (Define c) call = refl
-call_answers s (Initiate name place loader) call = refl
-call_answers s (Constrain name a b) call = refl
-call_answers s (Settle d i v) call = refl
-call_answers s (Prepare c) call = refl
-call_answers s (Post q a) call = absurd call
-call_answers s NextRound call = absurd call
-call_answers s Stray call = absurd call
-
 -- after the step of a call the same wait
 pub gathered_call : (x new : Shown) (ws : List ℕ) (next : ℕ) (e : Step) → GoesBy x new e → IsOfService e → HasGathered x ws next → HasGathered new ws next
 gathered_call x new ws next e goes call h =
     let there = state_goes x new e goes in
-    gathered_same x new ws next goes.script goes.answers (ap (λ (s : State). s.round) there ∙ step_within (state_of x) e call) (ap (λ (s : State). s.answers) there ∙ call_answers (state_of x) e call) h
+    let still = step_within (state_of x) e call in
+    gathered_same x new ws next goes.script goes.answers (ap (λ (s : State). s.round) there ∙ still.0) (ap (λ (s : State). s.answers) there ∙ still.1) h
 
 -- ---- a post
 

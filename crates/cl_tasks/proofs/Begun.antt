@@ -22,7 +22,6 @@ use Rattle.cl_tasks.specs.Stages.{IsFirst, IsHoming, loading_at, target_facts, t
 use Rattle.cl_tasks.specs.Steps.{HoldsOn, LooksBy}
 use Rattle.cl_tasks.specs.Tasks.{Fact, Tasked}
 use Rattle.cl_tasks.specs.Turns.{AnswersOwn, Asks, GoesOnWith}
-use Rattle.cl_tasks.specs.Waits.{Waits}
 use Rattle.cl_tasks.specs.Waits as waits
 use Rattle.cl_tasks.specs.declared.stage.Job.{Job}
 use Rattle.cl_tasks.specs.declared.stage.Load.TheVariants as loads
@@ -30,6 +29,7 @@ use Rattle.cl_tasks.specs.declared.stage.Stage.{Stage}
 use Rattle.cl_tasks.specs.declared.turn.Reply.TheVariants as reply
 use Rattle.cl_tasks.specs.declared.turn.Turn.{Turn}
 use Rattle.cl_tasks.specs.declared.turn.Turn.TheVariants as turn
+use Rattle.cl_model.proofs.Bind.{some_same}
 
 -- ---- a request's own class
 
@@ -48,9 +48,6 @@ own_looked r targets.Own p own alone for =
     (ap (λ (fs : List Framed). at_loader (record p { frames = fs })) alone ∙ sym for.loader, ap (λ (fs : List Framed). at_name (record p { frames = fs })) alone ∙ sym for.name)
 own_looked r (targets.Reference d) p own alone for = absurd cc
 
-some_same : {r q : Request} → Some r ≡ Some q → r ≡ q
-some_same e = cc
-
 looks_at : {l k : ℕ} {n m : List ℕ} → waits.Looking l n ≡ waits.Looking k m → (l ≡ k) × (n ≡ m)
 looks_at e = (cc, cc)
 
@@ -63,7 +60,7 @@ begins_own {A} c j s (turn.Look l n) first for looks asks =
     subst (λ (u : Stage A). AnswersOwn {A = A} (loading_at c (loads.Fresh j)) (task_at c u) reply.Start (turn.Look l n)) (sym looks) (
       ap (λ (fs : List Framed). map frame_of fs) first.alone,
       first.own,
-      λ r e. let same = some_same e in (at.0 ∙ own.0 ∙ ap loader_of same, at.1 ∙ own.1 ∙ ap name_of same),
+      λ r e. let same = some_same _ _ e in (at.0 ∙ own.0 ∙ ap loader_of same, at.1 ∙ own.1 ∙ ap name_of same),
     )
 begins_own c j s (turn.Post f) first for looks asks = looks
 begins_own c j s (turn.Read l n) first for looks asks = absurd looks
@@ -82,14 +79,14 @@ begins_own c j s (turn.Mark e) first for looks asks = absurd looks
 pub looked_own : {A : Type 0} (c : Configured) (j : Job A) (row : Arc (ClassRow A) Global) (new : Tasked) (t : Turn A) → (IsOwnTarget j.target → j.path.frames ≡ [] → GoesOnWith j.request row.value.class new t)
     → AnswersOwn (loading_at c (loads.Looking j)) new (reply.Looked (Some row)) t
 looked_own c j row new t goes =
-    λ r e look frames facts. subst (λ (q : Request). GoesOnWith q row.value.class new t) (some_same e) (goes (own_of j.request j.target facts) (none_framed j.path.frames frames))
+    λ r e look frames facts. subst (λ (q : Request). GoesOnWith q row.value.class new t) (some_same _ _ e) (goes (own_of j.request j.target facts) (none_framed j.path.frames frames))
 
 -- its home was: that is another loader
 pub home_own : {A : Type 0} (c : Configured) (j : Job A) (h : Located) (row : Arc (ClassRow A) Global) (new : Tasked) (t : Turn A) → IsFor j.request j.target j.path → IsHoming j h → AnswersOwn (loading_at c (loads.Homing j h)) new (reply.Looked (Some row)) t
 home_own c j h row new t for homing =
     λ r e look frames facts.
     let own = own_looked j.request j.target j.path facts (none_framed j.path.frames frames) for in
-    absurd (homing.other ((looks_at look).0 ∙ ap loader_of (sym (some_same e)) ∙ sym own.0))
+    absurd (homing.other ((looks_at look).0 ∙ ap loader_of (sym (some_same _ _ e)) ∙ sym own.0))
 
 pub home_any : {A : Type 0} (c : Configured) (j : Job A) (h : Located) (o : Option (Arc (ClassRow A) Global)) (new : Tasked) (t : Turn A) → IsFor j.request j.target j.path → IsHoming j h → AnswersOwn (loading_at c (loads.Homing j h)) new (reply.Looked o) t
 home_any c j h None new t for homing = tt
@@ -104,7 +101,7 @@ rest_none e = cc
 pub initiated_own : {A : Type 0} (c : Configured) (j : Job A) (h : Arc (Home A) Global) (row : Arc (ClassRow A) Global) (new : Tasked) (t : Turn A) → (IsOwnTarget j.target → j.path.frames ≡ [] → GoesOnWith j.request row.value.class new t)
     → AnswersOwn (loading_at c (loads.Initiating j h)) new (reply.Initiated row) t
 initiated_own c j h row new t goes =
-    λ r e frames one. subst (λ (q : Request). GoesOnWith q row.value.class new t) (some_same e) (goes (own_of j.request j.target (rest_none one.1)) (none_framed j.path.frames frames))
+    λ r e frames one. subst (λ (q : Request). GoesOnWith q row.value.class new t) (some_same _ _ e) (goes (own_of j.request j.target (rest_none one.1)) (none_framed j.path.frames frames))
 
 ends_in : (xs : List Frame) (x : Frame) → xs ++ x ∷ [] ≡ [] → ⊥
 ends_in [] x e = cc
@@ -123,8 +120,8 @@ defined_own c j w row new t for placed goes =
     let none = none_framed j.path.frames last.0 in
     let own = own_looked j.request j.target j.path facts none for in
     let at : w.draft.home.place ≡ at_loader j.path =
-    sym placed ∙ ap (λ (k : Frame). k.class.loader) last.1 ∙ loader ∙ ap loader_of (sym (some_same e)) ∙ sym own.0 in
-    subst (λ (q : Request). GoesOnWith q row.value.class new t) (some_same e) (goes (own_of j.request j.target facts) none at)
+    sym placed ∙ ap (λ (k : Frame). k.class.loader) last.1 ∙ loader ∙ ap loader_of (sym (some_same _ _ e)) ∙ sym own.0 in
+    subst (λ (q : Request). GoesOnWith q row.value.class new t) (some_same _ _ e) (goes (own_of j.request j.target facts) none at)
 
 -- ---- what holds
 

@@ -1,6 +1,6 @@
 -- Whom a fault of the source blames: who is read next on the way of what is looked for.
-use Rattle.std.proofs.Common.{◌≡◌, ◌≢◌, ◌<◌, ℕ, zero, suc, List, [], ◌∷◌, Option, Some, None, inl, inr, refl, sym, ap, subst, slice_get, arith}
-use Rattle.std.specs.Prelude.{IfSome, Contains, unwrap_or}
+use Rattle.std.proofs.Common.{◌≡◌, ℕ, zero, suc, List, [], ◌∷◌, Option, Some, inl, inr, refl, sym, subst, slice_get, arith}
+use Rattle.std.specs.Prelude.{IfSome, Contains}
 use Rattle.std.proofs.lemmas.List.Elements.{Contains-append_left, Contains-append_right}
 use Rattle.cl_model.specs.declared.answer.Answer.{Answer}
 use Rattle.cl_model.specs.declared.answer.Answer.TheVariants as answers
@@ -12,13 +12,12 @@ use Rattle.cl_model.proofs.Marks.{In}
 use Rattle.cl_source.specs.declared.source.SourceFault.{SourceFault}
 use Rattle.cl_source.specs.declared.source.SourceFault.TheVariants as faults
 use Rattle.cl_config.specs.Views.{Configured}
-use Rattle.cl_delegation.specs.Searches.{Searched, next_of, route_of}
+use Rattle.cl_delegation.specs.Searches.{Searched, route_of}
 use Rattle.cl_hierarchy.specs.Paths.{IsPath, at_loader, at_name}
 use Rattle.cl_registry.specs.Tables.{Shown}
 use Rattle.cl_tasks.specs.Blames.{AnswerBlames, AsksWhere, BlamesWhere, FaultBlames, IsBlamed}
 use Rattle.cl_tasks.specs.Follows.{NoFault, Posts, PostsNoFault, Refuses, Tells, fault_answer, refusal}
 use Rattle.cl_tasks.specs.Stages.{IsJob, IsSearch, loading_at, next_place, sought_ask}
-use Rattle.cl_tasks.specs.Steps.{way_on}
 use Rattle.cl_tasks.specs.Tasks.{Tasked}
 use Rattle.cl_tasks.specs.Waits as waits
 use Rattle.cl_tasks.specs.declared.stage.Job.{Job}
@@ -26,9 +25,9 @@ use Rattle.cl_tasks.specs.declared.stage.Load.TheVariants as loads
 use Rattle.cl_tasks.specs.declared.turn.Reply.{Reply}
 use Rattle.cl_tasks.specs.declared.turn.Reply.TheVariants as reply
 use Rattle.cl_tasks.specs.declared.turn.Turn.{Turn}
-use Rattle.cl_tasks.specs.declared.turn.Turn.TheVariants as turn
 use Rattle.cl_tasks.proofs.Moves.{asks}
 use Rattle.cl_tasks.proofs.Probes.{reads_place, way_is}
+use Rattle.cl_tasks.proofs.TurnCases.{of_posts}
 
 -- ---- lists
 
@@ -54,31 +53,11 @@ no_fault_blames c asks answers.Memory h = tt
 no_fault_blames c asks (answers.SourceFault name loader) h = absurd h
 
 plain_blames : {A : Type 0} (told : Option Content) (c : Configured) (holds : Shown → Type 0) (r : Request) (u : Turn A) → PostsNoFault u → BlamesWhere told c holds r u
-plain_blames told c holds r (turn.Look l n) h = tt
-plain_blames told c holds r (turn.Read l n) h = tt
-plain_blames told c holds r (turn.Define d) h = tt
-plain_blames told c holds r (turn.Initiate i) h = tt
-plain_blames told c holds r (turn.Lineage k) h = tt
-plain_blames told c holds r (turn.LookReference k i) h = tt
-plain_blames told c holds r (turn.Settle f) h = tt
-plain_blames told c holds r (turn.Impose e k) h = tt
-plain_blames told c holds r (turn.LookPrepared k) h = tt
-plain_blames told c holds r (turn.Mark e) h = tt
-plain_blames told c holds r (turn.Post f) h = no_fault_blames c (AsksWhere told c holds r) f.answer h
+plain_blames told c holds r u h = (of_posts u).1 told c holds r (λ f e. no_fault_blames c (AsksWhere told c holds r) f.answer (subst (λ (v : Turn _). PostsNoFault v) e h))
 
 -- a turn that posts an answer which blames so
 posts_blames : {A : Type 0} (told : Option Content) (c : Configured) (holds : Shown → Type 0) (r : Request) (a : Answer) (u : Turn A) → AnswerBlames c (AsksWhere told c holds r) a → Posts a u → BlamesWhere told c holds r u
-posts_blames told c holds r a (turn.Look l n) b h = tt
-posts_blames told c holds r a (turn.Read l n) b h = tt
-posts_blames told c holds r a (turn.Define d) b h = tt
-posts_blames told c holds r a (turn.Initiate i) b h = tt
-posts_blames told c holds r a (turn.Lineage k) b h = tt
-posts_blames told c holds r a (turn.LookReference k i) b h = tt
-posts_blames told c holds r a (turn.Settle f) b h = tt
-posts_blames told c holds r a (turn.Impose e k) b h = tt
-posts_blames told c holds r a (turn.LookPrepared k) b h = tt
-posts_blames told c holds r a (turn.Mark e) b h = tt
-posts_blames told c holds r a (turn.Post f) b h = subst (λ (k : Answer). AnswerBlames c (AsksWhere told c holds r) k) (sym h) b
+posts_blames told c holds r a u b h = (of_posts u).1 told c holds r (λ f e. subst (λ (k : Answer). AnswerBlames c (AsksWhere told c holds r) k) (sym (subst (λ (v : Turn _). Posts a v) e h)) b)
 
 -- ---- a read that is refused
 

@@ -19,10 +19,11 @@ use Rattle.cl_tasks.specs.declared.ends.Aftermath.TheVariants as aftermaths
 use Rattle.cl_tasks.specs.declared.stage.Job.{Job}
 use Rattle.cl_tasks.specs.declared.stage.Next.{Next}
 use Rattle.cl_tasks.proofs.Ending.{Ended, concludes}
-use Rattle.cl_tasks.proofs.Said.{found_is, said_of}
+use Rattle.cl_tasks.proofs.Said.{found_is}
+use Rattle.cl_findings.proofs.Plain.{grounded}
 
 -- of this finding
-by_said : {A : Type 0} (q : ℕ) (a : Aftermath A) (f : Answered) (r : Request) (v : verdict.Verdict) (b : Based) (n : Next A) → f.request ≡ r → f.answer ≡ answers.Said v → f.basis ≡ Some b → ConcludesBy q a f n → ConcludesBy q a (said_of r v b) n
+by_said : {A : Type 0} (q : ℕ) (a : Aftermath A) (f : Answered) (r : Request) (v : verdict.Verdict) (b : Based) (n : Next A) → f.request ≡ r → f.answer ≡ answers.Said v → f.basis ≡ Some b → ConcludesBy q a f n → ConcludesBy q a (grounded r v b) n
 by_said q a f r v b n request answer basis h = subst (λ (u : Answered). ConcludesBy q a u n) (found_is f r v b request answer basis) h
 
 pub concludes_found : {A : Type 0} (told : Option Content) (j : Job A) (f : Answered) (v : verdict.Verdict) (b : Based) (holds : Shown → Type 0) (a : Aftermath A) (n : Next A) → IsJob told j.path.config j → Ended told j v b holds → IsAftermath j a

@@ -30,6 +30,8 @@ use Rattle.cl_tasks.specs.declared.stage.Stage.TheVariants as stages
 use Rattle.cl_tasks.specs.declared.turn.Turn.{Turn}
 use Rattle.cl_tasks.specs.declared.turn.Turn.TheVariants as turn
 use Rattle.cl_tasks.proofs.Keep.{map_last}
+use Rattle.cl_model.proofs.Bind.{some_same}
+use Rattle.std.proofs.lemmas.Option.{none-some}
 
 -- ---- frames
 
@@ -150,33 +152,27 @@ concludes_past q f (aftermaths.Settle e) n by = subst (λ (m : Next _). IsPast m
 
 -- ---- what contracts see
 
-none_is : (c : Class) → None ≡ Some c → ⊥
-none_is c e = cc
-
-some_is : {c d : Class} → Some c ≡ Some d → c ≡ d
-some_is e = cc
-
 -- what is read for
 absent_at : {A : Type 0} (c : Configured) (absent : Class → Type 0) (before : List Frame) (s : Stage A) → Derives absent before s → (k : Class) → (task_at c s).absent ≡ Some k → absent k
-absent_at c absent before (stages.Load (loads.Fresh j)) h k e = absurd (none_is k e)
-absent_at c absent before (stages.Load (loads.Looking j)) h k e = absurd (none_is k e)
-absent_at c absent before (stages.Load (loads.Searching j s)) h k e = subst absent (some_is e) h.1
-absent_at c absent before (stages.Load (loads.Homing j i)) h k e = absurd (none_is k e)
-absent_at c absent before (stages.Load (loads.Defining j x)) h k e = absurd (none_is k e)
-absent_at c absent before (stages.Load (loads.Initiating j i)) h k e = absurd (none_is k e)
-absent_at c absent before (stages.Resolve (resolutions.Checking f)) h k e = absurd (none_is k e)
-absent_at c absent before (stages.Resolve (resolutions.LookingReference f)) h k e = absurd (none_is k e)
-absent_at c absent before (stages.Resolve (resolutions.TracingOwn f i)) h k e = absurd (none_is k e)
-absent_at c absent before (stages.Resolve (resolutions.TracingNamed f l i)) h k e = absurd (none_is k e)
-absent_at c absent before (stages.Resolve (resolutions.Imposing m i)) h k e = absurd (none_is k e)
-absent_at c absent before (stages.Resolve (resolutions.Settling f)) h k e = absurd (none_is k e)
-absent_at c absent before (stages.Link (links.LookingPrepared g)) h k e = absurd (none_is k e)
-absent_at c absent before (stages.Link (links.TracingWhole g)) h k e = absurd (none_is k e)
-absent_at c absent before (stages.Link (links.Asking i)) h k e = absurd (none_is k e)
-absent_at c absent before (stages.Link (links.Tracing i)) h k e = absurd (none_is k e)
-absent_at c absent before (stages.Link (links.Imposing i l m)) h k e = absurd (none_is k e)
-absent_at c absent before (stages.Link (links.Marking i l)) h k e = absurd (none_is k e)
-absent_at c absent before (stages.Done q) h k e = absurd (none_is k e)
+absent_at c absent before (stages.Load (loads.Fresh j)) h k e = absurd (none-some k e)
+absent_at c absent before (stages.Load (loads.Looking j)) h k e = absurd (none-some k e)
+absent_at c absent before (stages.Load (loads.Searching j s)) h k e = subst absent (some_same _ _ e) h.1
+absent_at c absent before (stages.Load (loads.Homing j i)) h k e = absurd (none-some k e)
+absent_at c absent before (stages.Load (loads.Defining j x)) h k e = absurd (none-some k e)
+absent_at c absent before (stages.Load (loads.Initiating j i)) h k e = absurd (none-some k e)
+absent_at c absent before (stages.Resolve (resolutions.Checking f)) h k e = absurd (none-some k e)
+absent_at c absent before (stages.Resolve (resolutions.LookingReference f)) h k e = absurd (none-some k e)
+absent_at c absent before (stages.Resolve (resolutions.TracingOwn f i)) h k e = absurd (none-some k e)
+absent_at c absent before (stages.Resolve (resolutions.TracingNamed f l i)) h k e = absurd (none-some k e)
+absent_at c absent before (stages.Resolve (resolutions.Imposing m i)) h k e = absurd (none-some k e)
+absent_at c absent before (stages.Resolve (resolutions.Settling f)) h k e = absurd (none-some k e)
+absent_at c absent before (stages.Link (links.LookingPrepared g)) h k e = absurd (none-some k e)
+absent_at c absent before (stages.Link (links.TracingWhole g)) h k e = absurd (none-some k e)
+absent_at c absent before (stages.Link (links.Asking i)) h k e = absurd (none-some k e)
+absent_at c absent before (stages.Link (links.Tracing i)) h k e = absurd (none-some k e)
+absent_at c absent before (stages.Link (links.Imposing i l m)) h k e = absurd (none-some k e)
+absent_at c absent before (stages.Link (links.Marking i l)) h k e = absurd (none-some k e)
+absent_at c absent before (stages.Done q) h k e = absurd (none-some k e)
 
 -- what is derived
 derived_at : {A : Type 0} (c : Configured) (absent : Class → Type 0) (before : List Frame) (s : Stage A) → Derives absent before s → AreDerived absent before (task_at c s).frames

@@ -29,14 +29,15 @@ use Rattle.cl_tasks.specs.declared.stage.Resolution.TheVariants as resolutions
 use Rattle.cl_tasks.specs.declared.stage.Stage.TheVariants as stages
 use Rattle.cl_tasks.specs.declared.turn.Turn.TheVariants as turn
 use Rattle.cl_tasks.proofs.Facts.{basis_so}
-use Rattle.cl_tasks.proofs.Lead.{past_has, posts_within}
-use Rattle.cl_tasks.proofs.Said.{IsRecordIn, OwnFails, Settling, Stood, failure_backed, failure_entry, failure_member, may_settle, own_comes, said_of, settled_next}
+use Rattle.cl_tasks.proofs.Lead.{leads_post, past_has}
+use Rattle.cl_tasks.proofs.Said.{IsRecordIn, OwnFails, Settling, Stood, failure_backed, failure_entry, failure_member, may_settle, own_comes, settled_next}
+use Rattle.cl_findings.proofs.Plain.{grounded}
 
 -- what a load ends in, where this holds
 pub record Ended {A : Type 0} (told : Option Content) (j : Job A) (v : verdict.Verdict) (b : Based) (holds : Shown → Type 0) : Type 0 where
   pub stood : Stood told j.path.config j.request v b holds
   pub failure : IsFailure v
-  pub load : IsOwnTarget j.target → Rests told (said_of (load_of j.request) v b)
+  pub load : IsOwnTarget j.target → Rests told (grounded (load_of j.request) v b)
   pub record_is : IsRecordIn b.refused
   pub facts : (x : Shown) → holds x → AreSo x (target_facts j.request j.target)
 
@@ -50,18 +51,10 @@ some_left targets.Own = omega arith
 some_left (targets.Reference d) = omega arith
 
 answers_so : {A : Type 0} (told : Option Content) (j : Job A) (v : verdict.Verdict) (b : Based) (holds : Shown → Type 0) → IsJob told j.path.config j → Ended told j v b holds → IsOwnTarget j.target × IsNoResolution j.request
-    → Leads told j (past_room j) holds (record { stage = stages.Done j.q; turn = turn.Post (said_of j.request v b) })
-answers_so told j v b holds job e is = record {
-  kept = tt;
-  number = refl;
-  asks = refl;
-  serves = refl;
-  left = some_left j.target;
-  calls = posts_within told j.path.config holds j.request (past_room j) (past_has j);
-  keeps = λ x h. record { frames = tt; facts = tt };
-  backed = λ x config named consistent h. failure_backed told j.path.config j.request v b holds e.stood is.1 e.failure x config named h;
-  follows = λ g x s h. own_comes told j.path.config j.request v b holds (own_fails told j v b holds e is.0) g x s h;
-}
+    → Leads told j (past_room j) holds (record { stage = stages.Done j.q; turn = turn.Post (grounded j.request v b) })
+answers_so told j v b holds job e is =
+    leads_post refl (some_left j.target) (past_has j) (λ x config named consistent h. failure_backed told j.path.config j.request v b holds e.stood is.1 e.failure x config named h)
+    (λ g x s h. own_comes told j.path.config j.request v b holds (own_fails told j v b holds e is.0) g x s h)
 
 -- ---- the second look of a resolution
 
@@ -76,9 +69,9 @@ check_calls {A = A} r targets.Own loader name i w p s own is =
 check_calls r (targets.Reference d) loader name i w p s own is = absurd own
 
 checks_so : {A : Type 0} (told : Option Content) (j : Job A) (v : verdict.Verdict) (b : Based) (holds : Shown → Type 0) (r : Request) (loader : ℕ) (name : List ℕ) → IsJob told j.path.config j → Ended told j v b holds → IsCheck j r loader name
-    → Leads told j (past_room j) holds (record { stage = stages.Resolve (resolutions.Checking (record { q = j.q; request = r; finding = said_of j.request v b })); turn = turn.Look loader name })
+    → Leads told j (past_room j) holds (record { stage = stages.Resolve (resolutions.Checking (record { q = j.q; request = r; finding = grounded j.request v b })); turn = turn.Look loader name })
 checks_so told j v b holds r loader name job e is =
-    let load : Rests told (said_of (load_of r) v b) = subst (λ (q : Request). Rests told (said_of (load_of q) v b)) (sym is.same) (e.load is.own) in
+    let load : Rests told (grounded (load_of r) v b) = subst (λ (q : Request). Rests told (grounded (load_of q) v b)) (sym is.same) (e.load is.own) in
     record {
       kept = record {
         index = is.index;
@@ -115,7 +108,7 @@ settle_calls r targets.Own d w p s is = absurd cc
 settle_calls r (targets.Reference e) d w p s is = omega arith
 
 settles_so : {A : Type 0} (told : Option Content) (j : Job A) (v : verdict.Verdict) (b : Based) (holds : Shown → Type 0) (e : entries.Entry A) → IsJob told j.path.config j → Ended told j v b holds → IsForEntry j e
-    → Leads told j (past_room j) holds (record { stage = stages.Resolve (resolutions.Settling e); turn = turn.Settle (said_of j.request v b) })
+    → Leads told j (past_room j) holds (record { stage = stages.Resolve (resolutions.Settling e); turn = turn.Settle (grounded j.request v b) })
 settles_so told j v b holds e job ended is =
     let c = j.path.config in
     let d = e.d.value.class in
@@ -150,7 +143,7 @@ settles_so told j v b holds e job ended is =
 -- ---- all
 
 pub concludes : {A : Type 0} (told : Option Content) (j : Job A) (v : verdict.Verdict) (b : Based) (holds : Shown → Type 0) (a : Aftermath A) (n : Next A) → IsJob told j.path.config j → Ended told j v b holds → IsAftermath j a
-    → ConcludesBy j.q a (said_of j.request v b) n → Leads told j (past_room j) holds n
+    → ConcludesBy j.q a (grounded j.request v b) n → Leads told j (past_room j) holds n
 concludes told j v b holds aftermaths.Answer n job e is by = subst (λ (m : Next _). Leads told j (past_room j) holds m) (sym by) (answers_so told j v b holds job e is)
 concludes told j v b holds (aftermaths.Check r loader name) n job e is by = subst (λ (m : Next _). Leads told j (past_room j) holds m) (sym by) (checks_so told j v b holds r loader name job e is)
 concludes told j v b holds (aftermaths.Settle entry) n job e is by = subst (λ (m : Next _). Leads told j (past_room j) holds m) (sym by) (settles_so told j v b holds entry job e is)

@@ -1,6 +1,5 @@
 -- Steps of a request whose class is recorded, and of the entry that it asks for (JVMS SE 8, 5.3, 5.4.3, 5.4.3.1).
-use Rattle.std.proofs.Common.{◌≡◌, ◌∙◌, ◌<◌, ◌≤◌, ◌+◌, ℕ, zero, suc, Bool, true, false, List, [], ◌∷◌, length, Option, Some, None, inl, inr, refl, sym, ap, subst, arith}
-use Rattle.std.specs.Prelude.{if◌then◌else◌}
+use Rattle.std.proofs.Common.{◌≡◌, ◌∙◌, ◌<◌, ◌≤◌, ◌+◌, ℕ, zero, suc, Bool, true, false, List, length, Option, Some, None, inl, inr, refl, sym, ap, subst, arith}
 use Rattle.std.specs.declared.alloc.Global.{Global}
 use Rattle.std.specs.declared.sync.Arc.{Arc}
 use Rattle.cl_model.specs.declared.answer.Answer.TheVariants as answers
@@ -30,19 +29,18 @@ use Rattle.cl_model.proofs.Planned.{plan_exists}
 use Rattle.cl_model.proofs.Reached.{reference_is_plan}
 use Rattle.cl_model.proofs.Service.{resolve_wants, said_comes}
 use Rattle.cl_model.proofs.Tables.{recorded_reached}
+use Rattle.cl_model.proofs.Bind.{some_same}
 use Rattle.cl_config.specs.Views.{Configured}
 use Rattle.cl_findings.specs.Findings.{Answered, Based, Rests, loader_of}
 use Rattle.cl_hierarchy.specs.Rows.{Rowed}
 use Rattle.cl_registry.proofs.Named.{recorded_is_named}
-use Rattle.cl_findings.specs.References.{EndsAtClass, EndsAtOnce, IsAtClass, IsAtOnce, class_basis, class_need, entry_basis}
+use Rattle.cl_findings.specs.References.{EndsAtClass, EndsAtOnce, IsAtClass, IsAtOnce, class_basis, entry_basis}
 use Rattle.cl_registry.specs.References.{IsSettledIn, settled_by}
 use Rattle.cl_registry.specs.Tables.{Shown, records_of, settled_at, state_of}
 use Rattle.cl_registry.proofs.Backed.{settled_named}
 use Rattle.cl_tasks.specs.Calls.{calls_in, past_loads}
-use Rattle.cl_tasks.specs.Facts.{AreSo}
 use Rattle.cl_tasks.specs.Resolving.{EntryTold, IsNoneSettled, IsSame, IsSettledKind, NamedTold, SettledTold}
 use Rattle.cl_tasks.specs.Rooms.{Room, named_room, reference_room}
-use Rattle.cl_tasks.specs.Tasks.{Stands}
 use Rattle.cl_tasks.specs.declared.stage.Next.{Next}
 use Rattle.cl_tasks.specs.Stages.{IsEntry}
 use Rattle.cl_tasks.specs.Steps.{LeadsBy}
@@ -51,8 +49,10 @@ use Rattle.cl_tasks.specs.declared.stage.Resolution.TheVariants as resolutions
 use Rattle.cl_tasks.specs.declared.stage.Stage.TheVariants as stages
 use Rattle.cl_tasks.specs.declared.turn.Turn.TheVariants as turn
 use Rattle.cl_tasks.specs.Waits as waits
-use Rattle.cl_tasks.proofs.Lead.{HasPost, Holding, leads_by, posts_within}
-use Rattle.cl_tasks.proofs.Said.{Settling, Stood, borne, found_is, may_settle, said_of, settled_next, stood_answers}
+use Rattle.cl_tasks.proofs.Lead.{HasPost, Holding, leads_by, leads_post}
+use Rattle.cl_tasks.proofs.Said.{Settling, Stood, borne, found_is, may_settle, settled_next, stood_answers}
+use Rattle.cl_tasks.proofs.MemberFacts.{same_entry, same_told}
+use Rattle.cl_findings.proofs.Plain.{grounded}
 
 -- ---- rooms
 
@@ -86,35 +86,27 @@ bears_comes : (g : Setting) (s : State) (l : ℕ) (n : List ℕ) (i : ℕ) (v : 
 bears_comes g s l n i v bears answer = said_comes g s (plans.Resolve l n i) v (resolve_wants l n i) (borne_said g s (plans.Resolve l n i) v bears answer)
 
 pub leads_never : (A : Type 0) (told : Option Content) (c : Configured) (q : ℕ) (r : Request) (d : Class) (i : ℕ) (v : verdict.Verdict) (b : Based) (room : Room) (holds : Shown → Type 0) → Stood told c r v b holds → r ≡ requests.Resolve (loader_of r) d.name i → IsNoneSettled v → 0 < room.turns → HasPost room
-    → LeadsBy {A = A} told c q r room holds (record { stage = stages.Done q; turn = turn.Post (said_of r v b) })
+    → LeadsBy {A = A} told c q r room holds (record { stage = stages.Done q; turn = turn.Post (grounded r v b) })
 leads_never A told c q r d i v b room holds stood is never more post =
     let bears = λ (s : State). resolving r d i (λ (k : Request). Bears s (request_of k) (verdict_of v)) is (never_bears s (loader_of r) d.name i v never) in
-    record {
-      kept = tt;
-      number = refl;
-      asks = refl;
-      serves = refl;
-      left = more;
-      calls = posts_within told c holds r room post;
-      keeps = λ x h. record { frames = tt; facts = tt };
-      backed = λ x config named consistent h. record {
-        within = stood.within x config named h;
-        answer = record {
-          grounded = inr (record { within = stood.within x config named h; basis = borne told c r v b holds stood x config h });
-          borne = bears (state_of x);
-        };
+    leads_post refl more post
+    (λ x config named consistent h. record {
+      within = stood.within x config named h;
+      answer = record {
+        grounded = inr (record { within = stood.within x config named h; basis = borne told c r v b holds stood x config h });
+        borne = bears (state_of x);
       };
-      follows = λ g x served h.
-          let answer = stood_answers told c r v b holds stood g x served h in
-          resolving r d i (λ (k : Request). ComesTo g (state_of x) (request_of k) (verdict_of v)) is
-          (bears_comes g (state_of x) (loader_of r) d.name i (verdict_of v) (never_bears (state_of x) (loader_of r) d.name i v never)
-          (subst (λ (k : Request). AnswersPlan g (state_of x) (request_of k) (verdict_of v)) is answer));
-    }
+    })
+    (λ g x served h.
+    let answer = stood_answers told c r v b holds stood g x served h in
+    resolving r d i (λ (k : Request). ComesTo g (state_of x) (request_of k) (verdict_of v)) is
+    (bears_comes g (state_of x) (loader_of r) d.name i (verdict_of v) (never_bears (state_of x) (loader_of r) d.name i v never)
+    (subst (λ (k : Request). AnswersPlan g (state_of x) (request_of k) (verdict_of v)) is answer)))
 
 -- ---- an entry is settled
 
 pub leads_settles : (A : Type 0) (told : Option Content) (c : Configured) (q : ℕ) (r : Request) (d : Class) (i : ℕ) (v : verdict.Verdict) (b : Based) (room : Room) (holds : Shown → Type 0) (kept : entries.Entry A) → Stood told c r v b holds → Settling r d i v holds → IsEntry c kept → kept.q ≡ q → kept.request ≡ r
-    → ((x : Shown) → holds x → EntryTold kept x) → 1 < room.turns → HasSettle room → LeadsBy {A = A} told c q r room holds (record { stage = stages.Resolve (resolutions.Settling kept); turn = turn.Settle (said_of r v b) })
+    → ((x : Shown) → holds x → EntryTold kept x) → 1 < room.turns → HasSettle room → LeadsBy {A = A} told c q r room holds (record { stage = stages.Resolve (resolutions.Settling kept); turn = turn.Settle (grounded r v b) })
 leads_settles A told c q r d i v b room holds kept stood may entry number same told_so more two = record {
   kept = entry;
   number = number;
@@ -143,32 +135,22 @@ settled_comes g s l d i v sound kept settled =
     (reference_is_plan g s l d.name i p.0 d v p.1 at.0 at.1 (sound.settled d i v settled).answered)
   where
     one_class : (e : Class) → Records s l d.name e → d ≡ e
-    one_class e is = let same : d.loader ≡ e.loader = some_is d.loader e.loader (sym kept ∙ is.1) in rw (same, sym is.0) refl
-      where
-        some_is : (a b : ℕ) → Some a ≡ Some b → a ≡ b
-        some_is a b e = cc
+    one_class e is = let same : d.loader ≡ e.loader = some_same d.loader e.loader (sym kept ∙ is.1) in rw (same, sym is.0) refl
 
 pub leads_shared : (A : Type 0) (told : Option Content) (c : Configured) (q : ℕ) (r : Request) (d : Class) (i : ℕ) (s : Arc Settled Global) (room : Room) (holds : Shown → Type 0) → r ≡ requests.Resolve (loader_of r) d.name i → loader_of r < length c.loaders → ((x : Shown) → holds x → recorded (records_of x) (loader_of r) d.name ≡ Some d.loader)
     → ((x : Shown) → holds x → IsSettledIn x d i s.value) → 0 < room.turns → HasPost room → LeadsBy {A = A} told c q r room holds (record { stage = stages.Done q; turn = turn.Post (record { request = r; answer = answers.Shared s; basis = None }) })
-leads_shared A told c q r d i s room holds is asked kept settled more post = record {
-  kept = tt;
-  number = refl;
-  asks = refl;
-  serves = refl;
-  left = more;
-  calls = posts_within told c holds r room post;
-  keeps = λ x h. record { frames = tt; facts = tt };
-  backed = λ x config named consistent h. record {
-    within = record {
-      loader = subst (λ (k : Configured). loader_of r < length k.loaders) (sym config) asked;
-      answer = settled_named x d i s.value named (settled x h).entry;
-    };
-    answer = resolving r d i (λ (k : Request). settled_by x k ≡ Some s.value) is (entry_settled x (loader_of r) d i s.value (kept x h) (settled x h).entry);
-  };
-  follows = λ g x served h.
-      resolving r d i (λ (k : Request). ComesTo g (state_of x) (request_of k) (verdict_of s.value.verdict)) is
-      (settled_comes g (state_of x) (loader_of r) d i (verdict_of s.value.verdict) served.sound (kept x h) (settled x h).verdict);
-}
+leads_shared A told c q r d i s room holds is asked kept settled more post =
+    leads_post refl more post
+    (λ x config named consistent h. record {
+      within = record {
+        loader = subst (λ (k : Configured). loader_of r < length k.loaders) (sym config) asked;
+        answer = settled_named x d i s.value named (settled x h).entry;
+      };
+      answer = resolving r d i (λ (k : Request). settled_by x k ≡ Some s.value) is (entry_settled x (loader_of r) d i s.value (kept x h) (settled x h).entry);
+    })
+    (λ g x served h.
+    resolving r d i (λ (k : Request). ComesTo g (state_of x) (request_of k) (verdict_of s.value.verdict)) is
+    (settled_comes g (state_of x) (loader_of r) d i (verdict_of s.value.verdict) served.sound (kept x h) (settled x h).verdict))
 
 -- ---- what a verdict of an entry rests on
 
@@ -243,7 +225,7 @@ class_names count c verdicts.ArrayMember h below = absurd h
 class_names count c (verdicts.Error kind k) h below = error_names count c k kind h below
 class_names count c (verdicts.Linkage need) h below = absurd h
 
-entry_stood : (A : Type 0) (told : Option Content) (c config : Configured) (e : entries.Entry A) (v : verdict.Verdict) → IsEntry c e → config ≡ c → IsAtOnce e.request e.d.value (verdict_of v) → Rests told (said_of e.request v (entry_basis config e.request e.d.value.class))
+entry_stood : (A : Type 0) (told : Option Content) (c config : Configured) (e : entries.Entry A) (v : verdict.Verdict) → IsEntry c e → config ≡ c → IsAtOnce e.request e.d.value (verdict_of v) → Rests told (grounded e.request v (entry_basis config e.request e.d.value.class))
     → Stood told c e.request v (entry_basis config e.request e.d.value.class) (EntryTold e)
 entry_stood A told c config e v entry same ends rests = record {
   rests = rests;
@@ -257,7 +239,7 @@ entry_stood A told c config e v entry same ends rests = record {
   };
 }
 
-class_stood : (A : Type 0) (told : Option Content) (c config : Configured) (e : entries.Entry A) (k : Rowed) (v : verdict.Verdict) → IsEntry c e → config ≡ c → IsAtClass e.request e.d.value k (verdict_of v) → Rests told (said_of e.request v (class_basis config e.request e.d.value.class k.class))
+class_stood : (A : Type 0) (told : Option Content) (c config : Configured) (e : entries.Entry A) (k : Rowed) (v : verdict.Verdict) → IsEntry c e → config ≡ c → IsAtClass e.request e.d.value k (verdict_of v) → Rests told (grounded e.request v (class_basis config e.request e.d.value.class k.class))
     → Stood told c e.request v (class_basis config e.request e.d.value.class k.class) (NamedTold e k)
 class_stood A told c config e k v entry same ends rests = record {
   rests = rests;
@@ -273,22 +255,6 @@ class_stood A told c config e k v entry same ends rests = record {
   };
 }
 
--- ---- the same entry
-
-same_entry : (A : Type 0) (c : Configured) (one other : entries.Entry A) → IsSame one other → IsEntry c one → IsEntry c other
-same_entry A c one other same entry = record {
-  of =
-      subst (λ (r : Request). r ≡ requests.Resolve (loader_of r) other.d.value.class.name other.index) (sym same.request)
-      (subst (λ (k : Class). one.request ≡ requests.Resolve (loader_of one.request) k.name other.index) (sym (ap (λ (r : Rowed). r.class) same.class))
-      (subst (λ (i : ℕ). one.request ≡ requests.Resolve (loader_of one.request) one.d.value.class.name i) (sym same.index) entry.of));
-  asked = subst (λ (r : Request). loader_of r < length c.loaders) (sym same.request) entry.asked;
-}
-
-same_told : (A : Type 0) (one other : entries.Entry A) (x : Shown) → IsSame one other → EntryTold one x → EntryTold other x
-same_told A one other x same h =
-    subst (λ (r : Request). AreSo x (Stands (class_need r other.d.value.class) ∷ [])) (sym same.request)
-    (subst (λ (k : Class). AreSo x (Stands (class_need one.request k) ∷ [])) (sym (ap (λ (r : Rowed). r.class) same.class)) h)
-
 -- ---- steps
 
 -- a finding that says this, on this basis
@@ -298,7 +264,7 @@ pub record IsFound (told : Option Content) (f : Answered) (r : Request) (v : ver
   pub basis : f.basis ≡ Some b
   pub rests : Rests told f
 
-found : (told : Option Content) (f : Answered) (r : Request) (v : verdict.Verdict) (b : Based) → IsFound told f r v b → f ≡ said_of r v b
+found : (told : Option Content) (f : Answered) (r : Request) (v : verdict.Verdict) (b : Based) → IsFound told f r v b → f ≡ grounded r v b
 found told f r v b h = found_is f r v b h.request h.answer h.basis
 
 pub posts_entry : (A : Type 0) (told : Option Content) (c config : Configured) (e : entries.Entry A) (v : verdict.Verdict) (f : Answered) (n : Next A) → IsEntry c e → config ≡ c → IsAtOnce e.request e.d.value (verdict_of v) → IsNoneSettled v
@@ -317,7 +283,7 @@ settles_entry A told c config e kept v f n entry same_kept same ends kind h is =
     subst (λ (m : Next A). LeadsBy told c e.q e.request reference_room (EntryTold e) m) (sym (is ∙ ap (λ (k : Answered). record { stage = stages.Resolve (resolutions.Settling kept); turn = turn.Settle k }) whole))
     (leads_settles A told c e.q e.request e.d.value.class e.index v b reference_room (EntryTold e) kept (entry_stood A told c config e v entry same ends (subst (Rests told) whole h.rests))
     (record { resolves = entry.of; kept = λ x k. k.0; is_entry = kind.is_entry; is_class_member = kind.is_class_member })
-    (same_entry A c e kept same_kept entry) same_kept.number same_kept.request (λ x k. same_told A e kept x same_kept k) (omega arith) (λ w p s. omega arith))
+    (same_entry c e kept entry same_kept) same_kept.number same_kept.request (λ x k. same_told x e kept same_kept k) (omega arith) (λ w p s. omega arith))
 
 pub settles_class : (A : Type 0) (told : Option Content) (c config : Configured) (e kept : entries.Entry A) (k : Rowed) (v : verdict.Verdict) (f : Answered) (n : Next A) → IsEntry c e → IsSame e kept → config ≡ c → IsAtClass e.request e.d.value k (verdict_of v) → IsSettledKind v
     → IsFound told f e.request v (class_basis config e.request e.d.value.class k.class) → n ≡ record { stage = stages.Resolve (resolutions.Settling kept); turn = turn.Settle f } → LeadsBy told c e.q e.request named_room (NamedTold e k) n
@@ -327,7 +293,7 @@ settles_class A told c config e kept k v f n entry same_kept same ends kind h is
     subst (λ (m : Next A). LeadsBy told c e.q e.request named_room (NamedTold e k) m) (sym (is ∙ ap (λ (k : Answered). record { stage = stages.Resolve (resolutions.Settling kept); turn = turn.Settle k }) whole))
     (leads_settles A told c e.q e.request e.d.value.class e.index v b named_room (NamedTold e k) kept (class_stood A told c config e k v entry same ends (subst (Rests told) whole h.rests))
     (record { resolves = entry.of; kept = λ x t. t.0; is_entry = kind.is_entry; is_class_member = kind.is_class_member })
-    (same_entry A c e kept same_kept entry) same_kept.number same_kept.request (λ x t. same_told A e kept x same_kept (t.0, tt)) (omega arith) (λ w p s. omega arith))
+    (same_entry c e kept entry same_kept) same_kept.number same_kept.request (λ x t. same_told x e kept same_kept (t.0, tt)) (omega arith) (λ w p s. omega arith))
 
 -- what the entry was found to be settled to is the answer
 pub shares_entry : (A : Type 0) (told : Option Content) (c : Configured) (e : entries.Entry A) (o : Option (Arc Settled Global)) (s : Arc Settled Global) (n : Next A) → IsEntry c e → o ≡ Some s → n ≡ record { stage = stages.Done e.q; turn = turn.Post (record { request = e.request; answer = answers.Shared s; basis = None }) }

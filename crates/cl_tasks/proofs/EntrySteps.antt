@@ -33,7 +33,7 @@ use Rattle.cl_tasks.specs.Rooms.{reference_room}
 use Rattle.cl_tasks.specs.Stages.{IsFailed, basis_facts, load_of, resolving_at, task_at}
 use Rattle.cl_tasks.specs.Steps.{IsPlain, LeadsBy, LeadsOn, Steps, memory_ends, task_room}
 use Rattle.cl_tasks.specs.Tasks.{Tasked}
-use Rattle.cl_tasks.specs.Turns.{AnswersOwn, GoesOnWith, WasAbsent}
+use Rattle.cl_tasks.specs.Turns.{AnswersOwn, GoesOnWith}
 use Rattle.cl_tasks.specs.declared.stage.Entry as entries
 use Rattle.cl_tasks.specs.declared.stage.Failed.{Failed}
 use Rattle.cl_tasks.specs.declared.stage.Next.{Next}
@@ -44,11 +44,13 @@ use Rattle.cl_tasks.specs.declared.turn.Turn.TheVariants as turn
 use Rattle.cl_tasks.proofs.Deriving.{derives_more, past_derives}
 use Rattle.cl_tasks.proofs.Facts.{so_met, so_refuses}
 use Rattle.cl_tasks.proofs.Lacking.{posts_one, posts_or, shared_memory}
-use Rattle.cl_tasks.proofs.Lead.{leads_memory, leads_more, plain_no_fault, plain_reads, not_false}
+use Rattle.cl_tasks.proofs.Lead.{leads_post, memory_steps, not_false, plain_steps}
 use Rattle.cl_tasks.proofs.Reaching.{reached_left, reaches}
-use Rattle.cl_tasks.proofs.Said.{Stood, borne, concluded, concludes_at, found_is, said_of, stood_answers, unrecorded}
+use Rattle.cl_tasks.proofs.Said.{Stood, borne, concludes_at, found_is, stood_answers, unrecorded}
 use Rattle.std.proofs.lemmas.Option.{none-some}
 use Rattle.cl_model.proofs.Bind.{some_same}
+use Rattle.cl_findings.proofs.Plain.{grounded}
+use Rattle.cl_findings.proofs.Answered.{answered_by}
 
 same_room : (m : ℕ) → m ≤ m
 same_room m = omega arith
@@ -71,17 +73,9 @@ reference_lacks r (Some s) n h = λ k. shared_memory s (posts_one (answers.Share
 
 pub reference_steps : {A : Type 0} (told : Option Content) (c : Configured) (e : entries.Entry A) (o : Option (Arc Settled Global)) (n : Next A) → LeadsBy told c e.q e.request reference_room (SettledTold e o) n
     → IfSome o (λ s. Posts (answers.Shared s) n.turn) → IsPlain n.turn → Derives IsNone [] n.stage → Steps told (resolving_at c (resolutions.LookingReference e)) (reply.LookedReference o) n
-reference_steps {A = A} told c e o n l own plain derives = record {
-  leads = leads_more (task_room (resolving_at c (resolutions.LookingReference e))) (λ x. Tells {A = A} x (resolving_at c (resolutions.LookingReference e)) (reply.LookedReference o)) (λ x. TellsNow {A = A} x (resolving_at c (resolutions.LookingReference e)) (reply.LookedReference o)) l
-      (same_room reference_left) (λ g x p served is h. omega arith) (λ x h. reference_told c e o x h) (λ x h. reference_told c e o x h.told);
-  refused = plain_no_fault n.turn plain;
-  linkage = tt;
-  blames = tt;
-  lacks = reference_lacks e.request o n own;
-  reads = plain_reads {A = A} (resolving_at c (resolutions.LookingReference e)) (reply.LookedReference o) n.turn plain;
-  derives = derives_more IsNone (WasAbsent {A = A} (resolving_at c (resolutions.LookingReference e)) (reply.LookedReference o)) [] n.stage (λ k h. absurd h) derives;
-  own = reference_own c e o n own;
-}
+reference_steps told c e o n l own plain derives =
+    plain_steps (resolving_at c (resolutions.LookingReference e)) (reply.LookedReference o) n refl refl refl l (same_room reference_left) (λ g x p served is h. omega arith) (λ x h. reference_told c e o x h)
+    tt tt (reference_lacks e.request o n own) (derives_more IsNone _ [] n.stage (λ k h. absurd h) derives) (reference_own c e o n own) plain
 
 -- ---- tests
 
@@ -97,7 +91,7 @@ decided false d e = absurd cc
 equal_room : (a b : ℕ) → a ≡ b → a ≤ b
 equal_room a b e = omega (arith, e)
 
-failed_whole : {A : Type 0} (told : Option Content) (c : Configured) (f : Failed A) (failed : IsFailed told c f) → f.finding ≡ said_of f.request failed.verdict failed.basis
+failed_whole : {A : Type 0} (told : Option Content) (c : Configured) (f : Failed A) (failed : IsFailed told c f) → f.finding ≡ grounded f.request failed.verdict failed.basis
 failed_whole told c f failed = found_is f.finding f.request failed.verdict failed.basis failed.same failed.said failed.rests_on
 
 -- what it rests on was told
@@ -110,9 +104,9 @@ failed_unrecorded told c f failed g x served facts =
     let r = f.request in
     let v = failed.verdict in
     let so = failed_facts told c f failed x facts in
-    let load : Rests told (said_of (load_of r) v failed.basis) = subst (λ (k : Answered). Rests told (record k { request = load_of r })) (failed_whole told c f failed) failed.own in
+    let load : Rests told (grounded (load_of r) v failed.basis) = subst (λ (k : Answered). Rests told (record k { request = load_of r })) (failed_whole told c f failed) failed.own in
     let concludes = concludes_at told c g (state_of x) (load_of r) v failed.basis served load failed.config failed.unprepared (so_met x failed.basis so) in
-    unrecorded g (state_of x) (loader_of r) (name_of r) v served.sound failed.failure (concluded g (state_of x) (plans.Load (loader_of r) (name_of r)) failed.basis.refused failed.basis.prepared (verdict_of v) concludes (so_refuses x failed.basis so))
+    unrecorded g (state_of x) (loader_of r) (name_of r) v served.sound failed.failure (answered_by g (state_of x) (plans.Load (loader_of r) (name_of r)) failed.basis.refused failed.basis.prepared (verdict_of v) concludes (so_refuses x failed.basis so))
 
 -- so nothing is found there
 found_never : {A : Type 0} (told : Option Content) (c : Configured) (f : Failed A) → IsFailed told c f → (row : Arc (ClassRow A) Global) (g : Setting) (x : Shown) → ServedIn told c g (state_of x) → Tells {A = A} x (resolving_at c (resolutions.Checking f)) (reply.Looked (Some row)) → ⊥
@@ -120,18 +114,10 @@ found_never told c f failed row g x served h = none-some _ (sym (failed_unrecord
 
 pub found_steps : {A : Type 0} (told : Option Content) (c : Configured) (f : Failed A) (row : Arc (ClassRow A) Global) (n : Next A) → IsFailed told c f → row.value.class.name ≡ name_of f.request → ReachesBy f.q f.request row n
     → GoesOnWith f.request row.value.class (task_at c n.stage) n.turn → IsPlain n.turn → IsPast n.stage → Steps told (resolving_at c (resolutions.Checking f)) (reply.Looked (Some row)) n
-found_steps {A = A} told c f row n failed name by goes plain past = record {
-  leads = leads_more (task_room (resolving_at c (resolutions.Checking f))) (λ x. Tells {A = A} x (resolving_at c (resolutions.Checking f)) (reply.Looked (Some row))) (λ x. TellsNow {A = A} x (resolving_at c (resolutions.Checking f)) (reply.Looked (Some row)))
-      (reaches A told c f.q f.request row n failed.asked name by)
-      (equal_room (reached_left f.request) checking_left (ap reached_left failed.resolves)) (λ g x p served is h. absurd (found_never told c f failed row g x served h.told)) (λ x h. h.now) (λ x h. h.told.now);
-  refused = plain_no_fault n.turn plain;
-  linkage = tt;
-  blames = tt;
-  lacks = λ h. tt;
-  reads = plain_reads {A = A} (resolving_at c (resolutions.Checking f)) (reply.Looked (Some row)) n.turn plain;
-  derives = past_derives (WasAbsent {A = A} (resolving_at c (resolutions.Checking f)) (reply.Looked (Some row))) [] n.stage past;
-  own = λ r e w frames facts. subst (λ (k : Request). GoesOnWith k row.value.class (task_at c n.stage) n.turn) (some_same f.request r e) goes;
-}
+found_steps {A = A} told c f row n failed name by goes plain past =
+    plain_steps (resolving_at c (resolutions.Checking f)) (reply.Looked (Some row)) n refl refl refl (reaches A told c f.q f.request row n failed.asked name by)
+    (equal_room (reached_left f.request) checking_left (ap reached_left failed.resolves)) (λ g x p served is h. absurd (found_never told c f failed row g x served h.told)) (λ x h. h.now)
+    tt tt (λ h. tt) (past_derives _ [] n.stage past) (λ r e w frames facts. subst (λ (k : Request). GoesOnWith k row.value.class (task_at c n.stage) n.turn) (some_same f.request r e) goes) plain
 
 -- memory ran out at what was found
 memory_goes : {A : Type 0} (q : ℕ) (r : Request) (k : Class) (new : Tasked) (n : Next A) → n ≡ memory_ends q r → GoesOnWith r k new n.turn
@@ -140,28 +126,12 @@ memory_goes q (requests.Resolve l m i) k new n e = subst (λ (j : Next _). GoesO
 memory_goes q (requests.Link l m) k new n e = subst (λ (i : Next _). GoesOnWith (requests.Link l m) k new i.turn) (sym e) refl
 
 pub found_out : {A : Type 0} (told : Option Content) (c : Configured) (f : Failed A) (row : Arc (ClassRow A) Global) → IsFailed told c f → Steps {A = A} told (resolving_at c (resolutions.Checking f)) (reply.Looked (Some row)) (memory_ends f.q f.request)
-found_out {A = A} told c f row failed = record {
-  leads = leads_memory told c f.q f.request (task_room (resolving_at c (resolutions.Checking f))) _ _ failed.asked (omega arith) (λ w p s. omega arith);
-  refused = tt;
-  linkage = tt;
-  blames = tt;
-  lacks = λ h. tt;
-  reads = tt;
-  derives = tt;
-  own = λ r e w frames facts. subst (λ (k : Request). GoesOnWith {A = A} k row.value.class (task_at {A = A} c (memory_ends f.q f.request).stage) (memory_ends f.q f.request).turn) (some_same f.request r e) (memory_goes f.q f.request row.value.class (task_at {A = A} c (memory_ends f.q f.request).stage) (memory_ends f.q f.request) refl);
-}
+found_out {A = A} told c f row failed =
+    memory_steps told (resolving_at c (resolutions.Checking f)) f.request (reply.Looked (Some row)) refl failed.asked (omega arith) (λ w p s. omega arith) tt tt tt (λ h. tt)
+    (λ r e w frames facts. subst (λ (k : Request). GoesOnWith {A = A} k row.value.class (task_at {A = A} c (memory_ends f.q f.request).stage) (memory_ends f.q f.request).turn) (some_same f.request r e) (memory_goes f.q f.request row.value.class (task_at {A = A} c (memory_ends f.q f.request).stage) (memory_ends f.q f.request) refl))
 
 pub unfound_out : {A : Type 0} (told : Option Content) (c : Configured) (f : Failed A) → IsFailed told c f → Steps {A = A} told (resolving_at c (resolutions.Checking f)) (reply.Looked None) (memory_ends f.q f.request)
-unfound_out {A = A} told c f failed = record {
-  leads = leads_memory told c f.q f.request (task_room (resolving_at c (resolutions.Checking f))) _ _ failed.asked (omega arith) (λ w p s. omega arith);
-  refused = tt;
-  linkage = tt;
-  blames = tt;
-  lacks = λ h. tt;
-  reads = tt;
-  derives = tt;
-  own = tt;
-}
+unfound_out told c f failed = memory_steps told (resolving_at c (resolutions.Checking f)) f.request (reply.Looked None) refl failed.asked (omega arith) (λ w p s. omega arith) tt tt tt (λ h. tt) tt
 
 -- ---- nothing was found, and the verdict stands
 
@@ -178,7 +148,7 @@ failed_stood told c f failed rests within =
       unprepared = failed.unprepared;
       needs = λ x h. so_met x failed.basis (failed_facts told c f failed x h.before.facts);
       refused = λ x h. so_refuses x failed.basis (failed_facts told c f failed x h.before.facts);
-      within = λ x config named h. subst (λ (k : Configured). IsWithin (length k.loaders) (said_of f.request failed.verdict failed.basis)) (sym config) (subst (λ (k : Answered). IsWithin (length c.loaders) k) whole within);
+      within = λ x config named h. subst (λ (k : Configured). IsWithin (length k.loaders) (grounded f.request failed.verdict failed.basis)) (sym config) (subst (λ (k : Answered). IsWithin (length c.loaders) k) whole within);
     }
 
 -- of a request to resolve, where its class is not recorded, the tables bear any verdict
@@ -201,33 +171,25 @@ failed_comes told c f failed stood g x served h =
 
 failed_leads : {A : Type 0} (told : Option Content) (c : Configured) (f : Failed A) (failed : IsFailed told c f) → Stood told c f.request failed.verdict failed.basis (Unfound A c f)
     → LeadsOn {A = A} told c f.q f.request (task_room (resolving_at c (resolutions.Checking f))) (Unfound A c f) (λ x. TellsNow {A = A} x (resolving_at c (resolutions.Checking f)) (reply.Looked None))
-    (record { stage = stages.Done f.q; turn = turn.Post (said_of f.request failed.verdict failed.basis) })
+    (record { stage = stages.Done f.q; turn = turn.Post (grounded f.request failed.verdict failed.basis) })
 failed_leads {A = A} told c f failed stood =
     let r = f.request in
     let v = failed.verdict in
     let b = failed.basis in
-    record {
-      kept = tt;
-      number = refl;
-      asks = refl;
-      serves = refl;
-      left = omega arith;
-      calls = λ g x p served is h. omega arith;
-      keeps = λ x h. record { frames = tt; facts = tt };
-      backed = λ x config named consistent h. record {
-        within = stood.within x config named h.told;
-        answer = record {
-          grounded = inr (record { within = stood.within x config named h.told; basis = borne told c r v b (Unfound A c f) stood x config h.told });
-          borne = unreached_bears (state_of x) r failed.index v failed.resolves h.unrecorded;
-        };
+    leads_post refl (omega arith) (λ w p s. omega arith)
+    (λ x config named consistent h. record {
+      within = stood.within x config named h.told;
+      answer = record {
+        grounded = inr (record { within = stood.within x config named h.told; basis = borne told c r v b (Unfound A c f) stood x config h.told });
+        borne = unreached_bears (state_of x) r failed.index v failed.resolves h.unrecorded;
       };
-      follows = λ g x served h. failed_comes told c f failed stood g x served h;
-    }
+    })
+    (λ g x served h. failed_comes told c f failed stood g x served h)
 
 pub unfound_steps : {A : Type 0} (told : Option Content) (c : Configured) (f : Failed A) (n : Next A) → IsFailed told c f → Rests told f.finding → IsWithin (length c.loaders) f.finding → n ≡ record { stage = stages.Done f.q; turn = turn.Post f.finding }
     → Steps told (resolving_at c (resolutions.Checking f)) (reply.Looked None) n
 unfound_steps {A = A} told c f n failed rests within is =
-    let at : n ≡ record { stage = stages.Done f.q; turn = turn.Post (said_of f.request failed.verdict failed.basis) } =
+    let at : n ≡ record { stage = stages.Done f.q; turn = turn.Post (grounded f.request failed.verdict failed.basis) } =
     is ∙ ap (λ (k : Answered). record { stage = stages.Done f.q; turn = turn.Post k }) (failed_whole told c f failed) in
     subst (λ (m : Next A). Steps told (resolving_at c (resolutions.Checking f)) (reply.Looked None) m) (sym at)
     (record {

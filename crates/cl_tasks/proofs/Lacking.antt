@@ -20,6 +20,7 @@ use Rattle.cl_tasks.specs.declared.ends.Aftermath.TheVariants as aftermaths
 use Rattle.cl_tasks.specs.declared.stage.Next.{Next}
 use Rattle.cl_tasks.specs.declared.turn.Turn.{Turn}
 use Rattle.cl_tasks.specs.declared.turn.Turn.TheVariants as turn
+use Rattle.cl_tasks.proofs.TurnCases.{posted}
 
 said_memory : (v : verdict.Verdict) → answers.Said v ≡ answers.Memory → ⊥
 said_memory v e = absurd cc
@@ -31,31 +32,11 @@ blamed_memory : (n : List ℕ) (l : ℕ) → answers.SourceFault n l ≡ answers
 blamed_memory n l e = absurd cc
 
 -- one answer is posted
-pub posts_one : {A : Type 0} (a b : Answer) (t : Turn A) → Posts a t → Posts b t → a ≡ b
-posts_one a b (turn.Look l n) h k = absurd h
-posts_one a b (turn.Read l n) h k = absurd h
-posts_one a b (turn.Define d) h k = absurd h
-posts_one a b (turn.Initiate i) h k = absurd h
-posts_one a b (turn.Lineage c) h k = absurd h
-posts_one a b (turn.LookReference c i) h k = absurd h
-posts_one a b (turn.Settle f) h k = absurd h
-posts_one a b (turn.Impose e i) h k = absurd h
-posts_one a b (turn.LookPrepared c) h k = absurd h
-posts_one a b (turn.Mark e) h k = absurd h
-posts_one a b (turn.Post f) h k = sym h ∙ k
+pub posts_one : {A : Type 0} (a b : Answer) (u : Turn A) → Posts a u → Posts b u → a ≡ b
+posts_one a b u h k = let p = posted a u h in sym p.2 ∙ subst (λ (v : Turn _). Posts b v) p.1 k
 
-pub posts_or : {A : Type 0} (a : Answer) (t : Turn A) → Posts a t → PostsOr a t
-posts_or a (turn.Look l n) h = absurd h
-posts_or a (turn.Read l n) h = absurd h
-posts_or a (turn.Define d) h = absurd h
-posts_or a (turn.Initiate i) h = absurd h
-posts_or a (turn.Lineage c) h = absurd h
-posts_or a (turn.LookReference c i) h = absurd h
-posts_or a (turn.Settle f) h = absurd h
-posts_or a (turn.Impose e i) h = absurd h
-posts_or a (turn.LookPrepared c) h = absurd h
-posts_or a (turn.Mark e) h = absurd h
-posts_or a (turn.Post f) h = inl h
+pub posts_or : {A : Type 0} (a : Answer) (u : Turn A) → Posts a u → PostsOr a u
+posts_or a u h = let p = posted a u h in subst (λ (v : Turn _). PostsOr a v) (sym p.1) (inl p.2)
 
 -- a fault of the source is answered as out of memory where it is one
 pub fault_lacks : (l : ℕ) (n : List ℕ) (f : SourceFault) → fault_answer (Reading l n) f ≡ answers.Memory → f ≡ faults.Memory

@@ -4,6 +4,7 @@ use Rattle.std.proofs.lemmas.Bool.{eqb-true}
 use Rattle.std.specs.Prelude.{slice_get, take, unwrap_or, Contains, option_map}
 use Rattle.std.specs.List.{AllByRecursion}
 use Rattle.std.proofs.lemmas.Option.{slice_get-map}
+use Rattle.std.proofs.lemmas.List.{length_push}
 use Rattle.cl_model.specs.declared.class.Class.{Class}
 use Rattle.cl_model.specs.declared.need.Equality.{Equality}
 use Rattle.cl_model.specs.States.{State, AllMet, recorded, IsRecorded, Met}
@@ -68,16 +69,10 @@ met_more x e i y at met one =
     (taken_more (Met (state_of x)) (needs_of e.needs) i (equal_need y) (all_met (state_of x) (take i (needs_of e.needs)) met) (slice_get-map equal_need e.needs i ∙ ap (λ (o : Option Equality). option_map equal_need o) at) one)
 
 pub mapped_at : {A B : Type 0} (f : A → B) (xs : List A) (k : ℕ) (a : A) → slice_get xs k ≡ Some a → slice_get (map f xs) k ≡ Some (f a)
-mapped_at f [] k a e = absurd cc
-mapped_at f (x ∷ xs) zero a e = ap (λ y. Some (f y)) (some_same x a e)
-mapped_at f (x ∷ xs) (suc k) a e = mapped_at f xs k a e
-
-pushed_length : (xs : List Rowed) (r : Rowed) → length (xs ++ r ∷ []) ≡ length xs + 1
-pushed_length [] r = refl
-pushed_length (x ∷ xs) r = let e = pushed_length xs r in omega (arith, e)
+mapped_at f xs k a e = slice_get-map f xs k ∙ ap (λ (o : Option _). option_map f o) e
 
 pub whole_length : (l : Lined) → length (rows_in l) ≡ length l.above + 1
-whole_length l = pushed_length l.above l.own
+whole_length l = length_push l.above l.own
 
 -- ---- equalities of a loader with itself
 

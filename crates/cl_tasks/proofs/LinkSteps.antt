@@ -21,14 +21,14 @@ use Rattle.cl_registry.specs.Tables.{Shown, state_of}
 use Rattle.cl_registry.proofs.Schedules.{some_at}
 use Rattle.cl_tasks.specs.Deriving.{IsPast}
 use Rattle.cl_tasks.specs.Calls.{equalities_in, own_homes, past_loads}
-use Rattle.cl_tasks.specs.Follows.{CallsWithin, EndsAsRefused, Posts, Tells, TellsNow}
+use Rattle.cl_tasks.specs.Follows.{CallsWithin, EndsAsRefused, Posts, Tells}
 use Rattle.cl_tasks.specs.Linking.{AskedTold, LineageTold, ListTold, MarkedTold, PreparedTold, RefusedTold, WholeTold}
 use Rattle.cl_tasks.specs.Measures.{chain_left, linking_left, prepared_left, whole_left}
 use Rattle.cl_tasks.specs.Rooms.{chain_room, last_room, linking_room, listed_room, marked_room, prepared_room, whole_room}
-use Rattle.cl_tasks.specs.Stages.{IsAtPlace, IsChain, behind, chain_calls, chain_facts, class_in, linking_at, list_calls}
+use Rattle.cl_tasks.specs.Stages.{IsAtPlace, IsChain, behind, chain_calls, chain_facts, class_in, linking_at, list_calls, task_at}
 use Rattle.cl_tasks.specs.Steps.{IsPlain, LeadsBy, Steps, task_room}
 use Rattle.cl_tasks.specs.Tasks.{Stands}
-use Rattle.cl_tasks.specs.Turns.{PostsOr, WasAbsent}
+use Rattle.cl_tasks.specs.Turns.{AnswersOwn, PostsOr}
 use Rattle.cl_tasks.specs.Waits as waits
 use Rattle.cl_tasks.specs.declared.stage.Chain.{Chain}
 use Rattle.cl_tasks.specs.declared.stage.Goal.{Goal}
@@ -36,7 +36,7 @@ use Rattle.cl_tasks.specs.declared.stage.Link.TheVariants as links
 use Rattle.cl_tasks.specs.declared.stage.Next.{Next}
 use Rattle.cl_tasks.specs.declared.turn.Reply.TheVariants as reply
 use Rattle.cl_tasks.proofs.Deriving.{past_derives}
-use Rattle.cl_tasks.proofs.Lead.{HasPost, leads_more, plain_no_fault, plain_reads}
+use Rattle.cl_tasks.proofs.Lead.{HasPost, plain_steps}
 use Rattle.cl_tasks.proofs.LinkFacts.{list_chain, list_imposed, list_of, list_traced, row_there, met_more}
 use Rattle.cl_tasks.proofs.LinkLeads.{chain_some_calls, fewer_calls, post_calls, post_room}
 use Rattle.std.proofs.lemmas.Option.{none-some}
@@ -60,30 +60,16 @@ prepared_told c g false x h = record { before = h.before.facts; now = λ e. absu
 waits_same : (a b : Class) → waits.LookingPrepared a ≡ waits.LookingPrepared b → a ≡ b
 waits_same a b h = cc
 
+prepared_own : {A : Type 0} (c : Configured) (g : Goal A) (p : Bool) (n : Next A) → (p ≡ true → PostsOr (answers.Said (verdicts.Linked g.class.value.class)) n.turn)
+    → AnswersOwn (linking_at c (links.LookingPrepared g)) (task_at c n.stage) (reply.LookedPrepared p) n.turn
+prepared_own c g true n own = λ d e alone. subst (λ (k : Class). PostsOr (answers.Said (verdicts.Linked k)) n.turn) (waits_same g.class.value.class d e) (own refl)
+prepared_own c g false n own = tt
+
 pub prepared_steps : {A : Type 0} (told : Option Content) (c : Configured) (g : Goal A) (p : Bool) (n : Next A) → LeadsBy told c g.q g.request prepared_room (PreparedTold g p) n
     → (p ≡ true → PostsOr (answers.Said (verdicts.Linked g.class.value.class)) n.turn) → IsPlain n.turn → IsPast n.stage → Steps told (linking_at c (links.LookingPrepared g)) (reply.LookedPrepared p) n
-prepared_steps {A = A} told c g true n l own plain past = record {
-  leads = leads_more (task_room (linking_at c (links.LookingPrepared g))) (λ x. Tells {A = A} x (linking_at c (links.LookingPrepared g)) (reply.LookedPrepared true)) (λ x. TellsNow {A = A} x (linking_at c (links.LookingPrepared g)) (reply.LookedPrepared true)) l
-      (same_turns prepared_left) (one_made told c (λ x. TellsNow {A = A} x (linking_at c (links.LookingPrepared g)) (reply.LookedPrepared true)) g.request 2 1 3) (λ x h. prepared_told c g true x h) (λ x h. prepared_told c g true x h.told);
-  refused = plain_no_fault n.turn plain;
-  linkage = tt;
-  blames = tt;
-  lacks = λ h. tt;
-  reads = plain_reads {A = A} (linking_at c (links.LookingPrepared g)) (reply.LookedPrepared true) n.turn plain;
-  derives = past_derives (WasAbsent {A = A} (linking_at c (links.LookingPrepared g)) (reply.LookedPrepared true)) [] n.stage past;
-  own = λ d e alone. subst (λ (k : Class). PostsOr (answers.Said (verdicts.Linked k)) n.turn) (waits_same g.class.value.class d e) (own refl);
-}
-prepared_steps {A = A} told c g false n l own plain past = record {
-  leads = leads_more (task_room (linking_at c (links.LookingPrepared g))) (λ x. Tells {A = A} x (linking_at c (links.LookingPrepared g)) (reply.LookedPrepared false)) (λ x. TellsNow {A = A} x (linking_at c (links.LookingPrepared g)) (reply.LookedPrepared false)) l
-      (same_turns prepared_left) (one_made told c (λ x. TellsNow {A = A} x (linking_at c (links.LookingPrepared g)) (reply.LookedPrepared false)) g.request 2 1 3) (λ x h. prepared_told c g false x h) (λ x h. prepared_told c g false x h.told);
-  refused = plain_no_fault n.turn plain;
-  linkage = tt;
-  blames = tt;
-  lacks = λ h. tt;
-  reads = plain_reads {A = A} (linking_at c (links.LookingPrepared g)) (reply.LookedPrepared false) n.turn plain;
-  derives = past_derives (WasAbsent {A = A} (linking_at c (links.LookingPrepared g)) (reply.LookedPrepared false)) [] n.stage past;
-  own = tt;
-}
+prepared_steps told c g p n l own plain past =
+    plain_steps (linking_at c (links.LookingPrepared g)) (reply.LookedPrepared p) n refl refl refl l (same_turns prepared_left) (one_made told c _ g.request 2 1 3)
+    (λ x h. prepared_told c g p x h) tt tt (λ h. tt) (past_derives _ [] n.stage past) (prepared_own c g p n own) plain
 
 -- ---- whether the class at a place is
 
@@ -98,64 +84,29 @@ one_asked a = omega arith
 knows_more : {A : Type 0} (k : Chain A) (n : Need) → chain_facts k ≡ Stands n ∷ [] → ⊥
 knows_more k n e = cc
 
+asked_own : {A : Type 0} (c : Configured) (k : Chain A) (p : Bool) (n : Next A) → AnswersOwn (linking_at c (links.Asking k)) (task_at c n.stage) (reply.LookedPrepared p) n.turn
+asked_own c k true n = λ d e alone. absurd (knows_more k alone.0 alone.1)
+asked_own c k false n = tt
+
 pub asked_steps : {A : Type 0} (told : Option Content) (c : Configured) (k : Chain A) (p : Bool) (n : Next A) → LeadsBy told c k.goal.q k.goal.request (chain_room k) (AskedTold k p) n → IsPlain n.turn → IsPast n.stage
     → Steps told (linking_at c (links.Asking k)) (reply.LookedPrepared p) n
-asked_steps {A = A} told c k true n l plain past = record {
-  leads = leads_more (task_room (linking_at c (links.Asking k))) (λ x. Tells {A = A} x (linking_at c (links.Asking k)) (reply.LookedPrepared true)) (λ x. TellsNow {A = A} x (linking_at c (links.Asking k)) (reply.LookedPrepared true)) l
-      (same_turns (chain_left (behind k) + 1)) (fewer_calls told c (λ x. TellsNow {A = A} x (linking_at c (links.Asking k)) (reply.LookedPrepared true)) k.goal.request 1 (chain_calls k.whole.value k.place + 1) (chain_calls k.whole.value k.place + 2) (one_asked (chain_calls k.whole.value k.place))) (λ x h. asked_told c k true x h) (λ x h. asked_told c k true x h.told);
-  refused = plain_no_fault n.turn plain;
-  linkage = tt;
-  blames = tt;
-  lacks = λ h. tt;
-  reads = plain_reads {A = A} (linking_at c (links.Asking k)) (reply.LookedPrepared true) n.turn plain;
-  derives = past_derives (WasAbsent {A = A} (linking_at c (links.Asking k)) (reply.LookedPrepared true)) [] n.stage past;
-  own = λ d e alone. absurd (knows_more k alone.0 alone.1);
-}
-asked_steps {A = A} told c k false n l plain past = record {
-  leads = leads_more (task_room (linking_at c (links.Asking k))) (λ x. Tells {A = A} x (linking_at c (links.Asking k)) (reply.LookedPrepared false)) (λ x. TellsNow {A = A} x (linking_at c (links.Asking k)) (reply.LookedPrepared false)) l
-      (same_turns (chain_left (behind k) + 1)) (fewer_calls told c (λ x. TellsNow {A = A} x (linking_at c (links.Asking k)) (reply.LookedPrepared false)) k.goal.request 1 (chain_calls k.whole.value k.place + 1) (chain_calls k.whole.value k.place + 2) (one_asked (chain_calls k.whole.value k.place))) (λ x h. asked_told c k false x h) (λ x h. asked_told c k false x h.told);
-  refused = plain_no_fault n.turn plain;
-  linkage = tt;
-  blames = tt;
-  lacks = λ h. tt;
-  reads = plain_reads {A = A} (linking_at c (links.Asking k)) (reply.LookedPrepared false) n.turn plain;
-  derives = past_derives (WasAbsent {A = A} (linking_at c (links.Asking k)) (reply.LookedPrepared false)) [] n.stage past;
-  own = tt;
-}
+asked_steps told c k p n l plain past =
+    plain_steps (linking_at c (links.Asking k)) (reply.LookedPrepared p) n refl refl refl l (same_turns (chain_left (behind k) + 1)) (fewer_calls told c _ k.goal.request 1 (chain_calls k.whole.value k.place + 1) (chain_calls k.whole.value k.place + 2) (one_asked (chain_calls k.whole.value k.place)))
+    (λ x h. asked_told c k p x h) tt tt (λ h. tt) (past_derives _ [] n.stage past) (asked_own c k p n) plain
 
 -- ---- lineages
 
 pub whole_steps : {A : Type 0} (told : Option Content) (c : Configured) (g : Goal A) (whole : Arc Lined Global) (n : Next A) → LeadsBy told c g.q g.request whole_room (WholeTold g whole.value) n → IsPlain n.turn → IsPast n.stage
     → Steps told (linking_at c (links.TracingWhole g)) (reply.Lineage whole) n
-whole_steps {A = A} told c g whole n l plain past =
-    let tells : (x : Shown) → Tells {A = A} x (linking_at c (links.TracingWhole g)) (reply.Lineage whole) → WholeTold g whole.value x = λ x h. record { before = h.before.facts; now = h.now } in
-    record {
-      leads = leads_more (task_room (linking_at c (links.TracingWhole g))) (λ x. Tells {A = A} x (linking_at c (links.TracingWhole g)) (reply.Lineage whole)) (λ x. TellsNow {A = A} x (linking_at c (links.TracingWhole g)) (reply.Lineage whole)) l
-          (same_turns whole_left) (one_made told c (λ x. TellsNow {A = A} x (linking_at c (links.TracingWhole g)) (reply.Lineage whole)) g.request 2 1 2) tells (λ x h. tells x h.told);
-      refused = plain_no_fault n.turn plain;
-      linkage = tt;
-      blames = tt;
-      lacks = λ h. tt;
-      reads = plain_reads {A = A} (linking_at c (links.TracingWhole g)) (reply.Lineage whole) n.turn plain;
-      derives = past_derives (WasAbsent {A = A} (linking_at c (links.TracingWhole g)) (reply.Lineage whole)) [] n.stage past;
-      own = tt;
-    }
+whole_steps told c g whole n l plain past =
+    plain_steps (linking_at c (links.TracingWhole g)) (reply.Lineage whole) n refl refl refl l (same_turns whole_left) (one_made told c _ g.request 2 1 2)
+    (λ x h. record { before = h.before.facts; now = h.now }) tt tt (λ h. tt) (past_derives _ [] n.stage past) tt plain
 
 pub traced_steps : {A : Type 0} (told : Option Content) (c : Configured) (k : Chain A) (at : Arc Lined Global) (n : Next A) → LeadsBy told c k.goal.q k.goal.request (listed_room k) (LineageTold k at.value) n → IsPlain n.turn → IsPast n.stage
     → Steps told (linking_at c (links.Tracing k)) (reply.Lineage at) n
-traced_steps {A = A} told c k at n l plain past =
-    let tells : (x : Shown) → Tells {A = A} x (linking_at c (links.Tracing k)) (reply.Lineage at) → LineageTold k at.value x = λ x h. record { before = h.before.facts; now = h.now } in
-    record {
-      leads = leads_more (task_room (linking_at c (links.Tracing k))) (λ x. Tells {A = A} x (linking_at c (links.Tracing k)) (reply.Lineage at)) (λ x. TellsNow {A = A} x (linking_at c (links.Tracing k)) (reply.Lineage at)) l
-          (same_turns (chain_left (behind k))) (one_made told c (λ x. TellsNow {A = A} x (linking_at c (links.Tracing k)) (reply.Lineage at)) k.goal.request 0 0 (chain_calls k.whole.value k.place)) tells (λ x h. tells x h.told);
-      refused = plain_no_fault n.turn plain;
-      linkage = tt;
-      blames = tt;
-      lacks = λ h. tt;
-      reads = plain_reads {A = A} (linking_at c (links.Tracing k)) (reply.Lineage at) n.turn plain;
-      derives = past_derives (WasAbsent {A = A} (linking_at c (links.Tracing k)) (reply.Lineage at)) [] n.stage past;
-      own = tt;
-    }
+traced_steps told c k at n l plain past =
+    plain_steps (linking_at c (links.Tracing k)) (reply.Lineage at) n refl refl refl l (same_turns (chain_left (behind k))) (one_made told c _ k.goal.request 0 0 (chain_calls k.whole.value k.place))
+    (λ x h. record { before = h.before.facts; now = h.now }) tt tt (λ h. tt) (past_derives _ [] n.stage past) tt plain
 
 -- ---- equalities
 
@@ -175,21 +126,10 @@ one_imposed a m p lt = omega (arith, lt)
 
 pub imposed_steps : {A : Type 0} (told : Option Content) (c : Configured) (k : Chain A) (e : Arc Listed Global) (i : ℕ) (n : Next A) → IsAtPlace k e.value → i < length e.value.needs
     → LeadsBy told c k.goal.q k.goal.request (linking_room k e.value (i + 1)) (ListTold k e.value (i + 1)) n → IsPlain n.turn → IsPast n.stage → Steps told (linking_at c (links.Imposing k e i)) reply.Imposed n
-imposed_steps {A = A} told c k e i n place lt l plain past =
-    let tells : (x : Shown) → Tells {A = A} x (linking_at c (links.Imposing k e i)) reply.Imposed → ListTold k e.value (i + 1) x = λ x h. imposed_told k e.value i x (slice_get e.value.needs i) refl lt place h.before.facts h.now in
-    record {
-      leads = leads_more (task_room (linking_at c (links.Imposing k e i))) (λ x. Tells {A = A} x (linking_at c (links.Imposing k e i)) reply.Imposed) (λ x. TellsNow {A = A} x (linking_at c (links.Imposing k e i)) reply.Imposed) l
-          (next_less (chain_left (behind k - 1)) (length e.value.needs) i lt)
-          (fewer_calls told c (λ x. TellsNow {A = A} x (linking_at c (links.Imposing k e i)) reply.Imposed) k.goal.request 1 (list_calls k.whole.value k.place (length e.value.needs - (i + 1))) (list_calls k.whole.value k.place (length e.value.needs - i))
-          (one_imposed (chain_calls k.whole.value (k.place + 1)) (length e.value.needs) i lt)) tells (λ x h. tells x h.told);
-      refused = plain_no_fault n.turn plain;
-      linkage = tt;
-      blames = tt;
-      lacks = λ h. tt;
-      reads = plain_reads {A = A} (linking_at c (links.Imposing k e i)) reply.Imposed n.turn plain;
-      derives = past_derives (WasAbsent {A = A} (linking_at c (links.Imposing k e i)) reply.Imposed) [] n.stage past;
-      own = tt;
-    }
+imposed_steps told c k e i n place lt l plain past =
+    plain_steps (linking_at c (links.Imposing k e i)) reply.Imposed n refl refl refl l (next_less (chain_left (behind k - 1)) (length e.value.needs) i lt)
+    (fewer_calls told c _ k.goal.request 1 (list_calls k.whole.value k.place (length e.value.needs - (i + 1))) (list_calls k.whole.value k.place (length e.value.needs - i)) (one_imposed (chain_calls k.whole.value (k.place + 1)) (length e.value.needs) i lt))
+    (λ x h. imposed_told k e.value i x (slice_get e.value.needs i) refl lt place h.before.facts h.now) tt tt (λ h. tt) (past_derives _ [] n.stage past) tt plain
 
 one_less : (a m : ℕ) → 1 ≤ a + (m + 1)
 one_less a m = omega arith
@@ -199,20 +139,10 @@ two_more a m = omega arith
 
 pub refused_steps : {A : Type 0} (told : Option Content) (c : Configured) (k : Chain A) (e : Arc Listed Global) (i : ℕ) (need : rust.Need) (n : Next A)
     → LeadsBy told c k.goal.q k.goal.request last_room (RefusedTold k e.value i (need_of need)) n → IsPlain n.turn → IsPast n.stage → EndsAsRefused k.goal.request need n.turn → (Posts answers.Memory n.turn → ⊥) → Steps told (linking_at c (links.Imposing k e i)) (reply.Refused need) n
-refused_steps {A = A} told c k e i need n l plain past ends posts =
-    let tells : (x : Shown) → Tells {A = A} x (linking_at c (links.Imposing k e i)) (reply.Refused need) → RefusedTold k e.value i (need_of need) x = λ x h. record { before = h.before.facts; now = h.now } in
-    record {
-      leads = leads_more (task_room (linking_at c (links.Imposing k e i))) (λ x. Tells {A = A} x (linking_at c (links.Imposing k e i)) (reply.Refused need)) (λ x. TellsNow {A = A} x (linking_at c (links.Imposing k e i)) (reply.Refused need)) l
-          (one_less (chain_left (behind k - 1)) (length e.value.needs - i))
-          (post_calls told c (λ x. TellsNow {A = A} x (linking_at c (links.Imposing k e i)) (reply.Refused need)) k.goal.request 1 0 0 (list_calls k.whole.value k.place (length e.value.needs - i)) (two_more (chain_calls k.whole.value (k.place + 1)) (length e.value.needs - i))) tells (λ x h. tells x h.told);
-      refused = plain_no_fault n.turn plain;
-      linkage = ends;
-      blames = tt;
-      lacks = λ h. absurd (posts h);
-      reads = plain_reads {A = A} (linking_at c (links.Imposing k e i)) (reply.Refused need) n.turn plain;
-      derives = past_derives (WasAbsent {A = A} (linking_at c (links.Imposing k e i)) (reply.Refused need)) [] n.stage past;
-      own = tt;
-    }
+refused_steps told c k e i need n l plain past ends posts =
+    plain_steps (linking_at c (links.Imposing k e i)) (reply.Refused need) n refl refl refl l (one_less (chain_left (behind k - 1)) (length e.value.needs - i))
+    (post_calls told c _ k.goal.request 1 0 0 (list_calls k.whole.value k.place (length e.value.needs - i)) (two_more (chain_calls k.whole.value (k.place + 1)) (length e.value.needs - i)))
+    (λ x h. record { before = h.before.facts; now = h.now }) ends tt (λ h. absurd (posts h)) (past_derives _ [] n.stage past) tt plain
 
 -- ---- preparations
 
@@ -228,21 +158,10 @@ one_marked a = omega arith
 
 pub marked_steps : {A : Type 0} (told : Option Content) (c : Configured) (k : Chain A) (e : Arc Listed Global) (n : Next A) → IsChain c k → IsAtPlace k e.value
     → LeadsBy told c k.goal.q k.goal.request (marked_room k) (MarkedTold k) n → IsPlain n.turn → IsPast n.stage → Steps told (linking_at c (links.Marking k e)) reply.Marked n
-marked_steps {A = A} told c k e n chain place l plain past =
-    let tells : (x : Shown) → Tells {A = A} x (linking_at c (links.Marking k e)) reply.Marked → MarkedTold k x =
-    λ x h. record { before = list_chain x k e.value (length e.value.needs) h.before.facts; now = prepared_there c k e.value x chain place h.now } in
-    record {
-      leads = leads_more (task_room (linking_at c (links.Marking k e))) (λ x. Tells {A = A} x (linking_at c (links.Marking k e)) reply.Marked) (λ x. TellsNow {A = A} x (linking_at c (links.Marking k e)) reply.Marked) l
-          (same_turns (linking_left (behind k - 1) 0))
-          (fewer_calls told c (λ x. TellsNow {A = A} x (linking_at c (links.Marking k e)) reply.Marked) k.goal.request 1 (chain_calls k.whole.value (k.place + 1) + 1) (list_calls k.whole.value k.place 0) (one_marked (chain_calls k.whole.value (k.place + 1)))) tells (λ x h. tells x h.told);
-      refused = plain_no_fault n.turn plain;
-      linkage = tt;
-      blames = tt;
-      lacks = λ h. tt;
-      reads = plain_reads {A = A} (linking_at c (links.Marking k e)) reply.Marked n.turn plain;
-      derives = past_derives (WasAbsent {A = A} (linking_at c (links.Marking k e)) reply.Marked) [] n.stage past;
-      own = tt;
-    }
+marked_steps told c k e n chain place l plain past =
+    plain_steps (linking_at c (links.Marking k e)) reply.Marked n refl refl refl l (same_turns (linking_left (behind k - 1) 0))
+    (fewer_calls told c _ k.goal.request 1 (chain_calls k.whole.value (k.place + 1) + 1) (list_calls k.whole.value k.place 0) (one_marked (chain_calls k.whole.value (k.place + 1))))
+    (λ x h. record { before = list_chain x k e.value (length e.value.needs) h.before.facts; now = prepared_there c k e.value x chain place h.now }) tt tt (λ h. tt) (past_derives _ [] n.stage past) tt plain
 
 -- ---- memory
 

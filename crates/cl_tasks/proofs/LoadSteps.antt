@@ -50,9 +50,10 @@ use Rattle.cl_tasks.proofs.Deriving.{derived_first, derives_by, derives_more, pa
 use Rattle.cl_tasks.proofs.Fall.{joins_less}
 use Rattle.cl_tasks.proofs.Keep.{frame_kept, have_first, have_last}
 use Rattle.cl_tasks.proofs.Lacking.{fault_lacks, posts_one}
-use Rattle.cl_tasks.proofs.Lead.{job_some, leads_more, plain_no_fault, plain_reads}
+use Rattle.cl_tasks.proofs.Lead.{job_some, leads_more, plain_steps}
 use Rattle.cl_tasks.proofs.Moves.{Holds, defined_holds, fewer_holds, found_holds, initiated_holds, past_made, unfound_holds, unrecorded_holds}
 use Rattle.cl_tasks.proofs.Onward.{defining_calls, less_room}
+use Rattle.cl_tasks.proofs.TurnCases.{of_reads}
 
 -- under the configuration of the job's path
 at_config : {A : Type 0} (told : Option Content) (c : Configured) (d : Configured) (q : ℕ) (r : Request) (room : Room) (holds now : Shown → Type 0) (n : Next A) → d ≡ c → LeadsOn told d q r room holds now n → LeadsOn told c q r room holds now n
@@ -60,45 +61,18 @@ at_config told c d q r room holds now n e l = subst (λ (k : Configured). LeadsO
 
 -- a turn that reads for what is looked for, of which it was told that its loader has no record
 reads_along : {A : Type 0} (t : Tasked) (r : Reply A) (p : Pathed) (is : ℕ → Type 0) (u : Turn A) → WasAbsent t r (sought_class p) → ((l : ℕ) → is l → IsReadNext (way_of t.config (sought_class p)) r l) → ReadsAt p is u → ReadsUnrecorded t r u
-reads_along t r p is (turn.Look l n) absent next h = tt
-reads_along t r p is (turn.Read l n) absent next h = (sought_class p, absent, sym h.0, next l h.1)
-reads_along t r p is (turn.Define d) absent next h = tt
-reads_along t r p is (turn.Initiate i) absent next h = tt
-reads_along t r p is (turn.Lineage c) absent next h = tt
-reads_along t r p is (turn.LookReference c i) absent next h = tt
-reads_along t r p is (turn.Settle f) absent next h = tt
-reads_along t r p is (turn.Impose e k) absent next h = tt
-reads_along t r p is (turn.LookPrepared c) absent next h = tt
-reads_along t r p is (turn.Mark e) absent next h = tt
-reads_along t r p is (turn.Post f) absent next h = tt
+reads_along t r p is u absent next h = (of_reads u).0 t r (λ l n e. let k = subst (λ (v : Turn _). ReadsAt p is v) e h in (sought_class p, absent, sym k.0, next l k.1))
 
 posts_reads : {A : Type 0} (t : Tasked) (r : Reply A) (a : Answer) (u : Turn A) → Posts a u → ReadsUnrecorded t r u
-posts_reads t r a (turn.Look l n) h = tt
-posts_reads t r a (turn.Read l n) h = absurd h
-posts_reads t r a (turn.Define d) h = tt
-posts_reads t r a (turn.Initiate i) h = tt
-posts_reads t r a (turn.Lineage c) h = tt
-posts_reads t r a (turn.LookReference c i) h = tt
-posts_reads t r a (turn.Settle f) h = tt
-posts_reads t r a (turn.Impose e k) h = tt
-posts_reads t r a (turn.LookPrepared c) h = tt
-posts_reads t r a (turn.Mark e) h = tt
-posts_reads t r a (turn.Post f) h = tt
+posts_reads t r a u h = (of_reads u).0 t r (λ l n e. absurd (subst (λ (v : Turn _). Posts a v) e h))
 
 -- ---- the first turn
 
 pub steps_begun : {A : Type 0} (told : Option Content) (j : Job A) (n : Next A) → IsFirst j → IsFor j.request j.target j.path → LeadsAt told phases.Fresh j (HoldsOn j) n → LooksBy j n.stage n.turn → IsPlain n.turn → Derives IsNone (frames_of j.path) n.stage
     → Steps told (loading_at j.path.config (loads.Fresh j)) reply.Start n
-steps_begun {A = A} told j n first for l looks plain derives = record {
-  leads = leads_more (task_room (loading_at j.path.config (loads.Fresh j))) _ _ l (omega arith) (fewer_holds told j _ [] [] 0 1 1 (omega arith)) (λ x h. record { frames = h.before.frames; facts = h.before.facts }) (λ x h. record { frames = h.told.before.frames; facts = h.told.before.facts });
-  refused = plain_no_fault n.turn plain;
-  linkage = tt;
-  blames = tt;
-  lacks = λ h. tt;
-  reads = plain_reads {A = A} (loading_at j.path.config (loads.Fresh j)) reply.Start n.turn plain;
-  derives = derives_more IsNone (WasAbsent {A = A} (loading_at j.path.config (loads.Fresh j)) reply.Start) (frames_of j.path) n.stage (λ k e. absurd e) derives;
-  own = begins_own j.path.config j n.stage n.turn first for looks l.asks;
-}
+steps_begun told j n first for l looks plain derives =
+    plain_steps (loading_at j.path.config (loads.Fresh j)) reply.Start n refl refl refl l (omega arith) (fewer_holds told j _ [] [] 0 1 1 (omega arith))
+    (λ x h. record { frames = h.before.frames; facts = h.before.facts }) tt tt (λ h. tt) (derives_more IsNone _ (frames_of j.path) n.stage (λ k e. absurd e) derives) (begins_own j.path.config j n.stage n.turn first for looks l.asks) plain
 
 -- ---- a look where it is asked for
 
@@ -120,20 +94,10 @@ steps_unrecorded {A = A} told c j n e job path l no_fault derives reads = record
 
 pub steps_looked : {A : Type 0} (told : Option Content) (c : Configured) (j : Job A) (row : Arc (ClassRow A) Global) (n : Next A) → j.path.config ≡ c → IsPath told j.path → LeadsAt told phases.Initiating j (Finds j row.value) n → IsPlain n.turn
     → (IsOwnTarget j.target → j.path.frames ≡ [] → GoesOnWith j.request row.value.class (task_at c n.stage) n.turn) → Derives IsNone (frames_of j.path) n.stage → Steps told (loading_at c (loads.Looking j)) (reply.Looked (Some row)) n
-steps_looked {A = A} told c j row n e path l plain goes derives =
+steps_looked told c j row n e path l plain goes derives =
     let k : room_at phases.Initiating j 0 < room_at phases.Looking j 0 = less_room (past_left j.target) (left_at phases.Initiating (frames_of j.path) 0) (left_at phases.Looking (frames_of j.path) 0) (joins_less told j.path phases.Looking 0 0 path tt) in
-    record {
-      leads = at_config told c j.path.config j.q j.request (task_room (loading_at c (loads.Looking j))) _ _ n e
-          (leads_more (task_room (loading_at c (loads.Looking j))) _ _ l (omega arith) (fewer_holds told j _ [] [] 1 0 1 (omega arith)) (λ x h. record { before = record { frames = h.before.frames; facts = h.before.facts }; now = h.now })
-          (λ x h. record { before = record { frames = h.told.before.frames; facts = h.told.before.facts }; now = h.told.now }));
-      refused = plain_no_fault n.turn plain;
-      linkage = tt;
-      blames = tt;
-      lacks = λ h. tt;
-      reads = plain_reads {A = A} (loading_at c (loads.Looking j)) (reply.Looked (Some row)) n.turn plain;
-      derives = derives_more IsNone (WasAbsent {A = A} (loading_at c (loads.Looking j)) (reply.Looked (Some row))) (frames_of j.path) n.stage (λ k e. absurd e) derives;
-      own = looked_own c j row (task_at c n.stage) n.turn goes;
-    }
+    plain_steps (loading_at c (loads.Looking j)) (reply.Looked (Some row)) n e refl refl l (omega arith) (fewer_holds told j _ [] [] 1 0 1 (omega arith))
+    (λ x h. record { before = record { frames = h.before.frames; facts = h.before.facts }; now = h.now }) tt tt (λ h. tt) (derives_more IsNone _ (frames_of j.path) n.stage (λ k e. absurd e) derives) (looked_own c j row (task_at c n.stage) n.turn goes) plain
 
 -- ---- a read
 
@@ -181,16 +145,9 @@ home_calls {A = A} told j h (Some row) homing = found_holds told j h.place (λ x
 
 pub steps_home : {A : Type 0} (told : Option Content) (j : Job A) (h : Located) (o : Option (Arc (ClassRow A) Global)) (n : Next A) → IsFor j.request j.target j.path → IsHoming j h → LeadsHome told j h.place o (FindsHome j h o (λ r. r.value)) n → IsPlain n.turn
     → Derives (IsUnfound h o) (frames_of j.path) n.stage → Steps told (loading_at j.path.config (loads.Homing j h)) (reply.Looked o) n
-steps_home {A = A} told j h o n for homing l plain derives = record {
-  leads = leads_more (task_room (loading_at j.path.config (loads.Homing j h))) _ _ l (omega arith) (home_calls told j h o homing) (λ x t. home_finds x j.path.config j h o t) (λ x t. home_finds x j.path.config j h o t.told);
-  refused = plain_no_fault n.turn plain;
-  linkage = tt;
-  blames = tt;
-  lacks = λ h. tt;
-  reads = plain_reads {A = A} (loading_at j.path.config (loads.Homing j h)) (reply.Looked o) n.turn plain;
-  derives = derives_more (IsUnfound h o) (WasAbsent {A = A} (loading_at j.path.config (loads.Homing j h)) (reply.Looked o)) (frames_of j.path) n.stage (λ k e. home_absent j.path.config j h o homing.sought.name k e) derives;
-  own = home_any j.path.config j h o (task_at j.path.config n.stage) n.turn for homing;
-}
+steps_home told j h o n for homing l plain derives =
+    plain_steps (loading_at j.path.config (loads.Homing j h)) (reply.Looked o) n refl refl refl l (omega arith) (home_calls told j h o homing)
+    (λ x t. home_finds x j.path.config j h o t) tt tt (λ h. tt) (derives_more (IsUnfound h o) _ (frames_of j.path) n.stage (λ k e. home_absent j.path.config j h o homing.sought.name k e) derives) (home_any j.path.config j h o (task_at j.path.config n.stage) n.turn for homing) plain
 
 -- ---- a record of a class
 
@@ -212,17 +169,10 @@ defined_calls {A = A} told c j w row whole draft =
 pub steps_defined : {A : Type 0} (told : Option Content) (c : Configured) (j : Job A) (w : Framed) (row : Arc (ClassRow A) Global) (n : Next A) → j.path.config ≡ c → IsWhole told j.path w → IsDraft told w.draft → LeadsFrom told phases.Defining j w.draft.home.place (FindsBy j w.draft.home row.value) n
     → IsPlain n.turn → Derives IsNone (frames_of j.path) n.stage → IsFor j.request j.target j.path → (IsOwnTarget j.target → j.path.frames ≡ [] → w.draft.home.place ≡ at_loader j.path → GoesOnWith j.request row.value.class (task_at c n.stage) n.turn)
     → Steps told (loading_at c (loads.Defining j w)) (reply.Defined row) n
-steps_defined {A = A} told c j w row n e whole draft l plain derives for goes = record {
-  leads = at_config told c j.path.config j.q j.request (task_room (loading_at c (loads.Defining j w))) _ _ n e
-      (leads_more (task_room (loading_at c (loads.Defining j w))) _ _ l (omega arith) (defined_calls told c j w row whole draft) (λ x t. defined_finds told x c j w row whole draft t) (λ x t. defined_finds told x c j w row whole draft t.told));
-  refused = plain_no_fault n.turn plain;
-  linkage = tt;
-  blames = tt;
-  lacks = λ h. tt;
-  reads = plain_reads {A = A} (loading_at c (loads.Defining j w)) (reply.Defined row) n.turn plain;
-  derives = derives_by IsNone (WasAbsent {A = A} (loading_at c (loads.Defining j w)) (reply.Defined row)) (frames_of j.path ++ frame_of w ∷ []) (frames_of j.path) n.stage (λ k d. inl (derived_first (frames_of j.path) (frame_of w) k d)) (λ k e. absurd e) derives;
-  own = defined_own c j w row (task_at c n.stage) n.turn for (ap (λ (k : Class). k.loader) draft.placed) goes;
-}
+steps_defined told c j w row n e whole draft l plain derives for goes =
+    plain_steps (loading_at c (loads.Defining j w)) (reply.Defined row) n e refl refl l (omega arith) (defined_calls told c j w row whole draft)
+    (λ x t. defined_finds told x c j w row whole draft t) tt tt (λ h. tt)
+    (derives_by IsNone _ (frames_of j.path ++ frame_of w ∷ []) (frames_of j.path) n.stage (λ k d. inl (derived_first (frames_of j.path) (frame_of w) k d)) (λ k e. absurd e) derives) (defined_own c j w row (task_at c n.stage) n.turn for (ap (λ (k : Class). k.loader) draft.placed) goes) plain
 
 define_refused : {A : Type 0} (x : Shown) (c : Configured) (j : Job A) (w : Framed) (need : needs.Need) → need_of need ≡ next_need {A = A} (nexts.Define w) → Tells {A = A} x (loading_at c (loads.Defining j w)) (reply.Refused need) → RefusedOn {A = A} {B = A} j (nexts.Define w) x
 define_refused x c j w need is t = record {
@@ -233,18 +183,10 @@ define_refused x c j w need is t = record {
 
 pub steps_define_refused : {A : Type 0} (told : Option Content) (c : Configured) (j : Job A) (w : Framed) (need : needs.Need) (n : Next A) → j.path.config ≡ c → need_of need ≡ next_need {A = A} (nexts.Define w) → Leads told j (past_room j) (RefusedOn {A = A} {B = A} j (nexts.Define w)) n
     → IsPlain n.turn → EndsAsRefused j.request need n.turn → IsPast n.stage → (Posts answers.Memory n.turn → IsResolution j.request) → Steps told (loading_at c (loads.Defining j w)) (reply.Refused need) n
-steps_define_refused {A} told c j w need n e is l plain ends past lacks = record {
-  leads = at_config told c j.path.config j.q j.request (task_room (loading_at c (loads.Defining j w))) _ _ n e
-      (leads_more (task_room (loading_at c (loads.Defining j w))) _ _ l (omega arith)
-      (past_made told j _ [] (sought_ask j.path ∷ ask_for w.draft.class ∷ []) (1 + away_calls (at_loader j.path) w.draft.class.loader) (omega arith)) (λ x t. define_refused {A = A} x c j w need is t) (λ x t. define_refused {A = A} x c j w need is t.told));
-  refused = plain_no_fault n.turn plain;
-  linkage = ends;
-  blames = tt;
-  lacks = lacks;
-  reads = plain_reads {A = A} (loading_at c (loads.Defining j w)) (reply.Refused need) n.turn plain;
-  derives = past_derives (WasAbsent {A = A} (loading_at c (loads.Defining j w)) (reply.Refused need)) (frames_of j.path ++ frame_of w ∷ []) n.stage past;
-  own = tt;
-}
+steps_define_refused {A} told c j w need n e is l plain ends past lacks =
+    plain_steps (loading_at c (loads.Defining j w)) (reply.Refused need) n e refl refl l (omega arith)
+    (past_made told j _ [] (sought_ask j.path ∷ ask_for w.draft.class ∷ []) (1 + away_calls (at_loader j.path) w.draft.class.loader) (omega arith))
+    (λ x t. define_refused {A = A} x c j w need is t) ends tt lacks (past_derives _ _ n.stage past) tt plain
 
 -- ---- a record of the loader that was asked
 
@@ -256,18 +198,10 @@ initiated_finds x c j h row sought t = record {
 
 pub steps_initiated : {A : Type 0} (told : Option Content) (c : Configured) (j : Job A) (h : Arc (Home A) Global) (row : Arc (ClassRow A) Global) (n : Next A) → j.path.config ≡ c → IsSought j.path h.value → LeadsAt told phases.Initiating j (Finds j row.value) n → IsPlain n.turn
     → Derives IsNone (frames_of j.path) n.stage → (IsOwnTarget j.target → j.path.frames ≡ [] → GoesOnWith j.request row.value.class (task_at c n.stage) n.turn) → Steps told (loading_at c (loads.Initiating j h)) (reply.Initiated row) n
-steps_initiated {A = A} told c j h row n e sought l plain derives goes = record {
-  leads = at_config told c j.path.config j.q j.request (task_room (loading_at c (loads.Initiating j h))) _ _ n e
-      (leads_more (task_room (loading_at c (loads.Initiating j h))) _ _ l (omega arith)
-      (initiated_holds told j row.value.class.loader (λ x. TellsNow {A = A} x (loading_at c (loads.Initiating j h)) (reply.Initiated row)) (λ x t. (initiated_finds x c j h row sought t.told).now.recorded)) (λ x t. initiated_finds x c j h row sought t) (λ x t. initiated_finds x c j h row sought t.told));
-  refused = plain_no_fault n.turn plain;
-  linkage = tt;
-  blames = tt;
-  lacks = λ h. tt;
-  reads = plain_reads {A = A} (loading_at c (loads.Initiating j h)) (reply.Initiated row) n.turn plain;
-  derives = derives_more IsNone (WasAbsent {A = A} (loading_at c (loads.Initiating j h)) (reply.Initiated row)) (frames_of j.path) n.stage (λ k e. absurd e) derives;
-  own = initiated_own c j h row (task_at c n.stage) n.turn goes;
-}
+steps_initiated told c j h row n e sought l plain derives goes =
+    plain_steps (loading_at c (loads.Initiating j h)) (reply.Initiated row) n e refl refl l (omega arith)
+    (initiated_holds told j row.value.class.loader _ (λ x t. (initiated_finds x c j h row sought t.told).now.recorded))
+    (λ x t. initiated_finds x c j h row sought t) tt tt (λ h. tt) (derives_more IsNone _ (frames_of j.path) n.stage (λ k e. absurd e) derives) (initiated_own c j h row (task_at c n.stage) n.turn goes) plain
 
 initiate_refused : {A : Type 0} (x : Shown) (c : Configured) (j : Job A) (h : Arc (Home A) Global) (need : needs.Need) → need_of need ≡ next_need {A = A} (nexts.Initiate h) → Tells {A = A} x (loading_at c (loads.Initiating j h)) (reply.Refused need) → RefusedOn {A = A} {B = A} j (nexts.Initiate h) x
 initiate_refused x c j h need is t = record {
@@ -278,17 +212,9 @@ initiate_refused x c j h need is t = record {
 
 pub steps_initiate_refused : {A : Type 0} (told : Option Content) (c : Configured) (j : Job A) (h : Arc (Home A) Global) (need : needs.Need) (n : Next A) → j.path.config ≡ c → need_of need ≡ next_need {A = A} (nexts.Initiate h) → Leads told j (past_room j) (RefusedOn {A = A} {B = A} j (nexts.Initiate h)) n
     → IsPlain n.turn → EndsAsRefused j.request need n.turn → IsPast n.stage → (Posts answers.Memory n.turn → IsResolution j.request) → Steps told (loading_at c (loads.Initiating j h)) (reply.Refused need) n
-steps_initiate_refused {A} told c j h need n e is l plain ends past lacks = record {
-  leads = at_config told c j.path.config j.q j.request (task_room (loading_at c (loads.Initiating j h))) _ _ n e
-      (leads_more (task_room (loading_at c (loads.Initiating j h))) _ _ l (omega arith) (past_made told j _ [] (sought_ask j.path ∷ []) 1 (omega arith)) (λ x t. initiate_refused {A = A} x c j h need is t) (λ x t. initiate_refused {A = A} x c j h need is t.told));
-  refused = plain_no_fault n.turn plain;
-  linkage = ends;
-  blames = tt;
-  lacks = lacks;
-  reads = plain_reads {A = A} (loading_at c (loads.Initiating j h)) (reply.Refused need) n.turn plain;
-  derives = past_derives (WasAbsent {A = A} (loading_at c (loads.Initiating j h)) (reply.Refused need)) (frames_of j.path) n.stage past;
-  own = tt;
-}
+steps_initiate_refused {A} told c j h need n e is l plain ends past lacks =
+    plain_steps (loading_at c (loads.Initiating j h)) (reply.Refused need) n e refl refl l (omega arith) (past_made told j _ [] (sought_ask j.path ∷ []) 1 (omega arith))
+    (λ x t. initiate_refused {A = A} x c j h need is t) ends tt lacks (past_derives _ _ n.stage past) tt plain
 
 -- the need that was refused is that of the call
 pub need_is : {n m : Need} → Some n ≡ Some m → m ≡ n

@@ -23,14 +23,13 @@ use Rattle.cl_registry.proofs.Schedules.{some_at}
 use Rattle.cl_tasks.specs.Calls.{past_loads}
 use Rattle.cl_tasks.specs.Facts.{AreSo}
 use Rattle.cl_tasks.specs.Deriving.{IsPast}
-use Rattle.cl_tasks.specs.Follows.{EndsAsRefused, IsResolution, IsSettledOf, Tells, TellsNow}
+use Rattle.cl_tasks.specs.Follows.{EndsAsRefused, IsResolution, IsSettledOf, Tells}
 use Rattle.cl_tasks.specs.Measures.{imposing_left, settling_left, tracing_named_left, tracing_own_left}
 use Rattle.cl_tasks.specs.Resolving.{ImposedTold, OwnTold, RefusedTold, TracedTold}
 use Rattle.cl_tasks.specs.Rooms.{imposing_room, room_of, settle_room, tracing_named_room, tracing_own_room}
 use Rattle.cl_tasks.specs.Stages.{IsEntry, named_facts, resolving_at}
-use Rattle.cl_tasks.specs.Steps.{IsPlain, LeadsBy, Steps, task_room}
+use Rattle.cl_tasks.specs.Steps.{IsPlain, LeadsBy, Steps}
 use Rattle.cl_tasks.specs.Tasks.{HasLineage}
-use Rattle.cl_tasks.specs.Turns.{WasAbsent}
 use Rattle.cl_tasks.specs.declared.stage.Entry as entries
 use Rattle.cl_tasks.specs.declared.stage.Member.{Member}
 use Rattle.cl_tasks.specs.declared.stage.Next.{Next}
@@ -41,7 +40,7 @@ use Rattle.cl_tasks.specs.declared.turn.Turn.TheVariants as turn
 use Rattle.cl_tasks.proofs.Deriving.{past_derives}
 use Rattle.cl_tasks.proofs.Entries.{leads_shared}
 use Rattle.cl_tasks.proofs.Lacking.{shared_memory}
-use Rattle.cl_tasks.proofs.Lead.{leads_more, plain_no_fault, plain_reads}
+use Rattle.cl_tasks.proofs.Lead.{plain_steps}
 use Rattle.cl_tasks.proofs.LinkFacts.{met_more}
 use Rattle.cl_tasks.proofs.MemberFacts.{member_imposed, member_needs, member_of, member_own, member_through, traced_as}
 
@@ -52,39 +51,18 @@ same_room m = omega arith
 
 pub own_steps : {A : Type 0} (told : Option Content) (c : Configured) (e : entries.Entry A) (k : Arc Rowed Global) (own : Arc Lined Global) (n : Next A) → LeadsBy told c e.q e.request tracing_own_room (OwnTold e k.value own.value) n → IsPlain n.turn → IsPast n.stage
     → Steps told (resolving_at c (resolutions.TracingOwn e k)) (reply.Lineage own) n
-own_steps {A = A} told c e k own n l plain past =
-    let tells : (x : Shown) → Tells {A = A} x (resolving_at c (resolutions.TracingOwn e k)) (reply.Lineage own) → OwnTold e k.value own.value x = λ x h. record { before = h.before.facts; now = h.now } in
-    record {
-      leads = leads_more (task_room (resolving_at c (resolutions.TracingOwn e k))) (λ x. Tells {A = A} x (resolving_at c (resolutions.TracingOwn e k)) (reply.Lineage own)) (λ x. TellsNow {A = A} x (resolving_at c (resolutions.TracingOwn e k)) (reply.Lineage own)) l
-          (same_room tracing_own_left) (λ g x p served is h. omega arith) tells (λ x h. tells x h.told);
-      refused = plain_no_fault n.turn plain;
-      linkage = tt;
-      blames = tt;
-      lacks = λ h. tt;
-      reads = plain_reads {A = A} (resolving_at c (resolutions.TracingOwn e k)) (reply.Lineage own) n.turn plain;
-      derives = past_derives (WasAbsent {A = A} (resolving_at c (resolutions.TracingOwn e k)) (reply.Lineage own)) [] n.stage past;
-      own = tt;
-    }
+own_steps told c e k own n l plain past =
+    plain_steps (resolving_at c (resolutions.TracingOwn e k)) (reply.Lineage own) n refl refl refl l (same_room tracing_own_left) (λ g x p served is h. omega arith)
+    (λ x h. record { before = h.before.facts; now = h.now }) tt tt (λ h. tt) (past_derives _ [] n.stage past) tt plain
 
 pub named_steps : {A : Type 0} (told : Option Content) (c : Configured) (e : entries.Entry A) (own : Arc Lined Global) (k : Arc Rowed Global) (named : Arc Lined Global) (n : Next A) → named.value.own.class ≡ k.value.class
     → LeadsBy told c e.q e.request tracing_named_room (TracedTold e own.value named.value) n → IsPlain n.turn → IsPast n.stage → Steps told (resolving_at c (resolutions.TracingNamed e own k)) (reply.Lineage named) n
-named_steps {A = A} told c e own k named n is l plain past =
-    let tells : (x : Shown) → Tells {A = A} x (resolving_at c (resolutions.TracingNamed e own k)) (reply.Lineage named) → TracedTold e own.value named.value x =
-    λ x h. record {
+named_steps told c e own k named n is l plain past =
+    plain_steps (resolving_at c (resolutions.TracingNamed e own k)) (reply.Lineage named) n refl refl refl l (same_room tracing_named_left) (λ g x p served is h. omega arith)
+    (λ x h. record {
       before = subst (λ (j : Class). AreSo x (named_facts e.request e.d.value.class j ++ HasLineage own.value ∷ [])) (sym is) h.before.facts;
       now = traced_as x k.value.class named.value h.now;
-    } in
-    record {
-      leads = leads_more (task_room (resolving_at c (resolutions.TracingNamed e own k))) (λ x. Tells {A = A} x (resolving_at c (resolutions.TracingNamed e own k)) (reply.Lineage named)) (λ x. TellsNow {A = A} x (resolving_at c (resolutions.TracingNamed e own k)) (reply.Lineage named)) l
-          (same_room tracing_named_left) (λ g x p served is h. omega arith) tells (λ x h. tells x h.told);
-      refused = plain_no_fault n.turn plain;
-      linkage = tt;
-      blames = tt;
-      lacks = λ h. tt;
-      reads = plain_reads {A = A} (resolving_at c (resolutions.TracingNamed e own k)) (reply.Lineage named) n.turn plain;
-      derives = past_derives (WasAbsent {A = A} (resolving_at c (resolutions.TracingNamed e own k)) (reply.Lineage named)) [] n.stage past;
-      own = tt;
-    }
+    }) tt tt (λ h. tt) (past_derives _ [] n.stage past) tt plain
 
 -- ---- equalities
 
@@ -99,38 +77,18 @@ next_less m p lt = omega (arith, lt)
 
 pub imposed_steps : {A : Type 0} (told : Option Content) (c : Configured) (m : Member A) (i : ℕ) (n : Next A) → i < length m.equalities.value.needs
     → LeadsBy told c m.entry.q m.entry.request (imposing_room m (i + 1)) (ImposedTold m (i + 1)) n → IsPlain n.turn → IsPast n.stage → Steps told (resolving_at c (resolutions.Imposing m i)) reply.Imposed n
-imposed_steps {A = A} told c m i n lt l plain past =
-    let tells : (x : Shown) → Tells {A = A} x (resolving_at c (resolutions.Imposing m i)) reply.Imposed → ImposedTold m (i + 1) x = λ x h. imposed_told m i x lt h.before.facts h.now in
-    record {
-      leads = leads_more (task_room (resolving_at c (resolutions.Imposing m i))) (λ x. Tells {A = A} x (resolving_at c (resolutions.Imposing m i)) reply.Imposed) (λ x. TellsNow {A = A} x (resolving_at c (resolutions.Imposing m i)) reply.Imposed) l
-          (next_less (length m.equalities.value.needs) i lt) (λ g x p served is h. omega arith) tells (λ x h. tells x h.told);
-      refused = plain_no_fault n.turn plain;
-      linkage = tt;
-      blames = tt;
-      lacks = λ h. tt;
-      reads = plain_reads {A = A} (resolving_at c (resolutions.Imposing m i)) reply.Imposed n.turn plain;
-      derives = past_derives (WasAbsent {A = A} (resolving_at c (resolutions.Imposing m i)) reply.Imposed) [] n.stage past;
-      own = tt;
-    }
+imposed_steps told c m i n lt l plain past =
+    plain_steps (resolving_at c (resolutions.Imposing m i)) reply.Imposed n refl refl refl l (next_less (length m.equalities.value.needs) i lt) (λ g x p served is h. omega arith)
+    (λ x h. imposed_told m i x lt h.before.facts h.now) tt tt (λ h. tt) (past_derives _ [] n.stage past) tt plain
 
 two_less : (m p : ℕ) → p < m → 2 ≤ imposing_left (m - p)
 two_less m p lt = omega (arith, lt)
 
 pub refused_steps : {A : Type 0} (told : Option Content) (c : Configured) (m : Member A) (i : ℕ) (need : rust.Need) (n : Next A) → i < length m.equalities.value.needs
     → LeadsBy told c m.entry.q m.entry.request settle_room (RefusedTold m i (need_of need)) n → IsPlain n.turn → IsPast n.stage → EndsAsRefused m.entry.request need n.turn → IsResolution m.entry.request → Steps told (resolving_at c (resolutions.Imposing m i)) (reply.Refused need) n
-refused_steps {A = A} told c m i need n lt l plain past ends resolves =
-    let tells : (x : Shown) → Tells {A = A} x (resolving_at c (resolutions.Imposing m i)) (reply.Refused need) → RefusedTold m i (need_of need) x = λ x h. record { before = h.before.facts; now = h.now } in
-    record {
-      leads = leads_more (task_room (resolving_at c (resolutions.Imposing m i))) (λ x. Tells {A = A} x (resolving_at c (resolutions.Imposing m i)) (reply.Refused need)) (λ x. TellsNow {A = A} x (resolving_at c (resolutions.Imposing m i)) (reply.Refused need)) l
-          (two_less (length m.equalities.value.needs) i lt) (λ g x p served is h. omega arith) tells (λ x h. tells x h.told);
-      refused = plain_no_fault n.turn plain;
-      linkage = ends;
-      blames = tt;
-      lacks = λ h. resolves;
-      reads = plain_reads {A = A} (resolving_at c (resolutions.Imposing m i)) (reply.Refused need) n.turn plain;
-      derives = past_derives (WasAbsent {A = A} (resolving_at c (resolutions.Imposing m i)) (reply.Refused need)) [] n.stage past;
-      own = tt;
-    }
+refused_steps told c m i need n lt l plain past ends resolves =
+    plain_steps (resolving_at c (resolutions.Imposing m i)) (reply.Refused need) n refl refl refl l (two_less (length m.equalities.value.needs) i lt) (λ g x p served is h. omega arith)
+    (λ x h. record { before = h.before.facts; now = h.now }) ends tt (λ h. resolves) (past_derives _ [] n.stage past) tt plain
 
 -- ---- what is settled
 
@@ -143,13 +101,4 @@ settled_steps {A} told c e s entry =
     let holds : Shown → Type 0 = λ x. Tells {A = A} x (resolving_at c (resolutions.Settling e)) (reply.Settled s) in
     let kept : (x : Shown) → holds x → recorded (records_of x) (loader_of e.request) e.d.value.class.name ≡ Some e.d.value.class.loader = λ x h. h.before.facts.0 in
     let led = leads_shared A told c e.q e.request e.d.value.class e.index s (room_of settling_left (past_loads 0 0 1)) holds entry.of entry.asked kept (λ x h. settled_in x e.request e.d.value.class e.index s.value entry.of (kept x h) h.now) (omega arith) (λ w p s. omega arith) in
-    record {
-      leads = leads_more (task_room (resolving_at c (resolutions.Settling e))) holds (λ x. TellsNow {A = A} x (resolving_at c (resolutions.Settling e)) (reply.Settled s)) led (same_room settling_left) (λ g x p served is h. omega arith) (λ x h. h) (λ x h. h.told);
-      refused = tt;
-      linkage = tt;
-      blames = tt;
-      lacks = λ h. shared_memory s h;
-      reads = tt;
-      derives = tt;
-      own = inl refl;
-    }
+    plain_steps (resolving_at c (resolutions.Settling e)) (reply.Settled s) _ refl refl refl led (same_room settling_left) (λ g x p served is h. omega arith) (λ x h. h) tt tt (λ h. shared_memory s h) tt (inl refl) tt

@@ -31,7 +31,8 @@ use Rattle.cl_tasks.specs.Steps.{EndTold, EndWithin, EndsOn, HoldsOn}
 use Rattle.cl_tasks.specs.declared.stage.Job.{Job}
 use Rattle.cl_tasks.proofs.Ending.{Ended}
 use Rattle.cl_tasks.proofs.Keep.{all_kept}
-use Rattle.cl_tasks.proofs.Said.{IsRecordIn, said_of}
+use Rattle.cl_tasks.proofs.Said.{IsRecordIn}
+use Rattle.cl_findings.proofs.Plain.{grounded}
 
 -- what a job was told, as needs
 pub target_met : {A : Type 0} (x : Shown) (r : Request) (t : Target A) → AreSo x (target_facts r t) → AllMet (state_of x) (target_needs r t)
@@ -76,7 +77,7 @@ moved {n = n} e h = subst (λ (k : Configured). n < length k.loaders) e h
 
 -- the class that an obstacle is about is of a loader of the configuration
 end_within : {A : Type 0} (x : Shown) (r : Request) (t : Target A) (p : Pathed) (e : Obstacle A) → RecordedIsNamed → NamesLoaders x → p.config ≡ x.config → loader_of r < length p.config.loaders → at_loader p < length p.config.loaders → Stops p e
-    → EndWithin (length p.config.loaders) e → EndTold x p e → IsWithin (length x.config.loaders) (said_of r (verdict_at t p e) (basis_at r t p e))
+    → EndWithin (length p.config.loaders) e → EndTold x p e → IsWithin (length x.config.loaders) (grounded r (verdict_at t p e) (basis_at r t p e))
 end_within x r t p (obstacles.Missing u) law named config asked at stops within told = record {
   loader = moved config asked;
   answer = subst (λ (l : ℕ). l < length x.config.loaders) (sym stops.1) (moved config at);
@@ -103,8 +104,8 @@ obstacle_ends {A} told j e law job rests stops within = record {
   };
   failure = is_failure j.target j.path e;
   load = λ own.
-      subst (λ (v : verdict.Verdict). Rests told (said_of (load_of j.request) v (basis_at j.request j.target j.path e))) (own_verdict j.target j.path e own)
-      (subst (λ (b : Based). Rests told (said_of (load_of j.request) (verdict_at {A = A} targets.Own j.path e) b)) (own_basis j.request j.target j.path e own)
+      subst (λ (v : verdict.Verdict). Rests told (grounded (load_of j.request) v (basis_at j.request j.target j.path e))) (own_verdict j.target j.path e own)
+      (subst (λ (b : Based). Rests told (grounded (load_of j.request) (verdict_at {A = A} targets.Own j.path e) b)) (own_basis j.request j.target j.path e own)
       (rests (load_of j.request) targets.Own (own_for j.request j.target j.path own job.for_request) tt));
   record_is = tt;
   facts = λ x h. h.0.facts;
@@ -130,7 +131,7 @@ entry_within count (nexts.Initiate i) loader name home e h = let same : loader �
 
 -- so the answer names loaders of the configuration alone
 next_within : {A : Type 0} (told : Option Content) (count : ℕ) (r : Request) (t : Target A) (p : Pathed) (n : NextRecord A) (need : rust.Need) → loader_of r < count → need_of need ≡ next_need n → NextWithin count n
-    → IsWithin count (said_of r (verdicts.Linkage need) (refused_at r t p n))
+    → IsWithin count (grounded r (verdicts.Linkage need) (refused_at r t p n))
 next_within told count r t p n (needs.Entry loader name home) asked is within = record { loader = asked; answer = entry_within count n loader name home is within }
 next_within told count r t p n (needs.Equal e) asked is within = absurd (equal_apart n e.name e.one e.other is)
 
@@ -144,11 +145,11 @@ refusal_ends {A} told j n need job rests is within = record {
     unprepared = refl;
     needs = λ x h. path_met x j (next_needs n) h.before h.needs;
     refused = λ x h. h.refused;
-    within = λ x config named h. subst (λ (k : Configured). IsWithin (length k.loaders) (said_of j.request (verdicts.Linkage need) (refused_at j.request j.target j.path n))) (sym config) (next_within told (length j.path.config.loaders) j.request j.target j.path n need job.asked is within);
+    within = λ x config named h. subst (λ (k : Configured). IsWithin (length k.loaders) (grounded j.request (verdicts.Linkage need) (refused_at j.request j.target j.path n))) (sym config) (next_within told (length j.path.config.loaders) j.request j.target j.path n need job.asked is within);
   };
   failure = tt;
   load = λ own.
-      subst (λ (b : Based). Rests told (said_of (load_of j.request) (verdicts.Linkage need) b)) (own_refused j.request j.target j.path n own)
+      subst (λ (b : Based). Rests told (grounded (load_of j.request) (verdicts.Linkage need) b)) (own_refused j.request j.target j.path n own)
       (rests (load_of j.request) targets.Own need (own_for j.request j.target j.path own job.for_request) tt is);
   record_is = next_record n;
   facts = λ x h. h.before.facts;

@@ -19,8 +19,9 @@ use Rattle.cl_hierarchy.specs.Paths.{Pathed, at_loader, at_name}
 use Rattle.cl_tasks.specs.Turns.{IsBehind}
 use Rattle.cl_tasks.specs.declared.stage.Job.{Job}
 use Rattle.cl_tasks.specs.declared.turn.Turn.{Turn}
-use Rattle.cl_tasks.specs.declared.turn.Turn.TheVariants as turn
-use Rattle.std.proofs.lemmas.Option.{none-some}
+use Rattle.std.proofs.lemmas.Option.{none-some, slice_get-map, slice_get_within}
+use Rattle.std.proofs.lemmas.List.{append-nil}
+use Rattle.cl_tasks.proofs.TurnCases.{of_reads}
 
 -- a way goes through the first so many loaders alone, and is no longer
 record IsShort (n : ℕ) (way : List ℕ) : Type 0 where
@@ -51,13 +52,9 @@ plus_own n ChildFirst above h = record {
 none_short : (n : ℕ) → IsShort n []
 none_short n = record { short = omega arith; below = tt }
 
-append_none : (xs : List ℕ) → xs ++ [] ≡ xs
-append_none [] = refl
-append_none (x ∷ xs) = ap (λ (ys : List ℕ). x ∷ ys) (append_none xs)
-
 above_short : (n : ℕ) (earlier : ℕ → List ℕ) (parent : Option ℕ) → ((l : ℕ) → IsShort n (earlier l)) → IsShort n (flat_map earlier (parents_of parent))
 above_short n earlier None h = none_short n
-above_short n earlier (Some l) h = subst (λ (way : List ℕ). IsShort n way) (sym (append_none (earlier l))) (h l)
+above_short n earlier (Some l) h = subst (λ (way : List ℕ). IsShort n way) (sym (append-nil (earlier l))) (h l)
 
 at_short : (n : ℕ) (name : Name) (earlier : ℕ → List ℕ) (l : views.Loader) → ((k : ℕ) → IsShort n (earlier k)) → IsShort (suc n) (route_at name earlier n (loader_of l))
 at_short n name earlier l h = step (decisive (loader_of l).imports name)
@@ -70,16 +67,11 @@ taken : (n : ℕ) (name : Name) (earlier : ℕ → List ℕ) (o : Option views.L
 taken n name earlier None h = none_short (suc n)
 taken n name earlier (Some l) h = at_short n name earlier l h
 
-got : (ls : List views.Loader) (n : ℕ) → slice_get (loaders_of (record { loaders = ls })) n ≡ option_map loader_of (slice_get ls n)
-got [] n = refl
-got (l ∷ ls) zero = refl
-got (l ∷ ls) (suc n) = got ls n
-
 one_more : (c : Configured) (name : Name) (n loader : ℕ) → ((k : ℕ) → IsShort n (route_below (loaders_of c) name n k)) → IsShort (suc n) (route_below (loaders_of c) name (suc n) loader)
 one_more c name n loader h = step (loader == n)
   where
     step : (b : Bool) → IsShort (suc n) (elim b [ true ↦ routed (option_map (route_at name (route_below (loaders_of c) name n) n) (slice_get (loaders_of c) n)) | false ↦ route_below (loaders_of c) name n loader ])
-    step true = subst (λ (o : Option Loader). IsShort (suc n) (routed (option_map (route_at name (route_below (loaders_of c) name n) n) o))) (sym (got c.loaders n)) (taken n name (route_below (loaders_of c) name n) (slice_get c.loaders n) h)
+    step true = subst (λ (o : Option Loader). IsShort (suc n) (routed (option_map (route_at name (route_below (loaders_of c) name n) n) o))) (sym (slice_get-map loader_of c.loaders n)) (taken n name (route_below (loaders_of c) name n) (slice_get c.loaders n) h)
     step false = longer n (route_below (loaders_of c) name n loader) (h loader)
 
 below_short : (c : Configured) (name : Name) (n loader : ℕ) → IsShort n (route_below (loaders_of c) name n loader)
@@ -147,11 +139,6 @@ reads_more xs s l e = let k : reads_left s ≡ probes_left s + 1 = on_found (rou
     above : (a p r : ℕ) → r ≡ p + 1 → a + (p + 5) < a + (r + 5)
     above a p r h = omega arith
 
-before_end : (way : List ℕ) (i l : ℕ) → slice_get way i ≡ Some l → i < length way
-before_end [] i l e = absurd cc
-before_end (k ∷ ks) zero l e = omega arith
-before_end (k ∷ ks) (suc i) l e = let h = before_end ks i l e in omega arith
-
 none_found : (way : List ℕ) (i : ℕ) (found : Option Found) (l : ℕ) → next_on way i found ≡ Some l → found ≡ None
 none_found way i None l e = refl
 none_found way i (Some p) l e = absurd cc
@@ -164,7 +151,7 @@ takes_less s p l e = step p.bytes
     step (Some bytes) = omega arith
     step None =
         let f : s.found ≡ None = none_found (route_of s) (length s.absent) s.found l e in
-        let h = before_end (route_of s) (length s.absent) l (on_way (route_of s) (length s.absent) s.found l e) in
+        let h = slice_get_within (route_of s) (length s.absent) l (on_way (route_of s) (length s.absent) s.found l e) in
         let k : reads_on s.found (length (route_of s) - length (s.absent ++ p ∷ [])) ≡ (length (route_of s) - length (s.absent ++ p ∷ [])) + 1 = ap (λ (o : Option Found). reads_on o (length (route_of s) - length (s.absent ++ p ∷ []))) f in
         let n = length-append s.absent (p ∷ []) in
         omega (arith, h, k, n)
@@ -182,30 +169,10 @@ one_more_is n = omega arith
 
 -- a turn that reads nothing
 pub reads_none : {A : Type 0} (p : Pathed) (is : ℕ → Type 0) (u : Turn A) → IsPlain u → ReadsAt p is u
-reads_none p is (turn.Look l n) h = tt
-reads_none p is (turn.Read l n) h = absurd h
-reads_none p is (turn.Define d) h = tt
-reads_none p is (turn.Initiate i) h = tt
-reads_none p is (turn.Lineage c) h = tt
-reads_none p is (turn.LookReference c i) h = tt
-reads_none p is (turn.Settle f) h = tt
-reads_none p is (turn.Impose e k) h = tt
-reads_none p is (turn.LookPrepared c) h = tt
-reads_none p is (turn.Mark e) h = tt
-reads_none p is (turn.Post f) h = tt
+reads_none p is u h = (of_reads u).1 p is (λ l n e. absurd (subst (λ (v : Turn _). IsPlain v) e h))
 
 reads_more_so : {A : Type 0} (p : Pathed) (is so : ℕ → Type 0) (u : Turn A) → ((l : ℕ) → is l → so l) → ReadsAt p is u → ReadsAt p so u
-reads_more_so p is so (turn.Look l n) weaker h = tt
-reads_more_so p is so (turn.Read l n) weaker h = (h.0, weaker l h.1)
-reads_more_so p is so (turn.Define d) weaker h = tt
-reads_more_so p is so (turn.Initiate i) weaker h = tt
-reads_more_so p is so (turn.Lineage c) weaker h = tt
-reads_more_so p is so (turn.LookReference c i) weaker h = tt
-reads_more_so p is so (turn.Settle f) weaker h = tt
-reads_more_so p is so (turn.Impose e k) weaker h = tt
-reads_more_so p is so (turn.LookPrepared c) weaker h = tt
-reads_more_so p is so (turn.Mark e) weaker h = tt
-reads_more_so p is so (turn.Post f) weaker h = tt
+reads_more_so p is so u weaker h = (of_reads u).1 p so (λ l n e. let k = subst (λ (v : Turn _). ReadsAt p is v) e h in (k.0, weaker l k.1))
 
 -- a search that begins asks the first on its way
 pub reads_first : {A : Type 0} (p : Pathed) (s : Searched) (u : Turn A) → s ≡ begun p.config (at_loader p) (at_name p) → ReadsAt p (λ l. next_of s ≡ Some l) u → ReadsAt p (λ l. slice_get (way_on p) 0 ≡ Some l) u

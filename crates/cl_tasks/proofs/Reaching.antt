@@ -36,7 +36,7 @@ use Rattle.cl_tasks.specs.declared.stage.Entry as entries
 use Rattle.cl_tasks.specs.declared.stage.Job.{Job}
 use Rattle.cl_tasks.specs.Steps.{Finds, LeadsAt, LeadsBy}
 use Rattle.cl_tasks.specs.declared.stage.Next.{Next}
-use Rattle.cl_tasks.proofs.Lead.{HasPost, job_past, leads_by, leads_out}
+use Rattle.cl_tasks.proofs.Lead.{HasPost, job_past, leads_by, leads_out, leads_post}
 
 -- the loader that a request asks has recorded the class of this row for its name
 abbrev pub RowFor : Request → Rowed → Shown → Type 0
@@ -59,28 +59,21 @@ record_for : (x : Shown) (l : ℕ) (n : List ℕ) (row : Rowed) → IsRecordedAs
 record_for x l n row h = subst (λ (k : List ℕ). recorded (records_of x) l k ≡ Some row.class.loader) (sym h.named) h.recorded
 
 reaches_load : (A : Type 0) (told : Option Content) (c : Configured) (q l : ℕ) (n : List ℕ) (row : Arc (ClassRow A) Global) → l < length c.loaders → LeadsBy {A = A} told c q (requests.Load l n) (reached_room (requests.Load l n)) (RowFor (requests.Load l n) row.value) (reached q (requests.Load l n) row row.value.class)
-reaches_load A told c q l n row asked = record {
-  kept = tt;
-  number = refl;
-  asks = refl;
-  serves = refl;
-  left = omega arith;
-  calls = λ g x p served is h. omega arith;
-  keeps = λ x h. record { frames = tt; facts = tt };
-  backed = λ x config named consistent h. record {
-    within = record {
-      loader = subst (λ (k : Configured). l < length k.loaders) (sym config) asked;
-      answer = recorded_is_named x l row.value.class.loader n named h.recorded;
-    };
-    answer = record {
-      grounded = inl tt;
-      borne = λ d is. let same : row.value.class ≡ d = class_is row.value.class d is in (sym (ap (λ (k : Class). k.name) same) ∙ h.named, h.recorded ∙ ap (λ (k : Class). Some k.loader) same);
-    };
-  };
-  follows = λ g x served h.
-      load_comes g (state_of x) l n (IsClass row.value.class)
-      (subst (λ (k : Class). AnswersPlan g (state_of x) (plans.Load l n) (IsClass k)) (row_class x l n row.value h) (recorded_answers g (state_of x) l row.value.class.loader n served.sound.closed h.recorded));
-}
+reaches_load A told c q l n row asked =
+    leads_post refl (omega arith) (λ w p s. omega arith)
+    (λ x config named consistent h. record {
+      within = record {
+        loader = subst (λ (k : Configured). l < length k.loaders) (sym config) asked;
+        answer = recorded_is_named x l row.value.class.loader n named h.recorded;
+      };
+      answer = record {
+        grounded = inl tt;
+        borne = λ d is. let same : row.value.class ≡ d = class_is row.value.class d is in (sym (ap (λ (k : Class). k.name) same) ∙ h.named, h.recorded ∙ ap (λ (k : Class). Some k.loader) same);
+      };
+    })
+    (λ g x served h.
+    load_comes g (state_of x) l n (IsClass row.value.class)
+    (subst (λ (k : Class). AnswersPlan g (state_of x) (plans.Load l n) (IsClass k)) (row_class x l n row.value h) (recorded_answers g (state_of x) l row.value.class.loader n served.sound.closed h.recorded)))
   where
     class_is : (a b : Class) → IsClass a ≡ IsClass b → a ≡ b
     class_is a b e = cc

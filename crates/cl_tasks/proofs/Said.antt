@@ -1,5 +1,5 @@
 -- A verdict with what it rests on: the tables bear it, and where a content is told the service has come to it, or settles the reference to it.
-use Rattle.std.proofs.Common.{◌≡◌, ◌≢◌, ◌∙◌, ℕ, List, [], ◌∷◌, ◌++◌, length, Option, Some, None, inr, refl, sym, ap, subst}
+use Rattle.std.proofs.Common.{◌≡◌, ◌≢◌, ◌∙◌, ℕ, List, [], length, Option, Some, None, inr, refl, sym, ap, subst}
 use Rattle.std.specs.Prelude.{IfSome, Contains, option_map}
 use Rattle.std.specs.List.{AllByRecursion}
 use Rattle.cl_model.specs.declared.answer.Answer.{Answer}
@@ -13,9 +13,8 @@ use Rattle.cl_model.specs.Classes.{class}
 use Rattle.cl_model.specs.Content.{Content}
 use Rattle.cl_model.specs.Machine.{AnswersPlan, IsSound, Setting, Settle}
 use Rattle.cl_model.specs.Plans as plans
-use Rattle.cl_model.specs.Plans.{loaded_by}
 use Rattle.cl_model.specs.Service.{ComesTo, IsNextStep}
-use Rattle.cl_model.specs.States.{State, Need, Verdict, AllMet, Entry, Equal, IsClass, IsRecorded, Linkage, Met, Refused, recorded, settled_to}
+use Rattle.cl_model.specs.States.{State, Need, Verdict, AllMet, Entry, Equal, IsClass, Linkage, Refused, recorded, settled_to}
 use Rattle.cl_model.specs.States as states
 use Rattle.cl_model.specs.Tables.{Bears}
 use Rattle.cl_model.specs.Views.{request_of, verdict_of}
@@ -28,8 +27,8 @@ use Rattle.cl_model.proofs.Planned.{plan_exists}
 use Rattle.cl_model.proofs.Reached.{plan_is_reference}
 use Rattle.cl_model.proofs.Service.{load_comes, resolve_wants, said_comes}
 use Rattle.cl_model.proofs.Sound.{one_plan_answer}
-use Rattle.cl_model.proofs.Stacks.{refused_answers}
 use Rattle.cl_model.proofs.Tables.{reached_records, recorded_reached}
+use Rattle.cl_model.proofs.Progress.{met_split}
 use Rattle.cl_config.specs.Views.{Configured, Scripted}
 use Rattle.cl_delegation.specs.Worlds.{setting_of, world_of}
 use Rattle.cl_findings.specs.Findings.{Answered, Based, Concludes, HasImposed, IsBorne, IsWithin, Rests, VerdictRests, loader_of, name_of}
@@ -37,18 +36,16 @@ use Rattle.cl_registry.specs.Posting.{IsBacked}
 use Rattle.cl_registry.specs.References.{cited_by}
 use Rattle.cl_registry.specs.Settling as settling
 use Rattle.cl_registry.specs.Tables.{Shown, NamesLoaders, records_of, state_of}
-use Rattle.cl_registry.proofs.Binding.{array_is, bad_is}
+use Rattle.cl_registry.proofs.Binding.{apart_is}
 use Rattle.cl_tasks.specs.Follows.{IsSettledNext, ServedIn}
 use Rattle.cl_tasks.specs.Ends.{IsNoResolution}
 use Rattle.cl_tasks.specs.Stages.{IsFailure, load_of}
 use Rattle.std.proofs.lemmas.Option.{none-some}
-
--- a finding that says a verdict, with its basis
-abbrev pub said_of : Request → verdict.Verdict → Based → Answered
-said_of r v b = record { request = r; answer = answers.Said v; basis = Some b }
+use Rattle.cl_findings.proofs.Answered.{answered_by}
+use Rattle.cl_findings.proofs.Plain.{grounded}
 
 -- a finding is of its parts
-pub found_is : (f : Answered) (r : Request) (v : verdict.Verdict) (b : Based) → f.request ≡ r → f.answer ≡ answers.Said v → f.basis ≡ Some b → f ≡ said_of r v b
+pub found_is : (f : Answered) (r : Request) (v : verdict.Verdict) (b : Based) → f.request ≡ r → f.answer ≡ answers.Said v → f.basis ≡ Some b → f ≡ grounded r v b
 found_is f r v b request answer basis =
     ap (λ (q : Request). record { request = q; answer = f.answer; basis = f.basis }) request
     ∙ ap (λ (a : Answer). record { request = r; answer = a; basis = f.basis }) answer
@@ -58,12 +55,12 @@ found_is f r v b request answer basis =
 
 -- what a verdict rests on, where this holds: no class is to be prepared for it
 pub record Stood (told : Option Content) (c : Configured) (r : Request) (v : verdict.Verdict) (b : Based) (holds : Shown → Type 0) : Type 0 where
-  pub rests : Rests told (said_of r v b)
+  pub rests : Rests told (grounded r v b)
   pub config : b.config ≡ c
   pub unprepared : b.prepared ≡ []
   pub needs : (x : Shown) → holds x → AllMet (state_of x) b.needs
   pub refused : (x : Shown) → holds x → IfSome b.refused (Refused (state_of x))
-  pub within : (x : Shown) → x.config ≡ c → NamesLoaders x → holds x → IsWithin (length x.config.loaders) (said_of r v b)
+  pub within : (x : Shown) → x.config ≡ c → NamesLoaders x → holds x → IsWithin (length x.config.loaders) (grounded r v b)
 
 pub borne : (told : Option Content) (c : Configured) (r : Request) (v : verdict.Verdict) (b : Based) (holds : Shown → Type 0) → Stood told c r v b holds → (x : Shown) → x.config ≡ c → holds x → IsBorne x.config (state_of x) b
 borne told c r v b holds stood x config h = record {
@@ -75,12 +72,8 @@ borne told c r v b holds stood x config h = record {
 
 -- ---- where a content is told
 
-pub concluded : (g : Setting) (s : State) (q : plans.Request) (o : Option Need) (cs : List Class) (v : Verdict) → Concludes g.world s q o cs v → IfSome o (Refused s) → AnswersPlan g s q v
-concluded g s q None cs v h refused = answers_here g s q v h
-concluded g s q (Some n) cs v h refused = subst (λ (u : Verdict). AnswersPlan g s q u) (sym h.linkage) (refused_answers g s q n h.next refused)
-
 -- what rests on its basis is the conclusion, where that stands
-rests_concludes : (content : Content) (c : Configured) (script : Scripted) (s : State) (r : Request) (v : verdict.Verdict) (b : Based) → Rests (Some content) (said_of r v b) → b.config ≡ c → b.prepared ≡ [] → IsSound (setting_of c script content) s → AllMet s b.needs
+rests_concludes : (content : Content) (c : Configured) (script : Scripted) (s : State) (r : Request) (v : verdict.Verdict) (b : Based) → Rests (Some content) (grounded r v b) → b.config ≡ c → b.prepared ≡ [] → IsSound (setting_of c script content) s → AllMet s b.needs
     → Concludes (world_of c content) s (request_of r) b.refused b.prepared (verdict_of v)
 rests_concludes content c script s r v b rests config bare sound needs =
     let w : World = world_of c content in
@@ -88,11 +81,11 @@ rests_concludes content c script s r v b rests config bare sound needs =
     h.concludes s sound.closed (record { needs = needs; prepared = subst (λ (cs : List Class). AllByRecursion (HasImposed w s) cs) (sym bare) tt })
 
 -- the same where the request is served
-pub concludes_at : (told : Option Content) (c : Configured) (g : Setting) (s : State) (r : Request) (v : verdict.Verdict) (b : Based) → ServedIn told c g s → Rests told (said_of r v b) → b.config ≡ c → b.prepared ≡ [] → AllMet s b.needs
+pub concludes_at : (told : Option Content) (c : Configured) (g : Setting) (s : State) (r : Request) (v : verdict.Verdict) (b : Based) → ServedIn told c g s → Rests told (grounded r v b) → b.config ≡ c → b.prepared ≡ [] → AllMet s b.needs
     → Concludes g.world s (request_of r) b.refused b.prepared (verdict_of v)
 concludes_at told c g s r v b served rests config bare needs =
     subst (λ (k : Setting). Concludes k.world s (request_of r) b.refused b.prepared (verdict_of v)) (sym served.setting)
-    (rests_concludes served.content c served.script s r v b (subst (λ (t : Option Content). Rests t (said_of r v b)) served.told_so rests) config bare (subst (λ (k : Setting). IsSound k s) served.setting served.sound) needs)
+    (rests_concludes served.content c served.script s r v b (subst (λ (t : Option Content). Rests t (grounded r v b)) served.told_so rests) config bare (subst (λ (k : Setting). IsSound k s) served.setting served.sound) needs)
 
 -- the same of what stands
 pub stood_concludes : (told : Option Content) (c : Configured) (r : Request) (v : verdict.Verdict) (b : Based) (holds : Shown → Type 0) → Stood told c r v b holds → (g : Setting) (x : Shown) → ServedIn told c g (state_of x) → holds x
@@ -102,7 +95,7 @@ stood_concludes told c r v b holds stood g x served h = concludes_at told c g (s
 pub stood_answers : (told : Option Content) (c : Configured) (r : Request) (v : verdict.Verdict) (b : Based) (holds : Shown → Type 0) → Stood told c r v b holds → (g : Setting) (x : Shown) → ServedIn told c g (state_of x) → holds x
     → AnswersPlan g (state_of x) (request_of r) (verdict_of v)
 stood_answers told c r v b holds stood g x served h =
-    concluded g (state_of x) (request_of r) b.refused b.prepared (verdict_of v) (stood_concludes told c r v b holds stood g x served h) (stood.refused x h)
+    answered_by g (state_of x) (request_of r) b.refused b.prepared (verdict_of v) (stood_concludes told c r v b holds stood g x served h) (stood.refused x h)
 
 -- ---- references
 
@@ -120,7 +113,7 @@ cited_so x r d i l is kept =
 
 -- it may be settled in the tables
 pub may_settle : (told : Option Content) (c : Configured) (r : Request) (d : Class) (i : ℕ) (v : verdict.Verdict) (b : Based) (holds : Shown → Type 0) → Stood told c r v b holds → Settling r d i v holds → (x : Shown) → x.config ≡ c → NamesLoaders x → holds x
-    → settling.MaySettle x (said_of r v b)
+    → settling.MaySettle x (grounded r v b)
 may_settle told c r d i v b holds stood may x config named h = (
   record { class = d; index = i; verdict = v },
   record {
@@ -140,18 +133,18 @@ answer_settles g s l d i v sound kept answer is_entry is_member unsettled =
       recorded = sound.closed.own l d.loader d.name kept;
       unsettled = unsettled;
       answered = plan_is_reference g s l d.name i p.0 d (verdict_of v) p.1 at.0 at.1 answer;
-      is_entry = bad_is v is_entry;
-      is_class_member = array_is v is_member;
+      is_entry = (apart_is v).0 is_entry;
+      is_class_member = (apart_is v).1 is_member;
     })
 
 pub settled_next : (told : Option Content) (c : Configured) (r : Request) (d : Class) (i : ℕ) (v : verdict.Verdict) (b : Based) (holds : Shown → Type 0) → Stood told c r v b holds → Settling r d i v holds → (g : Setting) (x : Shown) → ServedIn told c g (state_of x) → holds x
-    → IsSettledNext g (state_of x) r (said_of r v b)
+    → IsSettledNext g (state_of x) r (grounded r v b)
 settled_next told c r d i v b holds stood may g x served h =
     let l = loader_of r in
     let s = state_of x in
     let q : Request = requests.Resolve l d.name i in
     let answer : AnswersPlan g s (request_of r) (verdict_of v) = stood_answers told c r v b holds stood g x served h in
-    subst (λ (k : Request). IsSettledNext g s k (said_of k v b)) (sym may.resolves)
+    subst (λ (k : Request). IsSettledNext g s k (grounded k v b)) (sym may.resolves)
     (record {
       class = d;
       kept = (refl, may.kept x h);
@@ -164,61 +157,32 @@ settled_next told c r d i v b holds stood may g x served h =
 -- ---- answers of loads and links
 
 pub failure_entry : (v : verdict.Verdict) → IsFailure v → v ≢ verdicts.BadEntry
-failure_entry (verdicts.Class k) h e = absurd h
-failure_entry (verdicts.Array n k) h e = absurd h
-failure_entry (verdicts.PrimitiveArray n p) h e = absurd h
-failure_entry (verdicts.Field k key) h e = absurd h
-failure_entry (verdicts.Method k key) h e = absurd h
-failure_entry (verdicts.Linked k) h e = absurd h
-failure_entry verdicts.BadEntry h e = absurd h
-failure_entry verdicts.ArrayMember h e = absurd h
-failure_entry (verdicts.Error kind c) h e = absurd cc
-failure_entry (verdicts.Linkage n) h e = absurd cc
+failure_entry v h e = subst IsFailure e h
 
 pub failure_member : (v : verdict.Verdict) → IsFailure v → v ≢ verdicts.ArrayMember
-failure_member (verdicts.Class k) h e = absurd h
-failure_member (verdicts.Array n k) h e = absurd h
-failure_member (verdicts.PrimitiveArray n p) h e = absurd h
-failure_member (verdicts.Field k key) h e = absurd h
-failure_member (verdicts.Method k key) h e = absurd h
-failure_member (verdicts.Linked k) h e = absurd h
-failure_member verdicts.BadEntry h e = absurd h
-failure_member verdicts.ArrayMember h e = absurd h
-failure_member (verdicts.Error kind c) h e = absurd cc
-failure_member (verdicts.Linkage n) h e = absurd cc
+failure_member v h e = subst IsFailure e h
 
-failure_class : (v : verdict.Verdict) (c : Class) → IsFailure v → verdict_of v ≡ IsClass c → ⊥
-failure_class (verdicts.Class k) c h e = absurd h
-failure_class (verdicts.Array n k) c h e = absurd h
-failure_class (verdicts.PrimitiveArray n p) c h e = absurd h
-failure_class (verdicts.Field k key) c h e = absurd h
-failure_class (verdicts.Method k key) c h e = absurd h
-failure_class (verdicts.Linked k) c h e = absurd h
-failure_class verdicts.BadEntry c h e = absurd h
-failure_class verdicts.ArrayMember c h e = absurd h
-failure_class (verdicts.Error kind d) c h e = absurd cc
-failure_class (verdicts.Linkage n) c h e = absurd cc
-
-failure_linked : (v : verdict.Verdict) (c : Class) → IsFailure v → verdict_of v ≡ states.IsLinked c → ⊥
-failure_linked (verdicts.Class k) c h e = absurd h
-failure_linked (verdicts.Array n k) c h e = absurd h
-failure_linked (verdicts.PrimitiveArray n p) c h e = absurd h
-failure_linked (verdicts.Field k key) c h e = absurd h
-failure_linked (verdicts.Method k key) c h e = absurd h
-failure_linked (verdicts.Linked k) c h e = absurd h
-failure_linked verdicts.BadEntry c h e = absurd h
-failure_linked verdicts.ArrayMember c h e = absurd h
-failure_linked (verdicts.Error kind d) c h e = absurd cc
-failure_linked (verdicts.Linkage n) c h e = absurd cc
+-- a failure is no class, and no linked class
+failure_of : (v : verdict.Verdict) (c : Class) → IsFailure v → (verdict_of v ≡ IsClass c → ⊥) × (verdict_of v ≡ states.IsLinked c → ⊥)
+failure_of (verdicts.Class k) c h = absurd h
+failure_of (verdicts.Array n k) c h = absurd h
+failure_of (verdicts.PrimitiveArray n p) c h = absurd h
+failure_of (verdicts.Field k key) c h = absurd h
+failure_of (verdicts.Method k key) c h = absurd h
+failure_of (verdicts.Linked k) c h = absurd h
+failure_of verdicts.BadEntry c h = absurd h
+failure_of verdicts.ArrayMember c h = absurd h
+failure_of (verdicts.Error kind d) c h = (λ e. absurd cc, λ e. absurd cc)
+failure_of (verdicts.Linkage n) c h = (λ e. absurd cc, λ e. absurd cc)
 
 -- the tables bear a failure of a request that is none to resolve
 failure_bears : (s : State) (r : Request) (v : verdict.Verdict) → IsNoResolution r → IsFailure v → Bears s (request_of r) (verdict_of v)
-failure_bears s (requests.Load l n) v apart h = λ c e. absurd (failure_class v c h e)
+failure_bears s (requests.Load l n) v apart h = λ c e. absurd ((failure_of v c h).0 e)
 failure_bears s (requests.Resolve l n i) v apart h = absurd apart
-failure_bears s (requests.Link l n) v apart h = λ c e. absurd (failure_linked v c h e)
+failure_bears s (requests.Link l n) v apart h = λ c e. absurd ((failure_of v c h).1 e)
 
 pub failure_backed : (told : Option Content) (c : Configured) (r : Request) (v : verdict.Verdict) (b : Based) (holds : Shown → Type 0) → Stood told c r v b holds → IsNoResolution r → IsFailure v → (x : Shown) → x.config ≡ c → NamesLoaders x → holds x
-    → IsBacked x (said_of r v b)
+    → IsBacked x (grounded r v b)
 failure_backed told c r v b holds stood apart failure x config named h = record {
   within = stood.within x config named h;
   answer = record {
@@ -239,7 +203,7 @@ IsRecordIn (Some (Equal name a b)) = ⊥
 pub record OwnFails (told : Option Content) (c : Configured) (r : Request) (v : verdict.Verdict) (b : Based) (holds : Shown → Type 0) : Type 0 where
   pub stood : Stood told c r v b holds
   pub failure : IsFailure v
-  pub load : Rests told (said_of (load_of r) v b)
+  pub load : Rests told (grounded (load_of r) v b)
   pub record_is : IsRecordIn b.refused
 
 -- where its load fails, the class of a request is not recorded
@@ -248,7 +212,7 @@ unrecorded g s l n v sound failure answer = step (recorded s.records l n) refl
   where
     step : (o : Option ℕ) → recorded s.records l n ≡ o → o ≡ None
     step None e = refl
-    step (Some place) e = absurd (failure_class v (class n place) failure (one_plan_answer g s (plans.Load l n) (verdict_of v) (IsClass (class n place)) answer (recorded_answers g s l place n sound.closed e)))
+    step (Some place) e = absurd ((failure_of v (class n place) failure).0 (one_plan_answer g s (plans.Load l n) (verdict_of v) (IsClass (class n place)) answer (recorded_answers g s l place n sound.closed e)))
 
 own_unrecorded : (told : Option Content) (c : Configured) (r : Request) (v : verdict.Verdict) (b : Based) (holds : Shown → Type 0) → OwnFails told c r v b holds → (g : Setting) (x : Shown) → ServedIn told c g (state_of x) → holds x
     → recorded (records_of x) (loader_of r) (name_of r) ≡ None
@@ -264,10 +228,6 @@ own_unrecorded told c r v b holds own g x served h =
     } in
     unrecorded g (state_of x) (loader_of r) (name_of r) v served.sound own.failure (stood_answers told c (load_of r) v b holds load g x served h)
 
-met_first : (s : State) (xs ys : List Need) → AllMet s (xs ++ ys) → AllMet s xs
-met_first s [] ys h = tt
-met_first s (x ∷ xs) ys h = (h.0, met_first s xs ys h.1)
-
 -- a link whose class is not recorded comes to it
 link_comes_so : (g : Setting) (s : State) (l : ℕ) (n : List ℕ) (o : Option Need) (cs : List Class) (v : Verdict) → recorded s.records l n ≡ None → IsRecordIn o → Concludes g.world s (plans.Link l n) o cs v → IfSome o (Refused s) → ComesTo g s (plans.Link l n) v
 link_comes_so g s l n None cs v free is h refused = unreached_comes g s (plans.Link l n) h.plan v h.planned (unreached h.plan.reached refl) (answers_here g s (plans.Link l n) v h)
@@ -275,7 +235,7 @@ link_comes_so g s l n None cs v free is h refused = unreached_comes g s (plans.L
     unreached : (o : Option Class) → h.plan.reached ≡ o → h.plan.reached ≡ None
     unreached None e = e
     unreached (Some d) e =
-        let at = reached_records g.world s (plans.Link l n) h.plan d h.planned e (met_first s h.plan.own h.plan.more h.met) in
+        let at = reached_records g.world s (plans.Link l n) h.plan d h.planned e (met_split s h.plan.own h.plan.more h.met).0 in
         absurd (none-some _ (sym free ∙ at.1))
 link_comes_so g s l n (Some (Entry loader name place)) cs v free is h refused = subst (λ (u : Verdict). ComesTo g s (plans.Link l n) u) (sym h.linkage) (link_record_comes g s l loader place n name h.next refused)
 link_comes_so g s l n (Some (Equal name a b)) cs v free is h refused = absurd is

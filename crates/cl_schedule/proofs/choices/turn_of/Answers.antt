@@ -8,9 +8,10 @@ use Rattle.cl_schedule.specs.Rooms.{HasTurned}
 use Rattle.cl_schedule.specs.Seats.{IsSeatedAt}
 use Rattle.cl_schedule.proofs.Owing.{count_begun, count_first, count_refused, count_seated}
 use Rattle.cl_schedule.proofs.Paying.{turned_begun, turned_memory}
-use Rattle.cl_schedule.proofs.Rooming.{map_ok, some_request}
+use Rattle.cl_schedule.proofs.Rooming.{map_ok}
 use Rattle.cl_schedule.proofs.choices.turn_of.Goals as goal
 use Rattle.cl_schedule.proofs.choices.turn_of.Goals.{in-Some, in-None+in_ok-held-in-None+in_ok-request-in-None+in-Ok}
+use Rattle.cl_registry.proofs.Schedules.{some_at}
 
 pub advance-requires-clause-seated : goal.advance-requires-clause-seated
 advance-requires-clause-seated g c =
@@ -21,7 +22,7 @@ advance-requires-clause-seated g c =
     let P : Seat g.row.T.Denot → Type 0 = λ s. IsSeatedAt {A = g.row.T.Denot} told x s.task s.call c.args.q in
     elim c.match-take.branch [
       | in-Some w ↦ (
-          let r = some_request x.script.requests c.args.q waits.asked in
+          let r = some_at x.script.requests c.args.q waits.asked in
           subst P (sym w.seat-is) (r.0, record { asked = r.1; begun = waits.begun; unanswered = waits.unanswered }, serves.places.seated c.args.q w.in-Some.seat r.0 (sym w.in-Some.ensures.seat) r.1)
           )
       | in-None+in_ok-held-in-None+in_ok-request-in-None+in-Ok w ↦ (

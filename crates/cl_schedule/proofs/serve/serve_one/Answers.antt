@@ -9,13 +9,14 @@ use Rattle.cl_schedule.specs.Blames.{EachBlames}
 use Rattle.cl_schedule.specs.Counting.{Grows, faults}
 use Rattle.cl_schedule.specs.Serving.{reported, upto, InOrder}
 use Rattle.cl_schedule.specs.Headline.{EachSpelt, Alike, ReferencesAlike, CirclesExact}
-use Rattle.cl_schedule.proofs.Serving.{bare, bare_runs, bare_trusted, next_upto, next_is_open, in_script, has_loader, report_tells}
+use Rattle.cl_schedule.proofs.Serving.{bare, bare_runs, bare_trusted, next_upto, next_is_open, has_loader, report_tells}
 use Rattle.cl_schedule.proofs.Rounds.{known_bare, known_next, known_none, next_is_now, none_goes_on, nothing_left, served_bare, served_none, served_next, served_whole}
 use Rattle.cl_schedule.specs.Known.{KnownStays}
 use Rattle.cl_schedule.proofs.Blaming.{each_blames_more, each_blames_none, each_blames_passed}
 use Rattle.cl_schedule.proofs.Counted.{grows_none, faults_none, faults_then}
 use Rattle.cl_schedule.proofs.Headline.{each_spelt, alike, references_alike, circles_exact, consistent}
 use Rattle.cl_schedule.proofs.serve.serve_one.Goals as goal
+use Rattle.std.proofs.lemmas.Option.{slice_get_within}
 
 pub loop-q-init : goal.loop-q-init
 loop-q-init g c =
@@ -48,7 +49,7 @@ pub serve_request-requires-clause-open : goal.serve_request-requires-clause-open
 serve_request-requires-clause-open g c =
     let inv = c.loop-q.invariant in
     next_is_open c.loop-q.registry c.loop-q.q inv.kept.trusted inv.order
-    (in_script c.loop-q.registry.script.requests c.loop-q.q c.in_ok-request.request (subst (λ (s : Scripted). slice_get s.requests c.loop-q.q ≡ Some c.in_ok-request.request) (c.deref-in-loop-q.ensures ∙ sym inv.script) c.in_ok-request.ensures))
+    (slice_get_within c.loop-q.registry.script.requests c.loop-q.q c.in_ok-request.request (subst (λ (s : Scripted). slice_get s.requests c.loop-q.q ≡ Some c.in_ok-request.request) (c.deref-in-loop-q.ensures ∙ sym inv.script) c.in_ok-request.ensures))
 
 pub loop-q-preserved : goal.loop-q-preserved
 loop-q-preserved g c =
@@ -59,7 +60,7 @@ loop-q-preserved g c =
     let x = c.serve_request.new.registry in
     let new = c.pass_rounds-in-loop-q.new.registry in
     let asked = subst (λ (s : Scripted). slice_get s.requests c.loop-q.q ≡ Some c.in_ok-request.request) (c.deref-in-loop-q.ensures ∙ sym inv.script) c.in_ok-request.ensures in
-    let opened = next_is_open old c.loop-q.q inv.kept.trusted inv.order (in_script old.script.requests c.loop-q.q c.in_ok-request.request asked) in
+    let opened = next_is_open old c.loop-q.q inv.kept.trusted inv.order (slice_get_within old.script.requests c.loop-q.q c.in_ok-request.request asked) in
     record {
       config = passed.config ∙ served.done.config ∙ inv.config;
       script = passed.script ∙ served.done.script ∙ inv.script;

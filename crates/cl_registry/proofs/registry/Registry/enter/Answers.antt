@@ -1,4 +1,4 @@
-use Rattle.std.proofs.Common.{◌≡◌, ◌∙◌, ◌+◌, ◌-◌, ◌++◌, ◌∷◌, [], ℕ, None, map, ap, sym, subst, refl}
+use Rattle.std.proofs.Common.{◌≡◌, ◌∙◌, ◌++◌, ◌∷◌, [], None, map, ap, sym, subst, refl}
 use Rattle.std.specs.Option.{option_map}
 use Rattle.cl_model.specs.declared.need.Need.TheVariants as needs
 use Rattle.cl_delegation.specs.Searches.{Located}
@@ -6,14 +6,15 @@ use Rattle.cl_hierarchy.specs.Rows.{Rowed}
 use Rattle.cl_registry.specs.Parts.{IsPut}
 use Rattle.cl_registry.specs.Tables.{Shown, IsNew, MayEnter, DefinedAs, own_record, row_for, row_at, state_of}
 use Rattle.cl_registry.specs.Refusals.{AddRefusedFor, Blames}
+use Rattle.cl_registry.specs.View.{shown}
 use Rattle.cl_registry.proofs.Asked.{row_made}
 use Rattle.cl_registry.proofs.Entered.{add_refused, blames_record, kept_defined, not_refused, own_entry, shown_define}
-use Rattle.cl_registry.proofs.Kept.{kept_failed}
+use Rattle.cl_registry.proofs.Kept.{come_by, kept_failed}
 use Rattle.cl_registry.proofs.registry.Registry.enter.Goals as goal
 
 pub returns-then-not-admits-clause-refused : goal.returns-then-not-admits-clause-refused
 returns-then-not-admits-clause-refused g c =
-    let x : Shown = record { config = c.self.inside.config.value; script = c.self.inside.script.value; rows = map (λ r. r.value) c.self.inside.rows.items; history = c.self.inside.history.items; answers = c.self.inside.answers.items } in
+    let x : Shown = shown c.self.inside in
     subst (λ (y : Shown). Blames y (needs.Entry c.place-home.result c.args.name c.place-home.result) (own_record c.args.draft.now)) c.self.view_is
     (blames_record x _ c.admits.result _ _ _ (own_record c.args.draft.now) (own_entry g.T.Told.told c.args.draft.now c.home.ensures.draft c.args.name c.place-home.result c.requires.named (c.place-home.ensures ∙ ap (λ (h : Located). h.place) (c.deref.ensures ∙ c.home.ensures.home))) c.admits.ensures
     c.if-not-admits.true c.self.invariant.book)
@@ -28,11 +29,11 @@ invariant_of-self g c =
     let e = c.in-Err.ensures in
     kept_failed g.T.Told.told _ _ _ _ _ _ _ _ _ c.to_come-left.result _ _ _ c.self.invariant (ap (map (λ r. r.value)) e.same_rows) e.same_history (λ l n. ap (option_map (λ r. r.value)) (e.same_tables l n)) e.width
     (λ b. rw e.same_book b) (λ d i. refl) refl e.same_length
-    (c.to_come-left.ensures ∙ ap (λ (n : ℕ). c.self.inside.left + (n - (c.self.inside.round + 1))) (c.rounds.ensures ∙ ap (λ s. s.rounds) c.deref-2.ensures)) e.room
+    (come_by c.self.inside.left c.self.inside.round c.to_come-left.ensures c.rounds.ensures c.deref-2.ensures) e.room
 
 pub invariant_of-self-2 : goal.invariant_of-self-2
 invariant_of-self-2 g c =
-    let x : Shown = record { config = c.self.inside.config.value; script = c.self.inside.script.value; rows = map (λ r. r.value) c.self.inside.rows.items; history = c.self.inside.history.items; answers = c.self.inside.answers.items } in
+    let x : Shown = shown c.self.inside in
     let d = c.args.draft.now in
     let e = c.in-Ok.ensures in
     let fresh : IsNew x d = subst (λ (y : Shown). IsNew y d) (sym c.self.view_is) c.requires.fresh in
@@ -46,7 +47,7 @@ invariant_of-self-2 g c =
       prepared_are = refl;
       room = record {
         one = e.used;
-        come_is = c.to_come-left.ensures ∙ ap (λ (n : ℕ). c.self.inside.left + (n - (c.self.inside.round + 1))) (c.rounds.ensures ∙ ap (λ s. s.rounds) c.deref-2.ensures);
+        come_is = come_by c.self.inside.left c.self.inside.round c.to_come-left.ensures c.rounds.ensures c.deref-2.ensures;
         fits = e.room;
       };
     })
@@ -54,7 +55,7 @@ invariant_of-self-2 g c =
 
 pub returns-clause-defined : goal.returns-clause-defined
 returns-clause-defined g c =
-    let x : Shown = record { config = c.self.inside.config.value; script = c.self.inside.script.value; rows = map (λ r. r.value) c.self.inside.rows.items; history = c.self.inside.history.items; answers = c.self.inside.answers.items } in
+    let x : Shown = shown c.self.inside in
     let d = c.args.draft.now in
     let e = c.in-Ok.ensures in
     let y : Shown = record x { rows = map (λ r. r.value) c.record.new.rows.items; history = c.record.new.history.items } in
@@ -69,7 +70,7 @@ returns-clause-kept g c = (invariant_of-self-2 g c).kept
 
 pub returns-in-Err-clause-refused : goal.returns-in-Err-clause-refused
 returns-in-Err-clause-refused g c =
-    let x : Shown = record { config = c.self.inside.config.value; script = c.self.inside.script.value; rows = map (λ r. r.value) c.self.inside.rows.items; history = c.self.inside.history.items; answers = c.self.inside.answers.items } in
+    let x : Shown = shown c.self.inside in
     let d = c.args.draft.now in
     let own = own_entry g.T.Told.told d c.home.ensures.draft c.args.name c.place-home.result c.requires.named (c.place-home.ensures ∙ ap (λ (h : Located). h.place) (c.deref.ensures ∙ c.home.ensures.home)) in
     subst (λ (y : Shown). AddRefusedFor y (own_record d) c.in-Err.fault) c.self.view_is

@@ -1,12 +1,13 @@
-use Rattle.std.proofs.Common.{map, subst}
+use Rattle.std.proofs.Common.{subst}
 use Rattle.std.specs.Prelude.{Contains}
 use Rattle.cl_findings.specs.Findings.{Decides}
 use Rattle.cl_registry.specs.Tables.{Shown, state_of}
+use Rattle.cl_registry.specs.View.{shown}
 use Rattle.cl_registry.proofs.Referenced.{prepared_so}
 use Rattle.cl_registry.proofs.registry.Registry.has_prepared.Goals as goal
 
 pub returns : goal.returns
 returns g c =
-    let x : Shown = record { config = c.self.inside.config.value; script = c.self.inside.script.value; rows = map (λ r. r.value) c.self.inside.rows.items; history = c.self.inside.history.items; answers = c.self.inside.answers.items } in
+    let x : Shown = shown c.self.inside in
     subst (λ (y : Shown). Decides c.contains.result (Contains (state_of y).prepared c.args.class.now)) c.self.view_is
     (prepared_so c.contains.result (state_of x) c.self.inside.prepared.keys c.args.class.now c.contains.ensures c.self.invariant.prepared)

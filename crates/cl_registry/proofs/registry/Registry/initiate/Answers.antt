@@ -1,8 +1,9 @@
-use Rattle.std.proofs.Common.{◌≡◌, ◌∙◌, Some, None, map, ap, sym, subst}
+use Rattle.std.proofs.Common.{◌≡◌, ◌∙◌, Some, None, ap, sym, subst}
 use Rattle.std.specs.Prelude.{IfOk}
 use Rattle.cl_model.specs.States.{recorded}
 use Rattle.cl_hierarchy.specs.Rows.{Rowed}
 use Rattle.cl_registry.specs.Tables.{Shown, Initiates, IsKept, LacksRecord, Records, records_of, looked}
+use Rattle.cl_registry.specs.View.{shown}
 use Rattle.cl_registry.proofs.Asked.{found_none, found_some, known_initiated}
 use Rattle.cl_registry.proofs.Looked.{looked_records}
 use Rattle.cl_registry.proofs.Entered.{is_initiated, records_initiated, shown_initiated}
@@ -11,7 +12,7 @@ use Rattle.cl_registry.proofs.registry.Registry.initiate.Goals.{in-Ok, in-Err}
 use Rattle.cl_model.proofs.Bind.{none_not_some}
 
 abbrev known : (g : _) → goal.Joined-share g → Shown
-known g c = record { config = c.self.inside.config.value; script = c.self.inside.script.value; rows = map (λ r. r.value) c.self.inside.rows.items; history = c.self.inside.history.items; answers = c.self.inside.answers.items }
+known g c = shown c.self.inside
 
 found : (g : _) (c : goal.Joined-share g) → looked (known g c) c.args.home.now.asked c.args.home.now.name ≡ Some c.in-Some.row.now.value
 found g c =

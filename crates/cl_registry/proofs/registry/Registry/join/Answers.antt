@@ -1,17 +1,18 @@
-use Rattle.std.proofs.Common.{◌≡◌, ◌∙◌, ◌+◌, ◌-◌, ℕ, Some, None, map, ap, sym, subst, refl}
+use Rattle.std.proofs.Common.{◌≡◌, ◌∙◌, Some, None, ap, sym, subst, refl}
 use Rattle.std.specs.Option.{option_map}
 use Rattle.cl_model.specs.declared.need.Need.TheVariants as needs
 use Rattle.cl_model.specs.States.{Refused}
 use Rattle.cl_hierarchy.specs.Rows.{Rowed}
 use Rattle.cl_registry.specs.Tables.{Shown, LacksRecord, MayJoin, InitiatedAs, asked_record, looked, state_of}
 use Rattle.cl_registry.specs.Refusals.{AddRefusedFor, Blames}
+use Rattle.cl_registry.specs.View.{shown}
 use Rattle.cl_registry.proofs.Entered.{add_refused, asked_entry, blamed_as, blames_record, kept_initiated, not_refused, share_refused, shown_initiate}
-use Rattle.cl_registry.proofs.Kept.{kept_failed}
+use Rattle.cl_registry.proofs.Kept.{come_by, kept_failed}
 use Rattle.cl_registry.proofs.registry.Registry.join.Goals as goal
 
 pub returns-then-not-admits-clause-refused : goal.returns-then-not-admits-clause-refused
 returns-then-not-admits-clause-refused g c =
-    let x : Shown = record { config = c.self.inside.config.value; script = c.self.inside.script.value; rows = map (λ r. r.value) c.self.inside.rows.items; history = c.self.inside.history.items; answers = c.self.inside.answers.items } in
+    let x : Shown = shown c.self.inside in
     let h = c.args.home.now in
     subst (λ (y : Shown). Blames y (needs.Entry c.asked-then-not-admits.result c.args.name c.place-then-not-admits.result) (asked_record h)) c.self.view_is
     (blamed_as x (asked_record h) (asked_record h) c.args.name c.args.name c.asked.result c.asked-then-not-admits.result c.place.result c.place-then-not-admits.result (c.asked.ensures ∙ sym c.asked-then-not-admits.ensures) (c.place.ensures ∙ sym c.place-then-not-admits.ensures) refl
@@ -19,13 +20,13 @@ returns-then-not-admits-clause-refused g c =
 
 pub returns-in-Err-clause-refused : goal.returns-in-Err-clause-refused
 returns-in-Err-clause-refused g c =
-    let x : Shown = record { config = c.self.inside.config.value; script = c.self.inside.script.value; rows = map (λ r. r.value) c.self.inside.rows.items; history = c.self.inside.history.items; answers = c.self.inside.answers.items } in
+    let x : Shown = shown c.self.inside in
     let h = c.args.home.now in
     share_refused c.args.self.now h c.in-Err.fault c.requires.may (subst (λ (y : Shown). Refused (state_of y) (asked_record h) → ⊥) c.self.view_is (not_refused x _ c.admits.result _ (asked_record h) (asked_entry h c.asked.result c.place.result c.args.name c.asked.ensures c.place.ensures c.requires.named) c.admits.ensures c.if-not-admits.false c.self.invariant.book)) c.in-Err.ensures.refused
 
 pub returns-in-Err-join-clause-refused : goal.returns-in-Err-join-clause-refused
 returns-in-Err-join-clause-refused g c =
-    let x : Shown = record { config = c.self.inside.config.value; script = c.self.inside.script.value; rows = map (λ r. r.value) c.self.inside.rows.items; history = c.self.inside.history.items; answers = c.self.inside.answers.items } in
+    let x : Shown = shown c.self.inside in
     let h = c.args.home.now in
     subst (λ (y : Shown). AddRefusedFor y (asked_record h) c.in-Err-join.fault) c.self.view_is
     (add_refused x _ (asked_record h) c.in-Err-join.fault c.self.invariant.book (not_refused x _ c.admits.result _ (asked_record h) (asked_entry h c.asked.result c.place.result c.args.name c.asked.ensures c.place.ensures c.requires.named) c.admits.ensures c.if-not-admits.false c.self.invariant.book) c.in-Err-join.ensures.blames)
@@ -40,11 +41,11 @@ invariant_of-self g c =
     let e = c.in-Err-join.ensures in
     kept_failed g.T.Told.told _ _ _ _ _ _ _ _ _ c.to_come-left.result _ _ _ c.self.invariant refl e.same_history (λ l n. ap (option_map (λ r. r.value)) (e.same_tables l n)) e.width (λ b. rw e.same_book b) (λ d i. refl) refl
     e.same_length
-    (c.to_come-left.ensures ∙ ap (λ (n : ℕ). c.self.inside.left + (n - (c.self.inside.round + 1))) (c.rounds.ensures ∙ ap (λ s. s.rounds) c.deref.ensures)) e.room
+    (come_by c.self.inside.left c.self.inside.round c.to_come-left.ensures c.rounds.ensures c.deref.ensures) e.room
 
 pub invariant_of-self-2 : goal.invariant_of-self-2
 invariant_of-self-2 g c =
-    let x : Shown = record { config = c.self.inside.config.value; script = c.self.inside.script.value; rows = map (λ r. r.value) c.self.inside.rows.items; history = c.self.inside.history.items; answers = c.self.inside.answers.items } in
+    let x : Shown = shown c.self.inside in
     let h = c.args.home.now in
     let e = c.in-Ok-join.ensures in
     let fresh : LacksRecord x h.asked h.name = subst (λ (y : Shown). LacksRecord y h.asked h.name) (sym c.self.view_is) c.requires.fresh in
@@ -55,13 +56,13 @@ invariant_of-self-2 g c =
       width = e.width;
       references_are = λ k i. refl;
       prepared_are = refl;
-      room = record { one = e.used; come_is = (c.to_come-left.ensures ∙ ap (λ (n : ℕ). c.self.inside.left + (n - (c.self.inside.round + 1))) (c.rounds.ensures ∙ ap (λ s. s.rounds) c.deref.ensures)); fits = e.room };
+      room = record { one = e.used; come_is = (come_by c.self.inside.left c.self.inside.round c.to_come-left.ensures c.rounds.ensures c.deref.ensures); fits = e.room };
     })
     e.event
 
 pub returns-clause-initiated : goal.returns-clause-initiated
 returns-clause-initiated g c =
-    let x : Shown = record { config = c.self.inside.config.value; script = c.self.inside.script.value; rows = map (λ r. r.value) c.self.inside.rows.items; history = c.self.inside.history.items; answers = c.self.inside.answers.items } in
+    let x : Shown = shown c.self.inside in
     let h = c.args.home.now in
     let e = c.in-Ok-join.ensures in
     let y : Shown = record x { history = c.join.new.history.items } in

@@ -1,10 +1,11 @@
-use Rattle.std.proofs.Common.{◌<◌, length, List, map, take, subst, sym}
+use Rattle.std.proofs.Common.{◌<◌, length, List, take, subst, sym}
 use Rattle.cl_findings.specs.Findings.{Decides}
 use Rattle.cl_hierarchy.specs.Imposed.{needs_of}
 use Rattle.cl_model.specs.declared.need.Equality.{Equality}
 use Rattle.cl_model.specs.States.{AllMet}
 use Rattle.cl_registry.specs.Imposing.{StandsFor}
 use Rattle.cl_registry.specs.Tables.{Shown, state_of}
+use Rattle.cl_registry.specs.View.{shown}
 use Rattle.cl_registry.proofs.Known.{standing_with}
 use Rattle.cl_registry.proofs.Tested.{impose_by}
 use Rattle.cl_registry.proofs.registry.Registry.may_impose.Goals as goal
@@ -14,7 +15,7 @@ returns-then-not-has_origin-clause-may g c = λ may. c.if-not-has_origin.ensures
 
 pub returns-clause-may : goal.returns-clause-may
 returns-clause-may g c =
-    let x : Shown = record { config = c.self.inside.config.value; script = c.self.inside.script.value; rows = map (λ r. r.value) c.self.inside.rows.items; history = c.self.inside.history.items; answers = c.self.inside.answers.items } in
+    let x : Shown = shown c.self.inside in
     impose_by c.args.self.now c.args.list.now c.args.place c.are_met.result (subst (StandsFor c.args.self.now) c.origin.ensures.origin c.if-not-has_origin.ensures.stands)
     (subst (λ (es : List Equality). c.args.place < length es) c.needs.ensures.needs c.if-place-needs.false)
     (subst (λ (y : Shown). Decides c.are_met.result (AllMet (state_of y) (needs_of (take c.args.place c.args.list.now.needs)))) c.self.view_is

@@ -1,17 +1,18 @@
-use Rattle.std.proofs.Common.{◌≡◌, ◌∙◌, List, map, Option, Some, None, inr, ap, sym, subst, arith}
+use Rattle.std.proofs.Common.{◌≡◌, ◌∙◌, List, Option, Some, None, inr, ap, sym, subst, arith}
 use Rattle.std.specs.Prelude.{slice_get}
 use Rattle.cl_model.specs.declared.answer.Answer.{Answer}
 use Rattle.cl_model.specs.declared.request.Request.{Request}
 use Rattle.cl_config.specs.Views.{Scripted}
 use Rattle.cl_registry.specs.Posting.{Fits, IsBacked}
 use Rattle.cl_registry.specs.Tables.{Shown}
+use Rattle.cl_registry.specs.View.{shown}
 use Rattle.cl_registry.proofs.Histories.{left_set}
 use Rattle.cl_registry.proofs.Posts.{kept_post, counts_down, not_later, one_less}
 use Rattle.cl_registry.proofs.registry.Registry.post.Goals as goal
 
 pub returns-then-not-backs-clause-refused : goal.returns-then-not-backs-clause-refused
 returns-then-not-backs-clause-refused g c =
-    let x : Shown = record { config = c.self.inside.config.value; script = c.self.inside.script.value; rows = map (λ r. r.value) c.self.inside.rows.items; history = c.self.inside.history.items; answers = c.self.inside.answers.items } in
+    let x : Shown = shown c.self.inside in
     let asked : slice_get c.self.inside.script.value.requests c.args.q ≡ Some c.args.finding.request = ap (λ (l : List Request). slice_get l c.args.q) (sym (c.requests.ensures.requests ∙ ap (λ (s : Scripted). s.requests) c.deref.ensures)) ∙ c.if-not-is_asked.ensures ∙ ap (λ (r : Request). Some r) c.request.ensures.request in
     let is : slice_get c.self.inside.answers.items c.args.q ≡ Some None = ap (λ (xs : List (Option Answer)). slice_get xs c.args.q) (sym c.deref-3.ensures.value) ∙ c.if-not-is_open.ensures in
     let at : slice_get c.self.inside.script.value.rounds_of c.args.q ≡ Some c.round_of-round.result = ap (λ (s : Scripted). slice_get s.rounds_of c.args.q) (sym c.deref-2.ensures) ∙ c.round_of-round.ensures in
@@ -43,7 +44,7 @@ push_reserved-requires g c =
 
 pub invariant_of-self : goal.invariant_of-self
 invariant_of-self g c =
-    let x : Shown = record { config = c.self.inside.config.value; script = c.self.inside.script.value; rows = map (λ r. r.value) c.self.inside.rows.items; history = c.self.inside.history.items; answers = c.self.inside.answers.items } in
+    let x : Shown = shown c.self.inside in
     let asked : slice_get c.self.inside.script.value.requests c.args.q ≡ Some c.args.finding.request = ap (λ (l : List Request). slice_get l c.args.q) (sym (c.requests.ensures.requests ∙ ap (λ (s : Scripted). s.requests) c.deref.ensures)) ∙ c.if-not-is_asked.ensures ∙ ap (λ (r : Request). Some r) c.request.ensures.request in
     let is : slice_get c.self.inside.answers.items c.args.q ≡ Some None = ap (λ (xs : List (Option Answer)). slice_get xs c.args.q) (sym c.deref-3.ensures.value) ∙ c.if-not-is_open.ensures in
     let at : slice_get c.self.inside.script.value.rounds_of c.args.q ≡ Some c.round_of-round.result = ap (λ (s : Scripted). slice_get s.rounds_of c.args.q) (sym c.deref-2.ensures) ∙ c.round_of-round.ensures in
@@ -55,7 +56,7 @@ invariant_of-self g c =
 
 pub returns-clause-fits : goal.returns-clause-fits
 returns-clause-fits g c =
-    let x : Shown = record { config = c.self.inside.config.value; script = c.self.inside.script.value; rows = map (λ r. r.value) c.self.inside.rows.items; history = c.self.inside.history.items; answers = c.self.inside.answers.items } in
+    let x : Shown = shown c.self.inside in
     let asked : slice_get c.self.inside.script.value.requests c.args.q ≡ Some c.args.finding.request = ap (λ (l : List Request). slice_get l c.args.q) (sym (c.requests.ensures.requests ∙ ap (λ (s : Scripted). s.requests) c.deref.ensures)) ∙ c.if-not-is_asked.ensures ∙ ap (λ (r : Request). Some r) c.request.ensures.request in
     let is : slice_get c.self.inside.answers.items c.args.q ≡ Some None = ap (λ (xs : List (Option Answer)). slice_get xs c.args.q) (sym c.deref-3.ensures.value) ∙ c.if-not-is_open.ensures in
     let at : slice_get c.self.inside.script.value.rounds_of c.args.q ≡ Some c.round_of-round.result = ap (λ (s : Scripted). slice_get s.rounds_of c.args.q) (sym c.deref-2.ensures) ∙ c.round_of-round.ensures in

@@ -1,11 +1,12 @@
-use Rattle.std.proofs.Common.{◌≡◌, ◌∙◌, ◌+◌, ◌-◌, ℕ, List, map, ap, sym, subst, refl}
+use Rattle.std.proofs.Common.{◌≡◌, List, ap, sym, subst, refl}
 use Rattle.std.specs.Prelude.{Contains}
 use Rattle.cl_model.specs.declared.class.Class.{Class}
 use Rattle.cl_model.specs.States.{IsRecorded}
 use Rattle.cl_registry.specs.Imposing.{MayPrepareAs, with_prepare}
 use Rattle.cl_registry.specs.Tables.{Shown, state_of}
+use Rattle.cl_registry.specs.View.{shown}
 use Rattle.cl_registry.proofs.Imposed.{kept_prepared, prepared_more}
-use Rattle.cl_registry.proofs.Kept.{grown, kept_failed}
+use Rattle.cl_registry.proofs.Kept.{come_by, grown, kept_failed}
 use Rattle.cl_registry.proofs.registry.Registry.prepare.Goals as goal
 
 pub add_prepared-requires-clause-absent : goal.add_prepared-requires-clause-absent
@@ -18,11 +19,11 @@ pub invariant_of-self : goal.invariant_of-self
 invariant_of-self g c =
     let e = c.in-Err.ensures in
     kept_failed g.T.Told.told _ _ _ _ _ _ _ _ _ c.to_come-left.result _ _ _ c.self.invariant refl e.same_history (λ l n. refl) refl (λ b. b) (λ d i. refl) e.same_prepared e.same_length
-    (c.to_come-left.ensures ∙ ap (λ (n : ℕ). c.self.inside.left + (n - (c.self.inside.round + 1))) (c.rounds.ensures ∙ ap (λ s. s.rounds) c.deref.ensures)) e.room
+    (come_by c.self.inside.left c.self.inside.round c.to_come-left.ensures c.rounds.ensures c.deref.ensures) e.room
 
 pub invariant_of-self-2 : goal.invariant_of-self-2
 invariant_of-self-2 g c =
-    let x : Shown = record { config = c.self.inside.config.value; script = c.self.inside.script.value; rows = map (λ r. r.value) c.self.inside.rows.items; history = c.self.inside.history.items; answers = c.self.inside.answers.items } in
+    let x : Shown = shown c.self.inside in
     let d = c.args.class.now in
     let e = c.in-Ok.ensures in
     kept_prepared g.T.Told.told x d _ _ _ _ _ _ c.to_come-left.result _ _ c.self.invariant (subst (λ (y : Shown). IsRecorded (state_of y) d) (sym c.self.view_is) c.requires.recorded)
@@ -30,20 +31,20 @@ invariant_of-self-2 g c =
     (subst (λ (y : Shown). MayPrepareAs g.T.Told.told y d) (sym c.self.view_is) c.requires.may) (λ l m. refl) refl (λ k i. refl) e.added
     (record {
       one = e.used;
-      come_is = c.to_come-left.ensures ∙ ap (λ (n : ℕ). c.self.inside.left + (n - (c.self.inside.round + 1))) (c.rounds.ensures ∙ ap (λ s. s.rounds) c.deref.ensures);
+      come_is = come_by c.self.inside.left c.self.inside.round c.to_come-left.ensures c.rounds.ensures c.deref.ensures;
       fits = e.room;
     })
     e.event
 
 pub returns-clause-prepared : goal.returns-clause-prepared
 returns-clause-prepared g c =
-    let x : Shown = record { config = c.self.inside.config.value; script = c.self.inside.script.value; rows = map (λ r. r.value) c.self.inside.rows.items; history = c.self.inside.history.items; answers = c.self.inside.answers.items } in
+    let x : Shown = shown c.self.inside in
     let y : Shown = record x { history = c.add_prepared.new.history.items } in
     subst (λ (z : Shown). y ≡ with_prepare z c.args.class.now) c.self.view_is (ap (λ hs. grown x x.rows hs) c.in-Ok.ensures.event)
 
 pub returns-clause-stands : goal.returns-clause-stands
 returns-clause-stands g c =
-    let x : Shown = record { config = c.self.inside.config.value; script = c.self.inside.script.value; rows = map (λ r. r.value) c.self.inside.rows.items; history = c.self.inside.history.items; answers = c.self.inside.answers.items } in
+    let x : Shown = shown c.self.inside in
     subst (λ (y : Shown). Contains (state_of y).prepared c.args.class.now) (sym (ap (λ hs. grown x x.rows hs) c.in-Ok.ensures.event)) (prepared_more x c.args.class.now)
 
 pub returns-clause-kept : goal.returns-clause-kept

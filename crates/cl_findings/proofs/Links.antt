@@ -27,7 +27,7 @@ use Rattle.cl_model.proofs.Aims.{next_left, next_right}
 use Rattle.cl_model.proofs.Closed.{all_left, all_right}
 use Rattle.cl_config.specs.Views.{Configured}
 use Rattle.cl_delegation.specs.Worlds.{world_of}
-use Rattle.cl_hierarchy.specs.Imposed.{AreOf, Listed, OfPreparation, Sprung, needs_of}
+use Rattle.cl_hierarchy.specs.Imposed.{AreEnough, AreOf, Listed, OfPreparation, Sprung, needs_of}
 use Rattle.cl_hierarchy.specs.Lineages.{IsInOrder, IsLined, IsLineageOf, Lined, kin_of, rows_in}
 use Rattle.cl_hierarchy.specs.Rows.{Rowed}
 use Rattle.cl_hierarchy.specs.Trees.{kin_under, kins, kins_after}
@@ -105,7 +105,7 @@ placed_link w s loader name (Equal other a b) cs h = h
 
 link_concludes : (content : Content) (loader : ℕ) (l at : Lined) (place k : ℕ) (needs : List Need) (n : Need) (s : State)
     → IsInOrder l → IsLineageOf (Some content) l → IsLineageOf (Some content) at → at.config ≡ l.config → option_map (λ (row : Rowed). row.class) (slice_get (rows_in l) place) ≡ Some at.own.class
-    → needs ≡ constraints_of (kin_of at) → slice_get needs k ≡ Some n → IsClosed (world_of l.config content) s → recorded s.records loader l.own.class.name ≡ Some l.own.class.loader → AllMet s (take k needs)
+    → AreEnough (constraints_of (kin_of at)) needs → slice_get needs k ≡ Some n → IsClosed (world_of l.config content) s → recorded s.records loader l.own.class.name ≡ Some l.own.class.loader → AllMet s (take k needs)
     → AllByRecursion (HasImposed (world_of l.config content) s) (row_classes (take place (rows_in l)))
     → IsNextNeed (world_of l.config content) s (Link loader l.own.class.name) n × Placed (world_of l.config content) s (Link loader l.own.class.name) n (row_classes (take place (rows_in l)))
 link_concludes content loader l at place k needs n s order lin other config there are is closed rec met prepared =
@@ -122,7 +122,7 @@ link_concludes content loader l at place k needs n s order lin other config ther
     let kept_at = (all_right (IsKept w s) parts.front (parts.at ∷ parts.behind) kept).0 in
     let same_world : IsLineage w (kin_of at) = subst (λ (c : Configured). IsLineage (world_of c content) (kin_of at)) config other in
     let same : parts.at ≡ kin_of at = one_lineage w at.own.class parts.at (kin_of at) (subst (λ (c : Class). HasLineage w c parts.at) parts.class_is (lineage_is_derived w parts.at kept_at.1)) (lineage_is_derived w (kin_of at) same_world) in
-    let next_there : IsNext s (constraints_of parts.at) n = subst (λ (ns : List Need). IsNext s ns n) (are ∙ ap constraints_of (sym same)) (next_at s needs k n is met) in
+    let next_there : IsNext s (constraints_of parts.at) n = subst (λ (t : Kin). IsNext s (constraints_of t) n) (sym same) (are.next s n (next_at s needs k n is met)) in
     let imposed = imposed_all w s parts.front (all_left (IsKept w s) parts.front (parts.at ∷ parts.behind) kept) (subst (λ (xs : List Class). AllByRecursion (HasImposed w s) xs) (sym fronts) prepared) in
     let next : IsNext s (flat_map constraints_of ks) n = subst (λ (xs : List Kin). IsNext s (flat_map constraints_of xs) n) (sym parts.split) (next_in s parts.front parts.behind parts.at n imposed next_there) in
     let has = lineage_is_derived w (kin_of l) lin in
@@ -142,7 +142,7 @@ link_concludes content loader l at place k needs n s order lin other config ther
       }),
     )
 
-preparation_of : (from : Sprung) (at : Lined) (needs : List Need) → from ≡ OfPreparation at → AreOf from needs → needs ≡ constraints_of (kin_of at)
+preparation_of : (from : Sprung) (at : Lined) (needs : List Need) → from ≡ OfPreparation at → AreOf from needs → AreEnough (constraints_of (kin_of at)) needs
 preparation_of from at needs e h = subst (λ (x : Sprung). AreOf x needs) e h
 
 lineage_at : (told : Option Content) (from : Sprung) (at : Lined) → from ≡ OfPreparation at → AreLineages told from → IsLineageOf told at

@@ -3,6 +3,7 @@ pub mod Climbs
 pub mod Counted
 pub mod Drafting
 pub mod Ends
+pub mod Enough
 pub mod Frames
 pub mod Inside
 pub mod Paths

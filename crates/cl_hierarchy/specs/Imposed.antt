@@ -1,12 +1,12 @@
 -- Lists of loading constraints, with what they were made from (JVMS SE 8, 5.3.4, 5.4.2, 5.4.3).
-use Rattle.std.specs.Prelude.{◌≡◌, ℕ, List, map, Some}
+use Rattle.std.specs.Prelude.{◌≡◌, ◌≤◌, ℕ, Contains, List, length, map, Some}
 use Rattle.cl_classfile.specs.Files.{Reference, reference}
 use Rattle.cl_model.specs.declared.need.Equality.{Equality}
 use Rattle.cl_model.specs.Lineages.{Kin}
 use Rattle.cl_model.specs.Frames.{class_named}
 use Rattle.cl_model.specs.Preparation.{constraints_of}
 use Rattle.cl_model.specs.References.{resolve_in}
-use Rattle.cl_model.specs.States.{Equal, Need, Verdict}
+use Rattle.cl_model.specs.States.{AllMet, Equal, IsNext, Need, State, Verdict}
 use Rattle.cl_model.specs.Works.{Made}
 use Rattle.cl_hierarchy.specs.Lineages.{Lined, kin_of}
 use Rattle.cl_hierarchy.specs.declared.equalities.Origin.{Origin}
@@ -46,7 +46,16 @@ pub record AreOfReference (d c : Kin) (index : ℕ) (needs : List Need) : Type 0
   pub worked : resolve_in d refers c ≡ Some made
   pub needs_are : needs ≡ made.needs
 
--- the needs are those that the definitions list of what they were made from (5.4.2, 5.4.3)
+-- few needs stand for all of a list: they are among them, and no more; in every state all are met
+-- where the few are, and what is next among the few is next in the list (5.3.4)
+pub record AreEnough (all few : List Need) : Type 0 where
+  pub no_more : length few ≤ length all
+  pub among : (n : Need) → Contains few n → Contains all n
+  pub met : (s : State) → AllMet s few → AllMet s all
+  pub next : (s : State) (n : Need) → IsNext s few n → IsNext s all n
+
+-- the needs are those that the definitions list of what they were made from; of a preparation's,
+-- some that stand for all (5.4.2, 5.4.3)
 abbrev pub AreOf : Sprung → List Need → Type 0
 AreOf (OfReference d c index) needs = AreOfReference (kin_of d) (kin_of c) index needs
-AreOf (OfPreparation l) needs = needs ≡ constraints_of (kin_of l)
+AreOf (OfPreparation l) needs = AreEnough (constraints_of (kin_of l)) needs

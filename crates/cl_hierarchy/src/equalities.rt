@@ -3,7 +3,7 @@
 ghost use Rattle.std.specs.Prelude.{◌≡◌, if◌then◌else◌, nat_le};
 ghost use Rattle.cl_model.specs.Preparation.{constraints_of};
 ghost use Rattle.cl_model.specs.States.{Equal};
-ghost use Rattle.cl_hierarchy.specs.Imposed.{AreOf, AreOfReference, OfPreparation, OfReference, equal_need, needs_of, sprung};
+ghost use Rattle.cl_hierarchy.specs.Imposed.{AreEnough, AreOf, AreOfReference, OfPreparation, OfReference, equal_need, needs_of, sprung};
 ghost use Rattle.cl_hierarchy.specs.Lineages.{kin_of};
 
 use crate::lineage::Lineage;
@@ -78,9 +78,9 @@ impl<T: Told> Equalities<T> {
         Equalities { needs, origin }
     }
 
-    /// Those of the preparation of a class.
+    /// Those of the preparation of a class, or some that stand for all of them.
     pub fn of_preparation(lineage: Arc<Lineage<T>>, needs: Vec<Equality>) -> Equalities<T>
-        requires { needs_of needs.items ≡ constraints_of (kin_of lineage.value) }
+        requires { AreEnough (constraints_of (kin_of lineage.value)) (needs_of needs.items) }
         ensures { result ≡ record { needs = needs.items; origin = OfPreparation lineage.value } }
     {
         let origin = Origin::Preparation { lineage };

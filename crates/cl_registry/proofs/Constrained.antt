@@ -22,6 +22,7 @@ use Rattle.cl_constraints.proofs.Standing.{unrefused}
 use Rattle.cl_delegation.specs.Worlds.{world_of, setting_of}
 use Rattle.cl_hierarchy.specs.Imposed.{AreOf, Sprung, OfPreparation, OfReference, equal_need, needs_of}
 use Rattle.cl_hierarchy.specs.Lineages.{IsLined, Lined, kin_of}
+use Rattle.cl_hierarchy.proofs.Enough.{met_among}
 use Rattle.cl_findings.proofs.References.{through_made}
 use Rattle.cl_registry.specs.Allowed.{ImposedIsAllowed, MarkedIsAllowed, AllowedIsMarked}
 use Rattle.cl_findings.specs.Bases.{AreLineages}
@@ -49,9 +50,9 @@ lineage_at content x l lined config =
 imposed_by : (content : Content) (x : Shown) (o : Sprung) (es : List Equality) (k : ℕ) (n : Equality) → IsKept (Some content) x → AreLineages (Some content) o → AreOf o (needs_of es) → StandsFor x o → AllMet (state_of x) (take k (needs_of es))
     → slice_get es k ≡ Some n → (Met (state_of x) (equal_need n) → ⊥) → (Refused (state_of x) (equal_need n) → ⊥) → MayConstrain (setting_of x.config x.script content) (state_of x) n.name n.one n.other
 imposed_by content x (OfPreparation l) es k n kept lined are stands earlier at unmet free = record {
-  needs = needs_of es;
-  imposes = inl (l.own.class, stands.recorded, (kin_of l, lineage_at content x l lined stands.config, are));
-  next = next_at (state_of x) es k n at earlier;
+  needs = constraints_of (kin_of l);
+  imposes = inl (l.own.class, stands.recorded, (kin_of l, lineage_at content x l lined stands.config, refl));
+  next = are.next (state_of x) (equal_need n) (next_at (state_of x) es k n at earlier);
   may_add = unrefused (state_of x) (equal_need n) unmet free;
 }
 imposed_by content x (OfReference d c index) es k n kept lined are stands earlier at unmet free =
@@ -80,7 +81,7 @@ prepared_at_home content x c (a ∷ others) closed h =
 pub marked_is_allowed : MarkedIsAllowed
 marked_is_allowed content x l needs kept listed ready free =
     may_prepare (setting_of x.config x.script content) (state_of x) l.own.class (kin_of l) ready.stands.recorded free (lineage_at content x l listed.lineages ready.stands.config)
-    (prepared_at_home content x l.own.class (supers (file_of l.own.file)) (closed_of content x kept) ready.above) (subst (AllMet (state_of x)) listed.are ready.imposed)
+    (prepared_at_home content x l.own.class (supers (file_of l.own.file)) (closed_of content x kept) ready.above) (listed.are.met (state_of x) ready.imposed)
 
 home_prepared : (content : Content) (x : Shown) (c : Class) (others : List Above) → AllByRecursion (λ (a : Above). AtHome (world_of x.config content) c (Contains (state_of x).prepared) a.name) others
     → AllByRecursion (λ (a : Above). AtHome (world_of x.config content) c (λ t. Met (state_of x) (Entry c.loader a.name t.loader)) a.name) others → AllByRecursion (IsPreparedAbove x c) others
@@ -100,7 +101,7 @@ allowed_is_marked content x l needs kept listed config may =
       record {
         stands = record { config = config; recorded = may.recorded };
         above = home_prepared content x l.own.class (supers (file_of l.own.file)) above ((closed_of content x kept).above l.own.class (file_of l.own.file) may.recorded file.has_file);
-        imposed = subst (AllMet s) (sym listed.are) (subst (λ (k : Kin). AllMet s (constraints_of k)) same may.imposed);
+        imposed = met_among s (constraints_of (kin_of l)) (needs_of needs) listed.are.among (subst (λ (k : Kin). AllMet s (constraints_of k)) same may.imposed);
       },
       may.unprepared,
     )

@@ -14,7 +14,7 @@ use Rattle.cl_model.specs.States.{State, Need, Verdict, recorded, IsRecorded, Me
 use Rattle.cl_model.specs.Content.{Content}
 use Rattle.cl_config.specs.Views.{Configured}
 use Rattle.cl_delegation.specs.Worlds.{setting_of}
-use Rattle.cl_hierarchy.specs.Imposed.{Listed, AreOf, Sprung, OfPreparation, OfReference, equal_need, needs_of}
+use Rattle.cl_hierarchy.specs.Imposed.{Listed, AreEnough, AreOf, Sprung, OfPreparation, OfReference, equal_need, needs_of}
 use Rattle.cl_hierarchy.specs.Lineages.{Lined, kin_of}
 use Rattle.cl_registry.specs.Tables.{Shown, records_of, state_of}
 
@@ -138,10 +138,10 @@ abbrev pub AreOfConfig : Configured → Sprung → Type 0
 AreOfConfig config (OfReference d c index) = (d.config ≡ config) × (c.config ≡ config)
 AreOfConfig config (OfPreparation l) = l.config ≡ config
 
--- the machine's own list for what a list was made from: a preparation's constraints, or the needs of a reference of a recorded
--- class, which names the class c with its home (5.4.2, 5.4.3)
+-- the machine's own list for what a list was made from: the needs of a reference of a recorded class, which names the class c
+-- with its home; of a recorded class's preparation, one that stands for all of its constraints (5.4.2, 5.4.3)
 abbrev pub IsListOf : World → State → Sprung → List Need → Type 0
-IsListOf w s (OfPreparation l) needs = IsRecorded s l.own.class × (needs ≡ constraints_of (kin_of l))
+IsListOf w s (OfPreparation l) needs = IsRecorded s l.own.class × AreEnough (constraints_of (kin_of l)) needs
 IsListOf w s (OfReference d c index) needs =
     IsRecorded s d.own.class × (home w d.own.class.loader c.own.class.name ≡ Some c.own.class.loader)
     × ((m : Made Verdict) × IsResolution w d.own.class index m × (needs ≡ m.needs))

@@ -28,7 +28,7 @@ use Rattle.cl_model.proofs.Bind.{some_same}
 use Rattle.cl_model.proofs.Gone.{link_refusal_comes}
 use Rattle.cl_config.specs.Views.{Configured}
 use Rattle.cl_delegation.specs.Worlds.{world_of}
-use Rattle.cl_hierarchy.specs.Imposed.{AreOf, Listed, OfPreparation, Sprung, equal_need, needs_of}
+use Rattle.cl_hierarchy.specs.Imposed.{AreEnough, AreOf, Listed, OfPreparation, Sprung, equal_need, needs_of}
 use Rattle.cl_hierarchy.specs.Lineages.{IsInOrder, IsLined, IsLineageOf, Lined, kin_of, rows_in, row_of}
 use Rattle.cl_hierarchy.specs.Rows.{Rowed}
 use Rattle.cl_findings.specs.Bases.{AreLineages, IsListed}
@@ -406,7 +406,7 @@ module _ {A : Type 0} (told : Option Content) (c : Configured) (k : Chain A) (e 
   at : Lined
   at = known.place.at
 
-  are : needs_of e.needs ≡ constraints_of (kin_of known.place.at)
+  are : AreEnough (constraints_of (kin_of known.place.at)) (needs_of e.needs)
   are = subst (λ (from : Sprung). AreOf from (needs_of e.needs)) known.place.prepares known.listed.are
 
   other : IsLineageOf told known.place.at
@@ -428,16 +428,16 @@ module _ {A : Type 0} (told : Option Content) (c : Configured) (k : Chain A) (e 
       there g (state_of x) (loader_of k.goal.request) k.whole.value known.place.at k.place served.sound known.order (in_world told c g (state_of x) served k.whole.value chain.whole.config known.whole)
       (in_world told c g (state_of x) served known.place.at (known.place.config ∙ chain.whole.config) other) (goal_recorded x i h) known.place.there (chain_prepared x k (list_chain x k e i h))
 
-  -- the class at the place has as many calls left as it has equalities, and two more
+  -- the class at the place has no more calls left than it has equalities, and two more
   listed_calls : (now : Shown → Type 0) → ((x : Shown) → now x → ListTold k e 0 x) → CallsWithin told c now k.goal.request 0 (past_loads 0 0 (list_calls k.whole.value k.place (length e.needs - 0))) (past_loads 0 0 (chain_calls k.whole.value k.place))
   listed_calls now tells =
       λ g x p served is h.
       let step = chain_step g (state_of x) (loader_of k.goal.request) k.whole.value known.place.at k.place (here g x 0 served (tells x h)) in
-      let many : length e.needs ≡ length (constraints_of (kin_of known.place.at)) = sym (length-map e.needs equal_need) ∙ ap (λ (ns : List Need). length ns) are in
+      let many : length e.needs ≤ length (constraints_of (kin_of known.place.at)) = subst (λ (n : ℕ). n ≤ length (constraints_of (kin_of known.place.at))) (length-map e.needs equal_need) are.no_more in
       fewer_calls told c now k.goal.request 0 (list_calls k.whole.value k.place (length e.needs - 0)) (chain_calls k.whole.value k.place)
       (within (length e.needs) (length (constraints_of (kin_of known.place.at))) (chain_calls k.whole.value (k.place + 1)) (chain_calls k.whole.value k.place) many step) g x p served is h
     where
-      within : (n m b a : ℕ) → n ≡ m → a ≡ (m + 2) + b → 0 + (b + ((n - 0) + 2)) ≤ a
+      within : (n m b a : ℕ) → n ≤ m → a ≡ (m + 2) + b → 0 + (b + ((n - 0) + 2)) ≤ a
       within n m b a many step = omega (arith, many, step)
 
   -- a step that begins with its equalities goes on from there
@@ -500,7 +500,7 @@ module _ {A : Type 0} (told : Option Content) (c : Configured) (k : Chain A) (e 
 
   prepared_next : (g : Setting) (x : Shown) (i : ℕ) → i ≡ length e.needs → ServedIn told c g (state_of x) → ListTold k e i x → IsPreparedNext g (state_of x) k.goal.request e.origin
   prepared_next g x i all served h =
-      let met : AllMet (state_of x) (constraints_of (kin_of known.place.at)) = subst (λ (ns : List Need). AllMet (state_of x) ns) are (ready x i all h).imposed in
+      let met : AllMet (state_of x) (constraints_of (kin_of known.place.at)) = are.met (state_of x) (ready x i all h).imposed in
       subst (λ (from : Sprung). IsPreparedNext g (state_of x) k.goal.request from) (sym known.place.prepares)
       (preparation_next g (state_of x) k.goal.request k.whole.value known.place.at k.place served.sound known.place.of (here g x i served h) met)
 

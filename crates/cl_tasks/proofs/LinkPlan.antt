@@ -22,6 +22,7 @@ use Rattle.cl_model.proofs.Planned.{one_lineage, one_plan}
 use Rattle.cl_model.proofs.Progress.{IsKept, lineage_kept}
 use Rattle.cl_model.proofs.Trees.{lineage_is_derived}
 use Rattle.cl_model.proofs.Closed.{all_left, all_right}
+use Rattle.cl_hierarchy.specs.Imposed.{AreEnough}
 use Rattle.cl_hierarchy.specs.Lineages.{IsInOrder, Lined, kin_of, rows_in}
 use Rattle.cl_hierarchy.specs.Rows.{Rowed}
 use Rattle.cl_findings.specs.Findings.{loader_of}
@@ -102,9 +103,9 @@ module _ (g : Setting) (s : State) (r : request.Request) (l at : Lined) (place :
   goes = link_goes_on g.world s (loader_of r) l.own.class.loader l.own.class.name (kin_of l) sound.closed here.kept here.has
 
   -- an equality of the class comes next, where those before it are met
-  pub equality_next : (needs : List Need) (k : ℕ) (n : Need) → needs ≡ constraints_of (kin_of at) → slice_get needs k ≡ Some n → AllMet s (take k needs) → IsWanted g s r n
+  pub equality_next : (needs : List Need) (k : ℕ) (n : Need) → AreEnough (constraints_of (kin_of at)) needs → slice_get needs k ≡ Some n → AllMet s (take k needs) → IsWanted g s r n
   equality_next needs k n are there met =
-      let next : IsNext s (constraints_of (kin_of at)) n = subst (λ (ns : List Need). IsNext s ns n) are (next_at s needs k n there met) in
+      let next : IsNext s (constraints_of (kin_of at)) n = are.next s n (next_at s needs k n there met) in
       let all : IsNext s (flat_map constraints_of (lineage (kin_of l))) n =
       subst (λ (ks : List Kin). IsNext s (flat_map constraints_of ks) n) (sym here.split) (next_in s here.front here.behind (kin_of at) n (imposed_of s here.front here.linked) next) in
       record {

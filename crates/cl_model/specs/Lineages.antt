@@ -134,9 +134,13 @@ abbrev pub if_declared : Option Member → (ℕ → Bool) → Bool
 if_declared None test = false
 if_declared (Some m) test = test m.flags
 
--- an interface declares it neither private nor static (5.4.3.3)
+-- neither private nor static (5.4.3.3, 5.4.5)
+abbrev pub is_virtual : ℕ → Bool
+is_virtual flags = not (is_private flags) && not (is_static flags)
+
+-- a class or an interface declares it neither private nor static (5.4.3.3, 5.4.5)
 abbrev pub is_offered : Key → Kin → Bool
-is_offered key k = if_declared (method_of k key) (λ x. not (is_private x) && not (is_static x))
+is_offered key k = if_declared (method_of k key) is_virtual
 
 -- the superinterfaces that offer a method, in preorder (5.4.3.3)
 abbrev pub offering : Kin → Key → List Kin

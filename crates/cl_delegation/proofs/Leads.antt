@@ -3,12 +3,12 @@ use Rattle.std.proofs.Common.{◌<◌, ◌≡◌, ℕ, true, false, List, [], �
 use Rattle.std.specs.Prelude.{find, slice_get}
 use Rattle.std.specs.Option.{unwrap_or}
 use Rattle.cl_model.specs.Content.{Content, content_at}
+use Rattle.cl_model.proofs.Probes.{home_is_on_route}
 use Rattle.cl_source.specs.Told.{IsTold}
 use Rattle.cl_source.specs.Views.{Found}
 use Rattle.cl_delegation.specs.Worlds.{world_of}
 use Rattle.cl_delegation.specs.Searches.{Searched, route_of, next_on, with_bytes, IsProbeOf, AllLack, IsFound, IsEnd, Follows, LeadsTo}
 use Rattle.cl_config.specs.Configs.{IsConfig}
-use Rattle.cl_delegation.proofs.Routes.{home_is_on_route}
 use Rattle.cl_delegation.proofs.Once.{route_within}
 
 -- ---- one probe more

@@ -1,4 +1,3 @@
 pub mod Leads
 pub mod Once
-pub mod Routes
 pub mod Ways

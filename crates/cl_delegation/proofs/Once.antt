@@ -4,13 +4,14 @@ use Rattle.std.specs.Prelude.{find, slice_get, IfSome, if◌then◌else◌}
 use Rattle.std.specs.List.{AllByRecursion, starts_with}
 use Rattle.cl_classfile.specs.Files.{Name}
 use Rattle.cl_model.specs.Homes.{is_java}
+use Rattle.cl_model.specs.Probes.{route, route_from}
 use Rattle.cl_config.specs.declared.order.Order.{Order}
 use Rattle.cl_config.specs.declared.order.Order.TheVariants.{ParentFirst, ChildFirst}
 use Rattle.cl_config.specs.Views.{Configured, Loader, Import}
 use Rattle.cl_config.specs.Configs.{IsConfig, LeadsBelow}
 use Rattle.cl_config.specs.Loaders.{loaders_of}
 use Rattle.cl_config.proofs.Below.{below_at}
-use Rattle.cl_delegation.specs.Routes.{NoneTwice, AsksOnce, route, route_from}
+use Rattle.cl_delegation.specs.Routes.{NoneTwice, AsksOnce}
 use Rattle.cl_delegation.proofs.Ways.{by_import, alone, parent_first, child_first, target_below}
 
 Below : ℕ → List ℕ → Type 0

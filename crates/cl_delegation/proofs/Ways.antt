@@ -13,7 +13,7 @@ use Rattle.cl_config.specs.declared.order.Order.{Order}
 use Rattle.cl_config.specs.declared.order.Order.TheVariants.{ParentFirst, ChildFirst}
 use Rattle.cl_config.specs.Views.{Configured, Loader, Import}
 use Rattle.cl_config.specs.Loaders.{parents_of, order_of, loader_of, loaders_of}
-use Rattle.cl_delegation.specs.Routes.{in_turn, route_at, routed, route_below, route_from}
+use Rattle.cl_model.specs.Probes.{in_turn, route_at, routed, route_below, route_from}
 
 here : (n : ℕ) → (n == n) ≡ true
 here n = grind (arith, nat_tests)

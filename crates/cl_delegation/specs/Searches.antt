@@ -16,11 +16,11 @@ use Rattle.std.specs.Prelude.{
 }
 use Rattle.cl_model.specs.Content.{Content}
 use Rattle.cl_model.specs.Homes.{home}
+use Rattle.cl_model.specs.Probes.{route}
 use Rattle.cl_config.specs.Views.{Configured}
 use Rattle.cl_config.specs.Loaders.{loaders_of}
 use Rattle.cl_source.specs.Told.{IsTold}
 use Rattle.cl_source.specs.Views.{Found}
-use Rattle.cl_delegation.specs.Routes.{route}
 use Rattle.cl_delegation.specs.Worlds.{world_of}
 
 -- a search: what is asked, the probes so far that found nothing, in order, and the one that found

@@ -5,7 +5,7 @@ ghost use Rattle.std.specs.List.{starts_with};
 ghost use Rattle.std.specs.Option.{option_map};
 ghost use Rattle.cl_model.specs.Homes.{is_java};
 ghost use Rattle.cl_config.specs.Loaders.{loaders_of};
-ghost use Rattle.cl_delegation.specs.Routes.{route, route_from};
+ghost use Rattle.cl_model.specs.Probes.{route, route_from};
 
 use cl_config::{Config, Import, Order};
 use cl_model::LoaderId;

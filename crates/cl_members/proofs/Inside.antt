@@ -3,10 +3,10 @@ use Rattle.std.proofs.Common.{◌≡◌, Bool, true, false, if◌then◌else◌,
 use Rattle.std.specs.Prelude.{find, option_map}
 use Rattle.std.specs.Option.{option_or}
 use Rattle.std.specs.List.{AllByRecursion}
+use Rattle.cl_model.specs.Lineages.{first, only}
 use Rattle.cl_hierarchy.specs.Rows.{Rowed}
 use Rattle.cl_hierarchy.specs.Lineages.{IsInOrder, IsRowIn, Lined, rows_in}
 use Rattle.cl_hierarchy.proofs.Climbs.{own_row}
-use Rattle.cl_members.specs.Lookups.{first_in, only_in}
 
 some_same : {A : Type 0} (x y : A) → (let o : Option A = Some x in o) ≡ Some y → x ≡ y
 some_same x y e = cc
@@ -25,7 +25,7 @@ find_all P p [] a all e = absurd cc
 find_all P p (x ∷ xs) a all e = found_now P x a (find p xs) (p x) all.0 (λ f. find_all P p xs a all.1 f) e
 
 module _ {R : Type 0} (v : R → Rowed) (P : Rowed → Type 0) where
-  pub first_all : (rows : List R) (o : Option R) → AllByRecursion (λ r. P (v r)) rows → option_map v o ≡ first_in (map v rows) → IfSome o (λ r. P (v r))
+  pub first_all : (rows : List R) (o : Option R) → AllByRecursion (λ r. P (v r)) rows → option_map v o ≡ first (map v rows) → IfSome o (λ r. P (v r))
   first_all rows None all e = tt
   first_all [] (Some x) all e = absurd cc
   first_all (r ∷ rows) (Some x) all e = subst P (sym (some_same (v x) (v r) e)) all.0
@@ -34,7 +34,7 @@ module _ {R : Type 0} (v : R → Rowed) (P : Rowed → Type 0) where
   other_all None x h e = absurd cc
   other_all (Some y) x h e = subst P (sym (some_same (v x) (v y) e)) h
 
-  pub only_all : (left : List R) (o other : Option R) → AllByRecursion (λ r. P (v r)) left → IfSome other (λ r. P (v r)) → option_map v o ≡ option_or (only_in (map v left)) (option_map v other) → IfSome o (λ r. P (v r))
+  pub only_all : (left : List R) (o other : Option R) → AllByRecursion (λ r. P (v r)) left → IfSome other (λ r. P (v r)) → option_map v o ≡ option_or (only (map v left)) (option_map v other) → IfSome o (λ r. P (v r))
   only_all left None other all h e = tt
   only_all [] (Some x) other all h e = other_all other x h e
   only_all (l ∷ []) (Some x) other all h e = subst P (sym (some_same (v x) (v l) e)) all.0

@@ -1,6 +1,6 @@
 -- Maximally specific methods, by the classes that stand above what offers the method.
 use Rattle.std.proofs.Common.{◌≡◌, Bool, not, ◌||◌, List, [], ◌∷◌, map, refl, sym, ap, ◌∙◌}
-use Rattle.std.specs.Prelude.{filter, Option, Some, None, option_map, Result, Ok, Err, IfOk}
+use Rattle.std.specs.Prelude.{filter, Option, Some, None, option_map}
 use Rattle.std.specs.Option.{option_or}
 use Rattle.std.specs.List.{list_any}
 use Rattle.std.proofs.lemmas.List.Folds.{list_any-append}
@@ -11,7 +11,7 @@ use Rattle.cl_classfile.specs.Files.{Key}
 use Rattle.cl_hierarchy.specs.Rows.{Rowed}
 use Rattle.cl_hierarchy.specs.Lineages.{Lined, kin_at, kin_of}
 use Rattle.cl_members.specs.Members.{implements}
-use Rattle.cl_members.specs.Lookups.{beneath, first_in, interface_owner, offering, only_in, specific}
+use Rattle.cl_members.specs.Lookups.{beneath, interface_owner, offering, specific}
 use Rattle.cl_members.proofs.Lists.{filter_map_is, filter_same, map_map, option_map_map}
 
 pub beneath_is : (ks : List Kin) (c : Class) → is_among (beneath ks) c ≡ list_any (λ k. is_among (classes (superinterfaces k)) c) ks
@@ -39,11 +39,11 @@ module _ {R : Type 0} (f : R → Kin) where
       )
 
 -- the first and the only one, without where they lie
-first_is : {R : Type 0} (f : R → Kin) (rows : List R) → option_map f (first_in rows) ≡ first (map f rows)
+first_is : {R : Type 0} (f : R → Kin) (rows : List R) → option_map f (first rows) ≡ first (map f rows)
 first_is f [] = refl
 first_is f (r ∷ rows) = refl
 
-only_is : {R : Type 0} (f : R → Kin) (rows : List R) → option_map f (only_in rows) ≡ only (map f rows)
+only_is : {R : Type 0} (f : R → Kin) (rows : List R) → option_map f (only rows) ≡ only (map f rows)
 only_is f [] = refl
 only_is f (r ∷ []) = refl
 only_is f (r ∷ q ∷ rows) = refl
@@ -54,21 +54,17 @@ either_is f (Some a) b = refl
 
 -- the lookup's end
 pub owner_is : {R : Type 0} (f : R → Kin) (key : Option Key) (k : Kin) (offered left : List R) → map f offered ≡ offering key k → map f left ≡ filter (λ a. implements key a.file) (specific key k)
-    → option_map f (option_or (only_in left) (first_in offered)) ≡ interface_owner key k
+    → option_map f (option_or (only left) (first offered)) ≡ interface_owner key k
 owner_is f key k offered left o l =
-    either_is f (only_in left) (first_in offered)
-    ∙ ap (λ (x : Option Kin). option_or x (option_map f (first_in offered))) (only_is f left ∙ ap only l)
+    either_is f (only left) (first offered)
+    ∙ ap (λ (x : Option Kin). option_or x (option_map f (first offered))) (only_is f left ∙ ap only l)
     ∙ ap (option_or (only (filter (λ a. implements key a.file) (specific key k)))) (first_is f offered ∙ ap first o)
 
 -- the same of rows
-pub finished : {R : Type 0} (v : R → Rowed) (l : Lined) (key : Option Key) (o other : Option R) (left offered : List R) → option_map v o ≡ option_or (only_in (map v left)) (option_map v other)
-    → option_map v other ≡ first_in (map v offered) → map (λ r. kin_at l (v r)) offered ≡ offering key (kin_of l)
+pub finished : {R : Type 0} (v : R → Rowed) (l : Lined) (key : Option Key) (o other : Option R) (left offered : List R) → option_map v o ≡ option_or (only (map v left)) (option_map v other)
+    → option_map v other ≡ first (map v offered) → map (λ r. kin_at l (v r)) offered ≡ offering key (kin_of l)
     → map (λ r. kin_at l (v r)) left ≡ filter (λ a. implements key a.file) (specific key (kin_of l)) → option_map (λ r. kin_at l (v r)) o ≡ interface_owner key (kin_of l)
 finished v l key o other left offered e f offers_are left_are =
     option_map_map v (kin_at l) o
-    ∙ ap (option_map (kin_at l)) (e ∙ ap (option_or (only_in (map v left))) f)
+    ∙ ap (option_map (kin_at l)) (e ∙ ap (option_or (only (map v left))) f)
     ∙ owner_is (kin_at l) key (kin_of l) (map v offered) (map v left) (sym (map_map v (kin_at l) offered) ∙ offers_are) (sym (map_map v (kin_at l) left) ∙ left_are)
-
-pub if_ok : {A E : Type 0} (P Q : A → Type 0) → ((a : A) → P a → Q a) → (r : Result A E) → IfOk r P → IfOk r Q
-if_ok P Q f (Ok a) h = f a h
-if_ok P Q f (Err e) h = tt

@@ -1,6 +1,6 @@
 -- The lookups of the rules, of the key that texts are, if they are one
 -- (JVMS SE 8, 5.4.3.2 to 5.4.3.4).
-use Rattle.std.specs.Prelude.{List, [], ◌∷◌, Option, Some, None, find, filter, flat_map, is_some}
+use Rattle.std.specs.Prelude.{List, [], ◌∷◌, Option, find, filter, flat_map, is_some}
 use Rattle.std.specs.Option.{option_or}
 use Rattle.cl_classfile.specs.Files.{Key}
 use Rattle.cl_model.specs.declared.class.Class.{Class}
@@ -54,14 +54,3 @@ abbrev pub interface_method_owner : Option Key → Kin → Option Kin
 interface_method_owner key k =
     option_or (own_method key k)
     (option_or (find (λ a. has_public key a.file) (superclasses k)) (interface_owner key k))
-
--- the first of a list
-abbrev pub first_in : {X : Type 0} → List X → Option X
-first_in [] = None
-first_in (x ∷ xs) = Some x
-
--- the one of a list, if there is just one
-abbrev pub only_in : {X : Type 0} → List X → Option X
-only_in [] = None
-only_in (x ∷ []) = Some x
-only_in (x ∷ y ∷ xs) = None

@@ -6,11 +6,10 @@ use Rattle.cl_classfile.specs.Files.{
   Member,
   member,
   is_public,
-  is_private,
   is_static,
   is_abstract,
 }
-use Rattle.cl_model.specs.Lineages.{if_declared}
+use Rattle.cl_model.specs.Lineages.{if_declared, is_virtual}
 
 -- the field with this key that a file has (4.5)
 abbrev pub field_in : Option Key → File → Option Member
@@ -23,7 +22,7 @@ method_in key f = option_and_then (member f.methods) key
 -- a class of this file offers the method to its subtypes: it declares it neither private nor static
 -- (5.4.3.3)
 abbrev pub offers : Option Key → File → Bool
-offers key f = if_declared (method_in key f) (λ x. not (is_private x) && not (is_static x))
+offers key f = if_declared (method_in key f) is_virtual
 
 -- it declares it as a public method of instances (5.4.3.4)
 abbrev pub has_public : Option Key → File → Bool

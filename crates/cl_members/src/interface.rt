@@ -6,10 +6,11 @@ ghost use Rattle.std.specs.Option.{option_map, option_or};
 ghost use Rattle.cl_classfile.specs.Files.{file_of, method_key};
 ghost use Rattle.cl_classfile.specs.References.{plain_symbol};
 ghost use Rattle.cl_model.specs.Classes.{is_among, same_class};
+ghost use Rattle.cl_model.specs.Lineages.{first, only};
 ghost use Rattle.cl_model.specs.declared.class.Class.{Class};
 ghost use Rattle.cl_hierarchy.specs.Lineages.{IsRowIn, kin_at, kin_of, rows_in};
 ghost use Rattle.cl_members.specs.Members.{offers, implements};
-ghost use Rattle.cl_members.specs.Lookups.{beneath, first_in, interface_owner, offering, only_in};
+ghost use Rattle.cl_members.specs.Lookups.{beneath, interface_owner, offering};
 
 use crate::owning::{implements, offers};
 use cl_classfile::Symbol;
@@ -105,7 +106,7 @@ fn offering<T: Told>(
 /// The first of these, if there is one.
 fn first_of<T: Told>(rows: &[Arc<ClassRow<T>>]) -> Result<Option<Arc<ClassRow<T>>>, AllocError>
     ensures { IfOk result (λ o. option_map (λ r. r.value) o
-        ≡ first_in (map (λ r. r.value) rows.now)) }
+        ≡ first (map (λ r. r.value) rows.now)) }
 {
     match rows.first() {
         Some(row) => Ok(Some(Arc::try_clone(row)?)),
@@ -119,7 +120,7 @@ fn only_or<T: Told>(
     other: Option<Arc<ClassRow<T>>>,
 ) -> Result<Option<Arc<ClassRow<T>>>, AllocError>
     ensures { IfOk result (λ o. option_map (λ r. r.value) o
-        ≡ option_or (only_in (map (λ r. r.value) rows.now)) (option_map (λ r. r.value) other)) }
+        ≡ option_or (only (map (λ r. r.value) rows.now)) (option_map (λ r. r.value) other)) }
 {
     match rows {
         [one] => Ok(Some(Arc::try_clone(one)?)),

@@ -5,7 +5,6 @@
 mod asked;
 mod fault;
 mod field;
-mod flags;
 mod found;
 mod interface;
 mod method;

@@ -6,8 +6,7 @@ ghost use Rattle.cl_classfile.specs.Files.{file_of, field_key, method_key};
 ghost use Rattle.cl_classfile.specs.References.{plain_symbol};
 ghost use Rattle.cl_members.specs.Members.{field_in, method_in, offers, has_public, implements};
 
-use crate::flags::{is_abstract, is_private, is_public, is_static};
-use cl_classfile::Symbol;
+use cl_classfile::{ABSTRACT, PRIVATE, PUBLIC, STATIC, Symbol, has_flag};
 use cl_hierarchy::ClassRow;
 use cl_model::Told;
 use std::sync::Arc;
@@ -49,7 +48,7 @@ pub fn offers<T: Told>(row: &ClassRow<T>, symbol: Symbol<'_>) -> bool
     ensures { result ≡ offers (method_key (plain_symbol symbol.entry)) (file_of row.now.file) }
 {
     match method_flags(row, symbol) {
-        Some(flags) => !is_private(flags) && !is_static(flags),
+        Some(flags) => !has_flag(flags, PRIVATE) && !has_flag(flags, STATIC),
         None => false,
     }
 }
@@ -59,7 +58,7 @@ fn has_public<T: Told>(row: &ClassRow<T>, symbol: Symbol<'_>) -> bool
     ensures { result ≡ has_public (method_key (plain_symbol symbol.entry)) (file_of row.now.file) }
 {
     match method_flags(row, symbol) {
-        Some(flags) => is_public(flags) && !is_static(flags),
+        Some(flags) => has_flag(flags, PUBLIC) && !has_flag(flags, STATIC),
         None => false,
     }
 }
@@ -69,7 +68,7 @@ pub fn implements<T: Told>(row: &ClassRow<T>, symbol: Symbol<'_>) -> bool
     ensures { result ≡ implements (method_key (plain_symbol symbol.entry)) (file_of row.now.file) }
 {
     match method_flags(row, symbol) {
-        Some(flags) => !is_abstract(flags),
+        Some(flags) => !has_flag(flags, ABSTRACT),
         None => false,
     }
 }

@@ -10,7 +10,7 @@ use Rattle.cl_model.specs.Lineages.{Kin, alone, classes, lineage}
 use Rattle.cl_model.specs.Preparation.{constraints_of}
 use Rattle.cl_model.specs.States.{State, Need, Entry, Equal, Verdict, settled_to}
 use Rattle.cl_model.specs.Works.{Ask}
-use Rattle.cl_model.specs.Plans.{Request, Load, Resolve, Link, Plan, needs_of, distinct, asked_at_home, edges_of, is_equal, cost}
+use Rattle.cl_model.specs.Plans.{Request, Load, Resolve, Link, Plan, needs_of, nodes_of, homes_of, asked_at_home, edges_of, is_equal, cost}
 use Rattle.cl_model.specs.Machine.{Setting, Step, Settle, HasLineage, IsPlan, after}
 use Rattle.cl_model.specs.Service.{Want, ToStand, ToPrepare, IsFirst, MayServe, serving, to_stand, to_link, WantsPast, HasWants, Settles, IsNextStep}
 use Rattle.cl_model.specs.Progress.{Takes}
@@ -56,10 +56,6 @@ record Marked (w : World) (r : Request) (p : Plan) (marks : List Mark) : Type 0 
   equals : (name : Name) (a b : ℕ) → In (Equal name a b) (needs_of p) → In (OfEqual name a b) marks
   prepares : (wants : List Want) (c : Class) → HasWants w r p wants → In (ToPrepare c) wants → In (OfClass c) marks
   settles : (g : Setting) (s : State) (e : Step) → Settles g s r p e → (d : Class) × (i : ℕ) × (v : Verdict) × (e ≡ Settle d i v) × (settled_to s.settled d i ≡ None) × In (OfReference d i) marks
-
--- each loader and name that the plan asks, with their homes
-abbrev nodes_of : World → Plan → List Ask
-nodes_of w p = distinct (p.asked ++ flat_map (asked_at_home w) p.asked)
 
 needs_only : (ns : List Need) (c : Class) → In (ToPrepare c) (to_stand ns) → ⊥
 needs_only [] c h = h
@@ -149,7 +145,7 @@ built w r p cs refs few one prepares settles =
             let k = settles g s e h in
             (k.0, k.1, k.2, k.3, k.4, in_right (OfReference k.0 k.1) asks (prepared ++ (equals ++ refs)) (in_right (OfReference k.0 k.1) prepared (equals ++ refs) (in_right (OfReference k.0 k.1) equals refs k.5)));
       },
-      within (length marks) (length (nodes_of w p)) (length cs) (count_by is_equal (needs_of p)) (length refs) (sum_by (edges_of w) (distinct (flat_map (asked_at_home w) p.asked))) total few one,
+      within (length marks) (length (nodes_of w p)) (length cs) (count_by is_equal (needs_of p)) (length refs) (sum_by (edges_of w) (homes_of w p)) total few one,
     )
   where
     within : (m n c e r d : ℕ) → m ≡ n + (c + (e + r)) → c ≤ n → r ≤ 1 → m + 1 ≤ 3 * n + d + e + 7

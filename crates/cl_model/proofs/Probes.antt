@@ -1,9 +1,8 @@
--- A home is the first of the loaders that are probed whose own content has the name.
-use Rattle.std.proofs.Common.{◌≡◌, ℕ, zero, suc, Bool, true, false, ◌==◌, ◌||◌, if◌then◌else◌, List, [], ◌∷◌, length, Option, Some, None, refl, sym, ap, subst, ◌∙◌, slice_get}
-use Rattle.std.specs.Prelude.{nat_lt, find, option_and_then, option_to_list, flat_map}
+-- A home is the first of the loaders that are asked whose own content has the name, and of those that are probed.
+use Rattle.std.proofs.Common.{◌≡◌, ℕ, zero, suc, Bool, true, false, ◌==◌, ◌||◌, if◌then◌else◌, List, [], ◌∷◌, length, Option, Some, None, option_map, refl, sym, ap, subst, ◌∙◌, slice_get}
+use Rattle.std.specs.Prelude.{nat_lt, find, option_and_then, flat_map}
 use Rattle.std.specs.Option.{option_or}
 use Rattle.std.specs.List.{AllByRecursion}
-use Rattle.std.proofs.lemmas.List.{append-nil}
 use Rattle.std.proofs.lemmas.List.Folds.{find-append}
 use Rattle.std.proofs.lemmas.Bool.{eqb-true}
 use Rattle.std.proofs.lemmas.Cmp.{nat_eq_equiv}
@@ -11,7 +10,7 @@ use Rattle.std.proofs.lemmas.Bool.Decides.{nat_tests}
 use Rattle.std.proofs.Common.{arith}
 use Rattle.cl_classfile.specs.Files.{Name}
 use Rattle.cl_model.specs.Homes.{World, Loader, Order, ParentFirst, ChildFirst, own_home, first_home, in_order, undecided, decisive, home_at, home_below, home, is_java, is_loader}
-use Rattle.cl_model.specs.Probes.{in_turn, probes_at, probes_below, is_in, first_places, probes, has_own, EachOnce}
+use Rattle.cl_model.specs.Probes.{in_turn, route_at, routed, route_below, route_from, route, is_in, first_places, probes, has_own, EachOnce}
 use Rattle.cl_model.proofs.Homes.{first_is_loader}
 use Rattle.cl_model.proofs.Derived.{all_both}
 
@@ -43,57 +42,52 @@ find_firsts hit seen (x ∷ xs) passed = at (find_firsts hit seen xs passed) (λ
 
 -- ---- the search
 
-order_finds : (hit : ℕ → Bool) (o : Order) (above : List ℕ) (loader : ℕ) → in_order o (find hit above) (if hit loader then Some loader else None) ≡ find hit (in_turn o above loader)
-order_finds hit ParentFirst above loader = sym (find-append hit above (loader ∷ []))
-order_finds hit ChildFirst above loader = at (hit loader)
-  where
-    at : (b : Bool) → option_or (if b then Some loader else None) (find hit above) ≡ (if b then Some loader else find hit above)
-    at true = refl
-    at false = refl
+turn_finds : (hit : ℕ → Bool) (o : Order) (above own : Option ℕ) (way rest : List ℕ) → above ≡ find hit way → own ≡ find hit rest → in_order o above own ≡ find hit (in_turn o way rest)
+turn_finds hit ParentFirst above own way rest e f = rw (e, f) (sym (find-append hit way rest))
+turn_finds hit ChildFirst above own way rest e f = rw (e, f) (sym (find-append hit rest way))
 
-pub first_finds : (hit : ℕ → Bool) (homes : ℕ → Option ℕ) (earlier : ℕ → List ℕ) → ((p : ℕ) → homes p ≡ find hit (earlier p)) → (ps : List ℕ) → first_home homes ps ≡ find hit (flat_map earlier ps)
+first_finds : (hit : ℕ → Bool) (homes : ℕ → Option ℕ) (earlier : ℕ → List ℕ) → ((p : ℕ) → homes p ≡ find hit (earlier p)) → (ps : List ℕ) → first_home homes ps ≡ find hit (flat_map earlier ps)
 first_finds hit homes earlier h [] = refl
 first_finds hit homes earlier h (p ∷ ps) =
     ap (λ (o : Option ℕ). option_or o (first_home homes ps)) (h p)
     ∙ ap (λ (o : Option ℕ). option_or (find hit (earlier p)) o) (first_finds hit homes earlier h ps)
     ∙ sym (find-append hit (earlier p) (flat_map earlier ps))
 
-at_finds : (w : World) (name : Name) (n : ℕ) → ((p : ℕ) → home_below w name n p ≡ find (has_own w name) (probes_below w name n p)) → (l : Loader) → home_at w name (home_below w name n) n l ≡ find (has_own w name) (probes_at (probes_below w name n) name n l)
-at_finds w name n h l = at (decisive l.imports name)
-  where
-    at : (d : Option ℕ) → (elim d as (λ x. Option ℕ) [ Some target ↦ home_below w name n target | None ↦ undecided w name (home_below w name n) n l ])
-        ≡ find (has_own w name) (elim d as (λ x. List ℕ) [ Some target ↦ probes_below w name n target | None ↦ in_turn l.order (flat_map (probes_below w name n) l.parents) n ])
-    at (Some target) = h target
-    at None =
-        ap (λ (o : Option ℕ). in_order l.order o (own_home w n name)) (first_finds (has_own w name) (home_below w name n) (probes_below w name n) h l.parents)
-        ∙ order_finds (has_own w name) l.order (flat_map (probes_below w name n) l.parents) n
+at_finds : (w : World) (name : Name) (homes : ℕ → Option ℕ) (routes : ℕ → List ℕ) (n : ℕ) (l : Loader) (d : Option ℕ) → ((m : ℕ) → homes m ≡ find (has_own w name) (routes m))
+    → elim d [ Some target ↦ homes target | None ↦ undecided w name homes n l ] ≡ find (has_own w name) (elim d [ Some target ↦ routes target | None ↦ in_turn l.order (flat_map routes l.parents) (n ∷ []) ])
+at_finds w name homes routes n l (Some target) same = same target
+at_finds w name homes routes n l None same =
+    turn_finds (has_own w name) l.order (first_home homes l.parents) (own_home w n name) (flat_map routes l.parents) (n ∷ []) (first_finds (has_own w name) homes routes same l.parents) refl
 
-below_finds : (w : World) (name : Name) (n loader : ℕ) → home_below w name n loader ≡ find (has_own w name) (probes_below w name n loader)
+routed_finds : (w : World) (name : Name) (homes : ℕ → Option ℕ) (routes : ℕ → List ℕ) (n : ℕ) (o : Option Loader) → ((m : ℕ) → homes m ≡ find (has_own w name) (routes m))
+    → option_and_then (home_at w name homes n) o ≡ find (has_own w name) (routed (option_map (route_at name routes n) o))
+routed_finds w name homes routes n None same = refl
+routed_finds w name homes routes n (Some l) same = at_finds w name homes routes n l (decisive l.imports name) same
+
+below_finds : (w : World) (name : Name) (n loader : ℕ) → home_below w name n loader ≡ find (has_own w name) (route_below w.loaders name n loader)
 below_finds w name zero loader = refl
-below_finds w name (suc n) loader = at (λ p. below_finds w name n p) (loader == n)
+below_finds w name (suc n) loader = at (λ m. below_finds w name n m) (loader == n)
   where
-    of_loader : ((p : ℕ) → home_below w name n p ≡ find (has_own w name) (probes_below w name n p)) → (o : Option Loader) → option_and_then (home_at w name (home_below w name n) n) o ≡ find (has_own w name) (flat_map (probes_at (probes_below w name n) name n) (option_to_list o))
-    of_loader ih None = refl
-    of_loader ih (Some l) = at_finds w name n ih l ∙ ap (λ (xs : List ℕ). find (has_own w name) xs) (sym (append-nil (probes_at (probes_below w name n) name n l)))
+    at : ((m : ℕ) → home_below w name n m ≡ find (has_own w name) (route_below w.loaders name n m)) → (b : Bool)
+        → (elim b [ true ↦ option_and_then (home_at w name (home_below w name n) n) (slice_get w.loaders n) | false ↦ home_below w name n loader ])
+        ≡ find (has_own w name) (elim b [ true ↦ routed (option_map (route_at name (route_below w.loaders name n) n) (slice_get w.loaders n)) | false ↦ route_below w.loaders name n loader ])
+    at same true = routed_finds w name (home_below w name n) (route_below w.loaders name n) n (slice_get w.loaders n) same
+    at same false = same loader
 
-    at : ((p : ℕ) → home_below w name n p ≡ find (has_own w name) (probes_below w name n p)) → (b : Bool) → (elim b as (λ x. Option ℕ) [ true ↦ option_and_then (home_at w name (home_below w name n) n) (slice_get w.loaders n) | false ↦ home_below w name n loader ])
-        ≡ find (has_own w name) (elim b as (λ x. List ℕ) [ true ↦ flat_map (probes_at (probes_below w name n) name n) (option_to_list (slice_get w.loaders n)) | false ↦ probes_below w name n loader ])
-    at ih true = of_loader ih (slice_get w.loaders n)
-    at ih false = ih loader
+pub home_is_on_route : (w : World) (loader : ℕ) (name : Name) → home w loader name ≡ find (has_own w name) (route w.loaders loader name)
+home_is_on_route w loader name = at (is_java name)
+  where
+    first : (b : Bool) → (if b then own_home w 0 name else None) ≡ find (has_own w name) (if b then 0 ∷ [] else [])
+    first true = refl
+    first false = refl
+
+    at : (b : Bool) → (elim b [ true ↦ if is_loader w loader then own_home w 0 name else None | false ↦ home_below w name (suc loader) loader ])
+        ≡ find (has_own w name) (elim b [ true ↦ if is_loader w loader then 0 ∷ [] else [] | false ↦ route_from w.loaders name loader ])
+    at true = first (is_loader w loader)
+    at false = below_finds w name (suc loader) loader
 
 pub home_is_probed : (w : World) (loader : ℕ) (name : Name) → home w loader name ≡ find (has_own w name) (probes w loader name)
-home_is_probed w loader name = at (is_java name) ∙ sym (find_firsts (has_own w name) [] (of_name (is_java name)) (λ n h. absurd cc))
-  where
-    of_name : Bool → List ℕ
-    of_name b = elim b as (λ x. List ℕ) [ true ↦ if is_loader w loader then 0 ∷ [] else [] | false ↦ probes_below w name (suc loader) loader ]
-
-    of_java : (b : Bool) → (if b then own_home w 0 name else None) ≡ find (has_own w name) (if b then 0 ∷ [] else [])
-    of_java true = refl
-    of_java false = refl
-
-    at : (b : Bool) → (elim b as (λ x. Option ℕ) [ true ↦ if is_loader w loader then own_home w 0 name else None | false ↦ home_below w name (suc loader) loader ]) ≡ find (has_own w name) (of_name b)
-    at true = of_java (is_loader w loader)
-    at false = below_finds w name (suc loader) loader
+home_is_probed w loader name = home_is_on_route w loader name ∙ sym (find_firsts (has_own w name) [] (route w.loaders loader name) (λ n h. absurd cc))
 
 -- ---- no loader is probed twice
 
@@ -119,7 +113,7 @@ firsts_once seen (x ∷ xs) = at (firsts_once seen xs) (firsts_once (x ∷ seen)
     at same more false = (firsts_avoid (x ∷ seen) xs x (ap (λ (b : Bool). b || is_in seen x) (nat_eq_equiv.refl x)), more)
 
 pub probed_once : (w : World) (loader : ℕ) (name : Name) → EachOnce (probes w loader name)
-probed_once w loader name = firsts_once [] (elim (is_java name) as (λ x. List ℕ) [ true ↦ if is_loader w loader then 0 ∷ [] else [] | false ↦ probes_below w name (suc loader) loader ])
+probed_once w loader name = firsts_once [] (route w.loaders loader name)
 
 -- ---- what is probed is a loader
 
@@ -138,38 +132,43 @@ flat_are : {A : Type 0} (w : World) (f : A → List ℕ) (xs : List A) → ((x :
 flat_are w f [] h = tt
 flat_are w f (x ∷ xs) h = all_both (λ (n : ℕ). is_loader w n ≡ true) (f x) (flat_map f xs) (h x) (flat_are w f xs h)
 
-turn_are : (w : World) (o : Order) (above : List ℕ) (loader : ℕ) → AreLoaders w above → is_loader w loader ≡ true → AreLoaders w (in_turn o above loader)
-turn_are w ParentFirst above loader h own = all_both (λ (n : ℕ). is_loader w n ≡ true) above (loader ∷ []) h (own, tt)
-turn_are w ChildFirst above loader h own = (own, h)
+turn_are : (w : World) (o : Order) (above own : List ℕ) → AreLoaders w above → AreLoaders w own → AreLoaders w (in_turn o above own)
+turn_are w ParentFirst above own h k = all_both (λ (n : ℕ). is_loader w n ≡ true) above own h k
+turn_are w ChildFirst above own h k = all_both (λ (n : ℕ). is_loader w n ≡ true) own above k h
 
 loader_is : {A : Type 0} (xs : List A) (n : ℕ) (x : A) → slice_get xs n ≡ Some x → nat_lt n (length xs) ≡ true
 loader_is [] n x h = absurd cc
 loader_is (y ∷ ys) zero x h = grind (arith, nat_tests)
 loader_is (y ∷ ys) (suc n) x h = let k : nat_lt n (length ys) ≡ true = loader_is ys n x h in grind (arith, nat_tests)
 
-below_are : (w : World) (name : Name) (n loader : ℕ) → AreLoaders w (probes_below w name n loader)
+at_are : (w : World) (routes : ℕ → List ℕ) (n : ℕ) (l : Loader) (d : Option ℕ) → ((m : ℕ) → AreLoaders w (routes m)) → is_loader w n ≡ true
+    → AreLoaders w (elim d [ Some target ↦ routes target | None ↦ in_turn l.order (flat_map routes l.parents) (n ∷ []) ])
+at_are w routes n l (Some target) are own = are target
+at_are w routes n l None are own = turn_are w l.order (flat_map routes l.parents) (n ∷ []) (flat_are w routes l.parents are) (own, tt)
+
+routed_are : (w : World) (name : Name) (routes : ℕ → List ℕ) (n : ℕ) (o : Option Loader) → slice_get w.loaders n ≡ o → ((m : ℕ) → AreLoaders w (routes m)) → AreLoaders w (routed (option_map (route_at name routes n) o))
+routed_are w name routes n None e are = tt
+routed_are w name routes n (Some l) e are = at_are w routes n l (decisive l.imports name) are (loader_is w.loaders n l e)
+
+below_are : (w : World) (name : Name) (n loader : ℕ) → AreLoaders w (route_below w.loaders name n loader)
 below_are w name zero loader = tt
-below_are w name (suc n) loader = at (λ p. below_are w name n p) (loader == n)
+below_are w name (suc n) loader = at (λ m. below_are w name n m) (loader == n)
   where
-    decided : ((p : ℕ) → AreLoaders w (probes_below w name n p)) → (l : Loader) → is_loader w n ≡ true → (d : Option ℕ) → AreLoaders w (elim d as (λ x. List ℕ) [ Some target ↦ probes_below w name n target | None ↦ in_turn l.order (flat_map (probes_below w name n) l.parents) n ])
-    decided ih l own (Some target) = ih target
-    decided ih l own None = turn_are w l.order (flat_map (probes_below w name n) l.parents) n (flat_are w (probes_below w name n) l.parents ih) own
+    at : ((m : ℕ) → AreLoaders w (route_below w.loaders name n m)) → (b : Bool)
+        → AreLoaders w (elim b [ true ↦ routed (option_map (route_at name (route_below w.loaders name n) n) (slice_get w.loaders n)) | false ↦ route_below w.loaders name n loader ])
+    at are true = routed_are w name (route_below w.loaders name n) n (slice_get w.loaders n) refl are
+    at are false = are loader
 
-    of_loader : ((p : ℕ) → AreLoaders w (probes_below w name n p)) → (o : Option Loader) → slice_get w.loaders n ≡ o → AreLoaders w (flat_map (probes_at (probes_below w name n) name n) (option_to_list o))
-    of_loader ih None e = tt
-    of_loader ih (Some l) e = all_both (λ (m : ℕ). is_loader w m ≡ true) (probes_at (probes_below w name n) name n l) [] (decided ih l (loader_is w.loaders n l e) (decisive l.imports name)) tt
+route_are : (w : World) (loader : ℕ) (name : Name) → AreLoaders w (route w.loaders loader name)
+route_are w loader name = at (is_java name)
+  where
+    first : (b : Bool) → is_loader w loader ≡ b → AreLoaders w (if b then 0 ∷ [] else [])
+    first true e = (first_is_loader w loader e, tt)
+    first false e = tt
 
-    at : ((p : ℕ) → AreLoaders w (probes_below w name n p)) → (b : Bool) → AreLoaders w (elim b as (λ x. List ℕ) [ true ↦ flat_map (probes_at (probes_below w name n) name n) (option_to_list (slice_get w.loaders n)) | false ↦ probes_below w name n loader ])
-    at ih true = of_loader ih (slice_get w.loaders n) refl
-    at ih false = ih loader
+    at : (b : Bool) → AreLoaders w (elim b [ true ↦ if is_loader w loader then 0 ∷ [] else [] | false ↦ route_from w.loaders name loader ])
+    at true = first (is_loader w loader) refl
+    at false = below_are w name (suc loader) loader
 
 pub probes_are_loaders : (w : World) (loader : ℕ) (name : Name) → AllByRecursion (λ (n : ℕ). is_loader w n ≡ true) (probes w loader name)
-probes_are_loaders w loader name = at (is_java name)
-  where
-    of_java : (b : Bool) → is_loader w loader ≡ b → AreLoaders w (first_places [] (if b then 0 ∷ [] else []))
-    of_java true e = (first_is_loader w loader e, tt)
-    of_java false e = tt
-
-    at : (b : Bool) → AreLoaders w (first_places [] (elim b as (λ x. List ℕ) [ true ↦ if is_loader w loader then 0 ∷ [] else [] | false ↦ probes_below w name (suc loader) loader ]))
-    at true = of_java (is_loader w loader) refl
-    at false = firsts_are w [] (probes_below w name (suc loader) loader) (below_are w name (suc loader) loader)
+probes_are_loaders w loader name = firsts_are w [] (route w.loaders loader name) (route_are w loader name)

@@ -2,7 +2,7 @@
 use Rattle.std.specs.Prelude.{IsSome, ◌≡◌, ℕ, suc, ◌+◌, true, List, [], ◌∷◌, ◌++◌, length, Some, None, Ok, Err, ◌⊎◌, ◌↔◌, Contains, Option, slice_get, ◌≢◌, ◌≤◌, find}
 use Rattle.cl_classfile.specs.Files.{Name, File, Key, same_key, field_of, method_of}
 use Rattle.cl_model.specs.Homes.{World, home, is_loader}
-use Rattle.cl_model.specs.Probes.{probes, has_own, EachOnce}
+use Rattle.cl_model.specs.Probes.{probes, route, has_own, EachOnce}
 use Rattle.cl_model.specs.declared.class.Class.{Class}
 use Rattle.cl_model.specs.Preparation.{constraints_of}
 use Rattle.cl_model.specs.Classes.{class, is_among, Above, AtHome, supers, Error, ClassCircularity, HasFile, IsAtHome, Good, IsGood, Fails, Circular, Next, Returns}
@@ -24,6 +24,10 @@ use Rattle.cl_model.specs.Tables.{Records}
 -- a home is its own home (5.3.1, 5.3.2)
 abbrev pub HomeOfHome : Type 0
 HomeOfHome = (w : World) (loader found : ℕ) (name : Name) → home w loader name ≡ Some found → home w found name ≡ Some found
+
+-- a home is the first of the loaders that are asked whose own content has the name (5.3.2)
+abbrev pub HomeIsOnRoute : Type 0
+HomeIsOnRoute = (w : World) (loader : ℕ) (name : Name) → home w loader name ≡ find (has_own w name) (route w.loaders loader name)
 
 -- a home is the first of the loaders that are probed whose own content has the name (5.3.2)
 abbrev pub HomeIsProbed : Type 0

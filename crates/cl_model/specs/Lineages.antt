@@ -134,9 +134,13 @@ abbrev pub if_declared : Option Member → (ℕ → Bool) → Bool
 if_declared None test = false
 if_declared (Some m) test = test m.flags
 
--- an interface declares it neither private nor static (5.4.3.3)
+-- neither private nor static (5.4.3.3, 5.4.5)
+abbrev pub is_virtual : ℕ → Bool
+is_virtual flags = not (is_private flags) && not (is_static flags)
+
+-- a class or an interface declares it neither private nor static (5.4.3.3, 5.4.5)
 abbrev pub is_offered : Key → Kin → Bool
-is_offered key k = if_declared (method_of k key) (λ x. not (is_private x) && not (is_static x))
+is_offered key k = if_declared (method_of k key) is_virtual
 
 -- the superinterfaces that offer a method, in preorder (5.4.3.3)
 abbrev pub offering : Kin → Key → List Kin
@@ -155,15 +159,15 @@ abbrev pub is_default : Key → Kin → Bool
 is_default key k = if_declared (method_of k key) (λ x. not (is_abstract x))
 
 -- the first: 'arbitrarily chosen' is read so (own choice, 5.4.3.3)
-abbrev pub first : List Kin → Option Kin
+abbrev pub first : {A : Type 0} → List A → Option A
 first [] = None
-first (k ∷ ks) = Some k
+first (x ∷ xs) = Some x
 
 -- the one, if there is exactly one (5.4.3.3, step 3)
-abbrev pub only : List Kin → Option Kin
+abbrev pub only : {A : Type 0} → List A → Option A
 only [] = None
-only (k ∷ []) = Some k
-only (k ∷ l ∷ ks) = None
+only (x ∷ []) = Some x
+only (x ∷ y ∷ xs) = None
 
 -- the one maximally specific method that is not abstract, else the first that is offered (5.4.3.3, step 3)
 abbrev pub from_superinterfaces : Kin → Key → Option Kin

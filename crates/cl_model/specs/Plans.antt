@@ -206,10 +206,18 @@ abbrev pub is_equal : Need → Bool
 is_equal (Entry loader name place) = false
 is_equal (Equal name a b) = true
 
+-- each loader and name that a plan asks, and each home with the name, once (5.3.2)
+abbrev pub nodes_of : World → Plan → List Ask
+nodes_of w p = distinct (p.asked ++ flat_map (asked_at_home w) p.asked)
+
+-- the homes alone
+abbrev pub homes_of : World → Plan → List Ask
+homes_of w p = distinct (flat_map (asked_at_home w) p.asked)
+
 -- a bound on the steps of a request
 abbrev pub cost : World → Plan → ℕ
 cost w p =
-    3 * length (distinct (p.asked ++ flat_map (asked_at_home w) p.asked))
-    + sum_by (edges_of w) (distinct (flat_map (asked_at_home w) p.asked))
+    3 * length (nodes_of w p)
+    + sum_by (edges_of w) (homes_of w p)
     + count_by is_equal (needs_of p)
     + 7

@@ -1,12 +1,12 @@
 -- Overriding, and the loading constraints that preparation imposes (JVMS SE 8, 5.4.2 and 5.4.5).
 use Rattle.std.specs.Prelude.{ℕ, zero, suc, Bool, ◌&&◌, ◌||◌, not, nat_eq, nat_le, if◌then◌else◌, List, [], ◌∷◌, ◌++◌, map, length, codes, Option, Some, None, find, filter, flat_map, is_some, option_to_list}
 use Rattle.std.specs.List.{list_any, starts_with}
-use Rattle.cl_classfile.specs.Files.{Name, Key, Member, is_public, is_private, is_protected, is_static, is_interface}
+use Rattle.cl_classfile.specs.Files.{Name, Key, Member, is_public, is_protected, is_interface}
 use Rattle.cl_descriptors.specs.Types.{class_of, classes_of}
 use Rattle.cl_descriptors.specs.declared.types.Descriptor.{Descriptor}
 use Rattle.cl_descriptors.specs.declared.types.Descriptor.TheVariants as descriptors
 use Rattle.cl_model.specs.Classes.{same_package}
-use Rattle.cl_model.specs.Lineages.{Kin, superclasses, superinterfaces, method_of, if_declared}
+use Rattle.cl_model.specs.Lineages.{Kin, superclasses, superinterfaces, method_of, if_declared, is_offered}
 use Rattle.cl_model.specs.States.{Need, Equal}
 
 -- a name that begins with `<` is `<init>` or `<clinit>` (4.2.2)
@@ -15,7 +15,7 @@ is_special name = starts_with nat_eq name (codes "<")
 
 -- a class declares a method with this key that takes part in overriding (5.4.5)
 abbrev pub takes_part : Key → Kin → Bool
-takes_part key k = not (is_special key.name) && if_declared (method_of k key) (λ x. not (is_private x) && not (is_static x))
+takes_part key k = not (is_special key.name) && is_offered key k
 
 -- the method of c overrides the one of its superclass a, with no third method (5.4.5)
 abbrev pub overrides_directly : Key → Kin → Kin → Bool
@@ -76,7 +76,7 @@ for_declared c m =
 
 -- the nearest superclass that declares a method that is neither private nor static (5.4.2, 5.4.5)
 abbrev pub inherited_from : Kin → Key → Option Kin
-inherited_from c key = find (λ a. if_declared (method_of a key) (λ x. not (is_private x) && not (is_static x))) (superclasses c)
+inherited_from c key = find (is_offered key) (superclasses c)
 
 -- equalities of the inherited implementation with the superinterface, if there is one (5.4.2)
 abbrev pub with_inherited : Key → Kin → Option Kin → List Need

@@ -1,29 +1,46 @@
--- The search for a name as a list of loaders to probe (JVMS SE 8, 5.3.2).
-use Rattle.std.specs.Prelude.{◌≡◌, ℕ, zero, suc, Bool, true, false, ◌==◌, if◌then◌else◌, List, [], ◌∷◌, ◌++◌, Some, None, is_some, slice_get, flat_map, option_to_list}
+-- The search for a name as a list of loaders: those that are asked, and each of them once (JVMS SE 8, 5.3.2).
+use Rattle.std.specs.Prelude.{◌≡◌, ℕ, zero, suc, Bool, true, false, ◌==◌, nat_lt, if◌then◌else◌, List, [], ◌∷◌, ◌++◌, length, Option, Some, None, is_some, slice_get, flat_map, option_map}
 use Rattle.std.specs.List.{list_any}
 use Rattle.cl_classfile.specs.Files.{Name}
 use Rattle.cl_model.specs.Content.{content_at}
-use Rattle.cl_model.specs.Homes.{World, Loader, Order, ParentFirst, ChildFirst, decisive, is_java, is_loader}
+use Rattle.cl_model.specs.Homes.{World, Loader, Order, ParentFirst, ChildFirst, decisive, is_java}
 
 -- the loaders above and the loader itself, in its order (own choice of delegation, 5.3.2)
-abbrev pub in_turn : Order → List ℕ → ℕ → List ℕ
-in_turn ParentFirst above loader = above ++ loader ∷ []
-in_turn ChildFirst above loader = loader ∷ above
+abbrev pub in_turn : Order → List ℕ → List ℕ → List ℕ
+in_turn ParentFirst above own = above ++ own
+in_turn ChildFirst above own = own ++ above
 
--- what is probed for one loader, by what is probed for earlier ones: for a name that an import decides what its target
--- probes, otherwise what the loaders above probe, and the loader itself (5.3.2)
-abbrev pub probes_at : (ℕ → List ℕ) → Name → ℕ → Loader → List ℕ
-probes_at earlier name loader l = elim (decisive l.imports name) [
+-- what is asked at one loader, by what is asked at earlier ones: for a name that an import decides what its target
+-- asks, otherwise what the loaders above ask, and the loader itself (5.3.2)
+abbrev pub route_at : Name → (ℕ → List ℕ) → ℕ → Loader → List ℕ
+route_at name earlier loader l = elim (decisive l.imports name) [
   | Some target ↦ earlier target
-  | None ↦ in_turn l.order (flat_map earlier l.parents) loader
+  | None ↦ in_turn l.order (flat_map earlier l.parents) (loader ∷ [])
 ]
 
--- what is probed for the first so many loaders (5.3.2)
-abbrev pub probes_below : World → Name → ℕ → ℕ → List ℕ
-probes_below w name zero loader = []
-probes_below w name (suc n) loader = elim (loader == n) [
-  | true ↦ flat_map (probes_at (probes_below w name n) name n) (option_to_list (slice_get w.loaders n))
-  | false ↦ probes_below w name n loader
+-- the loaders that are asked, if there is such a loader (5.3.2)
+abbrev pub routed : Option (List ℕ) → List ℕ
+routed None = []
+routed (Some loaders) = loaders
+
+-- the loaders that are asked at one of the first so many (5.3.2)
+abbrev pub route_below : List Loader → Name → ℕ → ℕ → List ℕ
+route_below ls name zero loader = []
+route_below ls name (suc n) loader = elim (loader == n) [
+  | true ↦ routed (option_map (route_at name (route_below ls name n) n) (slice_get ls n))
+  | false ↦ route_below ls name n loader
+]
+
+-- the loaders that are asked for a name that is none of the platform's (5.3.2)
+abbrev pub route_from : List Loader → Name → ℕ → List ℕ
+route_from ls name loader = route_below ls name (suc loader) loader
+
+-- the loaders whose own content is asked for a name where this one is, in order, while each lacks it: of a `java/` name
+-- the first loader alone (5.3.1, 5.3.2)
+abbrev pub route : List Loader → ℕ → Name → List ℕ
+route ls loader name = elim (is_java name) [
+  | true ↦ if nat_lt loader (length ls) then 0 ∷ [] else []
+  | false ↦ route_from ls name loader
 ]
 
 -- a number is one of these
@@ -35,13 +52,9 @@ abbrev pub first_places : List ℕ → List ℕ → List ℕ
 first_places seen [] = []
 first_places seen (n ∷ ns) = if is_in seen n then first_places seen ns else n ∷ first_places (n ∷ seen) ns
 
--- the loaders whose own content is probed where this one is asked for the name, in order and each once:
--- for a `java/` name the first loader alone (5.3.1, 5.3.2)
+-- the loaders whose own content is probed where this one is asked for the name, in order and each once (5.3.1, 5.3.2)
 abbrev pub probes : World → ℕ → Name → List ℕ
-probes w loader name = first_places [] (elim (is_java name) [
-  | true ↦ if is_loader w loader then 0 ∷ [] else []
-  | false ↦ probes_below w name (suc loader) loader
-])
+probes w loader name = first_places [] (route w.loaders loader name)
 
 -- a loader's own content has the name (5.3.2)
 abbrev pub has_own : World → Name → ℕ → Bool

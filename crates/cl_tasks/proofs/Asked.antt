@@ -7,9 +7,9 @@ use Rattle.std.proofs.lemmas.Cmp.{nat_eq_equiv}
 use Rattle.cl_classfile.specs.Files.{Name, same_name}
 use Rattle.cl_model.specs.Homes.{World, home}
 use Rattle.cl_model.specs.declared.class.Class.{Class}
-use Rattle.cl_model.specs.Classes.{class, same_class, is_among}
+use Rattle.cl_model.specs.Classes.{class, same_class, is_among, is_own}
 use Rattle.cl_model.specs.Works.{Ask}
-use Rattle.cl_model.specs.Plans.{Plan, asked_at_home, same_ask}
+use Rattle.cl_model.specs.Plans.{Plan, asked_at_home, homes_of, nodes_of, same_ask}
 use Rattle.cl_model.specs.Frames.{Frame, IsFrames, path_of}
 use Rattle.cl_model.proofs.Marks.{In, in_left, in_right}
 use Rattle.cl_model.proofs.Asks.{distinct_has}
@@ -18,7 +18,7 @@ use Rattle.cl_model.proofs.Runs.{names_equal}
 use Rattle.cl_model.proofs.Ancestors.{among_first}
 use Rattle.cl_model.proofs.Bind.{some_same}
 use Rattle.cl_model.proofs.Heights.{found}
-use Rattle.cl_tasks.specs.Calls.{nodes_of, homes_of, is_own_home, ask_of, ask_for, in_hand}
+use Rattle.cl_tasks.specs.Calls.{is_own_home, ask_of, ask_for, in_hand}
 
 -- ---- nodes
 
@@ -49,15 +49,9 @@ home_node w p a place h e =
 
 -- ---- homes
 
-abbrev Owns : ℕ → Option ℕ → Bool
-Owns l o = elim o [
-  | None ↦ false
-  | Some place ↦ place == l
-]
-
 -- a home is its own home
 pub own_home : (w : World) (l place : ℕ) (n : Name) → home w l n ≡ Some place → is_own_home w (ask_of n place) ≡ true
-own_home w l place n h = ap (λ (o : Option ℕ). Owns place o) (home_of_home w l place n h) ∙ nat_eq_equiv.refl place
+own_home w l place n h = ap (λ (o : Option ℕ). is_own place o) (home_of_home w l place n h) ∙ nat_eq_equiv.refl place
 
 differ : (a b : ℕ) → (a ≡ b → ⊥) → (t : Bool) → (b == a) ≡ t → t ≡ false
 differ a b h true e = absurd (h (sym (eqb-true b a e)))
@@ -65,7 +59,7 @@ differ a b h false e = refl
 
 -- a loader whose home is another is not
 pub not_own : (w : World) (l place : ℕ) (n : Name) → home w l n ≡ Some place → (l ≡ place → ⊥) → is_own_home w (ask_of n l) ≡ false
-not_own w l place n h other = ap (λ (o : Option ℕ). Owns l o) h ∙ differ l place other (place == l) refl
+not_own w l place n h other = ap (λ (o : Option ℕ). is_own l o) h ∙ differ l place other (place == l) refl
 
 -- ---- what is in hand
 

@@ -5,11 +5,11 @@ use Rattle.std.specs.List.{list_any}
 use Rattle.std.proofs.lemmas.List.Sums.{sum_by-cons, sum_by-le-sum_by, count_by-le-length}
 use Rattle.cl_classfile.specs.Files.{Name}
 use Rattle.cl_model.specs.Homes.{World}
-use Rattle.cl_model.specs.Plans.{Plan, edges_of, same_ask}
+use Rattle.cl_model.specs.Plans.{Plan, edges_of, homes_of, nodes_of, same_ask}
 use Rattle.cl_model.specs.States.{State, recorded}
 use Rattle.cl_model.specs.Works.{Ask}
 use Rattle.cl_model.proofs.Marks.{In}
-use Rattle.cl_tasks.specs.Calls.{nodes_of, homes_of, is_own_home, own_homes, record_calls, is_unrecorded, is_open, if_so, open_calls}
+use Rattle.cl_tasks.specs.Calls.{is_own_home, own_homes, record_calls, is_unrecorded, is_open, if_so, open_calls}
 
 -- ---- numbers that count where a test passes
 

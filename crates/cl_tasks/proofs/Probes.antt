@@ -1,5 +1,5 @@
 -- A search asks loaders of the configuration alone, and no more of them than there are.
-use Rattle.std.proofs.Common.{◌≡◌, ◌≢◌, ◌<◌, ◌≤◌, ◌+◌, ◌*◌, ◌-◌, lit<, ℕ, zero, suc, Bool, true, false, List, [], ◌∷◌, ◌++◌, length, Option, Some, None, refl, sym, ap, ◌∙◌, subst, slice_get, arith, length-append}
+use Rattle.std.proofs.Common.{◌≡◌, ◌≢◌, ◌<◌, ◌≤◌, ◌+◌, ◌*◌, ◌-◌, lit<, ℕ, zero, suc, Bool, true, false, List, [], ◌∷◌, ◌++◌, length, Option, Some, None, refl, sym, ap, ◌∙◌, subst, slice_get, arith, append-nil, length-append}
 use Rattle.std.specs.Prelude.{◌==◌, nat_lt, flat_map, option_map, unwrap_or, if◌then◌else◌}
 use Rattle.std.specs.List.{AllByRecursion}
 use Rattle.cl_classfile.specs.Files.{Name}
@@ -10,11 +10,13 @@ use Rattle.cl_config.specs.Loaders.{loaders_of, loader_of, parents_of, order_of}
 use Rattle.cl_source.specs.Views.{Found}
 use Rattle.cl_delegation.specs.Searches.{Searched, begun, next_of, next_on, route_of, with_bytes, with_probe}
 use Rattle.cl_model.specs.Frames.{Frame}
+use Rattle.cl_model.proofs.Derivations.{all_map}
+use Rattle.cl_model.proofs.Derived.{all_both}
 use Rattle.cl_tasks.specs.Measures.{loading, most, turns, left_at}
 use Rattle.cl_tasks.specs.Measures as phases
 use Rattle.cl_tasks.specs.Stages.{next_place, probes_left}
 use Rattle.cl_tasks.specs.Steps.{IsPlain, ReadsAt, Seeks, reads_on, reads_left, way_on}
-use Rattle.cl_delegation.specs.Routes.{in_turn, route_at, routed, route_below, route_from, route}
+use Rattle.cl_model.specs.Probes.{in_turn, route_at, routed, route_below, route_from, route}
 use Rattle.cl_hierarchy.specs.Paths.{Pathed, at_loader, at_name}
 use Rattle.cl_tasks.specs.Turns.{IsBehind}
 use Rattle.cl_tasks.specs.declared.stage.Job.{Job}
@@ -29,12 +31,7 @@ record IsShort (n : ℕ) (way : List ℕ) : Type 0 where
   below : AllByRecursion (λ m. m < n) way
 
 wider : (m n : ℕ) (way : List ℕ) → m ≤ n → AllByRecursion (λ k. k < m) way → AllByRecursion (λ k. k < n) way
-wider m n [] le h = tt
-wider m n (k ∷ ks) le h = (omega (arith, h.0), wider m n ks le h.1)
-
-both : (n : ℕ) (xs ys : List ℕ) → AllByRecursion (λ k. k < n) xs → AllByRecursion (λ k. k < n) ys → AllByRecursion (λ k. k < n) (xs ++ ys)
-both n [] ys h k = k
-both n (x ∷ xs) ys h k = (h.0, both n xs ys h.1 k)
+wider m n way le h = all_map (λ k. k < m) (λ k. k < n) (λ k lt. omega arith) way h
 
 longer : (n : ℕ) (way : List ℕ) → IsShort n way → IsShort (suc n) way
 longer n way h = record { short = omega (arith, h.short); below = wider n (suc n) way (omega arith) h.below }
@@ -42,7 +39,7 @@ longer n way h = record { short = omega (arith, h.short); below = wider n (suc n
 plus_own : (n : ℕ) (order : Order) (above : List ℕ) → IsShort n above → IsShort (suc n) (in_turn order above (n ∷ []))
 plus_own n ParentFirst above h = record {
   short = let e = length-append above (n ∷ []) in omega (arith, h.short);
-  below = both (suc n) above (n ∷ []) (wider n (suc n) above (omega arith) h.below) (omega arith, tt);
+  below = all_both (λ m. m < suc n) above (n ∷ []) (wider n (suc n) above (omega arith) h.below) (omega arith, tt);
 }
 plus_own n ChildFirst above h = record {
   short = omega (arith, h.short);

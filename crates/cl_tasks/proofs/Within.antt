@@ -12,7 +12,7 @@ use Rattle.cl_model.specs.Classes.{Above, superclass_of, superinterfaces_of, IsA
 use Rattle.cl_model.specs.Homes.{World, home}
 use Rattle.cl_model.specs.Lineages.{Forest, Bare, Tree, Kin, StandsFor, IsLineage, alone, postorder, lineage}
 use Rattle.cl_model.specs.Machine.{HasLineage, IsPlan}
-use Rattle.cl_model.specs.Plans.{Request, Link, Plan, asked_at_home, cost, is_equal}
+use Rattle.cl_model.specs.Plans.{Request, Link, Plan, asked_at_home, cost, is_equal, nodes_of}
 use Rattle.cl_model.specs.Preparation.{constraints_of}
 use Rattle.cl_model.specs.References.{GoesOn}
 use Rattle.cl_model.specs.States.{State, Need, Entry, Equal, Verdict}
@@ -26,7 +26,7 @@ use Rattle.cl_model.proofs.Reached.{reached}
 use Rattle.cl_model.proofs.Trees.{lineage_of}
 use Rattle.cl_model.proofs.Derived.{all_both}
 use Rattle.cl_model.proofs.Costs.{link_more}
-use Rattle.cl_tasks.specs.Calls.{nodes_of, is_own_home, ask_for, own_homes, equalities_in, all_calls, calls_in, link_calls}
+use Rattle.cl_tasks.specs.Calls.{is_own_home, ask_for, own_homes, equalities_in, all_calls, calls_in, link_calls}
 use Rattle.cl_tasks.proofs.Opened.{open_most, own_within}
 
 -- ---- from the beginning

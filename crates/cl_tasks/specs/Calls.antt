@@ -1,35 +1,24 @@
 -- How many calls a request has left at most, its post among them, by its plan and what is recorded (JVMS SE 8, 5.3 to 5.4.3).
-use Rattle.std.specs.Prelude.{◌+◌, ◌*◌, ◌-◌, ◌||◌, ◌&&◌, ◌==◌, ℕ, Bool, true, false, not, if◌then◌else◌, List, [], ◌∷◌, ◌++◌, length, Some, None, count_by, flat_map, sum_by}
+use Rattle.std.specs.Prelude.{◌+◌, ◌*◌, ◌-◌, ◌||◌, ◌&&◌, ◌==◌, ℕ, Bool, true, false, not, if◌then◌else◌, List, [], ◌∷◌, length, Some, None, count_by, sum_by}
 use Rattle.std.specs.List.{list_any}
 use Rattle.cl_classfile.specs.Files.{Name}
 use Rattle.cl_model.specs.declared.class.Class.{Class}
 use Rattle.cl_model.specs.declared.request.Request.{Request}
 use Rattle.cl_model.specs.declared.request.Request.TheVariants as requests
-use Rattle.cl_model.specs.Classes.{supers}
+use Rattle.cl_model.specs.Classes.{is_own, supers}
 use Rattle.cl_model.specs.Frames.{Frame}
 use Rattle.cl_model.specs.Homes.{World, home}
 use Rattle.cl_model.specs.Lineages.{Kin}
-use Rattle.cl_model.specs.Plans.{Plan, asked_at_home, distinct, edges_of, is_equal, needs_of, same_ask}
+use Rattle.cl_model.specs.Plans.{Plan, edges_of, homes_of, is_equal, needs_of, nodes_of, same_ask}
 use Rattle.cl_model.specs.Preparation.{constraints_of}
 use Rattle.cl_model.specs.States.{State, recorded}
 use Rattle.cl_model.specs.Works.{Ask}
 
 -- ---- what a plan asks
 
--- each loader and name that a plan asks, and each home with the name, once (5.3.2)
-abbrev pub nodes_of : World → Plan → List Ask
-nodes_of w p = distinct (p.asked ++ flat_map (asked_at_home w) p.asked)
-
--- the homes alone
-abbrev pub homes_of : World → Plan → List Ask
-homes_of w p = distinct (flat_map (asked_at_home w) p.asked)
-
 -- a loader is the home of a name (5.3.2)
 abbrev pub is_own_home : World → Ask → Bool
-is_own_home w a = elim (home w a.loader a.name) [
-  | None ↦ false
-  | Some place ↦ place == a.loader
-]
+is_own_home w a = is_own a.loader (home w a.loader a.name)
 
 -- a loader is asked for a name
 abbrev pub ask_of : Name → ℕ → Ask

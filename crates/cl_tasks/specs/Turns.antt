@@ -12,7 +12,7 @@ use Rattle.cl_model.specs.Views.{need_of}
 use Rattle.cl_config.specs.Loaders.{loaders_of}
 use Rattle.cl_config.specs.Views.{Configured}
 use Rattle.cl_source.specs.Views.{Found}
-use Rattle.cl_delegation.specs.Routes.{route}
+use Rattle.cl_model.specs.Probes.{route}
 use Rattle.cl_hierarchy.specs.Imposed.{Listed, equal_need}
 use Rattle.cl_findings.specs.Findings.{IsSettledFor, loader_of, name_of}
 use Rattle.cl_tasks.specs.Tasks.{Tasked, Stands}

@@ -4,7 +4,7 @@ use Rattle.std.specs.List.{starts_with}
 use Rattle.std.specs.Option.{option_map}
 use Rattle.cl_config.specs.declared.order.Order.{Order}
 use Rattle.cl_config.specs.Loaders.{loaders_of}
-use Rattle.cl_delegation.specs.Routes.{route_from}
+use Rattle.cl_model.specs.Probes.{route_from}
 use Rattle.cl_delegation.proofs.Ways.{target_below, said_import, said_alone, said_parent, said_child}
 use Rattle.cl_delegation.proofs.route.+add_route.Goals as goal
 

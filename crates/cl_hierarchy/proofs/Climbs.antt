@@ -11,6 +11,7 @@ use Rattle.cl_hierarchy.specs.Rows.{Rowed}
 use Rattle.cl_hierarchy.specs.Trees.{SupersBefore, forest, kin_named, kin_under, kins, kins_after, superclass_in}
 use Rattle.cl_hierarchy.proofs.Ancestry.{kin_stays, row_kin}
 use Rattle.cl_hierarchy.proofs.Scans.{map_push}
+use Rattle.cl_hierarchy.proofs.Ends.{all_push}
 
 -- ---- parts of rows in order
 
@@ -133,10 +134,6 @@ pub record Climbs (rows : List Rowed) (superclass : List Class) (found rest : Li
   pub kins_are : map (kin_under (kins rows)) found ++ upward (forest (kins rest) wanted) ≡ upward (forest (kins rows) superclass)
   pub rows_are : AllByRecursion (IsRowIn rows) found
 
-pub all_push : (rows found : List Rowed) (r : Rowed) → AllByRecursion (IsRowIn rows) found → IsRowIn rows r → AllByRecursion (IsRowIn rows) (found ++ r ∷ [])
-all_push rows [] r h a = (a, tt)
-all_push rows (x ∷ found) r h a = (h.0, all_push rows found r h.1 a)
-
 pub begun : (rows : List Rowed) (superclass : List Class) → Climbs rows superclass [] rows superclass
 begun rows superclass = record { later = []; split = sym (append-nil rows); kins_are = refl; rows_are = tt }
 
@@ -156,7 +153,7 @@ goes_on rows superclass found rest wanted earlier r ordered h e p =
           ∙ ap (λ (x : Kin). map (kin_under (kins rows)) found ++ (x ∷ up)) (placed_kin rows earlier r ordered place)
           ∙ ap (λ (ks : List Kin). map (kin_under (kins rows)) found ++ ks) (sym (upward_first (forest (kins rest) wanted) k e))
           ∙ h.kins_are;
-      rows_are = all_push rows found r h.rows_are (placed_row rows earlier r ordered place);
+      rows_are = all_push (IsRowIn rows) found r h.rows_are (placed_row rows earlier r ordered place);
     }
 
 pub ends : (rows : List Rowed) (superclass : List Class) (found rest : List Rowed) (wanted : List Class) → Climbs rows superclass found rest wanted → None ≡ first (upward (forest (kins rest) wanted)) → map (kin_under (kins rows)) found ≡ upward (forest (kins rows) superclass)

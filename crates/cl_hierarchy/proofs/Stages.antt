@@ -7,6 +7,8 @@ use Rattle.cl_model.specs.declared.class.Class.{Class}
 use Rattle.cl_model.specs.Classes.{Above, AsSuperclass, same_class, is_among}
 use Rattle.cl_model.specs.Lineages.{Forest, Bare, Tree, Kin, alone, classes, once}
 use Rattle.cl_model.proofs.Ancestors.{Within}
+use Rattle.cl_model.proofs.Closed.{all_left, all_right}
+use Rattle.cl_model.proofs.Derived.{all_both}
 use Rattle.cl_hierarchy.specs.declared.tour.Order.{Order}
 use Rattle.cl_hierarchy.specs.declared.tour.Step.{Step}
 use Rattle.cl_hierarchy.specs.declared.tour.Task.{Task}
@@ -19,7 +21,7 @@ use Rattle.cl_hierarchy.specs.Tours.{Comes, Leaves, Marked, Stop, Toured, first_
 use Rattle.cl_hierarchy.proofs.Ancestry.{no_row, row_kin}
 use Rattle.cl_hierarchy.proofs.Scans.{map_push}
 use Rattle.cl_hierarchy.proofs.Tours.{Goes, goes_first, goes_on, goes_past, goes_tell, told_both, with_has, with_one, within_join, classes_both, with_either, with_grows}
-use Rattle.cl_hierarchy.proofs.Climbs.{all_push}
+use Rattle.cl_hierarchy.proofs.Ends.{all_push}
 
 -- ---- what is left to do
 
@@ -32,21 +34,12 @@ pub steps_both : (known : List Kin) (ms ns : List Marked) → steps_left known (
 steps_both known [] ns = omega arith
 steps_both known (m ∷ ms) ns = let more = steps_both known ms ns in omega arith
 
--- a row of each of these is its class's
+-- the row of a step is its class's
+abbrev pub IsRowOf : List Rowed → Marked → Type 0
+IsRowOf rows m = IsRowIn rows m.row
+
 abbrev pub AreRowsOf : List Rowed → List Marked → Type 0
-AreRowsOf rows ms = AllByRecursion (λ (m : Marked). IsRowIn rows m.row) ms
-
-all_both : (rows : List Rowed) (ms ns : List Marked) → AreRowsOf rows ms → AreRowsOf rows ns → AreRowsOf rows (ms ++ ns)
-all_both rows [] ns f g = g
-all_both rows (m ∷ ms) ns f g = (f.0, all_both rows ms ns f.1 g)
-
-all_first : (rows : List Rowed) (ms ns : List Marked) → AreRowsOf rows (ms ++ ns) → AreRowsOf rows ms
-all_first rows [] ns h = tt
-all_first rows (m ∷ ms) ns h = (h.0, all_first rows ms ns h.1)
-
-all_last : (rows : List Rowed) (ms ns : List Marked) → AreRowsOf rows (ms ++ ns) → AreRowsOf rows ns
-all_last rows [] ns h = h
-all_last rows (m ∷ ms) ns h = all_last rows ms ns h.1
+AreRowsOf rows ms = AllByRecursion (IsRowOf rows) ms
 
 -- ---- a superclass
 
@@ -123,7 +116,7 @@ module _ (rows : List Rowed) (ordered : SupersBefore [] rows) (o : Order) (r : R
 
   part_rows : (b : Bool) → IsRowIn rows r → AreRowsOf rows (if b then overs ∷ ups else ups ++ overs ∷ [])
   part_rows true h = (h, (up rows ordered o r).rows_are)
-  part_rows false h = all_both rows ups (overs ∷ []) (up rows ordered o r).rows_are (h, tt)
+  part_rows false h = all_both (IsRowOf rows) ups (overs ∷ []) (up rows ordered o r).rows_are (h, tt)
 
   pub opened_rows : IsRowIn rows r → AreRowsOf rows (opened o rows r)
   opened_rows h = (h, part_rows (up_first o) h)
@@ -194,7 +187,7 @@ row_joins rows seen told r h i = at (is_among seen r.class)
   where
     at : (b : Bool) → AllByRecursion (IsRowIn rows) (if b then told else told ++ r ∷ [])
     at true = h
-    at false = all_push rows told r h i
+    at false = all_push (IsRowIn rows) told r h i
 
 module _ (o : Order) (rows : List Rowed) (goal : List Kin) (r : Rowed) (is_row : IsRowIn rows r) where
   telling_on : (t : Toured) (s : Stop) (b : Bool) (rest : List Stop) → tells o s ≡ (if b then kin_under (kins rows) r ∷ [] else []) → IsTold o rows goal t (s ∷ (rest ++ stops_left o (kins rows) t.stack))
@@ -225,7 +218,7 @@ module _ (rows : List Rowed) (ordered : SupersBefore [] rows) (o : Order) (goal 
         subst (λ (x : List Stop). Goes o (kins rows) goal t.told t.seen t.left x)
         (sym (left_both o (kins rows) t.stack (opened o rows r) ∙ ap (λ (x : List Stop). x ++ stops_left o (kins rows) t.stack) (opened_stops rows ordered o r))) h.goes;
     told_are = h.told_are;
-    stack_is = all_both rows t.stack (opened o rows r) a (opened_rows rows ordered o r is_row);
+    stack_is = all_both (IsRowOf rows) t.stack (opened o rows r) a (opened_rows rows ordered o r is_row);
   }
 
   came : (t : Toured) (wanted : Bool) → IsTold o rows goal t (stops o (alone (kin_under (kins rows) r)) wanted ++ stops_left o (kins rows) t.stack) → AreRowsOf rows t.stack
@@ -246,7 +239,7 @@ module _ (rows : List Rowed) (ordered : SupersBefore [] rows) (o : Order) (goal 
             subst (λ (y : List Stop). Goes o (kins rows) goal t.told t.seen t.left y)
             (sym (left_both o (kins rows) t.stack (over_from r place x) ∙ ap (λ (y : List Stop). y ++ stops_left o (kins rows) t.stack) (over_stops rows o r place x v))) h.goes;
         told_are = h.told_are;
-        stack_is = all_both rows t.stack (over_from r place x) a (over_rows rows o r place x is_row v);
+        stack_is = all_both (IsRowOf rows) t.stack (over_from r place x) a (over_rows rows o r place x is_row v);
       }
 
   all_told_of : (t : Toured) (b : Bool) → tells o (Leaves (kin_under (kins rows) r)) ≡ (if b then kin_under (kins rows) r ∷ [] else []) → Within (classes (told_at o (inner o (kin_under (kins rows) r)))) t.seen
@@ -328,20 +321,20 @@ module _ {A : Type 0} (rows : List Rowed) (ordered : SupersBefore [] rows) (o : 
   preserved new h e =
       let all : AreRowsOf rows (marks rest ++ marked next ∷ []) = subst (λ (ms : List Marked). AreRowsOf rows ms) pushed h.stack_is in
       subst (λ (t : Toured). IsStage o rows goal t) (sym e) (
-      stepped rows ordered o goal before next.row.value next.task (all_last rows (marks rest) (marked next ∷ []) all).0
+      stepped rows ordered o goal before next.row.value next.task (all_right (IsRowOf rows) (marks rest) (marked next ∷ []) all).0
       (record {
         goes =
             subst (λ (ss : List Stop). Goes o (kins rows) goal told seen left ss)
             (ap (λ (ms : List Marked). stops_left o (kins rows) ms) pushed ∙ left_both o (kins rows) (marks rest) (marked next ∷ [])) h.goes;
         told_are = h.told_are;
       })
-      (all_first rows (marks rest) (marked next ∷ []) all)
+      (all_left (IsRowOf rows) (marks rest) (marked next ∷ []) all)
       )
 
   pub smaller : (new : Toured) → IsStage o rows goal (record { told = told; seen = seen; left = left; stack = marks stack }) → new ≡ step o rows before next.row.value next.task → steps_left (kins rows) new.stack < steps_left (kins rows) (marks stack)
   smaller new h e =
       let all : AreRowsOf rows (marks rest ++ marked next ∷ []) = subst (λ (ms : List Marked). AreRowsOf rows ms) pushed h.stack_is in
-      let n = nearer rows ordered o before next.row.value next.task (all_last rows (marks rest) (marked next ∷ []) all).0 in
+      let n = nearer rows ordered o before next.row.value next.task (all_right (IsRowOf rows) (marks rest) (marked next ∷ []) all).0 in
       let s : steps_left (kins rows) (marks stack) ≡ steps_left (kins rows) (marks rest ++ marked next ∷ []) = ap (λ (ms : List Marked). steps_left (kins rows) ms) pushed in
       let b = steps_both (kins rows) (marks rest) (marked next ∷ []) in
       let is : steps_left (kins rows) new.stack ≡ steps_left (kins rows) (step o rows before next.row.value next.task).stack = ap (λ (t : Toured). steps_left (kins rows) t.stack) e in

@@ -12,8 +12,8 @@ use Rattle.cl_hierarchy.specs.declared.tour.Order.TheVariants as orders
 use Rattle.cl_hierarchy.specs.Tours.{size, stops, told_at}
 use Rattle.cl_hierarchy.specs.Trees.{SupersBefore, forest, in_front, kin_under, kins}
 use Rattle.cl_hierarchy.proofs.Ancestry.{row_kin}
-use Rattle.cl_hierarchy.proofs.Climbs.{all_push, map_twice}
-use Rattle.cl_hierarchy.proofs.Ends.{all_pop}
+use Rattle.cl_hierarchy.proofs.Climbs.{map_twice}
+use Rattle.cl_hierarchy.proofs.Ends.{all_pop, all_push}
 use Rattle.cl_hierarchy.proofs.Scans.{map_push}
 use Rattle.cl_hierarchy.proofs.Told.{all_forth, lineage_ends}
 use Rattle.cl_hierarchy.proofs.Tours.{lineage_told}
@@ -73,7 +73,7 @@ first_on rows start i = record { top_in = i; stem_in = tt; lineage_is = sym (app
 next_on : (rows : List Rowed) (start top above : Rowed) (stem : List Rowed) → SupersBefore [] rows → IsOn rows start top stem → IsOnlyAbove rows top above → IsOn rows start above (stem ++ top ∷ [])
 next_on rows start top above stem ordered h o = record {
   top_in = above_in rows ordered top above o;
-  stem_in = all_push rows stem top h.stem_in h.top_in;
+  stem_in = all_push (IsRowIn rows) stem top h.stem_in h.top_in;
   lineage_is =
       h.lineage_is
       ∙ ap (λ (ks : List Kin). behind_all ks (map (kin_under (kins rows)) stem)) (behind rows ordered top above o h.top_in)
@@ -84,7 +84,7 @@ next_down : (rows : List Rowed) (start r : Rowed) (told stem : List Rowed) → I
 next_down rows start r told stem h =
     let parts = all_pop (IsRowIn rows) stem r h.stem_in in
     record {
-      told_in = all_push rows told r h.told_in parts.1;
+      told_in = all_push (IsRowIn rows) told r h.told_in parts.1;
       stem_in = parts.0;
       lineage_is =
           h.lineage_is ∙ moved (kins rows) (map (kin_under (kins rows)) told) stem r

@@ -7,7 +7,7 @@ use Rattle.cl_model.specs.declared.class.Class.{Class}
 use Rattle.cl_model.specs.Content.{Content}
 use Rattle.cl_model.specs.Classes.{is_among, same_class}
 use Rattle.cl_model.specs.Lineages.{Forest, Bare, Tree, Kin, alone, classes, lineage, once, once_after, postorder}
-use Rattle.cl_model.proofs.Ancestors.{Within, among_first}
+use Rattle.cl_model.proofs.Ancestors.{Within, after_all, after_both, among_first, within_all, within_both}
 use Rattle.cl_model.proofs.Complete.{is_class, or_true}
 use Rattle.cl_config.specs.Views.{Configured}
 use Rattle.cl_hierarchy.specs.Rows.{Rowed}
@@ -16,7 +16,7 @@ use Rattle.cl_hierarchy.specs.Lineages.{IsLined, IsLineageOf, IsRowIn, IsWithin,
 use Rattle.cl_hierarchy.specs.RowTables.{AreRows, AreRowsAfter, IsMadeOf}
 use Rattle.cl_hierarchy.proofs.Ancestry.{IsRowKin, kin_stays, kins_push, row_kin}
 use Rattle.cl_hierarchy.proofs.Climbs.{before_split, map_twice}
-use Rattle.cl_hierarchy.proofs.Ends.{last_of}
+use Rattle.cl_hierarchy.proofs.Ends.{all_pop, last_of}
 use Rattle.cl_hierarchy.proofs.RowTables.{made, supers_before}
 use Rattle.cl_hierarchy.proofs.Scans.{map_push}
 use Rattle.cl_hierarchy.proofs.Tours.{classes_both, within_join, within_right}
@@ -31,9 +31,6 @@ within_cons c cs zs h f = λ x e. elim (or_true (same_class x c) (is_among cs x)
 
 within_later : (c : Class) (cs zs : List Class) → Within cs zs → Within cs (c ∷ zs)
 within_later c cs zs h = λ x e. within_right (c ∷ []) zs x (h x e)
-
-within_both : (c : Class) (cs zs : List Class) → Within cs zs → Within (c ∷ cs) (c ∷ zs)
-within_both c cs zs h = within_cons c cs (c ∷ zs) (among_first zs c) (within_later c cs zs h)
 
 not_among : (cs zs : List Class) (c : Class) → Within cs zs → is_among zs c ≡ false → is_among cs c ≡ false
 not_among cs zs c h e = at (is_among cs c) refl
@@ -62,44 +59,32 @@ abbrev Fresh : List Class → List Kin → Type 0
 Fresh before [] = Unit {0}
 Fresh before (k ∷ ks) = (is_among before k.class ≡ false) × Over before k × Fresh (k.class ∷ before) ks
 
-abbrev behind : List Class → List Kin → List Class
-behind before [] = before
-behind before (k ∷ ks) = behind (k.class ∷ before) ks
-
-behind_has : (cs zs : List Class) (ks : List Kin) → Within cs zs → Within cs (behind zs ks)
-behind_has cs zs [] h = h
-behind_has cs zs (k ∷ ks) h = behind_has cs (k.class ∷ zs) ks (within_later k.class cs zs h)
-
-behind_both : (before : List Class) (xs ys : List Kin) → behind before (xs ++ ys) ≡ behind (behind before xs) ys
-behind_both before [] ys = refl
-behind_both before (x ∷ xs) ys = behind_both (x.class ∷ before) xs ys
-
 steps_more : (cs zs : List Class) (ks : List Kin) → Within cs zs → Steps cs ks → Steps zs ks
 steps_more cs zs [] h s = tt
 steps_more cs zs (k ∷ ks) h s =
-    (record { superclass = λ c e. h c (s.0.superclass c e); interfaces = λ c e. h c (s.0.interfaces c e) }, steps_more (k.class ∷ cs) (k.class ∷ zs) ks (within_both k.class cs zs h) s.1)
+    (record { superclass = λ c e. h c (s.0.superclass c e); interfaces = λ c e. h c (s.0.interfaces c e) }, steps_more (k.class ∷ cs) (k.class ∷ zs) ks (within_both cs zs k.class h) s.1)
 
-steps_both : (before : List Class) (xs ys : List Kin) → Steps before xs → Steps (behind before xs) ys → Steps before (xs ++ ys)
+steps_both : (before : List Class) (xs ys : List Kin) → Steps before xs → Steps (after_all before xs) ys → Steps before (xs ++ ys)
 steps_both before [] ys s t = t
 steps_both before (x ∷ xs) ys s t = (s.0, steps_both (x.class ∷ before) xs ys s.1 t)
 
-forest_steps : (before : List Class) (f : Forest) → Steps before (postorder f) × Within (roots f) (behind before (postorder f))
+forest_steps : (before : List Class) (f : Forest) → Steps before (postorder f) × Within (roots f) (after_all before (postorder f))
 forest_steps before Bare = (tt, λ c h. absurd cc)
 forest_steps before (Tree c f sup ints rest) =
     let k : Kin = record { class = c; file = f; superclass = sup; interfaces = ints } in
     let up = forest_steps before sup in
-    let middle = behind before (postorder sup) in
+    let middle = after_all before (postorder sup) in
     let over = forest_steps middle ints in
-    let end = behind middle (postorder ints) in
+    let end = after_all middle (postorder ints) in
     let beside = forest_steps (c ∷ end) rest in
-    let both : behind before (postorder sup ++ postorder ints) ≡ end = behind_both before (postorder sup) (postorder ints) in
-    let whole : behind before ((postorder sup ++ postorder ints) ++ (k ∷ postorder rest)) ≡ behind (c ∷ end) (postorder rest) =
-    behind_both before (postorder sup ++ postorder ints) (k ∷ postorder rest) ∙ ap (λ (x : List Class). behind (c ∷ x) (postorder rest)) both in
-    let above : Over end k = record { superclass = λ x e. behind_has middle middle (postorder ints) (λ y i. i) x (up.1 x e); interfaces = over.1 } in (
+    let both : after_all before (postorder sup ++ postorder ints) ≡ end = after_both before (postorder sup) (postorder ints) in
+    let whole : after_all before ((postorder sup ++ postorder ints) ++ (k ∷ postorder rest)) ≡ after_all (c ∷ end) (postorder rest) =
+    after_both before (postorder sup ++ postorder ints) (k ∷ postorder rest) ∙ ap (λ (x : List Class). after_all (c ∷ x) (postorder rest)) both in
+    let above : Over end k = record { superclass = λ x e. within_all middle middle (postorder ints) (λ y i. i) x (up.1 x e); interfaces = over.1 } in (
       steps_both before (postorder sup ++ postorder ints) (k ∷ postorder rest) (steps_both before (postorder sup) (postorder ints) up.0 over.0)
           (subst (λ (x : List Class). Steps x (k ∷ postorder rest)) (sym both) (above, beside.0)),
       subst (λ (x : List Class). Within (c ∷ roots rest) x) (sym whole)
-          (within_cons c (roots rest) (behind (c ∷ end) (postorder rest)) (behind_has (c ∷ end) (c ∷ end) (postorder rest) (λ x e. e) c (among_first end c)) beside.1),
+          (within_cons c (roots rest) (after_all (c ∷ end) (postorder rest)) (within_all (c ∷ end) (c ∷ end) (postorder rest) (λ x e. e) c (among_first end c)) beside.1),
     )
 
 once_fresh : (seen : List Class) (ks : List Kin) → Steps seen ks → Fresh seen (once_after seen ks)
@@ -163,7 +148,7 @@ roots_are known (c ∷ cs) all = at (roots_are known cs all.1) (kin_named known 
     at : Within cs (roots (forest known cs)) → (o : Option Kin) → kin_named known c ≡ o → is_some o ≡ true → Within (c ∷ cs) (roots (in_front o (forest known cs)))
     at more None e s = absurd cc
     at more (Some k) e s =
-        subst (λ (x : Class). Within (c ∷ cs) (x ∷ roots (forest known cs))) (sym (kin_is known c k e).same) (within_both c cs (roots (forest known cs)) more)
+        subst (λ (x : Class). Within (c ∷ cs) (x ∷ roots (forest known cs))) (sym (kin_is known c k e).same) (within_both cs (roots (forest known cs)) c more)
 
 all_known : (ks : List Kin) (cs : List Class) → Within cs (classes ks) → AllKnown ks cs
 all_known ks [] h = tt
@@ -360,7 +345,7 @@ lineage_made told config rows c start above own h e t =
     let parts = before_split [] above (own ∷ []) stands.before in
     let named : kin_named known c ≡ Some (kin_of l) = first.kin ∙ ap (λ (x : Kin). Some x) (sym (same ∙ own_kin)) in
     let own_class : own.class ≡ c = ap (λ (x : Kin). x.class) own_kin ∙ first.same in
-    let last : IsRowIn rows own = own_in rows above own t.all in
+    let last : IsRowIn rows own = (all_pop (IsRowIn rows) above own t.all).1 in
     record {
       lined = record {
         order = record { above = parts.0; own = parts.1.0; ordered = tree ∙ t.order ∙ ap (λ (x : Kin). lineage x) (sym (same ∙ own_kin)) };
@@ -369,10 +354,6 @@ lineage_made told config rows c start above own h e t =
       };
       made = record { config_is = refl; own_is = subst (λ (x : Class). row_of rows x ≡ Some own) own_class last; kin_is = named; rows_are = t.all };
     }
-  where
-    own_in : (rows xs : List Rowed) (r : Rowed) → AllByRecursion (IsRowIn rows) (xs ++ r ∷ []) → IsRowIn rows r
-    own_in rows [] r all = all.0
-    own_in rows (x ∷ xs) r all = own_in rows xs r all.1
 
 -- ---- the same of what lies behind them in memory
 

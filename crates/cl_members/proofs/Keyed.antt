@@ -27,56 +27,36 @@ class_apart : (o : Option FieldType) (r : files.Reference) → ((t : FieldType) 
 class_apart None r apart e = absurd cc
 class_apart (Some t) r apart e = apart t cc
 
-field_apart : (a : Option FieldType) (k : Option Key) (r : files.Reference) → ((t : FieldType) (x : Key) → ToField t x ≡ r → ⊥) → typed_by (λ t x. ToField t x) a k ≡ Some r → ⊥
-field_apart (Some t) (Some x) r apart e = apart t x cc
-field_apart (Some t) None r apart e = absurd cc
-field_apart None k r apart e = absurd cc
+apart_by : (make : FieldType → Key → files.Reference) (a : Option FieldType) (k : Option Key) (r : files.Reference) → ((t : FieldType) (x : Key) → make t x ≡ r → ⊥) → typed_by make a k ≡ Some r → ⊥
+apart_by make (Some t) (Some x) r apart e = apart t x cc
+apart_by make (Some t) None r apart e = absurd cc
+apart_by make None k r apart e = absurd cc
 
-method_apart : (a : Option FieldType) (k : Option Key) (r : files.Reference) → ((t : FieldType) (x : Key) → ToMethod t x ≡ r → ⊥) → typed_by (λ t x. ToMethod t x) a k ≡ Some r → ⊥
-method_apart (Some t) (Some x) r apart e = apart t x cc
-method_apart (Some t) None r apart e = absurd cc
-method_apart None k r apart e = absurd cc
-
-interface_apart : (a : Option FieldType) (k : Option Key) (r : files.Reference) → ((t : FieldType) (x : Key) → ToInterfaceMethod t x ≡ r → ⊥) → typed_by (λ t x. ToInterfaceMethod t x) a k ≡ Some r → ⊥
-interface_apart (Some t) (Some x) r apart e = apart t x cc
-interface_apart (Some t) None r apart e = absurd cc
-interface_apart None k r apart e = absurd cc
-
-field_typed : (a : Option FieldType) (k : Option Key) (t : FieldType) (key : Key) → typed_by (λ t x. ToField t x) a k ≡ Some (ToField t key) → k ≡ Some key
-field_typed (Some u) (Some x) t key e = cc
-field_typed (Some u) None t key e = absurd cc
-field_typed None k t key e = absurd cc
-
-method_typed : (a : Option FieldType) (k : Option Key) (t : FieldType) (key : Key) → typed_by (λ t x. ToMethod t x) a k ≡ Some (ToMethod t key) → k ≡ Some key
-method_typed (Some u) (Some x) t key e = cc
-method_typed (Some u) None t key e = absurd cc
-method_typed None k t key e = absurd cc
-
-interface_typed : (a : Option FieldType) (k : Option Key) (t : FieldType) (key : Key) → typed_by (λ t x. ToInterfaceMethod t x) a k ≡ Some (ToInterfaceMethod t key) → k ≡ Some key
-interface_typed (Some u) (Some x) t key e = cc
-interface_typed (Some u) None t key e = absurd cc
-interface_typed None k t key e = absurd cc
+key_by : (make : FieldType → Key → files.Reference) (a : Option FieldType) (k : Option Key) (t : FieldType) (key : Key) → ((u : FieldType) (x : Key) → make u x ≡ make t key → x ≡ key) → typed_by make a k ≡ Some (make t key) → k ≡ Some key
+key_by make (Some u) (Some x) t key one e = ap (λ (y : Key). Some y) (one u x cc)
+key_by make (Some u) None t key one e = absurd cc
+key_by make None k t key one e = absurd cc
 
 pub field_asked : (o : Option Reference) (t : FieldType) (key : Key) → option_and_then typed (option_map plain_reference o) ≡ Some (ToField t key) → Names field_key (symbols.field_of o) key
 field_asked None t key e = absurd cc
 field_asked (Some (references.Class n)) t key e = absurd (class_apart (named_type n.now) (ToField t key) (λ u f. absurd cc) e)
-field_asked (Some (references.Field s)) t key e = record { symbol = s; is = refl; key_is = field_typed (named_type s.class.now) (field_key (plain_symbol s)) t key e }
-field_asked (Some (references.Method s)) t key e = absurd (method_apart (named_type s.class.now) (method_key (plain_symbol s)) (ToField t key) (λ u x f. absurd cc) e)
-field_asked (Some (references.InterfaceMethod s)) t key e = absurd (interface_apart (named_type s.class.now) (method_key (plain_symbol s)) (ToField t key) (λ u x f. absurd cc) e)
+field_asked (Some (references.Field s)) t key e = record { symbol = s; is = refl; key_is = key_by (λ t x. ToField t x) (named_type s.class.now) (field_key (plain_symbol s)) t key (λ u x f. cc) e }
+field_asked (Some (references.Method s)) t key e = absurd (apart_by (λ t x. ToMethod t x) (named_type s.class.now) (method_key (plain_symbol s)) (ToField t key) (λ u x f. absurd cc) e)
+field_asked (Some (references.InterfaceMethod s)) t key e = absurd (apart_by (λ t x. ToInterfaceMethod t x) (named_type s.class.now) (method_key (plain_symbol s)) (ToField t key) (λ u x f. absurd cc) e)
 
 pub method_asked : (o : Option Reference) (t : FieldType) (key : Key) → option_and_then typed (option_map plain_reference o) ≡ Some (ToMethod t key) → Names method_key (symbols.method_of o) key
 method_asked None t key e = absurd cc
 method_asked (Some (references.Class n)) t key e = absurd (class_apart (named_type n.now) (ToMethod t key) (λ u f. absurd cc) e)
-method_asked (Some (references.Field s)) t key e = absurd (field_apart (named_type s.class.now) (field_key (plain_symbol s)) (ToMethod t key) (λ u x f. absurd cc) e)
-method_asked (Some (references.Method s)) t key e = record { symbol = s; is = refl; key_is = method_typed (named_type s.class.now) (method_key (plain_symbol s)) t key e }
-method_asked (Some (references.InterfaceMethod s)) t key e = absurd (interface_apart (named_type s.class.now) (method_key (plain_symbol s)) (ToMethod t key) (λ u x f. absurd cc) e)
+method_asked (Some (references.Field s)) t key e = absurd (apart_by (λ t x. ToField t x) (named_type s.class.now) (field_key (plain_symbol s)) (ToMethod t key) (λ u x f. absurd cc) e)
+method_asked (Some (references.Method s)) t key e = record { symbol = s; is = refl; key_is = key_by (λ t x. ToMethod t x) (named_type s.class.now) (method_key (plain_symbol s)) t key (λ u x f. cc) e }
+method_asked (Some (references.InterfaceMethod s)) t key e = absurd (apart_by (λ t x. ToInterfaceMethod t x) (named_type s.class.now) (method_key (plain_symbol s)) (ToMethod t key) (λ u x f. absurd cc) e)
 
 pub interface_asked : (o : Option Reference) (t : FieldType) (key : Key) → option_and_then typed (option_map plain_reference o) ≡ Some (ToInterfaceMethod t key) → Names method_key (symbols.interface_method_of o) key
 interface_asked None t key e = absurd cc
 interface_asked (Some (references.Class n)) t key e = absurd (class_apart (named_type n.now) (ToInterfaceMethod t key) (λ u f. absurd cc) e)
-interface_asked (Some (references.Field s)) t key e = absurd (field_apart (named_type s.class.now) (field_key (plain_symbol s)) (ToInterfaceMethod t key) (λ u x f. absurd cc) e)
-interface_asked (Some (references.Method s)) t key e = absurd (method_apart (named_type s.class.now) (method_key (plain_symbol s)) (ToInterfaceMethod t key) (λ u x f. absurd cc) e)
-interface_asked (Some (references.InterfaceMethod s)) t key e = record { symbol = s; is = refl; key_is = interface_typed (named_type s.class.now) (method_key (plain_symbol s)) t key e }
+interface_asked (Some (references.Field s)) t key e = absurd (apart_by (λ t x. ToField t x) (named_type s.class.now) (field_key (plain_symbol s)) (ToInterfaceMethod t key) (λ u x f. absurd cc) e)
+interface_asked (Some (references.Method s)) t key e = absurd (apart_by (λ t x. ToMethod t x) (named_type s.class.now) (method_key (plain_symbol s)) (ToInterfaceMethod t key) (λ u x f. absurd cc) e)
+interface_asked (Some (references.InterfaceMethod s)) t key e = record { symbol = s; is = refl; key_is = key_by (λ t x. ToInterfaceMethod t x) (named_type s.class.now) (method_key (plain_symbol s)) t key (λ u x f. cc) e }
 
 -- a symbol that was found is the one whose key was asked for
 some_symbol : (a b : Symbol) → (let o : Option Symbol = Some a in o) ≡ Some b → a ≡ b

@@ -1,6 +1,6 @@
 -- Maximally specific methods, by the classes that stand above what offers the method.
 use Rattle.std.proofs.Common.{◌≡◌, Bool, not, ◌||◌, List, [], ◌∷◌, map, refl, sym, ap, ◌∙◌}
-use Rattle.std.specs.Prelude.{filter, Option, Some, None, option_map, Result, Ok, Err, IfOk}
+use Rattle.std.specs.Prelude.{filter, Option, Some, None, option_map}
 use Rattle.std.specs.Option.{option_or}
 use Rattle.std.specs.List.{list_any}
 use Rattle.std.proofs.lemmas.List.Folds.{list_any-append}
@@ -68,7 +68,3 @@ finished v l key o other left offered e f offers_are left_are =
     option_map_map v (kin_at l) o
     ∙ ap (option_map (kin_at l)) (e ∙ ap (option_or (only (map v left))) f)
     ∙ owner_is (kin_at l) key (kin_of l) (map v offered) (map v left) (sym (map_map v (kin_at l) offered) ∙ offers_are) (sym (map_map v (kin_at l) left) ∙ left_are)
-
-pub if_ok : {A E : Type 0} (P Q : A → Type 0) → ((a : A) → P a → Q a) → (r : Result A E) → IfOk r P → IfOk r Q
-if_ok P Q f (Ok a) h = f a h
-if_ok P Q f (Err e) h = tt

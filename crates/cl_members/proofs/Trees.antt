@@ -8,7 +8,10 @@ use Rattle.cl_model.specs.declared.class.Class.{Class}
 use Rattle.cl_model.specs.Classes.{same_class, is_among}
 use Rattle.cl_model.specs.Lineages.{Forest, Bare, Tree, Kin, alone, field_among, lookup_field, once_after}
 use Rattle.cl_model.proofs.Ancestors.{same_self}
+use Rattle.cl_model.proofs.Closed.{all_left}
 use Rattle.cl_model.proofs.Complete.{is_class}
+use Rattle.cl_model.proofs.Derivations.{all_map}
+use Rattle.cl_model.proofs.Derived.{all_both}
 use Rattle.cl_hierarchy.specs.Rows.{Rowed}
 use Rattle.cl_hierarchy.specs.Trees.{IsAfter, SupersBefore, forest, in_front, kin_named, kin_under, kins_after, kins, interfaces_in, superclass_in}
 use Rattle.cl_hierarchy.specs.Lineages.{Lined, IsInOrder, kin_of, upwards, field_order}
@@ -80,18 +83,6 @@ module _ (p : Kin → Bool) (q : Class → Bool) where
 abbrev Told : List Kin → Kin → Type 0
 Told ks x = kin_named ks x.class ≡ Some x
 
-both_all : (P : Kin → Type 0) (xs ys : List Kin) → AllByRecursion P xs → AllByRecursion P ys → AllByRecursion P (xs ++ ys)
-both_all P [] ys a b = b
-both_all P (x ∷ xs) ys a b = (a.0, both_all P xs ys a.1 b)
-
-first_all : (P : Kin → Type 0) (xs ys : List Kin) → AllByRecursion P (xs ++ ys) → AllByRecursion P xs
-first_all P [] ys a = tt
-first_all P (x ∷ xs) ys a = (a.0, first_all P xs ys a.1)
-
-each_all : (P Q : Kin → Type 0) → ((x : Kin) → P x → Q x) → (xs : List Kin) → AllByRecursion P xs → AllByRecursion Q xs
-each_all P Q f [] a = tt
-each_all P Q f (x ∷ xs) a = (f x a.0, each_all P Q f xs a.1)
-
 -- all above what is known is known
 abbrev Closed : List Kin → Type 0
 Closed known = (c : Class) (k : Kin) → kin_named known c ≡ Some k → AllByRecursion (Told known) (upwards (alone k))
@@ -100,7 +91,7 @@ front_told : (known : List Kin) → Closed known → (c : Class) (rest : Forest)
 front_told known closed c rest None e all = all
 front_told known closed c rest (Some k) e all =
     let above = closed c k e in
-    (above.0, both_all (Told known) (upwards k.interfaces ++ upwards k.superclass) (upwards rest) (first_all (Told known) (upwards k.interfaces ++ upwards k.superclass) [] above.1) all)
+    (above.0, all_both (Told known) (upwards k.interfaces ++ upwards k.superclass) (upwards rest) (all_left (Told known) (upwards k.interfaces ++ upwards k.superclass) [] above.1) all)
 
 forest_told : (known : List Kin) → Closed known → (cs : List Class) → AllByRecursion (Told known) (upwards (forest known cs))
 forest_told known closed [] = tt
@@ -121,16 +112,16 @@ grow known r closed after c k e = at (same_class c r.class) refl e
     above : AllByRecursion (Told (kin_under known r ∷ known)) (upwards (alone (kin_under known r)))
     above = (
       self,
-      both_all (Told (kin_under known r ∷ known)) (upwards (kin_under known r).interfaces ++ upwards (kin_under known r).superclass) [] (
-          both_all (Told (kin_under known r ∷ known)) (upwards (kin_under known r).interfaces) (upwards (kin_under known r).superclass)
-          (each_all (Told known) (Told (kin_under known r ∷ known)) stays (upwards (forest known (interfaces_in r))) (forest_told known closed (interfaces_in r)))
-          (each_all (Told known) (Told (kin_under known r ∷ known)) stays (upwards (forest known (superclass_in r))) (forest_told known closed (superclass_in r)))
+      all_both (Told (kin_under known r ∷ known)) (upwards (kin_under known r).interfaces ++ upwards (kin_under known r).superclass) [] (
+          all_both (Told (kin_under known r ∷ known)) (upwards (kin_under known r).interfaces) (upwards (kin_under known r).superclass)
+          (all_map (Told known) (Told (kin_under known r ∷ known)) stays (upwards (forest known (interfaces_in r))) (forest_told known closed (interfaces_in r)))
+          (all_map (Told known) (Told (kin_under known r ∷ known)) stays (upwards (forest known (superclass_in r))) (forest_told known closed (superclass_in r)))
           ) tt,
     )
 
     at : (b : Bool) → same_class c r.class ≡ b → (if b then Some (kin_under known r) else kin_named known c) ≡ Some k → AllByRecursion (Told (kin_under known r ∷ known)) (upwards (alone k))
     at true s f = subst (λ (x : Kin). AllByRecursion (Told (kin_under known r ∷ known)) (upwards (alone x))) (some_kin (kin_under known r) k f) above
-    at false s f = each_all (Told known) (Told (kin_under known r ∷ known)) stays (upwards (alone k)) (closed c k f)
+    at false s f = all_map (Told known) (Told (kin_under known r ∷ known)) stays (upwards (alone k)) (closed c k f)
 
 closed_after : (known : List Kin) (rs : List Rowed) → Closed known → SupersBefore known rs → Closed (kins_after known rs)
 closed_after known [] closed h = closed

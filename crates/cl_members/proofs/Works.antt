@@ -43,9 +43,7 @@ field_missing d c key e = rw e refl
 
 pub method_found : (d c owner : Kin) (key : Key) → is_interface c.file ≡ false → lookup_method c key ≡ Some owner
     → resolve_method false d key c ≡ resolve_found d c owner (method_of owner key) key (IsMethod owner.class key)
-method_found d c owner key kind e =
-    let r : Work Verdict = resolve_found d c owner (method_of owner key) key (IsMethod owner.class key) in
-    rw (kind, e) (ap (option_map (after_made [] [])) (after_none r) ∙ after_none r)
+method_found d c owner key kind e = rw (kind, e) (simp after_none)
 
 pub method_missing : (d c : Kin) (key : Key) → is_interface c.file ≡ false → lookup_method c key ≡ None → resolve_method false d key c ≡ fail (NoSuchMethod c.class)
 method_missing d c key kind e = rw (kind, e) refl
@@ -55,9 +53,7 @@ method_of_interface d c key kind = rw kind refl
 
 pub interface_found : (d c owner : Kin) (key : Key) → is_interface c.file ≡ true → lookup_interface_method c key ≡ Some owner
     → resolve_method true d key c ≡ resolve_found d c owner (method_of owner key) key (IsMethod owner.class key)
-interface_found d c owner key kind e =
-    let r : Work Verdict = resolve_found d c owner (method_of owner key) key (IsMethod owner.class key) in
-    rw (kind, e) (ap (option_map (after_made [] [])) (after_none r) ∙ after_none r)
+interface_found d c owner key kind e = rw (kind, e) (simp after_none)
 
 pub interface_missing : (d c : Kin) (key : Key) → is_interface c.file ≡ true → lookup_interface_method c key ≡ None → resolve_method true d key c ≡ fail (NoSuchMethod c.class)
 interface_missing d c key kind e = rw (kind, e) refl

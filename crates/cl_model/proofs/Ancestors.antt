@@ -30,7 +30,7 @@ Within cs ds = (c : Class) → is_among cs c ≡ true → is_among ds c ≡ true
 pub within_more : (cs : List Class) (d : Class) → Within cs (d ∷ cs)
 within_more cs d = λ c h. or_right (same_class c d) (is_among cs c) h
 
-within_both : (cs ds : List Class) (d : Class) → Within cs ds → Within (d ∷ cs) (d ∷ ds)
+pub within_both : (cs ds : List Class) (d : Class) → Within cs ds → Within (d ∷ cs) (d ∷ ds)
 within_both cs ds d h = λ c k. elim (or_true (same_class c d) (is_among cs c) k) [
   | inl e ↦ ap (λ (b : Bool). b || is_among ds c) e
   | inr e ↦ or_right (same_class c d) (is_among ds c) (h c e)
@@ -71,11 +71,11 @@ lineage_once k = once_each [] (postorder (alone k))
 -- ---- supertypes first
 
 -- the classes of these behind those of a list
-abbrev after_all : List Class → List Kin → List Class
+abbrev pub after_all : List Class → List Kin → List Class
 after_all before [] = before
 after_all before (k ∷ ks) = after_all (k.class ∷ before) ks
 
-within_all : (cs ds : List Class) (ks : List Kin) → Within cs ds → Within cs (after_all ds ks)
+pub within_all : (cs ds : List Class) (ks : List Kin) → Within cs ds → Within cs (after_all ds ks)
 within_all cs ds [] h = h
 within_all cs ds (k ∷ ks) h = within_all cs (k.class ∷ ds) ks (λ c e. within_more ds k.class c (h c e))
 
@@ -95,7 +95,7 @@ first_both : (w : World) (before : List Class) (xs ys : List Kin) → SupersFirs
 first_both w before [] ys f g = g
 first_both w before (x ∷ xs) ys f g = (f.0, first_both w (x.class ∷ before) xs ys f.1 g)
 
-after_both : (before : List Class) (xs ys : List Kin) → after_all before (xs ++ ys) ≡ after_all (after_all before xs) ys
+pub after_both : (before : List Class) (xs ys : List Kin) → after_all before (xs ++ ys) ≡ after_all (after_all before xs) ys
 after_both before [] ys = refl
 after_both before (x ∷ xs) ys = after_both (x.class ∷ before) xs ys
 

@@ -228,7 +228,7 @@ across_back ks name a b x c y p q (inl j) = inr (inr (joined_equal ks name b x q
 across_back ks name a b x c y p q (inr (inl h)) = inl (joined_from ks name x b y (sym q) h.1)
 across_back ks name a b x c y p q (inr (inr h)) = inr (inr (joined_equal ks name b x q, h.1))
 
-contains_one : (e x : Equality) → Contains (e ∷ []) x → e ≡ x
+pub contains_one : {A : Type 0} (e x : A) → Contains (e ∷ []) x → e ≡ x
 contains_one e x h = one_at h.0 h.1 h.2
   where
     one_at : (k : ℕ) → k < 1 → slice_index_or (e ∷ []) k x ≡ x → e ≡ x

@@ -1,5 +1,5 @@
 -- What every state of a run holds is as it should be, and stays.
-use Rattle.std.proofs.Common.{◌≡◌, ◌⊎◌, inl, inr, ℕ, zero, suc, ◌<◌, Bool, true, false, ◌==◌, ◌&&◌, if◌then◌else◌, List, [], ◌∷◌, ◌++◌, Option, Some, None, refl, subst, arith, slice_index_or}
+use Rattle.std.proofs.Common.{◌≡◌, ◌⊎◌, inl, inr, ℕ, ◌<◌, Bool, true, false, ◌==◌, ◌&&◌, if◌then◌else◌, List, [], ◌∷◌, ◌++◌, Option, Some, None, refl, subst, arith}
 use Rattle.std.specs.Prelude.{find, option_map, Contains}
 use Rattle.std.specs.Option.{option_or}
 use Rattle.std.specs.List.{AllByRecursion}
@@ -14,7 +14,7 @@ use Rattle.cl_model.specs.States.{State, start, Need, Verdict, Answer, Said, Out
 use Rattle.cl_model.specs.Plans.{Request, Load, Resolve, Link, Plan, needs_of, ending}
 use Rattle.cl_model.specs.Works.{Made}
 use Rattle.cl_model.specs.Machine.{Setting, Step, Define, Initiate, Constrain, Settle, Prepare, Post, NextRound, Stray, May, after, state_after, Run, Answers, AnswersPlan, AnswersReference, MayAnswer, RestsOn, IsClosed, IsPrepared, IsSettled, IsAnswered, IsSound}
-use Rattle.cl_model.proofs.Runs.{IsLater, after_later, run_later, met_later, refused_later, answers_later, keeps, start_unviolated, stays_unviolated, one_answer, or_map}
+use Rattle.cl_model.proofs.Runs.{IsLater, after_later, run_later, met_later, refused_later, answers_later, keeps, start_unviolated, stays_unviolated, one_answer, or_map, contains_one}
 use Rattle.cl_model.proofs.Complete.{is_class}
 use Rattle.cl_model.proofs.Closed.{closed_after, start_closed}
 use Rattle.cl_model.proofs.Planned.{one_plan, one_resolution}
@@ -179,13 +179,6 @@ answer_new ps r q a h =
     or_new None k = inr (found_new (r.request == q) refl k)
     or_new (Some x) k = inl k
 
-contains_last : (c d : Class) → Contains (c ∷ []) d → c ≡ d
-contains_last c d h = one_at h.0 h.1 h.2
-  where
-    one_at : (k : ℕ) → k < 1 → slice_index_or (c ∷ []) k d ≡ d → c ≡ d
-    one_at zero l r = r
-    one_at (suc k) l r = absurd (omega arith)
-
 -- ---- every state is sound
 
 -- what stood stays sound
@@ -221,7 +214,7 @@ sound_step g s (Prepare c) may sound k closed u = record {
   settled = λ d i v h. settled_later g s (after s (Prepare c)) k u d i v (sound.settled d i v h);
   prepared = λ d h. prepared_later g s (after s (Prepare c)) k d (elim (Contains-append_cases s.prepared (c ∷ []) d h) [
     | inl old ↦ sound.prepared d old
-    | inr new ↦ subst (λ (y : Class). IsPrepared g s y) (contains_last c d new) (record { recorded = may.recorded; kin = may.kin; lineage = may.lineage; above = may.above; imposed = may.imposed })
+    | inr new ↦ subst (λ (y : Class). IsPrepared g s y) (contains_one c d new) (record { recorded = may.recorded; kin = may.kin; lineage = may.lineage; above = may.above; imposed = may.imposed })
   ]);
   answered = λ n a h. answered_later g s (after s (Prepare c)) k u n a (sound.answered n a h);
 }

@@ -1,5 +1,5 @@
 -- A search asks loaders of the configuration alone, and no more of them than there are.
-use Rattle.std.proofs.Common.{◌≡◌, ◌≢◌, ◌<◌, ◌≤◌, ◌+◌, ◌*◌, ◌-◌, lit<, ℕ, zero, suc, Bool, true, false, List, [], ◌∷◌, ◌++◌, length, Option, Some, None, refl, sym, ap, ◌∙◌, subst, slice_get, arith, length-append}
+use Rattle.std.proofs.Common.{◌≡◌, ◌≢◌, ◌<◌, ◌≤◌, ◌+◌, ◌*◌, ◌-◌, lit<, ℕ, zero, suc, Bool, true, false, List, [], ◌∷◌, ◌++◌, length, Option, Some, None, refl, sym, ap, ◌∙◌, subst, slice_get, arith, append-nil, length-append}
 use Rattle.std.specs.Prelude.{◌==◌, nat_lt, flat_map, option_map, unwrap_or, if◌then◌else◌}
 use Rattle.std.specs.List.{AllByRecursion}
 use Rattle.cl_classfile.specs.Files.{Name}
@@ -10,6 +10,8 @@ use Rattle.cl_config.specs.Loaders.{loaders_of, loader_of, parents_of, order_of}
 use Rattle.cl_source.specs.Views.{Found}
 use Rattle.cl_delegation.specs.Searches.{Searched, begun, next_of, next_on, route_of, with_bytes, with_probe}
 use Rattle.cl_model.specs.Frames.{Frame}
+use Rattle.cl_model.proofs.Derivations.{all_map}
+use Rattle.cl_model.proofs.Derived.{all_both}
 use Rattle.cl_tasks.specs.Measures.{loading, most, turns, left_at}
 use Rattle.cl_tasks.specs.Measures as phases
 use Rattle.cl_tasks.specs.Stages.{next_place, probes_left}
@@ -28,12 +30,7 @@ record IsShort (n : ℕ) (way : List ℕ) : Type 0 where
   below : AllByRecursion (λ m. m < n) way
 
 wider : (m n : ℕ) (way : List ℕ) → m ≤ n → AllByRecursion (λ k. k < m) way → AllByRecursion (λ k. k < n) way
-wider m n [] le h = tt
-wider m n (k ∷ ks) le h = (omega (arith, h.0), wider m n ks le h.1)
-
-both : (n : ℕ) (xs ys : List ℕ) → AllByRecursion (λ k. k < n) xs → AllByRecursion (λ k. k < n) ys → AllByRecursion (λ k. k < n) (xs ++ ys)
-both n [] ys h k = k
-both n (x ∷ xs) ys h k = (h.0, both n xs ys h.1 k)
+wider m n way le h = all_map (λ (k : ℕ). k < m) (λ (k : ℕ). k < n) (λ k lt. omega arith) way h
 
 longer : (n : ℕ) (way : List ℕ) → IsShort n way → IsShort (suc n) way
 longer n way h = record { short = omega (arith, h.short); below = wider n (suc n) way (omega arith) h.below }
@@ -41,7 +38,7 @@ longer n way h = record { short = omega (arith, h.short); below = wider n (suc n
 plus_own : (n : ℕ) (order : Order) (above : List ℕ) → IsShort n above → IsShort (suc n) (in_turn order above (n ∷ []))
 plus_own n ParentFirst above h = record {
   short = let e = length-append above (n ∷ []) in omega (arith, h.short);
-  below = both (suc n) above (n ∷ []) (wider n (suc n) above (omega arith) h.below) (omega arith, tt);
+  below = all_both (λ (m : ℕ). m < suc n) above (n ∷ []) (wider n (suc n) above (omega arith) h.below) (omega arith, tt);
 }
 plus_own n ChildFirst above h = record {
   short = omega (arith, h.short);
@@ -51,13 +48,9 @@ plus_own n ChildFirst above h = record {
 none_short : (n : ℕ) → IsShort n []
 none_short n = record { short = omega arith; below = tt }
 
-append_none : (xs : List ℕ) → xs ++ [] ≡ xs
-append_none [] = refl
-append_none (x ∷ xs) = ap (λ (ys : List ℕ). x ∷ ys) (append_none xs)
-
 above_short : (n : ℕ) (earlier : ℕ → List ℕ) (parent : Option ℕ) → ((l : ℕ) → IsShort n (earlier l)) → IsShort n (flat_map earlier (parents_of parent))
 above_short n earlier None h = none_short n
-above_short n earlier (Some l) h = subst (λ (way : List ℕ). IsShort n way) (sym (append_none (earlier l))) (h l)
+above_short n earlier (Some l) h = subst (λ (way : List ℕ). IsShort n way) (sym (append-nil (earlier l))) (h l)
 
 at_short : (n : ℕ) (name : Name) (earlier : ℕ → List ℕ) (l : views.Loader) → ((k : ℕ) → IsShort n (earlier k)) → IsShort (suc n) (route_at name earlier n (loader_of l))
 at_short n name earlier l h = step (decisive (loader_of l).imports name)

@@ -2,6 +2,7 @@ use Rattle.std.proofs.Common.{List, map, not, sym, ap, subst, ◌∙◌}
 use Rattle.std.specs.Prelude.{filter, option_map}
 use Rattle.std.specs.Option.{option_or}
 use Rattle.std.specs.List.{AllByRecursion}
+use Rattle.std.proofs.lemmas.Result.{IfOk-weaker}
 use Rattle.cl_classfile.specs.Files.{file_of, method_key}
 use Rattle.cl_classfile.specs.References.{plain_symbol}
 use Rattle.cl_model.specs.Classes.{is_among}
@@ -12,7 +13,7 @@ use Rattle.cl_members.specs.Members.{implements}
 use Rattle.cl_members.specs.Lookups.{beneath}
 use Rattle.cl_members.proofs.Among.{all_kept}
 use Rattle.cl_members.proofs.Inside.{first_all, only_all}
-use Rattle.cl_members.proofs.Maximal.{finished, if_ok, left_is}
+use Rattle.cl_members.proofs.Maximal.{finished, left_is}
 use Rattle.cl_members.proofs.interface.interface_owner.Goals as goal
 
 pub returns-clause-owner : goal.returns-clause-owner
@@ -22,10 +23,10 @@ returns-clause-owner g c =
     )
     ∙ left_is (λ r. kin_at c.args.c.now r.value) (method_key (plain_symbol c.args.symbol)) (kin_of c.args.c.now) c.in_ok-rows.rows.items (λ x. is_among c.in_ok-beneath.beneath.keys x) c.in_ok-rows.ensures.kins
     (λ x. c.in_ok-beneath.ensures x ∙ ap (λ (rs : List _). is_among (beneath (map (λ r. kin_at c.args.c.now r.value) rs)) x) c.as_slice-2.ensures.value) in
-    if_ok _ _ (λ o e.
+    IfOk-weaker c.only_or.result _ _ (λ o e.
     finished (λ r. r.value) c.args.c.now (method_key (plain_symbol c.args.symbol)) o c.in_ok-first.first c.keep_implementing.new.rows.items c.in_ok-rows.rows.items
     (e ∙ ap (λ (rs : List _). option_or (only (map (λ r. r.value) rs)) (option_map (λ r. r.value) c.in_ok-first.first)) c.as_slice-3.ensures.value)
-    (c.in_ok-first.ensures ∙ ap (λ (rs : List _). first (map (λ r. r.value) rs)) c.as_slice.ensures.value) c.in_ok-rows.ensures.kins left) c.only_or.result c.only_or.ensures
+    (c.in_ok-first.ensures ∙ ap (λ (rs : List _). first (map (λ r. r.value) rs)) c.as_slice.ensures.value) c.in_ok-rows.ensures.kins left) c.only_or.ensures
 
 pub returns-clause-row : goal.returns-clause-row
 returns-clause-row g c =
@@ -35,6 +36,6 @@ returns-clause-row g c =
     (sym (c.keep_implementing.ensures ∙ ap (filter (λ r. implements (method_key (plain_symbol c.args.symbol)) (file_of r.value.file))) c.keep_apart.ensures))
     (all_kept (λ r. inside r.value) (λ r. implements (method_key (plain_symbol c.args.symbol)) (file_of r.value.file)) _
     (all_kept (λ r. inside r.value) (λ r. not (is_among c.in_ok-beneath.beneath.keys r.value.class)) c.in_ok-rows.rows.items c.in_ok-rows.ensures.rows)) in
-    if_ok _ _ (λ o e.
+    IfOk-weaker c.only_or.result _ _ (λ o e.
     only_all (λ r. r.value) inside c.keep_implementing.new.rows.items o c.in_ok-first.first left fallback
-    (e ∙ ap (λ (rs : List _). option_or (only (map (λ r. r.value) rs)) (option_map (λ r. r.value) c.in_ok-first.first)) c.as_slice-3.ensures.value)) c.only_or.result c.only_or.ensures
+    (e ∙ ap (λ (rs : List _). option_or (only (map (λ r. r.value) rs)) (option_map (λ r. r.value) c.in_ok-first.first)) c.as_slice-3.ensures.value)) c.only_or.ensures

@@ -1,5 +1,6 @@
 use Rattle.std.proofs.Common.{◌≡◌, false, Option, Some, None, sym, ap, subst, ◌∙◌}
 use Rattle.std.specs.Prelude.{find, is_some, option_map}
+use Rattle.std.proofs.lemmas.Result.{IfOk-weaker}
 use Rattle.cl_classfile.specs.Files.{file_of, method_key}
 use Rattle.cl_classfile.specs.References.{plain_symbol}
 use Rattle.cl_model.specs.Lineages.{Kin, superclasses}
@@ -8,7 +9,6 @@ use Rattle.cl_hierarchy.specs.Lineages.{IsRowIn, kin_at, kin_of, rows_in}
 use Rattle.cl_members.specs.Members.{method_in}
 use Rattle.cl_members.proofs.Inside.{find_all, own_inside}
 use Rattle.cl_members.proofs.Lists.{among_is}
-use Rattle.cl_members.proofs.Maximal.{if_ok}
 use Rattle.cl_members.proofs.Owners.{super_is, beyond_is}
 use Rattle.cl_members.proofs.method.method_owner.Goals as goal
 
@@ -27,7 +27,7 @@ returns-clause-owner g c =
     sym c.if-has_method.false ∙ c.has_method.ensures ∙ ap (λ (r : Rowed). is_some (method_in (method_key (plain_symbol c.args.symbol)) (file_of r.file))) (c.deref.ensures ∙ c.own.ensures.own) in
     let nowhere = among_is (λ r. kin_at c.args.c.now r.value) (λ a. is_some (method_in (method_key (plain_symbol c.args.symbol)) a.file)) c.in_ok-above.above.items (superclasses (kin_of c.args.c.now)) None c.in_ok-above.ensures.superclasses
     (c.in-None.ensures ∙ ap (find (λ r. is_some (method_in (method_key (plain_symbol c.args.symbol)) (file_of r.value.file)))) c.as_slice.ensures.value) in
-    if_ok _ _ (λ o e. beyond_is (method_key (plain_symbol c.args.symbol)) (kin_of c.args.c.now) (option_map (λ r. kin_at c.args.c.now r.value) o) none nowhere e) c.interface_owner.result c.interface_owner.ensures.owner
+    IfOk-weaker c.interface_owner.result _ _ (λ o e. beyond_is (method_key (plain_symbol c.args.symbol)) (kin_of c.args.c.now) (option_map (λ r. kin_at c.args.c.now r.value) o) none nowhere e) c.interface_owner.ensures.owner
 
 pub returns-then-has_method-clause-row : goal.returns-then-has_method-clause-row
 returns-then-has_method-clause-row g c = own_inside c.args.c.now c.in_ok-try_clone.field-0.value c.own-then-has_method.ensures.kept.order (c.in_ok-try_clone.ensures ∙ c.own-then-has_method.ensures.own)

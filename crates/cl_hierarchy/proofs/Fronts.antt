@@ -14,7 +14,7 @@ use Rattle.cl_model.proofs.Complete.{is_class}
 use Rattle.cl_config.specs.Views.{Configured}
 use Rattle.cl_delegation.specs.Worlds.{world_of}
 use Rattle.cl_hierarchy.specs.Frames.{accepted_of}
-use Rattle.cl_hierarchy.specs.Fronts.{Climb, IsKept, IsOnStem}
+use Rattle.cl_hierarchy.specs.Fronts.{Climb, IsKept, IsOnStem, IsStem}
 use Rattle.cl_hierarchy.specs.Lineages.{IsLined, IsLineageOf, IsWithin, Lined, kin_of, rows_in}
 use Rattle.cl_hierarchy.specs.Places.{IsPlace}
 use Rattle.cl_hierarchy.specs.Rows.{Rowed}
@@ -156,6 +156,7 @@ pub record Falls (told : Option Content) (config : Configured) (rows rest : List
   pub split : rows ≡ rest ++ last ∷ later
   pub lined : IsLined told (record { config = config; above = rest; own = last })
   pub fronts : (earlier : List Rowed) (r : Rowed) → IsPlace rows earlier r → length rest ≤ length earlier → IsLined told (record { config = config; above = earlier; own = r })
+  pub climbs : IsStem rows (length rest)
 
 module _ (told : Option Content) (config : Configured) (rows rest : List Rowed) (last : Rowed) (later : List Rowed) (split : rows ≡ rest ++ last ∷ later) (lined : IsLined told (record { config = config; above = rest; own = last })) where
   at_once : (earlier : List Rowed) (r : Rowed) → IsPlace rows earlier r → length rest ≡ length earlier → IsLined told (record { config = config; above = earlier; own = r })
@@ -163,8 +164,8 @@ module _ (told : Option Content) (config : Configured) (rows rest : List Rowed) 
       let same = same_place rest earlier last r later p.later (sym split ∙ p.split) n in
       subst (λ (xs : List Rowed). IsLined told (record { config = config; above = xs; own = r })) same.0 (subst (λ (x : Rowed). IsLined told (record { config = config; above = rest; own = x })) same.1 lined)
 
-  further : ((earlier : List Rowed) (r : Rowed) → IsPlace rows earlier r → length rest < length earlier → IsLined told (record { config = config; above = earlier; own = r })) → Falls told config rows rest last
-  further others = record {
+  further : ((earlier : List Rowed) (r : Rowed) → IsPlace rows earlier r → length rest < length earlier → IsLined told (record { config = config; above = earlier; own = r })) → IsStem rows (length rest) → Falls told config rows rest last
+  further others climbs = record {
     later = later;
     split = split;
     lined = lined;
@@ -173,6 +174,7 @@ module _ (told : Option Content) (config : Configured) (rows rest : List Rowed) 
           | inl lt ↦ others earlier r p lt
           | inr ge ↦ at_once earlier r p (omega (arith, le, ge))
         ];
+    climbs = climbs;
   }
 
 pub falls_first : (told : Option Content) (config : Configured) (above : List Rowed) (own : Rowed) → IsLined told (record { config = config; above = above; own = own }) → Falls told config (above ++ own ∷ []) above own
@@ -181,7 +183,26 @@ falls_first told config above own h = further told config (above ++ own ∷ []) 
     let m = length-append earlier (r ∷ p.later) in
     let e = ap (λ (rs : List Rowed). length rs) p.split in
     omega (arith, n, m, e, lt)
+    )) (λ earlier r x p le. absurd (
+    let n = length-append above (own ∷ []) in
+    let k = length-append earlier (r ∷ []) in
+    let m = length-append (earlier ++ r ∷ []) (x ∷ p.later) in
+    let e = ap (λ (rs : List Rowed). length rs) p.split in
+    omega (arith, n, k, m, e, le)
     ))
+
+-- the row right before
+next_climbs : (rows earlier : List Rowed) (row last : Rowed) (later : List Rowed) → rows ≡ (earlier ++ row ∷ []) ++ last ∷ later → IsStem rows (length (earlier ++ row ∷ [])) → superclass_in last ≡ row.class ∷ [] → IsStem rows (length earlier)
+next_climbs rows earlier row last later split climbs up = λ e r x p le.
+    let n : length (earlier ++ row ∷ []) ≡ length earlier + 1 = length-append earlier (row ∷ []) in
+    elim (cases_lt (length earlier) (length e)) [
+      | inl lt ↦ climbs e r x p (omega (arith, n, lt))
+      | inr ge ↦
+          let m : length (e ++ r ∷ []) ≡ length e + 1 = length-append e (r ∷ []) in
+          let ends = same_place (earlier ++ row ∷ []) (e ++ r ∷ []) last x later p.later (sym split ∙ p.split) (omega (arith, n, m, le, ge)) in
+          let before = same_place earlier e row r [] [] ends.0 (omega (arith, le, ge)) in
+          subst (λ (y : Rowed). superclass_in y ≡ r.class ∷ []) ends.1 (subst (λ (y : Rowed). superclass_in last ≡ y.class ∷ []) before.1 up)
+    ]
 
 falls_next : (told : Option Content) (config : Configured) (rows earlier : List Rowed) (row last : Rowed) → Falls told config rows (earlier ++ row ∷ []) last → superclass_in last ≡ row.class ∷ [] → Falls told config rows earlier row
 falls_next told config rows earlier row last h up =
@@ -189,6 +210,7 @@ falls_next told config rows earlier row last h up =
     (λ e r p lt.
     let n : length (earlier ++ row ∷ []) ≡ length earlier + 1 = length-append earlier (row ∷ []) in
     h.fronts e r p (omega (arith, n, lt)))
+    (next_climbs rows earlier row last h.later h.split h.climbs up)
 
 -- ---- where the stem begins
 
@@ -208,6 +230,7 @@ module _ (told : Option Content) (config : Configured) (above : List Rowed) (own
     lined = lined;
     within = omega arith;
     fronts = λ e r p le. let n : length rest ≡ 0 = ap (λ (rs : List Rowed). length rs) none in h.fronts e r p (omega (arith, n));
+    climbs = λ e r x p le. let n : length rest ≡ 0 = ap (λ (rs : List Rowed). length rs) none in h.climbs e r x p (omega (arith, n));
     first = λ e r x p n. absurd (omega (arith, n));
   }
 
@@ -216,6 +239,7 @@ module _ (told : Option Content) (config : Configured) (above : List Rowed) (own
     lined = lined;
     within = rest_within;
     fronts = h.fronts;
+    climbs = h.climbs;
     first = λ e r x p n.
         let m : length (e ++ r ∷ []) ≡ length e + 1 = length-append e (r ∷ []) in
         let same = same_place rest (e ++ r ∷ []) last x h.later p.later (sym h.split ∙ p.split) (sym (m ∙ n)) in
@@ -265,6 +289,7 @@ kept_front told l stem earlier r h p le = record {
   lined = h.fronts earlier r p le;
   within = le;
   fronts = λ e x q n. h.fronts e x (wider (rows_in l) earlier e r x p q) n;
+  climbs = λ e y x q n. h.climbs e y x (wider (rows_in l) earlier (e ++ y ∷ []) r x p q) n;
   first = λ e y x q n. h.first e y x (wider (rows_in l) earlier (e ++ y ∷ []) r x p q) n;
 }
 

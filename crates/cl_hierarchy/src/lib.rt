@@ -13,6 +13,7 @@ pub mod laws;
 pub mod lineage;
 pub mod making;
 pub mod member;
+mod others;
 pub mod path;
 pub mod row;
 mod row_index;

@@ -1,17 +1,18 @@
 //! Lineages: a class with all that stands above it, and what is asked of them (JVMS SE 8, 5.3.5, 5.4.4).
 
-ghost use Rattle.std.specs.Prelude.{◌≡◌, [], is_some, length, map, nat_le, true, IfOk, IfSome};
+ghost use Rattle.std.specs.Prelude.{◌≡◌, [], filter, is_some, length, map, nat_le, true, IfOk, IfSome};
 ghost use Rattle.std.specs.List.{AllByRecursion};
 ghost use Rattle.std.specs.Option.{option_map};
 ghost use Rattle.cl_model.specs.Lineages.{first, is_subclass, superclasses, superinterfaces, upward};
 ghost use Rattle.cl_hierarchy.specs.Fronts.{IsFront, IsOnStem};
-ghost use Rattle.cl_hierarchy.specs.Lineages.{IsLined, IsRowIn, field_order, kin_at, kin_of, reaches, rows_in};
+ghost use Rattle.cl_hierarchy.specs.Lineages.{IsLined, IsRowIn, field_order, is_of_other, kin_at, kin_of, reaches, rows_in};
 ghost use Rattle.cl_hierarchy.specs.Places.{IsPlace};
 ghost use Rattle.cl_hierarchy.specs.Trees.{SupersBefore, forest, kin_under, kins, superclass_in};
 
 use crate::above::superclass_row;
 use crate::access::is_same;
 use crate::front::{share_rows, stem_of};
+use crate::others::others_above;
 use crate::row::ClassRow;
 use crate::row_index::RowIndex;
 use crate::stem::{stem_end, superinterfaces_behind};
@@ -206,6 +207,18 @@ impl<T: Told> Lineage<T> {
             v.items) }
     {
         upward(alloc, self.above.as_slice(), &self.own)
+    }
+
+    /// The rows of the superclasses that another loader than the class's own defined, nearest first (JVMS SE 8, 4.1, 5.3),
+    /// in time linear in the rows. On the stem no name is compared.
+    pub fn superclasses_of_others(&self, alloc: Global) -> Result<Vec<Arc<ClassRow<T>>>, AllocError>
+        ensures superclasses { IfOk result (λ v. map (λ r. kin_at self.now r.value) v.items
+            ≡ filter (λ k. is_of_other self.now.own.class.loader k.class)
+            (superclasses (kin_of self.now))) }
+        ensures rows { IfOk result (λ v. AllByRecursion (λ r. IsRowIn (rows_in self.now) r.value)
+            v.items) }
+    {
+        others_above(alloc, self.above.as_slice(), &self.own, self.stem)
     }
 
     /// Whether the class has another as a proper superclass (JVMS SE 8, 4.1). Takes no memory; time linear in the rows.

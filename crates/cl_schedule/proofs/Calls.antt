@@ -31,6 +31,7 @@ use Rattle.cl_tasks.specs.Waits.{Waits, Defining, Initiating, Tracing, Settling,
 use Rattle.cl_schedule.specs.Replies.{Did, ImposesBy, PreparesBy, SettlesBy, reply_of, RepliesWhere}
 use Rattle.cl_schedule.proofs.Histories.{goes_by, goes_event}
 use Rattle.cl_model.proofs.Bind.{some_same}
+use Rattle.std.proofs.lemmas.Option.{none-some}
 
 -- ---- what was done
 
@@ -181,10 +182,7 @@ settled_entry x (requests.Resolve loader name i) s e = by_record (recorded (reco
     request_is place is = rw (is.class, is.index) refl
 
     by_record : (o : Option ℕ) → recorded (records_of x) loader name ≡ o → IsEntryOf x (requests.Resolve loader name i) s
-    by_record None at = absurd (none_some (sym (ap (λ (o : Option ℕ). option_and_then (λ (c : Cited). settled_at x c.class c.index) (option_map (λ (p : ℕ). record { class = class name p; index = i }) o)) at) ∙ e))
-      where
-        none_some : None ≡ Some s → ⊥
-        none_some e = cc
+    by_record None at = absurd (none-some _ (sym (ap (λ (o : Option ℕ). option_and_then (λ (c : Cited). settled_at x c.class c.index) (option_map (λ (p : ℕ). record { class = class name p; index = i }) o)) at) ∙ e))
     by_record (Some place) at = record {
       fits = request_is place (found place at);
       tells = λ d kept. subst (λ (c : Class). IsSettledIn x c i s) (same d kept) (found place at);

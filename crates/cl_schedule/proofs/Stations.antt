@@ -27,6 +27,7 @@ use Rattle.cl_schedule.specs.Replies.{Did, IsCall, IsRead, IsReplied, IsStepOf}
 use Rattle.cl_schedule.proofs.Places.{some_none}
 use Rattle.cl_tasks.proofs.Lacking.{posts_or}
 use Rattle.cl_model.proofs.Bind.{some_same}
+use Rattle.std.proofs.lemmas.Option.{none-some}
 
 -- ---- turns
 
@@ -140,10 +141,7 @@ look_told x r v t (reply.Settled e) has is waits frames facts = is.fits
 look_told x r v t reply.Imposed has is waits frames facts = is.fits
 look_told x r v t (reply.LookedPrepared b) has is waits frames facts = absurd is.fits
 look_told x r v t reply.Marked has is waits frames facts = is.fits
-look_told x r v t (reply.Refused n) has is waits frames facts = absurd (none_some is.fits)
-  where
-    none_some : {A : Type 0} {a : A} → None ≡ Some a → ⊥
-    none_some e = cc
+look_told x r v t (reply.Refused n) has is waits frames facts = absurd (none-some _ is.fits)
 look_told x r v t reply.Memory has is waits frames facts = tt
 look_told x r v t (reply.SourceFault f) has is waits frames facts = is.fits
 
@@ -160,10 +158,7 @@ reference_told x r v t (reply.Settled e) c i has is = is.fits
 reference_told x r v t reply.Imposed c i has is = is.fits
 reference_told x r v t (reply.LookedPrepared b) c i has is = absurd is.fits
 reference_told x r v t reply.Marked c i has is = is.fits
-reference_told x r v t (reply.Refused n) c i has is = absurd (none_some is.fits)
-  where
-    none_some : {A : Type 0} {a : A} → None ≡ Some a → ⊥
-    none_some e = cc
+reference_told x r v t (reply.Refused n) c i has is = absurd (none-some _ is.fits)
 reference_told x r v t reply.Memory c i has is = tt
 reference_told x r v t (reply.SourceFault f) c i has is = is.fits
 
@@ -180,10 +175,7 @@ prepared_told x r v t reply.Imposed c has linked knows waits is = is.fits
 prepared_told x r v t (reply.LookedPrepared true) c has linked knows waits is = (c, waits, linked, knows)
 prepared_told x r v t (reply.LookedPrepared false) c has linked knows waits is = absurd (is.shows has)
 prepared_told x r v t reply.Marked c has linked knows waits is = is.fits
-prepared_told x r v t (reply.Refused n) c has linked knows waits is = absurd (none_some is.fits)
-  where
-    none_some : {A : Type 0} {a : A} → None ≡ Some a → ⊥
-    none_some e = cc
+prepared_told x r v t (reply.Refused n) c has linked knows waits is = absurd (none-some _ is.fits)
 prepared_told x r v t reply.Memory c has linked knows waits is = tt
 prepared_told x r v t (reply.SourceFault f) c has linked knows waits is = is.fits
 

@@ -25,6 +25,7 @@ use Rattle.cl_schedule.proofs.Prompt.{first_since, of_other, takings_other, taki
 use Rattle.cl_schedule.proofs.Rooming.{asked_turned, goes_turned, not_open, opens_turned}
 use Rattle.cl_schedule.proofs.Rounds.{scheduled_at}
 use Rattle.cl_model.proofs.Bind.{some_same}
+use Rattle.std.proofs.lemmas.Option.{none-some}
 
 -- what a measure keeps to: more takings are as good, what is known holds later on, a seat is taken no more often then, and once at least
 pub record IsMeasure {A : Type 0} (told : Option Content) (m : Measure A) : Type 0 where
@@ -77,10 +78,7 @@ within_before {A = A} m x room ps q r k n are asked is_open fits all = by_first 
 
 -- before the first choice
 pub none_within : {A : Type 0} (m : Measure A) (x : Shown) (room : Room A) → NoneSeated room → AreWithin m x room []
-none_within m x room none = record { untaken = λ q e. none q; fits = λ q r k s first fits. absurd (no_first first); within = λ q r k s n asked is_open first fits all. absurd (no_first first) }
-  where
-    no_first : {s : State} → None ≡ Some s → ⊥
-    no_first e = cc
+none_within m x room none = record { untaken = λ q e. none q; fits = λ q r k s first fits. absurd (none-some _ first); within = λ q r k s n asked is_open first fits all. absurd (none-some _ first) }
 
 -- one piece more
 are_within : {A : Type 0} (told : Option Content) (m : Measure A) (old new : Shown) (was now : Room A) (ps : List Piece) (choice : ℕ) (made rounds : List Step) → IsMeasure told m → GoesOn old new → AllSeated told old was → AreWithin m old was ps

@@ -65,7 +65,7 @@ found : (content : Content) (c : Configured) (script : Scripted) (s : State) (f 
 found content c script s f v rests sound stands said =
     concluded content c script s f.request v f.basis (subst (λ (a : answer.Answer). AnswerRests content f.request a f.basis) said rests) sound stands.basis
 
-answered_by : (g : Setting) (s : State) (q : Request) (o : Option Need) (cs : List Class) (v : Verdict) → Concludes g.world s q o cs v → IfSome o (Refused s) → AnswersPlan g s q v
+pub answered_by : (g : Setting) (s : State) (q : Request) (o : Option Need) (cs : List Class) (v : Verdict) → Concludes g.world s q o cs v → IfSome o (Refused s) → AnswersPlan g s q v
 answered_by g s q None cs v h refused = answers_here g s q v h
 answered_by g s q (Some n) cs v h refused = subst (λ (u : Verdict). AnswersPlan g s q u) (sym h.linkage) (refused_answers g s q n h.next refused)
 

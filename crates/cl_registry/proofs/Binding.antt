@@ -19,7 +19,7 @@ use Rattle.cl_model.specs.Classes.{class, same_class}
 use Rattle.cl_model.specs.Texts.{AnswerNames, VerdictNames}
 use Rattle.cl_model.specs.States.{State, IsRecorded, settled_to, recorded}
 use Rattle.cl_model.specs.States as states
-use Rattle.cl_model.specs.Machine.{Setting, Settle, after, May}
+use Rattle.cl_model.specs.Machine.{Settle, May}
 use Rattle.cl_model.specs.Machine as machine
 use Rattle.cl_model.specs.Tables.{MayKeep}
 use Rattle.cl_model.specs.Views.{verdict_of}
@@ -44,31 +44,18 @@ use Rattle.cl_registry.proofs.Settled.{settled_more, settled_is_told, unsettled_
 
 -- ---- the verdicts that are settled
 
--- what is no bad entry reads as none
-pub bad_is : (v : Verdict) → v ≢ verdicts.BadEntry → verdict_of v ≢ states.BadEntry
-bad_is (verdicts.Class c) h e = cc
-bad_is (verdicts.Array d c) h e = cc
-bad_is (verdicts.PrimitiveArray d b) h e = cc
-bad_is (verdicts.Field c k) h e = cc
-bad_is (verdicts.Method c k) h e = cc
-bad_is (verdicts.Linked c) h e = cc
-bad_is verdicts.BadEntry h e = h refl
-bad_is verdicts.ArrayMember h e = cc
-bad_is (verdicts.Error k c) h e = cc
-bad_is (verdicts.Linkage n) h e = cc
-
--- and what is no member of an array
-pub array_is : (v : Verdict) → v ≢ verdicts.ArrayMember → verdict_of v ≢ states.ArrayMember
-array_is (verdicts.Class c) h e = cc
-array_is (verdicts.Array d c) h e = cc
-array_is (verdicts.PrimitiveArray d b) h e = cc
-array_is (verdicts.Field c k) h e = cc
-array_is (verdicts.Method c k) h e = cc
-array_is (verdicts.Linked c) h e = cc
-array_is verdicts.BadEntry h e = cc
-array_is verdicts.ArrayMember h e = h refl
-array_is (verdicts.Error k c) h e = cc
-array_is (verdicts.Linkage n) h e = cc
+-- what is no bad entry reads as none, and what is no member of an array as none
+pub apart_is : (v : Verdict) → (v ≢ verdicts.BadEntry → verdict_of v ≢ states.BadEntry) × (v ≢ verdicts.ArrayMember → verdict_of v ≢ states.ArrayMember)
+apart_is (verdicts.Class c) = (λ h e. cc, λ h e. cc)
+apart_is (verdicts.Array d c) = (λ h e. cc, λ h e. cc)
+apart_is (verdicts.PrimitiveArray d b) = (λ h e. cc, λ h e. cc)
+apart_is (verdicts.Field c k) = (λ h e. cc, λ h e. cc)
+apart_is (verdicts.Method c k) = (λ h e. cc, λ h e. cc)
+apart_is (verdicts.Linked c) = (λ h e. cc, λ h e. cc)
+apart_is verdicts.BadEntry = (λ h e. h refl, λ h e. cc)
+apart_is verdicts.ArrayMember = (λ h e. cc, λ h e. h refl)
+apart_is (verdicts.Error k c) = (λ h e. cc, λ h e. cc)
+apart_is (verdicts.Linkage n) = (λ h e. cc, λ h e. cc)
 
 -- ---- what may happen
 
@@ -91,8 +78,8 @@ module _ (told : Option Content) (x : Shown) (f : Answered) (s : Settled) (k : I
   may_keep = record {
     recorded = own;
     unsettled = (unsettled_is_told x s.class s.index unsettled).verdict;
-    is_entry = bad_is s.verdict to.says.is_entry;
-    is_class_member = array_is s.verdict to.says.is_class_member;
+    is_entry = (apart_is s.verdict).0 to.says.is_entry;
+    is_class_member = (apart_is s.verdict).1 to.says.is_class_member;
   }
 
 -- what a finding settles may be settled by the machine

@@ -7,13 +7,14 @@ use Rattle.cl_model.specs.declared.event.Event.{Event}
 use Rattle.cl_model.specs.declared.event.Event.TheVariants as events
 use Rattle.cl_model.specs.declared.answer.Answer as rust
 use Rattle.cl_model.specs.Content.{Content}
-use Rattle.cl_model.specs.States.{State, Answer, start}
+use Rattle.cl_model.specs.States.{Answer, start}
 use Rattle.cl_model.specs.Machine.{Step, Post, after, state_after, May}
 use Rattle.cl_model.specs.Tables as tables
 use Rattle.cl_model.specs.Tables.{Allows}
 use Rattle.cl_model.specs.Views.{answer_of, answers_of, answer_at, post_of, step_of, steps_of}
 use Rattle.cl_model.proofs.Runs.{run_goes_on}
 use Rattle.cl_model.proofs.Tables.{trusted_goes_on}
+use Rattle.cl_model.proofs.Views.{state_then}
 use Rattle.cl_config.specs.Loaders.{schedule_of}
 use Rattle.cl_delegation.specs.Worlds.{setting_of}
 use Rattle.cl_registry.specs.Kept.{left_in, open_in}
@@ -32,17 +33,13 @@ or_right false = refl
 
 -- ---- one step more
 
-pub state_push : (s : State) (es : List Step) (e : Step) → state_after s (es ++ e ∷ []) ≡ after (state_after s es) e
-state_push s [] e = refl
-state_push s (f ∷ es) e = state_push (after s f) es e
-
 -- the step of an event more, where the answers are the same
 pub steps_more : (given : List (Option Answer)) (h : List Event) (e : Event) → steps_of given (h ++ e ∷ []) ≡ steps_of given h ++ step_of given e ∷ []
 steps_more given h e = map_push (step_of given) h e
 
 -- the state of a registry whose history has one step more
 pub state_more : (x y : Shown) (e : Step) → steps y ≡ steps x ++ e ∷ [] → state_of y ≡ after (state_of x) e
-state_more x y e is = ap (state_after start) is ∙ state_push start (steps x) e
+state_more x y e is = ap (state_after start) is ∙ state_then start (steps x) (e ∷ [])
 
 -- tables stay trusted by a step that they allow
 pub trusted_more : (x y : Shown) (e : Step) → y.script ≡ x.script → steps y ≡ steps x ++ e ∷ [] → tables.IsTrusted (schedule_of x.script) x.script.rounds (steps x)

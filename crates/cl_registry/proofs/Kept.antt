@@ -16,6 +16,7 @@ use Rattle.cl_model.specs.Machine.{Step, after, May}
 use Rattle.cl_model.specs.Tables.{Allows}
 use Rattle.cl_model.specs.Views.{answers_of, answer_at, step_of}
 use Rattle.cl_model.proofs.Runs.{records_stay}
+use Rattle.cl_config.specs.Views.{Scripted}
 use Rattle.cl_config.specs.Loaders.{schedule_of}
 use Rattle.cl_delegation.specs.Worlds.{setting_of}
 use Rattle.cl_hierarchy.specs.Drafts.{IsSpelt}
@@ -161,6 +162,10 @@ pub record HasRoom (x : Shown) (f : Fields) (used come more : ℕ) : Type 0 wher
   pub one : used ≡ f.events + 1
   pub come_is : come ≡ f.left + (x.script.rounds - (f.round + 1))
   pub fits : used + come ≤ more
+
+-- what is to come is counted by the rounds of the script
+pub come_by : {come rounds : ℕ} {s t : Scripted} (left round : ℕ) → come ≡ left + (rounds - (round + 1)) → rounds ≡ s.rounds → s ≡ t → come ≡ left + (t.rounds - (round + 1))
+come_by left round is of same = is ∙ ap (λ (n : ℕ). left + (n - (round + 1))) (of ∙ ap (λ (y : Scripted). y.rounds) same)
 
 -- a registry after an event that is no post, and begins no round
 pub registry_event : (told : Option Content) (x : Shown) (rows : List Rowed) (e : Event) (f : Fields) (old new : State → Type 0) (table : ℕ → List ℕ → Option Rowed) (wide : ℕ) (references : Class → ℕ → Option Settled) (prepared : List Class) (used come more : ℕ)

@@ -1,15 +1,17 @@
 -- Equalities that are known to be met.
-use Rattle.std.proofs.Common.{◌≡◌, ◌++◌, ◌∷◌, inl, inr, [], ℕ, zero, suc, List, Option, Some, None, sym, subst, take}
+use Rattle.std.proofs.Common.{◌≡◌, ◌++◌, ◌∷◌, inl, inr, [], ℕ, zero, suc, List, Option, Some, sym, subst, take}
 use Rattle.std.specs.Prelude.{slice_get}
 use Rattle.cl_model.specs.declared.need.Equality.{Equality}
 use Rattle.cl_model.specs.Content.{Content}
 use Rattle.cl_model.specs.States.{AllMet, Met, Need, State}
 use Rattle.cl_model.specs.Machine.{Step, after}
 use Rattle.cl_model.proofs.Runs.{met_stays}
+use Rattle.cl_model.proofs.Bind.{some_same}
 use Rattle.cl_hierarchy.specs.Imposed.{equal_need, needs_of}
 use Rattle.cl_registry.specs.Imposing.{IsNoted, StandsWith}
 use Rattle.cl_registry.specs.Kept.{Fields, IsRegistry}
 use Rattle.cl_registry.specs.Tables.{Shown, state_of}
+use Rattle.std.proofs.lemmas.Option.{none-some}
 
 -- what is met stays so, by a step
 pub met_after : (s t : State) (e : Step) (ns : List Need) → t ≡ after s e → AllMet s ns → AllMet t ns
@@ -22,14 +24,8 @@ met_alone s e is = record { path = []; along = is }
 
 -- and so is one of those that are
 pub met_known : (s : State) (known : List Equality) (place : ℕ) (e : Equality) → slice_get known place ≡ Some e → AllMet s (needs_of known) → Met s (equal_need e)
-met_known s [] place e at h = absurd (none_some at)
-  where
-    none_some : None ≡ Some e → ⊥
-    none_some is = cc
-met_known s (x ∷ known) zero e at h = subst (λ (y : Equality). Met s (equal_need y)) (some_same at) h.0
-  where
-    some_same : Some x ≡ Some e → x ≡ e
-    some_same is = cc
+met_known s [] place e at h = absurd (none-some e at)
+met_known s (x ∷ known) zero e at h = subst (λ (y : Equality). Met s (equal_need y)) (some_same x e at) h.0
 met_known s (x ∷ known) (suc place) e at h = met_known s known place e at h.1
 
 -- one that is met stands behind the first of those that are

@@ -20,6 +20,7 @@ use Rattle.cl_registry.proofs.Histories.{eq_nat}
 use Rattle.cl_registry.proofs.Running.{recorded_hold, all_known}
 use Rattle.cl_model.proofs.Bind.{none_not_some, some_same}
 use Rattle.std.proofs.lemmas.Bool.{and_parts, and_from}
+use Rattle.std.proofs.lemmas.Option.{none-some}
 
 -- ---- records
 
@@ -134,30 +135,24 @@ place_looked told x l n k = by_record (recorded (records_of x) l n) refl
         let is = looked_some told x l p n k e in
         ap (option_map (λ (r : Rowed). r.class.loader)) is.looked ∙ ap (λ (c : Class). Some c.loader) is.named ∙ sym e
 
-none_some_row : (r : Rowed) → None ≡ Some r → ⊥
-none_some_row r e = cc
-
 -- a row that is looked up is of the class that is recorded
 pub looked_records : (told : Option Content) (x : Shown) (l : ℕ) (n : List ℕ) (r : Rowed) → IsKept told x → looked x l n ≡ Some r → Records x l n r
 looked_records told x l n r k e = by_record (recorded (records_of x) l n) refl
   where
     by_record : (o : Option ℕ) → recorded (records_of x) l n ≡ o → Records x l n r
-    by_record None f = absurd (none_some_row r (sym (looked_none x l n f) ∙ e))
+    by_record None f = absurd (none-some r (sym (looked_none x l n f) ∙ e))
     by_record (Some p) f =
         let is = looked_some told x l p n k f in
         let same : is.row ≡ r = some_same is.row r (sym is.looked ∙ e) in
         let of : r.class ≡ class n p = ap (λ (s : Rowed). s.class) (sym same) ∙ is.named in
         record { named = ap (λ (c : Class). c.name) of; recorded = f ∙ ap (λ (c : Class). Some c.loader) (sym of) }
 
-some_none_row : (r : Rowed) → Some r ≡ None → ⊥
-some_none_row r e = cc
-
 pub looked_lacks : (told : Option Content) (x : Shown) (l : ℕ) (n : List ℕ) → IsKept told x → looked x l n ≡ None → LacksRecord x l n
 looked_lacks told x l n k e = by_record (recorded (records_of x) l n) refl
   where
     by_record : (o : Option ℕ) → recorded (records_of x) l n ≡ o → LacksRecord x l n
     by_record None f = f
-    by_record (Some p) f = let is = looked_some told x l p n k f in absurd (some_none_row is.row (sym is.looked ∙ e))
+    by_record (Some p) f = let is = looked_some told x l p n k f in absurd (none-some is.row (sym e ∙ is.looked))
 
 pub looked_is : (told : Option Content) (x : Shown) (l : ℕ) (n : List ℕ) (o : Option Rowed) → IsKept told x → o ≡ looked x l n → MatchOption o (LacksRecord x l n) (Records x l n)
 looked_is told x l n None k e = looked_lacks told x l n k (sym e)

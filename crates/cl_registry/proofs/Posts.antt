@@ -6,7 +6,6 @@ use Rattle.std.proofs.lemmas.List.{append-nil, length-set, length_push}
 use Rattle.std.proofs.lemmas.List.Elements.{All-push, All-same, All-set, All-get_or}
 use Rattle.std.proofs.lemmas.Option.{slice_get_within, slice_get-get_or, get_or_from_slice_get}
 use Rattle.std.proofs.lemmas.Cmp.{nat_eq_equiv}
-use Rattle.std.proofs.lemmas.Bool.Decides.{nat_tests}
 use Rattle.cl_classfile.specs.Files.{Name}
 use Rattle.cl_model.specs.declared.class.Class.{Class}
 use Rattle.cl_model.specs.declared.event.Event.TheVariants as events
@@ -33,6 +32,7 @@ use Rattle.cl_registry.proofs.Calm.{unposted_stays}
 use Rattle.cl_registry.proofs.Histories.{trusted_more, run_more, posts_then, defined_then, settlements_then, is_in_push, swap_nat, eq_nat, other_answer, this_answer, left_set, open_set, steps_posts, state_posts, posted_by, unposted, less}
 use Rattle.cl_registry.proofs.Known.{met_after}
 use Rattle.cl_registry.proofs.Posted.{borne, fitting_is_allowed, in_its_round, scheduled, scheduled_at}
+use Rattle.cl_registry.proofs.Counts.{get_set_other}
 
 -- a request of this round is of no later one
 pub not_later : (x : Shown) (q n round : ℕ) → slice_get x.script.rounds_of q ≡ Some n → n ≤ round → round ≡ round_of x → IsLater x q → ⊥
@@ -109,13 +109,6 @@ set_here [] i a m e = absurd cc
 set_here (x ∷ xs) zero a m e = cc
 set_here (x ∷ xs) (suc i) a m e = set_here xs i a m e
 
-set_there : (xs : List ℕ) (i j a : ℕ) → nat_eq i j ≡ false → slice_get (slice_set xs i a) j ≡ slice_get xs j
-set_there [] i j a e = refl
-set_there (x ∷ xs) zero zero a e = absurd cc
-set_there (x ∷ xs) zero (suc j) a e = refl
-set_there (x ∷ xs) (suc i) zero a e = refl
-set_there (x ∷ xs) (suc i) (suc j) a e = set_there xs i j a (less i j e)
-
 lower_by : (v w o p : ℕ) → v + 1 ≡ w → w ≡ o → o ≡ p + 1 → v ≡ p
 lower_by v w o p e f g = omega arith
 
@@ -131,7 +124,7 @@ count_after told x f q n v w r m a true k at is here fewer e found =
     m-is ∙ lower_by v w (open_in r x.script.rounds_of x.answers) (open_in r x.script.rounds_of (slice_set x.answers q (Some a))) fewer (k.counts r w (subst (λ (i : ℕ). slice_get f.unanswered i ≡ Some w) same here)) fall
 count_after told x f q n v w r m a false k at is here fewer e found =
     let fall = open_set r x.script.rounds_of x.answers q n a at is ∙ ap (λ (b : Bool). open_in r x.script.rounds_of (slice_set x.answers q (Some a)) + (if b then 1 else 0)) e in
-    none_less m (open_in r x.script.rounds_of x.answers) (open_in r x.script.rounds_of (slice_set x.answers q (Some a))) (k.counts r m (sym (set_there f.unanswered n r v e) ∙ found)) fall
+    none_less m (open_in r x.script.rounds_of x.answers) (open_in r x.script.rounds_of (slice_set x.answers q (Some a))) (k.counts r m (sym (get_set_other f.unanswered n r v e) ∙ found)) fall
 
 -- a request that has no answer is counted in its round
 pub counted : {stands : State → Type 0} (told : Option Content) (x : Shown) (f : Fields) (q n : ℕ) → IsRegistry told x f stands → slice_get x.script.rounds_of q ≡ Some n → slice_get x.answers q ≡ Some None → (w : ℕ) × (slice_get f.unanswered n ≡ Some w) × (0 < w)

@@ -113,16 +113,6 @@ above_by x c a row false r h =
 pub above_none : (x : Shown) (c : Class) (a : Above) → LacksRecord x c.loader a.name → IsPreparedAbove x c a → ⊥
 above_none x c a none p = none_not_some _ none p.recorded
 
--- what holds of each that there is holds of all
-pub each_above : (P : Above → Type 0) (xs : List Above) → ((k : ℕ) → k < length xs → IfSome (slice_get xs k) P) → AllByRecursion P xs
-each_above P [] all = tt
-each_above P (x ∷ xs) all = (all 0 (omega arith), each_above P xs (λ k h. all (suc k) (omega arith)))
-
-pub above_at : (P : Above → Type 0) (xs : List Above) (k : ℕ) → AllByRecursion P xs → IfSome (slice_get xs k) P
-above_at P [] k all = tt
-above_at P (x ∷ xs) zero all = all.0
-above_at P (x ∷ xs) (suc k) all = above_at P xs k all.1
-
 -- ---- an equality of a list
 
 -- the one that was read stands at its place

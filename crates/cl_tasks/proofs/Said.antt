@@ -36,7 +36,7 @@ use Rattle.cl_registry.specs.Posting.{IsBacked}
 use Rattle.cl_registry.specs.References.{cited_by}
 use Rattle.cl_registry.specs.Settling as settling
 use Rattle.cl_registry.specs.Tables.{Shown, NamesLoaders, records_of, state_of}
-use Rattle.cl_registry.proofs.Binding.{array_is, bad_is}
+use Rattle.cl_registry.proofs.Binding.{apart_is}
 use Rattle.cl_tasks.specs.Follows.{IsSettledNext, ServedIn}
 use Rattle.cl_tasks.specs.Ends.{IsNoResolution}
 use Rattle.cl_tasks.specs.Stages.{IsFailure, load_of}
@@ -133,8 +133,8 @@ answer_settles g s l d i v sound kept answer is_entry is_member unsettled =
       recorded = sound.closed.own l d.loader d.name kept;
       unsettled = unsettled;
       answered = plan_is_reference g s l d.name i p.0 d (verdict_of v) p.1 at.0 at.1 answer;
-      is_entry = bad_is v is_entry;
-      is_class_member = array_is v is_member;
+      is_entry = (apart_is v).0 is_entry;
+      is_class_member = (apart_is v).1 is_member;
     })
 
 pub settled_next : (told : Option Content) (c : Configured) (r : Request) (d : Class) (i : ℕ) (v : verdict.Verdict) (b : Based) (holds : Shown → Type 0) → Stood told c r v b holds → Settling r d i v holds → (g : Setting) (x : Shown) → ServedIn told c g (state_of x) → holds x

@@ -1,4 +1,4 @@
-use Rattle.std.proofs.Common.{◌≡◌, ◌∙◌, ◌+◌, ◌-◌, ℕ, ap, sym, subst, refl, length}
+use Rattle.std.proofs.Common.{◌≡◌, ap, sym, subst, refl, length}
 use Rattle.cl_model.specs.declared.need.Need.TheVariants as needs
 use Rattle.cl_model.specs.States.{Met, Refused}
 use Rattle.cl_model.specs.Texts.{EqualityNames}
@@ -9,7 +9,7 @@ use Rattle.cl_registry.specs.Refusals.{AddRefusedFor, Blames}
 use Rattle.cl_registry.specs.View.{shown}
 use Rattle.cl_registry.proofs.Entered.{add_refused}
 use Rattle.cl_registry.proofs.Imposed.{blames_equality, free_equality, kept_constrained, met_constrain}
-use Rattle.cl_registry.proofs.Kept.{grown, kept_failed}
+use Rattle.cl_registry.proofs.Kept.{come_by, grown, kept_failed}
 use Rattle.cl_registry.proofs.registry.Registry.constrain.Goals as goal
 
 pub returns-then-refuses-clause-refused : goal.returns-then-refuses-clause-refused
@@ -28,7 +28,7 @@ pub invariant_of-self : goal.invariant_of-self
 invariant_of-self g c =
     let e = c.in-Err.ensures in
     kept_failed g.T.Told.told _ _ _ _ _ _ _ _ _ c.to_come-left.result _ _ _ c.self.invariant refl e.same_history (λ l n. refl) refl (λ b. rw e.same_book b) (λ d i. refl) refl e.same_length
-    (c.to_come-left.ensures ∙ ap (λ (n : ℕ). c.self.inside.left + (n - (c.self.inside.round + 1))) (c.rounds.ensures ∙ ap (λ s. s.rounds) c.deref.ensures)) e.room
+    (come_by c.self.inside.left c.self.inside.round c.to_come-left.ensures c.rounds.ensures c.deref.ensures) e.room
 
 pub invariant_of-self-2 : goal.invariant_of-self-2
 invariant_of-self-2 g c =
@@ -37,7 +37,7 @@ invariant_of-self-2 g c =
     let e = c.in-Ok.ensures in
     kept_constrained g.T.Told.told x n _ _ _ _ _ _ _ _ c.to_come-left.result _ _ c.self.invariant (subst (λ (y : Shown). Met (state_of y) (equal_need n) → ⊥) (sym c.self.view_is) c.requires.unmet)
     (subst (λ (y : Shown). MayConstrainAs g.T.Told.told y n) (sym c.self.view_is) c.requires.may) (subst (λ (y : Shown). EqualityNames (length y.config.loaders) n) (sym c.self.view_is) c.requires.within) e.added (λ l m. refl)
-    (record { width = refl; references_are = λ k i. refl; prepared_are = refl; room = record { one = e.used; come_is = (c.to_come-left.ensures ∙ ap (λ (n : ℕ). c.self.inside.left + (n - (c.self.inside.round + 1))) (c.rounds.ensures ∙ ap (λ s. s.rounds) c.deref.ensures)); fits = e.room } })
+    (record { width = refl; references_are = λ k i. refl; prepared_are = refl; room = record { one = e.used; come_is = (come_by c.self.inside.left c.self.inside.round c.to_come-left.ensures c.rounds.ensures c.deref.ensures); fits = e.room } })
     e.event
 
 pub returns-in-Err-clause-refused : goal.returns-in-Err-clause-refused

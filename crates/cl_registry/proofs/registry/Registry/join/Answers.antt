@@ -1,4 +1,4 @@
-use Rattle.std.proofs.Common.{◌≡◌, ◌∙◌, ◌+◌, ◌-◌, ℕ, Some, None, ap, sym, subst, refl}
+use Rattle.std.proofs.Common.{◌≡◌, ◌∙◌, Some, None, ap, sym, subst, refl}
 use Rattle.std.specs.Option.{option_map}
 use Rattle.cl_model.specs.declared.need.Need.TheVariants as needs
 use Rattle.cl_model.specs.States.{Refused}
@@ -7,7 +7,7 @@ use Rattle.cl_registry.specs.Tables.{Shown, LacksRecord, MayJoin, InitiatedAs, a
 use Rattle.cl_registry.specs.Refusals.{AddRefusedFor, Blames}
 use Rattle.cl_registry.specs.View.{shown}
 use Rattle.cl_registry.proofs.Entered.{add_refused, asked_entry, blamed_as, blames_record, kept_initiated, not_refused, share_refused, shown_initiate}
-use Rattle.cl_registry.proofs.Kept.{kept_failed}
+use Rattle.cl_registry.proofs.Kept.{come_by, kept_failed}
 use Rattle.cl_registry.proofs.registry.Registry.join.Goals as goal
 
 pub returns-then-not-admits-clause-refused : goal.returns-then-not-admits-clause-refused
@@ -41,7 +41,7 @@ invariant_of-self g c =
     let e = c.in-Err-join.ensures in
     kept_failed g.T.Told.told _ _ _ _ _ _ _ _ _ c.to_come-left.result _ _ _ c.self.invariant refl e.same_history (λ l n. ap (option_map (λ r. r.value)) (e.same_tables l n)) e.width (λ b. rw e.same_book b) (λ d i. refl) refl
     e.same_length
-    (c.to_come-left.ensures ∙ ap (λ (n : ℕ). c.self.inside.left + (n - (c.self.inside.round + 1))) (c.rounds.ensures ∙ ap (λ s. s.rounds) c.deref.ensures)) e.room
+    (come_by c.self.inside.left c.self.inside.round c.to_come-left.ensures c.rounds.ensures c.deref.ensures) e.room
 
 pub invariant_of-self-2 : goal.invariant_of-self-2
 invariant_of-self-2 g c =
@@ -56,7 +56,7 @@ invariant_of-self-2 g c =
       width = e.width;
       references_are = λ k i. refl;
       prepared_are = refl;
-      room = record { one = e.used; come_is = (c.to_come-left.ensures ∙ ap (λ (n : ℕ). c.self.inside.left + (n - (c.self.inside.round + 1))) (c.rounds.ensures ∙ ap (λ s. s.rounds) c.deref.ensures)); fits = e.room };
+      room = record { one = e.used; come_is = (come_by c.self.inside.left c.self.inside.round c.to_come-left.ensures c.rounds.ensures c.deref.ensures); fits = e.room };
     })
     e.event
 

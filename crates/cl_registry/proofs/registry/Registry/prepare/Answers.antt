@@ -1,4 +1,4 @@
-use Rattle.std.proofs.Common.{◌≡◌, ◌∙◌, ◌+◌, ◌-◌, ℕ, List, ap, sym, subst, refl}
+use Rattle.std.proofs.Common.{◌≡◌, List, ap, sym, subst, refl}
 use Rattle.std.specs.Prelude.{Contains}
 use Rattle.cl_model.specs.declared.class.Class.{Class}
 use Rattle.cl_model.specs.States.{IsRecorded}
@@ -6,7 +6,7 @@ use Rattle.cl_registry.specs.Imposing.{MayPrepareAs, with_prepare}
 use Rattle.cl_registry.specs.Tables.{Shown, state_of}
 use Rattle.cl_registry.specs.View.{shown}
 use Rattle.cl_registry.proofs.Imposed.{kept_prepared, prepared_more}
-use Rattle.cl_registry.proofs.Kept.{grown, kept_failed}
+use Rattle.cl_registry.proofs.Kept.{come_by, grown, kept_failed}
 use Rattle.cl_registry.proofs.registry.Registry.prepare.Goals as goal
 
 pub add_prepared-requires-clause-absent : goal.add_prepared-requires-clause-absent
@@ -19,7 +19,7 @@ pub invariant_of-self : goal.invariant_of-self
 invariant_of-self g c =
     let e = c.in-Err.ensures in
     kept_failed g.T.Told.told _ _ _ _ _ _ _ _ _ c.to_come-left.result _ _ _ c.self.invariant refl e.same_history (λ l n. refl) refl (λ b. b) (λ d i. refl) e.same_prepared e.same_length
-    (c.to_come-left.ensures ∙ ap (λ (n : ℕ). c.self.inside.left + (n - (c.self.inside.round + 1))) (c.rounds.ensures ∙ ap (λ s. s.rounds) c.deref.ensures)) e.room
+    (come_by c.self.inside.left c.self.inside.round c.to_come-left.ensures c.rounds.ensures c.deref.ensures) e.room
 
 pub invariant_of-self-2 : goal.invariant_of-self-2
 invariant_of-self-2 g c =
@@ -31,7 +31,7 @@ invariant_of-self-2 g c =
     (subst (λ (y : Shown). MayPrepareAs g.T.Told.told y d) (sym c.self.view_is) c.requires.may) (λ l m. refl) refl (λ k i. refl) e.added
     (record {
       one = e.used;
-      come_is = c.to_come-left.ensures ∙ ap (λ (n : ℕ). c.self.inside.left + (n - (c.self.inside.round + 1))) (c.rounds.ensures ∙ ap (λ s. s.rounds) c.deref.ensures);
+      come_is = come_by c.self.inside.left c.self.inside.round c.to_come-left.ensures c.rounds.ensures c.deref.ensures;
       fits = e.room;
     })
     e.event

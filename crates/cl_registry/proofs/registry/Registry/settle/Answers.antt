@@ -1,4 +1,4 @@
-use Rattle.std.proofs.Common.{◌≡◌, ◌∙◌, ◌+◌, ◌-◌, ℕ, Some, None, ap, sym, subst, refl}
+use Rattle.std.proofs.Common.{◌≡◌, ◌∙◌, Some, None, ap, sym, subst, refl}
 use Rattle.cl_model.specs.declared.request.Request.{Request}
 use Rattle.cl_model.specs.declared.settled.Settled.{Settled}
 use Rattle.cl_registry.specs.References.{settled_by, IsSettledIn}
@@ -9,6 +9,7 @@ use Rattle.cl_registry.proofs.Binding.{bound, registry_bound}
 use Rattle.cl_registry.proofs.Cited.{settled_by_in}
 use Rattle.cl_registry.proofs.registry.Registry.settle.Goals as goal
 use Rattle.cl_registry.proofs.registry.Registry.settle.Goals.{in-Ok, in-Err}
+use Rattle.cl_registry.proofs.Kept.{come_by}
 
 pub returns-in-Some-clause-found : goal.returns-in-Some-clause-found
 returns-in-Some-clause-found g c =
@@ -35,7 +36,7 @@ pub invariant_of-self-2 : goal.invariant_of-self-2
 invariant_of-self-2 g c =
     registry_bound g.T.Told.told (known g c) c.args.finding.now c.in-Ok-to_settle.settled c.bind.new.history.items _ _ _ _ _ _ _ _ c.to_come-left.result _ c.self.invariant c.request.ensures.rests (free g c) (to g c) c.in-Ok-bind.ensures.event refl (λ l n. refl) refl
     c.in-Ok-bind.ensures.put c.in-Ok-bind.ensures.used
-    (c.to_come-left.ensures ∙ ap (λ (n : ℕ). c.self.inside.left + (n - (c.self.inside.round + 1))) (c.rounds.ensures ∙ ap (λ s. s.rounds) c.deref.ensures))
+    (come_by c.self.inside.left c.self.inside.round c.to_come-left.ensures c.rounds.ensures c.deref.ensures)
     c.in-Ok-bind.ensures.room
 
 pub returns-clause-settles : goal.returns-clause-settles

@@ -14,6 +14,7 @@ use Rattle.cl_hierarchy.specs.Imposed.{equal_need, needs_of}
 use Rattle.cl_hierarchy.specs.Rows.{Rowed}
 use Rattle.cl_hierarchy.specs.Lineages.{Lined, kin_at, kin_of}
 use Rattle.cl_preparation.specs.Methods.{is_instance}
+use Rattle.cl_preparation.specs.Nearby.{first_loader}
 use Rattle.cl_preparation.specs.Relatives.{AreRelatives, bare, equals_for, of_superclasses}
 use Rattle.cl_preparation.specs.Walks.{is_overridden, opened_by, walked}
 use Rattle.cl_preparation.proofs.Reached.{overridden_is_walked}
@@ -186,16 +187,12 @@ declared_alone l m key over old same told none =
 
 -- ---- the second half
 
--- the loader of the first of these that declares such a method
-abbrev pub first_loader : Key → List Rowed → Option ℕ
-first_loader key rs = option_map (λ a. a.class.loader) (find (λ a. if_declared (method_of (bare a) key) is_instance) rs)
-
 first_of : (l : Lined) (r : Rowed) (o : Option Kin) (p : Option Rowed) (b : Bool) → option_map (λ a. a.class.loader) o ≡ option_map (λ a. a.class.loader) p
     → option_map (λ (a : Kin). a.class.loader) (if b then Some (kin_at l r) else o) ≡ option_map (λ (a : Rowed). a.class.loader) (if b then Some r else p)
 first_of l r o p true e = refl
 first_of l r o p false e = e
 
-found_bare : (key : Key) (l : Lined) (rs : List Rowed) → option_map (λ a. a.class.loader) (find (λ a. if_declared (method_of a key) is_instance) (map (kin_at l) rs)) ≡ first_loader key rs
+pub found_bare : (key : Key) (l : Lined) (rs : List Rowed) → option_map (λ a. a.class.loader) (find (λ a. if_declared (method_of a key) is_instance) (map (kin_at l) rs)) ≡ first_loader key rs
 found_bare key l [] = refl
 found_bare key l (r ∷ rs) =
     first_of l r (find (λ a. if_declared (method_of a key) is_instance) (map (kin_at l) rs)) (find (λ a. if_declared (method_of (bare a) key) is_instance) rs) (if_declared (method_of (bare r) key) is_instance) (found_bare key l rs)
@@ -298,6 +295,16 @@ none_declared l own (m ∷ ms) e none =
 nothing_inherited : (l : Lined) (b : Bool) (ks : List Kin) → [] ≡ ks → (if b then [] else flat_map (λ (j : Kin). flat_map (for_inherited (kin_of l) j) j.file.methods) ks) ≡ []
 nothing_inherited l true ks e = refl
 nothing_inherited l false ks e = ap (λ (xs : List Kin). flat_map (λ (j : Kin). flat_map (for_inherited (kin_of l) j) j.file.methods) xs) (sym e)
+
+-- no method of it takes part, and it is an interface
+pub interface_none : (l : Lined) (own : Rowed) (ms : List Member) → own ≡ l.own → ms ≡ (file_of own.file).methods → list_any (λ m. takes_part m.key (bare own)) ms ≡ false → true ≡ is_interface (file_of own.file) → [] ≡ constraints_of (kin_of l)
+interface_none l own ms e m none kind =
+    sym (
+    ap (λ (ns : List Need). ns ++ (if is_interface (kin_of l).file then [] else flat_map (λ j. flat_map (for_inherited (kin_of l) j) j.file.methods) (superinterfaces (kin_of l))))
+    (ap (λ (xs : List Member). flat_map (for_declared (kin_of l)) xs) (sym (methods_are l own ms e m)) ∙ none_declared l own ms e none)
+    ∙ ap (λ (b : Bool). if b then [] else flat_map (λ j. flat_map (for_inherited (kin_of l) j) j.file.methods) (superinterfaces (kin_of l)))
+    (sym (kind ∙ ap (λ (r : Rowed). is_interface (file_of r.file)) e))
+    )
 
 -- no method of it takes part, and it has no superinterfaces
 pub imposed_none : (l : Lined) (own : Rowed) (ms : List Member) → own ≡ l.own → ms ≡ (file_of own.file).methods → list_any (λ m. takes_part m.key (bare own)) ms ≡ false → [] ≡ superinterfaces (kin_of l) → [] ≡ constraints_of (kin_of l)

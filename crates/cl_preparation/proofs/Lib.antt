@@ -4,5 +4,8 @@ pub mod Filters
 pub mod Interfaces
 pub mod Keys
 pub mod Named
+pub mod Nearby
 pub mod Reached
+pub mod Standing
+pub mod Thinned
 pub mod Walking

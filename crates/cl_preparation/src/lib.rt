@@ -3,8 +3,10 @@
 #![tactic(auto)]
 
 mod described;
+mod fewer;
 mod filter;
 mod key;
+mod listed;
 mod method;
 mod overriding;
 mod packages;
@@ -12,5 +14,6 @@ mod relative;
 mod relatives;
 mod walk;
 
+pub use fewer::fewer_constraints_of;
 pub use overriding::overrides;
 pub use relatives::constraints_of;

@@ -1,12 +1,12 @@
 //! A class of a lineage with what preparation looks at.
 
-ghost use Rattle.std.specs.Prelude.{◌≡◌, ◌&&◌, not, if◌then◌else◌, Some, None, IfOk, is_some, option_map};
+ghost use Rattle.std.specs.Prelude.{◌≡◌, ◌&&◌, not, if◌then◌else◌, false, [], Some, None, IfOk, is_some, option_map};
 ghost use Rattle.cl_classfile.specs.Files.{file_of, is_interface};
 ghost use Rattle.cl_model.specs.Lineages.{if_declared, method_of};
 ghost use Rattle.cl_model.specs.Preparation.{takes_part};
 ghost use Rattle.cl_preparation.specs.Methods.{is_instance, is_wide};
 ghost use Rattle.cl_preparation.specs.Relatives.{AreNames, bare, names_interfaces};
-ghost use Rattle.cl_preparation.specs.Walks.{is_closed, opening};
+ghost use Rattle.cl_preparation.specs.Walks.{is_closed, opening, opens};
 
 use crate::filter::NameFilter;
 use crate::key::MethodKey;
@@ -111,6 +111,13 @@ impl<T: Told> Relative<T> {
         methods_of(alloc, self.row.file())
     }
 
+    /// Whether it declares methods.
+    pub fn has_methods(&self) -> bool
+        ensures { result ≡ false → (file_of self.now.file).methods ≡ [] }
+    {
+        !self.row.file().methods().is_empty()
+    }
+
     /// The flags of the method with this key, if it declares one.
     #[tactic(auto, using(crate::proofs::Declared::flags_keyed, crate::proofs::Filters::flags_free))]
     fn flags(&self, key: &MethodKey) -> Option<u16>
@@ -157,6 +164,17 @@ impl<T: Told> Relative<T> {
         match self.flags(key) {
             Some(flags) => opening(key.is_special(), flags),
             None => None,
+        }
+    }
+
+    /// Whether it declares a method with this key that takes part in overriding, and is public or protected (JVMS SE 8, 5.4.5).
+    #[tactic(auto, using(crate::proofs::Declared::opened_wide))]
+    pub fn is_open(&self, key: &MethodKey) -> bool
+        ensures { result ≡ opens key.now (bare self.now) }
+    {
+        match self.opens(key) {
+            Some(is_open) => is_open,
+            None => false,
         }
     }
 

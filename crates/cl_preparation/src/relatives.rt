@@ -42,7 +42,10 @@ impl<T: Told> Model for Relatives<T> {
 
 /// The classes of these rows.
 #[tactic(auto, using(crate::proofs::Constraints::mapped_more))]
-fn all_of<T: Told>(alloc: Global, rows: &[Arc<ClassRow<T>>]) -> Result<Vec<Relative<T>>, AllocError>
+pub(crate) fn all_of<T: Told>(
+    alloc: Global,
+    rows: &[Arc<ClassRow<T>>],
+) -> Result<Vec<Relative<T>>, AllocError>
     ensures { IfOk result (λ v. v.items ≡ map (λ r. r.value) rows.now) }
 {
     let mut all = Vec::with_capacity(alloc, rows.len())?;
@@ -83,7 +86,7 @@ fn has_none_over<T: Told>(lineage: &Lineage<T>) -> bool
 }
 
 /// The superinterfaces, in preorder.
-fn superinterfaces_of<T: Told>(
+pub(crate) fn superinterfaces_of<T: Told>(
     alloc: Global,
     lineage: &Arc<Lineage<T>>,
 ) -> Result<Vec<Relative<T>>, AllocError>
@@ -303,9 +306,12 @@ fn any_declared<T: Told>(own: &Relative<T>, methods: &[Method]) -> bool
     methods.iter().any(|method| own.takes_part(method.key()))
 }
 
-/// Whether a class imposes nothing, told without a look at what its superclasses declare: it has no superinterfaces, and no
-/// method of its own takes part in overriding (JVMS SE 8, 5.4.2, 5.4.5).
-fn imposes_nothing<T: Told>(alloc: Global, lineage: &Lineage<T>) -> Result<bool, AllocError>
+/// Whether a class imposes nothing, told without a look at what its superclasses declare: no method of its own takes part in
+/// overriding, and it is an interface or has no superinterfaces (JVMS SE 8, 5.4.2, 5.4.5).
+pub(crate) fn imposes_nothing<T: Told>(
+    alloc: Global,
+    lineage: &Lineage<T>,
+) -> Result<bool, AllocError>
     ensures { IfOk result (λ b. b ≡ true → [] ≡ constraints_of (kin_of lineage.now)) }
 {
     // first, since a look at each class above takes longer
@@ -313,6 +319,9 @@ fn imposes_nothing<T: Told>(alloc: Global, lineage: &Lineage<T>) -> Result<bool,
     let methods = own.methods(alloc)?;
     if any_declared(&own, methods.as_slice()) {
         return Ok(false);
+    }
+    if own.is_interface() {
+        return Ok(true);
     }
     Ok(has_none_over(lineage))
 }

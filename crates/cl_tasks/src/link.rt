@@ -24,7 +24,7 @@ use cl_config::Config;
 use cl_findings::{Finding, bring_lineages};
 use cl_hierarchy::{ClassRow, Equalities, Lineage};
 use cl_model::{Class, Need, Told};
-use cl_preparation::constraints_of;
+use cl_preparation::fewer_constraints_of;
 use std::alloc::{AllocError, Global};
 use std::sync::Arc;
 
@@ -248,14 +248,14 @@ pub(crate) fn take_traced<T: Told>(
     }
 }
 
-/// The loading constraints of a class, to be shared.
+/// Loading constraints of a class that stand for all of them, to be shared.
 fn list_of<T: Told>(
     alloc: Global,
     lineage: &Arc<Lineage<T>>,
 ) -> Result<Arc<Equalities<T>>, AllocError>
     ensures { IfOk result (λ e. e.value.origin ≡ OfPreparation lineage.now.value) }
 {
-    let list = constraints_of(alloc, lineage)?;
+    let list = fewer_constraints_of(alloc, lineage)?;
     Arc::new(alloc, list).map_err(|_| AllocError)
 }
 

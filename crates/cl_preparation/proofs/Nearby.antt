@@ -1,0 +1,261 @@
+-- The few equalities as rows tell them are those of the tree.
+use Rattle.std.proofs.Common.{◌≡◌, ◌<◌, ◌≤◌, ◌+◌, ℕ, Bool, true, false, ◌&&◌, ◌||◌, not, if◌then◌else◌, Option, Some, None, List, [], ◌∷◌, ◌++◌, map, filter, length, refl, ap, sym, subst, ◌∙◌, get_or, suc, drop, arith, append-nil, append_assoc}
+use Rattle.std.specs.Prelude.{◌==◌, find, flat_map, is_some, option_map}
+use Rattle.std.specs.List.{list_any}
+use Rattle.std.proofs.lemmas.Bool.{eqb-true, eq-eqb}
+use Rattle.cl_classfile.specs.Files.{Key, Member, file_of, is_interface}
+use Rattle.cl_model.specs.Lineages.{Kin, if_declared, method_of, superclasses, superinterfaces}
+use Rattle.cl_model.specs.Preparation.{constraints_of, equals_of, overridden, takes_part}
+use Rattle.cl_model.specs.States.{Need}
+use Rattle.cl_hierarchy.specs.Imposed.{AreEnough}
+use Rattle.cl_hierarchy.specs.Rows.{Rowed}
+use Rattle.cl_hierarchy.specs.Lineages.{Lined, kin_at, kin_of}
+use Rattle.cl_preparation.specs.Fewer.{equals_from, fewer_constraints_of, fewer_declared, fewer_inherited, is_new, loaders, loaders_over, other_than, others_after}
+use Rattle.cl_preparation.specs.Methods.{is_instance}
+use Rattle.cl_preparation.specs.Nearby.{AreNear, away_from, first_loader, near_declared, near_inherited, near_loaders, near_needs, near_second}
+use Rattle.cl_preparation.specs.Relatives.{bare}
+use Rattle.cl_preparation.specs.Walks.{opens}
+use Rattle.cl_preparation.proofs.Constraints.{found_bare}
+use Rattle.cl_preparation.proofs.Standing.{fewer_stand}
+use Rattle.cl_preparation.proofs.Named.{map_through}
+use Rattle.cl_preparation.proofs.Reached.{overridden_is_walked}
+use Rattle.cl_preparation.proofs.Thinned.{open_enough, others_both}
+use Rattle.cl_preparation.proofs.Walking.{drop_all, next_dropped}
+
+-- ---- the loops that list loaders
+
+-- the loaders that are still to be listed
+abbrev pub still : (Kin → Bool) → ℕ → List ℕ → List Rowed → List ℕ
+still test own listed rs = others_after own listed (loaders (filter test (map bare rs)))
+
+one_listed : (test : Kin → Bool) (own : ℕ) (listed after : List ℕ) (r : Rowed) (rs : List Rowed) (new part : Bool) → is_new own listed r.class.loader ≡ new → test (bare r) ≡ part
+    → after ≡ listed ++ (if new && part then r.class.loader ∷ [] else []) → after ++ still test own after rs ≡ listed ++ still test own listed (r ∷ rs)
+one_listed test own listed after r rs new false ne te more =
+    ap (λ (xs : List ℕ). xs ++ still test own xs rs) (more ∙ nothing_if new) ∙ rw te refl
+  where
+    nothing_if : (b : Bool) → listed ++ (if b && false then r.class.loader ∷ [] else []) ≡ listed
+    nothing_if true = append-nil listed
+    nothing_if false = append-nil listed
+one_listed test own listed after r rs false true ne te more =
+    ap (λ (xs : List ℕ). xs ++ still test own xs rs) (more ∙ append-nil listed) ∙ rw te (rw ne refl)
+one_listed test own listed after r rs true true ne te more =
+    ap (λ (xs : List ℕ). xs ++ still test own xs rs) more ∙ rw te (rw ne (append_assoc listed (r.class.loader ∷ []) (still test own (listed ++ r.class.loader ∷ []) rs)))
+
+-- a class is looked at: its loader is listed or not
+pub listed_step : (test : Kin → Bool) (own : ℕ) (listed xs after total : List ℕ) (rows : List Rowed) (i : ℕ) (r : Rowed) (b : Bool) → i < length rows → r ≡ get_or rows i r → xs ≡ listed
+    → b ≡ (is_new own xs r.class.loader && test (bare r)) → after ≡ listed ++ (if b then r.class.loader ∷ [] else [])
+    → listed ++ still test own listed (drop i rows) ≡ total → after ++ still test own after (drop (i + 1) rows) ≡ total
+listed_step test own listed xs after total rows i r b h at same be more before =
+    one_listed test own listed after r (drop (i + 1) rows) (is_new own listed r.class.loader) (test (bare r)) refl refl
+    (more ∙ ap (λ (x : Bool). listed ++ (if x then r.class.loader ∷ [] else [])) (be ∙ ap (λ (ys : List ℕ). is_new own ys r.class.loader && test (bare r)) same))
+    ∙ ap (λ (rs : List Rowed). listed ++ still test own listed rs) (sym (next_dropped rows i r h at)) ∙ before
+
+-- it is listed
+pub listed_more : (listed after : List ℕ) (loader : ℕ) (r : Rowed) (b : Bool) → b ≡ true → loader ≡ r.class.loader → after ≡ listed ++ loader ∷ [] → after ≡ listed ++ (if b then r.class.loader ∷ [] else [])
+listed_more listed after loader r true e le more = more ∙ ap (λ (x : ℕ). listed ++ x ∷ []) le
+listed_more listed after loader r false e le more = absurd cc
+
+-- it is not
+pub listed_past : (listed after : List ℕ) (r : Rowed) (b : Bool) → b ≡ false → after ≡ listed → after ≡ listed ++ (if b then r.class.loader ∷ [] else [])
+listed_past listed after r true e same = absurd cc
+listed_past listed after r false e same = same ∙ sym (append-nil listed)
+
+pub listed_end : (test : Kin → Bool) (own : ℕ) (listed total : List ℕ) (rows : List Rowed) → listed ++ still test own listed (drop (length rows) rows) ≡ total → listed ≡ total
+listed_end test own listed total rows e = sym (append-nil listed) ∙ ap (λ (rs : List Rowed). listed ++ still test own listed rs) (sym (drop_all rows)) ∙ e
+
+-- ---- the classes of other loaders
+
+away_step : (test : Kin → Bool) (own : ℕ) (listed : List ℕ) (r : Rowed) (rs : List Rowed) (same part new : Bool) → (own == r.class.loader) ≡ same → test (bare r) ≡ part → is_new own listed r.class.loader ≡ new
+    → ((before : List ℕ) → still test own before (away_from own rs) ≡ still test own before rs) → still test own listed (away_from own (r ∷ rs)) ≡ still test own listed (r ∷ rs)
+away_step test own listed r rs true false new s tp e rest = rw s (rw tp (rest listed))
+away_step test own listed r rs true true new s tp e rest = rw s (rw tp (rw s (rest listed)))
+away_step test own listed r rs false false new s tp e rest = rw s (rw tp (rest listed))
+away_step test own listed r rs false true true s tp e rest = rw s (rw tp (rw e (ap (λ (xs : List ℕ). r.class.loader ∷ xs) (rest (listed ++ r.class.loader ∷ [])))))
+away_step test own listed r rs false true false s tp e rest = rw s (rw tp (rw e (rest listed)))
+
+-- those of the own loader list nothing
+away_enough : (test : Kin → Bool) (own : ℕ) (listed : List ℕ) (rs : List Rowed) → still test own listed (away_from own rs) ≡ still test own listed rs
+away_enough test own listed [] = refl
+away_enough test own listed (r ∷ rs) =
+    away_step test own listed r rs (own == r.class.loader) (test (bare r)) (is_new own listed r.class.loader) refl refl refl (λ before. away_enough test own before rs)
+
+-- ---- rows and the tree
+
+one_bare : (l : Lined) (r : Rowed) (xs ys : List Kin) (b : Bool) → loaders xs ≡ loaders ys → loaders (if b then kin_at l r ∷ xs else xs) ≡ loaders (if b then bare r ∷ ys else ys)
+one_bare l r xs ys true e = ap (λ (zs : List ℕ). r.class.loader ∷ zs) e
+one_bare l r xs ys false e = e
+
+open_bare : (key : Key) (l : Lined) (rs : List Rowed) → loaders (filter (opens key) (map (kin_at l) rs)) ≡ loaders (filter (opens key) (map bare rs))
+open_bare key l [] = refl
+open_bare key l (r ∷ rs) = one_bare l r (filter (opens key) (map (kin_at l) rs)) (filter (opens key) (map bare rs)) (opens key (bare r)) (open_bare key l rs)
+
+taking_bare : (key : Key) (l : Lined) (rs : List Rowed) → loaders (filter (takes_part key) (map (kin_at l) rs)) ≡ loaders (filter (takes_part key) (map bare rs))
+taking_bare key l [] = refl
+taking_bare key l (r ∷ rs) = one_bare l r (filter (takes_part key) (map (kin_at l) rs)) (filter (takes_part key) (map bare rs)) (takes_part key (bare r)) (taking_bare key l rs)
+
+-- ---- the first half
+
+own_known : (own : ℕ) → is_new own [] own ≡ false
+own_known own = rw (eq-eqb own own refl) refl
+
+up_near : (key : Key) (l : Lined) (above away : List Rowed) (b : Bool) → takes_part key (kin_of l) ≡ true → away ≡ away_from l.own.class.loader above → map (kin_at l) above ≡ superclasses (kin_of l)
+    → others_after l.own.class.loader [] (if b then [] else loaders (filter (opens key) (map bare away))) ≡ others_after l.own.class.loader [] (loaders (if b then [] else overridden key (kin_of l)))
+up_near key l above away true tp ae are = refl
+up_near key l above away false tp ae are =
+    let own : ℕ = l.own.class.loader in
+    ap (λ (rs : List Rowed). still (opens key) own [] rs) ae ∙ away_enough (opens key) own [] above
+    ∙ ap (others_after own []) (sym (open_bare key l above) ∙ ap (λ (ks : List Kin). loaders (filter (opens key) ks)) are)
+    ∙ sym (open_enough key own [] (l.own.class ∷ []) (superclasses (kin_of l)) (own_known own, tt))
+    ∙ ap (λ (ks : List Kin). others_after own [] (loaders ks)) (sym (overridden_is_walked key (kin_of l) tp))
+
+near_over : (key : Key) (l : Lined) (above away over : List Rowed) → takes_part key (kin_of l) ≡ true → AreNear l l.own above away over
+    → near_loaders l.own away over key ≡ others_after l.own.class.loader [] (loaders_over (kin_of l) key)
+near_over key l above away over tp are =
+    let own : ℕ = l.own.class.loader in
+    let up : List ℕ = if is_interface (file_of l.own.file) then [] else loaders (filter (opens key) (map bare away)) in
+    let tree : List ℕ = loaders (if is_interface (kin_of l).file then [] else overridden key (kin_of l)) in
+    let taking : List ℕ = loaders (filter (takes_part key) (superinterfaces (kin_of l))) in
+    others_both own [] up (loaders (filter (takes_part key) (map bare over)))
+    ∙ ap (λ (xs : List ℕ). others_after own [] up ++ others_after own (others_after own [] up) xs) (sym (taking_bare key l over) ∙ ap (λ (ks : List Kin). loaders (filter (takes_part key) ks)) are.over_are)
+    ∙ ap (λ (xs : List ℕ). xs ++ others_after own xs taking) (up_near key l above away (is_interface (file_of l.own.file)) tp are.away_are are.above_are)
+    ∙ sym (others_both own [] tree taking)
+
+if_same : (b : Bool) (xs ys : List Need) → (b ≡ true → xs ≡ ys) → (if b then xs else []) ≡ (if b then ys else [])
+if_same true xs ys f = f refl
+if_same false xs ys f = refl
+
+declared_here : (l : Lined) (above away over : List Rowed) (m : Member) → AreNear l l.own above away over → near_declared l.own away over m ≡ fewer_declared (kin_of l) m
+declared_here l above away over m are =
+    let f : ℕ → List Need = equals_of m.key l.own.class.loader in
+    if_same (takes_part m.key (kin_of l)) (flat_map f (near_loaders l.own away over m.key)) (flat_map f (others_after l.own.class.loader [] (loaders_over (kin_of l) m.key)))
+    (λ tp. ap (flat_map f) (near_over m.key l above away over tp are))
+
+-- ---- the second half
+
+inherited_here : (l : Lined) (above : List Rowed) (j : Rowed) (m : Member) → map (kin_at l) above ≡ superclasses (kin_of l) → near_inherited l.own above j m ≡ fewer_inherited (kin_of l) (bare j) m
+inherited_here l above j m are =
+    ap (λ (o : Option ℕ). if takes_part m.key (bare j) && not (is_some (method_of (kin_of l) m.key)) then equals_from m.key j.class.loader (other_than j.class.loader o) else [])
+    (sym (found_bare m.key l above) ∙ ap (λ (ks : List Kin). option_map (λ a. a.class.loader) (find (λ a. if_declared (method_of a m.key) is_instance) ks)) are)
+
+flat_same : {A : Type 0} (f g : A → List Need) (xs : List A) → ((x : A) → f x ≡ g x) → flat_map f xs ≡ flat_map g xs
+flat_same f g [] each = refl
+flat_same f g (x ∷ xs) each = ap (λ ns. ns ++ flat_map f xs) (each x) ∙ ap (λ ns. g x ++ ns) (flat_same f g xs each)
+
+second_bare : (l : Lined) (rs : List Rowed) → flat_map (λ (j : Kin). flat_map (fewer_inherited (kin_of l) j) j.file.methods) (map (kin_at l) rs) ≡ flat_map (λ (j : Rowed). flat_map (fewer_inherited (kin_of l) (bare j)) (bare j).file.methods) rs
+second_bare l [] = refl
+second_bare l (r ∷ rs) = ap (λ ns. flat_map (fewer_inherited (kin_of l) (bare r)) (file_of r.file).methods ++ ns) (second_bare l rs)
+
+second_here : (l : Lined) (above over : List Rowed) → map (kin_at l) above ≡ superclasses (kin_of l) → map (kin_at l) over ≡ superinterfaces (kin_of l)
+    → near_second l.own above over ≡ flat_map (λ (j : Kin). flat_map (fewer_inherited (kin_of l) j) j.file.methods) (superinterfaces (kin_of l))
+second_here l above over are overs =
+    flat_same (λ (j : Rowed). flat_map (near_inherited l.own above j) (bare j).file.methods) (λ (j : Rowed). flat_map (fewer_inherited (kin_of l) (bare j)) (bare j).file.methods) over
+    (λ j. flat_same (near_inherited l.own above j) (fewer_inherited (kin_of l) (bare j)) (bare j).file.methods (λ m. inherited_here l above j m are))
+    ∙ sym (second_bare l over) ∙ ap (flat_map (λ (j : Kin). flat_map (fewer_inherited (kin_of l) j) j.file.methods)) overs
+
+-- ---- all
+
+needs_here : (l : Lined) (above away over : List Rowed) → AreNear l l.own above away over → near_needs l.own above away over ≡ fewer_constraints_of (kin_of l)
+needs_here l above away over are =
+    ap (λ ns. ns ++ (if is_interface (file_of l.own.file) then [] else near_second l.own above over))
+    (flat_same (near_declared l.own away over) (fewer_declared (kin_of l)) (bare l.own).file.methods (λ m. declared_here l above away over m are))
+    ∙ ap (λ ns. flat_map (fewer_declared (kin_of l)) (kin_of l).file.methods ++ (if is_interface (kin_of l).file then [] else ns)) (second_here l above over are.above_are are.over_are)
+
+-- what the rows impose is what the tree does
+pub near_is : (l : Lined) (own : Rowed) (above away over : List Rowed) → AreNear l own above away over → near_needs own above away over ≡ fewer_constraints_of (kin_of l)
+near_is l own above away over are =
+    ap (λ (r : Rowed). near_needs r above away over) are.own_is
+    ∙ needs_here l above away over (subst (λ (r : Rowed). AreNear l r above away over) are.own_is are)
+
+-- the same of the rows of a lineage
+pub near_given : {A : Type 0} (f : A → Rowed) (l m : Lined) (own : Rowed) (xs ys zs : List A) (away over : List Rowed) → m ≡ l → own ≡ l.own → ys ≡ xs → zs ≡ xs
+    → map (λ r. kin_at m (f r)) xs ≡ superclasses (kin_of m) → away ≡ away_from own.class.loader (map f ys) → map (kin_at l) over ≡ superinterfaces (kin_of l)
+    → near_needs own (map f zs) away over ≡ fewer_constraints_of (kin_of l)
+near_given f l m own xs ys zs away over same mine one two above others overs =
+    let rows : List Rowed = map f xs in
+    ap (λ zs. near_needs own (map f zs) away over) two
+    ∙ near_is l own rows away over (record {
+      own_is = mine;
+      away_are = others ∙ ap (λ ys. away_from own.class.loader (map f ys)) one;
+      above_are = map_through f l xs ∙ subst (λ (x : Lined). map (λ r. kin_at x (f r)) xs ≡ superclasses (kin_of x)) same above;
+      over_are = overs;
+    })
+
+none_of_none : (few : List Need) → length few ≤ 0 → [] ≡ few
+none_of_none [] h = refl
+none_of_none (n ∷ ns) h = absurd (omega arith)
+
+-- where nothing is imposed, there are no few
+pub none_fewer : (k : Kin) → [] ≡ constraints_of k → [] ≡ fewer_constraints_of k
+none_fewer k none =
+    none_of_none (fewer_constraints_of k) (subst (λ (ns : List Need). length (fewer_constraints_of k) ≤ length ns) (sym none) (fewer_stand k).no_more)
+
+-- what the few are, and that they stand for all
+pub enough_given : (k : Kin) (few : List Need) → few ≡ fewer_constraints_of k → AreEnough (constraints_of k) few
+enough_given k few e = subst (λ (ns : List Need). AreEnough (constraints_of k) ns) (sym e) (fewer_stand k)
+
+-- the loaders of superclasses are listed, then those of superinterfaces
+pub near_listed : (own : Rowed) (away over xs : List Rowed) (key : Key) (loader : ℕ) (empty up all : List ℕ) → xs ≡ over → empty ≡ [] → loader ≡ own.class.loader
+    → up ≡ empty ++ others_after own.class.loader empty (if is_interface (file_of own.file) then [] else loaders (filter (opens key) (map bare away)))
+    → all ≡ up ++ others_after loader up (loaders (filter (takes_part key) (map bare xs))) → all ≡ near_loaders own away over key
+near_listed own away over xs key loader empty up all same none le first second =
+    let mine : ℕ = own.class.loader in
+    let taking : List ℕ = loaders (filter (takes_part key) (map bare over)) in
+    let above : List ℕ = if is_interface (file_of own.file) then [] else loaders (filter (opens key) (map bare away)) in
+    second ∙ ap (λ (rs : List Rowed). up ++ others_after loader up (loaders (filter (takes_part key) (map bare rs)))) same ∙ ap (λ (x : ℕ). up ++ others_after x up taking) le
+    ∙ ap (λ (xs : List ℕ). xs ++ others_after mine xs taking) (first ∙ ap (λ (xs : List ℕ). xs ++ others_after mine xs above) none)
+    ∙ sym (others_both mine [] above taking)
+
+-- superinterfaces that declare nothing
+nothing_left : (xs ys : List Member) → xs ++ ys ≡ [] → xs ≡ []
+nothing_left [] ys e = refl
+nothing_left (x ∷ xs) ys e = absurd cc
+
+nothing_right : (xs ys : List Member) → xs ++ ys ≡ [] → ys ≡ []
+nothing_right [] ys e = e
+nothing_right (x ∷ xs) ys e = absurd cc
+
+none_second : (own : Rowed) (above rs : List Rowed) → flat_map (λ (r : Rowed). (bare r).file.methods) rs ≡ [] → near_second own above rs ≡ []
+none_second own above [] none = refl
+none_second own above (r ∷ rs) none =
+    let more : List Member = flat_map (λ (x : Rowed). (bare x).file.methods) rs in
+    ap (λ (ms : List Member). flat_map (near_inherited own above r) ms ++ near_second own above rs) (nothing_left (bare r).file.methods more none)
+    ∙ none_second own above rs (nothing_right (bare r).file.methods more none)
+
+pub second_passed : (own : Rowed) (above over rs : List Rowed) (inter : Bool) (old : List Need) → rs ≡ over → flat_map (λ (r : Rowed). (bare r).file.methods) rs ≡ []
+    → old ≡ old ++ (if inter then [] else near_second own above over)
+second_passed own above over rs true old same none = sym (append-nil old)
+second_passed own above over rs false old same none =
+    sym (append-nil old) ∙ ap (λ ns. old ++ ns) (sym (ap (near_second own above) (sym same) ∙ none_second own above rs none))
+
+-- ---- the search for what is inherited
+
+pub length_away : (own : ℕ) (rs : List Rowed) → length (away_from own rs) ≤ length rs
+length_away own [] = omega arith
+length_away own (r ∷ rs) = by (not (own == r.class.loader)) (away_from own rs) rs (length_away own rs)
+  where
+    by : (b : Bool) (xs ys : List Rowed) → length xs ≤ length ys → length (if b then r ∷ xs else xs) ≤ suc (length ys)
+    by true xs ys h = omega arith
+    by false xs ys h = omega arith
+
+-- a class declares a method that is neither private nor static
+abbrev pub inherits : Key → Rowed → Bool
+inherits key r = if_declared (method_of (bare r) key) is_instance
+
+none_step : (key : Key) (own : ℕ) (r : Rowed) (others : List Rowed) (p : Option Rowed) (same inst : Bool) → (own == r.class.loader) ≡ same → inherits key r ≡ inst
+    → list_any (inherits key) (if not same then r ∷ others else others) ≡ false → (list_any (inherits key) others ≡ false → other_than own (option_map (λ a. a.class.loader) p) ≡ None)
+    → other_than own (option_map (λ (a : Rowed). a.class.loader) (if inst then Some r else p)) ≡ None
+none_step key own r others p true true s e off more = rw (eq-eqb r.class.loader own (sym (eqb-true own r.class.loader s))) refl
+none_step key own r others p true false s e off more = more off
+none_step key own r others p false true s e off more = absurd (let stands : (inherits key r || list_any (inherits key) others) ≡ true = rw e refl in cc)
+none_step key own r others p false false s e off more = more (rw e at off)
+
+-- where none of another loader declares it, the nearest that does is of the own one
+none_other : (key : Key) (own : ℕ) (rs : List Rowed) → list_any (inherits key) (away_from own rs) ≡ false → other_than own (first_loader key rs) ≡ None
+none_other key own [] off = refl
+none_other key own (r ∷ rs) off =
+    none_step key own r (away_from own rs) (find (inherits key) rs) (own == r.class.loader) (inherits key r) refl refl (subst (λ (b : Bool). list_any (inherits key) (if not b then r ∷ away_from own rs else away_from own rs) ≡ false) refl off)
+    (λ more. none_other key own rs more)
+
+pub none_differs : (key : Key) (own of mine : ℕ) (above away : List Rowed) → away ≡ away_from own above → mine ≡ own → of ≡ mine → list_any (inherits key) away ≡ false → None ≡ other_than of (first_loader key above)
+none_differs key own of mine above away ae me oe off =
+    sym (ap (λ (x : ℕ). other_than x (first_loader key above)) (oe ∙ me) ∙ none_other key own above (subst (λ (rs : List Rowed). list_any (inherits key) rs ≡ false) ae off))

@@ -1,0 +1,214 @@
+-- The few equalities of a preparation stand for all of them.
+use Rattle.std.proofs.Common.{◌≡◌, inl, inr, ◌≤◌, ℕ, Bool, true, false, ◌&&◌, ◌||◌, not, if◌then◌else◌, Option, Some, None, List, [], ◌∷◌, ◌++◌, map, filter, length, refl, ap, sym, subst, ◌∙◌, arith, length-append}
+use Rattle.std.specs.Prelude.{◌==◌, flat_map, is_some, option_map, nat_le}
+use Rattle.std.specs.List.{Contains, list_any}
+use Rattle.std.proofs.lemmas.Bool.{eqb-true}
+use Rattle.std.proofs.lemmas.List.Folds.{list_any-append}
+use Rattle.std.proofs.lemmas.List.Elements.{Contains-append_cases, Contains-append_left, Contains-append_right}
+use Rattle.std.proofs.lemmas.Grind.{flat_map-append}
+use Rattle.cl_classfile.specs.Files.{Name, Key, Member, is_interface}
+use Rattle.cl_model.specs.Lineages.{Kin, method_of, superinterfaces}
+use Rattle.cl_model.specs.Preparation.{class_names, constraints_of, equals_of, equals_with, for_declared, for_inherited, inherited_from, overridden, takes_part, with_inherited}
+use Rattle.cl_model.specs.States.{AllMet, Equal, IsNext, Need, State}
+use Rattle.cl_model.proofs.Aims.{next_left, next_right}
+use Rattle.cl_model.proofs.Closed.{met_both}
+use Rattle.cl_model.proofs.Progress.{met_split, next_split}
+use Rattle.cl_model.proofs.Runs.{joined_self}
+use Rattle.cl_hierarchy.specs.Imposed.{AreEnough}
+use Rattle.cl_preparation.specs.Fewer.{equals_from, fewer_constraints_of, fewer_declared, fewer_inherited, is_new, loaders, loaders_over, other_than, others_after}
+
+-- ---- few that stand for all where this holds
+
+record Stand (known : State → Type 0) (all few : List Need) : Type 0 where
+  no_more : length few ≤ length all
+  among : (n : Need) → Contains few n → Contains all n
+  met : (s : State) → known s → AllMet s few → AllMet s all
+  next : (s : State) (n : Need) → known s → IsNext s few n → IsNext s all n
+
+stand_same : (known : State → Type 0) (ns : List Need) → Stand known ns ns
+stand_same known ns = record {
+  no_more = omega arith;
+  among = λ n h. h;
+  met = λ s k h. h;
+  next = λ s n k h. h;
+}
+
+none_among : (n : Need) (ns : List Need) → Contains [] n → Contains ns n
+none_among n ns (k, below, at) = absurd (omega arith)
+
+-- what is met is left out
+stand_left : (known : State → Type 0) (ns : List Need) → ((s : State) → known s → AllMet s ns) → Stand known ns []
+stand_left known ns met = record {
+  no_more = omega arith;
+  among = λ n h. none_among n ns h;
+  met = λ s k h. met s k;
+  next = λ s n k h. absurd h;
+}
+
+-- more is known
+stand_where : (known more : State → Type 0) (all few : List Need) → ((s : State) → more s → known s) → Stand known all few → Stand more all few
+stand_where known more all few f st = record {
+  no_more = st.no_more;
+  among = st.among;
+  met = λ s k h. st.met s (f s k) h;
+  next = λ s n k h. st.next s n (f s k) h;
+}
+
+next_both : (s : State) (xs ys zs bs : List Need) (n : Need) → (IsNext s zs n → IsNext s xs n) → (AllMet s zs → AllMet s xs) → (AllMet s zs → IsNext s bs n → IsNext s ys n) → IsNext s (zs ++ bs) n → IsNext s (xs ++ ys) n
+next_both s xs ys zs bs n first met second h = elim (next_split s zs bs n h) [
+  | inl k ↦ next_left s xs ys n (first k)
+  | inr k ↦ next_right s xs ys n (met k.0) (second k.0 k.1)
+]
+
+among_both : (xs ys zs bs : List Need) (n : Need) → (Contains zs n → Contains xs n) → (Contains bs n → Contains ys n) → Contains (zs ++ bs) n → Contains (xs ++ ys) n
+among_both xs ys zs bs n first second h = elim (Contains-append_cases zs bs n h) [
+  | inl k ↦ Contains-append_left xs ys n (first k)
+  | inr k ↦ Contains-append_right xs ys n (second k)
+]
+
+-- one list after another, the few of which are met by then
+stand_both : (known : State → Type 0) (xs ys zs bs : List Need) → Stand known xs zs → Stand (λ s. known s × AllMet s zs) ys bs → Stand known (xs ++ ys) (zs ++ bs)
+stand_both known xs ys zs bs first second = record {
+  no_more = (let one = first.no_more in let two = second.no_more in omega (arith, length-append zs bs, length-append xs ys));
+  among = λ n h. among_both xs ys zs bs n (first.among n) (second.among n) h;
+  met = λ s k h. met_both s xs ys (first.met s k (met_split s zs bs h).0) (second.met s (k, (met_split s zs bs h).0) (met_split s zs bs h).1);
+  next = λ s n k h. next_both s xs ys zs bs n (first.next s n k) (first.met s k) (λ m. second.next s n (k, m)) h;
+}
+
+-- ---- loaders that are listed once
+
+-- what each of these gives is met
+abbrev AreMet : (ℕ → List Need) → ℕ → List ℕ → State → Type 0
+AreMet f own listed s = (a : ℕ) → is_new own listed a ≡ false → AllMet s (f a)
+
+one_more : (f : ℕ → List Need) (own x : ℕ) (listed : List ℕ) (s : State) → AreMet f own listed s → AllMet s (f x) → AreMet f own (listed ++ x ∷ []) s
+one_more f own x listed s before here = λ a e. by a (is_new own listed a) refl e
+  where
+    tests : (o l b : Bool) → (not o && not l) ≡ true → (not o && not (l || (b || false))) ≡ false → b ≡ true
+    tests true l b fresh off = absurd cc
+    tests false true b fresh off = absurd cc
+    tests false false true fresh off = refl
+    tests false false false fresh off = absurd cc
+
+    by : (a : ℕ) (b : Bool) → is_new own listed a ≡ b → is_new own (listed ++ x ∷ []) a ≡ false → AllMet s (f a)
+    by a false known off = before a known
+    by a true fresh off =
+        let same : (x == a) ≡ true = tests (own == a) (list_any (λ c. c == a) listed) (x == a) fresh (rw (list_any-append (λ c. c == a) listed (x ∷ [])) at off) in
+        subst (λ (y : ℕ). AllMet s (f y)) (eqb-true x a same) here
+
+others_step : (f : ℕ → List Need) (own : ℕ) (listed : List ℕ) (x : ℕ) (xs : List ℕ) (new : Bool) → is_new own listed x ≡ new
+    → ((before : List ℕ) → Stand (AreMet f own before) (flat_map f xs) (flat_map f (others_after own before xs)))
+    → Stand (AreMet f own listed) (f x ++ flat_map f xs) (flat_map f (if new then x ∷ others_after own (listed ++ x ∷ []) xs else others_after own listed xs))
+others_step f own listed x xs true e rest =
+    let few : List Need = flat_map f (others_after own (listed ++ x ∷ []) xs) in
+    stand_both (AreMet f own listed) (f x) (flat_map f xs) (f x) few (stand_same (AreMet f own listed) (f x))
+    (stand_where (AreMet f own (listed ++ x ∷ [])) (λ s. AreMet f own listed s × AllMet s (f x)) (flat_map f xs) few (λ s k. one_more f own x listed s k.0 k.1) (rest (listed ++ x ∷ [])))
+others_step f own listed x xs false e rest =
+    let few : List Need = flat_map f (others_after own listed xs) in
+    stand_both (AreMet f own listed) (f x) (flat_map f xs) [] few (stand_left (AreMet f own listed) (f x) (λ s k. k x e))
+    (stand_where (AreMet f own listed) (λ s. AreMet f own listed s × AllMet s []) (flat_map f xs) few (λ s k. k.0) (rest listed))
+
+-- loaders that are listed once stand for all
+stand_others : (f : ℕ → List Need) (own : ℕ) (listed xs : List ℕ) → Stand (AreMet f own listed) (flat_map f xs) (flat_map f (others_after own listed xs))
+stand_others f own listed [] = stand_same (AreMet f own listed) []
+stand_others f own listed (x ∷ xs) = others_step f own listed x xs (is_new own listed x) refl (λ before. stand_others f own before xs)
+
+-- ---- a loader with itself
+
+self_met : (s : State) (b : Bool) (a : ℕ) (names : List Name) → AllMet s (map (λ n. if b then Equal n a a else Equal n a a) names)
+self_met s b a [] = tt
+self_met s true a (n ∷ names) = (joined_self s.equalities n a, self_met s true a names)
+self_met s false a (n ∷ names) = (joined_self s.equalities n a, self_met s false a names)
+
+-- equalities of a loader with itself are met
+equals_met : (s : State) (key : Key) (a b : ℕ) → (a == b) ≡ true → AllMet s (equals_of key a b)
+equals_met s key a b e = subst (λ (c : ℕ). AllMet s (equals_of key a c)) (eqb-true a b e) (self_met s (nat_le a a) a (class_names key.descriptor))
+
+-- with none listed, only the own loader is not new
+none_listed : (s : State) (key : Key) (own : ℕ) → AreMet (equals_of key own) own [] s
+none_listed s key own = λ a e. by a (own == a) refl e
+  where
+    by : (a : ℕ) (b : Bool) → (own == a) ≡ b → (not b && true) ≡ false → AllMet s (equals_of key own a)
+    by a true same e = equals_met s key own a same
+    by a false same e = absurd cc
+
+-- ---- the first half
+
+abbrev Any : State → Type 0
+Any s = Unit {0}
+
+with_loaders : (key : Key) (own : ℕ) (ks : List Kin) → equals_with key own ks ≡ flat_map (equals_of key own) (loaders ks)
+with_loaders key own [] = refl
+with_loaders key own (k ∷ ks) = ap (λ ns. equals_of key own k.class.loader ++ ns) (with_loaders key own ks)
+
+with_some : (key : Key) (own : ℕ) (b : Bool) (ks : List Kin) → (if b then [] else equals_with key own ks) ≡ flat_map (equals_of key own) (loaders (if b then [] else ks))
+with_some key own true ks = refl
+with_some key own false ks = with_loaders key own ks
+
+over_loaders : (c : Kin) (key : Key) → (if is_interface c.file then [] else equals_with key c.class.loader (overridden key c)) ++ equals_with key c.class.loader (filter (takes_part key) (superinterfaces c))
+    ≡ flat_map (equals_of key c.class.loader) (loaders_over c key)
+over_loaders c key =
+    let own : ℕ = c.class.loader in
+    let up : List Kin = if is_interface c.file then [] else overridden key c in
+    let over : List Kin = filter (takes_part key) (superinterfaces c) in
+    ap (λ ns. ns ++ equals_with key own over) (with_some key own (is_interface c.file) (overridden key c))
+    ∙ ap (λ ns. flat_map (equals_of key own) (loaders up) ++ ns) (with_loaders key own over)
+    ∙ sym (flat_map-append (equals_of key own) (loaders up) (loaders over))
+
+if_part : (b : Bool) (all few : List Need) → Stand Any all few → Stand Any (if b then all else []) (if b then few else [])
+if_part true all few st = st
+if_part false all few st = stand_same Any []
+
+declared_stand : (c : Kin) (m : Member) → Stand Any (for_declared c m) (fewer_declared c m)
+declared_stand c m =
+    let own : ℕ = c.class.loader in
+    let f : ℕ → List Need = equals_of m.key own in
+    let few : List Need = flat_map f (others_after own [] (loaders_over c m.key)) in
+    let all : List Need = (if is_interface c.file then [] else equals_with m.key own (overridden m.key c)) ++ equals_with m.key own (filter (takes_part m.key) (superinterfaces c)) in
+    if_part (takes_part m.key c) all few
+    (stand_where (AreMet f own []) Any all few (λ s k. none_listed s m.key own)
+    (subst (λ ns. Stand (AreMet f own []) ns few) (sym (over_loaders c m.key)) (stand_others f own [] (loaders_over c m.key))))
+
+-- ---- the second half
+
+other_stand : (key : Key) (a of : ℕ) (b : Bool) → (a == of) ≡ b → Stand Any (equals_of key a of) (equals_from key of (if b then None else Some a))
+other_stand key a of true e = stand_left Any (equals_of key a of) (λ s k. equals_met s key a of e)
+other_stand key a of false e = stand_same Any (equals_of key a of)
+
+from_stand : (key : Key) (j : Kin) (o : Option Kin) → Stand Any (with_inherited key j o) (equals_from key j.class.loader (other_than j.class.loader (option_map (λ a. a.class.loader) o)))
+from_stand key j None = stand_same Any []
+from_stand key j (Some a) = other_stand key a.class.loader j.class.loader (a.class.loader == j.class.loader) refl
+
+inherited_stand : (c j : Kin) (m : Member) → Stand Any (for_inherited c j m) (fewer_inherited c j m)
+inherited_stand c j m =
+    if_part (takes_part m.key j && not (is_some (method_of c m.key))) (with_inherited m.key j (inherited_from c m.key))
+    (equals_from m.key j.class.loader (other_than j.class.loader (option_map (λ a. a.class.loader) (inherited_from c m.key)))) (from_stand m.key j (inherited_from c m.key))
+
+-- ---- all
+
+stand_next : (xs ys zs bs : List Need) → Stand Any xs zs → Stand Any ys bs → Stand Any (xs ++ ys) (zs ++ bs)
+stand_next xs ys zs bs first second = stand_both Any xs ys zs bs first (stand_where Any (λ s. Any s × AllMet s zs) ys bs (λ s k. tt) second)
+
+stand_each : {A : Type 0} (f g : A → List Need) (xs : List A) → ((x : A) → Stand Any (f x) (g x)) → Stand Any (flat_map f xs) (flat_map g xs)
+stand_each f g [] each = stand_same Any []
+stand_each f g (x ∷ xs) each = stand_next (f x) (flat_map f xs) (g x) (flat_map g xs) (each x) (stand_each f g xs each)
+
+second_stand : (c : Kin) (b : Bool) → Stand Any (if b then [] else flat_map (λ j. flat_map (for_inherited c j) j.file.methods) (superinterfaces c)) (if b then [] else flat_map (λ j. flat_map (fewer_inherited c j) j.file.methods) (superinterfaces c))
+second_stand c true = stand_same Any []
+second_stand c false =
+    stand_each (λ (j : Kin). flat_map (for_inherited c j) j.file.methods) (λ (j : Kin). flat_map (fewer_inherited c j) j.file.methods) (superinterfaces c)
+    (λ j. stand_each (for_inherited c j) (fewer_inherited c j) j.file.methods (inherited_stand c j))
+
+-- the few stand for all
+pub fewer_stand : (c : Kin) → AreEnough (constraints_of c) (fewer_constraints_of c)
+fewer_stand c =
+    let st : Stand Any (constraints_of c) (fewer_constraints_of c) =
+    stand_next (flat_map (for_declared c) c.file.methods) (if is_interface c.file then [] else flat_map (λ j. flat_map (for_inherited c j) j.file.methods) (superinterfaces c))
+    (flat_map (fewer_declared c) c.file.methods) (if is_interface c.file then [] else flat_map (λ j. flat_map (fewer_inherited c j) j.file.methods) (superinterfaces c))
+    (stand_each (for_declared c) (fewer_declared c) c.file.methods (declared_stand c)) (second_stand c (is_interface c.file)) in
+    record {
+      no_more = st.no_more;
+      among = st.among;
+      met = λ s h. st.met s tt h;
+      next = λ s n h. st.next s n tt h;
+    }

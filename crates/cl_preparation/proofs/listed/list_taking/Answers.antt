@@ -1,0 +1,15 @@
+use Rattle.std.proofs.Common.{rules}
+use Rattle.cl_model.specs.Preparation.{takes_part}
+use Rattle.cl_preparation.proofs.Nearby.{listed_more, listed_past, listed_step}
+use Rattle.cl_preparation.proofs.listed.list_taking.Goals as goal
+use Rattle.cl_preparation.proofs.listed.list_taking.Goals.{then-adds_taking+in_ok-push, else-adds_taking}
+
+pub loop-class-preserved : goal.loop-class-preserved
+loop-class-preserved g c =
+    listed_step (takes_part c.args.key.now) c.args.own c.loop-class.listed.items c.as_slice.result.now c.if-adds_taking.listed.items _ c.args.classes.now c.loop-class.class-index c.class-item.result c.adds_taking.result
+    c.loop-class-test.true c.class-item.is c.as_slice.ensures.value c.adds_taking.ensures
+    (elim c.if-adds_taking.branch [
+      | then-adds_taking+in_ok-push w ↦ listed_more c.loop-class.listed.items c.if-adds_taking.listed.items w.loader.result c.class-item.result c.adds_taking.result w.if-adds_taking.true w.loader.ensures (search rules)
+      | else-adds_taking w ↦ listed_past c.loop-class.listed.items c.if-adds_taking.listed.items c.class-item.result c.adds_taking.result w.if-adds_taking.false (search rules)
+    ])
+    c.loop-class.invariant

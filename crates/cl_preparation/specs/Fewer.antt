@@ -1,0 +1,63 @@
+-- The few equalities of a preparation that stand for all of them (JVMS SE 8, 5.3.4, 5.4.2).
+use Rattle.std.specs.Prelude.{◌==◌, ℕ, Bool, ◌&&◌, not, if◌then◌else◌, List, [], ◌∷◌, ◌++◌, map, filter, flat_map, Option, Some, None, is_some, option_map}
+use Rattle.std.specs.List.{list_any}
+use Rattle.cl_classfile.specs.Files.{Key, Member, is_interface}
+use Rattle.cl_model.specs.Lineages.{Kin, method_of, superinterfaces}
+use Rattle.cl_model.specs.Preparation.{equals_of, inherited_from, overridden, takes_part}
+use Rattle.cl_model.specs.States.{Need}
+
+-- a loader is another than the own one, and none of these (5.3.4)
+abbrev pub is_new : ℕ → List ℕ → ℕ → Bool
+is_new own listed a = not (own == a) && not (list_any (λ b. b == a) listed)
+
+-- of these loaders, those other than the own one, each once, after those that were listed (5.3.4)
+abbrev pub others_after : ℕ → List ℕ → List ℕ → List ℕ
+others_after own listed [] = []
+others_after own listed (a ∷ more) =
+    if is_new own listed a
+    then a ∷ others_after own (listed ++ a ∷ []) more
+    else others_after own listed more
+
+-- which loaders defined these classes (5.3)
+abbrev pub loaders : List Kin → List ℕ
+loaders ks = map (λ k. k.class.loader) ks
+
+-- the loaders of what a method of c overrides: those of superclasses, then of superinterfaces
+-- (5.4.2)
+abbrev pub loaders_over : Kin → Key → List ℕ
+loaders_over c key =
+    loaders (if is_interface c.file then [] else overridden key c)
+    ++ loaders (filter (takes_part key) (superinterfaces c))
+
+-- first half: for a method of c, equalities with each other loader of what it overrides, once
+-- (5.4.2)
+abbrev pub fewer_declared : Kin → Member → List Need
+fewer_declared c m =
+    if takes_part m.key c
+    then flat_map (equals_of m.key c.class.loader) (others_after c.class.loader [] (loaders_over c m.key))
+    else []
+
+-- a loader, if there is one, and another than this
+abbrev pub other_than : ℕ → Option ℕ → Option ℕ
+other_than of None = None
+other_than of (Some a) = if a == of then None else Some a
+
+-- equalities of a loader, if there is one, with another (5.4.2)
+abbrev pub equals_from : Key → ℕ → Option ℕ → List Need
+equals_from key of None = []
+equals_from key of (Some a) = equals_of key a of
+
+-- second half: for a method of a superinterface j that c does not declare, equalities with the
+-- loader of the inherited implementation, if that is another (5.4.2)
+abbrev pub fewer_inherited : Kin → Kin → Member → List Need
+fewer_inherited c j m =
+    if takes_part m.key j && not (is_some (method_of c m.key))
+    then equals_from m.key j.class.loader (other_than j.class.loader (option_map (λ a. a.class.loader) (inherited_from c m.key)))
+    else []
+
+-- of the loading constraints that the preparation of a class imposes, in order: none of a loader
+-- with itself, and for each method that it declares each loader once (5.4.2)
+abbrev pub fewer_constraints_of : Kin → List Need
+fewer_constraints_of c =
+    flat_map (fewer_declared c) c.file.methods
+    ++ (if is_interface c.file then [] else flat_map (λ j. flat_map (fewer_inherited c j) j.file.methods) (superinterfaces c))

@@ -1,0 +1,63 @@
+-- What is looked at for the few equalities of a preparation, as rows (JVMS SE 8, 5.4.2).
+use Rattle.std.specs.Prelude.{◌≡◌, ◌==◌, ℕ, ◌&&◌, not, if◌then◌else◌, List, [], ◌++◌, map, filter, find, flat_map, Option, is_some, option_map}
+use Rattle.cl_classfile.specs.Files.{Key, Member, file_of, is_interface}
+use Rattle.cl_model.specs.Lineages.{if_declared, method_of, superclasses, superinterfaces}
+use Rattle.cl_model.specs.Preparation.{equals_of, takes_part}
+use Rattle.cl_model.specs.States.{Need}
+use Rattle.cl_hierarchy.specs.Rows.{Rowed}
+use Rattle.cl_hierarchy.specs.Lineages.{Lined, kin_at, kin_of}
+use Rattle.cl_preparation.specs.Fewer.{equals_from, loaders, other_than, others_after}
+use Rattle.cl_preparation.specs.Methods.{is_instance}
+use Rattle.cl_preparation.specs.Relatives.{bare}
+use Rattle.cl_preparation.specs.Walks.{opens}
+
+-- of these classes, those of another loader (5.3)
+abbrev pub away_from : ℕ → List Rowed → List Rowed
+away_from own rs = filter (λ r. not (own == r.class.loader)) rs
+
+-- the rows of a class, of its superclasses, of those of another loader, and of its superinterfaces
+-- (5.4.2)
+pub record AreNear (l : Lined) (own : Rowed) (above away over : List Rowed) : Type 0 where
+  pub own_is : own ≡ l.own
+  pub away_are : away ≡ away_from own.class.loader above
+  pub above_are : map (kin_at l) above ≡ superclasses (kin_of l)
+  pub over_are : map (kin_at l) over ≡ superinterfaces (kin_of l)
+
+-- the loader of the first of these that declares a method with this key that is neither private nor
+-- static (5.4.2)
+abbrev pub first_loader : Key → List Rowed → Option ℕ
+first_loader key rs =
+    option_map (λ a. a.class.loader) (find (λ a. if_declared (method_of (bare a) key) is_instance) rs)
+
+-- the other loaders of superclasses that declare such a public or protected method, and of
+-- superinterfaces that declare one, each once (5.4.5)
+abbrev pub near_loaders : Rowed → List Rowed → List Rowed → Key → List ℕ
+near_loaders own away over key =
+    others_after own.class.loader []
+    ((if is_interface (file_of own.file) then [] else loaders (filter (opens key) (map bare away)))
+    ++ loaders (filter (takes_part key) (map bare over)))
+
+-- what a method of the class imposes (5.4.2)
+abbrev pub near_declared : Rowed → List Rowed → List Rowed → Member → List Need
+near_declared own away over m =
+    if takes_part m.key (bare own)
+    then flat_map (equals_of m.key own.class.loader) (near_loaders own away over m.key)
+    else []
+
+-- what a method of a superinterface imposes with the one that is inherited (5.4.2)
+abbrev pub near_inherited : Rowed → List Rowed → Rowed → Member → List Need
+near_inherited own above j m =
+    if takes_part m.key (bare j) && not (is_some (method_of (bare own) m.key))
+    then equals_from m.key j.class.loader (other_than j.class.loader (first_loader m.key above))
+    else []
+
+-- what these superinterfaces impose with what is inherited (5.4.2)
+abbrev pub near_second : Rowed → List Rowed → List Rowed → List Need
+near_second own above over =
+    flat_map (λ j. flat_map (near_inherited own above j) (bare j).file.methods) over
+
+-- all that is imposed (5.4.2)
+abbrev pub near_needs : Rowed → List Rowed → List Rowed → List Rowed → List Need
+near_needs own above away over =
+    flat_map (near_declared own away over) (bare own).file.methods
+    ++ (if is_interface (file_of own.file) then [] else near_second own above over)

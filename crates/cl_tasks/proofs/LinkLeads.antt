@@ -531,7 +531,7 @@ module _ {A : Type 0} (told : Option Content) (c : Configured) (k : Chain A) (e 
       let s = state_of x in
       let l = k.whole.value in
       let now = here g x i served h.before in
-      let next = subst (λ (ns : List Need). IsNext s ns n) are (next_at s (needs_of e.needs) i n is (list_imposed x k e i h.before)) in
+      let next = are.next s n (next_at s (needs_of e.needs) i n is (list_imposed x k e i h.before)) in
       subst (λ (q : request.Request). ComesTo g s (request_of q) (Linkage n)) (sym known.place.of)
       (link_refusal_comes g s (loader_of k.goal.request) l.own.class.loader l.own.class.name (kin_of l) (kin_of known.place.at) now.front now.behind n served.sound.closed now.kept now.has now.split now.linked next h.now)
 

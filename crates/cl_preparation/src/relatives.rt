@@ -79,10 +79,6 @@ fn any_names_interfaces<T: Told>(rows: &[Arc<ClassRow<T>>]) -> bool
 fn has_none_over<T: Told>(lineage: &Lineage<T>) -> bool
     ensures { result ≡ true → [] ≡ superinterfaces (kin_of lineage.now) }
 {
-    // first, since it looks at no row
-    if !lineage.may_have_interfaces() {
-        return true;
-    }
     if names_interfaces(lineage.own()) {
         return false;
     }

@@ -1,9 +1,8 @@
 -- The lineage of a superclass is the front of its subclass's, where the superclass's row stands right before the own.
 use Rattle.std.proofs.Common.{◌≡◌, ◌∙◌, ◌<◌, ◌≤◌, ◌+◌, inl, inr, ℕ, zero, suc, Bool, true, false, if◌then◌else◌, arith, List, [], ◌∷◌, ◌++◌, Option, Some, None, append_assoc, drop, get_or, length, length-append, map, reverse, take, refl, sym, ap, subst}
 use Rattle.std.specs.Prelude.{option_to_list}
-use Rattle.std.specs.List.{list_any}
 use Rattle.std.proofs.lemmas.Bool.{cases_lt, or_cases}
-use Rattle.std.proofs.lemmas.List.{length-map, map-append, reverse-append, reverse-reverse, take-append-drop, take-append-le, take_all, take_at}
+use Rattle.std.proofs.lemmas.List.{length-map, map-append, reverse-append, reverse-reverse, take-append-drop, take-append-le, take_at}
 use Rattle.cl_model.specs.declared.class.Class.{Class}
 use Rattle.cl_model.specs.Content.{Content}
 use Rattle.cl_model.specs.Homes.{World}
@@ -16,7 +15,6 @@ use Rattle.cl_config.specs.Views.{Configured}
 use Rattle.cl_delegation.specs.Worlds.{world_of}
 use Rattle.cl_hierarchy.specs.Frames.{accepted_of}
 use Rattle.cl_hierarchy.specs.Fronts.{Climb, IsFront, IsKept, IsOnStem, IsShared, IsStem}
-use Rattle.cl_hierarchy.specs.Interfaces.{names_interfaces}
 use Rattle.cl_hierarchy.specs.Lineages.{IsLined, IsLineageOf, IsWithin, Lined, kin_of, rows_in}
 use Rattle.cl_hierarchy.specs.Places.{IsPlace}
 use Rattle.cl_hierarchy.specs.Rows.{Rowed}
@@ -24,7 +22,6 @@ use Rattle.cl_hierarchy.specs.Trees.{SupersBefore, forest, in_front, kin_named, 
 use Rattle.cl_hierarchy.proofs.Ancestry.{kins_push, named_first}
 use Rattle.cl_hierarchy.proofs.Climbs.{before_split, placed_kin, placed_row}
 use Rattle.cl_hierarchy.proofs.Ends.{all_pop}
-use Rattle.cl_hierarchy.proofs.Interfaces.{any_before}
 use Rattle.cl_hierarchy.proofs.RowTables.{before_push}
 use Rattle.cl_hierarchy.proofs.Scans.{map_push}
 use Rattle.cl_hierarchy.proofs.Told.{lineage_ends}
@@ -379,28 +376,6 @@ module _ (l : Lined) (config : Configured) (all xs : List Rowed) (many : ℕ) (o
       ap (λ (rs : List Rowed). take (length xs) rs) (sym (take-append-drop many all)) ∙ take-append-le (length xs) (take many all) (drop many all) front_within
       ∙ sym (take-append-le (length xs) (take many all) (own ∷ []) front_within) ∙ ap (λ (rs : List Rowed). take (length xs) rs) parts_are ∙ take_at xs (x ∷ p.later) (length xs) refl
 
--- all of them
-shared_whole : {A : Type 0} (v : A → Rowed) (told : Option Content) (config : Configured) (rows : List Rowed) (xs : List A) (own : Rowed) (many stem : ℕ) (named : Bool) → rows ≡ map v xs → many ≡ length xs
-    → IsKept told (record { config = config; above = map v xs; own = own }) stem → named ≡ list_any names_interfaces (map v xs ++ own ∷ []) → IsShared told config rows many own stem named
-shared_whole v told config rows xs own many stem named same n h is =
-    let m : length rows ≡ length xs = ap (λ (rs : List Rowed). length rs) same ∙ length-map xs v in
-    let all : take many rows ≡ map v xs = take_all many rows (omega (arith, m, n)) ∙ same in
-    record {
-      within = omega (arith, m, n);
-      named = λ off. ap (λ (rs : List Rowed). list_any names_interfaces (rs ++ own ∷ [])) all ∙ sym is ∙ off;
-      kept = subst (λ (rs : List Rowed). IsKept told (record { config = config; above = rs; own = own }) stem) (sym all) h;
-    }
-
-pub shared_given : {A : Type 0} (v : A → Rowed) (told : Option Content) (config : Configured) (rows : List Rowed) (xs ys zs : List A) (own : Rowed) (many stem : ℕ) (named : Bool) → rows ≡ map v xs → many ≡ length xs → ys ≡ xs → zs ≡ xs
-    → IsLined told (record { config = config; above = map v xs; own = own })
-    → ((c : Configured) → IsLined told (record { config = c; above = map v ys; own = own }) → IsKept told (record { config = c; above = map v ys; own = own }) stem)
-    → named ≡ list_any names_interfaces (map v zs ++ own ∷ []) → IsShared told config rows many own stem named
-shared_given {A} v told config rows xs ys zs own many stem named same n one two h kept is =
-    let lined : IsLined told (record { config = config; above = map v ys; own = own }) = subst (λ (us : List A). IsLined told (record { config = config; above = map v us; own = own })) (sym one) h in
-    shared_whole v told config rows xs own many stem named same n
-    (subst (λ (us : List A). IsKept told (record { config = config; above = map v us; own = own }) stem) one (kept config lined))
-    (is ∙ ap (λ (us : List A). list_any names_interfaces (map v us ++ own ∷ [])) two)
-
 -- those up to a place
 module _ {A : Type 0} (v : A → Rowed) (l : Lined) (config one : Configured) (all rows : List Rowed) (many new place : ℕ) (own x r : Rowed) (xs : List A) (same : (let inside : Lined = record { config = config; above = take many all; own = own } in inside) ≡ l)
     (p : IsPlace (rows_in l) (map v xs) x) (n : length xs ≡ place) (config_is : one ≡ config) (rows_are : rows ≡ all) (new_is : new ≡ length xs) (r_is : r ≡ x) where
@@ -410,16 +385,13 @@ module _ {A : Type 0} (v : A → Rowed) (l : Lined) (config one : Configured) (a
   taken : take new rows ≡ map v xs
   taken = ap (λ (k : ℕ). take k rows) (new_is ∙ sym mapped) ∙ ap (λ (rs : List Rowed). take (length (map v xs)) rs) rows_are ∙ front_taken l config all (map v xs) many own x same p
 
-  pub shared_in : (told : Option Content) (stem : ℕ) (named : Bool) → IsShared told config all many own stem named → stem ≤ place → IsShared told one rows new r stem named
-  shared_in told stem named h le =
+  pub shared_in : (told : Option Content) (stem : ℕ) → IsShared told config all many own stem → stem ≤ place → IsShared told one rows new r stem
+  shared_in told stem h le =
       let m = mapped in
       let w = all_within l config all (map v xs) many own x same p in
       let e : length rows ≡ length all = ap (λ (rs : List Rowed). length rs) rows_are in
       record {
         within = omega (arith, m, w, e, new_is);
-        named = λ off.
-            ap (λ (rs : List Rowed). list_any names_interfaces (rs ++ r ∷ [])) taken ∙ ap (λ (y : Rowed). list_any names_interfaces (map v xs ++ y ∷ [])) r_is
-            ∙ any_before (rows_in l) (map v xs) x p (ap (λ (y : Lined). list_any names_interfaces (rows_in y)) (sym same) ∙ h.named off);
         kept = kept_in told l (record { config = config; above = take many all; own = own }) stem same h.kept v place xs x one (take new rows) r p n le config_is taken r_is;
       }
 

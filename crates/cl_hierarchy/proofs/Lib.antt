@@ -8,7 +8,6 @@ pub mod Enough
 pub mod Frames
 pub mod Fronts
 pub mod Inside
-pub mod Interfaces
 pub mod Paths
 pub mod Placed
 pub mod Placings

@@ -3,7 +3,6 @@ pub mod Drafts
 pub mod Frames
 pub mod Fronts
 pub mod Imposed
-pub mod Interfaces
 pub mod Kept
 pub mod Lineages
 pub mod Paths

@@ -1,11 +1,9 @@
 //! Where the rows of a lineage up to each are that one's lineage: on its stem, where each class's superclass stands right
 //! before it (JVMS SE 8, 5.3.5).
 
-ghost use Rattle.std.specs.Prelude.{◌≡◌, ◌++◌, ◌∷◌, [], map};
-ghost use Rattle.std.specs.List.{list_any};
+ghost use Rattle.std.specs.Prelude.{◌≡◌, map};
 ghost use Rattle.cl_config.specs.Views.{Configured};
 ghost use Rattle.cl_hierarchy.specs.Fronts.{IsKept};
-ghost use Rattle.cl_hierarchy.specs.Interfaces.{names_interfaces};
 ghost use Rattle.cl_hierarchy.specs.Lineages.{IsLined};
 ghost use Rattle.cl_hierarchy.specs.Trees.{superclass_in};
 ghost use Rattle.cl_model.specs.Classes.{class, is_among, same_class};
@@ -60,32 +58,4 @@ pub(crate) fn stem_of<'a, T: Told>(
         rest = earlier;
     }
     0
-}
-
-/// Whether the class of a row names superinterfaces.
-fn names_interfaces<T: Told>(row: &ClassRow<T>) -> bool
-    ensures { result ≡ names_interfaces row.now }
-{
-    match row.file().interface_name(0) {
-        Some(_) => true,
-        None => false,
-    }
-}
-
-/// Whether one of these rows names superinterfaces.
-fn any_names_interfaces<T: Told>(rows: &[Arc<ClassRow<T>>]) -> bool
-    ensures { result ≡ list_any (λ r. names_interfaces r.value) rows.now }
-{
-    rows.iter().any(|row| names_interfaces(row))
-}
-
-/// Whether a row or one of those above it names superinterfaces.
-pub(crate) fn some_name_interfaces<T: Told>(
-    above: &[Arc<ClassRow<T>>],
-    own: &Arc<ClassRow<T>>,
-) -> bool
-    ensures { result ≡ list_any names_interfaces (map (λ r. r.value) above.now
-        ++ own.now.value ∷ []) }
-{
-    any_names_interfaces(above) || names_interfaces(own)
 }

@@ -1,6 +1,6 @@
 //! Lineages: a class with all that stands above it, and what is asked of them (JVMS SE 8, 5.3.5, 5.4.4).
 
-ghost use Rattle.std.specs.Prelude.{◌≡◌, [], false, filter, is_some, length, map, nat_le, true, IfOk, IfSome};
+ghost use Rattle.std.specs.Prelude.{◌≡◌, [], filter, is_some, length, map, nat_le, true, IfOk, IfSome};
 ghost use Rattle.std.specs.List.{AllByRecursion};
 ghost use Rattle.std.specs.Option.{option_map};
 ghost use Rattle.cl_model.specs.Lineages.{first, is_subclass, superclasses, superinterfaces, upward};
@@ -11,7 +11,7 @@ ghost use Rattle.cl_hierarchy.specs.Trees.{SupersBefore, forest, kin_under, kins
 
 use crate::above::superclass_row;
 use crate::access::is_same;
-use crate::front::{some_name_interfaces, stem_of};
+use crate::front::stem_of;
 use crate::others::others_above;
 use crate::row::ClassRow;
 use crate::row_index::RowIndex;
@@ -36,8 +36,6 @@ pub struct Lineage<T: Told> {
     own: Arc<ClassRow<T>>,
     /// The first place of the stem: from there on the superclass of each row is that of the row right before it.
     stem: usize,
-    /// Whether some row may name superinterfaces: a front says it of the lineage that it was taken of.
-    interfaces: bool,
 }
 
 impl<T: Told> Model for Lineage<T> {
@@ -49,7 +47,7 @@ impl<T: Told> Model for Lineage<T> {
 
     ghost view = { λ l. record { config = l.config.value; above = take l.many l.rows.value; own = l.own.value } };
 
-    ghost invariant = { λ l. IsShared T.told l.config.value l.rows.value l.many l.own.value l.stem l.interfaces };
+    ghost invariant = { λ l. IsShared T.told l.config.value l.rows.value l.many l.own.value l.stem };
 }
 
 /// Whether `of` is a superclass of the class of this row. The rows of all these are among `rows`.
@@ -117,7 +115,6 @@ impl<T: Told> Lineage<T> {
         }) }
     {
         let stem = stem_of(above.as_slice(), &own);
-        let interfaces = some_name_interfaces(above.as_slice(), &own);
         let many = above.len();
         let rows = Arc::new(alloc, SharedRows::new(above))?;
         Ok(Lineage {
@@ -126,7 +123,6 @@ impl<T: Told> Lineage<T> {
             many,
             own,
             stem,
-            interfaces,
         })
     }
 
@@ -199,7 +195,6 @@ impl<T: Told> Lineage<T> {
             many: above.len(),
             own,
             stem: self.stem,
-            interfaces: self.interfaces,
         }))
     }
 
@@ -240,13 +235,6 @@ impl<T: Told> Lineage<T> {
         ensures { result ≡ is_subclass (kin_of self.now) of.now }
     {
         is_above(self.above(), &self.own, of)
-    }
-
-    /// Whether the class may have superinterfaces: where it may not, it has none (JVMS SE 8, 4.1). Takes no time in the rows.
-    pub fn may_have_interfaces(&self) -> bool
-        ensures { result ≡ false → [] ≡ superinterfaces (kin_of self.now) }
-    {
-        self.interfaces
     }
 
     /// The rows of the direct and indirect superinterfaces, each once at its first place: a class's in file order, each

@@ -1,9 +1,8 @@
 -- The lineages at the front of a lineage: a superclass's is the beginning of its subclass's
 -- (JVMS SE 8, 5.3.5, 5.4).
-use Rattle.std.specs.Prelude.{◌≡◌, ◌≤◌, ◌+◌, ℕ, false, List, [], ◌∷◌, ◌++◌, Option, length, take}
+use Rattle.std.specs.Prelude.{◌≡◌, ◌≤◌, ◌+◌, ℕ, false, List, [], ◌∷◌, ◌++◌, Option, length}
 use Rattle.cl_model.specs.Content.{Content}
 use Rattle.cl_model.specs.Classes.{is_among}
-use Rattle.cl_config.specs.Views.{Configured}
 use Rattle.cl_hierarchy.specs.Lineages.{IsLined, Lined, rows_in}
 use Rattle.cl_hierarchy.specs.Places.{IsPlace}
 use Rattle.cl_hierarchy.specs.Rows.{Rowed}
@@ -48,14 +47,6 @@ pub record IsKept (told : Option Content) (l : Lined) (stem : ℕ) : Type 0 wher
   pub first :
       (earlier : List Rowed) (r x : Rowed) → IsPlace (rows_in l) (earlier ++ r ∷ []) x
       → length earlier + 1 ≡ stem → is_among (superclass_in x) r.class ≡ false
-
--- the same of rows that are shared, of which so many stand above the class (5.3.5, 5.4)
-pub record IsShared
-    (told : Option Content) (config : Configured) (rows : List Rowed) (many : ℕ) (own : Rowed)
-    (stem : ℕ)
-    : Type 0 where
-  pub within : many ≤ length rows
-  pub kept : IsKept told (record { config = config; above = take many rows; own = own }) stem
 
 -- all the rows up to a place, the one at the place as the own (5.3.5)
 pub record IsFront (l : Lined) (place : ℕ) (front : Lined) : Type 0 where

@@ -17,7 +17,6 @@ mod others;
 pub mod path;
 pub mod row;
 mod row_index;
-mod shared;
 mod stem;
 pub mod supertype;
 mod tour;

@@ -11,11 +11,10 @@ ghost use Rattle.cl_hierarchy.specs.Trees.{SupersBefore, forest, kin_under, kins
 
 use crate::above::superclass_row;
 use crate::access::is_same;
-use crate::front::stem_of;
+use crate::front::{share_rows, stem_of};
 use crate::others::others_above;
 use crate::row::ClassRow;
 use crate::row_index::RowIndex;
-use crate::shared::SharedRows;
 use crate::stem::{stem_end, superinterfaces_behind};
 use crate::tour::{Order, rows_in_order};
 use cl_config::Config;
@@ -29,25 +28,22 @@ use std::sync::Arc;
 #[derive(Drop)]
 pub struct Lineage<T: Told> {
     config: Arc<Config>,
-    /// The rows of all that stands above the class, and perhaps more behind them.
-    rows: Arc<SharedRows<T>>,
-    /// How many of the rows stand above the class.
-    many: usize,
+    above: Vec<Arc<ClassRow<T>>>,
     own: Arc<ClassRow<T>>,
     /// The first place of the stem: from there on the superclass of each row is that of the row right before it.
     stem: usize,
 }
 
 impl<T: Told> Model for Lineage<T> {
-    ghost use Rattle.std.specs.Prelude.{take};
-    ghost use Rattle.cl_hierarchy.specs.Fronts.{IsShared};
+    ghost use Rattle.std.specs.Prelude.{map};
+    ghost use Rattle.cl_hierarchy.specs.Fronts.{IsKept};
     ghost use Rattle.cl_hierarchy.specs.Lineages.{Lined};
 
     ghost Value = { Lined };
 
-    ghost view = { λ l. record { config = l.config.value; above = take l.many l.rows.value; own = l.own.value } };
+    ghost view = { λ l. record { config = l.config.value; above = map (λ r. r.value) l.above.items; own = l.own.value } };
 
-    ghost invariant = { λ l. IsShared T.told l.config.value l.rows.value l.many l.own.value l.stem };
+    ghost invariant = { λ l. IsKept T.told (record { config = l.config.value; above = map (λ r. r.value) l.above.items; own = l.own.value }) l.stem };
 }
 
 /// Whether `of` is a superclass of the class of this row. The rows of all these are among `rows`.
@@ -98,32 +94,28 @@ fn upward<'a, T: Told>(
 impl<T: Told> Lineage<T> {
     /// The lineage that these rows are.
     pub(crate) fn of_rows(
-        alloc: Global,
         config: Arc<Config>,
         above: Vec<Arc<ClassRow<T>>>,
         own: Arc<ClassRow<T>>,
-    ) -> Result<Lineage<T>, AllocError>
+    ) -> Lineage<T>
         requires { IsLined T.told (record {
           config = config.value;
           above = map (λ r. r.value) above.items;
           own = own.value;
         }) }
-        ensures { IfOk result (λ l. l ≡ record {
+        ensures { result ≡ record {
           config = config.value;
           above = map (λ r. r.value) above.items;
           own = own.value;
-        }) }
+        } }
     {
         let stem = stem_of(above.as_slice(), &own);
-        let many = above.len();
-        let rows = Arc::new(alloc, SharedRows::new(above))?;
-        Ok(Lineage {
+        Lineage {
             config,
-            rows,
-            many,
+            above,
             own,
             stem,
-        })
+        }
     }
 
     /// The class.
@@ -147,7 +139,7 @@ impl<T: Told> Lineage<T> {
         ensures rows { map (λ r. r.value) result.now ≡ self.now.above }
         ensures kept { IsLined T.told self.now }
     {
-        self.rows.first(self.many)
+        self.above.as_slice()
     }
 
     /// The configuration of the registry that made it.
@@ -165,7 +157,7 @@ impl<T: Told> Lineage<T> {
         ensures many { IfSome result (λ p. length p.0.now ≡ place) }
         ensures some { is_some result ≡ nat_le place (length self.now.above) }
     {
-        let above = self.above();
+        let above = self.above.as_slice();
         if place == above.len() {
             return Some((above, &self.own));
         }
@@ -174,9 +166,9 @@ impl<T: Told> Lineage<T> {
     }
 
     /// The lineage of the class at a place, if the rows up to there are known to be that: it is so for each place on the
-    /// stem, behind which the superclass of each row is that of the row right before it (JVMS SE 8, 5.3.5, 5.4). It
-    /// shares the rows, and takes neither time nor memory in them.
-    pub fn front(&self, _alloc: Global, place: usize) -> Result<Option<Lineage<T>>, AllocError>
+    /// stem, behind which the superclass of each row is that of the row right before it (JVMS SE 8, 5.3.5, 5.4). Time
+    /// linear in the rows up to there, with no look at a table.
+    pub fn front(&self, alloc: Global, place: usize) -> Result<Option<Lineage<T>>, AllocError>
         ensures front { IfOk result (λ o. IfSome o (λ l. IsFront self.now place l)) }
         ensures stem { IsOnStem self.now place → IfOk result (λ o. is_some o ≡ true) }
     {
@@ -187,12 +179,11 @@ impl<T: Told> Lineage<T> {
             return Ok(None);
         };
         let config = Arc::try_clone(&self.config)?;
-        let rows = Arc::try_clone(&self.rows)?;
+        let above = share_rows(alloc, above)?;
         let own = Arc::try_clone(own)?;
         Ok(Some(Lineage {
             config,
-            rows,
-            many: above.len(),
+            above,
             own,
             stem: self.stem,
         }))
@@ -204,7 +195,7 @@ impl<T: Told> Lineage<T> {
             ≡ first (superclasses (kin_of self.now)) }
         ensures rows { IfSome result (λ r. IsRowIn (rows_in self.now) r.now.value) }
     {
-        let (row, _) = superclass_row(self.above(), &self.own)?;
+        let (row, _) = superclass_row(self.above.as_slice(), &self.own)?;
         Some(row)
     }
 
@@ -215,7 +206,7 @@ impl<T: Told> Lineage<T> {
         ensures rows { IfOk result (λ v. AllByRecursion (λ r. IsRowIn (rows_in self.now) r.value)
             v.items) }
     {
-        upward(alloc, self.above(), &self.own)
+        upward(alloc, self.above.as_slice(), &self.own)
     }
 
     /// The rows of the superclasses that another loader than the class's own defined, nearest first (JVMS SE 8, 4.1, 5.3),
@@ -227,14 +218,14 @@ impl<T: Told> Lineage<T> {
         ensures rows { IfOk result (λ v. AllByRecursion (λ r. IsRowIn (rows_in self.now) r.value)
             v.items) }
     {
-        others_above(alloc, self.above(), &self.own, self.stem)
+        others_above(alloc, self.above.as_slice(), &self.own, self.stem)
     }
 
     /// Whether the class has another as a proper superclass (JVMS SE 8, 4.1). Takes no memory; time linear in the rows.
     pub fn is_subclass(&self, of: &Class) -> bool
         ensures { result ≡ is_subclass (kin_of self.now) of.now }
     {
-        is_above(self.above(), &self.own, of)
+        is_above(self.above.as_slice(), &self.own, of)
     }
 
     /// The rows of the direct and indirect superinterfaces, each once at its first place: a class's in file order, each
@@ -261,7 +252,7 @@ impl<T: Told> Lineage<T> {
         ensures rows { IfOk result (λ v. AllByRecursion (λ r. IsRowIn (rows_in self.now) r.value)
             v.items) }
     {
-        match stem_end(self.above(), row) {
+        match stem_end(self.above.as_slice(), row) {
             None => self.superinterfaces_by_tour(alloc, row),
             Some((end, before)) => superinterfaces_behind(alloc, self.config.seed(), before, end),
         }
@@ -280,7 +271,7 @@ impl<T: Told> Lineage<T> {
             v.items) }
     {
         let seed = self.config.seed();
-        let table = RowIndex::of(alloc, seed, self.above(), &self.own)?;
+        let table = RowIndex::of(alloc, seed, self.above.as_slice(), &self.own)?;
         rows_in_order(alloc, seed, Order::Superinterfaces, &table, row, false)
     }
 
@@ -294,7 +285,7 @@ impl<T: Told> Lineage<T> {
             v.items) }
     {
         let seed = self.config.seed();
-        let table = RowIndex::of(alloc, seed, self.above(), &self.own)?;
+        let table = RowIndex::of(alloc, seed, self.above.as_slice(), &self.own)?;
         rows_in_order(alloc, seed, Order::Fields, &table, &self.own, true)
     }
 }

@@ -98,7 +98,7 @@ taking_bare key l (r ∷ rs) = one_bare l r (filter (takes_part key) (map (kin_a
 own_known : (own : ℕ) → is_new own [] own ≡ false
 own_known own = rw (eq-eqb own own refl) refl
 
-up_near : (key : Key) (l : Lined) (above away : List Rowed) (b : Bool) → takes_part key (kin_of l) ≡ true → away ≡ away_from l.own.class.loader above → map (kin_at l) above ≡ superclasses (kin_of l)
+pub up_near : (key : Key) (l : Lined) (above away : List Rowed) (b : Bool) → takes_part key (kin_of l) ≡ true → away ≡ away_from l.own.class.loader above → map (kin_at l) above ≡ superclasses (kin_of l)
     → others_after l.own.class.loader [] (if b then [] else loaders (filter (opens key) (map bare away))) ≡ others_after l.own.class.loader [] (loaders (if b then [] else overridden key (kin_of l)))
 up_near key l above away true tp ae are = refl
 up_near key l above away false tp ae are =
@@ -120,7 +120,7 @@ near_over key l above away over tp are =
     ∙ ap (λ (xs : List ℕ). xs ++ others_after own xs taking) (up_near key l above away (is_interface (file_of l.own.file)) tp are.away_are are.above_are)
     ∙ sym (others_both own [] tree taking)
 
-if_same : (b : Bool) (xs ys : List Need) → (b ≡ true → xs ≡ ys) → (if b then xs else []) ≡ (if b then ys else [])
+pub if_same : (b : Bool) (xs ys : List Need) → (b ≡ true → xs ≡ ys) → (if b then xs else []) ≡ (if b then ys else [])
 if_same true xs ys f = f refl
 if_same false xs ys f = refl
 
@@ -132,12 +132,12 @@ declared_here l above away over m are =
 
 -- ---- the second half
 
-inherited_here : (l : Lined) (above : List Rowed) (j : Rowed) (m : Member) → map (kin_at l) above ≡ superclasses (kin_of l) → near_inherited l.own above j m ≡ fewer_inherited (kin_of l) (bare j) m
+pub inherited_here : (l : Lined) (above : List Rowed) (j : Rowed) (m : Member) → map (kin_at l) above ≡ superclasses (kin_of l) → near_inherited l.own above j m ≡ fewer_inherited (kin_of l) (bare j) m
 inherited_here l above j m are =
     ap (λ (o : Option ℕ). if takes_part m.key (bare j) && not (is_some (method_of (kin_of l) m.key)) then equals_from m.key j.class.loader (other_than j.class.loader o) else [])
     (sym (found_bare m.key l above) ∙ ap (λ (ks : List Kin). option_map (λ a. a.class.loader) (find (λ a. if_declared (method_of a m.key) is_instance) ks)) are)
 
-flat_same : {A : Type 0} (f g : A → List Need) (xs : List A) → ((x : A) → f x ≡ g x) → flat_map f xs ≡ flat_map g xs
+pub flat_same : {A : Type 0} (f g : A → List Need) (xs : List A) → ((x : A) → f x ≡ g x) → flat_map f xs ≡ flat_map g xs
 flat_same f g [] each = refl
 flat_same f g (x ∷ xs) each = ap (λ ns. ns ++ flat_map f xs) (each x) ∙ ap (λ ns. g x ++ ns) (flat_same f g xs each)
 

@@ -1,12 +1,12 @@
 //! The few loading constraints of a preparation that stand for all of them (JVMS SE 8, 5.3.4, 5.4.2).
 
 ghost use Rattle.std.specs.Prelude.{◌≡◌, ◌++◌, [], if◌then◌else◌, false, map, filter, flat_map, IfOk, OnOk};
-ghost use Rattle.std.specs.List.{list_any};
+ghost use Rattle.std.specs.List.{AllByRecursion, list_any};
 ghost use Rattle.cl_classfile.specs.Files.{file_of, is_interface};
-ghost use Rattle.cl_model.specs.Lineages.{if_declared, method_of, superinterfaces};
+ghost use Rattle.cl_model.specs.Lineages.{if_declared, method_of, superclasses};
 ghost use Rattle.cl_model.specs.Preparation.{constraints_of};
 ghost use Rattle.cl_hierarchy.specs.Imposed.{AreEnough, OfPreparation, needs_of};
-ghost use Rattle.cl_hierarchy.specs.Lineages.{kin_at, kin_of};
+ghost use Rattle.cl_hierarchy.specs.Lineages.{IsRowIn, kin_at, kin_of, rows_in};
 ghost use Rattle.cl_preparation.specs.Fewer.{fewer_constraints_of, loaders, other_than, others_after};
 ghost use Rattle.cl_preparation.specs.Methods.{is_instance};
 ghost use Rattle.cl_preparation.specs.Nearby.{away_from, first_loader, near_declared, near_inherited, near_loaders, near_needs, near_second};
@@ -17,8 +17,9 @@ use crate::described::{Described, push_equals};
 use crate::key::MethodKey;
 use crate::listed::{list_open, list_taking, push_listed};
 use crate::method::Method;
+use crate::quiet::{any_instance, over_of};
 use crate::relative::Relative;
-use crate::relatives::{all_of, imposes_nothing, superinterfaces_of};
+use crate::relatives::{all_of, imposes_nothing};
 use crate::walk::inherited_loader;
 use cl_hierarchy::{ClassRow, Equalities, Lineage};
 use cl_model::{Equality, LoaderId, Told};
@@ -26,7 +27,7 @@ use std::alloc::{AllocError, Global};
 use std::sync::Arc;
 
 /// A class with what its methods are looked up in: its superclasses of other loaders than its own, nearest first, and its
-/// superinterfaces in preorder.
+/// superinterfaces in preorder, or none where these add nothing.
 #[derive(Drop)]
 struct Nearby<T: Told> {
     own: Relative<T>,
@@ -50,14 +51,6 @@ fn away_of<T: Told>(
         }
     }
     Ok(away)
-}
-
-/// Whether one of these classes declares a method with this key that is neither private nor static.
-fn any_instance<T: Told>(classes: &[Relative<T>], key: &MethodKey) -> bool
-    ensures { result ≡ list_any (λ r. if_declared (method_of (bare r) key.now) is_instance)
-        classes.now }
-{
-    classes.iter().any(|class| class.has_instance(key))
 }
 
 /// Whether one of these classes declares methods.
@@ -89,15 +82,18 @@ impl<T: Told> Nearby<T> {
         lineage: &Arc<Lineage<T>>,
         rows: &[Arc<ClassRow<T>>],
     ) -> Result<Nearby<T>, AllocError>
-        ensures own { IfOk result (λ n. n.own ≡ lineage.now.value.own) }
+        requires above { map (λ r. kin_at lineage.now.value r.value) rows.now ≡ superclasses
+            (kin_of lineage.now.value) }
+        requires rows { AllByRecursion (λ r. IsRowIn (rows_in lineage.now.value) r.value)
+            rows.now }
         ensures away { IfOk result (λ n. n.away.items ≡ away_from n.own.class.loader
             (map (λ r. r.value) rows.now)) }
-        ensures over { IfOk result (λ n. map (kin_at lineage.now.value) n.over.items
-            ≡ superinterfaces (kin_of lineage.now.value)) }
+        ensures needs { IfOk result (λ n. near_needs n.own (map (λ r. r.value) rows.now)
+            n.away.items n.over.items ≡ fewer_constraints_of (kin_of lineage.now.value)) }
     {
-        let over = superinterfaces_of(alloc, lineage)?;
         let own = Relative::of(alloc, lineage.own())?;
         let away = away_of(alloc, own.loader(), rows)?;
+        let over = over_of(alloc, lineage, rows, away.as_slice())?;
         Ok(Nearby { own, away, over })
     }
 

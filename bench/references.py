@@ -12,6 +12,11 @@
   plain         5,000 classes over one another that declare nothing; the last is linked
   topped        the same, the first of which names a superinterface
   wide          a class of app over one of boot whose 20,000 methods it overrides, each of another signature; it is linked
+  distinct      5,000 classes over one another, each with a method that no other has; the last is linked
+  many          500 classes over one another, each with the same 50 methods; the last is linked
+  inherited     1,000 abstract classes over one another, the first of which names an interface with 1,000 methods; the last is linked
+  naming        2,000 classes over one another, each of which names one interface; the last is linked
+  interfaces    2,000 interfaces over one another; the last is linked
 
 Each is a bundle: classlink bundle < FILE.
 """
@@ -129,9 +134,47 @@ def wide(path, count=20000):
     bundle(path, TWO, classes, ["link app p/C\n"])
 
 
+def over_one_another(names, methods=lambda place: (), top=OBJECT, **how):
+    """Classes of app, each over the one before."""
+    return [with_lines(section("app", name, above, **how), methods(place)) for place, (name, above) in enumerate(zip(names, [top, *names]))]
+
+
+def distinct(path, count=5000):
+    names = [f"p/C{n}" for n in range(count)]
+    bundle(path, TWO, [TOP, *over_one_another(names, lambda place: [f"method 0001 m{place} ()V"])], [f"link app {names[-1]}\n"])
+
+
+def many(path, count=500):
+    names = [f"p/C{n}" for n in range(count)]
+    own = [f"method 0001 m{n} ()V" for n in range(50)]
+    bundle(path, TWO, [TOP, *over_one_another(names, lambda _: own)], [f"link app {names[-1]}\n"])
+
+
+def inherited(path, count=1000):
+    names = [f"p/C{n}" for n in range(count)]
+    top = with_lines(section("app", "p/I", flags="0601"), [f"method 0401 m{n} ()V" for n in range(count)])
+    first = section("app", names[0], interfaces=["p/I"], flags="0421")
+    below = over_one_another(names[1:], top=names[0], flags="0421")
+    bundle(path, TWO, [TOP, top, first, *below], [f"link app {names[-1]}\n"])
+
+
+def naming(path, count=2000):
+    names = [f"p/C{n}" for n in range(count)]
+    top = section("app", "p/I", flags="0601")
+    bundle(path, TWO, [TOP, top, *over_one_another(names, interfaces=["p/I"])], [f"link app {names[-1]}\n"])
+
+
+def interfaces(path, count=2000):
+    names = [f"p/I{n}" for n in range(count)]
+    classes = [section("app", name, interfaces=above, flags="0601") for name, above in zip(names, [[], *([it] for it in names)])]
+    bundle(path, TWO, [TOP, *classes], [f"link app {names[-1]}\n"])
+
+
 def main(folder):
     os.makedirs(folder, exist_ok=True)
-    for make in methods, settled, constraints, refused, overriding, ladder, links, repeated, plain, topped, wide:
+    references = methods, settled, constraints, refused
+    chains = overriding, repeated, plain, topped, wide, distinct, many, inherited, naming, interfaces
+    for make in *references, ladder, links, *chains:
         make(f"{folder}/{make.__name__}")
 
 

@@ -219,6 +219,26 @@ fn has_superinterfaces(
     is_so
 }
 
+/// Whether the lineage of a class begins, up to a place, with that of another.
+fn has_front(
+    alloc: Global,
+    tables: &Registry<Untold>,
+    class: u16,
+    place: usize,
+    of: u16,
+) -> Result<bool, AllocError> {
+    let of = class_of(alloc, of)?;
+    let lineage = lineage(alloc, tables, class)?;
+    let found = lineage.front(alloc, place);
+    drop(lineage);
+    let Some(front) = found? else {
+        return Ok(false);
+    };
+    let is_so = *front.class() == of && front.above().len() == place;
+    drop(front);
+    Ok(is_so)
+}
+
 pub const CLASS: u16 = 0x21;
 
 const INTERFACE: u16 = 0x601;
@@ -259,6 +279,8 @@ fn ask_classes<R: Abort>(
     assert!(rt; has_superinterfaces(alloc, tables, D, &[J3, J1, J2])?);
     assert!(rt; stands_under(alloc, tables, 6003, &[TOP, 6000, 6001, 6002])?);
     assert!(rt; has_superinterfaces(alloc, tables, 6003, &[6001, 6000, 6002])?);
+    assert!(rt; has_front(alloc, tables, D, 4, D)?);
+    assert!(rt; !has_front(alloc, tables, D, 3, J2)?);
     assert!(rt; is_subclass(alloc, tables, QE, P)?);
     assert!(rt; !is_subclass(alloc, tables, QE, QE)?);
     Ok(())
@@ -364,6 +386,9 @@ fn ask_chain<R: Abort>(
     assert!(rt; has_superinterfaces(alloc, tables, LAST, &[])?);
     assert!(rt; is_subclass(alloc, tables, LAST, FIRST)?);
     assert!(rt; !is_subclass(alloc, tables, FIRST, LAST)?);
+    assert!(rt; has_front(alloc, tables, LAST, 2500, 3499)?);
+    assert!(rt; has_front(alloc, tables, LAST, 1, FIRST)?);
+    assert!(rt; !has_front(alloc, tables, LAST, 5001, LAST)?);
     Ok(())
 }
 

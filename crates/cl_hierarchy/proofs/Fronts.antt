@@ -1,8 +1,8 @@
 -- The lineage of a superclass is the front of its subclass's, where the superclass's row stands right before the own.
-use Rattle.std.proofs.Common.{◌≡◌, ◌∙◌, ◌<◌, ◌≤◌, ◌+◌, inl, inr, ℕ, zero, suc, Bool, true, false, if◌then◌else◌, arith, List, [], ◌∷◌, ◌++◌, Option, Some, None, append_assoc, get_or, length, length-append, map, reverse, take, refl, sym, ap, subst}
+use Rattle.std.proofs.Common.{◌≡◌, ◌∙◌, ◌<◌, ◌≤◌, ◌+◌, inl, inr, ℕ, zero, suc, Bool, true, false, if◌then◌else◌, arith, List, [], ◌∷◌, ◌++◌, Option, Some, None, append_assoc, drop, get_or, length, length-append, map, reverse, take, refl, sym, ap, subst}
 use Rattle.std.specs.Prelude.{option_to_list}
 use Rattle.std.proofs.lemmas.Bool.{cases_lt, or_cases}
-use Rattle.std.proofs.lemmas.List.{length-map, map-append, reverse-append, reverse-reverse, take_more}
+use Rattle.std.proofs.lemmas.List.{length-map, map-append, reverse-append, reverse-reverse, take-append-drop, take-append-le, take_at}
 use Rattle.cl_model.specs.declared.class.Class.{Class}
 use Rattle.cl_model.specs.Content.{Content}
 use Rattle.cl_model.specs.Homes.{World}
@@ -14,7 +14,7 @@ use Rattle.cl_model.proofs.Complete.{is_class}
 use Rattle.cl_config.specs.Views.{Configured}
 use Rattle.cl_delegation.specs.Worlds.{world_of}
 use Rattle.cl_hierarchy.specs.Frames.{accepted_of}
-use Rattle.cl_hierarchy.specs.Fronts.{Climb, IsKept, IsOnStem}
+use Rattle.cl_hierarchy.specs.Fronts.{Climb, IsFront, IsKept, IsOnStem, IsShared, IsStem}
 use Rattle.cl_hierarchy.specs.Lineages.{IsLined, IsLineageOf, IsWithin, Lined, kin_of, rows_in}
 use Rattle.cl_hierarchy.specs.Places.{IsPlace}
 use Rattle.cl_hierarchy.specs.Rows.{Rowed}
@@ -156,6 +156,7 @@ pub record Falls (told : Option Content) (config : Configured) (rows rest : List
   pub split : rows ≡ rest ++ last ∷ later
   pub lined : IsLined told (record { config = config; above = rest; own = last })
   pub fronts : (earlier : List Rowed) (r : Rowed) → IsPlace rows earlier r → length rest ≤ length earlier → IsLined told (record { config = config; above = earlier; own = r })
+  pub climbs : IsStem rows (length rest)
 
 module _ (told : Option Content) (config : Configured) (rows rest : List Rowed) (last : Rowed) (later : List Rowed) (split : rows ≡ rest ++ last ∷ later) (lined : IsLined told (record { config = config; above = rest; own = last })) where
   at_once : (earlier : List Rowed) (r : Rowed) → IsPlace rows earlier r → length rest ≡ length earlier → IsLined told (record { config = config; above = earlier; own = r })
@@ -163,8 +164,8 @@ module _ (told : Option Content) (config : Configured) (rows rest : List Rowed) 
       let same = same_place rest earlier last r later p.later (sym split ∙ p.split) n in
       subst (λ (xs : List Rowed). IsLined told (record { config = config; above = xs; own = r })) same.0 (subst (λ (x : Rowed). IsLined told (record { config = config; above = rest; own = x })) same.1 lined)
 
-  further : ((earlier : List Rowed) (r : Rowed) → IsPlace rows earlier r → length rest < length earlier → IsLined told (record { config = config; above = earlier; own = r })) → Falls told config rows rest last
-  further others = record {
+  further : ((earlier : List Rowed) (r : Rowed) → IsPlace rows earlier r → length rest < length earlier → IsLined told (record { config = config; above = earlier; own = r })) → IsStem rows (length rest) → Falls told config rows rest last
+  further others climbs = record {
     later = later;
     split = split;
     lined = lined;
@@ -173,6 +174,7 @@ module _ (told : Option Content) (config : Configured) (rows rest : List Rowed) 
           | inl lt ↦ others earlier r p lt
           | inr ge ↦ at_once earlier r p (omega (arith, le, ge))
         ];
+    climbs = climbs;
   }
 
 pub falls_first : (told : Option Content) (config : Configured) (above : List Rowed) (own : Rowed) → IsLined told (record { config = config; above = above; own = own }) → Falls told config (above ++ own ∷ []) above own
@@ -181,7 +183,26 @@ falls_first told config above own h = further told config (above ++ own ∷ []) 
     let m = length-append earlier (r ∷ p.later) in
     let e = ap (λ (rs : List Rowed). length rs) p.split in
     omega (arith, n, m, e, lt)
+    )) (λ earlier r x p le. absurd (
+    let n = length-append above (own ∷ []) in
+    let k = length-append earlier (r ∷ []) in
+    let m = length-append (earlier ++ r ∷ []) (x ∷ p.later) in
+    let e = ap (λ (rs : List Rowed). length rs) p.split in
+    omega (arith, n, k, m, e, le)
     ))
+
+-- the row right before
+next_climbs : (rows earlier : List Rowed) (row last : Rowed) (later : List Rowed) → rows ≡ (earlier ++ row ∷ []) ++ last ∷ later → IsStem rows (length (earlier ++ row ∷ [])) → superclass_in last ≡ row.class ∷ [] → IsStem rows (length earlier)
+next_climbs rows earlier row last later split climbs up = λ e r x p le.
+    let n : length (earlier ++ row ∷ []) ≡ length earlier + 1 = length-append earlier (row ∷ []) in
+    elim (cases_lt (length earlier) (length e)) [
+      | inl lt ↦ climbs e r x p (omega (arith, n, lt))
+      | inr ge ↦
+          let m : length (e ++ r ∷ []) ≡ length e + 1 = length-append e (r ∷ []) in
+          let ends = same_place (earlier ++ row ∷ []) (e ++ r ∷ []) last x later p.later (sym split ∙ p.split) (omega (arith, n, m, le, ge)) in
+          let before = same_place earlier e row r [] [] ends.0 (omega (arith, le, ge)) in
+          subst (λ (y : Rowed). superclass_in y ≡ r.class ∷ []) ends.1 (subst (λ (y : Rowed). superclass_in last ≡ y.class ∷ []) before.1 up)
+    ]
 
 falls_next : (told : Option Content) (config : Configured) (rows earlier : List Rowed) (row last : Rowed) → Falls told config rows (earlier ++ row ∷ []) last → superclass_in last ≡ row.class ∷ [] → Falls told config rows earlier row
 falls_next told config rows earlier row last h up =
@@ -189,6 +210,7 @@ falls_next told config rows earlier row last h up =
     (λ e r p lt.
     let n : length (earlier ++ row ∷ []) ≡ length earlier + 1 = length-append earlier (row ∷ []) in
     h.fronts e r p (omega (arith, n, lt)))
+    (next_climbs rows earlier row last h.later h.split h.climbs up)
 
 -- ---- where the stem begins
 
@@ -208,6 +230,7 @@ module _ (told : Option Content) (config : Configured) (above : List Rowed) (own
     lined = lined;
     within = omega arith;
     fronts = λ e r p le. let n : length rest ≡ 0 = ap (λ (rs : List Rowed). length rs) none in h.fronts e r p (omega (arith, n));
+    climbs = λ e r x p le. let n : length rest ≡ 0 = ap (λ (rs : List Rowed). length rs) none in h.climbs e r x p (omega (arith, n));
     first = λ e r x p n. absurd (omega (arith, n));
   }
 
@@ -216,6 +239,7 @@ module _ (told : Option Content) (config : Configured) (above : List Rowed) (own
     lined = lined;
     within = rest_within;
     fronts = h.fronts;
+    climbs = h.climbs;
     first = λ e r x p n.
         let m : length (e ++ r ∷ []) ≡ length e + 1 = length-append e (r ∷ []) in
         let same = same_place rest (e ++ r ∷ []) last x h.later p.later (sym h.split ∙ p.split) (sym (m ∙ n)) in
@@ -265,6 +289,7 @@ kept_front told l stem earlier r h p le = record {
   lined = h.fronts earlier r p le;
   within = le;
   fronts = λ e x q n. h.fronts e x (wider (rows_in l) earlier e r x p q) n;
+  climbs = λ e y x q n. h.climbs e y x (wider (rows_in l) earlier (e ++ y ∷ []) r x p q) n;
   first = λ e y x q n. h.first e y x (wider (rows_in l) earlier (e ++ y ∷ []) r x p q) n;
 }
 
@@ -327,7 +352,52 @@ placed_at {A} v l inside xs i x same above lt e =
 
 -- ---- rows that are shared
 
-pub shared_more : {A : Type 0} (v : A → Rowed) (xs : List A) (i : ℕ) (x y : A) (done after : List A) → i < length xs → x ≡ get_or xs i x → v y ≡ v x → map v done ≡ map v (take i xs) → after ≡ done ++ y ∷ [] → map v after ≡ map v (take (i + 1) xs)
-shared_more {A} v xs i x y done after h at same before more =
-    ap (λ (ys : List A). map v ys) more ∙ map_push v done y ∙ ap (λ (r : Rowed). map v done ++ r ∷ []) same ∙ ap (λ (rs : List Rowed). rs ++ v x ∷ []) before
-    ∙ sym (map_push v (take i xs) x) ∙ ap (λ (y : A). map v (take i xs ++ y ∷ [])) at ∙ ap (λ (ys : List A). map v ys) (sym (take_more xs i x h))
+-- the first of these rows are those up to a place
+module _ (l : Lined) (config : Configured) (all xs : List Rowed) (many : ℕ) (own x : Rowed) (same : (let inside : Lined = record { config = config; above = take many all; own = own } in inside) ≡ l) (p : IsPlace (rows_in l) xs x) where
+  parts_are : take many all ++ own ∷ [] ≡ xs ++ x ∷ p.later
+  parts_are = ap (λ (y : Lined). rows_in y) same ∙ p.split
+
+  front_within : length xs ≤ length (take many all)
+  front_within =
+      let n = length-append (take many all) (own ∷ []) in
+      let m = length-append xs (x ∷ p.later) in
+      let e = ap (λ (rs : List Rowed). length rs) parts_are in
+      omega (arith, n, m, e)
+
+  all_within : length xs ≤ length all
+  all_within =
+      let n = length-append (take many all) (drop many all) in
+      let e = ap (λ (rs : List Rowed). length rs) (take-append-drop many all) in
+      let w = front_within in
+      omega (arith, n, e, w)
+
+  front_taken : take (length xs) all ≡ xs
+  front_taken =
+      ap (λ (rs : List Rowed). take (length xs) rs) (sym (take-append-drop many all)) ∙ take-append-le (length xs) (take many all) (drop many all) front_within
+      ∙ sym (take-append-le (length xs) (take many all) (own ∷ []) front_within) ∙ ap (λ (rs : List Rowed). take (length xs) rs) parts_are ∙ take_at xs (x ∷ p.later) (length xs) refl
+
+-- those up to a place
+module _ {A : Type 0} (v : A → Rowed) (l : Lined) (config one : Configured) (all rows : List Rowed) (many new place : ℕ) (own x r : Rowed) (xs : List A) (same : (let inside : Lined = record { config = config; above = take many all; own = own } in inside) ≡ l)
+    (p : IsPlace (rows_in l) (map v xs) x) (n : length xs ≡ place) (config_is : one ≡ config) (rows_are : rows ≡ all) (new_is : new ≡ length xs) (r_is : r ≡ x) where
+  mapped : length (map v xs) ≡ length xs
+  mapped = length-map xs v
+
+  taken : take new rows ≡ map v xs
+  taken = ap (λ (k : ℕ). take k rows) (new_is ∙ sym mapped) ∙ ap (λ (rs : List Rowed). take (length (map v xs)) rs) rows_are ∙ front_taken l config all (map v xs) many own x same p
+
+  pub shared_in : (told : Option Content) (stem : ℕ) → IsShared told config all many own stem → stem ≤ place → IsShared told one rows new r stem
+  shared_in told stem h le =
+      let m = mapped in
+      let w = all_within l config all (map v xs) many own x same p in
+      let e : length rows ≡ length all = ap (λ (rs : List Rowed). length rs) rows_are in
+      record {
+        within = omega (arith, m, w, e, new_is);
+        kept = kept_in told l (record { config = config; above = take many all; own = own }) stem same h.kept v place xs x one (take new rows) r p n le config_is taken r_is;
+      }
+
+  pub front_in : IsFront l place (record { config = one; above = take new rows; own = r })
+  front_in = record {
+    config = config_is ∙ ap (λ (y : Lined). y.config) same;
+    stands = subst (λ (rs : List Rowed). IsPlace (rows_in l) rs r) (sym taken) (subst (λ (y : Rowed). IsPlace (rows_in l) (map v xs) y) (sym r_is) p);
+    many = ap (λ (rs : List Rowed). length rs) taken ∙ mapped ∙ n;
+  }

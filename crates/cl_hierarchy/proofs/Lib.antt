@@ -1,4 +1,5 @@
 pub mod Ancestry
+pub mod Away
 pub mod Climbs
 pub mod Counted
 pub mod Drafting

@@ -2,9 +2,9 @@
 use Rattle.std.specs.Prelude.{
   ◌≡◌,
   ◌<◌,
+  ◌==◌,
   ℕ,
   Bool,
-  if◌then◌else◌,
   List,
   [],
   ◌∷◌,
@@ -14,6 +14,7 @@ use Rattle.std.specs.Prelude.{
   None,
   find,
   length,
+  not,
   reverse,
 }
 use Rattle.std.specs.List.{AllByRecursion}
@@ -32,7 +33,6 @@ use Rattle.cl_model.specs.Lineages.{
   member_accessible,
   once,
   protected_open,
-  superclasses,
   upward,
 }
 use Rattle.cl_config.specs.Views.{Configured}
@@ -104,6 +104,10 @@ field_order k = once (upwards (alone k))
 -- a class is the superclass (of one class or none), or one of its superclasses (4.1, super_class)
 abbrev pub reaches : List Kin → List Class → Class → Bool
 reaches known superclass c = is_among (classes (upward (forest known superclass))) c
+
+-- another loader than this defined the class (5.3)
+abbrev pub is_of_other : ℕ → Class → Bool
+is_of_other own c = not (own == c.loader)
 
 -- this tells whether a protected member that owner declares with these flags is open to a class
 -- through another (5.4.4)

@@ -1,7 +1,7 @@
 //! Where the rows of a lineage up to each are that one's lineage: on its stem, where each class's superclass stands right
 //! before it (JVMS SE 8, 5.3.5).
 
-ghost use Rattle.std.specs.Prelude.{◌≡◌, map, IfOk};
+ghost use Rattle.std.specs.Prelude.{◌≡◌, map};
 ghost use Rattle.cl_config.specs.Views.{Configured};
 ghost use Rattle.cl_hierarchy.specs.Fronts.{IsKept};
 ghost use Rattle.cl_hierarchy.specs.Lineages.{IsLined};
@@ -11,7 +11,6 @@ ghost use Rattle.cl_model.specs.Classes.{class, is_among, same_class};
 use crate::row::ClassRow;
 use cl_model::{Class, LoaderId, Told};
 use cl_names::Name;
-use std::alloc::{AllocError, Global};
 use std::sync::Arc;
 
 /// Whether a class has this name and loader.
@@ -59,19 +58,4 @@ pub(crate) fn stem_of<'a, T: Told>(
         rest = earlier;
     }
     0
-}
-
-/// The same rows, shared.
-#[tactic(auto, using(crate::proofs::Fronts::shared_more))]
-pub(crate) fn share_rows<T: Told>(
-    alloc: Global,
-    rows: &[Arc<ClassRow<T>>],
-) -> Result<Vec<Arc<ClassRow<T>>>, AllocError>
-    ensures { IfOk result (λ v. map (λ r. r.value) v.items ≡ map (λ r. r.value) rows.now) }
-{
-    let mut shared = Vec::with_capacity(alloc, rows.len())?;
-    for row in rows {
-        shared.push(Arc::try_clone(row)?)?;
-    }
-    Ok(shared)
 }

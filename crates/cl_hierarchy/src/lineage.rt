@@ -1,19 +1,21 @@
 //! Lineages: a class with all that stands above it, and what is asked of them (JVMS SE 8, 5.3.5, 5.4.4).
 
-ghost use Rattle.std.specs.Prelude.{◌≡◌, [], is_some, length, map, nat_le, true, IfOk, IfSome};
+ghost use Rattle.std.specs.Prelude.{◌≡◌, [], filter, is_some, length, map, nat_le, true, IfOk, IfSome};
 ghost use Rattle.std.specs.List.{AllByRecursion};
 ghost use Rattle.std.specs.Option.{option_map};
 ghost use Rattle.cl_model.specs.Lineages.{first, is_subclass, superclasses, superinterfaces, upward};
 ghost use Rattle.cl_hierarchy.specs.Fronts.{IsFront, IsOnStem};
-ghost use Rattle.cl_hierarchy.specs.Lineages.{IsLined, IsRowIn, field_order, kin_at, kin_of, reaches, rows_in};
+ghost use Rattle.cl_hierarchy.specs.Lineages.{IsLined, IsRowIn, field_order, is_of_other, kin_at, kin_of, reaches, rows_in};
 ghost use Rattle.cl_hierarchy.specs.Places.{IsPlace};
 ghost use Rattle.cl_hierarchy.specs.Trees.{SupersBefore, forest, kin_under, kins, superclass_in};
 
 use crate::above::superclass_row;
 use crate::access::is_same;
-use crate::front::{share_rows, stem_of};
+use crate::front::stem_of;
+use crate::others::others_above;
 use crate::row::ClassRow;
 use crate::row_index::RowIndex;
+use crate::shared::SharedRows;
 use crate::stem::{stem_end, superinterfaces_behind};
 use crate::tour::{Order, rows_in_order};
 use cl_config::Config;
@@ -27,22 +29,25 @@ use std::sync::Arc;
 #[derive(Drop)]
 pub struct Lineage<T: Told> {
     config: Arc<Config>,
-    above: Vec<Arc<ClassRow<T>>>,
+    /// The rows of all that stands above the class, and perhaps more behind them.
+    rows: Arc<SharedRows<T>>,
+    /// How many of the rows stand above the class.
+    many: usize,
     own: Arc<ClassRow<T>>,
     /// The first place of the stem: from there on the superclass of each row is that of the row right before it.
     stem: usize,
 }
 
 impl<T: Told> Model for Lineage<T> {
-    ghost use Rattle.std.specs.Prelude.{map};
-    ghost use Rattle.cl_hierarchy.specs.Fronts.{IsKept};
+    ghost use Rattle.std.specs.Prelude.{take};
+    ghost use Rattle.cl_hierarchy.specs.Fronts.{IsShared};
     ghost use Rattle.cl_hierarchy.specs.Lineages.{Lined};
 
     ghost Value = { Lined };
 
-    ghost view = { λ l. record { config = l.config.value; above = map (λ r. r.value) l.above.items; own = l.own.value } };
+    ghost view = { λ l. record { config = l.config.value; above = take l.many l.rows.value; own = l.own.value } };
 
-    ghost invariant = { λ l. IsKept T.told (record { config = l.config.value; above = map (λ r. r.value) l.above.items; own = l.own.value }) l.stem };
+    ghost invariant = { λ l. IsShared T.told l.config.value l.rows.value l.many l.own.value l.stem };
 }
 
 /// Whether `of` is a superclass of the class of this row. The rows of all these are among `rows`.
@@ -93,28 +98,32 @@ fn upward<'a, T: Told>(
 impl<T: Told> Lineage<T> {
     /// The lineage that these rows are.
     pub(crate) fn of_rows(
+        alloc: Global,
         config: Arc<Config>,
         above: Vec<Arc<ClassRow<T>>>,
         own: Arc<ClassRow<T>>,
-    ) -> Lineage<T>
+    ) -> Result<Lineage<T>, AllocError>
         requires { IsLined T.told (record {
           config = config.value;
           above = map (λ r. r.value) above.items;
           own = own.value;
         }) }
-        ensures { result ≡ record {
+        ensures { IfOk result (λ l. l ≡ record {
           config = config.value;
           above = map (λ r. r.value) above.items;
           own = own.value;
-        } }
+        }) }
     {
         let stem = stem_of(above.as_slice(), &own);
-        Lineage {
+        let many = above.len();
+        let rows = Arc::new(alloc, SharedRows::new(above))?;
+        Ok(Lineage {
             config,
-            above,
+            rows,
+            many,
             own,
             stem,
-        }
+        })
     }
 
     /// The class.
@@ -138,7 +147,7 @@ impl<T: Told> Lineage<T> {
         ensures rows { map (λ r. r.value) result.now ≡ self.now.above }
         ensures kept { IsLined T.told self.now }
     {
-        self.above.as_slice()
+        self.rows.first(self.many)
     }
 
     /// The configuration of the registry that made it.
@@ -156,7 +165,7 @@ impl<T: Told> Lineage<T> {
         ensures many { IfSome result (λ p. length p.0.now ≡ place) }
         ensures some { is_some result ≡ nat_le place (length self.now.above) }
     {
-        let above = self.above.as_slice();
+        let above = self.above();
         if place == above.len() {
             return Some((above, &self.own));
         }
@@ -165,9 +174,9 @@ impl<T: Told> Lineage<T> {
     }
 
     /// The lineage of the class at a place, if the rows up to there are known to be that: it is so for each place on the
-    /// stem, behind which the superclass of each row is that of the row right before it (JVMS SE 8, 5.3.5, 5.4). Time
-    /// linear in the rows up to there, with no look at a table.
-    pub fn front(&self, alloc: Global, place: usize) -> Result<Option<Lineage<T>>, AllocError>
+    /// stem, behind which the superclass of each row is that of the row right before it (JVMS SE 8, 5.3.5, 5.4). It
+    /// shares the rows, and takes neither time nor memory in them.
+    pub fn front(&self, _alloc: Global, place: usize) -> Result<Option<Lineage<T>>, AllocError>
         ensures front { IfOk result (λ o. IfSome o (λ l. IsFront self.now place l)) }
         ensures stem { IsOnStem self.now place → IfOk result (λ o. is_some o ≡ true) }
     {
@@ -178,11 +187,12 @@ impl<T: Told> Lineage<T> {
             return Ok(None);
         };
         let config = Arc::try_clone(&self.config)?;
-        let above = share_rows(alloc, above)?;
+        let rows = Arc::try_clone(&self.rows)?;
         let own = Arc::try_clone(own)?;
         Ok(Some(Lineage {
             config,
-            above,
+            rows,
+            many: above.len(),
             own,
             stem: self.stem,
         }))
@@ -194,7 +204,7 @@ impl<T: Told> Lineage<T> {
             ≡ first (superclasses (kin_of self.now)) }
         ensures rows { IfSome result (λ r. IsRowIn (rows_in self.now) r.now.value) }
     {
-        let (row, _) = superclass_row(self.above.as_slice(), &self.own)?;
+        let (row, _) = superclass_row(self.above(), &self.own)?;
         Some(row)
     }
 
@@ -205,14 +215,26 @@ impl<T: Told> Lineage<T> {
         ensures rows { IfOk result (λ v. AllByRecursion (λ r. IsRowIn (rows_in self.now) r.value)
             v.items) }
     {
-        upward(alloc, self.above.as_slice(), &self.own)
+        upward(alloc, self.above(), &self.own)
+    }
+
+    /// The rows of the superclasses that another loader than the class's own defined, nearest first (JVMS SE 8, 4.1, 5.3),
+    /// in time linear in the rows. On the stem no name is compared.
+    pub fn superclasses_of_others(&self, alloc: Global) -> Result<Vec<Arc<ClassRow<T>>>, AllocError>
+        ensures superclasses { IfOk result (λ v. map (λ r. kin_at self.now r.value) v.items
+            ≡ filter (λ k. is_of_other self.now.own.class.loader k.class)
+            (superclasses (kin_of self.now))) }
+        ensures rows { IfOk result (λ v. AllByRecursion (λ r. IsRowIn (rows_in self.now) r.value)
+            v.items) }
+    {
+        others_above(alloc, self.above(), &self.own, self.stem)
     }
 
     /// Whether the class has another as a proper superclass (JVMS SE 8, 4.1). Takes no memory; time linear in the rows.
     pub fn is_subclass(&self, of: &Class) -> bool
         ensures { result ≡ is_subclass (kin_of self.now) of.now }
     {
-        is_above(self.above.as_slice(), &self.own, of)
+        is_above(self.above(), &self.own, of)
     }
 
     /// The rows of the direct and indirect superinterfaces, each once at its first place: a class's in file order, each
@@ -239,7 +261,7 @@ impl<T: Told> Lineage<T> {
         ensures rows { IfOk result (λ v. AllByRecursion (λ r. IsRowIn (rows_in self.now) r.value)
             v.items) }
     {
-        match stem_end(self.above.as_slice(), row) {
+        match stem_end(self.above(), row) {
             None => self.superinterfaces_by_tour(alloc, row),
             Some((end, before)) => superinterfaces_behind(alloc, self.config.seed(), before, end),
         }
@@ -258,7 +280,7 @@ impl<T: Told> Lineage<T> {
             v.items) }
     {
         let seed = self.config.seed();
-        let table = RowIndex::of(alloc, seed, self.above.as_slice(), &self.own)?;
+        let table = RowIndex::of(alloc, seed, self.above(), &self.own)?;
         rows_in_order(alloc, seed, Order::Superinterfaces, &table, row, false)
     }
 
@@ -272,7 +294,7 @@ impl<T: Told> Lineage<T> {
             v.items) }
     {
         let seed = self.config.seed();
-        let table = RowIndex::of(alloc, seed, self.above.as_slice(), &self.own)?;
+        let table = RowIndex::of(alloc, seed, self.above(), &self.own)?;
         rows_in_order(alloc, seed, Order::Fields, &table, &self.own, true)
     }
 }

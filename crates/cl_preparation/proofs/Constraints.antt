@@ -1,7 +1,7 @@
 -- What the rows of a lineage impose is what its tree does.
 use Rattle.std.proofs.Common.{◌≡◌, ◌<◌, ◌+◌, ℕ, Bool, true, false, not, ◌&&◌, ◌||◌, if◌then◌else◌, List, [], ◌∷◌, ◌++◌, map, filter, length, Option, Some, None, refl, ap, sym, subst, ◌∙◌, get_or, take, append-nil, append_assoc}
 use Rattle.std.specs.Prelude.{Result, Ok, Err, OnOk, option_map, is_some, find, flat_map, nat_le}
-use Rattle.std.specs.List.{list_any}
+use Rattle.std.specs.List.{AllByRecursion, list_any}
 use Rattle.std.proofs.lemmas.List.{take_more, map-append}
 use Rattle.std.proofs.lemmas.Grind.{flat_map-append}
 use Rattle.cl_classfile.specs.Files.{Name, Key, Member, file_of, is_interface}
@@ -12,7 +12,7 @@ use Rattle.cl_model.specs.States.{Need, Equal}
 use Rattle.cl_model.specs.declared.need.Equality.{Equality}
 use Rattle.cl_hierarchy.specs.Imposed.{equal_need, needs_of}
 use Rattle.cl_hierarchy.specs.Rows.{Rowed}
-use Rattle.cl_hierarchy.specs.Lineages.{Lined, kin_at, kin_of}
+use Rattle.cl_hierarchy.specs.Lineages.{IsRowIn, Lined, kin_at, kin_of, rows_in}
 use Rattle.cl_preparation.specs.Methods.{is_instance}
 use Rattle.cl_preparation.specs.Nearby.{first_loader}
 use Rattle.cl_preparation.specs.Relatives.{AreRelatives, bare, equals_for, of_superclasses}
@@ -262,6 +262,15 @@ pub mapped_rows : {A : Type 0} (f : A → Rowed) (rows_of : Kin → List Kin) (l
     → map (λ r. kin_at m (f r)) xs ≡ rows_of (kin_of m) → map (kin_at l) rows ≡ rows_of (kin_of l)
 mapped_rows f rows_of l m xs ys rows e ye made are =
     ap (map (kin_at l)) (made ∙ ap (map f) ye) ∙ map_through f l xs ∙ subst (λ (x : Lined). map (λ r. kin_at x (f r)) xs ≡ rows_of (kin_of x)) e are
+
+pub mapped_in : {A : Type 0} (f : A → Rowed) (l m : Lined) (xs ys : List A) (rows : List Rowed) → m ≡ l → ys ≡ xs → rows ≡ map f ys → AllByRecursion (λ r. IsRowIn (rows_in m) (f r)) xs
+    → AllByRecursion (IsRowIn (rows_in l)) rows
+mapped_in {A} f l m xs ys rows e ye made all =
+    subst (λ (rs : List Rowed). AllByRecursion (IsRowIn (rows_in l)) rs) (sym (made ∙ ap (map f) ye)) (through xs (subst (λ (x : Lined). AllByRecursion (λ r. IsRowIn (rows_in x) (f r)) xs) e all))
+  where
+    through : (zs : List A) → AllByRecursion (λ r. IsRowIn (rows_in l) (f r)) zs → AllByRecursion (IsRowIn (rows_in l)) (map f zs)
+    through [] h = tt
+    through (z ∷ zs) h = (h.0, through zs h.1)
 
 pub relatives_are : (l m : Lined) (own : Rowed) (above over : List Rowed) → m ≡ l → own ≡ l.own → map (kin_at l) above ≡ superclasses (kin_of l) → map (kin_at l) over ≡ superinterfaces (kin_of l) → AreRelatives m own above over
 relatives_are l m own above over e o a b = subst (λ (x : Lined). AreRelatives x own above over) (sym e) (record { own_is = o; above_are = a; over_are = b })

@@ -1,23 +1,25 @@
 -- The few equalities as rows tell them are those of the tree.
 use Rattle.std.proofs.Common.{◌≡◌, ◌<◌, ◌≤◌, ◌+◌, ℕ, Bool, true, false, ◌&&◌, ◌||◌, not, if◌then◌else◌, Option, Some, None, List, [], ◌∷◌, ◌++◌, map, filter, length, refl, ap, sym, subst, ◌∙◌, get_or, suc, drop, arith, append-nil, append_assoc}
 use Rattle.std.specs.Prelude.{◌==◌, find, flat_map, is_some, option_map}
-use Rattle.std.specs.List.{list_any}
+use Rattle.std.specs.List.{AllByRecursion, list_any}
 use Rattle.std.proofs.lemmas.Bool.{eqb-true, eq-eqb}
 use Rattle.cl_classfile.specs.Files.{Key, Member, file_of, is_interface}
+use Rattle.cl_model.specs.declared.class.Class.{Class}
 use Rattle.cl_model.specs.Lineages.{Kin, if_declared, method_of, superclasses, superinterfaces}
 use Rattle.cl_model.specs.Preparation.{constraints_of, equals_of, overridden, takes_part}
 use Rattle.cl_model.specs.States.{Need}
 use Rattle.cl_hierarchy.specs.Imposed.{AreEnough}
 use Rattle.cl_hierarchy.specs.Rows.{Rowed}
-use Rattle.cl_hierarchy.specs.Lineages.{Lined, kin_at, kin_of}
-use Rattle.cl_preparation.specs.Fewer.{equals_from, fewer_constraints_of, fewer_declared, fewer_inherited, is_new, loaders, loaders_over, other_than, others_after}
+use Rattle.cl_hierarchy.specs.Lineages.{IsRowIn, Lined, is_of_other, kin_at, kin_of, row_of, rows_in}
+use Rattle.cl_hierarchy.specs.Trees.{kins}
+use Rattle.cl_hierarchy.proofs.Away.{others_all, others_kins}
+use Rattle.cl_preparation.specs.Fewer.{equals_from, fewer_constraints_of, fewer_declared, fewer_inherited, fewer_second, is_new, loaders, loaders_over, other_than, others_after}
 use Rattle.cl_preparation.specs.Methods.{is_instance}
-use Rattle.cl_preparation.specs.Nearby.{AreNear, away_from, first_loader, near_declared, near_inherited, near_loaders, near_needs, near_second}
+use Rattle.cl_preparation.specs.Nearby.{AreNear, away_from, first_loader, near_declared, near_inherited, near_loaders, near_second}
 use Rattle.cl_preparation.specs.Relatives.{bare}
 use Rattle.cl_preparation.specs.Walks.{opens}
-use Rattle.cl_preparation.proofs.Constraints.{found_bare}
+use Rattle.cl_preparation.proofs.Constraints.{found_bare, mapped_in, mapped_rows}
 use Rattle.cl_preparation.proofs.Standing.{fewer_stand}
-use Rattle.cl_preparation.proofs.Named.{map_through}
 use Rattle.cl_preparation.proofs.Reached.{overridden_is_walked}
 use Rattle.cl_preparation.proofs.Thinned.{open_enough, others_both}
 use Rattle.cl_preparation.proofs.Walking.{drop_all, next_dropped}
@@ -65,19 +67,57 @@ listed_end test own listed total rows e = sym (append-nil listed) ∙ ap (λ (rs
 
 -- ---- the classes of other loaders
 
-away_step : (test : Kin → Bool) (own : ℕ) (listed : List ℕ) (r : Rowed) (rs : List Rowed) (same part new : Bool) → (own == r.class.loader) ≡ same → test (bare r) ≡ part → is_new own listed r.class.loader ≡ new
-    → ((before : List ℕ) → still test own before (away_from own rs) ≡ still test own before rs) → still test own listed (away_from own (r ∷ rs)) ≡ still test own listed (r ∷ rs)
-away_step test own listed r rs true false new s tp e rest = rw s (rw tp (rest listed))
-away_step test own listed r rs true true new s tp e rest = rw s (rw tp (rw s (rest listed)))
-away_step test own listed r rs false false new s tp e rest = rw s (rw tp (rest listed))
-away_step test own listed r rs false true true s tp e rest = rw s (rw tp (rw e (ap (λ (xs : List ℕ). r.class.loader ∷ xs) (rest (listed ++ r.class.loader ∷ [])))))
-away_step test own listed r rs false true false s tp e rest = rw s (rw tp (rw e (rest listed)))
+-- of these classes, those of another loader
+abbrev pub kins_from : ℕ → List Kin → List Kin
+kins_from own ks = filter (λ k. is_of_other own k.class) ks
+
+-- the loaders that are still to be listed, of classes of the tree
+abbrev still_of : (Kin → Bool) → ℕ → List ℕ → List Kin → List ℕ
+still_of test own listed ks = others_after own listed (loaders (filter test ks))
+
+away_step : (test : Kin → Bool) (own : ℕ) (listed : List ℕ) (k : Kin) (ks : List Kin) (same part new : Bool) → (own == k.class.loader) ≡ same → test k ≡ part → is_new own listed k.class.loader ≡ new
+    → ((before : List ℕ) → still_of test own before (kins_from own ks) ≡ still_of test own before ks) → still_of test own listed (kins_from own (k ∷ ks)) ≡ still_of test own listed (k ∷ ks)
+away_step test own listed k ks true false new s tp e rest = rw s (rw tp (rest listed))
+away_step test own listed k ks true true new s tp e rest = rw s (rw tp (rw s (rest listed)))
+away_step test own listed k ks false false new s tp e rest = rw s (rw tp (rest listed))
+away_step test own listed k ks false true true s tp e rest = rw s (rw tp (rw e (ap (λ (xs : List ℕ). k.class.loader ∷ xs) (rest (listed ++ k.class.loader ∷ [])))))
+away_step test own listed k ks false true false s tp e rest = rw s (rw tp (rw e (rest listed)))
 
 -- those of the own loader list nothing
-away_enough : (test : Kin → Bool) (own : ℕ) (listed : List ℕ) (rs : List Rowed) → still test own listed (away_from own rs) ≡ still test own listed rs
+away_enough : (test : Kin → Bool) (own : ℕ) (listed : List ℕ) (ks : List Kin) → still_of test own listed (kins_from own ks) ≡ still_of test own listed ks
 away_enough test own listed [] = refl
-away_enough test own listed (r ∷ rs) =
-    away_step test own listed r rs (own == r.class.loader) (test (bare r)) (is_new own listed r.class.loader) refl refl refl (λ before. away_enough test own before rs)
+away_enough test own listed (k ∷ ks) =
+    away_step test own listed k ks (own == k.class.loader) (test k) (is_new own listed k.class.loader) refl refl refl (λ before. away_enough test own before ks)
+
+-- ---- the rows of a lineage
+
+some_row : (x y : Rowed) → (let o : Option Rowed = Some x in o) ≡ Some y → x ≡ y
+some_row x y e = cc
+
+-- a class has one row
+one_row : (rows : List Rowed) (x y : Rowed) → IsRowIn rows x → IsRowIn rows y → x.class ≡ y.class → x ≡ y
+one_row rows x y at_x at_y same = some_row x y (sym at_x ∙ ap (λ (c : Class). row_of rows c) same ∙ at_y)
+
+first_kin : (x y : Kin) (xs ys : List Kin) → x ∷ xs ≡ y ∷ ys → x ≡ y
+first_kin x y xs ys e = cc
+
+rest_kins : (x y : Kin) (xs ys : List Kin) → x ∷ xs ≡ y ∷ ys → xs ≡ ys
+rest_kins x y xs ys e = cc
+
+rows_same : (l : Lined) (xs ys : List Rowed) → AllByRecursion (IsRowIn (rows_in l)) xs → AllByRecursion (IsRowIn (rows_in l)) ys → map (kin_at l) xs ≡ map (kin_at l) ys → xs ≡ ys
+rows_same l [] [] in_x in_y e = refl
+rows_same l [] (y ∷ ys) in_x in_y e = absurd cc
+rows_same l (x ∷ xs) [] in_x in_y e = absurd cc
+rows_same l (x ∷ xs) (y ∷ ys) in_x in_y e =
+    ap (λ (r : Rowed). r ∷ xs) (one_row (rows_in l) x y in_x.0 in_y.0 (ap (λ (k : Kin). k.class) (first_kin (kin_at l x) (kin_at l y) (map (kin_at l) xs) (map (kin_at l) ys) e)))
+    ∙ ap (λ (rs : List Rowed). y ∷ rs) (rows_same l xs ys in_x.1 in_y.1 (rest_kins (kin_at l x) (kin_at l y) (map (kin_at l) xs) (map (kin_at l) ys) e))
+
+-- those of another loader are the same, however they were found
+pub away_rows : (l : Lined) (away above : List Rowed) → map (kin_at l) away ≡ kins_from l.own.class.loader (superclasses (kin_of l)) → AllByRecursion (IsRowIn (rows_in l)) away → map (kin_at l) above ≡ superclasses (kin_of l)
+    → AllByRecursion (IsRowIn (rows_in l)) above → away ≡ away_from l.own.class.loader above
+away_rows l away above are in_away all in_above =
+    let own : ℕ = l.own.class.loader in
+    rows_same l away (away_from own above) in_away (others_all own (IsRowIn (rows_in l)) above in_above) (are ∙ ap (kins_from own) (sym all) ∙ sym (others_kins own (kins l.above) above))
 
 -- ---- rows and the tree
 
@@ -98,37 +138,35 @@ taking_bare key l (r ∷ rs) = one_bare l r (filter (takes_part key) (map (kin_a
 own_known : (own : ℕ) → is_new own [] own ≡ false
 own_known own = rw (eq-eqb own own refl) refl
 
-pub up_near : (key : Key) (l : Lined) (above away : List Rowed) (b : Bool) → takes_part key (kin_of l) ≡ true → away ≡ away_from l.own.class.loader above → map (kin_at l) above ≡ superclasses (kin_of l)
+pub up_near : (key : Key) (l : Lined) (away : List Rowed) (b : Bool) → takes_part key (kin_of l) ≡ true → map (kin_at l) away ≡ kins_from l.own.class.loader (superclasses (kin_of l))
     → others_after l.own.class.loader [] (if b then [] else loaders (filter (opens key) (map bare away))) ≡ others_after l.own.class.loader [] (loaders (if b then [] else overridden key (kin_of l)))
-up_near key l above away true tp ae are = refl
-up_near key l above away false tp ae are =
+up_near key l away true tp are = refl
+up_near key l away false tp are =
     let own : ℕ = l.own.class.loader in
-    ap (λ (rs : List Rowed). still (opens key) own [] rs) ae ∙ away_enough (opens key) own [] above
-    ∙ ap (others_after own []) (sym (open_bare key l above) ∙ ap (λ (ks : List Kin). loaders (filter (opens key) ks)) are)
+    ap (others_after own []) (sym (open_bare key l away)) ∙ ap (λ (ks : List Kin). still_of (opens key) own [] ks) are ∙ away_enough (opens key) own [] (superclasses (kin_of l))
     ∙ sym (open_enough key own [] (l.own.class ∷ []) (superclasses (kin_of l)) (own_known own, tt))
     ∙ ap (λ (ks : List Kin). others_after own [] (loaders ks)) (sym (overridden_is_walked key (kin_of l) tp))
 
-near_over : (key : Key) (l : Lined) (above away over : List Rowed) → takes_part key (kin_of l) ≡ true → AreNear l l.own above away over
-    → near_loaders l.own away over key ≡ others_after l.own.class.loader [] (loaders_over (kin_of l) key)
-near_over key l above away over tp are =
+near_over : (key : Key) (l : Lined) (away over : List Rowed) → takes_part key (kin_of l) ≡ true → AreNear l l.own away over → near_loaders l.own away over key ≡ others_after l.own.class.loader [] (loaders_over (kin_of l) key)
+near_over key l away over tp are =
     let own : ℕ = l.own.class.loader in
     let up : List ℕ = if is_interface (file_of l.own.file) then [] else loaders (filter (opens key) (map bare away)) in
     let tree : List ℕ = loaders (if is_interface (kin_of l).file then [] else overridden key (kin_of l)) in
     let taking : List ℕ = loaders (filter (takes_part key) (superinterfaces (kin_of l))) in
     others_both own [] up (loaders (filter (takes_part key) (map bare over)))
     ∙ ap (λ (xs : List ℕ). others_after own [] up ++ others_after own (others_after own [] up) xs) (sym (taking_bare key l over) ∙ ap (λ (ks : List Kin). loaders (filter (takes_part key) ks)) are.over_are)
-    ∙ ap (λ (xs : List ℕ). xs ++ others_after own xs taking) (up_near key l above away (is_interface (file_of l.own.file)) tp are.away_are are.above_are)
+    ∙ ap (λ (xs : List ℕ). xs ++ others_after own xs taking) (up_near key l away (is_interface (file_of l.own.file)) tp are.away_are)
     ∙ sym (others_both own [] tree taking)
 
 pub if_same : (b : Bool) (xs ys : List Need) → (b ≡ true → xs ≡ ys) → (if b then xs else []) ≡ (if b then ys else [])
 if_same true xs ys f = f refl
 if_same false xs ys f = refl
 
-declared_here : (l : Lined) (above away over : List Rowed) (m : Member) → AreNear l l.own above away over → near_declared l.own away over m ≡ fewer_declared (kin_of l) m
-declared_here l above away over m are =
+declared_here : (l : Lined) (away over : List Rowed) (m : Member) → AreNear l l.own away over → near_declared l.own away over m ≡ fewer_declared (kin_of l) m
+declared_here l away over m are =
     let f : ℕ → List Need = equals_of m.key l.own.class.loader in
     if_same (takes_part m.key (kin_of l)) (flat_map f (near_loaders l.own away over m.key)) (flat_map f (others_after l.own.class.loader [] (loaders_over (kin_of l) m.key)))
-    (λ tp. ap (flat_map f) (near_over m.key l above away over tp are))
+    (λ tp. ap (flat_map f) (near_over m.key l away over tp are))
 
 -- ---- the second half
 
@@ -145,8 +183,7 @@ second_bare : (l : Lined) (rs : List Rowed) → flat_map (λ (j : Kin). flat_map
 second_bare l [] = refl
 second_bare l (r ∷ rs) = ap (λ ns. flat_map (fewer_inherited (kin_of l) (bare r)) (file_of r.file).methods ++ ns) (second_bare l rs)
 
-second_here : (l : Lined) (above over : List Rowed) → map (kin_at l) above ≡ superclasses (kin_of l) → map (kin_at l) over ≡ superinterfaces (kin_of l)
-    → near_second l.own above over ≡ flat_map (λ (j : Kin). flat_map (fewer_inherited (kin_of l) j) j.file.methods) (superinterfaces (kin_of l))
+second_here : (l : Lined) (above over : List Rowed) → map (kin_at l) above ≡ superclasses (kin_of l) → map (kin_at l) over ≡ superinterfaces (kin_of l) → near_second l.own above over ≡ fewer_second (kin_of l)
 second_here l above over are overs =
     flat_same (λ (j : Rowed). flat_map (near_inherited l.own above j) (bare j).file.methods) (λ (j : Rowed). flat_map (fewer_inherited (kin_of l) (bare j)) (bare j).file.methods) over
     (λ j. flat_same (near_inherited l.own above j) (fewer_inherited (kin_of l) (bare j)) (bare j).file.methods (λ m. inherited_here l above j m are))
@@ -154,31 +191,53 @@ second_here l above over are overs =
 
 -- ---- all
 
-needs_here : (l : Lined) (above away over : List Rowed) → AreNear l l.own above away over → near_needs l.own above away over ≡ fewer_constraints_of (kin_of l)
-needs_here l above away over are =
-    ap (λ ns. ns ++ (if is_interface (file_of l.own.file) then [] else near_second l.own above over))
-    (flat_same (near_declared l.own away over) (fewer_declared (kin_of l)) (bare l.own).file.methods (λ m. declared_here l above away over m are))
-    ∙ ap (λ ns. flat_map (fewer_declared (kin_of l)) (kin_of l).file.methods ++ (if is_interface (kin_of l).file then [] else ns)) (second_here l above over are.above_are are.over_are)
+-- what the rows of a class impose is what the tree does
+declared_near : (l : Lined) (own : Rowed) (away over : List Rowed) → AreNear l own away over → flat_map (near_declared own away over) (bare own).file.methods ≡ flat_map (fewer_declared (kin_of l)) (kin_of l).file.methods
+declared_near l own away over are =
+    ap (λ (r : Rowed). flat_map (near_declared r away over) (bare r).file.methods) are.own_is
+    ∙ flat_same (near_declared l.own away over) (fewer_declared (kin_of l)) (bare l.own).file.methods (λ m. declared_here l away over m (subst (λ (r : Rowed). AreNear l r away over) are.own_is are))
 
--- what the rows impose is what the tree does
-pub near_is : (l : Lined) (own : Rowed) (above away over : List Rowed) → AreNear l own above away over → near_needs own above away over ≡ fewer_constraints_of (kin_of l)
-near_is l own above away over are =
-    ap (λ (r : Rowed). near_needs r above away over) are.own_is
-    ∙ needs_here l above away over (subst (λ (r : Rowed). AreNear l r above away over) are.own_is are)
+-- all that is imposed
+pub needs_told : (l : Lined) (own : Rowed) (away over : List Rowed) (ms xs : List Member) (none one all : List Need) → AreNear l own away over → ms ≡ (bare own).file.methods → xs ≡ ms → none ≡ []
+    → one ≡ none ++ flat_map (near_declared own away over) xs → all ≡ one ++ (if is_interface (file_of own.file) then [] else fewer_second (kin_of l)) → all ≡ fewer_constraints_of (kin_of l)
+needs_told l own away over ms xs none one all near made same empty first second =
+    let rest : List Need = if is_interface (file_of own.file) then [] else fewer_second (kin_of l) in
+    second
+    ∙ ap (λ ns. ns ++ rest) (first ∙ ap (λ ns. ns ++ flat_map (near_declared own away over) xs) empty ∙ ap (flat_map (near_declared own away over)) (same ∙ made) ∙ declared_near l own away over near)
+    ∙ ap (λ (r : Rowed). flat_map (fewer_declared (kin_of l)) (kin_of l).file.methods ++ (if is_interface (file_of r.file) then [] else fewer_second (kin_of l))) near.own_is
 
--- the same of the rows of a lineage
-pub near_given : {A : Type 0} (f : A → Rowed) (l m : Lined) (own : Rowed) (xs ys zs : List A) (away over : List Rowed) → m ≡ l → own ≡ l.own → ys ≡ xs → zs ≡ xs
-    → map (λ r. kin_at m (f r)) xs ≡ superclasses (kin_of m) → away ≡ away_from own.class.loader (map f ys) → map (kin_at l) over ≡ superinterfaces (kin_of l)
-    → near_needs own (map f zs) away over ≡ fewer_constraints_of (kin_of l)
-near_given f l m own xs ys zs away over same mine one two above others overs =
-    let rows : List Rowed = map f xs in
-    ap (λ zs. near_needs own (map f zs) away over) two
-    ∙ near_is l own rows away over (record {
-      own_is = mine;
-      away_are = others ∙ ap (λ ys. away_from own.class.loader (map f ys)) one;
-      above_are = map_through f l xs ∙ subst (λ (x : Lined). map (λ r. kin_at x (f r)) xs ≡ superclasses (kin_of x)) same above;
-      over_are = overs;
-    })
+-- and so with the rows of its superclasses
+module _ {A : Type 0} (f : A → Rowed) (l m : Lined) (own : Rowed) (xs ys : List A) (away over above : List Rowed) (near : AreNear l own away over) (same : m ≡ l) (one : ys ≡ xs) (made : above ≡ map f ys)
+    (are : map (λ r. kin_at m (f r)) xs ≡ superclasses (kin_of m)) (within : AllByRecursion (λ r. IsRowIn (rows_in m) (f r)) xs) where
+  above_are : map (kin_at l) above ≡ superclasses (kin_of l)
+  above_are = mapped_rows f superclasses l m xs ys above same one made are
+
+  pub away_given : away ≡ away_from own.class.loader above
+  away_given =
+      away_rows l away above near.away_are near.away_in above_are (mapped_in f l m xs ys above same one made within) ∙ ap (λ (r : Rowed). away_from r.class.loader above) (sym near.own_is)
+
+  pub second_given : (rs : List Rowed) → rs ≡ over → near_second own above rs ≡ fewer_second (kin_of l)
+  second_given rs is = ap (near_second own above) is ∙ ap (λ (r : Rowed). near_second r above over) near.own_is ∙ second_here l above over above_are near.over_are
+
+-- superinterfaces that declare nothing
+nothing_left : (xs ys : List Member) → xs ++ ys ≡ [] → xs ≡ []
+nothing_left [] ys e = refl
+nothing_left (x ∷ xs) ys e = absurd cc
+
+nothing_right : (xs ys : List Member) → xs ++ ys ≡ [] → ys ≡ []
+nothing_right [] ys e = e
+nothing_right (x ∷ xs) ys e = absurd cc
+
+none_there : (c : Kin) (rs : List Rowed) → flat_map (λ (r : Rowed). (bare r).file.methods) rs ≡ [] → flat_map (λ (j : Rowed). flat_map (fewer_inherited c (bare j)) (bare j).file.methods) rs ≡ []
+none_there c [] none = refl
+none_there c (r ∷ rs) none =
+    let more : List Member = flat_map (λ (x : Rowed). (bare x).file.methods) rs in
+    ap (λ (ms : List Member). flat_map (fewer_inherited c (bare r)) ms ++ flat_map (λ (j : Rowed). flat_map (fewer_inherited c (bare j)) (bare j).file.methods) rs) (nothing_left (bare r).file.methods more none)
+    ∙ none_there c rs (nothing_right (bare r).file.methods more none)
+
+pub second_none : (l : Lined) (own : Rowed) (away over rs : List Rowed) → AreNear l own away over → rs ≡ over → flat_map (λ (r : Rowed). (bare r).file.methods) rs ≡ [] → [] ≡ fewer_second (kin_of l)
+second_none l own away over rs near same none =
+    sym (ap (flat_map (λ (j : Kin). flat_map (fewer_inherited (kin_of l) j) j.file.methods)) (sym near.over_are) ∙ second_bare l over ∙ none_there (kin_of l) over (ap (flat_map (λ (r : Rowed). (bare r).file.methods)) (sym same) ∙ none))
 
 none_of_none : (few : List Need) → length few ≤ 0 → [] ≡ few
 none_of_none [] h = refl
@@ -204,28 +263,6 @@ near_listed own away over xs key loader empty up all same none le first second =
     second ∙ ap (λ (rs : List Rowed). up ++ others_after loader up (loaders (filter (takes_part key) (map bare rs)))) same ∙ ap (λ (x : ℕ). up ++ others_after x up taking) le
     ∙ ap (λ (xs : List ℕ). xs ++ others_after mine xs taking) (first ∙ ap (λ (xs : List ℕ). xs ++ others_after mine xs above) none)
     ∙ sym (others_both mine [] above taking)
-
--- superinterfaces that declare nothing
-nothing_left : (xs ys : List Member) → xs ++ ys ≡ [] → xs ≡ []
-nothing_left [] ys e = refl
-nothing_left (x ∷ xs) ys e = absurd cc
-
-nothing_right : (xs ys : List Member) → xs ++ ys ≡ [] → ys ≡ []
-nothing_right [] ys e = e
-nothing_right (x ∷ xs) ys e = absurd cc
-
-none_second : (own : Rowed) (above rs : List Rowed) → flat_map (λ (r : Rowed). (bare r).file.methods) rs ≡ [] → near_second own above rs ≡ []
-none_second own above [] none = refl
-none_second own above (r ∷ rs) none =
-    let more : List Member = flat_map (λ (x : Rowed). (bare x).file.methods) rs in
-    ap (λ (ms : List Member). flat_map (near_inherited own above r) ms ++ near_second own above rs) (nothing_left (bare r).file.methods more none)
-    ∙ none_second own above rs (nothing_right (bare r).file.methods more none)
-
-pub second_passed : (own : Rowed) (above over rs : List Rowed) (inter : Bool) (old : List Need) → rs ≡ over → flat_map (λ (r : Rowed). (bare r).file.methods) rs ≡ []
-    → old ≡ old ++ (if inter then [] else near_second own above over)
-second_passed own above over rs true old same none = sym (append-nil old)
-second_passed own above over rs false old same none =
-    sym (append-nil old) ∙ ap (λ ns. old ++ ns) (sym (ap (near_second own above) (sym same) ∙ none_second own above rs none))
 
 -- ---- the search for what is inherited
 

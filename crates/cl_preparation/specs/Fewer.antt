@@ -55,9 +55,13 @@ fewer_inherited c j m =
     then equals_from m.key j.class.loader (other_than j.class.loader (option_map (λ a. a.class.loader) (inherited_from c m.key)))
     else []
 
+-- second half: what all superinterfaces of c impose with what it inherits (5.4.2)
+abbrev pub fewer_second : Kin → List Need
+fewer_second c = flat_map (λ j. flat_map (fewer_inherited c j) j.file.methods) (superinterfaces c)
+
 -- of the loading constraints that the preparation of a class imposes, in order: none of a loader
 -- with itself, and for each method that it declares each loader once (5.4.2)
 abbrev pub fewer_constraints_of : Kin → List Need
 fewer_constraints_of c =
     flat_map (fewer_declared c) c.file.methods
-    ++ (if is_interface c.file then [] else flat_map (λ j. flat_map (fewer_inherited c j) j.file.methods) (superinterfaces c))
+    ++ (if is_interface c.file then [] else fewer_second c)

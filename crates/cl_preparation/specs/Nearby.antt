@@ -1,11 +1,12 @@
 -- What is looked at for the few equalities of a preparation, as rows (JVMS SE 8, 5.4.2).
 use Rattle.std.specs.Prelude.{◌≡◌, ◌==◌, ℕ, ◌&&◌, not, if◌then◌else◌, List, [], ◌++◌, map, filter, find, flat_map, Option, is_some, option_map}
+use Rattle.std.specs.List.{AllByRecursion}
 use Rattle.cl_classfile.specs.Files.{Key, Member, file_of, is_interface}
 use Rattle.cl_model.specs.Lineages.{if_declared, method_of, superclasses, superinterfaces}
 use Rattle.cl_model.specs.Preparation.{equals_of, takes_part}
 use Rattle.cl_model.specs.States.{Need}
 use Rattle.cl_hierarchy.specs.Rows.{Rowed}
-use Rattle.cl_hierarchy.specs.Lineages.{Lined, kin_at, kin_of}
+use Rattle.cl_hierarchy.specs.Lineages.{IsRowIn, Lined, is_of_other, kin_at, kin_of, rows_in}
 use Rattle.cl_preparation.specs.Fewer.{equals_from, loaders, other_than, others_after}
 use Rattle.cl_preparation.specs.Methods.{is_instance}
 use Rattle.cl_preparation.specs.Relatives.{bare}
@@ -15,12 +16,13 @@ use Rattle.cl_preparation.specs.Walks.{opens}
 abbrev pub away_from : ℕ → List Rowed → List Rowed
 away_from own rs = filter (λ r. not (own == r.class.loader)) rs
 
--- the rows of a class, of its superclasses, of those of another loader, and of its superinterfaces
--- (5.4.2)
-pub record AreNear (l : Lined) (own : Rowed) (above away over : List Rowed) : Type 0 where
+-- the rows of a class, of its superclasses of other loaders, and of its superinterfaces (5.4.2)
+pub record AreNear (l : Lined) (own : Rowed) (away over : List Rowed) : Type 0 where
   pub own_is : own ≡ l.own
-  pub away_are : away ≡ away_from own.class.loader above
-  pub above_are : map (kin_at l) above ≡ superclasses (kin_of l)
+  pub away_are :
+      map (kin_at l) away
+      ≡ filter (λ k. is_of_other l.own.class.loader k.class) (superclasses (kin_of l))
+  pub away_in : AllByRecursion (IsRowIn (rows_in l)) away
   pub over_are : map (kin_at l) over ≡ superinterfaces (kin_of l)
 
 -- the loader of the first of these that declares a method with this key that is neither private nor
@@ -55,9 +57,3 @@ near_inherited own above j m =
 abbrev pub near_second : Rowed → List Rowed → List Rowed → List Need
 near_second own above over =
     flat_map (λ j. flat_map (near_inherited own above j) (bare j).file.methods) over
-
--- all that is imposed (5.4.2)
-abbrev pub near_needs : Rowed → List Rowed → List Rowed → List Rowed → List Need
-near_needs own above away over =
-    flat_map (near_declared own away over) (bare own).file.methods
-    ++ (if is_interface (file_of own.file) then [] else near_second own above over)

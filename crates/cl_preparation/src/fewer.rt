@@ -6,10 +6,10 @@ ghost use Rattle.cl_classfile.specs.Files.{file_of, is_interface};
 ghost use Rattle.cl_model.specs.Lineages.{if_declared, method_of, superclasses};
 ghost use Rattle.cl_model.specs.Preparation.{constraints_of};
 ghost use Rattle.cl_hierarchy.specs.Imposed.{AreEnough, OfPreparation, needs_of};
-ghost use Rattle.cl_hierarchy.specs.Lineages.{IsRowIn, kin_at, kin_of, rows_in};
-ghost use Rattle.cl_preparation.specs.Fewer.{fewer_constraints_of, loaders, other_than, others_after};
+ghost use Rattle.cl_hierarchy.specs.Lineages.{IsRowIn, is_of_other, kin_at, kin_of, rows_in};
+ghost use Rattle.cl_preparation.specs.Fewer.{fewer_constraints_of, fewer_second, loaders, other_than, others_after};
 ghost use Rattle.cl_preparation.specs.Methods.{is_instance};
-ghost use Rattle.cl_preparation.specs.Nearby.{away_from, first_loader, near_declared, near_inherited, near_loaders, near_needs, near_second};
+ghost use Rattle.cl_preparation.specs.Nearby.{AreNear, away_from, first_loader, near_declared, near_inherited, near_loaders, near_second};
 ghost use Rattle.cl_preparation.specs.Relatives.{bare};
 ghost use Rattle.cl_preparation.specs.Walks.{opens};
 
@@ -17,17 +17,17 @@ use crate::described::{Described, push_equals};
 use crate::key::MethodKey;
 use crate::listed::{list_open, list_taking, push_listed};
 use crate::method::Method;
-use crate::quiet::{any_instance, over_of};
+use crate::quiet::{any_instance, are_quiet};
 use crate::relative::Relative;
-use crate::relatives::{all_of, imposes_nothing};
+use crate::relatives::{all_of, imposes_nothing, superinterfaces_of};
 use crate::walk::inherited_loader;
-use cl_hierarchy::{ClassRow, Equalities, Lineage};
+use cl_hierarchy::{Equalities, Lineage};
 use cl_model::{Equality, LoaderId, Told};
 use std::alloc::{AllocError, Global};
 use std::sync::Arc;
 
 /// A class with what its methods are looked up in: its superclasses of other loaders than its own, nearest first, and its
-/// superinterfaces in preorder, or none where these add nothing.
+/// superinterfaces in preorder.
 #[derive(Drop)]
 struct Nearby<T: Told> {
     own: Relative<T>,
@@ -35,22 +35,20 @@ struct Nearby<T: Told> {
     over: Vec<Relative<T>>,
 }
 
-/// Of the classes of these rows, those of another loader.
+/// The superclasses of other loaders than the class's own, nearest first.
 fn away_of<T: Told>(
     alloc: Global,
-    own: LoaderId,
-    rows: &[Arc<ClassRow<T>>],
+    lineage: &Arc<Lineage<T>>,
 ) -> Result<Vec<Relative<T>>, AllocError>
-    ensures { IfOk result (λ v. v.items ≡ away_from own (map (λ r. r.value) rows.now)) }
+    ensures classes { IfOk result (λ v. map (kin_at lineage.now.value) v.items
+        ≡ filter (λ k. is_of_other (kin_of lineage.now.value).class.loader k.class)
+        (superclasses (kin_of lineage.now.value))) }
+    ensures rows { IfOk result (λ v. AllByRecursion (IsRowIn (rows_in lineage.now.value)) v.items) }
 {
-    let mut away = Vec::new(alloc);
-    for row in rows {
-        // mostly: all but java/lang/Object are of one loader
-        if own != row.class().loader {
-            away.push(Relative::of(alloc, row)?)?;
-        }
-    }
-    Ok(away)
+    // mostly one: all but java/lang/Object are of one loader
+    let rows = lineage.superclasses_of_others(alloc)?;
+    let all = all_of(alloc, rows.as_slice())?;
+    Ok(all)
 }
 
 /// Whether one of these classes declares methods.
@@ -76,25 +74,39 @@ fn other_than(of: LoaderId, loader: Option<LoaderId>) -> Option<LoaderId>
 }
 
 impl<T: Told> Nearby<T> {
-    /// The class of a lineage, the rows of whose superclasses these are.
+    /// The class of a lineage, of whose superclasses these are those of other loaders.
     fn of(
         alloc: Global,
         lineage: &Arc<Lineage<T>>,
-        rows: &[Arc<ClassRow<T>>],
+        away: Vec<Relative<T>>,
     ) -> Result<Nearby<T>, AllocError>
-        requires above { map (λ r. kin_at lineage.now.value r.value) rows.now ≡ superclasses
-            (kin_of lineage.now.value) }
-        requires rows { AllByRecursion (λ r. IsRowIn (rows_in lineage.now.value) r.value)
-            rows.now }
-        ensures away { IfOk result (λ n. n.away.items ≡ away_from n.own.class.loader
-            (map (λ r. r.value) rows.now)) }
-        ensures needs { IfOk result (λ n. near_needs n.own (map (λ r. r.value) rows.now)
-            n.away.items n.over.items ≡ fewer_constraints_of (kin_of lineage.now.value)) }
+        requires classes { map (kin_at lineage.now.value) away.items
+            ≡ filter (λ k. is_of_other (kin_of lineage.now.value).class.loader k.class)
+            (superclasses (kin_of lineage.now.value)) }
+        requires rows { AllByRecursion (IsRowIn (rows_in lineage.now.value)) away.items }
+        ensures { IfOk result (λ n. AreNear lineage.now.value n.own n.away.items n.over.items) }
+    {
+        let over = superinterfaces_of(alloc, lineage)?;
+        let own = Relative::of(alloc, lineage.own())?;
+        Ok(Nearby { own, away, over })
+    }
+
+    /// The same without its superinterfaces.
+    fn alone(
+        alloc: Global,
+        lineage: &Arc<Lineage<T>>,
+        away: Vec<Relative<T>>,
+    ) -> Result<Nearby<T>, AllocError>
+        ensures own { IfOk result (λ n. n.own ≡ lineage.now.value.own) }
+        ensures away { IfOk result (λ n. n.away.items ≡ away.items) }
+        ensures over { IfOk result (λ n. n.over.items ≡ []) }
     {
         let own = Relative::of(alloc, lineage.own())?;
-        let away = away_of(alloc, own.loader(), rows)?;
-        let over = over_of(alloc, lineage, rows, away.as_slice())?;
-        Ok(Nearby { own, away, over })
+        Ok(Nearby {
+            own,
+            away,
+            over: Vec::new(alloc),
+        })
     }
 
     /// Lists, once each, the other loaders of superclasses that declare a public or protected method with this key; of an
@@ -275,44 +287,104 @@ impl<T: Told> Nearby<T> {
         Ok(())
     }
 
-    /// Adds what is inherited where the class is no interface.
-    fn push_second(
+    /// Adds what all superinterfaces of the class of this lineage impose with what it inherits.
+    fn push_over(
         &self,
         alloc: Global,
         needs: &mut Vec<Equality>,
-        rows: &[Arc<ClassRow<T>>],
+        lineage: &Arc<Lineage<T>>,
     ) -> Result<(), AllocError>
-        requires { self.now.away.items ≡ away_from self.now.own.class.loader (map (λ r. r.value)
-            rows.now) }
-        ensures { OnOk result (needs_of needs.new.items ≡ needs_of needs.old.items
-            ++ (if is_interface (file_of self.now.own.file) then [] else near_second self.now.own
-            (map (λ r. r.value) rows.now) self.now.over.items)) }
+        requires { AreNear lineage.now.value self.now.own self.now.away.items self.now.over.items }
+        ensures { OnOk result (needs_of needs.new.items ≡ needs_of needs.old.items ++ fewer_second
+            (kin_of lineage.now.value)) }
     {
-        if self.own.is_interface() {
-            return Ok(());
-        }
         let over = self.over.as_slice();
         // else no superclass is looked at but for its loader
         if !any_has_methods(over) {
             return Ok(());
         }
-        let above = all_of(alloc, rows)?;
+        let rows = lineage.superclasses(alloc)?;
+        let above = all_of(alloc, rows.as_slice())?;
         self.push_each_inherited(alloc, needs, above.as_slice(), over)
     }
 
-    /// What the preparation of the class imposes, each other loader once for a method.
-    fn needs(&self, alloc: Global, rows: &[Arc<ClassRow<T>>]) -> Result<Vec<Equality>, AllocError>
-        requires { self.now.away.items ≡ away_from self.now.own.class.loader (map (λ r. r.value)
-            rows.now) }
-        ensures { IfOk result (λ v. needs_of v.items ≡ near_needs self.now.own (map (λ r. r.value)
-            rows.now) self.now.away.items self.now.over.items) }
+    /// Adds what is inherited where the class is no interface.
+    fn push_second(
+        &self,
+        alloc: Global,
+        needs: &mut Vec<Equality>,
+        lineage: &Arc<Lineage<T>>,
+    ) -> Result<(), AllocError>
+        requires { AreNear lineage.now.value self.now.own self.now.away.items self.now.over.items }
+        ensures { OnOk result (needs_of needs.new.items ≡ needs_of needs.old.items
+            ++ (if is_interface (file_of self.now.own.file) then [] else fewer_second
+            (kin_of lineage.now.value))) }
+    {
+        if self.own.is_interface() {
+            return Ok(());
+        }
+        self.push_over(alloc, needs, lineage)
+    }
+
+    /// What the methods of the class impose.
+    fn declared_needs(&self, alloc: Global) -> Result<Vec<Equality>, AllocError>
+        ensures { IfOk result (λ v. needs_of v.items ≡ flat_map (near_declared self.now.own
+            self.now.away.items self.now.over.items) (bare self.now.own).file.methods) }
     {
         let mut needs = Vec::new(alloc);
         let methods = self.own.methods(alloc)?;
         self.push_each_declared(alloc, &mut needs, methods.as_slice())?;
-        self.push_second(alloc, &mut needs, rows)?;
         Ok(needs)
     }
+
+    /// What the preparation of the class of this lineage imposes, each other loader once for a method.
+    fn needs(&self, alloc: Global, lineage: &Arc<Lineage<T>>) -> Result<Vec<Equality>, AllocError>
+        requires { AreNear lineage.now.value self.now.own self.now.away.items self.now.over.items }
+        ensures { IfOk result (λ v. needs_of v.items
+            ≡ fewer_constraints_of (kin_of lineage.now.value)) }
+    {
+        let mut needs = Vec::new(alloc);
+        let methods = self.own.methods(alloc)?;
+        self.push_each_declared(alloc, &mut needs, methods.as_slice())?;
+        self.push_second(alloc, &mut needs, lineage)?;
+        Ok(needs)
+    }
+}
+
+/// The few of a class whose superinterfaces add nothing.
+fn quiet_needs<T: Told>(
+    alloc: Global,
+    lineage: &Arc<Lineage<T>>,
+    away: Vec<Relative<T>>,
+) -> Result<Vec<Equality>, AllocError>
+    requires { flat_map (near_declared lineage.now.value.own away.items [])
+        (bare lineage.now.value.own).file.methods ≡ fewer_constraints_of (kin_of lineage.now.value) }
+    ensures { IfOk result (λ v. needs_of v.items ≡ fewer_constraints_of
+        (kin_of lineage.now.value)) }
+{
+    let alone = Nearby::alone(alloc, lineage, away)?;
+    let needs = alone.declared_needs(alloc);
+    drop(alone);
+    needs
+}
+
+/// The few of a class whose superinterfaces may add to them.
+fn loud_needs<T: Told>(
+    alloc: Global,
+    lineage: &Arc<Lineage<T>>,
+    away: Vec<Relative<T>>,
+) -> Result<Vec<Equality>, AllocError>
+    requires classes { map (kin_at lineage.now.value) away.items
+        ≡ filter (λ k. is_of_other (kin_of lineage.now.value).class.loader k.class)
+        (superclasses (kin_of lineage.now.value)) }
+    requires rows { AllByRecursion (IsRowIn (rows_in lineage.now.value)) away.items }
+    ensures { IfOk result (λ v. needs_of v.items ≡ fewer_constraints_of
+        (kin_of lineage.now.value)) }
+{
+    let nearby = Nearby::of(alloc, lineage, away)?;
+    let needs = nearby.needs(alloc, lineage);
+    drop(nearby);
+    needs
 }
 
 /// The few equalities that stand for all that the preparation of a class imposes.
@@ -326,11 +398,12 @@ fn fewer_needs<T: Told>(
     if imposes_nothing(alloc, lineage)? {
         return Ok(Vec::new(alloc));
     }
-    let rows = lineage.superclasses(alloc)?;
-    let nearby = Nearby::of(alloc, lineage, rows.as_slice())?;
-    let needs = nearby.needs(alloc, rows.as_slice());
-    drop(nearby);
-    needs
+    let away = away_of(alloc, lineage)?;
+    // mostly, and a tour through all rows takes longer
+    if are_quiet(alloc, lineage, away.as_slice())? {
+        return quiet_needs(alloc, lineage, away);
+    }
+    loud_needs(alloc, lineage, away)
 }
 
 /// The loading constraints that the preparation of a class imposes, in order, but for such as always stand where those before

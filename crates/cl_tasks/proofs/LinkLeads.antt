@@ -20,7 +20,7 @@ use Rattle.cl_model.specs.Lineages.{Kin, IsLineage, lineage}
 use Rattle.cl_model.specs.Machine.{Setting, IsSound}
 use Rattle.cl_model.specs.Preparation.{constraints_of}
 use Rattle.cl_model.specs.Service.{ComesTo}
-use Rattle.cl_model.specs.States.{State, Need, IsLinked, IsNext, Linkage, AllMet, IsRecorded, recorded}
+use Rattle.cl_model.specs.States.{State, Need, IsLinked, Linkage, AllMet, IsRecorded, recorded}
 use Rattle.cl_model.specs.Tables.{Bears}
 use Rattle.cl_model.specs.Texts.{AnswerNames}
 use Rattle.cl_model.specs.Views.{need_of, request_of}
@@ -58,7 +58,7 @@ use Rattle.cl_tasks.specs.declared.stage.Next.{Next}
 use Rattle.cl_tasks.specs.declared.stage.Stage.TheVariants as stages
 use Rattle.cl_tasks.specs.declared.turn.Turn.TheVariants as turn
 use Rattle.cl_tasks.specs.Waits as waits
-use Rattle.cl_tasks.proofs.Lead.{HasPost, leads_by}
+use Rattle.cl_tasks.proofs.Lead.{HasPost, leads_by, leads_post}
 use Rattle.cl_tasks.proofs.LinkAbove.{supers_prepared}
 use Rattle.cl_tasks.proofs.LinkFacts.{all_at, chain_goal, chain_of, chain_prepared, chain_whole, class_last, class_there, list_chain, list_facts, list_imposed, list_of, list_traced, none, own_recorded, row_there, taken_more, traced_own, traced_recorded, whole_length}
 use Rattle.cl_tasks.proofs.LinkNamed.{refused_named}
@@ -154,19 +154,11 @@ pub linked_leads : {A : Type 0} (told : Option Content) (c : Configured) (g : Go
     → LeadsBy {A = A} told c g.q g.request last_room (DoneTold g) (record { stage = stages.Done g.q; turn = turn.Post (linked_answer g.request k) })
 linked_leads told c g k goal is =
     let d = g.class.value.class in
-    record {
-      kept = tt;
-      number = refl;
-      asks = refl;
-      serves = refl;
-      left = omega arith;
-      calls = stay told c (DoneTold g) g.request (past_loads 0 0 1);
-      keeps = λ x h. record { frames = tt; facts = tt };
-      backed = λ x config names fine h.
-          subst (λ (e : Class). IsBacked x (linked_answer g.request e)) (sym is) (linked_backed c x g.request d config names goal.asked goal.of (goal_at x g h.before) h.now);
-      follows = λ s x served h.
-          subst (λ (e : Class). ComesTo s (state_of x) (request_of g.request) (IsLinked e)) (sym is) (linked_comes s (state_of x) g.request d served.sound goal.of (goal_at x g h.before) h.now);
-    }
+    leads_post refl (omega arith) (λ w p s. omega arith)
+    (λ x config names fine h.
+    subst (λ (e : Class). IsBacked x (linked_answer g.request e)) (sym is) (linked_backed c x g.request d config names goal.asked goal.of (goal_at x g h.before) h.now))
+    (λ s x served h.
+    subst (λ (e : Class). ComesTo s (state_of x) (request_of g.request) (IsLinked e)) (sym is) (linked_comes s (state_of x) g.request d served.sound goal.of (goal_at x g h.before) h.now))
 
 -- ---- its lineage
 
@@ -531,7 +523,7 @@ module _ {A : Type 0} (told : Option Content) (c : Configured) (k : Chain A) (e 
       let s = state_of x in
       let l = k.whole.value in
       let now = here g x i served h.before in
-      let next = subst (λ (ns : List Need). IsNext s ns n) are (next_at s (needs_of e.needs) i n is (list_imposed x k e i h.before)) in
+      let next = are.next s n (next_at s (needs_of e.needs) i n is (list_imposed x k e i h.before)) in
       subst (λ (q : request.Request). ComesTo g s (request_of q) (Linkage n)) (sym known.place.of)
       (link_refusal_comes g s (loader_of k.goal.request) l.own.class.loader l.own.class.name (kin_of l) (kin_of known.place.at) now.front now.behind n served.sound.closed now.kept now.has now.split now.linked next h.now)
 
@@ -559,14 +551,6 @@ module _ {A : Type 0} (told : Option Content) (c : Configured) (k : Chain A) (e 
   pub refused_leads : (i : ℕ) (f : Answered) (need : rust.Need) → slice_get (needs_of e.needs) i ≡ Some (need_of need) → f.request ≡ k.goal.request → f.answer ≡ answers.Said (verdicts.Linkage need)
       → f.basis ≡ Some (link_basis k.goal.request k.whole.value k.place e i (need_of need))
       → LeadsBy {A = A} told c k.goal.q k.goal.request last_room (RefusedTold k e i (need_of need)) (record { stage = stages.Done k.goal.q; turn = turn.Post f })
-  refused_leads i f need is asked said rests = record {
-    kept = tt;
-    number = refl;
-    asks = refl;
-    serves = ap (λ (q : request.Request). Some q) (sym asked);
-    left = omega arith;
-    calls = stay told c (RefusedTold k e i (need_of need)) k.goal.request (past_loads 0 0 1);
-    keeps = λ x h. record { frames = tt; facts = tt };
-    backed = λ x config names fine h. refused_backed x i f need config names asked said rests h;
-    follows = λ g x served h. subst (λ (a : answer.Answer). AnswerFollows g (state_of x) k.goal.request a) (sym said) (refused_comes g x i (need_of need) is served h);
-  }
+  refused_leads i f need is asked said rests =
+      leads_post asked (omega arith) (λ w p s. omega arith) (λ x config names fine h. refused_backed x i f need config names asked said rests h)
+      (λ g x served h. subst (λ (a : answer.Answer). AnswerFollows g (state_of x) k.goal.request a) (sym said) (refused_comes g x i (need_of need) is served h))

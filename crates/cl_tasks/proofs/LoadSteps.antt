@@ -43,7 +43,6 @@ use Rattle.cl_tasks.specs.declared.stage.Next.{Next}
 use Rattle.cl_tasks.specs.declared.turn.Reply.{Reply}
 use Rattle.cl_tasks.specs.declared.turn.Reply.TheVariants as reply
 use Rattle.cl_tasks.specs.declared.turn.Turn.{Turn}
-use Rattle.cl_tasks.specs.declared.turn.Turn.TheVariants as turn
 use Rattle.cl_tasks.proofs.Begun.{begins_own, defined_own, home_any, initiated_own, looked_own}
 use Rattle.cl_tasks.proofs.Blaming.{fault_blames}
 use Rattle.cl_tasks.proofs.Deriving.{derived_first, derives_by, derives_more, past_derives}

@@ -1,6 +1,6 @@
 -- What a resolution that asks for a member was told, and what follows of it.
 use Rattle.std.proofs.Common.{◌≡◌, ◌≢◌, ◌<◌, ℕ, List, [], ◌∷◌, length, Some, refl, sym, subst}
-use Rattle.std.specs.Prelude.{Err, if◌then◌else◌, take}
+use Rattle.std.specs.Prelude.{Err, take}
 use Rattle.std.proofs.lemmas.List.{length-map}
 use Rattle.cl_classfile.specs.Files.{Reference, ToClass, ToField, ToMethod, ToInterfaceMethod, file_of, reference}
 use Rattle.cl_model.specs.declared.class.Class.{Class}

@@ -23,7 +23,7 @@ use Rattle.cl_model.specs.Views.{need_of, request_of, verdict_of}
 use Rattle.cl_model.proofs.Service.{need_next, resolve_wants}
 use Rattle.cl_model.proofs.Closed.{met_both}
 use Rattle.cl_config.specs.Views.{Configured}
-use Rattle.cl_hierarchy.specs.Imposed.{AreOf, Listed, Sprung, equal_need, needs_of}
+use Rattle.cl_hierarchy.specs.Imposed.{Listed, Sprung, equal_need, needs_of}
 use Rattle.cl_hierarchy.specs.Lineages.{Lined}
 use Rattle.cl_hierarchy.specs.Rows.{Rowed}
 use Rattle.cl_members.specs.Asking.{IsDeniedIn, IsLocated}

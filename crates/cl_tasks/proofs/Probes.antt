@@ -31,7 +31,7 @@ record IsShort (n : ℕ) (way : List ℕ) : Type 0 where
   below : AllByRecursion (λ m. m < n) way
 
 wider : (m n : ℕ) (way : List ℕ) → m ≤ n → AllByRecursion (λ k. k < m) way → AllByRecursion (λ k. k < n) way
-wider m n way le h = all_map (λ k. k < m) (λ k. k < n) (λ k lt. omega arith) way h
+wider m n way le h = all_map (λ (k : ℕ). k < m) (λ (k : ℕ). k < n) (λ k lt. omega arith) way h
 
 longer : (n : ℕ) (way : List ℕ) → IsShort n way → IsShort (suc n) way
 longer n way h = record { short = omega (arith, h.short); below = wider n (suc n) way (omega arith) h.below }
@@ -39,7 +39,7 @@ longer n way h = record { short = omega (arith, h.short); below = wider n (suc n
 plus_own : (n : ℕ) (order : Order) (above : List ℕ) → IsShort n above → IsShort (suc n) (in_turn order above (n ∷ []))
 plus_own n ParentFirst above h = record {
   short = let e = length-append above (n ∷ []) in omega (arith, h.short);
-  below = all_both (λ m. m < suc n) above (n ∷ []) (wider n (suc n) above (omega arith) h.below) (omega arith, tt);
+  below = all_both (λ (m : ℕ). m < suc n) above (n ∷ []) (wider n (suc n) above (omega arith) h.below) (omega arith, tt);
 }
 plus_own n ChildFirst above h = record {
   short = omega (arith, h.short);

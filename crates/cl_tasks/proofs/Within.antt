@@ -22,7 +22,6 @@ use Rattle.cl_model.proofs.Ending.{file_at_home}
 use Rattle.cl_model.proofs.Marks.{In, in_left, all_in}
 use Rattle.cl_model.proofs.Planned.{one_plan}
 use Rattle.cl_model.proofs.Progress.{IsEquality, constraints_are, flat_are, once_kept}
-use Rattle.cl_model.proofs.Reached.{reached}
 use Rattle.cl_model.proofs.Trees.{lineage_of}
 use Rattle.cl_model.proofs.Derived.{all_both}
 use Rattle.cl_model.proofs.Costs.{link_more}

@@ -2,7 +2,8 @@
 //! then that it is prepared; those that are prepared already, as many as stand first, are passed (JVMS SE 8, 5.4, 5.4.2).
 
 ghost use Rattle.std.specs.Option.{option_map};
-ghost use Rattle.std.specs.Prelude.{◌≡◌, ◌<◌, ◌≤◌, Some, IfOk, length, slice_get, take, true};
+ghost use Rattle.std.specs.Prelude.{◌≡◌, ◌<◌, ◌≤◌, Some, IfOk, IfSome, length, slice_get, take, true};
+ghost use Rattle.cl_hierarchy.specs.Fronts.{IsFront};
 ghost use Rattle.cl_hierarchy.specs.Imposed.{OfPreparation, needs_of};
 ghost use Rattle.cl_hierarchy.specs.Lineages.{rows_in};
 ghost use Rattle.cl_model.specs.States.{AllMet, State};
@@ -203,8 +204,38 @@ fn pass<T: Told>(alloc: Global, config: &Arc<Config>, chain: Chain<T>) -> Next<T
     )
 }
 
-/// Asks for the lineage of the class at the place of a chain.
+/// The lineage of the class at the place of a chain comes next: it is the front of that in hand, or is asked for.
 fn trace<T: Told>(alloc: Global, config: &Arc<Config>, chain: Chain<T>) -> Next<T>
+    requires chain { IsChain config.now.value chain }
+    ensures leads { LeadsBy T.told config.now.value chain.goal.q chain.goal.request
+        (chain_room chain) (ChainTold chain) result }
+    ensures plain { IsPlain result.turn }
+    ensures past { IsPast result.stage }
+{
+    match front_of(alloc, &chain.whole, chain.place) {
+        Err(_) => give_up(chain),
+        Ok(None) => ask_lineage(alloc, config, chain),
+        Ok(Some(front)) => take_traced(alloc, config, chain, front),
+    }
+}
+
+/// The lineage of the class at a place of another's, to be shared, where that begins with it (JVMS SE 8, 5.3.5).
+fn front_of<T: Told>(
+    alloc: Global,
+    whole: &Lineage<T>,
+    place: usize,
+) -> Result<Option<Arc<Lineage<T>>>, AllocError>
+    ensures { IfOk result (λ o. IfSome o (λ l. IsFront whole.now place l.value)) }
+{
+    let Some(front) = whole.front(alloc, place)? else {
+        return Ok(None);
+    };
+    let front = Arc::new(alloc, front).map_err(|_| AllocError)?;
+    Ok(Some(front))
+}
+
+/// Asks for the lineage of the class at the place of a chain.
+fn ask_lineage<T: Told>(alloc: Global, config: &Arc<Config>, chain: Chain<T>) -> Next<T>
     requires chain { IsChain config.now.value chain }
     ensures leads { LeadsBy T.told config.now.value chain.goal.q chain.goal.request
         (chain_room chain) (ChainTold chain) result }

@@ -1,7 +1,12 @@
-use Rattle.cl_tasks.proofs.LinkLeads.{trace_leads}
+use Rattle.cl_tasks.proofs.LinkFront.{front_leads, front_of}
 use Rattle.cl_tasks.proofs.link.trace.Goals as goal
 
-pub returns-in-Ok-clause-leads : goal.returns-in-Ok-clause-leads
-returns-in-Ok-clause-leads g c =
-    let is = rw c.deref.ensures at c.in-Ok.ensures in
-    trace_leads g.T.Told.told c.args.config.now.value c.args.chain c.in-Ok.class c.requires.chain is
+pub take_traced-requires-clause-lineage : goal.take_traced-requires-clause-lineage
+take_traced-requires-clause-lineage g c =
+    let f = rw (c.in-Ok-Some.field-0-is, c.deref.ensures) at c.in-Ok-Some.ensures in
+    front_of c.args.chain.whole.value c.in-Ok-Some.front.value c.args.chain.place f c.args.config.now.value c.args.chain.goal.class.value.class c.requires.chain.whole
+
+pub returns-in-Ok-Some-clause-leads : goal.returns-in-Ok-Some-clause-leads
+returns-in-Ok-Some-clause-leads g c =
+    let f = rw (c.in-Ok-Some.field-0-is, c.deref.ensures) at c.in-Ok-Some.ensures in
+    front_leads g.T.Told.told c.args.config.now.value c.args.chain c.in-Ok-Some.front.value f c.take_traced.ensures.leads

@@ -1,8 +1,8 @@
-use Rattle.std.proofs.Common.{false, ◌∙◌, map, ap}
+use Rattle.std.proofs.Common.{false, ◌∙◌, ap, sym}
 use Rattle.cl_model.specs.Lineages.{Kin, alone, once}
 use Rattle.cl_hierarchy.specs.declared.tour.Order.TheVariants as orders
 use Rattle.cl_hierarchy.specs.Tours.{stops, told_at}
-use Rattle.cl_hierarchy.specs.Lineages.{kin_at}
+use Rattle.cl_hierarchy.specs.Lineages.{Lined, kin_at}
 use Rattle.cl_hierarchy.proofs.Climbs.{if_ok}
 use Rattle.cl_hierarchy.proofs.Inside.{ordered, row_stands, rows_inside, table_is, told_inside}
 use Rattle.cl_hierarchy.proofs.Tours.{superinterfaces_told}
@@ -10,21 +10,21 @@ use Rattle.cl_hierarchy.proofs.lineage.Lineage.superinterfaces_by_tour.Goals as 
 
 pub rows_in_order-requires-clause-ordered : goal.rows_in_order-requires-clause-ordered
 rows_in_order-requires-clause-ordered g c =
-    ordered c.args.self.now _ c.in_ok-table.table c.self.view_is c.self.invariant.lined.order (table_is c.args.self.now _ c.in_ok-table.table _ c.self.view_is c.in_ok-table.ensures (ap (λ xs. map (λ x. x.value) xs) c.as_slice.ensures.value))
+    ordered c.args.self.now _ c.in_ok-table.table c.self.view_is c.self.invariant.kept.lined.order (table_is c.args.self.now _ c.in_ok-table.table _ c.self.view_is c.in_ok-table.ensures (c.above.ensures.rows ∙ ap (λ (x : Lined). x.above) (sym c.self.view_is)))
 
 pub rows_in_order-requires-clause-start : goal.rows_in_order-requires-clause-start
 rows_in_order-requires-clause-start g c =
-    row_stands c.args.self.now _ c.in_ok-table.table c.self.view_is c.self.invariant.lined.order (table_is c.args.self.now _ c.in_ok-table.table _ c.self.view_is c.in_ok-table.ensures (ap (λ xs. map (λ x. x.value) xs) c.as_slice.ensures.value))
+    row_stands c.args.self.now _ c.in_ok-table.table c.self.view_is c.self.invariant.kept.lined.order (table_is c.args.self.now _ c.in_ok-table.table _ c.self.view_is c.in_ok-table.ensures (c.above.ensures.rows ∙ ap (λ (x : Lined). x.above) (sym c.self.view_is)))
     c.args.row.now.value c.requires
 
 pub returns-clause-superinterfaces : goal.returns-clause-superinterfaces
 returns-clause-superinterfaces g c =
     if_ok _ _ c.rows_in_order.result (λ v e. e ∙ superinterfaces_told (kin_at c.args.self.now c.args.row.now.value)) (
-    told_inside c.args.self.now _ c.in_ok-table.table c.self.view_is c.self.invariant.lined.order (table_is c.args.self.now _ c.in_ok-table.table _ c.self.view_is c.in_ok-table.ensures (ap (λ xs. map (λ x. x.value) xs) c.as_slice.ensures.value))
+    told_inside c.args.self.now _ c.in_ok-table.table c.self.view_is c.self.invariant.kept.lined.order (table_is c.args.self.now _ c.in_ok-table.table _ c.self.view_is c.in_ok-table.ensures (c.above.ensures.rows ∙ ap (λ (x : Lined). x.above) (sym c.self.view_is)))
     (λ v. v.items) (λ r. r.value) (λ (k : Kin). once (told_at orders.Superinterfaces (stops orders.Superinterfaces (alone k) false))) c.args.row.now.value c.requires c.rows_in_order.result c.rows_in_order.ensures.kins c.rows_in_order.ensures.rows
     )
 
 pub returns-clause-rows : goal.returns-clause-rows
 returns-clause-rows g c =
-    rows_inside c.args.self.now _ c.in_ok-table.table c.self.view_is c.self.invariant.lined.order (table_is c.args.self.now _ c.in_ok-table.table _ c.self.view_is c.in_ok-table.ensures (ap (λ xs. map (λ x. x.value) xs) c.as_slice.ensures.value))
+    rows_inside c.args.self.now _ c.in_ok-table.table c.self.view_is c.self.invariant.kept.lined.order (table_is c.args.self.now _ c.in_ok-table.table _ c.self.view_is c.in_ok-table.ensures (c.above.ensures.rows ∙ ap (λ (x : Lined). x.above) (sym c.self.view_is)))
     (λ v. v.items) (λ r. r.value) c.rows_in_order.result c.rows_in_order.ensures.rows

@@ -1,0 +1,13 @@
+use Rattle.std.proofs.Common.{[], ◌∷◌, ◌++◌, length, map}
+use Rattle.cl_hierarchy.specs.Places.{IsPlace}
+use Rattle.cl_hierarchy.specs.Trees.{superclass_in}
+use Rattle.cl_hierarchy.proofs.Away.{Others}
+use Rattle.cl_hierarchy.proofs.others.others_above.Given as goal
+
+abbrev pub invariant-loop-row : goal.invariant-loop-row
+invariant-loop-row g l =
+    Others l.under.value.class.loader (map (λ r. r.value) l.rows) (superclass_in l.under.value) (map (λ r. r.value) l.found.items) (map (λ r. r.value) l.rest) (superclass_in l.last.value)
+    × IsPlace (map (λ r. r.value) l.rows ++ l.under.value ∷ []) (map (λ r. r.value) l.rest) l.last.value
+
+abbrev pub decreases-loop-row : goal.decreases-loop-row
+decreases-loop-row g l = length l.rest

@@ -25,7 +25,6 @@ use Rattle.cl_preparation.specs.Quiet.{is_heard, is_silent, names_other}
 use Rattle.cl_preparation.specs.Relatives.{bare}
 use Rattle.cl_preparation.specs.Walks.{opens}
 use Rattle.cl_preparation.proofs.Constraints.{mapped_in, mapped_rows}
-use Rattle.cl_preparation.proofs.Interfaces.{some_kin}
 use Rattle.cl_preparation.proofs.Nearby.{away_rows, flat_same, if_same, inherited_here, inherits, kins_from, none_differs, up_near}
 use Rattle.cl_preparation.proofs.Thinned.{others_both}
 
@@ -94,6 +93,9 @@ one_named own P known c cs (Some k) well mine e rest =
 over_named : (own : ℕ) (P : Kin → Type 0) (known : List Kin) (cs : List Class) → AllByRecursion (λ (c : Class). c.loader ≡ own) cs → AreWell own P known → AllByRecursion P (preorder (forest known cs) true)
 over_named own P known [] mine well = tt
 over_named own P known (c ∷ cs) mine well = one_named own P known c cs (kin_named known c) well mine.0 refl (over_named own P known cs mine.1 well)
+
+some_kin : (x y : Kin) → (let o : Option Kin = Some x in o) ≡ Some y → x ≡ y
+some_kin x y e = cc
 
 -- what a row has to keep
 record IsFine (own : ℕ) (P : Kin → Type 0) (r : Rowed) : Type 0 where

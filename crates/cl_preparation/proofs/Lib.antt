@@ -6,6 +6,7 @@ pub mod Keys
 pub mod Named
 pub mod Nearby
 pub mod Reached
+pub mod Silence
 pub mod Standing
 pub mod Thinned
 pub mod Walking

@@ -68,7 +68,7 @@ listed_end test own listed total rows e = sym (append-nil listed) ∙ ap (λ (rs
 -- ---- the classes of other loaders
 
 -- of these classes, those of another loader
-abbrev kins_from : ℕ → List Kin → List Kin
+abbrev pub kins_from : ℕ → List Kin → List Kin
 kins_from own ks = filter (λ k. is_of_other own k.class) ks
 
 -- the loaders that are still to be listed, of classes of the tree
@@ -113,7 +113,7 @@ rows_same l (x ∷ xs) (y ∷ ys) in_x in_y e =
     ∙ ap (λ (rs : List Rowed). y ∷ rs) (rows_same l xs ys in_x.1 in_y.1 (rest_kins (kin_at l x) (kin_at l y) (map (kin_at l) xs) (map (kin_at l) ys) e))
 
 -- those of another loader are the same, however they were found
-away_rows : (l : Lined) (away above : List Rowed) → map (kin_at l) away ≡ kins_from l.own.class.loader (superclasses (kin_of l)) → AllByRecursion (IsRowIn (rows_in l)) away → map (kin_at l) above ≡ superclasses (kin_of l)
+pub away_rows : (l : Lined) (away above : List Rowed) → map (kin_at l) away ≡ kins_from l.own.class.loader (superclasses (kin_of l)) → AllByRecursion (IsRowIn (rows_in l)) away → map (kin_at l) above ≡ superclasses (kin_of l)
     → AllByRecursion (IsRowIn (rows_in l)) above → away ≡ away_from l.own.class.loader above
 away_rows l away above are in_away all in_above =
     let own : ℕ = l.own.class.loader in
@@ -138,7 +138,7 @@ taking_bare key l (r ∷ rs) = one_bare l r (filter (takes_part key) (map (kin_a
 own_known : (own : ℕ) → is_new own [] own ≡ false
 own_known own = rw (eq-eqb own own refl) refl
 
-up_near : (key : Key) (l : Lined) (away : List Rowed) (b : Bool) → takes_part key (kin_of l) ≡ true → map (kin_at l) away ≡ kins_from l.own.class.loader (superclasses (kin_of l))
+pub up_near : (key : Key) (l : Lined) (away : List Rowed) (b : Bool) → takes_part key (kin_of l) ≡ true → map (kin_at l) away ≡ kins_from l.own.class.loader (superclasses (kin_of l))
     → others_after l.own.class.loader [] (if b then [] else loaders (filter (opens key) (map bare away))) ≡ others_after l.own.class.loader [] (loaders (if b then [] else overridden key (kin_of l)))
 up_near key l away true tp are = refl
 up_near key l away false tp are =
@@ -158,7 +158,7 @@ near_over key l away over tp are =
     ∙ ap (λ (xs : List ℕ). xs ++ others_after own xs taking) (up_near key l away (is_interface (file_of l.own.file)) tp are.away_are)
     ∙ sym (others_both own [] tree taking)
 
-if_same : (b : Bool) (xs ys : List Need) → (b ≡ true → xs ≡ ys) → (if b then xs else []) ≡ (if b then ys else [])
+pub if_same : (b : Bool) (xs ys : List Need) → (b ≡ true → xs ≡ ys) → (if b then xs else []) ≡ (if b then ys else [])
 if_same true xs ys f = f refl
 if_same false xs ys f = refl
 
@@ -170,12 +170,12 @@ declared_here l away over m are =
 
 -- ---- the second half
 
-inherited_here : (l : Lined) (above : List Rowed) (j : Rowed) (m : Member) → map (kin_at l) above ≡ superclasses (kin_of l) → near_inherited l.own above j m ≡ fewer_inherited (kin_of l) (bare j) m
+pub inherited_here : (l : Lined) (above : List Rowed) (j : Rowed) (m : Member) → map (kin_at l) above ≡ superclasses (kin_of l) → near_inherited l.own above j m ≡ fewer_inherited (kin_of l) (bare j) m
 inherited_here l above j m are =
     ap (λ (o : Option ℕ). if takes_part m.key (bare j) && not (is_some (method_of (kin_of l) m.key)) then equals_from m.key j.class.loader (other_than j.class.loader o) else [])
     (sym (found_bare m.key l above) ∙ ap (λ (ks : List Kin). option_map (λ a. a.class.loader) (find (λ a. if_declared (method_of a m.key) is_instance) ks)) are)
 
-flat_same : {A : Type 0} (f g : A → List Need) (xs : List A) → ((x : A) → f x ≡ g x) → flat_map f xs ≡ flat_map g xs
+pub flat_same : {A : Type 0} (f g : A → List Need) (xs : List A) → ((x : A) → f x ≡ g x) → flat_map f xs ≡ flat_map g xs
 flat_same f g [] each = refl
 flat_same f g (x ∷ xs) each = ap (λ ns. ns ++ flat_map f xs) (each x) ∙ ap (λ ns. g x ++ ns) (flat_same f g xs each)
 

@@ -1,8 +1,9 @@
-pub mod Methods
 pub mod Fewer
 pub mod Filters
+pub mod Methods
 pub mod Named
 pub mod Nearby
 pub mod Packages
+pub mod Quiet
 pub mod Relatives
 pub mod Walks

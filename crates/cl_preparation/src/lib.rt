@@ -10,6 +10,7 @@ mod listed;
 mod method;
 mod overriding;
 mod packages;
+mod quiet;
 mod relative;
 mod relatives;
 mod walk;

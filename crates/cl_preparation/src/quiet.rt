@@ -1,0 +1,215 @@
+//! Whether superinterfaces add nothing to the few loading constraints of a preparation, told from the rows of a lineage in
+//! any order (JVMS SE 8, 5.4.2).
+
+ghost use Rattle.std.specs.Prelude.{◌≡◌, ◌≤◌, [], false, true, filter, flat_map, length, map, take, IfOk, IfSome};
+ghost use Rattle.std.specs.List.{AllByRecursion, list_any};
+ghost use Rattle.cl_classfile.specs.Files.{file_of};
+ghost use Rattle.cl_model.specs.Classes.{same_class};
+ghost use Rattle.cl_model.specs.Lineages.{if_declared, method_of, superclasses};
+ghost use Rattle.cl_hierarchy.specs.Lineages.{IsRowIn, is_of_other, kin_at, kin_of, rows_in};
+ghost use Rattle.cl_hierarchy.specs.Trees.{interface_places};
+ghost use Rattle.cl_preparation.specs.Fewer.{fewer_constraints_of};
+ghost use Rattle.cl_preparation.specs.Methods.{is_instance};
+ghost use Rattle.cl_preparation.specs.Nearby.{near_declared};
+ghost use Rattle.cl_preparation.specs.Quiet.{is_heard, is_silent, names_other};
+ghost use Rattle.cl_preparation.specs.Relatives.{bare};
+
+use crate::key::MethodKey;
+use crate::method::Method;
+use crate::relative::Relative;
+use cl_hierarchy::{ClassRow, Lineage};
+use cl_model::{Class, LoaderId, Told};
+use std::alloc::{AllocError, Global};
+use std::sync::Arc;
+
+/// Which loaders defined the direct superinterfaces of a class, in file order (JVMS SE 8, 5.3.5, step 4).
+fn interface_places<T: Told>(row: &ClassRow<T>) -> &[LoaderId]
+    ensures { result.now ≡ interface_places row.now }
+{
+    let first = match row.file().super_name() {
+        Some(_) => 1,
+        None => 0,
+    };
+    &row.places()[first..]
+}
+
+/// Whether a class names a superinterface of another loader than this.
+fn names_other<T: Told>(row: &ClassRow<T>, own: LoaderId) -> bool
+    ensures { result ≡ names_other own row.now }
+{
+    interface_places(row).iter().any(|place| own != *place)
+}
+
+/// Whether one of these classes does.
+fn any_names_other<T: Told>(rows: &[Arc<ClassRow<T>>], own: LoaderId) -> bool
+    ensures { result ≡ list_any (λ r. names_other own r.value) rows.now }
+{
+    rows.iter().any(|row| names_other(row, own))
+}
+
+/// Whether one of these classes declares a method with this key that is neither private nor static.
+pub(crate) fn any_instance<T: Told>(classes: &[Relative<T>], key: &MethodKey) -> bool
+    ensures { result ≡ list_any (λ r. if_declared (method_of (bare r) key.now) is_instance)
+        classes.now }
+{
+    classes.iter().any(|class| class.has_instance(key))
+}
+
+/// Whether a method of a class takes part in overriding, and one of `away` declares such a method.
+fn is_heard<T: Told>(away: &[Relative<T>], class: &Relative<T>, method: &Method) -> bool
+    ensures { result ≡ is_heard away.now class.now method.now }
+{
+    class.takes_part(method.key()) && any_instance(away, method.key())
+}
+
+/// Whether one of these methods of a class is.
+fn any_heard<T: Told>(away: &[Relative<T>], class: &Relative<T>, methods: &[Method]) -> bool
+    ensures { result ≡ list_any (is_heard away.now class.now) methods.now }
+{
+    methods.iter().any(|method| is_heard(away, class, method))
+}
+
+/// Whether a method of the class of a row is.
+#[tactic(auto, using(crate::proofs::Silence::none_heard))]
+fn has_heard<T: Told>(
+    alloc: Global,
+    away: &[Relative<T>],
+    row: &Arc<ClassRow<T>>,
+) -> Result<bool, AllocError>
+    ensures { IfOk result (λ b. b ≡ list_any (is_heard away.now row.now.value)
+        (file_of row.now.value.file).methods) }
+{
+    // mostly, and with no more than this look
+    if row.file().methods().is_empty() {
+        return Ok(false);
+    }
+    let class = Relative::of(alloc, row)?;
+    let methods = class.methods(alloc)?;
+    Ok(any_heard(away, &class, methods.as_slice()))
+}
+
+/// Whether two classes are the same (JVMS SE 8, 5.3).
+fn is_same(one: &Class, other: &Class) -> bool
+    ensures { result ≡ same_class one.now other.now }
+{
+    one == other
+}
+
+/// How many are left of these classes, farthest first, once a class is looked at, if it is the next of them.
+#[tactic(auto, using(crate::proofs::Named::any_at))]
+fn left_without<T: Told>(near: &[Arc<ClassRow<T>>], left: usize, row: &ClassRow<T>) -> Option<usize>
+    requires { left ≤ length near.now }
+    ensures { IfSome result (λ n. (n ≤ length near.now) × (list_any (λ s. same_class s.value.class
+        row.now.class) near.now ≡ true)) }
+{
+    if left == 0 {
+        return None;
+    }
+    let next = left - 1;
+    if is_same(near[next].class(), row.class()) {
+        Some(next)
+    } else {
+        None
+    }
+}
+
+/// How many are left of the nearest superclasses once the class of a row is looked at, if it is silent.
+#[tactic(auto, using(crate::proofs::Silence::silent_away, crate::proofs::Silence::silent_here))]
+fn left_behind<T: Told>(
+    alloc: Global,
+    own: LoaderId,
+    near: &[Arc<ClassRow<T>>],
+    left: usize,
+    away: &[Relative<T>],
+    row: &Arc<ClassRow<T>>,
+) -> Result<Option<usize>, AllocError>
+    requires { left ≤ length near.now }
+    ensures { IfOk result (λ o. IfSome o (λ n. (n ≤ length near.now) × (is_silent own
+        (map (λ s. s.value) near.now) away.now row.now.value ≡ true))) }
+{
+    if own != row.class().loader {
+        return Ok(Some(left));
+    }
+    // else it is a superclass, mostly the next
+    if !row.file().is_interface() {
+        return Ok(left_without(near, left, row));
+    }
+    if has_heard(alloc, away, row)? {
+        return Ok(None);
+    }
+    Ok(Some(left))
+}
+
+/// Whether all of these classes are silent: an interface of the own loader, none of whose methods a superclass of another
+/// loader declares, or one of the nearest superclasses, or of another loader.
+fn are_silent<T: Told>(
+    alloc: Global,
+    own: LoaderId,
+    near: &[Arc<ClassRow<T>>],
+    away: &[Relative<T>],
+    rows: &[Arc<ClassRow<T>>],
+) -> Result<bool, AllocError>
+    ensures { IfOk result (λ b. b ≡ true → AllByRecursion (λ r. is_silent own
+        (map (λ s. s.value) near.now) away.now r.value ≡ true) rows.now) }
+{
+    let mut left = near.len();
+    for row in rows {
+        match left_behind(alloc, own, near, left, away, row)? {
+            Some(behind) => {
+                left = behind;
+            }
+            None => {
+                return Ok(false);
+            }
+        }
+    }
+    Ok(true)
+}
+
+/// Of superclasses, the nearest that are of this loader.
+fn near_of<T: Told>(rows: &[Arc<ClassRow<T>>], own: LoaderId) -> &[Arc<ClassRow<T>>]
+    ensures front { take (length result.now) rows.now ≡ result.now }
+    ensures own { AllByRecursion (λ r. own ≡ r.value.class.loader) result.now }
+{
+    let mut many = 0;
+    for row in rows {
+        if own != row.class().loader {
+            break;
+        }
+        many += 1;
+    }
+    &rows[..many]
+}
+
+/// Whether the superinterfaces of a class add nothing: all are of its loader, and where it is no interface, none of their
+/// methods stands over one that is inherited of another loader. What is asked is which loaders defined the superinterfaces
+/// that are named, and then the rows of the own loader: no superinterface is looked for (JVMS SE 8, 5.4.2).
+pub(crate) fn are_quiet<T: Told>(
+    alloc: Global,
+    lineage: &Lineage<T>,
+    away: &[Relative<T>],
+) -> Result<bool, AllocError>
+    requires classes { map (kin_at lineage.now) away.now
+        ≡ filter (λ k. is_of_other (kin_of lineage.now).class.loader k.class)
+        (superclasses (kin_of lineage.now)) }
+    requires rows { AllByRecursion (IsRowIn (rows_in lineage.now)) away.now }
+    ensures { IfOk result (λ b. b ≡ true → flat_map (near_declared lineage.now.own away.now [])
+        (bare lineage.now.own).file.methods ≡ fewer_constraints_of (kin_of lineage.now)) }
+{
+    let own = lineage.own().class().loader;
+    if names_other(lineage.own(), own) || any_names_other(lineage.above(), own) {
+        return Ok(false);
+    }
+    if lineage.own().file().is_interface() {
+        return Ok(true);
+    }
+    // all superclasses are of the own loader, and so is what is inherited
+    if away.is_empty() {
+        return Ok(true);
+    }
+    let rows = lineage.superclasses(alloc)?;
+    let near = near_of(rows.as_slice(), own);
+    let are_silent = are_silent(alloc, own, near, away, lineage.above());
+    drop(rows);
+    are_silent
+}

@@ -33,7 +33,7 @@ few_superclasses r = few (file_of r.file).super_name r.places
     few (Some n) [] = inl refl
     few (Some n) (p ∷ places) = inr (class n p, refl)
 
-some_kin : (x y : Kin) → (let o : Option Kin = Some x in o) ≡ Some y → x ≡ y
+pub some_kin : (x y : Kin) → (let o : Option Kin = Some x in o) ≡ Some y → x ≡ y
 some_kin x y e = cc
 
 -- none of these has superinterfaces

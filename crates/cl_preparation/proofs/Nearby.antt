@@ -15,7 +15,7 @@ use Rattle.cl_hierarchy.specs.Trees.{kins}
 use Rattle.cl_hierarchy.proofs.Away.{others_all, others_kins}
 use Rattle.cl_preparation.specs.Fewer.{equals_from, fewer_constraints_of, fewer_declared, fewer_inherited, fewer_second, is_new, loaders, loaders_over, other_than, others_after}
 use Rattle.cl_preparation.specs.Methods.{is_instance}
-use Rattle.cl_preparation.specs.Nearby.{AreNear, away_from, first_loader, near_declared, near_inherited, near_loaders, near_second}
+use Rattle.cl_preparation.specs.Nearby.{AddAll, AreNear, away_from, first_loader, near_declared, near_inherited, near_loaders, near_second}
 use Rattle.cl_preparation.specs.Relatives.{bare}
 use Rattle.cl_preparation.specs.Walks.{opens}
 use Rattle.cl_preparation.proofs.Constraints.{found_bare, mapped_in, mapped_rows}
@@ -138,7 +138,7 @@ taking_bare key l (r ∷ rs) = one_bare l r (filter (takes_part key) (map (kin_a
 own_known : (own : ℕ) → is_new own [] own ≡ false
 own_known own = rw (eq-eqb own own refl) refl
 
-pub up_near : (key : Key) (l : Lined) (away : List Rowed) (b : Bool) → takes_part key (kin_of l) ≡ true → map (kin_at l) away ≡ kins_from l.own.class.loader (superclasses (kin_of l))
+up_near : (key : Key) (l : Lined) (away : List Rowed) (b : Bool) → takes_part key (kin_of l) ≡ true → map (kin_at l) away ≡ kins_from l.own.class.loader (superclasses (kin_of l))
     → others_after l.own.class.loader [] (if b then [] else loaders (filter (opens key) (map bare away))) ≡ others_after l.own.class.loader [] (loaders (if b then [] else overridden key (kin_of l)))
 up_near key l away true tp are = refl
 up_near key l away false tp are =
@@ -154,11 +154,11 @@ near_over key l away over tp are =
     let tree : List ℕ = loaders (if is_interface (kin_of l).file then [] else overridden key (kin_of l)) in
     let taking : List ℕ = loaders (filter (takes_part key) (superinterfaces (kin_of l))) in
     others_both own [] up (loaders (filter (takes_part key) (map bare over)))
-    ∙ ap (λ (xs : List ℕ). others_after own [] up ++ others_after own (others_after own [] up) xs) (sym (taking_bare key l over) ∙ ap (λ (ks : List Kin). loaders (filter (takes_part key) ks)) are.over_are)
+    ∙ ap (λ (xs : List ℕ). others_after own [] up ++ xs) (are.over_are.loaders_are key (others_after own [] up))
     ∙ ap (λ (xs : List ℕ). xs ++ others_after own xs taking) (up_near key l away (is_interface (file_of l.own.file)) tp are.away_are)
     ∙ sym (others_both own [] tree taking)
 
-pub if_same : (b : Bool) (xs ys : List Need) → (b ≡ true → xs ≡ ys) → (if b then xs else []) ≡ (if b then ys else [])
+if_same : (b : Bool) (xs ys : List Need) → (b ≡ true → xs ≡ ys) → (if b then xs else []) ≡ (if b then ys else [])
 if_same true xs ys f = f refl
 if_same false xs ys f = refl
 
@@ -183,11 +183,18 @@ second_bare : (l : Lined) (rs : List Rowed) → flat_map (λ (j : Kin). flat_map
 second_bare l [] = refl
 second_bare l (r ∷ rs) = ap (λ ns. flat_map (fewer_inherited (kin_of l) (bare r)) (file_of r.file).methods ++ ns) (second_bare l rs)
 
-second_here : (l : Lined) (above over : List Rowed) → map (kin_at l) above ≡ superclasses (kin_of l) → map (kin_at l) over ≡ superinterfaces (kin_of l) → near_second l.own above over ≡ fewer_second (kin_of l)
-second_here l above over are overs =
+-- all of them add what all do
+pub all_added : (l : Lined) (over : List Rowed) → map (kin_at l) over ≡ superinterfaces (kin_of l) → AddAll l over
+all_added l over overs = record {
+  loaders_are = λ key listed. ap (others_after l.own.class.loader listed) (sym (taking_bare key l over) ∙ ap (λ (ks : List Kin). loaders (filter (takes_part key) ks)) overs);
+  second_are = λ b. sym (second_bare l over) ∙ ap (flat_map (λ (j : Kin). flat_map (fewer_inherited (kin_of l) j) j.file.methods)) overs;
+}
+
+second_here : (l : Lined) (above over : List Rowed) → map (kin_at l) above ≡ superclasses (kin_of l) → AddAll l over → is_interface (file_of l.own.file) ≡ false → near_second l.own above over ≡ fewer_second (kin_of l)
+second_here l above over are overs class =
     flat_same (λ (j : Rowed). flat_map (near_inherited l.own above j) (bare j).file.methods) (λ (j : Rowed). flat_map (fewer_inherited (kin_of l) (bare j)) (bare j).file.methods) over
     (λ j. flat_same (near_inherited l.own above j) (fewer_inherited (kin_of l) (bare j)) (bare j).file.methods (λ m. inherited_here l above j m are))
-    ∙ sym (second_bare l over) ∙ ap (flat_map (λ (j : Kin). flat_map (fewer_inherited (kin_of l) j) j.file.methods)) overs
+    ∙ overs.second_are class
 
 -- ---- all
 
@@ -206,6 +213,9 @@ needs_told l own away over ms xs none one all near made same empty first second 
     ∙ ap (λ ns. ns ++ rest) (first ∙ ap (λ ns. ns ++ flat_map (near_declared own away over) xs) empty ∙ ap (flat_map (near_declared own away over)) (same ∙ made) ∙ declared_near l own away over near)
     ∙ ap (λ (r : Rowed). flat_map (fewer_declared (kin_of l)) (kin_of l).file.methods ++ (if is_interface (file_of r.file) then [] else fewer_second (kin_of l))) near.own_is
 
+class_of : (l : Lined) (own : Rowed) → own ≡ l.own → is_interface (file_of own.file) ≡ false → is_interface (file_of l.own.file) ≡ false
+class_of l own same class = ap (λ (r : Rowed). is_interface (file_of r.file)) (sym same) ∙ class
+
 -- and so with the rows of its superclasses
 module _ {A : Type 0} (f : A → Rowed) (l m : Lined) (own : Rowed) (xs ys : List A) (away over above : List Rowed) (near : AreNear l own away over) (same : m ≡ l) (one : ys ≡ xs) (made : above ≡ map f ys)
     (are : map (λ r. kin_at m (f r)) xs ≡ superclasses (kin_of m)) (within : AllByRecursion (λ r. IsRowIn (rows_in m) (f r)) xs) where
@@ -216,8 +226,10 @@ module _ {A : Type 0} (f : A → Rowed) (l m : Lined) (own : Rowed) (xs ys : Lis
   away_given =
       away_rows l away above near.away_are near.away_in above_are (mapped_in f l m xs ys above same one made within) ∙ ap (λ (r : Rowed). away_from r.class.loader above) (sym near.own_is)
 
-  pub second_given : (rs : List Rowed) → rs ≡ over → near_second own above rs ≡ fewer_second (kin_of l)
-  second_given rs is = ap (near_second own above) is ∙ ap (λ (r : Rowed). near_second r above over) near.own_is ∙ second_here l above over above_are near.over_are
+  pub second_given : (rs : List Rowed) → rs ≡ over → is_interface (file_of own.file) ≡ false → near_second own above rs ≡ fewer_second (kin_of l)
+  second_given rs is class =
+      ap (near_second own above) is ∙ ap (λ (r : Rowed). near_second r above over) near.own_is
+      ∙ second_here l above over above_are near.over_are (class_of l own near.own_is class)
 
 -- superinterfaces that declare nothing
 nothing_left : (xs ys : List Member) → xs ++ ys ≡ [] → xs ≡ []
@@ -235,9 +247,10 @@ none_there c (r ∷ rs) none =
     ap (λ (ms : List Member). flat_map (fewer_inherited c (bare r)) ms ++ flat_map (λ (j : Rowed). flat_map (fewer_inherited c (bare j)) (bare j).file.methods) rs) (nothing_left (bare r).file.methods more none)
     ∙ none_there c rs (nothing_right (bare r).file.methods more none)
 
-pub second_none : (l : Lined) (own : Rowed) (away over rs : List Rowed) → AreNear l own away over → rs ≡ over → flat_map (λ (r : Rowed). (bare r).file.methods) rs ≡ [] → [] ≡ fewer_second (kin_of l)
-second_none l own away over rs near same none =
-    sym (ap (flat_map (λ (j : Kin). flat_map (fewer_inherited (kin_of l) j) j.file.methods)) (sym near.over_are) ∙ second_bare l over ∙ none_there (kin_of l) over (ap (flat_map (λ (r : Rowed). (bare r).file.methods)) (sym same) ∙ none))
+pub second_none : (l : Lined) (own : Rowed) (away over rs : List Rowed) → AreNear l own away over → is_interface (file_of own.file) ≡ false → rs ≡ over → flat_map (λ (r : Rowed). (bare r).file.methods) rs ≡ []
+    → [] ≡ fewer_second (kin_of l)
+second_none l own away over rs near class same none =
+    sym (none_there (kin_of l) over (ap (flat_map (λ (r : Rowed). (bare r).file.methods)) (sym same) ∙ none)) ∙ near.over_are.second_are (class_of l own near.own_is class)
 
 none_of_none : (few : List Need) → length few ≤ 0 → [] ≡ few
 none_of_none [] h = refl

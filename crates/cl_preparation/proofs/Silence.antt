@@ -1,5 +1,5 @@
 -- Where superinterfaces add nothing to the few equalities.
-use Rattle.std.proofs.Common.{◌≡◌, ◌≤◌, ℕ, Bool, true, false, ◌&&◌, ◌||◌, not, if◌then◌else◌, Option, Some, None, List, [], ◌∷◌, ◌++◌, map, filter, length, refl, ap, sym, subst, ◌∙◌, drop, take, arith, append-nil, append_assoc}
+use Rattle.std.proofs.Common.{◌≡◌, ◌≤◌, ℕ, Bool, true, false, ◌&&◌, ◌||◌, not, if◌then◌else◌, Option, Some, None, List, [], ◌∷◌, ◌++◌, map, filter, length, refl, ap, sym, subst, ◌∙◌, drop, take, arith, append_assoc}
 use Rattle.std.specs.Prelude.{◌==◌, Err, IfOk, IfSome, Ok, Result, find, flat_map, is_some, option_map}
 use Rattle.std.specs.List.{AllByRecursion, list_any}
 use Rattle.std.proofs.lemmas.Bool.{and_parts, eqb-true, eq-eqb}
@@ -7,8 +7,8 @@ use Rattle.std.proofs.lemmas.List.{map-append, take-append-drop}
 use Rattle.cl_classfile.specs.Files.{Key, Member, file_of, is_interface}
 use Rattle.cl_model.specs.declared.class.Class.{Class}
 use Rattle.cl_model.specs.Classes.{Above, same_class, superinterfaces_of}
-use Rattle.cl_model.specs.Lineages.{Bare, Kin, is_offered, method_of, preorder, superclasses, superinterfaces}
-use Rattle.cl_model.specs.Preparation.{equals_of, inherited_from, is_special, overridden, takes_part}
+use Rattle.cl_model.specs.Lineages.{Bare, Kin, if_declared, method_of, preorder, superclasses, superinterfaces}
+use Rattle.cl_model.specs.Preparation.{inherited_from, is_special, takes_part}
 use Rattle.cl_model.specs.States.{Need}
 use Rattle.cl_model.proofs.Closed.{all_left}
 use Rattle.cl_model.proofs.Complete.{is_class}
@@ -19,14 +19,14 @@ use Rattle.cl_hierarchy.specs.Lineages.{IsRowIn, Lined, kin_at, kin_of, row_of, 
 use Rattle.cl_hierarchy.specs.Rows.{Rowed}
 use Rattle.cl_hierarchy.specs.Trees.{SupersBefore, forest, in_front, interface_places, interfaces_in, kin_named, kin_under, kins, kins_after, superclass_in}
 use Rattle.cl_hierarchy.proofs.Climbs.{placed_row, row_more}
-use Rattle.cl_preparation.specs.Fewer.{equals_from, fewer_constraints_of, fewer_declared, fewer_inherited, loaders, loaders_over, other_than, others_after}
-use Rattle.cl_preparation.specs.Nearby.{away_from, first_loader, near_declared, near_inherited, near_loaders}
+use Rattle.cl_preparation.specs.Fewer.{equals_from, fewer_inherited, loaders, other_than, others_after}
+use Rattle.cl_preparation.specs.Methods.{is_instance}
+use Rattle.cl_preparation.specs.Nearby.{AddAll, away_from, first_loader, near_inherited}
 use Rattle.cl_preparation.specs.Quiet.{is_heard, is_silent, names_other}
 use Rattle.cl_preparation.specs.Relatives.{bare}
-use Rattle.cl_preparation.specs.Walks.{opens}
-use Rattle.cl_preparation.proofs.Constraints.{mapped_in, mapped_rows}
-use Rattle.cl_preparation.proofs.Nearby.{away_rows, flat_same, if_same, inherited_here, inherits, kins_from, none_differs, up_near}
-use Rattle.cl_preparation.proofs.Thinned.{others_both}
+use Rattle.cl_preparation.proofs.Interfaces.{some_kin}
+use Rattle.cl_preparation.proofs.Named.{map_through}
+use Rattle.cl_preparation.proofs.Nearby.{all_added, away_rows, flat_same, inherited_here, inherits, kins_from, none_differs}
 
 -- ---- tests
 
@@ -41,10 +41,6 @@ or_right false b e = e
 is_on : (b : Bool) → not b ≡ false → b ≡ true
 is_on true e = refl
 is_on false e = absurd cc
-
-is_off : (b : Bool) → not b ≡ true → b ≡ false
-is_off true e = absurd cc
-is_off false e = refl
 
 second_off : (a b : Bool) → (a && b) ≡ false → a ≡ true → b ≡ false
 second_off true b e on = e
@@ -93,9 +89,6 @@ one_named own P known c cs (Some k) well mine e rest =
 over_named : (own : ℕ) (P : Kin → Type 0) (known : List Kin) (cs : List Class) → AllByRecursion (λ (c : Class). c.loader ≡ own) cs → AreWell own P known → AllByRecursion P (preorder (forest known cs) true)
 over_named own P known [] mine well = tt
 over_named own P known (c ∷ cs) mine well = one_named own P known c cs (kin_named known c) well mine.0 refl (over_named own P known cs mine.1 well)
-
-some_kin : (x y : Kin) → (let o : Option Kin = Some x in o) ≡ Some y → x ≡ y
-some_kin x y e = cc
 
 -- what a row has to keep
 record IsFine (own : ℕ) (P : Kin → Type 0) (r : Rowed) : Type 0 where
@@ -283,66 +276,41 @@ own_loaders l test (k ∷ ks) quiet = by (test k) (own_loaders l test ks quiet.1
     by true rest = (quiet.0.own, rest)
     by false rest = rest
 
-quiet_over : (key : Key) (l : Lined) (away : List Rowed) → takes_part key (kin_of l) ≡ true → map (kin_at l) away ≡ kins_from l.own.class.loader (superclasses (kin_of l))
-    → AllByRecursion (IsQuiet l) (superinterfaces (kin_of l)) → near_loaders l.own away [] key ≡ others_after l.own.class.loader [] (loaders_over (kin_of l) key)
-quiet_over key l away part are quiet =
-    let own : ℕ = l.own.class.loader in
-    let up : List ℕ = if is_interface (file_of l.own.file) then [] else loaders (filter (opens key) (map bare away)) in
-    let tree : List ℕ = loaders (if is_interface (kin_of l).file then [] else overridden key (kin_of l)) in
-    let taking : List ℕ = loaders (filter (takes_part key) (superinterfaces (kin_of l))) in
-    ap (others_after own []) (append-nil up) ∙ up_near key l away (is_interface (file_of l.own.file)) part are
-    ∙ sym (
-    others_both own [] tree taking
-    ∙ ap (λ (xs : List ℕ). others_after own [] tree ++ xs) (none_new own (others_after own [] tree) taking (own_loaders l (takes_part key) (superinterfaces (kin_of l)) quiet))
-    ∙ append-nil (others_after own [] tree)
-    )
-
-declared_quiet : (l : Lined) (away : List Rowed) (m : Member) → map (kin_at l) away ≡ kins_from l.own.class.loader (superclasses (kin_of l)) → AllByRecursion (IsQuiet l) (superinterfaces (kin_of l)) → near_declared l.own away [] m ≡ fewer_declared (kin_of l) m
-declared_quiet l away m are quiet =
-    let f : ℕ → List Need = equals_of m.key l.own.class.loader in
-    if_same (takes_part m.key (kin_of l)) (flat_map f (near_loaders l.own away [] m.key)) (flat_map f (others_after l.own.class.loader [] (loaders_over (kin_of l) m.key)))
-    (λ part. ap (flat_map f) (quiet_over m.key l away part are quiet))
-
 second_quiet : (l : Lined) (ks : List Kin) → is_interface (file_of l.own.file) ≡ false → AllByRecursion (IsQuiet l) ks → flat_map (λ (j : Kin). flat_map (fewer_inherited (kin_of l) j) j.file.methods) ks ≡ []
 second_quiet l [] b quiet = refl
 second_quiet l (k ∷ ks) b quiet =
     ap (λ (ns : List Need). ns ++ flat_map (λ (j : Kin). flat_map (fewer_inherited (kin_of l) j) j.file.methods) ks) (quiet.0.none b) ∙ second_quiet l ks b quiet.1
 
-second_if : (l : Lined) (b : Bool) → is_interface (file_of l.own.file) ≡ b → AllByRecursion (IsQuiet l) (superinterfaces (kin_of l))
-    → [] ≡ (if b then [] else flat_map (λ (j : Kin). flat_map (fewer_inherited (kin_of l) j) j.file.methods) (superinterfaces (kin_of l)))
-second_if l true e quiet = refl
-second_if l false e quiet = sym (second_quiet l (superinterfaces (kin_of l)) e quiet)
+-- where each superinterface is quiet, none adds anything
+near_alone : (l : Lined) → AllByRecursion (IsQuiet l) (superinterfaces (kin_of l)) → AddAll l []
+near_alone l quiet = record {
+  loaders_are = λ key listed.
+      sym (none_new l.own.class.loader listed (loaders (filter (takes_part key) (superinterfaces (kin_of l)))) (own_loaders l (takes_part key) (superinterfaces (kin_of l)) quiet));
+  second_are = λ class. sym (second_quiet l (superinterfaces (kin_of l)) class quiet);
+}
 
--- where each superinterface is quiet, none is looked at
-near_alone : (l : Lined) (away : List Rowed) → map (kin_at l) away ≡ kins_from l.own.class.loader (superclasses (kin_of l)) → AllByRecursion (IsQuiet l) (superinterfaces (kin_of l))
-    → flat_map (near_declared l.own away []) (bare l.own).file.methods ≡ fewer_constraints_of (kin_of l)
-near_alone l away are quiet =
-    flat_same (near_declared l.own away []) (fewer_declared (kin_of l)) (bare l.own).file.methods (λ m. declared_quiet l away m are quiet)
-    ∙ sym (append-nil (flat_map (fewer_declared (kin_of l)) (kin_of l).file.methods))
-    ∙ ap (λ (ns : List Need). flat_map (fewer_declared (kin_of l)) (kin_of l).file.methods ++ ns) (second_if l (is_interface (file_of l.own.file)) refl quiet)
-
--- all superclasses are of the own loader
-home_step : (own : ℕ) (k : Kin) (p : Option Kin) (others : List Kin) (same test : Bool) → (own == k.class.loader) ≡ same → (if not same then k ∷ others else others) ≡ [] → (others ≡ [] → other_than own (option_map (λ a. a.class.loader) p) ≡ None)
-    → other_than own (option_map (λ (a : Kin). a.class.loader) (if test then Some k else p)) ≡ None
-home_step own k p others true true s e rest = rw (eq-eqb k.class.loader own (sym (eqb-true own k.class.loader s))) refl
-home_step own k p others true false s e rest = rest e
-home_step own k p others false test s e rest = absurd cc
-
-home_none : (own : ℕ) (test : Kin → Bool) (ks : List Kin) → kins_from own ks ≡ [] → other_than own (option_map (λ (a : Kin). a.class.loader) (find test ks)) ≡ None
-home_none own test [] e = refl
-home_none own test (k ∷ ks) e = home_step own k (find test ks) (kins_from own ks) (own == k.class.loader) (test k) refl e (λ more. home_none own test ks more)
-
-home_each : (l : Lined) (j : Kin) (ms : List Member) → kins_from l.own.class.loader (superclasses (kin_of l)) ≡ [] → j.class.loader ≡ l.own.class.loader → flat_map (fewer_inherited (kin_of l) j) ms ≡ []
-home_each l j [] home mine = refl
-home_each l j (m ∷ ms) home mine =
-    ap (λ (ns : List Need). ns ++ flat_map (fewer_inherited (kin_of l) j) ms) (by (takes_part m.key j && not (is_some (method_of (kin_of l) m.key)))) ∙ home_each l j ms home mine
+-- where all superclasses are of one loader, so is what is inherited
+first_mine : (own : ℕ) (p : Kin → Bool) (ks : List Kin) → kins_from own ks ≡ [] → other_than own (option_map (λ (a : Kin). a.class.loader) (find p ks)) ≡ None
+first_mine own p [] none = refl
+first_mine own p (k ∷ ks) none = by (own == k.class.loader) (p k) refl none (first_mine own p ks)
   where
-    of_j : Option ℕ
-    of_j = option_map (λ (a : Kin). a.class.loader) (inherited_from (kin_of l) m.key)
+    by : (same inst : Bool) → (own == k.class.loader) ≡ same → (if not same then k ∷ kins_from own ks else kins_from own ks) ≡ []
+        → (kins_from own ks ≡ [] → other_than own (option_map (λ (a : Kin). a.class.loader) (find p ks)) ≡ None)
+        → other_than own (option_map (λ (a : Kin). a.class.loader) (if inst then Some k else find p ks)) ≡ None
+    by true true e off more = rw (eq-eqb k.class.loader own (sym (eqb-true own k.class.loader e))) refl
+    by true false e off more = more off
+    by false inst e off more = absurd cc
 
-    by : (b : Bool) → (if b then equals_from m.key j.class.loader (other_than j.class.loader of_j) else []) ≡ []
-    by true = ap (equals_from m.key j.class.loader) (ap (λ (x : ℕ). other_than x of_j) mine ∙ home_none l.own.class.loader (is_offered m.key) (superclasses (kin_of l)) home)
+one_home : (c j : Kin) (m : Member) → kins_from j.class.loader (superclasses c) ≡ [] → fewer_inherited c j m ≡ []
+one_home c j m none = by (takes_part m.key j && not (is_some (method_of c m.key)))
+  where
+    by : (b : Bool) → (if b then equals_from m.key j.class.loader (other_than j.class.loader (option_map (λ (a : Kin). a.class.loader) (inherited_from c m.key))) else []) ≡ []
     by false = refl
+    by true = ap (equals_from m.key j.class.loader) (first_mine j.class.loader (λ a. if_declared (method_of a m.key) is_instance) (superclasses c) none)
+
+all_home : (c j : Kin) (ms : List Member) → kins_from j.class.loader (superclasses c) ≡ [] → flat_map (fewer_inherited c j) ms ≡ []
+all_home c j [] none = refl
+all_home c j (m ∷ ms) none = ap (λ (ns : List Need). ns ++ flat_map (fewer_inherited c j) ms) (one_home c j m none) ∙ all_home c j ms none
 
 -- ---- as the code tells it
 
@@ -358,58 +326,54 @@ none_rest : {A : Type 0} (v : A → Rowed) (l : Lined) (own : ℕ) (rows : List 
 none_rest v l own rows oe re rest =
     ap (λ (x : ℕ). list_any (names_other x) l.above) (sym oe) ∙ ap (list_any (names_other own)) (sym re) ∙ any_map v (names_other own) rows ∙ rest
 
-none_left : (rs : List Rowed) → length rs ≡ 0 → rs ≡ []
-none_left [] e = refl
-none_left (r ∷ rs) e = absurd (omega arith)
+-- an interface, all of whose superinterfaces are of its loader
+pub quiet_interface : {A : Type 0} (v : A → Rowed) (l : Lined) (rows : List A) (own : ℕ) (mine : Rowed) → own ≡ l.own.class.loader → mine ≡ l.own → map v rows ≡ l.above
+    → names_other own mine ≡ false → list_any (λ r. names_other own (v r)) rows ≡ false → is_interface (file_of l.own.file) ≡ true → AddAll l []
+quiet_interface v l rows own mine oe me re first rest inter =
+    near_alone l
+    (all_over l.own.class.loader (IsQuiet l) l (names_own l.own.class.loader l.own (none_first l own mine oe me first))
+    (fine_rows l.own.class.loader (IsQuiet l) (λ r. Unit {0}) l.above (none_rest v l own rows oe re rest) (all_any l.above)
+    (λ r ks known m. record { own = m; none = λ off. absurd (let no : true ≡ false = sym inter ∙ off in cc) })))
 
--- what the rows that are looked at tell: all superinterfaces that are named are of the own loader
-module _ {A : Type 0} (v : A → Rowed) (l : Lined) (rows : List A) (away : List Rowed) (own : ℕ) (mine : Rowed) (oe : own ≡ l.own.class.loader) (me : mine ≡ l.own) (re : map v rows ≡ l.above)
-    (are : map (kin_at l) away ≡ kins_from l.own.class.loader (superclasses (kin_of l))) (first : names_other own mine ≡ false) (rest : list_any (λ r. names_other own (v r)) rows ≡ false) where
-  alone : (Q : Rowed → Type 0) → AllByRecursion Q l.above → ((r : Rowed) (ks : List Kin) → Q r → r.class.loader ≡ l.own.class.loader → IsQuiet l (kin_under ks r)) → flat_map (near_declared l.own away []) (bare l.own).file.methods ≡ fewer_constraints_of (kin_of l)
-  alone Q known each =
-      near_alone l away are
-      (all_over l.own.class.loader (IsQuiet l) l (names_own l.own.class.loader l.own (none_first l own mine oe me first)) (fine_rows l.own.class.loader (IsQuiet l) Q l.above (none_rest v l own rows oe re rest) known each))
+-- a class, all of whose superinterfaces and superclasses are of its loader
+pub quiet_home : {A : Type 0} (v : A → Rowed) (l : Lined) (rows : List A) (away : List Rowed) (own : ℕ) (mine : Rowed) → own ≡ l.own.class.loader → mine ≡ l.own → map v rows ≡ l.above
+    → names_other own mine ≡ false → list_any (λ r. names_other own (v r)) rows ≡ false → map (kin_at l) away ≡ kins_from l.own.class.loader (superclasses (kin_of l)) → away ≡ [] → AddAll l []
+quiet_home v l rows away own mine oe me re first rest are none =
+    let home : kins_from l.own.class.loader (superclasses (kin_of l)) ≡ [] = sym are ∙ ap (map (kin_at l)) none in
+    near_alone l
+    (all_over l.own.class.loader (IsQuiet l) l (names_own l.own.class.loader l.own (none_first l own mine oe me first))
+    (fine_rows l.own.class.loader (IsQuiet l) (λ r. Unit {0}) l.above (none_rest v l own rows oe re rest) (all_any l.above)
+    (λ r ks known m. record {
+      own = m;
+      none = λ off. all_home (kin_of l) (kin_under ks r) (bare r).file.methods (ap (λ (x : ℕ). kins_from x (superclasses (kin_of l))) m ∙ home);
+    })))
 
-  -- an interface
-  pub quiet_interface : is_interface (file_of l.own.file) ≡ true → flat_map (near_declared l.own away []) (bare l.own).file.methods ≡ fewer_constraints_of (kin_of l)
-  quiet_interface inter =
-      alone (λ r. Unit {0}) (all_any l.above)
-      (λ r ks known m. record {
-        own = m;
-        none = λ off. absurd (let no : true ≡ false = sym inter ∙ off in cc);
-      })
-
-  -- a class, all of whose superclasses are of its loader
-  pub quiet_home : length away ≡ 0 → flat_map (near_declared l.own away []) (bare l.own).file.methods ≡ fewer_constraints_of (kin_of l)
-  quiet_home none =
-      alone (λ r. Unit {0}) (all_any l.above)
-      (λ r ks known m. record {
-        own = m;
-        none = λ off. home_each l (kin_under ks r) (kin_under ks r).file.methods (sym are ∙ ap (map (kin_at l)) (none_left away none)) m;
-      })
-
-  -- a class over which all rows are silent
-  pub quiet_class : (near xs ys again : List A) (m : Lined) → AllByRecursion (IsRowIn (rows_in l)) away → SupersBefore [] l.above → map v again ≡ l.above → m ≡ l → ys ≡ xs → map (λ r. kin_at m (v r)) xs ≡ superclasses (kin_of m)
-      → AllByRecursion (λ r. IsRowIn (rows_in m) (v r)) xs → take (length near) ys ≡ near → AllByRecursion (λ r. own ≡ (v r).class.loader) near → AllByRecursion (λ r. is_silent own (map v near) away (v r) ≡ true) again
-      → flat_map (near_declared l.own away []) (bare l.own).file.methods ≡ fewer_constraints_of (kin_of l)
-  quiet_class near xs ys again m in_away ordered res same one above known front mines silent =
-      let nearest : List Rowed = map v near in
-      let others : List Rowed = map v (drop (length near) ys) in
-      let all : List Rowed = map v ys in
-      let split : all ≡ nearest ++ others =
-      ap (map v) (sym (take-append-drop (length near) ys)) ∙ map-append v (take (length near) ys) (drop (length near) ys) ∙ ap (λ zs. map v zs ++ others) front in
-      let above_all : map (kin_at l) all ≡ superclasses (kin_of l) = mapped_rows v superclasses l m xs ys all same one refl above in
-      let known_all : AllByRecursion (IsRowIn (rows_in l)) all = mapped_in v l m xs ys all same one refl known in
-      let mine_all : AllByRecursion (λ (r : Rowed). l.own.class.loader ≡ r.class.loader) nearest = all_map v (λ r. l.own.class.loader ≡ r.class.loader) near (subst (λ (x : ℕ). AllByRecursion (λ r. x ≡ (v r).class.loader) near) oe mines) in
-      let in_all : AllByRecursion (IsRowIn (rows_in l)) nearest = all_left (IsRowIn (rows_in l)) nearest others (subst (λ (rs : List Rowed). AllByRecursion (IsRowIn (rows_in l)) rs) split known_all) in
-      let rows_all : AllByRecursion (IsRowIn (rows_in l)) l.above = all_more l.above (l.own ∷ []) l.above (rows_known l.above [] l.above ordered refl) in
-      let silent_all : AllByRecursion (λ (r : Rowed). is_silent l.own.class.loader nearest away r ≡ true) l.above =
-      subst (λ (rs : List Rowed). AllByRecursion (λ r. is_silent l.own.class.loader nearest away r ≡ true) rs) res
-      (all_map v (λ r. is_silent l.own.class.loader nearest away r ≡ true) again (subst (λ (x : ℕ). AllByRecursion (λ r. is_silent x nearest away (v r) ≡ true) again) oe silent)) in
-      alone (λ r. IsRowIn (rows_in l) r × (is_silent l.own.class.loader nearest away r ≡ true)) (all_pair (IsRowIn (rows_in l)) (λ r. is_silent l.own.class.loader nearest away r ≡ true) l.above rows_all silent_all)
-      (λ r ks here mine_r. quiet_at l all r ks above_all mine_r
-      (λ off. subst (λ (rs : List Rowed). flat_map (near_inherited l.own rs r) (bare r).file.methods ≡ []) (sym split)
-      (silent_none l nearest others away r (away_rows l away all are in_away above_all known_all ∙ ap (away_from l.own.class.loader) split) mine_all in_all here.0 here.1 mine_r)))
+-- a class, all of whose superinterfaces are of its loader, and over which all rows are silent
+pub quiet_class : {A : Type 0} (v : A → Rowed) (l : Lined) (xs ys near rows again : List A) (away : List Rowed) (own : ℕ) (mine : Rowed) → own ≡ l.own.class.loader → mine ≡ l.own → map v rows ≡ l.above → map v again ≡ l.above
+    → map (kin_at l) away ≡ kins_from l.own.class.loader (superclasses (kin_of l)) → AllByRecursion (IsRowIn (rows_in l)) away → map (λ r. kin_at l (v r)) xs ≡ superclasses (kin_of l) → AllByRecursion (λ r. IsRowIn (rows_in l) (v r)) xs
+    → SupersBefore [] l.above → names_other own mine ≡ false → list_any (λ r. names_other own (v r)) rows ≡ false → ys ≡ xs → take (length near) ys ≡ near → AllByRecursion (λ r. own ≡ (v r).class.loader) near
+    → AllByRecursion (λ r. is_silent own (map v near) away (v r) ≡ true) again → AddAll l []
+quiet_class v l xs ys near rows again away own mine oe me re res aways in_away are known ordered first rest ye front mines silent =
+    let of : ℕ = l.own.class.loader in
+    let nearest : List Rowed = map v near in
+    let others : List Rowed = map v (drop (length near) xs) in
+    let all : map (kin_at l) (map v xs) ≡ superclasses (kin_of l) = map_through v l xs ∙ are in
+    let ae : away ≡ away_from of (map v xs) = away_rows l away (map v xs) aways in_away all (all_map v (IsRowIn (rows_in l)) xs known) in
+    let split : map v xs ≡ nearest ++ others =
+    ap (map v) (sym (take-append-drop (length near) xs)) ∙ map-append v (take (length near) xs) (drop (length near) xs) ∙ ap (λ zs. map v zs ++ others) (ap (take (length near)) (sym ye) ∙ front) in
+    let mine_all : AllByRecursion (λ (r : Rowed). of ≡ r.class.loader) nearest = all_map v (λ r. of ≡ r.class.loader) near (subst (λ (x : ℕ). AllByRecursion (λ r. x ≡ (v r).class.loader) near) oe mines) in
+    let in_all : AllByRecursion (IsRowIn (rows_in l)) nearest = all_left (IsRowIn (rows_in l)) nearest others (subst (λ (rs : List Rowed). AllByRecursion (IsRowIn (rows_in l)) rs) split (all_map v (IsRowIn (rows_in l)) xs known)) in
+    let rows_all : AllByRecursion (IsRowIn (rows_in l)) l.above = all_more l.above (l.own ∷ []) l.above (rows_known l.above [] l.above ordered refl) in
+    let silent_all : AllByRecursion (λ (r : Rowed). is_silent of nearest away r ≡ true) l.above =
+    subst (λ (rs : List Rowed). AllByRecursion (λ r. is_silent of nearest away r ≡ true) rs) res
+    (all_map v (λ r. is_silent of nearest away r ≡ true) again (subst (λ (x : ℕ). AllByRecursion (λ r. is_silent x nearest away (v r) ≡ true) again) oe silent)) in
+    near_alone l
+    (all_over of (IsQuiet l) l (names_own of l.own (none_first l own mine oe me first))
+    (fine_rows of (IsQuiet l) (λ r. IsRowIn (rows_in l) r × (is_silent of nearest away r ≡ true)) l.above (none_rest v l own rows oe re rest)
+    (all_pair (IsRowIn (rows_in l)) (λ r. is_silent of nearest away r ≡ true) l.above rows_all silent_all)
+    (λ r ks known m. quiet_at l (map v xs) r ks all m
+    (λ off. subst (λ (rs : List Rowed). flat_map (near_inherited l.own rs r) (bare r).file.methods ≡ []) (sym split)
+    (silent_none l nearest others away r (ae ∙ ap (away_from of) split) mine_all in_all known.0 known.1 m)))))
 
 -- a row is silent: it is of another loader, or a near superclass, or none of its methods is heard
 pub silent_away : (own : ℕ) (near away : List Rowed) (r : Rowed) → (own == r.class.loader) ≡ false → is_silent own near away r ≡ true
@@ -439,13 +403,15 @@ left_silent v own near away r x (Some n) same h = (h.0, silent_near v own near a
 pub none_heard : (away : List Rowed) (r : Rowed) → (file_of r.file).methods ≡ [] → false ≡ list_any (is_heard away r) (file_of r.file).methods
 none_heard away r none = sym (ap (λ (ms : List Member). list_any (is_heard away r) ms) none)
 
-pub quiet_ok : {E : Type 0} (r : Result Bool E) (P Q : Type 0) → (P → Q) → IfOk r (λ b. b ≡ true → P) → IfOk r (λ b. b ≡ true → Q)
-quiet_ok (Ok b) P Q f h = λ e. f (h e)
-quiet_ok (Err x) P Q f h = tt
+pub none_left : (rs : List Rowed) → length rs ≡ 0 → rs ≡ []
+none_left [] e = refl
+none_left (r ∷ rs) e = absurd (omega arith)
 
--- the same of a lineage and of classes that are these
-pub quiet_told : (l m : Lined) (xs ys : List Rowed) → m ≡ l → ys ≡ xs → flat_map (near_declared m.own ys []) (bare m.own).file.methods ≡ fewer_constraints_of (kin_of m)
-    → flat_map (near_declared l.own xs []) (bare l.own).file.methods ≡ fewer_constraints_of (kin_of l)
-quiet_told l m xs ys same one e =
-    ap (λ (rs : List Rowed). flat_map (near_declared l.own rs []) (bare l.own).file.methods) (sym one)
-    ∙ subst (λ (x : Lined). flat_map (near_declared x.own ys []) (bare x.own).file.methods ≡ fewer_constraints_of (kin_of x)) same e
+-- none is looked at
+pub over_none : (l m : Lined) (over : List Rowed) → m ≡ l → over ≡ [] → AddAll m [] → AddAll l over
+over_none l m over same none all = subst (λ (rs : List Rowed). AddAll l rs) (sym none) (subst (λ (x : Lined). AddAll x []) same all)
+
+-- all are looked at
+pub over_all : {R E : Type 0} (items : R → List Rowed) (l : Lined) (r : Result R E) → IfOk r (λ v. map (kin_at l) (items v) ≡ superinterfaces (kin_of l)) → IfOk r (λ v. AddAll l (items v))
+over_all items l (Ok v) overs = all_added l (items v) overs
+over_all items l (Err e) overs = tt

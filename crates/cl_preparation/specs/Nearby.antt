@@ -1,5 +1,5 @@
 -- What is looked at for the few equalities of a preparation, as rows (JVMS SE 8, 5.4.2).
-use Rattle.std.specs.Prelude.{◌≡◌, ◌==◌, ℕ, ◌&&◌, not, if◌then◌else◌, List, [], ◌++◌, map, filter, find, flat_map, Option, is_some, option_map}
+use Rattle.std.specs.Prelude.{◌≡◌, ◌==◌, ℕ, ◌&&◌, false, not, if◌then◌else◌, List, [], ◌++◌, map, filter, find, flat_map, Option, is_some, option_map}
 use Rattle.std.specs.List.{AllByRecursion}
 use Rattle.cl_classfile.specs.Files.{Key, Member, file_of, is_interface}
 use Rattle.cl_model.specs.Lineages.{if_declared, method_of, superclasses, superinterfaces}
@@ -7,7 +7,7 @@ use Rattle.cl_model.specs.Preparation.{equals_of, takes_part}
 use Rattle.cl_model.specs.States.{Need}
 use Rattle.cl_hierarchy.specs.Rows.{Rowed}
 use Rattle.cl_hierarchy.specs.Lineages.{IsRowIn, Lined, is_of_other, kin_at, kin_of, rows_in}
-use Rattle.cl_preparation.specs.Fewer.{equals_from, loaders, other_than, others_after}
+use Rattle.cl_preparation.specs.Fewer.{equals_from, fewer_inherited, fewer_second, loaders, other_than, others_after}
 use Rattle.cl_preparation.specs.Methods.{is_instance}
 use Rattle.cl_preparation.specs.Relatives.{bare}
 use Rattle.cl_preparation.specs.Walks.{opens}
@@ -16,14 +16,28 @@ use Rattle.cl_preparation.specs.Walks.{opens}
 abbrev pub away_from : ℕ → List Rowed → List Rowed
 away_from own rs = filter (λ r. not (own == r.class.loader)) rs
 
--- the rows of a class, of its superclasses of other loaders, and of its superinterfaces (5.4.2)
+-- superinterfaces that add to the few what all do: the same loaders to those of a method of the
+-- class, and for what a class that is no interface inherits the same equalities (5.4.2)
+pub record AddAll (l : Lined) (over : List Rowed) : Type 0 where
+  pub loaders_are :
+      (key : Key) (listed : List ℕ)
+      → others_after l.own.class.loader listed (loaders (filter (takes_part key) (map bare over)))
+      ≡ others_after l.own.class.loader listed
+      (loaders (filter (takes_part key) (superinterfaces (kin_of l))))
+  pub second_are :
+      is_interface (file_of l.own.file) ≡ false
+      → flat_map (λ j. flat_map (fewer_inherited (kin_of l) (bare j)) (bare j).file.methods) over
+      ≡ fewer_second (kin_of l)
+
+-- the rows of a class, of its superclasses of other loaders, and of superinterfaces that add what
+-- all do (5.4.2)
 pub record AreNear (l : Lined) (own : Rowed) (away over : List Rowed) : Type 0 where
   pub own_is : own ≡ l.own
   pub away_are :
       map (kin_at l) away
       ≡ filter (λ k. is_of_other l.own.class.loader k.class) (superclasses (kin_of l))
   pub away_in : AllByRecursion (IsRowIn (rows_in l)) away
-  pub over_are : map (kin_at l) over ≡ superinterfaces (kin_of l)
+  pub over_are : AddAll l over
 
 -- the loader of the first of these that declares a method with this key that is neither private nor
 -- static (5.4.2)

@@ -17,9 +17,9 @@ use crate::described::{Described, push_equals};
 use crate::key::MethodKey;
 use crate::listed::{list_open, list_taking, push_listed};
 use crate::method::Method;
-use crate::quiet::{any_instance, are_quiet};
+use crate::quiet::{any_instance, over_of};
 use crate::relative::Relative;
-use crate::relatives::{all_of, imposes_nothing, superinterfaces_of};
+use crate::relatives::{all_of, imposes_nothing};
 use crate::walk::inherited_loader;
 use cl_hierarchy::{Equalities, Lineage};
 use cl_model::{Equality, LoaderId, Told};
@@ -27,7 +27,7 @@ use std::alloc::{AllocError, Global};
 use std::sync::Arc;
 
 /// A class with what its methods are looked up in: its superclasses of other loaders than its own, nearest first, and its
-/// superinterfaces in preorder.
+/// superinterfaces in preorder, or none where these add nothing.
 #[derive(Drop)]
 struct Nearby<T: Told> {
     own: Relative<T>,
@@ -74,39 +74,14 @@ fn other_than(of: LoaderId, loader: Option<LoaderId>) -> Option<LoaderId>
 }
 
 impl<T: Told> Nearby<T> {
-    /// The class of a lineage, of whose superclasses these are those of other loaders.
-    fn of(
-        alloc: Global,
-        lineage: &Arc<Lineage<T>>,
-        away: Vec<Relative<T>>,
-    ) -> Result<Nearby<T>, AllocError>
-        requires classes { map (kin_at lineage.now.value) away.items
-            ≡ filter (λ k. is_of_other (kin_of lineage.now.value).class.loader k.class)
-            (superclasses (kin_of lineage.now.value)) }
-        requires rows { AllByRecursion (IsRowIn (rows_in lineage.now.value)) away.items }
+    /// The class of a lineage.
+    fn of(alloc: Global, lineage: &Arc<Lineage<T>>) -> Result<Nearby<T>, AllocError>
         ensures { IfOk result (λ n. AreNear lineage.now.value n.own n.away.items n.over.items) }
     {
-        let over = superinterfaces_of(alloc, lineage)?;
+        let away = away_of(alloc, lineage)?;
+        let over = over_of(alloc, lineage, away.as_slice())?;
         let own = Relative::of(alloc, lineage.own())?;
         Ok(Nearby { own, away, over })
-    }
-
-    /// The same without its superinterfaces.
-    fn alone(
-        alloc: Global,
-        lineage: &Arc<Lineage<T>>,
-        away: Vec<Relative<T>>,
-    ) -> Result<Nearby<T>, AllocError>
-        ensures own { IfOk result (λ n. n.own ≡ lineage.now.value.own) }
-        ensures away { IfOk result (λ n. n.away.items ≡ away.items) }
-        ensures over { IfOk result (λ n. n.over.items ≡ []) }
-    {
-        let own = Relative::of(alloc, lineage.own())?;
-        Ok(Nearby {
-            own,
-            away,
-            over: Vec::new(alloc),
-        })
     }
 
     /// Lists, once each, the other loaders of superclasses that declare a public or protected method with this key; of an
@@ -294,7 +269,9 @@ impl<T: Told> Nearby<T> {
         needs: &mut Vec<Equality>,
         lineage: &Arc<Lineage<T>>,
     ) -> Result<(), AllocError>
-        requires { AreNear lineage.now.value self.now.own self.now.away.items self.now.over.items }
+        requires near { AreNear lineage.now.value self.now.own self.now.away.items
+            self.now.over.items }
+        requires class { is_interface (file_of self.now.own.file) ≡ false }
         ensures { OnOk result (needs_of needs.new.items ≡ needs_of needs.old.items ++ fewer_second
             (kin_of lineage.now.value)) }
     {
@@ -326,17 +303,6 @@ impl<T: Told> Nearby<T> {
         self.push_over(alloc, needs, lineage)
     }
 
-    /// What the methods of the class impose.
-    fn declared_needs(&self, alloc: Global) -> Result<Vec<Equality>, AllocError>
-        ensures { IfOk result (λ v. needs_of v.items ≡ flat_map (near_declared self.now.own
-            self.now.away.items self.now.over.items) (bare self.now.own).file.methods) }
-    {
-        let mut needs = Vec::new(alloc);
-        let methods = self.own.methods(alloc)?;
-        self.push_each_declared(alloc, &mut needs, methods.as_slice())?;
-        Ok(needs)
-    }
-
     /// What the preparation of the class of this lineage imposes, each other loader once for a method.
     fn needs(&self, alloc: Global, lineage: &Arc<Lineage<T>>) -> Result<Vec<Equality>, AllocError>
         requires { AreNear lineage.now.value self.now.own self.now.away.items self.now.over.items }
@@ -351,42 +317,6 @@ impl<T: Told> Nearby<T> {
     }
 }
 
-/// The few of a class whose superinterfaces add nothing.
-fn quiet_needs<T: Told>(
-    alloc: Global,
-    lineage: &Arc<Lineage<T>>,
-    away: Vec<Relative<T>>,
-) -> Result<Vec<Equality>, AllocError>
-    requires { flat_map (near_declared lineage.now.value.own away.items [])
-        (bare lineage.now.value.own).file.methods ≡ fewer_constraints_of (kin_of lineage.now.value) }
-    ensures { IfOk result (λ v. needs_of v.items ≡ fewer_constraints_of
-        (kin_of lineage.now.value)) }
-{
-    let alone = Nearby::alone(alloc, lineage, away)?;
-    let needs = alone.declared_needs(alloc);
-    drop(alone);
-    needs
-}
-
-/// The few of a class whose superinterfaces may add to them.
-fn loud_needs<T: Told>(
-    alloc: Global,
-    lineage: &Arc<Lineage<T>>,
-    away: Vec<Relative<T>>,
-) -> Result<Vec<Equality>, AllocError>
-    requires classes { map (kin_at lineage.now.value) away.items
-        ≡ filter (λ k. is_of_other (kin_of lineage.now.value).class.loader k.class)
-        (superclasses (kin_of lineage.now.value)) }
-    requires rows { AllByRecursion (IsRowIn (rows_in lineage.now.value)) away.items }
-    ensures { IfOk result (λ v. needs_of v.items ≡ fewer_constraints_of
-        (kin_of lineage.now.value)) }
-{
-    let nearby = Nearby::of(alloc, lineage, away)?;
-    let needs = nearby.needs(alloc, lineage);
-    drop(nearby);
-    needs
-}
-
 /// The few equalities that stand for all that the preparation of a class imposes.
 fn fewer_needs<T: Told>(
     alloc: Global,
@@ -398,12 +328,10 @@ fn fewer_needs<T: Told>(
     if imposes_nothing(alloc, lineage)? {
         return Ok(Vec::new(alloc));
     }
-    let away = away_of(alloc, lineage)?;
-    // mostly, and a tour through all rows takes longer
-    if are_quiet(alloc, lineage, away.as_slice())? {
-        return quiet_needs(alloc, lineage, away);
-    }
-    loud_needs(alloc, lineage, away)
+    let nearby = Nearby::of(alloc, lineage)?;
+    let needs = nearby.needs(alloc, lineage);
+    drop(nearby);
+    needs
 }
 
 /// The loading constraints that the preparation of a class imposes, in order, but for such as always stand where those before

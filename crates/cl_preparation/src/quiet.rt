@@ -1,22 +1,22 @@
 //! Whether superinterfaces add nothing to the few loading constraints of a preparation, told from the rows of a lineage in
 //! any order (JVMS SE 8, 5.4.2).
 
-ghost use Rattle.std.specs.Prelude.{◌≡◌, ◌≤◌, [], false, true, filter, flat_map, length, map, take, IfOk, IfSome};
+ghost use Rattle.std.specs.Prelude.{◌≡◌, ◌≤◌, [], false, true, length, map, filter, take, IfOk, IfSome};
 ghost use Rattle.std.specs.List.{AllByRecursion, list_any};
 ghost use Rattle.cl_classfile.specs.Files.{file_of};
 ghost use Rattle.cl_model.specs.Classes.{same_class};
 ghost use Rattle.cl_model.specs.Lineages.{if_declared, method_of, superclasses};
 ghost use Rattle.cl_hierarchy.specs.Lineages.{IsRowIn, is_of_other, kin_at, kin_of, rows_in};
 ghost use Rattle.cl_hierarchy.specs.Trees.{interface_places};
-ghost use Rattle.cl_preparation.specs.Fewer.{fewer_constraints_of};
 ghost use Rattle.cl_preparation.specs.Methods.{is_instance};
-ghost use Rattle.cl_preparation.specs.Nearby.{near_declared};
+ghost use Rattle.cl_preparation.specs.Nearby.{AddAll};
 ghost use Rattle.cl_preparation.specs.Quiet.{is_heard, is_silent, names_other};
 ghost use Rattle.cl_preparation.specs.Relatives.{bare};
 
 use crate::key::MethodKey;
 use crate::method::Method;
 use crate::relative::Relative;
+use crate::relatives::{has_none_over, superinterfaces_of};
 use cl_hierarchy::{ClassRow, Lineage};
 use cl_model::{Class, LoaderId, Told};
 use std::alloc::{AllocError, Global};
@@ -184,17 +184,16 @@ fn near_of<T: Told>(rows: &[Arc<ClassRow<T>>], own: LoaderId) -> &[Arc<ClassRow<
 /// Whether the superinterfaces of a class add nothing: all are of its loader, and where it is no interface, none of their
 /// methods stands over one that is inherited of another loader. What is asked is which loaders defined the superinterfaces
 /// that are named, and then the rows of the own loader: no superinterface is looked for (JVMS SE 8, 5.4.2).
-pub(crate) fn are_quiet<T: Told>(
+fn are_quiet<T: Told>(
     alloc: Global,
     lineage: &Lineage<T>,
     away: &[Relative<T>],
 ) -> Result<bool, AllocError>
-    requires classes { map (kin_at lineage.now) away.now
-        ≡ filter (λ k. is_of_other (kin_of lineage.now).class.loader k.class)
+    requires classes { map (kin_at lineage.now) away.now ≡ filter
+        (λ k. is_of_other (kin_of lineage.now).class.loader k.class)
         (superclasses (kin_of lineage.now)) }
     requires rows { AllByRecursion (IsRowIn (rows_in lineage.now)) away.now }
-    ensures { IfOk result (λ b. b ≡ true → flat_map (near_declared lineage.now.own away.now [])
-        (bare lineage.now.own).file.methods ≡ fewer_constraints_of (kin_of lineage.now)) }
+    ensures { IfOk result (λ b. b ≡ true → AddAll lineage.now []) }
 {
     let own = lineage.own().class().loader;
     if names_other(lineage.own(), own) || any_names_other(lineage.above(), own) {
@@ -209,7 +208,29 @@ pub(crate) fn are_quiet<T: Told>(
     }
     let rows = lineage.superclasses(alloc)?;
     let near = near_of(rows.as_slice(), own);
-    let are_silent = are_silent(alloc, own, near, away, lineage.above());
-    drop(rows);
-    are_silent
+    let silent = are_silent(alloc, own, near, away, lineage.above())?;
+    Ok(silent)
+}
+
+/// The superinterfaces of a class that may add to the few, in preorder: all of them, or none where they add nothing.
+pub(crate) fn over_of<T: Told>(
+    alloc: Global,
+    lineage: &Arc<Lineage<T>>,
+    away: &[Relative<T>],
+) -> Result<Vec<Relative<T>>, AllocError>
+    requires classes { map (kin_at lineage.now.value) away.now ≡ filter
+        (λ k. is_of_other (kin_of lineage.now.value).class.loader k.class)
+        (superclasses (kin_of lineage.now.value)) }
+    requires rows { AllByRecursion (IsRowIn (rows_in lineage.now.value)) away.now }
+    ensures { IfOk result (λ v. AddAll lineage.now.value v.items) }
+{
+    // most classes have none
+    if has_none_over(lineage) {
+        return Ok(Vec::new(alloc));
+    }
+    // mostly, where there are some, and a tour through all rows takes longer
+    if are_quiet(alloc, lineage, away)? {
+        return Ok(Vec::new(alloc));
+    }
+    superinterfaces_of(alloc, lineage)
 }

@@ -76,7 +76,7 @@ fn any_names_interfaces<T: Told>(rows: &[Arc<ClassRow<T>>]) -> bool
 }
 
 /// Whether neither the class of a lineage nor a class above it names superinterfaces: it has none (JVMS SE 8, 4.1).
-fn has_none_over<T: Told>(lineage: &Lineage<T>) -> bool
+pub(crate) fn has_none_over<T: Told>(lineage: &Lineage<T>) -> bool
     ensures { result ≡ true → [] ≡ superinterfaces (kin_of lineage.now) }
 {
     if names_interfaces(lineage.own()) {

@@ -3,14 +3,9 @@ use Rattle.cl_model.specs.Preparation.{constraints_of}
 use Rattle.cl_hierarchy.specs.Imposed.{needs_of}
 use Rattle.cl_hierarchy.specs.Lineages.{Lined, kin_of}
 use Rattle.cl_preparation.proofs.Nearby.{none_fewer}
-use Rattle.cl_preparation.proofs.Silence.{quiet_told}
 use Rattle.cl_preparation.proofs.fewer.fewer_needs.Goals as goal
 
 pub returns-then-branch : goal.returns-then-branch
 returns-then-branch g c =
     ap needs_of c.new.ensures.items
     ∙ none_fewer (kin_of c.args.lineage.now.value) (c.in_ok-imposes_nothing.ensures c.if-branch.true ∙ ap (λ (l : Lined). constraints_of (kin_of l)) c.deref.ensures)
-
-pub quiet_needs-requires : goal.quiet_needs-requires
-quiet_needs-requires g c =
-    quiet_told c.args.lineage.now.value c.deref-2.result.now c.in_ok-away.away.items c.as_slice.result.now c.deref-2.ensures c.as_slice.ensures.value (c.in_ok-are_quiet.ensures c.if-branch-2.true)

@@ -11,11 +11,11 @@ pub returns-then-not-any_has_methods : goal.returns-then-not-any_has_methods
 returns-then-not-any_has_methods g c =
     sym (append-nil (needs_of c.args.needs.now.items))
     ∙ ap (λ (ns : List Need). needs_of c.args.needs.now.items ++ ns)
-    (second_none c.args.lineage.now.value c.args.self.now.own c.args.self.now.away.items c.args.self.now.over.items c.as_slice-over.result.now c.requires c.as_slice-over.ensures.value (c.any_has_methods.ensures c.if-not-any_has_methods.true))
+    (second_none c.args.lineage.now.value c.args.self.now.own c.args.self.now.away.items c.args.self.now.over.items c.as_slice-over.result.now c.requires.near c.requires.class c.as_slice-over.ensures.value (c.any_has_methods.ensures c.if-not-any_has_methods.true))
 
 pub push_each_inherited-requires : goal.push_each_inherited-requires
 push_each_inherited-requires g c =
-    away_given (λ r. r.value) c.args.lineage.now.value c.deref.result.now c.args.self.now.own c.in_ok-rows.rows.items c.as_slice.result.now c.args.self.now.away.items c.args.self.now.over.items c.in_ok-above.above.items c.requires
+    away_given (λ r. r.value) c.args.lineage.now.value c.deref.result.now c.args.self.now.own c.in_ok-rows.rows.items c.as_slice.result.now c.args.self.now.away.items c.args.self.now.over.items c.in_ok-above.above.items c.requires.near
     c.deref.ensures c.as_slice.ensures.value c.in_ok-above.ensures c.in_ok-rows.ensures.superclasses c.in_ok-rows.ensures.rows
     ∙ ap (λ (rs : List Rowed). away_from c.args.self.now.own.class.loader rs) (sym c.as_slice-2.ensures.value)
 
@@ -24,6 +24,6 @@ returns g c =
     on_ok c.push_each_inherited.result _ _
     (λ e. e ∙ ap (λ (rs : List Rowed). needs_of c.args.needs.now.items ++ near_second c.args.self.now.own rs c.as_slice-over.result.now) c.as_slice-2.ensures.value
     ∙ ap (λ (ns : List Need). needs_of c.args.needs.now.items ++ ns)
-    (second_given (λ r. r.value) c.args.lineage.now.value c.deref.result.now c.args.self.now.own c.in_ok-rows.rows.items c.as_slice.result.now c.args.self.now.away.items c.args.self.now.over.items c.in_ok-above.above.items c.requires
-    c.deref.ensures c.as_slice.ensures.value c.in_ok-above.ensures c.in_ok-rows.ensures.superclasses c.in_ok-rows.ensures.rows c.as_slice-over.result.now c.as_slice-over.ensures.value))
+    (second_given (λ r. r.value) c.args.lineage.now.value c.deref.result.now c.args.self.now.own c.in_ok-rows.rows.items c.as_slice.result.now c.args.self.now.away.items c.args.self.now.over.items c.in_ok-above.above.items c.requires.near
+    c.deref.ensures c.as_slice.ensures.value c.in_ok-above.ensures c.in_ok-rows.ensures.superclasses c.in_ok-rows.ensures.rows c.as_slice-over.result.now c.as_slice-over.ensures.value c.requires.class))
     c.push_each_inherited.ensures

@@ -21,7 +21,7 @@ use Rattle.std.specs.Prelude.{
   filter,
   if◌then◌else◌,
 }
-use Rattle.std.specs.List.{list_any}
+use Rattle.std.specs.List.{AllByRecursion, list_any}
 use Rattle.cl_model.specs.Probes.{is_in}
 use Rattle.cl_constraints.specs.declared.record.Entered.{Entered}
 use Rattle.cl_constraints.specs.Records.{home_in}
@@ -65,8 +65,7 @@ pub record HasItsHome (records : List Entered) (g : Joint) : Type 0 where
 
 -- each of these groups has
 abbrev pub HaveHomes : List Entered → List Joint → Type 0
-HaveHomes records [] = Unit {0}
-HaveHomes records (g ∷ gs) = HasItsHome records g × HaveHomes records gs
+HaveHomes records groups = AllByRecursion (HasItsHome records) groups
 
 -- what holds of the constraints of each name
 pub record IsGrouped (v : Grouped) : Type 0 where

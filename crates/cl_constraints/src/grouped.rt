@@ -10,10 +10,19 @@ use std::alloc::{AllocError, Global};
 use std::marker::Model;
 
 /// Loaders that are joined for a name, and the one class that those of them have that record it.
-#[derive(Debug, Drop)]
+#[derive(Debug)]
 struct Group {
     home: Option<LoaderId>,
     loaders: Vec<LoaderId>,
+}
+
+impl Drop for Group {
+    fn drop(self) {
+        let Group {
+            home: _,
+            loaders: _,
+        } = self;
+    }
 }
 
 impl Model for Group {
@@ -43,10 +52,19 @@ impl Group {
 }
 
 /// The constraints of one name, as groups of joined loaders; a loader that is joined to no other may be in none.
-#[derive(Debug, Drop)]
+#[derive(Debug)]
 pub struct Groups {
     records: Vec<Entered>,
     groups: Vec<Group>,
+}
+
+impl Drop for Groups {
+    fn drop(self) {
+        let Groups {
+            records: _,
+            groups: _,
+        } = self;
+    }
 }
 
 impl Model for Groups {

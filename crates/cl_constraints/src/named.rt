@@ -12,9 +12,14 @@ use std::alloc::Global;
 use std::marker::Model;
 
 /// Constraints name by name: a name costs what stands of it, whatever the number of others.
-#[derive(Drop)]
 pub struct Book<N> {
     names: IndexMap<Name, N, Seed>,
+}
+
+impl<N: Drop> Drop for Book<N> {
+    fn drop(self) {
+        let Book { names: _ } = self;
+    }
 }
 
 impl<N> Model for Book<N> {

@@ -49,10 +49,19 @@ impl Placed {
 /// Two loaders are joined by a pair of those where the searches from them ended, so one walk along the pairs in their
 /// order ends at the same loader for all that are joined. Each record keeps where that walk ends for its loader, since a
 /// look takes no memory to note it in: `admits` is one walk and one pass over the records.
-#[derive(Debug, Drop)]
+#[derive(Debug)]
 pub struct Pairs {
     records: Vec<Placed>,
     pairs: Vec<Pair>,
+}
+
+impl Drop for Pairs {
+    fn drop(self) {
+        let Pairs {
+            records: _,
+            pairs: _,
+        } = self;
+    }
 }
 
 impl Model for Pairs {

@@ -1,10 +1,11 @@
 -- Requests served one after another: what a history holds of each (what is wanted is that of JVMS SE 8, 5.3 to 5.4.3).
 use Rattle.std.specs.Prelude.{◌≡◌, ◌⊎◌, ℕ, suc, List, [], ◌∷◌, ◌++◌, map, flat_map, Option, Some, None, Contains}
+use Rattle.std.specs.List.{AllByRecursion}
 use Rattle.cl_model.specs.Homes.{World}
 use Rattle.cl_model.specs.declared.class.Class.{Class}
 use Rattle.cl_model.specs.Lineages.{Kin, lineage}
 use Rattle.cl_model.specs.Preparation.{constraints_of}
-use Rattle.cl_model.specs.States.{State, Need, Verdict, Answer, Said, OutOfMemory, SourceFault, Met, AllMet, Refused, MayAdd, IsNext}
+use Rattle.cl_model.specs.States.{State, Need, Verdict, Answer, Said, OutOfMemory, SourceFault, Met, AllMet, Refused, MayAdd, IsNext, StandsAfter}
 use Rattle.cl_model.specs.Plans.{Request, Load, Resolve, Link, Plan, needs_of}
 use Rattle.cl_model.specs.Machine.{Setting, Scheduled, Step, Settle, Prepare, Post, NextRound, HasLineage, IsPlan, MaySettle, MaySay, MayGoOn, after, state_after, step_for}
 
@@ -22,13 +23,11 @@ Fulfils s (ToPrepare c) = Contains s.prepared c
 
 -- it fulfils each of these (5.3 to 5.4.3)
 abbrev pub FulfilsAll : State → List Want → Type 0
-FulfilsAll s [] = Unit {0}
-FulfilsAll s (x ∷ xs) = Fulfils s x × FulfilsAll s xs
+FulfilsAll s wants = AllByRecursion (Fulfils s) wants
 
 -- a want stands in a list, and all before it are fulfilled (wants are served in order)
 abbrev pub IsFirst : State → List Want → Want → Type 0
-IsFirst s [] want = ⊥
-IsFirst s (x ∷ xs) want = (x ≡ want) ⊎ (Fulfils s x × IsFirst s xs want)
+IsFirst s wants want = StandsAfter (Fulfils s) wants want
 
 -- a want may be served: its need may be added (5.3.4), its class is not prepared yet (5.4.2)
 abbrev pub MayServe : State → Want → Type 0

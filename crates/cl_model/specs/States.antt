@@ -1,5 +1,6 @@
 -- What has been recorded, imposed, settled and prepared, and what that meets or refuses (JVMS SE 8, 5.3 to 5.4.3).
 use Rattle.std.specs.Prelude.{◌≡◌, ◌≢◌, ◌⊎◌, ℕ, ◌&&◌, ◌==◌, List, [], ◌∷◌, ◌++◌, Option, Some, None, find, option_map, Contains}
+use Rattle.std.specs.List.{AllByRecursion}
 use Rattle.cl_classfile.specs.Files.{Name, Key, same_name}
 use Rattle.cl_model.specs.declared.class.Class.{Class}
 use Rattle.cl_model.specs.Classes.{same_class, Error}
@@ -157,10 +158,13 @@ pub record MayAdd (s : State) (need : Need) : Type 0 where
 
 -- each of these needs is met (5.3.4)
 abbrev pub AllMet : State → List Need → Type 0
-AllMet s [] = Unit {0}
-AllMet s (n ∷ ns) = Met s n × AllMet s ns
+AllMet s needs = AllByRecursion (Met s) needs
+
+-- an item stands in a list, and of each item before it this holds
+abbrev pub StandsAfter : {A : Type 0} → (A → Type 0) → List A → A → Type 0
+StandsAfter P [] item = ⊥
+StandsAfter P (x ∷ xs) item = (x ≡ item) ⊎ (P x × StandsAfter P xs item)
 
 -- a need stands in a list, and all before it are met (5.3.5, 5.4.3: needs are made in order)
 abbrev pub IsNext : State → List Need → Need → Type 0
-IsNext s [] need = ⊥
-IsNext s (n ∷ ns) need = (n ≡ need) ⊎ (Met s n × IsNext s ns need)
+IsNext s needs need = StandsAfter (Met s) needs need

@@ -8,7 +8,7 @@ use std::alloc::AllocError;
 use std::sync::Arc;
 
 /// What a request is answered.
-#[derive(Debug, Drop)]
+#[derive(Debug)]
 pub enum Answer {
     /// What the specification's plan yields.
     Said(Verdict),
@@ -18,6 +18,17 @@ pub enum Answer {
     Memory,
     /// The source could not be read at this name of this loader. An answer of this request alone.
     SourceFault(Name, LoaderId),
+}
+
+impl Drop for Answer {
+    fn drop(self) {
+        match self {
+            Answer::Said(_) => {}
+            Answer::Shared(_) => {}
+            Answer::Memory => {}
+            Answer::SourceFault(_, _) => {}
+        }
+    }
 }
 
 impl Answer {

@@ -10,7 +10,7 @@ use std::alloc::AllocError;
 use std::sync::Arc;
 
 /// One step of the linkage machine, as a history keeps it.
-#[derive(Debug, Drop, PartialEq, Eq)]
+#[derive(Debug, PartialEq, Eq)]
 pub enum Event {
     /// A defining loader records its class (JVMS SE 8, 5.3.5).
     Define(Class),
@@ -26,6 +26,20 @@ pub enum Event {
     NextRound,
     /// The request of this number is answered; the answer stands among the answers.
     Post(u32),
+}
+
+impl Drop for Event {
+    fn drop(self) {
+        match self {
+            Event::Define(_) => {}
+            Event::Initiate(_, _) => {}
+            Event::Constrain(_) => {}
+            Event::Settle(_) => {}
+            Event::Prepare(_) => {}
+            Event::NextRound => {}
+            Event::Post(_) => {}
+        }
+    }
 }
 
 impl Event {

@@ -49,7 +49,7 @@ impl Equality {
 }
 
 /// What a request needs to stand (JVMS SE 8, 5.3, 5.3.4).
-#[derive(Debug, Drop, PartialEq, Eq)]
+#[derive(Debug, PartialEq, Eq)]
 pub enum Need {
     /// A loader records the class of a name, which its home defines.
     Entry {
@@ -59,6 +59,19 @@ pub enum Need {
     },
     /// Two loaders have the same class of a name.
     Equal(Equality),
+}
+
+impl Drop for Need {
+    fn drop(self) {
+        match self {
+            Need::Entry {
+                loader: _,
+                name: _,
+                home: _,
+            } => {}
+            Need::Equal(_) => {}
+        }
+    }
 }
 
 impl Need {

@@ -7,7 +7,7 @@ use cl_names::Name;
 use std::alloc::{AllocError, Global};
 
 /// What a script asks for. A request's number is its place in the script, counted from 0.
-#[derive(Debug, Drop, PartialEq, Eq)]
+#[derive(Debug, PartialEq, Eq)]
 pub enum Request {
     /// Load the class of this name through this loader (JVMS SE 8, 5.3).
     Load(LoaderId, Name),
@@ -15,6 +15,16 @@ pub enum Request {
     Resolve(LoaderId, Name, u16),
     /// Load the class and prepare it and all above it (JVMS SE 8, 5.4.2).
     Link(LoaderId, Name),
+}
+
+impl Drop for Request {
+    fn drop(self) {
+        match self {
+            Request::Load(_, _) => {}
+            Request::Resolve(_, _, _) => {}
+            Request::Link(_, _) => {}
+        }
+    }
 }
 
 impl Request {

@@ -44,7 +44,7 @@ impl ErrorKind {
 }
 
 /// How a request ends (JVMS SE 8, 5.3.5, 5.4.2, 5.4.3).
-#[derive(Debug, Drop, PartialEq, Eq)]
+#[derive(Debug, PartialEq, Eq)]
 pub enum Verdict {
     /// The class that was loaded, or that a reference means.
     Class(Class),
@@ -66,6 +66,23 @@ pub enum Verdict {
     Error(ErrorKind, Class),
     /// A loading constraint was to be violated: what could not be recorded or imposed (JVMS SE 8, 5.3.4).
     Linkage(Need),
+}
+
+impl Drop for Verdict {
+    fn drop(self) {
+        match self {
+            Verdict::Class(_) => {}
+            Verdict::Array(_, _) => {}
+            Verdict::PrimitiveArray(_, _) => {}
+            Verdict::Field(_, _) => {}
+            Verdict::Method(_, _) => {}
+            Verdict::Linked(_) => {}
+            Verdict::BadEntry => {}
+            Verdict::ArrayMember => {}
+            Verdict::Error(_, _) => {}
+            Verdict::Linkage(_) => {}
+        }
+    }
 }
 
 impl Verdict {

@@ -23,12 +23,22 @@ use std::marker::Model;
 use toml::{Table, Value};
 
 /// The loaders, in order: 1 to `MOST_LOADERS`, each of which leads to earlier ones alone (JVMS SE 8, 5.3, 5.3.2).
-#[derive(Debug, Drop)]
+#[derive(Debug)]
 pub struct Config {
     /// The loaders' names, which are lent together.
     names: Vec<String>,
     loaders: Vec<Loader>,
     seed: Seed,
+}
+
+impl Drop for Config {
+    fn drop(self) {
+        let Config {
+            names: _,
+            loaders: _,
+            seed: _,
+        } = self;
+    }
 }
 
 impl Model for Config {
@@ -61,9 +71,14 @@ impl Config {
     pub fn with_seed(self, seed: Seed) -> Config
         ensures { result ≡ self }
     {
+        let Config {
+            names,
+            loaders,
+            seed: _,
+        } = self;
         Config {
-            names: self.names,
-            loaders: self.loaders,
+            names,
+            loaders,
             seed,
         }
     }

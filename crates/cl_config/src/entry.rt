@@ -18,10 +18,16 @@ use std::marker::Model;
 use toml::Value;
 
 /// An import, of a loader by its name.
-#[derive(Debug, Drop)]
+#[derive(Debug)]
 pub struct EntryImport {
     prefix: Name,
     from: Text,
+}
+
+impl Drop for EntryImport {
+    fn drop(self) {
+        let EntryImport { prefix: _, from: _ } = self;
+    }
 }
 
 impl Model for EntryImport {
@@ -49,9 +55,15 @@ impl EntryImport {
 }
 
 /// Imports, in order.
-#[derive(Debug, Drop)]
+#[derive(Debug)]
 pub struct EntryImports {
     links: Vec<EntryImport>,
+}
+
+impl Drop for EntryImports {
+    fn drop(self) {
+        let EntryImports { links: _ } = self;
+    }
 }
 
 impl Model for EntryImports {
@@ -73,13 +85,25 @@ impl EntryImports {
 }
 
 /// What a table says of a loader.
-#[derive(Debug, Drop)]
+#[derive(Debug)]
 pub struct Entry {
     name: Text,
     dir: Text,
     parent: Option<Text>,
     order: Order,
     imports: EntryImports,
+}
+
+impl Drop for Entry {
+    fn drop(self) {
+        let Entry {
+            name: _,
+            dir: _,
+            parent: _,
+            order: _,
+            imports: _,
+        } = self;
+    }
 }
 
 impl Model for Entry {

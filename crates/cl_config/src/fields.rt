@@ -18,9 +18,15 @@ use toml::value::Array;
 use toml::{Table, Value};
 
 /// A text of a configuration.
-#[derive(Debug, Drop)]
+#[derive(Debug)]
 pub struct Text {
     text: String,
+}
+
+impl Drop for Text {
+    fn drop(self) {
+        let Text { text: _ } = self;
+    }
 }
 
 impl Model for Text {

@@ -16,10 +16,19 @@ use std::alloc::Global;
 use std::marker::Model;
 
 /// Names that begin with a prefix, which are searched at one loader alone (JVMS SE 8, 5.3.2).
-#[derive(Debug, Drop)]
+#[derive(Debug)]
 pub struct Import {
     prefix: Name,
     target: LoaderId,
+}
+
+impl Drop for Import {
+    fn drop(self) {
+        let Import {
+            prefix: _,
+            target: _,
+        } = self;
+    }
 }
 
 impl Model for Import {
@@ -47,9 +56,15 @@ impl Import {
 }
 
 /// The imports of a loader, in order.
-#[derive(Debug, Drop)]
+#[derive(Debug)]
 pub struct Imports {
     items: Vec<Import>,
+}
+
+impl Drop for Imports {
+    fn drop(self) {
+        let Imports { items: _ } = self;
+    }
 }
 
 impl Model for Imports {
@@ -63,13 +78,25 @@ impl Model for Imports {
 
 /// A loader: its name, the directory of its own content, whom it asks and when, and what it takes from where (JVMS SE 8,
 /// 5.3, 5.3.2).
-#[derive(Debug, Drop)]
+#[derive(Debug)]
 pub struct Loader {
     name: Text,
     dir: Text,
     parent: Option<LoaderId>,
     order: Order,
     imports: Imports,
+}
+
+impl Drop for Loader {
+    fn drop(self) {
+        let Loader {
+            name: _,
+            dir: _,
+            parent: _,
+            order: _,
+            imports: _,
+        } = self;
+    }
 }
 
 impl Model for Loader {

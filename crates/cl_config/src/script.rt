@@ -17,12 +17,22 @@ use std::fmt::{self, Display, Formatter};
 use std::marker::Model;
 
 /// The requests, in order, at most `MOST_REQUESTS`, in 1 to `MOST_THENS` + 1 rounds. A round may be empty.
-#[derive(Debug, Drop)]
+#[derive(Debug)]
 pub struct Script {
     requests: Vec<Request>,
     /// The round of each request, counted from 0.
     rounds_of: Vec<u32>,
     rounds: u32,
+}
+
+impl Drop for Script {
+    fn drop(self) {
+        let Script {
+            requests: _,
+            rounds_of: _,
+            rounds: _,
+        } = self;
+    }
 }
 
 impl Model for Script {

@@ -17,7 +17,6 @@ use thiserror::Error;
 
 /// The search for a name, begun at a loader (JVMS SE 8, 5.3.2): the own content of one loader after another is probed,
 /// until one has the name or none is left.
-#[derive(Drop)]
 pub struct Search<T: Told> {
     config: Arc<Config>,
     loader: LoaderId,
@@ -27,6 +26,19 @@ pub struct Search<T: Told> {
     /// The probes so far that found nothing, with room for one of each loader of the route.
     absent: Vec<Probe<T>>,
     found: Option<Probe<T>>,
+}
+
+impl<T: Told> Drop for Search<T> {
+    fn drop(self) {
+        let Search {
+            config: _,
+            loader: _,
+            name: _,
+            route: _,
+            absent: _,
+            found: _,
+        } = self;
+    }
 }
 
 impl<T: Told> Model for Search<T> {
@@ -42,8 +54,9 @@ impl<T: Told> Model for Search<T> {
 }
 
 /// A search could not begin.
-#[derive(Debug, Drop, Error)]
+#[derive(Debug, Error)]
 #[error("G0 Memory")]
+#[derive(Drop)]
 pub struct SearchRefused {
     pub config: Arc<Config>,
     pub name: Name,
@@ -167,13 +180,24 @@ impl<T: Told> Search<T> {
 
 /// Where a search found a name: the loader whose own content answered, with its bytes, and the probes before, as
 /// `Search::home` gives them.
-#[derive(Drop)]
 pub struct Home<T: Told> {
     config: Arc<Config>,
     asked: LoaderId,
     name: Name,
     absent: Vec<Probe<T>>,
     probe: Probe<T>,
+}
+
+impl<T: Told> Drop for Home<T> {
+    fn drop(self) {
+        let Home {
+            config: _,
+            asked: _,
+            name: _,
+            absent: _,
+            probe: _,
+        } = self;
+    }
 }
 
 impl<T: Told> Model for Home<T> {
@@ -242,18 +266,35 @@ impl<T: Told> Home<T> {
     pub fn into_name(self) -> Name
         ensures { result ≡ self.name }
     {
-        self.name
+        let Home {
+            config: _,
+            asked: _,
+            name,
+            absent: _,
+            probe: _,
+        } = self;
+        name
     }
 }
 
 /// A name that a search did not find, with its probes, as `Search::home` gives them. Where a content is told, the search
 /// rule leads to no loader.
-#[derive(Drop)]
 pub struct Unfound<T: Told> {
     config: Arc<Config>,
     loader: LoaderId,
     name: Name,
     absent: Vec<Probe<T>>,
+}
+
+impl<T: Told> Drop for Unfound<T> {
+    fn drop(self) {
+        let Unfound {
+            config: _,
+            loader: _,
+            name: _,
+            absent: _,
+        } = self;
+    }
 }
 
 impl<T: Told> Model for Unfound<T> {
@@ -302,6 +343,12 @@ impl<T: Told> Unfound<T> {
     pub fn into_name(self) -> Name
         ensures { result ≡ self.name }
     {
-        self.name
+        let Unfound {
+            config: _,
+            loader: _,
+            name,
+            absent: _,
+        } = self;
+        name
     }
 }

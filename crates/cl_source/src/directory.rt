@@ -20,11 +20,20 @@ use std::sync::Arc;
 ///
 /// A class's name leads out of no directory (the law `class_names_stay_within`): its parts are unqualified names (JVMS SE 8,
 /// 4.2.2), so none is empty, and none has a dot, so none is `.` or `..`.
-#[derive(Drop)]
 pub struct DirSource<F: ReadFile> {
     pub files: F,
     pub dirs: Vec<String>,
     failures: u64,
+}
+
+impl<F: ReadFile> Drop for DirSource<F> {
+    fn drop(self) {
+        let DirSource {
+            files: _,
+            dirs: _,
+            failures: _,
+        } = self;
+    }
 }
 
 impl<F: ReadFile> DirSource<F> {

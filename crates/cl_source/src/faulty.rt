@@ -8,7 +8,6 @@ use std::alloc::Global;
 use std::marker::{Model, PhantomData};
 
 /// Another source, of which one read is refused.
-#[derive(Drop)]
 pub struct FaultySource<T: Told, S: Source<T>> {
     inner: S,
     /// The read that is refused, counted from 1; with 0 none is.
@@ -17,6 +16,18 @@ pub struct FaultySource<T: Told, S: Source<T>> {
     until: u64,
     refused: u64,
     of: PhantomData<T>,
+}
+
+impl<T: Told, S: Source<T>> Drop for FaultySource<T, S> {
+    fn drop(self) {
+        let FaultySource {
+            inner: _,
+            at: _,
+            until: _,
+            refused: _,
+            of: _,
+        } = self;
+    }
 }
 
 impl<T: Told, S: Source<T>> Model for FaultySource<T, S> {

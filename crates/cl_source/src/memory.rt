@@ -16,11 +16,19 @@ use std::marker::{Model, PhantomData};
 use std::sync::Arc;
 
 /// A source in memory that is being filled, and tells nothing yet.
-#[derive(Drop)]
 pub struct MemorySource {
     seed: Seed,
     /// One for each loader, as far as any was put.
     shelves: Vec<Shelf>,
+}
+
+impl Drop for MemorySource {
+    fn drop(self) {
+        let MemorySource {
+            seed: _,
+            shelves: _,
+        } = self;
+    }
 }
 
 impl Model for MemorySource {
@@ -111,18 +119,24 @@ impl MemorySource {
         requires { Tells T.told self }
         ensures { result ≡ self }
     {
+        let MemorySource { seed: _, shelves } = self;
         Telling {
-            shelves: self.shelves,
+            shelves,
             of: PhantomData,
         }
     }
 }
 
 /// The source of what was put.
-#[derive(Drop)]
 pub struct Telling<T: Told> {
     shelves: Vec<Shelf>,
     of: PhantomData<T>,
+}
+
+impl<T: Told> Drop for Telling<T> {
+    fn drop(self) {
+        let Telling { shelves: _, of: _ } = self;
+    }
 }
 
 impl<T: Told> Model for Telling<T> {

@@ -12,9 +12,14 @@ use std::marker::Model;
 use std::sync::Arc;
 
 /// The content of one loader: names with the bytes that stand for them, each name once.
-#[derive(Drop)]
 pub(crate) struct Shelf {
     entries: IndexMap<Name, Arc<ClassBytes>, Seed>,
+}
+
+impl Drop for Shelf {
+    fn drop(self) {
+        let Shelf { entries: _ } = self;
+    }
 }
 
 impl Model for Shelf {

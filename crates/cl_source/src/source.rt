@@ -10,9 +10,15 @@ use std::sync::Arc;
 use thiserror::Error;
 
 /// The bytes of a class file.
-#[derive(Debug, Drop)]
+#[derive(Debug)]
 pub struct ClassBytes {
     items: Vec<u8>,
+}
+
+impl Drop for ClassBytes {
+    fn drop(self) {
+        let ClassBytes { items: _ } = self;
+    }
 }
 
 impl Model for ClassBytes {
@@ -43,7 +49,8 @@ impl ClassBytes {
     pub fn into_vec(self) -> Vec<u8>
         ensures { result.items ≡ self }
     {
-        self.items
+        let ClassBytes { items } = self;
+        items
     }
 }
 
@@ -55,12 +62,22 @@ pub enum Outcome {
 }
 
 /// What a source found for a loader and a name: where it tells a content, just what that has.
-#[derive(Drop)]
 pub struct Probe<T: Told> {
     loader: LoaderId,
     name: Name,
     outcome: Outcome,
     of: PhantomData<T>,
+}
+
+impl<T: Told> Drop for Probe<T> {
+    fn drop(self) {
+        let Probe {
+            loader: _,
+            name: _,
+            outcome: _,
+            of: _,
+        } = self;
+    }
 }
 
 impl<T: Told> Model for Probe<T> {

@@ -24,6 +24,15 @@ named_later known r c e = rw e refl
 pub same_back : (c d : Class) → c ≡ d → same_class d c ≡ true
 same_back c d e = subst (λ (x : Class). same_class x c ≡ true) e (same_self c)
 
+pub same_turned : (c d : Class) → same_class c d ≡ same_class d c
+same_turned c d = at (same_class c d) (same_class d c) refl refl
+  where
+    at : (a b : Bool) → same_class c d ≡ a → same_class d c ≡ b → a ≡ b
+    at true true e f = refl
+    at false false e f = refl
+    at true false e f = absurd (let back : same_class d c ≡ true = same_back c d (is_class c d e) in cc)
+    at false true e f = absurd (let back : same_class c d ≡ true = same_back d c (is_class d c f) in cc)
+
 pub keeps : (known : List Kin) (r : Rowed) (c : Class) (k : Kin) → kin_named known r.class ≡ None → kin_named known c ≡ Some k → kin_named (kin_under known r ∷ known) c ≡ Some k
 keeps known r c k is_new e = at (same_class c r.class) refl
   where

@@ -1,8 +1,9 @@
 -- The superclasses that another loader defined, found on a climb.
 use Rattle.std.proofs.Common.{◌≡◌, ◌∙◌, ◌≤◌, ℕ, Bool, true, false, if◌then◌else◌, filter, arith, List, [], ◌∷◌, ◌++◌, Option, Some, None, length, map, refl, sym, ap, subst}
 use Rattle.std.specs.List.{AllByRecursion}
-use Rattle.std.proofs.lemmas.List.{length-map}
+use Rattle.std.proofs.lemmas.List.{length-map, map_push}
 use Rattle.std.proofs.lemmas.List.Elements.{filter-append}
+use mathlib.Core.List.{map-map}
 use Rattle.cl_model.specs.declared.class.Class.{Class}
 use Rattle.cl_model.specs.Lineages.{Bare, Kin, first, upward}
 use Rattle.cl_model.proofs.Ancestors.{same_self}
@@ -12,8 +13,7 @@ use Rattle.cl_hierarchy.specs.Places.{IsPlace}
 use Rattle.cl_hierarchy.specs.Rows.{Rowed}
 use Rattle.cl_hierarchy.specs.Trees.{SupersBefore, forest, in_front, kin_under, kins, superclass_in}
 use Rattle.cl_hierarchy.proofs.Ancestry.{kins_push, named_first}
-use Rattle.cl_hierarchy.proofs.Climbs.{Climbs, begun, ends, goes_on, map_twice}
-use Rattle.cl_hierarchy.proofs.Scans.{map_push}
+use Rattle.cl_hierarchy.proofs.Climbs.{Climbs, begun, ends, goes_on}
 
 -- ---- on the stem
 
@@ -32,9 +32,6 @@ pub next_kin_in : {A : Type 0} (v : A → Rowed) (rest earlier : List A) (row : 
 next_kin_in {A} v rest earlier row under stem h e le =
     let split : map v rest ≡ map v earlier ++ v row ∷ [] = ap (λ (xs : List A). map v xs) e ∙ map_push v earlier row in
     next_kin (map v rest) (map v earlier) under (v row) split (h (map v earlier) (v row) split (let n = length-map earlier v in omega (arith, n, le)))
-
-pub next_place : {A : Type 0} (v : A → Rowed) (rest earlier : List A) (row : A) → rest ≡ earlier ++ row ∷ [] → IsPlace (map v rest) (map v earlier) (v row)
-next_place {A} v rest earlier row e = record { later = []; split = ap (λ (xs : List A). map v xs) e ∙ map_push v earlier row }
 
 -- a row of the lineage, and what stands before it
 pub next_on_stem : (all rest : List Rowed) (last under : Rowed) (stem : ℕ) → IsStem all stem → IsPlace all rest last → under ≡ last → IsNextOnStem rest under stem
@@ -93,7 +90,7 @@ module _ {A : Type 0} (v : A → Rowed) (own : ℕ) (rows found rest : List A) (
   pub others_are : None ≡ first (upward (forest (kins (map v rest)) (superclass_in under)))
       → map (λ x. kin_under (kins (map v rows)) (v x)) found ≡ filter (λ k. is_of_other own k.class) (upward (forest (kins (map v rows)) superclass))
   others_are e =
-      sym (map_twice v (kin_under (kins (map v rows))) found)
+      sym (map-map (kin_under (kins (map v rows))) v found)
       ∙ ap (λ (rs : List Rowed). map (kin_under (kins (map v rows))) rs) h.found_are
       ∙ others_kins own (kins (map v rows)) h.all
       ∙ ap (λ (ks : List Kin). filter (λ k. is_of_other own k.class) ks)

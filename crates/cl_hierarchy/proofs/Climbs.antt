@@ -1,6 +1,8 @@
 -- A climb from superclass to superclass through rows.
-use Rattle.std.proofs.Common.{◌≡◌, ◌∙◌, Bool, true, false, ◌||◌, if◌then◌else◌, List, [], ◌∷◌, ◌++◌, Option, Some, None, map, append_assoc, append-nil, Result, Ok, Err, IfOk, refl, sym, ap, subst}
+use Rattle.std.proofs.Common.{◌≡◌, ◌∙◌, Bool, true, false, ◌||◌, if◌then◌else◌, List, [], ◌∷◌, ◌++◌, Option, Some, None, map, append_assoc, append-nil, refl, sym, ap, subst}
 use Rattle.std.specs.List.{AllByRecursion}
+use Rattle.std.proofs.lemmas.List.{map_push}
+use mathlib.Core.List.{map-map}
 use Rattle.cl_model.specs.declared.class.Class.{Class}
 use Rattle.cl_model.specs.Classes.{is_among, same_class}
 use Rattle.cl_model.specs.Lineages.{Bare, Forest, Kin, Tree, classes, first, superclasses, upward}
@@ -10,7 +12,6 @@ use Rattle.cl_hierarchy.specs.Places.{IsPlace}
 use Rattle.cl_hierarchy.specs.Rows.{Rowed}
 use Rattle.cl_hierarchy.specs.Trees.{SupersBefore, forest, kin_named, kin_under, kins, kins_after, superclass_in}
 use Rattle.cl_hierarchy.proofs.Ancestry.{kin_stays, row_kin}
-use Rattle.cl_hierarchy.proofs.Scans.{map_push}
 use Rattle.cl_hierarchy.proofs.Ends.{all_push}
 
 -- ---- parts of rows in order
@@ -163,17 +164,9 @@ ends rows superclass found rest wanted h e =
     ∙ h.kins_are
 
 -- the same of what lies behind them in memory
-pub map_twice : {A B C : Type 0} (f : A → B) (g : B → C) (xs : List A) → map g (map f xs) ≡ map (λ x. g (f x)) xs
-map_twice f g [] = refl
-map_twice f g (x ∷ xs) = ap (λ ys. g (f x) ∷ ys) (map_twice f g xs)
-
 pub all_back : {A B : Type 0} (f : A → B) (P : B → Type 0) (xs : List A) → AllByRecursion P (map f xs) → AllByRecursion (λ x. P (f x)) xs
 all_back f P [] h = tt
 all_back f P (x ∷ xs) h = (h.0, all_back f P xs h.1)
-
-pub if_ok : {A E : Type 0} (P Q : A → Type 0) (r : Result A E) → ((a : A) → P a → Q a) → IfOk r P → IfOk r Q
-if_ok P Q (Ok a) f h = f a h
-if_ok P Q (Err e) f h = h
 
 -- ---- the same of lists of what rows lie behind
 
@@ -191,7 +184,7 @@ goes_on_in {A} v rows found new rest earlier row clone under last superclass ord
 pub ends_in : {A : Type 0} (v : A → Rowed) (rows found rest : List A) (under last : Rowed) (superclass : List Class) → Climbs (map v rows) superclass (map v found) (map v rest) (superclass_in last) → under ≡ last
     → None ≡ first (upward (forest (kins (map v rest)) (superclass_in under))) → map (λ x. kin_under (kins (map v rows)) (v x)) found ≡ upward (forest (kins (map v rows)) superclass)
 ends_in v rows found rest under last superclass h same e =
-    sym (map_twice v (kin_under (kins (map v rows))) found)
+    sym (map-map (kin_under (kins (map v rows))) v found)
     ∙ ends (map v rows) superclass (map v found) (map v rest) (superclass_in last) h (e ∙ ap (λ (u : Rowed). first (upward (forest (kins (map v rest)) (superclass_in u)))) same)
 
 pub rows_in_all : {A : Type 0} (v : A → Rowed) (l inside : Lined) (rows : List Rowed) → inside ≡ l → rows ≡ inside.above → (rs : List A) → AllByRecursion (λ x. IsRowIn rows (v x)) rs → AllByRecursion (λ x. IsRowIn (rows_in l) (v x)) rs

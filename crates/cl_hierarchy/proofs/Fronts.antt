@@ -2,7 +2,7 @@
 use Rattle.std.proofs.Common.{◌≡◌, ◌∙◌, ◌<◌, ◌≤◌, ◌+◌, inl, inr, ℕ, zero, suc, Bool, true, false, if◌then◌else◌, arith, List, [], ◌∷◌, ◌++◌, Option, Some, None, append_assoc, get_or, length, length-append, map, reverse, take, refl, sym, ap, subst}
 use Rattle.std.specs.Prelude.{option_to_list}
 use Rattle.std.proofs.lemmas.Bool.{cases_lt, or_cases}
-use Rattle.std.proofs.lemmas.List.{length-map, map-append, reverse-append, reverse-reverse, take_more}
+use Rattle.std.proofs.lemmas.List.{length-map, map-append, map_push, reverse-append, reverse-reverse, take_more}
 use Rattle.cl_model.specs.declared.class.Class.{Class}
 use Rattle.cl_model.specs.Content.{Content}
 use Rattle.cl_model.specs.Homes.{World}
@@ -23,7 +23,6 @@ use Rattle.cl_hierarchy.proofs.Ancestry.{kins_push, named_first}
 use Rattle.cl_hierarchy.proofs.Climbs.{before_split, placed_kin, placed_row}
 use Rattle.cl_hierarchy.proofs.Ends.{all_pop}
 use Rattle.cl_hierarchy.proofs.RowTables.{before_push}
-use Rattle.cl_hierarchy.proofs.Scans.{map_push}
 use Rattle.cl_hierarchy.proofs.Told.{lineage_ends}
 
 -- ---- the order of a lineage begins with its superclass's

@@ -2,13 +2,13 @@
 use Rattle.std.proofs.Common.{◌≡◌, ◌∙◌, ℕ, Bor, List, [], ◌∷◌, ◌++◌, Option, Some, None, map, append_assoc, append-nil, refl, sym, ap, subst}
 use Rattle.std.specs.Map.{lookup}
 use Rattle.std.specs.Option.{option_copied, option_map}
+use Rattle.std.proofs.lemmas.List.{map_push}
 use Rattle.cl_model.specs.declared.class.Class.{Class}
 use Rattle.cl_classfile.specs.Files.{Name}
 use Rattle.cl_model.specs.Classes.{class, same_class}
 use Rattle.cl_hierarchy.specs.Rows.{Rowed}
 use Rattle.cl_hierarchy.specs.Lineages.{row_of}
 use Rattle.cl_hierarchy.specs.RowIndex.{IsIndexOf}
-use Rattle.cl_hierarchy.proofs.Scans.{map_push}
 
 -- the table has the rows behind the rest
 pub record Indexes {A : Type 0} (row : A → Rowed) (entries : List (Class × A)) (above : List Rowed) (own : Rowed) (rest : List Rowed) : Type 0 where

@@ -1,5 +1,6 @@
 -- A scan of rows from the last: where the row of a class stands.
-use Rattle.std.proofs.Common.{◌≡◌, ◌∙◌, ◌+◌, ◌≤◌, arith, length, length-append, Bool, true, false, List, [], ◌∷◌, ◌++◌, Option, Some, None, map, append_assoc, refl, sym, ap}
+use Rattle.std.proofs.Common.{◌≡◌, ◌∙◌, ◌+◌, ◌≤◌, arith, length, length-append, Bool, true, false, List, [], ◌∷◌, ◌++◌, Option, Some, None, map, append_assoc, append-nil, refl, sym, ap}
+use Rattle.std.proofs.lemmas.List.{map_push}
 use Rattle.cl_model.specs.declared.class.Class.{Class}
 use Rattle.cl_model.specs.Classes.{same_class}
 use Rattle.cl_model.specs.Lineages.{Kin}
@@ -14,16 +15,8 @@ pub record Scans (rows rest : List Rowed) (c : Class) : Type 0 where
   pub split : rows ≡ rest ++ later
   pub same : kin_named (kins rest) c ≡ kin_named (kins rows) c
 
-pub map_push : {A B : Type 0} (f : A → B) (xs : List A) (x : A) → map f (xs ++ x ∷ []) ≡ map f xs ++ f x ∷ []
-map_push f [] x = refl
-map_push f (y ∷ xs) x = ap (λ zs. f y ∷ zs) (map_push f xs x)
-
 pub begun : (rows : List Rowed) (c : Class) → Scans rows rows c
-begun rows c = record { later = []; split = sym (all rows); same = refl }
-  where
-    all : (rs : List Rowed) → rs ++ [] ≡ rs
-    all [] = refl
-    all (r ∷ rs) = ap (λ x. r ∷ x) (all rs)
+begun rows c = record { later = []; split = sym (append-nil rows); same = refl }
 
 module _ (rows rest earlier : List Rowed) (r : Rowed) (c : Class) (last : rest ≡ earlier ++ r ∷ []) (h : Scans rows rest c) where
   whole : kin_named (kin_under (kins earlier) r ∷ kins earlier) c ≡ kin_named (kins rows) c

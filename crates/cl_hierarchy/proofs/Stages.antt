@@ -1,7 +1,8 @@
 -- What holds of a tour between two steps.
-use Rattle.std.proofs.Common.{◌≡◌, ◌∙◌, ◌⊎◌, inl, inr, ℕ, suc, zero, ◌+◌, ◌*◌, ◌<◌, ◌≤◌, arith, length, Bool, true, false, ◌||◌, if◌then◌else◌, List, [], ◌∷◌, ◌++◌, Option, Some, None, append_assoc, append-nil, drop, is_some, map, refl, sym, ap, subst}
+use Rattle.std.proofs.Common.{◌≡◌, ◌∙◌, ◌⊎◌, inl, inr, ℕ, suc, zero, ◌+◌, ◌*◌, ◌<◌, ◌≤◌, arith, Bool, true, false, ◌||◌, if◌then◌else◌, List, [], ◌∷◌, ◌++◌, Option, Some, None, append_assoc, append-nil, drop, is_some, map, refl, sym, ap, subst}
 use Rattle.std.specs.Prelude.{slice_get, option_and_then, option_to_list}
 use Rattle.std.specs.List.{AllByRecursion}
+use Rattle.std.proofs.lemmas.List.{map_push}
 use Rattle.cl_classfile.specs.Files.{Name, file_of}
 use Rattle.cl_model.specs.declared.class.Class.{Class}
 use Rattle.cl_model.specs.Classes.{Above, AsSuperclass, same_class, is_among}
@@ -19,7 +20,6 @@ use Rattle.cl_hierarchy.specs.Rows.{Rowed}
 use Rattle.cl_hierarchy.specs.Trees.{AllKnown, SupersBefore, forest, in_front, interfaces_in, kin_named, kin_under, kins, superclass_in}
 use Rattle.cl_hierarchy.specs.Tours.{Comes, Leaves, Marked, Stop, Toured, first_row, inner, interface_row, marked, marks, opened, opening, over_from, size, step, steps_left, steps_of, stops, stops_left, stops_of, telling, tells, tells_after, tells_before, told_at, up_first, upwards_of, wants_up, with_class, with_row}
 use Rattle.cl_hierarchy.proofs.Ancestry.{no_row, row_kin}
-use Rattle.cl_hierarchy.proofs.Scans.{map_push}
 use Rattle.cl_hierarchy.proofs.Tours.{Goes, goes_first, goes_on, goes_past, goes_tell, told_both, with_has, with_one, within_join, classes_both, with_either, with_grows}
 use Rattle.cl_hierarchy.proofs.Ends.{all_push}
 
@@ -355,7 +355,3 @@ pub ended : {A : Type 0} (rows : List Rowed) (o : Order) (goal : List Kin) (told
 ended {A} rows o goal told seen left stack e h =
     sym (append-nil (map (kin_under (kins rows)) told))
     ∙ (subst (λ (ss : List (Step A)). IsStage o rows goal (record { told = told; seen = seen; left = left; stack = marks ss })) e h).goes.goes
-
-pub no_items : {A : Type 0} (xs : List A) → length xs ≡ 0 → xs ≡ []
-no_items [] e = refl
-no_items (x ∷ xs) e = absurd (omega arith)

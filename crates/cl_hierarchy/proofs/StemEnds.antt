@@ -11,6 +11,7 @@ use Rattle.cl_hierarchy.specs.Frames.{accepted_of}
 use Rattle.cl_hierarchy.specs.Lineages.{IsInOrder, IsRowIn, Lined, kin_at, row_of, rows_in}
 use Rattle.cl_hierarchy.specs.Places.{IsPlace}
 use Rattle.cl_hierarchy.specs.Rows.{Rowed}
+use Rattle.cl_hierarchy.specs.Stems.{SharesSuperinterfaces}
 use Rattle.cl_hierarchy.specs.declared.tour.Order.TheVariants as orders
 use Rattle.cl_hierarchy.specs.Tours.{stops, told_at}
 use Rattle.cl_hierarchy.specs.Trees.{SupersBefore, forest, in_front, interfaces_in, kin_named, kin_under, kins, superclass_in}
@@ -64,9 +65,9 @@ over_same rows earlier r x few e = same_over rows r (kin_under (kins earlier) x)
 
 -- the same of what was found
 pub found_same : {A : Type 0} (rows : List Rowed) (r : Rowed) (front : A → List Rowed) (end : A → Rowed) (o : Option A) → length r.places ≤ 1 → option_map (λ p. kin_under (kins (front p)) (end p)) o ≡ first (upward (forest (kins rows) (superclass_in r)))
-    → IfSome o (λ p. superinterfaces (kin_under (kins (front p)) (end p)) ≡ superinterfaces (kin_under (kins rows) r))
-found_same rows r front end None few e = tt
-found_same rows r front end (Some p) few e = over_same rows (front p) r (end p) few e
+    → IfSome o (λ p. IsPlace rows (front p) (end p)) → IfSome o (λ p. SharesSuperinterfaces rows r (front p) (end p))
+found_same rows r front end None few e place = tt
+found_same rows r front end (Some p) few e place = record { same = over_same rows (front p) r (end p) few e; place = place }
 
 -- a place among those before a place
 pub further : (rows rest earlier : List Rowed) (r x : Rowed) → IsPlace rows rest r → IsPlace rest earlier x → IsPlace rows earlier x

@@ -2,7 +2,8 @@
 use Rattle.std.proofs.Common.{◌≡◌, ◌∙◌, ◌<◌, true, arith, List, [], ◌∷◌, ◌++◌, Option, Some, append_assoc, append-nil, map, reverse, sym, ap, subst}
 use Rattle.std.specs.Prelude.{IfSome}
 use Rattle.std.specs.List.{AllByRecursion}
-use Rattle.std.proofs.lemmas.List.{reverse-append}
+use Rattle.std.proofs.lemmas.List.{map_push, reverse-append}
+use mathlib.Core.List.{map-map}
 use Rattle.cl_model.specs.declared.class.Class.{Class}
 use Rattle.cl_model.specs.Lineages.{Forest, Bare, Kin, alone, lineage, once, postorder}
 use Rattle.cl_hierarchy.specs.Lineages.{IsRowIn, row_of}
@@ -12,9 +13,7 @@ use Rattle.cl_hierarchy.specs.declared.tour.Order.TheVariants as orders
 use Rattle.cl_hierarchy.specs.Tours.{size, stops, told_at}
 use Rattle.cl_hierarchy.specs.Trees.{SupersBefore, forest, in_front, kin_under, kins}
 use Rattle.cl_hierarchy.proofs.Ancestry.{row_kin}
-use Rattle.cl_hierarchy.proofs.Climbs.{map_twice}
 use Rattle.cl_hierarchy.proofs.Ends.{all_pop, all_push}
-use Rattle.cl_hierarchy.proofs.Scans.{map_push}
 use Rattle.cl_hierarchy.proofs.Told.{all_forth, lineage_ends}
 use Rattle.cl_hierarchy.proofs.Tours.{lineage_told}
 
@@ -116,7 +115,7 @@ pub first_down_in : {A : Type 0} (v : A → Rowed) (rows : List Rowed) (start to
     → IsDown rows start (map v told) (map v stem)
 first_down_in v rows start top stem told h e all =
     let is : map (kin_under (kins rows)) (map v told) ≡ lineage (kin_under (kins rows) top) =
-    map_twice v (kin_under (kins rows)) told ∙ e ∙ ap (λ (ks : List Kin). once ks) (lineage_told (alone (kin_under (kins rows) top)) true) in
+    map-map (kin_under (kins rows)) v told ∙ e ∙ ap (λ (ks : List Kin). once ks) (lineage_told (alone (kin_under (kins rows) top)) true) in
     record {
       told_in = all_forth v (IsRowIn rows) told all;
       stem_in = h.stem_in;
@@ -132,4 +131,4 @@ pub down : {A : Type 0} (v : A → Rowed) (rows : List Rowed) (start : Rowed) (t
     → map (λ x. kin_under (kins rows) (v x)) told ≡ lineage (kin_under (kins rows) start)
 down {A} v rows start told stem e h =
     let now : IsDown rows start (map v told) [] = subst (λ (xs : List A). IsDown rows start (map v told) (map v xs)) e h in
-    sym (map_twice v (kin_under (kins rows)) told) ∙ sym (append-nil (map (kin_under (kins rows)) (map v told))) ∙ sym now.lineage_is
+    sym (map-map (kin_under (kins rows)) v told) ∙ sym (append-nil (map (kin_under (kins rows)) (map v told))) ∙ sym now.lineage_is

@@ -2,7 +2,9 @@
 use Rattle.std.proofs.Common.{◌≡◌, ◌∙◌, ◌-◌, inl, inr, Bool, true, false, ◌||◌, if◌then◌else◌, List, [], ◌∷◌, ◌++◌, Option, Some, None, append_assoc, append-nil, is_some, length, map, reverse, slice_get, refl, sym, ap, subst}
 use Rattle.std.proofs.lemmas.Bool.{or_parts, or_from}
 use Rattle.std.specs.List.{AllByRecursion}
+use Rattle.std.proofs.lemmas.List.{map_push}
 use Rattle.std.proofs.lemmas.Grind.{reverse_onto}
+use mathlib.Core.List.{map-map}
 use Rattle.cl_model.specs.declared.class.Class.{Class}
 use Rattle.cl_model.specs.Content.{Content}
 use Rattle.cl_model.specs.Classes.{is_among, same_class}
@@ -15,10 +17,9 @@ use Rattle.cl_hierarchy.specs.Trees.{AllKnown, SupersBefore, forest, in_front, i
 use Rattle.cl_hierarchy.specs.Lineages.{IsLined, IsLineageOf, IsRowIn, IsWithin, Lined, kin_of, row_of}
 use Rattle.cl_hierarchy.specs.RowTables.{AreRows, AreRowsAfter, IsMadeOf}
 use Rattle.cl_hierarchy.proofs.Ancestry.{IsRowKin, kin_stays, kins_push, row_kin}
-use Rattle.cl_hierarchy.proofs.Climbs.{before_split, map_twice}
+use Rattle.cl_hierarchy.proofs.Climbs.{before_split}
 use Rattle.cl_hierarchy.proofs.Ends.{all_pop, last_of}
 use Rattle.cl_hierarchy.proofs.RowTables.{made, supers_before}
-use Rattle.cl_hierarchy.proofs.Scans.{map_push}
 use Rattle.cl_hierarchy.proofs.Tours.{classes_both, within_join, within_right}
 
 -- ---- classes among others
@@ -365,7 +366,7 @@ pub told_in : {A : Type 0} (v : A → Rowed) (rows : List Rowed) (start : Rowed)
     → AllByRecursion (λ x. IsRowIn rows (v x)) items → AreTold rows start (map v items)
 told_in v rows start items e all = record {
   all = all_forth v (IsRowIn rows) items all;
-  order = map_twice v (kin_under (kins rows)) items ∙ e;
+  order = map-map (kin_under (kins rows)) v items ∙ e;
 }
 
 pub told_made : {A : Type 0} (v : A → Rowed) (told : Option Content) (config : Configured) (rows : List Rowed) (held : Configured) (c : Class) (start : Rowed) (items rest : List A) (x : A) → AreRows told config rows → held ≡ config → row_of rows c ≡ Some start

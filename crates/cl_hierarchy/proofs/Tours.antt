@@ -2,6 +2,7 @@
 use Rattle.std.proofs.Common.{◌≡◌, ◌∙◌, ◌⊎◌, inl, inr, ℕ, suc, Bool, true, false, ◌||◌, if◌then◌else◌, List, [], ◌∷◌, ◌++◌, Option, Some, None, append_assoc, append-nil, drop, map, refl, sym, ap, subst}
 use Rattle.std.proofs.lemmas.Bool.{or_left, or_right}
 use Rattle.std.specs.List.{AllByRecursion}
+use Rattle.std.proofs.lemmas.List.{map_push}
 use Rattle.cl_model.specs.declared.class.Class.{Class}
 use Rattle.cl_model.specs.Classes.{same_class, is_among}
 use Rattle.cl_model.specs.Lineages.{Forest, Bare, Tree, Kin, alone, classes, once_after, once, postorder, preorder, superinterfaces}
@@ -13,7 +14,6 @@ use Rattle.cl_hierarchy.specs.Lineages.{field_order, upwards}
 use Rattle.cl_hierarchy.specs.Rows.{Rowed}
 use Rattle.cl_hierarchy.specs.Trees.{kin_named, kin_under}
 use Rattle.cl_hierarchy.specs.Tours.{Comes, Leaves, Stop, between, inner, stops, tells, tells_before, told_at, up_first, wants_up, with_class, with_row}
-use Rattle.cl_hierarchy.proofs.Scans.{map_push}
 
 -- ---- the orders of the definitions
 

@@ -32,11 +32,20 @@ pub enum DraftFault {
 }
 
 /// The class of a home, with its file.
-#[derive(Drop)]
 pub struct Draft<T: Told> {
     class: Class,
     file: Arc<ClassFile>,
     home: Arc<Home<T>>,
+}
+
+impl<T: Told> Drop for Draft<T> {
+    fn drop(self) {
+        let Draft {
+            class: _,
+            file: _,
+            home: _,
+        } = self;
+    }
 }
 
 impl<T: Told> Model for Draft<T> {
@@ -51,10 +60,15 @@ impl<T: Told> Model for Draft<T> {
 }
 
 /// A home whose bytes are not its class.
-#[derive(Drop)]
 pub struct Unreadable<T: Told> {
     home: Home<T>,
     fault: DraftFault,
+}
+
+impl<T: Told> Drop for Unreadable<T> {
+    fn drop(self) {
+        let Unreadable { home: _, fault: _ } = self;
+    }
 }
 
 impl<T: Told> Model for Unreadable<T> {
@@ -87,7 +101,8 @@ impl<T: Told> Unreadable<T> {
     pub fn into_home(self) -> Home<T>
         ensures { result ≡ self.home }
     {
-        self.home
+        let Unreadable { home, fault: _ } = self;
+        home
     }
 }
 

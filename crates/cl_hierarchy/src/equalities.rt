@@ -29,7 +29,6 @@ pub fn equality(name: Name, one: LoaderId, other: LoaderId) -> Equality
 }
 
 /// What a list of equalities was made from.
-#[derive(Drop)]
 pub enum Origin<T: Told> {
     /// The member reference of `d` at this index of its constant pool, which names the class `c` (JVMS SE 8, 5.4.3).
     Reference {
@@ -43,11 +42,32 @@ pub enum Origin<T: Told> {
     },
 }
 
+impl<T: Told> Drop for Origin<T> {
+    fn drop(self) {
+        match self {
+            Origin::Reference {
+                d: _,
+                c: _,
+                index: _,
+            } => {}
+            Origin::Preparation { lineage: _ } => {}
+        }
+    }
+}
+
 /// The equalities that a reference or a preparation asks for, in order.
-#[derive(Drop)]
 pub struct Equalities<T: Told> {
     needs: Vec<Equality>,
     origin: Origin<T>,
+}
+
+impl<T: Told> Drop for Equalities<T> {
+    fn drop(self) {
+        let Equalities {
+            needs: _,
+            origin: _,
+        } = self;
+    }
 }
 
 impl<T: Told> Model for Equalities<T> {

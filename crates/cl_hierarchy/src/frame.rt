@@ -18,10 +18,18 @@ use std::marker::Model;
 
 /// A class that is being derived, and which loaders defined its direct supertypes, as far as they were accepted
 /// (JVMS SE 8, 5.3.5, steps 3 and 4).
-#[derive(Drop)]
 pub struct Frame<T: Told> {
     draft: Draft<T>,
     places: Vec<LoaderId>,
+}
+
+impl<T: Told> Drop for Frame<T> {
+    fn drop(self) {
+        let Frame {
+            draft: _,
+            places: _,
+        } = self;
+    }
 }
 
 impl<T: Told> Model for Frame<T> {
@@ -107,6 +115,7 @@ impl<T: Told> Frame<T> {
     pub fn into_draft(self) -> Draft<T>
         ensures { result ≡ self.draft }
     {
-        self.draft
+        let Frame { draft, places: _ } = self;
+        draft
     }
 }

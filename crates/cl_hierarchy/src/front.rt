@@ -6,22 +6,16 @@ ghost use Rattle.cl_config.specs.Views.{Configured};
 ghost use Rattle.cl_hierarchy.specs.Fronts.{IsKept};
 ghost use Rattle.cl_hierarchy.specs.Lineages.{IsLined};
 ghost use Rattle.cl_hierarchy.specs.Trees.{superclass_in};
-ghost use Rattle.cl_model.specs.Classes.{class, is_among, same_class};
+ghost use Rattle.cl_model.specs.Classes.{is_among};
 
+use crate::above::is_of;
 use crate::row::ClassRow;
-use cl_model::{Class, LoaderId, Told};
-use cl_names::Name;
+use cl_model::Told;
 use std::alloc::{AllocError, Global};
 use std::sync::Arc;
 
-/// Whether a class has this name and loader.
-fn is_named(one: &Class, name: &Name, loader: LoaderId) -> bool
-    ensures { result ≡ same_class one.now (class name.now loader) }
-{
-    one.name == *name && one.loader == loader
-}
-
 /// Whether a row is that of the superclass of another's class.
+#[tactic(auto, using(crate::proofs::Ancestry::same_turned))]
 fn is_superclass<T: Told>(row: &ClassRow<T>, under: &ClassRow<T>) -> bool
     ensures { result ≡ is_among (superclass_in under.now) row.now.class }
 {
@@ -31,7 +25,7 @@ fn is_superclass<T: Told>(row: &ClassRow<T>, under: &ClassRow<T>) -> bool
     let Some(loader) = under.places().first() else {
         return false;
     };
-    is_named(row.class(), name, *loader)
+    is_of(name, *loader, row.class())
 }
 
 /// The first place of the stem of a lineage.

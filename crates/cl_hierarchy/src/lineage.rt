@@ -3,10 +3,11 @@
 ghost use Rattle.std.specs.Prelude.{◌≡◌, [], filter, is_some, length, map, nat_le, true, IfOk, IfSome};
 ghost use Rattle.std.specs.List.{AllByRecursion};
 ghost use Rattle.std.specs.Option.{option_map};
-ghost use Rattle.cl_model.specs.Lineages.{first, is_subclass, superclasses, superinterfaces, upward};
+ghost use Rattle.cl_model.specs.Lineages.{alone, first, is_subclass, once, superclasses, superinterfaces, upward};
 ghost use Rattle.cl_hierarchy.specs.Fronts.{IsFront, IsOnStem};
 ghost use Rattle.cl_hierarchy.specs.Lineages.{IsLined, IsRowIn, field_order, is_of_other, kin_at, kin_of, reaches, rows_in};
 ghost use Rattle.cl_hierarchy.specs.Places.{IsPlace};
+ghost use Rattle.cl_hierarchy.specs.Tours.{stops, told_at};
 ghost use Rattle.cl_hierarchy.specs.Trees.{SupersBefore, forest, kin_under, kins, superclass_in};
 
 use crate::above::superclass_row;
@@ -25,13 +26,23 @@ use std::sync::Arc;
 
 /// A class with all that stands above it, each class once: its superclass's lineage, then that of each superinterface in
 /// file order, then the class (JVMS SE 8, 5.3.5).
-#[derive(Drop)]
 pub struct Lineage<T: Told> {
     config: Arc<Config>,
     above: Vec<Arc<ClassRow<T>>>,
     own: Arc<ClassRow<T>>,
     /// The first place of the stem: from there on the superclass of each row is that of the row right before it.
     stem: usize,
+}
+
+impl<T: Told> Drop for Lineage<T> {
+    fn drop(self) {
+        let Lineage {
+            config: _,
+            above: _,
+            own: _,
+            stem: _,
+        } = self;
+    }
 }
 
 impl<T: Told> Model for Lineage<T> {
@@ -57,7 +68,7 @@ fn is_above<'a, T: Told>(
 {
     let mut rest = rows;
     let mut last = under;
-    while let Some((row, earlier)) = superclass_row(rest, last) {
+    while let Some((row, earlier)) = superclass_row(rest, last, None) {
         if is_same(of, row.class()) {
             return true;
         }
@@ -83,7 +94,7 @@ fn upward<'a, T: Told>(
     let mut found = Vec::new(alloc);
     let mut rest = rows;
     let mut last = under;
-    while let Some((row, earlier)) = superclass_row(rest, last) {
+    while let Some((row, earlier)) = superclass_row(rest, last, None) {
         found.push(Arc::try_clone(row)?)?;
         last = row;
         rest = earlier;
@@ -195,7 +206,7 @@ impl<T: Told> Lineage<T> {
             ≡ first (superclasses (kin_of self.now)) }
         ensures rows { IfSome result (λ r. IsRowIn (rows_in self.now) r.now.value) }
     {
-        let (row, _) = superclass_row(self.above.as_slice(), &self.own)?;
+        let (row, _) = superclass_row(self.above.as_slice(), &self.own, None)?;
         Some(row)
     }
 
@@ -253,26 +264,28 @@ impl<T: Told> Lineage<T> {
             v.items) }
     {
         match stem_end(self.above.as_slice(), row) {
-            None => self.superinterfaces_by_tour(alloc, row),
+            None => self.rows_by_tour(alloc, Order::Superinterfaces, row, false),
             Some((end, before)) => superinterfaces_behind(alloc, self.config.seed(), before, end),
         }
     }
 
-    /// The same by a tour through all rows.
-    fn superinterfaces_by_tour(
+    /// What a tour through all rows tells from one of them, each row once.
+    fn rows_by_tour(
         &self,
         alloc: Global,
+        order: Order,
         row: &Arc<ClassRow<T>>,
+        wanted: bool,
     ) -> Result<Vec<Arc<ClassRow<T>>>, AllocError>
         requires { IsRowIn (rows_in self.now) row.now.value }
-        ensures superinterfaces { IfOk result (λ v. map (λ r. kin_at self.now r.value) v.items
-            ≡ superinterfaces (kin_at self.now row.now.value)) }
+        ensures told { IfOk result (λ v. map (λ r. kin_at self.now r.value) v.items
+            ≡ once (told_at order (stops order (alone (kin_at self.now row.now.value)) wanted))) }
         ensures rows { IfOk result (λ v. AllByRecursion (λ r. IsRowIn (rows_in self.now) r.value)
             v.items) }
     {
         let seed = self.config.seed();
         let table = RowIndex::of(alloc, seed, self.above.as_slice(), &self.own)?;
-        rows_in_order(alloc, seed, Order::Superinterfaces, &table, row, false)
+        rows_in_order(alloc, seed, order, &table, row, wanted)
     }
 
     /// The rows of the class and of all that stands above it in the order of field lookup, each once: a class, its
@@ -284,8 +297,6 @@ impl<T: Told> Lineage<T> {
         ensures rows { IfOk result (λ v. AllByRecursion (λ r. IsRowIn (rows_in self.now) r.value)
             v.items) }
     {
-        let seed = self.config.seed();
-        let table = RowIndex::of(alloc, seed, self.above.as_slice(), &self.own)?;
-        rows_in_order(alloc, seed, Order::Fields, &table, &self.own, true)
+        self.rows_by_tour(alloc, Order::Fields, &self.own, true)
     }
 }

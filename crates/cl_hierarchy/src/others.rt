@@ -1,12 +1,10 @@
 //! The superclasses that another loader defined (JVMS SE 8, 4.1, 5.3).
 
-ghost use Rattle.std.specs.Prelude.{◌≡◌, ◌<◌, ◌++◌, ◌∷◌, [], filter, length, map, IfOk, IfSome, OnOk};
+ghost use Rattle.std.specs.Prelude.{◌≡◌, ◌++◌, ◌∷◌, [], filter, map, IfOk, OnOk};
 ghost use Rattle.std.specs.List.{AllByRecursion};
-ghost use Rattle.std.specs.Option.{option_map};
-ghost use Rattle.cl_model.specs.Lineages.{first, upward};
-ghost use Rattle.cl_hierarchy.specs.Fronts.{IsNextOnStem, IsStem};
+ghost use Rattle.cl_model.specs.Lineages.{upward};
+ghost use Rattle.cl_hierarchy.specs.Fronts.{IsStem};
 ghost use Rattle.cl_hierarchy.specs.Lineages.{IsRowIn, is_of_other};
-ghost use Rattle.cl_hierarchy.specs.Places.{IsPlace};
 ghost use Rattle.cl_hierarchy.specs.Trees.{SupersBefore, forest, kin_under, kins, superclass_in};
 
 use crate::above::superclass_row;
@@ -14,28 +12,6 @@ use crate::row::ClassRow;
 use cl_model::{LoaderId, Told};
 use std::alloc::{AllocError, Global};
 use std::sync::Arc;
-
-/// The row of the superclass of a row that stands behind these, with those before it: on the stem the last of them.
-fn next_above<'a, T: Told>(
-    rows: &'a [Arc<ClassRow<T>>],
-    under: &ClassRow<T>,
-    stem: usize,
-) -> Option<(&'a Arc<ClassRow<T>>, &'a [Arc<ClassRow<T>>])>
-    requires { IsNextOnStem (map (λ r. r.value) rows.now) under.now stem }
-    ensures kin { option_map (λ p. kin_under (kins (map (λ r. r.value) p.1.now)) p.0.now.value)
-        result
-        ≡ first (upward (forest (kins (map (λ r. r.value) rows.now)) (superclass_in under.now))) }
-    ensures place { IfSome result (λ p. IsPlace (map (λ r. r.value) rows.now)
-        (map (λ r. r.value) p.1.now) p.0.now.value) }
-    ensures shorter { IfSome result (λ p. length p.1.now < length rows.now) }
-{
-    if let Some((row, earlier)) = rows.split_last() {
-        if earlier.len() >= stem {
-            return Some((row, earlier));
-        }
-    }
-    superclass_row(rows, under)
-}
 
 /// Adds a row whose class another loader defined.
 fn push_other<T: Told>(
@@ -76,7 +52,7 @@ pub(crate) fn others_above<'a, T: Told>(
     let mut found = Vec::new(alloc);
     let mut rest = rows;
     let mut last = under;
-    while let Some((row, earlier)) = next_above(rest, last, stem) {
+    while let Some((row, earlier)) = superclass_row(rest, last, Some(stem)) {
         push_other(&mut found, own, row)?;
         last = row;
         rest = earlier;

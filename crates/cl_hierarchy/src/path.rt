@@ -30,7 +30,6 @@ type Frames<T> = IndexMap<Class, Frame<T>, Seed>;
 /// The classes that are being derived for one request, each for the sake of the one before it, each at its own loader
 /// (JVMS SE 8, 5.3.5, steps 3 and 4). Each waits for a supertype. None stands twice: where a content is told, a path keeps
 /// that (`IsFrames` of the rules); else it stands in the condition *absent* of `push` alone.
-#[derive(Drop)]
 pub struct Path<T: Told> {
     config: Arc<Config>,
     loader: LoaderId,
@@ -38,6 +37,17 @@ pub struct Path<T: Told> {
     at: Name,
     /// What is being derived, by its class, so that a class met again is told at once.
     frames: Frames<T>,
+}
+
+impl<T: Told> Drop for Path<T> {
+    fn drop(self) {
+        let Path {
+            config: _,
+            loader: _,
+            at: _,
+            frames: _,
+        } = self;
+    }
 }
 
 impl<T: Told> Model for Path<T> {
@@ -234,9 +244,12 @@ impl<T: Told> Path<T> {
         ensures { result ≡ class (at_name self) (at_loader self) }
     {
         let loader = self.at_loader();
-        Class {
-            name: self.at,
-            loader,
-        }
+        let Path {
+            config: _,
+            loader: _,
+            at: name,
+            frames: _,
+        } = self;
+        Class { name, loader }
     }
 }

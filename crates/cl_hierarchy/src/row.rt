@@ -16,12 +16,22 @@ use std::marker::{Model, PhantomData};
 use std::sync::Arc;
 
 /// A class as it is recorded, shared by all who look at it (JVMS SE 8, 5.3.5, step 5). No row holds another.
-#[derive(Drop)]
 pub struct ClassRow<T: Told> {
     class: Class,
     file: Arc<ClassFile>,
     places: Vec<LoaderId>,
     of: PhantomData<T>,
+}
+
+impl<T: Told> Drop for ClassRow<T> {
+    fn drop(self) {
+        let ClassRow {
+            class: _,
+            file: _,
+            places: _,
+            of: _,
+        } = self;
+    }
 }
 
 impl<T: Told> Model for ClassRow<T> {

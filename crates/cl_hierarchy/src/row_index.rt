@@ -19,11 +19,20 @@ use std::sync::Arc;
 type Table<T> = IndexMap<Class, Arc<ClassRow<T>>, Seed>;
 
 /// Rows, and where they are found by their classes.
-#[derive(Drop)]
 pub(crate) struct RowIndex<'a, T: Told> {
     above: &'a [Arc<ClassRow<T>>],
     own: &'a Arc<ClassRow<T>>,
     table: Table<T>,
+}
+
+impl<'a, T: Told> Drop for RowIndex<'a, T> {
+    fn drop(self) {
+        let RowIndex {
+            above: _,
+            own: _,
+            table: _,
+        } = self;
+    }
 }
 
 impl<'a, T: Told> Model for RowIndex<'a, T> {

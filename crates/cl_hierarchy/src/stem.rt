@@ -4,8 +4,7 @@
 ghost use Rattle.std.specs.Prelude.{◌≡◌, ◌<◌, ◌++◌, ◌∷◌, [], length, map, IfOk, IfSome};
 ghost use Rattle.std.specs.List.{AllByRecursion};
 ghost use Rattle.cl_hierarchy.specs.Lineages.{IsRowIn};
-ghost use Rattle.cl_hierarchy.specs.Places.{IsPlace};
-ghost use Rattle.cl_hierarchy.specs.Stems.{IsOnlyAbove};
+ghost use Rattle.cl_hierarchy.specs.Stems.{IsOnlyAbove, SharesSuperinterfaces};
 ghost use Rattle.cl_hierarchy.specs.Trees.{SupersBefore, kin_under, kins};
 ghost use Rattle.cl_model.specs.Lineages.{lineage, superinterfaces};
 
@@ -67,17 +66,14 @@ fn next_of_stem<'a, T: Told>(
     rows: &'a [Arc<ClassRow<T>>],
     under: &ClassRow<T>,
 ) -> Option<(&'a Arc<ClassRow<T>>, &'a [Arc<ClassRow<T>>])>
-    ensures same { IfSome result (λ p. superinterfaces (kin_under
-        (kins (map (λ r. r.value) p.1.now)) p.0.now.value)
-        ≡ superinterfaces (kin_under (kins (map (λ r. r.value) rows.now)) under.now)) }
-    ensures place { IfSome result (λ p. IsPlace (map (λ r. r.value) rows.now)
-        (map (λ r. r.value) p.1.now) p.0.now.value) }
+    ensures shares { IfSome result (λ p. SharesSuperinterfaces (map (λ r. r.value) rows.now)
+        under.now (map (λ r. r.value) p.1.now) p.0.now.value) }
     ensures shorter { IfSome result (λ p. length p.1.now < length rows.now) }
 {
     if under.places().len() > 1 {
         return None;
     }
-    superclass_row(rows, under)
+    superclass_row(rows, under, None)
 }
 
 /// The end of the stem of a row, with the rows before it, if its superclass is its one direct supertype.
@@ -85,10 +81,7 @@ pub(crate) fn stem_end<'a, T: Told>(
     rows: &'a [Arc<ClassRow<T>>],
     under: &ClassRow<T>,
 ) -> Option<(&'a Arc<ClassRow<T>>, &'a [Arc<ClassRow<T>>])>
-    ensures same { IfSome result (λ p. superinterfaces (kin_under
-        (kins (map (λ r. r.value) p.1.now)) p.0.now.value)
-        ≡ superinterfaces (kin_under (kins (map (λ r. r.value) rows.now)) under.now)) }
-    ensures place { IfSome result (λ p. IsPlace (map (λ r. r.value) rows.now)
+    ensures { IfSome result (λ p. SharesSuperinterfaces (map (λ r. r.value) rows.now) under.now
         (map (λ r. r.value) p.1.now) p.0.now.value) }
 {
     let (mut end, mut rest) = next_of_stem(rows, under)?;

@@ -97,10 +97,15 @@ enum Task {
 }
 
 /// What is left to do for a row.
-#[derive(Drop)]
 struct Step<T: Told> {
     row: Arc<ClassRow<T>>,
     task: Task,
+}
+
+impl<T: Told> Drop for Step<T> {
+    fn drop(self) {
+        let Step { row: _, task: _ } = self;
+    }
 }
 
 type Classes = IndexSet<Class, Seed>;

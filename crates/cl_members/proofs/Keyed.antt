@@ -1,13 +1,11 @@
 -- The key that an entry asks for is that of the texts which it names.
-use Rattle.std.proofs.Common.{◌≡◌, ℕ, not, eqb, List, [], ◌∷◌, Option, Some, None, refl, sym, ap, ◌∙◌}
+use Rattle.std.proofs.Common.{◌≡◌, Option, Some, None, refl, sym, ap, ◌∙◌}
 use Rattle.std.specs.Prelude.{option_map, option_and_then, option_to_list, IsSome}
-use Rattle.cl_descriptors.proofs.Codec.{position-at}
-use Rattle.cl_descriptors.specs.Reading.{base_at, field_at, whole_field, whole_method}
+use Rattle.cl_descriptors.specs.Reading.{whole_field, whole_method}
 use Rattle.cl_descriptors.specs.declared.types.FieldType.{FieldType}
 use Rattle.cl_descriptors.specs.declared.types.MethodType.{MethodType}
-use Rattle.cl_descriptors.specs.declared.types.Descriptor.TheVariants as descriptors
 use Rattle.cl_descriptors.specs.Types.{SpellsField, SpellsMethod, class_of, classes_of}
-use Rattle.cl_descriptors.proofs.Methods.{whole_field_again, whole_method_again, whole_method_spelled}
+use Rattle.cl_descriptors.proofs.Methods.{whole_field_again, whole_method_again}
 use Rattle.cl_classfile.specs.declared.reference.Reference.{Reference}
 use Rattle.cl_classfile.specs.declared.reference.Reference.TheVariants as references
 use Rattle.cl_classfile.specs.declared.reference.Symbol.{Symbol}
@@ -15,6 +13,7 @@ use Rattle.cl_classfile.specs.Files.{Name, Key, ToClass, ToField, ToMethod, ToIn
 use Rattle.cl_classfile.specs.Files as files
 use Rattle.cl_classfile.specs.References.{plain_symbol, plain_reference}
 use Rattle.cl_model.specs.Keys.{descriptor_of, key_of}
+use Rattle.cl_model.proofs.Keys as keys
 use Rattle.cl_members.specs.Symbols as symbols
 
 -- a symbol that the code found, and the key that is its
@@ -75,35 +74,11 @@ pub record IsKeyOf (name descriptor : Name) (key : Key) : Type 0 where
   pub keyed : key_of name descriptor ≡ key
   pub described : IsSome (descriptor_of descriptor)
 
-abbrev field_key_by : Name → FieldType → Key
-field_key_by n t = record { name = n; descriptor = descriptors.Field t }
-
-abbrev method_key_by : Name → MethodType → Key
-method_key_by n m = record { name = n; descriptor = descriptors.Method m }
-
-by_field : (n d : Name) (o : Option FieldType) (key : Key) → whole_field d ≡ o → option_map (field_key_by n) o ≡ Some key → IsKeyOf n d key
-by_field n d None key e f = absurd cc
-by_field n d (Some t) key e f =
-    let is : field_key_by n t ≡ key = cc in
-    record { keyed = rw e is; described = rw e refl }
-
 pub field_keyed : (n d : Name) (key : Key) → field_of n d ≡ Some key → IsKeyOf n d key
-field_keyed n d key e = by_field n d (whole_field d) key refl e
-
--- no field type begins with `(`
-no_field : (rest : List ℕ) → whole_field (40 ∷ rest) ≡ None
-unfolding whole_field field_at base_at
-no_field rest = rw (position-at (λ c. not (eqb c 91)) [] 40 rest tt refl) refl
-
-by_method : (n d : Name) (o : Option MethodType) (key : Key) → whole_method d ≡ o → option_map (method_key_by n) o ≡ Some key → IsKeyOf n d key
-by_method n d None key e f = absurd cc
-by_method n d (Some m) key e f =
-    let is : method_key_by n m ≡ key = cc in
-    let no : whole_field d ≡ None = ap whole_field (whole_method_spelled d m e).spelled ∙ no_field _ in
-    record { keyed = rw (no, e) is; described = rw (no, e) refl }
+field_keyed n d key e = let is = keys.field_key n d key e in record { keyed = is.1; described = is.0 }
 
 pub method_keyed : (n d : Name) (key : Key) → method_of n d ≡ Some key → IsKeyOf n d key
-method_keyed n d key e = by_method n d (whole_method d) key refl e
+method_keyed n d key e = let is = keys.method_key n d key e in record { keyed = is.1; described = is.0 }
 
 -- ---- the classes that a descriptor names
 

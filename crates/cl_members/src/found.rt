@@ -18,7 +18,6 @@ use std::sync::Arc;
 
 /// The member that an entry of the pool of a class `d` asks for, as it was found through the class `c` that the entry
 /// names. It is accessible to `d` (JVMS SE 8, 5.4.3.2 to 5.4.3.4).
-#[derive(Drop)]
 pub struct Found<T: Told> {
     d: Arc<Lineage<T>>,
     c: Arc<Lineage<T>>,
@@ -26,6 +25,19 @@ pub struct Found<T: Told> {
     owner: Arc<ClassRow<T>>,
     key: MemberKey,
     flags: u16,
+}
+
+impl<T: Told> Drop for Found<T> {
+    fn drop(self) {
+        let Found {
+            d: _,
+            c: _,
+            index: _,
+            owner: _,
+            key: _,
+            flags: _,
+        } = self;
+    }
 }
 
 impl<T: Told> Model for Found<T> {

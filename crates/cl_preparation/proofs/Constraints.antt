@@ -1,49 +1,47 @@
 -- What the rows of a lineage impose is what its tree does.
-use Rattle.std.proofs.Common.{◌≡◌, ◌<◌, ◌+◌, ℕ, Bool, true, false, not, ◌&&◌, ◌||◌, if◌then◌else◌, List, [], ◌∷◌, ◌++◌, map, filter, length, Option, Some, None, refl, ap, sym, subst, ◌∙◌, get_or, take, append-nil, append_assoc}
-use Rattle.std.specs.Prelude.{Result, Ok, Err, OnOk, option_map, is_some, find, flat_map, nat_le}
+use Rattle.std.proofs.Common.{◌≡◌, ◌<◌, ◌+◌, ℕ, Bool, true, false, not, ◌&&◌, ◌||◌, if◌then◌else◌, List, [], ◌∷◌, ◌++◌, map, filter, length, Option, Some, None, refl, ap, sym, subst, ◌∙◌, get_or, take, append-nil, append_assoc, arith}
+use Rattle.std.specs.Prelude.{option_map, is_some, find, flat_map}
 use Rattle.std.specs.List.{AllByRecursion, list_any}
-use Rattle.std.proofs.lemmas.List.{take_more, map-append}
+use Rattle.std.proofs.lemmas.Bool.{or_parts}
+use Rattle.std.proofs.lemmas.List.{map_more, map_push, take-map, take_all, take_more}
 use Rattle.std.proofs.lemmas.Grind.{flat_map-append}
-use Rattle.cl_classfile.specs.Files.{Name, Key, Member, file_of, is_interface}
+use mathlib.Core.List.{map-map}
+use Rattle.cl_classfile.specs.Files.{Key, Member, file_of, is_interface}
 use Rattle.cl_model.specs.declared.class.Class.{Class}
-use Rattle.cl_model.specs.Lineages.{Kin, if_declared, method_of, superclasses, superinterfaces}
+use Rattle.cl_model.specs.Lineages.{Kin, is_offered, method_of, superclasses, superinterfaces}
 use Rattle.cl_model.specs.Preparation.{constraints_of, equals_of, equals_with, for_declared, for_inherited, inherited_from, overridden, takes_part, with_inherited}
-use Rattle.cl_model.specs.States.{Need, Equal}
+use Rattle.cl_model.specs.States.{Need}
 use Rattle.cl_model.specs.declared.need.Equality.{Equality}
 use Rattle.cl_hierarchy.specs.Imposed.{equal_need, needs_of}
 use Rattle.cl_hierarchy.specs.Rows.{Rowed}
 use Rattle.cl_hierarchy.specs.Lineages.{IsRowIn, Lined, kin_at, kin_of, rows_in}
-use Rattle.cl_preparation.specs.Methods.{is_instance}
-use Rattle.cl_preparation.specs.Nearby.{first_loader}
-use Rattle.cl_preparation.specs.Relatives.{AreRelatives, bare, equals_for, of_superclasses}
+use Rattle.cl_hierarchy.proofs.Told.{all_forth}
+use Rattle.cl_preparation.specs.Fewer.{equals_from}
+use Rattle.cl_preparation.specs.Inherited.{Inherited, first_loader, inherited_by_rows, second_by_rows}
+use Rattle.cl_preparation.specs.Relatives.{AreRelatives, bare, of_superclasses}
 use Rattle.cl_preparation.specs.Walks.{is_overridden, opened_by, walked}
-use Rattle.cl_preparation.proofs.Reached.{overridden_is_walked}
-use Rattle.cl_preparation.proofs.Named.{map_through}
-
--- what a result that is there tells
-pub told : {T E : Type 0} (r : Result T E) (P : Type 0) (x : T) → r ≡ Ok x → OnOk r P → P
-told (Ok y) P x e p = p
-told (Err y) P x e p = absurd cc
-
-pub on_ok : {T E : Type 0} (r : Result T E) (P Q : Type 0) → (P → Q) → OnOk r P → OnOk r Q
-on_ok (Ok y) P Q f p = f p
-on_ok (Err y) P Q f p = p
+use Rattle.cl_preparation.proofs.Reached.{any_map, overridden_is_walked}
 
 -- ---- one more of a list
 
 pub mapped_more : {A B : Type 0} (f : A → B) (xs : List A) (i : ℕ) (x : A) (done after : List B) (b : B) → i < length xs → x ≡ get_or xs i x → b ≡ f x → done ≡ map f (take i xs) → after ≡ done ++ b ∷ [] → after ≡ map f (take (i + 1) xs)
 mapped_more f xs i x done after b h at made before more =
-    more ∙ ap (λ y. done ++ y ∷ []) made ∙ ap (λ ys. ys ++ f x ∷ []) before
-    ∙ sym (map-append f (take i xs) (x ∷ [])) ∙ ap (λ y. map f (take i xs ++ y ∷ [])) at ∙ ap (map f) (sym (take_more xs i x h))
+    more ∙ ap (λ y. done ++ y ∷ []) made ∙ ap (λ ys. ys ++ f x ∷ []) before ∙ ap (λ y. map f (take i xs) ++ f y ∷ []) at ∙ sym (map_more f xs i x h)
 
 -- an equality more, of the next name
-pub pushed_equality : (names : List Name) (i : ℕ) (n : Name) (a b : ℕ) (first : List Need) (done after : List Equality) (e : Equality) → i < length names → n ≡ get_or names i n
-    → equal_need e ≡ (if nat_le a b then Equal n a b else Equal n b a) → needs_of done ≡ first ++ equals_for (take i names) a b → after ≡ done ++ e ∷ [] → needs_of after ≡ first ++ equals_for (take (i + 1) names) a b
-pushed_equality names i n a b first done after e h at made before more =
-    let f : Name → Need = λ x. if nat_le a b then Equal x a b else Equal x b a in
-    ap needs_of more ∙ map-append equal_need done (e ∷ []) ∙ ap (λ ns. ns ++ equal_need e ∷ []) before ∙ append_assoc first (map f (take i names)) (equal_need e ∷ [])
-    ∙ ap (λ y. first ++ (map f (take i names) ++ y ∷ [])) made
-    ∙ ap (λ ns. first ++ ns) (sym (map-append f (take i names) (n ∷ [])) ∙ ap (λ y. map f (take i names ++ y ∷ [])) at ∙ ap (map f) (sym (take_more names i n h)))
+pub pushed_equality : {A : Type 0} (f : A → Need) (names : List A) (all : List Need) (i : ℕ) (n : A) (first : List Need) (done after : List Equality) (e : Equality) → map f names ≡ all → i < length names → n ≡ get_or names i n → equal_need e ≡ f n
+    → needs_of done ≡ first ++ take i all → after ≡ done ++ e ∷ [] → needs_of after ≡ first ++ take (i + 1) all
+pushed_equality f names all i n first done after e is h at made before more =
+    ap needs_of more ∙ map_push equal_need done e ∙ ap (λ ns. ns ++ equal_need e ∷ []) before ∙ append_assoc first (take i all) (equal_need e ∷ [])
+    ∙ ap (λ ns. first ++ ns) (
+    ap (λ ns. take i ns ++ equal_need e ∷ []) (sym is) ∙ ap (λ ns. ns ++ equal_need e ∷ []) (take-map f i names) ∙ ap (λ m. map f (take i names) ++ m ∷ []) (made ∙ ap f at)
+    ∙ sym (map_more f names i n h) ∙ sym (take-map f (i + 1) names) ∙ ap (take (i + 1)) is
+    )
+
+-- each name has given one
+pub pushed_all : {A : Type 0} (f : A → Need) (names : List A) (all first now : List Need) → map f names ≡ all → now ≡ first ++ take (length names) all → now ≡ first ++ all
+pushed_all f names all first now is e =
+    e ∙ ap (λ ns. first ++ ns) (ap (take (length names)) (sym is) ∙ take-map f (length names) names ∙ ap (map f) (take_all (length names) names (omega arith)) ∙ is)
 
 -- what each item gives, after what stood before
 pub pushed_more : {A B : Type 0} (f : A → List B) (xs : List A) (i : ℕ) (x : A) (first done after : List B) → i < length xs → x ≡ get_or xs i x
@@ -54,6 +52,10 @@ pushed_more f xs i x first done after h at before more =
     ∙ ap (λ ys. first ++ ys) (sym (flat_map-append f (take i xs) (x ∷ [])))
     ∙ ap (λ y. first ++ flat_map f (take i xs ++ y ∷ [])) at
     ∙ ap (λ ys. first ++ flat_map f ys) (sym (take_more xs i x h))
+
+pub flat_same : {A : Type 0} (f g : A → List Need) (xs : List A) → ((x : A) → f x ≡ g x) → flat_map f xs ≡ flat_map g xs
+flat_same f g [] each = refl
+flat_same f g (x ∷ xs) each = ap (λ ns. ns ++ flat_map f xs) (each x) ∙ ap (λ ns. g x ++ ns) (flat_same f g xs each)
 
 -- ---- rows and the tree
 
@@ -124,8 +126,7 @@ declared_passed l own m old e part = sym (append-nil old) ∙ ap (λ ns. old ++ 
 
 -- a test of rows, and of the tree
 pub any_taking : (key : Key) (l : Lined) (rs : List Rowed) → list_any (λ r. takes_part key (bare r)) rs ≡ list_any (takes_part key) (map (kin_at l) rs)
-any_taking key l [] = refl
-any_taking key l (r ∷ rs) = ap (λ (b : Bool). takes_part key (bare r) || b) (any_taking key l rs)
+any_taking key l rs = sym (any_map (takes_part key) (kin_at l) rs)
 
 -- whether one of the rows does tells whether one of the tree does
 pub any_above : (rows_of : Kin → List Kin) (key : Key) (l self : Lined) (rs xs : List Rowed) (found : Bool) → l ≡ self → map (kin_at l) rs ≡ rows_of (kin_of l) → xs ≡ rs → found ≡ list_any (λ r. takes_part key (bare r)) xs
@@ -149,10 +150,6 @@ filter_past p k ks false e none rest = rw e (rest none)
 filter_none : (p : Kin → Bool) (ks : List Kin) → list_any p ks ≡ false → filter p ks ≡ []
 filter_none p [] none = refl
 filter_none p (k ∷ ks) none = filter_past p k ks (p k) refl none (λ more. filter_none p ks more)
-
-neither : (a b : Bool) → (a || b) ≡ false → (a ≡ false) × (b ≡ false)
-neither true b e = absurd cc
-neither false b e = (refl, e)
 
 nothing_either : (b : Bool) (ns : List Need) → ns ≡ [] → (if b then [] else ns) ++ [] ≡ []
 nothing_either true ns e = refl
@@ -181,7 +178,7 @@ alone l m above over = by_test (takes_part m.key (kin_of l)) refl
 pub declared_alone : (l : Lined) (m : Member) (key : Key) (over : Bool) (old : List Need) → key ≡ m.key → over ≡ (list_any (takes_part key) (superclasses (kin_of l)) || list_any (takes_part key) (superinterfaces (kin_of l))) → over ≡ false
     → old ≡ old ++ for_declared (kin_of l) m
 declared_alone l m key over old same told none =
-    let both = neither (list_any (takes_part m.key) (superclasses (kin_of l))) (list_any (takes_part m.key) (superinterfaces (kin_of l)))
+    let both = or_parts (list_any (takes_part m.key) (superclasses (kin_of l))) (list_any (takes_part m.key) (superinterfaces (kin_of l)))
     (ap (λ (k : Key). list_any (takes_part k) (superclasses (kin_of l)) || list_any (takes_part k) (superinterfaces (kin_of l))) (sym same) ∙ sym told ∙ none) in
     sym (append-nil old) ∙ ap (λ ns. old ++ ns) (sym (alone l m both.0 both.1))
 
@@ -192,85 +189,53 @@ first_of : (l : Lined) (r : Rowed) (o : Option Kin) (p : Option Rowed) (b : Bool
 first_of l r o p true e = refl
 first_of l r o p false e = e
 
-pub found_bare : (key : Key) (l : Lined) (rs : List Rowed) → option_map (λ a. a.class.loader) (find (λ a. if_declared (method_of a key) is_instance) (map (kin_at l) rs)) ≡ first_loader key rs
+pub found_bare : (key : Key) (l : Lined) (rs : List Rowed) → option_map (λ a. a.class.loader) (find (is_offered key) (map (kin_at l) rs)) ≡ first_loader key rs
 found_bare key l [] = refl
-found_bare key l (r ∷ rs) =
-    first_of l r (find (λ a. if_declared (method_of a key) is_instance) (map (kin_at l) rs)) (find (λ a. if_declared (method_of (bare a) key) is_instance) rs) (if_declared (method_of (bare r) key) is_instance) (found_bare key l rs)
+found_bare key l (r ∷ rs) = first_of l r (find (is_offered key) (map (kin_at l) rs)) (find (λ a. is_offered key (bare a)) rs) (is_offered key (bare r)) (found_bare key l rs)
 
--- equalities of a loader, if there is one, with that of a superinterface
-abbrev pub with_loader : Key → Rowed → Option ℕ → List Need
-with_loader key j None = []
-with_loader key j (Some loader) = equals_of key loader j.class.loader
-
-with_found : (key : Key) (j : Rowed) (o : Option Kin) → with_inherited key (bare j) o ≡ with_loader key j (option_map (λ a. a.class.loader) o)
+with_found : (key : Key) (j : Rowed) (o : Option Kin) → with_inherited key (bare j) o ≡ equals_from key j.class.loader (option_map (λ a. a.class.loader) o)
 with_found key j None = refl
 with_found key j (Some a) = refl
 
-inherited_is : (l : Lined) (own : Rowed) (above over : List Rowed) (j : Rowed) (m : Member) (part has : Bool) → AreRelatives l own above over → part ≡ takes_part m.key (bare j) → has ≡ is_some (method_of (bare own) m.key)
-    → for_inherited (kin_of l) (bare j) m ≡ (if part && not has then with_loader m.key j (first_loader m.key above) else [])
-inherited_is l own above over j m part has are tp declares =
+inherited_all : (l : Lined) (own : Rowed) (above over : List Rowed) (j : Rowed) (m : Member) → AreRelatives l own above over → inherited_by_rows false own above j m ≡ for_inherited (kin_of l) (bare j) m
+inherited_all l own above over j m are =
+    sym (
     ap (λ (ns : List Need). if takes_part m.key (bare j) && not (is_some (method_of (kin_of l) m.key)) then ns else [])
     (with_found m.key j (inherited_from (kin_of l) m.key)
-    ∙ ap (λ (ks : List Kin). with_loader m.key j (option_map (λ a. a.class.loader) (find (λ a. if_declared (method_of a m.key) is_instance) ks))) (sym are.above_are)
-    ∙ ap (with_loader m.key j) (found_bare m.key l above))
-    ∙ ap (λ (x : Bool). if x && not (is_some (method_of (kin_of l) m.key)) then with_loader m.key j (first_loader m.key above) else []) (sym tp)
-    ∙ ap (λ (x : Bool). if part && not x then with_loader m.key j (first_loader m.key above) else []) (ap (λ (r : Rowed). is_some (method_of (bare r) m.key)) (sym are.own_is) ∙ sym declares)
-
-pub inherited_passed : (l own_l : Lined) (own : Rowed) (above over : List Rowed) (j : Rowed) (m : Member) (part has : Bool) (old : List Need) → AreRelatives l own above over → part ≡ takes_part m.key (bare j) → has ≡ is_some (method_of (bare own) m.key)
-    → (part && not has) ≡ false → l ≡ own_l → old ≡ old ++ for_inherited (kin_of own_l) (bare j) m
-inherited_passed l self own above over j m part has old are tp declares off view =
-    sym (append-nil old) ∙ ap (λ ns. old ++ ns) (sym (inherited_is l own above over j m part has are tp declares ∙ ap (λ (b : Bool). if b then with_loader m.key j (first_loader m.key above) else []) off))
-    ∙ ap (λ (x : Lined). old ++ for_inherited (kin_of x) (bare j) m) view
-
-inherited_from_loader : (l self : Lined) (own : Rowed) (above over xs : List Rowed) (j : Rowed) (m : Member) (k : Key) (o : Option ℕ) → l ≡ self → AreRelatives l own above over → xs ≡ above → k ≡ m.key
-    → true ≡ takes_part k (bare j) → false ≡ is_some (method_of (bare own) k) → o ≡ first_loader k xs → with_loader m.key j o ≡ for_inherited (kin_of self) (bare j) m
-inherited_from_loader l self own above over xs j m k o view are xe ke tp declares found =
-    ap (with_loader m.key j) (found ∙ ap (first_loader k) xe ∙ ap (λ (x : Key). first_loader x above) ke)
-    ∙ sym (inherited_is l own above over j m true false are (tp ∙ ap (λ (x : Key). takes_part x (bare j)) ke) (declares ∙ ap (λ (x : Key). is_some (method_of (bare own) x)) ke))
-    ∙ ap (λ (x : Lined). for_inherited (kin_of x) (bare j) m) view
-
--- the nearest superclass that declares one is found
-pub inherited_pushed : (l self : Lined) (own : Rowed) (above over xs : List Rowed) (j : Rowed) (m : Member) (k key : Key) (o : Option ℕ) (x loader : ℕ) (old new : List Need) → l ≡ self → AreRelatives l own above over → xs ≡ above → k ≡ m.key → key ≡ k
-    → true ≡ takes_part k (bare j) → false ≡ is_some (method_of (bare own) k) → o ≡ first_loader k xs → o ≡ Some x → loader ≡ j.class.loader
-    → new ≡ old ++ equals_of key x loader → new ≡ old ++ for_inherited (kin_of self) (bare j) m
-inherited_pushed l self own above over xs j m k key o x loader old new view are xe ke kk tp declares found some le more =
-    more ∙ ap (λ (y : ℕ). old ++ equals_of key x y) le ∙ ap (λ (y : Key). old ++ equals_of y x j.class.loader) (kk ∙ ke)
-    ∙ ap (λ (y : Option ℕ). old ++ with_loader m.key j y) (sym some)
-    ∙ ap (λ ns. old ++ ns) (inherited_from_loader l self own above over xs j m k o view are xe ke tp declares found)
-
--- none is found
-pub inherited_none : (l self : Lined) (own : Rowed) (above over xs : List Rowed) (j : Rowed) (m : Member) (k : Key) (o : Option ℕ) (old : List Need) → l ≡ self → AreRelatives l own above over → xs ≡ above → k ≡ m.key
-    → true ≡ takes_part k (bare j) → false ≡ is_some (method_of (bare own) k) → o ≡ first_loader k xs → o ≡ None → old ≡ old ++ for_inherited (kin_of self) (bare j) m
-inherited_none l self own above over xs j m k o old view are xe ke tp declares found none =
-    sym (append-nil old) ∙ ap (λ (y : Option ℕ). old ++ with_loader m.key j y) (sym none)
-    ∙ ap (λ ns. old ++ ns) (inherited_from_loader l self own above over xs j m k o view are xe ke tp declares found)
+    ∙ ap (λ (ks : List Kin). equals_from m.key j.class.loader (option_map (λ a. a.class.loader) (find (is_offered m.key) ks))) (sym are.above_are)
+    ∙ ap (equals_from m.key j.class.loader) (found_bare m.key l above))
+    ∙ ap (λ (r : Rowed). if takes_part m.key (bare j) && not (is_some (method_of (bare r) m.key)) then equals_from m.key j.class.loader (first_loader m.key above) else []) (sym are.own_is)
+    )
 
 -- each superinterface, as a row and in the tree
 each_bare : (l : Lined) (rs : List Rowed) → flat_map (λ (j : Kin). flat_map (for_inherited (kin_of l) j) j.file.methods) (map (kin_at l) rs) ≡ flat_map (λ (j : Rowed). flat_map (for_inherited (kin_of l) (bare j)) (bare j).file.methods) rs
 each_bare l [] = refl
 each_bare l (r ∷ rs) = ap (λ ns. flat_map (for_inherited (kin_of l) (bare r)) (file_of r.file).methods ++ ns) (each_bare l rs)
 
-pub interfaces_are : (l self : Lined) (own : Rowed) (above over xs : List Rowed) → l ≡ self → AreRelatives l own above over → xs ≡ over
-    → flat_map (λ (j : Rowed). flat_map (for_inherited (kin_of self) (bare j)) (bare j).file.methods) xs ≡ flat_map (λ (j : Kin). flat_map (for_inherited (kin_of self) j) j.file.methods) (superinterfaces (kin_of self))
-interfaces_are l self own above over xs view are xe =
-    sym (each_bare self xs) ∙ ap (λ (rs : List Rowed). flat_map (λ (j : Kin). flat_map (for_inherited (kin_of self) j) j.file.methods) (map (kin_at self) rs)) xe
-    ∙ ap (flat_map (λ (j : Kin). flat_map (for_inherited (kin_of self) j) j.file.methods)) (subst (λ (x : Lined). map (kin_at x) over ≡ superinterfaces (kin_of x)) view are.over_are)
+second_all : (l : Lined) (own : Rowed) (above over : List Rowed) → AreRelatives l own above over
+    → second_by_rows false own above over ≡ flat_map (λ (j : Kin). flat_map (for_inherited (kin_of l) j) j.file.methods) (superinterfaces (kin_of l))
+second_all l own above over are =
+    flat_same (λ (j : Rowed). flat_map (inherited_by_rows false own above j) (bare j).file.methods) (λ (j : Rowed). flat_map (for_inherited (kin_of l) (bare j)) (bare j).file.methods) over
+    (λ j. flat_same (inherited_by_rows false own above j) (for_inherited (kin_of l) (bare j)) (bare j).file.methods (λ m. inherited_all l own above over j m are))
+    ∙ sym (each_bare l over) ∙ ap (flat_map (λ (j : Kin). flat_map (for_inherited (kin_of l) j) j.file.methods)) are.over_are
+
+pub second_told : (h : Inherited) (l self : Lined) (own : Rowed) (above over xs ys : List Rowed) → h ≡ record { own = own; above = xs; few = false } → xs ≡ above → ys ≡ over → l ≡ self → AreRelatives l own above over
+    → second_by_rows h.few h.own h.above ys ≡ flat_map (λ (j : Kin). flat_map (for_inherited (kin_of self) j) j.file.methods) (superinterfaces (kin_of self))
+second_told h l self own above over xs ys is xe ye view are =
+    ap (λ (x : Inherited). second_by_rows x.few x.own x.above ys) is ∙ ap (λ (rs : List Rowed). second_by_rows false own rs ys) xe ∙ ap (second_by_rows false own above) ye
+    ∙ second_all l own above over are ∙ ap (λ (x : Lined). flat_map (λ (j : Kin). flat_map (for_inherited (kin_of x) j) j.file.methods) (superinterfaces (kin_of x))) view
 
 -- ---- the rows of a lineage
 
 pub mapped_rows : {A : Type 0} (f : A → Rowed) (rows_of : Kin → List Kin) (l m : Lined) (xs ys : List A) (rows : List Rowed) → m ≡ l → ys ≡ xs → rows ≡ map f ys
     → map (λ r. kin_at m (f r)) xs ≡ rows_of (kin_of m) → map (kin_at l) rows ≡ rows_of (kin_of l)
 mapped_rows f rows_of l m xs ys rows e ye made are =
-    ap (map (kin_at l)) (made ∙ ap (map f) ye) ∙ map_through f l xs ∙ subst (λ (x : Lined). map (λ r. kin_at x (f r)) xs ≡ rows_of (kin_of x)) e are
+    ap (map (kin_at l)) (made ∙ ap (map f) ye) ∙ map-map (kin_at l) f xs ∙ subst (λ (x : Lined). map (λ r. kin_at x (f r)) xs ≡ rows_of (kin_of x)) e are
 
 pub mapped_in : {A : Type 0} (f : A → Rowed) (l m : Lined) (xs ys : List A) (rows : List Rowed) → m ≡ l → ys ≡ xs → rows ≡ map f ys → AllByRecursion (λ r. IsRowIn (rows_in m) (f r)) xs
     → AllByRecursion (IsRowIn (rows_in l)) rows
 mapped_in {A} f l m xs ys rows e ye made all =
-    subst (λ (rs : List Rowed). AllByRecursion (IsRowIn (rows_in l)) rs) (sym (made ∙ ap (map f) ye)) (through xs (subst (λ (x : Lined). AllByRecursion (λ r. IsRowIn (rows_in x) (f r)) xs) e all))
-  where
-    through : (zs : List A) → AllByRecursion (λ r. IsRowIn (rows_in l) (f r)) zs → AllByRecursion (IsRowIn (rows_in l)) (map f zs)
-    through [] h = tt
-    through (z ∷ zs) h = (h.0, through zs h.1)
+    subst (λ (rs : List Rowed). AllByRecursion (IsRowIn (rows_in l)) rs) (sym (made ∙ ap (map f) ye)) (all_forth f (IsRowIn (rows_in l)) xs (subst (λ (x : Lined). AllByRecursion (λ r. IsRowIn (rows_in x) (f r)) xs) e all))
 
 pub relatives_are : (l m : Lined) (own : Rowed) (above over : List Rowed) → m ≡ l → own ≡ l.own → map (kin_at l) above ≡ superclasses (kin_of l) → map (kin_at l) over ≡ superinterfaces (kin_of l) → AreRelatives m own above over
 relatives_are l m own above over e o a b = subst (λ (x : Lined). AreRelatives x own above over) (sym e) (record { own_is = o; above_are = a; over_are = b })
@@ -298,7 +263,7 @@ methods_are l own ms e m = m ∙ ap (λ (r : Rowed). (file_of r.file).methods) e
 none_declared : (l : Lined) (own : Rowed) (ms : List Member) → own ≡ l.own → list_any (λ m. takes_part m.key (bare own)) ms ≡ false → flat_map (for_declared (kin_of l)) ms ≡ []
 none_declared l own [] e none = refl
 none_declared l own (m ∷ ms) e none =
-    let both = neither (takes_part m.key (bare own)) (list_any (λ x. takes_part x.key (bare own)) ms) none in
+    let both = or_parts (takes_part m.key (bare own)) (list_any (λ x. takes_part x.key (bare own)) ms) none in
     ap (λ (ns : List Need). ns ++ flat_map (for_declared (kin_of l)) ms) (declared_none l own m e (sym both.0)) ∙ none_declared l own ms e both.1
 
 nothing_inherited : (l : Lined) (b : Bool) (ks : List Kin) → [] ≡ ks → (if b then [] else flat_map (λ (j : Kin). flat_map (for_inherited (kin_of l) j) j.file.methods) ks) ≡ []

@@ -10,10 +10,10 @@ use Rattle.cl_classfile.specs.Members.{KeepsMethod}
 use Rattle.cl_classfile.specs.Files.{Name, Key, File, method_of, text_of}
 use Rattle.cl_classfile.specs.Files as files
 use Rattle.cl_classfile.specs.Lookups.{method_named}
-use Rattle.cl_model.specs.Lineages.{if_declared}
+use Rattle.cl_model.specs.Lineages.{if_declared, is_virtual}
 use Rattle.std.proofs.lemmas.List.{take_more}
 use Rattle.std.proofs.lemmas.List.Elements.{All-from_recursion, All-get_or, filter_map-append}
-use Rattle.cl_preparation.specs.Methods.{IsTyped, is_instance, is_wide}
+use Rattle.cl_preparation.specs.Methods.{IsTyped, is_wide}
 
 typed_by : (pool : List Entry) (b : Bool) (m : Member) → KeepsMethod pool b m → IsTyped pool m
 typed_by pool b m k = record {
@@ -39,7 +39,7 @@ flags_tell (Some m) test r e b none some = some m.flags e
 
 -- whether a method is open, if it is declared and takes part
 pub flags_opened : (o : Option files.Member) (special : Bool) (f : Option ℕ) (r : Option Bool) → f ≡ option_map (λ m. m.flags) o → (f ≡ None → r ≡ None)
-    → ((x : ℕ) → f ≡ Some x → r ≡ (if not special && is_instance x then Some (is_wide x) else None)) → r ≡ (if not special && if_declared o is_instance then Some (if_declared o is_wide) else None)
+    → ((x : ℕ) → f ≡ Some x → r ≡ (if not special && is_virtual x then Some (is_wide x) else None)) → r ≡ (if not special && if_declared o is_virtual then Some (if_declared o is_wide) else None)
 flags_opened None true f r e none some = none e
 flags_opened None false f r e none some = none e
 flags_opened (Some m) special f r e none some = some m.flags e

@@ -1,6 +1,7 @@
 pub mod Constraints
 pub mod Declared
 pub mod Filters
+pub mod Inheriting
 pub mod Interfaces
 pub mod Keys
 pub mod Named

@@ -1,5 +1,5 @@
 -- Overriding by the texts of a name and a descriptor.
-use Rattle.std.proofs.Common.{◌≡◌, ◌<◌, ℕ, Bool, true, false, not, ◌&&◌, ◌||◌, Option, Some, None, List, [], ◌∷◌, map, length, refl, ap, sym, ◌∙◌, get_or}
+use Rattle.std.proofs.Common.{◌≡◌, ◌<◌, ℕ, Bool, true, false, not, ◌&&◌, ◌||◌, Option, Some, None, List, map, length, refl, ap, sym, ◌∙◌, get_or}
 use Rattle.std.specs.Prelude.{option_map, option_and_then, slice_get, take}
 use Rattle.std.specs.List.{list_any}
 use Rattle.cl_descriptors.specs.Reading.{whole_method}
@@ -10,18 +10,19 @@ use Rattle.cl_classfile.specs.Structure as structure
 use Rattle.cl_classfile.specs.Files.{Name, Key, Member, keyed, member, method_of, text_at}
 use Rattle.cl_classfile.specs.Lookups.{linked_method, method_named}
 use Rattle.cl_model.specs.Classes.{same_package}
-use Rattle.cl_model.specs.Lineages.{Kin, if_declared, superclasses}
+use Rattle.cl_model.specs.Lineages.{Kin, if_declared, is_virtual, superclasses}
 use Rattle.cl_model.specs.Preparation.{is_special, overrides, takes_part}
 use Rattle.cl_hierarchy.specs.Rows.{Rowed}
 use Rattle.cl_hierarchy.specs.Lineages.{Lined, kin_at, kin_of}
 use Rattle.std.proofs.lemmas.List.{take-map}
+use mathlib.Core.List.{map-map}
 use Rattle.std.proofs.lemmas.List.Folds.{list_any_at}
 use Rattle.std.proofs.lemmas.Option.{slice_get-get_or, slice_get-map}
-use Rattle.cl_preparation.specs.Methods.{is_instance, is_wide}
+use Rattle.cl_preparation.specs.Methods.{is_wide}
 use Rattle.cl_preparation.specs.Named.{told_by_rows}
 use Rattle.cl_preparation.specs.Relatives.{asked, bare}
 use Rattle.cl_preparation.specs.Walks.{is_open, opens_to}
-use Rattle.cl_preparation.proofs.Reached.{overrides_is_by_package}
+use Rattle.cl_preparation.proofs.Reached.{any_map, overrides_is_by_package}
 
 -- what linking looks at of a method has its flags
 keyed_flags : (flags : ℕ) (n d : Option Name) (m : Member) → keyed method_of flags n d ≡ Some m → m.flags ≡ flags
@@ -59,19 +60,19 @@ if_flags (Some m) test = refl
 
 -- whether a class's method of this name and descriptor takes part
 pub part_named : (r : Rowed) (name descriptor : Name) (found : Option ℕ) → found ≡ option_map (λ m. m.flags) (method_named (bare r).file name descriptor)
-    → flags_pass found (λ x. not (is_special name) && is_instance x) ≡ asked (method_of name descriptor) (λ key. takes_part key (bare r))
-part_named r name descriptor found e = ap (λ (o : Option ℕ). flags_pass o (λ x. not (is_special name) && is_instance x)) e ∙ by_type (whole_method descriptor)
+    → flags_pass found (λ x. not (is_special name) && is_virtual x) ≡ asked (method_of name descriptor) (λ key. takes_part key (bare r))
+part_named r name descriptor found e = ap (λ (o : Option ℕ). flags_pass o (λ x. not (is_special name) && is_virtual x)) e ∙ by_type (whole_method descriptor)
   where
     made : MethodType → Key
     made m = record { name = name; descriptor = descriptors.Method m }
 
-    in_front : (b : Bool) (o : Option Member) → flags_pass (option_map (λ m. m.flags) o) (λ x. b && is_instance x) ≡ (b && if_declared o is_instance)
+    in_front : (b : Bool) (o : Option Member) → flags_pass (option_map (λ m. m.flags) o) (λ x. b && is_virtual x) ≡ (b && if_declared o is_virtual)
     in_front true None = refl
     in_front false None = refl
     in_front b (Some m) = refl
 
     by_type : (t : Option MethodType)
-        → flags_pass (option_map (λ m. m.flags) (option_and_then (member (bare r).file.methods) (option_map made t))) (λ x. not (is_special name) && is_instance x)
+        → flags_pass (option_map (λ m. m.flags) (option_and_then (member (bare r).file.methods) (option_map made t))) (λ x. not (is_special name) && is_virtual x)
         ≡ asked (option_map made t) (λ key. takes_part key (bare r))
     by_type None = refl
     by_type (Some t) = in_front (not (is_special name)) (member (bare r).file.methods (made t))
@@ -92,8 +93,7 @@ opens_named None part wide same = refl
 opens_named (Some key) part wide same = refl
 
 any_bare : (key : Key) (l : Lined) (above : Rowed) (rs : List Rowed) → list_any (λ b. opens_to key (bare above) (bare b)) rs ≡ list_any (opens_to key (kin_at l above)) (map (kin_at l) rs)
-any_bare key l above [] = refl
-any_bare key l above (r ∷ rs) = ap (λ (x : Bool). opens_to key (bare above) (bare r) || x) (any_bare key l above rs)
+any_bare key l above rs = sym (any_map (opens_to key (kin_at l above)) (kin_at l) rs)
 
 -- the whole test, for one key
 pub overrides_asked : (o : Option Key) (l : Lined) (above : Rowed) (between : List Rowed) →
@@ -113,10 +113,6 @@ overrides_asked (Some key) l above between =
 
 -- ---- a place among the superclasses
 
-pub map_through : {A : Type 0} (f : A → Rowed) (l : Lined) (xs : List A) → map (kin_at l) (map f xs) ≡ map (λ r. kin_at l (f r)) xs
-map_through f l [] = refl
-map_through f l (x ∷ xs) = ap (λ ks. kin_at l (f x) ∷ ks) (map_through f l xs)
-
 some_same : {B : Type 0} (a b : B) → Some a ≡ Some b → a ≡ b
 some_same a b e = cc
 
@@ -128,13 +124,9 @@ overrides_told f l rows between place at own above o r are h there oe ae be told
     let at_is : a ≡ kin_at l above = some_same a (kin_at l above) (sym e ∙ ap (λ (ks : List Kin). slice_get ks place) (sym are) ∙ slice_get-map (λ x. kin_at l (f x)) rows place
     ∙ ap (option_map (λ x. kin_at l (f x))) (slice_get-get_or rows place at h ∙ ap (λ x. Some x) (sym there)) ∙ ap (λ (x : Rowed). Some (kin_at l x)) (sym ae)) in
     told ∙ ap (λ (x : Rowed). told_by_rows o x above (map f between)) oe ∙ overrides_asked o l above (map f between)
-    ∙ ap (λ (ks : List Kin). asked o (λ key. overrides key (kin_of l) ks (kin_at l above))) (map_through f l between ∙ ap (map (λ x. kin_at l (f x))) be ∙ sym (take-map (λ x. kin_at l (f x)) place rows) ∙ ap (take place) are)
+    ∙ ap (λ (ks : List Kin). asked o (λ key. overrides key (kin_of l) ks (kin_at l above))) (map-map (kin_at l) f between ∙ ap (map (λ x. kin_at l (f x))) be ∙ sym (take-map (λ x. kin_at l (f x)) place rows) ∙ ap (take place) are)
     ∙ ap (λ (x : Kin). asked o (λ key. overrides key (kin_of l) (take place (superclasses (kin_of l))) x)) (sym at_is)
-
-any_mapped : {A : Type 0} (f : A → Rowed) (p : Rowed → Bool) (xs : List A) → list_any p (map f xs) ≡ list_any (λ x. p (f x)) xs
-any_mapped f p [] = refl
-any_mapped f p (x ∷ xs) = ap (λ (b : Bool). p (f x) || b) (any_mapped f p xs)
 
 -- one of these rows passes a test
 pub any_at : {A : Type 0} (f : A → Rowed) (p : Rowed → Bool) (xs : List A) (i : ℕ) (x : A) → i < length xs → x ≡ get_or xs i x → p (f x) ≡ true → true ≡ list_any p (map f xs)
-any_at f p xs i x h at e = sym (any_mapped f p xs ∙ list_any_at (λ y. p (f y)) xs i x h (ap (λ y. p (f y)) (sym at) ∙ e))
+any_at f p xs i x h at e = sym (any_map p f xs ∙ list_any_at (λ y. p (f y)) xs i x h (ap (λ y. p (f y)) (sym at) ∙ e))

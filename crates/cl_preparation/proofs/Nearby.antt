@@ -5,7 +5,7 @@ use Rattle.std.specs.List.{AllByRecursion, list_any}
 use Rattle.std.proofs.lemmas.Bool.{eqb-true, eq-eqb}
 use Rattle.cl_classfile.specs.Files.{Key, Member, file_of, is_interface}
 use Rattle.cl_model.specs.declared.class.Class.{Class}
-use Rattle.cl_model.specs.Lineages.{Kin, if_declared, method_of, superclasses, superinterfaces}
+use Rattle.cl_model.specs.Lineages.{Kin, is_offered, method_of, superclasses, superinterfaces}
 use Rattle.cl_model.specs.Preparation.{constraints_of, equals_of, overridden, takes_part}
 use Rattle.cl_model.specs.States.{Need}
 use Rattle.cl_hierarchy.specs.Imposed.{AreEnough}
@@ -14,11 +14,11 @@ use Rattle.cl_hierarchy.specs.Lineages.{IsRowIn, Lined, is_of_other, kin_at, kin
 use Rattle.cl_hierarchy.specs.Trees.{kins}
 use Rattle.cl_hierarchy.proofs.Away.{others_all, others_kins}
 use Rattle.cl_preparation.specs.Fewer.{equals_from, fewer_constraints_of, fewer_declared, fewer_inherited, fewer_second, is_new, loaders, loaders_over, other_than, others_after}
-use Rattle.cl_preparation.specs.Methods.{is_instance}
-use Rattle.cl_preparation.specs.Nearby.{AddAll, AreNear, away_from, first_loader, near_declared, near_inherited, near_loaders, near_second}
+use Rattle.cl_preparation.specs.Inherited.{away_from, first_loader, inherited_by_rows, second_by_rows}
+use Rattle.cl_preparation.specs.Nearby.{AddAll, AreNear, near_declared, near_loaders}
 use Rattle.cl_preparation.specs.Relatives.{bare}
-use Rattle.cl_preparation.specs.Walks.{opens}
-use Rattle.cl_preparation.proofs.Constraints.{found_bare, mapped_in, mapped_rows}
+use Rattle.cl_preparation.specs.Walks.{counts, opens}
+use Rattle.cl_preparation.proofs.Constraints.{flat_same, found_bare, mapped_in, mapped_rows}
 use Rattle.cl_preparation.proofs.Standing.{fewer_stand}
 use Rattle.cl_preparation.proofs.Reached.{overridden_is_walked}
 use Rattle.cl_preparation.proofs.Thinned.{open_enough, others_both}
@@ -125,13 +125,10 @@ one_bare : (l : Lined) (r : Rowed) (xs ys : List Kin) (b : Bool) → loaders xs 
 one_bare l r xs ys true e = ap (λ (zs : List ℕ). r.class.loader ∷ zs) e
 one_bare l r xs ys false e = e
 
-open_bare : (key : Key) (l : Lined) (rs : List Rowed) → loaders (filter (opens key) (map (kin_at l) rs)) ≡ loaders (filter (opens key) (map bare rs))
-open_bare key l [] = refl
-open_bare key l (r ∷ rs) = one_bare l r (filter (opens key) (map (kin_at l) rs)) (filter (opens key) (map bare rs)) (opens key (bare r)) (open_bare key l rs)
-
-taking_bare : (key : Key) (l : Lined) (rs : List Rowed) → loaders (filter (takes_part key) (map (kin_at l) rs)) ≡ loaders (filter (takes_part key) (map bare rs))
-taking_bare key l [] = refl
-taking_bare key l (r ∷ rs) = one_bare l r (filter (takes_part key) (map (kin_at l) rs)) (filter (takes_part key) (map bare rs)) (takes_part key (bare r)) (taking_bare key l rs)
+counted_bare : (only_open : Bool) (key : Key) (l : Lined) (rs : List Rowed) → loaders (filter (counts only_open key) (map (kin_at l) rs)) ≡ loaders (filter (counts only_open key) (map bare rs))
+counted_bare only_open key l [] = refl
+counted_bare only_open key l (r ∷ rs) =
+    one_bare l r (filter (counts only_open key) (map (kin_at l) rs)) (filter (counts only_open key) (map bare rs)) (counts only_open key (bare r)) (counted_bare only_open key l rs)
 
 -- ---- the first half
 
@@ -143,7 +140,7 @@ up_near : (key : Key) (l : Lined) (away : List Rowed) (b : Bool) → takes_part 
 up_near key l away true tp are = refl
 up_near key l away false tp are =
     let own : ℕ = l.own.class.loader in
-    ap (others_after own []) (sym (open_bare key l away)) ∙ ap (λ (ks : List Kin). still_of (opens key) own [] ks) are ∙ away_enough (opens key) own [] (superclasses (kin_of l))
+    ap (others_after own []) (sym (counted_bare true key l away)) ∙ ap (λ (ks : List Kin). still_of (opens key) own [] ks) are ∙ away_enough (opens key) own [] (superclasses (kin_of l))
     ∙ sym (open_enough key own [] (l.own.class ∷ []) (superclasses (kin_of l)) (own_known own, tt))
     ∙ ap (λ (ks : List Kin). others_after own [] (loaders ks)) (sym (overridden_is_walked key (kin_of l) tp))
 
@@ -170,14 +167,10 @@ declared_here l away over m are =
 
 -- ---- the second half
 
-pub inherited_here : (l : Lined) (above : List Rowed) (j : Rowed) (m : Member) → map (kin_at l) above ≡ superclasses (kin_of l) → near_inherited l.own above j m ≡ fewer_inherited (kin_of l) (bare j) m
+pub inherited_here : (l : Lined) (above : List Rowed) (j : Rowed) (m : Member) → map (kin_at l) above ≡ superclasses (kin_of l) → inherited_by_rows true l.own above j m ≡ fewer_inherited (kin_of l) (bare j) m
 inherited_here l above j m are =
     ap (λ (o : Option ℕ). if takes_part m.key (bare j) && not (is_some (method_of (kin_of l) m.key)) then equals_from m.key j.class.loader (other_than j.class.loader o) else [])
-    (sym (found_bare m.key l above) ∙ ap (λ (ks : List Kin). option_map (λ a. a.class.loader) (find (λ a. if_declared (method_of a m.key) is_instance) ks)) are)
-
-pub flat_same : {A : Type 0} (f g : A → List Need) (xs : List A) → ((x : A) → f x ≡ g x) → flat_map f xs ≡ flat_map g xs
-flat_same f g [] each = refl
-flat_same f g (x ∷ xs) each = ap (λ ns. ns ++ flat_map f xs) (each x) ∙ ap (λ ns. g x ++ ns) (flat_same f g xs each)
+    (sym (found_bare m.key l above) ∙ ap (λ (ks : List Kin). option_map (λ a. a.class.loader) (find (is_offered m.key) ks)) are)
 
 second_bare : (l : Lined) (rs : List Rowed) → flat_map (λ (j : Kin). flat_map (fewer_inherited (kin_of l) j) j.file.methods) (map (kin_at l) rs) ≡ flat_map (λ (j : Rowed). flat_map (fewer_inherited (kin_of l) (bare j)) (bare j).file.methods) rs
 second_bare l [] = refl
@@ -186,14 +179,14 @@ second_bare l (r ∷ rs) = ap (λ ns. flat_map (fewer_inherited (kin_of l) (bare
 -- all of them add what all do
 pub all_added : (l : Lined) (over : List Rowed) → map (kin_at l) over ≡ superinterfaces (kin_of l) → AddAll l over
 all_added l over overs = record {
-  loaders_are = λ key listed. ap (others_after l.own.class.loader listed) (sym (taking_bare key l over) ∙ ap (λ (ks : List Kin). loaders (filter (takes_part key) ks)) overs);
+  loaders_are = λ key listed. ap (others_after l.own.class.loader listed) (sym (counted_bare false key l over) ∙ ap (λ (ks : List Kin). loaders (filter (takes_part key) ks)) overs);
   second_are = λ b. sym (second_bare l over) ∙ ap (flat_map (λ (j : Kin). flat_map (fewer_inherited (kin_of l) j) j.file.methods)) overs;
 }
 
-second_here : (l : Lined) (above over : List Rowed) → map (kin_at l) above ≡ superclasses (kin_of l) → AddAll l over → is_interface (file_of l.own.file) ≡ false → near_second l.own above over ≡ fewer_second (kin_of l)
+second_here : (l : Lined) (above over : List Rowed) → map (kin_at l) above ≡ superclasses (kin_of l) → AddAll l over → is_interface (file_of l.own.file) ≡ false → second_by_rows true l.own above over ≡ fewer_second (kin_of l)
 second_here l above over are overs class =
-    flat_same (λ (j : Rowed). flat_map (near_inherited l.own above j) (bare j).file.methods) (λ (j : Rowed). flat_map (fewer_inherited (kin_of l) (bare j)) (bare j).file.methods) over
-    (λ j. flat_same (near_inherited l.own above j) (fewer_inherited (kin_of l) (bare j)) (bare j).file.methods (λ m. inherited_here l above j m are))
+    flat_same (λ (j : Rowed). flat_map (inherited_by_rows true l.own above j) (bare j).file.methods) (λ (j : Rowed). flat_map (fewer_inherited (kin_of l) (bare j)) (bare j).file.methods) over
+    (λ j. flat_same (inherited_by_rows true l.own above j) (fewer_inherited (kin_of l) (bare j)) (bare j).file.methods (λ m. inherited_here l above j m are))
     ∙ overs.second_are class
 
 -- ---- all
@@ -226,9 +219,9 @@ module _ {A : Type 0} (f : A → Rowed) (l m : Lined) (own : Rowed) (xs ys : Lis
   away_given =
       away_rows l away above near.away_are near.away_in above_are (mapped_in f l m xs ys above same one made within) ∙ ap (λ (r : Rowed). away_from r.class.loader above) (sym near.own_is)
 
-  pub second_given : (rs : List Rowed) → rs ≡ over → is_interface (file_of own.file) ≡ false → near_second own above rs ≡ fewer_second (kin_of l)
+  pub second_given : (rs : List Rowed) → rs ≡ over → is_interface (file_of own.file) ≡ false → second_by_rows true own above rs ≡ fewer_second (kin_of l)
   second_given rs is class =
-      ap (near_second own above) is ∙ ap (λ (r : Rowed). near_second r above over) near.own_is
+      ap (second_by_rows true own above) is ∙ ap (λ (r : Rowed). second_by_rows true r above over) near.own_is
       ∙ second_here l above over above_are near.over_are (class_of l own near.own_is class)
 
 -- superinterfaces that declare nothing
@@ -289,7 +282,7 @@ length_away own (r ∷ rs) = by (not (own == r.class.loader)) (away_from own rs)
 
 -- a class declares a method that is neither private nor static
 abbrev pub inherits : Key → Rowed → Bool
-inherits key r = if_declared (method_of (bare r) key) is_instance
+inherits key r = is_offered key (bare r)
 
 none_step : (key : Key) (own : ℕ) (r : Rowed) (others : List Rowed) (p : Option Rowed) (same inst : Bool) → (own == r.class.loader) ≡ same → inherits key r ≡ inst
     → list_any (inherits key) (if not same then r ∷ others else others) ≡ false → (list_any (inherits key) others ≡ false → other_than own (option_map (λ a. a.class.loader) p) ≡ None)

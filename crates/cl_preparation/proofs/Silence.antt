@@ -1,13 +1,14 @@
 -- Where superinterfaces add nothing to the few equalities.
-use Rattle.std.proofs.Common.{◌≡◌, ◌≤◌, ℕ, Bool, true, false, ◌&&◌, ◌||◌, not, if◌then◌else◌, Option, Some, None, List, [], ◌∷◌, ◌++◌, map, filter, length, refl, ap, sym, subst, ◌∙◌, drop, take, arith, append_assoc}
+use Rattle.std.proofs.Common.{◌≡◌, ◌≤◌, ℕ, Bool, true, false, ◌&&◌, ◌||◌, not, if◌then◌else◌, Option, Some, None, List, [], ◌∷◌, ◌++◌, map, filter, length, refl, ap, sym, subst, ◌∙◌, drop, take, append_assoc}
 use Rattle.std.specs.Prelude.{◌==◌, Err, IfOk, IfSome, Ok, Result, find, flat_map, is_some, option_map}
 use Rattle.std.specs.List.{AllByRecursion, list_any}
-use Rattle.std.proofs.lemmas.Bool.{and_parts, eqb-true, eq-eqb}
+use Rattle.std.proofs.lemmas.Bool.{and_parts, eqb-true, eq-eqb, or_parts, or_right}
 use Rattle.std.proofs.lemmas.List.{map-append, take-append-drop}
+use mathlib.Core.List.{map-map}
 use Rattle.cl_classfile.specs.Files.{Key, Member, file_of, is_interface}
 use Rattle.cl_model.specs.declared.class.Class.{Class}
 use Rattle.cl_model.specs.Classes.{Above, same_class, superinterfaces_of}
-use Rattle.cl_model.specs.Lineages.{Bare, Kin, if_declared, method_of, preorder, superclasses, superinterfaces}
+use Rattle.cl_model.specs.Lineages.{Bare, Kin, is_offered, method_of, preorder, superclasses, superinterfaces}
 use Rattle.cl_model.specs.Preparation.{inherited_from, is_special, takes_part}
 use Rattle.cl_model.specs.States.{Need}
 use Rattle.cl_model.proofs.Closed.{all_left}
@@ -18,25 +19,19 @@ use Rattle.cl_hierarchy.specs.Frames.{accepted_of}
 use Rattle.cl_hierarchy.specs.Lineages.{IsRowIn, Lined, kin_at, kin_of, row_of, rows_in}
 use Rattle.cl_hierarchy.specs.Rows.{Rowed}
 use Rattle.cl_hierarchy.specs.Trees.{SupersBefore, forest, in_front, interface_places, interfaces_in, kin_named, kin_under, kins, kins_after, superclass_in}
-use Rattle.cl_hierarchy.proofs.Climbs.{placed_row, row_more}
+use Rattle.cl_hierarchy.proofs.Climbs.{placed_row, rows_more}
+use Rattle.cl_hierarchy.proofs.Told.{all_forth}
 use Rattle.cl_preparation.specs.Fewer.{equals_from, fewer_inherited, loaders, other_than, others_after}
-use Rattle.cl_preparation.specs.Methods.{is_instance}
-use Rattle.cl_preparation.specs.Nearby.{AddAll, away_from, first_loader, near_inherited}
+use Rattle.cl_preparation.specs.Nearby.{AddAll}
+use Rattle.cl_preparation.specs.Inherited.{away_from, first_loader, inherited_by_rows}
 use Rattle.cl_preparation.specs.Quiet.{is_heard, is_silent, names_other}
 use Rattle.cl_preparation.specs.Relatives.{bare}
 use Rattle.cl_preparation.proofs.Interfaces.{some_kin}
-use Rattle.cl_preparation.proofs.Named.{map_through}
-use Rattle.cl_preparation.proofs.Nearby.{all_added, away_rows, flat_same, inherited_here, inherits, kins_from, none_differs}
+use Rattle.cl_preparation.proofs.Constraints.{flat_same}
+use Rattle.cl_preparation.proofs.Reached.{any_map}
+use Rattle.cl_preparation.proofs.Nearby.{all_added, away_rows, inherited_here, inherits, kins_from, none_differs}
 
 -- ---- tests
-
-or_parts : (a b : Bool) → (a || b) ≡ false → (a ≡ false) × (b ≡ false)
-or_parts true b e = absurd cc
-or_parts false b e = (refl, e)
-
-or_right : (a b : Bool) → b ≡ true → (a || b) ≡ true
-or_right true b e = refl
-or_right false b e = e
 
 is_on : (b : Bool) → not b ≡ false → b ≡ true
 is_on true e = refl
@@ -45,14 +40,6 @@ is_on false e = absurd cc
 second_off : (a b : Bool) → (a && b) ≡ false → a ≡ true → b ≡ false
 second_off true b e on = e
 second_off false b e on = absurd cc
-
-any_map : {A : Type 0} (v : A → Rowed) (p : Rowed → Bool) (xs : List A) → list_any p (map v xs) ≡ list_any (λ a. p (v a)) xs
-any_map v p [] = refl
-any_map v p (x ∷ xs) = ap (λ (b : Bool). p (v x) || b) (any_map v p xs)
-
-all_map : {A : Type 0} (v : A → Rowed) (P : Rowed → Type 0) (xs : List A) → AllByRecursion (λ a. P (v a)) xs → AllByRecursion P (map v xs)
-all_map v P [] h = tt
-all_map v P (x ∷ xs) h = (h.0, all_map v P xs h.1)
 
 all_pair : (P Q : Rowed → Type 0) (xs : List Rowed) → AllByRecursion P xs → AllByRecursion Q xs → AllByRecursion (λ x. P x × Q x) xs
 all_pair P Q [] h k = tt
@@ -150,10 +137,6 @@ rows_known rows earlier [] h e = tt
 rows_known rows earlier (r ∷ later) h e =
     (placed_row rows earlier r h (record { later = later; split = e }), rows_known rows (earlier ++ r ∷ []) later h (e ∙ sym (append_assoc earlier (r ∷ []) later)))
 
-all_more : (rows others rs : List Rowed) → AllByRecursion (IsRowIn rows) rs → AllByRecursion (IsRowIn (rows ++ others)) rs
-all_more rows others [] h = tt
-all_more rows others (r ∷ rs) h = (row_more rows others r.class r h.0, all_more rows others rs h.1)
-
 -- one of these passes a test
 record IsFound (p : Rowed → Bool) (rs : List Rowed) : Type 0 where
   row : Rowed
@@ -198,7 +181,7 @@ near_first key own (r ∷ near) rest mine on =
     near_step own r (find (inherits key) (near ++ rest)) (inherits key r) (list_any (inherits key) near) mine.0 on (near_first key own near rest mine.1)
 
 one_none : (own : Rowed) (above : List Rowed) (j : Rowed) (m : Member) → j.class.loader ≡ own.class.loader → (takes_part m.key (bare j) ≡ true → other_than own.class.loader (first_loader m.key above) ≡ None)
-    → near_inherited own above j m ≡ []
+    → inherited_by_rows true own above j m ≡ []
 one_none own above j m mine none = by (takes_part m.key (bare j)) (not (is_some (method_of (bare own) m.key))) none
   where
     by : (part new : Bool) → (part ≡ true → other_than own.class.loader (first_loader m.key above) ≡ None) → (if part && new then equals_from m.key j.class.loader (other_than j.class.loader (first_loader m.key above)) else []) ≡ []
@@ -208,22 +191,22 @@ one_none own above j m mine none = by (takes_part m.key (bare j)) (not (is_some 
 
 -- none of its methods is declared by a superclass of another loader
 unheard_none : (own : Rowed) (above away : List Rowed) (j : Rowed) (ms : List Member) → away ≡ away_from own.class.loader above → j.class.loader ≡ own.class.loader → list_any (is_heard away j) ms ≡ false
-    → flat_map (near_inherited own above j) ms ≡ []
+    → flat_map (inherited_by_rows true own above j) ms ≡ []
 unheard_none own above away j [] ae mine off = refl
 unheard_none own above away j (m ∷ ms) ae mine off =
     let parts = or_parts (is_heard away j m) (list_any (is_heard away j) ms) off in
     let mine_of : ℕ = own.class.loader in
-    ap (λ (ns : List Need). ns ++ flat_map (near_inherited own above j) ms)
+    ap (λ (ns : List Need). ns ++ flat_map (inherited_by_rows true own above j) ms)
     (one_none own above j m mine
     (λ part. sym (none_differs m.key mine_of mine_of mine_of above away ae refl refl (second_off (takes_part m.key (bare j)) (list_any (inherits m.key) away) parts.0 part))))
     ∙ unheard_none own above away j ms ae mine parts.1
 
 -- it is one of the nearest superclasses
 near_none : (own : Rowed) (near rest : List Rowed) (j : Rowed) (ms : List Member) → AllByRecursion (λ (r : Rowed). own.class.loader ≡ r.class.loader) near → j.class.loader ≡ own.class.loader
-    → ((q : Rowed → Bool) → q j ≡ true → list_any q near ≡ true) → flat_map (near_inherited own (near ++ rest) j) ms ≡ []
+    → ((q : Rowed → Bool) → q j ≡ true → list_any q near ≡ true) → flat_map (inherited_by_rows true own (near ++ rest) j) ms ≡ []
 near_none own near rest j [] mines mine among = refl
 near_none own near rest j (m ∷ ms) mines mine among =
-    ap (λ (ns : List Need). ns ++ flat_map (near_inherited own (near ++ rest) j) ms)
+    ap (λ (ns : List Need). ns ++ flat_map (inherited_by_rows true own (near ++ rest) j) ms)
     (one_none own (near ++ rest) j m mine
     (λ part. near_first m.key own.class.loader near rest mines (among (inherits m.key) (and_parts (not (is_special m.key.name)) (inherits m.key j) part).1)))
     ∙ near_none own near rest j ms mines mine among
@@ -231,20 +214,20 @@ near_none own near rest j (m ∷ ms) mines mine among =
 -- a silent row of the own loader imposes nothing with what is inherited
 silent_none : (l : Lined) (near rest away : List Rowed) (j : Rowed) → away ≡ away_from l.own.class.loader (near ++ rest) → AllByRecursion (λ (r : Rowed). l.own.class.loader ≡ r.class.loader) near
     → AllByRecursion (IsRowIn (rows_in l)) near → IsRowIn (rows_in l) j → is_silent l.own.class.loader near away j ≡ true → j.class.loader ≡ l.own.class.loader
-    → flat_map (near_inherited l.own (near ++ rest) j) (bare j).file.methods ≡ []
+    → flat_map (inherited_by_rows true l.own (near ++ rest) j) (bare j).file.methods ≡ []
 silent_none l near rest away j ae mines known row silent mine =
     by (l.own.class.loader == j.class.loader) (list_any same near) (list_any (is_heard away j) (bare j).file.methods) refl refl refl silent
   where
     same : Rowed → Bool
     same s = same_class s.class j.class
 
-    here : IsFound same near → flat_map (near_inherited l.own (near ++ rest) j) (bare j).file.methods ≡ []
+    here : IsFound same near → flat_map (inherited_by_rows true l.own (near ++ rest) j) (bare j).file.methods ≡ []
     here g =
         let one : j ≡ g.row = same_row j g.row (sym row ∙ ap (row_of (rows_in l)) (sym (is_class g.row.class j.class g.passes)) ∙ g.kept (rows_in l) known) in
         near_none l.own near rest j (bare j).file.methods mines mine (λ q h. g.among q (ap q (sym one) ∙ h))
 
     by : (o n h : Bool) → (l.own.class.loader == j.class.loader) ≡ o → list_any same near ≡ n → list_any (is_heard away j) (bare j).file.methods ≡ h → (not o || (n || not h)) ≡ true
-        → flat_map (near_inherited l.own (near ++ rest) j) (bare j).file.methods ≡ []
+        → flat_map (inherited_by_rows true l.own (near ++ rest) j) (bare j).file.methods ≡ []
     by o true h oe ne he on = here (found same near ne)
     by true false false oe ne he on = unheard_none l.own (near ++ rest) away j (bare j).file.methods ae mine he
     by true false true oe ne he on = absurd cc
@@ -258,10 +241,10 @@ record IsQuiet (l : Lined) (k : Kin) : Type 0 where
   none : is_interface (file_of l.own.file) ≡ false → flat_map (fewer_inherited (kin_of l) k) k.file.methods ≡ []
 
 quiet_at : (l : Lined) (above : List Rowed) (r : Rowed) (ks : List Kin) → map (kin_at l) above ≡ superclasses (kin_of l) → r.class.loader ≡ l.own.class.loader
-    → (is_interface (file_of l.own.file) ≡ false → flat_map (near_inherited l.own above r) (bare r).file.methods ≡ []) → IsQuiet l (kin_under ks r)
+    → (is_interface (file_of l.own.file) ≡ false → flat_map (inherited_by_rows true l.own above r) (bare r).file.methods ≡ []) → IsQuiet l (kin_under ks r)
 quiet_at l above r ks are mine none = record {
   own = mine;
-  none = λ b. sym (flat_same (near_inherited l.own above r) (fewer_inherited (kin_of l) (bare r)) (bare r).file.methods (λ m. inherited_here l above r m are)) ∙ none b;
+  none = λ b. sym (flat_same (inherited_by_rows true l.own above r) (fewer_inherited (kin_of l) (bare r)) (bare r).file.methods (λ m. inherited_here l above r m are)) ∙ none b;
 }
 
 none_new : (own : ℕ) (listed xs : List ℕ) → AllByRecursion (λ (a : ℕ). a ≡ own) xs → others_after own listed xs ≡ []
@@ -306,7 +289,7 @@ one_home c j m none = by (takes_part m.key j && not (is_some (method_of c m.key)
   where
     by : (b : Bool) → (if b then equals_from m.key j.class.loader (other_than j.class.loader (option_map (λ (a : Kin). a.class.loader) (inherited_from c m.key))) else []) ≡ []
     by false = refl
-    by true = ap (equals_from m.key j.class.loader) (first_mine j.class.loader (λ a. if_declared (method_of a m.key) is_instance) (superclasses c) none)
+    by true = ap (equals_from m.key j.class.loader) (first_mine j.class.loader (is_offered m.key) (superclasses c) none)
 
 all_home : (c j : Kin) (ms : List Member) → kins_from j.class.loader (superclasses c) ≡ [] → flat_map (fewer_inherited c j) ms ≡ []
 all_home c j [] none = refl
@@ -324,7 +307,7 @@ none_first l own mine oe me first = ap (λ (x : ℕ). names_other x l.own) (sym 
 none_rest : {A : Type 0} (v : A → Rowed) (l : Lined) (own : ℕ) (rows : List A) → own ≡ l.own.class.loader → map v rows ≡ l.above → list_any (λ r. names_other own (v r)) rows ≡ false
     → list_any (names_other l.own.class.loader) l.above ≡ false
 none_rest v l own rows oe re rest =
-    ap (λ (x : ℕ). list_any (names_other x) l.above) (sym oe) ∙ ap (list_any (names_other own)) (sym re) ∙ any_map v (names_other own) rows ∙ rest
+    ap (λ (x : ℕ). list_any (names_other x) l.above) (sym oe) ∙ ap (list_any (names_other own)) (sym re) ∙ any_map (names_other own) v rows ∙ rest
 
 -- an interface, all of whose superinterfaces are of its loader
 pub quiet_interface : {A : Type 0} (v : A → Rowed) (l : Lined) (rows : List A) (own : ℕ) (mine : Rowed) → own ≡ l.own.class.loader → mine ≡ l.own → map v rows ≡ l.above
@@ -357,22 +340,22 @@ quiet_class v l xs ys near rows again away own mine oe me re res aways in_away a
     let of : ℕ = l.own.class.loader in
     let nearest : List Rowed = map v near in
     let others : List Rowed = map v (drop (length near) xs) in
-    let all : map (kin_at l) (map v xs) ≡ superclasses (kin_of l) = map_through v l xs ∙ are in
-    let ae : away ≡ away_from of (map v xs) = away_rows l away (map v xs) aways in_away all (all_map v (IsRowIn (rows_in l)) xs known) in
+    let all : map (kin_at l) (map v xs) ≡ superclasses (kin_of l) = map-map (kin_at l) v xs ∙ are in
+    let ae : away ≡ away_from of (map v xs) = away_rows l away (map v xs) aways in_away all (all_forth v (IsRowIn (rows_in l)) xs known) in
     let split : map v xs ≡ nearest ++ others =
     ap (map v) (sym (take-append-drop (length near) xs)) ∙ map-append v (take (length near) xs) (drop (length near) xs) ∙ ap (λ zs. map v zs ++ others) (ap (take (length near)) (sym ye) ∙ front) in
-    let mine_all : AllByRecursion (λ (r : Rowed). of ≡ r.class.loader) nearest = all_map v (λ r. of ≡ r.class.loader) near (subst (λ (x : ℕ). AllByRecursion (λ r. x ≡ (v r).class.loader) near) oe mines) in
-    let in_all : AllByRecursion (IsRowIn (rows_in l)) nearest = all_left (IsRowIn (rows_in l)) nearest others (subst (λ (rs : List Rowed). AllByRecursion (IsRowIn (rows_in l)) rs) split (all_map v (IsRowIn (rows_in l)) xs known)) in
-    let rows_all : AllByRecursion (IsRowIn (rows_in l)) l.above = all_more l.above (l.own ∷ []) l.above (rows_known l.above [] l.above ordered refl) in
+    let mine_all : AllByRecursion (λ (r : Rowed). of ≡ r.class.loader) nearest = all_forth v (λ r. of ≡ r.class.loader) near (subst (λ (x : ℕ). AllByRecursion (λ r. x ≡ (v r).class.loader) near) oe mines) in
+    let in_all : AllByRecursion (IsRowIn (rows_in l)) nearest = all_left (IsRowIn (rows_in l)) nearest others (subst (λ (rs : List Rowed). AllByRecursion (IsRowIn (rows_in l)) rs) split (all_forth v (IsRowIn (rows_in l)) xs known)) in
+    let rows_all : AllByRecursion (IsRowIn (rows_in l)) l.above = rows_more (λ r. r) l.above (l.own ∷ []) l.above (rows_known l.above [] l.above ordered refl) in
     let silent_all : AllByRecursion (λ (r : Rowed). is_silent of nearest away r ≡ true) l.above =
     subst (λ (rs : List Rowed). AllByRecursion (λ r. is_silent of nearest away r ≡ true) rs) res
-    (all_map v (λ r. is_silent of nearest away r ≡ true) again (subst (λ (x : ℕ). AllByRecursion (λ r. is_silent x nearest away (v r) ≡ true) again) oe silent)) in
+    (all_forth v (λ r. is_silent of nearest away r ≡ true) again (subst (λ (x : ℕ). AllByRecursion (λ r. is_silent x nearest away (v r) ≡ true) again) oe silent)) in
     near_alone l
     (all_over of (IsQuiet l) l (names_own of l.own (none_first l own mine oe me first))
     (fine_rows of (IsQuiet l) (λ r. IsRowIn (rows_in l) r × (is_silent of nearest away r ≡ true)) l.above (none_rest v l own rows oe re rest)
     (all_pair (IsRowIn (rows_in l)) (λ r. is_silent of nearest away r ≡ true) l.above rows_all silent_all)
     (λ r ks known m. quiet_at l (map v xs) r ks all m
-    (λ off. subst (λ (rs : List Rowed). flat_map (near_inherited l.own rs r) (bare r).file.methods ≡ []) (sym split)
+    (λ off. subst (λ (rs : List Rowed). flat_map (inherited_by_rows true l.own rs r) (bare r).file.methods ≡ []) (sym split)
     (silent_none l nearest others away r (ae ∙ ap (away_from of) split) mine_all in_all known.0 known.1 m)))))
 
 -- a row is silent: it is of another loader, or a near superclass, or none of its methods is heard
@@ -380,7 +363,7 @@ pub silent_away : (own : ℕ) (near away : List Rowed) (r : Rowed) → (own == r
 silent_away own near away r e = rw e refl
 
 pub silent_near : {A : Type 0} (v : A → Rowed) (own : ℕ) (near : List A) (away : List Rowed) (r : Rowed) → list_any (λ s. same_class (v s).class r.class) near ≡ true → is_silent own (map v near) away r ≡ true
-silent_near v own near away r e = by (not (own == r.class.loader)) (not (list_any (is_heard away r) (bare r).file.methods)) (any_map v (λ s. same_class s.class r.class) near ∙ e)
+silent_near v own near away r e = by (not (own == r.class.loader)) (not (list_any (is_heard away r) (bare r).file.methods)) (any_map (λ s. same_class s.class r.class) v near ∙ e)
   where
     by : (a b : Bool) → list_any (λ s. same_class s.class r.class) (map v near) ≡ true → (a || (list_any (λ s. same_class s.class r.class) (map v near) || b)) ≡ true
     by true b h = refl
@@ -402,10 +385,6 @@ left_silent v own near away r x (Some n) same h = (h.0, silent_near v own near a
 -- where it declares none
 pub none_heard : (away : List Rowed) (r : Rowed) → (file_of r.file).methods ≡ [] → false ≡ list_any (is_heard away r) (file_of r.file).methods
 none_heard away r none = sym (ap (λ (ms : List Member). list_any (is_heard away r) ms) none)
-
-pub none_left : (rs : List Rowed) → length rs ≡ 0 → rs ≡ []
-none_left [] e = refl
-none_left (r ∷ rs) e = absurd (omega arith)
 
 -- none is looked at
 pub over_none : (l m : Lined) (over : List Rowed) → m ≡ l → over ≡ [] → AddAll m [] → AddAll l over

@@ -1,5 +1,6 @@
 pub mod Fewer
 pub mod Filters
+pub mod Inherited
 pub mod Methods
 pub mod Named
 pub mod Nearby

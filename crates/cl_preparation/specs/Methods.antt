@@ -1,19 +1,11 @@
 -- Methods by their names and the texts of their descriptors (JVMS SE 8, 4.3.3, 4.6).
-use Rattle.std.specs.Prelude.{◌≡◌, ℕ, Bool, ◌&&◌, ◌||◌, not, List, [], Some, None, IsSome, unwrap_or}
+use Rattle.std.specs.Prelude.{◌≡◌, ℕ, Bool, ◌||◌, List, [], Some, None, IsSome, unwrap_or}
 use Rattle.cl_descriptors.specs.declared.types.MethodType.{MethodType}
 use Rattle.cl_descriptors.specs.declared.types.Descriptor.TheVariants as descriptors
 use Rattle.cl_descriptors.specs.Reading.{whole_method}
 use Rattle.cl_classfile.specs.declared.entry.Entry.{Entry}
 use Rattle.cl_classfile.specs.Structure as structure
-use Rattle.cl_classfile.specs.Files.{
-  Name,
-  Key,
-  text_at,
-  is_public,
-  is_private,
-  is_protected,
-  is_static,
-}
+use Rattle.cl_classfile.specs.Files.{Name, Key, text_at, is_public, is_protected}
 
 -- the method type that a text is the descriptor of; of another text it tells nothing (4.3.3)
 abbrev pub type_in : Name → MethodType
@@ -31,10 +23,6 @@ pub record IsTyped (pool : List Entry) (m : structure.Member) : Type 0 where
   pub named : text_at pool m.name_index ≡ Some name
   pub described : text_at pool m.descriptor_index ≡ Some descriptor
   pub typed : IsSome (whole_method descriptor)
-
--- neither private nor static (5.4.5)
-abbrev pub is_instance : ℕ → Bool
-is_instance flags = not (is_private flags) && not (is_static flags)
 
 -- public or protected (5.4.5)
 abbrev pub is_wide : ℕ → Bool

@@ -3,11 +3,10 @@ use Rattle.std.specs.Prelude.{◌==◌, ℕ, Bool, ◌&&◌, ◌||◌, not, List
 use Rattle.std.specs.List.{list_any}
 use Rattle.cl_classfile.specs.Files.{Member}
 use Rattle.cl_model.specs.Classes.{same_class}
-use Rattle.cl_model.specs.Lineages.{if_declared, method_of}
+use Rattle.cl_model.specs.Lineages.{is_offered}
 use Rattle.cl_model.specs.Preparation.{takes_part}
 use Rattle.cl_hierarchy.specs.Rows.{Rowed}
 use Rattle.cl_hierarchy.specs.Trees.{interface_places}
-use Rattle.cl_preparation.specs.Methods.{is_instance}
 use Rattle.cl_preparation.specs.Relatives.{bare}
 
 -- a class names a superinterface of another loader than this (5.3.5, step 4)
@@ -18,8 +17,7 @@ names_other own r = list_any (λ p. not (own == p)) (interface_places r)
 -- is neither private nor static (5.4.2)
 abbrev pub is_heard : List Rowed → Rowed → Member → Bool
 is_heard away r m =
-    takes_part m.key (bare r)
-    && list_any (λ a. if_declared (method_of (bare a) m.key) is_instance) away
+    takes_part m.key (bare r) && list_any (λ a. is_offered m.key (bare a)) away
 
 -- a class is of another loader, or one of the nearest superclasses, or none of its methods is heard
 -- by a superclass of another loader (5.4.2)

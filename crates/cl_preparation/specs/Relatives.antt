@@ -1,11 +1,11 @@
 -- A class with what stands above it, as preparation looks at them (JVMS SE 8, 5.4.2, 5.4.5).
-use Rattle.std.specs.Prelude.{⊤, ◌≡◌, ◌++◌, ℕ, Bool, false, if◌then◌else◌, nat_le, List, [], ◌∷◌, map, Option, Some, None, is_some, slice_get}
+use Rattle.std.specs.Prelude.{⊤, ◌≡◌, ◌++◌, ℕ, Bool, false, if◌then◌else◌, List, [], ◌∷◌, map, Option, Some, None, is_some, slice_get}
 use Rattle.indexmap.specs.IndexSet.{IndexSet}
 use Rattle.cl_classfile.specs.Files.{Name, Key, Member, file_of, is_interface, method_of}
 use Rattle.cl_model.specs.declared.class.Class.{Class}
 use Rattle.cl_model.specs.Lineages.{Kin, Bare, superclasses, superinterfaces}
 use Rattle.cl_model.specs.Preparation.{equals_with, overrides}
-use Rattle.cl_model.specs.States.{Need, Equal}
+use Rattle.cl_model.specs.States.{Need}
 use Rattle.cl_hierarchy.specs.Rows.{Rowed}
 use Rattle.cl_hierarchy.specs.Lineages.{Lined, kin_at, kin_of}
 use Rattle.cl_preparation.specs.declared.packages.Package.{Package}
@@ -47,10 +47,6 @@ pub record Walking {S : Type 0} (key : Key) (loader : ℕ) (opened : IndexSet Pa
   pub classes : List Class
   pub opened_are : AreOpened opened classes
   pub total_is : needs ++ equals_with key loader (walked key classes rest) ≡ total
-
--- an equality of each of these names, the lesser loader first (5.3.4)
-abbrev pub equals_for : List Name → ℕ → ℕ → List Need
-equals_for names a b = map (λ n. if nat_le a b then Equal n a b else Equal n b a) names
 
 -- what a method of a class imposes with its superclasses (5.4.2)
 abbrev pub of_superclasses : Rowed → List Rowed → Key → List Need

@@ -1,20 +1,25 @@
 -- Overriding by run-time packages (JVMS SE 8, 5.3, 5.4.5).
 use Rattle.std.specs.Prelude.{Bool, ◌&&◌, ◌||◌, not, if◌then◌else◌, List, [], ◌∷◌, Option, Some, None}
 use Rattle.std.specs.List.{list_any}
-use Rattle.cl_classfile.specs.Files.{Key, is_public, is_protected}
+use Rattle.cl_classfile.specs.Files.{Key}
 use Rattle.cl_model.specs.declared.class.Class.{Class}
 use Rattle.cl_model.specs.Classes.{same_package}
 use Rattle.cl_model.specs.Lineages.{Kin, method_of, if_declared}
 use Rattle.cl_model.specs.Preparation.{takes_part}
+use Rattle.cl_preparation.specs.Methods.{is_wide}
 
 -- a class declares a method with this key for other packages too: a public or a protected one
 -- (5.4.5)
 abbrev pub is_open : Key → Kin → Bool
-is_open key k = if_declared (method_of k key) (λ x. is_public x || is_protected x)
+is_open key k = if_declared (method_of k key) is_wide
 
 -- the class declares such a method, which takes part in overriding (5.4.5)
 abbrev pub opens : Key → Kin → Bool
 opens key k = takes_part key k && is_open key k
+
+-- the class declares such a method that takes part, an open one where that is asked (5.4.5)
+abbrev pub counts : Bool → Key → Kin → Bool
+counts only_open key k = if only_open then opens key k else takes_part key k
 
 -- of such a method that takes part, if the class declares one: whether it is open (5.4.5)
 abbrev pub opening : Key → Kin → Option Bool

@@ -3,7 +3,6 @@
 ghost use Rattle.std.specs.Prelude.{◌≡◌, ◌++◌, IfOk, OnOk};
 ghost use Rattle.cl_model.specs.Preparation.{class_names, equals_of};
 ghost use Rattle.cl_hierarchy.specs.Imposed.{needs_of};
-ghost use Rattle.cl_preparation.specs.Relatives.{equals_for};
 
 use crate::key::MethodKey;
 use cl_hierarchy::equality;
@@ -13,10 +12,15 @@ use std::alloc::{AllocError, Global};
 use std::marker::Model;
 
 /// A method's key, with the classes that its descriptor names.
-#[derive(Drop)]
 pub(crate) struct Described {
     key: MethodKey,
     names: Vec<Name>,
+}
+
+impl Drop for Described {
+    fn drop(self) {
+        let Described { key: _, names: _ } = self;
+    }
 }
 
 impl Model for Described {
@@ -56,26 +60,8 @@ impl Described {
     }
 }
 
-/// Adds an equality of each name, the lesser loader first (JVMS SE 8, 5.3.4).
-#[tactic(auto, using(crate::proofs::Constraints::pushed_equality))]
-fn push_each(
-    alloc: Global,
-    needs: &mut Vec<Equality>,
-    names: &[Name],
-    a: LoaderId,
-    b: LoaderId,
-) -> Result<(), AllocError>
-    ensures { OnOk result (needs_of needs.new.items ≡ needs_of needs.old.items ++ equals_for
-        names.now a b) }
-{
-    for name in names {
-        let name = name.try_clone(alloc)?;
-        needs.push(equality(name, a, b))?;
-    }
-    Ok(())
-}
-
-/// Adds an equality for each class that the method's descriptor names (JVMS SE 8, 5.4.2).
+/// Adds an equality for each class that the method's descriptor names, the lesser loader first (JVMS SE 8, 5.3.4, 5.4.2).
+#[tactic(auto, using(crate::proofs::Constraints::pushed_all))]
 pub(crate) fn push_equals(
     alloc: Global,
     needs: &mut Vec<Equality>,
@@ -86,5 +72,9 @@ pub(crate) fn push_equals(
     ensures { OnOk result (needs_of needs.new.items ≡ needs_of needs.old.items ++ equals_of
         method.now a b) }
 {
-    push_each(alloc, needs, method.names(), a, b)
+    for name in method.names() {
+        let name = name.try_clone(alloc)?;
+        needs.push(equality(name, a, b))?;
+    }
+    Ok(())
 }

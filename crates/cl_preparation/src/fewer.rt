@@ -1,26 +1,25 @@
 //! The few loading constraints of a preparation that stand for all of them (JVMS SE 8, 5.3.4, 5.4.2).
 
 ghost use Rattle.std.specs.Prelude.{◌≡◌, ◌++◌, [], if◌then◌else◌, false, map, filter, flat_map, IfOk, OnOk};
-ghost use Rattle.std.specs.List.{AllByRecursion, list_any};
+ghost use Rattle.std.specs.List.{AllByRecursion};
 ghost use Rattle.cl_classfile.specs.Files.{file_of, is_interface};
-ghost use Rattle.cl_model.specs.Lineages.{if_declared, method_of, superclasses};
+ghost use Rattle.cl_model.specs.Lineages.{superclasses};
 ghost use Rattle.cl_model.specs.Preparation.{constraints_of};
 ghost use Rattle.cl_hierarchy.specs.Imposed.{AreEnough, OfPreparation, needs_of};
 ghost use Rattle.cl_hierarchy.specs.Lineages.{IsRowIn, is_of_other, kin_at, kin_of, rows_in};
-ghost use Rattle.cl_preparation.specs.Fewer.{fewer_constraints_of, fewer_second, loaders, other_than, others_after};
-ghost use Rattle.cl_preparation.specs.Methods.{is_instance};
-ghost use Rattle.cl_preparation.specs.Nearby.{AreNear, away_from, first_loader, near_declared, near_inherited, near_loaders, near_second};
+ghost use Rattle.cl_preparation.specs.Fewer.{fewer_constraints_of, fewer_second, loaders, others_after};
+ghost use Rattle.cl_preparation.specs.Nearby.{AreNear, near_declared, near_loaders};
 ghost use Rattle.cl_preparation.specs.Relatives.{bare};
 ghost use Rattle.cl_preparation.specs.Walks.{opens};
 
-use crate::described::{Described, push_equals};
+use crate::described::Described;
+use crate::inherited::Inheritance;
 use crate::key::MethodKey;
-use crate::listed::{list_open, list_taking, push_listed};
+use crate::listed::{list_others, push_listed};
 use crate::method::Method;
-use crate::quiet::{any_instance, over_of};
+use crate::quiet::over_of;
 use crate::relative::Relative;
 use crate::relatives::{all_of, imposes_nothing};
-use crate::walk::inherited_loader;
 use cl_hierarchy::{Equalities, Lineage};
 use cl_model::{Equality, LoaderId, Told};
 use std::alloc::{AllocError, Global};
@@ -28,11 +27,20 @@ use std::sync::Arc;
 
 /// A class with what its methods are looked up in: its superclasses of other loaders than its own, nearest first, and its
 /// superinterfaces in preorder, or none where these add nothing.
-#[derive(Drop)]
 struct Nearby<T: Told> {
     own: Relative<T>,
     away: Vec<Relative<T>>,
     over: Vec<Relative<T>>,
+}
+
+impl<T: Told> Drop for Nearby<T> {
+    fn drop(self) {
+        let Nearby {
+            own: _,
+            away: _,
+            over: _,
+        } = self;
+    }
 }
 
 /// The superclasses of other loaders than the class's own, nearest first.
@@ -63,16 +71,6 @@ fn any_has_methods<T: Told>(classes: &[Relative<T>]) -> bool
     false
 }
 
-/// A loader, if it is another than this.
-fn other_than(of: LoaderId, loader: Option<LoaderId>) -> Option<LoaderId>
-    ensures { result ≡ other_than of loader }
-{
-    match loader {
-        Some(loader) => { if loader == of { None } else { Some(loader) } }
-        None => None,
-    }
-}
-
 impl<T: Told> Nearby<T> {
     /// The class of a lineage.
     fn of(alloc: Global, lineage: &Arc<Lineage<T>>) -> Result<Nearby<T>, AllocError>
@@ -94,7 +92,7 @@ impl<T: Told> Nearby<T> {
         if self.own.is_interface() {
             return Ok(());
         }
-        list_open(listed, self.own.loader(), key, self.away.as_slice())
+        list_others(listed, self.own.loader(), true, key, self.away.as_slice())
     }
 
     /// The other loaders of what a method with this key overrides, each once: those of superclasses, nearest first, then those
@@ -105,7 +103,13 @@ impl<T: Told> Nearby<T> {
     {
         let mut listed = Vec::new(alloc);
         self.list_above(&mut listed, key)?;
-        list_taking(&mut listed, self.own.loader(), key, self.over.as_slice())?;
+        list_others(
+            &mut listed,
+            self.own.loader(),
+            false,
+            key,
+            self.over.as_slice(),
+        )?;
         Ok(listed)
     }
 
@@ -155,113 +159,6 @@ impl<T: Told> Nearby<T> {
         Ok(())
     }
 
-    /// Whether a superclass of another loader may declare such a method. Of the nearest superclasses as many are looked at
-    /// first as are of other loaders: one that declares it would end the search for it as early.
-    #[tactic(auto, using(crate::proofs::Nearby::length_away))]
-    fn may_differ(&self, above: &[Relative<T>], key: &MethodKey) -> bool
-        requires { self.now.away.items ≡ away_from self.now.own.class.loader above.now }
-        ensures { result ≡ false → list_any (λ r. if_declared (method_of (bare r) key.now)
-            is_instance) self.now.away.items ≡ false }
-    {
-        let near = &above[..self.away.len()];
-        any_instance(near, key) || any_instance(self.away.as_slice(), key)
-    }
-
-    /// The loader of the nearest superclass that declares such a method, if it is another than this.
-    #[tactic(auto, using(crate::proofs::Nearby::none_differs))]
-    fn other_loader(&self, above: &[Relative<T>], of: LoaderId, key: &MethodKey) -> Option<LoaderId>
-        requires { self.now.away.items ≡ away_from self.now.own.class.loader above.now }
-        ensures { result ≡ other_than of (first_loader key.now above.now) }
-    {
-        // mostly: few superclasses are of another loader, and none of these declares it
-        if of == self.own.loader() && !self.may_differ(above, key) {
-            return None;
-        }
-        other_than(of, inherited_loader(above, key))
-    }
-
-    /// Adds what a method of a superinterface imposes with the one that the class inherits (JVMS SE 8, 5.4.2).
-    fn push_inherited(
-        &self,
-        alloc: Global,
-        needs: &mut Vec<Equality>,
-        above: &[Relative<T>],
-        interface: &Relative<T>,
-        method: &Method,
-    ) -> Result<(), AllocError>
-        requires { self.now.away.items ≡ away_from self.now.own.class.loader above.now }
-        ensures { OnOk result (needs_of needs.new.items ≡ needs_of needs.old.items ++ near_inherited
-            self.now.own above.now interface.now method.now) }
-    {
-        let key = method.key();
-        if !interface.takes_part(key) || self.own.has(key) {
-            return Ok(());
-        }
-        match self.other_loader(above, interface.loader(), key) {
-            Some(loader) => {
-                let described = Described::of(alloc, key)?;
-                push_equals(alloc, needs, &described, loader, interface.loader())
-            }
-            None => Ok(()),
-        }
-    }
-
-    /// Adds what these methods of a superinterface impose.
-    #[tactic(auto, using(crate::proofs::Constraints::pushed_more))]
-    fn push_methods_inherited(
-        &self,
-        alloc: Global,
-        needs: &mut Vec<Equality>,
-        above: &[Relative<T>],
-        interface: &Relative<T>,
-        methods: &[Method],
-    ) -> Result<(), AllocError>
-        requires { self.now.away.items ≡ away_from self.now.own.class.loader above.now }
-        ensures { OnOk result (needs_of needs.new.items ≡ needs_of needs.old.items ++ flat_map
-            (near_inherited self.now.own above.now interface.now) methods.now) }
-    {
-        for method in methods {
-            self.push_inherited(alloc, needs, above, interface, method)?;
-        }
-        Ok(())
-    }
-
-    /// Adds what the methods of a superinterface impose.
-    fn push_all_inherited(
-        &self,
-        alloc: Global,
-        needs: &mut Vec<Equality>,
-        above: &[Relative<T>],
-        interface: &Relative<T>,
-    ) -> Result<(), AllocError>
-        requires { self.now.away.items ≡ away_from self.now.own.class.loader above.now }
-        ensures { OnOk result (needs_of needs.new.items ≡ needs_of needs.old.items ++ flat_map
-            (near_inherited self.now.own above.now interface.now)
-            (bare interface.now).file.methods) }
-    {
-        let methods = interface.methods(alloc)?;
-        self.push_methods_inherited(alloc, needs, above, interface, methods.as_slice())
-    }
-
-    /// Adds what the methods of these superinterfaces impose.
-    #[tactic(auto, using(crate::proofs::Constraints::pushed_more))]
-    fn push_each_inherited(
-        &self,
-        alloc: Global,
-        needs: &mut Vec<Equality>,
-        above: &[Relative<T>],
-        interfaces: &[Relative<T>],
-    ) -> Result<(), AllocError>
-        requires { self.now.away.items ≡ away_from self.now.own.class.loader above.now }
-        ensures { OnOk result (needs_of needs.new.items ≡ needs_of needs.old.items ++ near_second
-            self.now.own above.now interfaces.now) }
-    {
-        for interface in interfaces {
-            self.push_all_inherited(alloc, needs, above, interface)?;
-        }
-        Ok(())
-    }
-
     /// Adds what all superinterfaces of the class of this lineage impose with what it inherits.
     fn push_over(
         &self,
@@ -282,7 +179,8 @@ impl<T: Told> Nearby<T> {
         }
         let rows = lineage.superclasses(alloc)?;
         let above = all_of(alloc, rows.as_slice())?;
-        self.push_each_inherited(alloc, needs, above.as_slice(), over)
+        let inherited = Inheritance::of(&self.own, above.as_slice(), Some(self.away.as_slice()));
+        inherited.push_interfaces(alloc, needs, over)
     }
 
     /// Adds what is inherited where the class is no interface.

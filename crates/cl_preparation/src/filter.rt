@@ -13,9 +13,15 @@ const SLOTS: usize = 256;
 
 /// Slots that names share. Most classes above a method's class declare none of its name: a look at one slot tells so where a
 /// search would compare some log n names, and neither answer depends on which names share a slot.
-#[derive(Debug, Drop)]
+#[derive(Debug)]
 pub(crate) struct NameFilter {
     slots: Vec<bool>,
+}
+
+impl Drop for NameFilter {
+    fn drop(self) {
+        let NameFilter { slots: _ } = self;
+    }
 }
 
 impl Model for NameFilter {

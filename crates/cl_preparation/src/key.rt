@@ -11,11 +11,27 @@ use cl_names::Name;
 use std::alloc::{AllocError, Global};
 use std::marker::Model;
 
+/// Whether the name of a method is `<init>` or `<clinit>` (JVMS SE 8, 4.2.2).
+pub(crate) fn is_special(name: &Name) -> bool
+    ensures { result ≡ is_special name.now }
+{
+    name.bytes().starts_with(b"<")
+}
+
 /// What a method is looked up by: its name and its descriptor, whose bytes copies share (JVMS SE 8, 4.6).
-#[derive(Debug, Drop)]
+#[derive(Debug)]
 pub(crate) struct MethodKey {
     name: Name,
     descriptor: Name,
+}
+
+impl Drop for MethodKey {
+    fn drop(self) {
+        let MethodKey {
+            name: _,
+            descriptor: _,
+        } = self;
+    }
 }
 
 impl Model for MethodKey {
@@ -69,7 +85,7 @@ impl MethodKey {
     pub fn is_special(&self) -> bool
         ensures { result ≡ is_special self.now.name }
     {
-        self.name.bytes().starts_with(b"<")
+        is_special(&self.name)
     }
 
     /// The classes that the descriptor names, the return type first.

@@ -5,6 +5,7 @@
 mod described;
 mod fewer;
 mod filter;
+mod inherited;
 mod key;
 mod listed;
 mod method;

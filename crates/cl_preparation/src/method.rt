@@ -2,7 +2,8 @@
 
 ghost use Rattle.std.specs.Prelude.{◌≡◌, Some, IfOk};
 ghost use Rattle.cl_classfile.specs.Files.{declared_by, file_of, method_of};
-ghost use Rattle.cl_preparation.specs.Methods.{IsTyped, is_instance, is_wide};
+ghost use Rattle.cl_model.specs.Lineages.{is_virtual};
+ghost use Rattle.cl_preparation.specs.Methods.{IsTyped, is_wide};
 
 use crate::key::MethodKey;
 use cl_classfile::{
@@ -12,8 +13,8 @@ use std::alloc::{AllocError, Global};
 use std::marker::Model;
 
 /// Whether a method of these flags is neither private nor static: those alone override (JVMS SE 8, 5.4.5).
-pub(crate) fn is_instance(flags: u16) -> bool
-    ensures { result ≡ is_instance flags }
+pub(crate) fn is_virtual(flags: u16) -> bool
+    ensures { result ≡ is_virtual flags }
 {
     !has_flag(flags, PRIVATE) && !has_flag(flags, STATIC)
 }
@@ -26,10 +27,16 @@ pub(crate) fn is_wide(flags: u16) -> bool
 }
 
 /// A method: its flags, and what it is looked up by (JVMS SE 8, 4.6).
-#[derive(Debug, Drop)]
+#[derive(Debug)]
 pub(crate) struct Method {
     flags: u16,
     key: MethodKey,
+}
+
+impl Drop for Method {
+    fn drop(self) {
+        let Method { flags: _, key: _ } = self;
+    }
 }
 
 impl Model for Method {

@@ -11,7 +11,8 @@ ghost use Rattle.cl_preparation.specs.Relatives.{asked, bare, overrides_named};
 ghost use Rattle.cl_preparation.specs.Named.{told_by_rows};
 ghost use Rattle.cl_preparation.specs.Walks.{is_open, opens_to};
 
-use crate::method::{is_instance, is_wide};
+use crate::key::is_special;
+use crate::method::{is_virtual, is_wide};
 use cl_hierarchy::{ClassRow, Lineage, same_package};
 use cl_model::Told;
 use cl_names::Name;
@@ -36,7 +37,7 @@ fn takes_part<T: Told>(row: &ClassRow<T>, name: &Name, descriptor: &Name) -> boo
         (λ key. takes_part key (bare row.now)) }
 {
     match flags(row, name, descriptor) {
-        Some(flags) => !name.bytes().starts_with(b"<") && is_instance(flags),
+        Some(flags) => !is_special(name) && is_virtual(flags),
         None => false,
     }
 }

@@ -11,10 +11,16 @@ use indexmap::IndexSet;
 use std::alloc::{AllocError, Global};
 
 /// A run-time package: the name of the package, and the loader that defined its classes (JVMS SE 8, 5.3).
-#[derive(Debug, Drop, PartialEq, Eq, Hash)]
+#[derive(Debug, PartialEq, Eq, Hash)]
 pub(crate) struct Package {
     loader: LoaderId,
     name: Name,
+}
+
+impl Drop for Package {
+    fn drop(self) {
+        let Package { loader: _, name: _ } = self;
+    }
 }
 
 impl Package {

@@ -5,10 +5,9 @@ ghost use Rattle.std.specs.Prelude.{◌≡◌, ◌≤◌, [], false, true, lengt
 ghost use Rattle.std.specs.List.{AllByRecursion, list_any};
 ghost use Rattle.cl_classfile.specs.Files.{file_of};
 ghost use Rattle.cl_model.specs.Classes.{same_class};
-ghost use Rattle.cl_model.specs.Lineages.{if_declared, method_of, superclasses};
+ghost use Rattle.cl_model.specs.Lineages.{is_offered, superclasses};
 ghost use Rattle.cl_hierarchy.specs.Lineages.{IsRowIn, is_of_other, kin_at, kin_of, rows_in};
 ghost use Rattle.cl_hierarchy.specs.Trees.{interface_places};
-ghost use Rattle.cl_preparation.specs.Methods.{is_instance};
 ghost use Rattle.cl_preparation.specs.Nearby.{AddAll};
 ghost use Rattle.cl_preparation.specs.Quiet.{is_heard, is_silent, names_other};
 ghost use Rattle.cl_preparation.specs.Relatives.{bare};
@@ -48,18 +47,17 @@ fn any_names_other<T: Told>(rows: &[Arc<ClassRow<T>>], own: LoaderId) -> bool
 }
 
 /// Whether one of these classes declares a method with this key that is neither private nor static.
-pub(crate) fn any_instance<T: Told>(classes: &[Relative<T>], key: &MethodKey) -> bool
-    ensures { result ≡ list_any (λ r. if_declared (method_of (bare r) key.now) is_instance)
-        classes.now }
+pub(crate) fn any_offers<T: Told>(classes: &[Relative<T>], key: &MethodKey) -> bool
+    ensures { result ≡ list_any (λ r. is_offered key.now (bare r)) classes.now }
 {
-    classes.iter().any(|class| class.has_instance(key))
+    classes.iter().any(|class| class.offers(key))
 }
 
 /// Whether a method of a class takes part in overriding, and one of `away` declares such a method.
 fn is_heard<T: Told>(away: &[Relative<T>], class: &Relative<T>, method: &Method) -> bool
     ensures { result ≡ is_heard away.now class.now method.now }
 {
-    class.takes_part(method.key()) && any_instance(away, method.key())
+    class.takes_part(method.key()) && any_offers(away, method.key())
 }
 
 /// Whether one of these methods of a class is.

@@ -2,15 +2,15 @@
 
 ghost use Rattle.std.specs.Prelude.{◌≡◌, ◌&&◌, not, if◌then◌else◌, false, [], Some, None, IfOk, is_some, option_map};
 ghost use Rattle.cl_classfile.specs.Files.{file_of, is_interface};
-ghost use Rattle.cl_model.specs.Lineages.{if_declared, method_of};
+ghost use Rattle.cl_model.specs.Lineages.{is_offered, is_virtual, method_of};
 ghost use Rattle.cl_model.specs.Preparation.{takes_part};
-ghost use Rattle.cl_preparation.specs.Methods.{is_instance, is_wide};
+ghost use Rattle.cl_preparation.specs.Methods.{is_wide};
 ghost use Rattle.cl_preparation.specs.Relatives.{AreNames, bare, names_interfaces};
 ghost use Rattle.cl_preparation.specs.Walks.{is_closed, opening, opens};
 
 use crate::filter::NameFilter;
 use crate::key::MethodKey;
-use crate::method::{Method, is_instance, is_wide, methods_of};
+use crate::method::{Method, is_virtual, is_wide, methods_of};
 use crate::overriding::flags;
 use cl_classfile::ClassFile;
 use cl_hierarchy::ClassRow;
@@ -22,10 +22,15 @@ use std::sync::Arc;
 const FEW_METHODS: usize = 16;
 
 /// A class of a lineage, with a filter of its methods' names, where it has many.
-#[derive(Drop)]
 pub(crate) struct Relative<T: Told> {
     row: Arc<ClassRow<T>>,
     names: Option<NameFilter>,
+}
+
+impl<T: Told> Drop for Relative<T> {
+    fn drop(self) {
+        let Relative { row: _, names: _ } = self;
+    }
 }
 
 impl<T: Told> Model for Relative<T> {
@@ -62,10 +67,10 @@ fn names_of(alloc: Global, file: &ClassFile) -> Result<Option<NameFilter>, Alloc
 
 /// Whether a method of these flags is public or protected, where it takes part in overriding (JVMS SE 8, 5.4.5).
 fn opening(is_special: bool, flags: u16) -> Option<bool>
-    ensures { result ≡ (if not is_special && is_instance flags then Some (is_wide flags) else
+    ensures { result ≡ (if not is_special && is_virtual flags then Some (is_wide flags) else
         None) }
 {
-    if is_special || !is_instance(flags) {
+    if is_special || !is_virtual(flags) {
         return None;
     }
     Some(is_wide(flags))
@@ -139,11 +144,11 @@ impl<T: Told> Relative<T> {
 
     /// Whether it declares a method with this key that is neither private nor static (JVMS SE 8, 5.4.5).
     #[tactic(auto, using(crate::proofs::Declared::flags_tell))]
-    pub fn has_instance(&self, key: &MethodKey) -> bool
-        ensures { result ≡ if_declared (method_of (bare self.now) key.now) is_instance }
+    pub fn offers(&self, key: &MethodKey) -> bool
+        ensures { result ≡ is_offered key.now (bare self.now) }
     {
         match self.flags(key) {
-            Some(flags) => is_instance(flags),
+            Some(flags) => is_virtual(flags),
             None => false,
         }
     }
@@ -152,7 +157,7 @@ impl<T: Told> Relative<T> {
     pub fn takes_part(&self, key: &MethodKey) -> bool
         ensures { result ≡ takes_part key.now (bare self.now) }
     {
-        !key.is_special() && self.has_instance(key)
+        !key.is_special() && self.offers(key)
     }
 
     /// Of its method with this key that takes part in overriding, if it declares one: whether that is public or protected

@@ -9,11 +9,12 @@ ghost use Rattle.cl_hierarchy.specs.Imposed.{OfPreparation, needs_of};
 ghost use Rattle.cl_hierarchy.specs.Lineages.{kin_at, kin_of};
 ghost use Rattle.cl_preparation.specs.Relatives.{bare, names_interfaces};
 
-use crate::described::{Described, push_equals};
+use crate::described::Described;
+use crate::inherited::Inheritance;
 use crate::key::MethodKey;
 use crate::method::Method;
 use crate::relative::{Relative, names_interfaces};
-use crate::walk::{inherited_loader, push_above, push_taking};
+use crate::walk::{push_above, push_taking};
 use cl_hierarchy::{ClassRow, Equalities, Lineage};
 use cl_model::{Equality, Told};
 use std::alloc::{AllocError, Global};
@@ -21,12 +22,22 @@ use std::marker::Model;
 use std::sync::Arc;
 
 /// A class, its superclasses nearest first and its superinterfaces in preorder.
-#[derive(Drop)]
 struct Relatives<T: Told> {
     lineage: Arc<Lineage<T>>,
     own: Relative<T>,
     superclasses: Vec<Relative<T>>,
     superinterfaces: Vec<Relative<T>>,
+}
+
+impl<T: Told> Drop for Relatives<T> {
+    fn drop(self) {
+        let Relatives {
+            lineage: _,
+            own: _,
+            superclasses: _,
+            superinterfaces: _,
+        } = self;
+    }
 }
 
 impl<T: Told> Model for Relatives<T> {
@@ -190,88 +201,14 @@ impl<T: Told> Relatives<T> {
         self.push_each_declared(alloc, needs, methods.as_slice())
     }
 
-    /// Adds what a method of a superinterface imposes with the one that the class inherits (JVMS SE 8, 5.4.2).
-    #[tactic(auto, using(crate::proofs::Constraints::inherited_passed))]
-    fn push_inherited(
-        &self,
-        alloc: Global,
-        needs: &mut Vec<Equality>,
-        interface: &Relative<T>,
-        method: &Method,
-    ) -> Result<(), AllocError>
-        ensures { OnOk result (needs_of needs.new.items ≡ needs_of needs.old.items ++ for_inherited
-            (kin_of self.now) (bare interface.now) method.now) }
-    {
-        let key = method.key();
-        if !interface.takes_part(key) || self.own.has(key) {
-            return Ok(());
-        }
-        match inherited_loader(self.superclasses.as_slice(), key) {
-            Some(loader) => {
-                let described = Described::of(alloc, key)?;
-                push_equals(alloc, needs, &described, loader, interface.loader())
-            }
-            None => Ok(()),
-        }
-    }
-
-    /// Adds what these methods of a superinterface impose.
-    #[tactic(auto, using(crate::proofs::Constraints::pushed_more))]
-    fn push_methods_inherited(
-        &self,
-        alloc: Global,
-        needs: &mut Vec<Equality>,
-        interface: &Relative<T>,
-        methods: &[Method],
-    ) -> Result<(), AllocError>
-        ensures { OnOk result (needs_of needs.new.items ≡ needs_of needs.old.items ++ flat_map
-            (for_inherited (kin_of self.now) (bare interface.now)) methods.now) }
-    {
-        for method in methods {
-            self.push_inherited(alloc, needs, interface, method)?;
-        }
-        Ok(())
-    }
-
-    /// Adds what the methods of a superinterface impose.
-    fn push_all_inherited(
-        &self,
-        alloc: Global,
-        needs: &mut Vec<Equality>,
-        interface: &Relative<T>,
-    ) -> Result<(), AllocError>
-        ensures { OnOk result (needs_of needs.new.items ≡ needs_of needs.old.items ++ flat_map
-            (for_inherited (kin_of self.now) (bare interface.now))
-            (bare interface.now).file.methods) }
-    {
-        let methods = interface.methods(alloc)?;
-        self.push_methods_inherited(alloc, needs, interface, methods.as_slice())
-    }
-
-    /// Adds what the methods of these superinterfaces impose.
-    fn push_each_inherited(
-        &self,
-        alloc: Global,
-        needs: &mut Vec<Equality>,
-        interfaces: &[Relative<T>],
-    ) -> Result<(), AllocError>
-        ensures { OnOk result (needs_of needs.new.items ≡ needs_of needs.old.items
-            ++ flat_map (λ j. flat_map (for_inherited (kin_of self.now) (bare j))
-            (bare j).file.methods) interfaces.now) }
-    {
-        for interface in interfaces {
-            self.push_all_inherited(alloc, needs, interface)?;
-        }
-        Ok(())
-    }
-
     /// Adds what the methods of the superinterfaces impose.
     fn push_interfaces(&self, alloc: Global, needs: &mut Vec<Equality>) -> Result<(), AllocError>
         ensures { OnOk result (needs_of needs.new.items ≡ needs_of needs.old.items
             ++ flat_map (λ j. flat_map (for_inherited (kin_of self.now) j) j.file.methods)
             (superinterfaces (kin_of self.now))) }
     {
-        self.push_each_inherited(alloc, needs, self.superinterfaces.as_slice())
+        let inherited = Inheritance::of(&self.own, self.superclasses.as_slice(), None);
+        inherited.push_interfaces(alloc, needs, self.superinterfaces.as_slice())
     }
 
     /// Adds what is inherited where the class is no interface.

@@ -1,13 +1,11 @@
 //! What a method overrides, in one walk over the superclasses, and what is inherited (JVMS SE 8, 5.4.5).
 
-ghost use Rattle.std.specs.Prelude.{◌≡◌, ◌++◌, ◌∷◌, [], map, filter, find, List, OnOk};
+ghost use Rattle.std.specs.Prelude.{◌≡◌, ◌++◌, ◌∷◌, [], map, filter, List, OnOk};
 ghost use Rattle.std.specs.List.{list_any};
-ghost use Rattle.std.specs.Option.{option_map};
 ghost use Rattle.cl_model.specs.declared.class.Class.{Class};
-ghost use Rattle.cl_model.specs.Lineages.{if_declared, method_of};
 ghost use Rattle.cl_model.specs.Preparation.{equals_of, equals_with, takes_part};
 ghost use Rattle.cl_hierarchy.specs.Imposed.{needs_of};
-ghost use Rattle.cl_preparation.specs.Methods.{is_instance};
+ghost use Rattle.cl_preparation.specs.Inherited.{first_loader};
 ghost use Rattle.cl_preparation.specs.Packages.{AreOpened};
 ghost use Rattle.cl_preparation.specs.Relatives.{Visits, bare, of_superclasses};
 ghost use Rattle.cl_preparation.specs.Walks.{is_closed, walked};
@@ -133,11 +131,10 @@ pub(crate) fn inherited_loader<T: Told>(
     superclasses: &[Relative<T>],
     key: &MethodKey,
 ) -> Option<LoaderId>
-    ensures { result ≡ option_map (λ a. a.class.loader)
-        (find (λ a. if_declared (method_of (bare a) key.now) is_instance) superclasses.now) }
+    ensures { result ≡ first_loader key.now superclasses.now }
 {
     superclasses
         .iter()
-        .find(|class| class.has_instance(key))
+        .find(|class| class.offers(key))
         .map(|class| class.loader())
 }

@@ -7,8 +7,8 @@ use Rattle.cl_hierarchy.proofs.Climbs.{all_back}
 use Rattle.cl_hierarchy.proofs.StemEnds.{further}
 use Rattle.cl_hierarchy.proofs.others.others_above.Goals as goal
 
-pub next_above-requires : goal.next_above-requires
-next_above-requires g c =
+pub superclass_row-requires : goal.superclass_row-requires
+superclass_row-requires g c =
     next_on_stem (map (λ r. r.value) c.args.rows.now ++ c.args.under.now.value ∷ []) (map (λ r. r.value) c.loop-row.rest.now) c.loop-row.last.now.value c.deref-in-loop-row.result.now c.args.stem c.requires.stem c.loop-row.invariant.1 c.deref-in-loop-row.ensures
 
 pub loop-row-init : goal.loop-row-init

@@ -1,6 +1,6 @@
 use Rattle.std.proofs.Common.{◌≡◌, length, arith}
+use Rattle.std.proofs.lemmas.List.{nil_from_length}
 use Rattle.cl_hierarchy.proofs.Climbs.{all_back}
-use Rattle.cl_hierarchy.proofs.Stages.{no_items}
 use Rattle.cl_hierarchy.proofs.Stems.{down, first_down_in, first_on_in, if_some, less_in, next_down_in, next_on_in}
 use Rattle.cl_hierarchy.proofs.stem.lineage_rows.Goals as goal
 
@@ -27,7 +27,7 @@ loop-row-preserved g c =
 pub returns-clause-kins : goal.returns-clause-kins
 returns-clause-kins g c =
     let e : length c.loop-row.stem.items ≡ 0 = omega (arith, c.in_default-pop.ensures.cases) in
-    down (λ r. r.value) (g.F.Finds.rows c.args.table.now) c.args.start.now.value c.loop-row.rows.items c.loop-row.stem.items (no_items _ e) c.loop-row.invariant
+    down (λ r. r.value) (g.F.Finds.rows c.args.table.now) c.args.start.now.value c.loop-row.rows.items c.loop-row.stem.items (nil_from_length _ e) c.loop-row.invariant
 
 pub returns-clause-rows : goal.returns-clause-rows
 returns-clause-rows g c = all_back (λ r. r.value) _ c.loop-row.rows.items c.loop-row.invariant.told_in

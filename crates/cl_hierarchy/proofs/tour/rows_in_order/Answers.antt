@@ -1,10 +1,12 @@
 use Rattle.std.proofs.Common.{◌≡◌, ◌∙◌, List, [], ◌∷◌, ◌++◌, length, map, arith, sym, ap}
+use Rattle.std.proofs.lemmas.List.{nil_from_length}
+use mathlib.Core.List.{map-map}
 use Rattle.cl_model.specs.Lineages.{alone, once}
 use Rattle.cl_hierarchy.specs.declared.tour.Task.TheVariants as tasks
 use Rattle.cl_hierarchy.specs.Trees.{kin_under, kins}
 use Rattle.cl_hierarchy.specs.Tours.{marks, stops, told_at}
-use Rattle.cl_hierarchy.proofs.Climbs.{all_back, map_twice}
-use Rattle.cl_hierarchy.proofs.Stages.{ended, first_stage, no_items, preserved, smaller}
+use Rattle.cl_hierarchy.proofs.Climbs.{all_back}
+use Rattle.cl_hierarchy.proofs.Stages.{ended, first_stage, preserved, smaller}
 use Rattle.cl_hierarchy.proofs.tour.rows_in_order.Goals as goal
 
 pub loop-next-init : goal.loop-next-init
@@ -24,8 +26,8 @@ loop-next-preserved g c =
 pub returns-clause-kins : goal.returns-clause-kins
 returns-clause-kins g c =
     let e : length c.loop-next.tour.stack.items ≡ 0 = omega (arith, c.in_default.ensures.cases) in
-    sym (map_twice (λ r. r.value) (kin_under (kins (g.F.Finds.rows c.args.table.now))) c.loop-next.tour.told.items)
-    ∙ ended (g.F.Finds.rows c.args.table.now) c.args.order _ _ _ _ c.loop-next.tour.stack.items (no_items _ e) c.loop-next.invariant
+    sym (map-map (kin_under (kins (g.F.Finds.rows c.args.table.now))) (λ r. r.value) c.loop-next.tour.told.items)
+    ∙ ended (g.F.Finds.rows c.args.table.now) c.args.order _ _ _ _ c.loop-next.tour.stack.items (nil_from_length _ e) c.loop-next.invariant
 
 pub returns-clause-rows : goal.returns-clause-rows
 returns-clause-rows g c = all_back (λ r. r.value) _ c.loop-next.tour.told.items c.loop-next.invariant.told_are

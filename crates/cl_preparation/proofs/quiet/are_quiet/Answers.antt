@@ -1,9 +1,10 @@
 use Rattle.std.proofs.Common.{◌≡◌, length, arith, ap, sym, ◌∙◌}
+use Rattle.std.proofs.lemmas.List.{nil_from_length}
 use Rattle.cl_classfile.specs.Files.{file_of, is_interface}
 use Rattle.cl_classfile.specs.Structure.{Structure}
 use Rattle.cl_model.specs.declared.class.Class.{Class}
 use Rattle.cl_hierarchy.specs.Rows.{Rowed}
-use Rattle.cl_preparation.proofs.Silence.{none_left, quiet_class, quiet_home, quiet_interface}
+use Rattle.cl_preparation.proofs.Silence.{quiet_class, quiet_home, quiet_interface}
 use Rattle.cl_preparation.proofs.quiet.are_quiet.Goals as goal
 
 pub returns-then-is_interface : goal.returns-then-is_interface
@@ -19,7 +20,7 @@ returns-then-is_empty g c = λ e.
     let none : length c.args.away.now ≡ 0 = grind arith in
     quiet_home (λ r. r.value) c.args.lineage.now c.above.result.now c.args.away.now c.class.result.now.loader c.deref-2.result.now
     (ap (λ (k : Class). k.loader) c.class.ensures.class ∙ ap (λ (r : Rowed). r.class.loader) (c.deref.ensures ∙ c.own.ensures.own)) (c.deref-2.ensures ∙ c.own-2.ensures.own) c.above.ensures.rows
-    (sym c.names_other.ensures ∙ c.if-names_other.false) (sym c.any_names_other.ensures ∙ c.if-any_names_other.false) c.requires.classes (none_left c.args.away.now none)
+    (sym c.names_other.ensures ∙ c.if-names_other.false) (sym c.any_names_other.ensures ∙ c.if-any_names_other.false) c.requires.classes (nil_from_length c.args.away.now none)
 
 pub returns : goal.returns
 returns g c = λ e.

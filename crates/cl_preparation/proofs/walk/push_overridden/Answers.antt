@@ -1,5 +1,5 @@
+use Rattle.std.proofs.lemmas.Result.{IfOk-at_ok}
 use Rattle.cl_hierarchy.specs.Imposed.{needs_of}
-use Rattle.cl_preparation.proofs.Constraints.{told}
 use Rattle.cl_preparation.proofs.Walking.{walking_step}
 use Rattle.cl_preparation.proofs.walk.push_overridden.Goals as goal
 
@@ -7,4 +7,4 @@ pub loop-class-preserved : goal.loop-class-preserved
 loop-class-preserved g c =
     walking_step c.args.method.now c.args.own.now.class.loader c.loader.result c.loop-class.opened c.visit.new.opened (needs_of c.loop-class.needs.items) (needs_of c.visit.new.needs.items)
     c.args.superclasses.now c.loop-class.class-index c.class-item.result _ c.loop-class-test.true c.class-item.is c.loader.ensures c.loop-class.invariant
-    (λ before was. told c.visit.result _ c.in_ok-visit.field-0 c.in_ok-visit.was (c.visit.ensures before was))
+    (λ before was. IfOk-at_ok _ c.in_ok-visit.was (c.visit.ensures before was))

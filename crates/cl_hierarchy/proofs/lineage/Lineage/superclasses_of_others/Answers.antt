@@ -1,6 +1,7 @@
 use Rattle.std.proofs.Common.{map, ap}
+use Rattle.std.proofs.lemmas.Result.{IfOk-weaker}
 use Rattle.cl_hierarchy.proofs.Away.{given_ordered, given_stem}
-use Rattle.cl_hierarchy.proofs.Climbs.{if_ok, rows_in_all}
+use Rattle.cl_hierarchy.proofs.Climbs.{rows_in_all}
 use Rattle.cl_hierarchy.proofs.lineage.Lineage.superclasses_of_others.Goals as goal
 
 pub others_above-requires-clause-ordered : goal.others_above-requires-clause-ordered
@@ -11,4 +12,4 @@ others_above-requires-clause-stem g c = given_stem _ _ c.self.inside.own.value c
 
 pub returns-clause-rows : goal.returns-clause-rows
 returns-clause-rows g c =
-    if_ok _ _ c.others_above.result (λ v h. rows_in_all (λ r. r.value) _ _ _ c.self.view_is (ap (λ xs. map (λ x. x.value) xs) c.as_slice.ensures.value) v.items h) c.others_above.ensures.rows
+    IfOk-weaker c.others_above.result _ _ (λ v h. rows_in_all (λ r. r.value) _ _ _ c.self.view_is (ap (λ xs. map (λ x. x.value) xs) c.as_slice.ensures.value) v.items h) c.others_above.ensures.rows

@@ -1,6 +1,13 @@
-use Rattle.std.proofs.Common.{ap, map}
+use Rattle.std.proofs.Common.{◌∙◌, ap, map}
+use Rattle.std.proofs.lemmas.Result.{IfOk-weaker}
+use Rattle.cl_hierarchy.specs.Lineages.{kin_at}
 use Rattle.cl_hierarchy.proofs.StemEnds.{ordered_in, rows_told, told_in}
+use Rattle.cl_hierarchy.proofs.Tours.{superinterfaces_told}
 use Rattle.cl_hierarchy.proofs.lineage.Lineage.superinterfaces_of.Goals as goal
+
+pub returns-in-None-clause-superinterfaces : goal.returns-in-None-clause-superinterfaces
+returns-in-None-clause-superinterfaces g c =
+    IfOk-weaker c.rows_by_tour.result _ _ (λ v e. e ∙ superinterfaces_told (kin_at c.args.self.now c.args.row.now.value)) c.rows_by_tour.ensures.told
 
 pub superinterfaces_behind-requires : goal.superinterfaces_behind-requires
 superinterfaces_behind-requires g c =

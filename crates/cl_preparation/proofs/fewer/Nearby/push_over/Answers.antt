@@ -1,9 +1,9 @@
-use Rattle.std.proofs.Common.{◌∙◌, ◌++◌, List, ap, append-nil, sym}
+use Rattle.std.proofs.Common.{◌∙◌, ◌++◌, List, true, ap, append-nil, sym}
+use Rattle.std.proofs.lemmas.Result.{on_ok_weaker}
 use Rattle.cl_model.specs.States.{Need}
 use Rattle.cl_hierarchy.specs.Imposed.{needs_of}
 use Rattle.cl_hierarchy.specs.Rows.{Rowed}
-use Rattle.cl_preparation.specs.Nearby.{away_from, near_second}
-use Rattle.cl_preparation.proofs.Constraints.{on_ok}
+use Rattle.cl_preparation.specs.Inherited.{Inherited, away_from, second_by_rows}
 use Rattle.cl_preparation.proofs.Nearby.{away_given, second_given, second_none}
 use Rattle.cl_preparation.proofs.fewer.Nearby.push_over.Goals as goal
 
@@ -13,17 +13,19 @@ returns-then-not-any_has_methods g c =
     ∙ ap (λ (ns : List Need). needs_of c.args.needs.now.items ++ ns)
     (second_none c.args.lineage.now.value c.args.self.now.own c.args.self.now.away.items c.args.self.now.over.items c.as_slice-over.result.now c.requires.near c.requires.class c.as_slice-over.ensures.value (c.any_has_methods.ensures c.if-not-any_has_methods.true))
 
-pub push_each_inherited-requires : goal.push_each_inherited-requires
-push_each_inherited-requires g c =
-    away_given (λ r. r.value) c.args.lineage.now.value c.deref.result.now c.args.self.now.own c.in_ok-rows.rows.items c.as_slice.result.now c.args.self.now.away.items c.args.self.now.over.items c.in_ok-above.above.items c.requires.near
+pub of-inherited-requires : goal.of-inherited-requires
+of-inherited-requires g c =
+    c.as_slice-3.ensures.value
+    ∙ away_given (λ r. r.value) c.args.lineage.now.value c.deref.result.now c.args.self.now.own c.in_ok-rows.rows.items c.as_slice.result.now c.args.self.now.away.items c.args.self.now.over.items c.in_ok-above.above.items c.requires.near
     c.deref.ensures c.as_slice.ensures.value c.in_ok-above.ensures c.in_ok-rows.ensures.superclasses c.in_ok-rows.ensures.rows
     ∙ ap (λ (rs : List Rowed). away_from c.args.self.now.own.class.loader rs) (sym c.as_slice-2.ensures.value)
 
 pub returns : goal.returns
 returns g c =
-    on_ok c.push_each_inherited.result _ _
-    (λ e. e ∙ ap (λ (rs : List Rowed). needs_of c.args.needs.now.items ++ near_second c.args.self.now.own rs c.as_slice-over.result.now) c.as_slice-2.ensures.value
+    on_ok_weaker c.push_interfaces.result
+    (λ e. e ∙ ap (λ (h : Inherited). needs_of c.args.needs.now.items ++ second_by_rows h.few h.own h.above c.as_slice-over.result.now) c.of-inherited.ensures
+    ∙ ap (λ (rs : List Rowed). needs_of c.args.needs.now.items ++ second_by_rows true c.args.self.now.own rs c.as_slice-over.result.now) c.as_slice-2.ensures.value
     ∙ ap (λ (ns : List Need). needs_of c.args.needs.now.items ++ ns)
     (second_given (λ r. r.value) c.args.lineage.now.value c.deref.result.now c.args.self.now.own c.in_ok-rows.rows.items c.as_slice.result.now c.args.self.now.away.items c.args.self.now.over.items c.in_ok-above.above.items c.requires.near
     c.deref.ensures c.as_slice.ensures.value c.in_ok-above.ensures c.in_ok-rows.ensures.superclasses c.in_ok-rows.ensures.rows c.as_slice-over.result.now c.as_slice-over.ensures.value c.requires.class))
-    c.push_each_inherited.ensures
+    c.push_interfaces.ensures

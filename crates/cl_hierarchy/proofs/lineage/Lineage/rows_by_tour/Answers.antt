@@ -1,12 +1,8 @@
-use Rattle.std.proofs.Common.{false, ◌∙◌, map, ap}
+use Rattle.std.proofs.Common.{map, ap}
 use Rattle.cl_model.specs.Lineages.{Kin, alone, once}
-use Rattle.cl_hierarchy.specs.declared.tour.Order.TheVariants as orders
 use Rattle.cl_hierarchy.specs.Tours.{stops, told_at}
-use Rattle.cl_hierarchy.specs.Lineages.{kin_at}
-use Rattle.cl_hierarchy.proofs.Climbs.{if_ok}
 use Rattle.cl_hierarchy.proofs.Inside.{ordered, row_stands, rows_inside, table_is, told_inside}
-use Rattle.cl_hierarchy.proofs.Tours.{superinterfaces_told}
-use Rattle.cl_hierarchy.proofs.lineage.Lineage.superinterfaces_by_tour.Goals as goal
+use Rattle.cl_hierarchy.proofs.lineage.Lineage.rows_by_tour.Goals as goal
 
 pub rows_in_order-requires-clause-ordered : goal.rows_in_order-requires-clause-ordered
 rows_in_order-requires-clause-ordered g c =
@@ -17,12 +13,10 @@ rows_in_order-requires-clause-start g c =
     row_stands c.args.self.now _ c.in_ok-table.table c.self.view_is c.self.invariant.lined.order (table_is c.args.self.now _ c.in_ok-table.table _ c.self.view_is c.in_ok-table.ensures (ap (λ xs. map (λ x. x.value) xs) c.as_slice.ensures.value))
     c.args.row.now.value c.requires
 
-pub returns-clause-superinterfaces : goal.returns-clause-superinterfaces
-returns-clause-superinterfaces g c =
-    if_ok _ _ c.rows_in_order.result (λ v e. e ∙ superinterfaces_told (kin_at c.args.self.now c.args.row.now.value)) (
+pub returns-clause-told : goal.returns-clause-told
+returns-clause-told g c =
     told_inside c.args.self.now _ c.in_ok-table.table c.self.view_is c.self.invariant.lined.order (table_is c.args.self.now _ c.in_ok-table.table _ c.self.view_is c.in_ok-table.ensures (ap (λ xs. map (λ x. x.value) xs) c.as_slice.ensures.value))
-    (λ v. v.items) (λ r. r.value) (λ (k : Kin). once (told_at orders.Superinterfaces (stops orders.Superinterfaces (alone k) false))) c.args.row.now.value c.requires c.rows_in_order.result c.rows_in_order.ensures.kins c.rows_in_order.ensures.rows
-    )
+    (λ v. v.items) (λ r. r.value) (λ (k : Kin). once (told_at c.args.order (stops c.args.order (alone k) c.args.wanted))) c.args.row.now.value c.requires c.rows_in_order.result c.rows_in_order.ensures.kins c.rows_in_order.ensures.rows
 
 pub returns-clause-rows : goal.returns-clause-rows
 returns-clause-rows g c =

@@ -1,8 +1,0 @@
-use Rattle.std.proofs.Common.{◌≡◌, ◌++◌, drop}
-use Rattle.cl_preparation.specs.Walks.{opens}
-use Rattle.cl_preparation.proofs.Nearby.{still}
-use Rattle.cl_preparation.proofs.listed.list_open.Given as goal
-
-abbrev pub invariant-loop-class : goal.invariant-loop-class
-invariant-loop-class g l =
-    l.listed.items ++ still (opens l.key) l.own l.listed.items (drop l.class-index l.classes) ≡ l.initial.listed.items ++ still (opens l.key) l.own l.initial.listed.items l.classes

@@ -6,7 +6,6 @@ use Rattle.cl_model.specs.declared.class.Class.{Class}
 use Rattle.cl_model.specs.declared.verdict.Verdict as verdict
 use Rattle.cl_model.specs.declared.verdict.Verdict.TheVariants as verdicts
 use Rattle.cl_model.specs.declared.answer.Answer as answer
-use Rattle.cl_model.specs.declared.answer.Answer.TheVariants as answers
 use Rattle.cl_model.specs.declared.request.Request as request
 use Rattle.cl_model.specs.declared.request.Request.TheVariants as requests
 use Rattle.cl_model.specs.Content.{Content}
@@ -32,7 +31,8 @@ use Rattle.cl_model.proofs.Trees.{lineage_is_derived, lineage_of}
 use Rattle.cl_model.proofs.Closed.{all_left}
 use Rattle.cl_config.specs.Views.{Configured, Scripted}
 use Rattle.cl_delegation.specs.Worlds.{setting_of, world_of}
-use Rattle.cl_findings.specs.Findings.{Answered, AnswerRests, Based, BasisStands, Concludes, HasImposed, IsLink, IsLookedUp, IsRefusal, Rests, SaidRests, Stands, VerdictRests}
+use Rattle.cl_findings.specs.Findings.{Answered, AnswerRests, Based, BasisStands, Concludes, HasImposed, IsLink, IsLookedUp, IsRefusal, SaidRests, VerdictRests}
+use Rattle.cl_findings.specs.Laws.{VerdictStands}
 
 -- ---- what a verdict that stands concludes
 
@@ -60,48 +60,40 @@ concluded content c script s r v (Some b) rests sound borne =
     )
 
 -- of a finding
-found : (content : Content) (c : Configured) (script : Scripted) (s : State) (f : Answered) (v : verdict.Verdict) → Rests (Some content) f → IsSound (setting_of c script content) s → Stands c s f → f.answer ≡ answers.Said v
+found : (content : Content) (c : Configured) (script : Scripted) (s : State) (f : Answered) (v : verdict.Verdict) → VerdictStands content c script s f v
     → (b : Based) × Concluded (setting_of c script content) s f.request v b
-found content c script s f v rests sound stands said =
-    concluded content c script s f.request v f.basis (subst (λ (a : answer.Answer). AnswerRests content f.request a f.basis) said rests) sound stands.basis
+found content c script s f v h =
+    concluded content c script s f.request v f.basis (subst (λ (a : answer.Answer). AnswerRests content f.request a f.basis) h.said h.rests) h.sound h.stands.basis
 
 pub answered_by : (g : Setting) (s : State) (q : Request) (o : Option Need) (cs : List Class) (v : Verdict) → Concludes g.world s q o cs v → IfSome o (Refused s) → AnswersPlan g s q v
 answered_by g s q None cs v h refused = answers_here g s q v h
 answered_by g s q (Some n) cs v h refused = subst (λ (u : Verdict). AnswersPlan g s q u) (sym h.linkage) (refused_answers g s q n h.next refused)
 
-pub standing_answers : (content : Content) (c : Configured) (script : Scripted) (s : State) (f : Answered) (v : verdict.Verdict) → Rests (Some content) f → IsSound (setting_of c script content) s → Stands c s f → f.answer ≡ answers.Said v
+pub standing_answers : (content : Content) (c : Configured) (script : Scripted) (s : State) (f : Answered) (v : verdict.Verdict) → VerdictStands content c script s f v
     → AnswersPlan (setting_of c script content) s (request_of f.request) (verdict_of v)
-standing_answers content c script s f v rests sound stands said =
-    let h = found content c script s f v rests sound stands said in
-    answered_by (setting_of c script content) s (request_of f.request) h.0.refused h.0.prepared (verdict_of v) h.1.concludes h.1.refused
+standing_answers content c script s f v h =
+    let b = found content c script s f v h in
+    answered_by (setting_of c script content) s (request_of f.request) b.0.refused b.0.prepared (verdict_of v) b.1.concludes b.1.refused
 
 -- ---- references
 
-pub standing_settles : (content : Content) (c : Configured) (script : Scripted) (s : State) (f : Answered) (v : verdict.Verdict) (loader place i : ℕ) (name : List ℕ) → Rests (Some content) f
-    → IsSound (setting_of c script content) s → Stands c s f → f.answer ≡ answers.Said v → f.request ≡ requests.Resolve loader name i → recorded s.records loader name ≡ Some place
+pub standing_settles : (content : Content) (c : Configured) (script : Scripted) (s : State) (f : Answered) (v : verdict.Verdict) (loader place i : ℕ) (name : List ℕ) → VerdictStands content c script s f v
+    → f.request ≡ requests.Resolve loader name i → recorded s.records loader name ≡ Some place
     → AnswersReference (setting_of c script content) s (class name place) i (verdict_of v)
-standing_settles content c script s f v loader place i name rests sound stands said asked rec =
+standing_settles content c script s f v loader place i name h asked rec =
     let g = setting_of c script content in
     let q = Resolve loader name i in
-    let all : AnswersPlan g s q (verdict_of v) = subst (λ (r : request.Request). AnswersPlan g s (request_of r) (verdict_of v)) asked (standing_answers content c script s f v rests sound stands said) in
+    let all : AnswersPlan g s q (verdict_of v) = subst (λ (r : request.Request). AnswersPlan g s (request_of r) (verdict_of v)) asked (standing_answers content c script s f v h) in
     let p = plan_exists g.world q in
-    let at = recorded_reached g.world s q p.0 place sound.closed p.1 rec in
+    let at = recorded_reached g.world s q p.0 place h.sound.closed p.1 rec in
     plan_is_reference g s loader name i p.0 (class name place) (verdict_of v) p.1 at.0 at.1 all
 
 -- ---- links
 
 -- a verdict that reads as a linked class is one
 linked_is_looked_up : (loader : ℕ) (name : List ℕ) (v : verdict.Verdict) (d : Class) → verdict_of v ≡ IsLinked d → IsLookedUp (requests.Link loader name) v
-linked_is_looked_up loader name (verdicts.Class c) d e = absurd cc
-linked_is_looked_up loader name (verdicts.Array dimensions c) d e = absurd cc
-linked_is_looked_up loader name (verdicts.PrimitiveArray dimensions base) d e = absurd cc
-linked_is_looked_up loader name (verdicts.Field c key) d e = absurd cc
-linked_is_looked_up loader name (verdicts.Method c key) d e = absurd cc
 linked_is_looked_up loader name (verdicts.Linked c) d e = tt
-linked_is_looked_up loader name verdicts.BadEntry d e = absurd cc
-linked_is_looked_up loader name verdicts.ArrayMember d e = absurd cc
-linked_is_looked_up loader name (verdicts.Error kind c) d e = absurd cc
-linked_is_looked_up loader name (verdicts.Linkage n) d e = absurd cc
+linked_is_looked_up loader name other d e = absurd cc
 
 end_comes : (g : Setting) (s : State) (loader : ℕ) (name : List ℕ) (v : Verdict) → ((d : Class) → v ≡ IsLinked d → ⊥) → EndsHere g.world s (Link loader name) v → ComesTo g s (Link loader name) v
 end_comes g s loader name v unlinked here = at here.plan.reached refl
@@ -144,8 +136,8 @@ link_comes_by g s (requests.Resolve loader name i) v b sound link h = absurd lin
 link_comes_by g s (requests.Link loader name) v b sound link h =
     comes_by g s loader name b.refused b.prepared (verdict_of v) sound (λ d e. h.apart (linked_is_looked_up loader name v d e)) h.concludes h.prepared h.refused
 
-pub standing_comes : (content : Content) (c : Configured) (script : Scripted) (s : State) (f : Answered) (v : verdict.Verdict) → Rests (Some content) f → IsSound (setting_of c script content) s → Stands c s f → f.answer ≡ answers.Said v
+pub standing_comes : (content : Content) (c : Configured) (script : Scripted) (s : State) (f : Answered) (v : verdict.Verdict) → VerdictStands content c script s f v
     → IsLink f.request → ComesTo (setting_of c script content) s (request_of f.request) (verdict_of v)
-standing_comes content c script s f v rests sound stands said link =
-    let h = found content c script s f v rests sound stands said in
-    link_comes_by (setting_of c script content) s f.request v h.0 sound link h.1
+standing_comes content c script s f v h link =
+    let b = found content c script s f v h in
+    link_comes_by (setting_of c script content) s f.request v b.0 h.sound link b.1

@@ -1,6 +1,5 @@
 -- The file of a class that is recorded.
 use Rattle.std.proofs.Common.{◌≡◌, ℕ, Some, Ok, Result, subst}
-use Rattle.std.specs.Prelude.{if◌then◌else◌}
 use Rattle.cl_classfile.specs.Files.{File, file_of}
 use Rattle.cl_classfile.specs.Structure.{Structure}
 use Rattle.cl_model.specs.declared.class.Class.{Class}

@@ -51,15 +51,8 @@ use Rattle.cl_findings.proofs.Plain.{error_apart, grounded, linkage_apart}
 -- ---- what is wrong with bytes
 
 other_than_version : (fault : Fault) → fault ≢ faults.Version → file_fault fault ≡ BadFormat
-other_than_version faults.BadMagic n = refl
 other_than_version faults.Version n = absurd (n refl)
-other_than_version faults.Truncated n = refl
-other_than_version faults.Trailing n = refl
-other_than_version (faults.BadPool i) n = refl
-other_than_version faults.BadFlags n = refl
-other_than_version faults.BadMember n = refl
-other_than_version faults.Duplicate n = refl
-other_than_version faults.BadSupertype n = refl
+other_than_version other n = refl
 
 apart : (a b : List ℕ) (t : Bool) → a ≢ b → same_name a b ≡ t → t ≡ false
 apart a b true n h = absurd (n (names_equal a b h))

@@ -21,23 +21,28 @@ use Rattle.cl_hierarchy.specs.Rows.{Rowed}
 use Rattle.cl_findings.specs.Findings.{Answered, IsLink, Rests, Stands}
 use Rattle.cl_findings.specs.Loads.{IsSought, IsWhole}
 
+-- a finding has this verdict, rests on the content, and stands in a sound state (5.3 to 5.4.3)
+pub record VerdictStands (content : Content) (c : Configured) (script : Scripted) (s : State)
+    (f : Answered) (v : verdict.Verdict) : Type 0 where
+  pub rests : Rests (Some content) f
+  pub sound : IsSound (setting_of c script content) s
+  pub stands : Stands c s f
+  pub said : f.answer ≡ answers.Said v
+
 -- a verdict that stands in a sound state is the answer of its request there (5.3 to 5.4.3)
 abbrev pub StandingAnswers : Type 0
 StandingAnswers =
     (content : Content) (c : Configured) (script : Scripted) (s : State) (f : Answered)
     (v : verdict.Verdict)
-    → Rests (Some content) f → IsSound (setting_of c script content) s → Stands c s f
-    → f.answer ≡ answers.Said v
+    → VerdictStands content c script s f v
     → AnswersPlan (setting_of c script content) s (request_of f.request) (verdict_of v)
 
 -- and the answer of the reference, where the loader of the request records its class (5.4.3)
 abbrev pub StandingSettles : Type 0
 StandingSettles =
     (content : Content) (c : Configured) (script : Scripted) (s : State) (f : Answered)
-    (v : verdict.Verdict)
-    (loader place i : ℕ) (name : Name)
-    → Rests (Some content) f → IsSound (setting_of c script content) s → Stands c s f
-    → f.answer ≡ answers.Said v
+    (v : verdict.Verdict) (loader place i : ℕ) (name : Name)
+    → VerdictStands content c script s f v
     → f.request ≡ requests.Resolve loader name i → recorded s.records loader name ≡ Some place
     → AnswersReference (setting_of c script content) s (class name place) i (verdict_of v)
 
@@ -46,8 +51,7 @@ abbrev pub StandingComes : Type 0
 StandingComes =
     (content : Content) (c : Configured) (script : Scripted) (s : State) (f : Answered)
     (v : verdict.Verdict)
-    → Rests (Some content) f → IsSound (setting_of c script content) s → Stands c s f
-    → f.answer ≡ answers.Said v
+    → VerdictStands content c script s f v
     → IsLink f.request
     → ComesTo (setting_of c script content) s (request_of f.request) (verdict_of v)
 

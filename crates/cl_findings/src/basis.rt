@@ -8,7 +8,6 @@ use cl_model::{LoaderId, Told};
 use std::sync::Arc;
 
 /// Where a load ends, past what its path has accepted.
-#[derive(Drop)]
 pub enum At<T: Told> {
     Nothing,
     /// At a recorded class that does not fit, which this loader defined.
@@ -19,8 +18,18 @@ pub enum At<T: Told> {
     Away(Arc<Home<T>>),
 }
 
+impl<T: Told> Drop for At<T> {
+    fn drop(self) {
+        match self {
+            At::Nothing => {}
+            At::Misfit(_) => {}
+            At::Whole(_) => {}
+            At::Away(_) => {}
+        }
+    }
+}
+
 /// What an answer rests on.
-#[derive(Drop)]
 pub enum Basis<T: Told> {
     /// A load that ended.
     Load {
@@ -57,4 +66,33 @@ pub enum Basis<T: Told> {
         equalities: Arc<Equalities<T>>,
         met: usize,
     },
+}
+
+impl<T: Told> Drop for Basis<T> {
+    fn drop(self) {
+        match self {
+            Basis::Load {
+                target: _,
+                path: _,
+                at: _,
+            } => {}
+            Basis::Entry { config: _, d: _ } => {}
+            Basis::Class {
+                config: _,
+                d: _,
+                c: _,
+            } => {}
+            Basis::Lookup { d: _, c: _ } => {}
+            Basis::Asked {
+                equalities: _,
+                met: _,
+            } => {}
+            Basis::Linked {
+                lineage: _,
+                place: _,
+                equalities: _,
+                met: _,
+            } => {}
+        }
+    }
 }

@@ -13,11 +13,20 @@ use std::marker::Model;
 use std::sync::Arc;
 
 /// A request and its answer, with what that rests on.
-#[derive(Drop)]
 pub struct Finding<T: Told> {
     pub(crate) request: Request,
     pub(crate) answer: Answer,
     pub(crate) basis: Option<Basis<T>>,
+}
+
+impl<T: Told> Drop for Finding<T> {
+    fn drop(self) {
+        let Finding {
+            request: _,
+            answer: _,
+            basis: _,
+        } = self;
+    }
 }
 
 impl<T: Told> Model for Finding<T> {
@@ -153,6 +162,11 @@ impl<T: Told> Finding<T> {
         ensures answer { result ≡ self.answer }
         ensures rests { Rests T.told self }
     {
-        self.answer
+        let Finding {
+            request: _,
+            answer: given,
+            basis: _,
+        } = self;
+        given
     }
 }

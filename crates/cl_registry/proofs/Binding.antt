@@ -93,7 +93,7 @@ settled_is_allowed content x f s k rests free to =
     record {
       recorded = may.recorded;
       unsettled = may.unsettled;
-      answered = standing_settles content x.config x.script (state_of x) f s.verdict cited.loader s.class.loader s.index s.class.name rests sound to.stands to.says.said cited.request cited.recorded;
+      answered = standing_settles content x.config x.script (state_of x) f s.verdict cited.loader s.class.loader s.index s.class.name (record { rests = rests; sound = sound; stands = to.stands; said = to.says.said }) cited.request cited.recorded;
       is_entry = may.is_entry;
       is_class_member = may.is_class_member;
     }

@@ -1,6 +1,7 @@
 -- What the events of a registry leave as it is.
 use Rattle.std.proofs.Common.{◌≡◌, ◌<◌, ◌∙◌, ℕ, Bool, false, if◌then◌else◌, List, [], ◌∷◌, ◌++◌, Option, Some, None, refl, sym, ap, subst, arith}
 use Rattle.std.specs.Prelude.{nat_eq, ◌==◌, find, option_map, Contains}
+use Rattle.std.specs.List.{list_any}
 use Rattle.std.specs.Option.{option_or}
 use Rattle.std.proofs.lemmas.List.Folds.{find-append}
 use Rattle.cl_classfile.specs.Files.{Name}
@@ -9,7 +10,7 @@ use Rattle.cl_model.specs.declared.event.Event.TheVariants as events
 use Rattle.cl_model.specs.States.{State, Equality, Posted, Entry, Answer, recorded, answer_to, IsPath, Clashes, MayAdd}
 use Rattle.cl_model.specs.Machine.{Define, Initiate, NextRound, after, state_after}
 use Rattle.cl_model.specs.Views.{answer_at, post_of, step_of, steps_of}
-use Rattle.cl_registry.specs.Tables.{posts, is_in}
+use Rattle.cl_registry.specs.Tables.{posts}
 use Rattle.cl_registry.proofs.Histories.{swap_nat}
 use Rattle.cl_model.proofs.Bind.{none_not_some}
 use Rattle.cl_model.proofs.Refusals.{no_equality}
@@ -45,7 +46,7 @@ post_other s q p None ne = refl
 post_other s q p (Some a) ne = ap (λ (o : Option Posted). option_map (λ r. r.answer) o) (find_other (λ (r : Posted). r.request == q) s.answers (record { request = p; answer = a }) ne)
 
 -- a request that is not posted has no answer more
-pub unposted_stays : (now : List (Option Answer)) (h : List Event) (s : State) (q : ℕ) → is_in q (posts h) ≡ false → answer_to (state_after s (steps_of now h)).answers q ≡ answer_to s.answers q
+pub unposted_stays : (now : List (Option Answer)) (h : List Event) (s : State) (q : ℕ) → list_any (nat_eq q) (posts h) ≡ false → answer_to (state_after s (steps_of now h)).answers q ≡ answer_to s.answers q
 unposted_stays now [] s q out = refl
 unposted_stays now (events.Define c ∷ h) s q out = unposted_stays now h (after s (Define c)) q out
 unposted_stays now (events.Initiate c loader ∷ h) s q out = unposted_stays now h (after s (Initiate c.name c.loader loader)) q out
@@ -54,5 +55,5 @@ unposted_stays now (events.Settle r ∷ h) s q out = unposted_stays now h (after
 unposted_stays now (events.Prepare c ∷ h) s q out = unposted_stays now h (after s (step_of now (events.Prepare c))) q out
 unposted_stays now (events.NextRound ∷ h) s q out = unposted_stays now h (after s NextRound) q out
 unposted_stays now (events.Post p ∷ h) s q out =
-    let o = or_parts (nat_eq q p) (is_in q (posts h)) out in
+    let o = or_parts (nat_eq q p) (list_any (nat_eq q) (posts h)) out in
     unposted_stays now h (after s (post_of p (answer_at now p))) q o.1 ∙ post_other s q p (answer_at now p) (swap_nat p q ∙ o.0)

@@ -1,6 +1,7 @@
 -- How a history grows by one event, and which steps it tells.
 use Rattle.std.proofs.Common.{◌≡◌, ◌∙◌, ◌+◌, ℕ, zero, suc, Bool, true, false, List, [], ◌∷◌, ◌++◌, Option, Some, None, refl, sym, ap, subst, arith, is_some, if◌then◌else◌}
 use Rattle.std.specs.Prelude.{◌||◌, nat_eq, slice_get, slice_set}
+use Rattle.std.specs.List.{list_any}
 use Rattle.std.proofs.lemmas.List.{map_push}
 use Rattle.std.proofs.lemmas.Bool.Decides.{nat_tests}
 use Rattle.cl_model.specs.declared.event.Event.{Event}
@@ -18,7 +19,7 @@ use Rattle.cl_model.proofs.Views.{state_then}
 use Rattle.cl_config.specs.Loaders.{schedule_of}
 use Rattle.cl_delegation.specs.Worlds.{setting_of}
 use Rattle.cl_registry.specs.Kept.{left_in, open_in}
-use Rattle.cl_registry.specs.Tables.{Shown, steps, state_of, posts, defined, settlements, is_in, IsTrusted, RunsAs, with_post, IsOpen}
+use Rattle.cl_registry.specs.Tables.{Shown, steps, state_of, posts, defined, settlements, IsTrusted, RunsAs, with_post, IsOpen}
 use Rattle.std.proofs.lemmas.Bool.{or_parts}
 
 pub eq_nat : (a b : ℕ) → nat_eq a b ≡ true → a ≡ b
@@ -86,9 +87,9 @@ settlements_then (events.Prepare c ∷ h) k = settlements_then h k
 settlements_then (events.NextRound ∷ h) k = settlements_then h k
 settlements_then (events.Post p ∷ h) k = settlements_then h k
 
-pub is_in_push : (xs : List ℕ) (p q : ℕ) → is_in p (xs ++ q ∷ []) ≡ (is_in p xs || nat_eq p q)
+pub is_in_push : (xs : List ℕ) (p q : ℕ) → list_any (nat_eq p) (xs ++ q ∷ []) ≡ (list_any (nat_eq p) xs || nat_eq p q)
 is_in_push [] p q = or_right (nat_eq p q)
-is_in_push (x ∷ xs) p q = ap (λ b. nat_eq p x || b) (is_in_push xs p q) ∙ regroup (nat_eq p x) (is_in p xs) (nat_eq p q)
+is_in_push (x ∷ xs) p q = ap (λ b. nat_eq p x || b) (is_in_push xs p q) ∙ regroup (nat_eq p x) (list_any (nat_eq p) xs) (nat_eq p q)
   where
     regroup : (a b d : Bool) → (a || (b || d)) ≡ ((a || b) || d)
     regroup true b d = refl
@@ -152,7 +153,7 @@ first_open (Some a ∷ xs) some = let r = first_open xs some in (suc r.0, r.1)
 
 -- ---- a post
 
-steps_set : (old new : List (Option Answer)) (h : List Event) (q : ℕ) → ((p : ℕ) → nat_eq q p ≡ false → answer_at new p ≡ answer_at old p) → is_in q (posts h) ≡ false → steps_of new h ≡ steps_of old h
+steps_set : (old new : List (Option Answer)) (h : List Event) (q : ℕ) → ((p : ℕ) → nat_eq q p ≡ false → answer_at new p ≡ answer_at old p) → list_any (nat_eq q) (posts h) ≡ false → steps_of new h ≡ steps_of old h
 steps_set old new [] q same out = refl
 steps_set old new (events.Define c ∷ h) q same out = ap (λ (es : List Step). step_of old (events.Define c) ∷ es) (steps_set old new h q same out)
 steps_set old new (events.Initiate c l ∷ h) q same out = ap (λ (es : List Step). step_of old (events.Initiate c l) ∷ es) (steps_set old new h q same out)
@@ -161,29 +162,29 @@ steps_set old new (events.Settle r ∷ h) q same out = ap (λ (es : List Step). 
 steps_set old new (events.Prepare c ∷ h) q same out = ap (λ (es : List Step). step_of old (events.Prepare c) ∷ es) (steps_set old new h q same out)
 steps_set old new (events.NextRound ∷ h) q same out = ap (λ (es : List Step). step_of old events.NextRound ∷ es) (steps_set old new h q same out)
 steps_set old new (events.Post p ∷ h) q same out =
-    let o = or_parts (nat_eq q p) (is_in q (posts h)) out in
+    let o = or_parts (nat_eq q p) (list_any (nat_eq q) (posts h)) out in
     rw (same p o.0, steps_set old new h q same o.1) refl
 
-pub steps_posts : (x : Shown) (q : ℕ) (a : rust.Answer) → is_in q (posts x.history) ≡ false → IsOpen x q → steps (with_post x q a) ≡ steps x ++ Post q (answer_of a) ∷ []
+pub steps_posts : (x : Shown) (q : ℕ) (a : rust.Answer) → list_any (nat_eq q) (posts x.history) ≡ false → IsOpen x q → steps (with_post x q a) ≡ steps x ++ Post q (answer_of a) ∷ []
 steps_posts x q a out is =
     let now = answers_of (slice_set x.answers q (Some a)) in
     map_push (step_of now) x.history (events.Post q)
     ∙ ap (λ (o : Option Answer). steps_of now x.history ++ post_of q o ∷ []) (this_answer x.answers q a is)
     ∙ ap (λ (es : List Step). es ++ Post q (answer_of a) ∷ []) (steps_set (answers_of x.answers) now x.history q (λ p ne. other_answer x.answers q p a ne) out)
 
-pub state_posts : (x : Shown) (q : ℕ) (a : rust.Answer) → is_in q (posts x.history) ≡ false → IsOpen x q → state_of (with_post x q a) ≡ after (state_of x) (Post q (answer_of a))
+pub state_posts : (x : Shown) (q : ℕ) (a : rust.Answer) → list_any (nat_eq q) (posts x.history) ≡ false → IsOpen x q → state_of (with_post x q a) ≡ after (state_of x) (Post q (answer_of a))
 state_posts x q a out is = state_more x (with_post x q a) (Post q (answer_of a)) (steps_posts x q a out is)
 
-pub posted_by : (xs : List (Option rust.Answer)) (h : List ℕ) (p q : ℕ) (a : rust.Answer) (b : Bool) → nat_eq q p ≡ b → slice_get xs q ≡ Some None → is_in p h ≡ is_some (given xs p) → (is_in p h || b) ≡ is_some (given (slice_set xs q (Some a)) p)
+pub posted_by : (xs : List (Option rust.Answer)) (h : List ℕ) (p q : ℕ) (a : rust.Answer) (b : Bool) → nat_eq q p ≡ b → slice_get xs q ≡ Some None → list_any (nat_eq p) h ≡ is_some (given xs p) → (list_any (nat_eq p) h || b) ≡ is_some (given (slice_set xs q (Some a)) p)
 posted_by xs h p q a true e is at =
     let same : q ≡ p = eq_nat q p e in
     let here : given (slice_set xs q (Some a)) p ≡ Some (answer_of a) = subst (λ (k : ℕ). given (slice_set xs q (Some a)) k ≡ Some (answer_of a)) same (this_answer xs q a is) in
-    or_last (is_in p h) ∙ sym (ap is_some here)
+    or_last (list_any (nat_eq p) h) ∙ sym (ap is_some here)
   where
     or_last : (b : Bool) → (b || true) ≡ true
     or_last true = refl
     or_last false = refl
-posted_by xs h p q a false e is at = or_right (is_in p h) ∙ at ∙ ap is_some (sym (other_answer xs q p a e))
+posted_by xs h p q a false e is at = or_right (list_any (nat_eq p) h) ∙ at ∙ ap is_some (sym (other_answer xs q p a e))
 
-pub unposted : (x : Shown) (q : ℕ) → IsTrusted x → IsOpen x q → is_in q (posts x.history) ≡ false
+pub unposted : (x : Shown) (q : ℕ) → IsTrusted x → IsOpen x q → list_any (nat_eq q) (posts x.history) ≡ false
 unposted x q t is = t.posted q ∙ ap is_some (open_answer x.answers q is)

@@ -1,7 +1,7 @@
 -- What a registry keeps goes on by an event more that posts nothing.
 use Rattle.std.proofs.Common.{◌≡◌, ◌∙◌, ◌<◌, ◌≤◌, ◌+◌, ◌-◌, ℕ, List, [], ◌∷◌, ◌++◌, length, map, Option, Some, refl, sym, ap, subst}
-use Rattle.std.specs.Prelude.{slice_get, IsSome, All, find, ◌==◌, ◌&&◌}
-use Rattle.std.specs.List.{AllByRecursion}
+use Rattle.std.specs.Prelude.{slice_get, nat_eq, IsSome, All, find, ◌==◌, ◌&&◌}
+use Rattle.std.specs.List.{AllByRecursion, list_any}
 use Rattle.std.proofs.lemmas.List.{append-nil, length_push}
 use Rattle.std.proofs.lemmas.List.Elements.{All-same, All-push}
 use Rattle.cl_classfile.specs.Files.{Name, file_of}
@@ -26,7 +26,7 @@ use Rattle.cl_hierarchy.specs.RowTables.{AreRows}
 use Rattle.cl_constraints.specs.Books.{IsBookOf}
 use Rattle.cl_constraints.proofs.Standing.{stands_alike}
 use Rattle.cl_registry.specs.Kept.{Fields, IsRegistry}
-use Rattle.cl_registry.specs.Tables.{Shown, steps, state_of, records_of, round_of, posts, defined, settlements, settled_at, is_in, IsTrusted, IsKept, IsPlaced, ArePlaced, looked}
+use Rattle.cl_registry.specs.Tables.{Shown, steps, state_of, records_of, round_of, posts, defined, settlements, settled_at, IsTrusted, IsKept, IsPlaced, ArePlaced, looked}
 use Rattle.cl_registry.proofs.Histories.{steps_more, state_more, trusted_more, run_more, posts_then, defined_then, settlements_then}
 use Rattle.cl_registry.proofs.Known.{met_after}
 
@@ -117,7 +117,7 @@ kept_event told x rows e k fine by earlier settled = record {
   trusted = record {
     script = k.trusted.script;
     tables = trusted_more x (with_event x rows e) (step_by x e) refl (steps_event x rows e) k.trusted.tables fine.allows;
-    posted = λ q. ap (is_in q) (posts_then x.history (e ∷ []) ∙ ap (λ (ps : List ℕ). posts x.history ++ ps) fine.silent ∙ append-nil (posts x.history)) ∙ k.trusted.posted q;
+    posted = λ q. ap (list_any (nat_eq q)) (posts_then x.history (e ∷ []) ∙ ap (λ (ps : List ℕ). posts x.history ++ ps) fine.silent ∙ append-nil (posts x.history)) ∙ k.trusted.posted q;
     whole = k.trusted.whole;
     earlier = earlier;
   };

@@ -92,26 +92,8 @@ link_said g s l name c sound rec own =
 -- one that is looked up
 looked_up : (g : Setting) (s : State) (r : Request) (v : rust_verdict.Verdict) → IsSound g s → IsLookedUp r v → Bears s (request_of r) (verdict_of v) → MaySay g s (request_of r) (verdict_of v)
 looked_up g s (requests.Load l name) (verdicts.Class c) sound is bears = load_said g s l name c sound (bears c refl)
-looked_up g s (requests.Load l name) (verdicts.Array d c) sound is bears = absurd is
-looked_up g s (requests.Load l name) (verdicts.PrimitiveArray d b) sound is bears = absurd is
-looked_up g s (requests.Load l name) (verdicts.Field c k) sound is bears = absurd is
-looked_up g s (requests.Load l name) (verdicts.Method c k) sound is bears = absurd is
-looked_up g s (requests.Load l name) (verdicts.Linked c) sound is bears = absurd is
-looked_up g s (requests.Load l name) verdicts.BadEntry sound is bears = absurd is
-looked_up g s (requests.Load l name) verdicts.ArrayMember sound is bears = absurd is
-looked_up g s (requests.Load l name) (verdicts.Error k c) sound is bears = absurd is
-looked_up g s (requests.Load l name) (verdicts.Linkage n) sound is bears = absurd is
-looked_up g s (requests.Resolve l name i) v sound is bears = absurd is
 looked_up g s (requests.Link l name) (verdicts.Linked c) sound is bears = let b = bears c refl in link_said g s l name c sound b.0 b.1
-looked_up g s (requests.Link l name) (verdicts.Class c) sound is bears = absurd is
-looked_up g s (requests.Link l name) (verdicts.Array d c) sound is bears = absurd is
-looked_up g s (requests.Link l name) (verdicts.PrimitiveArray d b) sound is bears = absurd is
-looked_up g s (requests.Link l name) (verdicts.Field c k) sound is bears = absurd is
-looked_up g s (requests.Link l name) (verdicts.Method c k) sound is bears = absurd is
-looked_up g s (requests.Link l name) verdicts.BadEntry sound is bears = absurd is
-looked_up g s (requests.Link l name) verdicts.ArrayMember sound is bears = absurd is
-looked_up g s (requests.Link l name) (verdicts.Error k c) sound is bears = absurd is
-looked_up g s (requests.Link l name) (verdicts.Linkage n) sound is bears = absurd is
+looked_up g s other another sound is bears = absurd is
 
 -- ---- what is settled
 
@@ -147,7 +129,7 @@ may_say x content f v sound said backed rests =
     let g = setting_of x.config x.script content in
     elim backed.grounded [
       | inl is ↦ looked_up g (state_of x) f.request v sound is backed.borne
-      | inr stands ↦ borne_said g (state_of x) (request_of f.request) (verdict_of v) backed.borne (standing_answers content x.config x.script (state_of x) f v rests sound stands said)
+      | inr stands ↦ borne_said g (state_of x) (request_of f.request) (verdict_of v) backed.borne (standing_answers content x.config x.script (state_of x) f v (record { rests = rests; sound = sound; stands = stands; said = said }))
     ]
 
 may_answer : (x : Shown) (content : Content) (f : Answered) (a : rust.Answer) → IsSound (setting_of x.config x.script content) (state_of x) → f.answer ≡ a → AnswerBacked x f a → Rests (Some content) f

@@ -1,7 +1,7 @@
 -- What a registry keeps goes on by a post.
 use Rattle.std.proofs.Common.{◌≡◌, ◌∙◌, ◌<◌, ◌≤◌, ◌+◌, ◌-◌, ℕ, zero, suc, Bool, true, false, List, [], ◌∷◌, length, Option, Some, None, refl, sym, ap, subst, arith, is_some, if◌then◌else◌}
 use Rattle.std.specs.Prelude.{nat_eq, slice_get, slice_set, option_and_then, IsSome, IfSome, MatchOption, get_or, find, ◌==◌, ◌&&◌}
-use Rattle.std.specs.List.{AllByRecursion}
+use Rattle.std.specs.List.{AllByRecursion, list_any}
 use Rattle.std.proofs.lemmas.List.{append-nil, length-set, length_push}
 use Rattle.std.proofs.lemmas.List.Elements.{All-push, All-same, All-set, All-get_or}
 use Rattle.std.proofs.lemmas.Option.{slice_get_within, slice_get-get_or, get_or_from_slice_get}
@@ -26,7 +26,7 @@ use Rattle.cl_findings.specs.Findings.{Answered, Rests}
 use Rattle.cl_hierarchy.specs.Imposed.{needs_of}
 use Rattle.cl_hierarchy.specs.Lineages.{row_of}
 use Rattle.cl_registry.specs.Kept.{Fields, IsRegistry, open_in}
-use Rattle.cl_registry.specs.Tables.{Shown, state_of, records_of, round_of, defined, posts, settlements, settled_at, is_in, with_post, IsTrusted, IsKept, IsLater, IsPlaced, NamesLoaders}
+use Rattle.cl_registry.specs.Tables.{Shown, state_of, records_of, round_of, defined, posts, settlements, settled_at, with_post, IsTrusted, IsKept, IsLater, IsPlaced, NamesLoaders}
 use Rattle.cl_registry.specs.Posting.{Fits}
 use Rattle.cl_registry.proofs.Calm.{unposted_stays}
 use Rattle.cl_registry.proofs.Histories.{trusted_more, run_more, posts_then, defined_then, settlements_then, is_in_push, swap_nat, eq_nat, other_answer, this_answer, left_set, open_set, steps_posts, state_posts, posted_by, unposted, less}
@@ -89,7 +89,7 @@ kept told x q f k fits rests =
       trusted = record {
         script = k.trusted.script;
         tables = trusted_more x y (Post q (answer_of a)) refl step k.trusted.tables (may_tell x q f k.trusted fits);
-        posted = λ p. ap (is_in p) (posts_then x.history (events.Post q ∷ [])) ∙ is_in_push (posts x.history) p q ∙ posted_by x.answers (posts x.history) p q a (nat_eq p q) (swap_nat q p) is (k.trusted.posted p);
+        posted = λ p. ap (list_any (nat_eq p)) (posts_then x.history (events.Post q ∷ [])) ∙ is_in_push (posts x.history) p q ∙ posted_by x.answers (posts x.history) p q a (nat_eq p q) (swap_nat q p) is (k.trusted.posted p);
         whole = length-set x.answers q (Some a) ∙ k.trusted.whole;
         earlier = λ p n at before. given_still x q p a (nat_eq q p) refl is (k.trusted.earlier p n at (subst (λ (m : ℕ). n < m) round before));
       };

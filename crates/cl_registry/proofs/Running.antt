@@ -2,7 +2,7 @@
 use Rattle.std.proofs.Common.{◌≡◌, inl, inr, ◌∙◌, ℕ, Bool, true, false, List, [], ◌∷◌, ◌++◌, Option, Some, None, refl, sym, ap, subst, is_some, if◌then◌else◌, length}
 use Rattle.std.specs.Prelude.{◌||◌, ◌&&◌, ◌==◌, nat_eq, find, option_map, All, IfSome, map, replicate}
 use Rattle.std.specs.Option.{option_or}
-use Rattle.std.specs.List.{AllByRecursion}
+use Rattle.std.specs.List.{AllByRecursion, list_any}
 use Rattle.std.proofs.lemmas.List.Folds.{find-append}
 use Rattle.std.proofs.lemmas.List.Elements.{All-nil, All-push, All-same, All-replicate, All-from_recursion, recursion_from_All}
 use Rattle.cl_classfile.specs.Files.{Name}
@@ -19,7 +19,7 @@ use Rattle.cl_model.specs.Views.{answers_of, answer_at, post_of, step_of, steps_
 use Rattle.cl_model.proofs.Runs.{recorded_added, record_found, run_later}
 use Rattle.cl_registry.specs.declared.report.Report.{Report}
 use Rattle.cl_registry.specs.Reports.{IsReport, IsNamed}
-use Rattle.cl_registry.specs.Tables.{Shown, state_of, posts, defined, settlements, is_in, IsTrusted, NamesLoaders}
+use Rattle.cl_registry.specs.Tables.{Shown, state_of, posts, defined, settlements, IsTrusted, NamesLoaders}
 use Rattle.cl_registry.proofs.Histories.{eq_nat, swap_nat, or_right}
 use Rattle.cl_registry.proofs.Placed.{post_same}
 use Rattle.cl_model.proofs.Bind.{none_not_some}
@@ -72,7 +72,7 @@ regroup false true true false = refl
 regroup false true false false = refl
 
 -- who has an answer after a history
-answered_after : (now : List (Option Answer)) (h : List Event) (s : State) (q : ℕ) → is_some (answer_to (state_after s (steps_of now h)).answers q) ≡ (is_some (answer_to s.answers q) || (is_in q (posts h) && is_some (answer_at now q)))
+answered_after : (now : List (Option Answer)) (h : List Event) (s : State) (q : ℕ) → is_some (answer_to (state_after s (steps_of now h)).answers q) ≡ (is_some (answer_to s.answers q) || (list_any (nat_eq q) (posts h) && is_some (answer_at now q)))
 answered_after now [] s q = sym (or_right (is_some (answer_to s.answers q)))
 answered_after now (events.Define c ∷ h) s q = answered_after now h (after s (step_of now (events.Define c))) q
 answered_after now (events.Initiate c l ∷ h) s q = answered_after now h (after s (step_of now (events.Initiate c l))) q
@@ -86,8 +86,8 @@ answered_after now (events.Post p ∷ h) s q =
     let one : is_some (answer_to (after s (post_of p (answer_at now p))).answers q) ≡ (had || (nat_eq q p && given)) =
     post_adds s q p (answer_at now p) ∙ ap (λ (b : Bool). had || b) (same_given now q p (nat_eq q p) refl) in
     answered_after now h (after s (post_of p (answer_at now p))) q
-    ∙ ap (λ (b : Bool). b || (is_in q (posts h) && given)) one
-    ∙ regroup had (nat_eq q p) (is_in q (posts h)) given
+    ∙ ap (λ (b : Bool). b || (list_any (nat_eq q) (posts h) && given)) one
+    ∙ regroup had (nat_eq q p) (list_any (nat_eq q) (posts h)) given
 
 both : (b c : Bool) → b ≡ c → (b && c) ≡ c
 both true true e = refl
@@ -97,7 +97,7 @@ both false true e = absurd cc
 
 -- a request has an answer in the state just where it has one
 pub answered : (x : Shown) (q : ℕ) → IsTrusted x → is_some (answer_to (state_of x).answers q) ≡ is_some (answer_at (answers_of x.answers) q)
-answered x q t = answered_after (answers_of x.answers) x.history start q ∙ both (is_in q (posts x.history)) (is_some (answer_at (answers_of x.answers) q)) (t.posted q)
+answered x q t = answered_after (answers_of x.answers) x.history start q ∙ both (list_any (nat_eq q) (posts x.history)) (is_some (answer_at (answers_of x.answers) q)) (t.posted q)
 
 -- ---- the records of the state are of classes that are defined
 

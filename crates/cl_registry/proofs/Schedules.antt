@@ -1,7 +1,7 @@
 -- When a round may end: each request of it has its answer.
 use Rattle.std.proofs.Common.{◌≡◌, ◌∙◌, ◌<◌, ◌≤◌, ◌+◌, ◌⊎◌, inl, inr, ℕ, zero, suc, Bool, true, false, List, [], ◌∷◌, length, map, Option, Some, None, refl, sym, ap, subst, arith, is_some, replicate, get_or, add-one, if◌then◌else◌}
 use Rattle.std.specs.Prelude.{nat_eq, ◌==◌, ◌&&◌, find, slice_get, option_and_then, option_map, IsSome}
-use Rattle.std.specs.List.{AllByRecursion}
+use Rattle.std.specs.List.{AllByRecursion, list_any}
 use Rattle.std.specs.HashMap.{HashMap, get}
 use Rattle.std.specs.Map.{lookup}
 use Rattle.std.proofs.lemmas.List.{length_push, length-replicate}
@@ -33,7 +33,7 @@ use Rattle.cl_hierarchy.specs.RowTables.{AreRows}
 use Rattle.cl_hierarchy.specs.Lineages.{row_of}
 use Rattle.cl_constraints.specs.Books.{IsBookOf}
 use Rattle.cl_registry.specs.Kept.{left_in, open_in, Fields, IsRegistry}
-use Rattle.cl_registry.specs.Tables.{Shown, steps, state_of, records_of, round_of, posts, defined, settlements, reference_in, is_in, RunsAs, IsPlaced, with_round, MayGoOn}
+use Rattle.cl_registry.specs.Tables.{Shown, steps, state_of, records_of, round_of, posts, defined, settlements, reference_in, RunsAs, IsPlaced, with_round, MayGoOn}
 use Rattle.cl_registry.proofs.Histories.{given, open_answer, eq_nat}
 use Rattle.cl_registry.proofs.Running.{answered, named_new}
 use Rattle.cl_registry.proofs.Allowed.{round_is_allowed}
@@ -242,7 +242,7 @@ kept_new {stands} told x f r h a s script width bare counts each first zero-used
         trusted = record {
           script = script;
           tables = subst (λ (es : List Step). tables.IsTrusted (schedule_of x.script) x.script.rounds es) (sym no-steps) tt;
-          posted = λ q. ap (is_in q) no-posts ∙ sym (ap (λ (xs : List (Option rust.Answer)). is_some (given xs q)) a ∙ ap is_some (none_given f.left q));
+          posted = λ q. ap (list_any (nat_eq q)) no-posts ∙ sym (ap (λ (xs : List (Option rust.Answer)). is_some (given xs q)) a ∙ ap is_some (none_given f.left q));
           whole = whole ∙ sym s;
           earlier = λ q round asked less. absurd (omega arith);
         };

@@ -1,7 +1,7 @@
 -- What a registry keeps, and what a call does to it (JVMS SE 8, 5.3, 5.3.5).
-use Rattle.std.specs.Prelude.{◌≡◌, ◌<◌, ℕ, Bool, false, ◌||◌, ◌&&◌, ◌==◌, nat_eq, List, [], ◌∷◌, ◌++◌, length, map, Option, Some, None, is_some, unwrap_or, replicate, find, slice_get, slice_set, option_and_then, IsSome, IfSome, All}
+use Rattle.std.specs.Prelude.{◌≡◌, ◌<◌, ℕ, Bool, false, ◌&&◌, ◌==◌, nat_eq, List, [], ◌∷◌, ◌++◌, length, map, Option, Some, None, is_some, unwrap_or, replicate, find, slice_get, slice_set, option_and_then, IsSome, IfSome, All}
 use Rattle.std.specs.HashMap.{HashMap, get}
-use Rattle.std.specs.List.{AllByRecursion}
+use Rattle.std.specs.List.{AllByRecursion, list_any}
 use Rattle.std.specs.Cmp.Lexicographic.{pointwise}
 use Rattle.cl_classfile.specs.Files.{file_of}
 use Rattle.cl_model.specs.declared.class.Class.{Class}
@@ -91,17 +91,12 @@ settlements (events.Prepare c ∷ es) = settlements es
 settlements (events.NextRound ∷ es) = settlements es
 settlements (events.Post q ∷ es) = settlements es
 
--- the number is one of these
-abbrev pub is_in : ℕ → List ℕ → Bool
-is_in n [] = false
-is_in n (x ∷ xs) = nat_eq n x || is_in n xs
-
 -- what holds under any source: the script is one, the tables can be trusted, those requests have an answer whose post the
 -- history has, each has a place for one, and those of the rounds before are answered (5.3, 5.3.5)
 pub record IsTrusted (x : Shown) : Type 0 where
   pub script : IsScript x.script
   pub tables : tables.IsTrusted (schedule_of x.script) x.script.rounds (steps x)
-  pub posted : (q : ℕ) → is_in q (posts x.history) ≡ is_some (answer_at (answers_of x.answers) q)
+  pub posted : (q : ℕ) → list_any (nat_eq q) (posts x.history) ≡ is_some (answer_at (answers_of x.answers) q)
   pub whole : length x.answers ≡ length x.script.requests
   pub earlier : (q round : ℕ) → slice_get x.script.rounds_of q ≡ Some round → round < round_of x → IsSome (answer_at (answers_of x.answers) q)
 

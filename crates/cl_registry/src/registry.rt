@@ -51,7 +51,6 @@ impl From<AllocError> for RegistryFault {
 }
 
 /// The classes that each loader has recorded, what happened, and the answers.
-#[derive(Drop)]
 pub struct Registry<T: Told> {
     pub(crate) config: Arc<Config>,
     pub(crate) script: Arc<Script>,
@@ -75,6 +74,27 @@ pub struct Registry<T: Told> {
     pub(crate) left: usize,
     /// Room for the answers of a report.
     pub(crate) room: Vec<Answer>,
+}
+
+impl<T: Told> Drop for Registry<T> {
+    fn drop(self) {
+        let Registry {
+            config: _,
+            script: _,
+            rows: _,
+            tables: _,
+            book: _,
+            references: _,
+            prepared: _,
+            met: _,
+            history: _,
+            answers: _,
+            round: _,
+            unanswered: _,
+            left: _,
+            room: _,
+        } = self;
+    }
 }
 
 impl<T: Told> Model for Registry<T> {

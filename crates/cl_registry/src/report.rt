@@ -7,9 +7,15 @@ use std::sync::Arc;
 
 /// Events, in order. Anyone can make one of any events. Where `Registry::into_report` made it, they are the history of that
 /// registry: where a content is told, a run of the linkage machine.
-#[derive(Debug, Drop)]
+#[derive(Debug)]
 pub struct History {
     events: Vec<Event>,
+}
+
+impl Drop for History {
+    fn drop(self) {
+        let History { events: _ } = self;
+    }
 }
 
 impl Model for History {
@@ -40,9 +46,15 @@ impl History {
 
 /// Answers, in order. Anyone can make one of any answers. Where `Registry::into_report` made it, they are those of the
 /// script's requests, one for each, in the requests' order.
-#[derive(Debug, Drop)]
+#[derive(Debug)]
 pub struct Answers {
     items: Vec<Answer>,
+}
+
+impl Drop for Answers {
+    fn drop(self) {
+        let Answers { items: _ } = self;
+    }
 }
 
 impl Model for Answers {
@@ -73,9 +85,19 @@ impl Answers {
 
 /// A script with a history and answers. Anyone can put these together. Where `Registry::into_report` did, it is what was
 /// asked of that registry, what happened there, and what each request was answered.
-#[derive(Debug, Drop)]
+#[derive(Debug)]
 pub struct Report {
     pub script: Arc<Script>,
     pub history: History,
     pub answers: Answers,
+}
+
+impl Drop for Report {
+    fn drop(self) {
+        let Report {
+            script: _,
+            history: _,
+            answers: _,
+        } = self;
+    }
 }

@@ -56,7 +56,7 @@ returns-in-Some-clause-refused g c =
           absurd (none_not_some _ (subst (λ (y : Shown). recorded (records_of y) c.args.draft.class.loader c.args.draft.class.name ≡ None) (sym c.self.view_is) none) (records g c).recorded))
     ]
 
-fresh : (g : _) (c : goal.After-drop-draft-inside-in-Ok-define_new-3 g) → IsNew c.args.self.now c.args.draft
+fresh : (g : _) (c : goal.After-drop-draft-in-Ok-define_new g) → IsNew c.args.self.now c.args.draft
 fresh g c =
     subst (λ (y : Shown). IsNew y c.args.draft) c.self.view_is
     (found_none (λ r. r.now) (λ r. r.value) g.T.Told.told _ c.args.draft.class.loader c.args.draft.class.name c.self.invariant.kept _ (c.self.invariant.rows c.args.draft.class.loader c.args.draft.class.name) c.own_row.result c.own_row.ensures c.in-None.is)

@@ -1,4 +1,4 @@
-use Rattle.std.proofs.Common.{◌≡◌, ◌∙◌, Some, None, ap, sym, subst, refl}
+use Rattle.std.proofs.Common.{◌≡◌, ◌∙◌, Some, None, option_map, ap, sym, subst, refl}
 use Rattle.cl_model.specs.declared.request.Request.{Request}
 use Rattle.cl_model.specs.declared.settled.Settled.{Settled}
 use Rattle.cl_registry.specs.References.{settled_by, IsSettledIn}
@@ -9,7 +9,7 @@ use Rattle.cl_registry.proofs.Binding.{bound, registry_bound}
 use Rattle.cl_registry.proofs.Cited.{settled_by_in}
 use Rattle.cl_registry.proofs.registry.Registry.settle.Goals as goal
 use Rattle.cl_registry.proofs.registry.Registry.settle.Goals.{in-Ok, in-Err}
-use Rattle.cl_registry.proofs.Kept.{come_by}
+use Rattle.cl_registry.proofs.Kept.{come_by, kept_failed}
 
 pub returns-in-Some-clause-found : goal.returns-in-Some-clause-found
 returns-in-Some-clause-found g c =
@@ -31,6 +31,13 @@ to g c = subst (λ (y : Shown). IsToSettle y c.args.finding.now c.in-Ok-to_settl
 
 done : (g : _) (c : goal.In-Ok-bind g) → Settles (known g c) (record (known g c) { history = c.bind.new.history.items }) c.args.finding.now c.in-Ok-bind.bound.value × (settled_by (record (known g c) { history = c.bind.new.history.items }) c.args.finding.now.request ≡ Some c.in-Ok-bind.bound.value)
 done g c = bound (known g c) c.args.finding.now c.in-Ok-to_settle.settled c.in-Ok-bind.bound.value c.bind.new.history.items (free g c) (to g c) c.in-Ok-bind.ensures.event c.in-Ok-bind.ensures.value
+
+pub invariant_of-self : goal.invariant_of-self
+invariant_of-self g c =
+    let e = c.in-Err-bind.ensures in
+    kept_failed g.T.Told.told _ _ _ _ _ _ _ _ _ c.to_come-left.result _ _ _ c.self.invariant refl e.same_history (λ l n. refl) refl (λ b. b)
+    (λ d i. ap (option_map (λ s. s.value)) (e.same_references d i)) refl e.same_length
+    (come_by c.self.inside.left c.self.inside.round c.to_come-left.ensures c.rounds.ensures c.deref.ensures) e.room
 
 pub invariant_of-self-2 : goal.invariant_of-self-2
 invariant_of-self-2 g c =

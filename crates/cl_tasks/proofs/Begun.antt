@@ -63,15 +63,7 @@ begins_own {A} c j s (turn.Look l n) first for looks asks =
       λ r e. let same = some_same _ _ e in (at.0 ∙ own.0 ∙ ap loader_of same, at.1 ∙ own.1 ∙ ap name_of same),
     )
 begins_own c j s (turn.Post f) first for looks asks = looks
-begins_own c j s (turn.Read l n) first for looks asks = absurd looks
-begins_own c j s (turn.Define d) first for looks asks = absurd looks
-begins_own c j s (turn.Initiate h) first for looks asks = absurd looks
-begins_own c j s (turn.Lineage k) first for looks asks = absurd looks
-begins_own c j s (turn.LookReference k i) first for looks asks = absurd looks
-begins_own c j s (turn.Settle f) first for looks asks = absurd looks
-begins_own c j s (turn.Impose e k) first for looks asks = absurd looks
-begins_own c j s (turn.LookPrepared k) first for looks asks = absurd looks
-begins_own c j s (turn.Mark e) first for looks asks = absurd looks
+begins_own c j s other first for looks asks = absurd looks
 
 -- ---- a look
 

@@ -91,17 +91,6 @@ some_blames told t r given u has b = subst (λ (o : Option Request). IfSome o (�
 
 pub reply_blames : {A : Type 0} (told : Option Content) (t : Tasked) (r : Request) (given : Reply A) (u : Turn A) → t.request ≡ Some r → Refuses (refusal t given) u → FaultBlames told t given u
     → IfSome t.request (λ k. BlamesWhere told t.config (λ x. Tells x t given) k u)
-reply_blames told t r reply.Start u has h b = some_blames told t r reply.Start u has (plain_blames told t.config _ r u h)
-reply_blames told t r (reply.Looked row) u has h b = some_blames told t r (reply.Looked row) u has (plain_blames told t.config _ r u h)
-reply_blames told t r (reply.Probed p) u has h b = some_blames told t r (reply.Probed p) u has (plain_blames told t.config _ r u h)
-reply_blames told t r (reply.Defined row) u has h b = some_blames told t r (reply.Defined row) u has (plain_blames told t.config _ r u h)
-reply_blames told t r (reply.Initiated row) u has h b = some_blames told t r (reply.Initiated row) u has (plain_blames told t.config _ r u h)
-reply_blames told t r (reply.Lineage l) u has h b = some_blames told t r (reply.Lineage l) u has (plain_blames told t.config _ r u h)
-reply_blames told t r (reply.LookedReference o) u has h b = some_blames told t r (reply.LookedReference o) u has (plain_blames told t.config _ r u h)
-reply_blames told t r (reply.Settled s) u has h b = some_blames told t r (reply.Settled s) u has (plain_blames told t.config _ r u h)
-reply_blames told t r reply.Imposed u has h b = some_blames told t r reply.Imposed u has (plain_blames told t.config _ r u h)
-reply_blames told t r (reply.LookedPrepared k) u has h b = some_blames told t r (reply.LookedPrepared k) u has (plain_blames told t.config _ r u h)
-reply_blames told t r reply.Marked u has h b = some_blames told t r reply.Marked u has (plain_blames told t.config _ r u h)
-reply_blames told t r (reply.Refused n) u has h b = some_blames told t r (reply.Refused n) u has (plain_blames told t.config _ r u h)
 reply_blames told t r reply.Memory u has h b = some_blames told t r reply.Memory u has (posts_blames told t.config _ r answers.Memory u tt h)
 reply_blames told t r (reply.SourceFault f) u has h b = b
+reply_blames told t r other u has h b = some_blames told t r other u has (plain_blames told t.config _ r u h)

@@ -223,17 +223,8 @@ asked_at c (stages.Link (links.Marking i l)) = tt
 asked_at c (stages.Done q) = tt
 
 asks_derived : {A : Type 0} (t : Tasked) (u : Turn A) → Asks t u → IsAsked t t.waits → AsksDerived t u
-asks_derived t (turn.Look l n) asks h = tt
-asks_derived t (turn.Read l n) asks h = tt
 asks_derived t (turn.Define d) asks h = subst (λ (w : Waits). IsAsked t w) asks h
-asks_derived t (turn.Initiate i) asks h = tt
-asks_derived t (turn.Lineage c) asks h = tt
-asks_derived t (turn.LookReference c i) asks h = tt
-asks_derived t (turn.Settle f) asks h = tt
-asks_derived t (turn.Impose e k) asks h = tt
-asks_derived t (turn.LookPrepared c) asks h = tt
-asks_derived t (turn.Mark e) asks h = tt
-asks_derived t (turn.Post f) asks h = tt
+asks_derived t other asks h = tt
 
 pub derives_so : {A : Type 0} (c : Configured) (t : Tasked) (r : _) (s : Stage A) (u : Turn A) → Asks (task_at c s) u → Derives (WasAbsent {A = A} t r) t.frames s → DerivesUnrecorded {A = A} t (task_at c s) r u
 derives_so {A} c t r s u asks h = record {

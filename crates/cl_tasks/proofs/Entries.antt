@@ -66,16 +66,9 @@ settles_within told c now r room h = λ g x p served is k. let two = h g.world p
 -- ---- an entry that is never settled is answered so
 
 never_bears : (s : State) (l : ℕ) (n : List ℕ) (i : ℕ) (v : verdict.Verdict) → IsNoneSettled v → Bears s (plans.Resolve l n i) (verdict_of v)
-never_bears s l n i (verdicts.Class c) never = absurd never
-never_bears s l n i (verdicts.Array dims c) never = absurd never
-never_bears s l n i (verdicts.PrimitiveArray dims p) never = absurd never
-never_bears s l n i (verdicts.Field c key) never = absurd never
-never_bears s l n i (verdicts.Method c key) never = absurd never
-never_bears s l n i (verdicts.Linked c) never = absurd never
 never_bears s l n i verdicts.BadEntry never = λ d kept. inl refl
 never_bears s l n i verdicts.ArrayMember never = λ d kept. inr (inl refl)
-never_bears s l n i (verdicts.Error kind c) never = absurd never
-never_bears s l n i (verdicts.Linkage need) never = absurd never
+never_bears s l n i other never = absurd never
 
 -- of a request that resolves an entry
 resolving : (r : Request) (d : Class) (i : ℕ) (P : Request → Type 0) → r ≡ requests.Resolve (loader_of r) d.name i → P (requests.Resolve (loader_of r) d.name i) → P r
@@ -169,16 +162,10 @@ nameless_bare (Some (ToMethod t key)) v e = subst IsBare (sym e.1) tt
 nameless_bare (Some (ToInterfaceMethod t key)) v e = subst IsBare (sym e.1) tt
 
 bare_names : (count : ℕ) (v : verdict.Verdict) → IsBare (verdict_of v) → VerdictNames count v
-bare_names count (verdicts.Class c) bare = absurd bare
-bare_names count (verdicts.Array dims c) bare = absurd bare
 bare_names count (verdicts.PrimitiveArray dims p) bare = tt
-bare_names count (verdicts.Field c key) bare = absurd bare
-bare_names count (verdicts.Method c key) bare = absurd bare
-bare_names count (verdicts.Linked c) bare = absurd bare
 bare_names count verdicts.BadEntry bare = tt
 bare_names count verdicts.ArrayMember bare = tt
-bare_names count (verdicts.Error kind c) bare = absurd bare
-bare_names count (verdicts.Linkage need) bare = absurd bare
+bare_names count other bare = absurd bare
 
 -- a verdict that tells of this class alone
 abbrev IsErrorOf : Class → Error → Type 0
@@ -203,27 +190,14 @@ ends_of_class true (ToMethod t key) c v e = absurd e
 ends_of_class true (ToInterfaceMethod t key) c v e = absurd e
 
 error_names : (count : ℕ) (c k : Class) (kind : ErrorKind) → IsErrorOf c (error_of kind k) → c.loader < count → k.loader < count
-error_names count c k kinds.ClassNotFoundException h below = absurd h
-error_names count c k kinds.NoClassDefFoundError h below = absurd h
-error_names count c k kinds.ClassFormatError h below = absurd h
-error_names count c k kinds.UnsupportedClassVersionError h below = absurd h
-error_names count c k kinds.ClassCircularityError h below = absurd h
 error_names count c k kinds.IllegalAccessError h below = subst (λ (d : Class). d.loader < count) (sym h) below
-error_names count c k kinds.IncompatibleClassChangeError h below = absurd h
-error_names count c k kinds.NoSuchFieldError h below = absurd h
-error_names count c k kinds.NoSuchMethodError h below = absurd h
+error_names count c k other h below = absurd h
 
 class_names : (count : ℕ) (c : Class) (v : verdict.Verdict) → IsOfClass c (verdict_of v) → c.loader < count → VerdictNames count v
 class_names count c (verdicts.Class k) h below = subst (λ (d : Class). d.loader < count) (sym h) below
 class_names count c (verdicts.Array dims k) h below = subst (λ (d : Class). d.loader < count) (sym h) below
-class_names count c (verdicts.PrimitiveArray dims p) h below = absurd h
-class_names count c (verdicts.Field k key) h below = absurd h
-class_names count c (verdicts.Method k key) h below = absurd h
-class_names count c (verdicts.Linked k) h below = absurd h
-class_names count c verdicts.BadEntry h below = absurd h
-class_names count c verdicts.ArrayMember h below = absurd h
 class_names count c (verdicts.Error kind k) h below = error_names count c k kind h below
-class_names count c (verdicts.Linkage need) h below = absurd h
+class_names count c other h below = absurd h
 
 entry_stood : (A : Type 0) (told : Option Content) (c config : Configured) (e : entries.Entry A) (v : verdict.Verdict) → IsEntry c e → config ≡ c → IsAtOnce e.request e.d.value (verdict_of v) → Rests told (grounded e.request v (entry_basis config e.request e.d.value.class))
     → Stood told c e.request v (entry_basis config e.request e.d.value.class) (EntryTold e)

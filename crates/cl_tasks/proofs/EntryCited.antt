@@ -58,18 +58,13 @@ pub method_keyed : (s : Symbol) → IsMethodSymbol s → (k : Key) × (method_ke
 method_keyed s h = some_map _ (whole_method s.descriptor) h.descriptor.0 (whole_method_again s.descriptor h.descriptor.0 h.descriptor.1)
 
 asks_kind : (kind : Kind) (t : FieldType) (k : Key) (a : Asked) → AsksTarget (member_target t) a → TellsReference (made_by kind t k) a
-asks_kind kinds.Field t k asked.Nothing asks = asks
 asks_kind kinds.Field t k asked.ArrayMember asks = (asks, refl)
 asks_kind kinds.Field t k (asked.PrimitiveArray dims p) asks = absurd asks
-asks_kind kinds.Field t k (asked.Class name) asks = asks
-asks_kind kinds.Method t k asked.Nothing asks = asks
 asks_kind kinds.Method t k asked.ArrayMember asks = (asks, refl)
 asks_kind kinds.Method t k (asked.PrimitiveArray dims p) asks = absurd asks
-asks_kind kinds.Method t k (asked.Class name) asks = asks
-asks_kind kinds.InterfaceMethod t k asked.Nothing asks = asks
 asks_kind kinds.InterfaceMethod t k asked.ArrayMember asks = (asks, refl)
 asks_kind kinds.InterfaceMethod t k (asked.PrimitiveArray dims p) asks = absurd asks
-asks_kind kinds.InterfaceMethod t k (asked.Class name) asks = asks
+asks_kind other t k another asks = asks
 
 -- what an entry of this kind is, by its symbol
 pub record IsTyped (kind : Kind) (text : Name) (o : Option Reference) : Type 0 where

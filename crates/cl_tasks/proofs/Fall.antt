@@ -92,12 +92,9 @@ load_less told p path = let k : length (frames_of p) < most = frames_within told
 
 -- a task that has still to load what is looked for
 abbrev pub IsLoading : Phase → Type 0
-IsLoading Fresh = Unit {0}
-IsLoading Looking = Unit {0}
-IsLoading Reading = Unit {0}
-IsLoading Homing = Unit {0}
 IsLoading Defining = ⊥
 IsLoading Initiating = ⊥
+IsLoading other = Unit {0}
 
 -- a task that is not done
 abbrev pub IsAtWork : Phase → Type 0

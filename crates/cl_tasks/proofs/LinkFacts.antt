@@ -1,13 +1,12 @@
 -- What a link was told of the tables, and what follows of them.
-use Rattle.std.proofs.Common.{◌≡◌, ◌∙◌, ◌<◌, ◌≤◌, ◌+◌, ℕ, zero, suc, Bool, true, false, not, eqb, List, [], ◌∷◌, ◌++◌, length, map, Option, Some, refl, sym, ap, subst, arith, get_or}
-use Rattle.std.proofs.lemmas.Bool.{eqb-true}
+use Rattle.std.proofs.Common.{◌≡◌, ◌∙◌, ◌<◌, ◌+◌, ℕ, zero, suc, List, [], ◌∷◌, ◌++◌, length, map, Option, Some, sym, ap, subst, arith}
 use Rattle.std.specs.Prelude.{slice_get, take, unwrap_or, Contains, option_map}
 use Rattle.std.specs.List.{AllByRecursion}
 use Rattle.std.proofs.lemmas.Option.{slice_get-map}
 use Rattle.std.proofs.lemmas.List.{length_push}
 use Rattle.cl_model.specs.declared.class.Class.{Class}
 use Rattle.cl_model.specs.declared.need.Equality.{Equality}
-use Rattle.cl_model.specs.States.{State, AllMet, recorded, IsRecorded, Met}
+use Rattle.cl_model.specs.States.{AllMet, recorded, IsRecorded, Met}
 use Rattle.cl_model.specs.Tables.{IsConsistent}
 use Rattle.cl_model.proofs.Bind.{some_same}
 use Rattle.cl_hierarchy.specs.Imposed.{Listed, OfPreparation, Sprung, needs_of, equal_need}
@@ -73,34 +72,6 @@ mapped_at f xs k a e = slice_get-map f xs k ∙ ap (λ (o : Option _). option_ma
 
 pub whole_length : (l : Lined) → length (rows_in l) ≡ length l.above + 1
 whole_length l = length_push l.above l.own
-
--- ---- equalities of a loader with itself
-
-met_own : (s : State) (es : List Equality) (i : ℕ) (a b : Equality) (apart : Bool) → i < length es → apart ≡ not (eqb (get_or es i a).one (get_or es i b).other) → apart ≡ false → AllMet s (take i (needs_of es)) → AllMet s (take (suc i) (needs_of es))
-met_own s [] i a b apart lt told off met = absurd (omega (arith, lt))
-met_own s (y ∷ es) zero a b apart lt told off met = (record { path = []; along = eqb-true y.one y.other (not_apart (eqb y.one y.other) (sym told ∙ off)) }, tt)
-  where
-    not_apart : (t : Bool) → not t ≡ false → t ≡ true
-    not_apart true e = refl
-    not_apart false e = absurd cc
-met_own s (y ∷ es) (suc i) a b apart lt told off met = (met.0, met_own s es i a b apart (omega (arith, lt)) told off met.1)
-
--- one of them more is met
-pub own_met : (s : State) (es : List Equality) (i : ℕ) (a b : Equality) (apart : Bool) → i < length es → apart ≡ not (eqb (get_or es i a).one (get_or es i b).other) → apart ≡ false → AllMet s (take i (needs_of es)) → AllMet s (take (i + 1) (needs_of es))
-own_met s es i a b apart lt told off met =
-    let one : suc i ≡ i + 1 = omega arith in
-    subst (λ (n : ℕ). AllMet s (take n (needs_of es))) one (met_own s es i a b apart lt told off met)
-
--- where so many of a list are met that it has no more
-pub until_end : (s : State) (es : List Equality) (at : ℕ) → length es ≤ at → AllMet s (take at (needs_of es)) → AllMet s (take (length es) (needs_of es))
-until_end s [] at le met = tt
-until_end s (y ∷ es) zero le met = absurd (omega (arith, le))
-until_end s (y ∷ es) (suc at) le met = (met.0, until_end s es at (omega (arith, le)) met.1)
-
--- the same of another name of the list
-pub met_of_same : (s : State) (place at : ℕ) (xs ys : List Equality) → xs ≡ ys → (AllMet s (take place (needs_of xs)) → AllMet s (take at (needs_of xs))) → AllMet s (take place (needs_of ys)) → AllMet s (take at (needs_of ys))
-met_of_same s place at xs ys same more met =
-    subst (λ (es : List Equality). AllMet s (take at (needs_of es))) same (more (subst (λ (es : List Equality). AllMet s (take place (needs_of es))) (sym same) met))
 
 -- ---- classes of a lineage
 

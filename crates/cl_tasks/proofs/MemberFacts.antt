@@ -129,28 +129,12 @@ pub record IsOfOwner (v : verdict.Verdict) (owner : Class) : Type 0 where
   pub names : (count : ℕ) → owner.loader < count → VerdictNames count v
 
 field_owner : (v : verdict.Verdict) (owner : Class) (key : _) → verdict_of v ≡ IsField owner key → IsOfOwner v owner
-field_owner (verdicts.Class c) owner key e = absurd cc
-field_owner (verdicts.Array n c) owner key e = absurd cc
-field_owner (verdicts.PrimitiveArray n p) owner key e = absurd cc
 field_owner (verdicts.Field c k) owner key e = let same : c ≡ owner = cc in record { is_entry = λ h. cc; is_class_member = λ h. cc; names = λ count lt. rw (same) lt }
-field_owner (verdicts.Method c k) owner key e = absurd cc
-field_owner (verdicts.Linked c) owner key e = absurd cc
-field_owner verdicts.BadEntry owner key e = absurd cc
-field_owner verdicts.ArrayMember owner key e = absurd cc
-field_owner (verdicts.Error kind c) owner key e = absurd cc
-field_owner (verdicts.Linkage n) owner key e = absurd cc
+field_owner other owner key e = absurd cc
 
 method_owner : (v : verdict.Verdict) (owner : Class) (key : _) → verdict_of v ≡ IsMethod owner key → IsOfOwner v owner
-method_owner (verdicts.Class c) owner key e = absurd cc
-method_owner (verdicts.Array n c) owner key e = absurd cc
-method_owner (verdicts.PrimitiveArray n p) owner key e = absurd cc
-method_owner (verdicts.Field c k) owner key e = absurd cc
 method_owner (verdicts.Method c k) owner key e = let same : c ≡ owner = cc in record { is_entry = λ h. cc; is_class_member = λ h. cc; names = λ count lt. rw (same) lt }
-method_owner (verdicts.Linked c) owner key e = absurd cc
-method_owner verdicts.BadEntry owner key e = absurd cc
-method_owner verdicts.ArrayMember owner key e = absurd cc
-method_owner (verdicts.Error kind c) owner key e = absurd cc
-method_owner (verdicts.Linkage n) owner key e = absurd cc
+method_owner other owner key e = absurd cc
 
 asked_owner : (r : Reference) (v : verdict.Verdict) (owner : Class) (key : _) → asked_key r ≡ Some key → verdict_of v ≡ asking.verdict_of r owner key → IsOfOwner v owner
 asked_owner (ToClass t) v owner key asks e = absurd cc

@@ -14,7 +14,7 @@ use Rattle.cl_model.specs.Content.{Content}
 use Rattle.cl_model.specs.Machine.{AnswersPlan, IsSound, Setting, Settle}
 use Rattle.cl_model.specs.Plans as plans
 use Rattle.cl_model.specs.Service.{ComesTo, IsNextStep}
-use Rattle.cl_model.specs.States.{State, Need, Verdict, AllMet, Entry, Equal, IsClass, Linkage, Refused, recorded, settled_to}
+use Rattle.cl_model.specs.States.{State, Need, Verdict, AllMet, Entry, Equal, IsClass, Refused, recorded, settled_to}
 use Rattle.cl_model.specs.States as states
 use Rattle.cl_model.specs.Tables.{Bears}
 use Rattle.cl_model.specs.Views.{request_of, verdict_of}
@@ -164,16 +164,9 @@ failure_member v h e = subst IsFailure e h
 
 -- a failure is no class, and no linked class
 failure_of : (v : verdict.Verdict) (c : Class) → IsFailure v → (verdict_of v ≡ IsClass c → ⊥) × (verdict_of v ≡ states.IsLinked c → ⊥)
-failure_of (verdicts.Class k) c h = absurd h
-failure_of (verdicts.Array n k) c h = absurd h
-failure_of (verdicts.PrimitiveArray n p) c h = absurd h
-failure_of (verdicts.Field k key) c h = absurd h
-failure_of (verdicts.Method k key) c h = absurd h
-failure_of (verdicts.Linked k) c h = absurd h
-failure_of verdicts.BadEntry c h = absurd h
-failure_of verdicts.ArrayMember c h = absurd h
 failure_of (verdicts.Error kind d) c h = (λ e. absurd cc, λ e. absurd cc)
 failure_of (verdicts.Linkage n) c h = (λ e. absurd cc, λ e. absurd cc)
+failure_of other c h = absurd h
 
 -- the tables bear a failure of a request that is none to resolve
 failure_bears : (s : State) (r : Request) (v : verdict.Verdict) → IsNoResolution r → IsFailure v → Bears s (request_of r) (verdict_of v)

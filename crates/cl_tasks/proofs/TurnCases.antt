@@ -18,46 +18,19 @@ use Rattle.cl_tasks.specs.declared.turn.Turn.TheVariants as turn
 
 -- a turn that posts an answer is that post
 pub posted : {A : Type 0} (a : Answer) (u : Turn A) → Posts a u → (f : Answered) × (u ≡ turn.Post f) × (f.answer ≡ a)
-posted a (turn.Look l n) h = absurd h
-posted a (turn.Read l n) h = absurd h
-posted a (turn.Define d) h = absurd h
-posted a (turn.Initiate i) h = absurd h
-posted a (turn.Lineage c) h = absurd h
-posted a (turn.LookReference c i) h = absurd h
-posted a (turn.Settle f) h = absurd h
-posted a (turn.Impose e k) h = absurd h
-posted a (turn.LookPrepared c) h = absurd h
-posted a (turn.Mark e) h = absurd h
 posted a (turn.Post f) h = (f, refl, h)
+posted a other h = absurd h
 
 -- of posts alone it is said that they are no fault, and whom a fault blames: what a turn owes of that is shown where it is one
 pub of_posts : {A : Type 0} (u : Turn A)
     → (((f : Answered) → u ≡ turn.Post f → NoFault f.answer) → PostsNoFault u)
     × ((told : Option Content) (c : Configured) (holds : Shown → Type 0) (r : Request) → ((f : Answered) → u ≡ turn.Post f → AnswerBlames c (AsksWhere told c holds r) f.answer) → BlamesWhere told c holds r u)
-of_posts (turn.Look l n) = (λ h. tt, λ told c holds r h. tt)
-of_posts (turn.Read l n) = (λ h. tt, λ told c holds r h. tt)
-of_posts (turn.Define d) = (λ h. tt, λ told c holds r h. tt)
-of_posts (turn.Initiate i) = (λ h. tt, λ told c holds r h. tt)
-of_posts (turn.Lineage k) = (λ h. tt, λ told c holds r h. tt)
-of_posts (turn.LookReference k i) = (λ h. tt, λ told c holds r h. tt)
-of_posts (turn.Settle f) = (λ h. tt, λ told c holds r h. tt)
-of_posts (turn.Impose e k) = (λ h. tt, λ told c holds r h. tt)
-of_posts (turn.LookPrepared k) = (λ h. tt, λ told c holds r h. tt)
-of_posts (turn.Mark e) = (λ h. tt, λ told c holds r h. tt)
 of_posts (turn.Post f) = (λ h. h f refl, λ told c holds r h. h f refl)
+of_posts other = (λ h. tt, λ told c holds r h. tt)
 
 -- and so of reads, what is read and for which class
 pub of_reads : {A : Type 0} (u : Turn A)
     → ((t : Tasked) (r : Reply A) → ((l : ℕ) (n : List ℕ) → u ≡ turn.Read l n → ReadsUnrecorded {A = A} t r (turn.Read l n)) → ReadsUnrecorded t r u)
     × ((p : Pathed) (is : ℕ → Type 0) → ((l : ℕ) (n : List ℕ) → u ≡ turn.Read l n → ReadsAt {A = A} p is (turn.Read l n)) → ReadsAt p is u)
-of_reads (turn.Look l n) = (λ t r h. tt, λ p is h. tt)
 of_reads (turn.Read l n) = (λ t r h. h l n refl, λ p is h. h l n refl)
-of_reads (turn.Define d) = (λ t r h. tt, λ p is h. tt)
-of_reads (turn.Initiate i) = (λ t r h. tt, λ p is h. tt)
-of_reads (turn.Lineage c) = (λ t r h. tt, λ p is h. tt)
-of_reads (turn.LookReference c i) = (λ t r h. tt, λ p is h. tt)
-of_reads (turn.Settle f) = (λ t r h. tt, λ p is h. tt)
-of_reads (turn.Impose e k) = (λ t r h. tt, λ p is h. tt)
-of_reads (turn.LookPrepared c) = (λ t r h. tt, λ p is h. tt)
-of_reads (turn.Mark e) = (λ t r h. tt, λ p is h. tt)
-of_reads (turn.Post f) = (λ t r h. tt, λ p is h. tt)
+of_reads other = (λ t r h. tt, λ p is h. tt)

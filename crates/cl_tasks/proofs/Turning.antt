@@ -38,19 +38,9 @@ ended_begins h = cc
 
 pub ended_alone : {A : Type 0} (c : Configured) (r : Reply A) → IsReplyTo c waits.Ended r → ⊥
 ended_alone c reply.Start h = ended_begins h
-ended_alone c (reply.Looked row) h = h
-ended_alone c (reply.Probed p) h = h
-ended_alone c (reply.Defined row) h = h
-ended_alone c (reply.Initiated row) h = h
-ended_alone c (reply.Lineage l) h = h
-ended_alone c (reply.LookedReference s) h = h
-ended_alone c (reply.Settled s) h = h
-ended_alone c reply.Imposed h = h
-ended_alone c (reply.LookedPrepared b) h = h
-ended_alone c reply.Marked h = h
 ended_alone c (reply.Refused n) h = none-some _ h
 ended_alone c reply.Memory h = h refl
-ended_alone c (reply.SourceFault f) h = h
+ended_alone c other h = h
 
 -- ---- a task that expects a reply has its request
 
@@ -123,17 +113,9 @@ config_is c (stages.Done q) = refl
 
 -- a request that is served, whatever else is known of its task
 serves_so : {A : Type 0} (c : Configured) (q : ℕ) (r : Request) (t new : Tasked) (n : Turn A) → t.request ≡ Some r → Serves (begun c q r) new n → Serves t new n
-serves_so c q r t new (turn.Look l m) is h = subst (λ (o : Option Request). new.request ≡ o) (sym is) h
-serves_so c q r t new (turn.Read l m) is h = subst (λ (o : Option Request). new.request ≡ o) (sym is) h
-serves_so c q r t new (turn.Define x) is h = subst (λ (o : Option Request). new.request ≡ o) (sym is) h
-serves_so c q r t new (turn.Initiate x) is h = subst (λ (o : Option Request). new.request ≡ o) (sym is) h
-serves_so c q r t new (turn.Lineage x) is h = subst (λ (o : Option Request). new.request ≡ o) (sym is) h
-serves_so c q r t new (turn.LookReference x i) is h = subst (λ (o : Option Request). new.request ≡ o) (sym is) h
 serves_so c q r t new (turn.Settle f) is h = subst (λ (o : Option Request). (o ≡ Some f.request) × (new.request ≡ o)) (sym is) h
-serves_so c q r t new (turn.Impose e i) is h = subst (λ (o : Option Request). new.request ≡ o) (sym is) h
-serves_so c q r t new (turn.LookPrepared x) is h = subst (λ (o : Option Request). new.request ≡ o) (sym is) h
-serves_so c q r t new (turn.Mark e) is h = subst (λ (o : Option Request). new.request ≡ o) (sym is) h
 serves_so c q r t new (turn.Post f) is h = subst (λ (o : Option Request). o ≡ Some f.request) (sym is) h
+serves_so c q r t new other is h = subst (λ (o : Option Request). new.request ≡ o) (sym is) h
 
 -- what a turn does
 pub record Turns {A : Type 0} (told : Option Content) (c : Configured) (old : Tasked) (r : Reply A) (n : Next A) : Type 0 where

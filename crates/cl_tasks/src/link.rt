@@ -2,11 +2,10 @@
 //! then that it is prepared; those that are prepared already, as many as stand first, are passed (JVMS SE 8, 5.4, 5.4.2).
 
 ghost use Rattle.std.specs.Option.{option_map};
-ghost use Rattle.std.specs.Prelude.{◌≡◌, ◌<◌, ◌≤◌, Some, IfOk, IfSome, length, slice_get, take, true};
+ghost use Rattle.std.specs.Prelude.{◌≡◌, ◌≤◌, Some, IfOk, IfSome, length, slice_get, true};
 ghost use Rattle.cl_hierarchy.specs.Fronts.{IsFront};
-ghost use Rattle.cl_hierarchy.specs.Imposed.{OfPreparation, needs_of};
+ghost use Rattle.cl_hierarchy.specs.Imposed.{OfPreparation};
 ghost use Rattle.cl_hierarchy.specs.Lineages.{rows_in};
-ghost use Rattle.cl_model.specs.States.{AllMet, State};
 ghost use Rattle.cl_model.specs.Views.{need_of};
 ghost use Rattle.cl_model.specs.declared.answer.Answer.TheVariants as answers;
 ghost use Rattle.cl_model.specs.declared.verdict.Verdict.TheVariants as verdicts;
@@ -297,26 +296,7 @@ pub(crate) fn count_needs<T: Told>(list: &Equalities<T>) -> usize
     list.needs().len()
 }
 
-/// The first place from this one on whose equality is of two loaders: one of a loader with itself stands from the start
-/// (JVMS SE 8, 5.3.4).
-fn next_of_two<T: Told>(list: &Equalities<T>, place: usize) -> usize
-    requires { place ≤ length list.now.needs }
-    ensures behind { place ≤ result }
-    ensures within { result ≤ length list.now.needs }
-    ensures met { (s : State) → AllMet s (take place (needs_of list.now.needs))
-        → AllMet s (take result (needs_of list.now.needs)) }
-{
-    let needs = list.needs();
-    for at in place..needs.len() {
-        if needs[at].one != needs[at].other {
-            return at;
-        }
-    }
-    needs.len()
-}
-
-/// Imposes the next equality of a list from this place on, or marks the class as prepared where none is left. Those of a
-/// loader with itself are not asked for.
+/// Imposes the equality at this place of a list, or marks the class as prepared where none is left.
 pub(crate) fn impose<T: Told>(
     alloc: Global,
     config: &Arc<Config>,
@@ -333,17 +313,16 @@ pub(crate) fn impose<T: Told>(
     ensures plain { IsPlain result.turn }
     ensures past { IsPast result.stage }
 {
-    let next = next_of_two(&list, place);
     // brings what the lineage and the list keep
     let _ = chain.whole.class();
     bring_lineages(&list);
     let Ok(shared) = Arc::try_clone(&list) else {
         return give_up(chain);
     };
-    if next < count_needs(&list) {
+    if place < count_needs(&list) {
         Next {
-            stage: Stage::Link(Link::Imposing(chain, list, next)),
-            turn: Turn::Impose(shared, next),
+            stage: Stage::Link(Link::Imposing(chain, list, place)),
+            turn: Turn::Impose(shared, place),
         }
     } else {
         Next {

@@ -47,9 +47,9 @@ pub(crate) fn reach<T: Told>(
     } = job;
     match target {
         Target::Own => reach_own(alloc, q, request, row),
-        Target::Reference(d) => match request {
-            Request::Resolve(loader, name, index) => {
-                let request = Request::Resolve(loader, name, index);
+        Target::Reference(d) => match &request {
+            Request::Resolve(_, _, index) => {
+                let index = *index;
                 let entry = Entry {
                     q,
                     request,

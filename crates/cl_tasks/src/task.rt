@@ -22,10 +22,18 @@ use std::sync::Arc;
 use thiserror::Error;
 
 /// One request, turn by turn, to its answer (JVMS SE 8, 5.3 to 5.4.3).
-#[derive(Drop)]
 pub struct Task<T: Told> {
     config: Arc<Config>,
     stage: Stage<T>,
+}
+
+impl<T: Told> Drop for Task<T> {
+    fn drop(self) {
+        let Task {
+            config: _,
+            stage: _,
+        } = self;
+    }
 }
 
 impl<T: Told> Model for Task<T> {

@@ -1,7 +1,7 @@
 use Rattle.std.proofs.Common.{◌∙◌}
 use Rattle.std.proofs.lemmas.Option.{slice_get-map}
 use Rattle.cl_hierarchy.specs.Imposed.{equal_need}
-use Rattle.cl_tasks.proofs.LinkLeads.{IsKnown, refused_leads}
+use Rattle.cl_tasks.proofs.PreparationLeads.{IsKnown, refused_leads}
 use Rattle.cl_tasks.proofs.link.refuse_link.Goals as goal
 
 pub returns-clause-leads : goal.returns-clause-leads

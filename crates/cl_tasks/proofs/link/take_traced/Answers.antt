@@ -2,7 +2,8 @@ use Rattle.std.proofs.Common.{length}
 use Rattle.cl_tasks.specs.Linking.{LineageTold}
 use Rattle.cl_tasks.specs.Rooms.{listed_room}
 use Rattle.cl_tasks.proofs.Lead.{leads_out}
-use Rattle.cl_tasks.proofs.LinkLeads.{IsKnown, at_place, chain_some_turns, listed_leads, listed_post}
+use Rattle.cl_tasks.proofs.LinkLeads.{chain_some_turns, listed_post}
+use Rattle.cl_tasks.proofs.PreparationLeads.{IsKnown, at_place, listed_leads}
 use Rattle.cl_tasks.proofs.Fall.{needs_few}
 use Rattle.cl_tasks.proofs.link.take_traced.Goals as goal
 

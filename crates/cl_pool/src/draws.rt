@@ -51,10 +51,18 @@ impl Model for Seat {
 }
 
 /// The numbers below the count of requests, each for one seat, whatever threads the seats are in. No call waits.
-#[derive(Drop)]
 pub struct Draws {
     table: Table<(), Hand, Bounds, Rule, Global>,
     bounds: Bounds,
+}
+
+impl Drop for Draws {
+    fn drop(self) {
+        let Draws {
+            table: _,
+            bounds: _,
+        } = self;
+    }
 }
 
 impl Model for Draws {

@@ -175,8 +175,6 @@ settled_by_later old new r s h is = by_entry (cited_by old r) refl is
 -- ---- calls and posts
 
 pub call_backed_later : {A : Type 0} (told : Option Content) (old new : Shown) (u : Turn A) → IsKept told old → IsAfter told old new → IsCall u → Backed old u → Backed new u
-call_backed_later told old new (turn.Look l n) kept h call backed = tt
-call_backed_later told old new (turn.Read l n) kept h call backed = tt
 call_backed_later told old new (turn.Define d) kept h call backed = enter_later told old new d kept h.goes backed
 call_backed_later told old new (turn.Initiate j) kept h call backed = record {
   config = backed.config ∙ sym h.goes.config;
@@ -184,16 +182,15 @@ call_backed_later told old new (turn.Initiate j) kept h call backed = record {
   defined = record_later old new j.value.place j.value.place j.value.name h.goes backed.defined;
 }
 call_backed_later told old new (turn.Lineage c) kept h call backed = record_later old new c.loader c.loader c.name h.goes backed
-call_backed_later told old new (turn.LookReference c i) kept h call backed = tt
 call_backed_later told old new (turn.Settle f) kept h call backed = settle_later told old new f h backed
 call_backed_later told old new (turn.Impose e k) kept h call backed = record {
   stands = stands_for_later old new e.value.origin h.goes backed.stands;
   within = backed.within;
   earlier = all_met_later old new (take k (needs_of e.value.needs)) h.goes backed.earlier;
 }
-call_backed_later told old new (turn.LookPrepared c) kept h call backed = tt
 call_backed_later told old new (turn.Mark e) kept h call backed = ready_by_later old new e.value.origin (needs_of e.value.needs) h.goes backed
 call_backed_later told old new (turn.Post f) kept h call backed = absurd call
+call_backed_later told old new other kept h call backed = tt
 
 answer_backed_later : (content : Content) (old new : Shown) (r : Request) (f : Answered) (a : rust.Answer) → IsAfter (Some content) old new → AnswerFollows (machine new content) (state_of new) r a → f.request ≡ r → AnswerBacked old f a → AnswerBacked new f a
 answer_backed_later content old new r f (rust.TheVariants.Said v) h follows is backed =

@@ -46,18 +46,9 @@ asks_here (Some content) x c holds r kept config h a asks =
     )
 
 turn_blames : {A : Type 0} (told : Option Content) (x : Shown) (c : Configured) (holds : Shown → Type 0) (r : Request) (u : Turn A) → IsKept told x → x.config ≡ c → holds x → BlamesWhere told c holds r u → TurnBlames told c r u
-turn_blames told x c holds r (turn.Look l n) kept config h b = tt
-turn_blames told x c holds r (turn.Read l n) kept config h b = tt
-turn_blames told x c holds r (turn.Define d) kept config h b = tt
-turn_blames told x c holds r (turn.Initiate i) kept config h b = tt
-turn_blames told x c holds r (turn.Lineage k) kept config h b = tt
-turn_blames told x c holds r (turn.LookReference k i) kept config h b = tt
-turn_blames told x c holds r (turn.Settle f) kept config h b = tt
-turn_blames told x c holds r (turn.Impose e k) kept config h b = tt
-turn_blames told x c holds r (turn.LookPrepared k) kept config h b = tt
-turn_blames told x c holds r (turn.Mark e) kept config h b = tt
 turn_blames told x c holds r (turn.Post f) kept config h b =
     answer_blames c (AsksWhere told c holds r) (IsAskedFor told c r) f.answer (asks_here told x c holds r kept config h) b
+turn_blames told x c holds r other kept config h b = tt
 
 -- a turn blames so in a registry of its task's configuration
 pub blames_here : {A : Type 0} (told : Option Content) (x : Shown) (r : Request) (t : Tasked) (given : Reply A) (u : Turn A) → IsKept told x → x.config ≡ t.config → t.request ≡ Some r → Tells x t given

@@ -15,7 +15,7 @@ use Rattle.cl_tasks.specs.declared.turn.Turn.TheVariants as turn
 use Rattle.cl_tasks.specs.declared.turn.Turn.{Turn}
 use Rattle.cl_tasks.specs.Follows.{NoFault, Refuses, fault_answer, refusal}
 use Rattle.cl_tasks.specs.Turns.{Expects, IsReplyTo}
-use Rattle.cl_tasks.specs.Waits.{Waits, Beginning, Looking, Reading, Defining, Initiating, Tracing, LookingReference, Settling, Imposing, LookingPrepared, Marking, Ended}
+use Rattle.cl_tasks.specs.Waits.{Waits, Reading}
 use Rattle.cl_schedule.proofs.Stations.{no_posts}
 use Rattle.cl_schedule.specs.Replies.{IsCall}
 use Rattle.cl_schedule.specs.Counting.{fault, faults, told_faults, RoseBy, Grows, FaultsGrow}
@@ -77,55 +77,22 @@ no_fault (answers.SourceFault name loader) n = absurd n
 
 -- a refused read is answered as a fault of the source, unless memory was wanting
 reading_fault : (A : Type 0) (c : Configured) (w : Waits) (f : SourceFault) → IsReplyTo {A = A} c w (reply.SourceFault f) → fault (fault_answer w f) ≡ told_faults {A = A} (reply.SourceFault f)
-reading_fault A c Beginning f is = absurd is
-reading_fault A c (Looking l n) f is = absurd is
 reading_fault A c (Reading l n) sources.Memory is = refl
 reading_fault A c (Reading l n) sources.Device is = refl
 reading_fault A c (Reading l n) sources.TooLarge is = refl
 reading_fault A c (Reading l n) sources.Twice is = refl
-reading_fault A c (Defining d) f is = absurd is
-reading_fault A c (Initiating h) f is = absurd is
-reading_fault A c (Tracing d) f is = absurd is
-reading_fault A c (LookingReference d i) f is = absurd is
-reading_fault A c (Settling r) f is = absurd is
-reading_fault A c (Imposing e k) f is = absurd is
-reading_fault A c (LookingPrepared d) f is = absurd is
-reading_fault A c (Marking e) f is = absurd is
-reading_fault A c Ended f is = absurd is
+reading_fault A c other f is = absurd is
 
 -- an answer is a fault of the source where the reply before it told of one, and nowhere else
 pub told_fault : {A : Type 0} (t : Tasked) (r : Reply A) (f : Answered) → Expects t r → Refuses {A = A} (refusal t r) (turn.Post f) → fault f.answer ≡ told_faults r
-told_fault t reply.Start f e h = no_fault f.answer h
-told_fault t (reply.Looked row) f e h = no_fault f.answer h
-told_fault t (reply.Probed p) f e h = no_fault f.answer h
-told_fault t (reply.Defined row) f e h = no_fault f.answer h
-told_fault t (reply.Initiated row) f e h = no_fault f.answer h
-told_fault t (reply.Lineage l) f e h = no_fault f.answer h
-told_fault t (reply.LookedReference o) f e h = no_fault f.answer h
-told_fault t (reply.Settled s) f e h = no_fault f.answer h
-told_fault t reply.Imposed f e h = no_fault f.answer h
-told_fault t (reply.LookedPrepared b) f e h = no_fault f.answer h
-told_fault t reply.Marked f e h = no_fault f.answer h
-told_fault t (reply.Refused n) f e h = no_fault f.answer h
 told_fault t reply.Memory f e h = ap fault h
 told_fault {A = A} t (reply.SourceFault s) f e h = ap fault h ∙ reading_fault A t.config t.waits s e
+told_fault t other f e h = no_fault f.answer h
 
 -- a task that asks on was told of no fault
 pub told_none : (A : Type 0) (t : Tasked) (r : Reply A) (u : Turn A) → Refuses (refusal t r) u → IsCall u → told_faults r ≡ 0
-told_none A t reply.Start u h call = refl
-told_none A t (reply.Looked row) u h call = refl
-told_none A t (reply.Probed p) u h call = refl
-told_none A t (reply.Defined row) u h call = refl
-told_none A t (reply.Initiated row) u h call = refl
-told_none A t (reply.Lineage l) u h call = refl
-told_none A t (reply.LookedReference o) u h call = refl
-told_none A t (reply.Settled s) u h call = refl
-told_none A t reply.Imposed u h call = refl
-told_none A t (reply.LookedPrepared b) u h call = refl
-told_none A t reply.Marked u h call = refl
-told_none A t (reply.Refused n) u h call = refl
-told_none A t reply.Memory u h call = refl
 told_none A t (reply.SourceFault s) u h call = absurd (no_posts (fault_answer t.waits s) u h call)
+told_none A t other u h call = refl
 
 -- a reply to a read, and the count
 pub read_grows : (A : Type 0) (old new : ℕ) (f : SourceFault) → CountsFault old new f → Grows (told_faults {A = A} (reply.SourceFault f)) old new

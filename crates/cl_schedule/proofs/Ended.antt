@@ -1,6 +1,7 @@
 -- What a report says of each request once every one has its answer: one post each, and the headline (JVMS SE 8, 5.3 to 5.4.3).
 use Rattle.std.proofs.Common.{◌≡◌, ◌∙◌, ℕ, zero, suc, ◌+◌, ◌≤◌, Bool, true, false, List, [], ◌∷◌, length, Option, Some, None, refl, sym, ap, subst, cond, is_some, arith}
 use Rattle.std.specs.Prelude.{◌||◌, ◌&&◌, ◌==◌, nat_eq, nat_lt, find, option_map, map, if◌then◌else◌}
+use Rattle.std.specs.List.{list_any}
 use Rattle.std.proofs.lemmas.Bool.Decides.{nat_tests}
 use Rattle.std.proofs.lemmas.List.{length-map}
 use Rattle.std.proofs.lemmas.List.Folds.{find-append}
@@ -17,7 +18,7 @@ use Rattle.cl_config.specs.Loaders.{schedule_of}
 use Rattle.cl_config.specs.Views.{Configured, Scripted}
 use Rattle.cl_registry.specs.declared.report.Report.{Report}
 use Rattle.cl_registry.specs.Reports.{IsNamed, IsReport, IsReported}
-use Rattle.cl_registry.specs.Tables.{Shown, IsTrusted, RunsAs, is_in, posts, round_of, state_of}
+use Rattle.cl_registry.specs.Tables.{Shown, IsTrusted, RunsAs, posts, round_of, state_of}
 use Rattle.cl_registry.proofs.Histories.{eq_nat, swap_nat}
 use Rattle.cl_registry.proofs.Running.{is_or}
 use Rattle.cl_schedule.specs.Headline.{EachSpelt, Alike, ReferencesAlike, CirclesExact, IsServed}
@@ -73,11 +74,11 @@ posted_at_most script rounds now (events.Post p ∷ h) s q run = a_post (answer_
 
 -- ---- and once just where it has an answer
 
-none_there : (q : ℕ) (ps : List ℕ) → is_in q ps ≡ false → times q ps ≡ 0
+none_there : (q : ℕ) (ps : List ℕ) → list_any (nat_eq q) ps ≡ false → times q ps ≡ 0
 none_there q [] e = refl
 none_there q (p ∷ ps) e =
-    let here = left_of (nat_eq q p) (is_in q ps) e in
-    let there = right_of (nat_eq q p) (is_in q ps) e in
+    let here = left_of (nat_eq q p) (list_any (nat_eq q) ps) e in
+    let there = right_of (nat_eq q p) (list_any (nat_eq q) ps) e in
     times_cons q p ps ∙ both_none (nat_eq p q) (times q ps) (swap_nat p q ∙ here) (none_there q ps there)
   where
     left_of : (b c : Bool) → (b || c) ≡ false → b ≡ false
@@ -92,11 +93,11 @@ none_there q (p ∷ ps) e =
     both_none true t e z = absurd cc
     both_none false t e z = omega arith
 
-some_there : (q : ℕ) (ps : List ℕ) → is_in q ps ≡ true → 1 ≤ times q ps
+some_there : (q : ℕ) (ps : List ℕ) → list_any (nat_eq q) ps ≡ true → 1 ≤ times q ps
 some_there q [] e = absurd cc
 some_there q (p ∷ ps) e = subst (λ (k : ℕ). 1 ≤ k) (sym (times_cons q p ps)) (by_case (nat_eq q p) refl e (some_there q ps))
   where
-    by_case : (b : Bool) → nat_eq q p ≡ b → (b || is_in q ps) ≡ true → (is_in q ps ≡ true → 1 ≤ times q ps) → 1 ≤ cond (nat_eq p q) 1 0 + times q ps
+    by_case : (b : Bool) → nat_eq q p ≡ b → (b || list_any (nat_eq q) ps) ≡ true → (list_any (nat_eq q) ps ≡ true → 1 ≤ times q ps) → 1 ≤ cond (nat_eq p q) 1 0 + times q ps
     by_case true same e rest = let one : cond {A = ℕ} (nat_eq p q) 1 0 ≡ 1 = ap (λ (b : Bool). cond b 1 0) (swap_nat p q ∙ same) in omega arith
     by_case false other e rest = let more = rest e in omega arith
 
@@ -130,9 +131,9 @@ pub posted_once : (x : Shown) (r : Report) (q : ℕ) → IsTrusted x → IsRepor
 posted_once x r q t is =
     let most = posted_at_most (schedule_of x.script) x.script.rounds (answers_of x.answers) x.history start q t.tables in
     let count : length r.answers ≡ length x.script.requests = sym (length-map r.answers (λ a. Some a)) ∙ ap length is.answers ∙ t.whole in
-    let there : is_in q (posts x.history) ≡ nat_lt q (length x.script.requests) =
+    let there : list_any (nat_eq q) (posts x.history) ≡ nat_lt q (length x.script.requests) =
     t.posted q ∙ ap (λ (xs : List (Option rust.Answer)). is_some (answer_at (answers_of xs) q)) (sym is.answers) ∙ given_all r.answers q ∙ ap (λ (n : ℕ). nat_lt q n) count in
-    once_where (times q (posts x.history)) (is_in q (posts x.history)) (at_most most) (some_there q (posts x.history)) (none_there q (posts x.history))
+    once_where (times q (posts x.history)) (list_any (nat_eq q) (posts x.history)) (at_most most) (some_there q (posts x.history)) (none_there q (posts x.history))
     ∙ ap (λ (b : Bool). if b then 1 else 0) there
   where
     at_most : {n : ℕ} → n + 0 ≤ 1 → n ≤ 1

@@ -4,7 +4,7 @@ use Rattle.std.specs.Prelude.{slice_get}
 use Rattle.std.specs.List.{AllByRecursion}
 use Rattle.cl_model.specs.States.{State, Verdict, Answer}
 use Rattle.cl_model.specs.Plans.{Request, Load, Resolve, Link}
-use Rattle.cl_model.specs.Machine.{Scheduled, Step, Define, Initiate, Constrain, Settle, Prepare, Post, NextRound, Stray, after, state_after}
+use Rattle.cl_model.specs.Machine.{Scheduled, Step, Post, after, state_after}
 use Rattle.cl_model.proofs.Runs.{records_stay}
 use Rattle.cl_model.proofs.Sound.{settled_stay, prepared_stay}
 use Rattle.cl_model.proofs.Derived.{all_both}
@@ -19,14 +19,8 @@ has_stays s es (Link loader name) v h = (h.0, (h.1.0, records_stay s es loader h
 
 -- a post of a request whose verdict a state has is of it, or tells that memory ran out
 abbrev pub SaysKnown : List Scheduled → State → Step → Type 0
-SaysKnown script s (Define c) = Unit {0}
-SaysKnown script s (Initiate name place loader) = Unit {0}
-SaysKnown script s (Constrain name a b) = Unit {0}
-SaysKnown script s (Settle d i v) = Unit {0}
-SaysKnown script s (Prepare c) = Unit {0}
 SaysKnown script s (Post q a) = (r : Scheduled) (v : Verdict) → slice_get script q ≡ Some r → Has s r.request v → SaysOrLacks v a
-SaysKnown script s NextRound = Unit {0}
-SaysKnown script s Stray = Unit {0}
+SaysKnown script s other = Unit {0}
 
 -- each post says what the tables had of its request at a post before
 abbrev pub KeepsKnown : List Scheduled → State → List Step → Type 0
@@ -36,14 +30,8 @@ KeepsKnown script s (e ∷ es) = (IsPost e → AllByRecursion (SaysKnown script 
 -- ---- more steps
 
 says_before : (script : List Scheduled) (s : State) (es : List Step) (e : Step) → SaysKnown script (state_after s es) e → SaysKnown script s e
-says_before script s es (Define c) h = tt
-says_before script s es (Initiate name place loader) h = tt
-says_before script s es (Constrain name a b) h = tt
-says_before script s es (Settle d i v) h = tt
-says_before script s es (Prepare c) h = tt
 says_before script s es (Post q a) h = λ r v asked has. h r v asked (has_stays s es r.request v has)
-says_before script s es NextRound h = tt
-says_before script s es Stray h = tt
+says_before script s es other h = tt
 
 all_before : (script : List Scheduled) (s : State) (es fs : List Step) → AllByRecursion (SaysKnown script (state_after s es)) fs → AllByRecursion (SaysKnown script s) fs
 all_before script s es [] all = tt
@@ -57,14 +45,8 @@ known_then script s (x ∷ xs) ys k says more = (
 )
 
 quiet_says : (script : List Scheduled) (s : State) (e : Step) → (IsPost e → ⊥) → SaysKnown script s e
-quiet_says script s (Define c) no_post = tt
-quiet_says script s (Initiate name place loader) no_post = tt
-quiet_says script s (Constrain name a b) no_post = tt
-quiet_says script s (Settle d i v) no_post = tt
-quiet_says script s (Prepare c) no_post = tt
 quiet_says script s (Post q a) no_post = absurd (no_post tt)
-quiet_says script s NextRound no_post = tt
-quiet_says script s Stray no_post = tt
+quiet_says script s other no_post = tt
 
 quiet_all : (script : List Scheduled) (s : State) (es : List Step) → NoPosts es → AllByRecursion (SaysKnown script s) es
 quiet_all script s [] none = tt

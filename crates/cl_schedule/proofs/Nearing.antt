@@ -1,5 +1,5 @@
 -- A request whose verdict the tables have, while requests take turns: each call brings it nearer to its answer (JVMS SE 8, 5.3, 5.4.2, 5.4.3).
-use Rattle.std.proofs.Common.{◌≡◌, ◌⊎◌, inl, inr, ◌∙◌, ◌+◌, ◌<◌, ◌≤◌, ℕ, true, false, List, Option, Some, None, refl, sym, ap, subst, arith}
+use Rattle.std.proofs.Common.{◌≡◌, ◌⊎◌, inl, inr, ◌∙◌, ◌+◌, ◌<◌, ◌≤◌, ℕ, true, List, Option, Some, None, refl, sym, ap, subst, arith}
 use Rattle.std.specs.Prelude.{[], slice_get}
 use Rattle.cl_model.specs.declared.answer.Answer as rust
 use Rattle.cl_model.specs.declared.class.Class.{Class}
@@ -55,22 +55,11 @@ start_few t new other own = omega arith
 -- no more calls are made from a turn on than after the reply before it
 few_calls : {A : Type 0} (s : State) (r : Request) (v : Verdict) (t new : Tasked) (told : Reply A) (u : Turn A) → AtHand s r v t told → t.request ≡ Some r → AnswersOwn t new told u → Refuses (refusal t told) u → IsCall u → calls_from u ≤ calls_after told
 few_calls s r v t new reply.Start u at q own refused call = start_few t new u own
-few_calls s r v t new (reply.Looked None) u at q own refused call = absurd at
 few_calls s r v t new (reply.Looked (Some row)) u at q own refused call = goes_few r row.value.class new u (own r q at.0 at.1 at.2)
-few_calls s r v t new (reply.Probed p) u at q own refused call = absurd at
-few_calls s r v t new (reply.Defined row) u at q own refused call = absurd at
-few_calls s r v t new (reply.Initiated row) u at q own refused call = absurd at
-few_calls s r v t new (reply.Lineage l) u at q own refused call = absurd at
-few_calls s r v t new (reply.LookedReference None) u at q own refused call = absurd at
 few_calls s r v t new (reply.LookedReference (Some e)) u at q own refused call = absurd (no_post_or _ u own call)
-few_calls s r v t new (reply.Settled e) u at q own refused call = absurd at
-few_calls s r v t new reply.Imposed u at q own refused call = absurd at
 few_calls s r v t new (reply.LookedPrepared true) u at q own refused call = absurd (no_post_or _ u (own at.0 at.1 at.3) call)
-few_calls s r v t new (reply.LookedPrepared false) u at q own refused call = absurd at
-few_calls s r v t new reply.Marked u at q own refused call = absurd at
-few_calls s r v t new (reply.Refused n) u at q own refused call = absurd at
 few_calls s r v t new reply.Memory u at q own refused call = absurd (no_posts rust.TheVariants.Memory u refused call)
-few_calls s r v t new (reply.SourceFault f) u at q own refused call = absurd at
+few_calls s r v t new other u at q own refused call = absurd at
 
 -- a call on the way is on it
 on_way : {A : Type 0} (s : State) (r : Request) (v : Verdict) (t : Tasked) (u : Turn A) → IsCall u → OwnCall s r v t u → OnWay s r v t u

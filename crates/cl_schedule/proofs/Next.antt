@@ -12,7 +12,7 @@ use Rattle.cl_model.specs.declared.verdict.Verdict as verdicts
 use Rattle.cl_model.specs.declared.answer.Answer as answers
 use Rattle.cl_model.specs.Classes.{class}
 use Rattle.cl_model.specs.States.{State, Entry}
-use Rattle.cl_model.specs.Machine.{Setting, Step, Define, Initiate, Constrain, Settle, Prepare, Post, NextRound, Stray, May, after, step_for}
+use Rattle.cl_model.specs.Machine.{Setting, Step, Define, Initiate, Settle, Post, NextRound, Stray, May, after, step_for}
 use Rattle.cl_model.specs.Service.{IsNextStep}
 use Rattle.cl_model.specs.Tables.{Records}
 use Rattle.cl_model.specs.Views.{request_of, verdict_of}
@@ -36,42 +36,29 @@ use Rattle.cl_model.proofs.Bind.{some_same}
 -- ---- the steps of calls
 
 pub step_quiet : (e : Step) → IsOfService e → IsPost e → ⊥
-step_quiet (Define c) call post = post
-step_quiet (Initiate name place loader) call post = post
-step_quiet (Constrain name a b) call post = post
-step_quiet (Settle d i v) call post = post
-step_quiet (Prepare c) call post = post
 step_quiet (Post q a) call post = call
 step_quiet NextRound call post = call
 step_quiet Stray call post = call
+step_quiet other call post = post
 
 -- the step of a call leaves the round and the answers
 pub step_within : (s : State) (e : Step) → IsOfService e → ((after s e).round ≡ s.round) × ((after s e).answers ≡ s.answers)
-step_within s (Define c) call = (refl, refl)
-step_within s (Initiate name place loader) call = (refl, refl)
-step_within s (Constrain name a b) call = (refl, refl)
-step_within s (Settle d i v) call = (refl, refl)
-step_within s (Prepare c) call = (refl, refl)
 step_within s (Post q a) call = absurd call
 step_within s NextRound call = absurd call
 step_within s Stray call = absurd call
+step_within s other call = (refl, refl)
 
 prepares_call : (o : Sprung) (e : Step) → PreparesBy o e → IsOfService e
 prepares_call (OfReference d c index) e is = absurd is
 prepares_call (OfPreparation l) e is = subst IsOfService (sym is) tt
 
 pub step_of_call : {A : Type 0} (x : Shown) (u : Turn A) (e : Step) → IsStepOf x u e → IsOfService e
-step_of_call x (turn.Look l n) e is = absurd is
-step_of_call x (turn.Read l n) e is = absurd is
 step_of_call x (turn.Define d) e is = subst IsOfService (sym is) tt
 step_of_call x (turn.Initiate h) e is = subst IsOfService (sym is) tt
-step_of_call x (turn.Lineage c) e is = absurd is
-step_of_call x (turn.LookReference c i) e is = absurd is
 step_of_call x (turn.Settle f) e is = subst IsOfService (sym is.2) tt
 step_of_call x (turn.Impose l k) e is = subst IsOfService (sym is.2) tt
-step_of_call x (turn.LookPrepared c) e is = absurd is
 step_of_call x (turn.Mark l) e is = prepares_call l.value.origin e is
-step_of_call x (turn.Post f) e is = absurd is
+step_of_call x other e is = absurd is
 
 -- ---- what comes next
 
@@ -121,19 +108,14 @@ prepare_next g s r (OfPreparation l) e next is may = subst (IsNextStep g s (requ
 
 -- what a turn asks for comes next, wherever it may happen
 pub next_of : {A : Type 0} (g : Setting) (x : Shown) (r : Request) (t new : Tasked) (u : Turn A) (e : Step) → Follows g (state_of x) r u → Serves t new u → t.request ≡ Some r → IsStepOf x u e → May g (state_of x) e → IsNextStep g (state_of x) (request_of r) e
-next_of g x r t new (turn.Look l n) e follows serves request is may = absurd is
-next_of g x r t new (turn.Read l n) e follows serves request is may = absurd is
 next_of g x r t new (turn.Define d) e follows serves request is may =
     let here : step_for (Entry d.class.loader d.class.name d.class.loader) ≡ e = define_for d.class ∙ sym is in
     subst (IsNextStep g (state_of x) (request_of r)) here (follows.step (subst (May g (state_of x)) is may).may_add)
 next_of g x r t new (turn.Initiate h) e follows serves request is may =
     let here : step_for (Entry h.value.asked h.value.name h.value.place) ≡ e = initiate_for h.value follows.1 ∙ sym is in
     subst (IsNextStep g (state_of x) (request_of r)) here (follows.0.step (subst (May g (state_of x)) is may).may_add)
-next_of g x r t new (turn.Lineage c) e follows serves request is may = absurd is
-next_of g x r t new (turn.LookReference c i) e follows serves request is may = absurd is
 next_of g x r t new (turn.Settle f) e follows serves request is may =
     settle_next g x r f e is.0 follows (some_same f.request r (sym serves.0 ∙ request)) is.1 is.2 may
 next_of g x r t new (turn.Impose l k) e follows serves request is may = impose_next g (state_of x) r (slice_get l.value.needs k) e is.0 follows is.1 is.2 may
-next_of g x r t new (turn.LookPrepared c) e follows serves request is may = absurd is
 next_of g x r t new (turn.Mark l) e follows serves request is may = prepare_next g (state_of x) r l.value.origin e follows is may
-next_of g x r t new (turn.Post f) e follows serves request is may = absurd is
+next_of g x r t new other e follows serves request is may = absurd is

@@ -60,30 +60,12 @@ count_beside n a b c d k l one two g = record { number = g.number; counted = let
 
 -- a turn posts a fault of the source where the reply before it told of one, and nowhere else
 pub owed_told : {A : Type 0} (t : Tasked) (r : Reply A) (u : Turn A) → Expects t r → Refuses (refusal t r) u → owed u ≡ told_faults r
-owed_told {A = A} t r (turn.Look l n) e h = sym (told_none A t r (turn.Look l n) h tt)
-owed_told {A = A} t r (turn.Read l n) e h = sym (told_none A t r (turn.Read l n) h tt)
-owed_told {A = A} t r (turn.Define d) e h = sym (told_none A t r (turn.Define d) h tt)
-owed_told {A = A} t r (turn.Initiate d) e h = sym (told_none A t r (turn.Initiate d) h tt)
-owed_told {A = A} t r (turn.Lineage c) e h = sym (told_none A t r (turn.Lineage c) h tt)
-owed_told {A = A} t r (turn.LookReference c i) e h = sym (told_none A t r (turn.LookReference c i) h tt)
-owed_told {A = A} t r (turn.Settle f) e h = sym (told_none A t r (turn.Settle f) h tt)
-owed_told {A = A} t r (turn.Impose l k) e h = sym (told_none A t r (turn.Impose l k) h tt)
-owed_told {A = A} t r (turn.LookPrepared c) e h = sym (told_none A t r (turn.LookPrepared c) h tt)
-owed_told {A = A} t r (turn.Mark l) e h = sym (told_none A t r (turn.Mark l) h tt)
 owed_told t r (turn.Post f) e h = told_fault t r f e h
+owed_told {A = A} t r other e h = sym (told_none A t r other h tt)
 
 owed_call : {A : Type 0} (u : Turn A) → IsCall u → owed u ≡ 0
-owed_call (turn.Look l n) call = refl
-owed_call (turn.Read l n) call = refl
-owed_call (turn.Define d) call = refl
-owed_call (turn.Initiate h) call = refl
-owed_call (turn.Lineage c) call = refl
-owed_call (turn.LookReference c i) call = refl
-owed_call (turn.Settle f) call = refl
-owed_call (turn.Impose l k) call = refl
-owed_call (turn.LookPrepared c) call = refl
-owed_call (turn.Mark l) call = refl
 owed_call (turn.Post f) call = absurd call
+owed_call other call = refl
 
 -- ---- a choice of one request
 

@@ -53,31 +53,14 @@ no_more a b c h k = omega arith
 
 -- a turn that is no read asks for none
 pub no_read_is : {A : Type 0} (u : Turn A) → ((l : ℕ) (n : List ℕ) → u ≡ turn.Read l n → ⊥) → IsRead u → ⊥
-no_read_is (turn.Look l n) other is = is
-no_read_is (turn.Read l n) other is = other l n refl
-no_read_is (turn.Define d) other is = is
-no_read_is (turn.Initiate h) other is = is
-no_read_is (turn.Lineage c) other is = is
-no_read_is (turn.LookReference c i) other is = is
-no_read_is (turn.Settle f) other is = is
-no_read_is (turn.Impose l k) other is = is
-no_read_is (turn.LookPrepared c) other is = is
-no_read_is (turn.Mark l) other is = is
-no_read_is (turn.Post f) other is = is
+no_read_is (turn.Read l n) unread is = unread l n refl
+no_read_is other unread is = is
 
 -- a call that is no read is one of the tables
 made_call : {A : Type 0} (u : Turn A) → IsCall u → (IsRead u → ⊥) → made_by (call_of u) ≡ 1
-made_call (turn.Look l n) call unread = refl
 made_call (turn.Read l n) call unread = absurd (unread tt)
-made_call (turn.Define d) call unread = refl
-made_call (turn.Initiate h) call unread = refl
-made_call (turn.Lineage c) call unread = refl
-made_call (turn.LookReference c i) call unread = refl
-made_call (turn.Settle f) call unread = refl
-made_call (turn.Impose l k) call unread = refl
-made_call (turn.LookPrepared c) call unread = refl
-made_call (turn.Mark l) call unread = refl
 made_call (turn.Post f) call unread = absurd call
+made_call other call unread = refl
 
 -- a turn leaves no more calls than there were, but for the one before it
 pub pays_on : {A : Type 0} (told : Option Content) (x : Shown) (r : Request) (t next : Tasked) (given : Reply A) → IsReady told x t given r → IfSome t.request (λ r. CallsWithin told t.config (λ x. TellsNow x t given) r (made_by t.waits) next.calls t.calls)

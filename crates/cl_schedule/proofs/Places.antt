@@ -67,17 +67,11 @@ none_first (suc n) (suc q) a at = none_first n q a at
 
 pub seat_task : {A : Type 0} (task : Option (Option Tasked)) (call : Option (Option (Turn A))) (s : Seat A) → seat_of task call ≡ Some s → task ≡ Some (Some s.task)
 seat_task {A = A} (Some (Some t)) (Some (Some u)) s is = ap (λ (k : Seat A). Some (Some k.task)) (some_same (record { task = t; call = u }) s is)
-seat_task (Some (Some t)) (Some None) s is = absurd cc
-seat_task (Some (Some t)) None s is = absurd cc
-seat_task (Some None) call s is = absurd cc
-seat_task None call s is = absurd cc
+seat_task other another s is = absurd cc
 
 pub no_seat : {A : Type 0} (task : Option (Option Tasked)) (call : Option (Option (Turn A))) → ((t : Tasked) (u : Turn A) → task ≡ Some (Some t) → call ≡ Some (Some u) → ⊥) → seat_of task call ≡ None
 no_seat (Some (Some t)) (Some (Some u)) none = absurd (none t u refl refl)
-no_seat (Some (Some t)) (Some None) none = refl
-no_seat (Some (Some t)) None none = refl
-no_seat (Some None) call none = refl
-no_seat None call none = refl
+no_seat other another none = refl
 
 -- before the first choice
 pub none_seated : {A : Type 0} (room : Room A) (n : ℕ) → room.calls.items ≡ replicate n None → NoneSeated room

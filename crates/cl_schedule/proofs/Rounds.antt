@@ -1,6 +1,7 @@
 -- Rounds between requests, and one request after another (own choice).
 use Rattle.std.proofs.Common.{◌≡◌, inl, inr, ◌∙◌, ◌+◌, ◌-◌, ◌<◌, ◌≤◌, ℕ, zero, suc, Bool, true, false, List, [], ◌∷◌, ◌++◌, length, take, Option, Some, None, refl, sym, ap, subst, arith, append_assoc, add-one, is_some}
 use Rattle.std.specs.Prelude.{◌||◌, ◌⊎◌, nat_eq, option_map, slice_get, slice_index_or, slice_set, IsSome, All}
+use Rattle.std.specs.List.{list_any}
 use Rattle.std.proofs.lemmas.List.{append-nil}
 use Rattle.std.proofs.lemmas.Option.{slice_get_within}
 use Rattle.std.proofs.lemmas.Bool.{cases_lt}
@@ -22,10 +23,10 @@ use Rattle.cl_model.proofs.Bind.{some_same}
 use Rattle.cl_config.specs.Loaders.{schedule, schedule_of}
 use Rattle.cl_config.specs.Scripts.{IsScript}
 use Rattle.cl_config.specs.Views.{Scripted}
-use Rattle.cl_registry.specs.Tables.{Shown, IsTrusted, IsOpen, IsLater, is_in, posts, round_of, state_of, steps, with_round}
+use Rattle.cl_registry.specs.Tables.{Shown, IsTrusted, IsOpen, IsLater, posts, round_of, state_of, steps, with_round}
 use Rattle.cl_registry.specs.Tables as tables
 use Rattle.cl_registry.specs.declared.registry.RegistryFault.{RegistryFault}
-use Rattle.cl_registry.specs.declared.registry.RegistryFault.TheVariants.{Memory, Stray, Violates, AlreadyPosted, NotYet}
+use Rattle.cl_registry.specs.declared.registry.RegistryFault.TheVariants.{NotYet}
 use Rattle.cl_registry.specs.Refusals.{RoundRefusedFor}
 use Rattle.cl_registry.specs.Reports.{IsUnfinished}
 use Rattle.cl_registry.proofs.Histories.{eq_nat, swap_nat}
@@ -119,11 +120,8 @@ next_number x new may e =
 
 -- a refusal ends them
 pub end_of_rounds : (old x new : Shown) (fault : RegistryFault) → Passing old x → new ≡ x → RoundRefusedFor x fault → RoundsPassed old new
-end_of_rounds old x new Memory p same refused = absurd refused
-end_of_rounds old x new Stray p same refused = absurd refused
-end_of_rounds old x new (Violates n) p same refused = absurd refused
-end_of_rounds old x new AlreadyPosted p same refused = absurd refused
 end_of_rounds old x new NotYet p same refused = subst (RoundsPassed old) (sym same) (all_passed old x p refused)
+end_of_rounds old x new other p same refused = absurd refused
 
 -- ---- after rounds have passed
 
@@ -136,7 +134,7 @@ none_goes_on old new p may =
 
 -- ---- what is posted is answered
 
-posted_answer : (now : List (Option Answer)) (h : List Event) (s : State) (q : ℕ) (a : Answer) → answer_at now q ≡ Some a → answer_to s.answers q ≡ None → is_in q (posts h) ≡ true → answer_to (state_after s (steps_of now h)).answers q ≡ Some a
+posted_answer : (now : List (Option Answer)) (h : List Event) (s : State) (q : ℕ) (a : Answer) → answer_at now q ≡ Some a → answer_to s.answers q ≡ None → list_any (nat_eq q) (posts h) ≡ true → answer_to (state_after s (steps_of now h)).answers q ≡ Some a
 posted_answer now [] s q a at none is = absurd cc
 posted_answer now (events.Define c ∷ h) s q a at none is = posted_answer now h (after s (Define c)) q a at none is
 posted_answer now (events.Initiate c loader ∷ h) s q a at none is = posted_answer now h (after s (Initiate c.name c.loader loader)) q a at none is
@@ -151,8 +149,8 @@ posted_answer now (events.Post p ∷ h) s q a at none is = by_test (nat_eq q p) 
         subst (λ (k : ℕ). answer_to (after s (post_of k (answer_at now k))).answers q ≡ Some a) same
         (ap (λ (o : Option Answer). answer_to (after s (post_of q o)).answers q) at ∙ answer_found s.answers q a none)
 
-    by_test : (b : Bool) → nat_eq q p ≡ b → (b || is_in q (posts h)) ≡ true
-        → (answer_to (after s (post_of p (answer_at now p))).answers q ≡ None → is_in q (posts h) ≡ true → answer_to (state_after s (steps_of now (events.Post p ∷ h))).answers q ≡ Some a)
+    by_test : (b : Bool) → nat_eq q p ≡ b → (b || list_any (nat_eq q) (posts h)) ≡ true
+        → (answer_to (after s (post_of p (answer_at now p))).answers q ≡ None → list_any (nat_eq q) (posts h) ≡ true → answer_to (state_after s (steps_of now (events.Post p ∷ h))).answers q ≡ Some a)
         → answer_to (state_after s (steps_of now (events.Post p ∷ h))).answers q ≡ Some a
     by_test true e t rest = posted_stay (after s (post_of p (answer_at now p))) (steps_of now h) q a (here (eq_nat q p e))
     by_test false e t rest = rest (post_other s q p (answer_at now p) (swap_nat p q ∙ e) ∙ none) t
@@ -168,7 +166,7 @@ some_of (Some a) e = (a, refl)
 -- a request below a number has its answer where all below it are posted
 answered_below : (x : Shown) (n p : ℕ) → IsTrusted x → posts x.history ≡ upto n → p < n → IsSome (answer_to (state_of x).answers p)
 answered_below x n p t order below =
-    let there = some_of (answer_at (answers_of x.answers) p) (sym (t.posted p) ∙ ap (is_in p) order ∙ in_upto n p below) in
+    let there = some_of (answer_at (answers_of x.answers) p) (sym (t.posted p) ∙ ap (list_any (nat_eq p)) order ∙ in_upto n p below) in
     ap is_some (answer_there x p there.0 t there.1)
 
 -- ---- the round of a request

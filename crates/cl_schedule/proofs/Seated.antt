@@ -91,32 +91,15 @@ ready_begun {A = A} told x c q r t kept config is =
 
 -- a turn is for the request of its task
 is_for : {A : Type 0} (t next : Tasked) (u : Turn A) (r : Request) → Serves t next u → t.request ≡ Some r → IsFor next u r
-is_for t next (turn.Look l n) r serves is = serves ∙ is
-is_for t next (turn.Read l n) r serves is = serves ∙ is
-is_for t next (turn.Define d) r serves is = serves ∙ is
-is_for t next (turn.Initiate h) r serves is = serves ∙ is
-is_for t next (turn.Lineage c) r serves is = serves ∙ is
-is_for t next (turn.LookReference c i) r serves is = serves ∙ is
 is_for t next (turn.Settle f) r serves is = (some_same f.request r (sym serves.0 ∙ is), serves.1 ∙ is)
-is_for t next (turn.Impose l k) r serves is = serves ∙ is
-is_for t next (turn.LookPrepared c) r serves is = serves ∙ is
-is_for t next (turn.Mark l) r serves is = serves ∙ is
 is_for t next (turn.Post f) r serves is = some_same f.request r (sym serves ∙ is)
+is_for t next other r serves is = serves ∙ is
 
 -- what is posted is borne wherever the registry goes on to, where a content is told
 posts_later : {A : Type 0} (told : Option Content) (x y : Shown) (q : ℕ) (r : Request) (u : Turn A) → IsAfter told x y → FollowsIn told y r u → Backed x u → (t : Tasked) → IsFor t u r → PostsIn told y q r u
-posts_later told x y q r (turn.Look l n) after follows backed t is = tt
-posts_later told x y q r (turn.Read l n) after follows backed t is = tt
-posts_later told x y q r (turn.Define d) after follows backed t is = tt
-posts_later told x y q r (turn.Initiate h) after follows backed t is = tt
-posts_later told x y q r (turn.Lineage c) after follows backed t is = tt
-posts_later told x y q r (turn.LookReference c i) after follows backed t is = tt
-posts_later told x y q r (turn.Settle f) after follows backed t is = tt
-posts_later told x y q r (turn.Impose l k) after follows backed t is = tt
-posts_later told x y q r (turn.LookPrepared c) after follows backed t is = tt
-posts_later told x y q r (turn.Mark l) after follows backed t is = tt
 posts_later told x y q r (turn.Post f) after follows backed t is = λ content e may.
     post_backed_later content x y r f (subst (λ (o : Option Content). IsAfter o x y) e after) (follows content e) is backed
+posts_later told x y q r other after follows backed t is = tt
 
 -- after a turn the request waits with what is asked
 pub seated_on : {A : Type 0} (told : Option Content) (x : Shown) (q : ℕ) (r : Request) (t next : Tasked) (given : Reply A) (u : Turn A) → IsReady told x t given r → TurnSays told t next given u → next.left < t.left → (IsRead u → ⊥) → AreLeft next.calls → IsSeated told x next u q r
@@ -150,30 +133,14 @@ pub seated_backed : {A : Type 0} (told : Option Content) (x : Shown) (t : Tasked
 seated_backed told x t u q kept (r, may, seated) call = seated.backed x (after_none told x kept) call
 
 serves_self : {A : Type 0} (t : Tasked) (u : Turn A) (r : Request) → IsFor t u r → IsCall u → Serves t t u
-serves_self t (turn.Look l n) r is call = refl
-serves_self t (turn.Read l n) r is call = refl
-serves_self t (turn.Define d) r is call = refl
-serves_self t (turn.Initiate h) r is call = refl
-serves_self t (turn.Lineage c) r is call = refl
-serves_self t (turn.LookReference c i) r is call = refl
 serves_self t (turn.Settle f) r is call = (is.1 ∙ ap (λ (k : Request). Some k) (sym is.0), refl)
-serves_self t (turn.Impose l k) r is call = refl
-serves_self t (turn.LookPrepared c) r is call = refl
-serves_self t (turn.Mark l) r is call = refl
 serves_self t (turn.Post f) r is call = absurd call
+serves_self t other r is call = refl
 
 pub request_of_call : {A : Type 0} (t : Tasked) (u : Turn A) (r : Request) → IsFor t u r → IsCall u → t.request ≡ Some r
-request_of_call t (turn.Look l n) r is call = is
-request_of_call t (turn.Read l n) r is call = is
-request_of_call t (turn.Define d) r is call = is
-request_of_call t (turn.Initiate h) r is call = is
-request_of_call t (turn.Lineage c) r is call = is
-request_of_call t (turn.LookReference c i) r is call = is
 request_of_call t (turn.Settle f) r is call = is.1
-request_of_call t (turn.Impose l k) r is call = is
-request_of_call t (turn.LookPrepared c) r is call = is
-request_of_call t (turn.Mark l) r is call = is
 request_of_call t (turn.Post f) r is call = absurd call
+request_of_call t other r is call = is
 
 -- the step of the call is the next one of the request's service
 next_in : {A : Type 0} (told : Option Content) (old new : Shown) (r : Request) (q : ℕ) (t : Tasked) (u : Turn A) (e : Step) → IsKept told old → IsKept told new → IsSeated told old t u q r → IsCall u → IsStepOf old u e → GoesBy old new e → NextIn told old r e
@@ -217,33 +184,12 @@ may_stay old new u q r (inr (e, is, goes)) may = record {
 
 -- what is settled is cited by a class that is recorded
 cited_settling : {A : Type 0} (x : Shown) (r : Request) (more : Reply A) → ((e : Cited) × (cited_by x r ≡ Some e)) → IsCitedFor x (Settling r) more
-cited_settling x r reply.Start at = tt
-cited_settling x r (reply.Looked o) at = tt
-cited_settling x r (reply.Probed p) at = tt
-cited_settling x r (reply.Defined row) at = tt
-cited_settling x r (reply.Initiated row) at = tt
-cited_settling x r (reply.Lineage o) at = tt
-cited_settling x r (reply.LookedReference o) at = tt
 cited_settling x r (reply.Settled s) at = at
-cited_settling x r reply.Imposed at = tt
-cited_settling x r (reply.LookedPrepared b) at = tt
-cited_settling x r reply.Marked at = tt
-cited_settling x r (reply.Refused need) at = tt
-cited_settling x r reply.Memory at = tt
-cited_settling x r (reply.SourceFault g) at = tt
+cited_settling x r other at = tt
 
 cited_after : {A : Type 0} (old new : Shown) (u : Turn A) (more : Reply A) → GoesOn old new → Backed old u → IsCitedFor new (call_of u) more
-cited_after old new (turn.Look l n) more h backed = tt
-cited_after old new (turn.Read l n) more h backed = tt
-cited_after old new (turn.Define d) more h backed = tt
-cited_after old new (turn.Initiate j) more h backed = tt
-cited_after old new (turn.Lineage c) more h backed = tt
-cited_after old new (turn.LookReference c i) more h backed = tt
 cited_after old new (turn.Settle f) more h (s, is) = cited_settling new f.request more (record { class = s.class; index = s.index }, cited_later old new f.request (record { class = s.class; index = s.index }) h is.cited)
-cited_after old new (turn.Impose e k) more h backed = tt
-cited_after old new (turn.LookPrepared c) more h backed = tt
-cited_after old new (turn.Mark e) more h backed = tt
-cited_after old new (turn.Post f) more h backed = tt
+cited_after old new other more h backed = tt
 
 -- what a task was told before a call that was made, and by its reply, holds behind it
 pub ready_again : {A S : Type 0} (told : Option Content) (old new : Shown) (t : Tasked) (u : Turn A) (q : ℕ) (r : Request) (more : Reply A) (count later : ℕ) (since source : S) → IsKept told old → IsSeated told old t u q r → CallSays told old new u more count later since source → IsReady told new t more r

@@ -1,6 +1,7 @@
 -- Which requests are posted, and what a report tells of a registry.
 use Rattle.std.proofs.Common.{◌≡◌, ◌∙◌, ◌+◌, ◌<◌, ◌≤◌, ◌∷◌, ◌++◌, [], ℕ, zero, suc, Bool, true, false, List, length, Option, Some, None, map, refl, ap, sym, subst, arith, is_some, add-one}
 use Rattle.std.specs.Prelude.{◌||◌, nat_eq, slice_get, slice_index_or}
+use Rattle.std.specs.List.{list_any}
 use Rattle.std.proofs.lemmas.Bool.Decides.{nat_tests}
 use Rattle.std.proofs.lemmas.Option.{slice_get_within}
 use Rattle.cl_model.specs.declared.answer.Answer.{Answer}
@@ -12,7 +13,7 @@ use Rattle.cl_config.specs.Scripts.{HasLoader, HasLoaders}
 use Rattle.cl_model.specs.Views.{answers_of, answer_at}
 use Rattle.cl_registry.specs.declared.report.Report.{Report}
 use Rattle.cl_config.specs.Views.{Configured}
-use Rattle.cl_registry.specs.Tables.{Shown, IsTrusted, RunsAs, IsOpen, is_in, posts}
+use Rattle.cl_registry.specs.Tables.{Shown, IsTrusted, RunsAs, IsOpen, posts}
 use Rattle.cl_registry.specs.Reports.{IsReport}
 use Rattle.cl_registry.proofs.Histories.{is_in_push, unposted}
 use Rattle.cl_schedule.specs.Serving.{upto, reported}
@@ -40,7 +41,7 @@ bare_runs (Some content) x run = run
 
 -- ---- which requests are posted
 
-pub in_upto : (n q : ℕ) → q < n → is_in q (upto n) ≡ true
+pub in_upto : (n q : ℕ) → q < n → list_any (nat_eq q) (upto n) ≡ true
 in_upto zero q below = absurd (omega arith)
 in_upto (suc n) q below = is_in_push (upto n) q n ∙ by_test (nat_eq q n) refl (in_upto n q)
   where
@@ -54,13 +55,13 @@ in_upto (suc n) q below = is_in_push (upto n) q n ∙ by_test (nat_eq q n) refl 
     less : (a b : ℕ) → a < suc b → nat_eq a b ≡ false → a < b
     less a b l e = grind (arith, nat_tests)
 
-    by_test : (b : Bool) → nat_eq q n ≡ b → (q < n → is_in q (upto n) ≡ true) → (is_in q (upto n) || nat_eq q n) ≡ true
-    by_test true e before = ap (λ (d : Bool). is_in q (upto n) || d) e ∙ or_true (is_in q (upto n))
-    by_test false e before = or_left (is_in q (upto n)) (nat_eq q n) (before (less q n below e))
+    by_test : (b : Bool) → nat_eq q n ≡ b → (q < n → list_any (nat_eq q) (upto n) ≡ true) → (list_any (nat_eq q) (upto n) || nat_eq q n) ≡ true
+    by_test true e before = ap (λ (d : Bool). list_any (nat_eq q) (upto n) || d) e ∙ or_true (list_any (nat_eq q) (upto n))
+    by_test false e before = or_left (list_any (nat_eq q) (upto n)) (nat_eq q n) (before (less q n below e))
 
-pub not_in_upto : (n q : ℕ) → n ≤ q → is_in q (upto n) ≡ false
+pub not_in_upto : (n q : ℕ) → n ≤ q → list_any (nat_eq q) (upto n) ≡ false
 not_in_upto zero q above = refl
-not_in_upto (suc n) q above = is_in_push (upto n) q n ∙ both (is_in q (upto n)) (nat_eq q n) (not_in_upto n q (omega arith)) (other q n above)
+not_in_upto (suc n) q above = is_in_push (upto n) q n ∙ both (list_any (nat_eq q) (upto n)) (nat_eq q n) (not_in_upto n q (omega arith)) (other q n above)
   where
     both : (a b : Bool) → a ≡ false → b ≡ false → (a || b) ≡ false
     both a b p e = rw (p, e) refl
@@ -71,7 +72,7 @@ not_in_upto (suc n) q above = is_in_push (upto n) q n ∙ both (is_in q (upto n)
 -- where the requests before this number are posted, it is not
 pub next_is_open : (x : Shown) (q : ℕ) → IsTrusted x → posts x.history ≡ upto q → q < length x.script.requests → IsOpen x q
 next_is_open x q t order below =
-    unanswered x.answers q (subst (λ (n : ℕ). q < n) (sym t.whole) below) (sym (t.posted q) ∙ ap (is_in q) order ∙ not_in_upto q q (omega arith))
+    unanswered x.answers q (subst (λ (n : ℕ). q < n) (sym t.whole) below) (sym (t.posted q) ∙ ap (list_any (nat_eq q)) order ∙ not_in_upto q q (omega arith))
   where
     unanswered : (xs : List (Option Answer)) (p : ℕ) → p < length xs → is_some (answer_at (answers_of xs) p) ≡ false → slice_get xs p ≡ Some None
     unanswered [] p l e = absurd (omega arith)
@@ -83,8 +84,8 @@ next_is_open x q t order below =
 pub none_is_open : (x : Shown) (n : ℕ) → IsTrusted x → posts x.history ≡ upto n → length x.script.requests ≡ n → (q : ℕ) × IsOpen x q → ⊥
 none_is_open x n t order whole (q, is) =
     let below : q < n = subst (λ (k : ℕ). q < k) (t.whole ∙ whole) (in_range x.answers q is) in
-    let there : is_in q (posts x.history) ≡ true = ap (is_in q) order ∙ in_upto n q below in
-    let out : is_in q (posts x.history) ≡ false = unposted x q t is in
+    let there : list_any (nat_eq q) (posts x.history) ≡ true = ap (list_any (nat_eq q)) order ∙ in_upto n q below in
+    let out : list_any (nat_eq q) (posts x.history) ≡ false = unposted x q t is in
     absurd cc
   where
     in_range : (xs : List (Option Answer)) (p : ℕ) → slice_get xs p ≡ Some None → p < length xs

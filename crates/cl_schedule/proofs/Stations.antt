@@ -32,17 +32,8 @@ use Rattle.std.proofs.lemmas.Option.{none-some}
 -- ---- turns
 
 pub no_post_or : {A : Type 0} (a : rust.Answer) (u : Turn A) → PostsOr a u → IsCall u → ⊥
-no_post_or a (turn.Look l n) p call = p
-no_post_or a (turn.Read l n) p call = p
-no_post_or a (turn.Define d) p call = p
-no_post_or a (turn.Initiate h) p call = p
-no_post_or a (turn.Lineage c) p call = p
-no_post_or a (turn.LookReference c i) p call = p
-no_post_or a (turn.Settle f) p call = p
-no_post_or a (turn.Impose l k) p call = p
-no_post_or a (turn.LookPrepared c) p call = p
-no_post_or a (turn.Mark l) p call = p
 no_post_or a (turn.Post f) p call = call
+no_post_or a other p call = p
 
 pub no_posts : {A : Type 0} (a : rust.Answer) (u : Turn A) → Posts a u → IsCall u → ⊥
 no_posts a u p call = no_post_or a u (posts_or a u p) call
@@ -72,59 +63,23 @@ has_record s (requests.Link loader name) v h = (h.0.loader, h.1.1)
 
 goes_call : {A : Type 0} (s : State) (r : Request) (c : Class) (v : Verdict) (new : Tasked) (u : Turn A) → HasOf s r c v → GoesOnWith r c new u → IsCall u → OwnCall s r v new u
 goes_call s (requests.Load loader name) c v new u has goes call = absurd (no_post_or (rust.TheVariants.Said (verdicts.Class c)) u goes call)
-goes_call s (requests.Resolve loader name i) c v new (turn.Look l n) has goes call = absurd goes
-goes_call s (requests.Resolve loader name i) c v new (turn.Read l n) has goes call = absurd goes
-goes_call s (requests.Resolve loader name i) c v new (turn.Define d) has goes call = absurd goes
-goes_call s (requests.Resolve loader name i) c v new (turn.Initiate h) has goes call = absurd goes
-goes_call s (requests.Resolve loader name i) c v new (turn.Lineage d) has goes call = absurd goes
 goes_call s (requests.Resolve loader name i) c v new (turn.LookReference d j) has goes call =
     subst (λ (k : ℕ). settled_to s.settled d k ≡ Some v) (sym goes.1) (subst (λ (k : Class). settled_to s.settled k i ≡ Some v) (sym goes.0) has)
-goes_call s (requests.Resolve loader name i) c v new (turn.Settle f) has goes call = absurd goes
-goes_call s (requests.Resolve loader name i) c v new (turn.Impose l k) has goes call = absurd goes
-goes_call s (requests.Resolve loader name i) c v new (turn.LookPrepared d) has goes call = absurd goes
-goes_call s (requests.Resolve loader name i) c v new (turn.Mark l) has goes call = absurd goes
 goes_call s (requests.Resolve loader name i) c v new (turn.Post f) has goes call = absurd call
-goes_call s (requests.Link loader name) c v new (turn.Look l n) has goes call = absurd goes
-goes_call s (requests.Link loader name) c v new (turn.Read l n) has goes call = absurd goes
-goes_call s (requests.Link loader name) c v new (turn.Define d) has goes call = absurd goes
-goes_call s (requests.Link loader name) c v new (turn.Initiate h) has goes call = absurd goes
-goes_call s (requests.Link loader name) c v new (turn.Lineage d) has goes call = absurd goes
-goes_call s (requests.Link loader name) c v new (turn.LookReference d j) has goes call = absurd goes
-goes_call s (requests.Link loader name) c v new (turn.Settle f) has goes call = absurd goes
-goes_call s (requests.Link loader name) c v new (turn.Impose l k) has goes call = absurd goes
 goes_call s (requests.Link loader name) c v new (turn.LookPrepared d) has goes call =
     (subst (λ (k : Class). Contains s.prepared k) (sym goes.0) has.0, has.1 ∙ ap (λ (k : Class). IsLinked k) (sym goes.0), goes.1)
-goes_call s (requests.Link loader name) c v new (turn.Mark l) has goes call = absurd goes
 goes_call s (requests.Link loader name) c v new (turn.Post f) has goes call = absurd call
+goes_call s other c v new another has goes call = absurd goes
 
 pub own_call : {A : Type 0} (s : State) (r : Request) (v : Verdict) (t new : Tasked) (told : Reply A) (u : Turn A) → AtHand s r v t told → t.request ≡ Some r → AnswersOwn t new told u → Refuses (refusal t told) u → IsCall u → OwnCall s r v new u
 own_call s r v t new reply.Start (turn.Look l n) at q own refused call = let asked = own.2 r q in (own.0, own.1, asked.0, asked.1)
-own_call s r v t new reply.Start (turn.Read l n) at q own refused call = absurd own
-own_call s r v t new reply.Start (turn.Define d) at q own refused call = absurd own
-own_call s r v t new reply.Start (turn.Initiate h) at q own refused call = absurd own
-own_call s r v t new reply.Start (turn.Lineage c) at q own refused call = absurd own
-own_call s r v t new reply.Start (turn.LookReference c i) at q own refused call = absurd own
-own_call s r v t new reply.Start (turn.Settle f) at q own refused call = absurd own
-own_call s r v t new reply.Start (turn.Impose l k) at q own refused call = absurd own
-own_call s r v t new reply.Start (turn.LookPrepared c) at q own refused call = absurd own
-own_call s r v t new reply.Start (turn.Mark l) at q own refused call = absurd own
 own_call s r v t new reply.Start (turn.Post f) at q own refused call = absurd call
-own_call s r v t new (reply.Looked None) u at q own refused call = absurd at
+own_call s r v t new reply.Start u at q own refused call = absurd own
 own_call s r v t new (reply.Looked (Some row)) u at q own refused call = goes_call s r row.value.class v new u at.3 (own r q at.0 at.1 at.2) call
-own_call s r v t new (reply.Probed p) u at q own refused call = absurd at
-own_call s r v t new (reply.Defined row) u at q own refused call = absurd at
-own_call s r v t new (reply.Initiated row) u at q own refused call = absurd at
-own_call s r v t new (reply.Lineage l) u at q own refused call = absurd at
-own_call s r v t new (reply.LookedReference None) u at q own refused call = absurd at
 own_call s r v t new (reply.LookedReference (Some e)) u at q own refused call = absurd (no_post_or (rust.TheVariants.Shared e) u own call)
-own_call s r v t new (reply.Settled e) u at q own refused call = absurd at
-own_call s r v t new reply.Imposed u at q own refused call = absurd at
 own_call s r v t new (reply.LookedPrepared true) u at q own refused call = absurd (no_post_or (rust.TheVariants.Said (verdicts.Linked at.0)) u (own at.0 at.1 at.3) call)
-own_call s r v t new (reply.LookedPrepared false) u at q own refused call = absurd at
-own_call s r v t new reply.Marked u at q own refused call = absurd at
-own_call s r v t new (reply.Refused n) u at q own refused call = absurd at
 own_call s r v t new reply.Memory u at q own refused call = absurd (no_posts rust.TheVariants.Memory u refused call)
-own_call s r v t new (reply.SourceFault f) u at q own refused call = absurd at
+own_call s r v t new other u at q own refused call = absurd at
 
 -- ---- from a call to the reply
 
@@ -132,52 +87,31 @@ look_told : {A : Type 0} (x : Shown) (r : Request) (v : Verdict) (t : Tasked) (t
 look_told x r v t reply.Start has is waits frames facts = tt
 look_told x r v t (reply.Looked None) has is waits frames facts = let k = has_record (state_of x) r v has in absurd (some_none (recorded (records_of x) (loader_of r) (name_of r)) k.0 k.1 is.shows)
 look_told x r v t (reply.Looked (Some row)) has is waits frames facts = (waits, frames, facts, has_of x r v row.value has is.tells)
-look_told x r v t (reply.Probed p) has is waits frames facts = is.fits
-look_told x r v t (reply.Defined row) has is waits frames facts = is.fits
-look_told x r v t (reply.Initiated row) has is waits frames facts = is.fits
-look_told x r v t (reply.Lineage l) has is waits frames facts = is.fits
 look_told x r v t (reply.LookedReference o) has is waits frames facts = absurd is.fits
-look_told x r v t (reply.Settled e) has is waits frames facts = is.fits
-look_told x r v t reply.Imposed has is waits frames facts = is.fits
 look_told x r v t (reply.LookedPrepared b) has is waits frames facts = absurd is.fits
-look_told x r v t reply.Marked has is waits frames facts = is.fits
 look_told x r v t (reply.Refused n) has is waits frames facts = absurd (none-some _ is.fits)
 look_told x r v t reply.Memory has is waits frames facts = tt
-look_told x r v t (reply.SourceFault f) has is waits frames facts = is.fits
+look_told x r v t other has is waits frames facts = is.fits
 
 reference_told : {A : Type 0} (x : Shown) (r : Request) (v : Verdict) (t : Tasked) (told : Reply A) (c : Class) (i : ℕ) → settled_to (state_of x).settled c i ≡ Some v → IsReplied x (LookingReference c i) told → AtHand (state_of x) r v t told
 reference_told x r v t reply.Start c i has is = tt
 reference_told x r v t (reply.Looked o) c i has is = absurd is.fits
-reference_told x r v t (reply.Probed p) c i has is = is.fits
-reference_told x r v t (reply.Defined row) c i has is = is.fits
-reference_told x r v t (reply.Initiated row) c i has is = is.fits
-reference_told x r v t (reply.Lineage l) c i has is = is.fits
 reference_told x r v t (reply.LookedReference None) c i has is = absurd (some_none (settled_to (state_of x).settled c i) v has is.shows)
 reference_told x r v t (reply.LookedReference (Some e)) c i has is = some_same (verdict_of e.value.verdict) v (sym is.tells.verdict ∙ has)
-reference_told x r v t (reply.Settled e) c i has is = is.fits
-reference_told x r v t reply.Imposed c i has is = is.fits
 reference_told x r v t (reply.LookedPrepared b) c i has is = absurd is.fits
-reference_told x r v t reply.Marked c i has is = is.fits
 reference_told x r v t (reply.Refused n) c i has is = absurd (none-some _ is.fits)
 reference_told x r v t reply.Memory c i has is = tt
-reference_told x r v t (reply.SourceFault f) c i has is = is.fits
+reference_told x r v t other c i has is = is.fits
 
 prepared_told : {A : Type 0} (x : Shown) (r : Request) (v : Verdict) (t : Tasked) (told : Reply A) (c : Class) → Contains (state_of x).prepared c → v ≡ IsLinked c → KnowsOne t → t.waits ≡ LookingPrepared c → IsReplied x (LookingPrepared c) told → AtHand (state_of x) r v t told
 prepared_told x r v t reply.Start c has linked knows waits is = tt
 prepared_told x r v t (reply.Looked o) c has linked knows waits is = absurd is.fits
-prepared_told x r v t (reply.Probed p) c has linked knows waits is = is.fits
-prepared_told x r v t (reply.Defined row) c has linked knows waits is = is.fits
-prepared_told x r v t (reply.Initiated row) c has linked knows waits is = is.fits
-prepared_told x r v t (reply.Lineage l) c has linked knows waits is = is.fits
 prepared_told x r v t (reply.LookedReference o) c has linked knows waits is = absurd is.fits
-prepared_told x r v t (reply.Settled e) c has linked knows waits is = is.fits
-prepared_told x r v t reply.Imposed c has linked knows waits is = is.fits
 prepared_told x r v t (reply.LookedPrepared true) c has linked knows waits is = (c, waits, linked, knows)
 prepared_told x r v t (reply.LookedPrepared false) c has linked knows waits is = absurd (is.shows has)
-prepared_told x r v t reply.Marked c has linked knows waits is = is.fits
 prepared_told x r v t (reply.Refused n) c has linked knows waits is = absurd (none-some _ is.fits)
 prepared_told x r v t reply.Memory c has linked knows waits is = tt
-prepared_told x r v t (reply.SourceFault f) c has linked knows waits is = is.fits
+prepared_told x r v t other c has linked knows waits is = is.fits
 
 -- ---- all the way
 
@@ -197,45 +131,24 @@ known_start old r t source = λ v has. record { same = refl; unread = refl; at =
 -- the call on that way changes nothing
 pub own_same : {A : Type 0} (s : State) (r : Request) (v : Verdict) (new : Tasked) (x y : Shown) (u : Turn A) → OwnCall s r v new u → Did x y (IsStepOf x u) → y ≡ x
 own_same s r v new x y u own (inl same) = same
-own_same s r v new x y (turn.Look l n) own (inr did) = absurd did.1
-own_same s r v new x y (turn.Read l n) own (inr did) = absurd did.1
 own_same s r v new x y (turn.Define d) own (inr did) = absurd own
 own_same s r v new x y (turn.Initiate h) own (inr did) = absurd own
-own_same s r v new x y (turn.Lineage c) own (inr did) = absurd did.1
-own_same s r v new x y (turn.LookReference c i) own (inr did) = absurd did.1
 own_same s r v new x y (turn.Settle f) own (inr did) = absurd own
 own_same s r v new x y (turn.Impose l k) own (inr did) = absurd own
-own_same s r v new x y (turn.LookPrepared c) own (inr did) = absurd did.1
 own_same s r v new x y (turn.Mark l) own (inr did) = absurd own
-own_same s r v new x y (turn.Post f) own (inr did) = absurd did.1
+own_same s r v new x y other own (inr did) = absurd did.1
 
 own_unread : {A : Type 0} (s : State) (r : Request) (v : Verdict) (new : Tasked) (u : Turn A) → OwnCall s r v new u → IsRead u → ⊥
-own_unread s r v new (turn.Look l n) own read = read
 own_unread s r v new (turn.Read l n) own read = own
-own_unread s r v new (turn.Define d) own read = read
-own_unread s r v new (turn.Initiate h) own read = read
-own_unread s r v new (turn.Lineage c) own read = read
-own_unread s r v new (turn.LookReference c i) own read = read
-own_unread s r v new (turn.Settle f) own read = read
-own_unread s r v new (turn.Impose l k) own read = read
-own_unread s r v new (turn.LookPrepared c) own read = read
-own_unread s r v new (turn.Mark l) own read = read
-own_unread s r v new (turn.Post f) own read = read
+own_unread s r v new other own read = read
 
 pub own_told : {A : Type 0} (x : Shown) (r : Request) (v : Verdict) (new : Tasked) (u : Turn A) (told : Reply A) → OwnCall (state_of x) r v new u → Has (state_of x) (request_of r) v → new.waits ≡ call_of u → IsReplied x (call_of u) told → AtHand (state_of x) r v new told
 own_told x r v new (turn.Look l n) told own has asks is =
     let w : Looking l n ≡ Looking (loader_of r) (name_of r) = rw (own.2, own.3) refl in
     look_told x r v new told has (subst (λ (k : Waits). IsReplied x k told) w is) (asks ∙ w) own.0 own.1
-own_told x r v new (turn.Read l n) told own has asks is = absurd own
-own_told x r v new (turn.Define d) told own has asks is = absurd own
-own_told x r v new (turn.Initiate h) told own has asks is = absurd own
-own_told x r v new (turn.Lineage c) told own has asks is = absurd own
 own_told x r v new (turn.LookReference c i) told own has asks is = reference_told x r v new told c i own is
-own_told x r v new (turn.Settle f) told own has asks is = absurd own
-own_told x r v new (turn.Impose l k) told own has asks is = absurd own
 own_told x r v new (turn.LookPrepared c) told own has asks is = prepared_told x r v new told c own.0 own.1 own.2 asks is
-own_told x r v new (turn.Mark l) told own has asks is = absurd own
-own_told x r v new (turn.Post f) told own has asks is = absurd own
+own_told x r v new other told own has asks is = absurd own
 
 -- after one call more
 pub known_on : {A S : Type 0} (old x y : Shown) (r : Request) (t new : Tasked) (told next : Reply A) (u : Turn A) (source since later : S) → Known old x r t told source since → t.request ≡ Some r → AnswersOwn t new told u → Refuses (refusal t told) u → IsCall u
@@ -263,22 +176,11 @@ class_says s (requests.Link loader name) c v A new f has goes = inr (ap answer_o
 
 pub post_says : {A : Type 0} (s : State) (r : Request) (v : Verdict) (t new : Tasked) (told : Reply A) (f : Answered) → AtHand s r v t told → t.request ≡ Some r → AnswersOwn {A = A} t new told (turn.Post f) → Refuses {A = A} (refusal t told) (turn.Post f) → SaysOrLacks v (answer_of f.answer)
 post_says s r v t new reply.Start f at q own refused = inr (ap answer_of own)
-post_says s r v t new (reply.Looked None) f at q own refused = absurd at
 post_says {A = A} s r v t new (reply.Looked (Some row)) f at q own refused = class_says s r row.value.class v A new f at.3 (own r q at.0 at.1 at.2)
-post_says s r v t new (reply.Probed p) f at q own refused = absurd at
-post_says s r v t new (reply.Defined row) f at q own refused = absurd at
-post_says s r v t new (reply.Initiated row) f at q own refused = absurd at
-post_says s r v t new (reply.Lineage l) f at q own refused = absurd at
-post_says s r v t new (reply.LookedReference None) f at q own refused = absurd at
 post_says s r v t new (reply.LookedReference (Some e)) f at q own refused = says v f.answer (rust.TheVariants.Shared e) (ap (λ (k : Verdict). Said k) at) own
-post_says s r v t new (reply.Settled e) f at q own refused = absurd at
-post_says s r v t new reply.Imposed f at q own refused = absurd at
 post_says s r v t new (reply.LookedPrepared true) f at q own refused = says v f.answer (rust.TheVariants.Said (verdicts.Linked at.0)) (ap (λ (k : Verdict). Said k) (sym at.2)) (own at.0 at.1 at.3)
-post_says s r v t new (reply.LookedPrepared false) f at q own refused = absurd at
-post_says s r v t new reply.Marked f at q own refused = absurd at
-post_says s r v t new (reply.Refused n) f at q own refused = absurd at
 post_says s r v t new reply.Memory f at q own refused = inr (ap answer_of refused)
-post_says s r v t new (reply.SourceFault k) f at q own refused = absurd at
+post_says s r v t new other f at q own refused = absurd at
 
 pub known_post : {A S : Type 0} (old x y : Shown) (q : ℕ) (r : Request) (t new : Tasked) (told : Reply A) (f : Answered) (source since : S) → Known old x r t told source since → t.request ≡ Some r → AnswersOwn {A = A} t new told (turn.Post f) → Refuses {A = A} (refusal t told) (turn.Post f)
     → y ≡ with_post x q f.answer → TellsKnown old y q r source since

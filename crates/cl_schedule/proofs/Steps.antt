@@ -14,7 +14,7 @@ use Rattle.cl_tasks.specs.Facts.{Holds}
 use Rattle.cl_tasks.specs.Follows.{Backed, BackedWhere, Follows, FollowsWhere, Refuses, ServedIn, Tells, TellsNow, TellsOf, Unrecorded, refusal}
 use Rattle.cl_tasks.specs.Tasks.{Tasked, begun}
 use Rattle.cl_tasks.specs.Turns.{AnswersOwn, Asks, Expects, IsReplyTo, Serves, call_of}
-use Rattle.cl_tasks.specs.Waits.{Waits, Beginning, Looking, Reading, Defining, Initiating, Tracing, LookingReference, Settling, Imposing, LookingPrepared, Marking, Ended}
+use Rattle.cl_tasks.specs.Waits.{Waits, Looking}
 use Rattle.cl_tasks.specs.declared.turn.Reply.{Reply}
 use Rattle.cl_tasks.specs.declared.turn.Reply.TheVariants as reply
 use Rattle.cl_tasks.specs.declared.turn.Turn.{Turn}
@@ -103,45 +103,13 @@ holds_did told x new u t (inl same) kept held = subst (λ (y : Shown). Holds y t
 holds_did told x new u t (inr did) kept held = holds_later told x new t (record { goes = goes_on_by x new did.0 did.2; kept = kept }) held
 
 pub unrecorded_of : {A : Type 0} (x : Shown) (w : Waits) (given : Reply A) → Shows x w given → Unrecorded x w given
-unrecorded_of x Beginning given shows = tt
-unrecorded_of x (Looking l n) reply.Start shows = tt
 unrecorded_of x (Looking l n) (reply.Looked None) shows = shows
-unrecorded_of x (Looking l n) (reply.Looked (Some row)) shows = tt
-unrecorded_of x (Looking l n) (reply.Probed p) shows = tt
-unrecorded_of x (Looking l n) (reply.Defined row) shows = tt
-unrecorded_of x (Looking l n) (reply.Initiated row) shows = tt
-unrecorded_of x (Looking l n) (reply.Lineage o) shows = tt
-unrecorded_of x (Looking l n) (reply.LookedReference o) shows = tt
-unrecorded_of x (Looking l n) (reply.Settled e) shows = tt
-unrecorded_of x (Looking l n) reply.Imposed shows = tt
-unrecorded_of x (Looking l n) (reply.LookedPrepared b) shows = tt
-unrecorded_of x (Looking l n) reply.Marked shows = tt
-unrecorded_of x (Looking l n) (reply.Refused need) shows = tt
-unrecorded_of x (Looking l n) reply.Memory shows = tt
-unrecorded_of x (Looking l n) (reply.SourceFault f) shows = tt
-unrecorded_of x (Reading l n) given shows = tt
-unrecorded_of x (Defining d) given shows = tt
-unrecorded_of x (Initiating h) given shows = tt
-unrecorded_of x (Tracing c) given shows = tt
-unrecorded_of x (LookingReference c i) given shows = tt
-unrecorded_of x (Settling r) given shows = tt
-unrecorded_of x (Imposing e k) given shows = tt
-unrecorded_of x (LookingPrepared c) given shows = tt
-unrecorded_of x (Marking e) given shows = tt
-unrecorded_of x Ended given shows = tt
+unrecorded_of x other another shows = tt
 
 pub serves_request : {A : Type 0} (t new : Tasked) (u : Turn A) → Serves t new u → IsCall u → new.request ≡ t.request
-serves_request t new (turn.Look l n) s call = s
-serves_request t new (turn.Read l n) s call = s
-serves_request t new (turn.Define d) s call = s
-serves_request t new (turn.Initiate h) s call = s
-serves_request t new (turn.Lineage c) s call = s
-serves_request t new (turn.LookReference c i) s call = s
 serves_request t new (turn.Settle f) s call = s.1
-serves_request t new (turn.Impose l k) s call = s
-serves_request t new (turn.LookPrepared c) s call = s
-serves_request t new (turn.Mark l) s call = s
 serves_request t new (turn.Post f) s call = absurd call
+serves_request t new other s call = s
 
 pub turning_on : {A S : Type 0} (told : Option Content) (old x new : Shown) (c : Configured) (r : Request) (t next : Tasked) (given more : Reply A) (u : Turn A) (count since after : ℕ) (source later last : S) → Turning told old x c r t given count since source later
     → TurnSays told t next given u → CallSays told x new u more since after later last → Turning told old new c r next more count after source last

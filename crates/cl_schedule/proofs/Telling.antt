@@ -1,5 +1,5 @@
 -- What a reply told stays so, wherever the registry goes on to (JVMS SE 8, 5.3 to 5.4.3).
-use Rattle.std.proofs.Common.{◌≡◌, ◌∙◌, ℕ, true, false, List, Option, Some, None, refl, sym, subst}
+use Rattle.std.proofs.Common.{◌≡◌, ◌∙◌, ℕ, true, List, Option, Some, None, refl, sym, subst}
 use Rattle.std.specs.Prelude.{option_map, slice_get, IfSome}
 use Rattle.cl_hierarchy.specs.Imposed.{Sprung, OfReference, OfPreparation, equal_need}
 use Rattle.cl_hierarchy.specs.Lineages.{rows_in}
@@ -17,7 +17,7 @@ use Rattle.cl_registry.specs.References.{Cited, IsSettledIn, cited_by}
 use Rattle.cl_registry.specs.Tables.{Shown, records_of, state_of}
 use Rattle.cl_tasks.specs.Follows.{IsSettledOf, Tells, TellsOf}
 use Rattle.cl_tasks.specs.Tasks.{Tasked}
-use Rattle.cl_tasks.specs.Waits.{Waits, Beginning, Looking, Reading, Defining, Initiating, Tracing, LookingReference, Settling, Imposing, LookingPrepared, Marking, Ended}
+use Rattle.cl_tasks.specs.Waits.{Waits, Looking, Defining, Initiating, Tracing, LookingReference, Settling, Imposing, LookingPrepared, Marking}
 use Rattle.cl_tasks.specs.declared.turn.Reply.{Reply}
 use Rattle.cl_tasks.specs.declared.turn.Reply.TheVariants as reply
 use Rattle.cl_schedule.specs.Seats.{GoesOn, IsAfter, IsCitedFor}
@@ -57,180 +57,18 @@ marked_later old new (OfPreparation l) h so = prepared_later old new l.own.class
 
 -- ---- each reply to each call
 
--- before the first call, of a read and behind the post, no reply but a refused need tells of the tables
-quiet_later : {A : Type 0} (told : Option Content) (old new : Shown) (given : Reply A) → IsAfter told old new → TellsOf old Beginning given → TellsOf new Beginning given
-quiet_later told old new reply.Start h so = tt
-quiet_later told old new (reply.Looked row) h so = tt
-quiet_later told old new (reply.Probed p) h so = tt
-quiet_later told old new (reply.Defined row) h so = tt
-quiet_later told old new (reply.Initiated row) h so = tt
-quiet_later told old new (reply.Lineage l) h so = tt
-quiet_later told old new (reply.LookedReference s) h so = tt
-quiet_later told old new (reply.Settled s) h so = tt
-quiet_later told old new reply.Imposed h so = tt
-quiet_later told old new (reply.LookedPrepared b) h so = tt
-quiet_later told old new reply.Marked h so = tt
-quiet_later told old new (reply.Refused need) h so = refused_goes told old new (need_of need) h.goes h.kept so
-quiet_later told old new reply.Memory h so = tt
-quiet_later told old new (reply.SourceFault f) h so = tt
-
 told_later : {A : Type 0} (told : Option Content) (old new : Shown) (w : Waits) (given : Reply A) → IsAfter told old new → IsCitedFor old w given → TellsOf old w given → TellsOf new w given
-told_later told old new Beginning given h cited so = quiet_later told old new given h so
-told_later told old new (Reading l n) given h cited so = quiet_later told old new given h so
-told_later told old new Ended given h cited so = quiet_later told old new given h so
-told_later told old new (Looking l n) reply.Start h cited so = tt
-told_later told old new (Looking l n) (reply.Looked None) h cited so = tt
 told_later told old new (Looking l n) (reply.Looked (Some row)) h cited so = recorded_as_later old new l n row.value h.goes so
-told_later told old new (Looking l n) (reply.Probed p) h cited so = tt
-told_later told old new (Looking l n) (reply.Defined row) h cited so = tt
-told_later told old new (Looking l n) (reply.Initiated row) h cited so = tt
-told_later told old new (Looking l n) (reply.Lineage o) h cited so = tt
-told_later told old new (Looking l n) (reply.LookedReference None) h cited so = tt
-told_later told old new (Looking l n) (reply.LookedReference (Some s)) h cited so = tt
-told_later told old new (Looking l n) (reply.Settled s) h cited so = tt
-told_later told old new (Looking l n) reply.Imposed h cited so = tt
-told_later told old new (Looking l n) (reply.LookedPrepared true) h cited so = tt
-told_later told old new (Looking l n) (reply.LookedPrepared false) h cited so = tt
-told_later told old new (Looking l n) reply.Marked h cited so = tt
-told_later told old new (Looking l n) (reply.Refused need) h cited so = refused_goes told old new (need_of need) h.goes h.kept so
-told_later told old new (Looking l n) reply.Memory h cited so = tt
-told_later told old new (Looking l n) (reply.SourceFault f) h cited so = tt
-told_later told old new (Defining d) reply.Start h cited so = tt
-told_later told old new (Defining d) (reply.Looked None) h cited so = tt
-told_later told old new (Defining d) (reply.Looked (Some row)) h cited so = tt
-told_later told old new (Defining d) (reply.Probed p) h cited so = tt
 told_later told old new (Defining d) (reply.Defined row) h cited so = recorded_as_later old new d.class.loader d.class.name row.value h.goes so
-told_later told old new (Defining d) (reply.Initiated row) h cited so = tt
-told_later told old new (Defining d) (reply.Lineage l) h cited so = tt
-told_later told old new (Defining d) (reply.LookedReference None) h cited so = tt
-told_later told old new (Defining d) (reply.LookedReference (Some s)) h cited so = tt
-told_later told old new (Defining d) (reply.Settled s) h cited so = tt
-told_later told old new (Defining d) reply.Imposed h cited so = tt
-told_later told old new (Defining d) (reply.LookedPrepared true) h cited so = tt
-told_later told old new (Defining d) (reply.LookedPrepared false) h cited so = tt
-told_later told old new (Defining d) reply.Marked h cited so = tt
-told_later told old new (Defining d) (reply.Refused need) h cited so = refused_goes told old new (need_of need) h.goes h.kept so
-told_later told old new (Defining d) reply.Memory h cited so = tt
-told_later told old new (Defining d) (reply.SourceFault f) h cited so = tt
-told_later told old new (Initiating j) reply.Start h cited so = tt
-told_later told old new (Initiating j) (reply.Looked None) h cited so = tt
-told_later told old new (Initiating j) (reply.Looked (Some row)) h cited so = tt
-told_later told old new (Initiating j) (reply.Probed p) h cited so = tt
-told_later told old new (Initiating j) (reply.Defined row) h cited so = tt
 told_later told old new (Initiating j) (reply.Initiated row) h cited so = recorded_as_later old new j.asked j.name row.value h.goes so
-told_later told old new (Initiating j) (reply.Lineage l) h cited so = tt
-told_later told old new (Initiating j) (reply.LookedReference None) h cited so = tt
-told_later told old new (Initiating j) (reply.LookedReference (Some s)) h cited so = tt
-told_later told old new (Initiating j) (reply.Settled s) h cited so = tt
-told_later told old new (Initiating j) reply.Imposed h cited so = tt
-told_later told old new (Initiating j) (reply.LookedPrepared true) h cited so = tt
-told_later told old new (Initiating j) (reply.LookedPrepared false) h cited so = tt
-told_later told old new (Initiating j) reply.Marked h cited so = tt
-told_later told old new (Initiating j) (reply.Refused need) h cited so = refused_goes told old new (need_of need) h.goes h.kept so
-told_later told old new (Initiating j) reply.Memory h cited so = tt
-told_later told old new (Initiating j) (reply.SourceFault f) h cited so = tt
-told_later told old new (Tracing c) reply.Start h cited so = tt
-told_later told old new (Tracing c) (reply.Looked None) h cited so = tt
-told_later told old new (Tracing c) (reply.Looked (Some row)) h cited so = tt
-told_later told old new (Tracing c) (reply.Probed p) h cited so = tt
-told_later told old new (Tracing c) (reply.Defined row) h cited so = tt
-told_later told old new (Tracing c) (reply.Initiated row) h cited so = tt
 told_later told old new (Tracing c) (reply.Lineage l) h cited so = record { config = so.config ∙ sym h.goes.config; class = so.class; rows = rows_later old new h.goes (rows_in l.value) so.rows }
-told_later told old new (Tracing c) (reply.LookedReference None) h cited so = tt
-told_later told old new (Tracing c) (reply.LookedReference (Some s)) h cited so = tt
-told_later told old new (Tracing c) (reply.Settled s) h cited so = tt
-told_later told old new (Tracing c) reply.Imposed h cited so = tt
-told_later told old new (Tracing c) (reply.LookedPrepared true) h cited so = tt
-told_later told old new (Tracing c) (reply.LookedPrepared false) h cited so = tt
-told_later told old new (Tracing c) reply.Marked h cited so = tt
-told_later told old new (Tracing c) (reply.Refused need) h cited so = refused_goes told old new (need_of need) h.goes h.kept so
-told_later told old new (Tracing c) reply.Memory h cited so = tt
-told_later told old new (Tracing c) (reply.SourceFault f) h cited so = tt
-told_later told old new (LookingReference c i) reply.Start h cited so = tt
-told_later told old new (LookingReference c i) (reply.Looked None) h cited so = tt
-told_later told old new (LookingReference c i) (reply.Looked (Some row)) h cited so = tt
-told_later told old new (LookingReference c i) (reply.Probed p) h cited so = tt
-told_later told old new (LookingReference c i) (reply.Defined row) h cited so = tt
-told_later told old new (LookingReference c i) (reply.Initiated row) h cited so = tt
-told_later told old new (LookingReference c i) (reply.Lineage l) h cited so = tt
-told_later told old new (LookingReference c i) (reply.LookedReference None) h cited so = tt
 told_later told old new (LookingReference c i) (reply.LookedReference (Some s)) h cited so = settled_in_later old new c i s.value h.goes so
-told_later told old new (LookingReference c i) (reply.Settled s) h cited so = tt
-told_later told old new (LookingReference c i) reply.Imposed h cited so = tt
-told_later told old new (LookingReference c i) (reply.LookedPrepared true) h cited so = tt
-told_later told old new (LookingReference c i) (reply.LookedPrepared false) h cited so = tt
-told_later told old new (LookingReference c i) reply.Marked h cited so = tt
-told_later told old new (LookingReference c i) (reply.Refused need) h cited so = refused_goes told old new (need_of need) h.goes h.kept so
-told_later told old new (LookingReference c i) reply.Memory h cited so = tt
-told_later told old new (LookingReference c i) (reply.SourceFault f) h cited so = tt
-told_later told old new (Settling r) reply.Start h cited so = tt
-told_later told old new (Settling r) (reply.Looked None) h cited so = tt
-told_later told old new (Settling r) (reply.Looked (Some row)) h cited so = tt
-told_later told old new (Settling r) (reply.Probed p) h cited so = tt
-told_later told old new (Settling r) (reply.Defined row) h cited so = tt
-told_later told old new (Settling r) (reply.Initiated row) h cited so = tt
-told_later told old new (Settling r) (reply.Lineage l) h cited so = tt
-told_later told old new (Settling r) (reply.LookedReference None) h cited so = tt
-told_later told old new (Settling r) (reply.LookedReference (Some s)) h cited so = tt
 told_later told old new (Settling r) (reply.Settled s) h cited so = settled_of_later old new r s.value h.goes cited so
-told_later told old new (Settling r) reply.Imposed h cited so = tt
-told_later told old new (Settling r) (reply.LookedPrepared true) h cited so = tt
-told_later told old new (Settling r) (reply.LookedPrepared false) h cited so = tt
-told_later told old new (Settling r) reply.Marked h cited so = tt
-told_later told old new (Settling r) (reply.Refused need) h cited so = refused_goes told old new (need_of need) h.goes h.kept so
-told_later told old new (Settling r) reply.Memory h cited so = tt
-told_later told old new (Settling r) (reply.SourceFault f) h cited so = tt
-told_later told old new (Imposing e k) reply.Start h cited so = tt
-told_later told old new (Imposing e k) (reply.Looked None) h cited so = tt
-told_later told old new (Imposing e k) (reply.Looked (Some row)) h cited so = tt
-told_later told old new (Imposing e k) (reply.Probed p) h cited so = tt
-told_later told old new (Imposing e k) (reply.Defined row) h cited so = tt
-told_later told old new (Imposing e k) (reply.Initiated row) h cited so = tt
-told_later told old new (Imposing e k) (reply.Lineage l) h cited so = tt
-told_later told old new (Imposing e k) (reply.LookedReference None) h cited so = tt
-told_later told old new (Imposing e k) (reply.LookedReference (Some s)) h cited so = tt
-told_later told old new (Imposing e k) (reply.Settled s) h cited so = tt
 told_later told old new (Imposing e k) reply.Imposed h cited so = imposed_later old new (slice_get e.needs k) h.goes so
-told_later told old new (Imposing e k) (reply.LookedPrepared true) h cited so = tt
-told_later told old new (Imposing e k) (reply.LookedPrepared false) h cited so = tt
-told_later told old new (Imposing e k) reply.Marked h cited so = tt
-told_later told old new (Imposing e k) (reply.Refused need) h cited so = refused_goes told old new (need_of need) h.goes h.kept so
-told_later told old new (Imposing e k) reply.Memory h cited so = tt
-told_later told old new (Imposing e k) (reply.SourceFault f) h cited so = tt
-told_later told old new (LookingPrepared c) reply.Start h cited so = tt
-told_later told old new (LookingPrepared c) (reply.Looked None) h cited so = tt
-told_later told old new (LookingPrepared c) (reply.Looked (Some row)) h cited so = tt
-told_later told old new (LookingPrepared c) (reply.Probed p) h cited so = tt
-told_later told old new (LookingPrepared c) (reply.Defined row) h cited so = tt
-told_later told old new (LookingPrepared c) (reply.Initiated row) h cited so = tt
-told_later told old new (LookingPrepared c) (reply.Lineage l) h cited so = tt
-told_later told old new (LookingPrepared c) (reply.LookedReference None) h cited so = tt
-told_later told old new (LookingPrepared c) (reply.LookedReference (Some s)) h cited so = tt
-told_later told old new (LookingPrepared c) (reply.Settled s) h cited so = tt
-told_later told old new (LookingPrepared c) reply.Imposed h cited so = tt
 told_later told old new (LookingPrepared c) (reply.LookedPrepared true) h cited so = prepared_later old new c h.goes so
-told_later told old new (LookingPrepared c) (reply.LookedPrepared false) h cited so = tt
-told_later told old new (LookingPrepared c) reply.Marked h cited so = tt
-told_later told old new (LookingPrepared c) (reply.Refused need) h cited so = refused_goes told old new (need_of need) h.goes h.kept so
-told_later told old new (LookingPrepared c) reply.Memory h cited so = tt
-told_later told old new (LookingPrepared c) (reply.SourceFault f) h cited so = tt
-told_later told old new (Marking e) reply.Start h cited so = tt
-told_later told old new (Marking e) (reply.Looked None) h cited so = tt
-told_later told old new (Marking e) (reply.Looked (Some row)) h cited so = tt
-told_later told old new (Marking e) (reply.Probed p) h cited so = tt
-told_later told old new (Marking e) (reply.Defined row) h cited so = tt
-told_later told old new (Marking e) (reply.Initiated row) h cited so = tt
-told_later told old new (Marking e) (reply.Lineage l) h cited so = tt
-told_later told old new (Marking e) (reply.LookedReference None) h cited so = tt
-told_later told old new (Marking e) (reply.LookedReference (Some s)) h cited so = tt
-told_later told old new (Marking e) (reply.Settled s) h cited so = tt
-told_later told old new (Marking e) reply.Imposed h cited so = tt
-told_later told old new (Marking e) (reply.LookedPrepared true) h cited so = tt
-told_later told old new (Marking e) (reply.LookedPrepared false) h cited so = tt
 told_later told old new (Marking e) reply.Marked h cited so = marked_later old new e.origin h.goes so
-told_later told old new (Marking e) (reply.Refused need) h cited so = refused_goes told old new (need_of need) h.goes h.kept so
-told_later told old new (Marking e) reply.Memory h cited so = tt
-told_later told old new (Marking e) (reply.SourceFault f) h cited so = tt
+told_later told old new waits (reply.Refused need) h cited so = refused_goes told old new (need_of need) h.goes h.kept so
+told_later told old new waits other h cited so = tt
 
 pub tells_later : {A : Type 0} (told : Option Content) (old new : Shown) (t : Tasked) (given : Reply A) → IsAfter told old new → IsCitedFor old t.waits given → Tells old t given → Tells new t given
 tells_later told old new t given h cited tells = record { before = holds_later told old new t h tells.before; now = told_later told old new t.waits given h cited tells.now }

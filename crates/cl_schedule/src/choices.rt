@@ -23,7 +23,6 @@ use std::sync::Arc;
 /// What is served of a script: of each request that was begun and has no answer its task and its call, and who waits.
 ///
 /// Tasks and calls are apart, since a vector of both together is more than the checker follows where it is dropped.
-#[derive(Drop)]
 struct Room<T: Told> {
     tasks: Vec<Option<Task<T>>>,
     calls: Vec<Option<Turn<T>>>,
@@ -31,6 +30,17 @@ struct Room<T: Told> {
     waiting: VecDeque<u32>,
     /// The requests from this number on are of later rounds.
     next: usize,
+}
+
+impl<T: Told> Drop for Room<T> {
+    fn drop(self) {
+        let Room {
+            tasks: _,
+            calls: _,
+            waiting: _,
+            next: _,
+        } = self;
+    }
 }
 
 impl<T: Told> Room<T> {

@@ -12,17 +12,8 @@ use Rattle.cl_schedule.proofs.seats.advance.Goals as goal
 
 -- a turn that is no post asks for a call
 is_call : {A : Type 0} (u : Turn A) → ((f : Answered) → u ≡ turn.Post f → ⊥) → IsCall u
-is_call (turn.Look l n) other = tt
-is_call (turn.Read l n) other = tt
-is_call (turn.Define d) other = tt
-is_call (turn.Initiate h) other = tt
-is_call (turn.Lineage c) other = tt
-is_call (turn.LookReference c i) other = tt
-is_call (turn.Settle f) other = tt
-is_call (turn.Impose l k) other = tt
-is_call (turn.LookPrepared c) other = tt
-is_call (turn.Mark l) other = tt
-is_call (turn.Post f) other = other f refl
+is_call (turn.Post f) unposted = unposted f refl
+is_call other unposted = tt
 
 pub returns-in-Ok-clause-turned : goal.returns-in-Ok-clause-turned
 returns-in-Ok-clause-turned g c =

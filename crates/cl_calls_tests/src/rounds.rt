@@ -119,11 +119,15 @@ const HISTORY: [Step; 5] = [
 
 /// Whether a report has just this history, and says of each request that memory ran out.
 fn is_wanted(report: &Report) -> bool {
-    are_steps(report.history.events(), &HISTORY)
-        && matches!(
-            report.answers.as_slice(),
-            [Answer::Memory, Answer::Memory, Answer::Memory]
-        )
+    are_steps(report.history.events(), &HISTORY) && are_memory(report.answers.as_slice())
+}
+
+/// Whether these are three answers, each that memory ran out.
+fn are_memory(answers: &[Answer]) -> bool {
+    answers.len() == 3
+        && answers
+            .iter()
+            .all(|answer| matches!(answer, Answer::Memory))
 }
 
 /// Whether the tables have the report that is wanted.

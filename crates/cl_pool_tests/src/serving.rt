@@ -204,7 +204,7 @@ fn are_constrained(answers: &[Answer]) -> bool {
         [
             _,
             Answer::Said(Verdict::Class(class)),
-            Answer::Said(Verdict::Linkage(_)),
+            Answer::Said(Verdict::Linkage(_refused)),
         ] => { is_class(class, APP, T) }
         _ => false,
     }

@@ -237,6 +237,9 @@ def public_functions(folder):
             if it.is_empty or it.is_meaning:
                 continue
             trait, of_type = of_head(it.head) if it.head else ("", "")
+            # a Drop without clauses promises no more than a derived one
+            if trait == "Drop" and not CLAUSE.search(text, text.rfind("fn", 0, it.opens), it.opens):
+                continue
             if it.head.startswith("trait"):
                 is_reached = False
             elif trait:

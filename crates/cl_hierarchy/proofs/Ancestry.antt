@@ -1,6 +1,5 @@
 -- The tree of rows, each of which stands after its direct supertypes: what later rows leave of it, and whose kin a row's is.
 use Rattle.std.proofs.Common.{◌≡◌, ◌∙◌, Bool, true, false, if◌then◌else◌, List, [], ◌∷◌, ◌++◌, Option, Some, None, is_some, refl, sym, ap, subst}
-use Rattle.std.specs.List.{AllByRecursion}
 use Rattle.cl_classfile.specs.Files.{file_of}
 use Rattle.cl_model.specs.declared.class.Class.{Class}
 use Rattle.cl_model.specs.Classes.{same_class}
@@ -8,7 +7,7 @@ use Rattle.cl_model.specs.Lineages.{Forest, Kin}
 use Rattle.cl_model.proofs.Ancestors.{same_self}
 use Rattle.cl_model.proofs.Complete.{is_class}
 use Rattle.cl_hierarchy.specs.Rows.{Rowed}
-use Rattle.cl_hierarchy.specs.Trees.{AllKnown, IsAfter, SupersBefore, forest, in_front, interfaces_in, kin_named, kin_under, kins_after, kins, superclass_in}
+use Rattle.cl_hierarchy.specs.Trees.{AllKnown, SupersBefore, forest, in_front, interfaces_in, kin_named, kin_under, kins_after, superclass_in}
 use Rattle.cl_hierarchy.specs.Lineages.{row_of}
 
 pub kins_push : (known : List Kin) (rows : List Rowed) (r : Rowed) → kins_after known (rows ++ r ∷ []) ≡ kin_under (kins_after known rows) r ∷ kins_after known rows

@@ -1,8 +1,8 @@
 -- Needs that stand for all of a list (JVMS SE 8, 5.3.4, 5.4.2).
-use Rattle.std.proofs.Common.{◌≡◌, ℕ, zero, suc, List, [], ◌∷◌, ◌++◌, refl, subst, arith}
+use Rattle.std.proofs.Common.{zero, suc, List, [], ◌∷◌, refl, subst, arith}
 use Rattle.std.specs.List.{AllByRecursion, Contains}
 use Rattle.std.proofs.lemmas.List.Elements.{Contains-append_left, Contains-append_right}
-use Rattle.cl_model.specs.States.{AllMet, IsNext, Met, Need, State}
+use Rattle.cl_model.specs.States.{AllMet, Met, Need, State}
 use Rattle.cl_hierarchy.specs.Imposed.{AreEnough}
 
 -- a list stands for itself

@@ -6,9 +6,9 @@ use Rattle.cl_model.specs.Classes.{same_class}
 use Rattle.cl_model.specs.Lineages.{Kin}
 use Rattle.cl_hierarchy.specs.Lineages.{IsInOrder, IsRowIn, Lined, kin_at, row_of, rows_in}
 use Rattle.cl_hierarchy.specs.Rows.{Rowed}
-use Rattle.cl_hierarchy.specs.Trees.{AllKnown, SupersBefore, interfaces_in, kin_under, kins, kins_after, superclass_in}
+use Rattle.cl_hierarchy.specs.Trees.{AllKnown, SupersBefore, interfaces_in, kin_under, kins, superclass_in}
 use Rattle.cl_hierarchy.proofs.Ancestry.{kin_stays, row_kin}
-use Rattle.cl_hierarchy.proofs.Climbs.{kins_both, own_row, row_more}
+use Rattle.cl_hierarchy.proofs.Climbs.{kins_both, row_more}
 use Rattle.cl_hierarchy.proofs.RowTables.{before_push}
 
 row_none : (xs ys : List Rowed) (c : Class) → row_of xs c ≡ None → row_of (xs ++ ys) c ≡ row_of ys c
@@ -56,8 +56,8 @@ if_both P Q R (Ok a) f h g = f a h g
 if_both P Q R (Err e) f h g = tt
 
 -- the rows of the table are those of the lineage
-pub table_is : (l inside : Lined) (table above : List Rowed) → inside ≡ l → table ≡ above ++ inside.own ∷ [] → above ≡ inside.above → table ≡ rows_in l
-table_is l inside table above same e f = e ∙ ap (λ (rs : List Rowed). rs ++ inside.own ∷ []) f ∙ ap (λ (x : Lined). rows_in x) same
+pub table_at : (l : Lined) (table above : List Rowed) (own : Rowed) → table ≡ above ++ own ∷ [] → above ≡ l.above → own ≡ l.own → table ≡ rows_in l
+table_at l table above own e f o = e ∙ ap (λ (rs : List Rowed). rs ++ own ∷ []) f ∙ ap (λ (r : Rowed). l.above ++ r ∷ []) o
 
 module _ (l inside : Lined) (table : List Rowed) (same : inside ≡ l) (h : IsInOrder inside) (e : table ≡ rows_in l) where
   order : IsInOrder l

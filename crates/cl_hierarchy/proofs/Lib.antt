@@ -1,18 +1,20 @@
 pub mod Ancestry
-pub mod Away
 pub mod Climbs
 pub mod Counted
+pub mod Cuts
 pub mod Drafting
 pub mod Ends
 pub mod Enough
 pub mod Frames
-pub mod Fronts
 pub mod Inside
+pub mod Ladders
+pub mod Namings
 pub mod Paths
 pub mod Placed
 pub mod Placings
 pub mod RowIndex
 pub mod RowTables
+pub mod Rungs
 pub mod Scans
 pub mod Spelling
 pub mod Stages
@@ -21,3 +23,4 @@ pub mod Stems
 pub mod Tables
 pub mod Told
 pub mod Tours
+pub mod Ways

@@ -1,13 +1,13 @@
 -- The rows of a row's superinterfaces, by their places.
-use Rattle.std.proofs.Common.{◌≡◌, ◌∙◌, ℕ, suc, zero, List, [], ◌∷◌, Option, Some, None, Result, Ok, Err, IfOk, map, refl, sym, ap, subst}
+use Rattle.std.proofs.Common.{◌≡◌, ◌∙◌, ℕ, suc, zero, List, [], ◌∷◌, Option, Some, None, Result, Ok, Err, IfOk, map, refl, sym, ap}
 use Rattle.std.specs.Prelude.{slice_get, option_and_then}
 use Rattle.cl_classfile.specs.Files.{Name, file_of}
 use Rattle.cl_classfile.specs.Structure.{Structure}
 use Rattle.cl_model.specs.declared.class.Class.{Class}
-use Rattle.cl_model.specs.Classes.{class, Above, AsSuperinterface, superinterfaces_of}
+use Rattle.cl_model.specs.Classes.{class, AsSuperinterface}
 use Rattle.cl_hierarchy.specs.Frames.{accepted_of}
 use Rattle.cl_hierarchy.specs.Rows.{Rowed}
-use Rattle.cl_hierarchy.specs.Trees.{interface_places, interfaces_in}
+use Rattle.cl_hierarchy.specs.Trees.{interface_places}
 use Rattle.cl_hierarchy.specs.Lineages.{row_of}
 use Rattle.cl_hierarchy.specs.Tours.{interface_row}
 

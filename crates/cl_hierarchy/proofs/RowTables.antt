@@ -1,17 +1,16 @@
 -- Rows in the order in which their classes were defined stand each after its direct supertypes, and make lineages.
-use Rattle.std.proofs.Common.{◌≡◌, ◌∙◌, ℕ, Bool, true, false, if◌then◌else◌, List, [], ◌∷◌, ◌++◌, Option, Some, None, drop, is_some, length, append_assoc, refl, sym, ap, subst}
+use Rattle.std.proofs.Common.{◌≡◌, ◌∙◌, ℕ, Bool, true, false, if◌then◌else◌, List, [], ◌∷◌, ◌++◌, Option, Some, drop, is_some, length, append_assoc, refl, sym, ap, subst}
 use Rattle.std.specs.List.{AllByRecursion}
 use Rattle.cl_classfile.specs.Files.{file_of}
 use Rattle.cl_model.specs.declared.class.Class.{Class}
 use Rattle.cl_model.specs.Content.{Content}
-use Rattle.cl_model.specs.Classes.{class, Above, same_class, superclass_of, superinterfaces_of, supers}
-use Rattle.cl_model.specs.Lineages.{Forest, IsAbove, IsLineage, Kin, StandsFor}
+use Rattle.cl_model.specs.Classes.{class, Above, same_class, superclass_of, superinterfaces_of}
+use Rattle.cl_model.specs.Lineages.{Forest, IsLineage, Kin, StandsFor}
 use Rattle.cl_config.specs.Views.{Configured}
 use Rattle.cl_delegation.specs.Worlds.{world_of}
 use Rattle.cl_hierarchy.specs.Frames.{accepted_of}
 use Rattle.cl_hierarchy.specs.Rows.{Rowed}
-use Rattle.cl_hierarchy.specs.Trees.{AllKnown, IsAfter, SupersBefore, forest, in_front, interfaces_in, kin_named, kin_under, kins, kins_after, superclass_in}
-use Rattle.cl_hierarchy.specs.Lineages.{row_of}
+use Rattle.cl_hierarchy.specs.Trees.{AllKnown, IsAfter, SupersBefore, forest, in_front, kin_named, kin_under, kins, kins_after}
 use Rattle.cl_hierarchy.specs.RowTables.{AreRows, AreRowsAfter, IsRowAfter, StandAbove, StandsAbove}
 use Rattle.cl_hierarchy.proofs.Ancestry.{kins_push, no_row, row_kin}
 

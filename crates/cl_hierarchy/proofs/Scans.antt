@@ -1,5 +1,5 @@
 -- A scan of rows from the last: where the row of a class stands.
-use Rattle.std.proofs.Common.{◌≡◌, ◌∙◌, ◌+◌, ◌≤◌, arith, length, length-append, Bool, true, false, List, [], ◌∷◌, ◌++◌, Option, Some, None, map, append_assoc, append-nil, refl, sym, ap}
+use Rattle.std.proofs.Common.{◌≡◌, ◌∙◌, ◌+◌, ◌≤◌, arith, length, length-append, Bool, true, false, List, [], ◌∷◌, ◌++◌, Some, None, map, append_assoc, append-nil, refl, sym, ap}
 use Rattle.std.proofs.lemmas.List.{map_push}
 use Rattle.cl_model.specs.declared.class.Class.{Class}
 use Rattle.cl_model.specs.Classes.{same_class}

@@ -1,12 +1,12 @@
 -- What holds of a tour between two steps.
-use Rattle.std.proofs.Common.{◌≡◌, ◌∙◌, ◌⊎◌, inl, inr, ℕ, suc, zero, ◌+◌, ◌*◌, ◌<◌, ◌≤◌, arith, Bool, true, false, ◌||◌, if◌then◌else◌, List, [], ◌∷◌, ◌++◌, Option, Some, None, append_assoc, append-nil, drop, is_some, map, refl, sym, ap, subst}
+use Rattle.std.proofs.Common.{◌≡◌, ◌∙◌, ◌⊎◌, inl, inr, ℕ, suc, zero, ◌+◌, ◌*◌, ◌<◌, ◌≤◌, arith, Bool, true, false, if◌then◌else◌, List, [], ◌∷◌, ◌++◌, Option, Some, None, append_assoc, append-nil, drop, is_some, map, refl, sym, ap, subst}
 use Rattle.std.specs.Prelude.{slice_get, option_and_then, option_to_list}
 use Rattle.std.specs.List.{AllByRecursion}
 use Rattle.std.proofs.lemmas.List.{map_push}
 use Rattle.cl_classfile.specs.Files.{Name, file_of}
 use Rattle.cl_model.specs.declared.class.Class.{Class}
-use Rattle.cl_model.specs.Classes.{Above, AsSuperclass, same_class, is_among}
-use Rattle.cl_model.specs.Lineages.{Forest, Bare, Tree, Kin, alone, classes, once}
+use Rattle.cl_model.specs.Classes.{AsSuperclass, is_among}
+use Rattle.cl_model.specs.Lineages.{Forest, Bare, Kin, alone, classes, once}
 use Rattle.cl_model.proofs.Ancestors.{Within}
 use Rattle.cl_model.proofs.Closed.{all_left, all_right}
 use Rattle.cl_model.proofs.Derived.{all_both}

@@ -14,7 +14,7 @@ use Rattle.cl_hierarchy.specs.Rows.{Rowed}
 use Rattle.cl_hierarchy.specs.Stems.{SharesSuperinterfaces}
 use Rattle.cl_hierarchy.specs.declared.tour.Order.TheVariants as orders
 use Rattle.cl_hierarchy.specs.Tours.{stops, told_at}
-use Rattle.cl_hierarchy.specs.Trees.{SupersBefore, forest, in_front, interfaces_in, kin_named, kin_under, kins, superclass_in}
+use Rattle.cl_hierarchy.specs.Trees.{SupersBefore, forest, in_front, kin_named, kin_under, kins, superclass_in}
 use Rattle.cl_hierarchy.proofs.Ancestry.{kin_stays, row_kin}
 use Rattle.cl_hierarchy.proofs.Climbs.{before_split, kins_both, placed_kin, placed_row, row_more}
 use Rattle.cl_hierarchy.proofs.Tours.{superinterfaces_told}

@@ -1,7 +1,6 @@
 -- What a tour tells, and what is left of it from step to step.
-use Rattle.std.proofs.Common.{◌≡◌, ◌∙◌, ◌⊎◌, inl, inr, ℕ, suc, Bool, true, false, ◌||◌, if◌then◌else◌, List, [], ◌∷◌, ◌++◌, Option, Some, None, append_assoc, append-nil, drop, map, refl, sym, ap, subst}
+use Rattle.std.proofs.Common.{◌≡◌, ◌∙◌, ◌⊎◌, inl, inr, Bool, true, false, ◌||◌, if◌then◌else◌, List, [], ◌∷◌, ◌++◌, Some, append_assoc, append-nil, map, refl, sym, ap, subst}
 use Rattle.std.proofs.lemmas.Bool.{or_left, or_right}
-use Rattle.std.specs.List.{AllByRecursion}
 use Rattle.std.proofs.lemmas.List.{map_push}
 use Rattle.cl_model.specs.declared.class.Class.{Class}
 use Rattle.cl_model.specs.Classes.{same_class, is_among}
@@ -13,7 +12,7 @@ use Rattle.cl_hierarchy.specs.declared.tour.Order.TheVariants as orders
 use Rattle.cl_hierarchy.specs.Lineages.{field_order, upwards}
 use Rattle.cl_hierarchy.specs.Rows.{Rowed}
 use Rattle.cl_hierarchy.specs.Trees.{kin_named, kin_under}
-use Rattle.cl_hierarchy.specs.Tours.{Comes, Leaves, Stop, between, inner, stops, tells, tells_before, told_at, up_first, wants_up, with_class, with_row}
+use Rattle.cl_hierarchy.specs.Tours.{Comes, Leaves, Stop, between, inner, stops, tells, told_at, up_first, wants_up, with_class, with_row}
 
 -- ---- the orders of the definitions
 

@@ -1,9 +1,11 @@
+pub mod Above
 pub mod DraftReads
 pub mod Drafts
 pub mod Frames
 pub mod Fronts
 pub mod Imposed
 pub mod Kept
+pub mod Ladders
 pub mod Lineages
 pub mod Paths
 pub mod Places
@@ -15,3 +17,4 @@ pub mod Stems
 pub mod Supertypes
 pub mod Tours
 pub mod Trees
+pub mod Ways

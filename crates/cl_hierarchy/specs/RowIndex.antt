@@ -1,5 +1,5 @@
 -- Rows by their classes.
-use Rattle.std.specs.Prelude.{◌≡◌, List, Option}
+use Rattle.std.specs.Prelude.{◌≡◌, List}
 use Rattle.std.specs.Map.{lookup}
 use Rattle.std.specs.Option.{option_map}
 use Rattle.cl_model.specs.declared.class.Class.{Class}

@@ -1,29 +1,9 @@
 -- Tours through all that stands above a class, and what of one is left
 -- (JVMS SE 8, 5.3.5, 5.4.3.2, 5.4.3.3).
-use Rattle.std.specs.Prelude.{
-  ◌≡◌,
-  ℕ,
-  ◌+◌,
-  ◌*◌,
-  Bool,
-  true,
-  false,
-  if◌then◌else◌,
-  List,
-  [],
-  ◌∷◌,
-  ◌++◌,
-  Option,
-  Some,
-  None,
-  drop,
-  map,
-  slice_get,
-  option_and_then,
-}
+use Rattle.std.specs.Prelude.{ℕ, ◌+◌, ◌*◌, Bool, true, false, if◌then◌else◌, List, [], ◌∷◌, ◌++◌, Option, Some, None, drop, map, slice_get, option_and_then}
 use Rattle.cl_model.specs.declared.class.Class.{Class}
 use Rattle.cl_model.specs.Classes.{is_among}
-use Rattle.cl_model.specs.Lineages.{Forest, Bare, Tree, Kin, alone, classes}
+use Rattle.cl_model.specs.Lineages.{Forest, Bare, Tree, Kin, alone}
 use Rattle.cl_hierarchy.specs.declared.tour.Order.{Order}
 use Rattle.cl_hierarchy.specs.declared.tour.Order.TheVariants as orders
 use Rattle.cl_hierarchy.specs.declared.tour.Task.{Task}

@@ -4,7 +4,6 @@ ghost use Rattle.std.specs.Prelude.{◌≡◌, ◌<◌, length, map, IfSome};
 ghost use Rattle.std.specs.Option.{option_map};
 ghost use Rattle.cl_model.specs.Classes.{class, same_class};
 ghost use Rattle.cl_model.specs.Lineages.{first, upward};
-ghost use Rattle.cl_hierarchy.specs.Fronts.{IsNextOnStem};
 ghost use Rattle.cl_hierarchy.specs.Places.{IsPlace};
 ghost use Rattle.cl_hierarchy.specs.Trees.{forest, kin_named, kin_under, kins, superclass_in};
 
@@ -43,14 +42,10 @@ fn row_named<'a, T: Told>(
 }
 
 /// The row of the superclass of a row, among rows each of which stands after its direct supertypes, with those before it.
-/// Where the row stands right behind these on a stem, which begins at the place that is told, it is the last of them, and no
-/// name is compared.
 pub(crate) fn superclass_row<'a, T: Told>(
     rows: &'a [Arc<ClassRow<T>>],
     under: &ClassRow<T>,
-    stem: Option<usize>,
 ) -> Option<(&'a Arc<ClassRow<T>>, &'a [Arc<ClassRow<T>>])>
-    requires { IfSome stem (λ s. IsNextOnStem (map (λ r. r.value) rows.now) under.now s) }
     ensures kin { option_map (λ p. kin_under (kins (map (λ r. r.value) p.1.now)) p.0.now.value)
         result
         ≡ first (upward (forest (kins (map (λ r. r.value) rows.now)) (superclass_in under.now))) }
@@ -58,13 +53,6 @@ pub(crate) fn superclass_row<'a, T: Told>(
         (map (λ r. r.value) p.1.now) p.0.now.value) }
     ensures shorter { IfSome result (λ p. length p.1.now < length rows.now) }
 {
-    if let Some(stem) = stem {
-        if let Some((row, earlier)) = rows.split_last() {
-            if earlier.len() >= stem {
-                return Some((row, earlier));
-            }
-        }
-    }
     let name = under.file().super_name()?;
     let loader = under.places().first()?;
     row_named(rows, name, *loader)

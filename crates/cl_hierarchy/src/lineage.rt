@@ -1,19 +1,19 @@
 //! Lineages: a class with all that stands above it, and what is asked of them (JVMS SE 8, 5.3.5, 5.4.4).
 
-ghost use Rattle.std.specs.Prelude.{◌≡◌, [], filter, is_some, length, map, nat_le, true, IfOk, IfSome};
+ghost use Rattle.std.specs.Prelude.{◌≡◌, [], filter, is_some, map, take, true, IfOk, IfSome};
 ghost use Rattle.std.specs.List.{AllByRecursion};
 ghost use Rattle.std.specs.Option.{option_map};
 ghost use Rattle.cl_model.specs.Lineages.{alone, first, is_subclass, once, superclasses, superinterfaces, upward};
+ghost use Rattle.cl_hierarchy.specs.Above.{AreOvers, IsUnmixed};
 ghost use Rattle.cl_hierarchy.specs.Fronts.{IsFront, IsOnStem};
 ghost use Rattle.cl_hierarchy.specs.Lineages.{IsLined, IsRowIn, field_order, is_of_other, kin_at, kin_of, reaches, rows_in};
-ghost use Rattle.cl_hierarchy.specs.Places.{IsPlace};
 ghost use Rattle.cl_hierarchy.specs.Tours.{stops, told_at};
 ghost use Rattle.cl_hierarchy.specs.Trees.{SupersBefore, forest, kin_under, kins, superclass_in};
 
 use crate::above::superclass_row;
 use crate::access::is_same;
-use crate::front::{share_rows, stem_of};
-use crate::others::others_above;
+use crate::ladder::Ladder;
+use crate::over::Overs;
 use crate::row::ClassRow;
 use crate::row_index::RowIndex;
 use crate::stem::{stem_end, superinterfaces_behind};
@@ -27,34 +27,35 @@ use std::sync::Arc;
 /// A class with all that stands above it, each class once: its superclass's lineage, then that of each superinterface in
 /// file order, then the class (JVMS SE 8, 5.3.5).
 pub struct Lineage<T: Told> {
-    config: Arc<Config>,
-    above: Vec<Arc<ClassRow<T>>>,
+    ladder: Arc<Ladder<T>>,
     own: Arc<ClassRow<T>>,
-    /// The first place of the stem: from there on the superclass of each row is that of the row right before it.
-    stem: usize,
+    /// Where the class's row stands among those of the ladder; those before it are the rows above the class.
+    place: usize,
+    /// So many of the ladder's rows, from the first, are known to be unmixed.
+    unmixed: usize,
 }
 
 impl<T: Told> Drop for Lineage<T> {
     fn drop(self) {
         let Lineage {
-            config: _,
-            above: _,
+            ladder: _,
             own: _,
-            stem: _,
+            place: _,
+            unmixed: _,
         } = self;
     }
 }
 
 impl<T: Told> Model for Lineage<T> {
-    ghost use Rattle.std.specs.Prelude.{map};
-    ghost use Rattle.cl_hierarchy.specs.Fronts.{IsKept};
+    ghost use Rattle.std.specs.Prelude.{take};
+    ghost use Rattle.cl_hierarchy.specs.Ladders.{IsOnLadder};
     ghost use Rattle.cl_hierarchy.specs.Lineages.{Lined};
 
     ghost Value = { Lined };
 
-    ghost view = { λ l. record { config = l.config.value; above = map (λ r. r.value) l.above.items; own = l.own.value } };
+    ghost view = { λ l. record { config = l.ladder.value.config; above = take l.place l.ladder.value.rows; own = l.own.value } };
 
-    ghost invariant = { λ l. IsKept T.told (record { config = l.config.value; above = map (λ r. r.value) l.above.items; own = l.own.value }) l.stem };
+    ghost invariant = { λ l. IsOnLadder T.told l.ladder.value l.place l.own.value l.unmixed };
 }
 
 /// Whether `of` is a superclass of the class of this row. The rows of all these are among `rows`.
@@ -68,7 +69,7 @@ fn is_above<'a, T: Told>(
 {
     let mut rest = rows;
     let mut last = under;
-    while let Some((row, earlier)) = superclass_row(rest, last, None) {
+    while let Some((row, earlier)) = superclass_row(rest, last) {
         if is_same(of, row.class()) {
             return true;
         }
@@ -94,7 +95,7 @@ fn upward<'a, T: Told>(
     let mut found = Vec::new(alloc);
     let mut rest = rows;
     let mut last = under;
-    while let Some((row, earlier)) = superclass_row(rest, last, None) {
+    while let Some((row, earlier)) = superclass_row(rest, last) {
         found.push(Arc::try_clone(row)?)?;
         last = row;
         rest = earlier;
@@ -102,31 +103,41 @@ fn upward<'a, T: Told>(
     Ok(found)
 }
 
+/// A ladder to be shared.
+fn share<T: Told>(alloc: Global, ladder: Ladder<T>) -> Result<Arc<Ladder<T>>, AllocError>
+    ensures { IfOk result (λ x. x.value ≡ ladder) }
+{
+    Arc::new(alloc, ladder).map_err(|_| AllocError)
+}
+
 impl<T: Told> Lineage<T> {
     /// The lineage that these rows are.
     pub(crate) fn of_rows(
+        alloc: Global,
         config: Arc<Config>,
         above: Vec<Arc<ClassRow<T>>>,
         own: Arc<ClassRow<T>>,
-    ) -> Lineage<T>
+    ) -> Result<Lineage<T>, AllocError>
         requires { IsLined T.told (record {
           config = config.value;
           above = map (λ r. r.value) above.items;
           own = own.value;
         }) }
-        ensures { result ≡ record {
+        ensures { IfOk result (λ l. l ≡ record {
           config = config.value;
           above = map (λ r. r.value) above.items;
           own = own.value;
-        } }
+        }) }
     {
-        let stem = stem_of(above.as_slice(), &own);
-        Lineage {
-            config,
-            above,
+        let place = above.len();
+        let ladder = Ladder::of(alloc, config, above, &own)?;
+        let ladder = share(alloc, ladder)?;
+        Ok(Lineage {
+            ladder,
             own,
-            stem,
-        }
+            place,
+            unmixed: 0,
+        })
     }
 
     /// The class.
@@ -150,7 +161,7 @@ impl<T: Told> Lineage<T> {
         ensures rows { map (λ r. r.value) result.now ≡ self.now.above }
         ensures kept { IsLined T.told self.now }
     {
-        self.above.as_slice()
+        &self.ladder.rows()[..self.place]
     }
 
     /// The configuration of the registry that made it.
@@ -158,46 +169,67 @@ impl<T: Told> Lineage<T> {
         ensures config { result.now.value ≡ self.now.config }
         ensures kept { IsLined T.told self.now }
     {
-        &self.config
+        self.ladder.config()
     }
 
-    /// The row at a place with those before it, if there is one; the class's own stands last.
-    fn rows_to(&self, place: usize) -> Option<(&[Arc<ClassRow<T>>], &Arc<ClassRow<T>>)>
-        ensures place { IfSome result (λ p. IsPlace (rows_in self.now)
-            (map (λ r. r.value) p.0.now) p.1.now.value) }
-        ensures many { IfSome result (λ p. length p.0.now ≡ place) }
-        ensures some { is_some result ≡ nat_le place (length self.now.above) }
-    {
-        let above = self.above.as_slice();
-        if place == above.len() {
-            return Some((above, &self.own));
-        }
-        let row = above.get(place)?;
-        Some((&above[..place], row))
-    }
-
-    /// The lineage of the class at a place, if the rows up to there are known to be that: it is so for each place on the
-    /// stem, behind which the superclass of each row is that of the row right before it (JVMS SE 8, 5.3.5, 5.4). Time
-    /// linear in the rows up to there, with no look at a table.
-    pub fn front(&self, alloc: Global, place: usize) -> Result<Option<Lineage<T>>, AllocError>
+    /// The lineage of the class at a place, if the rows before it are known to be that: it is so for the class, and from
+    /// there for each superclass, and for the first superinterface of a class that stands right before it and has its
+    /// superclass (JVMS SE 8, 5.3.5, 5.4). Constant time; the rows are shared.
+    pub fn front(&self, place: usize) -> Result<Option<Lineage<T>>, AllocError>
         ensures front { IfOk result (λ o. IfSome o (λ l. IsFront self.now place l)) }
         ensures stem { IsOnStem self.now place → IfOk result (λ o. is_some o ≡ true) }
     {
-        if place < self.stem {
+        if place > self.place || self.ladder.rung(place).is_none() {
             return Ok(None);
         }
-        let Some((above, own)) = self.rows_to(place) else {
+        let Some(own) = self.ladder.rows().get(place) else {
             return Ok(None);
         };
-        let config = Arc::try_clone(&self.config)?;
-        let above = share_rows(alloc, above)?;
+        let ladder = Arc::try_clone(&self.ladder)?;
         let own = Arc::try_clone(own)?;
         Ok(Some(Lineage {
-            config,
-            above,
+            ladder,
             own,
-            stem: self.stem,
+            place,
+            unmixed: self.unmixed,
         }))
+    }
+
+    /// Which loaders defined the superinterfaces that the classes above the class name, in constant time
+    /// (JVMS SE 8, 5.3.5, step 4).
+    pub fn overs(&self) -> Overs
+        ensures { AreOvers result self.now.above }
+    {
+        match self.ladder.mark(self.place) {
+            Some(mark) => mark.overs,
+            None => Overs::Several,
+        }
+    }
+
+    /// Whether it is known that no superinterface declares a method that a class of another loader declares too, in
+    /// constant time (JVMS SE 8, 5.4.2).
+    pub fn is_unmixed(&self) -> bool
+        ensures { result ≡ true → IsUnmixed (rows_in self.now) }
+    {
+        self.place < self.unmixed
+    }
+
+    /// The same lineage, which keeps that so many of its rows, from the first, are unmixed.
+    pub fn with_unmixed(&self, many: usize) -> Result<Lineage<T>, AllocError>
+        requires { IsUnmixed (take many (rows_in self.now)) }
+        ensures { IfOk result (λ l. l ≡ self.now) }
+    {
+        let unmixed = if self.place < many {
+            self.place + 1
+        } else {
+            many
+        };
+        Ok(Lineage {
+            ladder: Arc::try_clone(&self.ladder)?,
+            own: Arc::try_clone(&self.own)?,
+            place: self.place,
+            unmixed,
+        })
     }
 
     /// The row of the superclass, if there is one (JVMS SE 8, 4.1). Takes no memory.
@@ -206,7 +238,7 @@ impl<T: Told> Lineage<T> {
             ≡ first (superclasses (kin_of self.now)) }
         ensures rows { IfSome result (λ r. IsRowIn (rows_in self.now) r.now.value) }
     {
-        let (row, _) = superclass_row(self.above.as_slice(), &self.own, None)?;
+        let (row, _) = superclass_row(self.above(), self.own())?;
         Some(row)
     }
 
@@ -217,11 +249,11 @@ impl<T: Told> Lineage<T> {
         ensures rows { IfOk result (λ v. AllByRecursion (λ r. IsRowIn (rows_in self.now) r.value)
             v.items) }
     {
-        upward(alloc, self.above.as_slice(), &self.own)
+        upward(alloc, self.above(), self.own())
     }
 
     /// The rows of the superclasses that another loader than the class's own defined, nearest first (JVMS SE 8, 4.1, 5.3),
-    /// in time linear in the rows. On the stem no name is compared.
+    /// in time linear in their number.
     pub fn superclasses_of_others(&self, alloc: Global) -> Result<Vec<Arc<ClassRow<T>>>, AllocError>
         ensures superclasses { IfOk result (λ v. map (λ r. kin_at self.now r.value) v.items
             ≡ filter (λ k. is_of_other self.now.own.class.loader k.class)
@@ -229,14 +261,15 @@ impl<T: Told> Lineage<T> {
         ensures rows { IfOk result (λ v. AllByRecursion (λ r. IsRowIn (rows_in self.now) r.value)
             v.items) }
     {
-        others_above(alloc, self.above.as_slice(), &self.own, self.stem)
+        self.ladder
+            .others_above(alloc, self.place, self.own.class().loader)
     }
 
     /// Whether the class has another as a proper superclass (JVMS SE 8, 4.1). Takes no memory; time linear in the rows.
     pub fn is_subclass(&self, of: &Class) -> bool
         ensures { result ≡ is_subclass (kin_of self.now) of.now }
     {
-        is_above(self.above.as_slice(), &self.own, of)
+        is_above(self.above(), self.own(), of)
     }
 
     /// The rows of the direct and indirect superinterfaces, each once at its first place: a class's in file order, each
@@ -248,7 +281,7 @@ impl<T: Told> Lineage<T> {
         ensures rows { IfOk result (λ v. AllByRecursion (λ r. IsRowIn (rows_in self.now) r.value)
             v.items) }
     {
-        self.superinterfaces_of(alloc, &self.own)
+        self.superinterfaces_of(alloc, self.own())
     }
 
     /// The rows of all superinterfaces of the class of a row of the lineage, each once at its first place (JVMS SE 8, 5.4.3.3).
@@ -263,9 +296,9 @@ impl<T: Told> Lineage<T> {
         ensures rows { IfOk result (λ v. AllByRecursion (λ r. IsRowIn (rows_in self.now) r.value)
             v.items) }
     {
-        match stem_end(self.above.as_slice(), row) {
+        match stem_end(self.above(), row) {
             None => self.rows_by_tour(alloc, Order::Superinterfaces, row, false),
-            Some((end, before)) => superinterfaces_behind(alloc, self.config.seed(), before, end),
+            Some((end, before)) => superinterfaces_behind(alloc, self.config().seed(), before, end),
         }
     }
 
@@ -283,8 +316,8 @@ impl<T: Told> Lineage<T> {
         ensures rows { IfOk result (λ v. AllByRecursion (λ r. IsRowIn (rows_in self.now) r.value)
             v.items) }
     {
-        let seed = self.config.seed();
-        let table = RowIndex::of(alloc, seed, self.above.as_slice(), &self.own)?;
+        let seed = self.config().seed();
+        let table = RowIndex::of(alloc, seed, self.above(), self.own())?;
         rows_in_order(alloc, seed, order, &table, row, wanted)
     }
 
@@ -297,6 +330,6 @@ impl<T: Told> Lineage<T> {
         ensures rows { IfOk result (λ v. AllByRecursion (λ r. IsRowIn (rows_in self.now) r.value)
             v.items) }
     {
-        self.rows_by_tour(alloc, Order::Fields, &self.own, true)
+        self.rows_by_tour(alloc, Order::Fields, self.own(), true)
     }
 }

@@ -89,7 +89,7 @@ impl<T: Told> Lineage<T> {
         let config = Arc::try_clone(config)?;
         match rows.pop() {
             None => unreachable!(),
-            Some(own) => Ok(Lineage::of_rows(config, rows, own)),
+            Some(own) => Ok(Lineage::of_rows(alloc, config, rows, own)?),
         }
     }
 }

@@ -73,7 +73,7 @@ fn next_of_stem<'a, T: Told>(
     if under.places().len() > 1 {
         return None;
     }
-    superclass_row(rows, under, None)
+    superclass_row(rows, under)
 }
 
 /// The end of the stem of a row, with the rows before it, if its superclass is its one direct supertype.

@@ -168,7 +168,7 @@ pub(crate) fn superclass_of<'a, T: Told, F: Finds<T>>(
 }
 
 /// The loaders of the superinterfaces of a row.
-fn interface_places<T: Told>(row: &ClassRow<T>) -> &[LoaderId]
+pub(crate) fn interface_places<T: Told>(row: &ClassRow<T>) -> &[LoaderId]
     ensures { result.now ≡ interface_places row.now }
 {
     let places = row.places();

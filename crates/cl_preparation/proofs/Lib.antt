@@ -10,4 +10,5 @@ pub mod Reached
 pub mod Silence
 pub mod Standing
 pub mod Thinned
+pub mod Unmixed
 pub mod Walking

@@ -11,8 +11,7 @@ use Rattle.cl_model.specs.States.{Need}
 use Rattle.cl_hierarchy.specs.Imposed.{AreEnough}
 use Rattle.cl_hierarchy.specs.Rows.{Rowed}
 use Rattle.cl_hierarchy.specs.Lineages.{IsRowIn, Lined, is_of_other, kin_at, kin_of, row_of, rows_in}
-use Rattle.cl_hierarchy.specs.Trees.{kins}
-use Rattle.cl_hierarchy.proofs.Away.{others_all, others_kins}
+use Rattle.cl_hierarchy.specs.Trees.{kin_under, kins}
 use Rattle.cl_preparation.specs.Fewer.{equals_from, fewer_constraints_of, fewer_declared, fewer_inherited, fewer_second, is_new, loaders, loaders_over, other_than, others_after}
 use Rattle.cl_preparation.specs.Inherited.{away_from, first_loader, inherited_by_rows, second_by_rows}
 use Rattle.cl_preparation.specs.Nearby.{AddAll, AreNear, near_declared, near_loaders}
@@ -111,6 +110,24 @@ rows_same l (x ∷ xs) [] in_x in_y e = absurd cc
 rows_same l (x ∷ xs) (y ∷ ys) in_x in_y e =
     ap (λ (r : Rowed). r ∷ xs) (one_row (rows_in l) x y in_x.0 in_y.0 (ap (λ (k : Kin). k.class) (first_kin (kin_at l x) (kin_at l y) (map (kin_at l) xs) (map (kin_at l) ys) e)))
     ∙ ap (λ (rs : List Rowed). y ∷ rs) (rows_same l xs ys in_x.1 in_y.1 (rest_kins (kin_at l x) (kin_at l y) (map (kin_at l) xs) (map (kin_at l) ys) e))
+
+others_all : (own : ℕ) (P : Rowed → Type 0) (rs : List Rowed) → AllByRecursion P rs → AllByRecursion P (away_from own rs)
+others_all own P [] h = tt
+others_all own P (r ∷ rs) h = at (others_all own P rs h.1) (is_of_other own r.class)
+  where
+    at : AllByRecursion P (away_from own rs) → (b : Bool) → AllByRecursion P (if b then r ∷ away_from own rs else away_from own rs)
+    at more true = (h.0, more)
+    at more false = more
+
+others_kins : (own : ℕ) (known : List Kin) (rs : List Rowed) → map (kin_under known) (away_from own rs) ≡ filter (λ k. is_of_other own k.class) (map (kin_under known) rs)
+others_kins own known [] = refl
+others_kins own known (r ∷ rs) = at (others_kins own known rs) (is_of_other own r.class)
+  where
+    at : map (kin_under known) (away_from own rs) ≡ filter (λ k. is_of_other own k.class) (map (kin_under known) rs) → (b : Bool)
+        → map (kin_under known) (if b then r ∷ away_from own rs else away_from own rs)
+        ≡ (if b then kin_under known r ∷ filter (λ k. is_of_other own k.class) (map (kin_under known) rs) else filter (λ k. is_of_other own k.class) (map (kin_under known) rs))
+    at more true = ap (λ (ks : List Kin). kin_under known r ∷ ks) more
+    at more false = more
 
 -- those of another loader are the same, however they were found
 pub away_rows : (l : Lined) (away above : List Rowed) → map (kin_at l) away ≡ kins_from l.own.class.loader (superclasses (kin_of l)) → AllByRecursion (IsRowIn (rows_in l)) away → map (kin_at l) above ≡ superclasses (kin_of l)

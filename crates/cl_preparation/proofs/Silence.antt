@@ -1,9 +1,10 @@
 -- Where superinterfaces add nothing to the few equalities.
 use Rattle.std.proofs.Common.{◌≡◌, ◌≤◌, ℕ, Bool, true, false, ◌&&◌, ◌||◌, not, if◌then◌else◌, Option, Some, None, List, [], ◌∷◌, ◌++◌, map, filter, length, refl, ap, sym, subst, ◌∙◌, drop, take, append_assoc}
-use Rattle.std.specs.Prelude.{◌==◌, Err, IfOk, IfSome, Ok, Result, find, flat_map, is_some, option_map}
+use Rattle.std.specs.Prelude.{◌==◌, Contains, Err, IfOk, IfSome, Ok, Result, find, flat_map, is_some, option_map}
 use Rattle.std.specs.List.{AllByRecursion, list_any}
 use Rattle.std.proofs.lemmas.Bool.{and_parts, eqb-true, eq-eqb, or_parts, or_right}
 use Rattle.std.proofs.lemmas.List.{map-append, take-append-drop}
+use Rattle.std.proofs.lemmas.List.Elements.{All-contains_itself, Contains-append_left, Contains-append_right, Contains-push, recursion_from_All}
 use mathlib.Core.List.{map-map}
 use Rattle.cl_classfile.specs.Files.{Key, Member, file_of, is_interface}
 use Rattle.cl_model.specs.declared.class.Class.{Class}
@@ -15,6 +16,7 @@ use Rattle.cl_model.proofs.Closed.{all_left}
 use Rattle.cl_model.proofs.Complete.{is_class}
 use Rattle.cl_model.proofs.Derived.{all_both}
 use Rattle.cl_model.proofs.Progress.{once_kept}
+use Rattle.cl_hierarchy.specs.Above.{IsUnmixed, offers}
 use Rattle.cl_hierarchy.specs.Frames.{accepted_of}
 use Rattle.cl_hierarchy.specs.Lineages.{IsRowIn, Lined, kin_at, kin_of, row_of, rows_in}
 use Rattle.cl_hierarchy.specs.Rows.{Rowed}
@@ -41,75 +43,76 @@ second_off : (a b : Bool) → (a && b) ≡ false → a ≡ true → b ≡ false
 second_off true b e on = e
 second_off false b e on = absurd cc
 
-all_pair : (P Q : Rowed → Type 0) (xs : List Rowed) → AllByRecursion P xs → AllByRecursion Q xs → AllByRecursion (λ x. P x × Q x) xs
-all_pair P Q [] h k = tt
-all_pair P Q (x ∷ xs) h k = ((h.0, k.0), all_pair P Q xs h.1 k.1)
+-- what holds of each by two facts of each
+all_by : {A : Type 0} (P Q R : A → Type 0) (xs : List A) → AllByRecursion P xs → AllByRecursion Q xs → ((x : A) → P x → Q x → R x) → AllByRecursion R xs
+all_by P Q R [] h k each = tt
+all_by P Q R (x ∷ xs) h k each = (each x h.0 k.0, all_by P Q R xs h.1 k.1 each)
 
 -- ---- the tree
 
--- what is named as of the own loader is as it has to be, and so are all superinterfaces of the class
-record IsWell (own : ℕ) (P : Kin → Type 0) (c : Class) (k : Kin) : Type 0 where
-  here : c.loader ≡ own → P k
+-- what is named as a superinterface is as it has to be, and so are all superinterfaces of the class
+record IsWell (Q : Class → Type 0) (P : Kin → Type 0) (c : Class) (k : Kin) : Type 0 where
+  here : Q c → P k
   over : AllByRecursion P (preorder (in_front (Some k) Bare) false)
 
-abbrev AreWell : ℕ → (Kin → Type 0) → List Kin → Type 0
-AreWell own P known = (c : Class) (k : Kin) → kin_named known c ≡ Some k → IsWell own P c k
+abbrev AreWell : (Class → Type 0) → (Kin → Type 0) → List Kin → Type 0
+AreWell Q P known = (c : Class) (k : Kin) → kin_named known c ≡ Some k → IsWell Q P c k
 
-one_any : (own : ℕ) (P : Kin → Type 0) (known : List Kin) (c : Class) (cs : List Class) (o : Option Kin) → AreWell own P known → kin_named known c ≡ o → AllByRecursion P (preorder (forest known cs) false)
+one_any : (Q : Class → Type 0) (P : Kin → Type 0) (known : List Kin) (c : Class) (cs : List Class) (o : Option Kin) → AreWell Q P known → kin_named known c ≡ o → AllByRecursion P (preorder (forest known cs) false)
     → AllByRecursion P (preorder (in_front o (forest known cs)) false)
-one_any own P known c cs None well e rest = rest
-one_any own P known c cs (Some k) well e rest =
+one_any Q P known c cs None well e rest = rest
+one_any Q P known c cs (Some k) well e rest =
     let over : List Kin = preorder k.interfaces true ++ preorder k.superclass false in
     all_both P over (preorder (forest known cs) false) (all_left P over [] (well c k e).over) rest
 
-over_any : (own : ℕ) (P : Kin → Type 0) (known : List Kin) (cs : List Class) → AreWell own P known → AllByRecursion P (preorder (forest known cs) false)
-over_any own P known [] well = tt
-over_any own P known (c ∷ cs) well = one_any own P known c cs (kin_named known c) well refl (over_any own P known cs well)
+over_any : (Q : Class → Type 0) (P : Kin → Type 0) (known : List Kin) (cs : List Class) → AreWell Q P known → AllByRecursion P (preorder (forest known cs) false)
+over_any Q P known [] well = tt
+over_any Q P known (c ∷ cs) well = one_any Q P known c cs (kin_named known c) well refl (over_any Q P known cs well)
 
-one_named : (own : ℕ) (P : Kin → Type 0) (known : List Kin) (c : Class) (cs : List Class) (o : Option Kin) → AreWell own P known → c.loader ≡ own → kin_named known c ≡ o → AllByRecursion P (preorder (forest known cs) true)
+one_named : (Q : Class → Type 0) (P : Kin → Type 0) (known : List Kin) (c : Class) (cs : List Class) (o : Option Kin) → AreWell Q P known → Q c → kin_named known c ≡ o → AllByRecursion P (preorder (forest known cs) true)
     → AllByRecursion P (preorder (in_front o (forest known cs)) true)
-one_named own P known c cs None well mine e rest = rest
-one_named own P known c cs (Some k) well mine e rest =
+one_named Q P known c cs None well mine e rest = rest
+one_named Q P known c cs (Some k) well mine e rest =
     let over : List Kin = preorder k.interfaces true ++ preorder k.superclass false in
     ((well c k e).here mine, all_both P over (preorder (forest known cs) true) (all_left P over [] (well c k e).over) rest)
 
-over_named : (own : ℕ) (P : Kin → Type 0) (known : List Kin) (cs : List Class) → AllByRecursion (λ (c : Class). c.loader ≡ own) cs → AreWell own P known → AllByRecursion P (preorder (forest known cs) true)
-over_named own P known [] mine well = tt
-over_named own P known (c ∷ cs) mine well = one_named own P known c cs (kin_named known c) well mine.0 refl (over_named own P known cs mine.1 well)
+over_named : (Q : Class → Type 0) (P : Kin → Type 0) (known : List Kin) (cs : List Class) → AllByRecursion Q cs → AreWell Q P known → AllByRecursion P (preorder (forest known cs) true)
+over_named Q P known [] mine well = tt
+over_named Q P known (c ∷ cs) mine well = one_named Q P known c cs (kin_named known c) well mine.0 refl (over_named Q P known cs mine.1 well)
 
 -- what a row has to keep
-record IsFine (own : ℕ) (P : Kin → Type 0) (r : Rowed) : Type 0 where
-  names : AllByRecursion (λ (c : Class). c.loader ≡ own) (interfaces_in r)
-  here : (ks : List Kin) → r.class.loader ≡ own → P (kin_under ks r)
+record IsFine (Q : Class → Type 0) (P : Kin → Type 0) (r : Rowed) : Type 0 where
+  names : AllByRecursion Q (interfaces_in r)
+  here : (ks : List Kin) → Q r.class → P (kin_under ks r)
 
-over_row : (own : ℕ) (P : Kin → Type 0) (known : List Kin) (r : Rowed) → AllByRecursion (λ (c : Class). c.loader ≡ own) (interfaces_in r) → AreWell own P known
+over_row : (Q : Class → Type 0) (P : Kin → Type 0) (known : List Kin) (r : Rowed) → AllByRecursion Q (interfaces_in r) → AreWell Q P known
     → AllByRecursion P (preorder (forest known (interfaces_in r)) true ++ preorder (forest known (superclass_in r)) false)
-over_row own P known r names well =
+over_row Q P known r names well =
     all_both P (preorder (forest known (interfaces_in r)) true) (preorder (forest known (superclass_in r)) false)
-    (over_named own P known (interfaces_in r) names well) (over_any own P known (superclass_in r) well)
+    (over_named Q P known (interfaces_in r) names well) (over_any Q P known (superclass_in r) well)
 
-well_more : (own : ℕ) (P : Kin → Type 0) (known : List Kin) (r : Rowed) → IsFine own P r → AreWell own P known → AreWell own P (kin_under known r ∷ known)
-well_more own P known r fine well = λ c k e. at c k (same_class c r.class) refl e
+well_more : (Q : Class → Type 0) (P : Kin → Type 0) (known : List Kin) (r : Rowed) → IsFine Q P r → AreWell Q P known → AreWell Q P (kin_under known r ∷ known)
+well_more Q P known r fine well = λ c k e. at c k (same_class c r.class) refl e
   where
-    here : (c : Class) → same_class c r.class ≡ true → IsWell own P c (kin_under known r)
+    here : (c : Class) → same_class c r.class ≡ true → IsWell Q P c (kin_under known r)
     here c s = record {
-      here = λ m. fine.here known (ap (λ (x : Class). x.loader) (sym (is_class c r.class s)) ∙ m);
-      over = all_both P (preorder (forest known (interfaces_in r)) true ++ preorder (forest known (superclass_in r)) false) [] (over_row own P known r fine.names well) tt;
+      here = λ m. fine.here known (subst Q (is_class c r.class s) m);
+      over = all_both P (preorder (forest known (interfaces_in r)) true ++ preorder (forest known (superclass_in r)) false) [] (over_row Q P known r fine.names well) tt;
     }
 
-    at : (c : Class) (k : Kin) (b : Bool) → same_class c r.class ≡ b → (if b then Some (kin_under known r) else kin_named known c) ≡ Some k → IsWell own P c k
-    at c k true s e = subst (λ (x : Kin). IsWell own P c x) (some_kin (kin_under known r) k e) (here c s)
+    at : (c : Class) (k : Kin) (b : Bool) → same_class c r.class ≡ b → (if b then Some (kin_under known r) else kin_named known c) ≡ Some k → IsWell Q P c k
+    at c k true s e = subst (λ (x : Kin). IsWell Q P c x) (some_kin (kin_under known r) k e) (here c s)
     at c k false s e = well c k e
 
-well_after : (own : ℕ) (P : Kin → Type 0) (known : List Kin) (rows : List Rowed) → AllByRecursion (IsFine own P) rows → AreWell own P known → AreWell own P (kins_after known rows)
-well_after own P known [] fine well = well
-well_after own P known (r ∷ rows) fine well = well_after own P (kin_under known r ∷ known) rows fine.1 (well_more own P known r fine.0 well)
+well_after : (Q : Class → Type 0) (P : Kin → Type 0) (known : List Kin) (rows : List Rowed) → AllByRecursion (IsFine Q P) rows → AreWell Q P known → AreWell Q P (kins_after known rows)
+well_after Q P known [] fine well = well
+well_after Q P known (r ∷ rows) fine well = well_after Q P (kin_under known r ∷ known) rows fine.1 (well_more Q P known r fine.0 well)
 
 -- each superinterface is as it has to be
-all_over : (own : ℕ) (P : Kin → Type 0) (l : Lined) → AllByRecursion (λ (c : Class). c.loader ≡ own) (interfaces_in l.own) → AllByRecursion (IsFine own P) l.above → AllByRecursion P (superinterfaces (kin_of l))
-all_over own P l names fine =
-    let well : AreWell own P (kins l.above) = well_after own P [] l.above fine (λ c k e. absurd cc) in
-    once_kept P [] (preorder (kin_of l).interfaces true ++ preorder (kin_of l).superclass false) (over_row own P (kins l.above) l.own names well)
+all_over : (Q : Class → Type 0) (P : Kin → Type 0) (l : Lined) → AllByRecursion Q (interfaces_in l.own) → AllByRecursion (IsFine Q P) l.above → AllByRecursion P (superinterfaces (kin_of l))
+all_over Q P l names fine =
+    let well : AreWell Q P (kins l.above) = well_after Q P [] l.above fine (λ c k e. absurd cc) in
+    once_kept P [] (preorder (kin_of l).interfaces true ++ preorder (kin_of l).superclass false) (over_row Q P (kins l.above) l.own names well)
 
 -- ---- loaders of superinterfaces
 
@@ -122,13 +125,6 @@ named_own own (a ∷ ups) (p ∷ ps) off =
 
 names_own : (own : ℕ) (r : Rowed) → names_other own r ≡ false → AllByRecursion (λ (c : Class). c.loader ≡ own) (interfaces_in r)
 names_own own r off = named_own own (superinterfaces_of (file_of r.file)) (interface_places r) off
-
-fine_rows : (own : ℕ) (P : Kin → Type 0) (Q : Rowed → Type 0) (rows : List Rowed) → list_any (names_other own) rows ≡ false → AllByRecursion Q rows
-    → ((r : Rowed) (ks : List Kin) → Q r → r.class.loader ≡ own → P (kin_under ks r)) → AllByRecursion (IsFine own P) rows
-fine_rows own P Q [] off known each = tt
-fine_rows own P Q (r ∷ rows) off known each =
-    let parts = or_parts (names_other own r) (list_any (names_other own) rows) off in
-    (record { names = names_own own r parts.0; here = λ ks mine. each r ks known.0 mine }, fine_rows own P Q rows parts.1 known.1 each)
 
 -- ---- rows of a lineage
 
@@ -272,28 +268,61 @@ near_alone l quiet = record {
   second_are = λ class. sym (second_quiet l (superinterfaces (kin_of l)) class quiet);
 }
 
--- where all superclasses are of one loader, so is what is inherited
-first_mine : (own : ℕ) (p : Kin → Bool) (ks : List Kin) → kins_from own ks ≡ [] → other_than own (option_map (λ (a : Kin). a.class.loader) (find p ks)) ≡ None
-first_mine own p [] none = refl
-first_mine own p (k ∷ ks) none = by (own == k.class.loader) (p k) refl none (first_mine own p ks)
+-- a class that a row of the lineage names as a superinterface, of the own loader
+record IsOver (l : Lined) (c : Class) : Type 0 where
+  own : c.loader ≡ l.own.class.loader
+  row : Rowed
+  within : Contains (rows_in l) row
+  names : Contains (interfaces_in row) c
+
+over_here : (l : Lined) (r : Rowed) → Contains (rows_in l) r → names_other l.own.class.loader r ≡ false → AllByRecursion (IsOver l) (interfaces_in r)
+over_here l r within off =
+    all_by (λ (c : Class). c.loader ≡ l.own.class.loader) (Contains (interfaces_in r)) (IsOver l) (interfaces_in r) (names_own l.own.class.loader r off)
+    (recursion_from_All (Contains (interfaces_in r)) (interfaces_in r) (All-contains_itself (interfaces_in r))) (λ c mine names. record { own = mine; row = r; within = within; names = names })
+
+fine_rows : (l : Lined) (R : Rowed → Type 0) (rows : List Rowed) → AllByRecursion (Contains (rows_in l)) rows → list_any (names_other l.own.class.loader) rows ≡ false → AllByRecursion R rows
+    → ((r : Rowed) (ks : List Kin) → R r → IsOver l r.class → IsQuiet l (kin_under ks r)) → AllByRecursion (IsFine (IsOver l) (IsQuiet l)) rows
+fine_rows l R [] within off known each = tt
+fine_rows l R (r ∷ rows) within off known each =
+    let parts = or_parts (names_other l.own.class.loader r) (list_any (names_other l.own.class.loader) rows) off in
+    (record { names = over_here l r within.0 parts.0; here = λ ks over. each r ks known.0 over }, fine_rows l R rows within.1 parts.1 known.1 each)
+
+rows_there : (l : Lined) → AllByRecursion (Contains (rows_in l)) l.above
+rows_there l = all_left (Contains (rows_in l)) l.above (l.own ∷ []) (recursion_from_All (Contains (rows_in l)) (rows_in l) (All-contains_itself (rows_in l)))
+
+-- where no superinterface of another loader is named, and each row that is named as one is quiet, none adds anything
+all_quiet : (l : Lined) (R : Rowed → Type 0) (own : ℕ) (mine : Rowed) → own ≡ l.own.class.loader → mine ≡ l.own → names_other own mine ≡ false → list_any (names_other own) l.above ≡ false → AllByRecursion R l.above
+    → ((r : Rowed) (ks : List Kin) → R r → IsOver l r.class → IsQuiet l (kin_under ks r)) → AddAll l []
+all_quiet l R own mine oe me first rest known each =
+    let first_off : names_other l.own.class.loader l.own ≡ false = ap (λ (x : ℕ). names_other x l.own) (sym oe) ∙ ap (names_other own) (sym me) ∙ first in
+    let rest_off : list_any (names_other l.own.class.loader) l.above ≡ false = ap (λ (x : ℕ). list_any (names_other x) l.above) (sym oe) ∙ rest in
+    near_alone l (all_over (IsOver l) (IsQuiet l) l (over_here l l.own (Contains-push l.above l.own) first_off) (fine_rows l R l.above (rows_there l) rest_off known each))
+
+-- where all superclasses that declare it are of one loader, so is what is inherited
+first_mine : (own : ℕ) (p : Kin → Bool) (ks : List Kin) → AllByRecursion (λ (k : Kin). p k ≡ true → k.class.loader ≡ own) (kins_from own ks) → other_than own (option_map (λ (a : Kin). a.class.loader) (find p ks)) ≡ None
+first_mine own p [] mine = refl
+first_mine own p (k ∷ ks) mine = by (own == k.class.loader) (p k) refl refl mine (first_mine own p ks)
   where
-    by : (same inst : Bool) → (own == k.class.loader) ≡ same → (if not same then k ∷ kins_from own ks else kins_from own ks) ≡ []
-        → (kins_from own ks ≡ [] → other_than own (option_map (λ (a : Kin). a.class.loader) (find p ks)) ≡ None)
+    by : (same inst : Bool) → (own == k.class.loader) ≡ same → p k ≡ inst → AllByRecursion (λ (k : Kin). p k ≡ true → k.class.loader ≡ own) (if not same then k ∷ kins_from own ks else kins_from own ks)
+        → (AllByRecursion (λ (k : Kin). p k ≡ true → k.class.loader ≡ own) (kins_from own ks) → other_than own (option_map (λ (a : Kin). a.class.loader) (find p ks)) ≡ None)
         → other_than own (option_map (λ (a : Kin). a.class.loader) (if inst then Some k else find p ks)) ≡ None
-    by true true e off more = rw (eq-eqb k.class.loader own (sym (eqb-true own k.class.loader e))) refl
-    by true false e off more = more off
-    by false inst e off more = absurd cc
+    by true true e on all more = rw (eq-eqb k.class.loader own (sym (eqb-true own k.class.loader e))) refl
+    by true false e off all more = more all
+    by false true e on all more = rw (eq-eqb k.class.loader own (all.0 on)) refl
+    by false false e off all more = more all.1
 
-one_home : (c j : Kin) (m : Member) → kins_from j.class.loader (superclasses c) ≡ [] → fewer_inherited c j m ≡ []
-one_home c j m none = by (takes_part m.key j && not (is_some (method_of c m.key)))
+one_same : (c j : Kin) (m : Member) → (takes_part m.key j ≡ true → other_than j.class.loader (option_map (λ (a : Kin). a.class.loader) (inherited_from c m.key)) ≡ None) → fewer_inherited c j m ≡ []
+one_same c j m none = by (takes_part m.key j) (not (is_some (method_of c m.key))) none
   where
-    by : (b : Bool) → (if b then equals_from m.key j.class.loader (other_than j.class.loader (option_map (λ (a : Kin). a.class.loader) (inherited_from c m.key))) else []) ≡ []
-    by false = refl
-    by true = ap (equals_from m.key j.class.loader) (first_mine j.class.loader (is_offered m.key) (superclasses c) none)
+    by : (part new : Bool) → (part ≡ true → other_than j.class.loader (option_map (λ (a : Kin). a.class.loader) (inherited_from c m.key)) ≡ None)
+        → (if part && new then equals_from m.key j.class.loader (other_than j.class.loader (option_map (λ (a : Kin). a.class.loader) (inherited_from c m.key))) else []) ≡ []
+    by false new h = refl
+    by true false h = refl
+    by true true h = ap (equals_from m.key j.class.loader) (h refl)
 
-all_home : (c j : Kin) (ms : List Member) → kins_from j.class.loader (superclasses c) ≡ [] → flat_map (fewer_inherited c j) ms ≡ []
-all_home c j [] none = refl
-all_home c j (m ∷ ms) none = ap (λ (ns : List Need). ns ++ flat_map (fewer_inherited c j) ms) (one_home c j m none) ∙ all_home c j ms none
+all_same : (c j : Kin) (ms : List Member) → ((m : Member) → takes_part m.key j ≡ true → other_than j.class.loader (option_map (λ (a : Kin). a.class.loader) (inherited_from c m.key)) ≡ None) → flat_map (fewer_inherited c j) ms ≡ []
+all_same c j [] none = refl
+all_same c j (m ∷ ms) none = ap (λ (ns : List Need). ns ++ flat_map (fewer_inherited c j) ms) (one_same c j m (none m)) ∙ all_same c j ms none
 
 -- ---- as the code tells it
 
@@ -301,42 +330,77 @@ all_any : (rs : List Rowed) → AllByRecursion (λ r. Unit {0}) rs
 all_any [] = tt
 all_any (r ∷ rs) = (tt, all_any rs)
 
-none_first : (l : Lined) (own : ℕ) (mine : Rowed) → own ≡ l.own.class.loader → mine ≡ l.own → names_other own mine ≡ false → names_other l.own.class.loader l.own ≡ false
-none_first l own mine oe me first = ap (λ (x : ℕ). names_other x l.own) (sym oe) ∙ ap (names_other own) (sym me) ∙ first
+-- no superinterface that is named is of another loader than this
+none_named_other : (own : ℕ) (rows : List Rowed) → AllByRecursion (λ r. AllByRecursion (λ (p : ℕ). p ≡ own) (interface_places r)) rows → list_any (names_other own) rows ≡ false
+none_named_other own [] all = refl
+none_named_other own (r ∷ rows) all = rw (one (interface_places r) all.0) (none_named_other own rows all.1)
+  where
+    one : (ps : List ℕ) → AllByRecursion (λ (p : ℕ). p ≡ own) ps → list_any (λ p. not (own == p)) ps ≡ false
+    one [] same = refl
+    one (p ∷ ps) same = rw (eq-eqb own p (sym same.0)) (one ps same.1)
 
-none_rest : {A : Type 0} (v : A → Rowed) (l : Lined) (own : ℕ) (rows : List A) → own ≡ l.own.class.loader → map v rows ≡ l.above → list_any (λ r. names_other own (v r)) rows ≡ false
-    → list_any (names_other l.own.class.loader) l.above ≡ false
-none_rest v l own rows oe re rest =
-    ap (λ (x : ℕ). list_any (names_other x) l.above) (sym oe) ∙ ap (list_any (names_other own)) (sym re) ∙ any_map (names_other own) v rows ∙ rest
+pub one_named_other : (own loader : ℕ) (b : Bool) (rows : List Rowed) → b ≡ not (own == loader) → b ≡ false → AllByRecursion (λ r. AllByRecursion (λ (p : ℕ). p ≡ loader) (interface_places r)) rows → list_any (names_other own) rows ≡ false
+one_named_other own loader b rows be off all =
+    let same : own ≡ loader = eqb-true own loader (is_on (own == loader) (sym be ∙ off)) in
+    none_named_other own rows (subst (λ (x : ℕ). AllByRecursion (λ r. AllByRecursion (λ (p : ℕ). p ≡ x) (interface_places r)) rows) (sym same) all)
+
+-- nor is one where none is named
+pub none_named_any : (own : ℕ) (rows : List Rowed) → AllByRecursion (λ r. interface_places r ≡ []) rows → list_any (names_other own) rows ≡ false
+none_named_any own [] all = refl
+none_named_any own (r ∷ rows) all = ap (λ (ps : List ℕ). list_any (λ p. not (own == p)) ps || list_any (names_other own) rows) all.0 ∙ none_named_any own rows all.1
 
 -- an interface, all of whose superinterfaces are of its loader
-pub quiet_interface : {A : Type 0} (v : A → Rowed) (l : Lined) (rows : List A) (own : ℕ) (mine : Rowed) → own ≡ l.own.class.loader → mine ≡ l.own → map v rows ≡ l.above
-    → names_other own mine ≡ false → list_any (λ r. names_other own (v r)) rows ≡ false → is_interface (file_of l.own.file) ≡ true → AddAll l []
-quiet_interface v l rows own mine oe me re first rest inter =
-    near_alone l
-    (all_over l.own.class.loader (IsQuiet l) l (names_own l.own.class.loader l.own (none_first l own mine oe me first))
-    (fine_rows l.own.class.loader (IsQuiet l) (λ r. Unit {0}) l.above (none_rest v l own rows oe re rest) (all_any l.above)
-    (λ r ks known m. record { own = m; none = λ off. absurd (let no : true ≡ false = sym inter ∙ off in cc) })))
+pub quiet_interface : (l : Lined) (own : ℕ) (mine : Rowed) → own ≡ l.own.class.loader → mine ≡ l.own → names_other own mine ≡ false → list_any (names_other own) l.above ≡ false → is_interface (file_of l.own.file) ≡ true → AddAll l []
+quiet_interface l own mine oe me first rest inter =
+    all_quiet l (λ r. Unit {0}) own mine oe me first rest (all_any l.above) (λ r ks known over. record { own = over.own; none = λ off. absurd (let no : true ≡ false = sym inter ∙ off in cc) })
+
+-- a class, all of whose superinterfaces are of its loader, and whose superclasses of other loaders declare nothing that these declare: none, or such as are unmixed
+quiet_away : (l : Lined) (away : List Rowed) (own : ℕ) (mine : Rowed) → own ≡ l.own.class.loader → mine ≡ l.own → names_other own mine ≡ false → list_any (names_other own) l.above ≡ false → map (kin_at l) away ≡ kins_from l.own.class.loader (superclasses (kin_of l))
+    → ((r : Rowed) (key : Key) → Contains (rows_in l) r → IsOver l r.class → offers key r ≡ true → AllByRecursion (λ (k : Kin). is_offered key k ≡ true → k.class.loader ≡ l.own.class.loader) (map (kin_at l) away)) → AddAll l []
+quiet_away l away own mine oe me first rest are each =
+    all_quiet l (Contains (rows_in l)) own mine oe me first rest (rows_there l) (λ r ks within over. record {
+      own = over.own;
+      none = λ off. all_same (kin_of l) (kin_under ks r) (bare r).file.methods (λ m part.
+          subst (λ (x : ℕ). other_than x (option_map (λ (a : Kin). a.class.loader) (inherited_from (kin_of l) m.key)) ≡ None) (sym over.own)
+          (first_mine l.own.class.loader (is_offered m.key) (superclasses (kin_of l))
+          (subst (λ (ks : List Kin). AllByRecursion (λ (k : Kin). is_offered m.key k ≡ true → k.class.loader ≡ l.own.class.loader) ks) are
+          (each r m.key within over (and_parts (not (is_special m.key.name)) (offers m.key r) part).1))));
+    })
 
 -- a class, all of whose superinterfaces and superclasses are of its loader
-pub quiet_home : {A : Type 0} (v : A → Rowed) (l : Lined) (rows : List A) (away : List Rowed) (own : ℕ) (mine : Rowed) → own ≡ l.own.class.loader → mine ≡ l.own → map v rows ≡ l.above
-    → names_other own mine ≡ false → list_any (λ r. names_other own (v r)) rows ≡ false → map (kin_at l) away ≡ kins_from l.own.class.loader (superclasses (kin_of l)) → away ≡ [] → AddAll l []
-quiet_home v l rows away own mine oe me re first rest are none =
-    let home : kins_from l.own.class.loader (superclasses (kin_of l)) ≡ [] = sym are ∙ ap (map (kin_at l)) none in
-    near_alone l
-    (all_over l.own.class.loader (IsQuiet l) l (names_own l.own.class.loader l.own (none_first l own mine oe me first))
-    (fine_rows l.own.class.loader (IsQuiet l) (λ r. Unit {0}) l.above (none_rest v l own rows oe re rest) (all_any l.above)
-    (λ r ks known m. record {
-      own = m;
-      none = λ off. all_home (kin_of l) (kin_under ks r) (bare r).file.methods (ap (λ (x : ℕ). kins_from x (superclasses (kin_of l))) m ∙ home);
-    })))
+pub quiet_home : (l : Lined) (away : List Rowed) (own : ℕ) (mine : Rowed) → own ≡ l.own.class.loader → mine ≡ l.own → names_other own mine ≡ false → list_any (names_other own) l.above ≡ false
+    → map (kin_at l) away ≡ kins_from l.own.class.loader (superclasses (kin_of l)) → away ≡ [] → AddAll l []
+quiet_home l away own mine oe me first rest are none =
+    quiet_away l away own mine oe me first rest are
+    (λ r key within over on. subst (λ (rs : List Rowed). AllByRecursion (λ (k : Kin). is_offered key k ≡ true → k.class.loader ≡ l.own.class.loader) (map (kin_at l) rs)) (sym none) tt)
+
+-- a row that is found is one of them
+found_in : (p : Rowed → Bool) (rows : List Rowed) (r : Rowed) → find p rows ≡ Some r → Contains rows r
+found_in p [] r e = absurd cc
+found_in p (x ∷ rows) r e = by (p x) (found_in p rows r) e
+  where
+    by : (b : Bool) → (find p rows ≡ Some r → Contains rows r) → (if b then Some x else find p rows) ≡ Some r → Contains (x ∷ rows) r
+    by true more e = subst (λ (y : Rowed). Contains (x ∷ rows) y) (same_row x r e) (Contains-append_left (x ∷ []) rows x (Contains-push [] x))
+    by false more e = Contains-append_right (x ∷ []) rows r (more e)
+
+unmixed_away : (l : Lined) (r : Rowed) (key : Key) (away : List Rowed) → IsUnmixed (rows_in l) → Contains (rows_in l) r → IsOver l r.class → offers key r ≡ true → AllByRecursion (IsRowIn (rows_in l)) away
+    → AllByRecursion (λ (k : Kin). is_offered key k ≡ true → k.class.loader ≡ l.own.class.loader) (map (kin_at l) away)
+unmixed_away l r key [] unmixed within over on known = tt
+unmixed_away l r key (a ∷ away) unmixed within over on known =
+    ((λ there. sym (unmixed over.row r a over.within within (found_in (λ x. same_class x.class a.class) (rows_in l) a known.0) over.names key on there) ∙ over.own), unmixed_away l r key away unmixed within over on known.1)
+
+-- a class, all of whose superinterfaces are of its loader, and none of whose rows are mixed
+pub quiet_unmixed : (l : Lined) (away : List Rowed) (own : ℕ) (mine : Rowed) → own ≡ l.own.class.loader → mine ≡ l.own → names_other own mine ≡ false → list_any (names_other own) l.above ≡ false
+    → map (kin_at l) away ≡ kins_from l.own.class.loader (superclasses (kin_of l)) → AllByRecursion (IsRowIn (rows_in l)) away → IsUnmixed (rows_in l) → AddAll l []
+quiet_unmixed l away own mine oe me first rest are known unmixed =
+    quiet_away l away own mine oe me first rest are (λ r key within over on. unmixed_away l r key away unmixed within over on known)
 
 -- a class, all of whose superinterfaces are of its loader, and over which all rows are silent
-pub quiet_class : {A : Type 0} (v : A → Rowed) (l : Lined) (xs ys near rows again : List A) (away : List Rowed) (own : ℕ) (mine : Rowed) → own ≡ l.own.class.loader → mine ≡ l.own → map v rows ≡ l.above → map v again ≡ l.above
+pub quiet_class : {A : Type 0} (v : A → Rowed) (l : Lined) (xs ys near again : List A) (away : List Rowed) (own : ℕ) (mine : Rowed) → own ≡ l.own.class.loader → mine ≡ l.own → map v again ≡ l.above
     → map (kin_at l) away ≡ kins_from l.own.class.loader (superclasses (kin_of l)) → AllByRecursion (IsRowIn (rows_in l)) away → map (λ r. kin_at l (v r)) xs ≡ superclasses (kin_of l) → AllByRecursion (λ r. IsRowIn (rows_in l) (v r)) xs
-    → SupersBefore [] l.above → names_other own mine ≡ false → list_any (λ r. names_other own (v r)) rows ≡ false → ys ≡ xs → take (length near) ys ≡ near → AllByRecursion (λ r. own ≡ (v r).class.loader) near
+    → SupersBefore [] l.above → names_other own mine ≡ false → list_any (names_other own) l.above ≡ false → ys ≡ xs → take (length near) ys ≡ near → AllByRecursion (λ r. own ≡ (v r).class.loader) near
     → AllByRecursion (λ r. is_silent own (map v near) away (v r) ≡ true) again → AddAll l []
-quiet_class v l xs ys near rows again away own mine oe me re res aways in_away are known ordered first rest ye front mines silent =
+quiet_class v l xs ys near again away own mine oe me res aways in_away are known ordered first rest ye front mines silent =
     let of : ℕ = l.own.class.loader in
     let nearest : List Rowed = map v near in
     let others : List Rowed = map v (drop (length near) xs) in
@@ -350,13 +414,11 @@ quiet_class v l xs ys near rows again away own mine oe me re res aways in_away a
     let silent_all : AllByRecursion (λ (r : Rowed). is_silent of nearest away r ≡ true) l.above =
     subst (λ (rs : List Rowed). AllByRecursion (λ r. is_silent of nearest away r ≡ true) rs) res
     (all_forth v (λ r. is_silent of nearest away r ≡ true) again (subst (λ (x : ℕ). AllByRecursion (λ r. is_silent x nearest away (v r) ≡ true) again) oe silent)) in
-    near_alone l
-    (all_over of (IsQuiet l) l (names_own of l.own (none_first l own mine oe me first))
-    (fine_rows of (IsQuiet l) (λ r. IsRowIn (rows_in l) r × (is_silent of nearest away r ≡ true)) l.above (none_rest v l own rows oe re rest)
-    (all_pair (IsRowIn (rows_in l)) (λ r. is_silent of nearest away r ≡ true) l.above rows_all silent_all)
-    (λ r ks known m. quiet_at l (map v xs) r ks all m
+    all_quiet l (λ r. IsRowIn (rows_in l) r × (is_silent of nearest away r ≡ true)) own mine oe me first rest
+    (all_by (IsRowIn (rows_in l)) (λ r. is_silent of nearest away r ≡ true) (λ r. IsRowIn (rows_in l) r × (is_silent of nearest away r ≡ true)) l.above rows_all silent_all (λ r at on. (at, on)))
+    (λ r ks known over. quiet_at l (map v xs) r ks all over.own
     (λ off. subst (λ (rs : List Rowed). flat_map (inherited_by_rows true l.own rs r) (bare r).file.methods ≡ []) (sym split)
-    (silent_none l nearest others away r (ae ∙ ap (away_from of) split) mine_all in_all known.0 known.1 m)))))
+    (silent_none l nearest others away r (ae ∙ ap (away_from of) split) mine_all in_all known.0 known.1 over.own)))
 
 -- a row is silent: it is of another loader, or a near superclass, or none of its methods is heard
 pub silent_away : (own : ℕ) (near away : List Rowed) (r : Rowed) → (own == r.class.loader) ≡ false → is_silent own near away r ≡ true

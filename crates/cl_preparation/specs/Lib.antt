@@ -1,3 +1,4 @@
+pub mod Declarers
 pub mod Fewer
 pub mod Filters
 pub mod Inherited

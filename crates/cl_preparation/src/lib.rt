@@ -2,6 +2,7 @@
 //! 8, 5.4.2, 5.4.5).
 #![tactic(auto)]
 
+mod declarers;
 mod described;
 mod fewer;
 mod filter;
@@ -14,8 +15,10 @@ mod packages;
 mod quiet;
 mod relative;
 mod relatives;
+mod survey;
 mod walk;
 
 pub use fewer::fewer_constraints_of;
 pub use overriding::overrides;
 pub use relatives::constraints_of;
+pub use survey::surveyed;

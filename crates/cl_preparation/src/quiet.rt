@@ -16,7 +16,7 @@ use crate::key::MethodKey;
 use crate::method::Method;
 use crate::relative::Relative;
 use crate::relatives::{has_none_over, superinterfaces_of};
-use cl_hierarchy::{ClassRow, Lineage};
+use cl_hierarchy::{ClassRow, Lineage, Overs};
 use cl_model::{Class, LoaderId, Told};
 use std::alloc::{AllocError, Global};
 use std::sync::Arc;
@@ -39,11 +39,15 @@ fn names_other<T: Told>(row: &ClassRow<T>, own: LoaderId) -> bool
     interface_places(row).iter().any(|place| own != *place)
 }
 
-/// Whether one of these classes does.
-fn any_names_other<T: Told>(rows: &[Arc<ClassRow<T>>], own: LoaderId) -> bool
-    ensures { result ≡ list_any (λ r. names_other own r.value) rows.now }
+/// Whether a class above that of a lineage may name a superinterface of another loader than this.
+fn may_name_other<T: Told>(lineage: &Lineage<T>, own: LoaderId) -> bool
+    ensures { result ≡ false → list_any (names_other own) lineage.now.above ≡ false }
 {
-    rows.iter().any(|row| names_other(row, own))
+    match lineage.overs() {
+        Overs::None => false,
+        Overs::One(loader) => own != loader,
+        Overs::Several => true,
+    }
 }
 
 /// Whether one of these classes declares a method with this key that is neither private nor static.
@@ -194,7 +198,7 @@ fn are_quiet<T: Told>(
     ensures { IfOk result (λ b. b ≡ true → AddAll lineage.now []) }
 {
     let own = lineage.own().class().loader;
-    if names_other(lineage.own(), own) || any_names_other(lineage.above(), own) {
+    if names_other(lineage.own(), own) || may_name_other(lineage, own) {
         return Ok(false);
     }
     if lineage.own().file().is_interface() {
@@ -202,6 +206,10 @@ fn are_quiet<T: Told>(
     }
     // all superclasses are of the own loader, and so is what is inherited
     if away.is_empty() {
+        return Ok(true);
+    }
+    // no method of a superinterface is one that a class of another loader declares
+    if lineage.is_unmixed() {
         return Ok(true);
     }
     let rows = lineage.superclasses(alloc)?;

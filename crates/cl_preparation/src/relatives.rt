@@ -7,7 +7,7 @@ ghost use Rattle.cl_model.specs.Lineages.{superclasses, superinterfaces};
 ghost use Rattle.cl_model.specs.Preparation.{constraints_of, for_declared, for_inherited, takes_part};
 ghost use Rattle.cl_hierarchy.specs.Imposed.{OfPreparation, needs_of};
 ghost use Rattle.cl_hierarchy.specs.Lineages.{kin_at, kin_of};
-ghost use Rattle.cl_preparation.specs.Relatives.{bare, names_interfaces};
+ghost use Rattle.cl_preparation.specs.Relatives.{bare};
 
 use crate::described::Described;
 use crate::inherited::Inheritance;
@@ -15,7 +15,7 @@ use crate::key::MethodKey;
 use crate::method::Method;
 use crate::relative::{Relative, names_interfaces};
 use crate::walk::{push_above, push_taking};
-use cl_hierarchy::{ClassRow, Equalities, Lineage};
+use cl_hierarchy::{ClassRow, Equalities, Lineage, Overs};
 use cl_model::{Equality, Told};
 use std::alloc::{AllocError, Global};
 use std::marker::Model;
@@ -79,13 +79,6 @@ fn superclasses_of<T: Told>(
     Ok(all)
 }
 
-/// Whether one of these classes names superinterfaces.
-fn any_names_interfaces<T: Told>(rows: &[Arc<ClassRow<T>>]) -> bool
-    ensures { result ≡ list_any (λ r. names_interfaces r.value) rows.now }
-{
-    rows.iter().any(|row| names_interfaces(row))
-}
-
 /// Whether neither the class of a lineage nor a class above it names superinterfaces: it has none (JVMS SE 8, 4.1).
 pub(crate) fn has_none_over<T: Told>(lineage: &Lineage<T>) -> bool
     ensures { result ≡ true → [] ≡ superinterfaces (kin_of lineage.now) }
@@ -93,7 +86,10 @@ pub(crate) fn has_none_over<T: Told>(lineage: &Lineage<T>) -> bool
     if names_interfaces(lineage.own()) {
         return false;
     }
-    !any_names_interfaces(lineage.above())
+    match lineage.overs() {
+        Overs::None => true,
+        _ => false,
+    }
 }
 
 /// The superinterfaces, in preorder.

@@ -1,5 +1,6 @@
 -- A link goes on from the lineage of a class that is the front of the one in hand.
-use Rattle.std.proofs.Common.{◌≡◌, ◌∙◌, ◌≤◌, ◌+◌, ℕ, List, [], ◌∷◌, ◌++◌, Option, Some, append_assoc, length, refl, sym, ap, subst, arith}
+use Rattle.std.proofs.Common.{Global, ◌≡◌, ◌∙◌, ◌<◌, ◌≤◌, ◌+◌, ℕ, List, [], ◌∷◌, ◌++◌, Option, Some, append_assoc, length, refl, sym, ap, subst, arith}
+use Rattle.std.specs.declared.sync.Arc.{Arc}
 use Rattle.std.specs.Prelude.{slice_get}
 use Rattle.std.specs.List.{AllByRecursion}
 use Rattle.cl_model.specs.declared.class.Class.{Class}
@@ -13,7 +14,7 @@ use Rattle.cl_registry.specs.Tables.{Shown}
 use Rattle.cl_registry.specs.Traced.{IsRowOf, IsTraced}
 use Rattle.cl_tasks.specs.Linking.{ChainTold, LineageTold}
 use Rattle.cl_tasks.specs.Rooms.{chain_room, listed_room}
-use Rattle.cl_tasks.specs.Stages.{IsOf, behind, chain_calls, class_in}
+use Rattle.cl_tasks.specs.Stages.{IsChain, IsOf, behind, chain_calls, class_in}
 use Rattle.cl_tasks.specs.Measures.{chain_left}
 use Rattle.cl_tasks.specs.Steps.{LeadsBy}
 use Rattle.cl_tasks.specs.declared.stage.Chain.{Chain}
@@ -60,3 +61,20 @@ front_leads told c k front f next =
     leads_by (chain_room k) (ChainTold k) next (one_turn_less (chain_left (behind k)))
     (fewer_calls told c (ChainTold k) k.goal.request 0 (chain_calls k.whole.value k.place) (chain_calls k.whole.value k.place + 1) (no_call (chain_calls k.whole.value k.place)))
     (λ x h. record { before = h; now = front_traced k.whole.value front k.place f x k.whole.value.own.class (chain_whole x k h) })
+
+-- ---- a lineage that was surveyed is the same
+
+module _ {A : Type 0} (c : Configured) (k : Chain A) (whole : Arc Lined Global) (same : whole.value ≡ k.whole.value) where
+  pub surveyed_chain : IsChain c k → IsChain c (record k { whole = whole })
+  surveyed_chain h = record {
+    goal = h.goal;
+    whole = subst (λ (l : Lined). IsOf c k.goal.class.value.class l) (sym same) h.whole;
+    within = subst (λ (l : Lined). k.place < length (rows_in l)) (sym same) h.within;
+  }
+
+  abbrev at : Lined → Chain A
+  at l = record k { whole = record whole { value = l } }
+
+  pub surveyed_leads : {n : Next A} (told : Option Content) → LeadsBy told c k.goal.q k.goal.request (chain_room (record k { whole = whole })) (ChainTold (record k { whole = whole })) n
+      → LeadsBy told c k.goal.q k.goal.request (chain_room k) (ChainTold k) n
+  surveyed_leads {n} told h = subst (λ (l : Lined). LeadsBy told c k.goal.q k.goal.request (chain_room (at l)) (ChainTold (at l)) n) same h

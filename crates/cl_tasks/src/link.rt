@@ -24,7 +24,7 @@ use cl_config::Config;
 use cl_findings::{Finding, bring_lineages};
 use cl_hierarchy::{ClassRow, Equalities, Lineage};
 use cl_model::{Class, Need, Told};
-use cl_preparation::fewer_constraints_of;
+use cl_preparation::{fewer_constraints_of, surveyed};
 use std::alloc::{AllocError, Global};
 use std::sync::Arc;
 
@@ -168,9 +168,37 @@ pub(crate) fn take_asked<T: Told>(
     ensures past { IsPast result.stage }
 {
     if !prepared {
-        return trace(alloc, config, chain);
+        return trace_first(alloc, config, chain);
     }
     pass(alloc, config, chain)
+}
+
+/// The same of the first class that is not prepared: those from its place on are, one after another, so that a survey of the
+/// lineage may spare each a look at all above it.
+fn trace_first<T: Told>(alloc: Global, config: &Arc<Config>, chain: Chain<T>) -> Next<T>
+    requires chain { IsChain config.now.value chain }
+    ensures leads { LeadsBy T.told config.now.value chain.goal.q chain.goal.request
+        (chain_room chain) (ChainTold chain) result }
+    ensures plain { IsPlain result.turn }
+    ensures past { IsPast result.stage }
+{
+    let Chain {
+        goal,
+        whole,
+        place: from,
+    } = chain;
+    match surveyed(alloc, whole, from) {
+        Err(_) => out_of_memory(goal.q, goal.request),
+        Ok(whole) => trace(
+            alloc,
+            config,
+            Chain {
+                goal,
+                whole,
+                place: from,
+            },
+        ),
+    }
 }
 
 /// The class at the place of a chain is prepared, and was so before: whether the next one is comes next, or the request's
@@ -226,7 +254,7 @@ fn front_of<T: Told>(
 ) -> Result<Option<Arc<Lineage<T>>>, AllocError>
     ensures { IfOk result (λ o. IfSome o (λ l. IsFront whole.now place l.value)) }
 {
-    let Some(front) = whole.front(alloc, place)? else {
+    let Some(front) = whole.front(place)? else {
         return Ok(None);
     };
     let front = Arc::new(alloc, front).map_err(|_| AllocError)?;

@@ -1,9 +1,16 @@
-use crate::turn::Turn;
+ghost use Rattle.cl_tasks.specs.Stages.{IsStage, task_at};
+ghost use Rattle.cl_tasks.specs.Steps.{Steps};
+ghost use Rattle.cl_tasks.specs.Turns.{Expects};
+
+use crate::step::{step_of_link, step_of_load, step_of_resolution};
+use crate::turn::{Reply, Turn};
+use cl_config::Config;
 use cl_delegation::{Home, Search};
 use cl_findings::{Finding, Target};
 use cl_hierarchy::{ClassRow, Equalities, Frame, Lineage, Path};
 use cl_members::Found;
 use cl_model::{Request, Told};
+use std::alloc::Global;
 use std::sync::Arc;
 
 /// A request with its number, and how far the derivation went of the class that is loaded for it: its own, or that of its
@@ -100,13 +107,49 @@ pub enum Link<T: Told> {
 }
 
 /// What a task is at.
-#[derive(Drop)]
 pub enum Stage<T: Told> {
     Load(Load<T>),
     Resolve(Resolution<T>),
     Link(Link<T>),
     /// The request of this number has its answer.
     Done(u32),
+}
+
+impl<T: Told> Drop for Stage<T> {
+    fn drop(self) {
+        match self {
+            Stage::Load(_) => {}
+            Stage::Resolve(_) => {}
+            Stage::Link(_) => {}
+            Stage::Done(_) => {}
+        }
+    }
+}
+
+impl<T: Told> Stage<T> {
+    /// Lets it go.
+    pub(crate) fn let_go(self) {
+        match self {
+            Stage::Load(_) => {}
+            Stage::Resolve(_) => {}
+            Stage::Link(_) => {}
+            Stage::Done(_) => {}
+        }
+    }
+
+    /// The turn that a reply leads to.
+    pub(crate) fn step(self, alloc: Global, config: &Arc<Config>, reply: Reply<T>) -> Next<T>
+        requires kept { IsStage T.told config.now.value self }
+        requires expects { Expects (task_at config.now.value self) reply }
+        ensures { Steps T.told (task_at config.now.value self) reply result }
+    {
+        match self {
+            Stage::Load(load) => step_of_load(alloc, config, load, reply),
+            Stage::Resolve(resolution) => step_of_resolution(alloc, config, resolution, reply),
+            Stage::Link(link) => step_of_link(alloc, config, link, reply),
+            Stage::Done(_) => unreachable!(),
+        }
+    }
 }
 
 /// A turn, and what the task is at after it.

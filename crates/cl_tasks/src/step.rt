@@ -75,26 +75,7 @@ fn number_of_link<T: Told>(link: &Link<T>) -> u32
     }
 }
 
-/// The turn that a reply leads to.
-pub(crate) fn step<T: Told>(
-    alloc: Global,
-    config: &Arc<Config>,
-    stage: Stage<T>,
-    reply: Reply<T>,
-) -> Next<T>
-    requires kept { IsStage T.told config.now.value stage }
-    requires expects { Expects (task_at config.now.value stage) reply }
-    ensures { Steps T.told (task_at config.now.value stage) reply result }
-{
-    match stage {
-        Stage::Load(load) => step_of_load(alloc, config, load, reply),
-        Stage::Resolve(resolution) => step_of_resolution(alloc, config, resolution, reply),
-        Stage::Link(link) => step_of_link(alloc, config, link, reply),
-        Stage::Done(_) => unreachable!(),
-    }
-}
-
-fn step_of_load<T: Told>(
+pub(crate) fn step_of_load<T: Told>(
     alloc: Global,
     config: &Arc<Config>,
     load: Load<T>,
@@ -114,7 +95,7 @@ fn step_of_load<T: Told>(
     }
 }
 
-fn step_of_resolution<T: Told>(
+pub(crate) fn step_of_resolution<T: Told>(
     alloc: Global,
     config: &Arc<Config>,
     resolution: Resolution<T>,
@@ -138,7 +119,7 @@ fn step_of_resolution<T: Told>(
     }
 }
 
-fn step_of_link<T: Told>(
+pub(crate) fn step_of_link<T: Told>(
     alloc: Global,
     config: &Arc<Config>,
     link: Link<T>,

@@ -9,7 +9,7 @@ ghost use Rattle.cl_tasks.specs.Turns.{AnswersOwn, Asks, DerivesUnrecorded, Expe
 
 use crate::expected::expects;
 use crate::stage::{Job, Load, Stage};
-use crate::step::{number, step};
+use crate::step::number;
 use crate::turn::{Reply, Turn};
 use cl_config::Config;
 use cl_findings::Target;
@@ -132,9 +132,9 @@ impl<T: Told> Task<T> {
     {
         let q = self.q();
         let stage = mem::replace(&mut self.stage, Stage::Done(q));
-        let next = step(alloc, &self.config, stage, reply);
-        // the `Done` that stood there owns nothing
-        mem::forget(mem::replace(&mut self.stage, next.stage));
+        let next = stage.step(alloc, &self.config, reply);
+        // (a call, since how a stage is dropped is too much for the proof of this function)
+        mem::replace(&mut self.stage, next.stage).let_go();
         next.turn
     }
 }

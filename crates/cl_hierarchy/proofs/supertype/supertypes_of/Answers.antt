@@ -1,4 +1,4 @@
-use Rattle.std.proofs.Common.{◌≡◌, ◌∙◌, ℕ, List, length, None, Some, refl, sym, ap, arith}
+use Rattle.std.proofs.Common.{◌∙◌, ℕ, List, length, None, Some, refl, sym, ap, arith}
 use Rattle.std.specs.Prelude.{option_map}
 use Rattle.cl_hierarchy.proofs.Counted.{counted}
 use Rattle.cl_hierarchy.proofs.supertype.supertypes_of.Goals as goal

@@ -1,10 +1,9 @@
-use Rattle.std.proofs.Common.{◌≡◌, ◌∙◌, List, [], ◌∷◌, ◌++◌, length, map, arith, sym, ap}
+use Rattle.std.proofs.Common.{◌≡◌, ◌∙◌, [], ◌∷◌, ◌++◌, length, map, arith, sym, ap}
 use Rattle.std.proofs.lemmas.List.{nil_from_length}
 use mathlib.Core.List.{map-map}
-use Rattle.cl_model.specs.Lineages.{alone, once}
 use Rattle.cl_hierarchy.specs.declared.tour.Task.TheVariants as tasks
 use Rattle.cl_hierarchy.specs.Trees.{kin_under, kins}
-use Rattle.cl_hierarchy.specs.Tours.{marks, stops, told_at}
+use Rattle.cl_hierarchy.specs.Tours.{marks}
 use Rattle.cl_hierarchy.proofs.Climbs.{all_back}
 use Rattle.cl_hierarchy.proofs.Stages.{ended, first_stage, preserved, smaller}
 use Rattle.cl_hierarchy.proofs.tour.rows_in_order.Goals as goal

@@ -1,4 +1,4 @@
-use Rattle.std.proofs.Common.{◌≡◌, ◌<◌, ◌^◌, ◌∙◌, ℕ, List, length, ap, subst}
+use Rattle.std.proofs.Common.{◌<◌, ◌^◌, ◌∙◌, ℕ, List, length, ap, subst}
 use Rattle.cl_classfile.specs.Structure.{Structure}
 use Rattle.cl_hierarchy.proofs.Drafting.{few_supers}
 use Rattle.cl_hierarchy.proofs.draft.Draft.supertype.Goals as goal

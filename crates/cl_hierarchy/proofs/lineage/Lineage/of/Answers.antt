@@ -23,6 +23,6 @@ of_rows-requires g c =
 
 pub returns : goal.returns
 returns g c =
-    subst (λ l. IsMadeOf c.args.config.now.value (g.R.RowTable.rows c.args.table.now) c.args.class.now l) (sym c.of_rows.ensures) (
+    subst (λ l. IsMadeOf c.args.config.now.value (g.R.RowTable.rows c.args.table.now) c.args.class.now l) (sym c.in_ok-of_rows-in-Some-pop.ensures) (
     told_made (λ r. r.value) _ _ _ c.in_ok-config.config.value c.args.class.now _ c.in_ok-rows.rows.items c.pop.new.self.items c.in-Some-pop.own c.requires c.in_ok-config.ensures (sym c.in-Some.ensures) (told_in (λ r. r.value) _ _ c.in_ok-rows.rows.items c.in_ok-rows.ensures.kins c.in_ok-rows.ensures.rows)
     c.in-Some-pop.ensures.items).made

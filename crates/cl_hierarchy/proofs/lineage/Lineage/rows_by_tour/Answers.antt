@@ -1,24 +1,24 @@
-use Rattle.std.proofs.Common.{map, ap}
+use Rattle.std.proofs.Common.{refl}
 use Rattle.cl_model.specs.Lineages.{Kin, alone, once}
 use Rattle.cl_hierarchy.specs.Tours.{stops, told_at}
-use Rattle.cl_hierarchy.proofs.Inside.{ordered, row_stands, rows_inside, table_is, told_inside}
+use Rattle.cl_hierarchy.proofs.Inside.{ordered, row_stands, rows_inside, table_at, told_inside}
 use Rattle.cl_hierarchy.proofs.lineage.Lineage.rows_by_tour.Goals as goal
 
 pub rows_in_order-requires-clause-ordered : goal.rows_in_order-requires-clause-ordered
 rows_in_order-requires-clause-ordered g c =
-    ordered c.args.self.now _ c.in_ok-table.table c.self.view_is c.self.invariant.lined.order (table_is c.args.self.now _ c.in_ok-table.table _ c.self.view_is c.in_ok-table.ensures (ap (λ xs. map (λ x. x.value) xs) c.as_slice.ensures.value))
+    ordered c.args.self.now _ c.in_ok-table.table refl c.above.ensures.kept.order (table_at c.args.self.now c.in_ok-table.table _ c.own.result.now.value c.in_ok-table.ensures c.above.ensures.rows c.own.ensures.own)
 
 pub rows_in_order-requires-clause-start : goal.rows_in_order-requires-clause-start
 rows_in_order-requires-clause-start g c =
-    row_stands c.args.self.now _ c.in_ok-table.table c.self.view_is c.self.invariant.lined.order (table_is c.args.self.now _ c.in_ok-table.table _ c.self.view_is c.in_ok-table.ensures (ap (λ xs. map (λ x. x.value) xs) c.as_slice.ensures.value))
+    row_stands c.args.self.now _ c.in_ok-table.table refl c.above.ensures.kept.order (table_at c.args.self.now c.in_ok-table.table _ c.own.result.now.value c.in_ok-table.ensures c.above.ensures.rows c.own.ensures.own)
     c.args.row.now.value c.requires
 
 pub returns-clause-told : goal.returns-clause-told
 returns-clause-told g c =
-    told_inside c.args.self.now _ c.in_ok-table.table c.self.view_is c.self.invariant.lined.order (table_is c.args.self.now _ c.in_ok-table.table _ c.self.view_is c.in_ok-table.ensures (ap (λ xs. map (λ x. x.value) xs) c.as_slice.ensures.value))
+    told_inside c.args.self.now _ c.in_ok-table.table refl c.above.ensures.kept.order (table_at c.args.self.now c.in_ok-table.table _ c.own.result.now.value c.in_ok-table.ensures c.above.ensures.rows c.own.ensures.own)
     (λ v. v.items) (λ r. r.value) (λ (k : Kin). once (told_at c.args.order (stops c.args.order (alone k) c.args.wanted))) c.args.row.now.value c.requires c.rows_in_order.result c.rows_in_order.ensures.kins c.rows_in_order.ensures.rows
 
 pub returns-clause-rows : goal.returns-clause-rows
 returns-clause-rows g c =
-    rows_inside c.args.self.now _ c.in_ok-table.table c.self.view_is c.self.invariant.lined.order (table_is c.args.self.now _ c.in_ok-table.table _ c.self.view_is c.in_ok-table.ensures (ap (λ xs. map (λ x. x.value) xs) c.as_slice.ensures.value))
+    rows_inside c.args.self.now _ c.in_ok-table.table refl c.above.ensures.kept.order (table_at c.args.self.now c.in_ok-table.table _ c.own.result.now.value c.in_ok-table.ensures c.above.ensures.rows c.own.ensures.own)
     (λ v. v.items) (λ r. r.value) c.rows_in_order.result c.rows_in_order.ensures.rows

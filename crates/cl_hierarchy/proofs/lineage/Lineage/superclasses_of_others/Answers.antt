@@ -1,15 +1,29 @@
-use Rattle.std.proofs.Common.{map, ap}
-use Rattle.std.proofs.lemmas.Result.{IfOk-weaker}
-use Rattle.cl_hierarchy.proofs.Away.{given_ordered, given_stem}
-use Rattle.cl_hierarchy.proofs.Climbs.{rows_in_all}
+use Rattle.std.proofs.Common.{◌≡◌, ◌∙◌, IfOk, ap, subst, sym, map}
+use Rattle.std.specs.Prelude.{slice_get, filter}
+use Rattle.std.specs.List.{AllByRecursion}
+use Rattle.cl_model.specs.Lineages.{superclasses}
+use Rattle.cl_hierarchy.specs.Ladders.{AreOthers, IsLadder, Laddered}
+use Rattle.cl_hierarchy.specs.Lineages.{IsRowIn, Lined, is_of_other, kin_at, kin_of, rows_in}
+use Rattle.cl_hierarchy.specs.Rows.{Rowed}
+use Rattle.cl_hierarchy.proofs.Rungs.{others_kins, others_rows}
 use Rattle.cl_hierarchy.proofs.lineage.Lineage.superclasses_of_others.Goals as goal
 
-pub others_above-requires-clause-ordered : goal.others_above-requires-clause-ordered
-others_above-requires-clause-ordered g c = given_ordered _ _ c.self.invariant.lined.order (ap (λ xs. map (λ x. x.value) xs) c.as_slice.ensures.value)
-
-pub others_above-requires-clause-stem : goal.others_above-requires-clause-stem
-others_above-requires-clause-stem g c = given_stem _ _ c.self.inside.own.value c.self.inside.stem c.self.invariant.climbs (ap (λ xs. map (λ x. x.value) xs) c.as_slice.ensures.value)
+pub returns-clause-superclasses : goal.returns-clause-superclasses
+returns-clause-superclasses g c =
+    let ladder = subst (λ (x : Laddered). IsLadder g.T.Told.told x) c.deref.ensures c.others_above.ensures.kept in
+    let are =
+    c.others_above.ensures.others c.self.inside.own.value (ap (λ (x : Laddered). slice_get x.rows c.self.inside.place) c.deref.ensures ∙ c.self.invariant.at)
+    (ap (λ (r : Rowed). r.class.loader) (sym c.deref-2.ensures) ∙ ap (λ x. x.loader) (sym c.class.ensures.class)) in
+    subst (λ (l : Lined). IfOk c.others_above.result (λ v. map (λ r. kin_at l r.value) v.items ≡ filter (λ k. is_of_other l.own.class.loader k.class) (superclasses (kin_of l)))) c.self.view_is
+    (others_kins g.T.Told.told c.self.inside.ladder.value c.self.inside.place c.self.inside.own.value c.self.inside.unmixed c.self.invariant ladder (λ v. v.items) (λ r. r.value) c.others_above.result
+    (subst (λ (x : Laddered). IfOk c.others_above.result (λ v. AreOthers x c.self.inside.place c.self.inside.own.value (map (λ y. y.value) v.items))) c.deref.ensures are))
 
 pub returns-clause-rows : goal.returns-clause-rows
 returns-clause-rows g c =
-    IfOk-weaker c.others_above.result _ _ (λ v h. rows_in_all (λ r. r.value) _ _ _ c.self.view_is (ap (λ xs. map (λ x. x.value) xs) c.as_slice.ensures.value) v.items h) c.others_above.ensures.rows
+    let ladder = subst (λ (x : Laddered). IsLadder g.T.Told.told x) c.deref.ensures c.others_above.ensures.kept in
+    let are =
+    c.others_above.ensures.others c.self.inside.own.value (ap (λ (x : Laddered). slice_get x.rows c.self.inside.place) c.deref.ensures ∙ c.self.invariant.at)
+    (ap (λ (r : Rowed). r.class.loader) (sym c.deref-2.ensures) ∙ ap (λ x. x.loader) (sym c.class.ensures.class)) in
+    subst (λ (l : Lined). IfOk c.others_above.result (λ v. AllByRecursion (λ r. IsRowIn (rows_in l) r.value) v.items)) c.self.view_is
+    (others_rows g.T.Told.told c.self.inside.ladder.value c.self.inside.place c.self.inside.own.value c.self.inside.unmixed c.self.invariant ladder (λ v. v.items) (λ r. r.value) c.others_above.result
+    (subst (λ (x : Laddered). IfOk c.others_above.result (λ v. AreOthers x c.self.inside.place c.self.inside.own.value (map (λ y. y.value) v.items))) c.deref.ensures are))

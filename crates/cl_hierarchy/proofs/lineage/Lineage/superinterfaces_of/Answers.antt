@@ -1,4 +1,4 @@
-use Rattle.std.proofs.Common.{◌∙◌, ap, map}
+use Rattle.std.proofs.Common.{◌∙◌, refl}
 use Rattle.std.proofs.lemmas.Result.{IfOk-weaker}
 use Rattle.cl_hierarchy.specs.Lineages.{kin_at}
 use Rattle.cl_hierarchy.proofs.StemEnds.{ordered_in, rows_told, told_in}
@@ -11,14 +11,14 @@ returns-in-None-clause-superinterfaces g c =
 
 pub superinterfaces_behind-requires : goal.superinterfaces_behind-requires
 superinterfaces_behind-requires g c =
-    ordered_in c.args.self.now _ _ _ c.in-Some.end.now.value c.self.view_is c.self.invariant.lined.order (ap (λ xs. map (λ x. x.value) xs) c.as_slice.ensures.value) c.in-Some.ensures.place
+    ordered_in c.args.self.now c.args.self.now _ _ c.in-Some.end.now.value refl c.above.ensures.kept.order c.above.ensures.rows c.in-Some.ensures.place
 
 pub returns-in-Some-clause-superinterfaces : goal.returns-in-Some-clause-superinterfaces
 returns-in-Some-clause-superinterfaces g c =
-    told_in c.args.self.now _ _ _ c.in-Some.end.now.value c.self.view_is c.self.invariant.lined.order (ap (λ xs. map (λ x. x.value) xs) c.as_slice.ensures.value) c.in-Some.ensures.place
+    told_in c.args.self.now c.args.self.now _ _ c.in-Some.end.now.value refl c.above.ensures.kept.order c.above.ensures.rows c.in-Some.ensures.place
     (λ v. v.items) (λ r. r.value) c.args.row.now.value c.deref.result.now c.superinterfaces_behind.result c.deref.ensures c.in-Some.ensures.same c.superinterfaces_behind.ensures.superinterfaces c.superinterfaces_behind.ensures.rows
 
 pub returns-in-Some-clause-rows : goal.returns-in-Some-clause-rows
 returns-in-Some-clause-rows g c =
-    rows_told c.args.self.now _ _ _ c.in-Some.end.now.value c.self.view_is c.self.invariant.lined.order (ap (λ xs. map (λ x. x.value) xs) c.as_slice.ensures.value) c.in-Some.ensures.place
+    rows_told c.args.self.now c.args.self.now _ _ c.in-Some.end.now.value refl c.above.ensures.kept.order c.above.ensures.rows c.in-Some.ensures.place
     (λ v. v.items) (λ r. r.value) c.superinterfaces_behind.result c.superinterfaces_behind.ensures.rows

@@ -1,6 +1,4 @@
-use Rattle.std.proofs.Common.{◌≡◌, ◌++◌, ◌∷◌, [], List, length, map}
-use Rattle.cl_hierarchy.specs.RowIndex.{IsIndexOf}
-use Rattle.cl_hierarchy.specs.Rows.{Rowed}
+use Rattle.std.proofs.Common.{length, map}
 use Rattle.cl_hierarchy.proofs.RowIndex.{Indexes}
 use Rattle.cl_hierarchy.proofs.row_index.RowIndex.of.Given as goal
 

@@ -1,4 +1,3 @@
-use Rattle.std.proofs.Common.{◌∙◌}
 use Rattle.cl_hierarchy.proofs.RowIndex.{found_in}
 use Rattle.cl_hierarchy.proofs.row_index.RowIndexFinds.find.Goals as goal
 

@@ -1,0 +1,287 @@
+-- A lineage that stands on a rung of its ladder.
+use Rattle.std.proofs.Common.{◌≡◌, ◌∙◌, ◌<◌, ◌≤◌, ◌+◌, ℕ, zero, suc, Bool, true, false, not, arith, List, [], ◌∷◌, ◌++◌, Option, Some, None, Result, Ok, Err, IfOk, append_assoc, length, length-append, map, take, refl, sym, ap, subst}
+use Rattle.std.specs.Prelude.{Contains, IfSome, filter, is_some, slice_get}
+use Rattle.std.specs.List.{AllByRecursion}
+use Rattle.std.proofs.lemmas.List.Elements.{Contains-append_left}
+use Rattle.std.proofs.lemmas.Option.{slice_get_within}
+use Rattle.cl_model.specs.Content.{Content}
+use Rattle.cl_model.specs.Lineages.{Kin, superclasses}
+use Rattle.cl_config.specs.Views.{Configured}
+use Rattle.cl_hierarchy.specs.Above.{IsUnmixed}
+use Rattle.cl_hierarchy.specs.Fronts.{Climb, IsFront, IsOnStem}
+use Rattle.cl_hierarchy.specs.Ladders.{AreOthers, HasRung, IsEarlier, IsLadder, IsMadeOf, IsOnLadder, IsRungAt, Laddered, others_of}
+use Rattle.cl_hierarchy.specs.Lineages.{IsLined, IsRowIn, Lined, is_of_other, kin_at, kin_of, rows_in}
+use Rattle.cl_hierarchy.specs.Places.{IsPlace}
+use Rattle.cl_hierarchy.specs.Rows.{Rowed}
+use Rattle.cl_hierarchy.specs.Trees.{SupersBefore, kin_under, kins}
+use Rattle.cl_hierarchy.specs.declared.rung.Mark.{Mark}
+use Rattle.cl_hierarchy.specs.declared.rung.Rung.{Rung}
+use Rattle.cl_hierarchy.proofs.Climbs.{placed_kin, placed_row}
+use Rattle.cl_hierarchy.proofs.Inside.{kin_inside, whole}
+use Rattle.cl_hierarchy.proofs.Ladders.{has_wider, rung_fact}
+use Rattle.cl_hierarchy.proofs.Ways.{at_length, take_length, take_many}
+
+-- ---- rows up to a place
+
+some_is : {A : Type 0} (a b : A) → Some a ≡ Some b → a ≡ b
+some_is a b e = cc
+
+none_of : {A : Type 0} (xs : List A) → take 0 xs ≡ []
+none_of [] = refl
+none_of (x ∷ xs) = refl
+
+pub map_take : {A B : Type 0} (f : A → B) (xs : List A) (n : ℕ) → map f (take n xs) ≡ take n (map f xs)
+map_take f [] zero = refl
+map_take f [] (suc n) = refl
+map_take f (x ∷ xs) zero = refl
+map_take f (x ∷ xs) (suc n) = ap (λ ys. f x ∷ ys) (map_take f xs n)
+
+-- these and the row at a place are those up to the next place
+pub take_with : {A : Type 0} (xs : List A) (n : ℕ) (x : A) → slice_get xs n ≡ Some x → take (suc n) xs ≡ take n xs ++ x ∷ []
+take_with [] n x e = absurd cc
+take_with (y ∷ xs) zero x e = ap (λ zs. y ∷ zs) (none_of xs) ∙ ap (λ z. z ∷ []) (some_is y x e)
+take_with (y ∷ xs) (suc n) x e = ap (λ zs. y ∷ zs) (take_with xs n x e)
+
+pub fewer : {A : Type 0} (xs : List A) (m n : ℕ) → m ≤ n → take m (take n xs) ≡ take m xs
+fewer [] zero zero h = refl
+fewer [] zero (suc n) h = refl
+fewer [] (suc m) zero h = refl
+fewer [] (suc m) (suc n) h = refl
+fewer (x ∷ xs) zero zero h = refl
+fewer (x ∷ xs) zero (suc n) h = refl
+fewer (x ∷ xs) (suc m) zero h = absurd (omega (arith, h))
+fewer (x ∷ xs) (suc m) (suc n) h = ap (λ ys. x ∷ ys) (fewer xs m n (let k : m ≤ n = omega (arith, h) in k))
+
+all_of : {A : Type 0} (xs : List A) (n : ℕ) → length xs ≤ n → take n xs ≡ xs
+all_of [] zero h = refl
+all_of [] (suc n) h = refl
+all_of (x ∷ xs) zero h = absurd (omega (arith, h))
+all_of (x ∷ xs) (suc n) h = ap (λ ys. x ∷ ys) (all_of xs n (let k : length xs ≤ n = omega (arith, h) in k))
+
+-- fewer of them begin more of them
+record Begins {A : Type 0} (xs ys : List A) : Type 0 where
+  rest : List A
+  split : ys ≡ xs ++ rest
+
+begins : {A : Type 0} (xs : List A) (m n : ℕ) → m ≤ n → Begins (take m xs) (take n xs)
+begins [] zero zero h = record { rest = []; split = refl }
+begins [] zero (suc n) h = record { rest = []; split = refl }
+begins [] (suc m) zero h = record { rest = []; split = refl }
+begins [] (suc m) (suc n) h = record { rest = []; split = refl }
+begins (x ∷ xs) zero n h = record { rest = take n (x ∷ xs); split = refl }
+begins (x ∷ xs) (suc m) zero h = absurd (omega (arith, h))
+begins (x ∷ xs) (suc m) (suc n) h = let more = begins xs m n (let k : m ≤ n = omega (arith, h) in k) in record { rest = more.rest; split = ap (λ ys. x ∷ ys) more.split }
+
+get_fewer : {A : Type 0} (xs : List A) (n i : ℕ) (x : A) → slice_get (take n xs) i ≡ Some x → slice_get xs i ≡ Some x
+get_fewer [] zero i x e = absurd cc
+get_fewer [] (suc n) i x e = absurd cc
+get_fewer (y ∷ xs) zero i x e = absurd cc
+get_fewer (y ∷ xs) (suc n) zero x e = e
+get_fewer (y ∷ xs) (suc n) (suc i) x e = get_fewer xs n i x e
+
+-- a row among those up to a place stands behind those before it
+pub place_in : (rows : List Rowed) (p n : ℕ) (r own : Rowed) → p ≤ n → slice_get rows p ≡ Some r → slice_get rows n ≡ Some own → IsPlace (take n rows ++ own ∷ []) (take p rows) r
+place_in [] p n r own h e f = absurd cc
+place_in (y ∷ rows) zero zero r own h e f = record { later = []; split = ap (λ (z : Rowed). z ∷ []) (sym (some_is y own f) ∙ some_is y r e) }
+place_in (y ∷ rows) zero (suc n) r own h e f = record { later = take n rows ++ own ∷ []; split = ap (λ (z : Rowed). z ∷ (take n rows ++ own ∷ [])) (some_is y r e) }
+place_in (y ∷ rows) (suc p) zero r own h e f = absurd (omega (arith, h))
+place_in (y ∷ rows) (suc p) (suc n) r own h e f =
+    let more = place_in rows p n r own (let k : p ≤ n = omega (arith, h) in k) e f in
+    record { later = more.later; split = ap (λ (rs : List Rowed). y ∷ rs) more.split }
+
+-- a row stands behind those before it
+place_of : (rows : List Rowed) (p : ℕ) (r : Rowed) → slice_get rows p ≡ Some r → IsPlace rows (take p rows) r
+place_of [] p r e = absurd cc
+place_of (y ∷ rows) zero r e = record { later = rows; split = ap (λ (z : Rowed). z ∷ rows) (some_is y r e) }
+place_of (y ∷ rows) (suc p) r e = let more = place_of rows p r e in record { later = more.later; split = ap (λ (rs : List Rowed). y ∷ rs) more.split }
+
+-- ---- a lineage on its ladder
+
+module _ (told : Option Content) (x : Laddered) (place : ℕ) (own : Rowed) (unmixed : ℕ) (h : IsOnLadder told x place own unmixed) where
+  abbrev lineage : Lined
+  lineage = record { config = x.config; above = take place x.rows; own = own }
+
+  rows_are : take (suc place) x.rows ≡ rows_in lineage
+  rows_are = take_with x.rows place own h.at
+
+  above_many : length (take place x.rows) ≡ place
+  above_many = take_many x.rows place (let within = slice_get_within x.rows place own h.at in omega (arith, within))
+
+  pub is_unmixed : place < unmixed → IsUnmixed (rows_in lineage)
+  is_unmixed lt = λ r j c inr_ inj inc.
+      h.unmixed_are r j c (wider r inr_) (wider j inj) (wider c inc)
+    where
+      more : Begins (take (suc place) x.rows) (take unmixed x.rows)
+      more = begins x.rows (suc place) unmixed (let le : suc place ≤ unmixed = omega (arith, lt) in le)
+
+      wider : (r : Rowed) → Contains (rows_in lineage) r → Contains (take unmixed x.rows) r
+      wider r i =
+          subst (λ (rs : List Rowed). Contains rs r) (sym more.split)
+          (Contains-append_left (take (suc place) x.rows) more.rest r (subst (λ (rs : List Rowed). Contains rs r) (sym rows_are) i))
+
+  -- so many rows, but no more than there are
+  pub unmixed_all : (many : ℕ) → place < many → IsUnmixed (take many (rows_in lineage)) → IsUnmixed (take (place + 1) x.rows)
+  unmixed_all many lt is =
+      subst (λ (n : ℕ). IsUnmixed (take n x.rows)) (let e : suc place ≡ place + 1 = omega arith in e) (
+      subst (λ (rs : List Rowed). IsUnmixed rs) (all_of (rows_in lineage) many few ∙ sym rows_are) is)
+    where
+      few : length (rows_in lineage) ≤ many
+      few =
+          let n = length-append (take place x.rows) (own ∷ []) in
+          let m = above_many in
+          omega (arith, n, m, lt)
+
+  pub unmixed_some : (many : ℕ) → many ≤ place → IsUnmixed (take many (rows_in lineage)) → IsUnmixed (take many x.rows)
+  unmixed_some many le is =
+      subst (λ (rs : List Rowed). IsUnmixed rs)
+      (ap (λ (rs : List Rowed). take many rs) (sym rows_are) ∙ fewer x.rows many (suc place) (let k : many ≤ suc place = omega (arith, le) in k)) is
+
+  pub stem_within : (p : ℕ) → IsOnStem lineage p → p ≤ place
+  stem_within p on =
+      let n = length-append (take place x.rows) (own ∷ []) in
+      let m = length-append on.earlier (on.row ∷ on.stands.later) in
+      let k = ap (λ (rs : List Rowed). length rs) on.stands.split in
+      let l = above_many in
+      let j = on.many in
+      omega (arith, n, m, k, l, j)
+
+module _ (told : Option Content) (x : Laddered) (place : ℕ) (own : Rowed) (unmixed : ℕ) (h : IsOnLadder told x place own unmixed) (ladder : IsLadder told x) where
+  abbrev here : Lined
+  here = record { config = x.config; above = take place x.rows; own = own }
+
+  rows_here : take (suc place) x.rows ≡ rows_in here
+  rows_here = rows_are told x place own unmixed h
+
+  many_here : length (take place x.rows) ≡ place
+  many_here = above_many told x place own unmixed h
+
+  -- ---- fronts
+
+  stem_rung : (e : List Rowed) (r : Rowed) (later : List Rowed) → rows_in here ≡ e ++ r ∷ later → Climb r later → HasRung x.marks (place + 1) (Some (length e))
+  stem_rung e r [] split climb =
+      subst (λ (n : ℕ). HasRung x.marks (place + 1) (Some n)) (
+      let n = length-append (take place x.rows) (own ∷ []) in
+      let m = length-append e (r ∷ []) in
+      let k = ap (λ (rs : List Rowed). length rs) split in
+      let l = many_here in
+      omega (arith, n, m, k, l)
+      ) h.rung
+  stem_rung e r (s ∷ later) split climb =
+      let on = stem_rung (e ++ r ∷ []) s later (split ∙ sym (append_assoc e (r ∷ []) (s ∷ later))) climb.1 in
+      let many : length (e ++ r ∷ []) ≡ length e + 1 = length-append e (r ∷ []) in
+      let there : slice_get x.rows (length (e ++ r ∷ [])) ≡ Some s =
+      get_fewer x.rows (suc place) (length (e ++ r ∷ [])) s
+      (ap (λ (rs : List Rowed). slice_get rs (length (e ++ r ∷ []))) (rows_here ∙ split ∙ sym (append_assoc e (r ∷ []) (s ∷ later))) ∙ at_length (e ++ r ∷ []) later s) in
+      let before : slice_get x.rows (length e) ≡ Some r =
+      get_fewer x.rows (suc place) (length e) r (ap (λ (rs : List Rowed). slice_get rs (length e)) (rows_here ∙ split) ∙ at_length e (s ∷ later) r) in
+      let m = on.1.0 in
+      let g = on.1.2.0 in
+      let fact = rung_fact told x (length (e ++ r ∷ [])) s g ladder there (m, on.1.1, on.1.2.1) in
+      has_wider x.marks (length (e ++ r ∷ [])) (place + 1) (Some (length e)) (let lt = on.0 in omega (arith, lt)) (fact.next (length e) r (sym many) before climb.0)
+
+  pub on_stem : (p : ℕ) → IsOnStem here p → HasRung x.marks (place + 1) (Some p)
+  on_stem p on =
+      subst (λ (n : ℕ). HasRung x.marks (place + 1) (Some n)) on.many (stem_rung on.earlier on.row on.stands.later on.stands.split on.climb)
+
+  pub front_on : (p : ℕ) (r : Rowed) (g : Rung) → slice_get x.rows p ≡ Some r → IsRungAt x.marks p g → IsOnLadder told x p r unmixed
+  front_on p r g at is = record {
+    at = at;
+    lined = (rung_fact told x p r g ladder at is).lined;
+    rung = (omega arith, (is.0, is.1, (g, is.2)));
+    unmixed_are = h.unmixed_are;
+  }
+
+  pub front_is : (p : ℕ) (r : Rowed) → p ≤ place → slice_get x.rows p ≡ Some r → IsFront here p (record { config = x.config; above = take p x.rows; own = r })
+  front_is p r le at = record {
+    config = refl;
+    stands = place_in x.rows p place r own le at h.at;
+    many = take_many x.rows p (let within = slice_get_within x.rows p r at in omega (arith, within));
+  }
+
+  -- ---- superclasses of other loaders
+
+  below : SupersBefore [] (rows_in here)
+  below = whole here h.lined.order
+
+  own_kin : kin_under (kins x.rows) own ≡ kin_of here
+  own_kin = placed_kin x.rows (take place x.rows) own ladder.ordered (place_of x.rows place own h.at)
+
+  earlier_kin : (r : Rowed) → IsEarlier x.rows place r → kin_under (kins x.rows) r ≡ kin_at here r
+  earlier_kin r at =
+      let le : at.0 ≤ place = (let lt = at.1 in omega (arith, lt)) in
+      placed_kin x.rows (take at.0 x.rows) r ladder.ordered (place_of x.rows at.0 r at.2)
+      ∙ sym (placed_kin (rows_in here) (take at.0 x.rows) r below (place_in x.rows at.0 place r own le at.2 h.at))
+      ∙ kin_inside here h.lined.order r (earlier_row r at)
+    where
+      earlier_row : (s : Rowed) (e : IsEarlier x.rows place s) → IsRowIn (rows_in here) s
+      earlier_row s e = placed_row (rows_in here) (take e.0 x.rows) s below (place_in x.rows e.0 place s own (let lt = e.1 in omega (arith, lt)) e.2 h.at)
+
+  earlier_in : (r : Rowed) → IsEarlier x.rows place r → IsRowIn (rows_in here) r
+  earlier_in s e = placed_row (rows_in here) (take e.0 x.rows) s below (place_in x.rows e.0 place s own (let lt = e.1 in omega (arith, lt)) e.2 h.at)
+
+  kins_same : {A : Type 0} (v : A → Rowed) (xs : List A) → AllByRecursion (IsEarlier x.rows place) (map v xs) → map (kin_under (kins x.rows)) (map v xs) ≡ map (λ y. kin_at here (v y)) xs
+  kins_same v [] all = refl
+  kins_same v (y ∷ xs) all =
+      ap (λ (k : Kin). k ∷ map (kin_under (kins x.rows)) (map v xs)) (earlier_kin (v y) all.0) ∙ ap (λ (ks : List Kin). kin_at here (v y) ∷ ks) (kins_same v xs all.1)
+
+  all_in : {A : Type 0} (v : A → Rowed) (xs : List A) → AllByRecursion (IsEarlier x.rows place) (map v xs) → AllByRecursion (λ y. IsRowIn (rows_in here) (v y)) xs
+  all_in v [] all = tt
+  all_in v (y ∷ xs) all = (earlier_in (v y) all.0, all_in v xs all.1)
+
+  pub others_kins : {V A E : Type 0} (items : V → List A) (v : A → Rowed) (found : Result V E) → IfOk found (λ f. AreOthers x place own (map v (items f)))
+      → IfOk found (λ f. map (λ r. kin_at here (v r)) (items f) ≡ filter (λ k. is_of_other own.class.loader k.class) (superclasses (kin_of here)))
+  others_kins items v (Err e) is = tt
+  others_kins items v (Ok f) is = sym (kins_same v (items f) is.rows_are) ∙ is.kins_are ∙ ap (λ (k : Kin). others_of own.class.loader (superclasses k)) own_kin
+
+  pub others_rows : {V A E : Type 0} (items : V → List A) (v : A → Rowed) (found : Result V E) → IfOk found (λ f. AreOthers x place own (map v (items f)))
+      → IfOk found (λ f. AllByRecursion (λ r. IsRowIn (rows_in here) (v r)) (items f))
+  others_rows items v (Err e) is = tt
+  others_rows items v (Ok f) is = all_in v (items f) is.rows_are
+
+-- ---- the same of what lies behind it in memory
+
+pub rung_found : (marks : List Mark) (place : ℕ) (o : Option Rung) (b : Bool) → is_some o ≡ not b → b ≡ false → IfSome o (IsRungAt marks place) → (g : Rung) × IsRungAt marks place g
+rung_found marks place None b is meant h = absurd (not_none b is meant)
+  where
+    not_none : (c : Bool) → false ≡ not c → c ≡ false → ⊥
+    not_none true e f = absurd cc
+    not_none false e f = absurd cc
+rung_found marks place (Some g) b is meant h = (g, h)
+
+pub rung_missed : (a b : Bool) → a ≡ not b → b ≡ true → a ≡ true → ⊥
+rung_missed a true is meant h = absurd (let gone : false ≡ true = sym is ∙ h in cc)
+rung_missed a false is meant h = absurd cc
+
+-- made of the rows of a lineage, it stands on the last rung
+pub made_on : (told : Option Content) (config : Configured) (above : List Rowed) (own : Rowed) (x : Laddered) (n : ℕ) → IsMadeOf config above own x → n ≡ length above → IsLined told (record { config = config; above = above; own = own })
+    → IsOnLadder told x n own 0
+made_on told config above own x n m is h =
+    subst (λ (k : ℕ). IsOnLadder told x k own 0) (sym is) (record {
+      at = ap (λ (rs : List Rowed). slice_get rs (length above)) m.rows ∙ at_length above [] own;
+      lined =
+          subst (λ (c : Configured). IsLined told (record { config = c; above = take (length above) x.rows; own = own })) (sym m.config_is)
+          (subst (λ (rs : List Rowed). IsLined told (record { config = config; above = rs; own = own })) (sym (up_to m.rows)) h);
+      rung = m.rung;
+      unmixed_are = subst (λ (rs : List Rowed). IsUnmixed rs) (sym (none_of x.rows)) (λ r j c inr_. absurd (nothing r inr_));
+    })
+  where
+    up_to : x.rows ≡ above ++ own ∷ [] → take (length above) x.rows ≡ above
+    up_to e = ap (λ (rs : List Rowed). take (length above) rs) e ∙ take_length above (own ∷ [])
+
+    nothing : (r : Rowed) → Contains [] r → ⊥
+    nothing r i = absurd (let lt = i.1 in omega (arith, lt))
+
+pub made_is : (config : Configured) (above : List Rowed) (own : Rowed) (x : Laddered) (n : ℕ) → IsMadeOf config above own x → n ≡ length above
+    → record { config = x.config; above = take n x.rows; own = own } ≡ (let l : Lined = record { config = config; above = above; own = own } in l)
+made_is config above own x n m is =
+    ap (λ (c : Configured). let l : Lined = record { config = c; above = take n x.rows; own = own } in l) m.config_is
+    ∙ ap (λ (rs : List Rowed). let l : Lined = record { config = config; above = rs; own = own } in l)
+    (ap (λ (k : ℕ). take k x.rows) is ∙ ap (λ (rs : List Rowed). take (length above) rs) m.rows ∙ take_length above (own ∷ []))
+
+-- a front in memory
+pub front_in : (l inside : Lined) (place : ℕ) (x y : Laddered) (own own_in : Rowed) → inside ≡ l → y ≡ x → own_in ≡ own → IsFront inside place (record { config = x.config; above = take place x.rows; own = own })
+    → IsFront l place (record { config = y.config; above = take place y.rows; own = own_in })
+front_in l inside place x y own own_in same ladder owned h =
+    subst (λ (z : Lined). IsFront z place (record { config = y.config; above = take place y.rows; own = own_in })) same
+    (subst (λ (z : Laddered). IsFront inside place (record { config = z.config; above = take place z.rows; own = own_in })) (sym ladder)
+    (subst (λ (r : Rowed). IsFront inside place (record { config = x.config; above = take place x.rows; own = r })) (sym owned) h))

@@ -1,0 +1,176 @@
+-- What is kept of the places of a lineage's rows, so that the lineages at its front, and their
+-- superclasses of other loaders, are found without a look at each row (JVMS SE 8, 5.3.5, 5.4).
+use Rattle.std.specs.Prelude.{◌≡◌, ◌<◌, ◌≤◌, ◌+◌, ◌∷◌, ◌++◌, ℕ, Bool, true, false, List, [], Option, None, Some, filter, length, map, slice_get, take}
+use Rattle.std.specs.List.{AllByRecursion}
+use Rattle.cl_model.specs.Content.{Content}
+use Rattle.cl_model.specs.Lineages.{Kin, superclasses}
+use Rattle.cl_config.specs.Views.{Configured}
+use Rattle.cl_hierarchy.specs.Above.{AreOvers, IsUnmixed}
+use Rattle.cl_hierarchy.specs.Lineages.{IsLined, is_of_other}
+use Rattle.cl_hierarchy.specs.Rows.{Rowed}
+use Rattle.cl_hierarchy.specs.Trees.{SupersBefore, kin_under, kins, superclass_in}
+use Rattle.cl_hierarchy.specs.declared.rung.Mark.{Mark}
+use Rattle.cl_hierarchy.specs.declared.rung.Rung.{Rung}
+use Rattle.cl_hierarchy.specs.declared.rung.Way.{Way}
+
+-- under which configuration, the rows of a lineage, the own one last, and what is kept of each place
+pub record Laddered : Type 0 where
+  pub config : Configured
+  pub rows : List Rowed
+  pub marks : List Mark
+
+-- the superclasses of the class of one of these rows, nearest first (4.1)
+abbrev pub above_in : List Rowed → Rowed → List Kin
+above_in rows r = superclasses (kin_under (kins rows) r)
+
+-- those of these classes that another loader than this defined (5.3)
+abbrev pub others_of : ℕ → List Kin → List Kin
+others_of own ks = filter (λ k. is_of_other own k.class) ks
+
+-- the rows before this place of these are those of the lineage of the class there (5.3.5)
+pub record IsLinedAt (told : Option Content) (config : Configured) (rows : List Rowed) (place : ℕ) (r : Rowed) : Type 0 where
+  pub at : slice_get rows place ≡ Some r
+  pub lined : IsLined told (record { config = config; above = take place rows; own = r })
+
+-- these superclasses are none, or that of the row at a place and the superclasses of that (4.1)
+abbrev pub IsUp : List Rowed → List Kin → Option ℕ → Type 0
+IsUp rows ks None = ks ≡ []
+IsUp rows ks (Some place) =
+    (r : Rowed) × (slice_get rows place ≡ Some r) × (ks ≡ kin_under (kins rows) r ∷ above_in rows r)
+
+-- of these superclasses no other loader than this defined any, or the nearest of those that another
+-- did stands at a place (4.1, 5.3)
+abbrev pub IsFar : List Rowed → ℕ → List Kin → Option ℕ → Type 0
+IsFar rows own ks None = others_of own ks ≡ []
+IsFar rows own ks (Some place) =
+    (r : Rowed) × (slice_get rows place ≡ Some r)
+    × (others_of own ks ≡ kin_under (kins rows) r ∷ others_of own (above_in rows r))
+
+-- a place, if it is one, is before this, and has a rung
+abbrev pub HasRung : List Mark → ℕ → Option ℕ → Type 0
+HasRung marks bound None = Unit {0}
+HasRung marks bound (Some place) =
+    (place < bound) × ((m : Mark) × (slice_get marks place ≡ Some m) × ((g : Rung) × (m.rung ≡ Some g)))
+
+-- what a rung tells of the class at its place: its lineage, and where its superclasses stand
+-- (4.1, 5.3.5)
+pub record IsRung (told : Option Content) (x : Laddered) (place : ℕ) (r : Rowed) (g : Rung) : Type 0 where
+  pub lined : IsLined told (record { config = x.config; above = take place x.rows; own = r })
+  pub up : IsUp x.rows (above_in x.rows r) g.up
+  pub far : IsFar x.rows r.class.loader (above_in x.rows r) g.far
+  pub up_has : HasRung x.marks place g.up
+  pub far_has : HasRung x.marks place g.far
+  pub next :
+      (before : ℕ) (s : Rowed) → before + 1 ≡ place → slice_get x.rows before ≡ Some s
+      → superclass_in r ≡ s.class ∷ [] → HasRung x.marks place (Some before)
+
+-- each rung tells of its place, and each mark of the rows before it (5.3.5)
+pub record AreMarks (told : Option Content) (x : Laddered) : Type 0 where
+  pub rungs :
+      (place : ℕ) (r : Rowed) (m : Mark) (g : Rung) → slice_get x.rows place ≡ Some r
+      → slice_get x.marks place ≡ Some m → m.rung ≡ Some g → IsRung told x place r g
+  pub overs :
+      (place : ℕ) (m : Mark) → slice_get x.marks place ≡ Some m
+      → AreOvers m.overs (take place x.rows)
+
+-- what is kept of all rows; while it is made, the last have no marks yet
+pub record IsLadder (told : Option Content) (x : Laddered) : Type 0 where
+  pub ordered : SupersBefore [] x.rows
+  pub few : length x.marks ≤ length x.rows
+  pub marks : AreMarks told x
+
+-- what a lineage keeps: it is one, its class stands on a rung, and so many of all rows are unmixed
+-- (5.3.5, 5.4.2)
+pub record IsOnLadder (told : Option Content) (x : Laddered) (place : ℕ) (own : Rowed) (unmixed : ℕ) : Type 0 where
+  pub at : slice_get x.rows place ≡ Some own
+  pub lined : IsLined told (record { config = x.config; above = take place x.rows; own = own })
+  pub rung : HasRung x.marks (place + 1) (Some place)
+  pub unmixed_are : IsUnmixed (take unmixed x.rows)
+
+-- ---- for the steps of a call
+
+-- the class at a place and the next on the way up: its superclass, or a superinterface that has the
+-- same superclass; where there is none, it has no superclass (4.1, 5.3.5)
+abbrev pub IsNextUp : List Rowed → Bool → List Kin → Option ℕ → Type 0
+IsNextUp rows false ks next = IsUp rows ks next
+IsNextUp rows true ks None = ⊥
+IsNextUp rows true ks (Some place) =
+    (r : Rowed) × (slice_get rows place ≡ Some r) × (ks ≡ above_in rows r)
+
+-- this place is before that, if it is one
+abbrev pub IsBefore : Option ℕ → ℕ → Type 0
+IsBefore None place = Unit {0}
+IsBefore (Some next) place = next < place
+
+-- a way from a place to the next up (5.3.5)
+pub record IsWay (told : Option Content) (config : Configured) (rows : List Rowed) (w : Way) (next : Option ℕ) : Type 0 where
+  pub row : Rowed
+  pub here : IsLinedAt told config rows w.place row
+  pub up : IsNextUp rows w.is_over (above_in rows row) next
+  pub before : IsBefore next w.place
+  pub nearest :
+      (before : ℕ) (s : Rowed) → before + 1 ≡ w.place → slice_get rows before ≡ Some s
+      → superclass_in row ≡ s.class ∷ [] → next ≡ Some before
+
+-- where the last of these ways ends, and the first of them begins
+abbrev pub begins : List Way → Option ℕ → Option ℕ
+begins [] next = next
+begins (w ∷ ws) next = Some w.place
+
+-- these ways lead up from place to place, the last to the next (5.3.5)
+abbrev pub LeadUp : Option Content → Configured → List Rowed → List Way → Option ℕ → Type 0
+LeadUp told config rows [] next = Unit {0}
+LeadUp told config rows (w ∷ ws) next =
+    IsWay told config rows w (begins ws next) × LeadUp told config rows ws next
+
+-- the mark at this place has this rung
+abbrev pub IsRungAt : List Mark → ℕ → Rung → Type 0
+IsRungAt marks place g = (m : Mark) × (slice_get marks place ≡ Some m) × (m.rung ≡ Some g)
+
+-- a rung tells where superclasses of a class of this loader stand (4.1, 5.3)
+pub record IsRungOf (x : Laddered) (own : ℕ) (ks : List Kin) (bound : ℕ) (g : Rung) : Type 0 where
+  pub up : IsUp x.rows ks g.up
+  pub far : IsFar x.rows own ks g.far
+  pub up_has : HasRung x.marks bound g.up
+  pub far_has : HasRung x.marks bound g.far
+
+-- one mark more, with this rung
+pub record IsPushed (old : Laddered) (rung : Option Rung) (new : Laddered) : Type 0 where
+  pub config : new.config ≡ old.config
+  pub rows : new.rows ≡ old.rows
+  pub mark : Mark
+  pub marks : new.marks ≡ old.marks ++ mark ∷ []
+  pub rung_is : mark.rung ≡ rung
+
+-- marks more, up to a place
+pub record IsFilled (old : Laddered) (place : ℕ) (new : Laddered) : Type 0 where
+  pub config : new.config ≡ old.config
+  pub rows : new.rows ≡ old.rows
+  pub more : List Mark
+  pub marks : new.marks ≡ old.marks ++ more
+  pub many : length new.marks ≡ place
+
+-- marks more, the last of a place that has a rung
+pub record IsPassed (old : Laddered) (place : ℕ) (new : Laddered) : Type 0 where
+  pub config : new.config ≡ old.config
+  pub rows : new.rows ≡ old.rows
+  pub more : List Mark
+  pub marks : new.marks ≡ old.marks ++ more
+  pub many : length new.marks ≡ place + 1
+  pub rung : HasRung new.marks (place + 1) (Some place)
+
+-- made of a lineage, whose own place has a rung (5.3.5)
+pub record IsMadeOf (config : Configured) (above : List Rowed) (own : Rowed) (x : Laddered) : Type 0 where
+  pub config_is : x.config ≡ config
+  pub rows : x.rows ≡ above ++ own ∷ []
+  pub rung : HasRung x.marks (length above + 1) (Some (length above))
+
+-- one of these rows stands before a place
+abbrev pub IsEarlier : List Rowed → ℕ → Rowed → Type 0
+IsEarlier rows place r = (at : ℕ) × (at < place) × (slice_get rows at ≡ Some r)
+
+-- the superclasses of the class at a place that another loader than its own defined (4.1, 5.3)
+pub record AreOthers (x : Laddered) (place : ℕ) (r : Rowed) (found : List Rowed) : Type 0 where
+  pub kins_are :
+      map (kin_under (kins x.rows)) found ≡ others_of r.class.loader (above_in x.rows r)
+  pub rows_are : AllByRecursion (IsEarlier x.rows place) found

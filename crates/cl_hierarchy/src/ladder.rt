@@ -1,0 +1,250 @@
+//! The rows of a lineage with what is kept of each place, shared by all lineages that begin it (JVMS SE 8, 5.3.5).
+
+ghost use Rattle.std.specs.Prelude.{◌≡◌, ◌<◌, ◌≤◌, ◌+◌, ◌-◌, ℕ, [], None, Some, List, is_some, length, map, slice_get, take, true, IfOk, IfSome, OnOk};
+ghost use Rattle.std.specs.Option.{option_map};
+ghost use Rattle.cl_hierarchy.specs.Above.{AreOvers};
+ghost use Rattle.cl_hierarchy.specs.Ladders.{AreOthers, HasRung, IsFar, IsFilled, IsLadder, IsMadeOf, IsNextUp, IsPassed, IsPushed, IsRung, IsRungAt, IsRungOf, IsUp, IsWay, LeadUp, above_in, begins};
+ghost use Rattle.cl_hierarchy.specs.Lineages.{IsLined};
+ghost use Rattle.cl_hierarchy.specs.Rows.{Rowed};
+ghost use Rattle.cl_model.specs.Lineages.{Kin};
+
+use crate::over::Overs;
+use crate::row::ClassRow;
+use crate::rung::{Mark, Rung, Way};
+use crate::way::way_up;
+use cl_config::Config;
+use cl_model::{LoaderId, Told};
+use std::alloc::{AllocError, Global};
+use std::marker::Model;
+use std::sync::Arc;
+
+/// The rows of a lineage, the own one last, with what is kept of each place.
+pub(crate) struct Ladder<T: Told> {
+    config: Arc<Config>,
+    rows: Vec<Arc<ClassRow<T>>>,
+    marks: Vec<Mark>,
+}
+
+impl<T: Told> Drop for Ladder<T> {
+    fn drop(self) {
+        let Ladder {
+            config: _,
+            rows: _,
+            marks: _,
+        } = self;
+    }
+}
+
+impl<T: Told> Model for Ladder<T> {
+    ghost use Rattle.std.specs.Prelude.{map};
+    ghost use Rattle.cl_hierarchy.specs.Ladders.{IsLadder, Laddered};
+
+    ghost Value = { Laddered };
+
+    ghost view = { λ x. record { config = x.config.value; rows = map (λ r. r.value) x.rows.items; marks = x.marks.items } };
+
+    ghost invariant = { λ x. IsLadder T.told (record { config = x.config.value; rows = map (λ r. r.value) x.rows.items; marks = x.marks.items }) };
+}
+
+impl<T: Told> Ladder<T> {
+    /// The rows of a lineage.
+    pub fn of(
+        alloc: Global,
+        config: Arc<Config>,
+        above: Vec<Arc<ClassRow<T>>>,
+        own: &Arc<ClassRow<T>>,
+    ) -> Result<Ladder<T>, AllocError>
+        requires { IsLined T.told (record {
+          config = config.value;
+          above = map (λ r. r.value) above.items;
+          own = own.now.value;
+        }) }
+        ensures { IfOk result (IsMadeOf config.value (map (λ r. r.value) above.items)
+            own.now.value) }
+    {
+        let ways = way_up(alloc, above.as_slice(), own)?;
+        let mut rows = above;
+        rows.push(Arc::try_clone(own)?)?;
+        let marks = Vec::with_capacity(alloc, rows.len())?;
+        let mut ladder = Ladder {
+            config,
+            rows,
+            marks,
+        };
+        ladder.climb(ways)?;
+        Ok(ladder)
+    }
+
+    /// Under which configuration its classes were made.
+    pub fn config(&self) -> &Arc<Config>
+        ensures config { result.now.value ≡ self.now.config }
+        ensures kept { IsLadder T.told self.now }
+    {
+        &self.config
+    }
+
+    /// The rows.
+    pub fn rows(&self) -> &[Arc<ClassRow<T>>]
+        ensures rows { map (λ r. r.value) result.now ≡ self.now.rows }
+        ensures kept { IsLadder T.told self.now }
+    {
+        self.rows.as_slice()
+    }
+
+    /// The mark at a place, if there is one.
+    pub fn mark(&self, place: usize) -> Option<&Mark>
+        ensures mark { option_map (λ m. m.now) result ≡ slice_get self.now.marks place }
+        ensures kept { IsLadder T.told self.now }
+    {
+        self.marks.get(place)
+    }
+
+    /// The rung at a place, if it has one.
+    pub fn rung(&self, place: usize) -> Option<Rung>
+        ensures rung { IfSome result (IsRungAt self.now.marks place) }
+        ensures some { (bound : ℕ) → HasRung self.now.marks bound (Some place)
+            → is_some result ≡ true }
+        ensures kept { IsLadder T.told self.now }
+    {
+        self.mark(place)?.rung
+    }
+
+    /// Where the nearest superclass of another loader than this stands, where the superclass stands at a place, if there is
+    /// one.
+    fn far_from(&self, own: LoaderId, up: Option<usize>) -> Option<usize>
+        ensures { (ks : List Kin) (bound : ℕ) → IsUp self.now.rows ks up
+            → HasRung self.now.marks bound up
+            → IsFar self.now.rows own ks result × HasRung self.now.marks bound result }
+    {
+        let place = up?;
+        let row = self.rows().get(place)?;
+        if row.class().loader != own {
+            return Some(place);
+        }
+        self.rung(place)?.far
+    }
+
+    /// Where the superclass of the class stands at whose place the way goes on to the next.
+    fn up_by(&self, is_over: bool, next: Option<usize>) -> Option<usize>
+        ensures { (ks : List Kin) (bound : ℕ) → IsNextUp self.now.rows is_over ks next
+            → HasRung self.now.marks bound next
+            → IsUp self.now.rows ks result × HasRung self.now.marks bound result }
+    {
+        if !is_over {
+            return next;
+        }
+        self.rung(next?)?.up
+    }
+
+    /// The rung of a class of this loader, at whose place the way goes on to the next.
+    fn rung_of(&self, own: LoaderId, is_over: bool, next: Option<usize>) -> Rung
+        ensures { (ks : List Kin) (bound : ℕ) → IsNextUp self.now.rows is_over ks next
+            → HasRung self.now.marks bound next → IsRungOf self.now own ks bound result }
+    {
+        let up = self.up_by(is_over, next);
+        let far = self.far_from(own, up);
+        Rung { up, far }
+    }
+
+    /// Which loaders defined the superinterfaces that the classes before the next place name.
+    fn overs_so_far(&self) -> Overs
+        requires { length self.now.marks < length self.now.rows }
+        ensures { AreOvers result (take (length self.now.marks) self.now.rows) }
+    {
+        let Some(mark) = self.marks.last() else {
+            return Overs::None;
+        };
+        let row = &self.rows[self.marks.len() - 1];
+        mark.overs.with_row(row)
+    }
+
+    /// Adds the mark of the next place.
+    fn push(&mut self, rung: Option<Rung>) -> Result<(), AllocError>
+        requires room { length self.old.marks < length self.old.rows }
+        requires rung { (r : Rowed) → slice_get self.old.rows (length self.old.marks) ≡ Some r
+            → IfSome rung (IsRung T.told self.old (length self.old.marks) r) }
+        ensures { OnOk result (IsPushed self.old rung self.new) }
+    {
+        let overs = self.overs_so_far();
+        self.marks.push(Mark { overs, rung })?;
+        Ok(())
+    }
+
+    /// Adds marks without a rung up to a place.
+    fn fill(&mut self, place: usize) -> Result<(), AllocError>
+        requires few { length self.old.marks ≤ place }
+        requires within { place < length self.old.rows }
+        ensures { OnOk result (IsFilled self.old place self.new) }
+    {
+        while self.marks.len() < place {
+            self.push(None)?;
+        }
+        Ok(())
+    }
+
+    /// Adds the marks up to that of a way, and its own.
+    fn pass(&mut self, way: Way, next: Option<usize>) -> Result<(), AllocError>
+        requires way { IsWay T.told self.old.config self.old.rows way next }
+        requires next { HasRung self.old.marks way.place next }
+        requires before { length self.old.marks ≤ way.place }
+        ensures { OnOk result (IsPassed self.old way.place self.new) }
+    {
+        self.fill(way.place)?;
+        let own = self.rows[way.place].class().loader;
+        let rung = self.rung_of(own, way.is_over, next);
+        self.push(Some(rung))
+    }
+
+    /// Adds the marks of all places, whose ways up these are.
+    fn climb(&mut self, ways: Vec<Way>) -> Result<(), AllocError>
+        requires ways { LeadUp T.told self.old.config self.old.rows ways.items None }
+        requires begins { begins ways.items None ≡ Some (length self.old.rows - 1) }
+        requires none { self.old.marks ≡ [] }
+        ensures { OnOk result (IsPassed self.old (length self.old.rows - 1) self.new) }
+    {
+        let mut ways = ways;
+        let mut next = None;
+        while let Some(way) = ways.pop() {
+            self.pass(way, next)?;
+            next = Some(way.place);
+        }
+        Ok(())
+    }
+
+    /// The rows of the superclasses of the class at a place that another loader than the class's defined, nearest first.
+    pub fn others_above(
+        &self,
+        alloc: Global,
+        place: usize,
+        own: LoaderId,
+    ) -> Result<Vec<Arc<ClassRow<T>>>, AllocError>
+        requires { HasRung self.now.marks (place + 1) (Some place) }
+        ensures others { (r : Rowed) → slice_get self.now.rows place ≡ Some r
+            → r.class.loader ≡ own
+            → IfOk result (λ v. AreOthers self.now place r (map (λ x. x.value) v.items)) }
+        ensures kept { IsLadder T.told self.now }
+    {
+        let mut found = Vec::new(alloc);
+        let Some(rung) = self.rung(place) else {
+            return Ok(found);
+        };
+        let mut far = rung.far;
+        while let Some(place) = far {
+            let row = &self.rows()[place];
+            found.push(Arc::try_clone(row)?)?;
+            far = self.next_far(own, place);
+        }
+        Ok(found)
+    }
+
+    /// Where the nearest superclass of another loader than this stands above the class at a place.
+    fn next_far(&self, own: LoaderId, place: usize) -> Option<usize>
+        ensures { (r : Rowed) (bound : ℕ) → slice_get self.now.rows place ≡ Some r
+            → HasRung self.now.marks bound (Some place)
+            → IsFar self.now.rows own (above_in self.now.rows r) result
+            × HasRung self.now.marks place result }
+    {
+        let rung = self.rung(place)?;
+        self.far_from(own, rung.up)
+    }
+}

@@ -1,10 +1,10 @@
 //! Lineages: a class with all that stands above it, and what is asked of them (JVMS SE 8, 5.3.5, 5.4.4).
 
-ghost use Rattle.std.specs.Prelude.{◌≡◌, [], filter, is_some, length, map, nat_le, true, IfOk, IfSome};
+ghost use Rattle.std.specs.Prelude.{◌≡◌, ◌++◌, ◌∷◌, [], filter, is_some, length, map, nat_le, true, IfOk, IfSome};
 ghost use Rattle.std.specs.List.{AllByRecursion};
 ghost use Rattle.std.specs.Option.{option_map};
 ghost use Rattle.cl_model.specs.Lineages.{alone, first, is_subclass, once, superclasses, superinterfaces, upward};
-ghost use Rattle.cl_hierarchy.specs.Fronts.{IsFront, IsOnStem};
+ghost use Rattle.cl_hierarchy.specs.Fronts.{IsFront, IsOnStem, IsStem};
 ghost use Rattle.cl_hierarchy.specs.Lineages.{IsLined, IsRowIn, field_order, is_of_other, kin_at, kin_of, reaches, rows_in};
 ghost use Rattle.cl_hierarchy.specs.Places.{IsPlace};
 ghost use Rattle.cl_hierarchy.specs.Tours.{stops, told_at};
@@ -78,13 +78,16 @@ fn is_above<'a, T: Told>(
     false
 }
 
-/// The rows of the superclasses of the class of this row, nearest first. They are all among `rows`.
+/// The rows of the superclasses of the class of a row that stands behind these, nearest first. They are all among `rows`; on
+/// the stem no name is compared.
 fn upward<'a, T: Told>(
     alloc: Global,
     rows: &'a [Arc<ClassRow<T>>],
     under: &'a Arc<ClassRow<T>>,
+    stem: usize,
 ) -> Result<Vec<Arc<ClassRow<T>>>, AllocError>
-    requires { SupersBefore [] (map (λ r. r.value) rows.now) }
+    requires ordered { SupersBefore [] (map (λ r. r.value) rows.now) }
+    requires stem { IsStem (map (λ r. r.value) rows.now ++ under.now.value ∷ []) stem }
     ensures kins { IfOk result (λ v. map (λ r. kin_under (kins (map (λ x. x.value) rows.now))
         r.value) v.items ≡ upward (forest (kins (map (λ r. r.value) rows.now))
         (superclass_in under.entry.now.value))) }
@@ -94,7 +97,7 @@ fn upward<'a, T: Told>(
     let mut found = Vec::new(alloc);
     let mut rest = rows;
     let mut last = under;
-    while let Some((row, earlier)) = superclass_row(rest, last, None) {
+    while let Some((row, earlier)) = superclass_row(rest, last, Some(stem)) {
         found.push(Arc::try_clone(row)?)?;
         last = row;
         rest = earlier;
@@ -210,14 +213,14 @@ impl<T: Told> Lineage<T> {
         Some(row)
     }
 
-    /// The rows of the superclasses, nearest first (JVMS SE 8, 4.1), in time linear in the rows.
+    /// The rows of the superclasses, nearest first (JVMS SE 8, 4.1), in time linear in the rows. On the stem no name is compared.
     pub fn superclasses(&self, alloc: Global) -> Result<Vec<Arc<ClassRow<T>>>, AllocError>
         ensures superclasses { IfOk result (λ v. map (λ r. kin_at self.now r.value) v.items
             ≡ superclasses (kin_of self.now)) }
         ensures rows { IfOk result (λ v. AllByRecursion (λ r. IsRowIn (rows_in self.now) r.value)
             v.items) }
     {
-        upward(alloc, self.above.as_slice(), &self.own)
+        upward(alloc, self.above.as_slice(), &self.own, self.stem)
     }
 
     /// The rows of the superclasses that another loader than the class's own defined, nearest first (JVMS SE 8, 4.1, 5.3),

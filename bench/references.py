@@ -20,7 +20,7 @@
   beside        two chains of 1,000 interfaces, and a class that names the last of each; it is linked
 
 and of overriding, plain, topped, distinct, many, inherited, naming, interfaces, beside and repeated one more with so many classes
-that it has some megabyte, as plain_mb.
+that it has about a megabyte, as plain_mb.
 
 Each is a bundle: classlink bundle < FILE.
 """

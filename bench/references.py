@@ -17,6 +17,10 @@
   inherited     1,000 abstract classes over one another, the first of which names an interface with 1,000 methods; the last is linked
   naming        2,000 classes over one another, each of which names one interface; the last is linked
   interfaces    2,000 interfaces over one another; the last is linked
+  beside        two chains of 1,000 interfaces, and a class that names the last of each; it is linked
+
+and of overriding, plain, topped, distinct, many, inherited, naming, interfaces, beside and repeated one more with so many classes
+that it has about a megabyte, as plain_mb.
 
 Each is a bundle: classlink bundle < FILE.
 """
@@ -124,8 +128,8 @@ def plain(path, count=5000, top=()):
     bundle(path, TWO, classes, [f"link app {names[-1]}\n"])
 
 
-def topped(path):
-    plain(path, top=["p/I"])
+def topped(path, count=5000):
+    plain(path, count, top=["p/I"])
 
 
 def wide(path, count=20000):
@@ -170,12 +174,24 @@ def interfaces(path, count=2000):
     bundle(path, TWO, [TOP, *classes], [f"link app {names[-1]}\n"])
 
 
+def beside(path, count=1000):
+    classes = [TOP]
+    for chain in "AB":
+        names = [f"p/{chain}{n}" for n in range(count)]
+        classes += [section("app", name, interfaces=above, flags="0601") for name, above in zip(names, [[], *([it] for it in names)])]
+    classes.append(section("app", "p/C", interfaces=[f"p/A{count - 1}", f"p/B{count - 1}"]))
+    bundle(path, TWO, classes, ["link app p/C\n"])
+
+
 def main(folder):
     os.makedirs(folder, exist_ok=True)
     references = methods, settled, constraints, refused
-    chains = overriding, repeated, plain, topped, wide, distinct, many, inherited, naming, interfaces
+    chains = overriding, repeated, plain, topped, wide, distinct, many, inherited, naming, interfaces, beside
     for make in *references, ladder, links, *chains:
         make(f"{folder}/{make.__name__}")
+    counts = {overriding: 15000, plain: 22000, topped: 22000, distinct: 15000, many: 1000, inherited: 14000, naming: 17000}
+    for make, count in {**counts, interfaces: 14000, beside: 7000, repeated: 7500}.items():
+        make(f"{folder}/{make.__name__}_mb", count)
 
 
 if __name__ == "__main__":

@@ -73,8 +73,8 @@ based r (bases.Class config d c) =
     }
 based r (bases.Lookup d c) =
     record {
-      config = d.value.config;
-      needs = reference_needs r d.value.own.class c.value.own.class;
+      config = d.config;
+      needs = reference_needs r d.own.class c.own.class;
       prepared = [];
       refused = None;
     }
@@ -85,9 +85,9 @@ based r (bases.Asked e met) = record {
   refused = slice_get (imposed.needs_of e.value.needs) met;
 }
 based r (bases.Linked l place e met) = record {
-  config = l.value.config;
-  needs = class_need r l.value.own.class ∷ take met (imposed.needs_of e.value.needs);
-  prepared = map (λ row. row.class) (take place (rows_in l.value));
+  config = l.config;
+  needs = class_need r l.own.class ∷ take met (imposed.needs_of e.value.needs);
+  prepared = map (λ row. row.class) (take place (rows_in l));
   refused = slice_get (imposed.needs_of e.value.needs) met;
 }
 

@@ -50,8 +50,8 @@ pub enum Basis<T: Told> {
     },
     /// A member that an entry of the class `d` asks for, and that was not found through the class `c`.
     Lookup {
-        d: Arc<Lineage<T>>,
-        c: Arc<Lineage<T>>,
+        d: Lineage<T>,
+        c: Lineage<T>,
     },
     /// The first so many equalities of an entry are imposed, and the next one, if there is one, is refused.
     Asked {
@@ -61,7 +61,7 @@ pub enum Basis<T: Told> {
     /// The same of the equalities of the preparation of a class: that at this place of a lineage, all before which are
     /// prepared.
     Linked {
-        lineage: Arc<Lineage<T>>,
+        lineage: Lineage<T>,
         place: usize,
         equalities: Arc<Equalities<T>>,
         met: usize,

@@ -42,16 +42,16 @@ impl<T: Told> Finding<T> {
     /// the member (JVMS SE 8, 5.4.3.2 to 5.4.3.4).
     pub fn member_fault(
         request: Request,
-        d: Arc<Lineage<T>>,
-        c: Arc<Lineage<T>>,
+        d: Lineage<T>,
+        c: Lineage<T>,
         verdict: Verdict,
     ) -> Finding<T>
-        requires reference { GoesTo request d.value c.value (index_of request) }
-        requires lookup { IsLookupError d.value c.value (index_of request) verdict }
+        requires reference { GoesTo request d c (index_of request) }
+        requires lookup { IsLookupError d c (index_of request) verdict }
         ensures request { result.request ≡ request }
         ensures answer { result.answer ≡ answers.Said verdict }
         ensures basis { result.basis
-            ≡ Some (class_basis d.value.config request d.value.own.class c.value.own.class) }
+            ≡ Some (class_basis d.config request d.own.class c.own.class) }
     {
         // brings what is kept of the classes' lineages
         let _ = d.class();

@@ -58,18 +58,18 @@ impl<T: Told> Finding<T> {
     /// need (JVMS SE 8, 5.3.4, 5.4.2).
     pub fn refused_link(
         request: Request,
-        lineage: Arc<Lineage<T>>,
+        lineage: Lineage<T>,
         place: usize,
         equalities: Arc<Equalities<T>>,
         index: usize,
         need: Need,
     ) -> Finding<T>
-        requires link { AreLinked request lineage.value place equalities.value.origin }
+        requires link { AreLinked request lineage place equalities.value.origin }
         requires need { slice_get (needs_of equalities.value.needs) index ≡ Some (need_of need) }
         ensures request { result.request ≡ request }
         ensures answer { result.answer ≡ answers.Said (verdicts.Linkage need) }
         ensures basis { result.basis
-            ≡ Some (link_basis request lineage.value place equalities.value index (need_of need)) }
+            ≡ Some (link_basis request lineage place equalities.value index (need_of need)) }
     {
         bring_lineages(&equalities);
         // brings what is kept of the lineage

@@ -62,12 +62,12 @@ read_at {A} v (y ∷ xs) rows (suc i) x same lt e =
 pub rung_fact : (told : Option Content) (x : Laddered) (place : ℕ) (r : Rowed) (g : Rung) → IsLadder told x → slice_get x.rows place ≡ Some r → IsRungAt x.marks place g → IsRung told x place r g
 rung_fact told x place r g h at is = h.marks.rungs place r is.0 g at is.1 is.2
 
-far_same : (rows : List Rowed) (own : ℕ) (ks ls : List Kin) (o : Option ℕ) → others_of own ks ≡ others_of own ls → IsFar rows own ls o → IsFar rows own ks o
+far_same : (rows : List Rowed) (own : Option ℕ) (ks ls : List Kin) (o : Option ℕ) → others_of own ks ≡ others_of own ls → IsFar rows own ls o → IsFar rows own ks o
 far_same rows own ks ls None e h = e ∙ h
 far_same rows own ks ls (Some place) e h = (h.0, h.1, e ∙ h.2)
 
 -- a class of this loader is passed
-pass_own : (own : ℕ) (k : Kin) (ks : List Kin) → own ≡ k.class.loader → others_of own (k ∷ ks) ≡ others_of own ks
+pass_own : (own : ℕ) (k : Kin) (ks : List Kin) → own ≡ k.class.loader → others_of (Some own) (k ∷ ks) ≡ others_of (Some own) ks
 pass_own own k ks e = rw (ap (λ (n : ℕ). own == n) (sym e) ∙ nat_eq_equiv.refl own) refl
 
 up_is : (rows : List Rowed) (ks ls : List Kin) (o : Option ℕ) → ks ≡ ls → IsUp rows ls o → IsUp rows ks o
@@ -76,16 +76,16 @@ up_is rows ks ls (Some place) e h = (h.0, h.1, e ∙ h.2)
 
 module _ (told : Option Content) (x : Laddered) (h : IsLadder told x) where
   pub far_on : (own : ℕ) (up : Option ℕ) (place : ℕ) (row : Rowed) (g : Rung) (ks : List Kin) (bound : ℕ) → up ≡ Some place → slice_get x.rows place ≡ Some row → own ≡ row.class.loader → IsRungAt x.marks place g
-      → IsUp x.rows ks up → HasRung x.marks bound up → IsFar x.rows own ks g.far × HasRung x.marks bound g.far
+      → IsUp x.rows ks up → HasRung x.marks bound up → IsFar x.rows (Some own) ks g.far × HasRung x.marks bound g.far
   far_on own up place row g ks bound here at mine is isup has =
       let u : IsUp x.rows ks (Some place) = subst (λ (o : Option ℕ). IsUp x.rows ks o) here isup in
       let k : HasRung x.marks bound (Some place) = subst (λ (o : Option ℕ). HasRung x.marks bound o) here has in
       let fact = rung_fact told x place row g h at is in
       let same : u.0 ≡ row = some_is u.0 row (sym u.1 ∙ at) in
       let over : ks ≡ kin_under (kins x.rows) row ∷ above_in x.rows row = u.2 ∙ ap (λ (r : Rowed). kin_under (kins x.rows) r ∷ above_in x.rows r) same in (
-        far_same x.rows own ks (above_in x.rows row) g.far
-            (ap (λ (ls : List Kin). others_of own ls) over ∙ pass_own own (kin_under (kins x.rows) row) (above_in x.rows row) mine)
-            (subst (λ (n : ℕ). IsFar x.rows n (above_in x.rows row) g.far) (sym mine) fact.far),
+        far_same x.rows (Some own) ks (above_in x.rows row) g.far
+            (ap (λ (ls : List Kin). others_of (Some own) ls) over ∙ pass_own own (kin_under (kins x.rows) row) (above_in x.rows row) mine)
+            (subst (λ (n : ℕ). IsFar x.rows (Some n) (above_in x.rows row) g.far) (sym mine) fact.far),
         has_wider x.marks place bound g.far (let lt = k.0 in omega (arith, lt)) fact.far_has,
       )
 
@@ -205,18 +205,17 @@ pub record IsClimbing (told : Option Content) (old new : Laddered) (ways : List 
   pub has : HasRung new.marks (length new.marks) next
   pub many : length new.marks ≡ after_place next
 
--- ---- the superclasses of other loaders, from place to place
+-- ---- the superclasses, or those of other loaders, from place to place
 
 -- how many places may be left
 abbrev pub far_left : Option ℕ → ℕ
 far_left None = 0
 far_left (Some place) = place + 1
 
--- those of other loaders that were found, and where the next stands
-pub record Climbed (x : Laddered) (place own : ℕ) (found : List Rowed) (far : Option ℕ) : Type 0 where
+-- those that were found, and where the next stands
+pub record Climbed (x : Laddered) (place : ℕ) (own : Option ℕ) (found : List Rowed) (far : Option ℕ) : Type 0 where
   pub others :
-      (r : Rowed) → slice_get x.rows place ≡ Some r → r.class.loader ≡ own
-      → (ks : List Kin) × (IsFar x.rows own ks far) × (map (kin_under (kins x.rows)) found ++ others_of own ks ≡ others_of own (above_in x.rows r))
+      (r : Rowed) → slice_get x.rows place ≡ Some r → (ks : List Kin) × (IsFar x.rows own ks far) × (map (kin_under (kins x.rows)) found ++ others_of own ks ≡ others_of own (above_in x.rows r))
   pub rows_are : AllByRecursion (IsEarlier x.rows place) found
   pub has : HasRung x.marks place far
 
@@ -239,25 +238,26 @@ row_there [] place h = absurd (omega (arith, h))
 row_there (r ∷ rows) zero h = (r, refl)
 row_there (r ∷ rows) (suc place) h = row_there rows place (let k : place < length rows = omega (arith, h) in k)
 
-pub climbed_first : {A : Type 0} (v : A → Rowed) (told : Option Content) (x : Laddered) (place own : ℕ) (found : List A) (g : Rung) → found ≡ [] → IsLadder told x → IsRungAt x.marks place g → Climbed x place own (map v found) g.far
-climbed_first {A} v told x place own found g none h at =
-    let start : Climbed x place own [] g.far = record {
-      others = λ r there mine.
-          let fact = rung_fact told x place r g h there at in
-          (above_in x.rows r, subst (λ (n : ℕ). IsFar x.rows n (above_in x.rows r) g.far) mine fact.far, refl);
+-- where the next above the class at a place stands
+abbrev pub GoesOn : Laddered → Option ℕ → ℕ → Option ℕ → Type 0
+GoesOn x own at next =
+    (s : Rowed) (bound : ℕ) → slice_get x.rows at ≡ Some s → HasRung x.marks bound (Some at) → IsFar x.rows own (above_in x.rows s) next × HasRung x.marks at next
+
+pub climbed_first : {A : Type 0} (v : A → Rowed) (told : Option Content) (x : Laddered) (place : ℕ) (own : Option ℕ) (found : List A) (next : Option ℕ) → found ≡ [] → IsLadder told x → HasRung x.marks (place + 1) (Some place)
+    → GoesOn x own place next → Climbed x place own (map v found) next
+climbed_first {A} v told x place own found next none h has goes =
+    let start : Climbed x place own [] next = record {
+      others = λ r at. (above_in x.rows r, (goes r (place + 1) at has).0, refl);
       rows_are = tt;
-      has = at_rung;
+      has = (goes there.0 (place + 1) there.1 has).1;
     } in
-    subst (λ (xs : List A). Climbed x place own (map v xs) g.far) (sym none) start
+    subst (λ (xs : List A). Climbed x place own (map v xs) next) (sym none) start
   where
     there : (r : Rowed) × (slice_get x.rows place ≡ Some r)
-    there = row_there x.rows place (let within = slice_get_within x.marks place at.0 at.1 in let few = h.few in omega (arith, within, few))
+    there = row_there x.rows place (let within = slice_get_within x.marks place has.1.0 has.1.1 in let few = h.few in omega (arith, within, few))
 
-    at_rung : HasRung x.marks place g.far
-    at_rung = (rung_fact told x place there.0 g h there.1 at).far_has
-
-module _ {A : Type 0} (v : A → Rowed) (x : Laddered) (place own : ℕ) (found rows : List A) (far next : Option ℕ) (at : ℕ) (row : A) (h : Climbed x place own (map v found) far) (is : far ≡ Some at) (same : map v rows ≡ x.rows) (within : at < length rows) (read : row ≡ get_or rows at row)
-    (goes : (s : Rowed) (bound : ℕ) → slice_get x.rows at ≡ Some s → HasRung x.marks bound (Some at) → IsFar x.rows own (above_in x.rows s) next × HasRung x.marks at next) where
+module _ {A : Type 0} (v : A → Rowed) (x : Laddered) (place : ℕ) (own : Option ℕ) (found rows : List A) (far next : Option ℕ) (at : ℕ) (row : A) (h : Climbed x place own (map v found) far) (is : far ≡ Some at) (same : map v rows ≡ x.rows) (within : at < length rows) (read : row ≡ get_or rows at row)
+    (goes : GoesOn x own at next) where
   abbrev r : Rowed
   r = v row
 
@@ -279,8 +279,8 @@ module _ {A : Type 0} (v : A → Rowed) (x : Laddered) (place own : ℕ) (found 
 
   more : Climbed x place own (map v found ++ v row ∷ []) next
   more = record {
-    others = λ s below mine.
-        let so = h.others s below mine in
+    others = λ s below.
+        let so = h.others s below in
         let now : IsFar x.rows own so.0 (Some at) = subst (λ (o : Option ℕ). IsFar x.rows own so.0 o) is so.1 in
         let is_row : now.0 ≡ v row = some_is now.0 (v row) (sym now.1 ∙ there) in (
           above_in x.rows (v row),
@@ -325,7 +325,7 @@ pass_rung told x w next own g many h has told_of mine r at =
     here = record {
       lined = subst (λ (y : Rowed). IsLined told (record { config = x.config; above = take w.place x.rows; own = y })) same h.here.lined;
       up = rung.up;
-      far = subst (λ (n : ℕ). IsFar x.rows n (above_in x.rows r) g.far) (mine r there) rung.far;
+      far = subst (λ (n : ℕ). IsFar x.rows (Some n) (above_in x.rows r) g.far) (mine r there) rung.far;
       up_has = rung.up_has;
       far_has = rung.far_has;
       next = λ before s n e up.

@@ -228,15 +228,15 @@ module _ (told : Option Content) (x : Laddered) (place : ℕ) (own : Rowed) (unm
   all_in v [] all = tt
   all_in v (y ∷ xs) all = (earlier_in (v y) all.0, all_in v xs all.1)
 
-  pub others_kins : {V A E : Type 0} (items : V → List A) (v : A → Rowed) (found : Result V E) → IfOk found (λ f. AreOthers x place own (map v (items f)))
-      → IfOk found (λ f. map (λ r. kin_at here (v r)) (items f) ≡ filter (λ k. is_of_other own.class.loader k.class) (superclasses (kin_of here)))
-  others_kins items v (Err e) is = tt
-  others_kins items v (Ok f) is = sym (kins_same v (items f) is.rows_are) ∙ is.kins_are ∙ ap (λ (k : Kin). others_of own.class.loader (superclasses k)) own_kin
+  pub others_kins : {V A E : Type 0} (items : V → List A) (v : A → Rowed) (by : Option ℕ) (found : Result V E) → IfOk found (λ f. AreOthers x place by own (map v (items f)))
+      → IfOk found (λ f. map (λ r. kin_at here (v r)) (items f) ≡ others_of by (superclasses (kin_of here)))
+  others_kins items v by (Err e) is = tt
+  others_kins items v by (Ok f) is = sym (kins_same v (items f) is.rows_are) ∙ is.kins_are ∙ ap (λ (k : Kin). others_of by (superclasses k)) own_kin
 
-  pub others_rows : {V A E : Type 0} (items : V → List A) (v : A → Rowed) (found : Result V E) → IfOk found (λ f. AreOthers x place own (map v (items f)))
+  pub others_rows : {V A E : Type 0} (items : V → List A) (v : A → Rowed) (by : Option ℕ) (found : Result V E) → IfOk found (λ f. AreOthers x place by own (map v (items f)))
       → IfOk found (λ f. AllByRecursion (λ r. IsRowIn (rows_in here) (v r)) (items f))
-  others_rows items v (Err e) is = tt
-  others_rows items v (Ok f) is = all_in v (items f) is.rows_are
+  others_rows items v by (Err e) is = tt
+  others_rows items v by (Ok f) is = all_in v (items f) is.rows_are
 
 -- ---- the same of what lies behind it in memory
 

@@ -23,9 +23,10 @@ pub record Laddered : Type 0 where
 abbrev pub above_in : List Rowed → Rowed → List Kin
 above_in rows r = superclasses (kin_under (kins rows) r)
 
--- those of these classes that another loader than this defined (5.3)
-abbrev pub others_of : ℕ → List Kin → List Kin
-others_of own ks = filter (λ k. is_of_other own k.class) ks
+-- of these classes those that another loader than this defined, or all of them (5.3)
+abbrev pub others_of : Option ℕ → List Kin → List Kin
+others_of None ks = ks
+others_of (Some own) ks = filter (λ k. is_of_other own k.class) ks
 
 -- the rows before this place of these are those of the lineage of the class there (5.3.5)
 pub record IsLinedAt (told : Option Content) (config : Configured) (rows : List Rowed) (place : ℕ) (r : Rowed) : Type 0 where
@@ -39,8 +40,8 @@ IsUp rows ks (Some place) =
     (r : Rowed) × (slice_get rows place ≡ Some r) × (ks ≡ kin_under (kins rows) r ∷ above_in rows r)
 
 -- of these superclasses no other loader than this defined any, or the nearest of those that another
--- did stands at a place (4.1, 5.3)
-abbrev pub IsFar : List Rowed → ℕ → List Kin → Option ℕ → Type 0
+-- did stands at a place; or that of all (4.1, 5.3)
+abbrev pub IsFar : List Rowed → Option ℕ → List Kin → Option ℕ → Type 0
 IsFar rows own ks None = others_of own ks ≡ []
 IsFar rows own ks (Some place) =
     (r : Rowed) × (slice_get rows place ≡ Some r)
@@ -57,7 +58,7 @@ HasRung marks bound (Some place) =
 pub record IsRung (told : Option Content) (x : Laddered) (place : ℕ) (r : Rowed) (g : Rung) : Type 0 where
   pub lined : IsLined told (record { config = x.config; above = take place x.rows; own = r })
   pub up : IsUp x.rows (above_in x.rows r) g.up
-  pub far : IsFar x.rows r.class.loader (above_in x.rows r) g.far
+  pub far : IsFar x.rows (Some r.class.loader) (above_in x.rows r) g.far
   pub up_has : HasRung x.marks place g.up
   pub far_has : HasRung x.marks place g.far
   pub next :
@@ -130,7 +131,7 @@ IsRungAt marks place g = (m : Mark) × (slice_get marks place ≡ Some m) × (m.
 -- a rung tells where superclasses of a class of this loader stand (4.1, 5.3)
 pub record IsRungOf (x : Laddered) (own : ℕ) (ks : List Kin) (bound : ℕ) (g : Rung) : Type 0 where
   pub up : IsUp x.rows ks g.up
-  pub far : IsFar x.rows own ks g.far
+  pub far : IsFar x.rows (Some own) ks g.far
   pub up_has : HasRung x.marks bound g.up
   pub far_has : HasRung x.marks bound g.far
 
@@ -169,8 +170,7 @@ pub record IsMadeOf (config : Configured) (above : List Rowed) (own : Rowed) (x 
 abbrev pub IsEarlier : List Rowed → ℕ → Rowed → Type 0
 IsEarlier rows place r = (at : ℕ) × (at < place) × (slice_get rows at ≡ Some r)
 
--- the superclasses of the class at a place that another loader than its own defined (4.1, 5.3)
-pub record AreOthers (x : Laddered) (place : ℕ) (r : Rowed) (found : List Rowed) : Type 0 where
-  pub kins_are :
-      map (kin_under (kins x.rows)) found ≡ others_of r.class.loader (above_in x.rows r)
+-- the superclasses of the class at a place that another loader than this defined, or all (4.1, 5.3)
+pub record AreOthers (x : Laddered) (place : ℕ) (own : Option ℕ) (r : Rowed) (found : List Rowed) : Type 0 where
+  pub kins_are : map (kin_under (kins x.rows)) found ≡ others_of own (above_in x.rows r)
   pub rows_are : AllByRecursion (IsEarlier x.rows place) found

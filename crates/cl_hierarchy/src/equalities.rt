@@ -32,13 +32,13 @@ pub fn equality(name: Name, one: LoaderId, other: LoaderId) -> Equality
 pub enum Origin<T: Told> {
     /// The member reference of `d` at this index of its constant pool, which names the class `c` (JVMS SE 8, 5.4.3).
     Reference {
-        d: Arc<Lineage<T>>,
-        c: Arc<Lineage<T>>,
+        d: Lineage<T>,
+        c: Lineage<T>,
         index: u16,
     },
     /// The preparation of a class (JVMS SE 8, 5.4.2).
     Preparation {
-        lineage: Arc<Lineage<T>>,
+        lineage: Lineage<T>,
     },
 }
 
@@ -83,15 +83,15 @@ impl<T: Told> Model for Equalities<T> {
 impl<T: Told> Equalities<T> {
     /// Those of the member reference of `d` at this index, which names the class `c`.
     pub fn of_reference(
-        d: Arc<Lineage<T>>,
-        c: Arc<Lineage<T>>,
+        d: Lineage<T>,
+        c: Lineage<T>,
         index: u16,
         needs: Vec<Equality>,
     ) -> Equalities<T>
-        requires { AreOfReference (kin_of d.value) (kin_of c.value) index (needs_of needs.items) }
+        requires { AreOfReference (kin_of d) (kin_of c) index (needs_of needs.items) }
         ensures { result ≡ record {
           needs = needs.items;
-          origin = OfReference d.value c.value index;
+          origin = OfReference d c index;
         } }
     {
         let origin = Origin::Reference { d, c, index };
@@ -99,9 +99,9 @@ impl<T: Told> Equalities<T> {
     }
 
     /// Those of the preparation of a class, or some that stand for all of them.
-    pub fn of_preparation(lineage: Arc<Lineage<T>>, needs: Vec<Equality>) -> Equalities<T>
-        requires { AreEnough (constraints_of (kin_of lineage.value)) (needs_of needs.items) }
-        ensures { result ≡ record { needs = needs.items; origin = OfPreparation lineage.value } }
+    pub fn of_preparation(lineage: Lineage<T>, needs: Vec<Equality>) -> Equalities<T>
+        requires { AreEnough (constraints_of (kin_of lineage)) (needs_of needs.items) }
+        ensures { result ≡ record { needs = needs.items; origin = OfPreparation lineage } }
     {
         let origin = Origin::Preparation { lineage };
         Equalities { needs, origin }

@@ -114,7 +114,7 @@ impl<T: Told> Ladder<T> {
     fn far_from(&self, own: LoaderId, up: Option<usize>) -> Option<usize>
         ensures { (ks : List Kin) (bound : ℕ) → IsUp self.now.rows ks up
             → HasRung self.now.marks bound up
-            → IsFar self.now.rows own ks result × HasRung self.now.marks bound result }
+            → IsFar self.now.rows (Some own) ks result × HasRung self.now.marks bound result }
     {
         let place = up?;
         let row = self.rows().get(place)?;
@@ -211,40 +211,41 @@ impl<T: Told> Ladder<T> {
         Ok(())
     }
 
-    /// The rows of the superclasses of the class at a place that another loader than the class's defined, nearest first.
-    pub fn others_above(
+    /// The rows of the superclasses of the class at a place, nearest first: all of them, or those that another loader than
+    /// this defined.
+    pub fn superclasses_at(
         &self,
         alloc: Global,
         place: usize,
-        own: LoaderId,
+        own: Option<LoaderId>,
     ) -> Result<Vec<Arc<ClassRow<T>>>, AllocError>
         requires { HasRung self.now.marks (place + 1) (Some place) }
-        ensures others { (r : Rowed) → slice_get self.now.rows place ≡ Some r
-            → r.class.loader ≡ own
-            → IfOk result (λ v. AreOthers self.now place r (map (λ x. x.value) v.items)) }
+        ensures superclasses { (r : Rowed) → slice_get self.now.rows place ≡ Some r
+            → IfOk result (λ v. AreOthers self.now place own r (map (λ x. x.value) v.items)) }
         ensures kept { IsLadder T.told self.now }
     {
         let mut found = Vec::new(alloc);
-        let Some(rung) = self.rung(place) else {
-            return Ok(found);
-        };
-        let mut far = rung.far;
-        while let Some(place) = far {
+        let mut next = self.next_above(own, place);
+        while let Some(place) = next {
             let row = &self.rows()[place];
             found.push(Arc::try_clone(row)?)?;
-            far = self.next_far(own, place);
+            next = self.next_above(own, place);
         }
         Ok(found)
     }
 
-    /// Where the nearest superclass of another loader than this stands above the class at a place.
-    fn next_far(&self, own: LoaderId, place: usize) -> Option<usize>
-        ensures { (r : Rowed) (bound : ℕ) → slice_get self.now.rows place ≡ Some r
+    /// Where the nearest superclass of the class at a place stands, or the nearest of another loader than this.
+    fn next_above(&self, own: Option<LoaderId>, place: usize) -> Option<usize>
+        ensures nearest { (r : Rowed) (bound : ℕ) → slice_get self.now.rows place ≡ Some r
             → HasRung self.now.marks bound (Some place)
             → IsFar self.now.rows own (above_in self.now.rows r) result
             × HasRung self.now.marks place result }
+        ensures kept { IsLadder T.told self.now }
     {
         let rung = self.rung(place)?;
-        self.far_from(own, rung.up)
+        match own {
+            None => rung.up,
+            Some(own) => self.far_from(own, rung.up),
+        }
     }
 }

@@ -79,30 +79,6 @@ fn is_above<'a, T: Told>(
     false
 }
 
-/// The rows of the superclasses of the class of this row, nearest first. They are all among `rows`.
-fn upward<'a, T: Told>(
-    alloc: Global,
-    rows: &'a [Arc<ClassRow<T>>],
-    under: &'a Arc<ClassRow<T>>,
-) -> Result<Vec<Arc<ClassRow<T>>>, AllocError>
-    requires { SupersBefore [] (map (λ r. r.value) rows.now) }
-    ensures kins { IfOk result (λ v. map (λ r. kin_under (kins (map (λ x. x.value) rows.now))
-        r.value) v.items ≡ upward (forest (kins (map (λ r. r.value) rows.now))
-        (superclass_in under.entry.now.value))) }
-    ensures rows { IfOk result (λ v. AllByRecursion (λ r. IsRowIn (map (λ x. x.value) rows.now)
-        r.value) v.items) }
-{
-    let mut found = Vec::new(alloc);
-    let mut rest = rows;
-    let mut last = under;
-    while let Some((row, earlier)) = superclass_row(rest, last) {
-        found.push(Arc::try_clone(row)?)?;
-        last = row;
-        rest = earlier;
-    }
-    Ok(found)
-}
-
 /// A ladder to be shared.
 fn share<T: Told>(alloc: Global, ladder: Ladder<T>) -> Result<Arc<Ladder<T>>, AllocError>
     ensures { IfOk result (λ x. x.value ≡ ladder) }
@@ -214,22 +190,30 @@ impl<T: Told> Lineage<T> {
         self.place < self.unmixed
     }
 
-    /// The same lineage, which keeps that so many of its rows, from the first, are unmixed.
-    pub fn with_unmixed(&self, many: usize) -> Result<Lineage<T>, AllocError>
-        requires { IsUnmixed (take many (rows_in self.now)) }
-        ensures { IfOk result (λ l. l ≡ self.now) }
+    /// Another handle on the same lineage.
+    pub fn try_clone(&self) -> Result<Lineage<T>, AllocError>
+        ensures clone { IfOk result (λ l. l ≡ self.now) }
     {
-        let unmixed = if self.place < many {
-            self.place + 1
-        } else {
-            many
-        };
         Ok(Lineage {
             ladder: Arc::try_clone(&self.ladder)?,
             own: Arc::try_clone(&self.own)?,
             place: self.place,
-            unmixed,
+            unmixed: self.unmixed,
         })
+    }
+
+    /// The same lineage, which keeps that so many of its rows, from the first, are unmixed.
+    pub fn with_unmixed(self, many: usize) -> Lineage<T>
+        requires { IsUnmixed (take many (rows_in self)) }
+        ensures { result ≡ self }
+    {
+        let mut kept = self;
+        kept.unmixed = if kept.place < many {
+            kept.place + 1
+        } else {
+            many
+        };
+        kept
     }
 
     /// The row of the superclass, if there is one (JVMS SE 8, 4.1). Takes no memory.
@@ -242,14 +226,14 @@ impl<T: Told> Lineage<T> {
         Some(row)
     }
 
-    /// The rows of the superclasses, nearest first (JVMS SE 8, 4.1), in time linear in the rows.
+    /// The rows of the superclasses, nearest first (JVMS SE 8, 4.1), in time linear in their number.
     pub fn superclasses(&self, alloc: Global) -> Result<Vec<Arc<ClassRow<T>>>, AllocError>
         ensures superclasses { IfOk result (λ v. map (λ r. kin_at self.now r.value) v.items
             ≡ superclasses (kin_of self.now)) }
         ensures rows { IfOk result (λ v. AllByRecursion (λ r. IsRowIn (rows_in self.now) r.value)
             v.items) }
     {
-        upward(alloc, self.above(), self.own())
+        self.ladder.superclasses_at(alloc, self.place, None)
     }
 
     /// The rows of the superclasses that another loader than the class's own defined, nearest first (JVMS SE 8, 4.1, 5.3),
@@ -261,8 +245,8 @@ impl<T: Told> Lineage<T> {
         ensures rows { IfOk result (λ v. AllByRecursion (λ r. IsRowIn (rows_in self.now) r.value)
             v.items) }
     {
-        self.ladder
-            .others_above(alloc, self.place, self.own.class().loader)
+        let own = self.own.class().loader;
+        self.ladder.superclasses_at(alloc, self.place, Some(own))
     }
 
     /// Whether the class has another as a proper superclass (JVMS SE 8, 4.1). Takes no memory; time linear in the rows.

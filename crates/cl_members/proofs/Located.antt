@@ -75,11 +75,6 @@ located_answers d c i f is from through at =
     )
     )
 
--- what the code told of access
-pub access_told : (from through d c : Lined) (owner : Class) (k : Kin) (flags : ℕ) (told : Bool) → from ≡ d → through ≡ c → k.class ≡ owner → TellsAccess told from owner flags through → told ≡ member_accessible (kin_of d) k flags (kin_of c)
-access_told from through d c owner k flags told e f same tells =
-    tells k same ∙ ap (λ (l : Lined). member_accessible (kin_of l) k flags (kin_of through)) e ∙ ap (λ (l : Lined). member_accessible (kin_of d) k flags (kin_of l)) f
-
 -- a copy of what was looked up is the same
 pub located_copy : (d c e f : Lined) (i : ℕ) (owner copy : Rowed) (k : Key) (flags : ℕ) → d ≡ e → c ≡ f → owner ≡ copy
     → IsLocated (record { d = d; c = c; index = i; owner = owner; key = k; flags = flags }) → IsLocated (record { d = e; c = f; index = i; owner = copy; key = k; flags = flags })

@@ -16,12 +16,12 @@ use std::sync::Arc;
 /// `NoSuchField` where there is none, and then `Inaccessible` with the class that declares it (JVMS SE 8, 5.4.3.2).
 pub fn find_field<T: Told>(
     alloc: Global,
-    d: &Arc<Lineage<T>>,
-    c: &Arc<Lineage<T>>,
+    d: &Lineage<T>,
+    c: &Lineage<T>,
     index: u16,
 ) -> Result<Found<T>, LookupFault>
-    requires { AsksField d.now.value c.now.value index }
-    ensures { Answers d.now.value c.now.value index result }
+    requires { AsksField d.now c.now index }
+    ensures { Answers d.now c.now index result }
 {
     // brings that the rows stand in order
     let _ = c.class();

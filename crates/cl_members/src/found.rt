@@ -19,8 +19,8 @@ use std::sync::Arc;
 /// The member that an entry of the pool of a class `d` asks for, as it was found through the class `c` that the entry
 /// names. It is accessible to `d` (JVMS SE 8, 5.4.3.2 to 5.4.3.4).
 pub struct Found<T: Told> {
-    d: Arc<Lineage<T>>,
-    c: Arc<Lineage<T>>,
+    d: Lineage<T>,
+    c: Lineage<T>,
     index: u16,
     owner: Arc<ClassRow<T>>,
     key: MemberKey,
@@ -45,23 +45,23 @@ impl<T: Told> Model for Found<T> {
 
     ghost Value = { Located };
 
-    ghost view = { λ f. record { d = f.d.value; c = f.c.value; index = f.index; owner = f.owner.value; key = f.key; flags = f.flags } };
+    ghost view = { λ f. record { d = f.d; c = f.c; index = f.index; owner = f.owner.value; key = f.key; flags = f.flags } };
 
-    ghost invariant = { λ f. IsLocated (record { d = f.d.value; c = f.c.value; index = f.index; owner = f.owner.value; key = f.key; flags = f.flags }) };
+    ghost invariant = { λ f. IsLocated (record { d = f.d; c = f.c; index = f.index; owner = f.owner.value; key = f.key; flags = f.flags }) };
 }
 
 impl<T: Told> Found<T> {
     /// The class whose entry asks for the member.
-    pub fn d(&self) -> &Arc<Lineage<T>>
-        ensures d { result.now.value ≡ self.now.d }
+    pub fn d(&self) -> &Lineage<T>
+        ensures d { result.now ≡ self.now.d }
         ensures kept { IsLocated self.now }
     {
         &self.d
     }
 
     /// The class that the entry names.
-    pub fn c(&self) -> &Arc<Lineage<T>>
-        ensures c { result.now.value ≡ self.now.c }
+    pub fn c(&self) -> &Lineage<T>
+        ensures c { result.now ≡ self.now.c }
         ensures kept { IsLocated self.now }
     {
         &self.c
@@ -103,23 +103,23 @@ impl<T: Told> Found<T> {
 /// The member that lookup came to, where it is accessible (JVMS SE 8, 5.4.4).
 pub(crate) fn access<T: Told>(
     alloc: Global,
-    d: &Arc<Lineage<T>>,
-    c: &Arc<Lineage<T>>,
+    d: &Lineage<T>,
+    c: &Lineage<T>,
     index: u16,
     symbol: Symbol<'_>,
     owner: &Arc<ClassRow<T>>,
     flags: u16,
 ) -> Result<Found<T>, LookupFault>
-    requires { Reaches d.now.value c.now.value index (plain_symbol symbol) owner.now.value flags }
-    ensures { Answers d.now.value c.now.value index result }
+    requires { Reaches d.now c.now index (plain_symbol symbol) owner.now.value flags }
+    ensures { Answers d.now c.now index result }
 {
     if !member_accessible(d, owner.class(), flags, c) {
         return Err(LookupFault::Inaccessible(owner.class().try_clone(alloc)?));
     }
     let key = MemberKey::new(alloc, symbol.name, symbol.descriptor)?;
     Ok(Found {
-        d: Arc::try_clone(d)?,
-        c: Arc::try_clone(c)?,
+        d: d.try_clone()?,
+        c: c.try_clone()?,
         index,
         owner: Arc::try_clone(owner)?,
         key,
@@ -139,7 +139,7 @@ pub fn equalities<T: Told>(alloc: Global, found: &Found<T>) -> Result<Equalities
     let names = class_names(alloc, found.d().own().file(), found.index)?;
     let owner = found.owner().class().loader;
     let needs = equals(alloc, names, owner, found.d().class().loader)?;
-    let d = Arc::try_clone(found.d())?;
-    let c = Arc::try_clone(found.c())?;
+    let d = found.d().try_clone()?;
+    let c = found.c().try_clone()?;
     Ok(Equalities::of_reference(d, c, found.index, needs))
 }

@@ -65,12 +65,12 @@ fn interface_method_owner<T: Told>(
 /// it; and then `Inaccessible` with the class that declares it (JVMS SE 8, 5.4.3.3).
 pub fn find_method<T: Told>(
     alloc: Global,
-    d: &Arc<Lineage<T>>,
-    c: &Arc<Lineage<T>>,
+    d: &Lineage<T>,
+    c: &Lineage<T>,
     index: u16,
 ) -> Result<Found<T>, LookupFault>
-    requires { AsksMethod d.now.value c.now.value index }
-    ensures { Answers d.now.value c.now.value index result }
+    requires { AsksMethod d.now c.now index }
+    ensures { Answers d.now c.now index result }
 {
     let symbol = method_symbol(d, c, index);
     if c.own().file().is_interface() {
@@ -91,12 +91,12 @@ pub fn find_method<T: Told>(
 /// declares it (JVMS SE 8, 5.4.3.4).
 pub fn find_interface_method<T: Told>(
     alloc: Global,
-    d: &Arc<Lineage<T>>,
-    c: &Arc<Lineage<T>>,
+    d: &Lineage<T>,
+    c: &Lineage<T>,
     index: u16,
 ) -> Result<Found<T>, LookupFault>
-    requires { AsksInterfaceMethod d.now.value c.now.value index }
-    ensures { Answers d.now.value c.now.value index result }
+    requires { AsksInterfaceMethod d.now c.now index }
+    ensures { Answers d.now c.now index result }
 {
     let symbol = interface_method_symbol(d, c, index);
     if !c.own().file().is_interface() {

@@ -227,15 +227,14 @@ second_told h l self own above over xs ys is xe ye view are =
 
 -- ---- the rows of a lineage
 
-pub mapped_rows : {A : Type 0} (f : A → Rowed) (rows_of : Kin → List Kin) (l m : Lined) (xs ys : List A) (rows : List Rowed) → m ≡ l → ys ≡ xs → rows ≡ map f ys
-    → map (λ r. kin_at m (f r)) xs ≡ rows_of (kin_of m) → map (kin_at l) rows ≡ rows_of (kin_of l)
-mapped_rows f rows_of l m xs ys rows e ye made are =
-    ap (map (kin_at l)) (made ∙ ap (map f) ye) ∙ map-map (kin_at l) f xs ∙ subst (λ (x : Lined). map (λ r. kin_at x (f r)) xs ≡ rows_of (kin_of x)) e are
+pub mapped_rows : {A : Type 0} (f : A → Rowed) (rows_of : Kin → List Kin) (l : Lined) (xs ys : List A) (rows : List Rowed) → ys ≡ xs → rows ≡ map f ys
+    → map (λ r. kin_at l (f r)) xs ≡ rows_of (kin_of l) → map (kin_at l) rows ≡ rows_of (kin_of l)
+mapped_rows f rows_of l xs ys rows ye made are = ap (map (kin_at l)) (made ∙ ap (map f) ye) ∙ map-map (kin_at l) f xs ∙ are
 
-pub mapped_in : {A : Type 0} (f : A → Rowed) (l m : Lined) (xs ys : List A) (rows : List Rowed) → m ≡ l → ys ≡ xs → rows ≡ map f ys → AllByRecursion (λ r. IsRowIn (rows_in m) (f r)) xs
+pub mapped_in : {A : Type 0} (f : A → Rowed) (l : Lined) (xs ys : List A) (rows : List Rowed) → ys ≡ xs → rows ≡ map f ys → AllByRecursion (λ r. IsRowIn (rows_in l) (f r)) xs
     → AllByRecursion (IsRowIn (rows_in l)) rows
-mapped_in {A} f l m xs ys rows e ye made all =
-    subst (λ (rs : List Rowed). AllByRecursion (IsRowIn (rows_in l)) rs) (sym (made ∙ ap (map f) ye)) (all_forth f (IsRowIn (rows_in l)) xs (subst (λ (x : Lined). AllByRecursion (λ r. IsRowIn (rows_in x) (f r)) xs) e all))
+mapped_in {A} f l xs ys rows ye made all =
+    subst (λ (rs : List Rowed). AllByRecursion (IsRowIn (rows_in l)) rs) (sym (made ∙ ap (map f) ye)) (all_forth f (IsRowIn (rows_in l)) xs all)
 
 pub relatives_are : (l m : Lined) (own : Rowed) (above over : List Rowed) → m ≡ l → own ≡ l.own → map (kin_at l) above ≡ superclasses (kin_of l) → map (kin_at l) over ≡ superinterfaces (kin_of l) → AreRelatives m own above over
 relatives_are l m own above over e o a b = subst (λ (x : Lined). AreRelatives x own above over) (sym e) (record { own_is = o; above_are = a; over_are = b })

@@ -227,14 +227,14 @@ class_of : (l : Lined) (own : Rowed) → own ≡ l.own → is_interface (file_of
 class_of l own same class = ap (λ (r : Rowed). is_interface (file_of r.file)) (sym same) ∙ class
 
 -- and so with the rows of its superclasses
-module _ {A : Type 0} (f : A → Rowed) (l m : Lined) (own : Rowed) (xs ys : List A) (away over above : List Rowed) (near : AreNear l own away over) (same : m ≡ l) (one : ys ≡ xs) (made : above ≡ map f ys)
-    (are : map (λ r. kin_at m (f r)) xs ≡ superclasses (kin_of m)) (within : AllByRecursion (λ r. IsRowIn (rows_in m) (f r)) xs) where
+module _ {A : Type 0} (f : A → Rowed) (l : Lined) (own : Rowed) (xs ys : List A) (away over above : List Rowed) (near : AreNear l own away over) (one : ys ≡ xs) (made : above ≡ map f ys)
+    (are : map (λ r. kin_at l (f r)) xs ≡ superclasses (kin_of l)) (within : AllByRecursion (λ r. IsRowIn (rows_in l) (f r)) xs) where
   above_are : map (kin_at l) above ≡ superclasses (kin_of l)
-  above_are = mapped_rows f superclasses l m xs ys above same one made are
+  above_are = mapped_rows f superclasses l xs ys above one made are
 
   pub away_given : away ≡ away_from own.class.loader above
   away_given =
-      away_rows l away above near.away_are near.away_in above_are (mapped_in f l m xs ys above same one made within) ∙ ap (λ (r : Rowed). away_from r.class.loader above) (sym near.own_is)
+      away_rows l away above near.away_are near.away_in above_are (mapped_in f l xs ys above one made within) ∙ ap (λ (r : Rowed). away_from r.class.loader above) (sym near.own_is)
 
   pub second_given : (rs : List Rowed) → rs ≡ over → is_interface (file_of own.file) ≡ false → second_by_rows true own above rs ≡ fewer_second (kin_of l)
   second_given rs is class =

@@ -449,8 +449,8 @@ pub none_heard : (away : List Rowed) (r : Rowed) → (file_of r.file).methods �
 none_heard away r none = sym (ap (λ (ms : List Member). list_any (is_heard away r) ms) none)
 
 -- none is looked at
-pub over_none : (l m : Lined) (over : List Rowed) → m ≡ l → over ≡ [] → AddAll m [] → AddAll l over
-over_none l m over same none all = subst (λ (rs : List Rowed). AddAll l rs) (sym none) (subst (λ (x : Lined). AddAll x []) same all)
+pub over_none : (l : Lined) (over : List Rowed) → over ≡ [] → AddAll l [] → AddAll l over
+over_none l over none all = subst (λ (rs : List Rowed). AddAll l rs) (sym none) all
 
 -- all are looked at
 pub over_all : {R E : Type 0} (items : R → List Rowed) (l : Lined) (r : Result R E) → IfOk r (λ v. map (kin_at l) (items v) ≡ superinterfaces (kin_of l)) → IfOk r (λ v. AddAll l (items v))

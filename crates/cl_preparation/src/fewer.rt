@@ -46,12 +46,12 @@ impl<T: Told> Drop for Nearby<T> {
 /// The superclasses of other loaders than the class's own, nearest first.
 fn away_of<T: Told>(
     alloc: Global,
-    lineage: &Arc<Lineage<T>>,
+    lineage: &Lineage<T>,
 ) -> Result<Vec<Relative<T>>, AllocError>
-    ensures classes { IfOk result (λ v. map (kin_at lineage.now.value) v.items
-        ≡ filter (λ k. is_of_other (kin_of lineage.now.value).class.loader k.class)
-        (superclasses (kin_of lineage.now.value))) }
-    ensures rows { IfOk result (λ v. AllByRecursion (IsRowIn (rows_in lineage.now.value)) v.items) }
+    ensures classes { IfOk result (λ v. map (kin_at lineage.now) v.items
+        ≡ filter (λ k. is_of_other (kin_of lineage.now).class.loader k.class)
+        (superclasses (kin_of lineage.now))) }
+    ensures rows { IfOk result (λ v. AllByRecursion (IsRowIn (rows_in lineage.now)) v.items) }
 {
     // mostly one: all but java/lang/Object are of one loader
     let rows = lineage.superclasses_of_others(alloc)?;
@@ -73,8 +73,8 @@ fn any_has_methods<T: Told>(classes: &[Relative<T>]) -> bool
 
 impl<T: Told> Nearby<T> {
     /// The class of a lineage.
-    fn of(alloc: Global, lineage: &Arc<Lineage<T>>) -> Result<Nearby<T>, AllocError>
-        ensures { IfOk result (λ n. AreNear lineage.now.value n.own n.away.items n.over.items) }
+    fn of(alloc: Global, lineage: &Lineage<T>) -> Result<Nearby<T>, AllocError>
+        ensures { IfOk result (λ n. AreNear lineage.now n.own n.away.items n.over.items) }
     {
         let away = away_of(alloc, lineage)?;
         let over = over_of(alloc, lineage, away.as_slice())?;
@@ -164,13 +164,13 @@ impl<T: Told> Nearby<T> {
         &self,
         alloc: Global,
         needs: &mut Vec<Equality>,
-        lineage: &Arc<Lineage<T>>,
+        lineage: &Lineage<T>,
     ) -> Result<(), AllocError>
-        requires near { AreNear lineage.now.value self.now.own self.now.away.items
+        requires near { AreNear lineage.now self.now.own self.now.away.items
             self.now.over.items }
         requires class { is_interface (file_of self.now.own.file) ≡ false }
         ensures { OnOk result (needs_of needs.new.items ≡ needs_of needs.old.items ++ fewer_second
-            (kin_of lineage.now.value)) }
+            (kin_of lineage.now)) }
     {
         let over = self.over.as_slice();
         // else no superclass is looked at but for its loader
@@ -188,12 +188,12 @@ impl<T: Told> Nearby<T> {
         &self,
         alloc: Global,
         needs: &mut Vec<Equality>,
-        lineage: &Arc<Lineage<T>>,
+        lineage: &Lineage<T>,
     ) -> Result<(), AllocError>
-        requires { AreNear lineage.now.value self.now.own self.now.away.items self.now.over.items }
+        requires { AreNear lineage.now self.now.own self.now.away.items self.now.over.items }
         ensures { OnOk result (needs_of needs.new.items ≡ needs_of needs.old.items
             ++ (if is_interface (file_of self.now.own.file) then [] else fewer_second
-            (kin_of lineage.now.value))) }
+            (kin_of lineage.now))) }
     {
         if self.own.is_interface() {
             return Ok(());
@@ -202,10 +202,10 @@ impl<T: Told> Nearby<T> {
     }
 
     /// What the preparation of the class of this lineage imposes, each other loader once for a method.
-    fn needs(&self, alloc: Global, lineage: &Arc<Lineage<T>>) -> Result<Vec<Equality>, AllocError>
-        requires { AreNear lineage.now.value self.now.own self.now.away.items self.now.over.items }
+    fn needs(&self, alloc: Global, lineage: &Lineage<T>) -> Result<Vec<Equality>, AllocError>
+        requires { AreNear lineage.now self.now.own self.now.away.items self.now.over.items }
         ensures { IfOk result (λ v. needs_of v.items
-            ≡ fewer_constraints_of (kin_of lineage.now.value)) }
+            ≡ fewer_constraints_of (kin_of lineage.now)) }
     {
         let mut needs = Vec::new(alloc);
         let methods = self.own.methods(alloc)?;
@@ -218,10 +218,10 @@ impl<T: Told> Nearby<T> {
 /// The few equalities that stand for all that the preparation of a class imposes.
 fn fewer_needs<T: Told>(
     alloc: Global,
-    lineage: &Arc<Lineage<T>>,
+    lineage: &Lineage<T>,
 ) -> Result<Vec<Equality>, AllocError>
     ensures { IfOk result (λ v. needs_of v.items ≡ fewer_constraints_of
-        (kin_of lineage.now.value)) }
+        (kin_of lineage.now)) }
 {
     if imposes_nothing(alloc, lineage)? {
         return Ok(Vec::new(alloc));
@@ -238,14 +238,14 @@ fn fewer_needs<T: Told>(
 /// stand where the few do. Only memory refuses it (JVMS SE 8, 5.3.4, 5.4.2).
 pub fn fewer_constraints_of<T: Told>(
     alloc: Global,
-    lineage: &Arc<Lineage<T>>,
+    lineage: &Lineage<T>,
 ) -> Result<Equalities<T>, AllocError>
-    ensures few { IfOk result (λ e. AreEnough (constraints_of (kin_of lineage.now.value))
+    ensures few { IfOk result (λ e. AreEnough (constraints_of (kin_of lineage.now))
         (needs_of e.needs)) }
     ensures exactly { IfOk result (λ e. needs_of e.needs
-        ≡ fewer_constraints_of (kin_of lineage.now.value)) }
-    ensures origin { IfOk result (λ e. e.origin ≡ OfPreparation lineage.now.value) }
+        ≡ fewer_constraints_of (kin_of lineage.now)) }
+    ensures origin { IfOk result (λ e. e.origin ≡ OfPreparation lineage.now) }
 {
     let needs = fewer_needs(alloc, lineage)?;
-    Ok(Equalities::of_preparation(Arc::try_clone(lineage)?, needs))
+    Ok(Equalities::of_preparation(lineage.try_clone()?, needs))
 }

@@ -221,14 +221,14 @@ fn are_quiet<T: Told>(
 /// The superinterfaces of a class that may add to the few, in preorder: all of them, or none where they add nothing.
 pub(crate) fn over_of<T: Told>(
     alloc: Global,
-    lineage: &Arc<Lineage<T>>,
+    lineage: &Lineage<T>,
     away: &[Relative<T>],
 ) -> Result<Vec<Relative<T>>, AllocError>
-    requires classes { map (kin_at lineage.now.value) away.now ≡ filter
-        (λ k. is_of_other (kin_of lineage.now.value).class.loader k.class)
-        (superclasses (kin_of lineage.now.value)) }
-    requires rows { AllByRecursion (IsRowIn (rows_in lineage.now.value)) away.now }
-    ensures { IfOk result (λ v. AddAll lineage.now.value v.items) }
+    requires classes { map (kin_at lineage.now) away.now ≡ filter
+        (λ k. is_of_other (kin_of lineage.now).class.loader k.class)
+        (superclasses (kin_of lineage.now)) }
+    requires rows { AllByRecursion (IsRowIn (rows_in lineage.now)) away.now }
+    ensures { IfOk result (λ v. AddAll lineage.now v.items) }
 {
     // most classes have none
     if has_none_over(lineage) {

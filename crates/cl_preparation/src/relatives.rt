@@ -23,7 +23,7 @@ use std::sync::Arc;
 
 /// A class, its superclasses nearest first and its superinterfaces in preorder.
 struct Relatives<T: Told> {
-    lineage: Arc<Lineage<T>>,
+    lineage: Lineage<T>,
     own: Relative<T>,
     superclasses: Vec<Relative<T>>,
     superinterfaces: Vec<Relative<T>>,
@@ -46,9 +46,9 @@ impl<T: Told> Model for Relatives<T> {
 
     ghost Value = { Lined };
 
-    ghost view = { λ r. r.lineage.value };
+    ghost view = { λ r. r.lineage };
 
-    ghost invariant = { λ r. AreRelatives r.lineage.value r.own r.superclasses.items r.superinterfaces.items };
+    ghost invariant = { λ r. AreRelatives r.lineage r.own r.superclasses.items r.superinterfaces.items };
 }
 
 /// The classes of these rows.
@@ -69,10 +69,10 @@ pub(crate) fn all_of<T: Told>(
 /// The superclasses, nearest first.
 fn superclasses_of<T: Told>(
     alloc: Global,
-    lineage: &Arc<Lineage<T>>,
+    lineage: &Lineage<T>,
 ) -> Result<Vec<Relative<T>>, AllocError>
-    ensures { IfOk result (λ v. map (kin_at lineage.now.value) v.items
-        ≡ superclasses (kin_of lineage.now.value)) }
+    ensures { IfOk result (λ v. map (kin_at lineage.now) v.items
+        ≡ superclasses (kin_of lineage.now)) }
 {
     let rows = lineage.superclasses(alloc)?;
     let all = all_of(alloc, rows.as_slice())?;
@@ -95,10 +95,10 @@ pub(crate) fn has_none_over<T: Told>(lineage: &Lineage<T>) -> bool
 /// The superinterfaces, in preorder.
 pub(crate) fn superinterfaces_of<T: Told>(
     alloc: Global,
-    lineage: &Arc<Lineage<T>>,
+    lineage: &Lineage<T>,
 ) -> Result<Vec<Relative<T>>, AllocError>
-    ensures { IfOk result (λ v. map (kin_at lineage.now.value) v.items ≡ superinterfaces
-        (kin_of lineage.now.value)) }
+    ensures { IfOk result (λ v. map (kin_at lineage.now) v.items ≡ superinterfaces
+        (kin_of lineage.now)) }
 {
     // most classes have none, and a chain of classes is long
     if has_none_over(lineage) {
@@ -119,12 +119,12 @@ fn any_takes_part<T: Told>(classes: &[Relative<T>], key: &MethodKey) -> bool
 impl<T: Told> Relatives<T> {
     /// Those of the class of a lineage.
     #[tactic(auto, using(crate::proofs::Constraints::relatives_are))]
-    fn of(alloc: Global, lineage: &Arc<Lineage<T>>) -> Result<Relatives<T>, AllocError>
-        ensures { IfOk result (λ r. r ≡ lineage.now.value) }
+    fn of(alloc: Global, lineage: &Lineage<T>) -> Result<Relatives<T>, AllocError>
+        ensures { IfOk result (λ r. r ≡ lineage.now) }
     {
         let superclasses = superclasses_of(alloc, lineage)?;
         let superinterfaces = superinterfaces_of(alloc, lineage)?;
-        let lineage_copy = Arc::try_clone(lineage)?;
+        let lineage_copy = lineage.try_clone()?;
         // (last, since each way to drop it is a case of the proof)
         let own = Relative::of(alloc, lineage.own())?;
         Ok(Relatives {
@@ -262,9 +262,9 @@ pub(crate) fn imposes_nothing<T: Told>(
 /// The equalities that the preparation of a class imposes.
 fn needs_over<T: Told>(
     alloc: Global,
-    lineage: &Arc<Lineage<T>>,
+    lineage: &Lineage<T>,
 ) -> Result<Vec<Equality>, AllocError>
-    ensures { IfOk result (λ v. needs_of v.items ≡ constraints_of (kin_of lineage.now.value)) }
+    ensures { IfOk result (λ v. needs_of v.items ≡ constraints_of (kin_of lineage.now)) }
 {
     if imposes_nothing(alloc, lineage)? {
         return Ok(Vec::new(alloc));
@@ -281,12 +281,12 @@ fn needs_over<T: Told>(
 /// nearest superclass that declares one. Only memory refuses it (JVMS SE 8, 5.4.2).
 pub fn constraints_of<T: Told>(
     alloc: Global,
-    lineage: &Arc<Lineage<T>>,
+    lineage: &Lineage<T>,
 ) -> Result<Equalities<T>, AllocError>
     ensures needs { IfOk result (λ e. needs_of e.needs
-        ≡ constraints_of (kin_of lineage.now.value)) }
-    ensures origin { IfOk result (λ e. e.origin ≡ OfPreparation lineage.now.value) }
+        ≡ constraints_of (kin_of lineage.now)) }
+    ensures origin { IfOk result (λ e. e.origin ≡ OfPreparation lineage.now) }
 {
     let needs = needs_over(alloc, lineage)?;
-    Ok(Equalities::of_preparation(Arc::try_clone(lineage)?, needs))
+    Ok(Equalities::of_preparation(lineage.try_clone()?, needs))
 }

@@ -124,16 +124,15 @@ fn is_worth_surveying<T: Told>(lineage: &Lineage<T>, left: usize) -> bool {
 /// refuses it.
 pub fn surveyed<T: Told>(
     alloc: Global,
-    lineage: Arc<Lineage<T>>,
+    lineage: Lineage<T>,
     from: usize,
-) -> Result<Arc<Lineage<T>>, AllocError>
-    ensures { IfOk result (λ l. l.value ≡ lineage.value) }
+) -> Result<Lineage<T>, AllocError>
+    ensures { IfOk result (λ l. l ≡ lineage) }
 {
     let left = lineage.above().len().saturating_sub(from);
     if !is_worth_surveying(&lineage, left) {
         return Ok(lineage);
     }
     let many = count_unmixed(alloc, &lineage)?;
-    let kept = lineage.with_unmixed(many)?;
-    Ok(Arc::new(alloc, kept)?)
+    Ok(lineage.with_unmixed(many))
 }

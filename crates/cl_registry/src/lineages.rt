@@ -34,23 +34,19 @@ impl<'a, T: Told> RowTable<T> for Defined<'a, T> {
 impl<T: Told> Registry<T> {
     /// The lineage of a class that its loader has recorded, in time linear in the rows of its ancestors and the supertypes
     /// that they name.
-    pub fn lineage(&self, alloc: Global, class: &Class) -> Result<Arc<Lineage<T>>, RegistryFault>
+    pub fn lineage(&self, alloc: Global, class: &Class) -> Result<Lineage<T>, RegistryFault>
         ensures recorded { OnOk result (IsRecorded (state_of self.now) class.now) }
-        ensures made { IfOk result (λ l. IsMadeOf self.now.config self.now.rows class.now l.value) }
-        ensures traced { IfOk result (λ l. IsTraced self.now class.now l.value) }
+        ensures made { IfOk result (λ l. IsMadeOf self.now.config self.now.rows class.now l) }
+        ensures traced { IfOk result (λ l. IsTraced self.now class.now l) }
         ensures refused { IfErr result (λ fault. LineageRefusedFor self.now class.now fault) }
         ensures kept { IsKept T.told self.now }
     {
         let table = Defined { registry: self };
-        let made = match Lineage::of(alloc, &self.config, &table, class) {
-            Ok(made) => made,
-            Err(LineageFault::Unknown) => return Err(RegistryFault::Stray),
-            Err(LineageFault::Memory) => return Err(RegistryFault::Memory),
-        };
-        let Ok(lineage) = Arc::new(alloc, made) else {
-            return Err(RegistryFault::Memory);
-        };
-        Ok(lineage)
+        match Lineage::of(alloc, &self.config, &table, class) {
+            Ok(lineage) => Ok(lineage),
+            Err(LineageFault::Unknown) => Err(RegistryFault::Stray),
+            Err(LineageFault::Memory) => Err(RegistryFault::Memory),
+        }
     }
 
     /// The row of the class that this loader defined under this name.

@@ -106,21 +106,21 @@ own_recorded x loader c fine at = fine.own loader c.loader c.name at
 -- ---- the facts of a chain
 
 pub chain_goal : {A : Type 0} (x : Shown) (k : Chain A) → AreSo x (chain_facts k) → AreSo x (goal_facts k.goal)
-chain_goal x k h = so_first x (goal_facts k.goal) (HasLineage k.whole.value ∷ map (λ c. IsPrepared c) (take k.place (classes_in k.whole.value))) h
+chain_goal x k h = so_first x (goal_facts k.goal) (HasLineage k.whole ∷ map (λ c. IsPrepared c) (take k.place (classes_in k.whole))) h
 
-pub chain_whole : {A : Type 0} (x : Shown) (k : Chain A) → AreSo x (chain_facts k) → IsTraced x k.whole.value.own.class k.whole.value
-chain_whole x k h = (so_second x (goal_facts k.goal) (HasLineage k.whole.value ∷ map (λ c. IsPrepared c) (take k.place (classes_in k.whole.value))) h).0
+pub chain_whole : {A : Type 0} (x : Shown) (k : Chain A) → AreSo x (chain_facts k) → IsTraced x k.whole.own.class k.whole
+chain_whole x k h = (so_second x (goal_facts k.goal) (HasLineage k.whole ∷ map (λ c. IsPrepared c) (take k.place (classes_in k.whole))) h).0
 
-pub chain_prepared : {A : Type 0} (x : Shown) (k : Chain A) → AreSo x (chain_facts k) → AllByRecursion (Contains (state_of x).prepared) (take k.place (classes_in k.whole.value))
+pub chain_prepared : {A : Type 0} (x : Shown) (k : Chain A) → AreSo x (chain_facts k) → AllByRecursion (Contains (state_of x).prepared) (take k.place (classes_in k.whole))
 chain_prepared x k h =
-    prepared_all x (take k.place (classes_in k.whole.value))
-    (so_second x (goal_facts k.goal) (HasLineage k.whole.value ∷ map (λ c. IsPrepared c) (take k.place (classes_in k.whole.value))) h).1
+    prepared_all x (take k.place (classes_in k.whole))
+    (so_second x (goal_facts k.goal) (HasLineage k.whole ∷ map (λ c. IsPrepared c) (take k.place (classes_in k.whole))) h).1
 
-pub chain_of : {A : Type 0} (x : Shown) (k : Chain A) → AreSo x (goal_facts k.goal) → IsTraced x k.whole.value.own.class k.whole.value → AllByRecursion (Contains (state_of x).prepared) (take k.place (classes_in k.whole.value))
+pub chain_of : {A : Type 0} (x : Shown) (k : Chain A) → AreSo x (goal_facts k.goal) → IsTraced x k.whole.own.class k.whole → AllByRecursion (Contains (state_of x).prepared) (take k.place (classes_in k.whole))
     → AreSo x (chain_facts k)
 chain_of x k goal whole prepared =
-    so_both x (goal_facts k.goal) (HasLineage k.whole.value ∷ map (λ c. IsPrepared c) (take k.place (classes_in k.whole.value))) goal
-    (whole, prepared_to_so x (take k.place (classes_in k.whole.value)) prepared)
+    so_both x (goal_facts k.goal) (HasLineage k.whole ∷ map (λ c. IsPrepared c) (take k.place (classes_in k.whole))) goal
+    (whole, prepared_to_so x (take k.place (classes_in k.whole)) prepared)
 
 -- ---- the facts of a list
 

@@ -55,16 +55,16 @@ no_call : (a : ℕ) → 0 + a ≤ a + 1
 no_call a = omega arith
 
 -- a step that goes on from the front at the place of a chain asks for no lineage
-pub front_leads : {A : Type 0} {n : Next A} (told : Option Content) (c : Configured) (k : Chain A) (front : Lined) → IsFront k.whole.value k.place front
+pub front_leads : {A : Type 0} {n : Next A} (told : Option Content) (c : Configured) (k : Chain A) (front : Lined) → IsFront k.whole k.place front
     → LeadsBy told c k.goal.q k.goal.request (listed_room k) (LineageTold k front) n → LeadsBy told c k.goal.q k.goal.request (chain_room k) (ChainTold k) n
 front_leads told c k front f next =
     leads_by (chain_room k) (ChainTold k) next (one_turn_less (chain_left (behind k)))
-    (fewer_calls told c (ChainTold k) k.goal.request 0 (chain_calls k.whole.value k.place) (chain_calls k.whole.value k.place + 1) (no_call (chain_calls k.whole.value k.place)))
-    (λ x h. record { before = h; now = front_traced k.whole.value front k.place f x k.whole.value.own.class (chain_whole x k h) })
+    (fewer_calls told c (ChainTold k) k.goal.request 0 (chain_calls k.whole k.place) (chain_calls k.whole k.place + 1) (no_call (chain_calls k.whole k.place)))
+    (λ x h. record { before = h; now = front_traced k.whole front k.place f x k.whole.own.class (chain_whole x k h) })
 
 -- ---- a lineage that was surveyed is the same
 
-module _ {A : Type 0} (c : Configured) (k : Chain A) (whole : Arc Lined Global) (same : whole.value ≡ k.whole.value) where
+module _ {A : Type 0} (c : Configured) (k : Chain A) (whole : Lined) (same : whole ≡ k.whole) where
   pub surveyed_chain : IsChain c k → IsChain c (record k { whole = whole })
   surveyed_chain h = record {
     goal = h.goal;
@@ -72,9 +72,6 @@ module _ {A : Type 0} (c : Configured) (k : Chain A) (whole : Arc Lined Global) 
     within = subst (λ (l : Lined). k.place < length (rows_in l)) (sym same) h.within;
   }
 
-  abbrev at : Lined → Chain A
-  at l = record k { whole = record whole { value = l } }
-
   pub surveyed_leads : {n : Next A} (told : Option Content) → LeadsBy told c k.goal.q k.goal.request (chain_room (record k { whole = whole })) (ChainTold (record k { whole = whole })) n
       → LeadsBy told c k.goal.q k.goal.request (chain_room k) (ChainTold k) n
-  surveyed_leads {n} told h = subst (λ (l : Lined). LeadsBy told c k.goal.q k.goal.request (chain_room (at l)) (ChainTold (at l)) n) same h
+  surveyed_leads {n} told h = subst (λ (l : Lined). LeadsBy told c k.goal.q k.goal.request (chain_room (record k { whole = l })) (ChainTold (record k { whole = l })) n) same h

@@ -147,7 +147,7 @@ one_more a = omega arith
 next_more : (a : ℕ) → a + 1 < a + 2
 next_more a = omega arith
 
-pub ask_leads : {A : Type 0} (told : Option Content) (c : Configured) (k : Chain A) (d : Class) → IsChain c k → d ≡ class_in k.whole.value k.place
+pub ask_leads : {A : Type 0} (told : Option Content) (c : Configured) (k : Chain A) (d : Class) → IsChain c k → d ≡ class_in k.whole k.place
     → LeadsBy told c k.goal.q k.goal.request (asking_room k) (ChainTold k) (record { stage = stages.Link (links.Asking k); turn = turn.LookPrepared d })
 ask_leads told c k d chain is = record {
   kept = chain;
@@ -155,13 +155,13 @@ ask_leads told c k d chain is = record {
   asks = ap (λ (e : Class). waits.LookingPrepared e) (sym is);
   serves = refl;
   left = next_more (chain_left (behind k));
-  calls = stay told c (ChainTold k) k.goal.request (past_loads 0 0 (chain_calls k.whole.value k.place + 2));
+  calls = stay told c (ChainTold k) k.goal.request (past_loads 0 0 (chain_calls k.whole k.place + 2));
   keeps = λ x h. record { frames = tt; facts = h };
   backed = λ x config names fine h. tt;
   follows = λ s x served h. tt;
 }
 
-pub trace_leads : {A : Type 0} (told : Option Content) (c : Configured) (k : Chain A) (d : Class) → IsChain c k → d ≡ class_in k.whole.value k.place
+pub trace_leads : {A : Type 0} (told : Option Content) (c : Configured) (k : Chain A) (d : Class) → IsChain c k → d ≡ class_in k.whole k.place
     → LeadsBy told c k.goal.q k.goal.request (chain_room k) (ChainTold k) (record { stage = stages.Link (links.Tracing k); turn = turn.Lineage d })
 trace_leads told c k d chain is = record {
   kept = chain;
@@ -169,17 +169,17 @@ trace_leads told c k d chain is = record {
   asks = ap (λ (e : Class). waits.Tracing e) (sym is);
   serves = refl;
   left = one_more (chain_left (behind k));
-  calls = stay told c (ChainTold k) k.goal.request (past_loads 0 0 (chain_calls k.whole.value k.place + 1));
+  calls = stay told c (ChainTold k) k.goal.request (past_loads 0 0 (chain_calls k.whole k.place + 1));
   keeps = λ x h. record { frames = tt; facts = h };
-  backed = λ x config names fine h. subst (λ (e : Class). IsRecorded (state_of x) e) (sym is) (traced_recorded x k.whole.value.own.class k.whole.value k.place (chain_whole x k h) chain.within);
+  backed = λ x config names fine h. subst (λ (e : Class). IsRecorded (state_of x) e) (sym is) (traced_recorded x k.whole.own.class k.whole k.place (chain_whole x k h) chain.within);
   follows = λ s x served h. tt;
 }
 
-abbrev pub first_of : {A : Type 0} → Goal A → Arc Lined Global → Chain A
+abbrev pub first_of : {A : Type 0} → Goal A → Lined → Chain A
 first_of g whole = record { goal = g; whole = whole; place = 0 }
 
-pub whole_told : {A : Type 0} (x : Shown) (g : Goal A) (whole : Arc Lined Global) → WholeTold g whole.value x → ChainTold (first_of g whole) x
-whole_told x g whole h = chain_of x (first_of g whole) h.before (traced_as x g.class.value.class whole.value h.now) (none (Contains (state_of x).prepared) (classes_in whole.value))
+pub whole_told : {A : Type 0} (x : Shown) (g : Goal A) (whole : Lined) → WholeTold g whole x → ChainTold (first_of g whole) x
+whole_told x g whole h = chain_of x (first_of g whole) h.before (traced_as x g.class.value.class whole h.now) (none (Contains (state_of x).prepared) (classes_in whole))
 
 abbrev pub next_of : {A : Type 0} → Chain A → Chain A
 next_of k = record k { place = k.place + 1 }
@@ -187,23 +187,23 @@ next_of k = record k { place = k.place + 1 }
 pub marked_told : {A : Type 0} (c : Configured) (x : Shown) (k : Chain A) → IsChain c k → MarkedTold k x → ChainTold (next_of k) x
 marked_told c x k chain h =
     chain_of x (next_of k) (chain_goal x k h.before) (chain_whole x k h.before)
-    (taken_more (Contains (state_of x).prepared) (classes_in k.whole.value) k.place (class_in k.whole.value k.place) (chain_prepared x k h.before) (class_there k.whole.value k.place chain.within) h.now)
+    (taken_more (Contains (state_of x).prepared) (classes_in k.whole) k.place (class_in k.whole k.place) (chain_prepared x k h.before) (class_there k.whole k.place chain.within) h.now)
 
-pub last_told : {A : Type 0} (c : Configured) (x : Shown) (k : Chain A) → IsChain c k → length k.whole.value.above ≤ k.place → MarkedTold k x → DoneTold k.goal x
+pub last_told : {A : Type 0} (c : Configured) (x : Shown) (k : Chain A) → IsChain c k → length k.whole.above ≤ k.place → MarkedTold k x → DoneTold k.goal x
 last_told c x k chain le h =
-    let many = whole_length k.whole.value in
+    let many = whole_length k.whole in
     let lt = chain.within in
-    let at : k.place ≡ length k.whole.value.above = omega (arith, many, lt, le) in
+    let at : k.place ≡ length k.whole.above = omega (arith, many, lt, le) in
     record {
       before = chain_goal x k h.before;
-      now = subst (λ (d : Class). Contains (state_of x).prepared d) (ap (λ (p : ℕ). class_in k.whole.value p) at ∙ class_last k.whole.value ∙ chain.whole.class) h.now;
+      now = subst (λ (d : Class). Contains (state_of x).prepared d) (ap (λ (p : ℕ). class_in k.whole p) at ∙ class_last k.whole ∙ chain.whole.class) h.now;
     }
 
-pub first_chain : {A : Type 0} (c : Configured) (g : Goal A) (whole : Arc Lined Global) → IsGoal c g → IsOf c g.class.value.class whole.value → IsChain c (first_of g whole)
-first_chain c g whole goal of = let many = whole_length whole.value in record { goal = goal; whole = of; within = omega (arith, many) }
+pub first_chain : {A : Type 0} (c : Configured) (g : Goal A) (whole : Lined) → IsGoal c g → IsOf c g.class.value.class whole → IsChain c (first_of g whole)
+first_chain c g whole goal of = let many = whole_length whole in record { goal = goal; whole = of; within = omega (arith, many) }
 
-pub next_chain : {A : Type 0} (c : Configured) (k : Chain A) → IsChain c k → k.place < length k.whole.value.above → IsChain c (next_of k)
-next_chain c k chain lt = let many = whole_length k.whole.value in record { goal = chain.goal; whole = chain.whole; within = omega (arith, many, lt) }
+pub next_chain : {A : Type 0} (c : Configured) (k : Chain A) → IsChain c k → k.place < length k.whole.above → IsChain c (next_of k)
+next_chain c k chain lt = let many = whole_length k.whole in record { goal = chain.goal; whole = chain.whole; within = omega (arith, many, lt) }
 
 pub row_class : (l : Lined) (place : ℕ) (r : Rowed) → slice_get (rows_in l) place ≡ Some r → class_in l place ≡ r.class
 row_class l place r e = ap (λ (o : Option Class). unwrap_or o l.own.class) (slice_get-map (λ (y : Rowed). y.class) (rows_in l) place ∙ ap (λ (o : Option Rowed). option_map (λ (y : Rowed). y.class) o) e)
@@ -232,11 +232,11 @@ pub chain_some_calls : (l : Lined) (place : ℕ) → IsInOrder l → place < len
 chain_some_calls l place order lt = let two = chain_each_calls l place order lt in omega (arith, two)
 
 -- a class that was prepared before has one look less
-pub passed_calls : {A : Type 0} (told : Option Content) (c : Configured) (k : Chain A) → IsChain c k → IsInOrder k.whole.value
-    → CallsWithin told c (MarkedTold k) k.goal.request 0 (past_loads 0 0 (chain_calls k.whole.value (k.place + 1) + 2)) (past_loads 0 0 (chain_calls k.whole.value k.place + 1))
+pub passed_calls : {A : Type 0} (told : Option Content) (c : Configured) (k : Chain A) → IsChain c k → IsInOrder k.whole
+    → CallsWithin told c (MarkedTold k) k.goal.request 0 (past_loads 0 0 (chain_calls k.whole (k.place + 1) + 2)) (past_loads 0 0 (chain_calls k.whole k.place + 1))
 passed_calls told c k chain order =
-    fewer_calls told c (MarkedTold k) k.goal.request 0 (chain_calls k.whole.value (k.place + 1) + 2) (chain_calls k.whole.value k.place + 1)
-    (within (chain_calls k.whole.value (k.place + 1)) (chain_calls k.whole.value k.place) (chain_each_calls k.whole.value k.place order chain.within))
+    fewer_calls told c (MarkedTold k) k.goal.request 0 (chain_calls k.whole (k.place + 1) + 2) (chain_calls k.whole k.place + 1)
+    (within (chain_calls k.whole (k.place + 1)) (chain_calls k.whole k.place) (chain_each_calls k.whole k.place order chain.within))
   where
     within : (a b : ℕ) → a + 2 ≤ b → 0 + (a + 2) ≤ b + 1
     within a b le = omega (arith, le)
@@ -245,18 +245,18 @@ pub one_call : (a : ℕ) → 0 + 1 ≤ a + 1
 one_call a = omega arith
 
 -- the lineage of the class at the place of a chain was had, and there is room for the post
-pub listed_post : {A : Type 0} (c : Configured) (k : Chain A) → IsChain c k → IsInOrder k.whole.value → HasPost (listed_room k)
-listed_post c k chain order = post_room (chain_left (behind k)) 0 0 0 (chain_calls k.whole.value k.place) (one_at_least (chain_calls k.whole.value k.place) (chain_some_calls k.whole.value k.place order chain.within))
+pub listed_post : {A : Type 0} (c : Configured) (k : Chain A) → IsChain c k → IsInOrder k.whole → HasPost (listed_room k)
+listed_post c k chain order = post_room (chain_left (behind k)) 0 0 0 (chain_calls k.whole k.place) (one_at_least (chain_calls k.whole k.place) (chain_some_calls k.whole k.place order chain.within))
   where
     one_at_least : (a : ℕ) → 1 ≤ a → 0 + 1 ≤ a
     one_at_least a le = omega (arith, le)
 
 -- all classes of the lineage are within what a link has left
-pub whole_calls : {A : Type 0} (told : Option Content) (c : Configured) (g : Goal A) (whole : Arc Lined Global) → IsGoal c g → IsOf c g.class.value.class whole.value → IsLineageOf told whole.value
-    → CallsWithin told c (WholeTold g whole.value) g.request 0 (past_loads 0 0 (chain_calls whole.value 0 + 2)) (past_loads 2 1 2)
+pub whole_calls : {A : Type 0} (told : Option Content) (c : Configured) (g : Goal A) (whole : Lined) → IsGoal c g → IsOf c g.class.value.class whole → IsLineageOf told whole
+    → CallsWithin told c (WholeTold g whole) g.request 0 (past_loads 0 0 (chain_calls whole 0 + 2)) (past_loads 2 1 2)
 whole_calls told c g whole goal of lin =
     λ w x p served is h.
-    let l = whole.value in
+    let l = whole in
     let kept : recorded (records_of x) (loader_of g.request) l.own.class.name ≡ Some l.own.class.loader =
     subst (λ (d : Class). recorded (records_of x) (loader_of g.request) d.name ≡ Some d.loader) (sym of.class) (goal_at x g h.before) in
     let for_it : g.request ≡ requests.Link (loader_of g.request) l.own.class.name = subst (λ (d : Class). g.request ≡ requests.Link (loader_of g.request) d.name) (sym of.class) goal.of in

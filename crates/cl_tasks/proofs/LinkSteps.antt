@@ -91,21 +91,21 @@ asked_own c k false n = tt
 pub asked_steps : {A : Type 0} (told : Option Content) (c : Configured) (k : Chain A) (p : Bool) (n : Next A) → LeadsBy told c k.goal.q k.goal.request (chain_room k) (AskedTold k p) n → IsPlain n.turn → IsPast n.stage
     → Steps told (linking_at c (links.Asking k)) (reply.LookedPrepared p) n
 asked_steps told c k p n l plain past =
-    plain_steps (linking_at c (links.Asking k)) (reply.LookedPrepared p) n refl refl refl l (same_turns (chain_left (behind k) + 1)) (fewer_calls told c _ k.goal.request 1 (chain_calls k.whole.value k.place + 1) (chain_calls k.whole.value k.place + 2) (one_asked (chain_calls k.whole.value k.place)))
+    plain_steps (linking_at c (links.Asking k)) (reply.LookedPrepared p) n refl refl refl l (same_turns (chain_left (behind k) + 1)) (fewer_calls told c _ k.goal.request 1 (chain_calls k.whole k.place + 1) (chain_calls k.whole k.place + 2) (one_asked (chain_calls k.whole k.place)))
     (λ x h. asked_told c k p x h) tt tt (λ h. tt) (past_derives _ [] n.stage past) (asked_own c k p n) plain
 
 -- ---- lineages
 
-pub whole_steps : {A : Type 0} (told : Option Content) (c : Configured) (g : Goal A) (whole : Arc Lined Global) (n : Next A) → LeadsBy told c g.q g.request whole_room (WholeTold g whole.value) n → IsPlain n.turn → IsPast n.stage
+pub whole_steps : {A : Type 0} (told : Option Content) (c : Configured) (g : Goal A) (whole : Lined) (n : Next A) → LeadsBy told c g.q g.request whole_room (WholeTold g whole) n → IsPlain n.turn → IsPast n.stage
     → Steps told (linking_at c (links.TracingWhole g)) (reply.Lineage whole) n
 whole_steps told c g whole n l plain past =
     plain_steps (linking_at c (links.TracingWhole g)) (reply.Lineage whole) n refl refl refl l (same_turns whole_left) (one_made told c _ g.request 2 1 2)
     (λ x h. record { before = h.before.facts; now = h.now }) tt tt (λ h. tt) (past_derives _ [] n.stage past) tt plain
 
-pub traced_steps : {A : Type 0} (told : Option Content) (c : Configured) (k : Chain A) (at : Arc Lined Global) (n : Next A) → LeadsBy told c k.goal.q k.goal.request (listed_room k) (LineageTold k at.value) n → IsPlain n.turn → IsPast n.stage
+pub traced_steps : {A : Type 0} (told : Option Content) (c : Configured) (k : Chain A) (at : Lined) (n : Next A) → LeadsBy told c k.goal.q k.goal.request (listed_room k) (LineageTold k at.value) n → IsPlain n.turn → IsPast n.stage
     → Steps told (linking_at c (links.Tracing k)) (reply.Lineage at) n
 traced_steps told c k at n l plain past =
-    plain_steps (linking_at c (links.Tracing k)) (reply.Lineage at) n refl refl refl l (same_turns (chain_left (behind k))) (one_made told c _ k.goal.request 0 0 (chain_calls k.whole.value k.place))
+    plain_steps (linking_at c (links.Tracing k)) (reply.Lineage at) n refl refl refl l (same_turns (chain_left (behind k))) (one_made told c _ k.goal.request 0 0 (chain_calls k.whole k.place))
     (λ x h. record { before = h.before.facts; now = h.now }) tt tt (λ h. tt) (past_derives _ [] n.stage past) tt plain
 
 -- ---- equalities
@@ -128,7 +128,7 @@ pub imposed_steps : {A : Type 0} (told : Option Content) (c : Configured) (k : C
     → LeadsBy told c k.goal.q k.goal.request (linking_room k e.value (i + 1)) (ListTold k e.value (i + 1)) n → IsPlain n.turn → IsPast n.stage → Steps told (linking_at c (links.Imposing k e i)) reply.Imposed n
 imposed_steps told c k e i n place lt l plain past =
     plain_steps (linking_at c (links.Imposing k e i)) reply.Imposed n refl refl refl l (next_less (chain_left (behind k - 1)) (length e.value.needs) i lt)
-    (fewer_calls told c _ k.goal.request 1 (list_calls k.whole.value k.place (length e.value.needs - (i + 1))) (list_calls k.whole.value k.place (length e.value.needs - i)) (one_imposed (chain_calls k.whole.value (k.place + 1)) (length e.value.needs) i lt))
+    (fewer_calls told c _ k.goal.request 1 (list_calls k.whole k.place (length e.value.needs - (i + 1))) (list_calls k.whole k.place (length e.value.needs - i)) (one_imposed (chain_calls k.whole (k.place + 1)) (length e.value.needs) i lt))
     (λ x h. imposed_told k e.value i x (slice_get e.value.needs i) refl lt place h.before.facts h.now) tt tt (λ h. tt) (past_derives _ [] n.stage past) tt plain
 
 one_less : (a m : ℕ) → 1 ≤ a + (m + 1)
@@ -141,15 +141,15 @@ pub refused_steps : {A : Type 0} (told : Option Content) (c : Configured) (k : C
     → LeadsBy told c k.goal.q k.goal.request last_room (RefusedTold k e.value i (need_of need)) n → IsPlain n.turn → IsPast n.stage → EndsAsRefused k.goal.request need n.turn → (Posts answers.Memory n.turn → ⊥) → Steps told (linking_at c (links.Imposing k e i)) (reply.Refused need) n
 refused_steps told c k e i need n l plain past ends posts =
     plain_steps (linking_at c (links.Imposing k e i)) (reply.Refused need) n refl refl refl l (one_less (chain_left (behind k - 1)) (length e.value.needs - i))
-    (post_calls told c _ k.goal.request 1 0 0 (list_calls k.whole.value k.place (length e.value.needs - i)) (two_more (chain_calls k.whole.value (k.place + 1)) (length e.value.needs - i)))
+    (post_calls told c _ k.goal.request 1 0 0 (list_calls k.whole k.place (length e.value.needs - i)) (two_more (chain_calls k.whole (k.place + 1)) (length e.value.needs - i)))
     (λ x h. record { before = h.before.facts; now = h.now }) ends tt (λ h. absurd (posts h)) (past_derives _ [] n.stage past) tt plain
 
 -- ---- preparations
 
-prepared_there : {A : Type 0} (c : Configured) (k : Chain A) (e : Listed) (x : Shown) → IsChain c k → (place : IsAtPlace k e) → IsPreparedBy x e.origin → Contains (state_of x).prepared (class_in k.whole.value k.place)
+prepared_there : {A : Type 0} (c : Configured) (k : Chain A) (e : Listed) (x : Shown) → IsChain c k → (place : IsAtPlace k e) → IsPreparedBy x e.origin → Contains (state_of x).prepared (class_in k.whole k.place)
 prepared_there c k e x chain place h =
-    let row = row_there k.whole.value k.place chain.within in
-    let is : class_in k.whole.value k.place ≡ place.at.own.class = row.2 ∙ some_same row.0.class place.at.own.class (sym (ap (λ (o : Option Rowed). option_map (λ (y : Rowed). y.class) o) row.1) ∙ place.there) in
+    let row = row_there k.whole k.place chain.within in
+    let is : class_in k.whole k.place ≡ place.at.own.class = row.2 ∙ some_same row.0.class place.at.own.class (sym (ap (λ (o : Option Rowed). option_map (λ (y : Rowed). y.class) o) row.1) ∙ place.there) in
     let here : Contains (state_of x).prepared place.at.own.class = subst (λ (from : Sprung). IsPreparedBy x from) place.prepares h in
     subst (λ (d : Class). Contains (state_of x).prepared d) (sym is) here
 
@@ -160,7 +160,7 @@ pub marked_steps : {A : Type 0} (told : Option Content) (c : Configured) (k : Ch
     → LeadsBy told c k.goal.q k.goal.request (marked_room k) (MarkedTold k) n → IsPlain n.turn → IsPast n.stage → Steps told (linking_at c (links.Marking k e)) reply.Marked n
 marked_steps told c k e n chain place l plain past =
     plain_steps (linking_at c (links.Marking k e)) reply.Marked n refl refl refl l (same_turns (linking_left (behind k - 1) 0))
-    (fewer_calls told c _ k.goal.request 1 (chain_calls k.whole.value (k.place + 1) + 1) (list_calls k.whole.value k.place 0) (one_marked (chain_calls k.whole.value (k.place + 1))))
+    (fewer_calls told c _ k.goal.request 1 (chain_calls k.whole (k.place + 1) + 1) (list_calls k.whole k.place 0) (one_marked (chain_calls k.whole (k.place + 1))))
     (λ x h. record { before = list_chain x k e.value (length e.value.needs) h.before.facts; now = prepared_there c k e.value x chain place h.now }) tt tt (λ h. tt) (past_derives _ [] n.stage past) tt plain
 
 -- ---- memory
@@ -174,13 +174,13 @@ past_post turns more = post_room turns 1 2 1 (more + 2) (two_of more)
 
 -- and so before that of a class of it, or before it is known whether that is prepared
 pub asked_post : {A : Type 0} (c : Configured) (k : Chain A) → HasPost (task_room (linking_at c (links.Asking k)))
-asked_post c k = post_room (chain_left (behind k) + 1) 1 0 0 (chain_calls k.whole.value k.place + 2) (two_calls (chain_calls k.whole.value k.place))
+asked_post c k = post_room (chain_left (behind k) + 1) 1 0 0 (chain_calls k.whole k.place + 2) (two_calls (chain_calls k.whole k.place))
   where
     two_calls : (a : ℕ) → 1 + 1 ≤ a + 2
     two_calls a = omega arith
 
-pub traced_post : {A : Type 0} (c : Configured) (k : Chain A) → IsChain c k → IsInOrder k.whole.value → HasPost (task_room (linking_at c (links.Tracing k)))
-traced_post c k chain order = post_room (chain_left (behind k)) 1 0 0 (chain_calls k.whole.value k.place + 1) (one_and_more (chain_calls k.whole.value k.place) (chain_some_calls k.whole.value k.place order chain.within))
+pub traced_post : {A : Type 0} (c : Configured) (k : Chain A) → IsChain c k → IsInOrder k.whole → HasPost (task_room (linking_at c (links.Tracing k)))
+traced_post c k chain order = post_room (chain_left (behind k)) 1 0 0 (chain_calls k.whole k.place + 1) (one_and_more (chain_calls k.whole k.place) (chain_some_calls k.whole k.place order chain.within))
   where
     one_and_more : (a : ℕ) → 1 ≤ a → 1 + 1 ≤ a + 1
     one_and_more a le = omega (arith, le)

@@ -107,8 +107,8 @@ fault_leads told c e kept own named fault f v entry of same error denied asked s
 
 -- ---- the lineages
 
-pub own_taken : {A : Type 0} (told : Option Content) (c : Configured) (e : entries.Entry A) (own : Arc Lined Global) (k : Arc Rowed Global) (d : Class) → IsEntry c e → IsOf c e.d.value.class own.value → d ≡ k.value.class
-    → LeadsBy told c e.q e.request tracing_own_room (OwnTold e k.value own.value) (record { stage = stages.Resolve (resolutions.TracingNamed e own k); turn = turn.Lineage d })
+pub own_taken : {A : Type 0} (told : Option Content) (c : Configured) (e : entries.Entry A) (own : Lined) (k : Arc Rowed Global) (d : Class) → IsEntry c e → IsOf c e.d.value.class own → d ≡ k.value.class
+    → LeadsBy told c e.q e.request tracing_own_room (OwnTold e k.value own) (record { stage = stages.Resolve (resolutions.TracingNamed e own k); turn = turn.Lineage d })
 own_taken told c e own k d entry of is = record {
   kept = (entry, of);
   number = refl;
@@ -116,7 +116,7 @@ own_taken told c e own k d entry of is = record {
   serves = refl;
   left = more most;
   calls = λ g x p served is h. omega arith;
-  keeps = λ x h. record { frames = tt; facts = (h.before.0, (h.before.1.0, (traced_as x e.d.value.class own.value h.now, tt))) };
+  keeps = λ x h. record { frames = tt; facts = (h.before.0, (h.before.1.0, (traced_as x e.d.value.class own h.now, tt))) };
   backed = λ x config names fine h. subst (λ (j : Class). IsRecorded (state_of x) j) (sym is) (fine.own e.d.value.class.loader k.value.class.loader k.value.class.name h.before.1.0);
   follows = λ g x served h. tt;
 }

@@ -49,19 +49,19 @@ same_room m = omega arith
 
 -- ---- lineages
 
-pub own_steps : {A : Type 0} (told : Option Content) (c : Configured) (e : entries.Entry A) (k : Arc Rowed Global) (own : Arc Lined Global) (n : Next A) → LeadsBy told c e.q e.request tracing_own_room (OwnTold e k.value own.value) n → IsPlain n.turn → IsPast n.stage
+pub own_steps : {A : Type 0} (told : Option Content) (c : Configured) (e : entries.Entry A) (k : Arc Rowed Global) (own : Lined) (n : Next A) → LeadsBy told c e.q e.request tracing_own_room (OwnTold e k.value own) n → IsPlain n.turn → IsPast n.stage
     → Steps told (resolving_at c (resolutions.TracingOwn e k)) (reply.Lineage own) n
 own_steps told c e k own n l plain past =
     plain_steps (resolving_at c (resolutions.TracingOwn e k)) (reply.Lineage own) n refl refl refl l (same_room tracing_own_left) (λ g x p served is h. omega arith)
     (λ x h. record { before = h.before.facts; now = h.now }) tt tt (λ h. tt) (past_derives _ [] n.stage past) tt plain
 
-pub named_steps : {A : Type 0} (told : Option Content) (c : Configured) (e : entries.Entry A) (own : Arc Lined Global) (k : Arc Rowed Global) (named : Arc Lined Global) (n : Next A) → named.value.own.class ≡ k.value.class
-    → LeadsBy told c e.q e.request tracing_named_room (TracedTold e own.value named.value) n → IsPlain n.turn → IsPast n.stage → Steps told (resolving_at c (resolutions.TracingNamed e own k)) (reply.Lineage named) n
+pub named_steps : {A : Type 0} (told : Option Content) (c : Configured) (e : entries.Entry A) (own : Lined) (k : Arc Rowed Global) (named : Lined) (n : Next A) → named.own.class ≡ k.value.class
+    → LeadsBy told c e.q e.request tracing_named_room (TracedTold e own named) n → IsPlain n.turn → IsPast n.stage → Steps told (resolving_at c (resolutions.TracingNamed e own k)) (reply.Lineage named) n
 named_steps told c e own k named n is l plain past =
     plain_steps (resolving_at c (resolutions.TracingNamed e own k)) (reply.Lineage named) n refl refl refl l (same_room tracing_named_left) (λ g x p served is h. omega arith)
     (λ x h. record {
-      before = subst (λ (j : Class). AreSo x (named_facts e.request e.d.value.class j ++ HasLineage own.value ∷ [])) (sym is) h.before.facts;
-      now = traced_as x k.value.class named.value h.now;
+      before = subst (λ (j : Class). AreSo x (named_facts e.request e.d.value.class j ++ HasLineage own ∷ [])) (sym is) h.before.facts;
+      now = traced_as x k.value.class named h.now;
     }) tt tt (λ h. tt) (past_derives _ [] n.stage past) tt plain
 
 -- ---- equalities

@@ -63,9 +63,9 @@ use Rattle.cl_tasks.proofs.MemberFacts.{traced_as}
 -- ---- the list of a class
 
 -- the list of the class at the place of a chain is at that place
-pub at_place : {A : Type 0} (c : Configured) (k : Chain A) (l : Lined) (e : Listed) → IsChain c k → IsOf c (class_in k.whole.value k.place) l → e.origin ≡ OfPreparation l → IsAtPlace k e
+pub at_place : {A : Type 0} (c : Configured) (k : Chain A) (l : Lined) (e : Listed) → IsChain c k → IsOf c (class_in k.whole k.place) l → e.origin ≡ OfPreparation l → IsAtPlace k e
 at_place c k l e chain of from =
-    let row = row_there k.whole.value k.place chain.within in
+    let row = row_there k.whole k.place chain.within in
     record {
       of = subst (λ (d : Class). k.goal.request ≡ requests.Link (loader_of k.goal.request) d.name) (sym chain.whole.class) chain.goal.of;
       at = l;
@@ -76,7 +76,7 @@ at_place c k l e chain of from =
 
 -- a list that was told of is at its first equality
 traced_told : {A : Type 0} (x : Shown) (k : Chain A) (l : Lined) (e : Listed) → e.origin ≡ OfPreparation l → LineageTold k l x → ListTold k e 0 x
-traced_told x k l e from h = list_of x k e 0 l from h.before (traced_as x (class_in k.whole.value k.place) l h.now) (no_needs (needs_of e.needs))
+traced_told x k l e from h = list_of x k e 0 l from h.before (traced_as x (class_in k.whole k.place) l h.now) (no_needs (needs_of e.needs))
   where
     no_needs : (ns : List Need) → AllMet (state_of x) (take 0 ns)
     no_needs [] = tt
@@ -92,8 +92,8 @@ list_turns n m some few =
 -- what a list at a place of a chain was made from, and what is known of it
 pub record IsKnown {A : Type 0} (told : Option Content) (k : Chain A) (e : Listed) : Type 0 where
   pub place : IsAtPlace k e
-  pub order : IsInOrder k.whole.value
-  pub whole : IsLineageOf told k.whole.value
+  pub order : IsInOrder k.whole
+  pub whole : IsLineageOf told k.whole
   pub listed : IsListed told e
 
 module _ {A : Type 0} (told : Option Content) (c : Configured) (k : Chain A) (e : Listed) (chain : IsChain c k) (known : IsKnown told k e) where
@@ -109,24 +109,24 @@ module _ {A : Type 0} (told : Option Content) (c : Configured) (k : Chain A) (e 
       let traced = list_traced x k e i known.place.at known.place.prepares h in
       record { config = traced.config; recorded = (traced_own x known.place.at.own.class known.place.at traced).recorded }
 
-  goal_recorded : (x : Shown) (i : ℕ) → ListTold k e i x → recorded (records_of x) (loader_of k.goal.request) k.whole.value.own.class.name ≡ Some k.whole.value.own.class.loader
+  goal_recorded : (x : Shown) (i : ℕ) → ListTold k e i x → recorded (records_of x) (loader_of k.goal.request) k.whole.own.class.name ≡ Some k.whole.own.class.loader
   goal_recorded x i h =
       subst (λ (d : Class). recorded (records_of x) (loader_of k.goal.request) d.name ≡ Some d.loader) (sym chain.whole.class) (goal_at x k.goal (chain_goal x k (list_chain x k e i h)))
 
   -- where the request is served, the link is at that class
-  pub here : (g : Setting) (x : Shown) (i : ℕ) → ServedIn told c g (state_of x) → ListTold k e i x → IsThere g (state_of x) (loader_of k.goal.request) k.whole.value known.place.at k.place
+  pub here : (g : Setting) (x : Shown) (i : ℕ) → ServedIn told c g (state_of x) → ListTold k e i x → IsThere g (state_of x) (loader_of k.goal.request) k.whole known.place.at k.place
   here g x i served h =
-      there g (state_of x) (loader_of k.goal.request) k.whole.value known.place.at k.place served.sound known.order (in_world told c g (state_of x) served k.whole.value chain.whole.config known.whole)
+      there g (state_of x) (loader_of k.goal.request) k.whole known.place.at k.place served.sound known.order (in_world told c g (state_of x) served k.whole chain.whole.config known.whole)
       (in_world told c g (state_of x) served known.place.at (known.place.config ∙ chain.whole.config) other) (goal_recorded x i h) known.place.there (chain_prepared x k (list_chain x k e i h))
 
   -- the class at the place has no more calls left than it has equalities, and two more
-  listed_calls : (now : Shown → Type 0) → ((x : Shown) → now x → ListTold k e 0 x) → CallsWithin told c now k.goal.request 0 (past_loads 0 0 (list_calls k.whole.value k.place (length e.needs - 0))) (past_loads 0 0 (chain_calls k.whole.value k.place))
+  listed_calls : (now : Shown → Type 0) → ((x : Shown) → now x → ListTold k e 0 x) → CallsWithin told c now k.goal.request 0 (past_loads 0 0 (list_calls k.whole k.place (length e.needs - 0))) (past_loads 0 0 (chain_calls k.whole k.place))
   listed_calls now tells =
       λ g x p served is h.
-      let step = chain_step g (state_of x) (loader_of k.goal.request) k.whole.value known.place.at k.place (here g x 0 served (tells x h)) in
+      let step = chain_step g (state_of x) (loader_of k.goal.request) k.whole known.place.at k.place (here g x 0 served (tells x h)) in
       let many : length e.needs ≤ length (constraints_of (kin_of known.place.at)) = subst (λ (n : ℕ). n ≤ length (constraints_of (kin_of known.place.at))) (length-map e.needs equal_need) are.no_more in
-      fewer_calls told c now k.goal.request 0 (list_calls k.whole.value k.place (length e.needs - 0)) (chain_calls k.whole.value k.place)
-      (within (length e.needs) (length (constraints_of (kin_of known.place.at))) (chain_calls k.whole.value (k.place + 1)) (chain_calls k.whole.value k.place) many step) g x p served is h
+      fewer_calls told c now k.goal.request 0 (list_calls k.whole k.place (length e.needs - 0)) (chain_calls k.whole k.place)
+      (within (length e.needs) (length (constraints_of (kin_of known.place.at))) (chain_calls k.whole (k.place + 1)) (chain_calls k.whole k.place) many step) g x p served is h
     where
       within : (n m b a : ℕ) → n ≤ m → a ≡ (m + 2) + b → 0 + (b + ((n - 0) + 2)) ≤ a
       within n m b a many step = omega (arith, many, step)
@@ -153,7 +153,7 @@ module _ {A : Type 0} (told : Option Content) (c : Configured) (k : Chain A) (e 
       let one = some_at e.needs i lt in
       let there_it_is : slice_get (needs_of e.needs) i ≡ Some (equal_need one.0) = slice_get-map equal_need e.needs i ∙ ap (λ (o : Option Equality). option_map equal_need o) one.1 in
       subst (λ (o : Option Equality). IfSome o (λ n. IsWanted g (state_of x) k.goal.request (equal_need n))) (sym one.1)
-      (equality_next g (state_of x) k.goal.request k.whole.value known.place.at k.place served.sound known.place.of (here g x i served h) (needs_of e.needs) i (equal_need one.0) are there_it_is (list_imposed x k e i h))
+      (equality_next g (state_of x) k.goal.request k.whole known.place.at k.place served.sound known.place.of (here g x i served h) (needs_of e.needs) i (equal_need one.0) are there_it_is (list_imposed x k e i h))
 
   pub impose_leads : (i : ℕ) (list shared : Arc Listed Global) → list.value ≡ e → shared.value ≡ e → i < length e.needs
       → LeadsBy told c k.goal.q k.goal.request (linking_room k e i) (ListTold k e i) (record { stage = stages.Link (links.Imposing k list i); turn = turn.Impose shared i })
@@ -163,8 +163,8 @@ module _ {A : Type 0} (told : Option Content) (c : Configured) (k : Chain A) (e 
     asks = ap (λ (l : Listed). waits.Imposing l i) (one ∙ sym two);
     serves = refl;
     left = subst (λ (l : Listed). linking_left (behind k - 1) (length l.needs - i) < linking_left (behind k - 1) (length e.needs - i) + 1) (sym one) (one_more (linking_left (behind k - 1) (length e.needs - i)));
-    calls = subst (λ (l : Listed). CallsWithin told c (ListTold k e i) k.goal.request 0 (past_loads 0 0 (list_calls k.whole.value k.place (length l.needs - i))) (past_loads 0 0 (list_calls k.whole.value k.place (length e.needs - i)))) (sym one)
-        (stay told c (ListTold k e i) k.goal.request (past_loads 0 0 (list_calls k.whole.value k.place (length e.needs - i))));
+    calls = subst (λ (l : Listed). CallsWithin told c (ListTold k e i) k.goal.request 0 (past_loads 0 0 (list_calls k.whole k.place (length l.needs - i))) (past_loads 0 0 (list_calls k.whole k.place (length e.needs - i)))) (sym one)
+        (stay told c (ListTold k e i) k.goal.request (past_loads 0 0 (list_calls k.whole k.place (length e.needs - i))));
     keeps = λ x h. record { frames = tt; facts = subst (λ (l : Listed). AreSo x (list_facts k l i)) (sym one) h };
     backed = λ x config names fine h. subst (λ (l : Listed). MayImpose x l i) (sym two) (may_impose x i lt h);
     follows = λ g x served h. subst (λ (l : Listed). IsNextOf l i (IsWanted g (state_of x) k.goal.request)) (sym two) (wanted_next g x i lt served h);
@@ -177,15 +177,15 @@ module _ {A : Type 0} (told : Option Content) (c : Configured) (k : Chain A) (e 
 
   ready : (x : Shown) (i : ℕ) → i ≡ length e.needs → ListTold k e i x → IsReady x known.place.at (needs_of e.needs)
   ready x i all h =
-      let row = row_there k.whole.value k.place chain.within in
-      let of_row = all_at (IsRowOf x) (rows_in k.whole.value) k.place row.0 (chain_whole x k (list_chain x k e i h)).rows row.1 in
+      let row = row_there k.whole k.place chain.within in
+      let of_row = all_at (IsRowOf x) (rows_in k.whole) k.place row.0 (chain_whole x k (list_chain x k e i h)).rows row.1 in
       let of_at = traced_own x known.place.at.own.class known.place.at (list_traced x k e i known.place.at known.place.prepares h) in
       let class_is : row.0.class ≡ known.place.at.own.class = some_same row.0.class known.place.at.own.class (sym (ap (λ (o : Option Rowed). option_map (λ (y : Rowed). y.class) o) row.1) ∙ known.place.there) in
       let same = same_row x row.0 known.place.at.own class_is of_row.kept of_at.kept in
-      let before = subst (λ (cs : List Class). AllByRecursion (Contains (state_of x).prepared) cs) (take-map (λ (y : Rowed). y.class) k.place (rows_in k.whole.value)) (chain_prepared x k (list_chain x k e i h)) in
+      let before = subst (λ (cs : List Class). AllByRecursion (Contains (state_of x).prepared) cs) (take-map (λ (y : Rowed). y.class) k.place (rows_in k.whole)) (chain_prepared x k (list_chain x k e i h)) in
       record {
         stands = standing x i h;
-        above = subst (λ (r : Rowed). AllByRecursion (IsPreparedAbove x r.class) (supers (file_of r.file))) same (supers_prepared x k.whole.value k.place row.0 known.order row.1 of_row.placed before);
+        above = subst (λ (r : Rowed). AllByRecursion (IsPreparedAbove x r.class) (supers (file_of r.file))) same (supers_prepared x k.whole k.place row.0 known.order row.1 of_row.placed before);
         imposed = subst (λ (ns : List Need). AllMet (state_of x) ns) (whole_taken (needs_of e.needs) i (all ∙ sym (length-map e.needs equal_need))) (list_imposed x k e i h);
       }
 
@@ -193,7 +193,7 @@ module _ {A : Type 0} (told : Option Content) (c : Configured) (k : Chain A) (e 
   prepared_next g x i all served h =
       let met : AllMet (state_of x) (constraints_of (kin_of known.place.at)) = are.met (state_of x) (ready x i all h).imposed in
       subst (λ (from : Sprung). IsPreparedNext g (state_of x) k.goal.request from) (sym known.place.prepares)
-      (preparation_next g (state_of x) k.goal.request k.whole.value known.place.at k.place served.sound known.place.of (here g x i served h) met)
+      (preparation_next g (state_of x) k.goal.request k.whole known.place.at k.place served.sound known.place.of (here g x i served h) met)
 
   fewer : (a m : ℕ) → a + (0 + 1) < a + (m + 1) + 1
   fewer a m = omega arith
@@ -209,7 +209,7 @@ module _ {A : Type 0} (told : Option Content) (c : Configured) (k : Chain A) (e 
     asks = ap (λ (l : Listed). waits.Marking l) (one ∙ sym two);
     serves = refl;
     left = fewer (chain_left (behind k - 1)) (length e.needs - i);
-    calls = fewer_calls told c (ListTold k e i) k.goal.request 0 (list_calls k.whole.value k.place 0) (list_calls k.whole.value k.place (length e.needs - i)) (none_left (chain_calls k.whole.value (k.place + 1)) (length e.needs - i));
+    calls = fewer_calls told c (ListTold k e i) k.goal.request 0 (list_calls k.whole k.place 0) (list_calls k.whole k.place (length e.needs - i)) (none_left (chain_calls k.whole (k.place + 1)) (length e.needs - i));
     keeps = λ x h. record { frames = tt; facts = subst (λ (l : Listed). AreSo x (list_facts k l (length l.needs))) (sym one) (subst (λ (n : ℕ). AreSo x (list_facts k e n)) all h) };
     backed = λ x config names fine h. subst (λ (l : Listed). MayMark x l) (sym two) (subst (λ (from : Sprung). IsReadyBy x from (needs_of e.needs)) (sym known.place.prepares) (ready x i all h));
     follows = λ g x served h. subst (λ (l : Listed). IsPreparedNext g (state_of x) k.goal.request l.origin) (sym two) (prepared_next g x i all served h);
@@ -220,7 +220,7 @@ module _ {A : Type 0} (told : Option Content) (c : Configured) (k : Chain A) (e 
   refused_comes : (g : Setting) (x : Shown) (i : ℕ) (n : Need) → slice_get (needs_of e.needs) i ≡ Some n → ServedIn told c g (state_of x) → RefusedTold k e i n x → ComesTo g (state_of x) (request_of k.goal.request) (Linkage n)
   refused_comes g x i n is served h =
       let s = state_of x in
-      let l = k.whole.value in
+      let l = k.whole in
       let now = here g x i served h.before in
       let next = are.next s n (next_at s (needs_of e.needs) i n is (list_imposed x k e i h.before)) in
       subst (λ (q : request.Request). ComesTo g s (request_of q) (Linkage n)) (sym known.place.of)
@@ -233,11 +233,11 @@ module _ {A : Type 0} (told : Option Content) (c : Configured) (k : Chain A) (e 
   refused_borne s n = subst (λ (q : request.Request). Bears s (request_of q) (Linkage n)) (sym known.place.of) (λ d h. absurd (not_linked n d h))
 
   refused_backed : (x : Shown) (i : ℕ) (f : Answered) (need : rust.Need) → x.config ≡ c → NamesLoaders x → f.request ≡ k.goal.request → f.answer ≡ answers.Said (verdicts.Linkage need)
-      → f.basis ≡ Some (link_basis k.goal.request k.whole.value k.place e i (need_of need)) → RefusedTold k e i (need_of need) x → IsBacked x f
+      → f.basis ≡ Some (link_basis k.goal.request k.whole k.place e i (need_of need)) → RefusedTold k e i (need_of need) x → IsBacked x f
   refused_backed x i f need config names asked said rests h =
       let loader : loader_of f.request < length x.config.loaders = subst (λ (q : request.Request). loader_of q < length x.config.loaders) (sym asked) (within_same c x (loader_of k.goal.request) config chain.goal.asked) in
       let named = refused_named x need names h.now in
-      let before = subst (λ (cs : List Class). AllByRecursion (Contains (state_of x).prepared) cs) (take-map (λ (y : Rowed). y.class) k.place (rows_in k.whole.value)) (chain_prepared x k (list_chain x k e i h.before)) in
+      let before = subst (λ (cs : List Class). AllByRecursion (Contains (state_of x).prepared) cs) (take-map (λ (y : Rowed). y.class) k.place (rows_in k.whole)) (chain_prepared x k (list_chain x k e i h.before)) in
       let within : IsWithin (length x.config.loaders) f = record { loader = loader; answer = subst (λ (a : answer.Answer). AnswerNames (length x.config.loaders) a) (sym said) named } in
       let basis : BasisStands x.config (state_of x) f.basis = subst (λ (o : Option Based). BasisStands x.config (state_of x) o) (sym rests)
       (record { config = chain.whole.config ∙ sym config; needs = (goal_recorded x i h.before, list_imposed x k e i h.before); prepared = before; refused = h.now }) in
@@ -248,7 +248,7 @@ module _ {A : Type 0} (told : Option Content) (c : Configured) (k : Chain A) (e 
       }
 
   pub refused_leads : (i : ℕ) (f : Answered) (need : rust.Need) → slice_get (needs_of e.needs) i ≡ Some (need_of need) → f.request ≡ k.goal.request → f.answer ≡ answers.Said (verdicts.Linkage need)
-      → f.basis ≡ Some (link_basis k.goal.request k.whole.value k.place e i (need_of need))
+      → f.basis ≡ Some (link_basis k.goal.request k.whole k.place e i (need_of need))
       → LeadsBy {A = A} told c k.goal.q k.goal.request last_room (RefusedTold k e i (need_of need)) (record { stage = stages.Done k.goal.q; turn = turn.Post f })
   refused_leads i f need is asked said rests =
       leads_post asked (omega arith) (λ w p s. omega arith) (λ x config names fine h. refused_backed x i f need config names asked said rests h)

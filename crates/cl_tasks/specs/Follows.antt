@@ -51,7 +51,7 @@ abbrev pub TellsOf : {A : Type 0} → Shown → Waits → Reply A → Type 0
 TellsOf x (Looking l n) (reply.Looked (Some row)) = IsRecordedAs x l n row.value
 TellsOf x (Defining d) (reply.Defined row) = IsRecordedAs x d.class.loader d.class.name row.value
 TellsOf x (Initiating h) (reply.Initiated row) = IsRecordedAs x h.asked h.name row.value
-TellsOf x (Tracing c) (reply.Lineage l) = IsTraced x c l.value
+TellsOf x (Tracing c) (reply.Lineage l) = IsTraced x c l
 TellsOf x (LookingReference c i) (reply.LookedReference (Some s)) = IsSettledIn x c i s.value
 TellsOf x (Settling r) (reply.Settled s) = IsSettledOf x r s.value
 TellsOf x (Imposing e k) reply.Imposed = IsNextOf e k (Met (state_of x))

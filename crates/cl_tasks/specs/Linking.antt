@@ -36,12 +36,12 @@ ChainTold k x = AreSo x (chain_facts k)
 -- and that at the place was found to be prepared, if this says so (5.4.2)
 pub record AskedTold {A : Type 0} (k : Chain A) (prepared : Bool) (x : Shown) : Type 0 where
   pub before : ChainTold k x
-  pub now : prepared ≡ true → Contains (state_of x).prepared (class_in k.whole.value k.place)
+  pub now : prepared ≡ true → Contains (state_of x).prepared (class_in k.whole k.place)
 
 -- and this is the lineage of the class at the place (5.3.5)
 pub record LineageTold {A : Type 0} (k : Chain A) (lineage : Lined) (x : Shown) : Type 0 where
   pub before : ChainTold k x
-  pub now : IsTraced x (class_in k.whole.value k.place) lineage
+  pub now : IsTraced x (class_in k.whole k.place) lineage
 
 -- and the first so many of its equalities are imposed (5.4.2)
 abbrev pub ListTold : {A : Type 0} → Chain A → Listed → ℕ → Shown → Type 0
@@ -55,4 +55,4 @@ pub record RefusedTold {A : Type 0} (k : Chain A) (e : Listed) (place : ℕ) (ne
 -- the class at the place is prepared, too (5.4.2)
 pub record MarkedTold {A : Type 0} (k : Chain A) (x : Shown) : Type 0 where
   pub before : ChainTold k x
-  pub now : Contains (state_of x).prepared (class_in k.whole.value k.place)
+  pub now : Contains (state_of x).prepared (class_in k.whole k.place)

@@ -90,21 +90,21 @@ whole_room = room_of whole_left (past_loads 2 1 2)
 
 -- the classes of the lineage before a place are linked, and were all prepared before (5.4)
 abbrev pub asking_room : {A : Type 0} → Chain A → Room
-asking_room k = room_of (chain_left (behind k) + 2) (past_loads 0 0 (chain_calls k.whole.value k.place + 2))
+asking_room k = room_of (chain_left (behind k) + 2) (past_loads 0 0 (chain_calls k.whole k.place + 2))
 
 -- the same where that at the place is not, or is asked for its lineage otherwise (5.4)
 abbrev pub chain_room : {A : Type 0} → Chain A → Room
-chain_room k = room_of (chain_left (behind k) + 1) (past_loads 0 0 (chain_calls k.whole.value k.place + 1))
+chain_room k = room_of (chain_left (behind k) + 1) (past_loads 0 0 (chain_calls k.whole k.place + 1))
 
 -- and the lineage of the class at the place was had (5.4.2)
 abbrev pub listed_room : {A : Type 0} → Chain A → Room
-listed_room k = room_of (chain_left (behind k)) (past_loads 0 0 (chain_calls k.whole.value k.place))
+listed_room k = room_of (chain_left (behind k)) (past_loads 0 0 (chain_calls k.whole k.place))
 
 -- and its equalities before a place are imposed (5.4.2)
 abbrev pub linking_room : {A : Type 0} → Chain A → Listed → ℕ → Room
 linking_room k e place =
-    room_of (linking_left (behind k - 1) (length e.needs - place) + 1) (past_loads 0 0 (list_calls k.whole.value k.place (length e.needs - place)))
+    room_of (linking_left (behind k - 1) (length e.needs - place) + 1) (past_loads 0 0 (list_calls k.whole k.place (length e.needs - place)))
 
 -- and it was prepared (5.4.2)
 abbrev pub marked_room : {A : Type 0} → Chain A → Room
-marked_room k = room_of (linking_left (behind k - 1) 0) (past_loads 0 0 (chain_calls k.whole.value (k.place + 1) + 1))
+marked_room k = room_of (linking_left (behind k - 1) 0) (past_loads 0 0 (chain_calls k.whole (k.place + 1) + 1))

@@ -156,7 +156,7 @@ resolving_at c (resolutions.LookingReference e) = settled_down c e.q e.request (
 resolving_at c (resolutions.TracingOwn e k) =
     settled_down c e.q e.request (waits.Tracing e.d.value.class) (named_facts e.request e.d.value.class k.value.class) tracing_own_left reference_calls
 resolving_at c (resolutions.TracingNamed e l k) =
-    settled_down c e.q e.request (waits.Tracing k.value.class) (named_facts e.request e.d.value.class k.value.class ++ HasLineage l.value ∷ []) tracing_named_left (past_loads 0 1 3)
+    settled_down c e.q e.request (waits.Tracing k.value.class) (named_facts e.request e.d.value.class k.value.class ++ HasLineage l ∷ []) tracing_named_left (past_loads 0 1 3)
 resolving_at c (resolutions.Imposing m k) =
     settled_down c m.entry.q m.entry.request (waits.Imposing m.equalities.value k) (member_facts m ++ imposed_facts m.equalities.value k) (imposing_left (length m.equalities.value.needs - k)) (past_loads 0 0 ((length m.equalities.value.needs - k) + 2))
 resolving_at c (resolutions.Settling e) = settled_down c e.q e.request (waits.Settling e.request) (entry_facts e) settling_left (past_loads 0 0 2)
@@ -173,7 +173,7 @@ classes_in l = map (λ r. r.class) (rows_in l)
 
 -- this is the lineage of the class that is linked, and those before a place in it are prepared (5.4)
 abbrev pub chain_facts : {A : Type 0} → Chain A → List Fact
-chain_facts c = goal_facts c.goal ++ (HasLineage c.whole.value ∷ map (λ k. IsPrepared k) (take c.place (classes_in c.whole.value)))
+chain_facts c = goal_facts c.goal ++ (HasLineage c.whole ∷ map (λ k. IsPrepared k) (take c.place (classes_in c.whole)))
 
 -- the class at a place of a lineage; the last one past the end
 abbrev pub class_in : Lined → ℕ → Class
@@ -181,7 +181,7 @@ class_in l place = unwrap_or (slice_get (classes_in l) place) l.own.class
 
 -- how many classes of the lineage stand at a place and behind it
 abbrev pub behind : {A : Type 0} → Chain A → ℕ
-behind c = length (rows_in c.whole.value) - c.place
+behind c = length (rows_in c.whole) - c.place
 
 -- the lineages that a list was made from (5.4.2, 5.4.3)
 abbrev pub sprung_facts : Sprung → List Fact
@@ -204,14 +204,14 @@ list_calls l place equalities = chain_calls l (place + 1) + (equalities + 2)
 abbrev pub linking_at : {A : Type 0} → Configured → Link A → Tasked
 linking_at c (links.LookingPrepared g) = settled_down c g.q g.request (waits.LookingPrepared g.class.value.class) (goal_facts g) prepared_left (past_loads 2 1 4)
 linking_at c (links.TracingWhole g) = settled_down c g.q g.request (waits.Tracing g.class.value.class) (goal_facts g) whole_left (past_loads 2 1 3)
-linking_at c (links.Asking k) = settled_down c k.goal.q k.goal.request (waits.LookingPrepared (class_in k.whole.value k.place)) (chain_facts k) (chain_left (behind k) + 1) (past_loads 0 0 (chain_calls k.whole.value k.place + 2))
-linking_at c (links.Tracing k) = settled_down c k.goal.q k.goal.request (waits.Tracing (class_in k.whole.value k.place)) (chain_facts k) (chain_left (behind k)) (past_loads 0 0 (chain_calls k.whole.value k.place + 1))
+linking_at c (links.Asking k) = settled_down c k.goal.q k.goal.request (waits.LookingPrepared (class_in k.whole k.place)) (chain_facts k) (chain_left (behind k) + 1) (past_loads 0 0 (chain_calls k.whole k.place + 2))
+linking_at c (links.Tracing k) = settled_down c k.goal.q k.goal.request (waits.Tracing (class_in k.whole k.place)) (chain_facts k) (chain_left (behind k)) (past_loads 0 0 (chain_calls k.whole k.place + 1))
 linking_at c (links.Imposing k e i) =
     settled_down c k.goal.q k.goal.request (waits.Imposing e.value i) (chain_facts k ++ (traced_facts e.value ++ imposed_facts e.value i)) (linking_left (behind k - 1) (length e.value.needs - i))
-    (past_loads 0 0 (list_calls k.whole.value k.place (length e.value.needs - i)))
+    (past_loads 0 0 (list_calls k.whole k.place (length e.value.needs - i)))
 linking_at c (links.Marking k e) =
     settled_down c k.goal.q k.goal.request (waits.Marking e.value) (chain_facts k ++ (traced_facts e.value ++ imposed_facts e.value (length e.value.needs))) (linking_left (behind k - 1) 0)
-    (past_loads 0 0 (list_calls k.whole.value k.place 0))
+    (past_loads 0 0 (list_calls k.whole k.place 0))
 
 -- ---- all
 
@@ -316,7 +316,7 @@ abbrev pub IsResolving : {A : Type 0} → Option Content → Configured → Reso
 IsResolving told c (resolutions.Checking f) = IsFailed told c f
 IsResolving told c (resolutions.LookingReference e) = IsEntry c e
 IsResolving told c (resolutions.TracingOwn e k) = IsEntry c e
-IsResolving told c (resolutions.TracingNamed e l k) = IsEntry c e × IsOf c e.d.value.class l.value
+IsResolving told c (resolutions.TracingNamed e l k) = IsEntry c e × IsOf c e.d.value.class l
 IsResolving told c (resolutions.Imposing m k) = IsMember c m × (k < length m.equalities.value.needs)
 IsResolving told c (resolutions.Settling e) = IsEntry c e
 
@@ -328,12 +328,12 @@ pub record IsGoal {A : Type 0} (c : Configured) (g : Goal A) : Type 0 where
 -- the lineage is that of the class that is linked, and a class of it stands at the place (5.4)
 pub record IsChain {A : Type 0} (c : Configured) (k : Chain A) : Type 0 where
   pub goal : IsGoal c k.goal
-  pub whole : IsOf c k.goal.class.value.class k.whole.value
-  pub within : k.place < length (rows_in k.whole.value)
+  pub whole : IsOf c k.goal.class.value.class k.whole
+  pub within : k.place < length (rows_in k.whole)
 
 -- the equalities are those of the class at the place (5.4.2)
 abbrev pub IsAtPlace : {A : Type 0} → Chain A → Listed → Type 0
-IsAtPlace k e = AreLinked k.goal.request k.whole.value k.place e.origin
+IsAtPlace k e = AreLinked k.goal.request k.whole k.place e.origin
 
 -- what a link keeps (5.4.2)
 abbrev pub IsLinking : {A : Type 0} → Configured → Link A → Type 0

@@ -83,12 +83,12 @@ pub(crate) fn take_whole<T: Told>(
     alloc: Global,
     config: &Arc<Config>,
     goal: Goal<T>,
-    whole: Arc<Lineage<T>>,
+    whole: Lineage<T>,
 ) -> Next<T>
     requires goal { IsGoal config.now.value goal }
-    requires whole { IsOf config.now.value goal.class.value.class whole.value }
+    requires whole { IsOf config.now.value goal.class.value.class whole }
     ensures leads { LeadsBy T.told config.now.value goal.q goal.request whole_room
-        (WholeTold goal whole.value) result }
+        (WholeTold goal whole) result }
     ensures plain { IsPlain result.turn }
     ensures past { IsPast result.stage }
 {
@@ -239,26 +239,11 @@ fn trace<T: Told>(alloc: Global, config: &Arc<Config>, chain: Chain<T>) -> Next<
     ensures plain { IsPlain result.turn }
     ensures past { IsPast result.stage }
 {
-    match front_of(alloc, &chain.whole, chain.place) {
+    match chain.whole.front(chain.place) {
         Err(_) => give_up(chain),
         Ok(None) => ask_lineage(alloc, config, chain),
         Ok(Some(front)) => take_traced(alloc, config, chain, front),
     }
-}
-
-/// The lineage of the class at a place of another's, to be shared, where that begins with it (JVMS SE 8, 5.3.5).
-fn front_of<T: Told>(
-    alloc: Global,
-    whole: &Lineage<T>,
-    place: usize,
-) -> Result<Option<Arc<Lineage<T>>>, AllocError>
-    ensures { IfOk result (λ o. IfSome o (λ l. IsFront whole.now place l.value)) }
-{
-    let Some(front) = whole.front(place)? else {
-        return Ok(None);
-    };
-    let front = Arc::new(alloc, front).map_err(|_| AllocError)?;
-    Ok(Some(front))
 }
 
 /// Asks for the lineage of the class at the place of a chain.
@@ -283,13 +268,13 @@ pub(crate) fn take_traced<T: Told>(
     alloc: Global,
     config: &Arc<Config>,
     chain: Chain<T>,
-    lineage: Arc<Lineage<T>>,
+    lineage: Lineage<T>,
 ) -> Next<T>
     requires chain { IsChain config.now.value chain }
-    requires lineage { IsOf config.now.value (class_in chain.whole.value chain.place)
-        lineage.value }
+    requires lineage { IsOf config.now.value (class_in chain.whole chain.place)
+        lineage }
     ensures leads { LeadsBy T.told config.now.value chain.goal.q chain.goal.request
-        (listed_room chain) (LineageTold chain lineage.value) result }
+        (listed_room chain) (LineageTold chain lineage) result }
     ensures plain { IsPlain result.turn }
     ensures past { IsPast result.stage }
 {
@@ -309,9 +294,9 @@ pub(crate) fn take_traced<T: Told>(
 /// Loading constraints of a class that stand for all of them, to be shared.
 fn list_of<T: Told>(
     alloc: Global,
-    lineage: &Arc<Lineage<T>>,
+    lineage: &Lineage<T>,
 ) -> Result<Arc<Equalities<T>>, AllocError>
-    ensures { IfOk result (λ e. e.value.origin ≡ OfPreparation lineage.now.value) }
+    ensures { IfOk result (λ e. e.value.origin ≡ OfPreparation lineage.now) }
 {
     let list = fewer_constraints_of(alloc, lineage)?;
     Arc::new(alloc, list).map_err(|_| AllocError)

@@ -37,12 +37,12 @@ pub(crate) fn take_own<T: Told>(
     config: &Arc<Config>,
     entry: Entry<T>,
     named: Arc<ClassRow<T>>,
-    own: Arc<Lineage<T>>,
+    own: Lineage<T>,
 ) -> Next<T>
     requires entry { IsEntry config.now.value entry }
-    requires own { IsOf config.now.value entry.d.value.class own.value }
+    requires own { IsOf config.now.value entry.d.value.class own }
     ensures leads { LeadsBy T.told config.now.value entry.q entry.request tracing_own_room
-        (OwnTold entry named.value own.value) result }
+        (OwnTold entry named.value own) result }
     ensures plain { IsPlain result.turn }
     ensures past { IsPast result.stage }
 {
@@ -60,14 +60,14 @@ pub(crate) fn take_class<T: Told>(
     alloc: Global,
     config: &Arc<Config>,
     entry: Entry<T>,
-    own: Arc<Lineage<T>>,
-    named: Arc<Lineage<T>>,
+    own: Lineage<T>,
+    named: Lineage<T>,
 ) -> Next<T>
     requires entry { IsEntry config.now.value entry }
-    requires own { IsOf config.now.value entry.d.value.class own.value }
-    requires named { named.value.config ≡ config.now.value }
+    requires own { IsOf config.now.value entry.d.value.class own }
+    requires named { named.config ≡ config.now.value }
     ensures leads { LeadsBy T.told config.now.value entry.q entry.request tracing_named_room
-        (TracedTold entry own.value named.value) result }
+        (TracedTold entry own named) result }
     ensures plain { IsPlain result.turn }
     ensures past { IsPast result.stage }
 {
@@ -152,13 +152,13 @@ fn refuse_access<T: Told>(
 fn find_member<T: Told>(
     alloc: Global,
     kind: Kind,
-    own: &Arc<Lineage<T>>,
-    named: &Arc<Lineage<T>>,
+    own: &Lineage<T>,
+    named: &Lineage<T>,
     index: u16,
 ) -> Result<Found<T>, LookupFault>
-    requires { IsKind (reference (kin_of own.now.value).file index)
-        (kin_of named.now.value).class.name kind }
-    ensures { Answers own.now.value named.now.value index result }
+    requires { IsKind (reference (kin_of own.now).file index)
+        (kin_of named.now).class.name kind }
+    ensures { Answers own.now named.now index result }
 {
     match kind {
         Kind::Field => find_field(alloc, own, named, index),
@@ -172,17 +172,17 @@ fn find<T: Told>(
     alloc: Global,
     config: &Arc<Config>,
     entry: Entry<T>,
-    own: Arc<Lineage<T>>,
-    named: Arc<Lineage<T>>,
+    own: Lineage<T>,
+    named: Lineage<T>,
     kind: Kind,
 ) -> Next<T>
     requires entry { IsEntry config.now.value entry }
-    requires own { IsOf config.now.value entry.d.value.class own.value }
-    requires goes { GoesTo entry.request own.value named.value entry.index }
-    requires kind { IsKind (reference (kin_of own.value).file entry.index)
-        (kin_of named.value).class.name kind }
+    requires own { IsOf config.now.value entry.d.value.class own }
+    requires goes { GoesTo entry.request own named entry.index }
+    requires kind { IsKind (reference (kin_of own).file entry.index)
+        (kin_of named).class.name kind }
     ensures leads { LeadsBy T.told config.now.value entry.q entry.request tracing_named_room
-        (TracedTold entry own.value named.value) result }
+        (TracedTold entry own named) result }
     ensures plain { IsPlain result.turn }
     ensures past { IsPast result.stage }
 {
@@ -240,17 +240,17 @@ fn settle_fault<T: Told>(
     alloc: Global,
     config: &Arc<Config>,
     entry: Entry<T>,
-    own: Arc<Lineage<T>>,
-    named: Arc<Lineage<T>>,
+    own: Lineage<T>,
+    named: Lineage<T>,
     fault: LookupFault,
 ) -> Next<T>
     requires entry { IsEntry config.now.value entry }
-    requires own { IsOf config.now.value entry.d.value.class own.value }
-    requires goes { GoesTo entry.request own.value named.value entry.index }
-    requires cites { Cites own.value named.value entry.index }
-    requires lookup { Answers own.value named.value entry.index (Err fault) }
+    requires own { IsOf config.now.value entry.d.value.class own }
+    requires goes { GoesTo entry.request own named entry.index }
+    requires cites { Cites own named entry.index }
+    requires lookup { Answers own named entry.index (Err fault) }
     ensures leads { LeadsBy T.told config.now.value entry.q entry.request tracing_named_room
-        (TracedTold entry own.value named.value) result }
+        (TracedTold entry own named) result }
     ensures plain { IsPlain result.turn }
     ensures past { IsPast result.stage }
 {

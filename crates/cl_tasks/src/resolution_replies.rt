@@ -144,12 +144,12 @@ pub(crate) fn after_named_lineage<T: Told>(
     alloc: Global,
     config: &Arc<Config>,
     entry: Entry<T>,
-    own: Arc<Lineage<T>>,
+    own: Lineage<T>,
     named: Arc<ClassRow<T>>,
     reply: Reply<T>,
 ) -> Next<T>
     requires entry { IsEntry config.now.value entry }
-    requires own { IsOf config.now.value entry.d.value.class own.value }
+    requires own { IsOf config.now.value entry.d.value.class own }
     requires expects { Expects
         (resolving_at config.now.value (Resolution.TracingNamed entry own named)) reply }
     ensures { Steps T.told

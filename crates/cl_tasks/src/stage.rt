@@ -71,7 +71,7 @@ pub enum Resolution<T: Told> {
     LookingReference(Entry<T>),
     /// The entry asks for a member of this class.
     TracingOwn(Entry<T>, Arc<ClassRow<T>>),
-    TracingNamed(Entry<T>, Arc<Lineage<T>>, Arc<ClassRow<T>>),
+    TracingNamed(Entry<T>, Lineage<T>, Arc<ClassRow<T>>),
     /// The equality at this place is being imposed.
     Imposing(Member<T>, usize),
     Settling(Entry<T>),
@@ -89,7 +89,7 @@ pub struct Goal<T: Told> {
 #[derive(Drop)]
 pub struct Chain<T: Told> {
     pub goal: Goal<T>,
-    pub whole: Arc<Lineage<T>>,
+    pub whole: Lineage<T>,
     pub place: usize,
 }
 

@@ -15,7 +15,7 @@ pub enum Reply<T: Told> {
     Probed(Probe<T>),
     Defined(Arc<ClassRow<T>>),
     Initiated(Arc<ClassRow<T>>),
-    Lineage(Arc<Lineage<T>>),
+    Lineage(Lineage<T>),
     LookedReference(Option<Arc<Settled>>),
     Settled(Arc<Settled>),
     Imposed,

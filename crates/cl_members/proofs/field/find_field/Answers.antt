@@ -13,23 +13,22 @@ use Rattle.cl_members.proofs.field.find_field.Goals as goal
 
 pub returns-in-None : goal.returns-in-None
 returns-in-None g c =
-    let order : IsInOrder c.args.c.now.value = subst (λ (l : Lined). IsInOrder l) c.deref.ensures c.class.ensures.kept.order in
-    let key = c.field_symbol-symbol.ensures c.requires.target c.requires.key (ap (λ (l : Lined). reference (kin_of l).file c.args.index) c.deref-2.ensures ∙ c.requires.refers) in
-    let ordered = subst (λ (l : Lined). map (λ r. kin_at l r.value) c.in_ok-order.order.items ≡ field_order (kin_of l)) c.deref-4.ensures c.in_ok-order.ensures.order in
-    no_field (λ r. r.value) c.args.d.now.value c.args.c.now.value c.args.index order c.requires (field_key (plain_symbol c.field_symbol-symbol.result)) key c.in_ok-order.order.items ordered
+    let order : IsInOrder c.args.c.now = c.class.ensures.kept.order in
+    let key = c.field_symbol-symbol.ensures c.requires.target c.requires.key c.requires.refers in
+    let ordered = c.in_ok-order.ensures.order in
+    no_field (λ r. r.value) c.args.d.now c.args.c.now c.args.index order c.requires (field_key (plain_symbol c.field_symbol-symbol.result)) key c.in_ok-order.order.items ordered
     (c.in-None.ensures ∙ ap (find (λ r. is_some (field_in (field_key (plain_symbol c.field_symbol-symbol.result)) (file_of r.value.file)))) c.as_slice.ensures.value)
 
 pub access-requires : goal.access-requires
 access-requires g c =
-    let order : IsInOrder c.args.c.now.value = subst (λ (l : Lined). IsInOrder l) c.deref.ensures c.class.ensures.kept.order in
-    let key = c.field_symbol-symbol.ensures c.requires.target c.requires.key (ap (λ (l : Lined). reference (kin_of l).file c.args.index) c.deref-2.ensures ∙ c.requires.refers) in
-    let ordered = subst (λ (l : Lined). map (λ r. kin_at l r.value) c.in_ok-order.order.items ≡ field_order (kin_of l)) c.deref-4.ensures c.in_ok-order.ensures.order in
-    field_reached (λ r. r.value) c.args.d.now.value c.args.c.now.value c.args.index (plain_symbol c.field_symbol-symbol.result) order c.requires key c.in_ok-order.order.items ordered c.in-Some.owner.now
+    let order : IsInOrder c.args.c.now = c.class.ensures.kept.order in
+    let key = c.field_symbol-symbol.ensures c.requires.target c.requires.key c.requires.refers in
+    let ordered = c.in_ok-order.ensures.order in
+    field_reached (λ r. r.value) c.args.d.now c.args.c.now c.args.index (plain_symbol c.field_symbol-symbol.result) order c.requires key c.in_ok-order.order.items ordered c.in-Some.owner.now
     (c.in-Some.ensures ∙ ap (find (λ r. is_some (field_in (field_key (plain_symbol c.field_symbol-symbol.result)) (file_of r.value.file)))) c.as_slice.ensures.value) c.in-Some-field_flags.flags
     (c.in-Some-field_flags.ensures ∙ ap (λ (r : Rowed). option_map (λ m. m.flags) (field_in (field_key (plain_symbol c.field_symbol-symbol.result)) (file_of r.file))) c.deref-in-Some.ensures)
-    (subst (λ (l : Lined). IsRowIn (rows_in l) c.in-Some.owner.now.value) c.deref-4.ensures
-    (find_all (λ r. IsRowIn (rows_in c.deref-4.result.now) r.value) (λ r. is_some (field_in (field_key (plain_symbol c.field_symbol-symbol.result)) (file_of r.value.file))) c.in_ok-order.order.items c.in-Some.owner.now c.in_ok-order.ensures.rows
-    (c.in-Some.ensures ∙ ap (find (λ r. is_some (field_in (field_key (plain_symbol c.field_symbol-symbol.result)) (file_of r.value.file)))) c.as_slice.ensures.value)))
+    (find_all (λ r. IsRowIn (rows_in c.args.c.now) r.value) (λ r. is_some (field_in (field_key (plain_symbol c.field_symbol-symbol.result)) (file_of r.value.file))) c.in_ok-order.order.items c.in-Some.owner.now c.in_ok-order.ensures.rows
+    (c.in-Some.ensures ∙ ap (find (λ r. is_some (field_in (field_key (plain_symbol c.field_symbol-symbol.result)) (file_of r.value.file)))) c.as_slice.ensures.value))
 
 pub unreachable-requires : goal.unreachable-requires
 unreachable-requires g c =

@@ -13,32 +13,32 @@ use Rattle.cl_members.proofs.method.find_interface_method.Goals as goal
 
 pub access-requires : goal.access-requires
 access-requires g c =
-    let key = c.interface_method_symbol-symbol.ensures c.requires.target c.requires.key (ap (λ (l : Lined). reference (kin_of l).file c.args.index) c.deref.ensures ∙ c.requires.refers) in
-    let kind : true ≡ is_interface (kin_of c.args.c.now.value).file =
+    let key = c.interface_method_symbol-symbol.ensures c.requires.target c.requires.key c.requires.refers in
+    let kind : true ≡ is_interface (kin_of c.args.c.now).file =
     sym c.if-not-is_interface.false ∙ c.is_interface.ensures
     ∙ ap (λ (f : Structure). is_interface (file_of f)) (
-    c.deref-5.ensures ∙ c.file.ensures.file ∙ ap (λ (r : Rowed). r.file) (c.deref-4.ensures ∙ c.own.ensures.own ∙ ap (λ (l : Lined). l.own) c.deref-3.ensures)
+    c.deref-2.ensures ∙ c.file.ensures.file ∙ ap (λ (r : Rowed). r.file) (c.deref.ensures ∙ c.own.ensures.own)
     ) in
-    let told = subst (λ (l : Lined). option_map (λ r. kin_at l r.value) c.in_ok-interface_method_owner.field-0 ≡ interface_method_owner (method_key (plain_symbol c.interface_method_symbol-symbol.result)) (kin_of l)) c.deref-6.ensures c.in_ok-interface_method_owner.ensures.owner in
-    interface_method_reached c.args.d.now.value c.args.c.now.value c.args.index (plain_symbol c.interface_method_symbol-symbol.result) c.requires kind key c.in-Some.owner.value
-    (ap (option_map (λ r. kin_at c.args.c.now.value r.value)) (sym c.in-Some.is) ∙ told) c.in-Some-method_flags.flags
+    let told = c.in_ok-interface_method_owner.ensures.owner in
+    interface_method_reached c.args.d.now c.args.c.now c.args.index (plain_symbol c.interface_method_symbol-symbol.result) c.requires kind key c.in-Some.owner.value
+    (ap (option_map (λ r. kin_at c.args.c.now r.value)) (sym c.in-Some.is) ∙ told) c.in-Some-method_flags.flags
     (c.in-Some-method_flags.ensures ∙ ap (λ (r : Rowed). option_map (λ m. m.flags) (method_in (method_key (plain_symbol c.interface_method_symbol-symbol.result)) (file_of r.file))) c.deref-in-Some.ensures)
-    (subst (λ (l : Lined). IsRowIn (rows_in l) c.in-Some.owner.value) c.deref-6.ensures (subst (λ (o : Option _). IfSome o (λ r. IsRowIn (rows_in c.deref-6.result.now) r.value)) c.in-Some.is c.in_ok-interface_method_owner.ensures.row))
+    (subst (λ (o : Option _). IfSome o (λ r. IsRowIn (rows_in c.args.c.now) r.value)) c.in-Some.is c.in_ok-interface_method_owner.ensures.row)
 
 pub unreachable-requires : goal.unreachable-requires
 unreachable-requires g c =
-    let told = subst (λ (l : Lined). option_map (λ r. kin_at l r.value) c.in_ok-interface_method_owner.field-0 ≡ interface_method_owner (method_key (plain_symbol c.interface_method_symbol-symbol.result)) (kin_of l)) c.deref-6.ensures c.in_ok-interface_method_owner.ensures.owner in
+    let told = c.in_ok-interface_method_owner.ensures.owner in
     has_flags (method_in (method_key (plain_symbol c.interface_method_symbol-symbol.result)) (file_of c.in-Some.owner.value.file))
-    (interface_method_declares (method_key (plain_symbol c.interface_method_symbol-symbol.result)) (kin_of c.args.c.now.value) (kin_at c.args.c.now.value c.in-Some.owner.value) (ap (option_map (λ r. kin_at c.args.c.now.value r.value)) (sym c.in-Some.is) ∙ told))
+    (interface_method_declares (method_key (plain_symbol c.interface_method_symbol-symbol.result)) (kin_of c.args.c.now) (kin_at c.args.c.now c.in-Some.owner.value) (ap (option_map (λ r. kin_at c.args.c.now r.value)) (sym c.in-Some.is) ∙ told))
     (c.in-None-method_flags.ensures ∙ ap (λ (r : Rowed). option_map (λ m. m.flags) (method_in (method_key (plain_symbol c.interface_method_symbol-symbol.result)) (file_of r.file))) c.deref-in-Some.ensures)
 
 pub returns-in-None : goal.returns-in-None
 returns-in-None g c =
-    let key = c.interface_method_symbol-symbol.ensures c.requires.target c.requires.key (ap (λ (l : Lined). reference (kin_of l).file c.args.index) c.deref.ensures ∙ c.requires.refers) in
-    let kind : true ≡ is_interface (kin_of c.args.c.now.value).file =
+    let key = c.interface_method_symbol-symbol.ensures c.requires.target c.requires.key c.requires.refers in
+    let kind : true ≡ is_interface (kin_of c.args.c.now).file =
     sym c.if-not-is_interface.false ∙ c.is_interface.ensures
     ∙ ap (λ (f : Structure). is_interface (file_of f)) (
-    c.deref-5.ensures ∙ c.file.ensures.file ∙ ap (λ (r : Rowed). r.file) (c.deref-4.ensures ∙ c.own.ensures.own ∙ ap (λ (l : Lined). l.own) c.deref-3.ensures)
+    c.deref-2.ensures ∙ c.file.ensures.file ∙ ap (λ (r : Rowed). r.file) (c.deref.ensures ∙ c.own.ensures.own)
     ) in
-    let told = subst (λ (l : Lined). option_map (λ r. kin_at l r.value) c.in_ok-interface_method_owner.field-0 ≡ interface_method_owner (method_key (plain_symbol c.interface_method_symbol-symbol.result)) (kin_of l)) c.deref-6.ensures c.in_ok-interface_method_owner.ensures.owner in
-    no_interface_method c.args.d.now.value c.args.c.now.value c.args.index c.requires kind (method_key (plain_symbol c.interface_method_symbol-symbol.result)) key (ap (option_map (λ r. kin_at c.args.c.now.value r.value)) (sym c.in-None.is) ∙ told)
+    let told = c.in_ok-interface_method_owner.ensures.owner in
+    no_interface_method c.args.d.now c.args.c.now c.args.index c.requires kind (method_key (plain_symbol c.interface_method_symbol-symbol.result)) key (ap (option_map (λ r. kin_at c.args.c.now r.value)) (sym c.in-None.is) ∙ told)

@@ -6,10 +6,10 @@ use Rattle.cl_preparation.proofs.fewer.away_of.Goals as goal
 
 pub returns-clause-classes : goal.returns-clause-classes
 returns-clause-classes g c =
-    mapped_rows (λ r. r.value) (λ k. filter (λ x. is_of_other k.class.loader x.class) (superclasses k)) c.args.lineage.now.value c.deref.result.now c.in_ok-rows.rows.items c.as_slice.result.now c.in_ok-all.all.items
-    c.deref.ensures c.as_slice.ensures.value c.in_ok-all.ensures c.in_ok-rows.ensures.superclasses
+    mapped_rows (λ r. r.value) (λ k. filter (λ x. is_of_other k.class.loader x.class) (superclasses k)) c.args.lineage.now c.in_ok-rows.rows.items c.as_slice.result.now c.in_ok-all.all.items
+    c.as_slice.ensures.value c.in_ok-all.ensures c.in_ok-rows.ensures.superclasses
 
 pub returns-clause-rows : goal.returns-clause-rows
 returns-clause-rows g c =
-    mapped_in (λ r. r.value) c.args.lineage.now.value c.deref.result.now c.in_ok-rows.rows.items c.as_slice.result.now c.in_ok-all.all.items
-    c.deref.ensures c.as_slice.ensures.value c.in_ok-all.ensures c.in_ok-rows.ensures.rows
+    mapped_in (λ r. r.value) c.args.lineage.now c.in_ok-rows.rows.items c.as_slice.result.now c.in_ok-all.all.items
+    c.as_slice.ensures.value c.in_ok-all.ensures c.in_ok-rows.ensures.rows

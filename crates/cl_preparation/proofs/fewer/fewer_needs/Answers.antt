@@ -8,4 +8,4 @@ use Rattle.cl_preparation.proofs.fewer.fewer_needs.Goals as goal
 pub returns-then-branch : goal.returns-then-branch
 returns-then-branch g c =
     ap needs_of c.new.ensures.items
-    ∙ none_fewer (kin_of c.args.lineage.now.value) (c.in_ok-imposes_nothing.ensures c.if-branch.true ∙ ap (λ (l : Lined). constraints_of (kin_of l)) c.deref.ensures)
+    ∙ none_fewer (kin_of c.args.lineage.now) (c.in_ok-imposes_nothing.ensures c.if-branch.true)

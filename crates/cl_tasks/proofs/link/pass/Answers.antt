@@ -11,15 +11,14 @@ use Rattle.cl_tasks.proofs.link.pass.Goals as goal
 pub returns-then-at-count_rows-clause-leads : goal.returns-then-at-count_rows-clause-leads
 returns-then-at-count_rows-clause-leads g c =
     let k = c.args.chain in
-    let le = rw (c.count_rows.ensures, c.deref-2.ensures) at c.if-at-count_rows.true in
+    let le = rw c.count_rows.ensures at c.if-at-count_rows.true in
     leads_by (chain_room k) (MarkedTold k) c.post_linked.ensures.leads (one_turn (chain_left (behind k)) 0)
-    (post_calls g.T.Told.told c.args.config.now.value (MarkedTold k) k.goal.request 0 0 0 (chain_calls k.whole.value k.place + 1) (one_call (chain_calls k.whole.value k.place)))
+    (post_calls g.T.Told.told c.args.config.now.value (MarkedTold k) k.goal.request 0 0 0 (chain_calls k.whole k.place + 1) (one_call (chain_calls k.whole k.place)))
     (λ x h. last_told c.args.config.now.value x k c.requires.chain le h)
 
 pub returns-clause-leads : goal.returns-clause-leads
 returns-clause-leads g c =
     let k = c.args.chain in
-    let kept = rw c.deref.ensures at c.class.ensures.kept in
-    leads_by (chain_room k) (MarkedTold k) c.ask.ensures.leads (passed_turns (length (rows_in k.whole.value)) k.place c.requires.chain.within)
-    (passed_calls g.T.Told.told c.args.config.now.value k c.requires.chain kept.order)
+    leads_by (chain_room k) (MarkedTold k) c.ask.ensures.leads (passed_turns (length (rows_in k.whole)) k.place c.requires.chain.within)
+    (passed_calls g.T.Told.told c.args.config.now.value k c.requires.chain c.class.ensures.kept.order)
     (λ x h. marked_told c.args.config.now.value x k c.requires.chain h)

@@ -6,8 +6,8 @@ use Rattle.cl_tasks.proofs.link.refuse_link.Goals as goal
 
 pub returns-clause-leads : goal.returns-clause-leads
 returns-clause-leads g c =
-    let kept = rw c.deref.ensures at c.class.ensures.kept in
-    let listed = rw c.deref-2.ensures at c.bring_lineages.ensures in
+    let kept = c.class.ensures.kept in
+    let listed = rw c.deref.ensures at c.bring_lineages.ensures in
     let known : IsKnown g.T.Told.told c.args.chain c.args.list.value = record { place = c.requires.list; order = kept.order; whole = kept.lineage; listed = listed } in
     let is = slice_get-map equal_need c.args.list.value.needs c.args.place ∙ c.requires.need in
     rw c.post.ensures

@@ -11,10 +11,10 @@ pub returns-then-not-prepared-clause-leads : goal.returns-then-not-prepared-clau
 returns-then-not-prepared-clause-leads g c =
     let k = c.args.chain in
     leads_by (chain_room k) (AskedTold k c.args.prepared) c.trace_first.ensures.leads (asked_turns k)
-    (stay g.T.Told.told c.args.config.now.value (AskedTold k c.args.prepared) k.goal.request (past_loads 0 0 (chain_calls k.whole.value k.place + 1))) (λ x h. h.before)
+    (stay g.T.Told.told c.args.config.now.value (AskedTold k c.args.prepared) k.goal.request (past_loads 0 0 (chain_calls k.whole k.place + 1))) (λ x h. h.before)
 
 pub returns-clause-leads : goal.returns-clause-leads
 returns-clause-leads g c =
     let k = c.args.chain in
     leads_by (chain_room k) (AskedTold k c.args.prepared) c.pass.ensures.leads (asked_turns k)
-    (stay g.T.Told.told c.args.config.now.value (AskedTold k c.args.prepared) k.goal.request (past_loads 0 0 (chain_calls k.whole.value k.place + 1))) (λ x h. record { before = h.before; now = h.now c.if-not-prepared.false })
+    (stay g.T.Told.told c.args.config.now.value (AskedTold k c.args.prepared) k.goal.request (past_loads 0 0 (chain_calls k.whole k.place + 1))) (λ x h. record { before = h.before; now = h.now c.if-not-prepared.false })

@@ -12,14 +12,14 @@ use Rattle.cl_tasks.proofs.link.take_marked.Goals as goal
 pub returns-then-place-count_rows-clause-leads : goal.returns-then-place-count_rows-clause-leads
 returns-then-place-count_rows-clause-leads g c =
     let k = c.args.chain in
-    let le = rw (c.count_rows.ensures, c.deref.ensures) at c.if-place-count_rows.true in
+    let le = rw c.count_rows.ensures at c.if-place-count_rows.true in
     leads_by (marked_room k) (MarkedTold k) c.post_linked.ensures.leads (one_turn (chain_left (behind k - 1)) 0)
-    (post_calls g.T.Told.told c.args.config.now.value (MarkedTold k) k.goal.request 0 0 0 (chain_calls k.whole.value (k.place + 1) + 1) (one_call (chain_calls k.whole.value (k.place + 1))))
+    (post_calls g.T.Told.told c.args.config.now.value (MarkedTold k) k.goal.request 0 0 0 (chain_calls k.whole (k.place + 1) + 1) (one_call (chain_calls k.whole (k.place + 1))))
     (λ x h. last_told c.args.config.now.value x k c.requires.chain le h)
 
 pub returns-clause-leads : goal.returns-clause-leads
 returns-clause-leads g c =
     let k = c.args.chain in
-    leads_by (marked_room k) (MarkedTold k) c.trace.ensures.leads (next_turns (length (rows_in k.whole.value)) k.place)
-    (stay g.T.Told.told c.args.config.now.value (MarkedTold k) k.goal.request (past_loads 0 0 (chain_calls k.whole.value (k.place + 1) + 1)))
+    leads_by (marked_room k) (MarkedTold k) c.trace.ensures.leads (next_turns (length (rows_in k.whole)) k.place)
+    (stay g.T.Told.told c.args.config.now.value (MarkedTold k) k.goal.request (past_loads 0 0 (chain_calls k.whole (k.place + 1) + 1)))
     (λ x h. marked_told c.args.config.now.value x k c.requires.chain h)

@@ -8,8 +8,6 @@ use Rattle.cl_tasks.proofs.link.take_whole.Goals as goal
 
 pub returns-clause-leads : goal.returns-clause-leads
 returns-clause-leads g c =
-    let counted = rw c.deref.ensures at c.count_rows.ensures in
-    let kept = rw c.deref-2.ensures at c.class.ensures.kept in
-    let le = rows_few c.args.whole.value c.count_rows.result c.count_rows.type_inv counted in
-    leads_by whole_room (WholeTold c.args.goal c.args.whole.value) c.ask.ensures.leads (whole_turns (length (rows_in c.args.whole.value) - 0) le)
-    (whole_calls g.T.Told.told c.args.config.now.value c.args.goal c.args.whole c.requires.goal c.requires.whole kept.lineage) (λ x h. whole_told x c.args.goal c.args.whole h)
+    let le = rows_few c.args.whole c.count_rows.result c.count_rows.type_inv c.count_rows.ensures in
+    leads_by whole_room (WholeTold c.args.goal c.args.whole) c.ask.ensures.leads (whole_turns (length (rows_in c.args.whole) - 0) le)
+    (whole_calls g.T.Told.told c.args.config.now.value c.args.goal c.args.whole c.requires.goal c.requires.whole c.class.ensures.kept.lineage) (λ x h. whole_told x c.args.goal c.args.whole h)

@@ -21,4 +21,4 @@ returns-in-Memory g c =
     rw (c.in-Memory.is, c.give_up.ensures)
     (steps_memory g.T.Told.told (linking_at c.args.config.now.value (links.Imposing c.args.chain c.args.list c.args.place)) c.args.chain.goal.request refl c.requires.chain.goal.asked
     (some_left (chain_left (behind c.args.chain - 1)) (length c.args.list.value.needs - c.args.place))
-    (list_post (linking_left (behind c.args.chain - 1) (length c.args.list.value.needs - c.args.place)) (chain_calls c.args.chain.whole.value (c.args.chain.place + 1)) (length c.args.list.value.needs - c.args.place)))
+    (list_post (linking_left (behind c.args.chain - 1) (length c.args.list.value.needs - c.args.place)) (chain_calls c.args.chain.whole (c.args.chain.place + 1)) (length c.args.list.value.needs - c.args.place)))

@@ -14,4 +14,4 @@ pub returns-in-Memory : goal.returns-in-Memory
 returns-in-Memory g c =
     rw (c.in-Memory.is, c.give_up.ensures)
     (steps_memory g.T.Told.told (linking_at c.args.config.now.value (links.Marking c.args.chain c.args.list)) c.args.chain.goal.request refl c.requires.chain.goal.asked (some_left (chain_left (behind c.args.chain - 1)) 0)
-    (list_post (linking_left (behind c.args.chain - 1) 0) (chain_calls c.args.chain.whole.value (c.args.chain.place + 1)) 0))
+    (list_post (linking_left (behind c.args.chain - 1) 0) (chain_calls c.args.chain.whole (c.args.chain.place + 1)) 0))

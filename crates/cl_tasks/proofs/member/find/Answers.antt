@@ -17,7 +17,7 @@ returns-in-Ok-equalities_of-clause-leads g c =
     let few = needs_few (length m.equalities.value.needs) c.count_needs.result c.count_needs.type_inv counted in
     let of = c.in-Ok.ensures.of in
     let known : IsListed g.T.Told.told m.equalities.value = rw c.deref-in-Ok-equalities_of.ensures at c.bring_lineages.ensures in
-    let member : IsMember c.args.config.now.value m = found_member c.args.config.now.value m c.args.own.value c.args.named.value c.requires.entry c.requires.own c.requires.goes of c.in-Ok-equalities_of.ensures in
-    leads_by tracing_named_room (TracedTold c.args.entry c.args.own.value c.args.named.value) c.impose.ensures.leads (member_room (length m.equalities.value.needs) few)
-    (member_within g.T.Told.told c.args.config.now.value m c.args.own.value c.args.named.value member c.requires.own of.from of.through known)
-    (λ x h. member_told c.args.config.now.value x m c.args.own.value c.args.named.value c.requires.own of.from of.through h)
+    let member : IsMember c.args.config.now.value m = found_member c.args.config.now.value m c.args.own c.args.named c.requires.entry c.requires.own c.requires.goes of c.in-Ok-equalities_of.ensures in
+    leads_by tracing_named_room (TracedTold c.args.entry c.args.own c.args.named) c.impose.ensures.leads (member_room (length m.equalities.value.needs) few)
+    (member_within g.T.Told.told c.args.config.now.value m c.args.own c.args.named member c.requires.own of.from of.through known)
+    (λ x h. member_told c.args.config.now.value x m c.args.own c.args.named c.requires.own of.from of.through h)

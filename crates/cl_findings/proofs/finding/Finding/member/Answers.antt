@@ -6,15 +6,15 @@ use Rattle.cl_findings.proofs.finding.Finding.member.Goals as goal
 
 pub said-requires : goal.said-requires
 said-requires g c =
-    let one = rw (c.deref.ensures, c.d.ensures.d) at c.class.ensures.kept in
-    let other = rw (c.deref-2.ensures, c.c.ensures.c) at c.class-2.ensures.kept in
-    let of = rw c.deref-3.ensures at c.needs-met.ensures.kept in
-    let many = rw c.deref-3.ensures at c.needs-met.ensures.needs in
+    let one = rw c.d.ensures.d at c.class.ensures.kept in
+    let other = rw c.c.ensures.c at c.class-2.ensures.kept in
+    let of = rw c.deref.ensures at c.needs-met.ensures.kept in
+    let many = rw c.deref.ensures at c.needs-met.ensures.needs in
     member_rests_kept g.T.Told.told c.args.request c.args.found.now c.args.equalities.value c.args.verdict (length c.needs-met.result.now) c.requires.reference one.lineage other.lineage c.index.ensures.kept c.requires.origin of c.requires.verdict
     (ap (λ (es : List Equality). length es) many)
 
 pub returns-clause-basis : goal.returns-clause-basis
 returns-clause-basis g c =
-    let many = rw c.deref-3.ensures at c.needs-met.ensures.needs in
+    let many = rw c.deref.ensures at c.needs-met.ensures.needs in
     ap (λ (a : Answered). a.basis) c.said.ensures
     ∙ ap (λ (b : Based). Some b) (member_kept c.args.request c.args.found.now c.args.equalities.value (length c.needs-met.result.now) c.requires.origin (ap (λ (es : List Equality). length es) many))

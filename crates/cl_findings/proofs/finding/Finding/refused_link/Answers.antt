@@ -5,5 +5,4 @@ pub said-requires : goal.said-requires
 said-requires g c =
     let of = rw c.deref.ensures at c.bring_lineages.ensures.are in
     let lin = rw c.deref.ensures at c.bring_lineages.ensures.lineages in
-    let kept = rw c.deref-2.ensures at c.class.ensures.kept in
-    link_rests_kept g.T.Told.told c.args.request c.args.lineage.value c.args.place c.args.equalities.value c.args.index c.args.need c.requires.link kept.order kept.lineage lin of c.requires.need
+    link_rests_kept g.T.Told.told c.args.request c.args.lineage c.args.place c.args.equalities.value c.args.index c.args.need c.requires.link c.class.ensures.kept.order c.class.ensures.kept.lineage lin of c.requires.need

@@ -8,6 +8,6 @@ pub returns : goal.returns
 returns g c =
     on_ok_weaker c.push_interfaces.result
     (λ e. e ∙ ap (λ ns. needs_of c.args.needs.now.items ++ ns)
-    (second_told c.of-inherited.result c.self.inside.lineage.value c.args.self.now c.self.inside.own c.self.inside.superclasses.items c.self.inside.superinterfaces.items c.as_slice.result.now c.as_slice-2.result.now
+    (second_told c.of-inherited.result c.self.inside.lineage c.args.self.now c.self.inside.own c.self.inside.superclasses.items c.self.inside.superinterfaces.items c.as_slice.result.now c.as_slice-2.result.now
     c.of-inherited.ensures c.as_slice.ensures.value c.as_slice-2.ensures.value c.self.view_is c.self.invariant))
     c.push_interfaces.ensures

@@ -102,7 +102,7 @@ whole_steps told c g whole n l plain past =
     plain_steps (linking_at c (links.TracingWhole g)) (reply.Lineage whole) n refl refl refl l (same_turns whole_left) (one_made told c _ g.request 2 1 2)
     (λ x h. record { before = h.before.facts; now = h.now }) tt tt (λ h. tt) (past_derives _ [] n.stage past) tt plain
 
-pub traced_steps : {A : Type 0} (told : Option Content) (c : Configured) (k : Chain A) (at : Lined) (n : Next A) → LeadsBy told c k.goal.q k.goal.request (listed_room k) (LineageTold k at.value) n → IsPlain n.turn → IsPast n.stage
+pub traced_steps : {A : Type 0} (told : Option Content) (c : Configured) (k : Chain A) (at : Lined) (n : Next A) → LeadsBy told c k.goal.q k.goal.request (listed_room k) (LineageTold k at) n → IsPlain n.turn → IsPast n.stage
     → Steps told (linking_at c (links.Tracing k)) (reply.Lineage at) n
 traced_steps told c k at n l plain past =
     plain_steps (linking_at c (links.Tracing k)) (reply.Lineage at) n refl refl refl l (same_turns (chain_left (behind k))) (one_made told c _ k.goal.request 0 0 (chain_calls k.whole k.place))

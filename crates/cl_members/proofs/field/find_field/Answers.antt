@@ -26,7 +26,7 @@ access-requires g c =
     let ordered = c.in_ok-order.ensures.order in
     field_reached (λ r. r.value) c.args.d.now c.args.c.now c.args.index (plain_symbol c.field_symbol-symbol.result) order c.requires key c.in_ok-order.order.items ordered c.in-Some.owner.now
     (c.in-Some.ensures ∙ ap (find (λ r. is_some (field_in (field_key (plain_symbol c.field_symbol-symbol.result)) (file_of r.value.file)))) c.as_slice.ensures.value) c.in-Some-field_flags.flags
-    (c.in-Some-field_flags.ensures ∙ ap (λ (r : Rowed). option_map (λ m. m.flags) (field_in (field_key (plain_symbol c.field_symbol-symbol.result)) (file_of r.file))) c.deref-in-Some.ensures)
+    (c.in-Some-field_flags.ensures ∙ ap (λ (r : Rowed). option_map (λ m. m.flags) (field_in (field_key (plain_symbol c.field_symbol-symbol.result)) (file_of r.file))) c.deref.ensures)
     (find_all (λ r. IsRowIn (rows_in c.args.c.now) r.value) (λ r. is_some (field_in (field_key (plain_symbol c.field_symbol-symbol.result)) (file_of r.value.file))) c.in_ok-order.order.items c.in-Some.owner.now c.in_ok-order.ensures.rows
     (c.in-Some.ensures ∙ ap (find (λ r. is_some (field_in (field_key (plain_symbol c.field_symbol-symbol.result)) (file_of r.value.file)))) c.as_slice.ensures.value))
 
@@ -34,4 +34,4 @@ pub unreachable-requires : goal.unreachable-requires
 unreachable-requires g c =
     has_flags (field_in (field_key (plain_symbol c.field_symbol-symbol.result)) (file_of c.in-Some.owner.now.value.file))
     (find_passes (λ r. is_some (field_in (field_key (plain_symbol c.field_symbol-symbol.result)) (file_of r.value.file))) c.as_slice.result.now c.in-Some.owner.now (sym c.in-Some.ensures))
-    (c.in-None-field_flags.ensures ∙ ap (λ (r : Rowed). option_map (λ m. m.flags) (field_in (field_key (plain_symbol c.field_symbol-symbol.result)) (file_of r.file))) c.deref-in-Some.ensures)
+    (c.in-None-field_flags.ensures ∙ ap (λ (r : Rowed). option_map (λ m. m.flags) (field_in (field_key (plain_symbol c.field_symbol-symbol.result)) (file_of r.file))) c.deref.ensures)

@@ -15,10 +15,10 @@ returns-then-not-member_accessible g c =
 pub invariant_of-result : goal.invariant_of-result
 invariant_of-result g c =
     located_copy c.args.d.now c.args.c.now c.in_ok-try_clone-2.field-0 c.in_ok-try_clone-3.field-0 c.args.index c.args.owner.now.value c.in_ok-try_clone-4.field-0.value c.in_ok-key.key c.args.flags
-    (sym c.in_ok-try_clone-2.ensures) (sym c.in_ok-try_clone-3.ensures) (sym c.in_ok-try_clone-4.ensures)
+    (sym c.in_ok-try_clone-2.ensures.clone) (sym c.in_ok-try_clone-3.ensures.clone) (sym c.in_ok-try_clone-4.ensures)
     (located_is c.args.d.now c.args.c.now c.args.index (plain_symbol c.args.symbol) c.args.owner.now.value c.args.flags c.requires c.in_ok-key.key c.in_ok-key.ensures
     (sym c.if-not-member_accessible.false
     ∙ c.member_accessible.ensures (kin_at c.args.c.now c.args.owner.now.value) (sym (c.class.ensures.class ∙ ap (λ (r : Rowed). r.class) c.deref.ensures))))
 
 pub returns : goal.returns
-returns g c = located_answers c.args.d.now c.args.c.now c.args.index _ (invariant_of-result g c) c.in_ok-try_clone-2.ensures c.in_ok-try_clone-3.ensures refl
+returns g c = located_answers c.args.d.now c.args.c.now c.args.index _ (invariant_of-result g c) c.in_ok-try_clone-2.ensures.clone c.in_ok-try_clone-3.ensures.clone refl

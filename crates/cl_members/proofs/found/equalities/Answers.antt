@@ -22,6 +22,6 @@ of_reference-requires g c =
     let owner = ap (λ (k : Class). k.loader) (c.class.ensures.class ∙ ap (λ (r : Rowed). r.class) (c.deref-3.ensures ∙ c.owner.ensures.owner)) in
     let from = ap (λ (k : Class). k.loader) (c.class-2.ensures.class ∙ ap (λ (l : Lined). (kin_of l).class) c.d-2.ensures.d) in
     are_of_copy c.args.found.now.d c.in_ok-d.d c.args.found.now.c c.in_ok-c.c c.args.found.now.index c.found.inside.index (needs_of c.in_ok-needs.needs.items)
-    (sym (c.in_ok-d.ensures ∙ c.d-3.ensures.d)) (sym (c.in_ok-c.ensures ∙ c.c.ensures.c)) (sym index)
+    (sym (c.in_ok-d.ensures.clone ∙ c.d-3.ensures.d)) (sym (c.in_ok-c.ensures.clone ∙ c.c.ensures.c)) (sym index)
     (are_of c.args.found.now c.d.ensures.kept (needs_of c.in_ok-needs.needs.items)
     (imposed_by c.args.found.now c.d.ensures.kept c.in_ok-names.names.items told c.class.result.now.loader c.class-2.result.now.loader owner from (needs_of c.in_ok-needs.needs.items) c.in_ok-needs.ensures))

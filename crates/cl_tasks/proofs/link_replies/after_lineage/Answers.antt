@@ -13,6 +13,5 @@ returns-in-Lineage g c =
 pub returns-in-Memory : goal.returns-in-Memory
 returns-in-Memory g c =
     rw (c.in-Memory.is, c.give_up.ensures)
-    (let kept = rw c.deref.ensures at c.class.ensures.kept in
-    steps_memory g.T.Told.told (linking_at c.args.config.now.value (links.Tracing c.args.chain)) c.args.chain.goal.request refl c.requires.chain.goal.asked (chain_some_turns c.args.config.now.value c.args.chain c.requires.chain)
-    (traced_post c.args.config.now.value c.args.chain c.requires.chain kept.order))
+    (steps_memory g.T.Told.told (linking_at c.args.config.now.value (links.Tracing c.args.chain)) c.args.chain.goal.request refl c.requires.chain.goal.asked (chain_some_turns c.args.config.now.value c.args.chain c.requires.chain)
+    (traced_post c.args.config.now.value c.args.chain c.requires.chain c.class.ensures.kept.order))

@@ -18,18 +18,12 @@ returns-in-Err-Memory-clause-refused g c =
     some_recorded g.T.Told.told c.args.self.now c.args.class.now (subst (λ (y : Shown). IsKept g.T.Told.told y) c.self.view_is c.self.invariant.kept)
     (subst (λ (f : LineageFault). Makes c.self.inside.config.value c.args.self.now.rows c.args.class.now (Err f)) c.in-Err-Memory.field-0-is c.in-Err-Memory.ensures)
 
-pub returns-in_default-clause-refused : goal.returns-in_default-clause-refused
-returns-in_default-clause-refused g c =
-    made_recorded g.T.Told.told c.args.self.now c.args.class.now c.in-Ok.made (subst (λ (y : Shown). IsKept g.T.Told.told y) c.self.view_is c.self.invariant.kept)
-    (subst (λ (k : Configured). IsMadeOf k c.args.self.now.rows c.args.class.now c.in-Ok.made) (ap (λ (y : Shown). y.config) c.self.view_is) c.in-Ok.ensures)
+pub returns-in-Ok-clause-recorded : goal.returns-in-Ok-clause-recorded
+returns-in-Ok-clause-recorded g c =
+    made_recorded g.T.Told.told c.args.self.now c.args.class.now c.in-Ok.lineage (subst (λ (y : Shown). IsKept g.T.Told.told y) c.self.view_is c.self.invariant.kept)
+    (subst (λ (k : Configured). IsMadeOf k c.args.self.now.rows c.args.class.now c.in-Ok.lineage) (ap (λ (y : Shown). y.config) c.self.view_is) c.in-Ok.ensures)
 
-pub returns-clause-recorded : goal.returns-clause-recorded
-returns-clause-recorded g c =
-    made_recorded g.T.Told.told c.args.self.now c.args.class.now c.in-Ok.made (subst (λ (y : Shown). IsKept g.T.Told.told y) c.self.view_is c.self.invariant.kept)
-    (subst (λ (k : Configured). IsMadeOf k c.args.self.now.rows c.args.class.now c.in-Ok.made) (ap (λ (y : Shown). y.config) c.self.view_is) c.in-Ok.ensures)
-
-pub returns-clause-traced : goal.returns-clause-traced
-returns-clause-traced g c =
-    subst (λ (l : Lined). IsTraced c.args.self.now c.args.class.now l) (sym c.in-Ok-new.ensures.ok)
-    (traced g.T.Told.told c.args.self.now c.args.class.now c.in-Ok.made (subst (λ (y : Shown). IsKept g.T.Told.told y) c.self.view_is c.self.invariant.kept)
-    (subst (λ (k : Configured). IsMadeOf k c.args.self.now.rows c.args.class.now c.in-Ok.made) (ap (λ (y : Shown). y.config) c.self.view_is) c.in-Ok.ensures))
+pub returns-in-Ok-clause-traced : goal.returns-in-Ok-clause-traced
+returns-in-Ok-clause-traced g c =
+    traced g.T.Told.told c.args.self.now c.args.class.now c.in-Ok.lineage (subst (λ (y : Shown). IsKept g.T.Told.told y) c.self.view_is c.self.invariant.kept)
+    (subst (λ (k : Configured). IsMadeOf k c.args.self.now.rows c.args.class.now c.in-Ok.lineage) (ap (λ (y : Shown). y.config) c.self.view_is) c.in-Ok.ensures)

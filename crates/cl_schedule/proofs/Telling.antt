@@ -61,7 +61,7 @@ told_later : {A : Type 0} (told : Option Content) (old new : Shown) (w : Waits) 
 told_later told old new (Looking l n) (reply.Looked (Some row)) h cited so = recorded_as_later old new l n row.value h.goes so
 told_later told old new (Defining d) (reply.Defined row) h cited so = recorded_as_later old new d.class.loader d.class.name row.value h.goes so
 told_later told old new (Initiating j) (reply.Initiated row) h cited so = recorded_as_later old new j.asked j.name row.value h.goes so
-told_later told old new (Tracing c) (reply.Lineage l) h cited so = record { config = so.config ∙ sym h.goes.config; class = so.class; rows = rows_later old new h.goes (rows_in l.value) so.rows }
+told_later told old new (Tracing c) (reply.Lineage l) h cited so = record { config = so.config ∙ sym h.goes.config; class = so.class; rows = rows_later old new h.goes (rows_in l) so.rows }
 told_later told old new (LookingReference c i) (reply.LookedReference (Some s)) h cited so = settled_in_later old new c i s.value h.goes so
 told_later told old new (Settling r) (reply.Settled s) h cited so = settled_of_later old new r s.value h.goes cited so
 told_later told old new (Imposing e k) reply.Imposed h cited so = imposed_later old new (slice_get e.needs k) h.goes so

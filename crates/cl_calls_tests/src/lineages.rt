@@ -172,7 +172,7 @@ pub fn lineage(
     alloc: Global,
     tables: &Registry<Untold>,
     class: u16,
-) -> Result<Arc<Lineage<Untold>>, AllocError> {
+) -> Result<Lineage<Untold>, AllocError> {
     let class = class_of(alloc, class)?;
     match tables.lineage(alloc, &class) {
         Ok(lineage) => Ok(lineage),
@@ -229,7 +229,7 @@ fn has_front(
 ) -> Result<bool, AllocError> {
     let of = class_of(alloc, of)?;
     let lineage = lineage(alloc, tables, class)?;
-    let found = lineage.front(alloc, place);
+    let found = lineage.front(place);
     drop(lineage);
     let Some(front) = found? else {
         return Ok(false);
@@ -281,6 +281,8 @@ fn ask_classes<R: Abort>(
     assert!(rt; has_superinterfaces(alloc, tables, 6003, &[6001, 6000, 6002])?);
     assert!(rt; has_front(alloc, tables, D, 4, D)?);
     assert!(rt; !has_front(alloc, tables, D, 3, J2)?);
+    assert!(rt; has_front(alloc, tables, 6001, 1, 6000)?);
+    assert!(rt; !has_front(alloc, tables, 6003, 2, 6001)?);
     assert!(rt; is_subclass(alloc, tables, QE, P)?);
     assert!(rt; !is_subclass(alloc, tables, QE, QE)?);
     Ok(())

@@ -173,7 +173,7 @@ impl<T: Told> Nearby<T> {
             (kin_of lineage.now)) }
     {
         let over = self.over.as_slice();
-        // else no superclass is looked at but for its loader
+        // only where a superinterface declares methods is a list of all superclasses made
         if !any_has_methods(over) {
             return Ok(());
         }

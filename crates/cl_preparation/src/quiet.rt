@@ -185,7 +185,7 @@ fn near_of<T: Told>(rows: &[Arc<ClassRow<T>>], own: LoaderId) -> &[Arc<ClassRow<
 
 /// Whether the superinterfaces of a class add nothing: all are of its loader, and where it is no interface, none of their
 /// methods stands over one that is inherited of another loader. What is asked is which loaders defined the superinterfaces
-/// that are named, and then the rows of the own loader: no superinterface is looked for (JVMS SE 8, 5.4.2).
+/// that are named, whether the rows are known to be unmixed, and else the rows of the own loader (JVMS SE 8, 5.4.2).
 fn are_quiet<T: Told>(
     alloc: Global,
     lineage: &Lineage<T>,

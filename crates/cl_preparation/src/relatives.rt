@@ -247,7 +247,7 @@ pub(crate) fn imposes_nothing<T: Told>(
 ) -> Result<bool, AllocError>
     ensures { IfOk result (λ b. b ≡ true → [] ≡ constraints_of (kin_of lineage.now)) }
 {
-    // first, since a look at each class above takes longer
+    // whatever stands above, a class that declares such a method may impose something
     let own = Relative::of(alloc, lineage.own())?;
     let methods = own.methods(alloc)?;
     if any_declared(&own, methods.as_slice()) {

@@ -10,7 +10,6 @@ use crate::lineage::Lineage;
 use cl_model::{Equality, LoaderId, Told};
 use cl_names::Name;
 use std::marker::Model;
-use std::sync::Arc;
 
 /// That two loaders have the same class of a name, the lesser loader first (JVMS SE 8, 5.3.4).
 pub fn equality(name: Name, one: LoaderId, other: LoaderId) -> Equality

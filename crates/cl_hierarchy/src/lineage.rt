@@ -1,14 +1,14 @@
 //! Lineages: a class with all that stands above it, and what is asked of them (JVMS SE 8, 5.3.5, 5.4.4).
 
-ghost use Rattle.std.specs.Prelude.{◌≡◌, [], filter, is_some, map, take, true, IfOk, IfSome};
+ghost use Rattle.std.specs.Prelude.{◌≡◌, filter, is_some, map, take, true, IfOk, IfSome};
 ghost use Rattle.std.specs.List.{AllByRecursion};
 ghost use Rattle.std.specs.Option.{option_map};
-ghost use Rattle.cl_model.specs.Lineages.{alone, first, is_subclass, once, superclasses, superinterfaces, upward};
+ghost use Rattle.cl_model.specs.Lineages.{alone, first, is_subclass, once, superclasses, superinterfaces};
 ghost use Rattle.cl_hierarchy.specs.Above.{AreOvers, IsUnmixed};
 ghost use Rattle.cl_hierarchy.specs.Fronts.{IsFront, IsOnStem};
 ghost use Rattle.cl_hierarchy.specs.Lineages.{IsLined, IsRowIn, field_order, is_of_other, kin_at, kin_of, reaches, rows_in};
 ghost use Rattle.cl_hierarchy.specs.Tours.{stops, told_at};
-ghost use Rattle.cl_hierarchy.specs.Trees.{SupersBefore, forest, kin_under, kins, superclass_in};
+ghost use Rattle.cl_hierarchy.specs.Trees.{kins, superclass_in};
 
 use crate::above::superclass_row;
 use crate::access::is_same;

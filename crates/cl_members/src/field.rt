@@ -9,7 +9,6 @@ use crate::owning::{field_flags, first_field};
 use cl_hierarchy::Lineage;
 use cl_model::Told;
 use std::alloc::Global;
-use std::sync::Arc;
 
 /// The field that an entry of the pool of the class of `d` asks for, which names the class of `c`: the class's own, else
 /// that of a superinterface, in file order and each with all above it, else that of the superclass likewise.

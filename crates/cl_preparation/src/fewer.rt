@@ -23,7 +23,6 @@ use crate::relatives::{all_of, imposes_nothing};
 use cl_hierarchy::{Equalities, Lineage};
 use cl_model::{Equality, LoaderId, Told};
 use std::alloc::{AllocError, Global};
-use std::sync::Arc;
 
 /// A class with what its methods are looked up in: its superclasses of other loaders than its own, nearest first, and its
 /// superinterfaces in preorder, or none where these add nothing.
@@ -44,10 +43,7 @@ impl<T: Told> Drop for Nearby<T> {
 }
 
 /// The superclasses of other loaders than the class's own, nearest first.
-fn away_of<T: Told>(
-    alloc: Global,
-    lineage: &Lineage<T>,
-) -> Result<Vec<Relative<T>>, AllocError>
+fn away_of<T: Told>(alloc: Global, lineage: &Lineage<T>) -> Result<Vec<Relative<T>>, AllocError>
     ensures classes { IfOk result (λ v. map (kin_at lineage.now) v.items
         ≡ filter (λ k. is_of_other (kin_of lineage.now).class.loader k.class)
         (superclasses (kin_of lineage.now))) }
@@ -216,10 +212,7 @@ impl<T: Told> Nearby<T> {
 }
 
 /// The few equalities that stand for all that the preparation of a class imposes.
-fn fewer_needs<T: Told>(
-    alloc: Global,
-    lineage: &Lineage<T>,
-) -> Result<Vec<Equality>, AllocError>
+fn fewer_needs<T: Told>(alloc: Global, lineage: &Lineage<T>) -> Result<Vec<Equality>, AllocError>
     ensures { IfOk result (λ v. needs_of v.items ≡ fewer_constraints_of
         (kin_of lineage.now)) }
 {

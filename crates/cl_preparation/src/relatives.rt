@@ -260,10 +260,7 @@ pub(crate) fn imposes_nothing<T: Told>(
 }
 
 /// The equalities that the preparation of a class imposes.
-fn needs_over<T: Told>(
-    alloc: Global,
-    lineage: &Lineage<T>,
-) -> Result<Vec<Equality>, AllocError>
+fn needs_over<T: Told>(alloc: Global, lineage: &Lineage<T>) -> Result<Vec<Equality>, AllocError>
     ensures { IfOk result (λ v. needs_of v.items ≡ constraints_of (kin_of lineage.now)) }
 {
     if imposes_nothing(alloc, lineage)? {

@@ -16,7 +16,6 @@ use cl_model::Told;
 use cl_names::{Name, Seed};
 use indexmap::{IndexMap, IndexSet};
 use std::alloc::{AllocError, Global};
-use std::sync::Arc;
 
 /// Names, each once.
 type Names = IndexSet<Name, Seed>;

@@ -292,10 +292,7 @@ pub(crate) fn take_traced<T: Told>(
 }
 
 /// Loading constraints of a class that stand for all of them, to be shared.
-fn list_of<T: Told>(
-    alloc: Global,
-    lineage: &Lineage<T>,
-) -> Result<Arc<Equalities<T>>, AllocError>
+fn list_of<T: Told>(alloc: Global, lineage: &Lineage<T>) -> Result<Arc<Equalities<T>>, AllocError>
     ensures { IfOk result (λ e. e.value.origin ≡ OfPreparation lineage.now) }
 {
     let list = fewer_constraints_of(alloc, lineage)?;

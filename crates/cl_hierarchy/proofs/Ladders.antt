@@ -21,7 +21,7 @@ use Rattle.cl_hierarchy.specs.declared.rung.Way.{Way}
 use Rattle.cl_hierarchy.proofs.Ends.{all_push}
 use Rattle.cl_hierarchy.proofs.Namings.{overs_push}
 use Rattle.cl_hierarchy.proofs.RowTables.{before_push}
-use Rattle.cl_hierarchy.proofs.Ways.{at_length, begins_push, lead_pop}
+use Rattle.cl_hierarchy.proofs.Ways.{at_length, begins_push, lead_pop, some_is}
 
 -- ---- marks more
 
@@ -45,9 +45,6 @@ has_more marks more bound (Some place) h = (h.0, (h.1.0, get_more marks more pla
 pub has_wider : (marks : List Mark) (bound wider : ℕ) (o : Option ℕ) → bound ≤ wider → HasRung marks bound o → HasRung marks wider o
 has_wider marks bound wider None le h = tt
 has_wider marks bound wider (Some place) le h = (let lt = h.0 in omega (arith, le, lt), h.1)
-
-some_is : {A : Type 0} (a b : A) → Some a ≡ Some b → a ≡ b
-some_is a b e = cc
 
 -- what was read of rows in memory
 pub read_at : {A : Type 0} (v : A → Rowed) (xs : List A) (rows : List Rowed) (i : ℕ) (x : A) → map v xs ≡ rows → i < length xs → x ≡ get_or xs i x → slice_get rows i ≡ Some (v x)

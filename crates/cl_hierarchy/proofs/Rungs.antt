@@ -19,12 +19,9 @@ use Rattle.cl_hierarchy.specs.declared.rung.Rung.{Rung}
 use Rattle.cl_hierarchy.proofs.Climbs.{placed_kin, placed_row}
 use Rattle.cl_hierarchy.proofs.Inside.{kin_inside, whole}
 use Rattle.cl_hierarchy.proofs.Ladders.{has_wider, rung_fact}
-use Rattle.cl_hierarchy.proofs.Ways.{at_length, take_length, take_many}
+use Rattle.cl_hierarchy.proofs.Ways.{at_length, some_is, take_length, take_many}
 
 -- ---- rows up to a place
-
-some_is : {A : Type 0} (a b : A) → Some a ≡ Some b → a ≡ b
-some_is a b e = cc
 
 none_of : {A : Type 0} (xs : List A) → take 0 xs ≡ []
 none_of [] = refl

@@ -38,7 +38,7 @@ take_length {A} [] later = first later
     first (x ∷ xs) = refl
 take_length (x ∷ earlier) later = ap (λ xs. x ∷ xs) (take_length earlier later)
 
-some_is : {A : Type 0} (a b : A) → Some a ≡ Some b → a ≡ b
+pub some_is : {A : Type 0} (a b : A) → Some a ≡ Some b → a ≡ b
 some_is a b e = cc
 
 -- the last of these stands at the place before their number

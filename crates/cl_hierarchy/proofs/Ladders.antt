@@ -253,7 +253,7 @@ climbed_first {A} v told x place own found next none h has goes =
     there : (r : Rowed) × (slice_get x.rows place ≡ Some r)
     there = row_there x.rows place (let within = slice_get_within x.marks place has.1.0 has.1.1 in let few = h.few in omega (arith, within, few))
 
-module _ {A : Type 0} (v : A → Rowed) (x : Laddered) (place : ℕ) (own : Option ℕ) (found rows : List A) (far next : Option ℕ) (at : ℕ) (row : A) (h : Climbed x place own (map v found) far) (is : far ≡ Some at) (same : map v rows ≡ x.rows) (within : at < length rows) (read : row ≡ get_or rows at row)
+module _ {A B : Type 0} (w : B → Rowed) (v : A → Rowed) (x : Laddered) (place : ℕ) (own : Option ℕ) (found : List B) (rows : List A) (far next : Option ℕ) (at : ℕ) (row : A) (h : Climbed x place own (map w found) far) (is : far ≡ Some at) (same : map v rows ≡ x.rows) (within : at < length rows) (read : row ≡ get_or rows at row)
     (goes : GoesOn x own at next) where
   abbrev r : Rowed
   r = v row
@@ -274,7 +274,7 @@ module _ {A : Type 0} (v : A → Rowed) (x : Laddered) (place : ℕ) (own : Opti
       less None k = omega arith
       less (Some p) k = let lt = k.0 in omega (arith, lt)
 
-  more : Climbed x place own (map v found ++ v row ∷ []) next
+  more : Climbed x place own (map w found ++ v row ∷ []) next
   more = record {
     others = λ s below.
         let so = h.others s below in
@@ -282,19 +282,19 @@ module _ {A : Type 0} (v : A → Rowed) (x : Laddered) (place : ℕ) (own : Opti
         let is_row : now.0 ≡ v row = some_is now.0 (v row) (sym now.1 ∙ there) in (
           above_in x.rows (v row),
           on.0,
-          ap (λ (ks : List Kin). ks ++ others_of own (above_in x.rows (v row))) (map_push (kin_under (kins x.rows)) (map v found) (v row))
-              ∙ append_assoc (map (kin_under (kins x.rows)) (map v found)) (kin_under (kins x.rows) (v row) ∷ []) (others_of own (above_in x.rows (v row)))
-              ∙ ap (λ (y : Rowed). map (kin_under (kins x.rows)) (map v found) ++ kin_under (kins x.rows) y ∷ others_of own (above_in x.rows y)) (sym is_row)
-              ∙ ap (λ (ks : List Kin). map (kin_under (kins x.rows)) (map v found) ++ ks) (sym now.2) ∙ so.2,
+          ap (λ (ks : List Kin). ks ++ others_of own (above_in x.rows (v row))) (map_push (kin_under (kins x.rows)) (map w found) (v row))
+              ∙ append_assoc (map (kin_under (kins x.rows)) (map w found)) (kin_under (kins x.rows) (v row) ∷ []) (others_of own (above_in x.rows (v row)))
+              ∙ ap (λ (y : Rowed). map (kin_under (kins x.rows)) (map w found) ++ kin_under (kins x.rows) y ∷ others_of own (above_in x.rows y)) (sym is_row)
+              ∙ ap (λ (ks : List Kin). map (kin_under (kins x.rows)) (map w found) ++ ks) (sym now.2) ∙ so.2,
         );
-    rows_are = all_push (IsEarlier x.rows place) (map v found) (v row) h.rows_are (at, here.0, there);
+    rows_are = all_push (IsEarlier x.rows place) (map w found) (v row) h.rows_are (at, here.0, there);
     has = has_wider x.marks at place next (let lt = here.0 in omega (arith, lt)) on.1;
   }
 
-  pub climbed_next : (new : List A) (clone : A) → new ≡ found ++ clone ∷ [] → v clone ≡ v row → Climbed x place own (map v new) next
-  climbed_next new clone pushed cloned =
+  pub climbed_next : (new : List B) (pushed : B) → new ≡ found ++ pushed ∷ [] → w pushed ≡ v row → Climbed x place own (map w new) next
+  climbed_next new pushed one same_row =
       subst (λ (rs : List Rowed). Climbed x place own rs next)
-      (ap (λ (y : Rowed). map v found ++ y ∷ []) (sym cloned) ∙ sym (map_push v found clone) ∙ ap (λ (xs : List A). map v xs) (sym pushed)) more
+      (ap (λ (y : Rowed). map w found ++ y ∷ []) (sym same_row) ∙ sym (map_push w found pushed) ∙ ap (λ (xs : List B). map w xs) (sym one)) more
 
 -- ---- the mark of a way
 

@@ -211,25 +211,46 @@ impl<T: Told> Ladder<T> {
         Ok(())
     }
 
-    /// The rows of the superclasses of the class at a place, nearest first: all of them, or those that another loader than
-    /// this defined.
+    /// The rows of the superclasses of the class at a place, nearest first.
     pub fn superclasses_at(
         &self,
         alloc: Global,
         place: usize,
-        own: Option<LoaderId>,
     ) -> Result<Vec<Arc<ClassRow<T>>>, AllocError>
         requires { HasRung self.now.marks (place + 1) (Some place) }
         ensures superclasses { (r : Rowed) → slice_get self.now.rows place ≡ Some r
-            → IfOk result (λ v. AreOthers self.now place own r (map (λ x. x.value) v.items)) }
+            → IfOk result (λ v. AreOthers self.now place None r (map (λ x. x.value) v.items)) }
         ensures kept { IsLadder T.told self.now }
     {
         let mut found = Vec::new(alloc);
-        let mut next = self.next_above(own, place);
+        let mut next = self.next_above(None, place);
         while let Some(place) = next {
             let row = &self.rows()[place];
             found.push(Arc::try_clone(row)?)?;
-            next = self.next_above(own, place);
+            next = self.next_above(None, place);
+        }
+        Ok(found)
+    }
+
+    /// The rows of those superclasses of the class at a place that another loader than this defined, nearest first.
+    pub fn others_at(
+        &self,
+        alloc: Global,
+        place: usize,
+        own: LoaderId,
+    ) -> Result<Vec<&Arc<ClassRow<T>>>, AllocError>
+        requires { HasRung self.now.marks (place + 1) (Some place) }
+        ensures superclasses { (r : Rowed) → slice_get self.now.rows place ≡ Some r
+            → IfOk result (λ v. AreOthers self.now place (Some own) r
+            (map (λ x. x.now.value) v.items)) }
+        ensures kept { IsLadder T.told self.now }
+    {
+        let mut found = Vec::new(alloc);
+        let mut next = self.next_above(Some(own), place);
+        while let Some(place) = next {
+            let row = &self.rows()[place];
+            found.push(row)?;
+            next = self.next_above(Some(own), place);
         }
         Ok(found)
     }

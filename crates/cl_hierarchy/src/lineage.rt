@@ -233,20 +233,23 @@ impl<T: Told> Lineage<T> {
         ensures rows { IfOk result (λ v. AllByRecursion (λ r. IsRowIn (rows_in self.now) r.value)
             v.items) }
     {
-        self.ladder.superclasses_at(alloc, self.place, None)
+        self.ladder.superclasses_at(alloc, self.place)
     }
 
     /// The rows of the superclasses that another loader than the class's own defined, nearest first (JVMS SE 8, 4.1, 5.3),
-    /// in time linear in their number.
-    pub fn superclasses_of_others(&self, alloc: Global) -> Result<Vec<Arc<ClassRow<T>>>, AllocError>
-        ensures superclasses { IfOk result (λ v. map (λ r. kin_at self.now r.value) v.items
+    /// in time linear in their number. The rows are those of the lineage, and no handle on one is made.
+    pub fn superclasses_of_others(
+        &self,
+        alloc: Global,
+    ) -> Result<Vec<&Arc<ClassRow<T>>>, AllocError>
+        ensures superclasses { IfOk result (λ v. map (λ r. kin_at self.now r.now.value) v.items
             ≡ filter (λ k. is_of_other self.now.own.class.loader k.class)
             (superclasses (kin_of self.now))) }
-        ensures rows { IfOk result (λ v. AllByRecursion (λ r. IsRowIn (rows_in self.now) r.value)
-            v.items) }
+        ensures rows { IfOk result (λ v. AllByRecursion
+            (λ r. IsRowIn (rows_in self.now) r.now.value) v.items) }
     {
         let own = self.own.class().loader;
-        self.ladder.superclasses_at(alloc, self.place, Some(own))
+        self.ladder.others_at(alloc, self.place, own)
     }
 
     /// Whether the class has another as a proper superclass (JVMS SE 8, 4.1). Takes no memory; time linear in the rows.

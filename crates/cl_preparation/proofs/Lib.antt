@@ -1,3 +1,4 @@
+pub mod Beyond
 pub mod Constraints
 pub mod Declared
 pub mod Filters

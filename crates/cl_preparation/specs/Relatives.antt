@@ -29,6 +29,12 @@ abbrev pub AreNames : List Member → Option (List Bool) → Type 0
 AreNames ms None = ⊤
 AreNames ms (Some names) = Covers names ms
 
+-- each filter, if it is one, is of the names of the methods of the class at its place
+abbrev pub AreFilters : List (Option (List Bool)) → List Rowed → Type 0
+AreFilters [] rs = ⊤
+AreFilters (f ∷ fs) [] = ⊤
+AreFilters (f ∷ fs) (r ∷ rs) = AreNames (file_of r.file).methods f × AreFilters fs rs
+
 -- the class of a row names a superinterface (4.1, interfaces)
 abbrev pub names_interfaces : Rowed → Bool
 names_interfaces r = is_some (slice_get (file_of r.file).interfaces 0)

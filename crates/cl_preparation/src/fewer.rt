@@ -12,6 +12,7 @@ ghost use Rattle.cl_preparation.specs.Nearby.{AreNear, near_declared, near_loade
 ghost use Rattle.cl_preparation.specs.Relatives.{bare};
 ghost use Rattle.cl_preparation.specs.Walks.{opens};
 
+use crate::away::Away;
 use crate::described::Described;
 use crate::inherited::Inheritance;
 use crate::key::MethodKey;
@@ -19,20 +20,23 @@ use crate::listed::{list_others, push_listed};
 use crate::method::Method;
 use crate::quiet::over_of;
 use crate::relative::Relative;
-use crate::relatives::{all_of, imposes_nothing};
+use crate::relatives::{all_of, has_none_over, imposes_nothing};
 use cl_hierarchy::{Equalities, Lineage};
 use cl_model::{Equality, LoaderId, Told};
 use std::alloc::{AllocError, Global};
 
+/// So many methods are looked up in a class as soon as its filter would be made.
+const FEW_LOOKS: usize = 4;
+
 /// A class with what its methods are looked up in: its superclasses of other loaders than its own, nearest first, and its
 /// superinterfaces in preorder, or none where these add nothing.
-struct Nearby<T: Told> {
+struct Nearby<'a, T: Told> {
     own: Relative<T>,
-    away: Vec<Relative<T>>,
+    away: Away<'a, T>,
     over: Vec<Relative<T>>,
 }
 
-impl<T: Told> Drop for Nearby<T> {
+impl<'a, T: Told> Drop for Nearby<'a, T> {
     fn drop(self) {
         let Nearby {
             own: _,
@@ -43,16 +47,18 @@ impl<T: Told> Drop for Nearby<T> {
 }
 
 /// The superclasses of other loaders than the class's own, nearest first.
-fn away_of<T: Told>(alloc: Global, lineage: &Lineage<T>) -> Result<Vec<Relative<T>>, AllocError>
-    ensures classes { IfOk result (λ v. map (kin_at lineage.now) v.items
+fn away_of<T: Told>(alloc: Global, lineage: &Lineage<T>) -> Result<Away<'_, T>, AllocError>
+    ensures classes { IfOk result (λ a. map (kin_at lineage.now) a
         ≡ filter (λ k. is_of_other (kin_of lineage.now).class.loader k.class)
         (superclasses (kin_of lineage.now))) }
-    ensures rows { IfOk result (λ v. AllByRecursion (IsRowIn (rows_in lineage.now)) v.items) }
+    ensures rows { IfOk result (λ a. AllByRecursion (IsRowIn (rows_in lineage.now)) a) }
 {
     // mostly one: all but java/lang/Object are of one loader
     let rows = lineage.superclasses_of_others(alloc)?;
-    let all = all_of(alloc, rows.as_slice())?;
-    Ok(all)
+    // (the methods of superinterfaces are looked up in them too)
+    let little = lineage.own().file().methods().len() <= FEW_LOOKS && has_none_over(lineage);
+    let away = Away::of(alloc, rows, little)?;
+    Ok(away)
 }
 
 /// Whether one of these classes declares methods.
@@ -67,13 +73,13 @@ fn any_has_methods<T: Told>(classes: &[Relative<T>]) -> bool
     false
 }
 
-impl<T: Told> Nearby<T> {
+impl<'a, T: Told> Nearby<'a, T> {
     /// The class of a lineage.
-    fn of(alloc: Global, lineage: &Lineage<T>) -> Result<Nearby<T>, AllocError>
-        ensures { IfOk result (λ n. AreNear lineage.now n.own n.away.items n.over.items) }
+    fn of(alloc: Global, lineage: &'a Lineage<T>) -> Result<Nearby<'a, T>, AllocError>
+        ensures { IfOk result (λ n. AreNear lineage.now n.own n.away n.over.items) }
     {
         let away = away_of(alloc, lineage)?;
-        let over = over_of(alloc, lineage, away.as_slice())?;
+        let over = over_of(alloc, lineage, &away)?;
         let own = Relative::of(alloc, lineage.own())?;
         Ok(Nearby { own, away, over })
     }
@@ -83,29 +89,24 @@ impl<T: Told> Nearby<T> {
     fn list_above(&self, listed: &mut Vec<LoaderId>, key: &MethodKey) -> Result<(), AllocError>
         ensures { OnOk result (listed.new.items ≡ listed.old.items ++ others_after
             self.now.own.class.loader listed.old.items (if is_interface (file_of self.now.own.file)
-            then [] else loaders (filter (opens key.now) (map bare self.now.away.items)))) }
+            then [] else loaders (filter (opens key.now) (map bare self.now.away)))) }
     {
         if self.own.is_interface() {
             return Ok(());
         }
-        list_others(listed, self.own.loader(), true, key, self.away.as_slice())
+        self.away.list_open(listed, self.own.loader(), key)
     }
 
     /// The other loaders of what a method with this key overrides, each once: those of superclasses, nearest first, then those
     /// of superinterfaces. What is overridden for its package alone is of a loader that is listed (JVMS SE 8, 5.4.5).
     fn loaders_over(&self, alloc: Global, key: &MethodKey) -> Result<Vec<LoaderId>, AllocError>
-        ensures { IfOk result (λ v. v.items ≡ near_loaders self.now.own self.now.away.items
+        ensures { IfOk result (λ v. v.items ≡ near_loaders self.now.own self.now.away
             self.now.over.items key.now) }
     {
         let mut listed = Vec::new(alloc);
         self.list_above(&mut listed, key)?;
-        list_others(
-            &mut listed,
-            self.own.loader(),
-            false,
-            key,
-            self.over.as_slice(),
-        )?;
+        let own = self.own.loader();
+        list_others(&mut listed, own, key, self.over.as_slice())?;
         Ok(listed)
     }
 
@@ -117,7 +118,7 @@ impl<T: Told> Nearby<T> {
         method: &Method,
     ) -> Result<(), AllocError>
         ensures { OnOk result (needs_of needs.new.items ≡ needs_of needs.old.items ++ near_declared
-            self.now.own self.now.away.items self.now.over.items method.now) }
+            self.now.own self.now.away self.now.over.items method.now) }
     {
         let key = method.key();
         if !self.own.takes_part(key) {
@@ -147,7 +148,7 @@ impl<T: Told> Nearby<T> {
         methods: &[Method],
     ) -> Result<(), AllocError>
         ensures { OnOk result (needs_of needs.new.items ≡ needs_of needs.old.items ++ flat_map
-            (near_declared self.now.own self.now.away.items self.now.over.items) methods.now) }
+            (near_declared self.now.own self.now.away self.now.over.items) methods.now) }
     {
         for method in methods {
             self.push_declared(alloc, needs, method)?;
@@ -162,7 +163,7 @@ impl<T: Told> Nearby<T> {
         needs: &mut Vec<Equality>,
         lineage: &Lineage<T>,
     ) -> Result<(), AllocError>
-        requires near { AreNear lineage.now self.now.own self.now.away.items
+        requires near { AreNear lineage.now self.now.own self.now.away
             self.now.over.items }
         requires class { is_interface (file_of self.now.own.file) ≡ false }
         ensures { OnOk result (needs_of needs.new.items ≡ needs_of needs.old.items ++ fewer_second
@@ -175,7 +176,7 @@ impl<T: Told> Nearby<T> {
         }
         let rows = lineage.superclasses(alloc)?;
         let above = all_of(alloc, rows.as_slice())?;
-        let inherited = Inheritance::of(&self.own, above.as_slice(), Some(self.away.as_slice()));
+        let inherited = Inheritance::of(&self.own, above.as_slice(), Some(&self.away));
         inherited.push_interfaces(alloc, needs, over)
     }
 
@@ -186,7 +187,7 @@ impl<T: Told> Nearby<T> {
         needs: &mut Vec<Equality>,
         lineage: &Lineage<T>,
     ) -> Result<(), AllocError>
-        requires { AreNear lineage.now self.now.own self.now.away.items self.now.over.items }
+        requires { AreNear lineage.now self.now.own self.now.away self.now.over.items }
         ensures { OnOk result (needs_of needs.new.items ≡ needs_of needs.old.items
             ++ (if is_interface (file_of self.now.own.file) then [] else fewer_second
             (kin_of lineage.now))) }
@@ -199,7 +200,7 @@ impl<T: Told> Nearby<T> {
 
     /// What the preparation of the class of this lineage imposes, each other loader once for a method.
     fn needs(&self, alloc: Global, lineage: &Lineage<T>) -> Result<Vec<Equality>, AllocError>
-        requires { AreNear lineage.now self.now.own self.now.away.items self.now.over.items }
+        requires { AreNear lineage.now self.now.own self.now.away self.now.over.items }
         ensures { IfOk result (λ v. needs_of v.items
             ≡ fewer_constraints_of (kin_of lineage.now)) }
     {

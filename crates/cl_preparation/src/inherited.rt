@@ -8,6 +8,7 @@ ghost use Rattle.cl_preparation.specs.Fewer.{other_than};
 ghost use Rattle.cl_preparation.specs.Inherited.{away_from, first_loader, inherited_by_rows, loader_with, second_by_rows};
 ghost use Rattle.cl_preparation.specs.Relatives.{bare};
 
+use crate::away::Away;
 use crate::described::{Described, push_equals};
 use crate::key::MethodKey;
 use crate::method::Method;
@@ -24,7 +25,7 @@ use std::marker::Model;
 pub(crate) struct Inheritance<'a, T: Told> {
     own: &'a Relative<T>,
     above: &'a [Relative<T>],
-    away: Option<&'a [Relative<T>]>,
+    away: Option<&'a Away<'a, T>>,
 }
 
 impl<'a, T: Told> Model for Inheritance<'a, T> {
@@ -53,7 +54,7 @@ impl<'a, T: Told> Inheritance<'a, T> {
     pub fn of(
         own: &'a Relative<T>,
         above: &'a [Relative<T>],
-        away: Option<&'a [Relative<T>]>,
+        away: Option<&'a Away<'a, T>>,
     ) -> Inheritance<'a, T>
         requires { IfSome away (λ rs. rs.now ≡ away_from own.now.class.loader above.now) }
         ensures { result ≡ record { own = own.now; above = above.now; few = is_some away.entry } }
@@ -64,17 +65,17 @@ impl<'a, T: Told> Inheritance<'a, T> {
     /// Whether a superclass of another loader may declare such a method. Of the nearest superclasses as many are looked at
     /// first as are of other loaders: one that declares it would end the search for it as early.
     #[tactic(auto, using(crate::proofs::Nearby::length_away))]
-    fn may_differ(&self, away: &[Relative<T>], key: &MethodKey) -> bool
+    fn may_differ(&self, away: &Away<'_, T>, key: &MethodKey) -> bool
         requires { away.now ≡ away_from self.now.own.class.loader self.now.above }
         ensures { result ≡ false → list_any (λ r. is_offered key.now (bare r)) away.now ≡ false }
     {
         let near = &self.above[..away.len()];
-        any_offers(near, key) || any_offers(away, key)
+        any_offers(near, key) || away.any_offers(key)
     }
 
     /// The loader of the nearest superclass that declares such a method, if it is another than this.
     #[tactic(auto, using(crate::proofs::Nearby::none_differs))]
-    fn other_loader(&self, away: &[Relative<T>], of: LoaderId, key: &MethodKey) -> Option<LoaderId>
+    fn other_loader(&self, away: &Away<'_, T>, of: LoaderId, key: &MethodKey) -> Option<LoaderId>
         requires { away.now ≡ away_from self.now.own.class.loader self.now.above }
         ensures { result ≡ other_than of (first_loader key.now self.now.above) }
     {

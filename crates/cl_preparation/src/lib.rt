@@ -2,6 +2,7 @@
 //! 8, 5.4.2, 5.4.5).
 #![tactic(auto)]
 
+mod away;
 mod declarers;
 mod described;
 mod fewer;

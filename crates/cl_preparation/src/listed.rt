@@ -2,11 +2,10 @@
 
 ghost use Rattle.std.specs.Prelude.{◌≡◌, ◌==◌, ◌&&◌, ◌++◌, map, filter, flat_map, OnOk};
 ghost use Rattle.std.specs.List.{list_any};
-ghost use Rattle.cl_model.specs.Preparation.{equals_of};
+ghost use Rattle.cl_model.specs.Preparation.{equals_of, takes_part};
 ghost use Rattle.cl_hierarchy.specs.Imposed.{needs_of};
 ghost use Rattle.cl_preparation.specs.Fewer.{is_new, loaders, others_after};
 ghost use Rattle.cl_preparation.specs.Relatives.{bare};
-ghost use Rattle.cl_preparation.specs.Walks.{counts};
 
 use crate::described::{Described, push_equals};
 use crate::key::MethodKey;
@@ -22,53 +21,34 @@ fn is_listed(listed: &[LoaderId], loader: LoaderId) -> bool
 }
 
 /// Whether a loader is another than the own one, and none of these.
-fn is_new(own: LoaderId, listed: &[LoaderId], loader: LoaderId) -> bool
+pub(crate) fn is_new(own: LoaderId, listed: &[LoaderId], loader: LoaderId) -> bool
     ensures { result ≡ is_new own listed.now loader }
 {
     own != loader && !is_listed(listed, loader)
 }
 
-/// Whether a class declares a method with this key that takes part, and which is public or protected where that is asked.
-fn counts<T: Told>(only_open: bool, key: &MethodKey, class: &Relative<T>) -> bool
-    ensures { result ≡ counts only_open key.now (bare class.now) }
-{
-    if only_open {
-        class.is_open(key)
-    } else {
-        class.takes_part(key)
-    }
-}
-
-/// Whether the loader of a class is new, and it declares such a method.
-fn adds<T: Told>(
-    own: LoaderId,
-    listed: &[LoaderId],
-    only_open: bool,
-    key: &MethodKey,
-    class: &Relative<T>,
-) -> bool
-    ensures { result ≡ (is_new own listed.now class.now.class.loader && counts only_open key.now
+/// Whether the loader of a class is new, and it declares a method with this key that takes part.
+fn adds<T: Told>(own: LoaderId, listed: &[LoaderId], key: &MethodKey, class: &Relative<T>) -> bool
+    ensures { result ≡ (is_new own listed.now class.now.class.loader && takes_part key.now
         (bare class.now)) }
 {
     // first, since a look at its methods takes longer
-    is_new(own, listed, class.loader()) && counts(only_open, key, class)
+    is_new(own, listed, class.loader()) && class.takes_part(key)
 }
 
-/// Lists, once each, the other loaders of those of these classes that declare a method with this key which takes part, and
-/// which is public or protected where that is asked.
+/// Lists, once each, the other loaders of those of these classes that declare a method with this key which takes part.
 #[tactic(auto, using(crate::proofs::Nearby::listed_end))]
 pub(crate) fn list_others<T: Told>(
     listed: &mut Vec<LoaderId>,
     own: LoaderId,
-    only_open: bool,
     key: &MethodKey,
     classes: &[Relative<T>],
 ) -> Result<(), AllocError>
     ensures { OnOk result (listed.new.items ≡ listed.old.items ++ others_after own
-        listed.old.items (loaders (filter (counts only_open key.now) (map bare classes.now)))) }
+        listed.old.items (loaders (filter (takes_part key.now) (map bare classes.now)))) }
 {
     for class in classes {
-        if adds(own, listed.as_slice(), only_open, key, class) {
+        if adds(own, listed.as_slice(), key, class) {
             listed.push(class.loader())?;
         }
     }

@@ -12,6 +12,7 @@ ghost use Rattle.cl_preparation.specs.Nearby.{AddAll};
 ghost use Rattle.cl_preparation.specs.Quiet.{is_heard, is_silent, names_other};
 ghost use Rattle.cl_preparation.specs.Relatives.{bare};
 
+use crate::away::Away;
 use crate::key::MethodKey;
 use crate::method::Method;
 use crate::relative::Relative;
@@ -58,14 +59,14 @@ pub(crate) fn any_offers<T: Told>(classes: &[Relative<T>], key: &MethodKey) -> b
 }
 
 /// Whether a method of a class takes part in overriding, and one of `away` declares such a method.
-fn is_heard<T: Told>(away: &[Relative<T>], class: &Relative<T>, method: &Method) -> bool
+fn is_heard<T: Told>(away: &Away<'_, T>, class: &Relative<T>, method: &Method) -> bool
     ensures { result ≡ is_heard away.now class.now method.now }
 {
-    class.takes_part(method.key()) && any_offers(away, method.key())
+    class.takes_part(method.key()) && away.any_offers(method.key())
 }
 
 /// Whether one of these methods of a class is.
-fn any_heard<T: Told>(away: &[Relative<T>], class: &Relative<T>, methods: &[Method]) -> bool
+fn any_heard<T: Told>(away: &Away<'_, T>, class: &Relative<T>, methods: &[Method]) -> bool
     ensures { result ≡ list_any (is_heard away.now class.now) methods.now }
 {
     methods.iter().any(|method| is_heard(away, class, method))
@@ -75,7 +76,7 @@ fn any_heard<T: Told>(away: &[Relative<T>], class: &Relative<T>, methods: &[Meth
 #[tactic(auto, using(crate::proofs::Silence::none_heard))]
 fn has_heard<T: Told>(
     alloc: Global,
-    away: &[Relative<T>],
+    away: &Away<'_, T>,
     row: &Arc<ClassRow<T>>,
 ) -> Result<bool, AllocError>
     ensures { IfOk result (λ b. b ≡ list_any (is_heard away.now row.now.value)
@@ -122,7 +123,7 @@ fn left_behind<T: Told>(
     own: LoaderId,
     near: &[Arc<ClassRow<T>>],
     left: usize,
-    away: &[Relative<T>],
+    away: &Away<'_, T>,
     row: &Arc<ClassRow<T>>,
 ) -> Result<Option<usize>, AllocError>
     requires { left ≤ length near.now }
@@ -148,7 +149,7 @@ fn are_silent<T: Told>(
     alloc: Global,
     own: LoaderId,
     near: &[Arc<ClassRow<T>>],
-    away: &[Relative<T>],
+    away: &Away<'_, T>,
     rows: &[Arc<ClassRow<T>>],
 ) -> Result<bool, AllocError>
     ensures { IfOk result (λ b. b ≡ true → AllByRecursion (λ r. is_silent own
@@ -189,7 +190,7 @@ fn near_of<T: Told>(rows: &[Arc<ClassRow<T>>], own: LoaderId) -> &[Arc<ClassRow<
 fn are_quiet<T: Told>(
     alloc: Global,
     lineage: &Lineage<T>,
-    away: &[Relative<T>],
+    away: &Away<'_, T>,
 ) -> Result<bool, AllocError>
     requires classes { map (kin_at lineage.now) away.now ≡ filter
         (λ k. is_of_other (kin_of lineage.now).class.loader k.class)
@@ -222,7 +223,7 @@ fn are_quiet<T: Told>(
 pub(crate) fn over_of<T: Told>(
     alloc: Global,
     lineage: &Lineage<T>,
-    away: &[Relative<T>],
+    away: &Away<'_, T>,
 ) -> Result<Vec<Relative<T>>, AllocError>
     requires classes { map (kin_at lineage.now) away.now ≡ filter
         (λ k. is_of_other (kin_of lineage.now).class.loader k.class)

@@ -6,7 +6,7 @@ ghost use Rattle.cl_model.specs.Lineages.{is_offered, is_virtual, method_of};
 ghost use Rattle.cl_model.specs.Preparation.{takes_part};
 ghost use Rattle.cl_preparation.specs.Methods.{is_wide};
 ghost use Rattle.cl_preparation.specs.Relatives.{AreNames, bare, names_interfaces};
-ghost use Rattle.cl_preparation.specs.Walks.{is_closed, opening, opens};
+ghost use Rattle.cl_preparation.specs.Walks.{is_closed, opening};
 
 use crate::filter::NameFilter;
 use crate::key::MethodKey;
@@ -56,7 +56,7 @@ pub(crate) fn names_interfaces<T: Told>(row: &ClassRow<T>) -> bool
 }
 
 /// The filter of the names of a file's methods, where these are more than a look at each would take.
-fn names_of(alloc: Global, file: &ClassFile) -> Result<Option<NameFilter>, AllocError>
+pub(crate) fn names_of(alloc: Global, file: &ClassFile) -> Result<Option<NameFilter>, AllocError>
     ensures { IfOk result (AreNames (file_of file.now).methods) }
 {
     if file.methods().len() <= FEW_METHODS {
@@ -74,6 +74,22 @@ fn opening(is_special: bool, flags: u16) -> Option<bool>
         return None;
     }
     Some(is_wide(flags))
+}
+
+/// The flags of the method with this key, if a class declares one. A filter, where there is one, is of its methods' names.
+#[tactic(auto, using(crate::proofs::Declared::flags_keyed, crate::proofs::Filters::flags_free))]
+pub(crate) fn flags_with<T: Told>(
+    row: &ClassRow<T>,
+    names: Option<&NameFilter>,
+    key: &MethodKey,
+) -> Option<u16>
+    requires { AreNames (file_of row.now.file).methods (option_map (λ f. f.now) names) }
+    ensures { result ≡ option_map (λ m. m.flags) (method_of (bare row.now) key.now) }
+{
+    match names {
+        Some(names) if !names.passes(key.name()) => None,
+        _ => flags(row, key.name(), key.descriptor()),
+    }
 }
 
 impl<T: Told> Relative<T> {
@@ -124,14 +140,10 @@ impl<T: Told> Relative<T> {
     }
 
     /// The flags of the method with this key, if it declares one.
-    #[tactic(auto, using(crate::proofs::Declared::flags_keyed, crate::proofs::Filters::flags_free))]
     fn flags(&self, key: &MethodKey) -> Option<u16>
         ensures { result ≡ option_map (λ m. m.flags) (method_of (bare self.now) key.now) }
     {
-        match &self.names {
-            Some(names) if !names.passes(key.name()) => None,
-            _ => flags(&self.row, key.name(), key.descriptor()),
-        }
+        flags_with(&self.row, self.names.as_ref(), key)
     }
 
     /// Whether it declares a method with this key.
@@ -169,17 +181,6 @@ impl<T: Told> Relative<T> {
         match self.flags(key) {
             Some(flags) => opening(key.is_special(), flags),
             None => None,
-        }
-    }
-
-    /// Whether it declares a method with this key that takes part in overriding, and is public or protected (JVMS SE 8, 5.4.5).
-    #[tactic(auto, using(crate::proofs::Declared::opened_wide))]
-    pub fn is_open(&self, key: &MethodKey) -> bool
-        ensures { result ≡ opens key.now (bare self.now) }
-    {
-        match self.opens(key) {
-            Some(is_open) => is_open,
-            None => false,
         }
     }
 

@@ -1,4 +1,4 @@
-use Rattle.std.proofs.Common.{filter}
+use Rattle.std.proofs.Common.{filter, refl}
 use Rattle.cl_model.specs.Lineages.{superclasses}
 use Rattle.cl_hierarchy.specs.Lineages.{is_of_other}
 use Rattle.cl_preparation.proofs.Constraints.{mapped_in, mapped_rows}
@@ -6,10 +6,9 @@ use Rattle.cl_preparation.proofs.fewer.away_of.Goals as goal
 
 pub returns-clause-classes : goal.returns-clause-classes
 returns-clause-classes g c =
-    mapped_rows (λ r. r.value) (λ k. filter (λ x. is_of_other k.class.loader x.class) (superclasses k)) c.args.lineage.now c.in_ok-rows.rows.items c.as_slice.result.now c.in_ok-all.all.items
-    c.as_slice.ensures.value c.in_ok-all.ensures c.in_ok-rows.ensures.superclasses
+    mapped_rows (λ r. r.now.value) (λ k. filter (λ x. is_of_other k.class.loader x.class) (superclasses k)) c.args.lineage.now c.in_ok-rows.rows.items c.in_ok-rows.rows.items c.in_ok-away.away
+    refl c.in_ok-away.ensures c.in_ok-rows.ensures.superclasses
 
 pub returns-clause-rows : goal.returns-clause-rows
 returns-clause-rows g c =
-    mapped_in (λ r. r.value) c.args.lineage.now c.in_ok-rows.rows.items c.as_slice.result.now c.in_ok-all.all.items
-    c.as_slice.ensures.value c.in_ok-all.ensures c.in_ok-rows.ensures.rows
+    mapped_in (λ r. r.now.value) c.args.lineage.now c.in_ok-rows.rows.items c.in_ok-rows.rows.items c.in_ok-away.away refl c.in_ok-away.ensures c.in_ok-rows.ensures.rows

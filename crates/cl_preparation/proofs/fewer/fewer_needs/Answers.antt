@@ -1,7 +1,6 @@
 use Rattle.std.proofs.Common.{ap, ◌∙◌}
-use Rattle.cl_model.specs.Preparation.{constraints_of}
 use Rattle.cl_hierarchy.specs.Imposed.{needs_of}
-use Rattle.cl_hierarchy.specs.Lineages.{Lined, kin_of}
+use Rattle.cl_hierarchy.specs.Lineages.{kin_of}
 use Rattle.cl_preparation.proofs.Nearby.{none_fewer}
 use Rattle.cl_preparation.proofs.fewer.fewer_needs.Goals as goal
 

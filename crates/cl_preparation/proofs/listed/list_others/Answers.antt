@@ -1,12 +1,12 @@
 use Rattle.std.proofs.Common.{rules}
-use Rattle.cl_preparation.specs.Walks.{counts}
+use Rattle.cl_model.specs.Preparation.{takes_part}
 use Rattle.cl_preparation.proofs.Nearby.{listed_more, listed_past, listed_step}
 use Rattle.cl_preparation.proofs.listed.list_others.Goals as goal
 use Rattle.cl_preparation.proofs.listed.list_others.Goals.{then-adds+in_ok-push, else-adds}
 
 pub loop-class-preserved : goal.loop-class-preserved
 loop-class-preserved g c =
-    listed_step (counts c.args.only_open c.args.key.now) c.args.own c.loop-class.listed.items c.as_slice.result.now c.if-adds.listed.items _ c.args.classes.now c.loop-class.class-index c.class-item.result c.adds.result
+    listed_step (takes_part c.args.key.now) c.args.own c.loop-class.listed.items c.as_slice.result.now c.if-adds.listed.items _ c.args.classes.now c.loop-class.class-index c.class-item.result c.adds.result
     c.loop-class-test.true c.class-item.is c.as_slice.ensures.value c.adds.ensures
     (elim c.if-adds.branch [
       | then-adds+in_ok-push w ↦ listed_more c.loop-class.listed.items c.if-adds.listed.items w.loader.result c.class-item.result c.adds.result w.if-adds.true w.loader.ensures (search rules)

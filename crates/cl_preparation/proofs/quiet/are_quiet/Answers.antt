@@ -1,4 +1,4 @@
-use Rattle.std.proofs.Common.{◌≡◌, length, arith, ap, sym, ◌∙◌}
+use Rattle.std.proofs.Common.{◌≡◌, length, ap, sym, ◌∙◌}
 use Rattle.std.proofs.lemmas.List.{nil_from_length}
 use Rattle.cl_classfile.specs.Files.{file_of, is_interface}
 use Rattle.cl_classfile.specs.Structure.{Structure}
@@ -17,7 +17,7 @@ returns-then-is_interface g c = λ e.
 
 pub returns-then-is_empty : goal.returns-then-is_empty
 returns-then-is_empty g c = λ e.
-    let none : length c.args.away.now ≡ 0 = grind arith in
+    let none : length c.args.away.now ≡ 0 = c.is_empty.ensures c.if-is_empty.true in
     quiet_home c.args.lineage.now c.args.away.now c.class.result.now.loader c.deref-2.result.now
     (ap (λ (k : Class). k.loader) c.class.ensures.class ∙ ap (λ (r : Rowed). r.class.loader) (c.deref.ensures ∙ c.own.ensures.own)) (c.deref-2.ensures ∙ c.own-2.ensures.own)
     (sym c.names_other.ensures ∙ c.if-names_other.false) (c.may_name_other.ensures c.if-may_name_other.false) c.requires.classes (nil_from_length c.args.away.now none)

@@ -9,5 +9,6 @@ pub slice_bounds-near-end : goal.slice_bounds-near-end
 slice_bounds-near-end g c =
     let fits : length c.args.away.now ≤ length c.args.self.now.above = subst (λ (rs : List Rowed). length rs ≤ length c.args.self.now.above) (sym c.requires) (length_away c.args.self.now.own.class.loader c.args.self.now.above) in
     let same : length c.self.inside.above.now ≡ length c.args.self.now.above = ap (λ (x : Inherited). length x.above) c.self.view_is in
-    let within : length c.args.away.now ≤ length c.self.inside.above.now = omega arith in
-    sym (length-take-le (length c.args.away.now) c.self.inside.above.now within)
+    let many = c.len.ensures in
+    let within : c.len.result ≤ length c.self.inside.above.now = omega (arith, fits, same, many) in
+    sym (length-take-le c.len.result c.self.inside.above.now within)

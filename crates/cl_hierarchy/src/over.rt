@@ -5,7 +5,6 @@ ghost use Rattle.cl_hierarchy.specs.Above.{AreOnly};
 ghost use Rattle.cl_hierarchy.specs.Trees.{interface_places};
 
 use crate::row::ClassRow;
-use crate::tour::interface_places;
 use cl_model::{LoaderId, Told};
 
 /// Which loaders defined the superinterfaces that some classes name.
@@ -38,7 +37,7 @@ impl Overs {
         ensures named { AreOnly result (interface_places row.now) }
     {
         let mut overs = self;
-        for place in interface_places(row) {
+        for place in row.interface_places() {
             overs = overs.with_loader(*place);
         }
         overs

@@ -6,6 +6,7 @@ ghost use Rattle.cl_classfile.specs.Files.{file_of};
 ghost use Rattle.cl_model.specs.Classes.{supers};
 ghost use Rattle.cl_hierarchy.specs.Drafts.{IsSpelt};
 ghost use Rattle.cl_hierarchy.specs.Supertypes.{plain_supertype};
+ghost use Rattle.cl_hierarchy.specs.Trees.{interface_places};
 
 use crate::draft::Draft;
 use crate::supertype::{Supertype, supertype_of};
@@ -99,6 +100,20 @@ impl<T: Told> ClassRow<T> {
             place }
     {
         supertype_of(&self.file, place)
+    }
+
+    /// Which loaders defined its direct superinterfaces, in file order (JVMS SE 8, 5.3.5, step 4).
+    pub fn interface_places(&self) -> &[LoaderId]
+        ensures { result.now ≡ interface_places self.now }
+    {
+        let places = self.places();
+        match self.file().super_name() {
+            None => places,
+            Some(_) => match places.split_first() {
+                None => places,
+                Some((_, rest)) => rest,
+            },
+        }
     }
 
     /// Which loaders defined its direct supertypes, in order.

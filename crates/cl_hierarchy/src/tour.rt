@@ -9,7 +9,7 @@ ghost use Rattle.cl_hierarchy.specs.Lineages.{IsRowIn, row_of};
 ghost use Rattle.cl_hierarchy.specs.Rows.{Rowed};
 ghost use Rattle.cl_hierarchy.specs.Tours.{first_row, interface_row, marks, opened, opening, over_from, step, stops, telling, tells_after, tells_before, told_at, toured, up_first, upwards_of, wants_up, with_class, with_row};
 ghost use Rattle.cl_hierarchy.specs.declared.tour.Task.TheVariants as tasks;
-ghost use Rattle.cl_hierarchy.specs.Trees.{SupersBefore, interface_places, kin_under, kins, superclass_in};
+ghost use Rattle.cl_hierarchy.specs.Trees.{SupersBefore, kin_under, kins, superclass_in};
 
 use crate::row::ClassRow;
 use cl_model::{Class, LoaderId, Told};
@@ -167,20 +167,6 @@ pub(crate) fn superclass_of<'a, T: Told, F: Finds<T>>(
     }
 }
 
-/// The loaders of the superinterfaces of a row.
-pub(crate) fn interface_places<T: Told>(row: &ClassRow<T>) -> &[LoaderId]
-    ensures { result.now ≡ interface_places row.now }
-{
-    let places = row.places();
-    match row.file().super_name() {
-        None => places,
-        Some(_) => match places.split_first() {
-            None => places,
-            Some((_, rest)) => rest,
-        },
-    }
-}
-
 /// The row of a superinterface of a row, by its place.
 fn interface_of<'a, T: Told, F: Finds<T>>(
     alloc: Global,
@@ -193,7 +179,7 @@ fn interface_of<'a, T: Told, F: Finds<T>>(
 {
     match row.file().interface_name(place) {
         None => Ok(None),
-        Some(name) => match interface_places(row).get(place) {
+        Some(name) => match row.interface_places().get(place) {
             None => Ok(None),
             Some(loader) => table.find(alloc, *loader, name),
         },

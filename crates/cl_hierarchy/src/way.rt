@@ -16,7 +16,6 @@ ghost use Rattle.cl_model.specs.Lineages.{first, upward};
 use crate::above::{is_of, superclass_row};
 use crate::row::ClassRow;
 use crate::rung::Way;
-use crate::tour::interface_places;
 use cl_model::{LoaderId, Told};
 use cl_names::Name;
 use std::alloc::{AllocError, Global};
@@ -62,7 +61,7 @@ fn is_first_named<T: Told>(row: &ClassRow<T>, under: &ClassRow<T>) -> bool
     let Some(name) = under.file().interface_name(0) else {
         return false;
     };
-    let Some(loader) = interface_places(under).first() else {
+    let Some(loader) = under.interface_places().first() else {
         return false;
     };
     is_of(name, *loader, row.class())

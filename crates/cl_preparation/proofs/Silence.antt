@@ -16,7 +16,7 @@ use Rattle.cl_model.proofs.Closed.{all_left}
 use Rattle.cl_model.proofs.Complete.{is_class}
 use Rattle.cl_model.proofs.Derived.{all_both}
 use Rattle.cl_model.proofs.Progress.{once_kept}
-use Rattle.cl_hierarchy.specs.Above.{IsUnmixed, offers}
+use Rattle.cl_hierarchy.specs.Above.{IsUnmixed}
 use Rattle.cl_hierarchy.specs.Frames.{accepted_of}
 use Rattle.cl_hierarchy.specs.Lineages.{IsRowIn, Lined, kin_at, kin_of, row_of, rows_in}
 use Rattle.cl_hierarchy.specs.Rows.{Rowed}
@@ -356,7 +356,7 @@ quiet_interface l own mine oe me first rest inter =
 
 -- a class, all of whose superinterfaces are of its loader, and whose superclasses of other loaders declare nothing that these declare: none, or such as are unmixed
 quiet_away : (l : Lined) (away : List Rowed) (own : ℕ) (mine : Rowed) → own ≡ l.own.class.loader → mine ≡ l.own → names_other own mine ≡ false → list_any (names_other own) l.above ≡ false → map (kin_at l) away ≡ kins_from l.own.class.loader (superclasses (kin_of l))
-    → ((r : Rowed) (key : Key) → Contains (rows_in l) r → IsOver l r.class → offers key r ≡ true → AllByRecursion (λ (k : Kin). is_offered key k ≡ true → k.class.loader ≡ l.own.class.loader) (map (kin_at l) away)) → AddAll l []
+    → ((r : Rowed) (key : Key) → Contains (rows_in l) r → IsOver l r.class → is_offered key (kin_under [] r) ≡ true → AllByRecursion (λ (k : Kin). is_offered key k ≡ true → k.class.loader ≡ l.own.class.loader) (map (kin_at l) away)) → AddAll l []
 quiet_away l away own mine oe me first rest are each =
     all_quiet l (Contains (rows_in l)) own mine oe me first rest (rows_there l) (λ r ks within over. record {
       own = over.own;
@@ -364,7 +364,7 @@ quiet_away l away own mine oe me first rest are each =
           subst (λ (x : ℕ). other_than x (option_map (λ (a : Kin). a.class.loader) (inherited_from (kin_of l) m.key)) ≡ None) (sym over.own)
           (first_mine l.own.class.loader (is_offered m.key) (superclasses (kin_of l))
           (subst (λ (ks : List Kin). AllByRecursion (λ (k : Kin). is_offered m.key k ≡ true → k.class.loader ≡ l.own.class.loader) ks) are
-          (each r m.key within over (and_parts (not (is_special m.key.name)) (offers m.key r) part).1))));
+          (each r m.key within over (and_parts (not (is_special m.key.name)) (is_offered m.key (kin_under [] r)) part).1))));
     })
 
 -- a class, all of whose superinterfaces and superclasses are of its loader
@@ -383,7 +383,7 @@ found_in p (x ∷ rows) r e = by (p x) (found_in p rows r) e
     by true more e = subst (λ (y : Rowed). Contains (x ∷ rows) y) (same_row x r e) (Contains-append_left (x ∷ []) rows x (Contains-push [] x))
     by false more e = Contains-append_right (x ∷ []) rows r (more e)
 
-unmixed_away : (l : Lined) (r : Rowed) (key : Key) (away : List Rowed) → IsUnmixed (rows_in l) → Contains (rows_in l) r → IsOver l r.class → offers key r ≡ true → AllByRecursion (IsRowIn (rows_in l)) away
+unmixed_away : (l : Lined) (r : Rowed) (key : Key) (away : List Rowed) → IsUnmixed (rows_in l) → Contains (rows_in l) r → IsOver l r.class → is_offered key (kin_under [] r) ≡ true → AllByRecursion (IsRowIn (rows_in l)) away
     → AllByRecursion (λ (k : Kin). is_offered key k ≡ true → k.class.loader ≡ l.own.class.loader) (map (kin_at l) away)
 unmixed_away l r key [] unmixed within over on known = tt
 unmixed_away l r key (a ∷ away) unmixed within over on known =

@@ -21,12 +21,12 @@ use Rattle.cl_classfile.specs.Files as files
 use Rattle.cl_classfile.proofs.KeyTexts.{reads_methods}
 use Rattle.cl_model.specs.declared.class.Class.{Class}
 use Rattle.cl_model.specs.Classes.{Above, AsSuperinterface}
-use Rattle.cl_model.specs.Lineages.{if_declared, is_virtual}
+use Rattle.cl_model.specs.Lineages.{if_declared, is_offered, is_virtual}
 use Rattle.cl_model.proofs.Keys.{keys_are_told}
-use Rattle.cl_hierarchy.specs.Above.{IsUnmixed, offers}
+use Rattle.cl_hierarchy.specs.Above.{IsUnmixed}
 use Rattle.cl_hierarchy.specs.Frames.{accepted_of}
 use Rattle.cl_hierarchy.specs.Rows.{Rowed}
-use Rattle.cl_hierarchy.specs.Trees.{interface_places, interfaces_in}
+use Rattle.cl_hierarchy.specs.Trees.{interface_places, interfaces_in, kin_under}
 use Rattle.cl_preparation.specs.declared.declarers.Declarers.{Declarers}
 use Rattle.cl_preparation.specs.declared.declarers.Declarers.TheVariants as declarers
 use Rattle.cl_preparation.specs.declared.declarers.MethodTexts.{MethodTexts}
@@ -146,7 +146,7 @@ rows_unmixed {R} {S} names declared rows named noted = λ r j c r_in j_in c_in o
     one_loader (get same_texts declared other.texts) (contains same_name names c.class.name) j.class.loader c.class.loader
     (sym (ap (λ (b : Bool). is_noted declared other.texts b j.class.loader) is) ∙ sym (ap (λ (t : MethodTexts). is_noted declared t (contains same_name names j.class.name) j.class.loader) one) ∙ mine.noted) other.noted
   where
-    of : (x : Rowed) (key : Key) → Contains rows x → offers key x ≡ true → IsFound declared (contains same_name names x.class.name) x.class.loader key
+    of : (x : Rowed) (key : Key) → Contains rows x → is_offered key (kin_under [] x) ≡ true → IsFound declared (contains same_name names x.class.name) x.class.loader key
     of x key there on =
         noted_key declared x.file.pool (contains same_name names x.class.name) x.class.loader key x.file.methods
         (All-contains (IsRowNoted names declared) rows x (All-from_recursion (IsRowNoted names declared) rows noted) there) on

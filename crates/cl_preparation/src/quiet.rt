@@ -7,7 +7,6 @@ ghost use Rattle.cl_classfile.specs.Files.{file_of};
 ghost use Rattle.cl_model.specs.Classes.{same_class};
 ghost use Rattle.cl_model.specs.Lineages.{is_offered, superclasses};
 ghost use Rattle.cl_hierarchy.specs.Lineages.{IsRowIn, is_of_other, kin_at, kin_of, rows_in};
-ghost use Rattle.cl_hierarchy.specs.Trees.{interface_places};
 ghost use Rattle.cl_preparation.specs.Nearby.{AddAll};
 ghost use Rattle.cl_preparation.specs.Quiet.{is_heard, is_silent, names_other};
 ghost use Rattle.cl_preparation.specs.Relatives.{bare};
@@ -22,22 +21,11 @@ use cl_model::{Class, LoaderId, Told};
 use std::alloc::{AllocError, Global};
 use std::sync::Arc;
 
-/// Which loaders defined the direct superinterfaces of a class, in file order (JVMS SE 8, 5.3.5, step 4).
-fn interface_places<T: Told>(row: &ClassRow<T>) -> &[LoaderId]
-    ensures { result.now ≡ interface_places row.now }
-{
-    let first = match row.file().super_name() {
-        Some(_) => 1,
-        None => 0,
-    };
-    &row.places()[first..]
-}
-
 /// Whether a class names a superinterface of another loader than this.
 fn names_other<T: Told>(row: &ClassRow<T>, own: LoaderId) -> bool
     ensures { result ≡ names_other own row.now }
 {
-    interface_places(row).iter().any(|place| own != *place)
+    row.interface_places().iter().any(|place| own != *place)
 }
 
 /// Whether a class above that of a lineage may name a superinterface of another loader than this.

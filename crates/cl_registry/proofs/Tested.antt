@@ -18,7 +18,7 @@ use Rattle.cl_model.specs.Content.{Content}
 use Rattle.std.proofs.lemmas.Option.{slice_get_read}
 use Rattle.cl_registry.proofs.Constrained.{marked_is_allowed}
 use Rattle.cl_findings.specs.Bases.{IsListed}
-use Rattle.cl_registry.specs.Imposing.{Constrains, Imposes, IsNextOf, IsPreparedBy, IsReadyBy, MayPrepareAs, with_constrain, IsPreparedAbove, IsReached, IsReady, IsStanding, MayImpose, StandsFor}
+use Rattle.cl_registry.specs.Imposing.{Constrains, Imposes, IsNextOf, IsPreparedAbove, IsPreparedBy, IsReached, IsReady, IsReadyBy, IsStanding, MarksBy, MayImpose, MayPrepareAs, StandsFor, with_constrain}
 use Rattle.cl_registry.specs.declared.registry.RegistryFault.TheVariants.{Memory}
 use Rattle.cl_registry.specs.Refusals.{MarkRefusedFor}
 use Rattle.cl_registry.specs.Tables.{Shown, IsKept, LacksRecord, Records, records_of, state_of}
@@ -139,6 +139,10 @@ marks_as (Some content) x e l c is own kept listed ready free =
 
 pub prepared_by : (x : Shown) (o : Sprung) (l : Lined) (c : Class) → OfPreparation l ≡ o → c ≡ l.own.class → Contains (state_of x).prepared c → IsPreparedBy x o
 prepared_by x o l c is own h = subst (λ (p : Sprung). IsPreparedBy x p) is (subst (λ (k : Class). Contains (state_of x).prepared k) own h)
+
+-- and so it is marked, where nothing changes
+pub marked_by : (x : Shown) (o : Sprung) (l : Lined) (c : Class) → OfPreparation l ≡ o → c ≡ l.own.class → Contains (state_of x).prepared c → MarksBy x x o
+marked_by x o l c is own h = subst (λ (p : Sprung). MarksBy x x p) is (inl (subst (λ (k : Class). Contains (state_of x).prepared k) own h, refl))
 
 -- memory ran out for a class that may be prepared and is not
 pub mark_lacks : (x : Shown) (e : Listed) (l : Lined) (c : Class) → OfPreparation l ≡ e.origin → c ≡ l.own.class → IsReady x l (needs_of e.needs) → (Contains (state_of x).prepared c → ⊥) → MarkRefusedFor x e Memory

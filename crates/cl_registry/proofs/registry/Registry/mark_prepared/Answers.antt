@@ -6,12 +6,16 @@ use Rattle.cl_hierarchy.specs.Imposed.{needs_of, sprung}
 use Rattle.cl_hierarchy.specs.Lineages.{Lined}
 use Rattle.cl_registry.specs.Imposing.{IsReady}
 use Rattle.cl_registry.specs.Tables.{state_of}
-use Rattle.cl_registry.proofs.Tested.{mark_lacks, marks_as, prepared_by}
+use Rattle.cl_registry.proofs.Tested.{mark_lacks, marked_by, marks_as, prepared_by}
 use Rattle.cl_registry.proofs.registry.Registry.mark_prepared.Goals as goal
 
 pub returns-then-look_prepared-clause-prepared : goal.returns-then-look_prepared-clause-prepared
 returns-then-look_prepared-clause-prepared g c =
     prepared_by c.args.self.now c.args.list.now.origin c.in-Preparation.lineage c.class.result.now (sym (ap (λ o. sprung o) c.in-Preparation.is) ∙ c.origin.ensures.origin) c.class.ensures.class c.if-look_prepared.ensures.prepared
+
+pub returns-then-look_prepared-clause-marked : goal.returns-then-look_prepared-clause-marked
+returns-then-look_prepared-clause-marked g c =
+    marked_by c.args.self.now c.args.list.now.origin c.in-Preparation.lineage c.class.result.now (sym (ap (λ o. sprung o) c.in-Preparation.is) ∙ c.origin.ensures.origin) c.class.ensures.class c.if-look_prepared.ensures.prepared
 
 pub prepare-requires-clause-may : goal.prepare-requires-clause-may
 prepare-requires-clause-may g c =

@@ -18,9 +18,10 @@
   naming        2,000 classes over one another, each of which names one interface; the last is linked
   interfaces    2,000 interfaces over one another; the last is linked
   beside        two chains of 1,000 interfaces, and a class that names the last of each; it is linked
+  comb          1,000 interfaces over one another, each of which names another first that names none; the last is linked
 
-and of overriding, plain, topped, distinct, many, inherited, naming, interfaces, beside and repeated one more with so many classes
-that it has about a megabyte, as plain_mb.
+and of overriding, plain, topped, distinct, many, inherited, naming, interfaces, beside, comb and repeated one more with so many
+classes that it has about a megabyte, as plain_mb.
 
 Each is a bundle: classlink bundle < FILE.
 """
@@ -183,14 +184,23 @@ def beside(path, count=1000):
     bundle(path, TWO, classes, ["link app p/C\n"])
 
 
+def comb(path, count=1000):
+    classes, above = [TOP], []
+    for n in range(count):
+        classes.append(section("app", f"p/T{n}", flags="0601"))
+        classes.append(section("app", f"p/S{n}", interfaces=[f"p/T{n}", *above], flags="0601"))
+        above = [f"p/S{n}"]
+    bundle(path, TWO, classes, [f"link app p/S{count - 1}\n"])
+
+
 def main(folder):
     os.makedirs(folder, exist_ok=True)
     references = methods, settled, constraints, refused
-    chains = overriding, repeated, plain, topped, wide, distinct, many, inherited, naming, interfaces, beside
+    chains = overriding, repeated, plain, topped, wide, distinct, many, inherited, naming, interfaces, beside, comb
     for make in *references, ladder, links, *chains:
         make(f"{folder}/{make.__name__}")
     counts = {overriding: 15000, plain: 22000, topped: 22000, distinct: 15000, many: 1000, inherited: 14000, naming: 17000}
-    for make, count in {**counts, interfaces: 14000, beside: 7000, repeated: 7500}.items():
+    for make, count in {**counts, interfaces: 14000, beside: 7000, comb: 6500, repeated: 7500}.items():
         make(f"{folder}/{make.__name__}_mb", count)
 
 

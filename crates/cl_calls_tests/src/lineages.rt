@@ -4,7 +4,7 @@ use crate::access::{MEMBERS, PACKAGES, SEEN, ask_members, ask_seen};
 use crate::given::{Told, record, registry};
 use cl_config::Config;
 use cl_given::{APP, BOOT, LOADERS, Named, bytes_of, class_name, config, put, telling};
-use cl_hierarchy::{ClassRow, Lineage};
+use cl_hierarchy::{ClassRow, Lineage, Lineages};
 use cl_model::{Class, LoaderId, Untold};
 use cl_names::Name;
 use cl_registry::Registry;
@@ -239,6 +239,25 @@ fn has_front(
     Ok(is_so)
 }
 
+/// Whether just these classes stand above the class at a place of a lineage, in this order.
+fn stands_at(
+    alloc: Global,
+    tables: &Registry<Untold>,
+    class: u16,
+    place: usize,
+    above: &[u16],
+) -> Result<bool, AllocError> {
+    let mut whole = Lineages::of(lineage(alloc, tables, class)?);
+    let found = whole.lineage_at(alloc, place);
+    drop(whole);
+    let Some(part) = found? else {
+        return Ok(false);
+    };
+    let is_so = are_of(alloc, part.above(), above);
+    drop(part);
+    is_so
+}
+
 pub const CLASS: u16 = 0x21;
 
 const INTERFACE: u16 = 0x601;
@@ -283,6 +302,10 @@ fn ask_classes<R: Abort>(
     assert!(rt; !has_front(alloc, tables, D, 3, J2)?);
     assert!(rt; has_front(alloc, tables, 6001, 1, 6000)?);
     assert!(rt; !has_front(alloc, tables, 6003, 2, 6001)?);
+    assert!(rt; stands_at(alloc, tables, 6003, 2, &[TOP, 6000])?);
+    assert!(rt; stands_at(alloc, tables, 6003, 3, &[TOP, 6000])?);
+    assert!(rt; stands_at(alloc, tables, D, 3, &[TOP])?);
+    assert!(rt; !stands_at(alloc, tables, D, 5, &[TOP])?);
     assert!(rt; is_subclass(alloc, tables, QE, P)?);
     assert!(rt; !is_subclass(alloc, tables, QE, QE)?);
     Ok(())

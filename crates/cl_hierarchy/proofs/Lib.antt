@@ -9,7 +9,9 @@ pub mod Frames
 pub mod Inside
 pub mod Ladders
 pub mod Namings
+pub mod PartLineages
 pub mod Paths
+pub mod PlaceTours
 pub mod Placed
 pub mod Placings
 pub mod RowIndex
@@ -20,6 +22,7 @@ pub mod Spelling
 pub mod Stages
 pub mod StemEnds
 pub mod Stems
+pub mod SuperTables
 pub mod Tables
 pub mod Told
 pub mod Tours

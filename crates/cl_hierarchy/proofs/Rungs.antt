@@ -1,6 +1,6 @@
 -- A lineage that stands on a rung of its ladder.
 use Rattle.std.proofs.Common.{◌≡◌, ◌∙◌, ◌<◌, ◌≤◌, ◌+◌, ℕ, zero, suc, Bool, true, false, not, arith, List, [], ◌∷◌, ◌++◌, Option, Some, None, Result, Ok, Err, IfOk, append_assoc, length, length-append, map, take, refl, sym, ap, subst}
-use Rattle.std.specs.Prelude.{Contains, IfSome, filter, is_some, slice_get}
+use Rattle.std.specs.Prelude.{Contains, IfSome, is_some, slice_get}
 use Rattle.std.specs.List.{AllByRecursion}
 use Rattle.std.proofs.lemmas.List.Elements.{Contains-append_left}
 use Rattle.std.proofs.lemmas.Option.{slice_get_within}
@@ -10,7 +10,8 @@ use Rattle.cl_config.specs.Views.{Configured}
 use Rattle.cl_hierarchy.specs.Above.{IsUnmixed}
 use Rattle.cl_hierarchy.specs.Fronts.{Climb, IsFront, IsOnStem}
 use Rattle.cl_hierarchy.specs.Ladders.{AreOthers, HasRung, IsEarlier, IsLadder, IsMadeOf, IsOnLadder, IsRungAt, Laddered, others_of}
-use Rattle.cl_hierarchy.specs.Lineages.{IsLined, IsRowIn, Lined, is_of_other, kin_at, kin_of, rows_in}
+use Rattle.cl_hierarchy.specs.Lineages.{IsLined, IsRowIn, Lined, kin_at, kin_of, rows_in}
+use Rattle.cl_hierarchy.specs.Parts.{IsCut}
 use Rattle.cl_hierarchy.specs.Places.{IsPlace}
 use Rattle.cl_hierarchy.specs.Rows.{Rowed}
 use Rattle.cl_hierarchy.specs.Trees.{SupersBefore, kin_under, kins}
@@ -23,7 +24,7 @@ use Rattle.cl_hierarchy.proofs.Ways.{at_length, some_is, take_length, take_many}
 
 -- ---- rows up to a place
 
-none_of : {A : Type 0} (xs : List A) → take 0 xs ≡ []
+pub none_of : {A : Type 0} (xs : List A) → take 0 xs ≡ []
 none_of [] = refl
 none_of (x ∷ xs) = refl
 
@@ -49,7 +50,7 @@ fewer (x ∷ xs) zero (suc n) h = refl
 fewer (x ∷ xs) (suc m) zero h = absurd (omega (arith, h))
 fewer (x ∷ xs) (suc m) (suc n) h = ap (λ ys. x ∷ ys) (fewer xs m n (let k : m ≤ n = omega (arith, h) in k))
 
-all_of : {A : Type 0} (xs : List A) (n : ℕ) → length xs ≤ n → take n xs ≡ xs
+pub all_of : {A : Type 0} (xs : List A) (n : ℕ) → length xs ≤ n → take n xs ≡ xs
 all_of [] zero h = refl
 all_of [] (suc n) h = refl
 all_of (x ∷ xs) zero h = absurd (omega (arith, h))
@@ -87,7 +88,7 @@ place_in (y ∷ rows) (suc p) (suc n) r own h e f =
     record { later = more.later; split = ap (λ (rs : List Rowed). y ∷ rs) more.split }
 
 -- a row stands behind those before it
-place_of : (rows : List Rowed) (p : ℕ) (r : Rowed) → slice_get rows p ≡ Some r → IsPlace rows (take p rows) r
+pub place_of : (rows : List Rowed) (p : ℕ) (r : Rowed) → slice_get rows p ≡ Some r → IsPlace rows (take p rows) r
 place_of [] p r e = absurd cc
 place_of (y ∷ rows) zero r e = record { later = rows; split = ap (λ (z : Rowed). z ∷ rows) (some_is y r e) }
 place_of (y ∷ rows) (suc p) r e = let more = place_of rows p r e in record { later = more.later; split = ap (λ (rs : List Rowed). y ∷ rs) more.split }
@@ -98,10 +99,10 @@ module _ (told : Option Content) (x : Laddered) (place : ℕ) (own : Rowed) (unm
   abbrev lineage : Lined
   lineage = record { config = x.config; above = take place x.rows; own = own }
 
-  rows_are : take (suc place) x.rows ≡ rows_in lineage
+  pub rows_are : take (suc place) x.rows ≡ rows_in lineage
   rows_are = take_with x.rows place own h.at
 
-  above_many : length (take place x.rows) ≡ place
+  pub above_many : length (take place x.rows) ≡ place
   above_many = take_many x.rows place (let within = slice_get_within x.rows place own h.at in omega (arith, within))
 
   pub is_unmixed : place < unmixed → IsUnmixed (rows_in lineage)
@@ -235,6 +236,26 @@ module _ (told : Option Content) (x : Laddered) (place : ℕ) (own : Rowed) (unm
   others_rows items v by (Err e) is = tt
   others_rows items v by (Ok f) is = all_in v (items f) is.rows_are
 
+-- of none all is so
+unmixed_none : (rows : List Rowed) → IsUnmixed (take 0 rows)
+unmixed_none rows = subst (λ (rs : List Rowed). IsUnmixed rs) (sym (none_of rows)) (λ r j c inr_. absurd (nothing r inr_))
+  where
+    nothing : (r : Rowed) → Contains [] r → ⊥
+    nothing r i = absurd (let lt = i.1 in omega (arith, lt))
+
+-- what stands up to a rung is a lineage
+pub rung_on : (told : Option Content) (x : Laddered) (place : ℕ) (r : Rowed) (g : Rung) → IsLadder told x → slice_get x.rows place ≡ Some r → IsRungAt x.marks place g → IsOnLadder told x place r 0
+rung_on told x place r g ladder at is = record {
+  at = at;
+  lined = (rung_fact told x place r g ladder at is).lined;
+  rung = (omega arith, (is.0, is.1, (g, is.2)));
+  unmixed_are = unmixed_none x.rows;
+}
+
+-- a rung stands at the place of a row
+pub rung_within : (told : Option Content) (x : Laddered) (bound place : ℕ) → IsLadder told x → HasRung x.marks bound (Some place) → place < length x.rows
+rung_within told x bound place ladder has = let lt = slice_get_within x.marks place has.1.0 has.1.1 in let few = ladder.few in omega (arith, lt, few)
+
 -- ---- the same of what lies behind it in memory
 
 pub rung_found : (marks : List Mark) (place : ℕ) (o : Option Rung) (b : Bool) → is_some o ≡ not b → b ≡ false → IfSome o (IsRungAt marks place) → (g : Rung) × IsRungAt marks place g
@@ -259,14 +280,11 @@ made_on told config above own x n m is h =
           subst (λ (c : Configured). IsLined told (record { config = c; above = take (length above) x.rows; own = own })) (sym m.config_is)
           (subst (λ (rs : List Rowed). IsLined told (record { config = config; above = rs; own = own })) (sym (up_to m.rows)) h);
       rung = m.rung;
-      unmixed_are = subst (λ (rs : List Rowed). IsUnmixed rs) (sym (none_of x.rows)) (λ r j c inr_. absurd (nothing r inr_));
+      unmixed_are = unmixed_none x.rows;
     })
   where
     up_to : x.rows ≡ above ++ own ∷ [] → take (length above) x.rows ≡ above
     up_to e = ap (λ (rs : List Rowed). take (length above) rs) e ∙ take_length above (own ∷ [])
-
-    nothing : (r : Rowed) → Contains [] r → ⊥
-    nothing r i = absurd (let lt = i.1 in omega (arith, lt))
 
 pub made_is : (config : Configured) (above : List Rowed) (own : Rowed) (x : Laddered) (n : ℕ) → IsMadeOf config above own x → n ≡ length above
     → record { config = x.config; above = take n x.rows; own = own } ≡ (let l : Lined = record { config = config; above = above; own = own } in l)
@@ -282,3 +300,11 @@ front_in l inside place x y own own_in same ladder owned h =
     subst (λ (z : Lined). IsFront z place (record { config = y.config; above = take place y.rows; own = own_in })) same
     (subst (λ (z : Laddered). IsFront inside place (record { config = z.config; above = take place z.rows; own = own_in })) (sym ladder)
     (subst (λ (r : Rowed). IsFront inside place (record { config = x.config; above = take place x.rows; own = r })) (sym owned) h))
+
+-- what stands up to a place of a ladder, in memory
+pub cut_of : (x y : Laddered) (own own_in : Rowed) (place : ℕ) → y ≡ x → own_in ≡ own → slice_get x.rows place ≡ Some own → IsCut x place (record { config = y.config; above = take place y.rows; own = own_in })
+cut_of x y own own_in place ladder owned at = record {
+  config_is = ap (λ (z : Laddered). z.config) ladder;
+  above = ap (λ (z : Laddered). take place z.rows) ladder;
+  own = at ∙ ap (λ (r : Rowed). Some r) (sym owned);
+}

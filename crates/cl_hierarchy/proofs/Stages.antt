@@ -310,35 +310,42 @@ nearer rows ordered o t r tasks.Leave i = at (tells_after o)
 -- ---- the same of lists of steps
 
 -- the last of what is left is taken off
+module _ (rows : List Rowed) (ordered : SupersBefore [] rows) (o : Order) (goal : List Kin) (told : List Rowed) (seen left : List Class) (stack rest : List Marked) (next : Marked) (popped : stack ≡ rest ++ next ∷ []) where
+  abbrev before : Toured
+  before = record { told = told; seen = seen; left = left; stack = rest }
+
+  all_rows : AreRowsOf rows stack → AreRowsOf rows (rest ++ next ∷ [])
+  all_rows all = subst (λ (ms : List Marked). AreRowsOf rows ms) popped all
+
+  pub preserved_by : (new : Toured) → IsStage o rows goal (record { told = told; seen = seen; left = left; stack = stack }) → new ≡ step o rows before next.row next.task → IsStage o rows goal new
+  preserved_by new h e =
+      let all = all_rows h.stack_is in
+      subst (λ (t : Toured). IsStage o rows goal t) (sym e) (
+      stepped rows ordered o goal before next.row next.task (all_right (IsRowOf rows) rest (next ∷ []) all).0
+      (record {
+        goes = subst (λ (ss : List Stop). Goes o (kins rows) goal told seen left ss) (ap (λ (ms : List Marked). stops_left o (kins rows) ms) popped ∙ left_both o (kins rows) rest (next ∷ [])) h.goes;
+        told_are = h.told_are;
+      })
+      (all_left (IsRowOf rows) rest (next ∷ []) all)
+      )
+
+  pub smaller_by : (new : Toured) → IsStage o rows goal (record { told = told; seen = seen; left = left; stack = stack }) → new ≡ step o rows before next.row next.task → steps_left (kins rows) new.stack < steps_left (kins rows) stack
+  smaller_by new h e =
+      let n = nearer rows ordered o before next.row next.task (all_right (IsRowOf rows) rest (next ∷ []) (all_rows h.stack_is)).0 in
+      let s : steps_left (kins rows) stack ≡ steps_left (kins rows) (rest ++ next ∷ []) = ap (λ (ms : List Marked). steps_left (kins rows) ms) popped in
+      let b = steps_both (kins rows) rest (next ∷ []) in
+      let is : steps_left (kins rows) new.stack ≡ steps_left (kins rows) (step o rows before next.row next.task).stack = ap (λ (t : Toured). steps_left (kins rows) t.stack) e in
+      omega arith
+
 module _ {A : Type 0} (rows : List Rowed) (ordered : SupersBefore [] rows) (o : Order) (goal : List Kin) (told : List Rowed) (seen left : List Class) (stack rest : List (Step A)) (next : Step A) (popped : stack ≡ rest ++ next ∷ []) where
   pushed : marks stack ≡ marks rest ++ marked next ∷ []
   pushed = ap (λ (ss : List (Step A)). marks ss) popped ∙ map_push (λ (s : Step A). marked s) rest next
 
-  abbrev before : Toured
-  before = record { told = told; seen = seen; left = left; stack = marks rest }
+  pub preserved : (new : Toured) → IsStage o rows goal (record { told = told; seen = seen; left = left; stack = marks stack }) → new ≡ step o rows (record { told = told; seen = seen; left = left; stack = marks rest }) next.row.value next.task → IsStage o rows goal new
+  preserved new h e = preserved_by rows ordered o goal told seen left (marks stack) (marks rest) (marked next) pushed new h e
 
-  pub preserved : (new : Toured) → IsStage o rows goal (record { told = told; seen = seen; left = left; stack = marks stack }) → new ≡ step o rows before next.row.value next.task → IsStage o rows goal new
-  preserved new h e =
-      let all : AreRowsOf rows (marks rest ++ marked next ∷ []) = subst (λ (ms : List Marked). AreRowsOf rows ms) pushed h.stack_is in
-      subst (λ (t : Toured). IsStage o rows goal t) (sym e) (
-      stepped rows ordered o goal before next.row.value next.task (all_right (IsRowOf rows) (marks rest) (marked next ∷ []) all).0
-      (record {
-        goes =
-            subst (λ (ss : List Stop). Goes o (kins rows) goal told seen left ss)
-            (ap (λ (ms : List Marked). stops_left o (kins rows) ms) pushed ∙ left_both o (kins rows) (marks rest) (marked next ∷ [])) h.goes;
-        told_are = h.told_are;
-      })
-      (all_left (IsRowOf rows) (marks rest) (marked next ∷ []) all)
-      )
-
-  pub smaller : (new : Toured) → IsStage o rows goal (record { told = told; seen = seen; left = left; stack = marks stack }) → new ≡ step o rows before next.row.value next.task → steps_left (kins rows) new.stack < steps_left (kins rows) (marks stack)
-  smaller new h e =
-      let all : AreRowsOf rows (marks rest ++ marked next ∷ []) = subst (λ (ms : List Marked). AreRowsOf rows ms) pushed h.stack_is in
-      let n = nearer rows ordered o before next.row.value next.task (all_right (IsRowOf rows) (marks rest) (marked next ∷ []) all).0 in
-      let s : steps_left (kins rows) (marks stack) ≡ steps_left (kins rows) (marks rest ++ marked next ∷ []) = ap (λ (ms : List Marked). steps_left (kins rows) ms) pushed in
-      let b = steps_both (kins rows) (marks rest) (marked next ∷ []) in
-      let is : steps_left (kins rows) new.stack ≡ steps_left (kins rows) (step o rows before next.row.value next.task).stack = ap (λ (t : Toured). steps_left (kins rows) t.stack) e in
-      omega arith
+  pub smaller : (new : Toured) → IsStage o rows goal (record { told = told; seen = seen; left = left; stack = marks stack }) → new ≡ step o rows (record { told = told; seen = seen; left = left; stack = marks rest }) next.row.value next.task → steps_left (kins rows) new.stack < steps_left (kins rows) (marks stack)
+  smaller new h e = smaller_by rows ordered o goal told seen left (marks stack) (marks rest) (marked next) pushed new h e
 
 pub first_stage : (rows : List Rowed) (o : Order) (r : Rowed) (wanted : Bool) (told : List Rowed) (seen left : List Class) (stack : List Marked) → IsRowIn rows r → told ≡ [] → seen ≡ [] → left ≡ []
     → stack ≡ record { row = r; task = tasks.Come wanted } ∷ [] → IsStage o rows (once (told_at o (stops o (alone (kin_under (kins rows) r)) wanted))) (record { told = told; seen = seen; left = left; stack = stack })
@@ -350,8 +357,12 @@ first_stage rows o r wanted told seen left stack i a b c d =
     record { goes = goes_first o (kins rows) (alone (kin_under (kins rows) r)) wanted; told_are = tt; stack_is = (i, tt) }
     ))))
 
+pub ended_by : (rows : List Rowed) (o : Order) (goal : List Kin) (told : List Rowed) (seen left : List Class) (stack : List Marked) → stack ≡ [] → IsStage o rows goal (record { told = told; seen = seen; left = left; stack = stack })
+    → map (kin_under (kins rows)) told ≡ goal
+ended_by rows o goal told seen left stack e h =
+    sym (append-nil (map (kin_under (kins rows)) told))
+    ∙ (subst (λ (ms : List Marked). IsStage o rows goal (record { told = told; seen = seen; left = left; stack = ms })) e h).goes.goes
+
 pub ended : {A : Type 0} (rows : List Rowed) (o : Order) (goal : List Kin) (told : List Rowed) (seen left : List Class) (stack : List (Step A)) → stack ≡ [] → IsStage o rows goal (record { told = told; seen = seen; left = left; stack = marks stack })
     → map (kin_under (kins rows)) told ≡ goal
-ended {A} rows o goal told seen left stack e h =
-    sym (append-nil (map (kin_under (kins rows)) told))
-    ∙ (subst (λ (ss : List (Step A)). IsStage o rows goal (record { told = told; seen = seen; left = left; stack = marks ss })) e h).goes.goes
+ended {A} rows o goal told seen left stack e h = ended_by rows o goal told seen left (marks stack) (ap (λ (ss : List (Step A)). marks ss) e) h

@@ -14,7 +14,7 @@ use Rattle.cl_model.proofs.Complete.{is_class, or_true}
 use Rattle.cl_config.specs.Views.{Configured}
 use Rattle.cl_hierarchy.specs.Rows.{Rowed}
 use Rattle.cl_hierarchy.specs.Trees.{AllKnown, SupersBefore, forest, in_front, interfaces_in, kin_named, kin_under, kins, kins_after, superclass_in}
-use Rattle.cl_hierarchy.specs.Lineages.{IsLined, IsLineageOf, IsRowIn, IsWithin, Lined, kin_of, row_of}
+use Rattle.cl_hierarchy.specs.Lineages.{IsInOrder, IsLined, IsLineageOf, IsRowIn, IsWithin, Lined, kin_of, row_of}
 use Rattle.cl_hierarchy.specs.RowTables.{AreRows, AreRowsAfter, IsMadeOf}
 use Rattle.cl_hierarchy.proofs.Ancestry.{IsRowKin, kin_stays, kins_push, row_kin}
 use Rattle.cl_hierarchy.proofs.Climbs.{before_split}
@@ -321,19 +321,18 @@ lineage_ends rows c start ordered e =
     subst (λ (x : Class). is_among (above_classes k) x ≡ false) (sym first.same) (no_circle [] rows c start (λ x y i. absurd cc) ordered e) in
     once_last [] (postorder k.superclass ++ postorder k.interfaces) k refl apart
 
--- what is made of them
-pub record IsLineageMade (told : Option Content) (config : Configured) (rows : List Rowed) (c : Class) (l : Lined) : Type 0 where
-  pub lined : IsLined told l
-  pub made : IsMadeOf config rows c l
+-- the rows of a lineage, the own one last, and what tree they make
+pub record IsToldOrder (rows : List Rowed) (start : Rowed) (l : Lined) : Type 0 where
+  pub order : IsInOrder l
+  pub kin : kin_of l ≡ kin_under (kins rows) l.own
+  pub own_kin : kin_under (kins rows) l.own ≡ kin_under (kins rows) start
 
-pub lineage_made : (told : Option Content) (config : Configured) (rows : List Rowed) (c : Class) (start : Rowed) (above : List Rowed) (own : Rowed) → AreRows told config rows → row_of rows c ≡ Some start → AreTold rows start (above ++ own ∷ [])
-    → IsLineageMade told config rows c (record { config = config; above = above; own = own })
-lineage_made told config rows c start above own h e t =
+pub told_order : (config : Configured) (rows : List Rowed) (c : Class) (start : Rowed) (above : List Rowed) (own : Rowed) → SupersBefore [] rows → row_of rows c ≡ Some start → AreTold rows start (above ++ own ∷ [])
+    → IsToldOrder rows start (record { config = config; above = above; own = own })
+told_order config rows c start above own ordered e t =
     let known : List Kin = kins rows in
-    let ordered : SupersBefore [] rows = supers_before told config rows h in
     let k : Kin = kin_under known start in
     let l : Lined = record { config = config; above = above; own = own } in
-    let first : IsRowKin known c start = row_kin [] rows c start ordered e in
     let ends = lineage_ends rows c start ordered e in
     let pushed : map (kin_under known) (above ++ own ∷ []) ≡ map (kin_under known) above ++ kin_under known own ∷ [] = map_push (kin_under known) above own in
     let own_kin : kin_under known own ≡ k =
@@ -344,12 +343,30 @@ lineage_made told config rows c start above own h e t =
     let same : kin_of l ≡ kin_under known own =
     same_last (reverse (kins above)) (map (kin_under known) above) (kin_of l) (kin_under known own) (sym (reverse_first (kin_of l) (kins above)) ∙ tree ∙ pushed) in
     let parts = before_split [] above (own ∷ []) stands.before in
-    let named : kin_named known c ≡ Some (kin_of l) = first.kin ∙ ap (λ (x : Kin). Some x) (sym (same ∙ own_kin)) in
-    let own_class : own.class ≡ c = ap (λ (x : Kin). x.class) own_kin ∙ first.same in
+    record {
+      order = record { above = parts.0; own = parts.1.0; ordered = tree ∙ t.order ∙ ap (λ (x : Kin). lineage x) (sym (same ∙ own_kin)) };
+      kin = same;
+      own_kin = own_kin;
+    }
+
+-- what is made of them
+pub record IsLineageMade (told : Option Content) (config : Configured) (rows : List Rowed) (c : Class) (l : Lined) : Type 0 where
+  pub lined : IsLined told l
+  pub made : IsMadeOf config rows c l
+
+pub lineage_made : (told : Option Content) (config : Configured) (rows : List Rowed) (c : Class) (start : Rowed) (above : List Rowed) (own : Rowed) → AreRows told config rows → row_of rows c ≡ Some start → AreTold rows start (above ++ own ∷ [])
+    → IsLineageMade told config rows c (record { config = config; above = above; own = own })
+lineage_made told config rows c start above own h e t =
+    let ordered : SupersBefore [] rows = supers_before told config rows h in
+    let l : Lined = record { config = config; above = above; own = own } in
+    let first : IsRowKin (kins rows) c start = row_kin [] rows c start ordered e in
+    let is = told_order config rows c start above own ordered e t in
+    let named : kin_named (kins rows) c ≡ Some (kin_of l) = first.kin ∙ ap (λ (x : Kin). Some x) (sym (is.kin ∙ is.own_kin)) in
+    let own_class : own.class ≡ c = ap (λ (x : Kin). x.class) is.own_kin ∙ first.same in
     let last : IsRowIn rows own = (all_pop (IsRowIn rows) above own t.all).1 in
     record {
       lined = record {
-        order = record { above = parts.0; own = parts.1.0; ordered = tree ∙ t.order ∙ ap (λ (x : Kin). lineage x) (sym (same ∙ own_kin)) };
+        order = is.order;
         lineage = is_lineage told config rows above own c h named;
         within = all_within told config rows (above ++ own ∷ []) h t.all;
       };
@@ -383,15 +400,15 @@ row_in told config rows c start h e =
     subst (λ (x : Class). row_of rows x ≡ Some start) (sym is.same) e
 
 -- something was told
-nothing_told : (told : Option Content) (config : Configured) (rows : List Rowed) (c : Class) (start : Rowed) → AreRows told config rows → row_of rows c ≡ Some start → AreTold rows start [] → ⊥
-nothing_told told config rows c start h e t =
+pub nothing_told : (rows : List Rowed) (c : Class) (start : Rowed) → SupersBefore [] rows → row_of rows c ≡ Some start → AreTold rows start [] → ⊥
+nothing_told rows c start ordered e t =
     let k : Kin = kin_under (kins rows) start in
-    nothing (once (postorder k.superclass ++ postorder k.interfaces)) k (t.order ∙ lineage_ends rows c start (supers_before told config rows h) e)
+    nothing (once (postorder k.superclass ++ postorder k.interfaces)) k (t.order ∙ lineage_ends rows c start ordered e)
   where
     nothing : (xs : List Kin) (k : Kin) → (let none : List Kin = [] in none) ≡ xs ++ k ∷ [] → ⊥
     nothing [] k e = absurd cc
     nothing (x ∷ xs) k e = absurd cc
 
 pub told_some : {A : Type 0} (v : A → Rowed) (told : Option Content) (config : Configured) (rows : List Rowed) (c : Class) (start : Rowed) (items : List A) → AreRows told config rows → row_of rows c ≡ Some start → AreTold rows start (map v items) → length items ≡ 0 → ⊥
-told_some v told config rows c start [] h e t n = nothing_told told config rows c start h e t
+told_some v told config rows c start [] h e t n = nothing_told rows c start (supers_before told config rows h) e t
 told_some v told config rows c start (x ∷ items) h e t n = absurd cc

@@ -1,6 +1,7 @@
 -- The lineages at the front of a lineage (JVMS SE 8, 5.3.5, 5.4).
-use Rattle.std.specs.Prelude.{◌≡◌, ℕ, List, [], ◌∷◌, length}
-use Rattle.cl_hierarchy.specs.Lineages.{Lined, rows_in}
+use Rattle.std.specs.Prelude.{◌≡◌, ℕ, List, [], ◌∷◌, Some, length, slice_get}
+use Rattle.std.specs.List.{AllByRecursion}
+use Rattle.cl_hierarchy.specs.Lineages.{IsRowIn, Lined, rows_in}
 use Rattle.cl_hierarchy.specs.Places.{IsPlace}
 use Rattle.cl_hierarchy.specs.Rows.{Rowed}
 use Rattle.cl_hierarchy.specs.Trees.{superclass_in}
@@ -24,3 +25,9 @@ pub record IsFront (l : Lined) (place : ℕ) (front : Lined) : Type 0 where
   pub config : front.config ≡ l.config
   pub stands : IsPlace (rows_in l) front.above front.own
   pub many : length front.above ≡ place
+
+-- the lineage of the class at a place: all its rows are those of their classes in this one (5.3.5)
+pub record IsLineageAt (l : Lined) (place : ℕ) (part : Lined) : Type 0 where
+  pub config : part.config ≡ l.config
+  pub own : slice_get (rows_in l) place ≡ Some part.own
+  pub above : AllByRecursion (IsRowIn (rows_in l)) part.above

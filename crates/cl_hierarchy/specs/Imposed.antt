@@ -2,11 +2,13 @@
 use Rattle.std.specs.Prelude.{◌≡◌, ◌≤◌, ℕ, Contains, List, length, map, Some}
 use Rattle.cl_classfile.specs.Files.{Reference, reference}
 use Rattle.cl_model.specs.declared.need.Equality.{Equality}
+use Rattle.cl_model.specs.declared.need.Need.TheVariants as needs
 use Rattle.cl_model.specs.Lineages.{Kin}
 use Rattle.cl_model.specs.Frames.{class_named}
 use Rattle.cl_model.specs.Preparation.{constraints_of}
 use Rattle.cl_model.specs.References.{resolve_in}
-use Rattle.cl_model.specs.States.{AllMet, Equal, IsNext, Need, State, Verdict}
+use Rattle.cl_model.specs.States.{AllMet, IsNext, Need, State, Verdict}
+use Rattle.cl_model.specs.Views.{need_of}
 use Rattle.cl_model.specs.Works.{Made}
 use Rattle.cl_hierarchy.specs.Lineages.{Lined, kin_of}
 use Rattle.cl_hierarchy.specs.declared.equalities.Origin.{Origin}
@@ -14,7 +16,7 @@ use Rattle.cl_hierarchy.specs.declared.equalities.Origin.TheVariants as origins
 
 -- an equality as a need (5.3.4)
 abbrev pub equal_need : Equality → Need
-equal_need e = Equal e.name e.one e.other
+equal_need e = need_of (needs.Equal e)
 
 -- equalities as needs, in order (5.3.4)
 abbrev pub needs_of : List Equality → List Need

@@ -7,13 +7,16 @@ pub mod Imposed
 pub mod Kept
 pub mod Ladders
 pub mod Lineages
+pub mod Parts
 pub mod Paths
+pub mod PlaceTours
 pub mod Places
 pub mod RowIndex
 pub mod RowTables
 pub mod Rows
 pub mod Spelling
 pub mod Stems
+pub mod Supers
 pub mod Supertypes
 pub mod Tours
 pub mod Trees

@@ -1,11 +1,13 @@
 //! Lineages: a class with all that stands above it, and what is asked of them (JVMS SE 8, 5.3.5, 5.4.4).
 
-ghost use Rattle.std.specs.Prelude.{◌≡◌, filter, is_some, map, take, true, IfOk, IfSome};
+ghost use Rattle.std.specs.Prelude.{◌≡◌, ℕ, Some, filter, is_some, map, take, true, IfOk, IfSome};
 ghost use Rattle.std.specs.List.{AllByRecursion};
 ghost use Rattle.std.specs.Option.{option_map};
 ghost use Rattle.cl_model.specs.Lineages.{alone, first, is_subclass, once, superclasses, superinterfaces};
 ghost use Rattle.cl_hierarchy.specs.Above.{AreOvers, IsUnmixed};
 ghost use Rattle.cl_hierarchy.specs.Fronts.{IsFront, IsOnStem};
+ghost use Rattle.cl_hierarchy.specs.Ladders.{HasRung};
+ghost use Rattle.cl_hierarchy.specs.Parts.{IsCut};
 ghost use Rattle.cl_hierarchy.specs.Lineages.{IsLined, IsRowIn, field_order, is_of_other, kin_at, kin_of, reaches, rows_in};
 ghost use Rattle.cl_hierarchy.specs.Tours.{stops, told_at};
 ghost use Rattle.cl_hierarchy.specs.Trees.{kins, superclass_in};
@@ -80,7 +82,7 @@ fn is_above<'a, T: Told>(
 }
 
 /// A ladder to be shared.
-fn share<T: Told>(alloc: Global, ladder: Ladder<T>) -> Result<Arc<Ladder<T>>, AllocError>
+pub(crate) fn share<T: Told>(alloc: Global, ladder: Ladder<T>) -> Result<Arc<Ladder<T>>, AllocError>
     ensures { IfOk result (λ x. x.value ≡ ladder) }
 {
     Arc::new(alloc, ladder).map_err(|_| AllocError)
@@ -116,6 +118,31 @@ impl<T: Told> Lineage<T> {
         })
     }
 
+    /// The lineage up to a place of a ladder, if it has a rung there.
+    pub(crate) fn on_ladder(
+        ladder: &Arc<Ladder<T>>,
+        place: usize,
+    ) -> Result<Option<Lineage<T>>, AllocError>
+        ensures cut { IfOk result (λ o. IfSome o (IsCut ladder.now.value place)) }
+        ensures some { (bound : ℕ) → HasRung ladder.now.value.marks bound (Some place)
+            → IfOk result (λ o. is_some o ≡ true) }
+    {
+        if ladder.rung(place).is_none() {
+            return Ok(None);
+        }
+        let Some(own) = ladder.rows().get(place) else {
+            return Ok(None);
+        };
+        let own = Arc::try_clone(own)?;
+        let ladder = Arc::try_clone(ladder)?;
+        Ok(Some(Lineage {
+            ladder,
+            own,
+            place,
+            unmixed: 0,
+        }))
+    }
+
     /// The class.
     pub fn class(&self) -> &Class
         ensures class { result.now ≡ (kin_of self.now).class }
@@ -138,6 +165,14 @@ impl<T: Told> Lineage<T> {
         ensures kept { IsLined T.told self.now }
     {
         &self.ladder.rows()[..self.place]
+    }
+
+    /// The rows of all its classes, the class's own last.
+    pub(crate) fn rows(&self) -> &[Arc<ClassRow<T>>]
+        ensures rows { map (λ r. r.value) result.now ≡ rows_in self.now }
+        ensures kept { IsLined T.told self.now }
+    {
+        &self.ladder.rows()[..self.place + 1]
     }
 
     /// The configuration of the registry that made it.

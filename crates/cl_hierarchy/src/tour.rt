@@ -87,7 +87,7 @@ impl Order {
 }
 
 #[derive(Clone, Copy, Debug)]
-enum Task {
+pub(crate) enum Task {
     /// To come to the class, which is told or not.
     Come(bool),
     /// To go through its superinterfaces from this one on.

@@ -22,7 +22,7 @@ use std::alloc::{AllocError, Global};
 use std::sync::Arc;
 
 /// The superclass of a row's class, if it has one, by its name and the loader that defined it.
-fn superclass_named<T: Told>(row: &ClassRow<T>) -> Option<(&Name, LoaderId)>
+pub(crate) fn superclass_named<T: Told>(row: &ClassRow<T>) -> Option<(&Name, LoaderId)>
     ensures { superclass_in row.now ≡ option_to_list (option_map (λ p. class p.0.now p.1)
         result) }
 {

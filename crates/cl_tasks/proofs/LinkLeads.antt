@@ -1,9 +1,8 @@
 -- What each step of a link leads to, but for those that prepare a class.
-use Rattle.std.proofs.Common.{Global, ◌≡◌, ◌∙◌, ◌<◌, ◌≤◌, ◌+◌, ◌-◌, ◌*◌, ◌^◌, ℕ, zero, suc, Bool, List, [], ◌∷◌, drop, length, Option, Some, None, inl, refl, sym, ap, subst, arith}
+use Rattle.std.proofs.Common.{◌≡◌, ◌∙◌, ◌<◌, ◌≤◌, ◌+◌, ◌-◌, ◌*◌, ◌^◌, ℕ, zero, suc, Bool, List, [], ◌∷◌, drop, length, Option, Some, None, inl, refl, sym, ap, subst, arith}
 use Rattle.std.specs.Prelude.{slice_get, option_map, unwrap_or, Contains}
 use Rattle.std.proofs.lemmas.List.{length-map}
 use Rattle.std.proofs.lemmas.Option.{slice_get-map}
-use Rattle.std.specs.declared.sync.Arc.{Arc}
 use Rattle.cl_model.specs.declared.answer.Answer.TheVariants as answers
 use Rattle.cl_model.specs.declared.class.Class.{Class}
 use Rattle.cl_model.specs.declared.request.Request as request
@@ -40,7 +39,7 @@ use Rattle.cl_tasks.specs.declared.stage.Stage.TheVariants as stages
 use Rattle.cl_tasks.specs.declared.turn.Turn.TheVariants as turn
 use Rattle.cl_tasks.specs.Waits as waits
 use Rattle.cl_tasks.proofs.Lead.{HasPost, leads_post}
-use Rattle.cl_tasks.proofs.LinkFacts.{chain_goal, chain_of, chain_prepared, chain_whole, class_last, class_there, none, own_recorded, taken_more, traced_recorded, whole_length}
+use Rattle.cl_tasks.proofs.LinkFacts.{chain_goal, chain_of, chain_prepared, chain_whole, class_last, class_there, none, own_recorded, taken_more, whole_length}
 use Rattle.cl_tasks.proofs.LinkPlan.{chain_within}
 use Rattle.cl_tasks.proofs.MemberFacts.{traced_as}
 use Rattle.cl_model.proofs.Tables.{one_linked}
@@ -158,20 +157,6 @@ ask_leads told c k d chain is = record {
   calls = stay told c (ChainTold k) k.goal.request (past_loads 0 0 (chain_calls k.whole k.place + 2));
   keeps = λ x h. record { frames = tt; facts = h };
   backed = λ x config names fine h. tt;
-  follows = λ s x served h. tt;
-}
-
-pub trace_leads : {A : Type 0} (told : Option Content) (c : Configured) (k : Chain A) (d : Class) → IsChain c k → d ≡ class_in k.whole k.place
-    → LeadsBy told c k.goal.q k.goal.request (chain_room k) (ChainTold k) (record { stage = stages.Link (links.Tracing k); turn = turn.Lineage d })
-trace_leads told c k d chain is = record {
-  kept = chain;
-  number = refl;
-  asks = ap (λ (e : Class). waits.Tracing e) (sym is);
-  serves = refl;
-  left = one_more (chain_left (behind k));
-  calls = stay told c (ChainTold k) k.goal.request (past_loads 0 0 (chain_calls k.whole k.place + 1));
-  keeps = λ x h. record { frames = tt; facts = h };
-  backed = λ x config names fine h. subst (λ (e : Class). IsRecorded (state_of x) e) (sym is) (traced_recorded x k.whole.own.class k.whole k.place (chain_whole x k h) chain.within);
   follows = λ s x served h. tt;
 }
 

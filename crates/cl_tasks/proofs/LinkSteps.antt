@@ -102,12 +102,6 @@ whole_steps told c g whole n l plain past =
     plain_steps (linking_at c (links.TracingWhole g)) (reply.Lineage whole) n refl refl refl l (same_turns whole_left) (one_made told c _ g.request 2 1 2)
     (λ x h. record { before = h.before.facts; now = h.now }) tt tt (λ h. tt) (past_derives _ [] n.stage past) tt plain
 
-pub traced_steps : {A : Type 0} (told : Option Content) (c : Configured) (k : Chain A) (at : Lined) (n : Next A) → LeadsBy told c k.goal.q k.goal.request (listed_room k) (LineageTold k at) n → IsPlain n.turn → IsPast n.stage
-    → Steps told (linking_at c (links.Tracing k)) (reply.Lineage at) n
-traced_steps told c k at n l plain past =
-    plain_steps (linking_at c (links.Tracing k)) (reply.Lineage at) n refl refl refl l (same_turns (chain_left (behind k))) (one_made told c _ k.goal.request 0 0 (chain_calls k.whole k.place))
-    (λ x h. record { before = h.before.facts; now = h.now }) tt tt (λ h. tt) (past_derives _ [] n.stage past) tt plain
-
 -- ---- equalities
 
 imposed_told : {A : Type 0} (k : Chain A) (e : Listed) (i : ℕ) (x : Shown) (o : Option Equality) → slice_get e.needs i ≡ o → i < length e.needs → IsAtPlace k e → ListTold k e i x → IfSome o (λ n. Met (state_of x) (equal_need n)) → ListTold k e (i + 1) x
@@ -178,12 +172,6 @@ asked_post c k = post_room (chain_left (behind k) + 1) 1 0 0 (chain_calls k.whol
   where
     two_calls : (a : ℕ) → 1 + 1 ≤ a + 2
     two_calls a = omega arith
-
-pub traced_post : {A : Type 0} (c : Configured) (k : Chain A) → IsChain c k → IsInOrder k.whole → HasPost (task_room (linking_at c (links.Tracing k)))
-traced_post c k chain order = post_room (chain_left (behind k)) 1 0 0 (chain_calls k.whole k.place + 1) (one_and_more (chain_calls k.whole k.place) (chain_some_calls k.whole k.place order chain.within))
-  where
-    one_and_more : (a : ℕ) → 1 ≤ a → 1 + 1 ≤ a + 1
-    one_and_more a le = omega (arith, le)
 
 -- and where its equalities are imposed
 pub list_post : (turns a m : ℕ) → HasPost (record { turns = turns; made = 1; calls = past_loads 0 0 (a + (m + 2)) })

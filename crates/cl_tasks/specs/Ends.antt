@@ -31,7 +31,7 @@ use Rattle.cl_tasks.specs.declared.stage.Resolution.TheVariants as resolutions
 use Rattle.cl_tasks.specs.declared.stage.Stage.TheVariants as stages
 use Rattle.cl_tasks.specs.declared.turn.Turn.TheVariants as turn
 
--- the path loads the request's own class (5.3)
+-- what is loaded is the request's own class (5.3)
 abbrev pub IsOwnTarget : {A : Type 0} → Target A → Type 0
 IsOwnTarget targets.Own = Unit {0}
 IsOwnTarget (targets.Reference d) = ⊥

@@ -1,6 +1,5 @@
 -- What a task is at, as contracts see it, and what it keeps (JVMS SE 8, 5.3 to 5.4.3).
-use Rattle.std.specs.Prelude.{◌≡◌, ◌≢◌, ◌<◌, ◌+◌, ◌-◌, ◌++◌, ◌∷◌, ℕ, false, List, [], length, map, take, drop, Option, Some, None, slice_get, option_map, unwrap_or}
-use Rattle.cl_classfile.specs.Files.{file_of, reference}
+use Rattle.std.specs.Prelude.{◌≡◌, ◌≢◌, ◌<◌, ◌+◌, ◌-◌, ◌++◌, ◌∷◌, ℕ, false, List, [], length, map, take, drop, Option, Some, None, slice_get, unwrap_or}
 use Rattle.cl_model.specs.declared.class.Class.{Class}
 use Rattle.cl_model.specs.declared.answer.Answer.TheVariants as answers
 use Rattle.cl_model.specs.declared.verdict.Verdict as verdict
@@ -9,7 +8,6 @@ use Rattle.cl_model.specs.declared.request.Request.{Request}
 use Rattle.cl_model.specs.declared.request.Request.TheVariants as requests
 use Rattle.cl_model.specs.Content.{Content}
 use Rattle.cl_model.specs.Classes.{class}
-use Rattle.cl_model.specs.Frames.{class_named}
 use Rattle.cl_model.specs.Lineages.{lineage}
 use Rattle.cl_model.specs.States.{Need, Entry}
 use Rattle.cl_model.specs.Works.{Ask}
@@ -19,7 +17,6 @@ use Rattle.cl_hierarchy.specs.Frames.{frame_of}
 use Rattle.cl_hierarchy.specs.Imposed.{Listed, Sprung, OfPreparation, OfReference, needs_of}
 use Rattle.cl_hierarchy.specs.Lineages.{Lined, kin_of, rows_in}
 use Rattle.cl_hierarchy.specs.Paths.{Pathed, at_loader, at_name, frames_of, is_on}
-use Rattle.cl_hierarchy.specs.Rows.{Rowed}
 use Rattle.cl_findings.specs.declared.load.Target.{Target}
 use Rattle.cl_findings.specs.declared.load.Target.TheVariants as targets
 use Rattle.cl_findings.specs.Findings.{Based, Rests, loader_of, name_of}
@@ -205,7 +202,6 @@ abbrev pub linking_at : {A : Type 0} → Configured → Link A → Tasked
 linking_at c (links.LookingPrepared g) = settled_down c g.q g.request (waits.LookingPrepared g.class.value.class) (goal_facts g) prepared_left (past_loads 2 1 4)
 linking_at c (links.TracingWhole g) = settled_down c g.q g.request (waits.Tracing g.class.value.class) (goal_facts g) whole_left (past_loads 2 1 3)
 linking_at c (links.Asking k) = settled_down c k.goal.q k.goal.request (waits.LookingPrepared (class_in k.whole k.place)) (chain_facts k) (chain_left (behind k) + 1) (past_loads 0 0 (chain_calls k.whole k.place + 2))
-linking_at c (links.Tracing k) = settled_down c k.goal.q k.goal.request (waits.Tracing (class_in k.whole k.place)) (chain_facts k) (chain_left (behind k)) (past_loads 0 0 (chain_calls k.whole k.place + 1))
 linking_at c (links.Imposing k e i) =
     settled_down c k.goal.q k.goal.request (waits.Imposing e.value i) (chain_facts k ++ (traced_facts e.value ++ imposed_facts e.value i)) (linking_left (behind k - 1) (length e.value.needs - i))
     (past_loads 0 0 (list_calls k.whole k.place (length e.value.needs - i)))
@@ -294,10 +290,6 @@ pub record IsEntry {A : Type 0} (c : Configured) (e : entries.Entry A) : Type 0 
   pub of : Resolves e.request e.d.value.class e.index
   pub asked : loader_of e.request < length c.loaders
 
--- the entry names a class (5.4.3.1)
-pub record IsNaming {A : Type 0} (e : entries.Entry A) (k : Rowed) : Type 0 where
-  pub named : option_map class_named (reference (file_of e.d.value.file) e.index) ≡ Some (Some k.class.name)
-
 -- the lineage is of a class, under this configuration (5.3.5)
 pub record IsOf (c : Configured) (k : Class) (l : Lined) : Type 0 where
   pub class : l.own.class ≡ k
@@ -340,7 +332,6 @@ abbrev pub IsLinking : {A : Type 0} → Configured → Link A → Type 0
 IsLinking c (links.LookingPrepared g) = IsGoal c g
 IsLinking c (links.TracingWhole g) = IsGoal c g
 IsLinking c (links.Asking k) = IsChain c k
-IsLinking c (links.Tracing k) = IsChain c k
 IsLinking c (links.Imposing k e i) = IsChain c k × IsAtPlace k e.value × (i < length e.value.needs)
 IsLinking c (links.Marking k e) = IsChain c k × IsAtPlace k e.value
 

@@ -7,16 +7,15 @@ ghost use Rattle.cl_hierarchy.specs.Imposed.{equal_need};
 ghost use Rattle.cl_model.specs.declared.class.Class as classes;
 ghost use Rattle.cl_model.specs.States.{Entry};
 ghost use Rattle.cl_model.specs.Views.{need_of};
-ghost use Rattle.cl_tasks.specs.Stages.{class_in, linking_at, loading_at, next_place, resolving_at, task_at};
+ghost use Rattle.cl_tasks.specs.Stages.{linking_at, loading_at, next_place, resolving_at, task_at};
 ghost use Rattle.cl_tasks.specs.Turns.{Expects, IsReplyTo, equality_at};
 ghost use Rattle.cl_tasks.specs.Waits as waits;
 
-use crate::link::row_at;
 use crate::stage::{Link, Load, Resolution, Stage};
 use crate::turn::Reply;
 use cl_config::Config;
 use cl_delegation::{Home, Search};
-use cl_hierarchy::{Draft, Equalities, Lineage};
+use cl_hierarchy::{Draft, Equalities};
 use cl_model::{Class, Equality, LoaderId, Need, Request, Settled, Told};
 use cl_names::Name;
 use std::sync::Arc;
@@ -264,23 +263,6 @@ fn resolution_expects<T: Told>(
     }
 }
 
-/// Whether a reply is one to the question for the lineage of the class at a place of a lineage.
-fn is_to_trace_at<T: Told>(
-    config: &Config,
-    whole: &Lineage<T>,
-    place: usize,
-    reply: &Reply<T>,
-) -> bool
-    ensures { MatchBool result (IsReplyTo config.now (waits.Tracing (class_in whole.now place))
-        reply.now)
-        (IsReplyTo config.now (waits.Tracing (class_in whole.now place)) reply.now → ⊥) }
-{
-    match row_at(whole, place) {
-        Some(row) => is_to_trace(config, row.class(), reply),
-        None => is_to_trace(config, whole.class(), reply),
-    }
-}
-
 /// Whether a reply is one to what a link asked for.
 fn link_expects<T: Told>(config: &Config, link: &Link<T>, reply: &Reply<T>) -> bool
     ensures { MatchBool result (Expects (linking_at config.now link.now) reply.now)
@@ -290,7 +272,6 @@ fn link_expects<T: Told>(config: &Config, link: &Link<T>, reply: &Reply<T>) -> b
         Link::LookingPrepared(_) => is_to_look_prepared(reply),
         Link::TracingWhole(goal) => is_to_trace(config, goal.class.class(), reply),
         Link::Asking(_) => is_to_look_prepared(reply),
-        Link::Tracing(chain) => is_to_trace_at(config, &chain.whole, chain.place, reply),
         Link::Imposing(_, list, place) => is_to_impose(list, *place, reply),
         Link::Marking(_, list) => is_to_mark(list, reply),
     }

@@ -2,8 +2,7 @@
 //! then that it is prepared; those that are prepared already, as many as stand first, are passed (JVMS SE 8, 5.4, 5.4.2).
 
 ghost use Rattle.std.specs.Option.{option_map};
-ghost use Rattle.std.specs.Prelude.{◌≡◌, ◌≤◌, Some, IfOk, IfSome, length, slice_get, true};
-ghost use Rattle.cl_hierarchy.specs.Fronts.{IsFront};
+ghost use Rattle.std.specs.Prelude.{◌≡◌, ◌≤◌, Some, IfOk, length, slice_get, true};
 ghost use Rattle.cl_hierarchy.specs.Imposed.{OfPreparation};
 ghost use Rattle.cl_hierarchy.specs.Lineages.{rows_in};
 ghost use Rattle.cl_model.specs.Views.{need_of};
@@ -22,7 +21,7 @@ use crate::stage::{Chain, Goal, Link, Next, Stage};
 use crate::turn::Turn;
 use cl_config::Config;
 use cl_findings::{Finding, bring_lineages};
-use cl_hierarchy::{ClassRow, Equalities, Lineage};
+use cl_hierarchy::{ClassRow, Equalities, Lineage, Lineages};
 use cl_model::{Class, Need, Told};
 use cl_preparation::{fewer_constraints_of, surveyed};
 use std::alloc::{AllocError, Global};
@@ -92,9 +91,10 @@ pub(crate) fn take_whole<T: Told>(
     ensures plain { IsPlain result.turn }
     ensures past { IsPast result.stage }
 {
+    let whole = Lineages::of(whole);
     // brings that a `usize` counts them, and what the lineage keeps
     let _ = count_rows(&whole);
-    let _ = whole.class();
+    let _ = whole.lineage();
     ask(
         alloc,
         config,
@@ -107,30 +107,30 @@ pub(crate) fn take_whole<T: Told>(
 }
 
 /// How many classes stand above the class of a lineage.
-fn count_rows<T: Told>(whole: &Lineage<T>) -> usize
+fn count_rows<T: Told>(whole: &Lineages<T>) -> usize
     ensures { result ≡ length whole.now.above }
 {
-    whole.above().len()
+    whole.lineage().above().len()
 }
 
 /// The row at a place of a lineage, if there is one.
-pub(crate) fn row_at<T: Told>(whole: &Lineage<T>, place: usize) -> Option<&Arc<ClassRow<T>>>
+fn row_at<T: Told>(whole: &Lineages<T>, place: usize) -> Option<&Arc<ClassRow<T>>>
     ensures { option_map (λ r. r.now.value) result ≡ slice_get (rows_in whole.now) place }
 {
-    let above = whole.above();
+    let above = whole.lineage().above();
     if place == above.len() {
-        return Some(whole.own());
+        return Some(whole.lineage().own());
     }
     above.get(place)
 }
 
 /// The class at a place of a lineage; the class itself stands last.
-fn class_at<T: Told>(alloc: Global, whole: &Lineage<T>, place: usize) -> Result<Class, AllocError>
+fn class_at<T: Told>(alloc: Global, whole: &Lineages<T>, place: usize) -> Result<Class, AllocError>
     ensures { IfOk result (λ c. c ≡ class_in whole.now place) }
 {
     match row_at(whole, place) {
         Some(row) => row.class().try_clone(alloc),
-        None => whole.class().try_clone(alloc),
+        None => whole.lineage().class().try_clone(alloc),
     }
 }
 
@@ -187,14 +187,14 @@ fn trace_first<T: Told>(alloc: Global, config: &Arc<Config>, chain: Chain<T>) ->
         whole,
         place: from,
     } = chain;
-    match surveyed(alloc, whole, from) {
+    match surveyed(alloc, whole.into_lineage(), from) {
         Err(_) => out_of_memory(goal.q, goal.request),
         Ok(whole) => trace(
             alloc,
             config,
             Chain {
                 goal,
-                whole,
+                whole: Lineages::of(whole),
                 place: from,
             },
         ),
@@ -211,7 +211,7 @@ fn pass<T: Told>(alloc: Global, config: &Arc<Config>, chain: Chain<T>) -> Next<T
     ensures past { IsPast result.stage }
 {
     // brings what the lineage keeps
-    let _ = chain.whole.class();
+    let _ = chain.whole.lineage();
     let Chain {
         goal,
         whole,
@@ -231,7 +231,7 @@ fn pass<T: Told>(alloc: Global, config: &Arc<Config>, chain: Chain<T>) -> Next<T
     )
 }
 
-/// The lineage of the class at the place of a chain comes next: it is the front of that in hand, or is asked for.
+/// The lineage of the class at the place of a chain comes next, told from that in hand.
 fn trace<T: Told>(alloc: Global, config: &Arc<Config>, chain: Chain<T>) -> Next<T>
     requires chain { IsChain config.now.value chain }
     ensures leads { LeadsBy T.told config.now.value chain.goal.q chain.goal.request
@@ -239,27 +239,24 @@ fn trace<T: Told>(alloc: Global, config: &Arc<Config>, chain: Chain<T>) -> Next<
     ensures plain { IsPlain result.turn }
     ensures past { IsPast result.stage }
 {
-    match chain.whole.front(chain.place) {
-        Err(_) => give_up(chain),
-        Ok(None) => ask_lineage(alloc, config, chain),
-        Ok(Some(front)) => take_traced(alloc, config, chain, front),
-    }
-}
-
-/// Asks for the lineage of the class at the place of a chain.
-fn ask_lineage<T: Told>(alloc: Global, config: &Arc<Config>, chain: Chain<T>) -> Next<T>
-    requires chain { IsChain config.now.value chain }
-    ensures leads { LeadsBy T.told config.now.value chain.goal.q chain.goal.request
-        (chain_room chain) (ChainTold chain) result }
-    ensures plain { IsPlain result.turn }
-    ensures past { IsPast result.stage }
-{
-    match class_at(alloc, &chain.whole, chain.place) {
-        Err(_) => give_up(chain),
-        Ok(class) => Next {
-            stage: Stage::Link(Link::Tracing(chain)),
-            turn: Turn::Lineage(class),
-        },
+    let Chain {
+        goal,
+        mut whole,
+        place: at,
+    } = chain;
+    match whole.lineage_at(alloc, at) {
+        Err(_) => out_of_memory(goal.q, goal.request),
+        Ok(None) => unreachable!(),
+        Ok(Some(lineage)) => take_traced(
+            alloc,
+            config,
+            Chain {
+                goal,
+                whole,
+                place: at,
+            },
+            lineage,
+        ),
     }
 }
 
@@ -279,7 +276,7 @@ pub(crate) fn take_traced<T: Told>(
     ensures past { IsPast result.stage }
 {
     // brings what the lineage keeps
-    let _ = chain.whole.class();
+    let _ = chain.whole.lineage();
     match list_of(alloc, &lineage) {
         Err(_) => give_up(chain),
         Ok(list) => {
@@ -324,7 +321,7 @@ pub(crate) fn impose<T: Told>(
     ensures past { IsPast result.stage }
 {
     // brings what the lineage and the list keep
-    let _ = chain.whole.class();
+    let _ = chain.whole.lineage();
     bring_lineages(&list);
     let Ok(shared) = Arc::try_clone(&list) else {
         return give_up(chain);
@@ -384,13 +381,13 @@ pub(crate) fn refuse_link<T: Told>(
     ensures ends { EndsAsRefused chain.goal.request need result.turn }
 {
     // brings what the lineage and the list keep
-    let _ = chain.whole.class();
+    let _ = chain.whole.lineage();
     bring_lineages(&list);
     let Chain {
         goal,
         whole,
         place: at,
     } = chain;
-    let finding = Finding::refused_link(goal.request, whole, at, list, place, need);
+    let finding = Finding::refused_link(goal.request, whole.into_lineage(), at, list, place, need);
     post(goal.q, finding)
 }

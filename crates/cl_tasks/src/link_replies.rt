@@ -72,26 +72,6 @@ pub(crate) fn after_place_look<T: Told>(
     }
 }
 
-/// The lineage of a class of it was asked for.
-pub(crate) fn after_lineage<T: Told>(
-    alloc: Global,
-    config: &Arc<Config>,
-    chain: Chain<T>,
-    reply: Reply<T>,
-) -> Next<T>
-    requires chain { IsChain config.now.value chain }
-    requires expects { Expects (linking_at config.now.value (Link.Tracing chain)) reply }
-    ensures { Steps T.told (linking_at config.now.value (Link.Tracing chain)) reply result }
-{
-    // brings what the lineage keeps
-    let _ = chain.whole.class();
-    match reply {
-        Reply::Lineage(lineage) => take_traced(alloc, config, chain, lineage),
-        Reply::Memory => give_up(chain),
-        _ => unreachable!(),
-    }
-}
-
 /// An equality of a preparation was to be imposed.
 pub(crate) fn after_impose<T: Told>(
     alloc: Global,

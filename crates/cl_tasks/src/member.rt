@@ -1,18 +1,18 @@
 //! An entry that asks for a member: lookup, then its loading constraints one by one (JVMS SE 8, 5.4.3.2 to 5.4.3.4).
 
-ghost use Rattle.std.specs.Prelude.{◌≡◌, ◌<◌, ◌≤◌, ◌+◌, ◌-◌, Some, Err, IfOk, length};
-ghost use Rattle.cl_classfile.specs.Files.{file_of, reference};
+ghost use Rattle.std.specs.Prelude.{◌≡◌, ◌<◌, ◌≤◌, ◌-◌, Some, Err, IfOk, length};
+ghost use Rattle.cl_classfile.specs.Files.{reference};
 ghost use Rattle.cl_findings.specs.References.{GoesTo, IsOfFound, fault_verdict};
 ghost use Rattle.cl_hierarchy.specs.Imposed.{OfReference};
 ghost use Rattle.cl_hierarchy.specs.Lineages.{kin_of};
-ghost use Rattle.cl_members.specs.Asking.{Answers};
+ghost use Rattle.cl_members.specs.Asking.{LooksUp};
 ghost use Rattle.cl_members.specs.declared.fault.LookupFault.{LookupFault};
 ghost use Rattle.cl_model.specs.Views.{need_of, verdict_of};
 ghost use Rattle.cl_tasks.specs.Cited.{IsKind};
 ghost use Rattle.cl_tasks.specs.Deriving.{IsPast};
 ghost use Rattle.cl_tasks.specs.Follows.{EndsAsRefused};
 ghost use Rattle.cl_tasks.specs.Rooms.{imposing_room, settle_room, tracing_named_room, tracing_own_room};
-ghost use Rattle.cl_tasks.specs.Resolving.{Cites, ImposedTold, IsInaccessible, IsRefusedAccess, NamedTold, OwnTold, RefusedTold, TracedTold};
+ghost use Rattle.cl_tasks.specs.Resolving.{Cites, ImposedTold, IsInaccessible, IsRefusedAccess, OwnTold, RefusedTold, TracedTold};
 ghost use Rattle.cl_tasks.specs.Stages.{IsEntry, IsMember, IsOf};
 ghost use Rattle.cl_tasks.specs.Steps.{IsPlain, LeadsBy, memory_ends};
 ghost use Rattle.cl_tasks.specs.Turns.{equality_at};
@@ -158,7 +158,7 @@ fn find_member<T: Told>(
 ) -> Result<Found<T>, LookupFault>
     requires { IsKind (reference (kin_of own.now).file index)
         (kin_of named.now).class.name kind }
-    ensures { Answers own.now named.now index result }
+    ensures { LooksUp own.now named.now index result }
 {
     match kind {
         Kind::Field => find_field(alloc, own, named, index),
@@ -248,7 +248,7 @@ fn settle_fault<T: Told>(
     requires own { IsOf config.now.value entry.d.value.class own }
     requires goes { GoesTo entry.request own named entry.index }
     requires cites { Cites own named entry.index }
-    requires lookup { Answers own named entry.index (Err fault) }
+    requires lookup { LooksUp own named entry.index (Err fault) }
     ensures leads { LeadsBy T.told config.now.value entry.q entry.request tracing_named_room
         (TracedTold entry own named) result }
     ensures plain { IsPlain result.turn }

@@ -1,9 +1,8 @@
 //! An entry of the request's class: settled, resolved at once, or by the class that it names (JVMS SE 8, 5.4.3, 5.4.3.1).
 
-ghost use Rattle.std.specs.Prelude.{◌≡◌, [], Some, IfOk, IfSome};
-ghost use Rattle.cl_classfile.specs.Files.{file_of, reference};
+ghost use Rattle.std.specs.Prelude.{[], Some, IfOk, IfSome};
+ghost use Rattle.cl_classfile.specs.Files.{reference};
 ghost use Rattle.cl_findings.specs.References.{IsAtOnce, IsAtClass};
-ghost use Rattle.cl_model.specs.Frames.{class_named};
 ghost use Rattle.cl_model.specs.Views.{verdict_of};
 ghost use Rattle.cl_model.specs.declared.answer.Answer.TheVariants as answers;
 ghost use Rattle.cl_model.specs.declared.verdict.Verdict.TheVariants as verdicts;

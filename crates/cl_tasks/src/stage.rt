@@ -7,7 +7,7 @@ use crate::turn::{Reply, Turn};
 use cl_config::Config;
 use cl_delegation::{Home, Search};
 use cl_findings::{Finding, Target};
-use cl_hierarchy::{ClassRow, Equalities, Frame, Lineage, Path};
+use cl_hierarchy::{ClassRow, Equalities, Frame, Lineage, Lineages, Path};
 use cl_members::Found;
 use cl_model::{Request, Told};
 use std::alloc::Global;
@@ -89,7 +89,7 @@ pub struct Goal<T: Told> {
 #[derive(Drop)]
 pub struct Chain<T: Told> {
     pub goal: Goal<T>,
-    pub whole: Lineage<T>,
+    pub whole: Lineages<T>,
     pub place: usize,
 }
 
@@ -100,7 +100,6 @@ pub enum Link<T: Told> {
     TracingWhole(Goal<T>),
     /// Whether the class at the place is prepared is asked; no class of the lineage was found not to be yet.
     Asking(Chain<T>),
-    Tracing(Chain<T>),
     /// The equality at this place is being imposed.
     Imposing(Chain<T>, Arc<Equalities<T>>, usize),
     Marking(Chain<T>, Arc<Equalities<T>>),

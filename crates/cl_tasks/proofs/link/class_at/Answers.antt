@@ -11,5 +11,5 @@ returns-in-Some g c =
 pub returns-in-None : goal.returns-in-None
 returns-in-None g c =
     let is = no_row c.args.whole.now c.args.place (sym c.in-None.ensures) in
-    let copy = rw c.class-in-None.ensures.class at c.try_clone-in-None.ensures in
+    let copy = rw (c.class-in-None.ensures.class, c.lineage.ensures.whole) at c.try_clone-in-None.ensures in
     rw is copy

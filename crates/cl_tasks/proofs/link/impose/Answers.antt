@@ -4,7 +4,7 @@ use Rattle.cl_tasks.proofs.link.impose.Goals as goal
 
 pub returns-then-place-count_needs-clause-leads : goal.returns-then-place-count_needs-clause-leads
 returns-then-place-count_needs-clause-leads g c =
-    let kept = c.class.ensures.kept in
+    let kept = c.lineage.ensures.kept in
     let listed = rw c.deref.ensures at c.bring_lineages.ensures in
     let known : IsKnown g.T.Told.told c.args.chain c.args.list.value = record { place = c.requires.list; order = kept.order; whole = kept.lineage; listed = listed } in
     let lt = rw (c.count_needs.ensures, c.deref-2.ensures) at c.if-place-count_needs.true in
@@ -12,7 +12,7 @@ returns-then-place-count_needs-clause-leads g c =
 
 pub returns-else-place-count_needs-clause-leads : goal.returns-else-place-count_needs-clause-leads
 returns-else-place-count_needs-clause-leads g c =
-    let kept = c.class.ensures.kept in
+    let kept = c.lineage.ensures.kept in
     let listed = rw c.deref.ensures at c.bring_lineages.ensures in
     let known : IsKnown g.T.Told.told c.args.chain c.args.list.value = record { place = c.requires.list; order = kept.order; whole = kept.lineage; listed = listed } in
     let lt = rw (c.count_needs.ensures, c.deref-2.ensures) at c.if-place-count_needs.false in

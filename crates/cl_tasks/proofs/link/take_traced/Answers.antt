@@ -11,7 +11,7 @@ pub returns-in-Err-clause-leads : goal.returns-in-Err-clause-leads
 returns-in-Err-clause-leads g c =
     let k = c.args.chain in
     leads_out g.T.Told.told c.args.config.now.value k.goal.q k.goal.request (listed_room k) (LineageTold k c.args.lineage) (LineageTold k c.args.lineage) c.give_up.ensures c.requires.chain.goal.asked
-    (chain_some_turns c.args.config.now.value k c.requires.chain) (listed_post c.args.config.now.value k c.requires.chain c.class.ensures.kept.order)
+    (chain_some_turns c.args.config.now.value k c.requires.chain) (listed_post c.args.config.now.value k c.requires.chain c.lineage.ensures.kept.order)
 
 pub impose-requires-clause-list : goal.impose-requires-clause-list
 impose-requires-clause-list g c = at_place c.args.config.now.value c.args.chain c.args.lineage c.in-Ok.list.value c.requires.chain c.requires.lineage c.in-Ok.ensures
@@ -20,7 +20,7 @@ pub returns-clause-leads : goal.returns-clause-leads
 returns-clause-leads g c =
     let counted = rw c.deref.ensures at c.count_needs.ensures in
     let few = needs_few (length c.in-Ok.list.value.needs) c.count_needs.result c.count_needs.type_inv counted in
-    let kept = c.class.ensures.kept in
+    let kept = c.lineage.ensures.kept in
     let listed = rw c.deref-in-Ok.ensures at c.bring_lineages.ensures in
     let place = at_place c.args.config.now.value c.args.chain c.args.lineage c.in-Ok.list.value c.requires.chain c.requires.lineage c.in-Ok.ensures in
     let known : IsKnown g.T.Told.told c.args.chain c.in-Ok.list.value = record { place = place; order = kept.order; whole = kept.lineage; listed = listed } in

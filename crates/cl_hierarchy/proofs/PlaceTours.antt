@@ -1,0 +1,449 @@
+-- A tour by places is the tour by the rows there, in the order of a lineage.
+use Rattle.std.proofs.Common.{◌≡◌, ◌∙◌, ◌<◌, ◌+◌, ◌⊎◌, inl, inr, ℕ, zero, suc, Bool, true, false, ◌||◌, if◌then◌else◌, arith, List, [], ◌∷◌, ◌++◌, Option, Some, None, Result, Ok, Err, append_assoc, append-nil, get_or, length, map, take, refl, sym, ap, subst}
+use Rattle.std.specs.Prelude.{IfSome, OnOk, option_to_list, replicate, set, slice_get}
+use Rattle.std.specs.List.{AllByRecursion}
+use Rattle.std.proofs.lemmas.List.{map_push}
+use Rattle.std.proofs.lemmas.Option.{slice_get_within}
+use Rattle.cl_model.specs.declared.class.Class.{Class}
+use Rattle.cl_model.specs.Classes.{is_among, same_class}
+use Rattle.cl_model.specs.Lineages.{Kin, alone, once}
+use Rattle.cl_model.proofs.Ancestors.{same_self}
+use Rattle.cl_model.proofs.Complete.{is_class}
+use Rattle.cl_hierarchy.specs.declared.place_tour.Spot.{Spot}
+use Rattle.cl_hierarchy.specs.declared.supers.Supers.{Supers}
+use Rattle.cl_hierarchy.specs.declared.tour.Order.TheVariants as orders
+use Rattle.cl_hierarchy.specs.declared.tour.Task.{Task}
+use Rattle.cl_hierarchy.specs.declared.tour.Task.TheVariants as tasks
+use Rattle.cl_hierarchy.specs.Lineages.{IsRowIn}
+use Rattle.cl_hierarchy.specs.PlaceTours.{AreLineageAt, AreMarked, IsPlaced, IsPushed, Placed, Steps, StepsTo, classes_at, marks_at, rows_at, toured_at}
+use Rattle.cl_hierarchy.specs.Rows.{Rowed}
+use Rattle.cl_hierarchy.specs.Supers.{AreAllSupers, HasRow, IsRowAt, place_in, row_at}
+use Rattle.cl_hierarchy.specs.Tours.{Marked, Toured, first_row, interface_row, opened, over_from, step, steps_left, stops, told_at, upwards_of}
+use Rattle.cl_hierarchy.specs.Trees.{SupersBefore, kin_named, kin_under, kins, superclass_in}
+use Rattle.cl_hierarchy.proofs.Ancestry.{keeps, named_first, same_back}
+use Rattle.cl_hierarchy.proofs.Climbs.{placed_row}
+use Rattle.cl_hierarchy.proofs.Ends.{all_pop, all_push}
+use Rattle.cl_hierarchy.proofs.Rungs.{place_of, take_with}
+use Rattle.cl_hierarchy.proofs.Stages.{IsStage, ended_by, first_stage, preserved_by, smaller_by}
+use Rattle.cl_hierarchy.proofs.SuperTables.{supers_at}
+use Rattle.cl_hierarchy.proofs.Tours.{lineage_told}
+use Rattle.cl_hierarchy.proofs.Ways.{some_is}
+
+-- ---- rows at places
+
+-- one row
+one_row : (o : Option Rowed) (r : Rowed) → o ≡ Some r → option_to_list o ≡ r ∷ []
+one_row o r e = ap (λ (x : Option Rowed). option_to_list x) e
+
+pub rows_push : (rows : List Rowed) (ps : List ℕ) (p : ℕ) (r : Rowed) → slice_get rows p ≡ Some r → rows_at rows (ps ++ p ∷ []) ≡ rows_at rows ps ++ r ∷ []
+rows_push rows [] p r e = append-nil (option_to_list (slice_get rows p)) ∙ one_row (slice_get rows p) r e
+rows_push rows (q ∷ ps) p r e =
+    ap (λ (rs : List Rowed). option_to_list (slice_get rows q) ++ rs) (rows_push rows ps p r e) ∙ sym (append_assoc (option_to_list (slice_get rows q)) (rows_at rows ps) (r ∷ []))
+
+marks_push : (rows : List Rowed) (ss : List Spot) (s : Spot) (r : Rowed) → slice_get rows s.place ≡ Some r → marks_at rows (ss ++ s ∷ []) ≡ marks_at rows ss ++ record { row = r; task = s.task } ∷ []
+marks_push rows [] s r e =
+    append-nil (map (λ (x : Rowed). record { row = x; task = s.task }) (option_to_list (slice_get rows s.place)))
+    ∙ ap (λ (rs : List Rowed). map (λ (x : Rowed). record { row = x; task = s.task }) rs) (one_row (slice_get rows s.place) r e)
+marks_push rows (t ∷ ss) s r e =
+    let first : List Marked = map (λ (x : Rowed). record { row = x; task = t.task }) (option_to_list (slice_get rows t.place)) in
+    ap (λ (ms : List Marked). first ++ ms) (marks_push rows ss s r e) ∙ sym (append_assoc first (marks_at rows ss) (record { row = r; task = s.task } ∷ []))
+
+classes_push : (rows : List Rowed) (ps : List ℕ) (p : ℕ) (r : Rowed) → slice_get rows p ≡ Some r → classes_at rows (ps ++ p ∷ []) ≡ classes_at rows ps ++ r.class ∷ []
+classes_push rows ps p r e = ap (λ (rs : List Rowed). map (λ (x : Rowed). x.class) rs) (rows_push rows ps p r e) ∙ map_push (λ (x : Rowed). x.class) (rows_at rows ps) r
+
+-- ---- a class stands at one place
+
+pub row_in : (rows : List Rowed) (p : ℕ) (r : Rowed) → SupersBefore [] rows → slice_get rows p ≡ Some r → IsRowIn rows r
+row_in rows p r ordered e = placed_row rows (take p rows) r ordered (place_of rows p r e)
+
+-- a class that stood before is new to no later row
+not_later : (known : List Kin) (rows : List Rowed) (q : ℕ) (s : Rowed) (k : Kin) → SupersBefore known rows → slice_get rows q ≡ Some s → kin_named known s.class ≡ Some k → ⊥
+not_later known [] q s k h e named = absurd cc
+not_later known (x ∷ rows) zero s k h e named =
+    let gone : kin_named known s.class ≡ None = subst (λ (y : Rowed). kin_named known y.class ≡ None) (some_is x s e) h.0.is_new in
+    absurd cc
+not_later known (x ∷ rows) (suc q) s k h e named = not_later (kin_under known x ∷ known) rows q s k h.1 e (keeps known x s.class k h.0.is_new named)
+
+one_place : (known : List Kin) (rows : List Rowed) (p q : ℕ) (r s : Rowed) → SupersBefore known rows → slice_get rows p ≡ Some r → slice_get rows q ≡ Some s → s.class ≡ r.class → p ≡ q
+one_place known [] p q r s h e f same = absurd cc
+one_place known (x ∷ rows) zero zero r s h e f same = refl
+one_place known (x ∷ rows) zero (suc q) r s h e f same =
+    let is : s.class ≡ x.class = same ∙ sym (ap (λ (y : Rowed). y.class) (some_is x r e)) in
+    absurd (not_later (kin_under known x ∷ known) rows q s (kin_under known x) h.1 f (named_first known x s.class (same_back x.class s.class (sym is))))
+one_place known (x ∷ rows) (suc p) zero r s h e f same =
+    let is : r.class ≡ x.class = sym same ∙ sym (ap (λ (y : Rowed). y.class) (some_is x s f)) in
+    absurd (not_later (kin_under known x ∷ known) rows p r (kin_under known x) h.1 e (named_first known x r.class (same_back x.class r.class (sym is))))
+one_place known (x ∷ rows) (suc p) (suc q) r s h e f same = ap suc (one_place (kin_under known x ∷ known) rows p q r s h.1 e f same)
+
+-- ---- what was told
+
+among_push : (cs : List Class) (c d : Class) → is_among (cs ++ c ∷ []) d ≡ is_among cs d || same_class d c
+among_push [] c d = one (same_class d c)
+  where
+    one : (b : Bool) → b || false ≡ b
+    one true = refl
+    one false = refl
+among_push (x ∷ cs) c d = at (among_push cs c d) (same_class d x)
+  where
+    at : is_among (cs ++ c ∷ []) d ≡ is_among cs d || same_class d c → (b : Bool) → b || is_among (cs ++ c ∷ []) d ≡ (b || is_among cs d) || same_class d c
+    at more true = refl
+    at more false = more
+
+set_same : (l : List Bool) (i : ℕ) (b : Bool) → i < length l → slice_get (set l i b) i ≡ Some b
+set_same [] i b lt = absurd (omega (arith, lt))
+set_same (x ∷ l) zero b lt = refl
+set_same (x ∷ l) (suc i) b lt = set_same l i b (omega (arith, lt))
+
+set_other : (l : List Bool) (i j : ℕ) (b : Bool) → (i ≡ j → ⊥) → slice_get (set l i b) j ≡ slice_get l j
+set_other [] i j b other = refl
+set_other (x ∷ l) zero zero b other = absurd (other refl)
+set_other (x ∷ l) zero (suc j) b other = refl
+set_other (x ∷ l) (suc i) zero b other = refl
+set_other (x ∷ l) (suc i) (suc j) b other = set_other l i j b (λ e. other (ap suc e))
+
+same_or : (p q : ℕ) → (p ≡ q) ⊎ (p ≡ q → ⊥)
+same_or zero zero = inl refl
+same_or zero (suc q) = inr (λ e. omega (arith, e))
+same_or (suc p) zero = inr (λ e. omega (arith, e))
+same_or (suc p) (suc q) = elim (same_or p q) [
+  | inl e ↦ inl (ap suc e)
+  | inr f ↦ inr (λ e. f (let same : p ≡ q = omega (arith, e) in same))
+]
+
+or_true : (a b : Bool) → b ≡ true → a || b ≡ true
+or_true true b e = refl
+or_true false b e = e
+
+or_false : (a b : Bool) → b ≡ false → a || b ≡ a
+or_false true b e = refl
+or_false false b e = e
+
+-- one class more
+marked_more : (rows : List Rowed) (cs : List Class) (told : List Bool) (p : ℕ) (r : Rowed) → SupersBefore [] rows → slice_get rows p ≡ Some r → AreMarked rows cs told → AreMarked rows (cs ++ r.class ∷ []) (set told p true)
+marked_more rows cs told p r ordered at h = λ q s e. elim (same_or p q) [
+  | inl is ↦
+      let same : r ≡ s = some_is r s (sym at ∙ ap (λ (n : ℕ). slice_get rows n) is ∙ e) in
+      subst (λ (n : ℕ). slice_get (set told p true) n ≡ Some (is_among (cs ++ r.class ∷ []) s.class)) is (
+      set_same told p true (slice_get_within told p (is_among cs r.class) (h p r at))
+      ∙ sym (ap (λ (b : Bool). Some b) (among_push cs r.class s.class ∙ or_true (is_among cs s.class) (same_class s.class r.class) (ap (λ (x : Rowed). same_class x.class r.class) (sym same) ∙ same_self r.class))))
+  | inr other ↦
+      set_other told p q true other ∙ h q s e
+      ∙ ap (λ (b : Bool). Some b) (sym (among_push cs r.class s.class ∙ or_false (is_among cs s.class) (same_class s.class r.class) (apart q s e other (same_class s.class r.class) refl)))
+]
+  where
+    apart : (q : ℕ) (s : Rowed) → slice_get rows q ≡ Some s → (p ≡ q → ⊥) → (b : Bool) → same_class s.class r.class ≡ b → b ≡ false
+    apart q s e other true same = absurd (other (one_place [] rows p q r s ordered at e (is_class s.class r.class same)))
+    apart q s e other false same = refl
+
+-- ---- what is put
+
+-- one thing more is left to do
+record Pushes (rows : List Rowed) (a : Placed) (m : Marked) (b : Placed) : Type 0 where
+  placed : IsPlaced rows b
+  told : b.told ≡ a.told
+  marks : marks_at rows b.stack ≡ marks_at rows a.stack ++ m ∷ []
+
+pushes : (rows : List Rowed) (a b : Placed) (p : ℕ) (k : Task) (r : Rowed) → slice_get rows p ≡ Some r → IsPlaced rows a → IsPushed a p k b → Pushes rows a (record { row = r; task = k }) b
+pushes rows a b p k r e h put = record {
+  placed = record {
+    told_in = subst (λ (ps : List ℕ). AllByRecursion (HasRow rows) ps) (sym put.told) h.told_in;
+    stack_in =
+        subst (λ (ss : List Spot). AllByRecursion (λ (s : Spot). HasRow rows s.place) ss) (sym put.stack)
+        (all_push (λ (s : Spot). HasRow rows s.place) a.stack (record { place = p; task = k }) h.stack_in (r, e));
+    is_told_is =
+        subst (λ (bs : List Bool). AreMarked rows (classes_at rows b.told) bs) (sym put.is_told)
+        (subst (λ (ps : List ℕ). AreMarked rows (classes_at rows ps) a.is_told) (sym put.told) h.is_told_is);
+  };
+  told = put.told;
+  marks = ap (λ (ss : List Spot). marks_at rows ss) put.stack ∙ marks_push rows a.stack (record { place = p; task = k }) r e;
+}
+
+-- the same, but for what is left to do
+toured_is : (rows : List Rowed) (old new : Placed) (ms : List Marked) → new.told ≡ old.told → marks_at rows new.stack ≡ ms → toured_at rows new ≡ record (toured_at rows old) { stack = ms }
+toured_is rows old new ms told e =
+    ap (λ (ps : List ℕ). let x : Toured = record { told = rows_at rows ps; seen = classes_at rows ps; left = classes_at rows ps; stack = marks_at rows new.stack } in x) told
+    ∙ ap (λ (xs : List Marked). let x : Toured = record { told = rows_at rows old.told; seen = classes_at rows old.told; left = classes_at rows old.told; stack = xs } in x) e
+
+-- ---- steps
+
+-- whether the class at a place was told
+bit : (rows : List Rowed) (old : Placed) (r : Rowed) (p : ℕ) (b : Bool) → slice_get rows p ≡ Some r → IsPlaced rows old → IfSome (slice_get old.is_told p) (λ c. b ≡ c) → b ≡ is_among (classes_at rows old.told) r.class
+bit rows old r p b at placed h = has (slice_get old.is_told p) (placed.is_told_is p r at) h
+  where
+    some_bool : (x y : Bool) → (let o : Option Bool = Some x in o) ≡ Some y → x ≡ y
+    some_bool x y e = cc
+
+    has : (o : Option Bool) → o ≡ Some (is_among (classes_at rows old.told) r.class) → IfSome o (λ c. b ≡ c) → b ≡ is_among (classes_at rows old.told) r.class
+    has None e f = absurd cc
+    has (Some c) e f = f ∙ some_bool c (is_among (classes_at rows old.told) r.class) e
+
+-- to come to a class that was told leads to nothing
+pub came_again : (table : List Supers) (old : Placed) (p : ℕ) (b wanted : Bool) → IfSome (slice_get old.is_told p) (λ c. b ≡ c) → b ≡ true → Steps table old p (tasks.Come wanted) old
+came_again table old p b wanted h e = λ rows r ordered are at placed. record {
+  placed = placed;
+  steps =
+      let t = toured_at rows old in
+      ap (λ (c : Bool). let x : Toured = record t { stack = if c then t.stack else t.stack ++ opened orders.Lineage rows r } in x) (sym e ∙ bit rows old r p b at placed h);
+}
+
+module _ (rows : List Rowed) (old : Placed) (r : Rowed) (p : ℕ) (b : Bool) (at : slice_get rows p ≡ Some r) (placed : IsPlaced rows old) (h : IfSome (slice_get old.is_told p) (λ c. b ≡ c)) (e : b ≡ false) where
+  -- what is left once a class was come to
+  opens : (wanted : Bool) (new : Placed) → new.told ≡ old.told → marks_at rows new.stack ≡ marks_at rows old.stack ++ opened orders.Lineage rows r → toured_at rows new ≡ step orders.Lineage rows (toured_at rows old) r (tasks.Come wanted)
+  opens wanted new told marks =
+      let t = toured_at rows old in
+      toured_is rows old new (t.stack ++ opened orders.Lineage rows r) told marks
+      ∙ ap (λ (c : Bool). let x : Toured = record t { stack = if c then t.stack else t.stack ++ opened orders.Lineage rows r } in x) (sym e ∙ bit rows old r p b at placed h)
+
+  two : (old_marks : List Marked) (ms : List Marked) → ms ≡ (old_marks ++ record { row = r; task = tasks.Leave } ∷ []) ++ record { row = r; task = tasks.Over 0 } ∷ [] → first_row rows (superclass_in r) ≡ None → ms ≡ old_marks ++ opened orders.Lineage rows r
+  two old_marks ms is none =
+      is ∙ append_assoc old_marks (record { row = r; task = tasks.Leave } ∷ []) (record { row = r; task = tasks.Over 0 } ∷ [])
+      ∙ ap (λ (o : Option Rowed). old_marks ++ record { row = r; task = tasks.Leave } ∷ record { row = r; task = tasks.Over 0 } ∷ upwards_of orders.Lineage o) (sym none)
+
+  three : (old_marks : List Marked) (ms : List Marked) (x : Rowed) → ms ≡ ((old_marks ++ record { row = r; task = tasks.Leave } ∷ []) ++ record { row = r; task = tasks.Over 0 } ∷ []) ++ record { row = x; task = tasks.Come true } ∷ []
+      → first_row rows (superclass_in r) ≡ Some x → ms ≡ old_marks ++ opened orders.Lineage rows r
+  three old_marks ms x is some =
+      let leave : List Marked = record { row = r; task = tasks.Leave } ∷ [] in
+      let over : List Marked = record { row = r; task = tasks.Over 0 } ∷ [] in
+      let come : List Marked = record { row = x; task = tasks.Come true } ∷ [] in
+      is ∙ append_assoc (old_marks ++ leave) over come ∙ append_assoc old_marks leave (over ++ come)
+      ∙ ap (λ (o : Option Rowed). old_marks ++ record { row = r; task = tasks.Leave } ∷ record { row = r; task = tasks.Over 0 } ∷ upwards_of orders.Lineage o) (sym some)
+
+-- to come to another, which has no superclass
+pub came_alone : (table : List Supers) (old a new : Placed) (p : ℕ) (b wanted : Bool) (up : Option ℕ) → IfSome (slice_get old.is_told p) (λ c. b ≡ c) → b ≡ false → IsPushed old p tasks.Leave a → IsPushed a p (tasks.Over 0) new
+    → ((s : Supers) → slice_get table p ≡ Some s → up ≡ s.up) → up ≡ None → Steps table old p (tasks.Come wanted) new
+came_alone table old a new p b wanted up h e one two_ up_is none = λ rows r ordered are at placed.
+    let first = pushes rows old a p tasks.Leave r at placed one in
+    let second = pushes rows a new p (tasks.Over 0) r at first.placed two_ in
+    let s = supers_at rows rows table p r are at in
+    let gone : first_row rows (superclass_in r) ≡ None = sym s.2.up.row_is ∙ ap (λ (o : Option ℕ). row_at rows o) (sym (up_is s.0 s.1) ∙ none) in
+    record {
+      placed = second.placed;
+      steps = opens rows old r p b at placed h e wanted new (second.told ∙ first.told) (two rows old r p b at placed h e (marks_at rows old.stack) (marks_at rows new.stack) (second.marks ∙ ap (λ (ms : List Marked). ms ++ record { row = r; task = tasks.Over 0 } ∷ []) first.marks) gone);
+    }
+
+row_above : (rows : List Rowed) (row : Option Rowed) (o : Option ℕ) (up : ℕ) → IsRowAt rows row o → o ≡ Some up → (x : Rowed) × (slice_get rows up ≡ Some x) × (row ≡ Some x)
+row_above rows row o up h e =
+    let at : HasRow rows up = subst (λ (y : Option ℕ). IfSome y (HasRow rows)) e h.within in
+    (at.0, at.1, sym h.row_is ∙ ap (λ (y : Option ℕ). row_at rows y) e ∙ at.1)
+
+-- and which has one
+pub came_under : (table : List Supers) (old a c new : Placed) (p up : ℕ) (b wanted : Bool) (o : Option ℕ) → IfSome (slice_get old.is_told p) (λ d. b ≡ d) → b ≡ false → IsPushed old p tasks.Leave a → IsPushed a p (tasks.Over 0) c
+    → ((s : Supers) → slice_get table p ≡ Some s → o ≡ s.up) → o ≡ Some up → IsPushed c up (tasks.Come true) new → Steps table old p (tasks.Come wanted) new
+came_under table old a c new p up b wanted o h e one two_ up_is some last = λ rows r ordered are at placed.
+    let first = pushes rows old a p tasks.Leave r at placed one in
+    let second = pushes rows a c p (tasks.Over 0) r at first.placed two_ in
+    let s = supers_at rows rows table p r are at in
+    let x = row_above rows (first_row rows (superclass_in r)) s.0.up up s.2.up (sym (up_is s.0 s.1) ∙ some) in
+    let third = pushes rows c new up (tasks.Come true) x.0 x.1 second.placed last in
+    record {
+      placed = third.placed;
+      steps =
+          opens rows old r p b at placed h e wanted new (third.told ∙ second.told ∙ first.told)
+          (three rows old r p b at placed h e (marks_at rows old.stack) (marks_at rows new.stack) x.0
+          (third.marks ∙ ap (λ (ms : List Marked). ms ++ record { row = x.0; task = tasks.Come true } ∷ []) (second.marks ∙ ap (λ (ms : List Marked). ms ++ record { row = r; task = tasks.Over 0 } ∷ []) first.marks)) x.2);
+    }
+
+-- no superinterface is left
+pub went_past : (table : List Supers) (old : Placed) (p at : ℕ) (o : Option ℕ) → ((s : Supers) → slice_get table p ≡ Some s → o ≡ place_in s.over.items at) → o ≡ None → Steps table old p (tasks.Over at) old
+went_past table old p at o over_is none = λ rows r ordered are here placed.
+    let s = supers_at rows rows table p r are here in
+    let gone : interface_row rows r at ≡ None = sym (s.2.over at).row_is ∙ ap (λ (x : Option ℕ). row_at rows x) (sym (over_is s.0 s.1) ∙ none) in
+    let t = toured_at rows old in
+    record {
+      placed = placed;
+      steps =
+          ap (λ (ms : List Marked). let x : Toured = record t { stack = ms } in x) (sym (append-nil t.stack))
+          ∙ ap (λ (x : Option Rowed). let y : Toured = record t { stack = t.stack ++ over_from r at x } in y) (sym gone);
+    }
+
+-- one is
+pub went_over : (table : List Supers) (old a new : Placed) (p at next above : ℕ) (o : Option ℕ) → ((s : Supers) → slice_get table p ≡ Some s → o ≡ place_in s.over.items at) → o ≡ Some above → next ≡ at + 1
+    → IsPushed old p (tasks.Over next) a → IsPushed a above (tasks.Come true) new → Steps table old p (tasks.Over at) new
+went_over table old a new p at next above o over_is some after one two_ = λ rows r ordered are here placed.
+    let s = supers_at rows rows table p r are here in
+    let x = row_above rows (interface_row rows r at) (place_in s.0.over.items at) above (s.2.over at) (sym (over_is s.0 s.1) ∙ some) in
+    let first = pushes rows old a p (tasks.Over next) r here placed one in
+    let second = pushes rows a new above (tasks.Come true) x.0 x.1 first.placed two_ in
+    let t = toured_at rows old in
+    let ms = marks_at rows old.stack in
+    let come : List Marked = record { row = x.0; task = tasks.Come true } ∷ [] in
+    record {
+      placed = second.placed;
+      steps =
+          toured_is rows old new (ms ++ over_from r at (Some x.0)) (second.told ∙ first.told)
+          (second.marks ∙ ap (λ (ns : List Marked). ns ++ come) first.marks ∙ append_assoc ms (record { row = r; task = tasks.Over next } ∷ []) come
+          ∙ ap (λ (n : ℕ). ms ++ record { row = r; task = tasks.Over n } ∷ come) after)
+          ∙ ap (λ (y : Option Rowed). let z : Toured = record t { stack = t.stack ++ over_from r at y } in z) (sym x.2);
+    }
+
+-- a class that was told is not told again
+pub left_again : (table : List Supers) (old : Placed) (p : ℕ) (b : Bool) → IfSome (slice_get old.is_told p) (λ c. b ≡ c) → b ≡ true → Steps table old p tasks.Leave old
+left_again table old p b h e = λ rows r ordered are at placed. record {
+  placed = placed;
+  steps =
+      let t = toured_at rows old in
+      let cs = classes_at rows old.told in
+      ap (λ (c : Bool).
+      let x : Toured = record {
+        told = if c then t.told else t.told ++ r ∷ [];
+        seen = if c then cs else cs ++ r.class ∷ [];
+        left = if c then cs else cs ++ r.class ∷ [];
+        stack = t.stack;
+      } in x) (sym e ∙ bit rows old r p b at placed h);
+}
+
+-- another is
+pub left_told : (table : List Supers) (old new : Placed) (p : ℕ) (b : Bool) → IfSome (slice_get old.is_told p) (λ c. b ≡ c) → b ≡ false → new.told ≡ old.told ++ p ∷ [] → new.is_told ≡ set old.is_told p true → new.stack ≡ old.stack → Steps table old p tasks.Leave new
+left_told table old new p b h e told is_told stack = λ rows r ordered are at placed.
+    let cs = classes_at rows old.told in
+    let classes : classes_at rows new.told ≡ cs ++ r.class ∷ [] = ap (λ (ps : List ℕ). classes_at rows ps) told ∙ classes_push rows old.told p r at in
+    let t = toured_at rows old in
+    record {
+      placed = record {
+        told_in = subst (λ (ps : List ℕ). AllByRecursion (HasRow rows) ps) (sym told) (all_push (HasRow rows) old.told p placed.told_in (r, at));
+        stack_in = subst (λ (ss : List Spot). AllByRecursion (λ (s : Spot). HasRow rows s.place) ss) (sym stack) placed.stack_in;
+        is_told_is =
+            subst (λ (bs : List Bool). AreMarked rows (classes_at rows new.told) bs) (sym is_told)
+            (subst (λ (ds : List Class). AreMarked rows ds (set old.is_told p true)) (sym classes) (marked_more rows cs old.is_told p r ordered at placed.is_told_is));
+      };
+      steps =
+          ap (λ (rs : List Rowed). let x : Toured = record { told = rs; seen = classes_at rows new.told; left = classes_at rows new.told; stack = marks_at rows new.stack } in x) (ap (λ (ps : List ℕ). rows_at rows ps) told ∙ rows_push rows old.told p r at)
+          ∙ ap (λ (ds : List Class). let x : Toured = record { told = t.told ++ r ∷ []; seen = ds; left = ds; stack = marks_at rows new.stack } in x) classes
+          ∙ ap (λ (ss : List Spot). let x : Toured = record { told = t.told ++ r ∷ []; seen = cs ++ r.class ∷ []; left = cs ++ r.class ∷ []; stack = marks_at rows ss } in x) stack
+          ∙ ap (λ (c : Bool).
+          let x : Toured = record {
+            told = if c then t.told else t.told ++ r ∷ [];
+            seen = if c then cs else cs ++ r.class ∷ [];
+            left = if c then cs else cs ++ r.class ∷ [];
+            stack = t.stack;
+          } in x) (sym e ∙ bit rows old r p b at placed h);
+    }
+
+-- what goes well
+pub on_ok : {A E : Type 0} (P Q : Type 0) (r : Result A E) → (P → Q) → OnOk r P → OnOk r Q
+on_ok P Q (Ok a) f h = f h
+on_ok P Q (Err e) f h = tt
+
+pub none_left : (o : Option ℕ) → ((x : ℕ) → o ≡ Some x → ⊥) → o ≡ None
+none_left None h = refl
+none_left (Some x) h = absurd (h x refl)
+
+-- ---- a whole tour
+
+-- what holds between two steps
+pub record IsTouring (rows : List Rowed) (start : Rowed) (t : Placed) : Type 0 where
+  pub placed : IsPlaced rows t
+  pub stage : IsStage orders.Lineage rows (once (told_at orders.Lineage (stops orders.Lineage (alone (kin_under (kins rows) start)) true))) (toured_at rows t)
+
+-- none was told
+pub touring : (rows : List Rowed) (p : ℕ) (r : Rowed) (t new : Placed) (told : List Bool) → SupersBefore [] rows → slice_get rows p ≡ Some r → t.told ≡ [] → t.is_told ≡ told → ((place : ℕ) → place < length rows → slice_get told place ≡ Some false) → t.stack ≡ []
+    → IsPushed t p (tasks.Come true) new → IsTouring rows r new
+touring rows p r t new told ordered at none bits each empty put =
+    let placed : IsPlaced rows t = record {
+      told_in = subst (λ (ps : List ℕ). AllByRecursion (HasRow rows) ps) (sym none) tt;
+      stack_in = subst (λ (ss : List Spot). AllByRecursion (λ (s : Spot). HasRow rows s.place) ss) (sym empty) tt;
+      is_told_is =
+          subst (λ (bs : List Bool). AreMarked rows (classes_at rows t.told) bs) (sym bits)
+          (subst (λ (ps : List ℕ). AreMarked rows (classes_at rows ps) told) (sym none) (λ q s e. each q (slice_get_within rows q s e)));
+    } in
+    let first = pushes rows t new p (tasks.Come true) r at placed put in
+    let nothing : new.told ≡ [] = first.told ∙ none in
+    record {
+      placed = first.placed;
+      stage =
+          first_stage rows orders.Lineage r true (rows_at rows new.told) (classes_at rows new.told) (classes_at rows new.told) (marks_at rows new.stack) (row_in rows p r ordered at)
+          (ap (λ (ps : List ℕ). rows_at rows ps) nothing) (ap (λ (ps : List ℕ). classes_at rows ps) nothing) (ap (λ (ps : List ℕ). classes_at rows ps) nothing)
+          (first.marks ∙ ap (λ (ss : List Spot). marks_at rows ss ++ record { row = r; task = tasks.Come true } ∷ []) empty);
+    }
+
+module _ (rows : List Rowed) (table : List Supers) (start : Rowed) (t rest new : Placed) (next : Spot) (ordered : SupersBefore [] rows) (are : AreAllSupers rows rows table) (told : rest.told ≡ t.told) (is_told : rest.is_told ≡ t.is_told)
+    (popped : t.stack ≡ rest.stack ++ next ∷ []) (steps : Steps table rest next.place next.task new) (h : IsTouring rows start t) where
+  spots : AllByRecursion (λ (s : Spot). HasRow rows s.place) rest.stack × HasRow rows next.place
+  spots =
+      all_pop (λ (s : Spot). HasRow rows s.place) rest.stack next
+      (subst (λ (ss : List Spot). AllByRecursion (λ (s : Spot). HasRow rows s.place) ss) popped h.placed.stack_in)
+
+  abbrev row : Rowed
+  row = spots.1.0
+
+  rest_placed : IsPlaced rows rest
+  rest_placed = record {
+    told_in = subst (λ (ps : List ℕ). AllByRecursion (HasRow rows) ps) (sym told) h.placed.told_in;
+    stack_in = spots.0;
+    is_told_is =
+        subst (λ (bs : List Bool). AreMarked rows (classes_at rows rest.told) bs) (sym is_told)
+        (subst (λ (ps : List ℕ). AreMarked rows (classes_at rows ps) t.is_told) (sym told) h.placed.is_told_is);
+  }
+
+  marks : marks_at rows t.stack ≡ marks_at rows rest.stack ++ record { row = row; task = next.task } ∷ []
+  marks = ap (λ (ss : List Spot). marks_at rows ss) popped ∙ marks_push rows rest.stack next row spots.1.1
+
+  went : StepsTo rows rest row next.task new
+  went = steps rows row ordered are spots.1.1 rest_placed
+
+  before : IsStage orders.Lineage rows (once (told_at orders.Lineage (stops orders.Lineage (alone (kin_under (kins rows) start)) true)))
+      (record { told = rows_at rows rest.told; seen = classes_at rows rest.told; left = classes_at rows rest.told; stack = marks_at rows t.stack })
+  before =
+      subst (λ (ps : List ℕ). IsStage orders.Lineage rows (once (told_at orders.Lineage (stops orders.Lineage (alone (kin_under (kins rows) start)) true)))
+      (record { told = rows_at rows ps; seen = classes_at rows ps; left = classes_at rows ps; stack = marks_at rows t.stack })) (sym told) h.stage
+
+  pub toured_on : IsTouring rows start new
+  toured_on = record {
+    placed = went.placed;
+    stage = preserved_by rows ordered orders.Lineage (once (told_at orders.Lineage (stops orders.Lineage (alone (kin_under (kins rows) start)) true))) (rows_at rows rest.told) (classes_at rows rest.told) (classes_at rows rest.told) (marks_at rows t.stack) (marks_at rows rest.stack) (record { row = row; task = next.task }) marks
+        (toured_at rows new) before went.steps;
+  }
+
+  pub toured_less : steps_left (kins rows) (marks_at rows new.stack) < steps_left (kins rows) (marks_at rows t.stack)
+  toured_less =
+      smaller_by rows ordered orders.Lineage (once (told_at orders.Lineage (stops orders.Lineage (alone (kin_under (kins rows) start)) true))) (rows_at rows rest.told) (classes_at rows rest.told) (classes_at rows rest.told) (marks_at rows t.stack) (marks_at rows rest.stack) (record { row = row; task = next.task }) marks
+      (toured_at rows new) before went.steps
+
+-- nothing is left to do: what was told is the lineage
+pub toured_all : (rows : List Rowed) (start : Rowed) (t : Placed) → t.stack ≡ [] → IsTouring rows start t → AreLineageAt rows start t.told
+toured_all rows start t empty h = record {
+  within = h.placed.told_in;
+  order =
+      ended_by rows orders.Lineage (once (told_at orders.Lineage (stops orders.Lineage (alone (kin_under (kins rows) start)) true))) (rows_at rows t.told) (classes_at rows t.told) (classes_at rows t.told) (marks_at rows t.stack) (ap (λ (ss : List Spot). marks_at rows ss) empty) h.stage
+      ∙ ap (λ (ks : List Kin). once ks) (lineage_told (alone (kin_under (kins rows) start)) true);
+}
+
+-- of each place none was told
+pub none_yet : (n place : ℕ) → place < n → slice_get (replicate n false) place ≡ Some false
+none_yet zero place lt = absurd (omega (arith, lt))
+none_yet (suc n) zero lt = refl
+none_yet (suc n) (suc place) lt = none_yet n place (omega (arith, lt))
+
+pub row_there : {A : Type 0} (v : A → Rowed) (xs : List A) (i : ℕ) → i < length xs → HasRow (map v xs) i
+row_there v [] i lt = absurd (omega (arith, lt))
+row_there v (x ∷ xs) zero lt = (v x, refl)
+row_there v (x ∷ xs) (suc i) lt = row_there v xs i (omega (arith, lt))
+
+-- ---- rows of places
+
+rows_both : (rows : List Rowed) (ps qs : List ℕ) → rows_at rows (ps ++ qs) ≡ rows_at rows ps ++ rows_at rows qs
+rows_both rows [] qs = refl
+rows_both rows (p ∷ ps) qs = ap (λ (rs : List Rowed). option_to_list (slice_get rows p) ++ rs) (rows_both rows ps qs) ∙ sym (append_assoc (option_to_list (slice_get rows p)) (rows_at rows ps) (rows_at rows qs))
+
+pub rows_next : (rows : List Rowed) (ps : List ℕ) (n p : ℕ) → slice_get ps n ≡ Some p → rows_at rows (take (suc n) ps) ≡ rows_at rows (take n ps) ++ option_to_list (slice_get rows p)
+rows_next rows ps n p e =
+    ap (λ (qs : List ℕ). rows_at rows qs) (take_with ps n p e) ∙ rows_both rows (take n ps) (p ∷ [])
+    ∙ ap (λ (rs : List Rowed). rows_at rows (take n ps) ++ rs) (append-nil (option_to_list (slice_get rows p)))
+
+pub row_pushed : {A : Type 0} (v : A → Rowed) (rows : List Rowed) (old new : List A) (p : ℕ) (x clone : A) → new ≡ old ++ clone ∷ [] → v clone ≡ v x → slice_get rows p ≡ Some (v x) → map v new ≡ map v old ++ option_to_list (slice_get rows p)
+row_pushed v rows old new p x clone e same at =
+    ap (λ xs. map v xs) e ∙ map_push v old clone ∙ ap (λ (r : Rowed). map v old ++ r ∷ []) same ∙ ap (λ (o : Option Rowed). map v old ++ option_to_list o) (sym at)
+
+no_row_at : {A : Type 0} (v : A → Rowed) (xs : List A) (p : ℕ) → slice_get xs p ≡ None → slice_get (map v xs) p ≡ None
+no_row_at v [] zero e = refl
+no_row_at v [] (suc p) e = refl
+no_row_at v (x ∷ xs) zero e = absurd cc
+no_row_at v (x ∷ xs) (suc p) e = no_row_at v xs p e
+
+pub no_row_pushed : {A : Type 0} (v : A → Rowed) (xs old : List A) (p : ℕ) → slice_get xs p ≡ None → map v old ≡ map v old ++ option_to_list (slice_get (map v xs) p)
+no_row_pushed v xs old p none = sym (ap (λ (o : Option Rowed). map v old ++ option_to_list o) (no_row_at v xs p none) ∙ append-nil (map v old))
+
+pub place_read : (ps : List ℕ) (n d : ℕ) → n < length ps → slice_get ps n ≡ Some (get_or ps n d)
+place_read [] n d lt = absurd (omega (arith, lt))
+place_read (p ∷ ps) zero d lt = refl
+place_read (p ∷ ps) (suc n) d lt = place_read ps n d (omega (arith, lt))

@@ -1,0 +1,83 @@
+-- A tour in the order of a lineage by the places of its rows (JVMS SE 8, 5.3.5).
+use Rattle.std.specs.Prelude.{◌≡◌, ℕ, Bool, List, [], ◌∷◌, ◌++◌, Some, map, option_to_list, slice_get}
+use Rattle.std.specs.List.{AllByRecursion}
+use Rattle.cl_model.specs.declared.class.Class.{Class}
+use Rattle.cl_model.specs.Classes.{is_among}
+use Rattle.cl_model.specs.Lineages.{lineage}
+use Rattle.cl_hierarchy.specs.declared.place_tour.Spot.{Spot}
+use Rattle.cl_hierarchy.specs.declared.tour.Order.TheVariants as orders
+use Rattle.cl_hierarchy.specs.declared.tour.Task.{Task}
+use Rattle.cl_hierarchy.specs.Rows.{Rowed}
+use Rattle.cl_hierarchy.specs.Supers.{AreAllSupers, HasRow}
+use Rattle.cl_hierarchy.specs.Tours.{Marked, Toured, step}
+use Rattle.cl_hierarchy.specs.Trees.{SupersBefore, kin_under, kins}
+use Rattle.cl_hierarchy.specs.declared.supers.Supers.{Supers}
+
+-- the rows at these places
+abbrev pub rows_at : List Rowed → List ℕ → List Rowed
+rows_at rows [] = []
+rows_at rows (p ∷ ps) = option_to_list (slice_get rows p) ++ rows_at rows ps
+
+-- the classes of these
+abbrev pub classes_at : List Rowed → List ℕ → List Class
+classes_at rows places = map (λ r. r.class) (rows_at rows places)
+
+-- what is left to do for the rows at places
+abbrev pub marks_at : List Rowed → List Spot → List Marked
+marks_at rows [] = []
+marks_at rows (s ∷ ss) =
+    map (λ (r : Rowed). record { row = r; task = s.task }) (option_to_list (slice_get rows s.place))
+    ++ marks_at rows ss
+
+-- it is told of each place whether its class is among these
+abbrev pub AreMarked : List Rowed → List Class → List Bool → Type 0
+AreMarked rows cs told =
+    (place : ℕ) (r : Rowed) → slice_get rows place ≡ Some r
+    → slice_get told place ≡ Some (is_among cs r.class)
+
+-- the state of a tour: the places that were told, of each place whether it was, and what is left
+-- to do
+pub record Placed : Type 0 where
+  pub told : List ℕ
+  pub is_told : List Bool
+  pub stack : List Spot
+
+-- more is left to do at a place
+pub record IsPushed (old : Placed) (place : ℕ) (task : Task) (new : Placed) : Type 0 where
+  pub told : new.told ≡ old.told
+  pub is_told : new.is_told ≡ old.is_told
+  pub stack : new.stack ≡ old.stack ++ record { place = place; task = task } ∷ []
+
+-- the same by rows
+abbrev pub toured_at : List Rowed → Placed → Toured
+toured_at rows t =
+    record {
+      told = rows_at rows t.told;
+      seen = classes_at rows t.told;
+      left = classes_at rows t.told;
+      stack = marks_at rows t.stack;
+    }
+
+-- each place is of a row, and of each it is told whether its class was
+pub record IsPlaced (rows : List Rowed) (t : Placed) : Type 0 where
+  pub told_in : AllByRecursion (HasRow rows) t.told
+  pub stack_in : AllByRecursion (λ (s : Spot). HasRow rows s.place) t.stack
+  pub is_told_is : AreMarked rows (classes_at rows t.told) t.is_told
+
+-- a step for the row at a place is one of the tour by rows
+pub record StepsTo (rows : List Rowed) (old : Placed) (r : Rowed) (task : Task) (new : Placed)
+    : Type 0 where
+  pub placed : IsPlaced rows new
+  pub steps : toured_at rows new ≡ step orders.Lineage rows (toured_at rows old) r task
+
+-- the same, whatever the rows are whose direct supertypes stand there
+abbrev pub Steps : List Supers → Placed → ℕ → Task → Placed → Type 0
+Steps table old place task new =
+    (rows : List Rowed) (r : Rowed) → SupersBefore [] rows → AreAllSupers rows rows table
+    → slice_get rows place ≡ Some r → IsPlaced rows old → StepsTo rows old r task new
+
+-- the rows at these places are the lineage of the class of one (5.3.5)
+pub record AreLineageAt (rows : List Rowed) (start : Rowed) (places : List ℕ) : Type 0 where
+  pub within : AllByRecursion (HasRow rows) places
+  pub order :
+      map (kin_under (kins rows)) (rows_at rows places) ≡ lineage (kin_under (kins rows) start)

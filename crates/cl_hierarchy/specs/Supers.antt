@@ -1,0 +1,51 @@
+-- Where the direct supertypes of rows stand among these (JVMS SE 8, 5.3.5, steps 3 and 4).
+use Rattle.std.specs.Prelude.{◌≡◌, ℕ, if◌then◌else◌, List, [], ◌∷◌, Option, Some, drop, slice_get, option_and_then, IfSome}
+use Rattle.std.specs.Map.{lookup}
+use Rattle.cl_model.specs.declared.class.Class.{Class}
+use Rattle.cl_model.specs.Classes.{same_class}
+use Rattle.cl_hierarchy.specs.declared.supers.Supers.{Supers}
+use Rattle.cl_hierarchy.specs.Lineages.{row_of}
+use Rattle.cl_hierarchy.specs.Rows.{Rowed}
+use Rattle.cl_hierarchy.specs.Tours.{first_row, interface_row}
+use Rattle.cl_hierarchy.specs.Trees.{superclass_in}
+
+-- the row at a place, if it is one
+abbrev pub row_at : List Rowed → Option ℕ → Option Rowed
+row_at rows o = option_and_then (slice_get rows) o
+
+-- a row stands at a place
+abbrev pub HasRow : List Rowed → ℕ → Type 0
+HasRow rows place = (r : Rowed) × (slice_get rows place ≡ Some r)
+
+-- one place more of a class
+abbrev pub Puts : List (Class × ℕ) → Class → ℕ → List (Class × ℕ) → Type 0
+Puts old class place new =
+    (c : Class)
+    → lookup (same_class c) new
+    ≡ (if same_class class c then Some place else lookup (same_class c) old)
+
+-- where the row of each class stands, from a place on
+pub record ArePlaces (rows : List Rowed) (from : ℕ) (entries : List (Class × ℕ)) : Type 0 where
+  pub rows_are : (c : Class) → row_at rows (lookup (same_class c) entries) ≡ row_of (drop from rows) c
+  pub within : (c : Class) → IfSome (lookup (same_class c) entries) (HasRow rows)
+
+-- this place, if it is one, is of that row, if there is one
+pub record IsRowAt (rows : List Rowed) (row : Option Rowed) (place : Option ℕ) : Type 0 where
+  pub row_is : row_at rows place ≡ row
+  pub within : IfSome place (HasRow rows)
+
+-- a place in a list, if there is one
+abbrev pub place_in : List (Option ℕ) → ℕ → Option ℕ
+place_in places k = option_and_then (λ (o : Option ℕ). o) (slice_get places k)
+
+-- where the superclass of a class and its superinterfaces stand (5.3.5, steps 3 and 4)
+pub record AreSupers (rows : List Rowed) (r : Rowed) (s : Supers) : Type 0 where
+  pub up : IsRowAt rows (first_row rows (superclass_in r)) s.up
+  pub over : (k : ℕ) → IsRowAt rows (interface_row rows r k) (place_in s.over.items k)
+
+-- those of each of these
+abbrev pub AreAllSupers : List Rowed → List Rowed → List Supers → Type 0
+AreAllSupers rows [] [] = Unit {0}
+AreAllSupers rows [] (s ∷ ss) = ⊥
+AreAllSupers rows (r ∷ rs) [] = ⊥
+AreAllSupers rows (r ∷ rs) (s ∷ ss) = AreSupers rows r s × AreAllSupers rows rs ss

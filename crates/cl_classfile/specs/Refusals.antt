@@ -6,6 +6,6 @@ use Rattle.cl_classfile.specs.Structure.{Structure}
 use Rattle.cl_classfile.specs.Checking.{Fails}
 
 -- the answer is this file, or parts refused with this fault, unless memory ran out
-abbrev pub Answers : Result Structure Refused → Result Structure Fault → Type 0
-Answers (Ok f) file = file ≡ Ok f
-Answers (Err r) file = Fails r.error file
+abbrev pub GivesFile : Result Structure Refused → Result Structure Fault → Type 0
+GivesFile (Ok f) file = file ≡ Ok f
+GivesFile (Err r) file = Fails r.error file

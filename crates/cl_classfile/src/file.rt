@@ -10,7 +10,7 @@ ghost use Rattle.cl_names.specs.Kind.{IsNameOf, IsClass};
 ghost use Rattle.std.specs.List.{AllByRecursion};
 ghost use Rattle.cl_classfile.specs.Raw.{plain_file, HoldsText};
 ghost use Rattle.cl_classfile.specs.View.{plain_parts};
-ghost use Rattle.cl_classfile.specs.Refusals.{Answers};
+ghost use Rattle.cl_classfile.specs.Refusals.{GivesFile};
 ghost use Rattle.cl_classfile.specs.Indexes.{IsIndexOf};
 ghost use Rattle.cl_classfile.specs.Checking.{Finds, Gives, checked_attributes, checked_tables, kept_file, parts_of};
 ghost use Rattle.cl_classfile.specs.Reading.{header_at, read_of};
@@ -71,9 +71,9 @@ impl ClassFile {
         ensures found { IfOk result (λ f. (f ≡ plain_parts parts) × Spells (spelling f) f) }
         // Parts that bytes spell are taken, unless memory runs out.
         ensures only { (bytes : List ℕ) → Spells bytes (plain_parts parts)
-            → Answers result (Ok (plain_parts parts)) }
+            → GivesFile result (Ok (plain_parts parts)) }
         // Which fault it is.
-        ensures exact { Answers result (parts_of (plain_parts parts)) }
+        ensures exact { GivesFile result (parts_of (plain_parts parts)) }
         // Refused parts are as they were.
         ensures back { IfErr result (λ r. r.parts ≡ parts) }
     {

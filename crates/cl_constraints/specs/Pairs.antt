@@ -16,6 +16,7 @@ use Rattle.std.specs.Prelude.{
 use Rattle.std.specs.List.{AllByRecursion, fold, list_any}
 use Rattle.cl_constraints.specs.declared.plain.Pair.{Pair}
 use Rattle.cl_constraints.specs.declared.plain.Placed.{Placed}
+use Rattle.cl_constraints.specs.Records.{home_by}
 
 -- all of one name: who recorded it, and the pairs of loaders, in the order in which they were
 -- joined (5.3.4)
@@ -25,7 +26,7 @@ pub record Paired : Type 0 where
 
 -- who defined the class that a loader records (5.3)
 abbrev pub home_at : List Placed → ℕ → Option ℕ
-home_at records loader = option_map (λ r. r.home) (find (λ r. r.loader == loader) records)
+home_at records loader = home_by (λ r. r.loader) (λ r. r.home) records loader
 
 -- where a search that stands at a loader goes by a pair
 abbrev pub next_by : ℕ → Pair → ℕ

@@ -25,10 +25,11 @@ use Rattle.cl_hierarchy.specs.Frames.{frame_of}
 use Rattle.cl_hierarchy.specs.Lineages.{IsLined, rows_in}
 use Rattle.cl_hierarchy.specs.Paths.{Pathed, frames_of, at_loader, at_name}
 use Rattle.cl_findings.specs.Findings.{Based}
-use Rattle.cl_findings.specs.Loads.{target_needs}
+use Rattle.cl_findings.specs.Loads.{next_need, next_needs, target_needs}
 use Rattle.cl_findings.specs.References.{class_need, reference_needs, config_of, sprung_needs}
 use Rattle.cl_findings.specs.declared.basis.Basis.{Basis}
 use Rattle.cl_findings.specs.declared.basis.Basis.TheVariants as bases
+use Rattle.cl_findings.specs.declared.load.NextRecord.TheVariants as nexts
 use Rattle.cl_findings.specs.declared.load.Target.{Target}
 use Rattle.cl_findings.specs.declared.load.Target.TheVariants as targets
 use Rattle.cl_findings.specs.declared.basis.At.{At}
@@ -39,15 +40,15 @@ use Rattle.cl_findings.specs.declared.basis.At.TheVariants as ats
 abbrev pub at_needs : {A : Type 0} → Pathed → At A → List Need
 at_needs p ats.Nothing = []
 at_needs p (ats.Misfit place) = Entry (at_loader p) (at_name p) place ∷ []
-at_needs p (ats.Whole x) = kept_of (frame_of x ∷ [])
-at_needs p (ats.Away h) = Entry h.value.place h.value.name h.value.place ∷ []
+at_needs {A} p (ats.Whole x) = next_needs {A = A} (nexts.Define x)
+at_needs {A} p (ats.Away h) = next_needs {A = A} (nexts.Initiate h)
 
 -- the record that is refused there, if one is (5.3, 5.3.4)
 abbrev pub at_refused : {A : Type 0} → At A → Option Need
 at_refused ats.Nothing = None
 at_refused (ats.Misfit place) = None
-at_refused (ats.Whole x) = Some (Entry x.draft.class.loader x.draft.class.name x.draft.class.loader)
-at_refused (ats.Away h) = Some (Entry h.value.asked h.value.name h.value.place)
+at_refused {A} (ats.Whole x) = Some (next_need {A = A} (nexts.Define x))
+at_refused {A} (ats.Away h) = Some (next_need {A = A} (nexts.Initiate h))
 
 -- what an answer of a request rests on (5.3 to 5.4.3)
 abbrev pub based : {A : Type 0} → request.Request → Basis A → Based

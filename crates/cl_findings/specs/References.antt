@@ -142,7 +142,7 @@ pub record IsLookupError (d c : Lined) (index : ℕ) (v : verdict.Verdict) : Typ
   pub found : reference (kin_of d).file index ≡ Some cited
   pub names : class_named cited ≡ Some (kin_of c).class.name
   pub fault : LookupFault
-  pub lookup : asking.Answers d c index (Err fault)
+  pub lookup : asking.LooksUp d c index (Err fault)
   pub error : fault_verdict c.own.class fault ≡ Some v
 
 -- what a member rests on: the two classes are recorded, and all its equalities are imposed

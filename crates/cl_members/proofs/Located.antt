@@ -14,7 +14,7 @@ use Rattle.cl_hierarchy.specs.Lineages.{Lined, IsInOrder, IsRowIn, TellsAccess, 
 use Rattle.cl_hierarchy.specs.Imposed.{AreOfReference}
 use Rattle.cl_members.specs.declared.fault.LookupFault.{LookupFault}
 use Rattle.cl_members.specs.declared.fault.LookupFault.TheVariants as faults
-use Rattle.cl_members.specs.Asking.{AsksField, AsksMethod, AsksInterfaceMethod, Answers, IsDeniedIn, IsFoundAs, IsLocated, Located, Reaches, asked_key, key_at, verdict_of}
+use Rattle.cl_members.specs.Asking.{AsksField, AsksMethod, AsksInterfaceMethod, LooksUp, IsDeniedIn, IsFoundAs, IsLocated, Located, Reaches, asked_key, key_at, verdict_of}
 use Rattle.cl_members.specs.Lookups.{method_owner, interface_method_owner}
 use Rattle.cl_members.specs.Members.{field_in, method_in}
 use Rattle.cl_members.proofs.Keyed.{field_keyed, method_keyed}
@@ -28,7 +28,7 @@ one_reference o r q e f = cc
 
 -- a fault is the end of what the reference asks
 fault_answers : (d c : Lined) (i : ℕ) (r : Reference) (fault : LookupFault) → reference (kin_of d).file i ≡ Some r → IsFoundAs (kin_of d) r (kin_of c) (Err fault) → IsDeniedIn c (Err fault)
-    → Answers d c i (Err fault)
+    → LooksUp d c i (Err fault)
 fault_answers d c i r fault at is denied = record {
   found = λ q e. subst (λ (x : Reference). IsFoundAs (kin_of d) x (kin_of c) (Err fault)) (one_reference (reference (kin_of d).file i) r q at e) is;
   of = tt;
@@ -38,7 +38,7 @@ fault_answers d c i r fault at is denied = record {
 -- ---- access
 
 pub refused_is : (d c : Lined) (i : ℕ) (s : Symbol) (owner : Rowed) (flags : ℕ) → Reaches d c i s owner flags → (n : Class) → n ≡ owner.class
-    → false ≡ member_accessible (kin_of d) (kin_at c owner) flags (kin_of c) → Answers d c i (Err (faults.Inaccessible n))
+    → false ≡ member_accessible (kin_of d) (kin_at c owner) flags (kin_of c) → LooksUp d c i (Err (faults.Inaccessible n))
 refused_is d c i s owner flags x n same told =
     fault_answers d c i x.refers (faults.Inaccessible n) x.at
     (x.worked ∙ inaccessible_is (kin_of d) (kin_of c) (kin_at c owner) _ x.key (verdict_of x.refers owner.class x.key) flags x.has told ∙ ap (λ (m : Class). fail (IllegalAccess m)) (sym same))
@@ -61,11 +61,11 @@ pub located_is : (d c : Lined) (i : ℕ) (s : Symbol) (owner : Rowed) (flags : �
 located_is d c i s owner flags x k same told =
     subst (λ (y : Key). IsLocated (record { d = d; c = c; index = i; owner = owner; key = y; flags = flags })) (sym (same ∙ x.keyed)) (located_by d c i s owner flags x told)
 
-pub located_answers : (d c : Lined) (i : ℕ) (f : Located) → IsLocated f → f.d ≡ d → f.c ≡ c → f.index ≡ i → Answers d c i (Ok f)
+pub located_answers : (d c : Lined) (i : ℕ) (f : Located) → IsLocated f → f.d ≡ d → f.c ≡ c → f.index ≡ i → LooksUp d c i (Ok f)
 located_answers d c i f is from through at =
-    subst (λ (y : ℕ). Answers d c y (Ok f)) at (
-    subst (λ (y : Lined). Answers d y f.index (Ok f)) through (
-    subst (λ (y : Lined). Answers y f.c f.index (Ok f)) from (
+    subst (λ (y : ℕ). LooksUp d c y (Ok f)) at (
+    subst (λ (y : Lined). LooksUp d y f.index (Ok f)) through (
+    subst (λ (y : Lined). LooksUp y f.c f.index (Ok f)) from (
     record {
       found = λ q e. subst (λ (x : Reference). IsFoundAs (kin_of f.d) x (kin_of f.c) (Ok f)) (one_reference (reference (kin_of f.d).file f.index) is.refers q is.at e) is.found;
       of = record { from = refl; through = refl; at = refl; owner = is.row };
@@ -130,7 +130,7 @@ module _ {R : Type 0} (row : R → Rowed) where
       sym (field_lookup c order key) ∙ among_is (λ r. kin_at c (row r)) (λ a. is_some (field_in (Some key) a.file)) items (field_order (kin_of c)) o ordered e
 
   pub no_field : (d c : Lined) (i : ℕ) → IsInOrder c → (a : AsksField d c i) (key : Option Key) → key ≡ Some a.key → (items : List R) → map (λ r. kin_at c (row r)) items ≡ field_order (kin_of c) → None ≡ fields_at key items
-      → Answers d c i (Err faults.NoSuchField)
+      → LooksUp d c i (Err faults.NoSuchField)
   no_field d c i order a key is items ordered e =
       let found = looked_up c order a.key items None ordered (e ∙ ap (λ (o : Option Key). fields_at o items) is) in
       fault_answers d c i (ToField a.target a.key) faults.NoSuchField a.refers (field_missing (kin_of d) (kin_of c) a.key found) tt
@@ -155,10 +155,10 @@ module _ {R : Type 0} (row : R → Rowed) where
 
 -- ---- methods
 
-pub wrong_class : (d c : Lined) (i : ℕ) → AsksMethod d c i → true ≡ is_interface (kin_of c).file → Answers d c i (Err faults.WrongKind)
+pub wrong_class : (d c : Lined) (i : ℕ) → AsksMethod d c i → true ≡ is_interface (kin_of c).file → LooksUp d c i (Err faults.WrongKind)
 wrong_class d c i a kind = fault_answers d c i (ToMethod a.target a.key) faults.WrongKind a.refers (method_of_interface (kin_of d) (kin_of c) a.key (sym kind)) tt
 
-pub no_method : (d c : Lined) (i : ℕ) → (a : AsksMethod d c i) → false ≡ is_interface (kin_of c).file → (key : Option Key) → key ≡ Some a.key → None ≡ method_owner key (kin_of c) → Answers d c i (Err faults.NoSuchMethod)
+pub no_method : (d c : Lined) (i : ℕ) → (a : AsksMethod d c i) → false ≡ is_interface (kin_of c).file → (key : Option Key) → key ≡ Some a.key → None ≡ method_owner key (kin_of c) → LooksUp d c i (Err faults.NoSuchMethod)
 no_method d c i a kind key is e =
     fault_answers d c i (ToMethod a.target a.key) faults.NoSuchMethod a.refers
     (method_missing (kin_of d) (kin_of c) a.key (sym kind) (ap (λ (o : Option Key). method_owner o (kin_of c)) (sym is) ∙ sym e)) tt
@@ -180,11 +180,11 @@ method_reached d c i s a kind is owner e flags has inside =
       worked = method_found (kin_of d) (kin_of c) (kin_at c owner) a.key (sym kind) (ap (λ (o : Option Key). method_owner o (kin_of c)) (sym is) ∙ sym e);
     }
 
-pub wrong_interface : (d c : Lined) (i : ℕ) → AsksInterfaceMethod d c i → false ≡ is_interface (kin_of c).file → Answers d c i (Err faults.WrongKind)
+pub wrong_interface : (d c : Lined) (i : ℕ) → AsksInterfaceMethod d c i → false ≡ is_interface (kin_of c).file → LooksUp d c i (Err faults.WrongKind)
 wrong_interface d c i a kind = fault_answers d c i (ToInterfaceMethod a.target a.key) faults.WrongKind a.refers (interface_of_class (kin_of d) (kin_of c) a.key (sym kind)) tt
 
 pub no_interface_method : (d c : Lined) (i : ℕ) → (a : AsksInterfaceMethod d c i) → true ≡ is_interface (kin_of c).file → (key : Option Key) → key ≡ Some a.key → None ≡ interface_method_owner key (kin_of c)
-    → Answers d c i (Err faults.NoSuchMethod)
+    → LooksUp d c i (Err faults.NoSuchMethod)
 no_interface_method d c i a kind key is e =
     fault_answers d c i (ToInterfaceMethod a.target a.key) faults.NoSuchMethod a.refers
     (interface_missing (kin_of d) (kin_of c) a.key (sym kind) (ap (λ (o : Option Key). interface_method_owner o (kin_of c)) (sym is) ∙ sym e)) tt

@@ -123,7 +123,7 @@ IsDeniedIn c (Err (faults.Inaccessible owner)) =
     (row : Rowed) × IsRowIn (rows_in c) row × (owner ≡ row.class)
 
 -- what looking up the member of an entry answers (5.4.3.2 to 5.4.3.4)
-pub record Answers (d c : Lined) (index : ℕ) (result : Result Located LookupFault) : Type 0 where
+pub record LooksUp (d c : Lined) (index : ℕ) (result : Result Located LookupFault) : Type 0 where
   pub found : (r : Reference) → reference (kin_of d).file index ≡ Some r
       → IsFoundAs (kin_of d) r (kin_of c) result
   pub of : IfOk result (IsOf d c index)

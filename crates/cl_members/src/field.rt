@@ -1,6 +1,6 @@
 //! Fields (JVMS SE 8, 5.4.3.2).
 
-ghost use Rattle.cl_members.specs.Asking.{Answers, AsksField};
+ghost use Rattle.cl_members.specs.Asking.{LooksUp, AsksField};
 
 use crate::asked::field_symbol;
 use crate::fault::LookupFault;
@@ -20,7 +20,7 @@ pub fn find_field<T: Told>(
     index: u16,
 ) -> Result<Found<T>, LookupFault>
     requires { AsksField d.now c.now index }
-    ensures { Answers d.now c.now index result }
+    ensures { LooksUp d.now c.now index result }
 {
     // brings that the rows stand in order
     let _ = c.class();

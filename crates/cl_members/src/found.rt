@@ -5,7 +5,7 @@ ghost use Rattle.cl_classfile.specs.References.{plain_symbol};
 ghost use Rattle.cl_model.specs.Preparation.{equals_of};
 ghost use Rattle.cl_hierarchy.specs.Imposed.{OfReference, needs_of};
 ghost use Rattle.cl_hierarchy.specs.Lineages.{kin_of};
-ghost use Rattle.cl_members.specs.Asking.{Answers, IsLocated, Reaches};
+ghost use Rattle.cl_members.specs.Asking.{LooksUp, IsLocated, Reaches};
 
 use crate::fault::LookupFault;
 use crate::naming::{class_names, equals};
@@ -111,7 +111,7 @@ pub(crate) fn access<T: Told>(
     flags: u16,
 ) -> Result<Found<T>, LookupFault>
     requires { Reaches d.now c.now index (plain_symbol symbol) owner.now.value flags }
-    ensures { Answers d.now c.now index result }
+    ensures { LooksUp d.now c.now index result }
 {
     if !member_accessible(d, owner.class(), flags, c) {
         return Err(LookupFault::Inaccessible(owner.class().try_clone(alloc)?));

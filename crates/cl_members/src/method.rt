@@ -5,7 +5,7 @@ ghost use Rattle.std.specs.Option.{option_map};
 ghost use Rattle.cl_classfile.specs.Files.{method_key};
 ghost use Rattle.cl_classfile.specs.References.{plain_symbol};
 ghost use Rattle.cl_hierarchy.specs.Lineages.{IsRowIn, kin_at, kin_of, rows_in};
-ghost use Rattle.cl_members.specs.Asking.{Answers, AsksMethod, AsksInterfaceMethod};
+ghost use Rattle.cl_members.specs.Asking.{LooksUp, AsksMethod, AsksInterfaceMethod};
 ghost use Rattle.cl_members.specs.Lookups.{interface_method_owner, method_owner};
 
 use crate::asked::{interface_method_symbol, method_symbol};
@@ -70,7 +70,7 @@ pub fn find_method<T: Told>(
     index: u16,
 ) -> Result<Found<T>, LookupFault>
     requires { AsksMethod d.now c.now index }
-    ensures { Answers d.now c.now index result }
+    ensures { LooksUp d.now c.now index result }
 {
     let symbol = method_symbol(d, c, index);
     if c.own().file().is_interface() {
@@ -96,7 +96,7 @@ pub fn find_interface_method<T: Told>(
     index: u16,
 ) -> Result<Found<T>, LookupFault>
     requires { AsksInterfaceMethod d.now c.now index }
-    ensures { Answers d.now c.now index result }
+    ensures { LooksUp d.now c.now index result }
 {
     let symbol = interface_method_symbol(d, c, index);
     if !c.own().file().is_interface() {

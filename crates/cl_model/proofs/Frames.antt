@@ -9,13 +9,13 @@ use Rattle.cl_descriptors.proofs.Codec.{map_some, then_some}
 use Rattle.cl_model.specs.Homes.{World, home}
 use Rattle.cl_model.specs.declared.class.Class.{Class}
 use Rattle.cl_model.specs.Classes.{class, Error, Above, is_among, ClassNotFound, NoClassDef, ClassCircularity, file_of, misfit, superclass_of, superinterfaces_of, supers, HasFile, AtHome, Fitting, FitsAt, Good, IsGood, FirstWrong, Next}
-use Rattle.cl_model.specs.Lineages.{Bare, Kin}
+use Rattle.cl_model.specs.Lineages.{first, Bare, Kin}
 use Rattle.cl_model.specs.States.{State, Need, Entry, Verdict, Wrong, Met, AllMet, IsNext, IsRecorded}
 use Rattle.cl_model.specs.Works.{Work, Made, Ask, ask, need, done, or_fail, unless_wrong, of_result, ◌>>=◌}
 use Rattle.cl_model.specs.Plans.{initiating, load_by, loads_above, derive_new, derive, load, Request, loaded_by, go_on_with, Plan, plan_after, plan_from, needs_of, resolve_class, resolve_field, resolve_method, resolve_member, resolve_reference, resolve, member_target, Resolve, ending}
 use Rattle.cl_model.specs.Machine.{Setting, IsPlan, AnswersPlan, IsClosed}
 use Rattle.cl_model.specs.Service.{IsNextNeed}
-use Rattle.cl_model.specs.Frames.{Frame, wanted, Judged, Accepts, Keeps, KeepsAccepted, AllKept, IsFrame, IsFrames, path_of, absent_under, EndsHere, first_of, class_named, OfReference, Starts, Under}
+use Rattle.cl_model.specs.Frames.{Frame, wanted, Judged, Accepts, Keeps, KeepsAccepted, AllKept, IsFrame, IsFrames, path_of, absent_under, EndsHere, class_named, OfReference, Starts, Under}
 use Rattle.cl_model.proofs.Bind.{some_same, ok_same, err_same, ok_not_err}
 use Rattle.cl_model.proofs.Heights.{loaded, found, sought, grown, others_after, checked, finished, interfaces_next, superclass_next, circle_or}
 use Rattle.cl_model.proofs.Derived.{derive_yields}
@@ -316,7 +316,7 @@ plan_on w s g r P p is h on =
 class_hits : (w : World) (s : State) (g : Aim) (n : ℕ) (d : Kin) (name : Name) → Every (load w n NoClassDef d.class.loader name) (Hits s g) → Every (resolve_class w n d name) (Hits s g)
 class_hits w s g n d name h = first_hits s g (load w n NoClassDef d.class.loader name) (accessible d) h
 
-to_class_hits : (w : World) (s : State) (g : Aim) (n : ℕ) (d : Kin) (t : FieldType) (l : List Name) (name : Name) → first_of l ≡ Some name → Every (resolve_class w n d name) (Hits s g) → Every (to_class w n d t l) (Hits s g)
+to_class_hits : (w : World) (s : State) (g : Aim) (n : ℕ) (d : Kin) (t : FieldType) (l : List Name) (name : Name) → first l ≡ Some name → Every (resolve_class w n d name) (Hits s g) → Every (to_class w n d t l) (Hits s g)
 to_class_hits w s g n d t [] name e h = absurd cc
 to_class_hits w s g n d t (x ∷ more) name e h = first_hits s g (resolve_class w n d x) (class_found t) (subst (λ (z : Name). Every (resolve_class w n d z) (Hits s g)) (sym (some_same x name e)) h)
 

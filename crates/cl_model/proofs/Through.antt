@@ -6,12 +6,12 @@ use Rattle.cl_classfile.specs.Files.{Name, Reference, ToClass, ToField, ToMethod
 use Rattle.cl_model.specs.Homes.{World}
 use Rattle.cl_model.specs.declared.class.Class.{Class}
 use Rattle.cl_model.specs.Classes.{class, Error, NoClassDef}
-use Rattle.cl_model.specs.Lineages.{Kin}
+use Rattle.cl_model.specs.Lineages.{first, Kin}
 use Rattle.cl_model.specs.States.{State, Need, Verdict, IsArrayOfBase, BadEntry, ArrayMember, recorded}
 use Rattle.cl_model.specs.Works.{Work, Made, Ask, done, unless_wrong, after_made, go_on, ◌>>=◌}
 use Rattle.cl_model.specs.Plans.{derive, load, resolve_class, resolve_field, resolve_method, resolve_member, member_target, resolve_reference, resolve, ending}
 use Rattle.cl_model.specs.Machine.{Setting, HasLineage, IsClosed, Answers, AnswersReference}
-use Rattle.cl_model.specs.Frames.{first_of, class_named}
+use Rattle.cl_model.specs.Frames.{class_named}
 use Rattle.cl_model.specs.References.{inaccessible, resolve_in, through, nameless, ended, GoesThrough}
 use Rattle.cl_model.proofs.Bind.{some_same}
 use Rattle.cl_model.proofs.Derived.{load_ok}
@@ -72,7 +72,7 @@ member_through : (w : World) (n : ℕ) (d : Kin) (name : Name) (o : Option Name)
 member_through w n d name None f h = absurd cc
 member_through w n d name (Some x) f h = ap (λ (z : Name). resolve_member w n d (Some z) f) (some_same x name h) ∙ class_through w n d name f
 
-to_class_through : (w : World) (n : ℕ) (d : Kin) (t : FieldType) (name : Name) (l : List Name) → first_of l ≡ Some name → to_class w n d t l ≡ loaded_then w n d name (class_found t)
+to_class_through : (w : World) (n : ℕ) (d : Kin) (t : FieldType) (name : Name) (l : List Name) → first l ≡ Some name → to_class w n d t l ≡ loaded_then w n d name (class_found t)
 to_class_through w n d t name [] h = absurd cc
 to_class_through w n d t name (x ∷ more) h = ap (λ (z : Name). resolve_class w n d z >>= class_found t) (some_same x name h) ∙ class_through w n d name (class_found t)
 
@@ -137,7 +137,7 @@ bad_entry_goes w s d k i lin none = record {
   ends = refl;
 }
 
-no_class : (w : World) (n : ℕ) (d : Kin) (t : FieldType) (l : List Name) → first_of l ≡ None → to_class w n d t l ≡ Some (ended (IsArrayOfBase t.dims (letter t.base)))
+no_class : (w : World) (n : ℕ) (d : Kin) (t : FieldType) (l : List Name) → first l ≡ None → to_class w n d t l ≡ Some (ended (IsArrayOfBase t.dims (letter t.base)))
 no_class w n d t [] h = refl
 no_class w n d t (x ∷ more) h = absurd cc
 

@@ -5,6 +5,7 @@ use Rattle.cl_classfile.specs.Files.{Name, File, element_name, Reference, ToClas
 use Rattle.cl_model.specs.Homes.{World, home}
 use Rattle.cl_model.specs.declared.class.Class.{Class}
 use Rattle.cl_model.specs.Classes.{class, is_among, Error, ClassNotFound, NoClassDef, IsAtHome, Role, Above, supers, HasFile, Fitting}
+use Rattle.cl_model.specs.Lineages.{first}
 use Rattle.cl_model.specs.States.{State, Need, Entry, Verdict, recorded, Met, AllMet}
 use Rattle.cl_model.specs.Plans.{member_target, Request, Resolve, loaded_by, Plan, needs_of}
 use Rattle.cl_model.specs.Machine.{IsPlan}
@@ -84,14 +85,9 @@ pub record EndsHere (w : World) (s : State) (r : Request) (v : Verdict) : Type 0
   pub met : AllMet s (needs_of plan)
   pub ends : plan.ends ≡ v
 
--- the first of these, if any
-abbrev pub first_of : List Name → Option Name
-first_of [] = None
-first_of (name ∷ more) = Some name
-
 -- the class that a reference names, if it names one (5.4.3.1 to 5.4.3.4)
 abbrev pub class_named : Reference → Option Name
-class_named (ToClass t) = first_of (element_name t.base)
+class_named (ToClass t) = first (element_name t.base)
 class_named (ToField t key) = member_target t
 class_named (ToMethod t key) = member_target t
 class_named (ToInterfaceMethod t key) = member_target t

@@ -1,5 +1,8 @@
 -- What the Rust types say, in the words of the linkage machine (JVMS SE 8, 5.3 to 5.4.3).
 use Rattle.std.specs.Prelude.{◌≢◌, ℕ, List, map, Option, Some, None, slice_get, option_map, option_and_then}
+use Rattle.cl_descriptors.specs.declared.types.Base.{Base}
+use Rattle.cl_descriptors.specs.declared.types.Base.TheVariants as bases
+use Rattle.cl_classfile.specs.Files.{letter}
 use Rattle.cl_model.specs.declared.class.Class.{Class}
 use Rattle.cl_model.specs.declared.verdict.ErrorKind.{ErrorKind}
 use Rattle.cl_model.specs.declared.verdict.ErrorKind.TheVariants as kinds
@@ -27,16 +30,20 @@ error_of kinds.IncompatibleClassChangeError c = IncompatibleClassChange c
 error_of kinds.NoSuchFieldError c = NoSuchField c
 error_of kinds.NoSuchMethodError c = NoSuchMethod c
 
+-- a primitive type as the base of a descriptor (4.3.2)
+abbrev pub base_type : Primitive → Base
+base_type primitives.Byte = bases.Byte
+base_type primitives.Char = bases.Char
+base_type primitives.Double = bases.Double
+base_type primitives.Float = bases.Float
+base_type primitives.Int = bases.Int
+base_type primitives.Long = bases.Long
+base_type primitives.Short = bases.Short
+base_type primitives.Boolean = bases.Boolean
+
 -- the letter of a primitive type, B C D F I J S Z, as its byte (4.3.2)
 abbrev pub letter_of : Primitive → ℕ
-letter_of primitives.Byte = 0x42
-letter_of primitives.Char = 0x43
-letter_of primitives.Double = 0x44
-letter_of primitives.Float = 0x46
-letter_of primitives.Int = 0x49
-letter_of primitives.Long = 0x4a
-letter_of primitives.Short = 0x53
-letter_of primitives.Boolean = 0x5a
+letter_of p = letter (base_type p)
 
 -- a need, as the machine has it (5.3, 5.3.4)
 abbrev pub need_of : needs.Need → Need

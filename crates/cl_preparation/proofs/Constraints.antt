@@ -1,6 +1,6 @@
 -- What the rows of a lineage impose is what its tree does.
 use Rattle.std.proofs.Common.{◌≡◌, ◌<◌, ◌+◌, ℕ, Bool, true, false, not, ◌&&◌, ◌||◌, if◌then◌else◌, List, [], ◌∷◌, ◌++◌, map, filter, length, Option, Some, None, refl, ap, sym, subst, ◌∙◌, get_or, take, append-nil, append_assoc, arith}
-use Rattle.std.specs.Prelude.{option_map, is_some, find, flat_map}
+use Rattle.std.specs.Prelude.{Result, Ok, Err, IfOk, option_map, is_some, find, flat_map}
 use Rattle.std.specs.List.{AllByRecursion, list_any}
 use Rattle.std.proofs.lemmas.Bool.{or_parts}
 use Rattle.std.proofs.lemmas.List.{map_more, map_push, take-map, take_all, take_more}
@@ -226,6 +226,10 @@ second_told h l self own above over xs ys is xe ye view are =
     ∙ second_all l own above over are ∙ ap (λ (x : Lined). flat_map (λ (j : Kin). flat_map (for_inherited (kin_of x) j) j.file.methods) (superinterfaces (kin_of x))) view
 
 -- ---- the rows of a lineage
+
+pub ok_forth : {A E : Type 0} (P Q : A → Type 0) (r : Result A E) → ((a : A) → P a → Q a) → IfOk r P → IfOk r Q
+ok_forth P Q (Ok a) f p = f a p
+ok_forth P Q (Err e) f p = tt
 
 pub mapped_rows : {A : Type 0} (f : A → Rowed) (rows_of : Kin → List Kin) (l : Lined) (xs ys : List A) (rows : List Rowed) → ys ≡ xs → rows ≡ map f ys
     → map (λ r. kin_at l (f r)) xs ≡ rows_of (kin_of l) → map (kin_at l) rows ≡ rows_of (kin_of l)

@@ -62,20 +62,23 @@ fn filters_of<T: Told>(
 }
 
 impl<'a, T: Told> Away<'a, T> {
-    /// The classes of these rows, in which little or much is to be looked up.
-    pub fn of(
+    /// The classes of these rows, in which little is to be looked up.
+    pub fn unfiltered(alloc: Global, rows: Vec<&'a Arc<ClassRow<T>>>) -> Away<'a, T>
+        ensures { result ≡ map (λ r. r.now.value) rows.entry.items }
+    {
+        Away {
+            rows,
+            names: Vec::new(alloc),
+        }
+    }
+
+    /// The classes of these rows, in which much is to be looked up.
+    pub fn filtered(
         alloc: Global,
         rows: Vec<&'a Arc<ClassRow<T>>>,
-        little: bool,
     ) -> Result<Away<'a, T>, AllocError>
         ensures { IfOk result (λ a. a ≡ map (λ r. r.now.value) rows.entry.items) }
     {
-        if little {
-            return Ok(Away {
-                rows,
-                names: Vec::new(alloc),
-            });
-        }
         let names = filters_of(alloc, rows.as_slice())?;
         Ok(Away { rows, names })
     }

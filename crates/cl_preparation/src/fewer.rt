@@ -56,9 +56,11 @@ fn away_of<T: Told>(alloc: Global, lineage: &Lineage<T>) -> Result<Away<'_, T>, 
     // mostly one: all but java/lang/Object are of one loader
     let rows = lineage.superclasses_of_others(alloc)?;
     // (the methods of superinterfaces are looked up in them too)
-    let little = lineage.own().file().methods().len() <= FEW_LOOKS && has_none_over(lineage);
-    let away = Away::of(alloc, rows, little)?;
-    Ok(away)
+    if lineage.own().file().methods().len() <= FEW_LOOKS && has_none_over(lineage) {
+        Ok(Away::unfiltered(alloc, rows))
+    } else {
+        Away::filtered(alloc, rows)
+    }
 }
 
 /// Whether one of these classes declares methods.

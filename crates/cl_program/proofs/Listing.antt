@@ -43,8 +43,8 @@ refusal_is bytes (errors.Fault f) w = w
 -- its lines were not written whole
 pub by_writing : (gives : Giving) (path : List ℕ) (out : Stream) (lines : List ℕ) (fault : PrintFault) → AreLinesOf gives lines → WritesPart out lines
     → FailsToRead gives path out (print_fault fault)
-by_writing gives path out lines print.Write is w = record { lines = lines; of_file = is; part = w }
-by_writing gives path out lines print.Memory is w = inr (record { lines = lines; of_file = is; part = w })
+by_writing gives path out lines print.Write is w = record { lines = lines; are = is; part = w }
+by_writing gives path out lines print.Memory is w = inr (record { lines = lines; are = is; part = w })
 
 -- ---- the exit status
 

@@ -82,8 +82,8 @@ pub names_count : {S : Type 0} (f : S → List ℕ) (names : List S) (held seen 
 names_count f names held seen e same = sym (ap (λ (c : Configured). length c.loaders) same) ∙ sym (length-map seen.loaders (λ (l : Loader). l.name)) ∙ sym (ap length e) ∙ length-map names f
 
 pub by_print : (input : Option (List ℕ)) (asked : Options) (out : Stream) (lines : List ℕ) (fault : PrintFault) → AreLinesFor input asked lines → WritesPart out lines → EndsBy input asked out (print_fault fault)
-by_print input asked out lines print.Write are part = record { lines = lines; for_input = are; part = part }
-by_print input asked out lines print.Memory are part = inr (record { lines = lines; for_input = are; part = part })
+by_print input asked out lines print.Write are part = record { lines = lines; are = are; part = part }
+by_print input asked out lines print.Memory are part = inr (record { lines = lines; are = are; part = part })
 
 -- ---- the exit status
 

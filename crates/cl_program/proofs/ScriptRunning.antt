@@ -68,8 +68,8 @@ lines_from gives w config held seen script given report names configured scripte
 }
 
 pub by_printing : (gives : List ℕ → Giving) (w : Wanted) (out : Stream) (lines : List ℕ) (fault : PrintFault) → AreLinesFrom gives w lines → WritesPart out lines → EndsFrom gives w out (print_fault fault)
-by_printing gives w out lines print.Write are part = record { lines = lines; of_files = are; part = part }
-by_printing gives w out lines print.Memory are part = inr (record { lines = lines; of_files = are; part = part })
+by_printing gives w out lines print.Write are part = record { lines = lines; are = are; part = part }
+by_printing gives w out lines print.Memory are part = inr (record { lines = lines; are = are; part = part })
 
 -- ---- the seed
 

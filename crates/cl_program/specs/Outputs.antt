@@ -31,6 +31,18 @@ Writes s bytes = Appends s.old s.new bytes
 abbrev pub WritesPart : Stream → List ℕ → Type 0
 WritesPart s bytes = AppendsPart s.old s.new bytes
 
+-- such lines are written
+pub record Prints (AreLines : List ℕ → Type 0) (out : Stream) : Type 0 where
+  pub lines : List ℕ
+  pub are : AreLines lines
+  pub whole : Writes out lines
+
+-- a first part of such lines is written, and no more
+pub record BreaksOff (AreLines : List ℕ → Type 0) (out : Stream) : Type 0 where
+  pub lines : List ℕ
+  pub are : AreLines lines
+  pub part : WritesPart out lines
+
 -- nothing is written, for this reason
 abbrev pub WritesNothing : Stream → Type 0 → Type 0
 WritesNothing s reason = Writes s [] × reason

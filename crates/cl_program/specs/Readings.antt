@@ -7,7 +7,7 @@ use Rattle.cl_classfile.specs.Reading.{read_of}
 use Rattle.cl_writer.specs.Listings.{listing_of}
 use Rattle.cl_source.specs.Seen.{IsTooLarge, IsWithin}
 use Rattle.cl_program.specs.Files.{Giving, IsUnreadable}
-use Rattle.cl_program.specs.Outputs.{EndsWith, Outputs, Stream, Writes, WritesNothing, WritesPart}
+use Rattle.cl_program.specs.Outputs.{BreaksOff, EndsWith, Outputs, Prints, Stream, WritesNothing}
 use Rattle.cl_program.specs.declared.fault.Fault.{Fault}
 use Rattle.cl_program.specs.declared.fault.Fault.TheVariants.{Write, TooLarge, Path, File, Memory}
 use Rattle.cl_source.specs.declared.size.TheConstants.{MOST_CLASS_BYTES}
@@ -30,31 +30,19 @@ pub record IsNoClass (gives : Giving) (fault : ClassFault) : Type 0 where
   pub content : IsWithin gives MOST_CLASS_BYTES bytes
   pub read : read_of bytes ≡ Err fault
 
--- the lines are written
-pub record PrintsLines (gives : Giving) (out : Stream) : Type 0 where
-  pub lines : List ℕ
-  pub of_file : AreLinesOf gives lines
-  pub whole : Writes out lines
-
--- a first part of the lines is written, and no more
-pub record BreaksLines (gives : Giving) (out : Stream) : Type 0 where
-  pub lines : List ℕ
-  pub of_file : AreLinesOf gives lines
-  pub part : WritesPart out lines
-
 -- when a reading ends by a fault, and what is on its output
 abbrev pub FailsToRead : Giving → List ℕ → Stream → Fault → Type 0
 FailsToRead gives path out (Path p) = WritesNothing out ((string_bytes p ≡ path) × IsUnreadable gives)
 FailsToRead gives path out TooLarge = WritesNothing out (IsTooLarge gives MOST_CLASS_BYTES)
 FailsToRead gives path out (File (errors.Fault fault)) = WritesNothing out (IsNoClass gives fault)
 FailsToRead gives path out (File errors.Memory) = WritesNothing out ⊤
-FailsToRead gives path out Write = BreaksLines gives out
-FailsToRead gives path out Memory = WritesNothing out ⊤ ⊎ BreaksLines gives out
+FailsToRead gives path out Write = BreaksOff (AreLinesOf gives) out
+FailsToRead gives path out Memory = WritesNothing out ⊤ ⊎ BreaksOff (AreLinesOf gives) out
 FailsToRead gives path out _ = ⊥
 
 -- what reading a class file answers, and what is on its output
 abbrev pub ReadingOf : Giving → List ℕ → Stream → Result (Unit {0}) Fault → Type 0
-ReadingOf gives path out (Ok x) = PrintsLines gives out
+ReadingOf gives path out (Ok x) = Prints (AreLinesOf gives) out
 ReadingOf gives path out (Err fault) = FailsToRead gives path out fault
 
 -- the class file at a path was read, or a fault ended it, and the exit status and both outputs say so

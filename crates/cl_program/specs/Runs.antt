@@ -10,7 +10,7 @@ use Rattle.cl_bundle.specs.declared.fault.BundleFault.{BundleFault}
 use Rattle.cl_report.specs.Report.{report_lines}
 use Rattle.cl_schedule.specs.Headline.{IsServed}
 use Rattle.cl_program.specs.Files.{AreNoText}
-use Rattle.cl_program.specs.Outputs.{EndsWith, Outputs, Stream, Writes, WritesNothing, WritesPart}
+use Rattle.cl_program.specs.Outputs.{BreaksOff, EndsWith, Outputs, Prints, Stream, WritesNothing}
 use Rattle.cl_program.specs.Serving.{ByWorkers, IsServedAlone, IsUnserved}
 use Rattle.cl_program.specs.declared.asked.Options.{Options}
 use Rattle.cl_program.specs.declared.fault.Fault.{Fault}
@@ -40,18 +40,6 @@ pub record AreLinesFor (input : Option (List ℕ)) (o : Options) (lines : List �
   pub served : IsServedBy o.workers (Some content) config script report
   pub are : lines ≡ report_lines (names_of config) o.answers report.history report.answers
 
--- the lines of a report are written
-pub record Prints (input : Option (List ℕ)) (o : Options) (out : Stream) : Type 0 where
-  pub lines : List ℕ
-  pub for_input : AreLinesFor input o lines
-  pub whole : Writes out lines
-
--- a first part of the lines is written, and no more
-pub record BreaksOff (input : Option (List ℕ)) (o : Options) (out : Stream) : Type 0 where
-  pub lines : List ℕ
-  pub for_input : AreLinesFor input o lines
-  pub part : WritesPart out lines
-
 -- the input is a text that is no bundle, with the first thing that is wrong with it
 abbrev pub IsNoBundleIn : Option (List ℕ) → BundleFault → Type 0
 IsNoBundleIn input wrong = (text : List ℕ) × IsInput input text × IsNoBundle text wrong
@@ -74,13 +62,13 @@ EndsBy input o out NotUtf8 = WritesNothing out (IfSome input (λ bytes. AreNoTex
 EndsBy input o out (Bundle wrong) = WritesNothing out (UnlessMemory wrong (IsNoBundleIn input wrong))
 EndsBy input o out (Serve wrong) = WritesNothing out (IsUnservedFor input o (Serve wrong))
 EndsBy input o out (Threads wrong) = WritesNothing out (IsUnservedFor input o (Threads wrong))
-EndsBy input o out Write = BreaksOff input o out
-EndsBy input o out Memory = WritesNothing out ⊤ ⊎ BreaksOff input o out
+EndsBy input o out Write = BreaksOff (AreLinesFor input o) out
+EndsBy input o out Memory = WritesNothing out ⊤ ⊎ BreaksOff (AreLinesFor input o) out
 EndsBy input o out _ = ⊥
 
 -- what running a bundle answers, and what is on its output
 abbrev pub RunOf : Option (List ℕ) → Options → Stream → Result (Unit {0}) Fault → Type 0
-RunOf input o out (Ok x) = Prints input o out
+RunOf input o out (Ok x) = Prints (AreLinesFor input o) out
 RunOf input o out (Err fault) = EndsBy input o out fault
 
 -- a bundle was run, or a fault ended it, and the exit status and both outputs say so

@@ -11,7 +11,7 @@ use Rattle.cl_schedule.specs.Headline.{IsServed, IsServedInOrder}
 use Rattle.cl_source.specs.Seen.{IsTooLarge}
 use Rattle.cl_program.specs.Asking.{Wanted}
 use Rattle.cl_program.specs.Files.{Giving, IsText, IsNoText, IsUnreadable, LacksText}
-use Rattle.cl_program.specs.Outputs.{EndsWith, Outputs, Stream, Writes, WritesNothing, WritesPart}
+use Rattle.cl_program.specs.Outputs.{BreaksOff, EndsWith, Outputs, Prints, Stream, WritesNothing}
 use Rattle.cl_program.specs.Serving.{ByWorkers, IsUnserved}
 use Rattle.cl_program.specs.declared.fault.Fault.{Fault}
 use Rattle.cl_program.specs.declared.fault.Fault.TheVariants.{Write, TooLarge, NotUtf8, Config, Script, Serve, Threads, Path, Memory}
@@ -58,18 +58,6 @@ pub record AreLinesFrom (gives : List ℕ → Giving) (w : Wanted) (lines : List
   pub served : IsServedOver w.options.workers config script report
   pub are : lines ≡ report_lines (names_of config) w.options.answers report.history report.answers
 
--- its lines are written
-pub record PrintsFrom (gives : List ℕ → Giving) (w : Wanted) (out : Stream) : Type 0 where
-  pub lines : List ℕ
-  pub of_files : AreLinesFrom gives w lines
-  pub whole : Writes out lines
-
--- a first part of its lines is written, and no more
-pub record BreaksFrom (gives : List ℕ → Giving) (w : Wanted) (out : Stream) : Type 0 where
-  pub lines : List ℕ
-  pub of_files : AreLinesFrom gives w lines
-  pub part : WritesPart out lines
-
 -- ---- how a run ends
 
 -- the configuration was read, and this holds under it
@@ -100,13 +88,13 @@ EndsFrom gives w out (Config fault) = WritesNothing out (IsConfigAt (gives w.con
 EndsFrom gives w out (Script fault) = WritesNothing out (IsUnder gives w (λ config. IsScriptAt (gives w.script) config (Err fault)))
 EndsFrom gives w out (Serve wrong) = WritesNothing out (IsUnservedUnder gives w (Serve wrong))
 EndsFrom gives w out (Threads wrong) = WritesNothing out (IsUnservedUnder gives w (Threads wrong))
-EndsFrom gives w out Write = BreaksFrom gives w out
-EndsFrom gives w out Memory = WritesNothing out ⊤ ⊎ BreaksFrom gives w out
+EndsFrom gives w out Write = BreaksOff (AreLinesFrom gives w) out
+EndsFrom gives w out Memory = WritesNothing out ⊤ ⊎ BreaksOff (AreLinesFrom gives w) out
 EndsFrom gives w out _ = ⊥
 
 -- what running a script answers, and what is on its output
 abbrev pub ScriptRunOf : (List ℕ → Giving) → Wanted → Stream → Result (Unit {0}) Fault → Type 0
-ScriptRunOf gives w out (Ok x) = PrintsFrom gives w out
+ScriptRunOf gives w out (Ok x) = Prints (AreLinesFrom gives w) out
 ScriptRunOf gives w out (Err fault) = EndsFrom gives w out fault
 
 -- no seed could be drawn, which is taken at its word: nothing is written, and the configuration's path is told as unread

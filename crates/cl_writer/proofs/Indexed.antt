@@ -10,7 +10,8 @@ use Rattle.cl_writer.specs.declared.item.Item.{Item}
 use Rattle.cl_writer.specs.declared.item.Item.TheVariants.{Text, Integer, Class, NameAndType, Member}
 use Rattle.std.proofs.lemmas.List.{length_push}
 use Rattle.indexmap.specs.IndexMap.{IndexMap, get}
-use Rattle.cl_writer.specs.Items.{same_text, same_kind, same_member, same_item, index_from, index_of, IsIndexed}
+use Rattle.cl_classfile.specs.Files.{same_name}
+use Rattle.cl_writer.specs.Items.{same_kind, same_member, same_item, index_from, index_of, IsIndexed}
 use Rattle.std.proofs.lemmas.Bool.{and_parts, and_from}
 use Rattle.std.proofs.lemmas.Option.{same_Some}
 
@@ -71,7 +72,7 @@ kind_self kinds.Field = refl
 kind_self kinds.Method = refl
 kind_self kinds.InterfaceMethod = refl
 
-text_self : (a : List ℕ) → same_text a a ≡ true
+text_self : (a : List ℕ) → same_name a a ≡ true
 text_self a = (bytes_decides a a).1 refl
 
 pub int_self : (a : ℤ) → int_eq a a ≡ true

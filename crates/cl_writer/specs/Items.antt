@@ -6,7 +6,6 @@ use Rattle.std.specs.Prelude.{
   Bool,
   true,
   false,
-  nat_eq,
   ◌&&◌,
   List,
   [],
@@ -23,8 +22,8 @@ use Rattle.std.specs.Prelude.{
 }
 use Rattle.std.specs.Ordering.{int_eq}
 use Rattle.std.specs.List.{flat_map}
-use Rattle.std.specs.Cmp.Lexicographic.{pointwise}
 use Rattle.indexmap.specs.IndexMap.{IndexMap, get}
+use Rattle.cl_classfile.specs.Files.{same_name}
 use Rattle.cl_writer.specs.declared.item.MemberKind.{MemberKind}
 use Rattle.cl_writer.specs.declared.item.MemberKind.TheVariants as kinds
 use Rattle.cl_writer.specs.declared.item.MemberName.{MemberName}
@@ -41,10 +40,6 @@ use Rattle.cl_writer.specs.Assemblies.{Listed}
 
 -- ---- two entries are equal
 
--- two texts are equal (4.4.7)
-abbrev pub same_text : List ℕ → List ℕ → Bool
-same_text a b = pointwise nat_eq a b
-
 -- two references are of one kind (4.4.2)
 abbrev pub same_kind : MemberKind → MemberKind → Bool
 same_kind kinds.Field kinds.Field = true
@@ -55,14 +50,14 @@ same_kind _ _ = false
 -- two members are of one class, name and descriptor (4.4.2, 4.4.6)
 abbrev pub same_member : MemberName → MemberName → Bool
 same_member m n =
-    same_text m.class n.class && (same_text m.name n.name && same_text m.descriptor n.descriptor)
+    same_name m.class n.class && (same_name m.name n.name && same_name m.descriptor n.descriptor)
 
 -- two entries name the same (4.4; own choice that names and not indices are compared)
 abbrev pub same_item : Item → Item → Bool
-same_item (Text a) (Text b) = same_text a b
+same_item (Text a) (Text b) = same_name a b
 same_item (Integer a) (Integer b) = int_eq a b
-same_item (Class a) (Class b) = same_text a b
-same_item (NameAndType a b) (NameAndType c d) = same_text a c && same_text b d
+same_item (Class a) (Class b) = same_name a b
+same_item (NameAndType a b) (NameAndType c d) = same_name a c && same_name b d
 same_item (Member k m) (Member l n) = same_kind k l && same_member m n
 same_item _ _ = false
 

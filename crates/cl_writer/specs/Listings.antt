@@ -44,20 +44,32 @@ abbrev pub printed_super : List Entry → ℕ → List ℕ
 printed_super pool super = if super == 0 then codes "-" else printed_type pool super
 
 -- class FLAGS NAME SUPER
-abbrev pub class_line : Structure → List ℕ
-class_line f =
-    codes "class " ++ printed_flags f.flags ++ codes " " ++ printed_type f.pool f.this_class
-    ++ codes " " ++ printed_super f.pool f.super_class ++ 0x0a ∷ []
+abbrev pub class_words : ℕ → List ℕ → List ℕ → List ℕ
+class_words flags name super =
+    codes "class " ++ printed_flags flags ++ codes " " ++ name ++ codes " " ++ super ++ 0x0a ∷ []
 
 -- implements NAME
-abbrev pub implements_line : List Entry → ℕ → List ℕ
-implements_line pool interface = codes "implements " ++ printed_type pool interface ++ 0x0a ∷ []
+abbrev pub implements_words : List ℕ → List ℕ
+implements_words name = codes "implements " ++ name ++ 0x0a ∷ []
 
 -- field FLAGS NAME DESC, and so a method
+abbrev pub member_words : List ℕ → ℕ → List ℕ → List ℕ → List ℕ
+member_words word flags name descriptor =
+    word ++ printed_flags flags ++ codes " " ++ name ++ codes " " ++ descriptor ++ 0x0a ∷ []
+
+-- ---- the lines of a class file
+
+abbrev pub class_line : Structure → List ℕ
+class_line f =
+    class_words f.flags (printed_type f.pool f.this_class) (printed_super f.pool f.super_class)
+
+abbrev pub implements_line : List Entry → ℕ → List ℕ
+implements_line pool interface = implements_words (printed_type pool interface)
+
 abbrev pub member_line : List ℕ → List Entry → Member → List ℕ
 member_line word pool m =
-    word ++ printed_flags m.flags ++ codes " " ++ printed_name (text_at pool m.name_index)
-    ++ codes " " ++ printed_name (text_at pool m.descriptor_index) ++ 0x0a ∷ []
+    member_words word m.flags (printed_name (text_at pool m.name_index))
+    (printed_name (text_at pool m.descriptor_index))
 
 -- the lines of a file: the class, its interfaces, its fields, its methods
 abbrev pub listing_of : Structure → List ℕ
@@ -74,21 +86,14 @@ abbrev pub super_text : Option (List ℕ) → List ℕ
 super_text None = codes "-"
 super_text (Some name) = escaped name
 
--- class FLAGS NAME SUPER, of what a line said
 abbrev pub class_text : ClassLine → List ℕ
-class_text c =
-    codes "class " ++ printed_flags c.flags ++ codes " " ++ escaped c.name ++ codes " "
-    ++ super_text c.superclass ++ 0x0a ∷ []
+class_text c = class_words c.flags (escaped c.name) (super_text c.superclass)
 
--- implements NAME
 abbrev pub implements_text : List ℕ → List ℕ
-implements_text name = codes "implements " ++ escaped name ++ 0x0a ∷ []
+implements_text name = implements_words (escaped name)
 
--- field FLAGS NAME DESC, and so a method
 abbrev pub member_text : List ℕ → MemberLine → List ℕ
-member_text word m =
-    word ++ printed_flags m.flags ++ codes " " ++ escaped m.name ++ codes " "
-    ++ escaped m.descriptor ++ 0x0a ∷ []
+member_text word m = member_words word m.flags (escaped m.name) (escaped m.descriptor)
 
 -- all lines but those of `ref`: the class, its interfaces, its fields, its methods
 abbrev pub text_of : Listed → List ℕ

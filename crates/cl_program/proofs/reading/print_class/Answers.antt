@@ -23,6 +23,6 @@ returns-in_err-print_listing g c =
 pub returns : goal.returns
 returns g c = record {
   lines = listing_of c.in_ok-file.file;
-  of_file = record { bytes = c.in_ok-bytes.bytes.items; content = c.in_ok-bytes.ensures.ok; listing = record { file = c.in_ok-file.file; read = rw c.as_slice.ensures.value at c.in_ok-file.ensures.ok; are = refl } };
+  are = record { bytes = c.in_ok-bytes.bytes.items; content = c.in_ok-bytes.ensures.ok; listing = record { file = c.in_ok-file.file; read = rw c.as_slice.ensures.value at c.in_ok-file.ensures.ok; are = refl } };
   whole = c.in_ok-print_listing.ensures.lines;
 }
